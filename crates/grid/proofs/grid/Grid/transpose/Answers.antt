@@ -1,0 +1,15 @@
+use Rattle.std.proofs.Common.{sym, ap, ◌∙◌, ◌≡◌, arith, refl}
+use Rattle.grid_base.specs.Table.{cell}
+use Rattle.grid_base.specs.Order.{table_of, flipped}
+use Rattle.grid_base.specs.Sheet.{Sheet}
+use Rattle.grid_base.specs.Symmetry.{act}
+use Rattle.grid_base.specs.declared.words.Symmetry.TheVariants.{Transpose}
+use Rattle.grid_base.proofs.Views.{view-transpose}
+use Rattle.grid.proofs.grid.Grid.transpose.Goals as goal
+use Rattle.grid.proofs.grid.Grid.transpose.Goals.{in-RowMajor, in-ColumnMajor}
+
+pub returns-clause-rows : goal.returns-clause-rows
+returns-clause-rows g c =
+    let s = c.self.inside in
+    let turned : c.match-self.self ≡ flipped s.order = elim c.match-self.branch [ in-RowMajor w ↦ cc | in-ColumnMajor w ↦ cc ] in
+    rw (turned, c.swap.ensures.x_after, c.swap.ensures.y_after, ← c.self.view_is) (view-transpose _ _ _ _ c.self.invariant)

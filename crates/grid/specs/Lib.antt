@@ -1,0 +1,5 @@
+pub mod Grid
+pub mod Passes
+pub mod Reply
+pub mod Command
+pub mod Run

@@ -1,0 +1,119 @@
+//! Commands as data, and runs of them.
+ghost use Rattle.std.specs.Prelude.{◌≡◌, OnOk, OnErr, IfOk, IfErr, map, take};
+ghost use Rattle.grid_base.specs.Table.{rows_of, cols_of};
+ghost use Rattle.grid_base.specs.Symmetry.{order_after};
+ghost use Rattle.grid_base.specs.Tally.{counted};
+ghost use Rattle.grid.specs.Reply.{plain};
+ghost use Rattle.grid.specs.Command.{step_rows, step_reply, step_price, command_symmetry, TakesMemory};
+ghost use Rattle.grid.specs.Run.{Ran, MayStop};
+
+use crate::Grid;
+use grid_base::{Symmetry, Tally};
+use std::alloc::{AllocError, Allocator, Global};
+
+/// What can be asked of a grid, as data.
+#[derive(Debug, PartialEq, Drop)]
+pub enum Command {
+    /// The number of rows and of columns. Replies `Size`.
+    Size,
+    /// The cell in a row and a column. Replies `Cell`; takes memory where there is such a cell.
+    Get(usize, usize),
+    /// Applies a symmetry. Replies `Done`.
+    Apply(Symmetry),
+}
+
+/// What a command replies.
+#[derive(Debug, PartialEq, Drop)]
+pub enum Reply<T> {
+    /// It was done.
+    Done,
+    /// The number of rows and of columns.
+    Size(usize, usize),
+    /// A clone of the cell, or `None` where there is no such cell.
+    Cell(Option<T>),
+}
+
+/// A run that found no memory.
+///
+/// The grid has the rows after the first `done` commands, and `replies` are theirs.
+#[derive(Drop)]
+#[derive_where(Debug, PartialEq; T)]
+pub struct RunStopped<T, A: Allocator = Global> {
+    /// How many commands were done.
+    pub done: usize,
+    /// Their replies.
+    pub replies: Vec<Reply<T>, A>,
+}
+
+impl<T, A: Allocator> Grid<T, A> {
+    /// Does a command.
+    ///
+    /// Adds what a symmetry costs to the symmetry count of the tally, and nothing to the shift count. An error comes
+    /// only at a command that takes memory, and leaves the grid and the tally as they were.
+    pub fn step(&mut self, command: Command, tally: &mut Tally) -> Result<Reply<T>, AllocError>
+    where
+        T: Clone + Default + Drop,
+        requires clones { (x y : T) → T.is_clone x y → y ≡ x }
+        ensures rows { OnOk result (self.new.rows ≡ step_rows command self.old.rows) }
+        ensures reply { IfOk result (λ reply. plain reply ≡ step_reply command self.old.rows) }
+        ensures order { OnOk result (self.new.order ≡ order_after (command_symmetry command) self.old.order) }
+        ensures symmetry { OnOk result (tally.new.symmetry ≡ counted tally.old.symmetry (step_price command self.old.rows)) }
+        ensures shift { tally.new.shift ≡ tally.old.shift }
+
+        // An error comes at a command that takes memory, and changes nothing.
+        ensures err_grid { OnErr result (self.new ≡ self.old) }
+        ensures err_symmetry { OnErr result (tally.new.symmetry ≡ tally.old.symmetry) }
+        ensures err_memory { OnErr result (TakesMemory command self.old.rows) }
+    {
+        match command {
+            Command::Size => {
+                let (rows, cols) = self.size();
+                Ok(Reply::Size(rows, cols))
+            }
+            Command::Get(row, col) => match self.get(row, col) {
+                None => Ok(Reply::Cell(None)),
+                Some(cell) => {
+                    let copy = cell.clone()?;
+                    Ok(Reply::Cell(Some(copy)))
+                }
+            },
+            Command::Apply(symmetry) => {
+                self.apply_counted(symmetry, tally);
+                Ok(Reply::Done)
+            }
+        }
+    }
+}
+
+/// Does a list of commands in turn, each as [`Grid::step`] does it.
+///
+/// The list of replies is reserved before the first command. Where memory is refused, the run stops: at a command
+/// that takes memory, or before the first command of a list that isn't empty. The commands that remain are dropped.
+pub fn run<T, A: Allocator>(
+    alloc: A,
+    grid: &mut Grid<T, A>,
+    commands: Vec<Command, A>,
+    tally: &mut Tally,
+) -> Result<Vec<Reply<T>, A>, RunStopped<T, A>>
+where
+    T: Clone + Default + Drop,
+    requires clones { (x y : T) → T.is_clone x y → y ≡ x }
+    ensures ran { IfOk result (λ replies. Ran commands.items grid.old grid.new tally.old tally.new (map plain replies.items)) }
+    ensures stopped { IfErr result (λ stop. Ran (take stop.done commands.items) grid.old grid.new tally.old tally.new (map plain stop.replies.items)) }
+    ensures stop { IfErr result (λ stop. MayStop commands.items stop.done grid.new.rows) }
+{
+    let mut replies = Vec::new(alloc);
+    if replies.reserve_exact(commands.len()).is_err() {
+        return Err(RunStopped { done: 0, replies });
+    }
+    for command in commands {
+        match grid.step(command, tally) {
+            Ok(reply) => replies.push_reserved(reply),
+            Err(_) => {
+                let done = replies.len();
+                return Err(RunStopped { done, replies });
+            }
+        }
+    }
+    Ok(replies)
+}

@@ -1,0 +1,253 @@
+//! A grid, how one is made of a vector, and access to its cells.
+ghost use Rattle.std.specs.Prelude.{◌≡◌, ◌≢◌, ◌*◌, ◌^◌, ◌<◌, ◌↔◌, [], length, IsTrue, IfSome, Some, is_some};
+ghost use Rattle.std.specs.Borrow.{sem};
+ghost use Rattle.std.specs.Option.{option_copied};
+ghost use Rattle.grid_base.specs.Table.{rows_of, cols_of, cell, exchanged, InRange, IsTable};
+ghost use Rattle.grid_base.specs.Order.{storage, place, CanCut};
+
+use grid_base::{Flat, Order};
+use std::alloc::{Allocator, Global};
+use std::marker::Model;
+use std::ops::{Index, IndexMut};
+
+/// A table of cells in one vector, seen as its rows and its order.
+///
+/// There are rows exactly if there are columns, and the vector holds rows times columns cells.
+#[derive(Drop)]
+pub struct Grid<T, A: Allocator = Global> {
+    pub(crate) flat: Flat<T, A>,
+    pub(crate) row_count: usize,
+    pub(crate) col_count: usize,
+    pub(crate) order: Order,
+}
+
+impl<T, A: Allocator> Model for Grid<T, A> {
+    ghost use Rattle.std.specs.Prelude.{length};
+    ghost use Rattle.grid_base.specs.Order.{table_of};
+    ghost use Rattle.grid_base.specs.Sheet.{Sheet, Fits};
+
+    ghost Value = { Sheet T };
+
+    ghost view = { λ g. record { rows = table_of g.order g.row_count g.col_count g.flat; order = g.order } };
+
+    ghost invariant = { λ g. Fits g.row_count g.col_count (length g.flat) };
+}
+
+// Where the storage has a cell.
+fn place(order: Order, rows: usize, cols: usize, row: usize, col: usize) -> usize
+    requires fits { rows * cols < 2 ^ 64 }
+    requires row_in { row < rows }
+    requires col_in { col < cols }
+    ensures { result ≡ place order rows cols row col }
+{
+    match order {
+        Order::RowMajor => row * cols + col,
+        Order::ColumnMajor => col * rows + row,
+    }
+}
+
+impl<T, A: Allocator> Grid<T, A> {
+    ghost use Rattle.grid.specs.Grid.{lends_cell, lends_cell_if};
+
+    /// The empty grid, row-major. Takes no memory.
+    pub fn empty(alloc: A) -> Grid<T, A>
+        ensures rows { result.rows ≡ [] }
+        ensures order { result.order ≡ Order.RowMajor }
+    {
+        Grid::from_vec(Vec::new(alloc), 0)
+    }
+
+    /// The grid of `cols` columns whose rows, joined, are the vector.
+    ///
+    /// The vector is empty, or `cols` is not 0 and divides its length. An empty vector gives the empty grid. Takes
+    /// no memory.
+    pub fn from_vec(vec: Vec<T, A>, cols: usize) -> Grid<T, A>
+        requires { CanCut (length vec.items) cols }
+        ensures order { result.order ≡ Order.RowMajor }
+        ensures table { IsTable result.rows }
+        ensures storage { storage Order.RowMajor result.rows ≡ vec.items }
+        ensures cols { length vec.items ≢ 0 → cols_of result.rows ≡ cols }
+    {
+        Grid::from_vec_with_order(vec, cols, Order::RowMajor)
+    }
+
+    /// The grid of `cols` columns whose storage in this order is the vector.
+    ///
+    /// The vector is empty, or `cols` is not 0 and divides its length. An empty vector gives the empty grid of the
+    /// order. Takes no memory.
+    pub fn from_vec_with_order(vec: Vec<T, A>, cols: usize, order: Order) -> Grid<T, A>
+        requires { CanCut (length vec.items) cols }
+        ensures order { result.order ≡ order }
+        ensures table { IsTable result.rows }
+        ensures storage { storage order result.rows ≡ vec.items }
+        ensures cols { length vec.items ≢ 0 → cols_of result.rows ≡ cols }
+    {
+        let len = vec.len();
+        if len == 0 {
+            Grid {
+                flat: Flat::from_vec(vec),
+                row_count: 0,
+                col_count: 0,
+                order,
+            }
+        } else {
+            Grid {
+                flat: Flat::from_vec(vec),
+                row_count: len / cols,
+                col_count: cols,
+                order,
+            }
+        }
+    }
+
+    /// The number of rows and the number of columns.
+    pub fn size(&self) -> (usize, usize)
+        ensures rows { result.0 ≡ rows_of self.now.rows }
+        ensures cols { result.1 ≡ cols_of self.now.rows }
+        ensures table { IsTable self.now.rows }
+        ensures below { rows_of self.now.rows * cols_of self.now.rows < 2 ^ 64 }
+    {
+        (self.row_count, self.col_count)
+    }
+
+    /// The number of rows.
+    pub fn rows(&self) -> usize
+        ensures rows { result ≡ rows_of self.now.rows }
+        ensures table { IsTable self.now.rows }
+    {
+        self.row_count
+    }
+
+    /// The number of columns.
+    pub fn cols(&self) -> usize
+        ensures cols { result ≡ cols_of self.now.rows }
+        ensures table { IsTable self.now.rows }
+    {
+        self.col_count
+    }
+
+    /// The order of the cells in the vector.
+    pub fn order(&self) -> Order
+        ensures { result ≡ self.now.order }
+    {
+        self.order
+    }
+
+    /// Whether there are no cells.
+    pub fn is_empty(&self) -> bool
+        ensures { IsTrue result ↔ (self.now.rows ≡ []) }
+    {
+        self.row_count == 0
+    }
+
+    /// The cell in a row and a column, or `None` where there is none.
+    pub fn get(&self, row: usize, col: usize) -> Option<&T>
+        ensures { option_copied result ≡ cell self.now.rows row col }
+    {
+        if row < self.row_count && col < self.col_count {
+            self.flat.get(place(self.order, self.row_count, self.col_count, row, col))
+        } else {
+            None
+        }
+    }
+
+    /// The cell in a row and a column, for writing, or `None` where there is none.
+    pub fn get_mut(&mut self, row: usize, col: usize) -> Option<&mut T>
+        ensures* writes_back { sem 𝓛 (lends_cell_if T.row A.row A.Allocator self.entry row col result) }
+        ensures variant { is_some result ≡ is_some (cell self.old.rows row col) }
+        ensures item { IfSome result (λ x. cell self.old.rows row col ≡ Some x.now) }
+    {
+        let place = if row < self.row_count && col < self.col_count {
+            place(self.order, self.row_count, self.col_count, row, col)
+        } else {
+            self.flat.len()
+        };
+        self.flat.get_mut(place)
+    }
+
+    /// The cell in a row and a column, which are in range.
+    pub fn get_unchecked(&self, row: usize, col: usize) -> &T
+        requires { InRange self.now.rows row col }
+        ensures { cell self.now.rows row col ≡ Some result.now }
+    {
+        self.flat.at(place(self.order, self.row_count, self.col_count, row, col))
+    }
+
+    /// The cell in a row and a column, which are in range, for writing.
+    pub fn get_unchecked_mut(&mut self, row: usize, col: usize) -> &mut T
+        requires { InRange self.old.rows row col }
+        ensures* writes_back { sem 𝓛 (lends_cell T.row A.row A.Allocator self.entry row col result) }
+        ensures item { cell self.old.rows row col ≡ Some result.now }
+    {
+        let place = place(self.order, self.row_count, self.col_count, row, col);
+        self.flat.at_mut(place)
+    }
+
+    /// Exchanges two cells, which are in range. No tally counts it.
+    pub fn swap(&mut self, a: (usize, usize), b: (usize, usize))
+        requires a_in { InRange self.old.rows a.0 a.1 }
+        requires b_in { InRange self.old.rows b.0 b.1 }
+        ensures rows { self.new.rows ≡ exchanged self.old.rows a b }
+        ensures order { self.new.order ≡ self.old.order }
+    {
+        let i = place(self.order, self.row_count, self.col_count, a.0, a.1);
+        let j = place(self.order, self.row_count, self.col_count, b.0, b.1);
+        self.flat.swap(i, j);
+    }
+
+    /// Drops all cells, and keeps the order.
+    pub fn clear(&mut self)
+    where
+        T: Drop,
+        ensures rows { self.new.rows ≡ [] }
+        ensures order { self.new.order ≡ self.old.order }
+    {
+        self.flat.clear();
+        self.row_count = 0;
+        self.col_count = 0;
+    }
+
+    /// The cells in storage order.
+    pub fn flatten(&self) -> &[T]
+        ensures { result.now ≡ storage self.now.order self.now.rows }
+    {
+        self.flat.as_slice()
+    }
+
+    /// The vector of the cells in storage order. Takes no memory and clones nothing.
+    pub fn into_vec(self) -> Vec<T, A>
+        ensures { result.items ≡ storage self.order self.rows }
+    {
+        let Grid {
+            flat,
+            row_count: _,
+            col_count: _,
+            order: _,
+        } = self;
+        flat.into_vec()
+    }
+}
+
+impl<T, A: Allocator> Index<(usize, usize)> for Grid<T, A> {
+    type Output = T;
+
+    ghost can_index = { λ grid at. InRange grid.rows at.0 at.1 };
+
+    ghost index_gives = { λ grid at x. cell grid.rows at.0 at.1 ≡ Some x };
+
+    fn index(&self, at: (usize, usize)) -> &T {
+        self.get_unchecked(at.0, at.1)
+    }
+}
+
+impl<T, A: Allocator> IndexMut<(usize, usize)> for Grid<T, A> {
+    ghost use Rattle.grid.specs.Grid.{lends_cell};
+
+    fn index_mut(&mut self, at: (usize, usize)) -> &mut T
+        requires { InRange self.old.rows at.0 at.1 }
+        ensures* writes_back { sem 𝓛 (lends_cell T.row A.row A.Allocator self.entry at.0 at.1 result) }
+        ensures item { cell self.old.rows at.0 at.1 ≡ Some result.now }
+    {
+        self.get_unchecked_mut(at.0, at.1)
+    }
+}

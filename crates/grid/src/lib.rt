@@ -1,0 +1,14 @@
+//! A growable two-dimensional container in one flat vector, row by row or column by column.
+//!
+//! The order is invisible, except where the storage itself is shown: a contract sees a grid as a table, the list of
+//! its rows, and an order.
+#![tactic(auto)]
+
+mod command;
+mod grid;
+pub mod laws;
+mod symmetry;
+
+pub use command::{Command, Reply, RunStopped, run};
+pub use grid::Grid;
+pub use grid_base::{Move, Order, Symmetry, Tally, reduce};

@@ -1,0 +1,152 @@
+//! The six moves of a grid, and the eight symmetries.
+ghost use Rattle.std.specs.Prelude.{◌≡◌, List};
+ghost use Rattle.grid_base.specs.Table.{rows_of, cols_of};
+ghost use Rattle.grid_base.specs.Order.{flipped};
+ghost use Rattle.grid_base.specs.Symmetry.{act, order_after, price};
+ghost use Rattle.grid_base.specs.Move.{word_image, IsNormalForm};
+ghost use Rattle.grid_base.specs.Tally.{counted};
+ghost use Rattle.grid_base.specs.declared.words.Move.{Move};
+ghost use Rattle.grid_base.specs.declared.words.Symmetry.TheVariants.{FlipRows, FlipCols, RotateHalf, Transpose, RotateLeft, RotateRight};
+
+mod passes;
+
+use crate::Grid;
+use grid_base::{Order, Symmetry, Tally};
+use passes::{reverse_each_line, reverse_lines, reverse_part};
+use std::alloc::Allocator;
+use std::mem;
+
+impl<T, A: Allocator> Grid<T, A> {
+    /// Exchanges rows with columns. Moves no cell, and flips the order.
+    pub fn transpose(&mut self)
+        ensures rows { self.new.rows ≡ act Transpose self.old.rows }
+        ensures order { self.new.order ≡ flipped self.old.order }
+    {
+        mem::swap(&mut self.row_count, &mut self.col_count);
+        self.order = match self.order {
+            Order::RowMajor => Order::ColumnMajor,
+            Order::ColumnMajor => Order::RowMajor,
+        };
+    }
+
+    /// Reverses the rows, by `(rows / 2) * cols` swaps. Keeps the order.
+    pub fn flip_rows(&mut self)
+        ensures rows { self.new.rows ≡ act FlipRows self.old.rows }
+        ensures order { self.new.order ≡ self.old.order }
+    {
+        let mut tally = Tally::new();
+        self.flip_rows_counted(&mut tally);
+    }
+
+    /// Reverses each row, by `rows * (cols / 2)` swaps. Keeps the order.
+    pub fn flip_cols(&mut self)
+        ensures rows { self.new.rows ≡ act FlipCols self.old.rows }
+        ensures order { self.new.order ≡ self.old.order }
+    {
+        let mut tally = Tally::new();
+        self.flip_cols_counted(&mut tally);
+    }
+
+    /// Turns the grid by a quarter against the clock: a transpose, then a flip of the rows. Flips the order.
+    pub fn rotate_left(&mut self)
+        ensures rows { self.new.rows ≡ act RotateLeft self.old.rows }
+        ensures order { self.new.order ≡ flipped self.old.order }
+    {
+        self.apply(Symmetry::RotateLeft);
+    }
+
+    /// Turns the grid by a quarter with the clock: a transpose, then a flip of the columns. Flips the order.
+    pub fn rotate_right(&mut self)
+        ensures rows { self.new.rows ≡ act RotateRight self.old.rows }
+        ensures order { self.new.order ≡ flipped self.old.order }
+    {
+        self.apply(Symmetry::RotateRight);
+    }
+
+    /// Turns the grid by a half, by `(rows * cols) / 2` swaps. Keeps the order.
+    pub fn rotate_half(&mut self)
+        ensures rows { self.new.rows ≡ act RotateHalf self.old.rows }
+        ensures order { self.new.order ≡ self.old.order }
+    {
+        let mut tally = Tally::new();
+        self.rotate_half_counted(&mut tally);
+    }
+
+    /// Applies a symmetry. The rows become its image of them, which is the image under every word that reduces to
+    /// it. Flips the order exactly if the symmetry transposes.
+    pub fn apply(&mut self, symmetry: Symmetry)
+        ensures rows { self.new.rows ≡ act symmetry self.old.rows }
+        ensures words { (w : List Move) → IsNormalForm w symmetry → self.new.rows ≡ word_image w self.old.rows }
+        ensures order { self.new.order ≡ order_after symmetry self.old.order }
+    {
+        let mut tally = Tally::new();
+        self.apply_counted(symmetry, &mut tally);
+    }
+
+    pub(crate) fn apply_counted(&mut self, symmetry: Symmetry, tally: &mut Tally)
+        ensures rows { self.new.rows ≡ act symmetry self.old.rows }
+        ensures words { (w : List Move) → IsNormalForm w symmetry → self.new.rows ≡ word_image w self.old.rows }
+        ensures order { self.new.order ≡ order_after symmetry self.old.order }
+        ensures symmetry { tally.new.symmetry ≡ counted tally.old.symmetry (price symmetry (rows_of self.old.rows) (cols_of self.old.rows)) }
+        ensures shift { tally.new.shift ≡ tally.old.shift }
+    {
+        let _ = &self.flat;
+        match symmetry {
+            Symmetry::Identity => {}
+            Symmetry::FlipCols => self.flip_cols_counted(tally),
+            Symmetry::FlipRows => self.flip_rows_counted(tally),
+            Symmetry::RotateHalf => self.rotate_half_counted(tally),
+            Symmetry::Transpose => self.transpose(),
+            Symmetry::RotateLeft => {
+                self.transpose();
+                self.flip_rows_counted(tally)
+            }
+            Symmetry::RotateRight => {
+                self.transpose();
+                self.flip_cols_counted(tally)
+            }
+            Symmetry::AntiTranspose => {
+                self.transpose();
+                self.rotate_half_counted(tally)
+            }
+        }
+    }
+
+    fn flip_rows_counted(&mut self, tally: &mut Tally)
+        ensures rows { self.new.rows ≡ act FlipRows self.old.rows }
+        ensures order { self.new.order ≡ self.old.order }
+        ensures symmetry { tally.new.symmetry ≡ counted tally.old.symmetry (price FlipRows (rows_of self.old.rows) (cols_of self.old.rows)) }
+        ensures shift { tally.new.shift ≡ tally.old.shift }
+    {
+        match self.order {
+            Order::RowMajor => reverse_lines(&mut self.flat, self.row_count, self.col_count, tally),
+            Order::ColumnMajor => {
+                reverse_each_line(&mut self.flat, self.col_count, self.row_count, tally)
+            }
+        }
+    }
+
+    fn flip_cols_counted(&mut self, tally: &mut Tally)
+        ensures rows { self.new.rows ≡ act FlipCols self.old.rows }
+        ensures order { self.new.order ≡ self.old.order }
+        ensures symmetry { tally.new.symmetry ≡ counted tally.old.symmetry (price FlipCols (rows_of self.old.rows) (cols_of self.old.rows)) }
+        ensures shift { tally.new.shift ≡ tally.old.shift }
+    {
+        match self.order {
+            Order::RowMajor => {
+                reverse_each_line(&mut self.flat, self.row_count, self.col_count, tally)
+            }
+            Order::ColumnMajor => reverse_lines(&mut self.flat, self.col_count, self.row_count, tally),
+        }
+    }
+
+    fn rotate_half_counted(&mut self, tally: &mut Tally)
+        ensures rows { self.new.rows ≡ act RotateHalf self.old.rows }
+        ensures order { self.new.order ≡ self.old.order }
+        ensures symmetry { tally.new.symmetry ≡ counted tally.old.symmetry (price RotateHalf (rows_of self.old.rows) (cols_of self.old.rows)) }
+        ensures shift { tally.new.shift ≡ tally.old.shift }
+    {
+        let len = self.row_count * self.col_count;
+        reverse_part(&mut self.flat, 0, len, tally);
+    }
+}

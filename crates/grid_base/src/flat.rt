@@ -1,0 +1,137 @@
+//! The vector of a grid's cells, and the counts of its swaps.
+ghost use Rattle.std.specs.Prelude.{◌≡◌, ◌≢◌, ◌<◌, [], length, swap, slice_get, is_some, IfSome, Some};
+ghost use Rattle.std.specs.Borrow.{sem};
+ghost use Rattle.std.specs.Option.{option_copied};
+ghost use Rattle.grid_base.specs.Tally.{counted};
+
+mod order;
+mod tally;
+
+pub use order::Order;
+use std::alloc::{Allocator, Global};
+use std::marker::Model;
+pub use tally::Tally;
+
+/// The only holder of a grid's vector, seen as the list of its cells.
+#[derive(Drop)]
+pub struct Flat<T, A: Allocator = Global> {
+    cells: Vec<T, A>,
+}
+
+impl<T, A: Allocator> Model for Flat<T, A> {
+    ghost use Rattle.std.specs.Prelude.{List};
+
+    ghost Value = { List T };
+
+    ghost view = { λ f. f.cells.items };
+}
+
+impl<T, A: Allocator> Flat<T, A> {
+    ghost use Rattle.grid_base.specs.Flat.{lends_place, lends_place_if};
+
+    /// Holds the cells of a vector.
+    pub fn from_vec(cells: Vec<T, A>) -> Flat<T, A>
+        ensures { result ≡ cells.items }
+    {
+        Flat { cells }
+    }
+
+    /// The vector.
+    pub fn into_vec(self) -> Vec<T, A>
+        ensures { result.items ≡ self }
+    {
+        let Flat { cells } = self;
+        cells
+    }
+
+    /// How many cells there are.
+    pub fn len(&self) -> usize
+        ensures { result ≡ length self.now }
+    {
+        self.cells.len()
+    }
+
+    /// The cells.
+    pub fn as_slice(&self) -> &[T]
+        ensures { result.now ≡ self.now }
+    {
+        self.cells.as_slice()
+    }
+
+    /// The cell at a place, or `None` past the end.
+    pub fn get(&self, place: usize) -> Option<&T>
+        ensures { option_copied result ≡ slice_get self.now place }
+    {
+        self.cells.get(place)
+    }
+
+    /// The cell at a place, for writing, or `None` past the end.
+    pub fn get_mut(&mut self, place: usize) -> Option<&mut T>
+        ensures* writes_back { sem 𝓛 (lends_place_if T.row A.row A.Allocator self.entry place result) }
+        ensures variant { is_some result ≡ is_some (slice_get self.old place) }
+        ensures item { IfSome result (λ x. slice_get self.old place ≡ Some x.now) }
+    {
+        self.cells.get_mut(place)
+    }
+
+    /// The cell at a place in range.
+    pub fn at(&self, place: usize) -> &T
+        requires { place < length self.now }
+        ensures { slice_get self.now place ≡ Some result.now }
+    {
+        &self.cells[place]
+    }
+
+    /// The cell at a place in range, for writing.
+    pub fn at_mut(&mut self, place: usize) -> &mut T
+        requires { place < length self.old }
+        ensures* writes_back { sem 𝓛 (lends_place T.row A.row A.Allocator self.entry place result) }
+        ensures item { slice_get self.old place ≡ Some result.now }
+    {
+        &mut self.cells[place]
+    }
+
+    /// Exchanges two cells, uncounted.
+    pub fn swap(&mut self, i: usize, j: usize)
+        requires i_in { i < length self.old }
+        requires j_in { j < length self.old }
+        ensures { self.new ≡ swap self.old i j }
+    {
+        self.cells.swap(i, j);
+    }
+
+    /// Exchanges the cells of two unlike places, and counts one swap for a symmetry.
+    pub fn swap_for_symmetry(&mut self, i: usize, j: usize, tally: &mut Tally)
+        requires i_in { i < length self.old }
+        requires j_in { j < length self.old }
+        requires unlike { i ≢ j }
+        ensures cells { self.new ≡ swap self.old i j }
+        ensures symmetry { tally.new.symmetry ≡ counted tally.old.symmetry 1 }
+        ensures shift { tally.new.shift ≡ tally.old.shift }
+    {
+        self.cells.swap(i, j);
+        tally.count_symmetry();
+    }
+
+    /// Exchanges the cells of two unlike places, and counts one swap for a shift.
+    pub fn swap_for_shift(&mut self, i: usize, j: usize, tally: &mut Tally)
+        requires i_in { i < length self.old }
+        requires j_in { j < length self.old }
+        requires unlike { i ≢ j }
+        ensures cells { self.new ≡ swap self.old i j }
+        ensures symmetry { tally.new.symmetry ≡ tally.old.symmetry }
+        ensures shift { tally.new.shift ≡ counted tally.old.shift 1 }
+    {
+        self.cells.swap(i, j);
+        tally.count_shift();
+    }
+
+    /// Drops all cells.
+    pub fn clear(&mut self)
+    where
+        T: Drop,
+        ensures { self.new ≡ [] }
+    {
+        self.cells.clear();
+    }
+}

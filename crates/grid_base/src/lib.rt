@@ -1,0 +1,10 @@
+//! What a grid stands on: the one vector of its cells with counted swaps, and the eight symmetries of a table
+//! with words of moves.
+#![tactic(auto)]
+
+mod flat;
+pub mod laws;
+mod words;
+
+pub use flat::{Flat, Order, Tally};
+pub use words::{Move, Symmetry, reduce};

@@ -1,0 +1,2 @@
+//! Tests that cross crates, and a plain program beside the library.
+#![tactic(auto)]

@@ -1,0 +1,4 @@
+//! Runs a script on a grid.
+#![tactic(auto)]
+
+fn main() {}
