@@ -50,20 +50,6 @@ rotate_half_by_part o m n old new h e =
         let to : 0 + (m * n - 1 - place o m n i j) ≡ place o m n (m - 1 - i) (n - 1 - j) = omega (arith, opposite_place o m n i j p q) in
         sym (ap (slice_get new) from) ∙ (e.moved (place o m n i j) (place_within o m n i j p q) ∙ ap (slice_get old) to))
 
--- the size that a clause names
-module _ {T : Type 0} (o : Order) (m n : ℕ) (cells : List T) (s : Sheet T) (h : Fits m n (length cells)) where
-  pub seen_rows : (let v : Sheet T = record { rows = table_of o m n cells; order = o } in v) ≡ s → rows_of s.rows ≡ m
-  seen_rows e = sym (ap (λ x. rows_of x.rows) e) ∙ view-rows o m n cells h
-
-  pub seen_cols : (let v : Sheet T = record { rows = table_of o m n cells; order = o } in v) ≡ s → cols_of s.rows ≡ n
-  seen_cols e = sym (ap (λ x. cols_of x.rows) e) ∙ view-cols o m n cells h
-
-  pub seen_table : (let v : Sheet T = record { rows = table_of o m n cells; order = o } in v) ≡ s → IsTable s.rows
-  seen_table e = rw (← e) (view-table o m n cells h)
-
-  pub seen_storage : (let v : Sheet T = record { rows = table_of o m n cells; order = o } in v) ≡ s → storage s.order s.rows ≡ cells
-  seen_storage e = rw (← e) (view-storage o m n cells h)
-
 -- a transpose and then u
 pub after_transpose : {T : Type 0} (u : Symmetry) (old mid new : List (List T)) → IsTable old → mid ≡ act Transpose old → new ≡ act u mid → new ≡ act (product Transpose u) old
 after_transpose u old mid new t a b = b ∙ (ap (act u) a ∙ act-act Transpose u old t)

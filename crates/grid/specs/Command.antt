@@ -1,8 +1,8 @@
 -- What a command does to a table: the plain step. None of these commands is refused at any size.
-use Rattle.std.specs.Prelude.{ℕ, List}
+use Rattle.std.specs.Prelude.{ℕ, List, IsSome}
 use Rattle.grid_base.specs.declared.words.Symmetry.{Symmetry}
 use Rattle.grid_base.specs.declared.words.Symmetry.TheVariants.{Identity}
-use Rattle.grid_base.specs.Table.{rows_of, cols_of, cell, InRange}
+use Rattle.grid_base.specs.Table.{rows_of, cols_of, cell}
 use Rattle.grid_base.specs.Symmetry.{act, price}
 use Rattle.grid.specs.declared.command.Command.{Command}
 use Rattle.grid.specs.declared.command.Command.TheVariants.{Size, Get, Apply}
@@ -24,7 +24,7 @@ module _ {T : Type 0} where
   -- whether a command takes memory at a table
   abbrev pub TakesMemory : Command → List (List T) → Type 0
   TakesMemory Size t = ⊥
-  TakesMemory (Get r c) t = InRange t r c
+  TakesMemory (Get r c) t = IsSome (cell t r c)
   TakesMemory (Apply s) t = ⊥
 
   -- how many swaps for symmetries it costs

@@ -55,6 +55,11 @@ module _ {T : Type 0} (o : Order) (m n : ℕ) (cells : List T) (h : Fits m n (le
       by_order RowMajor i j = refl
       by_order ColumnMajor i j = refl
 
+-- no rows
+pub table_of-none : {T : Type 0} (o : Order) (cells : List T) → table_of o 0 0 cells ≡ []
+unfolding tabulate
+table_of-none o cells = refl
+
 -- the size of no cells, and of cells that are cut into rows
 pub Fits-none : (len : ℕ) → len ≡ 0 → Fits 0 0 len
 Fits-none len e = record { cells = omega arith; below = lit< tt; size = record { has_cols = λ h. h; has_rows = λ h. h } }

@@ -1,16 +1,19 @@
 -- A table of which one cell is written.
 use Rattle.std.proofs.Common.{◌≡◌, ◌≢◌, ℕ, zero, suc, ◌+◌, ◌*◌, ◌<◌, ◌≤◌, ◌⊎◌, Option, Some, None, List, [], ◌∷◌, length, set, get_or, refl, sym, ◌∙◌, ap, arith, ⊎_elim}
-use Rattle.std.specs.List.{slice_get}
+use Rattle.std.specs.List.{slice_get, swap}
 use Rattle.std.proofs.lemmas.List.{length-set, get_or-set_same, get_or-set_other, set_past, set-get_or}
+use Rattle.std.proofs.lemmas.List.Edits.{swap_is}
+use Rattle.std.proofs.lemmas.Option.{slice_get-get_or}
 use Rattle.std.proofs.lemmas.Nat.{same_from_place}
 use Rattle.std.proofs.lemmas.Bool.{cases_eq, cases_lt}
 use Rattle.grid_base.specs.declared.flat.order.Order.{Order}
 use Rattle.grid_base.specs.declared.flat.order.Order.TheVariants.{RowMajor, ColumnMajor}
-use Rattle.grid_base.specs.Table.{row, rows_of, cols_of, cell, with_cell, tabulate}
+use Rattle.grid_base.specs.Table.{row, rows_of, cols_of, cell, with_cell, exchanged, tabulate}
 use Rattle.grid_base.specs.Order.{place, table_of}
 use Rattle.grid_base.specs.Sheet.{Fits}
 use Rattle.grid_base.proofs.Tables.{rows-tabulate, width-tabulate, cell-tabulate, same_tables, IsFull}
 use Rattle.grid_base.proofs.Stores.{IsFull-table_of, place_within}
+use Rattle.grid_base.proofs.Views.{view-cell}
 
 pub get-set_same : {T : Type 0} (xs : List T) (i : ℕ) (w : T) → i < length xs → slice_get (set xs i w) i ≡ Some w
 get-set_same [] i w h = absurd (omega arith)
@@ -87,3 +90,23 @@ write_past_cols t r c w h = ap (set t r) (set_past (row t r) c w h) ∙ set-get_
 
 pub write_past_rows : {T : Type 0} (t : List (List T)) (r c : ℕ) (w : T) → length t ≤ r → with_cell t r c w ≡ t
 write_past_rows t r c w h = set_past t r _ h
+
+-- a swap of two cells' places exchanges the cells
+swap_with : {T : Type 0} (o : Order) (m n : ℕ) (d : T) (cells : List T) (h : Fits m n (length cells)) (a b : ℕ × ℕ) → a.0 < m → a.1 < n → b.0 < m → b.1 < n → table_of o m n (swap cells (place o m n a.0 a.1) (place o m n b.0 b.1)) ≡ exchanged (table_of o m n cells) a b
+swap_with o m n d cells h a b ra ca rb cb =
+    let i = place o m n a.0 a.1 in
+    let j = place o m n b.0 b.1 in
+    let i_in : i < length cells = omega (arith, h.cells, place_within o m n a.0 a.1 ra ca) in
+    let j_in : j < length cells = omega (arith, h.cells, place_within o m n b.0 b.1 rb cb) in
+    let x = get_or cells j d in
+    let y = get_or cells i d in
+    let fits : Fits m n (length (set cells i x)) = rw (length-set cells i x) h in
+    let at_a = view-cell o m n cells h a.0 a.1 ra ca ∙ slice_get-get_or cells i d i_in in
+    let at_b = view-cell o m n cells h b.0 b.1 rb cb ∙ slice_get-get_or cells j d j_in in
+    ap (table_of o m n) (sym (swap_is cells i j d i_in j_in))
+    ∙ (view-write o m n (set cells i x) fits b.0 b.1 rb cb y
+    ∙ (ap (λ t. with_cell t b.0 b.1 y) (view-write o m n cells h a.0 a.1 ra ca x) ∙ sym (rw (at_a, at_b) refl)))
+
+pub view-swap : {T : Type 0} (o : Order) (m n : ℕ) (cells : List T) (h : Fits m n (length cells)) (a b : ℕ × ℕ) → a.0 < m → a.1 < n → b.0 < m → b.1 < n → table_of o m n (swap cells (place o m n a.0 a.1) (place o m n b.0 b.1)) ≡ exchanged (table_of o m n cells) a b
+view-swap o m n [] h a b ra ca rb cb = absurd (omega (arith, h.cells, place_within o m n a.0 a.1 ra ca))
+view-swap o m n (d ∷ cells) h a b ra ca rb cb = swap_with o m n d (d ∷ cells) h a b ra ca rb cb

@@ -3,7 +3,8 @@ use Rattle.grid_base.specs.declared.words.Symmetry.TheVariants.{Identity, FlipCo
 use Rattle.grid_base.specs.Table.{rows_of, cols_of, IsTable}
 use Rattle.grid_base.specs.Symmetry.{act}
 use Rattle.grid_base.proofs.Group.{act-identity, normal-acts}
-use Rattle.grid.proofs.Flips.{seen_table, after_transpose, turned_rows, turned_cols}
+use Rattle.grid.proofs.Flips.{after_transpose, turned_rows, turned_cols}
+use Rattle.grid.proofs.Seen.{seen_table}
 use Rattle.grid.proofs.grid.Grid.apply_counted.Goals as goal
 
 pub returns-in-Identity-clause-rows : goal.returns-in-Identity-clause-rows

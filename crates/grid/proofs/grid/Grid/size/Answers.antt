@@ -1,13 +1,15 @@
-use Rattle.std.proofs.Common.{sym, ap, ◌∙◌}
-use Rattle.grid_base.specs.Table.{rows_of, cols_of, IsTable}
-use Rattle.grid_base.proofs.Views.{view-rows, view-cols, view-table}
+use Rattle.std.proofs.Common.{sym}
+use Rattle.grid.proofs.Seen.{seen_rows, seen_cols, seen_table, seen_below}
 use Rattle.grid.proofs.grid.Grid.size.Goals as goal
 
 pub returns-clause-rows : goal.returns-clause-rows
-returns-clause-rows g c = rw (← c.self.view_is) (sym (view-rows _ _ _ _ c.self.invariant))
+returns-clause-rows g c = sym (seen_rows _ _ _ _ _ c.self.invariant c.self.view_is)
 
 pub returns-clause-cols : goal.returns-clause-cols
-returns-clause-cols g c = rw (← c.self.view_is) (sym (view-cols _ _ _ _ c.self.invariant))
+returns-clause-cols g c = sym (seen_cols _ _ _ _ _ c.self.invariant c.self.view_is)
 
 pub returns-clause-table : goal.returns-clause-table
-returns-clause-table g c = rw (← c.self.view_is) (view-table _ _ _ _ c.self.invariant)
+returns-clause-table g c = seen_table _ _ _ _ _ c.self.invariant c.self.view_is
+
+pub returns-clause-below : goal.returns-clause-below
+returns-clause-below g c = seen_below _ _ _ _ _ c.self.invariant c.self.view_is

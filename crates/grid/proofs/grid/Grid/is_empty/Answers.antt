@@ -1,0 +1,5 @@
+use Rattle.grid.proofs.Seen.{seen_empty}
+use Rattle.grid.proofs.grid.Grid.is_empty.Goals as goal
+
+pub returns : goal.returns
+returns g c = seen_empty _ _ _ _ _ c.self.invariant c.self.view_is
