@@ -1,7 +1,7 @@
 //! Commands as data, and runs of them.
-ghost use Rattle.std.specs.Prelude.{◌≡◌, OnOk, OnErr, IfOk, IfErr, map, take};
+ghost use Rattle.std.specs.Prelude.{◌≡◌, ◌+◌, ◌≤◌, OnOk, OnErr, IfOk, IfErr, map, take};
 ghost use Rattle.grid_base.specs.Table.{rows_of, cols_of};
-ghost use Rattle.grid_base.specs.Symmetry.{order_after};
+ghost use Rattle.grid_base.specs.Symmetry.{order_after, half};
 ghost use Rattle.grid_base.specs.Tally.{counted};
 ghost use Rattle.grid.specs.Reply.{plain};
 ghost use Rattle.grid.specs.Command.{step_rows, step_reply, step_price, command_symmetry, TakesMemory};
@@ -59,6 +59,9 @@ impl<T, A: Allocator> Grid<T, A> {
         ensures order { OnOk result (self.new.order ≡ order_after (command_symmetry command) self.old.order) }
         ensures symmetry { OnOk result (tally.new.symmetry ≡ counted tally.old.symmetry (step_price command self.old.rows)) }
         ensures shift { tally.new.shift ≡ tally.old.shift }
+
+        // No command costs more swaps for symmetries than half of the cells.
+        ensures half { tally.new.symmetry ≤ tally.old.symmetry + half (rows_of self.old.rows) (cols_of self.old.rows) }
 
         // An error comes at a command that takes memory, and changes nothing.
         ensures err_grid { OnErr result (self.new ≡ self.old) }

@@ -1,7 +1,7 @@
 //! The six moves of a grid, and the eight symmetries.
 ghost use Rattle.std.specs.Prelude.{◌≡◌, List};
 ghost use Rattle.grid_base.specs.Table.{rows_of, cols_of};
-ghost use Rattle.grid_base.specs.Order.{flipped};
+ghost use Rattle.grid_base.specs.Order.{flipped, storage};
 ghost use Rattle.grid_base.specs.Symmetry.{act, order_after, price};
 ghost use Rattle.grid_base.specs.Move.{word_image, IsNormalForm};
 ghost use Rattle.grid_base.specs.Tally.{counted};
@@ -17,10 +17,11 @@ use std::alloc::Allocator;
 use std::mem;
 
 impl<T, A: Allocator> Grid<T, A> {
-    /// Exchanges rows with columns. Moves no cell, and flips the order.
+    /// Exchanges rows with columns. Moves no cell, and flips the order, so the storage stays.
     pub fn transpose(&mut self)
         ensures rows { self.new.rows ≡ act Transpose self.old.rows }
         ensures order { self.new.order ≡ flipped self.old.order }
+        ensures storage { storage self.new.order self.new.rows ≡ storage self.old.order self.old.rows }
     {
         mem::swap(&mut self.row_count, &mut self.col_count);
         self.order = match self.order {

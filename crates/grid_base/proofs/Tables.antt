@@ -85,7 +85,7 @@ tabulate-same m n f g same h =
         let k : c < n = omega (arith, width-tabulate m n f r full l) in
         cell-tabulate m n f r c full l k ∙ (same r c l k ∙ sym (cell-tabulate m n g r c h l k)))
 
-zero_by : (n : ℕ) → (0 < n → 0 < 0) → 0 ≡ n
+pub zero_by : (n : ℕ) → (0 < n → 0 < 0) → 0 ≡ n
 zero_by zero h = refl
 zero_by (suc n) h = absurd (omega (arith, h (omega arith)))
 

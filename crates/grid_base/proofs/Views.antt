@@ -1,18 +1,20 @@
 -- What a grid's parts say of its table.
-use Rattle.std.proofs.Common.{◌≡◌, ◌≢◌, ℕ, zero, suc, ◌+◌, ◌*◌, ◌-◌, ◌/◌, ◌%◌, ◌^◌, ◌<◌, ◌≤◌, ◌⊎◌, Option, Some, None, List, [], ◌∷◌, length, refl, sym, ◌∙◌, ap, arith, lit<}
+use Rattle.std.proofs.Common.{◌≡◌, ◌≢◌, ℕ, zero, suc, ◌+◌, ◌*◌, ◌-◌, ◌/◌, ◌%◌, ◌^◌, ◌<◌, ◌≤◌, ◌⊎◌, Option, Some, None, List, [], ◌∷◌, length, refl, sym, ◌∙◌, ap, arith, lit<, inl, inr, ⊎_elim}
 use Rattle.std.specs.List.{slice_get}
 use Rattle.std.proofs.lemmas.Nat.{div-add-mod'}
+use Rattle.std.proofs.lemmas.Bool.{cases_eq}
+use Rattle.std.proofs.Math.Nat.{mul_comm, mul-div_cancel, mul-mod_left}
 use Rattle.grid_base.specs.declared.flat.order.Order.{Order}
 use Rattle.grid_base.specs.declared.flat.order.Order.TheVariants.{RowMajor, ColumnMajor}
 use Rattle.grid_base.specs.declared.words.Symmetry.{Symmetry}
 use Rattle.grid_base.specs.declared.words.Symmetry.TheVariants.{Transpose}
 use Rattle.grid_base.specs.Table.{row, rows_of, cols_of, cell, IsTable, IsSize, tabulate}
-use Rattle.grid_base.specs.Order.{storage, place, flipped, table_of}
-use Rattle.grid_base.specs.Sheet.{Fits}
+use Rattle.grid_base.specs.Order.{storage, place, flipped, table_of, CanCut}
+use Rattle.grid_base.specs.Sheet.{Sheet, Fits}
 use Rattle.grid_base.specs.Symmetry.{act, image_rows, image_cols, source_row, source_col}
-use Rattle.grid_base.proofs.Tables.{rows-tabulate, cols-tabulate, cell-tabulate, tabulate-same, IsFull, IsTable-tabulate, cell_past_rows, cell_past_cols}
+use Rattle.grid_base.proofs.Tables.{zero_by, tabulate-cells, IsSize-table, rows-tabulate, cols-tabulate, cell-tabulate, tabulate-same, IsFull, IsTable-tabulate, cell_past_rows, cell_past_cols}
 use Rattle.grid_base.proofs.Acts.{act-tabulate, image_cell, source_within, IsFull-image}
-use Rattle.grid_base.proofs.Stores.{IsFull-table_of, storage-table_of, place_within}
+use Rattle.grid_base.proofs.Stores.{length-storage, get-storage, IsFull-table_of, storage-table_of, place_within}
 
 pos_of : (k : ℕ) → k ≢ 0 → 0 < k
 pos_of zero h = absurd (h refl)
@@ -72,3 +74,59 @@ Fits-cut len cols some wide even small =
         below = omega arith;
         size = record { has_cols = λ _. omega arith; has_rows = λ _. pos_of (len / cols) (λ e. some (omega (arith, ap (λ x. x * cols) e))) }
     }
+
+-- the size of the turned table
+pub Fits-turned : (m n len : ℕ) → Fits m n len → Fits n m len
+Fits-turned m n len h =
+    record {
+        cells = h.cells ∙ mul_comm m n;
+        below = rw (mul_comm n m) h.below;
+        size = record { has_cols = h.size.has_rows; has_rows = h.size.has_cols }
+    }
+
+-- a table is what is cut from its storage
+by_storage : {T : Type 0} (o : Order) (t : List (List T)) → IsTable t → t ≡ table_of o (rows_of t) (cols_of t) (storage o t)
+by_storage o t h =
+    sym (tabulate-cells t h)
+    ∙ tabulate-same (rows_of t) (cols_of t) (cell t) (λ r c. slice_get (storage o t) (place o (rows_of t) (cols_of t) r c))
+    (λ r c p q. sym (get-storage o t r c h p q)) (IsFull-table_of o (rows_of t) (cols_of t) (storage o t) (length-storage o t h))
+
+rows_by_cells : (m k n : ℕ) → (0 < m → 0 < n) → (0 < k → 0 < n) → m * n ≡ k * n → m ≡ k
+rows_by_cells m k zero p q e = sym (zero_by m p) ∙ zero_by k q
+rows_by_cells m k (suc n) p q e =
+    let some : 0 < suc n = omega arith in
+    sym (mul-div_cancel m {n = suc n} some) ∙ (ap (λ x. x / suc n) e ∙ mul-div_cancel k {n = suc n} some)
+
+-- two tables of one storage and one number of columns are one
+pub same_by_storage : {T : Type 0} (o : Order) (t u : List (List T)) → IsTable t → IsTable u → cols_of t ≡ cols_of u → storage o t ≡ storage o u → t ≡ u
+same_by_storage o t u h k cols same =
+    let product : rows_of t * cols_of t ≡ rows_of u * cols_of u = sym (length-storage o t h) ∙ (ap length same ∙ length-storage o u k) in
+    let rows : rows_of t ≡ rows_of u =
+        rows_by_cells (rows_of t) (rows_of u) (cols_of t) (IsSize-table t h).has_cols (rw cols (IsSize-table u k).has_cols)
+        (product ∙ ap (λ n. rows_of u * n) (sym cols)) in
+    by_storage o t h
+    ∙ (ap (λ m. table_of o m (cols_of t) (storage o t)) rows
+    ∙ (ap (λ n. table_of o (rows_of u) n (storage o t)) cols ∙ (ap (table_of o (rows_of u) (cols_of u)) same ∙ sym (by_storage o u k))))
+
+-- the storage of a table can be cut into rows of its length
+pub CanCut-storage : {T : Type 0} (o : Order) (t : List (List T)) → IsTable t → CanCut (length (storage o t)) (cols_of t)
+CanCut-storage o t h =
+    ⊎_elim (λ none. inl (length-storage o t h ∙ (ap (λ n. rows_of t * n) none ∙ omega arith)))
+    (λ some. inr (some, ap (λ x. x % cols_of t) (length-storage o t h) ∙ mul-mod_left (rows_of t) (cols_of t)))
+    (cases_eq (cols_of t) 0)
+
+-- no cells, no rows
+pub none_by_storage : {T : Type 0} (o : Order) (t : List (List T)) → IsTable t → length (storage o t) ≡ 0 → t ≡ []
+none_by_storage o [] h e = refl
+none_by_storage o (r ∷ t) h e =
+    let some : 0 < cols_of (r ∷ t) = h.nonempty 0 (omega arith) in
+    absurd (omega (arith, length-storage o (r ∷ t) h, some))
+
+pub flipped-flipped : (o : Order) → flipped (flipped o) ≡ o
+flipped-flipped RowMajor = refl
+flipped-flipped ColumnMajor = refl
+
+pub same_sheet : {T : Type 0} (s u : Sheet T) → s.rows ≡ u.rows → s.order ≡ u.order → s ≡ u
+same_sheet {T} s u rows order =
+    ap (λ t. let v : Sheet T = record { rows = t; order = s.order } in v) rows
+    ∙ ap (λ o. let v : Sheet T = record { rows = u.rows; order = o } in v) order

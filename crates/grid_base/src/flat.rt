@@ -109,7 +109,7 @@ impl<T, A: Allocator> Flat<T, A> {
         ensures symmetry { tally.new.symmetry ≡ counted tally.old.symmetry 1 }
         ensures shift { tally.new.shift ≡ tally.old.shift }
     {
-        self.cells.swap(i, j);
+        self.swap(i, j);
         tally.count_symmetry();
     }
 
@@ -122,7 +122,7 @@ impl<T, A: Allocator> Flat<T, A> {
         ensures symmetry { tally.new.symmetry ≡ tally.old.symmetry }
         ensures shift { tally.new.shift ≡ counted tally.old.shift 1 }
     {
-        self.cells.swap(i, j);
+        self.swap(i, j);
         tally.count_shift();
     }
 

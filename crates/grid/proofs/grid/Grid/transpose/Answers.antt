@@ -4,7 +4,7 @@ use Rattle.grid_base.specs.Order.{table_of, flipped}
 use Rattle.grid_base.specs.Sheet.{Sheet}
 use Rattle.grid_base.specs.Symmetry.{act}
 use Rattle.grid_base.specs.declared.words.Symmetry.TheVariants.{Transpose}
-use Rattle.grid_base.proofs.Views.{view-transpose}
+use Rattle.grid_base.proofs.Views.{view-transpose, view-storage, Fits-turned}
 use Rattle.grid.proofs.grid.Grid.transpose.Goals as goal
 use Rattle.grid.proofs.grid.Grid.transpose.Goals.{in-RowMajor, in-ColumnMajor}
 
@@ -13,3 +13,10 @@ returns-clause-rows g c =
     let s = c.self.inside in
     let turned : c.match-self.self ≡ flipped s.order = elim c.match-self.branch [ in-RowMajor w ↦ cc | in-ColumnMajor w ↦ cc ] in
     rw (turned, c.swap.ensures.x_after, c.swap.ensures.y_after, ← c.self.view_is) (view-transpose _ _ _ _ c.self.invariant)
+
+pub returns-clause-storage : goal.returns-clause-storage
+returns-clause-storage g c =
+    let s = c.self.inside in
+    let turned : c.match-self.self ≡ flipped s.order = elim c.match-self.branch [ in-RowMajor w ↦ cc | in-ColumnMajor w ↦ cc ] in
+    rw (turned, c.swap.ensures.x_after, c.swap.ensures.y_after, ← c.self.view_is)
+    (view-storage _ _ _ _ (Fits-turned _ _ _ c.self.invariant) ∙ sym (view-storage _ _ _ _ c.self.invariant))
