@@ -3,3 +3,4 @@ pub mod Passes
 pub mod Reply
 pub mod Command
 pub mod Run
+pub mod Edit

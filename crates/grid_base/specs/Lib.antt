@@ -6,3 +6,4 @@ pub mod Move
 pub mod Tally
 pub mod Sheet
 pub mod Flat
+pub mod Lines
