@@ -1,4 +1,8 @@
 //! The lines of a script, their words, and the numbers among these.
+ghost use Rattle.std.specs.Prelude.{◌≡◌, ◌≢◌, ◌+◌, ◌^◌, ◌<◌, ◌↔◌, length, slice_index, IsSome, IfSome, FitsSigned};
+ghost use Rattle.std.specs.Iterator.{at_most};
+ghost use Rattle.std.specs.Int.{w64};
+ghost use Rattle.std.specs.Str.Parse.{IsNumeral, digits_value, signed_digits_value, without_leading_sign};
 
 /// The lines of a script and their numbers, counted from 1.
 ///
@@ -8,6 +12,7 @@
 pub struct Lines<'a> {
     rest: &'a [u8],
     count: usize,
+    ghost countable: { count + length rest.now < 2 ^ 64 },
 }
 
 impl<'a> Lines<'a> {
@@ -22,6 +27,8 @@ impl<'a> Lines<'a> {
 
 impl<'a> Iterator for Lines<'a> {
     type Item = (usize, &'a [u8]);
+
+    ghost remaining = { λ lines. at_most (length lines.rest.now) };
 
     fn next(&mut self) -> Option<(usize, &'a [u8])> {
         if self.rest.is_empty() {
@@ -59,20 +66,32 @@ impl<'a> Words<'a> {
 impl<'a> Iterator for Words<'a> {
     type Item = &'a str;
 
+    ghost remaining = { λ words. at_most (length words.0.now) };
+
     fn next(&mut self) -> Option<&'a str> {
         let text = self.0.trim_start_matches([' ', '\t']);
         if text.is_empty() {
             self.0 = text;
             return None;
         }
-        let (word, rest) = text.split_once([' ', '\t']).unwrap_or((text, ""));
-        self.0 = rest;
-        Some(word)
+        match text.split_once([' ', '\t']) {
+            Some((word, rest)) => {
+                self.0 = rest;
+                Some(word)
+            }
+            None => {
+                self.0 = "";
+                Some(text)
+            }
+        }
     }
 }
 
 /// The index or count that a word writes: decimal digits alone, in the range of a `usize`.
-pub fn index(word: &str) -> Option<usize> {
+pub fn index(word: &str) -> Option<usize>
+    ensures numeral { IsSome result ↔ (IsNumeral 10 word.now × (digits_value 10 word.now < 2 ^ 64)) }
+    ensures value { IfSome result (λ number. number ≡ digits_value 10 word.now) }
+{
     if word.starts_with('+') {
         return None;
     }
@@ -80,7 +99,10 @@ pub fn index(word: &str) -> Option<usize> {
 }
 
 /// The cell that a word writes: decimal digits, perhaps after a minus, in the range of an `i64`.
-pub fn cell(word: &str) -> Option<i64> {
+pub fn cell(word: &str) -> Option<i64>
+    ensures numeral { IsSome result ↔ ((slice_index word.now 0 ≢ 43) × IsNumeral 10 (without_leading_sign word.now) × FitsSigned w64 (signed_digits_value 10 word.now)) }
+    ensures value { IfSome result (λ number. number ≡ signed_digits_value 10 word.now) }
+{
     if word.starts_with('+') {
         return None;
     }
