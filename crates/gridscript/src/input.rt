@@ -1,5 +1,5 @@
 //! What the program is given: its arguments and its input.
-ghost use Rattle.std.specs.Prelude.{◌≡◌, ◌↔◌, [], ◌∷◌, true, false, map, codes, string_bytes};
+ghost use Rattle.std.specs.Prelude.{◌≡◌, ◌↔◌, [], ◌∷◌, true, false, map, codes, string_bytes, IfOk, IfSome};
 
 use std::alloc::Allocator;
 use std::io;
@@ -23,7 +23,9 @@ pub fn mode(args: &[String]) -> Option<bool>
 }
 
 /// The bytes of the reader up to its end, which must come within `READS` reads.
-pub fn read_all<A: Allocator>(alloc: A, reader: &mut impl Read) -> io::Result<Vec<u8, A>> {
+pub fn read_all<A: Allocator, R: Read>(alloc: A, reader: &mut R) -> io::Result<Vec<u8, A>>
+    ensures { IfOk result (λ bytes. IfSome (R.remaining reader.old) (λ left. bytes.items ≡ left)) }
+{
     let mut bytes = Vec::new(alloc);
     let mut buf = [0u8; READ_LEN];
     for _ in 0..READS {

@@ -95,7 +95,7 @@ pub fn index(word: &str) -> Option<usize>
     if word.starts_with('+') {
         return None;
     }
-    word.parse().ok()
+    word.parse::<usize>().ok()
 }
 
 /// The cell that a word writes: decimal digits, perhaps after a minus, in the range of an `i64`.
@@ -106,5 +106,5 @@ pub fn cell(word: &str) -> Option<i64>
     if word.starts_with('+') {
         return None;
     }
-    word.parse().ok()
+    word.parse::<i64>().ok()
 }

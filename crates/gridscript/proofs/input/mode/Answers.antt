@@ -1,5 +1,5 @@
 -- A single argument that equals the word is the list of arguments.
-use Rattle.std.proofs.Common.{◌≡◌, ℕ, ◌<◌, ◌∙◌, List, [], ◌∷◌, map, length, slice_index_or, codes, string_bytes, refl, ap, sym, arith, bytes_eq}
+use Rattle.std.proofs.Common.{◌≡◌, ℕ, ◌<◌, ◌∙◌, List, [], ◌∷◌, map, length, slice_index_or, codes, string_bytes, refl, ap, sym, arith}
 use Rattle.std.proofs.lemmas.Slice.Eq.{bytes_eq-Decides}
 use Rattle.gridscript.proofs.input.mode.Goals as goal
 

@@ -1,5 +1,5 @@
 -- A word and the separator after it are cut off, so the rest is shorter.
-use Rattle.std.proofs.Common.{◌≡◌, ℕ, ◌+◌, ◌<◌, ◌≤◌, Bool, List, [], ◌∷◌, length, refl, arith, rules}
+use Rattle.std.proofs.Common.{◌≡◌, ℕ, ◌<◌, ◌≤◌, Bool, List, [], ◌∷◌, length, refl, arith, rules}
 use Rattle.std.specs.Char.{char_set_contains, len_utf8}
 use Rattle.std.specs.Str.Pattern.{FindsBy, SplitsAroundMatch}
 use Rattle.std.proofs.lemmas.Str.{len_utf8_bounds}
