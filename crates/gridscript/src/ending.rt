@@ -1,6 +1,10 @@
 //! How the program ends where it writes no output.
-ghost use Rattle.std.specs.Prelude.{◌≡◌};
-ghost use Rattle.gridscript.specs.Status.{status_of_ending};
+ghost use Rattle.std.specs.Prelude.{◌≡◌, ◌≢◌, ◌↔◌, Some};
+ghost use Rattle.std.specs.IoError.{error_kind};
+ghost use Rattle.std.specs.declared.io.ErrorKind.TheVariants.{OutOfMemory};
+ghost use Rattle.gridscript.specs.Ending.{ending_status, ending_text};
+ghost use Rattle.gridscript.specs.declared.ending.Ending.TheVariants.{Script, Transfer};
+ghost use Rattle.gridscript.specs.declared.fault.ScriptFault.TheVariants.{Memory};
 
 use crate::fault::ScriptFault;
 use std::alloc::AllocError;
@@ -20,7 +24,7 @@ pub enum Ending {
 impl Ending {
     /// The exit status.
     pub fn status(&self) -> u8
-        ensures { result ≡ status_of_ending self.now }
+        ensures { result ≡ ending_status self.now }
     {
         match self {
             Ending::Usage => 2,
@@ -31,6 +35,8 @@ impl Ending {
 }
 
 impl fmt::Display for Ending {
+    ghost output = { λ ending. Some (ending_text ending) };
+
     fn fmt<W: fmt::Write>(&self, f: &mut fmt::Formatter<W>) -> fmt::Result {
         match self {
             Ending::Usage => f.write_str("usage: gridscript [deferred]"),
@@ -41,18 +47,24 @@ impl fmt::Display for Ending {
 }
 
 impl From<ScriptFault> for Ending {
+    ghost from_gives = { λ fault ending. ending ≡ Script fault };
+
     fn from(fault: ScriptFault) -> Ending {
         Ending::Script(fault)
     }
 }
 
 impl From<AllocError> for Ending {
+    ghost from_gives = { λ _ ending. ending ≡ Script Memory };
+
     fn from(_error: AllocError) -> Ending {
         Ending::Script(ScriptFault::Memory)
     }
 }
 
 impl From<io::Error> for Ending {
+    ghost from_gives = { λ error ending. ((ending ≡ Script Memory) ↔ (error_kind error ≡ OutOfMemory)) × ((ending ≡ Transfer) ↔ (error_kind error ≢ OutOfMemory)) };
+
     fn from(error: io::Error) -> Ending {
         match error.kind() {
             io::ErrorKind::OutOfMemory => Ending::Script(ScriptFault::Memory),

@@ -1,6 +1,7 @@
 //! What can be wrong with a script.
-ghost use Rattle.std.specs.Prelude.{◌≡◌};
-ghost use Rattle.gridscript.specs.Status.{status_of};
+ghost use Rattle.std.specs.Prelude.{◌≡◌, Some};
+ghost use Rattle.gridscript.specs.ScriptFault.{fault_status, fault_text};
+ghost use Rattle.gridscript.specs.declared.fault.ScriptFault.TheVariants.{Memory};
 
 use std::alloc::{AllocError, AllocFailed};
 use std::fmt;
@@ -19,7 +20,7 @@ pub enum ScriptFault {
 impl ScriptFault {
     /// The exit status of the program that ran the script.
     pub fn status(&self) -> u8
-        ensures { result ≡ status_of self.now }
+        ensures { result ≡ fault_status self.now }
     {
         match self {
             ScriptFault::BadGrid => 2,
@@ -30,6 +31,8 @@ impl ScriptFault {
 }
 
 impl fmt::Display for ScriptFault {
+    ghost output = { λ fault. Some (fault_text fault) };
+
     fn fmt<W: fmt::Write>(&self, f: &mut fmt::Formatter<W>) -> fmt::Result {
         match self {
             ScriptFault::BadGrid => f.write_str("line 1: bad grid"),
@@ -40,12 +43,16 @@ impl fmt::Display for ScriptFault {
 }
 
 impl From<AllocError> for ScriptFault {
+    ghost from_gives = { λ _ fault. fault ≡ Memory };
+
     fn from(_error: AllocError) -> ScriptFault {
         ScriptFault::Memory
     }
 }
 
 impl<T: Drop> From<AllocFailed<T>> for ScriptFault {
+    ghost from_gives = { λ _ fault. fault ≡ Memory };
+
     fn from(_error: AllocFailed<T>) -> ScriptFault {
         ScriptFault::Memory
     }
