@@ -1,2 +1,3 @@
 pub mod ScriptFault
 pub mod Ending
+pub mod Lines

@@ -1,6 +1,8 @@
 //! The lines of a script, their words, and the numbers among these.
-ghost use Rattle.std.specs.Prelude.{◌≡◌, ◌≢◌, ◌+◌, ◌^◌, ◌<◌, ◌↔◌, length, slice_index, IsSome, IfSome, FitsSigned};
+ghost use Rattle.std.specs.Prelude.{◌≡◌, ◌≢◌, ◌+◌, ◌^◌, ◌<◌, ◌↔◌, [], length, MatchOption, ◌==◌, position, slice_index, IsSome, IfSome, FitsSigned};
+ghost use Rattle.gridscript.specs.Lines.{first_line, later_lines, without_return};
 ghost use Rattle.std.specs.Iterator.{at_most};
+ghost use Rattle.std.specs.List.{before_first};
 ghost use Rattle.std.specs.Int.{w64};
 ghost use Rattle.std.specs.Str.Parse.{IsNumeral, digits_value, signed_digits_value, without_leading_sign};
 
@@ -28,27 +30,44 @@ impl<'a> Lines<'a> {
 impl<'a> Iterator for Lines<'a> {
     type Item = (usize, &'a [u8]);
 
+    ghost next_gives = { λ old item new. MatchOption item (old.rest.now ≡ [])
+        (λ line. (line.0 ≡ old.count + 1) × (line.1.now ≡ first_line old.rest.now) × (new.rest.now ≡ later_lines old.rest.now)) };
+
     ghost remaining = { λ lines. at_most (length lines.rest.now) };
 
     fn next(&mut self) -> Option<(usize, &'a [u8])> {
         if self.rest.is_empty() {
             return None;
         }
-        let line = match self.rest.iter().position(|byte| *byte == b'\n') {
-            Some(end) => {
-                let line = &self.rest[..end];
-                self.rest = &self.rest[end + 1..];
-                line
-            }
-            None => {
-                let line = self.rest;
-                self.rest = &[];
-                line
-            }
-        };
+        let (line, rest) = cut_line(self.rest);
+        self.rest = rest;
         self.count += 1;
-        Some((self.count, line.strip_suffix(b"\r").unwrap_or(line)))
+        Some((self.count, without_return(line)))
     }
+}
+
+// The bytes before the first line feed, and those after it.
+fn cut_line(script: &[u8]) -> (&[u8], &[u8])
+    ensures line { result.0.now ≡ before_first (λ byte. byte == 10) script.now }
+    ensures rest { result.1.now ≡ later_lines script.now }
+{
+    match line_feed(script) {
+        Some(end) => (&script[..end], &script[end + 1..]),
+        None => (script, &[]),
+    }
+}
+
+// Where the first line feed stands.
+fn line_feed(script: &[u8]) -> Option<usize>
+    ensures { result ≡ position (λ byte. byte == 10) script.now }
+{
+    script.iter().position(|byte| *byte == b'\n')
+}
+
+fn without_return(line: &[u8]) -> &[u8]
+    ensures { result.now ≡ without_return line.now }
+{
+    line.strip_suffix(b"\r").unwrap_or(line)
 }
 
 /// The words of a line, which are separated by spaces and tabs.
