@@ -1,4 +1,38 @@
-//! Runs a script on a grid.
+//! Runs a script on a grid: reads it from standard input, and writes one line for each reply, then the grid.
 #![tactic(auto)]
 
-fn main() {}
+mod ending;
+mod fault;
+mod input;
+mod play;
+mod script;
+#[cfg(test)]
+mod tests;
+mod words;
+
+use ending::Ending;
+use input::{mode, read_all};
+use play::play;
+use std::env;
+use std::process::ExitCode;
+use std::rt::Env;
+
+// The arguments are tested first, then the whole input is read, and only then the script is run.
+fn run<R: Env + Input + Print + AllocGlobal>(rt: &R) -> Result<(), Ending> {
+    let args: Vec<String> = env::args(rt)?.skip(1).collect(rt.alloc())?;
+    let deferred = mode(&args).ok_or(Ending::Usage)?;
+    let script = read_all(rt.alloc(), &mut rt.reader())?;
+    let output = play(rt.alloc(), &script, deferred)?;
+    rt.print(&output)?;
+    Ok(())
+}
+
+fn main(rt: HostRuntime) -> ExitCode {
+    match run(&rt) {
+        Ok(()) => ExitCode::SUCCESS,
+        Err(ending) => {
+            let _ = eprintln!(rt; "{ending}");
+            ExitCode::from(ending.status())
+        }
+    }
+}

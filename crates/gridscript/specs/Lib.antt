@@ -1,0 +1,3 @@
+pub mod ScriptFault
+pub mod Ending
+pub mod Lines

@@ -1,0 +1,40 @@
+//! What the program is given: its arguments and its input.
+ghost use Rattle.std.specs.Prelude.{◌≡◌, ◌↔◌, [], ◌∷◌, true, false, map, codes, string_bytes, IfOk, IfSome};
+
+use std::alloc::Allocator;
+use std::io;
+use std::io::Read;
+
+const READS: u32 = 1_048_576;
+
+const READ_LEN: usize = 4096;
+
+/// Whether the arguments after the program's name ask for a deferred run, or `None` where they are no use of the
+/// program.
+pub fn mode(args: &[String]) -> Option<bool>
+    ensures plain { (result ≡ Some false) ↔ (args.now ≡ []) }
+    ensures deferred { (result ≡ Some true) ↔ (map string_bytes args.now ≡ codes "deferred" ∷ []) }
+{
+    match args {
+        [] => Some(false),
+        [word] if word.as_str() == "deferred" => Some(true),
+        _ => None,
+    }
+}
+
+/// The bytes of the reader up to its end, which must come within `READS` reads.
+pub fn read_all<A: Allocator, R: Read>(alloc: A, reader: &mut R) -> io::Result<Vec<u8, A>>
+    ensures { IfOk result (λ bytes. IfSome (R.remaining reader.old) (λ left. bytes.items ≡ left)) }
+{
+    let mut bytes = Vec::new(alloc);
+    let mut buf = [0u8; READ_LEN];
+    for _ in 0..READS {
+        match reader.read(&mut buf) {
+            Ok(0) => return Ok(bytes),
+            Ok(len) => bytes.extend_from_slice(&buf[..len])?,
+            Err(error) if error.kind() == io::ErrorKind::Interrupted => {}
+            Err(error) => return Err(error),
+        }
+    }
+    Err(io::Error::from(io::ErrorKind::FileTooLarge))
+}
