@@ -8,6 +8,8 @@ mod commands;
 #[cfg(test)]
 mod fixtures;
 #[cfg(test)]
+mod ground;
+#[cfg(test)]
 mod memory;
 pub mod plain;
 #[cfg(test)]

@@ -161,7 +161,7 @@ pub fn step<T: Copy>(
     }
 }
 
-/// Does commands one after another, and lists their replies.
+/// Does commands one after another, and lists their replies. An error leaves the table after some of them.
 pub fn run<T: Copy>(
     alloc: Global,
     commands: &[Command],

@@ -1,7 +1,7 @@
 use Rattle.std.proofs.Common.{◌≡◌, sym, ◌∙◌, ap, arith, map}
 use Rattle.std.proofs.lemmas.List.{map-append}
 use Rattle.grid_base.specs.Symmetry.{act, image_rows}
-use Rattle.grid_base.specs.Table.{rows_of, cols_of, tabulate}
+use Rattle.grid_base.specs.Table.{rows_of, cols_of}
 use Rattle.grid_vectors.specs.Plain.{rows_of_vec}
 use Rattle.grid_vectors.proofs.Growing.{tabulate-none, tabulate-grown, tabulate-at}
 use Rattle.grid_vectors.proofs.plain.act.Goals as goal

@@ -1,4 +1,4 @@
-use Rattle.std.proofs.Common.{◌≡◌, sym, ◌∙◌, ap, append-nil}
+use Rattle.std.proofs.Common.{sym, ◌∙◌, ap, append-nil}
 use Rattle.grid_vectors.proofs.Growing.{line-none, line-grown, source-read}
 use Rattle.grid_vectors.proofs.plain.image_row.Goals as goal
 use Rattle.grid_vectors.proofs.plain.image_row.Goals.{in-Some+in_ok-push, in_default}
