@@ -1,6 +1,7 @@
 //! The eight symmetries, the six calls, and words of them, over all small tables and both orders.
 use crate::fixtures::{ORDERS, SIZES, SYMMETRIES, assert_shows, grid_of, numbered, order_after};
 use crate::plain;
+use grid::laws::{flip_rows_then_cols, rebuilt, rotate_left_four_times, rotate_right_then_left};
 use grid::{Grid, Move, Order, Symmetry, reduce};
 use std::alloc::{AllocError, Global};
 use std::process::Abort;
@@ -132,6 +133,35 @@ fn joins_each_pair(rt: HostRuntime) -> Result<(), Fail> {
             let one_by_one = plain::act(alloc, second, &image)?;
             let at_once = plain::act(alloc, first.then(second), &table)?;
             assert!(rt; one_by_one == at_once, "{first:?} and then {second:?}");
+        }
+    }
+    Ok(())
+}
+
+// The calls that leave a grid as it was, and two flips that turn it by a half.
+fn check_laws(
+    rt: &impl Abort,
+    alloc: Global,
+    table: &Vec<Vec<u32>>,
+    order: Order,
+) -> Result<(), AllocError> {
+    let mut grid = rebuilt(grid_of(rt, alloc, table, order)?);
+    assert_shows(rt, alloc, &grid, table, order)?;
+    rotate_right_then_left(&mut grid);
+    assert_shows(rt, alloc, &grid, table, order)?;
+    rotate_left_four_times(&mut grid);
+    assert_shows(rt, alloc, &grid, table, order)?;
+    flip_rows_then_cols(&mut grid);
+    let image = plain::act(alloc, Symmetry::RotateHalf, table)?;
+    assert_shows(rt, alloc, &grid, &image, order)
+}
+
+#[test]
+fn keeps_the_laws(rt: HostRuntime) -> Result<(), Fail> {
+    for (rows, cols) in SIZES {
+        let table = numbered(rt.alloc(), rows, cols)?;
+        for order in ORDERS {
+            check_laws(&rt, rt.alloc(), &table, order)?;
         }
     }
     Ok(())
