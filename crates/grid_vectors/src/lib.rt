@@ -1,2 +1,18 @@
-//! Tests that cross crates, and a plain program beside the library.
+//! A plain program beside the library, and the tests that compare the two.
 #![tactic(auto)]
+
+#[cfg(test)]
+mod access;
+#[cfg(test)]
+mod commands;
+#[cfg(test)]
+mod fixtures;
+#[cfg(test)]
+mod ground;
+#[cfg(test)]
+mod memory;
+pub mod plain;
+#[cfg(test)]
+mod rows;
+#[cfg(test)]
+mod symmetries;
