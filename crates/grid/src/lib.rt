@@ -5,10 +5,12 @@
 #![tactic(auto)]
 
 mod command;
+mod error;
 mod grid;
 pub mod laws;
 mod symmetry;
 
 pub use command::{Command, Reply, RunStopped, run};
+pub use error::{GridError, ShapeError};
 pub use grid::Grid;
 pub use grid_base::{Move, Order, Symmetry, Tally, reduce};
