@@ -1,15 +1,14 @@
 -- What a pass over the cells of a grid makes of its table.
-use Rattle.std.proofs.Common.{◌≡◌, ℕ, ◌+◌, ◌-◌, ◌*◌, ◌/◌, ◌<◌, ◌≤◌, List, length, refl, sym, ◌∙◌, ap, arith}
+use Rattle.std.proofs.Common.{◌≡◌, ℕ, ◌+◌, ◌-◌, ◌*◌, ◌<◌, List, length, sym, ◌∙◌, ap, arith}
 use Rattle.std.specs.List.{slice_get}
-use Rattle.std.proofs.lemmas.Nat.{mul-add-lt}
 use Rattle.grid_base.specs.declared.flat.order.Order.{Order}
 use Rattle.grid_base.specs.declared.flat.order.Order.TheVariants.{RowMajor, ColumnMajor}
 use Rattle.grid_base.specs.declared.words.Symmetry.TheVariants.{FlipRows, FlipCols, RotateHalf}
 use Rattle.grid_base.specs.Table.{rows_of, cols_of, IsTable}
-use Rattle.grid_base.specs.Order.{table_of, place, storage}
-use Rattle.grid_base.specs.Sheet.{Fits, Sheet}
+use Rattle.grid_base.specs.Order.{table_of, place}
+use Rattle.grid_base.specs.Sheet.{Fits}
 use Rattle.grid_base.specs.Symmetry.{act}
-use Rattle.grid_base.proofs.Views.{view-rows, view-cols, view-act, view-table, view-storage}
+use Rattle.grid_base.proofs.Views.{view-act}
 use Rattle.grid_base.proofs.Acts.{rows-act, cols-act}
 use Rattle.grid_base.proofs.Group.{product, act-act}
 use Rattle.grid_base.specs.declared.words.Symmetry.{Symmetry}
@@ -46,9 +45,9 @@ pub rotate_half_by_part : {T : Type 0} (o : Order) (m n : ℕ) (old new : List T
 rotate_half_by_part o m n old new h e =
     view-act o m n old h RotateHalf o new
     (λ i j p q.
-        let from : 0 + place o m n i j ≡ place o m n i j = omega arith in
-        let to : 0 + (m * n - 1 - place o m n i j) ≡ place o m n (m - 1 - i) (n - 1 - j) = omega (arith, opposite_place o m n i j p q) in
-        sym (ap (slice_get new) from) ∙ (e.moved (place o m n i j) (place_within o m n i j p q) ∙ ap (slice_get old) to))
+    let from : 0 + place o m n i j ≡ place o m n i j = omega arith in
+    let to : 0 + (m * n - 1 - place o m n i j) ≡ place o m n (m - 1 - i) (n - 1 - j) = omega (arith, opposite_place o m n i j p q) in
+    sym (ap (slice_get new) from) ∙ (e.moved (place o m n i j) (place_within o m n i j p q) ∙ ap (slice_get old) to))
 
 -- a transpose and then u
 pub after_transpose : {T : Type 0} (u : Symmetry) (old mid new : List (List T)) → IsTable old → mid ≡ act Transpose old → new ≡ act u mid → new ≡ act (product Transpose u) old

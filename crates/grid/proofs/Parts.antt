@@ -1,5 +1,5 @@
 -- One swap of a pass that reverses a part of a list, or that exchanges two parts.
-use Rattle.std.proofs.Common.{◌≡◌, ◌≢◌, ℕ, ◌+◌, ◌-◌, ◌/◌, ◌<◌, ◌≤◌, ◌⊎◌, List, length, refl, sym, ◌∙◌, ap, arith, ⊎_elim}
+use Rattle.std.proofs.Common.{◌≡◌, ℕ, ◌+◌, ◌-◌, ◌/◌, ◌<◌, ◌≤◌, List, length, sym, ◌∙◌, ap, arith, ⊎_elim}
 use Rattle.std.specs.List.{slice_get, swap}
 use Rattle.std.proofs.lemmas.List.Edits.{length-swap}
 use Rattle.std.proofs.lemmas.Bool.{cases_eq}
@@ -21,17 +21,17 @@ turning_more a n i old now new fits half h e =
     let last = h.middle (n - 1 - i) (omega arith) (omega arith) in
     rw e
     (record {
-        length_stays = length-swap now _ _ ∙ h.length_stays;
-        front = λ j lj.
-            ⊎_elim (λ s.
-                ap (λ x. slice_get (swap now (a + i) (a + (n - 1 - i))) (a + x)) s
-                ∙ (get-swap_first now _ _ p q ∙ (last ∙ sym (ap (λ x. slice_get old (a + (n - 1 - x))) s))))
-            (λ ne. get-swap_other now _ _ (a + j) p q (λ s. ne (omega arith)) (λ s. ne (omega arith)) ∙ h.front j (omega arith)) (cases_eq j i);
-        back = λ j lj.
-            ⊎_elim (λ s.
-                ap (λ x. slice_get (swap now (a + i) (a + (n - 1 - i))) (a + (n - 1 - x))) s
-                ∙ (get-swap_second now _ _ p q ∙ (first ∙ sym (ap (λ x. slice_get old (a + x)) s))))
-            (λ ne. get-swap_other now _ _ (a + (n - 1 - j)) p q (λ s. ne (omega arith)) (λ s. ne (omega arith)) ∙ h.back j (omega arith)) (cases_eq j i);
-        middle = λ j lo hi. get-swap_other now _ _ (a + j) p q (λ s. omega arith) (λ s. omega arith) ∙ h.middle j (omega arith) (omega arith);
-        others = λ k out. get-swap_other now _ _ k p q (λ s. let o : a + n ≤ k = out (omega arith) in omega arith) (λ s. let o : a + n ≤ k = out (omega arith) in omega arith) ∙ h.others k out
+      length_stays = length-swap now _ _ ∙ h.length_stays;
+      front = λ j lj.
+          ⊎_elim (λ s.
+          ap (λ x. slice_get (swap now (a + i) (a + (n - 1 - i))) (a + x)) s
+          ∙ (get-swap_first now _ _ p q ∙ (last ∙ sym (ap (λ x. slice_get old (a + (n - 1 - x))) s))))
+          (λ ne. get-swap_other now _ _ (a + j) p q (λ s. ne (omega arith)) (λ s. ne (omega arith)) ∙ h.front j (omega arith)) (cases_eq j i);
+      back = λ j lj.
+          ⊎_elim (λ s.
+          ap (λ x. slice_get (swap now (a + i) (a + (n - 1 - i))) (a + (n - 1 - x))) s
+          ∙ (get-swap_second now _ _ p q ∙ (first ∙ sym (ap (λ x. slice_get old (a + x)) s))))
+          (λ ne. get-swap_other now _ _ (a + (n - 1 - j)) p q (λ s. ne (omega arith)) (λ s. ne (omega arith)) ∙ h.back j (omega arith)) (cases_eq j i);
+      middle = λ j lo hi. get-swap_other now _ _ (a + j) p q (λ s. omega arith) (λ s. omega arith) ∙ h.middle j (omega arith) (omega arith);
+      others = λ k out. get-swap_other now _ _ k p q (λ s. let o : a + n ≤ k = out (omega arith) in omega arith) (λ s. let o : a + n ≤ k = out (omega arith) in omega arith) ∙ h.others k out;
     })

@@ -1,5 +1,5 @@
 -- A pass that reverses the order of p lines of q cells, after k of its swaps.
-use Rattle.std.proofs.Common.{◌≡◌, ◌≢◌, ℕ, ◌+◌, ◌-◌, ◌*◌, ◌/◌, ◌<◌, ◌≤◌, ◌⊎◌, List, length, min, refl, sym, ◌∙◌, ap, arith, inl, inr, ⊎_elim}
+use Rattle.std.proofs.Common.{◌≡◌, ◌≢◌, ℕ, ◌+◌, ◌-◌, ◌*◌, ◌/◌, ◌<◌, ◌≤◌, List, length, refl, sym, ◌∙◌, ap, arith, ⊎_elim}
 use Rattle.std.specs.List.{slice_get, swap}
 use Rattle.std.proofs.lemmas.List.Edits.{length-swap}
 use Rattle.std.proofs.lemmas.Nat.{mul-add-lt, same_from_place}
@@ -19,10 +19,10 @@ pub record Reversing {T : Type 0} (p q k : ℕ) (old now : List T) : Type 0 wher
 pub reversing_none : {T : Type 0} (p q : ℕ) (xs : List T) → Reversing p q 0 xs xs
 reversing_none p q xs =
     record {
-        length_stays = refl;
-        front = λ i j a b h. absurd (omega arith);
-        back = λ i j a b h. absurd (omega arith);
-        kept = λ i j a b c d. refl
+      length_stays = refl;
+      front = λ i j a b h. absurd (omega arith);
+      back = λ i j a b h. absurd (omega arith);
+      kept = λ i j a b c d. refl;
     }
 
 apart : (a b c d w : ℕ) → b < w → d < w → (a ≡ c → b ≡ d → ⊥) → a * w + b ≢ c * w + d
@@ -56,21 +56,21 @@ module _ {T : Type 0} (p q l a : ℕ) (old now : List T) (fits : length old ≡ 
   front_at : (i j : ℕ) → i < p / 2 → j < q → i * q + j < l * q + a + 1 → slice_get (swap now (l * q + a) ((p - 1 - l) * q + a)) (i * q + j) ≡ slice_get old ((p - 1 - i) * q + j)
   front_at i j lt lj lk =
       ⊎_elim (λ e.
-          let s = same_from_place i j l a q lj aq e in
-          ap (slice_get (swap now (l * q + a) ((p - 1 - l) * q + a))) e
-          ∙ (get-swap_first now _ _ here_in there_in ∙ (there_kept ∙ sym (ap (λ x. slice_get old ((p - 1 - x) * q + j)) s.0 ∙ ap (λ x. slice_get old ((p - 1 - l) * q + x)) s.1))))
+      let s = same_from_place i j l a q lj aq e in
+      ap (slice_get (swap now (l * q + a) ((p - 1 - l) * q + a))) e
+      ∙ (get-swap_first now _ _ here_in there_in ∙ (there_kept ∙ sym (ap (λ x. slice_get old ((p - 1 - x) * q + j)) s.0 ∙ ap (λ x. slice_get old ((p - 1 - l) * q + x)) s.1))))
       (λ ne. other (i * q + j) ne (apart i j (p - 1 - l) a q lj aq (λ e _. omega arith)) ∙ h.front i j lt lj (omega arith))
       (cases_eq (i * q + j) (l * q + a))
 
   back_at : (i j : ℕ) → i < p / 2 → j < q → i * q + j < l * q + a + 1 → slice_get (swap now (l * q + a) ((p - 1 - l) * q + a)) ((p - 1 - i) * q + j) ≡ slice_get old (i * q + j)
   back_at i j lt lj lk =
       ⊎_elim (λ e.
-          let s = same_from_place i j l a q lj aq e in
-          (ap (λ x. slice_get (swap now (l * q + a) ((p - 1 - l) * q + a)) ((p - 1 - x) * q + j)) s.0 ∙ ap (λ x. slice_get (swap now (l * q + a) ((p - 1 - l) * q + a)) ((p - 1 - l) * q + x)) s.1)
-          ∙ (get-swap_second now _ _ here_in there_in ∙ (here_kept ∙ sym (ap (slice_get old) e))))
+      let s = same_from_place i j l a q lj aq e in
+      (ap (λ x. slice_get (swap now (l * q + a) ((p - 1 - l) * q + a)) ((p - 1 - x) * q + j)) s.0 ∙ ap (λ x. slice_get (swap now (l * q + a) ((p - 1 - l) * q + a)) ((p - 1 - l) * q + x)) s.1)
+      ∙ (get-swap_second now _ _ here_in there_in ∙ (here_kept ∙ sym (ap (slice_get old) e))))
       (λ ne. other ((p - 1 - i) * q + j) (apart (p - 1 - i) j l a q lj aq (λ e _. omega arith))
-          (apart (p - 1 - i) j (p - 1 - l) a q lj aq (λ e f. let same : i ≡ l = omega arith in ne (ap (λ x. x * q + j) same ∙ ap (λ x. l * q + x) f)))
-          ∙ h.back i j lt lj (omega arith))
+      (apart (p - 1 - i) j (p - 1 - l) a q lj aq (λ e f. let same : i ≡ l = omega arith in ne (ap (λ x. x * q + j) same ∙ ap (λ x. l * q + x) f)))
+      ∙ h.back i j lt lj (omega arith))
       (cases_eq (i * q + j) (l * q + a))
 
   kept_at : (i j : ℕ) → i < p → j < q → l * q + a + 1 ≤ i * q + j → l * q + a + 1 ≤ (p - 1 - i) * q + j → slice_get (swap now (l * q + a) ((p - 1 - l) * q + a)) (i * q + j) ≡ slice_get old (i * q + j)
@@ -86,18 +86,18 @@ module _ {T : Type 0} (p q l a : ℕ) (old now : List T) (fits : length old ≡ 
 pub reversing_all : {T : Type 0} (p q : ℕ) (old now : List T) → Reversing p q (p / 2 * q) old now → LinesReversed p q old now
 reversing_all p q old now h =
     record {
-        length_stays = h.length_stays;
-        moved = λ i j lt lj.
-            ⊎_elim (λ low. h.front i j low lj (omega (arith, mul-add-lt i q j (p / 2) low lj)))
-            (λ high.
-                ⊎_elim (λ low.
-                    let turn : p - 1 - (p - 1 - i) ≡ i = omega arith in
-                    sym (ap (λ x. slice_get now (x * q + j)) turn) ∙ h.back (p - 1 - i) j low lj (omega (arith, mul-add-lt (p - 1 - i) q j (p / 2) low lj)))
-                (λ mid.
-                    let same : i ≡ p - 1 - i = omega arith in
-                    h.kept i j lt lj (omega (arith, mul-le-mul_right q high)) (omega (arith, mul-le-mul_right q mid)) ∙ ap (λ x. slice_get old (x * q + j)) same)
-                (cases_lt (p - 1 - i) (p / 2)))
-            (cases_lt i (p / 2))
+      length_stays = h.length_stays;
+      moved = λ i j lt lj.
+          ⊎_elim (λ low. h.front i j low lj (omega (arith, mul-add-lt i q j (p / 2) low lj)))
+          (λ high.
+          ⊎_elim (λ low.
+          let turn : p - 1 - (p - 1 - i) ≡ i = omega arith in
+          sym (ap (λ x. slice_get now (x * q + j)) turn) ∙ h.back (p - 1 - i) j low lj (omega (arith, mul-add-lt (p - 1 - i) q j (p / 2) low lj)))
+          (λ mid.
+          let same : i ≡ p - 1 - i = omega arith in
+          h.kept i j lt lj (omega (arith, mul-le-mul_right q high)) (omega (arith, mul-le-mul_right q mid)) ∙ ap (λ x. slice_get old (x * q + j)) same)
+          (cases_lt (p - 1 - i) (p / 2)))
+          (cases_lt i (p / 2));
     }
 
 -- the same, in the forms of the goals

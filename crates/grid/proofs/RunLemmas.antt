@@ -1,5 +1,5 @@
 -- A run of one more command.
-use Rattle.std.proofs.Common.{◌≡◌, ℕ, ◌+◌, ◌-◌, min, List, [], ◌∷◌, ◌++◌, map, length, take, slice_get, Some, refl, sym, ◌∙◌, ap, arith, add_assoc}
+use Rattle.std.proofs.Common.{◌≡◌, ℕ, ◌+◌, List, [], ◌∷◌, ◌++◌, map, length, take, slice_get, Some, refl, sym, ◌∙◌, ap, arith}
 use Rattle.std.proofs.lemmas.List.{map-append}
 use Rattle.std.proofs.Math.Seq.{take-append_seam}
 use Rattle.grid_base.specs.declared.flat.order.Order.{Order}
@@ -47,7 +47,7 @@ ran_none s t = record {
   replies = refl;
   order = ap (λ x. order_after x s.order) (sym list_symmetry-none);
   symmetry = counted-none t.symmetry;
-  shift = refl
+  shift = refl;
 }
 
 module _ {T : Type 0} (cs : List Command) (c : Command) (old mid new : Sheet T) (first between last : Counts) (answers more : List (PlainReply T)) where
@@ -62,7 +62,7 @@ module _ {T : Type 0} (cs : List Command) (c : Command) (old mid new : Sheet T) 
         symmetry ∙ (ap (λ n. counted n (step_price c mid.rows)) h.symmetry
         ∙ (counted-counted first.symmetry (run_price cs old.rows) (step_price c mid.rows)
         ∙ ap (counted first.symmetry) (ap (λ t. run_price cs old.rows + step_price c t) h.rows ∙ sym (run_price-more cs c old.rows))));
-    shift = shift ∙ h.shift
+    shift = shift ∙ h.shift;
   }
 
 -- a command that changed nothing leaves what the run so far made
@@ -72,7 +72,7 @@ ran_still cs old mid new first between last answers h same symmetry shift = reco
   replies = h.replies;
   order = ap (λ s. s.order) same ∙ h.order;
   symmetry = symmetry ∙ h.symmetry;
-  shift = shift ∙ h.shift
+  shift = shift ∙ h.shift;
 }
 
 -- what stands at the length of the first part

@@ -1,9 +1,9 @@
 -- What a grid's fields say of the value that a contract sees.
-use Rattle.std.proofs.Common.{◌≡◌, ◌<◌, ◌*◌, ◌^◌, ℕ, zero, suc, List, [], ◌∷◌, length, refl, sym, ◌∙◌, ap, arith, ◌↔◌, IsTrue, nat_eq}
+use Rattle.std.proofs.Common.{◌≡◌, ◌<◌, ◌*◌, ◌^◌, ℕ, List, [], ◌∷◌, length, refl, sym, ◌∙◌, ap, arith, ◌↔◌, IsTrue, nat_eq}
 use borrow.Author.Tests.{eqb-true, eq-eqb}
 use Rattle.grid_base.specs.declared.flat.order.Order.{Order}
-use Rattle.grid_base.specs.Table.{rows_of, cols_of, cell, IsTable, InRange}
-use Rattle.grid_base.specs.Order.{table_of, storage, place}
+use Rattle.grid_base.specs.Table.{rows_of, cols_of, IsTable, InRange}
+use Rattle.grid_base.specs.Order.{table_of, storage}
 use Rattle.grid_base.specs.Sheet.{Sheet, Fits}
 use Rattle.grid_base.proofs.Views.{view-rows, view-cols, view-table, view-storage}
 
@@ -28,9 +28,10 @@ module _ {T : Type 0} (o : Order) (m n : ℕ) (cells : List T) (s : Sheet T) (h 
   seen_below e = rw (seen_rows e, seen_cols e) h.below
 
   pub seen_empty : (let v : Sheet T = record { rows = table_of o m n cells; order = o } in v) ≡ s → IsTrue (nat_eq m 0) ↔ (s.rows ≡ [])
-  seen_empty e =
-      (λ none. no_rows s.rows (omega (arith, seen_rows e, eqb-true m 0 none)),
-          λ none. eq-eqb m 0 (sym (seen_rows e) ∙ ap length none))
+  seen_empty e = (
+    λ none. no_rows s.rows (omega (arith, seen_rows e, eqb-true m 0 none)),
+    λ none. eq-eqb m 0 (sym (seen_rows e) ∙ ap length none),
+  )
 
   -- a place in range of the value is in range of the fields
   pub seen_row_in : (r c : ℕ) → (let v : Sheet T = record { rows = table_of o m n cells; order = o } in v) ≡ s → InRange s.rows r c → r < m

@@ -1,13 +1,13 @@
 -- A grid of which one cell is written.
-use Rattle.std.proofs.Common.{◌≡◌, ℕ, ◌+◌, ◌*◌, ◌<◌, ◌≤◌, ◌⊎◌, Option, Some, None, List, length, set, refl, sym, ◌∙◌, ap, arith, ⊎_elim, inl, inr, IsSome, IfSome, ◌↔◌, is_some}
+use Rattle.std.proofs.Common.{◌≡◌, ℕ, ◌<◌, ◌≤◌, List, length, set, sym, ◌∙◌, ap, arith}
 use Rattle.std.specs.List.{slice_get, swap}
 use Rattle.std.proofs.lemmas.List.{set_past}
 use Rattle.std.proofs.lemmas.Option.{slice_get_past}
 use Rattle.grid_base.specs.declared.flat.order.Order.{Order}
-use Rattle.grid_base.specs.Table.{row, cell, with_cell, exchanged}
+use Rattle.grid_base.specs.Table.{cell, with_cell, exchanged}
 use Rattle.grid_base.specs.Order.{place, table_of}
 use Rattle.grid_base.specs.Sheet.{Fits, Sheet}
-use Rattle.grid_base.proofs.Tables.{rows-tabulate, width-tabulate}
+use Rattle.grid_base.proofs.Tables.{width-tabulate}
 use Rattle.grid_base.proofs.Views.{view-rows, view-cell, view-past_rows, view-past_cols}
 use Rattle.grid_base.proofs.Stores.{IsFull-table_of}
 use Rattle.grid_base.proofs.Writes.{view-write, view-swap, write_past_cols, write_past_rows}

@@ -1,5 +1,5 @@
 -- What a grid ends as, where a `&mut` to a cell is returned.
-use Rattle.std.specs.Prelude.{ℕ, List, Option}
+use Rattle.std.specs.Prelude.{ℕ, Option}
 use Rattle.std.specs.Borrow.{Lends, LendsIf, Fml, RattleType, MutBor}
 use Rattle.std.specs.declared.alloc.Allocator.{Ghosts}
 use Rattle.grid_base.specs.Table.{with_cell}

@@ -137,7 +137,12 @@ impl<T, A: Allocator> Grid<T, A> {
             Order::RowMajor => {
                 reverse_each_line(&mut self.flat, self.row_count, self.col_count, tally)
             }
-            Order::ColumnMajor => reverse_lines(&mut self.flat, self.col_count, self.row_count, tally),
+            Order::ColumnMajor => reverse_lines(
+                &mut self.flat,
+                self.col_count,
+                self.row_count,
+                tally,
+            ),
         }
     }
 

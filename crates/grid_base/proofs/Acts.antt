@@ -1,10 +1,10 @@
 -- The image of a table under a symmetry.
-use Rattle.std.proofs.Common.{◌≡◌, ℕ, zero, suc, ◌+◌, ◌*◌, ◌-◌, ◌<◌, ◌≤◌, Option, Some, None, List, [], ◌∷◌, ◌++◌, length, get_or, map, refl, sym, ◌∙◌, ap, arith, rules, IsSome, is_some}
+use Rattle.std.proofs.Common.{◌≡◌, ℕ, ◌<◌, Option, List, ◌∙◌, arith}
 use Rattle.grid_base.specs.declared.words.Symmetry.{Symmetry}
 use Rattle.grid_base.specs.declared.words.Symmetry.TheVariants.{Identity, FlipCols, FlipRows, RotateHalf, Transpose, RotateLeft, RotateRight, AntiTranspose}
-use Rattle.grid_base.specs.Table.{row, rows_of, cols_of, cell, IsTable, IsSize, line, tabulate}
-use Rattle.grid_base.specs.Symmetry.{transposes, source_row, source_col, image_rows, image_cols, act}
-use Rattle.grid_base.proofs.Tables.{rows-tabulate, cols-tabulate, cell-tabulate, tabulate-same, IsFull, IsTable-tabulate, IsFull-cells, IsSize-table, tabulate-cells}
+use Rattle.grid_base.specs.Table.{rows_of, cols_of, cell, IsTable, IsSize, tabulate}
+use Rattle.grid_base.specs.Symmetry.{source_row, source_col, image_rows, image_cols, act}
+use Rattle.grid_base.proofs.Tables.{rows-tabulate, cols-tabulate, cell-tabulate, tabulate-same, IsFull, IsTable-tabulate, IsFull-cells, IsSize-table}
 
 -- a cell of the image comes from within the table
 pub source_within : (s : Symmetry) (m n i j : ℕ) → i < image_rows s m n → j < image_cols s m n → (source_row s m n i j < m) × (source_col s m n i j < n)

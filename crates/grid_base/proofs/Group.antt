@@ -1,5 +1,5 @@
 -- The eight symmetries are a group, and a word acts as one of them.
-use Rattle.std.proofs.Common.{◌≡◌, ℕ, ◌+◌, ◌-◌, ◌<◌, ◌≤◌, zero, suc, Option, Some, List, [], ◌∷◌, ◌++◌, ◌*◌, unwrap_or, length, take, get_or, map, fold, find, nat_eq, Bool, true, false, not, ◌≢◌, ◌↔◌, if◌then◌else◌, refl, sym, ◌∙◌, ap, arith}
+use Rattle.std.proofs.Common.{◌≡◌, ℕ, ◌+◌, ◌<◌, zero, suc, Option, List, [], ◌∷◌, ◌++◌, ◌*◌, unwrap_or, length, take, get_or, map, fold, find, nat_eq, Bool, true, false, not, ◌≢◌, ◌↔◌, if◌then◌else◌, refl, sym, ◌∙◌, ap, arith}
 use Rattle.std.specs.Bool.{beq}
 use Rattle.std.proofs.lemmas.List.{take_more, map-append}
 use Rattle.std.proofs.lemmas.Grind.{fold-append}
@@ -11,11 +11,11 @@ use Rattle.grid_base.specs.declared.flat.order.Order.{Order}
 use Rattle.grid_base.specs.declared.flat.order.Order.TheVariants.{RowMajor, ColumnMajor}
 use Rattle.grid_base.specs.Table.{row, rows_of, cols_of, cell, IsTable, IsSize, line, tabulate}
 use Rattle.grid_base.specs.Order.{flipped}
-use Rattle.grid_base.specs.Symmetry.{transposes, source_row, source_col, image_rows, image_cols, act, act_all, test_table, symmetries, symmetry_of, order_after, half, price, IsThen, IsInverse}
+use Rattle.grid_base.specs.Symmetry.{transposes, source_row, source_col, image_rows, image_cols, act, act_all, test_table, symmetries, symmetry_of, order_after, IsThen, IsInverse}
 use Rattle.grid_base.specs.Flags.{flags_of, from_flags}
 use Rattle.grid_base.specs.Move.{of_move, word_image, IsNormalForm, ActAlike}
-use Rattle.grid_base.proofs.Tables.{rows-tabulate, cols-tabulate, cell-tabulate, tabulate-same, IsFull, IsFull-cells, IsSize-table, tabulate-cells}
-use Rattle.grid_base.proofs.Acts.{act-tabulate, image_cell, source_within, IsFull-image, IsSize-image, IsTable-act}
+use Rattle.grid_base.proofs.Tables.{tabulate-same, IsFull, IsFull-cells, IsSize-table, tabulate-cells}
+use Rattle.grid_base.proofs.Acts.{act-tabulate, image_cell, IsFull-image, IsSize-image, IsTable-act}
 
 -- the symmetry that is s and then u: a transpose exchanges the flips that stand before it
 abbrev pub product : Symmetry → Symmetry → Symmetry
@@ -76,10 +76,10 @@ act_twice s u m n f z h =
     ap (act u) (act-tabulate s m n f z h)
     ∙ (act-tabulate u _ _ (image_cell s m n f) (IsSize-image s m n z) (IsFull-image s m n f h)
     ∙ (tabulate-same _ _ _ (image_cell (product s u) m n f)
-        (λ i j p q.
-            let e = same_source s u m n i j p q in
-            ap (λ x. f x (source_col s m n (from_row i j) (from_col i j))) e.row ∙ ap (f (source_row (product s u) m n i j)) e.col)
-        (rw (size.rows, size.cols) (IsFull-image (product s u) m n f h))
+    (λ i j p q.
+    let e = same_source s u m n i j p q in
+    ap (λ x. f x (source_col s m n (from_row i j) (from_col i j))) e.row ∙ ap (f (source_row (product s u) m n i j)) e.col)
+    (rw (size.rows, size.cols) (IsFull-image (product s u) m n f h))
     ∙ (rw (size.rows, size.cols) (sym (act-tabulate (product s u) m n f z h)))))
 
 -- acting by s and then by u is acting by their product
@@ -119,6 +119,7 @@ IsTable-test = record { nonempty = by_row; even = even_by_row }
     by_row zero h = omega arith
     by_row (suc zero) h = omega arith
     by_row (suc (suc r)) h = absurd (omega arith)
+
     even_by_row : (r : ℕ) → r < 2 → length (row test_table r) ≡ length (row test_table 0)
     even_by_row zero h = refl
     even_by_row (suc zero) h = refl
@@ -219,9 +220,10 @@ pub normal-acts : {T : Type 0} (w : List Move) (s : Symmetry) (t : List (List T)
 normal-acts w s t h e = word-acts w t h ∙ ap (λ x. act x t) (sym (normal_is w s e))
 
 pub alike_normal : (w v : List Move) (s : Symmetry) → s ≡ word_symmetry w → IsNormalForm v s ↔ ActAlike w v
-alike_normal w v s e =
-    (λ n. record { same = λ t h. word-acts w t h ∙ (ap (λ x. act x t) (sym e) ∙ sym (normal-acts v s t h n)) },
-        λ a. sym (a.same test_table IsTable-test) ∙ (word-acts w test_table IsTable-test ∙ ap (λ x. act x test_table) (sym e)))
+alike_normal w v s e = (
+  λ n. record { same = λ t h. word-acts w t h ∙ (ap (λ x. act x t) (sym e) ∙ sym (normal-acts v s t h n)) },
+  λ a. sym (a.same test_table IsTable-test) ∙ (word-acts w test_table IsTable-test ∙ ap (λ x. act x test_table) (sym e)),
+)
 
 pub word_symmetry-more : (w : List Move) (i : ℕ) (d : Move) → i < length w → word_symmetry (take (i + 1) w) ≡ product (word_symmetry (take i w)) (of_move (get_or w i d))
 word_symmetry-more w i d h =

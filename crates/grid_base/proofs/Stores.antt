@@ -1,13 +1,13 @@
 -- A table and its cells in storage order.
-use Rattle.std.proofs.Common.{◌≡◌, ℕ, zero, suc, ◌+◌, ◌*◌, ◌-◌, ◌/◌, ◌%◌, ◌<◌, ◌≤◌, Option, Some, None, List, [], ◌∷◌, ◌++◌, length, get_or, map, refl, sym, ◌∙◌, ap, arith, rules, IsSome, is_some, length-append}
-use Rattle.std.specs.List.{slice_get, flat_map}
+use Rattle.std.proofs.Common.{◌≡◌, ℕ, zero, suc, ◌+◌, ◌*◌, ◌/◌, ◌%◌, ◌<◌, List, [], ◌∷◌, ◌++◌, length, refl, sym, ◌∙◌, ap, arith, length-append}
+use Rattle.std.specs.List.{slice_get}
 use Rattle.std.proofs.lemmas.Nat.{mul-add-lt, div_below, mod_below, div-add-mod'}
 use Rattle.std.proofs.Math.Nat.{mul_comm}
 use Rattle.grid_base.specs.declared.flat.order.Order.{Order}
 use Rattle.grid_base.specs.declared.flat.order.Order.TheVariants.{RowMajor, ColumnMajor}
-use Rattle.grid_base.specs.Table.{row, rows_of, cols_of, cell, IsTable, IsSize, line, tabulate, joined, turned}
+use Rattle.grid_base.specs.Table.{row, rows_of, cols_of, cell, IsTable, IsSize, joined, turned}
 use Rattle.grid_base.specs.Order.{storage, place, table_of}
-use Rattle.grid_base.proofs.Tables.{rows-tabulate, cols-tabulate, cell-tabulate, width-tabulate, tabulate-same, IsFull, IsTable-tabulate, IsFull-cells, IsSize-table, tabulate-cells, same_cells, IsSome_within}
+use Rattle.grid_base.proofs.Tables.{rows-tabulate, cols-tabulate, cell-tabulate, width-tabulate, IsFull, IsTable-tabulate, IsFull-cells, same_cells, IsSome_within}
 
 get_append_left : {T : Type 0} (xs ys : List T) (k : ℕ) → k < length xs → slice_get (xs ++ ys) k ≡ slice_get xs k
 get_append_left [] ys k lt = absurd (omega arith)
@@ -99,6 +99,6 @@ storage-table_of o m n cells z e =
     let prod : rows_of t * cols_of t ≡ m * n = ap (λ x. x * cols_of t) em ∙ ap (λ x. m * x) en in
     same_cells (storage o t) cells (omega arith)
     (λ k lt.
-        let p = has_place o m n k (omega arith) in
-        storage_at o t m n p.r p.c k h em en p.lr p.lc p.is
-        ∙ (cell-tabulate m n (λ r c. slice_get cells (place o m n r c)) p.r p.c full p.lr p.lc ∙ ap (slice_get cells) p.is))
+    let p = has_place o m n k (omega arith) in
+    storage_at o t m n p.r p.c k h em en p.lr p.lc p.is
+    ∙ (cell-tabulate m n (λ r c. slice_get cells (place o m n r c)) p.r p.c full p.lr p.lc ∙ ap (slice_get cells) p.is))

@@ -1,10 +1,9 @@
 -- Lemmas on tables that are given by their cells.
-use Rattle.std.proofs.Common.{◌≡◌, ℕ, zero, suc, ◌+◌, ◌*◌, ◌-◌, ◌<◌, ◌≤◌, Option, Some, None, List, [], ◌∷◌, ◌++◌, length, get_or, map, refl, sym, ◌∙◌, ap, arith, rules, IsSome, is_some}
-use Rattle.std.specs.List.{filter_map, range_with_len, slice_get, cons_option, flat_map}
-use Rattle.std.proofs.lemmas.List.{get_or_past, ext_get_or, get_or-append-add, get_or_append_left, length-append}
+use Rattle.std.proofs.Common.{◌≡◌, ℕ, zero, suc, ◌+◌, ◌<◌, ◌≤◌, Option, Some, None, List, [], ◌∷◌, length, refl, sym, ◌∙◌, ap, arith, IsSome, is_some}
+use Rattle.std.specs.List.{filter_map, range_with_len, slice_get, cons_option}
+use Rattle.std.proofs.lemmas.List.{get_or_past, ext_get_or}
 use Rattle.std.proofs.lemmas.List.FromFn.{length-map-range_with_len, get_or-map-range_with_len}
-use Rattle.std.proofs.lemmas.Option.{slice_get-get_or, slice_get_past, gets}
-use Rattle.std.proofs.lemmas.Grind.{common_steps}
+use Rattle.std.proofs.lemmas.Option.{slice_get_past}
 use Rattle.grid_base.specs.Table.{row, rows_of, cols_of, cell, IsTable, IsSize, line, tabulate}
 
 length_cons : {T : Type 0} (o : Option T) (xs : List T) → IsSome o → length (cons_option o xs) ≡ suc (length xs)
@@ -81,9 +80,9 @@ tabulate-same m n f g same h =
     same_tables _ _ (rows-tabulate m n f ∙ sym (rows-tabulate m n g))
     (λ r lt. let l : r < m = omega (arith, rows-tabulate m n f) in width-tabulate m n f r full l ∙ sym (width-tabulate m n g r h l))
     (λ r c lt lc.
-        let l : r < m = omega (arith, rows-tabulate m n f) in
-        let k : c < n = omega (arith, width-tabulate m n f r full l) in
-        cell-tabulate m n f r c full l k ∙ (same r c l k ∙ sym (cell-tabulate m n g r c h l k)))
+    let l : r < m = omega (arith, rows-tabulate m n f) in
+    let k : c < n = omega (arith, width-tabulate m n f r full l) in
+    cell-tabulate m n f r c full l k ∙ (same r c l k ∙ sym (cell-tabulate m n g r c h l k)))
 
 pub zero_by : (n : ℕ) → (0 < n → 0 < 0) → 0 ≡ n
 zero_by zero h = refl
@@ -101,8 +100,8 @@ pub IsTable-tabulate : {T : Type 0} (m n : ℕ) (f : ℕ → ℕ → Option T) �
 IsTable-tabulate m n f s h =
     let rows = rows-tabulate m n f in
     record {
-        nonempty = λ r lt. omega (arith, width-tabulate m n f r h (omega arith), s.has_cols (omega arith));
-        even = λ r lt. width-tabulate m n f r h (omega arith) ∙ sym (width-tabulate m n f 0 h (omega arith))
+      nonempty = λ r lt. omega (arith, width-tabulate m n f r h (omega arith), s.has_cols (omega arith));
+      even = λ r lt. width-tabulate m n f r h (omega arith) ∙ sym (width-tabulate m n f 0 h (omega arith));
     }
 
 pub IsSome_within : {T : Type 0} (xs : List T) (k : ℕ) → k < length xs → IsSome (slice_get xs k)
@@ -127,7 +126,7 @@ tabulate-cells t h =
     same_tables _ t rows
     (λ r lt. let l : r < m = omega arith in width-tabulate m n (cell t) r full l ∙ sym (h.even r l))
     (λ r c lt lc. let l : r < m = omega arith in
-        let k : c < n = omega (arith, width-tabulate m n (cell t) r full l) in cell-tabulate m n (cell t) r c full l k)
+    let k : c < n = omega (arith, width-tabulate m n (cell t) r full l) in cell-tabulate m n (cell t) r c full l k)
 
 pub cell_past_cols : {T : Type 0} (m n : ℕ) (f : ℕ → ℕ → Option T) (r c : ℕ) → IsFull m n f → r < m → n ≤ c → cell (tabulate m n f) r c ≡ None
 cell_past_cols m n f r c h lr lc = slice_get_past (row (tabulate m n f) r) c (omega (arith, width-tabulate m n f r h lr))

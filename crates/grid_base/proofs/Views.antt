@@ -1,5 +1,5 @@
 -- What a grid's parts say of its table.
-use Rattle.std.proofs.Common.{◌≡◌, ◌≢◌, ℕ, zero, suc, ◌+◌, ◌*◌, ◌-◌, ◌/◌, ◌%◌, ◌^◌, ◌<◌, ◌≤◌, ◌⊎◌, Option, Some, None, List, [], ◌∷◌, length, refl, sym, ◌∙◌, ap, arith, lit<, inl, inr, ⊎_elim}
+use Rattle.std.proofs.Common.{◌≡◌, ◌≢◌, ℕ, zero, suc, ◌*◌, ◌/◌, ◌%◌, ◌^◌, ◌<◌, ◌≤◌, None, List, [], ◌∷◌, length, refl, sym, ◌∙◌, ap, arith, lit<, inl, inr, ⊎_elim}
 use Rattle.std.specs.List.{slice_get}
 use Rattle.std.proofs.lemmas.Nat.{div-add-mod'}
 use Rattle.std.proofs.lemmas.Bool.{cases_eq}
@@ -8,13 +8,13 @@ use Rattle.grid_base.specs.declared.flat.order.Order.{Order}
 use Rattle.grid_base.specs.declared.flat.order.Order.TheVariants.{RowMajor, ColumnMajor}
 use Rattle.grid_base.specs.declared.words.Symmetry.{Symmetry}
 use Rattle.grid_base.specs.declared.words.Symmetry.TheVariants.{Transpose}
-use Rattle.grid_base.specs.Table.{row, rows_of, cols_of, cell, IsTable, IsSize, tabulate}
+use Rattle.grid_base.specs.Table.{rows_of, cols_of, cell, IsTable, tabulate}
 use Rattle.grid_base.specs.Order.{storage, place, flipped, table_of, CanCut}
 use Rattle.grid_base.specs.Sheet.{Sheet, Fits}
 use Rattle.grid_base.specs.Symmetry.{act, image_rows, image_cols, source_row, source_col}
 use Rattle.grid_base.proofs.Tables.{zero_by, tabulate-cells, IsSize-table, rows-tabulate, cols-tabulate, cell-tabulate, tabulate-same, IsFull, IsTable-tabulate, cell_past_rows, cell_past_cols}
-use Rattle.grid_base.proofs.Acts.{act-tabulate, image_cell, source_within, IsFull-image}
-use Rattle.grid_base.proofs.Stores.{length-storage, get-storage, IsFull-table_of, storage-table_of, place_within}
+use Rattle.grid_base.proofs.Acts.{act-tabulate, IsFull-image}
+use Rattle.grid_base.proofs.Stores.{length-storage, get-storage, IsFull-table_of, storage-table_of}
 
 pos_of : (k : ℕ) → k ≢ 0 → 0 < k
 pos_of zero h = absurd (h refl)
@@ -70,18 +70,18 @@ pub Fits-cut : (len cols : ℕ) → len ≢ 0 → cols ≢ 0 → len % cols ≡ 
 Fits-cut len cols some wide even small =
     let whole = div-add-mod' len cols in
     record {
-        cells = omega arith;
-        below = omega arith;
-        size = record { has_cols = λ _. omega arith; has_rows = λ _. pos_of (len / cols) (λ e. some (omega (arith, ap (λ x. x * cols) e))) }
+      cells = omega arith;
+      below = omega arith;
+      size = record { has_cols = λ _. omega arith; has_rows = λ _. pos_of (len / cols) (λ e. some (omega (arith, ap (λ x. x * cols) e))) };
     }
 
 -- the size of the turned table
 pub Fits-turned : (m n len : ℕ) → Fits m n len → Fits n m len
 Fits-turned m n len h =
     record {
-        cells = h.cells ∙ mul_comm m n;
-        below = rw (mul_comm n m) h.below;
-        size = record { has_cols = h.size.has_rows; has_rows = h.size.has_cols }
+      cells = h.cells ∙ mul_comm m n;
+      below = rw (mul_comm n m) h.below;
+      size = record { has_cols = h.size.has_rows; has_rows = h.size.has_cols };
     }
 
 -- a table is what is cut from its storage
@@ -102,8 +102,8 @@ pub same_by_storage : {T : Type 0} (o : Order) (t u : List (List T)) → IsTable
 same_by_storage o t u h k cols same =
     let product : rows_of t * cols_of t ≡ rows_of u * cols_of u = sym (length-storage o t h) ∙ (ap length same ∙ length-storage o u k) in
     let rows : rows_of t ≡ rows_of u =
-        rows_by_cells (rows_of t) (rows_of u) (cols_of t) (IsSize-table t h).has_cols (rw cols (IsSize-table u k).has_cols)
-        (product ∙ ap (λ n. rows_of u * n) (sym cols)) in
+    rows_by_cells (rows_of t) (rows_of u) (cols_of t) (IsSize-table t h).has_cols (rw cols (IsSize-table u k).has_cols)
+    (product ∙ ap (λ n. rows_of u * n) (sym cols)) in
     by_storage o t h
     ∙ (ap (λ m. table_of o m (cols_of t) (storage o t)) rows
     ∙ (ap (λ n. table_of o (rows_of u) n (storage o t)) cols ∙ (ap (table_of o (rows_of u) (cols_of u)) same ∙ sym (by_storage o u k))))

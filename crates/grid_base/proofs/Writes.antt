@@ -1,14 +1,14 @@
 -- A table of which one cell is written.
-use Rattle.std.proofs.Common.{◌≡◌, ◌≢◌, ℕ, zero, suc, ◌+◌, ◌*◌, ◌<◌, ◌≤◌, ◌⊎◌, Option, Some, None, List, [], ◌∷◌, length, set, get_or, refl, sym, ◌∙◌, ap, arith, ⊎_elim}
+use Rattle.std.proofs.Common.{◌≡◌, ◌≢◌, ℕ, zero, suc, ◌<◌, ◌≤◌, Some, List, [], ◌∷◌, length, set, get_or, refl, sym, ◌∙◌, ap, arith, ⊎_elim}
 use Rattle.std.specs.List.{slice_get, swap}
 use Rattle.std.proofs.lemmas.List.{length-set, get_or-set_same, get_or-set_other, set_past, set-get_or}
 use Rattle.std.proofs.lemmas.List.Edits.{swap_is}
 use Rattle.std.proofs.lemmas.Option.{slice_get-get_or}
 use Rattle.std.proofs.lemmas.Nat.{same_from_place}
-use Rattle.std.proofs.lemmas.Bool.{cases_eq, cases_lt}
+use Rattle.std.proofs.lemmas.Bool.{cases_eq}
 use Rattle.grid_base.specs.declared.flat.order.Order.{Order}
 use Rattle.grid_base.specs.declared.flat.order.Order.TheVariants.{RowMajor, ColumnMajor}
-use Rattle.grid_base.specs.Table.{row, rows_of, cols_of, cell, with_cell, exchanged, tabulate}
+use Rattle.grid_base.specs.Table.{row, cell, with_cell, exchanged}
 use Rattle.grid_base.specs.Order.{place, table_of}
 use Rattle.grid_base.specs.Sheet.{Fits}
 use Rattle.grid_base.proofs.Tables.{rows-tabulate, width-tabulate, cell-tabulate, same_tables, IsFull}
@@ -48,9 +48,9 @@ module _ {T : Type 0} (o : Order) (m n : ℕ) (cells : List T) (h : Fits m n (le
   width_after : (i : ℕ) → i < m → length (row (with_cell (table_of o m n cells) r c w) i) ≡ n
   width_after i l =
       ⊎_elim (λ e.
-          ap (λ x. length (row (with_cell (table_of o m n cells) r c w) x)) e
-          ∙ (ap length (get_or-set_same (table_of o m n cells) r (set (row (table_of o m n cells) r) c w) [] (omega (arith, rows)))
-          ∙ (length-set (row (table_of o m n cells) r) c w ∙ widths r lr)))
+      ap (λ x. length (row (with_cell (table_of o m n cells) r c w) x)) e
+      ∙ (ap length (get_or-set_same (table_of o m n cells) r (set (row (table_of o m n cells) r) c w) [] (omega (arith, rows)))
+      ∙ (length-set (row (table_of o m n cells) r) c w ∙ widths r lr)))
       (λ ne. ap length (get_or-set_other (table_of o m n cells) r i _ [] ne) ∙ widths i l)
       (cases_eq i r)
 
@@ -58,19 +58,19 @@ module _ {T : Type 0} (o : Order) (m n : ℕ) (cells : List T) (h : Fits m n (le
   cell_at i j li lj =
       let before = cell-tabulate m n _ i j (IsFull-table_of o m n cells h.cells) li lj in
       ⊎_elim (λ e.
-          let at_row : row (with_cell (table_of o m n cells) r c w) i ≡ set (row (table_of o m n cells) r) c w =
-              ap (λ x. row (with_cell (table_of o m n cells) r c w) x) e ∙ get_or-set_same (table_of o m n cells) r (set (row (table_of o m n cells) r) c w) [] (omega (arith, rows)) in
-          ⊎_elim (λ f.
-              (ap (λ x. slice_get (set cells (place o m n r c) w) (place o m n x j)) e ∙ ap (λ x. slice_get (set cells (place o m n r c) w) (place o m n r x)) f)
-              ∙ (get-set_same cells (place o m n r c) w (omega (arith, h.cells, place_within o m n r c lr lc))
-              ∙ sym (ap (λ x. slice_get x j) at_row ∙ (ap (λ x. slice_get (set (row (table_of o m n cells) r) c w) x) f ∙ get-set_same (row (table_of o m n cells) r) c w (omega (arith, widths r lr))))))
-          (λ nf.
-              get-set_other cells (place o m n r c) (place o m n i j) w (λ s. nf (same_place o m n i j r c li lj lr lc s).1)
-              ∙ (sym before ∙ (ap (λ x. cell (table_of o m n cells) x j) e ∙ sym (ap (λ x. slice_get x j) at_row ∙ get-set_other (row (table_of o m n cells) r) c j w nf))))
-          (cases_eq j c))
+      let at_row : row (with_cell (table_of o m n cells) r c w) i ≡ set (row (table_of o m n cells) r) c w =
+      ap (λ x. row (with_cell (table_of o m n cells) r c w) x) e ∙ get_or-set_same (table_of o m n cells) r (set (row (table_of o m n cells) r) c w) [] (omega (arith, rows)) in
+      ⊎_elim (λ f.
+      (ap (λ x. slice_get (set cells (place o m n r c) w) (place o m n x j)) e ∙ ap (λ x. slice_get (set cells (place o m n r c) w) (place o m n r x)) f)
+      ∙ (get-set_same cells (place o m n r c) w (omega (arith, h.cells, place_within o m n r c lr lc))
+      ∙ sym (ap (λ x. slice_get x j) at_row ∙ (ap (λ x. slice_get (set (row (table_of o m n cells) r) c w) x) f ∙ get-set_same (row (table_of o m n cells) r) c w (omega (arith, widths r lr))))))
+      (λ nf.
+      get-set_other cells (place o m n r c) (place o m n i j) w (λ s. nf (same_place o m n i j r c li lj lr lc s).1)
+      ∙ (sym before ∙ (ap (λ x. cell (table_of o m n cells) x j) e ∙ sym (ap (λ x. slice_get x j) at_row ∙ get-set_other (row (table_of o m n cells) r) c j w nf))))
+      (cases_eq j c))
       (λ ne.
-          get-set_other cells (place o m n r c) (place o m n i j) w (λ s. ne (same_place o m n i j r c li lj lr lc s).0)
-          ∙ (sym before ∙ sym (ap (λ x. slice_get x j) (get_or-set_other (table_of o m n cells) r i _ [] ne))))
+      get-set_other cells (place o m n r c) (place o m n i j) w (λ s. ne (same_place o m n i j r c li lj lr lc s).0)
+      ∙ (sym before ∙ sym (ap (λ x. slice_get x j) (get_or-set_other (table_of o m n cells) r i _ [] ne))))
       (cases_eq i r)
 
   -- a write to a cell's place writes the cell
@@ -80,9 +80,9 @@ module _ {T : Type 0} (o : Order) (m n : ℕ) (cells : List T) (h : Fits m n (le
       same_tables _ _ (len ∙ sym (length-set (table_of o m n cells) r _ ∙ rows))
       (λ i l. let k : i < m = omega arith in width-tabulate m n _ i full k ∙ sym (width_after i k))
       (λ i j l k.
-          let li : i < m = omega arith in
-          let lj : j < n = omega (arith, width-tabulate m n (λ i j. slice_get (set cells (place o m n r c) w) (place o m n i j)) i full li) in
-          cell-tabulate m n _ i j full li lj ∙ cell_at i j li lj)
+      let li : i < m = omega arith in
+      let lj : j < n = omega (arith, width-tabulate m n (λ i j. slice_get (set cells (place o m n r c) w) (place o m n i j)) i full li) in
+      cell-tabulate m n _ i j full li lj ∙ cell_at i j li lj)
 
 -- a write past the end of a row, or of the rows, changes nothing
 pub write_past_cols : {T : Type 0} (t : List (List T)) (r c : ℕ) (w : T) → length (row t r) ≤ c → with_cell t r c w ≡ t

@@ -1,6 +1,6 @@
 -- Groups of cells that are put into lines, or taken out of them. A vector is seen as p lines of q cells, and each
 -- line has room for a group of k cells before its place i.
-use Rattle.std.specs.Prelude.{◌≡◌, ℕ, ◌+◌, ◌*◌, ◌<◌, ◌≤◌, Option, List, length, slice_get}
+use Rattle.std.specs.Prelude.{◌≡◌, ℕ, ◌+◌, ◌*◌, ◌<◌, ◌≤◌, List, length, slice_get}
 
 module _ {T : Type 0} (p q i k : ℕ) (short long : List T) where
   -- p lines of q cells in the one vector are, with a group in each, p lines of q + k cells in the other

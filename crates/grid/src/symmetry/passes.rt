@@ -7,7 +7,12 @@ use grid_base::{Flat, Tally};
 use std::alloc::Allocator;
 
 // Reverses the order of the lines.
-pub(super) fn reverse_lines<T, A: Allocator>(flat: &mut Flat<T, A>, lines: usize, width: usize, tally: &mut Tally)
+pub(super) fn reverse_lines<T, A: Allocator>(
+    flat: &mut Flat<T, A>,
+    lines: usize,
+    width: usize,
+    tally: &mut Tally,
+)
     requires cells { length flat.old ≡ lines * width }
     requires fits { lines * width < 2 ^ 64 }
     ensures moved { LinesReversed lines width flat.old flat.new }
@@ -22,7 +27,12 @@ pub(super) fn reverse_lines<T, A: Allocator>(flat: &mut Flat<T, A>, lines: usize
 }
 
 // Reverses each line.
-pub(super) fn reverse_each_line<T, A: Allocator>(flat: &mut Flat<T, A>, lines: usize, width: usize, tally: &mut Tally)
+pub(super) fn reverse_each_line<T, A: Allocator>(
+    flat: &mut Flat<T, A>,
+    lines: usize,
+    width: usize,
+    tally: &mut Tally,
+)
     requires cells { length flat.old ≡ lines * width }
     requires fits { lines * width < 2 ^ 64 }
     ensures moved { EachLineReversed lines width flat.old flat.new }
@@ -35,7 +45,12 @@ pub(super) fn reverse_each_line<T, A: Allocator>(flat: &mut Flat<T, A>, lines: u
 }
 
 // Reverses the `n` cells from place `a` on.
-pub(super) fn reverse_part<T, A: Allocator>(flat: &mut Flat<T, A>, a: usize, n: usize, tally: &mut Tally)
+pub(super) fn reverse_part<T, A: Allocator>(
+    flat: &mut Flat<T, A>,
+    a: usize,
+    n: usize,
+    tally: &mut Tally,
+)
     requires within { a + n ≤ length flat.old }
     requires fits { a + n < 2 ^ 64 }
     ensures reversed { PartReversed a n flat.old flat.new }

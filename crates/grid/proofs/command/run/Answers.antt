@@ -1,8 +1,7 @@
-use Rattle.std.proofs.Common.{◌≡◌, Result, Ok, Err, OnOk, false, ◌∙◌, ◌++◌, ◌∷◌, [], List, length, map, take, slice_get, Some, sym, ap, arith, inl, inr, length-append, append_assoc, append-nil}
+use Rattle.std.proofs.Common.{◌≡◌, Result, Ok, Err, OnOk, false, ◌∙◌, ◌++◌, ◌∷◌, [], length, map, take, slice_get, Some, sym, ap, arith, inr, length-append, append_assoc}
 use Rattle.std.specs.Result.{is_err}
 use Rattle.std.proofs.lemmas.List.{map-append}
 use Rattle.grid.specs.Reply.{plain}
-use Rattle.grid.specs.Command.{TakesMemory}
 use Rattle.grid.proofs.RunLemmas.{ran_none, ran_more, ran_still, take_at_seam, get_at_seam}
 use Rattle.grid.proofs.command.run.Goals as goal
 
@@ -20,7 +19,7 @@ loop-command-init g c = record {
   rest = c.into_iter-command-iterator.ensures.into_iter_gives.0;
   ran = rw (c.reserve_exact.ensures.items, c.new-replies.ensures.items) (ran_none _ _);
   count = c.reserve_exact.ensures.len ∙ c.new-replies.ensures.len;
-  room = let room = on_ok _ _ (sym c.is_err.ensures.value ∙ c.if-is_err.false) c.reserve_exact.ensures.ok in omega (arith, room, c.len.ensures)
+  room = let room = on_ok _ _ (sym c.is_err.ensures.value ∙ c.if-is_err.false) c.reserve_exact.ensures.ok in omega (arith, room, c.len.ensures);
 }
 
 pub push_reserved-requires : goal.push_reserved-requires
@@ -53,7 +52,7 @@ pub returns-in-Err-clause-stopped : goal.returns-in-Err-clause-stopped
 returns-in-Err-clause-stopped g c =
     let i = c.loop-command.invariant in
     let finished : take c.len-done.result c.args.commands.items ≡ c.loop-command.yielded =
-        take_at_seam _ _ _ _ i.rest (c.len-done.ensures ∙ i.count) in
+    take_at_seam _ _ _ _ i.rest (c.len-done.ensures ∙ i.count) in
     rw finished (ran_still _ _ _ _ _ _ _ _ i.ran c.in-Err.ensures.err_grid c.in-Err.ensures.err_symmetry c.step.ensures.shift)
 
 pub returns-in-Err-clause-stop : goal.returns-in-Err-clause-stop
@@ -61,5 +60,5 @@ returns-in-Err-clause-stop g c =
     let i = c.loop-command.invariant in
     let s = c.in-Some.ensures.steps in
     let next : slice_get c.args.commands.items c.len-done.result ≡ Some c.in-Some.command =
-        get_at_seam _ _ _ _ _ (rw s.0 at i.rest) (c.len-done.ensures ∙ i.count) in
+    get_at_seam _ _ _ _ _ (rw s.0 at i.rest) (c.len-done.ensures ∙ i.count) in
     inr (rw (next, c.in-Err.ensures.err_grid) c.in-Err.ensures.err_memory)

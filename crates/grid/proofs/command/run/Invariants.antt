@@ -12,5 +12,5 @@ invariant-loop-command g l = record {
   rest : l.yielded ++ into_iter_items l.command-iterator ≡ l.fn.commands.items;
   ran : Ran l.yielded l.fn.grid l.grid l.fn.tally l.tally (map plain l.replies.items);
   count : vec_len l.replies ≡ length l.yielded;
-  room : length l.fn.commands.items ≤ vec_capacity l.replies
+  room : length l.fn.commands.items ≤ vec_capacity l.replies;
 }

@@ -1,7 +1,6 @@
-use Rattle.std.proofs.Common.{◌≡◌, ◌∙◌, ℕ, List, length, sym, ap, arith, ⊎_elim}
+use Rattle.std.proofs.Common.{◌≡◌, ◌∙◌, length, sym, ap, ⊎_elim}
 use Rattle.std.proofs.lemmas.Bool.{cases_eq}
-use Rattle.grid_base.specs.Table.{rows_of, cols_of}
-use Rattle.grid_base.specs.Order.{storage, CanCut}
+use Rattle.grid_base.specs.Order.{storage}
 use Rattle.grid_base.proofs.Views.{same_sheet, same_by_storage, none_by_storage, CanCut-storage}
 use Rattle.grid.proofs.laws.rebuilt.Goals as goal
 
@@ -16,11 +15,11 @@ returns g c =
     let table = c.size-cols.ensures.table in
     let order = built.order ∙ c.order-order.ensures in
     let stored : storage old.order c.from_vec_with_order.result.rows ≡ storage old.order old.rows =
-        ap (λ o. storage o c.from_vec_with_order.result.rows) (sym c.order-order.ensures) ∙ (built.storage ∙ c.into_vec.ensures) in
+    ap (λ o. storage o c.from_vec_with_order.result.rows) (sym c.order-order.ensures) ∙ (built.storage ∙ c.into_vec.ensures) in
     let rows : c.from_vec_with_order.result.rows ≡ old.rows =
-        ⊎_elim (λ none.
-            none_by_storage old.order _ built.table (ap length (stored ∙ sym c.into_vec.ensures) ∙ none)
-            ∙ sym (none_by_storage old.order old.rows table (ap length (sym c.into_vec.ensures) ∙ none)))
-        (λ some. same_by_storage old.order _ old.rows built.table table (built.cols some ∙ c.size-cols.ensures.cols) stored)
-        (cases_eq (length c.into_vec.result.items) 0) in
+    ⊎_elim (λ none.
+    none_by_storage old.order _ built.table (ap length (stored ∙ sym c.into_vec.ensures) ∙ none)
+    ∙ sym (none_by_storage old.order old.rows table (ap length (sym c.into_vec.ensures) ∙ none)))
+    (λ some. same_by_storage old.order _ old.rows built.table table (built.cols some ∙ c.size-cols.ensures.cols) stored)
+    (cases_eq (length c.into_vec.result.items) 0) in
     same_sheet _ _ rows order

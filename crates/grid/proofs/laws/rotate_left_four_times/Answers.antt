@@ -11,7 +11,7 @@ loop-turn-init g c = record { rows = sym (act-identity _ c.size.ensures.table); 
 pub loop-turn-preserved : goal.loop-turn-preserved
 loop-turn-preserved g c = record {
   rows = turned_more c.loop-turn._turn _ _ _ c.size.ensures.table c.loop-turn.invariant.rows c.rotate_left.ensures.rows;
-  order = order_more c.loop-turn._turn _ _ _ c.loop-turn.invariant.order c.rotate_left.ensures.order
+  order = order_more c.loop-turn._turn _ _ _ c.loop-turn.invariant.order c.rotate_left.ensures.order;
 }
 
 pub returns : goal.returns

@@ -6,5 +6,5 @@ use Rattle.grid.proofs.laws.rotate_left_four_times.Given as goal
 abbrev pub invariant-loop-turn : goal.invariant-loop-turn
 invariant-loop-turn g l = record {
   rows : l.grid.rows ≡ act (turned_left l._turn) l.fn.grid.rows;
-  order : l.grid.order ≡ order_after (turned_left l._turn) l.fn.grid.order
+  order : l.grid.order ≡ order_after (turned_left l._turn) l.fn.grid.order;
 }

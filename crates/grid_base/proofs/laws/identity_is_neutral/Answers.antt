@@ -1,4 +1,4 @@
-use Rattle.std.proofs.Common.{◌≡◌, ◌∙◌}
+use Rattle.std.proofs.Common.{◌∙◌}
 use Rattle.grid_base.proofs.Group.{then_is, product_identity, identity_product}
 use denote.Enum.Bare.{true_same}
 use Rattle.grid_base.specs.contracts.words.Symmetry.{the_type}

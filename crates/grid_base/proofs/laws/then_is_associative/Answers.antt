@@ -7,7 +7,7 @@ use Rattle.grid_base.proofs.laws.then_is_associative.Goals as goal
 pub returns : goal.returns
 returns c =
     let left : c.then-2.result ≡ product (product c.args.first c.args.second) c.args.third =
-        then_is _ _ _ c.then-2.ensures ∙ ap (λ s. product s c.args.third) (then_is _ _ _ c.then.ensures) in
+    then_is _ _ _ c.then-2.ensures ∙ ap (λ s. product s c.args.third) (then_is _ _ _ c.then.ensures) in
     let right : c.then-4.result ≡ product c.args.first (product c.args.second c.args.third) =
-        then_is _ _ _ c.then-4.ensures ∙ ap (product c.args.first) (then_is _ _ _ c.then-3.ensures) in
+    then_is _ _ _ c.then-4.ensures ∙ ap (product c.args.first) (then_is _ _ _ c.then-3.ensures) in
     c.eq.ensures ∙ true_same the_type _ _ (left ∙ (product_assoc c.args.first c.args.second c.args.third ∙ sym right))

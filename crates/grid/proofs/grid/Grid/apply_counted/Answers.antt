@@ -1,7 +1,5 @@
-use Rattle.std.proofs.Common.{◌≡◌, ◌∙◌, sym, ap, arith}
+use Rattle.std.proofs.Common.{◌∙◌, sym, arith}
 use Rattle.grid_base.specs.declared.words.Symmetry.TheVariants.{Identity, FlipCols, FlipRows, RotateHalf, Transpose, RotateLeft, RotateRight, AntiTranspose}
-use Rattle.grid_base.specs.Table.{rows_of, cols_of, IsTable}
-use Rattle.grid_base.specs.Symmetry.{act}
 use Rattle.grid_base.proofs.Group.{act-identity, normal-acts}
 use Rattle.grid.proofs.Flips.{after_transpose, turned_rows, turned_cols}
 use Rattle.grid.proofs.Seen.{seen_table}

@@ -1,4 +1,4 @@
-use Rattle.std.proofs.Common.{sym, ap, ◌∙◌, ◌≡◌, ◌≢◌, ◌<◌, ◌*◌, ◌/◌, ◌%◌, ◌⊎◌, length, arith, refl, ⊎_elim}
+use Rattle.std.proofs.Common.{ap, ◌∙◌, ◌≡◌, ◌≢◌, ◌/◌, ◌%◌, length, arith, ⊎_elim}
 use Rattle.grid_base.specs.Sheet.{Fits}
 use Rattle.grid_base.proofs.Views.{view-table, view-cols, view-storage, Fits-none, Fits-cut}
 use Rattle.grid.proofs.grid.Grid.from_vec_with_order.Goals as goal
@@ -7,7 +7,7 @@ use Rattle.grid.proofs.grid.Grid.from_vec_with_order.Goals as goal
 cut_fits : (g : _) (c : goal.After-from_vec-else-len-eq0 g) → Fits (c.len-len.result / c.args.cols) c.args.cols (length c.from_vec-else-len-eq0.result)
 cut_fits g c =
     let even : (c.args.cols ≢ 0) × (length c.args.vec.items % c.args.cols ≡ 0) =
-        ⊎_elim (λ e. absurd (omega arith)) (λ h. h) c.requires in
+    ⊎_elim (λ e. absurd (omega arith)) (λ h. h) c.requires in
     let len : length c.args.vec.items ≡ c.len-len.result = omega arith in
     let rest : c.len-len.result % c.args.cols ≡ 0 = rw len at even.1 in
     rw (c.from_vec-else-len-eq0.ensures, len) (Fits-cut _ _ c.if-len-eq0.false even.0 rest c.len-len.type_inv)

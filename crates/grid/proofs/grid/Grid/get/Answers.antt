@@ -1,6 +1,5 @@
-use Rattle.std.proofs.Common.{sym, ap, ◌∙◌, ◌≡◌, arith}
+use Rattle.std.proofs.Common.{sym, ap, ◌∙◌}
 use Rattle.std.specs.List.{slice_get}
-use Rattle.grid_base.specs.Table.{cell}
 use Rattle.grid_base.proofs.Views.{view-cell, view-past_rows, view-past_cols}
 use Rattle.grid.proofs.grid.Grid.get.Goals as goal
 use Rattle.grid.proofs.grid.Grid.get.Goals.{else-row-self-via-then-row-self+else-col-self, else-row-self-via-else-row-self}
@@ -14,6 +13,6 @@ pub returns-else-row-self : goal.returns-else-row-self
 returns-else-row-self g c =
     rw (← c.self.view_is)
     (elim c.else-row-self.branch [
-        else-row-self-via-then-row-self+else-col-self w ↦ sym (view-past_cols _ _ _ _ c.self.invariant _ _ w.if-row-self.true w.if-col-self.false)
+      | else-row-self-via-then-row-self+else-col-self w ↦ sym (view-past_cols _ _ _ _ c.self.invariant _ _ w.if-row-self.true w.if-col-self.false)
       | else-row-self-via-else-row-self w ↦ sym (view-past_rows _ _ _ _ c.self.invariant _ _ w.if-row-self.false)
     ])

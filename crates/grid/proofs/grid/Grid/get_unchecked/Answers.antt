@@ -1,4 +1,4 @@
-use Rattle.std.proofs.Common.{◌≡◌, ◌<◌, ◌∙◌, sym, ap, arith}
+use Rattle.std.proofs.Common.{◌∙◌, sym, ap, arith}
 use Rattle.std.specs.List.{slice_get}
 use Rattle.grid_base.proofs.Stores.{place_within}
 use Rattle.grid_base.proofs.Views.{view-cell}

@@ -1,4 +1,4 @@
-use Rattle.std.proofs.Common.{◌≡◌, ◌<◌, ◌∙◌, sym, ap, arith, refl}
+use Rattle.std.proofs.Common.{◌∙◌, sym, ap, arith, refl}
 use Rattle.std.specs.List.{slice_get}
 use Rattle.grid_base.proofs.Stores.{place_within}
 use Rattle.grid_base.proofs.Views.{view-cell}
@@ -23,6 +23,7 @@ returns g c =
     let row_in = seen_row_in _ _ _ _ _ c.self.invariant _ _ c.self.view_is c.requires in
     let col_in = seen_col_in _ _ _ _ _ c.self.invariant _ _ c.self.view_is c.requires in
     let read =
-        view-cell _ _ _ _ c.self.invariant _ _ row_in col_in ∙ (ap (slice_get c.self.inside.flat) (sym c.place-place.ensures) ∙ c.at_mut.ensures.item) in
-    ((refl, λ w. rw c.place-place.ensures (sheet_written _ _ _ _ _ _ _ w c.self.invariant c.self.view_is row_in col_in)),
-        record { writes_back = tt; item = rw (← c.self.view_is) read })
+    view-cell _ _ _ _ c.self.invariant _ _ row_in col_in ∙ (ap (slice_get c.self.inside.flat) (sym c.place-place.ensures) ∙ c.at_mut.ensures.item) in (
+      (refl, λ w. rw c.place-place.ensures (sheet_written _ _ _ _ _ _ _ w c.self.invariant c.self.view_is row_in col_in)),
+      record { writes_back = tt; item = rw (← c.self.view_is) read },
+    )

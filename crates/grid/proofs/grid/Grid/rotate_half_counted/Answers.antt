@@ -1,4 +1,3 @@
-use Rattle.std.proofs.Common.{arith}
 use Rattle.grid.proofs.Flips.{rotate_half_by_part}
 use Rattle.grid.proofs.Seen.{seen_rows, seen_cols}
 use Rattle.grid.proofs.grid.Grid.rotate_half_counted.Goals as goal

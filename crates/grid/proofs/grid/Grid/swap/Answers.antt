@@ -1,4 +1,4 @@
-use Rattle.std.proofs.Common.{◌<◌, arith}
+use Rattle.std.proofs.Common.{arith}
 use Rattle.grid_base.proofs.Stores.{place_within}
 use Rattle.grid.proofs.Seen.{seen_row_in, seen_col_in}
 use Rattle.grid.proofs.Writing.{rows_swapped}

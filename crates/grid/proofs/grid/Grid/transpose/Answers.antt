@@ -1,9 +1,5 @@
-use Rattle.std.proofs.Common.{sym, ap, ◌∙◌, ◌≡◌, arith, refl}
-use Rattle.grid_base.specs.Table.{cell}
-use Rattle.grid_base.specs.Order.{table_of, flipped}
-use Rattle.grid_base.specs.Sheet.{Sheet}
-use Rattle.grid_base.specs.Symmetry.{act}
-use Rattle.grid_base.specs.declared.words.Symmetry.TheVariants.{Transpose}
+use Rattle.std.proofs.Common.{sym, ◌∙◌, ◌≡◌}
+use Rattle.grid_base.specs.Order.{flipped}
 use Rattle.grid_base.proofs.Views.{view-transpose, view-storage, Fits-turned}
 use Rattle.grid.proofs.grid.Grid.transpose.Goals as goal
 use Rattle.grid.proofs.grid.Grid.transpose.Goals.{in-RowMajor, in-ColumnMajor}

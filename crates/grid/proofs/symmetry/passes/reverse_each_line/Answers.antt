@@ -1,4 +1,4 @@
-use Rattle.std.proofs.Common.{◌≡◌, ◌≤◌, ℕ, ◌<◌, ◌+◌, ◌-◌, ◌*◌, ◌∙◌, sym, ap, arith, ⊎_elim}
+use Rattle.std.proofs.Common.{◌≡◌, ◌+◌, ◌-◌, ◌*◌, ◌∙◌, sym, ap, arith, ⊎_elim}
 use Rattle.std.specs.List.{slice_get}
 use Rattle.std.proofs.lemmas.Bool.{cases_lt}
 use Rattle.std.proofs.lemmas.Nat.{mul-add-lt}
@@ -11,16 +11,16 @@ loop-line-preserved g c =
     let before = c.loop-line.invariant in
     let part = c.reverse_part.ensures.reversed in
     record {
-        length_stays = part.length_stays ∙ before.length_stays;
-        moved = λ i j li lj.
-            ⊎_elim (λ low. part.others (i * q + j) (λ le. absurd (omega (arith, mul-add-lt i q j line low lj))) ∙ before.moved i j low lj)
-            (λ high.
-                let here : i ≡ line = omega arith in
-                ap (λ x. slice_get c.reverse_part.new.flat (x * q + j)) here
-                ∙ (part.moved j lj ∙ (before.rest (line * q + (q - 1 - j)) (omega arith)
-                ∙ sym (ap (λ x. slice_get c.args.flat.now (x * q + (q - 1 - j))) here))))
-            (cases_lt i line);
-        rest = λ k h. part.others k (λ _. omega arith) ∙ before.rest k (omega arith);
-        count = omega arith;
-        shift = omega arith
+      length_stays = part.length_stays ∙ before.length_stays;
+      moved = λ i j li lj.
+          ⊎_elim (λ low. part.others (i * q + j) (λ le. absurd (omega (arith, mul-add-lt i q j line low lj))) ∙ before.moved i j low lj)
+          (λ high.
+          let here : i ≡ line = omega arith in
+          ap (λ x. slice_get c.reverse_part.new.flat (x * q + j)) here
+          ∙ (part.moved j lj ∙ (before.rest (line * q + (q - 1 - j)) (omega arith)
+          ∙ sym (ap (λ x. slice_get c.args.flat.now (x * q + (q - 1 - j))) here))))
+          (cases_lt i line);
+      rest = λ k h. part.others k (λ _. omega arith) ∙ before.rest k (omega arith);
+      count = omega arith;
+      shift = omega arith;
     }

@@ -9,5 +9,5 @@ invariant-loop-line g l = record {
   moved : (i j : ℕ) → i < l.line → j < l.width → slice_get l.flat (i * l.width + j) ≡ slice_get l.fn.flat (i * l.width + (l.width - 1 - j));
   rest : (k : ℕ) → l.line * l.width ≤ k → slice_get l.flat k ≡ slice_get l.fn.flat k;
   count : l.tally.symmetry ≡ counted l.fn.tally.symmetry (l.line * (l.width / 2));
-  shift : l.tally.shift ≡ l.fn.tally.shift
+  shift : l.tally.shift ≡ l.fn.tally.shift;
 }

@@ -1,6 +1,4 @@
-use Rattle.std.proofs.Common.{◌≡◌, ◌*◌, ◌/◌, ◌^◌, ◌<◌, ◌≤◌, length, ℕ, ◌+◌, ◌-◌, refl, arith}
-use Rattle.grid_base.specs.Tally.{counted}
-use Rattle.grid.specs.Passes.{LinesReversed}
+use Rattle.std.proofs.Common.{refl, arith}
 use Rattle.grid.proofs.Reversing.{reversing_start, reversing_step, reversing_end}
 use Rattle.grid.proofs.symmetry.passes.reverse_lines.Goals as goal
 
@@ -10,9 +8,9 @@ loop-line-init g c = record { run = reversing_start _ _ _ _ (omega arith); count
 pub loop-at-preserved : goal.loop-at-preserved
 loop-at-preserved g c =
     record {
-        run = reversing_step _ _ _ _ _ _ _ _ c.requires.cells (omega arith) (omega arith) c.loop-at.invariant.run c.swap_for_symmetry.ensures.cells (omega arith);
-        count = omega arith;
-        shift = omega arith
+      run = reversing_step _ _ _ _ _ _ _ _ c.requires.cells (omega arith) (omega arith) c.loop-at.invariant.run c.swap_for_symmetry.ensures.cells (omega arith);
+      count = omega arith;
+      shift = omega arith;
     }
 
 pub returns-clause-moved : goal.returns-clause-moved

@@ -7,5 +7,5 @@ abbrev pub invariant-loop-i : goal.invariant-loop-i
 invariant-loop-i g l = record {
   run : Turning l.a l.n l.i l.fn.flat l.flat;
   count : l.tally.symmetry ≡ counted l.fn.tally.symmetry l.i;
-  shift : l.tally.shift ≡ l.fn.tally.shift
+  shift : l.tally.shift ≡ l.fn.tally.shift;
 }
