@@ -1,13 +1,24 @@
 //! What the program is given: its arguments and its input.
 ghost use Rattle.std.specs.Prelude.{◌≡◌, ◌↔◌, [], ◌∷◌, true, false, map, codes, string_bytes, IfOk, IfSome};
 
+use crate::ending::Ending;
 use std::alloc::Allocator;
-use std::io;
 use std::io::Read;
+use std::rt::Env;
+use std::{env, io};
 
 const READS: u32 = 1_048_576;
 
 const READ_LEN: usize = 4096;
+
+/// The arguments after the program's name. One that is no text is no use of the program.
+pub fn arguments<R: Env + AllocGlobal>(rt: &R) -> Result<Vec<String>, Ending> {
+    match env::args(rt) {
+        Ok(args) => Ok(args.skip(1).collect(rt.alloc())?),
+        Err(error) if error.kind() == io::ErrorKind::InvalidData => Err(Ending::Usage),
+        Err(error) => Err(Ending::from(error)),
+    }
+}
 
 /// Whether the arguments after the program's name ask for a deferred run, or `None` where they are no use of the
 /// program.

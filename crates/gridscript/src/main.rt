@@ -11,16 +11,14 @@ mod tests;
 mod words;
 
 use ending::Ending;
-use input::{mode, read_all};
+use input::{arguments, mode, read_all};
 use play::play;
-use std::env;
 use std::process::ExitCode;
 use std::rt::Env;
 
 // The arguments are tested first, then the whole input is read, and only then the script is run.
 fn run<R: Env + Input + Print + AllocGlobal>(rt: &R) -> Result<(), Ending> {
-    let args: Vec<String> = env::args(rt)?.skip(1).collect(rt.alloc())?;
-    let deferred = mode(&args).ok_or(Ending::Usage)?;
+    let deferred = mode(&arguments(rt)?).ok_or(Ending::Usage)?;
     let script = read_all(rt.alloc(), &mut rt.reader())?;
     let output = play(rt.alloc(), &script, deferred)?;
     rt.print(&output)?;

@@ -1,10 +1,12 @@
 use crate::ending::Ending;
 use crate::fault::ScriptFault;
-use crate::input::{mode, read_all};
+use crate::input::{arguments, mode, read_all};
 use crate::play::play;
+use std::env::FillError;
 use std::io;
 use std::io::Read;
 use std::process::Abort;
+use std::rt::Env;
 use std::test::Fail;
 
 // Both kinds of run give this output.
@@ -225,6 +227,43 @@ fn modes(rt: HostRuntime) -> Result<(), Fail> {
     }
     let args = vec![in rt.alloc(); String::new(rt.alloc())]?;
     assert_eq!(rt; mode(&args), None);
+    Ok(())
+}
+
+// A program's name and one argument.
+#[derive(Drop)]
+struct OneArgument(&'static [u8]);
+
+impl Env for OneArgument {
+    fn arg(&self, i: usize, buf: &mut [u8]) -> Result<usize, FillError> {
+        let bytes = match i {
+            0 => b"gridscript",
+            1 => self.0,
+            _ => return Err(FillError::NotPresent),
+        };
+        if bytes.len() > buf.len() {
+            return Err(FillError::TooLong);
+        }
+        buf[..bytes.len()].copy_from_slice(bytes);
+        Ok(bytes.len())
+    }
+
+    fn var(&self, _name: &str, _buf: &mut [u8]) -> Result<usize, FillError> {
+        Err(FillError::NotPresent)
+    }
+
+    fn var_at(&self, _i: usize, _buf: &mut [u8]) -> Result<usize, FillError> {
+        Err(FillError::NotPresent)
+    }
+}
+
+#[test]
+fn arguments_are_text(rt: HostRuntime) -> Result<(), Fail> {
+    let args = arguments(&(OneArgument(b"deferred"), rt.alloc()))?;
+    assert_eq!(rt; args.len(), 1);
+    assert_eq!(rt; args[0].as_str(), "deferred");
+    let met = arguments(&(OneArgument(b"\xff"), rt.alloc())).map(|args| args.len());
+    assert_eq!(rt; met, Err(Ending::Usage));
     Ok(())
 }
 
