@@ -1,9 +1,15 @@
 -- Edits of tables: lines put and taken, and padding.
-use Rattle.std.specs.Prelude.{ℕ, ◌+◌, ◌-◌, ◌*◌, Bool, true, false, nat_eq, nat_lt, List, [], ◌∷◌, ◌++◌, length, map, filter, take, drop, insert, replicate, if◌then◌else◌}
-use Rattle.grid_base.specs.declared.flat.order.Order.{Order}
-use Rattle.grid_base.specs.declared.flat.order.Order.TheVariants.{RowMajor, ColumnMajor}
+use Rattle.std.specs.Prelude.{◌≡◌, ◌⊎◌, ℕ, ◌+◌, Bool, true, false, List, [], ◌∷◌, ◌++◌, length, map, filter, take, drop, insert, replicate}
+use Rattle.grid_base.specs.Table.{rows_of, cols_of}
 
 module _ {T : Type 0} where
+  -- a row, or a column, of so many cells fits a table: any fits the empty one
+  abbrev pub FitsRow : List (List T) → ℕ → Type 0
+  FitsRow t width = (t ≡ []) ⊎ (width ≡ cols_of t)
+
+  abbrev pub FitsCol : List (List T) → ℕ → Type 0
+  FitsCol t width = (t ≡ []) ⊎ (width ≡ rows_of t)
+
   -- lines put as rows before row i, in their order
   abbrev pub put_rows : ℕ → List (List T) → List (List T) → List (List T)
   put_rows i lines t = take i t ++ lines ++ drop i t
@@ -52,30 +58,3 @@ module _ {T : Type 0} where
 
   abbrev pub prepended_cols : ℕ → T → List (List T) → List (List T)
   prepended_cols k d t = map (λ r. replicate k d ++ r) t
-
--- How many cells stay and change their place in the storage, which is p lines of q cells.
-
--- lines and width of the storage of a table of m rows and n columns
-abbrev pub line_count : Order → ℕ → ℕ → ℕ
-line_count RowMajor m n = m
-line_count ColumnMajor m n = n
-
-abbrev pub line_width : Order → ℕ → ℕ → ℕ
-line_width RowMajor m n = n
-line_width ColumnMajor m n = m
-
--- the same edit along the storage's lines, and across them
-abbrev pub expand_rows_shift : Order → ℕ → ℕ → ℕ → ℕ
-expand_rows_shift RowMajor m n k = 0
-expand_rows_shift ColumnMajor m n k = if nat_eq k 0 then 0 else (n - 1) * m
-
-abbrev pub prepend_rows_shift : Order → ℕ → ℕ → ℕ → ℕ
-prepend_rows_shift o m n k = if nat_eq k 0 then 0 else m * n
-
-abbrev pub delete_rows_shift : Order → ℕ → ℕ → ℕ → ℕ → ℕ
-delete_rows_shift o m n start count =
-    if nat_eq count 0 then 0 else (if nat_lt m (start + count) then 0 else by_order o)
-  where
-    by_order : Order → ℕ
-    by_order RowMajor = (m - start - count) * n
-    by_order ColumnMajor = n * (m - count) - start

@@ -4,3 +4,4 @@ pub mod Reply
 pub mod Command
 pub mod Run
 pub mod Edit
+pub mod Shift

@@ -1,0 +1,34 @@
+-- How many cells stay at an edit and change their place in the storage.
+use Rattle.std.specs.Prelude.{ℕ, ◌+◌, ◌-◌, ◌*◌, Bool, nat_eq, nat_lt, if◌then◌else◌}
+use Rattle.grid_base.specs.declared.flat.order.Order.{Order}
+use Rattle.grid_base.specs.declared.flat.order.Order.TheVariants.{RowMajor, ColumnMajor}
+use Rattle.grid_base.specs.Order.{flipped}
+
+-- m rows of n cells each, of which k more come at the end: along the storage's lines, and across them
+abbrev pub expand_rows_shift : Order → ℕ → ℕ → ℕ → ℕ
+expand_rows_shift RowMajor m n k = 0
+expand_rows_shift ColumnMajor m n k = if nat_eq k 0 then 0 else (n - 1) * m
+
+-- k more rows at the beginning
+abbrev pub prepend_rows_shift : Order → ℕ → ℕ → ℕ → ℕ
+prepend_rows_shift o m n k = if nat_eq k 0 then 0 else m * n
+
+-- rows go, count of them from start on, along the lines and across them
+abbrev pub rows_taken_shift : Order → ℕ → ℕ → ℕ → ℕ → ℕ
+rows_taken_shift RowMajor m n start count = (m - start - count) * n
+rows_taken_shift ColumnMajor m n start count = n * (m - count) - start
+
+-- the same where there may be no such rows, or none to take
+abbrev pub delete_rows_shift : Order → ℕ → ℕ → ℕ → ℕ → ℕ
+delete_rows_shift o m n start count =
+    if nat_eq count 0 then 0 else (if nat_lt m (start + count) then 0 else rows_taken_shift o m n start count)
+
+-- columns are the rows of the turned table, which is stored in the other order
+abbrev pub expand_cols_shift : Order → ℕ → ℕ → ℕ → ℕ
+expand_cols_shift o m n k = expand_rows_shift (flipped o) n m k
+
+abbrev pub prepend_cols_shift : Order → ℕ → ℕ → ℕ → ℕ
+prepend_cols_shift o m n k = prepend_rows_shift (flipped o) n m k
+
+abbrev pub delete_cols_shift : Order → ℕ → ℕ → ℕ → ℕ → ℕ
+delete_cols_shift o m n start count = delete_rows_shift (flipped o) n m start count
