@@ -9,12 +9,12 @@ use Rattle.grid_base.specs.Table.{row, rows_of, cols_of, cell, IsTable, IsSize, 
 use Rattle.grid_base.specs.Order.{storage, place, table_of}
 use Rattle.grid_base.proofs.Tables.{rows-tabulate, cols-tabulate, cell-tabulate, width-tabulate, IsFull, IsTable-tabulate, IsFull-cells, same_cells, IsSome_within}
 
-get_append_left : {T : Type 0} (xs ys : List T) (k : ℕ) → k < length xs → slice_get (xs ++ ys) k ≡ slice_get xs k
+pub get_append_left : {T : Type 0} (xs ys : List T) (k : ℕ) → k < length xs → slice_get (xs ++ ys) k ≡ slice_get xs k
 get_append_left [] ys k lt = absurd (omega arith)
 get_append_left (x ∷ xs) ys zero lt = refl
 get_append_left (x ∷ xs) ys (suc k) lt = get_append_left xs ys k (omega arith)
 
-get_append_right : {T : Type 0} (xs ys : List T) (k j : ℕ) → length xs + j ≡ k → slice_get (xs ++ ys) k ≡ slice_get ys j
+pub get_append_right : {T : Type 0} (xs ys : List T) (k j : ℕ) → length xs + j ≡ k → slice_get (xs ++ ys) k ≡ slice_get ys j
 get_append_right [] ys k j e = let same : k ≡ j = omega arith in ap (slice_get ys) same
 get_append_right (x ∷ xs) ys zero j e = absurd (omega arith)
 get_append_right (x ∷ xs) ys (suc k) j e = get_append_right xs ys k j (omega arith)

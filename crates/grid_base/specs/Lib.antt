@@ -7,3 +7,4 @@ pub mod Tally
 pub mod Sheet
 pub mod Flat
 pub mod Lines
+pub mod Blocks

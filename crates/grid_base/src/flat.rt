@@ -4,8 +4,11 @@ ghost use Rattle.std.specs.Borrow.{sem};
 ghost use Rattle.std.specs.Option.{option_copied};
 ghost use Rattle.grid_base.specs.Tally.{counted};
 
+mod lines;
 mod order;
 mod tally;
+#[cfg(test)]
+mod tests;
 
 pub use order::Order;
 use std::alloc::{Allocator, Global};
