@@ -163,21 +163,69 @@ module _ {T : Type 0} where
   take-one : (v : List (List T)) (i : ℕ) → i < length v → take 1 (drop i v) ≡ row v i ∷ []
   take-one v i lt = ap (take 1) (drop_more v i [] lt)
 
-  -- taking row i of a table of rest + 1 rows
-  module _ (o : Order) (n i rest : ℕ) (old : List T) (len : length old ≡ (rest + 1) * n) (le : i ≤ rest) (p q a g : ℕ) (e : RowGroups o rest n i 1 p q a g) where
-    pub view-remove_row : (after : List T) → Woven p q a g after old → table_of o rest n (take (rest * n) after) ≡ remove (table_of o (rest + 1) n old) i
-    view-remove_row after w = view-take_rows o (rest + 1) n i 1 rest old refl len (omega arith) p q a g after e w ∙ take_line i (table_of o (rest + 1) n old)
+  -- taking row i of a table of m rows
+  module _ (o : Order) (m n i rest : ℕ) (old : List T) (size : rest + 1 ≡ m) (len : length old ≡ m * n) (lt : i < m) (p q a g : ℕ) (e : RowGroups o rest n i 1 p q a g) where
+    pub view-remove_row : (after : List T) → Woven p q a g after old → table_of o rest n (take (rest * n) after) ≡ remove (table_of o m n old) i
+    view-remove_row after w = view-take_rows o m n i 1 rest old size len (omega arith) p q a g after e w ∙ take_line i (table_of o m n old)
 
-    pub view-removed_row : (after : List T) → Woven p q a g after old → 0 < n → drop (rest * n) after ≡ row (table_of o (rest + 1) n old) i
+    pub view-removed_row : (after : List T) → Woven p q a g after old → 0 < n → drop (rest * n) after ≡ row (table_of o m n old) i
     view-removed_row after w some =
-        let t = table_of o (rest + 1) n old in
-        view-taken_rows o (rest + 1) n i 1 rest old refl len (omega arith) p q a g after e w some (omega arith)
-        ∙ (ap (storage o) (take-one t i (omega (arith, rows-cut o (rest + 1) n old len)))
-        ∙ storage-line o (row t i) (omega (arith, width-cut o (rest + 1) n old len i (omega arith))))
+        let t = table_of o m n old in
+        view-taken_rows o m n i 1 rest old size len (omega arith) p q a g after e w some (omega arith)
+        ∙ (ap (storage o) (take-one t i (omega (arith, rows-cut o m n old len)))
+        ∙ storage-line o (row t i) (omega (arith, width-cut o m n old len i lt)))
 
-    pub view-close_row : (new : List T) → Closed p q a g new old → table_of o rest n new ≡ remove (table_of o (rest + 1) n old) i
-    view-close_row new w = view-close_rows o (rest + 1) n i 1 rest old refl len (omega arith) p q a g new e w ∙ take_line i (table_of o (rest + 1) n old)
+    pub view-close_row : (new : List T) → Closed p q a g new old → table_of o rest n new ≡ remove (table_of o m n old) i
+    view-close_row new w = view-close_rows o m n i 1 rest old size len (omega arith) p q a g new e w ∙ take_line i (table_of o m n old)
 
   -- how many cells are left
   pub cells-closed : (o : Order) (m n i k p q a g : ℕ) (short long : List T) → RowGroups o m n i k p q a g → Closed p q a g short long → length short ≡ m * n
   cells-closed o m n i k p q a g short long e w = w.lengths ∙ by_groups o m n i k p q a g e
+
+-- a table of no rows, whatever the number of columns
+pub table_of-no_rows : {T : Type 0} (o : Order) (n : ℕ) (cells : List T) → table_of o 0 n cells ≡ []
+unfolding tabulate
+table_of-no_rows o n cells = refl
+
+-- groups at the end of one line stand where they are
+module _ {T : Type 0} (q k : ℕ) (cells : List T) where
+  at_end : Widened 1 q q k cells cells
+  at_end =
+      record {
+          before = λ l j ll lj li. let z : l ≡ 0 = omega arith in rw z (let e : 0 * (q + k) + j ≡ 0 * q + j = omega arith in ap (slice_get cells) e);
+          after = λ l j ll lj le. absurd (omega arith)
+      }
+
+  pub woven_at_end : Woven 1 q q k cells cells
+  woven_at_end =
+      record {
+          lengths = refl;
+          lines = at_end;
+          groups = λ l j ll lj. let z : l ≡ 0 = omega arith in rw z (let e : 0 * (q + k) + (q + j) ≡ 1 * q + (0 * k + j) = omega arith in ap (slice_get cells) e)
+      }
+
+  pub opened_at_end : length cells ≡ q + k → Opened 1 q q k cells cells
+  opened_at_end len =
+      record {
+          lengths = refl;
+          lines = at_end;
+          groups = λ l j ll lj.
+              let z : l ≡ 0 = omega arith in
+              let e : l * (q + k) + (q + j) ≡ q + j = rw z (omega arith) in
+              (q + j, omega arith, omega arith, ap (slice_get cells) e)
+      }
+
+  pub closed_at_end : q ≤ length cells → Closed 1 q q k (take q cells) cells
+  closed_at_end le =
+      record {
+          lengths = length-take-le q cells le ∙ omega arith;
+          lines =
+              record {
+                  before = λ l j ll lj li.
+                      let z : l ≡ 0 = omega arith in
+                      let e : l * (q + k) + j ≡ j = rw z (omega arith) in
+                      let f : j ≡ l * q + j = rw z (omega arith) in
+                      ap (slice_get cells) e ∙ (sym (get-take q cells j lj) ∙ ap (slice_get (take q cells)) f);
+                  after = λ l j ll lj le. absurd (omega arith)
+              }
+      }

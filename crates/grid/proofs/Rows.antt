@@ -79,6 +79,10 @@ module _ {T : Type 0} where
       let found = w.groups c j lc lj in
       (found.0, omega (arith, found.1), found.2, found.3)
 
+  -- each row has n cells
+  abbrev pub HasWidth : List (List T) → ℕ → Type 0
+  HasWidth t n = (r : ℕ) → r < rows_of t → length (row t r) ≡ n
+
   -- a table is cut from cells that have, at each place, its cell
   pub table_by_cells : (o : Order) (m n : ℕ) (news : List T) (u : List (List T)) → rows_of u ≡ m → ((r : ℕ) → r < m → length (row u r) ≡ n) → ((r : ℕ) → r < m → (c : ℕ) → c < n → slice_get news (place o m n r c) ≡ cell u r c) → table_of o m n news ≡ u
   table_by_cells o m n news u rows widths cells =
@@ -107,12 +111,15 @@ module _ {T : Type 0} where
     rows-put = length-put t lines i in_rows
 
     -- rows of one length stay so
-    pub widths-put : (n : ℕ) → ((r : ℕ) → r < rows_of t → length (row t r) ≡ n) → ((j : ℕ) → j < rows_of lines → length (row lines j) ≡ n) → (r : ℕ) → r < rows_of t + rows_of lines → length (row (put_rows i lines t) r) ≡ n
+    widths-put : (n : ℕ) → HasWidth t n → HasWidth lines n → (r : ℕ) → r < rows_of t + rows_of lines → length (row (put_rows i lines t) r) ≡ n
     widths-put n olds news =
         put_cases (λ r. length (row (put_rows i lines t) r) ≡ n) i (rows_of t) (rows_of lines)
         (λ r lt. ap length (row-put_before r lt) ∙ olds r (omega arith))
         (λ j lt. ap length (row-put_new j lt) ∙ news j lt)
         (λ r le lt. ap length (row-put_after r le) ∙ olds r lt)
+
+    pub HasWidth-put : (n : ℕ) → HasWidth t n → HasWidth lines n → HasWidth (put_rows i lines t) n
+    HasWidth-put n olds news r lt = widths-put n olds news r (omega (arith, rows-put))
 
   -- the rows of a table from which some are taken
   module _ (i k : ℕ) (t : List (List T)) (in_rows : i + k ≤ rows_of t) where
@@ -127,11 +134,14 @@ module _ {T : Type 0} where
     pub rows-take : rows_of (take_rows i k t) + k ≡ rows_of t
     rows-take = length-cut t i k in_rows
 
-    pub widths-take : (n : ℕ) → ((r : ℕ) → r < rows_of t → length (row t r) ≡ n) → (r : ℕ) → r + k < rows_of t → length (row (take_rows i k t) r) ≡ n
+    widths-take : (n : ℕ) → HasWidth t n → (r : ℕ) → r + k < rows_of t → length (row (take_rows i k t) r) ≡ n
     widths-take n olds r lt =
         ⊎_elim (λ l. ap length (row-take_before r l) ∙ olds r (omega arith))
         (λ ge. ap length (row-take_after r ge) ∙ olds (k + r) (omega arith))
         (cases_lt r i)
+
+    pub HasWidth-take : (n : ℕ) → HasWidth t n → HasWidth (take_rows i k t) n
+    HasWidth-take n olds r lt = widths-take n olds r (omega (arith, rows-take))
 
   -- a vector with the cells of a table and of lines put into it
   pub table-put : (o : Order) (m n i k : ℕ) (t lines : List (List T)) (new : List T) → rows_of t ≡ m → ((r : ℕ) → r < m → length (row t r) ≡ n) → rows_of lines ≡ k → ((j : ℕ) → j < k → length (row lines j) ≡ n) → i ≤ m → ((r c : ℕ) → r < i → r < m → c < n → slice_get new (place o (m + k) n r c) ≡ cell t r c) → ((j c : ℕ) → j < k → c < n → slice_get new (place o (m + k) n (i + j) c) ≡ cell lines j c) → ((r c : ℕ) → i ≤ r → r < m → c < n → slice_get new (place o (m + k) n (k + r) c) ≡ cell t r c) → table_of o (m + k) n new ≡ put_rows i lines t

@@ -1,0 +1,156 @@
+-- The sizes of tables into which rows are put, and from which rows are taken.
+use Rattle.std.proofs.Common.{◌≡◌, ℕ, zero, suc, ◌+◌, ◌*◌, ◌-◌, ◌^◌, ◌<◌, ◌≤◌, List, [], ◌∷◌, ◌++◌, length, get_or, take, drop, replicate, refl, sym, ◌∙◌, ap, subst, arith, append_assoc, length-append, length-drop, ⊎_elim}
+use Rattle.std.specs.List.{slice_get, insert, remove}
+use Rattle.std.proofs.lemmas.List.{length-replicate, get_or-replicate, nil_from_length, take_all, drop_all, append-nil, take-append-drop}
+use Rattle.std.proofs.lemmas.Bool.{cases_eq}
+use Rattle.std.proofs.Math.Nat.{mul-le-mul_right}
+use Rattle.grid_base.specs.Table.{row, rows_of, cols_of, cell, IsTable, IsSize, tabulate}
+use Rattle.grid_base.specs.Sheet.{Fits}
+use Rattle.grid.specs.Edit.{put_rows, take_rows, expanded_rows, prepended_rows}
+use Rattle.grid.proofs.Puts.{cut-put, part-put}
+use Rattle.grid.proofs.Rows.{HasWidth, HasWidth-put, HasWidth-take, rows-put, rows-take, row-put_new}
+
+module _ {T : Type 0} where
+  pub IsTable-width : (t : List (List T)) (n : ℕ) → 0 < n → HasWidth t n → IsTable t
+  IsTable-width t n some h =
+      record {
+          nonempty = λ r lt. omega (arith, h r lt);
+          even = λ r lt. h r lt ∙ sym (h 0 (omega arith))
+      }
+
+  -- the rows of a table have the width that it says, or any if there are none
+  pub HasWidth-table : (t : List (List T)) (n : ℕ) → IsTable t → (0 < rows_of t → cols_of t ≡ n) → HasWidth t n
+  HasWidth-table t n h e r lt = h.even r lt ∙ e (omega arith)
+
+  pub put-no_lines : (i : ℕ) (lines t : List (List T)) → rows_of lines ≡ 0 → put_rows i lines t ≡ t
+  put-no_lines i lines t none =
+      ap (λ v. take i t ++ v ++ drop i t) (nil_from_length lines none)
+      ∙ (ap (λ v. v ++ drop i t) (append-nil (take i t)) ∙ take-append-drop i t)
+
+  -- lines that fit between the rows of a table
+  pub record LinesFit (i : ℕ) (lines t : List (List T)) : Type 0 where
+    pub in_rows : i ≤ rows_of t
+    pub old : IsTable t
+    pub new : IsTable lines
+    pub width : 0 < rows_of t → 0 < rows_of lines → cols_of lines ≡ cols_of t
+
+  module _ (i : ℕ) (lines t : List (List T)) (h : LinesFit i lines t) where
+    widths_by_lines : 0 < rows_of lines → HasWidth (put_rows i lines t) (cols_of lines)
+    widths_by_lines some =
+        HasWidth-put i lines t h.in_rows (cols_of lines) (HasWidth-table t (cols_of lines) h.old (λ e. sym (h.width e some))) h.new.even
+
+    pub cols-put_lines : 0 < rows_of lines → cols_of (put_rows i lines t) ≡ cols_of lines
+    cols-put_lines some = widths_by_lines some 0 (omega (arith, rows-put i lines t h.in_rows))
+
+    pub cols-put : 0 < rows_of t → cols_of (put_rows i lines t) ≡ cols_of t
+    cols-put some =
+        ⊎_elim (λ none. ap cols_of (put-no_lines i lines t none))
+        (λ more. let e : 0 < rows_of lines = omega arith in cols-put_lines e ∙ h.width some e)
+        (cases_eq (rows_of lines) 0)
+
+    pub IsTable-put : IsTable (put_rows i lines t)
+    IsTable-put =
+        ⊎_elim (λ none. subst IsTable (sym (put-no_lines i lines t none)) h.old)
+        (λ more. let e : 0 < rows_of lines = omega arith in IsTable-width (put_rows i lines t) (cols_of lines) (h.new.nonempty 0 e) (widths_by_lines e))
+        (cases_eq (rows_of lines) 0)
+
+  -- the size of a table from which rows are taken
+  module _ (i k : ℕ) (t : List (List T)) (h : IsTable t) (in_rows : i + k ≤ rows_of t) where
+    pub cols-take : k < rows_of t → cols_of (take_rows i k t) ≡ cols_of t
+    cols-take some = HasWidth-take i k t in_rows (cols_of t) h.even 0 (omega (arith, rows-take i k t in_rows))
+
+    pub IsTable-take : IsTable (take_rows i k t)
+    IsTable-take =
+        let wide = HasWidth-take i k t in_rows (cols_of t) h.even in
+        record {
+            nonempty = λ r lt. omega (arith, wide r lt, h.nonempty 0 (omega (arith, rows-take i k t in_rows)));
+            even = λ r lt. wide r lt ∙ sym (wide 0 (omega arith))
+        }
+
+    -- all rows taken
+    pub take_all_rows : k ≡ rows_of t → take_rows i k t ≡ []
+    take_all_rows e = nil_from_length (take_rows i k t) (omega (arith, rows-take i k t in_rows))
+
+  -- k rows of n cells d
+  abbrev pub copies : ℕ → ℕ → T → List (List T)
+  copies k n d = replicate k (replicate n d)
+
+  pub row-copies : (k n : ℕ) (d : T) (r : ℕ) → r < k → row (copies k n d) r ≡ replicate n d
+  row-copies k n d r lt = get_or-replicate k r (replicate n d) [] lt
+
+  pub HasWidth-copies : (k n : ℕ) (d : T) → HasWidth (copies k n d) n
+  HasWidth-copies k n d r lt = ap length (row-copies k n d r (omega (arith, length-replicate k (replicate n d)))) ∙ length-replicate n d
+
+  -- padding puts rows
+  pub expanded-put : (k : ℕ) (d : T) (t : List (List T)) → 0 < rows_of t → expanded_rows k d t ≡ put_rows (rows_of t) (copies k (cols_of t) d) t
+  expanded-put k d [] some = absurd (omega arith)
+  expanded-put k d (r ∷ t) some =
+      let news = copies k (length r) d in
+      let front : take (length (r ∷ t)) (r ∷ t) ≡ r ∷ t = take_all (length (r ∷ t)) (r ∷ t) (omega arith) in
+      let back : drop (length (r ∷ t)) (r ∷ t) ≡ [] = drop_all (length (r ∷ t)) (r ∷ t) (omega arith) in
+      sym (ap (λ v. v ++ news ++ drop (length (r ∷ t)) (r ∷ t)) front ∙ (ap (λ v. (r ∷ t) ++ news ++ v) back ∙ append-nil ((r ∷ t) ++ news)))
+
+  pub prepended-put : (k : ℕ) (d : T) (t : List (List T)) → 0 < rows_of t → prepended_rows k d t ≡ put_rows 0 (copies k (cols_of t) d) t
+  prepended-put k d [] some = absurd (omega arith)
+  prepended-put k d (r ∷ t) some = refl
+
+  module _ (k : ℕ) (d : T) where
+    IsTable-copies : (n : ℕ) → 0 < n → IsTable (copies k n d)
+    IsTable-copies n some = IsTable-width (copies k n d) n some (HasWidth-copies k n d)
+
+    fit_copies : (i : ℕ) (t : List (List T)) → IsTable t → 0 < rows_of t → i ≤ rows_of t → LinesFit i (copies k (cols_of t) d) t
+    fit_copies i t h some le =
+        record {
+            in_rows = le;
+            old = h;
+            new = IsTable-copies (cols_of t) (h.nonempty 0 some);
+            width = λ _ e. HasWidth-copies k (cols_of t) d 0 e
+        }
+
+    pub rows-expanded : (t : List (List T)) → 0 < rows_of t → rows_of (expanded_rows k d t) ≡ rows_of t + k
+    rows-expanded t some =
+        ap length (expanded-put k d t some)
+        ∙ (rows-put (rows_of t) (copies k (cols_of t) d) t (omega arith) ∙ ap (λ x. rows_of t + x) (length-replicate k (replicate (cols_of t) d)))
+
+    pub rows-prepended : (t : List (List T)) → 0 < rows_of t → rows_of (prepended_rows k d t) ≡ rows_of t + k
+    rows-prepended t some =
+        ap length (prepended-put k d t some)
+        ∙ (rows-put 0 (copies k (cols_of t) d) t (omega arith) ∙ ap (λ x. rows_of t + x) (length-replicate k (replicate (cols_of t) d)))
+
+    pub cols-expanded : (t : List (List T)) → cols_of (expanded_rows k d t) ≡ cols_of t
+    cols-expanded [] = refl
+    cols-expanded (r ∷ t) = refl
+
+    pub cols-prepended : (t : List (List T)) → IsTable t → cols_of (prepended_rows k d t) ≡ cols_of t
+    cols-prepended [] h = refl
+    cols-prepended (r ∷ t) h =
+        let some : 0 < rows_of (r ∷ t) = omega arith in
+        ap cols_of (prepended-put k d (r ∷ t) some) ∙ cols-put 0 (copies k (length r) d) (r ∷ t) (fit_copies 0 (r ∷ t) h some (omega arith)) some
+
+    pub IsTable-expanded : (t : List (List T)) → IsTable t → IsTable (expanded_rows k d t)
+    IsTable-expanded [] h = h
+    IsTable-expanded (r ∷ t) h =
+        let some : 0 < rows_of (r ∷ t) = omega arith in
+        let i : ℕ = rows_of (r ∷ t) in
+        subst IsTable (sym (expanded-put k d (r ∷ t) some)) (IsTable-put i (copies k (length r) d) (r ∷ t) (fit_copies i (r ∷ t) h some (omega arith)))
+
+    pub IsTable-prepended : (t : List (List T)) → IsTable t → IsTable (prepended_rows k d t)
+    IsTable-prepended [] h = h
+    IsTable-prepended (r ∷ t) h =
+        let some : 0 < rows_of (r ∷ t) = omega arith in
+        IsTable-put 0 (copies k (length r) d) (r ∷ t) (fit_copies 0 (r ∷ t) h some (omega arith))
+
+-- so many cells fill m rows and n columns
+pub Fits-filled : (m n len : ℕ) → 0 < m → 0 < n → len ≡ m * n → len < 2 ^ 64 → Fits m n len
+Fits-filled m n len rows cols e small =
+    record { cells = e; below = omega arith; size = record { has_cols = λ _. cols; has_rows = λ _. rows } }
+
+-- some of the rows
+pub Fits-fewer : (m n rest len part : ℕ) → Fits m n len → 0 < rest → rest ≤ m → part ≡ rest * n → Fits rest n part
+Fits-fewer m n rest len part h some le e =
+    let less : rest * n ≤ m * n = mul-le-mul_right n le in
+    record { cells = e; below = omega (arith, h.below); size = record { has_cols = λ _. h.size.has_cols (omega arith); has_rows = λ _. some } }
+
+-- the size of a vector is that of one more row, or of one less
+pub Fits-more : (m n k len new : ℕ) → Fits m n len → 0 < m + k → 0 < n → new ≡ len + k * n → new < 2 ^ 64 → Fits (m + k) n new
+Fits-more m n k len new h rows cols e small = Fits-filled (m + k) n new rows cols (omega (arith, h.cells)) small
