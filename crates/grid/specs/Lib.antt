@@ -4,4 +4,5 @@ pub mod Reply
 pub mod Command
 pub mod Run
 pub mod Edit
+pub mod RowGroups
 pub mod Shift

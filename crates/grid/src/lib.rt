@@ -5,12 +5,14 @@
 #![tactic(auto)]
 
 mod command;
+mod edits;
 mod error;
 mod grid;
 pub mod laws;
 mod symmetry;
 
 pub use command::{Command, Reply, RunStopped, run};
+pub use edits::LineRefused;
 pub use error::{GridError, ShapeError};
 pub use grid::Grid;
 pub use grid_base::{Move, Order, Symmetry, Tally, reduce};

@@ -1,0 +1,140 @@
+//! Edits of lines: rows and columns that are put and taken, and padding. All keep the order.
+//!
+//! A row edit sees the vector as lines of cells. A column edit is the row edit between two transposes, which move no
+//! cell.
+ghost use Rattle.std.specs.Prelude.{◌≡◌, ◌↔◌, ◌+◌, ◌-◌, ◌*◌, ◌^◌, ◌<◌, ◌≤◌, length, insert, remove, slice_get, IsTrue, Ok, None, Some, IsErrAnd, OnOk, OnErr, IfOk, IfErr, MatchOption, ⊤, if◌then◌else◌};
+ghost use Rattle.grid_base.specs.Table.{rows_of, cols_of, row, turned, IsTable};
+ghost use Rattle.grid_base.specs.Tally.{counted};
+ghost use Rattle.grid.specs.Edit.{FitsRow, FitsCol, put_col, take_rows, take_cols, put_rows, put_cols, expanded_rows, expanded_cols, prepended_rows, prepended_cols};
+ghost use Rattle.grid.specs.RowGroups.{RowsPut};
+ghost use Rattle.grid.specs.Shift.{delete_rows_shift, delete_cols_shift, expand_rows_shift, expand_cols_shift, prepend_rows_shift, prepend_cols_shift};
+ghost use Rattle.grid.specs.declared.error.GridError.TheVariants.{TooLarge};
+
+use crate::{Grid, GridError};
+use grid_base::{Flat, Order};
+use std::alloc::{AllocError, Allocator, Global};
+
+/// A line that was not put into a grid, and why. The grid is as it was.
+#[derive(Drop)]
+#[derive_where(Debug, PartialEq; T)]
+pub struct LineRefused<T, A: Allocator = Global> {
+    /// The line, unchanged.
+    pub line: Vec<T, A>,
+    /// Why it was refused.
+    pub fault: GridError,
+}
+
+// Whether a grid of so many rows can take one more of this length.
+fn has_room(rows: usize, width: usize) -> bool
+    requires { 0 < width }
+    ensures { IsTrue result ↔ ((rows + 1) * width < 2 ^ 64) }
+{
+    match rows.checked_add(1) {
+        Some(more) => more.checked_mul(width).is_some(),
+        None => false,
+    }
+}
+
+// Puts the rows that stand behind the cells of a table, `count` of them in storage order, before its row `at`.
+fn weave_rows<T, A: Allocator>(flat: &mut Flat<T, A>, order: Order, rows: usize, cols: usize, at: usize, count: usize)
+    requires cells { length flat.old ≡ rows * cols + count * cols }
+    requires fits { rows * cols + count * cols < 2 ^ 64 }
+    requires place { at ≤ rows }
+    ensures { RowsPut order rows cols at count flat.old flat.new }
+{
+    match order {
+        Order::RowMajor => flat.weave(1, rows * cols, at * cols, count * cols),
+        Order::ColumnMajor => flat.weave(cols, rows, at, count),
+    }
+}
+
+impl<T, A: Allocator> Grid<T, A> {
+    /// Puts a row at the end, as [`insert_row`](Grid::insert_row) there.
+    pub fn push_row(&mut self, line: Vec<T, A>) -> Result<(), LineRefused<T, A>>
+        requires nonempty { 0 < length line.items }
+        requires fits { FitsRow self.old.rows (length line.items) }
+        ensures rows { OnOk result (self.new.rows ≡ insert self.old.rows (rows_of self.old.rows) line.items) }
+        ensures order { self.new.order ≡ self.old.order }
+        ensures too_large { IsErrAnd result (λ refused. refused.fault ≡ TooLarge) ↔ (2 ^ 64 ≤ (rows_of self.old.rows + 1) * length line.items) }
+        ensures line { IfErr result (λ refused. refused.line.items ≡ line.items) }
+        ensures err { OnErr result (self.new ≡ self.old) }
+    {
+        let at = self.rows();
+        self.insert_row(at, line)
+    }
+
+    /// Puts a column at the end, as [`insert_col`](Grid::insert_col) there.
+    pub fn push_col(&mut self, line: Vec<T, A>) -> Result<(), LineRefused<T, A>>
+        requires nonempty { 0 < length line.items }
+        requires fits { FitsCol self.old.rows (length line.items) }
+        ensures rows { OnOk result (self.new.rows ≡ put_col (cols_of self.old.rows) line.items self.old.rows) }
+        ensures order { self.new.order ≡ self.old.order }
+        ensures too_large { IsErrAnd result (λ refused. refused.fault ≡ TooLarge) ↔ (2 ^ 64 ≤ (cols_of self.old.rows + 1) * length line.items) }
+        ensures line { IfErr result (λ refused. refused.line.items ≡ line.items) }
+        ensures err { OnErr result (self.new ≡ self.old) }
+    {
+        let at = self.cols();
+        self.insert_col(at, line)
+    }
+
+    /// Puts a row before row `at`, or at the end where `at` is the number of rows.
+    ///
+    /// The line is not empty, and on a nonempty grid its length is the number of columns; on an empty grid it becomes
+    /// the only row. Refused as too large where the cells would pass `usize::MAX`, which is decided first, and for
+    /// memory: then the line comes back, and the grid is as it was. Row-major it moves each cell at most twice,
+    /// column-major at most about log2(columns) times.
+    pub fn insert_row(&mut self, at: usize, line: Vec<T, A>) -> Result<(), LineRefused<T, A>>
+        requires nonempty { 0 < length line.items }
+        requires fits { FitsRow self.old.rows (length line.items) }
+        requires place { at ≤ rows_of self.old.rows }
+        ensures rows { OnOk result (self.new.rows ≡ insert self.old.rows at line.items) }
+        ensures order { self.new.order ≡ self.old.order }
+        ensures too_large { IsErrAnd result (λ refused. refused.fault ≡ TooLarge) ↔ (2 ^ 64 ≤ (rows_of self.old.rows + 1) * length line.items) }
+        ensures line { IfErr result (λ refused. refused.line.items ≡ line.items) }
+        ensures err { OnErr result (self.new ≡ self.old) }
+    {
+        let mut line = line;
+        let width = line.len();
+        if !has_room(self.row_count, width) {
+            return Err(LineRefused {
+                line,
+                fault: GridError::TooLarge,
+            });
+        }
+        match self.flat.append(&mut line) {
+            Ok(()) => {
+                line.destroy_empty();
+                weave_rows(&mut self.flat, self.order, self.row_count, width, at, 1);
+                self.row_count += 1;
+                self.col_count = width;
+                Ok(())
+            }
+            Err(_) => Err(LineRefused {
+                line,
+                fault: GridError::Memory,
+            }),
+        }
+    }
+
+    /// Puts a column before column `at`, or at the end where `at` is the number of columns.
+    ///
+    /// The line is not empty, and on a nonempty grid its length is the number of rows; on an empty grid it becomes the
+    /// only column. Refused as too large where the cells would pass `usize::MAX`, which is decided first, and for
+    /// memory: then the line comes back, and the grid is as it was. Column-major it moves each cell at most twice,
+    /// row-major at most about log2(rows) times.
+    pub fn insert_col(&mut self, at: usize, line: Vec<T, A>) -> Result<(), LineRefused<T, A>>
+        requires nonempty { 0 < length line.items }
+        requires fits { FitsCol self.old.rows (length line.items) }
+        requires place { at ≤ cols_of self.old.rows }
+        ensures rows { OnOk result (self.new.rows ≡ put_col at line.items self.old.rows) }
+        ensures order { self.new.order ≡ self.old.order }
+        ensures too_large { IsErrAnd result (λ refused. refused.fault ≡ TooLarge) ↔ (2 ^ 64 ≤ (cols_of self.old.rows + 1) * length line.items) }
+        ensures line { IfErr result (λ refused. refused.line.items ≡ line.items) }
+        ensures err { OnErr result (self.new ≡ self.old) }
+    {
+        self.transpose();
+        let inserted = self.insert_row(at, line);
+        self.transpose();
+        inserted
+    }
+}
