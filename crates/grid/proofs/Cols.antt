@@ -1,7 +1,7 @@
 -- An edit of columns is the edit of rows of the turned table.
 use Rattle.std.proofs.Common.{◌≡◌, ℕ, zero, suc, ◌+◌, ◌*◌, ◌-◌, ◌<◌, ◌≤◌, Bool, true, false, Option, Some, None, List, [], ◌∷◌, ◌++◌, length, get_or, map, take, drop, filter, replicate, refl, sym, ◌∙◌, ap, subst, arith, append_assoc, length-append, length-drop, ⊎_elim}
 use Rattle.std.specs.List.{slice_get, insert, remove}
-use Rattle.std.proofs.lemmas.List.{length-take-le, length-map, get_or-map, length-replicate, get_or-replicate, nil_from_length, append-nil, take-append-drop, take_at, drop_at}
+use Rattle.std.proofs.lemmas.List.{length-take-le, length-map, get_or-map, length-replicate, get_or-replicate, nil_from_length, append-nil, take-append-drop, take_at, drop_at, take_all, drop_all}
 use Rattle.std.proofs.lemmas.List.Edits.{length-insert}
 use Rattle.std.proofs.lemmas.Option.{slice_get-get_or}
 use Rattle.std.proofs.lemmas.Bool.{cases_lt, cases_eq}
@@ -290,3 +290,93 @@ module _ {T : Type 0} where
     -- columns are taken as rows of the turned table
     pub take_cols-across : take_cols i k t ≡ act Transpose (take_rows i k (act Transpose t))
     take_cols-across = ⊎_elim (λ lt. some_left lt) (λ ge. none_left (omega arith)) (cases_lt k (cols_of t))
+
+  get-replicate : (k : ℕ) (d : T) (j : ℕ) → j < k → slice_get (replicate k d) j ≡ Some d
+  get-replicate zero d j lt = absurd (omega arith)
+  get-replicate (suc k) d zero lt = refl
+  get-replicate (suc k) d (suc j) lt = get-replicate k d j (omega arith)
+
+  map_same : (f g : List T → List T) (t : List (List T)) → ((r : ℕ) → r < length t → f (row t r) ≡ g (row t r)) → map f t ≡ map g t
+  map_same f g [] h = refl
+  map_same f g (x ∷ t) h =
+      let first : f x ≡ g x = h 0 (omega arith) in
+      let rest : map f t ≡ map g t = map_same f g t (λ r lt. h (suc r) (omega arith)) in
+      cc
+
+  module _ (k : ℕ) (d : T) (t : List (List T)) (h : IsTable t) (some : 0 < rows_of t) where
+    -- k cells d put into each row before place i
+    pad_at : (i : ℕ) → i ≤ cols_of t → map (λ r. take i r ++ replicate k d ++ drop i r) t ≡ act Transpose (put_rows i (copies k (rows_of t) d) (act Transpose t))
+    pad_at i le =
+        let u = map (λ r. take i r ++ replicate k d ++ drop i r) t in
+        let v = act Transpose t in
+        let lines = copies k (rows_of t) d in
+        let w = put_rows i lines v in
+        let len : length (replicate k d) ≡ k = length-replicate k d in
+        let rows_lines : rows_of lines ≡ k = length-replicate k (replicate (rows_of t) d) in
+        let rows_u : rows_of u ≡ rows_of t = length-map t (λ r. take i r ++ replicate k d ++ drop i r) in
+        let rows_v : rows_of v ≡ cols_of t = rows-across t h in
+        let table = IsTable-act Transpose t h in
+        let in_v : i ≤ rows_of v = omega arith in
+        let rows_w : rows_of w ≡ rows_of v + rows_of lines = rows-put i lines v in_v in
+        let wide : HasWidth w (rows_of t) = HasWidth-put i lines v in_v (rows_of t) (HasWidth-across t h) (HasWidth-copies k (rows_of t) d) in
+        let first : 0 < cols_of t = h.nonempty 0 some in
+        let cols_w : cols_of w ≡ rows_of t = wide 0 (omega arith) in
+        let at_row : (r : ℕ) → r < rows_of t → row u r ≡ take i (row t r) ++ replicate k d ++ drop i (row t r) = λ r lt. get_or-map (λ r. take i r ++ replicate k d ++ drop i r) t r [] [] lt in
+        across_by_cells u w (IsTable-width w (rows_of t) some wide) (rows_u ∙ sym cols_w)
+        (λ r lt.
+            let l : r < rows_of t = omega arith in
+            ap length (at_row r l) ∙ (length-put (row t r) (replicate k d) i (omega (arith, h.even r l)) ∙ omega (arith, h.even r l)))
+        (λ r lr c lc.
+            let l : r < rows_of t = omega arith in
+            let in_row : i ≤ length (row t r) = omega (arith, h.even r l) in
+            put_cases (λ c. cell u r c ≡ cell w c r) i (cols_of t) k
+            (λ c lt.
+                ap (λ y. slice_get y c) (at_row r l)
+                ∙ (get-put_before (row t r) (replicate k d) i in_row c lt
+                ∙ (sym (cell-across t h c r (omega arith) l) ∙ ap (λ y. slice_get y r) (sym (row-put_before i lines v in_v c lt)))))
+            (λ j lt.
+                ap (λ y. slice_get y (i + j)) (at_row r l)
+                ∙ (get-put_new (row t r) (replicate k d) i in_row j (omega arith)
+                ∙ (get-replicate k d j lt
+                ∙ (sym (get-replicate (rows_of t) d r l)
+                ∙ ap (λ y. slice_get y r) (sym (row-put_new i lines v in_v j (omega arith) ∙ row-copies k (rows_of t) d j lt))))))
+            (λ c ge lt.
+                ap (λ y. slice_get y (k + c)) (at_row r l)
+                ∙ (ap (λ x. slice_get (take i (row t r) ++ replicate k d ++ drop i (row t r)) (x + c)) (sym len)
+                ∙ (get-put_after (row t r) (replicate k d) i in_row c ge
+                ∙ (sym (cell-across t h c r lt l)
+                ∙ (ap (λ y. slice_get y r) (sym (row-put_after i lines v in_v c ge)) ∙ ap (λ x. cell w (x + c) r) rows_lines)))))
+            c (omega arith))
+
+    -- the turned table with copies put as rows
+    copies_across : (i : ℕ) → put_rows i (copies k (cols_of (act Transpose t)) d) (act Transpose t) ≡ put_rows i (copies k (rows_of t) d) (act Transpose t)
+    copies_across i = ap (λ x. put_rows i (copies k x d) (act Transpose t)) (cols-across t h)
+
+    some_across : 0 < rows_of (act Transpose t)
+    some_across = omega (arith, rows-across t h, h.nonempty 0 some)
+
+    expand_at : expanded_cols k d t ≡ act Transpose (expanded_rows k d (act Transpose t))
+    expand_at =
+        let n = cols_of t in
+        map_same (λ r. r ++ replicate k d) (λ r. take n r ++ replicate k d ++ drop n r) t
+        (λ r lt.
+            let front : take n (row t r) ≡ row t r = take_all n (row t r) (omega (arith, h.even r lt)) in
+            let back : drop n (row t r) ≡ [] = drop_all n (row t r) (omega (arith, h.even r lt)) in
+            sym (ap (λ y. y ++ replicate k d ++ drop n (row t r)) front ∙ (ap (λ y. row t r ++ replicate k d ++ y) back ∙ append-nil (row t r ++ replicate k d))))
+        ∙ (pad_at n (omega arith)
+        ∙ ap (act Transpose) (sym (expanded-put k d (act Transpose t) some_across
+            ∙ (copies_across (rows_of (act Transpose t)) ∙ ap (λ i. put_rows i (copies k (rows_of t) d) (act Transpose t)) (rows-across t h)))))
+
+    prepend_at : prepended_cols k d t ≡ act Transpose (prepended_rows k d (act Transpose t))
+    prepend_at =
+        pad_at 0 (omega arith)
+        ∙ ap (act Transpose) (sym (prepended-put k d (act Transpose t) some_across ∙ copies_across 0))
+
+  -- cells at the end or at the beginning of each row are rows of the turned table
+  pub expanded_cols-across : (k : ℕ) (d : T) (t : List (List T)) → IsTable t → expanded_cols k d t ≡ act Transpose (expanded_rows k d (act Transpose t))
+  expanded_cols-across k d [] h = sym (ap (λ v. act Transpose (expanded_rows k d v)) across-none ∙ across-none)
+  expanded_cols-across k d (r ∷ t) h = expand_at k d (r ∷ t) h (omega arith)
+
+  pub prepended_cols-across : (k : ℕ) (d : T) (t : List (List T)) → IsTable t → prepended_cols k d t ≡ act Transpose (prepended_rows k d (act Transpose t))
+  prepended_cols-across k d [] h = sym (ap (λ v. act Transpose (prepended_rows k d v)) across-none ∙ across-none)
+  prepended_cols-across k d (r ∷ t) h = prepend_at k d (r ∷ t) h (omega arith)
