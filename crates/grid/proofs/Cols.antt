@@ -1,21 +1,20 @@
 -- An edit of columns is the edit of rows of the turned table.
-use Rattle.std.proofs.Common.{◌≡◌, ℕ, zero, suc, ◌+◌, ◌*◌, ◌-◌, ◌<◌, ◌≤◌, Bool, true, false, Option, Some, None, List, [], ◌∷◌, ◌++◌, length, get_or, map, take, drop, filter, replicate, refl, sym, ◌∙◌, ap, subst, arith, append_assoc, length-append, length-drop, ⊎_elim}
-use Rattle.std.specs.List.{slice_get, insert, remove}
-use Rattle.std.proofs.lemmas.List.{length-take-le, length-map, get_or-map, length-replicate, get_or-replicate, nil_from_length, append-nil, take-append-drop, take_at, drop_at, take_all, drop_all}
+use Rattle.std.proofs.Common.{◌≡◌, ℕ, zero, suc, ◌+◌, ◌-◌, ◌<◌, ◌≤◌, Some, List, [], ◌∷◌, ◌++◌, length, get_or, map, take, drop, filter, replicate, refl, sym, ◌∙◌, ap, arith, append_assoc, ⊎_elim}
+use Rattle.std.specs.List.{slice_get, insert}
+use Rattle.std.proofs.lemmas.List.{length-take-le, length-map, get_or-map, length-replicate, append-nil, take_at, drop_at, take_all, drop_all}
 use Rattle.std.proofs.lemmas.List.Edits.{length-insert}
 use Rattle.std.proofs.lemmas.Option.{slice_get-get_or}
-use Rattle.std.proofs.lemmas.Bool.{cases_lt, cases_eq}
-use Rattle.grid_base.specs.declared.words.Symmetry.{Symmetry}
+use Rattle.std.proofs.lemmas.Bool.{cases_lt}
 use Rattle.grid_base.specs.declared.words.Symmetry.TheVariants.{Transpose}
-use Rattle.grid_base.specs.Table.{row, rows_of, cols_of, cell, IsTable, IsSize, line, tabulate}
+use Rattle.grid_base.specs.Table.{row, rows_of, cols_of, cell, IsTable, line, tabulate}
 use Rattle.grid_base.specs.Symmetry.{act}
 use Rattle.grid_base.proofs.Tables.{same_tables, row-tabulate, IsSize-table}
 use Rattle.grid_base.proofs.Acts.{rows-act, cols-act, cell-act, IsTable-act}
 use Rattle.grid.specs.Edit.{put_rows, take_rows, put_into_rows, put_col, put_cols, has_cells, take_cols, expanded_rows, prepended_rows, expanded_cols, prepended_cols}
-use Rattle.grid.proofs.Puts.{get-append_left, get-append_right, get-cut_before, get-cut_after, get-put_before, get-put_new, get-put_after, length-put, length-cut, get_or-same, put_cases}
-use Rattle.grid.proofs.Rows.{HasWidth, HasWidth-put, HasWidth-take, rows-put, rows-take, row-put_before, row-put_new, row-put_after, row-take_before, row-take_after}
+use Rattle.grid.proofs.Puts.{get-cut_before, get-cut_after, get-put_before, get-put_new, get-put_after, length-put, length-cut, put_cases}
+use Rattle.grid.proofs.Rows.{HasWidth, HasWidth-put, rows-put, rows-take, row-put_before, row-put_new, row-put_after, row-take_before, row-take_after}
 use Rattle.grid.proofs.EditViews.{IsTable-line}
-use Rattle.grid.proofs.Sizes.{LinesFit, IsTable-put, IsTable-take, put-no_lines, cols-put, cols-put_lines, cols-take, take_all_rows, copies, expanded-put, prepended-put, IsTable-expanded, IsTable-prepended, rows-expanded, rows-prepended, cols-expanded, cols-prepended, HasWidth-copies, row-copies, HasWidth-table, IsTable-width}
+use Rattle.grid.proofs.Sizes.{LinesFit, IsTable-put, IsTable-take, put-no_lines, cols-put_lines, cols-take, take_all_rows, copies, expanded-put, prepended-put, HasWidth-copies, row-copies, IsTable-width}
 
 module _ {T : Type 0} where
   module _ (t : List (List T)) (h : IsTable t) where
@@ -37,16 +36,16 @@ module _ {T : Type 0} where
       same_tables t (act Transpose u) (rows ∙ sym (rows-across u h))
       (λ r lt. widths r lt ∙ sym (HasWidth-across u h r (omega (arith, rows-across u h))))
       (λ r c lt lc.
-          let lr : r < cols_of u = omega arith in
-          let l : c < rows_of u = omega (arith, widths r lt) in
-          cells r lr c l ∙ sym (cell-across u h r c lr l))
+      let lr : r < cols_of u = omega arith in
+      let l : c < rows_of u = omega (arith, widths r lt) in
+      cells r lr c l ∙ sym (cell-across u h r c lr l))
 
   pub across-across : (t : List (List T)) → IsTable t → act Transpose (act Transpose t) ≡ t
   across-across t h =
       let v = act Transpose t in
       sym (across_by_cells t v (IsTable-act Transpose t h) (sym (cols-across t h))
-          (λ r lt. h.even r lt ∙ sym (rows-across t h))
-          (λ r lr c lc. sym (cell-across t h c r (omega (arith, rows-across t h)) (omega (arith, cols-across t h)))))
+      (λ r lt. h.even r lt ∙ sym (rows-across t h))
+      (λ r lr c lc. sym (cell-across t h c r (omega (arith, rows-across t h)) (omega (arith, cols-across t h)))))
 
   pub across-none : ◌≡◌ {A = List (List T)} (act Transpose []) []
   unfolding act tabulate
@@ -100,10 +99,10 @@ module _ {T : Type 0} where
   put_lines i xs t h =
       let rows = rows-across t h.is_table in
       record {
-          in_rows = omega (arith, h.in_cols);
-          old = IsTable-act Transpose t h.is_table;
-          new = IsTable-line xs h.nonempty;
-          width = λ e _. h.height (some_rows t h.is_table (omega arith)) ∙ sym (cols-across t h.is_table)
+        in_rows = omega (arith, h.in_cols);
+        old = IsTable-act Transpose t h.is_table;
+        new = IsTable-line xs h.nonempty;
+        width = λ e _. h.height (some_rows t h.is_table (omega arith)) ∙ sym (cols-across t h.is_table);
       }
 
   only_one : (xs : List T) (d : T) (r j : ℕ) → r < length xs → j < 1 → slice_get (get_or xs r d ∷ []) j ≡ slice_get (row (xs ∷ []) j) r
@@ -122,19 +121,19 @@ module _ {T : Type 0} where
       let in_v : i ≤ rows_of v = omega (arith, h.in_cols) in
       put_cases (λ c. cell (put_col i xs t) r c ≡ cell (put_rows i (xs ∷ []) v) c r) i (cols_of t) 1
       (λ c lt.
-          let some : 0 < rows_of t = some_rows t h.is_table (omega (arith, h.in_cols)) in
-          ap (λ y. slice_get y c) is_row
-          ∙ (get-put_before ys x i le c lt
-          ∙ (sym (cell-across t h.is_table c r (omega (arith, h.in_cols)) (omega (arith, h.height some))) ∙ ap (λ y. slice_get y r) (sym (row-put_before i (xs ∷ []) v in_v c lt)))))
+      let some : 0 < rows_of t = some_rows t h.is_table (omega (arith, h.in_cols)) in
+      ap (λ y. slice_get y c) is_row
+      ∙ (get-put_before ys x i le c lt
+      ∙ (sym (cell-across t h.is_table c r (omega (arith, h.in_cols)) (omega (arith, h.height some))) ∙ ap (λ y. slice_get y r) (sym (row-put_before i (xs ∷ []) v in_v c lt)))))
       (λ j lt.
-          ap (λ y. slice_get y (i + j)) is_row
-          ∙ (get-put_new ys x i le j lt
-          ∙ (only_one xs d r j lr lt ∙ ap (λ y. slice_get y r) (sym (row-put_new i (xs ∷ []) v in_v j lt)))))
+      ap (λ y. slice_get y (i + j)) is_row
+      ∙ (get-put_new ys x i le j lt
+      ∙ (only_one xs d r j lr lt ∙ ap (λ y. slice_get y r) (sym (row-put_new i (xs ∷ []) v in_v j lt)))))
       (λ c ge lt.
-          let some : 0 < rows_of t = some_rows t h.is_table (omega arith) in
-          ap (λ y. slice_get y (1 + c)) is_row
-          ∙ (get-put_after ys x i le c ge
-          ∙ (sym (cell-across t h.is_table c r lt (omega (arith, h.height some))) ∙ ap (λ y. slice_get y r) (sym (row-put_after i (xs ∷ []) v in_v c ge)))))
+      let some : 0 < rows_of t = some_rows t h.is_table (omega arith) in
+      ap (λ y. slice_get y (1 + c)) is_row
+      ∙ (get-put_after ys x i le c ge
+      ∙ (sym (cell-across t h.is_table c r lt (omega (arith, h.height some))) ∙ ap (λ y. slice_get y r) (sym (row-put_after i (xs ∷ []) v in_v c ge)))))
 
   put_col_with : (d : T) (i : ℕ) (xs : List T) (t : List (List T)) → ColumnFits i xs t → put_col i xs t ≡ act Transpose (put_rows i (xs ∷ []) (act Transpose t))
   put_col_with d i xs t h =
@@ -147,9 +146,9 @@ module _ {T : Type 0} where
       let rows_v : rows_of v ≡ cols_of t = rows-across t h.is_table in
       across_by_cells (put_col i xs t) u (IsTable-put i (xs ∷ []) v fit) (length-put_col i xs t h ∙ sym cols_u)
       (λ r lt.
-          let l : r < length xs = omega (arith, length-put_col i xs t h) in
-          let wide : length (row t r) ≡ cols_of t = width_at i xs t h r l in
-          ap length (row-put_col i xs t d r h l) ∙ (length-insert (row t r) i (get_or xs r d) (omega (arith, h.in_cols)) ∙ omega arith))
+      let l : r < length xs = omega (arith, length-put_col i xs t h) in
+      let wide : length (row t r) ≡ cols_of t = width_at i xs t h r l in
+      ap length (row-put_col i xs t d r h l) ∙ (length-insert (row t r) i (get_or xs r d) (omega (arith, h.in_cols)) ∙ omega arith))
       (λ r lr c lc. cell-put_col d i xs t h r (omega arith) c (omega arith))
 
   -- one column put
@@ -168,26 +167,26 @@ module _ {T : Type 0} where
   LinesFit-across i lines t h =
       let rows = rows-across t h.old in
       record {
-          in_rows = omega (arith, h.in_cols);
-          old = IsTable-act Transpose t h.old;
-          new = h.new;
-          width = λ e some. h.height (some_rows t h.old (omega arith)) some ∙ sym (cols-across t h.old)
+        in_rows = omega (arith, h.in_cols);
+        old = IsTable-act Transpose t h.old;
+        new = h.new;
+        width = λ e some. h.height (some_rows t h.old (omega arith)) some ∙ sym (cols-across t h.old);
       }
 
   IsTable-tail : (line : List T) (lines : List (List T)) → IsTable (line ∷ lines) → IsTable lines
   IsTable-tail line lines h =
       record {
-          nonempty = λ r lt. h.nonempty (suc r) (omega arith);
-          even = λ r lt. h.even (suc r) (omega arith) ∙ sym (h.even 1 (omega arith))
+        nonempty = λ r lt. h.nonempty (suc r) (omega arith);
+        even = λ r lt. h.even (suc r) (omega arith) ∙ sym (h.even 1 (omega arith));
       }
 
   ColumnsFit-tail : (i : ℕ) (line : List T) (lines t : List (List T)) → ColumnsFit i (line ∷ lines) t → ColumnsFit i lines t
   ColumnsFit-tail i line lines t h =
       record {
-          in_cols = h.in_cols;
-          old = h.old;
-          new = IsTable-tail line lines h.new;
-          height = λ e some. h.new.even 1 (omega arith) ∙ h.height e (omega arith)
+        in_cols = h.in_cols;
+        old = h.old;
+        new = IsTable-tail line lines h.new;
+        height = λ e some. h.new.even 1 (omega arith) ∙ h.height e (omega arith);
       }
 
   -- one line put before the others is put with them
@@ -208,14 +207,14 @@ module _ {T : Type 0} where
       let fit = LinesFit-across i lines t rest in
       let table = IsTable-put i lines v fit in
       let wide : HasWidth u (length line) =
-          HasWidth-put i lines v fit.in_rows (length line)
-          (λ r lt. HasWidth-across t h.old r lt ∙ sym (h.height (some_rows t h.old (omega (arith, rows-across t h.old))) (omega arith)))
-          (λ j lt. h.new.even (suc j) (omega arith)) in
+      HasWidth-put i lines v fit.in_rows (length line)
+      (λ r lt. HasWidth-across t h.old r lt ∙ sym (h.height (some_rows t h.old (omega (arith, rows-across t h.old))) (omega arith)))
+      (λ j lt. h.new.even (suc j) (omega arith)) in
       record {
-          is_table = IsTable-act Transpose u table;
-          in_cols = omega (arith, cols-across u table, rows-put i lines v fit.in_rows, fit.in_rows);
-          height = λ e. let some : 0 < cols_of u = omega (arith, rows-across u table) in sym (wide 0 (some_rows u table some)) ∙ sym (rows-across u table);
-          nonempty = h.new.nonempty 0 (omega arith)
+        is_table = IsTable-act Transpose u table;
+        in_cols = omega (arith, cols-across u table, rows-put i lines v fit.in_rows, fit.in_rows);
+        height = λ e. let some : 0 < cols_of u = omega (arith, rows-across u table) in sym (wide 0 (some_rows u table some)) ∙ sym (rows-across u table);
+        nonempty = h.new.nonempty 0 (omega arith);
       }
 
   -- columns are put as rows of the turned table
@@ -265,18 +264,18 @@ module _ {T : Type 0} where
         ∙ across_by_cells u w (IsTable-take i k v table in_v) (rows_u ∙ sym cols_w)
         (λ r lt. omega (arith, width_of_cut r (omega arith)))
         (λ r lr c lc.
-            let l : r < rows_of t = omega arith in
-            let le : i ≤ length (row t r) = omega (arith, h.even r l) in
-            ap (λ y. slice_get y c) (row_of_cut r l)
-            ∙ ⊎_elim (λ lt.
-                get-cut_before (row t r) i (i + k) le c lt
-                ∙ (sym (cell-across t h c r (omega arith) l) ∙ ap (λ y. slice_get y r) (sym (row-take_before i k v in_v c lt))))
-            (λ ge.
-                let e : i + k + (c - i) ≡ k + c = omega arith in
-                get-cut_after (row t r) i (i + k) le c (c - i) (omega arith)
-                ∙ (ap (slice_get (row t r)) e
-                ∙ (sym (cell-across t h (k + c) r (omega arith) l) ∙ ap (λ y. slice_get y r) (sym (row-take_after i k v in_v c ge)))))
-            (cases_lt c i))
+        let l : r < rows_of t = omega arith in
+        let le : i ≤ length (row t r) = omega (arith, h.even r l) in
+        ap (λ y. slice_get y c) (row_of_cut r l)
+        ∙ ⊎_elim (λ lt.
+        get-cut_before (row t r) i (i + k) le c lt
+        ∙ (sym (cell-across t h c r (omega arith) l) ∙ ap (λ y. slice_get y r) (sym (row-take_before i k v in_v c lt))))
+        (λ ge.
+        let e : i + k + (c - i) ≡ k + c = omega arith in
+        get-cut_after (row t r) i (i + k) le c (c - i) (omega arith)
+        ∙ (ap (slice_get (row t r)) e
+        ∙ (sym (cell-across t h (k + c) r (omega arith) l) ∙ ap (λ y. slice_get y r) (sym (row-take_after i k v in_v c ge)))))
+        (cases_lt c i))
 
     none_left : k ≡ cols_of t → take_cols i k t ≡ act Transpose (take_rows i k (act Transpose t))
     none_left all =
@@ -324,29 +323,29 @@ module _ {T : Type 0} where
         let at_row : (r : ℕ) → r < rows_of t → row u r ≡ take i (row t r) ++ replicate k d ++ drop i (row t r) = λ r lt. get_or-map (λ r. take i r ++ replicate k d ++ drop i r) t r [] [] lt in
         across_by_cells u w (IsTable-width w (rows_of t) some wide) (rows_u ∙ sym cols_w)
         (λ r lt.
-            let l : r < rows_of t = omega arith in
-            ap length (at_row r l) ∙ (length-put (row t r) (replicate k d) i (omega (arith, h.even r l)) ∙ omega (arith, h.even r l)))
+        let l : r < rows_of t = omega arith in
+        ap length (at_row r l) ∙ (length-put (row t r) (replicate k d) i (omega (arith, h.even r l)) ∙ omega (arith, h.even r l)))
         (λ r lr c lc.
-            let l : r < rows_of t = omega arith in
-            let in_row : i ≤ length (row t r) = omega (arith, h.even r l) in
-            put_cases (λ c. cell u r c ≡ cell w c r) i (cols_of t) k
-            (λ c lt.
-                ap (λ y. slice_get y c) (at_row r l)
-                ∙ (get-put_before (row t r) (replicate k d) i in_row c lt
-                ∙ (sym (cell-across t h c r (omega arith) l) ∙ ap (λ y. slice_get y r) (sym (row-put_before i lines v in_v c lt)))))
-            (λ j lt.
-                ap (λ y. slice_get y (i + j)) (at_row r l)
-                ∙ (get-put_new (row t r) (replicate k d) i in_row j (omega arith)
-                ∙ (get-replicate k d j lt
-                ∙ (sym (get-replicate (rows_of t) d r l)
-                ∙ ap (λ y. slice_get y r) (sym (row-put_new i lines v in_v j (omega arith) ∙ row-copies k (rows_of t) d j lt))))))
-            (λ c ge lt.
-                ap (λ y. slice_get y (k + c)) (at_row r l)
-                ∙ (ap (λ x. slice_get (take i (row t r) ++ replicate k d ++ drop i (row t r)) (x + c)) (sym len)
-                ∙ (get-put_after (row t r) (replicate k d) i in_row c ge
-                ∙ (sym (cell-across t h c r lt l)
-                ∙ (ap (λ y. slice_get y r) (sym (row-put_after i lines v in_v c ge)) ∙ ap (λ x. cell w (x + c) r) rows_lines)))))
-            c (omega arith))
+        let l : r < rows_of t = omega arith in
+        let in_row : i ≤ length (row t r) = omega (arith, h.even r l) in
+        put_cases (λ c. cell u r c ≡ cell w c r) i (cols_of t) k
+        (λ c lt.
+        ap (λ y. slice_get y c) (at_row r l)
+        ∙ (get-put_before (row t r) (replicate k d) i in_row c lt
+        ∙ (sym (cell-across t h c r (omega arith) l) ∙ ap (λ y. slice_get y r) (sym (row-put_before i lines v in_v c lt)))))
+        (λ j lt.
+        ap (λ y. slice_get y (i + j)) (at_row r l)
+        ∙ (get-put_new (row t r) (replicate k d) i in_row j (omega arith)
+        ∙ (get-replicate k d j lt
+        ∙ (sym (get-replicate (rows_of t) d r l)
+        ∙ ap (λ y. slice_get y r) (sym (row-put_new i lines v in_v j (omega arith) ∙ row-copies k (rows_of t) d j lt))))))
+        (λ c ge lt.
+        ap (λ y. slice_get y (k + c)) (at_row r l)
+        ∙ (ap (λ x. slice_get (take i (row t r) ++ replicate k d ++ drop i (row t r)) (x + c)) (sym len)
+        ∙ (get-put_after (row t r) (replicate k d) i in_row c ge
+        ∙ (sym (cell-across t h c r lt l)
+        ∙ (ap (λ y. slice_get y r) (sym (row-put_after i lines v in_v c ge)) ∙ ap (λ x. cell w (x + c) r) rows_lines)))))
+        c (omega arith))
 
     -- the turned table with copies put as rows
     copies_across : (i : ℕ) → put_rows i (copies k (cols_of (act Transpose t)) d) (act Transpose t) ≡ put_rows i (copies k (rows_of t) d) (act Transpose t)
@@ -360,12 +359,12 @@ module _ {T : Type 0} where
         let n = cols_of t in
         map_same (λ r. r ++ replicate k d) (λ r. take n r ++ replicate k d ++ drop n r) t
         (λ r lt.
-            let front : take n (row t r) ≡ row t r = take_all n (row t r) (omega (arith, h.even r lt)) in
-            let back : drop n (row t r) ≡ [] = drop_all n (row t r) (omega (arith, h.even r lt)) in
-            sym (ap (λ y. y ++ replicate k d ++ drop n (row t r)) front ∙ (ap (λ y. row t r ++ replicate k d ++ y) back ∙ append-nil (row t r ++ replicate k d))))
+        let front : take n (row t r) ≡ row t r = take_all n (row t r) (omega (arith, h.even r lt)) in
+        let back : drop n (row t r) ≡ [] = drop_all n (row t r) (omega (arith, h.even r lt)) in
+        sym (ap (λ y. y ++ replicate k d ++ drop n (row t r)) front ∙ (ap (λ y. row t r ++ replicate k d ++ y) back ∙ append-nil (row t r ++ replicate k d))))
         ∙ (pad_at n (omega arith)
         ∙ ap (act Transpose) (sym (expanded-put k d (act Transpose t) some_across
-            ∙ (copies_across (rows_of (act Transpose t)) ∙ ap (λ i. put_rows i (copies k (rows_of t) d) (act Transpose t)) (rows-across t h)))))
+        ∙ (copies_across (rows_of (act Transpose t)) ∙ ap (λ i. put_rows i (copies k (rows_of t) d) (act Transpose t)) (rows-across t h)))))
 
     prepend_at : prepended_cols k d t ≡ act Transpose (prepended_rows k d (act Transpose t))
     prepend_at =

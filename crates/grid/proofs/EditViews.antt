@@ -1,13 +1,13 @@
 -- What an edit of the vector by groups of cells does to the rows of its table.
-use Rattle.std.proofs.Common.{◌≡◌, ℕ, zero, suc, ◌+◌, ◌*◌, ◌-◌, ◌<◌, ◌≤◌, Option, Some, None, List, [], ◌∷◌, ◌++◌, length, get_or, take, drop, refl, sym, ◌∙◌, ap, subst, arith, append_assoc, length-append, length-drop}
+use Rattle.std.proofs.Common.{◌≡◌, ℕ, zero, suc, ◌+◌, ◌*◌, ◌<◌, ◌≤◌, List, [], ◌∷◌, ◌++◌, length, take, drop, refl, sym, ◌∙◌, ap, subst, arith, append_assoc, length-drop}
 use Rattle.std.specs.List.{slice_get, insert, remove}
 use Rattle.std.proofs.lemmas.List.{length-take-le, drop_more}
 use Rattle.grid_base.specs.declared.flat.order.Order.{Order}
 use Rattle.grid_base.specs.declared.flat.order.Order.TheVariants.{RowMajor, ColumnMajor}
-use Rattle.grid_base.specs.Table.{row, rows_of, cols_of, cell, IsTable, IsSize, tabulate}
+use Rattle.grid_base.specs.Table.{row, rows_of, cols_of, cell, IsTable, tabulate}
 use Rattle.grid_base.specs.Order.{storage, place, table_of}
 use Rattle.grid_base.specs.Lines.{Widened, Woven, Opened, Closed}
-use Rattle.grid_base.proofs.Tables.{rows-tabulate, cell-tabulate, width-tabulate, same_cells, IsFull}
+use Rattle.grid_base.proofs.Tables.{rows-tabulate, cell-tabulate, width-tabulate, same_cells}
 use Rattle.grid_base.proofs.Stores.{length-storage, get-storage, IsFull-table_of, place_within, has_place}
 use Rattle.grid.specs.Edit.{put_rows, take_rows}
 use Rattle.grid.proofs.Puts.{get-append_left, get-append_right, get-take, get-drop, get_or-same}
@@ -29,6 +29,7 @@ module _ {T : Type 0} where
       inside : (r : ℕ) → r < 1 → 0 < length (row (line ∷ []) r)
       inside zero lt = some
       inside (suc r) lt = absurd (omega arith)
+
       same : (r : ℕ) → r < 1 → length (row (line ∷ []) r) ≡ length line
       same zero lt = refl
       same (suc r) lt = absurd (omega arith)
@@ -45,7 +46,7 @@ module _ {T : Type 0} where
       let len : length (storage o (line ∷ [])) ≡ 1 * length line = length-storage o (line ∷ []) h in
       same_cells (storage o (line ∷ [])) line (omega arith)
       (λ c lt. ap (slice_get (storage o (line ∷ []))) (sym (place_of_line o (length line) c))
-          ∙ get-storage_at o 1 (length line) (line ∷ []) 0 c h refl refl (omega arith) (omega arith))
+      ∙ get-storage_at o 1 (length line) (line ∷ []) 0 c h refl refl (omega arith) (omega arith))
 
   pub put_line : (i : ℕ) (line : List T) (t : List (List T)) → put_rows i (line ∷ []) t ≡ insert t i line
   put_line i line t = append_assoc (take i t) (line ∷ []) (drop i t)
@@ -71,11 +72,11 @@ module _ {T : Type 0} where
         let wide = rows_widened o m n i k p q a g (cells ++ behind) new e w.lines in
         table-put o m n i k (table_of o m n cells) lines new rows-cut width-cut em (λ j lt. h.even j (omega arith) ∙ en) le
         (λ r c lr lm lc. wide.before r c lr lm lc
-            ∙ (get-append_left cells behind (place o m n r c) (omega (arith, len, place_within o m n r c lm lc)) ∙ cell-cut r c lm lc))
+        ∙ (get-append_left cells behind (place o m n r c) (omega (arith, len, place_within o m n r c lm lc)) ∙ cell-cut r c lm lc))
         (λ j c lj lc. rows_woven o m n i k p q a g (cells ++ behind) new e w j c lj lc
-            ∙ (get-append_right cells behind (m * n + place o k n j c) (place o k n j c) (omega (arith, len)) ∙ get-storage_at o k n lines j c h em en lj lc))
+        ∙ (get-append_right cells behind (m * n + place o k n j c) (place o k n j c) (omega (arith, len)) ∙ get-storage_at o k n lines j c h em en lj lc))
         (λ r c ge lm lc. wide.after r c ge lm lc
-            ∙ (get-append_left cells behind (place o m n r c) (omega (arith, len, place_within o m n r c lm lc)) ∙ cell-cut r c lm lc))
+        ∙ (get-append_left cells behind (place o m n r c) (omega (arith, len, place_within o m n r c lm lc)) ∙ cell-cut r c lm lc))
 
     -- the same of one row
     pub view-insert_row : (i p q a g : ℕ) (line new : List T) → RowGroups o m n i 1 p q a g → 0 < n → length line ≡ n → i ≤ m → Woven p q a g (cells ++ line) new → table_of o (m + 1) n new ≡ insert (table_of o m n cells) i line
@@ -91,9 +92,9 @@ module _ {T : Type 0} where
     cut_from new wide kept same =
         table-take o (rest + k) n i k rest (table_of o (rest + k) n old) kept refl (rows-cut o (rest + k) n old len) (width-cut o (rest + k) n old len) (omega arith)
         (λ r c lr lt lc. same (place o rest n r c) (place_within o rest n r c lt lc)
-            ∙ (sym (wide.before r c lr lt lc) ∙ cell-cut o (rest + k) n old len r c (omega arith) lc))
+        ∙ (sym (wide.before r c lr lt lc) ∙ cell-cut o (rest + k) n old len r c (omega arith) lc))
         (λ r c ge lt lc. same (place o rest n r c) (place_within o rest n r c lt lc)
-            ∙ (sym (wide.after r c ge lt lc) ∙ cell-cut o (rest + k) n old len (k + r) c (omega arith) lc))
+        ∙ (sym (wide.after r c ge lt lc) ∙ cell-cut o (rest + k) n old len (k + r) c (omega arith) lc))
 
     -- the rows that are taken
     rows-part : rows_of (take k (drop i (table_of o (rest + k) n old))) ≡ k
@@ -112,8 +113,8 @@ module _ {T : Type 0} where
     table-part : 0 < n → IsTable (take k (drop i (table_of o (rest + k) n old)))
     table-part some =
         record {
-            nonempty = λ j lt. omega (arith, width-part j (omega (arith, rows-part)));
-            even = λ j lt. width-part j (omega (arith, rows-part)) ∙ sym (width-part 0 (omega (arith, rows-part)))
+          nonempty = λ j lt. omega (arith, width-part j (omega (arith, rows-part)));
+          even = λ j lt. width-part j (omega (arith, rows-part)) ∙ sym (width-part 0 (omega (arith, rows-part)));
         }
 
     cols-part : 0 < k → cols_of (take k (drop i (table_of o (rest + k) n old))) ≡ n
@@ -129,13 +130,13 @@ module _ {T : Type 0} where
         let behind : length (drop (rest * n) after) ≡ k * n = omega (arith, length-drop (rest * n) after, w.lengths, len) in
         same_cells (drop (rest * n) after) (storage o lines) (omega arith)
         (λ x lt.
-            let f = has_place o k n x (omega arith) in
-            get-drop (rest * n) after (rest * n + x) x refl
-            ∙ (ap (λ y. slice_get after (rest * n + y)) (sym f.is)
-            ∙ (sym (rows_woven o rest n i k p q a g after old e w f.r f.c f.lr f.lc)
-            ∙ (cell-cut o (rest + k) n old len (i + f.r) f.c (omega (arith, f.lr)) f.lc
-            ∙ (ap (λ v. slice_get v f.c) (sym (row-part f.r f.lr))
-            ∙ (sym (get-storage_at o k n lines f.r f.c h rows-part (cols-part some) f.lr f.lc) ∙ ap (slice_get (storage o lines)) f.is))))))
+        let f = has_place o k n x (omega arith) in
+        get-drop (rest * n) after (rest * n + x) x refl
+        ∙ (ap (λ y. slice_get after (rest * n + y)) (sym f.is)
+        ∙ (sym (rows_woven o rest n i k p q a g after old e w f.r f.c f.lr f.lc)
+        ∙ (cell-cut o (rest + k) n old len (i + f.r) f.c (omega (arith, f.lr)) f.lc
+        ∙ (ap (λ v. slice_get v f.c) (sym (row-part f.r f.lr))
+        ∙ (sym (get-storage_at o k n lines f.r f.c h rows-part (cols-part some) f.lr f.lc) ∙ ap (slice_get (storage o lines)) f.is))))))
 
   -- taking k rows from row i on of a table of m rows
   module _ (o : Order) (m n i k rest : ℕ) (old : List T) (size : rest + k ≡ m) (len : length old ≡ m * n) (le : i + k ≤ m) where
@@ -192,40 +193,40 @@ module _ {T : Type 0} (q k : ℕ) (cells : List T) where
   at_end : Widened 1 q q k cells cells
   at_end =
       record {
-          before = λ l j ll lj li. let z : l ≡ 0 = omega arith in rw z (let e : 0 * (q + k) + j ≡ 0 * q + j = omega arith in ap (slice_get cells) e);
-          after = λ l j ll lj le. absurd (omega arith)
+        before = λ l j ll lj li. let z : l ≡ 0 = omega arith in rw z (let e : 0 * (q + k) + j ≡ 0 * q + j = omega arith in ap (slice_get cells) e);
+        after = λ l j ll lj le. absurd (omega arith);
       }
 
   pub woven_at_end : Woven 1 q q k cells cells
   woven_at_end =
       record {
-          lengths = refl;
-          lines = at_end;
-          groups = λ l j ll lj. let z : l ≡ 0 = omega arith in rw z (let e : 0 * (q + k) + (q + j) ≡ 1 * q + (0 * k + j) = omega arith in ap (slice_get cells) e)
+        lengths = refl;
+        lines = at_end;
+        groups = λ l j ll lj. let z : l ≡ 0 = omega arith in rw z (let e : 0 * (q + k) + (q + j) ≡ 1 * q + (0 * k + j) = omega arith in ap (slice_get cells) e);
       }
 
   pub opened_at_end : length cells ≡ q + k → Opened 1 q q k cells cells
   opened_at_end len =
       record {
-          lengths = refl;
-          lines = at_end;
-          groups = λ l j ll lj.
-              let z : l ≡ 0 = omega arith in
-              let e : l * (q + k) + (q + j) ≡ q + j = rw z (omega arith) in
-              (q + j, omega arith, omega arith, ap (slice_get cells) e)
+        lengths = refl;
+        lines = at_end;
+        groups = λ l j ll lj.
+            let z : l ≡ 0 = omega arith in
+            let e : l * (q + k) + (q + j) ≡ q + j = rw z (omega arith) in
+            (q + j, omega arith, omega arith, ap (slice_get cells) e);
       }
 
   pub closed_at_end : q ≤ length cells → Closed 1 q q k (take q cells) cells
   closed_at_end le =
       record {
-          lengths = length-take-le q cells le ∙ omega arith;
-          lines =
-              record {
-                  before = λ l j ll lj li.
-                      let z : l ≡ 0 = omega arith in
-                      let e : l * (q + k) + j ≡ j = rw z (omega arith) in
-                      let f : j ≡ l * q + j = rw z (omega arith) in
-                      ap (slice_get cells) e ∙ (sym (get-take q cells j lj) ∙ ap (slice_get (take q cells)) f);
-                  after = λ l j ll lj le. absurd (omega arith)
-              }
+        lengths = length-take-le q cells le ∙ omega arith;
+        lines =
+            record {
+              before = λ l j ll lj li.
+                  let z : l ≡ 0 = omega arith in
+                  let e : l * (q + k) + j ≡ j = rw z (omega arith) in
+                  let f : j ≡ l * q + j = rw z (omega arith) in
+                  ap (slice_get cells) e ∙ (sym (get-take q cells j lj) ∙ ap (slice_get (take q cells)) f);
+              after = λ l j ll lj le. absurd (omega arith);
+            };
       }

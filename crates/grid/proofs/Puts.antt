@@ -1,5 +1,5 @@
 -- Lists into which a part is put, and from which a part is taken.
-use Rattle.std.proofs.Common.{◌≡◌, ℕ, zero, suc, ◌+◌, ◌-◌, ◌<◌, ◌≤◌, Option, Some, None, List, [], ◌∷◌, ◌++◌, length, get_or, take, drop, unwrap_or, refl, sym, ◌∙◌, ap, subst, arith, append_assoc, length-append, length-drop, ⊎_elim}
+use Rattle.std.proofs.Common.{◌≡◌, ℕ, zero, suc, ◌+◌, ◌-◌, ◌<◌, ◌≤◌, List, [], ◌∷◌, ◌++◌, length, get_or, take, drop, unwrap_or, refl, sym, ◌∙◌, ap, subst, arith, append_assoc, length-append, length-drop, ⊎_elim}
 use Rattle.std.specs.List.{slice_get}
 use Rattle.std.proofs.lemmas.List.{length-take-le, take_at, drop_at, take-append-drop}
 use Rattle.std.proofs.lemmas.Option.{unwrap_or-slice_get}
@@ -83,6 +83,6 @@ pub put_cases : (P : ℕ → Type 0) (i m k : ℕ) → ((r : ℕ) → r < i → 
 put_cases P i m k before new after r lt =
     ⊎_elim (λ l. before r l)
     (λ ge. ⊎_elim (λ l. let e : i + (r - i) ≡ r = omega arith in subst P e (new (r - i) (omega arith)))
-        (λ le. let e : k + (r - k) ≡ r = omega arith in subst P e (after (r - k) (omega arith) (omega arith)))
-        (cases_lt r (i + k)))
+    (λ le. let e : k + (r - k) ≡ r = omega arith in subst P e (after (r - k) (omega arith) (omega arith)))
+    (cases_lt r (i + k)))
     (cases_lt r i)

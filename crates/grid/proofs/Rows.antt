@@ -1,18 +1,17 @@
 -- Rows put into a table and taken out of it, and what the storage has then.
-use Rattle.std.proofs.Common.{◌≡◌, ℕ, zero, suc, ◌+◌, ◌*◌, ◌-◌, ◌<◌, ◌≤◌, Option, Some, None, List, [], ◌∷◌, ◌++◌, length, get_or, take, drop, refl, sym, ◌∙◌, ap, subst, arith, is_some, ⊎_elim, length-drop}
+use Rattle.std.proofs.Common.{◌≡◌, ℕ, ◌+◌, ◌*◌, ◌-◌, ◌<◌, ◌≤◌, Option, List, [], length, refl, sym, ◌∙◌, ap, subst, arith, is_some, ⊎_elim}
 use Rattle.std.specs.List.{slice_get}
 use Rattle.std.proofs.lemmas.Nat.{mul-add-lt}
 use Rattle.std.proofs.lemmas.Bool.{cases_lt}
 use Rattle.std.proofs.Math.Nat.{mul-le-mul_right}
 use Rattle.grid_base.specs.declared.flat.order.Order.{Order}
 use Rattle.grid_base.specs.declared.flat.order.Order.TheVariants.{RowMajor, ColumnMajor}
-use Rattle.grid_base.specs.Table.{row, rows_of, cols_of, cell, IsTable, IsSize, tabulate}
-use Rattle.grid_base.specs.Order.{storage, place, table_of}
-use Rattle.grid_base.specs.Lines.{Widened, Woven, Opened, Closed}
+use Rattle.grid_base.specs.Table.{row, rows_of, cell, tabulate}
+use Rattle.grid_base.specs.Order.{place, table_of}
+use Rattle.grid_base.specs.Lines.{Widened, Woven, Opened}
 use Rattle.grid_base.proofs.Tables.{rows-tabulate, cell-tabulate, width-tabulate, same_tables, IsFull, IsSome_within}
-use Rattle.grid_base.proofs.Stores.{get-storage, IsFull-table_of, place_within}
 use Rattle.grid.specs.Edit.{put_rows, take_rows}
-use Rattle.grid.proofs.Puts.{get-append_left, get-append_right, get-take, get-cut_before, get-cut_after, get-put_before, get-put_new, get-put_after, length-put, length-cut, get_or-same, put_cases}
+use Rattle.grid.proofs.Puts.{get-cut_before, get-cut_after, get-put_before, get-put_new, get-put_after, length-put, length-cut, get_or-same, put_cases}
 
 -- k rows before row i of a table of m rows and n columns are a group of g cells before place a of each of p lines of q cells
 abbrev pub RowGroups : Order → (m n i k p q a g : ℕ) → Type 0
@@ -36,19 +35,19 @@ module _ {T : Type 0} where
   widened_by_rows : (m n i k : ℕ) (short long : List T) → Widened 1 (m * n) (i * n) (k * n) short long → RowsWidened RowMajor m n i k short long
   widened_by_rows m n i k short long h =
       record {
-          before = λ r c lr lm lc.
-              moved long short (0 * (m * n + k * n) + (r * n + c)) (0 * (m * n) + (r * n + c)) (r * n + c) (r * n + c) (omega arith) (omega arith)
-              (h.before 0 (r * n + c) (omega arith) (omega (arith, mul-add-lt r n c m lm lc)) (omega (arith, mul-add-lt r n c i lr lc)));
-          after = λ r c le lm lc.
-              moved long short (0 * (m * n + k * n) + (k * n + (r * n + c))) (0 * (m * n) + (r * n + c)) ((k + r) * n + c) (r * n + c) (omega arith) (omega arith)
-              (h.after 0 (r * n + c) (omega arith) (omega (arith, mul-add-lt r n c m lm lc)) (omega (arith, mul-le-mul_right n le)))
+        before = λ r c lr lm lc.
+            moved long short (0 * (m * n + k * n) + (r * n + c)) (0 * (m * n) + (r * n + c)) (r * n + c) (r * n + c) (omega arith) (omega arith)
+            (h.before 0 (r * n + c) (omega arith) (omega (arith, mul-add-lt r n c m lm lc)) (omega (arith, mul-add-lt r n c i lr lc)));
+        after = λ r c le lm lc.
+            moved long short (0 * (m * n + k * n) + (k * n + (r * n + c))) (0 * (m * n) + (r * n + c)) ((k + r) * n + c) (r * n + c) (omega arith) (omega arith)
+            (h.after 0 (r * n + c) (omega arith) (omega (arith, mul-add-lt r n c m lm lc)) (omega (arith, mul-le-mul_right n le)));
       }
 
   widened_by_cols : (m n i k : ℕ) (short long : List T) → Widened n m i k short long → RowsWidened ColumnMajor m n i k short long
   widened_by_cols m n i k short long h =
       record {
-          before = λ r c lr lm lc. h.before c r lc lm lr;
-          after = λ r c le lm lc. h.after c r lc lm le
+        before = λ r c lr lm lc. h.before c r lc lm lr;
+        after = λ r c le lm lc. h.after c r lc lm le;
       }
 
   pub rows_widened : (o : Order) (m n i k p q a g : ℕ) (short long : List T) → RowGroups o m n i k p q a g → Widened p q a g short long → RowsWidened o m n i k short long
@@ -92,9 +91,9 @@ module _ {T : Type 0} where
       same_tables (tabulate m n f) u (len ∙ sym rows)
       (λ r lt. let l : r < m = omega (arith, len) in width-tabulate m n f r full l ∙ sym (widths r l))
       (λ r c lt lc.
-          let l : r < m = omega (arith, len) in
-          let k : c < n = omega (arith, width-tabulate m n f r full l) in
-          cell-tabulate m n f r c full l k ∙ cells r l c k)
+      let l : r < m = omega (arith, len) in
+      let k : c < n = omega (arith, width-tabulate m n f r full l) in
+      cell-tabulate m n f r c full l k ∙ cells r l c k)
 
   -- the rows of a table into which lines are put
   module _ (i : ℕ) (lines t : List (List T)) (in_rows : i ≤ rows_of t) where
@@ -151,10 +150,10 @@ module _ {T : Type 0} where
       table_by_cells o (m + k) n new (put_rows i lines t) (omega (arith, rows-put i lines t in_rows))
       (λ r lt. widths r (omega arith))
       (put_cases (λ r. (c : ℕ) → c < n → slice_get new (place o (m + k) n r c) ≡ cell (put_rows i lines t) r c) i m k
-          (λ r lt c lc. before r c lt (omega arith) lc ∙ ap (λ x. slice_get x c) (sym (row-put_before i lines t in_rows r lt)))
-          (λ j lt c lc. within j c lt lc ∙ ap (λ x. slice_get x c) (sym (row-put_new i lines t in_rows j (omega arith))))
-          (λ r ge lt c lc. after r c ge lt lc
-              ∙ (ap (λ x. slice_get x c) (sym (row-put_after i lines t in_rows r ge)) ∙ ap (λ x. cell (put_rows i lines t) (x + r) c) ek)))
+      (λ r lt c lc. before r c lt (omega arith) lc ∙ ap (λ x. slice_get x c) (sym (row-put_before i lines t in_rows r lt)))
+      (λ j lt c lc. within j c lt lc ∙ ap (λ x. slice_get x c) (sym (row-put_new i lines t in_rows j (omega arith))))
+      (λ r ge lt c lc. after r c ge lt lc
+      ∙ (ap (λ x. slice_get x c) (sym (row-put_after i lines t in_rows r ge)) ∙ ap (λ x. cell (put_rows i lines t) (x + r) c) ek)))
 
   -- a vector with the cells of a table but for the rows that are taken
   pub table-take : (o : Order) (m n i k rest : ℕ) (t : List (List T)) (new : List T) → rest + k ≡ m → rows_of t ≡ m → ((r : ℕ) → r < m → length (row t r) ≡ n) → i + k ≤ m → ((r c : ℕ) → r < i → r < rest → c < n → slice_get new (place o rest n r c) ≡ cell t r c) → ((r c : ℕ) → i ≤ r → r < rest → c < n → slice_get new (place o rest n r c) ≡ cell t (k + r) c) → table_of o rest n new ≡ take_rows i k t
@@ -163,6 +162,6 @@ module _ {T : Type 0} where
       table_by_cells o rest n new (take_rows i k t) (omega (arith, rows-take i k t in_rows))
       (λ r lt. widths-take i k t in_rows n (λ r lt. olds r (omega arith)) r (omega arith))
       (λ r lt c lc.
-          ⊎_elim (λ l. before r c l lt lc ∙ ap (λ x. slice_get x c) (sym (row-take_before i k t in_rows r l)))
-          (λ ge. after r c ge lt lc ∙ ap (λ x. slice_get x c) (sym (row-take_after i k t in_rows r ge)))
-          (cases_lt r i))
+      ⊎_elim (λ l. before r c l lt lc ∙ ap (λ x. slice_get x c) (sym (row-take_before i k t in_rows r l)))
+      (λ ge. after r c ge lt lc ∙ ap (λ x. slice_get x c) (sym (row-take_after i k t in_rows r ge)))
+      (cases_lt r i))

@@ -1,21 +1,19 @@
 -- The sizes of tables into which rows are put, and from which rows are taken.
-use Rattle.std.proofs.Common.{◌≡◌, ℕ, zero, suc, ◌+◌, ◌*◌, ◌-◌, ◌^◌, ◌<◌, ◌≤◌, List, [], ◌∷◌, ◌++◌, length, get_or, take, drop, replicate, refl, sym, ◌∙◌, ap, subst, arith, append_assoc, length-append, length-drop, ⊎_elim}
-use Rattle.std.specs.List.{slice_get, insert, remove}
+use Rattle.std.proofs.Common.{◌≡◌, ℕ, ◌+◌, ◌*◌, ◌^◌, ◌<◌, ◌≤◌, List, [], ◌∷◌, ◌++◌, length, take, drop, replicate, refl, sym, ◌∙◌, ap, subst, arith, ⊎_elim}
 use Rattle.std.proofs.lemmas.List.{length-replicate, get_or-replicate, nil_from_length, take_all, drop_all, append-nil, take-append-drop}
 use Rattle.std.proofs.lemmas.Bool.{cases_eq}
 use Rattle.std.proofs.Math.Nat.{mul-le-mul_right}
-use Rattle.grid_base.specs.Table.{row, rows_of, cols_of, cell, IsTable, IsSize, tabulate}
+use Rattle.grid_base.specs.Table.{row, rows_of, cols_of, IsTable}
 use Rattle.grid_base.specs.Sheet.{Fits}
 use Rattle.grid.specs.Edit.{put_rows, take_rows, expanded_rows, prepended_rows}
-use Rattle.grid.proofs.Puts.{cut-put, part-put}
-use Rattle.grid.proofs.Rows.{HasWidth, HasWidth-put, HasWidth-take, rows-put, rows-take, row-put_new}
+use Rattle.grid.proofs.Rows.{HasWidth, HasWidth-put, HasWidth-take, rows-put, rows-take}
 
 module _ {T : Type 0} where
   pub IsTable-width : (t : List (List T)) (n : ℕ) → 0 < n → HasWidth t n → IsTable t
   IsTable-width t n some h =
       record {
-          nonempty = λ r lt. omega (arith, h r lt);
-          even = λ r lt. h r lt ∙ sym (h 0 (omega arith))
+        nonempty = λ r lt. omega (arith, h r lt);
+        even = λ r lt. h r lt ∙ sym (h 0 (omega arith));
       }
 
   -- the rows of a table have the width that it says, or any if there are none
@@ -63,8 +61,8 @@ module _ {T : Type 0} where
     IsTable-take =
         let wide = HasWidth-take i k t in_rows (cols_of t) h.even in
         record {
-            nonempty = λ r lt. omega (arith, wide r lt, h.nonempty 0 (omega (arith, rows-take i k t in_rows)));
-            even = λ r lt. wide r lt ∙ sym (wide 0 (omega arith))
+          nonempty = λ r lt. omega (arith, wide r lt, h.nonempty 0 (omega (arith, rows-take i k t in_rows)));
+          even = λ r lt. wide r lt ∙ sym (wide 0 (omega arith));
         }
 
     -- all rows taken
@@ -101,10 +99,10 @@ module _ {T : Type 0} where
     fit_copies : (i : ℕ) (t : List (List T)) → IsTable t → 0 < rows_of t → i ≤ rows_of t → LinesFit i (copies k (cols_of t) d) t
     fit_copies i t h some le =
         record {
-            in_rows = le;
-            old = h;
-            new = IsTable-copies (cols_of t) (h.nonempty 0 some);
-            width = λ _ e. HasWidth-copies k (cols_of t) d 0 e
+          in_rows = le;
+          old = h;
+          new = IsTable-copies (cols_of t) (h.nonempty 0 some);
+          width = λ _ e. HasWidth-copies k (cols_of t) d 0 e;
         }
 
     pub rows-expanded : (t : List (List T)) → 0 < rows_of t → rows_of (expanded_rows k d t) ≡ rows_of t + k
