@@ -132,6 +132,7 @@ impl<T, A: Allocator> Grid<T, A> {
         ensures line { IfErr result (λ refused. refused.line.items ≡ line.items) }
         ensures err { OnErr result (self.new ≡ self.old) }
     {
+        let _ = &self.flat;
         self.transpose();
         let inserted = self.insert_row(at, line);
         self.transpose();

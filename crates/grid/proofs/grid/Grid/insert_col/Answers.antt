@@ -1,29 +1,30 @@
-use Rattle.std.proofs.Common.{rules, ◌≡◌, ◌↔◌, ◌+◌, ◌-◌, ◌*◌, ◌^◌, ◌<◌, ◌≤◌, length, insert, remove, slice_get, IsTrue, Ok, None, Some, IsErrAnd, OnOk, OnErr, IfOk, IfErr, MatchOption, if◌then◌else◌, ℕ, ◌/◌, ◌%◌, Bool, true, false, nat_eq, nat_lt, List, [], ◌∷◌, ◌++◌, slice_index_or, slice_set, bit_and, bit_or, Fits, w8, w32, w64, Bor, MutBor}
-use Rattle.std.specs.Prelude.{⊤}
-use Rattle.grid_base.specs.Table.{rows_of, cols_of, row, turned, IsTable}
-use Rattle.grid_base.specs.Tally.{counted}
-use Rattle.grid.specs.Edit.{FitsRow, FitsCol, put_col, take_rows, take_cols, put_rows, put_cols, expanded_rows, expanded_cols, prepended_rows, prepended_cols}
-use Rattle.grid.specs.RowGroups.{RowsPut}
-use Rattle.grid.specs.Shift.{delete_rows_shift, delete_cols_shift, expand_rows_shift, expand_cols_shift, prepend_rows_shift, prepend_cols_shift}
-use Rattle.grid.specs.declared.error.GridError.TheVariants.{TooLarge}
+use Rattle.std.proofs.Common.{◌≡◌, ◌≤◌, ap, sym, arith}
+use Rattle.grid_base.specs.declared.words.Symmetry.TheVariants.{Transpose}
+use Rattle.grid_base.specs.Table.{rows_of, cols_of}
+use Rattle.grid_base.specs.Symmetry.{act}
+use Rattle.grid_base.proofs.Acts.{rows-act}
+use Rattle.grid.proofs.Seen.{seen_table}
+use Rattle.grid.proofs.Across.{on_ok, on_err, fits_across, col_inserted, twice_across}
 use Rattle.grid.proofs.grid.Grid.insert_col.Goals as goal
 
--- src/edits.rt:136:13
 pub insert_row-inserted-requires-clause-fits : goal.insert_row-inserted-requires-clause-fits
-insert_row-inserted-requires-clause-fits g c = ?
+insert_row-inserted-requires-clause-fits g c =
+    rw c.transpose.ensures.rows (fits_across _ _ (seen_table _ _ _ _ _ c.self.invariant c.self.view_is) c.requires.fits)
 
--- src/edits.rt:136:13
 pub insert_row-inserted-requires-clause-place : goal.insert_row-inserted-requires-clause-place
-insert_row-inserted-requires-clause-place g c = ?
+insert_row-inserted-requires-clause-place g c =
+    rw (c.transpose.ensures.rows, rows-act Transpose c.args.self.now.rows) c.requires.place
 
--- src/edits.rt:125:5
 pub returns-clause-rows : goal.returns-clause-rows
-returns-clause-rows g c = ?
+returns-clause-rows g c =
+    on_ok c.insert_row-inserted.result (col_inserted c.args.at c.args.line.items _ _ _ _ (seen_table _ _ _ _ _ c.self.invariant c.self.view_is) c.requires.fits c.requires.nonempty c.requires.place c.transpose.ensures.rows c.transpose-2.ensures.rows)
+    c.insert_row-inserted.ensures.rows
 
--- src/edits.rt:125:5
 pub returns-clause-too_large : goal.returns-clause-too_large
-returns-clause-too_large g c = ?
+returns-clause-too_large g c = rw (c.transpose.ensures.rows, rows-act Transpose c.args.self.now.rows) at c.insert_row-inserted.ensures.too_large
 
--- src/edits.rt:125:5
 pub returns-clause-err : goal.returns-clause-err
-returns-clause-err g c = ?
+returns-clause-err g c =
+    on_err c.insert_row-inserted.result
+    (λ same. twice_across _ _ _ _ (seen_table _ _ _ _ _ c.self.invariant c.self.view_is) c.transpose.ensures.rows c.transpose.ensures.order same c.transpose-2.ensures.rows c.transpose-2.ensures.order)
+    c.insert_row-inserted.ensures.err

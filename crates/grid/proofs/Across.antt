@@ -1,0 +1,54 @@
+-- A column edit as the row edit between two transposes.
+use Rattle.std.proofs.Common.{◌≡◌, ◌<◌, ◌≤◌, ℕ, List, [], ◌∷◌, length, refl, sym, ◌∙◌, ap, arith, inl, inr, ⊎_elim, Result, Ok, Err, OnOk, OnErr}
+use Rattle.std.specs.List.{insert}
+use Rattle.grid_base.specs.declared.words.Symmetry.TheVariants.{Transpose}
+use Rattle.grid_base.specs.Table.{rows_of, cols_of, IsTable}
+use Rattle.grid_base.specs.Order.{flipped}
+use Rattle.grid_base.specs.Sheet.{Sheet}
+use Rattle.grid_base.specs.Symmetry.{act}
+use Rattle.grid_base.proofs.Views.{same_sheet, flipped-flipped}
+use Rattle.grid.specs.Edit.{FitsRow, FitsCol, put_rows, put_col}
+use Rattle.grid.proofs.EditViews.{put_line}
+use Rattle.grid.proofs.Cols.{across-none, across-across, cols-across, put_col-across, ColumnFits}
+
+-- a fact for each outcome follows from another
+pub on_ok : {V E : Type 0} (r : Result V E) {P Q : Type 0} → (P → Q) → OnOk r P → OnOk r Q
+on_ok (Ok v) f h = f h
+on_ok (Err e) f h = h
+
+pub on_err : {V E : Type 0} (r : Result V E) {P Q : Type 0} → (P → Q) → OnErr r P → OnErr r Q
+on_err (Ok v) f h = h
+on_err (Err e) f h = f h
+
+module _ {T : Type 0} where
+  -- a column that fits a table fits the turned table as a row
+  pub fits_across : (t : List (List T)) (w : ℕ) → IsTable t → FitsCol t w → FitsRow (act Transpose t) w
+  fits_across t w h f =
+      ⊎_elim {C = FitsRow (act Transpose t) w} (λ none. inl (ap (act Transpose) none ∙ across-none)) (λ tall. inr (tall ∙ sym (cols-across t h))) f
+
+  column_fits : (i : ℕ) (line : List T) (t : List (List T)) → IsTable t → FitsCol t (length line) → 0 < length line → i ≤ cols_of t → ColumnFits i line t
+  column_fits i line t h f some le =
+      record {
+          is_table = h;
+          in_cols = le;
+          height = λ rows. ⊎_elim {C = length line ≡ rows_of t} (λ none. absurd (omega (arith, ap length none))) (λ tall. tall) f;
+          nonempty = some
+      }
+
+  -- a row put between two transposes is a column
+  pub col_inserted : (i : ℕ) (line : List T) (t mid grown new : List (List T)) → IsTable t → FitsCol t (length line) → 0 < length line → i ≤ cols_of t → mid ≡ act Transpose t → new ≡ act Transpose grown → grown ≡ insert mid i line → new ≡ put_col i line t
+  col_inserted i line t mid grown new h f some le turned back put =
+      back
+      ∙ (ap (act Transpose) (put ∙ (ap (λ v. insert v i line) turned ∙ sym (put_line i line (act Transpose t))))
+      ∙ sym (put_col-across i line t (column_fits i line t h f some le)))
+
+  -- two transposes with nothing between them
+  pub twice_across : (old mid late new : Sheet T) → IsTable old.rows → mid.rows ≡ act Transpose old.rows → mid.order ≡ flipped old.order → late ≡ mid → new.rows ≡ act Transpose late.rows → new.order ≡ flipped late.order → new ≡ old
+  twice_across old mid late new h rows order same rows_back order_back =
+      same_sheet new old
+      (rows_back ∙ (ap (λ s. act Transpose s.rows) same ∙ (ap (act Transpose) rows ∙ across-across old.rows h)))
+      (order_back ∙ (ap (λ s. flipped s.order) same ∙ (ap flipped order ∙ flipped-flipped old.order)))
+
+  -- the order after two transposes
+  pub order_across : (old mid late new : Sheet T) → mid.order ≡ flipped old.order → late.order ≡ mid.order → new.order ≡ flipped late.order → new.order ≡ old.order
+  order_across old mid late new order same back = back ∙ (ap flipped (same ∙ order) ∙ flipped-flipped old.order)
