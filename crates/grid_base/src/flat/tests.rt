@@ -1,5 +1,5 @@
 //! Each line edit on a small vector.
-use super::Flat;
+use super::{Flat, Tally};
 use std::alloc::AllocError;
 
 #[test]
@@ -18,5 +18,35 @@ fn unweave_takes_the_groups_out_of_each_line(rt: HostRuntime) -> Result<(), Allo
     let mut flat = Flat::from_vec(vec![in rt.alloc(); 1, 10, 2, 3, 20, 4, 5, 30, 6]?);
     flat.unweave(3, 2, 1, 1);
     assert_eq!(rt; flat.as_slice(), [1, 2, 3, 4, 5, 6, 10, 20, 30].as_slice());
+    Ok(())
+}
+
+#[test]
+fn open_after_spreads_the_lines(rt: HostRuntime) -> Result<(), AllocError> {
+    let mut flat = Flat::from_vec(vec![in rt.alloc(); 1, 2, 3, 4, 5, 6, 0, 0, 0, 0]?);
+    let mut tally = Tally::new();
+    flat.open_after(2, 3, 2, &mut tally);
+    assert_eq!(rt; flat.as_slice(), [1, 2, 3, 0, 0, 4, 5, 6, 0, 0].as_slice());
+    assert_eq!(rt; tally.shift(), 3);
+    Ok(())
+}
+
+#[test]
+fn open_before_spreads_the_lines(rt: HostRuntime) -> Result<(), AllocError> {
+    let mut flat = Flat::from_vec(vec![in rt.alloc(); 1, 2, 3, 4, 5, 6, 0, 0, 0, 0]?);
+    let mut tally = Tally::new();
+    flat.open_before(2, 3, 2, &mut tally);
+    assert_eq!(rt; flat.as_slice(), [0, 0, 1, 2, 3, 0, 0, 4, 5, 6].as_slice());
+    assert_eq!(rt; tally.shift(), 6);
+    Ok(())
+}
+
+#[test]
+fn close_up_keeps_the_lines(rt: HostRuntime) -> Result<(), AllocError> {
+    let mut flat = Flat::from_vec(vec![in rt.alloc(); 1, 10, 11, 2, 3, 20, 21, 4, 5, 30, 31, 6]?);
+    let mut tally = Tally::new();
+    flat.close_up(3, 2, 1, 2, &mut tally);
+    assert_eq!(rt; flat.as_slice(), [1, 2, 3, 4, 5, 6].as_slice());
+    assert_eq!(rt; tally.shift(), 5);
     Ok(())
 }
