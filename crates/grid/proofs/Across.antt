@@ -1,5 +1,5 @@
 -- A column edit as the row edit between two transposes.
-use Rattle.std.proofs.Common.{◌≡◌, ◌<◌, ◌≤◌, ℕ, List, [], ◌∷◌, length, refl, sym, ◌∙◌, ap, arith, inl, inr, ⊎_elim, Result, Ok, Err, OnOk, OnErr}
+use Rattle.std.proofs.Common.{◌≡◌, ◌<◌, ◌≤◌, ℕ, List, [], ◌∷◌, length, refl, sym, ◌∙◌, ap, arith, inl, inr, ⊎_elim, Bool, true, false, IsTrue, ◌↔◌, ◌+◌, if◌then◌else◌, Result, Ok, Err, OnOk, OnErr}
 use Rattle.std.specs.List.{insert}
 use Rattle.grid_base.specs.declared.words.Symmetry.TheVariants.{Transpose}
 use Rattle.grid_base.specs.Table.{rows_of, cols_of, IsTable}
@@ -7,9 +7,11 @@ use Rattle.grid_base.specs.Order.{flipped}
 use Rattle.grid_base.specs.Sheet.{Sheet}
 use Rattle.grid_base.specs.Symmetry.{act}
 use Rattle.grid_base.proofs.Views.{same_sheet, flipped-flipped}
-use Rattle.grid.specs.Edit.{FitsRow, FitsCol, put_rows, put_col}
+use Rattle.grid_base.proofs.Acts.{rows-act}
+use Rattle.grid.specs.Edit.{FitsRow, FitsCol, put_rows, put_col, take_rows, take_cols}
+use Rattle.grid.specs.Shift.{delete_rows_shift, delete_cols_shift}
 use Rattle.grid.proofs.EditViews.{put_line}
-use Rattle.grid.proofs.Cols.{across-none, across-across, cols-across, put_col-across, ColumnFits}
+use Rattle.grid.proofs.Cols.{across-none, across-across, cols-across, put_col-across, take_cols-across, ColumnFits}
 
 -- a fact for each outcome follows from another
 pub on_ok : {V E : Type 0} (r : Result V E) {P Q : Type 0} → (P → Q) → OnOk r P → OnOk r Q
@@ -52,3 +54,15 @@ module _ {T : Type 0} where
   -- the order after two transposes
   pub order_across : (old mid late new : Sheet T) → mid.order ≡ flipped old.order → late.order ≡ mid.order → new.order ≡ flipped late.order → new.order ≡ old.order
   order_across old mid late new order same back = back ∙ (ap flipped (same ∙ order) ∙ flipped-flipped old.order)
+
+  -- rows taken between two transposes are columns
+  pub cols_taken : (i k : ℕ) (found : Bool) (t mid less new : List (List T)) → IsTable t → IsTrue found ↔ (i + k ≤ cols_of t) → mid ≡ act Transpose t → new ≡ act Transpose less → less ≡ (if found then take_rows i k mid else mid) → new ≡ (if found then take_cols i k t else t)
+  cols_taken i k true t mid less new h tests turned back taken =
+      back ∙ (ap (act Transpose) (taken ∙ ap (take_rows i k) turned) ∙ sym (take_cols-across i k t h (tests.0 refl)))
+  cols_taken i k false t mid less new h tests turned back taken =
+      back ∙ (ap (act Transpose) (taken ∙ turned) ∙ across-across t h)
+
+  -- the shift is that of the rows of the turned table
+  pub delete_shift_across : (old mid : Sheet T) (i k : ℕ) → IsTable old.rows → mid.rows ≡ act Transpose old.rows → mid.order ≡ flipped old.order → delete_rows_shift mid.order (rows_of mid.rows) (cols_of mid.rows) i k ≡ delete_cols_shift old.order (rows_of old.rows) (cols_of old.rows) i k
+  delete_shift_across old mid i k h rows order =
+      rw (order, rows, rows-act Transpose old.rows, cols-across old.rows h) refl

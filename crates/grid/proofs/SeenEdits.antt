@@ -1,18 +1,21 @@
 -- What a line edit starts from and leaves, by a grid's fields.
-use Rattle.std.proofs.Common.{◌≡◌, ◌<◌, ◌≤◌, ◌+◌, ◌*◌, ◌^◌, ◌⊎◌, ◌++◌, ◌∷◌, [], ℕ, List, length, refl, sym, ◌∙◌, ap, arith, ⊎_elim, subst, Bool, true, false, IsTrue, ◌↔◌}
+use Rattle.std.proofs.Common.{◌≡◌, ◌<◌, ◌≤◌, ◌+◌, ◌-◌, ◌*◌, ◌^◌, ◌⊎◌, ◌++◌, ◌∷◌, [], ℕ, zero, suc, List, length, refl, sym, ◌∙◌, ap, arith, ⊎_elim, subst, Bool, true, false, IsTrue, ◌↔◌}
 use Rattle.std.proofs.lemmas.Bool.{cases_lt}
 use Rattle.std.specs.List.{insert}
+use Rattle.std.proofs.Math.Dec.{eqb-suc-zero}
 use Rattle.grid_base.specs.declared.flat.order.Order.{Order}
 use Rattle.grid_base.specs.Table.{rows_of, cols_of, IsTable}
 use Rattle.grid_base.specs.Order.{table_of, storage}
 use Rattle.grid_base.specs.Sheet.{Sheet, Fits}
-use Rattle.grid_base.specs.Lines.{Woven}
-use Rattle.grid.specs.Edit.{FitsRow, put_rows}
+use Rattle.grid_base.specs.Lines.{Woven, Closed}
+use Rattle.grid.specs.Edit.{FitsRow, put_rows, take_rows}
 use Rattle.grid.proofs.Rows.{RowGroups}
-use Rattle.grid.specs.RowGroups.{RowsPut}
+use Rattle.grid.specs.RowGroups.{RowsPut, RowsTaken, width_left}
 use Rattle.grid.proofs.Seen.{seen_rows, seen_cols}
-use Rattle.grid.proofs.EditViews.{view-put_rows, table_of-no_rows, storage-line, IsTable-line, put_line}
-use Rattle.grid.proofs.Sizes.{Fits-filled}
+use Rattle.grid_base.proofs.Views.{Fits-none, view-rows, view-cols}
+use Rattle.grid.specs.Shift.{rows_taken_shift}
+use Rattle.grid.proofs.EditViews.{view-close_rows, cells-closed, view-put_rows, table_of-no_rows, storage-line, IsTable-line, put_line}
+use Rattle.grid.proofs.Sizes.{Fits-filled, Fits-fewer}
 
 -- groups woven into the lines are rows put
 pub rows_put : {T : Type 0} (o : Order) (m n i k p q a g : ℕ) (old new : List T) → RowGroups o m n i k p q a g → i ≤ m → Woven p q a g old new → RowsPut o m n i k old new
@@ -60,3 +63,50 @@ module _ (found : Bool) (m rows w width : ℕ) (e : rows ≡ m) (f : w ≡ width
       (λ small. let same : (rows + 1) * width ≡ (m + 1) * w = ap (λ x. (x + 1) * width) e ∙ ap (λ x. (m + 1) * x) (sym f) in
           let fits : found ≡ true = tests.1 (omega (arith, small, same)) in cc (fits, full))
       (λ large. large) (cases_lt ((rows + 1) * width) (2 ^ 64))
+
+-- groups closed up are rows taken
+pub rows_taken : {T : Type 0} (o : Order) (n i k rest p q a g : ℕ) (old new : List T) → RowGroups o rest n i k p q a g → length old ≡ (rest + k) * n → i ≤ rest → Closed p q a g new old → RowsTaken o n i k rest old new
+rows_taken {T} o n i k rest p q a g old new groups len le w =
+    record {
+        lengths = cells-closed o rest n i k p q a g new old groups w;
+        table = view-close_rows o (rest + k) n i k rest old refl len (omega arith) p q a g new groups w
+    }
+
+-- the table and the size where so many rows are left
+pub table_left : {T : Type 0} (o : Order) (rest n : ℕ) (cells : List T) → table_of o rest (width_left rest n) cells ≡ table_of o rest n cells
+table_left o zero n cells = table_of-no_rows o 0 cells ∙ sym (table_of-no_rows o n cells)
+table_left o (suc rest) n cells = rw (eqb-suc-zero rest) refl
+
+pub Fits-left : (m n rest len part : ℕ) → Fits m n len → rest ≤ m → part ≡ rest * n → Fits rest (width_left rest n) part
+Fits-left m n zero len part h le e = Fits-none part (e ∙ omega arith)
+Fits-left m n (suc rest) len part h le e = rw (eqb-suc-zero rest) (Fits-fewer m n (suc rest) len part h (omega arith) le e)
+
+-- taking some rows of a grid
+module _ {T : Type 0} (o : Order) (m n : ℕ) (cells : List T) (s : Sheet T) (h : Fits m n (length cells)) (e : (let v : Sheet T = record { rows = table_of o m n cells; order = o } in v) ≡ s) (i k : ℕ) (within : i + k ≤ rows_of s.rows) (some : 0 < k) where
+  pub taken_in : i + k ≤ m
+  taken_in = rw (seen_rows o m n cells s h e) at within
+
+  pub taken_whole : m - k + k ≡ m
+  taken_whole = omega (arith, taken_in)
+
+  pub taken_wide : 0 < n
+  taken_wide = h.size.has_cols (omega (arith, taken_in, some))
+
+  pub taken_cells : length cells ≡ (m - k + k) * n
+  taken_cells = h.cells ∙ ap (λ x. x * n) (sym taken_whole)
+
+  pub taken_small : (m - k + k) * n < 2 ^ 64
+  taken_small = rw taken_whole h.below
+
+  pub rows_taken_out : (new : List T) → RowsTaken o n i k (m - k) cells new → table_of o (m - k) (width_left (m - k) n) new ≡ take_rows i k s.rows
+  rows_taken_out new p =
+      table_left o (m - k) n new ∙ (p.table ∙ (ap (λ x. take_rows i k (table_of o x n cells)) taken_whole ∙ ap (λ x. take_rows i k x.rows) e))
+
+  pub taken_fits : (new : List T) → RowsTaken o n i k (m - k) cells new → Fits (m - k) (width_left (m - k) n) (length new)
+  taken_fits new p = Fits-left m n (m - k) (length cells) (length new) h (omega arith) p.lengths
+
+  pub taken_shift : rows_taken_shift s.order (rows_of s.rows) (cols_of s.rows) i k ≡ rows_taken_shift o (m - k + k) n i k
+  taken_shift =
+      ap (λ x. rows_taken_shift x.order (rows_of x.rows) (cols_of x.rows) i k) (sym e)
+      ∙ (ap (λ x. rows_taken_shift o x (cols_of (table_of o m n cells)) i k) (view-rows o m n cells h ∙ sym taken_whole)
+      ∙ ap (λ x. rows_taken_shift o (m - k + k) x i k) (view-cols o m n cells h))

@@ -1,12 +1,22 @@
 -- What an edit of the vector does to the rows of its table.
-use Rattle.std.specs.Prelude.{◌≡◌, ℕ, ◌+◌, ◌*◌, List, ◌++◌, length, take, drop}
+use Rattle.std.specs.Prelude.{◌≡◌, ℕ, ◌+◌, ◌*◌, List, ◌++◌, length, take, drop, nat_eq, if◌then◌else◌}
 use Rattle.grid_base.specs.declared.flat.order.Order.{Order}
 use Rattle.grid_base.specs.Table.{rows_of, cols_of, IsTable}
 use Rattle.grid_base.specs.Order.{storage, table_of}
 use Rattle.grid.specs.Edit.{put_rows, take_rows}
+
+-- the number of columns where so many rows of n cells are left
+abbrev pub width_left : ℕ → ℕ → ℕ
+width_left rest n = if nat_eq rest 0 then 0 else n
 
 module _ {T : Type 0} (o : Order) (m n i k : ℕ) (old new : List T) where
   -- k rows that stand behind the cells of a table of m rows and n columns are put before its row i
   pub record RowsPut : Type 0 where
     pub lengths : length new ≡ length old
     pub table : (cells : List T) (lines : List (List T)) → old ≡ cells ++ storage o lines → length cells ≡ m * n → IsTable lines → rows_of lines ≡ k → cols_of lines ≡ n → table_of o (m + k) n new ≡ put_rows i lines (table_of o m n cells)
+
+module _ {T : Type 0} (o : Order) (n i k rest : ℕ) (old new : List T) where
+  -- k rows from row i on of a table of rest + k rows and n columns are taken out
+  pub record RowsTaken : Type 0 where
+    pub lengths : length new ≡ rest * n
+    pub table : table_of o rest n new ≡ take_rows i k (table_of o (rest + k) n old)

@@ -6,12 +6,12 @@ ghost use Rattle.std.specs.Prelude.{◌≡◌, ◌↔◌, ◌+◌, ◌-◌, ◌*
 ghost use Rattle.grid_base.specs.Table.{rows_of, cols_of, row, turned, IsTable};
 ghost use Rattle.grid_base.specs.Tally.{counted};
 ghost use Rattle.grid.specs.Edit.{FitsRow, FitsCol, put_col, take_rows, take_cols, put_rows, put_cols, expanded_rows, expanded_cols, prepended_rows, prepended_cols};
-ghost use Rattle.grid.specs.RowGroups.{RowsPut};
-ghost use Rattle.grid.specs.Shift.{delete_rows_shift, delete_cols_shift, expand_rows_shift, expand_cols_shift, prepend_rows_shift, prepend_cols_shift};
+ghost use Rattle.grid.specs.RowGroups.{RowsPut, RowsTaken, width_left};
+ghost use Rattle.grid.specs.Shift.{rows_taken_shift, delete_rows_shift, delete_cols_shift, expand_rows_shift, expand_cols_shift, prepend_rows_shift, prepend_cols_shift};
 ghost use Rattle.grid.specs.declared.error.GridError.TheVariants.{TooLarge};
 
 use crate::{Grid, GridError};
-use grid_base::{Flat, Order};
+use grid_base::{Flat, Order, Tally};
 use std::alloc::{AllocError, Allocator, Global};
 
 /// A line that was not put into a grid, and why. The grid is as it was.
@@ -35,6 +35,13 @@ fn has_room(rows: usize, width: usize) -> bool
     }
 }
 
+// How many columns a grid has of which so many rows are left.
+fn width_left(rest: usize, cols: usize) -> usize
+    ensures { result ≡ width_left rest cols }
+{
+    if rest == 0 { 0 } else { cols }
+}
+
 // Puts the rows that stand behind the cells of a table, `count` of them in storage order, before its row `at`.
 fn weave_rows<T, A: Allocator>(flat: &mut Flat<T, A>, order: Order, rows: usize, cols: usize, at: usize, count: usize)
     requires cells { length flat.old ≡ rows * cols + count * cols }
@@ -45,6 +52,31 @@ fn weave_rows<T, A: Allocator>(flat: &mut Flat<T, A>, order: Order, rows: usize,
     match order {
         Order::RowMajor => flat.weave(1, rows * cols, at * cols, count * cols),
         Order::ColumnMajor => flat.weave(cols, rows, at, count),
+    }
+}
+
+// Drops `count` rows from row `at` on, of which `rest` others stay.
+fn close_rows<T: Drop, A: Allocator>(
+    flat: &mut Flat<T, A>,
+    order: Order,
+    rest: usize,
+    cols: usize,
+    at: usize,
+    count: usize,
+    tally: &mut Tally,
+)
+    requires cells { length flat.old ≡ (rest + count) * cols }
+    requires fits { (rest + count) * cols < 2 ^ 64 }
+    requires place { at ≤ rest }
+    requires some { 0 < count }
+    requires wide { 0 < cols }
+    ensures taken { RowsTaken order cols at count rest flat.old flat.new }
+    ensures symmetry { tally.new.symmetry ≡ tally.old.symmetry }
+    ensures shift { tally.new.shift ≡ counted tally.old.shift (rows_taken_shift order (rest + count) cols at count) }
+{
+    match order {
+        Order::RowMajor => flat.close_up(1, rest * cols, at * cols, count * cols, tally),
+        Order::ColumnMajor => flat.close_up(cols, rest, at, count, tally),
     }
 }
 
@@ -137,5 +169,103 @@ impl<T, A: Allocator> Grid<T, A> {
         let inserted = self.insert_row(at, line);
         self.transpose();
         inserted
+    }
+
+    /// Drops row `at`, and answers whether there was one. Takes no memory, and is one pass over the cells that move.
+    pub fn delete_row(&mut self, at: usize) -> bool
+    where
+        T: Drop,
+        ensures found { IsTrue result ↔ (at < rows_of self.old.rows) }
+        ensures rows { self.new.rows ≡ (if result then remove self.old.rows at else self.old.rows) }
+        ensures order { self.new.order ≡ self.old.order }
+    {
+        self.delete_rows(at, 1)
+    }
+
+    /// Drops column `at`, and answers whether there was one. Takes no memory, and is one pass over the cells that move.
+    pub fn delete_col(&mut self, at: usize) -> bool
+    where
+        T: Drop,
+        ensures found { IsTrue result ↔ (at < cols_of self.old.rows) }
+        ensures rows { self.new.rows ≡ (if result then take_cols at 1 self.old.rows else self.old.rows) }
+        ensures order { self.new.order ≡ self.old.order }
+    {
+        self.delete_cols(at, 1)
+    }
+
+    /// Drops `count` rows from row `start` on, and answers whether there were so many; else nothing changes. Takes no
+    /// memory, and is one pass over the cells that move.
+    pub fn delete_rows(&mut self, start: usize, count: usize) -> bool
+    where
+        T: Drop,
+        ensures found { IsTrue result ↔ (start + count ≤ rows_of self.old.rows) }
+        ensures rows { self.new.rows ≡ (if result then take_rows start count self.old.rows else self.old.rows) }
+        ensures order { self.new.order ≡ self.old.order }
+    {
+        let mut tally = Tally::new();
+        self.delete_rows_counted(start, count, &mut tally)
+    }
+
+    /// Drops `count` columns from column `start` on, and answers whether there were so many; else nothing changes.
+    /// Takes no memory, and is one pass over the cells that move.
+    pub fn delete_cols(&mut self, start: usize, count: usize) -> bool
+    where
+        T: Drop,
+        ensures found { IsTrue result ↔ (start + count ≤ cols_of self.old.rows) }
+        ensures rows { self.new.rows ≡ (if result then take_cols start count self.old.rows else self.old.rows) }
+        ensures order { self.new.order ≡ self.old.order }
+    {
+        let mut tally = Tally::new();
+        self.delete_cols_counted(start, count, &mut tally)
+    }
+
+    pub(crate) fn delete_rows_counted(&mut self, start: usize, count: usize, tally: &mut Tally) -> bool
+    where
+        T: Drop,
+        ensures found { IsTrue result ↔ (start + count ≤ rows_of self.old.rows) }
+        ensures rows { self.new.rows ≡ (if result then take_rows start count self.old.rows else self.old.rows) }
+        ensures order { self.new.order ≡ self.old.order }
+        ensures shift { tally.new.shift ≡ counted tally.old.shift (delete_rows_shift self.old.order (rows_of self.old.rows) (cols_of self.old.rows) start count) }
+        ensures symmetry { tally.new.symmetry ≡ tally.old.symmetry }
+    {
+        let rows = self.rows();
+        let found = count <= rows && start <= rows - count;
+        if found && count != 0 {
+            self.take_rows_out(start, count, tally);
+        }
+        found
+    }
+
+    // Drops rows that are there, at least one.
+    fn take_rows_out(&mut self, start: usize, count: usize, tally: &mut Tally)
+    where
+        T: Drop,
+        requires within { start + count ≤ rows_of self.old.rows }
+        requires some { 0 < count }
+        ensures rows { self.new.rows ≡ take_rows start count self.old.rows }
+        ensures order { self.new.order ≡ self.old.order }
+        ensures shift { tally.new.shift ≡ counted tally.old.shift (rows_taken_shift self.old.order (rows_of self.old.rows) (cols_of self.old.rows) start count) }
+        ensures symmetry { tally.new.symmetry ≡ tally.old.symmetry }
+    {
+        let rest = self.row_count - count;
+        close_rows(&mut self.flat, self.order, rest, self.col_count, start, count, tally);
+        self.row_count = rest;
+        self.col_count = width_left(rest, self.col_count);
+    }
+
+    pub(crate) fn delete_cols_counted(&mut self, start: usize, count: usize, tally: &mut Tally) -> bool
+    where
+        T: Drop,
+        ensures found { IsTrue result ↔ (start + count ≤ cols_of self.old.rows) }
+        ensures rows { self.new.rows ≡ (if result then take_cols start count self.old.rows else self.old.rows) }
+        ensures order { self.new.order ≡ self.old.order }
+        ensures shift { tally.new.shift ≡ counted tally.old.shift (delete_cols_shift self.old.order (rows_of self.old.rows) (cols_of self.old.rows) start count) }
+        ensures symmetry { tally.new.symmetry ≡ tally.old.symmetry }
+    {
+        let _ = &self.flat;
+        self.transpose();
+        let found = self.delete_rows_counted(start, count, tally);
+        self.transpose();
+        found
     }
 }
