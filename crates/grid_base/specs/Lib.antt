@@ -8,3 +8,4 @@ pub mod Sheet
 pub mod Flat
 pub mod Lines
 pub mod Blocks
+pub mod Fresh

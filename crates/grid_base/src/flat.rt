@@ -4,6 +4,7 @@ ghost use Rattle.std.specs.Borrow.{sem};
 ghost use Rattle.std.specs.Option.{option_copied};
 ghost use Rattle.grid_base.specs.Tally.{counted};
 
+mod ends;
 mod lines;
 mod order;
 mod tally;

@@ -50,3 +50,20 @@ fn close_up_keeps_the_lines(rt: HostRuntime) -> Result<(), AllocError> {
     assert_eq!(rt; tally.shift(), 5);
     Ok(())
 }
+
+#[test]
+fn cells_come_to_the_end_and_leave_it(rt: HostRuntime) -> Result<(), AllocError> {
+    let mut flat = Flat::from_vec(vec![in rt.alloc(); 1, 2]?);
+    flat.reserve(4)?;
+    let mut line = vec![in rt.alloc(); 3, 4]?;
+    flat.append(&mut line)?;
+    flat.append_defaults(2)?;
+    assert_eq!(rt; flat.as_slice(), [1, 2, 3, 4, 0, 0].as_slice());
+    let mut tail = Vec::with_capacity(flat.allocator().clone()?, 4)?;
+    flat.move_tail(2, &mut tail);
+    assert_eq!(rt; flat.as_slice(), [1, 2].as_slice());
+    assert_eq!(rt; tail.as_slice(), [3, 4, 0, 0].as_slice());
+    flat.truncate(1);
+    assert_eq!(rt; flat.as_slice(), [1].as_slice());
+    Ok(())
+}

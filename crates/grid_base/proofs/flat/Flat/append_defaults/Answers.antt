@@ -1,0 +1,11 @@
+use Rattle.std.proofs.Common.{arith}
+use Rattle.grid_base.proofs.Ends.{fresh_none, fresh_more}
+use Rattle.grid_base.proofs.flat.Flat.append_defaults.Goals as goal
+
+pub loop-init : goal.loop-init
+loop-init g c =
+    record { run = fresh_none _ _ _ (let e = c.reserve.ensures.items in cc); room = omega (arith, c.in_ok-reserve.ensures.ok) }
+
+pub loop-preserved : goal.loop-preserved
+loop-preserved g c =
+    record { run = fresh_more _ _ c.default.result _ _ _ c.loop.invariant.run c.default.ensures c.push_reserved.ensures.items; room = omega arith }
