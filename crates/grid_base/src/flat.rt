@@ -1,5 +1,5 @@
 //! The vector of a grid's cells, and the counts of its swaps.
-ghost use Rattle.std.specs.Prelude.{◌++◌, OnOk, OnErr, vec_len, ◌≡◌, ◌≢◌, ◌<◌, [], length, swap, slice_get, is_some, IfSome, Some};
+ghost use Rattle.std.specs.Prelude.{◌≡◌, ◌≢◌, ◌<◌, [], length, swap, slice_get, is_some, IfSome, Some};
 ghost use Rattle.std.specs.Borrow.{sem};
 ghost use Rattle.std.specs.Option.{option_copied};
 ghost use Rattle.grid_base.specs.Tally.{counted};
@@ -12,7 +12,7 @@ mod tally;
 mod tests;
 
 pub use order::Order;
-use std::alloc::{AllocError, Allocator, Global};
+use std::alloc::{Allocator, Global};
 use std::marker::Model;
 pub use tally::Tally;
 
@@ -128,16 +128,6 @@ impl<T, A: Allocator> Flat<T, A> {
     {
         self.swap(i, j);
         tally.count_shift();
-    }
-
-    /// Moves the cells of a vector to the end, or leaves both as they were where memory is refused.
-    pub fn append(&mut self, line: &mut Vec<T, A>) -> Result<(), AllocError>
-        ensures ok { OnOk result (self.new ≡ self.old ++ line.old.items) }
-        ensures ok_line { OnOk result (vec_len line.new ≡ 0) }
-        ensures err { OnErr result (self.new ≡ self.old) }
-        ensures err_line { OnErr result (line.new.items ≡ line.old.items) }
-    {
-        self.cells.append(line)
     }
 
     /// Drops all cells.
