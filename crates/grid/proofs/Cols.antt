@@ -231,7 +231,7 @@ module _ {T : Type 0} where
       ∙ ap (act Transpose) (put_one_more i line lines v fit.in_rows)))
 
   -- rows that have cells stay, and rows that have none leave
-  filter_all : (t : List (List T)) → ((r : ℕ) → r < length t → 0 < length (row t r)) → filter has_cells t ≡ t
+  pub filter_all : (t : List (List T)) → ((r : ℕ) → r < length t → 0 < length (row t r)) → filter has_cells t ≡ t
   filter_all [] h = refl
   filter_all ([] ∷ t) h = absurd (omega (arith, h 0 (omega arith)))
   filter_all ((x ∷ xs) ∷ t) h = ap (λ u. (x ∷ xs) ∷ u) (filter_all t (λ r lt. h (suc r) (omega arith)))
@@ -295,7 +295,7 @@ module _ {T : Type 0} where
   get-replicate (suc k) d zero lt = refl
   get-replicate (suc k) d (suc j) lt = get-replicate k d j (omega arith)
 
-  map_same : (f g : List T → List T) (t : List (List T)) → ((r : ℕ) → r < length t → f (row t r) ≡ g (row t r)) → map f t ≡ map g t
+  pub map_same : (f g : List T → List T) (t : List (List T)) → ((r : ℕ) → r < length t → f (row t r) ≡ g (row t r)) → map f t ≡ map g t
   map_same f g [] h = refl
   map_same f g (x ∷ t) h =
       let first : f x ≡ g x = h 0 (omega arith) in

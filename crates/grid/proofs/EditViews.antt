@@ -11,15 +11,11 @@ use Rattle.grid_base.proofs.Tables.{rows-tabulate, cell-tabulate, width-tabulate
 use Rattle.grid_base.proofs.Stores.{length-storage, get-storage, IsFull-table_of, place_within, has_place}
 use Rattle.grid.specs.Edit.{put_rows, take_rows}
 use Rattle.grid.proofs.Puts.{get-append_left, get-append_right, get-take, get-drop, get_or-same}
-use Rattle.grid.proofs.Rows.{RowGroups, RowsWidened, rows_widened, rows_woven, table-put, table-take}
+use Rattle.grid.proofs.Rows.{RowGroups, RowsWidened, rows_widened, rows_woven, table_by_cells, table-put, table-take, cells-groups}
 
 place_of_line : (o : Order) (n c : ℕ) → place o 1 n 0 c ≡ c
 place_of_line RowMajor n c = omega arith
 place_of_line ColumnMajor n c = omega arith
-
-by_groups : (o : Order) (m n i k p q a g : ℕ) → RowGroups o m n i k p q a g → p * q ≡ m * n
-by_groups RowMajor m n i k p q a g e = ap (λ x. x * q) e.0 ∙ (ap (λ x. 1 * x) e.1 ∙ omega arith)
-by_groups ColumnMajor m n i k p q a g e = ap (λ x. x * q) e.0 ∙ (ap (λ x. n * x) e.1 ∙ omega arith)
 
 module _ {T : Type 0} where
   -- one row
@@ -181,12 +177,19 @@ module _ {T : Type 0} where
 
   -- how many cells are left
   pub cells-closed : (o : Order) (m n i k p q a g : ℕ) (short long : List T) → RowGroups o m n i k p q a g → Closed p q a g short long → length short ≡ m * n
-  cells-closed o m n i k p q a g short long e w = w.lengths ∙ by_groups o m n i k p q a g e
+  cells-closed o m n i k p q a g short long e w = w.lengths ∙ cells-groups o m n i k p q a g e
 
 -- a table of no rows, whatever the number of columns
 pub table_of-no_rows : {T : Type 0} (o : Order) (n : ℕ) (cells : List T) → table_of o 0 n cells ≡ []
 unfolding tabulate
 table_of-no_rows o n cells = refl
+
+-- a table is cut from its storage
+pub table_of-storage : {T : Type 0} (o : Order) (t : List (List T)) → IsTable t → table_of o (rows_of t) (cols_of t) (storage o t) ≡ t
+table_of-storage o t h = table_by_cells o (rows_of t) (cols_of t) (storage o t) t refl h.even (λ r lr c lc. get-storage o t r c h lr lc)
+
+pub table_of-line : {T : Type 0} (o : Order) (line : List T) → 0 < length line → table_of o 1 (length line) line ≡ line ∷ []
+table_of-line o line some = ap (table_of o 1 (length line)) (sym (storage-line o line some)) ∙ table_of-storage o (line ∷ []) (IsTable-line line some)
 
 -- groups at the end of one line stand where they are
 module _ {T : Type 0} (q k : ℕ) (cells : List T) where

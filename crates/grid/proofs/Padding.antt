@@ -2,7 +2,7 @@
 use Rattle.std.proofs.Common.{◌≡◌, ℕ, zero, suc, ◌+◌, ◌*◌, ◌-◌, ◌<◌, ◌≤◌, Option, Some, List, [], ◌∷◌, ◌++◌, length, take, drop, replicate, refl, sym, ◌∙◌, ap, subst, arith, is_some, length-append, length-drop}
 use Rattle.std.specs.List.{slice_get, All}
 use Rattle.std.proofs.lemmas.List.{length-take-le, ext_get_or, length-replicate, take_at, drop_at}
-use Rattle.std.proofs.lemmas.List.Elements.{All-nil, All-cons, All-head, All-tail, All-get_or}
+use Rattle.std.proofs.lemmas.List.Elements.{All-nil, All-cons, All-head, All-tail, All-get_or, All-from_get_or}
 use Rattle.std.proofs.lemmas.Option.{get_or_from_slice_get}
 use Rattle.grid_base.specs.declared.flat.order.Order.{Order}
 use Rattle.grid_base.specs.Table.{row, rows_of, cols_of, cell, tabulate}
@@ -17,15 +17,16 @@ use Rattle.grid.proofs.EditViews.{rows-cut, width-cut, cell-cut}
 use Rattle.grid.proofs.Sizes.{copies, row-copies, expanded-put, prepended-put}
 
 module _ {T : Type 0} where
-  holds_at : (P : T → Type 0) (ys : List T) (y : ℕ) (x : T) → All P ys → y < length ys → slice_get ys y ≡ Some x → P x
+  pub holds_at : (P : T → Type 0) (ys : List T) (y : ℕ) (x : T) → All P ys → y < length ys → slice_get ys y ≡ Some x → P x
   holds_at P ys y x all lt e = subst P (get_or_from_slice_get ys y x x e) (All-get_or P ys y x lt all)
+
+  pub All-from_gets : (P : T → Type 0) (xs : List T) → ((c : ℕ) (x : T) → c < length xs → slice_get xs c ≡ Some x → P x) → All P xs
+  All-from_gets P [] h = All-nil P
+  All-from_gets P (x ∷ xs) h = All-cons P x xs (h 0 x (omega arith) refl) (All-from_gets P xs (λ c y lt e. h (suc c) y (omega arith) e))
 
   -- a list whose elements are all elements of ys
   pub All-from_places : (P : T → Type 0) (xs ys : List T) → All P ys → ((c : ℕ) → c < length xs → (y : ℕ) × (y < length ys) × (slice_get xs c ≡ slice_get ys y)) → All P xs
-  All-from_places P [] ys all h = All-nil P
-  All-from_places P (x ∷ xs) ys all h =
-      let f = h 0 (omega arith) in
-      All-cons P x xs (holds_at P ys f.0 x all f.1 (sym f.2)) (All-from_places P xs ys all (λ c lt. h (suc c) (omega arith)))
+  All-from_places P xs ys all h = All-from_gets P xs (λ c x lt e. let f = h c lt in holds_at P ys f.0 x all f.1 (sym f.2 ∙ e))
 
   pub replicate_from_all : (d : T) (xs : List T) (n : ℕ) → All (λ x. x ≡ d) xs → length xs ≡ n → xs ≡ replicate n d
   replicate_from_all d [] zero all e = refl
@@ -85,6 +86,9 @@ module _ {T : Type 0} where
           omega (arith, length-drop (m * n) before, at_least, below),
           x.3 ∙ sym (get-drop (m * n) before x.0 (x.0 - m * n) (omega (arith, at_least))),
         ))
+
+    pub All-all_fresh : (P : T → Type 0) → All P (drop (m * n) before) → All (All P) h.fresh
+    All-all_fresh P all = All-from_get_or (All P) h.fresh [] (λ j lt. All-fresh P all j (omega (arith, h.rows)))
 
     pub fresh-copies : (d : T) → All (λ x. x ≡ d) (drop (m * n) before) → h.fresh ≡ copies k n d
     fresh-copies d all =

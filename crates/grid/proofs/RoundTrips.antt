@@ -5,7 +5,7 @@ use Rattle.std.proofs.lemmas.List.{length-take-le, take_at, drop_at, take-append
 use Rattle.std.proofs.lemmas.List.Edits.{get_or-insert_at}
 use Rattle.grid_base.specs.Table.{row, rows_of}
 use Rattle.grid.specs.Edit.{put_rows, take_rows}
-use Rattle.grid.proofs.Puts.{cut-put, part-put}
+use Rattle.grid.proofs.Puts.{cut-put, part-put, put_end}
 use Rattle.grid.proofs.EditViews.{put_line, take_line}
 
 module _ {T : Type 0} where
@@ -43,3 +43,16 @@ module _ {T : Type 0} where
 
   pub popped-push : (line : List T) (t : List (List T)) → row (put_rows (rows_of t) (line ∷ []) t) (rows_of t) ≡ line
   popped-push line t = ap (λ v. row v (rows_of t)) (put_line (rows_of t) line t) ∙ row-insert (rows_of t) line t (omega arith)
+
+  -- rows put at the end stand behind the table, and rows put at the beginning before it
+  pub take-put_end : (lines t : List (List T)) (n : ℕ) → rows_of t ≡ n → take n (put_rows n lines t) ≡ t
+  take-put_end lines t n e = ap (take n) (put_end t lines n e) ∙ take_at t lines n e
+
+  pub drop-put_end : (lines t : List (List T)) (n : ℕ) → rows_of t ≡ n → drop n (put_rows n lines t) ≡ lines
+  drop-put_end lines t n e = ap (drop n) (put_end t lines n e) ∙ drop_at t lines n e
+
+  pub take-put_front : (lines t : List (List T)) (k : ℕ) → rows_of lines ≡ k → take k (put_rows 0 lines t) ≡ lines
+  take-put_front lines t k e = take_at lines t k e
+
+  pub drop-put_front : (lines t : List (List T)) (k : ℕ) → rows_of lines ≡ k → drop k (put_rows 0 lines t) ≡ t
+  drop-put_front lines t k e = drop_at lines t k e

@@ -18,6 +18,11 @@ abbrev pub RowGroups : Order → (m n i k p q a g : ℕ) → Type 0
 RowGroups RowMajor m n i k p q a g = (p ≡ 1) × (q ≡ m * n) × (a ≡ i * n) × (g ≡ k * n)
 RowGroups ColumnMajor m n i k p q a g = (p ≡ n) × (q ≡ m) × (a ≡ i) × (g ≡ k)
 
+-- the lines have the cells of the other rows
+pub cells-groups : (o : Order) (m n i k p q a g : ℕ) → RowGroups o m n i k p q a g → p * q ≡ m * n
+cells-groups RowMajor m n i k p q a g e = ap (λ x. x * q) e.0 ∙ (ap (λ x. 1 * x) e.1 ∙ omega arith)
+cells-groups ColumnMajor m n i k p q a g e = ap (λ x. x * q) e.0 ∙ (ap (λ x. n * x) e.1 ∙ omega arith)
+
 -- the rows of a table of m rows and n columns stand in a longer one, on both sides of k rows before row i
 pub record RowsWidened {T : Type 0} (o : Order) (m n i k : ℕ) (short long : List T) : Type 0 where
   pub before : (r c : ℕ) → r < i → r < m → c < n → slice_get long (place o (m + k) n r c) ≡ slice_get short (place o m n r c)
