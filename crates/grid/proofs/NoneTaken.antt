@@ -1,9 +1,9 @@
--- Edits that take nothing.
-use Rattle.std.proofs.Common.{◌≡◌, ℕ, ◌+◌, ◌<◌, ◌≤◌, suc, List, ◌++◌, length, map, filter, take, drop, ◌∙◌, ap, arith}
+-- Edits that take nothing, and padding by nothing.
+use Rattle.std.proofs.Common.{◌≡◌, ℕ, ◌+◌, ◌<◌, ◌≤◌, suc, List, [], ◌∷◌, ◌++◌, length, map, filter, take, drop, refl, ◌∙◌, ap, arith}
 use Rattle.std.specs.List.{remove}
 use Rattle.std.proofs.lemmas.List.{take_all, drop_all, append-nil, take-append-drop, map-id}
 use Rattle.grid_base.specs.Table.{row, rows_of, cols_of, IsTable}
-use Rattle.grid.specs.Edit.{take_rows, take_cols, has_cells}
+use Rattle.grid.specs.Edit.{take_rows, take_cols, has_cells, expanded_rows, prepended_rows, expanded_cols, prepended_cols}
 use Rattle.grid.proofs.Cols.{filter_all, map_same}
 
 cut_none : {X : Type 0} (xs : List X) (i : ℕ) → take i xs ++ drop (i + 0) xs ≡ xs
@@ -33,3 +33,17 @@ module _ {T : Type 0} where
   pub take_cols-past : (i k : ℕ) (t : List (List T)) → IsTable t → cols_of t ≤ i → take_cols i k t ≡ t
   take_cols-past i k t h le =
       same_rows (λ r. take i r ++ drop (i + k) r) t h (λ r lt. cut_past (row t r) i (i + k) (omega (arith, h.even r lt)) (omega arith))
+
+  pub expanded_rows-none : (d : T) (t : List (List T)) → expanded_rows 0 d t ≡ t
+  expanded_rows-none d [] = refl
+  expanded_rows-none d (r ∷ t) = append-nil (r ∷ t)
+
+  pub prepended_rows-none : (d : T) (t : List (List T)) → prepended_rows 0 d t ≡ t
+  prepended_rows-none d [] = refl
+  prepended_rows-none d (r ∷ t) = refl
+
+  pub expanded_cols-none : (d : T) (t : List (List T)) → expanded_cols 0 d t ≡ t
+  expanded_cols-none d t = map_same (λ r. r ++ []) (λ r. r) t (λ r lt. append-nil (row t r)) ∙ map-id t
+
+  pub prepended_cols-none : (d : T) (t : List (List T)) → prepended_cols 0 d t ≡ t
+  prepended_cols-none d t = map-id t
