@@ -1,6 +1,9 @@
 -- A column edit as the row edit between two transposes.
 use Rattle.std.proofs.Common.{◌≡◌, ◌<◌, ◌≤◌, ℕ, List, [], ◌∷◌, length, refl, sym, ◌∙◌, ap, arith, inl, inr, ⊎_elim, Bool, true, false, IsTrue, ◌↔◌, ◌+◌, if◌then◌else◌, Result, Ok, Err, OnOk, OnErr}
-use Rattle.std.specs.List.{insert}
+use Rattle.std.specs.List.{insert, remove}
+use Rattle.std.proofs.lemmas.Bool.{cases_lt}
+use Rattle.grid.proofs.ColSizes.{remove_between}
+use Rattle.grid.proofs.NoneTaken.{remove-past, take_cols-past}
 use Rattle.grid_base.specs.declared.words.Symmetry.TheVariants.{Transpose}
 use Rattle.grid_base.specs.Table.{rows_of, cols_of, IsTable}
 use Rattle.grid_base.specs.Order.{flipped}
@@ -31,10 +34,10 @@ module _ {T : Type 0} where
   column_fits : (i : ℕ) (line : List T) (t : List (List T)) → IsTable t → FitsCol t (length line) → 0 < length line → i ≤ cols_of t → ColumnFits i line t
   column_fits i line t h f some le =
       record {
-          is_table = h;
-          in_cols = le;
-          height = λ rows. ⊎_elim {C = length line ≡ rows_of t} (λ none. absurd (omega (arith, ap length none))) (λ tall. tall) f;
-          nonempty = some
+        is_table = h;
+        in_cols = le;
+        height = λ rows. ⊎_elim {C = length line ≡ rows_of t} (λ none. absurd (omega (arith, ap length none))) (λ tall. tall) f;
+        nonempty = some;
       }
 
   -- a row put between two transposes is a column
@@ -66,3 +69,14 @@ module _ {T : Type 0} where
   pub delete_shift_across : (old mid : Sheet T) (i k : ℕ) → IsTable old.rows → mid.rows ≡ act Transpose old.rows → mid.order ≡ flipped old.order → delete_rows_shift mid.order (rows_of mid.rows) (cols_of mid.rows) i k ≡ delete_cols_shift old.order (rows_of old.rows) (cols_of old.rows) i k
   delete_shift_across old mid i k h rows order =
       rw (order, rows, rows-act Transpose old.rows, cols-across old.rows h) refl
+
+  -- a row taken between two transposes is a column
+  pub col_removed : (i : ℕ) (t mid less new : List (List T)) → IsTable t → mid ≡ act Transpose t → new ≡ act Transpose less → less ≡ remove mid i → new ≡ take_cols i 1 t
+  col_removed i t mid less new h turned back taken =
+      let direct : new ≡ act Transpose (remove (act Transpose t) i) = back ∙ ap (act Transpose) (taken ∙ ap (λ v. remove v i) turned) in
+      ⊎_elim {C = new ≡ take_cols i 1 t} (λ inside. direct ∙ remove_between i t h inside)
+      (λ past.
+      direct
+      ∙ (ap (act Transpose) (remove-past i (act Transpose t) (omega (arith, rows-act Transpose t, past)))
+      ∙ (across-across t h ∙ sym (take_cols-past i 1 t h past))))
+      (cases_lt i (cols_of t))

@@ -1,28 +1,30 @@
 -- What a line edit starts from and leaves, by a grid's fields.
-use Rattle.std.proofs.Common.{◌≡◌, ◌<◌, ◌≤◌, ◌+◌, ◌-◌, ◌*◌, ◌^◌, ◌⊎◌, ◌++◌, ◌∷◌, [], ℕ, zero, suc, List, length, refl, sym, ◌∙◌, ap, arith, ⊎_elim, subst, Bool, true, false, IsTrue, ◌↔◌}
+use Rattle.std.proofs.Common.{◌≡◌, ◌<◌, ◌≤◌, ◌+◌, ◌-◌, ◌*◌, ◌^◌, ◌⊎◌, ◌++◌, ◌∷◌, [], ℕ, zero, suc, List, take, drop, Option, Some, length, refl, sym, ◌∙◌, ap, arith, ⊎_elim, subst, Bool, true, false, IsTrue, ◌↔◌}
 use Rattle.std.proofs.lemmas.Bool.{cases_lt}
-use Rattle.std.specs.List.{insert}
+use Rattle.std.specs.List.{insert, remove, slice_get}
+use Rattle.std.proofs.lemmas.List.{length-take-le}
+use Rattle.std.proofs.lemmas.Option.{slice_get-get_or}
 use Rattle.std.proofs.Math.Dec.{eqb-suc-zero}
 use Rattle.grid_base.specs.declared.flat.order.Order.{Order}
-use Rattle.grid_base.specs.Table.{rows_of, cols_of, IsTable}
+use Rattle.grid_base.specs.Table.{row, rows_of, cols_of, IsTable}
 use Rattle.grid_base.specs.Order.{table_of, storage}
 use Rattle.grid_base.specs.Sheet.{Sheet, Fits}
 use Rattle.grid_base.specs.Lines.{Woven, Closed}
 use Rattle.grid.specs.Edit.{FitsRow, put_rows, take_rows}
 use Rattle.grid.proofs.Rows.{RowGroups}
-use Rattle.grid.specs.RowGroups.{RowsPut, RowsTaken, width_left}
+use Rattle.grid.specs.RowGroups.{RowsPut, RowsTaken, RowBehind, width_left}
 use Rattle.grid.proofs.Seen.{seen_rows, seen_cols}
 use Rattle.grid_base.proofs.Views.{Fits-none, view-rows, view-cols}
 use Rattle.grid.specs.Shift.{rows_taken_shift}
-use Rattle.grid.proofs.EditViews.{view-close_rows, cells-closed, view-put_rows, table_of-no_rows, storage-line, IsTable-line, put_line}
+use Rattle.grid.proofs.EditViews.{view-remove_row, view-removed_row, view-close_rows, cells-closed, view-put_rows, table_of-no_rows, storage-line, IsTable-line, put_line}
 use Rattle.grid.proofs.Sizes.{Fits-filled, Fits-fewer}
 
 -- groups woven into the lines are rows put
 pub rows_put : {T : Type 0} (o : Order) (m n i k p q a g : ℕ) (old new : List T) → RowGroups o m n i k p q a g → i ≤ m → Woven p q a g old new → RowsPut o m n i k old new
 rows_put {T} o m n i k p q a g old new groups le w =
     record {
-        lengths = w.lengths;
-        table = λ cells lines e len h em en. view-put_rows o m n cells len i k p q a g lines new groups h em en le (subst (λ x. Woven p q a g x new) e w)
+      lengths = w.lengths;
+      table = λ cells lines e len h em en. view-put_rows o m n cells len i k p q a g lines new groups h em en le (subst (λ x. Woven p q a g x new) e w);
     }
 
 module _ {T : Type 0} (o : Order) (m n : ℕ) (cells : List T) (s : Sheet T) (h : Fits m n (length cells)) (e : (let v : Sheet T = record { rows = table_of o m n cells; order = o } in v) ≡ s) (w : ℕ) (f : FitsRow s.rows w) where
@@ -34,13 +36,13 @@ module _ {T : Type 0} (o : Order) (m n : ℕ) (cells : List T) (s : Sheet T) (h 
   cells_fit =
       h.cells
       ∙ ⊎_elim {C = m * n ≡ m * w} (λ none. ap (λ x. x * n) (no_rows none) ∙ (omega arith ∙ sym (ap (λ x. x * w) (no_rows none))))
-          (λ wide. ap (λ x. m * x) (sym (wide ∙ seen_cols o m n cells s h e))) f
+      (λ wide. ap (λ x. m * x) (sym (wide ∙ seen_cols o m n cells s h e))) f
 
   -- and the rows are cut from them
   pub rows_fit : table_of o m w cells ≡ s.rows
   rows_fit =
       ⊎_elim {C = table_of o m w cells ≡ s.rows} (λ none. ap (λ x. table_of o x w cells) (no_rows none) ∙ (table_of-no_rows o w cells ∙ sym none))
-          (λ wide. ap (λ x. table_of o m x cells) (wide ∙ seen_cols o m n cells s h e) ∙ ap (λ x. x.rows) e) f
+      (λ wide. ap (λ x. table_of o m x cells) (wide ∙ seen_cols o m n cells s h e) ∙ ap (λ x. x.rows) e) f
 
   -- one more row of w cells
   pub rows_inserted : (i : ℕ) (line grown new : List T) → 0 < w → length line ≡ w → grown ≡ cells ++ line → RowsPut o m w i 1 grown new → table_of o (m + 1) w new ≡ insert s.rows i line
@@ -61,15 +63,15 @@ module _ (found : Bool) (m rows w width : ℕ) (e : rows ≡ m) (f : w ≡ width
   no_room full =
       ⊎_elim {C = 2 ^ 64 ≤ (rows + 1) * width}
       (λ small. let same : (rows + 1) * width ≡ (m + 1) * w = ap (λ x. (x + 1) * width) e ∙ ap (λ x. (m + 1) * x) (sym f) in
-          let fits : found ≡ true = tests.1 (omega (arith, small, same)) in cc (fits, full))
+      let fits : found ≡ true = tests.1 (omega (arith, small, same)) in cc (fits, full))
       (λ large. large) (cases_lt ((rows + 1) * width) (2 ^ 64))
 
 -- groups closed up are rows taken
 pub rows_taken : {T : Type 0} (o : Order) (n i k rest p q a g : ℕ) (old new : List T) → RowGroups o rest n i k p q a g → length old ≡ (rest + k) * n → i ≤ rest → Closed p q a g new old → RowsTaken o n i k rest old new
 rows_taken {T} o n i k rest p q a g old new groups len le w =
     record {
-        lengths = cells-closed o rest n i k p q a g new old groups w;
-        table = view-close_rows o (rest + k) n i k rest old refl len (omega arith) p q a g new groups w
+      lengths = cells-closed o rest n i k p q a g new old groups w;
+      table = view-close_rows o (rest + k) n i k rest old refl len (omega arith) p q a g new groups w;
     }
 
 -- the table and the size where so many rows are left
@@ -110,3 +112,46 @@ module _ {T : Type 0} (o : Order) (m n : ℕ) (cells : List T) (s : Sheet T) (h 
       ap (λ x. rows_taken_shift x.order (rows_of x.rows) (cols_of x.rows) i k) (sym e)
       ∙ (ap (λ x. rows_taken_shift o x (cols_of (table_of o m n cells)) i k) (view-rows o m n cells h ∙ sym taken_whole)
       ∙ ap (λ x. rows_taken_shift o (m - k + k) x i k) (view-cols o m n cells h))
+
+-- groups unwoven are a row behind the others
+pub row_behind : {T : Type 0} (o : Order) (n i rest p q a g : ℕ) (old new : List T) → RowGroups o rest n i 1 p q a g → length old ≡ (rest + 1) * n → i ≤ rest → Woven p q a g new old → RowBehind o n i rest old new
+row_behind o n i rest p q a g old new groups len le w =
+    record {
+      lengths = sym w.lengths;
+      kept = view-remove_row o (rest + 1) n i rest old refl len (omega arith) p q a g groups new w;
+      taken = view-removed_row o (rest + 1) n i rest old refl len (omega arith) p q a g groups new w;
+    }
+
+-- taking a row of a grid
+module _ {T : Type 0} (o : Order) (m n : ℕ) (cells : List T) (s : Sheet T) (h : Fits m n (length cells)) (e : (let v : Sheet T = record { rows = table_of o m n cells; order = o } in v) ≡ s) (i : ℕ) (within : i < rows_of s.rows) where
+  pub removed_in : i < m
+  removed_in = rw (seen_rows o m n cells s h e) at within
+
+  pub removed_whole : m - 1 + 1 ≡ m
+  removed_whole = omega (arith, removed_in)
+
+  pub removed_wide : 0 < n
+  removed_wide = h.size.has_cols (omega (arith, removed_in))
+
+  pub removed_cells : length cells ≡ (m - 1 + 1) * n
+  removed_cells = h.cells ∙ ap (λ x. x * n) (sym removed_whole)
+
+  pub removed_small : (m - 1 + 1) * n < 2 ^ 64
+  removed_small = rw removed_whole h.below
+
+  module _ (new : List T) (p : RowBehind o n i (m - 1) cells new) where
+    pub removed_length : length new ≡ (m - 1) * n + n
+    removed_length = p.lengths ∙ (removed_cells ∙ omega arith)
+
+    pub row_removed : table_of o (m - 1) (width_left (m - 1) n) (take ((m - 1) * n) new) ≡ remove s.rows i
+    row_removed =
+        table_left o (m - 1) n (take ((m - 1) * n) new)
+        ∙ (p.kept ∙ (ap (λ x. remove (table_of o x n cells) i) removed_whole ∙ ap (λ x. remove x.rows i) e))
+
+    pub removed_fits : Fits (m - 1) (width_left (m - 1) n) (length (take ((m - 1) * n) new))
+    removed_fits = Fits-left m n (m - 1) (length cells) _ h (omega arith) (length-take-le ((m - 1) * n) new (omega (arith, removed_length)))
+
+    pub removed_line : slice_get s.rows i ≡ Some (drop ((m - 1) * n) new)
+    removed_line =
+        slice_get-get_or s.rows i [] within
+        ∙ ap Some (sym (p.taken removed_wide ∙ (ap (λ x. row (table_of o x n cells) i) removed_whole ∙ ap (λ x. row x.rows i) e)))

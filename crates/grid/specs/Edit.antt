@@ -1,6 +1,6 @@
 -- Edits of tables: lines put and taken, and padding.
-use Rattle.std.specs.Prelude.{◌≡◌, ◌⊎◌, ℕ, ◌+◌, Bool, true, false, List, [], ◌∷◌, ◌++◌, length, map, filter, take, drop, insert, replicate}
-use Rattle.grid_base.specs.Table.{rows_of, cols_of}
+use Rattle.std.specs.Prelude.{◌≡◌, ◌⊎◌, ℕ, ◌+◌, Bool, true, false, List, [], ◌∷◌, ◌++◌, length, All, ◌<◌, map, filter, take, drop, insert, replicate}
+use Rattle.grid_base.specs.Table.{row, rows_of, cols_of}
 
 module _ {T : Type 0} where
   -- a row, or a column, of so many cells fits a table: any fits the empty one

@@ -1,7 +1,7 @@
 -- What an edit of the vector does to the rows of its table.
-use Rattle.std.specs.Prelude.{◌≡◌, ℕ, ◌+◌, ◌*◌, List, ◌++◌, length, take, drop, nat_eq, if◌then◌else◌}
+use Rattle.std.specs.Prelude.{◌≡◌, ℕ, ◌+◌, ◌*◌, List, ◌++◌, length, take, drop, remove, nat_eq, ◌<◌, ◌≤◌, slice_get, if◌then◌else◌}
 use Rattle.grid_base.specs.declared.flat.order.Order.{Order}
-use Rattle.grid_base.specs.Table.{rows_of, cols_of, IsTable}
+use Rattle.grid_base.specs.Table.{row, rows_of, cols_of, cell, IsTable}
 use Rattle.grid_base.specs.Order.{storage, table_of}
 use Rattle.grid.specs.Edit.{put_rows, take_rows}
 
@@ -20,3 +20,10 @@ module _ {T : Type 0} (o : Order) (n i k rest : ℕ) (old new : List T) where
   pub record RowsTaken : Type 0 where
     pub lengths : length new ≡ rest * n
     pub table : table_of o rest n new ≡ take_rows i k (table_of o (rest + k) n old)
+
+module _ {T : Type 0} (o : Order) (n i rest : ℕ) (old new : List T) where
+  -- row i of a table of rest + 1 rows and n columns stands behind the cells of the others
+  pub record RowBehind : Type 0 where
+    pub lengths : length new ≡ length old
+    pub kept : table_of o rest n (take (rest * n) new) ≡ remove (table_of o (rest + 1) n old) i
+    pub taken : 0 < n → drop (rest * n) new ≡ row (table_of o (rest + 1) n old) i

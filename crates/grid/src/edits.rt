@@ -2,12 +2,12 @@
 //!
 //! A row edit sees the vector as lines of cells. A column edit is the row edit between two transposes, which move no
 //! cell.
-ghost use Rattle.std.specs.Prelude.{◌≡◌, ◌↔◌, ◌+◌, ◌-◌, ◌*◌, ◌^◌, ◌<◌, ◌≤◌, length, insert, remove, slice_get, IsTrue, Ok, None, Some, IsErrAnd, OnOk, OnErr, IfOk, IfErr, MatchOption, ⊤, if◌then◌else◌};
+ghost use Rattle.std.specs.Prelude.{[], vec_capacity, ◌≡◌, ◌↔◌, ◌+◌, ◌-◌, ◌*◌, ◌^◌, ◌<◌, ◌≤◌, length, insert, remove, slice_get, IsTrue, Ok, None, Some, IsErrAnd, OnOk, OnErr, IfOk, IfErr, MatchOption, ⊤, if◌then◌else◌};
 ghost use Rattle.grid_base.specs.Table.{rows_of, cols_of, row, turned, IsTable};
 ghost use Rattle.grid_base.specs.Tally.{counted};
-ghost use Rattle.grid.specs.Edit.{FitsRow, FitsCol, put_col, take_rows, take_cols, put_rows, put_cols, expanded_rows, expanded_cols, prepended_rows, prepended_cols};
-ghost use Rattle.grid.specs.RowGroups.{RowsPut, RowsTaken, width_left};
-ghost use Rattle.grid.specs.Shift.{rows_taken_shift, delete_rows_shift, delete_cols_shift, expand_rows_shift, expand_cols_shift, prepend_rows_shift, prepend_cols_shift};
+ghost use Rattle.grid.specs.Edit.{FitsRow, FitsCol, put_col, take_rows, take_cols};
+ghost use Rattle.grid.specs.RowGroups.{RowsPut, RowsTaken, RowBehind, width_left};
+ghost use Rattle.grid.specs.Shift.{rows_taken_shift, delete_rows_shift, delete_cols_shift};
 ghost use Rattle.grid.specs.declared.error.GridError.TheVariants.{TooLarge};
 
 use crate::{Grid, GridError};
@@ -43,7 +43,14 @@ fn width_left(rest: usize, cols: usize) -> usize
 }
 
 // Puts the rows that stand behind the cells of a table, `count` of them in storage order, before its row `at`.
-fn weave_rows<T, A: Allocator>(flat: &mut Flat<T, A>, order: Order, rows: usize, cols: usize, at: usize, count: usize)
+fn weave_rows<T, A: Allocator>(
+    flat: &mut Flat<T, A>,
+    order: Order,
+    rows: usize,
+    cols: usize,
+    at: usize,
+    count: usize,
+)
     requires cells { length flat.old ≡ rows * cols + count * cols }
     requires fits { rows * cols + count * cols < 2 ^ 64 }
     requires place { at ≤ rows }
@@ -52,6 +59,25 @@ fn weave_rows<T, A: Allocator>(flat: &mut Flat<T, A>, order: Order, rows: usize,
     match order {
         Order::RowMajor => flat.weave(1, rows * cols, at * cols, count * cols),
         Order::ColumnMajor => flat.weave(cols, rows, at, count),
+    }
+}
+
+// Puts row `at`, of `rest` + 1 rows, behind the cells of the others.
+fn unweave_row<T, A: Allocator>(
+    flat: &mut Flat<T, A>,
+    order: Order,
+    rest: usize,
+    cols: usize,
+    at: usize,
+)
+    requires cells { length flat.old ≡ (rest + 1) * cols }
+    requires fits { (rest + 1) * cols < 2 ^ 64 }
+    requires place { at ≤ rest }
+    ensures { RowBehind order cols at rest flat.old flat.new }
+{
+    match order {
+        Order::RowMajor => flat.unweave(1, rest * cols, at * cols, cols),
+        Order::ColumnMajor => flat.unweave(cols, rest, at, 1),
     }
 }
 
@@ -171,6 +197,92 @@ impl<T, A: Allocator> Grid<T, A> {
         inserted
     }
 
+    /// Takes the last row, or answers `None` on an empty grid, as [`remove_row`](Grid::remove_row).
+    pub fn pop_row(&mut self) -> Result<Option<Vec<T, A>>, AllocError>
+    where
+        A: Clone,
+        ensures rows { OnOk result (self.new.rows ≡ remove self.old.rows (rows_of self.old.rows - 1)) }
+        ensures line { IfOk result (λ taken. MatchOption taken (self.old.rows ≡ []) (λ line. slice_get self.old.rows (rows_of self.old.rows - 1) ≡ Some line.items)) }
+        ensures order { self.new.order ≡ self.old.order }
+        ensures err { OnErr result (self.new ≡ self.old) }
+    {
+        match self.rows() {
+            0 => Ok(None),
+            rows => self.remove_row(rows - 1),
+        }
+    }
+
+    /// Takes row `at`, or answers `None` where there is none.
+    ///
+    /// A refusal leaves the grid as it was. Row-major it moves each cell at most twice, column-major at most about
+    /// log2(columns) times.
+    pub fn remove_row(&mut self, at: usize) -> Result<Option<Vec<T, A>>, AllocError>
+    where
+        A: Clone,
+        ensures rows { OnOk result (self.new.rows ≡ remove self.old.rows at) }
+        ensures line { IfOk result (λ taken. MatchOption taken (rows_of self.old.rows ≤ at) (λ line. slice_get self.old.rows at ≡ Some line.items)) }
+        ensures order { self.new.order ≡ self.old.order }
+        ensures err { OnErr result (self.new ≡ self.old) }
+    {
+        if at >= self.rows() {
+            return Ok(None);
+        }
+        let alloc = self.flat.allocator().clone()?;
+        let mut line = Vec::with_capacity(alloc, self.cols())?;
+        self.take_row_out(at, &mut line);
+        Ok(Some(line))
+    }
+
+    // Takes a row that is there into a vector that has room for it.
+    fn take_row_out(&mut self, at: usize, line: &mut Vec<T, A>)
+        requires within { at < rows_of self.old.rows }
+        requires none { line.old.items ≡ [] }
+        requires room { cols_of self.old.rows ≤ vec_capacity line.old }
+        ensures rows { self.new.rows ≡ remove self.old.rows at }
+        ensures line { slice_get self.old.rows at ≡ Some line.new.items }
+        ensures order { self.new.order ≡ self.old.order }
+    {
+        let rest = self.row_count - 1;
+        unweave_row(&mut self.flat, self.order, rest, self.col_count, at);
+        self.flat.move_tail(rest * self.col_count, line);
+        self.row_count = rest;
+        self.col_count = width_left(rest, self.col_count);
+    }
+
+    /// Takes the last column, or answers `None` on an empty grid, as [`remove_col`](Grid::remove_col).
+    pub fn pop_col(&mut self) -> Result<Option<Vec<T, A>>, AllocError>
+    where
+        A: Clone,
+        ensures rows { OnOk result (self.new.rows ≡ take_cols (cols_of self.old.rows - 1) 1 self.old.rows) }
+        ensures line { IfOk result (λ taken. MatchOption taken (self.old.rows ≡ []) (λ line. slice_get (turned self.old.rows) (cols_of self.old.rows - 1) ≡ Some line.items)) }
+        ensures order { self.new.order ≡ self.old.order }
+        ensures err { OnErr result (self.new ≡ self.old) }
+    {
+        match self.cols() {
+            0 => Ok(None),
+            cols => self.remove_col(cols - 1),
+        }
+    }
+
+    /// Takes column `at`, or answers `None` where there is none.
+    ///
+    /// A refusal leaves the grid as it was. Column-major it moves each cell at most twice, row-major at most about
+    /// log2(rows) times.
+    pub fn remove_col(&mut self, at: usize) -> Result<Option<Vec<T, A>>, AllocError>
+    where
+        A: Clone,
+        ensures rows { OnOk result (self.new.rows ≡ take_cols at 1 self.old.rows) }
+        ensures line { IfOk result (λ taken. MatchOption taken (cols_of self.old.rows ≤ at) (λ line. slice_get (turned self.old.rows) at ≡ Some line.items)) }
+        ensures order { self.new.order ≡ self.old.order }
+        ensures err { OnErr result (self.new ≡ self.old) }
+    {
+        let _ = &self.flat;
+        self.transpose();
+        let removed = self.remove_row(at);
+        self.transpose();
+        removed
+    }
+
     /// Drops row `at`, and answers whether there was one. Takes no memory, and is one pass over the cells that move.
     pub fn delete_row(&mut self, at: usize) -> bool
     where
@@ -219,7 +331,12 @@ impl<T, A: Allocator> Grid<T, A> {
         self.delete_cols_counted(start, count, &mut tally)
     }
 
-    pub(crate) fn delete_rows_counted(&mut self, start: usize, count: usize, tally: &mut Tally) -> bool
+    pub(crate) fn delete_rows_counted(
+        &mut self,
+        start: usize,
+        count: usize,
+        tally: &mut Tally,
+    ) -> bool
     where
         T: Drop,
         ensures found { IsTrue result ↔ (start + count ≤ rows_of self.old.rows) }
@@ -248,12 +365,25 @@ impl<T, A: Allocator> Grid<T, A> {
         ensures symmetry { tally.new.symmetry ≡ tally.old.symmetry }
     {
         let rest = self.row_count - count;
-        close_rows(&mut self.flat, self.order, rest, self.col_count, start, count, tally);
+        close_rows(
+            &mut self.flat,
+            self.order,
+            rest,
+            self.col_count,
+            start,
+            count,
+            tally,
+        );
         self.row_count = rest;
         self.col_count = width_left(rest, self.col_count);
     }
 
-    pub(crate) fn delete_cols_counted(&mut self, start: usize, count: usize, tally: &mut Tally) -> bool
+    pub(crate) fn delete_cols_counted(
+        &mut self,
+        start: usize,
+        count: usize,
+        tally: &mut Tally,
+    ) -> bool
     where
         T: Drop,
         ensures found { IsTrue result ↔ (start + count ≤ cols_of self.old.rows) }

@@ -27,7 +27,7 @@ invariant_of-self g c =
     let fit = cells_fit _ _ _ _ _ c.self.invariant c.self.view_is _ c.requires.fits in
     let small = rw width at (c.has_room.ensures.0 c.if-not-has_room.false) in
     let total : length c.weave_rows.new.flat ≡ (c.self.inside.row_count + 1) * length c.args.line.items =
-        c.weave_rows.ensures.lengths ∙ (ap length c.in-Ok.ensures.ok ∙ omega (arith, length-append c.self.inside.flat c.args.line.items, fit)) in
+    c.weave_rows.ensures.lengths ∙ (ap length c.in-Ok.ensures.ok ∙ omega (arith, length-append c.self.inside.flat c.args.line.items, fit)) in
     rw width (Fits-filled _ _ _ (omega arith) c.requires.nonempty total (omega (arith, small, total)))
 
 pub returns-in-Ok-clause-rows : goal.returns-in-Ok-clause-rows

@@ -1,0 +1,24 @@
+use Rattle.std.proofs.Common.{◌≡◌, ◌∙◌, ap}
+use Rattle.grid_base.specs.declared.words.Symmetry.TheVariants.{Transpose}
+use Rattle.grid_base.specs.Table.{rows_of, cols_of, turned}
+use Rattle.grid_base.specs.Symmetry.{act}
+use Rattle.grid_base.proofs.Acts.{rows-act}
+use Rattle.grid.proofs.ColSizes.{across-turned}
+use Rattle.grid.proofs.Seen.{seen_table}
+use Rattle.grid.proofs.Across.{on_ok, on_err, col_removed, twice_across}
+use Rattle.grid.proofs.grid.Grid.remove_col.Goals as goal
+
+pub returns-clause-rows : goal.returns-clause-rows
+returns-clause-rows g c =
+    on_ok c.remove_row-removed.result (col_removed c.args.at _ _ _ _ (seen_table _ _ _ _ _ c.self.invariant c.self.view_is) c.transpose.ensures.rows c.transpose-2.ensures.rows)
+    c.remove_row-removed.ensures.rows
+
+pub returns-clause-line : goal.returns-clause-line
+returns-clause-line g c =
+    rw (c.transpose.ensures.rows, rows-act Transpose c.args.self.now.rows, across-turned c.args.self.now.rows) at c.remove_row-removed.ensures.line
+
+pub returns-clause-err : goal.returns-clause-err
+returns-clause-err g c =
+    on_err c.remove_row-removed.result
+    (λ same. twice_across _ _ _ _ (seen_table _ _ _ _ _ c.self.invariant c.self.view_is) c.transpose.ensures.rows c.transpose.ensures.order same c.transpose-2.ensures.rows c.transpose-2.ensures.order)
+    c.remove_row-removed.ensures.err
