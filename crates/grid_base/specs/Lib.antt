@@ -9,3 +9,9 @@ pub mod Flat
 pub mod Lines
 pub mod Blocks
 pub mod Fresh
+pub mod Places
+pub mod Strides
+pub mod GridLineIterMut
+pub mod IndexedIterMut
+pub mod FlatLends
+pub mod Answers

@@ -5,15 +5,25 @@ ghost use Rattle.std.specs.Option.{option_copied};
 ghost use Rattle.grid_base.specs.Tally.{counted};
 
 mod ends;
+mod indexed;
+mod indexed_into;
+mod indexed_mut;
 mod lines;
 mod order;
+mod places;
+mod strides;
 mod tally;
 #[cfg(test)]
 mod tests;
+mod wholes;
 
+pub use indexed::IndexedIter;
+pub use indexed_into::IndexedIntoIter;
+pub use indexed_mut::IndexedIterMut;
 pub use order::Order;
 use std::alloc::{Allocator, Global};
 use std::marker::Model;
+pub use strides::GridLineIterMut;
 pub use tally::Tally;
 
 /// The only holder of a grid's vector, seen as the list of its cells.

@@ -1,0 +1,89 @@
+//! Walks over cells in storage order, and over every so many of them.
+ghost use Rattle.std.specs.Prelude.{◌≡◌, ◌<◌, ◌≤◌, length, IfSome, Some};
+ghost use Rattle.std.specs.Borrow.{sem};
+ghost use Rattle.std.specs.Iterator.{YieldsFirstMut, item_count, UpTo, at_most};
+ghost use Rattle.std.specs.Iterator.Runs.{YieldsMutRefsInOrder};
+ghost use Rattle.std.specs.Iterator.SizeHint.{IsWithinCount};
+ghost use Rattle.std.specs.Slice.Iter.{iter_mut_rest, iter_mut_steps};
+ghost use Rattle.grid_base.specs.Strides.{strided, line_rest, LinesInOrder};
+
+use super::Flat;
+use std::alloc::Allocator;
+use std::iter::StepBy;
+use std::{mem, slice};
+
+impl<T, A: Allocator> Flat<T, A> {
+    ghost use Rattle.grid_base.specs.FlatLends.{lends_cells, lends_line};
+    ghost use Rattle.grid_base.specs.GridLineIterMut.{line_mut_rest};
+
+    /// The cells for writing, in order.
+    pub fn iter_mut(&mut self) -> slice::IterMut<'_, T>
+        ensures* writes_back { sem 𝓛 (lends_cells T.row A.row A.Allocator self.entry result) }
+        ensures rest { iter_mut_rest result ≡ self.old }
+        ensures runs { YieldsMutRefsInOrder (iter_mut_steps {A = T}) iter_mut_rest }
+    {
+        self.cells.as_mut_slice().iter_mut()
+    }
+
+    /// The cells from `start` on and before `end`, each `stride` places after the last.
+    pub fn line(&self, start: usize, end: usize, stride: usize) -> StepBy<slice::Iter<'_, T>>
+        requires ordered { start ≤ end }
+        requires within { end ≤ length self.now }
+        requires steps { 0 < stride }
+        ensures rest { line_rest result ≡ strided start end stride self.now }
+        ensures runs { LinesInOrder T }
+    {
+        let cells = self.cells.as_slice();
+        cells[start..end].iter().step_by(stride)
+    }
+
+    /// The cells from `start` on and before `end`, each `stride` places after the last, for writing.
+    pub fn line_mut(&mut self, start: usize, end: usize, stride: usize) -> GridLineIterMut<'_, T>
+        requires ordered { start ≤ end }
+        requires within { end ≤ length self.old }
+        requires steps { 0 < stride }
+        ensures* writes_back { sem 𝓛 (lends_line T.row A.row A.Allocator self.entry start result) }
+        ensures rest { line_mut_rest result ≡ strided start end stride self.old }
+    {
+        GridLineIterMut {
+            rest: self.cells.slice_mut(start..end),
+            stride,
+        }
+    }
+}
+
+/// The cells of a row or a column that are left, for writing: every so many cells of one part of the vector.
+// It has no model, so that a contract can follow the loan.
+#[derive(Drop)]
+pub struct GridLineIterMut<'a, T> {
+    rest: &'a mut [T],
+    stride: usize,
+    ghost steps: { 0 < stride },
+}
+
+impl<'a, T> Iterator for GridLineIterMut<'a, T> {
+    ghost use Rattle.grid_base.specs.GridLineIterMut.{line_mut_rest};
+
+    type Item = &'a mut T;
+
+    ghost next_gives = { YieldsFirstMut line_mut_rest };
+
+    ghost remaining = { item_count line_mut_rest };
+
+    fn next(&mut self) -> Option<&'a mut T> {
+        let rest = mem::take(&mut self.rest);
+        let (cell, others) = rest.split_first_mut()?;
+        let gap = (self.stride - 1).min(others.len());
+        self.rest = &mut others[gap..];
+        Some(cell)
+    }
+
+    fn size_hint(&self) -> (usize, Option<usize>)
+        ensures lower { IsWithinCount result.0 (at_most (length (line_mut_rest self.now))) }
+        ensures upper { IfSome result.1 (UpTo (at_most (length (line_mut_rest self.now)))) }
+        ensures exact { result ≡ (length (line_mut_rest self.now), Some (length (line_mut_rest self.now))) }
+    {
+        let len = self.rest.len().div_ceil(self.stride);
+        (len, Some(len))
+    }
+}
