@@ -6,3 +6,7 @@ pub mod Run
 pub mod Edit
 pub mod RowGroups
 pub mod Shift
+pub mod Span
+pub mod Left
+pub mod Walks
+pub mod Wholes

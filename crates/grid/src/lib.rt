@@ -10,9 +10,14 @@ mod error;
 mod grid;
 pub mod laws;
 mod symmetry;
+mod walks;
 
 pub use command::{Command, Reply, RunStopped, run};
 pub use edits::LineRefused;
 pub use error::{GridError, ShapeError};
 pub use grid::Grid;
-pub use grid_base::{Move, Order, Symmetry, Tally, reduce};
+pub use grid_base::{
+    GridLineIterMut, IndexedIntoIter, IndexedIter, IndexedIterMut, Move, Order, Symmetry, Tally,
+    reduce,
+};
+pub use walks::{GridColIter, GridRowIter};

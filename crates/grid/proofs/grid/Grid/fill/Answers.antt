@@ -1,0 +1,15 @@
+use Rattle.std.proofs.Common.{◌≡◌, replicate, length}
+use Rattle.std.proofs.lemmas.Result.{on_ok_weaker}
+use Rattle.grid_base.specs.Order.{table_of}
+use Rattle.grid.specs.Wholes.{filled}
+use Rattle.grid.proofs.SeenWholes.{seen_filled}
+use Rattle.grid.proofs.grid.Grid.fill.Goals as goal
+
+pub returns-clause-ok : goal.returns-clause-ok
+returns-clause-ok g c =
+    let s = c.self.inside in
+    on_ok_weaker {P = c.fill.new.self ≡ replicate (length c.self.inside.flat) c.args.value}
+    {Q = table_of c.self.inside.order c.self.inside.row_count c.self.inside.col_count c.fill.new.self ≡ filled c.args.value c.args.self.now.rows}
+    c.fill.result
+    (λ e. seen_filled c.args.value s.order s.row_count s.col_count s.flat c.fill.new.self c.args.self.now c.self.invariant c.self.view_is e)
+    c.fill.ensures.ok

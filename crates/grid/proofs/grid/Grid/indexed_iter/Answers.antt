@@ -1,0 +1,6 @@
+use Rattle.std.proofs.Common.{◌∙◌}
+use Rattle.grid.proofs.SeenWalks.{seen_indexed}
+use Rattle.grid.proofs.grid.Grid.indexed_iter.Goals as goal
+
+pub returns : goal.returns
+returns g c = c.indexed_iter.ensures ∙ seen_indexed _ _ _ _ _ c.self.invariant c.self.view_is

@@ -1,0 +1,15 @@
+use Rattle.std.proofs.Common.{◌<◌, ◌∙◌, arith}
+use Rattle.grid.proofs.Seen.{seen_rows}
+use Rattle.grid.proofs.Spans.{seen_row}
+use Rattle.grid.proofs.grid.Grid.iter_row.Goals as goal
+
+pub row_span-start-requires-clause-row_in : goal.row_span-start-requires-clause-row_in
+row_span-start-requires-clause-row_in g c = omega (arith, seen_rows _ _ _ _ _ c.self.invariant c.self.view_is, c.requires)
+
+pub row_span-start-requires-clause-wide : goal.row_span-start-requires-clause-wide
+row_span-start-requires-clause-wide g c = let lt : c.args.r < c.self.inside.row_count = omega (arith, seen_rows _ _ _ _ _ c.self.invariant c.self.view_is, c.requires) in c.self.invariant.size.has_cols (omega arith)
+
+pub returns-clause-rest : goal.returns-clause-rest
+returns-clause-rest g c =
+    let lt : c.args.r < c.self.inside.row_count = omega (arith, seen_rows _ _ _ _ _ c.self.invariant c.self.view_is, c.requires) in
+    c.line.ensures.rest ∙ seen_row _ _ _ _ _ c.self.invariant _ c.self.view_is _ lt c.row_span-start.ensures

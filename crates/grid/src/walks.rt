@@ -1,0 +1,120 @@
+//! Walks over the cells of a grid, of its rows and of its columns. None takes memory, and each may be dropped early.
+ghost use Rattle.std.specs.Prelude.{◌≡◌, zip};
+ghost use Rattle.std.specs.Borrow.{sem};
+ghost use Rattle.std.specs.Iterator.Runs.{YieldsInOrder, YieldsInReverse, YieldsRefsInOrder, YieldsRefsInReverse, YieldsMutRefsInOrder};
+ghost use Rattle.std.specs.Slice.Iter.{iter_rest, iter_steps, iter_steps_back, iter_mut_rest, iter_mut_steps};
+ghost use Rattle.std.specs.Vec.Iter.{into_iter_items, into_iter_steps, into_iter_steps_back};
+ghost use Rattle.grid_base.specs.Table.{rows_of, cols_of};
+ghost use Rattle.grid_base.specs.Order.{storage};
+ghost use Rattle.grid_base.specs.Places.{places};
+ghost use Rattle.grid_base.specs.IndexedIterMut.{indexed_mut_rest};
+
+mod cols;
+mod rows;
+mod span;
+#[cfg(test)]
+mod tests;
+mod wholes;
+
+use crate::Grid;
+pub use cols::GridColIter;
+use grid_base::{IndexedIntoIter, IndexedIter, IndexedIterMut};
+pub use rows::GridRowIter;
+use std::alloc::Allocator;
+use std::{slice, vec};
+
+impl<T, A: Allocator> Grid<T, A> {
+    ghost use Rattle.grid.specs.Walks.{lends_cells, lends_indexed, KeepsSize};
+
+    /// The cells in storage order.
+    pub fn iter(&self) -> slice::Iter<'_, T>
+        ensures rest { iter_rest result ≡ storage self.now.order self.now.rows }
+        ensures runs { YieldsRefsInOrder (iter_steps {A = T}) iter_rest }
+        ensures runs_back { YieldsRefsInReverse (iter_steps_back {A = T}) iter_rest }
+    {
+        self.flat.as_slice().iter()
+    }
+
+    /// The cells in storage order, for writing. The size and the order stay.
+    pub fn iter_mut(&mut self) -> slice::IterMut<'_, T>
+        ensures* writes_back { sem 𝓛 (lends_cells T.row A.row A.Allocator self.entry result) }
+        ensures keeps { KeepsSize self.old }
+        ensures rest { iter_mut_rest result ≡ storage self.old.order self.old.rows }
+        ensures runs { YieldsMutRefsInOrder (iter_mut_steps {A = T}) iter_mut_rest }
+    {
+        self.flat.iter_mut()
+    }
+
+    /// The cells in storage order, each with its row and its column.
+    pub fn indexed_iter(&self) -> IndexedIter<'_, T>
+        ensures { result ≡ zip (places self.now.order (rows_of self.now.rows) (cols_of self.now.rows)) (storage self.now.order self.now.rows) }
+    {
+        self.flat
+            .indexed_iter(self.order, self.row_count, self.col_count)
+    }
+
+    /// The cells in storage order for writing, each with its row and its column. The size and the order stay.
+    pub fn indexed_iter_mut(&mut self) -> IndexedIterMut<'_, T>
+        ensures* writes_back { sem 𝓛 (lends_indexed T.row A.row A.Allocator self.entry result) }
+        ensures keeps { KeepsSize self.old }
+        ensures rest { indexed_mut_rest result ≡ zip (places self.old.order (rows_of self.old.rows) (cols_of self.old.rows)) (storage self.old.order self.old.rows) }
+    {
+        self.flat
+            .indexed_iter_mut(self.order, self.row_count, self.col_count)
+    }
+
+    /// The cells in storage order by value, each with its row and its column.
+    pub fn indexed_into_iter(self) -> IndexedIntoIter<T, A>
+        ensures { result ≡ zip (places self.order (rows_of self.rows) (cols_of self.rows)) (storage self.order self.rows) }
+    {
+        let Grid {
+            flat,
+            row_count,
+            col_count,
+            order,
+        } = self;
+        flat.indexed_into_iter(order, row_count, col_count)
+    }
+}
+
+impl<T: Drop, A: Allocator> IntoIterator for Grid<T, A> {
+    type Item = T;
+
+    type IntoIter = vec::IntoIter<T, A>;
+
+    ghost into_iter_gives = { λ grid it. (into_iter_items it ≡ storage grid.order grid.rows) × YieldsInOrder (into_iter_steps {X = T} {Z = A}) into_iter_items × YieldsInReverse (into_iter_steps_back {X = T} {Z = A}) into_iter_items };
+
+    fn into_iter(self) -> vec::IntoIter<T, A> {
+        self.into_vec().into_iter()
+    }
+}
+
+impl<'a, T, A: Allocator> IntoIterator for &'a Grid<T, A> {
+    type Item = &'a T;
+
+    type IntoIter = slice::Iter<'a, T>;
+
+    ghost into_iter_gives = { λ grid it. (iter_rest it ≡ storage grid.now.order grid.now.rows) × YieldsRefsInOrder (iter_steps {A = T}) iter_rest × YieldsRefsInReverse (iter_steps_back {A = T}) iter_rest };
+
+    fn into_iter(self) -> slice::Iter<'a, T> {
+        self.iter()
+    }
+}
+
+impl<'a, T, A: Allocator> IntoIterator for &'a mut Grid<T, A> {
+    ghost use Rattle.grid.specs.Walks.{lends_cells, KeepsSize};
+
+    type Item = &'a mut T;
+
+    type IntoIter = slice::IterMut<'a, T>;
+
+    ghost into_iter_gives = { λ grid it. (iter_mut_rest it ≡ storage grid.now.order grid.now.rows) × YieldsMutRefsInOrder (iter_mut_steps {A = T}) iter_mut_rest };
+
+    fn into_iter(self) -> slice::IterMut<'a, T>
+        ensures* writes_back { sem 𝓛 (lends_cells T.row A.row A.Allocator self.entry result) }
+        ensures keeps { KeepsSize self.old }
+        ensures into_iter_gives { (iter_mut_rest result ≡ storage self.old.order self.old.rows) × YieldsMutRefsInOrder (iter_mut_steps {A = T}) iter_mut_rest }
+    {
+        self.iter_mut()
+    }
+}

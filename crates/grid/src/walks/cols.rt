@@ -1,0 +1,137 @@
+//! Walks over a column, and over the columns from both ends.
+ghost use Rattle.std.specs.Prelude.{◌≡◌, ◌^◌, ◌<◌, ⊤, length, IfSome, Some};
+ghost use Rattle.std.specs.Borrow.{sem};
+ghost use Rattle.std.specs.Iterator.{YieldsFirstBy, YieldsLastBy, item_count, UpTo, at_most};
+ghost use Rattle.std.specs.Iterator.SizeHint.{IsWithinCount};
+ghost use Rattle.grid_base.specs.Table.{row, cols_of, turned};
+ghost use Rattle.grid_base.specs.Strides.{line_rest, LinesInOrder};
+ghost use Rattle.grid_base.specs.GridLineIterMut.{line_mut_rest};
+
+use super::span::{Span, col_span};
+use crate::Grid;
+use grid_base::GridLineIterMut;
+use std::alloc::{AllocError, Allocator, Global};
+use std::iter::StepBy;
+use std::marker::Model;
+use std::slice;
+
+impl<T, A: Allocator> Grid<T, A> {
+    ghost use Rattle.grid.specs.Walks.{lends_col, KeepsSizeFrom};
+
+    /// The cells of column c, which is in range.
+    ///
+    /// In row-major order a step passes over the cells of a row.
+    pub fn iter_col(&self, c: usize) -> StepBy<slice::Iter<'_, T>>
+        requires { c < cols_of self.now.rows }
+        ensures rest { line_rest result ≡ row (turned self.now.rows) c }
+        ensures runs { LinesInOrder T }
+    {
+        let Span { start, end, stride } = col_span(self.order, self.row_count, self.col_count, c);
+        self.flat.line(start, end, stride)
+    }
+
+    /// The cells of column c, which is in range, for writing. The size and the order stay. Each step takes the same
+    /// time.
+    pub fn iter_col_mut(&mut self, c: usize) -> GridLineIterMut<'_, T>
+        requires { c < cols_of self.old.rows }
+        ensures* writes_back { sem 𝓛 (lends_col T.row A.row A.Allocator self.entry c result) }
+        ensures keeps { KeepsSizeFrom self.old 0 c }
+        ensures rest { line_mut_rest result ≡ row (turned self.old.rows) c }
+    {
+        let Span { start, end, stride } = col_span(self.order, self.row_count, self.col_count, c);
+        self.flat.line_mut(start, end, stride)
+    }
+
+    /// The columns, each as [`iter_col`](Grid::iter_col) gives it.
+    pub fn iter_cols(&self) -> GridColIter<'_, T, A>
+        ensures rest { result ≡ turned self.now.rows }
+        ensures fits { length result < 2 ^ 64 }
+    {
+        GridColIter {
+            grid: self,
+            from: 0,
+            to: self.col_count,
+        }
+    }
+}
+
+/// The columns of a grid that are left.
+#[derive(Drop)]
+pub struct GridColIter<'a, T, A: Allocator = Global> {
+    grid: &'a Grid<T, A>,
+    from: usize,
+    to: usize,
+}
+
+impl<'a, T, A: Allocator> Model for GridColIter<'a, T, A> {
+    ghost use Rattle.std.specs.Prelude.{◌-◌, List};
+    ghost use Rattle.grid_base.specs.Table.{cols_of, turned};
+    ghost use Rattle.grid.specs.Left.{IsLeft, left};
+
+    ghost Value = { List (List T) };
+
+    ghost view = { λ a. left a.from a.to (turned a.grid.now.rows) };
+
+    ghost invariant = { λ a. IsLeft a.from a.to (cols_of a.grid.now.rows) };
+}
+
+impl<'a, T, A: Allocator> Iterator for GridColIter<'a, T, A> {
+    type Item = StepBy<slice::Iter<'a, T>>;
+
+    ghost next_gives = { YieldsFirstBy line_rest (λ rest. rest) };
+
+    ghost remaining = { item_count (λ rest. rest) };
+
+    fn next(&mut self) -> Option<StepBy<slice::Iter<'a, T>>> {
+        if self.from < self.to {
+            let line = self.grid.iter_col(self.from);
+            self.from += 1;
+            Some(line)
+        } else {
+            None
+        }
+    }
+
+    fn size_hint(&self) -> (usize, Option<usize>)
+        ensures lower { IsWithinCount result.0 (at_most (length self.now)) }
+        ensures upper { IfSome result.1 (UpTo (at_most (length self.now))) }
+        ensures exact { result ≡ (length self.now, Some (length self.now)) }
+    {
+        let len = self.len();
+        (len, Some(len))
+    }
+}
+
+impl<'a, T, A: Allocator> DoubleEndedIterator for GridColIter<'a, T, A> {
+    ghost next_back_gives = { YieldsLastBy line_rest (λ rest. rest) };
+
+    fn next_back(&mut self) -> Option<StepBy<slice::Iter<'a, T>>> {
+        if self.from < self.to {
+            self.to -= 1;
+            Some(self.grid.iter_col(self.to))
+        } else {
+            None
+        }
+    }
+}
+
+impl<'a, T, A: Allocator> ExactSizeIterator for GridColIter<'a, T, A> {
+    fn len(&self) -> usize {
+        self.to - self.from
+    }
+}
+
+/// A clone stands at the same columns. It is always `Ok`, and takes no memory.
+impl<'a, T, A: Allocator> Clone for GridColIter<'a, T, A> {
+    ghost is_clone = { λ it copy. copy ≡ it };
+
+    ghost is_infallible = { λ _. ⊤ };
+
+    fn clone(&self) -> Result<Self, AllocError> {
+        Ok(GridColIter {
+            grid: self.grid,
+            from: self.from,
+            to: self.to,
+        })
+    }
+}

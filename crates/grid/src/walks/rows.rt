@@ -1,0 +1,136 @@
+//! Walks over a row, and over the rows from both ends.
+ghost use Rattle.std.specs.Prelude.{◌≡◌, ◌^◌, ◌<◌, ⊤, length, IfSome, Some};
+ghost use Rattle.std.specs.Borrow.{sem};
+ghost use Rattle.std.specs.Iterator.{YieldsFirstBy, YieldsLastBy, item_count, UpTo, at_most};
+ghost use Rattle.std.specs.Iterator.SizeHint.{IsWithinCount};
+ghost use Rattle.grid_base.specs.Table.{row, rows_of};
+ghost use Rattle.grid_base.specs.Strides.{line_rest, LinesInOrder};
+ghost use Rattle.grid_base.specs.GridLineIterMut.{line_mut_rest};
+
+use super::span::{Span, row_span};
+use crate::Grid;
+use grid_base::GridLineIterMut;
+use std::alloc::{AllocError, Allocator, Global};
+use std::iter::StepBy;
+use std::marker::Model;
+use std::slice;
+
+impl<T, A: Allocator> Grid<T, A> {
+    ghost use Rattle.grid.specs.Walks.{lends_row, KeepsSizeFrom};
+
+    /// The cells of row r, which is in range.
+    ///
+    /// In column-major order a step passes over the cells of a column.
+    pub fn iter_row(&self, r: usize) -> StepBy<slice::Iter<'_, T>>
+        requires { r < rows_of self.now.rows }
+        ensures rest { line_rest result ≡ row self.now.rows r }
+        ensures runs { LinesInOrder T }
+    {
+        let Span { start, end, stride } = row_span(self.order, self.row_count, self.col_count, r);
+        self.flat.line(start, end, stride)
+    }
+
+    /// The cells of row r, which is in range, for writing. The size and the order stay. Each step takes the same time.
+    pub fn iter_row_mut(&mut self, r: usize) -> GridLineIterMut<'_, T>
+        requires { r < rows_of self.old.rows }
+        ensures* writes_back { sem 𝓛 (lends_row T.row A.row A.Allocator self.entry r result) }
+        ensures keeps { KeepsSizeFrom self.old r 0 }
+        ensures rest { line_mut_rest result ≡ row self.old.rows r }
+    {
+        let Span { start, end, stride } = row_span(self.order, self.row_count, self.col_count, r);
+        self.flat.line_mut(start, end, stride)
+    }
+
+    /// The rows, each as [`iter_row`](Grid::iter_row) gives it.
+    pub fn iter_rows(&self) -> GridRowIter<'_, T, A>
+        ensures rest { result ≡ self.now.rows }
+        ensures fits { length result < 2 ^ 64 }
+    {
+        GridRowIter {
+            grid: self,
+            from: 0,
+            to: self.row_count,
+        }
+    }
+}
+
+/// The rows of a grid that are left.
+#[derive(Drop)]
+pub struct GridRowIter<'a, T, A: Allocator = Global> {
+    grid: &'a Grid<T, A>,
+    from: usize,
+    to: usize,
+}
+
+impl<'a, T, A: Allocator> Model for GridRowIter<'a, T, A> {
+    ghost use Rattle.std.specs.Prelude.{◌-◌, List};
+    ghost use Rattle.grid_base.specs.Table.{rows_of};
+    ghost use Rattle.grid.specs.Left.{IsLeft, left};
+
+    ghost Value = { List (List T) };
+
+    ghost view = { λ a. left a.from a.to a.grid.now.rows };
+
+    ghost invariant = { λ a. IsLeft a.from a.to (rows_of a.grid.now.rows) };
+}
+
+impl<'a, T, A: Allocator> Iterator for GridRowIter<'a, T, A> {
+    type Item = StepBy<slice::Iter<'a, T>>;
+
+    ghost next_gives = { YieldsFirstBy line_rest (λ rest. rest) };
+
+    ghost remaining = { item_count (λ rest. rest) };
+
+    fn next(&mut self) -> Option<StepBy<slice::Iter<'a, T>>> {
+        if self.from < self.to {
+            let line = self.grid.iter_row(self.from);
+            self.from += 1;
+            Some(line)
+        } else {
+            None
+        }
+    }
+
+    fn size_hint(&self) -> (usize, Option<usize>)
+        ensures lower { IsWithinCount result.0 (at_most (length self.now)) }
+        ensures upper { IfSome result.1 (UpTo (at_most (length self.now))) }
+        ensures exact { result ≡ (length self.now, Some (length self.now)) }
+    {
+        let len = self.len();
+        (len, Some(len))
+    }
+}
+
+impl<'a, T, A: Allocator> DoubleEndedIterator for GridRowIter<'a, T, A> {
+    ghost next_back_gives = { YieldsLastBy line_rest (λ rest. rest) };
+
+    fn next_back(&mut self) -> Option<StepBy<slice::Iter<'a, T>>> {
+        if self.from < self.to {
+            self.to -= 1;
+            Some(self.grid.iter_row(self.to))
+        } else {
+            None
+        }
+    }
+}
+
+impl<'a, T, A: Allocator> ExactSizeIterator for GridRowIter<'a, T, A> {
+    fn len(&self) -> usize {
+        self.to - self.from
+    }
+}
+
+/// A clone stands at the same rows. It is always `Ok`, and takes no memory.
+impl<'a, T, A: Allocator> Clone for GridRowIter<'a, T, A> {
+    ghost is_clone = { λ it copy. copy ≡ it };
+
+    ghost is_infallible = { λ _. ⊤ };
+
+    fn clone(&self) -> Result<Self, AllocError> {
+        Ok(GridRowIter {
+            grid: self.grid,
+            from: self.from,
+            to: self.to,
+        })
+    }
+}

@@ -1,0 +1,102 @@
+//! Calls on all cells of a grid.
+ghost use Rattle.std.specs.Prelude.{◌≡◌, IfOk, IfErr, OnOk, OnErr};
+ghost use Rattle.std.specs.Fn.{FnReturnsAt};
+ghost use Rattle.grid_base.specs.Table.{rows_of, cols_of, IsTable};
+ghost use Rattle.grid_base.specs.Order.{storage};
+ghost use Rattle.grid_base.specs.Answers.{Answers, Gives, Pairs};
+ghost use Rattle.grid.specs.Wholes.{filled};
+
+use crate::Grid;
+use std::alloc::{AllocError, Allocator};
+
+impl<T, A: Allocator> Grid<T, A> {
+    /// Makes every cell the value. The size and the order stay.
+    ///
+    /// All clones are made before the first change, in a vector of their own, so a refusal changes nothing; it drops
+    /// the value. On an empty grid no memory is taken.
+    pub fn fill(&mut self, value: T) -> Result<(), AllocError>
+    where
+        T: Clone,
+        A: Clone,
+        requires clones { (x y : T) → T.is_clone x y → y ≡ x }
+        ensures ok { OnOk result (self.new.rows ≡ filled value self.old.rows) }
+        ensures order { self.new.order ≡ self.old.order }
+        ensures err { OnErr result (self.new ≡ self.old) }
+    {
+        self.flat.fill(value)
+    }
+
+    /// Fills the cells by the closure's answers, one call a cell in storage order. The size and the order stay.
+    ///
+    /// Takes no memory.
+    pub fn fill_with<F: FnMut() -> T>(&mut self, f: F)
+    where
+        T: Drop,
+        requires { F.IsAlwaysCallable f }
+        ensures order { self.new.order ≡ self.old.order }
+        ensures rows { rows_of self.new.rows ≡ rows_of self.old.rows }
+        ensures cols { cols_of self.new.rows ≡ cols_of self.old.rows }
+        ensures table { IsTable self.new.rows }
+        ensures cells { Gives (λ p x q. F.step p x q) f (storage self.new.order self.new.rows) }
+    {
+        self.flat.fill_with(f);
+    }
+
+    /// The grid of the closure's answers, one call a cell in storage order, of the same size and order.
+    ///
+    /// Where memory is refused this grid comes back, and the closure wasn't called.
+    pub fn map<U, F: FnMut(T) -> U>(self, f: F) -> Result<Grid<U, A>, Grid<T, A>>
+    where
+        T: Drop,
+        A: Clone,
+        requires { F.IsAlwaysCallable f }
+        ensures order { IfOk result (λ g. g.order ≡ self.order) }
+        ensures rows { IfOk result (λ g. rows_of g.rows ≡ rows_of self.rows) }
+        ensures cols { IfOk result (λ g. cols_of g.rows ≡ cols_of self.rows) }
+        ensures table { IfOk result (λ g. IsTable g.rows) }
+        ensures cells { IfOk result (λ g. Answers (λ p x y q. F.step p x y q) f (storage self.order self.rows) (storage g.order g.rows)) }
+        ensures refused { IfErr result (λ g. g ≡ self) }
+    {
+        let Grid {
+            flat,
+            row_count,
+            col_count,
+            order,
+        } = self;
+        match flat.map(f) {
+            Ok(flat) => Ok(Grid {
+                flat,
+                row_count,
+                col_count,
+                order,
+            }),
+            Err(flat) => Err(Grid {
+                flat,
+                row_count,
+                col_count,
+                order,
+            }),
+        }
+    }
+
+    /// The grid of the closure's answers at references to the cells, in storage order, of the same size and order.
+    pub fn map_ref<U, F: Fn(&T) -> U>(&self, f: F) -> Result<Grid<U, A>, AllocError>
+    where
+        U: Drop,
+        A: Clone,
+        requires { F.IsAlwaysCallable f }
+        ensures order { IfOk result (λ g. g.order ≡ self.now.order) }
+        ensures rows { IfOk result (λ g. rows_of g.rows ≡ rows_of self.now.rows) }
+        ensures cols { IfOk result (λ g. cols_of g.rows ≡ cols_of self.now.rows) }
+        ensures table { IfOk result (λ g. IsTable g.rows) }
+        ensures cells { IfOk result (λ g. Pairs (FnReturnsAt F.Fn f) (storage self.now.order self.now.rows) (storage g.order g.rows)) }
+    {
+        let flat = self.flat.map_ref(f)?;
+        Ok(Grid {
+            flat,
+            row_count: self.row_count,
+            col_count: self.col_count,
+            order: self.order,
+        })
+    }
+}
