@@ -1,4 +1,7 @@
 pub mod Grid
+pub mod Make
+pub mod Slots
+pub mod Rows
 pub mod Passes
 pub mod Reply
 pub mod Command

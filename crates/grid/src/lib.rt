@@ -5,10 +5,13 @@
 #![tactic(auto)]
 
 mod command;
+mod convert;
 mod edits;
 mod error;
 mod grid;
 pub mod laws;
+mod macros;
+mod make;
 mod symmetry;
 mod walks;
 

@@ -1,0 +1,102 @@
+-- Cells that are joined, and cut into rows.
+use Rattle.std.proofs.Common.{◌≡◌, ◌≢◌, ℕ, zero, suc, ◌+◌, ◌*◌, ◌^◌, ◌<◌, ◌==◌, if◌then◌else◌, Bool, true, false, IsTrue, List, [], ◌∷◌, ◌++◌, length, get_or, take, map, Result, Ok, Err, refl, sym, ◌∙◌, ap, arith, ⊎_elim, subst}
+use Rattle.std.specs.Result.{IsErrAnd}
+use Rattle.std.proofs.lemmas.List.{take_more, append-nil, map-append, length-map, get_or-map}
+use Rattle.std.proofs.lemmas.Grind.{flat_map-append}
+use Rattle.std.proofs.lemmas.Bool.{cases_eq}
+use borrow.Author.Tests.{eqb-true}
+use Rattle.grid_base.specs.declared.flat.order.Order.TheVariants.{RowMajor}
+use Rattle.grid_base.specs.Table.{row, rows_of, cols_of, joined, IsTable}
+use Rattle.grid_base.specs.Order.{storage, CanCut}
+use Rattle.grid_base.specs.Sheet.{Sheet}
+use Rattle.grid_base.proofs.Stores.{length-joined}
+use Rattle.grid_base.proofs.Views.{same_by_storage, none_by_storage}
+use Rattle.grid.specs.declared.error.ShapeError.{ShapeError}
+use Rattle.grid.specs.declared.error.ShapeError.TheVariants.{Memory}
+use Rattle.grid.proofs.Made.{CanCut-cells}
+use Rattle.grid.specs.Rows.{HasShape, AreEven, CanJoin, equal_rows, CutAnswer, RowsAnswer}
+
+-- a test that failed refuses what it is true of
+pub refused : (len k cols : ℕ) (b : Bool) → k ≡ len → (CanCut k cols → IsTrue b) → b ≡ false → CanCut len cols → ⊥
+refused len k cols b e f failed h =
+    let P : ℕ → Type 0 = λ x. CanCut x cols in
+    let passed : b ≡ true = f (subst P (sym e) h) in
+    let both : false ≡ true = sym failed ∙ passed in
+    cc
+
+pub CanCut-same : (k len cols : ℕ) → k ≡ len → CanCut k cols → CanCut len cols
+CanCut-same k len cols e h = let P : ℕ → Type 0 = λ x. CanCut x cols in subst P e h
+
+-- want of memory, where it may come
+pub cut_memory : {T : Type 0} (memory : Type 0) (cells : List T) (n : ℕ) (P : List T → Type 0) (r : Result (Sheet T) ShapeError) → memory → IsErrAnd r (λ e. e ≡ Memory) → CutAnswer memory cells n P r
+cut_memory memory cells n P (Ok x) h e = absurd e
+cut_memory memory cells n P (Err x) h e = rw e h
+
+pub rows_memory : {T : Type 0} (rows : List (List T)) (P : List (List T) → Type 0) (r : Result (Sheet T) ShapeError) → CanJoin rows → IsErrAnd r (λ e. e ≡ Memory) → RowsAnswer rows P r
+rows_memory rows P (Ok x) h e = absurd e
+rows_memory rows P (Err x) h e = rw e h
+
+-- cells that were cut have the shape
+pub cut_shape : {T : Type 0} (cells : List T) (len n : ℕ) (g : Sheet T) → g.order ≡ RowMajor → IsTable g.rows → storage RowMajor g.rows ≡ cells → (length cells ≢ 0 → cols_of g.rows ≡ n) → length cells ≡ len → HasShape len n g
+cut_shape cells len n g order table stored cols count = record {
+  order = order;
+  table = table;
+  count = ap length stored ∙ count;
+  cols = λ some. cols (λ none. some (sym count ∙ none));
+}
+
+-- one row of rows that are seen through f
+pub row-map : {L T : Type 0} (f : L → List T) (rows : List L) (k : ℕ) (x : L) → k < length rows → x ≡ get_or rows k x → row (map f rows) k ≡ f x
+row-map f rows k x lt is = get_or-map f rows k x [] lt ∙ ap f (sym is)
+
+pub joined_more : {L T : Type 0} (f : L → List T) (rows : List L) (i : ℕ) (x : L) → i < length rows → x ≡ get_or rows i x → joined (map f (take (i + 1) rows)) ≡ joined (map f (take i rows)) ++ f x
+joined_more f rows i x lt is = rw (take_more rows i x lt, ← is, map-append, flat_map-append, append-nil)
+
+pub joined_last : {L T : Type 0} (f : L → List T) (rows : List L) (x : L) → joined (map f (rows ++ x ∷ [])) ≡ joined (map f rows) ++ f x
+joined_last f rows x = rw (map-append, flat_map-append, append-nil)
+
+-- how many cells even rows have
+pub length-even : {T : Type 0} (rows : List (List T)) → AreEven rows → length (joined rows) ≡ rows_of rows * cols_of rows
+length-even rows even = length-joined rows (cols_of rows) even
+
+kept : {T : Type 0} (rows : List (List T)) (n : ℕ) → n ≢ 0 → (if n == 0 then [] else rows) ≡ rows
+kept {T} rows n some = by_test (n == 0) refl
+  where
+    by_test : (b : Bool) → (n == 0) ≡ b → (if n == 0 then [] else rows) ≡ rows
+    by_test true e = absurd (some (eqb-true n 0 e))
+    by_test false e = ap (λ x. if x then [] else rows) e
+
+-- a table of the cells of even rows is those rows
+pub equal_rows_are : {T : Type 0} (rows t : List (List T)) → AreEven rows → IsTable t → joined t ≡ joined rows → (length (joined rows) ≢ 0 → cols_of t ≡ cols_of rows) → t ≡ equal_rows rows
+equal_rows_are {T} rows t even table same cols =
+    ⊎_elim (λ none.
+    let zeros : rows_of rows * cols_of rows ≡ 0 = ap (λ x. rows_of rows * x) none ∙ omega arith in
+    let no_cells : length (joined t) ≡ 0 = ap length same ∙ (length-even rows even ∙ zeros) in
+    none_by_storage RowMajor t table no_cells ∙ sym (ap (λ x. if x == 0 then [] else rows) none))
+    (λ some. by_rows rows even same cols some ∙ sym (kept rows (cols_of rows) some))
+    (cases_eq (cols_of rows) 0)
+  where
+    by_rows : (rows : List (List T)) → AreEven rows → joined t ≡ joined rows → (length (joined rows) ≢ 0 → cols_of t ≡ cols_of rows) → cols_of rows ≢ 0 → t ≡ rows
+    by_rows [] even same cols some = absurd (some refl)
+    by_rows (x ∷ xs) even same cols some =
+        let whole : IsTable (x ∷ xs) = record { nonempty = λ r lt. omega (arith, even r lt); even = even } in
+        let count = length-even (x ∷ xs) even in
+        let cells : length (joined (x ∷ xs)) ≢ 0 = λ none. some (first_zero (length xs) (cols_of (x ∷ xs)) (sym count ∙ none)) in
+        same_by_storage RowMajor t (x ∷ xs) table whole (cols cells) same
+      where
+        first_zero : (k n : ℕ) → suc k * n ≡ 0 → n ≡ 0
+        first_zero k n e = omega arith
+
+-- the cells of even rows, in any form, can be cut into rows of their length
+pub CanCut-rows : {T : Type 0} (rows : List (List T)) (len n : ℕ) → CanJoin rows → n ≡ cols_of rows → len ≡ length (joined rows) → CanCut len n
+CanCut-rows rows len n join width count =
+    CanCut-cells len (rows_of rows) n (count ∙ (length-even rows join.even ∙ ap (λ x. rows_of rows * x) (sym width)))
+
+-- a grid that is cut from such cells
+module _ {T : Type 0} (rows : List (List T)) (cells : List T) (n : ℕ) (g : Sheet T) (join : CanJoin rows) (width : n ≡ cols_of rows) (table : IsTable g.rows) (stored : storage RowMajor g.rows ≡ cells) (cols : length cells ≢ 0 → cols_of g.rows ≡ n) where
+  pub rows_shape : g.order ≡ RowMajor → length cells ≡ length (joined rows) → HasShape (length (joined rows)) (cols_of rows) g
+  rows_shape order count = cut_shape cells (length (joined rows)) (cols_of rows) g order table stored (λ some. cols some ∙ width) count
+
+  pub rows_equal : cells ≡ joined rows → g.rows ≡ equal_rows rows
+  rows_equal same =
+      equal_rows_are rows g.rows join.even table (stored ∙ same) (λ some. cols (λ none. some (sym (ap length same) ∙ none)) ∙ width)

@@ -1,0 +1,8 @@
+use Rattle.std.proofs.Common.{◌≡◌, refl, length, arith}
+use Rattle.grid.proofs.Joins.{refused}
+use Rattle.grid.proofs.convert.GridTryFromTuple2VecUsize.try_from.Goals as goal
+
+pub returns-else-can_cut : goal.returns-else-can_cut
+returns-else-can_cut g c =
+    let len : c.len-len.result ≡ length c.args.arg1.0.items = omega arith in
+    (refused _ _ _ _ len c.can_cut.ensures.1 c.if-can_cut.false, len, refl)

@@ -1,0 +1,8 @@
+use Rattle.std.proofs.Common.{◌≡◌, ◌∙◌, ap, length, arith}
+use Rattle.grid_base.proofs.Views.{none_by_storage}
+use Rattle.grid.proofs.grid.Grid.with_capacity_and_order.Goals as goal
+
+pub returns-clause-rows : goal.returns-clause-rows
+returns-clause-rows g c =
+    none_by_storage c.args.order _ c.from_vec_with_order.ensures.table
+    (ap length c.from_vec_with_order.ensures.storage ∙ ap length c.in_ok-cells.ensures.items)

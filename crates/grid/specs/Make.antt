@@ -1,0 +1,21 @@
+-- What the constructors of a grid say of its table.
+use Rattle.std.specs.Prelude.{◌≡◌, ◌≢◌, ℕ, ◌*◌, List, [], Some}
+use Rattle.grid_base.specs.Table.{rows_of, cols_of, cell, InRange}
+
+-- a table of m rows and n columns, which is empty where it has no cells
+pub record HasSize {T : Type 0} (m n : ℕ) (t : List (List T)) : Type 0 where
+  pub none : m * n ≡ 0 → t ≡ []
+  pub rows : m * n ≢ 0 → rows_of t ≡ m
+  pub cols : m * n ≢ 0 → cols_of t ≡ n
+
+-- every cell of a table is d
+abbrev pub EachCellIs : {T : Type 0} → T → List (List T) → Type 0
+EachCellIs d t = (r c : ℕ) → InRange t r c → cell t r c ≡ Some d
+
+-- a type has one default, d
+abbrev pub IsOnlyDefault : {T : Type 0} → (T → Type 0) → T → Type 0
+IsOnlyDefault {T} is_default d = (x : T) → is_default x → x ≡ d
+
+-- each clone equals its source
+abbrev pub ClonesAreEqual : {T : Type 0} → (T → T → Type 0) → Type 0
+ClonesAreEqual {T} is_clone = (x y : T) → is_clone x y → y ≡ x

@@ -1,0 +1,62 @@
+-- Cells joined and cut into rows, and rows of one length as a table.
+use Rattle.std.specs.Prelude.{◌≡◌, ◌≢◌, ◌==◌, if◌then◌else◌, ℕ, ◌*◌, ◌^◌, ◌<◌, ◌≤◌, List, [], length, Result, MatchResult}
+use Rattle.grid_base.specs.declared.flat.order.Order.TheVariants.{RowMajor}
+use Rattle.grid_base.specs.Table.{row, rows_of, cols_of, joined, IsTable}
+use Rattle.grid_base.specs.Order.{CanCut}
+use Rattle.grid_base.specs.Sheet.{Sheet}
+use Rattle.grid.specs.declared.error.ShapeError.{ShapeError}
+use Rattle.grid.specs.declared.error.ShapeError.TheVariants.{TooLarge, Shape, Ragged, Memory}
+
+-- why so many cells could not be cut into rows of n: the cells of one vector are never too many, and rows that are cut
+-- are never ragged; memory says when want of memory may come
+abbrev pub CutFault : Type 0 → ℕ → ℕ → ShapeError → Type 0
+CutFault memory len n TooLarge = ⊥
+CutFault memory len n (Shape l cols) = (¬ CanCut len n) × (l ≡ len) × (cols ≡ n)
+CutFault memory len n (Ragged r l cols) = ⊥
+CutFault memory len n Memory = memory
+
+module _ {T : Type 0} where
+  -- a row-major grid of so many cells in rows of n
+  pub record HasShape (len n : ℕ) (g : Sheet T) : Type 0 where
+    pub order : g.order ≡ RowMajor
+    pub table : IsTable g.rows
+    pub count : length (joined g.rows) ≡ len
+    pub cols : len ≢ 0 → cols_of g.rows ≡ n
+
+  -- joined and cut: the grid of rows of n whose rows, joined, are the cells
+  abbrev pub IsCut : List T → ℕ → Sheet T → Type 0
+  IsCut cells n g = HasShape (length cells) n g × (joined g.rows ≡ cells)
+
+  -- all rows have one length
+  abbrev pub AreEven : List (List T) → Type 0
+  AreEven rows = (r : ℕ) → r < rows_of rows → length (row rows r) ≡ cols_of rows
+
+  -- row r is the first whose length is not that of row 0
+  pub record IsFirstRagged (rows : List (List T)) (r : ℕ) : Type 0 where
+    pub within : r < rows_of rows
+    pub ragged : length (row rows r) ≢ cols_of rows
+    pub before : (k : ℕ) → k < r → length (row rows k) ≡ cols_of rows
+
+  -- rows of one length as a table: the rows themselves, or none where they have no cells
+  abbrev pub equal_rows : List (List T) → List (List T)
+  equal_rows rows = if cols_of rows == 0 then [] else rows
+
+  -- all rows have one length, and a vector can hold their cells
+  pub record CanJoin (rows : List (List T)) : Type 0 where
+    pub even : AreEven rows
+    pub below : length (joined rows) < 2 ^ 64
+
+  -- why rows could not be made a grid: the lengths are tested first, then the number of cells, and memory comes last
+  abbrev pub RowsFault : List (List T) → ShapeError → Type 0
+  RowsFault rows TooLarge = AreEven rows × (2 ^ 64 ≤ length (joined rows))
+  RowsFault rows (Shape len cols) = ⊥
+  RowsFault rows (Ragged r len cols) = IsFirstRagged rows r × (len ≡ length (row rows r)) × (cols ≡ cols_of rows)
+  RowsFault rows Memory = CanJoin rows
+
+  -- what a conversion of rows answers: equal rows, of which the grid has those that P says, or why not
+  abbrev pub RowsAnswer : List (List T) → (List (List T) → Type 0) → Result (Sheet T) ShapeError → Type 0
+  RowsAnswer rows P r = MatchResult r (λ g. CanJoin rows × HasShape (length (joined rows)) (cols_of rows) g × P g.rows) (RowsFault rows)
+
+  -- what a conversion of cells answers: the cut, of which the grid has those cells that P says, or why not
+  abbrev pub CutAnswer : Type 0 → List T → ℕ → (List T → Type 0) → Result (Sheet T) ShapeError → Type 0
+  CutAnswer memory cells n P r = MatchResult r (λ g. CanCut (length cells) n × HasShape (length cells) n g × P (joined g.rows)) (CutFault memory (length cells) n)

@@ -1,0 +1,181 @@
+//! Conversions of vectors into row-major grids.
+ghost use Rattle.std.specs.Prelude.{◌≡◌, ◌≢◌, ◌↔◌, length, map, IsTrue, MatchResult};
+ghost use Rattle.grid_base.specs.Table.{cols_of, joined};
+ghost use Rattle.grid_base.specs.Order.{CanCut};
+ghost use Rattle.grid.specs.Make.{ClonesAreEqual};
+ghost use Rattle.grid.specs.Rows.{equal_rows, CanJoin, RowsFault, RowsAnswer, CutAnswer};
+
+use crate::{Grid, ShapeError};
+use std::alloc::Allocator;
+use std::convert::{AsSlice, TryFrom};
+
+#[cfg(test)]
+mod tests;
+
+// Whether so many cells can be cut into rows of `cols`.
+fn can_cut(len: usize, cols: usize) -> bool
+    ensures { IsTrue result ↔ CanCut len cols }
+{
+    len == 0 || (cols != 0 && len % cols == 0)
+}
+
+/// The grid of rows of this length whose rows, joined, are the vector.
+///
+/// `Shape` exactly where the vector is not empty and the length is 0 or does not divide the number of cells; then the
+/// vector is dropped. Takes no memory, and answers nothing else.
+impl<T: Drop, A: Allocator> TryFrom<(Vec<T, A>, usize)> for Grid<T, A> {
+    type Error = ShapeError;
+
+    ghost try_from_gives = { λ pair r. CutAnswer ⊥ pair.0.items pair.1 (λ cells. cells ≡ pair.0.items) r };
+
+    fn try_from((cells, cols): (Vec<T, A>, usize)) -> Result<Grid<T, A>, ShapeError> {
+        let len = cells.len();
+        if can_cut(len, cols) {
+            Ok(Grid::from_vec(cells, cols))
+        } else {
+            Err(ShapeError::Shape { len, cols })
+        }
+    }
+}
+
+// What the two borrowed pairs share.
+fn cut_clones<T: Clone, A: Allocator + Clone>(
+    cells: &Vec<T, A>,
+    cols: usize,
+) -> Result<Grid<T, A>, ShapeError>
+    ensures { CutAnswer (CanCut (length cells.now.items) cols) cells.now.items cols (λ found. ClonesAreEqual T.is_clone → found ≡ cells.now.items) result }
+{
+    let len = cells.len();
+    if can_cut(len, cols) {
+        let copies = cells.clone()?;
+        Ok(Grid::from_vec(copies, cols))
+    } else {
+        Err(ShapeError::Shape { len, cols })
+    }
+}
+
+/// The grid of rows of this length whose rows, joined, are clones of the vector's cells.
+///
+/// Where clones equal their source, the cells are those of the vector. `Shape` exactly where the vector is not empty
+/// and the length is 0 or does not divide the number of cells; only then memory is asked for, of the vector's
+/// allocator.
+impl<T: Clone, A: Allocator + Clone> TryFrom<(&Vec<T, A>, usize)> for Grid<T, A> {
+    type Error = ShapeError;
+
+    ghost try_from_gives = { λ pair r. CutAnswer (CanCut (length pair.0.now.items) pair.1) pair.0.now.items pair.1 (λ cells. ClonesAreEqual T.is_clone → cells ≡ pair.0.now.items) r };
+
+    fn try_from(pair: (&Vec<T, A>, usize)) -> Result<Grid<T, A>, ShapeError> {
+        cut_clones(pair.0, pair.1)
+    }
+}
+
+/// The same, with the length by reference.
+impl<T: Clone, A: Allocator + Clone> TryFrom<(&Vec<T, A>, &usize)> for Grid<T, A> {
+    type Error = ShapeError;
+
+    ghost try_from_gives = { λ pair r. CutAnswer (CanCut (length pair.0.now.items) pair.1.now) pair.0.now.items pair.1.now (λ cells. ClonesAreEqual T.is_clone → cells ≡ pair.0.now.items) r };
+
+    fn try_from(pair: (&Vec<T, A>, &usize)) -> Result<Grid<T, A>, ShapeError> {
+        cut_clones(pair.0, *pair.1)
+    }
+}
+
+// The length of the first row, or 0 where there is none.
+fn first_len<T, L: AsSlice<T>>(rows: &[L]) -> usize
+    ensures { result ≡ cols_of (map L.items rows.now) }
+{
+    match rows.first() {
+        Some(row) => row.as_slice().len(),
+        None => 0,
+    }
+}
+
+// How many cells rows of one length have together, and that length.
+fn measure<T, L: AsSlice<T>>(rows: &[L]) -> Result<(usize, usize), ShapeError>
+    ensures { MatchResult result
+        (λ sizes. CanJoin (map L.items rows.now) × (sizes.0 ≡ length (joined (map L.items rows.now))) × (sizes.1 ≡ cols_of (map L.items rows.now)))
+        (λ e. RowsFault (map L.items rows.now) e × (e ≢ ShapeError.Memory)) }
+{
+    let cols = first_len(rows);
+    for (number, row) in rows.iter().enumerate() {
+        let len = row.as_slice().len();
+        if len != cols {
+            return Err(ShapeError::Ragged {
+                row: number,
+                len,
+                cols,
+            });
+        }
+    }
+    match rows.len().checked_mul(cols) {
+        Some(count) => Ok((count, cols)),
+        None => Err(ShapeError::TooLarge),
+    }
+}
+
+/// The grid of these rows, which are moved.
+///
+/// `Ragged` exactly where some row's length is not that of row 0, for the first such row; this is tested first and
+/// takes no memory. `TooLarge` exactly where there are more cells than `usize::MAX`, which cells of no size alone can
+/// reach. Memory comes from the outer vector's allocator. On a refusal the rows are dropped.
+impl<T: Drop, A: Allocator + Clone> TryFrom<Vec<Vec<T, A>, A>> for Grid<T, A> {
+    type Error = ShapeError;
+
+    ghost try_from_gives = { λ rows r. let lists = map (λ row. row.items) rows.items in RowsAnswer lists (λ t. t ≡ equal_rows lists) r };
+
+    fn try_from(rows: Vec<Vec<T, A>, A>) -> Result<Grid<T, A>, ShapeError> {
+        let (count, cols) = measure(rows.as_slice())?;
+        let mut cells = Vec::with_capacity(rows.allocator().clone()?, count)?;
+        for mut row in rows {
+            cells.append(&mut row)?;
+        }
+        Ok(Grid::from_vec(cells, cols))
+    }
+}
+
+// What the two borrowed lists of rows share.
+fn join_clones<T: Clone, L: AsSlice<T>, A: Allocator + Clone>(
+    alloc: &A,
+    rows: &[L],
+) -> Result<Grid<T, A>, ShapeError>
+    ensures { RowsAnswer (map L.items rows.now) (λ t. ClonesAreEqual T.is_clone → t ≡ equal_rows (map L.items rows.now)) result }
+{
+    let (count, cols) = measure(rows)?;
+    let mut cells = Vec::with_capacity(alloc.clone()?, count)?;
+    for row in rows {
+        cells.extend_with_clones(row.as_slice())?;
+    }
+    Ok(Grid::from_vec(cells, cols))
+}
+
+/// The grid of clones of these rows.
+///
+/// Where clones equal their source, the rows are those of the vector. `Ragged` exactly where some row's length is not
+/// that of row 0, for the first such row; this is tested first and takes no memory. `TooLarge` exactly where there are
+/// more cells than `usize::MAX`, which cells of no size alone can reach. Memory comes from the outer vector's
+/// allocator.
+impl<T: Clone, A: Allocator + Clone> TryFrom<&Vec<Vec<T, A>, A>> for Grid<T, A> {
+    type Error = ShapeError;
+
+    ghost try_from_gives = { λ rows r. let lists = map (λ row. row.items) rows.now.items in RowsAnswer lists (λ t. ClonesAreEqual T.is_clone → t ≡ equal_rows lists) r };
+
+    fn try_from(rows: &Vec<Vec<T, A>, A>) -> Result<Grid<T, A>, ShapeError> {
+        join_clones(rows.allocator(), rows.as_slice())
+    }
+}
+
+/// The grid of clones of these rows, which are lent.
+///
+/// Where clones equal their source, the rows are those that are lent. `Ragged` exactly where some row's length is not
+/// that of row 0, for the first such row; this is tested first and takes no memory. `TooLarge` exactly where there are
+/// more cells than `usize::MAX`, which cells of no size, or one vector that is lent many times, alone can reach. Memory
+/// comes from the outer vector's allocator.
+impl<T: Clone, A: Allocator + Clone> TryFrom<&Vec<&Vec<T, A>, A>> for Grid<T, A> {
+    type Error = ShapeError;
+
+    ghost try_from_gives = { λ rows r. let lists = map (λ row. row.now.items) rows.now.items in RowsAnswer lists (λ t. ClonesAreEqual T.is_clone → t ≡ equal_rows lists) r };
+
+    fn try_from(rows: &Vec<&Vec<T, A>, A>) -> Result<Grid<T, A>, ShapeError> {
+        join_clones(rows.allocator(), rows.as_slice())
+    }
+}

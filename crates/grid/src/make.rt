@@ -1,0 +1,158 @@
+//! How a grid is made of its size.
+ghost use Rattle.std.specs.Prelude.{◌≡◌, ◌*◌, ◌^◌, ◌≤◌, ◌↔◌, ℕ, [], All, IfOk, IsOk, IsErrOf};
+ghost use Rattle.grid_base.specs.Table.{IsTable};
+ghost use Rattle.grid_base.specs.Order.{storage};
+ghost use Rattle.grid.specs.Make.{HasSize, EachCellIs, IsOnlyDefault, ClonesAreEqual};
+
+use crate::{Grid, GridError};
+use grid_base::Order;
+use std::alloc::Allocator;
+
+mod arrays;
+#[cfg(test)]
+mod tests;
+
+impl<T, A: Allocator> Grid<T, A> {
+    // The empty grid of an order.
+    fn empty_with_order(alloc: A, order: Order) -> Grid<T, A>
+        ensures rows { result.rows ≡ [] }
+        ensures order { result.order ≡ order }
+    {
+        Grid::from_vec_with_order(Vec::new(alloc), 0, order)
+    }
+
+    /// The row-major grid of so many rows and columns whose cells are all defaults.
+    ///
+    /// Without rows or without columns it is the empty grid, which takes no memory. `TooLarge` exactly where
+    /// `rows * cols` passes `usize::MAX`, which is decided before memory is asked for.
+    pub fn new(alloc: A, rows: usize, cols: usize) -> Result<Grid<T, A>, GridError>
+    where
+        T: Default,
+        ensures order { IfOk result (λ g. g.order ≡ Order.RowMajor) }
+        ensures table { IfOk result (λ g. IsTable g.rows) }
+        ensures size { IfOk result (λ g. HasSize rows cols g.rows) }
+        ensures defaults { IfOk result (λ g. All T.is_default (storage g.order g.rows)) }
+        ensures fixed { IfOk result (λ g. (d : T) → IsOnlyDefault T.is_default d → EachCellIs d g.rows) }
+        ensures too_large { IsErrOf result GridError.TooLarge ↔ (2 ^ 64 ≤ rows * cols) }
+        ensures none { rows * cols ≡ 0 → IsOk result }
+    {
+        Grid::new_with_order(alloc, rows, cols, Order::RowMajor)
+    }
+
+    /// The grid of so many rows and columns in this order whose cells are all defaults.
+    ///
+    /// Without rows or without columns it is the empty grid, which takes no memory. `TooLarge` exactly where
+    /// `rows * cols` passes `usize::MAX`, which is decided before memory is asked for.
+    pub fn new_with_order(
+        alloc: A,
+        rows: usize,
+        cols: usize,
+        order: Order,
+    ) -> Result<Grid<T, A>, GridError>
+    where
+        T: Default,
+        ensures order { IfOk result (λ g. g.order ≡ order) }
+        ensures table { IfOk result (λ g. IsTable g.rows) }
+        ensures size { IfOk result (λ g. HasSize rows cols g.rows) }
+        ensures defaults { IfOk result (λ g. All T.is_default (storage g.order g.rows)) }
+        ensures fixed { IfOk result (λ g. (d : T) → IsOnlyDefault T.is_default d → EachCellIs d g.rows) }
+        ensures too_large { IsErrOf result GridError.TooLarge ↔ (2 ^ 64 ≤ rows * cols) }
+        ensures none { rows * cols ≡ 0 → IsOk result }
+    {
+        if rows == 0 || cols == 0 {
+            return Ok(Grid::empty_with_order(alloc, order));
+        }
+        let Some(count) = rows.checked_mul(cols) else {
+            return Err(GridError::TooLarge);
+        };
+        let mut cells = Vec::with_capacity(alloc, count)?;
+        for _ in 0..count {
+            cells.push(T::default()).unwrap();
+        }
+        Ok(Grid::from_vec_with_order(cells, cols, order))
+    }
+
+    /// The row-major grid of so many rows and columns whose cells all equal a value.
+    ///
+    /// Clones equal their source. Without rows or without columns it is the empty grid, which takes no memory.
+    /// `TooLarge` exactly where `rows * cols` passes `usize::MAX`, which is decided before memory is asked for. The
+    /// last cell is the value itself; a refusal drops it.
+    pub fn init(alloc: A, rows: usize, cols: usize, value: T) -> Result<Grid<T, A>, GridError>
+    where
+        T: Clone,
+        requires { ClonesAreEqual T.is_clone }
+        ensures order { IfOk result (λ g. g.order ≡ Order.RowMajor) }
+        ensures table { IfOk result (λ g. IsTable g.rows) }
+        ensures size { IfOk result (λ g. HasSize rows cols g.rows) }
+        ensures cells { IfOk result (λ g. EachCellIs value g.rows) }
+        ensures too_large { IsErrOf result GridError.TooLarge ↔ (2 ^ 64 ≤ rows * cols) }
+        ensures none { rows * cols ≡ 0 → IsOk result }
+    {
+        Grid::init_with_order(alloc, rows, cols, Order::RowMajor, value)
+    }
+
+    /// The grid of so many rows and columns in this order whose cells all equal a value.
+    ///
+    /// Clones equal their source. Without rows or without columns it is the empty grid, which takes no memory.
+    /// `TooLarge` exactly where `rows * cols` passes `usize::MAX`, which is decided before memory is asked for. The
+    /// last cell is the value itself; a refusal drops it.
+    pub fn init_with_order(
+        alloc: A,
+        rows: usize,
+        cols: usize,
+        order: Order,
+        value: T,
+    ) -> Result<Grid<T, A>, GridError>
+    where
+        T: Clone,
+        requires { ClonesAreEqual T.is_clone }
+        ensures order { IfOk result (λ g. g.order ≡ order) }
+        ensures table { IfOk result (λ g. IsTable g.rows) }
+        ensures size { IfOk result (λ g. HasSize rows cols g.rows) }
+        ensures cells { IfOk result (λ g. EachCellIs value g.rows) }
+        ensures too_large { IsErrOf result GridError.TooLarge ↔ (2 ^ 64 ≤ rows * cols) }
+        ensures none { rows * cols ≡ 0 → IsOk result }
+    {
+        if rows == 0 || cols == 0 {
+            return Ok(Grid::empty_with_order(alloc, order));
+        }
+        let Some(count) = rows.checked_mul(cols) else {
+            return Err(GridError::TooLarge);
+        };
+        let cells = Vec::from_elem(alloc, value, count)?;
+        Ok(Grid::from_vec_with_order(cells, cols, order))
+    }
+
+    /// An empty row-major grid with room for so many rows and columns.
+    ///
+    /// `TooLarge` exactly where `rows * cols` passes `usize::MAX`, which is decided before memory is asked for.
+    pub fn with_capacity(alloc: A, rows: usize, cols: usize) -> Result<Grid<T, A>, GridError>
+        ensures rows { IfOk result (λ g. g.rows ≡ []) }
+        ensures order { IfOk result (λ g. g.order ≡ Order.RowMajor) }
+        ensures too_large { IsErrOf result GridError.TooLarge ↔ (2 ^ 64 ≤ rows * cols) }
+        ensures none { rows * cols ≡ 0 → IsOk result }
+    {
+        Grid::with_capacity_and_order(alloc, rows, cols, Order::RowMajor)
+    }
+
+    /// An empty grid of this order with room for so many rows and columns.
+    ///
+    /// `TooLarge` exactly where `rows * cols` passes `usize::MAX`, which is decided before memory is asked for.
+    pub fn with_capacity_and_order(
+        alloc: A,
+        rows: usize,
+        cols: usize,
+        order: Order,
+    ) -> Result<Grid<T, A>, GridError>
+        ensures rows { IfOk result (λ g. g.rows ≡ []) }
+        ensures order { IfOk result (λ g. g.order ≡ order) }
+        ensures too_large { IsErrOf result GridError.TooLarge ↔ (2 ^ 64 ≤ rows * cols) }
+        ensures none { rows * cols ≡ 0 → IsOk result }
+    {
+        let Some(count) = rows.checked_mul(cols) else {
+            return Err(GridError::TooLarge);
+        };
+        let cells = Vec::with_capacity(alloc, count)?;
+        Ok(Grid::from_vec_with_order(cells, 0, order))
+    }
+}

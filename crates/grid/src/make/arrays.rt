@@ -1,0 +1,84 @@
+//! A grid of the cells in an array of rows.
+ghost use Rattle.std.specs.Prelude.{◌≡◌, ◌≢◌, ◌*◌, ◌^◌, ◌<◌, ◌≤◌, ◌↔◌, Some, None, IsTrue, IsOk, IfOk, OnOk, OnErr, IsErrOf, slice_get, slice_set};
+ghost use Rattle.grid_base.specs.Table.{cell, with_cell, IsTable};
+ghost use Rattle.grid.specs.Make.{HasSize};
+ghost use Rattle.grid.specs.Slots.{in_line, are_full, AreEmpty, HoldCells};
+
+use crate::{Grid, GridError};
+use grid_base::Order;
+use std::alloc::Allocator;
+
+// What an order takes first and second: row and column, or column and row.
+fn in_line(order: Order, i: usize, j: usize) -> (usize, usize)
+    ensures { result ≡ in_line order i j }
+{
+    match order {
+        Order::RowMajor => (i, j),
+        Order::ColumnMajor => (j, i),
+    }
+}
+
+// Takes the cell out of one slot of a row.
+fn take_slot<T, const C: usize>(row: &mut [Option<T>; C], col: usize) -> T
+    requires within { col < C }
+    requires full { slice_get row.old col ≢ Some None }
+    ensures cell { slice_get row.old col ≡ Some (Some result) }
+    ensures emptied { row.new ≡ slice_set row.old col None }
+{
+    match row[col].take() {
+        Some(cell) => cell,
+        None => unreachable!(),
+    }
+}
+
+// Takes the cell out of one slot.
+fn take_cell<T, const R: usize, const C: usize>(
+    cells: &mut [[Option<T>; C]; R],
+    row: usize,
+    col: usize,
+) -> T
+    requires row_in { row < R }
+    requires col_in { col < C }
+    requires full { cell cells.old row col ≢ Some None }
+    ensures cell { cell cells.old row col ≡ Some (Some result) }
+    ensures emptied { cells.new ≡ with_cell cells.old row col None }
+{
+    take_slot(&mut cells[row], col)
+}
+
+impl<T, A: Allocator> Grid<T, A> {
+    /// The grid of this order whose row i has the contents of row i of the slots.
+    ///
+    /// Every slot holds a cell. Afterwards every slot is `None`; a refusal leaves all slots as they were. Without
+    /// rows or without columns it is the empty grid of the order, which takes no memory. `TooLarge` exactly where `R * C` passes
+    /// `usize::MAX`, which is decided before memory is asked for.
+    pub fn from_arrays<const R: usize, const C: usize>(
+        alloc: A,
+        order: Order,
+        cells: &mut [[Option<T>; C]; R],
+    ) -> Result<Grid<T, A>, GridError>
+        requires { IsTrue (are_full cells.old) }
+        ensures order { IfOk result (λ g. g.order ≡ order) }
+        ensures table { IfOk result (λ g. IsTable g.rows) }
+        ensures size { IfOk result (λ g. HasSize R C g.rows) }
+        ensures cells { IfOk result (λ g. HoldCells R C cells.old g.rows) }
+        ensures emptied { OnOk result (AreEmpty R C cells.new) }
+        ensures kept { OnErr result (cells.new ≡ cells.old) }
+        ensures too_large { IsErrOf result GridError.TooLarge ↔ (2 ^ 64 ≤ R * C) }
+        ensures none { R * C ≡ 0 → IsOk result }
+    {
+        let Some(count) = R.checked_mul(C) else {
+            return Err(GridError::TooLarge);
+        };
+        let mut taken = Vec::with_capacity(alloc, count)?;
+        let (lines, len) = in_line(order, R, C);
+        for i in 0..lines {
+            for j in 0..len {
+                let (row, col) = in_line(order, i, j);
+                let cell = take_cell(cells, row, col);
+                taken.push(cell).unwrap();
+            }
+        }
+        Ok(Grid::from_vec_with_order(taken, C, order))
+    }
+}
