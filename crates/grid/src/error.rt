@@ -6,6 +6,9 @@ ghost use Rattle.grid.specs.declared.error.ShapeError.TheVariants.{Memory as Out
 use std::alloc::AllocError;
 use thiserror::Error;
 
+#[cfg(test)]
+mod tests;
+
 /// Why a grid of a size could not be made, or could not grow to it.
 #[derive(Clone, Copy, Debug, PartialEq, Eq, Error)]
 pub enum GridError {
@@ -59,47 +62,5 @@ impl From<AllocError> for ShapeError {
 
     fn from(_refused: AllocError) -> ShapeError {
         ShapeError::Memory
-    }
-}
-
-#[cfg(test)]
-mod tests {
-    use super::*;
-    use std::test::Fail;
-
-    #[test]
-    fn texts(rt: HostRuntime) -> Result<(), Fail> {
-        let alloc = rt.alloc();
-        assert_eq!(rt;
-            GridError::TooLarge.to_string(alloc)?.as_str(),
-            "too many cells"
-        );
-        assert_eq!(rt;
-            GridError::Memory.to_string(alloc)?.as_str(),
-            "out of memory"
-        );
-        assert_eq!(rt;
-            ShapeError::TooLarge.to_string(alloc)?.as_str(),
-            "too many cells"
-        );
-        assert_eq!(rt;
-            ShapeError::Memory.to_string(alloc)?.as_str(),
-            "out of memory"
-        );
-        let shape = ShapeError::Shape { len: 8, cols: 3 };
-        assert_eq!(rt;
-            shape.to_string(alloc)?.as_str(),
-            "8 cells do not fit rows of 3"
-        );
-        let ragged = ShapeError::Ragged {
-            row: 1,
-            len: 1,
-            cols: 2,
-        };
-        assert_eq!(rt;
-            ragged.to_string(alloc)?.as_str(),
-            "row 1 has 1 cells, not 2"
-        );
-        Ok(())
     }
 }

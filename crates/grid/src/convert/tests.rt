@@ -22,18 +22,21 @@ fn pairs(rt: HostRuntime) -> Result<(), Fail> {
 }
 
 #[test]
-fn pairs_that_fit(rt: HostRuntime) -> Result<(), Fail> {
+fn pairs_by_copy(rt: HostRuntime) -> Result<(), Fail> {
     let flat = vec![in rt.alloc(); 1u8, 2, 3, 4, 5, 6]?;
-    let by_copy = Grid::try_from((&flat, 3))?;
-    assert_eq!(rt;
-        (by_copy.size(), by_copy.order()),
-        ((2, 3), Order::RowMajor)
-    );
-    assert_eq!(rt; by_copy.flatten(), flat.as_slice());
+    let grid = Grid::try_from((&flat, 3))?;
+    assert_eq!(rt; grid.size(), (2, 3));
+    assert_eq!(rt; grid.flatten(), flat.as_slice());
     assert_eq!(rt; Grid::try_from((&flat, &2))?.size(), (3, 2));
-    let moved = Grid::try_from((flat, 3))?;
-    assert_eq!(rt; (moved.size(), moved.order()), ((2, 3), Order::RowMajor));
-    assert_eq!(rt; moved.flatten(), [1u8, 2, 3, 4, 5, 6].as_slice());
+    Ok(())
+}
+
+#[test]
+fn pair_moved(rt: HostRuntime) -> Result<(), Fail> {
+    let flat = vec![in rt.alloc(); 1u8, 2, 3, 4, 5, 6]?;
+    let grid = Grid::try_from((flat, 3))?;
+    assert_eq!(rt; (grid.size(), grid.order()), ((2, 3), Order::RowMajor));
+    assert_eq!(rt; grid.flatten(), [1u8, 2, 3, 4, 5, 6].as_slice());
     Ok(())
 }
 
@@ -80,31 +83,47 @@ fn ragged(rt: HostRuntime) -> Result<(), Fail> {
 }
 
 #[test]
-fn even_rows(rt: HostRuntime) -> Result<(), Fail> {
-    let hollow = vec![in rt.alloc(); Vec::<u8>::new(rt.alloc()), Vec::new(rt.alloc())]?;
-    assert_eq!(rt; Grid::try_from(&hollow)?.size(), (0, 0));
-    assert_eq!(rt; Grid::try_from(hollow)?.size(), (0, 0));
-    let none: Vec<Vec<u8>> = Vec::new(rt.alloc());
-    assert_eq!(rt; Grid::try_from(&none)?.size(), (0, 0));
-    assert_eq!(rt; Grid::try_from(none)?.size(), (0, 0));
+fn rows_without_cells(rt: HostRuntime) -> Result<(), Fail> {
+    let rows = vec![in rt.alloc(); Vec::<u8>::new(rt.alloc()), Vec::new(rt.alloc())]?;
+    assert_eq!(rt; Grid::try_from(&rows)?.size(), (0, 0));
+    assert_eq!(rt; Grid::try_from(rows)?.size(), (0, 0));
+    Ok(())
+}
+
+#[test]
+fn no_rows(rt: HostRuntime) -> Result<(), Fail> {
+    let rows: Vec<Vec<u8>> = Vec::new(rt.alloc());
+    assert_eq!(rt; Grid::try_from(&rows)?.size(), (0, 0));
+    assert_eq!(rt; Grid::try_from(rows)?.size(), (0, 0));
+    Ok(())
+}
+
+#[test]
+fn rows_by_copy(rt: HostRuntime) -> Result<(), Fail> {
     let rows = vec![in rt.alloc(); vec![in rt.alloc(); 1u8, 2]?, vec![in rt.alloc(); 3, 4]?]?;
-    let by_copy = Grid::try_from(&rows)?;
-    assert_eq!(rt;
-        (by_copy.size(), by_copy.order()),
-        ((2, 2), Order::RowMajor)
-    );
-    assert_eq!(rt; by_copy.flatten(), [1u8, 2, 3, 4].as_slice());
-    let lent = vec![in rt.alloc(); &rows[1], &rows[0], &rows[1]]?;
-    let by_copy = Grid::try_from(&lent)?;
-    assert_eq!(rt;
-        (by_copy.size(), by_copy.order()),
-        ((3, 2), Order::RowMajor)
-    );
-    assert_eq!(rt; by_copy.flatten(), [3u8, 4, 1, 2, 3, 4].as_slice());
-    drop(lent);
-    let moved = Grid::try_from(rows)?;
-    assert_eq!(rt; (moved.size(), moved.order()), ((2, 2), Order::RowMajor));
-    assert_eq!(rt; moved.flatten(), [1u8, 2, 3, 4].as_slice());
+    let grid = Grid::try_from(&rows)?;
+    assert_eq!(rt; grid.size(), (2, 2));
+    assert_eq!(rt; grid.flatten(), [1u8, 2, 3, 4].as_slice());
+    Ok(())
+}
+
+#[test]
+fn rows_lent(rt: HostRuntime) -> Result<(), Fail> {
+    let first = vec![in rt.alloc(); 1u8, 2]?;
+    let second = vec![in rt.alloc(); 3u8, 4]?;
+    let rows = vec![in rt.alloc(); &second, &first, &second]?;
+    let grid = Grid::try_from(&rows)?;
+    assert_eq!(rt; grid.size(), (3, 2));
+    assert_eq!(rt; grid.flatten(), [3u8, 4, 1, 2, 3, 4].as_slice());
+    Ok(())
+}
+
+#[test]
+fn rows_moved(rt: HostRuntime) -> Result<(), Fail> {
+    let rows = vec![in rt.alloc(); vec![in rt.alloc(); 1u8, 2]?, vec![in rt.alloc(); 3, 4]?]?;
+    let grid = Grid::try_from(rows)?;
+    assert_eq!(rt; (grid.size(), grid.order()), ((2, 2), Order::RowMajor));
+    assert_eq!(rt; grid.flatten(), [1u8, 2, 3, 4].as_slice());
     Ok(())
 }
 
