@@ -1,5 +1,5 @@
 -- A walk from both ends of a list.
-use Rattle.std.proofs.Common.{◌≡◌, ℕ, ◌+◌, ◌-◌, ◌<◌, ◌≤◌, List, [], ◌∷◌, ◌++◌, take, drop, length, get_or, refl, sym, ◌∙◌, ap, arith, suc, add-one, length-take, length-drop}
+use Rattle.std.proofs.Common.{◌≡◌, ℕ, ◌+◌, ◌-◌, ◌<◌, ◌≤◌, List, [], ◌∷◌, ◌++◌, take, drop, length, get_or, sym, ◌∙◌, ap, arith, suc, add-one, length-take, length-drop}
 use Rattle.std.proofs.lemmas.List.{take_all, take_more, get_or-drop}
 use Rattle.std.proofs.Math.Seq.{drop-cons}
 use Rattle.grid.specs.Left.{IsLeft, left}

@@ -1,13 +1,12 @@
 -- What walks over a grid's fields say of the value that a contract sees.
-use Rattle.std.proofs.Common.{◌≡◌, ℕ, ◌+◌, ◌-◌, ◌*◌, ◌<◌, ◌≤◌, List, ◌++◌, length, take, drop, zip, refl, sym, ◌∙◌, ap, arith}
+use Rattle.std.proofs.Common.{◌≡◌, ℕ, ◌<◌, List, ◌++◌, length, take, drop, zip, refl, sym, ◌∙◌, ap, arith}
 use Rattle.std.specs.List.{refill, length_refill}
 use Rattle.grid_base.specs.declared.flat.order.Order.{Order}
-use Rattle.grid_base.specs.Table.{rows_of, cols_of, IsTable}
-use Rattle.grid_base.specs.Order.{table_of, storage, place}
+use Rattle.grid_base.specs.Table.{rows_of, cols_of}
+use Rattle.grid_base.specs.Order.{place}
 use Rattle.grid_base.specs.Places.{places}
 use Rattle.grid_base.specs.Sheet.{Sheet, Fits}
 use Rattle.grid_base.specs.FlatLends.{written_from}
-use Rattle.grid_base.proofs.Views.{view-rows, view-cols, view-table, view-storage}
 use Rattle.grid.specs.declared.walks.span.Span.{Span}
 use Rattle.grid.specs.Span.{IsSpan}
 use Rattle.grid.specs.Walks.{cells_of, with_cells, refilled, refilled_from, IsSameSize, KeepsSize, KeepsSizeFrom}

@@ -1,9 +1,9 @@
 -- What calls on all cells of a grid's vector say of the value that a contract sees.
-use Rattle.std.proofs.Common.{◌≡◌, ℕ, zero, suc, ◌*◌, ◌<◌, ◌≤◌, List, [], ◌∷◌, Some, None, length, map, replicate, get_or, refl, sym, ◌∙◌, ap, arith}
+use Rattle.std.proofs.Common.{◌≡◌, ℕ, zero, suc, ◌*◌, ◌<◌, List, [], ◌∷◌, Some, length, map, replicate, refl, sym, ◌∙◌, ap, arith}
 use Rattle.std.specs.List.{slice_get}
-use Rattle.std.proofs.lemmas.List.{get_or-map, get_or_past, length-map}
+use Rattle.std.proofs.lemmas.List.{get_or-map, length-map}
 use Rattle.grid_base.specs.declared.flat.order.Order.{Order}
-use Rattle.grid_base.specs.Table.{row, rows_of, cols_of, cell, IsTable}
+use Rattle.grid_base.specs.Table.{row, rows_of, cols_of, IsTable}
 use Rattle.grid_base.specs.Order.{table_of, storage, place}
 use Rattle.grid_base.specs.Sheet.{Sheet, Fits}
 use Rattle.grid_base.proofs.Tables.{same_tables, width-tabulate}

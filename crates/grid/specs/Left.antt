@@ -1,5 +1,5 @@
 -- What a walk from both ends has left of a list.
-use Rattle.std.specs.Prelude.{ℕ, ◌-◌, ◌<◌, ◌≤◌, ◌^◌, List, take, drop}
+use Rattle.std.specs.Prelude.{ℕ, ◌-◌, ◌≤◌, List, take, drop}
 
 -- the items from place `first` on and before place `past`
 abbrev pub left : {X : Type 0} → ℕ → ℕ → List X → List X
