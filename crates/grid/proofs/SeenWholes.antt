@@ -78,3 +78,8 @@ module _ {T : Type 0} (w : T) where
   pub seen_filled : (o : Order) (m n : ℕ) (cells news : List T) (v : Sheet T) → Fits m n (length cells) → sheet o m n cells ≡ v → news ≡ replicate (length cells) w → table_of o m n news ≡ filled w v.rows
   seen_filled o m n cells news v h e same =
       ap (table_of o m n) same ∙ (filled_at o m n cells h ∙ ap (λ x. filled w x.rows) e)
+
+-- a grid without rows has no cells
+pub seen_none : {T : Type 0} (o : Order) (m n : ℕ) (cells : List T) (v : Sheet T) → Fits m n (length cells) → sheet o m n cells ≡ v → v.rows ≡ [] → length cells ≡ 0
+seen_none o m n cells v h e none =
+    let zero_rows : m ≡ 0 = sym (seen_rows o m n cells v h e) ∙ ap length none in omega (arith, h.cells, ap (λ x. x * n) zero_rows)

@@ -1,5 +1,5 @@
 //! Calls on all cells of a grid.
-ghost use Rattle.std.specs.Prelude.{◌≡◌, IfOk, IfErr, OnOk, OnErr};
+ghost use Rattle.std.specs.Prelude.{◌≡◌, [], IsOk, IfOk, IfErr, OnOk, OnErr};
 ghost use Rattle.std.specs.Fn.{FnReturnsAt};
 ghost use Rattle.grid_base.specs.Table.{rows_of, cols_of, IsTable};
 ghost use Rattle.grid_base.specs.Order.{storage};
@@ -22,6 +22,7 @@ impl<T, A: Allocator> Grid<T, A> {
         ensures ok { OnOk result (self.new.rows ≡ filled value self.old.rows) }
         ensures order { self.new.order ≡ self.old.order }
         ensures err { OnErr result (self.new ≡ self.old) }
+        ensures empty { self.old.rows ≡ [] → IsOk result }
     {
         self.flat.fill(value)
     }

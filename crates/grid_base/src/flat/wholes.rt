@@ -1,5 +1,5 @@
 //! Calls on all cells of a `Flat`.
-ghost use Rattle.std.specs.Prelude.{◌≡◌, length, replicate, IfOk, IfErr, OnOk, OnErr};
+ghost use Rattle.std.specs.Prelude.{◌≡◌, length, replicate, IsOk, IfOk, IfErr, OnOk, OnErr};
 ghost use Rattle.std.specs.Fn.{FnReturnsAt};
 ghost use Rattle.grid_base.specs.Answers.{Answers, Gives, Pairs};
 
@@ -18,6 +18,7 @@ impl<T, A: Allocator> Flat<T, A> {
         requires clones { (x y : T) → T.is_clone x y → y ≡ x }
         ensures ok { OnOk result (self.new ≡ replicate (length self.old) value) }
         ensures err { OnErr result (self.new ≡ self.old) }
+        ensures none { length self.old ≡ 0 → IsOk result }
     {
         let len = self.cells.len();
         if len == 0 {

@@ -2,7 +2,7 @@ use Rattle.std.proofs.Common.{◌≡◌, replicate, length}
 use Rattle.std.proofs.lemmas.Result.{on_ok_weaker}
 use Rattle.grid_base.specs.Order.{table_of}
 use Rattle.grid.specs.Wholes.{filled}
-use Rattle.grid.proofs.SeenWholes.{seen_filled}
+use Rattle.grid.proofs.SeenWholes.{seen_filled, seen_none}
 use Rattle.grid.proofs.grid.Grid.fill.Goals as goal
 
 pub returns-clause-ok : goal.returns-clause-ok
@@ -13,3 +13,6 @@ returns-clause-ok g c =
     c.fill.result
     (λ e. seen_filled c.args.value s.order s.row_count s.col_count s.flat c.fill.new.self c.args.self.now c.self.invariant c.self.view_is e)
     c.fill.ensures.ok
+
+pub returns-clause-empty : goal.returns-clause-empty
+returns-clause-empty g c = λ e. c.fill.ensures.none (seen_none _ _ _ _ _ c.self.invariant c.self.view_is e)
