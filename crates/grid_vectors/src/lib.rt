@@ -6,6 +6,8 @@ mod access;
 #[cfg(test)]
 mod commands;
 #[cfg(test)]
+mod edits;
+#[cfg(test)]
 mod fixtures;
 #[cfg(test)]
 mod ground;

@@ -1,0 +1,351 @@
+//! Edits of lines, over all small tables, all places and both orders, and worked examples.
+use crate::fixtures::{ORDERS, SIZES, assert_shows, grid_of, numbered};
+use crate::plain;
+use grid::{Grid, GridError, LineRefused, Order};
+use std::alloc::{AllocError, Global};
+use std::process::Abort;
+use std::test::Fail;
+
+// A line of so many cells, from 101 on.
+fn line_of(alloc: Global, len: usize) -> Result<Vec<u32>, AllocError> {
+    let mut line = Vec::new(alloc);
+    let mut next = 101u32;
+    for _ in 0..len {
+        line.push(next)?;
+        next = next.wrapping_add(1);
+    }
+    Ok(line)
+}
+
+fn insert_row(
+    rt: &impl Abort,
+    grid: &mut Grid<u32>,
+    at: usize,
+    line: Vec<u32>,
+) -> Result<(), LineRefused<u32>> {
+    assert!(rt; line.len() != 0);
+    assert!(rt; at <= grid.rows());
+    if grid.is_empty() {
+        return grid.insert_row(at, line);
+    }
+    assert_eq!(rt; line.len(), grid.cols());
+    grid.insert_row(at, line)
+}
+
+fn insert_col(
+    rt: &impl Abort,
+    grid: &mut Grid<u32>,
+    at: usize,
+    line: Vec<u32>,
+) -> Result<(), LineRefused<u32>> {
+    assert!(rt; line.len() != 0);
+    assert!(rt; at <= grid.cols());
+    if grid.is_empty() {
+        return grid.insert_col(at, line);
+    }
+    assert_eq!(rt; line.len(), grid.rows());
+    grid.insert_col(at, line)
+}
+
+// Puts a row into a plain table.
+fn put_row(
+    rt: &impl Abort,
+    table: &mut Vec<Vec<u32>>,
+    at: usize,
+    line: Vec<u32>,
+) -> Result<(), AllocError> {
+    assert!(rt; at <= table.len());
+    table.insert(at, line)?;
+    Ok(())
+}
+
+// Puts a column into a plain table.
+fn put_col(
+    rt: &impl Abort,
+    alloc: Global,
+    table: &mut Vec<Vec<u32>>,
+    at: usize,
+    line: &[u32],
+) -> Result<(), AllocError> {
+    if table.is_empty() {
+        for cell in line {
+            table.push(Vec::from_slice(alloc, [*cell].as_slice())?)?;
+        }
+        return Ok(());
+    }
+    for (r, cell) in line.iter().enumerate() {
+        if let Some(row) = table.get_mut(r) {
+            assert!(rt; at <= row.len());
+            row.insert(at, *cell)?;
+        }
+    }
+    Ok(())
+}
+
+// The table without the rows from `start` on, `count` of them.
+fn without_rows(
+    alloc: Global,
+    table: &[Vec<u32>],
+    start: usize,
+    count: usize,
+) -> Result<Vec<Vec<u32>>, AllocError> {
+    let mut left = Vec::new(alloc);
+    for (r, row) in table.iter().enumerate() {
+        if r < start || r - start >= count {
+            left.push(row.clone()?)?;
+        }
+    }
+    Ok(left)
+}
+
+// The table without the columns from `start` on, `count` of them.
+fn without_cols(
+    alloc: Global,
+    table: &[Vec<u32>],
+    start: usize,
+    count: usize,
+) -> Result<Vec<Vec<u32>>, AllocError> {
+    let mut left = Vec::new(alloc);
+    for row in table {
+        let mut kept = Vec::new(alloc);
+        for (c, cell) in row.iter().enumerate() {
+            if c < start || c - start >= count {
+                kept.push(*cell)?;
+            }
+        }
+        if !kept.is_empty() {
+            left.push(kept)?;
+        }
+    }
+    Ok(left)
+}
+
+fn check_insert_row(
+    rt: &impl Abort,
+    alloc: Global,
+    (rows, cols): (usize, usize),
+    order: Order,
+    at: usize,
+) -> Result<(), Fail> {
+    let mut table = numbered(alloc, rows, cols)?;
+    let mut grid = grid_of(rt, alloc, &table, order)?;
+    let len = if rows == 0 { 3 } else { cols };
+    insert_row(rt, &mut grid, at, line_of(alloc, len)?)?;
+    put_row(rt, &mut table, at, line_of(alloc, len)?)?;
+    assert_shows(rt, alloc, &grid, &table, order)?;
+    let taken = grid.remove_row(at)?;
+    assert_eq!(rt; taken, Some(line_of(alloc, len)?));
+    assert_shows(rt, alloc, &grid, &numbered(alloc, rows, cols)?, order)?;
+    Ok(())
+}
+
+fn check_insert_col(
+    rt: &impl Abort,
+    alloc: Global,
+    (rows, cols): (usize, usize),
+    order: Order,
+    at: usize,
+) -> Result<(), Fail> {
+    let mut table = numbered(alloc, rows, cols)?;
+    let mut grid = grid_of(rt, alloc, &table, order)?;
+    let len = if rows == 0 { 3 } else { rows };
+    let line = line_of(alloc, len)?;
+    insert_col(rt, &mut grid, at, line_of(alloc, len)?)?;
+    put_col(rt, alloc, &mut table, at, &line)?;
+    assert_shows(rt, alloc, &grid, &table, order)?;
+    let taken = grid.remove_col(at)?;
+    assert_eq!(rt; taken, Some(line));
+    assert_shows(rt, alloc, &grid, &numbered(alloc, rows, cols)?, order)?;
+    Ok(())
+}
+
+#[test]
+fn puts_lines_and_takes_them(rt: HostRuntime) -> Result<(), Fail> {
+    for (rows, cols) in SIZES {
+        for order in ORDERS {
+            for at in 0..=rows {
+                check_insert_row(&rt, rt.alloc(), (rows, cols), order, at)?;
+            }
+            for at in 0..=cols {
+                check_insert_col(&rt, rt.alloc(), (rows, cols), order, at)?;
+            }
+        }
+    }
+    Ok(())
+}
+
+// Removes and deletes a row and a column, where there is one, and else changes nothing.
+fn check_take(
+    rt: &impl Abort,
+    alloc: Global,
+    (rows, cols): (usize, usize),
+    order: Order,
+    at: usize,
+) -> Result<(), Fail> {
+    let table = numbered(alloc, rows, cols)?;
+    let left = without_rows(alloc, &table, at, 1)?;
+    let mut grid = grid_of(rt, alloc, &table, order)?;
+    assert_eq!(rt; grid.remove_row(at)?.is_some(), at < rows);
+    assert_shows(rt, alloc, &grid, &left, order)?;
+    let mut grid = grid_of(rt, alloc, &table, order)?;
+    assert_eq!(rt; grid.delete_row(at), at < rows);
+    assert_shows(rt, alloc, &grid, &left, order)?;
+
+    let left = without_cols(alloc, &table, at, 1)?;
+    let mut grid = grid_of(rt, alloc, &table, order)?;
+    assert_eq!(rt; grid.remove_col(at)?.is_some(), at < cols);
+    assert_shows(rt, alloc, &grid, &left, order)?;
+    let mut grid = grid_of(rt, alloc, &table, order)?;
+    assert_eq!(rt; grid.delete_col(at), at < cols);
+    assert_shows(rt, alloc, &grid, &left, order)?;
+    Ok(())
+}
+
+#[test]
+fn takes_each_line(rt: HostRuntime) -> Result<(), Fail> {
+    for size in SIZES {
+        for order in ORDERS {
+            for at in [0, 1, 2, 3, usize::MAX] {
+                check_take(&rt, rt.alloc(), size, order, at)?;
+            }
+        }
+    }
+    Ok(())
+}
+
+fn check_delete_range(
+    rt: &impl Abort,
+    alloc: Global,
+    (rows, cols): (usize, usize),
+    order: Order,
+    (start, count): (usize, usize),
+) -> Result<(), Fail> {
+    let table = numbered(alloc, rows, cols)?;
+    let mut grid = grid_of(rt, alloc, &table, order)?;
+    let there = count <= rows && start <= rows - count;
+    assert_eq!(rt; grid.delete_rows(start, count), there);
+    let left = without_rows(alloc, &table, start, if there { count } else { 0 })?;
+    assert_shows(rt, alloc, &grid, &left, order)?;
+
+    let mut grid = grid_of(rt, alloc, &table, order)?;
+    let there = count <= cols && start <= cols - count;
+    assert_eq!(rt; grid.delete_cols(start, count), there);
+    let left = without_cols(alloc, &table, start, if there { count } else { 0 })?;
+    assert_shows(rt, alloc, &grid, &left, order)?;
+    Ok(())
+}
+
+#[test]
+fn deletes_ranges(rt: HostRuntime) -> Result<(), Fail> {
+    for size in SIZES {
+        for order in ORDERS {
+            for start in [0, 1, 2, 3, 4, usize::MAX] {
+                for count in [0, 1, 2, 3, usize::MAX] {
+                    check_delete_range(&rt, rt.alloc(), size, order, (start, count))?;
+                }
+            }
+        }
+    }
+    Ok(())
+}
+
+// A grid of cells in storage order, in rows of `cols`.
+fn stored(
+    rt: &impl Abort,
+    alloc: Global,
+    cells: &[u32],
+    cols: usize,
+    order: Order,
+) -> Result<Grid<u32>, AllocError> {
+    let cells = Vec::from_slice(alloc, cells)?;
+    let len = cells.len();
+    assert!(rt; len == 0 || cols != 0 && len % cols == 0);
+    Ok(Grid::from_vec_with_order(cells, cols, order))
+}
+
+#[test]
+fn insert_col_row_major(rt: HostRuntime) -> Result<(), Fail> {
+    let mut grid = stored(&rt, rt.alloc(), &[1, 2, 3, 4], 2, Order::RowMajor)?;
+    insert_col(&rt, &mut grid, 2, vec![in rt.alloc(); 5, 6]?)?;
+    assert_eq!(rt; grid.size(), (2, 3));
+    assert_eq!(rt; grid.flatten(), [1, 2, 5, 3, 4, 6].as_slice());
+    Ok(())
+}
+
+#[test]
+fn insert_row_column_major(rt: HostRuntime) -> Result<(), Fail> {
+    let mut grid = stored(&rt, rt.alloc(), &[1, 3, 2, 4], 2, Order::ColumnMajor)?;
+    insert_row(&rt, &mut grid, 1, vec![in rt.alloc(); 5, 6]?)?;
+    assert_eq!(rt; grid.size(), (3, 2));
+    assert_eq!(rt; grid.flatten(), [1, 5, 3, 2, 6, 4].as_slice());
+    Ok(())
+}
+
+#[test]
+fn pop_col_row_major(rt: HostRuntime) -> Result<(), Fail> {
+    let cells = [1, 2, 3, 4, 11, 22, 33, 44, 111, 222, 333, 444];
+    let mut grid = stored(&rt, rt.alloc(), &cells, 4, Order::RowMajor)?;
+    assert_eq!(rt; grid.pop_col()?, Some(vec![in rt.alloc(); 4, 44, 444]?));
+    assert_eq!(rt;
+        grid.flatten(),
+        [1, 2, 3, 11, 22, 33, 111, 222, 333].as_slice()
+    );
+    Ok(())
+}
+
+#[test]
+fn row_edits_column_major(rt: HostRuntime) -> Result<(), Fail> {
+    let alloc = rt.alloc();
+    let mut grid = stored(&rt, alloc, &[1, 3, 2, 4], 2, Order::ColumnMajor)?;
+    assert_eq!(rt; grid.cols(), 2);
+    grid.push_row(vec![in alloc; 5, 6]?)?;
+    assert_eq!(rt; grid.flatten(), [1, 3, 5, 2, 4, 6].as_slice());
+    assert_eq!(rt; grid.remove_row(0)?, Some(vec![in alloc; 1, 2]?));
+    assert_eq!(rt; grid.flatten(), [3, 5, 4, 6].as_slice());
+    assert!(rt; !grid.delete_row(2));
+    assert_eq!(rt; grid.pop_row()?, Some(vec![in alloc; 5, 6]?));
+    assert_eq!(rt; grid.pop_row()?, Some(vec![in alloc; 3, 4]?));
+    assert_eq!(rt; grid.pop_row()?, None);
+    assert_eq!(rt; grid.size(), (0, 0));
+    assert!(rt; grid.is_empty());
+    grid.push_row(vec![in alloc; 7, 8, 9]?)?;
+    assert_eq!(rt; grid.size(), (1, 3));
+    assert_eq!(rt; grid.flatten(), [7, 8, 9].as_slice());
+    assert_eq!(rt; grid.order(), Order::ColumnMajor);
+    Ok(())
+}
+
+fn check_remove_cols(rt: &impl Abort, alloc: Global, order: Order) -> Result<(), Fail> {
+    let mut table = Vec::new(alloc);
+    for first in [1u32, 5, 9, 13] {
+        table.push(vec![in alloc; first, first + 1, first + 2, first + 3]?)?;
+    }
+    let mut grid = grid_of(rt, alloc, &table, order)?;
+    assert_eq!(rt; grid.remove_col(3)?, Some(vec![in alloc; 4, 8, 12, 16]?));
+    assert_eq!(rt; grid.remove_col(0)?, Some(vec![in alloc; 1, 5, 9, 13]?));
+    assert_eq!(rt; grid.remove_col(1)?, Some(vec![in alloc; 3, 7, 11, 15]?));
+    assert_eq!(rt; grid.remove_col(0)?, Some(vec![in alloc; 2, 6, 10, 14]?));
+    assert_eq!(rt; grid.remove_col(0)?, None);
+    assert_eq!(rt; grid.size(), (0, 0));
+    Ok(())
+}
+
+#[test]
+fn remove_cols(rt: HostRuntime) -> Result<(), Fail> {
+    for order in ORDERS {
+        check_remove_cols(&rt, rt.alloc(), order)?;
+    }
+    Ok(())
+}
+
+#[test]
+fn edits_cells_of_no_size(rt: HostRuntime) -> Result<(), Fail> {
+    let alloc = rt.alloc();
+    let mut grid = Grid::from_vec(vec![in alloc; (), (), (), (), (), ()]?, 3);
+    assert_eq!(rt; grid.cols(), 3);
+    grid.push_row(vec![in alloc; (), (), ()]?)?;
+    assert_eq!(rt; grid.size(), (3, 3));
+    assert_eq!(rt; grid.pop_col()?.map(|line| line.len()), Some(3));
+    assert_eq!(rt; grid.size(), (3, 2));
+    Ok(())
+}
