@@ -22,7 +22,8 @@ fn can_cut(len: usize, cols: usize) -> bool
 /// The grid of rows of this length whose rows, joined, are the vector.
 ///
 /// `Shape` exactly where the vector is not empty and the length is 0 or does not divide the number of cells; then the
-/// vector is dropped. Takes no memory, and answers nothing else.
+/// vector is dropped. Takes no memory. `TooLarge` never comes, since one vector never holds too many cells, nor do
+/// `Ragged` and `Memory`.
 impl<T: Drop, A: Allocator> TryFrom<(Vec<T, A>, usize)> for Grid<T, A> {
     type Error = ShapeError;
 
@@ -57,8 +58,8 @@ fn cut_clones<T: Clone, A: Allocator + Clone>(
 /// The grid of rows of this length whose rows, joined, are clones of the vector's cells.
 ///
 /// Where clones equal their source, the cells are those of the vector. `Shape` exactly where the vector is not empty
-/// and the length is 0 or does not divide the number of cells; only then memory is asked for, of the vector's
-/// allocator.
+/// and the length is 0 or does not divide the number of cells; only after that test memory is asked for, of the
+/// vector's allocator. `TooLarge` never comes, since one vector never holds too many cells, nor does `Ragged`.
 impl<T: Clone, A: Allocator + Clone> TryFrom<(&Vec<T, A>, usize)> for Grid<T, A> {
     type Error = ShapeError;
 
