@@ -1,5 +1,5 @@
 -- A column edit as the row edit between two transposes.
-use Rattle.std.proofs.Common.{◌≡◌, ◌<◌, ◌≤◌, ℕ, List, [], ◌∷◌, length, refl, sym, ◌∙◌, ap, arith, inl, inr, ⊎_elim, Bool, true, false, IsTrue, ◌↔◌, ◌+◌, if◌then◌else◌, Result, Ok, Err, OnOk, OnErr}
+use Rattle.std.proofs.Common.{◌≡◌, ◌<◌, ◌≤◌, ℕ, List, length, refl, sym, ◌∙◌, ap, arith, inl, inr, ⊎_elim, Bool, true, false, IsTrue, ◌↔◌, ◌+◌, if◌then◌else◌, Result, Ok, Err, OnOk, OnErr}
 use Rattle.std.specs.List.{insert, remove}
 use Rattle.std.proofs.lemmas.Bool.{cases_lt}
 use Rattle.grid.proofs.ColSizes.{remove_between}
@@ -11,7 +11,7 @@ use Rattle.grid_base.specs.Sheet.{Sheet}
 use Rattle.grid_base.specs.Symmetry.{act}
 use Rattle.grid_base.proofs.Views.{same_sheet, flipped-flipped}
 use Rattle.grid_base.proofs.Acts.{rows-act}
-use Rattle.grid.specs.Edit.{FitsRow, FitsCol, put_rows, put_col, take_rows, take_cols}
+use Rattle.grid.specs.Edit.{FitsRow, FitsCol, put_col, take_rows, take_cols}
 use Rattle.grid.specs.Shift.{delete_rows_shift, delete_cols_shift}
 use Rattle.grid.proofs.EditViews.{put_line}
 use Rattle.grid.proofs.Cols.{across-none, across-across, cols-across, put_col-across, take_cols-across, ColumnFits}

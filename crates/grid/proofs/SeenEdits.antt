@@ -1,13 +1,13 @@
 -- What a line edit starts from and leaves, by a grid's fields.
-use Rattle.std.proofs.Common.{◌≡◌, ◌<◌, ◌≤◌, ◌+◌, ◌-◌, ◌*◌, ◌^◌, ◌⊎◌, ◌++◌, ◌∷◌, [], ℕ, zero, suc, List, take, drop, Option, Some, length, refl, sym, ◌∙◌, ap, arith, ⊎_elim, subst, Bool, true, false, IsTrue, ◌↔◌}
+use Rattle.std.proofs.Common.{◌≡◌, ◌<◌, ◌≤◌, ◌+◌, ◌-◌, ◌*◌, ◌^◌, ◌++◌, ◌∷◌, [], ℕ, zero, suc, List, take, drop, Some, length, refl, sym, ◌∙◌, ap, arith, ⊎_elim, subst, Bool, true, false, IsTrue, ◌↔◌}
 use Rattle.std.proofs.lemmas.Bool.{cases_lt}
 use Rattle.std.specs.List.{insert, remove, slice_get}
 use Rattle.std.proofs.lemmas.List.{length-take-le}
 use Rattle.std.proofs.lemmas.Option.{slice_get-get_or}
 use Rattle.std.proofs.Math.Dec.{eqb-suc-zero}
 use Rattle.grid_base.specs.declared.flat.order.Order.{Order}
-use Rattle.grid_base.specs.Table.{row, rows_of, cols_of, IsTable}
-use Rattle.grid_base.specs.Order.{table_of, storage}
+use Rattle.grid_base.specs.Table.{row, rows_of, cols_of}
+use Rattle.grid_base.specs.Order.{table_of}
 use Rattle.grid_base.specs.Sheet.{Sheet, Fits}
 use Rattle.grid_base.specs.Lines.{Woven, Closed}
 use Rattle.grid.specs.Edit.{FitsRow, put_rows, take_rows}
@@ -17,7 +17,7 @@ use Rattle.grid.proofs.Seen.{seen_rows, seen_cols}
 use Rattle.grid_base.proofs.Views.{Fits-none, view-rows, view-cols}
 use Rattle.grid.specs.Shift.{rows_taken_shift}
 use Rattle.grid.proofs.EditViews.{view-remove_row, view-removed_row, view-close_rows, cells-closed, view-put_rows, table_of-no_rows, storage-line, IsTable-line, put_line}
-use Rattle.grid.proofs.Sizes.{Fits-filled, Fits-fewer}
+use Rattle.grid.proofs.Sizes.{Fits-fewer}
 
 -- groups woven into the lines are rows put
 pub rows_put : {T : Type 0} (o : Order) (m n i k p q a g : ℕ) (old new : List T) → RowGroups o m n i k p q a g → i ≤ m → Woven p q a g old new → RowsPut o m n i k old new

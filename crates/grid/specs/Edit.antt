@@ -58,3 +58,24 @@ module _ {T : Type 0} where
 
   abbrev pub prepended_cols : ℕ → T → List (List T) → List (List T)
   prepended_cols k d t = map (λ r. replicate k d ++ r) t
+
+  -- how many rows or columns padding by k adds
+  abbrev pub added : ℕ → List (List T) → ℕ
+  added k [] = 0
+  added k (r ∷ t) = k
+
+  -- k rows of cells of which each is as P says are put before row i
+  pub record PadsRows (P : T → Type 0) (i k : ℕ) (old new : List (List T)) : Type 0 where
+    pub fresh : List (List T)
+    pub number : rows_of fresh ≡ k
+    pub widths : (j : ℕ) → j < rows_of fresh → length (row fresh j) ≡ cols_of old
+    pub each : All (All P) fresh
+    pub put : new ≡ put_rows i fresh old
+
+  -- k columns of cells of which each is as P says are put before column i
+  pub record PadsCols (P : T → Type 0) (i k : ℕ) (old new : List (List T)) : Type 0 where
+    pub fresh : List (List T)
+    pub number : rows_of fresh ≡ k
+    pub heights : (j : ℕ) → j < rows_of fresh → length (row fresh j) ≡ rows_of old
+    pub each : All (All P) fresh
+    pub put : new ≡ put_cols i fresh old

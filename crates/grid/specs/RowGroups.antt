@@ -27,3 +27,13 @@ module _ {T : Type 0} (o : Order) (n i rest : ℕ) (old new : List T) where
     pub lengths : length new ≡ length old
     pub kept : table_of o rest n (take (rest * n) new) ≡ remove (table_of o (rest + 1) n old) i
     pub taken : 0 < n → drop (rest * n) new ≡ row (table_of o (rest + 1) n old) i
+
+module _ {T : Type 0} (o : Order) (m n i k : ℕ) (old new : List T) where
+  -- k rows of cells that stood behind a table of m rows and n columns are put before its row i
+  pub record RowsOpened : Type 0 where
+    pub lengths : length new ≡ length old
+    pub fresh : List (List T)
+    pub rows : rows_of fresh ≡ k
+    pub widths : (j : ℕ) → j < rows_of fresh → length (row fresh j) ≡ n
+    pub from : (j c : ℕ) → j < k → c < n → (x : ℕ) × (m * n ≤ x) × (x < length old) × (cell fresh j c ≡ slice_get old x)
+    pub put : table_of o (m + k) n new ≡ put_rows i fresh (table_of o m n (take (m * n) old))

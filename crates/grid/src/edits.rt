@@ -10,6 +10,8 @@ ghost use Rattle.grid.specs.RowGroups.{RowsPut, RowsTaken, RowBehind, width_left
 ghost use Rattle.grid.specs.Shift.{rows_taken_shift, delete_rows_shift, delete_cols_shift};
 ghost use Rattle.grid.specs.declared.error.GridError.TheVariants.{TooLarge};
 
+mod pad;
+
 use crate::{Grid, GridError};
 use grid_base::{Flat, Order, Tally};
 use std::alloc::{AllocError, Allocator, Global};

@@ -1,4 +1,4 @@
-use Rattle.std.proofs.Common.{◌≡◌, ◌≤◌, ◌<◌, ◌+◌, ◌*◌, ◌^◌, ℕ, length, refl, sym, ◌∙◌, ap, arith, length-append}
+use Rattle.std.proofs.Common.{◌≡◌, ◌+◌, ◌*◌, length, refl, ◌∙◌, ap, arith, length-append}
 use Rattle.grid_base.specs.Table.{rows_of}
 use Rattle.grid.proofs.Seen.{seen_rows}
 use Rattle.grid.proofs.SeenEdits.{cells_fit, rows_inserted, no_room, room}

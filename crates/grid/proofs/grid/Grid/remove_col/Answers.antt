@@ -1,7 +1,4 @@
-use Rattle.std.proofs.Common.{◌≡◌, ◌∙◌, ap}
 use Rattle.grid_base.specs.declared.words.Symmetry.TheVariants.{Transpose}
-use Rattle.grid_base.specs.Table.{rows_of, cols_of, turned}
-use Rattle.grid_base.specs.Symmetry.{act}
 use Rattle.grid_base.proofs.Acts.{rows-act}
 use Rattle.grid.proofs.ColSizes.{across-turned}
 use Rattle.grid.proofs.Seen.{seen_table}

@@ -1,7 +1,7 @@
-use Rattle.std.proofs.Common.{◌≡◌, ◌≤◌, ◌-◌, ◌*◌, ◌∙◌, ◌++◌, length, drop, ap, Some, sym, arith}
-use Rattle.grid_base.specs.Table.{rows_of, cols_of}
-use Rattle.grid.proofs.Seen.{seen_rows, seen_cols}
-use Rattle.grid.proofs.SeenEdits.{removed_in, removed_whole, removed_cells, removed_small, removed_length, row_removed, removed_fits, removed_line}
+use Rattle.std.proofs.Common.{◌≡◌, ◌-◌, ◌*◌, ◌∙◌, ◌++◌, length, drop, ap, Some, sym, arith}
+use Rattle.grid_base.specs.Table.{cols_of}
+use Rattle.grid.proofs.Seen.{seen_cols}
+use Rattle.grid.proofs.SeenEdits.{removed_in, removed_cells, removed_small, removed_length, row_removed, removed_fits, removed_line}
 use Rattle.grid.proofs.grid.Grid.take_row_out.Goals as goal
 
 pub overflow_sub-rest : goal.overflow_sub-rest

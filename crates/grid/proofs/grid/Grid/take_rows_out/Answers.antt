@@ -1,6 +1,5 @@
-use Rattle.std.proofs.Common.{◌≡◌, ◌≤◌, ◌∙◌, sym, ap, arith}
-use Rattle.grid.proofs.Seen.{seen_rows, seen_cols}
-use Rattle.grid.proofs.SeenEdits.{taken_in, taken_whole, taken_wide, taken_cells, taken_small, rows_taken_out, taken_fits, taken_shift}
+use Rattle.std.proofs.Common.{arith}
+use Rattle.grid.proofs.SeenEdits.{taken_in, taken_wide, taken_cells, taken_small, rows_taken_out, taken_fits, taken_shift}
 use Rattle.grid.proofs.grid.Grid.take_rows_out.Goals as goal
 
 pub overflow_sub-rest : goal.overflow_sub-rest
