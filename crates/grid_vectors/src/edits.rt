@@ -349,3 +349,153 @@ fn edits_cells_of_no_size(rt: HostRuntime) -> Result<(), Fail> {
     assert_eq!(rt; grid.size(), (3, 2));
     Ok(())
 }
+
+// The table with `count` rows of zeros before row `at`.
+fn with_zero_rows(
+    alloc: Global,
+    table: &[Vec<u32>],
+    cols: usize,
+    (at, count): (usize, usize),
+) -> Result<Vec<Vec<u32>>, AllocError> {
+    let mut padded = Vec::new(alloc);
+    for (r, row) in table.iter().enumerate() {
+        if r == at {
+            for _ in 0..count {
+                padded.push(vec![in alloc; 0u32; cols]?)?;
+            }
+        }
+        padded.push(row.clone()?)?;
+    }
+    if at == table.len() && !table.is_empty() {
+        for _ in 0..count {
+            padded.push(vec![in alloc; 0u32; cols]?)?;
+        }
+    }
+    Ok(padded)
+}
+
+// The table with `count` zeros before place `at` of each row.
+fn with_zero_cols(
+    alloc: Global,
+    table: &[Vec<u32>],
+    (at, count): (usize, usize),
+) -> Result<Vec<Vec<u32>>, AllocError> {
+    let mut padded = Vec::new(alloc);
+    for row in table {
+        let mut wide = Vec::new(alloc);
+        for (c, cell) in row.iter().enumerate() {
+            if c == at {
+                for _ in 0..count {
+                    wide.push(0)?;
+                }
+            }
+            wide.push(*cell)?;
+        }
+        if at == row.len() {
+            for _ in 0..count {
+                wide.push(0)?;
+            }
+        }
+        padded.push(wide)?;
+    }
+    Ok(padded)
+}
+
+fn check_padding(
+    rt: &impl Abort,
+    alloc: Global,
+    (rows, cols): (usize, usize),
+    order: Order,
+    count: usize,
+) -> Result<(), Fail> {
+    let table = numbered(alloc, rows, cols)?;
+    let mut grid = grid_of(rt, alloc, &table, order)?;
+    grid.expand_rows(count)?;
+    let wanted = with_zero_rows(alloc, &table, cols, (rows, count))?;
+    assert_shows(rt, alloc, &grid, &wanted, order)?;
+    let mut grid = grid_of(rt, alloc, &table, order)?;
+    grid.prepend_rows(count)?;
+    let wanted = with_zero_rows(alloc, &table, cols, (0, count))?;
+    assert_shows(rt, alloc, &grid, &wanted, order)?;
+    let mut grid = grid_of(rt, alloc, &table, order)?;
+    grid.expand_cols(count)?;
+    let wanted = with_zero_cols(alloc, &table, (cols, count))?;
+    assert_shows(rt, alloc, &grid, &wanted, order)?;
+    let mut grid = grid_of(rt, alloc, &table, order)?;
+    grid.prepend_cols(count)?;
+    let wanted = with_zero_cols(alloc, &table, (0, count))?;
+    assert_shows(rt, alloc, &grid, &wanted, order)?;
+    Ok(())
+}
+
+#[test]
+fn pads_each_table(rt: HostRuntime) -> Result<(), Fail> {
+    for size in SIZES {
+        for order in ORDERS {
+            for count in [0, 1, 2, 3] {
+                check_padding(&rt, rt.alloc(), size, order, count)?;
+            }
+        }
+    }
+    Ok(())
+}
+
+#[test]
+fn expand_prepend_column_major(rt: HostRuntime) -> Result<(), Fail> {
+    let alloc = rt.alloc();
+    let cells = [1, 2, 1, 2, 1, 2];
+    let mut grid = stored(&rt, alloc, &cells, 3, Order::ColumnMajor)?;
+    grid.expand_rows(2)?;
+    assert_eq!(rt; grid.size(), (4, 3));
+    let wanted = [1, 2, 0, 0, 1, 2, 0, 0, 1, 2, 0, 0];
+    assert_eq!(rt; grid.flatten(), wanted.as_slice());
+    let mut grid = stored(&rt, alloc, &cells, 3, Order::ColumnMajor)?;
+    grid.prepend_rows(2)?;
+    let wanted = [0, 0, 1, 2, 0, 0, 1, 2, 0, 0, 1, 2];
+    assert_eq!(rt; grid.flatten(), wanted.as_slice());
+    Ok(())
+}
+
+#[test]
+fn expand_cols(rt: HostRuntime) -> Result<(), Fail> {
+    let alloc = rt.alloc();
+    let cells = [1, 1, 1, 2, 2, 2];
+    let mut grid = stored(&rt, alloc, &cells, 3, Order::RowMajor)?;
+    grid.expand_cols(2)?;
+    assert_eq!(rt; grid.flatten(), [1, 1, 1, 0, 0, 2, 2, 2, 0, 0].as_slice());
+    let mut grid = stored(&rt, alloc, &cells, 3, Order::RowMajor)?;
+    grid.prepend_cols(2)?;
+    assert_eq!(rt; grid.flatten(), [0, 0, 1, 1, 1, 0, 0, 2, 2, 2].as_slice());
+    let mut grid = stored(&rt, alloc, &cells, 3, Order::RowMajor)?;
+    grid.prepend_rows(2)?;
+    let wanted = [0, 0, 0, 0, 0, 0, 1, 1, 1, 2, 2, 2];
+    assert_eq!(rt; grid.flatten(), wanted.as_slice());
+    grid.expand_cols(0)?;
+    assert_eq!(rt; grid.flatten(), wanted.as_slice());
+    Ok(())
+}
+
+#[test]
+fn expand_too_large(rt: HostRuntime) -> Result<(), Fail> {
+    let mut grid = Grid::<u8>::new(rt.alloc(), 1, 2)?;
+    for col in 0..2 {
+        if let Some(cell) = grid.get_mut(0, col) {
+            *cell = if col == 0 { 1 } else { 2 };
+        }
+    }
+    assert_eq!(rt; grid.expand_rows(usize::MAX / 2), Err(GridError::TooLarge));
+    assert_eq!(rt; grid.size(), (1, 2));
+    assert_eq!(rt; grid.get(0, 1).copied(), Some(2));
+    assert_eq!(rt; grid.get(1, 0).copied(), None);
+    Ok(())
+}
+
+#[test]
+fn pads_cells_of_no_size(rt: HostRuntime) -> Result<(), Fail> {
+    let mut grid = Grid::from_vec(vec![in rt.alloc(); ()]?, 1);
+    assert_eq!(rt; grid.expand_rows(usize::MAX), Err(GridError::TooLarge));
+    assert_eq!(rt; grid.size(), (1, 1));
+    grid.prepend_cols(2)?;
+    assert_eq!(rt; grid.size(), (1, 3));
+    Ok(())
+}
