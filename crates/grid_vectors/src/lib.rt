@@ -9,6 +9,7 @@ mod commands;
 mod edits;
 #[cfg(test)]
 mod fixtures;
+pub mod fuse;
 #[cfg(test)]
 mod ground;
 #[cfg(test)]
