@@ -1,8 +1,15 @@
-//! What the tests share: all small tables, and what a grid must show of one.
+//! What the tests share: all small tables, what a grid must show of one, and cells and memory that are refused.
+ghost use Rattle.std.specs.Prelude.{◌≡◌};
+
+use crate::fuse::Fuse;
 use crate::plain;
 use grid::{Grid, Order, Symmetry};
-use std::alloc::{AllocError, Global};
+use std::alloc::{AllocError, Allocator, Global};
+use std::cell::Cell;
 use std::process::Abort;
+
+// Memory that a test can refuse.
+pub type Heap = Fuse<Global>;
 
 pub const SIZES: [(usize, usize); 10] = [
     (0, 0),
@@ -62,11 +69,29 @@ pub fn grid_of(
     Ok(Grid::from_vec_with_order(cells, cols, order))
 }
 
-// A grid shows this table, by its size and each cell, and has stored it in this order.
-pub fn assert_shows(
+// The grid of a table, whose heap refuses each request from before the grid is made.
+pub fn starved_grid_of<'a>(
     rt: &impl Abort,
     alloc: Global,
-    grid: &Grid<u32>,
+    heap: &'a Heap,
+    table: &Vec<Vec<u32>>,
+    order: Order,
+) -> Result<Grid<u32, &'a Heap>, AllocError> {
+    let cells = plain::storage(alloc, order, table)?;
+    heap.grant(1);
+    let cells = Vec::from_slice(heap, cells.as_slice())?;
+    heap.grant(0);
+    let (_, cols) = plain::size(table);
+    let len = cells.len();
+    assert!(rt; len == 0 || cols != 0 && len % cols == 0);
+    Ok(Grid::from_vec_with_order(cells, cols, order))
+}
+
+// A grid shows this table, by its size and each cell, and has stored it in this order.
+pub fn assert_shows<A: Allocator>(
+    rt: &impl Abort,
+    alloc: Global,
+    grid: &Grid<u32, A>,
     table: &Vec<Vec<u32>>,
     order: Order,
 ) -> Result<(), AllocError> {
@@ -111,4 +136,49 @@ pub fn order_after(symmetry: Symmetry, order: Order) -> Order {
         (true, Order::RowMajor) => Order::ColumnMajor,
         (true, Order::ColumnMajor) => Order::RowMajor,
     }
+}
+
+// A cell whose clone is refused once none of the granted ones is left.
+#[derive(Default, Drop)]
+pub struct Fragile<'a> {
+    pub value: u32,
+    pub granted: Option<&'a Cell<u64>>,
+}
+
+impl Clone for Fragile<'_> {
+    ghost is_clone = { λ x y. y ≡ x };
+
+    fn clone(&self) -> Result<Self, AllocError> {
+        if let Some(granted) = self.granted {
+            match granted.get().checked_sub(1) {
+                Some(left) => granted.set(left),
+                None => return Err(AllocError),
+            }
+        }
+        Ok(Fragile {
+            value: self.value,
+            granted: self.granted,
+        })
+    }
+}
+
+// [[1, 2], [3, 4]]
+pub fn fragile_cells<'a, A: Allocator>(
+    rt: &impl Abort,
+    alloc: A,
+    granted: &'a Cell<u64>,
+) -> Result<Grid<Fragile<'a>, A>, AllocError> {
+    let mut cells = Vec::new(alloc);
+    for value in 1..5u32 {
+        cells.push(Fragile {
+            value,
+            granted: Some(granted),
+        })?;
+    }
+    assert!(rt; cells.len() == 4);
+    Ok(Grid::from_vec(cells, 2))
+}
+
+pub fn value_at<A: Allocator>(grid: &Grid<Fragile, A>, row: usize, col: usize) -> Option<u32> {
+    grid.get(row, col).map(|cell| cell.value)
 }

@@ -16,6 +16,8 @@ mod ground;
 mod memory;
 pub mod plain;
 #[cfg(test)]
+mod refused;
+#[cfg(test)]
 mod rows;
 #[cfg(test)]
 mod symmetries;

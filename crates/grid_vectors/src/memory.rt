@@ -1,6 +1,7 @@
 //! Cells that own memory, have no size, or can't be cloned.
 ghost use Rattle.std.specs.Prelude.{◌≡◌};
 
+use crate::fixtures::{fragile_cells, value_at};
 use grid::{Command, Grid, Order, Reply, Symmetry, Tally, run};
 use std::alloc::{AllocError, Global};
 use std::cell::Cell;
@@ -161,51 +162,6 @@ fn turns_cells_of_no_size(rt: HostRuntime) -> Result<(), Fail> {
         assert_eq!(rt; grid.into_vec().len(), 6);
     }
     Ok(())
-}
-
-// A cell whose clone is refused once none of the granted ones is left.
-#[derive(Default, Drop)]
-struct Fragile<'a> {
-    value: u32,
-    granted: Option<&'a Cell<u64>>,
-}
-
-impl Clone for Fragile<'_> {
-    ghost is_clone = { λ x y. y ≡ x };
-
-    fn clone(&self) -> Result<Self, AllocError> {
-        if let Some(granted) = self.granted {
-            match granted.get().checked_sub(1) {
-                Some(left) => granted.set(left),
-                None => return Err(AllocError),
-            }
-        }
-        Ok(Fragile {
-            value: self.value,
-            granted: self.granted,
-        })
-    }
-}
-
-// [[1, 2], [3, 4]]
-fn fragile_cells<'a>(
-    rt: &impl Abort,
-    alloc: Global,
-    granted: &'a Cell<u64>,
-) -> Result<Grid<Fragile<'a>>, AllocError> {
-    let mut cells = Vec::new(alloc);
-    for value in 1..5u32 {
-        cells.push(Fragile {
-            value,
-            granted: Some(granted),
-        })?;
-    }
-    assert!(rt; cells.len() == 4);
-    Ok(Grid::from_vec(cells, 2))
-}
-
-fn value_at(grid: &Grid<Fragile>, row: usize, col: usize) -> Option<u32> {
-    grid.get(row, col).map(|cell| cell.value)
 }
 
 #[test]
