@@ -14,6 +14,23 @@ fn table_of(alloc: Global, rows: &[&[u32]]) -> Result<Vec<Vec<u32>>, AllocError>
     Ok(table)
 }
 
+// The example that the README begins with.
+#[test]
+fn turns_a_board(rt: HostRuntime) -> Result<(), Fail> {
+    let alloc = rt.alloc();
+    let cells = vec![in alloc; 1, 4, 2, 5, 3, 6]?;
+    let mut board = Grid::from_vec_with_order(cells, 3, Order::ColumnMajor);
+    board[(0, 2)] = 9;
+    let rows = table_of(alloc, &[&[1, 2, 9], &[4, 5, 6]])?;
+    assert_shows(&rt, alloc, &board, &rows, Order::ColumnMajor)?;
+    let turn = reduce(&[Move::RotateLeft, Move::FlipCols]);
+    assert_eq!(rt; turn, Symmetry::AntiTranspose);
+    board.apply(turn);
+    let image = table_of(alloc, &[&[6, 9], &[5, 2], &[4, 1]])?;
+    assert_shows(&rt, alloc, &board, &image, Order::RowMajor)?;
+    Ok(())
+}
+
 #[test]
 fn reduces_words(rt: HostRuntime) {
     use Move::{FlipCols, FlipRows, RotateHalf, RotateLeft, RotateRight, Transpose};
