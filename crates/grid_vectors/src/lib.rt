@@ -1,8 +1,10 @@
-//! A plain program beside the library, and the tests that compare the two.
+//! A plain program beside the library and the tests that compare the two, chains over rows and columns, and an
+//! allocator that refuses memory.
 #![tactic(auto)]
 
 #[cfg(test)]
 mod access;
+pub mod chains;
 #[cfg(test)]
 mod commands;
 #[cfg(test)]

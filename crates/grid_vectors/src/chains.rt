@@ -1,0 +1,212 @@
+//! Chains over a row or a column of a grid. Their contracts say what they find by the list of its cells, and no proof
+//! file is needed.
+ghost use Rattle.std.specs.Prelude.{◌≡◌, ◌/◌, ◌^◌, ◌<◌, ◌≤◌, ◌==◌, ◌↔◌, IsTrue, IfOk, MatchOption, Any, All, length, map, reverse, sum, count_by, filter, fold, min, ◌+◌, nat_lt, []};
+ghost use Rattle.grid_base.specs.Table.{row, rows_of, cols_of, turned};
+ghost use Rattle.grid_base.specs.Order.{storage};
+
+use grid::Grid;
+use std::alloc::{AllocError, Allocator, Global};
+
+/// How many cells of row r are x.
+pub fn count_in_row<A: Allocator>(grid: &Grid<u32, A>, r: usize, x: u32) -> usize
+    requires { r < rows_of grid.now.rows }
+    ensures { result ≡ count_by (λ y. y == x) (row grid.now.rows r) }
+{
+    grid.iter_row(r).filter(|y| **y == x).count()
+}
+
+/// Whether a cell of column c is x.
+pub fn column_has<A: Allocator>(grid: &Grid<u32, A>, c: usize, x: u32) -> bool
+    requires { c < cols_of grid.now.rows }
+    ensures { IsTrue result ↔ Any (λ y. y ≡ x) (row (turned grid.now.rows) c) }
+{
+    grid.iter_col(c).any(|y| *y == x)
+}
+
+/// Whether every cell of row r is at most x.
+pub fn row_is_within<A: Allocator>(grid: &Grid<u32, A>, r: usize, x: u32) -> bool
+    requires { r < rows_of grid.now.rows }
+    ensures { IsTrue result ↔ All (λ y. y ≤ x) (row grid.now.rows r) }
+{
+    grid.iter_row(r).all(|y| *y <= x)
+}
+
+/// The sum of row r, which fits.
+pub fn row_sum<A: Allocator>(grid: &Grid<u32, A>, r: usize) -> u32
+    requires in_range { r < rows_of grid.now.rows }
+    requires fits { sum (row grid.now.rows r) < 2 ^ 32 }
+    ensures { result ≡ sum (row grid.now.rows r) }
+{
+    grid.iter_row(r).sum()
+}
+
+/// The sum of column c, or `u32::MAX` if it is larger.
+pub fn column_sum<A: Allocator>(grid: &Grid<u32, A>, c: usize) -> u32
+    requires { c < cols_of grid.now.rows }
+    ensures { result ≡ fold (λ total y. min (total + y) u32.MAX) 0 (row (turned grid.now.rows) c) }
+{
+    grid.iter_col(c)
+        .fold(0, |total: u32, y| total.saturating_add(*y))
+}
+
+/// Half of each cell of row r, rounded down.
+pub fn halves_of_row<A: Allocator>(
+    alloc: Global,
+    grid: &Grid<u32, A>,
+    r: usize,
+) -> Result<Vec<u32>, AllocError>
+    requires { r < rows_of grid.now.rows }
+    ensures { IfOk result (λ halves. halves.items ≡ map (λ y. y / 2) (row grid.now.rows r)) }
+{
+    grid.iter_row(r).map(|y| *y / 2).collect(alloc)
+}
+
+/// The cells of column c.
+pub fn column<T: Copy, A: Allocator>(
+    alloc: Global,
+    grid: &Grid<T, A>,
+    c: usize,
+) -> Result<Vec<T>, AllocError>
+    requires { c < cols_of grid.now.rows }
+    ensures { IfOk result (λ cells. cells.items ≡ row (turned grid.now.rows) c) }
+{
+    grid.iter_col(c).copied().collect(alloc)
+}
+
+/// The cells of column c that are above x.
+pub fn column_above<A: Allocator>(
+    alloc: Global,
+    grid: &Grid<u32, A>,
+    c: usize,
+    x: u32,
+) -> Result<Vec<u32>, AllocError>
+    requires { c < cols_of grid.now.rows }
+    ensures { IfOk result (λ cells. cells.items ≡ filter (λ y. nat_lt x y) (row (turned grid.now.rows) c)) }
+{
+    grid.iter_col(c).copied().filter(|y| x < *y).collect(alloc)
+}
+
+/// The largest cell of row r.
+pub fn row_max<A: Allocator>(grid: &Grid<u32, A>, r: usize) -> Option<u32>
+    requires { r < rows_of grid.now.rows }
+    ensures { MatchOption result (row grid.now.rows r ≡ []) (λ most. All (λ y. y ≤ most) (row grid.now.rows r) × Any (λ y. y ≡ most) (row grid.now.rows r)) }
+{
+    grid.iter_row(r).copied().max()
+}
+
+/// Half of each cell of the whole grid, last first.
+pub fn halves_reversed<A: Allocator>(
+    alloc: Global,
+    grid: &Grid<u32, A>,
+) -> Result<Vec<u32>, AllocError>
+    ensures { IfOk result (λ halves. halves.items ≡ reverse (map (λ y. y / 2) (storage grid.now.order grid.now.rows))) }
+{
+    grid.iter().rev().map(|y| *y / 2).collect(alloc)
+}
+
+#[cfg(test)]
+mod tests {
+    use super::*;
+    use crate::fixtures::{ORDERS, grid_of, numbered};
+    use std::process::Abort;
+    use std::test::Fail;
+
+    // [[1, 2, 3], [4, 5, 6]] in both orders.
+    fn boards(rt: &impl Abort, alloc: Global) -> Result<Vec<Grid<u32>>, AllocError> {
+        let table = numbered(alloc, 2, 3)?;
+        let mut boards = Vec::new(alloc);
+        for order in ORDERS {
+            let board = grid_of(rt, alloc, &table, order)?;
+            assert_eq!(rt; board.size(), (2, 3));
+            boards.push(board)?;
+        }
+        Ok(boards)
+    }
+
+    #[test]
+    fn counts_in_rows(rt: HostRuntime) -> Result<(), Fail> {
+        for board in boards(&rt, rt.alloc())?.iter_mut() {
+            assert!(rt; 1 < board.rows());
+            assert_eq!(rt; count_in_row(board, 1, 5), 1);
+            assert_eq!(rt; count_in_row(board, 1, 2), 0);
+            board.fill_with(|| 5);
+            assert!(rt; 1 < board.rows());
+            assert_eq!(rt; count_in_row(board, 1, 5), 3);
+        }
+        Ok(())
+    }
+
+    #[tactic(auto, using(crate::proofs::Sums::row_within))]
+    #[test]
+    fn sums_rows(rt: HostRuntime) -> Result<(), Fail> {
+        let cells = vec![in rt.alloc(); 1u32, 2, 3, 4]?;
+        let board = Grid::from_vec(cells, 2);
+        assert!(rt; 1 < board.rows());
+        assert_eq!(rt; row_sum(&board, 0), 3);
+        assert_eq!(rt; row_sum(&board, 1), 7);
+        Ok(())
+    }
+
+    #[test]
+    fn sums_columns(rt: HostRuntime) -> Result<(), Fail> {
+        for board in boards(&rt, rt.alloc())?.iter_mut() {
+            assert!(rt; 2 < board.cols());
+            assert_eq!(rt; column_sum(board, 0), 5);
+            assert_eq!(rt; column_sum(board, 2), 9);
+            board.fill(u32::MAX)?;
+            assert!(rt; 2 < board.cols());
+            assert_eq!(rt; column_sum(board, 2), u32::MAX);
+        }
+        Ok(())
+    }
+
+    #[test]
+    fn finds_in_columns(rt: HostRuntime) -> Result<(), Fail> {
+        for board in &boards(&rt, rt.alloc())? {
+            assert!(rt; 2 < board.cols());
+            assert!(rt; column_has(board, 2, 6));
+            assert!(rt; !column_has(board, 2, 5));
+        }
+        Ok(())
+    }
+
+    #[test]
+    fn bounds_rows(rt: HostRuntime) -> Result<(), Fail> {
+        for board in &boards(&rt, rt.alloc())? {
+            assert!(rt; 1 < board.rows());
+            assert!(rt; row_is_within(board, 0, 3));
+            assert!(rt; !row_is_within(board, 1, 5));
+            assert_eq!(rt; row_max(board, 0), Some(3));
+            assert_eq!(rt; row_max(board, 1), Some(6));
+        }
+        Ok(())
+    }
+
+    #[test]
+    fn lists_rows_and_columns(rt: HostRuntime) -> Result<(), Fail> {
+        let alloc = rt.alloc();
+        for board in &boards(&rt, alloc)? {
+            assert!(rt; 1 < board.rows() && 2 < board.cols());
+            let halves = halves_of_row(alloc, board, 1)?;
+            assert_eq!(rt; halves.as_slice(), [2, 2, 3].as_slice());
+            let cells = column(alloc, board, 1)?;
+            assert_eq!(rt; cells.as_slice(), [2, 5].as_slice());
+            let above = column_above(alloc, board, 2, 3)?;
+            assert_eq!(rt; above.as_slice(), [6].as_slice());
+            assert!(rt; column_above(alloc, board, 0, 4)?.is_empty());
+        }
+        Ok(())
+    }
+
+    #[test]
+    fn walks_back(rt: HostRuntime) -> Result<(), Fail> {
+        let alloc = rt.alloc();
+        for (board, want) in boards(&rt, alloc)?
+            .iter()
+            .zip([[3u32, 2, 2, 1, 1, 0], [3, 1, 2, 1, 2, 0]])
+        {
+            assert_eq!(rt; halves_reversed(alloc, board)?.as_slice(), want.as_slice());
+        }
+        Ok(())
+    }
+}
