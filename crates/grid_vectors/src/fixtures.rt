@@ -111,6 +111,32 @@ pub fn assert_shows<A: Allocator>(
     Ok(())
 }
 
+// Where the cells of a table of this size stand, in storage order.
+pub fn places_of(
+    alloc: Global,
+    (rows, cols): (usize, usize),
+    order: Order,
+) -> Result<Vec<(usize, usize)>, AllocError> {
+    let mut places = Vec::new(alloc);
+    match order {
+        Order::RowMajor => {
+            for row in 0..rows {
+                for col in 0..cols {
+                    places.push((row, col))?;
+                }
+            }
+        }
+        Order::ColumnMajor => {
+            for col in 0..cols {
+                for row in 0..rows {
+                    places.push((row, col))?;
+                }
+            }
+        }
+    }
+    Ok(places)
+}
+
 // Writes a cell of a table, if it is there.
 pub fn put(table: &mut Vec<Vec<u32>>, row: usize, col: usize, value: u32) {
     if let Some(cells) = table.get_mut(row) {

@@ -23,3 +23,7 @@ mod refused;
 mod rows;
 #[cfg(test)]
 mod symmetries;
+#[cfg(test)]
+mod walks;
+#[cfg(test)]
+mod wholes;

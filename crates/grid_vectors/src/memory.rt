@@ -58,6 +58,25 @@ fn drops_texts(rt: HostRuntime) -> Result<(), Fail> {
     Ok(())
 }
 
+// A walk for writing that is dropped after one text from each end.
+#[test]
+fn drops_a_walk_of_texts(rt: HostRuntime) -> Result<(), Fail> {
+    let alloc = rt.alloc();
+    let mut grid = letters(&rt, alloc)?;
+    grid.transpose();
+    let mut walk = (&mut grid).into_iter();
+    if let Some(text) = walk.next() {
+        text.push_str("1")?;
+    }
+    if let Some(text) = walk.next_back() {
+        text.push_str("2")?;
+    }
+    drop(walk);
+    grid.flip_rows();
+    assert_eq!(rt; texts(alloc, &grid)?.as_str(), "cba1f2ed");
+    Ok(())
+}
+
 // A text or none, seen as its bytes, so that a clone equals its source.
 #[derive(Debug, Drop)]
 struct Label {
