@@ -15,6 +15,8 @@ pub mod fuse;
 #[cfg(test)]
 mod ground;
 #[cfg(test)]
+mod made;
+#[cfg(test)]
 mod memory;
 pub mod plain;
 #[cfg(test)]
