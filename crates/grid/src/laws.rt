@@ -1,10 +1,12 @@
 //! Laws of grids as public calls: each makes the calls that its name says, and ensures what they leave.
-ghost use Rattle.std.specs.Prelude.{◌≡◌};
+ghost use Rattle.std.specs.Prelude.{◌≡◌, ◌<◌, ◌≤◌, length, OnOk, IfOk, MatchOption};
+ghost use Rattle.grid_base.specs.Table.{cols_of};
 ghost use Rattle.grid_base.specs.Symmetry.{act};
 ghost use Rattle.grid_base.specs.declared.words.Symmetry.TheVariants.{RotateHalf};
+ghost use Rattle.grid.specs.Edit.{FitsRow, FitsCol};
 
-use crate::Grid;
-use std::alloc::Allocator;
+use crate::{Grid, LineRefused};
+use std::alloc::{AllocError, Allocator};
 
 /// A quarter turn with the clock and one against it leave the rows and the order.
 pub fn rotate_right_then_left<T, A: Allocator>(grid: &mut Grid<T, A>)
@@ -42,4 +44,43 @@ pub fn rebuilt<T, A: Allocator>(grid: Grid<T, A>) -> Grid<T, A>
     let (_, cols) = grid.size();
     let order = grid.order();
     Grid::from_vec_with_order(grid.into_vec(), cols, order)
+}
+
+/// A row that is pushed and popped comes back, and leaves the rows and the order.
+pub fn push_row_then_pop_row<T, A: Allocator>(
+    grid: &mut Grid<T, A>,
+    line: Vec<T, A>,
+) -> Result<Result<Option<Vec<T, A>>, AllocError>, LineRefused<T, A>>
+where
+    A: Clone,
+    requires nonempty { 0 < length line.items }
+    requires fits { FitsRow grid.old.rows (length line.items) }
+    ensures grid { IfOk result (λ popped. OnOk popped (grid.new ≡ grid.old)) }
+    ensures line { IfOk result (λ popped. IfOk popped (λ taken. MatchOption taken ⊥ (λ row. row.items ≡ line.items))) }
+{
+    grid.push_row(line)?;
+    Ok(grid.pop_row())
+}
+
+/// A column that is inserted leaves what a row leaves that is inserted between two transposes.
+pub fn insert_col_or_row_across<T, A: Allocator>(
+    grid: &mut Grid<T, A>,
+    other: &mut Grid<T, A>,
+    at: usize,
+    line: Vec<T, A>,
+    other_line: Vec<T, A>,
+) -> (Result<(), LineRefused<T, A>>, Result<(), LineRefused<T, A>>)
+    requires same { other.old ≡ grid.old }
+    requires same_line { other_line.items ≡ line.items }
+    requires nonempty { 0 < length line.items }
+    requires fits { FitsCol grid.old.rows (length line.items) }
+    requires place { at ≤ cols_of grid.old.rows }
+    ensures { OnOk result.0 (OnOk result.1 (other.new ≡ grid.new)) }
+{
+    let _ = grid.size();
+    let as_col = grid.insert_col(at, line);
+    other.transpose();
+    let as_row = other.insert_row(at, other_line);
+    other.transpose();
+    (as_col, as_row)
 }

@@ -131,7 +131,8 @@ impl<T, A: Allocator> Grid<T, A> {
         ensures err { OnErr result (self.new ≡ self.old) }
         ensures err_shift { OnErr result (tally.new.shift ≡ tally.old.shift) }
     {
-        self.flat.append_defaults(count * self.col_count)?;
+        let behind = count * self.col_count;
+        self.flat.append_defaults(behind)?;
         open_end(
             &mut self.flat,
             self.order,
@@ -204,7 +205,8 @@ impl<T, A: Allocator> Grid<T, A> {
         ensures err { OnErr result (self.new ≡ self.old) }
         ensures err_shift { OnErr result (tally.new.shift ≡ tally.old.shift) }
     {
-        self.flat.append_defaults(count * self.col_count)?;
+        let before = count * self.col_count;
+        self.flat.append_defaults(before)?;
         open_beginning(
             &mut self.flat,
             self.order,

@@ -3,8 +3,8 @@ use Rattle.grid.specs.Shift.{prepend_rows_shift}
 use Rattle.grid.proofs.SeenPads.{pad_rows, pad_cols, pad_small, pad_cells_small, pad_rows_small, pad_shift, pad_cells, pads_rows, pad_fits}
 use Rattle.grid.proofs.grid.Grid.prepend_within.Goals as goal
 
-pub overflow_mul-count : goal.overflow_mul-count
-overflow_mul-count g c = let small = pad_cells_small _ _ _ _ _ c.self.invariant c.self.view_is _ c.requires.nonempty c.requires.room in omega (arith, small)
+pub overflow_mul-before : goal.overflow_mul-before
+overflow_mul-before g c = let small = pad_cells_small _ _ _ _ _ c.self.invariant c.self.view_is _ c.requires.nonempty c.requires.room in omega (arith, small)
 
 pub open_beginning-requires-clause-cells : goal.open_beginning-requires-clause-cells
 open_beginning-requires-clause-cells g c = pad_cells _ _ _ _ _ c.self.invariant c.self.view_is _ c.requires.nonempty c.requires.room _ _ c.in_ok-append_defaults.ensures.ok
