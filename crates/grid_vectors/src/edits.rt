@@ -2,7 +2,7 @@
 use crate::fixtures::{ORDERS, SIZES, assert_shows, grid_of, numbered};
 use crate::plain;
 use grid::{Grid, GridError, LineRefused, Order};
-use std::alloc::{AllocError, Global};
+use std::alloc::{AllocError, Allocator, Global};
 use std::process::Abort;
 use std::test::Fail;
 
@@ -17,12 +17,13 @@ fn line_of(alloc: Global, len: usize) -> Result<Vec<u32>, AllocError> {
     Ok(line)
 }
 
-fn insert_row(
+// Inserts a row that a test made to fit.
+pub fn insert_row<A: Allocator>(
     rt: &impl Abort,
-    grid: &mut Grid<u32>,
+    grid: &mut Grid<u32, A>,
     at: usize,
-    line: Vec<u32>,
-) -> Result<(), LineRefused<u32>> {
+    line: Vec<u32, A>,
+) -> Result<(), LineRefused<u32, A>> {
     assert!(rt; line.len() != 0);
     assert!(rt; at <= grid.rows());
     if grid.is_empty() {
@@ -32,12 +33,13 @@ fn insert_row(
     grid.insert_row(at, line)
 }
 
-fn insert_col(
+// Inserts a column that a test made to fit.
+pub fn insert_col<A: Allocator>(
     rt: &impl Abort,
-    grid: &mut Grid<u32>,
+    grid: &mut Grid<u32, A>,
     at: usize,
-    line: Vec<u32>,
-) -> Result<(), LineRefused<u32>> {
+    line: Vec<u32, A>,
+) -> Result<(), LineRefused<u32, A>> {
     assert!(rt; line.len() != 0);
     assert!(rt; at <= grid.cols());
     if grid.is_empty() {

@@ -366,3 +366,29 @@ fn joins_rows(rt: HostRuntime) -> Result<(), Fail> {
     }
     Ok(())
 }
+
+// A vector of 2^62 cells, which take no memory.
+fn long_row(alloc: Global) -> Result<Vec<()>, AllocError> {
+    let mut cells = vec![in alloc; ()]?;
+    for _ in 0..62 {
+        let mut more = Vec::from_slice(alloc, cells.as_slice())?;
+        cells.append(&mut more)?;
+    }
+    Ok(cells)
+}
+
+// Cells of no size can pass the limit: here four rows of 2^62. To drop them takes no time as LLVM builds the test.
+#[test]
+fn refuses_rows_of_too_many_cells(rt: HostRuntime) -> Result<(), Fail> {
+    let alloc = rt.alloc();
+    let large = Some(ShapeError::TooLarge);
+    let row = long_row(alloc)?;
+    assert_eq!(rt; row.len(), 4611686018427387904);
+    let lent = vec![in alloc; &row, &row, &row, &row]?;
+    assert_eq!(rt; Grid::try_from(&lent).err(), large);
+    drop(lent);
+    let rows = vec![in alloc; row, long_row(alloc)?, long_row(alloc)?, long_row(alloc)?]?;
+    assert_eq!(rt; Grid::try_from(&rows).err(), large);
+    assert_eq!(rt; Grid::try_from(rows).err(), large);
+    Ok(())
+}
