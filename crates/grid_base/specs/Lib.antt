@@ -15,3 +15,4 @@ pub mod GridLineIterMut
 pub mod IndexedIterMut
 pub mod FlatLends
 pub mod Answers
+pub mod Gather

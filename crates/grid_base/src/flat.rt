@@ -5,6 +5,7 @@ ghost use Rattle.std.specs.Option.{option_copied};
 ghost use Rattle.grid_base.specs.Tally.{counted};
 
 mod ends;
+mod gather;
 mod indexed;
 mod indexed_into;
 mod indexed_mut;
