@@ -11,10 +11,10 @@ use Rattle.grid_base.specs.Sheet.{Sheet}
 use Rattle.grid_base.specs.Symmetry.{act}
 use Rattle.grid_base.proofs.Views.{same_sheet, flipped-flipped}
 use Rattle.grid_base.proofs.Acts.{rows-act}
-use Rattle.grid.specs.Edit.{FitsRow, FitsCol, put_col, take_rows, take_cols}
+use Rattle.grid.specs.Edit.{FitsRow, FitsCol, put_rows, put_col, put_cols, take_rows, take_cols}
 use Rattle.grid.specs.Shift.{delete_rows_shift, delete_cols_shift}
 use Rattle.grid.proofs.EditViews.{put_line}
-use Rattle.grid.proofs.Cols.{across-none, across-across, cols-across, put_col-across, take_cols-across, ColumnFits}
+use Rattle.grid.proofs.Cols.{across-none, across-across, cols-across, put_col-across, put_cols-across, take_cols-across, ColumnFits, ColumnsFit}
 
 -- a fact for each outcome follows from another
 pub on_ok : {V E : Type 0} (r : Result V E) {P Q : Type 0} → (P → Q) → OnOk r P → OnOk r Q
@@ -46,6 +46,18 @@ module _ {T : Type 0} where
       back
       ∙ (ap (act Transpose) (put ∙ (ap (λ v. insert v i line) turned ∙ sym (put_line i line (act Transpose t))))
       ∙ sym (put_col-across i line t (column_fits i line t h f some le)))
+
+  -- rows put between two transposes are columns
+  pub cols_inserted : (i : ℕ) (lines t mid grown new : List (List T)) → IsTable t → IsTable lines → (0 < rows_of lines → FitsCol t (cols_of lines)) → i ≤ cols_of t → mid ≡ act Transpose t → new ≡ act Transpose grown → grown ≡ put_rows i lines mid → new ≡ put_cols i lines t
+  cols_inserted i lines t mid grown new h table f le turned back put =
+      let fit : ColumnsFit i lines t =
+      record {
+        in_cols = le;
+        old = h;
+        new = table;
+        height = λ rows some. ⊎_elim {C = cols_of lines ≡ rows_of t} (λ none. absurd (omega (arith, ap length none))) (λ tall. tall) (f some);
+      } in
+      back ∙ (ap (act Transpose) (put ∙ ap (put_rows i lines) turned) ∙ sym (put_cols-across i lines t fit))
 
   -- two transposes with nothing between them
   pub twice_across : (old mid late new : Sheet T) → IsTable old.rows → mid.rows ≡ act Transpose old.rows → mid.order ≡ flipped old.order → late ≡ mid → new.rows ≡ act Transpose late.rows → new.order ≡ flipped late.order → new ≡ old

@@ -1,14 +1,15 @@
 -- What a line edit starts from and leaves, by a grid's fields.
-use Rattle.std.proofs.Common.{◌≡◌, ◌<◌, ◌≤◌, ◌+◌, ◌-◌, ◌*◌, ◌^◌, ◌++◌, ◌∷◌, [], ℕ, zero, suc, List, take, drop, Some, length, refl, sym, ◌∙◌, ap, arith, ⊎_elim, subst, Bool, true, false, IsTrue, ◌↔◌}
+use Rattle.std.proofs.Common.{◌≡◌, ◌<◌, ◌≤◌, ◌+◌, ◌-◌, ◌*◌, ◌^◌, ◌++◌, ◌∷◌, [], ℕ, zero, suc, List, take, drop, Some, length, length-append, refl, sym, ◌∙◌, ap, arith, ⊎_elim, subst, Bool, true, false, IsTrue, ◌↔◌}
 use Rattle.std.proofs.lemmas.Bool.{cases_lt}
 use Rattle.std.specs.List.{insert, remove, slice_get}
 use Rattle.std.proofs.lemmas.List.{length-take-le}
 use Rattle.std.proofs.lemmas.Option.{slice_get-get_or}
 use Rattle.std.proofs.Math.Dec.{eqb-suc-zero}
 use Rattle.grid_base.specs.declared.flat.order.Order.{Order}
-use Rattle.grid_base.specs.Table.{row, rows_of, cols_of}
-use Rattle.grid_base.specs.Order.{table_of}
+use Rattle.grid_base.specs.Table.{row, rows_of, cols_of, IsTable}
+use Rattle.grid_base.specs.Order.{storage, table_of}
 use Rattle.grid_base.specs.Sheet.{Sheet, Fits}
+use Rattle.grid_base.proofs.Stores.{length-storage}
 use Rattle.grid_base.specs.Lines.{Woven, Closed}
 use Rattle.grid.specs.Edit.{FitsRow, put_rows, take_rows}
 use Rattle.grid.proofs.Rows.{RowGroups}
@@ -44,6 +45,15 @@ module _ {T : Type 0} (o : Order) (m n : ℕ) (cells : List T) (s : Sheet T) (h 
       ⊎_elim {C = table_of o m w cells ≡ s.rows} (λ none. ap (λ x. table_of o x w cells) (no_rows none) ∙ (table_of-no_rows o w cells ∙ sym none))
       (λ wide. ap (λ x. table_of o m x cells) (wide ∙ seen_cols o m n cells s h e) ∙ ap (λ x. x.rows) e) f
 
+  -- more rows of w cells
+  pub range_cells : (k : ℕ) (lines : List (List T)) (grown : List T) → IsTable lines → rows_of lines ≡ k → cols_of lines ≡ w → grown ≡ cells ++ storage o lines → length grown ≡ m * w + k * w
+  range_cells k lines grown table count wide g =
+      let behind : rows_of lines * cols_of lines ≡ k * w = ap (λ x. x * cols_of lines) count ∙ ap (λ x. k * x) wide in
+      ap length g ∙ omega (arith, length-append cells (storage o lines), length-storage o lines table, behind, cells_fit)
+
+  pub range_inserted : (i k : ℕ) (lines : List (List T)) (grown new : List T) → IsTable lines → rows_of lines ≡ k → cols_of lines ≡ w → grown ≡ cells ++ storage o lines → RowsPut o m w i k grown new → table_of o (m + k) w new ≡ put_rows i lines s.rows
+  range_inserted i k lines grown new table count wide g p = p.table cells lines g cells_fit table count wide ∙ ap (put_rows i lines) rows_fit
+
   -- one more row of w cells
   pub rows_inserted : (i : ℕ) (line grown new : List T) → 0 < w → length line ≡ w → grown ≡ cells ++ line → RowsPut o m w i 1 grown new → table_of o (m + 1) w new ≡ insert s.rows i line
   rows_inserted i line grown new some wide g p =
@@ -55,16 +65,16 @@ module _ {T : Type 0} (o : Order) (m n : ℕ) (cells : List T) (s : Sheet T) (h 
       put_one t = put_rows i (line ∷ []) t
 
 -- what the test for room says of the rows that a contract sees
-module _ (found : Bool) (m rows w width : ℕ) (e : rows ≡ m) (f : w ≡ width) (tests : IsTrue found ↔ ((m + 1) * w < 2 ^ 64)) where
-  pub room : found ≡ true → 2 ^ 64 ≤ (rows + 1) * width → ⊥
-  room fits large = let small = rw f at (tests.0 fits) in let same : (rows + 1) * width ≡ (m + 1) * width = ap (λ x. (x + 1) * width) e in omega (arith, small, same, large)
+module _ (found : Bool) (m k rows w width : ℕ) (e : rows ≡ m) (f : w ≡ width) (tests : IsTrue found ↔ ((m + k) * w < 2 ^ 64)) where
+  pub room : found ≡ true → 2 ^ 64 ≤ (rows + k) * width → ⊥
+  room fits large = let small = rw f at (tests.0 fits) in let same : (rows + k) * width ≡ (m + k) * width = ap (λ x. (x + k) * width) e in omega (arith, small, same, large)
 
-  pub no_room : found ≡ false → 2 ^ 64 ≤ (rows + 1) * width
+  pub no_room : found ≡ false → 2 ^ 64 ≤ (rows + k) * width
   no_room full =
-      ⊎_elim {C = 2 ^ 64 ≤ (rows + 1) * width}
-      (λ small. let same : (rows + 1) * width ≡ (m + 1) * w = ap (λ x. (x + 1) * width) e ∙ ap (λ x. (m + 1) * x) (sym f) in
+      ⊎_elim {C = 2 ^ 64 ≤ (rows + k) * width}
+      (λ small. let same : (rows + k) * width ≡ (m + k) * w = ap (λ x. (x + k) * width) e ∙ ap (λ x. (m + k) * x) (sym f) in
       let fits : found ≡ true = tests.1 (omega (arith, small, same)) in cc (fits, full))
-      (λ large. large) (cases_lt ((rows + 1) * width) (2 ^ 64))
+      (λ large. large) (cases_lt ((rows + k) * width) (2 ^ 64))
 
 -- groups closed up are rows taken
 pub rows_taken : {T : Type 0} (o : Order) (n i k rest p q a g : ℕ) (old new : List T) → RowGroups o rest n i k p q a g → length old ≡ (rest + k) * n → i ≤ rest → Closed p q a g new old → RowsTaken o n i k rest old new

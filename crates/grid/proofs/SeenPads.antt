@@ -18,7 +18,7 @@ use Rattle.grid.specs.RowGroups.{RowsOpened}
 use Rattle.grid.proofs.Seen.{seen_rows, seen_cols}
 use Rattle.grid.proofs.Rows.{RowGroups}
 use Rattle.grid.proofs.Padding.{Padded, view-open_rows, All-all_fresh, replicate_from_all, All-from_gets, holds_at}
-use Rattle.grid.proofs.Sizes.{Fits-filled, IsTable-width, put-no_lines, copies, row-copies, expanded-put, prepended-put}
+use Rattle.grid.proofs.Sizes.{Fits-filled, factor_small, IsTable-width, put-no_lines, copies, row-copies, expanded-put, prepended-put}
 use Rattle.grid.proofs.Cols.{rows-across, cols-across, across-none, ColumnsFit, put_cols-across}
 use Rattle.grid.proofs.ColSizes.{expand_between, prepend_between}
 
@@ -87,10 +87,7 @@ module _ {T : Type 0} (o : Order) (m n : ℕ) (cells : List T) (s : Sheet T) (h 
   pad_cells_small = omega (arith, pad_small)
 
   pub pad_rows_small : m + k < 2 ^ 64
-  pad_rows_small = let le : (m + k) * 1 ≤ (m + k) * n = times (m + k) 1 n pad_cols in omega (arith, pad_small, le)
-    where
-      times : (x y z : ℕ) → y ≤ z → x * y ≤ x * z
-      times x y z le = grind (arith, mul-le-mul_right x le)
+  pad_rows_small = factor_small (m + k) n pad_cols pad_small
 
   pub pad_shift : (F : Order → ℕ → ℕ → ℕ → ℕ) → F s.order (rows_of s.rows) (cols_of s.rows) k ≡ F o m n k
   pad_shift F =

@@ -82,7 +82,7 @@ impl<T: Clone, A: Allocator + Clone> TryFrom<(&Vec<T, A>, &usize)> for Grid<T, A
 }
 
 // The length of the first row, or 0 where there is none.
-fn first_len<T, L: AsSlice<T>>(rows: &[L]) -> usize
+pub(crate) fn first_len<T, L: AsSlice<T>>(rows: &[L]) -> usize
     ensures { result ≡ cols_of (map L.items rows.now) }
 {
     match rows.first() {

@@ -11,9 +11,11 @@ ghost use Rattle.grid.specs.Shift.{rows_taken_shift, delete_rows_shift, delete_c
 ghost use Rattle.grid.specs.declared.error.GridError.TheVariants.{TooLarge};
 
 mod pad;
+mod ranges;
 
 use crate::{Grid, GridError};
 use grid_base::{Flat, Order, Tally};
+pub use ranges::LinesRefused;
 use std::alloc::{AllocError, Allocator, Global};
 
 /// A line that was not put into a grid, and why. The grid is as it was.
@@ -26,12 +28,12 @@ pub struct LineRefused<T, A: Allocator = Global> {
     pub fault: GridError,
 }
 
-// Whether a grid of so many rows can take one more of this length.
-fn has_room(rows: usize, width: usize) -> bool
+// Whether a grid of so many rows can take `count` more of this length.
+fn has_room(rows: usize, count: usize, width: usize) -> bool
     requires { 0 < width }
-    ensures { IsTrue result ↔ ((rows + 1) * width < 2 ^ 64) }
+    ensures { IsTrue result ↔ ((rows + count) * width < 2 ^ 64) }
 {
-    match rows.checked_add(1) {
+    match rows.checked_add(count) {
         Some(more) => more.checked_mul(width).is_some(),
         None => false,
     }
@@ -155,7 +157,7 @@ impl<T, A: Allocator> Grid<T, A> {
     {
         let mut line = line;
         let width = line.len();
-        if !has_room(self.row_count, width) {
+        if !has_room(self.row_count, 1, width) {
             return Err(LineRefused {
                 line,
                 fault: GridError::TooLarge,

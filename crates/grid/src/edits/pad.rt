@@ -7,20 +7,10 @@ ghost use Rattle.grid.specs.RowGroups.{RowsOpened};
 ghost use Rattle.grid.specs.Shift.{expand_rows_shift, expand_cols_shift, prepend_rows_shift, prepend_cols_shift};
 ghost use Rattle.grid.specs.declared.error.GridError.TheVariants.{TooLarge};
 
+use super::has_room;
 use crate::{Grid, GridError};
 use grid_base::{Flat, Order, Tally};
 use std::alloc::{AllocError, Allocator};
-
-// Whether a grid of so many rows can take `count` more of this length.
-fn has_room_for(rows: usize, count: usize, cols: usize) -> bool
-    requires { 0 < cols }
-    ensures { IsTrue result ↔ ((rows + count) * cols < 2 ^ 64) }
-{
-    match rows.checked_add(count) {
-        Some(more) => more.checked_mul(cols).is_some(),
-        None => false,
-    }
-}
 
 // Puts the cells behind a table as rows at its end.
 fn open_end<T, A: Allocator>(
@@ -110,7 +100,7 @@ impl<T, A: Allocator> Grid<T, A> {
         if count == 0 || rows == 0 {
             return Ok(());
         }
-        if !has_room_for(rows, count, self.cols()) {
+        if !has_room(rows, count, self.cols()) {
             return Err(GridError::TooLarge);
         }
         self.expand_within(count, tally)?;
@@ -184,7 +174,7 @@ impl<T, A: Allocator> Grid<T, A> {
         if count == 0 || rows == 0 {
             return Ok(());
         }
-        if !has_room_for(rows, count, self.cols()) {
+        if !has_room(rows, count, self.cols()) {
             return Err(GridError::TooLarge);
         }
         self.prepend_within(count, tally)?;

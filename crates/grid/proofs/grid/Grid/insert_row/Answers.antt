@@ -8,7 +8,7 @@ use Rattle.grid.proofs.grid.Grid.insert_row.Goals as goal
 pub returns-then-not-has_room-clause-too_large : goal.returns-then-not-has_room-clause-too_large
 returns-then-not-has_room-clause-too_large g c =
     let width : c.len-width.result ≡ length c.args.line.items = omega arith in
-    (λ _. no_room _ _ _ _ _ (seen_rows _ _ _ _ _ c.self.invariant c.self.view_is) width c.has_room.ensures c.if-not-has_room.true, λ _. refl)
+    (λ _. no_room _ _ _ _ _ _ (seen_rows _ _ _ _ _ c.self.invariant c.self.view_is) width c.has_room.ensures c.if-not-has_room.true, λ _. refl)
 
 pub weave_rows-requires-clause-cells : goal.weave_rows-requires-clause-cells
 weave_rows-requires-clause-cells g c =
@@ -39,9 +39,9 @@ returns-in-Ok-clause-rows g c =
 pub returns-in-Ok-clause-too_large : goal.returns-in-Ok-clause-too_large
 returns-in-Ok-clause-too_large g c =
     let width : c.len-width.result ≡ length c.args.line.items = omega arith in
-    (λ h. absurd h, λ large. room _ _ _ _ _ (seen_rows _ _ _ _ _ c.self.invariant c.self.view_is) width c.has_room.ensures c.if-not-has_room.false large)
+    (λ h. absurd h, λ large. room _ _ _ _ _ _ (seen_rows _ _ _ _ _ c.self.invariant c.self.view_is) width c.has_room.ensures c.if-not-has_room.false large)
 
 pub returns-in-Err-clause-too_large : goal.returns-in-Err-clause-too_large
 returns-in-Err-clause-too_large g c =
     let width : c.len-width.result ≡ length c.args.line.items = omega arith in
-    (λ h. absurd (cc h), λ large. absurd (room _ _ _ _ _ (seen_rows _ _ _ _ _ c.self.invariant c.self.view_is) width c.has_room.ensures c.if-not-has_room.false large))
+    (λ h. absurd (cc h), λ large. absurd (room _ _ _ _ _ _ (seen_rows _ _ _ _ _ c.self.invariant c.self.view_is) width c.has_room.ensures c.if-not-has_room.false large))

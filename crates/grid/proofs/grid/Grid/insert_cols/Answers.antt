@@ -1,0 +1,29 @@
+use Rattle.std.proofs.Common.{arith}
+use Rattle.grid_base.specs.declared.words.Symmetry.TheVariants.{Transpose}
+use Rattle.grid_base.proofs.Acts.{rows-act}
+use Rattle.grid_base.proofs.Gathering.{rows-vecs}
+use Rattle.grid.proofs.Seen.{seen_table}
+use Rattle.grid.proofs.Across.{on_ok, on_err, fits_across, cols_inserted, twice_across}
+use Rattle.grid.proofs.grid.Grid.insert_cols.Goals as goal
+
+pub insert_rows-inserted-requires-clause-fits : goal.insert_rows-inserted-requires-clause-fits
+insert_rows-inserted-requires-clause-fits g c some =
+    rw c.transpose.ensures.rows (fits_across _ _ (seen_table _ _ _ _ _ c.self.invariant c.self.view_is) (c.requires.fits some))
+
+pub insert_rows-inserted-requires-clause-place : goal.insert_rows-inserted-requires-clause-place
+insert_rows-inserted-requires-clause-place g c =
+    rw (c.transpose.ensures.rows, rows-act Transpose c.args.self.now.rows) c.requires.place
+
+pub returns-clause-rows : goal.returns-clause-rows
+returns-clause-rows g c =
+    on_ok c.insert_rows-inserted.result (cols_inserted c.args.at _ _ _ _ _ (seen_table _ _ _ _ _ c.self.invariant c.self.view_is) c.requires.table (λ some. c.requires.fits (omega (arith, rows-vecs c.args.lines.items))) c.requires.place c.transpose.ensures.rows c.transpose-2.ensures.rows)
+    c.insert_rows-inserted.ensures.rows
+
+pub returns-clause-too_large : goal.returns-clause-too_large
+returns-clause-too_large g c = rw (c.transpose.ensures.rows, rows-act Transpose c.args.self.now.rows) at c.insert_rows-inserted.ensures.too_large
+
+pub returns-clause-err : goal.returns-clause-err
+returns-clause-err g c =
+    on_err c.insert_rows-inserted.result
+    (λ same. twice_across _ _ _ _ (seen_table _ _ _ _ _ c.self.invariant c.self.view_is) c.transpose.ensures.rows c.transpose.ensures.order same c.transpose-2.ensures.rows c.transpose-2.ensures.order)
+    c.insert_rows-inserted.ensures.err
