@@ -50,7 +50,7 @@ pub fn insert_col<A: Allocator>(
 }
 
 // Puts a row into a plain table.
-fn put_row(
+pub fn put_row(
     rt: &impl Abort,
     table: &mut Vec<Vec<u32>>,
     at: usize,
@@ -62,7 +62,7 @@ fn put_row(
 }
 
 // Puts a column into a plain table.
-fn put_col(
+pub fn put_col(
     rt: &impl Abort,
     alloc: Global,
     table: &mut Vec<Vec<u32>>,
@@ -252,7 +252,7 @@ fn deletes_ranges(rt: HostRuntime) -> Result<(), Fail> {
 }
 
 // A grid of cells in storage order, in rows of `cols`.
-fn stored(
+pub fn stored(
     rt: &impl Abort,
     alloc: Global,
     cells: &[u32],
@@ -489,6 +489,44 @@ fn expand_too_large(rt: HostRuntime) -> Result<(), Fail> {
     assert_eq!(rt; grid.size(), (1, 2));
     assert_eq!(rt; grid.get(0, 1).copied(), Some(2));
     assert_eq!(rt; grid.get(1, 0).copied(), None);
+    Ok(())
+}
+
+// So many cells are not too large, but more than a vector of bytes may have.
+#[test]
+fn pads_to_the_largest_number_of_cells(rt: HostRuntime) -> Result<(), Fail> {
+    for order in ORDERS {
+        let mut grid = Grid::<u8>::new_with_order(rt.alloc(), 1, 1, order)?;
+        let most = usize::MAX - 1;
+        assert_eq!(rt; grid.expand_rows(most), Err(GridError::Memory));
+        assert_eq!(rt; grid.expand_cols(most), Err(GridError::Memory));
+        assert_eq!(rt; grid.prepend_rows(most), Err(GridError::Memory));
+        assert_eq!(rt; grid.prepend_cols(most), Err(GridError::Memory));
+        assert_eq!(rt; grid.expand_rows(usize::MAX), Err(GridError::TooLarge));
+        assert_eq!(rt; grid.expand_cols(usize::MAX), Err(GridError::TooLarge));
+        assert_eq!(rt; grid.prepend_rows(usize::MAX), Err(GridError::TooLarge));
+        assert_eq!(rt; grid.prepend_cols(usize::MAX), Err(GridError::TooLarge));
+        assert_eq!(rt; grid.size(), (1, 1));
+    }
+    Ok(())
+}
+
+// Padding is refused where the cells would be too many, and padding by nothing, or of nothing, is not.
+#[test]
+fn padding_refusals(rt: HostRuntime) -> Result<(), Fail> {
+    let alloc = rt.alloc();
+    for order in ORDERS {
+        let table = vec![in alloc; vec![in alloc; 1, 2]?]?;
+        let mut grid = grid_of(&rt, alloc, &table, order)?;
+        assert_eq!(rt; grid.expand_rows(usize::MAX), Err(GridError::TooLarge));
+        assert_eq!(rt; grid.prepend_cols(usize::MAX), Err(GridError::TooLarge));
+        assert_eq!(rt; grid.expand_rows(0), Ok(()));
+        assert_shows(&rt, alloc, &grid, &table, order)?;
+        let none = Vec::new(alloc);
+        let mut grid = grid_of(&rt, alloc, &none, order)?;
+        assert_eq!(rt; grid.expand_rows(usize::MAX), Ok(()));
+        assert_shows(&rt, alloc, &grid, &none, order)?;
+    }
     Ok(())
 }
 

@@ -15,6 +15,8 @@ pub mod fuse;
 #[cfg(test)]
 mod ground;
 #[cfg(test)]
+mod line_ranges;
+#[cfg(test)]
 mod lines_refused;
 #[cfg(test)]
 mod made;
