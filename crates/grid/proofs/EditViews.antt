@@ -8,9 +8,9 @@ use Rattle.grid_base.specs.Table.{row, rows_of, cols_of, cell, IsTable, tabulate
 use Rattle.grid_base.specs.Order.{storage, place, table_of}
 use Rattle.grid_base.specs.Lines.{Widened, Woven, Opened, Closed}
 use Rattle.grid_base.proofs.Tables.{rows-tabulate, cell-tabulate, width-tabulate, same_cells}
-use Rattle.grid_base.proofs.Stores.{length-storage, get-storage, IsFull-table_of, place_within, has_place}
+use Rattle.grid_base.proofs.Stores.{length-storage, get-storage, IsFull-table_of, place_within, has_place, get_append_left, get_append_right}
 use Rattle.grid.specs.Edit.{put_rows, take_rows}
-use Rattle.grid.proofs.Puts.{get-append_left, get-append_right, get-take, get-drop, get_or-same}
+use Rattle.grid.proofs.Puts.{get-take, get-drop, get_or-same}
 use Rattle.grid.proofs.Rows.{RowGroups, RowsWidened, rows_widened, rows_woven, table_by_cells, table-put, table-take, cells-groups}
 
 place_of_line : (o : Order) (n c : ℕ) → place o 1 n 0 c ≡ c
@@ -68,11 +68,11 @@ module _ {T : Type 0} where
         let wide = rows_widened o m n i k p q a g (cells ++ behind) new e w.lines in
         table-put o m n i k (table_of o m n cells) lines new rows-cut width-cut em (λ j lt. h.even j (omega arith) ∙ en) le
         (λ r c lr lm lc. wide.before r c lr lm lc
-        ∙ (get-append_left cells behind (place o m n r c) (omega (arith, len, place_within o m n r c lm lc)) ∙ cell-cut r c lm lc))
+        ∙ (get_append_left cells behind (place o m n r c) (omega (arith, len, place_within o m n r c lm lc)) ∙ cell-cut r c lm lc))
         (λ j c lj lc. rows_woven o m n i k p q a g (cells ++ behind) new e w j c lj lc
-        ∙ (get-append_right cells behind (m * n + place o k n j c) (place o k n j c) (omega (arith, len)) ∙ get-storage_at o k n lines j c h em en lj lc))
+        ∙ (get_append_right cells behind (m * n + place o k n j c) (place o k n j c) (omega (arith, len)) ∙ get-storage_at o k n lines j c h em en lj lc))
         (λ r c ge lm lc. wide.after r c ge lm lc
-        ∙ (get-append_left cells behind (place o m n r c) (omega (arith, len, place_within o m n r c lm lc)) ∙ cell-cut r c lm lc))
+        ∙ (get_append_left cells behind (place o m n r c) (omega (arith, len, place_within o m n r c lm lc)) ∙ cell-cut r c lm lc))
 
     -- the same of one row
     pub view-insert_row : (i p q a g : ℕ) (line new : List T) → RowGroups o m n i 1 p q a g → 0 < n → length line ≡ n → i ≤ m → Woven p q a g (cells ++ line) new → table_of o (m + 1) n new ≡ insert (table_of o m n cells) i line

@@ -4,18 +4,9 @@ use Rattle.std.specs.List.{slice_get}
 use Rattle.std.proofs.lemmas.List.{length-take-le, take_at, drop_at, take-append-drop, take_all, drop_all, append-nil}
 use Rattle.std.proofs.lemmas.Option.{unwrap_or-slice_get}
 use Rattle.std.proofs.lemmas.Bool.{cases_lt}
+use Rattle.grid_base.proofs.Stores.{get_append_left, get_append_right}
 
 module _ {X : Type 0} where
-  pub get-append_left : (xs ys : List X) (k : ℕ) → k < length xs → slice_get (xs ++ ys) k ≡ slice_get xs k
-  get-append_left [] ys k lt = absurd (omega arith)
-  get-append_left (x ∷ xs) ys zero lt = refl
-  get-append_left (x ∷ xs) ys (suc k) lt = get-append_left xs ys k (omega arith)
-
-  pub get-append_right : (xs ys : List X) (k j : ℕ) → length xs + j ≡ k → slice_get (xs ++ ys) k ≡ slice_get ys j
-  get-append_right [] ys k j e = let same : k ≡ j = omega arith in ap (slice_get ys) same
-  get-append_right (x ∷ xs) ys zero j e = absurd (omega arith)
-  get-append_right (x ∷ xs) ys (suc k) j e = get-append_right xs ys k j (omega arith)
-
   pub get-take : (n : ℕ) (xs : List X) (k : ℕ) → k < n → slice_get (take n xs) k ≡ slice_get xs k
   get-take zero xs k lt = absurd (omega arith)
   get-take (suc n) [] k lt = refl
@@ -31,10 +22,10 @@ module _ {X : Type 0} where
   -- a list of which the elements from i to n are gone, or stand twice
   module _ (xs : List X) (i n : ℕ) (in_list : i ≤ length xs) where
     pub get-cut_before : (k : ℕ) → k < i → slice_get (take i xs ++ drop n xs) k ≡ slice_get xs k
-    get-cut_before k lt = get-append_left (take i xs) (drop n xs) k (omega (arith, length-take-le i xs in_list)) ∙ get-take i xs k lt
+    get-cut_before k lt = get_append_left (take i xs) (drop n xs) k (omega (arith, length-take-le i xs in_list)) ∙ get-take i xs k lt
 
     pub get-cut_after : (k j : ℕ) → i + j ≡ k → slice_get (take i xs ++ drop n xs) k ≡ slice_get xs (n + j)
-    get-cut_after k j e = get-append_right (take i xs) (drop n xs) k j (omega (arith, length-take-le i xs in_list)) ∙ get-drop n xs (n + j) j refl
+    get-cut_after k j e = get_append_right (take i xs) (drop n xs) k j (omega (arith, length-take-le i xs in_list)) ∙ get-drop n xs (n + j) j refl
 
   -- a list into which the part ys is put before place i
   module _ (xs ys : List X) (i : ℕ) (in_list : i ≤ length xs) where
@@ -43,17 +34,17 @@ module _ {X : Type 0} where
 
     pub get-put_before : (k : ℕ) → k < i → slice_get (take i xs ++ ys ++ drop i xs) k ≡ slice_get xs k
     get-put_before k lt =
-        get-append_left (take i xs ++ ys) (drop i xs) k (omega (arith, length-front))
-        ∙ (get-append_left (take i xs) ys k (omega (arith, length-take-le i xs in_list)) ∙ get-take i xs k lt)
+        get_append_left (take i xs ++ ys) (drop i xs) k (omega (arith, length-front))
+        ∙ (get_append_left (take i xs) ys k (omega (arith, length-take-le i xs in_list)) ∙ get-take i xs k lt)
 
     pub get-put_new : (j : ℕ) → j < length ys → slice_get (take i xs ++ ys ++ drop i xs) (i + j) ≡ slice_get ys j
     get-put_new j lt =
-        get-append_left (take i xs ++ ys) (drop i xs) (i + j) (omega (arith, length-front))
-        ∙ get-append_right (take i xs) ys (i + j) j (omega (arith, length-take-le i xs in_list))
+        get_append_left (take i xs ++ ys) (drop i xs) (i + j) (omega (arith, length-front))
+        ∙ get_append_right (take i xs) ys (i + j) j (omega (arith, length-take-le i xs in_list))
 
     pub get-put_after : (k : ℕ) → i ≤ k → slice_get (take i xs ++ ys ++ drop i xs) (length ys + k) ≡ slice_get xs k
     get-put_after k le =
-        get-append_right (take i xs ++ ys) (drop i xs) (length ys + k) (k - i) (omega (arith, length-front))
+        get_append_right (take i xs ++ ys) (drop i xs) (length ys + k) (k - i) (omega (arith, length-front))
         ∙ get-drop i xs k (k - i) (omega arith)
 
     pub length-put : length (take i xs ++ ys ++ drop i xs) ≡ length xs + length ys
