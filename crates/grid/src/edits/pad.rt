@@ -3,6 +3,7 @@ ghost use Rattle.std.specs.Prelude.{◌≡◌, ◌↔◌, ◌+◌, ◌*◌, ◌^
 ghost use Rattle.grid_base.specs.Table.{rows_of, cols_of};
 ghost use Rattle.grid_base.specs.Tally.{counted};
 ghost use Rattle.grid.specs.Edit.{PadsRows, PadsCols, added, expanded_rows, expanded_cols, prepended_rows, prepended_cols};
+ghost use Rattle.grid.specs.Make.{IsOnlyDefault};
 ghost use Rattle.grid.specs.RowGroups.{RowsOpened};
 ghost use Rattle.grid.specs.Shift.{expand_rows_shift, expand_cols_shift, prepend_rows_shift, prepend_cols_shift};
 ghost use Rattle.grid.specs.declared.error.GridError.TheVariants.{TooLarge};
@@ -80,7 +81,7 @@ impl<T, A: Allocator> Grid<T, A> {
     where
         T: Default,
         ensures padded { OnOk result (PadsRows T.is_default (rows_of self.old.rows) (added count self.old.rows) self.old.rows self.new.rows) }
-        ensures fixed { OnOk result ((d : T) → ((x : T) → T.is_default x → x ≡ d) → self.new.rows ≡ expanded_rows count d self.old.rows) }
+        ensures fixed { OnOk result ((d : T) → IsOnlyDefault T.is_default d → self.new.rows ≡ expanded_rows count d self.old.rows) }
         ensures too_large { IsErrOf result TooLarge ↔ (2 ^ 64 ≤ (rows_of self.old.rows + added count self.old.rows) * cols_of self.old.rows) }
         ensures none { added count self.old.rows ≡ 0 → IsOk result }
         ensures order { self.new.order ≡ self.old.order }
@@ -98,7 +99,7 @@ impl<T, A: Allocator> Grid<T, A> {
     where
         T: Default,
         ensures padded { OnOk result (PadsRows T.is_default (rows_of self.old.rows) (added count self.old.rows) self.old.rows self.new.rows) }
-        ensures fixed { OnOk result ((d : T) → ((x : T) → T.is_default x → x ≡ d) → self.new.rows ≡ expanded_rows count d self.old.rows) }
+        ensures fixed { OnOk result ((d : T) → IsOnlyDefault T.is_default d → self.new.rows ≡ expanded_rows count d self.old.rows) }
         ensures too_large { IsErrOf result TooLarge ↔ (2 ^ 64 ≤ (rows_of self.old.rows + added count self.old.rows) * cols_of self.old.rows) }
         ensures none { added count self.old.rows ≡ 0 → IsOk result }
         ensures order { self.new.order ≡ self.old.order }
@@ -156,7 +157,7 @@ impl<T, A: Allocator> Grid<T, A> {
     where
         T: Default,
         ensures padded { OnOk result (PadsRows T.is_default 0 (added count self.old.rows) self.old.rows self.new.rows) }
-        ensures fixed { OnOk result ((d : T) → ((x : T) → T.is_default x → x ≡ d) → self.new.rows ≡ prepended_rows count d self.old.rows) }
+        ensures fixed { OnOk result ((d : T) → IsOnlyDefault T.is_default d → self.new.rows ≡ prepended_rows count d self.old.rows) }
         ensures too_large { IsErrOf result TooLarge ↔ (2 ^ 64 ≤ (rows_of self.old.rows + added count self.old.rows) * cols_of self.old.rows) }
         ensures none { added count self.old.rows ≡ 0 → IsOk result }
         ensures order { self.new.order ≡ self.old.order }
@@ -174,7 +175,7 @@ impl<T, A: Allocator> Grid<T, A> {
     where
         T: Default,
         ensures padded { OnOk result (PadsRows T.is_default 0 (added count self.old.rows) self.old.rows self.new.rows) }
-        ensures fixed { OnOk result ((d : T) → ((x : T) → T.is_default x → x ≡ d) → self.new.rows ≡ prepended_rows count d self.old.rows) }
+        ensures fixed { OnOk result ((d : T) → IsOnlyDefault T.is_default d → self.new.rows ≡ prepended_rows count d self.old.rows) }
         ensures too_large { IsErrOf result TooLarge ↔ (2 ^ 64 ≤ (rows_of self.old.rows + added count self.old.rows) * cols_of self.old.rows) }
         ensures none { added count self.old.rows ≡ 0 → IsOk result }
         ensures order { self.new.order ≡ self.old.order }
@@ -232,7 +233,7 @@ impl<T, A: Allocator> Grid<T, A> {
     where
         T: Default,
         ensures padded { OnOk result (PadsCols T.is_default (cols_of self.old.rows) (added count self.old.rows) self.old.rows self.new.rows) }
-        ensures fixed { OnOk result ((d : T) → ((x : T) → T.is_default x → x ≡ d) → self.new.rows ≡ expanded_cols count d self.old.rows) }
+        ensures fixed { OnOk result ((d : T) → IsOnlyDefault T.is_default d → self.new.rows ≡ expanded_cols count d self.old.rows) }
         ensures too_large { IsErrOf result TooLarge ↔ (2 ^ 64 ≤ (cols_of self.old.rows + added count self.old.rows) * rows_of self.old.rows) }
         ensures none { added count self.old.rows ≡ 0 → IsOk result }
         ensures order { self.new.order ≡ self.old.order }
@@ -250,7 +251,7 @@ impl<T, A: Allocator> Grid<T, A> {
     where
         T: Default,
         ensures padded { OnOk result (PadsCols T.is_default (cols_of self.old.rows) (added count self.old.rows) self.old.rows self.new.rows) }
-        ensures fixed { OnOk result ((d : T) → ((x : T) → T.is_default x → x ≡ d) → self.new.rows ≡ expanded_cols count d self.old.rows) }
+        ensures fixed { OnOk result ((d : T) → IsOnlyDefault T.is_default d → self.new.rows ≡ expanded_cols count d self.old.rows) }
         ensures too_large { IsErrOf result TooLarge ↔ (2 ^ 64 ≤ (cols_of self.old.rows + added count self.old.rows) * rows_of self.old.rows) }
         ensures none { added count self.old.rows ≡ 0 → IsOk result }
         ensures order { self.new.order ≡ self.old.order }
@@ -275,7 +276,7 @@ impl<T, A: Allocator> Grid<T, A> {
     where
         T: Default,
         ensures padded { OnOk result (PadsCols T.is_default 0 (added count self.old.rows) self.old.rows self.new.rows) }
-        ensures fixed { OnOk result ((d : T) → ((x : T) → T.is_default x → x ≡ d) → self.new.rows ≡ prepended_cols count d self.old.rows) }
+        ensures fixed { OnOk result ((d : T) → IsOnlyDefault T.is_default d → self.new.rows ≡ prepended_cols count d self.old.rows) }
         ensures too_large { IsErrOf result TooLarge ↔ (2 ^ 64 ≤ (cols_of self.old.rows + added count self.old.rows) * rows_of self.old.rows) }
         ensures none { added count self.old.rows ≡ 0 → IsOk result }
         ensures order { self.new.order ≡ self.old.order }
@@ -293,7 +294,7 @@ impl<T, A: Allocator> Grid<T, A> {
     where
         T: Default,
         ensures padded { OnOk result (PadsCols T.is_default 0 (added count self.old.rows) self.old.rows self.new.rows) }
-        ensures fixed { OnOk result ((d : T) → ((x : T) → T.is_default x → x ≡ d) → self.new.rows ≡ prepended_cols count d self.old.rows) }
+        ensures fixed { OnOk result ((d : T) → IsOnlyDefault T.is_default d → self.new.rows ≡ prepended_cols count d self.old.rows) }
         ensures too_large { IsErrOf result TooLarge ↔ (2 ^ 64 ≤ (cols_of self.old.rows + added count self.old.rows) * rows_of self.old.rows) }
         ensures none { added count self.old.rows ≡ 0 → IsOk result }
         ensures order { self.new.order ≡ self.old.order }
