@@ -108,12 +108,11 @@ impl<T, A: Allocator> Grid<T, A> {
         ensures err { OnErr result (self.new ≡ self.old) }
         ensures err_shift { OnErr result (tally.new.shift ≡ tally.old.shift) }
     {
-        let _ = &self.flat;
-        let rows = self.rows();
+        let (rows, cols) = self.size();
         if count == 0 || rows == 0 {
             return Ok(());
         }
-        if !has_room_for(rows, count, self.cols()) {
+        if !has_room_for(rows, count, cols) {
             return Err(GridError::TooLarge);
         }
         self.expand_within(count, tally)?;
@@ -184,12 +183,11 @@ impl<T, A: Allocator> Grid<T, A> {
         ensures err { OnErr result (self.new ≡ self.old) }
         ensures err_shift { OnErr result (tally.new.shift ≡ tally.old.shift) }
     {
-        let _ = &self.flat;
-        let rows = self.rows();
+        let (rows, cols) = self.size();
         if count == 0 || rows == 0 {
             return Ok(());
         }
-        if !has_room_for(rows, count, self.cols()) {
+        if !has_room_for(rows, count, cols) {
             return Err(GridError::TooLarge);
         }
         self.prepend_within(count, tally)?;
