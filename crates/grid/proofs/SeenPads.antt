@@ -172,6 +172,10 @@ module _ {T : Type 0} (t : List (List T)) (h : IsTable t) where
   cols_prepended k d mid late new there back e =
       back ∙ (ap (act Transpose) (e ∙ ap (prepended_rows k d) there) ∙ prepend_between k d t h)
 
+  -- where no columns are added, no rows are added to the turned table
+  pub none_added : (k : ℕ) (mid : List (List T)) → mid ≡ act Transpose t → added k t ≡ 0 → added k mid ≡ 0
+  none_added k mid there none = ap (added k) there ∙ (added-across k ∙ none)
+
   -- the size and the shift are those of the turned table
   pub size_across : (k : ℕ) (mid : List (List T)) → mid ≡ act Transpose t → (rows_of mid + added k mid) * cols_of mid ≡ (cols_of t + added k t) * rows_of t
   size_across k mid there =

@@ -3,6 +3,7 @@ ghost use Rattle.std.specs.Prelude.{◌≡◌, ◌+◌, ◌≤◌, OnOk, OnErr, 
 ghost use Rattle.grid_base.specs.Table.{rows_of, cols_of};
 ghost use Rattle.grid_base.specs.Symmetry.{order_after, half};
 ghost use Rattle.grid_base.specs.Tally.{counted};
+ghost use Rattle.grid.specs.Make.{ClonesAreEqual};
 ghost use Rattle.grid.specs.Reply.{plain};
 ghost use Rattle.grid.specs.Command.{step_rows, step_reply, step_price, command_symmetry, TakesMemory};
 ghost use Rattle.grid.specs.Run.{Ran, MayStop};
@@ -53,7 +54,7 @@ impl<T, A: Allocator> Grid<T, A> {
     pub fn step(&mut self, command: Command, tally: &mut Tally) -> Result<Reply<T>, AllocError>
     where
         T: Clone + Default + Drop,
-        requires clones { (x y : T) → T.is_clone x y → y ≡ x }
+        requires clones { ClonesAreEqual T.is_clone }
         ensures rows { OnOk result (self.new.rows ≡ step_rows command self.old.rows) }
         ensures reply { IfOk result (λ reply. plain reply ≡ step_reply command self.old.rows) }
         ensures order { OnOk result (self.new.order ≡ order_after (command_symmetry command) self.old.order) }
@@ -100,7 +101,7 @@ pub fn run<T, A: Allocator>(
 ) -> Result<Vec<Reply<T>, A>, RunStopped<T, A>>
 where
     T: Clone + Default + Drop,
-    requires clones { (x y : T) → T.is_clone x y → y ≡ x }
+    requires clones { ClonesAreEqual T.is_clone }
     ensures ran { IfOk result (λ replies. Ran commands.items grid.old grid.new tally.old tally.new (map plain replies.items)) }
     ensures stopped { IfErr result (λ stop. Ran (take stop.done commands.items) grid.old grid.new tally.old tally.new (map plain stop.replies.items)) }
     ensures stop { IfErr result (λ stop. MayStop commands.items stop.done grid.new.rows) }

@@ -209,6 +209,7 @@ impl<T, A: Allocator> Grid<T, A> {
         ensures line { IfOk result (λ taken. MatchOption taken (self.old.rows ≡ []) (λ line. slice_get self.old.rows (rows_of self.old.rows - 1) ≡ Some line.items)) }
         ensures order { self.new.order ≡ self.old.order }
         ensures err { OnErr result (self.new ≡ self.old) }
+        ensures err_found { OnErr result (0 < rows_of self.old.rows) }
     {
         match self.rows() {
             0 => Ok(None),
@@ -218,8 +219,8 @@ impl<T, A: Allocator> Grid<T, A> {
 
     /// Takes row `at`, or answers `None` where there is none.
     ///
-    /// A refusal leaves the grid as it was. Row-major it moves each cell at most twice, column-major at most about
-    /// log2(columns) times.
+    /// Takes memory only where there is one, and a refusal leaves the grid as it was. Row-major it moves each cell at
+    /// most twice, column-major at most about log2(columns) times.
     pub fn remove_row(&mut self, at: usize) -> Result<Option<Vec<T, A>>, AllocError>
     where
         A: Clone,
@@ -227,6 +228,7 @@ impl<T, A: Allocator> Grid<T, A> {
         ensures line { IfOk result (λ taken. MatchOption taken (rows_of self.old.rows ≤ at) (λ line. slice_get self.old.rows at ≡ Some line.items)) }
         ensures order { self.new.order ≡ self.old.order }
         ensures err { OnErr result (self.new ≡ self.old) }
+        ensures err_found { OnErr result (at < rows_of self.old.rows) }
     {
         if at >= self.rows() {
             return Ok(None);
@@ -261,6 +263,7 @@ impl<T, A: Allocator> Grid<T, A> {
         ensures line { IfOk result (λ taken. MatchOption taken (self.old.rows ≡ []) (λ line. slice_get (turned self.old.rows) (cols_of self.old.rows - 1) ≡ Some line.items)) }
         ensures order { self.new.order ≡ self.old.order }
         ensures err { OnErr result (self.new ≡ self.old) }
+        ensures err_found { OnErr result (0 < cols_of self.old.rows) }
     {
         match self.cols() {
             0 => Ok(None),
@@ -270,8 +273,8 @@ impl<T, A: Allocator> Grid<T, A> {
 
     /// Takes column `at`, or answers `None` where there is none.
     ///
-    /// A refusal leaves the grid as it was. Column-major it moves each cell at most twice, row-major at most about
-    /// log2(rows) times.
+    /// Takes memory only where there is one, and a refusal leaves the grid as it was. Column-major it moves each cell
+    /// at most twice, row-major at most about log2(rows) times.
     pub fn remove_col(&mut self, at: usize) -> Result<Option<Vec<T, A>>, AllocError>
     where
         A: Clone,
@@ -279,6 +282,7 @@ impl<T, A: Allocator> Grid<T, A> {
         ensures line { IfOk result (λ taken. MatchOption taken (cols_of self.old.rows ≤ at) (λ line. slice_get (turned self.old.rows) at ≡ Some line.items)) }
         ensures order { self.new.order ≡ self.old.order }
         ensures err { OnErr result (self.new ≡ self.old) }
+        ensures err_found { OnErr result (at < cols_of self.old.rows) }
     {
         let _ = &self.flat;
         self.transpose();

@@ -1,8 +1,9 @@
 //! Padding: rows and columns of defaults at the end or at the beginning, by counted passes.
-ghost use Rattle.std.specs.Prelude.{◌≡◌, ◌↔◌, ◌+◌, ◌*◌, ◌^◌, ◌<◌, ◌≤◌, length, IsTrue, IsErrOf, OnOk, OnErr};
+ghost use Rattle.std.specs.Prelude.{◌≡◌, ◌↔◌, ◌+◌, ◌*◌, ◌^◌, ◌<◌, ◌≤◌, length, IsTrue, IsErrOf, IsOk, OnOk, OnErr};
 ghost use Rattle.grid_base.specs.Table.{rows_of, cols_of};
 ghost use Rattle.grid_base.specs.Tally.{counted};
 ghost use Rattle.grid.specs.Edit.{PadsRows, PadsCols, added, expanded_rows, expanded_cols, prepended_rows, prepended_cols};
+ghost use Rattle.grid.specs.Make.{IsOnlyDefault};
 ghost use Rattle.grid.specs.RowGroups.{RowsOpened};
 ghost use Rattle.grid.specs.Shift.{expand_rows_shift, expand_cols_shift, prepend_rows_shift, prepend_cols_shift};
 ghost use Rattle.grid.specs.declared.error.GridError.TheVariants.{TooLarge};
@@ -63,15 +64,16 @@ fn open_beginning<T, A: Allocator>(
 impl<T, A: Allocator> Grid<T, A> {
     /// Adds `count` rows of defaults at the end.
     ///
-    /// Changes nothing on an empty grid, or where `count` is 0. Refused as too large where the cells would pass
-    /// `usize::MAX`, which is decided first, and for memory, which is had before the first change; a refusal leaves
-    /// the grid as it was. One pass over the cells that move.
+    /// Changes nothing and takes no memory on an empty grid, or where `count` is 0. Refused as too large where the
+    /// cells would pass `usize::MAX`, which is decided first, and for memory, which is had before the first change; a
+    /// refusal leaves the grid as it was. One pass over the cells that move.
     pub fn expand_rows(&mut self, count: usize) -> Result<(), GridError>
     where
         T: Default,
         ensures padded { OnOk result (PadsRows T.is_default (rows_of self.old.rows) (added count self.old.rows) self.old.rows self.new.rows) }
-        ensures fixed { OnOk result ((d : T) → ((x : T) → T.is_default x → x ≡ d) → self.new.rows ≡ expanded_rows count d self.old.rows) }
+        ensures fixed { OnOk result ((d : T) → IsOnlyDefault T.is_default d → self.new.rows ≡ expanded_rows count d self.old.rows) }
         ensures too_large { IsErrOf result TooLarge ↔ (2 ^ 64 ≤ (rows_of self.old.rows + added count self.old.rows) * cols_of self.old.rows) }
+        ensures none { added count self.old.rows ≡ 0 → IsOk result }
         ensures order { self.new.order ≡ self.old.order }
         ensures err { OnErr result (self.new ≡ self.old) }
     {
@@ -87,20 +89,20 @@ impl<T, A: Allocator> Grid<T, A> {
     where
         T: Default,
         ensures padded { OnOk result (PadsRows T.is_default (rows_of self.old.rows) (added count self.old.rows) self.old.rows self.new.rows) }
-        ensures fixed { OnOk result ((d : T) → ((x : T) → T.is_default x → x ≡ d) → self.new.rows ≡ expanded_rows count d self.old.rows) }
+        ensures fixed { OnOk result ((d : T) → IsOnlyDefault T.is_default d → self.new.rows ≡ expanded_rows count d self.old.rows) }
         ensures too_large { IsErrOf result TooLarge ↔ (2 ^ 64 ≤ (rows_of self.old.rows + added count self.old.rows) * cols_of self.old.rows) }
+        ensures none { added count self.old.rows ≡ 0 → IsOk result }
         ensures order { self.new.order ≡ self.old.order }
         ensures shift { OnOk result (tally.new.shift ≡ counted tally.old.shift (expand_rows_shift self.old.order (rows_of self.old.rows) (cols_of self.old.rows) count)) }
         ensures symmetry { tally.new.symmetry ≡ tally.old.symmetry }
         ensures err { OnErr result (self.new ≡ self.old) }
         ensures err_shift { OnErr result (tally.new.shift ≡ tally.old.shift) }
     {
-        let _ = &self.flat;
-        let rows = self.rows();
+        let (rows, cols) = self.size();
         if count == 0 || rows == 0 {
             return Ok(());
         }
-        if !has_room(rows, count, self.cols()) {
+        if !has_room(rows, count, cols) {
             return Err(GridError::TooLarge);
         }
         self.expand_within(count, tally)?;
@@ -137,15 +139,16 @@ impl<T, A: Allocator> Grid<T, A> {
 
     /// Adds `count` rows of defaults at the beginning.
     ///
-    /// Changes nothing on an empty grid, or where `count` is 0. Refused as too large where the cells would pass
-    /// `usize::MAX`, which is decided first, and for memory, which is had before the first change; a refusal leaves
-    /// the grid as it was. One pass over the cells that move.
+    /// Changes nothing and takes no memory on an empty grid, or where `count` is 0. Refused as too large where the
+    /// cells would pass `usize::MAX`, which is decided first, and for memory, which is had before the first change; a
+    /// refusal leaves the grid as it was. One pass over the cells that move.
     pub fn prepend_rows(&mut self, count: usize) -> Result<(), GridError>
     where
         T: Default,
         ensures padded { OnOk result (PadsRows T.is_default 0 (added count self.old.rows) self.old.rows self.new.rows) }
-        ensures fixed { OnOk result ((d : T) → ((x : T) → T.is_default x → x ≡ d) → self.new.rows ≡ prepended_rows count d self.old.rows) }
+        ensures fixed { OnOk result ((d : T) → IsOnlyDefault T.is_default d → self.new.rows ≡ prepended_rows count d self.old.rows) }
         ensures too_large { IsErrOf result TooLarge ↔ (2 ^ 64 ≤ (rows_of self.old.rows + added count self.old.rows) * cols_of self.old.rows) }
+        ensures none { added count self.old.rows ≡ 0 → IsOk result }
         ensures order { self.new.order ≡ self.old.order }
         ensures err { OnErr result (self.new ≡ self.old) }
     {
@@ -161,20 +164,20 @@ impl<T, A: Allocator> Grid<T, A> {
     where
         T: Default,
         ensures padded { OnOk result (PadsRows T.is_default 0 (added count self.old.rows) self.old.rows self.new.rows) }
-        ensures fixed { OnOk result ((d : T) → ((x : T) → T.is_default x → x ≡ d) → self.new.rows ≡ prepended_rows count d self.old.rows) }
+        ensures fixed { OnOk result ((d : T) → IsOnlyDefault T.is_default d → self.new.rows ≡ prepended_rows count d self.old.rows) }
         ensures too_large { IsErrOf result TooLarge ↔ (2 ^ 64 ≤ (rows_of self.old.rows + added count self.old.rows) * cols_of self.old.rows) }
+        ensures none { added count self.old.rows ≡ 0 → IsOk result }
         ensures order { self.new.order ≡ self.old.order }
         ensures shift { OnOk result (tally.new.shift ≡ counted tally.old.shift (prepend_rows_shift self.old.order (rows_of self.old.rows) (cols_of self.old.rows) count)) }
         ensures symmetry { tally.new.symmetry ≡ tally.old.symmetry }
         ensures err { OnErr result (self.new ≡ self.old) }
         ensures err_shift { OnErr result (tally.new.shift ≡ tally.old.shift) }
     {
-        let _ = &self.flat;
-        let rows = self.rows();
+        let (rows, cols) = self.size();
         if count == 0 || rows == 0 {
             return Ok(());
         }
-        if !has_room(rows, count, self.cols()) {
+        if !has_room(rows, count, cols) {
             return Err(GridError::TooLarge);
         }
         self.prepend_within(count, tally)?;
@@ -211,15 +214,16 @@ impl<T, A: Allocator> Grid<T, A> {
 
     /// Adds `count` columns of defaults at the end.
     ///
-    /// Changes nothing on an empty grid, or where `count` is 0. Refused as too large where the cells would pass
-    /// `usize::MAX`, which is decided first, and for memory, which is had before the first change; a refusal leaves
-    /// the grid as it was. One pass over the cells that move.
+    /// Changes nothing and takes no memory on an empty grid, or where `count` is 0. Refused as too large where the
+    /// cells would pass `usize::MAX`, which is decided first, and for memory, which is had before the first change; a
+    /// refusal leaves the grid as it was. One pass over the cells that move.
     pub fn expand_cols(&mut self, count: usize) -> Result<(), GridError>
     where
         T: Default,
         ensures padded { OnOk result (PadsCols T.is_default (cols_of self.old.rows) (added count self.old.rows) self.old.rows self.new.rows) }
-        ensures fixed { OnOk result ((d : T) → ((x : T) → T.is_default x → x ≡ d) → self.new.rows ≡ expanded_cols count d self.old.rows) }
+        ensures fixed { OnOk result ((d : T) → IsOnlyDefault T.is_default d → self.new.rows ≡ expanded_cols count d self.old.rows) }
         ensures too_large { IsErrOf result TooLarge ↔ (2 ^ 64 ≤ (cols_of self.old.rows + added count self.old.rows) * rows_of self.old.rows) }
+        ensures none { added count self.old.rows ≡ 0 → IsOk result }
         ensures order { self.new.order ≡ self.old.order }
         ensures err { OnErr result (self.new ≡ self.old) }
     {
@@ -235,8 +239,9 @@ impl<T, A: Allocator> Grid<T, A> {
     where
         T: Default,
         ensures padded { OnOk result (PadsCols T.is_default (cols_of self.old.rows) (added count self.old.rows) self.old.rows self.new.rows) }
-        ensures fixed { OnOk result ((d : T) → ((x : T) → T.is_default x → x ≡ d) → self.new.rows ≡ expanded_cols count d self.old.rows) }
+        ensures fixed { OnOk result ((d : T) → IsOnlyDefault T.is_default d → self.new.rows ≡ expanded_cols count d self.old.rows) }
         ensures too_large { IsErrOf result TooLarge ↔ (2 ^ 64 ≤ (cols_of self.old.rows + added count self.old.rows) * rows_of self.old.rows) }
+        ensures none { added count self.old.rows ≡ 0 → IsOk result }
         ensures order { self.new.order ≡ self.old.order }
         ensures shift { OnOk result (tally.new.shift ≡ counted tally.old.shift (expand_cols_shift self.old.order (rows_of self.old.rows) (cols_of self.old.rows) count)) }
         ensures symmetry { tally.new.symmetry ≡ tally.old.symmetry }
@@ -252,15 +257,16 @@ impl<T, A: Allocator> Grid<T, A> {
 
     /// Adds `count` columns of defaults at the beginning.
     ///
-    /// Changes nothing on an empty grid, or where `count` is 0. Refused as too large where the cells would pass
-    /// `usize::MAX`, which is decided first, and for memory, which is had before the first change; a refusal leaves
-    /// the grid as it was. One pass over the cells that move.
+    /// Changes nothing and takes no memory on an empty grid, or where `count` is 0. Refused as too large where the
+    /// cells would pass `usize::MAX`, which is decided first, and for memory, which is had before the first change; a
+    /// refusal leaves the grid as it was. One pass over the cells that move.
     pub fn prepend_cols(&mut self, count: usize) -> Result<(), GridError>
     where
         T: Default,
         ensures padded { OnOk result (PadsCols T.is_default 0 (added count self.old.rows) self.old.rows self.new.rows) }
-        ensures fixed { OnOk result ((d : T) → ((x : T) → T.is_default x → x ≡ d) → self.new.rows ≡ prepended_cols count d self.old.rows) }
+        ensures fixed { OnOk result ((d : T) → IsOnlyDefault T.is_default d → self.new.rows ≡ prepended_cols count d self.old.rows) }
         ensures too_large { IsErrOf result TooLarge ↔ (2 ^ 64 ≤ (cols_of self.old.rows + added count self.old.rows) * rows_of self.old.rows) }
+        ensures none { added count self.old.rows ≡ 0 → IsOk result }
         ensures order { self.new.order ≡ self.old.order }
         ensures err { OnErr result (self.new ≡ self.old) }
     {
@@ -276,8 +282,9 @@ impl<T, A: Allocator> Grid<T, A> {
     where
         T: Default,
         ensures padded { OnOk result (PadsCols T.is_default 0 (added count self.old.rows) self.old.rows self.new.rows) }
-        ensures fixed { OnOk result ((d : T) → ((x : T) → T.is_default x → x ≡ d) → self.new.rows ≡ prepended_cols count d self.old.rows) }
+        ensures fixed { OnOk result ((d : T) → IsOnlyDefault T.is_default d → self.new.rows ≡ prepended_cols count d self.old.rows) }
         ensures too_large { IsErrOf result TooLarge ↔ (2 ^ 64 ≤ (cols_of self.old.rows + added count self.old.rows) * rows_of self.old.rows) }
+        ensures none { added count self.old.rows ≡ 0 → IsOk result }
         ensures order { self.new.order ≡ self.old.order }
         ensures shift { OnOk result (tally.new.shift ≡ counted tally.old.shift (prepend_cols_shift self.old.order (rows_of self.old.rows) (cols_of self.old.rows) count)) }
         ensures symmetry { tally.new.symmetry ≡ tally.old.symmetry }

@@ -50,8 +50,8 @@ impl<T, A: Allocator> Grid<T, A> {
     /// The grid of this order whose row i has the contents of row i of the slots.
     ///
     /// Every slot holds a cell. Afterwards every slot is `None`; a refusal leaves all slots as they were. Without
-    /// rows or without columns it is the empty grid of the order, which takes no memory. `TooLarge` exactly where `R * C` passes
-    /// `usize::MAX`, which is decided before memory is asked for.
+    /// rows or without columns it is the empty grid of the order, which takes no memory. `TooLarge` exactly where
+    /// `R * C` passes `usize::MAX`, which is decided before memory is asked for.
     pub fn from_arrays<const R: usize, const C: usize>(
         alloc: A,
         order: Order,

@@ -4,6 +4,7 @@ ghost use Rattle.std.specs.Fn.{FnReturnsAt};
 ghost use Rattle.grid_base.specs.Table.{rows_of, cols_of, IsTable};
 ghost use Rattle.grid_base.specs.Order.{storage};
 ghost use Rattle.grid_base.specs.Answers.{Answers, Gives, Pairs};
+ghost use Rattle.grid.specs.Make.{ClonesAreEqual};
 ghost use Rattle.grid.specs.Wholes.{filled};
 
 use crate::Grid;
@@ -18,7 +19,7 @@ impl<T, A: Allocator> Grid<T, A> {
     where
         T: Clone,
         A: Clone,
-        requires clones { (x y : T) → T.is_clone x y → y ≡ x }
+        requires clones { ClonesAreEqual T.is_clone }
         ensures ok { OnOk result (self.new.rows ≡ filled value self.old.rows) }
         ensures order { self.new.order ≡ self.old.order }
         ensures err { OnErr result (self.new ≡ self.old) }

@@ -11,13 +11,6 @@ impl<T, A: Allocator> Flat<T, A> {
         self.cells.allocator()
     }
 
-    /// Gets memory for `additional` more cells.
-    pub fn reserve(&mut self, additional: usize) -> Result<(), AllocError>
-        ensures { self.new ≡ self.old }
-    {
-        self.cells.reserve(additional)
-    }
-
     /// Moves the cells of `line` to the end.
     pub fn append(&mut self, line: &mut Vec<T, A>) -> Result<(), AllocError>
         ensures ok { OnOk result (self.new ≡ self.old ++ line.old.items) }

@@ -54,7 +54,6 @@ fn close_up_keeps_the_lines(rt: HostRuntime) -> Result<(), AllocError> {
 #[test]
 fn cells_come_to_the_end_and_leave_it(rt: HostRuntime) -> Result<(), AllocError> {
     let mut flat = Flat::from_vec(vec![in rt.alloc(); 1, 2]?);
-    flat.reserve(4)?;
     let mut line = vec![in rt.alloc(); 3, 4]?;
     flat.append(&mut line)?;
     flat.append_defaults(2)?;

@@ -2,7 +2,7 @@ use Rattle.std.proofs.Common.{refl, arith}
 use Rattle.grid.specs.Shift.{prepend_rows_shift}
 use Rattle.grid.proofs.Seen.{seen_table}
 use Rattle.grid.proofs.Across.{on_ok, on_err, twice_across}
-use Rattle.grid.proofs.SeenPads.{pads_cols, cols_prepended, size_across, shift_across}
+use Rattle.grid.proofs.SeenPads.{pads_cols, cols_prepended, size_across, none_added, shift_across}
 use Rattle.grid.proofs.grid.Grid.prepend_cols_counted.Goals as goal
 
 pub returns-clause-padded : goal.returns-clause-padded
@@ -23,6 +23,11 @@ pub returns-clause-too_large : goal.returns-clause-too_large
 returns-clause-too_large g c =
     let t = seen_table _ _ _ _ _ c.self.invariant c.self.view_is in
     rw (size_across c.args.self.now.rows t c.args.count _ c.transpose.ensures.rows) at c.prepend_rows_counted-padded.ensures.too_large
+
+pub returns-clause-none : goal.returns-clause-none
+returns-clause-none g c none =
+    let t = seen_table _ _ _ _ _ c.self.invariant c.self.view_is in
+    c.prepend_rows_counted-padded.ensures.none (none_added c.args.self.now.rows t c.args.count _ c.transpose.ensures.rows none)
 
 pub returns-clause-shift : goal.returns-clause-shift
 returns-clause-shift g c =

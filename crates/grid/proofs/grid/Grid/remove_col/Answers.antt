@@ -19,3 +19,6 @@ returns-clause-err g c =
     on_err c.remove_row-removed.result
     (λ same. twice_across _ _ _ _ (seen_table _ _ _ _ _ c.self.invariant c.self.view_is) c.transpose.ensures.rows c.transpose.ensures.order same c.transpose-2.ensures.rows c.transpose-2.ensures.order)
     c.remove_row-removed.ensures.err
+
+pub returns-clause-err_found : goal.returns-clause-err_found
+returns-clause-err_found g c = rw (c.transpose.ensures.rows, rows-act Transpose c.args.self.now.rows) at c.remove_row-removed.ensures.err_found
