@@ -1,5 +1,5 @@
 -- The slots of an array of rows are emptied one by one, in the order of a storage.
-use Rattle.std.proofs.Common.{◌≡◌, ◌≢◌, ◌⊎◌, ℕ, zero, suc, ◌+◌, ◌*◌, ◌<◌, ◌≤◌, Option, Some, None, List, [], ◌∷◌, ◌++◌, length, get_or, set, is_some, true, false, refl, sym, ◌∙◌, ap, arith, ⊎_elim, length-append, subst}
+use Rattle.std.proofs.Common.{◌≡◌, ◌≢◌, ℕ, zero, suc, ◌+◌, ◌*◌, ◌<◌, ◌≤◌, Option, Some, None, List, [], ◌∷◌, ◌++◌, length, get_or, set, is_some, true, false, refl, sym, ◌∙◌, ap, arith, ⊎_elim, length-append, subst}
 use Rattle.std.specs.List.{slice_get, list_all}
 use Rattle.std.specs.Option.{option_map}
 use Rattle.std.proofs.lemmas.List.{length-set, get_or-set_same, get_or-set_other, get_or_past}
@@ -9,7 +9,7 @@ use Rattle.std.proofs.lemmas.Bool.{cases_eq, cases_lt}
 use Rattle.std.proofs.Math.Nat.{mul_comm}
 use Rattle.grid_base.specs.declared.flat.order.Order.{Order}
 use Rattle.grid_base.specs.declared.flat.order.Order.TheVariants.{RowMajor, ColumnMajor}
-use Rattle.grid_base.specs.Table.{row, rows_of, cols_of, cell, with_cell, IsTable}
+use Rattle.grid_base.specs.Table.{row, cell, with_cell, IsTable}
 use Rattle.grid_base.specs.Order.{place, storage}
 use Rattle.grid_base.proofs.Stores.{get-storage, place_within}
 use Rattle.grid_base.proofs.Writes.{get-set_same, get-set_other, same_place}

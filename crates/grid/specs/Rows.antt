@@ -1,5 +1,5 @@
 -- Cells joined and cut into rows, and rows of one length as a table.
-use Rattle.std.specs.Prelude.{◌≡◌, ◌≢◌, ◌==◌, if◌then◌else◌, ℕ, ◌*◌, ◌^◌, ◌<◌, ◌≤◌, List, [], length, Result, MatchResult}
+use Rattle.std.specs.Prelude.{◌≡◌, ◌≢◌, ◌==◌, if◌then◌else◌, ℕ, ◌^◌, ◌<◌, ◌≤◌, List, [], length, Result, MatchResult}
 use Rattle.grid_base.specs.declared.flat.order.Order.TheVariants.{RowMajor}
 use Rattle.grid_base.specs.Table.{row, rows_of, cols_of, joined, IsTable}
 use Rattle.grid_base.specs.Order.{CanCut}

@@ -1,7 +1,7 @@
-use Rattle.std.proofs.Common.{ℕ, ◌≡◌, ◌≢◌, ◌*◌, ◌^◌, ◌<◌, ◌≤◌, ◌∙◌, ap, sym, refl, length, map, arith, below_more, ⊎_elim}
+use Rattle.std.proofs.Common.{ℕ, ◌≡◌, ◌*◌, ◌^◌, ◌<◌, ◌≤◌, ◌∙◌, ap, sym, length, map, arith, below_more, ⊎_elim}
 use Rattle.std.proofs.lemmas.Bool.{cases_lt}
 use Rattle.std.proofs.lemmas.List.{length-map}
-use Rattle.grid_base.specs.Table.{row, rows_of, cols_of, joined}
+use Rattle.grid_base.specs.Table.{rows_of, cols_of, joined}
 use Rattle.grid.specs.Rows.{AreEven}
 use Rattle.grid.proofs.Joins.{row-map, length-even}
 use Rattle.grid.proofs.convert.measure.Goals as goal

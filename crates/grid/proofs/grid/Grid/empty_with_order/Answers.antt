@@ -1,4 +1,4 @@
-use Rattle.std.proofs.Common.{◌≡◌, ◌∙◌, ap, length, arith}
+use Rattle.std.proofs.Common.{◌∙◌, ap, length}
 use Rattle.grid_base.proofs.Views.{none_by_storage}
 use Rattle.grid.proofs.grid.Grid.empty_with_order.Goals as goal
 

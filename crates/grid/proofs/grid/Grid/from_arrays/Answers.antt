@@ -1,7 +1,5 @@
-use Rattle.std.proofs.Common.{rules, ◌≡◌, ◌≢◌, ◌+◌, ◌*◌, ◌<◌, ◌++◌, [], ◌∷◌, ◌∙◌, ap, sym, length, arith, Some, None, ℕ}
+use Rattle.std.proofs.Common.{rules, ◌≡◌, ◌+◌, ◌*◌, ◌++◌, [], ◌∷◌, ◌∙◌, ap, sym, length, arith}
 use Rattle.std.proofs.lemmas.Grind.{common_steps}
-use Rattle.grid_base.specs.Table.{cell}
-use Rattle.grid_base.specs.Order.{place}
 use Rattle.grid_base.proofs.Stores.{place_within}
 use Rattle.grid.proofs.Made.{CanCut-cells, made_size}
 use Rattle.grid.proofs.Emptying.{slot_in_line, product_in_line, emptying_none, emptying_at, emptying_next, held_all, full_slot}

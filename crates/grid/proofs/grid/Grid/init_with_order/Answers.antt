@@ -1,4 +1,4 @@
-use Rattle.std.proofs.Common.{◌≡◌, ◌*◌, ◌∙◌, All, ap, length, replicate, arith}
+use Rattle.std.proofs.Common.{◌≡◌, ◌*◌, All, length, replicate, arith}
 use Rattle.grid.proofs.Made.{All-replicate, made_size, made_fill}
 use Rattle.grid.proofs.grid.Grid.init_with_order.Goals as goal
 

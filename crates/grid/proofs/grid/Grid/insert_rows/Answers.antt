@@ -1,4 +1,4 @@
-use Rattle.std.proofs.Common.{◌≡◌, ◌<◌, ◌+◌, ◌*◌, ◌^◌, ◌++◌, length, refl, sym, ◌∙◌, ap, arith, length-append}
+use Rattle.std.proofs.Common.{◌≡◌, ◌<◌, ◌+◌, ◌*◌, ◌++◌, length, refl, sym, ◌∙◌, ap, arith}
 use Rattle.grid_base.specs.Table.{rows_of, cols_of}
 use Rattle.grid_base.specs.Order.{storage}
 use Rattle.grid_base.specs.Gather.{cells_of}

@@ -1,4 +1,4 @@
-use Rattle.std.proofs.Common.{◌≡◌, ◌∙◌, ap, length, arith}
+use Rattle.std.proofs.Common.{◌∙◌, ap, length}
 use Rattle.grid_base.proofs.Views.{none_by_storage}
 use Rattle.grid.proofs.grid.Grid.with_capacity_and_order.Goals as goal
 
