@@ -1,6 +1,7 @@
 //! Edits of lines, over all small tables, all places and both orders, and worked examples.
 use crate::fixtures::{ORDERS, SIZES, assert_shows, grid_of, numbered};
 use crate::plain;
+use grid::laws::{insert_col_or_row_across, push_row_then_pop_row};
 use grid::{Grid, GridError, LineRefused, Order};
 use std::alloc::{AllocError, Allocator, Global};
 use std::process::Abort;
@@ -49,6 +50,34 @@ pub fn insert_col<A: Allocator>(
     grid.insert_col(at, line)
 }
 
+// Pushes a row that a test made to fit.
+pub fn push_row<A: Allocator>(
+    rt: &impl Abort,
+    grid: &mut Grid<u32, A>,
+    line: Vec<u32, A>,
+) -> Result<(), LineRefused<u32, A>> {
+    assert!(rt; line.len() != 0);
+    if grid.is_empty() {
+        return grid.push_row(line);
+    }
+    assert_eq!(rt; line.len(), grid.cols());
+    grid.push_row(line)
+}
+
+// Pushes a column that a test made to fit.
+pub fn push_col<A: Allocator>(
+    rt: &impl Abort,
+    grid: &mut Grid<u32, A>,
+    line: Vec<u32, A>,
+) -> Result<(), LineRefused<u32, A>> {
+    assert!(rt; line.len() != 0);
+    if grid.is_empty() {
+        return grid.push_col(line);
+    }
+    assert_eq!(rt; line.len(), grid.rows());
+    grid.push_col(line)
+}
+
 // Puts a row into a plain table.
 pub fn put_row(
     rt: &impl Abort,
@@ -85,7 +114,7 @@ pub fn put_col(
 }
 
 // The table without the rows from `start` on, `count` of them.
-fn without_rows(
+pub fn without_rows(
     alloc: Global,
     table: &[Vec<u32>],
     start: usize,
@@ -101,7 +130,7 @@ fn without_rows(
 }
 
 // The table without the columns from `start` on, `count` of them.
-fn without_cols(
+pub fn without_cols(
     alloc: Global,
     table: &[Vec<u32>],
     start: usize,
@@ -173,6 +202,100 @@ fn puts_lines_and_takes_them(rt: HostRuntime) -> Result<(), Fail> {
             }
         }
     }
+    Ok(())
+}
+
+// A line that is pushed stands at the end, and comes back when it is popped.
+fn check_push_row(
+    rt: &impl Abort,
+    alloc: Global,
+    (rows, cols): (usize, usize),
+    order: Order,
+) -> Result<(), Fail> {
+    let mut table = numbered(alloc, rows, cols)?;
+    let mut grid = grid_of(rt, alloc, &table, order)?;
+    let len = if rows == 0 { 3 } else { cols };
+    push_row(rt, &mut grid, line_of(alloc, len)?)?;
+    put_row(rt, &mut table, rows, line_of(alloc, len)?)?;
+    assert_shows(rt, alloc, &grid, &table, order)?;
+    assert_eq!(rt; grid.pop_row()?, Some(line_of(alloc, len)?));
+    assert_shows(rt, alloc, &grid, &numbered(alloc, rows, cols)?, order)?;
+    Ok(())
+}
+
+fn check_push_col(
+    rt: &impl Abort,
+    alloc: Global,
+    (rows, cols): (usize, usize),
+    order: Order,
+) -> Result<(), Fail> {
+    let mut table = numbered(alloc, rows, cols)?;
+    let mut grid = grid_of(rt, alloc, &table, order)?;
+    let len = if rows == 0 { 3 } else { rows };
+    let line = line_of(alloc, len)?;
+    push_col(rt, &mut grid, line_of(alloc, len)?)?;
+    put_col(rt, alloc, &mut table, cols, &line)?;
+    assert_shows(rt, alloc, &grid, &table, order)?;
+    assert_eq!(rt; grid.pop_col()?, Some(line));
+    assert_shows(rt, alloc, &grid, &numbered(alloc, rows, cols)?, order)?;
+    Ok(())
+}
+
+#[test]
+fn pushes_lines_and_pops_them(rt: HostRuntime) -> Result<(), Fail> {
+    for size in SIZES {
+        for order in ORDERS {
+            check_push_row(&rt, rt.alloc(), size, order)?;
+            check_push_col(&rt, rt.alloc(), size, order)?;
+        }
+    }
+    Ok(())
+}
+
+// Pushes a row and pops it, by the law.
+fn check_push_and_pop(
+    rt: &impl Abort,
+    grid: &mut Grid<u32>,
+    line: Vec<u32>,
+) -> Result<Option<Vec<u32>>, Fail> {
+    assert!(rt; line.len() != 0);
+    if grid.is_empty() {
+        return Ok(push_row_then_pop_row(grid, line)??);
+    }
+    assert_eq!(rt; line.len(), grid.cols());
+    Ok(push_row_then_pop_row(grid, line)??)
+}
+
+#[test]
+fn keeps_the_laws_of_lines(rt: HostRuntime) -> Result<(), Fail> {
+    let alloc = rt.alloc();
+    for (rows, cols) in SIZES {
+        for order in ORDERS {
+            let table = numbered(alloc, rows, cols)?;
+            let mut grid = grid_of(&rt, alloc, &table, order)?;
+            let len = if rows == 0 { 3 } else { cols };
+            let popped = check_push_and_pop(&rt, &mut grid, line_of(alloc, len)?)?;
+            assert_eq!(rt; popped, Some(line_of(alloc, len)?));
+            assert_shows(&rt, alloc, &grid, &table, order)?;
+        }
+    }
+    Ok(())
+}
+
+// A column put into an empty grid, and a row put between two transposes of another.
+#[test]
+fn puts_a_column_as_a_row_across(rt: HostRuntime) -> Result<(), Fail> {
+    let alloc = rt.alloc();
+    let mut grid = Grid::empty(alloc);
+    let mut other = Grid::empty(alloc);
+    let line = vec![in alloc; 1, 2, 3]?;
+    let other_line = vec![in alloc; 1, 2, 3]?;
+    let put = insert_col_or_row_across(&mut grid, &mut other, 0, line, other_line);
+    assert_eq!(rt; put, (Ok(()), Ok(())));
+    assert_eq!(rt; grid.size(), (3, 1));
+    assert_eq!(rt; other.size(), (3, 1));
+    assert_eq!(rt; grid.flatten(), [1, 2, 3].as_slice());
+    assert_eq!(rt; other.flatten(), [1, 2, 3].as_slice());
     Ok(())
 }
 
@@ -343,17 +466,21 @@ fn remove_cols(rt: HostRuntime) -> Result<(), Fail> {
 #[test]
 fn edits_cells_of_no_size(rt: HostRuntime) -> Result<(), Fail> {
     let alloc = rt.alloc();
-    let mut grid = Grid::from_vec(vec![in alloc; (), (), (), (), (), ()]?, 3);
-    assert_eq!(rt; grid.cols(), 3);
-    grid.push_row(vec![in alloc; (), (), ()]?)?;
-    assert_eq!(rt; grid.size(), (3, 3));
-    assert_eq!(rt; grid.pop_col()?.map(|line| line.len()), Some(3));
-    assert_eq!(rt; grid.size(), (3, 2));
+    for order in ORDERS {
+        let mut grid = Grid::<()>::new_with_order(alloc, 2, 3, order)?;
+        assert_eq!(rt; grid.cols(), 3);
+        grid.push_row(vec![in alloc; (), (), ()]?)?;
+        assert_eq!(rt; grid.size(), (3, 3));
+        assert_eq!(rt; grid.pop_col()?.map(|line| line.len()), Some(3));
+        assert_eq!(rt; grid.size(), (3, 2));
+        grid.rotate_left();
+        assert_eq!(rt; grid.size(), (2, 3));
+    }
     Ok(())
 }
 
 // The table with `count` rows of zeros before row `at`.
-fn with_zero_rows(
+pub fn with_zero_rows(
     alloc: Global,
     table: &[Vec<u32>],
     cols: usize,
@@ -377,7 +504,7 @@ fn with_zero_rows(
 }
 
 // The table with `count` zeros before place `at` of each row.
-fn with_zero_cols(
+pub fn with_zero_cols(
     alloc: Global,
     table: &[Vec<u32>],
     (at, count): (usize, usize),
@@ -532,10 +659,12 @@ fn padding_refusals(rt: HostRuntime) -> Result<(), Fail> {
 
 #[test]
 fn pads_cells_of_no_size(rt: HostRuntime) -> Result<(), Fail> {
-    let mut grid = Grid::from_vec(vec![in rt.alloc(); ()]?, 1);
-    assert_eq!(rt; grid.expand_rows(usize::MAX), Err(GridError::TooLarge));
-    assert_eq!(rt; grid.size(), (1, 1));
-    grid.prepend_cols(2)?;
-    assert_eq!(rt; grid.size(), (1, 3));
+    for order in ORDERS {
+        let mut grid = Grid::<()>::new_with_order(rt.alloc(), 1, 1, order)?;
+        assert_eq!(rt; grid.expand_rows(usize::MAX), Err(GridError::TooLarge));
+        assert_eq!(rt; grid.size(), (1, 1));
+        grid.prepend_cols(2)?;
+        assert_eq!(rt; grid.size(), (1, 3));
+    }
     Ok(())
 }

@@ -191,21 +191,17 @@ fn puts_lines_of_cells_of_no_size(rt: HostRuntime) -> Result<(), Fail> {
 }
 
 // Refused lines come back as they were.
-fn assert_handed_back(
+fn assert_handed_back<'a>(
     rt: &impl Abort,
-    alloc: Global,
-    put: Result<(), LinesRefused<u32, &Heap>>,
+    heap: &'a Heap,
+    put: Result<(), LinesRefused<u32, &'a Heap>>,
     len: usize,
 ) -> Result<(), AllocError> {
-    let Err(refused) = put else {
-        panic!(rt; "no request is granted");
+    let back = LinesRefused {
+        lines: starved_lines(heap, len)?,
+        fault: GridError::Memory,
     };
-    assert_eq!(rt; refused.fault, GridError::Memory);
-    let wanted = lines_of(alloc, 2, len)?;
-    assert_eq!(rt; refused.lines.len(), wanted.len());
-    for (back, line) in refused.lines.iter().zip(wanted.iter()) {
-        assert_eq!(rt; back.as_slice(), line.as_slice());
-    }
+    assert_eq!(rt; put, Err(back));
     Ok(())
 }
 
@@ -230,19 +226,24 @@ fn check_refused(
     let (wide, tall) = if rows == 0 { (2, 3) } else { (cols, rows) };
     for at in 0..=rows {
         let put = insert_rows(rt, &mut grid, at, starved_lines(&heap, wide)?);
-        assert_handed_back(rt, alloc, put, wide)?;
+        assert_handed_back(rt, &heap, put, wide)?;
         assert!(rt; insert_rows(rt, &mut grid, at, Vec::new(&heap)).is_ok());
         assert_shows(rt, alloc, &grid, &table, order)?;
     }
     for at in 0..=cols {
         let put = insert_cols(rt, &mut grid, at, starved_lines(&heap, tall)?);
-        assert_handed_back(rt, alloc, put, tall)?;
+        assert_handed_back(rt, &heap, put, tall)?;
         assert!(rt; insert_cols(rt, &mut grid, at, Vec::new(&heap)).is_ok());
         assert_shows(rt, alloc, &grid, &table, order)?;
     }
     let lines = starved_lines(&heap, wide)?;
     heap.grant(1);
     assert!(rt; insert_rows(rt, &mut grid, rows, lines).is_ok());
+    assert_eq!(rt; heap.left(), 0);
+    let (rows, cols) = grid.size();
+    let lines = starved_lines(&heap, rows)?;
+    heap.grant(1);
+    assert!(rt; insert_cols(rt, &mut grid, cols, lines).is_ok());
     assert_eq!(rt; heap.left(), 0);
     Ok(())
 }

@@ -1,8 +1,9 @@
 //! How grids are made and converted, over all small sizes, also where memory is refused.
-use crate::fixtures::{Heap, ORDERS, assert_shows, numbered, put};
+use crate::fixtures::{Fragile, Heap, ORDERS, assert_shows, numbered, put, value_at};
 use crate::fuse::Fuse;
 use grid::{Grid, GridError, Order, ShapeError, grid, grid_cm};
 use std::alloc::{AllocError, Allocator, Global};
+use std::cell::Cell;
 use std::convert::TryFrom;
 use std::process::Abort;
 use std::test::Fail;
@@ -390,5 +391,101 @@ fn refuses_rows_of_too_many_cells(rt: HostRuntime) -> Result<(), Fail> {
     let rows = vec![in alloc; row, long_row(alloc)?, long_row(alloc)?, long_row(alloc)?]?;
     assert_eq!(rt; Grid::try_from(&rows).err(), large);
     assert_eq!(rt; Grid::try_from(rows).err(), large);
+    Ok(())
+}
+
+// [[1, 2], [3, 4]] as rows, of which so many clones are granted.
+fn fragile_rows<'a>(
+    alloc: Global,
+    granted: &'a Cell<u64>,
+) -> Result<Vec<Vec<Fragile<'a>>>, AllocError> {
+    let mut rows = Vec::new(alloc);
+    for first in [1u32, 3] {
+        let mut row = Vec::new(alloc);
+        for value in [first, first + 1] {
+            row.push(Fragile {
+                value,
+                granted: Some(granted),
+            })?;
+        }
+        rows.push(row)?;
+    }
+    Ok(rows)
+}
+
+// A maker that clones four cells answers that memory was refused until all four clones are granted.
+fn check_clones(rt: &impl Abort, made: Result<Grid<Fragile>, ShapeError>, granted: u64) {
+    match made {
+        Ok(grid) => {
+            assert_eq!(rt; granted, 4);
+            assert_eq!(rt; grid.size(), (2, 2));
+            assert_eq!(rt; value_at(&grid, 0, 1), Some(2));
+            assert_eq!(rt; value_at(&grid, 1, 0), Some(3));
+        }
+        Err(refused) => {
+            assert_eq!(rt; refused, ShapeError::Memory);
+            assert!(rt; granted < 4);
+        }
+    }
+}
+
+#[test]
+fn refuses_clones_of_rows_in_turn(rt: HostRuntime) -> Result<(), Fail> {
+    let alloc = rt.alloc();
+    for granted in 0..5u64 {
+        let left = Cell::new(granted);
+        let rows = fragile_rows(alloc, &left)?;
+        check_clones(&rt, Grid::try_from(&rows), granted);
+        left.set(granted);
+        let mut lent = Vec::new(alloc);
+        for row in &rows {
+            lent.push(row)?;
+        }
+        check_clones(&rt, Grid::try_from(&lent), granted);
+    }
+    Ok(())
+}
+
+#[test]
+fn refuses_clones_of_cells_in_turn(rt: HostRuntime) -> Result<(), Fail> {
+    let alloc = rt.alloc();
+    for granted in 0..5u64 {
+        let left = Cell::new(granted);
+        let mut cells = Vec::new(alloc);
+        for value in 1..5u32 {
+            cells.push(Fragile {
+                value,
+                granted: Some(&left),
+            })?;
+        }
+        check_clones(&rt, Grid::try_from((&cells, 2)), granted);
+        left.set(granted);
+        check_clones(&rt, Grid::try_from((&cells, &2)), granted);
+    }
+    Ok(())
+}
+
+// A value that is cloned into each cell.
+#[test]
+fn refuses_clones_of_a_value_in_turn(rt: HostRuntime) -> Result<(), Fail> {
+    for order in ORDERS {
+        for granted in 0..5u64 {
+            let left = Cell::new(granted);
+            let value = Fragile {
+                value: 7,
+                granted: Some(&left),
+            };
+            match Grid::init_with_order(rt.alloc(), 2, 2, order, value) {
+                Ok(grid) => {
+                    assert!(rt; 3 <= granted);
+                    assert_eq!(rt; value_at(&grid, 1, 1), Some(7));
+                }
+                Err(refused) => {
+                    assert_eq!(rt; refused, GridError::Memory);
+                    assert!(rt; granted < 4);
+                }
+            }
+        }
+    }
     Ok(())
 }

@@ -198,6 +198,75 @@ fn check_moves(
     assert_shows(rt, alloc, grid, table, order)
 }
 
+// Each walk, from one end to the other, and clones of those that have one.
+fn check_walks(
+    rt: &impl Abort,
+    alloc: Global,
+    (rows, cols): (usize, usize),
+    order: Order,
+) -> Result<(), AllocError> {
+    let table = numbered(alloc, rows, cols)?;
+    let heap = Fuse::new(alloc, 0);
+    let grid = starved_grid_of(rt, alloc, &heap, &table, order)?;
+    let cells = plain::storage(alloc, order, &table)?.len();
+    assert_eq!(rt; grid.iter().count(), cells);
+    assert_eq!(rt; grid.indexed_iter().count(), cells);
+    let mut walk = grid.iter_rows();
+    let mut copy = walk.clone()?;
+    for _ in 0..rows {
+        assert_eq!(rt; walk.next().map(|row| row.count()), Some(cols));
+        assert_eq!(rt; copy.next_back().map(|row| row.count()), Some(cols));
+    }
+    let mut walk = grid.iter_cols();
+    let mut copy = walk.clone()?;
+    for _ in 0..cols {
+        assert_eq!(rt; walk.next().map(|col| col.count()), Some(rows));
+        assert_eq!(rt; copy.next_back().map(|col| col.count()), Some(rows));
+    }
+    assert_eq!(rt; grid.into_iter().count(), cells);
+    let grid = starved_grid_of(rt, alloc, &heap, &table, order)?;
+    assert_eq!(rt; grid.indexed_into_iter().count(), cells);
+    Ok(())
+}
+
+fn check_writing_walks(
+    rt: &impl Abort,
+    alloc: Global,
+    (rows, cols): (usize, usize),
+    order: Order,
+) -> Result<(), AllocError> {
+    let table = numbered(alloc, rows, cols)?;
+    let heap = Fuse::new(alloc, 0);
+    let mut grid = starved_grid_of(rt, alloc, &heap, &table, order)?;
+    let cells = plain::storage(alloc, order, &table)?.len();
+    assert_eq!(rt; grid.iter_mut().count(), cells);
+    assert_eq!(rt; grid.indexed_iter_mut().count(), cells);
+    for row in 0..rows {
+        assert!(rt; row < grid.rows());
+        assert_eq!(rt; grid.iter_row(row).count(), cols);
+        assert!(rt; row < grid.rows());
+        assert_eq!(rt; grid.iter_row_mut(row).count(), cols);
+    }
+    for col in 0..cols {
+        assert!(rt; col < grid.cols());
+        assert_eq!(rt; grid.iter_col(col).count(), rows);
+        assert!(rt; col < grid.cols());
+        assert_eq!(rt; grid.iter_col_mut(col).count(), rows);
+    }
+    assert_shows(rt, alloc, &grid, &table, order)
+}
+
+#[test]
+fn walks_take_no_memory(rt: HostRuntime) -> Result<(), Fail> {
+    for size in SIZES {
+        for order in ORDERS {
+            check_walks(&rt, rt.alloc(), size, order)?;
+            check_writing_walks(&rt, rt.alloc(), size, order)?;
+        }
+    }
+    Ok(())
+}
+
 #[test]
 fn moves_take_no_memory(rt: HostRuntime) -> Result<(), Fail> {
     use Move::{FlipCols, FlipRows, RotateHalf, RotateLeft, RotateRight, Transpose};
