@@ -45,6 +45,7 @@ impl<T, A: Allocator> Grid<T, A> {
     /// The columns, each as [`iter_col`](Grid::iter_col) gives it.
     pub fn iter_cols(&self) -> GridColIter<'_, T, A>
         ensures rest { result ≡ turned self.now.rows }
+        ensures runs { LinesInOrder T }
         ensures fits { length result < 2 ^ 64 }
     {
         GridColIter {

@@ -44,6 +44,7 @@ impl<T, A: Allocator> Grid<T, A> {
     /// The rows, each as [`iter_row`](Grid::iter_row) gives it.
     pub fn iter_rows(&self) -> GridRowIter<'_, T, A>
         ensures rest { result ≡ self.now.rows }
+        ensures runs { LinesInOrder T }
         ensures fits { length result < 2 ^ 64 }
     {
         GridRowIter {
