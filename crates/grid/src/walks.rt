@@ -78,6 +78,7 @@ impl<T, A: Allocator> Grid<T, A> {
     }
 }
 
+/// The cells in storage order, by value. Takes no memory.
 impl<T: Drop, A: Allocator> IntoIterator for Grid<T, A> {
     type Item = T;
 
@@ -90,6 +91,7 @@ impl<T: Drop, A: Allocator> IntoIterator for Grid<T, A> {
     }
 }
 
+/// The cells in storage order, as [`iter`](Grid::iter) gives them.
 impl<'a, T, A: Allocator> IntoIterator for &'a Grid<T, A> {
     type Item = &'a T;
 
@@ -102,6 +104,7 @@ impl<'a, T, A: Allocator> IntoIterator for &'a Grid<T, A> {
     }
 }
 
+/// The cells in storage order for writing, as [`iter_mut`](Grid::iter_mut) gives them.
 impl<'a, T, A: Allocator> IntoIterator for &'a mut Grid<T, A> {
     ghost use Rattle.grid.specs.Walks.{lends_cells, KeepsSize};
 
