@@ -80,7 +80,7 @@ impl<T, A: Allocator> Grid<T, A> {
     pub fn init(alloc: A, rows: usize, cols: usize, value: T) -> Result<Grid<T, A>, GridError>
     where
         T: Clone,
-        requires { ClonesAreEqual T.is_clone }
+        requires clones { ClonesAreEqual T.is_clone }
         ensures order { IfOk result (λ g. g.order ≡ Order.RowMajor) }
         ensures table { IfOk result (λ g. IsTable g.rows) }
         ensures size { IfOk result (λ g. HasSize rows cols g.rows) }
@@ -105,7 +105,7 @@ impl<T, A: Allocator> Grid<T, A> {
     ) -> Result<Grid<T, A>, GridError>
     where
         T: Clone,
-        requires { ClonesAreEqual T.is_clone }
+        requires clones { ClonesAreEqual T.is_clone }
         ensures order { IfOk result (λ g. g.order ≡ order) }
         ensures table { IfOk result (λ g. IsTable g.rows) }
         ensures size { IfOk result (λ g. HasSize rows cols g.rows) }
