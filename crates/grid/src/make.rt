@@ -2,7 +2,8 @@
 ghost use Rattle.std.specs.Prelude.{◌≡◌, ◌*◌, ◌^◌, ◌≤◌, ◌↔◌, ℕ, [], All, IfOk, IsOk, IsErrOf};
 ghost use Rattle.grid_base.specs.Table.{IsTable};
 ghost use Rattle.grid_base.specs.Order.{storage};
-ghost use Rattle.grid.specs.Make.{HasSize, EachCellIs, IsOnlyDefault, ClonesAreEqual};
+ghost use Rattle.grid_base.specs.Clones.{ClonesAreEqual};
+ghost use Rattle.grid.specs.Make.{HasSize, EachCellIs, IsOnlyDefault};
 
 use crate::{Grid, GridError};
 use grid_base::Order;

@@ -4,7 +4,7 @@ ghost use Rattle.std.specs.Fn.{FnReturnsAt};
 ghost use Rattle.grid_base.specs.Table.{rows_of, cols_of, IsTable};
 ghost use Rattle.grid_base.specs.Order.{storage};
 ghost use Rattle.grid_base.specs.Answers.{Answers, Gives, Pairs};
-ghost use Rattle.grid.specs.Make.{ClonesAreEqual};
+ghost use Rattle.grid_base.specs.Clones.{ClonesAreEqual};
 ghost use Rattle.grid.specs.Wholes.{filled};
 
 use crate::Grid;
