@@ -9,7 +9,7 @@ use Rattle.grid_base.specs.Sheet.{Sheet, Fits}
 use Rattle.grid_base.specs.FlatLends.{written_from}
 use Rattle.grid.specs.declared.walks.span.Span.{Span}
 use Rattle.grid.specs.Span.{IsSpan}
-use Rattle.grid.specs.Walks.{cells_of, with_cells, refilled, refilled_from, IsSameSize, KeepsSize, KeepsSizeFrom}
+use Rattle.grid.specs.Walks.{stored, with_cells, refilled, refilled_from, IsSameSize, KeepsSize, KeepsSizeFrom}
 use Rattle.grid.proofs.Writing.{sheet}
 use Rattle.grid.proofs.Seen.{seen_rows, seen_cols, seen_table, seen_storage}
 
@@ -23,15 +23,15 @@ module _ {T : Type 0} (o : Order) (m n : ℕ) (cells : List T) (v : Sheet T) (h 
   cols_are : cols_of v.rows ≡ n
   cols_are = seen_cols o m n cells v h e
 
-  cells_are : cells_of v ≡ cells
+  cells_are : stored v ≡ cells
   cells_are = seen_storage o m n cells v h e
 
   -- the cells with their places
-  pub seen_indexed : zip (places o m n) cells ≡ zip (places v.order (rows_of v.rows) (cols_of v.rows)) (cells_of v)
+  pub seen_indexed : zip (places o m n) cells ≡ zip (places v.order (rows_of v.rows) (cols_of v.rows)) (stored v)
   seen_indexed = sym (
-      ap (λ x. zip (places x (rows_of v.rows) (cols_of v.rows)) (cells_of v)) order_is
-      ∙ (ap (λ x. zip (places o x (cols_of v.rows)) (cells_of v)) rows_are
-      ∙ (ap (λ x. zip (places o m x) (cells_of v)) cols_are ∙ ap (zip (places o m n)) cells_are))
+      ap (λ x. zip (places x (rows_of v.rows) (cols_of v.rows)) (stored v)) order_is
+      ∙ (ap (λ x. zip (places o x (cols_of v.rows)) (stored v)) rows_are
+      ∙ (ap (λ x. zip (places o m x) (stored v)) cols_are ∙ ap (zip (places o m n)) cells_are))
       )
 
   -- the grid with other cells

@@ -15,7 +15,3 @@ EachCellIs d t = (r c : ℕ) → InRange t r c → cell t r c ≡ Some d
 -- a type has one default, d
 abbrev pub IsOnlyDefault : {T : Type 0} → (T → Type 0) → T → Type 0
 IsOnlyDefault {T} is_default d = (x : T) → is_default x → x ≡ d
-
--- each clone equals its source
-abbrev pub ClonesAreEqual : {T : Type 0} → (T → T → Type 0) → Type 0
-ClonesAreEqual {T} is_clone = (x y : T) → is_clone x y → y ≡ x

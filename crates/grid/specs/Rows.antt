@@ -23,10 +23,6 @@ module _ {T : Type 0} where
     pub count : length (joined g.rows) ≡ len
     pub cols : len ≢ 0 → cols_of g.rows ≡ n
 
-  -- joined and cut: the grid of rows of n whose rows, joined, are the cells
-  abbrev pub IsCut : List T → ℕ → Sheet T → Type 0
-  IsCut cells n g = HasShape (length cells) n g × (joined g.rows ≡ cells)
-
   -- all rows have one length
   abbrev pub AreEven : List (List T) → Type 0
   AreEven rows = (r : ℕ) → r < rows_of rows → length (row rows r) ≡ cols_of rows

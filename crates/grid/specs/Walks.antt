@@ -17,8 +17,8 @@ use Rattle.grid.specs.contracts.grid.Grid.{the_row}
 
 module _ {T : Type 0} (s : Sheet T) where
   -- the cells in storage order
-  abbrev pub cells_of : List T
-  cells_of = storage s.order s.rows
+  abbrev pub stored : List T
+  stored = storage s.order s.rows
 
   -- the grid of the same size and order with these cells in storage order
   abbrev pub with_cells : List T → Sheet T
@@ -26,11 +26,11 @@ module _ {T : Type 0} (s : Sheet T) where
 
   -- the same with ws written over its own cells from the first on
   abbrev pub refilled : List T → Sheet T
-  refilled ws = with_cells (refill (length cells_of) cells_of ws)
+  refilled ws = with_cells (refill (length stored) stored ws)
 
   -- or from the place of cell (r, c) on
   abbrev pub refilled_from : ℕ → ℕ → List T → Sheet T
-  refilled_from r c ws = with_cells (written_from (place s.order (rows_of s.rows) (cols_of s.rows) r c) cells_of ws)
+  refilled_from r c ws = with_cells (written_from (place s.order (rows_of s.rows) (cols_of s.rows) r c) stored ws)
 
   -- a table of the same size
   abbrev pub IsSameSize : List (List T) → Type 0

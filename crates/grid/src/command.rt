@@ -3,7 +3,7 @@ ghost use Rattle.std.specs.Prelude.{◌≡◌, ◌+◌, ◌≤◌, OnOk, OnErr, 
 ghost use Rattle.grid_base.specs.Table.{rows_of, cols_of};
 ghost use Rattle.grid_base.specs.Symmetry.{order_after, half};
 ghost use Rattle.grid_base.specs.Tally.{counted};
-ghost use Rattle.grid.specs.Make.{ClonesAreEqual};
+ghost use Rattle.grid_base.specs.Clones.{ClonesAreEqual};
 ghost use Rattle.grid.specs.Reply.{plain};
 ghost use Rattle.grid.specs.Command.{step_rows, step_reply, step_price, command_symmetry, TakesMemory};
 ghost use Rattle.grid.specs.Run.{Ran, MayStop};

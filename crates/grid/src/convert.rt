@@ -2,7 +2,7 @@
 ghost use Rattle.std.specs.Prelude.{◌≡◌, ◌≢◌, ◌↔◌, length, map, IsTrue, MatchResult};
 ghost use Rattle.grid_base.specs.Table.{cols_of, joined};
 ghost use Rattle.grid_base.specs.Order.{CanCut};
-ghost use Rattle.grid.specs.Make.{ClonesAreEqual};
+ghost use Rattle.grid_base.specs.Clones.{ClonesAreEqual};
 ghost use Rattle.grid.specs.Rows.{equal_rows, CanJoin, RowsFault, RowsAnswer, CutAnswer};
 
 use crate::{Grid, ShapeError};

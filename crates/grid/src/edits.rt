@@ -143,8 +143,8 @@ impl<T, A: Allocator> Grid<T, A> {
     ///
     /// The line is not empty, and on a nonempty grid its length is the number of columns; on an empty grid it becomes
     /// the only row. Refused as too large where the cells would pass `usize::MAX`, which is decided first, and for
-    /// memory: then the line comes back, and the grid is as it was. Row-major it moves each cell at most twice,
-    /// column-major at most about log2(columns) times.
+    /// memory: then the line comes back, and the grid is as it was. Row-major it takes time in the number of cells,
+    /// column-major in that times log2(columns).
     pub fn insert_row(&mut self, at: usize, line: Vec<T, A>) -> Result<(), LineRefused<T, A>>
         requires nonempty { 0 < length line.items }
         requires fits { FitsRow self.old.rows (length line.items) }
@@ -182,8 +182,8 @@ impl<T, A: Allocator> Grid<T, A> {
     ///
     /// The line is not empty, and on a nonempty grid its length is the number of rows; on an empty grid it becomes the
     /// only column. Refused as too large where the cells would pass `usize::MAX`, which is decided first, and for
-    /// memory: then the line comes back, and the grid is as it was. Column-major it moves each cell at most twice,
-    /// row-major at most about log2(rows) times.
+    /// memory: then the line comes back, and the grid is as it was. Column-major it takes time in the number of cells,
+    /// row-major in that times log2(rows).
     pub fn insert_col(&mut self, at: usize, line: Vec<T, A>) -> Result<(), LineRefused<T, A>>
         requires nonempty { 0 < length line.items }
         requires fits { FitsCol self.old.rows (length line.items) }
@@ -219,8 +219,8 @@ impl<T, A: Allocator> Grid<T, A> {
 
     /// Takes row `at`, or answers `None` where there is none.
     ///
-    /// Takes memory only where there is one, and a refusal leaves the grid as it was. Row-major it moves each cell at
-    /// most twice, column-major at most about log2(columns) times.
+    /// Takes memory only where there is one, and a refusal leaves the grid as it was. Row-major it takes time in the
+    /// number of cells, column-major in that times log2(columns).
     pub fn remove_row(&mut self, at: usize) -> Result<Option<Vec<T, A>>, AllocError>
     where
         A: Clone,
@@ -273,8 +273,8 @@ impl<T, A: Allocator> Grid<T, A> {
 
     /// Takes column `at`, or answers `None` where there is none.
     ///
-    /// Takes memory only where there is one, and a refusal leaves the grid as it was. Column-major it moves each cell
-    /// at most twice, row-major at most about log2(rows) times.
+    /// Takes memory only where there is one, and a refusal leaves the grid as it was. Column-major it takes time in the
+    /// number of cells, row-major in that times log2(rows).
     pub fn remove_col(&mut self, at: usize) -> Result<Option<Vec<T, A>>, AllocError>
     where
         A: Clone,

@@ -49,6 +49,7 @@ pub enum ShapeError {
     Memory,
 }
 
+/// A refusal of memory is `GridError::Memory`.
 impl From<AllocError> for GridError {
     ghost from_gives = { λ _ e. e ≡ Memory };
 
@@ -57,6 +58,7 @@ impl From<AllocError> for GridError {
     }
 }
 
+/// A refusal of memory is `ShapeError::Memory`.
 impl From<AllocError> for ShapeError {
     ghost from_gives = { λ _ e. e ≡ OutOfMemory };
 

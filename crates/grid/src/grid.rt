@@ -228,6 +228,7 @@ impl<T, A: Allocator> Grid<T, A> {
     }
 }
 
+/// `grid[(row, col)]` is the cell in a row and a column, which are in range.
 impl<T, A: Allocator> Index<(usize, usize)> for Grid<T, A> {
     type Output = T;
 
@@ -240,6 +241,7 @@ impl<T, A: Allocator> Index<(usize, usize)> for Grid<T, A> {
     }
 }
 
+/// The cell in a row and a column, which are in range, for writing.
 impl<T, A: Allocator> IndexMut<(usize, usize)> for Grid<T, A> {
     ghost use Rattle.grid.specs.Grid.{lends_cell};
 

@@ -2,7 +2,8 @@
 ghost use Rattle.std.specs.Prelude.{◌≡◌, ◌*◌, ◌^◌, ◌≤◌, ◌↔◌, ℕ, [], All, IfOk, IsOk, IsErrOf};
 ghost use Rattle.grid_base.specs.Table.{IsTable};
 ghost use Rattle.grid_base.specs.Order.{storage};
-ghost use Rattle.grid.specs.Make.{HasSize, EachCellIs, IsOnlyDefault, ClonesAreEqual};
+ghost use Rattle.grid_base.specs.Clones.{ClonesAreEqual};
+ghost use Rattle.grid.specs.Make.{HasSize, EachCellIs, IsOnlyDefault};
 
 use crate::{Grid, GridError};
 use grid_base::Order;
@@ -80,7 +81,7 @@ impl<T, A: Allocator> Grid<T, A> {
     pub fn init(alloc: A, rows: usize, cols: usize, value: T) -> Result<Grid<T, A>, GridError>
     where
         T: Clone,
-        requires { ClonesAreEqual T.is_clone }
+        requires clones { ClonesAreEqual T.is_clone }
         ensures order { IfOk result (λ g. g.order ≡ Order.RowMajor) }
         ensures table { IfOk result (λ g. IsTable g.rows) }
         ensures size { IfOk result (λ g. HasSize rows cols g.rows) }
@@ -105,7 +106,7 @@ impl<T, A: Allocator> Grid<T, A> {
     ) -> Result<Grid<T, A>, GridError>
     where
         T: Clone,
-        requires { ClonesAreEqual T.is_clone }
+        requires clones { ClonesAreEqual T.is_clone }
         ensures order { IfOk result (λ g. g.order ≡ order) }
         ensures table { IfOk result (λ g. IsTable g.rows) }
         ensures size { IfOk result (λ g. HasSize rows cols g.rows) }
@@ -125,7 +126,8 @@ impl<T, A: Allocator> Grid<T, A> {
 
     /// An empty row-major grid with room for so many rows and columns.
     ///
-    /// `TooLarge` exactly where `rows * cols` passes `usize::MAX`, which is decided before memory is asked for.
+    /// `TooLarge` exactly where `rows * cols` passes `usize::MAX`, which is decided before memory is asked for. With no
+    /// rows or no columns nothing is refused.
     pub fn with_capacity(alloc: A, rows: usize, cols: usize) -> Result<Grid<T, A>, GridError>
         ensures rows { IfOk result (λ g. g.rows ≡ []) }
         ensures order { IfOk result (λ g. g.order ≡ Order.RowMajor) }
@@ -137,7 +139,8 @@ impl<T, A: Allocator> Grid<T, A> {
 
     /// An empty grid of this order with room for so many rows and columns.
     ///
-    /// `TooLarge` exactly where `rows * cols` passes `usize::MAX`, which is decided before memory is asked for.
+    /// `TooLarge` exactly where `rows * cols` passes `usize::MAX`, which is decided before memory is asked for. With no
+    /// rows or no columns nothing is refused.
     pub fn with_capacity_and_order(
         alloc: A,
         rows: usize,

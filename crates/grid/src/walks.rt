@@ -1,8 +1,8 @@
 //! Walks over the cells of a grid, of its rows and of its columns. None takes memory, and each may be dropped early.
 ghost use Rattle.std.specs.Prelude.{◌≡◌, zip};
 ghost use Rattle.std.specs.Borrow.{sem};
-ghost use Rattle.std.specs.Iterator.Runs.{YieldsInOrder, YieldsInReverse, YieldsRefsInOrder, YieldsRefsInReverse, YieldsMutRefsInOrder};
-ghost use Rattle.std.specs.Slice.Iter.{iter_rest, iter_steps, iter_steps_back, iter_mut_rest, iter_mut_steps};
+ghost use Rattle.std.specs.Iterator.Runs.{YieldsInOrder, YieldsInReverse, YieldsRefsInOrder, YieldsRefsInReverse, YieldsMutRefsInOrder, YieldsMutRefsInReverse};
+ghost use Rattle.std.specs.Slice.Iter.{iter_rest, iter_steps, iter_steps_back, iter_mut_rest, iter_mut_steps, iter_mut_steps_back};
 ghost use Rattle.std.specs.Vec.Iter.{into_iter_items, into_iter_steps, into_iter_steps_back};
 ghost use Rattle.grid_base.specs.Table.{rows_of, cols_of};
 ghost use Rattle.grid_base.specs.Order.{storage};
@@ -41,6 +41,7 @@ impl<T, A: Allocator> Grid<T, A> {
         ensures keeps { KeepsSize self.old }
         ensures rest { iter_mut_rest result ≡ storage self.old.order self.old.rows }
         ensures runs { YieldsMutRefsInOrder (iter_mut_steps {A = T}) iter_mut_rest }
+        ensures runs_back { YieldsMutRefsInReverse (iter_mut_steps_back {A = T}) iter_mut_rest }
     {
         self.flat.iter_mut()
     }
@@ -77,6 +78,7 @@ impl<T, A: Allocator> Grid<T, A> {
     }
 }
 
+/// The cells in storage order, by value. Takes no memory.
 impl<T: Drop, A: Allocator> IntoIterator for Grid<T, A> {
     type Item = T;
 
@@ -89,6 +91,7 @@ impl<T: Drop, A: Allocator> IntoIterator for Grid<T, A> {
     }
 }
 
+/// The cells in storage order, as [`iter`](Grid::iter) gives them.
 impl<'a, T, A: Allocator> IntoIterator for &'a Grid<T, A> {
     type Item = &'a T;
 
@@ -101,6 +104,7 @@ impl<'a, T, A: Allocator> IntoIterator for &'a Grid<T, A> {
     }
 }
 
+/// The cells in storage order for writing, as [`iter_mut`](Grid::iter_mut) gives them.
 impl<'a, T, A: Allocator> IntoIterator for &'a mut Grid<T, A> {
     ghost use Rattle.grid.specs.Walks.{lends_cells, KeepsSize};
 
@@ -108,12 +112,12 @@ impl<'a, T, A: Allocator> IntoIterator for &'a mut Grid<T, A> {
 
     type IntoIter = slice::IterMut<'a, T>;
 
-    ghost into_iter_gives = { λ grid it. (iter_mut_rest it ≡ storage grid.now.order grid.now.rows) × YieldsMutRefsInOrder (iter_mut_steps {A = T}) iter_mut_rest };
+    ghost into_iter_gives = { λ grid it. (iter_mut_rest it ≡ storage grid.now.order grid.now.rows) × YieldsMutRefsInOrder (iter_mut_steps {A = T}) iter_mut_rest × YieldsMutRefsInReverse (iter_mut_steps_back {A = T}) iter_mut_rest };
 
     fn into_iter(self) -> slice::IterMut<'a, T>
         ensures* writes_back { sem 𝓛 (lends_cells T.row A.row A.Allocator self.entry result) }
         ensures keeps { KeepsSize self.old }
-        ensures into_iter_gives { (iter_mut_rest result ≡ storage self.old.order self.old.rows) × YieldsMutRefsInOrder (iter_mut_steps {A = T}) iter_mut_rest }
+        ensures into_iter_gives { (iter_mut_rest result ≡ storage self.old.order self.old.rows) × YieldsMutRefsInOrder (iter_mut_steps {A = T}) iter_mut_rest × YieldsMutRefsInReverse (iter_mut_steps_back {A = T}) iter_mut_rest }
     {
         self.iter_mut()
     }

@@ -16,3 +16,4 @@ pub mod IndexedIterMut
 pub mod FlatLends
 pub mod Answers
 pub mod Gather
+pub mod Clones

@@ -15,6 +15,16 @@ pub fn count_in_row<A: Allocator>(grid: &Grid<u32, A>, r: usize, x: u32) -> usiz
     grid.iter_row(r).filter(|y| **y == x).count()
 }
 
+/// How many cells of the first row are x.
+pub fn count_in_first_row<A: Allocator>(grid: &Grid<u32, A>, x: u32) -> usize
+    ensures { result ≡ count_by (λ y. y == x) (row grid.now.rows 0) }
+{
+    match grid.iter_rows().next() {
+        Some(line) => line.filter(|y| **y == x).count(),
+        None => 0,
+    }
+}
+
 /// Whether a cell of column c is x.
 pub fn column_has<A: Allocator>(grid: &Grid<u32, A>, c: usize, x: u32) -> bool
     requires { c < cols_of grid.now.rows }
@@ -129,6 +139,7 @@ mod tests {
             assert!(rt; 1 < board.rows());
             assert_eq!(rt; count_in_row(board, 1, 5), 1);
             assert_eq!(rt; count_in_row(board, 1, 2), 0);
+            assert_eq!(rt; count_in_first_row(board, 2), 1);
             board.fill_with(|| 5);
             assert!(rt; 1 < board.rows());
             assert_eq!(rt; count_in_row(board, 1, 5), 3);

@@ -39,8 +39,8 @@ impl<T, A: Allocator> Grid<T, A> {
     /// No line is empty; on a nonempty grid the length of each is the number of columns, on an empty grid all have one
     /// length and become its rows. No lines change nothing, and take no memory. Refused as too large where the cells
     /// would pass `usize::MAX`, which is decided first, and for memory, which is had for all lines before the first
-    /// change: then the lines come back, and the grid is as it was. Row-major it moves each cell at most twice,
-    /// column-major at most about log2(columns) times.
+    /// change: then the lines come back, and the grid is as it was. Row-major it takes time in the number of cells,
+    /// column-major in that times log2(columns).
     pub fn insert_rows(
         &mut self,
         at: usize,
@@ -92,8 +92,8 @@ impl<T, A: Allocator> Grid<T, A> {
     /// No line is empty; on a nonempty grid the length of each is the number of rows, on an empty grid all have one
     /// length and become its columns. No lines change nothing, and take no memory. Refused as too large where the
     /// cells would pass `usize::MAX`, which is decided first, and for memory, which is had for all lines before the
-    /// first change: then the lines come back, and the grid is as it was. Column-major it moves each cell at most
-    /// twice, row-major at most about log2(rows) times.
+    /// first change: then the lines come back, and the grid is as it was. Column-major it takes time in the number of
+    /// cells, row-major in that times log2(rows).
     pub fn insert_cols(
         &mut self,
         at: usize,

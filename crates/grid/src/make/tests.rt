@@ -44,6 +44,28 @@ fn limits(rt: HostRuntime) -> Result<(), Fail> {
 }
 
 #[test]
+fn limits_in_column_major(rt: HostRuntime) -> Result<(), Fail> {
+    let alloc = rt.alloc();
+    assert_eq!(rt;
+        Grid::<u8>::new_with_order(alloc, 4294967296, 4294967296, Order::ColumnMajor).err(),
+        Some(GridError::TooLarge)
+    );
+    assert_eq!(rt;
+        Grid::<u8>::new_with_order(alloc, 4294967295, 4294967297, Order::ColumnMajor).err(),
+        Some(GridError::Memory)
+    );
+    assert_eq!(rt;
+        Grid::init_with_order(alloc, usize::MAX, 2, Order::ColumnMajor, 3u8).err(),
+        Some(GridError::TooLarge)
+    );
+    assert_eq!(rt;
+        Grid::<u8>::with_capacity_and_order(alloc, usize::MAX, 2, Order::ColumnMajor).err(),
+        Some(GridError::TooLarge)
+    );
+    Ok(())
+}
+
+#[test]
 fn cells_are_defaults_or_the_value(rt: HostRuntime) -> Result<(), Fail> {
     let zeros = Grid::<u8>::new(rt.alloc(), 2, 3)?;
     assert_eq!(rt; (zeros.size(), zeros.order()), ((2, 3), Order::RowMajor));

@@ -20,7 +20,7 @@ impl<T, A: Allocator> Grid<T, A> {
 
     /// The cells of column c, which is in range.
     ///
-    /// In row-major order a step passes over the cells of a row.
+    /// In row-major order each step takes time in the number of columns, since `StepBy` passes each cell that it skips.
     pub fn iter_col(&self, c: usize) -> StepBy<slice::Iter<'_, T>>
         requires { c < cols_of self.now.rows }
         ensures rest { line_rest result ≡ row (turned self.now.rows) c }
@@ -42,9 +42,10 @@ impl<T, A: Allocator> Grid<T, A> {
         self.flat.line_mut(start, end, stride)
     }
 
-    /// The columns, each as [`iter_col`](Grid::iter_col) gives it.
+    /// The columns, each as [`iter_col`](Grid::iter_col) gives it, with the same cost of a step along it.
     pub fn iter_cols(&self) -> GridColIter<'_, T, A>
         ensures rest { result ≡ turned self.now.rows }
+        ensures runs { LinesInOrder T }
         ensures fits { length result < 2 ^ 64 }
     {
         GridColIter {

@@ -20,7 +20,7 @@ impl<T, A: Allocator> Grid<T, A> {
 
     /// The cells of row r, which is in range.
     ///
-    /// In column-major order a step passes over the cells of a column.
+    /// In column-major order each step takes time in the number of rows, since `StepBy` passes each cell that it skips.
     pub fn iter_row(&self, r: usize) -> StepBy<slice::Iter<'_, T>>
         requires { r < rows_of self.now.rows }
         ensures rest { line_rest result ≡ row self.now.rows r }
@@ -41,9 +41,10 @@ impl<T, A: Allocator> Grid<T, A> {
         self.flat.line_mut(start, end, stride)
     }
 
-    /// The rows, each as [`iter_row`](Grid::iter_row) gives it.
+    /// The rows, each as [`iter_row`](Grid::iter_row) gives it, with the same cost of a step along it.
     pub fn iter_rows(&self) -> GridRowIter<'_, T, A>
         ensures rest { result ≡ self.now.rows }
+        ensures runs { LinesInOrder T }
         ensures fits { length result < 2 ^ 64 }
     {
         GridRowIter {

@@ -4,7 +4,7 @@ ghost use Rattle.std.specs.Fn.{FnReturnsAt};
 ghost use Rattle.grid_base.specs.Table.{rows_of, cols_of, IsTable};
 ghost use Rattle.grid_base.specs.Order.{storage};
 ghost use Rattle.grid_base.specs.Answers.{Answers, Gives, Pairs};
-ghost use Rattle.grid.specs.Make.{ClonesAreEqual};
+ghost use Rattle.grid_base.specs.Clones.{ClonesAreEqual};
 ghost use Rattle.grid.specs.Wholes.{filled};
 
 use crate::Grid;
@@ -82,6 +82,9 @@ impl<T, A: Allocator> Grid<T, A> {
     }
 
     /// The grid of the closure's answers at references to the cells, in storage order, of the same size and order.
+    ///
+    /// Memory is taken once, before the first call. Where it is refused the closure wasn't called; this grid is as it
+    /// was in any case.
     pub fn map_ref<U, F: Fn(&T) -> U>(&self, f: F) -> Result<Grid<U, A>, AllocError>
     where
         U: Drop,

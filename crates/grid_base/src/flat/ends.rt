@@ -11,7 +11,7 @@ impl<T, A: Allocator> Flat<T, A> {
         self.cells.allocator()
     }
 
-    /// Moves the cells of `line` to the end.
+    /// Moves the cells of `line` to the end. A refusal leaves both vectors as they were.
     pub fn append(&mut self, line: &mut Vec<T, A>) -> Result<(), AllocError>
         ensures ok { OnOk result (self.new ≡ self.old ++ line.old.items) }
         ensures moved { OnOk result (line.new.items ≡ []) }
@@ -21,7 +21,7 @@ impl<T, A: Allocator> Flat<T, A> {
         self.cells.append(line)
     }
 
-    /// Puts `count` default cells at the end. The memory for all of them is had first.
+    /// Puts `count` default cells at the end. The memory for all of them is had first, and a refusal changes nothing.
     pub fn append_defaults(&mut self, count: usize) -> Result<(), AllocError>
     where
         T: Default,

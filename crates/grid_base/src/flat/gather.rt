@@ -8,7 +8,9 @@ use super::{Flat, Order};
 use std::alloc::{AllocError, Allocator};
 
 impl<T, A: Allocator> Flat<T, A> {
-    /// Moves the cells of rows of `width` cells to the end, in storage order. The memory for all of them is had first.
+    /// Moves the cells of rows of `width` cells to the end, in storage order.
+    ///
+    /// The memory for all of them is had first, and a refusal leaves this vector and the rows as they were.
     pub fn append_rows(
         &mut self,
         order: Order,

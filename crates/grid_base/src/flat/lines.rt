@@ -9,6 +9,8 @@ use std::alloc::Allocator;
 
 impl<T, A: Allocator> Flat<T, A> {
     /// Puts the groups of `count` cells that stand behind the lines into their lines, each before place `at`.
+    ///
+    /// By rotations of halves: it takes time in the number of cells times log2(lines), and no memory.
     pub fn weave(&mut self, lines: usize, width: usize, at: usize, count: usize)
         requires cells { length self.old ≡ lines * width + lines * count }
         requires fits { lines * width + lines * count < 2 ^ 64 }
@@ -19,6 +21,8 @@ impl<T, A: Allocator> Flat<T, A> {
     }
 
     /// Takes the `count` cells from place `at` on out of each line, and puts them behind the lines.
+    ///
+    /// By rotations of halves, at the cost of [`weave`](Flat::weave), and without memory.
     pub fn unweave(&mut self, lines: usize, width: usize, at: usize, count: usize)
         requires cells { length self.old ≡ lines * (width + count) }
         requires fits { lines * (width + count) < 2 ^ 64 }

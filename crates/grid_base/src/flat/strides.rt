@@ -2,9 +2,9 @@
 ghost use Rattle.std.specs.Prelude.{◌≡◌, ◌<◌, ◌≤◌, length, IfSome, Some};
 ghost use Rattle.std.specs.Borrow.{sem};
 ghost use Rattle.std.specs.Iterator.{YieldsFirstMut, item_count, UpTo, at_most};
-ghost use Rattle.std.specs.Iterator.Runs.{YieldsMutRefsInOrder};
+ghost use Rattle.std.specs.Iterator.Runs.{YieldsMutRefsInOrder, YieldsMutRefsInReverse};
 ghost use Rattle.std.specs.Iterator.SizeHint.{IsWithinCount};
-ghost use Rattle.std.specs.Slice.Iter.{iter_mut_rest, iter_mut_steps};
+ghost use Rattle.std.specs.Slice.Iter.{iter_mut_rest, iter_mut_steps, iter_mut_steps_back};
 ghost use Rattle.grid_base.specs.Strides.{strided, line_rest, LinesInOrder};
 
 use super::Flat;
@@ -21,6 +21,7 @@ impl<T, A: Allocator> Flat<T, A> {
         ensures* writes_back { sem 𝓛 (lends_cells T.row A.row A.Allocator self.entry result) }
         ensures rest { iter_mut_rest result ≡ self.old }
         ensures runs { YieldsMutRefsInOrder (iter_mut_steps {A = T}) iter_mut_rest }
+        ensures runs_back { YieldsMutRefsInReverse (iter_mut_steps_back {A = T}) iter_mut_rest }
     {
         self.cells.as_mut_slice().iter_mut()
     }

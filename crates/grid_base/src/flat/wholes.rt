@@ -2,6 +2,7 @@
 ghost use Rattle.std.specs.Prelude.{◌≡◌, length, replicate, IsOk, IfOk, IfErr, OnOk, OnErr};
 ghost use Rattle.std.specs.Fn.{FnReturnsAt};
 ghost use Rattle.grid_base.specs.Answers.{Answers, Gives, Pairs};
+ghost use Rattle.grid_base.specs.Clones.{ClonesAreEqual};
 
 use super::Flat;
 use std::alloc::{AllocError, Allocator};
@@ -15,7 +16,7 @@ impl<T, A: Allocator> Flat<T, A> {
     where
         T: Clone,
         A: Clone,
-        requires clones { (x y : T) → T.is_clone x y → y ≡ x }
+        requires clones { ClonesAreEqual T.is_clone }
         ensures ok { OnOk result (self.new ≡ replicate (length self.old) value) }
         ensures err { OnErr result (self.new ≡ self.old) }
         ensures none { length self.old ≡ 0 → IsOk result }

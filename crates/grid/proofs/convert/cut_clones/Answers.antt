@@ -1,6 +1,6 @@
 use Rattle.std.proofs.Common.{◌≡◌, ◌∙◌, sym, refl, length, arith}
 use Rattle.std.proofs.lemmas.List.Elements.{length_all_zip, same_from_all_zip}
-use Rattle.grid.specs.Make.{ClonesAreEqual}
+use Rattle.grid_base.specs.Clones.{ClonesAreEqual}
 use Rattle.grid.proofs.Joins.{refused, CanCut-same, cut_memory, cut_shape}
 use Rattle.grid.proofs.convert.cut_clones.Goals as goal
 

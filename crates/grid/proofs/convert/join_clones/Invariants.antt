@@ -1,6 +1,6 @@
 use Rattle.std.proofs.Common.{◌≡◌, length, map, take}
 use Rattle.grid_base.specs.Table.{joined}
-use Rattle.grid.specs.Make.{ClonesAreEqual}
+use Rattle.grid_base.specs.Clones.{ClonesAreEqual}
 use Rattle.grid.proofs.convert.join_clones.Given as goal
 
 abbrev pub invariant-loop-row : goal.invariant-loop-row

@@ -1,17 +1,21 @@
 //! Walks of every kind that are dropped after one item from each end.
-use crate::Grid;
+use crate::{Grid, Order};
 use std::alloc::{AllocError, Global};
 use std::process::Abort;
 use std::test::Fail;
 
 // [["a", "b", "c"], ["d", "e", "f"]]
-fn letters(rt: &impl Abort, alloc: Global) -> Result<Grid<String>, AllocError> {
+fn letters(rt: &impl Abort, alloc: Global, order: Order) -> Result<Grid<String>, AllocError> {
     let mut cells = Vec::new(alloc);
-    for letter in ["a", "b", "c", "d", "e", "f"] {
+    let stored = match order {
+        Order::RowMajor => ["a", "b", "c", "d", "e", "f"],
+        Order::ColumnMajor => ["a", "d", "b", "e", "c", "f"],
+    };
+    for letter in stored {
         cells.push(String::from_str(alloc, letter)?)?;
     }
     assert!(rt; cells.len() == 6);
-    let grid = Grid::from_vec(cells, 3);
+    let grid = Grid::from_vec_with_order(cells, 3, order);
     assert_eq!(rt; grid.size(), (2, 3));
     Ok(grid)
 }
@@ -35,112 +39,125 @@ fn is_text(cell: Option<&String>, want: &str) -> bool {
 #[test]
 fn reading_cells(rt: HostRuntime) -> Result<(), Fail> {
     let alloc = rt.alloc();
-    let mut grid = letters(&rt, alloc)?;
-    let mut walk = grid.iter();
-    assert!(rt; is_text(walk.next(), "a"));
-    assert!(rt; is_text(walk.next_back(), "f"));
-    drop(walk);
-    let mut walk = (&grid).into_iter();
-    assert!(rt; is_text(walk.next(), "a"));
-    assert!(rt; is_text(walk.next_back(), "f"));
-    drop(walk);
-    let mut walk = grid.indexed_iter();
-    assert!(rt; walk.next().is_some());
-    drop(walk);
-    grid.flip_rows();
-    assert_eq!(rt; texts(alloc, &grid)?.as_str(), "defabc");
+    for (order, want) in [(Order::RowMajor, "defabc"), (Order::ColumnMajor, "daebfc")] {
+        let mut grid = letters(&rt, alloc, order)?;
+        let mut walk = grid.iter();
+        assert!(rt; is_text(walk.next(), "a"));
+        assert!(rt; is_text(walk.next_back(), "f"));
+        drop(walk);
+        let mut walk = (&grid).into_iter();
+        assert!(rt; is_text(walk.next(), "a"));
+        assert!(rt; is_text(walk.next_back(), "f"));
+        drop(walk);
+        let mut walk = grid.indexed_iter();
+        assert!(rt; walk.next().is_some());
+        drop(walk);
+        grid.flip_rows();
+        assert_eq!(rt; texts(alloc, &grid)?.as_str(), want);
+    }
     Ok(())
 }
 
 #[test]
 fn reading_lines(rt: HostRuntime) -> Result<(), Fail> {
     let alloc = rt.alloc();
-    let mut grid = letters(&rt, alloc)?;
-    let (rows, cols) = grid.size();
-    assert!(rt; 1 < rows && 1 < cols);
-    let mut line = grid.iter_row(1);
-    assert!(rt; is_text(line.next(), "d"));
-    drop(line);
-    let mut line = grid.iter_col(1);
-    assert!(rt; is_text(line.next(), "b"));
-    drop(line);
-    let mut lines = grid.iter_rows();
-    match (lines.next(), lines.next_back()) {
-        (Some(mut first), Some(mut last)) => {
-            assert!(rt; is_text(first.next(), "a"));
-            assert!(rt; is_text(last.next(), "d"));
+    for (order, want) in [(Order::RowMajor, "cbafed"), (Order::ColumnMajor, "cfbead")] {
+        let mut grid = letters(&rt, alloc, order)?;
+        let (rows, cols) = grid.size();
+        assert!(rt; 1 < rows && 1 < cols);
+        let mut line = grid.iter_row(1);
+        assert!(rt; is_text(line.next(), "d"));
+        assert!(rt; is_text(line.next_back(), "f"));
+        drop(line);
+        let mut line = grid.iter_col(1);
+        assert!(rt; is_text(line.next(), "b"));
+        assert!(rt; is_text(line.next_back(), "e"));
+        drop(line);
+        let mut lines = grid.iter_rows();
+        match (lines.next(), lines.next_back()) {
+            (Some(mut first), Some(mut last)) => {
+                assert!(rt; is_text(first.next(), "a"));
+                assert!(rt; is_text(last.next_back(), "f"));
+            }
+            _ => panic!(rt; "two rows were left"),
         }
-        _ => panic!(rt; "two rows were left"),
-    }
-    drop(lines);
-    let mut lines = grid.iter_cols();
-    match (lines.next(), lines.next_back()) {
-        (Some(mut first), Some(mut last)) => {
-            assert!(rt; is_text(first.next(), "a"));
-            assert!(rt; is_text(last.next(), "c"));
+        drop(lines);
+        let mut lines = grid.iter_cols();
+        match (lines.next(), lines.next_back()) {
+            (Some(mut first), Some(mut last)) => {
+                assert!(rt; is_text(first.next(), "a"));
+                assert!(rt; is_text(last.next_back(), "f"));
+            }
+            _ => panic!(rt; "three columns were left"),
         }
-        _ => panic!(rt; "three columns were left"),
+        drop(lines);
+        grid.flip_cols();
+        assert_eq!(rt; texts(alloc, &grid)?.as_str(), want);
     }
-    drop(lines);
-    grid.flip_cols();
-    assert_eq!(rt; texts(alloc, &grid)?.as_str(), "cbafed");
     Ok(())
 }
 
 #[test]
 fn writing(rt: HostRuntime) -> Result<(), Fail> {
     let alloc = rt.alloc();
-    let mut grid = letters(&rt, alloc)?;
-    let mut walk = grid.iter_mut();
-    if let Some(text) = walk.next() {
-        text.push_str("1")?;
+    for (order, want) in [
+        (Order::RowMajor, "f2ed5cb6a134"),
+        (Order::ColumnMajor, "f2ceb6d5a134"),
+    ] {
+        let mut grid = letters(&rt, alloc, order)?;
+        let mut walk = grid.iter_mut();
+        if let Some(text) = walk.next() {
+            text.push_str("1")?;
+        }
+        if let Some(text) = walk.next_back() {
+            text.push_str("2")?;
+        }
+        drop(walk);
+        let mut walk = (&mut grid).into_iter();
+        if let Some(text) = walk.next() {
+            text.push_str("3")?;
+        }
+        drop(walk);
+        let mut walk = grid.indexed_iter_mut();
+        if let Some((_, text)) = walk.next() {
+            text.push_str("4")?;
+        }
+        drop(walk);
+        assert!(rt; 1 < grid.rows());
+        let mut line = grid.iter_row_mut(1);
+        if let Some(text) = line.next() {
+            text.push_str("5")?;
+        }
+        drop(line);
+        assert!(rt; 1 < grid.cols());
+        let mut line = grid.iter_col_mut(1);
+        if let Some(text) = line.next() {
+            text.push_str("6")?;
+        }
+        drop(line);
+        grid.rotate_half();
+        assert_eq!(rt; texts(alloc, &grid)?.as_str(), want);
     }
-    if let Some(text) = walk.next_back() {
-        text.push_str("2")?;
-    }
-    drop(walk);
-    let mut walk = (&mut grid).into_iter();
-    if let Some(text) = walk.next() {
-        text.push_str("3")?;
-    }
-    drop(walk);
-    let mut walk = grid.indexed_iter_mut();
-    if let Some((_, text)) = walk.next() {
-        text.push_str("4")?;
-    }
-    drop(walk);
-    assert!(rt; 1 < grid.rows());
-    let mut line = grid.iter_row_mut(1);
-    if let Some(text) = line.next() {
-        text.push_str("5")?;
-    }
-    drop(line);
-    assert!(rt; 1 < grid.cols());
-    let mut line = grid.iter_col_mut(1);
-    if let Some(text) = line.next() {
-        text.push_str("6")?;
-    }
-    drop(line);
-    grid.rotate_half();
-    assert_eq!(rt; texts(alloc, &grid)?.as_str(), "f2ed5cb6a134");
     Ok(())
 }
 
 #[test]
 fn by_value(rt: HostRuntime) -> Result<(), Fail> {
     let alloc = rt.alloc();
-    let mut walk = letters(&rt, alloc)?.into_iter();
-    assert!(rt; is_text(walk.next().as_ref(), "a"));
-    assert!(rt; is_text(walk.next_back().as_ref(), "f"));
-    drop(walk);
-    let mut walk = letters(&rt, alloc)?.indexed_into_iter();
-    match walk.next() {
-        Some((at, text)) => {
-            assert_eq!(rt; at, (0, 0));
-            assert_eq!(rt; text.as_str(), "a");
+    for order in [Order::RowMajor, Order::ColumnMajor] {
+        let mut walk = letters(&rt, alloc, order)?.into_iter();
+        assert!(rt; is_text(walk.next().as_ref(), "a"));
+        assert!(rt; is_text(walk.next_back().as_ref(), "f"));
+        drop(walk);
+        let mut walk = letters(&rt, alloc, order)?.indexed_into_iter();
+        match walk.next() {
+            Some((at, text)) => {
+                assert_eq!(rt; at, (0, 0));
+                assert_eq!(rt; text.as_str(), "a");
+            }
+            None => panic!(rt; "six cells were left"),
         }
-        None => panic!(rt; "six cells were left"),
+        assert_eq!(rt; walk.size_hint(), (5, Some(5)));
     }
-    assert_eq!(rt; walk.size_hint(), (5, Some(5)));
     Ok(())
 }

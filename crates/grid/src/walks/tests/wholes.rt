@@ -60,7 +60,7 @@ fn fill_with_counts(rt: HostRuntime) -> Result<(), Fail> {
         (Order::RowMajor, [1u32, 2], [3u32, 4]),
         (Order::ColumnMajor, [1, 3], [2, 4]),
     ] {
-        let mut grid = grid_of(&rt, alloc, &[&[0, 0], &[0, 0]], 2, order)?;
+        let mut grid = Grid::<u32>::new_with_order(alloc, 2, 2, order)?;
         let mut count = 0u32;
         grid.fill_with(|| {
             count = count.wrapping_add(1);
