@@ -2,7 +2,6 @@
 use Rattle.std.proofs.Common.{◌≡◌, ◌<◌, ◌≤◌, ℕ, List, length, refl, sym, ◌∙◌, ap, arith, inl, inr, ⊎_elim, Bool, true, false, IsTrue, ◌↔◌, ◌+◌, if◌then◌else◌, Result, Ok, Err, OnOk, OnErr}
 use Rattle.std.specs.List.{insert, remove}
 use Rattle.std.proofs.lemmas.Bool.{cases_lt}
-use Rattle.grid.proofs.ColSizes.{remove_between}
 use Rattle.grid.proofs.NoneTaken.{remove-past, take_cols-past}
 use Rattle.grid_base.specs.declared.words.Symmetry.TheVariants.{Transpose}
 use Rattle.grid_base.specs.Table.{rows_of, cols_of, IsTable}
@@ -13,7 +12,7 @@ use Rattle.grid_base.proofs.Views.{same_sheet, flipped-flipped}
 use Rattle.grid_base.proofs.Acts.{rows-act}
 use Rattle.grid.specs.Edit.{FitsRow, FitsCol, put_rows, put_col, put_cols, take_rows, take_cols}
 use Rattle.grid.specs.Shift.{delete_rows_shift, delete_cols_shift}
-use Rattle.grid.proofs.EditViews.{put_line}
+use Rattle.grid.proofs.EditViews.{put_line, take_line}
 use Rattle.grid.proofs.Cols.{across-none, across-across, cols-across, put_col-across, put_cols-across, take_cols-across, ColumnFits, ColumnsFit}
 
 -- a fact for each outcome follows from another
@@ -66,10 +65,6 @@ module _ {T : Type 0} where
       (rows_back ∙ (ap (λ s. act Transpose s.rows) same ∙ (ap (act Transpose) rows ∙ across-across old.rows h)))
       (order_back ∙ (ap (λ s. flipped s.order) same ∙ (ap flipped order ∙ flipped-flipped old.order)))
 
-  -- the order after two transposes
-  pub order_across : (old mid late new : Sheet T) → mid.order ≡ flipped old.order → late.order ≡ mid.order → new.order ≡ flipped late.order → new.order ≡ old.order
-  order_across old mid late new order same back = back ∙ (ap flipped (same ∙ order) ∙ flipped-flipped old.order)
-
   -- rows taken between two transposes are columns
   pub cols_taken : (i k : ℕ) (found : Bool) (t mid less new : List (List T)) → IsTable t → IsTrue found ↔ (i + k ≤ cols_of t) → mid ≡ act Transpose t → new ≡ act Transpose less → less ≡ (if found then take_rows i k mid else mid) → new ≡ (if found then take_cols i k t else t)
   cols_taken i k true t mid less new h tests turned back taken =
@@ -86,7 +81,8 @@ module _ {T : Type 0} where
   pub col_removed : (i : ℕ) (t mid less new : List (List T)) → IsTable t → mid ≡ act Transpose t → new ≡ act Transpose less → less ≡ remove mid i → new ≡ take_cols i 1 t
   col_removed i t mid less new h turned back taken =
       let direct : new ≡ act Transpose (remove (act Transpose t) i) = back ∙ ap (act Transpose) (taken ∙ ap (λ v. remove v i) turned) in
-      ⊎_elim {C = new ≡ take_cols i 1 t} (λ inside. direct ∙ remove_between i t h inside)
+      ⊎_elim {C = new ≡ take_cols i 1 t}
+      (λ inside. direct ∙ (ap (act Transpose) (sym (take_line i (act Transpose t))) ∙ sym (take_cols-across i 1 t h (omega arith))))
       (λ past.
       direct
       ∙ (ap (act Transpose) (remove-past i (act Transpose t) (omega (arith, rows-act Transpose t, past)))

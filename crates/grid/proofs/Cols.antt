@@ -6,9 +6,9 @@ use Rattle.std.proofs.lemmas.List.Edits.{length-insert}
 use Rattle.std.proofs.lemmas.Option.{slice_get-get_or}
 use Rattle.std.proofs.lemmas.Bool.{cases_lt}
 use Rattle.grid_base.specs.declared.words.Symmetry.TheVariants.{Transpose}
-use Rattle.grid_base.specs.Table.{row, rows_of, cols_of, cell, IsTable, line, tabulate}
+use Rattle.grid_base.specs.Table.{row, rows_of, cols_of, cell, turned, IsTable, tabulate}
 use Rattle.grid_base.specs.Symmetry.{act}
-use Rattle.grid_base.proofs.Tables.{same_tables, row-tabulate, IsSize-table}
+use Rattle.grid_base.proofs.Tables.{same_tables, IsSize-table}
 use Rattle.grid_base.proofs.Acts.{rows-act, cols-act, cell-act, IsTable-act}
 use Rattle.grid.specs.Edit.{put_rows, take_rows, put_into_rows, put_col, put_cols, has_cells, take_cols, expanded_rows, prepended_rows, expanded_cols, prepended_cols}
 use Rattle.grid.proofs.Puts.{get-cut_before, get-cut_after, get-put_before, get-put_new, get-put_after, length-put, length-cut, put_cases}
@@ -51,10 +51,9 @@ module _ {T : Type 0} where
   unfolding act tabulate
   across-none = refl
 
-  -- row c of the turned table is column c
-  pub row-across : (t : List (List T)) (c : ℕ) → c < cols_of t → row (act Transpose t) c ≡ line (rows_of t) (λ r. cell t r c)
+  pub across-turned : (t : List (List T)) → act Transpose t ≡ turned t
   unfolding act
-  row-across t c lt = row-tabulate (cols_of t) (rows_of t) (λ i j. cell t j i) c lt
+  across-turned t = refl
 
   -- a cell put into each row of a table
   length-put_into : (i : ℕ) (xs : List T) (t : List (List T)) → length xs ≡ length t → length (put_into_rows i xs t) ≡ length t

@@ -1,5 +1,5 @@
 -- What an edit of the vector by groups of cells does to the rows of its table.
-use Rattle.std.proofs.Common.{◌≡◌, ℕ, zero, suc, ◌+◌, ◌*◌, ◌<◌, ◌≤◌, List, [], ◌∷◌, ◌++◌, length, take, drop, refl, sym, ◌∙◌, ap, subst, arith, append_assoc, length-drop}
+use Rattle.std.proofs.Common.{◌≡◌, ℕ, zero, suc, ◌+◌, ◌*◌, ◌<◌, ◌≤◌, List, [], ◌∷◌, ◌++◌, length, take, drop, refl, sym, ◌∙◌, ap, arith, append_assoc, length-drop}
 use Rattle.std.specs.List.{slice_get, insert, remove}
 use Rattle.std.proofs.lemmas.List.{length-take-le, drop_more}
 use Rattle.grid_base.specs.declared.flat.order.Order.{Order}
@@ -11,7 +11,7 @@ use Rattle.grid_base.proofs.Tables.{rows-tabulate, cell-tabulate, width-tabulate
 use Rattle.grid_base.proofs.Stores.{length-storage, get-storage, IsFull-table_of, place_within, has_place, get_append_left, get_append_right}
 use Rattle.grid.specs.Edit.{put_rows, take_rows}
 use Rattle.grid.proofs.Puts.{get-take, get-drop, get_or-same}
-use Rattle.grid.proofs.Rows.{RowGroups, RowsWidened, rows_widened, rows_woven, table_by_cells, table-put, table-take, cells-groups}
+use Rattle.grid.proofs.Rows.{RowGroups, RowsWidened, rows_widened, rows_woven, table-put, table-take, cells-groups}
 
 place_of_line : (o : Order) (n c : ℕ) → place o 1 n 0 c ≡ c
 place_of_line RowMajor n c = omega arith
@@ -73,14 +73,6 @@ module _ {T : Type 0} where
         ∙ (get_append_right cells behind (m * n + place o k n j c) (place o k n j c) (omega (arith, len)) ∙ get-storage_at o k n lines j c h em en lj lc))
         (λ r c ge lm lc. wide.after r c ge lm lc
         ∙ (get_append_left cells behind (place o m n r c) (omega (arith, len, place_within o m n r c lm lc)) ∙ cell-cut r c lm lc))
-
-    -- the same of one row
-    pub view-insert_row : (i p q a g : ℕ) (line new : List T) → RowGroups o m n i 1 p q a g → 0 < n → length line ≡ n → i ≤ m → Woven p q a g (cells ++ line) new → table_of o (m + 1) n new ≡ insert (table_of o m n cells) i line
-    view-insert_row i p q a g line new e some en le w =
-        let within : 0 < length line = omega arith in
-        view-put_rows i 1 p q a g (line ∷ []) new e (IsTable-line line within) refl en le
-        (subst (λ x. Woven p q a g (cells ++ x) new) (sym (storage-line o line within)) w)
-        ∙ put_line i line (table_of o m n cells)
 
   -- the table of rest + k rows that is cut from old, of which k rows from i on are taken
   module _ (o : Order) (n i k rest : ℕ) (old : List T) (len : length old ≡ (rest + k) * n) (le : i ≤ rest) where
@@ -172,9 +164,6 @@ module _ {T : Type 0} where
         ∙ (ap (storage o) (take-one t i (omega (arith, rows-cut o m n old len)))
         ∙ storage-line o (row t i) (omega (arith, width-cut o m n old len i lt)))
 
-    pub view-close_row : (new : List T) → Closed p q a g new old → table_of o rest n new ≡ remove (table_of o m n old) i
-    view-close_row new w = view-close_rows o m n i 1 rest old size len (omega arith) p q a g new e w ∙ take_line i (table_of o m n old)
-
   -- how many cells are left
   pub cells-closed : (o : Order) (m n i k p q a g : ℕ) (short long : List T) → RowGroups o m n i k p q a g → Closed p q a g short long → length short ≡ m * n
   cells-closed o m n i k p q a g short long e w = w.lengths ∙ cells-groups o m n i k p q a g e
@@ -184,13 +173,6 @@ pub table_of-no_rows : {T : Type 0} (o : Order) (n : ℕ) (cells : List T) → t
 unfolding tabulate
 table_of-no_rows o n cells = refl
 
--- a table is cut from its storage
-pub table_of-storage : {T : Type 0} (o : Order) (t : List (List T)) → IsTable t → table_of o (rows_of t) (cols_of t) (storage o t) ≡ t
-table_of-storage o t h = table_by_cells o (rows_of t) (cols_of t) (storage o t) t refl h.even (λ r lr c lc. get-storage o t r c h lr lc)
-
-pub table_of-line : {T : Type 0} (o : Order) (line : List T) → 0 < length line → table_of o 1 (length line) line ≡ line ∷ []
-table_of-line o line some = ap (table_of o 1 (length line)) (sym (storage-line o line some)) ∙ table_of-storage o (line ∷ []) (IsTable-line line some)
-
 -- groups at the end of one line stand where they are
 module _ {T : Type 0} (q k : ℕ) (cells : List T) where
   at_end : Widened 1 q q k cells cells
@@ -198,14 +180,6 @@ module _ {T : Type 0} (q k : ℕ) (cells : List T) where
       record {
         before = λ l j ll lj li. let z : l ≡ 0 = omega arith in rw z (let e : 0 * (q + k) + j ≡ 0 * q + j = omega arith in ap (slice_get cells) e);
         after = λ l j ll lj le. absurd (omega arith);
-      }
-
-  pub woven_at_end : Woven 1 q q k cells cells
-  woven_at_end =
-      record {
-        lengths = refl;
-        lines = at_end;
-        groups = λ l j ll lj. let z : l ≡ 0 = omega arith in rw z (let e : 0 * (q + k) + (q + j) ≡ 1 * q + (0 * k + j) = omega arith in ap (slice_get cells) e);
       }
 
   pub opened_at_end : length cells ≡ q + k → Opened 1 q q k cells cells
@@ -217,19 +191,4 @@ module _ {T : Type 0} (q k : ℕ) (cells : List T) where
             let z : l ≡ 0 = omega arith in
             let e : l * (q + k) + (q + j) ≡ q + j = rw z (omega arith) in
             (q + j, omega arith, omega arith, ap (slice_get cells) e);
-      }
-
-  pub closed_at_end : q ≤ length cells → Closed 1 q q k (take q cells) cells
-  closed_at_end le =
-      record {
-        lengths = length-take-le q cells le ∙ omega arith;
-        lines =
-            record {
-              before = λ l j ll lj li.
-                  let z : l ≡ 0 = omega arith in
-                  let e : l * (q + k) + j ≡ j = rw z (omega arith) in
-                  let f : j ≡ l * q + j = rw z (omega arith) in
-                  ap (slice_get cells) e ∙ (sym (get-take q cells j lj) ∙ ap (slice_get (take q cells)) f);
-              after = λ l j ll lj le. absurd (omega arith);
-            };
       }

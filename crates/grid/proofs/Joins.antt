@@ -14,7 +14,7 @@ use Rattle.grid_base.proofs.Views.{same_by_storage, none_by_storage}
 use Rattle.grid.specs.declared.error.ShapeError.{ShapeError}
 use Rattle.grid.specs.declared.error.ShapeError.TheVariants.{Memory}
 use Rattle.grid.proofs.Made.{CanCut-cells}
-use Rattle.grid.specs.Rows.{HasShape, AreEven, CanJoin, equal_rows, CutAnswer, RowsAnswer}
+use Rattle.grid.specs.Rows.{HasShape, AreEven, CanJoin, equal_rows, CutAnswer}
 
 -- a test that failed refuses what it is true of
 pub refused : (len k cols : ℕ) (b : Bool) → k ≡ len → (CanCut k cols → IsTrue b) → b ≡ false → CanCut len cols → ⊥
@@ -32,10 +32,6 @@ pub cut_memory : {T : Type 0} (memory : Type 0) (cells : List T) (n : ℕ) (P : 
 cut_memory memory cells n P (Ok x) h e = absurd e
 cut_memory memory cells n P (Err x) h e = rw e h
 
-pub rows_memory : {T : Type 0} (rows : List (List T)) (P : List (List T) → Type 0) (r : Result (Sheet T) ShapeError) → CanJoin rows → IsErrAnd r (λ e. e ≡ Memory) → RowsAnswer rows P r
-rows_memory rows P (Ok x) h e = absurd e
-rows_memory rows P (Err x) h e = rw e h
-
 -- cells that were cut have the shape
 pub cut_shape : {T : Type 0} (cells : List T) (len n : ℕ) (g : Sheet T) → g.order ≡ RowMajor → IsTable g.rows → storage RowMajor g.rows ≡ cells → (length cells ≢ 0 → cols_of g.rows ≡ n) → length cells ≡ len → HasShape len n g
 cut_shape cells len n g order table stored cols count = record {
@@ -51,9 +47,6 @@ row-map f rows k x lt is = get_or-map f rows k x [] lt ∙ ap f (sym is)
 
 pub joined_more : {L T : Type 0} (f : L → List T) (rows : List L) (i : ℕ) (x : L) → i < length rows → x ≡ get_or rows i x → joined (map f (take (i + 1) rows)) ≡ joined (map f (take i rows)) ++ f x
 joined_more f rows i x lt is = rw (take_more rows i x lt, ← is, map-append, flat_map-append, append-nil)
-
-pub joined_last : {L T : Type 0} (f : L → List T) (rows : List L) (x : L) → joined (map f (rows ++ x ∷ [])) ≡ joined (map f rows) ++ f x
-joined_last f rows x = rw (map-append, flat_map-append, append-nil)
 
 -- how many cells even rows have
 pub length-even : {T : Type 0} (rows : List (List T)) → AreEven rows → length (joined rows) ≡ rows_of rows * cols_of rows

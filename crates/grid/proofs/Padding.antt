@@ -1,20 +1,19 @@
 -- What opened groups of fresh cells are in the table: rows of padding.
-use Rattle.std.proofs.Common.{◌≡◌, ℕ, zero, suc, ◌+◌, ◌*◌, ◌-◌, ◌<◌, ◌≤◌, Option, Some, List, [], ◌∷◌, ◌++◌, length, take, drop, replicate, refl, sym, ◌∙◌, ap, subst, arith, is_some, length-append, length-drop}
+use Rattle.std.proofs.Common.{◌≡◌, ℕ, zero, suc, ◌+◌, ◌*◌, ◌-◌, ◌<◌, ◌≤◌, Option, Some, List, [], ◌∷◌, length, take, drop, replicate, refl, sym, ◌∙◌, ap, subst, arith, is_some, length-drop}
 use Rattle.std.specs.List.{slice_get, All}
-use Rattle.std.proofs.lemmas.List.{length-take-le, ext_get_or, length-replicate, take_at, drop_at}
+use Rattle.std.proofs.lemmas.List.{length-take-le}
 use Rattle.std.proofs.lemmas.List.Elements.{All-nil, All-cons, All-head, All-tail, All-get_or, All-from_get_or}
 use Rattle.std.proofs.lemmas.Option.{get_or_from_slice_get}
 use Rattle.grid_base.specs.declared.flat.order.Order.{Order}
-use Rattle.grid_base.specs.Table.{row, rows_of, cols_of, cell, tabulate}
+use Rattle.grid_base.specs.Table.{row, rows_of, cell, tabulate}
 use Rattle.grid_base.specs.Order.{place, table_of}
 use Rattle.grid_base.specs.Lines.{Opened}
 use Rattle.grid_base.proofs.Tables.{rows-tabulate, cell-tabulate, width-tabulate, IsFull, IsSome_within}
 use Rattle.grid_base.proofs.Stores.{place_within}
-use Rattle.grid.specs.Edit.{put_rows, expanded_rows, prepended_rows}
+use Rattle.grid.specs.Edit.{put_rows}
 use Rattle.grid.proofs.Puts.{get-take, get-drop}
 use Rattle.grid.proofs.Rows.{RowGroups, HasWidth, rows_widened, rows_opened, table-put}
 use Rattle.grid.proofs.EditViews.{rows-cut, width-cut, cell-cut}
-use Rattle.grid.proofs.Sizes.{copies, row-copies, expanded-put, prepended-put}
 
 module _ {T : Type 0} where
   pub holds_at : (P : T → Type 0) (ys : List T) (y : ℕ) (x : T) → All P ys → y < length ys → slice_get ys y ≡ Some x → P x
@@ -89,57 +88,3 @@ module _ {T : Type 0} where
 
     pub All-all_fresh : (P : T → Type 0) → All P (drop (m * n) before) → All (All P) h.fresh
     All-all_fresh P all = All-from_get_or (All P) h.fresh [] (λ j lt. All-fresh P all j (omega (arith, h.rows)))
-
-    pub fresh-copies : (d : T) → All (λ x. x ≡ d) (drop (m * n) before) → h.fresh ≡ copies k n d
-    fresh-copies d all =
-        ext_get_or [] h.fresh (copies k n d) (h.rows ∙ sym (length-replicate k (replicate n d)))
-        (λ j lt.
-        let l : j < k = omega (arith, h.rows) in
-        replicate_from_all d (row h.fresh j) n (All-fresh (λ x. x ≡ d) all j l) (h.widths j lt) ∙ sym (row-copies k n d j l))
-
-    pub put-copies : (d : T) → All (λ x. x ≡ d) (drop (m * n) before) → table_of o (m + k) n new ≡ put_rows i (copies k n d) (table_of o m n (take (m * n) before))
-    put-copies d all = h.put ∙ ap (λ v. put_rows i v (table_of o m n (take (m * n) before))) (fresh-copies d all)
-
-  module _ (o : Order) (m n k p q a g : ℕ) (before new : List T) (len : m * n ≤ length before) (some : 0 < m) (d : T) (all : All (λ x. x ≡ d) (drop (m * n) before)) (h : Opened p q a g before new) where
-    size : length (take (m * n) before) ≡ m * n
-    size = length-take-le (m * n) before len
-
-    rows : rows_of (table_of o m n (take (m * n) before)) ≡ m
-    rows = rows-cut o m n (take (m * n) before) size
-
-    cols : cols_of (table_of o m n (take (m * n) before)) ≡ n
-    cols = width-cut o m n (take (m * n) before) size 0 some
-
-    -- rows of d at the end, and at the beginning
-    pub view-expand_rows : RowGroups o m n m k p q a g → table_of o (m + k) n new ≡ expanded_rows k d (table_of o m n (take (m * n) before))
-    view-expand_rows e =
-        let t = table_of o m n (take (m * n) before) in
-        put-copies o m n m k before new (view-open_rows o m n m k p q a g before new e len (omega arith) h) d all
-        ∙ sym (expanded-put k d t (omega (arith, rows)) ∙ (ap (λ x. put_rows (rows_of t) (copies k x d) t) cols ∙ ap (λ x. put_rows x (copies k n d) t) rows))
-
-    pub view-prepend_rows : RowGroups o m n 0 k p q a g → table_of o (m + k) n new ≡ prepended_rows k d (table_of o m n (take (m * n) before))
-    view-prepend_rows e =
-        let t = table_of o m n (take (m * n) before) in
-        put-copies o m n 0 k before new (view-open_rows o m n 0 k p q a g before new e len (omega arith) h) d all
-        ∙ sym (prepended-put k d t (omega (arith, rows)) ∙ ap (λ x. put_rows 0 (copies k x d) t) cols)
-
-  -- the same where the fresh cells were appended to those of the table
-  module _ (o : Order) (m n k p q a g : ℕ) (cells extra new : List T) (len : length cells ≡ m * n) where
-    front : take (m * n) (cells ++ extra) ≡ cells
-    front = take_at cells extra (m * n) len
-
-    back : drop (m * n) (cells ++ extra) ≡ extra
-    back = drop_at cells extra (m * n) len
-
-    long : m * n ≤ length (cells ++ extra)
-    long = omega (arith, length-append cells extra)
-
-    pub view-expand_appended : 0 < m → (d : T) → All (λ x. x ≡ d) extra → Opened p q a g (cells ++ extra) new → RowGroups o m n m k p q a g → table_of o (m + k) n new ≡ expanded_rows k d (table_of o m n cells)
-    view-expand_appended some d all h e =
-        view-expand_rows o m n k p q a g (cells ++ extra) new long some d (subst (λ v. All (λ x. x ≡ d) v) (sym back) all) h e
-        ∙ ap (λ v. expanded_rows k d (table_of o m n v)) front
-
-    pub view-prepend_appended : 0 < m → (d : T) → All (λ x. x ≡ d) extra → Opened p q a g (cells ++ extra) new → RowGroups o m n 0 k p q a g → table_of o (m + k) n new ≡ prepended_rows k d (table_of o m n cells)
-    view-prepend_appended some d all h e =
-        view-prepend_rows o m n k p q a g (cells ++ extra) new long some d (subst (λ v. All (λ x. x ≡ d) v) (sym back) all) h e
-        ∙ ap (λ v. prepended_rows k d (table_of o m n v)) front

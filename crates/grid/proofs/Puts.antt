@@ -1,7 +1,7 @@
 -- Lists into which a part is put, and from which a part is taken.
-use Rattle.std.proofs.Common.{◌≡◌, ℕ, zero, suc, ◌+◌, ◌-◌, ◌<◌, ◌≤◌, List, [], ◌∷◌, ◌++◌, length, get_or, take, drop, unwrap_or, refl, sym, ◌∙◌, ap, subst, arith, append_assoc, length-append, length-drop, ⊎_elim}
+use Rattle.std.proofs.Common.{◌≡◌, ℕ, zero, suc, ◌+◌, ◌-◌, ◌<◌, ◌≤◌, List, [], ◌∷◌, ◌++◌, length, get_or, take, drop, unwrap_or, refl, sym, ◌∙◌, ap, subst, arith, length-append, length-drop, ⊎_elim}
 use Rattle.std.specs.List.{slice_get}
-use Rattle.std.proofs.lemmas.List.{length-take-le, take_at, drop_at, take-append-drop, take_all, drop_all, append-nil}
+use Rattle.std.proofs.lemmas.List.{length-take-le}
 use Rattle.std.proofs.lemmas.Option.{unwrap_or-slice_get}
 use Rattle.std.proofs.lemmas.Bool.{cases_lt}
 use Rattle.grid_base.proofs.Stores.{get_append_left, get_append_right}
@@ -49,27 +49,6 @@ module _ {X : Type 0} where
 
     pub length-put : length (take i xs ++ ys ++ drop i xs) ≡ length xs + length ys
     length-put = omega (arith, length-append (take i xs ++ ys) (drop i xs), length-front, length-drop i xs)
-
-    -- taking the part out again, and the part itself
-    pub cut-put : take i (take i xs ++ ys ++ drop i xs) ++ drop (i + length ys) (take i xs ++ ys ++ drop i xs) ≡ xs
-    cut-put =
-        let front : take i (take i xs ++ ys ++ drop i xs) ≡ take i xs = ap (take i) (append_assoc (take i xs) ys (drop i xs)) ∙ take_at (take i xs) (ys ++ drop i xs) i (length-take-le i xs in_list) in
-        let back : drop (i + length ys) (take i xs ++ ys ++ drop i xs) ≡ drop i xs = drop_at (take i xs ++ ys) (drop i xs) (i + length ys) length-front in
-        ap (λ v. v ++ drop (i + length ys) (take i xs ++ ys ++ drop i xs)) front ∙ (ap (λ v. take i xs ++ v) back ∙ take-append-drop i xs)
-
-    pub part-put : take (length ys) (drop i (take i xs ++ ys ++ drop i xs)) ≡ ys
-    part-put =
-        ap (λ v. take (length ys) (drop i v)) (append_assoc (take i xs) ys (drop i xs))
-        ∙ (ap (take (length ys)) (drop_at (take i xs) (ys ++ drop i xs) i (length-take-le i xs in_list)) ∙ take_at ys (drop i xs) (length ys) refl)
-
-  -- a part put at the end, and at the beginning
-  pub put_end : (xs ys : List X) (n : ℕ) → length xs ≡ n → take n xs ++ ys ++ drop n xs ≡ xs ++ ys
-  put_end xs ys n e =
-      ap (λ v. v ++ ys ++ drop n xs) (take_all n xs (omega arith))
-      ∙ (ap (λ v. xs ++ ys ++ v) (drop_all n xs (omega arith)) ∙ append-nil (xs ++ ys))
-
-  pub put_front : (xs ys : List X) → take 0 xs ++ ys ++ drop 0 xs ≡ ys ++ xs
-  put_front xs ys = refl
 
   pub length-cut : (xs : List X) (i k : ℕ) → i + k ≤ length xs → length (take i xs ++ drop (i + k) xs) + k ≡ length xs
   length-cut xs i k le = omega (arith, length-append (take i xs) (drop (i + k) xs), length-take-le i xs (omega arith), length-drop (i + k) xs)

@@ -18,8 +18,7 @@ use Rattle.grid.proofs.Seen.{seen_rows, seen_cols}
 use Rattle.grid.proofs.Rows.{RowGroups}
 use Rattle.grid.proofs.Padding.{Padded, view-open_rows, All-all_fresh, replicate_from_all, All-from_gets, holds_at}
 use Rattle.grid.proofs.Sizes.{Fits-filled, factor_small, IsTable-width, put-no_lines, copies, row-copies, expanded-put, prepended-put}
-use Rattle.grid.proofs.Cols.{rows-across, cols-across, across-none, ColumnsFit, put_cols-across}
-use Rattle.grid.proofs.ColSizes.{expand_between, prepend_between}
+use Rattle.grid.proofs.Cols.{rows-across, cols-across, across-none, ColumnsFit, put_cols-across, expanded_cols-across, prepended_cols-across}
 
 -- groups that are opened are rows
 pub rows_open : {T : Type 0} (o : Order) (m n i k p q a g : ℕ) (old new : List T) → RowGroups o m n i k p q a g → m * n ≤ length old → i ≤ m → Opened p q a g old new → RowsOpened o m n i k old new
@@ -165,11 +164,11 @@ module _ {T : Type 0} (t : List (List T)) (h : IsTable t) where
 
   pub cols_expanded : (k : ℕ) (d : T) (mid late new : List (List T)) → mid ≡ act Transpose t → new ≡ act Transpose late → late ≡ expanded_rows k d mid → new ≡ expanded_cols k d t
   cols_expanded k d mid late new there back e =
-      back ∙ (ap (act Transpose) (e ∙ ap (expanded_rows k d) there) ∙ expand_between k d t h)
+      back ∙ (ap (act Transpose) (e ∙ ap (expanded_rows k d) there) ∙ sym (expanded_cols-across k d t h))
 
   pub cols_prepended : (k : ℕ) (d : T) (mid late new : List (List T)) → mid ≡ act Transpose t → new ≡ act Transpose late → late ≡ prepended_rows k d mid → new ≡ prepended_cols k d t
   cols_prepended k d mid late new there back e =
-      back ∙ (ap (act Transpose) (e ∙ ap (prepended_rows k d) there) ∙ prepend_between k d t h)
+      back ∙ (ap (act Transpose) (e ∙ ap (prepended_rows k d) there) ∙ sym (prepended_cols-across k d t h))
 
   -- where no columns are added, no rows are added to the turned table
   pub none_added : (k : ℕ) (mid : List (List T)) → mid ≡ act Transpose t → added k t ≡ 0 → added k mid ≡ 0

@@ -47,12 +47,6 @@ module _ {T : Type 0} where
     pub cols-put_lines : 0 < rows_of lines → cols_of (put_rows i lines t) ≡ cols_of lines
     cols-put_lines some = widths_by_lines some 0 (omega (arith, rows-put i lines t h.in_rows))
 
-    pub cols-put : 0 < rows_of t → cols_of (put_rows i lines t) ≡ cols_of t
-    cols-put some =
-        ⊎_elim (λ none. ap cols_of (put-no_lines i lines t none))
-        (λ more. let e : 0 < rows_of lines = omega arith in cols-put_lines e ∙ h.width some e)
-        (cases_eq (rows_of lines) 0)
-
     pub IsTable-put : IsTable (put_rows i lines t)
     IsTable-put =
         ⊎_elim (λ none. subst IsTable (sym (put-no_lines i lines t none)) h.old)
@@ -99,52 +93,6 @@ module _ {T : Type 0} where
   prepended-put k d [] some = absurd (omega arith)
   prepended-put k d (r ∷ t) some = refl
 
-  module _ (k : ℕ) (d : T) where
-    IsTable-copies : (n : ℕ) → 0 < n → IsTable (copies k n d)
-    IsTable-copies n some = IsTable-width (copies k n d) n some (HasWidth-copies k n d)
-
-    fit_copies : (i : ℕ) (t : List (List T)) → IsTable t → 0 < rows_of t → i ≤ rows_of t → LinesFit i (copies k (cols_of t) d) t
-    fit_copies i t h some le =
-        record {
-          in_rows = le;
-          old = h;
-          new = IsTable-copies (cols_of t) (h.nonempty 0 some);
-          width = λ _ e. HasWidth-copies k (cols_of t) d 0 e;
-        }
-
-    pub rows-expanded : (t : List (List T)) → 0 < rows_of t → rows_of (expanded_rows k d t) ≡ rows_of t + k
-    rows-expanded t some =
-        ap length (expanded-put k d t some)
-        ∙ (rows-put (rows_of t) (copies k (cols_of t) d) t (omega arith) ∙ ap (λ x. rows_of t + x) (length-replicate k (replicate (cols_of t) d)))
-
-    pub rows-prepended : (t : List (List T)) → 0 < rows_of t → rows_of (prepended_rows k d t) ≡ rows_of t + k
-    rows-prepended t some =
-        ap length (prepended-put k d t some)
-        ∙ (rows-put 0 (copies k (cols_of t) d) t (omega arith) ∙ ap (λ x. rows_of t + x) (length-replicate k (replicate (cols_of t) d)))
-
-    pub cols-expanded : (t : List (List T)) → cols_of (expanded_rows k d t) ≡ cols_of t
-    cols-expanded [] = refl
-    cols-expanded (r ∷ t) = refl
-
-    pub cols-prepended : (t : List (List T)) → IsTable t → cols_of (prepended_rows k d t) ≡ cols_of t
-    cols-prepended [] h = refl
-    cols-prepended (r ∷ t) h =
-        let some : 0 < rows_of (r ∷ t) = omega arith in
-        ap cols_of (prepended-put k d (r ∷ t) some) ∙ cols-put 0 (copies k (length r) d) (r ∷ t) (fit_copies 0 (r ∷ t) h some (omega arith)) some
-
-    pub IsTable-expanded : (t : List (List T)) → IsTable t → IsTable (expanded_rows k d t)
-    IsTable-expanded [] h = h
-    IsTable-expanded (r ∷ t) h =
-        let some : 0 < rows_of (r ∷ t) = omega arith in
-        let i : ℕ = rows_of (r ∷ t) in
-        subst IsTable (sym (expanded-put k d (r ∷ t) some)) (IsTable-put i (copies k (length r) d) (r ∷ t) (fit_copies i (r ∷ t) h some (omega arith)))
-
-    pub IsTable-prepended : (t : List (List T)) → IsTable t → IsTable (prepended_rows k d t)
-    IsTable-prepended [] h = h
-    IsTable-prepended (r ∷ t) h =
-        let some : 0 < rows_of (r ∷ t) = omega arith in
-        IsTable-put 0 (copies k (length r) d) (r ∷ t) (fit_copies 0 (r ∷ t) h some (omega arith))
-
 -- so many cells fill m rows and n columns
 pub Fits-filled : (m n len : ℕ) → 0 < m → 0 < n → len ≡ m * n → len < 2 ^ 64 → Fits m n len
 Fits-filled m n len rows cols e small =
@@ -155,7 +103,3 @@ pub Fits-fewer : (m n rest len part : ℕ) → Fits m n len → 0 < rest → res
 Fits-fewer m n rest len part h some le e =
     let less : rest * n ≤ m * n = mul-le-mul_right n le in
     record { cells = e; below = omega (arith, h.below); size = record { has_cols = λ _. h.size.has_cols (omega arith); has_rows = λ _. some } }
-
--- the size of a vector is that of one more row, or of one less
-pub Fits-more : (m n k len new : ℕ) → Fits m n len → 0 < m + k → 0 < n → new ≡ len + k * n → new < 2 ^ 64 → Fits (m + k) n new
-Fits-more m n k len new h rows cols e small = Fits-filled (m + k) n new rows cols (omega (arith, h.cells)) small

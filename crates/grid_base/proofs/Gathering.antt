@@ -1,5 +1,5 @@
 -- Lists whose items leave them for the end of another list, line by line.
-use Rattle.std.proofs.Common.{◌≡◌, Vec, All, Option, None, ℕ, zero, suc, ◌+◌, ◌-◌, ◌<◌, ◌≤◌, Some, List, [], ◌∷◌, ◌++◌, length, get_or, take, drop, reverse, map, set, refl, sym, ◌∙◌, ap, arith, append_assoc, append-nil, length-append, length-drop, subst}
+use Rattle.std.proofs.Common.{◌≡◌, Vec, All, Option, None, ℕ, zero, suc, ◌+◌, ◌-◌, ◌<◌, ◌≤◌, Some, List, [], ◌∷◌, ◌++◌, length, get_or, take, drop, reverse, map, set, refl, sym, ◌∙◌, ap, arith, append_assoc, append-nil, length-append, subst}
 use Rattle.std.specs.List.{flat_map, slice_get}
 use Rattle.std.specs.Option.{option_to_list}
 use Rattle.std.proofs.lemmas.List.{reverse-append, length-map, map-set, get_or-map, take_more, drop_more, map-append, set-append_right, length-take-le, take_all, drop_all, drop_at, take_at}
@@ -17,9 +17,6 @@ module _ {T : Type 0} where
     pub left : now ≡ map g (take i from) ++ drop i from
 
   module _ (f g : List T → List T) (from now : List (List T)) (start cells : List T) where
-    pub passed_none : now ≡ from → cells ≡ start → Passed f g 0 from now start cells
-    passed_none e h = record { given = h ∙ sym (append-nil start); left = e }
-
     passed_more : (i : ℕ) (new : List (List T)) (more : List T) → Passed f g i from now start cells → i < rows_of from → new ≡ set now i (g (row from i)) → more ≡ cells ++ f (row from i) → Passed f g (i + 1) from new start more
     passed_more i new more p lt e h =
         let next : take (i + 1) from ≡ take i from ++ row from i ∷ [] = take_more from i [] lt in
@@ -55,16 +52,8 @@ module _ {T : Type 0} where
           seam (x ∷ xs) ys y zero e = absurd (omega arith)
           seam (x ∷ xs) ys y (suc i) e = seam xs ys y i (omega arith)
 
-      passed_length : i ≤ rows_of from → rows_of now ≡ rows_of from
-      passed_length le =
-          ap length p.left
-          ∙ omega (arith, length-append (map g (take i from)) (drop i from), length-map (take i from) g, length-take-le i from le, length-drop i from)
-
       passed_all : i ≡ rows_of from → Passed f g (rows_of from) from now start cells
       passed_all e = subst (λ x. Passed f g x from now start cells) e p
-
-  passed_cells : (f g : List T → List T) (from now : List (List T)) (start cells : List T) → Passed f g (rows_of from) from now start cells → cells ≡ start ++ flat_map f from
-  passed_cells f g from now start cells p = p.given ∙ ap (λ t. start ++ flat_map f t) (take_all (rows_of from) from (omega arith))
 
   passed_lines : (f g : List T → List T) (from now : List (List T)) (start cells : List T) → Passed f g (rows_of from) from now start cells → now ≡ map g from
   passed_lines f g from now start cells p =
@@ -111,9 +100,6 @@ module _ {T A : Type 0} where
     module _ (end : length now ≤ i) (within : i ≤ length now) where
       done : Passed f g (rows_of (cells_of from)) (cells_of from) (cells_of now) start cells
       done = passed_all f g (cells_of from) (cells_of now) start cells i p (omega (arith, rows-vecs from))
-
-      pub all_given : cells ≡ start ++ flat_map f (cells_of from)
-      all_given = passed_cells f g (cells_of from) (cells_of now) start cells done
 
       pub all_left : cells_of now ≡ map g (cells_of from)
       all_left = passed_lines f g (cells_of from) (cells_of now) start cells done

@@ -63,10 +63,6 @@ module _ {X : Type 0} where
   every_after (suc c) g [] = refl
   every_after (suc c) g (x ∷ xs) = every_after c g xs
 
-  every_nothing : (k g : ℕ) (xs : List X) → length xs ≡ 0 → every k g xs ≡ []
-  every_nothing k g [] h = refl
-  every_nothing k g (x ∷ xs) h = absurd (omega arith)
-
 ceil_step : (n g : ℕ) → (n + (g + 1)) / (g + 1) ≡ n / (g + 1) + 1
 ceil_step n g = let p : 0 < g + 1 = omega arith in add-div_right n p
 

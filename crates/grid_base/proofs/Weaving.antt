@@ -21,15 +21,6 @@ exchanged_back a m n old new h =
       behind = λ x le. sym (h.behind x (omega arith));
     }
 
--- no lines
-pub woven_none : {T : Type 0} (q i k : ℕ) (short long : List T) → length long ≡ length short → Woven 0 q i k short long
-woven_none q i k short long e =
-    record {
-      lengths = e;
-      lines = record { before = λ l j a b c. absurd (omega arith); after = λ l j a b c. absurd (omega arith) };
-      groups = λ l j a b. absurd (omega arith);
-    }
-
 -- one line
 at_equal : {T : Type 0} (xs ys : List T) (a b c d : ℕ) → a ≡ b → c ≡ d → slice_get xs b ≡ slice_get ys d → slice_get xs a ≡ slice_get ys c
 at_equal xs ys a b c d e f h = ap (slice_get xs) e ∙ (h ∙ sym (ap (slice_get ys) f))
@@ -48,10 +39,6 @@ woven_one q i k short long le h =
       groups = λ l j a b.
           at_equal long short _ (i + j) _ (i + (q - i + j)) (line_zero l (q + k) (i + j) a) (let z = line_zero l k j a in omega arith) (h.second j b);
     }
-
--- the place of line m of the second half
-second_half : (h m n x : ℕ) → (h + m) * n + x ≡ h * n + (m * n + x)
-second_half h m n x = omega arith
 
 module _ {T : Type 0} (h r q i k : ℕ) (short mid long fs fl bs bl : List T) (le : i ≤ q) (wide : length fs ≡ h * (q + k)) (cut : mid ≡ fs ++ bs) (joined : long ≡ fl ++ bl) (moved : BlocksExchanged (h * q) (r * q) (h * k) short mid) (front : Woven h q i k fs fl) (back : Woven r q i k bs bl) where
   long_front : (x : ℕ) → x < h * (q + k) → slice_get long x ≡ slice_get fl x

@@ -33,9 +33,6 @@ same_place RowMajor m n i j r c p q a b e = same_from_place i j r c n q b e
 same_place ColumnMajor m n i j r c p q a b e = let s = same_from_place j i c r m p a e in (s.1, s.0)
 
 module _ {T : Type 0} (o : Order) (m n : ℕ) (cells : List T) (h : Fits m n (length cells)) (r c : ℕ) (lr : r < m) (lc : c < n) (w : T) where
-  old : List (List T)
-  old = table_of o m n cells
-
   rows : length (table_of o m n cells) ≡ m
   rows = rows-tabulate m n _
 

@@ -1,6 +1,6 @@
 use Rattle.grid_base.specs.declared.words.Symmetry.TheVariants.{Transpose}
 use Rattle.grid_base.proofs.Acts.{rows-act}
-use Rattle.grid.proofs.ColSizes.{across-turned}
+use Rattle.grid.proofs.Cols.{across-turned}
 use Rattle.grid.proofs.Seen.{seen_table}
 use Rattle.grid.proofs.Across.{on_ok, on_err, col_removed, twice_across}
 use Rattle.grid.proofs.grid.Grid.remove_col.Goals as goal
