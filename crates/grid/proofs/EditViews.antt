@@ -6,7 +6,7 @@ use Rattle.grid_base.specs.declared.flat.order.Order.{Order}
 use Rattle.grid_base.specs.declared.flat.order.Order.TheVariants.{RowMajor, ColumnMajor}
 use Rattle.grid_base.specs.Table.{row, rows_of, cols_of, cell, IsTable, tabulate}
 use Rattle.grid_base.specs.Order.{storage, place, table_of}
-use Rattle.grid_base.specs.Lines.{Widened, Woven, Opened, Closed}
+use Rattle.grid_base.specs.Lines.{Woven, Closed}
 use Rattle.grid_base.proofs.Tables.{rows-tabulate, cell-tabulate, width-tabulate, same_cells}
 use Rattle.grid_base.proofs.Stores.{length-storage, get-storage, IsFull-table_of, place_within, has_place, get_append_left, get_append_right}
 use Rattle.grid.specs.Edit.{put_rows, take_rows}
@@ -172,23 +172,3 @@ module _ {T : Type 0} where
 pub table_of-no_rows : {T : Type 0} (o : Order) (n : ℕ) (cells : List T) → table_of o 0 n cells ≡ []
 unfolding tabulate
 table_of-no_rows o n cells = refl
-
--- groups at the end of one line stand where they are
-module _ {T : Type 0} (q k : ℕ) (cells : List T) where
-  at_end : Widened 1 q q k cells cells
-  at_end =
-      record {
-        before = λ l j ll lj li. let z : l ≡ 0 = omega arith in rw z (let e : 0 * (q + k) + j ≡ 0 * q + j = omega arith in ap (slice_get cells) e);
-        after = λ l j ll lj le. absurd (omega arith);
-      }
-
-  pub opened_at_end : length cells ≡ q + k → Opened 1 q q k cells cells
-  opened_at_end len =
-      record {
-        lengths = refl;
-        lines = at_end;
-        groups = λ l j ll lj.
-            let z : l ≡ 0 = omega arith in
-            let e : l * (q + k) + (q + j) ≡ q + j = rw z (omega arith) in
-            (q + j, omega arith, omega arith, ap (slice_get cells) e);
-      }

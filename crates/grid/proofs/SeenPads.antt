@@ -12,12 +12,12 @@ use Rattle.grid_base.specs.Sheet.{Sheet, Fits}
 use Rattle.grid_base.specs.Lines.{Opened}
 use Rattle.grid_base.specs.Fresh.{EndsFresh}
 use Rattle.grid_base.specs.Symmetry.{act}
-use Rattle.grid.specs.Edit.{PadsRows, PadsCols, added, put_rows, expanded_rows, prepended_rows, expanded_cols, prepended_cols}
+use Rattle.grid.specs.Edit.{PadsRows, PadsCols, added, put_rows, put_cols, expanded_rows, prepended_rows, expanded_cols, prepended_cols}
 use Rattle.grid.specs.RowGroups.{RowsOpened}
 use Rattle.grid.proofs.Seen.{seen_rows, seen_cols}
 use Rattle.grid.proofs.Rows.{RowGroups}
 use Rattle.grid.proofs.Padding.{Padded, view-open_rows, All-all_fresh, replicate_from_all, All-from_gets, holds_at}
-use Rattle.grid.proofs.Sizes.{Fits-filled, factor_small, IsTable-width, put-no_lines, copies, row-copies, expanded-put, prepended-put}
+use Rattle.grid.proofs.Sizes.{Fits-filled, factor_small, IsTable-width, put-no_lines, copies, row-copies, HasWidth-copies, expanded-put, prepended-put}
 use Rattle.grid.proofs.Cols.{rows-across, cols-across, across-none, ColumnsFit, put_cols-across, expanded_cols-across, prepended_cols-across}
 
 -- groups that are opened are rows
@@ -106,17 +106,15 @@ module _ {T : Type 0} (o : Order) (m n : ℕ) (cells : List T) (s : Sheet T) (h 
       abbrev padded : Padded o m n i k grown new
       padded = record { fresh = p.fresh; rows = p.rows; widths = p.widths; from = p.from; put = p.put }
 
-      pub pads_rows : (j : ℕ) → j ≡ i → PadsRows P j k s.rows (table_of o (m + k) n new)
-      pads_rows j same =
+      pub pads_rows : PadsRows P i k s.rows (table_of o (m + k) n new)
+      pads_rows =
           record {
             fresh = p.fresh;
             number = p.rows;
             widths = λ r lt. p.widths r lt ∙ sym (seen_cols o m n cells s h e);
             each = All-all_fresh o m n i k grown new padded P back;
             put =
-                p.put
-                ∙ (ap (λ v. put_rows i p.fresh (table_of o m n v)) front
-                ∙ (ap (λ v. put_rows i p.fresh v.rows) e ∙ ap (λ x. put_rows x p.fresh s.rows) (sym same)));
+                p.put ∙ (ap (λ v. put_rows i p.fresh (table_of o m n v)) front ∙ ap (λ v. put_rows i p.fresh v.rows) e);
           }
 
       pub pad_fits : Fits (m + k) n (length new)
@@ -136,8 +134,8 @@ module _ {T : Type 0} (t : List (List T)) (h : IsTable t) where
       added_some k (act Transpose t) (omega (arith, rows-across t h, wide)) ∙ sym (added_some k t some))
       (cases_eq (rows_of t) 0)
 
-  pub pads_cols : (P : T → Type 0) (i j k : ℕ) (mid late new : List (List T)) → mid ≡ act Transpose t → new ≡ act Transpose late → j ≡ i → i ≤ cols_of t → PadsRows P j (added k mid) mid late → PadsCols P i (added k t) t new
-  pads_cols P i j k mid late new there back same le p =
+  pub pads_cols : (P : T → Type 0) (i k : ℕ) (mid late new : List (List T)) → mid ≡ act Transpose t → new ≡ act Transpose late → i ≤ cols_of t → PadsRows P i (added k mid) mid late → PadsCols P i (added k t) t new
+  pads_cols P i k mid late new there back le p =
       let number : rows_of p.fresh ≡ added k t = p.number ∙ (ap (added k) there ∙ added-across k) in
       let heights : (r : ℕ) → r < rows_of p.fresh → length (row p.fresh r) ≡ rows_of t = λ r lt. p.widths r lt ∙ (ap cols_of there ∙ cols-across t h) in
       let table : IsTable p.fresh =
@@ -157,18 +155,23 @@ module _ {T : Type 0} (t : List (List T)) (h : IsTable t) where
         heights = heights;
         each = p.each;
         put =
-            back
-            ∙ (ap (act Transpose) (p.put ∙ (ap (put_rows j p.fresh) there ∙ ap (λ x. put_rows x p.fresh (act Transpose t)) same))
-            ∙ sym (put_cols-across i p.fresh t fit));
+            back ∙ (ap (act Transpose) (p.put ∙ ap (put_rows i p.fresh) there) ∙ sym (put_cols-across i p.fresh t fit));
       }
 
-  pub cols_expanded : (k : ℕ) (d : T) (mid late new : List (List T)) → mid ≡ act Transpose t → new ≡ act Transpose late → late ≡ expanded_rows k d mid → new ≡ expanded_cols k d t
-  cols_expanded k d mid late new there back e =
-      back ∙ (ap (act Transpose) (e ∙ ap (expanded_rows k d) there) ∙ sym (expanded_cols-across k d t h))
-
-  pub cols_prepended : (k : ℕ) (d : T) (mid late new : List (List T)) → mid ≡ act Transpose t → new ≡ act Transpose late → late ≡ prepended_rows k d mid → new ≡ prepended_cols k d t
-  cols_prepended k d mid late new there back e =
-      back ∙ (ap (act Transpose) (e ∙ ap (prepended_rows k d) there) ∙ sym (prepended_cols-across k d t h))
+  -- columns of the one default
+  pads_copied : (P : T → Type 0) (i k : ℕ) (d : T) (new : List (List T)) → 0 < rows_of t → i ≤ cols_of t → ((x : T) → P x → x ≡ d) → PadsCols P i k t new → new ≡ act Transpose (put_rows i (copies k (cols_of (act Transpose t)) d) (act Transpose t))
+  pads_copied P i k d new some le one p =
+      let lines = copies k (rows_of t) d in
+      let fit : ColumnsFit i lines t =
+      record {
+        in_cols = le;
+        old = h;
+        new = IsTable-width lines (rows_of t) some (HasWidth-copies k (rows_of t) d);
+        height = λ _ lt. HasWidth-copies k (rows_of t) d 0 lt;
+      } in
+      p.put
+      ∙ (ap (λ v. put_cols i v t) (fresh_copies P (rows_of t) d p.fresh one p.heights p.each ∙ ap (λ x. copies x (rows_of t) d) p.number)
+      ∙ (put_cols-across i lines t fit ∙ ap (λ x. act Transpose (put_rows i (copies k x d) (act Transpose t))) (sym (cols-across t h))))
 
   -- where no columns are added, no rows are added to the turned table
   pub none_added : (k : ℕ) (mid : List (List T)) → mid ≡ act Transpose t → added k t ≡ 0 → added k mid ≡ 0
@@ -180,6 +183,26 @@ module _ {T : Type 0} (t : List (List T)) (h : IsTable t) where
       ap (λ v. (rows_of v + added k v) * cols_of v) there
       ∙ (ap (λ x. (x + added k (act Transpose t)) * cols_of (act Transpose t)) (rows-across t h)
       ∙ (ap (λ x. (cols_of t + x) * cols_of (act Transpose t)) (added-across k) ∙ ap (λ x. (cols_of t + added k t) * x) (cols-across t h)))
+
+module _ {T : Type 0} where
+  pub cols_expanded : (P : T → Type 0) (k : ℕ) (d : T) (t new : List (List T)) → IsTable t → PadsCols P (cols_of t) (added k t) t new → ((x : T) → P x → x ≡ d) → new ≡ expanded_cols k d t
+  cols_expanded P k d [] new h p one = p.put ∙ ap (λ v. put_cols 0 v []) (nil_from_length p.fresh p.number)
+  cols_expanded P k d (r ∷ t) new h p one =
+      let u = r ∷ t in
+      let v = act Transpose u in
+      let some : 0 < rows_of v = omega (arith, rows-across u h, h.nonempty 0 (omega arith)) in
+      pads_copied u h P (cols_of u) k d new (omega arith) (omega arith) one p
+      ∙ (ap (act Transpose) (ap (λ x. put_rows x (copies k (cols_of v) d) v) (sym (rows-across u h)) ∙ sym (expanded-put k d v some))
+      ∙ sym (expanded_cols-across k d u h))
+
+  pub cols_prepended : (P : T → Type 0) (k : ℕ) (d : T) (t new : List (List T)) → IsTable t → PadsCols P 0 (added k t) t new → ((x : T) → P x → x ≡ d) → new ≡ prepended_cols k d t
+  cols_prepended P k d [] new h p one = p.put ∙ ap (λ v. put_cols 0 v []) (nil_from_length p.fresh p.number)
+  cols_prepended P k d (r ∷ t) new h p one =
+      let u = r ∷ t in
+      let v = act Transpose u in
+      let some : 0 < rows_of v = omega (arith, rows-across u h, h.nonempty 0 (omega arith)) in
+      pads_copied u h P 0 k d new (omega arith) (omega arith) one p
+      ∙ (ap (act Transpose) (sym (prepended-put k d v some)) ∙ sym (prepended_cols-across k d u h))
 
 pub shift_across : {T : Type 0} (F : Order → ℕ → ℕ → ℕ → ℕ) (k : ℕ) (old mid : Sheet T) → IsTable old.rows → mid.rows ≡ act Transpose old.rows → mid.order ≡ flipped old.order → F mid.order (rows_of mid.rows) (cols_of mid.rows) k ≡ F (flipped old.order) (cols_of old.rows) (rows_of old.rows) k
 shift_across F k old mid h rows order =

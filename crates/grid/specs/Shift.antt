@@ -4,14 +4,17 @@ use Rattle.grid_base.specs.declared.flat.order.Order.{Order}
 use Rattle.grid_base.specs.declared.flat.order.Order.TheVariants.{RowMajor, ColumnMajor}
 use Rattle.grid_base.specs.Order.{flipped}
 
--- m rows of n cells each, of which k more come at the end: along the storage's lines, and across them
-abbrev pub expand_rows_shift : Order → ℕ → ℕ → ℕ → ℕ
-expand_rows_shift RowMajor m n k = 0
-expand_rows_shift ColumnMajor m n k = if nat_eq k 0 then 0 else (n - 1) * m
+-- m rows of n cells each, of which k more come before row i: along the storage's lines, and across them
+abbrev pub rows_added_shift : Order → ℕ → ℕ → ℕ → ℕ → ℕ
+rows_added_shift RowMajor m n i k = if nat_eq k 0 then 0 else (m - i) * n
+rows_added_shift ColumnMajor m n i k = if nat_eq k 0 then 0 else n * m - i
 
--- k more rows at the beginning
+-- k more at the end, and at the beginning
+abbrev pub expand_rows_shift : Order → ℕ → ℕ → ℕ → ℕ
+expand_rows_shift o m n k = rows_added_shift o m n m k
+
 abbrev pub prepend_rows_shift : Order → ℕ → ℕ → ℕ → ℕ
-prepend_rows_shift o m n k = if nat_eq k 0 then 0 else m * n
+prepend_rows_shift o m n k = rows_added_shift o m n 0 k
 
 -- rows go, count of them from start on, along the lines and across them
 abbrev pub rows_taken_shift : Order → ℕ → ℕ → ℕ → ℕ → ℕ
@@ -24,6 +27,9 @@ delete_rows_shift o m n start count =
     if nat_eq count 0 then 0 else (if nat_lt m (start + count) then 0 else rows_taken_shift o m n start count)
 
 -- columns are the rows of the turned table, which is stored in the other order
+abbrev pub cols_added_shift : Order → ℕ → ℕ → ℕ → ℕ → ℕ
+cols_added_shift o m n i k = rows_added_shift (flipped o) n m i k
+
 abbrev pub expand_cols_shift : Order → ℕ → ℕ → ℕ → ℕ
 expand_cols_shift o m n k = expand_rows_shift (flipped o) n m k
 

@@ -32,36 +32,30 @@ impl<T, A: Allocator> Flat<T, A> {
         unweave_cells(self.cells.as_mut_slice(), lines, width, at, count);
     }
 
-    /// Spreads the lines that stand first, so that each has room for `count` cells behind it.
+    /// Spreads the lines that stand first, so that each has room for `count` cells before its place `at`.
     ///
     /// Each cell whose place changes is swapped once, for a shift. What stood behind the lines comes to the room.
-    pub fn open_after(&mut self, lines: usize, width: usize, count: usize, tally: &mut Tally)
+    pub fn open(&mut self, lines: usize, width: usize, at: usize, count: usize, tally: &mut Tally)
         requires cells { length self.old ≡ lines * (width + count) }
         requires fits { lines * (width + count) < 2 ^ 64 }
+        requires within { at ≤ width }
         requires has_lines { 0 < lines }
         requires has_width { 0 < width }
         requires has_count { 0 < count }
-        ensures opened { Opened lines width width count self.old self.new }
+        ensures opened { Opened lines width at count self.old self.new }
         ensures symmetry { tally.new.symmetry ≡ tally.old.symmetry }
-        ensures shift { tally.new.shift ≡ counted tally.old.shift ((lines - 1) * width) }
+        ensures shift { tally.new.shift ≡ counted tally.old.shift (lines * width - at) }
     {
-        open_at(self, lines, width, width, count, tally);
-    }
-
-    /// Spreads the lines that stand first, so that each has room for `count` cells before it.
-    ///
-    /// Each cell whose place changes is swapped once, for a shift. What stood behind the lines comes to the room.
-    pub fn open_before(&mut self, lines: usize, width: usize, count: usize, tally: &mut Tally)
-        requires cells { length self.old ≡ lines * (width + count) }
-        requires fits { lines * (width + count) < 2 ^ 64 }
-        requires has_lines { 0 < lines }
-        requires has_width { 0 < width }
-        requires has_count { 0 < count }
-        ensures opened { Opened lines width 0 count self.old self.new }
-        ensures symmetry { tally.new.symmetry ≡ tally.old.symmetry }
-        ensures shift { tally.new.shift ≡ counted tally.old.shift (lines * width) }
-    {
-        open_at(self, lines, width, 0, count, tally);
+        // Takes each cell of the lines whose place changes, from the last on. A cell moves by the groups that come
+        // before it: `cells` counts from the last of those.
+        let mut from = lines * width;
+        let mut groups = lines;
+        let mut cells = width - at;
+        for _ in 0..lines * width - at {
+            (groups, cells) = cell_before(groups, cells, width);
+            from -= 1;
+            self.swap_for_shift(from, from + groups * count, tally);
+        }
     }
 
     /// Closes up the lines without the `count` cells from place `at` on in each, and drops those.
@@ -169,36 +163,6 @@ fn cell_behind(groups: usize, cells: usize, width: usize) -> (usize, usize)
         (groups + 1, 0)
     } else {
         (groups, cells + 1)
-    }
-}
-
-// Takes each cell of the lines whose place changes once, from the last on, and swaps it to its place in the spread
-// lines. A cell moves by the groups that come before it: `cells` counts from the last of those.
-fn open_at<T, A: Allocator>(
-    flat: &mut Flat<T, A>,
-    lines: usize,
-    width: usize,
-    at: usize,
-    count: usize,
-    tally: &mut Tally,
-)
-    requires cells { length flat.old ≡ lines * (width + count) }
-    requires fits { lines * (width + count) < 2 ^ 64 }
-    requires within { at ≤ width }
-    requires has_lines { 0 < lines }
-    requires has_width { 0 < width }
-    requires has_count { 0 < count }
-    ensures opened { Opened lines width at count flat.old flat.new }
-    ensures symmetry { tally.new.symmetry ≡ tally.old.symmetry }
-    ensures shift { tally.new.shift ≡ counted tally.old.shift (lines * width - at) }
-{
-    let mut from = lines * width;
-    let mut groups = lines;
-    let mut cells = width - at;
-    for _ in 0..lines * width - at {
-        (groups, cells) = cell_before(groups, cells, width);
-        from -= 1;
-        flat.swap_for_shift(from, from + groups * count, tally);
     }
 }
 

@@ -22,20 +22,20 @@ fn unweave_takes_the_groups_out_of_each_line(rt: HostRuntime) -> Result<(), Allo
 }
 
 #[test]
-fn open_after_spreads_the_lines(rt: HostRuntime) -> Result<(), AllocError> {
+fn open_at_the_end_spreads_the_lines(rt: HostRuntime) -> Result<(), AllocError> {
     let mut flat = Flat::from_vec(vec![in rt.alloc(); 1, 2, 3, 4, 5, 6, 0, 0, 0, 0]?);
     let mut tally = Tally::new();
-    flat.open_after(2, 3, 2, &mut tally);
+    flat.open(2, 3, 3, 2, &mut tally);
     assert_eq!(rt; flat.as_slice(), [1, 2, 3, 0, 0, 4, 5, 6, 0, 0].as_slice());
     assert_eq!(rt; tally.shift(), 3);
     Ok(())
 }
 
 #[test]
-fn open_before_spreads_the_lines(rt: HostRuntime) -> Result<(), AllocError> {
+fn open_at_the_beginning_spreads_the_lines(rt: HostRuntime) -> Result<(), AllocError> {
     let mut flat = Flat::from_vec(vec![in rt.alloc(); 1, 2, 3, 4, 5, 6, 0, 0, 0, 0]?);
     let mut tally = Tally::new();
-    flat.open_before(2, 3, 2, &mut tally);
+    flat.open(2, 3, 0, 2, &mut tally);
     assert_eq!(rt; flat.as_slice(), [0, 0, 1, 2, 3, 0, 0, 4, 5, 6].as_slice());
     assert_eq!(rt; tally.shift(), 6);
     Ok(())

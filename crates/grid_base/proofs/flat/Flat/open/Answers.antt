@@ -1,6 +1,6 @@
 use Rattle.std.proofs.Common.{◌-◌, refl, arith}
 use Rattle.grid_base.proofs.Spreading.{behind_within, behind_moves, opening_none, opening_step, opening_end, first_line}
-use Rattle.grid_base.proofs.flat.lines.open_at.Goals as goal
+use Rattle.grid_base.proofs.flat.Flat.open.Goals as goal
 
 pub loop-init : goal.loop-init
 loop-init g c =

@@ -1,9 +1,9 @@
-use Rattle.std.proofs.Common.{◌≡◌, ◌<◌, ◌+◌, ◌*◌, ◌⊎◌, inl, inr, ap, arith}
+use Rattle.std.proofs.Common.{◌≡◌, ◌+◌, ◌*◌, ◌⊎◌, inl, inr, ap, arith}
 use Rattle.grid_base.specs.Table.{rows_of, cols_of}
 use Rattle.grid.specs.Edit.{added}
-use Rattle.grid.proofs.SeenPads.{added_some, added_none, pads_none, pads_expanded}
-use Rattle.grid.proofs.grid.Grid.expand_rows_counted.Goals.{then-count-eq0-via-then-count-eq0, then-count-eq0-via-else-count-eq0+then-rows-eq0}
-use Rattle.grid.proofs.grid.Grid.expand_rows_counted.Goals as goal
+use Rattle.grid.proofs.SeenPads.{added_none, pads_none}
+use Rattle.grid.proofs.grid.Grid.pad_rows_counted.Goals.{then-count-eq0-via-then-count-eq0, then-count-eq0-via-else-count-eq0+then-rows-eq0}
+use Rattle.grid.proofs.grid.Grid.pad_rows_counted.Goals as goal
 
 pub returns-then-count-eq0-clause-padded : goal.returns-then-count-eq0-clause-padded
 returns-then-count-eq0-clause-padded g c =
@@ -18,8 +18,3 @@ returns-then-count-eq0-clause-too_large g c =
     let same : (rows_of c.args.self.now.rows + added c.args.count c.args.self.now.rows) * cols_of c.args.self.now.rows ≡ (rows_of c.args.self.now.rows + 0) * cols_of c.args.self.now.rows =
     ap (λ x. (rows_of c.args.self.now.rows + x) * cols_of c.args.self.now.rows) (added_none c.args.count c.args.self.now.rows none) in
     (λ h. absurd (cc h), λ large. absurd (omega (arith, large, same, c.size-rows.ensures.below)))
-
-pub returns-clause-fixed : goal.returns-clause-fixed
-returns-clause-fixed g c d one =
-    let some : 0 < rows_of c.args.self.now.rows = omega (arith, c.if-rows-eq0.false, c.size-rows.ensures.rows) in
-    pads_expanded _ c.args.count d _ _ (rw (added_some c.args.count c.args.self.now.rows some) c.in_ok-expand_within.ensures.padded) one

@@ -1,0 +1,40 @@
+use Rattle.std.proofs.Common.{ap, arith}
+use Rattle.grid_base.specs.declared.words.Symmetry.TheVariants.{Transpose}
+use Rattle.grid_base.specs.Table.{rows_of}
+use Rattle.grid_base.proofs.Acts.{rows-act}
+use Rattle.grid.specs.Shift.{rows_added_shift}
+use Rattle.grid.proofs.Seen.{seen_table}
+use Rattle.grid.proofs.Across.{on_ok, on_err, twice_across}
+use Rattle.grid.proofs.SeenPads.{pads_cols, size_across, none_added, shift_across}
+use Rattle.grid.proofs.grid.Grid.pad_cols_counted.Goals as goal
+
+pub pad_rows_counted-padded-requires : goal.pad_rows_counted-padded-requires
+pad_rows_counted-padded-requires g c = omega (arith, ap rows_of c.transpose.ensures.rows, rows-act Transpose c.args.self.now.rows)
+
+pub returns-clause-padded : goal.returns-clause-padded
+returns-clause-padded g c =
+    let t = seen_table _ _ _ _ _ c.self.invariant c.self.view_is in
+    on_ok c.pad_rows_counted-padded.result
+    (pads_cols c.args.self.now.rows t _ _ c.args.count _ _ _ c.transpose.ensures.rows c.transpose-2.ensures.rows c.requires.place)
+    c.pad_rows_counted-padded.ensures.padded
+
+pub returns-clause-too_large : goal.returns-clause-too_large
+returns-clause-too_large g c =
+    let t = seen_table _ _ _ _ _ c.self.invariant c.self.view_is in
+    rw (size_across c.args.self.now.rows t c.args.count _ c.transpose.ensures.rows) at c.pad_rows_counted-padded.ensures.too_large
+
+pub returns-clause-none : goal.returns-clause-none
+returns-clause-none g c none =
+    let t = seen_table _ _ _ _ _ c.self.invariant c.self.view_is in
+    c.pad_rows_counted-padded.ensures.none (none_added c.args.self.now.rows t c.args.count _ c.transpose.ensures.rows none)
+
+pub returns-clause-shift : goal.returns-clause-shift
+returns-clause-shift g c =
+    let t = seen_table _ _ _ _ _ c.self.invariant c.self.view_is in
+    rw (shift_across (λ o m n k. rows_added_shift o m n c.args.at k) c.args.count _ _ t c.transpose.ensures.rows c.transpose.ensures.order) at c.pad_rows_counted-padded.ensures.shift
+
+pub returns-clause-err : goal.returns-clause-err
+returns-clause-err g c =
+    on_err c.pad_rows_counted-padded.result
+    (λ same. twice_across _ _ _ _ (seen_table _ _ _ _ _ c.self.invariant c.self.view_is) c.transpose.ensures.rows c.transpose.ensures.order same c.transpose-2.ensures.rows c.transpose-2.ensures.order)
+    c.pad_rows_counted-padded.ensures.err

@@ -1,0 +1,8 @@
+use Rattle.grid.proofs.Seen.{seen_table}
+use Rattle.grid.proofs.Across.{on_ok}
+use Rattle.grid.proofs.SeenPads.{cols_prepended}
+use Rattle.grid.proofs.grid.Grid.prepend_cols.Goals as goal
+
+pub returns-clause-fixed : goal.returns-clause-fixed
+returns-clause-fixed g c =
+    on_ok c.pad_cols_counted.result (λ p d one. cols_prepended _ c.args.count d _ _ (seen_table _ _ _ _ _ c.self.invariant c.self.view_is) p one) c.pad_cols_counted.ensures.padded
