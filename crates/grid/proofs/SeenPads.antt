@@ -71,30 +71,38 @@ module _ {T : Type 0} where
   pads_prepended P k d (r ∷ t) new p one = pads_copies P 0 k d (r ∷ t) new one p ∙ sym (prepended-put k d (r ∷ t) (omega arith))
 
 -- padding some rows of a grid
-module _ {T : Type 0} (o : Order) (m n : ℕ) (cells : List T) (s : Sheet T) (h : Fits m n (length cells)) (e : (let v : Sheet T = record { rows = table_of o m n cells; order = o } in v) ≡ s) (k : ℕ) (some : 0 < rows_of s.rows) (room : (rows_of s.rows + k) * cols_of s.rows < 2 ^ 64) where
-  pub pad_rows : 0 < m
-  pad_rows = rw (seen_rows o m n cells s h e) at some
+module _ {T : Type 0} (o : Order) (m n : ℕ) (cells : List T) (s : Sheet T) (h : Fits m n (length cells)) (e : (let v : Sheet T = record { rows = table_of o m n cells; order = o } in v) ≡ s) (k a b : ℕ) (rows : a ≡ rows_of s.rows) (cols : b ≡ cols_of s.rows) (some : a ≡ 0 → ⊥) (room : (a + k) * b < 2 ^ 64) where
+  as_rows : a ≡ m
+  as_rows = rows ∙ seen_rows o m n cells s h e
 
-  pub pad_cols : 0 < n
-  pad_cols = h.size.has_cols pad_rows
+  as_cols : b ≡ n
+  as_cols = cols ∙ seen_cols o m n cells s h e
 
-  pub pad_small : (m + k) * n < 2 ^ 64
-  pad_small = rw (seen_rows o m n cells s h e, seen_cols o m n cells s h e) at room
+  total : (a + k) * b ≡ (m + k) * n
+  total = ap (λ x. (x + k) * b) as_rows ∙ ap (λ x. (m + k) * x) as_cols
 
-  pub pad_cells_small : k * n < 2 ^ 64
-  pad_cells_small = omega (arith, pad_small)
+  some_rows : 0 < m
+  some_rows = omega (arith, as_rows, some)
+
+  some_cols : 0 < n
+  some_cols = h.size.has_cols some_rows
+
+  pub pad_cols : 0 < b
+  pad_cols = omega (arith, as_cols, some_cols)
 
   pub pad_rows_small : m + k < 2 ^ 64
-  pad_rows_small = factor_small (m + k) n pad_cols pad_small
+  pad_rows_small = factor_small (m + k) n some_cols (omega (arith, total, room))
 
-  pub pad_shift : (F : Order → ℕ → ℕ → ℕ → ℕ) → F s.order (rows_of s.rows) (cols_of s.rows) k ≡ F o m n k
+  pub pad_shift : (F : Order → ℕ → ℕ → ℕ → ℕ) → F s.order (rows_of s.rows) (cols_of s.rows) k ≡ F o a b k
   pad_shift F =
-      ap (λ x. F s.order x (cols_of s.rows) k) (seen_rows o m n cells s h e)
-      ∙ (ap (λ x. F s.order m x k) (seen_cols o m n cells s h e) ∙ ap (λ x. F x.order m n k) (sym e))
+      ap (λ x. F s.order x (cols_of s.rows) k) (sym rows)
+      ∙ (ap (λ x. F s.order a x k) (sym cols) ∙ ap (λ x. F x.order a b k) (sym e))
 
-  module _ (P : T → Type 0) (grown : List T) (f : EndsFresh P (k * n) cells grown) where
-    pub pad_cells : length grown ≡ (m + k) * n
-    pad_cells = ap length f.joined ∙ (length-append cells f.fresh ∙ omega (arith, h.cells, f.number))
+  module _ (P : T → Type 0) (grown : List T) (f : EndsFresh P (k * b) cells grown) where
+    pub pad_cells : length grown ≡ (a + k) * b
+    pad_cells =
+        let size : a * b ≡ m * n = ap (λ x. x * b) as_rows ∙ ap (λ x. m * x) as_cols in
+        ap length f.joined ∙ (length-append cells f.fresh ∙ omega (arith, h.cells, f.number, size))
 
     front : take (m * n) grown ≡ cells
     front = ap (take (m * n)) f.joined ∙ take_at cells f.fresh (m * n) h.cells
@@ -102,15 +110,18 @@ module _ {T : Type 0} (o : Order) (m n : ℕ) (cells : List T) (s : Sheet T) (h 
     back : All P (drop (m * n) grown)
     back = subst (All P) (sym (ap (drop (m * n)) f.joined ∙ drop_at cells f.fresh (m * n) h.cells)) f.each
 
-    module _ (i : ℕ) (new : List T) (p : RowsOpened o m n i k grown new) where
+    module _ (i : ℕ) (new : List T) (opened : RowsOpened o a b i k grown new) where
+      abbrev p : RowsOpened o m n i k grown new
+      p = subst (λ x. RowsOpened o x n i k grown new) as_rows (subst (λ x. RowsOpened o a x i k grown new) as_cols opened)
+
       abbrev padded : Padded o m n i k grown new
       padded = record { fresh = p.fresh; rows = p.rows; widths = p.widths; from = p.from; put = p.put }
 
-      pub pads_rows : PadsRows P i k s.rows (table_of o (m + k) n new)
+      pub pads_rows : PadsRows P i (added k s.rows) s.rows (table_of o (m + k) n new)
       pads_rows =
           record {
             fresh = p.fresh;
-            number = p.rows;
+            number = p.rows ∙ sym (added_some k s.rows (omega (arith, rows, some)));
             widths = λ r lt. p.widths r lt ∙ sym (seen_cols o m n cells s h e);
             each = All-all_fresh o m n i k grown new padded P back;
             put =
@@ -119,8 +130,8 @@ module _ {T : Type 0} (o : Order) (m n : ℕ) (cells : List T) (s : Sheet T) (h 
 
       pub pad_fits : Fits (m + k) n (length new)
       pad_fits =
-          let len : length new ≡ (m + k) * n = p.lengths ∙ pad_cells in
-          Fits-filled (m + k) n (length new) (omega (arith, pad_rows)) pad_cols len (omega (arith, len, pad_small))
+          let len : length new ≡ (m + k) * n = p.lengths ∙ (pad_cells ∙ total) in
+          Fits-filled (m + k) n (length new) (omega (arith, some_rows)) some_cols len (omega (arith, len, total, room))
 
 -- rows of padding between two transposes are columns
 module _ {T : Type 0} (t : List (List T)) (h : IsTable t) where

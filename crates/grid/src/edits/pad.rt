@@ -11,7 +11,7 @@ ghost use Rattle.grid.specs.declared.error.GridError.TheVariants.{TooLarge};
 use super::has_room;
 use crate::{Grid, GridError};
 use grid_base::{Flat, Order, Tally};
-use std::alloc::{AllocError, Allocator};
+use std::alloc::Allocator;
 
 // Puts the cells behind a table, `count` rows of them, as rows before its row `at`.
 fn open_rows<T, A: Allocator>(
@@ -145,36 +145,8 @@ impl<T, A: Allocator> Grid<T, A> {
         if !has_room(rows, count, cols) {
             return Err(GridError::TooLarge);
         }
-        self.pad_within(at, count, tally)?;
-        Ok(())
-    }
-
-    // Adds at least one row to a grid that has some and room for them.
-    fn pad_within(&mut self, at: usize, count: usize, tally: &mut Tally) -> Result<(), AllocError>
-    where
-        T: Default,
-        requires place { at ≤ rows_of self.old.rows }
-        requires some { 0 < count }
-        requires nonempty { 0 < rows_of self.old.rows }
-        requires room { (rows_of self.old.rows + count) * cols_of self.old.rows < 2 ^ 64 }
-        ensures padded { OnOk result (PadsRows T.is_default at count self.old.rows self.new.rows) }
-        ensures order { self.new.order ≡ self.old.order }
-        ensures shift { OnOk result (tally.new.shift ≡ counted tally.old.shift (rows_added_shift self.old.order (rows_of self.old.rows) (cols_of self.old.rows) at count)) }
-        ensures symmetry { tally.new.symmetry ≡ tally.old.symmetry }
-        ensures err { OnErr result (self.new ≡ self.old) }
-        ensures err_shift { OnErr result (tally.new.shift ≡ tally.old.shift) }
-    {
-        let fresh = count * self.col_count;
-        self.flat.append_defaults(fresh)?;
-        open_rows(
-            &mut self.flat,
-            self.order,
-            self.row_count,
-            self.col_count,
-            at,
-            count,
-            tally,
-        );
+        self.flat.append_defaults(count * cols)?;
+        open_rows(&mut self.flat, self.order, rows, cols, at, count, tally);
         self.row_count += count;
         Ok(())
     }
