@@ -169,7 +169,7 @@ module _ {T : Type 0} (t : List (List T)) (h : IsTable t) where
             back ∙ (ap (act Transpose) (p.put ∙ ap (put_rows i p.fresh) there) ∙ sym (put_cols-across i p.fresh t fit));
       }
 
-  -- columns of the one default
+  -- columns of copies are rows of the turned table
   pads_copied : (P : T → Type 0) (i k : ℕ) (d : T) (new : List (List T)) → 0 < rows_of t → i ≤ cols_of t → ((x : T) → P x → x ≡ d) → PadsCols P i k t new → new ≡ act Transpose (put_rows i (copies k (cols_of (act Transpose t)) d) (act Transpose t))
   pads_copied P i k d new some le one p =
       let lines = copies k (rows_of t) d in
@@ -195,6 +195,7 @@ module _ {T : Type 0} (t : List (List T)) (h : IsTable t) where
       ∙ (ap (λ x. (x + added k (act Transpose t)) * cols_of (act Transpose t)) (rows-across t h)
       ∙ (ap (λ x. (cols_of t + x) * cols_of (act Transpose t)) (added-across k) ∙ ap (λ x. (cols_of t + added k t) * x) (cols-across t h)))
 
+-- columns of the one default, at the end and at the beginning
 module _ {T : Type 0} where
   pub cols_expanded : (P : T → Type 0) (k : ℕ) (d : T) (t new : List (List T)) → IsTable t → PadsCols P (cols_of t) (added k t) t new → ((x : T) → P x → x ≡ d) → new ≡ expanded_cols k d t
   cols_expanded P k d [] new h p one = p.put ∙ ap (λ v. put_cols 0 v []) (nil_from_length p.fresh p.number)

@@ -44,8 +44,8 @@ impl<T, A: Allocator> Grid<T, A> {
     ///
     /// Changes nothing and takes no memory on an empty grid, or where `count` is 0. Refused as too large where the
     /// cells would pass `usize::MAX`, which is decided first, and for memory, which is had before the first change; a
-    /// refusal leaves the grid as it was. Takes time in the cells that are added and those that move. Row-major none
-    /// moves, and column-major all but those of the first column, by one swap each.
+    /// refusal leaves the grid as it was. Takes time in the number of cells at most: each one whose place in the vector
+    /// changes is swapped once, row-major none, and column-major all but those of the first column.
     pub fn expand_rows(&mut self, count: usize) -> Result<(), GridError>
     where
         T: Default,
@@ -63,8 +63,8 @@ impl<T, A: Allocator> Grid<T, A> {
 
     /// Adds `count` rows of defaults at the beginning. The order stays.
     ///
-    /// Changes nothing, and is refused, where [`expand_rows`](Grid::expand_rows) is; a refusal leaves the grid as it
-    /// was. Takes time in the cells that are added and those that move, which are all, by one swap each.
+    /// Changes nothing, and is refused, where [`expand_rows`](Grid::expand_rows) does and is; a refusal leaves the grid
+    /// as it was. Takes time in the number of cells: each of the old ones is swapped once.
     pub fn prepend_rows(&mut self, count: usize) -> Result<(), GridError>
     where
         T: Default,
@@ -83,8 +83,8 @@ impl<T, A: Allocator> Grid<T, A> {
     ///
     /// Changes nothing and takes no memory on an empty grid, or where `count` is 0. Refused as too large where the
     /// cells would pass `usize::MAX`, which is decided first, and for memory, which is had before the first change; a
-    /// refusal leaves the grid as it was. Takes time in the cells that are added and those that move. Column-major
-    /// none moves, and row-major all but those of the first row, by one swap each.
+    /// refusal leaves the grid as it was. Takes time in the number of cells at most: each one whose place in the vector
+    /// changes is swapped once, column-major none, and row-major all but those of the first row.
     pub fn expand_cols(&mut self, count: usize) -> Result<(), GridError>
     where
         T: Default,
@@ -102,8 +102,8 @@ impl<T, A: Allocator> Grid<T, A> {
 
     /// Adds `count` columns of defaults at the beginning. The order stays.
     ///
-    /// Changes nothing, and is refused, where [`expand_cols`](Grid::expand_cols) is; a refusal leaves the grid as it
-    /// was. Takes time in the cells that are added and those that move, which are all, by one swap each.
+    /// Changes nothing, and is refused, where [`expand_cols`](Grid::expand_cols) does and is; a refusal leaves the grid
+    /// as it was. Takes time in the number of cells: each of the old ones is swapped once.
     pub fn prepend_cols(&mut self, count: usize) -> Result<(), GridError>
     where
         T: Default,
