@@ -80,10 +80,22 @@ fn macros(rt: HostRuntime) -> Result<(), Fail> {
     assert_stored(&rt, &made, (2, 3), ColumnMajor, &[1, 4, 2, 5, 3, 6]);
     let made = grid!(alloc; [1u8, 2] [3, 4])?;
     assert_stored(&rt, &made, (2, 2), RowMajor, &[1, 2, 3, 4]);
+    Ok(())
+}
+
+#[test]
+fn macros_of_empty_rows(rt: HostRuntime) -> Result<(), Fail> {
+    let alloc = rt.alloc();
     let made: Grid<u8> = grid!(alloc; [] [])?;
     assert_stored(&rt, &made, (0, 0), RowMajor, &[]);
     let made: Grid<u8> = grid_cm!(alloc; [] [])?;
     assert_stored(&rt, &made, (0, 0), ColumnMajor, &[]);
+    Ok(())
+}
+
+#[test]
+fn macros_of_no_rows(rt: HostRuntime) -> Result<(), Fail> {
+    let alloc = rt.alloc();
     let made: Grid<u8> = grid!(alloc;)?;
     assert_stored(&rt, &made, (0, 0), RowMajor, &[]);
     let made: Grid<u8> = grid_cm!(alloc;)?;
