@@ -50,19 +50,28 @@ pub const MOVES: [Move; 6] = [
 // Rows and columns in range of a table, and some past its end.
 pub const PLACES: [usize; 6] = [0, 1, 2, 3, 4, usize::MAX];
 
-// So many numbers, from the first on.
+// A line of so many numbers, each one more than the one before it.
+fn next_line<A: Allocator>(
+    alloc: A,
+    next: &mut u32,
+    len: usize,
+) -> Result<Vec<u32, A>, AllocError> {
+    let mut line = Vec::with_capacity(alloc, len)?;
+    for _ in 0..len {
+        line.push(*next)?;
+        *next = next.wrapping_add(1);
+    }
+    Ok(line)
+}
+
+// A line of so many numbers, from the first on.
 pub fn line_from<A: Allocator>(
     alloc: A,
     first: u32,
     len: usize,
 ) -> Result<Vec<u32, A>, AllocError> {
-    let mut line = Vec::with_capacity(alloc, len)?;
     let mut next = first;
-    for _ in 0..len {
-        line.push(next)?;
-        next = next.wrapping_add(1);
-    }
-    Ok(line)
+    next_line(alloc, &mut next, len)
 }
 
 // So many lines of so many numbers, which go on from line to line.
@@ -75,8 +84,7 @@ pub fn lines_from<A: Allocator + Copy>(
     let mut lines = Vec::with_capacity(alloc, count)?;
     let mut next = first;
     for _ in 0..count {
-        lines.push(line_from(alloc, next, len)?)?;
-        next = next.wrapping_add(len as u32);
+        lines.push(next_line(alloc, &mut next, len)?)?;
     }
     Ok(lines)
 }

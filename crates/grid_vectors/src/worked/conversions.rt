@@ -33,12 +33,11 @@ fn pairs_that_fit(rt: HostRuntime) -> Result<(), Fail> {
 #[test]
 fn ragged(rt: HostRuntime) -> Result<(), Fail> {
     let alloc = rt.alloc();
-    for (rows, row, len, cols) in [
-        ([[1u32, 2].as_slice(), &[3], &[4]], 1usize, 1usize, 2usize),
-        ([&[1, 2, 3], &[4, 5, 6], &[7, 8]], 2, 2, 3),
-        ([&[], &[1], &[]], 1, 1, 0),
+    for (table, row, len, cols) in [
+        (table_of(alloc, &[&[1, 2], &[3], &[4]])?, 1usize, 1usize, 2usize),
+        (table_of(alloc, &[&[1, 2, 3], &[4, 5, 6], &[7, 8]])?, 2, 2, 3),
+        (table_of(alloc, &[&[], &[1]])?, 1, 1, 0),
     ] {
-        let table = table_of(alloc, rows.as_slice())?;
         let refused = Some(ShapeError::Ragged { row, len, cols });
         assert_eq!(rt; Grid::try_from(&table).err(), refused);
         let mut lent = Vec::new(alloc);
@@ -55,8 +54,7 @@ fn ragged(rt: HostRuntime) -> Result<(), Fail> {
 #[test]
 fn rows_without_cells(rt: HostRuntime) -> Result<(), Fail> {
     let alloc = rt.alloc();
-    for rows in [[[].as_slice(), &[]].as_slice(), &[]] {
-        let table = table_of(alloc, rows)?;
+    for table in [table_of(alloc, &[])?, table_of(alloc, &[&[], &[]])?] {
         assert_stored(&rt, &Grid::try_from(&table)?, (0, 0), RowMajor, &[]);
         assert_stored(&rt, &Grid::try_from(table)?, (0, 0), RowMajor, &[]);
     }
