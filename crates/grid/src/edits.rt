@@ -111,7 +111,12 @@ fn close_rows<T: Drop, A: Allocator>(
 }
 
 impl<T, A: Allocator> Grid<T, A> {
-    /// Puts a row at the end, as [`insert_row`](Grid::insert_row) there.
+    /// Puts a row at the end. The order stays.
+    ///
+    /// The line is not empty, and on a nonempty grid its length is the number of columns; on an empty grid it becomes
+    /// the only row. Refused as too large where the cells would pass `usize::MAX`, which is decided first, and for
+    /// memory: then the line comes back, and the grid is as it was. Row-major it takes time in the length of the line,
+    /// but for what a growing vector moves; column-major as [`insert_row`](Grid::insert_row).
     pub fn push_row(&mut self, line: Vec<T, A>) -> Result<(), LineRefused<T, A>>
         requires nonempty { 0 < length line.items }
         requires fits { FitsRow self.old.rows (length line.items) }
@@ -125,7 +130,12 @@ impl<T, A: Allocator> Grid<T, A> {
         self.insert_row(at, line)
     }
 
-    /// Puts a column at the end, as [`insert_col`](Grid::insert_col) there.
+    /// Puts a column at the end. The order stays.
+    ///
+    /// The line is not empty, and on a nonempty grid its length is the number of rows; on an empty grid it becomes the
+    /// only column. Refused as too large where the cells would pass `usize::MAX`, which is decided first, and for
+    /// memory: then the line comes back, and the grid is as it was. Column-major it takes time in the length of the
+    /// line, but for what a growing vector moves; row-major as [`insert_col`](Grid::insert_col).
     pub fn push_col(&mut self, line: Vec<T, A>) -> Result<(), LineRefused<T, A>>
         requires nonempty { 0 < length line.items }
         requires fits { FitsCol self.old.rows (length line.items) }
@@ -139,12 +149,12 @@ impl<T, A: Allocator> Grid<T, A> {
         self.insert_col(at, line)
     }
 
-    /// Puts a row before row `at`, or at the end where `at` is the number of rows.
+    /// Puts a row before row `at`, or at the end where `at` is the number of rows. The order stays.
     ///
     /// The line is not empty, and on a nonempty grid its length is the number of columns; on an empty grid it becomes
     /// the only row. Refused as too large where the cells would pass `usize::MAX`, which is decided first, and for
     /// memory: then the line comes back, and the grid is as it was. Row-major it takes time in the number of cells,
-    /// column-major in that times log2(columns).
+    /// column-major in that times log2(columns) + 1.
     pub fn insert_row(&mut self, at: usize, line: Vec<T, A>) -> Result<(), LineRefused<T, A>>
         requires nonempty { 0 < length line.items }
         requires fits { FitsRow self.old.rows (length line.items) }
@@ -178,12 +188,12 @@ impl<T, A: Allocator> Grid<T, A> {
         }
     }
 
-    /// Puts a column before column `at`, or at the end where `at` is the number of columns.
+    /// Puts a column before column `at`, or at the end where `at` is the number of columns. The order stays.
     ///
     /// The line is not empty, and on a nonempty grid its length is the number of rows; on an empty grid it becomes the
     /// only column. Refused as too large where the cells would pass `usize::MAX`, which is decided first, and for
     /// memory: then the line comes back, and the grid is as it was. Column-major it takes time in the number of cells,
-    /// row-major in that times log2(rows).
+    /// row-major in that times log2(rows) + 1.
     pub fn insert_col(&mut self, at: usize, line: Vec<T, A>) -> Result<(), LineRefused<T, A>>
         requires nonempty { 0 < length line.items }
         requires fits { FitsCol self.old.rows (length line.items) }
@@ -201,7 +211,10 @@ impl<T, A: Allocator> Grid<T, A> {
         inserted
     }
 
-    /// Takes the last row, or answers `None` on an empty grid, as [`remove_row`](Grid::remove_row).
+    /// Takes the last row, or answers `None` on an empty grid. The order stays; the only row leaves the size (0, 0).
+    ///
+    /// Takes memory for the line only where there is one, and a refusal leaves the grid as it was. Row-major it takes
+    /// time in the length of the line, column-major as [`remove_row`](Grid::remove_row).
     pub fn pop_row(&mut self) -> Result<Option<Vec<T, A>>, AllocError>
     where
         A: Clone,
@@ -217,10 +230,10 @@ impl<T, A: Allocator> Grid<T, A> {
         }
     }
 
-    /// Takes row `at`, or answers `None` where there is none.
+    /// Takes row `at`, or answers `None` where there is none. The order stays; the only row leaves the size (0, 0).
     ///
-    /// Takes memory only where there is one, and a refusal leaves the grid as it was. Row-major it takes time in the
-    /// number of cells, column-major in that times log2(columns).
+    /// Takes memory for the line only where there is one, and a refusal leaves the grid as it was. Row-major it takes
+    /// time in the number of cells, column-major in that times log2(columns) + 1.
     pub fn remove_row(&mut self, at: usize) -> Result<Option<Vec<T, A>>, AllocError>
     where
         A: Clone,
@@ -255,7 +268,11 @@ impl<T, A: Allocator> Grid<T, A> {
         self.col_count = width_left(rest, self.col_count);
     }
 
-    /// Takes the last column, or answers `None` on an empty grid, as [`remove_col`](Grid::remove_col).
+    /// Takes the last column, or answers `None` on an empty grid. The order stays; the only column leaves the size
+    /// (0, 0).
+    ///
+    /// Takes memory for the line only where there is one, and a refusal leaves the grid as it was. Column-major it
+    /// takes time in the length of the line, row-major as [`remove_col`](Grid::remove_col).
     pub fn pop_col(&mut self) -> Result<Option<Vec<T, A>>, AllocError>
     where
         A: Clone,
@@ -271,10 +288,11 @@ impl<T, A: Allocator> Grid<T, A> {
         }
     }
 
-    /// Takes column `at`, or answers `None` where there is none.
+    /// Takes column `at`, or answers `None` where there is none. The order stays; the only column leaves the size
+    /// (0, 0).
     ///
-    /// Takes memory only where there is one, and a refusal leaves the grid as it was. Column-major it takes time in the
-    /// number of cells, row-major in that times log2(rows).
+    /// Takes memory for the line only where there is one, and a refusal leaves the grid as it was. Column-major it
+    /// takes time in the number of cells, row-major in that times log2(rows) + 1.
     pub fn remove_col(&mut self, at: usize) -> Result<Option<Vec<T, A>>, AllocError>
     where
         A: Clone,
@@ -291,7 +309,8 @@ impl<T, A: Allocator> Grid<T, A> {
         removed
     }
 
-    /// Drops row `at`, and answers whether there was one. Takes no memory, and is one pass over the cells that move.
+    /// Drops row `at`, and answers whether there was one; else nothing changes. The order stays; the only row leaves
+    /// the size (0, 0). Takes no memory, and is one pass over the cells that move.
     pub fn delete_row(&mut self, at: usize) -> bool
     where
         T: Drop,
@@ -302,7 +321,8 @@ impl<T, A: Allocator> Grid<T, A> {
         self.delete_rows(at, 1)
     }
 
-    /// Drops column `at`, and answers whether there was one. Takes no memory, and is one pass over the cells that move.
+    /// Drops column `at`, and answers whether there was one; else nothing changes. The order stays; the only column
+    /// leaves the size (0, 0). Takes no memory, and is one pass over the cells that move.
     pub fn delete_col(&mut self, at: usize) -> bool
     where
         T: Drop,
@@ -313,8 +333,8 @@ impl<T, A: Allocator> Grid<T, A> {
         self.delete_cols(at, 1)
     }
 
-    /// Drops `count` rows from row `start` on, and answers whether there were so many; else nothing changes. Takes no
-    /// memory, and is one pass over the cells that move.
+    /// Drops `count` rows from row `start` on, and answers whether there were so many; else nothing changes. The order
+    /// stays; all rows leave the size (0, 0). Takes no memory, and is one pass over the cells that move.
     pub fn delete_rows(&mut self, start: usize, count: usize) -> bool
     where
         T: Drop,
@@ -326,8 +346,8 @@ impl<T, A: Allocator> Grid<T, A> {
         self.delete_rows_counted(start, count, &mut tally)
     }
 
-    /// Drops `count` columns from column `start` on, and answers whether there were so many; else nothing changes.
-    /// Takes no memory, and is one pass over the cells that move.
+    /// Drops `count` columns from column `start` on, and answers whether there were so many; else nothing changes. The
+    /// order stays; all columns leave the size (0, 0). Takes no memory, and is one pass over the cells that move.
     pub fn delete_cols(&mut self, start: usize, count: usize) -> bool
     where
         T: Drop,

@@ -47,6 +47,9 @@ pub fn rebuilt<T, A: Allocator>(grid: Grid<T, A>) -> Grid<T, A>
 }
 
 /// A row that is pushed and popped comes back, and leaves the rows and the order.
+///
+/// Its condition is that of [`push_row`](Grid::push_row). Where the push is refused nothing changes; where the pop is,
+/// the row stays in the grid.
 pub fn push_row_then_pop_row<T, A: Allocator>(
     grid: &mut Grid<T, A>,
     line: Vec<T, A>,
@@ -63,6 +66,9 @@ where
 }
 
 /// A column that is inserted leaves what a row leaves that is inserted between two transposes.
+///
+/// The two grids are equal, and so are the two lines, which meet the condition of [`insert_col`](Grid::insert_col). A
+/// grid whose line is refused is as it was.
 pub fn insert_col_or_row_across<T, A: Allocator>(
     grid: &mut Grid<T, A>,
     other: &mut Grid<T, A>,

@@ -1,7 +1,7 @@
 //! A growable two-dimensional container in one flat vector, row by row or column by column.
 //!
 //! The order is invisible, except where the storage itself is shown: a contract sees a grid as a table, the list of
-//! its rows, and an order.
+//! its rows, and an order. Walks take no memory, copy no cell, and may be dropped early.
 #![tactic(auto)]
 
 mod command;

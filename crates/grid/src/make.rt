@@ -10,8 +10,6 @@ use grid_base::Order;
 use std::alloc::Allocator;
 
 mod arrays;
-#[cfg(test)]
-mod tests;
 
 impl<T, A: Allocator> Grid<T, A> {
     // The empty grid of an order.

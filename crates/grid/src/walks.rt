@@ -12,8 +12,6 @@ ghost use Rattle.grid_base.specs.IndexedIterMut.{indexed_mut_rest};
 mod cols;
 mod rows;
 mod span;
-#[cfg(test)]
-mod tests;
 mod wholes;
 
 use crate::Grid;

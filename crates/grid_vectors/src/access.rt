@@ -1,5 +1,5 @@
 //! How a grid is made and its cells are reached, over all small tables and both orders.
-use crate::fixtures::{ORDERS, PLACES, SIZES, assert_shows, grid_of, numbered, put};
+use crate::fixtures::{ORDERS, PLACES, SIZES, assert_shows, grid_of, numbered, places_of, put};
 use crate::plain;
 use grid::Order;
 use std::alloc::{AllocError, Global};
@@ -130,21 +130,10 @@ fn check_swap(
     assert_shows(rt, alloc, &grid, &table, order)
 }
 
-// All places of a table of this size.
-fn all_places(alloc: Global, rows: usize, cols: usize) -> Result<Vec<(usize, usize)>, AllocError> {
-    let mut places = Vec::new(alloc);
-    for row in 0..rows {
-        for col in 0..cols {
-            places.push((row, col))?;
-        }
-    }
-    Ok(places)
-}
-
 #[test]
 fn swaps_every_two_cells(rt: HostRuntime) -> Result<(), Fail> {
     for (rows, cols) in SIZES {
-        let places = all_places(rt.alloc(), rows, cols)?;
+        let places = places_of(rt.alloc(), (rows, cols), Order::RowMajor)?;
         for order in ORDERS {
             for a in &places {
                 for b in &places {

@@ -3,9 +3,10 @@ ghost use Rattle.std.specs.Prelude.{◌≡◌};
 
 use crate::fuse::Fuse;
 use crate::plain;
-use grid::{Grid, Order, Symmetry};
+use grid::{Grid, Move, Order, Symmetry};
 use std::alloc::{AllocError, Allocator, Global};
 use std::cell::Cell;
+use std::fmt::Debug;
 use std::process::Abort;
 
 // Memory that a test can refuse.
@@ -37,22 +38,83 @@ pub const SYMMETRIES: [Symmetry; 8] = [
     Symmetry::AntiTranspose,
 ];
 
+pub const MOVES: [Move; 6] = [
+    Move::Transpose,
+    Move::FlipCols,
+    Move::FlipRows,
+    Move::RotateLeft,
+    Move::RotateRight,
+    Move::RotateHalf,
+];
+
 // Rows and columns in range of a table, and some past its end.
 pub const PLACES: [usize; 6] = [0, 1, 2, 3, 4, usize::MAX];
 
+// A line of so many numbers, each one more than the one before it.
+fn next_line<A: Allocator>(
+    alloc: A,
+    next: &mut u32,
+    len: usize,
+) -> Result<Vec<u32, A>, AllocError> {
+    let mut line = Vec::with_capacity(alloc, len)?;
+    for _ in 0..len {
+        line.push(*next)?;
+        *next = next.wrapping_add(1);
+    }
+    Ok(line)
+}
+
+// A line of so many numbers, from the first on.
+pub fn line_from<A: Allocator>(
+    alloc: A,
+    first: u32,
+    len: usize,
+) -> Result<Vec<u32, A>, AllocError> {
+    let mut next = first;
+    next_line(alloc, &mut next, len)
+}
+
+// So many lines of so many numbers, which go on from line to line.
+pub fn lines_from<A: Allocator + Copy>(
+    alloc: A,
+    first: u32,
+    count: usize,
+    len: usize,
+) -> Result<Vec<Vec<u32, A>, A>, AllocError> {
+    let mut lines = Vec::with_capacity(alloc, count)?;
+    let mut next = first;
+    for _ in 0..count {
+        lines.push(next_line(alloc, &mut next, len)?)?;
+    }
+    Ok(lines)
+}
+
 // The table of this size with the cells 1, 2, 3, ..
 pub fn numbered(alloc: Global, rows: usize, cols: usize) -> Result<Vec<Vec<u32>>, AllocError> {
+    lines_from(alloc, 1, rows, cols)
+}
+
+// A table of rows that are written out.
+pub fn table_of(alloc: Global, rows: &[&[u32]]) -> Result<Vec<Vec<u32>>, AllocError> {
     let mut table = Vec::new(alloc);
-    let mut next = 1u32;
-    for _ in 0..rows {
-        let mut row = Vec::new(alloc);
-        for _ in 0..cols {
-            row.push(next)?;
-            next = next.wrapping_add(1);
-        }
-        table.push(row)?;
+    for row in rows {
+        table.push(Vec::from_slice(alloc, *row)?)?;
     }
     Ok(table)
+}
+
+// A grid of cells in storage order, in rows of `cols`.
+pub fn stored(
+    rt: &impl Abort,
+    alloc: Global,
+    cells: &[u32],
+    cols: usize,
+    order: Order,
+) -> Result<Grid<u32>, AllocError> {
+    let cells = Vec::from_slice(alloc, cells)?;
+    let len = cells.len();
+    assert!(rt; len == 0 || cols != 0 && len % cols == 0);
+    Ok(Grid::from_vec_with_order(cells, cols, order))
 }
 
 // The grid of a table, stored in an order.
@@ -64,9 +126,7 @@ pub fn grid_of(
 ) -> Result<Grid<u32>, AllocError> {
     let cells = plain::storage(alloc, order, table)?;
     let (_, cols) = plain::size(table);
-    let len = cells.len();
-    assert!(rt; len == 0 || cols != 0 && len % cols == 0);
-    Ok(Grid::from_vec_with_order(cells, cols, order))
+    stored(rt, alloc, cells.as_slice(), cols, order)
 }
 
 // The grid of a table, whose heap refuses each request from before the grid is made.
@@ -111,6 +171,19 @@ pub fn assert_shows<A: Allocator>(
     Ok(())
 }
 
+// A grid has this size, and has stored these cells in this order.
+pub fn assert_stored<T: Debug + PartialEq, A: Allocator>(
+    rt: &impl Abort,
+    grid: &Grid<T, A>,
+    size: (usize, usize),
+    order: Order,
+    cells: &[T],
+) {
+    assert_eq!(rt; grid.size(), size);
+    assert_eq!(rt; grid.order(), order);
+    assert_eq!(rt; grid.flatten(), cells);
+}
+
 // Where the cells of a table of this size stand, in storage order.
 pub fn places_of(
     alloc: Global,
@@ -146,6 +219,18 @@ pub fn put(table: &mut Vec<Vec<u32>>, row: usize, col: usize, value: u32) {
     }
 }
 
+// Does a move by the call of its name.
+pub fn call<A: Allocator>(grid: &mut Grid<u32, A>, step: Move) {
+    match step {
+        Move::Transpose => grid.transpose(),
+        Move::FlipCols => grid.flip_cols(),
+        Move::FlipRows => grid.flip_rows(),
+        Move::RotateLeft => grid.rotate_left(),
+        Move::RotateRight => grid.rotate_right(),
+        Move::RotateHalf => grid.rotate_half(),
+    }
+}
+
 // The order of a grid on which a symmetry has acted.
 pub fn order_after(symmetry: Symmetry, order: Order) -> Order {
     let transposes = match symmetry {
@@ -162,6 +247,29 @@ pub fn order_after(symmetry: Symmetry, order: Order) -> Order {
         (true, Order::RowMajor) => Order::ColumnMajor,
         (true, Order::ColumnMajor) => Order::RowMajor,
     }
+}
+
+// The grid of the rows a b c and d e f, stored in an order.
+pub fn letters(rt: &impl Abort, alloc: Global, order: Order) -> Result<Grid<String>, AllocError> {
+    let stored = match order {
+        Order::RowMajor => ["a", "b", "c", "d", "e", "f"],
+        Order::ColumnMajor => ["a", "d", "b", "e", "c", "f"],
+    };
+    let mut cells = Vec::new(alloc);
+    for letter in stored {
+        cells.push(String::from_str(alloc, letter)?)?;
+    }
+    assert!(rt; cells.len() == 6);
+    Ok(Grid::from_vec_with_order(cells, 3, order))
+}
+
+// The texts of a grid's vector, joined.
+pub fn joined(alloc: Global, grid: &Grid<String>) -> Result<String, AllocError> {
+    let mut text = String::new(alloc);
+    for cell in grid.flatten() {
+        text.push_str(cell.as_str())?;
+    }
+    Ok(text)
 }
 
 // A cell whose clone is refused once none of the granted ones is left.

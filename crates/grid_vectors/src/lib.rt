@@ -8,28 +8,30 @@ pub mod chains;
 #[cfg(test)]
 mod commands;
 #[cfg(test)]
+mod dropped;
+#[cfg(test)]
 mod edits;
+#[cfg(test)]
+mod fitting;
 #[cfg(test)]
 mod fixtures;
 pub mod fuse;
 #[cfg(test)]
 mod ground;
 #[cfg(test)]
-mod line_ranges;
-#[cfg(test)]
-mod lines_refused;
-#[cfg(test)]
 mod made;
 #[cfg(test)]
 mod memory;
 pub mod plain;
 #[cfg(test)]
-mod refused;
+mod plain_edits;
 #[cfg(test)]
-mod rows;
+mod refused;
 #[cfg(test)]
 mod symmetries;
 #[cfg(test)]
 mod walks;
 #[cfg(test)]
 mod wholes;
+#[cfg(test)]
+mod worked;

@@ -1,5 +1,7 @@
 //! How grids are made and converted, over all small sizes, also where memory is refused.
-use crate::fixtures::{Fragile, Heap, ORDERS, assert_shows, numbered, put, value_at};
+use crate::fixtures::{
+    Fragile, Heap, ORDERS, assert_shows, line_from, numbered, put, value_at,
+};
 use crate::fuse::Fuse;
 use grid::{Grid, GridError, Order, ShapeError, grid, grid_cm};
 use std::alloc::{AllocError, Allocator, Global};
@@ -191,17 +193,6 @@ fn writes_grids_out(rt: HostRuntime) -> Result<(), Fail> {
     Ok(())
 }
 
-// The cells 1, 2, 3, ..
-fn cells_in<A: Allocator>(alloc: A, len: usize) -> Result<Vec<u32, A>, AllocError> {
-    let mut cells = Vec::new(alloc);
-    let mut next = 1u32;
-    for _ in 0..len {
-        cells.push(next)?;
-        next = next.wrapping_add(1);
-    }
-    Ok(cells)
-}
-
 // What a cut answers, where memory is enough or not.
 fn check_cut(
     rt: &impl Abort,
@@ -220,7 +211,7 @@ fn check_cut(
             } else {
                 assert_eq!(rt; grid.size(), (len.checked_div(cols).unwrap_or(0), cols));
             }
-            assert_eq!(rt; grid.flatten(), cells_in(alloc, len)?.as_slice());
+            assert_eq!(rt; grid.flatten(), line_from(alloc, 1, len)?.as_slice());
             Ok(())
         }
         Err(ShapeError::Memory) => {
@@ -243,7 +234,7 @@ fn cuts_vectors(rt: HostRuntime) -> Result<(), Fail> {
         for cols in 0..5usize {
             for granted in 0..2u64 {
                 heap.grant(u64::MAX);
-                let cells = cells_in(&heap, len)?;
+                let cells = line_from(&heap, 1, len)?;
                 let enough = len == 0 || granted != 0;
                 heap.grant(granted);
                 check_cut(
@@ -277,7 +268,7 @@ fn rows_in<A: Allocator + Clone + Drop>(
 ) -> Result<Vec<Vec<u32, A>, A>, AllocError> {
     let mut rows = Vec::new(alloc.clone()?);
     for len in lens {
-        rows.push(cells_in(alloc.clone()?, *len)?)?;
+        rows.push(line_from(alloc.clone()?, 1, *len)?)?;
     }
     Ok(rows)
 }
@@ -465,7 +456,7 @@ fn refuses_clones_of_cells_in_turn(rt: HostRuntime) -> Result<(), Fail> {
     Ok(())
 }
 
-// A value that is cloned into each cell.
+// A value that is cloned into each cell but the last, which it becomes.
 #[test]
 fn refuses_clones_of_a_value_in_turn(rt: HostRuntime) -> Result<(), Fail> {
     for order in ORDERS {
@@ -482,7 +473,7 @@ fn refuses_clones_of_a_value_in_turn(rt: HostRuntime) -> Result<(), Fail> {
                 }
                 Err(refused) => {
                     assert_eq!(rt; refused, GridError::Memory);
-                    assert!(rt; granted < 4);
+                    assert!(rt; granted < 3);
                 }
             }
         }

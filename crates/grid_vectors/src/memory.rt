@@ -1,7 +1,7 @@
 //! Cells that own memory, have no size, or can't be cloned.
 ghost use Rattle.std.specs.Prelude.{◌≡◌};
 
-use crate::fixtures::{fragile_cells, value_at};
+use crate::fixtures::{fragile_cells, joined, letters, value_at};
 use grid::{Command, Grid, Order, Reply, Symmetry, Tally, run};
 use std::alloc::{AllocError, Global};
 use std::cell::Cell;
@@ -9,38 +9,19 @@ use std::marker::Model;
 use std::process::Abort;
 use std::test::Fail;
 
-// [["a", "b", "c"], ["d", "e", "f"]]
-fn letters(rt: &impl Abort, alloc: Global) -> Result<Grid<String>, AllocError> {
-    let mut cells = Vec::new(alloc);
-    for letter in ["a", "b", "c", "d", "e", "f"] {
-        cells.push(String::from_str(alloc, letter)?)?;
-    }
-    assert!(rt; cells.len() == 6);
-    Ok(Grid::from_vec(cells, 3))
-}
-
-// The texts of a grid's vector, joined.
-fn texts(alloc: Global, grid: &Grid<String>) -> Result<String, AllocError> {
-    let mut joined = String::new(alloc);
-    for cell in grid.flatten() {
-        joined.push_str(cell.as_str())?;
-    }
-    Ok(joined)
-}
-
 #[test]
 fn moves_texts(rt: HostRuntime) -> Result<(), Fail> {
     let alloc = rt.alloc();
-    let mut grid = letters(&rt, alloc)?;
+    let mut grid = letters(&rt, alloc, Order::RowMajor)?;
     grid.transpose();
     assert_eq!(rt; grid.size(), (3, 2));
-    assert_eq!(rt; texts(alloc, &grid)?.as_str(), "abcdef");
+    assert_eq!(rt; joined(alloc, &grid)?.as_str(), "abcdef");
     grid.flip_rows();
-    assert_eq!(rt; texts(alloc, &grid)?.as_str(), "cbafed");
+    assert_eq!(rt; joined(alloc, &grid)?.as_str(), "cbafed");
     let (rows, cols) = grid.size();
     assert!(rt; 2 < rows && 1 < cols);
     grid.swap((0, 0), (2, 1));
-    assert_eq!(rt; texts(alloc, &grid)?.as_str(), "dbafec");
+    assert_eq!(rt; joined(alloc, &grid)?.as_str(), "dbafec");
     let vec = grid.into_vec();
     assert_eq!(rt; vec.len(), 6);
     assert_eq!(rt; vec.first().map(|text| text.as_str()), Some("d"));
@@ -49,31 +30,12 @@ fn moves_texts(rt: HostRuntime) -> Result<(), Fail> {
 
 #[test]
 fn drops_texts(rt: HostRuntime) -> Result<(), Fail> {
-    let mut grid = letters(&rt, rt.alloc())?;
+    let mut grid = letters(&rt, rt.alloc(), Order::RowMajor)?;
     grid.rotate_left();
     grid.clear();
     assert_eq!(rt; grid.size(), (0, 0));
     assert_eq!(rt; grid.order(), Order::ColumnMajor);
     assert!(rt; grid.is_empty());
-    Ok(())
-}
-
-// A walk for writing that is dropped after one text from each end.
-#[test]
-fn drops_a_walk_of_texts(rt: HostRuntime) -> Result<(), Fail> {
-    let alloc = rt.alloc();
-    let mut grid = letters(&rt, alloc)?;
-    grid.transpose();
-    let mut walk = (&mut grid).into_iter();
-    if let Some(text) = walk.next() {
-        text.push_str("1")?;
-    }
-    if let Some(text) = walk.next_back() {
-        text.push_str("2")?;
-    }
-    drop(walk);
-    grid.flip_rows();
-    assert_eq!(rt; texts(alloc, &grid)?.as_str(), "cba1f2ed");
     Ok(())
 }
 

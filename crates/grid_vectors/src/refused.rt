@@ -1,7 +1,7 @@
 //! Memory that is refused: request by request, or each request from the first on.
 use crate::fixtures::{
-    Heap, ORDERS, SIZES, SYMMETRIES, assert_shows, fragile_cells, numbered, order_after, put,
-    starved_grid_of, value_at,
+    Heap, MOVES, ORDERS, SIZES, SYMMETRIES, assert_shows, call, fragile_cells, numbered,
+    order_after, put, starved_grid_of, value_at,
 };
 use crate::fuse::Fuse;
 use crate::plain;
@@ -181,14 +181,7 @@ fn check_moves(
     step: Move,
 ) -> Result<(), AllocError> {
     let order = grid.order();
-    match step {
-        Move::Transpose => grid.transpose(),
-        Move::FlipCols => grid.flip_cols(),
-        Move::FlipRows => grid.flip_rows(),
-        Move::RotateLeft => grid.rotate_left(),
-        Move::RotateRight => grid.rotate_right(),
-        Move::RotateHalf => grid.rotate_half(),
-    }
+    call(grid, step);
     let symmetry = reduce([step].as_slice());
     let image = plain::act(alloc, symmetry, table)?;
     assert_shows(rt, alloc, grid, &image, order_after(symmetry, order))?;
@@ -281,21 +274,13 @@ fn walks_take_no_memory(rt: HostRuntime) -> Result<(), Fail> {
 
 #[test]
 fn moves_take_no_memory(rt: HostRuntime) -> Result<(), Fail> {
-    use Move::{FlipCols, FlipRows, RotateHalf, RotateLeft, RotateRight, Transpose};
     let alloc = rt.alloc();
     for (rows, cols) in SIZES {
         let table = numbered(alloc, rows, cols)?;
         for order in ORDERS {
             let heap = Fuse::new(alloc, 0);
             let mut grid = starved_grid_of(&rt, alloc, &heap, &table, order)?;
-            for step in [
-                Transpose,
-                FlipCols,
-                FlipRows,
-                RotateLeft,
-                RotateRight,
-                RotateHalf,
-            ] {
+            for step in MOVES {
                 check_moves(&rt, alloc, &mut grid, &table, step)?;
             }
         }

@@ -1,20 +1,13 @@
 //! The eight symmetries, the six calls, and words of them, over all small tables and both orders.
-use crate::fixtures::{ORDERS, SIZES, SYMMETRIES, assert_shows, grid_of, numbered, order_after};
+use crate::fixtures::{
+    MOVES, ORDERS, SIZES, SYMMETRIES, assert_shows, call, grid_of, numbered, order_after,
+};
 use crate::plain;
 use grid::laws::{flip_rows_then_cols, rebuilt, rotate_left_four_times, rotate_right_then_left};
 use grid::{Grid, Move, Order, Symmetry, reduce};
 use std::alloc::{AllocError, Global};
 use std::process::Abort;
 use std::test::Fail;
-
-const MOVES: [Move; 6] = [
-    Move::Transpose,
-    Move::FlipCols,
-    Move::FlipRows,
-    Move::RotateLeft,
-    Move::RotateRight,
-    Move::RotateHalf,
-];
 
 // The symmetry that a move does.
 fn symmetry_of(step: Move) -> Symmetry {
@@ -25,18 +18,6 @@ fn symmetry_of(step: Move) -> Symmetry {
         Move::RotateLeft => Symmetry::RotateLeft,
         Move::RotateRight => Symmetry::RotateRight,
         Move::RotateHalf => Symmetry::RotateHalf,
-    }
-}
-
-// Does a move by the call of its name.
-fn call(grid: &mut Grid<u32>, step: Move) {
-    match step {
-        Move::Transpose => grid.transpose(),
-        Move::FlipCols => grid.flip_cols(),
-        Move::FlipRows => grid.flip_rows(),
-        Move::RotateLeft => grid.rotate_left(),
-        Move::RotateRight => grid.rotate_right(),
-        Move::RotateHalf => grid.rotate_half(),
     }
 }
 

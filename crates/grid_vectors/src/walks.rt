@@ -116,18 +116,21 @@ fn reads_cells_with_places(rt: HostRuntime) -> Result<(), Fail> {
     Ok(())
 }
 
-// A line has these cells, and says at each step how many are left.
+// A line has these cells, from both ends, and says at each step how many are left.
 fn check_line(
     rt: &impl Abort,
     mut line: StepBy<slice::Iter<'_, u32>>,
     want: &[u32],
 ) -> Result<(), AllocError> {
+    let mut copy = line.clone()?;
+    for cell in want.iter().rev() {
+        assert_eq!(rt; copy.next_back().copied(), Some(*cell));
+    }
+    assert!(rt; copy.next_back().is_none());
     let mut left = want.len();
     for cell in want {
         assert_eq!(rt; line.len(), left);
         assert_eq!(rt; line.size_hint(), (left, Some(left)));
-        let mut copy = line.clone()?;
-        assert_eq!(rt; copy.next().copied(), Some(*cell));
         assert_eq!(rt; line.next().copied(), Some(*cell));
         left = left.wrapping_sub(1);
     }
@@ -331,20 +334,26 @@ fn check_line_writes(
         assert!(rt; row < grid.rows());
         let line = grid.iter_row_mut(row);
         assert_eq!(rt; line.size_hint(), (cols, Some(cols)));
+        let mut written = 0usize;
         for (col, cell) in line.take(len).enumerate() {
             *cell = cell.wrapping_add(50);
             put(&mut table, row, col, *cell);
+            written = written.wrapping_add(1);
         }
+        assert_eq!(rt; written, len.min(cols));
         assert_shows(rt, alloc, &grid, &table, order)?;
     }
     for col in 0..cols {
         assert!(rt; col < grid.cols());
         let line = grid.iter_col_mut(col);
         assert_eq!(rt; line.size_hint(), (rows, Some(rows)));
+        let mut written = 0usize;
         for (row, cell) in line.take(len).enumerate() {
             *cell = cell.wrapping_mul(3);
             put(&mut table, row, col, *cell);
+            written = written.wrapping_add(1);
         }
+        assert_eq!(rt; written, len.min(rows));
         assert_shows(rt, alloc, &grid, &table, order)?;
     }
     Ok(())

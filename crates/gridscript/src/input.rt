@@ -7,11 +7,12 @@ use std::io::Read;
 use std::rt::Env;
 use std::{env, io};
 
+// An input that doesn't end within so many reads is refused.
 const READS: u32 = 1_048_576;
 
 const READ_LEN: usize = 4096;
 
-/// The arguments after the program's name. One that is no text is no use of the program.
+/// The arguments after the program's name. One that is no text ends the program as bad arguments do.
 pub fn arguments<R: Env + AllocGlobal>(rt: &R) -> Result<Vec<String>, Ending> {
     match env::args(rt) {
         Ok(args) => Ok(args.skip(1).collect(rt.alloc())?),
@@ -20,8 +21,8 @@ pub fn arguments<R: Env + AllocGlobal>(rt: &R) -> Result<Vec<String>, Ending> {
     }
 }
 
-/// Whether the arguments after the program's name ask for a deferred run, or `None` where they are no use of the
-/// program.
+/// Whether the arguments after the program's name ask for a deferred run, or `None` where they are neither none nor
+/// the word `deferred`.
 pub fn mode(args: &[String]) -> Option<bool>
     ensures plain { (result ≡ Some false) ↔ (args.now ≡ []) }
     ensures deferred { (result ≡ Some true) ↔ (map string_bytes args.now ≡ codes "deferred" ∷ []) }

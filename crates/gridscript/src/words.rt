@@ -75,7 +75,7 @@ fn without_return(line: &[u8]) -> &[u8]
 pub struct Words<'a>(&'a str);
 
 impl<'a> Words<'a> {
-    /// The words of a line, or `None` where it is no text.
+    /// The words of a line, or `None` where it is not UTF-8.
     pub fn of(line: &'a [u8]) -> Option<Words<'a>> {
         let text = str::from_utf8(line).ok()?;
         Some(Words(text))

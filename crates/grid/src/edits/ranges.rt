@@ -34,13 +34,13 @@ fn free_empty<T, A: Allocator>(lines: Vec<Vec<T, A>, A>)
 }
 
 impl<T, A: Allocator> Grid<T, A> {
-    /// Puts rows before row `at`, in their order, or at the end where `at` is the number of rows.
+    /// Puts rows before row `at`, one after another, or at the end where `at` is the number of rows. The order stays.
     ///
     /// No line is empty; on a nonempty grid the length of each is the number of columns, on an empty grid all have one
     /// length and become its rows. No lines change nothing, and take no memory. Refused as too large where the cells
     /// would pass `usize::MAX`, which is decided first, and for memory, which is had for all lines before the first
     /// change: then the lines come back, and the grid is as it was. Row-major it takes time in the number of cells,
-    /// column-major in that times log2(columns).
+    /// column-major in that times log2(columns) + 1.
     pub fn insert_rows(
         &mut self,
         at: usize,
@@ -87,13 +87,14 @@ impl<T, A: Allocator> Grid<T, A> {
         }
     }
 
-    /// Puts columns before column `at`, in their order, or at the end where `at` is the number of columns.
+    /// Puts columns before column `at`, one after another, or at the end where `at` is the number of columns. The order
+    /// stays.
     ///
     /// No line is empty; on a nonempty grid the length of each is the number of rows, on an empty grid all have one
     /// length and become its columns. No lines change nothing, and take no memory. Refused as too large where the
     /// cells would pass `usize::MAX`, which is decided first, and for memory, which is had for all lines before the
     /// first change: then the lines come back, and the grid is as it was. Column-major it takes time in the number of
-    /// cells, row-major in that times log2(rows).
+    /// cells, row-major in that times log2(rows) + 1.
     pub fn insert_cols(
         &mut self,
         at: usize,

@@ -10,7 +10,7 @@ use std::alloc::Allocator;
 impl<T, A: Allocator> Flat<T, A> {
     /// Puts the groups of `count` cells that stand behind the lines into their lines, each before place `at`.
     ///
-    /// By rotations of halves: it takes time in the number of cells times log2(lines), and no memory.
+    /// By rotations of halves: it takes time in the number of cells times log2(lines) + 1, and no memory.
     pub fn weave(&mut self, lines: usize, width: usize, at: usize, count: usize)
         requires cells { length self.old ≡ lines * width + lines * count }
         requires fits { lines * width + lines * count < 2 ^ 64 }
@@ -137,7 +137,7 @@ fn unweave_cells<T>(cells: &mut [T], lines: usize, width: usize, at: usize, coun
     exchange_blocks(cells, half * width, half * count, rest * width);
 }
 
-// Counts one cell back, in groups of `width` cells and cells.
+// One less, where a number is given as so many times the width and so many more.
 fn cell_before(groups: usize, cells: usize, width: usize) -> (usize, usize)
     requires has_width { 0 < width }
     requires within { cells ≤ width }
@@ -152,7 +152,7 @@ fn cell_before(groups: usize, cells: usize, width: usize) -> (usize, usize)
     }
 }
 
-// Counts one cell on, in groups of `width` cells and cells.
+// One more, where a number is given as so many times the width and so many more.
 fn cell_behind(groups: usize, cells: usize, width: usize) -> (usize, usize)
     requires within { cells < width }
     requires fits { groups + 1 < 2 ^ 64 }

@@ -5,7 +5,7 @@ use Rattle.grid_base.specs.Gather.{cells_of}
 use Rattle.grid_base.proofs.Gathering.{rows-vecs}
 use Rattle.grid.proofs.Rows.{HasWidth}
 use Rattle.grid.proofs.Sizes.{IsTable-width}
-use Rattle.grid_vectors.proofs.line_ranges.width_of.Goals as goal
+use Rattle.grid_vectors.proofs.fitting.width_of.Goals as goal
 
 pub returns-then-all_of_length : goal.returns-then-all_of_length
 returns-then-all_of_length g c =

@@ -1,18 +1,7 @@
-//! Worked examples, with values that were found by hand.
-use crate::fixtures::{ORDERS, assert_shows, grid_of, order_after};
-use grid::{Command, Grid, Move, Order, Reply, RunStopped, Symmetry, Tally, reduce, run};
-use std::alloc::{AllocError, Global};
-use std::hash::{DefaultHasher, Hash, Hasher};
+//! Words of moves, the moves, and runs of them.
+use crate::fixtures::{ORDERS, assert_shows, grid_of, order_after, table_of};
+use grid::{Command, Grid, Move, Order, Reply, Symmetry, Tally, reduce, run};
 use std::test::Fail;
-
-// A table of rows that are written out.
-fn table_of(alloc: Global, rows: &[&[u32]]) -> Result<Vec<Vec<u32>>, AllocError> {
-    let mut table = Vec::new(alloc);
-    for row in rows {
-        table.push(Vec::from_slice(alloc, *row)?)?;
-    }
-    Ok(table)
-}
 
 // The example that the README begins with.
 #[test]
@@ -149,69 +138,5 @@ fn four_quarter_turns(rt: HostRuntime) -> Result<(), Fail> {
         assert_eq!(rt; tally.symmetry(), 10);
         assert_eq!(rt; tally.shift(), 0);
     }
-    Ok(())
-}
-
-#[test]
-fn empty_shapes(rt: HostRuntime) -> Result<(), Fail> {
-    let alloc = rt.alloc();
-    let none = Vec::new(alloc);
-    let cut = Grid::from_vec(none, 1);
-    assert_shows(&rt, alloc, &cut, &Vec::new(alloc), Order::RowMajor)?;
-    let empty = Grid::empty(alloc);
-    assert_shows(&rt, alloc, &empty, &Vec::new(alloc), Order::RowMajor).map_err(|e| Fail::from(e))
-}
-
-#[test]
-fn orders(rt: HostRuntime) -> Result<(), Fail> {
-    assert_eq!(rt; Order::default(), Order::RowMajor);
-    assert_ne!(rt; Order::RowMajor, Order::ColumnMajor);
-    assert_eq!(rt; Order::ColumnMajor.clone()?, Order::ColumnMajor);
-    let mut first = DefaultHasher::new();
-    Order::ColumnMajor.hash(&mut first);
-    let mut second = DefaultHasher::new();
-    Order::ColumnMajor.hash(&mut second);
-    assert_eq!(rt; first.finish(), second.finish());
-    let text = format!(in rt.alloc(); "{:?}", Order::ColumnMajor)?;
-    assert_eq!(rt; text.as_str(), "ColumnMajor");
-    Ok(())
-}
-
-#[test]
-fn symmetries_and_moves(rt: HostRuntime) -> Result<(), Fail> {
-    assert_eq!(rt; Symmetry::RotateLeft.clone()?, Symmetry::RotateLeft);
-    assert_ne!(rt; Symmetry::RotateLeft, Symmetry::RotateRight);
-    assert_eq!(rt; Move::FlipCols.clone()?, Move::FlipCols);
-    assert_ne!(rt; Move::FlipCols, Move::FlipRows);
-    let text = format!(in rt.alloc(); "{:?} {:?}", Symmetry::RotateLeft, Move::FlipCols)?;
-    assert_eq!(rt; text.as_str(), "RotateLeft FlipCols");
-    Ok(())
-}
-
-#[test]
-fn commands_and_replies(rt: HostRuntime) -> Result<(), Fail> {
-    let alloc = rt.alloc();
-    assert_eq!(rt; Command::Get(1, 2), Command::Get(1, 2));
-    assert_ne!(rt; Command::Size, Command::Apply(Symmetry::FlipRows));
-    let command = format!(in alloc; "{:?}", Command::Get(1, 2))?;
-    assert_eq!(rt; command.as_str(), "Get(1, 2)");
-    assert_eq!(rt; Reply::Cell(Some(7u32)), Reply::Cell(Some(7)));
-    assert_ne!(rt; Reply::Cell(Some(7u32)), Reply::Done);
-    let reply = format!(in alloc; "{:?}", Reply::Cell(Some(7u32)))?;
-    assert_eq!(rt; reply.as_str(), "Cell(Some(7))");
-    let stopped = RunStopped {
-        done: 1,
-        replies: vec![in alloc; Reply::<u32>::Size(2, 3)]?,
-    };
-    let other = RunStopped {
-        done: 1,
-        replies: vec![in alloc; Reply::<u32>::Size(2, 4)]?,
-    };
-    assert!(rt; stopped != other);
-    let text = format!(in alloc; "{stopped:?}")?;
-    assert_eq!(rt;
-        text.as_str(),
-        "RunStopped { done: 1, replies: [Size(2, 3)] }"
-    );
     Ok(())
 }

@@ -1,33 +1,10 @@
-//! Walks of every kind that are dropped after one item from each end.
-use crate::{Grid, Order};
+//! Walks of every kind over texts, which are dropped after one item from each end that they have.
+use crate::fitting::push_row;
+use crate::fixtures::{joined, letters};
+use grid::{Grid, Order};
 use std::alloc::{AllocError, Global};
 use std::process::Abort;
 use std::test::Fail;
-
-// [["a", "b", "c"], ["d", "e", "f"]]
-fn letters(rt: &impl Abort, alloc: Global, order: Order) -> Result<Grid<String>, AllocError> {
-    let mut cells = Vec::new(alloc);
-    let stored = match order {
-        Order::RowMajor => ["a", "b", "c", "d", "e", "f"],
-        Order::ColumnMajor => ["a", "d", "b", "e", "c", "f"],
-    };
-    for letter in stored {
-        cells.push(String::from_str(alloc, letter)?)?;
-    }
-    assert!(rt; cells.len() == 6);
-    let grid = Grid::from_vec_with_order(cells, 3, order);
-    assert_eq!(rt; grid.size(), (2, 3));
-    Ok(grid)
-}
-
-// The texts of a grid's vector, joined.
-fn texts(alloc: Global, grid: &Grid<String>) -> Result<String, AllocError> {
-    let mut joined = String::new(alloc);
-    for cell in grid {
-        joined.push_str(cell.as_str())?;
-    }
-    Ok(joined)
-}
 
 fn is_text(cell: Option<&String>, want: &str) -> bool {
     match cell {
@@ -53,7 +30,7 @@ fn reading_cells(rt: HostRuntime) -> Result<(), Fail> {
         assert!(rt; walk.next().is_some());
         drop(walk);
         grid.flip_rows();
-        assert_eq!(rt; texts(alloc, &grid)?.as_str(), want);
+        assert_eq!(rt; joined(alloc, &grid)?.as_str(), want);
     }
     Ok(())
 }
@@ -61,8 +38,16 @@ fn reading_cells(rt: HostRuntime) -> Result<(), Fail> {
 #[test]
 fn reading_lines(rt: HostRuntime) -> Result<(), Fail> {
     let alloc = rt.alloc();
-    for (order, want) in [(Order::RowMajor, "cbafed"), (Order::ColumnMajor, "cfbead")] {
+    for (order, want) in [
+        (Order::RowMajor, "cbafedihg"),
+        (Order::ColumnMajor, "cfibehadg"),
+    ] {
         let mut grid = letters(&rt, alloc, order)?;
+        let mut third = Vec::new(alloc);
+        for letter in ["g", "h", "i"] {
+            third.push(String::from_str(alloc, letter)?)?;
+        }
+        push_row(&rt, &mut grid, third)?;
         let (rows, cols) = grid.size();
         assert!(rt; 1 < rows && 1 < cols);
         let mut line = grid.iter_row(1);
@@ -71,28 +56,69 @@ fn reading_lines(rt: HostRuntime) -> Result<(), Fail> {
         drop(line);
         let mut line = grid.iter_col(1);
         assert!(rt; is_text(line.next(), "b"));
-        assert!(rt; is_text(line.next_back(), "e"));
+        assert!(rt; is_text(line.next_back(), "h"));
         drop(line);
         let mut lines = grid.iter_rows();
         match (lines.next(), lines.next_back()) {
             (Some(mut first), Some(mut last)) => {
                 assert!(rt; is_text(first.next(), "a"));
-                assert!(rt; is_text(last.next_back(), "f"));
+                assert!(rt; is_text(last.next_back(), "i"));
             }
-            _ => panic!(rt; "two rows were left"),
+            _ => panic!(rt; "three rows were left"),
         }
         drop(lines);
         let mut lines = grid.iter_cols();
         match (lines.next(), lines.next_back()) {
             (Some(mut first), Some(mut last)) => {
                 assert!(rt; is_text(first.next(), "a"));
-                assert!(rt; is_text(last.next_back(), "f"));
+                assert!(rt; is_text(last.next(), "c"));
             }
             _ => panic!(rt; "three columns were left"),
         }
         drop(lines);
         grid.flip_cols();
-        assert_eq!(rt; texts(alloc, &grid)?.as_str(), want);
+        assert_eq!(rt; joined(alloc, &grid)?.as_str(), want);
+    }
+    Ok(())
+}
+
+// Walks over all cells for writing, each of which writes into what it hands out.
+fn write_ends(grid: &mut Grid<String>) -> Result<(), AllocError> {
+    let mut walk = grid.iter_mut();
+    if let Some(text) = walk.next() {
+        text.push_str("1")?;
+    }
+    if let Some(text) = walk.next_back() {
+        text.push_str("2")?;
+    }
+    drop(walk);
+    let mut walk = (&mut *grid).into_iter();
+    if let Some(text) = walk.next() {
+        text.push_str("3")?;
+    }
+    if let Some(text) = walk.next_back() {
+        text.push_str("4")?;
+    }
+    drop(walk);
+    let mut walk = grid.indexed_iter_mut();
+    if let Some((_, text)) = walk.next() {
+        text.push_str("5")?;
+    }
+    Ok(())
+}
+
+// Walks along the second row and the second column.
+fn write_lines(rt: &impl Abort, grid: &mut Grid<String>) -> Result<(), AllocError> {
+    assert!(rt; 1 < grid.rows());
+    let mut line = grid.iter_row_mut(1);
+    if let Some(text) = line.next() {
+        text.push_str("6")?;
+    }
+    drop(line);
+    assert!(rt; 1 < grid.cols());
+    let mut line = grid.iter_col_mut(1);
+    if let Some(text) = line.next() {
+        text.push_str("7")?;
     }
     Ok(())
 }
@@ -101,42 +127,14 @@ fn reading_lines(rt: HostRuntime) -> Result<(), Fail> {
 fn writing(rt: HostRuntime) -> Result<(), Fail> {
     let alloc = rt.alloc();
     for (order, want) in [
-        (Order::RowMajor, "f2ed5cb6a134"),
-        (Order::ColumnMajor, "f2ceb6d5a134"),
+        (Order::RowMajor, "f24ed6cb7a135"),
+        (Order::ColumnMajor, "f24ceb7d6a135"),
     ] {
         let mut grid = letters(&rt, alloc, order)?;
-        let mut walk = grid.iter_mut();
-        if let Some(text) = walk.next() {
-            text.push_str("1")?;
-        }
-        if let Some(text) = walk.next_back() {
-            text.push_str("2")?;
-        }
-        drop(walk);
-        let mut walk = (&mut grid).into_iter();
-        if let Some(text) = walk.next() {
-            text.push_str("3")?;
-        }
-        drop(walk);
-        let mut walk = grid.indexed_iter_mut();
-        if let Some((_, text)) = walk.next() {
-            text.push_str("4")?;
-        }
-        drop(walk);
-        assert!(rt; 1 < grid.rows());
-        let mut line = grid.iter_row_mut(1);
-        if let Some(text) = line.next() {
-            text.push_str("5")?;
-        }
-        drop(line);
-        assert!(rt; 1 < grid.cols());
-        let mut line = grid.iter_col_mut(1);
-        if let Some(text) = line.next() {
-            text.push_str("6")?;
-        }
-        drop(line);
+        write_ends(&mut grid)?;
+        write_lines(&rt, &mut grid)?;
         grid.rotate_half();
-        assert_eq!(rt; texts(alloc, &grid)?.as_str(), want);
+        assert_eq!(rt; joined(alloc, &grid)?.as_str(), want);
     }
     Ok(())
 }

@@ -1,0 +1,7 @@
+use Rattle.std.proofs.Common.{◌∙◌, sym}
+use Rattle.grid_base.proofs.Group.{normal-acts}
+use Rattle.grid.proofs.Seen.{seen_table}
+use Rattle.grid.proofs.grid.Grid.apply.Goals as goal
+
+pub returns-clause-words : goal.returns-clause-words
+returns-clause-words g c = λ w n. c.apply_counted.ensures.rows ∙ sym (normal-acts w _ _ (seen_table _ _ _ _ _ c.self.invariant c.self.view_is) n)

@@ -1,0 +1,8 @@
+//! Worked examples, with values that were found by hand.
+mod conversions;
+mod edits;
+mod makers;
+mod moves;
+mod texts;
+mod walks;
+mod wholes;
