@@ -1,7 +1,11 @@
 -- Closures, call by call.
-use Rattle.std.proofs.Common.{◌≡◌, suc, List, [], ◌∷◌, ◌++◌, map, refl, sym, subst, ap, replicate, length}
+use Rattle.std.proofs.Common.{◌≡◌, ℕ, ◌<◌, suc, List, [], ◌∷◌, ◌++◌, map, refl, sym, subst, ◌∙◌, ap, slice_index_or, replicate, length, take, arith}
+use Rattle.std.proofs.lemmas.List.{length-append}
+use Rattle.std.proofs.Math.Seq.{get_or-append_seam}
 use Rattle.std.specs.List.{FoldsTo, AllZip}
-use Rattle.grid_base.specs.Answers.{AnswersTo, Answers, Gives, Pairs}
+use denote.Param.Members.{Mut, Called}
+use denote.Param.Always.{always_mut, mut_next}
+use Rattle.grid_base.specs.Answers.{AnswersTo, Answers, Gives, Pairs, CallableAtEach}
 
 -- one more answer
 pub AnswersTo-append : {F A B : Type 0} (step : F → A → B → F → Type 0) (f g h : F) (xs : List A) (ys : List B) (x : A) (y : B) → AnswersTo step f xs ys g → step g x y h → AnswersTo step f (xs ++ x ∷ []) (ys ++ y ∷ []) h
@@ -55,3 +59,36 @@ gives_pure {step = step} {f} {ys} r b k = gives_same step b k f r.last ys r.call
 
 pub pairs_pure : {A B : Type 0} {R : A → B → Type 0} {xs : List A} {ys : List B} → Pairs R xs ys → (h : A → B) → ((x : A) (y : B) → R x y → y ≡ h x) → ys ≡ map h xs
 pairs_pure {R = R} {xs} {ys} r h k = zips_map R h k xs ys r.places
+
+take_seam : {A : Type 0} (xs ys : List A) → take (length xs) (xs ++ ys) ≡ xs
+take_seam [] ys = refl
+take_seam (x ∷ xs) ys = ap (λ l. x ∷ l) (take_seam xs ys)
+
+module _ {F A B : Type 0} (takes : F → A → Type 0) (step : F → A → B → F → Type 0) (f : F) where
+  -- the closure can be called at the item after those that it answered
+  pub callable_next : (g : F) (xs done rest : List A) (x : A) (ys : List B) → CallableAtEach takes step f xs → done ++ x ∷ rest ≡ xs → AnswersTo step f done ys g → takes g x
+  callable_next g xs done rest x ys h is a =
+      let whole : CallableAtEach takes step f (done ++ x ∷ rest) = subst (CallableAtEach takes step f) (sym is) h in
+      whole.at (length done) x ys g (omega (arith, length-append done (x ∷ rest))) (sym (get_or-append_seam done x rest x))
+      (subst (λ l. AnswersTo step f l ys g) (sym (take_seam done (x ∷ rest))) a)
+
+  answers_stay : ((p q : F) (x : A) (y : B) → step p x y q → q ≡ p) → (p q : F) (xs : List A) (ys : List B) → AnswersTo step p xs ys q → q ≡ p
+  answers_stay k p q [] [] a = sym a
+  answers_stay k p q [] (y ∷ ys) a = absurd a
+  answers_stay k p q (x ∷ xs) [] a = absurd a
+  answers_stay k p q (x ∷ xs) (y ∷ ys) a = answers_stay k a.0 q xs ys a.2 ∙ k p a.0 x y a.1
+
+  -- a closure that no call changes is asked at each item as it is
+  pub callable_same : ((p q : F) (x : A) (y : B) → step p x y q → q ≡ p) → (xs : List A) → ((k : ℕ) (x : A) → k < length xs → x ≡ slice_index_or xs k x → takes f x) → CallableAtEach takes step f xs
+  callable_same k xs h = record { at = λ i x ys g lt is a. subst (λ q. takes q x) (sym (answers_stay k f g (take i xs) ys a)) (h i x lt is) }
+
+module _ {F A B : Type 0} (m : Mut F (A × Unit {0}) B) where
+  always_after : (f g : F) (xs : List A) (ys : List B) → AnswersTo (λ p x y q. Called m p (x, tt) y q) f xs ys g → always_mut m f → always_mut m g
+  always_after f g [] [] a h = subst (always_mut m) a h
+  always_after f g [] (y ∷ ys) a h = absurd a
+  always_after f g (x ∷ xs) [] a h = absurd a
+  always_after f g (x ∷ xs) (y ∷ ys) a h = always_after a.0 g xs ys a.2 (mut_next m f (x, tt) y a.0 a.0 a.1 refl h)
+
+  -- a closure that can always be called can be called at each item
+  pub callable_always : (f : F) (xs : List A) → always_mut m f → CallableAtEach (λ p x. m.pre p (x, tt)) (λ p x y q. Called m p (x, tt) y q) f xs
+  callable_always f xs h = record { at = λ k x ys g lt is a. ((always_after f g (take k xs) ys a h).at ((x, tt) ∷ [])).0 }
