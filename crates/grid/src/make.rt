@@ -126,8 +126,8 @@ impl<T, A: Allocator> Grid<T, A> {
 
     /// An empty row-major grid with room for so many rows and columns.
     ///
-    /// `TooLarge` exactly where `rows * cols` passes `usize::MAX`, which is decided before memory is asked for; `Memory`
-    /// where it is refused. With no rows or no columns nothing is refused.
+    /// `TooLarge` exactly where `rows * cols` passes `usize::MAX`, which is decided before memory is asked for;
+    /// `Memory` where it is refused. With no rows or no columns nothing is refused.
     pub fn with_capacity(alloc: A, rows: usize, cols: usize) -> Result<Grid<T, A>, GridError>
         ensures rows { IfOk result (λ g. g.rows ≡ []) }
         ensures order { IfOk result (λ g. g.order ≡ Order.RowMajor) }
@@ -139,8 +139,8 @@ impl<T, A: Allocator> Grid<T, A> {
 
     /// An empty grid of this order with room for so many rows and columns.
     ///
-    /// `TooLarge` exactly where `rows * cols` passes `usize::MAX`, which is decided before memory is asked for; `Memory`
-    /// where it is refused. With no rows or no columns nothing is refused.
+    /// `TooLarge` exactly where `rows * cols` passes `usize::MAX`, which is decided before memory is asked for;
+    /// `Memory` where it is refused. With no rows or no columns nothing is refused.
     pub fn with_capacity_and_order(
         alloc: A,
         rows: usize,
