@@ -23,7 +23,7 @@ impl<T, A: Allocator> Grid<T, A> {
     /// The row-major grid of so many rows and columns whose cells are all defaults.
     ///
     /// Without rows or without columns it is the empty grid, which takes no memory. `TooLarge` exactly where
-    /// `rows * cols` passes `usize::MAX`, which is decided before memory is asked for.
+    /// `rows * cols` passes `usize::MAX`, which is decided before memory is asked for; `Memory` where it is refused.
     pub fn new(alloc: A, rows: usize, cols: usize) -> Result<Grid<T, A>, GridError>
     where
         T: Default,
@@ -41,7 +41,7 @@ impl<T, A: Allocator> Grid<T, A> {
     /// The grid of so many rows and columns in this order whose cells are all defaults.
     ///
     /// Without rows or without columns it is the empty grid, which takes no memory. `TooLarge` exactly where
-    /// `rows * cols` passes `usize::MAX`, which is decided before memory is asked for.
+    /// `rows * cols` passes `usize::MAX`, which is decided before memory is asked for; `Memory` where it is refused.
     pub fn new_with_order(
         alloc: A,
         rows: usize,
@@ -74,8 +74,8 @@ impl<T, A: Allocator> Grid<T, A> {
     /// The row-major grid of so many rows and columns whose cells all equal a value.
     ///
     /// Clones equal their source. Without rows or without columns it is the empty grid, which takes no memory.
-    /// `TooLarge` exactly where `rows * cols` passes `usize::MAX`, which is decided before memory is asked for. The
-    /// last cell is the value itself; a refusal drops it.
+    /// `TooLarge` exactly where `rows * cols` passes `usize::MAX`, which is decided before memory is asked for;
+    /// `Memory` where it is refused. The last cell is the value itself; a refusal drops it.
     pub fn init(alloc: A, rows: usize, cols: usize, value: T) -> Result<Grid<T, A>, GridError>
     where
         T: Clone,
@@ -93,8 +93,8 @@ impl<T, A: Allocator> Grid<T, A> {
     /// The grid of so many rows and columns in this order whose cells all equal a value.
     ///
     /// Clones equal their source. Without rows or without columns it is the empty grid, which takes no memory.
-    /// `TooLarge` exactly where `rows * cols` passes `usize::MAX`, which is decided before memory is asked for. The
-    /// last cell is the value itself; a refusal drops it.
+    /// `TooLarge` exactly where `rows * cols` passes `usize::MAX`, which is decided before memory is asked for;
+    /// `Memory` where it is refused. The last cell is the value itself; a refusal drops it.
     pub fn init_with_order(
         alloc: A,
         rows: usize,
@@ -124,8 +124,8 @@ impl<T, A: Allocator> Grid<T, A> {
 
     /// An empty row-major grid with room for so many rows and columns.
     ///
-    /// `TooLarge` exactly where `rows * cols` passes `usize::MAX`, which is decided before memory is asked for. With no
-    /// rows or no columns nothing is refused.
+    /// `TooLarge` exactly where `rows * cols` passes `usize::MAX`, which is decided before memory is asked for;
+    /// `Memory` where it is refused. With no rows or no columns nothing is refused.
     pub fn with_capacity(alloc: A, rows: usize, cols: usize) -> Result<Grid<T, A>, GridError>
         ensures rows { IfOk result (λ g. g.rows ≡ []) }
         ensures order { IfOk result (λ g. g.order ≡ Order.RowMajor) }
@@ -137,8 +137,8 @@ impl<T, A: Allocator> Grid<T, A> {
 
     /// An empty grid of this order with room for so many rows and columns.
     ///
-    /// `TooLarge` exactly where `rows * cols` passes `usize::MAX`, which is decided before memory is asked for. With no
-    /// rows or no columns nothing is refused.
+    /// `TooLarge` exactly where `rows * cols` passes `usize::MAX`, which is decided before memory is asked for;
+    /// `Memory` where it is refused. With no rows or no columns nothing is refused.
     pub fn with_capacity_and_order(
         alloc: A,
         rows: usize,

@@ -1,7 +1,11 @@
 -- Closures, call by call.
-use Rattle.std.proofs.Common.{List, [], ◌∷◌, ◌++◌, refl, sym, subst}
+use Rattle.std.proofs.Common.{◌≡◌, List, [], ◌∷◌, ◌++◌, map, refl, sym, subst, ap, replicate, length, take, arith}
+use Rattle.std.proofs.lemmas.List.{length-append}
+use Rattle.std.proofs.Math.Seq.{get_or-append_seam}
 use Rattle.std.specs.List.{FoldsTo, AllZip}
-use Rattle.grid_base.specs.Answers.{AnswersTo}
+use denote.Param.Members.{Mut, Called}
+use denote.Param.Always.{always_mut, mut_next}
+use Rattle.grid_base.specs.Answers.{AnswersTo, Answers, Gives, Pairs, CallableAtEach}
 
 -- one more answer
 pub AnswersTo-append : {F A B : Type 0} (step : F → A → B → F → Type 0) (f g h : F) (xs : List A) (ys : List B) (x : A) (y : B) → AnswersTo step f xs ys g → step g x y h → AnswersTo step f (xs ++ x ∷ []) (ys ++ y ∷ []) h
@@ -19,3 +23,55 @@ AllZip-append R [] [] x y a r = (r, tt)
 AllZip-append R [] (b ∷ ys) x y a r = absurd a
 AllZip-append R (c ∷ xs) [] x y a r = absurd a
 AllZip-append R (c ∷ xs) (b ∷ ys) x y a r = (a.0, AllZip-append R xs ys x y a.1 r)
+
+module _ {F A B : Type 0} (step : F → A → B → F → Type 0) (h : A → B) (k : (p : F) (x : A) (y : B) (q : F) → step p x y q → y ≡ h x) where
+  answers_map : (f g : F) (xs : List A) (ys : List B) → AnswersTo step f xs ys g → ys ≡ map h xs
+  answers_map f g [] [] a = refl
+  answers_map f g [] (y ∷ ys) a = absurd a
+  answers_map f g (x ∷ xs) [] a = absurd a
+  answers_map f g (x ∷ xs) (y ∷ ys) a = λ i. k f x y a.0 a.1 i ∷ answers_map a.0 g xs ys a.2 i
+
+module _ {F B : Type 0} (step : F → B → F → Type 0) (b : B) (k : (p : F) (y : B) (q : F) → step p y q → y ≡ b) where
+  gives_same : (f g : F) (ys : List B) → FoldsTo step f ys g → ys ≡ replicate (length ys) b
+  gives_same f g [] a = refl
+  gives_same f g (y ∷ ys) a = λ i. k f y a.0 a.1 i ∷ gives_same a.0 g ys a.2 i
+
+module _ {A B : Type 0} (R : A → B → Type 0) (h : A → B) (k : (x : A) (y : B) → R x y → y ≡ h x) where
+  zips_map : (xs : List A) (ys : List B) → AllZip R xs ys → ys ≡ map h xs
+  zips_map [] [] a = refl
+  zips_map [] (y ∷ ys) a = absurd a
+  zips_map (x ∷ xs) [] a = absurd a
+  zips_map (x ∷ xs) (y ∷ ys) a = λ i. k x y a.0 i ∷ zips_map xs ys a.1 i
+
+-- where each answer is h of its item, whatever the state, the answers are h of the items
+pub answers_pure : {F A B : Type 0} {step : F → A → B → F → Type 0} {f : F} {xs : List A} {ys : List B} → Answers step f xs ys → (h : A → B) → ((p : F) (x : A) (y : B) (q : F) → step p x y q → y ≡ h x) → ys ≡ map h xs
+answers_pure {step = step} {f} {xs} {ys} r h k = answers_map step h k f r.last xs ys r.calls
+
+pub gives_pure : {F B : Type 0} {step : F → B → F → Type 0} {f : F} {ys : List B} → Gives step f ys → (b : B) → ((p : F) (y : B) (q : F) → step p y q → y ≡ b) → ys ≡ replicate (length ys) b
+gives_pure {step = step} {f} {ys} r b k = gives_same step b k f r.last ys r.calls
+
+pub pairs_pure : {A B : Type 0} {R : A → B → Type 0} {xs : List A} {ys : List B} → Pairs R xs ys → (h : A → B) → ((x : A) (y : B) → R x y → y ≡ h x) → ys ≡ map h xs
+pairs_pure {R = R} {xs} {ys} r h k = zips_map R h k xs ys r.places
+
+take_seam : {A : Type 0} (xs ys : List A) → take (length xs) (xs ++ ys) ≡ xs
+take_seam [] ys = refl
+take_seam (x ∷ xs) ys = ap (λ l. x ∷ l) (take_seam xs ys)
+
+module _ {F A B : Type 0} (takes : F → A → Type 0) (step : F → A → B → F → Type 0) (f : F) where
+  -- the closure can be called at the item after those that it answered
+  pub callable_next : (g : F) (xs done rest : List A) (x : A) (ys : List B) → CallableAtEach takes step f xs → done ++ x ∷ rest ≡ xs → AnswersTo step f done ys g → takes g x
+  callable_next g xs done rest x ys h is a =
+      let whole : CallableAtEach takes step f (done ++ x ∷ rest) = subst (CallableAtEach takes step f) (sym is) h in
+      whole.at (length done) x ys g (omega (arith, length-append done (x ∷ rest))) (sym (get_or-append_seam done x rest x))
+      (subst (λ l. AnswersTo step f l ys g) (sym (take_seam done (x ∷ rest))) a)
+
+module _ {F A B : Type 0} (m : Mut F (A × Unit {0}) B) where
+  always_after : (f g : F) (xs : List A) (ys : List B) → AnswersTo (λ p x y q. Called m p (x, tt) y q) f xs ys g → always_mut m f → always_mut m g
+  always_after f g [] [] a h = subst (always_mut m) a h
+  always_after f g [] (y ∷ ys) a h = absurd a
+  always_after f g (x ∷ xs) [] a h = absurd a
+  always_after f g (x ∷ xs) (y ∷ ys) a h = always_after a.0 g xs ys a.2 (mut_next m f (x, tt) y a.0 a.0 a.1 refl h)
+
+  -- a closure that can always be called can be called at each item
+  pub callable_always : (f : F) (xs : List A) → always_mut m f → CallableAtEach (λ p x. m.pre p (x, tt)) (λ p x y q. Called m p (x, tt) y q) f xs
+  callable_always f xs h = record { at = λ k x ys g lt is a. ((always_after f g (take k xs) ys a h).at ((x, tt) ∷ [])).0 }

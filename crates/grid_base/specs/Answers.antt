@@ -1,6 +1,7 @@
 -- What a closure answered, call by call.
-use Rattle.std.specs.Prelude.{◌≡◌, List, [], ◌∷◌}
+use Rattle.std.specs.Prelude.{◌≡◌, ◌<◌, ℕ, List, [], ◌∷◌, length, take, slice_index_or}
 use Rattle.std.specs.List.{FoldsTo, AllZip}
+use denote.Ref.{Bor}
 
 -- calls took the closure from f to g, one for each item of xs, and answered ys
 abbrev pub AnswersTo : {F A B : Type 0} → (F → A → B → F → Type 0) → F → List A → List B → F → Type 0
@@ -22,3 +23,11 @@ pub record Gives {F B : Type 0} (step : F → B → F → Type 0) (f : F) (ys : 
 -- R holds of the items of two lists, place by place, and the lists are as long
 pub record Pairs {A B : Type 0} (R : A → B → Type 0) (xs : List A) (ys : List B) : Type 0 where
   pub places : AllZip R xs ys
+
+-- the closure f can be called at each item of xs in turn: at item k, in any state that the calls at the items before it may leave
+pub record CallableAtEach {F A B : Type 0} (takes : F → A → Type 0) (step : F → A → B → F → Type 0) (f : F) (xs : List A) : Type 0 where
+  pub at : (k : ℕ) (x : A) (ys : List B) (g : F) → k < length xs → x ≡ slice_index_or xs k x → AnswersTo step f (take k xs) ys g → takes g x
+
+-- the closure f can be called at a reference to each item of xs
+pub record CallableAtRefs {F A : Type 0} (takes : F → Bor A → Type 0) (f : F) (xs : List A) : Type 0 where
+  pub at : (k : ℕ) (p : Bor A) → k < length xs → p.now ≡ slice_index_or xs k p.now → takes f p

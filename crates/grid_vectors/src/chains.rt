@@ -1,6 +1,6 @@
-//! Chains over a row or a column of a grid. Their contracts say what they find by the list of its cells, and no proof
-//! file is needed.
-ghost use Rattle.std.specs.Prelude.{◌≡◌, ◌/◌, ◌^◌, ◌<◌, ◌≤◌, ◌==◌, ◌↔◌, IsTrue, IfOk, MatchOption, Any, All, length, map, reverse, sum, count_by, filter, fold, min, ◌+◌, nat_lt, []};
+//! Chains over a row or a column of a grid, and maps of a whole grid. Their contracts say what they find by the list of
+//! its cells, and no proof file is needed.
+ghost use Rattle.std.specs.Prelude.{◌≡◌, ◌/◌, ◌^◌, ◌<◌, ◌≤◌, ◌==◌, ◌↔◌, IsTrue, IfOk, MatchOption, Any, All, length, map, reverse, sum, count_by, filter, fold, min, ◌+◌, nat_lt, [], ◌-◌};
 ghost use Rattle.grid_base.specs.Table.{row, rows_of, cols_of, turned};
 ghost use Rattle.grid_base.specs.Order.{storage};
 
@@ -114,6 +114,30 @@ pub fn halves_reversed<A: Allocator>(
     grid.iter().rev().map(|y| *y / 2).collect(alloc)
 }
 
+/// What each cell lacks to ten. The closure can't be called at a larger number.
+#[tactic(auto, using(grid_base::proofs::Answers::answers_pure))]
+pub fn lacking<A: Allocator + Clone>(grid: Grid<u32, A>) -> Result<Grid<u32, A>, AllocError>
+    requires { All (λ y. y ≤ 10) (storage grid.order grid.rows) }
+    ensures order { IfOk result (λ lacking. lacking.order ≡ grid.order) }
+    ensures cells { IfOk result (λ lacking. storage lacking.order lacking.rows ≡ map (λ y. 10 - y) (storage grid.order grid.rows)) }
+{
+    match grid.map(|y| 10 - y) {
+        Ok(lacking) => Ok(lacking),
+        Err(_) => Err(AllocError),
+    }
+}
+
+/// The same, of a grid that stays.
+#[tactic(auto, using(grid_base::proofs::Answers::pairs_pure))]
+pub fn lacking_in<A: Allocator + Clone>(grid: &Grid<u32, A>) -> Result<Grid<u32, A>, AllocError>
+    requires { All (λ y. y ≤ 10) (storage grid.now.order grid.now.rows) }
+    ensures order { IfOk result (λ lacking. lacking.order ≡ grid.now.order) }
+    ensures cells { IfOk result (λ lacking. storage lacking.order lacking.rows ≡ map (λ y. 10 - y) (storage grid.now.order grid.now.rows)) }
+{
+    let lacking = grid.map_ref(|y| 10 - *y)?;
+    Ok(lacking)
+}
+
 #[cfg(test)]
 mod tests {
     use super::*;
@@ -217,6 +241,20 @@ mod tests {
             .zip([[3u32, 2, 2, 1, 1, 0], [3, 1, 2, 1, 2, 0]])
         {
             assert_eq!(rt; halves_reversed(alloc, board)?.as_slice(), want.as_slice());
+        }
+        Ok(())
+    }
+
+    #[test]
+    fn maps_small_cells(rt: HostRuntime) -> Result<(), Fail> {
+        let alloc = rt.alloc();
+        for (board, want) in boards(&rt, alloc)?
+            .into_iter()
+            .zip([[9u32, 8, 7, 6, 5, 4], [9, 6, 8, 5, 7, 4]])
+        {
+            assert!(rt; board.iter().all(|y| *y <= 10));
+            assert_eq!(rt; lacking_in(&board)?.flatten(), want.as_slice());
+            assert_eq!(rt; lacking(board)?.flatten(), want.as_slice());
         }
         Ok(())
     }

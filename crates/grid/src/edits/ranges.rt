@@ -53,7 +53,7 @@ impl<T, A: Allocator> Grid<T, A> {
         ensures order { self.new.order ≡ self.old.order }
         ensures none { lines.items ≡ [] → IsOk result }
         ensures too_large { IsErrAnd result (λ refused. refused.fault ≡ TooLarge) ↔ (2 ^ 64 ≤ (rows_of self.old.rows + length lines.items) * cols_of (cells_of lines.items)) }
-        ensures lines { IfErr result (λ refused. cells_of refused.lines.items ≡ cells_of lines.items) }
+        ensures lines { IfErr result (λ refused. refused.lines.items ≡ lines.items) }
         ensures err { OnErr result (self.new ≡ self.old) }
     {
         let mut lines = lines;
@@ -107,7 +107,7 @@ impl<T, A: Allocator> Grid<T, A> {
         ensures order { self.new.order ≡ self.old.order }
         ensures none { lines.items ≡ [] → IsOk result }
         ensures too_large { IsErrAnd result (λ refused. refused.fault ≡ TooLarge) ↔ (2 ^ 64 ≤ (cols_of self.old.rows + length lines.items) * cols_of (cells_of lines.items)) }
-        ensures lines { IfErr result (λ refused. cells_of refused.lines.items ≡ cells_of lines.items) }
+        ensures lines { IfErr result (λ refused. refused.lines.items ≡ lines.items) }
         ensures err { OnErr result (self.new ≡ self.old) }
     {
         let _ = &self.flat;

@@ -51,7 +51,7 @@ impl<T, A: Allocator> Grid<T, A> {
     ///
     /// Every slot holds a cell. Afterwards every slot is `None`; a refusal leaves all slots as they were. Without
     /// rows or without columns it is the empty grid of the order, which takes no memory. `TooLarge` exactly where
-    /// `R * C` passes `usize::MAX`, which is decided before memory is asked for.
+    /// `R * C` passes `usize::MAX`, which is decided before memory is asked for; `Memory` where it is refused.
     pub fn from_arrays<const R: usize, const C: usize>(
         alloc: A,
         order: Order,
@@ -70,6 +70,9 @@ impl<T, A: Allocator> Grid<T, A> {
         let Some(count) = R.checked_mul(C) else {
             return Err(GridError::TooLarge);
         };
+        if count == 0 {
+            return Ok(Grid::empty_with_order(alloc, order));
+        }
         let mut taken = Vec::with_capacity(alloc, count)?;
         let (lines, len) = in_line(order, R, C);
         for i in 0..lines {

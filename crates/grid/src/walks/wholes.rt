@@ -3,7 +3,7 @@ ghost use Rattle.std.specs.Prelude.{◌≡◌, [], IsOk, IfOk, IfErr, OnOk, OnEr
 ghost use Rattle.std.specs.Fn.{FnReturnsAt};
 ghost use Rattle.grid_base.specs.Table.{rows_of, cols_of, IsTable};
 ghost use Rattle.grid_base.specs.Order.{storage};
-ghost use Rattle.grid_base.specs.Answers.{Answers, Gives, Pairs};
+ghost use Rattle.grid_base.specs.Answers.{Answers, CallableAtEach, CallableAtRefs, Gives, Pairs};
 ghost use Rattle.grid_base.specs.Clones.{ClonesAreEqual};
 ghost use Rattle.grid.specs.Wholes.{filled};
 
@@ -46,12 +46,13 @@ impl<T, A: Allocator> Grid<T, A> {
 
     /// The grid of the closure's answers, one call a cell in storage order, of the same size and order.
     ///
-    /// Where memory is refused this grid comes back, and the closure wasn't called.
+    /// The closure can be called at each cell. Where memory is refused this grid comes back, and the closure wasn't
+    /// called.
     pub fn map<U, F: FnMut(T) -> U>(self, f: F) -> Result<Grid<U, A>, Grid<T, A>>
     where
         T: Drop,
         A: Clone,
-        requires { F.IsAlwaysCallable f }
+        requires { CallableAtEach F.pre (λ p x y q. F.step p x y q) f (storage self.order self.rows) }
         ensures order { IfOk result (λ g. g.order ≡ self.order) }
         ensures rows { IfOk result (λ g. rows_of g.rows ≡ rows_of self.rows) }
         ensures cols { IfOk result (λ g. cols_of g.rows ≡ cols_of self.rows) }
@@ -83,13 +84,12 @@ impl<T, A: Allocator> Grid<T, A> {
 
     /// The grid of the closure's answers at references to the cells, in storage order, of the same size and order.
     ///
-    /// Memory is taken once, before the first call. Where it is refused the closure wasn't called; this grid is as it
-    /// was in any case.
+    /// The closure can be called at a reference to each cell. Memory is taken once, before the first call. Where it is
+    /// refused the closure wasn't called; this grid is as it was in any case.
     pub fn map_ref<U, F: Fn(&T) -> U>(&self, f: F) -> Result<Grid<U, A>, AllocError>
     where
-        U: Drop,
         A: Clone,
-        requires { F.IsAlwaysCallable f }
+        requires { CallableAtRefs F.pre f (storage self.now.order self.now.rows) }
         ensures order { IfOk result (λ g. g.order ≡ self.now.order) }
         ensures rows { IfOk result (λ g. rows_of g.rows ≡ rows_of self.now.rows) }
         ensures cols { IfOk result (λ g. cols_of g.rows ≡ cols_of self.now.rows) }

@@ -1,7 +1,7 @@
 //! Calls on all cells of a `Flat`.
 ghost use Rattle.std.specs.Prelude.{◌≡◌, length, replicate, IsOk, IfOk, IfErr, OnOk, OnErr};
 ghost use Rattle.std.specs.Fn.{FnReturnsAt};
-ghost use Rattle.grid_base.specs.Answers.{Answers, Gives, Pairs};
+ghost use Rattle.grid_base.specs.Answers.{Answers, CallableAtEach, CallableAtRefs, Gives, Pairs};
 ghost use Rattle.grid_base.specs.Clones.{ClonesAreEqual};
 
 use super::Flat;
@@ -45,11 +45,13 @@ impl<T, A: Allocator> Flat<T, A> {
     }
 
     /// The closure's answers at the cells, in order, or these cells where memory is refused.
+    ///
+    /// The closure can be called at each cell.
     pub fn map<U, F: FnMut(T) -> U>(self, mut f: F) -> Result<Flat<U, A>, Flat<T, A>>
     where
         T: Drop,
         A: Clone,
-        requires { F.IsAlwaysCallable f }
+        requires { CallableAtEach F.pre (λ p x y q. F.step p x y q) f self }
         ensures len { IfOk result (λ g. length g ≡ length self) }
         ensures cells { IfOk result (λ g. Answers (λ p x y q. F.step p x y q) f self g) }
         ensures refused { IfErr result (λ g. g ≡ self) }
@@ -70,11 +72,12 @@ impl<T, A: Allocator> Flat<T, A> {
     }
 
     /// The closure's answers at references to the cells, in order.
+    ///
+    /// The closure can be called at a reference to each cell.
     pub fn map_ref<U, F: Fn(&T) -> U>(&self, f: F) -> Result<Flat<U, A>, AllocError>
     where
-        U: Drop,
         A: Clone,
-        requires { F.IsAlwaysCallable f }
+        requires { CallableAtRefs F.pre f self.now }
         ensures len { IfOk result (λ g. length g ≡ length self.now) }
         ensures cells { IfOk result (λ g. Pairs (FnReturnsAt F.Fn f) self.now g) }
     {

@@ -1,3 +1,5 @@
+use Rattle.std.proofs.Common.{subst}
+use Rattle.grid_base.specs.Answers.{CallableAtEach}
 use Rattle.grid.proofs.Seen.{seen_storage}
 use Rattle.grid.proofs.SeenWholes.{whole_rows, whole_cols, whole_table, whole_cells}
 use Rattle.grid.proofs.grid.Grid.map.Goals as goal
@@ -13,3 +15,6 @@ returns-in-Ok-clause-table g c = whole_table _ _ _ _ _ _ c.self.invariant c.self
 
 pub returns-in-Ok-clause-cells : goal.returns-in-Ok-clause-cells
 returns-in-Ok-clause-cells g c = rw (whole_cells _ _ _ _ _ _ c.self.invariant c.self.view_is c.in-Ok.ensures.len, seen_storage _ _ _ _ _ c.self.invariant c.self.view_is) c.in-Ok.ensures.cells
+
+pub map-requires : goal.map-requires
+map-requires g c = subst (CallableAtEach _ _ _) (seen_storage _ _ _ _ _ c.self.invariant c.self.view_is) c.requires

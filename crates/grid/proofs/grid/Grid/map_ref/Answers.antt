@@ -1,3 +1,5 @@
+use Rattle.std.proofs.Common.{subst}
+use Rattle.grid_base.specs.Answers.{CallableAtRefs}
 use Rattle.grid.proofs.Seen.{seen_storage}
 use Rattle.grid.proofs.SeenWholes.{whole_rows, whole_cols, whole_table, whole_cells}
 use Rattle.grid.proofs.grid.Grid.map_ref.Goals as goal
@@ -13,3 +15,6 @@ returns-clause-table g c = whole_table _ _ _ _ _ _ c.self.invariant c.self.view_
 
 pub returns-clause-cells : goal.returns-clause-cells
 returns-clause-cells g c = rw (whole_cells _ _ _ _ _ _ c.self.invariant c.self.view_is c.in_ok-flat.ensures.len, seen_storage _ _ _ _ _ c.self.invariant c.self.view_is) c.in_ok-flat.ensures.cells
+
+pub map_ref-requires : goal.map_ref-requires
+map_ref-requires g c = subst (CallableAtRefs _ _) (seen_storage _ _ _ _ _ c.self.invariant c.self.view_is) c.requires

@@ -1,5 +1,5 @@
-use Rattle.std.proofs.Common.{arith, length-append, append_assoc, of_calls, rules}
-use Rattle.grid_base.proofs.Answers.{AnswersTo-append}
+use Rattle.std.proofs.Common.{arith, length-append, append_assoc}
+use Rattle.grid_base.proofs.Answers.{AnswersTo-append, callable_next}
 use Rattle.grid_base.proofs.flat.Flat.map.Goals as goal
 
 pub loop-cell-preserved : goal.loop-cell-preserved
@@ -10,9 +10,14 @@ loop-cell-preserved g c =
     record {
       can = tt;
       finite = tt;
-      callable = search (rules, of_calls);
       rest = rw append_assoc (rw s.0 at i.rest);
       count = grind (arith, p.len, i.count, length-append);
       room = grind (arith, p.capacity, i.room);
       answers = rw p.items (AnswersTo-append _ _ _ c.f.new.self _ _ c.in-Some.cell c.f.result i.answers c.f.ensures);
     }
+
+pub f-requires : goal.f-requires
+f-requires g c =
+    let i = c.loop-cell.invariant in
+    let s = c.in-Some.ensures.steps in
+    callable_next _ _ _ _ _ _ _ c.in-Some.cell _ c.requires (rw s.0 at i.rest) i.answers

@@ -1,7 +1,6 @@
 use Rattle.std.proofs.Common.{◌≡◌, ◌≤◌, ◌++◌, length, vec_len}
 use Rattle.std.specs.Vec.{vec_capacity}
 use Rattle.std.specs.Vec.Iter.{into_iter_items}
-use denote.Param.Always.{always_mut}
 use Rattle.grid_base.specs.Answers.{AnswersTo}
 use Rattle.grid_base.proofs.flat.Flat.map.Given as goal
 
@@ -9,7 +8,6 @@ abbrev pub invariant-loop-cell : goal.invariant-loop-cell
 invariant-loop-cell g l = record {
   can : (goal.iterator-loop-cell g).can_next l.cell-iterator;
   finite : (goal.iterator-loop-cell g).is_finite l.cell-iterator;
-  callable : always_mut g.F.FnMut l.initial.f → always_mut g.F.FnMut l.f;
   rest : l.yielded ++ into_iter_items l.cell-iterator ≡ l.fn.self;
   count : vec_len l.mapped ≡ length l.yielded;
   room : length l.fn.self ≤ vec_capacity l.mapped;
