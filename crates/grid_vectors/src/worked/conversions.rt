@@ -66,9 +66,11 @@ fn equal_rows(rt: HostRuntime) -> Result<(), Fail> {
     let alloc = rt.alloc();
     let table = table_of(alloc, &[&[1, 2], &[3, 4]])?;
     assert_stored(&rt, &Grid::try_from(&table)?, (2, 2), RowMajor, &[1, 2, 3, 4]);
-    let lent = vec![in alloc; &table[1], &table[0], &table[1]]?;
-    let made = Grid::try_from(&lent)?;
-    assert_stored(&rt, &made, (3, 2), RowMajor, &[3, 4, 1, 2, 3, 4]);
+    let mut lent = Vec::new(alloc);
+    for row in table.iter().rev() {
+        lent.push(row)?;
+    }
+    assert_stored(&rt, &Grid::try_from(&lent)?, (2, 2), RowMajor, &[3, 4, 1, 2]);
     drop(lent);
     let made: Result<Grid<u32>, ShapeError> = table.try_into();
     assert_stored(&rt, &made?, (2, 2), RowMajor, &[1, 2, 3, 4]);
