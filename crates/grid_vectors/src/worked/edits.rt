@@ -189,7 +189,7 @@ fn pads_to_the_largest_number_of_cells(rt: HostRuntime) -> Result<(), Fail> {
 }
 
 #[test]
-fn cells_of_no_size(rt: HostRuntime) -> Result<(), Fail> {
+fn puts_and_takes_cells_of_no_size(rt: HostRuntime) -> Result<(), Fail> {
     let alloc = rt.alloc();
     for order in ORDERS {
         let mut grid = Grid::<()>::new_with_order(alloc, 2, 3, order)?;
@@ -197,10 +197,26 @@ fn cells_of_no_size(rt: HostRuntime) -> Result<(), Fail> {
         assert_stored(&rt, &grid, (3, 3), order, &[(); 9]);
         assert_eq!(rt; grid.pop_col()?.map(|line| line.len()), Some(3));
         assert_stored(&rt, &grid, (3, 2), order, &[(); 6]);
+    }
+    Ok(())
+}
+
+#[test]
+fn puts_several_lines_of_no_size(rt: HostRuntime) -> Result<(), Fail> {
+    let alloc = rt.alloc();
+    for order in ORDERS {
+        let mut grid = Grid::<()>::new_with_order(alloc, 3, 2, order)?;
         let lines = vec![in alloc; vec![in alloc; (), ()]?, vec![in alloc; (), ()]?]?;
         insert_several(&rt, &mut grid, Place::Row(3), lines)?;
         assert_stored(&rt, &grid, (5, 2), order, &[(); 10]);
-        let mut grid = Grid::<()>::new_with_order(alloc, 1, 1, order)?;
+    }
+    Ok(())
+}
+
+#[test]
+fn pads_cells_of_no_size(rt: HostRuntime) -> Result<(), Fail> {
+    for order in ORDERS {
+        let mut grid = Grid::<()>::new_with_order(rt.alloc(), 1, 1, order)?;
         assert_eq!(rt; grid.expand_rows(usize::MAX), Err(GridError::TooLarge));
         assert_stored(&rt, &grid, (1, 1), order, &[()]);
         grid.prepend_cols(2)?;

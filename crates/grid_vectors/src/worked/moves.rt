@@ -1,6 +1,7 @@
 //! Words of moves, the moves, and runs of them.
 use crate::fixtures::{ORDERS, assert_shows, grid_of, order_after, table_of};
 use grid::{Command, Grid, Move, Order, Reply, Symmetry, Tally, reduce, run};
+use std::process::Abort;
 use std::test::Fail;
 
 // The example that the README begins with.
@@ -20,28 +21,20 @@ fn turns_a_board(rt: HostRuntime) -> Result<(), Fail> {
     Ok(())
 }
 
+fn assert_reduces(rt: &impl Abort, word: &[Move], want: Symmetry) {
+    assert_eq!(rt; reduce(word), want);
+}
+
 #[test]
 fn reduces_words(rt: HostRuntime) {
     use Move::{FlipCols, FlipRows, RotateHalf, RotateLeft, RotateRight, Transpose};
-    assert_eq!(rt; reduce([].as_slice()), Symmetry::Identity);
-    assert_eq!(rt;
-        reduce([RotateLeft, Transpose].as_slice()),
-        Symmetry::FlipCols
-    );
-    assert_eq!(rt;
-        reduce([FlipRows, FlipCols].as_slice()),
-        Symmetry::RotateHalf
-    );
+    assert_reduces(&rt, &[], Symmetry::Identity);
+    assert_reduces(&rt, &[RotateLeft, Transpose], Symmetry::FlipCols);
+    assert_reduces(&rt, &[FlipRows, FlipCols], Symmetry::RotateHalf);
     let four_turns = [RotateRight, RotateRight, RotateRight, RotateRight];
-    assert_eq!(rt; reduce(four_turns.as_slice()), Symmetry::Identity);
-    assert_eq!(rt;
-        reduce([Transpose, RotateHalf].as_slice()),
-        Symmetry::AntiTranspose
-    );
-    assert_eq!(rt;
-        reduce([Transpose, FlipRows].as_slice()),
-        Symmetry::RotateLeft
-    );
+    assert_reduces(&rt, &four_turns, Symmetry::Identity);
+    assert_reduces(&rt, &[Transpose, RotateHalf], Symmetry::AntiTranspose);
+    assert_reduces(&rt, &[Transpose, FlipRows], Symmetry::RotateLeft);
 }
 
 #[test]
