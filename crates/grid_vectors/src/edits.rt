@@ -384,6 +384,7 @@ fn puts_columns_as_rows_across(rt: HostRuntime) -> Result<(), Fail> {
             grid.transpose();
             other.transpose();
         }
+        assert!(rt; grid.is_empty());
         let line = vec![in alloc; 1, 2, 3]?;
         let same = vec![in alloc; 1, 2, 3]?;
         match insert_col_or_row_across(&mut grid, &mut other, 0, line, same) {
