@@ -9,7 +9,6 @@ use crate::{Grid, ShapeError};
 use std::alloc::Allocator;
 use std::convert::{AsSlice, TryFrom};
 
-
 // Whether so many cells can be cut into rows of `cols`.
 fn can_cut(len: usize, cols: usize) -> bool
     ensures { IsTrue result ↔ CanCut len cols }

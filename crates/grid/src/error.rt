@@ -6,7 +6,6 @@ ghost use Rattle.grid.specs.declared.error.ShapeError.TheVariants.{Memory as Out
 use std::alloc::AllocError;
 use thiserror::Error;
 
-
 /// Why a grid of a size could not be made, or could not grow to it.
 #[derive(Clone, Copy, Debug, PartialEq, Eq, Error)]
 pub enum GridError {

@@ -105,7 +105,13 @@ fn check_put(
     heap.grant(1);
     assert_eq!(rt; put_line(rt, &mut grid, place, pushed, line), Ok(()));
     assert_eq!(rt; heap.left(), 0);
-    put(rt, alloc, &mut table, place, line_from(alloc, 101, len)?.as_slice())?;
+    put(
+        rt,
+        alloc,
+        &mut table,
+        place,
+        line_from(alloc, 101, len)?.as_slice(),
+    )?;
     assert_shows(rt, alloc, &grid, &table, order)
 }
 
@@ -125,6 +131,14 @@ fn puts_lines(rt: HostRuntime) -> Result<(), Fail> {
     Ok(())
 }
 
+fn same_line<A: Allocator>(taken: &Option<Vec<u32, A>>, line: &Option<Vec<u32>>) -> bool {
+    match (taken, line) {
+        (Some(taken), Some(line)) => taken.as_slice() == line.as_slice(),
+        (None, None) => true,
+        _ => false,
+    }
+}
+
 // A line that is taken is one request, refused and then granted, and none where there is no such line.
 fn check_taken(
     rt: &impl Abort,
@@ -138,15 +152,15 @@ fn check_taken(
     let line = line_at(alloc, &table, place)?;
     let heap = Fuse::new(alloc, 0);
     let mut grid = starved_grid_of(rt, alloc, &heap, &table, order)?;
-    assert_eq!(rt; take_line(&mut grid, place, popped).is_err(), line.is_some());
+    assert_eq!(rt;
+        take_line(&mut grid, place, popped).is_err(),
+        line.is_some()
+    );
     assert_shows(rt, alloc, &grid, &table, order)?;
     heap.grant(1);
     let taken = take_line(&mut grid, place, popped)?;
     assert_eq!(rt; heap.left(), if line.is_some() { 0 } else { 1 });
-    match (&taken, &line) {
-        (Some(taken), Some(line)) => assert_eq!(rt; taken.as_slice(), line.as_slice()),
-        (taken, line) => assert!(rt; taken.is_none() && line.is_none()),
-    }
+    assert!(rt; same_line(&taken, &line));
     let left = without(alloc, &table, place, 1)?;
     assert_shows(rt, alloc, &grid, &left, order)
 }

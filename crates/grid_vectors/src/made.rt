@@ -1,7 +1,5 @@
 //! How grids are made and converted, over all small sizes, also where memory is refused.
-use crate::fixtures::{
-    Fragile, Heap, ORDERS, assert_shows, line_from, numbered, put, value_at,
-};
+use crate::fixtures::{Fragile, Heap, ORDERS, assert_shows, line_from, numbered, put, value_at};
 use crate::fuse::Fuse;
 use grid::{Grid, GridError, Order, ShapeError, grid, grid_cm};
 use std::alloc::{AllocError, Allocator, Global};

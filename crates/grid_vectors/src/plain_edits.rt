@@ -139,7 +139,13 @@ pub fn pad(
     };
     if rows != 0 {
         for _ in 0..count {
-            put(rt, alloc, table, place, vec![in alloc; 0u32; len]?.as_slice())?;
+            put(
+                rt,
+                alloc,
+                table,
+                place,
+                vec![in alloc; 0u32; len]?.as_slice(),
+            )?;
         }
     }
     Ok(())

@@ -34,8 +34,18 @@ fn pairs_that_fit(rt: HostRuntime) -> Result<(), Fail> {
 fn ragged(rt: HostRuntime) -> Result<(), Fail> {
     let alloc = rt.alloc();
     for (table, row, len, cols) in [
-        (table_of(alloc, &[&[1, 2], &[3], &[4]])?, 1usize, 1usize, 2usize),
-        (table_of(alloc, &[&[1, 2, 3], &[4, 5, 6], &[7, 8]])?, 2, 2, 3),
+        (
+            table_of(alloc, &[&[1, 2], &[3], &[4]])?,
+            1usize,
+            1usize,
+            2usize,
+        ),
+        (
+            table_of(alloc, &[&[1, 2, 3], &[4, 5, 6], &[7, 8]])?,
+            2,
+            2,
+            3,
+        ),
         (table_of(alloc, &[&[], &[1]])?, 1, 1, 0),
     ] {
         let refused = Some(ShapeError::Ragged { row, len, cols });
@@ -65,12 +75,24 @@ fn rows_without_cells(rt: HostRuntime) -> Result<(), Fail> {
 fn equal_rows(rt: HostRuntime) -> Result<(), Fail> {
     let alloc = rt.alloc();
     let table = table_of(alloc, &[&[1, 2], &[3, 4]])?;
-    assert_stored(&rt, &Grid::try_from(&table)?, (2, 2), RowMajor, &[1, 2, 3, 4]);
+    assert_stored(
+        &rt,
+        &Grid::try_from(&table)?,
+        (2, 2),
+        RowMajor,
+        &[1, 2, 3, 4],
+    );
     let mut lent = Vec::new(alloc);
     for row in table.iter().rev() {
         lent.push(row)?;
     }
-    assert_stored(&rt, &Grid::try_from(&lent)?, (2, 2), RowMajor, &[3, 4, 1, 2]);
+    assert_stored(
+        &rt,
+        &Grid::try_from(&lent)?,
+        (2, 2),
+        RowMajor,
+        &[3, 4, 1, 2],
+    );
     drop(lent);
     let made: Result<Grid<u32>, ShapeError> = table.try_into();
     assert_stored(&rt, &made?, (2, 2), RowMajor, &[1, 2, 3, 4]);

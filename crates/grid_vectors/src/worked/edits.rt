@@ -228,11 +228,21 @@ fn pads_cells_of_no_size(rt: HostRuntime) -> Result<(), Fail> {
 #[test]
 fn texts(rt: HostRuntime) -> Result<(), Fail> {
     let alloc = rt.alloc();
-    let cells = vec![in alloc; String::from_str(alloc, "a")?, String::from_str(alloc, "b")?]?;
+    let cells = vec![in alloc;
+        String::from_str(alloc, "a")?,
+        String::from_str(alloc, "b")?,
+    ]?;
     let mut grid = Grid::from_vec(cells, 1);
-    push_row(&rt, &mut grid, vec![in alloc; String::from_str(alloc, "c")?]?)?;
+    push_row(
+        &rt,
+        &mut grid,
+        vec![in alloc; String::from_str(alloc, "c")?]?,
+    )?;
     assert!(rt; grid.delete_row(0));
-    let line = vec![in alloc; String::from_str(alloc, "d")?, String::from_str(alloc, "e")?]?;
+    let line = vec![in alloc;
+        String::from_str(alloc, "d")?,
+        String::from_str(alloc, "e")?,
+    ]?;
     insert(&rt, &mut grid, Place::Col(0), line)?;
     assert_eq!(rt; joined(alloc, &grid)?.as_str(), "dbec");
     match grid.pop_row()? {

@@ -1,7 +1,7 @@
 //! Calls on all cells, by closures that have a state.
 use crate::fixtures::{Fragile, ORDERS, assert_shows, assert_stored, grid_of, table_of};
-use grid::Order::{ColumnMajor, RowMajor};
 use grid::Grid;
+use grid::Order::{ColumnMajor, RowMajor};
 use std::cell::Cell;
 use std::test::Fail;
 
