@@ -1,5 +1,5 @@
 //! How a grid is made and its cells are reached, over all small tables and both orders.
-use crate::fixtures::{ORDERS, PLACES, SIZES, assert_shows, grid_of, numbered, places_of, put};
+use crate::fixtures::{ORDERS, PLACES, SIZES, assert_shows, grid_of, numbered, places_of, put_cell};
 use crate::plain;
 use grid::Order;
 use std::alloc::{AllocError, Global};
@@ -55,7 +55,7 @@ fn check_get_mut(
         }
         None => assert!(rt; !there),
     }
-    put(&mut table, row, col, 99);
+    put_cell(&mut table, row, col, 99);
     assert_shows(rt, alloc, &grid, &table, order)
 }
 
@@ -86,12 +86,12 @@ fn check_writes(
     let (grid_rows, grid_cols) = grid.size();
     assert!(rt; row < grid_rows && col < grid_cols);
     *grid.get_unchecked_mut(row, col) = 98;
-    put(&mut table, row, col, 98);
+    put_cell(&mut table, row, col, 98);
     assert_shows(rt, alloc, &grid, &table, order)?;
     let (grid_rows, grid_cols) = grid.size();
     assert!(rt; row < grid_rows && col < grid_cols);
     grid[(row, col)] = 99;
-    put(&mut table, row, col, 99);
+    put_cell(&mut table, row, col, 99);
     assert_shows(rt, alloc, &grid, &table, order)
 }
 
@@ -125,8 +125,8 @@ fn check_swap(
     grid.swap(a, b);
     let at_a = plain::get(&table, a.0, a.1).expect(rt, "a is in range");
     let at_b = plain::get(&table, b.0, b.1).expect(rt, "b is in range");
-    put(&mut table, a.0, a.1, at_b);
-    put(&mut table, b.0, b.1, at_a);
+    put_cell(&mut table, a.0, a.1, at_b);
+    put_cell(&mut table, b.0, b.1, at_a);
     assert_shows(rt, alloc, &grid, &table, order)
 }
 

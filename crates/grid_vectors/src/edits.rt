@@ -5,7 +5,7 @@ use crate::fixtures::{
     table_of,
 };
 use crate::fuse::Fuse;
-use crate::plain_edits::{Place, line_at, pad, put, without};
+use crate::plain_edits::{Place, line_at, pad, put_line, without};
 use grid::laws::{insert_col_or_row_across, push_row_then_pop_row};
 use grid::{Grid, GridError, LineRefused, LinesRefused, Order};
 use std::alloc::{AllocError, Allocator, Global};
@@ -54,7 +54,7 @@ fn starved_line(heap: &Heap, len: usize) -> Result<Vec<u32, &Heap>, AllocError> 
     Ok(line)
 }
 
-fn put_line<'a>(
+fn put_into<'a>(
     rt: &impl Abort,
     grid: &mut Grid<u32, &'a Heap>,
     place: Place,
@@ -99,13 +99,13 @@ fn check_put(
         line: starved_line(&heap, len)?,
         fault: GridError::Memory,
     };
-    assert_eq!(rt; put_line(rt, &mut grid, place, pushed, line), Err(back));
+    assert_eq!(rt; put_into(rt, &mut grid, place, pushed, line), Err(back));
     assert_shows(rt, alloc, &grid, &table, order)?;
     let line = starved_line(&heap, len)?;
     heap.grant(1);
-    assert_eq!(rt; put_line(rt, &mut grid, place, pushed, line), Ok(()));
+    assert_eq!(rt; put_into(rt, &mut grid, place, pushed, line), Ok(()));
     assert_eq!(rt; heap.left(), 0);
-    put(
+    put_line(
         rt,
         alloc,
         &mut table,
@@ -280,7 +280,7 @@ fn check_put_several(
     assert_eq!(rt; insert_several(rt, &mut grid, place, lines), Ok(()));
     assert_eq!(rt; heap.left(), 0);
     for line in lines_from(alloc, 101, count, len)?.iter().rev() {
-        put(rt, alloc, &mut table, place, line.as_slice())?;
+        put_line(rt, alloc, &mut table, place, line.as_slice())?;
     }
     assert_shows(rt, alloc, &grid, &table, order)
 }
@@ -300,13 +300,17 @@ fn puts_several_lines(rt: HostRuntime) -> Result<(), Fail> {
     Ok(())
 }
 
-// Pads at the beginning, or at the end, of which the place is any other.
-fn pad_grid(grid: &mut Grid<u32, &Heap>, place: Place, count: usize) -> Result<(), GridError> {
-    match place {
-        Place::Row(0) => grid.prepend_rows(count),
-        Place::Row(_) => grid.expand_rows(count),
-        Place::Col(0) => grid.prepend_cols(count),
-        Place::Col(_) => grid.expand_cols(count),
+// Pads at the beginning or at the end.
+fn pad_grid(
+    grid: &mut Grid<u32, &Heap>,
+    (place, at_end): (Place, bool),
+    count: usize,
+) -> Result<(), GridError> {
+    match (place, at_end) {
+        (Place::Row(_), false) => grid.prepend_rows(count),
+        (Place::Row(_), true) => grid.expand_rows(count),
+        (Place::Col(_), false) => grid.prepend_cols(count),
+        (Place::Col(_), true) => grid.expand_cols(count),
     }
 }
 
@@ -317,25 +321,25 @@ fn check_padded(
     alloc: Global,
     size: (usize, usize),
     order: Order,
-    place: Place,
+    end: (Place, bool),
     count: usize,
 ) -> Result<(), AllocError> {
     let mut table = numbered(alloc, size.0, size.1)?;
     let heap = Fuse::new(alloc, 0);
     let mut grid = starved_grid_of(rt, alloc, &heap, &table, order)?;
     if size.0 != 0 {
-        let refused = pad_grid(&mut grid, place, usize::MAX);
+        let refused = pad_grid(&mut grid, end, usize::MAX);
         assert_eq!(rt; refused, Err(GridError::TooLarge));
         if count != 0 {
-            let refused = pad_grid(&mut grid, place, count);
+            let refused = pad_grid(&mut grid, end, count);
             assert_eq!(rt; refused, Err(GridError::Memory));
             heap.grant(1);
         }
         assert_shows(rt, alloc, &grid, &table, order)?;
     }
-    assert_eq!(rt; pad_grid(&mut grid, place, count), Ok(()));
+    assert_eq!(rt; pad_grid(&mut grid, end, count), Ok(()));
     assert_eq!(rt; heap.left(), 0);
-    pad(rt, alloc, &mut table, place, count)?;
+    pad(rt, alloc, &mut table, end.0, count)?;
     assert_shows(rt, alloc, &grid, &table, order)
 }
 
@@ -343,15 +347,15 @@ fn check_padded(
 fn pads_tables(rt: HostRuntime) -> Result<(), Fail> {
     for (rows, cols) in SIZES {
         let ends = [
-            Place::Row(0),
-            Place::Row(rows),
-            Place::Col(0),
-            Place::Col(cols),
+            (Place::Row(0), false),
+            (Place::Row(rows), true),
+            (Place::Col(0), false),
+            (Place::Col(cols), true),
         ];
         for order in ORDERS {
-            for place in ends {
+            for end in ends {
                 for count in 0..4usize {
-                    check_padded(&rt, rt.alloc(), (rows, cols), order, place, count)?;
+                    check_padded(&rt, rt.alloc(), (rows, cols), order, end, count)?;
                 }
             }
         }

@@ -211,7 +211,7 @@ pub fn places_of(
 }
 
 // Writes a cell of a table, if it is there.
-pub fn put(table: &mut Vec<Vec<u32>>, row: usize, col: usize, value: u32) {
+pub fn put_cell(table: &mut Vec<Vec<u32>>, row: usize, col: usize, value: u32) {
     if let Some(cells) = table.get_mut(row) {
         if let Some(cell) = cells.get_mut(col) {
             *cell = value;

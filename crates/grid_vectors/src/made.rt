@@ -1,5 +1,5 @@
 //! How grids are made and converted, over all small sizes, also where memory is refused.
-use crate::fixtures::{Fragile, Heap, ORDERS, assert_shows, line_from, numbered, put, value_at};
+use crate::fixtures::{Fragile, Heap, ORDERS, assert_shows, line_from, numbered, put_cell, value_at};
 use crate::fuse::Fuse;
 use grid::{Grid, GridError, Order, ShapeError, grid, grid_cm};
 use std::alloc::{AllocError, Allocator, Global};
@@ -21,7 +21,7 @@ fn even_table(
     let mut table = numbered(alloc, rows, cols)?;
     for row in 0..rows {
         for col in 0..cols {
-            put(&mut table, row, col, value);
+            put_cell(&mut table, row, col, value);
         }
     }
     Ok(table)

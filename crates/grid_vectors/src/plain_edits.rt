@@ -39,7 +39,7 @@ fn put_col(
 }
 
 // Puts a line into a table.
-pub fn put(
+pub fn put_line(
     rt: &impl Abort,
     alloc: Global,
     table: &mut Vec<Vec<u32>>,
@@ -108,19 +108,25 @@ pub fn without(
     }
 }
 
+fn copied(line: Option<&Vec<u32>>) -> Result<Option<Vec<u32>>, AllocError> {
+    match line {
+        Some(line) => Ok(Some(line.clone()?)),
+        None => Ok(None),
+    }
+}
+
 // The line at a place of a table, if there is one.
 pub fn line_at(
     alloc: Global,
     table: &Vec<Vec<u32>>,
     place: Place,
 ) -> Result<Option<Vec<u32>>, AllocError> {
-    let (turned, at) = match place {
-        Place::Row(at) => (plain::act(alloc, Symmetry::Identity, table)?, at),
-        Place::Col(at) => (plain::act(alloc, Symmetry::Transpose, table)?, at),
-    };
-    match turned.get(at) {
-        Some(line) => Ok(Some(line.clone()?)),
-        None => Ok(None),
+    match place {
+        Place::Row(at) => copied(table.get(at)),
+        Place::Col(at) => {
+            let turned = plain::act(alloc, Symmetry::Transpose, table)?;
+            copied(turned.get(at))
+        }
     }
 }
 
@@ -139,7 +145,7 @@ pub fn pad(
     };
     if rows != 0 {
         for _ in 0..count {
-            put(
+            put_line(
                 rt,
                 alloc,
                 table,

@@ -1,7 +1,7 @@
 //! Memory that is refused: request by request, or each request from the first on.
 use crate::fixtures::{
     Heap, MOVES, ORDERS, SIZES, SYMMETRIES, assert_shows, call, fragile_cells, numbered,
-    order_after, put, starved_grid_of, value_at,
+    order_after, put_cell, starved_grid_of, value_at,
 };
 use crate::fuse::Fuse;
 use crate::plain;
@@ -115,7 +115,7 @@ fn check_access(
             if let Some(cell) = grid.get_mut(row, col) {
                 *cell = 99;
             }
-            put(&mut table, row, col, 99);
+            put_cell(&mut table, row, col, 99);
             assert_shows(rt, alloc, &grid, &table, order)?;
         }
     }

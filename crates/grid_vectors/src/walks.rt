@@ -1,5 +1,5 @@
 //! Walks over all small tables and both orders, beside plain walks over the plain program's rows.
-use crate::fixtures::{ORDERS, SIZES, assert_shows, grid_of, numbered, places_of, put};
+use crate::fixtures::{ORDERS, SIZES, assert_shows, grid_of, numbered, places_of, put_cell};
 use crate::plain;
 use grid::{GridColIter, GridRowIter, Order, Symmetry};
 use std::alloc::{AllocError, Global};
@@ -281,7 +281,7 @@ fn check_writes(
     let places = places_of(alloc, (rows, cols), order)?;
     let mut next = 100u32;
     for (row, col) in &places {
-        put(&mut table, *row, *col, next);
+        put_cell(&mut table, *row, *col, next);
         next = next.wrapping_add(1);
     }
     let mut next = 100u32;
@@ -292,7 +292,7 @@ fn check_writes(
     assert_shows(rt, alloc, &grid, &table, order)?;
     let mut next = 0u32;
     for (row, col) in &places {
-        put(&mut table, *row, *col, next);
+        put_cell(&mut table, *row, *col, next);
         next = next.wrapping_add(7);
     }
     let mut next = 0u32;
@@ -302,7 +302,7 @@ fn check_writes(
     }
     assert_shows(rt, alloc, &grid, &table, order)?;
     for (row, col) in &places {
-        put(&mut table, *row, *col, mark(*row, *col));
+        put_cell(&mut table, *row, *col, mark(*row, *col));
     }
     for ((row, col), cell) in grid.indexed_iter_mut() {
         *cell = mark(row, col);
@@ -337,7 +337,7 @@ fn check_line_writes(
         let mut written = 0usize;
         for (col, cell) in line.take(len).enumerate() {
             *cell = cell.wrapping_add(50);
-            put(&mut table, row, col, *cell);
+            put_cell(&mut table, row, col, *cell);
             written = written.wrapping_add(1);
         }
         assert_eq!(rt; written, len.min(cols));
@@ -350,7 +350,7 @@ fn check_line_writes(
         let mut written = 0usize;
         for (row, cell) in line.take(len).enumerate() {
             *cell = cell.wrapping_mul(3);
-            put(&mut table, row, col, *cell);
+            put_cell(&mut table, row, col, *cell);
             written = written.wrapping_add(1);
         }
         assert_eq!(rt; written, len.min(rows));

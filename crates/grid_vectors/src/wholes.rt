@@ -1,6 +1,6 @@
 //! Calls on all cells of a grid, over all small tables and both orders, also where memory or a clone is refused.
 use crate::fixtures::{
-    Fragile, ORDERS, SIZES, assert_shows, fragile_cells, grid_of, numbered, places_of, put,
+    Fragile, ORDERS, SIZES, assert_shows, fragile_cells, grid_of, numbered, places_of, put_cell,
     starved_grid_of, value_at,
 };
 use crate::fuse::Fuse;
@@ -21,7 +21,7 @@ fn put_counts(
 ) -> Result<(), AllocError> {
     let mut next = first;
     for (row, col) in &places_of(alloc, (rows, cols), order)? {
-        put(table, *row, *col, next);
+        put_cell(table, *row, *col, next);
         next = next.wrapping_add(step);
     }
     Ok(())
