@@ -8,9 +8,9 @@ use Rattle.grid_base.specs.Table.{row, rows_of, cols_of, cell, IsTable, tabulate
 use Rattle.grid_base.specs.Order.{storage, place, table_of}
 use Rattle.grid_base.specs.Lines.{Woven, Closed}
 use Rattle.grid_base.proofs.Tables.{rows-tabulate, cell-tabulate, width-tabulate, same_cells}
-use Rattle.grid_base.proofs.Stores.{length-storage, get-storage, IsFull-table_of, place_within, has_place, get_append_left, get_append_right}
+use Rattle.grid_base.proofs.Stores.{length-storage, get-storage, IsFull-table_of, place_within, has_place, get_append_left, get_append_right, get-take, get-drop}
 use Rattle.grid.specs.Edit.{put_rows, take_rows}
-use Rattle.grid.proofs.Puts.{get-take, get-drop, get_or-same}
+use Rattle.grid.proofs.Puts.{get_or-same}
 use Rattle.grid.proofs.Rows.{RowGroups, RowsWidened, rows_widened, rows_woven, table-put, table-take, cells-groups}
 
 place_of_line : (o : Order) (n c : ℕ) → place o 1 n 0 c ≡ c

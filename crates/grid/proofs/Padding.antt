@@ -9,9 +9,8 @@ use Rattle.grid_base.specs.Table.{row, rows_of, cell, tabulate}
 use Rattle.grid_base.specs.Order.{place, table_of}
 use Rattle.grid_base.specs.Lines.{Opened}
 use Rattle.grid_base.proofs.Tables.{rows-tabulate, cell-tabulate, width-tabulate, IsFull, IsSome_within}
-use Rattle.grid_base.proofs.Stores.{place_within}
+use Rattle.grid_base.proofs.Stores.{place_within, get-take, get-drop}
 use Rattle.grid.specs.Edit.{put_rows}
-use Rattle.grid.proofs.Puts.{get-take, get-drop}
 use Rattle.grid.proofs.Rows.{RowGroups, HasWidth, rows_widened, rows_opened, table-put}
 use Rattle.grid.proofs.EditViews.{rows-cut, width-cut, cell-cut}
 

@@ -4,21 +4,9 @@ use Rattle.std.specs.List.{slice_get}
 use Rattle.std.proofs.lemmas.List.{length-take-le}
 use Rattle.std.proofs.lemmas.Option.{unwrap_or-slice_get}
 use Rattle.std.proofs.lemmas.Bool.{cases_lt}
-use Rattle.grid_base.proofs.Stores.{get_append_left, get_append_right}
+use Rattle.grid_base.proofs.Stores.{get_append_left, get_append_right, get-take, get-drop}
 
 module _ {X : Type 0} where
-  pub get-take : (n : ℕ) (xs : List X) (k : ℕ) → k < n → slice_get (take n xs) k ≡ slice_get xs k
-  get-take zero xs k lt = absurd (omega arith)
-  get-take (suc n) [] k lt = refl
-  get-take (suc n) (x ∷ xs) zero lt = refl
-  get-take (suc n) (x ∷ xs) (suc k) lt = get-take n xs k (omega arith)
-
-  pub get-drop : (n : ℕ) (xs : List X) (k j : ℕ) → n + j ≡ k → slice_get (drop n xs) j ≡ slice_get xs k
-  get-drop zero xs k j e = let same : j ≡ k = omega arith in ap (slice_get xs) same
-  get-drop (suc n) [] k j e = refl
-  get-drop (suc n) (x ∷ xs) zero j e = absurd (omega arith)
-  get-drop (suc n) (x ∷ xs) (suc k) j e = get-drop n xs k j (omega arith)
-
   -- a list of which the elements from i to n are gone, or stand twice
   module _ (xs : List X) (i n : ℕ) (in_list : i ≤ length xs) where
     pub get-cut_before : (k : ℕ) → k < i → slice_get (take i xs ++ drop n xs) k ≡ slice_get xs k

@@ -6,6 +6,7 @@ use Rattle.std.proofs.lemmas.List.{length-take-le}
 use Rattle.std.proofs.lemmas.Option.{slice_get-get_or}
 use Rattle.std.proofs.Math.Dec.{eqb-suc-zero}
 use Rattle.grid_base.specs.declared.flat.order.Order.{Order}
+use Rattle.grid_base.specs.declared.flat.order.Order.TheVariants.{RowMajor}
 use Rattle.grid_base.specs.Table.{row, rows_of, cols_of, IsTable}
 use Rattle.grid_base.specs.Order.{storage, table_of}
 use Rattle.grid_base.specs.Sheet.{Sheet, Fits}
@@ -132,6 +133,34 @@ row_behind o n i rest p q a g old new groups len le w =
       taken = view-removed_row o (rest + 1) n i rest old refl len (omega arith) p q a g groups new w;
     }
 
+first_only : (l u v : ℕ) → l < 1 → (j : ℕ) → l * u + j ≡ l * v + j
+first_only l u v lt j =
+    let none : l ≡ 0 = omega arith in
+    let low = ap (λ x. x * u) none in
+    let high = ap (λ x. x * v) none in
+    omega arith
+
+-- the last row of the rows in their order stands behind the others
+woven_last : {T : Type 0} (q k : ℕ) (xs : List T) → Woven 1 q q k xs xs
+woven_last q k xs =
+    record {
+      lengths = refl;
+      lines = record {
+        before = λ l j a b c. let here : l * (q + k) + j ≡ l * q + j = first_only l (q + k) q a j in ap (slice_get xs) here;
+        after = λ l j a b c. absurd (omega arith);
+      };
+      groups = λ l j a b.
+          let none : l ≡ 0 = omega arith in
+          let low = ap (λ v. v * (q + k)) none in
+          let high = ap (λ v. v * k) none in
+          let here : l * (q + k) + (q + j) ≡ 1 * q + (l * k + j) = omega arith in
+          ap (slice_get xs) here;
+    }
+
+pub row_last : {T : Type 0} (n rest : ℕ) (cells : List T) → length cells ≡ (rest + 1) * n → RowBehind RowMajor n rest rest cells cells
+row_last n rest cells len =
+    row_behind RowMajor n rest rest 1 (rest * n) (rest * n) n cells cells (refl, refl, refl, omega arith) len (omega arith) (woven_last (rest * n) n cells)
+
 -- taking a row of a grid
 module _ {T : Type 0} (o : Order) (m n : ℕ) (cells : List T) (s : Sheet T) (h : Fits m n (length cells)) (e : (let v : Sheet T = record { rows = table_of o m n cells; order = o } in v) ≡ s) (i : ℕ) (within : i < rows_of s.rows) where
   pub removed_in : i < m
@@ -165,3 +194,12 @@ module _ {T : Type 0} (o : Order) (m n : ℕ) (cells : List T) (s : Sheet T) (h 
     removed_line =
         slice_get-get_or s.rows i [] within
         ∙ ap Some (sym (p.taken removed_wide ∙ (ap (λ x. row (table_of o x n cells) i) removed_whole ∙ ap (λ x. row x.rows i) e)))
+
+-- the last row of a grid whose rows stand in their order
+pub last_row : {T : Type 0} (o : Order) (m n : ℕ) (cells : List T) (s : Sheet T) (h : Fits m n (length cells)) (e : (let v : Sheet T = record { rows = table_of o m n cells; order = o } in v) ≡ s) → s.order ≡ RowMajor → 0 < rows_of s.rows → RowBehind o n (rows_of s.rows - 1) (m - 1) cells cells
+last_row o m n cells s h e major some =
+    let rows : rows_of s.rows ≡ m = seen_rows o m n cells s h e in
+    let is : o ≡ RowMajor = ap (λ x. x.order) e ∙ major in
+    let last : rows_of s.rows - 1 ≡ m - 1 = omega (arith, rows) in
+    let len : length cells ≡ (m - 1 + 1) * n = removed_cells o m n cells s h e (rows_of s.rows - 1) (omega arith) in
+    rw (is, last) (row_last n (m - 1) cells len)

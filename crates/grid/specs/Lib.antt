@@ -10,6 +10,5 @@ pub mod Edit
 pub mod RowGroups
 pub mod Shift
 pub mod Span
-pub mod Left
 pub mod Walks
 pub mod Wholes

@@ -54,9 +54,8 @@ impl<T, A: Allocator> Grid<T, A> {
     pub fn step(&mut self, command: Command, tally: &mut Tally) -> Result<Reply<T>, AllocError>
     where
         T: Clone + Default + Drop,
-        requires clones { ClonesAreEqual T.is_clone }
         ensures rows { OnOk result (self.new.rows ≡ step_rows command self.old.rows) }
-        ensures reply { IfOk result (λ reply. plain reply ≡ step_reply command self.old.rows) }
+        ensures reply { IfOk result (λ reply. ClonesAreEqual T.is_clone → plain reply ≡ step_reply command self.old.rows) }
         ensures order { OnOk result (self.new.order ≡ order_after (command_symmetry command) self.old.order) }
         ensures symmetry { OnOk result (tally.new.symmetry ≡ counted tally.old.symmetry (step_price command self.old.rows)) }
         ensures shift { tally.new.shift ≡ tally.old.shift }

@@ -1,5 +1,6 @@
 //! Conversions of vectors into row-major grids.
 ghost use Rattle.std.specs.Prelude.{◌≡◌, ◌≢◌, ◌↔◌, length, map, IsTrue, MatchResult};
+ghost use Rattle.std.specs.List.{AllZip};
 ghost use Rattle.grid_base.specs.Table.{cols_of, joined};
 ghost use Rattle.grid_base.specs.Order.{CanCut};
 ghost use Rattle.grid_base.specs.Clones.{ClonesAreEqual};
@@ -41,7 +42,7 @@ fn cut_clones<T: Clone, A: Allocator + Clone>(
     cells: &Vec<T, A>,
     cols: usize,
 ) -> Result<Grid<T, A>, ShapeError>
-    ensures { CutAnswer (CanCut (length cells.now.items) cols) cells.now.items cols (λ found. ClonesAreEqual T.is_clone → found ≡ cells.now.items) result }
+    ensures { CutAnswer (CanCut (length cells.now.items) cols) cells.now.items cols (λ found. AllZip T.is_clone cells.now.items found) result }
 {
     let len = cells.len();
     if can_cut(len, cols) {

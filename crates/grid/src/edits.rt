@@ -246,10 +246,31 @@ impl<T, A: Allocator> Grid<T, A> {
         if at >= self.rows() {
             return Ok(None);
         }
+        if at + 1 == self.rows() && matches!(self.order, Order::RowMajor) {
+            return Ok(Some(self.cut_last_row()?));
+        }
         let alloc = self.flat.allocator().clone()?;
         let mut line = Vec::with_capacity(alloc, self.cols())?;
         self.take_row_out(at, &mut line);
         Ok(Some(line))
+    }
+
+    // Cuts the last row off the storage.
+    fn cut_last_row(&mut self) -> Result<Vec<T, A>, AllocError>
+    where
+        A: Clone,
+        requires order { self.old.order ≡ Order.RowMajor }
+        requires some { 0 < rows_of self.old.rows }
+        ensures rows { OnOk result (self.new.rows ≡ remove self.old.rows (rows_of self.old.rows - 1)) }
+        ensures line { IfOk result (λ line. slice_get self.old.rows (rows_of self.old.rows - 1) ≡ Some line.items) }
+        ensures order { self.new.order ≡ self.old.order }
+        ensures err { OnErr result (self.new ≡ self.old) }
+    {
+        let rest = self.row_count - 1;
+        let line = self.flat.split_off(rest * self.col_count)?;
+        self.row_count = rest;
+        self.col_count = width_left(rest, self.col_count);
+        Ok(line)
     }
 
     // Takes a row that is there into a vector that has room for it.

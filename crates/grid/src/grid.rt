@@ -145,7 +145,7 @@ impl<T, A: Allocator> Grid<T, A> {
         ensures { option_copied result ≡ cell self.now.rows row col }
     {
         if row < self.row_count && col < self.col_count {
-            self.flat.get(place(self.order, self.row_count, self.col_count, row, col))
+            Some(self.flat.at(place(self.order, self.row_count, self.col_count, row, col)))
         } else {
             None
         }

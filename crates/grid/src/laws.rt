@@ -1,9 +1,9 @@
 //! Laws of grids as public calls: each makes the calls that its name says, and ensures what they leave.
-ghost use Rattle.std.specs.Prelude.{◌≡◌, ◌<◌, ◌≤◌, length, OnOk, IfOk, MatchOption};
-ghost use Rattle.grid_base.specs.Table.{cols_of};
+ghost use Rattle.std.specs.Prelude.{◌≡◌, ◌<◌, ◌≤◌, length, insert, OnOk, OnErr, IfOk, IfErr, MatchOption};
+ghost use Rattle.grid_base.specs.Table.{rows_of, cols_of};
 ghost use Rattle.grid_base.specs.Symmetry.{act};
 ghost use Rattle.grid_base.specs.declared.words.Symmetry.TheVariants.{RotateHalf};
-ghost use Rattle.grid.specs.Edit.{FitsRow, FitsCol};
+ghost use Rattle.grid.specs.Edit.{FitsRow, FitsCol, put_col};
 
 use crate::{Grid, LineRefused};
 use std::alloc::{AllocError, Allocator};
@@ -60,6 +60,9 @@ where
     requires fits { FitsRow grid.old.rows (length line.items) }
     ensures grid { IfOk result (λ popped. OnOk popped (grid.new ≡ grid.old)) }
     ensures line { IfOk result (λ popped. IfOk popped (λ taken. MatchOption taken ⊥ (λ row. row.items ≡ line.items))) }
+    ensures kept { IfOk result (λ popped. OnErr popped (grid.new.rows ≡ insert grid.old.rows (rows_of grid.old.rows) line.items)) }
+    ensures refused { OnErr result (grid.new ≡ grid.old) }
+    ensures refused_line { IfErr result (λ refused. refused.line.items ≡ line.items) }
 {
     grid.push_row(line)?;
     Ok(grid.pop_row())
@@ -81,7 +84,10 @@ pub fn insert_col_or_row_across<T, A: Allocator>(
     requires nonempty { 0 < length line.items }
     requires fits { FitsCol grid.old.rows (length line.items) }
     requires place { at ≤ cols_of grid.old.rows }
-    ensures { OnOk result.0 (OnOk result.1 (other.new ≡ grid.new)) }
+    ensures same { OnOk result.0 (OnOk result.1 (other.new ≡ grid.new)) }
+    ensures as_col { OnOk result.0 (grid.new.rows ≡ put_col at line.items grid.old.rows) }
+    ensures refused_col { OnErr result.0 (grid.new ≡ grid.old) }
+    ensures refused_row { OnErr result.1 (other.new ≡ other.old) }
 {
     let _ = grid.size();
     let as_col = grid.insert_col(at, line);

@@ -20,7 +20,7 @@ pub use edits::{LineRefused, LinesRefused};
 pub use error::{GridError, ShapeError};
 pub use grid::Grid;
 pub use grid_base::{
-    GridLineIterMut, IndexedIntoIter, IndexedIter, IndexedIterMut, Move, Order, Symmetry, Tally,
-    reduce,
+    GridLineIter, GridLineIterMut, IndexedIntoIter, IndexedIter, IndexedIterMut, Move, Order,
+    Symmetry, Tally, reduce,
 };
 pub use walks::{GridColIter, GridRowIter};

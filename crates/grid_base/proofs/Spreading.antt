@@ -1,12 +1,11 @@
 -- Where the cells of lines stand once each line has room for a group.
-use Rattle.std.proofs.Common.{◌≡◌, ◌≢◌, ℕ, ◌+◌, ◌-◌, ◌*◌, ◌/◌, ◌%◌, ◌<◌, ◌≤◌, List, length, refl, sym, ◌∙◌, ap, arith, ⊎_elim, ◌^◌}
-use Rattle.std.specs.List.{slice_get, swap}
-use Rattle.std.proofs.lemmas.List.Edits.{length-swap}
+use Rattle.std.proofs.Common.{◌≡◌, ◌≢◌, ℕ, ◌+◌, ◌-◌, ◌*◌, ◌/◌, ◌%◌, ◌<◌, ◌≤◌, List, length, min, refl, sym, ◌∙◌, ap, arith, ⊎_elim}
+use Rattle.std.specs.List.{slice_get}
 use Rattle.std.proofs.lemmas.Nat.{div-mul-add, div-add-mod', mod_below, same_from_place, le-div, div_below}
 use Rattle.std.proofs.lemmas.Bool.{cases_lt, cases_eq}
 use Rattle.std.proofs.Math.Nat.{mul-le-mul_right, mul-le-mul_left}
+use Rattle.grid_base.specs.Blocks.{MovedForward, MovedBack}
 use Rattle.grid_base.specs.Lines.{Widened, Opened}
-use Rattle.grid_base.proofs.Swaps.{get-swap_first, get-swap_second, get-swap_other}
 use Rattle.grid_base.proofs.Weaving.{place_below}
 
 -- the place of cell x once each line of q cells has a group of k cells before its place i
@@ -86,28 +85,49 @@ opening_none f n x xs e =
       fresh = λ z a b miss. (z, omega arith, b, refl);
     }
 
-pub opening_more : {T : Type 0} (f : ℕ → ℕ) (n x : ℕ) (old now new : List T) → ((y z : ℕ) → y < z → f y < f z) → x < f x → f x < length old → x < n → Opening f n (x + 1) old now → new ≡ swap now x (f x) → Opening f n x old new
-opening_more f n x old now new rises above within lt h e =
-    let p : x < length now = omega (arith, h.length_stays) in
-    let q : f x < length now = omega (arith, h.length_stays) in
-    rw e
-    (record {
-      length_stays = length-swap now _ _ ∙ h.length_stays;
-      placed = λ y a b.
-          ⊎_elim (λ s. ap (λ v. slice_get (swap now x (f x)) (f v)) s ∙ (get-swap_second now _ _ p q ∙ (h.kept x (omega arith) ∙ sym (ap (slice_get old) s))))
-          (λ ne.
-          let up : x < y = omega arith in
-          let high = rises x y up in
-          get-swap_other now _ _ (f y) p q (λ s. omega arith) (λ s. omega arith) ∙ h.placed y (omega arith) b) (cases_eq y x);
-      kept = λ y a. get-swap_other now _ _ y p q (λ s. omega arith) (λ s. omega arith) ∙ h.kept y (omega arith);
-      fresh = λ z a b miss.
-          ⊎_elim (λ s.
-          let w = h.fresh (f x) (omega arith) within (λ y c d. let high = rises x y (omega arith) in λ t. omega arith) in
-          (w.0, w.1, w.2, ap (slice_get (swap now x (f x))) s ∙ (get-swap_first now _ _ p q ∙ w.3)))
-          (λ ne.
-          let w = h.fresh z (omega arith) b (λ y c d. miss y (omega arith) d) in
-          (w.0, w.1, w.2, get-swap_other now _ _ z p q ne (λ s. miss x (omega arith) lt (sym s)) ∙ w.3)) (cases_eq z x);
-    })
+-- a product above 0
+pub wide_lines : (p q : ℕ) → 0 < p * q → 0 < q
+wide_lines p q some = ⊎_elim (λ none. absurd (omega (arith, ap (λ y. p * y) none))) (λ is. omega arith) (cases_eq q 0)
+
+-- a number of lines, one less and one
+pub times_less : (g q : ℕ) → 0 < g → g * q ≡ (g - 1) * q + q
+times_less g q some = let e : g ≡ g - 1 + 1 = omega arith in ap (λ v. v * q) e ∙ omega arith
+
+module _ (p q i k x g : ℕ) (le : i ≤ q) (e : x + (q - i) ≡ g * q) where
+  -- the run of cells behind g groups, from x on
+  pub spread_run : (y : ℕ) → x ≤ y → y < x + q → spread q i k y ≡ y + g * k
+  spread_run y lo hi = spread-behind q i k le g (y - x) y (omega arith) (omega arith)
+
+  -- the cells behind that run
+  pub spread_later : (z y : ℕ) → 0 < q → z ≡ x + q → z ≤ y → z + g * k ≤ spread q i k y
+  spread_later z y some ez lo =
+      let first : spread q i k z ≡ z + (g + 1) * k = spread-behind q i k le (g + 1) 0 z (omega arith) some in
+      ⊎_elim (λ s. let same : spread q i k y ≡ spread q i k z = ap (spread q i k) s in omega arith)
+      (λ ne. let high = spread_rises q i k le z y some (omega arith) in omega arith) (cases_eq y z)
+
+pub opening_run : {T : Type 0} (p q i k g z m x : ℕ) (old now new : List T) → i ≤ q → 0 < k → length old ≡ p * (q + k) → g ≤ p → z + (q - i) ≡ g * q → z ≤ p * q → x ≡ min (z + q) (p * q) → m ≡ x - z → Opening (spread q i k) (p * q) x old now → MovedBack z (g * k) m now new → Opening (spread q i k) (p * q) z old new
+opening_run p q i k g z m x old now new le some size lg e lz ex em h mv =
+    let inside : x + g * k ≤ length old = omega (arith, mul-le-mul_right k lg) in
+    let later : (y : ℕ) → x ≤ y → y < p * q → x + g * k ≤ spread q i k y =
+    λ (y : ℕ) (lo : x ≤ y) (hi : y < p * q). spread_later p q i k z g le e x y (wide_lines p q (omega arith)) (omega arith) lo in
+    record {
+      length_stays = mv.length_stays ∙ h.length_stays;
+      placed = λ y lo hi.
+          ⊎_elim (λ low.
+          ap (slice_get new) (spread_run p q i k z g le e y lo (omega arith)) ∙ (mv.placed y lo (omega arith) ∙ h.kept y low))
+          (λ high. let far = later y high hi in mv.behind (spread q i k y) (omega arith) ∙ h.placed y high hi) (cases_lt y x);
+      kept = λ y lt. mv.before y lt ∙ h.kept y (omega arith);
+      fresh = λ w lo hi miss.
+          ⊎_elim (λ low.
+          let v = mv.gap w lo low in
+          let u = h.fresh v.0 (omega (arith, v.1)) (omega (arith, v.2)) (λ y c d. let far = later y c d in λ t. omega (arith, v.2)) in
+          (u.0, u.1, u.2, v.3 ∙ u.3))
+          (λ high.
+          ⊎_elim (λ low. absurd (miss (w - g * k) (omega arith) (omega arith) (spread_run p q i k z g le e (w - g * k) (omega arith) (omega arith) ∙ omega arith)))
+          (λ far.
+          let u = h.fresh w (omega arith) hi (λ y c d. miss y (omega arith) d) in
+          (u.0, u.1, u.2, mv.behind w (omega arith) ∙ u.3)) (cases_lt w (x + g * k))) (cases_lt w (z + g * k));
+    }
 
 pub opened_at : {T : Type 0} (p q i k : ℕ) (old now : List T) → 0 < p → 0 < q → i ≤ q → length old ≡ p * (q + k) → Opening (spread q i k) (p * q) i old now → Opened p q i k old now
 opened_at p q i k old now lines wide le size h =
@@ -125,21 +145,7 @@ opened_at p q i k old now lines wide le size h =
           (λ y c d. spread_misses q i k le l j y wide b);
     }
 
--- the same at a cell that comes behind g groups, in the forms of the goals
-pub behind_within : (p q i k x g r : ℕ) → i ≤ q → x + (q - i) ≡ g * q + r → r < q → x < p * q → x + g * k < p * (q + k)
-behind_within p q i k x g r le e lr lx = omega (arith, spread-behind q i k le g r x e lr, spread_within q i k le p x lx)
-
-pub behind_moves : (q i k x g r : ℕ) → i ≤ q → x + (q - i) ≡ g * q + r → r < q → i ≤ x → 0 < k → 0 < g * k
-behind_moves q i k x g r le e lr from some = omega (arith, spread-behind q i k le g r x e lr, spread_above q i k le x (omega arith) some from)
-
-pub opening_step : {T : Type 0} (p q i k x g r y z : ℕ) (old now new : List T) → i ≤ q → 0 < k → length old ≡ p * (q + k) → x + (q - i) ≡ g * q + r → r < q → i ≤ x → x < p * q → Opening (spread q i k) (p * q) y old now → new ≡ swap now x (x + g * k) → y ≡ x + 1 → z ≡ x → Opening (spread q i k) (p * q) z old new
-opening_step p q i k x g r y z old now new le some size e lr from lt h s at here =
-    let wide : 0 < q = omega arith in
-    let same = spread-behind q i k le g r x e lr in
-    rw here
-    (opening_more (spread q i k) (p * q) x old now new (λ a b. spread_rises q i k le a b wide) (spread_above q i k le x wide some from)
-    (omega (arith, spread_within q i k le p x lt)) lt (rw at at h) (s ∙ ap (swap now x) (sym same)))
-
+-- the same, in the forms of the goals
 pub opening_end : {T : Type 0} (p q i k x : ℕ) (old now : List T) → 0 < p → 0 < q → i ≤ q → length old ≡ p * (q + k) → Opening (spread q i k) (p * q) x old now → x ≡ i → Opened p q i k old now
 opening_end p q i k x old now lines wide le size h e = opened_at p q i k old now lines wide le size (rw e at h)
 
@@ -161,28 +167,19 @@ closing_none p q i k xs le =
       rest = λ y a b. refl;
     }
 
-pub closing_more : {T : Type 0} (f : ℕ → ℕ) (n x : ℕ) (old now new : List T) → ((y z : ℕ) → y < z → f y < f z) → x < f x → f x < length old → x < n → Closing f n x old now → new ≡ swap now x (f x) → Closing f n (x + 1) old new
-closing_more f n x old now new rises above within lt h e =
-    let p : x < length now = omega (arith, h.length_stays) in
-    let q : f x < length now = omega (arith, h.length_stays) in
-    rw e
-    (record {
-      length_stays = length-swap now _ _ ∙ h.length_stays;
-      placed = λ y a.
-          ⊎_elim (λ s. ap (slice_get (swap now x (f x))) s ∙ (get-swap_first now _ _ p q ∙ (h.rest x (omega arith) lt ∙ sym (ap (λ v. slice_get old (f v)) s))))
-          (λ ne. get-swap_other now _ _ y p q ne (λ s. omega arith) ∙ h.placed y (omega arith)) (cases_eq y x);
-      rest = λ y a b.
-          let high = rises x y (omega arith) in
-          get-swap_other now _ _ (f y) p q (λ s. omega arith) (λ s. omega arith) ∙ h.rest y (omega arith) b;
-    })
-
-pub closing_step : {T : Type 0} (p q i k x g r z : ℕ) (old now new : List T) → i ≤ q → 0 < k → length old ≡ p * (q + k) → x + (q - i) ≡ g * q + r → r < q → i ≤ x → x < p * q → Closing (spread q i k) (p * q) x old now → new ≡ swap now x (x + g * k) → z ≡ x + 1 → Closing (spread q i k) (p * q) z old new
-closing_step p q i k x g r z old now new le some size e lr from lt h s here =
-    let wide : 0 < q = omega arith in
-    let same = spread-behind q i k le g r x e lr in
-    rw here
-    (closing_more (spread q i k) (p * q) x old now new (λ a b. spread_rises q i k le a b wide) (spread_above q i k le x wide some from)
-    (omega (arith, spread_within q i k le p x lt)) lt h (s ∙ ap (swap now x) (sym same)))
+pub closing_run : {T : Type 0} (p q i k g x m z : ℕ) (old now new : List T) → i ≤ q → x + (q - i) ≡ g * q → x ≤ p * q → m ≡ min q (p * q - x) → Closing (spread q i k) (p * q) x old now → MovedForward x (g * k) m now new → z ≡ x + m → Closing (spread q i k) (p * q) z old new
+closing_run p q i k g x m z old now new le e lx em h mv ez =
+    record {
+      length_stays = mv.length_stays ∙ h.length_stays;
+      placed = λ y hi.
+          ⊎_elim (λ low. mv.before y low ∙ h.placed y low)
+          (λ high.
+          let same = spread_run p q i k x g le e y high (omega arith) in
+          mv.placed y high (omega arith) ∙ (sym (ap (slice_get now) same) ∙ h.rest y high (omega arith))) (cases_lt y x);
+      rest = λ y lo hi.
+          let far = spread_later p q i k x g le e z y (wide_lines p q (omega arith)) (omega arith) lo in
+          mv.behind (spread q i k y) (omega arith) ∙ h.rest y (omega arith) hi;
+    }
 
 pub closing_end : {T : Type 0} (p q i k x : ℕ) (old now : List T) → i ≤ q → p * q ≤ x → Closing (spread q i k) (p * q) x old now → Widened p q i k now old
 closing_end p q i k x old now le end h =
@@ -190,17 +187,3 @@ closing_end p q i k x old now le end h =
       before = λ l j a b c. sym (h.placed (l * q + j) (omega (arith, place_below l q j p a b)) ∙ ap (slice_get old) (spread-before q i k le l j b c));
       after = λ l j a b c. sym (h.placed (l * q + j) (omega (arith, place_below l q j p a b)) ∙ ap (slice_get old) (spread-after q i k le l j b c));
     }
-
--- a product above 0
-pub wide_lines : (p q : ℕ) → 0 < p * q → 0 < q
-wide_lines p q some = ⊎_elim (λ none. absurd (omega (arith, ap (λ y. p * y) none))) (λ is. omega arith) (cases_eq q 0)
-
--- the groups before a cell of the lines are at most as many as the lines
-pub groups_within : (p q i k x g r : ℕ) → i ≤ q → 0 < k → x + (q - i) ≡ g * q + r → r < q → x < p * q → p * (q + k) < 2 ^ 64 → g + 1 < 2 ^ 64
-groups_within p q i k x g r le some e lr lx fits =
-    ⊎_elim (λ low.
-    let two : 2 ≤ q + k = omega arith in
-    omega (arith, mul-le-mul_left p two, mul-le-mul_left p lr))
-    (λ high.
-    let more : p + 1 ≤ g = omega arith in
-    absurd (omega (arith, mul-le-mul_right q more))) (cases_lt g (p + 1))

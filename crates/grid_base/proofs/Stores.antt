@@ -1,5 +1,5 @@
 -- A table and its cells in storage order.
-use Rattle.std.proofs.Common.{◌≡◌, ℕ, zero, suc, ◌+◌, ◌*◌, ◌/◌, ◌%◌, ◌<◌, List, [], ◌∷◌, ◌++◌, length, refl, sym, ◌∙◌, ap, arith, length-append}
+use Rattle.std.proofs.Common.{◌≡◌, ℕ, zero, suc, ◌+◌, ◌*◌, ◌/◌, ◌%◌, ◌<◌, List, [], ◌∷◌, ◌++◌, length, take, drop, refl, sym, ◌∙◌, ap, arith, length-append}
 use Rattle.std.specs.List.{slice_get}
 use Rattle.std.proofs.lemmas.Nat.{mul-add-lt, div_below, mod_below, div-add-mod'}
 use Rattle.std.proofs.Math.Nat.{mul_comm}
@@ -18,6 +18,18 @@ pub get_append_right : {T : Type 0} (xs ys : List T) (k j : ℕ) → length xs +
 get_append_right [] ys k j e = let same : k ≡ j = omega arith in ap (slice_get ys) same
 get_append_right (x ∷ xs) ys zero j e = absurd (omega arith)
 get_append_right (x ∷ xs) ys (suc k) j e = get_append_right xs ys k j (omega arith)
+
+pub get-take : {T : Type 0} (n : ℕ) (xs : List T) (k : ℕ) → k < n → slice_get (take n xs) k ≡ slice_get xs k
+get-take zero xs k lt = absurd (omega arith)
+get-take (suc n) [] k lt = refl
+get-take (suc n) (x ∷ xs) zero lt = refl
+get-take (suc n) (x ∷ xs) (suc k) lt = get-take n xs k (omega arith)
+
+pub get-drop : {T : Type 0} (n : ℕ) (xs : List T) (k j : ℕ) → n + j ≡ k → slice_get (drop n xs) j ≡ slice_get xs k
+get-drop zero xs k j e = let same : j ≡ k = omega arith in ap (slice_get xs) same
+get-drop (suc n) [] k j e = refl
+get-drop (suc n) (x ∷ xs) zero j e = absurd (omega arith)
+get-drop (suc n) (x ∷ xs) (suc k) j e = get-drop n xs k j (omega arith)
 
 -- lines of one length, joined
 pub length-joined : {T : Type 0} (t : List (List T)) (n : ℕ) → ((r : ℕ) → r < length t → length (row t r) ≡ n) → length (joined t) ≡ length t * n

@@ -1,19 +1,19 @@
 -- Every so many cells of a list, and the walks over them.
-use Rattle.std.proofs.Common.{◌≡◌, ℕ, zero, suc, ◌+◌, ◌-◌, ◌*◌, ◌/◌, ◌%◌, ◌<◌, ◌≤◌, List, [], ◌∷◌, ◌++◌, Some, None, take, drop, length, map, min, refl, ap, sym, ◌∙◌, arith, length-append, length-drop, length-take, ⊎_elim}
+use Rattle.std.proofs.Common.{◌≡◌, ℕ, zero, suc, ◌+◌, ◌-◌, ◌*◌, ◌/◌, ◌%◌, ◌<◌, ◌≤◌, List, [], ◌∷◌, ◌++◌, Some, None, take, drop, length, min, refl, ap, sym, ◌∙◌, arith, get_or, length-drop, length-take, ⊎_elim}
 use Rattle.std.proofs.Math.Nat.{add-div_right, div-eq_of_lt}
 use Rattle.std.specs.Int.{div_ceil}
 use Rattle.std.specs.List.{slice_get}
-use Rattle.std.proofs.lemmas.List.{length-map, take_all, drop_all}
+use Rattle.std.proofs.lemmas.List.{take_all, drop_all, drop-drop}
 use Rattle.std.proofs.lemmas.Nat.{div-add-mod', div-mul-add, mod_below}
 use Rattle.std.proofs.lemmas.Bool.{cases_eq, cases_lt}
+use Rattle.std.specs.Iterator.{YieldsFirst, YieldsLast, YieldsFirstRef, YieldsLastRef}
+use Rattle.std.proofs.iter.runs.Sources.{from_front, from_back, as_is, as_is_back}
+use Rattle.std.specs.Option.{unwrap_or, option_copied}
+use Rattle.std.specs.declared.option.Option.{Option}
 use Rattle.std.specs.Borrow.{Bor}
-use Rattle.std.specs.Iterator.{Yields}
-use Rattle.std.specs.Iterator.Adapters.{step_by_source, step_by_gap, step_by_steps}
-use Rattle.std.specs.Slice.Iter.{iter_rest, iter_steps}
-use Rattle.std.specs.declared.iter.StepBy.{StepBy}
-use Rattle.std.specs.declared.slice.Iter.{Iter}
-use Rattle.std.proofs.iter.runs.Sources.{from_front}
-use Rattle.grid_base.specs.Strides.{every, strided, line_rest, LinesInOrder}
+use Rattle.std.proofs.lemmas.Option.{unwrap_or-slice_get}
+use Rattle.grid_base.specs.Strides.{every, strided, strided_left, IsLine, LinesInOrder, LinesInReverse, EachLineInOrder, EachLineInReverse}
+use Rattle.grid_base.proofs.Left.{left_all, left_next, left_next_back}
 
 module _ {X : Type 0} where
   every_none : (n g : ℕ) (xs : List X) → length xs ≤ n → every n g xs ≡ []
@@ -26,32 +26,6 @@ module _ {X : Type 0} where
   every_past (suc n) g [] y ys h = absurd (omega arith)
   every_past zero g (x ∷ xs) y ys h = absurd (omega arith)
   every_past (suc n) g (x ∷ xs) y ys h = every_past n g xs y ys (omega arith)
-
-  passed : (xs : List (Bor X)) (s t : Iter X) → Yields iter_steps s xs t → iter_rest s ≡ map (λ y. y.now) xs ++ iter_rest t
-  passed [] s t h = ap iter_rest h
-  passed (x ∷ xs) s t h = h.1 ∙ ap (λ l. x.now ∷ l) (passed xs h.0 t h.2)
-
-  none_gap : (c g n : ℕ) (xs : List (Bor X)) (zs rest : List X) → zs ≡ map (λ y. y.now) xs ++ rest → length rest ≡ 0 → length xs ≤ n → n ≡ c → length (every c g zs) ≡ 0
-  none_gap c g n xs zs rest e l m h =
-      let a = ap length e in
-      ap length (every_none c g zs (omega (arith, a, length-append (map (λ (y : Bor X). y.now) xs) rest, length-map xs (λ (y : Bor X). y.now))))
-
-  none_left : (s t : StepBy (Iter X)) → step_by_steps (iter_steps {A = X}) s None t → length (line_rest s) ≡ 0
-  none_left s t h =
-      none_gap _ (step_by_gap s) h.2.0 h.2.1 (iter_rest (step_by_source s)) (iter_rest h.2.3.0) (passed h.2.1 (step_by_source s) h.2.3.0 h.2.3.1) h.2.3.2.0 h.2.4 h.2.2
-
-  one_gap : (c g n : ℕ) (xs : List (Bor X)) (x : Bor X) (zs mid rest : List X) → zs ≡ map (λ y. y.now) xs ++ mid → mid ≡ x.now ∷ rest → length xs ≡ n → n ≡ c → every c g zs ≡ x.now ∷ every g g rest
-  one_gap c g n xs x zs mid rest e f m h =
-      let a : zs ≡ map (λ y. y.now) xs ++ x.now ∷ rest = e ∙ ap (λ l. map (λ y. y.now) xs ++ l) f in
-      rw a (every_past c g (map (λ y. y.now) xs) x.now rest (omega (arith, length-map xs (λ (y : Bor X). y.now))))
-
-  one_given : (s : StepBy (Iter X)) (x : Bor X) (t : StepBy (Iter X)) → step_by_steps (iter_steps {A = X}) s (Some x) t → line_rest s ≡ x.now ∷ line_rest t
-  one_given s x t h =
-      rw (h.1, h.0) (one_gap _ (step_by_gap s) h.2.0 h.2.1 x (iter_rest (step_by_source s)) (iter_rest h.2.3.0) (iter_rest (step_by_source t)) (passed h.2.1 (step_by_source s) h.2.3.0 h.2.3.1) h.2.3.2 h.2.4 h.2.2)
-
--- a stepped walk over a slice gives what it has left
-pub lines_in_order : (X : Type 0) → LinesInOrder X
-lines_in_order X = from_front (step_by_steps (iter_steps {A = X})) (λ y. y.now) line_rest none_left one_given
 
 -- ---- a walk for writing
 
@@ -101,7 +75,7 @@ length-strided stride xs p =
     let n : length xs + (stride - 1) - 0 ≡ length xs + (stride - 1) = omega arith in
     length-every 0 (stride - 1) xs (omega arith) ∙ (ap (λ k. k / (stride - 1 + 1)) n ∙ (ceil_is (length xs) (stride - 1) ∙ ap (div_ceil (length xs)) one))
 
-drop_or_end : {X : Type 0} (g k : ℕ) (ys : List X) → k ≡ min g (length ys) → take (length ys - k) (drop k ys) ≡ drop g ys
+pub drop_or_end : {X : Type 0} (g k : ℕ) (ys : List X) → k ≡ min g (length ys) → take (length ys - k) (drop k ys) ≡ drop g ys
 drop_or_end g k ys e =
     ⊎_elim (λ lt.
     let same : k ≡ g = omega arith in
@@ -151,3 +125,71 @@ module _ {X : Type 0} where
   length-line_of start end stride xs p h =
       let cut : length (take (end - start) (drop start xs)) ≡ end - start = omega (arith, length-take (end - start) (drop start xs), length-drop start xs) in
       length-strided stride (take (end - start) (drop start xs)) p ∙ ap (λ n. div_ceil n stride) cut
+
+-- ---- a walk along a line
+
+module _ (X : Type 0) where
+  -- it gives what it has left
+  pub lines_in_order : LinesInOrder X
+  lines_in_order = from_front (YieldsFirstRef (λ (rest : List X). rest)) (λ y. y.now) (λ rest. rest) (λ s t h. ap length h.0) (λ s x t h. h)
+
+  pub lines_in_reverse : LinesInReverse X
+  lines_in_reverse = from_back (YieldsLastRef (λ (rest : List X). rest)) (λ y. y.now) (λ rest. rest) (λ s t h. ap length h.0) (λ s x t h. h)
+
+  -- a walk over lines gives the lines that it has left
+  pub each_line_in_order : EachLineInOrder X
+  each_line_in_order p s = as_is p p.from (from_front (YieldsFirst (λ (rest : List (List X)). rest)) (λ y. y) (λ rest. rest) (λ s t h. ap length h.0) (λ s x t h. h) p s)
+
+  pub each_line_in_reverse : EachLineInReverse X
+  each_line_in_reverse p s = as_is_back p p.from (from_back (YieldsLast (λ (rest : List (List X)). rest)) (λ y. y) (λ rest. rest) (λ s t h. ap length h.0) (λ s x t h. h) p s)
+
+-- where a number of such a cell stands
+every_within : {X : Type 0} (xs : List X) (k g j : ℕ) → j < length (every k g xs) → k + j * (g + 1) < length xs
+every_within [] k g j h = absurd (omega arith)
+every_within (x ∷ xs) zero g zero h = omega arith
+every_within (x ∷ xs) zero g (suc j) h = omega (arith, every_within xs g g j (omega arith))
+every_within (x ∷ xs) (suc k) g j h = omega (arith, every_within xs k g j h)
+
+module _ {X : Type 0} (stride first past : ℕ) (xs : List X) (h : IsLine stride first past xs) where
+  abbrev line : List X
+  line = every 0 (stride - 1) xs
+
+  step_is : (j : ℕ) → j * stride ≡ j * (stride - 1 + 1)
+  step_is j = let one : stride ≡ stride - 1 + 1 = omega (arith, h.steps) in ap (λ x. j * x) one
+
+  -- a cell that is left stands within the list
+  pub line_within : (j : ℕ) → j < past → j * stride < length xs
+  line_within j lt = omega (arith, every_within xs 0 (stride - 1) j (omega (arith, h.left.within)), step_is j)
+
+  get-line : (j : ℕ) (d : X) → get_or line j d ≡ get_or xs (j * stride) d
+  get-line j d =
+      sym (unwrap_or-slice_get line j d)
+      ∙ (ap (λ o. unwrap_or o d) (get-every xs 0 (stride - 1) j (j * stride) (omega (arith, step_is j))) ∙ unwrap_or-slice_get xs (j * stride) d)
+
+  -- the first cell that is left, and the others
+  pub line_first : (j u v : ℕ) (d : X) → first < past → j ≡ first → u ≡ first + 1 → v ≡ past → strided_left stride first past xs ≡ get_or xs (j * stride) d ∷ strided_left stride u v xs
+  line_first j u v d lt ej eu ev = left_next first past _ j u v line (get_or xs (j * stride) d) d h.left refl lt ej eu ev (sym (get-line j d))
+
+  -- the last cell that is left, and the others
+  pub line_last : (j u v : ℕ) (d : X) → first < past → j ≡ past - 1 → u ≡ first → v ≡ past - 1 → strided_left stride first past xs ≡ strided_left stride u v xs ++ get_or xs (j * stride) d ∷ []
+  line_last j u v d lt ej eu ev = left_next_back first past _ j u v line (get_or xs (j * stride) d) d h.left refl lt ej eu ev (sym (get-line j d))
+
+-- a walk along a whole line
+module _ {X : Type 0} (start end stride n : ℕ) (xs ys : List X) (p : 0 < stride) (h : end ≤ length xs) (e : n ≡ div_ceil (end - start) stride) (same : ys ≡ xs) where
+  within_line : end ≤ length ys
+  within_line = omega (arith, ap length same)
+
+  pub line_all : IsLine stride 0 n (take (end - start) (drop start ys))
+  line_all = record { steps = p; left = record { ordered = omega arith; within = omega (arith, length-line_of start end stride ys p within_line) } }
+
+  pub left_line : strided_left stride 0 n (take (end - start) (drop start ys)) ≡ strided start end stride xs
+  left_line = left_all n (strided start end stride ys) (omega (arith, length-line_of start end stride ys p within_line)) ∙ ap (strided start end stride) same
+
+-- the first cell after n others
+pub nth_found : {X : Type 0} (n : ℕ) (xs mid rest : List X) (r : Option (Bor X)) → mid ≡ drop n xs → YieldsFirstRef (λ (l : List X). l) mid r rest → (option_copied r ≡ slice_get xs n) × (rest ≡ drop (n + 1) xs)
+nth_found n xs mid rest None e h =
+    let l : [] ≡ drop n xs = sym h.0 ∙ e in
+    (ap (λ l. slice_get l 0) l ∙ get-drop n 0 n xs (omega arith), h.1 ∙ (ap (drop 1) l ∙ drop-drop 1 n xs))
+nth_found n xs mid rest (Some x) e h =
+    let l : x.now ∷ rest ≡ drop n xs = sym h ∙ e in
+    (ap (λ l. slice_get l 0) l ∙ get-drop n 0 n xs (omega arith), ap (drop 1) l ∙ drop-drop 1 n xs)

@@ -1,6 +1,7 @@
 -- What a walk along a line for writing has left.
-use Rattle.std.specs.Prelude.{◌-◌, List}
-use Rattle.std.specs.Borrow.{GName}
+use Rattle.std.specs.Prelude.{◌≡◌, ◌-◌, ⊤, Option, MatchOption, List, drop}
+use Rattle.std.specs.Borrow.{GName, MutBor}
+use Rattle.std.specs.Iterator.{YieldsFirstMut}
 use Rattle.grid_base.specs.declared.flat.strides.GridLineIterMut.{GridLineIterMut}
 use Rattle.grid_base.specs.Strides.{every}
 
@@ -9,6 +10,14 @@ module _ {X : Type 0} where
   abbrev pub line_mut_rest : GridLineIterMut X → List X
   line_mut_rest it = every 0 (it.stride - 1) it.rest.now
 
+  -- these and the cells between them
+  abbrev pub line_mut_cells : GridLineIterMut X → List X
+  line_mut_cells it = it.rest.now
+
   -- the ghost name of the reference to the part of the vector that is left
   abbrev pub line_mut_name : GridLineIterMut X → GName
   line_mut_name it = it.rest.ghost_name
+
+  -- a step hands out the first cell of the line and changes none of those that it passes over or leaves
+  abbrev pub steps_along : GridLineIterMut X → Option (MutBor X) → GridLineIterMut X → Type 0
+  steps_along s r t = YieldsFirstMut line_mut_rest s r t × MatchOption r ⊤ (λ _. line_mut_cells t ≡ drop s.stride (line_mut_cells s))

@@ -10,6 +10,7 @@ pub mod Lines
 pub mod Blocks
 pub mod Fresh
 pub mod Places
+pub mod Left
 pub mod Strides
 pub mod GridLineIterMut
 pub mod IndexedIterMut

@@ -1,10 +1,8 @@
--- Every so many cells of a list, and what a stepped walk has left.
-use Rattle.std.specs.Prelude.{ℕ, zero, suc, ◌-◌, List, [], ◌∷◌, take, drop, if◌then◌else◌}
-use Rattle.std.specs.Iterator.Runs.{EveryRun, ItemsMapTo}
-use Rattle.std.specs.Iterator.Adapters.{step_by_source, step_by_gap, step_by_first_take, step_by_steps}
-use Rattle.std.specs.Slice.Iter.{iter_rest, iter_steps}
-use Rattle.std.specs.declared.iter.StepBy.{StepBy}
-use Rattle.std.specs.declared.slice.Iter.{Iter}
+-- Every so many cells of a list, and what a walk along them has left.
+use Rattle.std.specs.Prelude.{ℕ, zero, suc, ◌-◌, ◌<◌, List, [], ◌∷◌, take, drop, length}
+use Rattle.std.specs.Iterator.{YieldsFirst, YieldsLast, YieldsFirstRef, YieldsLastRef}
+use Rattle.std.specs.Iterator.Runs.{YieldsInOrder, YieldsInReverse, YieldsRefsInOrder, YieldsRefsInReverse}
+use Rattle.grid_base.specs.Left.{IsLeft, left}
 
 module _ {X : Type 0} where
   -- the item after `skip` others, and from there on each one after `gap` others
@@ -17,10 +15,28 @@ module _ {X : Type 0} where
   abbrev pub strided : ℕ → ℕ → ℕ → List X → List X
   strided start end stride xs = every 0 (stride - 1) (take (end - start) (drop start xs))
 
-  -- what a stepped walk over a slice has left
-  abbrev pub line_rest : StepBy (Iter X) → List X
-  line_rest s = every (if step_by_first_take s then 0 else step_by_gap s) (step_by_gap s) (iter_rest (step_by_source s))
+  -- of the cells that stand a stride apart, those from number `first` on and before number `past`
+  abbrev pub strided_left : ℕ → ℕ → ℕ → List X → List X
+  strided_left stride first past xs = left first past (every 0 (stride - 1) xs)
 
--- each run of such a walk gives what it had left, in order
-abbrev pub LinesInOrder : Type 0 → Type 0
-LinesInOrder X = EveryRun (step_by_steps (iter_steps {A = X})) (λ p. ItemsMapTo p (λ y. y.now) (line_rest p.from))
+-- there is a stride, and there are so many cells
+pub record IsLine {X : Type 0} (stride first past : ℕ) (xs : List X) : Type 0 where
+  pub steps : 0 < stride
+  pub left : IsLeft first past (length (every 0 (stride - 1) xs))
+
+module _ (X : Type 0) where
+  -- each run of a walk along a line gives the cells that it had left, in order
+  abbrev pub LinesInOrder : Type 0
+  LinesInOrder = YieldsRefsInOrder (YieldsFirstRef (λ (rest : List X). rest)) (λ rest. rest)
+
+  -- the same from its end, in reverse
+  abbrev pub LinesInReverse : Type 0
+  LinesInReverse = YieldsRefsInReverse (YieldsLastRef (λ (rest : List X). rest)) (λ rest. rest)
+
+  -- each run of a walk over lines gives the lines that it had left, in order
+  abbrev pub EachLineInOrder : Type 0
+  EachLineInOrder = YieldsInOrder (YieldsFirst (λ (rest : List (List X)). rest)) (λ rest. rest)
+
+  -- the same from the last line, in reverse
+  abbrev pub EachLineInReverse : Type 0
+  EachLineInReverse = YieldsInReverse (YieldsLast (λ (rest : List (List X)). rest)) (λ rest. rest)

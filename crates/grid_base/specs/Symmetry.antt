@@ -65,6 +65,18 @@ pub record IsThen (s u v : Symmetry) : Type 0 where
 pub record IsInverse (s v : Symmetry) : Type 0 where
   pub undoes : (t : List (List ℕ)) → IsTable t → act v (act s t) ≡ t
 
+-- however three symmetries are joined, the result is one
+abbrev pub IsAssociativeAt : Symmetry → Symmetry → Symmetry → Type 0
+IsAssociativeAt s t u = (a b v w : Symmetry) → IsThen s t a → IsThen a u v → IsThen t u b → IsThen s b w → v ≡ w
+
+-- joining Identity on either side changes nothing
+abbrev pub IsNeutralAt : Symmetry → Type 0
+IsNeutralAt s = IsThen Identity s s × IsThen s Identity s
+
+-- an inverse joined on either side gives Identity
+abbrev pub IsUndoneAt : Symmetry → Type 0
+IsUndoneAt s = (v : Symmetry) → IsInverse s v → IsThen s v Identity × IsThen v s Identity
+
 -- the test table, whose eight images differ
 abbrev pub test_table : List (List ℕ)
 test_table = (1 ∷ 2 ∷ 3 ∷ []) ∷ (4 ∷ 5 ∷ 6 ∷ []) ∷ []

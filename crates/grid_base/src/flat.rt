@@ -1,14 +1,14 @@
 //! The vector of a grid's cells, and the counts of its swaps.
-ghost use Rattle.std.specs.Prelude.{◌≡◌, ◌≢◌, ◌<◌, [], length, swap, slice_get, is_some, IfSome, Some};
+ghost use Rattle.std.specs.Prelude.{◌≡◌, ◌<◌, [], length, swap, slice_get, is_some, IfSome, Some};
 ghost use Rattle.std.specs.Borrow.{sem};
 ghost use Rattle.std.specs.Option.{option_copied};
-ghost use Rattle.grid_base.specs.Tally.{counted};
 
 mod ends;
 mod gather;
 mod indexed;
 mod indexed_into;
 mod indexed_mut;
+mod line_iter;
 mod lines;
 mod order;
 mod places;
@@ -21,6 +21,7 @@ mod wholes;
 pub use indexed::IndexedIter;
 pub use indexed_into::IndexedIntoIter;
 pub use indexed_mut::IndexedIterMut;
+pub use line_iter::GridLineIter;
 pub use order::Order;
 use std::alloc::{Allocator, Global};
 use std::marker::Model;
@@ -113,32 +114,6 @@ impl<T, A: Allocator> Flat<T, A> {
         ensures { self.new ≡ swap self.old i j }
     {
         self.cells.swap(i, j);
-    }
-
-    /// Exchanges the cells of two unlike places, and counts one swap for a symmetry.
-    pub fn swap_for_symmetry(&mut self, i: usize, j: usize, tally: &mut Tally)
-        requires i_in { i < length self.old }
-        requires j_in { j < length self.old }
-        requires unlike { i ≢ j }
-        ensures cells { self.new ≡ swap self.old i j }
-        ensures symmetry { tally.new.symmetry ≡ counted tally.old.symmetry 1 }
-        ensures shift { tally.new.shift ≡ tally.old.shift }
-    {
-        self.swap(i, j);
-        tally.count_symmetry();
-    }
-
-    /// Exchanges the cells of two unlike places, and counts one swap for a shift.
-    pub fn swap_for_shift(&mut self, i: usize, j: usize, tally: &mut Tally)
-        requires i_in { i < length self.old }
-        requires j_in { j < length self.old }
-        requires unlike { i ≢ j }
-        ensures cells { self.new ≡ swap self.old i j }
-        ensures symmetry { tally.new.symmetry ≡ tally.old.symmetry }
-        ensures shift { tally.new.shift ≡ counted tally.old.shift 1 }
-    {
-        self.swap(i, j);
-        tally.count_shift();
     }
 
     /// Drops all cells.

@@ -6,5 +6,7 @@ mod flat;
 pub mod laws;
 mod words;
 
-pub use flat::{Flat, GridLineIterMut, IndexedIntoIter, IndexedIter, IndexedIterMut, Order, Tally};
+pub use flat::{
+    Flat, GridLineIter, GridLineIterMut, IndexedIntoIter, IndexedIter, IndexedIterMut, Order, Tally,
+};
 pub use words::{Move, Symmetry, reduce};

@@ -1,6 +1,6 @@
 //! Chains over a row or a column of a grid, and maps of a whole grid. Their contracts say what they find by the list of
 //! its cells, and no proof file is needed.
-ghost use Rattle.std.specs.Prelude.{◌≡◌, ◌/◌, ◌^◌, ◌<◌, ◌≤◌, ◌==◌, ◌↔◌, IsTrue, IfOk, MatchOption, Any, All, length, map, reverse, sum, count_by, filter, fold, min, ◌+◌, nat_lt, [], ◌-◌};
+ghost use Rattle.std.specs.Prelude.{◌≡◌, ◌/◌, ◌^◌, ◌<◌, ◌≤◌, ◌==◌, ◌↔◌, IsTrue, IfOk, MatchOption, Any, All, length, map, reverse, sum, count_by, filter, fold, min, ◌+◌, nat_lt, [], ◌-◌, slice_get};
 ghost use Rattle.grid_base.specs.Table.{row, rows_of, cols_of, turned};
 ghost use Rattle.grid_base.specs.Order.{storage};
 
@@ -112,6 +112,61 @@ pub fn halves_reversed<A: Allocator>(
     ensures { IfOk result (λ halves. halves.items ≡ reverse (map (λ y. y / 2) (storage grid.now.order grid.now.rows))) }
 {
     grid.iter().rev().map(|y| *y / 2).collect(alloc)
+}
+
+/// The cells of column c, last first.
+pub fn column_reversed<T: Copy, A: Allocator>(
+    alloc: Global,
+    grid: &Grid<T, A>,
+    c: usize,
+) -> Result<Vec<T>, AllocError>
+    requires { c < cols_of grid.now.rows }
+    ensures { IfOk result (λ cells. cells.items ≡ reverse (row (turned grid.now.rows) c)) }
+{
+    grid.iter_col(c).rev().copied().collect(alloc)
+}
+
+/// The last cell of row r, if there is one.
+pub fn last_in_row<A: Allocator>(grid: &Grid<u32, A>, r: usize) -> Option<u32>
+    requires { r < rows_of grid.now.rows }
+    ensures { result ≡ slice_get (row grid.now.rows r) (length (row grid.now.rows r) - 1) }
+{
+    grid.iter_row(r).next_back().copied()
+}
+
+/// Cell number k of column c, if there is one.
+pub fn cell_of_column<A: Allocator>(grid: &Grid<u32, A>, c: usize, k: usize) -> Option<u32>
+    requires { c < cols_of grid.now.rows }
+    ensures { result ≡ slice_get (row (turned grid.now.rows) c) k }
+{
+    grid.iter_col(c).nth(k).copied()
+}
+
+/// Whether every row has n cells.
+pub fn rows_have<T, A: Allocator>(grid: &Grid<T, A>, n: usize) -> bool
+    ensures { IsTrue result ↔ All (λ line. length line ≡ n) grid.now.rows }
+{
+    grid.iter_rows().all(|line| line.len() == n)
+}
+
+/// How many cells of each column are x.
+pub fn count_in_columns<A: Allocator>(
+    alloc: Global,
+    grid: &Grid<u32, A>,
+    x: u32,
+) -> Result<Vec<usize>, AllocError>
+    ensures { IfOk result (λ counts. counts.items ≡ map (λ line. count_by (λ y. y == x) line) (turned grid.now.rows)) }
+{
+    grid.iter_cols()
+        .map(|line| line.filter(|y| **y == x).count())
+        .collect(alloc)
+}
+
+/// How many rows there are.
+pub fn count_rows<A: Allocator>(grid: &Grid<u32, A>) -> usize
+    ensures { result ≡ length grid.now.rows }
+{
+    grid.iter_rows().count()
 }
 
 /// What each cell lacks to ten. The closure can't be called at a larger number.
@@ -241,6 +296,24 @@ mod tests {
             .zip([[3u32, 2, 2, 1, 1, 0], [3, 1, 2, 1, 2, 0]])
         {
             assert_eq!(rt; halves_reversed(alloc, board)?.as_slice(), want.as_slice());
+        }
+        Ok(())
+    }
+
+    #[test]
+    fn walks_lines_both_ways(rt: HostRuntime) -> Result<(), Fail> {
+        let alloc = rt.alloc();
+        for board in &boards(&rt, alloc)? {
+            assert!(rt; 1 < board.rows() && 2 < board.cols());
+            let back = column_reversed(alloc, board, 1)?;
+            assert_eq!(rt; back.as_slice(), [5, 2].as_slice());
+            assert_eq!(rt; last_in_row(board, 0), Some(3));
+            assert_eq!(rt; cell_of_column(board, 2, 1), Some(6));
+            assert_eq!(rt; cell_of_column(board, 2, 2), None);
+            let counts = count_in_columns(alloc, board, 5)?;
+            assert_eq!(rt; counts.as_slice(), [0, 1, 0].as_slice());
+            assert_eq!(rt; count_rows(board), 2);
+            assert!(rt; rows_have(board, 3));
         }
         Ok(())
     }

@@ -1,9 +1,8 @@
 //! Walks over all small tables and both orders, beside plain walks over the plain program's rows.
 use crate::fixtures::{ORDERS, SIZES, assert_shows, grid_of, numbered, places_of, put_cell};
 use crate::plain;
-use grid::{GridColIter, GridRowIter, Order, Symmetry};
+use grid::{GridColIter, GridLineIter, GridRowIter, Order, Symmetry};
 use std::alloc::{AllocError, Global};
-use std::iter::StepBy;
 use std::process::Abort;
 use std::slice;
 use std::test::Fail;
@@ -119,7 +118,7 @@ fn reads_cells_with_places(rt: HostRuntime) -> Result<(), Fail> {
 // A line has these cells, from both ends, and says at each step how many are left.
 fn check_line(
     rt: &impl Abort,
-    mut line: StepBy<slice::Iter<'_, u32>>,
+    mut line: GridLineIter<'_, u32>,
     want: &[u32],
 ) -> Result<(), AllocError> {
     let mut copy = line.clone()?;
@@ -185,14 +184,14 @@ impl<'a> Lines<'a> {
         }
     }
 
-    fn next(&mut self) -> Option<StepBy<slice::Iter<'a, u32>>> {
+    fn next(&mut self) -> Option<GridLineIter<'a, u32>> {
         match self {
             Lines::Rows(rows) => rows.next(),
             Lines::Cols(cols) => cols.next(),
         }
     }
 
-    fn next_back(&mut self) -> Option<StepBy<slice::Iter<'a, u32>>> {
+    fn next_back(&mut self) -> Option<GridLineIter<'a, u32>> {
         match self {
             Lines::Rows(rows) => rows.next_back(),
             Lines::Cols(cols) => cols.next_back(),

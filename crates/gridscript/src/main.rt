@@ -1,5 +1,8 @@
 //! Runs a script on a grid: reads it from standard input, and writes one line for each reply, then the grid.
 #![tactic(auto)]
+ghost use Rattle.std.specs.Prelude.{◌≡◌, MatchResult};
+ghost use Rattle.std.specs.Process.{exit_status};
+ghost use Rattle.gridscript.specs.Ending.{ending_status};
 
 mod ending;
 mod fault;
@@ -25,12 +28,20 @@ fn run<R: Env + Input + Print + AllocGlobal>(rt: &R) -> Result<(), Ending> {
     Ok(())
 }
 
-fn main(rt: HostRuntime) -> ExitCode {
-    match run(&rt) {
-        Ok(()) => ExitCode::SUCCESS,
-        Err(ending) => {
-            let _ = eprintln!(rt; "{ending}");
-            ExitCode::from(ending.status())
-        }
+// The status of a program that ended so.
+fn exit_code(ended: &Result<(), Ending>) -> ExitCode
+    ensures { MatchResult ended.now (λ _. exit_status result ≡ 0) (λ ending. exit_status result ≡ ending_status ending) }
+{
+    match ended {
+        Ok(()) => ExitCode::from(0),
+        Err(ending) => ExitCode::from(ending.status()),
     }
+}
+
+fn main(rt: HostRuntime) -> ExitCode {
+    let ended = run(&rt);
+    if let Err(ending) = &ended {
+        let _ = eprintln!(rt; "{ending}");
+    }
+    exit_code(&ended)
 }

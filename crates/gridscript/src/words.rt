@@ -19,7 +19,10 @@ pub struct Lines<'a> {
 
 impl<'a> Lines<'a> {
     /// The lines of a script.
-    pub fn of(script: &'a [u8]) -> Lines<'a> {
+    pub fn of(script: &'a [u8]) -> Lines<'a>
+        ensures rest { result.rest.now ≡ script.now }
+        ensures count { result.count ≡ 0 }
+    {
         Lines {
             rest: script,
             count: 0,

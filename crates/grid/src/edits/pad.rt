@@ -49,6 +49,7 @@ impl<T, A: Allocator> Grid<T, A> {
     pub fn expand_rows(&mut self, count: usize) -> Result<(), GridError>
     where
         T: Default,
+        A: Clone,
         ensures padded { OnOk result (PadsRows T.is_default (rows_of self.old.rows) (added count self.old.rows) self.old.rows self.new.rows) }
         ensures fixed { OnOk result ((d : T) → IsOnlyDefault T.is_default d → self.new.rows ≡ expanded_rows count d self.old.rows) }
         ensures too_large { IsErrOf result TooLarge ↔ (2 ^ 64 ≤ (rows_of self.old.rows + added count self.old.rows) * cols_of self.old.rows) }
@@ -68,6 +69,7 @@ impl<T, A: Allocator> Grid<T, A> {
     pub fn prepend_rows(&mut self, count: usize) -> Result<(), GridError>
     where
         T: Default,
+        A: Clone,
         ensures padded { OnOk result (PadsRows T.is_default 0 (added count self.old.rows) self.old.rows self.new.rows) }
         ensures fixed { OnOk result ((d : T) → IsOnlyDefault T.is_default d → self.new.rows ≡ prepended_rows count d self.old.rows) }
         ensures too_large { IsErrOf result TooLarge ↔ (2 ^ 64 ≤ (rows_of self.old.rows + added count self.old.rows) * cols_of self.old.rows) }
@@ -88,6 +90,7 @@ impl<T, A: Allocator> Grid<T, A> {
     pub fn expand_cols(&mut self, count: usize) -> Result<(), GridError>
     where
         T: Default,
+        A: Clone,
         ensures padded { OnOk result (PadsCols T.is_default (cols_of self.old.rows) (added count self.old.rows) self.old.rows self.new.rows) }
         ensures fixed { OnOk result ((d : T) → IsOnlyDefault T.is_default d → self.new.rows ≡ expanded_cols count d self.old.rows) }
         ensures too_large { IsErrOf result TooLarge ↔ (2 ^ 64 ≤ (cols_of self.old.rows + added count self.old.rows) * rows_of self.old.rows) }
@@ -107,6 +110,7 @@ impl<T, A: Allocator> Grid<T, A> {
     pub fn prepend_cols(&mut self, count: usize) -> Result<(), GridError>
     where
         T: Default,
+        A: Clone,
         ensures padded { OnOk result (PadsCols T.is_default 0 (added count self.old.rows) self.old.rows self.new.rows) }
         ensures fixed { OnOk result ((d : T) → IsOnlyDefault T.is_default d → self.new.rows ≡ prepended_cols count d self.old.rows) }
         ensures too_large { IsErrOf result TooLarge ↔ (2 ^ 64 ≤ (cols_of self.old.rows + added count self.old.rows) * rows_of self.old.rows) }
@@ -128,6 +132,7 @@ impl<T, A: Allocator> Grid<T, A> {
     ) -> Result<(), GridError>
     where
         T: Default,
+        A: Clone,
         requires place { at ≤ rows_of self.old.rows }
         ensures padded { OnOk result (PadsRows T.is_default at (added count self.old.rows) self.old.rows self.new.rows) }
         ensures too_large { IsErrOf result TooLarge ↔ (2 ^ 64 ≤ (rows_of self.old.rows + added count self.old.rows) * cols_of self.old.rows) }
@@ -160,6 +165,7 @@ impl<T, A: Allocator> Grid<T, A> {
     ) -> Result<(), GridError>
     where
         T: Default,
+        A: Clone,
         requires place { at ≤ cols_of self.old.rows }
         ensures padded { OnOk result (PadsCols T.is_default at (added count self.old.rows) self.old.rows self.new.rows) }
         ensures too_large { IsErrOf result TooLarge ↔ (2 ^ 64 ≤ (cols_of self.old.rows + added count self.old.rows) * rows_of self.old.rows) }

@@ -20,9 +20,7 @@ pub(super) fn reverse_lines<T, A: Allocator>(
     ensures shift { tally.new.shift ≡ tally.old.shift }
 {
     for line in 0..lines / 2 {
-        for at in 0..width {
-            flat.swap_for_symmetry(line * width + at, (lines - 1 - line) * width + at, tally);
-        }
+        flat.swap_blocks_for_symmetry(line * width, (lines - 1 - line) * width, width, tally);
     }
 }
 
@@ -57,7 +55,5 @@ pub(super) fn reverse_part<T, A: Allocator>(
     ensures symmetry { tally.new.symmetry ≡ counted tally.old.symmetry (n / 2) }
     ensures shift { tally.new.shift ≡ tally.old.shift }
 {
-    for i in 0..n / 2 {
-        flat.swap_for_symmetry(a + i, a + (n - 1 - i), tally);
-    }
+    flat.reverse_for_symmetry(a, n, tally);
 }

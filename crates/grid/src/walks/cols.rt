@@ -1,30 +1,29 @@
 //! Walks over a column, and over the columns from both ends.
 ghost use Rattle.std.specs.Prelude.{◌≡◌, ◌^◌, ◌<◌, ⊤, length, IfSome, Some};
 ghost use Rattle.std.specs.Borrow.{sem};
-ghost use Rattle.std.specs.Iterator.{YieldsFirstBy, YieldsLastBy, item_count, UpTo, at_most};
+ghost use Rattle.std.specs.Iterator.{YieldsFirst, YieldsLast, item_count, UpTo, at_most};
 ghost use Rattle.std.specs.Iterator.SizeHint.{IsWithinCount};
 ghost use Rattle.grid_base.specs.Table.{row, cols_of, turned};
-ghost use Rattle.grid_base.specs.Strides.{line_rest, LinesInOrder};
+ghost use Rattle.grid_base.specs.Strides.{LinesInOrder, LinesInReverse, EachLineInOrder, EachLineInReverse};
 ghost use Rattle.grid_base.specs.GridLineIterMut.{line_mut_rest};
 
 use super::span::{Span, col_span};
 use crate::Grid;
-use grid_base::GridLineIterMut;
+use grid_base::{GridLineIter, GridLineIterMut};
 use std::alloc::{AllocError, Allocator, Global};
-use std::iter::StepBy;
+use std::iter::FusedIterator;
 use std::marker::Model;
-use std::slice;
+use std::ops::Range;
 
 impl<T, A: Allocator> Grid<T, A> {
     ghost use Rattle.grid.specs.Walks.{lends_col, KeepsSizeFrom};
 
-    /// The cells of column c, which is in range.
-    ///
-    /// In row-major order each step takes time in the number of columns, since `StepBy` passes each cell that it skips.
-    pub fn iter_col(&self, c: usize) -> StepBy<slice::Iter<'_, T>>
+    /// The cells of column c, which is in range, from both ends. Each step takes the same time.
+    pub fn iter_col(&self, c: usize) -> GridLineIter<'_, T>
         requires { c < cols_of self.now.rows }
-        ensures rest { line_rest result ≡ row (turned self.now.rows) c }
+        ensures rest { result ≡ row (turned self.now.rows) c }
         ensures runs { LinesInOrder T }
+        ensures runs_back { LinesInReverse T }
     {
         let Span { start, end, stride } = col_span(self.order, self.row_count, self.col_count, c);
         self.flat.line(start, end, stride)
@@ -42,16 +41,18 @@ impl<T, A: Allocator> Grid<T, A> {
         self.flat.line_mut(start, end, stride)
     }
 
-    /// The columns, each as [`iter_col`](Grid::iter_col) gives it, with the same cost of a step along it.
+    /// The columns, each as [`iter_col`](Grid::iter_col) gives it, from both ends.
     pub fn iter_cols(&self) -> GridColIter<'_, T, A>
         ensures rest { result ≡ turned self.now.rows }
-        ensures runs { LinesInOrder T }
+        ensures runs { EachLineInOrder T }
+        ensures runs_back { EachLineInReverse T }
+        ensures along { LinesInOrder T }
+        ensures along_back { LinesInReverse T }
         ensures fits { length result < 2 ^ 64 }
     {
         GridColIter {
             grid: self,
-            from: 0,
-            to: self.col_count,
+            cols: 0..self.col_count,
         }
     }
 }
@@ -60,37 +61,31 @@ impl<T, A: Allocator> Grid<T, A> {
 #[derive(Drop)]
 pub struct GridColIter<'a, T, A: Allocator = Global> {
     grid: &'a Grid<T, A>,
-    from: usize,
-    to: usize,
+    cols: Range<usize>,
 }
 
 impl<'a, T, A: Allocator> Model for GridColIter<'a, T, A> {
     ghost use Rattle.std.specs.Prelude.{◌-◌, List};
     ghost use Rattle.grid_base.specs.Table.{cols_of, turned};
-    ghost use Rattle.grid.specs.Left.{IsLeft, left};
+    ghost use Rattle.grid_base.specs.Left.{IsLeft, left};
 
     ghost Value = { List (List T) };
 
-    ghost view = { λ a. left a.from a.to (turned a.grid.now.rows) };
+    ghost view = { λ a. left a.cols.start a.cols.end (turned a.grid.now.rows) };
 
-    ghost invariant = { λ a. IsLeft a.from a.to (cols_of a.grid.now.rows) };
+    ghost invariant = { λ a. IsLeft a.cols.start a.cols.end (cols_of a.grid.now.rows) };
 }
 
 impl<'a, T, A: Allocator> Iterator for GridColIter<'a, T, A> {
-    type Item = StepBy<slice::Iter<'a, T>>;
+    type Item = GridLineIter<'a, T>;
 
-    ghost next_gives = { YieldsFirstBy line_rest (λ rest. rest) };
+    ghost next_gives = { YieldsFirst (λ rest. rest) };
 
     ghost remaining = { item_count (λ rest. rest) };
 
-    fn next(&mut self) -> Option<StepBy<slice::Iter<'a, T>>> {
-        if self.from < self.to {
-            let line = self.grid.iter_col(self.from);
-            self.from += 1;
-            Some(line)
-        } else {
-            None
-        }
+    fn next(&mut self) -> Option<GridLineIter<'a, T>> {
+        let c = self.cols.next()?;
+        Some(self.grid.iter_col(c))
     }
 
     fn size_hint(&self) -> (usize, Option<usize>)
@@ -104,23 +99,21 @@ impl<'a, T, A: Allocator> Iterator for GridColIter<'a, T, A> {
 }
 
 impl<'a, T, A: Allocator> DoubleEndedIterator for GridColIter<'a, T, A> {
-    ghost next_back_gives = { YieldsLastBy line_rest (λ rest. rest) };
+    ghost next_back_gives = { YieldsLast (λ rest. rest) };
 
-    fn next_back(&mut self) -> Option<StepBy<slice::Iter<'a, T>>> {
-        if self.from < self.to {
-            self.to -= 1;
-            Some(self.grid.iter_col(self.to))
-        } else {
-            None
-        }
+    fn next_back(&mut self) -> Option<GridLineIter<'a, T>> {
+        let c = self.cols.next_back()?;
+        Some(self.grid.iter_col(c))
     }
 }
 
 impl<'a, T, A: Allocator> ExactSizeIterator for GridColIter<'a, T, A> {
     fn len(&self) -> usize {
-        self.to - self.from
+        self.cols.len()
     }
 }
+
+impl<'a, T, A: Allocator> FusedIterator for GridColIter<'a, T, A> {}
 
 /// A clone stands at the same columns. It is always `Ok`, and takes no memory.
 impl<'a, T, A: Allocator> Clone for GridColIter<'a, T, A> {
@@ -131,8 +124,7 @@ impl<'a, T, A: Allocator> Clone for GridColIter<'a, T, A> {
     fn clone(&self) -> Result<Self, AllocError> {
         Ok(GridColIter {
             grid: self.grid,
-            from: self.from,
-            to: self.to,
+            cols: self.cols.start..self.cols.end,
         })
     }
 }

@@ -1,30 +1,29 @@
 //! Walks over a row, and over the rows from both ends.
 ghost use Rattle.std.specs.Prelude.{◌≡◌, ◌^◌, ◌<◌, ⊤, length, IfSome, Some};
 ghost use Rattle.std.specs.Borrow.{sem};
-ghost use Rattle.std.specs.Iterator.{YieldsFirstBy, YieldsLastBy, item_count, UpTo, at_most};
+ghost use Rattle.std.specs.Iterator.{YieldsFirst, YieldsLast, item_count, UpTo, at_most};
 ghost use Rattle.std.specs.Iterator.SizeHint.{IsWithinCount};
 ghost use Rattle.grid_base.specs.Table.{row, rows_of};
-ghost use Rattle.grid_base.specs.Strides.{line_rest, LinesInOrder};
+ghost use Rattle.grid_base.specs.Strides.{LinesInOrder, LinesInReverse, EachLineInOrder, EachLineInReverse};
 ghost use Rattle.grid_base.specs.GridLineIterMut.{line_mut_rest};
 
 use super::span::{Span, row_span};
 use crate::Grid;
-use grid_base::GridLineIterMut;
+use grid_base::{GridLineIter, GridLineIterMut};
 use std::alloc::{AllocError, Allocator, Global};
-use std::iter::StepBy;
+use std::iter::FusedIterator;
 use std::marker::Model;
-use std::slice;
+use std::ops::Range;
 
 impl<T, A: Allocator> Grid<T, A> {
     ghost use Rattle.grid.specs.Walks.{lends_row, KeepsSizeFrom};
 
-    /// The cells of row r, which is in range.
-    ///
-    /// In column-major order each step takes time in the number of rows, since `StepBy` passes each cell that it skips.
-    pub fn iter_row(&self, r: usize) -> StepBy<slice::Iter<'_, T>>
+    /// The cells of row r, which is in range, from both ends. Each step takes the same time.
+    pub fn iter_row(&self, r: usize) -> GridLineIter<'_, T>
         requires { r < rows_of self.now.rows }
-        ensures rest { line_rest result ≡ row self.now.rows r }
+        ensures rest { result ≡ row self.now.rows r }
         ensures runs { LinesInOrder T }
+        ensures runs_back { LinesInReverse T }
     {
         let Span { start, end, stride } = row_span(self.order, self.row_count, self.col_count, r);
         self.flat.line(start, end, stride)
@@ -41,16 +40,18 @@ impl<T, A: Allocator> Grid<T, A> {
         self.flat.line_mut(start, end, stride)
     }
 
-    /// The rows, each as [`iter_row`](Grid::iter_row) gives it, with the same cost of a step along it.
+    /// The rows, each as [`iter_row`](Grid::iter_row) gives it, from both ends.
     pub fn iter_rows(&self) -> GridRowIter<'_, T, A>
         ensures rest { result ≡ self.now.rows }
-        ensures runs { LinesInOrder T }
+        ensures runs { EachLineInOrder T }
+        ensures runs_back { EachLineInReverse T }
+        ensures along { LinesInOrder T }
+        ensures along_back { LinesInReverse T }
         ensures fits { length result < 2 ^ 64 }
     {
         GridRowIter {
             grid: self,
-            from: 0,
-            to: self.row_count,
+            rows: 0..self.row_count,
         }
     }
 }
@@ -59,37 +60,31 @@ impl<T, A: Allocator> Grid<T, A> {
 #[derive(Drop)]
 pub struct GridRowIter<'a, T, A: Allocator = Global> {
     grid: &'a Grid<T, A>,
-    from: usize,
-    to: usize,
+    rows: Range<usize>,
 }
 
 impl<'a, T, A: Allocator> Model for GridRowIter<'a, T, A> {
     ghost use Rattle.std.specs.Prelude.{◌-◌, List};
     ghost use Rattle.grid_base.specs.Table.{rows_of};
-    ghost use Rattle.grid.specs.Left.{IsLeft, left};
+    ghost use Rattle.grid_base.specs.Left.{IsLeft, left};
 
     ghost Value = { List (List T) };
 
-    ghost view = { λ a. left a.from a.to a.grid.now.rows };
+    ghost view = { λ a. left a.rows.start a.rows.end a.grid.now.rows };
 
-    ghost invariant = { λ a. IsLeft a.from a.to (rows_of a.grid.now.rows) };
+    ghost invariant = { λ a. IsLeft a.rows.start a.rows.end (rows_of a.grid.now.rows) };
 }
 
 impl<'a, T, A: Allocator> Iterator for GridRowIter<'a, T, A> {
-    type Item = StepBy<slice::Iter<'a, T>>;
+    type Item = GridLineIter<'a, T>;
 
-    ghost next_gives = { YieldsFirstBy line_rest (λ rest. rest) };
+    ghost next_gives = { YieldsFirst (λ rest. rest) };
 
     ghost remaining = { item_count (λ rest. rest) };
 
-    fn next(&mut self) -> Option<StepBy<slice::Iter<'a, T>>> {
-        if self.from < self.to {
-            let line = self.grid.iter_row(self.from);
-            self.from += 1;
-            Some(line)
-        } else {
-            None
-        }
+    fn next(&mut self) -> Option<GridLineIter<'a, T>> {
+        let r = self.rows.next()?;
+        Some(self.grid.iter_row(r))
     }
 
     fn size_hint(&self) -> (usize, Option<usize>)
@@ -103,23 +98,21 @@ impl<'a, T, A: Allocator> Iterator for GridRowIter<'a, T, A> {
 }
 
 impl<'a, T, A: Allocator> DoubleEndedIterator for GridRowIter<'a, T, A> {
-    ghost next_back_gives = { YieldsLastBy line_rest (λ rest. rest) };
+    ghost next_back_gives = { YieldsLast (λ rest. rest) };
 
-    fn next_back(&mut self) -> Option<StepBy<slice::Iter<'a, T>>> {
-        if self.from < self.to {
-            self.to -= 1;
-            Some(self.grid.iter_row(self.to))
-        } else {
-            None
-        }
+    fn next_back(&mut self) -> Option<GridLineIter<'a, T>> {
+        let r = self.rows.next_back()?;
+        Some(self.grid.iter_row(r))
     }
 }
 
 impl<'a, T, A: Allocator> ExactSizeIterator for GridRowIter<'a, T, A> {
     fn len(&self) -> usize {
-        self.to - self.from
+        self.rows.len()
     }
 }
+
+impl<'a, T, A: Allocator> FusedIterator for GridRowIter<'a, T, A> {}
 
 /// A clone stands at the same rows. It is always `Ok`, and takes no memory.
 impl<'a, T, A: Allocator> Clone for GridRowIter<'a, T, A> {
@@ -130,8 +123,7 @@ impl<'a, T, A: Allocator> Clone for GridRowIter<'a, T, A> {
     fn clone(&self) -> Result<Self, AllocError> {
         Ok(GridRowIter {
             grid: self.grid,
-            from: self.from,
-            to: self.to,
+            rows: self.rows.start..self.rows.end,
         })
     }
 }

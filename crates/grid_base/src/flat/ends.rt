@@ -1,9 +1,10 @@
 //! Cells that come to the end of a vector, or leave it there.
-ghost use Rattle.std.specs.Prelude.{◌≡◌, ◌+◌, ◌-◌, ◌≤◌, [], ◌++◌, length, take, drop, reverse, OnOk, OnErr, vec_len, vec_capacity};
+ghost use Rattle.std.specs.Prelude.{◌≡◌, ◌+◌, ◌-◌, ◌≤◌, [], ◌++◌, length, take, drop, reverse, IfOk, OnOk, OnErr, vec_len, vec_capacity};
 ghost use Rattle.grid_base.specs.Fresh.{EndsFresh};
 
 use super::Flat;
 use std::alloc::{AllocError, Allocator};
+use std::mem::replace;
 
 impl<T, A: Allocator> Flat<T, A> {
     /// The allocator of the vector.
@@ -25,13 +26,14 @@ impl<T, A: Allocator> Flat<T, A> {
     pub fn append_defaults(&mut self, count: usize) -> Result<(), AllocError>
     where
         T: Default,
+        A: Clone,
         ensures ok { OnOk result (EndsFresh T.is_default count self.old self.new) }
         ensures err { OnErr result (self.new ≡ self.old) }
     {
         self.cells.reserve(count)?;
-        for _ in 0..count {
-            self.cells.push_reserved(T::default());
-        }
+        let alloc = self.cells.allocator().clone()?;
+        let cells = replace(&mut self.cells, Vec::new(alloc));
+        replace(&mut self.cells, with_defaults(cells, count)).destroy_empty();
         Ok(())
     }
 
@@ -51,6 +53,18 @@ impl<T, A: Allocator> Flat<T, A> {
         reverse_from(into.as_mut_slice(), start);
     }
 
+    /// Cuts the cells from `at` on off. The memory for them is had first, and a refusal changes nothing.
+    pub fn split_off(&mut self, at: usize) -> Result<Vec<T, A>, AllocError>
+    where
+        A: Clone,
+        requires within { at ≤ length self.old }
+        ensures cells { OnOk result (self.new ≡ take at self.old) }
+        ensures tail { IfOk result (λ line. line.items ≡ drop at self.old) }
+        ensures err { OnErr result (self.new ≡ self.old) }
+    {
+        self.cells.split_off(at)
+    }
+
     /// Drops the cells from `at` on.
     pub fn truncate(&mut self, at: usize)
     where
@@ -67,4 +81,16 @@ fn reverse_from<T>(cells: &mut [T], start: usize)
     ensures { cells.new ≡ take start cells.old ++ reverse (drop start cells.old) }
 {
     cells[start..].reverse();
+}
+
+// The vector with `count` default cells at its end, for which it has room. By value, so that its length stays in a
+// register, and the loop becomes vector code.
+fn with_defaults<T: Default, A: Allocator>(mut cells: Vec<T, A>, count: usize) -> Vec<T, A>
+    requires room { vec_len cells + count ≤ vec_capacity cells }
+    ensures { EndsFresh T.is_default count cells.items result.items }
+{
+    for _ in 0..count {
+        cells.push_reserved(T::default());
+    }
+    cells
 }

@@ -1,6 +1,6 @@
 //! Groups of cells that are put into the lines of a vector, or taken out of them.
 ghost use Rattle.std.specs.Prelude.{◌≡◌, ◌+◌, ◌-◌, ◌*◌, ◌^◌, ◌<◌, ◌≤◌, length};
-ghost use Rattle.grid_base.specs.Blocks.{BlocksExchanged};
+ghost use Rattle.grid_base.specs.Blocks.{BlocksExchanged, MovedForward, MovedBack};
 ghost use Rattle.grid_base.specs.Lines.{Widened, Woven, Opened, Closed};
 ghost use Rattle.grid_base.specs.Tally.{counted};
 
@@ -46,15 +46,14 @@ impl<T, A: Allocator> Flat<T, A> {
         ensures symmetry { tally.new.symmetry ≡ tally.old.symmetry }
         ensures shift { tally.new.shift ≡ counted tally.old.shift (lines * width - at) }
     {
-        // Takes each cell of the lines whose place changes, from the last on. A cell moves by the groups that come
-        // before it: `cells` counts from the last of those.
-        let mut from = lines * width;
-        let mut groups = lines;
-        let mut cells = width - at;
-        for _ in 0..lines * width - at {
-            (groups, cells) = cell_before(groups, cells, width);
-            from -= 1;
-            self.swap_for_shift(from, from + groups * count, tally);
+        // The run of cells behind each group, the last run first. The cells behind so many groups move on by those.
+        let mut end = lines * width;
+        let mut line = lines;
+        while 0 < line {
+            line -= 1;
+            let start = at + line * width;
+            move_back(self, start, (line + 1) * count, end - start, tally);
+            end = start;
         }
     }
 
@@ -137,37 +136,55 @@ fn unweave_cells<T>(cells: &mut [T], lines: usize, width: usize, at: usize, coun
     exchange_blocks(cells, half * width, half * count, rest * width);
 }
 
-// One less, where a number is given as so many times the width and so many more.
-fn cell_before(groups: usize, cells: usize, width: usize) -> (usize, usize)
-    requires has_width { 0 < width }
-    requires within { cells ≤ width }
-    requires some { 0 < groups * width + cells }
-    ensures count { result.0 * width + result.1 + 1 ≡ groups * width + cells }
-    ensures within { result.1 < width }
+// Moves the `n` cells from `start` on by `shift` places to the back, the last first, by runs of at most `shift` swaps.
+fn move_back<T, A: Allocator>(
+    flat: &mut Flat<T, A>,
+    start: usize,
+    shift: usize,
+    n: usize,
+    tally: &mut Tally,
+)
+    requires within { start + n + shift ≤ length flat.old }
+    requires fits { start + n + shift < 2 ^ 64 }
+    requires moves { 0 < shift }
+    ensures moved { MovedBack start shift n flat.old flat.new }
+    ensures symmetry { tally.new.symmetry ≡ tally.old.symmetry }
+    ensures shift { tally.new.shift ≡ counted tally.old.shift n }
 {
-    if cells == 0 {
-        (groups - 1, width - 1)
-    } else {
-        (groups, cells - 1)
+    let mut left = n;
+    while 0 < left {
+        let run = shift.min(left);
+        left -= run;
+        flat.swap_blocks_for_shift(start + left, start + left + shift, run, tally);
     }
 }
 
-// One more, where a number is given as so many times the width and so many more.
-fn cell_behind(groups: usize, cells: usize, width: usize) -> (usize, usize)
-    requires within { cells < width }
-    requires fits { groups + 1 < 2 ^ 64 }
-    ensures count { result.0 * width + result.1 ≡ groups * width + cells + 1 }
-    ensures within { result.1 < width }
+// Moves the `n` cells that stand `shift` places behind `start` there, the first first, by runs of at most `shift`
+// swaps.
+fn move_forward<T, A: Allocator>(
+    flat: &mut Flat<T, A>,
+    start: usize,
+    shift: usize,
+    n: usize,
+    tally: &mut Tally,
+)
+    requires within { start + n + shift ≤ length flat.old }
+    requires fits { start + n + shift < 2 ^ 64 }
+    requires moves { 0 < shift }
+    ensures moved { MovedForward start shift n flat.old flat.new }
+    ensures symmetry { tally.new.symmetry ≡ tally.old.symmetry }
+    ensures shift { tally.new.shift ≡ counted tally.old.shift n }
 {
-    if cells + 1 == width {
-        (groups + 1, 0)
-    } else {
-        (groups, cells + 1)
+    let mut done = 0;
+    while done < n {
+        let run = shift.min(n - done);
+        flat.swap_blocks_for_shift(start + done, start + done + shift, run, tally);
+        done += run;
     }
 }
 
-// Takes each kept cell whose place changes once, from the first on, and swaps it to its place in the closed lines.
-// A cell moves by the groups that come before it: `cells` counts from the last of those.
+// Takes the run of kept cells behind each group, from the first on, to its place in the closed lines. The cells behind
+// so many groups move by those.
 fn close_at<T, A: Allocator>(
     flat: &mut Flat<T, A>,
     lines: usize,
@@ -185,12 +202,10 @@ fn close_at<T, A: Allocator>(
     ensures symmetry { tally.new.symmetry ≡ tally.old.symmetry }
     ensures shift { tally.new.shift ≡ counted tally.old.shift (lines * width - at) }
 {
-    let mut to = at;
-    let mut groups = 1;
-    let mut cells = 0;
-    for _ in 0..(lines * width).saturating_sub(at) {
-        flat.swap_for_shift(to, to + groups * count, tally);
-        to += 1;
-        (groups, cells) = cell_behind(groups, cells, width);
+    let mut start = at;
+    for line in 0..lines {
+        let run = width.min(lines * width - start);
+        move_forward(flat, start, (line + 1) * count, run, tally);
+        start += run;
     }
 }

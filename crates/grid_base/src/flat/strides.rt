@@ -1,20 +1,19 @@
 //! Walks over cells in storage order, and over every so many of them.
-ghost use Rattle.std.specs.Prelude.{◌≡◌, ◌<◌, ◌≤◌, length, IfSome, Some};
+ghost use Rattle.std.specs.Prelude.{◌≡◌, ◌-◌, ◌<◌, ◌≤◌, length, take, drop, IfSome, Some};
 ghost use Rattle.std.specs.Borrow.{sem};
-ghost use Rattle.std.specs.Iterator.{YieldsFirstMut, item_count, UpTo, at_most};
+ghost use Rattle.std.specs.Iterator.{item_count, UpTo, at_most};
 ghost use Rattle.std.specs.Iterator.Runs.{YieldsMutRefsInOrder, YieldsMutRefsInReverse};
 ghost use Rattle.std.specs.Iterator.SizeHint.{IsWithinCount};
 ghost use Rattle.std.specs.Slice.Iter.{iter_mut_rest, iter_mut_steps, iter_mut_steps_back};
-ghost use Rattle.grid_base.specs.Strides.{strided, line_rest, LinesInOrder};
+ghost use Rattle.grid_base.specs.Strides.{strided};
 
 use super::Flat;
 use std::alloc::Allocator;
-use std::iter::StepBy;
 use std::{mem, slice};
 
 impl<T, A: Allocator> Flat<T, A> {
     ghost use Rattle.grid_base.specs.FlatLends.{lends_cells, lends_line};
-    ghost use Rattle.grid_base.specs.GridLineIterMut.{line_mut_rest};
+    ghost use Rattle.grid_base.specs.GridLineIterMut.{line_mut_rest, line_mut_cells};
 
     /// The cells for writing, in order.
     pub fn iter_mut(&mut self) -> slice::IterMut<'_, T>
@@ -26,18 +25,6 @@ impl<T, A: Allocator> Flat<T, A> {
         self.cells.as_mut_slice().iter_mut()
     }
 
-    /// The cells from `start` on and before `end`, each `stride` places after the last.
-    pub fn line(&self, start: usize, end: usize, stride: usize) -> StepBy<slice::Iter<'_, T>>
-        requires ordered { start ≤ end }
-        requires within { end ≤ length self.now }
-        requires steps { 0 < stride }
-        ensures rest { line_rest result ≡ strided start end stride self.now }
-        ensures runs { LinesInOrder T }
-    {
-        let cells = self.cells.as_slice();
-        cells[start..end].iter().step_by(stride)
-    }
-
     /// The cells from `start` on and before `end`, each `stride` places after the last, for writing.
     pub fn line_mut(&mut self, start: usize, end: usize, stride: usize) -> GridLineIterMut<'_, T>
         requires ordered { start ≤ end }
@@ -45,6 +32,7 @@ impl<T, A: Allocator> Flat<T, A> {
         requires steps { 0 < stride }
         ensures* writes_back { sem 𝓛 (lends_line T.row A.row A.Allocator self.entry start result) }
         ensures rest { line_mut_rest result ≡ strided start end stride self.old }
+        ensures cells { line_mut_cells result ≡ take (end - start) (drop start self.old) }
     {
         GridLineIterMut {
             rest: self.cells.slice_mut(start..end),
@@ -63,11 +51,11 @@ pub struct GridLineIterMut<'a, T> {
 }
 
 impl<'a, T> Iterator for GridLineIterMut<'a, T> {
-    ghost use Rattle.grid_base.specs.GridLineIterMut.{line_mut_rest};
+    ghost use Rattle.grid_base.specs.GridLineIterMut.{line_mut_rest, steps_along};
 
     type Item = &'a mut T;
 
-    ghost next_gives = { YieldsFirstMut line_mut_rest };
+    ghost next_gives = { steps_along };
 
     ghost remaining = { item_count line_mut_rest };
 

@@ -1,13 +1,16 @@
-//! Two counts of swaps that only a `Flat` can raise.
-ghost use Rattle.std.specs.Prelude.{◌≡◌, ◌+◌};
+//! Two counts of swaps, and the counted swaps of a `Flat`, which alone raise them.
+ghost use Rattle.std.specs.Prelude.{◌≡◌, ◌≢◌, ◌<◌, ◌≤◌, ◌+◌, ◌/◌, ◌^◌, ◌++◌, length, take, drop, reverse, swap};
+ghost use Rattle.grid_base.specs.Blocks.{BlocksSwapped};
 ghost use Rattle.grid_base.specs.Tally.{counted};
 
+use super::Flat;
+use std::alloc::Allocator;
 use std::marker::Model;
 
 /// How many swaps of two cells were done: for symmetries, and for shifts in expand, prepend and delete.
 ///
-/// Only the counted swaps of a [`Flat`](crate::Flat) raise a count, by one each. A count stops at `u128::MAX`, and
-/// no call lowers it.
+/// Only the counted swaps of a [`Flat`](crate::Flat) and its runs of them raise a count, by one for each pair of cells
+/// that is exchanged. A count stops at `u128::MAX`, and no call lowers it.
 #[derive(Drop)]
 pub struct Tally {
     for_symmetry: u128,
@@ -48,17 +51,111 @@ impl Tally {
         self.for_shift
     }
 
-    pub(super) fn count_symmetry(&mut self)
-        ensures symmetry { self.new.symmetry ≡ counted self.old.symmetry 1 }
+    fn count_symmetries(&mut self, swaps: usize)
+        ensures symmetry { self.new.symmetry ≡ counted self.old.symmetry swaps }
         ensures shift { self.new.shift ≡ self.old.shift }
     {
-        self.for_symmetry = self.for_symmetry.saturating_add(1);
+        self.for_symmetry = self.for_symmetry.saturating_add(swaps as u128);
     }
 
-    pub(super) fn count_shift(&mut self)
+    fn count_shifts(&mut self, swaps: usize)
         ensures symmetry { self.new.symmetry ≡ self.old.symmetry }
-        ensures shift { self.new.shift ≡ counted self.old.shift 1 }
+        ensures shift { self.new.shift ≡ counted self.old.shift swaps }
     {
-        self.for_shift = self.for_shift.saturating_add(1);
+        self.for_shift = self.for_shift.saturating_add(swaps as u128);
     }
+}
+
+impl<T, A: Allocator> Flat<T, A> {
+    /// Exchanges the cells of two unlike places, and counts one swap for a symmetry.
+    pub fn swap_for_symmetry(&mut self, i: usize, j: usize, tally: &mut Tally)
+        requires i_in { i < length self.old }
+        requires j_in { j < length self.old }
+        requires unlike { i ≢ j }
+        ensures cells { self.new ≡ swap self.old i j }
+        ensures symmetry { tally.new.symmetry ≡ counted tally.old.symmetry 1 }
+        ensures shift { tally.new.shift ≡ tally.old.shift }
+    {
+        self.swap(i, j);
+        tally.count_symmetries(1);
+    }
+
+    /// Exchanges the cells of two unlike places, and counts one swap for a shift.
+    pub fn swap_for_shift(&mut self, i: usize, j: usize, tally: &mut Tally)
+        requires i_in { i < length self.old }
+        requires j_in { j < length self.old }
+        requires unlike { i ≢ j }
+        ensures cells { self.new ≡ swap self.old i j }
+        ensures symmetry { tally.new.symmetry ≡ tally.old.symmetry }
+        ensures shift { tally.new.shift ≡ counted tally.old.shift 1 }
+    {
+        self.swap(i, j);
+        tally.count_shifts(1);
+    }
+
+    /// Reverses the `n` cells from `start` on, by `n / 2` swaps for a symmetry.
+    pub fn reverse_for_symmetry(&mut self, start: usize, n: usize, tally: &mut Tally)
+        requires within { start + n ≤ length self.old }
+        requires fits { start + n < 2 ^ 64 }
+        ensures cells { self.new ≡ take start self.old ++ reverse (take n (drop start self.old)) ++ drop (start + n) self.old }
+        ensures symmetry { tally.new.symmetry ≡ counted tally.old.symmetry (n / 2) }
+        ensures shift { tally.new.shift ≡ tally.old.shift }
+    {
+        reverse_part(self.cells.as_mut_slice(), start, n);
+        tally.count_symmetries(n / 2);
+    }
+
+    /// Exchanges the `n` cells from `i` on with those from `j` on, which come later, by `n` swaps for a symmetry.
+    pub fn swap_blocks_for_symmetry(&mut self, i: usize, j: usize, n: usize, tally: &mut Tally)
+        requires apart { i + n ≤ j }
+        requires within { j + n ≤ length self.old }
+        requires fits { j + n < 2 ^ 64 }
+        ensures cells { BlocksSwapped i j n self.old self.new }
+        ensures symmetry { tally.new.symmetry ≡ counted tally.old.symmetry n }
+        ensures shift { tally.new.shift ≡ tally.old.shift }
+    {
+        swap_blocks(self.cells.as_mut_slice(), i, j, n);
+        tally.count_symmetries(n);
+    }
+
+    /// Exchanges the `n` cells from `i` on with those from `j` on, which come later, by `n` swaps for a shift.
+    pub fn swap_blocks_for_shift(&mut self, i: usize, j: usize, n: usize, tally: &mut Tally)
+        requires apart { i + n ≤ j }
+        requires within { j + n ≤ length self.old }
+        requires fits { j + n < 2 ^ 64 }
+        ensures cells { BlocksSwapped i j n self.old self.new }
+        ensures symmetry { tally.new.symmetry ≡ tally.old.symmetry }
+        ensures shift { tally.new.shift ≡ counted tally.old.shift n }
+    {
+        swap_blocks(self.cells.as_mut_slice(), i, j, n);
+        tally.count_shifts(n);
+    }
+}
+
+fn reverse_part<T>(cells: &mut [T], start: usize, n: usize)
+    requires within { start + n ≤ length cells.old }
+    requires fits { start + n < 2 ^ 64 }
+    ensures { cells.new ≡ take start cells.old ++ reverse (take n (drop start cells.old)) ++ drop (start + n) cells.old }
+{
+    cells[start..start + n].reverse();
+}
+
+fn swap_blocks<T>(cells: &mut [T], i: usize, j: usize, n: usize)
+    requires apart { i + n ≤ j }
+    requires within { j + n ≤ length cells.old }
+    requires fits { j + n < 2 ^ 64 }
+    ensures { BlocksSwapped i j n cells.old cells.new }
+{
+    join_swapped(cells, i, j, n);
+}
+
+// The same, by the parts that the list then has.
+fn join_swapped<T>(cells: &mut [T], i: usize, j: usize, n: usize)
+    requires apart { i + n ≤ j }
+    requires within { j + n ≤ length cells.old }
+    requires fits { j + n < 2 ^ 64 }
+    ensures { cells.new ≡ take i cells.old ++ take n (drop j cells.old) ++ drop (i + n) (take j cells.old) ++ take n (drop i cells.old) ++ drop (j + n) cells.old }
+{
+    let (front, back) = cells.split_at_mut(j);
+    front[i..i + n].swap_with_slice(&mut back[..n]);
 }

@@ -1,17 +1,16 @@
 //! Walks.
 use crate::fixtures::{ORDERS, assert_stored, grid_of, stored, table_of};
+use grid::GridLineIter;
 use grid::Order::{ColumnMajor, RowMajor};
 use std::alloc::{AllocError, Global};
-use std::iter::StepBy;
 use std::process::Abort;
-use std::slice;
 use std::test::Fail;
 
 // The cells of a line are these.
 fn assert_line(
     rt: &impl Abort,
     alloc: Global,
-    line: Option<StepBy<slice::Iter<'_, u32>>>,
+    line: Option<GridLineIter<'_, u32>>,
     want: &[u32],
 ) -> Result<(), AllocError> {
     let mut cells = Vec::new(alloc);

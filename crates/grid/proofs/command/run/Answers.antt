@@ -42,7 +42,7 @@ loop-command-preserved g c =
       rest = rw append_assoc (rw s.0 at i.rest);
       ran =
           ran_more _ c.in-Some.command _ _ _ _ _ _ _ _ i.ran e.rows
-          (ap (map plain) p.items ∙ (map-append plain _ _ ∙ ap (λ x. map plain c.loop-command.replies.items ++ x ∷ []) e.reply))
+          (ap (map plain) p.items ∙ (map-append plain _ _ ∙ ap (λ x. map plain c.loop-command.replies.items ++ x ∷ []) (e.reply c.requires.clones)))
           e.order e.symmetry c.step.ensures.shift;
       count = grind (arith, p.len, i.count, length-append);
       room = grind (arith, p.capacity, i.room);

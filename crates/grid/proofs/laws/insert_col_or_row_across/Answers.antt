@@ -1,10 +1,11 @@
-use Rattle.std.proofs.Common.{◌∙◌, ap, sym}
+use Rattle.std.proofs.Common.{◌∙◌, ap, sym, subst}
 use Rattle.grid_base.specs.declared.words.Symmetry.TheVariants.{Transpose}
 use Rattle.grid_base.specs.Order.{flipped}
 use Rattle.grid_base.specs.Symmetry.{act}
 use Rattle.grid_base.proofs.Acts.{rows-act}
+use Rattle.grid_base.specs.Table.{IsTable}
 use Rattle.grid_base.proofs.Views.{same_sheet, flipped-flipped}
-use Rattle.grid.proofs.Across.{on_ok, fits_across, col_inserted}
+use Rattle.grid.proofs.Across.{on_ok, on_err, fits_across, col_inserted, twice_across}
 use Rattle.grid.proofs.laws.insert_col_or_row_across.Goals as goal
 
 pub insert_row-as_row-requires-clause-nonempty : goal.insert_row-as_row-requires-clause-nonempty
@@ -18,8 +19,8 @@ pub insert_row-as_row-requires-clause-place : goal.insert_row-as_row-requires-cl
 insert_row-as_row-requires-clause-place g c =
     rw (c.transpose.ensures.rows, c.requires.same, rows-act Transpose c.args.grid.now.rows) c.requires.place
 
-pub returns : goal.returns
-returns g c =
+pub returns-clause-same : goal.returns-clause-same
+returns-clause-same g c =
     let old = c.args.grid.now in
     let line = c.args.line.items in
     let there = c.transpose.ensures.rows ∙ ap (λ s. act Transpose s.rows) c.requires.same in
@@ -30,3 +31,9 @@ returns g c =
     (c.transpose-2.ensures.order ∙ (ap flipped (c.insert_row-as_row.ensures.order ∙ c.transpose.ensures.order) ∙ flipped-flipped c.args.other.now.order) ∙ (ap (λ s. s.order) c.requires.same ∙ sym c.insert_col-as_col.ensures.order)))
     c.insert_row-as_row.ensures.rows)
     c.insert_col-as_col.ensures.rows
+
+pub returns-clause-refused_row : goal.returns-clause-refused_row
+returns-clause-refused_row g c =
+    on_err c.insert_row-as_row.result
+    (λ same. twice_across _ _ _ _ (subst (λ s. IsTable s.rows) (sym c.requires.same) c.size.ensures.table) c.transpose.ensures.rows c.transpose.ensures.order same c.transpose-2.ensures.rows c.transpose-2.ensures.order)
+    c.insert_row-as_row.ensures.err

@@ -1,13 +1,17 @@
-use Rattle.std.proofs.Common.{sym, ap, ◌∙◌}
+use Rattle.std.proofs.Common.{sym, ap, ◌∙◌, arith}
 use Rattle.std.specs.List.{slice_get}
+use Rattle.grid_base.proofs.Stores.{place_within}
 use Rattle.grid_base.proofs.Views.{view-cell, view-past_rows, view-past_cols}
 use Rattle.grid.proofs.grid.Grid.get.Goals as goal
 use Rattle.grid.proofs.grid.Grid.get.Goals.{else-row-self-via-then-row-self+else-col-self, else-row-self-via-else-row-self}
 
+pub at-requires : goal.at-requires
+at-requires g c = omega (arith, c.place.ensures, c.self.invariant.cells, place_within c.self.inside.order _ _ _ _ c.if-row-self.true c.if-col-self.true)
+
 pub returns-then-col-self : goal.returns-then-col-self
 returns-then-col-self g c =
     rw (← c.self.view_is)
-    (c.get.ensures ∙ (ap (slice_get c.self.inside.flat) c.place.ensures ∙ sym (view-cell _ _ _ _ c.self.invariant _ _ c.if-row-self.true c.if-col-self.true)))
+    (sym c.at.ensures ∙ (ap (slice_get c.self.inside.flat) c.place.ensures ∙ sym (view-cell _ _ _ _ c.self.invariant _ _ c.if-row-self.true c.if-col-self.true)))
 
 pub returns-else-row-self : goal.returns-else-row-self
 returns-else-row-self g c =

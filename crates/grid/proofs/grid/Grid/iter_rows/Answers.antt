@@ -1,7 +1,7 @@
 use Rattle.std.proofs.Common.{arith}
 use Rattle.grid.proofs.Seen.{seen_rows}
-use Rattle.grid_base.proofs.Strides.{lines_in_order}
-use Rattle.grid.proofs.LeftLemmas.{left_all}
+use Rattle.grid_base.proofs.Strides.{lines_in_order, lines_in_reverse, each_line_in_order, each_line_in_reverse}
+use Rattle.grid_base.proofs.Left.{left_all}
 use Rattle.grid.proofs.grid.Grid.iter_rows.Goals as goal
 
 pub invariant_of-result : goal.invariant_of-result
@@ -11,4 +11,13 @@ pub returns-clause-rest : goal.returns-clause-rest
 returns-clause-rest g c = left_all _ _ (omega (arith, seen_rows _ _ _ _ _ c.self.invariant c.self.view_is))
 
 pub returns-clause-runs : goal.returns-clause-runs
-returns-clause-runs g c = lines_in_order _
+returns-clause-runs g c = each_line_in_order _
+
+pub returns-clause-runs_back : goal.returns-clause-runs_back
+returns-clause-runs_back g c = each_line_in_reverse _
+
+pub returns-clause-along : goal.returns-clause-along
+returns-clause-along g c = lines_in_order _
+
+pub returns-clause-along_back : goal.returns-clause-along_back
+returns-clause-along_back g c = lines_in_reverse _

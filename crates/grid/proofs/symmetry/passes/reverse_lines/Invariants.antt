@@ -1,18 +1,11 @@
-use Rattle.std.proofs.Common.{◌≡◌, ◌*◌, ◌+◌}
+use Rattle.std.proofs.Common.{◌≡◌, ◌*◌}
 use Rattle.grid_base.specs.Tally.{counted}
 use Rattle.grid.proofs.Reversing.{Reversing}
 use Rattle.grid.proofs.symmetry.passes.reverse_lines.Given as goal
 
-abbrev pub invariant-loop-at : goal.invariant-loop-at
-invariant-loop-at g l = record {
-  run : Reversing l.lines l.width (l.line * l.width + l.at) l.fn.flat l.flat;
-  count : l.tally.symmetry ≡ counted l.fn.tally.symmetry (l.line * l.width + l.at);
-  shift : l.tally.shift ≡ l.fn.tally.shift;
-}
-
 abbrev pub invariant-loop-line : goal.invariant-loop-line
 invariant-loop-line g l = record {
-  run : Reversing l.lines l.width (l.line * l.width) l.fn.flat l.flat;
+  run : Reversing l.lines l.width l.line l.fn.flat l.flat;
   count : l.tally.symmetry ≡ counted l.fn.tally.symmetry (l.line * l.width);
   shift : l.tally.shift ≡ l.fn.tally.shift;
 }

@@ -1,39 +1,34 @@
-use Rattle.std.proofs.Common.{◌-◌, refl, arith}
-use Rattle.grid_base.proofs.Spreading.{behind_within, behind_moves, opening_none, opening_step, opening_end, first_line}
+use Rattle.std.proofs.Common.{◌≡◌, ◌+◌, ◌-◌, ◌*◌, ◌≤◌, refl, ap, arith}
+use Rattle.std.proofs.Math.Nat.{mul-le-mul_right}
+use Rattle.grid_base.proofs.Spreading.{opening_none, opening_run, opening_end, times_less, first_line}
 use Rattle.grid_base.proofs.flat.Flat.open.Goals as goal
 
-pub loop-init : goal.loop-init
-loop-init g c =
-    record { run = opening_none _ _ _ _ refl; done = omega arith; place = omega arith; within = omega arith; symmetry = refl; shift = omega arith }
+pub loop-line-init : goal.loop-line-init
+loop-line-init g c =
+    record { run = opening_none _ _ _ _ refl; within = omega arith; place = omega arith; symmetry = refl; shift = omega arith }
 
-pub overflow_add-from : goal.overflow_add-from
-overflow_add-from g c =
-    omega (arith, behind_within c.args.lines c.args.width c.args.at c.args.count (c.loop.from - 1) c.cell_before.result.0 c.cell_before.result.1 c.requires.within (omega arith) c.cell_before.ensures.within (omega arith))
+pub move_back-requires-clause-fits : goal.move_back-requires-clause-fits
+move_back-requires-clause-fits g c =
+    let line : c.loop-line.line - 1 + 1 ≤ c.args.lines = omega arith in
+    omega (arith, mul-le-mul_right c.args.width line, mul-le-mul_right c.args.count line)
 
-pub overflow_mul-groups : goal.overflow_mul-groups
-overflow_mul-groups g c =
-    omega (arith, behind_within c.args.lines c.args.width c.args.at c.args.count (c.loop.from - 1) c.cell_before.result.0 c.cell_before.result.1 c.requires.within (omega arith) c.cell_before.ensures.within (omega arith))
-
-pub swap_for_shift-requires-clause-j_in : goal.swap_for_shift-requires-clause-j_in
-swap_for_shift-requires-clause-j_in g c =
-    omega (arith, c.loop.invariant.run.length_stays, behind_within c.args.lines c.args.width c.args.at c.args.count (c.loop.from - 1) c.cell_before.result.0 c.cell_before.result.1 c.requires.within (omega arith) c.cell_before.ensures.within (omega arith))
-
-pub swap_for_shift-requires-clause-unlike : goal.swap_for_shift-requires-clause-unlike
-swap_for_shift-requires-clause-unlike g c e =
-    omega (arith, behind_moves c.args.width c.args.at c.args.count (c.loop.from - 1) c.cell_before.result.0 c.cell_before.result.1 c.requires.within (omega arith) c.cell_before.ensures.within (omega arith) c.requires.has_count)
-
-pub loop-preserved : goal.loop-preserved
-loop-preserved g c =
+pub loop-line-preserved : goal.loop-line-preserved
+loop-line-preserved g c =
+    let line : c.loop-line.line - 1 + 1 ≤ c.args.lines = omega arith in
+    let some = times_less c.loop-line.line c.args.width (omega arith) in
+    let before : (c.loop-line.line - 1) * c.args.width + c.args.width ≤ c.args.lines * c.args.width =
+    omega (arith, mul-le-mul_right c.args.width line) in
     record {
-      run = opening_step c.args.lines _ _ _ _ _ _ _ _ _ _ _ c.requires.within c.requires.has_count c.requires.cells (omega arith) c.cell_before.ensures.within (omega arith) (omega arith) c.loop.invariant.run c.swap_for_shift.ensures.cells (omega arith) refl;
-      done = omega arith;
-      place = omega arith;
+      run = opening_run _ _ _ _ (c.loop-line.line - 1 + 1) _ _ _ _ _ _ c.requires.within c.requires.has_count c.requires.cells line (omega arith) (omega arith) (omega arith) refl c.loop-line.invariant.run c.move_back.ensures.moved;
       within = omega arith;
+      place = omega arith;
       symmetry = omega arith;
       shift = omega arith;
     }
 
 pub returns-clause-opened : goal.returns-clause-opened
 returns-clause-opened g c =
-    opening_end _ _ _ _ _ _ _ c.requires.has_lines c.requires.has_width c.requires.within c.requires.cells c.loop.invariant.run
-    (let reach = first_line c.args.lines c.args.width c.requires.has_lines in omega arith)
+    let reach = first_line c.args.lines c.args.width c.requires.has_lines in
+    let none : c.loop-line.line ≡ 0 = omega arith in
+    let gone = ap (λ v. v * c.args.width) none in
+    opening_end _ _ _ _ _ _ _ c.requires.has_lines c.requires.has_width c.requires.within c.requires.cells c.loop-line.invariant.run (omega arith)

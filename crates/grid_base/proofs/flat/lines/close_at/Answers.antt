@@ -1,54 +1,37 @@
-use Rattle.std.proofs.Common.{◌<◌, refl, arith}
-use Rattle.grid_base.proofs.Spreading.{behind_within, behind_moves, groups_within, wide_lines, closing_none, closing_step, closing_end}
+use Rattle.std.proofs.Common.{◌≡◌, ◌+◌, ◌*◌, ◌≤◌, refl, ap, arith, ⊎_elim}
+use Rattle.std.proofs.lemmas.Bool.{cases_eq}
+use Rattle.std.proofs.Math.Nat.{mul-le-mul_right}
+use Rattle.grid_base.proofs.Spreading.{closing_none, closing_run, closing_end, first_line}
 use Rattle.grid_base.proofs.flat.lines.close_at.Goals as goal
 
-pub loop-init : goal.loop-init
-loop-init g c =
+pub loop-line-init : goal.loop-line-init
+loop-line-init g c =
     record {
       run = closing_none _ _ _ _ _ c.requires.within;
-      done = omega arith;
-      place = omega arith;
-      within = wide_lines c.args.lines c.args.width;
+      place = λ some. omega (arith, first_line c.args.lines c.args.width some);
+      none = λ _. refl;
       symmetry = refl;
       shift = omega arith;
     }
 
-pub overflow_mul-groups : goal.overflow_mul-groups
-overflow_mul-groups g c =
-    let within : c.loop.cells < c.args.width = c.loop.invariant.within (omega arith) in
-    omega (arith, behind_within c.args.lines c.args.width c.args.at c.args.count c.loop.to c.loop.groups c.loop.cells c.requires.within (omega arith) within (omega arith))
-
-pub overflow_add-to : goal.overflow_add-to
-overflow_add-to g c =
-    let within : c.loop.cells < c.args.width = c.loop.invariant.within (omega arith) in
-    omega (arith, behind_within c.args.lines c.args.width c.args.at c.args.count c.loop.to c.loop.groups c.loop.cells c.requires.within (omega arith) within (omega arith))
-
-pub swap_for_shift-requires-clause-j_in : goal.swap_for_shift-requires-clause-j_in
-swap_for_shift-requires-clause-j_in g c =
-    let within : c.loop.cells < c.args.width = c.loop.invariant.within (omega arith) in
-    omega (arith, c.loop.invariant.run.length_stays, behind_within c.args.lines c.args.width c.args.at c.args.count c.loop.to c.loop.groups c.loop.cells c.requires.within (omega arith) within (omega arith))
-
-pub swap_for_shift-requires-clause-unlike : goal.swap_for_shift-requires-clause-unlike
-swap_for_shift-requires-clause-unlike g c e =
-    let within : c.loop.cells < c.args.width = c.loop.invariant.within (omega arith) in
-    omega (arith, behind_moves c.args.width c.args.at c.args.count c.loop.to c.loop.groups c.loop.cells c.requires.within (omega arith) within (omega arith) c.requires.has_count)
-
-pub cell_behind-requires-clause-fits : goal.cell_behind-requires-clause-fits
-cell_behind-requires-clause-fits g c =
-    let within : c.loop.cells < c.args.width = c.loop.invariant.within (omega arith) in
-    groups_within c.args.lines c.args.width c.args.at c.args.count c.loop.to c.loop.groups c.loop.cells c.requires.within c.requires.has_count (omega arith) within (omega arith) c.requires.fits
-
-pub loop-preserved : goal.loop-preserved
-loop-preserved g c =
-    let within : c.loop.cells < c.args.width = c.loop.invariant.within (omega arith) in
+pub loop-line-preserved : goal.loop-line-preserved
+loop-line-preserved g c =
+    let line : c.loop-line.line + 1 ≤ c.args.lines = omega arith in
+    let more = mul-le-mul_right c.args.width line in
+    let place = c.loop-line.invariant.place (omega arith) in
+    let here : c.loop-line.start ≡ c.args.at + c.loop-line.line * c.args.width = omega arith in
     record {
-      run = closing_step c.args.lines _ _ _ _ _ _ _ _ _ _ c.requires.within c.requires.has_count c.requires.cells c.loop.invariant.place within (omega arith) (omega arith) c.loop.invariant.run c.swap_for_shift.ensures.cells refl;
-      done = omega arith;
-      place = omega arith;
-      within = λ _. c.cell_behind.ensures.within;
+      run = closing_run _ _ _ _ (c.loop-line.line + 1) _ _ _ _ _ _ c.requires.within (omega arith) (omega arith) c.min-run.ensures c.loop-line.invariant.run c.move_forward.ensures.moved refl;
+      place = λ _. omega arith;
+      none = λ e. absurd (omega arith);
       symmetry = omega arith;
       shift = omega arith;
     }
 
 pub returns-clause-lines : goal.returns-clause-lines
-returns-clause-lines g c = closing_end _ _ _ _ _ _ _ c.requires.within (omega arith) c.loop.invariant.run
+returns-clause-lines g c =
+    let all : c.loop-line.line ≡ c.args.lines = omega arith in
+    let same = ap (λ v. v * c.args.width) all in
+    closing_end _ _ _ _ _ _ _ c.requires.within
+    (⊎_elim (λ none. omega (arith, ap (λ v. v * c.args.width) none)) (λ some_not. let place = c.loop-line.invariant.place (omega arith) in omega arith) (cases_eq c.args.lines 0))
+    c.loop-line.invariant.run

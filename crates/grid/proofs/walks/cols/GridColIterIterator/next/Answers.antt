@@ -1,17 +1,14 @@
-use Rattle.std.proofs.Common.{sym, ◌∙◌, ap, length, arith, ◌∷◌, [], ◌+◌}
-use Rattle.grid_base.specs.Table.{turned, cell, rows_of, cols_of}
+use Rattle.std.proofs.Common.{sym, ◌∙◌, ap, length, arith, []}
 use Rattle.grid_base.proofs.Tables.{rows-tabulate}
-use Rattle.grid.specs.Left.{left}
-use Rattle.grid.proofs.LeftLemmas.{left_first}
+use Rattle.grid_base.proofs.Left.{left_next}
 use Rattle.grid.proofs.walks.cols.GridColIterIterator.next.Goals as goal
 
-pub returns-then-self-clause-steps : goal.returns-then-self-clause-steps
-returns-then-self-clause-steps g c =
-    sym c.self.view_is
-    ∙ (left_first c.self.inside.from c.self.inside.to (turned c.self.inside.grid.now.rows) [] (omega arith) (omega (arith, c.self.invariant.within, rows-tabulate (cols_of c.self.inside.grid.now.rows) (rows_of c.self.inside.grid.now.rows) (λ i j. cell c.self.inside.grid.now.rows j i)))
-    ∙ ap (λ x. x ∷ left (c.self.inside.from + 1) c.self.inside.to (turned c.self.inside.grid.now.rows)) (sym c.iter_col-line.ensures.rest))
+pub returns-clause-steps : goal.returns-clause-steps
+returns-clause-steps g c =
+    let s = c.in_ok-c.ensures.steps in
+    sym c.self.view_is ∙ left_next _ _ _ _ _ _ _ _ [] c.self.invariant (sym (rows-tabulate _ _ _)) (omega (arith, s)) (omega (arith, s)) (omega (arith, s)) (omega (arith, s)) c.iter_col.ensures.rest
 
-pub returns-then-self-clause-goes : goal.returns-then-self-clause-goes
-returns-then-self-clause-goes g c =
-    let e = ap length (returns-then-self-clause-steps g c) in
+pub returns-clause-goes : goal.returns-clause-goes
+returns-clause-goes g c =
+    let e = ap length (returns-clause-steps g c) in
     record { on = λ _. (tt, tt, omega (arith, e)); keeps = tt; rests = λ _. tt }

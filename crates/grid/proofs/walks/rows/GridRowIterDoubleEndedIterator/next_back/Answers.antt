@@ -1,15 +1,13 @@
-use Rattle.std.proofs.Common.{sym, ◌∙◌, ap, length, arith, ◌∷◌, [], ◌++◌, ◌-◌, length-append}
-use Rattle.grid.specs.Left.{left}
-use Rattle.grid.proofs.LeftLemmas.{left_last}
+use Rattle.std.proofs.Common.{sym, ◌∙◌, ap, length, arith, refl, [], length-append}
+use Rattle.grid_base.proofs.Left.{left_next_back}
 use Rattle.grid.proofs.walks.rows.GridRowIterDoubleEndedIterator.next_back.Goals as goal
 
-pub returns-then-self-clause-steps : goal.returns-then-self-clause-steps
-returns-then-self-clause-steps g c =
-    sym c.self.view_is
-    ∙ (left_last c.self.inside.from c.self.inside.to c.self.inside.grid.now.rows [] (omega arith) (omega (arith, c.self.invariant.within))
-    ∙ ap (λ x. left c.self.inside.from (c.self.inside.to - 1) c.self.inside.grid.now.rows ++ x ∷ []) (sym c.iter_row.ensures.rest))
+pub returns-clause-steps : goal.returns-clause-steps
+returns-clause-steps g c =
+    let s = c.in_ok-r.ensures.steps in
+    sym c.self.view_is ∙ left_next_back _ _ _ _ _ _ _ _ [] c.self.invariant refl (omega (arith, s)) (omega (arith, s)) (omega (arith, s)) (omega (arith, s)) c.iter_row.ensures.rest
 
-pub returns-then-self-clause-goes : goal.returns-then-self-clause-goes
-returns-then-self-clause-goes g c =
-    let e = simp length-append at (ap length (returns-then-self-clause-steps g c)) in
+pub returns-clause-goes : goal.returns-clause-goes
+returns-clause-goes g c =
+    let e = simp length-append at (ap length (returns-clause-steps g c)) in
     record { on = λ _. (tt, tt, omega (arith, e)); keeps = tt; rests = λ _. tt }

@@ -1,10 +1,9 @@
-use Rattle.std.proofs.Common.{arith}
+use Rattle.std.proofs.Common.{refl, arith}
 use Rattle.grid_base.proofs.Ends.{fresh_none, fresh_more}
-use Rattle.grid_base.proofs.flat.Flat.append_defaults.Goals as goal
+use Rattle.grid_base.proofs.flat.ends.with_defaults.Goals as goal
 
 pub loop-init : goal.loop-init
-loop-init g c =
-    record { run = fresh_none _ _ _ (let e = c.reserve.ensures.items in cc); room = omega (arith, c.in_ok-reserve.ensures.ok) }
+loop-init g c = record { run = fresh_none _ _ _ refl; room = omega arith }
 
 pub loop-preserved : goal.loop-preserved
 loop-preserved g c =

@@ -1,9 +1,0 @@
-use Rattle.std.proofs.Common.{◌+◌, ◌-◌, ◌≤◌, vec_len, vec_capacity}
-use Rattle.grid_base.specs.Fresh.{EndsFresh}
-use Rattle.grid_base.proofs.flat.Flat.append_defaults.Given as goal
-
-abbrev pub invariant-loop : goal.invariant-loop
-invariant-loop g l = record {
-  run : EndsFresh g.T.Default.is_default l.counter l.fn.self l.self-inside.cells.items;
-  room : vec_len l.self-inside.cells + (l.count - l.counter) ≤ vec_capacity l.self-inside.cells;
-}

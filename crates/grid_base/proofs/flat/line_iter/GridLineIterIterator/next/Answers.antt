@@ -1,0 +1,17 @@
+use Rattle.std.proofs.Common.{arith, sym, ◌∙◌, rules}
+use Rattle.grid_base.proofs.Strides.{line_within, line_first}
+use Rattle.grid_base.proofs.flat.line_iter.GridLineIterIterator.next.Goals as goal
+
+pub bounds-self-inside-number : goal.bounds-self-inside-number
+bounds-self-inside-number g c = line_within _ _ _ _ c.self.invariant _ (omega (arith, c.in_ok-number.ensures.steps))
+
+pub overflow_mul-result : goal.overflow_mul-result
+overflow_mul-result g c = let within = bounds-self-inside-number g c in search rules
+
+pub offset_bounds-self-inside-number : goal.offset_bounds-self-inside-number
+offset_bounds-self-inside-number g c = let within = bounds-self-inside-number g c in search rules
+
+pub returns-clause-steps : goal.returns-clause-steps
+returns-clause-steps g c =
+    let s = c.in_ok-number.ensures.steps in
+    sym c.self.view_is ∙ line_first _ _ _ _ c.self.invariant _ _ _ _ (omega (arith, s)) (omega (arith, s)) (omega (arith, s)) (omega (arith, s))

@@ -1,0 +1,16 @@
+use Rattle.std.proofs.Common.{refl, arith}
+use Rattle.grid_base.proofs.Blocks.{back_none, back_more}
+use Rattle.grid_base.proofs.flat.lines.move_back.Goals as goal
+
+pub loop-left-init : goal.loop-left-init
+loop-left-init g c =
+    record { run = back_none _ _ _ _ (omega arith); within = omega arith; symmetry = refl; shift = omega arith }
+
+pub loop-left-preserved : goal.loop-left-preserved
+loop-left-preserved g c =
+    record {
+      run = back_more _ _ _ _ _ _ _ _ _ _ (omega arith) c.loop-left.invariant.run c.swap_blocks_for_shift.ensures.cells (omega arith) refl (omega arith);
+      within = omega arith;
+      symmetry = omega arith;
+      shift = omega arith;
+    }
