@@ -10,12 +10,16 @@ use Rattle.grid_base.proofs.Stores.{get_append_left, get_append_right, get-take,
 module _ {T : Type 0} (i j n : ℕ) (old : List T) (apart : i + n ≤ j) (within : j + n ≤ length old) where
   abbrev one : List T
   one = take i old
+
   abbrev two : List T
   two = one ++ take n (drop j old)
+
   abbrev three : List T
   three = two ++ drop (i + n) (take j old)
+
   abbrev four : List T
   four = three ++ take n (drop i old)
+
   abbrev whole : List T
   whole = four ++ drop (j + n) old
 

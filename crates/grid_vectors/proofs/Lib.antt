@@ -1,3 +1,0 @@
-mod Growing
-pub mod Spends
-pub mod Sums

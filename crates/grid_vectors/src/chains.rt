@@ -1,334 +1,139 @@
-//! Chains over a row or a column of a grid, and maps of a whole grid. Their contracts say what they find by the list of
-//! its cells, and no proof file is needed.
-ghost use Rattle.std.specs.Prelude.{◌≡◌, ◌/◌, ◌^◌, ◌<◌, ◌≤◌, ◌==◌, ◌↔◌, IsTrue, IfOk, MatchOption, Any, All, length, map, reverse, sum, count_by, filter, fold, min, ◌+◌, nat_lt, [], ◌-◌, slice_get};
-ghost use Rattle.grid_base.specs.Table.{row, rows_of, cols_of, turned};
-ghost use Rattle.grid_base.specs.Order.{storage};
-
+//! Callers' chains over walks, each run once.
 use grid::Grid;
-use std::alloc::{AllocError, Allocator, Global};
+use grid_reference::chains::*;
+use grid_reference::fixtures::{ORDERS, grid_of, numbered};
+use std::alloc::Global;
+use std::process::Abort;
+use std::test::Fail;
 
-/// How many cells of row r are x.
-pub fn count_in_row<A: Allocator>(grid: &Grid<u32, A>, r: usize, x: u32) -> usize
-    requires { r < rows_of grid.now.rows }
-    ensures { result ≡ count_by (λ y. y == x) (row grid.now.rows r) }
-{
-    grid.iter_row(r).filter(|y| **y == x).count()
-}
-
-/// How many cells of the first row are x.
-pub fn count_in_first_row<A: Allocator>(grid: &Grid<u32, A>, x: u32) -> usize
-    ensures { result ≡ count_by (λ y. y == x) (row grid.now.rows 0) }
-{
-    match grid.iter_rows().next() {
-        Some(line) => line.filter(|y| **y == x).count(),
-        None => 0,
+// [[1, 2, 3], [4, 5, 6]] in both orders.
+fn boards(rt: &impl Abort, alloc: Global) -> Result<Vec<Grid<u32>>, Fail> {
+    let table = numbered(alloc, 2, 3)?;
+    let mut boards = Vec::new(alloc);
+    for order in ORDERS {
+        let board = grid_of(alloc, &table, order)?;
+        assert_eq!(rt; board.size(), (2, 3));
+        boards.push(board)?;
     }
+    Ok(boards)
 }
 
-/// Whether a cell of column c is x.
-pub fn column_has<A: Allocator>(grid: &Grid<u32, A>, c: usize, x: u32) -> bool
-    requires { c < cols_of grid.now.rows }
-    ensures { IsTrue result ↔ Any (λ y. y ≡ x) (row (turned grid.now.rows) c) }
-{
-    grid.iter_col(c).any(|y| *y == x)
-}
-
-/// Whether every cell of row r is at most x.
-pub fn row_is_within<A: Allocator>(grid: &Grid<u32, A>, r: usize, x: u32) -> bool
-    requires { r < rows_of grid.now.rows }
-    ensures { IsTrue result ↔ All (λ y. y ≤ x) (row grid.now.rows r) }
-{
-    grid.iter_row(r).all(|y| *y <= x)
-}
-
-/// The sum of row r, which fits.
-pub fn row_sum<A: Allocator>(grid: &Grid<u32, A>, r: usize) -> u32
-    requires in_range { r < rows_of grid.now.rows }
-    requires fits { sum (row grid.now.rows r) < 2 ^ 32 }
-    ensures { result ≡ sum (row grid.now.rows r) }
-{
-    grid.iter_row(r).sum()
-}
-
-/// The sum of column c, or `u32::MAX` if it is larger.
-pub fn column_sum<A: Allocator>(grid: &Grid<u32, A>, c: usize) -> u32
-    requires { c < cols_of grid.now.rows }
-    ensures { result ≡ fold (λ total y. min (total + y) u32.MAX) 0 (row (turned grid.now.rows) c) }
-{
-    grid.iter_col(c)
-        .fold(0, |total: u32, y| total.saturating_add(*y))
-}
-
-/// Half of each cell of row r, rounded down.
-pub fn halves_of_row<A: Allocator>(
-    alloc: Global,
-    grid: &Grid<u32, A>,
-    r: usize,
-) -> Result<Vec<u32>, AllocError>
-    requires { r < rows_of grid.now.rows }
-    ensures { IfOk result (λ halves. halves.items ≡ map (λ y. y / 2) (row grid.now.rows r)) }
-{
-    grid.iter_row(r).map(|y| *y / 2).collect(alloc)
-}
-
-/// The cells of column c.
-pub fn column<T: Copy, A: Allocator>(
-    alloc: Global,
-    grid: &Grid<T, A>,
-    c: usize,
-) -> Result<Vec<T>, AllocError>
-    requires { c < cols_of grid.now.rows }
-    ensures { IfOk result (λ cells. cells.items ≡ row (turned grid.now.rows) c) }
-{
-    grid.iter_col(c).copied().collect(alloc)
-}
-
-/// The cells of column c that are above x.
-pub fn column_above<A: Allocator>(
-    alloc: Global,
-    grid: &Grid<u32, A>,
-    c: usize,
-    x: u32,
-) -> Result<Vec<u32>, AllocError>
-    requires { c < cols_of grid.now.rows }
-    ensures { IfOk result (λ cells. cells.items ≡ filter (λ y. nat_lt x y) (row (turned grid.now.rows) c)) }
-{
-    grid.iter_col(c).copied().filter(|y| x < *y).collect(alloc)
-}
-
-/// The largest cell of row r.
-pub fn row_max<A: Allocator>(grid: &Grid<u32, A>, r: usize) -> Option<u32>
-    requires { r < rows_of grid.now.rows }
-    ensures { MatchOption result (row grid.now.rows r ≡ []) (λ most. All (λ y. y ≤ most) (row grid.now.rows r) × Any (λ y. y ≡ most) (row grid.now.rows r)) }
-{
-    grid.iter_row(r).copied().max()
-}
-
-/// Half of each cell of the whole grid, last first.
-pub fn halves_reversed<A: Allocator>(
-    alloc: Global,
-    grid: &Grid<u32, A>,
-) -> Result<Vec<u32>, AllocError>
-    ensures { IfOk result (λ halves. halves.items ≡ reverse (map (λ y. y / 2) (storage grid.now.order grid.now.rows))) }
-{
-    grid.iter().rev().map(|y| *y / 2).collect(alloc)
-}
-
-/// The cells of column c, last first.
-pub fn column_reversed<T: Copy, A: Allocator>(
-    alloc: Global,
-    grid: &Grid<T, A>,
-    c: usize,
-) -> Result<Vec<T>, AllocError>
-    requires { c < cols_of grid.now.rows }
-    ensures { IfOk result (λ cells. cells.items ≡ reverse (row (turned grid.now.rows) c)) }
-{
-    grid.iter_col(c).rev().copied().collect(alloc)
-}
-
-/// The last cell of row r, if there is one.
-pub fn last_in_row<A: Allocator>(grid: &Grid<u32, A>, r: usize) -> Option<u32>
-    requires { r < rows_of grid.now.rows }
-    ensures { result ≡ slice_get (row grid.now.rows r) (length (row grid.now.rows r) - 1) }
-{
-    grid.iter_row(r).next_back().copied()
-}
-
-/// Cell number k of column c, if there is one.
-pub fn cell_of_column<A: Allocator>(grid: &Grid<u32, A>, c: usize, k: usize) -> Option<u32>
-    requires { c < cols_of grid.now.rows }
-    ensures { result ≡ slice_get (row (turned grid.now.rows) c) k }
-{
-    grid.iter_col(c).nth(k).copied()
-}
-
-/// Whether every row has n cells.
-pub fn rows_have<T, A: Allocator>(grid: &Grid<T, A>, n: usize) -> bool
-    ensures { IsTrue result ↔ All (λ line. length line ≡ n) grid.now.rows }
-{
-    grid.iter_rows().all(|line| line.len() == n)
-}
-
-/// How many cells of each column are x.
-pub fn count_in_columns<A: Allocator>(
-    alloc: Global,
-    grid: &Grid<u32, A>,
-    x: u32,
-) -> Result<Vec<usize>, AllocError>
-    ensures { IfOk result (λ counts. counts.items ≡ map (λ line. count_by (λ y. y == x) line) (turned grid.now.rows)) }
-{
-    grid.iter_cols()
-        .map(|line| line.filter(|y| **y == x).count())
-        .collect(alloc)
-}
-
-/// How many rows there are.
-pub fn count_rows<A: Allocator>(grid: &Grid<u32, A>) -> usize
-    ensures { result ≡ length grid.now.rows }
-{
-    grid.iter_rows().count()
-}
-
-/// What each cell lacks to ten. The closure can't be called at a larger number.
-#[tactic(auto, using(grid_base::proofs::Answers::answers_pure))]
-pub fn lacking<A: Allocator + Clone>(grid: Grid<u32, A>) -> Result<Grid<u32, A>, AllocError>
-    requires { All (λ y. y ≤ 10) (storage grid.order grid.rows) }
-    ensures order { IfOk result (λ lacking. lacking.order ≡ grid.order) }
-    ensures cells { IfOk result (λ lacking. storage lacking.order lacking.rows ≡ map (λ y. 10 - y) (storage grid.order grid.rows)) }
-{
-    match grid.map(|y| 10 - y) {
-        Ok(lacking) => Ok(lacking),
-        Err(_) => Err(AllocError),
-    }
-}
-
-/// The same, of a grid that stays.
-#[tactic(auto, using(grid_base::proofs::Answers::pairs_pure))]
-pub fn lacking_in<A: Allocator + Clone>(grid: &Grid<u32, A>) -> Result<Grid<u32, A>, AllocError>
-    requires { All (λ y. y ≤ 10) (storage grid.now.order grid.now.rows) }
-    ensures order { IfOk result (λ lacking. lacking.order ≡ grid.now.order) }
-    ensures cells { IfOk result (λ lacking. storage lacking.order lacking.rows ≡ map (λ y. 10 - y) (storage grid.now.order grid.now.rows)) }
-{
-    let lacking = grid.map_ref(|y| 10 - *y)?;
-    Ok(lacking)
-}
-
-#[cfg(test)]
-mod tests {
-    use super::*;
-    use crate::fixtures::{ORDERS, grid_of, numbered};
-    use std::process::Abort;
-    use std::test::Fail;
-
-    // [[1, 2, 3], [4, 5, 6]] in both orders.
-    fn boards(rt: &impl Abort, alloc: Global) -> Result<Vec<Grid<u32>>, AllocError> {
-        let table = numbered(alloc, 2, 3)?;
-        let mut boards = Vec::new(alloc);
-        for order in ORDERS {
-            let board = grid_of(rt, alloc, &table, order)?;
-            assert_eq!(rt; board.size(), (2, 3));
-            boards.push(board)?;
-        }
-        Ok(boards)
-    }
-
-    #[test]
-    fn counts_in_rows(rt: HostRuntime) -> Result<(), Fail> {
-        for board in boards(&rt, rt.alloc())?.iter_mut() {
-            assert!(rt; 1 < board.rows());
-            assert_eq!(rt; count_in_row(board, 1, 5), 1);
-            assert_eq!(rt; count_in_row(board, 1, 2), 0);
-            assert_eq!(rt; count_in_first_row(board, 2), 1);
-            board.fill_with(|| 5);
-            assert!(rt; 1 < board.rows());
-            assert_eq!(rt; count_in_row(board, 1, 5), 3);
-        }
-        Ok(())
-    }
-
-    #[tactic(auto, using(crate::proofs::Sums::row_within))]
-    #[test]
-    fn sums_rows(rt: HostRuntime) -> Result<(), Fail> {
-        let cells = vec![in rt.alloc(); 1u32, 2, 3, 4]?;
-        let board = Grid::from_vec(cells, 2);
+#[test]
+fn counts_in_rows(rt: HostRuntime) -> Result<(), Fail> {
+    for board in boards(&rt, rt.alloc())?.iter_mut() {
         assert!(rt; 1 < board.rows());
-        assert_eq!(rt; row_sum(&board, 0), 3);
-        assert_eq!(rt; row_sum(&board, 1), 7);
-        Ok(())
+        assert_eq!(rt; count_in_row(board, 1, 5), 1);
+        assert_eq!(rt; count_in_row(board, 1, 2), 0);
+        assert_eq!(rt; count_in_first_row(board, 2), 1);
+        board.fill_with(|| 5);
+        assert!(rt; 1 < board.rows());
+        assert_eq!(rt; count_in_row(board, 1, 5), 3);
     }
+    Ok(())
+}
 
-    #[test]
-    fn sums_columns(rt: HostRuntime) -> Result<(), Fail> {
-        for board in boards(&rt, rt.alloc())?.iter_mut() {
-            assert!(rt; 2 < board.cols());
-            assert_eq!(rt; column_sum(board, 0), 5);
-            assert_eq!(rt; column_sum(board, 2), 9);
-            board.fill(u32::MAX)?;
-            assert!(rt; 2 < board.cols());
-            assert_eq!(rt; column_sum(board, 2), u32::MAX);
-        }
-        Ok(())
-    }
+#[tactic(auto, using(crate::proofs::Sums::row_within))]
+#[test]
+fn sums_rows(rt: HostRuntime) -> Result<(), Fail> {
+    let cells = vec![in rt.alloc(); 1u32, 2, 3, 4]?;
+    let board = Grid::from_vec(cells, 2);
+    assert!(rt; 1 < board.rows());
+    assert_eq!(rt; row_sum(&board, 0), 3);
+    assert_eq!(rt; row_sum(&board, 1), 7);
+    Ok(())
+}
 
-    #[test]
-    fn finds_in_columns(rt: HostRuntime) -> Result<(), Fail> {
-        for board in &boards(&rt, rt.alloc())? {
-            assert!(rt; 2 < board.cols());
-            assert!(rt; column_has(board, 2, 6));
-            assert!(rt; !column_has(board, 2, 5));
-        }
-        Ok(())
+#[test]
+fn sums_columns(rt: HostRuntime) -> Result<(), Fail> {
+    for board in boards(&rt, rt.alloc())?.iter_mut() {
+        assert!(rt; 2 < board.cols());
+        assert_eq!(rt; column_sum(board, 0), 5);
+        assert_eq!(rt; column_sum(board, 2), 9);
+        board.fill(u32::MAX)?;
+        assert!(rt; 2 < board.cols());
+        assert_eq!(rt; column_sum(board, 2), u32::MAX);
     }
+    Ok(())
+}
 
-    #[test]
-    fn bounds_rows(rt: HostRuntime) -> Result<(), Fail> {
-        for board in &boards(&rt, rt.alloc())? {
-            assert!(rt; 1 < board.rows());
-            assert!(rt; row_is_within(board, 0, 3));
-            assert!(rt; !row_is_within(board, 1, 5));
-            assert_eq!(rt; row_max(board, 0), Some(3));
-            assert_eq!(rt; row_max(board, 1), Some(6));
-        }
-        Ok(())
+#[test]
+fn finds_in_columns(rt: HostRuntime) -> Result<(), Fail> {
+    for board in &boards(&rt, rt.alloc())? {
+        assert!(rt; 2 < board.cols());
+        assert!(rt; column_has(board, 2, 6));
+        assert!(rt; !column_has(board, 2, 5));
     }
+    Ok(())
+}
 
-    #[test]
-    fn lists_rows_and_columns(rt: HostRuntime) -> Result<(), Fail> {
-        let alloc = rt.alloc();
-        for board in &boards(&rt, alloc)? {
-            assert!(rt; 1 < board.rows() && 2 < board.cols());
-            let halves = halves_of_row(alloc, board, 1)?;
-            assert_eq!(rt; halves.as_slice(), [2, 2, 3].as_slice());
-            let cells = column(alloc, board, 1)?;
-            assert_eq!(rt; cells.as_slice(), [2, 5].as_slice());
-            let above = column_above(alloc, board, 2, 3)?;
-            assert_eq!(rt; above.as_slice(), [6].as_slice());
-            assert!(rt; column_above(alloc, board, 0, 4)?.is_empty());
-        }
-        Ok(())
+#[test]
+fn bounds_rows(rt: HostRuntime) -> Result<(), Fail> {
+    for board in &boards(&rt, rt.alloc())? {
+        assert!(rt; 1 < board.rows());
+        assert!(rt; row_is_within(board, 0, 3));
+        assert!(rt; !row_is_within(board, 1, 5));
+        assert_eq!(rt; row_max(board, 0), Some(3));
+        assert_eq!(rt; row_max(board, 1), Some(6));
     }
+    Ok(())
+}
 
-    #[test]
-    fn walks_back(rt: HostRuntime) -> Result<(), Fail> {
-        let alloc = rt.alloc();
-        for (board, want) in boards(&rt, alloc)?
-            .iter()
-            .zip([[3u32, 2, 2, 1, 1, 0], [3, 1, 2, 1, 2, 0]])
-        {
-            assert_eq!(rt; halves_reversed(alloc, board)?.as_slice(), want.as_slice());
-        }
-        Ok(())
+#[test]
+fn lists_rows_and_columns(rt: HostRuntime) -> Result<(), Fail> {
+    let alloc = rt.alloc();
+    for board in &boards(&rt, alloc)? {
+        assert!(rt; 1 < board.rows() && 2 < board.cols());
+        let halves = halves_of_row(alloc, board, 1)?;
+        assert_eq!(rt; halves.as_slice(), [2, 2, 3].as_slice());
+        let cells = column(alloc, board, 1)?;
+        assert_eq!(rt; cells.as_slice(), [2, 5].as_slice());
+        let above = column_above(alloc, board, 2, 3)?;
+        assert_eq!(rt; above.as_slice(), [6].as_slice());
+        assert!(rt; column_above(alloc, board, 0, 4)?.is_empty());
     }
+    Ok(())
+}
 
-    #[test]
-    fn walks_lines_both_ways(rt: HostRuntime) -> Result<(), Fail> {
-        let alloc = rt.alloc();
-        for board in &boards(&rt, alloc)? {
-            assert!(rt; 1 < board.rows() && 2 < board.cols());
-            let back = column_reversed(alloc, board, 1)?;
-            assert_eq!(rt; back.as_slice(), [5, 2].as_slice());
-            assert_eq!(rt; last_in_row(board, 0), Some(3));
-            assert_eq!(rt; cell_of_column(board, 2, 1), Some(6));
-            assert_eq!(rt; cell_of_column(board, 2, 2), None);
-            let counts = count_in_columns(alloc, board, 5)?;
-            assert_eq!(rt; counts.as_slice(), [0, 1, 0].as_slice());
-            assert_eq!(rt; count_rows(board), 2);
-            assert!(rt; rows_have(board, 3));
-        }
-        Ok(())
+#[test]
+fn walks_back(rt: HostRuntime) -> Result<(), Fail> {
+    let alloc = rt.alloc();
+    for (board, want) in boards(&rt, alloc)?
+        .iter()
+        .zip([[3u32, 2, 2, 1, 1, 0], [3, 1, 2, 1, 2, 0]])
+    {
+        assert_eq!(rt; halves_reversed(alloc, board)?.as_slice(), want.as_slice());
     }
+    Ok(())
+}
 
-    #[test]
-    fn maps_small_cells(rt: HostRuntime) -> Result<(), Fail> {
-        let alloc = rt.alloc();
-        for (board, want) in boards(&rt, alloc)?
-            .into_iter()
-            .zip([[9u32, 8, 7, 6, 5, 4], [9, 6, 8, 5, 7, 4]])
-        {
-            assert!(rt; board.iter().all(|y| *y <= 10));
-            assert_eq!(rt; lacking_in(&board)?.flatten(), want.as_slice());
-            assert_eq!(rt; lacking(board)?.flatten(), want.as_slice());
-        }
-        Ok(())
+#[test]
+fn walks_lines_both_ways(rt: HostRuntime) -> Result<(), Fail> {
+    let alloc = rt.alloc();
+    for board in &boards(&rt, alloc)? {
+        assert!(rt; 1 < board.rows() && 2 < board.cols());
+        let back = column_reversed(alloc, board, 1)?;
+        assert_eq!(rt; back.as_slice(), [5, 2].as_slice());
+        assert_eq!(rt; last_in_row(board, 0), Some(3));
+        assert_eq!(rt; cell_of_column(board, 2, 1), Some(6));
+        assert_eq!(rt; cell_of_column(board, 2, 2), None);
+        let counts = count_in_columns(alloc, board, 5)?;
+        assert_eq!(rt; counts.as_slice(), [0, 1, 0].as_slice());
+        assert_eq!(rt; count_rows(board), 2);
+        assert!(rt; rows_have(board, 3));
     }
+    Ok(())
+}
+
+#[test]
+fn maps_small_cells(rt: HostRuntime) -> Result<(), Fail> {
+    let alloc = rt.alloc();
+    for (board, want) in boards(&rt, alloc)?
+        .into_iter()
+        .zip([[9u32, 8, 7, 6, 5, 4], [9, 6, 8, 5, 7, 4]])
+    {
+        assert!(rt; board.iter().all(|y| *y <= 10));
+        assert_eq!(rt; lacking_in(&board)?.flatten(), want.as_slice());
+        assert_eq!(rt; lacking(board)?.flatten(), want.as_slice());
+    }
+    Ok(())
 }

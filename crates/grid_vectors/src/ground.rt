@@ -1,7 +1,7 @@
 //! What a grid stands on: its vector with counted swaps, and the laws of joined symmetries.
-use crate::fixtures::SYMMETRIES;
 use grid_base::laws::{identity_is_neutral, inverse_undoes, then_is_associative};
 use grid_base::{Flat, Move, Symmetry, Tally};
+use grid_reference::fixtures::SYMMETRIES;
 use std::test::Fail;
 
 #[test]

@@ -2,7 +2,7 @@
 use Rattle.std.specs.Prelude.{ℕ, List, codes}
 use Rattle.gridscript.specs.declared.ending.Ending.{Ending}
 use Rattle.gridscript.specs.declared.ending.Ending.TheVariants.{Usage, Script, Transfer}
-use Rattle.gridscript.specs.ScriptFault.{fault_status, fault_text}
+use Rattle.grid_play.specs.ScriptFault.{fault_status, fault_text}
 
 -- the exit status: 2 for other arguments, that of the fault, and 4 where reading or writing failed
 abbrev pub ending_status : Ending → ℕ

@@ -1,3 +1,1 @@
-pub mod ScriptFault
 pub mod Ending
-pub mod Lines

@@ -4,9 +4,9 @@ ghost use Rattle.std.specs.IoError.{error_kind};
 ghost use Rattle.std.specs.declared.io.ErrorKind.TheVariants.{OutOfMemory};
 ghost use Rattle.gridscript.specs.Ending.{ending_status, ending_text};
 ghost use Rattle.gridscript.specs.declared.ending.Ending.TheVariants.{Script, Transfer};
-ghost use Rattle.gridscript.specs.declared.fault.ScriptFault.TheVariants.{Memory};
+ghost use Rattle.grid_play.specs.declared.fault.ScriptFault.TheVariants.{Memory};
 
-use crate::fault::ScriptFault;
+use grid_play::ScriptFault;
 use std::alloc::AllocError;
 use std::{fmt, io};
 

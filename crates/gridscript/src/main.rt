@@ -1,21 +1,18 @@
 //! Runs a script on a grid: reads it from standard input, and writes one line for each reply, then the grid.
 #![tactic(auto)]
+
 ghost use Rattle.std.specs.Prelude.{◌≡◌, MatchResult};
 ghost use Rattle.std.specs.Process.{exit_status};
 ghost use Rattle.gridscript.specs.Ending.{ending_status};
 
 mod ending;
-mod fault;
 mod input;
-mod play;
-mod script;
 #[cfg(test)]
 mod tests;
-mod words;
 
 use ending::Ending;
+use grid_play::play;
 use input::{arguments, mode, read_all};
-use play::play;
 use std::process::ExitCode;
 use std::rt::Env;
 

@@ -1,7 +1,6 @@
 use crate::ending::Ending;
-use crate::fault::ScriptFault;
 use crate::input::{arguments, mode, read_all};
-use crate::play::play;
+use grid_play::{ScriptFault, play};
 use std::env::FillError;
 use std::io;
 use std::io::Read;

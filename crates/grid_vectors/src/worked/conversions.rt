@@ -1,7 +1,8 @@
 //! Conversions of vectors and of lists of rows.
-use crate::fixtures::{assert_stored, table_of};
+use crate::asserts::assert_stored;
 use grid::Order::RowMajor;
 use grid::{Grid, ShapeError};
+use grid_reference::fixtures::table_of;
 use std::convert::TryFrom;
 use std::test::Fail;
 

@@ -1,5 +1,5 @@
 //! Makers and the macros.
-use crate::fixtures::assert_stored;
+use crate::asserts::assert_stored;
 use grid::Order::{ColumnMajor, RowMajor};
 use grid::{Grid, GridError, grid, grid_cm};
 use std::test::Fail;

@@ -1,6 +1,7 @@
 //! Words of moves, the moves, and runs of them.
-use crate::fixtures::{ORDERS, assert_shows, grid_of, order_after, table_of};
+use crate::asserts::assert_shows;
 use grid::{Command, Grid, Move, Order, Reply, Symmetry, Tally, reduce, run};
+use grid_reference::fixtures::{ORDERS, grid_of, order_after, table_of};
 use std::process::Abort;
 use std::test::Fail;
 
@@ -53,7 +54,7 @@ fn turns_left(rt: HostRuntime) -> Result<(), Fail> {
     let table = table_of(alloc, &[&[1, 2], &[3, 4]])?;
     let image = table_of(alloc, &[&[2, 4], &[1, 3]])?;
     for order in ORDERS {
-        let mut grid = grid_of(&rt, alloc, &table, order)?;
+        let mut grid = grid_of(alloc, &table, order)?;
         grid.rotate_left();
         assert_shows(
             &rt,
@@ -72,7 +73,7 @@ fn turns_right(rt: HostRuntime) -> Result<(), Fail> {
     let table = table_of(alloc, &[&[1, 2], &[3, 4]])?;
     let image = table_of(alloc, &[&[3, 1], &[4, 2]])?;
     for order in ORDERS {
-        let mut grid = grid_of(&rt, alloc, &table, order)?;
+        let mut grid = grid_of(alloc, &table, order)?;
         grid.rotate_right();
         assert_shows(
             &rt,
@@ -91,7 +92,7 @@ fn turns_by_a_half(rt: HostRuntime) -> Result<(), Fail> {
     let table = table_of(alloc, &[&[1, 2, 3], &[4, 5, 6]])?;
     let image = table_of(alloc, &[&[6, 5, 4], &[3, 2, 1]])?;
     for order in ORDERS {
-        let mut grid = grid_of(&rt, alloc, &table, order)?;
+        let mut grid = grid_of(alloc, &table, order)?;
         grid.rotate_half();
         assert_shows(&rt, alloc, &grid, &image, order)?;
     }
@@ -118,7 +119,7 @@ fn four_quarter_turns(rt: HostRuntime) -> Result<(), Fail> {
     let alloc = rt.alloc();
     let table = table_of(alloc, &[&[1, 2, 3], &[4, 5, 6]])?;
     for order in ORDERS {
-        let mut grid = grid_of(&rt, alloc, &table, order)?;
+        let mut grid = grid_of(alloc, &table, order)?;
         let mut commands = Vec::new(alloc);
         for _ in 0..4 {
             commands.push(Command::Apply(Symmetry::RotateLeft))?;

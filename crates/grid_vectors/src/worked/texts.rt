@@ -1,9 +1,9 @@
 //! What values print, and how they compare.
-use crate::fixtures::line_from;
 use grid::{
     Command, GridError, LineRefused, LinesRefused, Move, Order, Reply, RunStopped, ShapeError,
     Symmetry,
 };
+use grid_reference::fixtures::line_from;
 use std::hash::{DefaultHasher, Hash, Hasher};
 use std::test::Fail;
 

@@ -1,7 +1,8 @@
 //! Walks.
-use crate::fixtures::{ORDERS, assert_stored, grid_of, stored, table_of};
+use crate::asserts::assert_stored;
 use grid::GridLineIter;
 use grid::Order::{ColumnMajor, RowMajor};
+use grid_reference::fixtures::{ORDERS, grid_of, stored, table_of};
 use std::alloc::{AllocError, Global};
 use std::process::Abort;
 use std::test::Fail;
@@ -12,7 +13,7 @@ fn assert_line(
     alloc: Global,
     line: Option<GridLineIter<'_, u32>>,
     want: &[u32],
-) -> Result<(), AllocError> {
+) -> Result<(), Fail> {
     let mut cells = Vec::new(alloc);
     for cell in line.expect(rt, "a line is left") {
         cells.push(*cell)?;
@@ -26,7 +27,7 @@ fn rows_from_both_ends(rt: HostRuntime) -> Result<(), Fail> {
     let alloc = rt.alloc();
     let table = table_of(alloc, &[&[1, 2], &[3, 4], &[5, 6]])?;
     for order in ORDERS {
-        let grid = grid_of(&rt, alloc, &table, order)?;
+        let grid = grid_of(alloc, &table, order)?;
         let mut rows = grid.iter_rows();
         assert_line(&rt, alloc, rows.next(), &[1, 2])?;
         assert_line(&rt, alloc, rows.next_back(), &[5, 6])?;
@@ -43,7 +44,7 @@ fn cols_from_both_ends(rt: HostRuntime) -> Result<(), Fail> {
     let alloc = rt.alloc();
     let table = table_of(alloc, &[&[1, 2, 3], &[4, 5, 6]])?;
     for order in ORDERS {
-        let grid = grid_of(&rt, alloc, &table, order)?;
+        let grid = grid_of(alloc, &table, order)?;
         let mut cols = grid.iter_cols();
         assert_line(&rt, alloc, cols.next_back(), &[3, 6])?;
         assert_line(&rt, alloc, cols.next(), &[1, 4])?;
@@ -57,7 +58,7 @@ fn cols_from_both_ends(rt: HostRuntime) -> Result<(), Fail> {
 
 #[test]
 fn indexed_column_major(rt: HostRuntime) -> Result<(), Fail> {
-    let grid = stored(&rt, rt.alloc(), &[1, 3, 2, 4], 2, ColumnMajor)?;
+    let grid = stored(rt.alloc(), &[1, 3, 2, 4], 2, ColumnMajor)?;
     let mut walk = grid.indexed_iter();
     for (at, want) in [((0, 0), 1u32), ((1, 0), 3), ((0, 1), 2), ((1, 1), 4)] {
         let (place, cell) = walk.next().expect(&rt, "a cell is left");
@@ -75,7 +76,7 @@ fn writes_a_row(rt: HostRuntime) -> Result<(), Fail> {
         (RowMajor, [1, 2, 3, 0, 1, 2, 7, 8, 9]),
         (ColumnMajor, [1, 0, 7, 2, 1, 8, 3, 2, 9]),
     ] {
-        let mut grid = grid_of(&rt, alloc, &table, order)?;
+        let mut grid = grid_of(alloc, &table, order)?;
         assert!(rt; 1 < grid.rows());
         let mut next = 0u32;
         for cell in grid.iter_row_mut(1) {
@@ -95,7 +96,7 @@ fn writes_a_column(rt: HostRuntime) -> Result<(), Fail> {
         (RowMajor, [1, 2, 0, 4, 5, 1, 7, 8, 2]),
         (ColumnMajor, [1, 4, 7, 2, 5, 8, 0, 1, 2]),
     ] {
-        let mut grid = grid_of(&rt, alloc, &table, order)?;
+        let mut grid = grid_of(alloc, &table, order)?;
         assert!(rt; 2 < grid.cols());
         let mut next = 0u32;
         for cell in grid.iter_col_mut(2) {

@@ -1,7 +1,8 @@
 //! Calls on all cells, by closures that have a state.
-use crate::fixtures::{Fragile, ORDERS, assert_shows, assert_stored, grid_of, table_of};
+use crate::asserts::{assert_shows, assert_stored};
 use grid::Grid;
 use grid::Order::{ColumnMajor, RowMajor};
+use grid_reference::fixtures::{Fragile, ORDERS, grid_of, table_of};
 use std::cell::Cell;
 use std::test::Fail;
 
@@ -15,7 +16,7 @@ fn map_with_state(rt: HostRuntime) -> Result<(), Fail> {
             ColumnMajor => table_of(alloc, &[&[11, 32], &[23, 44]])?,
         };
         let mut step = 0u32;
-        let mapped = grid_of(&rt, alloc, &table, order)?.map(|cell| {
+        let mapped = grid_of(alloc, &table, order)?.map(|cell| {
             step = step.wrapping_add(10);
             cell.wrapping_add(step)
         });
@@ -36,7 +37,7 @@ fn map_ref_with_a_table(rt: HostRuntime) -> Result<(), Fail> {
         (RowMajor, ["one", "two", "three", "four"]),
         (ColumnMajor, ["one", "three", "two", "four"]),
     ] {
-        let grid = grid_of(&rt, alloc, &table, order)?;
+        let grid = grid_of(alloc, &table, order)?;
         let named = grid.map_ref(|cell| match names.get(*cell as usize) {
             Some(name) => *name,
             None => "many",

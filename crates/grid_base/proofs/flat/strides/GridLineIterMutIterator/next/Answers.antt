@@ -9,9 +9,10 @@ passes n k xs ys x p e h =
 
 pub returns-clause-steps : goal.returns-clause-steps
 returns-clause-steps g c =
-    let first : c.args.self.now.rest.now ≡ c.in_ok-cell.cell.now ∷ c.in_ok-cell.others.now = cc (c.in_ok-cell.ensures.cases.0, c.take-rest.ensures.value) in
-    (line_step (c.args.self.now.stride - 1) c.min-gap.result c.args.self.now.rest.now c.in_ok-cell.others.now c.in_ok-cell.cell.now first c.min-gap.ensures,
-    passes c.args.self.now.stride c.min-gap.result c.args.self.now.rest.now c.in_ok-cell.others.now c.in_ok-cell.cell.now c.args.self.now.steps first c.min-gap.ensures)
+    let first : c.args.self.now.rest.now ≡ c.in_ok-cell.cell.now ∷ c.in_ok-cell.others.now = cc (c.in_ok-cell.ensures.cases.0, c.take-rest.ensures.value) in (
+      line_step (c.args.self.now.stride - 1) c.min-gap.result c.args.self.now.rest.now c.in_ok-cell.others.now c.in_ok-cell.cell.now first c.min-gap.ensures,
+      passes c.args.self.now.stride c.min-gap.result c.args.self.now.rest.now c.in_ok-cell.others.now c.in_ok-cell.cell.now c.args.self.now.steps first c.min-gap.ensures,
+    )
 
 pub returns-clause-goes : goal.returns-clause-goes
 returns-clause-goes g c =

@@ -1,0 +1,10 @@
+//! Plays a script on a grid: reads the grid and the commands, runs them, and writes a line for each reply.
+#![tactic(auto)]
+
+mod fault;
+mod run;
+mod script;
+mod tokens;
+
+pub use fault::ScriptFault;
+pub use run::play;

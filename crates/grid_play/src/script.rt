@@ -1,0 +1,129 @@
+//! Scripts: a grid on the first line, then at most one command on a line.
+ghost use Rattle.std.specs.Prelude.{◌≡◌, ◌↔◌, codes};
+
+use crate::fault::ScriptFault;
+use crate::tokens::{Lines, Words, cell, index};
+use grid::{Command, Grid, Order, Symmetry};
+use std::alloc::{AllocError, Allocator, Global};
+
+/// A script that was read.
+#[derive(Drop)]
+pub struct Script<A: Allocator = Global> {
+    /// The grid of its first line.
+    pub grid: Grid<i64, A>,
+    /// The commands of its later lines.
+    pub commands: Vec<Command, A>,
+}
+
+impl<A: Allocator + Clone> Script<A> {
+    /// Reads a script. The first line that is at fault is the one that an error names.
+    pub fn parse(alloc: A, input: &[u8]) -> Result<Script<A>, ScriptFault> {
+        let mut lines = Lines::of(input);
+        let (_, first) = lines.next().ok_or(ScriptFault::BadGrid)?;
+        let grid = parse_grid(alloc.clone()?, first)?.ok_or(ScriptFault::BadGrid)?;
+        let commands = parse_commands(alloc, lines)?;
+        Ok(Script { grid, commands })
+    }
+}
+
+// The order, the number of columns, and the cells in storage order.
+fn parse_grid<A: Allocator>(alloc: A, line: &[u8]) -> Result<Option<Grid<i64, A>>, AllocError> {
+    let Some(mut words) = Words::of(line) else {
+        return Ok(None);
+    };
+    let Some(order) = words.next().and_then(order) else {
+        return Ok(None);
+    };
+    let Some(cols) = words.next().and_then(index) else {
+        return Ok(None);
+    };
+    let Some(cells) = parse_cells(alloc, words)? else {
+        return Ok(None);
+    };
+    if cells.is_empty() || (cols != 0 && cells.len() % cols == 0) {
+        Ok(Some(Grid::from_vec_with_order(cells, cols, order)))
+    } else {
+        Ok(None)
+    }
+}
+
+fn order(word: &str) -> Option<Order>
+    ensures row_major { (result ≡ Some Order.RowMajor) ↔ (word.now ≡ codes "RowMajor") }
+    ensures column_major { (result ≡ Some Order.ColumnMajor) ↔ (word.now ≡ codes "ColumnMajor") }
+{
+    match word {
+        "RowMajor" => Some(Order::RowMajor),
+        "ColumnMajor" => Some(Order::ColumnMajor),
+        _ => None,
+    }
+}
+
+// The cells that the words write, or `None` where one writes no cell.
+fn parse_cells<A: Allocator>(
+    alloc: A,
+    words: Words<'_>,
+) -> Result<Option<Vec<i64, A>>, AllocError> {
+    let mut cells = Vec::new(alloc);
+    for word in words {
+        match cell(word) {
+            Some(cell) => cells.push(cell)?,
+            None => return Ok(None),
+        }
+    }
+    Ok(Some(cells))
+}
+
+fn parse_commands<A: Allocator>(
+    alloc: A,
+    lines: Lines<'_>,
+) -> Result<Vec<Command, A>, ScriptFault> {
+    let mut commands = Vec::new(alloc);
+    for (number, line) in lines {
+        let mut words = Words::of(line).ok_or(ScriptFault::BadCommand(number))?;
+        if let Some(name) = words.next() {
+            let command = parse_command(name, words).ok_or(ScriptFault::BadCommand(number))?;
+            commands.push(command)?;
+        }
+    }
+    Ok(commands)
+}
+
+// The command of a name and all words after it.
+fn parse_command(name: &str, mut words: Words<'_>) -> Option<Command> {
+    let command = match name {
+        "size" => Command::Size,
+        "get" => {
+            let row = index(words.next()?)?;
+            let col = index(words.next()?)?;
+            Command::Get(row, col)
+        }
+        _ => Command::Apply(symmetry(name)?),
+    };
+    match words.next() {
+        None => Some(command),
+        Some(_) => None,
+    }
+}
+
+fn symmetry(name: &str) -> Option<Symmetry>
+    ensures identity { (result ≡ Some Symmetry.Identity) ↔ (name.now ≡ codes "identity") }
+    ensures flip_cols { (result ≡ Some Symmetry.FlipCols) ↔ (name.now ≡ codes "flip_cols") }
+    ensures flip_rows { (result ≡ Some Symmetry.FlipRows) ↔ (name.now ≡ codes "flip_rows") }
+    ensures rotate_half { (result ≡ Some Symmetry.RotateHalf) ↔ (name.now ≡ codes "rotate_half") }
+    ensures transpose { (result ≡ Some Symmetry.Transpose) ↔ (name.now ≡ codes "transpose") }
+    ensures rotate_left { (result ≡ Some Symmetry.RotateLeft) ↔ (name.now ≡ codes "rotate_left") }
+    ensures rotate_right { (result ≡ Some Symmetry.RotateRight) ↔ (name.now ≡ codes "rotate_right") }
+    ensures anti_transpose { (result ≡ Some Symmetry.AntiTranspose) ↔ (name.now ≡ codes "anti_transpose") }
+{
+    match name {
+        "identity" => Some(Symmetry::Identity),
+        "flip_cols" => Some(Symmetry::FlipCols),
+        "flip_rows" => Some(Symmetry::FlipRows),
+        "rotate_half" => Some(Symmetry::RotateHalf),
+        "transpose" => Some(Symmetry::Transpose),
+        "rotate_left" => Some(Symmetry::RotateLeft),
+        "rotate_right" => Some(Symmetry::RotateRight),
+        "anti_transpose" => Some(Symmetry::AntiTranspose),
+        _ => None,
+    }
+}

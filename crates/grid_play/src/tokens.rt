@@ -1,0 +1,132 @@
+//! The lines of a script, their words, and the numbers among these.
+ghost use Rattle.std.specs.Prelude.{◌≡◌, ◌≢◌, ◌+◌, ◌^◌, ◌<◌, ◌↔◌, [], length, MatchOption, ◌==◌, position, slice_index, IsSome, IfSome, FitsSigned};
+ghost use Rattle.grid_play.specs.Lines.{first_line, later_lines, without_return};
+ghost use Rattle.std.specs.Iterator.{at_most};
+ghost use Rattle.std.specs.List.{before_first};
+ghost use Rattle.std.specs.Int.{w64};
+ghost use Rattle.std.specs.Str.Parse.{IsNumeral, digits_value, signed_digits_value, without_leading_sign};
+
+/// The lines of a script and their numbers, counted from 1.
+///
+/// A line ends at a line feed or at the end of the script. A line comes without its end and without one carriage
+/// return just before that.
+#[derive(Drop)]
+pub struct Lines<'a> {
+    rest: &'a [u8],
+    count: usize,
+    ghost countable: { count + length rest.now < 2 ^ 64 },
+}
+
+impl<'a> Lines<'a> {
+    /// The lines of a script.
+    pub fn of(script: &'a [u8]) -> Lines<'a>
+        ensures rest { result.rest.now ≡ script.now }
+        ensures count { result.count ≡ 0 }
+    {
+        Lines {
+            rest: script,
+            count: 0,
+        }
+    }
+}
+
+impl<'a> Iterator for Lines<'a> {
+    type Item = (usize, &'a [u8]);
+
+    ghost next_gives = { λ old item new. MatchOption item (old.rest.now ≡ [])
+        (λ line. (line.0 ≡ old.count + 1) × (line.1.now ≡ first_line old.rest.now) × (new.rest.now ≡ later_lines old.rest.now)) };
+
+    ghost remaining = { λ lines. at_most (length lines.rest.now) };
+
+    fn next(&mut self) -> Option<(usize, &'a [u8])> {
+        if self.rest.is_empty() {
+            return None;
+        }
+        let (line, rest) = cut_line(self.rest);
+        self.rest = rest;
+        self.count += 1;
+        Some((self.count, without_return(line)))
+    }
+}
+
+// The bytes before the first line feed, and those after it.
+fn cut_line(script: &[u8]) -> (&[u8], &[u8])
+    ensures line { result.0.now ≡ before_first (λ byte. byte == 10) script.now }
+    ensures rest { result.1.now ≡ later_lines script.now }
+{
+    match line_feed(script) {
+        Some(end) => (&script[..end], &script[end + 1..]),
+        None => (script, &[]),
+    }
+}
+
+// Where the first line feed stands.
+fn line_feed(script: &[u8]) -> Option<usize>
+    ensures { result ≡ position (λ byte. byte == 10) script.now }
+{
+    script.iter().position(|byte| *byte == b'\n')
+}
+
+fn without_return(line: &[u8]) -> &[u8]
+    ensures { result.now ≡ without_return line.now }
+{
+    line.strip_suffix(b"\r").unwrap_or(line)
+}
+
+/// The words of a line, which are separated by spaces and tabs.
+#[derive(Drop)]
+pub struct Words<'a>(&'a str);
+
+impl<'a> Words<'a> {
+    /// The words of a line, or `None` where it is not UTF-8.
+    pub fn of(line: &'a [u8]) -> Option<Words<'a>> {
+        let text = str::from_utf8(line).ok()?;
+        Some(Words(text))
+    }
+}
+
+impl<'a> Iterator for Words<'a> {
+    type Item = &'a str;
+
+    ghost remaining = { λ words. at_most (length words.0.now) };
+
+    fn next(&mut self) -> Option<&'a str> {
+        let text = self.0.trim_start_matches([' ', '\t']);
+        if text.is_empty() {
+            self.0 = text;
+            return None;
+        }
+        match text.split_once([' ', '\t']) {
+            Some((word, rest)) => {
+                self.0 = rest;
+                Some(word)
+            }
+            None => {
+                self.0 = "";
+                Some(text)
+            }
+        }
+    }
+}
+
+/// The index or count that a word writes: decimal digits alone, in the range of a `usize`.
+pub fn index(word: &str) -> Option<usize>
+    ensures numeral { IsSome result ↔ (IsNumeral 10 word.now × (digits_value 10 word.now < 2 ^ 64)) }
+    ensures value { IfSome result (λ number. number ≡ digits_value 10 word.now) }
+{
+    if word.starts_with('+') {
+        return None;
+    }
+    word.parse::<usize>().ok()
+}
+
+/// The cell that a word writes: decimal digits, perhaps after a minus, in the range of an `i64`.
+pub fn cell(word: &str) -> Option<i64>
+    ensures numeral { IsSome result ↔ ((slice_index word.now 0 ≢ 43) × IsNumeral 10 (without_leading_sign word.now) × FitsSigned w64 (signed_digits_value 10 word.now)) }
+    ensures value { IfSome result (λ number. number ≡ signed_digits_value 10 word.now) }
+{
+    if word.starts_with('+') {
+        return None;
+    }
+    word.parse::<i64>().ok()
+}

@@ -1,0 +1,3 @@
+mod Growing
+pub mod Spends
+pub mod Sums

@@ -1,0 +1,102 @@
+//! Calls that put lines. Each tests what the call asks of its caller, and hands a line that does not fit back as too
+//! large.
+ghost use Rattle.std.specs.Prelude.{◌≡◌, IsTrue, All, IfSome, length};
+ghost use Rattle.grid_base.specs.Table.{cols_of, IsTable};
+ghost use Rattle.grid_base.specs.Gather.{cells_of};
+
+use crate::edits::Place;
+use grid::{Grid, GridError, LineRefused, LinesRefused};
+use std::alloc::Allocator;
+
+fn misfit<T, A: Allocator>(line: Vec<T, A>) -> LineRefused<T, A> {
+    LineRefused {
+        line,
+        fault: GridError::TooLarge,
+    }
+}
+
+// Inserts a line at a place.
+pub fn insert<T: Drop, A: Allocator>(
+    grid: &mut Grid<T, A>,
+    place: Place,
+    line: Vec<T, A>,
+) -> Result<(), LineRefused<T, A>> {
+    let (rows, cols) = grid.size();
+    let len = line.len();
+    match place {
+        Place::Row(at) if len != 0 && at <= rows && (rows == 0 || len == cols) => {
+            grid.insert_row(at, line)
+        }
+        Place::Col(at) if len != 0 && at <= cols && (rows == 0 || len == rows) => {
+            grid.insert_col(at, line)
+        }
+        _ => Err(misfit(line)),
+    }
+}
+
+// Pushes a row.
+pub fn push_row<T: Drop, A: Allocator>(
+    grid: &mut Grid<T, A>,
+    line: Vec<T, A>,
+) -> Result<(), LineRefused<T, A>> {
+    let (rows, cols) = grid.size();
+    if line.is_empty() || rows != 0 && line.len() != cols {
+        return Err(misfit(line));
+    }
+    grid.push_row(line)
+}
+
+// Pushes a column.
+pub fn push_col<T: Drop, A: Allocator>(
+    grid: &mut Grid<T, A>,
+    line: Vec<T, A>,
+) -> Result<(), LineRefused<T, A>> {
+    let (rows, _) = grid.size();
+    if line.is_empty() || rows != 0 && line.len() != rows {
+        return Err(misfit(line));
+    }
+    grid.push_col(line)
+}
+
+fn all_of_length<T, A: Allocator>(lines: &[Vec<T, A>], width: usize) -> bool
+    ensures { IsTrue result → All (λ line. length line.items ≡ width) lines.now }
+{
+    lines.iter().all(|line| line.len() == width)
+}
+
+// The length of the lines of a table, 0 if it has none; nothing if some line is empty or they differ in length.
+fn width_of<T, A: Allocator>(lines: &[Vec<T, A>]) -> Option<usize>
+    ensures { IfSome result (λ width. IsTable (cells_of lines.now) × (cols_of (cells_of lines.now) ≡ width)) }
+{
+    let width = match lines.first() {
+        Some(line) => line.len(),
+        None => return Some(0),
+    };
+    if width != 0 && all_of_length(lines, width) {
+        Some(width)
+    } else {
+        None
+    }
+}
+
+// Inserts several lines from a place on.
+pub fn insert_several<T: Drop, A: Allocator>(
+    grid: &mut Grid<T, A>,
+    place: Place,
+    lines: Vec<Vec<T, A>, A>,
+) -> Result<(), LinesRefused<T, A>> {
+    let (rows, cols) = grid.size();
+    let any_fits = rows == 0 || lines.is_empty();
+    match (width_of(lines.as_slice()), place) {
+        (Some(width), Place::Row(at)) if at <= rows && (any_fits || width == cols) => {
+            grid.insert_rows(at, lines)
+        }
+        (Some(width), Place::Col(at)) if at <= cols && (any_fits || width == rows) => {
+            grid.insert_cols(at, lines)
+        }
+        _ => Err(LinesRefused {
+            lines,
+            fault: GridError::TooLarge,
+        }),
+    }
+}

@@ -1,0 +1,332 @@
+//! What the tests share: all small tables, whether a grid shows one, and cells and memory that are refused.
+ghost use Rattle.std.specs.Prelude.{◌≡◌};
+
+use crate::fuse::Fuse;
+use crate::plain;
+use grid::{Grid, Move, Order, ShapeError, Symmetry};
+use std::alloc::{AllocError, Allocator, Global};
+use std::cell::Cell;
+
+// Memory that a test can refuse.
+pub type Heap = Fuse<Global>;
+
+pub const SIZES: [(usize, usize); 10] = [
+    (0, 0),
+    (1, 1),
+    (1, 2),
+    (1, 3),
+    (2, 1),
+    (2, 2),
+    (2, 3),
+    (3, 1),
+    (3, 2),
+    (3, 3),
+];
+
+pub const ORDERS: [Order; 2] = [Order::RowMajor, Order::ColumnMajor];
+
+pub const SYMMETRIES: [Symmetry; 8] = [
+    Symmetry::Identity,
+    Symmetry::FlipCols,
+    Symmetry::FlipRows,
+    Symmetry::RotateHalf,
+    Symmetry::Transpose,
+    Symmetry::RotateLeft,
+    Symmetry::RotateRight,
+    Symmetry::AntiTranspose,
+];
+
+pub const MOVES: [Move; 6] = [
+    Move::Transpose,
+    Move::FlipCols,
+    Move::FlipRows,
+    Move::RotateLeft,
+    Move::RotateRight,
+    Move::RotateHalf,
+];
+
+// Rows and columns in range of a table, and some past its end.
+pub const PLACES: [usize; 6] = [0, 1, 2, 3, 4, usize::MAX];
+
+// A line of so many numbers, each one more than the one before it.
+fn next_line<A: Allocator>(
+    alloc: A,
+    next: &mut u32,
+    len: usize,
+) -> Result<Vec<u32, A>, AllocError> {
+    let mut line = Vec::with_capacity(alloc, len)?;
+    for _ in 0..len {
+        line.push(*next)?;
+        *next = next.wrapping_add(1);
+    }
+    Ok(line)
+}
+
+// A line of so many numbers, from the first on.
+pub fn line_from<A: Allocator>(
+    alloc: A,
+    first: u32,
+    len: usize,
+) -> Result<Vec<u32, A>, AllocError> {
+    let mut next = first;
+    next_line(alloc, &mut next, len)
+}
+
+// So many lines of so many numbers, which go on from line to line.
+pub fn lines_from<A: Allocator + Copy>(
+    alloc: A,
+    first: u32,
+    count: usize,
+    len: usize,
+) -> Result<Vec<Vec<u32, A>, A>, AllocError> {
+    let mut lines = Vec::with_capacity(alloc, count)?;
+    let mut next = first;
+    for _ in 0..count {
+        lines.push(next_line(alloc, &mut next, len)?)?;
+    }
+    Ok(lines)
+}
+
+// The table of this size with the cells 1, 2, 3, ..
+pub fn numbered(alloc: Global, rows: usize, cols: usize) -> Result<Vec<Vec<u32>>, AllocError> {
+    lines_from(alloc, 1, rows, cols)
+}
+
+// A table of rows that are written out.
+pub fn table_of(alloc: Global, rows: &[&[u32]]) -> Result<Vec<Vec<u32>>, AllocError> {
+    let mut table = Vec::new(alloc);
+    for row in rows {
+        table.push(Vec::from_slice(alloc, *row)?)?;
+    }
+    Ok(table)
+}
+
+// A grid of cells in storage order, in rows of `cols`.
+pub fn cut<T: Drop, A: Allocator>(
+    cells: Vec<T, A>,
+    cols: usize,
+    order: Order,
+) -> Result<Grid<T, A>, ShapeError> {
+    let len = cells.len();
+    if len == 0 || cols != 0 && len % cols == 0 {
+        Ok(Grid::from_vec_with_order(cells, cols, order))
+    } else {
+        Err(ShapeError::Shape { len, cols })
+    }
+}
+
+// A grid of written cells in storage order, in rows of `cols`.
+pub fn stored(
+    alloc: Global,
+    cells: &[u32],
+    cols: usize,
+    order: Order,
+) -> Result<Grid<u32>, ShapeError> {
+    cut(Vec::from_slice(alloc, cells)?, cols, order)
+}
+
+// The grid of a table, stored in an order.
+pub fn grid_of(
+    alloc: Global,
+    table: &Vec<Vec<u32>>,
+    order: Order,
+) -> Result<Grid<u32>, ShapeError> {
+    let (_, cols) = plain::size(table);
+    cut(plain::storage(alloc, order, table)?, cols, order)
+}
+
+// The grid of a table, whose heap refuses each request from before the grid is made.
+pub fn starved_grid_of<'a>(
+    alloc: Global,
+    heap: &'a Heap,
+    table: &Vec<Vec<u32>>,
+    order: Order,
+) -> Result<Grid<u32, &'a Heap>, ShapeError> {
+    let cells = plain::storage(alloc, order, table)?;
+    heap.grant(1);
+    let cells = Vec::from_slice(heap, cells.as_slice())?;
+    heap.grant(0);
+    let (_, cols) = plain::size(table);
+    cut(cells, cols, order)
+}
+
+// Whether a grid has the cells of a table, in range and past its ends.
+fn has_cells<A: Allocator>(grid: &Grid<u32, A>, table: &Vec<Vec<u32>>) -> bool {
+    for row in PLACES {
+        for col in PLACES {
+            if grid.get(row, col).copied() != plain::get(table, row, col) {
+                return false;
+            }
+        }
+    }
+    true
+}
+
+// Whether a grid shows this table, by its size and each cell, and has stored it in this order.
+pub fn shows<A: Allocator>(
+    alloc: Global,
+    grid: &Grid<u32, A>,
+    table: &Vec<Vec<u32>>,
+    order: Order,
+) -> Result<bool, AllocError> {
+    let (rows, cols) = plain::size(table);
+    let cells = plain::storage(alloc, order, table)?;
+    let same_size = grid.rows() == rows && grid.cols() == cols && grid.is_empty() == (rows == 0);
+    Ok(
+        same_size
+            && is_stored(grid, (rows, cols), order, cells.as_slice())
+            && has_cells(grid, table),
+    )
+}
+
+// Whether a grid has this size, and has stored these cells in this order.
+pub fn is_stored<T: PartialEq, A: Allocator>(
+    grid: &Grid<T, A>,
+    size: (usize, usize),
+    order: Order,
+    cells: &[T],
+) -> bool {
+    grid.size() == size && grid.order() == order && grid.flatten() == cells
+}
+
+// Where the cells of a table of this size stand, in storage order.
+pub fn places_of(
+    alloc: Global,
+    (rows, cols): (usize, usize),
+    order: Order,
+) -> Result<Vec<(usize, usize)>, AllocError> {
+    let mut places = Vec::new(alloc);
+    match order {
+        Order::RowMajor => {
+            for row in 0..rows {
+                for col in 0..cols {
+                    places.push((row, col))?;
+                }
+            }
+        }
+        Order::ColumnMajor => {
+            for col in 0..cols {
+                for row in 0..rows {
+                    places.push((row, col))?;
+                }
+            }
+        }
+    }
+    Ok(places)
+}
+
+// Writes a cell of a table, if it is there.
+pub fn put_cell(table: &mut Vec<Vec<u32>>, row: usize, col: usize, value: u32) {
+    if let Some(cells) = table.get_mut(row) {
+        if let Some(cell) = cells.get_mut(col) {
+            *cell = value;
+        }
+    }
+}
+
+// Does a move by the call of its name.
+pub fn call<A: Allocator>(grid: &mut Grid<u32, A>, step: Move) {
+    match step {
+        Move::Transpose => grid.transpose(),
+        Move::FlipCols => grid.flip_cols(),
+        Move::FlipRows => grid.flip_rows(),
+        Move::RotateLeft => grid.rotate_left(),
+        Move::RotateRight => grid.rotate_right(),
+        Move::RotateHalf => grid.rotate_half(),
+    }
+}
+
+// The order of a grid on which a symmetry has acted.
+pub fn order_after(symmetry: Symmetry, order: Order) -> Order {
+    let transposes = match symmetry {
+        Symmetry::Transpose
+        | Symmetry::RotateLeft
+        | Symmetry::RotateRight
+        | Symmetry::AntiTranspose => true,
+        Symmetry::Identity | Symmetry::FlipCols | Symmetry::FlipRows | Symmetry::RotateHalf => {
+            false
+        }
+    };
+    match (transposes, order) {
+        (false, same) => same,
+        (true, Order::RowMajor) => Order::ColumnMajor,
+        (true, Order::ColumnMajor) => Order::RowMajor,
+    }
+}
+
+fn letters_in(alloc: Global, stored: [&str; 6]) -> Result<Vec<String>, AllocError> {
+    let mut cells = Vec::new(alloc);
+    for letter in stored {
+        cells.push(String::from_str(alloc, letter)?)?;
+    }
+    Ok(cells)
+}
+
+// The grid of the rows a b c and d e f, stored in an order.
+pub fn letters(alloc: Global, order: Order) -> Result<Grid<String>, ShapeError> {
+    let stored = match order {
+        Order::RowMajor => ["a", "b", "c", "d", "e", "f"],
+        Order::ColumnMajor => ["a", "d", "b", "e", "c", "f"],
+    };
+    cut(letters_in(alloc, stored)?, 3, order)
+}
+
+// The texts of a grid's vector, joined.
+pub fn joined(alloc: Global, grid: &Grid<String>) -> Result<String, AllocError> {
+    let mut text = String::new(alloc);
+    for cell in grid.flatten() {
+        text.push_str(cell.as_str())?;
+    }
+    Ok(text)
+}
+
+// A cell whose clone is refused once none of the granted ones is left.
+#[derive(Default, Drop)]
+pub struct Fragile<'a> {
+    pub value: u32,
+    pub granted: Option<&'a Cell<u64>>,
+}
+
+impl Clone for Fragile<'_> {
+    ghost is_clone = { λ x y. y ≡ x };
+
+    fn clone(&self) -> Result<Self, AllocError> {
+        if let Some(granted) = self.granted {
+            match granted.get().checked_sub(1) {
+                Some(left) => granted.set(left),
+                None => return Err(AllocError),
+            }
+        }
+        Ok(Fragile {
+            value: self.value,
+            granted: self.granted,
+        })
+    }
+}
+
+fn fragile_from_one<'a, A: Allocator>(
+    alloc: A,
+    granted: &'a Cell<u64>,
+    len: u32,
+) -> Result<Vec<Fragile<'a>, A>, AllocError> {
+    let mut cells = Vec::new(alloc);
+    for value in 1..=len {
+        cells.push(Fragile {
+            value,
+            granted: Some(granted),
+        })?;
+    }
+    Ok(cells)
+}
+
+// [[1, 2], [3, 4]]
+pub fn fragile_cells<'a, A: Allocator>(
+    alloc: A,
+    granted: &'a Cell<u64>,
+) -> Result<Grid<Fragile<'a>, A>, ShapeError> {
+    cut(fragile_from_one(alloc, granted, 4)?, 2, Order::RowMajor)
+}
+
+pub fn value_at<A: Allocator>(grid: &Grid<Fragile, A>, row: usize, col: usize) -> Option<u32> {
+    grid.get(row, col).map(|cell| cell.value)
+}

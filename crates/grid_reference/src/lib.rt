@@ -1,0 +1,9 @@
+//! What the library is compared with: a plain program over tables, callers' chains over walks, and what the tests share.
+#![tactic(auto)]
+
+pub mod chains;
+pub mod edits;
+pub mod fitting;
+pub mod fixtures;
+pub mod fuse;
+pub mod plain;

@@ -1,0 +1,13 @@
+//! Memory and clones that are refused in turn, and walks that are dropped early.
+#![tactic(auto)]
+
+#[cfg(test)]
+mod asserts;
+#[cfg(test)]
+mod dropped;
+#[cfg(test)]
+mod fuse;
+#[cfg(test)]
+mod memory;
+#[cfg(test)]
+mod refused;

@@ -1,0 +1,160 @@
+//! How a grid is made and its cells are reached, over all small tables and both orders.
+use crate::asserts::assert_shows;
+use grid::Order;
+use grid_reference::fixtures::{ORDERS, PLACES, SIZES, grid_of, numbered, places_of, put_cell};
+use grid_reference::plain;
+use std::alloc::{AllocError, Global};
+use std::process::Abort;
+use std::test::Fail;
+
+fn check_shown(
+    rt: &impl Abort,
+    alloc: Global,
+    table: &Vec<Vec<u32>>,
+    order: Order,
+) -> Result<(), Fail> {
+    let grid = grid_of(alloc, table, order)?;
+    assert_shows(rt, alloc, &grid, table, order)?;
+    let (rows, cols) = grid.size();
+    for row in 0..rows {
+        for col in 0..cols {
+            let want = plain::get(table, row, col);
+            assert_eq!(rt; Some(*grid.get_unchecked(row, col)), want);
+            assert_eq!(rt; Some(grid[(row, col)]), want);
+        }
+    }
+    let cells = plain::storage(alloc, order, table)?;
+    assert_eq!(rt; grid.into_vec().as_slice(), cells.as_slice());
+    Ok(())
+}
+
+#[test]
+fn shows_each_table(rt: HostRuntime) -> Result<(), Fail> {
+    for (rows, cols) in SIZES {
+        let table = numbered(rt.alloc(), rows, cols)?;
+        for order in ORDERS {
+            check_shown(&rt, rt.alloc(), &table, order)?;
+        }
+    }
+    Ok(())
+}
+
+fn check_get_mut(
+    rt: &impl Abort,
+    alloc: Global,
+    (rows, cols): (usize, usize),
+    order: Order,
+    (row, col): (usize, usize),
+) -> Result<(), Fail> {
+    let mut table = numbered(alloc, rows, cols)?;
+    let mut grid = grid_of(alloc, &table, order)?;
+    let there = plain::get(&table, row, col).is_some();
+    match grid.get_mut(row, col) {
+        Some(cell) => {
+            assert!(rt; there);
+            *cell = 99;
+        }
+        None => assert!(rt; !there),
+    }
+    put_cell(&mut table, row, col, 99);
+    assert_shows(rt, alloc, &grid, &table, order)
+}
+
+#[test]
+fn writes_by_get_mut(rt: HostRuntime) -> Result<(), Fail> {
+    for size in SIZES {
+        for order in ORDERS {
+            for row in PLACES {
+                for col in PLACES {
+                    check_get_mut(&rt, rt.alloc(), size, order, (row, col))?;
+                }
+            }
+        }
+    }
+    Ok(())
+}
+
+// Writes a cell in range in both ways that need no `Option`, one after the other.
+fn check_writes(
+    rt: &impl Abort,
+    alloc: Global,
+    (rows, cols): (usize, usize),
+    order: Order,
+    (row, col): (usize, usize),
+) -> Result<(), Fail> {
+    let mut table = numbered(alloc, rows, cols)?;
+    let mut grid = grid_of(alloc, &table, order)?;
+    let (grid_rows, grid_cols) = grid.size();
+    assert!(rt; row < grid_rows && col < grid_cols);
+    *grid.get_unchecked_mut(row, col) = 98;
+    put_cell(&mut table, row, col, 98);
+    assert_shows(rt, alloc, &grid, &table, order)?;
+    let (grid_rows, grid_cols) = grid.size();
+    assert!(rt; row < grid_rows && col < grid_cols);
+    grid[(row, col)] = 99;
+    put_cell(&mut table, row, col, 99);
+    assert_shows(rt, alloc, &grid, &table, order)
+}
+
+#[test]
+fn writes_in_range(rt: HostRuntime) -> Result<(), Fail> {
+    for (rows, cols) in SIZES {
+        for order in ORDERS {
+            for row in 0..rows {
+                for col in 0..cols {
+                    check_writes(&rt, rt.alloc(), (rows, cols), order, (row, col))?;
+                }
+            }
+        }
+    }
+    Ok(())
+}
+
+fn check_swap(
+    rt: &impl Abort,
+    alloc: Global,
+    (rows, cols): (usize, usize),
+    order: Order,
+    a: (usize, usize),
+    b: (usize, usize),
+) -> Result<(), Fail> {
+    let mut table = numbered(alloc, rows, cols)?;
+    let mut grid = grid_of(alloc, &table, order)?;
+    let (grid_rows, grid_cols) = grid.size();
+    assert!(rt; a.0 < grid_rows && a.1 < grid_cols);
+    assert!(rt; b.0 < grid_rows && b.1 < grid_cols);
+    grid.swap(a, b);
+    let at_a = plain::get(&table, a.0, a.1).expect(rt, "a is in range");
+    let at_b = plain::get(&table, b.0, b.1).expect(rt, "b is in range");
+    put_cell(&mut table, a.0, a.1, at_b);
+    put_cell(&mut table, b.0, b.1, at_a);
+    assert_shows(rt, alloc, &grid, &table, order)
+}
+
+#[test]
+fn swaps_every_two_cells(rt: HostRuntime) -> Result<(), Fail> {
+    for (rows, cols) in SIZES {
+        let places = places_of(rt.alloc(), (rows, cols), Order::RowMajor)?;
+        for order in ORDERS {
+            for a in &places {
+                for b in &places {
+                    check_swap(&rt, rt.alloc(), (rows, cols), order, *a, *b)?;
+                }
+            }
+        }
+    }
+    Ok(())
+}
+
+#[test]
+fn clears(rt: HostRuntime) -> Result<(), Fail> {
+    for (rows, cols) in SIZES {
+        for order in ORDERS {
+            let table = numbered(rt.alloc(), rows, cols)?;
+            let mut grid = grid_of(rt.alloc(), &table, order)?;
+            grid.clear();
+            assert_shows(&rt, rt.alloc(), &grid, &Vec::new(rt.alloc()), order)?;
+        }
+    }
+    Ok(())
+}

@@ -1,0 +1,19 @@
+//! Every call over all small tables, in both orders, beside the plain program.
+#![tactic(auto)]
+
+#[cfg(test)]
+mod access;
+#[cfg(test)]
+mod asserts;
+#[cfg(test)]
+mod commands;
+#[cfg(test)]
+mod edits;
+#[cfg(test)]
+mod made;
+#[cfg(test)]
+mod symmetries;
+#[cfg(test)]
+mod walks;
+#[cfg(test)]
+mod wholes;

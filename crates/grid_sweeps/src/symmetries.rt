@@ -1,0 +1,150 @@
+//! The eight symmetries, the six calls, and words of them, over all small tables and both orders.
+use crate::asserts::assert_shows;
+use grid::laws::{flip_rows_then_cols, rebuilt, rotate_left_four_times, rotate_right_then_left};
+use grid::{Grid, Move, Order, Symmetry, reduce};
+use grid_reference::fixtures::{
+    MOVES, ORDERS, SIZES, SYMMETRIES, call, grid_of, numbered, order_after,
+};
+use grid_reference::plain;
+use std::alloc::{AllocError, Global};
+use std::process::Abort;
+use std::test::Fail;
+
+// The symmetry that a move does.
+fn symmetry_of(step: Move) -> Symmetry {
+    match step {
+        Move::Transpose => Symmetry::Transpose,
+        Move::FlipCols => Symmetry::FlipCols,
+        Move::FlipRows => Symmetry::FlipRows,
+        Move::RotateLeft => Symmetry::RotateLeft,
+        Move::RotateRight => Symmetry::RotateRight,
+        Move::RotateHalf => Symmetry::RotateHalf,
+    }
+}
+
+fn check_apply(
+    rt: &impl Abort,
+    alloc: Global,
+    table: &Vec<Vec<u32>>,
+    order: Order,
+    symmetry: Symmetry,
+) -> Result<(), Fail> {
+    let mut grid = grid_of(alloc, table, order)?;
+    grid.apply(symmetry);
+    let image = plain::act(alloc, symmetry, table)?;
+    assert_shows(rt, alloc, &grid, &image, order_after(symmetry, order))
+}
+
+#[test]
+fn applies_each_symmetry(rt: HostRuntime) -> Result<(), Fail> {
+    for (rows, cols) in SIZES {
+        let table = numbered(rt.alloc(), rows, cols)?;
+        for order in ORDERS {
+            for symmetry in SYMMETRIES {
+                check_apply(&rt, rt.alloc(), &table, order, symmetry)?;
+            }
+        }
+    }
+    Ok(())
+}
+
+// A word of moves does the same by its calls in turn, by its normal form, and in the plain program.
+fn check_word(
+    rt: &impl Abort,
+    alloc: Global,
+    table: &Vec<Vec<u32>>,
+    order: Order,
+    word: &[Move],
+) -> Result<(), Fail> {
+    let mut stepped = grid_of(alloc, table, order)?;
+    let mut image = plain::act(alloc, Symmetry::Identity, table)?;
+    let mut order_now = order;
+    for step in word {
+        call(&mut stepped, *step);
+        image = plain::act(alloc, symmetry_of(*step), &image)?;
+        order_now = order_after(symmetry_of(*step), order_now);
+    }
+    assert_shows(rt, alloc, &stepped, &image, order_now)?;
+    let mut applied = grid_of(alloc, table, order)?;
+    applied.apply(reduce(word));
+    assert_shows(rt, alloc, &applied, &image, order_now)
+}
+
+fn check_word_everywhere(rt: &impl Abort, alloc: Global, word: &[Move]) -> Result<(), Fail> {
+    for (rows, cols) in SIZES {
+        let table = numbered(alloc, rows, cols)?;
+        for order in ORDERS {
+            check_word(rt, alloc, &table, order, word)?;
+        }
+    }
+    Ok(())
+}
+
+#[test]
+fn does_words_of_up_to_two_moves(rt: HostRuntime) -> Result<(), Fail> {
+    check_word_everywhere(&rt, rt.alloc(), [].as_slice())?;
+    for first in MOVES {
+        check_word_everywhere(&rt, rt.alloc(), [first].as_slice())?;
+        for second in MOVES {
+            check_word_everywhere(&rt, rt.alloc(), [first, second].as_slice())?;
+        }
+    }
+    Ok(())
+}
+
+#[test]
+fn does_words_of_three_moves(rt: HostRuntime) -> Result<(), Fail> {
+    for first in MOVES {
+        for second in MOVES {
+            for third in MOVES {
+                check_word_everywhere(&rt, rt.alloc(), [first, second, third].as_slice())?;
+            }
+        }
+    }
+    Ok(())
+}
+
+#[test]
+fn joins_each_pair(rt: HostRuntime) -> Result<(), Fail> {
+    let alloc = rt.alloc();
+    let table = numbered(alloc, 2, 3)?;
+    for first in SYMMETRIES {
+        let image = plain::act(alloc, first, &table)?;
+        assert!(rt; plain::act(alloc, first.inverse(), &image)? == table);
+        for second in SYMMETRIES {
+            let one_by_one = plain::act(alloc, second, &image)?;
+            let at_once = plain::act(alloc, first.then(second), &table)?;
+            assert!(rt; one_by_one == at_once, "{first:?} and then {second:?}");
+        }
+    }
+    Ok(())
+}
+
+// The calls that leave a grid as it was, and two flips that turn it by a half.
+fn check_laws(
+    rt: &impl Abort,
+    alloc: Global,
+    table: &Vec<Vec<u32>>,
+    order: Order,
+) -> Result<(), Fail> {
+    let mut grid = rebuilt(grid_of(alloc, table, order)?);
+    assert_shows(rt, alloc, &grid, table, order)?;
+    rotate_right_then_left(&mut grid);
+    assert_shows(rt, alloc, &grid, table, order)?;
+    rotate_left_four_times(&mut grid);
+    assert_shows(rt, alloc, &grid, table, order)?;
+    flip_rows_then_cols(&mut grid);
+    let image = plain::act(alloc, Symmetry::RotateHalf, table)?;
+    assert_shows(rt, alloc, &grid, &image, order)
+}
+
+#[test]
+fn keeps_the_laws(rt: HostRuntime) -> Result<(), Fail> {
+    for (rows, cols) in SIZES {
+        let table = numbered(rt.alloc(), rows, cols)?;
+        for order in ORDERS {
+            check_laws(&rt, rt.alloc(), &table, order)?;
+        }
+    }
+    Ok(())
+}
