@@ -69,6 +69,14 @@ module _ (q i k : ℕ) (le : i ≤ q) where
 pub spread_start : (q i k y : ℕ) → i ≤ q → y < i → spread q i k y ≡ y
 spread_start q i k y le lt = sym (ap (spread q i k) (omega arith)) ∙ (spread-before q i k le 0 y (omega arith) lt ∙ omega arith)
 
+-- cells before and behind place i of each line, from where each cell stands
+pub widened_by_spread : {T : Type 0} (p q i k : ℕ) (short long : List T) → i ≤ q → ((y : ℕ) → y < p * q → slice_get long (spread q i k y) ≡ slice_get short y) → Widened p q i k short long
+widened_by_spread p q i k short long le at =
+    record {
+      before = λ l j a b c. ap (slice_get long) (sym (spread-before q i k le l j b c)) ∙ at (l * q + j) (place_below l q j p a b);
+      after = λ l j a b c. ap (slice_get long) (sym (spread-after q i k le l j b c)) ∙ at (l * q + j) (place_below l q j p a b);
+    }
+
 -- the cells from x on below n stand at their new places, the others from x on are some of those that stood behind
 pub record Opening {T : Type 0} (f : ℕ → ℕ) (n x : ℕ) (old now : List T) : Type 0 where
   pub length_stays : length now ≡ length old
@@ -136,10 +144,7 @@ opened_at p q i k old now lines wide le size h =
     λ (y : ℕ) (lt : y < p * q). ⊎_elim (λ low. ap (slice_get now) (spread_start q i k y le low) ∙ h.kept y low) (λ high. h.placed y high lt) (cases_lt y i) in
     record {
       lengths = h.length_stays;
-      lines = record {
-        before = λ l j a b c. ap (slice_get now) (sym (spread-before q i k le l j b c)) ∙ at (l * q + j) (place_below l q j p a b);
-        after = λ l j a b c. ap (slice_get now) (sym (spread-after q i k le l j b c)) ∙ at (l * q + j) (place_below l q j p a b);
-      };
+      lines = widened_by_spread p q i k old now le at;
       groups = λ l j a b.
           h.fresh (l * (q + k) + (i + j)) (omega arith) (omega (arith, place_below l (q + k) (i + j) p a (omega arith)))
           (λ y c d. spread_misses q i k le l j y wide b);
@@ -183,7 +188,4 @@ closing_run p q i k g x m z old now new le e lx em h mv ez =
 
 pub closing_end : {T : Type 0} (p q i k x : ℕ) (old now : List T) → i ≤ q → p * q ≤ x → Closing (spread q i k) (p * q) x old now → Widened p q i k now old
 closing_end p q i k x old now le end h =
-    record {
-      before = λ l j a b c. sym (h.placed (l * q + j) (omega (arith, place_below l q j p a b)) ∙ ap (slice_get old) (spread-before q i k le l j b c));
-      after = λ l j a b c. sym (h.placed (l * q + j) (omega (arith, place_below l q j p a b)) ∙ ap (slice_get old) (spread-after q i k le l j b c));
-    }
+    widened_by_spread p q i k now old le (λ y lt. sym (h.placed y (omega arith)))

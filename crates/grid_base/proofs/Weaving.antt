@@ -21,24 +21,8 @@ exchanged_back a m n old new h =
       behind = λ x le. sym (h.behind x (omega arith));
     }
 
--- one line
 at_equal : {T : Type 0} (xs ys : List T) (a b c d : ℕ) → a ≡ b → c ≡ d → slice_get xs b ≡ slice_get ys d → slice_get xs a ≡ slice_get ys c
 at_equal xs ys a b c d e f h = ap (slice_get xs) e ∙ (h ∙ sym (ap (slice_get ys) f))
-
-line_zero : (l n x : ℕ) → l < 1 → l * n + x ≡ x
-line_zero l n x h = let e : l ≡ 0 = omega arith in omega (arith, ap (λ y. y * n) e)
-
-pub woven_one : {T : Type 0} (q i k : ℕ) (short long : List T) → i ≤ q → BlocksExchanged i (q - i) k short long → Woven 1 q i k short long
-woven_one q i k short long le h =
-    record {
-      lengths = h.length_stays;
-      lines = record {
-        before = λ l j a b c. at_equal long short _ _ _ _ (line_zero l (q + k) j a) (line_zero l q j a) (h.before j c);
-        after = λ l j a b c. at_equal long short _ (i + (k + (j - i))) _ (i + (j - i)) (line_zero l (q + k) (k + j) a ∙ omega arith) (line_zero l q j a ∙ omega arith) (h.first (j - i) (omega arith));
-      };
-      groups = λ l j a b.
-          at_equal long short _ (i + j) _ (i + (q - i + j)) (line_zero l (q + k) (i + j) a) (let z = line_zero l k j a in omega arith) (h.second j b);
-    }
 
 module _ {T : Type 0} (h r q i k : ℕ) (short mid long fs fl bs bl : List T) (le : i ≤ q) (wide : length fs ≡ h * (q + k)) (cut : mid ≡ fs ++ bs) (joined : long ≡ fl ++ bl) (moved : BlocksExchanged (h * q) (r * q) (h * k) short mid) (front : Woven h q i k fs fl) (back : Woven r q i k bs bl) where
   long_front : (x : ℕ) → x < h * (q + k) → slice_get long x ≡ slice_get fl x
@@ -118,9 +102,6 @@ module _ {T : Type 0} (h r q i k : ℕ) (short mid long fs fl bs bl : List T) (l
 pub woven_by_halves : {T : Type 0} (p h r q i k : ℕ) (short mid long fs fl bs bl : List T) → h + r ≡ p → i ≤ q → length fs ≡ h * (q + k) → mid ≡ fs ++ bs → long ≡ fl ++ bl → BlocksExchanged (h * q) (r * q) (h * k) short mid → Woven h q i k fs fl → Woven r q i k bs bl → Woven p q i k short long
 woven_by_halves p h r q i k short mid long fs fl bs bl e le wide cut joined moved front back =
     rw (← e) (woven_halves h r q i k short mid long fs fl bs bl le wide cut joined moved front back)
-
-pub woven_single : {T : Type 0} (p q i k : ℕ) (short long : List T) → p ≡ 1 → i ≤ q → BlocksExchanged i (q - i) k short long → Woven p q i k short long
-woven_single p q i k short long e le h = rw e (woven_one q i k short long le h)
 
 -- the sizes of the halves
 pub whole_of_halves : (p q : ℕ) → p / 2 * q + (p - p / 2) * q ≡ p * q

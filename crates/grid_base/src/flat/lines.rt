@@ -92,18 +92,16 @@ fn exchange_blocks<T>(cells: &mut [T], start: usize, first: usize, second: usize
     cells[start..start + first + second].rotate_left(first);
 }
 
-// The groups of the first half of the lines come before the lines of the second half; then each half is woven.
+// The groups of the first half of the lines come before the lines of the second half; then each half is woven. Lines that
+// are long beside the groups are woven in turn, since then each round moves little more than a line.
 fn weave_cells<T>(cells: &mut [T], lines: usize, width: usize, at: usize, count: usize)
     requires cells { length cells.old ≡ lines * width + lines * count }
     requires fits { lines * width + lines * count < 2 ^ 64 }
     requires within { at ≤ width }
     ensures { Woven lines width at count cells.old cells.new }
 {
-    if lines == 0 {
-        return;
-    }
-    if lines == 1 {
-        exchange_blocks(cells, at, width - at, count);
+    if lines < 2 || lines * count <= width {
+        weave_in_turn(cells, lines, width, at, count);
         return;
     }
     let half = lines / 2;
@@ -114,18 +112,33 @@ fn weave_cells<T>(cells: &mut [T], lines: usize, width: usize, at: usize, count:
     weave_cells(back, rest, width, at, count);
 }
 
-// Each half is unwoven; then the lines of the second half come before the groups of the first.
+// The cells behind the place of each group, the last first, change places with that group and all before it.
+fn weave_in_turn<T>(cells: &mut [T], lines: usize, width: usize, at: usize, count: usize)
+    requires cells { length cells.old ≡ lines * width + lines * count }
+    requires fits { lines * width + lines * count < 2 ^ 64 }
+    requires within { at ≤ width }
+    ensures { Woven lines width at count cells.old cells.new }
+{
+    let mut end = lines * width;
+    let mut line = lines;
+    while 0 < line {
+        line -= 1;
+        let start = at + line * width;
+        exchange_blocks(cells, start, end - start, (line + 1) * count);
+        end = start;
+    }
+}
+
+// Each half is unwoven; then the lines of the second half come before the groups of the first. Lines that are long
+// beside the groups are unwoven in turn.
 fn unweave_cells<T>(cells: &mut [T], lines: usize, width: usize, at: usize, count: usize)
     requires cells { length cells.old ≡ lines * (width + count) }
     requires fits { lines * (width + count) < 2 ^ 64 }
     requires within { at ≤ width }
     ensures { Woven lines width at count cells.new cells.old }
 {
-    if lines == 0 {
-        return;
-    }
-    if lines == 1 {
-        exchange_blocks(cells, at, count, width - at);
+    if lines < 2 || lines * count <= width {
+        unweave_in_turn(cells, lines, width, at, count);
         return;
     }
     let half = lines / 2;
@@ -134,6 +147,21 @@ fn unweave_cells<T>(cells: &mut [T], lines: usize, width: usize, at: usize, coun
     unweave_cells(front, half, width, at, count);
     unweave_cells(back, rest, width, at, count);
     exchange_blocks(cells, half * width, half * count, rest * width);
+}
+
+// The run of cells behind each group, from the first on, changes places with that group and all before it.
+fn unweave_in_turn<T>(cells: &mut [T], lines: usize, width: usize, at: usize, count: usize)
+    requires cells { length cells.old ≡ lines * (width + count) }
+    requires fits { lines * (width + count) < 2 ^ 64 }
+    requires within { at ≤ width }
+    ensures { Woven lines width at count cells.new cells.old }
+{
+    let mut start = at;
+    for line in 0..lines {
+        let run = width.min(lines * width - start);
+        exchange_blocks(cells, start, (line + 1) * count, run);
+        start += run;
+    }
 }
 
 // Moves the `n` cells from `start` on by `shift` places to the back, the last first, by runs of at most `shift` swaps.

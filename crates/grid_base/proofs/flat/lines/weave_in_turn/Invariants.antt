@@ -1,0 +1,13 @@
+use Rattle.std.proofs.Common.{◌≡◌, ◌+◌, ◌*◌, ◌≤◌, min}
+use Rattle.grid_base.proofs.InTurn.{Weaving}
+use Rattle.grid_base.proofs.flat.lines.weave_in_turn.Given as goal
+
+abbrev pub invariant-loop-line : goal.invariant-loop-line
+invariant-loop-line g l = record {
+  run : Weaving l.lines l.width l.at l.count l.line l.end l.fn.cells l.cells;
+  within : l.line ≤ l.lines;
+  place : l.end ≡ min (l.at + l.line * l.width) (l.lines * l.width);
+}
+
+abbrev pub decreases-loop-line : goal.decreases-loop-line
+decreases-loop-line g l = l.line
