@@ -14,7 +14,8 @@ use Rattle.grid_base.proofs.Group.{product, act-act}
 use Rattle.grid_base.specs.declared.words.Symmetry.{Symmetry}
 use Rattle.grid_base.specs.declared.words.Symmetry.TheVariants.{Transpose}
 use Rattle.grid_base.proofs.Stores.{place_within}
-use Rattle.grid.specs.Passes.{LinesReversed, EachLineReversed, PartReversed}
+use Rattle.grid_base.specs.Blocks.{PartReversed}
+use Rattle.grid.specs.Passes.{LinesReversed, EachLineReversed}
 
 module _ {T : Type 0} (m n : ℕ) (old new : List T) (h : Fits m n (length old)) where
   pub flip_rows_by_lines : LinesReversed m n old new → table_of RowMajor m n new ≡ act FlipRows (table_of RowMajor m n old)

@@ -12,7 +12,7 @@ mod passes;
 
 use crate::Grid;
 use grid_base::{Order, Symmetry, Tally};
-use passes::{reverse_each_line, reverse_lines, reverse_part};
+use passes::{reverse_each_line, reverse_lines};
 use std::alloc::Allocator;
 use std::mem;
 
@@ -153,6 +153,6 @@ impl<T, A: Allocator> Grid<T, A> {
         ensures shift { tally.new.shift ≡ tally.old.shift }
     {
         let len = self.row_count * self.col_count;
-        reverse_part(&mut self.flat, 0, len, tally);
+        self.flat.reverse_for_symmetry(0, len, tally);
     }
 }

@@ -1,5 +1,5 @@
--- Two blocks of cells that change places.
-use Rattle.std.specs.Prelude.{◌≡◌, ℕ, ◌+◌, ◌<◌, ◌≤◌, List, length, slice_get}
+-- Two blocks of cells that change places, and a part of the cells that is reversed.
+use Rattle.std.specs.Prelude.{◌≡◌, ℕ, ◌+◌, ◌-◌, ◌<◌, ◌≤◌, List, length, slice_get}
 
 -- the m cells from place a on, and the n cells behind them
 pub record BlocksExchanged {T : Type 0} (a m n : ℕ) (old new : List T) : Type 0 where
@@ -30,3 +30,9 @@ pub record MovedBack {T : Type 0} (x s n : ℕ) (old new : List T) : Type 0 wher
   pub before : (y : ℕ) → y < x → slice_get new y ≡ slice_get old y
   pub behind : (y : ℕ) → x + n + s ≤ y → slice_get new y ≡ slice_get old y
   pub gap : (y : ℕ) → x ≤ y → y < x + s → (v : ℕ) × (x + n ≤ v) × (v < x + n + s) × (slice_get new y ≡ slice_get old v)
+
+-- n cells from a on are reversed
+pub record PartReversed {T : Type 0} (a n : ℕ) (old new : List T) : Type 0 where
+  pub length_stays : length new ≡ length old
+  pub moved : (j : ℕ) → j < n → slice_get new (a + j) ≡ slice_get old (a + (n - 1 - j))
+  pub others : (k : ℕ) → (a ≤ k → a + n ≤ k) → slice_get new k ≡ slice_get old k

@@ -1,6 +1,6 @@
 //! Two counts of swaps, and the counted swaps of a `Flat`, which alone raise them.
 ghost use Rattle.std.specs.Prelude.{◌≡◌, ◌≢◌, ◌<◌, ◌≤◌, ◌+◌, ◌/◌, ◌^◌, ◌++◌, length, take, drop, reverse, swap};
-ghost use Rattle.grid_base.specs.Blocks.{BlocksSwapped};
+ghost use Rattle.grid_base.specs.Blocks.{BlocksSwapped, PartReversed};
 ghost use Rattle.grid_base.specs.Tally.{counted};
 
 use super::Flat;
@@ -97,7 +97,7 @@ impl<T, A: Allocator> Flat<T, A> {
     pub fn reverse_for_symmetry(&mut self, start: usize, n: usize, tally: &mut Tally)
         requires within { start + n ≤ length self.old }
         requires fits { start + n < 2 ^ 64 }
-        ensures cells { self.new ≡ take start self.old ++ reverse (take n (drop start self.old)) ++ drop (start + n) self.old }
+        ensures cells { PartReversed start n self.old self.new }
         ensures symmetry { tally.new.symmetry ≡ counted tally.old.symmetry (n / 2) }
         ensures shift { tally.new.shift ≡ tally.old.shift }
     {
@@ -132,7 +132,32 @@ impl<T, A: Allocator> Flat<T, A> {
     }
 }
 
+// Parts of fewer cells are moved cell by cell, since a call out of line would cost more.
+const SHORT: usize = 16;
+
 fn reverse_part<T>(cells: &mut [T], start: usize, n: usize)
+    requires within { start + n ≤ length cells.old }
+    requires fits { start + n < 2 ^ 64 }
+    ensures { PartReversed start n cells.old cells.new }
+{
+    if n < SHORT {
+        reverse_in_turn(cells, start, n);
+    } else {
+        reverse_at_once(cells, start, n);
+    }
+}
+
+fn reverse_in_turn<T>(cells: &mut [T], start: usize, n: usize)
+    requires within { start + n ≤ length cells.old }
+    requires fits { start + n < 2 ^ 64 }
+    ensures { PartReversed start n cells.old cells.new }
+{
+    for i in 0..n / 2 {
+        cells.swap(start + i, start + (n - 1 - i));
+    }
+}
+
+fn reverse_at_once<T>(cells: &mut [T], start: usize, n: usize)
     requires within { start + n ≤ length cells.old }
     requires fits { start + n < 2 ^ 64 }
     ensures { cells.new ≡ take start cells.old ++ reverse (take n (drop start cells.old)) ++ drop (start + n) cells.old }
@@ -146,11 +171,25 @@ fn swap_blocks<T>(cells: &mut [T], i: usize, j: usize, n: usize)
     requires fits { j + n < 2 ^ 64 }
     ensures { BlocksSwapped i j n cells.old cells.new }
 {
-    join_swapped(cells, i, j, n);
+    if n < SHORT {
+        swap_in_turn(cells, i, j, n);
+    } else {
+        swap_at_once(cells, i, j, n);
+    }
 }
 
-// The same, by the parts that the list then has.
-fn join_swapped<T>(cells: &mut [T], i: usize, j: usize, n: usize)
+fn swap_in_turn<T>(cells: &mut [T], i: usize, j: usize, n: usize)
+    requires apart { i + n ≤ j }
+    requires within { j + n ≤ length cells.old }
+    requires fits { j + n < 2 ^ 64 }
+    ensures { BlocksSwapped i j n cells.old cells.new }
+{
+    for k in 0..n {
+        cells.swap(i + k, j + k);
+    }
+}
+
+fn swap_at_once<T>(cells: &mut [T], i: usize, j: usize, n: usize)
     requires apart { i + n ≤ j }
     requires within { j + n ≤ length cells.old }
     requires fits { j + n < 2 ^ 64 }

@@ -9,14 +9,14 @@ loop-line-preserved g c =
     let line = c.loop-line.line in
     let q = c.args.width in
     let before = c.loop-line.invariant in
-    let part = c.reverse_part.ensures.reversed in
+    let part = c.reverse_for_symmetry.ensures.cells in
     record {
       length_stays = part.length_stays ∙ before.length_stays;
       moved = λ i j li lj.
           ⊎_elim (λ low. part.others (i * q + j) (λ le. absurd (omega (arith, mul-add-lt i q j line low lj))) ∙ before.moved i j low lj)
           (λ high.
           let here : i ≡ line = omega arith in
-          ap (λ x. slice_get c.reverse_part.new.flat (x * q + j)) here
+          ap (λ x. slice_get c.reverse_for_symmetry.new.self (x * q + j)) here
           ∙ (part.moved j lj ∙ (before.rest (line * q + (q - 1 - j)) (omega arith)
           ∙ sym (ap (λ x. slice_get c.args.flat.now (x * q + (q - 1 - j))) here))))
           (cases_lt i line);
