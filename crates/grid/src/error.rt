@@ -3,7 +3,7 @@ ghost use Rattle.std.specs.Prelude.{◌≡◌};
 ghost use Rattle.grid.specs.declared.error.GridError.TheVariants.{Memory};
 ghost use Rattle.grid.specs.declared.error.ShapeError.TheVariants.{Memory as OutOfMemory};
 
-use std::alloc::AllocError;
+use std::alloc::{AllocError, Allocator, Global};
 use thiserror::Error;
 
 /// Why a grid of a size could not be made, or could not grow to it.
@@ -44,6 +44,26 @@ pub enum ShapeError {
     /// Memory was refused.
     #[error("out of memory")]
     Memory,
+}
+
+/// A line that was not inserted into a grid, and why. The grid is unchanged.
+#[derive(Drop)]
+#[derive_where(Debug, PartialEq; T)]
+pub struct LineRefused<T, A: Allocator = Global> {
+    /// The line, unchanged.
+    pub line: Vec<T, A>,
+    /// Why it was refused.
+    pub fault: GridError,
+}
+
+/// Lines that were not inserted into a grid, and why. The grid is unchanged.
+#[derive(Drop)]
+#[derive_where(Debug, PartialEq; T)]
+pub struct LinesRefused<T, A: Allocator = Global> {
+    /// The lines, unchanged.
+    pub lines: Vec<Vec<T, A>, A>,
+    /// Why they were refused.
+    pub fault: GridError,
 }
 
 /// A refusal of memory is `GridError::Memory`.

@@ -16,8 +16,7 @@ mod symmetry;
 mod walks;
 
 pub use command::{Command, Reply, RunStopped, run};
-pub use edits::{LineRefused, LinesRefused};
-pub use error::{GridError, ShapeError};
+pub use error::{GridError, LineRefused, LinesRefused, ShapeError};
 pub use grid::Grid;
 pub use grid_base::{
     GridLineIter, GridLineIterMut, IndexedIntoIter, IndexedIter, IndexedIterMut, Move, Order,

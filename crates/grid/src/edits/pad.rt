@@ -40,12 +40,14 @@ fn open_rows<T, A: Allocator>(
 }
 
 impl<T, A: Allocator> Grid<T, A> {
-    /// Adds `count` rows of defaults at the end. The order stays.
+    /// Adds `count` rows of defaults at the end. The order stays. An empty grid stays empty.
     ///
-    /// Changes nothing and takes no memory on an empty grid, or where `count` is 0. Refused as too large where the
-    /// cells would pass `usize::MAX`, which is decided first, and for memory, which is had before the first change; a
-    /// refusal leaves the grid as it was. Takes time in the number of cells at most: each one whose place in the vector
-    /// changes is swapped once, row-major none, and column-major all but those of the first column.
+    ///     [[1, 2]]   expand_rows(1)   [[1, 2], [0, 0]]
+    ///
+    /// Fails: `TooLarge` where the cells would pass `usize::MAX`, else `Memory`; the grid is unchanged. On an empty
+    /// grid, or where `count` is 0, it takes no memory and never fails.
+    /// Cost: row-major, time in the new cells, not counting a reallocation; column-major, time in all cells: each one is
+    /// swapped once, but for those of the first column.
     pub fn expand_rows(&mut self, count: usize) -> Result<(), GridError>
     where
         T: Default,
@@ -62,31 +64,14 @@ impl<T, A: Allocator> Grid<T, A> {
         self.pad_rows_counted(end, count, &mut tally)
     }
 
-    /// Adds `count` rows of defaults at the beginning. The order stays.
+    /// Adds `count` columns of defaults at the end. The order stays. An empty grid stays empty.
     ///
-    /// Changes nothing, and is refused, where [`expand_rows`](Grid::expand_rows) does and is; a refusal leaves the grid
-    /// as it was. Takes time in the number of cells: each of the old ones is swapped once.
-    pub fn prepend_rows(&mut self, count: usize) -> Result<(), GridError>
-    where
-        T: Default,
-        A: Clone,
-        ensures padded { OnOk result (PadsRows T.is_default 0 (added count self.old.rows) self.old.rows self.new.rows) }
-        ensures fixed { OnOk result ((d : T) → IsOnlyDefault T.is_default d → self.new.rows ≡ prepended_rows count d self.old.rows) }
-        ensures too_large { IsErrOf result TooLarge ↔ (2 ^ 64 ≤ (rows_of self.old.rows + added count self.old.rows) * cols_of self.old.rows) }
-        ensures none { added count self.old.rows ≡ 0 → IsOk result }
-        ensures order { self.new.order ≡ self.old.order }
-        ensures err { OnErr result (self.new ≡ self.old) }
-    {
-        let mut tally = Tally::new();
-        self.pad_rows_counted(0, count, &mut tally)
-    }
-
-    /// Adds `count` columns of defaults at the end. The order stays.
+    ///     [[1], [2]]   expand_cols(2)   [[1, 0, 0], [2, 0, 0]]
     ///
-    /// Changes nothing and takes no memory on an empty grid, or where `count` is 0. Refused as too large where the
-    /// cells would pass `usize::MAX`, which is decided first, and for memory, which is had before the first change; a
-    /// refusal leaves the grid as it was. Takes time in the number of cells at most: each one whose place in the vector
-    /// changes is swapped once, column-major none, and row-major all but those of the first row.
+    /// Fails: `TooLarge` where the cells would pass `usize::MAX`, else `Memory`; the grid is unchanged. On an empty
+    /// grid, or where `count` is 0, it takes no memory and never fails.
+    /// Cost: column-major, time in the new cells, not counting a reallocation; row-major, time in all cells: each one is
+    /// swapped once, but for those of the first row.
     pub fn expand_cols(&mut self, count: usize) -> Result<(), GridError>
     where
         T: Default,
@@ -103,10 +88,33 @@ impl<T, A: Allocator> Grid<T, A> {
         self.pad_cols_counted(end, count, &mut tally)
     }
 
-    /// Adds `count` columns of defaults at the beginning. The order stays.
+    /// Adds `count` rows of defaults at the beginning. The order stays. An empty grid stays empty.
     ///
-    /// Changes nothing, and is refused, where [`expand_cols`](Grid::expand_cols) does and is; a refusal leaves the grid
-    /// as it was. Takes time in the number of cells: each of the old ones is swapped once.
+    ///     [[1, 2]]   prepend_rows(1)   [[0, 0], [1, 2]]
+    ///
+    /// Fails: exactly where [`expand_rows`](Grid::expand_rows) does, and leaves the grid unchanged then.
+    /// Cost: time in the number of cells; each old one is swapped once.
+    pub fn prepend_rows(&mut self, count: usize) -> Result<(), GridError>
+    where
+        T: Default,
+        A: Clone,
+        ensures padded { OnOk result (PadsRows T.is_default 0 (added count self.old.rows) self.old.rows self.new.rows) }
+        ensures fixed { OnOk result ((d : T) → IsOnlyDefault T.is_default d → self.new.rows ≡ prepended_rows count d self.old.rows) }
+        ensures too_large { IsErrOf result TooLarge ↔ (2 ^ 64 ≤ (rows_of self.old.rows + added count self.old.rows) * cols_of self.old.rows) }
+        ensures none { added count self.old.rows ≡ 0 → IsOk result }
+        ensures order { self.new.order ≡ self.old.order }
+        ensures err { OnErr result (self.new ≡ self.old) }
+    {
+        let mut tally = Tally::new();
+        self.pad_rows_counted(0, count, &mut tally)
+    }
+
+    /// Adds `count` columns of defaults at the beginning. The order stays. An empty grid stays empty.
+    ///
+    ///     [[1], [2]]   prepend_cols(2)   [[0, 0, 1], [0, 0, 2]]
+    ///
+    /// Fails: exactly where [`expand_cols`](Grid::expand_cols) does, and leaves the grid unchanged then.
+    /// Cost: time in the number of cells; each old one is swapped once.
     pub fn prepend_cols(&mut self, count: usize) -> Result<(), GridError>
     where
         T: Default,

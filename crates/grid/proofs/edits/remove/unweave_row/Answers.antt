@@ -1,6 +1,6 @@
 use Rattle.std.proofs.Common.{refl, arith}
 use Rattle.grid.proofs.SeenEdits.{row_behind}
-use Rattle.grid.proofs.edits.unweave_row.Goals as goal
+use Rattle.grid.proofs.edits.remove.unweave_row.Goals as goal
 
 pub returns-in-RowMajor : goal.returns-in-RowMajor
 returns-in-RowMajor g c =

@@ -1,6 +1,6 @@
 use Rattle.std.proofs.Common.{◌≡◌, ◌+◌, ◌-◌, ◌*◌, ap, refl, arith}
 use Rattle.grid.proofs.SeenEdits.{rows_taken}
-use Rattle.grid.proofs.edits.close_rows.Goals as goal
+use Rattle.grid.proofs.edits.remove.close_rows.Goals as goal
 
 pub returns-in-RowMajor-clause-taken : goal.returns-in-RowMajor-clause-taken
 returns-in-RowMajor-clause-taken g c =

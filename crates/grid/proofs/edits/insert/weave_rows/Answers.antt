@@ -1,6 +1,6 @@
 use Rattle.std.proofs.Common.{refl}
 use Rattle.grid.proofs.SeenEdits.{rows_put}
-use Rattle.grid.proofs.edits.weave_rows.Goals as goal
+use Rattle.grid.proofs.edits.insert.weave_rows.Goals as goal
 
 pub returns-in-RowMajor : goal.returns-in-RowMajor
 returns-in-RowMajor g c = rw c.in-RowMajor.is (rows_put _ _ _ _ _ _ _ _ _ _ _ (refl, refl, refl, refl) c.requires.place c.weave.ensures)

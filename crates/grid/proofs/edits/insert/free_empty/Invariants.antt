@@ -1,5 +1,5 @@
 use Rattle.std.proofs.Common.{◌≡◌, ◌+◌, [], All, vec_len}
-use Rattle.grid.proofs.edits.ranges.free_empty.Given as goal
+use Rattle.grid.proofs.edits.insert.free_empty.Given as goal
 
 abbrev pub invariant-loop : goal.invariant-loop
 invariant-loop g l = record {

@@ -1,0 +1,252 @@
+//! Rows and columns that are pushed and inserted, one or several.
+ghost use Rattle.std.specs.Prelude.{◌≡◌, ◌↔◌, ◌+◌, ◌*◌, ◌^◌, ◌<◌, ◌≤◌, [], length, insert, All, IsErrAnd, OnOk, OnErr, IfErr, IsOk};
+ghost use Rattle.grid_base.specs.Table.{rows_of, cols_of, IsTable};
+ghost use Rattle.grid_base.specs.Gather.{cells_of};
+ghost use Rattle.grid.specs.Edit.{FitsRow, FitsCol, put_col, put_rows, put_cols};
+ghost use Rattle.grid.specs.RowGroups.{RowsPut};
+ghost use Rattle.grid.specs.declared.error.GridError.TheVariants.{TooLarge};
+
+use super::has_room;
+use crate::convert::first_len;
+use crate::{Grid, GridError, LineRefused, LinesRefused};
+use grid_base::{Flat, Order};
+use std::alloc::Allocator;
+
+// Puts the rows that stand behind the cells of a table, `count` of them in storage order, before its row `at`.
+fn weave_rows<T, A: Allocator>(
+    flat: &mut Flat<T, A>,
+    order: Order,
+    rows: usize,
+    cols: usize,
+    at: usize,
+    count: usize,
+)
+    requires cells { length flat.old ≡ rows * cols + count * cols }
+    requires fits { rows * cols + count * cols < 2 ^ 64 }
+    requires place { at ≤ rows }
+    ensures { RowsPut order rows cols at count flat.old flat.new }
+{
+    match order {
+        Order::RowMajor => flat.weave(1, rows * cols, at * cols, count * cols),
+        Order::ColumnMajor => flat.weave(cols, rows, at, count),
+    }
+}
+
+// Frees lines that have no cells left.
+fn free_empty<T, A: Allocator>(lines: Vec<Vec<T, A>, A>)
+    requires { All (λ line. line.items ≡ []) lines.items }
+{
+    let mut lines = lines;
+    for _ in 0..lines.len() {
+        if let Some(line) = lines.pop() {
+            line.destroy_empty();
+        }
+    }
+    lines.destroy_empty();
+}
+
+impl<T, A: Allocator> Grid<T, A> {
+    /// Adds a row at the end. The order stays.
+    ///
+    ///     [[1, 2], [3, 4]]   push_row([5, 6])   [[1, 2], [3, 4], [5, 6]]
+    ///
+    /// Requires: the line is not empty, and as long as the grid has columns; into an empty grid any length fits.
+    /// Fails: `TooLarge` where the cells would pass `usize::MAX`, else `Memory`. The line comes back, and the grid is
+    /// unchanged.
+    /// Cost: row-major, time in the length of the line, not counting a reallocation; column-major, as
+    /// [`insert_row`](Grid::insert_row).
+    pub fn push_row(&mut self, line: Vec<T, A>) -> Result<(), LineRefused<T, A>>
+        requires nonempty { 0 < length line.items }
+        requires fits { FitsRow self.old.rows (length line.items) }
+        ensures rows { OnOk result (self.new.rows ≡ insert self.old.rows (rows_of self.old.rows) line.items) }
+        ensures order { self.new.order ≡ self.old.order }
+        ensures too_large { IsErrAnd result (λ refused. refused.fault ≡ TooLarge) ↔ (2 ^ 64 ≤ (rows_of self.old.rows + 1) * length line.items) }
+        ensures line { IfErr result (λ refused. refused.line.items ≡ line.items) }
+        ensures err { OnErr result (self.new ≡ self.old) }
+    {
+        let at = self.rows();
+        self.insert_row(at, line)
+    }
+
+    /// Adds a column at the end. The order stays.
+    ///
+    ///     [[1, 2], [3, 4]]   push_col([5, 6])   [[1, 2, 5], [3, 4, 6]]
+    ///
+    /// Requires: the line is not empty, and as long as the grid has rows; into an empty grid any length fits.
+    /// Fails: `TooLarge` where the cells would pass `usize::MAX`, else `Memory`. The line comes back, and the grid is
+    /// unchanged.
+    /// Cost: column-major, time in the length of the line, not counting a reallocation; row-major, as
+    /// [`insert_col`](Grid::insert_col).
+    pub fn push_col(&mut self, line: Vec<T, A>) -> Result<(), LineRefused<T, A>>
+        requires nonempty { 0 < length line.items }
+        requires fits { FitsCol self.old.rows (length line.items) }
+        ensures rows { OnOk result (self.new.rows ≡ put_col (cols_of self.old.rows) line.items self.old.rows) }
+        ensures order { self.new.order ≡ self.old.order }
+        ensures too_large { IsErrAnd result (λ refused. refused.fault ≡ TooLarge) ↔ (2 ^ 64 ≤ (cols_of self.old.rows + 1) * length line.items) }
+        ensures line { IfErr result (λ refused. refused.line.items ≡ line.items) }
+        ensures err { OnErr result (self.new ≡ self.old) }
+    {
+        let at = self.cols();
+        self.insert_col(at, line)
+    }
+
+    /// Inserts a row before row `at`; at the end where `at` is the number of rows. The order stays.
+    ///
+    ///     [[1, 2], [3, 4]]   insert_row(1, [8, 9])   [[1, 2], [8, 9], [3, 4]]
+    ///
+    /// Requires: the line is not empty, and as long as the grid has columns; into an empty grid any length fits. `at`
+    /// is at most the number of rows.
+    /// Fails: `TooLarge` where the cells would pass `usize::MAX`, else `Memory`. The line comes back, and the grid is
+    /// unchanged.
+    /// Cost: row-major, time in the number of cells; column-major, that times log2(columns) + 1 at most.
+    pub fn insert_row(&mut self, at: usize, line: Vec<T, A>) -> Result<(), LineRefused<T, A>>
+        requires nonempty { 0 < length line.items }
+        requires fits { FitsRow self.old.rows (length line.items) }
+        requires place { at ≤ rows_of self.old.rows }
+        ensures rows { OnOk result (self.new.rows ≡ insert self.old.rows at line.items) }
+        ensures order { self.new.order ≡ self.old.order }
+        ensures too_large { IsErrAnd result (λ refused. refused.fault ≡ TooLarge) ↔ (2 ^ 64 ≤ (rows_of self.old.rows + 1) * length line.items) }
+        ensures line { IfErr result (λ refused. refused.line.items ≡ line.items) }
+        ensures err { OnErr result (self.new ≡ self.old) }
+    {
+        let mut line = line;
+        let width = line.len();
+        if !has_room(self.row_count, 1, width) {
+            return Err(LineRefused {
+                line,
+                fault: GridError::TooLarge,
+            });
+        }
+        match self.flat.append(&mut line) {
+            Ok(()) => {
+                line.destroy_empty();
+                weave_rows(&mut self.flat, self.order, self.row_count, width, at, 1);
+                self.row_count += 1;
+                self.col_count = width;
+                Ok(())
+            }
+            Err(_) => Err(LineRefused {
+                line,
+                fault: GridError::Memory,
+            }),
+        }
+    }
+
+    /// Inserts a column before column `at`; at the end where `at` is the number of columns. The order stays.
+    ///
+    ///     [[1, 2], [3, 4]]   insert_col(1, [8, 9])   [[1, 8, 2], [3, 9, 4]]
+    ///
+    /// Requires: the line is not empty, and as long as the grid has rows; into an empty grid any length fits. `at` is
+    /// at most the number of columns.
+    /// Fails: `TooLarge` where the cells would pass `usize::MAX`, else `Memory`. The line comes back, and the grid is
+    /// unchanged.
+    /// Cost: column-major, time in the number of cells; row-major, that times log2(rows) + 1 at most.
+    pub fn insert_col(&mut self, at: usize, line: Vec<T, A>) -> Result<(), LineRefused<T, A>>
+        requires nonempty { 0 < length line.items }
+        requires fits { FitsCol self.old.rows (length line.items) }
+        requires place { at ≤ cols_of self.old.rows }
+        ensures rows { OnOk result (self.new.rows ≡ put_col at line.items self.old.rows) }
+        ensures order { self.new.order ≡ self.old.order }
+        ensures too_large { IsErrAnd result (λ refused. refused.fault ≡ TooLarge) ↔ (2 ^ 64 ≤ (cols_of self.old.rows + 1) * length line.items) }
+        ensures line { IfErr result (λ refused. refused.line.items ≡ line.items) }
+        ensures err { OnErr result (self.new ≡ self.old) }
+    {
+        let _ = &self.flat;
+        self.transpose();
+        let inserted = self.insert_row(at, line);
+        self.transpose();
+        inserted
+    }
+
+    /// Inserts several rows before row `at`, in their order; at the end where `at` is the number of rows. The order of
+    /// the grid stays.
+    ///
+    ///     [[1, 2], [3, 4]]   insert_rows(1, [[5, 6], [7, 8]])   [[1, 2], [5, 6], [7, 8], [3, 4]]
+    ///
+    /// An empty list changes nothing and takes no memory. Into an empty grid the lines become its rows.
+    ///
+    /// Requires: no line is empty, and each is as long as the grid has columns; into an empty grid all have one length.
+    /// `at` is at most the number of rows.
+    /// Fails: `TooLarge` where the cells would pass `usize::MAX`, else `Memory`, before the first change. The lines
+    /// come back, and the grid is unchanged.
+    /// Cost: row-major, time in the number of cells; column-major, that times log2(columns) + 1 at most.
+    pub fn insert_rows(
+        &mut self,
+        at: usize,
+        lines: Vec<Vec<T, A>, A>,
+    ) -> Result<(), LinesRefused<T, A>>
+        requires table { IsTable (cells_of lines.items) }
+        requires fits { 0 < length lines.items → FitsRow self.old.rows (cols_of (cells_of lines.items)) }
+        requires place { at ≤ rows_of self.old.rows }
+        ensures rows { OnOk result (self.new.rows ≡ put_rows at (cells_of lines.items) self.old.rows) }
+        ensures order { self.new.order ≡ self.old.order }
+        ensures none { lines.items ≡ [] → IsOk result }
+        ensures too_large { IsErrAnd result (λ refused. refused.fault ≡ TooLarge) ↔ (2 ^ 64 ≤ (rows_of self.old.rows + length lines.items) * cols_of (cells_of lines.items)) }
+        ensures lines { IfErr result (λ refused. refused.lines.items ≡ lines.items) }
+        ensures err { OnErr result (self.new ≡ self.old) }
+    {
+        let mut lines = lines;
+        let count = lines.len();
+        if count == 0 {
+            lines.destroy_empty();
+            return Ok(());
+        }
+        let width = first_len(lines.as_slice());
+        if !has_room(self.row_count, count, width) {
+            return Err(LinesRefused {
+                lines,
+                fault: GridError::TooLarge,
+            });
+        }
+        match self
+            .flat
+            .append_rows(self.order, width, lines.as_mut_slice())
+        {
+            Ok(()) => {
+                free_empty(lines);
+                weave_rows(&mut self.flat, self.order, self.row_count, width, at, count);
+                self.row_count += count;
+                self.col_count = width;
+                Ok(())
+            }
+            Err(_) => Err(LinesRefused {
+                lines,
+                fault: GridError::Memory,
+            }),
+        }
+    }
+
+    /// Inserts several columns before column `at`, in their order; at the end where `at` is the number of columns. The
+    /// order of the grid stays.
+    ///
+    ///     [[1, 2], [3, 4]]   insert_cols(1, [[5, 6], [7, 8]])   [[1, 5, 7, 2], [3, 6, 8, 4]]
+    ///
+    /// An empty list changes nothing and takes no memory. Into an empty grid the lines become its columns.
+    ///
+    /// Requires: no line is empty, and each is as long as the grid has rows; into an empty grid all have one length.
+    /// `at` is at most the number of columns.
+    /// Fails: `TooLarge` where the cells would pass `usize::MAX`, else `Memory`, before the first change. The lines
+    /// come back, and the grid is unchanged.
+    /// Cost: column-major, time in the number of cells; row-major, that times log2(rows) + 1 at most.
+    pub fn insert_cols(
+        &mut self,
+        at: usize,
+        lines: Vec<Vec<T, A>, A>,
+    ) -> Result<(), LinesRefused<T, A>>
+        requires table { IsTable (cells_of lines.items) }
+        requires fits { 0 < length lines.items → FitsCol self.old.rows (cols_of (cells_of lines.items)) }
+        requires place { at ≤ cols_of self.old.rows }
+        ensures rows { OnOk result (self.new.rows ≡ put_cols at (cells_of lines.items) self.old.rows) }
+        ensures order { self.new.order ≡ self.old.order }
+        ensures none { lines.items ≡ [] → IsOk result }
+        ensures too_large { IsErrAnd result (λ refused. refused.fault ≡ TooLarge) ↔ (2 ^ 64 ≤ (cols_of self.old.rows + length lines.items) * cols_of (cells_of lines.items)) }
+        ensures lines { IfErr result (λ refused. refused.lines.items ≡ lines.items) }
+        ensures err { OnErr result (self.new ≡ self.old) }
+    {
+        let _ = &self.flat;
+        self.transpose();
+        let inserted = self.insert_rows(at, lines);
+        self.transpose();
+        inserted
+    }
+}

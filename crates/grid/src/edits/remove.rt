@@ -1,0 +1,327 @@
+//! Rows and columns that are popped, removed and deleted, one or several.
+ghost use Rattle.std.specs.Prelude.{[], vec_capacity, ◌≡◌, ◌↔◌, ◌+◌, ◌-◌, ◌*◌, ◌^◌, ◌<◌, ◌≤◌, length, remove, slice_get, IsTrue, Some, OnOk, OnErr, IfOk, MatchOption, if◌then◌else◌};
+ghost use Rattle.grid_base.specs.Table.{rows_of, cols_of, turned};
+ghost use Rattle.grid_base.specs.Tally.{counted};
+ghost use Rattle.grid.specs.Edit.{take_rows, take_cols};
+ghost use Rattle.grid.specs.RowGroups.{RowsTaken, RowBehind, width_left};
+ghost use Rattle.grid.specs.Shift.{rows_taken_shift, delete_rows_shift, delete_cols_shift};
+
+use crate::Grid;
+use grid_base::{Flat, Order, Tally};
+use std::alloc::{AllocError, Allocator};
+
+// The number of columns of a grid with `rest` rows: 0 where there is no row.
+fn width_left(rest: usize, cols: usize) -> usize
+    ensures { result ≡ width_left rest cols }
+{
+    if rest == 0 { 0 } else { cols }
+}
+
+// Puts row `at`, of `rest` + 1 rows, behind the cells of the others.
+fn unweave_row<T, A: Allocator>(
+    flat: &mut Flat<T, A>,
+    order: Order,
+    rest: usize,
+    cols: usize,
+    at: usize,
+)
+    requires cells { length flat.old ≡ (rest + 1) * cols }
+    requires fits { (rest + 1) * cols < 2 ^ 64 }
+    requires place { at ≤ rest }
+    ensures { RowBehind order cols at rest flat.old flat.new }
+{
+    match order {
+        Order::RowMajor => flat.unweave(1, rest * cols, at * cols, cols),
+        Order::ColumnMajor => flat.unweave(cols, rest, at, 1),
+    }
+}
+
+// Drops `count` rows from row `at` on; `rest` rows stay.
+fn close_rows<T: Drop, A: Allocator>(
+    flat: &mut Flat<T, A>,
+    order: Order,
+    rest: usize,
+    cols: usize,
+    at: usize,
+    count: usize,
+    tally: &mut Tally,
+)
+    requires cells { length flat.old ≡ (rest + count) * cols }
+    requires fits { (rest + count) * cols < 2 ^ 64 }
+    requires place { at ≤ rest }
+    requires some { 0 < count }
+    requires wide { 0 < cols }
+    ensures taken { RowsTaken order cols at count rest flat.old flat.new }
+    ensures symmetry { tally.new.symmetry ≡ tally.old.symmetry }
+    ensures shift { tally.new.shift ≡ counted tally.old.shift (rows_taken_shift order (rest + count) cols at count) }
+{
+    match order {
+        Order::RowMajor => flat.close_up(1, rest * cols, at * cols, count * cols, tally),
+        Order::ColumnMajor => flat.close_up(cols, rest, at, count, tally),
+    }
+}
+
+impl<T, A: Allocator> Grid<T, A> {
+    /// Removes the last row and returns it, or `None` from an empty grid. The order stays. Taking the only row
+    /// leaves the size (0, 0).
+    ///
+    ///     [[1, 2], [3, 4]]   pop_row()   Some([3, 4])   [[1, 2]]
+    ///
+    /// Fails: where memory for the line is refused; the grid is unchanged. `None` takes no memory.
+    /// Cost: row-major, time in the length of the line; column-major, as [`remove_row`](Grid::remove_row).
+    pub fn pop_row(&mut self) -> Result<Option<Vec<T, A>>, AllocError>
+    where
+        A: Clone,
+        ensures rows { OnOk result (self.new.rows ≡ remove self.old.rows (rows_of self.old.rows - 1)) }
+        ensures line { IfOk result (λ taken. MatchOption taken (self.old.rows ≡ []) (λ line. slice_get self.old.rows (rows_of self.old.rows - 1) ≡ Some line.items)) }
+        ensures order { self.new.order ≡ self.old.order }
+        ensures err { OnErr result (self.new ≡ self.old) }
+        ensures err_found { OnErr result (0 < rows_of self.old.rows) }
+    {
+        match self.rows() {
+            0 => Ok(None),
+            rows => self.remove_row(rows - 1),
+        }
+    }
+
+    /// Removes the last column and returns it, or `None` from an empty grid. The order stays. Taking the only column
+    /// leaves the size (0, 0).
+    ///
+    ///     [[1, 2], [3, 4]]   pop_col()   Some([2, 4])   [[1], [3]]
+    ///
+    /// Fails: where memory for the line is refused; the grid is unchanged. `None` takes no memory.
+    /// Cost: column-major, time in the length of the line; row-major, as [`remove_col`](Grid::remove_col).
+    pub fn pop_col(&mut self) -> Result<Option<Vec<T, A>>, AllocError>
+    where
+        A: Clone,
+        ensures rows { OnOk result (self.new.rows ≡ take_cols (cols_of self.old.rows - 1) 1 self.old.rows) }
+        ensures line { IfOk result (λ taken. MatchOption taken (self.old.rows ≡ []) (λ line. slice_get (turned self.old.rows) (cols_of self.old.rows - 1) ≡ Some line.items)) }
+        ensures order { self.new.order ≡ self.old.order }
+        ensures err { OnErr result (self.new ≡ self.old) }
+        ensures err_found { OnErr result (0 < cols_of self.old.rows) }
+    {
+        match self.cols() {
+            0 => Ok(None),
+            cols => self.remove_col(cols - 1),
+        }
+    }
+
+    /// Removes row `at` and returns it, or `None` where there is none. The order stays. Taking the only row leaves
+    /// the size (0, 0).
+    ///
+    ///     [[1, 2], [3, 4]]   remove_row(0)   Some([1, 2])   [[3, 4]]
+    ///
+    /// Fails: where memory for the line is refused; the grid is unchanged. `None` takes no memory.
+    /// Cost: row-major, time in the number of cells; column-major, that times log2(columns) + 1 at most.
+    pub fn remove_row(&mut self, at: usize) -> Result<Option<Vec<T, A>>, AllocError>
+    where
+        A: Clone,
+        ensures rows { OnOk result (self.new.rows ≡ remove self.old.rows at) }
+        ensures line { IfOk result (λ taken. MatchOption taken (rows_of self.old.rows ≤ at) (λ line. slice_get self.old.rows at ≡ Some line.items)) }
+        ensures order { self.new.order ≡ self.old.order }
+        ensures err { OnErr result (self.new ≡ self.old) }
+        ensures err_found { OnErr result (at < rows_of self.old.rows) }
+    {
+        if at >= self.rows() {
+            return Ok(None);
+        }
+        if at + 1 == self.rows() && matches!(self.order, Order::RowMajor) {
+            return Ok(Some(self.cut_last_row()?));
+        }
+        let alloc = self.flat.allocator().clone()?;
+        let mut line = Vec::with_capacity(alloc, self.cols())?;
+        self.take_row_out(at, &mut line);
+        Ok(Some(line))
+    }
+
+    /// Removes column `at` and returns it, or `None` where there is none. The order stays. Taking the only column leaves
+    /// the size (0, 0).
+    ///
+    ///     [[1, 2], [3, 4]]   remove_col(0)   Some([1, 3])   [[2], [4]]
+    ///
+    /// Fails: where memory for the line is refused; the grid is unchanged. `None` takes no memory.
+    /// Cost: column-major, time in the number of cells; row-major, that times log2(rows) + 1 at most.
+    pub fn remove_col(&mut self, at: usize) -> Result<Option<Vec<T, A>>, AllocError>
+    where
+        A: Clone,
+        ensures rows { OnOk result (self.new.rows ≡ take_cols at 1 self.old.rows) }
+        ensures line { IfOk result (λ taken. MatchOption taken (cols_of self.old.rows ≤ at) (λ line. slice_get (turned self.old.rows) at ≡ Some line.items)) }
+        ensures order { self.new.order ≡ self.old.order }
+        ensures err { OnErr result (self.new ≡ self.old) }
+        ensures err_found { OnErr result (at < cols_of self.old.rows) }
+    {
+        let _ = &self.flat;
+        self.transpose();
+        let removed = self.remove_row(at);
+        self.transpose();
+        removed
+    }
+
+    // Cuts the last row off the storage.
+    fn cut_last_row(&mut self) -> Result<Vec<T, A>, AllocError>
+    where
+        A: Clone,
+        requires order { self.old.order ≡ Order.RowMajor }
+        requires some { 0 < rows_of self.old.rows }
+        ensures rows { OnOk result (self.new.rows ≡ remove self.old.rows (rows_of self.old.rows - 1)) }
+        ensures line { IfOk result (λ line. slice_get self.old.rows (rows_of self.old.rows - 1) ≡ Some line.items) }
+        ensures order { self.new.order ≡ self.old.order }
+        ensures err { OnErr result (self.new ≡ self.old) }
+    {
+        let rest = self.row_count - 1;
+        let line = self.flat.split_off(rest * self.col_count)?;
+        self.row_count = rest;
+        self.col_count = width_left(rest, self.col_count);
+        Ok(line)
+    }
+
+    // Takes a row that is there into a vector that has room for it.
+    fn take_row_out(&mut self, at: usize, line: &mut Vec<T, A>)
+        requires within { at < rows_of self.old.rows }
+        requires none { line.old.items ≡ [] }
+        requires room { cols_of self.old.rows ≤ vec_capacity line.old }
+        ensures rows { self.new.rows ≡ remove self.old.rows at }
+        ensures line { slice_get self.old.rows at ≡ Some line.new.items }
+        ensures order { self.new.order ≡ self.old.order }
+    {
+        let rest = self.row_count - 1;
+        unweave_row(&mut self.flat, self.order, rest, self.col_count, at);
+        self.flat.move_tail(rest * self.col_count, line);
+        self.row_count = rest;
+        self.col_count = width_left(rest, self.col_count);
+    }
+
+    /// Drops row `at`, and returns whether there was one; if not, nothing changes. The order stays. Deleting the only
+    /// row leaves the size (0, 0).
+    ///
+    ///     [[1, 2], [3, 4]]   delete_row(0)   true   [[3, 4]]
+    ///
+    /// Cost: one pass over the cells that move; no memory.
+    pub fn delete_row(&mut self, at: usize) -> bool
+    where
+        T: Drop,
+        ensures found { IsTrue result ↔ (at < rows_of self.old.rows) }
+        ensures rows { self.new.rows ≡ (if result then remove self.old.rows at else self.old.rows) }
+        ensures order { self.new.order ≡ self.old.order }
+    {
+        self.delete_rows(at, 1)
+    }
+
+    /// Drops column `at`, and returns whether there was one; if not, nothing changes. The order stays. Deleting the only
+    /// column leaves the size (0, 0).
+    ///
+    ///     [[1, 2], [3, 4]]   delete_col(0)   true   [[2], [4]]
+    ///
+    /// Cost: one pass over the cells that move; no memory.
+    pub fn delete_col(&mut self, at: usize) -> bool
+    where
+        T: Drop,
+        ensures found { IsTrue result ↔ (at < cols_of self.old.rows) }
+        ensures rows { self.new.rows ≡ (if result then take_cols at 1 self.old.rows else self.old.rows) }
+        ensures order { self.new.order ≡ self.old.order }
+    {
+        self.delete_cols(at, 1)
+    }
+
+    /// Drops `count` rows from row `start` on, and returns whether there were so many; if not, nothing changes. The
+    /// order stays. Deleting all rows leaves the size (0, 0).
+    ///
+    ///     [[1, 2], [3, 4], [5, 6]]   delete_rows(0, 2)   true   [[5, 6]]
+    ///
+    /// Cost: one pass over the cells that move; no memory.
+    pub fn delete_rows(&mut self, start: usize, count: usize) -> bool
+    where
+        T: Drop,
+        ensures found { IsTrue result ↔ (start + count ≤ rows_of self.old.rows) }
+        ensures rows { self.new.rows ≡ (if result then take_rows start count self.old.rows else self.old.rows) }
+        ensures order { self.new.order ≡ self.old.order }
+    {
+        let mut tally = Tally::new();
+        self.delete_rows_counted(start, count, &mut tally)
+    }
+
+    /// Drops `count` columns from column `start` on, and returns whether there were so many; if not, nothing changes. The
+    /// order stays. Deleting all columns leaves the size (0, 0).
+    ///
+    ///     [[1, 2, 3], [4, 5, 6]]   delete_cols(0, 2)   true   [[3], [6]]
+    ///
+    /// Cost: one pass over the cells that move; no memory.
+    pub fn delete_cols(&mut self, start: usize, count: usize) -> bool
+    where
+        T: Drop,
+        ensures found { IsTrue result ↔ (start + count ≤ cols_of self.old.rows) }
+        ensures rows { self.new.rows ≡ (if result then take_cols start count self.old.rows else self.old.rows) }
+        ensures order { self.new.order ≡ self.old.order }
+    {
+        let mut tally = Tally::new();
+        self.delete_cols_counted(start, count, &mut tally)
+    }
+
+    pub(crate) fn delete_rows_counted(
+        &mut self,
+        start: usize,
+        count: usize,
+        tally: &mut Tally,
+    ) -> bool
+    where
+        T: Drop,
+        ensures found { IsTrue result ↔ (start + count ≤ rows_of self.old.rows) }
+        ensures rows { self.new.rows ≡ (if result then take_rows start count self.old.rows else self.old.rows) }
+        ensures order { self.new.order ≡ self.old.order }
+        ensures shift { tally.new.shift ≡ counted tally.old.shift (delete_rows_shift self.old.order (rows_of self.old.rows) (cols_of self.old.rows) start count) }
+        ensures symmetry { tally.new.symmetry ≡ tally.old.symmetry }
+    {
+        let rows = self.rows();
+        let found = count <= rows && start <= rows - count;
+        if found && count != 0 {
+            self.take_rows_out(start, count, tally);
+        }
+        found
+    }
+
+    pub(crate) fn delete_cols_counted(
+        &mut self,
+        start: usize,
+        count: usize,
+        tally: &mut Tally,
+    ) -> bool
+    where
+        T: Drop,
+        ensures found { IsTrue result ↔ (start + count ≤ cols_of self.old.rows) }
+        ensures rows { self.new.rows ≡ (if result then take_cols start count self.old.rows else self.old.rows) }
+        ensures order { self.new.order ≡ self.old.order }
+        ensures shift { tally.new.shift ≡ counted tally.old.shift (delete_cols_shift self.old.order (rows_of self.old.rows) (cols_of self.old.rows) start count) }
+        ensures symmetry { tally.new.symmetry ≡ tally.old.symmetry }
+    {
+        let _ = &self.flat;
+        self.transpose();
+        let found = self.delete_rows_counted(start, count, tally);
+        self.transpose();
+        found
+    }
+
+    // Drops rows that are there, at least one.
+    fn take_rows_out(&mut self, start: usize, count: usize, tally: &mut Tally)
+    where
+        T: Drop,
+        requires within { start + count ≤ rows_of self.old.rows }
+        requires some { 0 < count }
+        ensures rows { self.new.rows ≡ take_rows start count self.old.rows }
+        ensures order { self.new.order ≡ self.old.order }
+        ensures shift { tally.new.shift ≡ counted tally.old.shift (rows_taken_shift self.old.order (rows_of self.old.rows) (cols_of self.old.rows) start count) }
+        ensures symmetry { tally.new.symmetry ≡ tally.old.symmetry }
+    {
+        let rest = self.row_count - count;
+        close_rows(
+            &mut self.flat,
+            self.order,
+            rest,
+            self.col_count,
+            start,
+            count,
+            tally,
+        );
+        self.row_count = rest;
+        self.col_count = width_left(rest, self.col_count);
+    }
+}
