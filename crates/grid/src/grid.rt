@@ -49,7 +49,7 @@ fn place(order: Order, rows: usize, cols: usize, row: usize, col: usize) -> usiz
 impl<T, A: Allocator> Grid<T, A> {
     ghost use Rattle.grid.specs.Grid.{lends_cell, lends_cell_if};
 
-    /// The empty grid, row-major. Takes no memory.
+    /// Returns the empty grid, row-major. Takes no memory.
     pub fn empty(alloc: A) -> Grid<T, A>
         ensures rows { result.rows ≡ [] }
         ensures order { result.order ≡ Order.RowMajor }
@@ -57,10 +57,12 @@ impl<T, A: Allocator> Grid<T, A> {
         Grid::from_vec(Vec::new(alloc), 0)
     }
 
-    /// The grid of `cols` columns whose rows, joined, are the vector.
+    /// Makes a row-major grid of a vector, in rows of `cols`.
     ///
-    /// The vector is empty, or `cols` is not 0 and divides its length. An empty vector gives the empty grid. Takes
-    /// no memory.
+    ///     from_vec([1, 2, 3, 4, 5, 6], 3)   [[1, 2, 3], [4, 5, 6]]
+    ///
+    /// Requires: the vector is empty, or `cols` is not 0 and divides its length. An empty vector gives the empty grid.
+    /// Cost: constant; the vector is kept, and no memory is taken.
     pub fn from_vec(vec: Vec<T, A>, cols: usize) -> Grid<T, A>
         requires { CanCut (length vec.items) cols }
         ensures order { result.order ≡ Order.RowMajor }
@@ -71,10 +73,9 @@ impl<T, A: Allocator> Grid<T, A> {
         Grid::from_vec_with_order(vec, cols, Order::RowMajor)
     }
 
-    /// The grid of `cols` columns whose storage in this order is the vector.
+    /// Same as [`from_vec`](Grid::from_vec), but the vector is the storage in this order.
     ///
-    /// The vector is empty, or `cols` is not 0 and divides its length. An empty vector gives the empty grid of the
-    /// order. Takes no memory.
+    ///     from_vec_with_order([1, 4, 2, 5, 3, 6], 3, ColumnMajor)   [[1, 2, 3], [4, 5, 6]]
     pub fn from_vec_with_order(vec: Vec<T, A>, cols: usize, order: Order) -> Grid<T, A>
         requires { CanCut (length vec.items) cols }
         ensures order { result.order ≡ order }
@@ -100,7 +101,7 @@ impl<T, A: Allocator> Grid<T, A> {
         }
     }
 
-    /// The number of rows and the number of columns.
+    /// Returns the number of rows and the number of columns.
     pub fn size(&self) -> (usize, usize)
         ensures rows { result.0 ≡ rows_of self.now.rows }
         ensures cols { result.1 ≡ cols_of self.now.rows }
@@ -110,7 +111,7 @@ impl<T, A: Allocator> Grid<T, A> {
         (self.row_count, self.col_count)
     }
 
-    /// The number of rows.
+    /// Returns the number of rows.
     pub fn rows(&self) -> usize
         ensures rows { result ≡ rows_of self.now.rows }
         ensures table { IsTable self.now.rows }
@@ -118,7 +119,7 @@ impl<T, A: Allocator> Grid<T, A> {
         self.row_count
     }
 
-    /// The number of columns.
+    /// Returns the number of columns.
     pub fn cols(&self) -> usize
         ensures cols { result ≡ cols_of self.now.rows }
         ensures table { IsTable self.now.rows }
@@ -126,21 +127,21 @@ impl<T, A: Allocator> Grid<T, A> {
         self.col_count
     }
 
-    /// The order of the cells in the vector.
+    /// Returns the order of the cells in the vector.
     pub fn order(&self) -> Order
         ensures { result ≡ self.now.order }
     {
         self.order
     }
 
-    /// Whether there are no cells.
+    /// Returns whether there are no cells.
     pub fn is_empty(&self) -> bool
         ensures { IsTrue result ↔ (self.now.rows ≡ []) }
     {
         self.row_count == 0
     }
 
-    /// The cell in a row and a column, or `None` where there is none.
+    /// Returns the cell in a row and a column, or `None` out of range.
     pub fn get(&self, row: usize, col: usize) -> Option<&T>
         ensures { option_copied result ≡ cell self.now.rows row col }
     {
@@ -151,7 +152,7 @@ impl<T, A: Allocator> Grid<T, A> {
         }
     }
 
-    /// The cell in a row and a column, for writing, or `None` where there is none.
+    /// Returns the cell in a row and a column, for writing, or `None` out of range.
     pub fn get_mut(&mut self, row: usize, col: usize) -> Option<&mut T>
         ensures* writes_back { sem 𝓛 (lends_cell_if T.row A.row A.Allocator self.entry row col result) }
         ensures variant { is_some result ≡ is_some (cell self.old.rows row col) }
@@ -165,7 +166,9 @@ impl<T, A: Allocator> Grid<T, A> {
         self.flat.get_mut(place)
     }
 
-    /// The cell in a row and a column, which are in range.
+    /// Returns the cell in a row and a column.
+    ///
+    /// Requires: both are in range; no test runs.
     pub fn get_unchecked(&self, row: usize, col: usize) -> &T
         requires { InRange self.now.rows row col }
         ensures { cell self.now.rows row col ≡ Some result.now }
@@ -173,7 +176,9 @@ impl<T, A: Allocator> Grid<T, A> {
         self.flat.at(place(self.order, self.row_count, self.col_count, row, col))
     }
 
-    /// The cell in a row and a column, which are in range, for writing.
+    /// Returns the cell in a row and a column, for writing.
+    ///
+    /// Requires: both are in range; no test runs.
     pub fn get_unchecked_mut(&mut self, row: usize, col: usize) -> &mut T
         requires { InRange self.old.rows row col }
         ensures* writes_back { sem 𝓛 (lends_cell T.row A.row A.Allocator self.entry row col result) }
@@ -183,7 +188,9 @@ impl<T, A: Allocator> Grid<T, A> {
         self.flat.at_mut(place)
     }
 
-    /// Exchanges two cells, which are in range. No tally counts it.
+    /// Exchanges two cells. No tally counts it.
+    ///
+    /// Requires: both are in range.
     pub fn swap(&mut self, a: (usize, usize), b: (usize, usize))
         requires a_in { InRange self.old.rows a.0 a.1 }
         requires b_in { InRange self.old.rows b.0 b.1 }
@@ -195,7 +202,7 @@ impl<T, A: Allocator> Grid<T, A> {
         self.flat.swap(i, j);
     }
 
-    /// Drops all cells, and keeps the order.
+    /// Drops all cells, which leaves the size (0, 0). The order stays.
     pub fn clear(&mut self)
     where
         T: Drop,
@@ -207,14 +214,14 @@ impl<T, A: Allocator> Grid<T, A> {
         self.col_count = 0;
     }
 
-    /// The cells in storage order.
+    /// Returns the cells in storage order.
     pub fn flatten(&self) -> &[T]
         ensures { result.now ≡ storage self.now.order self.now.rows }
     {
         self.flat.as_slice()
     }
 
-    /// The vector of the cells in storage order. Takes no memory and clones nothing.
+    /// Returns the vector of the cells, in storage order. Takes no memory and clones nothing.
     pub fn into_vec(self) -> Vec<T, A>
         ensures { result.items ≡ storage self.order self.rows }
     {
@@ -228,7 +235,7 @@ impl<T, A: Allocator> Grid<T, A> {
     }
 }
 
-/// `grid[(row, col)]` is the cell in a row and a column, which are in range.
+/// `grid[(row, col)]` is the cell in a row and a column. Requires: both are in range.
 impl<T, A: Allocator> Index<(usize, usize)> for Grid<T, A> {
     type Output = T;
 
@@ -241,7 +248,7 @@ impl<T, A: Allocator> Index<(usize, usize)> for Grid<T, A> {
     }
 }
 
-/// The cell in a row and a column, which are in range, for writing.
+/// `grid[(row, col)] = x` writes a cell. Requires: both are in range.
 impl<T, A: Allocator> IndexMut<(usize, usize)> for Grid<T, A> {
     ghost use Rattle.grid.specs.Grid.{lends_cell};
 

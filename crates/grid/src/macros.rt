@@ -13,10 +13,10 @@ macro_rules! grid_of {
     }};
 }
 
-/// The row-major grid of these rows, as `grid!(alloc; [1, 2] [3, 4])`, in a function.
+/// Makes the row-major grid of these rows, in a function: `grid!(alloc; [1, 2] [3, 4])`.
 ///
-/// Rows of unequal length do not compile. No rows, or rows without cells, give the empty grid. It answers what
-/// `Grid::from_arrays` does; on a refusal the cells are dropped.
+/// Rows of unequal length do not compile. No rows, or rows without cells, give the empty grid. It returns what
+/// `Grid::from_arrays` does; an error drops the cells.
 #[macro_export]
 macro_rules! grid {
     ($alloc:expr; $($rows:tt)*) => {
@@ -24,10 +24,7 @@ macro_rules! grid {
     };
 }
 
-/// The column-major grid of these rows, as `grid_cm!(alloc; [1, 2] [3, 4])`, in a function.
-///
-/// Rows of unequal length do not compile. No rows, or rows without cells, give the empty grid. It answers what
-/// `Grid::from_arrays` does; on a refusal the cells are dropped.
+/// Same as [`grid!`], in column-major order: `grid_cm!(alloc; [1, 2] [3, 4])` has the rows [1, 2] and [3, 4] too.
 #[macro_export]
 macro_rules! grid_cm {
     ($alloc:expr; $($rows:tt)*) => {

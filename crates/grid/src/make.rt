@@ -20,10 +20,12 @@ impl<T, A: Allocator> Grid<T, A> {
         Grid::from_vec_with_order(Vec::new(alloc), 0, order)
     }
 
-    /// The row-major grid of so many rows and columns whose cells are all defaults.
+    /// Makes a row-major grid of this size, of default cells. Without rows or without columns it is the empty grid.
     ///
-    /// Without rows or without columns it is the empty grid, which takes no memory. `TooLarge` exactly where
-    /// `rows * cols` passes `usize::MAX`, which is decided before memory is asked for; `Memory` where it is refused.
+    ///     new(alloc, 2, 3)   [[0, 0, 0], [0, 0, 0]]
+    ///
+    /// Fails: `TooLarge` where `rows * cols` passes `usize::MAX`, else `Memory`. Without rows or without columns it takes
+    /// no memory and never fails.
     pub fn new(alloc: A, rows: usize, cols: usize) -> Result<Grid<T, A>, GridError>
     where
         T: Default,
@@ -38,10 +40,7 @@ impl<T, A: Allocator> Grid<T, A> {
         Grid::new_with_order(alloc, rows, cols, Order::RowMajor)
     }
 
-    /// The grid of so many rows and columns in this order whose cells are all defaults.
-    ///
-    /// Without rows or without columns it is the empty grid, which takes no memory. `TooLarge` exactly where
-    /// `rows * cols` passes `usize::MAX`, which is decided before memory is asked for; `Memory` where it is refused.
+    /// Same as [`new`](Grid::new), in this order.
     pub fn new_with_order(
         alloc: A,
         rows: usize,
@@ -71,11 +70,15 @@ impl<T, A: Allocator> Grid<T, A> {
         Ok(Grid::from_vec_with_order(cells, cols, order))
     }
 
-    /// The row-major grid of so many rows and columns whose cells all equal a value.
+    /// Makes a row-major grid of this size whose cells all equal a value. Without rows or without columns it is the
+    /// empty grid. The last cell is the value itself.
     ///
-    /// Clones equal their source. Without rows or without columns it is the empty grid, which takes no memory.
-    /// `TooLarge` exactly where `rows * cols` passes `usize::MAX`, which is decided before memory is asked for;
-    /// `Memory` where it is refused. The last cell is the value itself; a refusal drops it.
+    ///     init(alloc, 2, 2, 7)   [[7, 7], [7, 7]]
+    ///
+    /// Requires: clones of the cell type equal their source.
+    /// Fails: `TooLarge` where `rows * cols` passes `usize::MAX`, else `Memory`. Without rows or without columns it takes
+    /// no memory and never fails.
+    /// An error drops the value.
     pub fn init(alloc: A, rows: usize, cols: usize, value: T) -> Result<Grid<T, A>, GridError>
     where
         T: Clone,
@@ -90,11 +93,7 @@ impl<T, A: Allocator> Grid<T, A> {
         Grid::init_with_order(alloc, rows, cols, Order::RowMajor, value)
     }
 
-    /// The grid of so many rows and columns in this order whose cells all equal a value.
-    ///
-    /// Clones equal their source. Without rows or without columns it is the empty grid, which takes no memory.
-    /// `TooLarge` exactly where `rows * cols` passes `usize::MAX`, which is decided before memory is asked for;
-    /// `Memory` where it is refused. The last cell is the value itself; a refusal drops it.
+    /// Same as [`init`](Grid::init), in this order.
     pub fn init_with_order(
         alloc: A,
         rows: usize,
@@ -122,10 +121,10 @@ impl<T, A: Allocator> Grid<T, A> {
         Ok(Grid::from_vec_with_order(cells, cols, order))
     }
 
-    /// An empty row-major grid with room for so many rows and columns.
+    /// Makes an empty row-major grid with room for this many rows and columns.
     ///
-    /// `TooLarge` exactly where `rows * cols` passes `usize::MAX`, which is decided before memory is asked for;
-    /// `Memory` where it is refused. With no rows or no columns nothing is refused.
+    /// Fails: `TooLarge` where `rows * cols` passes `usize::MAX`, else `Memory`. Without rows or without columns it takes
+    /// no memory and never fails.
     pub fn with_capacity(alloc: A, rows: usize, cols: usize) -> Result<Grid<T, A>, GridError>
         ensures rows { IfOk result (λ g. g.rows ≡ []) }
         ensures order { IfOk result (λ g. g.order ≡ Order.RowMajor) }
@@ -135,10 +134,7 @@ impl<T, A: Allocator> Grid<T, A> {
         Grid::with_capacity_and_order(alloc, rows, cols, Order::RowMajor)
     }
 
-    /// An empty grid of this order with room for so many rows and columns.
-    ///
-    /// `TooLarge` exactly where `rows * cols` passes `usize::MAX`, which is decided before memory is asked for;
-    /// `Memory` where it is refused. With no rows or no columns nothing is refused.
+    /// Same as [`with_capacity`](Grid::with_capacity), in this order.
     pub fn with_capacity_and_order(
         alloc: A,
         rows: usize,

@@ -17,7 +17,9 @@ use std::alloc::Allocator;
 use std::mem;
 
 impl<T, A: Allocator> Grid<T, A> {
-    /// Exchanges rows with columns. Moves no cell, and flips the order, so the storage stays.
+    /// Exchanges rows with columns. Flips the order; the storage stays, so no cell moves.
+    ///
+    ///     [[1, 2, 3], [4, 5, 6]]   transpose()   [[1, 4], [2, 5], [3, 6]]
     pub fn transpose(&mut self)
         ensures rows { self.new.rows ≡ act Transpose self.old.rows }
         ensures order { self.new.order ≡ flipped self.old.order }
@@ -30,7 +32,11 @@ impl<T, A: Allocator> Grid<T, A> {
         };
     }
 
-    /// Reverses the rows, by `(rows / 2) * cols` swaps. Keeps the order.
+    /// Reverses the order of the rows. The order of the storage stays.
+    ///
+    ///     [[1, 2, 3], [4, 5, 6]]   flip_rows()   [[4, 5, 6], [1, 2, 3]]
+    ///
+    /// Cost: `(rows / 2) * cols` swaps.
     pub fn flip_rows(&mut self)
         ensures rows { self.new.rows ≡ act FlipRows self.old.rows }
         ensures order { self.new.order ≡ self.old.order }
@@ -39,7 +45,11 @@ impl<T, A: Allocator> Grid<T, A> {
         self.flip_rows_counted(&mut tally);
     }
 
-    /// Reverses each row, by `rows * (cols / 2)` swaps. Keeps the order.
+    /// Reverses each row. The order of the storage stays.
+    ///
+    ///     [[1, 2, 3], [4, 5, 6]]   flip_cols()   [[3, 2, 1], [6, 5, 4]]
+    ///
+    /// Cost: `rows * (cols / 2)` swaps.
     pub fn flip_cols(&mut self)
         ensures rows { self.new.rows ≡ act FlipCols self.old.rows }
         ensures order { self.new.order ≡ self.old.order }
@@ -48,7 +58,11 @@ impl<T, A: Allocator> Grid<T, A> {
         self.flip_cols_counted(&mut tally);
     }
 
-    /// Turns the grid by a quarter against the clock: a transpose, then a flip of the rows. Flips the order.
+    /// Rotates the grid a quarter turn counterclockwise: a transpose, then a flip of the rows. Flips the order.
+    ///
+    ///     [[1, 2, 3], [4, 5, 6]]   rotate_left()   [[3, 6], [2, 5], [1, 4]]
+    ///
+    /// Cost: `rows * (cols / 2)` swaps.
     pub fn rotate_left(&mut self)
         ensures rows { self.new.rows ≡ act RotateLeft self.old.rows }
         ensures order { self.new.order ≡ flipped self.old.order }
@@ -56,7 +70,11 @@ impl<T, A: Allocator> Grid<T, A> {
         self.apply(Symmetry::RotateLeft);
     }
 
-    /// Turns the grid by a quarter with the clock: a transpose, then a flip of the columns. Flips the order.
+    /// Rotates the grid a quarter turn clockwise: a transpose, then a flip of the columns. Flips the order.
+    ///
+    ///     [[1, 2, 3], [4, 5, 6]]   rotate_right()   [[4, 1], [5, 2], [6, 3]]
+    ///
+    /// Cost: `cols * (rows / 2)` swaps.
     pub fn rotate_right(&mut self)
         ensures rows { self.new.rows ≡ act RotateRight self.old.rows }
         ensures order { self.new.order ≡ flipped self.old.order }
@@ -64,7 +82,11 @@ impl<T, A: Allocator> Grid<T, A> {
         self.apply(Symmetry::RotateRight);
     }
 
-    /// Turns the grid by a half, by `(rows * cols) / 2` swaps. Keeps the order.
+    /// Rotates the grid a half turn. The order stays.
+    ///
+    ///     [[1, 2, 3], [4, 5, 6]]   rotate_half()   [[6, 5, 4], [3, 2, 1]]
+    ///
+    /// Cost: `(rows * cols) / 2` swaps.
     pub fn rotate_half(&mut self)
         ensures rows { self.new.rows ≡ act RotateHalf self.old.rows }
         ensures order { self.new.order ≡ self.old.order }
@@ -73,8 +95,12 @@ impl<T, A: Allocator> Grid<T, A> {
         self.rotate_half_counted(&mut tally);
     }
 
-    /// Applies a symmetry. The rows become its image of them, which is the image under every word that reduces to
-    /// it. Flips the order exactly if the symmetry transposes.
+    /// Applies a symmetry: the rows become their image under it, which is their image under every word of moves that
+    /// reduces to it. Flips the order exactly if the symmetry transposes.
+    ///
+    ///     [[1, 2, 3], [4, 5, 6]]   apply(AntiTranspose)   [[6, 3], [5, 2], [4, 1]]
+    ///
+    /// Cost: the swaps of its flips, at most half as many as there are cells, however long the word was.
     pub fn apply(&mut self, symmetry: Symmetry)
         ensures rows { self.new.rows ≡ act symmetry self.old.rows }
         ensures words { (w : List Move) → IsNormalForm w symmetry → self.new.rows ≡ word_image w self.old.rows }

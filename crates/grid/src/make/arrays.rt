@@ -47,11 +47,12 @@ fn take_cell<T, const R: usize, const C: usize>(
 }
 
 impl<T, A: Allocator> Grid<T, A> {
-    /// The grid of this order whose row i has the contents of row i of the slots.
+    /// Makes a grid of this order whose row i takes the cells of row i of the slots, and leaves every slot `None`.
+    /// Without rows or without columns it is the empty grid.
     ///
-    /// Every slot holds a cell. Afterwards every slot is `None`; a refusal leaves all slots as they were. Without
-    /// rows or without columns it is the empty grid of the order, which takes no memory. `TooLarge` exactly where
-    /// `R * C` passes `usize::MAX`, which is decided before memory is asked for; `Memory` where it is refused.
+    /// Requires: every slot holds a cell.
+    /// Fails: `TooLarge` where `R * C` passes `usize::MAX`, else `Memory`; all slots are unchanged. Without rows or
+    /// without columns it takes no memory and never fails.
     pub fn from_arrays<const R: usize, const C: usize>(
         alloc: A,
         order: Order,
