@@ -5,7 +5,7 @@ use Rattle.std.proofs.lemmas.List.{length-take-le, length-reverse, get_or-revers
 use Rattle.std.proofs.lemmas.List.Edits.{length-swap}
 use Rattle.std.proofs.lemmas.Option.{slice_get-get_or}
 use Rattle.std.proofs.lemmas.Bool.{cases_lt, cases_eq}
-use Rattle.grid_base.specs.Blocks.{PartReversed, BlocksSwapped}
+use Rattle.grid_base.specs.Blocks.{PartReversed, BlocksSwapped, BlocksExchanged}
 use Rattle.grid_base.proofs.Stores.{get_append_left, get_append_right, get-take, get-drop}
 use Rattle.grid_base.proofs.Swaps.{get-swap_first, get-swap_second, get-swap_other}
 
@@ -132,3 +132,22 @@ blocks_more i j n old now new apart within h e =
           get-swap_other now _ _ k p q (λ s. let o : i + (n + 1) ≤ k = a (omega arith) in omega arith) (λ s. let o : j + (n + 1) ≤ k = b (omega arith) in omega arith)
           ∙ h.others k (λ le. let o : i + (n + 1) ≤ k = a le in omega arith) (λ le. let o : j + (n + 1) ≤ k = b le in omega arith);
     })
+
+-- two parts that are reversed, and then both as one
+pub exchanged_by_reversals : {T : Type 0} (a m n : ℕ) (old one two new : List T) → PartReversed a m old one → PartReversed (a + m) n one two → PartReversed a (m + n) two new → BlocksExchanged a m n old new
+exchanged_by_reversals a m n old one two new h i j =
+    record {
+      length_stays = j.length_stays ∙ (i.length_stays ∙ h.length_stays);
+      before = λ x lt. j.others x (λ le. absurd (omega arith)) ∙ (i.others x (λ le. absurd (omega arith)) ∙ h.others x (λ le. absurd (omega arith)));
+      second = λ x lt.
+          j.moved x (omega arith)
+          ∙ (ap (slice_get two) (omega arith)
+          ∙ (i.moved (n - 1 - x) (omega arith)
+          ∙ (ap (slice_get one) (omega arith) ∙ h.others (a + (m + x)) (λ le. omega arith))));
+      first = λ x lt.
+          j.moved (n + x) (omega arith)
+          ∙ (i.others (a + (m + n - 1 - (n + x))) (λ le. absurd (omega arith))
+          ∙ (ap (slice_get one) (omega arith)
+          ∙ (h.moved (m - 1 - x) (omega arith) ∙ ap (slice_get old) (omega arith))));
+      behind = λ x le. j.others x (λ lo. omega arith) ∙ (i.others x (λ lo. omega arith) ∙ h.others x (λ lo. omega arith));
+    }

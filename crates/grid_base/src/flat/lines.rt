@@ -1,9 +1,10 @@
 //! Groups of cells that are put into the lines of a vector, or taken out of them.
 ghost use Rattle.std.specs.Prelude.{◌≡◌, ◌+◌, ◌-◌, ◌*◌, ◌^◌, ◌<◌, ◌≤◌, length};
-ghost use Rattle.grid_base.specs.Blocks.{BlocksExchanged, MovedForward, MovedBack};
+ghost use Rattle.grid_base.specs.Blocks.{MovedForward, MovedBack};
 ghost use Rattle.grid_base.specs.Lines.{Widened, Woven, Opened, Closed};
 ghost use Rattle.grid_base.specs.Tally.{counted};
 
+use super::blocks::exchange_blocks;
 use super::{Flat, Tally};
 use std::alloc::Allocator;
 
@@ -81,15 +82,6 @@ impl<T, A: Allocator> Flat<T, A> {
         close_at(self, lines, width, at, count, tally);
         self.cells.truncate(lines * width);
     }
-}
-
-// Exchanges the `first` cells from `start` on with the `second` cells behind them.
-fn exchange_blocks<T>(cells: &mut [T], start: usize, first: usize, second: usize)
-    requires within { start + first + second ≤ length cells.old }
-    requires fits { start + first + second < 2 ^ 64 }
-    ensures { BlocksExchanged start first second cells.old cells.new }
-{
-    cells[start..start + first + second].rotate_left(first);
 }
 
 // The groups of the first half of the lines come before the lines of the second half; then each half is woven. Lines that

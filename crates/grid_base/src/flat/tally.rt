@@ -1,9 +1,10 @@
 //! Two counts of swaps, and the counted swaps of a `Flat`, which alone raise them.
-ghost use Rattle.std.specs.Prelude.{◌≡◌, ◌≢◌, ◌<◌, ◌≤◌, ◌+◌, ◌/◌, ◌^◌, ◌++◌, length, take, drop, reverse, swap};
+ghost use Rattle.std.specs.Prelude.{◌≡◌, ◌≢◌, ◌<◌, ◌≤◌, ◌+◌, ◌/◌, ◌^◌, length, swap};
 ghost use Rattle.grid_base.specs.Blocks.{BlocksSwapped, PartReversed};
 ghost use Rattle.grid_base.specs.Tally.{counted};
 
 use super::Flat;
+use super::blocks::{reverse_part, swap_blocks};
 use std::alloc::Allocator;
 use std::marker::Model;
 
@@ -130,71 +131,4 @@ impl<T, A: Allocator> Flat<T, A> {
         swap_blocks(self.cells.as_mut_slice(), i, j, n);
         tally.count_shifts(n);
     }
-}
-
-// Parts of fewer cells are moved cell by cell, since a call out of line would cost more.
-const SHORT: usize = 16;
-
-fn reverse_part<T>(cells: &mut [T], start: usize, n: usize)
-    requires within { start + n ≤ length cells.old }
-    requires fits { start + n < 2 ^ 64 }
-    ensures { PartReversed start n cells.old cells.new }
-{
-    if n < SHORT {
-        reverse_in_turn(cells, start, n);
-    } else {
-        reverse_at_once(cells, start, n);
-    }
-}
-
-fn reverse_in_turn<T>(cells: &mut [T], start: usize, n: usize)
-    requires within { start + n ≤ length cells.old }
-    requires fits { start + n < 2 ^ 64 }
-    ensures { PartReversed start n cells.old cells.new }
-{
-    for i in 0..n / 2 {
-        cells.swap(start + i, start + (n - 1 - i));
-    }
-}
-
-fn reverse_at_once<T>(cells: &mut [T], start: usize, n: usize)
-    requires within { start + n ≤ length cells.old }
-    requires fits { start + n < 2 ^ 64 }
-    ensures { cells.new ≡ take start cells.old ++ reverse (take n (drop start cells.old)) ++ drop (start + n) cells.old }
-{
-    cells[start..start + n].reverse();
-}
-
-fn swap_blocks<T>(cells: &mut [T], i: usize, j: usize, n: usize)
-    requires apart { i + n ≤ j }
-    requires within { j + n ≤ length cells.old }
-    requires fits { j + n < 2 ^ 64 }
-    ensures { BlocksSwapped i j n cells.old cells.new }
-{
-    if n < SHORT {
-        swap_in_turn(cells, i, j, n);
-    } else {
-        swap_at_once(cells, i, j, n);
-    }
-}
-
-fn swap_in_turn<T>(cells: &mut [T], i: usize, j: usize, n: usize)
-    requires apart { i + n ≤ j }
-    requires within { j + n ≤ length cells.old }
-    requires fits { j + n < 2 ^ 64 }
-    ensures { BlocksSwapped i j n cells.old cells.new }
-{
-    for k in 0..n {
-        cells.swap(i + k, j + k);
-    }
-}
-
-fn swap_at_once<T>(cells: &mut [T], i: usize, j: usize, n: usize)
-    requires apart { i + n ≤ j }
-    requires within { j + n ≤ length cells.old }
-    requires fits { j + n < 2 ^ 64 }
-    ensures { cells.new ≡ take i cells.old ++ take n (drop j cells.old) ++ drop (i + n) (take j cells.old) ++ take n (drop i cells.old) ++ drop (j + n) cells.old }
-{
-    let (front, back) = cells.split_at_mut(j);
-    front[i..i + n].swap_with_slice(&mut back[..n]);
 }

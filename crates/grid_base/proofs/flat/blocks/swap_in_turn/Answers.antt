@@ -1,6 +1,6 @@
 use Rattle.std.proofs.Common.{arith}
 use Rattle.grid_base.proofs.Parts.{blocks_none, blocks_more}
-use Rattle.grid_base.proofs.flat.tally.swap_in_turn.Goals as goal
+use Rattle.grid_base.proofs.flat.blocks.swap_in_turn.Goals as goal
 
 pub loop-k-init : goal.loop-k-init
 loop-k-init g c = blocks_none _ _ _

@@ -1,6 +1,6 @@
 use Rattle.std.proofs.Common.{arith}
 use Rattle.grid_base.proofs.Parts.{turning_none, turning_more, turning_all}
-use Rattle.grid_base.proofs.flat.tally.reverse_in_turn.Goals as goal
+use Rattle.grid_base.proofs.flat.blocks.reverse_in_turn.Goals as goal
 
 pub loop-i-init : goal.loop-i-init
 loop-i-init g c = turning_none _ _ _
