@@ -105,7 +105,7 @@ fn cells_in<T: Cell>(alloc: Global, items: &Vec<Value>) -> Result<Vec<T>, ReadEr
     let mut cells = Vec::new(alloc);
     for (index, item) in items.iter().enumerate() {
         match T::from_cell(alloc, item)? {
-            Some(cell) => cells.push(cell).map_err(|_| ReadError::Memory)?,
+            Some(cell) => cells.push(cell)?,
             None => return Err(ReadError::BadCell(index)),
         }
     }
