@@ -12,3 +12,5 @@ pub mod Shift
 pub mod Span
 pub mod Walks
 pub mod Wholes
+pub mod Same
+pub mod Texts

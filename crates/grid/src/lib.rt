@@ -12,7 +12,9 @@ mod grid;
 pub mod laws;
 mod macros;
 mod make;
+mod pretty;
 mod symmetry;
+mod traits;
 mod walks;
 
 pub use command::{Command, Reply, RunStopped, run};
@@ -20,6 +22,6 @@ pub use error::{GridError, LineRefused, LinesRefused, ShapeError};
 pub use grid::Grid;
 pub use grid_base::{
     GridLineIter, GridLineIterMut, IndexedIntoIter, IndexedIter, IndexedIterMut, Move, Order,
-    Symmetry, Tally, reduce,
+    Symmetry, Tally, Whole, reduce,
 };
 pub use walks::{GridColIter, GridRowIter};

@@ -4,6 +4,7 @@ ghost use Rattle.std.specs.Borrow.{sem};
 ghost use Rattle.std.specs.Option.{option_copied};
 
 mod blocks;
+mod clone;
 mod ends;
 mod gather;
 mod indexed;
@@ -17,6 +18,7 @@ mod strides;
 mod tally;
 #[cfg(test)]
 mod tests;
+mod whole;
 mod wholes;
 
 pub use indexed::IndexedIter;
@@ -28,6 +30,7 @@ use std::alloc::{Allocator, Global};
 use std::marker::Model;
 pub use strides::GridLineIterMut;
 pub use tally::Tally;
+pub use whole::Whole;
 
 /// The only holder of a grid's vector, seen as the list of its cells.
 #[derive(Drop)]

@@ -11,3 +11,5 @@ mod fuse;
 mod memory;
 #[cfg(test)]
 mod refused;
+#[cfg(test)]
+mod texts;

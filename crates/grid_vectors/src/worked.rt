@@ -4,5 +4,6 @@ mod edits;
 mod makers;
 mod moves;
 mod texts;
+mod traits;
 mod walks;
 mod wholes;

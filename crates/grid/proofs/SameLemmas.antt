@@ -1,0 +1,108 @@
+-- Tables that are the same cell by cell.
+use Rattle.std.proofs.Common.{◌≡◌, ℕ, zero, suc, ◌+◌, ◌<◌, Bool, true, false, ◌&&◌, List, [], ◌∷◌, take, length, refl, sym, ap, ◌∙◌, ◌*◌, arith, add-one}
+use Rattle.std.specs.Prelude.{Some}
+use Rattle.std.specs.Cmp.{first_so, second_so}
+use Rattle.std.specs.List.{slice_get}
+use lib.Pointwise.{pointwise}
+use Rattle.grid_base.specs.declared.flat.order.Order.{Order}
+use Rattle.grid_base.specs.Table.{row, rows_of, cols_of, cell, IsTable}
+use Rattle.grid_base.specs.Order.{storage, place}
+use Rattle.grid_base.proofs.Stores.{length-storage, get-storage, has_place}
+
+module _ {X : Type 0} (E : X → X → Bool) where
+  same_suc : (xs ys : List X) (i : ℕ) (x y : X) → slice_get xs i ≡ Some x → slice_get ys i ≡ Some y → pointwise E (take i xs) (take i ys) ≡ true → E x y ≡ true → pointwise E (take (suc i) xs) (take (suc i) ys) ≡ true
+  same_suc [] ys i x y e f h k = absurd (cc)
+  same_suc (a ∷ xs) [] i x y e f h k = absurd (cc)
+  same_suc (a ∷ xs) (b ∷ ys) zero x y e f h k = let p : a ≡ x = cc in let q : b ≡ y = cc in rw (p, q, k)
+  same_suc (a ∷ xs) (b ∷ ys) (suc i) x y e f h k =
+      rw (first_so (E a b) (pointwise E (take i xs) (take i ys)) h) (same_suc xs ys i x y e f (second_so (E a b) (pointwise E (take i xs) (take i ys)) h) k)
+
+  -- one more pair of items that are the same
+  pub same_next : (xs ys : List X) (i : ℕ) (x y : X) → slice_get xs i ≡ Some x → slice_get ys i ≡ Some y → pointwise E (take i xs) (take i ys) ≡ true → E x y ≡ true → pointwise E (take (i + 1) xs) (take (i + 1) ys) ≡ true
+  same_next xs ys i x y e f h k = rw add-one (same_suc xs ys i x y e f h k)
+
+  -- a pair that is not the same
+  pub differs : (xs ys : List X) (i : ℕ) (x y : X) → slice_get xs i ≡ Some x → slice_get ys i ≡ Some y → E x y ≡ false → pointwise E xs ys ≡ false
+  differs [] ys i x y e f k = absurd (cc)
+  differs (a ∷ xs) [] i x y e f k = refl
+  differs (a ∷ xs) (b ∷ ys) zero x y e f k = let p : a ≡ x = cc in let q : b ≡ y = cc in rw (p, q, k)
+  differs (a ∷ xs) (b ∷ ys) (suc i) x y e f k = rw (differs xs ys i x y e f k) (and_false (E a b))
+    where
+      and_false : (t : Bool) → t && false ≡ false
+      and_false true = refl
+      and_false false = refl
+
+-- a row in range is an item of the table
+pub row_at : {X : Type 0} (t : List (List X)) (r : ℕ) → r < rows_of t → slice_get t r ≡ Some (row t r)
+row_at [] r lt = absurd (omega arith)
+row_at (x ∷ t) zero lt = refl
+row_at (x ∷ t) (suc r) lt = row_at t r (omega arith)
+
+-- ---- the same cell by cell and storage by storage
+
+bool_iff : (a b : Bool) → (a ≡ true → b ≡ true) → (b ≡ true → a ≡ true) → a ≡ b
+bool_iff true b f g = sym (f refl)
+bool_iff false true f g = g refl
+bool_iff false false f g = refl
+
+module _ {X : Type 0} (E : X → X → Bool) where
+  -- the items of an index are the same, where all are
+  same_at : (xs ys : List X) (i : ℕ) (x y : X) → pointwise E xs ys ≡ true → slice_get xs i ≡ Some x → slice_get ys i ≡ Some y → E x y ≡ true
+  same_at [] ys i x y h e f = absurd (cc)
+  same_at (a ∷ xs) [] i x y h e f = absurd (cc)
+  same_at (a ∷ xs) (b ∷ ys) zero x y h e f = let p : a ≡ x = cc in let q : b ≡ y = cc in rw (p, q) at (first_so (E a b) (pointwise E xs ys) h)
+  same_at (a ∷ xs) (b ∷ ys) (suc i) x y h e f = same_at xs ys i x y (second_so (E a b) (pointwise E xs ys) h) e f
+
+  -- all are the same, where those of each index are
+  same_by : (xs ys : List X) → length xs ≡ length ys → ((i : ℕ) (x y : X) → slice_get xs i ≡ Some x → slice_get ys i ≡ Some y → E x y ≡ true) → pointwise E xs ys ≡ true
+  same_by [] [] len each = refl
+  same_by [] (b ∷ ys) len each = absurd (omega (arith, len))
+  same_by (a ∷ xs) [] len each = absurd (omega (arith, len))
+  same_by (a ∷ xs) (b ∷ ys) len each = rw (each 0 a b refl refl) (same_by xs ys (omega (arith, len)) (λ i x y e f. each (suc i) x y e f))
+
+-- an item stands in range
+within : {X : Type 0} (xs : List X) (i : ℕ) (x : X) → slice_get xs i ≡ Some x → i < length xs
+within [] i x e = absurd (cc)
+within (a ∷ xs) zero x e = omega arith
+within (a ∷ xs) (suc i) x e = let h = within xs i x e in omega (arith, h)
+
+-- an item of a table is its row
+row_is : {X : Type 0} (t : List (List X)) (r : ℕ) (x : List X) → slice_get t r ≡ Some x → row t r ≡ x
+row_is [] r x e = absurd (cc)
+row_is (y ∷ t) zero x e = cc
+row_is (y ∷ t) (suc r) x e = row_is t r x e
+
+module _ {X : Type 0} (E : X → X → Bool) (o : Order) (t u : List (List X)) (T : IsTable t) (U : IsTable u) (rows : rows_of t ≡ rows_of u) (cols : cols_of t ≡ cols_of u) where
+  rows_same : pointwise E (storage o t) (storage o u) ≡ true → pointwise (pointwise E) t u ≡ true
+  rows_same h = same_by (pointwise E) t u rows (λ r x y e f.
+      let lr : r < rows_of t = within t r x e in
+      let x_is : row t r ≡ x = row_is t r x e in
+      let y_is : row u r ≡ y = row_is u r y f in
+      let x_len : length x ≡ cols_of t = ap length (sym x_is) ∙ T.even r lr in
+      let y_len : length y ≡ cols_of u = ap length (sym y_is) ∙ U.even r (omega (arith, rows, lr)) in
+      same_by E x y (x_len ∙ (cols ∙ sym y_len)) (λ c a b p q.
+      let lc : c < cols_of t = omega (arith, x_len, within x c a p) in
+      let here : slice_get (storage o t) (place o (rows_of t) (cols_of t) r c) ≡ Some a =
+      get-storage o t r c T lr lc ∙ (ap (λ l. slice_get l c) x_is ∙ p) in
+      let there : slice_get (storage o u) (place o (rows_of t) (cols_of t) r c) ≡ Some b =
+      (λ k. slice_get (storage o u) (place o (rows k) (cols k) r c)) ∙ (get-storage o u r c U (omega (arith, rows, lr)) (omega (arith, cols, lc)) ∙ (ap (λ l. slice_get l c) y_is ∙ q)) in
+      same_at E (storage o t) (storage o u) _ a b h here there))
+
+  storages_same : pointwise (pointwise E) t u ≡ true → pointwise E (storage o t) (storage o u) ≡ true
+  storages_same h =
+      let size : length (storage o t) ≡ rows_of t * cols_of t = length-storage o t T in
+      let long : length (storage o t) ≡ length (storage o u) = size ∙ ((λ k. rows k * cols k) ∙ sym (length-storage o u U)) in
+      same_by E (storage o t) (storage o u) long (λ k a b p q.
+      let at = has_place o (rows_of t) (cols_of t) k (omega (arith, size, within (storage o t) k a p)) in
+      let r = at.r in
+      let c = at.c in
+      let ur : r < rows_of u = omega (arith, rows, at.lr) in
+      let uc : c < cols_of u = omega (arith, cols, at.lc) in
+      let here : cell t r c ≡ Some a = sym (get-storage o t r c T at.lr at.lc) ∙ (ap (slice_get (storage o t)) at.is ∙ p) in
+      let there : cell u r c ≡ Some b =
+      sym (get-storage o u r c U ur uc) ∙ ((λ j. slice_get (storage o u) (place o (sym rows j) (sym cols j) r c)) ∙ (ap (slice_get (storage o u)) at.is ∙ q)) in
+      same_at E (row t r) (row u r) c a b (same_at (pointwise E) t u r (row t r) (row u r) h (row_at t r at.lr) (row_at u r ur)) here there)
+
+  -- tables of one size are the same exactly if what is stored of them in an order is
+  pub same_stored : pointwise E (storage o t) (storage o u) ≡ pointwise (pointwise E) t u
+  same_stored = bool_iff _ _ rows_same storages_same

@@ -1,0 +1,9 @@
+use Rattle.std.proofs.Common.{◌≡◌, ◌++◌, take, map, codes, string_bytes}
+use Rattle.std.specs.List.{join_by}
+use Rattle.grid_base.specs.Table.{row}
+use Rattle.grid.specs.Texts.{right_aligned}
+use Rattle.grid.proofs.grid.Grid.push_row_line.Given as goal
+
+abbrev pub invariant-loop-col : goal.invariant-loop-col
+invariant-loop-col g l =
+    string_bytes l.text ≡ string_bytes l.fn.text ++ (codes "    [" ++ join_by (λ z. codes " " ++ right_aligned l.width z) (codes ",") (map g.T.Whole.whole (take l.col (row l.self.rows l.r))))

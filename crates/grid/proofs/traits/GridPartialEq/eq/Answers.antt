@@ -1,0 +1,18 @@
+use Rattle.std.proofs.Common.{rules, ◌≡◌, sym, ap, ◌∙◌, arith}
+use lib.Pointwise.{pointwise}
+use Rattle.grid_base.specs.Table.{rows_of, cols_of}
+use Rattle.grid_base.specs.Order.{storage}
+use Rattle.grid.proofs.SameLemmas.{same_stored}
+use Rattle.grid.proofs.traits.GridPartialEq.eq.Goals as goal
+
+pub returns-then-eq : goal.returns-then-eq
+returns-then-eq g c =
+    let E = g.T.PartialEq.eq in
+    let a = c.args.self.now in
+    let b = c.args.other.now in
+    let order : a.order ≡ b.order = search rules in
+    let rows : rows_of a.rows ≡ rows_of b.rows = omega arith in
+    let cols : cols_of a.rows ≡ cols_of b.rows = omega arith in
+    c.eq-then-eq.ensures
+    ∙ ((λ k. pointwise E (c.flatten.ensures k) ((c.flatten-then-eq.ensures ∙ ap (λ o. storage o b.rows) (sym order)) k))
+    ∙ same_stored E a.order a.rows b.rows c.size-rows.ensures.table c.size-other_rows.ensures.table rows cols)

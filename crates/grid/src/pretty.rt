@@ -1,0 +1,125 @@
+//! The text of a grid of whole numbers.
+ghost use Rattle.std.specs.Prelude.{◌≡◌, ◌<◌, ◌++◌, [], map, IfOk, OnOk, string_bytes};
+ghost use Rattle.grid_base.specs.Table.{row, rows_of, joined};
+ghost use Rattle.grid.specs.Texts.{numbers, longest, row_line, width_or_longest, pretty_text};
+
+use crate::Grid;
+use crate::traits::separator_before;
+use grid_base::Whole;
+use std::alloc::{AllocError, Allocator};
+
+impl<T: Whole, A: Allocator> Grid<T, A> {
+    // The length of the longest number of row r, which is in range. Each number is written into the text, which is
+    // empty before and after.
+    fn longest_in_row<B: Allocator>(
+        &self,
+        text: &mut String<B>,
+        r: usize,
+    ) -> Result<usize, AllocError>
+        requires row { r < rows_of self.now.rows }
+        requires text { string_bytes text.old ≡ [] }
+        ensures text { OnOk result (string_bytes text.new ≡ []) }
+        ensures longest { IfOk result (λ len. len ≡ longest (map T.whole (row self.now.rows r))) }
+    {
+        let (_, cols) = self.size();
+        let mut longest = 0;
+        for col in 0..cols {
+            let number = self.get_unchecked(r, col).to_whole();
+            write!(text, "{number}")?;
+            longest = longest.max(text.as_str().len());
+            text.clear();
+        }
+        Ok(longest)
+    }
+
+    // The length of the longest number. The text is empty before and after.
+    fn longest_number<B: Allocator>(&self, text: &mut String<B>) -> Result<usize, AllocError>
+        requires { string_bytes text.old ≡ [] }
+        ensures text { OnOk result (string_bytes text.new ≡ []) }
+        ensures longest { IfOk result (λ len. len ≡ longest (joined (numbers T.whole self.now.rows))) }
+    {
+        let (rows, _) = self.size();
+        let mut longest = 0;
+        for row in 0..rows {
+            longest = longest.max(self.longest_in_row(text, row)?);
+        }
+        Ok(longest)
+    }
+
+    // The width, or else the length of the longest number. The text is empty before and after.
+    fn width_or_longest<B: Allocator>(
+        &self,
+        text: &mut String<B>,
+        width: Option<usize>,
+    ) -> Result<usize, AllocError>
+        requires { string_bytes text.old ≡ [] }
+        ensures text { OnOk result (string_bytes text.new ≡ []) }
+        ensures width { IfOk result (λ found. found ≡ width_or_longest width (numbers T.whole self.now.rows)) }
+    {
+        match width {
+            Some(width) => Ok(width),
+            None => self.longest_number(text),
+        }
+    }
+
+    // Writes the line of row r, which is in range, behind the text.
+    fn push_row_line<B: Allocator>(
+        &self,
+        text: &mut String<B>,
+        r: usize,
+        width: usize,
+    ) -> Result<(), AllocError>
+        requires { r < rows_of self.now.rows }
+        ensures { OnOk result (string_bytes text.new
+            ≡ string_bytes text.old ++ row_line width (map T.whole (row self.now.rows r))) }
+    {
+        let (_, cols) = self.size();
+        text.push_str("    [")?;
+        for col in 0..cols {
+            let comma = separator_before(col, ",");
+            let number = self.get_unchecked(r, col).to_whole();
+            write!(text, "{comma} {number:>width$}")?;
+        }
+        text.push_str("]\n")
+    }
+
+    /// Returns the rows in lines of their own, each number right-aligned in the width.
+    ///
+    /// Without a width it is the length of the longest number. A longer number stands in full. The rows 1, 20 and
+    /// 3, 4 without a width give
+    ///
+    /// ```text
+    /// [
+    ///     [  1, 20]
+    ///     [  3,  4]
+    /// ]
+    /// ```
+    ///
+    /// with no line end behind the last bracket. The empty grid gives `[]`. The text is the same in either order.
+    ///
+    /// Fails: memory was refused.
+    ///
+    /// Cost: each number is written once, and without a width once more to be measured.
+    pub fn pretty<B: Allocator>(
+        &self,
+        alloc: B,
+        width: Option<usize>,
+    ) -> Result<String<B>, AllocError>
+        ensures { IfOk result (λ text.
+            string_bytes text ≡ pretty_text width (numbers T.whole self.now.rows)) }
+    {
+        let mut text = String::new(alloc);
+        let (rows, _) = self.size();
+        if rows == 0 {
+            text.push_str("[]")?;
+            return Ok(text);
+        }
+        let width = self.width_or_longest(&mut text, width)?;
+        text.push_str("[\n")?;
+        for row in 0..rows {
+            self.push_row_line(&mut text, row, width)?;
+        }
+        text.push_str("]")?;
+        Ok(text)
+    }
+}

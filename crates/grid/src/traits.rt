@@ -1,0 +1,170 @@
+//! Clones, equality, hash and debug text of grids, which speak of the rows and not of the order.
+ghost use Rattle.std.specs.Prelude.{◌≡◌, ◌<◌, [], IfOk, nat_lt, if◌then◌else◌};
+ghost use Rattle.std.specs.Fmt.{DisplaysOnOk, debug_list};
+ghost use Rattle.std.specs.List.{flat_map, fold};
+ghost use lib.Pointwise.{pointwise};
+ghost use Rattle.grid_base.specs.Clones.{ClonesAreEqual};
+ghost use Rattle.grid_base.specs.Table.{row, rows_of, cols_of};
+ghost use Rattle.grid.specs.Same.{same_cells, same_cells_per, same_cells_equiv, table_feed, table_feed_respects};
+ghost use Rattle.grid.specs.Texts.{table_text};
+
+use crate::Grid;
+use std::alloc::{AllocError, Allocator};
+use std::fmt;
+use std::hash::{Hash, Hasher};
+
+impl<T: Clone, A: Allocator + Clone> Grid<T, A> {
+    /// Returns a grid of clones of the cells, of the same rows and order.
+    ///
+    /// Requires: a clone equals its source.
+    ///
+    /// Fails: memory was refused.
+    ///
+    /// Cost: one clone a cell.
+    pub fn clone(&self) -> Result<Grid<T, A>, AllocError>
+        requires clones { ClonesAreEqual T.is_clone }
+        ensures { IfOk result (λ copy. copy ≡ self.now) }
+    {
+        let flat = self.flat.clone()?;
+        Ok(Grid {
+            flat,
+            row_count: self.row_count,
+            col_count: self.col_count,
+            order: self.order,
+        })
+    }
+}
+
+impl<T: PartialEq, A: Allocator> Grid<T, A> {
+    // Whether row r, which is in range, is the same in a grid of the same size.
+    fn has_same_row(&self, other: &Grid<T, A>, r: usize) -> bool
+        requires here { r < rows_of self.now.rows }
+        requires there { r < rows_of other.now.rows }
+        requires cols { cols_of self.now.rows ≡ cols_of other.now.rows }
+        ensures { result ≡ pointwise T.eq (row self.now.rows r) (row other.now.rows r) }
+    {
+        let (_, cols) = self.size();
+        let _ = other.size();
+        for col in 0..cols {
+            if self.get_unchecked(r, col) != other.get_unchecked(r, col) {
+                return false;
+            }
+        }
+        true
+    }
+
+    // Whether all rows are the same in a grid of the same size.
+    fn has_same_rows(&self, other: &Grid<T, A>) -> bool
+        requires rows { rows_of self.now.rows ≡ rows_of other.now.rows }
+        requires cols { cols_of self.now.rows ≡ cols_of other.now.rows }
+        ensures { result ≡ same_cells T.eq self.now other.now }
+    {
+        let (rows, _) = self.size();
+        for row in 0..rows {
+            if !self.has_same_row(other, row) {
+                return false;
+            }
+        }
+        true
+    }
+}
+
+/// Two grids are equal exactly if their sizes and all their cells are. The orders don't matter.
+///
+/// Row-major `[1, 2, 3, 4]` and column-major `[1, 3, 2, 4]`, both in rows of two, are equal.
+///
+/// Cost: the sizes are compared first, and the storages directly where the orders agree. Else each cell is read
+/// once from either grid.
+impl<T: PartialEq, A: Allocator> PartialEq for Grid<T, A> {
+    ghost eq = { same_cells T.eq };
+
+    ghost laws = { same_cells_per T.laws };
+
+    fn eq(&self, other: &Self) -> bool {
+        let (rows, cols) = self.size();
+        let (other_rows, other_cols) = other.size();
+        if rows != other_rows || cols != other_cols {
+            return false;
+        }
+        if self.order() == other.order() {
+            return self.flatten() == other.flatten();
+        }
+        self.has_same_rows(other)
+    }
+}
+
+impl<T: Eq, A: Allocator> Eq for Grid<T, A> {
+    ghost laws = { same_cells_equiv T.Eq.laws };
+}
+
+impl<T: Hash, A: Allocator> Grid<T, A> {
+    // Feeds the cells of row r, which is in range.
+    fn hash_row<H: Hasher>(&self, r: usize, state: &mut H)
+        requires { r < rows_of self.now.rows }
+        ensures { state.new ≡ fold H.write state.old (flat_map T.hash_input (row self.now.rows r)) }
+    {
+        let (_, cols) = self.size();
+        for col in 0..cols {
+            self.get_unchecked(r, col).hash(state);
+        }
+    }
+}
+
+/// Feeds the number of rows, the number of columns, then the cells row by row. So equal grids feed the same.
+///
+/// Cost: each cell is fed once.
+impl<T: Hash, A: Allocator> Hash for Grid<T, A> {
+    ghost hash_input = { table_feed T.hash_input };
+
+    ghost respects_eq = { table_feed_respects T.respects_eq };
+
+    fn hash<H: Hasher>(&self, state: &mut H) {
+        let (rows, cols) = self.size();
+        rows.hash(state);
+        cols.hash(state);
+        for row in 0..rows {
+            self.hash_row(row, state);
+        }
+    }
+}
+
+// What stands before the item at an index: nothing before the first, else the separator.
+pub(crate) fn separator_before(index: usize, separator: &'static str) -> &'static str
+    ensures { result.now ≡ (if nat_lt 0 index then separator.now else []) }
+{
+    if index > 0 { separator } else { "" }
+}
+
+impl<T: fmt::Debug, A: Allocator> Grid<T, A> {
+    // Writes row r, which is in range, as a debug list.
+    fn write_row<W: fmt::Write>(&self, r: usize, f: &mut fmt::Formatter<W>) -> fmt::Result
+        requires { r < rows_of self.now.rows }
+        ensures { DisplaysOnOk W.write_str_gives f.old result
+            (debug_list T.debug_output (row self.now.rows r)) f.new }
+    {
+        let (_, cols) = self.size();
+        write!(f, "[")?;
+        for col in 0..cols {
+            let comma = separator_before(col, ", ");
+            let cell = self.get_unchecked(r, col);
+            write!(f, "{comma}{cell:?}")?;
+        }
+        write!(f, "]")
+    }
+}
+
+/// Writes `[`, each row as a debug list with nothing between two, and `]`.
+///
+/// The rows 1, 2 and 3, 4 give `[[1, 2][3, 4]]`, in either order. The empty grid gives `[]`.
+impl<T: fmt::Debug, A: Allocator> fmt::Debug for Grid<T, A> {
+    ghost debug_output = { λ grid. table_text T.debug_output grid.rows };
+
+    fn fmt<W: fmt::Write>(&self, f: &mut fmt::Formatter<W>) -> fmt::Result {
+        let (rows, _) = self.size();
+        write!(f, "[")?;
+        for row in 0..rows {
+            self.write_row(row, f)?;
+        }
+        write!(f, "]")
+    }
+}

@@ -1,0 +1,199 @@
+//! Cells that JSON can hold.
+ghost use Rattle.std.specs.Prelude.{◌≡◌, ◌^◌, Option, IfOk, Some, pos, string_bytes};
+ghost use Rattle.std.specs.Option.{option_map};
+ghost use Rattle.serde_json.specs.Data.{Data};
+ghost use Rattle.serde_json.specs.View.{view};
+ghost use Rattle.grid_json.specs.Content.{Content, whole, truth, text as text_of, written, unsigned_content, signed_content, truth_content, text_content};
+
+use serde_json::Value;
+use std::alloc::{AllocError, Global};
+
+/// A cell that JSON can hold.
+///
+/// Implemented for `u8`, `u16`, `u32`, `u64`, `i8`, `i16`, `i32`, `i64`, `bool` and `String`.
+pub trait Cell: Drop {
+    // What a cell says.
+    ghost content: { Self → Content };
+
+    // What the cell that is read of this data says, or nothing where the data is no cell.
+    ghost read: { Data → Option Content };
+
+    /// Returns the cell as a JSON value, which is read as the same content.
+    ///
+    /// The number 5 gives `5`, the truth value true gives `true`, the text `a` gives `"a"`.
+    ///
+    /// Fails: memory was refused.
+    fn to_cell(&self, alloc: Global) -> Result<Value, AllocError>
+        ensures written { IfOk result (λ value. view value ≡ written (content self.now)) }
+        ensures read { IfOk result (λ value. read (view value) ≡ Some (content self.now)) };
+
+    /// Returns the cell that a JSON value is, or `None` where it is none.
+    ///
+    /// A number is a cell exactly in the range of the type: of `u8` are 0 and 255, not 256, -1 or 1.0.
+    ///
+    /// Fails: memory was refused.
+    fn from_cell(alloc: Global, value: &Value) -> Result<Option<Self>, AllocError>
+        ensures { IfOk result (λ found. option_map content found ≡ read (view value.now)) };
+}
+
+impl Cell for u8 {
+    ghost content = { λ number. whole (pos number) };
+
+    ghost read = { unsigned_content (2 ^ 8) };
+
+    fn to_cell(&self, _alloc: Global) -> Result<Value, AllocError> {
+        Ok(Value::from(*self))
+    }
+
+    fn from_cell(_alloc: Global, value: &Value) -> Result<Option<u8>, AllocError> {
+        match value.as_u64() {
+            Some(number) if number < 256 => Ok(Some(number as u8)),
+            _ => Ok(None),
+        }
+    }
+}
+
+impl Cell for u16 {
+    ghost content = { λ number. whole (pos number) };
+
+    ghost read = { unsigned_content (2 ^ 16) };
+
+    fn to_cell(&self, _alloc: Global) -> Result<Value, AllocError> {
+        Ok(Value::from(*self))
+    }
+
+    fn from_cell(_alloc: Global, value: &Value) -> Result<Option<u16>, AllocError> {
+        match value.as_u64() {
+            Some(number) if number < 65536 => Ok(Some(number as u16)),
+            _ => Ok(None),
+        }
+    }
+}
+
+impl Cell for u32 {
+    ghost content = { λ number. whole (pos number) };
+
+    ghost read = { unsigned_content (2 ^ 32) };
+
+    fn to_cell(&self, _alloc: Global) -> Result<Value, AllocError> {
+        Ok(Value::from(*self))
+    }
+
+    fn from_cell(_alloc: Global, value: &Value) -> Result<Option<u32>, AllocError> {
+        match value.as_u64() {
+            Some(number) if number < 4294967296 => Ok(Some(number as u32)),
+            _ => Ok(None),
+        }
+    }
+}
+
+impl Cell for u64 {
+    ghost content = { λ number. whole (pos number) };
+
+    ghost read = { unsigned_content (2 ^ 64) };
+
+    fn to_cell(&self, _alloc: Global) -> Result<Value, AllocError> {
+        Ok(Value::from(*self))
+    }
+
+    fn from_cell(_alloc: Global, value: &Value) -> Result<Option<u64>, AllocError> {
+        Ok(value.as_u64())
+    }
+}
+
+impl Cell for i8 {
+    ghost content = { whole };
+
+    ghost read = { signed_content (2 ^ 7) };
+
+    fn to_cell(&self, _alloc: Global) -> Result<Value, AllocError> {
+        Ok(Value::from(*self))
+    }
+
+    fn from_cell(_alloc: Global, value: &Value) -> Result<Option<i8>, AllocError> {
+        match value.as_i64() {
+            Some(number) if -128 <= number && number < 128 => Ok(Some(number as i8)),
+            _ => Ok(None),
+        }
+    }
+}
+
+impl Cell for i16 {
+    ghost content = { whole };
+
+    ghost read = { signed_content (2 ^ 15) };
+
+    fn to_cell(&self, _alloc: Global) -> Result<Value, AllocError> {
+        Ok(Value::from(*self))
+    }
+
+    fn from_cell(_alloc: Global, value: &Value) -> Result<Option<i16>, AllocError> {
+        match value.as_i64() {
+            Some(number) if -32768 <= number && number < 32768 => Ok(Some(number as i16)),
+            _ => Ok(None),
+        }
+    }
+}
+
+impl Cell for i32 {
+    ghost content = { whole };
+
+    ghost read = { signed_content (2 ^ 31) };
+
+    fn to_cell(&self, _alloc: Global) -> Result<Value, AllocError> {
+        Ok(Value::from(*self))
+    }
+
+    fn from_cell(_alloc: Global, value: &Value) -> Result<Option<i32>, AllocError> {
+        match value.as_i64() {
+            Some(number) if -2147483648 <= number && number < 2147483648 => Ok(Some(number as i32)),
+            _ => Ok(None),
+        }
+    }
+}
+
+impl Cell for i64 {
+    ghost content = { whole };
+
+    ghost read = { signed_content (2 ^ 63) };
+
+    fn to_cell(&self, _alloc: Global) -> Result<Value, AllocError> {
+        Ok(Value::from(*self))
+    }
+
+    fn from_cell(_alloc: Global, value: &Value) -> Result<Option<i64>, AllocError> {
+        Ok(value.as_i64())
+    }
+}
+
+impl Cell for bool {
+    ghost content = { truth };
+
+    ghost read = { truth_content };
+
+    fn to_cell(&self, _alloc: Global) -> Result<Value, AllocError> {
+        Ok(Value::Bool(*self))
+    }
+
+    fn from_cell(_alloc: Global, value: &Value) -> Result<Option<bool>, AllocError> {
+        Ok(value.as_bool())
+    }
+}
+
+impl Cell for String {
+    ghost content = { λ text. text_of (string_bytes text) };
+
+    ghost read = { text_content };
+
+    fn to_cell(&self, alloc: Global) -> Result<Value, AllocError> {
+        let copy = String::from_str(alloc, self.as_str())?;
+        Ok(Value::String(copy))
+    }
+
+    fn from_cell(alloc: Global, value: &Value) -> Result<Option<String>, AllocError> {
+        match value.as_str() {
+            Some(text) => Ok(Some(String::from_str(alloc, text)?)),
+            None => Ok(None),
+        }
+    }
+}

@@ -1,0 +1,15 @@
+//! Grids as JSON values: a grid is written as an object of `cols`, `data` and `order`, and read of one.
+//!
+//! A contract sees the content of each cell: a whole number, a truth value, or the bytes of a text.
+#![tactic(auto)]
+
+mod cell;
+mod error;
+pub mod laws;
+mod read;
+mod write;
+
+pub use cell::Cell;
+pub use error::{Field, ReadError};
+pub use read::from_value;
+pub use write::to_value;
