@@ -1,6 +1,7 @@
 -- Cells that are joined, and cut into rows.
 use Rattle.std.proofs.Common.{◌≡◌, ◌≢◌, ℕ, suc, ◌+◌, ◌*◌, ◌<◌, ◌==◌, if◌then◌else◌, Bool, true, false, IsTrue, List, [], ◌∷◌, ◌++◌, length, get_or, take, map, Result, Ok, Err, refl, sym, ◌∙◌, ap, arith, ⊎_elim, subst}
 use Rattle.std.specs.Result.{IsErrAnd}
+use Rattle.std.specs.List.{AllZip}
 use Rattle.std.proofs.lemmas.List.{take_more, append-nil, map-append, get_or-map}
 use Rattle.std.proofs.lemmas.Grind.{flat_map-append}
 use Rattle.std.proofs.lemmas.Bool.{cases_eq}
@@ -47,6 +48,12 @@ row-map f rows k x lt is = get_or-map f rows k x [] lt ∙ ap f (sym is)
 
 pub joined_more : {L T : Type 0} (f : L → List T) (rows : List L) (i : ℕ) (x : L) → i < length rows → x ≡ get_or rows i x → joined (map f (take (i + 1) rows)) ≡ joined (map f (take i rows)) ++ f x
 joined_more f rows i x lt is = rw (take_more rows i x lt, ← is, map-append, flat_map-append, append-nil)
+
+pub AllZip-joined : {A B : Type 0} (R : A → B → Type 0) (xs us : List A) (ys vs : List B) → AllZip R xs ys → AllZip R us vs → AllZip R (xs ++ us) (ys ++ vs)
+AllZip-joined R [] us [] vs a b = b
+AllZip-joined R [] us (y ∷ ys) vs a b = absurd a
+AllZip-joined R (x ∷ xs) us [] vs a b = absurd a
+AllZip-joined R (x ∷ xs) us (y ∷ ys) vs a b = (a.0, AllZip-joined R xs us ys vs a.1 b)
 
 -- how many cells even rows have
 pub length-even : {T : Type 0} (rows : List (List T)) → AreEven rows → length (joined rows) ≡ rows_of rows * cols_of rows

@@ -1,12 +1,13 @@
 -- A run of one more command.
-use Rattle.std.proofs.Common.{◌≡◌, ℕ, ◌+◌, List, [], ◌∷◌, ◌++◌, map, length, take, slice_get, Some, refl, sym, ◌∙◌, ap, arith}
-use Rattle.std.proofs.lemmas.List.{map-append}
+use Rattle.std.proofs.Common.{◌≡◌, ℕ, ◌+◌, suc, List, [], ◌∷◌, ◌++◌, map, length, take, slice_get, Some, refl, sym, ◌∙◌, ap, arith}
+use Rattle.std.proofs.lemmas.List.{map-append, length-append}
 use Rattle.std.proofs.Math.Seq.{take-append_seam}
 use Rattle.grid_base.specs.declared.flat.order.Order.{Order}
 use Rattle.grid_base.specs.declared.words.Symmetry.TheVariants.{Identity}
 use Rattle.grid_base.specs.Sheet.{Sheet}
 use Rattle.grid_base.specs.Symmetry.{symmetry_of, order_after}
 use Rattle.grid_base.specs.Tally.{Counts, counted}
+use Rattle.grid_base.specs.Clones.{ClonesAreEqual}
 use Rattle.grid_base.proofs.Group.{product, symmetry_of-joined, symmetry_of-more, order_after-order_after}
 use Rattle.grid.specs.declared.command.Command.{Command}
 use Rattle.grid.specs.Reply.{PlainReply}
@@ -41,21 +42,23 @@ counted-none n = omega arith
 counted-counted : (n j k : ℕ) → counted (counted n j) k ≡ counted n (j + k)
 counted-counted n j k = omega arith
 
-pub ran_none : {T : Type 0} (s : Sheet T) (t : Counts) → Ran [] s s t t []
-ran_none s t = record {
+pub ran_none : {T : Type 0} (is_clone : T → T → Type 0) (s : Sheet T) (t : Counts) → Ran is_clone [] s s t t []
+ran_none is_clone s t = record {
   rows = refl;
-  replies = refl;
+  count = refl;
+  replies = λ same. refl;
   order = ap (λ x. order_after x s.order) (sym list_symmetry-none);
   symmetry = counted-none t.symmetry;
   shift = refl;
 }
 
-module _ {T : Type 0} (cs : List Command) (c : Command) (old mid new : Sheet T) (first between last : Counts) (answers more : List (PlainReply T)) where
-  pub ran_more : Ran cs old mid first between answers → new.rows ≡ step_rows c mid.rows → more ≡ answers ++ step_reply c mid.rows ∷ [] → new.order ≡ order_after (command_symmetry c) mid.order → last.symmetry ≡ counted between.symmetry (step_price c mid.rows) → last.shift ≡ between.shift → Ran (cs ++ c ∷ []) old new first last more
-  ran_more h rows replies order symmetry shift = record {
+module _ {T : Type 0} (is_clone : T → T → Type 0) (cs : List Command) (c : Command) (old mid new : Sheet T) (first between last : Counts) (answers more : List (PlainReply T)) where
+  pub ran_more : Ran is_clone cs old mid first between answers → new.rows ≡ step_rows c mid.rows → length more ≡ suc (length answers) → (ClonesAreEqual is_clone → more ≡ answers ++ step_reply c mid.rows ∷ []) → new.order ≡ order_after (command_symmetry c) mid.order → last.symmetry ≡ counted between.symmetry (step_price c mid.rows) → last.shift ≡ between.shift → Ran is_clone (cs ++ c ∷ []) old new first last more
+  ran_more h rows count replies order symmetry shift = record {
     rows = rows ∙ (ap (step_rows c) h.rows ∙ sym (run_rows-more cs c old.rows));
-    replies =
-        replies ∙ (ap (λ rs. rs ++ step_reply c mid.rows ∷ []) h.replies
+    count = omega (arith, count, h.count, length-append cs (c ∷ []));
+    replies = λ same.
+        replies same ∙ (ap (λ rs. rs ++ step_reply c mid.rows ∷ []) (h.replies same)
         ∙ (ap (λ t. run_replies cs old.rows ++ step_reply c t ∷ []) h.rows ∙ sym (run_replies-more cs c old.rows)));
     order = order ∙ (ap (order_after (command_symmetry c)) h.order ∙ sym (order-more cs c old.order));
     symmetry =
@@ -66,9 +69,10 @@ module _ {T : Type 0} (cs : List Command) (c : Command) (old mid new : Sheet T) 
   }
 
 -- a command that changed nothing leaves what the run so far made
-pub ran_still : {T : Type 0} (cs : List Command) (old mid new : Sheet T) (first between last : Counts) (answers : List (PlainReply T)) → Ran cs old mid first between answers → new ≡ mid → last.symmetry ≡ between.symmetry → last.shift ≡ between.shift → Ran cs old new first last answers
-ran_still cs old mid new first between last answers h same symmetry shift = record {
+pub ran_still : {T : Type 0} (is_clone : T → T → Type 0) (cs : List Command) (old mid new : Sheet T) (first between last : Counts) (answers : List (PlainReply T)) → Ran is_clone cs old mid first between answers → new ≡ mid → last.symmetry ≡ between.symmetry → last.shift ≡ between.shift → Ran is_clone cs old new first last answers
+ran_still is_clone cs old mid new first between last answers h same symmetry shift = record {
   rows = ap (λ s. s.rows) same ∙ h.rows;
+  count = h.count;
   replies = h.replies;
   order = ap (λ s. s.order) same ∙ h.order;
   symmetry = symmetry ∙ h.symmetry;

@@ -1,9 +1,11 @@
 -- Cells joined and cut into rows, and rows of one length as a table.
 use Rattle.std.specs.Prelude.{◌≡◌, ◌≢◌, ◌==◌, if◌then◌else◌, ℕ, ◌^◌, ◌<◌, ◌≤◌, List, [], length, Result, MatchResult}
+use Rattle.std.specs.List.{AllZip}
 use Rattle.grid_base.specs.declared.flat.order.Order.TheVariants.{RowMajor}
 use Rattle.grid_base.specs.Table.{row, rows_of, cols_of, joined, IsTable}
 use Rattle.grid_base.specs.Order.{CanCut}
 use Rattle.grid_base.specs.Sheet.{Sheet}
+use Rattle.grid_base.specs.Clones.{ClonesAreEqual}
 use Rattle.grid.specs.declared.error.ShapeError.{ShapeError}
 use Rattle.grid.specs.declared.error.ShapeError.TheVariants.{TooLarge, Shape, Ragged, Memory}
 
@@ -23,6 +25,11 @@ module _ {T : Type 0} where
     pub count : length (joined g.rows) ≡ len
     pub cols : len ≢ 0 → cols_of g.rows ≡ n
 
+  -- clones of these cells, which are the same where clones equal their source
+  pub record AreClones (is_clone : T → T → Type 0) (cells found : List T) : Type 0 where
+    pub each : AllZip is_clone cells found
+    pub same : ClonesAreEqual is_clone → found ≡ cells
+
   -- all rows have one length
   abbrev pub AreEven : List (List T) → Type 0
   AreEven rows = (r : ℕ) → r < rows_of rows → length (row rows r) ≡ cols_of rows
@@ -36,6 +43,11 @@ module _ {T : Type 0} where
   -- rows of one length as a table: the rows themselves, or none where they have no cells
   abbrev pub equal_rows : List (List T) → List (List T)
   equal_rows rows = if cols_of rows == 0 then [] else rows
+
+  -- the same of rows of one length and a table
+  pub record AreClonedRows (is_clone : T → T → Type 0) (rows t : List (List T)) : Type 0 where
+    pub each : AllZip is_clone (joined rows) (joined t)
+    pub same : ClonesAreEqual is_clone → t ≡ equal_rows rows
 
   -- all rows have one length, and a vector can hold their cells
   pub record CanJoin (rows : List (List T)) : Type 0 where

@@ -9,13 +9,6 @@ abbrev pub rows_added_shift : Order → ℕ → ℕ → ℕ → ℕ → ℕ
 rows_added_shift RowMajor m n i k = if nat_eq k 0 then 0 else (m - i) * n
 rows_added_shift ColumnMajor m n i k = if nat_eq k 0 then 0 else n * m - i
 
--- k more at the end, and at the beginning
-abbrev pub expand_rows_shift : Order → ℕ → ℕ → ℕ → ℕ
-expand_rows_shift o m n k = rows_added_shift o m n m k
-
-abbrev pub prepend_rows_shift : Order → ℕ → ℕ → ℕ → ℕ
-prepend_rows_shift o m n k = rows_added_shift o m n 0 k
-
 -- rows go, count of them from start on, along the lines and across them
 abbrev pub rows_taken_shift : Order → ℕ → ℕ → ℕ → ℕ → ℕ
 rows_taken_shift RowMajor m n start count = (m - start - count) * n
@@ -29,12 +22,6 @@ delete_rows_shift o m n start count =
 -- columns are the rows of the turned table, which is stored in the other order
 abbrev pub cols_added_shift : Order → ℕ → ℕ → ℕ → ℕ → ℕ
 cols_added_shift o m n i k = rows_added_shift (flipped o) n m i k
-
-abbrev pub expand_cols_shift : Order → ℕ → ℕ → ℕ → ℕ
-expand_cols_shift o m n k = expand_rows_shift (flipped o) n m k
-
-abbrev pub prepend_cols_shift : Order → ℕ → ℕ → ℕ → ℕ
-prepend_cols_shift o m n k = prepend_rows_shift (flipped o) n m k
 
 abbrev pub delete_cols_shift : Order → ℕ → ℕ → ℕ → ℕ → ℕ
 delete_cols_shift o m n start count = delete_rows_shift (flipped o) n m start count

@@ -100,9 +100,8 @@ pub fn run<T, A: Allocator>(
 ) -> Result<Vec<Reply<T>, A>, RunStopped<T, A>>
 where
     T: Clone + Default + Drop,
-    requires clones { ClonesAreEqual T.is_clone }
-    ensures ran { IfOk result (λ replies. Ran commands.items grid.old grid.new tally.old tally.new (map plain replies.items)) }
-    ensures stopped { IfErr result (λ stop. Ran (take stop.done commands.items) grid.old grid.new tally.old tally.new (map plain stop.replies.items)) }
+    ensures ran { IfOk result (λ replies. Ran T.is_clone commands.items grid.old grid.new tally.old tally.new (map plain replies.items)) }
+    ensures stopped { IfErr result (λ stop. Ran T.is_clone (take stop.done commands.items) grid.old grid.new tally.old tally.new (map plain stop.replies.items)) }
     ensures stop { IfErr result (λ stop. MayStop commands.items stop.done grid.new.rows) }
 {
     let mut replies = Vec::new(alloc);

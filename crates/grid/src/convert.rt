@@ -1,10 +1,8 @@
 //! Conversions of vectors into row-major grids.
 ghost use Rattle.std.specs.Prelude.{◌≡◌, ◌≢◌, ◌↔◌, length, map, IsTrue, MatchResult};
-ghost use Rattle.std.specs.List.{AllZip};
 ghost use Rattle.grid_base.specs.Table.{cols_of, joined};
 ghost use Rattle.grid_base.specs.Order.{CanCut};
-ghost use Rattle.grid_base.specs.Clones.{ClonesAreEqual};
-ghost use Rattle.grid.specs.Rows.{equal_rows, CanJoin, RowsFault, RowsAnswer, CutAnswer};
+ghost use Rattle.grid.specs.Rows.{equal_rows, AreClones, AreClonedRows, CanJoin, RowsFault, RowsAnswer, CutAnswer};
 
 use crate::{Grid, ShapeError};
 use std::alloc::Allocator;
@@ -42,7 +40,7 @@ fn cut_clones<T: Clone, A: Allocator + Clone>(
     cells: &Vec<T, A>,
     cols: usize,
 ) -> Result<Grid<T, A>, ShapeError>
-    ensures { CutAnswer (CanCut (length cells.now.items) cols) cells.now.items cols (λ found. AllZip T.is_clone cells.now.items found) result }
+    ensures { CutAnswer (CanCut (length cells.now.items) cols) cells.now.items cols (AreClones T.is_clone cells.now.items) result }
 {
     let len = cells.len();
     if can_cut(len, cols) {
@@ -55,13 +53,13 @@ fn cut_clones<T: Clone, A: Allocator + Clone>(
 
 /// The grid of rows of this length whose rows, joined, are clones of the vector's cells.
 ///
-/// Where clones equal their source, the cells are those of the vector. `Shape` exactly where the vector is not empty
+/// Each is a clone of its source; where clones equal their source, the cells are those of the vector. `Shape` exactly where the vector is not empty
 /// and the length is 0 or does not divide the number of cells; only after that test memory is asked for, of the
 /// vector's allocator. `TooLarge` never comes, since one vector never holds too many cells, nor does `Ragged`.
 impl<T: Clone, A: Allocator + Clone> TryFrom<(&Vec<T, A>, usize)> for Grid<T, A> {
     type Error = ShapeError;
 
-    ghost try_from_gives = { λ pair r. CutAnswer (CanCut (length pair.0.now.items) pair.1) pair.0.now.items pair.1 (λ cells. ClonesAreEqual T.is_clone → cells ≡ pair.0.now.items) r };
+    ghost try_from_gives = { λ pair r. CutAnswer (CanCut (length pair.0.now.items) pair.1) pair.0.now.items pair.1 (AreClones T.is_clone pair.0.now.items) r };
 
     fn try_from(pair: (&Vec<T, A>, usize)) -> Result<Grid<T, A>, ShapeError> {
         cut_clones(pair.0, pair.1)
@@ -72,7 +70,7 @@ impl<T: Clone, A: Allocator + Clone> TryFrom<(&Vec<T, A>, usize)> for Grid<T, A>
 impl<T: Clone, A: Allocator + Clone> TryFrom<(&Vec<T, A>, &usize)> for Grid<T, A> {
     type Error = ShapeError;
 
-    ghost try_from_gives = { λ pair r. CutAnswer (CanCut (length pair.0.now.items) pair.1.now) pair.0.now.items pair.1.now (λ cells. ClonesAreEqual T.is_clone → cells ≡ pair.0.now.items) r };
+    ghost try_from_gives = { λ pair r. CutAnswer (CanCut (length pair.0.now.items) pair.1.now) pair.0.now.items pair.1.now (AreClones T.is_clone pair.0.now.items) r };
 
     fn try_from(pair: (&Vec<T, A>, &usize)) -> Result<Grid<T, A>, ShapeError> {
         cut_clones(pair.0, *pair.1)
@@ -137,7 +135,7 @@ fn join_clones<T: Clone, L: AsSlice<T>, A: Allocator + Clone>(
     alloc: &A,
     rows: &[L],
 ) -> Result<Grid<T, A>, ShapeError>
-    ensures { RowsAnswer (map L.items rows.now) (λ t. ClonesAreEqual T.is_clone → t ≡ equal_rows (map L.items rows.now)) result }
+    ensures { RowsAnswer (map L.items rows.now) (AreClonedRows T.is_clone (map L.items rows.now)) result }
 {
     let (count, cols) = measure(rows)?;
     let mut cells = Vec::with_capacity(alloc.clone()?, count)?;
@@ -156,7 +154,7 @@ fn join_clones<T: Clone, L: AsSlice<T>, A: Allocator + Clone>(
 impl<T: Clone, A: Allocator + Clone> TryFrom<&Vec<Vec<T, A>, A>> for Grid<T, A> {
     type Error = ShapeError;
 
-    ghost try_from_gives = { λ rows r. let lists = map (λ row. row.items) rows.now.items in RowsAnswer lists (λ t. ClonesAreEqual T.is_clone → t ≡ equal_rows lists) r };
+    ghost try_from_gives = { λ rows r. let lists = map (λ row. row.items) rows.now.items in RowsAnswer lists (AreClonedRows T.is_clone lists) r };
 
     fn try_from(rows: &Vec<Vec<T, A>, A>) -> Result<Grid<T, A>, ShapeError> {
         join_clones(rows.allocator(), rows.as_slice())
@@ -172,7 +170,7 @@ impl<T: Clone, A: Allocator + Clone> TryFrom<&Vec<Vec<T, A>, A>> for Grid<T, A> 
 impl<T: Clone, A: Allocator + Clone> TryFrom<&Vec<&Vec<T, A>, A>> for Grid<T, A> {
     type Error = ShapeError;
 
-    ghost try_from_gives = { λ rows r. let lists = map (λ row. row.now.items) rows.now.items in RowsAnswer lists (λ t. ClonesAreEqual T.is_clone → t ≡ equal_rows lists) r };
+    ghost try_from_gives = { λ rows r. let lists = map (λ row. row.now.items) rows.now.items in RowsAnswer lists (AreClonedRows T.is_clone lists) r };
 
     fn try_from(rows: &Vec<&Vec<T, A>, A>) -> Result<Grid<T, A>, ShapeError> {
         join_clones(rows.allocator(), rows.as_slice())

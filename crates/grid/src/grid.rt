@@ -158,12 +158,11 @@ impl<T, A: Allocator> Grid<T, A> {
         ensures variant { is_some result ≡ is_some (cell self.old.rows row col) }
         ensures item { IfSome result (λ x. cell self.old.rows row col ≡ Some x.now) }
     {
-        let place = if row < self.row_count && col < self.col_count {
-            place(self.order, self.row_count, self.col_count, row, col)
+        if row < self.row_count && col < self.col_count {
+            Some(self.flat.at_mut(place(self.order, self.row_count, self.col_count, row, col)))
         } else {
-            self.flat.len()
-        };
-        self.flat.get_mut(place)
+            None
+        }
     }
 
     /// Returns the cell in a row and a column.

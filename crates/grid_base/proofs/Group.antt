@@ -132,6 +132,10 @@ then_is s u v h = same_by_test v (product s u) (h.acts test_table IsTable-test �
 pub IsThen-product : (s u : Symmetry) → IsThen s u (product s u)
 IsThen-product s u = record { acts = λ t h. sym (act-act s u t h) }
 
+-- on tables of any cells
+pub then_acts : {T : Type 0} (s u v : Symmetry) → IsThen s u v → (t : List (List T)) → IsTable t → act v t ≡ act u (act s t)
+then_acts s u v e t h = ap (λ x. act x t) (then_is s u v e) ∙ sym (act-act s u t h)
+
 pub inverse_of : (s v : Symmetry) → product s v ≡ Identity → IsInverse s v
 inverse_of s v e = record { undoes = λ t h. act-act s v t h ∙ (ap (λ x. act x t) e ∙ act-identity t h) }
 
@@ -139,6 +143,10 @@ pub inverse_is : (s v : Symmetry) → IsInverse s v → product s v ≡ Identity
 inverse_is s v h =
     same_by_test (product s v) Identity
     (sym (act-act s v test_table IsTable-test) ∙ (h.undoes test_table IsTable-test ∙ sym (act-identity test_table IsTable-test)))
+
+-- on tables of any cells
+pub inverse_acts : {T : Type 0} (s v : Symmetry) → IsInverse s v → (t : List (List T)) → IsTable t → act v (act s t) ≡ t
+inverse_acts s v e t h = act-act s v t h ∙ (ap (λ x. act x t) (inverse_is s v e) ∙ act-identity t h)
 
 self_inverse : (s : Symmetry) → s ≢ RotateLeft → s ≢ RotateRight → product s s ≡ Identity
 self_inverse RotateLeft h k = absurd (h refl)

@@ -28,6 +28,10 @@ pub record Pairs {A B : Type 0} (R : A → B → Type 0) (xs : List A) (ys : Lis
 pub record CallableAtEach {F A B : Type 0} (takes : F → A → Type 0) (step : F → A → B → F → Type 0) (f : F) (xs : List A) : Type 0 where
   pub at : (k : ℕ) (x : A) (ys : List B) (g : F) → k < length xs → x ≡ slice_index_or xs k x → AnswersTo step f (take k xs) ys g → takes g x
 
+-- the closure f, which takes nothing, can be called n times in turn: in any state that fewer calls may leave
+pub record CallableTimes {F B : Type 0} (takes : F → Type 0) (step : F → B → F → Type 0) (f : F) (n : ℕ) : Type 0 where
+  pub at : (ys : List B) (g : F) → length ys < n → FoldsTo step f ys g → takes g
+
 -- the closure f can be called at a reference to each item of xs
 pub record CallableAtRefs {F A : Type 0} (takes : F → Bor A → Type 0) (f : F) (xs : List A) : Type 0 where
   pub at : (k : ℕ) (p : Bor A) → k < length xs → p.now ≡ slice_index_or xs k p.now → takes f p

@@ -1,7 +1,6 @@
 //! The vector of a grid's cells, and the counts of its swaps.
-ghost use Rattle.std.specs.Prelude.{◌≡◌, ◌<◌, [], length, swap, slice_get, is_some, IfSome, Some};
+ghost use Rattle.std.specs.Prelude.{◌≡◌, ◌<◌, [], length, swap, slice_get, Some};
 ghost use Rattle.std.specs.Borrow.{sem};
-ghost use Rattle.std.specs.Option.{option_copied};
 
 mod blocks;
 mod clone;
@@ -47,7 +46,7 @@ impl<T, A: Allocator> Model for Flat<T, A> {
 }
 
 impl<T, A: Allocator> Flat<T, A> {
-    ghost use Rattle.grid_base.specs.Flat.{lends_place, lends_place_if};
+    ghost use Rattle.grid_base.specs.Flat.{lends_place};
 
     /// Holds the cells of a vector.
     pub fn from_vec(cells: Vec<T, A>) -> Flat<T, A>
@@ -76,22 +75,6 @@ impl<T, A: Allocator> Flat<T, A> {
         ensures { result.now ≡ self.now }
     {
         self.cells.as_slice()
-    }
-
-    /// The cell at a place, or `None` past the end.
-    pub fn get(&self, place: usize) -> Option<&T>
-        ensures { option_copied result ≡ slice_get self.now place }
-    {
-        self.cells.get(place)
-    }
-
-    /// The cell at a place, for writing, or `None` past the end.
-    pub fn get_mut(&mut self, place: usize) -> Option<&mut T>
-        ensures* writes_back { sem 𝓛 (lends_place_if T.row A.row A.Allocator self.entry place result) }
-        ensures variant { is_some result ≡ is_some (slice_get self.old place) }
-        ensures item { IfSome result (λ x. slice_get self.old place ≡ Some x.now) }
-    {
-        self.cells.get_mut(place)
     }
 
     /// The cell at a place in range.

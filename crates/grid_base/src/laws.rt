@@ -1,6 +1,11 @@
-//! The laws of the symmetries as public calls: the eight are a group under `then` and `inverse`.
-ghost use Rattle.std.specs.Prelude.{◌≡◌, IsTrue};
-ghost use Rattle.grid_base.specs.Symmetry.{IsAssociativeAt, IsNeutralAt, IsUndoneAt};
+//! The laws of the symmetries as public calls: the eight are a group under `then` and `inverse`, and act as one on
+//! tables of any cells.
+//!
+//! A law is the clause of that name: it speaks of every table or every symmetry, whatever the body computes.
+ghost use Rattle.std.specs.Prelude.{◌≡◌, IsTrue, List};
+ghost use Rattle.grid_base.specs.declared.words.Symmetry.{Symmetry};
+ghost use Rattle.grid_base.specs.Table.{IsTable};
+ghost use Rattle.grid_base.specs.Symmetry.{act, IsThen, IsInverse, IsAssociativeAt, IsNeutralAt, IsUndoneAt};
 
 use crate::Symmetry;
 
@@ -27,4 +32,20 @@ pub fn inverse_undoes(symmetry: Symmetry) -> bool
 {
     symmetry.then(symmetry.inverse()) == Symmetry::Identity
         && symmetry.inverse().then(symmetry) == Symmetry::Identity
+}
+
+/// `symmetry.then(next)`, which acts as the one and then the other on tables of cells of any type `T`.
+pub fn joined<T>(symmetry: Symmetry, next: Symmetry) -> Symmetry
+    ensures same { IsThen symmetry next result }
+    ensures law { (v : Symmetry) → IsThen symmetry next v → (t : List (List T)) → IsTable t → act v t ≡ act next (act symmetry t) }
+{
+    symmetry.then(next)
+}
+
+/// `done.inverse()`, which undoes it on tables of cells of any type `T`.
+pub fn undoing<T>(done: Symmetry) -> Symmetry
+    ensures same { IsInverse done result }
+    ensures law { (v : Symmetry) → IsInverse done v → (t : List (List T)) → IsTable t → act v (act done t) ≡ t }
+{
+    done.inverse()
 }

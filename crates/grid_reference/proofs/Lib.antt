@@ -1,3 +1,5 @@
 mod Growing
 pub mod Spends
 pub mod Sums
+mod Counting
+mod Written

@@ -1,7 +1,15 @@
 -- What a contract sees of a vector of rows.
-use Rattle.std.specs.Prelude.{List, Vec, map}
+use Rattle.std.specs.Prelude.{◌≡◌, ℕ, ◌≤◌, List, Vec, length, map, take}
 use Rattle.std.specs.declared.alloc.Global.{Global}
+use Rattle.grid.specs.declared.command.Command.{Command}
+use Rattle.grid.specs.Run.{run_rows}
 
 -- its rows
 abbrev pub rows_of_vec : {T : Type 0} → Vec (Vec T Global) Global → List (List T)
 rows_of_vec v = map (λ r. r.items) v.items
+
+-- what a table is after the first so many of the commands
+pub record AfterSome {T : Type 0} (commands : List Command) (old new : List (List T)) : Type 0 where
+  pub number : ℕ
+  pub within : number ≤ length commands
+  pub rows : new ≡ run_rows (take number commands) old

@@ -1,10 +1,14 @@
-//! Chains over a row or a column of a grid, and maps of a whole grid. Their contracts say what they find by the list of
-//! its cells, and no proof file is needed.
-ghost use Rattle.std.specs.Prelude.{◌≡◌, ◌/◌, ◌^◌, ◌<◌, ◌≤◌, ◌==◌, ◌↔◌, IsTrue, IfOk, MatchOption, Any, All, length, map, reverse, sum, count_by, filter, fold, min, ◌+◌, nat_lt, [], ◌-◌, slice_get};
+//! Callers of the library, whose contracts say what they find by the rows of a grid or by the list of its cells: chains
+//! over a row or a column, calls on all cells, symmetries and commands on texts, and grids that are written out.
+ghost use Rattle.std.specs.Prelude.{◌≡◌, ◌/◌, ◌^◌, ◌<◌, ◌≤◌, ◌==◌, ◌↔◌, IsTrue, IfOk, MatchOption, Any, All, length, map, reverse, sum, count_by, filter, fold, min, ◌+◌, ◌*◌, nat_lt, [], ◌∷◌, ◌-◌, slice_get};
+ghost use Rattle.std.specs.List.{range_with_len};
 ghost use Rattle.grid_base.specs.Table.{row, rows_of, cols_of, turned};
 ghost use Rattle.grid_base.specs.Order.{storage};
+ghost use Rattle.grid_base.specs.Symmetry.{act};
+ghost use Rattle.grid_base.specs.declared.flat.order.Order.TheVariants.{RowMajor, ColumnMajor};
 
-use grid::Grid;
+use grid::{Command, Grid, GridError, Symmetry, Tally, grid, grid_cm, laws};
+use grid_base::laws as symmetry_laws;
 use std::alloc::{AllocError, Allocator, Global};
 
 /// How many cells of row r are x.
@@ -174,6 +178,8 @@ pub fn count_rows<A: Allocator>(grid: &Grid<u32, A>) -> usize
 pub fn lacking<A: Allocator + Clone>(grid: Grid<u32, A>) -> Result<Grid<u32, A>, AllocError>
     requires { All (λ y. y ≤ 10) (storage grid.order grid.rows) }
     ensures order { IfOk result (λ lacking. lacking.order ≡ grid.order) }
+    ensures rows { IfOk result (λ lacking. rows_of lacking.rows ≡ rows_of grid.rows) }
+    ensures cols { IfOk result (λ lacking. cols_of lacking.rows ≡ cols_of grid.rows) }
     ensures cells { IfOk result (λ lacking. storage lacking.order lacking.rows ≡ map (λ y. 10 - y) (storage grid.order grid.rows)) }
 {
     match grid.map(|y| 10 - y) {
@@ -187,8 +193,73 @@ pub fn lacking<A: Allocator + Clone>(grid: Grid<u32, A>) -> Result<Grid<u32, A>,
 pub fn lacking_in<A: Allocator + Clone>(grid: &Grid<u32, A>) -> Result<Grid<u32, A>, AllocError>
     requires { All (λ y. y ≤ 10) (storage grid.now.order grid.now.rows) }
     ensures order { IfOk result (λ lacking. lacking.order ≡ grid.now.order) }
+    ensures rows { IfOk result (λ lacking. rows_of lacking.rows ≡ rows_of grid.now.rows) }
+    ensures cols { IfOk result (λ lacking. cols_of lacking.rows ≡ cols_of grid.now.rows) }
     ensures cells { IfOk result (λ lacking. storage lacking.order lacking.rows ≡ map (λ y. 10 - y) (storage grid.now.order grid.now.rows)) }
 {
     let lacking = grid.map_ref(|y| 10 - *y)?;
     Ok(lacking)
+}
+
+/// Numbers the cells in storage order, from 1 on. The closure can't be called more than 255 times.
+pub fn number_cells<A: Allocator>(grid: &mut Grid<u8, A>)
+    requires { rows_of grid.old.rows * cols_of grid.old.rows < 2 ^ 8 }
+    ensures order { grid.new.order ≡ grid.old.order }
+    ensures rows { rows_of grid.new.rows ≡ rows_of grid.old.rows }
+    ensures cols { cols_of grid.new.rows ≡ cols_of grid.old.rows }
+    ensures cells { storage grid.new.order grid.new.rows ≡ range_with_len 1 (rows_of grid.old.rows * cols_of grid.old.rows) }
+{
+    let _ = grid.size();
+    let mut count = 0u8;
+    grid.fill_with(
+        ||
+            requires { count < 255 }
+        {
+            count += 1;
+            count
+        },
+    );
+}
+
+/// Applies what two symmetries are joined to. The clones of texts aren't known to equal them.
+pub fn apply_to_texts<A: Allocator>(grid: &mut Grid<String, A>, first: Symmetry, second: Symmetry)
+    ensures { grid.new.rows ≡ act second (act first grid.old.rows) }
+{
+    let _ = grid.size();
+    let _ = symmetry_laws::joined::<String>(first, second);
+    grid.apply(first.then(second));
+}
+
+/// Applies a symmetry to texts, and then its inverse.
+pub fn turn_texts_back<A: Allocator>(grid: &mut Grid<String, A>, symmetry: Symmetry)
+    ensures { grid.new ≡ grid.old }
+{
+    laws::apply_then_inverse(grid, symmetry);
+}
+
+/// Runs one symmetry as a command on texts.
+pub fn run_on_texts<A: Allocator>(
+    grid: &mut Grid<Option<String>, A>,
+    symmetry: Symmetry,
+    tally: &mut Tally,
+)
+    ensures { grid.new.rows ≡ act symmetry grid.old.rows }
+{
+    let _ = grid.step(Command::Apply(symmetry), tally);
+}
+
+/// Two rows that are written out, row-major.
+pub fn written_by_rows(alloc: Global) -> Result<Grid<u32>, GridError>
+    ensures rows { IfOk result (λ g. g.rows ≡ (1 ∷ 2 ∷ 3 ∷ []) ∷ (4 ∷ 5 ∷ 6 ∷ []) ∷ []) }
+    ensures order { IfOk result (λ g. g.order ≡ RowMajor) }
+{
+    grid!(alloc; [1, 2, 3] [4, 5, 6])
+}
+
+/// The same rows, column-major.
+pub fn written_by_columns(alloc: Global) -> Result<Grid<u32>, GridError>
+    ensures rows { IfOk result (λ g. g.rows ≡ (1 ∷ 2 ∷ 3 ∷ []) ∷ (4 ∷ 5 ∷ 6 ∷ []) ∷ []) }
+    ensures order { IfOk result (λ g. g.order ≡ ColumnMajor) }
+{
+    grid_cm!(alloc; [1, 2, 3] [4, 5, 6])
 }

@@ -7,7 +7,7 @@ ghost use Rattle.grid_base.specs.Symmetry.{act, image_rows, image_cols, source_r
 ghost use Rattle.grid.specs.Reply.{plain};
 ghost use Rattle.grid.specs.Command.{step_rows, step_reply};
 ghost use Rattle.grid.specs.Run.{run_rows, run_replies};
-ghost use Rattle.grid_reference.specs.Plain.{rows_of_vec};
+ghost use Rattle.grid_reference.specs.Plain.{rows_of_vec, AfterSome};
 
 use grid::{Command, Order, Reply, Symmetry};
 use std::alloc::{AllocError, Global};
@@ -169,6 +169,7 @@ pub fn run<T: Copy>(
 ) -> Result<Vec<Reply<T>>, AllocError>
     ensures rows { OnOk result (rows_of_vec table.new ≡ run_rows commands.now (rows_of_vec table.old)) }
     ensures replies { IfOk result (λ replies. map plain replies.items ≡ run_replies commands.now (rows_of_vec table.old)) }
+    ensures err { OnErr result (AfterSome commands.now (rows_of_vec table.old) (rows_of_vec table.new)) }
 {
     let mut replies = Vec::new(alloc);
     for command in commands {

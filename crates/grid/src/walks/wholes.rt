@@ -1,9 +1,9 @@
 //! Calls on all cells of a grid.
-ghost use Rattle.std.specs.Prelude.{◌≡◌, [], IsOk, IfOk, IfErr, OnOk, OnErr};
+ghost use Rattle.std.specs.Prelude.{◌≡◌, [], length, IsOk, IfOk, IfErr, OnOk, OnErr};
 ghost use Rattle.std.specs.Fn.{FnReturnsAt};
 ghost use Rattle.grid_base.specs.Table.{rows_of, cols_of, IsTable};
 ghost use Rattle.grid_base.specs.Order.{storage};
-ghost use Rattle.grid_base.specs.Answers.{Answers, CallableAtEach, CallableAtRefs, Gives, Pairs};
+ghost use Rattle.grid_base.specs.Answers.{Answers, CallableAtEach, CallableAtRefs, CallableTimes, Gives, Pairs};
 ghost use Rattle.grid_base.specs.Clones.{ClonesAreEqual};
 ghost use Rattle.grid.specs.Wholes.{filled};
 
@@ -30,11 +30,11 @@ impl<T, A: Allocator> Grid<T, A> {
 
     /// Fills the cells by the closure's answers, one call a cell in storage order. The size and the order stay.
     ///
-    /// Takes no memory.
+    /// The closure can be called once for each cell in turn. Takes no memory.
     pub fn fill_with<F: FnMut() -> T>(&mut self, f: F)
     where
         T: Drop,
-        requires { F.IsAlwaysCallable f }
+        requires { CallableTimes F.pre (λ p x q. F.step p x q) f (length (storage self.old.order self.old.rows)) }
         ensures order { self.new.order ≡ self.old.order }
         ensures rows { rows_of self.new.rows ≡ rows_of self.old.rows }
         ensures cols { cols_of self.new.rows ≡ cols_of self.old.rows }

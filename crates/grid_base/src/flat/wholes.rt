@@ -1,7 +1,7 @@
 //! Calls on all cells of a `Flat`.
 ghost use Rattle.std.specs.Prelude.{◌≡◌, length, replicate, IsOk, IfOk, IfErr, OnOk, OnErr};
 ghost use Rattle.std.specs.Fn.{FnReturnsAt};
-ghost use Rattle.grid_base.specs.Answers.{Answers, CallableAtEach, CallableAtRefs, Gives, Pairs};
+ghost use Rattle.grid_base.specs.Answers.{Answers, CallableAtEach, CallableAtRefs, CallableTimes, Gives, Pairs};
 ghost use Rattle.grid_base.specs.Clones.{ClonesAreEqual};
 
 use super::Flat;
@@ -31,10 +31,12 @@ impl<T, A: Allocator> Flat<T, A> {
     }
 
     /// Fills the cells by the closure's answers, in order. Takes no memory.
+    ///
+    /// The closure can be called once for each cell in turn.
     pub fn fill_with<F: FnMut() -> T>(&mut self, mut f: F)
     where
         T: Drop,
-        requires { F.IsAlwaysCallable f }
+        requires { CallableTimes F.pre (λ p x q. F.step p x q) f (length self.old) }
         ensures len { length self.new ≡ length self.old }
         ensures cells { Gives (λ p x q. F.step p x q) f self.new }
     {

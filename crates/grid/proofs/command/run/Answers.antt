@@ -1,4 +1,4 @@
-use Rattle.std.proofs.Common.{◌≡◌, Result, Ok, Err, OnOk, false, ◌∙◌, ◌++◌, ◌∷◌, [], length, map, take, slice_get, Some, sym, ap, arith, inr, length-append, append_assoc}
+use Rattle.std.proofs.Common.{◌≡◌, suc, List, Result, Ok, Err, OnOk, false, ◌∙◌, ◌++◌, ◌∷◌, [], length, map, take, slice_get, Some, sym, ap, arith, inr, length-append, append_assoc}
 use Rattle.std.specs.Result.{is_err}
 use Rattle.std.proofs.lemmas.List.{map-append}
 use Rattle.grid.specs.Reply.{plain}
@@ -9,15 +9,18 @@ on_ok : {T E : Type 0} (r : Result T E) (P : Type 0) → is_err r ≡ false → 
 on_ok (Ok x) P h p = p
 on_ok (Err e) P h p = absurd (cc)
 
+one_more : {X Y : Type 0} (f : X → Y) (xs all : List X) (x : X) → all ≡ xs ++ x ∷ [] → length (map f all) ≡ suc (length (map f xs))
+one_more f xs all x e = rw e (omega (arith, ap length (map-append f xs (x ∷ [])), length-append (map f xs) (f x ∷ [])))
+
 pub returns-then-is_err-clause-stopped : goal.returns-then-is_err-clause-stopped
-returns-then-is_err-clause-stopped g c = rw (c.reserve_exact.ensures.items, c.new-replies.ensures.items) (ran_none _ _)
+returns-then-is_err-clause-stopped g c = rw (c.reserve_exact.ensures.items, c.new-replies.ensures.items) (ran_none _ _ _)
 
 pub loop-command-init : goal.loop-command-init
 loop-command-init g c = record {
   can = tt;
   finite = tt;
   rest = c.into_iter-command-iterator.ensures.into_iter_gives.0;
-  ran = rw (c.reserve_exact.ensures.items, c.new-replies.ensures.items) (ran_none _ _);
+  ran = rw (c.reserve_exact.ensures.items, c.new-replies.ensures.items) (ran_none _ _ _);
   count = c.reserve_exact.ensures.len ∙ c.new-replies.ensures.len;
   room = let room = on_ok _ _ (sym c.is_err.ensures.value ∙ c.if-is_err.false) c.reserve_exact.ensures.ok in omega (arith, room, c.len.ensures);
 }
@@ -41,8 +44,9 @@ loop-command-preserved g c =
       finite = tt;
       rest = rw append_assoc (rw s.0 at i.rest);
       ran =
-          ran_more _ c.in-Some.command _ _ _ _ _ _ _ _ i.ran e.rows
-          (ap (map plain) p.items ∙ (map-append plain _ _ ∙ ap (λ x. map plain c.loop-command.replies.items ++ x ∷ []) (e.reply c.requires.clones)))
+          ran_more _ _ c.in-Some.command _ _ _ _ _ _ _ _ i.ran e.rows
+          (one_more plain _ _ _ p.items)
+          (λ same. ap (map plain) p.items ∙ (map-append plain _ _ ∙ ap (λ x. map plain c.loop-command.replies.items ++ x ∷ []) (e.reply same)))
           e.order e.symmetry c.step.ensures.shift;
       count = grind (arith, p.len, i.count, length-append);
       room = grind (arith, p.capacity, i.room);
@@ -53,7 +57,7 @@ returns-in-Err-clause-stopped g c =
     let i = c.loop-command.invariant in
     let finished : take c.len-done.result c.args.commands.items ≡ c.loop-command.yielded =
     take_at_seam _ _ _ _ i.rest (c.len-done.ensures ∙ i.count) in
-    rw finished (ran_still _ _ _ _ _ _ _ _ i.ran c.in-Err.ensures.err_grid c.in-Err.ensures.err_symmetry c.step.ensures.shift)
+    rw finished (ran_still _ _ _ _ _ _ _ _ _ i.ran c.in-Err.ensures.err_grid c.in-Err.ensures.err_symmetry c.step.ensures.shift)
 
 pub returns-in-Err-clause-stop : goal.returns-in-Err-clause-stop
 returns-in-Err-clause-stop g c =

@@ -10,7 +10,7 @@ invariant-loop-command g l = record {
   can : (goal.iterator-loop-command g).can_next l.command-iterator;
   finite : (goal.iterator-loop-command g).is_finite l.command-iterator;
   rest : l.yielded ++ into_iter_items l.command-iterator ≡ l.fn.commands.items;
-  ran : Ran l.yielded l.fn.grid l.grid l.fn.tally l.tally (map plain l.replies.items);
+  ran : Ran g.T.Clone.is_clone l.yielded l.fn.grid l.grid l.fn.tally l.tally (map plain l.replies.items);
   count : vec_len l.replies ≡ length l.yielded;
   room : length l.fn.commands.items ≤ vec_capacity l.replies;
 }

@@ -1,8 +1,9 @@
-use Rattle.std.proofs.Common.{◌+◌, ◌++◌, ◌∙◌, ap, sym, length, map, take, arith, length-append}
+use Rattle.std.proofs.Common.{sym, subst, map, take, arith}
+use Rattle.std.specs.List.{AllZip}
 use Rattle.std.proofs.lemmas.List.{take_all}
 use Rattle.std.proofs.lemmas.List.Elements.{length_all_zip, same_from_all_zip}
 use Rattle.grid_base.specs.Table.{joined}
-use Rattle.grid.proofs.Joins.{joined_more, CanCut-rows, rows_shape, rows_equal}
+use Rattle.grid.proofs.Joins.{joined_more, AllZip-joined, CanCut-rows, rows_shape, rows_equal}
 use Rattle.grid.proofs.convert.join_clones.Goals as goal
 
 pub loop-row-preserved : goal.loop-row-preserved
@@ -12,34 +13,32 @@ loop-row-preserved g c =
     let i = c.loop-row.row-index in
     let added = c.in_ok-extend_with_clones.ensures.items in
     let zip = rw c.as_slice.ensures at added.2 in
-    let more = joined_more items rows i c.row-item.result c.loop-row-test.true c.row-item.is in
-    record {
-      len =
-          ap length added.1
-          ∙ (length-append c.loop-row.cells.items added.0
-          ∙ (ap (λ x. x + length added.0) c.loop-row.invariant.len
-          ∙ (ap (λ x. length (joined (map items (take i rows))) + x) (sym (length_all_zip g.T.Clone.is_clone (items c.row-item.result) added.0 zip))
-          ∙ sym (ap length more ∙ length-append (joined (map items (take i rows))) (items c.row-item.result)))));
-      items = λ equal.
-          added.1
-          ∙ (ap (λ x. x ++ added.0) (c.loop-row.invariant.items equal)
-          ∙ (ap (λ x. joined (map items (take i rows)) ++ x) (same_from_all_zip g.T.Clone.is_clone (items c.row-item.result) added.0 zip equal) ∙ sym more));
-    }
+    rw (added.1, joined_more items rows i c.row-item.result c.loop-row-test.true c.row-item.is)
+    (AllZip-joined g.T.Clone.is_clone (joined (map items (take i rows))) (items c.row-item.result) c.loop-row.cells.items added.0 c.loop-row.invariant zip)
 
 pub from_vec-requires : goal.from_vec-requires
 from_vec-requires g c =
     let lists = map g.L.AsSlice.items c.args.rows.now in
     let measured = c.in_ok-count.ensures in
-    let all = ap (λ x. length (joined (map g.L.AsSlice.items x))) (take_all c.loop-row.row-index c.args.rows.now (omega arith)) in
-    CanCut-rows lists _ c.in_ok-count.cols measured.0 measured.2 (c.loop-row.invariant.len ∙ all)
+    let zip : AllZip g.T.Clone.is_clone (joined lists) c.loop-row.cells.items =
+    subst (λ rows. AllZip g.T.Clone.is_clone (joined (map g.L.AsSlice.items rows)) c.loop-row.cells.items) (take_all c.loop-row.row-index c.args.rows.now (omega arith)) c.loop-row.invariant in
+    let len = sym (length_all_zip g.T.Clone.is_clone (joined lists) c.loop-row.cells.items zip) in
+    CanCut-rows lists _ c.in_ok-count.cols measured.0 measured.2 len
 
 pub returns : goal.returns
 returns g c =
     let lists = map g.L.AsSlice.items c.args.rows.now in
     let measured = c.in_ok-count.ensures in
     let made = c.from_vec.ensures in
-    let all = ap (λ x. joined (map g.L.AsSlice.items x)) (take_all c.loop-row.row-index c.args.rows.now (omega arith)) in (
+    let zip : AllZip g.T.Clone.is_clone (joined lists) c.loop-row.cells.items =
+    subst (λ rows. AllZip g.T.Clone.is_clone (joined (map g.L.AsSlice.items rows)) c.loop-row.cells.items) (take_all c.loop-row.row-index c.args.rows.now (omega arith)) c.loop-row.invariant in
+    let len = sym (length_all_zip g.T.Clone.is_clone (joined lists) c.loop-row.cells.items zip) in (
       measured.0,
-      rows_shape lists c.loop-row.cells.items c.in_ok-count.cols c.from_vec.result measured.0 measured.2 made.table made.storage made.cols made.order (c.loop-row.invariant.len ∙ ap length all),
-      λ equal. rows_equal lists c.loop-row.cells.items c.in_ok-count.cols c.from_vec.result measured.0 measured.2 made.table made.storage made.cols (c.loop-row.invariant.items equal ∙ all),
+      rows_shape lists c.loop-row.cells.items c.in_ok-count.cols c.from_vec.result measured.0 measured.2 made.table made.storage made.cols made.order len,
+      record {
+        each = subst (AllZip g.T.Clone.is_clone (joined lists)) (sym made.storage) zip;
+        same = λ equal.
+            rows_equal lists c.loop-row.cells.items c.in_ok-count.cols c.from_vec.result measured.0 measured.2 made.table made.storage made.cols
+            (same_from_all_zip g.T.Clone.is_clone (joined lists) c.loop-row.cells.items zip equal);
+      },
     )

@@ -1,4 +1,4 @@
-use Rattle.std.proofs.Common.{◌∙◌, ap, sym, subst}
+use Rattle.std.proofs.Common.{◌∙◌, ap, refl, sym, subst}
 use Rattle.grid_base.specs.declared.words.Symmetry.TheVariants.{Transpose}
 use Rattle.grid_base.specs.Order.{flipped}
 use Rattle.grid_base.specs.Symmetry.{act}
@@ -37,3 +37,7 @@ returns-clause-refused_row g c =
     on_err c.insert_row-as_row.result
     (λ same. twice_across _ _ _ _ (subst (λ s. IsTable s.rows) (sym c.requires.same) c.size.ensures.table) c.transpose.ensures.rows c.transpose.ensures.order same c.transpose-2.ensures.rows c.transpose-2.ensures.order)
     c.insert_row-as_row.ensures.err
+
+pub returns-clause-law : goal.returns-clause-law
+returns-clause-law g c =
+    sym (col_inserted c.args.at c.args.line.items c.args.grid.now.rows _ _ _ c.size.ensures.table c.requires.fits c.requires.nonempty c.requires.place refl refl refl)

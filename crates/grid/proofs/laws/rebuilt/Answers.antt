@@ -8,8 +8,8 @@ pub from_vec_with_order-requires : goal.from_vec_with_order-requires
 from_vec_with_order-requires g c =
     rw (c.into_vec.ensures, c.size-cols.ensures.cols) (CanCut-storage c.args.grid.order c.args.grid.rows c.size-cols.ensures.table)
 
-pub returns : goal.returns
-returns g c =
+pub returns-clause-same : goal.returns-clause-same
+returns-clause-same g c =
     let built = c.from_vec_with_order.ensures in
     let old = c.args.grid in
     let table = c.size-cols.ensures.table in
@@ -23,3 +23,6 @@ returns g c =
     (λ some. same_by_storage old.order _ old.rows built.table table (built.cols some ∙ c.size-cols.ensures.cols) stored)
     (cases_eq (length c.into_vec.result.items) 0) in
     same_sheet _ _ rows order
+
+pub returns-clause-law : goal.returns-clause-law
+returns-clause-law g c = λ t h cols same. same_by_storage c.args.grid.order t c.args.grid.rows h c.size-cols.ensures.table cols same

@@ -2,7 +2,7 @@ use Rattle.std.proofs.Common.{◌≡◌, ◌∙◌, ap, sym, refl, arith}
 use Rattle.grid_base.specs.Symmetry.{act, order_after}
 use Rattle.grid_base.proofs.Group.{act-identity}
 use Rattle.grid_base.proofs.Views.{same_sheet}
-use Rattle.grid.proofs.Turns.{turned_left, turned_more, order_more}
+use Rattle.grid.proofs.Turns.{turned_left, turned_more, order_more, four_turns}
 use Rattle.grid.proofs.laws.rotate_left_four_times.Goals as goal
 
 pub loop-turn-init : goal.loop-turn-init
@@ -14,9 +14,12 @@ loop-turn-preserved g c = record {
   order = order_more c.loop-turn._turn _ _ _ c.loop-turn.invariant.order c.rotate_left.ensures.order;
 }
 
-pub returns : goal.returns
-returns g c =
+pub returns-clause-same : goal.returns-clause-same
+returns-clause-same g c =
     let all : c.loop-turn._turn ≡ 4 = omega arith in
     same_sheet _ _
     (c.loop-turn.invariant.rows ∙ (ap (λ k. act (turned_left k) c.args.grid.now.rows) all ∙ act-identity _ c.size.ensures.table))
     (c.loop-turn.invariant.order ∙ ap (λ k. order_after (turned_left k) c.args.grid.now.order) all)
+
+pub returns-clause-law : goal.returns-clause-law
+returns-clause-law g c = λ t h. four_turns t h

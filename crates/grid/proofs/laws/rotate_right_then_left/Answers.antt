@@ -6,9 +6,12 @@ use Rattle.grid_base.proofs.Group.{act-act, act-identity}
 use Rattle.grid_base.proofs.Views.{same_sheet, flipped-flipped}
 use Rattle.grid.proofs.laws.rotate_right_then_left.Goals as goal
 
-pub returns : goal.returns
-returns g c =
+pub returns-clause-same : goal.returns-clause-same
+returns-clause-same g c =
     same_sheet _ _
     (c.rotate_left.ensures.rows
     ∙ (ap (act RotateLeft) c.rotate_right.ensures.rows ∙ (act-act RotateRight RotateLeft _ c.size.ensures.table ∙ act-identity _ c.size.ensures.table)))
     (c.rotate_left.ensures.order ∙ (ap flipped c.rotate_right.ensures.order ∙ flipped-flipped _))
+
+pub returns-clause-law : goal.returns-clause-law
+returns-clause-law g c = λ t h. act-act RotateRight RotateLeft t h ∙ act-identity t h

@@ -1,8 +1,12 @@
-use Rattle.std.proofs.Common.{◌∙◌, ap, map, arith}
+use Rattle.std.proofs.Common.{Result, Ok, Err, OnErr, ◌+◌, ◌∙◌, ap, map, arith}
 use Rattle.std.proofs.lemmas.List.{map-append}
 use Rattle.grid.specs.Reply.{plain}
 use Rattle.grid_reference.proofs.Growing.{rows-stepped, replies-stepped}
 use Rattle.grid_reference.proofs.plain.run.Goals as goal
+
+on_err : {T E : Type 0} (r : Result T E) (P : Type 0) → P → OnErr r P
+on_err (Ok x) P p = tt
+on_err (Err e) P p = p
 
 pub loop-command-preserved : goal.loop-command-preserved
 loop-command-preserved g c =
@@ -13,3 +17,13 @@ loop-command-preserved g c =
       replies = replies-stepped c.args.commands.now c.loop-command.command-index _ _ _ (omega arith) before.rows _ _ _ before.replies stepped.reply
           (ap (map plain) c.in_ok-push.ensures.items ∙ map-append _ _ _);
     }
+
+pub returns-in_err-push-clause-err : goal.returns-in_err-push-clause-err
+returns-in_err-push-clause-err g c =
+    let before = c.loop-command.invariant in
+    on_err c.from_residual-in_err-push.result _
+    (record {
+      number = c.loop-command.command-index + 1;
+      within = omega arith;
+      rows = rows-stepped c.args.commands.now c.loop-command.command-index _ _ _ (omega arith) before.rows _ c.in_ok-step.ensures.rows;
+    })

@@ -1,3 +1,6 @@
+use Rattle.std.proofs.Common.{length, subst, ap}
+use Rattle.grid_base.specs.Answers.{CallableTimes}
+use Rattle.grid.proofs.Seen.{seen_storage}
 use Rattle.grid.proofs.SeenWholes.{whole_rows, whole_cols, whole_table, whole_cells}
 use Rattle.grid.proofs.grid.Grid.fill_with.Goals as goal
 
@@ -12,3 +15,6 @@ returns-clause-table g c = whole_table _ _ _ _ _ _ c.self.invariant c.self.view_
 
 pub returns-clause-cells : goal.returns-clause-cells
 returns-clause-cells g c = rw (whole_cells _ _ _ _ _ _ c.self.invariant c.self.view_is c.fill_with.ensures.len) c.fill_with.ensures.cells
+
+pub fill_with-requires : goal.fill_with-requires
+fill_with-requires g c = subst (CallableTimes _ _ _) (ap length (seen_storage _ _ _ _ _ c.self.invariant c.self.view_is)) c.requires

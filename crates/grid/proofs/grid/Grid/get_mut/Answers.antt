@@ -1,30 +1,39 @@
-use borrow.Follows.Closed.{read_of}
-use Rattle.std.proofs.Common.{◌∙◌, sym, ap, length, is_some}
-use Rattle.std.proofs.lemmas.Option.{IfSome_then}
-use Rattle.std.specs.Option.{ghost_name_of}
-use Rattle.grid_base.specs.Order.{table_of}
-use Rattle.grid_base.specs.Sheet.{Sheet}
-use Rattle.grid.proofs.Writing.{IsPlace, within, past_cols, past_rows, rows_written, cell_read}
+use Rattle.std.proofs.Common.{◌≡◌, ◌∙◌, sym, ap, set, inl, inr, is_some, None, arith}
+use Rattle.std.specs.List.{slice_get}
+use Rattle.grid_base.specs.Table.{cell}
+use Rattle.grid_base.proofs.Stores.{place_within}
+use Rattle.grid_base.proofs.Views.{view-cell, view-past_rows, view-past_cols}
+use Rattle.grid.specs.Grid.{with_grid_cell}
+use Rattle.grid.proofs.Writing.{sheet, sheet_written}
 use Rattle.grid.proofs.grid.Grid.get_mut.Goals as goal
-use Rattle.grid.proofs.grid.Grid.get_mut.Goals.{then-row-self+then-col-self, else-row-self, else-row-self-via-then-row-self+else-col-self, else-row-self-via-else-row-self}
+use Rattle.grid.proofs.grid.Grid.get_mut.Goals.{else-row-self-via-then-row-self+else-col-self, else-row-self-via-else-row-self}
 
-pub returns : goal.returns
-returns g c =
+pub at_mut-requires : goal.at_mut-requires
+at_mut-requires g c =
+    omega (arith, c.place.ensures, c.self.invariant.cells, place_within c.self.inside.order _ _ _ _ c.if-row-self.true c.if-col-self.true)
+
+pub returns-then-col-self : goal.returns-then-col-self
+returns-then-col-self g c =
     let s = c.self.inside in
-    let at : IsPlace s.order s.row_count s.col_count (length s.flat) c.args.row c.args.col c.if-row-self.place =
-    elim c.if-row-self.branch [
-      | then-row-self+then-col-self w ↦ within w.if-row-self.true w.if-col-self.true (w.place-is ∙ w.place-place.ensures)
-      | else-row-self w ↦ elim w.else-row-self.branch [
-        | else-row-self-via-then-row-self+else-col-self v ↦ past_cols v.if-row-self.true v.if-col-self.false (w.place-is ∙ w.len-place.ensures)
-        | else-row-self-via-else-row-self v ↦ past_rows v.if-row-self.false (w.place-is ∙ w.len-place.ensures)
-      ]
-    ] in
-    let read = cell_read s.order s.row_count s.col_count s.flat _ _ _ c.self.invariant at in
-    rw (← c.self.view_is) (
-      λ t. read_of (ghost_name_of c.get_mut.result) (λ (w : g.row.T.Denot). let v : Sheet g.row.T.Denot = record { rows = rows_written s.order s.row_count s.col_count s.flat _ _ _ c.self.invariant w at t; order = s.order } in v) (let v : Sheet g.row.T.Denot = record { rows = table_of s.order s.row_count s.col_count s.flat; order = s.order } in v),
-      record {
-        writes_back = tt;
-        variant = c.get_mut.ensures.variant ∙ sym (ap is_some read);
-        item = IfSome_then c.get_mut.result c.get_mut.ensures.item (λ x p. read ∙ p);
-      },
+    let written : (w : g.row.T.Denot) → sheet s.order s.row_count s.col_count (set s.flat c.place.result w) ≡ with_grid_cell c.args.self.now c.args.row c.args.col w =
+    λ w. rw c.place.ensures (sheet_written _ _ _ _ _ _ _ w c.self.invariant c.self.view_is c.if-row-self.true c.if-col-self.true) in
+    let read =
+    view-cell _ _ _ _ c.self.invariant _ _ c.if-row-self.true c.if-col-self.true ∙ (ap (slice_get s.flat) (sym c.place.ensures) ∙ c.at_mut.ensures.item) in (
+      λ t. inl (c.at_mut.result.ghost_name, λ w. written w t),
+      rw (← c.self.view_is) (record { writes_back = tt; variant = sym (ap is_some read); item = read }),
     )
+
+pub returns-else-row-self : goal.returns-else-row-self
+returns-else-row-self g c =
+    let none : cell c.args.self.now.rows c.args.row c.args.col ≡ None =
+    rw (← c.self.view_is)
+    (elim c.else-row-self.branch [
+      | else-row-self-via-then-row-self+else-col-self w ↦ view-past_cols _ _ _ _ c.self.invariant _ _ w.if-row-self.true w.if-col-self.false
+      | else-row-self-via-else-row-self w ↦ view-past_rows _ _ _ _ c.self.invariant _ _ w.if-row-self.false
+    ]) in
+    let same : c.else-row-self.self.0 ≡ c.args.self.now =
+    elim c.else-row-self.branch [
+      | else-row-self-via-then-row-self+else-col-self w ↦ ap (λ x. x.0) w.self-is ∙ c.self.view_is
+      | else-row-self-via-else-row-self w ↦ ap (λ x. x.0) w.self-is ∙ c.self.view_is
+    ] in
+    (ap inr same, record { writes_back = tt; variant = sym (ap is_some none); item = tt })

@@ -1,4 +1,4 @@
-use Rattle.std.proofs.Common.{arith, ap, sym, ◌∙◌, ℕ, suc, length, drop, take, ◌≡◌, ◌∷◌, ◌-◌, ◌<◌, List, refl, min}
+use Rattle.std.proofs.Common.{arith, ap, sym, ◌∙◌, ℕ, suc, length, drop, take, ◌≡◌, ◌∷◌, ◌-◌, ◌<◌, List, min}
 use Rattle.grid_base.proofs.Strides.{line_step, drop_or_end}
 use Rattle.grid_base.proofs.flat.strides.GridLineIterMutIterator.next.Goals as goal
 
