@@ -36,7 +36,8 @@ impl<T: Whole, A: Allocator> Grid<T, A> {
     fn longest_number<B: Allocator>(&self, text: &mut String<B>) -> Result<usize, AllocError>
         requires { string_bytes text.old ≡ [] }
         ensures text { OnOk result (string_bytes text.new ≡ []) }
-        ensures longest { IfOk result (λ len. len ≡ longest (joined (numbers T.whole self.now.rows))) }
+        ensures longest { IfOk result (λ len.
+            len ≡ longest (joined (numbers T.whole self.now.rows))) }
     {
         let (rows, _) = self.size();
         let mut longest = 0;
@@ -54,7 +55,8 @@ impl<T: Whole, A: Allocator> Grid<T, A> {
     ) -> Result<usize, AllocError>
         requires { string_bytes text.old ≡ [] }
         ensures text { OnOk result (string_bytes text.new ≡ []) }
-        ensures width { IfOk result (λ found. found ≡ width_or_longest width (numbers T.whole self.now.rows)) }
+        ensures width { IfOk result (λ found.
+            found ≡ width_or_longest width (numbers T.whole self.now.rows)) }
     {
         match width {
             Some(width) => Ok(width),
