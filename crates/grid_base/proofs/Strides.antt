@@ -1,11 +1,11 @@
 -- Every so many cells of a list, and the walks over them.
-use Rattle.std.proofs.Common.{◌≡◌, ℕ, zero, suc, ◌+◌, ◌-◌, ◌*◌, ◌/◌, ◌%◌, ◌<◌, ◌≤◌, List, [], ◌∷◌, ◌++◌, Some, None, take, drop, length, min, refl, ap, sym, ◌∙◌, arith, get_or, length-drop, length-take, ⊎_elim}
+use Rattle.std.proofs.Common.{◌≡◌, ℕ, zero, suc, ◌+◌, ◌-◌, ◌*◌, ◌/◌, ◌%◌, ◌<◌, ◌≤◌, List, [], ◌∷◌, ◌++◌, Some, None, take, drop, length, refl, ap, sym, ◌∙◌, arith, get_or, length-drop, length-take, ⊎_elim}
 use Rattle.std.proofs.Math.Nat.{add-div_right, div-eq_of_lt}
 use Rattle.std.specs.Int.{div_ceil}
 use Rattle.std.specs.List.{slice_get}
-use Rattle.std.proofs.lemmas.List.{take_all, drop_all, drop-drop}
+use Rattle.std.proofs.lemmas.List.{drop-drop}
 use Rattle.std.proofs.lemmas.Nat.{div-add-mod', div-mul-add, mod_below}
-use Rattle.std.proofs.lemmas.Bool.{cases_eq, cases_lt}
+use Rattle.std.proofs.lemmas.Bool.{cases_eq}
 use Rattle.std.specs.Iterator.{YieldsFirst, YieldsLast, YieldsFirstRef, YieldsLastRef}
 use Rattle.std.proofs.iter.runs.Sources.{from_front, from_back, as_is, as_is_back}
 use Rattle.std.specs.Option.{unwrap_or, option_copied}
@@ -75,21 +75,14 @@ length-strided stride xs p =
     let n : length xs + (stride - 1) - 0 ≡ length xs + (stride - 1) = omega arith in
     length-every 0 (stride - 1) xs (omega arith) ∙ (ap (λ k. k / (stride - 1 + 1)) n ∙ (ceil_is (length xs) (stride - 1) ∙ ap (div_ceil (length xs)) one))
 
-pub drop_or_end : {X : Type 0} (g k : ℕ) (ys : List X) → k ≡ min g (length ys) → take (length ys - k) (drop k ys) ≡ drop g ys
-drop_or_end g k ys e =
-    ⊎_elim (λ lt.
-    let same : k ≡ g = omega arith in
-    ap (λ x. take (length ys - x) (drop x ys)) same ∙ take_all (length ys - g) (drop g ys) (omega (arith, length-drop g ys)))
-    (λ ge.
-    let same : k ≡ length ys = omega arith in
-    ap (λ x. take (length ys - x) (drop x ys)) same
-    ∙ (ap (take (length ys - length ys)) (drop_all (length ys) ys (omega arith)) ∙ (take_all (length ys - length ys) [] (omega arith) ∙ sym (drop_all g ys ge))))
-    (cases_lt g (length ys))
-
 -- the first of them, and those behind it
-pub line_step : {X : Type 0} (g k : ℕ) (xs ys : List X) (x : X) → xs ≡ x ∷ ys → k ≡ min g (length ys) → every 0 g xs ≡ x ∷ every 0 g (take (length ys - k) (drop k ys))
-line_step g k xs ys x e h =
-    ap (every 0 g) e ∙ (ap (λ l. x ∷ l) (every_after g g ys) ∙ ap (λ l. x ∷ every 0 g l) (sym (drop_or_end g k ys h)))
+pub line_step : {X : Type 0} (n : ℕ) (xs : List X) (x : X) → 0 < n → slice_get xs 0 ≡ Some x → every 0 (n - 1) xs ≡ x ∷ every 0 (n - 1) (drop n xs)
+line_step n [] x p e = absurd (cc)
+line_step n (y ∷ ys) x p e =
+    let first : y ≡ x = cc e in
+    let one : suc (n - 1) ≡ n = omega arith in
+    ap (λ z. z ∷ every (n - 1) (n - 1) ys) first
+    ∙ (ap (λ l. x ∷ l) (every_after (n - 1) (n - 1) ys) ∙ ap (λ k. x ∷ every 0 (n - 1) (drop k (y ∷ ys))) one)
 
 -- ---- where the cells of a line come from
 

@@ -6,6 +6,7 @@ pub mod Move
 pub mod Tally
 pub mod Sheet
 pub mod Flat
+pub mod LineStep
 pub mod Lines
 pub mod Blocks
 pub mod Fresh

@@ -1,11 +1,12 @@
 //! Walks over cells in storage order, and over every so many of them.
-ghost use Rattle.std.specs.Prelude.{◌≡◌, ◌-◌, ◌<◌, ◌≤◌, length, take, drop, IfSome, Some};
+ghost use Rattle.std.specs.Prelude.{◌≡◌, ◌-◌, ◌<◌, ◌≤◌, length, take, drop, slice_get, IfSome, Some};
 ghost use Rattle.std.specs.Borrow.{sem};
 ghost use Rattle.std.specs.Iterator.{item_count, UpTo, at_most};
 ghost use Rattle.std.specs.Iterator.Runs.{YieldsMutRefsInOrder, YieldsMutRefsInReverse};
 ghost use Rattle.std.specs.Iterator.SizeHint.{IsWithinCount};
 ghost use Rattle.std.specs.Slice.Iter.{iter_mut_rest, iter_mut_steps, iter_mut_steps_back};
 ghost use Rattle.grid_base.specs.Strides.{strided};
+ghost use Rattle.grid_base.specs.LineStep.{lends_step};
 
 use super::Flat;
 use std::alloc::Allocator;
@@ -61,9 +62,11 @@ impl<'a, T> Iterator for GridLineIterMut<'a, T> {
 
     fn next(&mut self) -> Option<&'a mut T> {
         let rest = mem::take(&mut self.rest);
-        let (cell, others) = rest.split_first_mut()?;
-        let gap = (self.stride - 1).min(others.len());
-        self.rest = &mut others[gap..];
+        if rest.is_empty() {
+            return None;
+        }
+        let (cell, others) = step_along(rest, self.stride);
+        self.rest = others;
         Some(cell)
     }
 
@@ -75,4 +78,17 @@ impl<'a, T> Iterator for GridLineIterMut<'a, T> {
         let len = self.rest.len().div_ceil(self.stride);
         (len, Some(len))
     }
+}
+
+// The first cell, and the cells that are left after a stride. Those between them stay as they are.
+fn step_along<T>(cells: &mut [T], stride: usize) -> (&mut T, &mut [T])
+    requires some { 0 < length cells.old }
+    requires steps { 0 < stride }
+    ensures* writes_back { sem 𝓛 (lends_step T.row cells.entry stride result) }
+    ensures first { slice_get cells.old 0 ≡ Some result.0.now }
+    ensures rest { result.1.now ≡ drop stride cells.old }
+{
+    let step = stride.min(cells.len());
+    let (passed, rest) = cells.split_at_mut(step);
+    (&mut passed[0], rest)
 }

@@ -1,6 +1,6 @@
 use Rattle.std.proofs.Common.{◌∙◌, ap}
 use Rattle.grid_base.specs.Symmetry.{act, order_after}
-use Rattle.grid_base.proofs.Group.{inverse_is, order_after-order_after}
+use Rattle.grid_base.proofs.Group.{inverse_is, inverse_acts, order_after-order_after}
 use Rattle.grid_base.proofs.Views.{same_sheet}
 use Rattle.grid.proofs.laws.apply_then_inverse.Goals as goal
 
@@ -14,4 +14,4 @@ returns-clause-same g c =
     ∙ (order_after-order_after _ _ c.args.grid.now.order ∙ ap (λ s. order_after s c.args.grid.now.order) (inverse_is _ _ undoes.same))))
 
 pub returns-clause-law : goal.returns-clause-law
-returns-clause-law g c = λ t h v e. c.undoing.ensures.law v e t h
+returns-clause-law g c = λ t h v e. inverse_acts _ v e t h
