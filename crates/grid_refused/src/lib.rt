@@ -10,4 +10,6 @@ mod fuse;
 #[cfg(test)]
 mod memory;
 #[cfg(test)]
+mod play;
+#[cfg(test)]
 mod refused;
