@@ -1,8 +1,9 @@
 //! The lines of a script, their words, and the numbers among these.
-ghost use Rattle.std.specs.Prelude.{◌≡◌, ◌≢◌, ◌+◌, ◌^◌, ◌<◌, ◌↔◌, [], length, MatchOption, ◌==◌, position, slice_index, IsSome, IfSome, FitsSigned};
-ghost use Rattle.grid_play.specs.Lines.{first_line, later_lines, without_return};
+ghost use Rattle.std.specs.Prelude.{◌≡◌, ◌≢◌, ◌+◌, ◌^◌, ◌<◌, ◌↔◌, [], ◌∷◌, length, MatchOption, ◌==◌, position, slice_index, IsSome, IfSome, FitsSigned};
+ghost use Rattle.grid_play.specs.Lines.{first_line, later_lines, without_return, separates, words_of};
 ghost use Rattle.std.specs.Iterator.{at_most};
-ghost use Rattle.std.specs.List.{before_first};
+ghost use Rattle.std.specs.List.{before_first, after_first};
+ghost use Rattle.std.specs.Str.{IsUtf8};
 ghost use Rattle.std.specs.Int.{w64};
 ghost use Rattle.std.specs.Str.Parse.{IsNumeral, digits_value, signed_digits_value, without_leading_sign};
 
@@ -79,7 +80,10 @@ pub struct Words<'a>(&'a str);
 
 impl<'a> Words<'a> {
     /// The words of a line, or `None` where it is not UTF-8.
-    pub fn of(line: &'a [u8]) -> Option<Words<'a>> {
+    pub fn of(line: &'a [u8]) -> Option<Words<'a>>
+        ensures text { IsSome result ↔ IsUtf8 line.now }
+        ensures line { IfSome result (λ words. words.0.now ≡ line.now) }
+    {
         let text = str::from_utf8(line).ok()?;
         Some(Words(text))
     }
@@ -88,25 +92,42 @@ impl<'a> Words<'a> {
 impl<'a> Iterator for Words<'a> {
     type Item = &'a str;
 
+    ghost next_gives = { λ old word new. MatchOption word ((words_of old.0.now ≡ []) × (words_of new.0.now ≡ []))
+        (λ word. words_of old.0.now ≡ word.now ∷ words_of new.0.now) };
+
     ghost remaining = { λ words. at_most (length words.0.now) };
 
     fn next(&mut self) -> Option<&'a str> {
-        let text = self.0.trim_start_matches([' ', '\t']);
-        if text.is_empty() {
-            self.0 = text;
-            return None;
-        }
-        match text.split_once([' ', '\t']) {
-            Some((word, rest)) => {
-                self.0 = rest;
-                Some(word)
-            }
-            None => {
-                self.0 = "";
-                Some(text)
+        while !self.0.is_empty() {
+            let (word, rest) = cut_word(self.0);
+            self.0 = rest;
+            if !word.is_empty() {
+                return Some(word);
             }
         }
+        None
     }
+}
+
+// What stands before the first separator, and what stands after it.
+fn cut_word(text: &str) -> (&str, &str)
+    ensures word { result.0.now ≡ before_first separates text.now }
+    ensures rest { result.1.now ≡ after_first separates text.now }
+{
+    match separator(text) {
+        Some(end) => (&text[..end], &text[end + 1..]),
+        None => (text, ""),
+    }
+}
+
+// Where the first separator of words stands.
+fn separator(text: &str) -> Option<usize>
+    ensures first { result ≡ position separates text.now }
+    ensures ascii { IfSome result (λ end. (end < length text.now) × (slice_index text.now end < 128)) }
+{
+    text.as_bytes()
+        .iter()
+        .position(|byte| *byte == b' ' || *byte == b'\t')
 }
 
 /// The index or count that a word writes: decimal digits alone, in the range of a `usize`.

@@ -10,6 +10,8 @@ mod fuse;
 #[cfg(test)]
 mod memory;
 #[cfg(test)]
+mod play;
+#[cfg(test)]
 mod refused;
 #[cfg(test)]
 mod texts;

@@ -1,250 +1,162 @@
+//! What a text of scripts can't show: bytes that are no text, long scripts, arguments, reads, writes and endings.
+ghost use Rattle.std.specs.Prelude.{◌≤◌, IfOk, length};
+
 use crate::ending::Ending;
 use crate::input::{arguments, mode, read_all};
+use crate::{exit_code, run};
 use grid_play::{ScriptFault, play};
+use std::alloc::{AllocError, Allocator, Global};
 use std::env::FillError;
+use std::fmt::Display;
 use std::io;
-use std::io::Read;
-use std::process::Abort;
+use std::io::{BufRead, Read};
+use std::process::{Abort, ExitCode};
 use std::rt::Env;
 use std::test::Fail;
 
-// Both kinds of run give this output.
-fn assert_plays(rt: &(impl Abort + AllocGlobal), script: &str, output: &str) {
-    for deferred in [false, true] {
-        match play(rt.alloc(), script.as_bytes(), deferred) {
-            Ok(text) => assert_eq!(rt; text.as_str(), output, "of {script:?}"),
-            Err(fault) => panic!(rt; "{fault} in {script:?}"),
-        }
-    }
-}
-
-// Both kinds of run end with this fault, of this status and text.
-fn assert_fails(
-    rt: &(impl Abort + AllocGlobal),
-    script: &[u8],
-    fault: &ScriptFault,
-    status: u8,
-    text: &str,
-) -> Result<(), Fail> {
+// A script at fault ends both kinds of run with this fault.
+fn assert_fails(rt: &(impl Abort + AllocGlobal), script: &[u8], want: &ScriptFault) {
     for deferred in [false, true] {
         match play(rt.alloc(), script, deferred) {
             Ok(output) => panic!(rt; "{output} of {script:?}"),
-            Err(met) => {
-                assert_eq!(rt; &met, fault, "of {script:?}");
-                assert_eq!(rt; met.status(), status);
-                assert_eq!(rt; met.to_string(rt.alloc())?.as_str(), text);
-            }
+            Err(met) => assert_eq!(rt; &met, want, "of {script:?}"),
         }
     }
-    Ok(())
-}
-
-fn assert_bad_grid(rt: &(impl Abort + AllocGlobal), script: &[u8]) -> Result<(), Fail> {
-    assert_fails(rt, script, &ScriptFault::BadGrid, 2, "line 1: bad grid")
-}
-
-fn assert_bad_command(
-    rt: &(impl Abort + AllocGlobal),
-    script: &[u8],
-    line: usize,
-) -> Result<(), Fail> {
-    let text = format!(in rt.alloc(); "line {line}: bad command")?;
-    assert_fails(rt, script, &ScriptFault::BadCommand(line), 2, &text)
 }
 
 #[test]
-fn script_first(rt: HostRuntime) {
-    let script = "RowMajor 2 1 2 3 4\nflip_rows\nget 0 0\n";
-    assert_plays(&rt, script, "ok\ncell 3\n[[3, 4][1, 2]]\n");
+fn refuses_scripts_that_are_no_text(rt: HostRuntime) {
+    assert_fails(&rt, b"RowMajor 1 5 \xff\n", &ScriptFault::BadGrid);
+    let fault = ScriptFault::BadCommand(2);
+    assert_fails(&rt, b"RowMajor 1 5\n\xff\n", &fault);
+    assert_fails(&rt, b"RowMajor 1 5\nsize \xc3\n", &fault);
 }
 
-#[test]
-fn script_rotate_column_major(rt: HostRuntime) {
-    let script = "ColumnMajor 2 1 3 2 4\nrotate_left\nget 0 2\nget 0 1\nsize\n";
-    assert_plays(&rt, script, "ok\nnone\ncell 4\nsize 2 2\n[[2, 4][1, 3]]\n");
-}
-
-#[test]
-fn script_symmetries(rt: HostRuntime) -> Result<(), Fail> {
-    for (name, rows) in [
-        ("identity", "[[1, 2, 3][4, 5, 6]]"),
-        ("flip_cols", "[[3, 2, 1][6, 5, 4]]"),
-        ("flip_rows", "[[4, 5, 6][1, 2, 3]]"),
-        ("rotate_half", "[[6, 5, 4][3, 2, 1]]"),
-        ("transpose", "[[1, 4][2, 5][3, 6]]"),
-        ("rotate_left", "[[3, 6][2, 5][1, 4]]"),
-        ("rotate_right", "[[4, 1][5, 2][6, 3]]"),
-        ("anti_transpose", "[[6, 3][5, 2][4, 1]]"),
-    ] {
-        let output = format!(in rt.alloc(); "ok\n{rows}\n")?;
-        let row_major = format!(in rt.alloc(); "RowMajor 3 1 2 3 4 5 6\n{name}\n")?;
-        assert_plays(&rt, &row_major, &output);
-        let column_major = format!(in rt.alloc(); "ColumnMajor 3 1 4 2 5 3 6\n{name}\n")?;
-        assert_plays(&rt, &column_major, &output);
-        let empty = format!(in rt.alloc(); "RowMajor 3\n{name}\n")?;
-        assert_plays(&rt, &empty, "ok\n[]\n");
-    }
-    Ok(())
-}
-
-#[test]
-fn script_bad(rt: HostRuntime) -> Result<(), Fail> {
-    assert_bad_grid(&rt, b"RowMajor 2 1 2 3\n")?;
-    assert_bad_command(&rt, b"RowMajor 0\nsize\npop_col 3\n", 3)?;
-    assert_bad_command(&rt, b"RowMajor 0\npush_row 1 2\npop_col 3\n", 2)
-}
-
-#[test]
-fn script_bad_grids(rt: HostRuntime) -> Result<(), Fail> {
-    for script in [
-        "\n",
-        "\nRowMajor 1 5\n",
-        "RowMajor\n",
-        "rowmajor 1 5\n",
-        "size\n",
-        "RowMajor 0 5\n",
-        "RowMajor 2 5\n",
-        "RowMajor -1 5\n",
-        "RowMajor +1 5\n",
-        "RowMajor 1 +5\n",
-        "RowMajor 1 -\n",
-        "RowMajor 1 -+5\n",
-        "RowMajor 1 --5\n",
-        "RowMajor 1 5x\n",
-        "RowMajor 1 0x5\n",
-        "RowMajor 1 5\rsize\n",
-        "RowMajor 1 5\r\r\n",
-        "RowMajor 1 9223372036854775808\n",
-        "RowMajor 1 -9223372036854775809\n",
-        "RowMajor 18446744073709551616\n",
-        "RowMajor 2 1 2 3\nfoo\n",
-    ] {
-        assert_bad_grid(&rt, script.as_bytes())?;
-    }
-    assert_bad_grid(&rt, b"RowMajor 1 5 \xff\n")
-}
-
-#[test]
-fn script_bad_commands(rt: HostRuntime) -> Result<(), Fail> {
-    for line in [
-        "foo",
-        "Size",
-        "size 1",
-        "sizes",
-        "get",
-        "get 0",
-        "get 0 0 0",
-        "get -1 0",
-        "get 0 -0",
-        "get 0 +0",
-        "get 0 0x",
-        "get 0 18446744073709551616",
-        "get\r0 0",
-        "size\r\r",
-        "transpose 1",
-        "flip_rows flip_cols",
-        "RowMajor 1 5",
-        "set 0 0 1",
-        "push_row",
-        "pop_row",
-        "clear",
-        "\u{c}",
-        "size\u{a0}",
-    ] {
-        let script = format!(in rt.alloc(); "RowMajor 1 5\nsize\n{line}\nbar\n")?;
-        assert_bad_command(&rt, script.as_bytes(), 3)?;
-    }
-    assert_bad_command(&rt, b"RowMajor 1 5\n\xff\n", 2)
-}
-
-#[test]
-fn script_extremes(rt: HostRuntime) -> Result<(), Fail> {
-    assert_bad_grid(&rt, b"")?;
-    assert_bad_command(&rt, b"RowMajor 0\n\n  \nfoo\n", 4)?;
-    assert_bad_command(&rt, b"RowMajor 1 5\nget 0 +0\n", 2)?;
-    assert_bad_command(&rt, b"RowMajor 1 5\nget 0 18446744073709551616\n", 2)?;
-    assert_plays(
-        &rt,
-        "RowMajor 1 5\nget 0 18446744073709551615\n",
-        "none\n[[5]]\n",
-    );
-    assert_plays(
-        &rt,
-        "RowMajor\t2 -9223372036854775808  007\r\nget 0 0\r\n\t get\t00000000000000000000000 01 \r",
-        "cell -9223372036854775808\ncell 7\n[[-9223372036854775808, 7]]\n",
-    );
-    assert_plays(
-        &rt,
-        " RowMajor 1 9223372036854775807 -0",
-        "[[9223372036854775807][0]]\n",
-    );
-    assert_plays(&rt, "ColumnMajor 18446744073709551615", "[]\n");
-    assert_plays(
-        &rt,
-        "RowMajor 0\r\n\r\n\t\n \t \r\nsize\n\n\n",
-        "size 0 0\n[]\n",
-    );
-    Ok(())
-}
-
-#[test]
-fn script_long(rt: HostRuntime) -> Result<(), Fail> {
-    let mut script = String::from_str(rt.alloc(), "RowMajor 100")?;
-    let mut output = String::new(rt.alloc());
+// The script of one row of a hundred cells and more, and of 10,000 reads, of which the first hundred are in range.
+fn long_script(alloc: Global) -> Result<String, AllocError> {
+    let mut script = String::from_str(alloc, "RowMajor 100")?;
     for cell in 0..10_000 {
         write!(script, " {cell}")?;
     }
     for cell in 0..10_000 {
         write!(script, "\nget 0 {cell}\n")?;
-        output.push_str(if cell < 100 { "cell " } else { "none" })?;
-        if cell < 100 {
-            write!(output, "{cell}")?;
-        }
-        output.push('\n')?;
     }
-    let played = play(rt.alloc(), script.as_bytes(), false)?;
-    assert!(rt; played.starts_with(output.as_str()));
-    assert!(rt; played.ends_with(", 9999]]\n"));
-    Ok(())
+    Ok(script)
+}
+
+fn long_replies(alloc: Global) -> Result<String, AllocError> {
+    let mut replies = String::new(alloc);
+    for cell in 0..100 {
+        writeln!(replies, "cell {cell}")?;
+    }
+    for _ in 100..10_000 {
+        replies.push_str("none\n")?;
+    }
+    Ok(replies)
 }
 
 #[test]
-fn modes(rt: HostRuntime) -> Result<(), Fail> {
-    for (words, want) in [
-        ("", Some(false)),
-        ("deferred", Some(true)),
-        ("Deferred", None),
-        ("deferred deferred", None),
-        ("now", None),
-        ("--help", None),
-    ] {
-        let mut args = Vec::new(rt.alloc());
-        for word in words.split(' ').filter(|word| !word.is_empty()) {
-            args.push(String::from_str(rt.alloc(), word)?)?;
-        }
-        assert_eq!(rt; mode(&args), want, "of {words:?}");
-    }
-    let args = vec![in rt.alloc(); String::new(rt.alloc())]?;
-    assert_eq!(rt; mode(&args), None);
+fn plays_ten_thousand_commands(rt: HostRuntime) -> Result<(), Fail> {
+    let script = long_script(rt.alloc())?;
+    let output = play(rt.alloc(), script.as_bytes(), false)?;
+    drop(script);
+    let replies = long_replies(rt.alloc())?;
+    assert!(rt; output.starts_with(replies.as_str()));
+    assert!(rt; output.ends_with(", 9999]]\n"));
     Ok(())
 }
 
-// A program's name and one argument.
-#[derive(Drop)]
-struct OneArgument(&'static [u8]);
+fn texts_of(alloc: Global, words: &[&str]) -> Result<Vec<String>, AllocError> {
+    let mut texts = Vec::new(alloc);
+    for word in words {
+        texts.push(String::from_str(alloc, word)?)?;
+    }
+    Ok(texts)
+}
 
-impl Env for OneArgument {
-    fn arg(&self, i: usize, buf: &mut [u8]) -> Result<usize, FillError> {
-        let bytes = match i {
-            0 => b"gridscript",
-            1 => self.0,
-            _ => return Err(FillError::NotPresent),
-        };
-        if bytes.len() > buf.len() {
-            return Err(FillError::TooLong);
+#[test]
+fn mode_is_deferred_or_not(rt: HostRuntime) -> Result<(), Fail> {
+    const CASES: [(&'static [&'static str], Option<bool>); 7] = [
+        (&[], Some(false)),
+        (&["deferred"], Some(true)),
+        (&["Deferred"], None),
+        (&["deferred", "deferred"], None),
+        (&["now"], None),
+        (&["--help"], None),
+        (&[""], None),
+    ];
+    for (words, want) in CASES {
+        let texts = texts_of(rt.alloc(), words)?;
+        assert_eq!(rt; mode(&texts), want, "of {words:?}");
+    }
+    Ok(())
+}
+
+// What a process reads: these bytes, or nothing but failures.
+type Source = Result<&'static [u8], io::ErrorKind>;
+
+#[derive(Drop)]
+struct Reader(Source);
+
+impl Read for Reader {
+    fn read(&mut self, buf: &mut [u8]) -> io::Result<usize> {
+        match &mut self.0 {
+            Ok(bytes) => bytes.read(buf),
+            Err(kind) => Err(io::Error::from(*kind)),
         }
-        buf[..bytes.len()].copy_from_slice(bytes);
-        Ok(bytes.len())
+    }
+}
+
+impl BufRead for Reader {
+    fn fill_buf(&mut self) -> io::Result<&[u8]> {
+        match self.0 {
+            Ok(bytes) => Ok(bytes),
+            Err(kind) => Err(io::Error::from(kind)),
+        }
+    }
+
+    fn consume(&mut self, amount: usize) {
+        if let Ok(bytes) = &mut self.0 {
+            bytes.consume(amount);
+        }
+    }
+}
+
+// A process with one argument or none, its input, and an output that takes all or fails.
+#[derive(Clone, Copy)]
+struct Process {
+    argument: Option<&'static [u8]>,
+    source: Source,
+    takes_output: bool,
+}
+
+impl Process {
+    fn write(&self) -> io::Result<()> {
+        if self.takes_output {
+            Ok(())
+        } else {
+            Err(io::Error::from(io::ErrorKind::BrokenPipe))
+        }
+    }
+}
+
+fn copy_into(bytes: &[u8], buf: &mut [u8]) -> Result<usize, FillError>
+    ensures { IfOk result (λ len. len ≤ length buf.new) }
+{
+    if bytes.len() > buf.len() {
+        return Err(FillError::TooLong);
+    }
+    buf[..bytes.len()].copy_from_slice(bytes);
+    Ok(bytes.len())
+}
+
+impl Env for Process {
+    fn arg(&self, i: usize, buf: &mut [u8]) -> Result<usize, FillError> {
+        match (i, self.argument) {
+            (0, _) => copy_into(b"gridscript", buf),
+            (1, Some(word)) => copy_into(word, buf),
+            _ => Err(FillError::NotPresent),
+        }
     }
 
     fn var(&self, _name: &str, _buf: &mut [u8]) -> Result<usize, FillError> {
@@ -256,37 +168,127 @@ impl Env for OneArgument {
     }
 }
 
+impl Input for Process {
+    type Reader = Reader;
+
+    fn read_line<A: Allocator + Clone>(&self, buf: &mut String<A>) -> io::Result<usize> {
+        self.reader().read_line(buf)
+    }
+
+    fn lines<A: Allocator>(&self, alloc: A) -> io::Lines<Reader, A> {
+        self.reader().lines(alloc)
+    }
+
+    fn reader(&self) -> Reader {
+        Reader(self.source)
+    }
+}
+
+impl Print for Process {
+    fn print<D: Display + Drop>(&self, _value: D) -> io::Result<()> {
+        self.write()
+    }
+
+    fn println<D: Display + Drop>(&self, _value: D) -> io::Result<()> {
+        self.write()
+    }
+
+    fn write_all(&self, _bytes: &[u8]) -> io::Result<()> {
+        self.write()
+    }
+}
+
+const BROKEN: Source = Err(io::ErrorKind::BrokenPipe);
+
 #[test]
 fn arguments_are_text(rt: HostRuntime) -> Result<(), Fail> {
-    let args = arguments(&(OneArgument(b"deferred"), rt.alloc()))?;
-    assert_eq!(rt; args.len(), 1);
-    assert_eq!(rt; args[0].as_str(), "deferred");
-    let met = arguments(&(OneArgument(b"\xff"), rt.alloc())).map(|args| args.len());
-    assert_eq!(rt; met, Err(Ending::Usage));
+    let process = Process {
+        argument: Some(b"deferred"),
+        source: BROKEN,
+        takes_output: false,
+    };
+    let words = arguments(&(process, rt.alloc()))?;
+    assert_eq!(rt; words.len(), 1);
+    assert_eq!(rt; words[0].as_str(), "deferred");
+    Ok(())
+}
+
+// A process ends with this status, and with this text where it writes no output.
+fn check_run(
+    rt: &(impl Abort + AllocGlobal),
+    process: Process,
+    status: u8,
+    text: &str,
+) -> Result<(), Fail> {
+    let ended = run(&(process, rt.alloc()));
+    assert_eq!(rt; exit_code(&ended), ExitCode::from(status), "of {text:?}");
+    if let Err(ending) = &ended {
+        assert_eq!(rt; ending.to_string(rt.alloc())?.as_str(), text);
+    }
+    Ok(())
+}
+
+// Checks a process whose output fails.
+fn check_mute(
+    rt: &(impl Abort + AllocGlobal),
+    argument: Option<&'static [u8]>,
+    source: Source,
+    status: u8,
+    text: &str,
+) -> Result<(), Fail> {
+    let process = Process {
+        argument,
+        source,
+        takes_output: false,
+    };
+    check_run(rt, process, status, text)
+}
+
+const USAGE: &str = "usage: gridscript [deferred]";
+
+const TRANSFER: &str = "input or output failed";
+
+const SCRIPT: Source = Ok(b"RowMajor 2 1 2 3 4\nflip_rows\n");
+
+#[test]
+fn bad_arguments_end_the_process_before_it_reads(rt: HostRuntime) -> Result<(), Fail> {
+    for word in [b"now".as_slice(), b"\xff", b""] {
+        check_mute(&rt, Some(word), BROKEN, 2, USAGE)?;
+    }
     Ok(())
 }
 
 #[test]
-fn endings(rt: HostRuntime) -> Result<(), Fail> {
-    for (ending, status, text) in [
-        (Ending::Usage, 2, "usage: gridscript [deferred]"),
-        (Ending::Script(ScriptFault::BadGrid), 2, "line 1: bad grid"),
-        (
-            Ending::Script(ScriptFault::BadCommand(7)),
-            2,
-            "line 7: bad command",
-        ),
-        (Ending::Script(ScriptFault::Memory), 3, "out of memory"),
-        (Ending::Transfer, 4, "input or output failed"),
-    ] {
-        assert_eq!(rt; ending.status(), status);
-        assert_eq!(rt; ending.to_string(rt.alloc())?.as_str(), text);
+fn a_failed_read_ends_the_process_before_it_plays(rt: HostRuntime) -> Result<(), Fail> {
+    check_mute(&rt, None, BROKEN, 4, TRANSFER)?;
+    check_mute(&rt, Some(b"deferred"), BROKEN, 4, TRANSFER)?;
+    let refused = Err(io::ErrorKind::OutOfMemory);
+    check_mute(&rt, None, refused, 3, "out of memory")
+}
+
+#[test]
+fn a_script_at_fault_ends_the_process_before_it_writes(rt: HostRuntime) -> Result<(), Fail> {
+    check_mute(&rt, None, Ok(b""), 2, "line 1: bad grid")?;
+    let script = Ok(b"RowMajor 0\nsize\nsizes\n".as_slice());
+    check_mute(&rt, None, script, 2, "line 3: bad command")
+}
+
+#[test]
+fn a_failed_write_ends_the_process(rt: HostRuntime) -> Result<(), Fail> {
+    check_mute(&rt, None, SCRIPT, 4, TRANSFER)?;
+    check_mute(&rt, Some(b"deferred"), SCRIPT, 4, TRANSFER)
+}
+
+#[test]
+fn a_process_that_wrote_its_output_ends_well(rt: HostRuntime) -> Result<(), Fail> {
+    for argument in [None, Some(b"deferred".as_slice())] {
+        let process = Process {
+            argument,
+            source: SCRIPT,
+            takes_output: true,
+        };
+        check_run(&rt, process, 0, "")?;
     }
-    assert_eq!(rt; ScriptFault::Memory.status(), 3);
-    assert_eq!(rt;
-        ScriptFault::Memory.to_string(rt.alloc())?.as_str(),
-        "out of memory"
-    );
     Ok(())
 }
 
@@ -316,27 +318,34 @@ impl Read for Drip {
     }
 }
 
+fn check_drip(rt: &(impl Abort + AllocGlobal), bytes: u32, fails: bool, want: Option<usize>) {
+    let mut reader = Drip {
+        bytes,
+        interrupted: false,
+        fails,
+    };
+    let read = read_all(rt.alloc(), &mut reader).map_err(Ending::from);
+    match (read, want) {
+        (Ok(met), Some(len)) => assert_eq!(rt; met.len(), len),
+        (Err(met), None) => assert_eq!(rt; met, Ending::Transfer),
+        _ => panic!(rt; "{bytes} bytes were read, or were not"),
+    }
+}
+
+// Two reads for each byte and two for the end: 524287 bytes are the most.
 #[test]
-fn reads(rt: HostRuntime) -> Result<(), Fail> {
+fn reads_to_the_end_within_so_many_reads(rt: HostRuntime) {
+    check_drip(&rt, 3, false, Some(3));
+    check_drip(&rt, 524_287, false, Some(524_287));
+    check_drip(&rt, 524_288, false, None);
+    check_drip(&rt, 3, true, None);
+}
+
+#[test]
+fn reads_more_than_one_buffer(rt: HostRuntime) -> Result<(), Fail> {
     let text = [b'y'; 10_000];
     let mut reader = text.as_slice();
     let whole = read_all(rt.alloc(), &mut reader)?;
     assert_eq!(rt; whole.as_slice(), text.as_slice());
-
-    // Two reads for each byte and two for the end: 524287 bytes are the most.
-    for (bytes, fails, want) in [
-        (3, false, Ok(3)),
-        (524_287, false, Ok(524_287)),
-        (524_288, false, Err(Ending::Transfer)),
-        (3, true, Err(Ending::Transfer)),
-    ] {
-        let mut reader = Drip {
-            bytes,
-            interrupted: false,
-            fails,
-        };
-        let met = read_all(rt.alloc(), &mut reader);
-        assert_eq!(rt; met.map(|bytes| bytes.len()).map_err(Ending::from), want);
-    }
     Ok(())
 }

@@ -1,17 +1,16 @@
--- A word and the separator after it are cut off, so the rest is shorter.
-use Rattle.std.proofs.Common.{◌≡◌, ℕ, ◌<◌, ◌≤◌, Bool, List, [], ◌∷◌, length, refl, arith, rules}
-use Rattle.std.specs.Char.{char_set_contains, len_utf8}
-use Rattle.std.specs.Str.Pattern.{FindsBy, SplitsAroundMatch}
-use Rattle.std.proofs.lemmas.Str.{len_utf8_bounds}
+-- What stands before the first separator is the first word, unless it is empty.
+use Rattle.std.proofs.Common.{◌<◌, ◌∙◌, length, sym, arith, rules}
+use Rattle.grid_play.proofs.Words.{word_first, rest_is_shorter}
 use Rattle.grid_play.proofs.tokens.WordsIterator.next.Goals as goal
 
-back_is_shorter : (separators text front back : List ℕ) → SplitsAroundMatch (λ s r. (passes : ℕ → Bool) → ((c : ℕ) → char_set_contains separators c ≡ passes c) → FindsBy passes s r) text front back → length back < length text
-back_is_shorter separators text front back cut =
-    let found = cut.2 (char_set_contains separators) (λ (c : ℕ). refl) in
-    let wide : 1 ≤ len_utf8 found.1.0 = (len_utf8_bounds found.1.0).0 in
-    omega (arith, found.1.2.ends, cut.7, wide)
+pub returns-then-not-is_empty-clause-steps : goal.returns-then-not-is_empty-clause-steps
+returns-then-not-is_empty-clause-steps c =
+    let some : 0 < length c.cut_word.result.0.now = search rules in
+    sym c.loop-word.invariant.0 ∙ word_first c.loop-word.self.0.now _ _ c.cut_word.ensures.word c.cut_word.ensures.rest some
 
-pub returns-in-Some-clause-goes : goal.returns-in-Some-clause-goes
-returns-in-Some-clause-goes c =
-    let shorter = back_is_shorter (32 ∷ 9 ∷ []) _ _ _ c.in-Some.ensures.cases in
+pub returns-then-not-is_empty-clause-goes : goal.returns-then-not-is_empty-clause-goes
+returns-then-not-is_empty-clause-goes c =
+    let some : 0 < length c.loop-word.self.0.now = search rules in
+    let shorter = rest_is_shorter c.loop-word.self.0.now some in
+    let rest : length c.cut_word.result.1.now < length c.args.self.now.0.now = rw c.cut_word.ensures.rest (omega (arith, shorter, c.loop-word.invariant.1)) in
     search rules
