@@ -150,6 +150,19 @@ pub fn starved_grid_of<'a>(
     cut(cells, cols, order)
 }
 
+// The grid of this size and order that has stored 1, 2, 3, .., whose heap refuses each request from before the grid is
+// made.
+pub fn counted<'a>(
+    heap: &'a Heap,
+    (rows, cols): (usize, usize),
+    order: Order,
+) -> Result<Grid<u32, &'a Heap>, ShapeError> {
+    heap.grant(1);
+    let cells = line_from(heap, 1, rows.wrapping_mul(cols))?;
+    heap.grant(0);
+    cut(cells, cols, order)
+}
+
 // Whether a grid has the cells of a table, in range and past its ends.
 fn has_cells<A: Allocator>(grid: &Grid<u32, A>, table: &Vec<Vec<u32>>) -> bool {
     for row in PLACES {
@@ -162,21 +175,91 @@ fn has_cells<A: Allocator>(grid: &Grid<u32, A>, table: &Vec<Vec<u32>>) -> bool {
     true
 }
 
+// Whether these are the cells of a table, row by row.
+fn is_joined(cells: &[u32], table: &Vec<Vec<u32>>) -> bool {
+    let mut left = cells.iter();
+    for row in table {
+        for cell in row {
+            if left.next() != Some(cell) {
+                return false;
+            }
+        }
+    }
+    left.next().is_none()
+}
+
+// Whether these are the cells of a table, column by column.
+fn is_joined_across(cells: &[u32], table: &Vec<Vec<u32>>) -> bool {
+    let (_, cols) = plain::size(table);
+    let mut left = cells.iter();
+    for col in 0..cols {
+        for row in table {
+            if left.next() != row.get(col) {
+                return false;
+            }
+        }
+    }
+    left.next().is_none()
+}
+
 // Whether a grid shows this table, by its size and each cell, and has stored it in this order.
-pub fn shows<A: Allocator>(
-    alloc: Global,
-    grid: &Grid<u32, A>,
-    table: &Vec<Vec<u32>>,
-    order: Order,
-) -> Result<bool, AllocError> {
+pub fn shows<A: Allocator>(grid: &Grid<u32, A>, table: &Vec<Vec<u32>>, order: Order) -> bool {
     let (rows, cols) = plain::size(table);
-    let cells = plain::storage(alloc, order, table)?;
-    let same_size = grid.rows() == rows && grid.cols() == cols && grid.is_empty() == (rows == 0);
-    Ok(
-        same_size
-            && is_stored(grid, (rows, cols), order, cells.as_slice())
-            && has_cells(grid, table),
-    )
+    let stored = match order {
+        Order::RowMajor => is_joined(grid.flatten(), table),
+        Order::ColumnMajor => is_joined_across(grid.flatten(), table),
+    };
+    let same_size = grid.size() == (rows, cols) && grid.rows() == rows && grid.cols() == cols;
+    let same_order = grid.order() == order && grid.is_empty() == (rows == 0);
+    same_size && same_order && stored && has_cells(grid, table)
+}
+
+// Whether these are so many numbers: the first, and each later one by so much more.
+pub fn is_count(cells: &[u32], len: usize, first: u32, step: u32) -> bool {
+    let mut next = first;
+    for cell in cells {
+        if *cell != next {
+            return false;
+        }
+        next = next.wrapping_add(step);
+    }
+    cells.len() == len
+}
+
+// The number at a place of a table whose cells, in storage order, are the first, and each later one by so much more.
+fn count_at(
+    (rows, cols): (usize, usize),
+    order: Order,
+    (first, step): (u32, u32),
+    (row, col): (usize, usize),
+) -> Option<u32> {
+    if row >= rows || col >= cols {
+        return None;
+    }
+    let number = match order {
+        Order::RowMajor => row.wrapping_mul(cols).wrapping_add(col),
+        Order::ColumnMajor => col.wrapping_mul(rows).wrapping_add(row),
+    };
+    Some(first.wrapping_add(step.wrapping_mul((number % 1000) as u32)))
+}
+
+// Whether a small grid of this size and order has stored the first number, and each later one by so much more.
+pub fn shows_count<A: Allocator>(
+    grid: &Grid<u32, A>,
+    size: (usize, usize),
+    order: Order,
+    (first, step): (u32, u32),
+) -> bool {
+    for row in PLACES {
+        for col in PLACES {
+            let want = count_at(size, order, (first, step), (row, col));
+            if grid.get(row, col).copied() != want {
+                return false;
+            }
+        }
+    }
+    let len = size.0.wrapping_mul(size.1);
+    grid.size() == size && grid.order() == order && is_count(grid.flatten(), len, first, step)
 }
 
 // Whether a grid has this size, and has stored these cells in this order.
@@ -280,6 +363,18 @@ pub fn joined(alloc: Global, grid: &Grid<String>) -> Result<String, AllocError> 
     Ok(text)
 }
 
+// Whether a grid has stored these texts in this order.
+pub fn has_texts(grid: &Grid<String>, order: Order, texts: &[&str]) -> bool {
+    let mut left = texts.iter();
+    for cell in grid.flatten() {
+        match left.next() {
+            Some(text) if cell.as_str() == *text => {}
+            _ => return false,
+        }
+    }
+    grid.order() == order && left.next().is_none()
+}
+
 // A cell whose clone is refused once none of the granted ones is left.
 #[derive(Default, Drop)]
 pub struct Fragile<'a> {
@@ -319,14 +414,22 @@ fn fragile_from_one<'a, A: Allocator>(
     Ok(cells)
 }
 
-// [[1, 2], [3, 4]]
+// Two rows and two columns, which have stored 1, 2, 3 and 4 in an order.
 pub fn fragile_cells<'a, A: Allocator>(
     alloc: A,
     granted: &'a Cell<u64>,
+    order: Order,
 ) -> Result<Grid<Fragile<'a>, A>, ShapeError> {
-    cut(fragile_from_one(alloc, granted, 4)?, 2, Order::RowMajor)
+    cut(fragile_from_one(alloc, granted, 4)?, 2, order)
 }
 
-pub fn value_at<A: Allocator>(grid: &Grid<Fragile, A>, row: usize, col: usize) -> Option<u32> {
-    grid.get(row, col).map(|cell| cell.value)
+// Whether a grid of two rows and two columns has stored cells of these values in this order.
+pub fn has_values<A: Allocator>(grid: &Grid<Fragile, A>, order: Order, values: &[u32]) -> bool {
+    let mut left = values.iter();
+    for cell in grid.flatten() {
+        if left.next() != Some(&cell.value) {
+            return false;
+        }
+    }
+    grid.size() == (2, 2) && grid.order() == order && left.next().is_none()
 }

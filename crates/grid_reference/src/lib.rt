@@ -7,3 +7,5 @@ pub mod fitting;
 pub mod fixtures;
 pub mod fuse;
 pub mod plain;
+pub mod reached;
+pub mod walks;

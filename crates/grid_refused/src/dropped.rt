@@ -1,9 +1,10 @@
 //! Walks of every kind over texts, which are dropped after one item from each end that they have.
-use grid::{Grid, Order};
+use grid::{Grid, GridLineIter, Order};
 use grid_reference::fitting::push_row;
-use grid_reference::fixtures::{joined, letters};
+use grid_reference::fixtures::{has_texts, letters};
 use std::alloc::{AllocError, Global};
 use std::process::Abort;
+use std::slice;
 use std::test::Fail;
 
 fn is_text(cell: Option<&String>, want: &str) -> bool {
@@ -13,73 +14,106 @@ fn is_text(cell: Option<&String>, want: &str) -> bool {
     }
 }
 
+// Whether a walk has these at its ends. It is dropped with what is left.
+fn has_ends(mut walk: slice::Iter<'_, String>, first: &str, last: &str) -> bool {
+    is_text(walk.next(), first) && is_text(walk.next_back(), last)
+}
+
+fn line_has_ends(mut line: GridLineIter<'_, String>, first: &str, last: &str) -> bool {
+    is_text(line.next(), first) && is_text(line.next_back(), last)
+}
+
+fn check_reading_cells(
+    rt: &impl Abort,
+    alloc: Global,
+    order: Order,
+    flipped: &[&str],
+) -> Result<(), Fail> {
+    let mut grid = letters(alloc, order)?;
+    assert!(rt; has_ends(grid.iter(), "a", "f") && has_ends((&grid).into_iter(), "a", "f"));
+    assert!(rt; grid.indexed_iter().next().is_some());
+    grid.flip_rows();
+    assert!(rt; has_texts(&grid, order, flipped));
+    Ok(())
+}
+
 #[test]
 fn reading_cells(rt: HostRuntime) -> Result<(), Fail> {
-    let alloc = rt.alloc();
-    for (order, want) in [(Order::RowMajor, "defabc"), (Order::ColumnMajor, "daebfc")] {
-        let mut grid = letters(alloc, order)?;
-        let mut walk = grid.iter();
-        assert!(rt; is_text(walk.next(), "a"));
-        assert!(rt; is_text(walk.next_back(), "f"));
-        drop(walk);
-        let mut walk = (&grid).into_iter();
-        assert!(rt; is_text(walk.next(), "a"));
-        assert!(rt; is_text(walk.next_back(), "f"));
-        drop(walk);
-        let mut walk = grid.indexed_iter();
-        assert!(rt; walk.next().is_some());
-        drop(walk);
-        grid.flip_rows();
-        assert_eq!(rt; joined(alloc, &grid)?.as_str(), want);
+    check_reading_cells(
+        &rt,
+        rt.alloc(),
+        Order::RowMajor,
+        &["d", "e", "f", "a", "b", "c"],
+    )?;
+    check_reading_cells(
+        &rt,
+        rt.alloc(),
+        Order::ColumnMajor,
+        &["d", "a", "e", "b", "f", "c"],
+    )
+}
+
+// The rows a b c, d e f and g h i.
+fn nine_letters(alloc: Global, order: Order) -> Result<Grid<String>, Fail> {
+    let mut third = Vec::new(alloc);
+    for letter in ["g", "h", "i"] {
+        third.push(String::from_str(alloc, letter)?)?;
     }
+    let mut grid = letters(alloc, order)?;
+    push_row(&mut grid, third)?;
+    Ok(grid)
+}
+
+// The second row, and the second column.
+fn check_second_lines(rt: &impl Abort, grid: &Grid<String>) {
+    let (rows, cols) = grid.size();
+    assert!(rt; 1 < rows && 1 < cols);
+    assert!(rt; line_has_ends(grid.iter_row(1), "d", "f"));
+    assert!(rt; line_has_ends(grid.iter_col(1), "b", "h"));
+}
+
+// The first and the last of all rows: the first cell of the one, and the last cell of the other.
+fn has_row_ends(grid: &Grid<String>, first: &str, last: &str) -> bool {
+    let mut lines = grid.iter_rows();
+    match (lines.next(), lines.next_back()) {
+        (Some(mut top), Some(mut bottom)) => {
+            is_text(top.next(), first) && is_text(bottom.next_back(), last)
+        }
+        _ => false,
+    }
+}
+
+// The first and the last of all columns, and the first cell of each.
+fn has_col_ends(grid: &Grid<String>, first: &str, last: &str) -> bool {
+    let mut lines = grid.iter_cols();
+    match (lines.next(), lines.next_back()) {
+        (Some(mut left), Some(mut right)) => {
+            is_text(left.next(), first) && is_text(right.next(), last)
+        }
+        _ => false,
+    }
+}
+
+fn check_reading_lines(
+    rt: &impl Abort,
+    alloc: Global,
+    order: Order,
+    flipped: &[&str],
+) -> Result<(), Fail> {
+    let mut grid = nine_letters(alloc, order)?;
+    check_second_lines(rt, &grid);
+    assert!(rt; has_row_ends(&grid, "a", "i") && has_col_ends(&grid, "a", "c"));
+    grid.flip_cols();
+    assert!(rt; has_texts(&grid, order, flipped));
     Ok(())
 }
 
 #[test]
 fn reading_lines(rt: HostRuntime) -> Result<(), Fail> {
-    let alloc = rt.alloc();
-    for (order, want) in [
-        (Order::RowMajor, "cbafedihg"),
-        (Order::ColumnMajor, "cfibehadg"),
-    ] {
-        let mut grid = letters(alloc, order)?;
-        let mut third = Vec::new(alloc);
-        for letter in ["g", "h", "i"] {
-            third.push(String::from_str(alloc, letter)?)?;
-        }
-        push_row(&mut grid, third)?;
-        let (rows, cols) = grid.size();
-        assert!(rt; 1 < rows && 1 < cols);
-        let mut line = grid.iter_row(1);
-        assert!(rt; is_text(line.next(), "d"));
-        assert!(rt; is_text(line.next_back(), "f"));
-        drop(line);
-        let mut line = grid.iter_col(1);
-        assert!(rt; is_text(line.next(), "b"));
-        assert!(rt; is_text(line.next_back(), "h"));
-        drop(line);
-        let mut lines = grid.iter_rows();
-        match (lines.next(), lines.next_back()) {
-            (Some(mut first), Some(mut last)) => {
-                assert!(rt; is_text(first.next(), "a"));
-                assert!(rt; is_text(last.next_back(), "i"));
-            }
-            _ => panic!(rt; "three rows were left"),
-        }
-        drop(lines);
-        let mut lines = grid.iter_cols();
-        match (lines.next(), lines.next_back()) {
-            (Some(mut first), Some(mut last)) => {
-                assert!(rt; is_text(first.next(), "a"));
-                assert!(rt; is_text(last.next(), "c"));
-            }
-            _ => panic!(rt; "three columns were left"),
-        }
-        drop(lines);
-        grid.flip_cols();
-        assert_eq!(rt; joined(alloc, &grid)?.as_str(), want);
-    }
-    Ok(())
+    let by_rows = ["c", "b", "a", "f", "e", "d", "i", "h", "g"];
+    check_reading_lines(&rt, rt.alloc(), Order::RowMajor, by_rows.as_slice())?;
+    let by_columns = ["c", "f", "i", "b", "e", "h", "a", "d", "g"];
+    check_reading_lines(&rt, rt.alloc(), Order::ColumnMajor, by_columns.as_slice())
 }
 
 // Walks over all cells for writing, each of which writes into what it hands out.
@@ -123,39 +157,48 @@ fn write_lines(rt: &impl Abort, grid: &mut Grid<String>) -> Result<(), Fail> {
     Ok(())
 }
 
-#[test]
-fn writing(rt: HostRuntime) -> Result<(), Fail> {
-    let alloc = rt.alloc();
-    for (order, want) in [
-        (Order::RowMajor, "f24ed6cb7a135"),
-        (Order::ColumnMajor, "f24ceb7d6a135"),
-    ] {
-        let mut grid = letters(alloc, order)?;
-        write_ends(&mut grid)?;
-        write_lines(&rt, &mut grid)?;
-        grid.rotate_half();
-        assert_eq!(rt; joined(alloc, &grid)?.as_str(), want);
-    }
+fn check_writing(
+    rt: &impl Abort,
+    alloc: Global,
+    order: Order,
+    turned: &[&str],
+) -> Result<(), Fail> {
+    let mut grid = letters(alloc, order)?;
+    write_ends(&mut grid)?;
+    write_lines(rt, &mut grid)?;
+    grid.rotate_half();
+    assert!(rt; has_texts(&grid, order, turned));
     Ok(())
 }
 
 #[test]
+fn writing(rt: HostRuntime) -> Result<(), Fail> {
+    let by_rows = ["f24", "e", "d6", "c", "b7", "a135"];
+    check_writing(&rt, rt.alloc(), Order::RowMajor, by_rows.as_slice())?;
+    let by_columns = ["f24", "c", "e", "b7", "d6", "a135"];
+    check_writing(&rt, rt.alloc(), Order::ColumnMajor, by_columns.as_slice())
+}
+
+// A walk by value is dropped with the cells that are left.
+fn gives_ends(grid: Grid<String>) -> bool {
+    let mut walk = grid.into_iter();
+    is_text(walk.next().as_ref(), "a") && is_text(walk.next_back().as_ref(), "f")
+}
+
+fn gives_first(grid: Grid<String>) -> bool {
+    let mut walk = grid.indexed_into_iter();
+    let first = match walk.next() {
+        Some((at, text)) => at == (0, 0) && text.as_str() == "a",
+        None => false,
+    };
+    first && walk.size_hint() == (5, Some(5))
+}
+
+#[test]
 fn by_value(rt: HostRuntime) -> Result<(), Fail> {
-    let alloc = rt.alloc();
     for order in [Order::RowMajor, Order::ColumnMajor] {
-        let mut walk = letters(alloc, order)?.into_iter();
-        assert!(rt; is_text(walk.next().as_ref(), "a"));
-        assert!(rt; is_text(walk.next_back().as_ref(), "f"));
-        drop(walk);
-        let mut walk = letters(alloc, order)?.indexed_into_iter();
-        match walk.next() {
-            Some((at, text)) => {
-                assert_eq!(rt; at, (0, 0));
-                assert_eq!(rt; text.as_str(), "a");
-            }
-            None => panic!(rt; "six cells were left"),
-        }
-        assert_eq!(rt; walk.size_hint(), (5, Some(5)));
+        assert!(rt; gives_ends(letters(rt.alloc(), order)?));
+        assert!(rt; gives_first(letters(rt.alloc(), order)?));
     }
     Ok(())
 }

@@ -4,6 +4,8 @@
 #[cfg(test)]
 mod asserts;
 #[cfg(test)]
+mod clones;
+#[cfg(test)]
 mod dropped;
 #[cfg(test)]
 mod fuse;

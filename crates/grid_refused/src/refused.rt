@@ -1,16 +1,38 @@
 //! Memory that is refused: request by request, or each request from the first on.
 use crate::asserts::assert_shows;
-use grid::{Command, Grid, Move, Order, Reply, Symmetry, Tally, reduce, run};
+use grid::{
+    Command, Grid, GridLineIter, Move, Order, Reply, RunStopped, Symmetry, Tally, reduce, run,
+};
 use grid_reference::fixtures::{
-    Heap, MOVES, ORDERS, SIZES, SYMMETRIES, call, fragile_cells, numbered, order_after, put_cell,
-    starved_grid_of, value_at,
+    Fragile, Heap, MOVES, ORDERS, SIZES, SYMMETRIES, call, fragile_cells, has_values, is_stored,
+    line_from, numbered, order_after, put_cell, starved_grid_of,
 };
 use grid_reference::fuse::Fuse;
 use grid_reference::plain;
+use grid_reference::reached::{read_both_ways, swap, write, write_both_ways};
 use std::alloc::{AllocError, Global};
 use std::cell::Cell;
 use std::process::Abort;
 use std::test::Fail;
+
+// So many rotations, in a list whose heap refuses each later request.
+fn starved_rotations(heap: &Heap, len: usize) -> Result<Vec<Command, &Heap>, AllocError> {
+    heap.grant(1);
+    let mut commands = Vec::with_capacity(heap, len)?;
+    for _ in 0..len {
+        commands.push(Command::Apply(Symmetry::RotateLeft))?;
+    }
+    heap.grant(0);
+    Ok(commands)
+}
+
+// Whether a run of so many commands did none of them, and was stopped if there is one.
+fn did_nothing(ran: Result<Vec<Reply<u32>, &Heap>, RunStopped<u32, &Heap>>, len: usize) -> bool {
+    match ran {
+        Ok(replies) => len == 0 && replies.is_empty(),
+        Err(stop) => len != 0 && stop.done == 0 && stop.replies.is_empty(),
+    }
+}
 
 // The list of replies finds no memory: the run stops before its first command.
 fn check_run_with_no_replies(
@@ -22,26 +44,12 @@ fn check_run_with_no_replies(
 ) -> Result<(), Fail> {
     let heap = Fuse::new(alloc, 0);
     let mut grid = starved_grid_of(alloc, &heap, table, order)?;
-    heap.grant(1);
-    let mut commands = Vec::with_capacity(&heap, len)?;
-    for _ in 0..len {
-        commands.push(Command::Apply(Symmetry::RotateLeft))?;
-    }
-    heap.grant(0);
+    let commands = starved_rotations(&heap, len)?;
     let mut tally = Tally::new();
-    match run(&heap, &mut grid, commands, &mut tally) {
-        Ok(replies) => {
-            assert_eq!(rt; len, 0);
-            assert!(rt; replies.is_empty());
-        }
-        Err(stop) => {
-            assert!(rt; len != 0);
-            assert_eq!(rt; stop.done, 0);
-            assert!(rt; stop.replies.is_empty());
-        }
-    }
+    assert!(rt; did_nothing(run(&heap, &mut grid, commands, &mut tally), len));
     assert_eq!(rt; (tally.symmetry(), tally.shift()), (0, 0));
-    assert_shows(rt, alloc, &grid, table, order)
+    assert_shows(rt, &grid, table, order);
+    Ok(())
 }
 
 #[test]
@@ -57,13 +65,19 @@ fn runs_with_no_memory_for_replies(rt: HostRuntime) -> Result<(), Fail> {
     Ok(())
 }
 
+const REPLIES: [Reply<u32>; 4] = [
+    Reply::Cell(Some(3)),
+    Reply::Done,
+    Reply::Cell(Some(6)),
+    Reply::Size(3, 2),
+];
+
 // The list of replies is the only request of a run whose cells' clones take no memory.
 #[test]
 fn runs_with_one_request(rt: HostRuntime) -> Result<(), Fail> {
-    let alloc = rt.alloc();
-    let table = numbered(alloc, 2, 3)?;
-    let heap = Fuse::new(alloc, 0);
-    let mut grid = starved_grid_of(alloc, &heap, &table, Order::RowMajor)?;
+    let table = numbered(rt.alloc(), 2, 3)?;
+    let heap = Fuse::new(rt.alloc(), 0);
+    let mut grid = starved_grid_of(rt.alloc(), &heap, &table, Order::RowMajor)?;
     heap.grant(1);
     let commands = vec![in &heap;
         Command::Get(0, 2),
@@ -72,17 +86,8 @@ fn runs_with_one_request(rt: HostRuntime) -> Result<(), Fail> {
         Command::Size,
     ]?;
     heap.grant(1);
-    let mut tally = Tally::new();
-    match run(&heap, &mut grid, commands, &mut tally) {
-        Ok(replies) => {
-            let want = [
-                Reply::Cell(Some(3)),
-                Reply::Done,
-                Reply::Cell(Some(6)),
-                Reply::Size(3, 2),
-            ];
-            assert_eq!(rt; replies.as_slice(), want.as_slice());
-        }
+    match run(&heap, &mut grid, commands, &mut Tally::new()) {
+        Ok(replies) => assert_eq!(rt; replies.as_slice(), REPLIES.as_slice()),
         Err(_) => panic!(rt; "one request is granted"),
     }
     assert_eq!(rt; heap.left(), 0);
@@ -99,25 +104,15 @@ fn check_access(
     let mut table = numbered(alloc, rows, cols)?;
     let heap = Fuse::new(alloc, 0);
     let mut grid = starved_grid_of(alloc, &heap, &table, order)?;
-    assert_shows(rt, alloc, &grid, &table, order)?;
+    assert_shows(rt, &grid, &table, order);
     for row in 0..rows {
         for col in 0..cols {
-            let (grid_rows, grid_cols) = grid.size();
-            assert!(rt; row < grid_rows && col < grid_cols);
             let want = plain::get(&table, row, col);
-            assert_eq!(rt; Some(*grid.get_unchecked(row, col)), want);
-            assert_eq!(rt; Some(grid[(row, col)]), want);
-            grid[(row, col)] = 97;
-            assert_eq!(rt; grid.get(row, col).copied(), Some(97));
-            let (grid_rows, grid_cols) = grid.size();
-            assert!(rt; row < grid_rows && col < grid_cols);
-            *grid.get_unchecked_mut(row, col) = 98;
-            assert_eq!(rt; grid.get(row, col).copied(), Some(98));
-            if let Some(cell) = grid.get_mut(row, col) {
-                *cell = 99;
-            }
+            assert_eq!(rt; read_both_ways(&grid, (row, col)), want);
+            assert!(rt; write_both_ways(&mut grid, (row, col), (97, 98)));
+            assert!(rt; write(&mut grid, (row, col), 99));
             put_cell(&mut table, row, col, 99);
-            assert_shows(rt, alloc, &grid, &table, order)?;
+            assert_shows(rt, &grid, &table, order);
         }
     }
     Ok(())
@@ -126,49 +121,86 @@ fn check_access(
 fn check_swap_and_clear(
     rt: &impl Abort,
     alloc: Global,
-    (rows, cols): (usize, usize),
+    table: &Vec<Vec<u32>>,
     order: Order,
 ) -> Result<(), Fail> {
-    let table = numbered(alloc, rows, cols)?;
     let heap = Fuse::new(alloc, 0);
-    let mut grid = starved_grid_of(alloc, &heap, &table, order)?;
-    let (grid_rows, grid_cols) = grid.size();
-    if grid_rows != 0 && grid_cols != 0 {
-        let corner = (grid_rows - 1, grid_cols - 1);
-        grid.swap((0, 0), corner);
-        assert_eq!(rt; grid.get(corner.0, corner.1).copied(), Some(1));
+    let mut grid = starved_grid_of(alloc, &heap, table, order)?;
+    let (rows, cols) = grid.size();
+    if rows != 0 && cols != 0 {
+        assert!(rt; swap(&mut grid, (0, 0), (rows - 1, cols - 1)));
+        assert_eq!(rt; grid.get(rows - 1, cols - 1).copied(), Some(1));
     }
     grid.clear();
-    assert_shows(rt, alloc, &grid, &Vec::new(alloc), order)?;
-    let grid = starved_grid_of(alloc, &heap, &table, order)?;
-    let cells = plain::storage(alloc, order, &table)?;
+    assert_shows(rt, &grid, &Vec::new(alloc), order);
+    Ok(())
+}
+
+fn check_into_vec(
+    rt: &impl Abort,
+    alloc: Global,
+    table: &Vec<Vec<u32>>,
+    order: Order,
+) -> Result<(), Fail> {
+    let cells = plain::storage(alloc, order, table)?;
+    let heap = Fuse::new(alloc, 0);
+    let grid = starved_grid_of(alloc, &heap, table, order)?;
     assert_eq!(rt; grid.into_vec().as_slice(), cells.as_slice());
     Ok(())
 }
 
 #[test]
 fn access_takes_no_memory(rt: HostRuntime) -> Result<(), Fail> {
-    for size in SIZES {
+    for (rows, cols) in SIZES {
+        let table = numbered(rt.alloc(), rows, cols)?;
         for order in ORDERS {
-            check_access(&rt, rt.alloc(), size, order)?;
-            check_swap_and_clear(&rt, rt.alloc(), size, order)?;
+            check_access(&rt, rt.alloc(), (rows, cols), order)?;
+            check_swap_and_clear(&rt, rt.alloc(), &table, order)?;
+            check_into_vec(&rt, rt.alloc(), &table, order)?;
         }
+    }
+    Ok(())
+}
+
+// Cells whose heap refuses each later request: 1, 2, 3, ..
+fn starved_cells(heap: &Heap, len: usize) -> Result<Vec<u32, &Heap>, AllocError> {
+    heap.grant(1);
+    let cells = line_from(heap, 1, len)?;
+    heap.grant(0);
+    Ok(cells)
+}
+
+// A vector of cells that becomes a grid, with no memory.
+#[test]
+fn vectors_become_grids_without_memory(rt: HostRuntime) -> Result<(), Fail> {
+    let heap = Fuse::new(rt.alloc(), 0);
+    let cells = starved_cells(&heap, 6)?;
+    assert_eq!(rt; cells.len(), 6);
+    let grid = Grid::from_vec(cells, 3);
+    assert!(rt; is_stored(&grid, (2, 3), Order::RowMajor, &[1, 2, 3, 4, 5, 6]));
+    for order in ORDERS {
+        let cells = starved_cells(&heap, 6)?;
+        assert_eq!(rt; cells.len(), 6);
+        let grid = Grid::from_vec_with_order(cells, 2, order);
+        assert!(rt; is_stored(&grid, (3, 2), order, &[1, 2, 3, 4, 5, 6]));
     }
     Ok(())
 }
 
 #[test]
 fn empty_grids_take_no_memory(rt: HostRuntime) -> Result<(), Fail> {
-    let alloc = rt.alloc();
-    let heap = Fuse::new(alloc, 0);
-    let none = Vec::new(alloc);
-    let empty = Grid::empty(&heap);
-    assert_shows(&rt, alloc, &empty, &none, Order::RowMajor)?;
-    let cut = Grid::from_vec(Vec::new(&heap), 3);
-    assert_shows(&rt, alloc, &cut, &none, Order::RowMajor)?;
+    let heap = Fuse::new(rt.alloc(), 0);
+    let none = Vec::new(rt.alloc());
+    assert_shows(&rt, &Grid::empty(&heap), &none, Order::RowMajor);
+    assert_shows(
+        &rt,
+        &Grid::from_vec(Vec::new(&heap), 3),
+        &none,
+        Order::RowMajor,
+    );
     for order in ORDERS {
         let cut = Grid::from_vec_with_order(Vec::new(&heap), 0, order);
-        assert_shows(&rt, alloc, &cut, &none, order)?;
+        assert_shows(&rt, &cut, &none, order);
     }
     Ok(())
 }
@@ -185,11 +217,93 @@ fn check_moves(
     call(grid, step);
     let symmetry = reduce([step].as_slice());
     let image = plain::act(alloc, symmetry, table)?;
-    assert_shows(rt, alloc, grid, &image, order_after(symmetry, order))?;
+    assert_shows(rt, grid, &image, order_after(symmetry, order));
     grid.apply(symmetry.inverse());
-    assert_shows(rt, alloc, grid, table, order)?;
+    assert_shows(rt, grid, table, order);
     grid.apply(symmetry.then(symmetry.inverse()));
-    assert_shows(rt, alloc, grid, table, order)
+    assert_shows(rt, grid, table, order);
+    Ok(())
+}
+
+// Walks over all cells, of which there are so many, by the call and by reference.
+fn check_cell_walks(rt: &impl Abort, grid: &Grid<u32, &Heap>, cells: usize) {
+    let mut seen = 0usize;
+    for _ in grid.indexed_iter() {
+        seen = seen.wrapping_add(1);
+    }
+    assert_eq!(rt;
+        (grid.iter().count(), grid.into_iter().count(), seen),
+        (cells, cells, cells)
+    );
+}
+
+// How many cells a line has that was handed out.
+fn count_of(line: Option<GridLineIter<'_, u32>>) -> Option<usize> {
+    match line {
+        Some(line) => Some(line.count()),
+        None => None,
+    }
+}
+
+// A walk over all rows from the front, and its clone from the back.
+fn check_row_walks(
+    rt: &impl Abort,
+    grid: &Grid<u32, &Heap>,
+    (rows, cols): (usize, usize),
+) -> Result<(), Fail> {
+    let mut walk = grid.iter_rows();
+    let mut copy = walk.clone()?;
+    for _ in 0..rows {
+        let counts = (count_of(walk.next()), count_of(copy.next_back()));
+        assert_eq!(rt; counts, (Some(cols), Some(cols)));
+    }
+    Ok(())
+}
+
+// A walk over all columns from the front, and its clone from the back.
+fn check_col_walks(
+    rt: &impl Abort,
+    grid: &Grid<u32, &Heap>,
+    (rows, cols): (usize, usize),
+) -> Result<(), Fail> {
+    let mut walk = grid.iter_cols();
+    let mut copy = walk.clone()?;
+    for _ in 0..cols {
+        let counts = (count_of(walk.next()), count_of(copy.next_back()));
+        assert_eq!(rt; counts, (Some(rows), Some(rows)));
+    }
+    Ok(())
+}
+
+// Walks for writing over all cells, by the calls and by reference.
+fn check_writing_walks(rt: &impl Abort, grid: &mut Grid<u32, &Heap>, cells: usize) {
+    assert_eq!(rt; grid.iter_mut().count(), cells);
+    let mut lent = 0usize;
+    for _ in &mut *grid {
+        lent = lent.wrapping_add(1);
+    }
+    let mut seen = 0usize;
+    for _ in grid.indexed_iter_mut() {
+        seen = seen.wrapping_add(1);
+    }
+    assert_eq!(rt; (lent, seen), (cells, cells));
+}
+
+// Walks along a row and along a column, for reading and for writing. Each says how many cells there are.
+fn row_counts(grid: &mut Grid<u32, &Heap>, row: usize) -> Option<(usize, usize)> {
+    if row >= grid.rows() {
+        return None;
+    }
+    let read = grid.iter_row(row).count();
+    Some((read, grid.iter_row_mut(row).count()))
+}
+
+fn col_counts(grid: &mut Grid<u32, &Heap>, col: usize) -> Option<(usize, usize)> {
+    if col >= grid.cols() {
+        return None;
+    }
+    let read = grid.iter_col(col).count();
+    Some((read, grid.iter_col_mut(col).count()))
 }
 
 // Each walk, from one end to the other, and clones of those that have one.
@@ -197,32 +311,36 @@ fn check_walks(
     rt: &impl Abort,
     alloc: Global,
     (rows, cols): (usize, usize),
+    table: &Vec<Vec<u32>>,
     order: Order,
 ) -> Result<(), Fail> {
-    let table = numbered(alloc, rows, cols)?;
     let heap = Fuse::new(alloc, 0);
-    let grid = starved_grid_of(alloc, &heap, &table, order)?;
-    let cells = plain::storage(alloc, order, &table)?.len();
-    assert_eq!(rt; grid.iter().count(), cells);
-    let mut seen = 0usize;
-    for _ in grid.indexed_iter() {
-        seen = seen.wrapping_add(1);
+    let mut grid = starved_grid_of(alloc, &heap, table, order)?;
+    check_cell_walks(rt, &grid, rows.wrapping_mul(cols));
+    check_row_walks(rt, &grid, (rows, cols))?;
+    check_col_walks(rt, &grid, (rows, cols))?;
+    check_writing_walks(rt, &mut grid, rows.wrapping_mul(cols));
+    for row in 0..rows {
+        assert_eq!(rt; row_counts(&mut grid, row), Some((cols, cols)));
     }
-    assert_eq!(rt; seen, cells);
-    let mut walk = grid.iter_rows();
-    let mut copy = walk.clone()?;
-    for _ in 0..rows {
-        assert_eq!(rt; walk.next().map(|row| row.count()), Some(cols));
-        assert_eq!(rt; copy.next_back().map(|row| row.count()), Some(cols));
+    for col in 0..cols {
+        assert_eq!(rt; col_counts(&mut grid, col), Some((rows, rows)));
     }
-    let mut walk = grid.iter_cols();
-    let mut copy = walk.clone()?;
-    for _ in 0..cols {
-        assert_eq!(rt; walk.next().map(|col| col.count()), Some(rows));
-        assert_eq!(rt; copy.next_back().map(|col| col.count()), Some(rows));
-    }
+    assert_shows(rt, &grid, table, order);
+    Ok(())
+}
+
+fn check_walks_by_value(
+    rt: &impl Abort,
+    alloc: Global,
+    cells: usize,
+    table: &Vec<Vec<u32>>,
+    order: Order,
+) -> Result<(), Fail> {
+    let heap = Fuse::new(alloc, 0);
+    let grid = starved_grid_of(alloc, &heap, table, order)?;
     assert_eq!(rt; grid.into_iter().count(), cells);
-    let grid = starved_grid_of(alloc, &heap, &table, order)?;
+    let grid = starved_grid_of(alloc, &heap, table, order)?;
     let mut seen = 0usize;
     for _ in grid.indexed_into_iter() {
         seen = seen.wrapping_add(1);
@@ -231,43 +349,13 @@ fn check_walks(
     Ok(())
 }
 
-fn check_writing_walks(
-    rt: &impl Abort,
-    alloc: Global,
-    (rows, cols): (usize, usize),
-    order: Order,
-) -> Result<(), Fail> {
-    let table = numbered(alloc, rows, cols)?;
-    let heap = Fuse::new(alloc, 0);
-    let mut grid = starved_grid_of(alloc, &heap, &table, order)?;
-    let cells = plain::storage(alloc, order, &table)?.len();
-    assert_eq!(rt; grid.iter_mut().count(), cells);
-    let mut seen = 0usize;
-    for _ in grid.indexed_iter_mut() {
-        seen = seen.wrapping_add(1);
-    }
-    assert_eq!(rt; seen, cells);
-    for row in 0..rows {
-        assert!(rt; row < grid.rows());
-        assert_eq!(rt; grid.iter_row(row).count(), cols);
-        assert!(rt; row < grid.rows());
-        assert_eq!(rt; grid.iter_row_mut(row).count(), cols);
-    }
-    for col in 0..cols {
-        assert!(rt; col < grid.cols());
-        assert_eq!(rt; grid.iter_col(col).count(), rows);
-        assert!(rt; col < grid.cols());
-        assert_eq!(rt; grid.iter_col_mut(col).count(), rows);
-    }
-    assert_shows(rt, alloc, &grid, &table, order)
-}
-
 #[test]
 fn walks_take_no_memory(rt: HostRuntime) -> Result<(), Fail> {
-    for size in SIZES {
+    for (rows, cols) in SIZES {
+        let table = numbered(rt.alloc(), rows, cols)?;
         for order in ORDERS {
-            check_walks(&rt, rt.alloc(), size, order)?;
-            check_writing_walks(&rt, rt.alloc(), size, order)?;
+            check_walks(&rt, rt.alloc(), (rows, cols), &table, order)?;
+            check_walks_by_value(&rt, rt.alloc(), rows.wrapping_mul(cols), &table, order)?;
         }
     }
     Ok(())
@@ -289,31 +377,46 @@ fn moves_take_no_memory(rt: HostRuntime) -> Result<(), Fail> {
     Ok(())
 }
 
+// A command that takes no memory, and its reply.
+fn replies_done(grid: &mut Grid<Fragile, &Heap>, symmetry: Symmetry, tally: &mut Tally) -> bool {
+    matches!(grid.step(Command::Apply(symmetry), tally), Ok(Reply::Done))
+}
+
+fn replies_none(grid: &mut Grid<Fragile, &Heap>, place: (usize, usize), tally: &mut Tally) -> bool {
+    matches!(
+        grid.step(Command::Get(place.0, place.1), tally),
+        Ok(Reply::Cell(None))
+    )
+}
+
+fn replies_size(grid: &mut Grid<Fragile, &Heap>, tally: &mut Tally) -> bool {
+    matches!(grid.step(Command::Size, tally), Ok(Reply::Size(2, 2)))
+}
+
 // Only a `Get` in range takes memory, and that for its clone.
 #[test]
 fn steps_take_no_memory(rt: HostRuntime) -> Result<(), Fail> {
     let heap = Fuse::new(rt.alloc(), u64::MAX);
     let granted = Cell::new(0);
-    let mut grid = fragile_cells(&heap, &granted)?;
+    let mut grid = fragile_cells(&heap, &granted, Order::RowMajor)?;
     heap.grant(0);
     let mut tally = Tally::new();
-    assert!(rt; matches!(grid.step(Command::Size, &mut tally)?, Reply::Size(2, 2)));
-    for (row, col) in [(2, 0), (0, 2), (usize::MAX, usize::MAX)] {
-        let reply = grid.step(Command::Get(row, col), &mut tally)?;
-        assert!(rt; matches!(reply, Reply::Cell(None)));
+    assert!(rt; replies_size(&mut grid, &mut tally));
+    for place in [(2, 0), (0, 2), (usize::MAX, usize::MAX)] {
+        assert!(rt; replies_none(&mut grid, place, &mut tally));
     }
     for symmetry in SYMMETRIES {
-        let reply = grid.step(Command::Apply(symmetry), &mut tally)?;
-        assert!(rt; matches!(reply, Reply::Done));
-        let reply = grid.step(Command::Apply(symmetry.inverse()), &mut tally)?;
-        assert!(rt; matches!(reply, Reply::Done));
+        assert!(rt; replies_done(&mut grid, symmetry, &mut tally));
+        assert!(rt; replies_done(&mut grid, symmetry.inverse(), &mut tally));
     }
-    let symmetry = tally.symmetry();
-    assert!(rt; grid.step(Command::Get(1, 0), &mut tally).is_err());
-    assert_eq!(rt; (tally.symmetry(), tally.shift()), (symmetry, 0));
-    assert_eq!(rt; value_at(&grid, 0, 0), Some(1));
-    assert_eq!(rt; value_at(&grid, 0, 1), Some(2));
-    assert_eq!(rt; value_at(&grid, 1, 0), Some(3));
-    assert_eq!(rt; value_at(&grid, 1, 1), Some(4));
+    check_refused_step(&rt, &mut grid, &mut tally);
     Ok(())
+}
+
+// A `Get` whose clone is refused changes nothing.
+fn check_refused_step(rt: &impl Abort, grid: &mut Grid<Fragile, &Heap>, tally: &mut Tally) {
+    let symmetry = tally.symmetry();
+    assert!(rt; grid.step(Command::Get(1, 0), tally).is_err());
+    assert_eq!(rt; (tally.symmetry(), tally.shift()), (symmetry, 0));
+    assert!(rt; has_values(grid, Order::RowMajor, [1, 2, 3, 4].as_slice()));
 }

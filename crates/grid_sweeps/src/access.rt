@@ -3,6 +3,7 @@ use crate::asserts::assert_shows;
 use grid::Order;
 use grid_reference::fixtures::{ORDERS, PLACES, SIZES, grid_of, numbered, places_of, put_cell};
 use grid_reference::plain;
+use grid_reference::reached::{read_both_ways, swap, write, write_indexed, write_unchecked};
 use std::alloc::{AllocError, Global};
 use std::process::Abort;
 use std::test::Fail;
@@ -13,17 +14,16 @@ fn check_shown(
     table: &Vec<Vec<u32>>,
     order: Order,
 ) -> Result<(), Fail> {
+    let cells = plain::storage(alloc, order, table)?;
     let grid = grid_of(alloc, table, order)?;
-    assert_shows(rt, alloc, &grid, table, order)?;
+    assert_shows(rt, &grid, table, order);
     let (rows, cols) = grid.size();
     for row in 0..rows {
         for col in 0..cols {
             let want = plain::get(table, row, col);
-            assert_eq!(rt; Some(*grid.get_unchecked(row, col)), want);
-            assert_eq!(rt; Some(grid[(row, col)]), want);
+            assert!(rt; want.is_some() && read_both_ways(&grid, (row, col)) == want);
         }
     }
-    let cells = plain::storage(alloc, order, table)?;
     assert_eq!(rt; grid.into_vec().as_slice(), cells.as_slice());
     Ok(())
 }
@@ -49,15 +49,10 @@ fn check_get_mut(
     let mut table = numbered(alloc, rows, cols)?;
     let mut grid = grid_of(alloc, &table, order)?;
     let there = plain::get(&table, row, col).is_some();
-    match grid.get_mut(row, col) {
-        Some(cell) => {
-            assert!(rt; there);
-            *cell = 99;
-        }
-        None => assert!(rt; !there),
-    }
+    assert_eq!(rt; write(&mut grid, (row, col), 99), there);
     put_cell(&mut table, row, col, 99);
-    assert_shows(rt, alloc, &grid, &table, order)
+    assert_shows(rt, &grid, &table, order);
+    Ok(())
 }
 
 #[test]
@@ -84,16 +79,13 @@ fn check_writes(
 ) -> Result<(), Fail> {
     let mut table = numbered(alloc, rows, cols)?;
     let mut grid = grid_of(alloc, &table, order)?;
-    let (grid_rows, grid_cols) = grid.size();
-    assert!(rt; row < grid_rows && col < grid_cols);
-    *grid.get_unchecked_mut(row, col) = 98;
+    assert!(rt; write_unchecked(&mut grid, (row, col), 98));
     put_cell(&mut table, row, col, 98);
-    assert_shows(rt, alloc, &grid, &table, order)?;
-    let (grid_rows, grid_cols) = grid.size();
-    assert!(rt; row < grid_rows && col < grid_cols);
-    grid[(row, col)] = 99;
+    assert_shows(rt, &grid, &table, order);
+    assert!(rt; write_indexed(&mut grid, (row, col), 99));
     put_cell(&mut table, row, col, 99);
-    assert_shows(rt, alloc, &grid, &table, order)
+    assert_shows(rt, &grid, &table, order);
+    Ok(())
 }
 
 #[test]
@@ -110,6 +102,16 @@ fn writes_in_range(rt: HostRuntime) -> Result<(), Fail> {
     Ok(())
 }
 
+// Exchanges two cells of a table.
+fn swap_cells(table: &mut Vec<Vec<u32>>, a: (usize, usize), b: (usize, usize)) {
+    let at_a = plain::get(table, a.0, a.1);
+    let at_b = plain::get(table, b.0, b.1);
+    if let (Some(at_a), Some(at_b)) = (at_a, at_b) {
+        put_cell(table, a.0, a.1, at_b);
+        put_cell(table, b.0, b.1, at_a);
+    }
+}
+
 fn check_swap(
     rt: &impl Abort,
     alloc: Global,
@@ -120,15 +122,10 @@ fn check_swap(
 ) -> Result<(), Fail> {
     let mut table = numbered(alloc, rows, cols)?;
     let mut grid = grid_of(alloc, &table, order)?;
-    let (grid_rows, grid_cols) = grid.size();
-    assert!(rt; a.0 < grid_rows && a.1 < grid_cols);
-    assert!(rt; b.0 < grid_rows && b.1 < grid_cols);
-    grid.swap(a, b);
-    let at_a = plain::get(&table, a.0, a.1).expect(rt, "a is in range");
-    let at_b = plain::get(&table, b.0, b.1).expect(rt, "b is in range");
-    put_cell(&mut table, a.0, a.1, at_b);
-    put_cell(&mut table, b.0, b.1, at_a);
-    assert_shows(rt, alloc, &grid, &table, order)
+    assert!(rt; swap(&mut grid, a, b));
+    swap_cells(&mut table, a, b);
+    assert_shows(rt, &grid, &table, order);
+    Ok(())
 }
 
 #[test]
@@ -146,14 +143,24 @@ fn swaps_every_two_cells(rt: HostRuntime) -> Result<(), Fail> {
     Ok(())
 }
 
+fn check_clear(
+    rt: &impl Abort,
+    alloc: Global,
+    table: &Vec<Vec<u32>>,
+    order: Order,
+) -> Result<(), Fail> {
+    let mut grid = grid_of(alloc, table, order)?;
+    grid.clear();
+    assert_shows(rt, &grid, &Vec::new(alloc), order);
+    Ok(())
+}
+
 #[test]
 fn clears(rt: HostRuntime) -> Result<(), Fail> {
     for (rows, cols) in SIZES {
+        let table = numbered(rt.alloc(), rows, cols)?;
         for order in ORDERS {
-            let table = numbered(rt.alloc(), rows, cols)?;
-            let mut grid = grid_of(rt.alloc(), &table, order)?;
-            grid.clear();
-            assert_shows(&rt, rt.alloc(), &grid, &Vec::new(rt.alloc()), order)?;
+            check_clear(&rt, rt.alloc(), &table, order)?;
         }
     }
     Ok(())

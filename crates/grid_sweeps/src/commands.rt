@@ -47,7 +47,11 @@ fn all_codes(alloc: Global) -> Result<Vec<Code>, AllocError> {
 }
 
 fn commands_of(alloc: Global, codes: &[Code]) -> Result<Vec<Command>, AllocError> {
-    codes.iter().map(|code| command_of(*code)).collect(alloc)
+    let mut commands = Vec::new(alloc);
+    for code in codes {
+        commands.push(command_of(*code))?;
+    }
+    Ok(commands)
 }
 
 // How many swaps a symmetry costs, worked out by hand.
@@ -104,9 +108,14 @@ fn check_plain_run(
 ) -> Result<(), Fail> {
     let commands = commands_of(alloc, codes)?;
     let replies = plain::run(alloc, commands.as_slice(), &mut table)?;
-    assert!(rt; replies == want.replies);
-    assert!(rt; table == want.table);
+    assert!(rt; replies == want.replies && table == want.table);
     Ok(())
+}
+
+// What a grid shows after a list of commands, and how many swaps they cost.
+fn assert_outcome(rt: &impl Abort, grid: &Grid<u32>, tally: &Tally, want: &Outcome) {
+    assert_shows(rt, grid, &want.table, want.order);
+    assert_eq!(rt; (tally.symmetry(), tally.shift()), (want.swaps, 0));
 }
 
 fn check_run(
@@ -116,46 +125,46 @@ fn check_run(
     codes: &[Code],
     want: &Outcome,
 ) -> Result<(), Fail> {
+    let commands = commands_of(alloc, codes)?;
     let mut tally = Tally::new();
-    match run(alloc, &mut grid, commands_of(alloc, codes)?, &mut tally) {
+    match run(alloc, &mut grid, commands, &mut tally) {
         Ok(replies) => assert!(rt; replies == want.replies),
-        Err(_) => return Err(AllocError.into()),
+        Err(_) => panic!(rt; "there is memory"),
     }
-    assert_shows(rt, alloc, &grid, &want.table, want.order)?;
-    assert_eq!(rt; tally.symmetry(), want.swaps);
-    assert_eq!(rt; tally.shift(), 0);
+    assert_outcome(rt, &grid, &tally, want);
     Ok(())
 }
 
-fn check_steps(
+fn check_steps(rt: &impl Abort, mut grid: Grid<u32>, codes: &[Code], want: &Outcome) {
+    let mut tally = Tally::new();
+    let mut left = want.replies.iter();
+    for code in codes {
+        match (grid.step(command_of(*code), &mut tally), left.next()) {
+            (Ok(reply), Some(want)) => assert!(rt; reply == *want),
+            _ => panic!(rt; "there is memory, and a reply to each command"),
+        }
+    }
+    assert_outcome(rt, &grid, &tally, want);
+}
+
+fn check_list(
     rt: &impl Abort,
     alloc: Global,
-    mut grid: Grid<u32>,
+    (rows, cols): (usize, usize),
+    order: Order,
     codes: &[Code],
-    want: &Outcome,
 ) -> Result<(), Fail> {
-    let mut tally = Tally::new();
-    let mut replies = Vec::new(alloc);
-    for code in codes {
-        replies.push(grid.step(command_of(*code), &mut tally)?)?;
-    }
-    assert!(rt; replies == want.replies);
-    assert_shows(rt, alloc, &grid, &want.table, want.order)?;
-    assert_eq!(rt; tally.symmetry(), want.swaps);
-    assert_eq!(rt; tally.shift(), 0);
-    Ok(())
+    let table = numbered(alloc, rows, cols)?;
+    let want = plain_outcome(alloc, numbered(alloc, rows, cols)?, order, codes)?;
+    check_run(rt, alloc, grid_of(alloc, &table, order)?, codes, &want)?;
+    check_steps(rt, grid_of(alloc, &table, order)?, codes, &want);
+    check_plain_run(rt, alloc, table, codes, &want)
 }
 
 fn check_list_everywhere(rt: &impl Abort, alloc: Global, codes: &[Code]) -> Result<(), Fail> {
-    for (rows, cols) in SIZES {
+    for size in SIZES {
         for order in ORDERS {
-            let table = numbered(alloc, rows, cols)?;
-            let grid = grid_of(alloc, &table, order)?;
-            let other = grid_of(alloc, &table, order)?;
-            let want = plain_outcome(alloc, table, order, codes)?;
-            check_run(rt, alloc, grid, codes, &want)?;
-            check_steps(rt, alloc, other, codes, &want)?;
-            check_plain_run(rt, alloc, numbered(alloc, rows, cols)?, codes, &want)?;
+            check_list(rt, alloc, size, order, codes)?;
         }
     }
     Ok(())

@@ -1,13 +1,15 @@
 //! Edits of lines over all small tables, all places and both orders, where memory is refused and then granted.
 use crate::asserts::assert_shows;
 use grid::laws::{insert_col_or_row_across, push_row_then_pop_row};
-use grid::{Grid, GridError, LineRefused, LinesRefused, Order};
+use grid::{Grid, GridError, LineRefused, Order};
 use grid_reference::edits::{Place, line_at, pad, put_line, without};
 use grid_reference::fitting::{insert, insert_several, push_col, push_row};
 use grid_reference::fixtures::{
-    Heap, ORDERS, SIZES, grid_of, line_from, lines_from, numbered, starved_grid_of, table_of,
+    Heap, ORDERS, SIZES, grid_of, is_count, line_from, lines_from, numbered, starved_grid_of,
+    table_of,
 };
 use grid_reference::fuse::Fuse;
+use grid_reference::plain;
 use std::alloc::{AllocError, Allocator, Global};
 use std::process::Abort;
 use std::test::Fail;
@@ -55,7 +57,6 @@ fn starved_line(heap: &Heap, len: usize) -> Result<Vec<u32, &Heap>, AllocError> 
 }
 
 fn put_into<'a>(
-    rt: &impl Abort,
     grid: &mut Grid<u32, &'a Heap>,
     place: Place,
     pushed: bool,
@@ -81,37 +82,65 @@ fn take_line<A: Allocator + Clone>(
     }
 }
 
+// Puts a line where memory is refused, and says whether the line came back for want of memory.
+fn comes_back<'a>(
+    heap: &'a Heap,
+    grid: &mut Grid<u32, &'a Heap>,
+    (place, pushed): (Place, bool),
+    len: usize,
+) -> Result<bool, AllocError> {
+    let line = starved_line(heap, len)?;
+    match put_into(grid, place, pushed, line) {
+        Ok(()) => Ok(false),
+        Err(refused) => {
+            let same = is_count(refused.line.as_slice(), len, 101, 1);
+            Ok(same && refused.fault == GridError::Memory)
+        }
+    }
+}
+
+// Puts a line where one request is granted, and says whether it was put and took that request.
+fn takes_one_request<'a>(
+    heap: &'a Heap,
+    grid: &mut Grid<u32, &'a Heap>,
+    (place, pushed): (Place, bool),
+    len: usize,
+) -> Result<bool, AllocError> {
+    let line = starved_line(heap, len)?;
+    heap.grant(1);
+    let put = put_into(grid, place, pushed, line).is_ok();
+    Ok(put && heap.left() == 0)
+}
+
+// The table with a line from 101 on.
+fn with_line(
+    alloc: Global,
+    mut table: Vec<Vec<u32>>,
+    place: Place,
+    len: usize,
+) -> Result<Vec<Vec<u32>>, AllocError> {
+    let line = line_from(alloc, 101, len)?;
+    put_line(alloc, &mut table, place, line.as_slice())?;
+    Ok(table)
+}
+
 // A line that is put is one request: refused, it comes back, and the grid is as it was; granted, it is put.
 fn check_put(
     rt: &impl Abort,
     alloc: Global,
     size: (usize, usize),
     order: Order,
-    place: Place,
-    pushed: bool,
+    (place, pushed): (Place, bool),
 ) -> Result<(), Fail> {
-    let mut table = numbered(alloc, size.0, size.1)?;
+    let table = numbered(alloc, size.0, size.1)?;
     let heap = Fuse::new(alloc, 0);
     let mut grid = starved_grid_of(alloc, &heap, &table, order)?;
     let len = fitting_len(size, place);
-    let line = starved_line(&heap, len)?;
-    let back = LineRefused {
-        line: starved_line(&heap, len)?,
-        fault: GridError::Memory,
-    };
-    assert_eq!(rt; put_into(rt, &mut grid, place, pushed, line), Err(back));
-    assert_shows(rt, alloc, &grid, &table, order)?;
-    let line = starved_line(&heap, len)?;
-    heap.grant(1);
-    assert_eq!(rt; put_into(rt, &mut grid, place, pushed, line), Ok(()));
-    assert_eq!(rt; heap.left(), 0);
-    put_line(
-        alloc,
-        &mut table,
-        place,
-        line_from(alloc, 101, len)?.as_slice(),
-    )?;
-    assert_shows(rt, alloc, &grid, &table, order)
+    assert!(rt; comes_back(&heap, &mut grid, (place, pushed), len)?);
+    assert_shows(rt, &grid, &table, order);
+    assert!(rt; takes_one_request(&heap, &mut grid, (place, pushed), len)?);
+    assert_shows(rt, &grid, &with_line(alloc, table, place, len)?, order);
+    Ok(())
 }
 
 #[test]
@@ -120,17 +149,17 @@ fn puts_lines(rt: HostRuntime) -> Result<(), Fail> {
     for (rows, cols) in SIZES {
         for order in ORDERS {
             for place in places_to_put(alloc, (rows, cols))? {
-                check_put(&rt, alloc, (rows, cols), order, place, false)?;
+                check_put(&rt, alloc, (rows, cols), order, (place, false))?;
             }
             for place in [Place::Row(rows), Place::Col(cols)] {
-                check_put(&rt, alloc, (rows, cols), order, place, true)?;
+                check_put(&rt, alloc, (rows, cols), order, (place, true))?;
             }
         }
     }
     Ok(())
 }
 
-fn same_line<A: Allocator>(taken: &Option<Vec<u32, A>>, line: &Option<Vec<u32>>) -> bool {
+fn same_line<A: Allocator>(taken: Option<Vec<u32, A>>, line: Option<&Vec<u32>>) -> bool {
     match (taken, line) {
         (Some(taken), Some(line)) => taken.as_slice() == line.as_slice(),
         (None, None) => true,
@@ -138,45 +167,52 @@ fn same_line<A: Allocator>(taken: &Option<Vec<u32, A>>, line: &Option<Vec<u32>>)
     }
 }
 
+// Takes a line where one request is granted, and says whether it is this one and took that request.
+fn takes<'a>(
+    heap: &'a Heap,
+    grid: &mut Grid<u32, &'a Heap>,
+    (place, popped): (Place, bool),
+    line: Option<&Vec<u32>>,
+) -> Result<bool, AllocError> {
+    heap.grant(1);
+    let taken = take_line(grid, place, popped)?;
+    let left = if line.is_some() { 0 } else { 1 };
+    Ok(heap.left() == left && same_line(taken, line))
+}
+
 // A line that is taken is one request, refused and then granted, and none where there is no such line.
 fn check_taken(
     rt: &impl Abort,
     alloc: Global,
-    size: (usize, usize),
+    table: &Vec<Vec<u32>>,
     order: Order,
-    place: Place,
-    popped: bool,
+    (place, popped): (Place, bool),
 ) -> Result<(), Fail> {
-    let table = numbered(alloc, size.0, size.1)?;
-    let line = line_at(alloc, &table, place)?;
+    let line = line_at(alloc, table, place)?;
     let heap = Fuse::new(alloc, 0);
-    let mut grid = starved_grid_of(alloc, &heap, &table, order)?;
-    assert_eq!(rt;
-        take_line(&mut grid, place, popped).is_err(),
-        line.is_some()
-    );
-    assert_shows(rt, alloc, &grid, &table, order)?;
-    heap.grant(1);
-    let taken = take_line(&mut grid, place, popped)?;
-    assert_eq!(rt; heap.left(), if line.is_some() { 0 } else { 1 });
-    assert!(rt; same_line(&taken, &line));
-    let left = without(alloc, &table, place, 1)?;
-    assert_shows(rt, alloc, &grid, &left, order)
+    let mut grid = starved_grid_of(alloc, &heap, table, order)?;
+    let refused = take_line(&mut grid, place, popped).is_err();
+    assert_eq!(rt; refused, line.is_some());
+    assert_shows(rt, &grid, table, order);
+    assert!(rt; takes(&heap, &mut grid, (place, popped), line.as_ref())?);
+    assert_shows(rt, &grid, &without(alloc, table, place, 1)?, order);
+    Ok(())
 }
 
 #[test]
 fn takes_lines(rt: HostRuntime) -> Result<(), Fail> {
     for (rows, cols) in SIZES {
+        let table = numbered(rt.alloc(), rows, cols)?;
+        let last = [
+            Place::Row(rows.saturating_sub(1)),
+            Place::Col(cols.saturating_sub(1)),
+        ];
         for order in ORDERS {
             for place in PLACES_TO_TAKE {
-                check_taken(&rt, rt.alloc(), (rows, cols), order, place, false)?;
+                check_taken(&rt, rt.alloc(), &table, order, (place, false))?;
             }
-            let last = [
-                Place::Row(rows.saturating_sub(1)),
-                Place::Col(cols.saturating_sub(1)),
-            ];
             for place in last {
-                check_taken(&rt, rt.alloc(), (rows, cols), order, place, true)?;
+                check_taken(&rt, rt.alloc(), &table, order, (place, true))?;
             }
         }
     }
@@ -197,41 +233,57 @@ fn delete_lines(grid: &mut Grid<u32, &Heap>, place: Place, count: usize) -> bool
     }
 }
 
-// Deleting takes no memory.
-fn check_deleted(
-    rt: &impl Abort,
-    alloc: Global,
-    (rows, cols): (usize, usize),
-    order: Order,
-    place: Place,
-    count: usize,
-) -> Result<(), Fail> {
-    let table = numbered(alloc, rows, cols)?;
-    let heap = Fuse::new(alloc, 0);
+// Whether a table of this size has so many lines from a place on.
+fn has_lines((rows, cols): (usize, usize), place: Place, count: usize) -> bool {
     let (lines, start) = match place {
         Place::Row(start) => (rows, start),
         Place::Col(start) => (cols, start),
     };
-    let there = count <= lines && start <= lines - count;
-    let left = without(alloc, &table, place, if there { count } else { 0 })?;
-    let mut grid = starved_grid_of(alloc, &heap, &table, order)?;
+    count <= lines && start <= lines - count
+}
+
+// Deleting takes no memory.
+fn check_deleted(
+    rt: &impl Abort,
+    alloc: Global,
+    table: &Vec<Vec<u32>>,
+    order: Order,
+    (place, count): (Place, usize),
+) -> Result<(), Fail> {
+    let there = has_lines(plain::size(table), place, count);
+    let left = without(alloc, table, place, if there { count } else { 0 })?;
+    let heap = Fuse::new(alloc, 0);
+    let mut grid = starved_grid_of(alloc, &heap, table, order)?;
     assert_eq!(rt; delete_lines(&mut grid, place, count), there);
-    assert_shows(rt, alloc, &grid, &left, order)?;
-    if count == 1 {
-        let mut grid = starved_grid_of(alloc, &heap, &table, order)?;
-        assert_eq!(rt; delete_line(&mut grid, place), there);
-        assert_shows(rt, alloc, &grid, &left, order)?;
-    }
+    assert_shows(rt, &grid, &left, order);
+    Ok(())
+}
+
+fn check_deleted_one(
+    rt: &impl Abort,
+    alloc: Global,
+    table: &Vec<Vec<u32>>,
+    order: Order,
+    place: Place,
+) -> Result<(), Fail> {
+    let there = has_lines(plain::size(table), place, 1);
+    let left = without(alloc, table, place, 1)?;
+    let heap = Fuse::new(alloc, 0);
+    let mut grid = starved_grid_of(alloc, &heap, table, order)?;
+    assert_eq!(rt; delete_line(&mut grid, place), there);
+    assert_shows(rt, &grid, &left, order);
     Ok(())
 }
 
 #[test]
 fn deletes_lines(rt: HostRuntime) -> Result<(), Fail> {
-    for size in SIZES {
+    for (rows, cols) in SIZES {
+        let table = numbered(rt.alloc(), rows, cols)?;
         for order in ORDERS {
             for place in PLACES_TO_TAKE {
+                check_deleted_one(&rt, rt.alloc(), &table, order, place)?;
                 for count in [0, 1, 2, 3, usize::MAX] {
-                    check_deleted(&rt, rt.alloc(), size, order, place, count)?;
+                    check_deleted(&rt, rt.alloc(), &table, order, (place, count))?;
                 }
             }
         }
@@ -251,6 +303,63 @@ fn starved_lines(
     Ok(lines)
 }
 
+// Whether lines of this length go on from 101, from line to line.
+fn are_counted(lines: &[Vec<u32, &Heap>], len: usize) -> bool {
+    let mut first = 101u32;
+    for line in lines {
+        if !is_count(line.as_slice(), len, first, 1) {
+            return false;
+        }
+        first = first.wrapping_add((len % 1000) as u32);
+    }
+    true
+}
+
+// Puts several lines where memory is refused, and says whether they came back for want of memory.
+fn all_come_back<'a>(
+    heap: &'a Heap,
+    grid: &mut Grid<u32, &'a Heap>,
+    place: Place,
+    (count, len): (usize, usize),
+) -> Result<bool, AllocError> {
+    let lines = starved_lines(heap, count, len)?;
+    match insert_several(grid, place, lines) {
+        Ok(()) => Ok(false),
+        Err(refused) => {
+            let same = refused.lines.len() == count && are_counted(refused.lines.as_slice(), len);
+            Ok(same && refused.fault == GridError::Memory)
+        }
+    }
+}
+
+// Puts several lines where one request is granted, or none where there are no lines, and says whether they were put and
+// took it.
+fn all_take_one_request<'a>(
+    heap: &'a Heap,
+    grid: &mut Grid<u32, &'a Heap>,
+    place: Place,
+    (count, len): (usize, usize),
+) -> Result<bool, AllocError> {
+    let lines = starved_lines(heap, count, len)?;
+    heap.grant(if count == 0 { 0 } else { 1 });
+    let put = insert_several(grid, place, lines).is_ok();
+    Ok(put && heap.left() == 0)
+}
+
+// The table with so many lines, which go on from 101.
+fn with_lines(
+    alloc: Global,
+    mut table: Vec<Vec<u32>>,
+    place: Place,
+    (count, len): (usize, usize),
+) -> Result<Vec<Vec<u32>>, AllocError> {
+    let lines = lines_from(alloc, 101, count, len)?;
+    for line in lines.iter().rev() {
+        put_line(alloc, &mut table, place, line.as_slice())?;
+    }
+    Ok(table)
+}
+
 // Lines that are put are one request: refused, they come back, and the grid is as it was; granted, they are put. No
 // lines are no request.
 fn check_put_several(
@@ -258,30 +367,19 @@ fn check_put_several(
     alloc: Global,
     size: (usize, usize),
     order: Order,
-    place: Place,
-    count: usize,
+    (place, count): (Place, usize),
 ) -> Result<(), Fail> {
-    let mut table = numbered(alloc, size.0, size.1)?;
+    let table = numbered(alloc, size.0, size.1)?;
     let heap = Fuse::new(alloc, 0);
     let mut grid = starved_grid_of(alloc, &heap, &table, order)?;
-    let len = fitting_len(size, place);
+    let shape = (count, fitting_len(size, place));
     if count != 0 {
-        let lines = starved_lines(&heap, count, len)?;
-        let back = LinesRefused {
-            lines: starved_lines(&heap, count, len)?,
-            fault: GridError::Memory,
-        };
-        assert_eq!(rt; insert_several(&mut grid, place, lines), Err(back));
-        assert_shows(rt, alloc, &grid, &table, order)?;
+        assert!(rt; all_come_back(&heap, &mut grid, place, shape)?);
+        assert_shows(rt, &grid, &table, order);
     }
-    let lines = starved_lines(&heap, count, len)?;
-    heap.grant(if count == 0 { 0 } else { 1 });
-    assert_eq!(rt; insert_several(&mut grid, place, lines), Ok(()));
-    assert_eq!(rt; heap.left(), 0);
-    for line in lines_from(alloc, 101, count, len)?.iter().rev() {
-        put_line(alloc, &mut table, place, line.as_slice())?;
-    }
-    assert_shows(rt, alloc, &grid, &table, order)
+    assert!(rt; all_take_one_request(&heap, &mut grid, place, shape)?);
+    assert_shows(rt, &grid, &with_lines(alloc, table, place, shape)?, order);
+    Ok(())
 }
 
 #[test]
@@ -291,7 +389,7 @@ fn puts_several_lines(rt: HostRuntime) -> Result<(), Fail> {
         for order in ORDERS {
             for place in places_to_put(alloc, size)? {
                 for count in 0..4usize {
-                    check_put_several(&rt, alloc, size, order, place, count)?;
+                    check_put_several(&rt, alloc, size, order, (place, count))?;
                 }
             }
         }
@@ -313,6 +411,12 @@ fn pad_grid(
     }
 }
 
+// Pads by too many lines, and by so many where memory is refused, and says whether each was refused for its reason.
+fn pad_is_refused(grid: &mut Grid<u32, &Heap>, end: (Place, bool), count: usize) -> bool {
+    let too_large = pad_grid(grid, end, usize::MAX) == Err(GridError::TooLarge);
+    too_large && (count == 0 || pad_grid(grid, end, count) == Err(GridError::Memory))
+}
+
 // Padding is one request, refused and then granted, and none on an empty grid or by nothing. What is too large is
 // found before memory is asked for.
 fn check_padded(
@@ -320,26 +424,21 @@ fn check_padded(
     alloc: Global,
     size: (usize, usize),
     order: Order,
-    end: (Place, bool),
-    count: usize,
+    (end, count): ((Place, bool), usize),
 ) -> Result<(), Fail> {
     let mut table = numbered(alloc, size.0, size.1)?;
     let heap = Fuse::new(alloc, 0);
     let mut grid = starved_grid_of(alloc, &heap, &table, order)?;
     if size.0 != 0 {
-        let refused = pad_grid(&mut grid, end, usize::MAX);
-        assert_eq!(rt; refused, Err(GridError::TooLarge));
-        if count != 0 {
-            let refused = pad_grid(&mut grid, end, count);
-            assert_eq!(rt; refused, Err(GridError::Memory));
-            heap.grant(1);
-        }
-        assert_shows(rt, alloc, &grid, &table, order)?;
+        assert!(rt; pad_is_refused(&mut grid, end, count));
+        assert_shows(rt, &grid, &table, order);
+        heap.grant(if count == 0 { 0 } else { 1 });
     }
-    assert_eq!(rt; pad_grid(&mut grid, end, count), Ok(()));
-    assert_eq!(rt; heap.left(), 0);
+    let padded = pad_grid(&mut grid, end, count).is_ok();
+    assert!(rt; padded && heap.left() == 0);
     pad(alloc, &mut table, end.0, count)?;
-    assert_shows(rt, alloc, &grid, &table, order)
+    assert_shows(rt, &grid, &table, order);
+    Ok(())
 }
 
 #[test]
@@ -354,7 +453,7 @@ fn pads_tables(rt: HostRuntime) -> Result<(), Fail> {
         for order in ORDERS {
             for end in ends {
                 for count in 0..4usize {
-                    check_padded(&rt, rt.alloc(), (rows, cols), order, end, count)?;
+                    check_padded(&rt, rt.alloc(), (rows, cols), order, (end, count))?;
                 }
             }
         }
@@ -362,59 +461,79 @@ fn pads_tables(rt: HostRuntime) -> Result<(), Fail> {
     Ok(())
 }
 
-// Pushes a row and pops it, by the law.
+// Pushes a row from 101 on and pops it, by the law.
 fn check_push_and_pop(
     rt: &impl Abort,
-    grid: &mut Grid<u32>,
-    line: Vec<u32>,
-) -> Result<Option<Vec<u32>>, Fail> {
-    assert!(rt; line.len() != 0);
-    assert!(rt; grid.is_empty() || line.len() == grid.cols());
-    Ok(push_row_then_pop_row(grid, line)??)
+    alloc: Global,
+    table: &Vec<Vec<u32>>,
+    order: Order,
+) -> Result<(), Fail> {
+    let mut grid = grid_of(alloc, table, order)?;
+    let len = fitting_len(grid.size(), Place::Row(0));
+    let line = line_from(alloc, 101, len)?;
+    assert!(rt; line.len() != 0 && (grid.is_empty() || line.len() == grid.cols()));
+    match push_row_then_pop_row(&mut grid, line) {
+        Ok(Ok(Some(popped))) => assert!(rt; is_count(popped.as_slice(), len, 101, 1)),
+        _ => panic!(rt; "there is memory, and a row"),
+    }
+    assert_shows(rt, &grid, table, order);
+    Ok(())
 }
 
 #[test]
 fn pops_what_was_pushed(rt: HostRuntime) -> Result<(), Fail> {
-    let alloc = rt.alloc();
     for (rows, cols) in SIZES {
+        let table = numbered(rt.alloc(), rows, cols)?;
         for order in ORDERS {
-            let table = numbered(alloc, rows, cols)?;
-            let mut grid = grid_of(alloc, &table, order)?;
-            let len = fitting_len((rows, cols), Place::Row(rows));
-            let popped = check_push_and_pop(&rt, &mut grid, line_from(alloc, 101, len)?)?;
-            assert_eq!(rt; popped, Some(line_from(alloc, 101, len)?));
-            assert_shows(&rt, alloc, &grid, &table, order)?;
+            check_push_and_pop(&rt, rt.alloc(), &table, order)?;
         }
     }
     Ok(())
 }
 
+// Two grids of the same rows and order: a line put into the one as a column, and into the other as a row across.
+fn put_both(
+    rt: &impl Abort,
+    alloc: Global,
+    grid: &mut Grid<u32>,
+    other: &mut Grid<u32>,
+    at: usize,
+    cells: &[u32],
+) -> Result<(), Fail> {
+    let line = Vec::from_slice(alloc, cells)?;
+    let same = Vec::from_slice(alloc, cells)?;
+    let put = insert_col_or_row_across(grid, other, at, line, same);
+    assert!(rt; put == (Ok(()), Ok(())));
+    Ok(())
+}
+
 // Puts a column into a grid and a row across another of the same rows and order, by the law.
+fn check_puts_across(
+    rt: &impl Abort,
+    alloc: Global,
+    table: &Vec<Vec<u32>>,
+    order: Order,
+) -> Result<(), Fail> {
+    let mut grid = Grid::empty(alloc);
+    let mut other = Grid::empty(alloc);
+    if order == Order::ColumnMajor {
+        grid.transpose();
+        other.transpose();
+    }
+    assert!(rt; grid.is_empty());
+    put_both(rt, alloc, &mut grid, &mut other, 0, &[1, 2, 3])?;
+    assert_eq!(rt; grid.size(), (3, 1));
+    put_both(rt, alloc, &mut grid, &mut other, 1, &[4, 5, 6])?;
+    assert_shows(rt, &grid, table, order);
+    assert_shows(rt, &other, table, order);
+    Ok(())
+}
+
 #[test]
 fn puts_columns_as_rows_across(rt: HostRuntime) -> Result<(), Fail> {
-    let alloc = rt.alloc();
-    let table = table_of(alloc, &[&[1, 4], &[2, 5], &[3, 6]])?;
+    let table = table_of(rt.alloc(), &[&[1, 4], &[2, 5], &[3, 6]])?;
     for order in ORDERS {
-        let mut grid = Grid::empty(alloc);
-        let mut other = Grid::empty(alloc);
-        if order == Order::ColumnMajor {
-            grid.transpose();
-            other.transpose();
-        }
-        assert!(rt; grid.is_empty());
-        let line = vec![in alloc; 1, 2, 3]?;
-        let same = vec![in alloc; 1, 2, 3]?;
-        match insert_col_or_row_across(&mut grid, &mut other, 0, line, same) {
-            (Ok(()), Ok(())) => {}
-            _ => panic!(rt; "there is memory"),
-        }
-        assert_eq!(rt; grid.size(), (3, 1));
-        let line = vec![in alloc; 4, 5, 6]?;
-        let same = vec![in alloc; 4, 5, 6]?;
-        let put_both = insert_col_or_row_across(&mut grid, &mut other, 1, line, same);
-        assert_eq!(rt; put_both, (Ok(()), Ok(())));
-        assert_shows(&rt, alloc, &grid, &table, order)?;
-        assert_shows(&rt, alloc, &other, &table, order)?;
+        check_puts_across(&rt, rt.alloc(), &table, order)?;
     }
     Ok(())
 }

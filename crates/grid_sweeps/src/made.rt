@@ -1,7 +1,9 @@
 //! How grids are made and converted, over all small sizes, also where memory is refused.
 use crate::asserts::assert_shows;
 use grid::{Grid, GridError, Order, ShapeError, grid, grid_cm};
-use grid_reference::fixtures::{Fragile, Heap, ORDERS, line_from, numbered, put_cell, value_at};
+use grid_reference::fixtures::{
+    Fragile, Heap, ORDERS, has_values, is_count, line_from, numbered, shows_count,
+};
 use grid_reference::fuse::Fuse;
 use std::alloc::{AllocError, Allocator, Global};
 use std::cell::Cell;
@@ -9,107 +11,111 @@ use std::convert::TryFrom;
 use std::process::Abort;
 use std::test::Fail;
 
-// The table of this size with one value in each cell, or the empty table if it has none.
-fn even_table(
-    alloc: Global,
-    rows: usize,
-    cols: usize,
-    value: u32,
-) -> Result<Vec<Vec<u32>>, AllocError> {
-    if cols == 0 {
-        return Ok(Vec::new(alloc));
-    }
-    let mut table = numbered(alloc, rows, cols)?;
-    for row in 0..rows {
-        for col in 0..cols {
-            put_cell(&mut table, row, col, value);
-        }
-    }
-    Ok(table)
-}
-
-// What a call answers that takes one request for the cells of this table, and none if there are none.
-fn check_answer(
-    rt: &impl Abort,
-    alloc: Global,
-    made: Result<Grid<u32, &Heap>, GridError>,
-    want: &Vec<Vec<u32>>,
-    order: Order,
-    granted: u64,
-) -> Result<(), Fail> {
+// Whether a call that takes one request for so many cells was granted it, or was refused for want of memory.
+fn is_due(made: &Result<Grid<u32, &Heap>, GridError>, cells: usize, granted: u64) -> bool {
     match made {
-        Ok(grid) => {
-            assert!(rt; want.is_empty() || granted != 0);
-            assert_shows(rt, alloc, &grid, want, order)
-        }
-        Err(refused) => {
-            assert_eq!(rt; refused, GridError::Memory);
-            assert!(rt; !want.is_empty() && granted == 0);
-            Ok(())
-        }
+        Ok(_) => cells == 0 || granted != 0,
+        Err(refused) => *refused == GridError::Memory && cells != 0 && granted == 0,
     }
 }
 
-fn check_made(
+// Whether it is this grid, if it was made.
+fn has_count(
+    made: &Result<Grid<u32, &Heap>, GridError>,
+    size: (usize, usize),
+    order: Order,
+    count: (u32, u32),
+) -> bool {
+    match made {
+        Ok(grid) => shows_count(grid, size, order, count),
+        Err(_) => true,
+    }
+}
+
+// What a call answers that makes a grid of this size with one value in each cell.
+fn assert_even(
+    rt: &impl Abort,
+    made: Result<Grid<u32, &Heap>, GridError>,
+    (rows, cols): (usize, usize),
+    order: Order,
+    value: u32,
+    granted: u64,
+) {
+    let size = if rows == 0 || cols == 0 {
+        (0, 0)
+    } else {
+        (rows, cols)
+    };
+    assert!(rt; is_due(&made, size.0.wrapping_mul(size.1), granted));
+    assert!(rt; has_count(&made, size, order, (value, 0)));
+}
+
+fn check_new(
     rt: &impl Abort,
     alloc: Global,
     (rows, cols): (usize, usize),
     order: Order,
     granted: u64,
-) -> Result<(), Fail> {
+) {
     let heap = Fuse::new(alloc, granted);
-    let zeros = even_table(alloc, rows, cols, 0)?;
     let made = Grid::new_with_order(&heap, rows, cols, order);
-    check_answer(rt, alloc, made, &zeros, order, granted)?;
+    assert_even(rt, made, (rows, cols), order, 0, granted);
     heap.grant(granted);
     let made = Grid::new(&heap, rows, cols);
-    check_answer(rt, alloc, made, &zeros, Order::RowMajor, granted)?;
-    heap.grant(granted);
-    let sevens = even_table(alloc, rows, cols, 7)?;
+    assert_even(rt, made, (rows, cols), Order::RowMajor, 0, granted);
+}
+
+fn check_init(
+    rt: &impl Abort,
+    alloc: Global,
+    (rows, cols): (usize, usize),
+    order: Order,
+    granted: u64,
+) {
+    let heap = Fuse::new(alloc, granted);
     let made = Grid::init_with_order(&heap, rows, cols, order, 7u32);
-    check_answer(rt, alloc, made, &sevens, order, granted)?;
+    assert_even(rt, made, (rows, cols), order, 7, granted);
     heap.grant(granted);
     let made = Grid::init(&heap, rows, cols, 7u32);
-    check_answer(rt, alloc, made, &sevens, Order::RowMajor, granted)
+    assert_even(rt, made, (rows, cols), Order::RowMajor, 7, granted);
+}
+
+// Room for a size is one request, and an empty grid.
+fn assert_room(
+    rt: &impl Abort,
+    made: Result<Grid<u32, &Heap>, GridError>,
+    (rows, cols): (usize, usize),
+    order: Order,
+    granted: u64,
+) {
+    assert!(rt; is_due(&made, rows.wrapping_mul(cols), granted));
+    assert!(rt; has_count(&made, (0, 0), order, (0, 0)));
 }
 
 fn check_room(
     rt: &impl Abort,
     alloc: Global,
-    made: Result<Grid<u32, &Heap>, GridError>,
     (rows, cols): (usize, usize),
     order: Order,
     granted: u64,
-) -> Result<(), Fail> {
-    let some = rows != 0 && cols != 0;
-    match made {
-        Ok(grid) => {
-            assert!(rt; !some || granted != 0);
-            assert_shows(rt, alloc, &grid, &Vec::new(alloc), order)
-        }
-        Err(refused) => {
-            assert_eq!(rt; refused, GridError::Memory);
-            assert!(rt; some && granted == 0);
-            Ok(())
-        }
-    }
+) {
+    let heap = Fuse::new(alloc, granted);
+    let made = Grid::with_capacity(&heap, rows, cols);
+    assert_room(rt, made, (rows, cols), Order::RowMajor, granted);
+    heap.grant(granted);
+    let made = Grid::with_capacity_and_order(&heap, rows, cols, order);
+    assert_room(rt, made, (rows, cols), order, granted);
 }
 
 #[test]
 fn makes_grids_of_a_size(rt: HostRuntime) -> Result<(), Fail> {
-    let alloc = rt.alloc();
     for rows in 0..4usize {
         for cols in 0..4usize {
             for granted in 0..2u64 {
-                let size = (rows, cols);
-                let heap = Fuse::new(alloc, granted);
-                let room = Grid::with_capacity(&heap, rows, cols);
-                check_room(&rt, alloc, room, size, Order::RowMajor, granted)?;
                 for order in ORDERS {
-                    check_made(&rt, alloc, size, order, granted)?;
-                    heap.grant(granted);
-                    let room = Grid::with_capacity_and_order(&heap, rows, cols, order);
-                    check_room(&rt, alloc, room, size, order, granted)?;
+                    check_new(&rt, rt.alloc(), (rows, cols), order, granted);
+                    check_init(&rt, rt.alloc(), (rows, cols), order, granted);
+                    check_room(&rt, rt.alloc(), (rows, cols), order, granted);
                 }
             }
         }
@@ -117,143 +123,175 @@ fn makes_grids_of_a_size(rt: HostRuntime) -> Result<(), Fail> {
     Ok(())
 }
 
+fn is_too_large(made: Result<Grid<u32, &Heap>, GridError>) -> bool {
+    match made {
+        Ok(_) => false,
+        Err(refused) => refused == GridError::TooLarge,
+    }
+}
+
 // A size past the limit is found before memory is asked for.
 #[test]
 fn refuses_sizes_with_no_memory(rt: HostRuntime) -> Result<(), Fail> {
     let heap = Fuse::new(rt.alloc(), 0);
     for (rows, cols) in [(usize::MAX, 2), (2, usize::MAX), (4294967296, 4294967296)] {
-        let large = Some(GridError::TooLarge);
-        assert_eq!(rt; Grid::<u32, &Heap>::new(&heap, rows, cols).err(), large);
-        assert_eq!(rt; Grid::init(&heap, rows, cols, 1u32).err(), large);
-        let room = Grid::<u32, &Heap>::with_capacity(&heap, rows, cols);
-        assert_eq!(rt; room.err(), large);
+        assert!(rt; is_too_large(Grid::new(&heap, rows, cols)));
+        assert!(rt; is_too_large(Grid::init(&heap, rows, cols, 1u32)));
+        assert!(rt; is_too_large(Grid::with_capacity(&heap, rows, cols)));
     }
     let whole = Grid::<u32, &Heap>::new(&heap, usize::MAX, 1);
     assert_eq!(rt; whole.err(), Some(GridError::Memory));
     Ok(())
 }
 
+const SLOTS: [[Option<u32>; 3]; 2] = [[Some(1), Some(2), Some(3)], [Some(4), Some(5), Some(6)]];
+
 // A refusal leaves all slots as they were, and they serve a second time.
+fn check_slots(
+    rt: &impl Abort,
+    alloc: Global,
+    table: &Vec<Vec<u32>>,
+    order: Order,
+) -> Result<(), Fail> {
+    let heap = Fuse::new(alloc, 0);
+    let mut slots = SLOTS;
+    let refused = Grid::from_arrays(&heap, order, &mut slots).err();
+    assert!(rt; refused == Some(GridError::Memory) && slots == SLOTS);
+    heap.grant(1);
+    match Grid::from_arrays(&heap, order, &mut slots) {
+        Ok(grid) => assert_shows(rt, &grid, table, order),
+        Err(_) => panic!(rt; "one request is granted"),
+    }
+    assert!(rt; slots == [[None; 3]; 2] && heap.left() == 0);
+    Ok(())
+}
+
 #[test]
 fn takes_cells_of_arrays(rt: HostRuntime) -> Result<(), Fail> {
-    let alloc = rt.alloc();
-    let table = numbered(alloc, 2, 3)?;
+    let table = numbered(rt.alloc(), 2, 3)?;
     for order in ORDERS {
-        let heap = Fuse::new(alloc, 0);
-        let mut slots = [[Some(1u32), Some(2), Some(3)], [Some(4), Some(5), Some(6)]];
-        let refused = Grid::from_arrays(&heap, order, &mut slots).err();
-        assert_eq!(rt; refused, Some(GridError::Memory));
-        let full = [[Some(1u32), Some(2), Some(3)], [Some(4), Some(5), Some(6)]];
-        assert_eq!(rt; slots, full);
-        let mut slots = full;
-        heap.grant(1);
-        match Grid::from_arrays(&heap, order, &mut slots) {
-            Ok(grid) => assert_shows(&rt, alloc, &grid, &table, order)?,
-            Err(_) => panic!(rt; "one request is granted"),
-        }
-        assert_eq!(rt; slots, [[None; 3]; 2]);
-        assert_eq!(rt; heap.left(), 0);
+        check_slots(&rt, rt.alloc(), &table, order)?;
     }
     Ok(())
 }
 
 #[test]
 fn takes_no_cells_of_arrays(rt: HostRuntime) -> Result<(), Fail> {
-    let alloc = rt.alloc();
-    let heap = Fuse::new(alloc, 0);
-    let empty = Vec::new(alloc);
+    let heap = Fuse::new(rt.alloc(), 0);
     for order in ORDERS {
         let mut no_rows: [[Option<u32>; 3]; 0] = [];
-        let made = Grid::from_arrays(&heap, order, &mut no_rows);
-        check_answer(&rt, alloc, made, &empty, order, 0)?;
+        assert_even(
+            &rt,
+            Grid::from_arrays(&heap, order, &mut no_rows),
+            (0, 3),
+            order,
+            0,
+            0,
+        );
         let mut no_cols: [[Option<u32>; 0]; 2] = [[], []];
-        let made = Grid::from_arrays(&heap, order, &mut no_cols);
-        check_answer(&rt, alloc, made, &empty, order, 0)?;
+        assert_even(
+            &rt,
+            Grid::from_arrays(&heap, order, &mut no_cols),
+            (2, 0),
+            order,
+            0,
+            0,
+        );
     }
-    let made = grid!(&heap;);
-    check_answer(&rt, alloc, made, &empty, Order::RowMajor, 0)?;
-    let made = grid_cm!(&heap; [] []);
-    check_answer(&rt, alloc, made, &empty, Order::ColumnMajor, 0)?;
+    assert_even(&rt, grid!(&heap;), (0, 0), Order::RowMajor, 0, 0);
+    assert_even(
+        &rt,
+        grid_cm!(&heap; [] []),
+        (2, 0),
+        Order::ColumnMajor,
+        0,
+        0,
+    );
     Ok(())
+}
+
+// What writes the table 1, 2 and 3, 4 out.
+fn assert_written(
+    rt: &impl Abort,
+    made: Result<Grid<u32, &Heap>, GridError>,
+    table: &Vec<Vec<u32>>,
+    order: Order,
+    granted: u64,
+) {
+    assert!(rt; is_due(&made, 4, granted));
+    if let Ok(grid) = made {
+        assert_shows(rt, &grid, table, order);
+    }
 }
 
 #[test]
 fn writes_grids_out(rt: HostRuntime) -> Result<(), Fail> {
-    let alloc = rt.alloc();
-    let table = numbered(alloc, 2, 2)?;
+    let table = numbered(rt.alloc(), 2, 2)?;
     for granted in 0..2u64 {
-        let heap = Fuse::new(alloc, granted);
+        let heap = Fuse::new(rt.alloc(), granted);
         let made = grid!(&heap; [1u32, 2] [3, 4]);
-        check_answer(&rt, alloc, made, &table, Order::RowMajor, granted)?;
+        assert_written(&rt, made, &table, Order::RowMajor, granted);
         heap.grant(granted);
         let made = grid_cm!(&heap; [1u32, 2] [3, 4]);
-        check_answer(&rt, alloc, made, &table, Order::ColumnMajor, granted)?;
+        assert_written(&rt, made, &table, Order::ColumnMajor, granted);
     }
     Ok(())
 }
 
-// What a cut answers, where memory is enough or not.
-fn check_cut(
-    rt: &impl Abort,
-    alloc: Global,
+// The size of a grid that was cut from so many cells in rows of `cols`, if they fit.
+fn cut_size(len: usize, cols: usize) -> Option<(usize, usize)> {
+    if len == 0 {
+        Some((0, 0))
+    } else if cols != 0 && len % cols == 0 {
+        Some((len / cols, cols))
+    } else {
+        None
+    }
+}
+
+// Whether a cut answers what it should, where memory is enough or not.
+fn is_cut(
     made: Result<Grid<u32, &Heap>, ShapeError>,
     (len, cols): (usize, usize),
     enough: bool,
-) -> Result<(), Fail> {
-    let fits = len == 0 || cols != 0 && len % cols == 0;
-    match made {
-        Ok(grid) => {
-            assert!(rt; fits && enough);
-            assert_eq!(rt; grid.order(), Order::RowMajor);
-            if len == 0 {
-                assert_eq!(rt; grid.size(), (0, 0));
-            } else {
-                assert_eq!(rt; grid.size(), (len.checked_div(cols).unwrap_or(0), cols));
-            }
-            assert_eq!(rt; grid.flatten(), line_from(alloc, 1, len)?.as_slice());
-            Ok(())
+) -> bool {
+    match (made, cut_size(len, cols)) {
+        (Ok(grid), Some(size)) => {
+            let same = grid.size() == size && grid.order() == Order::RowMajor;
+            enough && same && is_count(grid.flatten(), len, 1, 1)
         }
-        Err(ShapeError::Memory) => {
-            assert!(rt; fits && !enough);
-            Ok(())
-        }
-        Err(refused) => {
-            assert!(rt; !fits);
-            assert_eq!(rt; refused, ShapeError::Shape { len, cols });
-            Ok(())
-        }
+        (Err(ShapeError::Memory), Some(_)) => !enough,
+        (Err(refused), None) => refused == ShapeError::Shape { len, cols },
+        _ => false,
     }
+}
+
+fn check_cuts(
+    rt: &impl Abort,
+    heap: &Heap,
+    (len, cols): (usize, usize),
+    granted: u64,
+) -> Result<(), Fail> {
+    heap.grant(u64::MAX);
+    let cells = line_from(heap, 1, len)?;
+    let enough = len == 0 || granted != 0;
+    heap.grant(granted);
+    assert!(rt; is_cut(Grid::try_from((&cells, cols)), (len, cols), enough));
+    heap.grant(granted);
+    assert!(rt; is_cut(Grid::try_from((&cells, &cols)), (len, cols), enough));
+    heap.grant(granted);
+    let cut = is_cut(Grid::try_from((cells, cols)), (len, cols), true);
+    assert!(rt; cut && heap.left() == granted);
+    Ok(())
 }
 
 #[test]
 fn cuts_vectors(rt: HostRuntime) -> Result<(), Fail> {
-    let alloc = rt.alloc();
-    let heap = Fuse::new(alloc, 0);
+    let heap = Fuse::new(rt.alloc(), 0);
     for len in 0..8usize {
         for cols in 0..5usize {
             for granted in 0..2u64 {
-                heap.grant(u64::MAX);
-                let cells = line_from(&heap, 1, len)?;
-                let enough = len == 0 || granted != 0;
-                heap.grant(granted);
-                check_cut(
-                    &rt,
-                    alloc,
-                    Grid::try_from((&cells, cols)),
-                    (len, cols),
-                    enough,
-                )?;
-                heap.grant(granted);
-                check_cut(
-                    &rt,
-                    alloc,
-                    Grid::try_from((&cells, &cols)),
-                    (len, cols),
-                    enough,
-                )?;
-                heap.grant(granted);
-                check_cut(&rt, alloc, Grid::try_from((cells, cols)), (len, cols), true)?;
-                assert_eq!(rt; heap.left(), granted);
+                check_cuts(&rt, &heap, (len, cols), granted)?;
             }
         }
     }
@@ -287,52 +325,67 @@ fn first_ragged(lens: &[usize]) -> Option<ShapeError> {
     None
 }
 
-// What a conversion of these rows answers that takes one request, after it has tested their lengths.
-fn check_rows(
+// Whether a grid has rows of these lengths with the cells 1, 2, 3, .. in each, or no cell where they have none.
+fn has_rows(grid: &Grid<u32, &Heap>, lens: &[usize]) -> bool {
+    let cols = lens.first().copied().unwrap_or(0);
+    let size = if cols == 0 {
+        (0, 0)
+    } else {
+        (lens.len(), cols)
+    };
+    if grid.size() != size || grid.order() != Order::RowMajor {
+        return false;
+    }
+    let mut left = grid.flatten();
+    for _ in 0..size.0 {
+        let (row, rest) = left.split_at(cols.min(left.len()));
+        if !is_count(row, cols, 1, 1) {
+            return false;
+        }
+        left = rest;
+    }
+    left.is_empty()
+}
+
+// Whether a conversion of rows of these lengths, which takes one request after it has tested them, answers what it
+// should.
+fn is_joined(made: Result<Grid<u32, &Heap>, ShapeError>, lens: &[usize], granted: u64) -> bool {
+    let none = lens.first().copied().unwrap_or(0) == 0;
+    match (first_ragged(lens), made) {
+        (Some(fault), Err(refused)) => refused == fault,
+        (None, Ok(grid)) => (none || granted != 0) && has_rows(&grid, lens),
+        (None, Err(refused)) => refused == ShapeError::Memory && !none && granted == 0,
+        (Some(_), Ok(_)) => false,
+    }
+}
+
+// Rows that are lent to a vector.
+fn check_lent(
     rt: &impl Abort,
-    alloc: Global,
-    made: Result<Grid<u32, &Heap>, ShapeError>,
+    heap: &Heap,
+    rows: &[Vec<u32, &Heap>],
     lens: &[usize],
     granted: u64,
 ) -> Result<(), Fail> {
-    let none = lens.first().copied().unwrap_or(0) == 0;
-    match (first_ragged(lens), made) {
-        (Some(fault), Err(refused)) => {
-            assert_eq!(rt; refused, fault);
-            Ok(())
-        }
-        (Some(_), Ok(_)) => panic!(rt; "the rows are ragged"),
-        (None, Ok(grid)) => {
-            assert!(rt; none || granted != 0);
-            let want = if none {
-                Vec::new(alloc)
-            } else {
-                rows_in(&alloc, lens)?
-            };
-            assert_shows(rt, alloc, &grid, &want, Order::RowMajor)
-        }
-        (None, Err(refused)) => {
-            assert_eq!(rt; refused, ShapeError::Memory);
-            assert!(rt; !none && granted == 0);
-            Ok(())
-        }
+    heap.grant(u64::MAX);
+    let mut lent = Vec::new(heap);
+    for row in rows {
+        lent.push(row)?;
     }
+    heap.grant(granted);
+    assert!(rt; is_joined(Grid::try_from(&lent), lens, granted));
+    Ok(())
 }
 
 fn check_joined(rt: &impl Abort, alloc: Global, lens: &[usize], granted: u64) -> Result<(), Fail> {
     let heap = Fuse::new(alloc, u64::MAX);
     let rows = rows_in(&&heap, lens)?;
-    let mut lent = Vec::new(&heap);
-    for row in &rows {
-        lent.push(row)?;
-    }
+    check_lent(rt, &heap, rows.as_slice(), lens, granted)?;
     heap.grant(granted);
-    check_rows(rt, alloc, Grid::try_from(&rows), lens, granted)?;
+    assert!(rt; is_joined(Grid::try_from(&rows), lens, granted));
     heap.grant(granted);
-    check_rows(rt, alloc, Grid::try_from(&lent), lens, granted)?;
-    drop(lent);
-    heap.grant(granted);
-    check_rows(rt, alloc, Grid::try_from(rows), lens, granted)
+    assert!(rt; is_joined(Grid::try_from(rows), lens, granted));
+    Ok(())
 }
 
 #[test]
@@ -363,94 +416,116 @@ fn long_row(alloc: Global) -> Result<Vec<()>, AllocError> {
     Ok(cells)
 }
 
+fn are_too_many(made: Result<Grid<()>, ShapeError>) -> bool {
+    match made {
+        Ok(_) => false,
+        Err(refused) => refused == ShapeError::TooLarge,
+    }
+}
+
 // Cells of no size can pass the limit: here four rows of 2^62. To drop them takes no time as LLVM builds the test.
 #[test]
-fn refuses_rows_of_too_many_cells(rt: HostRuntime) -> Result<(), Fail> {
-    let alloc = rt.alloc();
-    let large = Some(ShapeError::TooLarge);
-    let row = long_row(alloc)?;
+fn refuses_lent_rows_of_too_many_cells(rt: HostRuntime) -> Result<(), Fail> {
+    let row = long_row(rt.alloc())?;
     assert_eq!(rt; row.len(), 4611686018427387904);
-    let lent = vec![in alloc; &row, &row, &row, &row]?;
-    assert_eq!(rt; Grid::try_from(&lent).err(), large);
-    drop(lent);
-    let rows = vec![in alloc; row, long_row(alloc)?, long_row(alloc)?, long_row(alloc)?]?;
-    assert_eq!(rt; Grid::try_from(&rows).err(), large);
-    assert_eq!(rt; Grid::try_from(rows).err(), large);
+    let lent = vec![in rt.alloc(); &row, &row, &row, &row]?;
+    assert!(rt; are_too_many(Grid::try_from(&lent)));
     Ok(())
 }
 
-// [[1, 2], [3, 4]] as rows, of which so many clones are granted.
+#[test]
+fn refuses_rows_of_too_many_cells(rt: HostRuntime) -> Result<(), Fail> {
+    let mut rows = Vec::new(rt.alloc());
+    for _ in 0..4usize {
+        rows.push(long_row(rt.alloc())?)?;
+    }
+    assert!(rt; are_too_many(Grid::try_from(&rows)));
+    assert!(rt; are_too_many(Grid::try_from(rows)));
+    Ok(())
+}
+
+// A row of so many cells from a value on, whose clones are granted.
+fn fragile_row<'a>(
+    alloc: Global,
+    granted: &'a Cell<u64>,
+    first: u32,
+    len: u32,
+) -> Result<Vec<Fragile<'a>>, AllocError> {
+    let mut row = Vec::new(alloc);
+    for number in 0..len {
+        row.push(Fragile {
+            value: first.wrapping_add(number),
+            granted: Some(granted),
+        })?;
+    }
+    Ok(row)
+}
+
+// The rows 1, 2 and 3, 4, of which so many clones are granted.
 fn fragile_rows<'a>(
     alloc: Global,
     granted: &'a Cell<u64>,
 ) -> Result<Vec<Vec<Fragile<'a>>>, AllocError> {
     let mut rows = Vec::new(alloc);
-    for first in [1u32, 3] {
-        let mut row = Vec::new(alloc);
-        for value in [first, first + 1] {
-            row.push(Fragile {
-                value,
-                granted: Some(granted),
-            })?;
-        }
-        rows.push(row)?;
-    }
+    rows.push(fragile_row(alloc, granted, 1, 2)?)?;
+    rows.push(fragile_row(alloc, granted, 3, 2)?)?;
     Ok(rows)
 }
 
-// A maker that clones four cells answers that memory was refused until all four clones are granted.
-fn check_clones(rt: &impl Abort, made: Result<Grid<Fragile>, ShapeError>, granted: u64) {
+// Whether a maker that clones four cells answers that memory was refused until all four clones are granted.
+fn is_cloned(made: Result<Grid<Fragile>, ShapeError>, granted: u64) -> bool {
     match made {
-        Ok(grid) => {
-            assert_eq!(rt; granted, 4);
-            assert_eq!(rt; grid.size(), (2, 2));
-            assert_eq!(rt; value_at(&grid, 0, 1), Some(2));
-            assert_eq!(rt; value_at(&grid, 1, 0), Some(3));
-        }
-        Err(refused) => {
-            assert_eq!(rt; refused, ShapeError::Memory);
-            assert!(rt; granted < 4);
-        }
+        Ok(grid) => granted == 4 && has_values(&grid, Order::RowMajor, &[1, 2, 3, 4]),
+        Err(refused) => granted < 4 && refused == ShapeError::Memory,
     }
+}
+
+fn check_clones_of_lent_rows<'a>(
+    rt: &impl Abort,
+    alloc: Global,
+    rows: &[Vec<Fragile<'a>>],
+    granted: u64,
+) -> Result<(), Fail> {
+    let mut lent = Vec::new(alloc);
+    for row in rows {
+        lent.push(row)?;
+    }
+    assert!(rt; is_cloned(Grid::try_from(&lent), granted));
+    Ok(())
 }
 
 #[test]
 fn refuses_clones_of_rows_in_turn(rt: HostRuntime) -> Result<(), Fail> {
-    let alloc = rt.alloc();
     for granted in 0..5u64 {
         let left = Cell::new(granted);
-        let rows = fragile_rows(alloc, &left)?;
-        check_clones(&rt, Grid::try_from(&rows), granted);
+        let rows = fragile_rows(rt.alloc(), &left)?;
+        assert!(rt; is_cloned(Grid::try_from(&rows), granted));
         left.set(granted);
-        let mut lent = Vec::new(alloc);
-        for row in &rows {
-            lent.push(row)?;
-        }
-        check_clones(&rt, Grid::try_from(&lent), granted);
+        check_clones_of_lent_rows(&rt, rt.alloc(), rows.as_slice(), granted)?;
     }
     Ok(())
 }
 
 #[test]
 fn refuses_clones_of_cells_in_turn(rt: HostRuntime) -> Result<(), Fail> {
-    let alloc = rt.alloc();
     for granted in 0..5u64 {
         let left = Cell::new(granted);
-        let mut cells = Vec::new(alloc);
-        for value in 1..5u32 {
-            cells.push(Fragile {
-                value,
-                granted: Some(&left),
-            })?;
-        }
-        check_clones(&rt, Grid::try_from((&cells, 2)), granted);
+        let cells = fragile_row(rt.alloc(), &left, 1, 4)?;
+        assert!(rt; is_cloned(Grid::try_from((&cells, 2)), granted));
         left.set(granted);
-        check_clones(&rt, Grid::try_from((&cells, &2)), granted);
+        assert!(rt; is_cloned(Grid::try_from((&cells, &2)), granted));
     }
     Ok(())
 }
 
-// A value that is cloned into each cell but the last, which it becomes.
+// Whether four cells are made of a value that is cloned into each but the last, which it becomes.
+fn is_init(made: Result<Grid<Fragile>, GridError>, order: Order, granted: u64) -> bool {
+    match made {
+        Ok(grid) => 3 <= granted && has_values(&grid, order, &[7, 7, 7, 7]),
+        Err(refused) => granted < 3 && refused == GridError::Memory,
+    }
+}
+
 #[test]
 fn refuses_clones_of_a_value_in_turn(rt: HostRuntime) -> Result<(), Fail> {
     for order in ORDERS {
@@ -460,16 +535,8 @@ fn refuses_clones_of_a_value_in_turn(rt: HostRuntime) -> Result<(), Fail> {
                 value: 7,
                 granted: Some(&left),
             };
-            match Grid::init_with_order(rt.alloc(), 2, 2, order, value) {
-                Ok(grid) => {
-                    assert!(rt; 3 <= granted);
-                    assert_eq!(rt; value_at(&grid, 1, 1), Some(7));
-                }
-                Err(refused) => {
-                    assert_eq!(rt; refused, GridError::Memory);
-                    assert!(rt; granted < 3);
-                }
-            }
+            let made = Grid::init_with_order(rt.alloc(), 2, 2, order, value);
+            assert!(rt; is_init(made, order, granted));
         }
     }
     Ok(())

@@ -29,10 +29,11 @@ fn check_apply(
     order: Order,
     symmetry: Symmetry,
 ) -> Result<(), Fail> {
+    let image = plain::act(alloc, symmetry, table)?;
     let mut grid = grid_of(alloc, table, order)?;
     grid.apply(symmetry);
-    let image = plain::act(alloc, symmetry, table)?;
-    assert_shows(rt, alloc, &grid, &image, order_after(symmetry, order))
+    assert_shows(rt, &grid, &image, order_after(symmetry, order));
+    Ok(())
 }
 
 #[test]
@@ -48,6 +49,22 @@ fn applies_each_symmetry(rt: HostRuntime) -> Result<(), Fail> {
     Ok(())
 }
 
+// The image of a table under a word of moves, and the order of a grid of it.
+fn image_of(
+    alloc: Global,
+    table: &Vec<Vec<u32>>,
+    order: Order,
+    word: &[Move],
+) -> Result<(Vec<Vec<u32>>, Order), AllocError> {
+    let mut image = plain::act(alloc, Symmetry::Identity, table)?;
+    let mut order = order;
+    for step in word {
+        image = plain::act(alloc, symmetry_of(*step), &image)?;
+        order = order_after(symmetry_of(*step), order);
+    }
+    Ok((image, order))
+}
+
 // A word of moves does the same by its calls in turn, by its normal form, and in the plain program.
 fn check_word(
     rt: &impl Abort,
@@ -56,18 +73,17 @@ fn check_word(
     order: Order,
     word: &[Move],
 ) -> Result<(), Fail> {
+    let (image, new_order) = image_of(alloc, table, order, word)?;
     let mut stepped = grid_of(alloc, table, order)?;
-    let mut image = plain::act(alloc, Symmetry::Identity, table)?;
-    let mut order_now = order;
     for step in word {
         call(&mut stepped, *step);
-        image = plain::act(alloc, symmetry_of(*step), &image)?;
-        order_now = order_after(symmetry_of(*step), order_now);
     }
-    assert_shows(rt, alloc, &stepped, &image, order_now)?;
+    assert_shows(rt, &stepped, &image, new_order);
+    drop(stepped);
     let mut applied = grid_of(alloc, table, order)?;
     applied.apply(reduce(word));
-    assert_shows(rt, alloc, &applied, &image, order_now)
+    assert_shows(rt, &applied, &image, new_order);
+    Ok(())
 }
 
 fn check_word_everywhere(rt: &impl Abort, alloc: Global, word: &[Move]) -> Result<(), Fail> {
@@ -104,17 +120,35 @@ fn does_words_of_three_moves(rt: HostRuntime) -> Result<(), Fail> {
     Ok(())
 }
 
+// Whether a symmetry is undone by its inverse.
+fn is_undone(alloc: Global, table: &Vec<Vec<u32>>, symmetry: Symmetry) -> Result<bool, AllocError> {
+    let image = plain::act(alloc, symmetry, table)?;
+    let undone = plain::act(alloc, symmetry.inverse(), &image)?;
+    Ok(undone == *table)
+}
+
+// Whether two symmetries one after the other are what they are joined to.
+fn is_joined(
+    alloc: Global,
+    table: &Vec<Vec<u32>>,
+    first: Symmetry,
+    second: Symmetry,
+) -> Result<bool, AllocError> {
+    let image = plain::act(alloc, first, table)?;
+    let one_by_one = plain::act(alloc, second, &image)?;
+    let at_once = plain::act(alloc, first.then(second), table)?;
+    Ok(one_by_one == at_once)
+}
+
 #[test]
 fn joins_each_pair(rt: HostRuntime) -> Result<(), Fail> {
     let alloc = rt.alloc();
     let table = numbered(alloc, 2, 3)?;
     for first in SYMMETRIES {
-        let image = plain::act(alloc, first, &table)?;
-        assert!(rt; plain::act(alloc, first.inverse(), &image)? == table);
+        assert!(rt; is_undone(alloc, &table, first)?);
         for second in SYMMETRIES {
-            let one_by_one = plain::act(alloc, second, &image)?;
-            let at_once = plain::act(alloc, first.then(second), &table)?;
-            assert!(rt; one_by_one == at_once, "{first:?} and then {second:?}");
+            let joined = is_joined(alloc, &table, first, second)?;
+            assert!(rt; joined, "{first:?} and then {second:?}");
         }
     }
     Ok(())
@@ -127,15 +161,16 @@ fn check_laws(
     table: &Vec<Vec<u32>>,
     order: Order,
 ) -> Result<(), Fail> {
-    let mut grid = rebuilt(grid_of(alloc, table, order)?);
-    assert_shows(rt, alloc, &grid, table, order)?;
-    rotate_right_then_left(&mut grid);
-    assert_shows(rt, alloc, &grid, table, order)?;
-    rotate_left_four_times(&mut grid);
-    assert_shows(rt, alloc, &grid, table, order)?;
-    flip_rows_then_cols(&mut grid);
     let image = plain::act(alloc, Symmetry::RotateHalf, table)?;
-    assert_shows(rt, alloc, &grid, &image, order)
+    let mut grid = rebuilt(grid_of(alloc, table, order)?);
+    assert_shows(rt, &grid, table, order);
+    rotate_right_then_left(&mut grid);
+    assert_shows(rt, &grid, table, order);
+    rotate_left_four_times(&mut grid);
+    assert_shows(rt, &grid, table, order);
+    flip_rows_then_cols(&mut grid);
+    assert_shows(rt, &grid, &image, order);
+    Ok(())
 }
 
 #[test]

@@ -14,7 +14,7 @@ pub fn assert_shows<A: Allocator>(
     table: &Vec<Vec<u32>>,
     order: Order,
 ) -> Result<(), Fail> {
-    let met = shows(alloc, grid, table, order)?;
+    let met = shows(grid, table, order);
     assert!(rt; met, "{:?} is not {table:?} in {order:?}", grid.flatten());
     Ok(())
 }

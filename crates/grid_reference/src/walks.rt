@@ -1,0 +1,274 @@
+//! Whether a walk hands out what it should. Each goes through a walk to its end, and compares each step.
+use crate::plain;
+use grid::{Grid, GridColIter, GridLineIter, GridRowIter, IndexedIntoIter, IndexedIter};
+use std::alloc::{AllocError, Allocator};
+use std::{slice, vec};
+
+// A walk over all cells hands out these. It and a clone of it say at each step how many are left, and which is next.
+pub fn reads(mut walk: slice::Iter<'_, u32>, want: &[u32]) -> Result<bool, AllocError> {
+    let mut left = want.len();
+    for cell in want {
+        let mut copy = walk.clone()?;
+        let counted = walk.len() == left && walk.size_hint() == (left, Some(left));
+        if !counted || copy.next() != Some(cell) || walk.next() != Some(cell) {
+            return Ok(false);
+        }
+        left = left.wrapping_sub(1);
+    }
+    Ok(walk.len() == 0 && walk.next().is_none() && walk.next_back().is_none())
+}
+
+// A walk over all cells hands out these, the last one first.
+pub fn reads_back(mut walk: slice::Iter<'_, u32>, want: &[u32]) -> bool {
+    for cell in want.iter().rev() {
+        if walk.next_back() != Some(cell) {
+            return false;
+        }
+    }
+    walk.next().is_none() && walk.next_back().is_none()
+}
+
+// A walk by value hands out these.
+pub fn gives<A: Allocator>(mut walk: vec::IntoIter<u32, A>, want: &[u32]) -> bool {
+    for cell in want {
+        if walk.next() != Some(*cell) {
+            return false;
+        }
+    }
+    walk.next().is_none()
+}
+
+// A walk by value hands out these, the last one first.
+pub fn gives_back<A: Allocator>(mut walk: vec::IntoIter<u32, A>, want: &[u32]) -> bool {
+    for cell in want.iter().rev() {
+        if walk.next_back() != Some(*cell) {
+            return false;
+        }
+    }
+    walk.next_back().is_none()
+}
+
+// Whether a walk handed out the cell of a table at this place.
+fn is_at((at, cell): ((usize, usize), u32), place: (usize, usize), table: &Vec<Vec<u32>>) -> bool {
+    at == place && plain::get(table, at.0, at.1) == Some(cell)
+}
+
+// A walk hands out the cells of a table at these places, and says at each step how many are left.
+pub fn reads_at(
+    mut walk: IndexedIter<'_, u32>,
+    places: &[(usize, usize)],
+    table: &Vec<Vec<u32>>,
+) -> bool {
+    let mut left = places.len();
+    for place in places {
+        let counted = walk.size_hint() == (left, Some(left));
+        match walk.next() {
+            Some((at, cell)) if counted && is_at((at, *cell), *place, table) => {}
+            _ => return false,
+        }
+        left = left.wrapping_sub(1);
+    }
+    walk.size_hint() == (0, Some(0)) && walk.next().is_none()
+}
+
+// So does a walk by value.
+pub fn gives_at<A: Allocator>(
+    mut walk: IndexedIntoIter<u32, A>,
+    places: &[(usize, usize)],
+    table: &Vec<Vec<u32>>,
+) -> bool {
+    let mut left = places.len();
+    for place in places {
+        let counted = walk.size_hint() == (left, Some(left));
+        match walk.next() {
+            Some((at, cell)) if counted && is_at((at, cell), *place, table) => {}
+            _ => return false,
+        }
+        left = left.wrapping_sub(1);
+    }
+    walk.size_hint() == (0, Some(0)) && walk.next().is_none()
+}
+
+// So does a walk for writing over a grid.
+pub fn lends_at<A: Allocator>(
+    grid: &mut Grid<u32, A>,
+    places: &[(usize, usize)],
+    table: &Vec<Vec<u32>>,
+) -> bool {
+    let mut walk = grid.indexed_iter_mut();
+    let mut left = places.len();
+    for place in places {
+        let counted = walk.size_hint() == (left, Some(left));
+        let item = match walk.next() {
+            Some((at, cell)) => (at, *cell),
+            None => return false,
+        };
+        if !counted || !is_at(item, *place, table) {
+            return false;
+        }
+        left = left.wrapping_sub(1);
+    }
+    walk.size_hint() == (0, Some(0)) && walk.next().is_none()
+}
+
+// A line hands out these cells, the last one first.
+fn line_reads_back(mut line: GridLineIter<'_, u32>, want: &[u32]) -> bool {
+    for cell in want.iter().rev() {
+        if line.next_back() != Some(cell) {
+            return false;
+        }
+    }
+    line.next_back().is_none() && line.next().is_none()
+}
+
+// Whether a line says that so many cells are left, and the next is this one.
+fn line_stands_at(mut line: GridLineIter<'_, u32>, left: usize, cell: &u32) -> bool {
+    let counted = line.len() == left && line.size_hint() == (left, Some(left));
+    counted && line.next() == Some(cell)
+}
+
+// A line hands out these cells from the front and from the back. It and a clone of it say at each step how many are
+// left, and which is next.
+pub fn line_reads(mut line: GridLineIter<'_, u32>, want: &[u32]) -> Result<bool, AllocError> {
+    if !line_reads_back(line.clone()?, want) {
+        return Ok(false);
+    }
+    let mut left = want.len();
+    for cell in want {
+        let counted = line.len() == left && line.size_hint() == (left, Some(left));
+        if !counted || !line_stands_at(line.clone()?, left, cell) || line.next() != Some(cell) {
+            return Ok(false);
+        }
+        left = left.wrapping_sub(1);
+    }
+    Ok(line.len() == 0 && line.next().is_none())
+}
+
+// A line that was handed out is this one.
+fn is_line(
+    line: Option<GridLineIter<'_, u32>>,
+    want: Option<&Vec<u32>>,
+) -> Result<bool, AllocError> {
+    match (line, want) {
+        (Some(line), Some(want)) => line_reads(line, want.as_slice()),
+        _ => Ok(false),
+    }
+}
+
+// A walk over all rows or all columns.
+#[derive(Drop)]
+pub enum Lines<'a> {
+    Rows(GridRowIter<'a, u32>),
+    Cols(GridColIter<'a, u32>),
+}
+
+impl<'a> Lines<'a> {
+    fn copied(&self) -> Result<Lines<'a>, AllocError> {
+        match self {
+            Lines::Rows(rows) => Ok(Lines::Rows(rows.clone()?)),
+            Lines::Cols(cols) => Ok(Lines::Cols(cols.clone()?)),
+        }
+    }
+
+    // Whether the walk says that so many lines are left.
+    fn counts(&self, left: usize) -> bool {
+        match self {
+            Lines::Rows(rows) => rows.len() == left && rows.size_hint() == (left, Some(left)),
+            Lines::Cols(cols) => cols.len() == left && cols.size_hint() == (left, Some(left)),
+        }
+    }
+
+    fn next(&mut self) -> Option<GridLineIter<'a, u32>> {
+        match self {
+            Lines::Rows(rows) => rows.next(),
+            Lines::Cols(cols) => cols.next(),
+        }
+    }
+
+    fn next_back(&mut self) -> Option<GridLineIter<'a, u32>> {
+        match self {
+            Lines::Rows(rows) => rows.next_back(),
+            Lines::Cols(cols) => cols.next_back(),
+        }
+    }
+}
+
+// Whether a walk says that so many lines are left, and the next is this one.
+fn lines_stand_at(
+    mut lines: Lines<'_>,
+    left: usize,
+    want: Option<&Vec<u32>>,
+) -> Result<bool, AllocError> {
+    Ok(lines.counts(left) && is_line(lines.next(), want)?)
+}
+
+// A walk over lines hands out these, where bit i of the pattern says whether the i-th is taken from the front. It and a
+// clone of it say at each step how many are left, and the clone which is next.
+pub fn lines_read(
+    mut lines: Lines<'_>,
+    want: &[Vec<u32>],
+    pattern: u32,
+) -> Result<bool, AllocError> {
+    let mut front = 0usize;
+    let mut back = want.len();
+    let mut bits = pattern;
+    for _ in 0..want.len() {
+        let left = back.wrapping_sub(front);
+        if !lines.counts(left) || !lines_stand_at(lines.copied()?, left, want.get(front))? {
+            return Ok(false);
+        }
+        let (line, number) = if bits % 2 == 0 {
+            back = back.wrapping_sub(1);
+            (lines.next_back(), back)
+        } else {
+            front = front.wrapping_add(1);
+            (lines.next(), front.wrapping_sub(1))
+        };
+        bits /= 2;
+        if !is_line(line, want.get(number))? {
+            return Ok(false);
+        }
+    }
+    Ok(lines.counts(0) && lines.next().is_none() && lines.next_back().is_none())
+}
+
+// Writes along a row by a walk that says that it has so many cells. Each of the first `count` becomes three times what
+// it was, and one more.
+pub fn write_row<A: Allocator>(
+    grid: &mut Grid<u32, A>,
+    row: usize,
+    len: usize,
+    count: usize,
+) -> bool {
+    if row >= grid.rows() {
+        return false;
+    }
+    let line = grid.iter_row_mut(row);
+    let counted = line.size_hint() == (len, Some(len));
+    let mut written = 0usize;
+    for cell in line.take(count) {
+        *cell = cell.wrapping_mul(3).wrapping_add(1);
+        written = written.wrapping_add(1);
+    }
+    counted && written == count.min(len)
+}
+
+// The same along a column.
+pub fn write_col<A: Allocator>(
+    grid: &mut Grid<u32, A>,
+    col: usize,
+    len: usize,
+    count: usize,
+) -> bool {
+    if col >= grid.cols() {
+        return false;
+    }
+    let line = grid.iter_col_mut(col);
+    let counted = line.size_hint() == (len, Some(len));
+    let mut written = 0usize;
+    for cell in line.take(count) {
+        *cell = cell.wrapping_mul(3).wrapping_add(1);
+        written = written.wrapping_add(1);
+    }
+    counted && written == count.min(len)
+}
