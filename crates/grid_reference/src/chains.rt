@@ -203,13 +203,12 @@ pub fn lacking_in<A: Allocator + Clone>(grid: &Grid<u32, A>) -> Result<Grid<u32,
 
 /// Numbers the cells in storage order, from 1 on. The closure can't be called more than 255 times.
 pub fn number_cells<A: Allocator>(grid: &mut Grid<u8, A>)
-    requires { rows_of grid.old.rows * cols_of grid.old.rows < 2 ^ 8 }
+    requires { length (storage grid.old.order grid.old.rows) < 2 ^ 8 }
     ensures order { grid.new.order ≡ grid.old.order }
     ensures rows { rows_of grid.new.rows ≡ rows_of grid.old.rows }
     ensures cols { cols_of grid.new.rows ≡ cols_of grid.old.rows }
     ensures cells { storage grid.new.order grid.new.rows ≡ range_with_len 1 (rows_of grid.old.rows * cols_of grid.old.rows) }
 {
-    let _ = grid.size();
     let mut count = 0u8;
     grid.fill_with(
         ||

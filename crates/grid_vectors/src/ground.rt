@@ -26,15 +26,8 @@ fn reaches_places(rt: HostRuntime) -> Result<(), Fail> {
     let mut flat = Flat::from_vec(vec![in rt.alloc(); 1u32, 2, 3]?);
     assert_eq!(rt; flat.len(), 3);
     assert_eq!(rt; *flat.at(2), 3);
-    assert_eq!(rt; flat.get(0).copied(), Some(1));
-    assert_eq!(rt; flat.get(3).copied(), None);
-    assert_eq!(rt; flat.get(usize::MAX).copied(), None);
     *flat.at_mut(1) = 8;
-    if let Some(cell) = flat.get_mut(2) {
-        *cell = 9;
-    }
-    assert!(rt; flat.get_mut(3).is_none());
-    assert_eq!(rt; flat.as_slice(), [1, 8, 9].as_slice());
+    assert_eq!(rt; flat.as_slice(), [1, 8, 3].as_slice());
     flat.clear();
     assert_eq!(rt; flat.len(), 0);
     Ok(())

@@ -8,4 +8,6 @@ mod chains;
 #[cfg(test)]
 mod ground;
 #[cfg(test)]
+mod laws;
+#[cfg(test)]
 mod worked;

@@ -10,8 +10,7 @@ pub fill_with-requires : goal.fill_with-requires
 fill_with-requires g c = record {
   at = λ ys h fewer folds.
       let done = calls_after _ (λ f. f.0.now) (λ p y q s. search rules) _ h ys folds in
-      let cells = length-storage c.args.grid.now.order c.args.grid.now.rows c.size.ensures.table in
-      search (rules, done, fewer, cells, c.requires);
+      search (rules, done, fewer, c.requires);
 }
 
 pub returns-clause-cells : goal.returns-clause-cells
