@@ -55,13 +55,17 @@ impl<T, A: Allocator> Grid<T, A> {
     where
         T: Clone + Default + Drop,
         ensures rows { OnOk result (self.new.rows ≡ step_rows command self.old.rows) }
-        ensures reply { IfOk result (λ reply. ClonesAreEqual T.is_clone → plain reply ≡ step_reply command self.old.rows) }
-        ensures order { OnOk result (self.new.order ≡ order_after (command_symmetry command) self.old.order) }
-        ensures symmetry { OnOk result (tally.new.symmetry ≡ counted tally.old.symmetry (step_price command self.old.rows)) }
+        ensures reply { IfOk result
+            (λ reply. ClonesAreEqual T.is_clone → plain reply ≡ step_reply command self.old.rows) }
+        ensures order { OnOk result
+            (self.new.order ≡ order_after (command_symmetry command) self.old.order) }
+        ensures symmetry { OnOk result
+            (tally.new.symmetry ≡ counted tally.old.symmetry (step_price command self.old.rows)) }
         ensures shift { tally.new.shift ≡ tally.old.shift }
 
         // No command costs more swaps for symmetries than half of the cells.
-        ensures half { tally.new.symmetry ≤ tally.old.symmetry + half (rows_of self.old.rows) (cols_of self.old.rows) }
+        ensures half { tally.new.symmetry
+            ≤ tally.old.symmetry + half (rows_of self.old.rows) (cols_of self.old.rows) }
 
         // An error comes at a command that takes memory, and changes nothing.
         ensures err_grid { OnErr result (self.new ≡ self.old) }
@@ -100,8 +104,11 @@ pub fn run<T, A: Allocator>(
 ) -> Result<Vec<Reply<T>, A>, RunStopped<T, A>>
 where
     T: Clone + Default + Drop,
-    ensures ran { IfOk result (λ replies. Ran T.is_clone commands.items grid.old grid.new tally.old tally.new (map plain replies.items)) }
-    ensures stopped { IfErr result (λ stop. Ran T.is_clone (take stop.done commands.items) grid.old grid.new tally.old tally.new (map plain stop.replies.items)) }
+    ensures ran { IfOk result (λ replies. Ran T.is_clone commands.items grid.old grid.new tally.old
+        tally.new (map plain replies.items)) }
+    ensures stopped { IfErr result
+        (λ stop. Ran T.is_clone (take stop.done commands.items) grid.old grid.new tally.old
+        tally.new (map plain stop.replies.items)) }
     ensures stop { IfErr result (λ stop. MayStop commands.items stop.done grid.new.rows) }
 {
     let mut replies = Vec::new(alloc);

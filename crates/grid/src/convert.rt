@@ -23,7 +23,8 @@ fn can_cut(len: usize, cols: usize) -> bool
 impl<T: Drop, A: Allocator> TryFrom<(Vec<T, A>, usize)> for Grid<T, A> {
     type Error = ShapeError;
 
-    ghost try_from_gives = { λ pair r. CutAnswer ⊥ pair.0.items pair.1 (λ cells. cells ≡ pair.0.items) r };
+    ghost try_from_gives = { λ pair r. CutAnswer ⊥ pair.0.items pair.1
+        (λ cells. cells ≡ pair.0.items) r };
 
     fn try_from((cells, cols): (Vec<T, A>, usize)) -> Result<Grid<T, A>, ShapeError> {
         let len = cells.len();
@@ -40,7 +41,8 @@ fn cut_clones<T: Clone, A: Allocator + Clone>(
     cells: &Vec<T, A>,
     cols: usize,
 ) -> Result<Grid<T, A>, ShapeError>
-    ensures { CutAnswer (CanCut (length cells.now.items) cols) cells.now.items cols (AreClones T.is_clone cells.now.items) result }
+    ensures { CutAnswer (CanCut (length cells.now.items) cols) cells.now.items cols
+        (AreClones T.is_clone cells.now.items) result }
 {
     let len = cells.len();
     if can_cut(len, cols) {
@@ -59,7 +61,9 @@ fn cut_clones<T: Clone, A: Allocator + Clone>(
 impl<T: Clone, A: Allocator + Clone> TryFrom<(&Vec<T, A>, usize)> for Grid<T, A> {
     type Error = ShapeError;
 
-    ghost try_from_gives = { λ pair r. CutAnswer (CanCut (length pair.0.now.items) pair.1) pair.0.now.items pair.1 (AreClones T.is_clone pair.0.now.items) r };
+    ghost try_from_gives = { λ pair r. CutAnswer
+        (CanCut (length pair.0.now.items) pair.1) pair.0.now.items pair.1 (AreClones T.is_clone
+        pair.0.now.items) r };
 
     fn try_from(pair: (&Vec<T, A>, usize)) -> Result<Grid<T, A>, ShapeError> {
         cut_clones(pair.0, pair.1)
@@ -70,7 +74,9 @@ impl<T: Clone, A: Allocator + Clone> TryFrom<(&Vec<T, A>, usize)> for Grid<T, A>
 impl<T: Clone, A: Allocator + Clone> TryFrom<(&Vec<T, A>, &usize)> for Grid<T, A> {
     type Error = ShapeError;
 
-    ghost try_from_gives = { λ pair r. CutAnswer (CanCut (length pair.0.now.items) pair.1.now) pair.0.now.items pair.1.now (AreClones T.is_clone pair.0.now.items) r };
+    ghost try_from_gives = { λ pair r. CutAnswer
+        (CanCut (length pair.0.now.items) pair.1.now) pair.0.now.items pair.1.now (AreClones
+        T.is_clone pair.0.now.items) r };
 
     fn try_from(pair: (&Vec<T, A>, &usize)) -> Result<Grid<T, A>, ShapeError> {
         cut_clones(pair.0, *pair.1)
@@ -90,8 +96,10 @@ pub(crate) fn first_len<T, L: AsSlice<T>>(rows: &[L]) -> usize
 // How many cells rows of one length have together, and that length.
 fn measure<T, L: AsSlice<T>>(rows: &[L]) -> Result<(usize, usize), ShapeError>
     ensures { MatchResult result
-        (λ sizes. CanJoin (map L.items rows.now) × (sizes.0 ≡ length (joined (map L.items rows.now))) × (sizes.1 ≡ cols_of (map L.items rows.now)))
-        (λ e. RowsFault (map L.items rows.now) e × (e ≢ ShapeError.Memory)) }
+        (λ sizes. CanJoin (map L.items rows.now)
+        × (sizes.0 ≡ length (joined (map L.items rows.now))) × (sizes.1
+        ≡ cols_of (map L.items rows.now))) (λ e. RowsFault (map L.items rows.now) e
+        × (e ≢ ShapeError.Memory)) }
 {
     let cols = first_len(rows);
     for (number, row) in rows.iter().enumerate() {
@@ -118,7 +126,8 @@ fn measure<T, L: AsSlice<T>>(rows: &[L]) -> Result<(usize, usize), ShapeError>
 impl<T: Drop, A: Allocator + Clone> TryFrom<Vec<Vec<T, A>, A>> for Grid<T, A> {
     type Error = ShapeError;
 
-    ghost try_from_gives = { λ rows r. let lists = map (λ row. row.items) rows.items in RowsAnswer lists (λ t. t ≡ equal_rows lists) r };
+    ghost try_from_gives = { λ rows r. let lists = map
+        (λ row. row.items) rows.items in RowsAnswer lists (λ t. t ≡ equal_rows lists) r };
 
     fn try_from(rows: Vec<Vec<T, A>, A>) -> Result<Grid<T, A>, ShapeError> {
         let (count, cols) = measure(rows.as_slice())?;
@@ -135,7 +144,8 @@ fn join_clones<T: Clone, L: AsSlice<T>, A: Allocator + Clone>(
     alloc: &A,
     rows: &[L],
 ) -> Result<Grid<T, A>, ShapeError>
-    ensures { RowsAnswer (map L.items rows.now) (AreClonedRows T.is_clone (map L.items rows.now)) result }
+    ensures { RowsAnswer (map L.items rows.now)
+        (AreClonedRows T.is_clone (map L.items rows.now)) result }
 {
     let (count, cols) = measure(rows)?;
     let mut cells = Vec::with_capacity(alloc.clone()?, count)?;
@@ -154,7 +164,8 @@ fn join_clones<T: Clone, L: AsSlice<T>, A: Allocator + Clone>(
 impl<T: Clone, A: Allocator + Clone> TryFrom<&Vec<Vec<T, A>, A>> for Grid<T, A> {
     type Error = ShapeError;
 
-    ghost try_from_gives = { λ rows r. let lists = map (λ row. row.items) rows.now.items in RowsAnswer lists (AreClonedRows T.is_clone lists) r };
+    ghost try_from_gives = { λ rows r. let lists = map
+        (λ row. row.items) rows.now.items in RowsAnswer lists (AreClonedRows T.is_clone lists) r };
 
     fn try_from(rows: &Vec<Vec<T, A>, A>) -> Result<Grid<T, A>, ShapeError> {
         join_clones(rows.allocator(), rows.as_slice())
@@ -170,7 +181,9 @@ impl<T: Clone, A: Allocator + Clone> TryFrom<&Vec<Vec<T, A>, A>> for Grid<T, A> 
 impl<T: Clone, A: Allocator + Clone> TryFrom<&Vec<&Vec<T, A>, A>> for Grid<T, A> {
     type Error = ShapeError;
 
-    ghost try_from_gives = { λ rows r. let lists = map (λ row. row.now.items) rows.now.items in RowsAnswer lists (AreClonedRows T.is_clone lists) r };
+    ghost try_from_gives = { λ rows r. let lists = map
+        (λ row. row.now.items) rows.now.items in RowsAnswer lists (AreClonedRows T.is_clone
+        lists) r };
 
     fn try_from(rows: &Vec<&Vec<T, A>, A>) -> Result<Grid<T, A>, ShapeError> {
         join_clones(rows.allocator(), rows.as_slice())

@@ -28,7 +28,11 @@ impl<T, A: Allocator> Model for Grid<T, A> {
 
     ghost Value = { Sheet T };
 
-    ghost view = { λ g. record { rows = table_of g.order g.row_count g.col_count g.flat; order = g.order } };
+    ghost view = { λ g. record {
+      rows = table_of g.order g.row_count g.col_count g.flat;
+      order =
+          g.order;
+    } };
 
     ghost invariant = { λ g. Fits g.row_count g.col_count (length g.flat) };
 }
@@ -154,7 +158,8 @@ impl<T, A: Allocator> Grid<T, A> {
 
     /// Returns the cell in a row and a column, for writing, or `None` out of range.
     pub fn get_mut(&mut self, row: usize, col: usize) -> Option<&mut T>
-        ensures* writes_back { sem 𝓛 (lends_cell_if T.row A.row A.Allocator self.entry row col result) }
+        ensures* writes_back { sem 𝓛
+            (lends_cell_if T.row A.row A.Allocator self.entry row col result) }
         ensures variant { is_some result ≡ is_some (cell self.old.rows row col) }
         ensures item { IfSome result (λ x. cell self.old.rows row col ≡ Some x.now) }
     {
@@ -180,7 +185,8 @@ impl<T, A: Allocator> Grid<T, A> {
     /// Requires: both are in range; no test runs.
     pub fn get_unchecked_mut(&mut self, row: usize, col: usize) -> &mut T
         requires { InRange self.old.rows row col }
-        ensures* writes_back { sem 𝓛 (lends_cell T.row A.row A.Allocator self.entry row col result) }
+        ensures* writes_back { sem 𝓛
+            (lends_cell T.row A.row A.Allocator self.entry row col result) }
         ensures item { cell self.old.rows row col ≡ Some result.now }
     {
         let place = place(self.order, self.row_count, self.col_count, row, col);
@@ -253,7 +259,8 @@ impl<T, A: Allocator> IndexMut<(usize, usize)> for Grid<T, A> {
 
     fn index_mut(&mut self, at: (usize, usize)) -> &mut T
         requires { InRange self.old.rows at.0 at.1 }
-        ensures* writes_back { sem 𝓛 (lends_cell T.row A.row A.Allocator self.entry at.0 at.1 result) }
+        ensures* writes_back { sem 𝓛
+            (lends_cell T.row A.row A.Allocator self.entry at.0 at.1 result) }
         ensures item { cell self.old.rows at.0 at.1 ≡ Some result.now }
     {
         self.get_unchecked_mut(at.0, at.1)

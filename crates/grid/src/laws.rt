@@ -27,7 +27,8 @@ pub fn rotate_right_then_left<T, A: Allocator>(grid: &mut Grid<T, A>)
 /// Four quarter turns leave the rows and the order.
 pub fn rotate_left_four_times<T, A: Allocator>(grid: &mut Grid<T, A>)
     ensures same { grid.new ≡ grid.old }
-    ensures law { (t : List (List T)) → IsTable t → act RotateLeft (act RotateLeft (act RotateLeft (act RotateLeft t))) ≡ t }
+    ensures law { (t : List (List T)) → IsTable t
+        → act RotateLeft (act RotateLeft (act RotateLeft (act RotateLeft t))) ≡ t }
 {
     let _ = grid.size();
     for _turn in 0..4usize {
@@ -39,7 +40,8 @@ pub fn rotate_left_four_times<T, A: Allocator>(grid: &mut Grid<T, A>)
 pub fn flip_rows_then_cols<T, A: Allocator>(grid: &mut Grid<T, A>)
     ensures rows { grid.new.rows ≡ act RotateHalf grid.old.rows }
     ensures order { grid.new.order ≡ grid.old.order }
-    ensures law { (t : List (List T)) → IsTable t → act FlipCols (act FlipRows t) ≡ act RotateHalf t }
+    ensures law { (t : List (List T)) → IsTable t → act FlipCols (act FlipRows t)
+        ≡ act RotateHalf t }
 {
     let _ = grid.size();
     grid.flip_rows();
@@ -58,7 +60,8 @@ pub fn apply_joined<T, A: Allocator>(grid: &mut Grid<T, A>, first: Symmetry, sec
 /// Applying a symmetry and then its inverse leaves the rows and the order.
 pub fn apply_then_inverse<T, A: Allocator>(grid: &mut Grid<T, A>, symmetry: Symmetry)
     ensures same { grid.new ≡ grid.old }
-    ensures law { (t : List (List T)) → IsTable t → (v : Symmetry) → IsInverse symmetry v → act v (act symmetry t) ≡ t }
+    ensures law { (t : List (List T)) → IsTable t → (v : Symmetry) → IsInverse symmetry v
+        → act v (act symmetry t) ≡ t }
 {
     let _ = grid.size();
     grid.apply(symmetry);
@@ -68,7 +71,8 @@ pub fn apply_then_inverse<T, A: Allocator>(grid: &mut Grid<T, A>, symmetry: Symm
 /// A grid's vector, cut into its columns in its order, is the grid.
 pub fn rebuilt<T, A: Allocator>(grid: Grid<T, A>) -> Grid<T, A>
     ensures same { result ≡ grid }
-    ensures law { (t : List (List T)) → IsTable t → cols_of t ≡ cols_of grid.rows → storage grid.order t ≡ storage grid.order grid.rows → t ≡ grid.rows }
+    ensures law { (t : List (List T)) → IsTable t → cols_of t ≡ cols_of grid.rows
+        → storage grid.order t ≡ storage grid.order grid.rows → t ≡ grid.rows }
 {
     let (_, cols) = grid.size();
     let order = grid.order();
@@ -88,12 +92,16 @@ where
     requires nonempty { 0 < length line.items }
     requires fits { FitsRow grid.old.rows (length line.items) }
     ensures grid { IfOk result (λ popped. OnOk popped (grid.new ≡ grid.old)) }
-    ensures line { IfOk result (λ popped. IfOk popped (λ taken. MatchOption taken ⊥ (λ row. row.items ≡ line.items))) }
-    ensures kept { IfOk result (λ popped. OnErr popped (grid.new.rows ≡ insert grid.old.rows (rows_of grid.old.rows) line.items)) }
+    ensures line { IfOk result (λ popped. IfOk popped
+        (λ taken. MatchOption taken ⊥ (λ row. row.items ≡ line.items))) }
+    ensures kept { IfOk result (λ popped. OnErr popped
+        (grid.new.rows ≡ insert grid.old.rows (rows_of grid.old.rows) line.items)) }
     ensures refused { OnErr result (grid.new ≡ grid.old) }
     ensures refused_line { IfErr result (λ refused. refused.line.items ≡ line.items) }
-    ensures law_rows { (t : List (List T)) (row : List T) → remove (insert t (rows_of t) row) (rows_of t) ≡ t }
-    ensures law_line { (t : List (List T)) (row : List T) → slice_get (insert t (rows_of t) row) (rows_of t) ≡ Some row }
+    ensures law_rows { (t : List (List T)) (row : List T)
+        → remove (insert t (rows_of t) row) (rows_of t) ≡ t }
+    ensures law_line { (t : List (List T)) (row : List T)
+        → slice_get (insert t (rows_of t) row) (rows_of t) ≡ Some row }
 {
     grid.push_row(line)?;
     Ok(grid.pop_row())
@@ -121,7 +129,8 @@ pub fn insert_col_or_row_across<T, A: Allocator>(
     ensures refused_col_line { IfErr result.0 (λ refused. refused.line.items ≡ line.items) }
     ensures refused_row { OnErr result.1 (other.new ≡ other.old) }
     ensures refused_row_line { IfErr result.1 (λ refused. refused.line.items ≡ other_line.items) }
-    ensures law { put_col at line.items grid.old.rows ≡ act Transpose (insert (act Transpose grid.old.rows) at line.items) }
+    ensures law { put_col at line.items grid.old.rows
+        ≡ act Transpose (insert (act Transpose grid.old.rows) at line.items) }
 {
     let _ = grid.size();
     let as_col = grid.insert_col(at, line);

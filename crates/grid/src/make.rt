@@ -33,7 +33,8 @@ impl<T, A: Allocator> Grid<T, A> {
         ensures table { IfOk result (λ g. IsTable g.rows) }
         ensures size { IfOk result (λ g. HasSize rows cols g.rows) }
         ensures defaults { IfOk result (λ g. All T.is_default (storage g.order g.rows)) }
-        ensures fixed { IfOk result (λ g. (d : T) → IsOnlyDefault T.is_default d → EachCellIs d g.rows) }
+        ensures fixed { IfOk result
+            (λ g. (d : T) → IsOnlyDefault T.is_default d → EachCellIs d g.rows) }
         ensures too_large { IsErrOf result GridError.TooLarge ↔ (2 ^ 64 ≤ rows * cols) }
         ensures none { rows * cols ≡ 0 → IsOk result }
     {
@@ -53,7 +54,8 @@ impl<T, A: Allocator> Grid<T, A> {
         ensures table { IfOk result (λ g. IsTable g.rows) }
         ensures size { IfOk result (λ g. HasSize rows cols g.rows) }
         ensures defaults { IfOk result (λ g. All T.is_default (storage g.order g.rows)) }
-        ensures fixed { IfOk result (λ g. (d : T) → IsOnlyDefault T.is_default d → EachCellIs d g.rows) }
+        ensures fixed { IfOk result
+            (λ g. (d : T) → IsOnlyDefault T.is_default d → EachCellIs d g.rows) }
         ensures too_large { IsErrOf result GridError.TooLarge ↔ (2 ^ 64 ≤ rows * cols) }
         ensures none { rows * cols ≡ 0 → IsOk result }
     {

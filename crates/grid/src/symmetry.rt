@@ -23,7 +23,8 @@ impl<T, A: Allocator> Grid<T, A> {
     pub fn transpose(&mut self)
         ensures rows { self.new.rows ≡ act Transpose self.old.rows }
         ensures order { self.new.order ≡ flipped self.old.order }
-        ensures storage { storage self.new.order self.new.rows ≡ storage self.old.order self.old.rows }
+        ensures storage { storage self.new.order self.new.rows
+            ≡ storage self.old.order self.old.rows }
     {
         mem::swap(&mut self.row_count, &mut self.col_count);
         self.order = match self.order {
@@ -103,7 +104,8 @@ impl<T, A: Allocator> Grid<T, A> {
     /// Cost: the swaps of its flips, at most half as many as there are cells, however long the word was.
     pub fn apply(&mut self, symmetry: Symmetry)
         ensures rows { self.new.rows ≡ act symmetry self.old.rows }
-        ensures words { (w : List Move) → IsNormalForm w symmetry → self.new.rows ≡ word_image w self.old.rows }
+        ensures words { (w : List Move) → IsNormalForm w symmetry → self.new.rows
+            ≡ word_image w self.old.rows }
         ensures order { self.new.order ≡ order_after symmetry self.old.order }
     {
         let _ = &self.flat;
@@ -114,7 +116,9 @@ impl<T, A: Allocator> Grid<T, A> {
     pub(crate) fn apply_counted(&mut self, symmetry: Symmetry, tally: &mut Tally)
         ensures rows { self.new.rows ≡ act symmetry self.old.rows }
         ensures order { self.new.order ≡ order_after symmetry self.old.order }
-        ensures symmetry { tally.new.symmetry ≡ counted tally.old.symmetry (price symmetry (rows_of self.old.rows) (cols_of self.old.rows)) }
+        ensures symmetry { tally.new.symmetry
+            ≡ counted tally.old.symmetry (price symmetry (rows_of self.old.rows)
+            (cols_of self.old.rows)) }
         ensures shift { tally.new.shift ≡ tally.old.shift }
     {
         let _ = &self.flat;
@@ -142,7 +146,9 @@ impl<T, A: Allocator> Grid<T, A> {
     fn flip_rows_counted(&mut self, tally: &mut Tally)
         ensures rows { self.new.rows ≡ act FlipRows self.old.rows }
         ensures order { self.new.order ≡ self.old.order }
-        ensures symmetry { tally.new.symmetry ≡ counted tally.old.symmetry (price FlipRows (rows_of self.old.rows) (cols_of self.old.rows)) }
+        ensures symmetry { tally.new.symmetry
+            ≡ counted tally.old.symmetry (price FlipRows (rows_of self.old.rows)
+            (cols_of self.old.rows)) }
         ensures shift { tally.new.shift ≡ tally.old.shift }
     {
         match self.order {
@@ -156,7 +162,9 @@ impl<T, A: Allocator> Grid<T, A> {
     fn flip_cols_counted(&mut self, tally: &mut Tally)
         ensures rows { self.new.rows ≡ act FlipCols self.old.rows }
         ensures order { self.new.order ≡ self.old.order }
-        ensures symmetry { tally.new.symmetry ≡ counted tally.old.symmetry (price FlipCols (rows_of self.old.rows) (cols_of self.old.rows)) }
+        ensures symmetry { tally.new.symmetry
+            ≡ counted tally.old.symmetry (price FlipCols (rows_of self.old.rows)
+            (cols_of self.old.rows)) }
         ensures shift { tally.new.shift ≡ tally.old.shift }
     {
         match self.order {
@@ -175,7 +183,9 @@ impl<T, A: Allocator> Grid<T, A> {
     fn rotate_half_counted(&mut self, tally: &mut Tally)
         ensures rows { self.new.rows ≡ act RotateHalf self.old.rows }
         ensures order { self.new.order ≡ self.old.order }
-        ensures symmetry { tally.new.symmetry ≡ counted tally.old.symmetry (price RotateHalf (rows_of self.old.rows) (cols_of self.old.rows)) }
+        ensures symmetry { tally.new.symmetry
+            ≡ counted tally.old.symmetry (price RotateHalf (rows_of self.old.rows)
+            (cols_of self.old.rows)) }
         ensures shift { tally.new.shift ≡ tally.old.shift }
     {
         let len = self.row_count * self.col_count;

@@ -46,7 +46,9 @@ impl<T, A: Allocator> Grid<T, A> {
 
     /// The cells in storage order, each with its row and its column.
     pub fn indexed_iter(&self) -> IndexedIter<'_, T>
-        ensures { result ≡ zip (places self.now.order (rows_of self.now.rows) (cols_of self.now.rows)) (storage self.now.order self.now.rows) }
+        ensures { result
+            ≡ zip (places self.now.order (rows_of self.now.rows)
+            (cols_of self.now.rows)) (storage self.now.order self.now.rows) }
     {
         self.flat
             .indexed_iter(self.order, self.row_count, self.col_count)
@@ -56,7 +58,9 @@ impl<T, A: Allocator> Grid<T, A> {
     pub fn indexed_iter_mut(&mut self) -> IndexedIterMut<'_, T>
         ensures* writes_back { sem 𝓛 (lends_indexed T.row A.row A.Allocator self.entry result) }
         ensures keeps { KeepsSize self.old }
-        ensures rest { indexed_mut_rest result ≡ zip (places self.old.order (rows_of self.old.rows) (cols_of self.old.rows)) (storage self.old.order self.old.rows) }
+        ensures rest { indexed_mut_rest result
+            ≡ zip (places self.old.order (rows_of self.old.rows)
+            (cols_of self.old.rows)) (storage self.old.order self.old.rows) }
     {
         self.flat
             .indexed_iter_mut(self.order, self.row_count, self.col_count)
@@ -64,7 +68,8 @@ impl<T, A: Allocator> Grid<T, A> {
 
     /// The cells in storage order by value, each with its row and its column.
     pub fn indexed_into_iter(self) -> IndexedIntoIter<T, A>
-        ensures { result ≡ zip (places self.order (rows_of self.rows) (cols_of self.rows)) (storage self.order self.rows) }
+        ensures { result ≡ zip (places self.order (rows_of self.rows) (cols_of self.rows))
+            (storage self.order self.rows) }
     {
         let Grid {
             flat,
@@ -82,7 +87,10 @@ impl<T: Drop, A: Allocator> IntoIterator for Grid<T, A> {
 
     type IntoIter = vec::IntoIter<T, A>;
 
-    ghost into_iter_gives = { λ grid it. (into_iter_items it ≡ storage grid.order grid.rows) × YieldsInOrder (into_iter_steps {X = T} {Z = A}) into_iter_items × YieldsInReverse (into_iter_steps_back {X = T} {Z = A}) into_iter_items };
+    ghost into_iter_gives = { λ grid it. (into_iter_items it ≡ storage grid.order grid.rows)
+        × YieldsInOrder (into_iter_steps {X = T}
+        {Z = A}) into_iter_items × YieldsInReverse
+        (into_iter_steps_back {X = T} {Z = A}) into_iter_items };
 
     fn into_iter(self) -> vec::IntoIter<T, A> {
         self.into_vec().into_iter()
@@ -95,7 +103,9 @@ impl<'a, T, A: Allocator> IntoIterator for &'a Grid<T, A> {
 
     type IntoIter = slice::Iter<'a, T>;
 
-    ghost into_iter_gives = { λ grid it. (iter_rest it ≡ storage grid.now.order grid.now.rows) × YieldsRefsInOrder (iter_steps {A = T}) iter_rest × YieldsRefsInReverse (iter_steps_back {A = T}) iter_rest };
+    ghost into_iter_gives = { λ grid it. (iter_rest it ≡ storage grid.now.order grid.now.rows)
+        × YieldsRefsInOrder (iter_steps {A = T}) iter_rest × YieldsRefsInReverse (iter_steps_back
+        {A = T}) iter_rest };
 
     fn into_iter(self) -> slice::Iter<'a, T> {
         self.iter()
@@ -110,12 +120,18 @@ impl<'a, T, A: Allocator> IntoIterator for &'a mut Grid<T, A> {
 
     type IntoIter = slice::IterMut<'a, T>;
 
-    ghost into_iter_gives = { λ grid it. (iter_mut_rest it ≡ storage grid.now.order grid.now.rows) × YieldsMutRefsInOrder (iter_mut_steps {A = T}) iter_mut_rest × YieldsMutRefsInReverse (iter_mut_steps_back {A = T}) iter_mut_rest };
+    ghost into_iter_gives = { λ grid it. (iter_mut_rest it ≡ storage grid.now.order grid.now.rows)
+        × YieldsMutRefsInOrder (iter_mut_steps
+        {A = T}) iter_mut_rest × YieldsMutRefsInReverse
+        (iter_mut_steps_back {A = T}) iter_mut_rest };
 
     fn into_iter(self) -> slice::IterMut<'a, T>
         ensures* writes_back { sem 𝓛 (lends_cells T.row A.row A.Allocator self.entry result) }
         ensures keeps { KeepsSize self.old }
-        ensures into_iter_gives { (iter_mut_rest result ≡ storage self.old.order self.old.rows) × YieldsMutRefsInOrder (iter_mut_steps {A = T}) iter_mut_rest × YieldsMutRefsInReverse (iter_mut_steps_back {A = T}) iter_mut_rest }
+        ensures into_iter_gives { (iter_mut_rest result ≡ storage self.old.order self.old.rows)
+            × YieldsMutRefsInOrder (iter_mut_steps
+            {A = T}) iter_mut_rest × YieldsMutRefsInReverse
+            (iter_mut_steps_back {A = T}) iter_mut_rest }
     {
         self.iter_mut()
     }

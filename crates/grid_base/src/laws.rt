@@ -37,7 +37,8 @@ pub fn inverse_undoes(symmetry: Symmetry) -> bool
 /// `symmetry.then(next)`, which acts as the one and then the other on tables of cells of any type `T`.
 pub fn joined<T>(symmetry: Symmetry, next: Symmetry) -> Symmetry
     ensures same { IsThen symmetry next result }
-    ensures law { (v : Symmetry) → IsThen symmetry next v → (t : List (List T)) → IsTable t → act v t ≡ act next (act symmetry t) }
+    ensures law { (v : Symmetry) → IsThen symmetry next v → (t : List (List T)) → IsTable t
+        → act v t ≡ act next (act symmetry t) }
 {
     symmetry.then(next)
 }
@@ -45,7 +46,8 @@ pub fn joined<T>(symmetry: Symmetry, next: Symmetry) -> Symmetry
 /// `done.inverse()`, which undoes it on tables of cells of any type `T`.
 pub fn undoing<T>(done: Symmetry) -> Symmetry
     ensures same { IsInverse done result }
-    ensures law { (v : Symmetry) → IsInverse done v → (t : List (List T)) → IsTable t → act v (act done t) ≡ t }
+    ensures law { (v : Symmetry) → IsInverse done v → (t : List (List T)) → IsTable t
+        → act v (act done t) ≡ t }
 {
     done.inverse()
 }

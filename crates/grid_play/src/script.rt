@@ -112,8 +112,10 @@ fn symmetry(name: &str) -> Option<Symmetry>
     ensures rotate_half { (result ≡ Some Symmetry.RotateHalf) ↔ (name.now ≡ codes "rotate_half") }
     ensures transpose { (result ≡ Some Symmetry.Transpose) ↔ (name.now ≡ codes "transpose") }
     ensures rotate_left { (result ≡ Some Symmetry.RotateLeft) ↔ (name.now ≡ codes "rotate_left") }
-    ensures rotate_right { (result ≡ Some Symmetry.RotateRight) ↔ (name.now ≡ codes "rotate_right") }
-    ensures anti_transpose { (result ≡ Some Symmetry.AntiTranspose) ↔ (name.now ≡ codes "anti_transpose") }
+    ensures rotate_right { (result ≡ Some Symmetry.RotateRight)
+        ↔ (name.now ≡ codes "rotate_right") }
+    ensures anti_transpose { (result ≡ Some Symmetry.AntiTranspose)
+        ↔ (name.now ≡ codes "anti_transpose") }
 {
     match name {
         "identity" => Some(Symmetry::Identity),

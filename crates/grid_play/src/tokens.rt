@@ -35,7 +35,8 @@ impl<'a> Iterator for Lines<'a> {
     type Item = (usize, &'a [u8]);
 
     ghost next_gives = { λ old item new. MatchOption item (old.rest.now ≡ [])
-        (λ line. (line.0 ≡ old.count + 1) × (line.1.now ≡ first_line old.rest.now) × (new.rest.now ≡ later_lines old.rest.now)) };
+        (λ line. (line.0 ≡ old.count + 1) × (line.1.now ≡ first_line old.rest.now)
+        × (new.rest.now ≡ later_lines old.rest.now)) };
 
     ghost remaining = { λ lines. at_most (length lines.rest.now) };
 
@@ -92,8 +93,9 @@ impl<'a> Words<'a> {
 impl<'a> Iterator for Words<'a> {
     type Item = &'a str;
 
-    ghost next_gives = { λ old word new. MatchOption word ((words_of old.0.now ≡ []) × (words_of new.0.now ≡ []))
-        (λ word. words_of old.0.now ≡ word.now ∷ words_of new.0.now) };
+    ghost next_gives = { λ old word new. MatchOption word
+        ((words_of old.0.now ≡ []) × (words_of new.0.now ≡ [])) (λ word. words_of old.0.now
+        ≡ word.now ∷ words_of new.0.now) };
 
     ghost remaining = { λ words. at_most (length words.0.now) };
 
@@ -123,7 +125,8 @@ fn cut_word(text: &str) -> (&str, &str)
 // Where the first separator of words stands.
 fn separator(text: &str) -> Option<usize>
     ensures first { result ≡ position separates text.now }
-    ensures ascii { IfSome result (λ end. (end < length text.now) × (slice_index text.now end < 128)) }
+    ensures ascii { IfSome result
+        (λ end. (end < length text.now) × (slice_index text.now end < 128)) }
 {
     text.as_bytes()
         .iter()
@@ -132,7 +135,8 @@ fn separator(text: &str) -> Option<usize>
 
 /// The index or count that a word writes: decimal digits alone, in the range of a `usize`.
 pub fn index(word: &str) -> Option<usize>
-    ensures numeral { IsSome result ↔ (IsNumeral 10 word.now × (digits_value 10 word.now < 2 ^ 64)) }
+    ensures numeral { IsSome result
+        ↔ (IsNumeral 10 word.now × (digits_value 10 word.now < 2 ^ 64)) }
     ensures value { IfSome result (λ number. number ≡ digits_value 10 word.now) }
 {
     if word.starts_with('+') {
@@ -143,7 +147,9 @@ pub fn index(word: &str) -> Option<usize>
 
 /// The cell that a word writes: decimal digits, perhaps after a minus, in the range of an `i64`.
 pub fn cell(word: &str) -> Option<i64>
-    ensures numeral { IsSome result ↔ ((slice_index word.now 0 ≢ 43) × IsNumeral 10 (without_leading_sign word.now) × FitsSigned w64 (signed_digits_value 10 word.now)) }
+    ensures numeral { IsSome result
+        ↔ ((slice_index word.now 0 ≢ 43) × IsNumeral 10 (without_leading_sign word.now)
+        × FitsSigned w64 (signed_digits_value 10 word.now)) }
     ensures value { IfSome result (λ number. number ≡ signed_digits_value 10 word.now) }
 {
     if word.starts_with('+') {

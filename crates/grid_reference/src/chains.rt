@@ -95,7 +95,8 @@ pub fn column_above<A: Allocator>(
     x: u32,
 ) -> Result<Vec<u32>, AllocError>
     requires { c < cols_of grid.now.rows }
-    ensures { IfOk result (λ cells. cells.items ≡ filter (λ y. nat_lt x y) (row (turned grid.now.rows) c)) }
+    ensures { IfOk result (λ cells. cells.items
+        ≡ filter (λ y. nat_lt x y) (row (turned grid.now.rows) c)) }
 {
     grid.iter_col(c).copied().filter(|y| x < *y).collect(alloc)
 }
@@ -103,7 +104,9 @@ pub fn column_above<A: Allocator>(
 /// The largest cell of row r.
 pub fn row_max<A: Allocator>(grid: &Grid<u32, A>, r: usize) -> Option<u32>
     requires { r < rows_of grid.now.rows }
-    ensures { MatchOption result (row grid.now.rows r ≡ []) (λ most. All (λ y. y ≤ most) (row grid.now.rows r) × Any (λ y. y ≡ most) (row grid.now.rows r)) }
+    ensures { MatchOption result (row grid.now.rows r ≡ [])
+        (λ most. All (λ y. y ≤ most) (row grid.now.rows r)
+        × Any (λ y. y ≡ most) (row grid.now.rows r)) }
 {
     grid.iter_row(r).copied().max()
 }
@@ -113,7 +116,8 @@ pub fn halves_reversed<A: Allocator>(
     alloc: Global,
     grid: &Grid<u32, A>,
 ) -> Result<Vec<u32>, AllocError>
-    ensures { IfOk result (λ halves. halves.items ≡ reverse (map (λ y. y / 2) (storage grid.now.order grid.now.rows))) }
+    ensures { IfOk result (λ halves. halves.items
+        ≡ reverse (map (λ y. y / 2) (storage grid.now.order grid.now.rows))) }
 {
     grid.iter().rev().map(|y| *y / 2).collect(alloc)
 }
@@ -159,7 +163,8 @@ pub fn count_in_columns<A: Allocator>(
     grid: &Grid<u32, A>,
     x: u32,
 ) -> Result<Vec<usize>, AllocError>
-    ensures { IfOk result (λ counts. counts.items ≡ map (λ line. count_by (λ y. y == x) line) (turned grid.now.rows)) }
+    ensures { IfOk result (λ counts. counts.items
+        ≡ map (λ line. count_by (λ y. y == x) line) (turned grid.now.rows)) }
 {
     grid.iter_cols()
         .map(|line| line.filter(|y| **y == x).count())
@@ -180,7 +185,9 @@ pub fn lacking<A: Allocator + Clone>(grid: Grid<u32, A>) -> Result<Grid<u32, A>,
     ensures order { IfOk result (λ lacking. lacking.order ≡ grid.order) }
     ensures rows { IfOk result (λ lacking. rows_of lacking.rows ≡ rows_of grid.rows) }
     ensures cols { IfOk result (λ lacking. cols_of lacking.rows ≡ cols_of grid.rows) }
-    ensures cells { IfOk result (λ lacking. storage lacking.order lacking.rows ≡ map (λ y. 10 - y) (storage grid.order grid.rows)) }
+    ensures cells { IfOk result
+        (λ lacking. storage lacking.order lacking.rows
+        ≡ map (λ y. 10 - y) (storage grid.order grid.rows)) }
 {
     match grid.map(|y| 10 - y) {
         Ok(lacking) => Ok(lacking),
@@ -195,7 +202,9 @@ pub fn lacking_in<A: Allocator + Clone>(grid: &Grid<u32, A>) -> Result<Grid<u32,
     ensures order { IfOk result (λ lacking. lacking.order ≡ grid.now.order) }
     ensures rows { IfOk result (λ lacking. rows_of lacking.rows ≡ rows_of grid.now.rows) }
     ensures cols { IfOk result (λ lacking. cols_of lacking.rows ≡ cols_of grid.now.rows) }
-    ensures cells { IfOk result (λ lacking. storage lacking.order lacking.rows ≡ map (λ y. 10 - y) (storage grid.now.order grid.now.rows)) }
+    ensures cells { IfOk result
+        (λ lacking. storage lacking.order lacking.rows
+        ≡ map (λ y. 10 - y) (storage grid.now.order grid.now.rows)) }
 {
     let lacking = grid.map_ref(|y| 10 - *y)?;
     Ok(lacking)
@@ -207,7 +216,8 @@ pub fn number_cells<A: Allocator>(grid: &mut Grid<u8, A>)
     ensures order { grid.new.order ≡ grid.old.order }
     ensures rows { rows_of grid.new.rows ≡ rows_of grid.old.rows }
     ensures cols { cols_of grid.new.rows ≡ cols_of grid.old.rows }
-    ensures cells { storage grid.new.order grid.new.rows ≡ range_with_len 1 (rows_of grid.old.rows * cols_of grid.old.rows) }
+    ensures cells { storage grid.new.order grid.new.rows
+        ≡ range_with_len 1 (rows_of grid.old.rows * cols_of grid.old.rows) }
 {
     let mut count = 0u8;
     grid.fill_with(

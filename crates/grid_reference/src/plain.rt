@@ -76,10 +76,12 @@ fn image_row<T: Copy>(
     table: &Vec<Vec<T>>,
     row: usize,
 ) -> Result<Vec<T>, AllocError>
-    requires { row < image_rows symmetry (rows_of (rows_of_vec table.now)) (cols_of (rows_of_vec table.now)) }
-    ensures { let t = rows_of_vec table.now in
-        IfOk result (λ cells. cells.items ≡ line (image_cols symmetry (rows_of t) (cols_of t))
-        (λ col. cell t (source_row symmetry (rows_of t) (cols_of t) row col) (source_col symmetry (rows_of t) (cols_of t) row col))) }
+    requires { row < image_rows symmetry (rows_of (rows_of_vec table.now))
+        (cols_of (rows_of_vec table.now)) }
+    ensures { let t = rows_of_vec table.now in IfOk result
+        (λ cells. cells.items ≡ line (image_cols symmetry (rows_of t) (cols_of t))
+        (λ col. cell t (source_row symmetry (rows_of t) (cols_of t) row col)
+        (source_col symmetry (rows_of t) (cols_of t) row col))) }
 {
     let (rows, cols) = size(table);
     let (_, width) = image_size(symmetry, rows, cols);
@@ -144,8 +146,10 @@ pub fn step<T: Copy>(
     command: &Command,
     table: &mut Vec<Vec<T>>,
 ) -> Result<Reply<T>, AllocError>
-    ensures rows { OnOk result (rows_of_vec table.new ≡ step_rows command.now (rows_of_vec table.old)) }
-    ensures reply { IfOk result (λ reply. plain reply ≡ step_reply command.now (rows_of_vec table.old)) }
+    ensures rows { OnOk result (rows_of_vec table.new
+        ≡ step_rows command.now (rows_of_vec table.old)) }
+    ensures reply { IfOk result
+        (λ reply. plain reply ≡ step_reply command.now (rows_of_vec table.old)) }
     ensures err { OnErr result (table.new ≡ table.old) }
 {
     match command {
@@ -167,9 +171,12 @@ pub fn run<T: Copy>(
     commands: &[Command],
     table: &mut Vec<Vec<T>>,
 ) -> Result<Vec<Reply<T>>, AllocError>
-    ensures rows { OnOk result (rows_of_vec table.new ≡ run_rows commands.now (rows_of_vec table.old)) }
-    ensures replies { IfOk result (λ replies. map plain replies.items ≡ run_replies commands.now (rows_of_vec table.old)) }
-    ensures err { OnErr result (AfterSome commands.now (rows_of_vec table.old) (rows_of_vec table.new)) }
+    ensures rows { OnOk result (rows_of_vec table.new
+        ≡ run_rows commands.now (rows_of_vec table.old)) }
+    ensures replies { IfOk result
+        (λ replies. map plain replies.items ≡ run_replies commands.now (rows_of_vec table.old)) }
+    ensures err { OnErr result (AfterSome commands.now (rows_of_vec table.old)
+        (rows_of_vec table.new)) }
 {
     let mut replies = Vec::new(alloc);
     for command in commands {

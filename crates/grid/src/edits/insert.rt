@@ -58,9 +58,11 @@ impl<T, A: Allocator> Grid<T, A> {
     pub fn push_row(&mut self, line: Vec<T, A>) -> Result<(), LineRefused<T, A>>
         requires nonempty { 0 < length line.items }
         requires fits { FitsRow self.old.rows (length line.items) }
-        ensures rows { OnOk result (self.new.rows ≡ insert self.old.rows (rows_of self.old.rows) line.items) }
+        ensures rows { OnOk result
+            (self.new.rows ≡ insert self.old.rows (rows_of self.old.rows) line.items) }
         ensures order { self.new.order ≡ self.old.order }
-        ensures too_large { IsErrAnd result (λ refused. refused.fault ≡ TooLarge) ↔ (2 ^ 64 ≤ (rows_of self.old.rows + 1) * length line.items) }
+        ensures too_large { IsErrAnd result (λ refused. refused.fault ≡ TooLarge)
+            ↔ (2 ^ 64 ≤ (rows_of self.old.rows + 1) * length line.items) }
         ensures line { IfErr result (λ refused. refused.line.items ≡ line.items) }
         ensures err { OnErr result (self.new ≡ self.old) }
     {
@@ -80,9 +82,11 @@ impl<T, A: Allocator> Grid<T, A> {
     pub fn push_col(&mut self, line: Vec<T, A>) -> Result<(), LineRefused<T, A>>
         requires nonempty { 0 < length line.items }
         requires fits { FitsCol self.old.rows (length line.items) }
-        ensures rows { OnOk result (self.new.rows ≡ put_col (cols_of self.old.rows) line.items self.old.rows) }
+        ensures rows { OnOk result
+            (self.new.rows ≡ put_col (cols_of self.old.rows) line.items self.old.rows) }
         ensures order { self.new.order ≡ self.old.order }
-        ensures too_large { IsErrAnd result (λ refused. refused.fault ≡ TooLarge) ↔ (2 ^ 64 ≤ (cols_of self.old.rows + 1) * length line.items) }
+        ensures too_large { IsErrAnd result (λ refused. refused.fault ≡ TooLarge)
+            ↔ (2 ^ 64 ≤ (cols_of self.old.rows + 1) * length line.items) }
         ensures line { IfErr result (λ refused. refused.line.items ≡ line.items) }
         ensures err { OnErr result (self.new ≡ self.old) }
     {
@@ -105,7 +109,8 @@ impl<T, A: Allocator> Grid<T, A> {
         requires place { at ≤ rows_of self.old.rows }
         ensures rows { OnOk result (self.new.rows ≡ insert self.old.rows at line.items) }
         ensures order { self.new.order ≡ self.old.order }
-        ensures too_large { IsErrAnd result (λ refused. refused.fault ≡ TooLarge) ↔ (2 ^ 64 ≤ (rows_of self.old.rows + 1) * length line.items) }
+        ensures too_large { IsErrAnd result (λ refused. refused.fault ≡ TooLarge)
+            ↔ (2 ^ 64 ≤ (rows_of self.old.rows + 1) * length line.items) }
         ensures line { IfErr result (λ refused. refused.line.items ≡ line.items) }
         ensures err { OnErr result (self.new ≡ self.old) }
     {
@@ -147,7 +152,8 @@ impl<T, A: Allocator> Grid<T, A> {
         requires place { at ≤ cols_of self.old.rows }
         ensures rows { OnOk result (self.new.rows ≡ put_col at line.items self.old.rows) }
         ensures order { self.new.order ≡ self.old.order }
-        ensures too_large { IsErrAnd result (λ refused. refused.fault ≡ TooLarge) ↔ (2 ^ 64 ≤ (cols_of self.old.rows + 1) * length line.items) }
+        ensures too_large { IsErrAnd result (λ refused. refused.fault ≡ TooLarge)
+            ↔ (2 ^ 64 ≤ (cols_of self.old.rows + 1) * length line.items) }
         ensures line { IfErr result (λ refused. refused.line.items ≡ line.items) }
         ensures err { OnErr result (self.new ≡ self.old) }
     {
@@ -176,12 +182,16 @@ impl<T, A: Allocator> Grid<T, A> {
         lines: Vec<Vec<T, A>, A>,
     ) -> Result<(), LinesRefused<T, A>>
         requires table { IsTable (cells_of lines.items) }
-        requires fits { 0 < length lines.items → FitsRow self.old.rows (cols_of (cells_of lines.items)) }
+        requires fits { 0 < length lines.items
+            → FitsRow self.old.rows (cols_of (cells_of lines.items)) }
         requires place { at ≤ rows_of self.old.rows }
-        ensures rows { OnOk result (self.new.rows ≡ put_rows at (cells_of lines.items) self.old.rows) }
+        ensures rows { OnOk result
+            (self.new.rows ≡ put_rows at (cells_of lines.items) self.old.rows) }
         ensures order { self.new.order ≡ self.old.order }
         ensures none { lines.items ≡ [] → IsOk result }
-        ensures too_large { IsErrAnd result (λ refused. refused.fault ≡ TooLarge) ↔ (2 ^ 64 ≤ (rows_of self.old.rows + length lines.items) * cols_of (cells_of lines.items)) }
+        ensures too_large { IsErrAnd result (λ refused. refused.fault ≡ TooLarge)
+            ↔ (2 ^ 64 ≤ (rows_of self.old.rows + length lines.items) * cols_of
+            (cells_of lines.items)) }
         ensures lines { IfErr result (λ refused. refused.lines.items ≡ lines.items) }
         ensures err { OnErr result (self.new ≡ self.old) }
     {
@@ -234,12 +244,16 @@ impl<T, A: Allocator> Grid<T, A> {
         lines: Vec<Vec<T, A>, A>,
     ) -> Result<(), LinesRefused<T, A>>
         requires table { IsTable (cells_of lines.items) }
-        requires fits { 0 < length lines.items → FitsCol self.old.rows (cols_of (cells_of lines.items)) }
+        requires fits { 0 < length lines.items
+            → FitsCol self.old.rows (cols_of (cells_of lines.items)) }
         requires place { at ≤ cols_of self.old.rows }
-        ensures rows { OnOk result (self.new.rows ≡ put_cols at (cells_of lines.items) self.old.rows) }
+        ensures rows { OnOk result
+            (self.new.rows ≡ put_cols at (cells_of lines.items) self.old.rows) }
         ensures order { self.new.order ≡ self.old.order }
         ensures none { lines.items ≡ [] → IsOk result }
-        ensures too_large { IsErrAnd result (λ refused. refused.fault ≡ TooLarge) ↔ (2 ^ 64 ≤ (cols_of self.old.rows + length lines.items) * cols_of (cells_of lines.items)) }
+        ensures too_large { IsErrAnd result (λ refused. refused.fault ≡ TooLarge)
+            ↔ (2 ^ 64 ≤ (cols_of self.old.rows + length lines.items) * cols_of
+            (cells_of lines.items)) }
         ensures lines { IfErr result (λ refused. refused.lines.items ≡ lines.items) }
         ensures err { OnErr result (self.new ≡ self.old) }
     {

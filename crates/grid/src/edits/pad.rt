@@ -31,7 +31,8 @@ fn open_rows<T, A: Allocator>(
     requires some { 0 < count }
     ensures opened { RowsOpened order rows cols at count flat.old flat.new }
     ensures symmetry { tally.new.symmetry ≡ tally.old.symmetry }
-    ensures shift { tally.new.shift ≡ counted tally.old.shift (rows_added_shift order rows cols at count) }
+    ensures shift { tally.new.shift
+        ≡ counted tally.old.shift (rows_added_shift order rows cols at count) }
 {
     match order {
         Order::RowMajor => flat.open(1, rows * cols, at * cols, count * cols, tally),
@@ -52,9 +53,15 @@ impl<T, A: Allocator> Grid<T, A> {
     where
         T: Default,
         A: Clone,
-        ensures padded { OnOk result (PadsRows T.is_default (rows_of self.old.rows) (added count self.old.rows) self.old.rows self.new.rows) }
-        ensures fixed { OnOk result ((d : T) → IsOnlyDefault T.is_default d → self.new.rows ≡ expanded_rows count d self.old.rows) }
-        ensures too_large { IsErrOf result TooLarge ↔ (2 ^ 64 ≤ (rows_of self.old.rows + added count self.old.rows) * cols_of self.old.rows) }
+        ensures padded { OnOk result
+            (PadsRows T.is_default (rows_of self.old.rows)
+            (added count self.old.rows) self.old.rows self.new.rows) }
+        ensures fixed { OnOk result
+            ((d : T) → IsOnlyDefault T.is_default d → self.new.rows
+            ≡ expanded_rows count d self.old.rows) }
+        ensures too_large { IsErrOf result TooLarge
+            ↔ (2 ^ 64 ≤ (rows_of self.old.rows + added count self.old.rows) * cols_of
+            self.old.rows) }
         ensures none { added count self.old.rows ≡ 0 → IsOk result }
         ensures order { self.new.order ≡ self.old.order }
         ensures err { OnErr result (self.new ≡ self.old) }
@@ -76,9 +83,15 @@ impl<T, A: Allocator> Grid<T, A> {
     where
         T: Default,
         A: Clone,
-        ensures padded { OnOk result (PadsCols T.is_default (cols_of self.old.rows) (added count self.old.rows) self.old.rows self.new.rows) }
-        ensures fixed { OnOk result ((d : T) → IsOnlyDefault T.is_default d → self.new.rows ≡ expanded_cols count d self.old.rows) }
-        ensures too_large { IsErrOf result TooLarge ↔ (2 ^ 64 ≤ (cols_of self.old.rows + added count self.old.rows) * rows_of self.old.rows) }
+        ensures padded { OnOk result
+            (PadsCols T.is_default (cols_of self.old.rows)
+            (added count self.old.rows) self.old.rows self.new.rows) }
+        ensures fixed { OnOk result
+            ((d : T) → IsOnlyDefault T.is_default d → self.new.rows
+            ≡ expanded_cols count d self.old.rows) }
+        ensures too_large { IsErrOf result TooLarge
+            ↔ (2 ^ 64 ≤ (cols_of self.old.rows + added count self.old.rows) * rows_of
+            self.old.rows) }
         ensures none { added count self.old.rows ≡ 0 → IsOk result }
         ensures order { self.new.order ≡ self.old.order }
         ensures err { OnErr result (self.new ≡ self.old) }
@@ -98,9 +111,14 @@ impl<T, A: Allocator> Grid<T, A> {
     where
         T: Default,
         A: Clone,
-        ensures padded { OnOk result (PadsRows T.is_default 0 (added count self.old.rows) self.old.rows self.new.rows) }
-        ensures fixed { OnOk result ((d : T) → IsOnlyDefault T.is_default d → self.new.rows ≡ prepended_rows count d self.old.rows) }
-        ensures too_large { IsErrOf result TooLarge ↔ (2 ^ 64 ≤ (rows_of self.old.rows + added count self.old.rows) * cols_of self.old.rows) }
+        ensures padded { OnOk result
+            (PadsRows T.is_default 0 (added count self.old.rows) self.old.rows self.new.rows) }
+        ensures fixed { OnOk result
+            ((d : T) → IsOnlyDefault T.is_default d → self.new.rows
+            ≡ prepended_rows count d self.old.rows) }
+        ensures too_large { IsErrOf result TooLarge
+            ↔ (2 ^ 64 ≤ (rows_of self.old.rows + added count self.old.rows) * cols_of
+            self.old.rows) }
         ensures none { added count self.old.rows ≡ 0 → IsOk result }
         ensures order { self.new.order ≡ self.old.order }
         ensures err { OnErr result (self.new ≡ self.old) }
@@ -119,9 +137,14 @@ impl<T, A: Allocator> Grid<T, A> {
     where
         T: Default,
         A: Clone,
-        ensures padded { OnOk result (PadsCols T.is_default 0 (added count self.old.rows) self.old.rows self.new.rows) }
-        ensures fixed { OnOk result ((d : T) → IsOnlyDefault T.is_default d → self.new.rows ≡ prepended_cols count d self.old.rows) }
-        ensures too_large { IsErrOf result TooLarge ↔ (2 ^ 64 ≤ (cols_of self.old.rows + added count self.old.rows) * rows_of self.old.rows) }
+        ensures padded { OnOk result
+            (PadsCols T.is_default 0 (added count self.old.rows) self.old.rows self.new.rows) }
+        ensures fixed { OnOk result
+            ((d : T) → IsOnlyDefault T.is_default d → self.new.rows
+            ≡ prepended_cols count d self.old.rows) }
+        ensures too_large { IsErrOf result TooLarge
+            ↔ (2 ^ 64 ≤ (cols_of self.old.rows + added count self.old.rows) * rows_of
+            self.old.rows) }
         ensures none { added count self.old.rows ≡ 0 → IsOk result }
         ensures order { self.new.order ≡ self.old.order }
         ensures err { OnErr result (self.new ≡ self.old) }
@@ -142,11 +165,17 @@ impl<T, A: Allocator> Grid<T, A> {
         T: Default,
         A: Clone,
         requires place { at ≤ rows_of self.old.rows }
-        ensures padded { OnOk result (PadsRows T.is_default at (added count self.old.rows) self.old.rows self.new.rows) }
-        ensures too_large { IsErrOf result TooLarge ↔ (2 ^ 64 ≤ (rows_of self.old.rows + added count self.old.rows) * cols_of self.old.rows) }
+        ensures padded { OnOk result
+            (PadsRows T.is_default at (added count self.old.rows) self.old.rows self.new.rows) }
+        ensures too_large { IsErrOf result TooLarge
+            ↔ (2 ^ 64 ≤ (rows_of self.old.rows + added count self.old.rows) * cols_of
+            self.old.rows) }
         ensures none { added count self.old.rows ≡ 0 → IsOk result }
         ensures order { self.new.order ≡ self.old.order }
-        ensures shift { OnOk result (tally.new.shift ≡ counted tally.old.shift (rows_added_shift self.old.order (rows_of self.old.rows) (cols_of self.old.rows) at count)) }
+        ensures shift { OnOk result
+            (tally.new.shift ≡ counted tally.old.shift
+            (rows_added_shift self.old.order (rows_of self.old.rows)
+            (cols_of self.old.rows) at count)) }
         ensures symmetry { tally.new.symmetry ≡ tally.old.symmetry }
         ensures err { OnErr result (self.new ≡ self.old) }
         ensures err_shift { OnErr result (tally.new.shift ≡ tally.old.shift) }
@@ -175,11 +204,17 @@ impl<T, A: Allocator> Grid<T, A> {
         T: Default,
         A: Clone,
         requires place { at ≤ cols_of self.old.rows }
-        ensures padded { OnOk result (PadsCols T.is_default at (added count self.old.rows) self.old.rows self.new.rows) }
-        ensures too_large { IsErrOf result TooLarge ↔ (2 ^ 64 ≤ (cols_of self.old.rows + added count self.old.rows) * rows_of self.old.rows) }
+        ensures padded { OnOk result
+            (PadsCols T.is_default at (added count self.old.rows) self.old.rows self.new.rows) }
+        ensures too_large { IsErrOf result TooLarge
+            ↔ (2 ^ 64 ≤ (cols_of self.old.rows + added count self.old.rows) * rows_of
+            self.old.rows) }
         ensures none { added count self.old.rows ≡ 0 → IsOk result }
         ensures order { self.new.order ≡ self.old.order }
-        ensures shift { OnOk result (tally.new.shift ≡ counted tally.old.shift (cols_added_shift self.old.order (rows_of self.old.rows) (cols_of self.old.rows) at count)) }
+        ensures shift { OnOk result
+            (tally.new.shift ≡ counted tally.old.shift
+            (cols_added_shift self.old.order (rows_of self.old.rows)
+            (cols_of self.old.rows) at count)) }
         ensures symmetry { tally.new.symmetry ≡ tally.old.symmetry }
         ensures err { OnErr result (self.new ≡ self.old) }
         ensures err_shift { OnErr result (tally.new.shift ≡ tally.old.shift) }

@@ -53,7 +53,8 @@ fn close_rows<T: Drop, A: Allocator>(
     requires wide { 0 < cols }
     ensures taken { RowsTaken order cols at count rest flat.old flat.new }
     ensures symmetry { tally.new.symmetry ≡ tally.old.symmetry }
-    ensures shift { tally.new.shift ≡ counted tally.old.shift (rows_taken_shift order (rest + count) cols at count) }
+    ensures shift { tally.new.shift
+        ≡ counted tally.old.shift (rows_taken_shift order (rest + count) cols at count) }
 {
     match order {
         Order::RowMajor => flat.close_up(1, rest * cols, at * cols, count * cols, tally),
@@ -72,8 +73,11 @@ impl<T, A: Allocator> Grid<T, A> {
     pub fn pop_row(&mut self) -> Result<Option<Vec<T, A>>, AllocError>
     where
         A: Clone,
-        ensures rows { OnOk result (self.new.rows ≡ remove self.old.rows (rows_of self.old.rows - 1)) }
-        ensures line { IfOk result (λ taken. MatchOption taken (self.old.rows ≡ []) (λ line. slice_get self.old.rows (rows_of self.old.rows - 1) ≡ Some line.items)) }
+        ensures rows { OnOk result
+            (self.new.rows ≡ remove self.old.rows (rows_of self.old.rows - 1)) }
+        ensures line { IfOk result
+            (λ taken. MatchOption taken (self.old.rows ≡ [])
+            (λ line. slice_get self.old.rows (rows_of self.old.rows - 1) ≡ Some line.items)) }
         ensures order { self.new.order ≡ self.old.order }
         ensures err { OnErr result (self.new ≡ self.old) }
         ensures err_found { OnErr result (0 < rows_of self.old.rows) }
@@ -94,8 +98,12 @@ impl<T, A: Allocator> Grid<T, A> {
     pub fn pop_col(&mut self) -> Result<Option<Vec<T, A>>, AllocError>
     where
         A: Clone,
-        ensures rows { OnOk result (self.new.rows ≡ take_cols (cols_of self.old.rows - 1) 1 self.old.rows) }
-        ensures line { IfOk result (λ taken. MatchOption taken (self.old.rows ≡ []) (λ line. slice_get (turned self.old.rows) (cols_of self.old.rows - 1) ≡ Some line.items)) }
+        ensures rows { OnOk result
+            (self.new.rows ≡ take_cols (cols_of self.old.rows - 1) 1 self.old.rows) }
+        ensures line { IfOk result
+            (λ taken. MatchOption taken (self.old.rows ≡ [])
+            (λ line. slice_get (turned self.old.rows) (cols_of self.old.rows - 1)
+            ≡ Some line.items)) }
         ensures order { self.new.order ≡ self.old.order }
         ensures err { OnErr result (self.new ≡ self.old) }
         ensures err_found { OnErr result (0 < cols_of self.old.rows) }
@@ -117,7 +125,9 @@ impl<T, A: Allocator> Grid<T, A> {
     where
         A: Clone,
         ensures rows { OnOk result (self.new.rows ≡ remove self.old.rows at) }
-        ensures line { IfOk result (λ taken. MatchOption taken (rows_of self.old.rows ≤ at) (λ line. slice_get self.old.rows at ≡ Some line.items)) }
+        ensures line { IfOk result
+            (λ taken. MatchOption taken (rows_of self.old.rows ≤ at)
+            (λ line. slice_get self.old.rows at ≡ Some line.items)) }
         ensures order { self.new.order ≡ self.old.order }
         ensures err { OnErr result (self.new ≡ self.old) }
         ensures err_found { OnErr result (at < rows_of self.old.rows) }
@@ -145,7 +155,9 @@ impl<T, A: Allocator> Grid<T, A> {
     where
         A: Clone,
         ensures rows { OnOk result (self.new.rows ≡ take_cols at 1 self.old.rows) }
-        ensures line { IfOk result (λ taken. MatchOption taken (cols_of self.old.rows ≤ at) (λ line. slice_get (turned self.old.rows) at ≡ Some line.items)) }
+        ensures line { IfOk result
+            (λ taken. MatchOption taken (cols_of self.old.rows ≤ at)
+            (λ line. slice_get (turned self.old.rows) at ≡ Some line.items)) }
         ensures order { self.new.order ≡ self.old.order }
         ensures err { OnErr result (self.new ≡ self.old) }
         ensures err_found { OnErr result (at < cols_of self.old.rows) }
@@ -163,8 +175,10 @@ impl<T, A: Allocator> Grid<T, A> {
         A: Clone,
         requires order { self.old.order ≡ Order.RowMajor }
         requires some { 0 < rows_of self.old.rows }
-        ensures rows { OnOk result (self.new.rows ≡ remove self.old.rows (rows_of self.old.rows - 1)) }
-        ensures line { IfOk result (λ line. slice_get self.old.rows (rows_of self.old.rows - 1) ≡ Some line.items) }
+        ensures rows { OnOk result
+            (self.new.rows ≡ remove self.old.rows (rows_of self.old.rows - 1)) }
+        ensures line { IfOk result
+            (λ line. slice_get self.old.rows (rows_of self.old.rows - 1) ≡ Some line.items) }
         ensures order { self.new.order ≡ self.old.order }
         ensures err { OnErr result (self.new ≡ self.old) }
     {
@@ -217,7 +231,8 @@ impl<T, A: Allocator> Grid<T, A> {
     where
         T: Drop,
         ensures found { IsTrue result ↔ (at < cols_of self.old.rows) }
-        ensures rows { self.new.rows ≡ (if result then take_cols at 1 self.old.rows else self.old.rows) }
+        ensures rows { self.new.rows
+            ≡ (if result then take_cols at 1 self.old.rows else self.old.rows) }
         ensures order { self.new.order ≡ self.old.order }
     {
         self.delete_cols(at, 1)
@@ -233,7 +248,8 @@ impl<T, A: Allocator> Grid<T, A> {
     where
         T: Drop,
         ensures found { IsTrue result ↔ (start + count ≤ rows_of self.old.rows) }
-        ensures rows { self.new.rows ≡ (if result then take_rows start count self.old.rows else self.old.rows) }
+        ensures rows { self.new.rows
+            ≡ (if result then take_rows start count self.old.rows else self.old.rows) }
         ensures order { self.new.order ≡ self.old.order }
     {
         let mut tally = Tally::new();
@@ -250,7 +266,8 @@ impl<T, A: Allocator> Grid<T, A> {
     where
         T: Drop,
         ensures found { IsTrue result ↔ (start + count ≤ cols_of self.old.rows) }
-        ensures rows { self.new.rows ≡ (if result then take_cols start count self.old.rows else self.old.rows) }
+        ensures rows { self.new.rows
+            ≡ (if result then take_cols start count self.old.rows else self.old.rows) }
         ensures order { self.new.order ≡ self.old.order }
     {
         let mut tally = Tally::new();
@@ -266,9 +283,12 @@ impl<T, A: Allocator> Grid<T, A> {
     where
         T: Drop,
         ensures found { IsTrue result ↔ (start + count ≤ rows_of self.old.rows) }
-        ensures rows { self.new.rows ≡ (if result then take_rows start count self.old.rows else self.old.rows) }
+        ensures rows { self.new.rows
+            ≡ (if result then take_rows start count self.old.rows else self.old.rows) }
         ensures order { self.new.order ≡ self.old.order }
-        ensures shift { tally.new.shift ≡ counted tally.old.shift (delete_rows_shift self.old.order (rows_of self.old.rows) (cols_of self.old.rows) start count) }
+        ensures shift { tally.new.shift
+            ≡ counted tally.old.shift (delete_rows_shift self.old.order (rows_of self.old.rows)
+            (cols_of self.old.rows) start count) }
         ensures symmetry { tally.new.symmetry ≡ tally.old.symmetry }
     {
         let rows = self.rows();
@@ -288,9 +308,12 @@ impl<T, A: Allocator> Grid<T, A> {
     where
         T: Drop,
         ensures found { IsTrue result ↔ (start + count ≤ cols_of self.old.rows) }
-        ensures rows { self.new.rows ≡ (if result then take_cols start count self.old.rows else self.old.rows) }
+        ensures rows { self.new.rows
+            ≡ (if result then take_cols start count self.old.rows else self.old.rows) }
         ensures order { self.new.order ≡ self.old.order }
-        ensures shift { tally.new.shift ≡ counted tally.old.shift (delete_cols_shift self.old.order (rows_of self.old.rows) (cols_of self.old.rows) start count) }
+        ensures shift { tally.new.shift
+            ≡ counted tally.old.shift (delete_cols_shift self.old.order (rows_of self.old.rows)
+            (cols_of self.old.rows) start count) }
         ensures symmetry { tally.new.symmetry ≡ tally.old.symmetry }
     {
         let _ = &self.flat;
@@ -308,7 +331,9 @@ impl<T, A: Allocator> Grid<T, A> {
         requires some { 0 < count }
         ensures rows { self.new.rows ≡ take_rows start count self.old.rows }
         ensures order { self.new.order ≡ self.old.order }
-        ensures shift { tally.new.shift ≡ counted tally.old.shift (rows_taken_shift self.old.order (rows_of self.old.rows) (cols_of self.old.rows) start count) }
+        ensures shift { tally.new.shift
+            ≡ counted tally.old.shift (rows_taken_shift self.old.order (rows_of self.old.rows)
+            (cols_of self.old.rows) start count) }
         ensures symmetry { tally.new.symmetry ≡ tally.old.symmetry }
     {
         let rest = self.row_count - count;

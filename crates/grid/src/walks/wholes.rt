@@ -34,7 +34,8 @@ impl<T, A: Allocator> Grid<T, A> {
     pub fn fill_with<F: FnMut() -> T>(&mut self, f: F)
     where
         T: Drop,
-        requires { CallableTimes F.pre (λ p x q. F.step p x q) f (length (storage self.old.order self.old.rows)) }
+        requires { CallableTimes F.pre (λ p x q. F.step p x q) f
+            (length (storage self.old.order self.old.rows)) }
         ensures order { self.new.order ≡ self.old.order }
         ensures rows { rows_of self.new.rows ≡ rows_of self.old.rows }
         ensures cols { cols_of self.new.rows ≡ cols_of self.old.rows }
@@ -52,12 +53,15 @@ impl<T, A: Allocator> Grid<T, A> {
     where
         T: Drop,
         A: Clone,
-        requires { CallableAtEach F.pre (λ p x y q. F.step p x y q) f (storage self.order self.rows) }
+        requires { CallableAtEach F.pre (λ p x y q. F.step p x y q) f
+            (storage self.order self.rows) }
         ensures order { IfOk result (λ g. g.order ≡ self.order) }
         ensures rows { IfOk result (λ g. rows_of g.rows ≡ rows_of self.rows) }
         ensures cols { IfOk result (λ g. cols_of g.rows ≡ cols_of self.rows) }
         ensures table { IfOk result (λ g. IsTable g.rows) }
-        ensures cells { IfOk result (λ g. Answers (λ p x y q. F.step p x y q) f (storage self.order self.rows) (storage g.order g.rows)) }
+        ensures cells { IfOk result
+            (λ g. Answers (λ p x y q. F.step p x y q) f (storage self.order self.rows)
+            (storage g.order g.rows)) }
         ensures refused { IfErr result (λ g. g ≡ self) }
     {
         let Grid {
@@ -94,7 +98,9 @@ impl<T, A: Allocator> Grid<T, A> {
         ensures rows { IfOk result (λ g. rows_of g.rows ≡ rows_of self.now.rows) }
         ensures cols { IfOk result (λ g. cols_of g.rows ≡ cols_of self.now.rows) }
         ensures table { IfOk result (λ g. IsTable g.rows) }
-        ensures cells { IfOk result (λ g. Pairs (FnReturnsAt F.Fn f) (storage self.now.order self.now.rows) (storage g.order g.rows)) }
+        ensures cells { IfOk result
+            (λ g. Pairs (FnReturnsAt F.Fn f) (storage self.now.order self.now.rows)
+            (storage g.order g.rows)) }
     {
         let flat = self.flat.map_ref(f)?;
         Ok(Grid {

@@ -35,7 +35,8 @@ fn reverse_in_turn<T>(cells: &mut [T], start: usize, n: usize)
 fn reverse_at_once<T>(cells: &mut [T], start: usize, n: usize)
     requires within { start + n ≤ length cells.old }
     requires fits { start + n < 2 ^ 64 }
-    ensures { cells.new ≡ take start cells.old ++ reverse (take n (drop start cells.old)) ++ drop (start + n) cells.old }
+    ensures { cells.new ≡ take start cells.old ++ reverse (take n (drop start cells.old))
+        ++ drop (start + n) cells.old }
 {
     cells[start..start + n].reverse();
 }
@@ -69,7 +70,8 @@ fn swap_at_once<T>(cells: &mut [T], i: usize, j: usize, n: usize)
     requires apart { i + n ≤ j }
     requires within { j + n ≤ length cells.old }
     requires fits { j + n < 2 ^ 64 }
-    ensures { cells.new ≡ take i cells.old ++ take n (drop j cells.old) ++ drop (i + n) (take j cells.old) ++ take n (drop i cells.old) ++ drop (j + n) cells.old }
+    ensures { cells.new ≡ take i cells.old ++ take n (drop j cells.old)
+        ++ drop (i + n) (take j cells.old) ++ take n (drop i cells.old) ++ drop (j + n) cells.old }
 {
     let (front, back) = cells.split_at_mut(j);
     front[i..i + n].swap_with_slice(&mut back[..n]);

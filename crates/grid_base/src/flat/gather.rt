@@ -36,7 +36,8 @@ impl<T, A: Allocator> Flat<T, A> {
 
 // Moves the cells of each line to the end.
 fn append_each<T, A: Allocator>(cells: &mut Vec<T, A>, lines: &mut [Vec<T, A>])
-    requires room { vec_len cells.old + length (joined (cells_of lines.old)) ≤ vec_capacity cells.old }
+    requires room { vec_len cells.old + length (joined (cells_of lines.old))
+        ≤ vec_capacity cells.old }
     ensures cells { cells.new.items ≡ cells.old.items ++ joined (cells_of lines.old) }
     ensures moved { All (λ line. line.items ≡ []) lines.new }
 {
@@ -50,7 +51,8 @@ fn append_across<T, A: Allocator>(cells: &mut Vec<T, A>, lines: &mut [Vec<T, A>]
     requires table { IsTable (cells_of lines.old) }
     requires width { width ≡ cols_of (cells_of lines.old) }
     requires room { vec_len cells.old + length lines.old * width ≤ vec_capacity cells.old }
-    ensures cells { cells.new.items ≡ cells.old.items ++ storage Order.ColumnMajor (cells_of lines.old) }
+    ensures cells { cells.new.items ≡ cells.old.items
+        ++ storage Order.ColumnMajor (cells_of lines.old) }
     ensures moved { All (λ line. line.items ≡ []) lines.new }
 {
     reverse_each(lines);

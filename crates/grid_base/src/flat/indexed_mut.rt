@@ -58,7 +58,8 @@ impl<'a, T> Iterator for IndexedIterMut<'a, T> {
     fn size_hint(&self) -> (usize, Option<usize>)
         ensures lower { IsWithinCount result.0 (at_most (length (indexed_mut_rest self.now))) }
         ensures upper { IfSome result.1 (UpTo (at_most (length (indexed_mut_rest self.now)))) }
-        ensures exact { result ≡ (length (indexed_mut_rest self.now), Some (length (indexed_mut_rest self.now))) }
+        ensures exact { result
+            ≡ (length (indexed_mut_rest self.now), Some (length (indexed_mut_rest self.now))) }
     {
         let len = self.places.len().min(self.cells.len());
         (len, Some(len))

@@ -73,7 +73,8 @@ impl<'a, T> Iterator for GridLineIterMut<'a, T> {
     fn size_hint(&self) -> (usize, Option<usize>)
         ensures lower { IsWithinCount result.0 (at_most (length (line_mut_rest self.now))) }
         ensures upper { IfSome result.1 (UpTo (at_most (length (line_mut_rest self.now)))) }
-        ensures exact { result ≡ (length (line_mut_rest self.now), Some (length (line_mut_rest self.now))) }
+        ensures exact { result
+            ≡ (length (line_mut_rest self.now), Some (length (line_mut_rest self.now))) }
     {
         let len = self.rest.len().div_ceil(self.stride);
         (len, Some(len))
