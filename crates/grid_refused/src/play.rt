@@ -36,6 +36,9 @@ fn needed(rt: &impl Abort, alloc: Global, deferred: bool) -> u64 {
 #[test]
 fn a_script_whose_memory_is_refused_ends_with_that_fault(rt: HostRuntime) {
     for deferred in [false, true] {
-        assert!(rt; needed(&rt, rt.alloc(), deferred) > 3, "cells, commands, replies and output");
+        assert!(rt;
+            needed(&rt, rt.alloc(), deferred) > 3,
+            "cells, commands, replies and output"
+        );
     }
 }

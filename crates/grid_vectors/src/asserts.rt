@@ -1,21 +1,31 @@
 //! Comparisons that end a test.
-use grid::{Grid, Order};
-use grid_reference::fixtures::{is_stored, shows};
-use std::alloc::{Allocator, Global};
-use std::fmt::Debug;
+use grid::{Grid, Order, ShapeError};
+use grid_reference::fixtures::{grid_of, is_stored, shows, table_of};
+use std::alloc::{AllocError, Allocator, Global};
+use std::fmt::{Debug, Display};
 use std::process::Abort;
 use std::test::Fail;
 
-// A grid shows this table, by its size and each cell, and has stored it in this order.
-pub fn assert_shows<A: Allocator>(
+/// Rows that are written out.
+pub type Rows = &'static [&'static [u32]];
+
+// The grid of these rows, stored in an order.
+pub fn grid_with(alloc: Global, rows: &[&[u32]], order: Order) -> Result<Grid<u32>, ShapeError> {
+    let table = table_of(alloc, rows)?;
+    grid_of(alloc, &table, order)
+}
+
+// A grid shows these rows, by its size and each cell, and has stored them in this order.
+pub fn assert_rows<A: Allocator>(
     rt: &impl Abort,
     alloc: Global,
     grid: &Grid<u32, A>,
-    table: &Vec<Vec<u32>>,
+    rows: &[&[u32]],
     order: Order,
 ) -> Result<(), Fail> {
-    let met = shows(grid, table, order);
-    assert!(rt; met, "{:?} is not {table:?} in {order:?}", grid.flatten());
+    let table = table_of(alloc, rows)?;
+    let met = shows(grid, &table, order);
+    assert!(rt; met, "{:?} is not {rows:?} in {order:?}", grid.flatten());
     Ok(())
 }
 
@@ -33,4 +43,54 @@ pub fn assert_stored<T: Debug + PartialEq, A: Allocator>(
         "{:?} is not {cells:?} of {size:?} in {order:?}",
         grid.flatten()
     );
+}
+
+// A call made a grid, which has this size and has stored these cells in this order.
+pub fn assert_made<T: Debug + PartialEq + Drop, E: Debug + Drop>(
+    rt: &impl Abort,
+    made: Result<Grid<T>, E>,
+    size: (usize, usize),
+    order: Order,
+    cells: &[T],
+) {
+    match made {
+        Ok(grid) => assert_stored(rt, &grid, size, order, cells),
+        Err(fault) => panic!(rt; "{fault:?} in place of {cells:?}"),
+    }
+}
+
+// A call made no grid, for this reason.
+pub fn assert_refused<T: Drop, E: Debug + PartialEq + Drop>(
+    rt: &impl Abort,
+    made: Result<Grid<T>, E>,
+    want: E,
+) {
+    match made {
+        Ok(grid) => panic!(rt; "a grid of {:?} in place of {want:?}", grid.size()),
+        Err(met) => assert_eq!(rt; met, want),
+    }
+}
+
+// The debug text of a value.
+pub fn assert_debug<T: Debug>(
+    rt: &impl Abort,
+    alloc: Global,
+    value: &T,
+    want: &str,
+) -> Result<(), AllocError> {
+    let text = format!(in alloc; "{value:?}")?;
+    assert_eq!(rt; text.as_str(), want);
+    Ok(())
+}
+
+// The text of a value.
+pub fn assert_text<T: Display>(
+    rt: &impl Abort,
+    alloc: Global,
+    value: &T,
+    want: &str,
+) -> Result<(), AllocError> {
+    let text = format!(in alloc; "{value}")?;
+    assert_eq!(rt; text.as_str(), want);
+    Ok(())
 }

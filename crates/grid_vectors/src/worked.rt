@@ -1,4 +1,5 @@
 //! Worked examples, with values that were found by hand.
+mod cells;
 mod conversions;
 mod edits;
 mod makers;

@@ -1,101 +1,130 @@
 //! Conversions of vectors and of lists of rows.
-use crate::asserts::assert_stored;
+use crate::asserts::{Rows, assert_stored};
 use grid::Order::RowMajor;
 use grid::{Grid, ShapeError};
 use grid_reference::fixtures::table_of;
+use std::alloc::{AllocError, Global};
 use std::convert::TryFrom;
+use std::process::Abort;
 use std::test::Fail;
+
+// What a conversion is to make: a grid of this size with these cells, or nothing, for this reason.
+type Made = Result<((usize, usize), &'static [u32]), ShapeError>;
+
+fn assert_converts(rt: &impl Abort, made: Result<Grid<u32>, ShapeError>, want: Made) {
+    match (made, want) {
+        (Ok(grid), Ok((size, cells))) => assert_stored(rt, &grid, size, RowMajor, cells),
+        (Err(met), Err(want)) => assert_eq!(rt; met, want),
+        (Ok(grid), Err(want)) => panic!(rt; "{:?} in place of {want:?}", grid.flatten()),
+        (Err(met), Ok((_, cells))) => panic!(rt; "{met:?} in place of {cells:?}"),
+    }
+}
+
+// A list of cells, the number of columns, and what their pair is converted to.
+const PAIRS: [(&'static [u32], usize, Made); 6] = [
+    (&[1, 2, 3], 2, Err(ShapeError::Shape { len: 3, cols: 2 })),
+    (&[1, 2, 3], 0, Err(ShapeError::Shape { len: 3, cols: 0 })),
+    (&[], 7, Ok(((0, 0), &[]))),
+    (&[1, 2, 3, 4, 5, 6], 3, Ok(((2, 3), &[1, 2, 3, 4, 5, 6]))),
+    (&[1, 2, 3, 4, 5, 6], 2, Ok(((3, 2), &[1, 2, 3, 4, 5, 6]))),
+    (&[1, 2, 3, 4, 5, 6], 6, Ok(((1, 6), &[1, 2, 3, 4, 5, 6]))),
+];
+
+fn check_pair(
+    rt: &impl Abort,
+    alloc: Global,
+    (cells, cols, want): (&[u32], usize, Made),
+) -> Result<(), AllocError> {
+    let flat = Vec::from_slice(alloc, cells)?;
+    assert_converts(rt, Grid::try_from((&flat, cols)), want);
+    assert_converts(rt, Grid::try_from((&flat, &cols)), want);
+    assert_converts(rt, Grid::try_from((flat, cols)), want);
+    Ok(())
+}
 
 #[test]
 fn pairs(rt: HostRuntime) -> Result<(), Fail> {
-    let alloc = rt.alloc();
-    let flat = vec![in alloc; 1u32, 2, 3]?;
-    let shape = Some(ShapeError::Shape { len: 3, cols: 2 });
-    assert_eq!(rt; Grid::try_from((&flat, 2)).err(), shape);
-    assert_eq!(rt; Grid::try_from((&flat, &2)).err(), shape);
-    assert_eq!(rt; Grid::try_from((flat, 2)).err(), shape);
-    let none = Vec::<u32>::new(alloc);
-    assert_stored(&rt, &Grid::try_from((&none, 7))?, (0, 0), RowMajor, &[]);
-    assert_stored(&rt, &Grid::try_from((&none, &7))?, (0, 0), RowMajor, &[]);
-    assert_stored(&rt, &Grid::try_from((none, 7))?, (0, 0), RowMajor, &[]);
+    for case in PAIRS {
+        check_pair(&rt, rt.alloc(), case)?;
+    }
+    Ok(())
+}
+
+// Rows, and what they are converted to.
+const TABLES: [(Rows, Made); 6] = [
+    (
+        &[&[1, 2], &[3], &[4]],
+        Err(ShapeError::Ragged {
+            row: 1,
+            len: 1,
+            cols: 2,
+        }),
+    ),
+    (
+        &[&[1, 2, 3], &[4, 5, 6], &[7, 8]],
+        Err(ShapeError::Ragged {
+            row: 2,
+            len: 2,
+            cols: 3,
+        }),
+    ),
+    (
+        &[&[], &[1]],
+        Err(ShapeError::Ragged {
+            row: 1,
+            len: 1,
+            cols: 0,
+        }),
+    ),
+    (&[&[], &[]], Ok(((0, 0), &[]))),
+    (&[], Ok(((0, 0), &[]))),
+    (&[&[1, 2], &[3, 4]], Ok(((2, 2), &[1, 2, 3, 4]))),
+];
+
+// The rows themselves, each lent, in this order or last first.
+fn lent(
+    alloc: Global,
+    table: &Vec<Vec<u32>>,
+    last_first: bool,
+) -> Result<Vec<&Vec<u32>>, AllocError> {
+    if last_first {
+        table.iter().rev().collect(alloc)
+    } else {
+        table.iter().collect(alloc)
+    }
+}
+
+fn check_table(rt: &impl Abort, alloc: Global, rows: Rows, want: Made) -> Result<(), AllocError> {
+    let table = table_of(alloc, rows)?;
+    assert_converts(rt, Grid::try_from(&table), want);
+    let borrowed = lent(alloc, &table, false)?;
+    assert_converts(rt, Grid::try_from(&borrowed), want);
+    drop(borrowed);
+    assert_converts(rt, Grid::try_from(table), want);
     Ok(())
 }
 
 #[test]
-fn pairs_that_fit(rt: HostRuntime) -> Result<(), Fail> {
-    let flat = vec![in rt.alloc(); 1u32, 2, 3, 4, 5, 6]?;
-    let cells = [1u32, 2, 3, 4, 5, 6];
-    assert_stored(&rt, &Grid::try_from((&flat, 3))?, (2, 3), RowMajor, &cells);
-    assert_stored(&rt, &Grid::try_from((&flat, &2))?, (3, 2), RowMajor, &cells);
-    assert_stored(&rt, &Grid::try_from((flat, 6))?, (1, 6), RowMajor, &cells);
-    Ok(())
-}
-
-#[test]
-fn ragged(rt: HostRuntime) -> Result<(), Fail> {
-    let alloc = rt.alloc();
-    for (table, row, len, cols) in [
-        (
-            table_of(alloc, &[&[1, 2], &[3], &[4]])?,
-            1usize,
-            1usize,
-            2usize,
-        ),
-        (
-            table_of(alloc, &[&[1, 2, 3], &[4, 5, 6], &[7, 8]])?,
-            2,
-            2,
-            3,
-        ),
-        (table_of(alloc, &[&[], &[1]])?, 1, 1, 0),
-    ] {
-        let refused = Some(ShapeError::Ragged { row, len, cols });
-        assert_eq!(rt; Grid::try_from(&table).err(), refused);
-        let mut lent = Vec::new(alloc);
-        for line in &table {
-            lent.push(line)?;
-        }
-        assert_eq!(rt; Grid::try_from(&lent).err(), refused);
-        drop(lent);
-        assert_eq!(rt; Grid::try_from(table).err(), refused);
+fn lists_of_rows(rt: HostRuntime) -> Result<(), Fail> {
+    for (rows, want) in TABLES {
+        check_table(&rt, rt.alloc(), rows, want)?;
     }
     Ok(())
 }
 
 #[test]
-fn rows_without_cells(rt: HostRuntime) -> Result<(), Fail> {
-    let alloc = rt.alloc();
-    for table in [table_of(alloc, &[])?, table_of(alloc, &[&[], &[]])?] {
-        assert_stored(&rt, &Grid::try_from(&table)?, (0, 0), RowMajor, &[]);
-        assert_stored(&rt, &Grid::try_from(table)?, (0, 0), RowMajor, &[]);
-    }
+fn rows_lent_last_first(rt: HostRuntime) -> Result<(), Fail> {
+    let table = table_of(rt.alloc(), &[&[1, 2], &[3, 4]])?;
+    let borrowed = lent(rt.alloc(), &table, true)?;
+    let want: Made = Ok(((2, 2), &[3, 4, 1, 2]));
+    assert_converts(&rt, Grid::try_from(&borrowed), want);
     Ok(())
 }
 
 #[test]
-fn equal_rows(rt: HostRuntime) -> Result<(), Fail> {
-    let alloc = rt.alloc();
-    let table = table_of(alloc, &[&[1, 2], &[3, 4]])?;
-    assert_stored(
-        &rt,
-        &Grid::try_from(&table)?,
-        (2, 2),
-        RowMajor,
-        &[1, 2, 3, 4],
-    );
-    let mut lent = Vec::new(alloc);
-    for row in table.iter().rev() {
-        lent.push(row)?;
-    }
-    assert_stored(
-        &rt,
-        &Grid::try_from(&lent)?,
-        (2, 2),
-        RowMajor,
-        &[3, 4, 1, 2],
-    );
-    drop(lent);
-    let made: Result<Grid<u32>, ShapeError> = table.try_into();
-    assert_stored(&rt, &made?, (2, 2), RowMajor, &[1, 2, 3, 4]);
+fn rows_converted_by_try_into(rt: HostRuntime) -> Result<(), Fail> {
+    let table = table_of(rt.alloc(), &[&[1, 2], &[3, 4]])?;
+    let want: Made = Ok(((2, 2), &[1, 2, 3, 4]));
+    assert_converts(&rt, table.try_into(), want);
     Ok(())
 }

@@ -1,249 +1,368 @@
-//! Edits of lines.
-use crate::asserts::{assert_shows, assert_stored};
+//! Edits of lines: each edit with its answer, and the grid after it.
+use crate::asserts::{Rows, assert_rows, assert_stored, grid_with};
 use grid::Order::{ColumnMajor, RowMajor};
-use grid::{Grid, GridError, Order};
+use grid::{Grid, GridError, LineRefused, LinesRefused, Order};
 use grid_reference::edits::Place;
-use grid_reference::fitting::{insert, insert_several, push_row};
-use grid_reference::fixtures::{ORDERS, grid_of, joined, lines_from, stored, table_of};
-use std::alloc::Global;
+use grid_reference::fitting::{insert, insert_several, push_col, push_row};
+use grid_reference::fixtures::{ORDERS, stored, table_of};
+use std::alloc::{AllocError, Global};
 use std::process::Abort;
 use std::test::Fail;
 
+type Line = &'static [u32];
+
+// An edit, by the name of its call.
+#[derive(Clone, Copy, Debug)]
+enum Edit {
+    PushRow(Line),
+    PushCol(Line),
+    InsertRow(usize, Line),
+    InsertCol(usize, Line),
+    InsertRows(usize, Rows),
+    InsertCols(usize, Rows),
+    PopRow,
+    PopCol,
+    RemoveRow(usize),
+    RemoveCol(usize),
+    DeleteRow(usize),
+    DeleteRows(usize, usize),
+    ExpandRows(usize),
+    ExpandCols(usize),
+    PrependRows(usize),
+    PrependCols(usize),
+}
+
+// What an edit answers.
+#[derive(Clone, Copy, Debug)]
+enum Answer {
+    Done,
+    Refused(GridError),
+    Taken(Option<Line>),
+    Deleted(bool),
+}
+
+use Answer::{Deleted, Done, Refused, Taken};
+use Edit::{
+    DeleteRow, DeleteRows, ExpandCols, ExpandRows, InsertCol, InsertCols, InsertRow, InsertRows,
+    PopCol, PopRow, PrependCols, PrependRows, PushCol, PushRow, RemoveCol, RemoveRow,
+};
+
+const TOO_LARGE: Answer = Refused(GridError::TooLarge);
+
+fn is_put(put: Result<(), LineRefused<u32>>, want: Answer) -> bool {
+    match (put, want) {
+        (Ok(()), Done) => true,
+        (Err(refused), Refused(fault)) => refused.fault == fault,
+        _ => false,
+    }
+}
+
+fn are_put(put: Result<(), LinesRefused<u32>>, want: Answer) -> bool {
+    match (put, want) {
+        (Ok(()), Done) => true,
+        (Err(refused), Refused(fault)) => refused.fault == fault,
+        _ => false,
+    }
+}
+
+fn is_padded(padded: Result<(), GridError>, want: Answer) -> bool {
+    match (padded, want) {
+        (Ok(()), Done) => true,
+        (Err(met), Refused(fault)) => met == fault,
+        _ => false,
+    }
+}
+
+fn is_taken(taken: Option<Vec<u32>>, want: Answer) -> bool {
+    match (taken, want) {
+        (Some(line), Taken(Some(want))) => line.as_slice() == want,
+        (None, Taken(None)) => true,
+        _ => false,
+    }
+}
+
+fn is_deleted(deleted: bool, want: Answer) -> bool {
+    match want {
+        Deleted(want) => deleted == want,
+        _ => false,
+    }
+}
+
+// Whether an edit that puts or takes a line answers so.
+fn answers_line(
+    alloc: Global,
+    grid: &mut Grid<u32>,
+    edit: Edit,
+    want: Answer,
+) -> Result<bool, AllocError> {
+    let met = match edit {
+        PushRow(line) => is_put(push_row(grid, Vec::from_slice(alloc, line)?), want),
+        PushCol(line) => is_put(push_col(grid, Vec::from_slice(alloc, line)?), want),
+        InsertRow(at, line) => {
+            let line = Vec::from_slice(alloc, line)?;
+            is_put(insert(grid, Place::Row(at), line), want)
+        }
+        InsertCol(at, line) => {
+            let line = Vec::from_slice(alloc, line)?;
+            is_put(insert(grid, Place::Col(at), line), want)
+        }
+        PopRow => is_taken(grid.pop_row()?, want),
+        PopCol => is_taken(grid.pop_col()?, want),
+        RemoveRow(at) => is_taken(grid.remove_row(at)?, want),
+        RemoveCol(at) => is_taken(grid.remove_col(at)?, want),
+        _ => false,
+    };
+    Ok(met)
+}
+
+// Whether an edit answers so.
+fn answers(
+    alloc: Global,
+    grid: &mut Grid<u32>,
+    edit: Edit,
+    want: Answer,
+) -> Result<bool, AllocError> {
+    let met = match edit {
+        InsertRows(at, lines) => {
+            let lines = table_of(alloc, lines)?;
+            are_put(insert_several(grid, Place::Row(at), lines), want)
+        }
+        InsertCols(at, lines) => {
+            let lines = table_of(alloc, lines)?;
+            are_put(insert_several(grid, Place::Col(at), lines), want)
+        }
+        DeleteRow(at) => is_deleted(grid.delete_row(at), want),
+        DeleteRows(at, count) => is_deleted(grid.delete_rows(at, count), want),
+        ExpandRows(count) => is_padded(grid.expand_rows(count), want),
+        ExpandCols(count) => is_padded(grid.expand_cols(count), want),
+        PrependRows(count) => is_padded(grid.prepend_rows(count), want),
+        PrependCols(count) => is_padded(grid.prepend_cols(count), want),
+        _ => answers_line(alloc, grid, edit, want)?,
+    };
+    Ok(met)
+}
+
+// The storage that edits begin with: its cells, the number of columns, and the order.
+type Start = (Line, usize, Order);
+
+// An edit, its answer, and the size and the storage after it.
+type Stored = (Edit, Answer, (usize, usize), Line);
+
+// Does edits one after another.
+fn check_stored(
+    rt: &impl Abort,
+    alloc: Global,
+    (cells, cols, order): Start,
+    edits: &[Stored],
+) -> Result<(), Fail> {
+    let mut grid = stored(alloc, cells, cols, order)?;
+    for (edit, answer, size, storage) in edits {
+        let met = answers(alloc, &mut grid, *edit, *answer)?;
+        assert!(rt; met, "{edit:?} does not answer {answer:?}");
+        assert_stored(rt, &grid, *size, order, storage);
+    }
+    Ok(())
+}
+
+// An edit, its answer, and the rows after it.
+type Shown = (Edit, Answer, Rows);
+
+fn check_shown_in(
+    rt: &impl Abort,
+    alloc: Global,
+    order: Order,
+    rows: Rows,
+    edits: &[Shown],
+) -> Result<(), Fail> {
+    let mut grid = grid_with(alloc, rows, order)?;
+    for (edit, answer, rows) in edits {
+        let met = answers(alloc, &mut grid, *edit, *answer)?;
+        assert!(rt; met, "{edit:?} does not answer {answer:?} in {order:?}");
+        assert_rows(rt, alloc, &grid, rows, order)?;
+    }
+    Ok(())
+}
+
+// Does edits one after another, in both orders.
+fn check_shown(rt: &impl Abort, alloc: Global, rows: Rows, edits: &[Shown]) -> Result<(), Fail> {
+    for order in ORDERS {
+        check_shown_in(rt, alloc, order, rows, edits)?;
+    }
+    Ok(())
+}
+
 #[test]
 fn insert_col_row_major(rt: HostRuntime) -> Result<(), Fail> {
-    let mut grid = stored(rt.alloc(), &[1, 2, 3, 4], 2, RowMajor)?;
-    insert(&mut grid, Place::Col(2), vec![in rt.alloc(); 5, 6]?)?;
-    assert_stored(&rt, &grid, (2, 3), RowMajor, &[1, 2, 5, 3, 4, 6]);
-    Ok(())
+    const EDITS: [Stored; 1] = [(InsertCol(2, &[5, 6]), Done, (2, 3), &[1, 2, 5, 3, 4, 6])];
+    check_stored(&rt, rt.alloc(), (&[1, 2, 3, 4], 2, RowMajor), &EDITS)
 }
 
 #[test]
 fn insert_row_column_major(rt: HostRuntime) -> Result<(), Fail> {
-    let mut grid = stored(rt.alloc(), &[1, 3, 2, 4], 2, ColumnMajor)?;
-    insert(&mut grid, Place::Row(1), vec![in rt.alloc(); 5, 6]?)?;
-    assert_stored(&rt, &grid, (3, 2), ColumnMajor, &[1, 5, 3, 2, 6, 4]);
-    Ok(())
+    const EDITS: [Stored; 1] = [(InsertRow(1, &[5, 6]), Done, (3, 2), &[1, 5, 3, 2, 6, 4])];
+    check_stored(&rt, rt.alloc(), (&[1, 3, 2, 4], 2, ColumnMajor), &EDITS)
 }
 
 #[test]
 fn pop_col_row_major(rt: HostRuntime) -> Result<(), Fail> {
-    let cells = [1, 2, 3, 4, 11, 22, 33, 44, 111, 222, 333, 444];
-    let mut grid = stored(rt.alloc(), &cells, 4, RowMajor)?;
-    assert_eq!(rt; grid.pop_col()?, Some(vec![in rt.alloc(); 4, 44, 444]?));
-    let left = [1, 2, 3, 11, 22, 33, 111, 222, 333];
-    assert_stored(&rt, &grid, (3, 3), RowMajor, &left);
-    Ok(())
+    const CELLS: Line = &[1, 2, 3, 4, 11, 22, 33, 44, 111, 222, 333, 444];
+    const LEFT: Line = &[1, 2, 3, 11, 22, 33, 111, 222, 333];
+    const EDITS: [Stored; 1] = [(PopCol, Taken(Some(&[4, 44, 444])), (3, 3), LEFT)];
+    check_stored(&rt, rt.alloc(), (CELLS, 4, RowMajor), &EDITS)
 }
 
 #[test]
 fn row_edits_column_major(rt: HostRuntime) -> Result<(), Fail> {
-    let alloc = rt.alloc();
-    let mut grid = stored(alloc, &[1, 3, 2, 4], 2, ColumnMajor)?;
-    push_row(&mut grid, vec![in alloc; 5, 6]?)?;
-    assert_stored(&rt, &grid, (3, 2), ColumnMajor, &[1, 3, 5, 2, 4, 6]);
-    assert_eq!(rt; grid.remove_row(0)?, Some(vec![in alloc; 1, 2]?));
-    assert_stored(&rt, &grid, (2, 2), ColumnMajor, &[3, 5, 4, 6]);
-    assert!(rt; !grid.delete_row(2));
-    assert_stored(&rt, &grid, (2, 2), ColumnMajor, &[3, 5, 4, 6]);
-    assert_eq!(rt; grid.pop_row()?, Some(vec![in alloc; 5, 6]?));
-    assert_eq!(rt; grid.pop_row()?, Some(vec![in alloc; 3, 4]?));
-    assert_eq!(rt; grid.pop_row()?, None);
-    assert_stored(&rt, &grid, (0, 0), ColumnMajor, &[]);
-    assert!(rt; grid.is_empty());
-    push_row(&mut grid, vec![in alloc; 7, 8, 9]?)?;
-    assert_stored(&rt, &grid, (1, 3), ColumnMajor, &[7, 8, 9]);
-    Ok(())
+    const EDITS: [Stored; 7] = [
+        (PushRow(&[5, 6]), Done, (3, 2), &[1, 3, 5, 2, 4, 6]),
+        (RemoveRow(0), Taken(Some(&[1, 2])), (2, 2), &[3, 5, 4, 6]),
+        (DeleteRow(2), Deleted(false), (2, 2), &[3, 5, 4, 6]),
+        (PopRow, Taken(Some(&[5, 6])), (1, 2), &[3, 4]),
+        (PopRow, Taken(Some(&[3, 4])), (0, 0), &[]),
+        (PopRow, Taken(None), (0, 0), &[]),
+        (PushRow(&[7, 8, 9]), Done, (1, 3), &[7, 8, 9]),
+    ];
+    check_stored(&rt, rt.alloc(), (&[1, 3, 2, 4], 2, ColumnMajor), &EDITS)
 }
 
 #[test]
 fn expand_prepend_column_major(rt: HostRuntime) -> Result<(), Fail> {
-    let cells = [1, 2, 1, 2, 1, 2];
-    let mut grid = stored(rt.alloc(), &cells, 3, ColumnMajor)?;
-    grid.expand_rows(2)?;
-    let below = [1, 2, 0, 0, 1, 2, 0, 0, 1, 2, 0, 0];
-    assert_stored(&rt, &grid, (4, 3), ColumnMajor, &below);
-    let mut grid = stored(rt.alloc(), &cells, 3, ColumnMajor)?;
-    grid.prepend_rows(2)?;
-    let above = [0, 0, 1, 2, 0, 0, 1, 2, 0, 0, 1, 2];
-    assert_stored(&rt, &grid, (4, 3), ColumnMajor, &above);
+    const EDITS: [Stored; 2] = [
+        (
+            ExpandRows(2),
+            Done,
+            (4, 3),
+            &[1, 2, 0, 0, 1, 2, 0, 0, 1, 2, 0, 0],
+        ),
+        (
+            PrependRows(2),
+            Done,
+            (4, 3),
+            &[0, 0, 1, 2, 0, 0, 1, 2, 0, 0, 1, 2],
+        ),
+    ];
+    const START: Start = (&[1, 2, 1, 2, 1, 2], 3, ColumnMajor);
+    for edit in EDITS {
+        check_stored(&rt, rt.alloc(), START, &[edit])?;
+    }
     Ok(())
 }
 
 #[test]
 fn expand_cols(rt: HostRuntime) -> Result<(), Fail> {
-    let alloc = rt.alloc();
-    let cells = [1, 1, 1, 2, 2, 2];
-    let mut grid = stored(alloc, &cells, 3, RowMajor)?;
-    grid.expand_cols(2)?;
-    let wide = [1, 1, 1, 0, 0, 2, 2, 2, 0, 0];
-    assert_stored(&rt, &grid, (2, 5), RowMajor, &wide);
-    let mut grid = stored(alloc, &cells, 3, RowMajor)?;
-    grid.prepend_cols(2)?;
-    let wide = [0, 0, 1, 1, 1, 0, 0, 2, 2, 2];
-    assert_stored(&rt, &grid, (2, 5), RowMajor, &wide);
-    let mut grid = stored(alloc, &cells, 3, RowMajor)?;
-    grid.prepend_rows(2)?;
-    let tall = [0, 0, 0, 0, 0, 0, 1, 1, 1, 2, 2, 2];
-    assert_stored(&rt, &grid, (4, 3), RowMajor, &tall);
-    let mut grid = stored(alloc, &cells, 3, RowMajor)?;
-    grid.expand_cols(0)?;
-    assert_stored(&rt, &grid, (2, 3), RowMajor, &cells);
-    Ok(())
-}
-
-#[test]
-fn expand_too_large(rt: HostRuntime) -> Result<(), Fail> {
-    let mut grid = Grid::<u8>::new(rt.alloc(), 1, 2)?;
-    for (col, number) in [(0, 1u8), (1, 2)] {
-        if let Some(cell) = grid.get_mut(0, col) {
-            *cell = number;
-        }
+    const EDITS: [Stored; 4] = [
+        (ExpandCols(2), Done, (2, 5), &[1, 1, 1, 0, 0, 2, 2, 2, 0, 0]),
+        (
+            PrependCols(2),
+            Done,
+            (2, 5),
+            &[0, 0, 1, 1, 1, 0, 0, 2, 2, 2],
+        ),
+        (
+            PrependRows(2),
+            Done,
+            (4, 3),
+            &[0, 0, 0, 0, 0, 0, 1, 1, 1, 2, 2, 2],
+        ),
+        (ExpandCols(0), Done, (2, 3), &[1, 1, 1, 2, 2, 2]),
+    ];
+    const START: Start = (&[1, 1, 1, 2, 2, 2], 3, RowMajor);
+    for edit in EDITS {
+        check_stored(&rt, rt.alloc(), START, &[edit])?;
     }
-    assert_eq!(rt; grid.expand_rows(usize::MAX / 2), Err(GridError::TooLarge));
-    assert_eq!(rt; grid.get(0, 1).copied(), Some(2));
-    assert_eq!(rt; grid.get(1, 0).copied(), None);
-    assert_stored(&rt, &grid, (1, 2), RowMajor, &[1, 2]);
     Ok(())
 }
 
 // Padding is refused where the cells would be too many, and padding by nothing, or of nothing, is not.
 #[test]
 fn padding_refusals(rt: HostRuntime) -> Result<(), Fail> {
-    let alloc = rt.alloc();
-    let table = table_of(alloc, &[&[1, 2]])?;
-    let none = Vec::new(alloc);
-    for order in ORDERS {
-        let mut grid = grid_of(alloc, &table, order)?;
-        assert_eq!(rt; grid.expand_rows(usize::MAX), Err(GridError::TooLarge));
-        assert_eq!(rt; grid.prepend_cols(usize::MAX), Err(GridError::TooLarge));
-        assert_eq!(rt; grid.expand_rows(0), Ok(()));
-        assert_shows(&rt, alloc, &grid, &table, order)?;
-        let mut grid = grid_of(alloc, &none, order)?;
-        assert_eq!(rt; grid.expand_rows(usize::MAX), Ok(()));
-        assert_shows(&rt, alloc, &grid, &none, order)?;
-    }
-    Ok(())
-}
-
-fn check_remove_cols(rt: &impl Abort, alloc: Global, order: Order) -> Result<(), Fail> {
-    let mut grid = grid_of(alloc, &lines_from(alloc, 1, 4, 4)?, order)?;
-    assert_eq!(rt; grid.remove_col(3)?, Some(vec![in alloc; 4, 8, 12, 16]?));
-    assert_eq!(rt; grid.remove_col(0)?, Some(vec![in alloc; 1, 5, 9, 13]?));
-    assert_eq!(rt; grid.remove_col(1)?, Some(vec![in alloc; 3, 7, 11, 15]?));
-    assert_eq!(rt; grid.remove_col(0)?, Some(vec![in alloc; 2, 6, 10, 14]?));
-    assert_eq!(rt; grid.remove_col(0)?, None);
-    assert_stored(rt, &grid, (0, 0), order, &[]);
-    Ok(())
+    const ROW: Rows = &[&[1, 2]];
+    const EDITS: [Shown; 3] = [
+        (ExpandRows(usize::MAX), TOO_LARGE, ROW),
+        (PrependCols(usize::MAX), TOO_LARGE, ROW),
+        (ExpandRows(0), Done, ROW),
+    ];
+    check_shown(&rt, rt.alloc(), ROW, &EDITS)?;
+    const OF_NOTHING: [Shown; 1] = [(ExpandRows(usize::MAX), Done, &[])];
+    check_shown(&rt, rt.alloc(), &[], &OF_NOTHING)
 }
 
 #[test]
 fn remove_cols(rt: HostRuntime) -> Result<(), Fail> {
-    for order in ORDERS {
-        check_remove_cols(&rt, rt.alloc(), order)?;
-    }
-    Ok(())
+    const START: Rows = &[
+        &[1, 2, 3, 4],
+        &[5, 6, 7, 8],
+        &[9, 10, 11, 12],
+        &[13, 14, 15, 16],
+    ];
+    const EDITS: [Shown; 5] = [
+        (
+            RemoveCol(3),
+            Taken(Some(&[4, 8, 12, 16])),
+            &[&[1, 2, 3], &[5, 6, 7], &[9, 10, 11], &[13, 14, 15]],
+        ),
+        (
+            RemoveCol(0),
+            Taken(Some(&[1, 5, 9, 13])),
+            &[&[2, 3], &[6, 7], &[10, 11], &[14, 15]],
+        ),
+        (
+            RemoveCol(1),
+            Taken(Some(&[3, 7, 11, 15])),
+            &[&[2], &[6], &[10], &[14]],
+        ),
+        (RemoveCol(0), Taken(Some(&[2, 6, 10, 14])), &[]),
+        (RemoveCol(0), Taken(None), &[]),
+    ];
+    check_shown(&rt, rt.alloc(), START, &EDITS)
 }
 
 #[test]
 fn insert_rows_range(rt: HostRuntime) -> Result<(), Fail> {
-    let alloc = rt.alloc();
-    let mut grid = stored(alloc, &[1, 3, 2, 4], 2, ColumnMajor)?;
-    insert_several(&mut grid, Place::Row(1), lines_from(alloc, 5, 2, 2)?)?;
-    let cells = [1, 5, 7, 3, 2, 6, 8, 4];
-    assert_stored(&rt, &grid, (4, 2), ColumnMajor, &cells);
-    assert!(rt; grid.delete_rows(1, 2));
-    assert!(rt; !grid.delete_rows(1, 2));
-    assert!(rt; grid.delete_rows(2, 0));
-    assert!(rt; !grid.delete_rows(usize::MAX, 2));
-    assert_stored(&rt, &grid, (2, 2), ColumnMajor, &[1, 3, 2, 4]);
-    Ok(())
+    const CELLS: Line = &[1, 3, 2, 4];
+    const LINES: Rows = &[&[5, 6], &[7, 8]];
+    const EDITS: [Stored; 5] = [
+        (
+            InsertRows(1, LINES),
+            Done,
+            (4, 2),
+            &[1, 5, 7, 3, 2, 6, 8, 4],
+        ),
+        (DeleteRows(1, 2), Deleted(true), (2, 2), CELLS),
+        (DeleteRows(1, 2), Deleted(false), (2, 2), CELLS),
+        (DeleteRows(2, 0), Deleted(true), (2, 2), CELLS),
+        (DeleteRows(usize::MAX, 2), Deleted(false), (2, 2), CELLS),
+    ];
+    check_stored(&rt, rt.alloc(), (CELLS, 2, ColumnMajor), &EDITS)
 }
 
 #[test]
 fn insert_cols_range(rt: HostRuntime) -> Result<(), Fail> {
-    let alloc = rt.alloc();
-    let table = table_of(alloc, &[&[1, 2], &[3, 4]])?;
-    let wide = table_of(alloc, &[&[1, 5, 7, 2], &[3, 6, 8, 4]])?;
-    for order in ORDERS {
-        let mut grid = grid_of(alloc, &table, order)?;
-        insert_several(&mut grid, Place::Col(1), lines_from(alloc, 5, 2, 2)?)?;
-        assert_shows(&rt, alloc, &grid, &wide, order)?;
-    }
-    Ok(())
-}
-
-// So many cells are not too large, but more than a vector of bytes may have.
-#[test]
-fn pads_to_the_largest_number_of_cells(rt: HostRuntime) -> Result<(), Fail> {
-    for order in ORDERS {
-        let mut grid = Grid::<u8>::new_with_order(rt.alloc(), 1, 1, order)?;
-        let most = usize::MAX - 1;
-        assert_eq!(rt; grid.expand_rows(most), Err(GridError::Memory));
-        assert_eq!(rt; grid.expand_cols(most), Err(GridError::Memory));
-        assert_eq!(rt; grid.prepend_rows(most), Err(GridError::Memory));
-        assert_eq!(rt; grid.prepend_cols(most), Err(GridError::Memory));
-        assert_stored(&rt, &grid, (1, 1), order, &[0u8]);
-    }
-    Ok(())
+    const LINES: Rows = &[&[5, 6], &[7, 8]];
+    const EDITS: [Shown; 1] = [(InsertCols(1, LINES), Done, &[&[1, 5, 7, 2], &[3, 6, 8, 4]])];
+    check_shown(&rt, rt.alloc(), &[&[1, 2], &[3, 4]], &EDITS)
 }
 
 #[test]
-fn puts_and_takes_cells_of_no_size(rt: HostRuntime) -> Result<(), Fail> {
-    let alloc = rt.alloc();
-    for order in ORDERS {
-        let mut grid = Grid::<()>::new_with_order(alloc, 2, 3, order)?;
-        push_row(&mut grid, vec![in alloc; (), (), ()]?)?;
-        assert_stored(&rt, &grid, (3, 3), order, &[(); 9]);
-        assert_eq!(rt; grid.pop_col()?.map(|line| line.len()), Some(3));
-        assert_stored(&rt, &grid, (3, 2), order, &[(); 6]);
-    }
-    Ok(())
+fn a_line_of_one_cell_into_the_empty_grid(rt: HostRuntime) -> Result<(), Fail> {
+    const EDITS: [Shown; 6] = [
+        (PushRow(&[7]), Done, &[&[7]]),
+        (PushCol(&[8]), Done, &[&[7, 8]]),
+        (InsertRow(0, &[5, 6]), Done, &[&[5, 6], &[7, 8]]),
+        (InsertRows(0, &[]), Done, &[&[5, 6], &[7, 8]]),
+        (DeleteRows(0, 2), Deleted(true), &[]),
+        (PushCol(&[9]), Done, &[&[9]]),
+    ];
+    check_shown(&rt, rt.alloc(), &[], &EDITS)
 }
 
 #[test]
-fn puts_several_lines_of_no_size(rt: HostRuntime) -> Result<(), Fail> {
-    let alloc = rt.alloc();
-    for order in ORDERS {
-        let mut grid = Grid::<()>::new_with_order(alloc, 3, 2, order)?;
-        let lines = vec![in alloc; vec![in alloc; (), ()]?, vec![in alloc; (), ()]?]?;
-        insert_several(&mut grid, Place::Row(3), lines)?;
-        assert_stored(&rt, &grid, (5, 2), order, &[(); 10]);
-    }
-    Ok(())
-}
-
-#[test]
-fn pads_cells_of_no_size(rt: HostRuntime) -> Result<(), Fail> {
-    for order in ORDERS {
-        let mut grid = Grid::<()>::new_with_order(rt.alloc(), 1, 1, order)?;
-        assert_eq!(rt; grid.expand_rows(usize::MAX), Err(GridError::TooLarge));
-        assert_stored(&rt, &grid, (1, 1), order, &[()]);
-        grid.prepend_cols(2)?;
-        assert_stored(&rt, &grid, (1, 3), order, &[(); 3]);
-    }
-    Ok(())
-}
-
-#[test]
-fn texts(rt: HostRuntime) -> Result<(), Fail> {
-    let alloc = rt.alloc();
-    let cells = vec![in alloc;
-        String::from_str(alloc, "a")?,
-        String::from_str(alloc, "b")?,
-    ]?;
-    let mut grid = Grid::from_vec(cells, 1);
-    push_row(&mut grid, vec![in alloc; String::from_str(alloc, "c")?]?)?;
-    assert!(rt; grid.delete_row(0));
-    let line = vec![in alloc;
-        String::from_str(alloc, "d")?,
-        String::from_str(alloc, "e")?,
-    ]?;
-    insert(&mut grid, Place::Col(0), line)?;
-    assert_eq!(rt; joined(alloc, &grid)?.as_str(), "dbec");
-    match grid.pop_row()? {
-        Some(line) => assert_eq!(rt; line.len(), 2),
-        None => panic!(rt; "a row is left"),
-    }
-    assert_eq!(rt; joined(alloc, &grid)?.as_str(), "db");
-    Ok(())
+fn a_row_of_one_cell_inserted_into_the_empty_grid(rt: HostRuntime) -> Result<(), Fail> {
+    const EDITS: [Shown; 4] = [
+        (InsertRow(0, &[7]), Done, &[&[7]]),
+        (InsertCol(1, &[8]), Done, &[&[7, 8]]),
+        (DeleteRow(0), Deleted(true), &[]),
+        (InsertCols(0, &[&[9]]), Done, &[&[9]]),
+    ];
+    check_shown(&rt, rt.alloc(), &[], &EDITS)
 }

@@ -1,106 +1,119 @@
 //! Makers and the macros.
-use crate::asserts::assert_stored;
+use crate::asserts::{assert_made, assert_refused};
 use grid::Order::{ColumnMajor, RowMajor};
 use grid::{Grid, GridError, grid, grid_cm};
 use std::test::Fail;
 
+const EMPTY: (usize, usize) = (0, 0);
+
 #[test]
-fn empty_shapes(rt: HostRuntime) -> Result<(), Fail> {
+fn empty_shapes_row_major(rt: HostRuntime) {
     let alloc = rt.alloc();
-    assert_stored(&rt, &Grid::<u8>::new(alloc, 0, 3)?, (0, 0), RowMajor, &[]);
-    assert_stored(&rt, &Grid::init(alloc, 3, 0, 7u8)?, (0, 0), RowMajor, &[]);
+    assert_made(&rt, Grid::<u8>::new(alloc, 0, 3), EMPTY, RowMajor, &[]);
+    assert_made(
+        &rt,
+        Grid::<u8>::new(alloc, usize::MAX, 0),
+        EMPTY,
+        RowMajor,
+        &[],
+    );
+    assert_made(&rt, Grid::init(alloc, 3, 0, 7u8), EMPTY, RowMajor, &[]);
     let cut = Grid::from_vec(Vec::<u8>::new(alloc), 1);
-    assert_stored(&rt, &cut, (0, 0), RowMajor, &[]);
-    let made = Grid::<u8>::new_with_order(alloc, 0, 3, ColumnMajor)?;
-    assert_stored(&rt, &made, (0, 0), ColumnMajor, &[]);
-    let made = Grid::init_with_order(alloc, 3, 0, ColumnMajor, 7u8)?;
-    assert_stored(&rt, &made, (0, 0), ColumnMajor, &[]);
-    let cut = Grid::from_vec_with_order(Vec::<u8>::new(alloc), 1, ColumnMajor);
-    assert_stored(&rt, &cut, (0, 0), ColumnMajor, &[]);
+    assert_made::<_, GridError>(&rt, Ok(cut), EMPTY, RowMajor, &[]);
     let empty = Grid::<u8>::empty(alloc);
-    assert_stored(&rt, &empty, (0, 0), RowMajor, &[]);
-    Ok(())
+    assert_made::<_, GridError>(&rt, Ok(empty), EMPTY, RowMajor, &[]);
 }
 
 #[test]
-fn constructor_limits(rt: HostRuntime) -> Result<(), Fail> {
+fn empty_shapes_column_major(rt: HostRuntime) {
     let alloc = rt.alloc();
-    let large = Some(GridError::TooLarge);
-    let made = Grid::<u8>::new(alloc, 4294967296, 4294967296);
-    assert_eq!(rt; made.err(), large);
-    let made = Grid::<u8>::new(alloc, 4294967295, 4294967297);
-    assert_eq!(rt; made.err(), Some(GridError::Memory));
-    assert_eq!(rt; Grid::init(alloc, usize::MAX, 2, 3u8).err(), large);
-    let made = Grid::<u8>::with_capacity(alloc, usize::MAX, 2);
-    assert_eq!(rt; made.err(), large);
-    assert_eq!(rt; Grid::<u8>::new(alloc, usize::MAX, 0)?.size(), (0, 0));
-    assert_eq!(rt; Grid::<()>::new(alloc, usize::MAX, 2).err(), large);
-    Ok(())
+    let made = Grid::<u8>::new_with_order(alloc, 0, 3, ColumnMajor);
+    assert_made(&rt, made, EMPTY, ColumnMajor, &[]);
+    let made = Grid::<u8>::new_with_order(alloc, usize::MAX, 0, ColumnMajor);
+    assert_made(&rt, made, EMPTY, ColumnMajor, &[]);
+    let made = Grid::init_with_order(alloc, 3, 0, ColumnMajor, 7u8);
+    assert_made(&rt, made, EMPTY, ColumnMajor, &[]);
+    let cut = Grid::from_vec_with_order(Vec::<u8>::new(alloc), 1, ColumnMajor);
+    assert_made::<_, GridError>(&rt, Ok(cut), EMPTY, ColumnMajor, &[]);
 }
 
 #[test]
-fn constructor_limits_column_major(rt: HostRuntime) -> Result<(), Fail> {
+fn limits_row_major(rt: HostRuntime) {
+    const LARGE: GridError = GridError::TooLarge;
+    const MEMORY: GridError = GridError::Memory;
     let alloc = rt.alloc();
-    let large = Some(GridError::TooLarge);
+    assert_refused(&rt, Grid::<u8>::new(alloc, 4294967296, 4294967296), LARGE);
+    assert_refused(&rt, Grid::<u8>::new(alloc, 4294967295, 4294967297), MEMORY);
+    assert_refused(&rt, Grid::init(alloc, usize::MAX, 2, 3u8), LARGE);
+    assert_refused(&rt, Grid::init(alloc, usize::MAX, 1, 3u8), MEMORY);
+    assert_refused(&rt, Grid::<u8>::with_capacity(alloc, usize::MAX, 2), LARGE);
+    assert_refused(&rt, Grid::<u8>::with_capacity(alloc, 1, usize::MAX), MEMORY);
+    assert_refused(&rt, Grid::<()>::new(alloc, usize::MAX, 2), LARGE);
+}
+
+#[test]
+fn limits_column_major(rt: HostRuntime) {
+    const LARGE: GridError = GridError::TooLarge;
+    const MEMORY: GridError = GridError::Memory;
+    let alloc = rt.alloc();
     let made = Grid::<u8>::new_with_order(alloc, 4294967296, 4294967296, ColumnMajor);
-    assert_eq!(rt; made.err(), large);
+    assert_refused(&rt, made, LARGE);
     let made = Grid::<u8>::new_with_order(alloc, 4294967295, 4294967297, ColumnMajor);
-    assert_eq!(rt; made.err(), Some(GridError::Memory));
+    assert_refused(&rt, made, MEMORY);
     let made = Grid::init_with_order(alloc, usize::MAX, 2, ColumnMajor, 3u8);
-    assert_eq!(rt; made.err(), large);
+    assert_refused(&rt, made, LARGE);
     let made = Grid::<u8>::with_capacity_and_order(alloc, usize::MAX, 2, ColumnMajor);
-    assert_eq!(rt; made.err(), large);
-    let made = Grid::<u8>::new_with_order(alloc, usize::MAX, 0, ColumnMajor)?;
-    assert_stored(&rt, &made, (0, 0), ColumnMajor, &[]);
-    Ok(())
+    assert_refused(&rt, made, LARGE);
 }
 
-// As many cells as there can be are not too large, but more than a vector of bytes may have.
+// A capacity needs no cells, so their type need have no value to begin with.
+#[derive(Debug, PartialEq, Drop)]
+struct Made(u8);
+
 #[test]
-fn the_largest_number_of_cells(rt: HostRuntime) -> Result<(), Fail> {
+fn with_capacity_of_cells_without_a_default(rt: HostRuntime) {
     let alloc = rt.alloc();
-    let memory = Some(GridError::Memory);
-    assert_eq!(rt; Grid::init(alloc, usize::MAX, 1, 3u8).err(), memory);
-    let made = Grid::<u8>::with_capacity(alloc, 1, usize::MAX);
-    assert_eq!(rt; made.err(), memory);
-    Ok(())
+    let made = Grid::<Made>::with_capacity(alloc, 2, 3);
+    assert_made(&rt, made, EMPTY, RowMajor, &[]);
+    let made = Grid::<Made>::with_capacity_and_order(alloc, 2, 3, ColumnMajor);
+    assert_made(&rt, made, EMPTY, ColumnMajor, &[]);
+    assert_made::<_, GridError>(&rt, Ok(Grid::<Made>::empty(alloc)), EMPTY, RowMajor, &[]);
 }
 
 #[test]
-fn cells_of_no_size(rt: HostRuntime) -> Result<(), Fail> {
-    let made = Grid::<()>::new(rt.alloc(), 2, 3)?;
-    assert_stored(&rt, &made, (2, 3), RowMajor, &[(); 6]);
-    Ok(())
+fn cells_of_no_size(rt: HostRuntime) {
+    let made = Grid::<()>::new(rt.alloc(), 2, 3);
+    assert_made(&rt, made, (2, 3), RowMajor, &[(); 6]);
 }
 
 #[test]
-fn macros(rt: HostRuntime) -> Result<(), Fail> {
-    let alloc = rt.alloc();
-    let made = grid_cm!(alloc; [1u8, 2, 3] [4, 5, 6])?;
-    assert_stored(&rt, &made, (2, 3), ColumnMajor, &[1, 4, 2, 5, 3, 6]);
-    let made = grid!(alloc; [1u8, 2] [3, 4])?;
-    assert_stored(&rt, &made, (2, 2), RowMajor, &[1, 2, 3, 4]);
-    Ok(())
+fn macros_of_two_rows(rt: HostRuntime) {
+    let made = grid_cm!(rt.alloc(); [1u8, 2, 3] [4, 5, 6]);
+    assert_made(&rt, made, (2, 3), ColumnMajor, &[1, 4, 2, 5, 3, 6]);
+    let made = grid!(rt.alloc(); [1u8, 2] [3, 4]);
+    assert_made(&rt, made, (2, 2), RowMajor, &[1, 2, 3, 4]);
 }
 
 #[test]
-fn macros_of_empty_rows(rt: HostRuntime) -> Result<(), Fail> {
-    let alloc = rt.alloc();
-    let made: Grid<u8> = grid!(alloc; [] [])?;
-    assert_stored(&rt, &made, (0, 0), RowMajor, &[]);
-    let made: Grid<u8> = grid_cm!(alloc; [] [])?;
-    assert_stored(&rt, &made, (0, 0), ColumnMajor, &[]);
-    Ok(())
+fn macros_of_one_row(rt: HostRuntime) {
+    let made = grid!(rt.alloc(); [1u8, 2, 3]);
+    assert_made(&rt, made, (1, 3), RowMajor, &[1, 2, 3]);
+    let made = grid_cm!(rt.alloc(); [1u8, 2, 3]);
+    assert_made(&rt, made, (1, 3), ColumnMajor, &[1, 2, 3]);
 }
 
 #[test]
-fn macros_of_no_rows(rt: HostRuntime) -> Result<(), Fail> {
-    let alloc = rt.alloc();
-    let made: Grid<u8> = grid!(alloc;)?;
-    assert_stored(&rt, &made, (0, 0), RowMajor, &[]);
-    let made: Grid<u8> = grid_cm!(alloc;)?;
-    assert_stored(&rt, &made, (0, 0), ColumnMajor, &[]);
-    Ok(())
+fn macros_of_empty_rows(rt: HostRuntime) {
+    assert_made::<u8, _>(&rt, grid!(rt.alloc(); []), EMPTY, RowMajor, &[]);
+    assert_made::<u8, _>(&rt, grid!(rt.alloc(); [] []), EMPTY, RowMajor, &[]);
+    assert_made::<u8, _>(&rt, grid_cm!(rt.alloc(); []), EMPTY, ColumnMajor, &[]);
+    assert_made::<u8, _>(&rt, grid_cm!(rt.alloc(); [] []), EMPTY, ColumnMajor, &[]);
+}
+
+#[test]
+fn macros_of_no_rows(rt: HostRuntime) {
+    assert_made::<u8, _>(&rt, grid!(rt.alloc();), EMPTY, RowMajor, &[]);
+    assert_made::<u8, _>(&rt, grid_cm!(rt.alloc();), EMPTY, ColumnMajor, &[]);
 }
 
 #[test]

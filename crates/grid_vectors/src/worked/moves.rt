@@ -1,7 +1,9 @@
 //! Words of moves, the moves, and runs of them.
-use crate::asserts::assert_shows;
+use crate::asserts::{Rows, assert_rows, grid_with};
+use grid::Order::{ColumnMajor, RowMajor};
 use grid::{Command, Grid, Move, Order, Reply, Symmetry, Tally, reduce, run};
-use grid_reference::fixtures::{ORDERS, grid_of, order_after, table_of};
+use grid_reference::fixtures::{ORDERS, call, order_after, stored};
+use std::alloc::{AllocError, Global};
 use std::process::Abort;
 use std::test::Fail;
 
@@ -10,127 +12,127 @@ use std::test::Fail;
 fn turns_a_board(rt: HostRuntime) -> Result<(), Fail> {
     let alloc = rt.alloc();
     let cells = vec![in alloc; 1, 4, 2, 5, 3, 6]?;
-    let mut board = Grid::from_vec_with_order(cells, 3, Order::ColumnMajor);
+    let mut board = Grid::from_vec_with_order(cells, 3, ColumnMajor);
     board[(0, 2)] = 9;
-    let rows = table_of(alloc, &[&[1, 2, 9], &[4, 5, 6]])?;
-    assert_shows(&rt, alloc, &board, &rows, Order::ColumnMajor)?;
+    assert_rows(&rt, alloc, &board, &[&[1, 2, 9], &[4, 5, 6]], ColumnMajor)?;
     let turn = reduce(&[Move::RotateLeft, Move::FlipCols]);
     assert_eq!(rt; turn, Symmetry::AntiTranspose);
     board.apply(turn);
-    let image = table_of(alloc, &[&[6, 9], &[5, 2], &[4, 1]])?;
-    assert_shows(&rt, alloc, &board, &image, Order::RowMajor)?;
+    assert_rows(&rt, alloc, &board, &[&[6, 9], &[5, 2], &[4, 1]], RowMajor)?;
     Ok(())
 }
 
-fn assert_reduces(rt: &impl Abort, word: &[Move], want: Symmetry) {
-    assert_eq!(rt; reduce(word), want);
-}
+const WORDS: [(&'static [Move], Symmetry); 6] = [
+    (&[], Symmetry::Identity),
+    (&[Move::RotateLeft, Move::Transpose], Symmetry::FlipCols),
+    (&[Move::FlipRows, Move::FlipCols], Symmetry::RotateHalf),
+    (&[Move::RotateRight; 4], Symmetry::Identity),
+    (
+        &[Move::Transpose, Move::RotateHalf],
+        Symmetry::AntiTranspose,
+    ),
+    (&[Move::Transpose, Move::FlipRows], Symmetry::RotateLeft),
+];
 
 #[test]
 fn reduces_words(rt: HostRuntime) {
-    use Move::{FlipCols, FlipRows, RotateHalf, RotateLeft, RotateRight, Transpose};
-    assert_reduces(&rt, &[], Symmetry::Identity);
-    assert_reduces(&rt, &[RotateLeft, Transpose], Symmetry::FlipCols);
-    assert_reduces(&rt, &[FlipRows, FlipCols], Symmetry::RotateHalf);
-    let four_turns = [RotateRight, RotateRight, RotateRight, RotateRight];
-    assert_reduces(&rt, &four_turns, Symmetry::Identity);
-    assert_reduces(&rt, &[Transpose, RotateHalf], Symmetry::AntiTranspose);
-    assert_reduces(&rt, &[Transpose, FlipRows], Symmetry::RotateLeft);
+    for (word, want) in WORDS {
+        assert_eq!(rt; reduce(word), want, "of {word:?}");
+    }
 }
+
+const JOINED: [(Symmetry, Symmetry, Symmetry); 2] = [
+    (
+        Symmetry::RotateLeft,
+        Symmetry::Transpose,
+        Symmetry::FlipCols,
+    ),
+    (
+        Symmetry::Transpose,
+        Symmetry::RotateLeft,
+        Symmetry::FlipRows,
+    ),
+];
 
 #[test]
 fn joins_two_symmetries(rt: HostRuntime) {
-    let left_then_transpose = Symmetry::RotateLeft.then(Symmetry::Transpose);
-    assert_eq!(rt; left_then_transpose, Symmetry::FlipCols);
-    let transpose_then_left = Symmetry::Transpose.then(Symmetry::RotateLeft);
-    assert_eq!(rt; transpose_then_left, Symmetry::FlipRows);
+    for (first, second, want) in JOINED {
+        assert_eq!(rt; first.then(second), want, "of {first:?} then {second:?}");
+    }
     assert_eq!(rt; Symmetry::RotateLeft.inverse(), Symmetry::RotateRight);
     assert_eq!(rt; Symmetry::AntiTranspose.inverse(), Symmetry::AntiTranspose);
 }
 
-#[test]
-fn turns_left(rt: HostRuntime) -> Result<(), Fail> {
-    let alloc = rt.alloc();
-    let table = table_of(alloc, &[&[1, 2], &[3, 4]])?;
-    let image = table_of(alloc, &[&[2, 4], &[1, 3]])?;
-    for order in ORDERS {
-        let mut grid = grid_of(alloc, &table, order)?;
-        grid.rotate_left();
-        assert_shows(
-            &rt,
-            alloc,
-            &grid,
-            &image,
-            order_after(Symmetry::RotateLeft, order),
-        )?;
-    }
-    Ok(())
+const SQUARE: Rows = &[&[1, 2], &[3, 4]];
+
+const WIDE: Rows = &[&[1, 2, 3], &[4, 5, 6]];
+
+// A table, a move, and its image.
+const TURNED: [(Rows, Move, Rows); 6] = [
+    (SQUARE, Move::RotateLeft, &[&[2, 4], &[1, 3]]),
+    (SQUARE, Move::RotateRight, &[&[3, 1], &[4, 2]]),
+    (SQUARE, Move::FlipRows, &[&[3, 4], &[1, 2]]),
+    (WIDE, Move::RotateHalf, &[&[6, 5, 4], &[3, 2, 1]]),
+    (WIDE, Move::FlipCols, &[&[3, 2, 1], &[6, 5, 4]]),
+    (WIDE, Move::Transpose, &[&[1, 4], &[2, 5], &[3, 6]]),
+];
+
+fn check_move(
+    rt: &impl Abort,
+    alloc: Global,
+    order: Order,
+    (rows, step, image): (Rows, Move, Rows),
+) -> Result<(), Fail> {
+    let mut grid = grid_with(alloc, rows, order)?;
+    call(&mut grid, step);
+    let order = order_after(Symmetry::of(step), order);
+    assert_rows(rt, alloc, &grid, image, order)
 }
 
 #[test]
-fn turns_right(rt: HostRuntime) -> Result<(), Fail> {
-    let alloc = rt.alloc();
-    let table = table_of(alloc, &[&[1, 2], &[3, 4]])?;
-    let image = table_of(alloc, &[&[3, 1], &[4, 2]])?;
-    for order in ORDERS {
-        let mut grid = grid_of(alloc, &table, order)?;
-        grid.rotate_right();
-        assert_shows(
-            &rt,
-            alloc,
-            &grid,
-            &image,
-            order_after(Symmetry::RotateRight, order),
-        )?;
-    }
-    Ok(())
-}
-
-#[test]
-fn turns_by_a_half(rt: HostRuntime) -> Result<(), Fail> {
-    let alloc = rt.alloc();
-    let table = table_of(alloc, &[&[1, 2, 3], &[4, 5, 6]])?;
-    let image = table_of(alloc, &[&[6, 5, 4], &[3, 2, 1]])?;
-    for order in ORDERS {
-        let mut grid = grid_of(alloc, &table, order)?;
-        grid.rotate_half();
-        assert_shows(&rt, alloc, &grid, &image, order)?;
+fn moves_by_name(rt: HostRuntime) -> Result<(), Fail> {
+    for case in TURNED {
+        for order in ORDERS {
+            check_move(&rt, rt.alloc(), order, case)?;
+        }
     }
     Ok(())
 }
 
 #[test]
 fn flip_rows_column_major(rt: HostRuntime) -> Result<(), Fail> {
-    let alloc = rt.alloc();
-    let cells = vec![in alloc; 1u32, 3, 2, 4]?;
-    assert_eq!(rt; cells.len(), 4);
-    let mut grid = Grid::from_vec_with_order(cells, 2, Order::ColumnMajor);
-    assert_eq!(rt; grid.get(0, 1).copied(), Some(2));
-    assert_eq!(rt; grid.get(1, 0).copied(), Some(3));
+    let mut grid = stored(rt.alloc(), &[1, 3, 2, 4], 2, ColumnMajor)?;
+    let off_diagonal = (grid.get(0, 1).copied(), grid.get(1, 0).copied());
+    assert_eq!(rt; off_diagonal, (Some(2), Some(3)));
     grid.flip_rows();
-    let image = table_of(alloc, &[&[3, 4], &[1, 2]])?;
-    assert_shows(&rt, alloc, &grid, &image, Order::ColumnMajor)?;
+    assert_rows(&rt, rt.alloc(), &grid, &[&[3, 4], &[1, 2]], ColumnMajor)?;
     assert_eq!(rt; grid.into_vec().as_slice(), [3, 1, 4, 2].as_slice());
     Ok(())
 }
 
+fn turns(alloc: Global, count: usize) -> Result<Vec<Command>, AllocError> {
+    let mut commands = Vec::new(alloc);
+    for _ in 0..count {
+        commands.push(Command::Apply(Symmetry::RotateLeft))?;
+    }
+    Ok(commands)
+}
+
+fn check_four_turns(rt: &impl Abort, alloc: Global, order: Order) -> Result<(), Fail> {
+    let mut grid = grid_with(alloc, WIDE, order)?;
+    let mut tally = Tally::new();
+    let replies = run(alloc, &mut grid, turns(alloc, 4)?, &mut tally)?;
+    let all_done = [Reply::Done, Reply::Done, Reply::Done, Reply::Done];
+    assert_eq!(rt; replies.as_slice(), all_done.as_slice());
+    drop(replies);
+    assert_eq!(rt; (tally.symmetry(), tally.shift()), (10, 0));
+    assert_rows(rt, alloc, &grid, WIDE, order)
+}
+
 #[test]
 fn four_quarter_turns(rt: HostRuntime) -> Result<(), Fail> {
-    let alloc = rt.alloc();
-    let table = table_of(alloc, &[&[1, 2, 3], &[4, 5, 6]])?;
     for order in ORDERS {
-        let mut grid = grid_of(alloc, &table, order)?;
-        let mut commands = Vec::new(alloc);
-        for _ in 0..4 {
-            commands.push(Command::Apply(Symmetry::RotateLeft))?;
-        }
-        let mut tally = Tally::new();
-        let replies = run(alloc, &mut grid, commands, &mut tally)?;
-        let all_done = [Reply::Done, Reply::Done, Reply::Done, Reply::Done];
-        assert_eq!(rt; replies.as_slice(), all_done.as_slice());
-        assert_shows(&rt, alloc, &grid, &table, order)?;
-        assert_eq!(rt; tally.symmetry(), 10);
-        assert_eq!(rt; tally.shift(), 0);
+        check_four_turns(&rt, rt.alloc(), order)?;
     }
     Ok(())
 }

@@ -1,88 +1,215 @@
 //! Walks.
-use crate::asserts::assert_stored;
-use grid::GridLineIter;
+use crate::asserts::{Rows, assert_stored, grid_with};
 use grid::Order::{ColumnMajor, RowMajor};
-use grid_reference::fixtures::{ORDERS, grid_of, stored, table_of};
+use grid::{Grid, GridColIter, GridLineIter, GridRowIter};
+use grid_reference::fixtures::{ORDERS, stored};
 use std::alloc::{AllocError, Global};
 use std::process::Abort;
 use std::test::Fail;
 
-// The cells of a line are these.
-fn assert_line(
-    rt: &impl Abort,
-    alloc: Global,
-    line: Option<GridLineIter<'_, u32>>,
-    want: &[u32],
-) -> Result<(), Fail> {
-    let mut cells = Vec::new(alloc);
-    for cell in line.expect(rt, "a line is left") {
-        cells.push(*cell)?;
-    }
-    assert_eq!(rt; cells.as_slice(), want);
-    Ok(())
+// The end of a walk that hands a line out, the line, and how many lines then remain.
+#[derive(Clone, Copy, Debug)]
+enum End {
+    Front,
+    Back,
 }
+
+use End::{Back, Front};
+
+type Handed = (End, Option<&'static [u32]>, usize);
+
+// Whether a walk handed out this line, or came to its end.
+fn is_line(line: Option<GridLineIter<'_, u32>>, want: Option<&[u32]>) -> bool {
+    match (line, want) {
+        (Some(line), Some(want)) => line.eq(want.iter()),
+        (None, None) => true,
+        _ => false,
+    }
+}
+
+fn next_row<'a>(
+    rows: &mut GridRowIter<'a, u32, Global>,
+    end: End,
+) -> Option<GridLineIter<'a, u32>> {
+    match end {
+        Front => rows.next(),
+        Back => rows.next_back(),
+    }
+}
+
+fn next_col<'a>(
+    cols: &mut GridColIter<'a, u32, Global>,
+    end: End,
+) -> Option<GridLineIter<'a, u32>> {
+    match end {
+        Front => cols.next(),
+        Back => cols.next_back(),
+    }
+}
+
+fn check_rows(rt: &impl Abort, mut rows: GridRowIter<'_, u32, Global>, handed: &[Handed]) {
+    for (end, want, left) in handed {
+        let met = is_line(next_row(&mut rows, *end), *want);
+        assert!(rt; met, "{want:?} comes from the {end:?}");
+        assert_eq!(rt; rows.len(), *left);
+    }
+}
+
+fn check_cols(rt: &impl Abort, mut cols: GridColIter<'_, u32, Global>, handed: &[Handed]) {
+    for (end, want, left) in handed {
+        let met = is_line(next_col(&mut cols, *end), *want);
+        assert!(rt; met, "{want:?} comes from the {end:?}");
+        assert_eq!(rt; cols.len(), *left);
+    }
+}
+
+const TALL: Rows = &[&[1, 2], &[3, 4], &[5, 6]];
+
+const WIDE: Rows = &[&[1, 2, 3], &[4, 5, 6]];
 
 #[test]
 fn rows_from_both_ends(rt: HostRuntime) -> Result<(), Fail> {
-    let alloc = rt.alloc();
-    let table = table_of(alloc, &[&[1, 2], &[3, 4], &[5, 6]])?;
+    const HANDED: [Handed; 5] = [
+        (Front, Some(&[1, 2]), 2),
+        (Back, Some(&[5, 6]), 1),
+        (Front, Some(&[3, 4]), 0),
+        (Front, None, 0),
+        (Back, None, 0),
+    ];
     for order in ORDERS {
-        let grid = grid_of(alloc, &table, order)?;
-        let mut rows = grid.iter_rows();
-        assert_line(&rt, alloc, rows.next(), &[1, 2])?;
-        assert_line(&rt, alloc, rows.next_back(), &[5, 6])?;
-        assert_eq!(rt; rows.len(), 1);
-        assert_line(&rt, alloc, rows.next(), &[3, 4])?;
-        assert!(rt; rows.next().is_none());
-        assert!(rt; rows.next_back().is_none());
+        let grid = grid_with(rt.alloc(), TALL, order)?;
+        check_rows(&rt, grid.iter_rows(), &HANDED);
     }
     Ok(())
 }
 
 #[test]
 fn cols_from_both_ends(rt: HostRuntime) -> Result<(), Fail> {
-    let alloc = rt.alloc();
-    let table = table_of(alloc, &[&[1, 2, 3], &[4, 5, 6]])?;
+    const HANDED: [Handed; 5] = [
+        (Back, Some(&[3, 6]), 2),
+        (Front, Some(&[1, 4]), 1),
+        (Back, Some(&[2, 5]), 0),
+        (Front, None, 0),
+        (Back, None, 0),
+    ];
     for order in ORDERS {
-        let grid = grid_of(alloc, &table, order)?;
-        let mut cols = grid.iter_cols();
-        assert_line(&rt, alloc, cols.next_back(), &[3, 6])?;
-        assert_line(&rt, alloc, cols.next(), &[1, 4])?;
-        assert_eq!(rt; cols.len(), 1);
-        assert_line(&rt, alloc, cols.next_back(), &[2, 5])?;
-        assert!(rt; cols.next().is_none());
-        assert!(rt; cols.next_back().is_none());
+        let grid = grid_with(rt.alloc(), WIDE, order)?;
+        check_cols(&rt, grid.iter_cols(), &HANDED);
+    }
+    Ok(())
+}
+
+fn push_line(cells: &mut Vec<u32>, line: GridLineIter<'_, u32>) -> Result<(), AllocError> {
+    for cell in line {
+        cells.push(*cell)?;
+    }
+    Ok(())
+}
+
+// The cells of the rows, the last row first.
+fn rows_back(alloc: Global, grid: &Grid<u32>) -> Result<Vec<u32>, AllocError> {
+    let mut cells = Vec::new(alloc);
+    for line in grid.iter_rows().rev() {
+        push_line(&mut cells, line)?;
+    }
+    Ok(cells)
+}
+
+// The cells of the columns, the last column first.
+fn cols_back(alloc: Global, grid: &Grid<u32>) -> Result<Vec<u32>, AllocError> {
+    let mut cells = Vec::new(alloc);
+    for line in grid.iter_cols().rev() {
+        push_line(&mut cells, line)?;
+    }
+    Ok(cells)
+}
+
+#[test]
+fn lines_last_first(rt: HostRuntime) -> Result<(), Fail> {
+    for order in ORDERS {
+        let grid = grid_with(rt.alloc(), TALL, order)?;
+        let rows = rows_back(rt.alloc(), &grid)?;
+        assert_eq!(rt; rows.as_slice(), [5, 6, 3, 4, 1, 2].as_slice());
+        drop(rows);
+        let cols = cols_back(rt.alloc(), &grid)?;
+        assert_eq!(rt; cols.as_slice(), [2, 4, 6, 1, 3, 5].as_slice());
+    }
+    Ok(())
+}
+
+// The length of each row.
+fn row_lengths(alloc: Global, grid: &Grid<u32>) -> Result<Vec<usize>, AllocError> {
+    grid.iter_rows().map(|line| line.len()).collect(alloc)
+}
+
+// How many cells of each column, the last column first, are above 3.
+fn large_in_columns(alloc: Global, grid: &Grid<u32>) -> Result<Vec<usize>, AllocError> {
+    grid.iter_cols()
+        .rev()
+        .map(|line| line.filter(|cell| **cell > 3).count())
+        .collect(alloc)
+}
+
+#[test]
+fn lines_mapped(rt: HostRuntime) -> Result<(), Fail> {
+    for order in ORDERS {
+        let grid = grid_with(rt.alloc(), TALL, order)?;
+        let lengths = row_lengths(rt.alloc(), &grid)?;
+        assert_eq!(rt; lengths.as_slice(), [2, 2, 2].as_slice());
+        drop(lengths);
+        let large = large_in_columns(rt.alloc(), &grid)?;
+        assert_eq!(rt; large.as_slice(), [2, 1].as_slice());
     }
     Ok(())
 }
 
 #[test]
 fn indexed_column_major(rt: HostRuntime) -> Result<(), Fail> {
+    const HANDED: [Option<((usize, usize), u32)>; 5] = [
+        Some(((0, 0), 1)),
+        Some(((1, 0), 3)),
+        Some(((0, 1), 2)),
+        Some(((1, 1), 4)),
+        None,
+    ];
     let grid = stored(rt.alloc(), &[1, 3, 2, 4], 2, ColumnMajor)?;
     let mut walk = grid.indexed_iter();
-    for (at, want) in [((0, 0), 1u32), ((1, 0), 3), ((0, 1), 2), ((1, 1), 4)] {
-        let (place, cell) = walk.next().expect(&rt, "a cell is left");
-        assert_eq!(rt; (place, *cell), (at, want));
+    for want in HANDED {
+        assert_eq!(rt; walk.next().map(|(place, cell)| (place, *cell)), want);
     }
-    assert!(rt; walk.next().is_none());
     Ok(())
 }
 
+// Writes 0, 1, 2, .. along a row.
+fn number_row(rt: &impl Abort, grid: &mut Grid<u32>, at: usize) {
+    assert!(rt; at < grid.rows());
+    let mut next = 0u32;
+    for cell in grid.iter_row_mut(at) {
+        *cell = next;
+        next = next.wrapping_add(1);
+    }
+}
+
+// Writes 0, 1, 2, .. along a column.
+fn number_col(rt: &impl Abort, grid: &mut Grid<u32>, at: usize) {
+    assert!(rt; at < grid.cols());
+    let mut next = 0u32;
+    for cell in grid.iter_col_mut(at) {
+        *cell = next;
+        next = next.wrapping_add(1);
+    }
+}
+
+const SQUARE: Rows = &[&[1, 2, 3], &[4, 5, 6], &[7, 8, 9]];
+
 #[test]
 fn writes_a_row(rt: HostRuntime) -> Result<(), Fail> {
-    let alloc = rt.alloc();
-    let table = table_of(alloc, &[&[1, 2, 3], &[4, 5, 6], &[7, 8, 9]])?;
     for (order, want) in [
         (RowMajor, [1, 2, 3, 0, 1, 2, 7, 8, 9]),
         (ColumnMajor, [1, 0, 7, 2, 1, 8, 3, 2, 9]),
     ] {
-        let mut grid = grid_of(alloc, &table, order)?;
-        assert!(rt; 1 < grid.rows());
-        let mut next = 0u32;
-        for cell in grid.iter_row_mut(1) {
-            *cell = next;
-            next = next.wrapping_add(1);
-        }
+        let mut grid = grid_with(rt.alloc(), SQUARE, order)?;
+        number_row(&rt, &mut grid, 1);
         assert_stored(&rt, &grid, (3, 3), order, &want);
     }
     Ok(())
@@ -90,19 +217,12 @@ fn writes_a_row(rt: HostRuntime) -> Result<(), Fail> {
 
 #[test]
 fn writes_a_column(rt: HostRuntime) -> Result<(), Fail> {
-    let alloc = rt.alloc();
-    let table = table_of(alloc, &[&[1, 2, 3], &[4, 5, 6], &[7, 8, 9]])?;
     for (order, want) in [
         (RowMajor, [1, 2, 0, 4, 5, 1, 7, 8, 2]),
         (ColumnMajor, [1, 4, 7, 2, 5, 8, 0, 1, 2]),
     ] {
-        let mut grid = grid_of(alloc, &table, order)?;
-        assert!(rt; 2 < grid.cols());
-        let mut next = 0u32;
-        for cell in grid.iter_col_mut(2) {
-            *cell = next;
-            next = next.wrapping_add(1);
-        }
+        let mut grid = grid_with(rt.alloc(), SQUARE, order)?;
+        number_col(&rt, &mut grid, 2);
         assert_stored(&rt, &grid, (3, 3), order, &want);
     }
     Ok(())

@@ -1,72 +1,83 @@
 //! Calls on all cells, by closures that have a state.
-use crate::asserts::{assert_shows, assert_stored};
-use grid::Grid;
+use crate::asserts::{Rows, assert_rows, assert_stored, grid_with};
 use grid::Order::{ColumnMajor, RowMajor};
-use grid_reference::fixtures::{Fragile, ORDERS, grid_of, table_of};
+use grid::{Grid, Order};
+use grid_reference::fixtures::Fragile;
+use std::alloc::AllocError;
 use std::cell::Cell;
 use std::test::Fail;
 
+const SQUARE: Rows = &[&[1, 2], &[3, 4]];
+
+// Adds 10 to the first cell that it is called with, 20 to the second, and so on.
+fn map_by_tens(grid: Grid<u32>) -> Option<Grid<u32>> {
+    let mut step = 0u32;
+    let mapped = grid.map(|cell| {
+        step = step.wrapping_add(10);
+        cell.wrapping_add(step)
+    });
+    mapped.ok()
+}
+
 #[test]
 fn map_with_state(rt: HostRuntime) -> Result<(), Fail> {
-    let alloc = rt.alloc();
-    let table = table_of(alloc, &[&[1, 2], &[3, 4]])?;
-    for order in ORDERS {
-        let image = match order {
-            RowMajor => table_of(alloc, &[&[11, 22], &[33, 44]])?,
-            ColumnMajor => table_of(alloc, &[&[11, 32], &[23, 44]])?,
-        };
-        let mut step = 0u32;
-        let mapped = grid_of(alloc, &table, order)?.map(|cell| {
-            step = step.wrapping_add(10);
-            cell.wrapping_add(step)
-        });
-        match mapped {
-            Ok(mapped) => assert_shows(&rt, alloc, &mapped, &image, order)?,
-            Err(_) => panic!(rt; "there is memory"),
+    const IMAGES: [(Order, Rows); 2] = [
+        (RowMajor, &[&[11, 22], &[33, 44]]),
+        (ColumnMajor, &[&[11, 32], &[23, 44]]),
+    ];
+    for (order, image) in IMAGES {
+        match map_by_tens(grid_with(rt.alloc(), SQUARE, order)?) {
+            Some(mapped) => assert_rows(&rt, rt.alloc(), &mapped, image, order)?,
+            None => panic!(rt; "there is memory"),
         }
     }
     Ok(())
 }
 
+// The grid of the names of these numbers, which the closure reads in a table that it holds.
+fn named(grid: &Grid<u32>) -> Result<Grid<&'static str>, AllocError> {
+    let names = ["none", "one", "two", "three", "four"];
+    grid.map_ref(|cell| match names.get(*cell as usize) {
+        Some(name) => *name,
+        None => "many",
+    })
+}
+
 #[test]
 fn map_ref_with_a_table(rt: HostRuntime) -> Result<(), Fail> {
-    let alloc = rt.alloc();
-    let table = table_of(alloc, &[&[1, 2], &[3, 4]])?;
-    let names = ["none", "one", "two", "three", "four"];
     for (order, want) in [
         (RowMajor, ["one", "two", "three", "four"]),
         (ColumnMajor, ["one", "three", "two", "four"]),
     ] {
-        let grid = grid_of(alloc, &table, order)?;
-        let named = grid.map_ref(|cell| match names.get(*cell as usize) {
-            Some(name) => *name,
-            None => "many",
-        })?;
-        assert_stored(&rt, &named, (2, 2), order, &want);
-        assert_shows(&rt, alloc, &grid, &table, order)?;
+        let grid = grid_with(rt.alloc(), SQUARE, order)?;
+        let names = named(&grid)?;
+        assert_stored(&rt, &names, (2, 2), order, &want);
+        drop(names);
+        assert_rows(&rt, rt.alloc(), &grid, SQUARE, order)?;
     }
     Ok(())
 }
 
+// Fills with 1, 2, 3, .. and says how many cells were filled.
+fn fill_by_counting(grid: &mut Grid<u32>) -> u32 {
+    let mut count = 0u32;
+    grid.fill_with(|| {
+        count = count.wrapping_add(1);
+        count
+    });
+    count
+}
+
 #[test]
 fn fill_with_counts(rt: HostRuntime) -> Result<(), Fail> {
-    let alloc = rt.alloc();
-    for order in ORDERS {
-        let image = match order {
-            RowMajor => table_of(alloc, &[&[1, 2], &[3, 4]])?,
-            ColumnMajor => table_of(alloc, &[&[1, 3], &[2, 4]])?,
-        };
-        let mut grid = match order {
-            RowMajor => Grid::<u32>::new(alloc, 2, 2)?,
-            ColumnMajor => Grid::<u32>::new_with_order(alloc, 2, 2, ColumnMajor)?,
-        };
-        let mut count = 0u32;
-        grid.fill_with(|| {
-            count = count.wrapping_add(1);
-            count
-        });
-        assert_eq!(rt; count, 4);
-        assert_shows(&rt, alloc, &grid, &image, order)?;
+    const FILLED: [(Order, Rows); 2] = [
+        (RowMajor, &[&[1, 2], &[3, 4]]),
+        (ColumnMajor, &[&[1, 3], &[2, 4]]),
+    ];
+    for (order, image) in FILLED {
+        let mut grid = Grid::new_with_order(rt.alloc(), 2, 2, order)?;
+        assert_eq!(rt; fill_by_counting(&mut grid), 4);
+        assert_rows(&rt, rt.alloc(), &grid, image, order)?;
     }
     Ok(())
 }

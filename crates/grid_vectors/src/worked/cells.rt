@@ -1,0 +1,176 @@
+//! Edits of cells that are bytes, have no size, or own memory.
+use crate::asserts::assert_stored;
+use grid::Order::{ColumnMajor, RowMajor};
+use grid::{Grid, GridError, Order};
+use grid_reference::edits::Place;
+use grid_reference::fitting::{insert, insert_several, push_row};
+use grid_reference::fixtures::{ORDERS, joined};
+use std::alloc::{AllocError, Global};
+use std::process::Abort;
+use std::test::Fail;
+
+// Padding by its four calls.
+#[derive(Clone, Copy, Debug)]
+enum Pad {
+    ExpandRows(usize),
+    ExpandCols(usize),
+    PrependRows(usize),
+    PrependCols(usize),
+}
+
+fn do_pad<T: Default + Drop>(grid: &mut Grid<T>, pad: Pad) -> Result<(), GridError> {
+    match pad {
+        Pad::ExpandRows(count) => grid.expand_rows(count),
+        Pad::ExpandCols(count) => grid.expand_cols(count),
+        Pad::PrependRows(count) => grid.prepend_rows(count),
+        Pad::PrependCols(count) => grid.prepend_cols(count),
+    }
+}
+
+// The byte 1 before the byte 2, in one row.
+fn two_bytes(alloc: Global, order: Order) -> Result<Grid<u8>, GridError> {
+    let mut grid = Grid::new_with_order(alloc, 1, 2, order)?;
+    for (col, number) in [(0, 1u8), (1, 2)] {
+        if let Some(cell) = grid.get_mut(0, col) {
+            *cell = number;
+        }
+    }
+    Ok(grid)
+}
+
+// A half of the largest count, and one row more, are too many rows of two.
+#[test]
+fn expand_too_large(rt: HostRuntime) -> Result<(), Fail> {
+    const HALF: usize = usize::MAX / 2;
+    for step in [Pad::ExpandRows(HALF), Pad::PrependRows(HALF)] {
+        let mut grid = two_bytes(rt.alloc(), RowMajor)?;
+        assert_eq!(rt;
+            do_pad(&mut grid, step),
+            Err(GridError::TooLarge),
+            "{step:?}"
+        );
+        assert_eq!(rt;
+            (grid.get(0, 1).copied(), grid.get(1, 0).copied()),
+            (Some(2), None)
+        );
+        assert_stored(&rt, &grid, (1, 2), RowMajor, &[1, 2]);
+    }
+    Ok(())
+}
+
+// One row less is not too large, but more than a vector of bytes may have.
+#[test]
+fn expand_to_more_bytes_than_a_vector_has(rt: HostRuntime) -> Result<(), Fail> {
+    const HALF: usize = usize::MAX / 2;
+    for step in [Pad::ExpandRows(HALF - 1), Pad::PrependRows(HALF - 1)] {
+        let mut grid = two_bytes(rt.alloc(), ColumnMajor)?;
+        assert_eq!(rt; do_pad(&mut grid, step), Err(GridError::Memory), "{step:?}");
+        assert_stored(&rt, &grid, (1, 2), ColumnMajor, &[1, 2]);
+    }
+    Ok(())
+}
+
+// So many cells are not too large, but more than a vector of bytes may have.
+#[test]
+fn pads_to_the_largest_number_of_cells(rt: HostRuntime) -> Result<(), Fail> {
+    const MOST: usize = usize::MAX - 1;
+    const PADS: [Pad; 4] = [
+        Pad::ExpandRows(MOST),
+        Pad::ExpandCols(MOST),
+        Pad::PrependRows(MOST),
+        Pad::PrependCols(MOST),
+    ];
+    for order in ORDERS {
+        let mut grid = Grid::<u8>::new_with_order(rt.alloc(), 1, 1, order)?;
+        for step in PADS {
+            assert_eq!(rt; do_pad(&mut grid, step), Err(GridError::Memory), "{step:?}");
+        }
+        assert_stored(&rt, &grid, (1, 1), order, &[0u8]);
+    }
+    Ok(())
+}
+
+// A line of cells that have no size.
+fn units(alloc: Global, len: usize) -> Result<Vec<()>, AllocError> {
+    let mut line = Vec::new(alloc);
+    for _ in 0..len {
+        line.push(())?;
+    }
+    Ok(line)
+}
+
+fn check_cells_of_no_size(rt: &impl Abort, alloc: Global, order: Order) -> Result<(), Fail> {
+    let mut grid = Grid::<()>::new_with_order(alloc, 2, 3, order)?;
+    push_row(&mut grid, units(alloc, 3)?)?;
+    assert_stored(rt, &grid, (3, 3), order, &[(); 9]);
+    assert_eq!(rt; grid.pop_col()?.map(|line| line.len()), Some(3));
+    assert_stored(rt, &grid, (3, 2), order, &[(); 6]);
+    grid.rotate_left();
+    assert_eq!(rt; (grid.size(), grid.flatten().len()), ((2, 3), 6));
+    Ok(())
+}
+
+#[test]
+fn puts_takes_and_turns_cells_of_no_size(rt: HostRuntime) -> Result<(), Fail> {
+    for order in ORDERS {
+        check_cells_of_no_size(&rt, rt.alloc(), order)?;
+    }
+    Ok(())
+}
+
+#[test]
+fn puts_several_lines_of_no_size(rt: HostRuntime) -> Result<(), Fail> {
+    for order in ORDERS {
+        let mut grid = Grid::<()>::new_with_order(rt.alloc(), 3, 2, order)?;
+        let lines = vec![in rt.alloc(); units(rt.alloc(), 2)?, units(rt.alloc(), 2)?]?;
+        insert_several(&mut grid, Place::Row(3), lines)?;
+        assert_stored(&rt, &grid, (5, 2), order, &[(); 10]);
+    }
+    Ok(())
+}
+
+#[test]
+fn pads_cells_of_no_size(rt: HostRuntime) -> Result<(), Fail> {
+    for order in ORDERS {
+        let mut grid = Grid::<()>::new_with_order(rt.alloc(), 1, 1, order)?;
+        let far = do_pad(&mut grid, Pad::ExpandRows(usize::MAX));
+        assert_eq!(rt; far, Err(GridError::TooLarge));
+        assert_stored(&rt, &grid, (1, 1), order, &[()]);
+        do_pad(&mut grid, Pad::PrependCols(2))?;
+        assert_stored(&rt, &grid, (1, 3), order, &[(); 3]);
+    }
+    Ok(())
+}
+
+// A line of texts of one letter each.
+fn texts_of(alloc: Global, letters: &[&str]) -> Result<Vec<String>, AllocError> {
+    let mut line = Vec::new(alloc);
+    for letter in letters {
+        line.push(String::from_str(alloc, *letter)?)?;
+    }
+    Ok(line)
+}
+
+fn assert_joined(
+    rt: &impl Abort,
+    alloc: Global,
+    grid: &Grid<String>,
+    want: &str,
+) -> Result<(), AllocError> {
+    let text = joined(alloc, grid)?;
+    assert_eq!(rt; text.as_str(), want);
+    Ok(())
+}
+
+#[test]
+fn puts_deletes_and_takes_texts(rt: HostRuntime) -> Result<(), Fail> {
+    let alloc = rt.alloc();
+    let mut grid = Grid::from_vec(texts_of(alloc, &["a", "b"])?, 1);
+    push_row(&mut grid, texts_of(alloc, &["c"])?)?;
+    assert!(rt; grid.delete_row(0));
+    insert(&mut grid, Place::Col(0), texts_of(alloc, &["d", "e"])?)?;
+    assert_joined(&rt, alloc, &grid, "dbec")?;
+    assert_eq!(rt; grid.pop_row()?.map(|line| line.len()), Some(2));
+    assert_joined(&rt, alloc, &grid, "db")?;
+    Ok(())
+}
