@@ -491,22 +491,6 @@ fn pops_what_was_pushed(rt: HostRuntime) -> Result<(), Fail> {
     Ok(())
 }
 
-// Two grids of the same rows and order: a line put into the one as a column, and into the other as a row across.
-fn put_both(
-    rt: &impl Abort,
-    alloc: Global,
-    grid: &mut Grid<u32>,
-    other: &mut Grid<u32>,
-    at: usize,
-    cells: &[u32],
-) -> Result<(), Fail> {
-    let line = Vec::from_slice(alloc, cells)?;
-    let same = Vec::from_slice(alloc, cells)?;
-    let put = insert_col_or_row_across(grid, other, at, line, same);
-    assert!(rt; put == (Ok(()), Ok(())));
-    Ok(())
-}
-
 // Puts a column into a grid and a row across another of the same rows and order, by the law.
 fn check_puts_across(
     rt: &impl Abort,
@@ -521,9 +505,17 @@ fn check_puts_across(
         other.transpose();
     }
     assert!(rt; grid.is_empty());
-    put_both(rt, alloc, &mut grid, &mut other, 0, &[1, 2, 3])?;
+    let line = vec![in alloc; 1, 2, 3]?;
+    let same = vec![in alloc; 1, 2, 3]?;
+    match insert_col_or_row_across(&mut grid, &mut other, 0, line, same) {
+        (Ok(()), Ok(())) => {}
+        _ => panic!(rt; "there is memory"),
+    }
     assert_eq!(rt; grid.size(), (3, 1));
-    put_both(rt, alloc, &mut grid, &mut other, 1, &[4, 5, 6])?;
+    let line = vec![in alloc; 4, 5, 6]?;
+    let same = vec![in alloc; 4, 5, 6]?;
+    let put = insert_col_or_row_across(&mut grid, &mut other, 1, line, same);
+    assert_eq!(rt; put, (Ok(()), Ok(())));
     assert_shows(rt, &grid, table, order);
     assert_shows(rt, &other, table, order);
     Ok(())

@@ -360,16 +360,11 @@ fn is_joined(made: Result<Grid<u32, &Heap>, ShapeError>, lens: &[usize], granted
 }
 
 // Rows that are lent to a vector.
-fn check_lent(
-    rt: &impl Abort,
-    heap: &Heap,
-    rows: &[Vec<u32, &Heap>],
-    lens: &[usize],
-    granted: u64,
-) -> Result<(), Fail> {
-    heap.grant(u64::MAX);
-    let mut lent = Vec::new(heap);
-    for row in rows {
+fn check_lent(rt: &impl Abort, alloc: Global, lens: &[usize], granted: u64) -> Result<(), Fail> {
+    let heap = Fuse::new(alloc, u64::MAX);
+    let rows = rows_in(&&heap, lens)?;
+    let mut lent = Vec::new(&heap);
+    for row in &rows {
         lent.push(row)?;
     }
     heap.grant(granted);
@@ -377,15 +372,20 @@ fn check_lent(
     Ok(())
 }
 
-fn check_joined(rt: &impl Abort, alloc: Global, lens: &[usize], granted: u64) -> Result<(), Fail> {
+// Rows that are lent, and then handed over.
+fn check_rows(rt: &impl Abort, alloc: Global, lens: &[usize], granted: u64) -> Result<(), Fail> {
     let heap = Fuse::new(alloc, u64::MAX);
     let rows = rows_in(&&heap, lens)?;
-    check_lent(rt, &heap, rows.as_slice(), lens, granted)?;
     heap.grant(granted);
     assert!(rt; is_joined(Grid::try_from(&rows), lens, granted));
     heap.grant(granted);
     assert!(rt; is_joined(Grid::try_from(rows), lens, granted));
     Ok(())
+}
+
+fn check_joined(rt: &impl Abort, alloc: Global, lens: &[usize], granted: u64) -> Result<(), Fail> {
+    check_lent(rt, alloc, lens, granted)?;
+    check_rows(rt, alloc, lens, granted)
 }
 
 #[test]
