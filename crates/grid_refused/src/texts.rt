@@ -3,7 +3,7 @@ use crate::asserts::assert_shows;
 use grid::Order::RowMajor;
 use grid::{Grid, Order};
 use grid_reference::fixtures::{
-    Heap, ORDERS, SIZES, fragile_cells, grid_of, numbered, starved_grid_of, value_at,
+    Heap, ORDERS, SIZES, fragile_cells, grid_of, has_values, numbered, starved_grid_of,
 };
 use grid_reference::fuse::Fuse;
 use std::alloc::{Allocator, Global};
@@ -14,20 +14,19 @@ use std::test::Fail;
 // Whether a grid is cloned; it is as before, and so is its clone.
 fn is_cloned<A: Allocator + Clone>(
     rt: &impl Abort,
-    alloc: Global,
     grid: &Grid<u32, A>,
     table: &Vec<Vec<u32>>,
     order: Order,
-) -> Result<bool, Fail> {
+) -> bool {
     let copied = match grid.clone() {
         Ok(copy) => {
-            assert_shows(rt, alloc, &copy, table, order)?;
+            assert_shows(rt, &copy, table, order);
             true
         }
         Err(_) => false,
     };
-    assert_shows(rt, alloc, grid, table, order)?;
-    Ok(copied)
+    assert_shows(rt, grid, table, order);
+    copied
 }
 
 fn check_clone(
@@ -39,9 +38,9 @@ fn check_clone(
     let table = numbered(alloc, rows, cols)?;
     let heap = Fuse::new(alloc, 0);
     let grid = starved_grid_of(alloc, &heap, &table, order)?;
-    assert_eq!(rt; is_cloned(rt, alloc, &grid, &table, order)?, rows == 0);
+    assert_eq!(rt; is_cloned(rt, &grid, &table, order), rows == 0);
     heap.grant(1);
-    assert!(rt; is_cloned(rt, alloc, &grid, &table, order)?);
+    assert!(rt; is_cloned(rt, &grid, &table, order));
     Ok(())
 }
 
@@ -59,14 +58,11 @@ fn clones_with_one_request(rt: HostRuntime) -> Result<(), Fail> {
 #[test]
 fn clones_where_a_cell_is_refused(rt: HostRuntime) -> Result<(), Fail> {
     let granted = Cell::new(0);
-    let grid = fragile_cells(rt.alloc(), &granted)?;
+    let grid = fragile_cells(rt.alloc(), &granted, RowMajor)?;
     for clones in 0..5u64 {
         granted.set(clones);
         assert_eq!(rt; grid.clone().is_ok(), clones == 4);
-        assert_eq!(rt;
-            (value_at(&grid, 0, 0), value_at(&grid, 1, 1)),
-            (Some(1), Some(4))
-        );
+        assert!(rt; has_values(&grid, RowMajor, [1, 2, 3, 4].as_slice()));
     }
     Ok(())
 }
@@ -106,7 +102,8 @@ fn check_pretty(
         }
     }
     assert!(rt; 0 < requests && requests < 32);
-    assert_shows(rt, alloc, &grid, &table, order)
+    assert_shows(rt, &grid, &table, order);
+    Ok(())
 }
 
 const LONGEST: &str = "[\n    [ 1, 2, 3]\n    [ 4, 5, 6]\n]";
