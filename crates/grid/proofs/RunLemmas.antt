@@ -4,11 +4,11 @@ use Rattle.std.proofs.lemmas.List.{map-append, length-append}
 use Rattle.std.proofs.Math.Seq.{take-append_seam}
 use Rattle.grid_base.specs.declared.flat.order.Order.{Order}
 use Rattle.grid_base.specs.declared.words.Symmetry.TheVariants.{Identity}
-use Rattle.grid_base.specs.Sheet.{Sheet}
+use Rattle.grid_base.specs.GridValue.{GridValue}
 use Rattle.grid_base.specs.Symmetry.{symmetry_of, order_after}
-use Rattle.grid_base.specs.Tally.{Counts, counted}
+use Rattle.grid_base.specs.Tally.{Counts, saturating_count}
 use Rattle.grid_base.specs.Clones.{ClonesAreEqual}
-use Rattle.grid_base.proofs.Group.{product, symmetry_of-joined, symmetry_of-more, order_after-order_after}
+use Rattle.grid_base.proofs.GroupLemmas.{product, symmetry_of-concat_rows, symmetry_of-more, order_after-order_after}
 use Rattle.grid.specs.declared.command.Command.{Command}
 use Rattle.grid.specs.Reply.{PlainReply}
 use Rattle.grid.specs.Command.{step_rows, step_reply, step_price, command_symmetry}
@@ -31,29 +31,29 @@ list_symmetry-more : (cs : List Command) (c : Command) → list_symmetry (cs ++ 
 list_symmetry-more cs c = ap symmetry_of (map-append command_symmetry cs (c ∷ [])) ∙ symmetry_of-more (map command_symmetry cs) (command_symmetry c)
 
 list_symmetry-none : list_symmetry [] ≡ Identity
-list_symmetry-none = symmetry_of-joined []
+list_symmetry-none = symmetry_of-concat_rows []
 
 order-more : (cs : List Command) (c : Command) (o : Order) → order_after (list_symmetry (cs ++ c ∷ [])) o ≡ order_after (command_symmetry c) (order_after (list_symmetry cs) o)
 order-more cs c o = ap (λ s. order_after s o) (list_symmetry-more cs c) ∙ sym (order_after-order_after (list_symmetry cs) (command_symmetry c) o)
 
-counted-none : (n : ℕ) → n ≡ counted n 0
-counted-none n = omega arith
+saturating_count-none : (n : ℕ) → n ≡ saturating_count n 0
+saturating_count-none n = omega arith
 
-counted-counted : (n j k : ℕ) → counted (counted n j) k ≡ counted n (j + k)
-counted-counted n j k = omega arith
+saturating_count-saturating_count : (n j k : ℕ) → saturating_count (saturating_count n j) k ≡ saturating_count n (j + k)
+saturating_count-saturating_count n j k = omega arith
 
-pub ran_none : {T : Type 0} (is_clone : T → T → Type 0) (s : Sheet T) (t : Counts) → Ran is_clone [] s s t t []
+pub ran_none : {T : Type 0} (is_clone : T → T → Type 0) (s : GridValue T) (t : Counts) → Ran is_clone [] s s t t []
 ran_none is_clone s t = record {
   rows = refl;
   count = refl;
   replies = λ same. refl;
   order = ap (λ x. order_after x s.order) (sym list_symmetry-none);
-  symmetry = counted-none t.symmetry;
+  symmetry = saturating_count-none t.symmetry;
   shift = refl;
 }
 
-module _ {T : Type 0} (is_clone : T → T → Type 0) (cs : List Command) (c : Command) (old mid new : Sheet T) (first between last : Counts) (answers more : List (PlainReply T)) where
-  pub ran_more : Ran is_clone cs old mid first between answers → new.rows ≡ step_rows c mid.rows → length more ≡ suc (length answers) → (ClonesAreEqual is_clone → more ≡ answers ++ step_reply c mid.rows ∷ []) → new.order ≡ order_after (command_symmetry c) mid.order → last.symmetry ≡ counted between.symmetry (step_price c mid.rows) → last.shift ≡ between.shift → Ran is_clone (cs ++ c ∷ []) old new first last more
+module _ {T : Type 0} (is_clone : T → T → Type 0) (cs : List Command) (c : Command) (old mid new : GridValue T) (first between last : Counts) (answers more : List (PlainReply T)) where
+  pub ran_more : Ran is_clone cs old mid first between answers → new.rows ≡ step_rows c mid.rows → length more ≡ suc (length answers) → (ClonesAreEqual is_clone → more ≡ answers ++ step_reply c mid.rows ∷ []) → new.order ≡ order_after (command_symmetry c) mid.order → last.symmetry ≡ saturating_count between.symmetry (step_price c mid.rows) → last.shift ≡ between.shift → Ran is_clone (cs ++ c ∷ []) old new first last more
   ran_more h rows count replies order symmetry shift = record {
     rows = rows ∙ (ap (step_rows c) h.rows ∙ sym (run_rows-more cs c old.rows));
     count = omega (arith, count, h.count, length-append cs (c ∷ []));
@@ -62,14 +62,14 @@ module _ {T : Type 0} (is_clone : T → T → Type 0) (cs : List Command) (c : C
         ∙ (ap (λ t. run_replies cs old.rows ++ step_reply c t ∷ []) h.rows ∙ sym (run_replies-more cs c old.rows)));
     order = order ∙ (ap (order_after (command_symmetry c)) h.order ∙ sym (order-more cs c old.order));
     symmetry =
-        symmetry ∙ (ap (λ n. counted n (step_price c mid.rows)) h.symmetry
-        ∙ (counted-counted first.symmetry (run_price cs old.rows) (step_price c mid.rows)
-        ∙ ap (counted first.symmetry) (ap (λ t. run_price cs old.rows + step_price c t) h.rows ∙ sym (run_price-more cs c old.rows))));
+        symmetry ∙ (ap (λ n. saturating_count n (step_price c mid.rows)) h.symmetry
+        ∙ (saturating_count-saturating_count first.symmetry (run_price cs old.rows) (step_price c mid.rows)
+        ∙ ap (saturating_count first.symmetry) (ap (λ t. run_price cs old.rows + step_price c t) h.rows ∙ sym (run_price-more cs c old.rows))));
     shift = shift ∙ h.shift;
   }
 
 -- a command that changed nothing leaves what the run so far made
-pub ran_still : {T : Type 0} (is_clone : T → T → Type 0) (cs : List Command) (old mid new : Sheet T) (first between last : Counts) (answers : List (PlainReply T)) → Ran is_clone cs old mid first between answers → new ≡ mid → last.symmetry ≡ between.symmetry → last.shift ≡ between.shift → Ran is_clone cs old new first last answers
+pub ran_still : {T : Type 0} (is_clone : T → T → Type 0) (cs : List Command) (old mid new : GridValue T) (first between last : Counts) (answers : List (PlainReply T)) → Ran is_clone cs old mid first between answers → new ≡ mid → last.symmetry ≡ between.symmetry → last.shift ≡ between.shift → Ran is_clone cs old new first last answers
 ran_still is_clone cs old mid new first between last answers h same symmetry shift = record {
   rows = ap (λ s. s.rows) same ∙ h.rows;
   count = h.count;

@@ -5,9 +5,9 @@ use Rattle.std.specs.Cmp.{first_so, second_so}
 use Rattle.std.specs.List.{slice_get}
 use lib.Pointwise.{pointwise}
 use Rattle.grid_base.specs.declared.flat.order.Order.{Order}
-use Rattle.grid_base.specs.Table.{row, rows_of, cols_of, cell, IsTable}
+use Rattle.grid_base.specs.Table.{row, row_count, col_count, cell, IsTable}
 use Rattle.grid_base.specs.Order.{storage, place}
-use Rattle.grid_base.proofs.Stores.{length-storage, get-storage, has_place}
+use Rattle.grid_base.proofs.StorageLemmas.{length-storage, get-storage, has_place}
 
 module _ {X : Type 0} (E : X → X → Bool) where
   same_suc : (xs ys : List X) (i : ℕ) (x y : X) → slice_get xs i ≡ Some x → slice_get ys i ≡ Some y → pointwise E (take i xs) (take i ys) ≡ true → E x y ≡ true → pointwise E (take (suc i) xs) (take (suc i) ys) ≡ true
@@ -33,7 +33,7 @@ module _ {X : Type 0} (E : X → X → Bool) where
       and_false false = refl
 
 -- a row in range is an item of the table
-pub row_at : {X : Type 0} (t : List (List X)) (r : ℕ) → r < rows_of t → slice_get t r ≡ Some (row t r)
+pub row_at : {X : Type 0} (t : List (List X)) (r : ℕ) → r < row_count t → slice_get t r ≡ Some (row t r)
 row_at [] r lt = absurd (omega arith)
 row_at (x ∷ t) zero lt = refl
 row_at (x ∷ t) (suc r) lt = row_at t r (omega arith)
@@ -72,32 +72,32 @@ row_is [] r x e = absurd (cc)
 row_is (y ∷ t) zero x e = cc
 row_is (y ∷ t) (suc r) x e = row_is t r x e
 
-module _ {X : Type 0} (E : X → X → Bool) (o : Order) (t u : List (List X)) (T : IsTable t) (U : IsTable u) (rows : rows_of t ≡ rows_of u) (cols : cols_of t ≡ cols_of u) where
+module _ {X : Type 0} (E : X → X → Bool) (o : Order) (t u : List (List X)) (T : IsTable t) (U : IsTable u) (rows : row_count t ≡ row_count u) (cols : col_count t ≡ col_count u) where
   rows_same : pointwise E (storage o t) (storage o u) ≡ true → pointwise (pointwise E) t u ≡ true
   rows_same h = same_by (pointwise E) t u rows (λ r x y e f.
-      let lr : r < rows_of t = within t r x e in
+      let lr : r < row_count t = within t r x e in
       let x_is : row t r ≡ x = row_is t r x e in
       let y_is : row u r ≡ y = row_is u r y f in
-      let x_len : length x ≡ cols_of t = ap length (sym x_is) ∙ T.even r lr in
-      let y_len : length y ≡ cols_of u = ap length (sym y_is) ∙ U.even r (omega (arith, rows, lr)) in
+      let x_len : length x ≡ col_count t = ap length (sym x_is) ∙ T.even r lr in
+      let y_len : length y ≡ col_count u = ap length (sym y_is) ∙ U.even r (omega (arith, rows, lr)) in
       same_by E x y (x_len ∙ (cols ∙ sym y_len)) (λ c a b p q.
-      let lc : c < cols_of t = omega (arith, x_len, within x c a p) in
-      let here : slice_get (storage o t) (place o (rows_of t) (cols_of t) r c) ≡ Some a =
+      let lc : c < col_count t = omega (arith, x_len, within x c a p) in
+      let here : slice_get (storage o t) (place o (row_count t) (col_count t) r c) ≡ Some a =
       get-storage o t r c T lr lc ∙ (ap (λ l. slice_get l c) x_is ∙ p) in
-      let there : slice_get (storage o u) (place o (rows_of t) (cols_of t) r c) ≡ Some b =
+      let there : slice_get (storage o u) (place o (row_count t) (col_count t) r c) ≡ Some b =
       (λ k. slice_get (storage o u) (place o (rows k) (cols k) r c)) ∙ (get-storage o u r c U (omega (arith, rows, lr)) (omega (arith, cols, lc)) ∙ (ap (λ l. slice_get l c) y_is ∙ q)) in
       same_at E (storage o t) (storage o u) _ a b h here there))
 
   storages_same : pointwise (pointwise E) t u ≡ true → pointwise E (storage o t) (storage o u) ≡ true
   storages_same h =
-      let size : length (storage o t) ≡ rows_of t * cols_of t = length-storage o t T in
+      let size : length (storage o t) ≡ row_count t * col_count t = length-storage o t T in
       let long : length (storage o t) ≡ length (storage o u) = size ∙ ((λ k. rows k * cols k) ∙ sym (length-storage o u U)) in
       same_by E (storage o t) (storage o u) long (λ k a b p q.
-      let at = has_place o (rows_of t) (cols_of t) k (omega (arith, size, within (storage o t) k a p)) in
+      let at = has_place o (row_count t) (col_count t) k (omega (arith, size, within (storage o t) k a p)) in
       let r = at.r in
       let c = at.c in
-      let ur : r < rows_of u = omega (arith, rows, at.lr) in
-      let uc : c < cols_of u = omega (arith, cols, at.lc) in
+      let ur : r < row_count u = omega (arith, rows, at.lr) in
+      let uc : c < col_count u = omega (arith, cols, at.lc) in
       let here : cell t r c ≡ Some a = sym (get-storage o t r c T at.lr at.lc) ∙ (ap (slice_get (storage o t)) at.is ∙ p) in
       let there : cell u r c ≡ Some b =
       sym (get-storage o u r c U ur uc) ∙ ((λ j. slice_get (storage o u) (place o (sym rows j) (sym cols j) r c)) ∙ (ap (slice_get (storage o u)) at.is ∙ q)) in

@@ -10,7 +10,7 @@ use Rattle.std.proofs.lemmas.List.{take_more, map-append, take_all, length-map, 
 use Rattle.std.proofs.lemmas.Bool.Decides.{nat_tests}
 use borrow.Author.Tests.{lt-ltb, le-ltb, ne_eqb}
 use Rattle.std.specs.Ordering.{ord_max, nat_cmp}
-use Rattle.grid_base.specs.Table.{row, rows_of, cols_of, IsTable, joined}
+use Rattle.grid_base.specs.Table.{row, row_count, col_count, IsTable, concat_rows}
 use Rattle.grid.specs.Texts.{numbers, longest, right_aligned, row_line, text_in_width}
 
 take_suc : {X : Type 0} (xs : List X) (i : ℕ) (x : X) → slice_get xs i ≡ Some x → take (suc i) xs ≡ take i xs ++ x ∷ []
@@ -31,7 +31,7 @@ pub flat_map_push : {X B : Type 0} (f : X → List B) (xs : List X) (x : X) → 
 flat_map_push f xs x = sym (flat_map_more f [] xs x)
 
 -- one more row
-pub flat_map_next : {X B : Type 0} (f : List X → List B) (t : List (List X)) (r : ℕ) → r < rows_of t → flat_map f (take (r + 1) t) ≡ flat_map f (take r t) ++ f (row t r)
+pub flat_map_next : {X B : Type 0} (f : List X → List B) (t : List (List X)) (r : ℕ) → r < row_count t → flat_map f (take (r + 1) t) ≡ flat_map f (take r t) ++ f (row t r)
 flat_map_next f t r lt = ap (flat_map f) (take_more t r [] lt) ∙ flat_map_push f (take r t) (row t r)
 
 join_by_push : {X B : Type 0} (f : X → List B) (lead : List B) (xs : List X) (x : X) → join_by f lead (xs ++ x ∷ []) ≡ join_by f lead xs ++ (cond (ltb 0 (length xs)) lead [] ++ f x)
@@ -60,16 +60,16 @@ longest_next w xs i x e =
     ap longest more ∙ (longest_append (map w (take i xs)) (w x ∷ []) ∙ omega arith)
 
 -- one more row
-pub longest_rows : {X : Type 0} (w : X → ℤ) (t : List (List X)) (r : ℕ) → r < rows_of t
+pub longest_rows : {X : Type 0} (w : X → ℤ) (t : List (List X)) (r : ℕ) → r < row_count t
     → longest (flat_map (λ row. map w row) (take (r + 1) t)) ≡ max (longest (flat_map (λ row. map w row) (take r t))) (longest (map w (row t r)))
 longest_rows w t r lt = ap longest (flat_map_next (λ row. map w row) t r lt) ∙ longest_append (flat_map (λ row. map w row) (take r t)) (map w (row t r))
 
 -- a row of a table has as many cells as there are columns
-pub whole_row : {X : Type 0} (t : List (List X)) (r c : ℕ) → IsTable t → r < rows_of t → cols_of t ≤ c → take c (row t r) ≡ row t r
+pub whole_row : {X : Type 0} (t : List (List X)) (r c : ℕ) → IsTable t → r < row_count t → col_count t ≤ c → take c (row t r) ≡ row t r
 whole_row t r c h lt past = take_all c (row t r) (omega (arith, h.even r lt))
 
 -- the numbers of all rows
-pub joined_numbers : {X : Type 0} (w : X → ℤ) (t : List (List X)) → flat_map (λ row. map w row) t ≡ joined (numbers w t)
+pub joined_numbers : {X : Type 0} (w : X → ℤ) (t : List (List X)) → flat_map (λ row. map w row) t ≡ concat_rows (numbers w t)
 joined_numbers w [] = refl
 joined_numbers w (row ∷ t) = ap (λ l. map w row ++ l) (joined_numbers w t)
 
@@ -115,6 +115,6 @@ lines_of : {X : Type 0} (w : X → ℤ) (width : ℕ) (t : List (List X)) → fl
 lines_of w width [] = refl
 lines_of w width (row ∷ t) = ap (λ l. row_line width (map w row) ++ l) (lines_of w width t)
 
-pub text_of_lines : {X : Type 0} (w : X → ℤ) (width : ℕ) (t : List (List X)) → rows_of t ≢ 0 → codes "[\n" ++ (flat_map (λ row. row_line width (map w row)) t ++ codes "]") ≡ text_in_width width (numbers w t)
+pub text_of_lines : {X : Type 0} (w : X → ℤ) (width : ℕ) (t : List (List X)) → row_count t ≢ 0 → codes "[\n" ++ (flat_map (λ row. row_line width (map w row)) t ++ codes "]") ≡ text_in_width width (numbers w t)
 text_of_lines w width [] some = absurd (some refl)
 text_of_lines w width (row ∷ t) some = ap (λ l. codes "[\n" ++ (l ++ codes "]")) (lines_of w width (row ∷ t))

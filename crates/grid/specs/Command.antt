@@ -2,7 +2,7 @@
 use Rattle.std.specs.Prelude.{ℕ, List, IsSome}
 use Rattle.grid_base.specs.declared.words.Symmetry.{Symmetry}
 use Rattle.grid_base.specs.declared.words.Symmetry.TheVariants.{Identity}
-use Rattle.grid_base.specs.Table.{rows_of, cols_of, cell}
+use Rattle.grid_base.specs.Table.{row_count, col_count, cell}
 use Rattle.grid_base.specs.Symmetry.{act, price}
 use Rattle.grid.specs.declared.command.Command.{Command}
 use Rattle.grid.specs.declared.command.Command.TheVariants.{Size, Get, Apply}
@@ -17,7 +17,7 @@ module _ {T : Type 0} where
 
   -- its reply
   abbrev pub step_reply : Command → List (List T) → PlainReply T
-  step_reply Size t = size_is (rows_of t) (cols_of t)
+  step_reply Size t = size_is (row_count t) (col_count t)
   step_reply (Get r c) t = cell_is (cell t r c)
   step_reply (Apply s) t = done
 
@@ -31,7 +31,7 @@ module _ {T : Type 0} where
   abbrev pub step_price : Command → List (List T) → ℕ
   step_price Size t = 0
   step_price (Get r c) t = 0
-  step_price (Apply s) t = price s (rows_of t) (cols_of t)
+  step_price (Apply s) t = price s (row_count t) (col_count t)
 
 -- the symmetry that a command applies
 abbrev pub command_symmetry : Command → Symmetry

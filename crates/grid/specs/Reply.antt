@@ -9,7 +9,7 @@ pub data PlainReply (T : Type 0) : Type 0 where
   size_is : ℕ → ℕ → PlainReply T
   cell_is : Option T → PlainReply T
 
-abbrev pub plain : {T : Type 0} → Reply T → PlainReply T
-plain Done = done
-plain (Size m n) = size_is m n
-plain (Cell x) = cell_is x
+abbrev pub reply_value : {T : Type 0} → Reply T → PlainReply T
+reply_value Done = done
+reply_value (Size m n) = size_is m n
+reply_value (Cell x) = cell_is x

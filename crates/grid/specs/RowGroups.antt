@@ -1,29 +1,29 @@
 -- What an edit of the vector does to the rows of its table.
 use Rattle.std.specs.Prelude.{◌≡◌, ℕ, ◌+◌, ◌*◌, List, ◌++◌, length, take, drop, remove, nat_eq, ◌<◌, ◌≤◌, slice_get, if◌then◌else◌}
 use Rattle.grid_base.specs.declared.flat.order.Order.{Order}
-use Rattle.grid_base.specs.Table.{row, rows_of, cols_of, cell, IsTable}
+use Rattle.grid_base.specs.Table.{row, row_count, col_count, cell, IsTable}
 use Rattle.grid_base.specs.Order.{storage, table_of}
-use Rattle.grid.specs.Edit.{put_rows, take_rows}
+use Rattle.grid.specs.Edits.{insert_rows, without_rows}
 
 -- the number of columns where so many rows of n cells are left
-abbrev pub width_left : ℕ → ℕ → ℕ
-width_left rest n = if nat_eq rest 0 then 0 else n
+abbrev pub cols_if_rows : ℕ → ℕ → ℕ
+cols_if_rows rest n = if nat_eq rest 0 then 0 else n
 
 module _ {T : Type 0} (o : Order) (m n i k : ℕ) (old new : List T) where
   -- k rows that stand behind the cells of a table of m rows and n columns are put before its row i
-  pub record RowsPut : Type 0 where
+  pub record RowsInserted : Type 0 where
     pub lengths : length new ≡ length old
-    pub table : (cells : List T) (lines : List (List T)) → old ≡ cells ++ storage o lines → length cells ≡ m * n → IsTable lines → rows_of lines ≡ k → cols_of lines ≡ n → table_of o (m + k) n new ≡ put_rows i lines (table_of o m n cells)
+    pub table : (cells : List T) (lines : List (List T)) → old ≡ cells ++ storage o lines → length cells ≡ m * n → IsTable lines → row_count lines ≡ k → col_count lines ≡ n → table_of o (m + k) n new ≡ insert_rows i lines (table_of o m n cells)
 
 module _ {T : Type 0} (o : Order) (n i k rest : ℕ) (old new : List T) where
   -- k rows from row i on of a table of rest + k rows and n columns are taken out
   pub record RowsTaken : Type 0 where
     pub lengths : length new ≡ rest * n
-    pub table : table_of o rest n new ≡ take_rows i k (table_of o (rest + k) n old)
+    pub table : table_of o rest n new ≡ without_rows i k (table_of o (rest + k) n old)
 
 module _ {T : Type 0} (o : Order) (n i rest : ℕ) (old new : List T) where
   -- row i of a table of rest + 1 rows and n columns stands behind the cells of the others
-  pub record RowBehind : Type 0 where
+  pub record RowMovedToEnd : Type 0 where
     pub lengths : length new ≡ length old
     pub kept : table_of o rest n (take (rest * n) new) ≡ remove (table_of o (rest + 1) n old) i
     pub taken : 0 < n → drop (rest * n) new ≡ row (table_of o (rest + 1) n old) i
@@ -33,7 +33,7 @@ module _ {T : Type 0} (o : Order) (m n i k : ℕ) (old new : List T) where
   pub record RowsOpened : Type 0 where
     pub lengths : length new ≡ length old
     pub fresh : List (List T)
-    pub rows : rows_of fresh ≡ k
-    pub widths : (j : ℕ) → j < rows_of fresh → length (row fresh j) ≡ n
+    pub rows : row_count fresh ≡ k
+    pub widths : (j : ℕ) → j < row_count fresh → length (row fresh j) ≡ n
     pub from : (j c : ℕ) → j < k → c < n → (x : ℕ) × (m * n ≤ x) × (x < length old) × (cell fresh j c ≡ slice_get old x)
-    pub put : table_of o (m + k) n new ≡ put_rows i fresh (table_of o m n (take (m * n) old))
+    pub put : table_of o (m + k) n new ≡ insert_rows i fresh (table_of o m n (take (m * n) old))

@@ -1,9 +1,9 @@
 -- What a list of commands does to a table: the plain run.
 use Rattle.std.specs.Prelude.{◌≡◌, ◌⊎◌, ℕ, ◌+◌, ◌<◌, List, [], ◌∷◌, map, length, slice_get, IsSomeAnd}
 use Rattle.grid_base.specs.declared.words.Symmetry.{Symmetry}
-use Rattle.grid_base.specs.Sheet.{Sheet}
+use Rattle.grid_base.specs.GridValue.{GridValue}
 use Rattle.grid_base.specs.Symmetry.{symmetry_of, order_after}
-use Rattle.grid_base.specs.Tally.{Counts, counted}
+use Rattle.grid_base.specs.Tally.{Counts, saturating_count}
 use Rattle.grid_base.specs.Clones.{ClonesAreEqual}
 use Rattle.grid.specs.declared.command.Command.{Command}
 use Rattle.grid.specs.Reply.{PlainReply}
@@ -31,12 +31,12 @@ list_symmetry cs = symmetry_of (map command_symmetry cs)
 
 -- what a run of these commands makes of a grid and a tally, and what it replies: a reply a command, and where clones
 -- equal their source, what is due
-pub record Ran {T : Type 0} (is_clone : T → T → Type 0) (commands : List Command) (old new : Sheet T) (before after : Counts) (answers : List (PlainReply T)) : Type 0 where
+pub record Ran {T : Type 0} (is_clone : T → T → Type 0) (commands : List Command) (old new : GridValue T) (before after : Counts) (answers : List (PlainReply T)) : Type 0 where
   pub rows : new.rows ≡ run_rows commands old.rows
   pub count : length answers ≡ length commands
   pub replies : ClonesAreEqual is_clone → answers ≡ run_replies commands old.rows
   pub order : new.order ≡ order_after (list_symmetry commands) old.order
-  pub symmetry : after.symmetry ≡ counted before.symmetry (run_price commands old.rows)
+  pub symmetry : after.symmetry ≡ saturating_count before.symmetry (run_price commands old.rows)
   pub shift : after.shift ≡ before.shift
 
 -- a run may stop for memory after so many commands, at this table: the next command takes memory, or none was

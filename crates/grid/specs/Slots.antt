@@ -7,9 +7,9 @@ use Rattle.grid_base.specs.declared.flat.order.Order.TheVariants.{RowMajor, Colu
 use Rattle.grid_base.specs.Table.{cell}
 
 -- what an order takes first and second: row and column, or column and row
-abbrev pub in_line : Order → ℕ → ℕ → ℕ × ℕ
-in_line RowMajor i j = (i, j)
-in_line ColumnMajor i j = (j, i)
+abbrev pub by_order : Order → ℕ → ℕ → ℕ × ℕ
+by_order RowMajor i j = (i, j)
+by_order ColumnMajor i j = (j, i)
 
 module _ {T : Type 0} where
   -- whether every slot holds a cell

@@ -7,34 +7,34 @@ use Rattle.std.specs.declared.slice.IterMut.{IterMut}
 use Rattle.std.specs.declared.alloc.Allocator.{Ghosts}
 use Rattle.grid_base.specs.declared.flat.strides.GridLineIterMut.{GridLineIterMut}
 use Rattle.grid_base.specs.declared.flat.indexed_mut.IndexedIterMut.{IndexedIterMut}
-use Rattle.grid_base.specs.Table.{rows_of, cols_of, IsTable}
+use Rattle.grid_base.specs.Table.{row_count, col_count, IsTable}
 use Rattle.grid_base.specs.Order.{storage, place, table_of}
-use Rattle.grid_base.specs.Sheet.{Sheet}
+use Rattle.grid_base.specs.GridValue.{GridValue}
 use Rattle.grid_base.specs.FlatLends.{written_from}
 use Rattle.grid_base.specs.GridLineIterMut.{line_mut_name}
 use Rattle.grid_base.specs.IndexedIterMut.{indexed_mut_name}
 use Rattle.grid.specs.contracts.grid.Grid.{the_row}
 
-module _ {T : Type 0} (s : Sheet T) where
+module _ {T : Type 0} (s : GridValue T) where
   -- the cells in storage order
   abbrev pub stored : List T
   stored = storage s.order s.rows
 
   -- the grid of the same size and order with these cells in storage order
-  abbrev pub with_cells : List T → Sheet T
-  with_cells cells = record s { rows = table_of s.order (rows_of s.rows) (cols_of s.rows) cells }
+  abbrev pub with_cells : List T → GridValue T
+  with_cells cells = record s { rows = table_of s.order (row_count s.rows) (col_count s.rows) cells }
 
   -- the same with ws written over its own cells from the first on
-  abbrev pub refilled : List T → Sheet T
+  abbrev pub refilled : List T → GridValue T
   refilled ws = with_cells (refill (length stored) stored ws)
 
   -- or from the place of cell (r, c) on
-  abbrev pub refilled_from : ℕ → ℕ → List T → Sheet T
-  refilled_from r c ws = with_cells (written_from (place s.order (rows_of s.rows) (cols_of s.rows) r c) stored ws)
+  abbrev pub refilled_from : ℕ → ℕ → List T → GridValue T
+  refilled_from r c ws = with_cells (written_from (place s.order (row_count s.rows) (col_count s.rows) r c) stored ws)
 
   -- a table of the same size
   abbrev pub IsSameSize : List (List T) → Type 0
-  IsSameSize t = (rows_of t ≡ rows_of s.rows) × (cols_of t ≡ cols_of s.rows) × IsTable t
+  IsSameSize t = (row_count t ≡ row_count s.rows) × (col_count t ≡ col_count s.rows) × IsTable t
 
   -- whatever is written, the size stays
   abbrev pub KeepsSize : Type 0
@@ -43,7 +43,7 @@ module _ {T : Type 0} (s : Sheet T) where
   abbrev pub KeepsSizeFrom : ℕ → ℕ → Type 0
   KeepsSizeFrom r c = (ws : List T) → IsSameSize (refilled_from r c ws).rows
 
-module _ (T A : RattleType) (alloc : Ghosts A.Denot) (v : MutBor (Sheet T.Denot)) where
+module _ (T A : RattleType) (alloc : Ghosts A.Denot) (v : MutBor (GridValue T.Denot)) where
   -- once the walk has ended, the size and the order are as they were; what the cells are is left to the walk
   abbrev pub lends_cells : IterMut T.Denot → Fml
   lends_cells it = follows (the_row T A alloc) (Array T 0) v.ghost_name (iter_mut_name it) (refilled v.now)

@@ -1,10 +1,10 @@
 //! Commands as data, and runs of them.
 ghost use Rattle.std.specs.Prelude.{◌≡◌, ◌+◌, ◌≤◌, OnOk, OnErr, IfOk, IfErr, map, take};
-ghost use Rattle.grid_base.specs.Table.{rows_of, cols_of};
+ghost use Rattle.grid_base.specs.Table.{row_count, col_count};
 ghost use Rattle.grid_base.specs.Symmetry.{order_after, half};
-ghost use Rattle.grid_base.specs.Tally.{counted};
+ghost use Rattle.grid_base.specs.Tally.{saturating_count};
 ghost use Rattle.grid_base.specs.Clones.{ClonesAreEqual};
-ghost use Rattle.grid.specs.Reply.{plain};
+ghost use Rattle.grid.specs.Reply.{reply_value};
 ghost use Rattle.grid.specs.Command.{step_rows, step_reply, step_price, command_symmetry, TakesMemory};
 ghost use Rattle.grid.specs.Run.{Ran, MayStop};
 
@@ -56,16 +56,16 @@ impl<T, A: Allocator> Grid<T, A> {
         T: Clone + Default + Drop,
         ensures rows { OnOk result (self.new.rows ≡ step_rows command self.old.rows) }
         ensures reply { IfOk result
-            (λ reply. ClonesAreEqual T.is_clone → plain reply ≡ step_reply command self.old.rows) }
+            (λ reply. ClonesAreEqual T.is_clone → reply_value reply ≡ step_reply command self.old.rows) }
         ensures order { OnOk result
             (self.new.order ≡ order_after (command_symmetry command) self.old.order) }
         ensures symmetry { OnOk result
-            (tally.new.symmetry ≡ counted tally.old.symmetry (step_price command self.old.rows)) }
+            (tally.new.symmetry ≡ saturating_count tally.old.symmetry (step_price command self.old.rows)) }
         ensures shift { tally.new.shift ≡ tally.old.shift }
 
         // No command costs more swaps for symmetries than half of the cells.
         ensures half { tally.new.symmetry
-            ≤ tally.old.symmetry + half (rows_of self.old.rows) (cols_of self.old.rows) }
+            ≤ tally.old.symmetry + half (row_count self.old.rows) (col_count self.old.rows) }
 
         // An error comes at a command that takes memory, and changes nothing.
         ensures err_grid { OnErr result (self.new ≡ self.old) }
@@ -104,11 +104,10 @@ pub fn run<T, A: Allocator>(
 ) -> Result<Vec<Reply<T>, A>, RunStopped<T, A>>
 where
     T: Clone + Default + Drop,
-    ensures ran { IfOk result (λ replies. Ran T.is_clone commands.items grid.old grid.new tally.old
-        tally.new (map plain replies.items)) }
-    ensures stopped { IfErr result
-        (λ stop. Ran T.is_clone (take stop.done commands.items) grid.old grid.new tally.old
-        tally.new (map plain stop.replies.items)) }
+    ensures ran { IfOk result (λ replies. Ran
+        T.is_clone commands.items grid.old grid.new tally.old tally.new (map reply_value replies.items)) }
+    ensures stopped { IfErr result (λ stop. Ran T.is_clone (take stop.done commands.items)
+        grid.old grid.new tally.old tally.new (map reply_value stop.replies.items)) }
     ensures stop { IfErr result (λ stop. MayStop commands.items stop.done grid.new.rows) }
 {
     let mut replies = Vec::new(alloc);

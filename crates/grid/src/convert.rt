@@ -1,8 +1,8 @@
 //! Conversions of vectors into row-major grids.
 ghost use Rattle.std.specs.Prelude.{◌≡◌, ◌≢◌, ◌↔◌, length, map, IsTrue, MatchResult};
-ghost use Rattle.grid_base.specs.Table.{cols_of, joined};
+ghost use Rattle.grid_base.specs.Table.{col_count, concat_rows};
 ghost use Rattle.grid_base.specs.Order.{CanCut};
-ghost use Rattle.grid.specs.Rows.{equal_rows, AreClones, AreClonedRows, CanJoin, RowsFault, RowsAnswer, CutAnswer};
+ghost use Rattle.grid.specs.Conversion.{equal_rows, AreClones, AreClonedRows, CanJoin, RowsFault, RowsAnswer, CutAnswer};
 
 use crate::{Grid, ShapeError};
 use std::alloc::Allocator;
@@ -23,8 +23,8 @@ fn can_cut(len: usize, cols: usize) -> bool
 impl<T: Drop, A: Allocator> TryFrom<(Vec<T, A>, usize)> for Grid<T, A> {
     type Error = ShapeError;
 
-    ghost try_from_gives = { λ pair r. CutAnswer ⊥ pair.0.items pair.1
-        (λ cells. cells ≡ pair.0.items) r };
+    ghost try_from_gives = { λ pair r.
+        CutAnswer ⊥ pair.0.items pair.1 (λ cells. cells ≡ pair.0.items) r };
 
     fn try_from((cells, cols): (Vec<T, A>, usize)) -> Result<Grid<T, A>, ShapeError> {
         let len = cells.len();
@@ -55,15 +55,16 @@ fn cut_clones<T: Clone, A: Allocator + Clone>(
 
 /// The grid of rows of this length whose rows, joined, are clones of the vector's cells.
 ///
-/// Each is a clone of its source; where clones equal their source, the cells are those of the vector. `Shape` exactly where the vector is not empty
-/// and the length is 0 or does not divide the number of cells; only after that test memory is asked for, of the
-/// vector's allocator. `TooLarge` never comes, since one vector never holds too many cells, nor does `Ragged`.
+/// Each is a clone of its source; where clones equal their source, the cells are those of the vector. `Shape` exactly
+/// where the vector is not empty and the length is 0 or does not divide the number of cells; only after that test
+/// memory is asked for, of the vector's allocator. `TooLarge` never comes, since one vector never holds too many cells,
+/// nor does `Ragged`.
 impl<T: Clone, A: Allocator + Clone> TryFrom<(&Vec<T, A>, usize)> for Grid<T, A> {
     type Error = ShapeError;
 
-    ghost try_from_gives = { λ pair r. CutAnswer
-        (CanCut (length pair.0.now.items) pair.1) pair.0.now.items pair.1 (AreClones T.is_clone
-        pair.0.now.items) r };
+    ghost try_from_gives = { λ pair r.
+        CutAnswer (CanCut (length pair.0.now.items) pair.1) pair.0.now.items pair.1
+        (AreClones T.is_clone pair.0.now.items) r };
 
     fn try_from(pair: (&Vec<T, A>, usize)) -> Result<Grid<T, A>, ShapeError> {
         cut_clones(pair.0, pair.1)
@@ -74,9 +75,9 @@ impl<T: Clone, A: Allocator + Clone> TryFrom<(&Vec<T, A>, usize)> for Grid<T, A>
 impl<T: Clone, A: Allocator + Clone> TryFrom<(&Vec<T, A>, &usize)> for Grid<T, A> {
     type Error = ShapeError;
 
-    ghost try_from_gives = { λ pair r. CutAnswer
-        (CanCut (length pair.0.now.items) pair.1.now) pair.0.now.items pair.1.now (AreClones
-        T.is_clone pair.0.now.items) r };
+    ghost try_from_gives = { λ pair r.
+        CutAnswer (CanCut (length pair.0.now.items) pair.1.now) pair.0.now.items pair.1.now
+        (AreClones T.is_clone pair.0.now.items) r };
 
     fn try_from(pair: (&Vec<T, A>, &usize)) -> Result<Grid<T, A>, ShapeError> {
         cut_clones(pair.0, *pair.1)
@@ -85,7 +86,7 @@ impl<T: Clone, A: Allocator + Clone> TryFrom<(&Vec<T, A>, &usize)> for Grid<T, A
 
 // The length of the first row, or 0 where there is none.
 pub(crate) fn first_len<T, L: AsSlice<T>>(rows: &[L]) -> usize
-    ensures { result ≡ cols_of (map L.items rows.now) }
+    ensures { result ≡ col_count (map L.items rows.now) }
 {
     match rows.first() {
         Some(row) => row.as_slice().len(),
@@ -95,11 +96,9 @@ pub(crate) fn first_len<T, L: AsSlice<T>>(rows: &[L]) -> usize
 
 // How many cells rows of one length have together, and that length.
 fn measure<T, L: AsSlice<T>>(rows: &[L]) -> Result<(usize, usize), ShapeError>
-    ensures { MatchResult result
-        (λ sizes. CanJoin (map L.items rows.now)
-        × (sizes.0 ≡ length (joined (map L.items rows.now))) × (sizes.1
-        ≡ cols_of (map L.items rows.now))) (λ e. RowsFault (map L.items rows.now) e
-        × (e ≢ ShapeError.Memory)) }
+    ensures { MatchResult result (λ sizes. CanJoin (map L.items rows.now) × (sizes.0
+        ≡ length (concat_rows (map L.items rows.now))) × (sizes.1 ≡ col_count (map L.items rows.now)))
+        (λ e. RowsFault (map L.items rows.now) e × (e ≢ ShapeError.Memory)) }
 {
     let cols = first_len(rows);
     for (number, row) in rows.iter().enumerate() {
@@ -126,8 +125,8 @@ fn measure<T, L: AsSlice<T>>(rows: &[L]) -> Result<(usize, usize), ShapeError>
 impl<T: Drop, A: Allocator + Clone> TryFrom<Vec<Vec<T, A>, A>> for Grid<T, A> {
     type Error = ShapeError;
 
-    ghost try_from_gives = { λ rows r. let lists = map
-        (λ row. row.items) rows.items in RowsAnswer lists (λ t. t ≡ equal_rows lists) r };
+    ghost try_from_gives = { λ rows r. let lists = map (λ row. row.items) rows.items
+        in RowsAnswer lists (λ t. t ≡ equal_rows lists) r };
 
     fn try_from(rows: Vec<Vec<T, A>, A>) -> Result<Grid<T, A>, ShapeError> {
         let (count, cols) = measure(rows.as_slice())?;
@@ -144,8 +143,8 @@ fn join_clones<T: Clone, L: AsSlice<T>, A: Allocator + Clone>(
     alloc: &A,
     rows: &[L],
 ) -> Result<Grid<T, A>, ShapeError>
-    ensures { RowsAnswer (map L.items rows.now)
-        (AreClonedRows T.is_clone (map L.items rows.now)) result }
+    ensures { RowsAnswer
+        (map L.items rows.now) (AreClonedRows T.is_clone (map L.items rows.now)) result }
 {
     let (count, cols) = measure(rows)?;
     let mut cells = Vec::with_capacity(alloc.clone()?, count)?;
@@ -164,8 +163,8 @@ fn join_clones<T: Clone, L: AsSlice<T>, A: Allocator + Clone>(
 impl<T: Clone, A: Allocator + Clone> TryFrom<&Vec<Vec<T, A>, A>> for Grid<T, A> {
     type Error = ShapeError;
 
-    ghost try_from_gives = { λ rows r. let lists = map
-        (λ row. row.items) rows.now.items in RowsAnswer lists (AreClonedRows T.is_clone lists) r };
+    ghost try_from_gives = { λ rows r. let lists = map (λ row. row.items) rows.now.items
+        in RowsAnswer lists (AreClonedRows T.is_clone lists) r };
 
     fn try_from(rows: &Vec<Vec<T, A>, A>) -> Result<Grid<T, A>, ShapeError> {
         join_clones(rows.allocator(), rows.as_slice())
@@ -181,9 +180,8 @@ impl<T: Clone, A: Allocator + Clone> TryFrom<&Vec<Vec<T, A>, A>> for Grid<T, A> 
 impl<T: Clone, A: Allocator + Clone> TryFrom<&Vec<&Vec<T, A>, A>> for Grid<T, A> {
     type Error = ShapeError;
 
-    ghost try_from_gives = { λ rows r. let lists = map
-        (λ row. row.now.items) rows.now.items in RowsAnswer lists (AreClonedRows T.is_clone
-        lists) r };
+    ghost try_from_gives = { λ rows r. let lists = map (λ row. row.now.items) rows.now.items
+        in RowsAnswer lists (AreClonedRows T.is_clone lists) r };
 
     fn try_from(rows: &Vec<&Vec<T, A>, A>) -> Result<Grid<T, A>, ShapeError> {
         join_clones(rows.allocator(), rows.as_slice())

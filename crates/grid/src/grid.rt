@@ -2,7 +2,7 @@
 ghost use Rattle.std.specs.Prelude.{◌≡◌, ◌≢◌, ◌*◌, ◌^◌, ◌<◌, ◌↔◌, [], length, IsTrue, IfSome, Some, is_some};
 ghost use Rattle.std.specs.Borrow.{sem};
 ghost use Rattle.std.specs.Option.{option_copied};
-ghost use Rattle.grid_base.specs.Table.{rows_of, cols_of, cell, exchanged, InRange, IsTable};
+ghost use Rattle.grid_base.specs.Table.{row_count, col_count, cell, exchanged, InRange, IsTable};
 ghost use Rattle.grid_base.specs.Order.{storage, place, CanCut};
 
 use grid_base::{Flat, Order};
@@ -24,17 +24,14 @@ pub struct Grid<T, A: Allocator = Global> {
 impl<T, A: Allocator> Model for Grid<T, A> {
     ghost use Rattle.std.specs.Prelude.{length};
     ghost use Rattle.grid_base.specs.Order.{table_of};
-    ghost use Rattle.grid_base.specs.Sheet.{Sheet, Fits};
+    ghost use Rattle.grid_base.specs.GridValue.{GridValue, HoldsSize};
 
-    ghost Value = { Sheet T };
+    ghost Value = { GridValue T };
 
-    ghost view = { λ g. record {
-      rows = table_of g.order g.row_count g.col_count g.flat;
-      order =
-          g.order;
-    } };
+    ghost view = { λ g. record
+        { rows = table_of g.order g.row_count g.col_count g.flat; order = g.order } };
 
-    ghost invariant = { λ g. Fits g.row_count g.col_count (length g.flat) };
+    ghost invariant = { λ g. HoldsSize g.row_count g.col_count (length g.flat) };
 }
 
 // Where the storage has a cell.
@@ -72,7 +69,7 @@ impl<T, A: Allocator> Grid<T, A> {
         ensures order { result.order ≡ Order.RowMajor }
         ensures table { IsTable result.rows }
         ensures storage { storage Order.RowMajor result.rows ≡ vec.items }
-        ensures cols { length vec.items ≢ 0 → cols_of result.rows ≡ cols }
+        ensures cols { length vec.items ≢ 0 → col_count result.rows ≡ cols }
     {
         Grid::from_vec_with_order(vec, cols, Order::RowMajor)
     }
@@ -85,7 +82,7 @@ impl<T, A: Allocator> Grid<T, A> {
         ensures order { result.order ≡ order }
         ensures table { IsTable result.rows }
         ensures storage { storage order result.rows ≡ vec.items }
-        ensures cols { length vec.items ≢ 0 → cols_of result.rows ≡ cols }
+        ensures cols { length vec.items ≢ 0 → col_count result.rows ≡ cols }
     {
         let len = vec.len();
         if len == 0 {
@@ -107,17 +104,17 @@ impl<T, A: Allocator> Grid<T, A> {
 
     /// Returns the number of rows and the number of columns.
     pub fn size(&self) -> (usize, usize)
-        ensures rows { result.0 ≡ rows_of self.now.rows }
-        ensures cols { result.1 ≡ cols_of self.now.rows }
+        ensures rows { result.0 ≡ row_count self.now.rows }
+        ensures cols { result.1 ≡ col_count self.now.rows }
         ensures table { IsTable self.now.rows }
-        ensures below { rows_of self.now.rows * cols_of self.now.rows < 2 ^ 64 }
+        ensures below { row_count self.now.rows * col_count self.now.rows < 2 ^ 64 }
     {
         (self.row_count, self.col_count)
     }
 
     /// Returns the number of rows.
     pub fn rows(&self) -> usize
-        ensures rows { result ≡ rows_of self.now.rows }
+        ensures rows { result ≡ row_count self.now.rows }
         ensures table { IsTable self.now.rows }
     {
         self.row_count
@@ -125,7 +122,7 @@ impl<T, A: Allocator> Grid<T, A> {
 
     /// Returns the number of columns.
     pub fn cols(&self) -> usize
-        ensures cols { result ≡ cols_of self.now.rows }
+        ensures cols { result ≡ col_count self.now.rows }
         ensures table { IsTable self.now.rows }
     {
         self.col_count

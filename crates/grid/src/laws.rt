@@ -3,12 +3,12 @@
 //! A law is the clause of that name. It speaks of tables, so it says nothing of the calls; what those do is in the
 //! other clauses.
 ghost use Rattle.std.specs.Prelude.{◌≡◌, ◌<◌, ◌≤◌, List, length, insert, remove, slice_get, Some, OnOk, OnErr, IfOk, IfErr, MatchOption};
-ghost use Rattle.grid_base.specs.Table.{rows_of, cols_of, IsTable};
+ghost use Rattle.grid_base.specs.Table.{row_count, col_count, IsTable};
 ghost use Rattle.grid_base.specs.Order.{storage};
 ghost use Rattle.grid_base.specs.Symmetry.{act, order_after, IsInverse};
 ghost use Rattle.grid_base.specs.declared.words.Symmetry.{Symmetry};
 ghost use Rattle.grid_base.specs.declared.words.Symmetry.TheVariants.{FlipCols, FlipRows, RotateHalf, RotateLeft, RotateRight, Transpose};
-ghost use Rattle.grid.specs.Edit.{FitsRow, FitsCol, put_col};
+ghost use Rattle.grid.specs.Edits.{FitsRow, FitsCol, insert_col};
 
 use crate::{Grid, LineRefused};
 use grid_base::{Symmetry, laws};
@@ -27,8 +27,8 @@ pub fn rotate_right_then_left<T, A: Allocator>(grid: &mut Grid<T, A>)
 /// Four quarter turns leave the rows and the order.
 pub fn rotate_left_four_times<T, A: Allocator>(grid: &mut Grid<T, A>)
     ensures same { grid.new ≡ grid.old }
-    ensures law { (t : List (List T)) → IsTable t
-        → act RotateLeft (act RotateLeft (act RotateLeft (act RotateLeft t))) ≡ t }
+    ensures law { (t : List (List T))
+        → IsTable t → act RotateLeft (act RotateLeft (act RotateLeft (act RotateLeft t))) ≡ t }
 {
     let _ = grid.size();
     for _turn in 0..4usize {
@@ -40,8 +40,8 @@ pub fn rotate_left_four_times<T, A: Allocator>(grid: &mut Grid<T, A>)
 pub fn flip_rows_then_cols<T, A: Allocator>(grid: &mut Grid<T, A>)
     ensures rows { grid.new.rows ≡ act RotateHalf grid.old.rows }
     ensures order { grid.new.order ≡ grid.old.order }
-    ensures law { (t : List (List T)) → IsTable t → act FlipCols (act FlipRows t)
-        ≡ act RotateHalf t }
+    ensures law { (t : List (List T))
+        → IsTable t → act FlipCols (act FlipRows t) ≡ act RotateHalf t }
 {
     let _ = grid.size();
     grid.flip_rows();
@@ -49,29 +49,29 @@ pub fn flip_rows_then_cols<T, A: Allocator>(grid: &mut Grid<T, A>)
 }
 
 /// Applying what two symmetries are joined to is applying the one and then the other.
-pub fn apply_joined<T, A: Allocator>(grid: &mut Grid<T, A>, first: Symmetry, second: Symmetry)
+pub fn apply_then<T, A: Allocator>(grid: &mut Grid<T, A>, first: Symmetry, second: Symmetry)
     ensures rows { grid.new.rows ≡ act second (act first grid.old.rows) }
     ensures order { grid.new.order ≡ order_after second (order_after first grid.old.order) }
 {
     let _ = grid.size();
-    grid.apply(laws::joined::<T>(first, second));
+    grid.apply(laws::then_acts::<T>(first, second));
 }
 
 /// Applying a symmetry and then its inverse leaves the rows and the order.
 pub fn apply_then_inverse<T, A: Allocator>(grid: &mut Grid<T, A>, symmetry: Symmetry)
     ensures same { grid.new ≡ grid.old }
-    ensures law { (t : List (List T)) → IsTable t → (v : Symmetry) → IsInverse symmetry v
-        → act v (act symmetry t) ≡ t }
+    ensures law { (t : List (List T))
+        → IsTable t → (v : Symmetry) → IsInverse symmetry v → act v (act symmetry t) ≡ t }
 {
     let _ = grid.size();
     grid.apply(symmetry);
-    grid.apply(laws::undoing::<T>(symmetry));
+    grid.apply(laws::inverse_acts::<T>(symmetry));
 }
 
 /// A grid's vector, cut into its columns in its order, is the grid.
 pub fn rebuilt<T, A: Allocator>(grid: Grid<T, A>) -> Grid<T, A>
     ensures same { result ≡ grid }
-    ensures law { (t : List (List T)) → IsTable t → cols_of t ≡ cols_of grid.rows
+    ensures law { (t : List (List T)) → IsTable t → col_count t ≡ col_count grid.rows
         → storage grid.order t ≡ storage grid.order grid.rows → t ≡ grid.rows }
 {
     let (_, cols) = grid.size();
@@ -92,16 +92,16 @@ where
     requires nonempty { 0 < length line.items }
     requires fits { FitsRow grid.old.rows (length line.items) }
     ensures grid { IfOk result (λ popped. OnOk popped (grid.new ≡ grid.old)) }
-    ensures line { IfOk result (λ popped. IfOk popped
-        (λ taken. MatchOption taken ⊥ (λ row. row.items ≡ line.items))) }
-    ensures kept { IfOk result (λ popped. OnErr popped
-        (grid.new.rows ≡ insert grid.old.rows (rows_of grid.old.rows) line.items)) }
+    ensures line { IfOk result
+        (λ popped. IfOk popped (λ taken. MatchOption taken ⊥ (λ row. row.items ≡ line.items))) }
+    ensures kept { IfOk result (λ popped.
+        OnErr popped (grid.new.rows ≡ insert grid.old.rows (row_count grid.old.rows) line.items)) }
     ensures refused { OnErr result (grid.new ≡ grid.old) }
     ensures refused_line { IfErr result (λ refused. refused.line.items ≡ line.items) }
     ensures law_rows { (t : List (List T)) (row : List T)
-        → remove (insert t (rows_of t) row) (rows_of t) ≡ t }
+        → remove (insert t (row_count t) row) (row_count t) ≡ t }
     ensures law_line { (t : List (List T)) (row : List T)
-        → slice_get (insert t (rows_of t) row) (rows_of t) ≡ Some row }
+        → slice_get (insert t (row_count t) row) (row_count t) ≡ Some row }
 {
     grid.push_row(line)?;
     Ok(grid.pop_row())
@@ -122,14 +122,14 @@ pub fn insert_col_or_row_across<T, A: Allocator>(
     requires same_line { other_line.items ≡ line.items }
     requires nonempty { 0 < length line.items }
     requires fits { FitsCol grid.old.rows (length line.items) }
-    requires place { at ≤ cols_of grid.old.rows }
+    requires place { at ≤ col_count grid.old.rows }
     ensures same { OnOk result.0 (OnOk result.1 (other.new ≡ grid.new)) }
-    ensures as_col { OnOk result.0 (grid.new.rows ≡ put_col at line.items grid.old.rows) }
+    ensures as_col { OnOk result.0 (grid.new.rows ≡ insert_col at line.items grid.old.rows) }
     ensures refused_col { OnErr result.0 (grid.new ≡ grid.old) }
     ensures refused_col_line { IfErr result.0 (λ refused. refused.line.items ≡ line.items) }
     ensures refused_row { OnErr result.1 (other.new ≡ other.old) }
     ensures refused_row_line { IfErr result.1 (λ refused. refused.line.items ≡ other_line.items) }
-    ensures law { put_col at line.items grid.old.rows
+    ensures law { insert_col at line.items grid.old.rows
         ≡ act Transpose (insert (act Transpose grid.old.rows) at line.items) }
 {
     let _ = grid.size();

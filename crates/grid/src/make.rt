@@ -67,7 +67,7 @@ impl<T, A: Allocator> Grid<T, A> {
         };
         let mut cells = Vec::with_capacity(alloc, count)?;
         for _ in 0..count {
-            cells.push(T::default()).unwrap();
+            cells.push_reserved(T::default());
         }
         Ok(Grid::from_vec_with_order(cells, cols, order))
     }

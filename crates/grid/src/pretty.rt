@@ -1,6 +1,6 @@
 //! The text of a grid of whole numbers.
 ghost use Rattle.std.specs.Prelude.{◌≡◌, ◌<◌, ◌++◌, [], map, IfOk, OnOk, string_bytes};
-ghost use Rattle.grid_base.specs.Table.{row, rows_of, joined};
+ghost use Rattle.grid_base.specs.Table.{row, row_count, concat_rows};
 ghost use Rattle.grid.specs.Texts.{numbers, longest, row_line, width_or_longest, pretty_text};
 
 use crate::Grid;
@@ -16,7 +16,7 @@ impl<T: Whole, A: Allocator> Grid<T, A> {
         text: &mut String<B>,
         r: usize,
     ) -> Result<usize, AllocError>
-        requires row { r < rows_of self.now.rows }
+        requires row { r < row_count self.now.rows }
         requires text { string_bytes text.old ≡ [] }
         ensures text { OnOk result (string_bytes text.new ≡ []) }
         ensures longest { IfOk result (λ len. len ≡ longest (map T.whole (row self.now.rows r))) }
@@ -36,8 +36,8 @@ impl<T: Whole, A: Allocator> Grid<T, A> {
     fn longest_number<B: Allocator>(&self, text: &mut String<B>) -> Result<usize, AllocError>
         requires { string_bytes text.old ≡ [] }
         ensures text { OnOk result (string_bytes text.new ≡ []) }
-        ensures longest { IfOk result (λ len.
-            len ≡ longest (joined (numbers T.whole self.now.rows))) }
+        ensures longest { IfOk result
+            (λ len. len ≡ longest (concat_rows (numbers T.whole self.now.rows))) }
     {
         let (rows, _) = self.size();
         let mut longest = 0;
@@ -55,8 +55,8 @@ impl<T: Whole, A: Allocator> Grid<T, A> {
     ) -> Result<usize, AllocError>
         requires { string_bytes text.old ≡ [] }
         ensures text { OnOk result (string_bytes text.new ≡ []) }
-        ensures width { IfOk result (λ found.
-            found ≡ width_or_longest width (numbers T.whole self.now.rows)) }
+        ensures width { IfOk result
+            (λ found. found ≡ width_or_longest width (numbers T.whole self.now.rows)) }
     {
         match width {
             Some(width) => Ok(width),
@@ -71,7 +71,7 @@ impl<T: Whole, A: Allocator> Grid<T, A> {
         r: usize,
         width: usize,
     ) -> Result<(), AllocError>
-        requires { r < rows_of self.now.rows }
+        requires { r < row_count self.now.rows }
         ensures { OnOk result (string_bytes text.new
             ≡ string_bytes text.old ++ row_line width (map T.whole (row self.now.rows r))) }
     {
@@ -107,8 +107,8 @@ impl<T: Whole, A: Allocator> Grid<T, A> {
         alloc: B,
         width: Option<usize>,
     ) -> Result<String<B>, AllocError>
-        ensures { IfOk result (λ text.
-            string_bytes text ≡ pretty_text width (numbers T.whole self.now.rows)) }
+        ensures { IfOk result
+            (λ text. string_bytes text ≡ pretty_text width (numbers T.whole self.now.rows)) }
     {
         let mut text = String::new(alloc);
         let (rows, _) = self.size();

@@ -1,10 +1,10 @@
 //! The six moves of a grid, and the eight symmetries.
 ghost use Rattle.std.specs.Prelude.{◌≡◌, List};
-ghost use Rattle.grid_base.specs.Table.{rows_of, cols_of};
+ghost use Rattle.grid_base.specs.Table.{row_count, col_count};
 ghost use Rattle.grid_base.specs.Order.{flipped, storage};
 ghost use Rattle.grid_base.specs.Symmetry.{act, order_after, price};
 ghost use Rattle.grid_base.specs.Move.{word_image, IsNormalForm};
-ghost use Rattle.grid_base.specs.Tally.{counted};
+ghost use Rattle.grid_base.specs.Tally.{saturating_count};
 ghost use Rattle.grid_base.specs.declared.words.Move.{Move};
 ghost use Rattle.grid_base.specs.declared.words.Symmetry.TheVariants.{FlipRows, FlipCols, RotateHalf, Transpose, RotateLeft, RotateRight};
 
@@ -104,8 +104,8 @@ impl<T, A: Allocator> Grid<T, A> {
     /// Cost: the swaps of its flips, at most half as many as there are cells, however long the word was.
     pub fn apply(&mut self, symmetry: Symmetry)
         ensures rows { self.new.rows ≡ act symmetry self.old.rows }
-        ensures words { (w : List Move) → IsNormalForm w symmetry → self.new.rows
-            ≡ word_image w self.old.rows }
+        ensures words { (w : List Move)
+            → IsNormalForm w symmetry → self.new.rows ≡ word_image w self.old.rows }
         ensures order { self.new.order ≡ order_after symmetry self.old.order }
     {
         let _ = &self.flat;
@@ -116,9 +116,8 @@ impl<T, A: Allocator> Grid<T, A> {
     pub(crate) fn apply_counted(&mut self, symmetry: Symmetry, tally: &mut Tally)
         ensures rows { self.new.rows ≡ act symmetry self.old.rows }
         ensures order { self.new.order ≡ order_after symmetry self.old.order }
-        ensures symmetry { tally.new.symmetry
-            ≡ counted tally.old.symmetry (price symmetry (rows_of self.old.rows)
-            (cols_of self.old.rows)) }
+        ensures symmetry { tally.new.symmetry ≡ saturating_count tally.old.symmetry
+            (price symmetry (row_count self.old.rows) (col_count self.old.rows)) }
         ensures shift { tally.new.shift ≡ tally.old.shift }
     {
         let _ = &self.flat;
@@ -146,9 +145,8 @@ impl<T, A: Allocator> Grid<T, A> {
     fn flip_rows_counted(&mut self, tally: &mut Tally)
         ensures rows { self.new.rows ≡ act FlipRows self.old.rows }
         ensures order { self.new.order ≡ self.old.order }
-        ensures symmetry { tally.new.symmetry
-            ≡ counted tally.old.symmetry (price FlipRows (rows_of self.old.rows)
-            (cols_of self.old.rows)) }
+        ensures symmetry { tally.new.symmetry ≡ saturating_count tally.old.symmetry
+            (price FlipRows (row_count self.old.rows) (col_count self.old.rows)) }
         ensures shift { tally.new.shift ≡ tally.old.shift }
     {
         match self.order {
@@ -162,9 +160,8 @@ impl<T, A: Allocator> Grid<T, A> {
     fn flip_cols_counted(&mut self, tally: &mut Tally)
         ensures rows { self.new.rows ≡ act FlipCols self.old.rows }
         ensures order { self.new.order ≡ self.old.order }
-        ensures symmetry { tally.new.symmetry
-            ≡ counted tally.old.symmetry (price FlipCols (rows_of self.old.rows)
-            (cols_of self.old.rows)) }
+        ensures symmetry { tally.new.symmetry ≡ saturating_count tally.old.symmetry
+            (price FlipCols (row_count self.old.rows) (col_count self.old.rows)) }
         ensures shift { tally.new.shift ≡ tally.old.shift }
     {
         match self.order {
@@ -183,9 +180,8 @@ impl<T, A: Allocator> Grid<T, A> {
     fn rotate_half_counted(&mut self, tally: &mut Tally)
         ensures rows { self.new.rows ≡ act RotateHalf self.old.rows }
         ensures order { self.new.order ≡ self.old.order }
-        ensures symmetry { tally.new.symmetry
-            ≡ counted tally.old.symmetry (price RotateHalf (rows_of self.old.rows)
-            (cols_of self.old.rows)) }
+        ensures symmetry { tally.new.symmetry ≡ saturating_count tally.old.symmetry
+            (price RotateHalf (row_count self.old.rows) (col_count self.old.rows)) }
         ensures shift { tally.new.shift ≡ tally.old.shift }
     {
         let len = self.row_count * self.col_count;

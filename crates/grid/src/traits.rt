@@ -4,7 +4,7 @@ ghost use Rattle.std.specs.Fmt.{DisplaysOnOk, debug_list};
 ghost use Rattle.std.specs.List.{flat_map, fold};
 ghost use lib.Pointwise.{pointwise};
 ghost use Rattle.grid_base.specs.Clones.{ClonesAreEqual};
-ghost use Rattle.grid_base.specs.Table.{row, rows_of, cols_of};
+ghost use Rattle.grid_base.specs.Table.{row, row_count, col_count};
 ghost use Rattle.grid.specs.Same.{same_cells, same_cells_per, same_cells_equiv, table_feed, table_feed_respects};
 ghost use Rattle.grid.specs.Texts.{table_text};
 
@@ -38,9 +38,9 @@ impl<T: Clone, A: Allocator + Clone> Grid<T, A> {
 impl<T: PartialEq, A: Allocator> Grid<T, A> {
     // Whether row r, which is in range, is the same in a grid of the same size.
     fn has_same_row(&self, other: &Grid<T, A>, r: usize) -> bool
-        requires here { r < rows_of self.now.rows }
-        requires there { r < rows_of other.now.rows }
-        requires cols { cols_of self.now.rows ≡ cols_of other.now.rows }
+        requires here { r < row_count self.now.rows }
+        requires there { r < row_count other.now.rows }
+        requires cols { col_count self.now.rows ≡ col_count other.now.rows }
         ensures { result ≡ pointwise T.eq (row self.now.rows r) (row other.now.rows r) }
     {
         let (_, cols) = self.size();
@@ -55,8 +55,8 @@ impl<T: PartialEq, A: Allocator> Grid<T, A> {
 
     // Whether all rows are the same in a grid of the same size.
     fn has_same_rows(&self, other: &Grid<T, A>) -> bool
-        requires rows { rows_of self.now.rows ≡ rows_of other.now.rows }
-        requires cols { cols_of self.now.rows ≡ cols_of other.now.rows }
+        requires rows { row_count self.now.rows ≡ row_count other.now.rows }
+        requires cols { col_count self.now.rows ≡ col_count other.now.rows }
         ensures { result ≡ same_cells T.eq self.now other.now }
     {
         let (rows, _) = self.size();
@@ -100,7 +100,7 @@ impl<T: Eq, A: Allocator> Eq for Grid<T, A> {
 impl<T: Hash, A: Allocator> Grid<T, A> {
     // Feeds the cells of row r, which is in range.
     fn hash_row<H: Hasher>(&self, r: usize, state: &mut H)
-        requires { r < rows_of self.now.rows }
+        requires { r < row_count self.now.rows }
         ensures { state.new ≡ fold H.write state.old (flat_map T.hash_input (row self.now.rows r)) }
     {
         let (_, cols) = self.size();
@@ -138,7 +138,7 @@ pub(crate) fn separator_before(index: usize, separator: &'static str) -> &'stati
 impl<T: fmt::Debug, A: Allocator> Grid<T, A> {
     // Writes row r, which is in range, as a debug list.
     fn write_row<W: fmt::Write>(&self, r: usize, f: &mut fmt::Formatter<W>) -> fmt::Result
-        requires { r < rows_of self.now.rows }
+        requires { r < row_count self.now.rows }
         ensures { DisplaysOnOk W.write_str_gives f.old result
             (debug_list T.debug_output (row self.now.rows r)) f.new }
     {

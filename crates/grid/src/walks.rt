@@ -4,7 +4,7 @@ ghost use Rattle.std.specs.Borrow.{sem};
 ghost use Rattle.std.specs.Iterator.Runs.{YieldsInOrder, YieldsInReverse, YieldsRefsInOrder, YieldsRefsInReverse, YieldsMutRefsInOrder, YieldsMutRefsInReverse};
 ghost use Rattle.std.specs.Slice.Iter.{iter_rest, iter_steps, iter_steps_back, iter_mut_rest, iter_mut_steps, iter_mut_steps_back};
 ghost use Rattle.std.specs.Vec.Iter.{into_iter_items, into_iter_steps, into_iter_steps_back};
-ghost use Rattle.grid_base.specs.Table.{rows_of, cols_of};
+ghost use Rattle.grid_base.specs.Table.{row_count, col_count};
 ghost use Rattle.grid_base.specs.Order.{storage};
 ghost use Rattle.grid_base.specs.Places.{places};
 ghost use Rattle.grid_base.specs.IndexedIterMut.{indexed_mut_rest};
@@ -12,7 +12,7 @@ ghost use Rattle.grid_base.specs.IndexedIterMut.{indexed_mut_rest};
 mod cols;
 mod rows;
 mod span;
-mod wholes;
+mod all_cells;
 
 use crate::Grid;
 pub use cols::GridColIter;
@@ -47,8 +47,8 @@ impl<T, A: Allocator> Grid<T, A> {
     /// The cells in storage order, each with its row and its column.
     pub fn indexed_iter(&self) -> IndexedIter<'_, T>
         ensures { result
-            ≡ zip (places self.now.order (rows_of self.now.rows)
-            (cols_of self.now.rows)) (storage self.now.order self.now.rows) }
+            ≡ zip (places self.now.order (row_count self.now.rows) (col_count self.now.rows))
+            (storage self.now.order self.now.rows) }
     {
         self.flat
             .indexed_iter(self.order, self.row_count, self.col_count)
@@ -59,8 +59,8 @@ impl<T, A: Allocator> Grid<T, A> {
         ensures* writes_back { sem 𝓛 (lends_indexed T.row A.row A.Allocator self.entry result) }
         ensures keeps { KeepsSize self.old }
         ensures rest { indexed_mut_rest result
-            ≡ zip (places self.old.order (rows_of self.old.rows)
-            (cols_of self.old.rows)) (storage self.old.order self.old.rows) }
+            ≡ zip (places self.old.order (row_count self.old.rows) (col_count self.old.rows))
+            (storage self.old.order self.old.rows) }
     {
         self.flat
             .indexed_iter_mut(self.order, self.row_count, self.col_count)
@@ -68,7 +68,7 @@ impl<T, A: Allocator> Grid<T, A> {
 
     /// The cells in storage order by value, each with its row and its column.
     pub fn indexed_into_iter(self) -> IndexedIntoIter<T, A>
-        ensures { result ≡ zip (places self.order (rows_of self.rows) (cols_of self.rows))
+        ensures { result ≡ zip (places self.order (row_count self.rows) (col_count self.rows))
             (storage self.order self.rows) }
     {
         let Grid {
@@ -88,9 +88,8 @@ impl<T: Drop, A: Allocator> IntoIterator for Grid<T, A> {
     type IntoIter = vec::IntoIter<T, A>;
 
     ghost into_iter_gives = { λ grid it. (into_iter_items it ≡ storage grid.order grid.rows)
-        × YieldsInOrder (into_iter_steps {X = T}
-        {Z = A}) into_iter_items × YieldsInReverse
-        (into_iter_steps_back {X = T} {Z = A}) into_iter_items };
+        × YieldsInOrder (into_iter_steps {X = T} {Z = A}) into_iter_items
+        × YieldsInReverse (into_iter_steps_back {X = T} {Z = A}) into_iter_items };
 
     fn into_iter(self) -> vec::IntoIter<T, A> {
         self.into_vec().into_iter()
@@ -104,8 +103,8 @@ impl<'a, T, A: Allocator> IntoIterator for &'a Grid<T, A> {
     type IntoIter = slice::Iter<'a, T>;
 
     ghost into_iter_gives = { λ grid it. (iter_rest it ≡ storage grid.now.order grid.now.rows)
-        × YieldsRefsInOrder (iter_steps {A = T}) iter_rest × YieldsRefsInReverse (iter_steps_back
-        {A = T}) iter_rest };
+        × YieldsRefsInOrder (iter_steps {A = T}) iter_rest
+        × YieldsRefsInReverse (iter_steps_back {A = T}) iter_rest };
 
     fn into_iter(self) -> slice::Iter<'a, T> {
         self.iter()
@@ -121,17 +120,15 @@ impl<'a, T, A: Allocator> IntoIterator for &'a mut Grid<T, A> {
     type IntoIter = slice::IterMut<'a, T>;
 
     ghost into_iter_gives = { λ grid it. (iter_mut_rest it ≡ storage grid.now.order grid.now.rows)
-        × YieldsMutRefsInOrder (iter_mut_steps
-        {A = T}) iter_mut_rest × YieldsMutRefsInReverse
-        (iter_mut_steps_back {A = T}) iter_mut_rest };
+        × YieldsMutRefsInOrder (iter_mut_steps {A = T}) iter_mut_rest
+        × YieldsMutRefsInReverse (iter_mut_steps_back {A = T}) iter_mut_rest };
 
     fn into_iter(self) -> slice::IterMut<'a, T>
         ensures* writes_back { sem 𝓛 (lends_cells T.row A.row A.Allocator self.entry result) }
         ensures keeps { KeepsSize self.old }
         ensures into_iter_gives { (iter_mut_rest result ≡ storage self.old.order self.old.rows)
-            × YieldsMutRefsInOrder (iter_mut_steps
-            {A = T}) iter_mut_rest × YieldsMutRefsInReverse
-            (iter_mut_steps_back {A = T}) iter_mut_rest }
+            × YieldsMutRefsInOrder (iter_mut_steps {A = T}) iter_mut_rest
+            × YieldsMutRefsInReverse (iter_mut_steps_back {A = T}) iter_mut_rest }
     {
         self.iter_mut()
     }

@@ -2,7 +2,7 @@
 use Rattle.std.specs.Prelude.{◌≡◌, ◌≢◌, ◌⊎◌, ℕ, ◌+◌, ◌*◌, ◌%◌, List, slice_get}
 use Rattle.grid_base.specs.declared.flat.order.Order.{Order}
 use Rattle.grid_base.specs.declared.flat.order.Order.TheVariants.{RowMajor, ColumnMajor}
-use Rattle.grid_base.specs.Table.{joined, turned, tabulate}
+use Rattle.grid_base.specs.Table.{concat_rows, transposed, tabulate}
 
 -- the other order
 abbrev pub flipped : Order → Order
@@ -11,8 +11,8 @@ flipped ColumnMajor = RowMajor
 
 -- the cells of a table in storage order: its rows joined, or its columns joined
 abbrev pub storage : {T : Type 0} → Order → List (List T) → List T
-storage RowMajor t = joined t
-storage ColumnMajor t = joined (turned t)
+storage RowMajor t = concat_rows t
+storage ColumnMajor t = concat_rows (transposed t)
 
 -- where the storage of a table of m rows and n columns has cell (r, c)
 abbrev pub place : Order → ℕ → ℕ → ℕ → ℕ → ℕ

@@ -2,7 +2,7 @@
 use Rattle.std.specs.Prelude.{ℕ, zero, suc, ◌-◌, ◌<◌, List, [], ◌∷◌, take, drop, length}
 use Rattle.std.specs.Iterator.{YieldsFirst, YieldsLast, YieldsFirstRef, YieldsLastRef}
 use Rattle.std.specs.Iterator.Runs.{YieldsInOrder, YieldsInReverse, YieldsRefsInOrder, YieldsRefsInReverse}
-use Rattle.grid_base.specs.Left.{IsLeft, left}
+use Rattle.grid_base.specs.Remaining.{IsRemaining, remaining}
 
 module _ {X : Type 0} where
   -- the item after `skip` others, and from there on each one after `gap` others
@@ -16,13 +16,13 @@ module _ {X : Type 0} where
   strided start end stride xs = every 0 (stride - 1) (take (end - start) (drop start xs))
 
   -- of the cells that stand a stride apart, those from number `first` on and before number `past`
-  abbrev pub strided_left : ℕ → ℕ → ℕ → List X → List X
-  strided_left stride first past xs = left first past (every 0 (stride - 1) xs)
+  abbrev pub strided_remaining : ℕ → ℕ → ℕ → List X → List X
+  strided_remaining stride first past xs = remaining first past (every 0 (stride - 1) xs)
 
 -- there is a stride, and there are so many cells
 pub record IsLine {X : Type 0} (stride first past : ℕ) (xs : List X) : Type 0 where
   pub steps : 0 < stride
-  pub left : IsLeft first past (length (every 0 (stride - 1) xs))
+  pub remaining : IsRemaining first past (length (every 0 (stride - 1) xs))
 
 module _ (X : Type 0) where
   -- each run of a walk along a line gives the cells that it had left, in order

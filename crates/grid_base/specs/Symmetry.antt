@@ -4,7 +4,7 @@ use lib.Pointwise.{pointwise}
 use Rattle.grid_base.specs.declared.flat.order.Order.{Order}
 use Rattle.grid_base.specs.declared.words.Symmetry.{Symmetry}
 use Rattle.grid_base.specs.declared.words.Symmetry.TheVariants.{Identity, FlipCols, FlipRows, RotateHalf, Transpose, RotateLeft, RotateRight, AntiTranspose}
-use Rattle.grid_base.specs.Table.{rows_of, cols_of, cell, IsTable, tabulate}
+use Rattle.grid_base.specs.Table.{row_count, col_count, cell, IsTable, tabulate}
 use Rattle.grid_base.specs.Order.{flipped}
 
 -- whether rows become columns
@@ -50,8 +50,8 @@ image_cols s m n = if transposes s then m else n
 -- the image of a table
 unfoldable pub act : {T : Type 0} → Symmetry → List (List T) → List (List T)
 act s t =
-    tabulate (image_rows s (rows_of t) (cols_of t)) (image_cols s (rows_of t) (cols_of t))
-    (λ i j. cell t (source_row s (rows_of t) (cols_of t) i j) (source_col s (rows_of t) (cols_of t) i j))
+    tabulate (image_rows s (row_count t) (col_count t)) (image_cols s (row_count t) (col_count t))
+    (λ i j. cell t (source_row s (row_count t) (col_count t) i j) (source_col s (row_count t) (col_count t) i j))
 
 -- the image under symmetries that act one after another
 abbrev pub act_all : {T : Type 0} → List Symmetry → List (List T) → List (List T)

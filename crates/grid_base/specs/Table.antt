@@ -13,11 +13,11 @@ module _ {T : Type 0} where
   row t r = slice_index_or t r []
 
   -- how many rows, and how many columns
-  abbrev pub rows_of : List (List T) → ℕ
-  rows_of t = length t
+  abbrev pub row_count : List (List T) → ℕ
+  row_count t = length t
 
-  abbrev pub cols_of : List (List T) → ℕ
-  cols_of t = length (row t 0)
+  abbrev pub col_count : List (List T) → ℕ
+  col_count t = length (row t 0)
 
   -- the cell in row r and column c, or None where there is none
   abbrev pub cell : List (List T) → ℕ → ℕ → Option T
@@ -25,7 +25,7 @@ module _ {T : Type 0} where
 
   -- there is a cell in row r and column c
   abbrev pub InRange : List (List T) → ℕ → ℕ → Type 0
-  InRange t r c = (r < rows_of t) × (c < cols_of t)
+  InRange t r c = (r < row_count t) × (c < col_count t)
 
   -- no row is empty, and all have one length
   pub record IsTable (t : List (List T)) : Type 0 where
@@ -33,20 +33,20 @@ module _ {T : Type 0} where
     pub even : (r : ℕ) → r < length t → length (row t r) ≡ length (row t 0)
 
   -- the cells f 0, .., f (n - 1)
-  unfoldable pub line : ℕ → (ℕ → Option T) → List T
-  line n f = filter_map f (range_with_len 0 n)
+  unfoldable pub cells_by : ℕ → (ℕ → Option T) → List T
+  cells_by n f = filter_map f (range_with_len 0 n)
 
   -- the table of m rows and n columns with the cells f r c
   unfoldable pub tabulate : ℕ → ℕ → (ℕ → ℕ → Option T) → List (List T)
-  tabulate m n f = map (λ r. line n (f r)) (range_with_len 0 m)
+  tabulate m n f = map (λ r. cells_by n (f r)) (range_with_len 0 m)
 
   -- the turned table: its rows are the columns
-  abbrev pub turned : List (List T) → List (List T)
-  turned t = tabulate (cols_of t) (rows_of t) (λ c r. cell t r c)
+  abbrev pub transposed : List (List T) → List (List T)
+  transposed t = tabulate (col_count t) (row_count t) (λ c r. cell t r c)
 
   -- the rows joined
-  abbrev pub joined : List (List T) → List T
-  joined t = flat_map (λ r. r) t
+  abbrev pub concat_rows : List (List T) → List T
+  concat_rows t = flat_map (λ r. r) t
 
   -- a table with w in row r and column c; past its end nothing changes
   abbrev pub with_cell : List (List T) → ℕ → ℕ → T → List (List T)

@@ -7,5 +7,5 @@ pub record Counts : Type 0 where
   pub shift : ℕ
 
 -- a count after k more swaps: it stops at the largest `u128`
-abbrev pub counted : ℕ → ℕ → ℕ
-counted n k = n + min k (340282366920938463463374607431768211455 - n)
+abbrev pub saturating_count : ℕ → ℕ → ℕ
+saturating_count n k = n + min k (340282366920938463463374607431768211455 - n)

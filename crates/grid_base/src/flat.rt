@@ -18,7 +18,7 @@ mod tally;
 #[cfg(test)]
 mod tests;
 mod whole;
-mod wholes;
+mod all_cells;
 
 pub use indexed::IndexedIter;
 pub use indexed_into::IndexedIntoIter;

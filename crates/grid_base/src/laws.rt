@@ -1,53 +1,73 @@
 //! The laws of the symmetries as public calls: the eight are a group under `then` and `inverse`, and act as one on
 //! tables of any cells.
 //!
-//! A law is the clause of that name: it speaks of every table or every symmetry, whatever the body computes.
-ghost use Rattle.std.specs.Prelude.{◌≡◌, IsTrue, List};
+//! A law is the clause of that name: it speaks of every table or every symmetry. The other clauses say what a call
+//! returns.
+ghost use Rattle.std.specs.Prelude.{◌≡◌, List};
 ghost use Rattle.grid_base.specs.declared.words.Symmetry.{Symmetry};
+ghost use Rattle.grid_base.specs.declared.words.Symmetry.TheVariants.{Identity};
 ghost use Rattle.grid_base.specs.Table.{IsTable};
 ghost use Rattle.grid_base.specs.Symmetry.{act, IsThen, IsInverse, IsAssociativeAt, IsNeutralAt, IsUndoneAt};
 
 use crate::Symmetry;
 
-/// Whether joining three symmetries from the left is joining them from the right: it always is.
-pub fn then_is_associative(first: Symmetry, second: Symmetry, third: Symmetry) -> bool
-    ensures same { IsTrue result }
+/// Three symmetries, joined from the left and joined from the right: the two are one.
+pub fn then_is_associative(
+    first: Symmetry,
+    second: Symmetry,
+    third: Symmetry,
+) -> (Symmetry, Symmetry)
+    ensures left { (a : Symmetry) → IsThen first second a → IsThen a third result.0 }
+    ensures right { (b : Symmetry) → IsThen second third b → IsThen first b result.1 }
+    ensures same { result.0 ≡ result.1 }
     ensures law { IsAssociativeAt first second third }
 {
-    first.then(second).then(third) == first.then(second.then(third))
+    (
+        first.then(second).then(third),
+        first.then(second.then(third)),
+    )
 }
 
-/// Whether joining `Identity` on either side changes nothing: it never does.
-pub fn identity_is_neutral(symmetry: Symmetry) -> bool
-    ensures same { IsTrue result }
+/// `Identity` joined before a symmetry, and behind it: both are the symmetry.
+pub fn identity_is_neutral(symmetry: Symmetry) -> (Symmetry, Symmetry)
+    ensures before { IsThen Identity symmetry result.0 }
+    ensures behind { IsThen symmetry Identity result.1 }
+    ensures same_before { result.0 ≡ symmetry }
+    ensures same_behind { result.1 ≡ symmetry }
     ensures law { IsNeutralAt symmetry }
 {
-    Symmetry::Identity.then(symmetry) == symmetry && symmetry.then(Symmetry::Identity) == symmetry
+    (
+        Symmetry::Identity.then(symmetry),
+        symmetry.then(Symmetry::Identity),
+    )
 }
 
-/// Whether a symmetry joined to its inverse, on either side, is `Identity`: it always is.
-pub fn inverse_undoes(symmetry: Symmetry) -> bool
-    ensures same { IsTrue result }
+/// A symmetry joined before its inverse, and behind it: both are `Identity`.
+pub fn inverse_undoes(symmetry: Symmetry) -> (Symmetry, Symmetry)
+    ensures before { (v : Symmetry) → IsInverse symmetry v → IsThen symmetry v result.0 }
+    ensures behind { (v : Symmetry) → IsInverse symmetry v → IsThen v symmetry result.1 }
+    ensures same_before { result.0 ≡ Identity }
+    ensures same_behind { result.1 ≡ Identity }
     ensures law { IsUndoneAt symmetry }
 {
-    symmetry.then(symmetry.inverse()) == Symmetry::Identity
-        && symmetry.inverse().then(symmetry) == Symmetry::Identity
+    let inverse = symmetry.inverse();
+    (symmetry.then(inverse), inverse.then(symmetry))
 }
 
 /// `symmetry.then(next)`, which acts as the one and then the other on tables of cells of any type `T`.
-pub fn joined<T>(symmetry: Symmetry, next: Symmetry) -> Symmetry
+pub fn then_acts<T>(symmetry: Symmetry, next: Symmetry) -> Symmetry
     ensures same { IsThen symmetry next result }
-    ensures law { (v : Symmetry) → IsThen symmetry next v → (t : List (List T)) → IsTable t
-        → act v t ≡ act next (act symmetry t) }
+    ensures law { (v : Symmetry) → IsThen symmetry next v
+        → (t : List (List T)) → IsTable t → act v t ≡ act next (act symmetry t) }
 {
     symmetry.then(next)
 }
 
 /// `done.inverse()`, which undoes it on tables of cells of any type `T`.
-pub fn undoing<T>(done: Symmetry) -> Symmetry
+pub fn inverse_acts<T>(done: Symmetry) -> Symmetry
     ensures same { IsInverse done result }
-    ensures law { (v : Symmetry) → IsInverse done v → (t : List (List T)) → IsTable t
-        → act v (act done t) ≡ t }
+    ensures law { (v : Symmetry)
+        → IsInverse done v → (t : List (List T)) → IsTable t → act v (act done t) ≡ t }
 {
     done.inverse()
 }

@@ -70,9 +70,8 @@ fn parts_of(value: &Value) -> Result<Parts<'_>, ReadError>
 }
 
 fn required(part: Option<&Value>, field: Field) -> Result<&Value, ReadError>
-    ensures { Gives (λ found. view found.now)
-        (or_refuse (ReadError.MissingField field) (option_map (λ found. view found.now) part.entry))
-        result }
+    ensures { Gives (λ found. view found.now) (or_refuse
+        (ReadError.MissingField field) (option_map (λ found. view found.now) part.entry)) result }
 {
     match part {
         Some(value) => Ok(value),

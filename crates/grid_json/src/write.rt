@@ -26,10 +26,9 @@ fn array_of(list: Vec<Value>) -> Value
 }
 
 fn object_of(alloc: Global, cols: usize, data: Value, order: &str) -> Result<Value, AllocError>
-    ensures { IfOk result (λ value. view value ≡ object
-        (member (codes "cols") (number (unsigned cols))
-        (member (codes "data") (view «data»)
-        (member (codes "order") (string order.now) no_members)))) }
+    ensures { IfOk result
+        (λ value. view value ≡ object (member (codes "cols") (number (unsigned cols)) (member
+        (codes "data") (view «data») (member (codes "order") (string order.now) no_members)))) }
 {
     json!(in alloc; {"cols": cols, "data": data, "order": order})
 }
@@ -48,8 +47,8 @@ pub fn to_value<T: Cell, A: Allocator>(
     grid: &Grid<T, A>,
 ) -> Result<Value, AllocError>
     ensures value { IfOk result (λ value. view value ≡ value_of (contents T.content grid.now)) }
-    ensures reading { IfOk result (λ value.
-        reading T.read (view value) ≡ Ok (contents T.content grid.now)) }
+    ensures reading { IfOk result
+        (λ value. reading T.read (view value) ≡ Ok (contents T.content grid.now)) }
 {
     let (_, cols) = grid.size();
     let mut list = Vec::new(alloc);

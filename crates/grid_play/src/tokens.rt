@@ -34,9 +34,9 @@ impl<'a> Lines<'a> {
 impl<'a> Iterator for Lines<'a> {
     type Item = (usize, &'a [u8]);
 
-    ghost next_gives = { λ old item new. MatchOption item (old.rest.now ≡ [])
-        (λ line. (line.0 ≡ old.count + 1) × (line.1.now ≡ first_line old.rest.now)
-        × (new.rest.now ≡ later_lines old.rest.now)) };
+    ghost next_gives = { λ old item new.
+        MatchOption item (old.rest.now ≡ []) (λ line. (line.0 ≡ old.count + 1)
+        × (line.1.now ≡ first_line old.rest.now) × (new.rest.now ≡ later_lines old.rest.now)) };
 
     ghost remaining = { λ lines. at_most (length lines.rest.now) };
 
@@ -93,9 +93,8 @@ impl<'a> Words<'a> {
 impl<'a> Iterator for Words<'a> {
     type Item = &'a str;
 
-    ghost next_gives = { λ old word new. MatchOption word
-        ((words_of old.0.now ≡ []) × (words_of new.0.now ≡ [])) (λ word. words_of old.0.now
-        ≡ word.now ∷ words_of new.0.now) };
+    ghost next_gives = { λ old word new. MatchOption word ((words_of old.0.now ≡ [])
+        × (words_of new.0.now ≡ [])) (λ word. words_of old.0.now ≡ word.now ∷ words_of new.0.now) };
 
     ghost remaining = { λ words. at_most (length words.0.now) };
 

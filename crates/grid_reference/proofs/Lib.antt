@@ -1,5 +1,5 @@
-mod Growing
-pub mod Spends
-pub mod Sums
-mod Counting
-mod Written
+mod GrowLemmas
+pub mod SpendLemmas
+pub mod SumLemmas
+mod CountLemmas
+mod WriteLemmas

@@ -5,8 +5,8 @@ use Rattle.grid.specs.declared.command.Command.{Command}
 use Rattle.grid.specs.Run.{run_rows}
 
 -- its rows
-abbrev pub rows_of_vec : {T : Type 0} → Vec (Vec T Global) Global → List (List T)
-rows_of_vec v = map (λ r. r.items) v.items
+abbrev pub items_of_each : {T : Type 0} → Vec (Vec T Global) Global → List (List T)
+items_of_each v = map (λ r. r.items) v.items
 
 -- what a table is after the first so many of the commands
 pub record AfterSome {T : Type 0} (commands : List Command) (old new : List (List T)) : Type 0 where

@@ -2,7 +2,7 @@
 //! over a row or a column, calls on all cells, symmetries and commands on texts, and grids that are written out.
 ghost use Rattle.std.specs.Prelude.{◌≡◌, ◌/◌, ◌^◌, ◌<◌, ◌≤◌, ◌==◌, ◌↔◌, IsTrue, IfOk, MatchOption, Any, All, length, map, reverse, sum, count_by, filter, fold, min, ◌+◌, ◌*◌, nat_lt, [], ◌∷◌, ◌-◌, slice_get};
 ghost use Rattle.std.specs.List.{range_with_len};
-ghost use Rattle.grid_base.specs.Table.{row, rows_of, cols_of, turned};
+ghost use Rattle.grid_base.specs.Table.{row, row_count, col_count, transposed};
 ghost use Rattle.grid_base.specs.Order.{storage};
 ghost use Rattle.grid_base.specs.Symmetry.{act};
 ghost use Rattle.grid_base.specs.declared.flat.order.Order.TheVariants.{RowMajor, ColumnMajor};
@@ -13,7 +13,7 @@ use std::alloc::{AllocError, Allocator, Global};
 
 /// How many cells of row r are x.
 pub fn count_in_row<A: Allocator>(grid: &Grid<u32, A>, r: usize, x: u32) -> usize
-    requires { r < rows_of grid.now.rows }
+    requires { r < row_count grid.now.rows }
     ensures { result ≡ count_by (λ y. y == x) (row grid.now.rows r) }
 {
     grid.iter_row(r).filter(|y| **y == x).count()
@@ -31,15 +31,15 @@ pub fn count_in_first_row<A: Allocator>(grid: &Grid<u32, A>, x: u32) -> usize
 
 /// Whether a cell of column c is x.
 pub fn column_has<A: Allocator>(grid: &Grid<u32, A>, c: usize, x: u32) -> bool
-    requires { c < cols_of grid.now.rows }
-    ensures { IsTrue result ↔ Any (λ y. y ≡ x) (row (turned grid.now.rows) c) }
+    requires { c < col_count grid.now.rows }
+    ensures { IsTrue result ↔ Any (λ y. y ≡ x) (row (transposed grid.now.rows) c) }
 {
     grid.iter_col(c).any(|y| *y == x)
 }
 
 /// Whether every cell of row r is at most x.
 pub fn row_is_within<A: Allocator>(grid: &Grid<u32, A>, r: usize, x: u32) -> bool
-    requires { r < rows_of grid.now.rows }
+    requires { r < row_count grid.now.rows }
     ensures { IsTrue result ↔ All (λ y. y ≤ x) (row grid.now.rows r) }
 {
     grid.iter_row(r).all(|y| *y <= x)
@@ -47,7 +47,7 @@ pub fn row_is_within<A: Allocator>(grid: &Grid<u32, A>, r: usize, x: u32) -> boo
 
 /// The sum of row r, which fits.
 pub fn row_sum<A: Allocator>(grid: &Grid<u32, A>, r: usize) -> u32
-    requires in_range { r < rows_of grid.now.rows }
+    requires in_range { r < row_count grid.now.rows }
     requires fits { sum (row grid.now.rows r) < 2 ^ 32 }
     ensures { result ≡ sum (row grid.now.rows r) }
 {
@@ -56,8 +56,8 @@ pub fn row_sum<A: Allocator>(grid: &Grid<u32, A>, r: usize) -> u32
 
 /// The sum of column c, or `u32::MAX` if it is larger.
 pub fn column_sum<A: Allocator>(grid: &Grid<u32, A>, c: usize) -> u32
-    requires { c < cols_of grid.now.rows }
-    ensures { result ≡ fold (λ total y. min (total + y) u32.MAX) 0 (row (turned grid.now.rows) c) }
+    requires { c < col_count grid.now.rows }
+    ensures { result ≡ fold (λ total y. min (total + y) u32.MAX) 0 (row (transposed grid.now.rows) c) }
 {
     grid.iter_col(c)
         .fold(0, |total: u32, y| total.saturating_add(*y))
@@ -69,7 +69,7 @@ pub fn halves_of_row<A: Allocator>(
     grid: &Grid<u32, A>,
     r: usize,
 ) -> Result<Vec<u32>, AllocError>
-    requires { r < rows_of grid.now.rows }
+    requires { r < row_count grid.now.rows }
     ensures { IfOk result (λ halves. halves.items ≡ map (λ y. y / 2) (row grid.now.rows r)) }
 {
     grid.iter_row(r).map(|y| *y / 2).collect(alloc)
@@ -81,8 +81,8 @@ pub fn column<T: Copy, A: Allocator>(
     grid: &Grid<T, A>,
     c: usize,
 ) -> Result<Vec<T>, AllocError>
-    requires { c < cols_of grid.now.rows }
-    ensures { IfOk result (λ cells. cells.items ≡ row (turned grid.now.rows) c) }
+    requires { c < col_count grid.now.rows }
+    ensures { IfOk result (λ cells. cells.items ≡ row (transposed grid.now.rows) c) }
 {
     grid.iter_col(c).copied().collect(alloc)
 }
@@ -94,19 +94,18 @@ pub fn column_above<A: Allocator>(
     c: usize,
     x: u32,
 ) -> Result<Vec<u32>, AllocError>
-    requires { c < cols_of grid.now.rows }
-    ensures { IfOk result (λ cells. cells.items
-        ≡ filter (λ y. nat_lt x y) (row (turned grid.now.rows) c)) }
+    requires { c < col_count grid.now.rows }
+    ensures { IfOk result
+        (λ cells. cells.items ≡ filter (λ y. nat_lt x y) (row (transposed grid.now.rows) c)) }
 {
     grid.iter_col(c).copied().filter(|y| x < *y).collect(alloc)
 }
 
 /// The largest cell of row r.
 pub fn row_max<A: Allocator>(grid: &Grid<u32, A>, r: usize) -> Option<u32>
-    requires { r < rows_of grid.now.rows }
-    ensures { MatchOption result (row grid.now.rows r ≡ [])
-        (λ most. All (λ y. y ≤ most) (row grid.now.rows r)
-        × Any (λ y. y ≡ most) (row grid.now.rows r)) }
+    requires { r < row_count grid.now.rows }
+    ensures { MatchOption result (row grid.now.rows r ≡ []) (λ most.
+        All (λ y. y ≤ most) (row grid.now.rows r) × Any (λ y. y ≡ most) (row grid.now.rows r)) }
 {
     grid.iter_row(r).copied().max()
 }
@@ -116,8 +115,8 @@ pub fn halves_reversed<A: Allocator>(
     alloc: Global,
     grid: &Grid<u32, A>,
 ) -> Result<Vec<u32>, AllocError>
-    ensures { IfOk result (λ halves. halves.items
-        ≡ reverse (map (λ y. y / 2) (storage grid.now.order grid.now.rows))) }
+    ensures { IfOk result (λ halves.
+        halves.items ≡ reverse (map (λ y. y / 2) (storage grid.now.order grid.now.rows))) }
 {
     grid.iter().rev().map(|y| *y / 2).collect(alloc)
 }
@@ -128,15 +127,15 @@ pub fn column_reversed<T: Copy, A: Allocator>(
     grid: &Grid<T, A>,
     c: usize,
 ) -> Result<Vec<T>, AllocError>
-    requires { c < cols_of grid.now.rows }
-    ensures { IfOk result (λ cells. cells.items ≡ reverse (row (turned grid.now.rows) c)) }
+    requires { c < col_count grid.now.rows }
+    ensures { IfOk result (λ cells. cells.items ≡ reverse (row (transposed grid.now.rows) c)) }
 {
     grid.iter_col(c).rev().copied().collect(alloc)
 }
 
 /// The last cell of row r, if there is one.
 pub fn last_in_row<A: Allocator>(grid: &Grid<u32, A>, r: usize) -> Option<u32>
-    requires { r < rows_of grid.now.rows }
+    requires { r < row_count grid.now.rows }
     ensures { result ≡ slice_get (row grid.now.rows r) (length (row grid.now.rows r) - 1) }
 {
     grid.iter_row(r).next_back().copied()
@@ -144,8 +143,8 @@ pub fn last_in_row<A: Allocator>(grid: &Grid<u32, A>, r: usize) -> Option<u32>
 
 /// Cell number k of column c, if there is one.
 pub fn cell_of_column<A: Allocator>(grid: &Grid<u32, A>, c: usize, k: usize) -> Option<u32>
-    requires { c < cols_of grid.now.rows }
-    ensures { result ≡ slice_get (row (turned grid.now.rows) c) k }
+    requires { c < col_count grid.now.rows }
+    ensures { result ≡ slice_get (row (transposed grid.now.rows) c) k }
 {
     grid.iter_col(c).nth(k).copied()
 }
@@ -163,8 +162,8 @@ pub fn count_in_columns<A: Allocator>(
     grid: &Grid<u32, A>,
     x: u32,
 ) -> Result<Vec<usize>, AllocError>
-    ensures { IfOk result (λ counts. counts.items
-        ≡ map (λ line. count_by (λ y. y == x) line) (turned grid.now.rows)) }
+    ensures { IfOk result (λ counts.
+        counts.items ≡ map (λ line. count_by (λ y. y == x) line) (transposed grid.now.rows)) }
 {
     grid.iter_cols()
         .map(|line| line.filter(|y| **y == x).count())
@@ -179,15 +178,14 @@ pub fn count_rows<A: Allocator>(grid: &Grid<u32, A>) -> usize
 }
 
 /// What each cell lacks to ten. The closure can't be called at a larger number.
-#[tactic(auto, using(grid_base::proofs::Answers::answers_pure))]
+#[tactic(auto, using(grid_base::proofs::ClosureLemmas::answers_pure))]
 pub fn lacking<A: Allocator + Clone>(grid: Grid<u32, A>) -> Result<Grid<u32, A>, AllocError>
     requires { All (λ y. y ≤ 10) (storage grid.order grid.rows) }
     ensures order { IfOk result (λ lacking. lacking.order ≡ grid.order) }
-    ensures rows { IfOk result (λ lacking. rows_of lacking.rows ≡ rows_of grid.rows) }
-    ensures cols { IfOk result (λ lacking. cols_of lacking.rows ≡ cols_of grid.rows) }
-    ensures cells { IfOk result
-        (λ lacking. storage lacking.order lacking.rows
-        ≡ map (λ y. 10 - y) (storage grid.order grid.rows)) }
+    ensures rows { IfOk result (λ lacking. row_count lacking.rows ≡ row_count grid.rows) }
+    ensures cols { IfOk result (λ lacking. col_count lacking.rows ≡ col_count grid.rows) }
+    ensures cells { IfOk result (λ lacking.
+        storage lacking.order lacking.rows ≡ map (λ y. 10 - y) (storage grid.order grid.rows)) }
 {
     match grid.map(|y| 10 - y) {
         Ok(lacking) => Ok(lacking),
@@ -196,14 +194,13 @@ pub fn lacking<A: Allocator + Clone>(grid: Grid<u32, A>) -> Result<Grid<u32, A>,
 }
 
 /// The same, of a grid that stays.
-#[tactic(auto, using(grid_base::proofs::Answers::pairs_pure))]
+#[tactic(auto, using(grid_base::proofs::ClosureLemmas::pairs_pure))]
 pub fn lacking_in<A: Allocator + Clone>(grid: &Grid<u32, A>) -> Result<Grid<u32, A>, AllocError>
     requires { All (λ y. y ≤ 10) (storage grid.now.order grid.now.rows) }
     ensures order { IfOk result (λ lacking. lacking.order ≡ grid.now.order) }
-    ensures rows { IfOk result (λ lacking. rows_of lacking.rows ≡ rows_of grid.now.rows) }
-    ensures cols { IfOk result (λ lacking. cols_of lacking.rows ≡ cols_of grid.now.rows) }
-    ensures cells { IfOk result
-        (λ lacking. storage lacking.order lacking.rows
+    ensures rows { IfOk result (λ lacking. row_count lacking.rows ≡ row_count grid.now.rows) }
+    ensures cols { IfOk result (λ lacking. col_count lacking.rows ≡ col_count grid.now.rows) }
+    ensures cells { IfOk result (λ lacking. storage lacking.order lacking.rows
         ≡ map (λ y. 10 - y) (storage grid.now.order grid.now.rows)) }
 {
     let lacking = grid.map_ref(|y| 10 - *y)?;
@@ -214,10 +211,10 @@ pub fn lacking_in<A: Allocator + Clone>(grid: &Grid<u32, A>) -> Result<Grid<u32,
 pub fn number_cells<A: Allocator>(grid: &mut Grid<u8, A>)
     requires { length (storage grid.old.order grid.old.rows) < 2 ^ 8 }
     ensures order { grid.new.order ≡ grid.old.order }
-    ensures rows { rows_of grid.new.rows ≡ rows_of grid.old.rows }
-    ensures cols { cols_of grid.new.rows ≡ cols_of grid.old.rows }
+    ensures rows { row_count grid.new.rows ≡ row_count grid.old.rows }
+    ensures cols { col_count grid.new.rows ≡ col_count grid.old.rows }
     ensures cells { storage grid.new.order grid.new.rows
-        ≡ range_with_len 1 (rows_of grid.old.rows * cols_of grid.old.rows) }
+        ≡ range_with_len 1 (row_count grid.old.rows * col_count grid.old.rows) }
 {
     let mut count = 0u8;
     grid.fill_with(
@@ -235,7 +232,7 @@ pub fn apply_to_texts<A: Allocator>(grid: &mut Grid<String, A>, first: Symmetry,
     ensures { grid.new.rows ≡ act second (act first grid.old.rows) }
 {
     let _ = grid.size();
-    let _ = symmetry_laws::joined::<String>(first, second);
+    let _ = symmetry_laws::then_acts::<String>(first, second);
     grid.apply(first.then(second));
 }
 

@@ -5,7 +5,7 @@ use std::alloc::{AllocError, Global};
 
 // A place among the rows of a table, or among its columns.
 #[derive(Clone, Copy)]
-pub enum Place {
+pub enum LineAt {
     Row(usize),
     Col(usize),
 }
@@ -37,12 +37,12 @@ fn put_col(table: &mut Vec<Vec<u32>>, at: usize, line: &[u32]) -> Result<(), All
 pub fn put_line(
     alloc: Global,
     table: &mut Vec<Vec<u32>>,
-    place: Place,
+    place: LineAt,
     line: &[u32],
 ) -> Result<(), AllocError> {
     match place {
-        Place::Row(at) => put_row(alloc, table, at, line),
-        Place::Col(at) => {
+        LineAt::Row(at) => put_row(alloc, table, at, line),
+        LineAt::Col(at) => {
             if table.is_empty() {
                 for _ in line {
                     table.push(Vec::new(alloc))?;
@@ -93,12 +93,12 @@ fn without_cols(
 pub fn without(
     alloc: Global,
     table: &[Vec<u32>],
-    place: Place,
+    place: LineAt,
     count: usize,
 ) -> Result<Vec<Vec<u32>>, AllocError> {
     match place {
-        Place::Row(start) => without_rows(alloc, table, start, count),
-        Place::Col(start) => without_cols(alloc, table, start, count),
+        LineAt::Row(start) => without_rows(alloc, table, start, count),
+        LineAt::Col(start) => without_cols(alloc, table, start, count),
     }
 }
 
@@ -113,11 +113,11 @@ fn copied(line: Option<&Vec<u32>>) -> Result<Option<Vec<u32>>, AllocError> {
 pub fn line_at(
     alloc: Global,
     table: &Vec<Vec<u32>>,
-    place: Place,
+    place: LineAt,
 ) -> Result<Option<Vec<u32>>, AllocError> {
     match place {
-        Place::Row(at) => copied(table.get(at)),
-        Place::Col(at) => {
+        LineAt::Row(at) => copied(table.get(at)),
+        LineAt::Col(at) => {
             let turned = plain::act(alloc, Symmetry::Transpose, table)?;
             copied(turned.get(at))
         }
@@ -128,13 +128,13 @@ pub fn line_at(
 pub fn pad(
     alloc: Global,
     table: &mut Vec<Vec<u32>>,
-    place: Place,
+    place: LineAt,
     count: usize,
 ) -> Result<(), AllocError> {
     let (rows, cols) = plain::size(table);
     let len = match place {
-        Place::Row(_) => cols,
-        Place::Col(_) => rows,
+        LineAt::Row(_) => cols,
+        LineAt::Col(_) => rows,
     };
     if rows != 0 {
         for _ in 0..count {

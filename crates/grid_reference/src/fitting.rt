@@ -1,10 +1,10 @@
 //! Calls that put lines. Each tests what the call asks of its caller, and hands a line that does not fit back as too
 //! large.
 ghost use Rattle.std.specs.Prelude.{◌≡◌, IsTrue, All, IfSome, length};
-ghost use Rattle.grid_base.specs.Table.{cols_of, IsTable};
-ghost use Rattle.grid_base.specs.Gather.{cells_of};
+ghost use Rattle.grid_base.specs.Table.{col_count, IsTable};
+ghost use Rattle.grid_base.specs.Gather.{items_of_each};
 
-use crate::edits::Place;
+use crate::edits::LineAt;
 use grid::{Grid, GridError, LineRefused, LinesRefused};
 use std::alloc::Allocator;
 
@@ -18,16 +18,16 @@ fn misfit<T, A: Allocator>(line: Vec<T, A>) -> LineRefused<T, A> {
 // Inserts a line at a place.
 pub fn insert<T: Drop, A: Allocator>(
     grid: &mut Grid<T, A>,
-    place: Place,
+    place: LineAt,
     line: Vec<T, A>,
 ) -> Result<(), LineRefused<T, A>> {
     let (rows, cols) = grid.size();
     let len = line.len();
     match place {
-        Place::Row(at) if len != 0 && at <= rows && (rows == 0 || len == cols) => {
+        LineAt::Row(at) if len != 0 && at <= rows && (rows == 0 || len == cols) => {
             grid.insert_row(at, line)
         }
-        Place::Col(at) if len != 0 && at <= cols && (rows == 0 || len == rows) => {
+        LineAt::Col(at) if len != 0 && at <= cols && (rows == 0 || len == rows) => {
             grid.insert_col(at, line)
         }
         _ => Err(misfit(line)),
@@ -66,8 +66,8 @@ fn all_of_length<T, A: Allocator>(lines: &[Vec<T, A>], width: usize) -> bool
 
 // The length of the lines of a table, 0 if it has none; nothing if some line is empty or they differ in length.
 fn width_of<T, A: Allocator>(lines: &[Vec<T, A>]) -> Option<usize>
-    ensures { IfSome result (λ width. IsTable (cells_of lines.now)
-        × (cols_of (cells_of lines.now) ≡ width)) }
+    ensures { IfSome result
+        (λ width. IsTable (items_of_each lines.now) × (col_count (items_of_each lines.now) ≡ width)) }
 {
     let width = match lines.first() {
         Some(line) => line.len(),
@@ -83,16 +83,16 @@ fn width_of<T, A: Allocator>(lines: &[Vec<T, A>]) -> Option<usize>
 // Inserts several lines from a place on.
 pub fn insert_several<T: Drop, A: Allocator>(
     grid: &mut Grid<T, A>,
-    place: Place,
+    place: LineAt,
     lines: Vec<Vec<T, A>, A>,
 ) -> Result<(), LinesRefused<T, A>> {
     let (rows, cols) = grid.size();
     let any_fits = rows == 0 || lines.is_empty();
     match (width_of(lines.as_slice()), place) {
-        (Some(width), Place::Row(at)) if at <= rows && (any_fits || width == cols) => {
+        (Some(width), LineAt::Row(at)) if at <= rows && (any_fits || width == cols) => {
             grid.insert_rows(at, lines)
         }
-        (Some(width), Place::Col(at)) if at <= cols && (any_fits || width == rows) => {
+        (Some(width), LineAt::Col(at)) if at <= cols && (any_fits || width == rows) => {
             grid.insert_cols(at, lines)
         }
         _ => Err(LinesRefused {

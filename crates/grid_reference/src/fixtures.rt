@@ -46,7 +46,7 @@ pub const MOVES: [Move; 6] = [
 ];
 
 // Rows and columns in range of a table, and some past its end.
-pub const PLACES: [usize; 6] = [0, 1, 2, 3, 4, usize::MAX];
+pub const INDICES: [usize; 6] = [0, 1, 2, 3, 4, usize::MAX];
 
 // A line of so many numbers, each one more than the one before it.
 fn next_line<A: Allocator>(
@@ -165,8 +165,8 @@ pub fn counted<'a>(
 
 // Whether a grid has the cells of a table, in range and past its ends.
 fn has_cells<A: Allocator>(grid: &Grid<u32, A>, table: &Vec<Vec<u32>>) -> bool {
-    for row in PLACES {
-        for col in PLACES {
+    for row in INDICES {
+        for col in INDICES {
             if grid.get(row, col).copied() != plain::get(table, row, col) {
                 return false;
             }
@@ -250,8 +250,8 @@ pub fn shows_count<A: Allocator>(
     order: Order,
     (first, step): (u32, u32),
 ) -> bool {
-    for row in PLACES {
-        for col in PLACES {
+    for row in INDICES {
+        for col in INDICES {
             let want = count_at(size, order, (first, step), (row, col));
             if grid.get(row, col).copied() != want {
                 return false;
@@ -355,7 +355,7 @@ pub fn letters(alloc: Global, order: Order) -> Result<Grid<String>, ShapeError> 
 }
 
 // The texts of a grid's vector, joined.
-pub fn joined(alloc: Global, grid: &Grid<String>) -> Result<String, AllocError> {
+pub fn joined_texts(alloc: Global, grid: &Grid<String>) -> Result<String, AllocError> {
     let mut text = String::new(alloc);
     for cell in grid.flatten() {
         text.push_str(cell.as_str())?;

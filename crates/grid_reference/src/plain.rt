@@ -1,21 +1,21 @@
 //! A plain program beside the library: tables as vectors of rows, written from the definitions with no care for
 //! speed. It shares no code with the library, whose tests compare the two.
 ghost use Rattle.std.specs.Prelude.{◌≡◌, ◌<◌, OnOk, OnErr, IfOk, map};
-ghost use Rattle.grid_base.specs.Table.{rows_of, cols_of, cell, line, joined};
+ghost use Rattle.grid_base.specs.Table.{row_count, col_count, cell, cells_by, concat_rows};
 ghost use Rattle.grid_base.specs.Order.{storage};
 ghost use Rattle.grid_base.specs.Symmetry.{act, image_rows, image_cols, source_row, source_col};
-ghost use Rattle.grid.specs.Reply.{plain};
+ghost use Rattle.grid.specs.Reply.{reply_value};
 ghost use Rattle.grid.specs.Command.{step_rows, step_reply};
 ghost use Rattle.grid.specs.Run.{run_rows, run_replies};
-ghost use Rattle.grid_reference.specs.Plain.{rows_of_vec, AfterSome};
+ghost use Rattle.grid_reference.specs.Plain.{items_of_each, AfterSome};
 
 use grid::{Command, Order, Reply, Symmetry};
 use std::alloc::{AllocError, Global};
 
 /// The number of rows, and the number of cells in the first row.
 pub fn size<T>(table: &Vec<Vec<T>>) -> (usize, usize)
-    ensures rows { result.0 ≡ rows_of (rows_of_vec table.now) }
-    ensures cols { result.1 ≡ cols_of (rows_of_vec table.now) }
+    ensures rows { result.0 ≡ row_count (items_of_each table.now) }
+    ensures cols { result.1 ≡ col_count (items_of_each table.now) }
 {
     let cols = match table.first() {
         Some(row) => row.len(),
@@ -26,7 +26,7 @@ pub fn size<T>(table: &Vec<Vec<T>>) -> (usize, usize)
 
 /// The cell in a row and a column, or `None` where there is none.
 pub fn get<T: Copy>(table: &Vec<Vec<T>>, row: usize, col: usize) -> Option<T>
-    ensures { result ≡ cell (rows_of_vec table.now) row col }
+    ensures { result ≡ cell (items_of_each table.now) row col }
 {
     match table.get(row) {
         Some(cells) => cells.get(col).copied(),
@@ -76,12 +76,11 @@ fn image_row<T: Copy>(
     table: &Vec<Vec<T>>,
     row: usize,
 ) -> Result<Vec<T>, AllocError>
-    requires { row < image_rows symmetry (rows_of (rows_of_vec table.now))
-        (cols_of (rows_of_vec table.now)) }
-    ensures { let t = rows_of_vec table.now in IfOk result
-        (λ cells. cells.items ≡ line (image_cols symmetry (rows_of t) (cols_of t))
-        (λ col. cell t (source_row symmetry (rows_of t) (cols_of t) row col)
-        (source_col symmetry (rows_of t) (cols_of t) row col))) }
+    requires { row
+        < image_rows symmetry (row_count (items_of_each table.now)) (col_count (items_of_each table.now)) }
+    ensures { let t = items_of_each table.now in IfOk result (λ cells. cells.items
+        ≡ cells_by (image_cols symmetry (row_count t) (col_count t)) (λ col. cell t (source_row symmetry
+        (row_count t) (col_count t) row col) (source_col symmetry (row_count t) (col_count t) row col))) }
 {
     let (rows, cols) = size(table);
     let (_, width) = image_size(symmetry, rows, cols);
@@ -101,7 +100,7 @@ pub fn act<T: Copy>(
     symmetry: Symmetry,
     table: &Vec<Vec<T>>,
 ) -> Result<Vec<Vec<T>>, AllocError>
-    ensures { IfOk result (λ image. rows_of_vec image ≡ act symmetry (rows_of_vec table.now)) }
+    ensures { IfOk result (λ image. items_of_each image ≡ act symmetry (items_of_each table.now)) }
 {
     let (rows, cols) = size(table);
     let (height, _) = image_size(symmetry, rows, cols);
@@ -114,7 +113,7 @@ pub fn act<T: Copy>(
 
 // The cells of all rows, one row after another.
 fn joined_rows<T: Copy>(alloc: Global, table: &Vec<Vec<T>>) -> Result<Vec<T>, AllocError>
-    ensures { IfOk result (λ cells. cells.items ≡ joined (rows_of_vec table.now)) }
+    ensures { IfOk result (λ cells. cells.items ≡ concat_rows (items_of_each table.now)) }
 {
     let mut cells = Vec::new(alloc);
     for row in table {
@@ -129,7 +128,7 @@ pub fn storage<T: Copy>(
     order: Order,
     table: &Vec<Vec<T>>,
 ) -> Result<Vec<T>, AllocError>
-    ensures { IfOk result (λ cells. cells.items ≡ storage order (rows_of_vec table.now)) }
+    ensures { IfOk result (λ cells. cells.items ≡ storage order (items_of_each table.now)) }
 {
     match order {
         Order::RowMajor => joined_rows(alloc, table),
@@ -146,10 +145,10 @@ pub fn step<T: Copy>(
     command: &Command,
     table: &mut Vec<Vec<T>>,
 ) -> Result<Reply<T>, AllocError>
-    ensures rows { OnOk result (rows_of_vec table.new
-        ≡ step_rows command.now (rows_of_vec table.old)) }
+    ensures rows { OnOk result
+        (items_of_each table.new ≡ step_rows command.now (items_of_each table.old)) }
     ensures reply { IfOk result
-        (λ reply. plain reply ≡ step_reply command.now (rows_of_vec table.old)) }
+        (λ reply. reply_value reply ≡ step_reply command.now (items_of_each table.old)) }
     ensures err { OnErr result (table.new ≡ table.old) }
 {
     match command {
@@ -171,12 +170,12 @@ pub fn run<T: Copy>(
     commands: &[Command],
     table: &mut Vec<Vec<T>>,
 ) -> Result<Vec<Reply<T>>, AllocError>
-    ensures rows { OnOk result (rows_of_vec table.new
-        ≡ run_rows commands.now (rows_of_vec table.old)) }
+    ensures rows { OnOk result
+        (items_of_each table.new ≡ run_rows commands.now (items_of_each table.old)) }
     ensures replies { IfOk result
-        (λ replies. map plain replies.items ≡ run_replies commands.now (rows_of_vec table.old)) }
-    ensures err { OnErr result (AfterSome commands.now (rows_of_vec table.old)
-        (rows_of_vec table.new)) }
+        (λ replies. map reply_value replies.items ≡ run_replies commands.now (items_of_each table.old)) }
+    ensures err { OnErr result
+        (AfterSome commands.now (items_of_each table.old) (items_of_each table.new)) }
 {
     let mut replies = Vec::new(alloc);
     for command in commands {

@@ -1,7 +1,7 @@
 //! How a grid is made and its cells are reached, over all small tables and both orders.
 use crate::asserts::assert_shows;
 use grid::Order;
-use grid_reference::fixtures::{ORDERS, PLACES, SIZES, grid_of, numbered, places_of, put_cell};
+use grid_reference::fixtures::{ORDERS, INDICES, SIZES, grid_of, numbered, places_of, put_cell};
 use grid_reference::plain;
 use grid_reference::reached::{read_both_ways, swap, write, write_indexed, write_unchecked};
 use std::alloc::{AllocError, Global};
@@ -59,8 +59,8 @@ fn check_get_mut(
 fn writes_by_get_mut(rt: HostRuntime) -> Result<(), Fail> {
     for size in SIZES {
         for order in ORDERS {
-            for row in PLACES {
-                for col in PLACES {
+            for row in INDICES {
+                for col in INDICES {
                     check_get_mut(&rt, rt.alloc(), size, order, (row, col))?;
                 }
             }

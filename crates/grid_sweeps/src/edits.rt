@@ -2,7 +2,7 @@
 use crate::asserts::assert_shows;
 use grid::laws::{insert_col_or_row_across, push_row_then_pop_row};
 use grid::{Grid, GridError, LineRefused, Order};
-use grid_reference::edits::{Place, line_at, pad, put_line, without};
+use grid_reference::edits::{LineAt, line_at, pad, put_line, without};
 use grid_reference::fitting::{insert, insert_several, push_col, push_row};
 use grid_reference::fixtures::{
     Heap, ORDERS, SIZES, grid_of, is_count, line_from, lines_from, numbered, starved_grid_of,
@@ -15,37 +15,37 @@ use std::process::Abort;
 use std::test::Fail;
 
 // How long a line is that fits a grid of this size, or any length where the grid is empty.
-fn fitting_len((rows, cols): (usize, usize), place: Place) -> usize {
+fn fitting_len((rows, cols): (usize, usize), place: LineAt) -> usize {
     match place {
-        Place::Row(_) => if rows == 0 { 2 } else { cols },
-        Place::Col(_) => if rows == 0 { 3 } else { rows },
+        LineAt::Row(_) => if rows == 0 { 2 } else { cols },
+        LineAt::Col(_) => if rows == 0 { 3 } else { rows },
     }
 }
 
 // The places of a table of this size where a line can be put.
-fn places_to_put(alloc: Global, (rows, cols): (usize, usize)) -> Result<Vec<Place>, AllocError> {
+fn places_to_put(alloc: Global, (rows, cols): (usize, usize)) -> Result<Vec<LineAt>, AllocError> {
     let mut places = Vec::new(alloc);
     for at in 0..=rows {
-        places.push(Place::Row(at))?;
+        places.push(LineAt::Row(at))?;
     }
     for at in 0..=cols {
-        places.push(Place::Col(at))?;
+        places.push(LineAt::Col(at))?;
     }
     Ok(places)
 }
 
 // Places where lines are taken: those of small tables, and some past their ends.
-const PLACES_TO_TAKE: [Place; 10] = [
-    Place::Row(0),
-    Place::Row(1),
-    Place::Row(2),
-    Place::Row(3),
-    Place::Row(usize::MAX),
-    Place::Col(0),
-    Place::Col(1),
-    Place::Col(2),
-    Place::Col(3),
-    Place::Col(usize::MAX),
+const PLACES_TO_TAKE: [LineAt; 10] = [
+    LineAt::Row(0),
+    LineAt::Row(1),
+    LineAt::Row(2),
+    LineAt::Row(3),
+    LineAt::Row(usize::MAX),
+    LineAt::Col(0),
+    LineAt::Col(1),
+    LineAt::Col(2),
+    LineAt::Col(3),
+    LineAt::Col(usize::MAX),
 ];
 
 // A line from 101 on, whose heap refuses each later request.
@@ -58,27 +58,27 @@ fn starved_line(heap: &Heap, len: usize) -> Result<Vec<u32, &Heap>, AllocError> 
 
 fn put_into<'a>(
     grid: &mut Grid<u32, &'a Heap>,
-    place: Place,
+    place: LineAt,
     pushed: bool,
     line: Vec<u32, &'a Heap>,
 ) -> Result<(), LineRefused<u32, &'a Heap>> {
     match (place, pushed) {
-        (Place::Row(_), true) => push_row(grid, line),
-        (Place::Col(_), true) => push_col(grid, line),
+        (LineAt::Row(_), true) => push_row(grid, line),
+        (LineAt::Col(_), true) => push_col(grid, line),
         (_, false) => insert(grid, place, line),
     }
 }
 
 fn take_line<A: Allocator + Clone>(
     grid: &mut Grid<u32, A>,
-    place: Place,
+    place: LineAt,
     popped: bool,
 ) -> Result<Option<Vec<u32, A>>, AllocError> {
     match (place, popped) {
-        (Place::Row(at), false) => grid.remove_row(at),
-        (Place::Row(_), true) => grid.pop_row(),
-        (Place::Col(at), false) => grid.remove_col(at),
-        (Place::Col(_), true) => grid.pop_col(),
+        (LineAt::Row(at), false) => grid.remove_row(at),
+        (LineAt::Row(_), true) => grid.pop_row(),
+        (LineAt::Col(at), false) => grid.remove_col(at),
+        (LineAt::Col(_), true) => grid.pop_col(),
     }
 }
 
@@ -86,7 +86,7 @@ fn take_line<A: Allocator + Clone>(
 fn comes_back<'a>(
     heap: &'a Heap,
     grid: &mut Grid<u32, &'a Heap>,
-    (place, pushed): (Place, bool),
+    (place, pushed): (LineAt, bool),
     len: usize,
 ) -> Result<bool, AllocError> {
     let line = starved_line(heap, len)?;
@@ -103,7 +103,7 @@ fn comes_back<'a>(
 fn takes_one_request<'a>(
     heap: &'a Heap,
     grid: &mut Grid<u32, &'a Heap>,
-    (place, pushed): (Place, bool),
+    (place, pushed): (LineAt, bool),
     len: usize,
 ) -> Result<bool, AllocError> {
     let line = starved_line(heap, len)?;
@@ -116,7 +116,7 @@ fn takes_one_request<'a>(
 fn with_line(
     alloc: Global,
     mut table: Vec<Vec<u32>>,
-    place: Place,
+    place: LineAt,
     len: usize,
 ) -> Result<Vec<Vec<u32>>, AllocError> {
     let line = line_from(alloc, 101, len)?;
@@ -130,7 +130,7 @@ fn check_put(
     alloc: Global,
     size: (usize, usize),
     order: Order,
-    (place, pushed): (Place, bool),
+    (place, pushed): (LineAt, bool),
 ) -> Result<(), Fail> {
     let table = numbered(alloc, size.0, size.1)?;
     let heap = Fuse::new(alloc, 0);
@@ -151,7 +151,7 @@ fn puts_lines(rt: HostRuntime) -> Result<(), Fail> {
             for place in places_to_put(alloc, (rows, cols))? {
                 check_put(&rt, alloc, (rows, cols), order, (place, false))?;
             }
-            for place in [Place::Row(rows), Place::Col(cols)] {
+            for place in [LineAt::Row(rows), LineAt::Col(cols)] {
                 check_put(&rt, alloc, (rows, cols), order, (place, true))?;
             }
         }
@@ -171,7 +171,7 @@ fn same_line<A: Allocator>(taken: Option<Vec<u32, A>>, line: Option<&Vec<u32>>) 
 fn takes<'a>(
     heap: &'a Heap,
     grid: &mut Grid<u32, &'a Heap>,
-    (place, popped): (Place, bool),
+    (place, popped): (LineAt, bool),
     line: Option<&Vec<u32>>,
 ) -> Result<bool, AllocError> {
     heap.grant(1);
@@ -186,7 +186,7 @@ fn check_taken(
     alloc: Global,
     table: &Vec<Vec<u32>>,
     order: Order,
-    (place, popped): (Place, bool),
+    (place, popped): (LineAt, bool),
 ) -> Result<(), Fail> {
     let line = line_at(alloc, table, place)?;
     let heap = Fuse::new(alloc, 0);
@@ -204,8 +204,8 @@ fn takes_lines(rt: HostRuntime) -> Result<(), Fail> {
     for (rows, cols) in SIZES {
         let table = numbered(rt.alloc(), rows, cols)?;
         let last = [
-            Place::Row(rows.saturating_sub(1)),
-            Place::Col(cols.saturating_sub(1)),
+            LineAt::Row(rows.saturating_sub(1)),
+            LineAt::Col(cols.saturating_sub(1)),
         ];
         for order in ORDERS {
             for place in PLACES_TO_TAKE {
@@ -219,25 +219,25 @@ fn takes_lines(rt: HostRuntime) -> Result<(), Fail> {
     Ok(())
 }
 
-fn delete_line(grid: &mut Grid<u32, &Heap>, place: Place) -> bool {
+fn delete_line(grid: &mut Grid<u32, &Heap>, place: LineAt) -> bool {
     match place {
-        Place::Row(at) => grid.delete_row(at),
-        Place::Col(at) => grid.delete_col(at),
+        LineAt::Row(at) => grid.delete_row(at),
+        LineAt::Col(at) => grid.delete_col(at),
     }
 }
 
-fn delete_lines(grid: &mut Grid<u32, &Heap>, place: Place, count: usize) -> bool {
+fn delete_lines(grid: &mut Grid<u32, &Heap>, place: LineAt, count: usize) -> bool {
     match place {
-        Place::Row(start) => grid.delete_rows(start, count),
-        Place::Col(start) => grid.delete_cols(start, count),
+        LineAt::Row(start) => grid.delete_rows(start, count),
+        LineAt::Col(start) => grid.delete_cols(start, count),
     }
 }
 
 // Whether a table of this size has so many lines from a place on.
-fn has_lines((rows, cols): (usize, usize), place: Place, count: usize) -> bool {
+fn has_lines((rows, cols): (usize, usize), place: LineAt, count: usize) -> bool {
     let (lines, start) = match place {
-        Place::Row(start) => (rows, start),
-        Place::Col(start) => (cols, start),
+        LineAt::Row(start) => (rows, start),
+        LineAt::Col(start) => (cols, start),
     };
     count <= lines && start <= lines - count
 }
@@ -248,7 +248,7 @@ fn check_deleted(
     alloc: Global,
     table: &Vec<Vec<u32>>,
     order: Order,
-    (place, count): (Place, usize),
+    (place, count): (LineAt, usize),
 ) -> Result<(), Fail> {
     let there = has_lines(plain::size(table), place, count);
     let left = without(alloc, table, place, if there { count } else { 0 })?;
@@ -264,7 +264,7 @@ fn check_deleted_one(
     alloc: Global,
     table: &Vec<Vec<u32>>,
     order: Order,
-    place: Place,
+    place: LineAt,
 ) -> Result<(), Fail> {
     let there = has_lines(plain::size(table), place, 1);
     let left = without(alloc, table, place, 1)?;
@@ -319,7 +319,7 @@ fn are_counted(lines: &[Vec<u32, &Heap>], len: usize) -> bool {
 fn all_come_back<'a>(
     heap: &'a Heap,
     grid: &mut Grid<u32, &'a Heap>,
-    place: Place,
+    place: LineAt,
     (count, len): (usize, usize),
 ) -> Result<bool, AllocError> {
     let lines = starved_lines(heap, count, len)?;
@@ -337,7 +337,7 @@ fn all_come_back<'a>(
 fn all_take_one_request<'a>(
     heap: &'a Heap,
     grid: &mut Grid<u32, &'a Heap>,
-    place: Place,
+    place: LineAt,
     (count, len): (usize, usize),
 ) -> Result<bool, AllocError> {
     let lines = starved_lines(heap, count, len)?;
@@ -350,7 +350,7 @@ fn all_take_one_request<'a>(
 fn with_lines(
     alloc: Global,
     mut table: Vec<Vec<u32>>,
-    place: Place,
+    place: LineAt,
     (count, len): (usize, usize),
 ) -> Result<Vec<Vec<u32>>, AllocError> {
     let lines = lines_from(alloc, 101, count, len)?;
@@ -367,7 +367,7 @@ fn check_put_several(
     alloc: Global,
     size: (usize, usize),
     order: Order,
-    (place, count): (Place, usize),
+    (place, count): (LineAt, usize),
 ) -> Result<(), Fail> {
     let table = numbered(alloc, size.0, size.1)?;
     let heap = Fuse::new(alloc, 0);
@@ -400,19 +400,19 @@ fn puts_several_lines(rt: HostRuntime) -> Result<(), Fail> {
 // Pads at the beginning or at the end.
 fn pad_grid(
     grid: &mut Grid<u32, &Heap>,
-    (place, at_end): (Place, bool),
+    (place, at_end): (LineAt, bool),
     count: usize,
 ) -> Result<(), GridError> {
     match (place, at_end) {
-        (Place::Row(_), false) => grid.prepend_rows(count),
-        (Place::Row(_), true) => grid.expand_rows(count),
-        (Place::Col(_), false) => grid.prepend_cols(count),
-        (Place::Col(_), true) => grid.expand_cols(count),
+        (LineAt::Row(_), false) => grid.prepend_rows(count),
+        (LineAt::Row(_), true) => grid.expand_rows(count),
+        (LineAt::Col(_), false) => grid.prepend_cols(count),
+        (LineAt::Col(_), true) => grid.expand_cols(count),
     }
 }
 
 // Pads by too many lines, and by so many where memory is refused, and says whether each was refused for its reason.
-fn pad_is_refused(grid: &mut Grid<u32, &Heap>, end: (Place, bool), count: usize) -> bool {
+fn pad_is_refused(grid: &mut Grid<u32, &Heap>, end: (LineAt, bool), count: usize) -> bool {
     let too_large = pad_grid(grid, end, usize::MAX) == Err(GridError::TooLarge);
     too_large && (count == 0 || pad_grid(grid, end, count) == Err(GridError::Memory))
 }
@@ -424,7 +424,7 @@ fn check_padded(
     alloc: Global,
     size: (usize, usize),
     order: Order,
-    (end, count): ((Place, bool), usize),
+    (end, count): ((LineAt, bool), usize),
 ) -> Result<(), Fail> {
     let mut table = numbered(alloc, size.0, size.1)?;
     let heap = Fuse::new(alloc, 0);
@@ -445,10 +445,10 @@ fn check_padded(
 fn pads_tables(rt: HostRuntime) -> Result<(), Fail> {
     for (rows, cols) in SIZES {
         let ends = [
-            (Place::Row(0), false),
-            (Place::Row(rows), true),
-            (Place::Col(0), false),
-            (Place::Col(cols), true),
+            (LineAt::Row(0), false),
+            (LineAt::Row(rows), true),
+            (LineAt::Col(0), false),
+            (LineAt::Col(cols), true),
         ];
         for order in ORDERS {
             for end in ends {
@@ -469,7 +469,7 @@ fn check_push_and_pop(
     order: Order,
 ) -> Result<(), Fail> {
     let mut grid = grid_of(alloc, table, order)?;
-    let len = fitting_len(grid.size(), Place::Row(0));
+    let len = fitting_len(grid.size(), LineAt::Row(0));
     let line = line_from(alloc, 101, len)?;
     assert!(rt; line.len() != 0 && (grid.is_empty() || line.len() == grid.cols()));
     match push_row_then_pop_row(&mut grid, line) {

@@ -16,4 +16,4 @@ mod symmetries;
 #[cfg(test)]
 mod walks;
 #[cfg(test)]
-mod wholes;
+mod all_cells;

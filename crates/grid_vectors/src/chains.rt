@@ -32,7 +32,7 @@ fn counts_in_rows(rt: HostRuntime) -> Result<(), Fail> {
     Ok(())
 }
 
-#[tactic(auto, using(grid_reference::proofs::Sums::row_within))]
+#[tactic(auto, using(grid_reference::proofs::SumLemmas::row_within))]
 #[test]
 fn sums_rows(rt: HostRuntime) -> Result<(), Fail> {
     let cells = vec![in rt.alloc(); 1u32, 2, 3, 4]?;

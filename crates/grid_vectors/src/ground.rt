@@ -36,11 +36,12 @@ fn reaches_places(rt: HostRuntime) -> Result<(), Fail> {
 #[test]
 fn joined_symmetries_are_a_group(rt: HostRuntime) {
     for first in SYMMETRIES {
-        assert!(rt; identity_is_neutral(first));
-        assert!(rt; inverse_undoes(first));
+        assert_eq!(rt; identity_is_neutral(first), (first, first));
+        assert_eq!(rt; inverse_undoes(first), (Symmetry::Identity, Symmetry::Identity));
         for second in SYMMETRIES {
             for third in SYMMETRIES {
-                assert!(rt; then_is_associative(first, second, third));
+                let (left, right) = then_is_associative(first, second, third);
+                assert_eq!(rt; left, right);
             }
         }
     }

@@ -12,9 +12,9 @@ const FLIPPED: Symmetry = Symmetry::FlipRows;
 
 #[test]
 fn joins_and_undoes_symmetries(rt: HostRuntime) -> Result<(), Fail> {
-    let transposed = symmetry_laws::joined::<String>(TURNED, FLIPPED);
+    let transposed = symmetry_laws::then_acts::<String>(TURNED, FLIPPED);
     assert_eq!(rt; transposed, Symmetry::Transpose);
-    let back = symmetry_laws::undoing::<String>(TURNED);
+    let back = symmetry_laws::inverse_acts::<String>(TURNED);
     assert_eq!(rt; back, Symmetry::RotateRight);
     Ok(())
 }
@@ -22,7 +22,7 @@ fn joins_and_undoes_symmetries(rt: HostRuntime) -> Result<(), Fail> {
 #[test]
 fn applies_what_is_joined(rt: HostRuntime) -> Result<(), Fail> {
     let mut grid = Grid::from_vec(vec![in rt.alloc(); 1, 2, 3, 4, 5, 6]?, 3);
-    laws::apply_joined(&mut grid, TURNED, FLIPPED);
+    laws::apply_then(&mut grid, TURNED, FLIPPED);
     assert_eq!(rt; grid.size(), (3, 2));
     assert_eq!(rt; grid.get(0, 1), Some(&4));
     laws::apply_then_inverse(&mut grid, TURNED);

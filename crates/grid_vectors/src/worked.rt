@@ -7,4 +7,4 @@ mod moves;
 mod texts;
 mod traits;
 mod walks;
-mod wholes;
+mod all_cells;

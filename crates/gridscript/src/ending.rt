@@ -64,8 +64,8 @@ impl From<AllocError> for Ending {
 
 impl From<io::Error> for Ending {
     ghost from_gives = { λ error ending.
-        ((ending ≡ Script Memory) ↔ (error_kind error ≡ OutOfMemory)) × ((ending ≡ Transfer)
-        ↔ (error_kind error ≢ OutOfMemory)) };
+        ((ending ≡ Script Memory) ↔ (error_kind error ≡ OutOfMemory))
+        × ((ending ≡ Transfer) ↔ (error_kind error ≢ OutOfMemory)) };
 
     fn from(error: io::Error) -> Ending {
         match error.kind() {

@@ -27,8 +27,8 @@ fn run<R: Env + Input + Print + AllocGlobal>(rt: &R) -> Result<(), Ending> {
 
 // The status of a program that ended so.
 fn exit_code(ended: &Result<(), Ending>) -> ExitCode
-    ensures { MatchResult ended.now (λ _. exit_status result ≡ 0)
-        (λ ending. exit_status result ≡ ending_status ending) }
+    ensures { MatchResult ended.now
+        (λ _. exit_status result ≡ 0) (λ ending. exit_status result ≡ ending_status ending) }
 {
     match ended {
         Ok(()) => ExitCode::from(0),

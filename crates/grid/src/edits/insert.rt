@@ -1,9 +1,9 @@
 //! Rows and columns that are pushed and inserted, one or several.
 ghost use Rattle.std.specs.Prelude.{◌≡◌, ◌↔◌, ◌+◌, ◌*◌, ◌^◌, ◌<◌, ◌≤◌, [], length, insert, All, IsErrAnd, OnOk, OnErr, IfErr, IsOk};
-ghost use Rattle.grid_base.specs.Table.{rows_of, cols_of, IsTable};
-ghost use Rattle.grid_base.specs.Gather.{cells_of};
-ghost use Rattle.grid.specs.Edit.{FitsRow, FitsCol, put_col, put_rows, put_cols};
-ghost use Rattle.grid.specs.RowGroups.{RowsPut};
+ghost use Rattle.grid_base.specs.Table.{row_count, col_count, IsTable};
+ghost use Rattle.grid_base.specs.Gather.{items_of_each};
+ghost use Rattle.grid.specs.Edits.{FitsRow, FitsCol, insert_col, insert_rows, insert_cols};
+ghost use Rattle.grid.specs.RowGroups.{RowsInserted};
 ghost use Rattle.grid.specs.declared.error.GridError.TheVariants.{TooLarge};
 
 use super::has_room;
@@ -24,7 +24,7 @@ fn weave_rows<T, A: Allocator>(
     requires cells { length flat.old ≡ rows * cols + count * cols }
     requires fits { rows * cols + count * cols < 2 ^ 64 }
     requires place { at ≤ rows }
-    ensures { RowsPut order rows cols at count flat.old flat.new }
+    ensures { RowsInserted order rows cols at count flat.old flat.new }
 {
     match order {
         Order::RowMajor => flat.weave(1, rows * cols, at * cols, count * cols),
@@ -59,10 +59,10 @@ impl<T, A: Allocator> Grid<T, A> {
         requires nonempty { 0 < length line.items }
         requires fits { FitsRow self.old.rows (length line.items) }
         ensures rows { OnOk result
-            (self.new.rows ≡ insert self.old.rows (rows_of self.old.rows) line.items) }
+            (self.new.rows ≡ insert self.old.rows (row_count self.old.rows) line.items) }
         ensures order { self.new.order ≡ self.old.order }
         ensures too_large { IsErrAnd result (λ refused. refused.fault ≡ TooLarge)
-            ↔ (2 ^ 64 ≤ (rows_of self.old.rows + 1) * length line.items) }
+            ↔ (2 ^ 64 ≤ (row_count self.old.rows + 1) * length line.items) }
         ensures line { IfErr result (λ refused. refused.line.items ≡ line.items) }
         ensures err { OnErr result (self.new ≡ self.old) }
     {
@@ -83,10 +83,10 @@ impl<T, A: Allocator> Grid<T, A> {
         requires nonempty { 0 < length line.items }
         requires fits { FitsCol self.old.rows (length line.items) }
         ensures rows { OnOk result
-            (self.new.rows ≡ put_col (cols_of self.old.rows) line.items self.old.rows) }
+            (self.new.rows ≡ insert_col (col_count self.old.rows) line.items self.old.rows) }
         ensures order { self.new.order ≡ self.old.order }
         ensures too_large { IsErrAnd result (λ refused. refused.fault ≡ TooLarge)
-            ↔ (2 ^ 64 ≤ (cols_of self.old.rows + 1) * length line.items) }
+            ↔ (2 ^ 64 ≤ (col_count self.old.rows + 1) * length line.items) }
         ensures line { IfErr result (λ refused. refused.line.items ≡ line.items) }
         ensures err { OnErr result (self.new ≡ self.old) }
     {
@@ -106,11 +106,11 @@ impl<T, A: Allocator> Grid<T, A> {
     pub fn insert_row(&mut self, at: usize, line: Vec<T, A>) -> Result<(), LineRefused<T, A>>
         requires nonempty { 0 < length line.items }
         requires fits { FitsRow self.old.rows (length line.items) }
-        requires place { at ≤ rows_of self.old.rows }
+        requires place { at ≤ row_count self.old.rows }
         ensures rows { OnOk result (self.new.rows ≡ insert self.old.rows at line.items) }
         ensures order { self.new.order ≡ self.old.order }
         ensures too_large { IsErrAnd result (λ refused. refused.fault ≡ TooLarge)
-            ↔ (2 ^ 64 ≤ (rows_of self.old.rows + 1) * length line.items) }
+            ↔ (2 ^ 64 ≤ (row_count self.old.rows + 1) * length line.items) }
         ensures line { IfErr result (λ refused. refused.line.items ≡ line.items) }
         ensures err { OnErr result (self.new ≡ self.old) }
     {
@@ -149,11 +149,11 @@ impl<T, A: Allocator> Grid<T, A> {
     pub fn insert_col(&mut self, at: usize, line: Vec<T, A>) -> Result<(), LineRefused<T, A>>
         requires nonempty { 0 < length line.items }
         requires fits { FitsCol self.old.rows (length line.items) }
-        requires place { at ≤ cols_of self.old.rows }
-        ensures rows { OnOk result (self.new.rows ≡ put_col at line.items self.old.rows) }
+        requires place { at ≤ col_count self.old.rows }
+        ensures rows { OnOk result (self.new.rows ≡ insert_col at line.items self.old.rows) }
         ensures order { self.new.order ≡ self.old.order }
         ensures too_large { IsErrAnd result (λ refused. refused.fault ≡ TooLarge)
-            ↔ (2 ^ 64 ≤ (cols_of self.old.rows + 1) * length line.items) }
+            ↔ (2 ^ 64 ≤ (col_count self.old.rows + 1) * length line.items) }
         ensures line { IfErr result (λ refused. refused.line.items ≡ line.items) }
         ensures err { OnErr result (self.new ≡ self.old) }
     {
@@ -181,17 +181,16 @@ impl<T, A: Allocator> Grid<T, A> {
         at: usize,
         lines: Vec<Vec<T, A>, A>,
     ) -> Result<(), LinesRefused<T, A>>
-        requires table { IsTable (cells_of lines.items) }
+        requires table { IsTable (items_of_each lines.items) }
         requires fits { 0 < length lines.items
-            → FitsRow self.old.rows (cols_of (cells_of lines.items)) }
-        requires place { at ≤ rows_of self.old.rows }
+            → FitsRow self.old.rows (col_count (items_of_each lines.items)) }
+        requires place { at ≤ row_count self.old.rows }
         ensures rows { OnOk result
-            (self.new.rows ≡ put_rows at (cells_of lines.items) self.old.rows) }
+            (self.new.rows ≡ insert_rows at (items_of_each lines.items) self.old.rows) }
         ensures order { self.new.order ≡ self.old.order }
         ensures none { lines.items ≡ [] → IsOk result }
-        ensures too_large { IsErrAnd result (λ refused. refused.fault ≡ TooLarge)
-            ↔ (2 ^ 64 ≤ (rows_of self.old.rows + length lines.items) * cols_of
-            (cells_of lines.items)) }
+        ensures too_large { IsErrAnd result (λ refused. refused.fault ≡ TooLarge) ↔ (2 ^ 64
+            ≤ (row_count self.old.rows + length lines.items) * col_count (items_of_each lines.items)) }
         ensures lines { IfErr result (λ refused. refused.lines.items ≡ lines.items) }
         ensures err { OnErr result (self.new ≡ self.old) }
     {
@@ -243,17 +242,16 @@ impl<T, A: Allocator> Grid<T, A> {
         at: usize,
         lines: Vec<Vec<T, A>, A>,
     ) -> Result<(), LinesRefused<T, A>>
-        requires table { IsTable (cells_of lines.items) }
+        requires table { IsTable (items_of_each lines.items) }
         requires fits { 0 < length lines.items
-            → FitsCol self.old.rows (cols_of (cells_of lines.items)) }
-        requires place { at ≤ cols_of self.old.rows }
+            → FitsCol self.old.rows (col_count (items_of_each lines.items)) }
+        requires place { at ≤ col_count self.old.rows }
         ensures rows { OnOk result
-            (self.new.rows ≡ put_cols at (cells_of lines.items) self.old.rows) }
+            (self.new.rows ≡ insert_cols at (items_of_each lines.items) self.old.rows) }
         ensures order { self.new.order ≡ self.old.order }
         ensures none { lines.items ≡ [] → IsOk result }
-        ensures too_large { IsErrAnd result (λ refused. refused.fault ≡ TooLarge)
-            ↔ (2 ^ 64 ≤ (cols_of self.old.rows + length lines.items) * cols_of
-            (cells_of lines.items)) }
+        ensures too_large { IsErrAnd result (λ refused. refused.fault ≡ TooLarge) ↔ (2 ^ 64
+            ≤ (col_count self.old.rows + length lines.items) * col_count (items_of_each lines.items)) }
         ensures lines { IfErr result (λ refused. refused.lines.items ≡ lines.items) }
         ensures err { OnErr result (self.new ≡ self.old) }
     {

@@ -1,8 +1,8 @@
 //! Padding: rows and columns of defaults at the end or at the beginning, by counted passes.
 ghost use Rattle.std.specs.Prelude.{◌≡◌, ◌↔◌, ◌+◌, ◌*◌, ◌^◌, ◌<◌, ◌≤◌, length, IsTrue, IsErrOf, IsOk, OnOk, OnErr};
-ghost use Rattle.grid_base.specs.Table.{rows_of, cols_of};
-ghost use Rattle.grid_base.specs.Tally.{counted};
-ghost use Rattle.grid.specs.Edit.{PadsRows, PadsCols, added, expanded_rows, expanded_cols, prepended_rows, prepended_cols};
+ghost use Rattle.grid_base.specs.Table.{row_count, col_count};
+ghost use Rattle.grid_base.specs.Tally.{saturating_count};
+ghost use Rattle.grid.specs.Edits.{PadsRows, PadsCols, padding_count, expanded_rows, expanded_cols, prepended_rows, prepended_cols};
 ghost use Rattle.grid.specs.Make.{IsOnlyDefault};
 ghost use Rattle.grid.specs.RowGroups.{RowsOpened};
 ghost use Rattle.grid.specs.Shift.{rows_added_shift, cols_added_shift};
@@ -32,7 +32,7 @@ fn open_rows<T, A: Allocator>(
     ensures opened { RowsOpened order rows cols at count flat.old flat.new }
     ensures symmetry { tally.new.symmetry ≡ tally.old.symmetry }
     ensures shift { tally.new.shift
-        ≡ counted tally.old.shift (rows_added_shift order rows cols at count) }
+        ≡ saturating_count tally.old.shift (rows_added_shift order rows cols at count) }
 {
     match order {
         Order::RowMajor => flat.open(1, rows * cols, at * cols, count * cols, tally),
@@ -53,16 +53,13 @@ impl<T, A: Allocator> Grid<T, A> {
     where
         T: Default,
         A: Clone,
-        ensures padded { OnOk result
-            (PadsRows T.is_default (rows_of self.old.rows)
-            (added count self.old.rows) self.old.rows self.new.rows) }
-        ensures fixed { OnOk result
-            ((d : T) → IsOnlyDefault T.is_default d → self.new.rows
-            ≡ expanded_rows count d self.old.rows) }
-        ensures too_large { IsErrOf result TooLarge
-            ↔ (2 ^ 64 ≤ (rows_of self.old.rows + added count self.old.rows) * cols_of
-            self.old.rows) }
-        ensures none { added count self.old.rows ≡ 0 → IsOk result }
+        ensures padded { OnOk result (PadsRows T.is_default
+            (row_count self.old.rows) (padding_count count self.old.rows) self.old.rows self.new.rows) }
+        ensures fixed { OnOk result ((d : T)
+            → IsOnlyDefault T.is_default d → self.new.rows ≡ expanded_rows count d self.old.rows) }
+        ensures too_large { IsErrOf result TooLarge ↔ (2 ^ 64
+            ≤ (row_count self.old.rows + padding_count count self.old.rows) * col_count self.old.rows) }
+        ensures none { padding_count count self.old.rows ≡ 0 → IsOk result }
         ensures order { self.new.order ≡ self.old.order }
         ensures err { OnErr result (self.new ≡ self.old) }
     {
@@ -83,16 +80,13 @@ impl<T, A: Allocator> Grid<T, A> {
     where
         T: Default,
         A: Clone,
-        ensures padded { OnOk result
-            (PadsCols T.is_default (cols_of self.old.rows)
-            (added count self.old.rows) self.old.rows self.new.rows) }
-        ensures fixed { OnOk result
-            ((d : T) → IsOnlyDefault T.is_default d → self.new.rows
-            ≡ expanded_cols count d self.old.rows) }
-        ensures too_large { IsErrOf result TooLarge
-            ↔ (2 ^ 64 ≤ (cols_of self.old.rows + added count self.old.rows) * rows_of
-            self.old.rows) }
-        ensures none { added count self.old.rows ≡ 0 → IsOk result }
+        ensures padded { OnOk result (PadsCols T.is_default
+            (col_count self.old.rows) (padding_count count self.old.rows) self.old.rows self.new.rows) }
+        ensures fixed { OnOk result ((d : T)
+            → IsOnlyDefault T.is_default d → self.new.rows ≡ expanded_cols count d self.old.rows) }
+        ensures too_large { IsErrOf result TooLarge ↔ (2 ^ 64
+            ≤ (col_count self.old.rows + padding_count count self.old.rows) * row_count self.old.rows) }
+        ensures none { padding_count count self.old.rows ≡ 0 → IsOk result }
         ensures order { self.new.order ≡ self.old.order }
         ensures err { OnErr result (self.new ≡ self.old) }
     {
@@ -112,14 +106,12 @@ impl<T, A: Allocator> Grid<T, A> {
         T: Default,
         A: Clone,
         ensures padded { OnOk result
-            (PadsRows T.is_default 0 (added count self.old.rows) self.old.rows self.new.rows) }
-        ensures fixed { OnOk result
-            ((d : T) → IsOnlyDefault T.is_default d → self.new.rows
-            ≡ prepended_rows count d self.old.rows) }
-        ensures too_large { IsErrOf result TooLarge
-            ↔ (2 ^ 64 ≤ (rows_of self.old.rows + added count self.old.rows) * cols_of
-            self.old.rows) }
-        ensures none { added count self.old.rows ≡ 0 → IsOk result }
+            (PadsRows T.is_default 0 (padding_count count self.old.rows) self.old.rows self.new.rows) }
+        ensures fixed { OnOk result ((d : T)
+            → IsOnlyDefault T.is_default d → self.new.rows ≡ prepended_rows count d self.old.rows) }
+        ensures too_large { IsErrOf result TooLarge ↔ (2 ^ 64
+            ≤ (row_count self.old.rows + padding_count count self.old.rows) * col_count self.old.rows) }
+        ensures none { padding_count count self.old.rows ≡ 0 → IsOk result }
         ensures order { self.new.order ≡ self.old.order }
         ensures err { OnErr result (self.new ≡ self.old) }
     {
@@ -138,14 +130,12 @@ impl<T, A: Allocator> Grid<T, A> {
         T: Default,
         A: Clone,
         ensures padded { OnOk result
-            (PadsCols T.is_default 0 (added count self.old.rows) self.old.rows self.new.rows) }
-        ensures fixed { OnOk result
-            ((d : T) → IsOnlyDefault T.is_default d → self.new.rows
-            ≡ prepended_cols count d self.old.rows) }
-        ensures too_large { IsErrOf result TooLarge
-            ↔ (2 ^ 64 ≤ (cols_of self.old.rows + added count self.old.rows) * rows_of
-            self.old.rows) }
-        ensures none { added count self.old.rows ≡ 0 → IsOk result }
+            (PadsCols T.is_default 0 (padding_count count self.old.rows) self.old.rows self.new.rows) }
+        ensures fixed { OnOk result ((d : T)
+            → IsOnlyDefault T.is_default d → self.new.rows ≡ prepended_cols count d self.old.rows) }
+        ensures too_large { IsErrOf result TooLarge ↔ (2 ^ 64
+            ≤ (col_count self.old.rows + padding_count count self.old.rows) * row_count self.old.rows) }
+        ensures none { padding_count count self.old.rows ≡ 0 → IsOk result }
         ensures order { self.new.order ≡ self.old.order }
         ensures err { OnErr result (self.new ≡ self.old) }
     {
@@ -164,18 +154,15 @@ impl<T, A: Allocator> Grid<T, A> {
     where
         T: Default,
         A: Clone,
-        requires place { at ≤ rows_of self.old.rows }
+        requires place { at ≤ row_count self.old.rows }
         ensures padded { OnOk result
-            (PadsRows T.is_default at (added count self.old.rows) self.old.rows self.new.rows) }
-        ensures too_large { IsErrOf result TooLarge
-            ↔ (2 ^ 64 ≤ (rows_of self.old.rows + added count self.old.rows) * cols_of
-            self.old.rows) }
-        ensures none { added count self.old.rows ≡ 0 → IsOk result }
+            (PadsRows T.is_default at (padding_count count self.old.rows) self.old.rows self.new.rows) }
+        ensures too_large { IsErrOf result TooLarge ↔ (2 ^ 64
+            ≤ (row_count self.old.rows + padding_count count self.old.rows) * col_count self.old.rows) }
+        ensures none { padding_count count self.old.rows ≡ 0 → IsOk result }
         ensures order { self.new.order ≡ self.old.order }
-        ensures shift { OnOk result
-            (tally.new.shift ≡ counted tally.old.shift
-            (rows_added_shift self.old.order (rows_of self.old.rows)
-            (cols_of self.old.rows) at count)) }
+        ensures shift { OnOk result (tally.new.shift ≡ saturating_count tally.old.shift (rows_added_shift
+            self.old.order (row_count self.old.rows) (col_count self.old.rows) at count)) }
         ensures symmetry { tally.new.symmetry ≡ tally.old.symmetry }
         ensures err { OnErr result (self.new ≡ self.old) }
         ensures err_shift { OnErr result (tally.new.shift ≡ tally.old.shift) }
@@ -203,18 +190,15 @@ impl<T, A: Allocator> Grid<T, A> {
     where
         T: Default,
         A: Clone,
-        requires place { at ≤ cols_of self.old.rows }
+        requires place { at ≤ col_count self.old.rows }
         ensures padded { OnOk result
-            (PadsCols T.is_default at (added count self.old.rows) self.old.rows self.new.rows) }
-        ensures too_large { IsErrOf result TooLarge
-            ↔ (2 ^ 64 ≤ (cols_of self.old.rows + added count self.old.rows) * rows_of
-            self.old.rows) }
-        ensures none { added count self.old.rows ≡ 0 → IsOk result }
+            (PadsCols T.is_default at (padding_count count self.old.rows) self.old.rows self.new.rows) }
+        ensures too_large { IsErrOf result TooLarge ↔ (2 ^ 64
+            ≤ (col_count self.old.rows + padding_count count self.old.rows) * row_count self.old.rows) }
+        ensures none { padding_count count self.old.rows ≡ 0 → IsOk result }
         ensures order { self.new.order ≡ self.old.order }
-        ensures shift { OnOk result
-            (tally.new.shift ≡ counted tally.old.shift
-            (cols_added_shift self.old.order (rows_of self.old.rows)
-            (cols_of self.old.rows) at count)) }
+        ensures shift { OnOk result (tally.new.shift ≡ saturating_count tally.old.shift (cols_added_shift
+            self.old.order (row_count self.old.rows) (col_count self.old.rows) at count)) }
         ensures symmetry { tally.new.symmetry ≡ tally.old.symmetry }
         ensures err { OnErr result (self.new ≡ self.old) }
         ensures err_shift { OnErr result (tally.new.shift ≡ tally.old.shift) }

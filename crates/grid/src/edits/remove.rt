@@ -1,9 +1,9 @@
 //! Rows and columns that are popped, removed and deleted, one or several.
 ghost use Rattle.std.specs.Prelude.{[], vec_capacity, ◌≡◌, ◌↔◌, ◌+◌, ◌-◌, ◌*◌, ◌^◌, ◌<◌, ◌≤◌, length, remove, slice_get, IsTrue, Some, OnOk, OnErr, IfOk, MatchOption, if◌then◌else◌};
-ghost use Rattle.grid_base.specs.Table.{rows_of, cols_of, turned};
-ghost use Rattle.grid_base.specs.Tally.{counted};
-ghost use Rattle.grid.specs.Edit.{take_rows, take_cols};
-ghost use Rattle.grid.specs.RowGroups.{RowsTaken, RowBehind, width_left};
+ghost use Rattle.grid_base.specs.Table.{row_count, col_count, transposed};
+ghost use Rattle.grid_base.specs.Tally.{saturating_count};
+ghost use Rattle.grid.specs.Edits.{without_rows, without_cols};
+ghost use Rattle.grid.specs.RowGroups.{RowsTaken, RowMovedToEnd, cols_if_rows};
 ghost use Rattle.grid.specs.Shift.{rows_taken_shift, delete_rows_shift, delete_cols_shift};
 
 use crate::Grid;
@@ -11,8 +11,8 @@ use grid_base::{Flat, Order, Tally};
 use std::alloc::{AllocError, Allocator};
 
 // The number of columns of a grid with `rest` rows: 0 where there is no row.
-fn width_left(rest: usize, cols: usize) -> usize
-    ensures { result ≡ width_left rest cols }
+fn cols_if_rows(rest: usize, cols: usize) -> usize
+    ensures { result ≡ cols_if_rows rest cols }
 {
     if rest == 0 { 0 } else { cols }
 }
@@ -28,7 +28,7 @@ fn unweave_row<T, A: Allocator>(
     requires cells { length flat.old ≡ (rest + 1) * cols }
     requires fits { (rest + 1) * cols < 2 ^ 64 }
     requires place { at ≤ rest }
-    ensures { RowBehind order cols at rest flat.old flat.new }
+    ensures { RowMovedToEnd order cols at rest flat.old flat.new }
 {
     match order {
         Order::RowMajor => flat.unweave(1, rest * cols, at * cols, cols),
@@ -54,7 +54,7 @@ fn close_rows<T: Drop, A: Allocator>(
     ensures taken { RowsTaken order cols at count rest flat.old flat.new }
     ensures symmetry { tally.new.symmetry ≡ tally.old.symmetry }
     ensures shift { tally.new.shift
-        ≡ counted tally.old.shift (rows_taken_shift order (rest + count) cols at count) }
+        ≡ saturating_count tally.old.shift (rows_taken_shift order (rest + count) cols at count) }
 {
     match order {
         Order::RowMajor => flat.close_up(1, rest * cols, at * cols, count * cols, tally),
@@ -74,13 +74,12 @@ impl<T, A: Allocator> Grid<T, A> {
     where
         A: Clone,
         ensures rows { OnOk result
-            (self.new.rows ≡ remove self.old.rows (rows_of self.old.rows - 1)) }
-        ensures line { IfOk result
-            (λ taken. MatchOption taken (self.old.rows ≡ [])
-            (λ line. slice_get self.old.rows (rows_of self.old.rows - 1) ≡ Some line.items)) }
+            (self.new.rows ≡ remove self.old.rows (row_count self.old.rows - 1)) }
+        ensures line { IfOk result (λ taken. MatchOption taken (self.old.rows ≡ [])
+            (λ line. slice_get self.old.rows (row_count self.old.rows - 1) ≡ Some line.items)) }
         ensures order { self.new.order ≡ self.old.order }
         ensures err { OnErr result (self.new ≡ self.old) }
-        ensures err_found { OnErr result (0 < rows_of self.old.rows) }
+        ensures err_found { OnErr result (0 < row_count self.old.rows) }
     {
         match self.rows() {
             0 => Ok(None),
@@ -99,14 +98,12 @@ impl<T, A: Allocator> Grid<T, A> {
     where
         A: Clone,
         ensures rows { OnOk result
-            (self.new.rows ≡ take_cols (cols_of self.old.rows - 1) 1 self.old.rows) }
-        ensures line { IfOk result
-            (λ taken. MatchOption taken (self.old.rows ≡ [])
-            (λ line. slice_get (turned self.old.rows) (cols_of self.old.rows - 1)
-            ≡ Some line.items)) }
+            (self.new.rows ≡ without_cols (col_count self.old.rows - 1) 1 self.old.rows) }
+        ensures line { IfOk result (λ taken. MatchOption taken (self.old.rows ≡ []) (λ line.
+            slice_get (transposed self.old.rows) (col_count self.old.rows - 1) ≡ Some line.items)) }
         ensures order { self.new.order ≡ self.old.order }
         ensures err { OnErr result (self.new ≡ self.old) }
-        ensures err_found { OnErr result (0 < cols_of self.old.rows) }
+        ensures err_found { OnErr result (0 < col_count self.old.rows) }
     {
         match self.cols() {
             0 => Ok(None),
@@ -125,12 +122,11 @@ impl<T, A: Allocator> Grid<T, A> {
     where
         A: Clone,
         ensures rows { OnOk result (self.new.rows ≡ remove self.old.rows at) }
-        ensures line { IfOk result
-            (λ taken. MatchOption taken (rows_of self.old.rows ≤ at)
-            (λ line. slice_get self.old.rows at ≡ Some line.items)) }
+        ensures line { IfOk result (λ taken. MatchOption taken
+            (row_count self.old.rows ≤ at) (λ line. slice_get self.old.rows at ≡ Some line.items)) }
         ensures order { self.new.order ≡ self.old.order }
         ensures err { OnErr result (self.new ≡ self.old) }
-        ensures err_found { OnErr result (at < rows_of self.old.rows) }
+        ensures err_found { OnErr result (at < row_count self.old.rows) }
     {
         if at >= self.rows() {
             return Ok(None);
@@ -154,13 +150,12 @@ impl<T, A: Allocator> Grid<T, A> {
     pub fn remove_col(&mut self, at: usize) -> Result<Option<Vec<T, A>>, AllocError>
     where
         A: Clone,
-        ensures rows { OnOk result (self.new.rows ≡ take_cols at 1 self.old.rows) }
-        ensures line { IfOk result
-            (λ taken. MatchOption taken (cols_of self.old.rows ≤ at)
-            (λ line. slice_get (turned self.old.rows) at ≡ Some line.items)) }
+        ensures rows { OnOk result (self.new.rows ≡ without_cols at 1 self.old.rows) }
+        ensures line { IfOk result (λ taken. MatchOption taken (col_count self.old.rows ≤ at)
+            (λ line. slice_get (transposed self.old.rows) at ≡ Some line.items)) }
         ensures order { self.new.order ≡ self.old.order }
         ensures err { OnErr result (self.new ≡ self.old) }
-        ensures err_found { OnErr result (at < cols_of self.old.rows) }
+        ensures err_found { OnErr result (at < col_count self.old.rows) }
     {
         let _ = &self.flat;
         self.transpose();
@@ -174,26 +169,26 @@ impl<T, A: Allocator> Grid<T, A> {
     where
         A: Clone,
         requires order { self.old.order ≡ Order.RowMajor }
-        requires some { 0 < rows_of self.old.rows }
+        requires some { 0 < row_count self.old.rows }
         ensures rows { OnOk result
-            (self.new.rows ≡ remove self.old.rows (rows_of self.old.rows - 1)) }
+            (self.new.rows ≡ remove self.old.rows (row_count self.old.rows - 1)) }
         ensures line { IfOk result
-            (λ line. slice_get self.old.rows (rows_of self.old.rows - 1) ≡ Some line.items) }
+            (λ line. slice_get self.old.rows (row_count self.old.rows - 1) ≡ Some line.items) }
         ensures order { self.new.order ≡ self.old.order }
         ensures err { OnErr result (self.new ≡ self.old) }
     {
         let rest = self.row_count - 1;
         let line = self.flat.split_off(rest * self.col_count)?;
         self.row_count = rest;
-        self.col_count = width_left(rest, self.col_count);
+        self.col_count = cols_if_rows(rest, self.col_count);
         Ok(line)
     }
 
     // Takes a row that is there into a vector that has room for it.
     fn take_row_out(&mut self, at: usize, line: &mut Vec<T, A>)
-        requires within { at < rows_of self.old.rows }
+        requires within { at < row_count self.old.rows }
         requires none { line.old.items ≡ [] }
-        requires room { cols_of self.old.rows ≤ vec_capacity line.old }
+        requires room { col_count self.old.rows ≤ vec_capacity line.old }
         ensures rows { self.new.rows ≡ remove self.old.rows at }
         ensures line { slice_get self.old.rows at ≡ Some line.new.items }
         ensures order { self.new.order ≡ self.old.order }
@@ -202,7 +197,7 @@ impl<T, A: Allocator> Grid<T, A> {
         unweave_row(&mut self.flat, self.order, rest, self.col_count, at);
         self.flat.move_tail(rest * self.col_count, line);
         self.row_count = rest;
-        self.col_count = width_left(rest, self.col_count);
+        self.col_count = cols_if_rows(rest, self.col_count);
     }
 
     /// Drops row `at`, and returns whether there was one; if not, nothing changes. The order stays. Deleting the only
@@ -214,7 +209,7 @@ impl<T, A: Allocator> Grid<T, A> {
     pub fn delete_row(&mut self, at: usize) -> bool
     where
         T: Drop,
-        ensures found { IsTrue result ↔ (at < rows_of self.old.rows) }
+        ensures found { IsTrue result ↔ (at < row_count self.old.rows) }
         ensures rows { self.new.rows ≡ (if result then remove self.old.rows at else self.old.rows) }
         ensures order { self.new.order ≡ self.old.order }
     {
@@ -230,9 +225,9 @@ impl<T, A: Allocator> Grid<T, A> {
     pub fn delete_col(&mut self, at: usize) -> bool
     where
         T: Drop,
-        ensures found { IsTrue result ↔ (at < cols_of self.old.rows) }
+        ensures found { IsTrue result ↔ (at < col_count self.old.rows) }
         ensures rows { self.new.rows
-            ≡ (if result then take_cols at 1 self.old.rows else self.old.rows) }
+            ≡ (if result then without_cols at 1 self.old.rows else self.old.rows) }
         ensures order { self.new.order ≡ self.old.order }
     {
         self.delete_cols(at, 1)
@@ -247,9 +242,9 @@ impl<T, A: Allocator> Grid<T, A> {
     pub fn delete_rows(&mut self, start: usize, count: usize) -> bool
     where
         T: Drop,
-        ensures found { IsTrue result ↔ (start + count ≤ rows_of self.old.rows) }
+        ensures found { IsTrue result ↔ (start + count ≤ row_count self.old.rows) }
         ensures rows { self.new.rows
-            ≡ (if result then take_rows start count self.old.rows else self.old.rows) }
+            ≡ (if result then without_rows start count self.old.rows else self.old.rows) }
         ensures order { self.new.order ≡ self.old.order }
     {
         let mut tally = Tally::new();
@@ -265,9 +260,9 @@ impl<T, A: Allocator> Grid<T, A> {
     pub fn delete_cols(&mut self, start: usize, count: usize) -> bool
     where
         T: Drop,
-        ensures found { IsTrue result ↔ (start + count ≤ cols_of self.old.rows) }
+        ensures found { IsTrue result ↔ (start + count ≤ col_count self.old.rows) }
         ensures rows { self.new.rows
-            ≡ (if result then take_cols start count self.old.rows else self.old.rows) }
+            ≡ (if result then without_cols start count self.old.rows else self.old.rows) }
         ensures order { self.new.order ≡ self.old.order }
     {
         let mut tally = Tally::new();
@@ -282,13 +277,12 @@ impl<T, A: Allocator> Grid<T, A> {
     ) -> bool
     where
         T: Drop,
-        ensures found { IsTrue result ↔ (start + count ≤ rows_of self.old.rows) }
+        ensures found { IsTrue result ↔ (start + count ≤ row_count self.old.rows) }
         ensures rows { self.new.rows
-            ≡ (if result then take_rows start count self.old.rows else self.old.rows) }
+            ≡ (if result then without_rows start count self.old.rows else self.old.rows) }
         ensures order { self.new.order ≡ self.old.order }
-        ensures shift { tally.new.shift
-            ≡ counted tally.old.shift (delete_rows_shift self.old.order (rows_of self.old.rows)
-            (cols_of self.old.rows) start count) }
+        ensures shift { tally.new.shift ≡ saturating_count tally.old.shift (delete_rows_shift self.old.order
+            (row_count self.old.rows) (col_count self.old.rows) start count) }
         ensures symmetry { tally.new.symmetry ≡ tally.old.symmetry }
     {
         let rows = self.rows();
@@ -307,13 +301,12 @@ impl<T, A: Allocator> Grid<T, A> {
     ) -> bool
     where
         T: Drop,
-        ensures found { IsTrue result ↔ (start + count ≤ cols_of self.old.rows) }
+        ensures found { IsTrue result ↔ (start + count ≤ col_count self.old.rows) }
         ensures rows { self.new.rows
-            ≡ (if result then take_cols start count self.old.rows else self.old.rows) }
+            ≡ (if result then without_cols start count self.old.rows else self.old.rows) }
         ensures order { self.new.order ≡ self.old.order }
-        ensures shift { tally.new.shift
-            ≡ counted tally.old.shift (delete_cols_shift self.old.order (rows_of self.old.rows)
-            (cols_of self.old.rows) start count) }
+        ensures shift { tally.new.shift ≡ saturating_count tally.old.shift (delete_cols_shift self.old.order
+            (row_count self.old.rows) (col_count self.old.rows) start count) }
         ensures symmetry { tally.new.symmetry ≡ tally.old.symmetry }
     {
         let _ = &self.flat;
@@ -327,13 +320,12 @@ impl<T, A: Allocator> Grid<T, A> {
     fn take_rows_out(&mut self, start: usize, count: usize, tally: &mut Tally)
     where
         T: Drop,
-        requires within { start + count ≤ rows_of self.old.rows }
+        requires within { start + count ≤ row_count self.old.rows }
         requires some { 0 < count }
-        ensures rows { self.new.rows ≡ take_rows start count self.old.rows }
+        ensures rows { self.new.rows ≡ without_rows start count self.old.rows }
         ensures order { self.new.order ≡ self.old.order }
-        ensures shift { tally.new.shift
-            ≡ counted tally.old.shift (rows_taken_shift self.old.order (rows_of self.old.rows)
-            (cols_of self.old.rows) start count) }
+        ensures shift { tally.new.shift ≡ saturating_count tally.old.shift (rows_taken_shift self.old.order
+            (row_count self.old.rows) (col_count self.old.rows) start count) }
         ensures symmetry { tally.new.symmetry ≡ tally.old.symmetry }
     {
         let rest = self.row_count - count;
@@ -347,6 +339,6 @@ impl<T, A: Allocator> Grid<T, A> {
             tally,
         );
         self.row_count = rest;
-        self.col_count = width_left(rest, self.col_count);
+        self.col_count = cols_if_rows(rest, self.col_count);
     }
 }

@@ -2,15 +2,15 @@
 ghost use Rattle.std.specs.Prelude.{◌≡◌, ◌≢◌, ◌*◌, ◌^◌, ◌<◌, ◌≤◌, ◌↔◌, Some, None, IsTrue, IsOk, IfOk, OnOk, OnErr, IsErrOf, slice_get, slice_set};
 ghost use Rattle.grid_base.specs.Table.{cell, with_cell, IsTable};
 ghost use Rattle.grid.specs.Make.{HasSize};
-ghost use Rattle.grid.specs.Slots.{in_line, are_full, AreEmpty, HoldCells};
+ghost use Rattle.grid.specs.Slots.{by_order, are_full, AreEmpty, HoldCells};
 
 use crate::{Grid, GridError};
 use grid_base::Order;
 use std::alloc::Allocator;
 
 // What an order takes first and second: row and column, or column and row.
-fn in_line(order: Order, i: usize, j: usize) -> (usize, usize)
-    ensures { result ≡ in_line order i j }
+fn by_order(order: Order, i: usize, j: usize) -> (usize, usize)
+    ensures { result ≡ by_order order i j }
 {
     match order {
         Order::RowMajor => (i, j),
@@ -75,12 +75,12 @@ impl<T, A: Allocator> Grid<T, A> {
             return Ok(Grid::empty_with_order(alloc, order));
         }
         let mut taken = Vec::with_capacity(alloc, count)?;
-        let (lines, len) = in_line(order, R, C);
+        let (lines, len) = by_order(order, R, C);
         for i in 0..lines {
             for j in 0..len {
-                let (row, col) = in_line(order, i, j);
+                let (row, col) = by_order(order, i, j);
                 let cell = take_cell(cells, row, col);
-                taken.push(cell).unwrap();
+                taken.push_reserved(cell);
             }
         }
         Ok(Grid::from_vec_with_order(taken, C, order))

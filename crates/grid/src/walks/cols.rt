@@ -3,7 +3,7 @@ ghost use Rattle.std.specs.Prelude.{◌≡◌, ◌^◌, ◌<◌, ⊤, length, If
 ghost use Rattle.std.specs.Borrow.{sem};
 ghost use Rattle.std.specs.Iterator.{YieldsFirst, YieldsLast, item_count, UpTo, at_most};
 ghost use Rattle.std.specs.Iterator.SizeHint.{IsWithinCount};
-ghost use Rattle.grid_base.specs.Table.{row, cols_of, turned};
+ghost use Rattle.grid_base.specs.Table.{row, col_count, transposed};
 ghost use Rattle.grid_base.specs.Strides.{LinesInOrder, LinesInReverse, EachLineInOrder, EachLineInReverse};
 ghost use Rattle.grid_base.specs.GridLineIterMut.{line_mut_rest};
 
@@ -20,8 +20,8 @@ impl<T, A: Allocator> Grid<T, A> {
 
     /// The cells of column c, which is in range, from both ends. Each step takes the same time.
     pub fn iter_col(&self, c: usize) -> GridLineIter<'_, T>
-        requires { c < cols_of self.now.rows }
-        ensures rest { result ≡ row (turned self.now.rows) c }
+        requires { c < col_count self.now.rows }
+        ensures rest { result ≡ row (transposed self.now.rows) c }
         ensures runs { LinesInOrder T }
         ensures runs_back { LinesInReverse T }
     {
@@ -32,10 +32,10 @@ impl<T, A: Allocator> Grid<T, A> {
     /// The cells of column c, which is in range, for writing. The size and the order stay. Each step takes the same
     /// time.
     pub fn iter_col_mut(&mut self, c: usize) -> GridLineIterMut<'_, T>
-        requires { c < cols_of self.old.rows }
+        requires { c < col_count self.old.rows }
         ensures* writes_back { sem 𝓛 (lends_col T.row A.row A.Allocator self.entry c result) }
         ensures keeps { KeepsSizeFrom self.old 0 c }
-        ensures rest { line_mut_rest result ≡ row (turned self.old.rows) c }
+        ensures rest { line_mut_rest result ≡ row (transposed self.old.rows) c }
     {
         let Span { start, end, stride } = col_span(self.order, self.row_count, self.col_count, c);
         self.flat.line_mut(start, end, stride)
@@ -43,7 +43,7 @@ impl<T, A: Allocator> Grid<T, A> {
 
     /// The columns, each as [`iter_col`](Grid::iter_col) gives it, from both ends.
     pub fn iter_cols(&self) -> GridColIter<'_, T, A>
-        ensures rest { result ≡ turned self.now.rows }
+        ensures rest { result ≡ transposed self.now.rows }
         ensures runs { EachLineInOrder T }
         ensures runs_back { EachLineInReverse T }
         ensures along { LinesInOrder T }
@@ -66,14 +66,14 @@ pub struct GridColIter<'a, T, A: Allocator = Global> {
 
 impl<'a, T, A: Allocator> Model for GridColIter<'a, T, A> {
     ghost use Rattle.std.specs.Prelude.{◌-◌, List};
-    ghost use Rattle.grid_base.specs.Table.{cols_of, turned};
-    ghost use Rattle.grid_base.specs.Left.{IsLeft, left};
+    ghost use Rattle.grid_base.specs.Table.{col_count, transposed};
+    ghost use Rattle.grid_base.specs.Remaining.{IsRemaining, remaining};
 
     ghost Value = { List (List T) };
 
-    ghost view = { λ a. left a.cols.start a.cols.end (turned a.grid.now.rows) };
+    ghost view = { λ a. remaining a.cols.start a.cols.end (transposed a.grid.now.rows) };
 
-    ghost invariant = { λ a. IsLeft a.cols.start a.cols.end (cols_of a.grid.now.rows) };
+    ghost invariant = { λ a. IsRemaining a.cols.start a.cols.end (col_count a.grid.now.rows) };
 }
 
 impl<'a, T, A: Allocator> Iterator for GridColIter<'a, T, A> {

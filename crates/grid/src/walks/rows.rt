@@ -3,7 +3,7 @@ ghost use Rattle.std.specs.Prelude.{◌≡◌, ◌^◌, ◌<◌, ⊤, length, If
 ghost use Rattle.std.specs.Borrow.{sem};
 ghost use Rattle.std.specs.Iterator.{YieldsFirst, YieldsLast, item_count, UpTo, at_most};
 ghost use Rattle.std.specs.Iterator.SizeHint.{IsWithinCount};
-ghost use Rattle.grid_base.specs.Table.{row, rows_of};
+ghost use Rattle.grid_base.specs.Table.{row, row_count};
 ghost use Rattle.grid_base.specs.Strides.{LinesInOrder, LinesInReverse, EachLineInOrder, EachLineInReverse};
 ghost use Rattle.grid_base.specs.GridLineIterMut.{line_mut_rest};
 
@@ -20,7 +20,7 @@ impl<T, A: Allocator> Grid<T, A> {
 
     /// The cells of row r, which is in range, from both ends. Each step takes the same time.
     pub fn iter_row(&self, r: usize) -> GridLineIter<'_, T>
-        requires { r < rows_of self.now.rows }
+        requires { r < row_count self.now.rows }
         ensures rest { result ≡ row self.now.rows r }
         ensures runs { LinesInOrder T }
         ensures runs_back { LinesInReverse T }
@@ -31,7 +31,7 @@ impl<T, A: Allocator> Grid<T, A> {
 
     /// The cells of row r, which is in range, for writing. The size and the order stay. Each step takes the same time.
     pub fn iter_row_mut(&mut self, r: usize) -> GridLineIterMut<'_, T>
-        requires { r < rows_of self.old.rows }
+        requires { r < row_count self.old.rows }
         ensures* writes_back { sem 𝓛 (lends_row T.row A.row A.Allocator self.entry r result) }
         ensures keeps { KeepsSizeFrom self.old r 0 }
         ensures rest { line_mut_rest result ≡ row self.old.rows r }
@@ -65,14 +65,14 @@ pub struct GridRowIter<'a, T, A: Allocator = Global> {
 
 impl<'a, T, A: Allocator> Model for GridRowIter<'a, T, A> {
     ghost use Rattle.std.specs.Prelude.{◌-◌, List};
-    ghost use Rattle.grid_base.specs.Table.{rows_of};
-    ghost use Rattle.grid_base.specs.Left.{IsLeft, left};
+    ghost use Rattle.grid_base.specs.Table.{row_count};
+    ghost use Rattle.grid_base.specs.Remaining.{IsRemaining, remaining};
 
     ghost Value = { List (List T) };
 
-    ghost view = { λ a. left a.rows.start a.rows.end a.grid.now.rows };
+    ghost view = { λ a. remaining a.rows.start a.rows.end a.grid.now.rows };
 
-    ghost invariant = { λ a. IsLeft a.rows.start a.rows.end (rows_of a.grid.now.rows) };
+    ghost invariant = { λ a. IsRemaining a.rows.start a.rows.end (row_count a.grid.now.rows) };
 }
 
 impl<'a, T, A: Allocator> Iterator for GridRowIter<'a, T, A> {

@@ -35,8 +35,8 @@ fn reverse_in_turn<T>(cells: &mut [T], start: usize, n: usize)
 fn reverse_at_once<T>(cells: &mut [T], start: usize, n: usize)
     requires within { start + n ≤ length cells.old }
     requires fits { start + n < 2 ^ 64 }
-    ensures { cells.new ≡ take start cells.old ++ reverse (take n (drop start cells.old))
-        ++ drop (start + n) cells.old }
+    ensures { cells.new ≡ take start cells.old
+        ++ reverse (take n (drop start cells.old)) ++ drop (start + n) cells.old }
 {
     cells[start..start + n].reverse();
 }

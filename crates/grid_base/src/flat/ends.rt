@@ -1,6 +1,6 @@
 //! Cells that come to the end of a vector, or leave it there.
 ghost use Rattle.std.specs.Prelude.{◌≡◌, ◌+◌, ◌-◌, ◌≤◌, [], ◌++◌, length, take, drop, reverse, IfOk, OnOk, OnErr, vec_len, vec_capacity};
-ghost use Rattle.grid_base.specs.Fresh.{EndsFresh};
+ghost use Rattle.grid_base.specs.Append.{AppendsEach};
 
 use super::Flat;
 use std::alloc::{AllocError, Allocator};
@@ -27,7 +27,7 @@ impl<T, A: Allocator> Flat<T, A> {
     where
         T: Default,
         A: Clone,
-        ensures ok { OnOk result (EndsFresh T.is_default count self.old self.new) }
+        ensures ok { OnOk result (AppendsEach T.is_default count self.old self.new) }
         ensures err { OnErr result (self.new ≡ self.old) }
     {
         self.cells.reserve(count)?;
@@ -64,15 +64,6 @@ impl<T, A: Allocator> Flat<T, A> {
     {
         self.cells.split_off(at)
     }
-
-    /// Drops the cells from `at` on.
-    pub fn truncate(&mut self, at: usize)
-    where
-        T: Drop,
-        ensures { self.new ≡ take at self.old }
-    {
-        self.cells.truncate(at);
-    }
 }
 
 // Reverses the cells from `start` on.
@@ -87,7 +78,7 @@ fn reverse_from<T>(cells: &mut [T], start: usize)
 // register, and the loop becomes vector code.
 fn with_defaults<T: Default, A: Allocator>(mut cells: Vec<T, A>, count: usize) -> Vec<T, A>
     requires room { vec_len cells + count ≤ vec_capacity cells }
-    ensures { EndsFresh T.is_default count cells.items result.items }
+    ensures { AppendsEach T.is_default count cells.items result.items }
 {
     for _ in 0..count {
         cells.push_reserved(T::default());

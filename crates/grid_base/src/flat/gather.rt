@@ -1,8 +1,8 @@
 //! Lines of cells that are moved to the end of a vector, in either order.
 ghost use Rattle.std.specs.Prelude.{◌≡◌, ◌+◌, ◌*◌, ◌^◌, ◌<◌, ◌≤◌, [], ◌++◌, length, map, flat_map, reverse, All, OnOk, OnErr, vec_len, vec_capacity};
-ghost use Rattle.grid_base.specs.Table.{rows_of, cols_of, joined, IsTable};
+ghost use Rattle.grid_base.specs.Table.{row_count, col_count, concat_rows, IsTable};
 ghost use Rattle.grid_base.specs.Order.{storage};
-ghost use Rattle.grid_base.specs.Gather.{cells_of, last_of, before_last};
+ghost use Rattle.grid_base.specs.Gather.{items_of_each, last_of, before_last};
 
 use super::{Flat, Order};
 use std::alloc::{AllocError, Allocator};
@@ -17,10 +17,10 @@ impl<T, A: Allocator> Flat<T, A> {
         width: usize,
         rows: &mut [Vec<T, A>],
     ) -> Result<(), AllocError>
-        requires table { IsTable (cells_of rows.old) }
-        requires width { width ≡ cols_of (cells_of rows.old) }
-        requires fits { rows_of (cells_of rows.old) * cols_of (cells_of rows.old) < 2 ^ 64 }
-        ensures ok { OnOk result (self.new ≡ self.old ++ storage order (cells_of rows.old)) }
+        requires table { IsTable (items_of_each rows.old) }
+        requires width { width ≡ col_count (items_of_each rows.old) }
+        requires fits { row_count (items_of_each rows.old) * col_count (items_of_each rows.old) < 2 ^ 64 }
+        ensures ok { OnOk result (self.new ≡ self.old ++ storage order (items_of_each rows.old)) }
         ensures moved { OnOk result (All (λ row. row.items ≡ []) rows.new) }
         ensures err { OnErr result (self.new ≡ self.old) }
         ensures stays { OnErr result (rows.new ≡ rows.old) }
@@ -36,9 +36,9 @@ impl<T, A: Allocator> Flat<T, A> {
 
 // Moves the cells of each line to the end.
 fn append_each<T, A: Allocator>(cells: &mut Vec<T, A>, lines: &mut [Vec<T, A>])
-    requires room { vec_len cells.old + length (joined (cells_of lines.old))
+    requires room { vec_len cells.old + length (concat_rows (items_of_each lines.old))
         ≤ vec_capacity cells.old }
-    ensures cells { cells.new.items ≡ cells.old.items ++ joined (cells_of lines.old) }
+    ensures cells { cells.new.items ≡ cells.old.items ++ concat_rows (items_of_each lines.old) }
     ensures moved { All (λ line. line.items ≡ []) lines.new }
 {
     for line in lines.iter_mut() {
@@ -48,11 +48,11 @@ fn append_each<T, A: Allocator>(cells: &mut Vec<T, A>, lines: &mut [Vec<T, A>])
 
 // Moves the first cell of each line of a table to the end, then the second, and so on.
 fn append_across<T, A: Allocator>(cells: &mut Vec<T, A>, lines: &mut [Vec<T, A>], width: usize)
-    requires table { IsTable (cells_of lines.old) }
-    requires width { width ≡ cols_of (cells_of lines.old) }
+    requires table { IsTable (items_of_each lines.old) }
+    requires width { width ≡ col_count (items_of_each lines.old) }
     requires room { vec_len cells.old + length lines.old * width ≤ vec_capacity cells.old }
-    ensures cells { cells.new.items ≡ cells.old.items
-        ++ storage Order.ColumnMajor (cells_of lines.old) }
+    ensures cells { cells.new.items
+        ≡ cells.old.items ++ storage Order.ColumnMajor (items_of_each lines.old) }
     ensures moved { All (λ line. line.items ≡ []) lines.new }
 {
     reverse_each(lines);
@@ -62,7 +62,7 @@ fn append_across<T, A: Allocator>(cells: &mut Vec<T, A>, lines: &mut [Vec<T, A>]
 }
 
 fn reverse_each<T, A: Allocator>(lines: &mut [Vec<T, A>])
-    ensures { cells_of lines.new ≡ map reverse (cells_of lines.old) }
+    ensures { items_of_each lines.new ≡ map reverse (items_of_each lines.old) }
 {
     for line in lines.iter_mut() {
         line.reverse();
@@ -72,8 +72,8 @@ fn reverse_each<T, A: Allocator>(lines: &mut [Vec<T, A>])
 // Moves the last cell of each line to the end.
 fn append_lasts<T, A: Allocator>(cells: &mut Vec<T, A>, lines: &mut [Vec<T, A>])
     requires room { vec_len cells.old + length lines.old ≤ vec_capacity cells.old }
-    ensures cells { cells.new.items ≡ cells.old.items ++ flat_map last_of (cells_of lines.old) }
-    ensures lines { cells_of lines.new ≡ map before_last (cells_of lines.old) }
+    ensures cells { cells.new.items ≡ cells.old.items ++ flat_map last_of (items_of_each lines.old) }
+    ensures lines { items_of_each lines.new ≡ map before_last (items_of_each lines.old) }
     ensures room { vec_capacity cells.new ≡ vec_capacity cells.old }
 {
     for line in lines.iter_mut() {

@@ -2,7 +2,7 @@
 ghost use Rattle.std.specs.Prelude.{◌≡◌, length, zip, IfSome, Some};
 ghost use Rattle.std.specs.Iterator.{YieldsFirstBy, item_count, UpTo, at_most};
 ghost use Rattle.std.specs.Iterator.SizeHint.{IsWithinCount};
-ghost use Rattle.grid_base.specs.Sheet.{Fits};
+ghost use Rattle.grid_base.specs.GridValue.{HoldsSize};
 ghost use Rattle.grid_base.specs.Places.{places};
 
 use super::places::Places;
@@ -14,7 +14,7 @@ use std::slice;
 impl<T, A: Allocator> Flat<T, A> {
     /// The cells of so many rows and columns, each with its row and its column.
     pub fn indexed_iter(&self, order: Order, rows: usize, cols: usize) -> IndexedIter<'_, T>
-        requires { Fits rows cols (length self.now) }
+        requires { HoldsSize rows cols (length self.now) }
         ensures { result ≡ zip (places order rows cols) self.now }
     {
         IndexedIter {
@@ -40,7 +40,7 @@ impl<'a, T> Model for IndexedIter<'a, T> {
     ghost view = { λ a. zip a.places (iter_rest a.cells) };
 }
 
-#[tactic(auto, using(crate::proofs::Walks::walks))]
+#[tactic(auto, using(crate::proofs::WalkLemmas::walks))]
 impl<'a, T> Iterator for IndexedIter<'a, T> {
     type Item = ((usize, usize), &'a T);
 

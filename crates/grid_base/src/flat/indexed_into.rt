@@ -2,7 +2,7 @@
 ghost use Rattle.std.specs.Prelude.{◌≡◌, length, zip, IfSome, Some};
 ghost use Rattle.std.specs.Iterator.{YieldsFirst, item_count, UpTo, at_most};
 ghost use Rattle.std.specs.Iterator.SizeHint.{IsWithinCount};
-ghost use Rattle.grid_base.specs.Sheet.{Fits};
+ghost use Rattle.grid_base.specs.GridValue.{HoldsSize};
 ghost use Rattle.grid_base.specs.Places.{places};
 
 use super::places::Places;
@@ -14,7 +14,7 @@ use std::vec;
 impl<T, A: Allocator> Flat<T, A> {
     /// The cells of so many rows and columns by value, each with its row and its column.
     pub fn indexed_into_iter(self, order: Order, rows: usize, cols: usize) -> IndexedIntoIter<T, A>
-        requires { Fits rows cols (length self) }
+        requires { HoldsSize rows cols (length self) }
         ensures { result ≡ zip (places order rows cols) self }
     {
         let Flat { cells } = self;
@@ -41,7 +41,7 @@ impl<T, A: Allocator> Model for IndexedIntoIter<T, A> {
     ghost view = { λ a. zip a.places (into_iter_items a.cells) };
 }
 
-#[tactic(auto, using(crate::proofs::Walks::walks))]
+#[tactic(auto, using(crate::proofs::WalkLemmas::walks))]
 impl<T: Drop, A: Allocator> Iterator for IndexedIntoIter<T, A> {
     type Item = ((usize, usize), T);
 

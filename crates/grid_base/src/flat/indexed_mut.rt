@@ -3,7 +3,7 @@ ghost use Rattle.std.specs.Prelude.{◌≡◌, length, zip, IfSome, Some};
 ghost use Rattle.std.specs.Borrow.{sem};
 ghost use Rattle.std.specs.Iterator.{YieldsFirstBy, item_count, UpTo, at_most};
 ghost use Rattle.std.specs.Iterator.SizeHint.{IsWithinCount};
-ghost use Rattle.grid_base.specs.Sheet.{Fits};
+ghost use Rattle.grid_base.specs.GridValue.{HoldsSize};
 ghost use Rattle.grid_base.specs.Places.{places};
 ghost use Rattle.grid_base.specs.IndexedIterMut.{indexed_mut_rest};
 
@@ -22,7 +22,7 @@ impl<T, A: Allocator> Flat<T, A> {
         rows: usize,
         cols: usize,
     ) -> IndexedIterMut<'_, T>
-        requires { Fits rows cols (length self.old) }
+        requires { HoldsSize rows cols (length self.old) }
         ensures* writes_back { sem 𝓛 (lends_indexed T.row A.row A.Allocator self.entry result) }
         ensures rest { indexed_mut_rest result ≡ zip (places order rows cols) self.old }
     {
@@ -41,7 +41,7 @@ pub struct IndexedIterMut<'a, T> {
     cells: slice::IterMut<'a, T>,
 }
 
-#[tactic(auto, using(crate::proofs::Walks::walks))]
+#[tactic(auto, using(crate::proofs::WalkLemmas::walks))]
 impl<'a, T> Iterator for IndexedIterMut<'a, T> {
     type Item = ((usize, usize), &'a mut T);
 

@@ -42,11 +42,11 @@ pub struct GridLineIter<'a, T> {
 
 impl<'a, T> Model for GridLineIter<'a, T> {
     ghost use Rattle.std.specs.Prelude.{List};
-    ghost use Rattle.grid_base.specs.Strides.{IsLine, strided_left};
+    ghost use Rattle.grid_base.specs.Strides.{IsLine, strided_remaining};
 
     ghost Value = { List T };
 
-    ghost view = { λ a. strided_left a.stride a.ahead.start a.ahead.end a.cells.now };
+    ghost view = { λ a. strided_remaining a.stride a.ahead.start a.ahead.end a.cells.now };
 
     ghost invariant = { λ a. IsLine a.stride a.ahead.start a.ahead.end a.cells.now };
 }

@@ -1,8 +1,8 @@
 //! Groups of cells that are put into the lines of a vector, or taken out of them.
 ghost use Rattle.std.specs.Prelude.{◌≡◌, ◌+◌, ◌-◌, ◌*◌, ◌^◌, ◌<◌, ◌≤◌, length};
 ghost use Rattle.grid_base.specs.Blocks.{MovedForward, MovedBack};
-ghost use Rattle.grid_base.specs.Lines.{Widened, Woven, Opened, Closed};
-ghost use Rattle.grid_base.specs.Tally.{counted};
+ghost use Rattle.grid_base.specs.Groups.{Widened, Woven, Opened, Closed};
+ghost use Rattle.grid_base.specs.Tally.{saturating_count};
 
 use super::blocks::exchange_blocks;
 use super::{Flat, Tally};
@@ -45,7 +45,7 @@ impl<T, A: Allocator> Flat<T, A> {
         requires has_count { 0 < count }
         ensures opened { Opened lines width at count self.old self.new }
         ensures symmetry { tally.new.symmetry ≡ tally.old.symmetry }
-        ensures shift { tally.new.shift ≡ counted tally.old.shift (lines * width - at) }
+        ensures shift { tally.new.shift ≡ saturating_count tally.old.shift (lines * width - at) }
     {
         // The run of cells behind each group, the last run first. The cells behind so many groups move on by those.
         let mut end = lines * width;
@@ -77,7 +77,7 @@ impl<T, A: Allocator> Flat<T, A> {
         requires has_count { 0 < count }
         ensures closed { Closed lines width at count self.new self.old }
         ensures symmetry { tally.new.symmetry ≡ tally.old.symmetry }
-        ensures shift { tally.new.shift ≡ counted tally.old.shift (lines * width - at) }
+        ensures shift { tally.new.shift ≡ saturating_count tally.old.shift (lines * width - at) }
     {
         close_at(self, lines, width, at, count, tally);
         self.cells.truncate(lines * width);
@@ -169,7 +169,7 @@ fn move_back<T, A: Allocator>(
     requires moves { 0 < shift }
     ensures moved { MovedBack start shift n flat.old flat.new }
     ensures symmetry { tally.new.symmetry ≡ tally.old.symmetry }
-    ensures shift { tally.new.shift ≡ counted tally.old.shift n }
+    ensures shift { tally.new.shift ≡ saturating_count tally.old.shift n }
 {
     let mut left = n;
     while 0 < left {
@@ -193,7 +193,7 @@ fn move_forward<T, A: Allocator>(
     requires moves { 0 < shift }
     ensures moved { MovedForward start shift n flat.old flat.new }
     ensures symmetry { tally.new.symmetry ≡ tally.old.symmetry }
-    ensures shift { tally.new.shift ≡ counted tally.old.shift n }
+    ensures shift { tally.new.shift ≡ saturating_count tally.old.shift n }
 {
     let mut done = 0;
     while done < n {
@@ -220,7 +220,7 @@ fn close_at<T, A: Allocator>(
     ensures cells { length flat.new ≡ length flat.old }
     ensures lines { Widened lines width at count flat.new flat.old }
     ensures symmetry { tally.new.symmetry ≡ tally.old.symmetry }
-    ensures shift { tally.new.shift ≡ counted tally.old.shift (lines * width - at) }
+    ensures shift { tally.new.shift ≡ saturating_count tally.old.shift (lines * width - at) }
 {
     let mut start = at;
     for line in 0..lines {

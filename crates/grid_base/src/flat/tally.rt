@@ -1,7 +1,7 @@
 //! Two counts of swaps, and the counted swaps of a `Flat`, which alone raise them.
 ghost use Rattle.std.specs.Prelude.{◌≡◌, ◌≢◌, ◌<◌, ◌≤◌, ◌+◌, ◌/◌, ◌^◌, length, swap};
 ghost use Rattle.grid_base.specs.Blocks.{BlocksSwapped, PartReversed};
-ghost use Rattle.grid_base.specs.Tally.{counted};
+ghost use Rattle.grid_base.specs.Tally.{saturating_count};
 
 use super::Flat;
 use super::blocks::{reverse_part, swap_blocks};
@@ -53,7 +53,7 @@ impl Tally {
     }
 
     fn count_symmetries(&mut self, swaps: usize)
-        ensures symmetry { self.new.symmetry ≡ counted self.old.symmetry swaps }
+        ensures symmetry { self.new.symmetry ≡ saturating_count self.old.symmetry swaps }
         ensures shift { self.new.shift ≡ self.old.shift }
     {
         self.for_symmetry = self.for_symmetry.saturating_add(swaps as u128);
@@ -61,7 +61,7 @@ impl Tally {
 
     fn count_shifts(&mut self, swaps: usize)
         ensures symmetry { self.new.symmetry ≡ self.old.symmetry }
-        ensures shift { self.new.shift ≡ counted self.old.shift swaps }
+        ensures shift { self.new.shift ≡ saturating_count self.old.shift swaps }
     {
         self.for_shift = self.for_shift.saturating_add(swaps as u128);
     }
@@ -74,7 +74,7 @@ impl<T, A: Allocator> Flat<T, A> {
         requires j_in { j < length self.old }
         requires unlike { i ≢ j }
         ensures cells { self.new ≡ swap self.old i j }
-        ensures symmetry { tally.new.symmetry ≡ counted tally.old.symmetry 1 }
+        ensures symmetry { tally.new.symmetry ≡ saturating_count tally.old.symmetry 1 }
         ensures shift { tally.new.shift ≡ tally.old.shift }
     {
         self.swap(i, j);
@@ -88,7 +88,7 @@ impl<T, A: Allocator> Flat<T, A> {
         requires unlike { i ≢ j }
         ensures cells { self.new ≡ swap self.old i j }
         ensures symmetry { tally.new.symmetry ≡ tally.old.symmetry }
-        ensures shift { tally.new.shift ≡ counted tally.old.shift 1 }
+        ensures shift { tally.new.shift ≡ saturating_count tally.old.shift 1 }
     {
         self.swap(i, j);
         tally.count_shifts(1);
@@ -99,7 +99,7 @@ impl<T, A: Allocator> Flat<T, A> {
         requires within { start + n ≤ length self.old }
         requires fits { start + n < 2 ^ 64 }
         ensures cells { PartReversed start n self.old self.new }
-        ensures symmetry { tally.new.symmetry ≡ counted tally.old.symmetry (n / 2) }
+        ensures symmetry { tally.new.symmetry ≡ saturating_count tally.old.symmetry (n / 2) }
         ensures shift { tally.new.shift ≡ tally.old.shift }
     {
         reverse_part(self.cells.as_mut_slice(), start, n);
@@ -112,7 +112,7 @@ impl<T, A: Allocator> Flat<T, A> {
         requires within { j + n ≤ length self.old }
         requires fits { j + n < 2 ^ 64 }
         ensures cells { BlocksSwapped i j n self.old self.new }
-        ensures symmetry { tally.new.symmetry ≡ counted tally.old.symmetry n }
+        ensures symmetry { tally.new.symmetry ≡ saturating_count tally.old.symmetry n }
         ensures shift { tally.new.shift ≡ tally.old.shift }
     {
         swap_blocks(self.cells.as_mut_slice(), i, j, n);
@@ -126,7 +126,7 @@ impl<T, A: Allocator> Flat<T, A> {
         requires fits { j + n < 2 ^ 64 }
         ensures cells { BlocksSwapped i j n self.old self.new }
         ensures symmetry { tally.new.symmetry ≡ tally.old.symmetry }
-        ensures shift { tally.new.shift ≡ counted tally.old.shift n }
+        ensures shift { tally.new.shift ≡ saturating_count tally.old.shift n }
     {
         swap_blocks(self.cells.as_mut_slice(), i, j, n);
         tally.count_shifts(n);

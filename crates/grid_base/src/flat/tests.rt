@@ -62,7 +62,5 @@ fn cells_come_to_the_end_and_leave_it(rt: HostRuntime) -> Result<(), AllocError>
     flat.move_tail(2, &mut tail);
     assert_eq!(rt; flat.as_slice(), [1, 2].as_slice());
     assert_eq!(rt; tail.as_slice(), [3, 4, 0, 0].as_slice());
-    flat.truncate(1);
-    assert_eq!(rt; flat.as_slice(), [1].as_slice());
     Ok(())
 }

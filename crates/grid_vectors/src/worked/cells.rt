@@ -2,9 +2,9 @@
 use crate::asserts::assert_stored;
 use grid::Order::{ColumnMajor, RowMajor};
 use grid::{Grid, GridError, Order};
-use grid_reference::edits::Place;
+use grid_reference::edits::LineAt;
 use grid_reference::fitting::{insert, insert_several, push_row};
-use grid_reference::fixtures::{ORDERS, joined};
+use grid_reference::fixtures::{ORDERS, joined_texts};
 use std::alloc::{AllocError, Global};
 use std::process::Abort;
 use std::test::Fail;
@@ -123,7 +123,7 @@ fn puts_several_lines_of_no_size(rt: HostRuntime) -> Result<(), Fail> {
     for order in ORDERS {
         let mut grid = Grid::<()>::new_with_order(rt.alloc(), 3, 2, order)?;
         let lines = vec![in rt.alloc(); units(rt.alloc(), 2)?, units(rt.alloc(), 2)?]?;
-        insert_several(&mut grid, Place::Row(3), lines)?;
+        insert_several(&mut grid, LineAt::Row(3), lines)?;
         assert_stored(&rt, &grid, (5, 2), order, &[(); 10]);
     }
     Ok(())
@@ -157,7 +157,7 @@ fn assert_joined(
     grid: &Grid<String>,
     want: &str,
 ) -> Result<(), AllocError> {
-    let text = joined(alloc, grid)?;
+    let text = joined_texts(alloc, grid)?;
     assert_eq!(rt; text.as_str(), want);
     Ok(())
 }
@@ -168,7 +168,7 @@ fn puts_deletes_and_takes_texts(rt: HostRuntime) -> Result<(), Fail> {
     let mut grid = Grid::from_vec(texts_of(alloc, &["a", "b"])?, 1);
     push_row(&mut grid, texts_of(alloc, &["c"])?)?;
     assert!(rt; grid.delete_row(0));
-    insert(&mut grid, Place::Col(0), texts_of(alloc, &["d", "e"])?)?;
+    insert(&mut grid, LineAt::Col(0), texts_of(alloc, &["d", "e"])?)?;
     assert_joined(&rt, alloc, &grid, "dbec")?;
     assert_eq!(rt; grid.pop_row()?.map(|line| line.len()), Some(2));
     assert_joined(&rt, alloc, &grid, "db")?;

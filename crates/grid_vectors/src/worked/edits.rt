@@ -2,7 +2,7 @@
 use crate::asserts::{Rows, assert_rows, assert_stored, grid_with};
 use grid::Order::{ColumnMajor, RowMajor};
 use grid::{Grid, GridError, LineRefused, LinesRefused, Order};
-use grid_reference::edits::Place;
+use grid_reference::edits::LineAt;
 use grid_reference::fitting::{insert, insert_several, push_col, push_row};
 use grid_reference::fixtures::{ORDERS, stored, table_of};
 use std::alloc::{AllocError, Global};
@@ -100,11 +100,11 @@ fn answers_line(
         PushCol(line) => is_put(push_col(grid, Vec::from_slice(alloc, line)?), want),
         InsertRow(at, line) => {
             let line = Vec::from_slice(alloc, line)?;
-            is_put(insert(grid, Place::Row(at), line), want)
+            is_put(insert(grid, LineAt::Row(at), line), want)
         }
         InsertCol(at, line) => {
             let line = Vec::from_slice(alloc, line)?;
-            is_put(insert(grid, Place::Col(at), line), want)
+            is_put(insert(grid, LineAt::Col(at), line), want)
         }
         PopRow => is_taken(grid.pop_row()?, want),
         PopCol => is_taken(grid.pop_col()?, want),
@@ -125,11 +125,11 @@ fn answers(
     let met = match edit {
         InsertRows(at, lines) => {
             let lines = table_of(alloc, lines)?;
-            are_put(insert_several(grid, Place::Row(at), lines), want)
+            are_put(insert_several(grid, LineAt::Row(at), lines), want)
         }
         InsertCols(at, lines) => {
             let lines = table_of(alloc, lines)?;
-            are_put(insert_several(grid, Place::Col(at), lines), want)
+            are_put(insert_several(grid, LineAt::Col(at), lines), want)
         }
         DeleteRow(at) => is_deleted(grid.delete_row(at), want),
         DeleteRows(at, count) => is_deleted(grid.delete_rows(at, count), want),

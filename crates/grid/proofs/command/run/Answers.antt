@@ -1,7 +1,7 @@
 use Rattle.std.proofs.Common.{◌≡◌, suc, List, Result, Ok, Err, OnOk, false, ◌∙◌, ◌++◌, ◌∷◌, [], length, map, take, slice_get, Some, sym, ap, arith, inr, length-append, append_assoc}
 use Rattle.std.specs.Result.{is_err}
 use Rattle.std.proofs.lemmas.List.{map-append}
-use Rattle.grid.specs.Reply.{plain}
+use Rattle.grid.specs.Reply.{reply_value}
 use Rattle.grid.proofs.RunLemmas.{ran_none, ran_more, ran_still, take_at_seam, get_at_seam}
 use Rattle.grid.proofs.command.run.Goals as goal
 
@@ -45,8 +45,8 @@ loop-command-preserved g c =
       rest = rw append_assoc (rw s.0 at i.rest);
       ran =
           ran_more _ _ c.in-Some.command _ _ _ _ _ _ _ _ i.ran e.rows
-          (one_more plain _ _ _ p.items)
-          (λ same. ap (map plain) p.items ∙ (map-append plain _ _ ∙ ap (λ x. map plain c.loop-command.replies.items ++ x ∷ []) (e.reply same)))
+          (one_more reply_value _ _ _ p.items)
+          (λ same. ap (map reply_value) p.items ∙ (map-append reply_value _ _ ∙ ap (λ x. map reply_value c.loop-command.replies.items ++ x ∷ []) (e.reply same)))
           e.order e.symmetry c.step.ensures.shift;
       count = grind (arith, p.len, i.count, length-append);
       room = grind (arith, p.capacity, i.room);

@@ -1,7 +1,7 @@
 use Rattle.std.proofs.Common.{map, take}
 use Rattle.std.specs.List.{AllZip}
-use Rattle.grid_base.specs.Table.{joined}
+use Rattle.grid_base.specs.Table.{concat_rows}
 use Rattle.grid.proofs.convert.join_clones.Given as goal
 
 abbrev pub invariant-loop-row : goal.invariant-loop-row
-invariant-loop-row g l = AllZip g.T.Clone.is_clone (joined (map g.L.AsSlice.items (take l.row-index l.rows))) l.cells.items
+invariant-loop-row g l = AllZip g.T.Clone.is_clone (concat_rows (map g.L.AsSlice.items (take l.row-index l.rows))) l.cells.items

@@ -1,9 +1,9 @@
 use Rattle.std.proofs.Common.{ℕ, ◌≡◌, ◌*◌, ◌^◌, ◌<◌, ◌≤◌, ◌∙◌, ap, sym, length, map, arith, below_more, ⊎_elim}
 use Rattle.std.proofs.lemmas.Bool.{cases_lt}
 use Rattle.std.proofs.lemmas.List.{length-map}
-use Rattle.grid_base.specs.Table.{rows_of, cols_of, joined}
-use Rattle.grid.specs.Rows.{AreEven}
-use Rattle.grid.proofs.Joins.{row-map, length-even}
+use Rattle.grid_base.specs.Table.{row_count, col_count, concat_rows}
+use Rattle.grid.specs.Conversion.{AreEven}
+use Rattle.grid.proofs.ConversionLemmas.{row-map, length-even}
 use Rattle.grid.proofs.convert.measure.Goals as goal
 
 not_less : (m n : ℕ) → (m < n → ⊥) → n ≤ m
@@ -19,19 +19,19 @@ pub returns-in-Some : goal.returns-in-Some
 returns-in-Some g c =
     let lists = map g.L.AsSlice.items c.args.rows.now in
     let even : AreEven lists = λ r lr. c.loop-number.invariant r (omega (arith, length-map c.args.rows.now g.L.AsSlice.items)) in
-    let product : rows_of lists * cols_of lists ≡ length c.args.rows.now * c.first_len-cols.result =
-    ap (λ x. x * cols_of lists) (length-map c.args.rows.now g.L.AsSlice.items) ∙ ap (λ x. length c.args.rows.now * x) (sym c.first_len-cols.ensures) in
-    let cells : length (joined lists) ≡ rows_of lists * cols_of lists = length-even lists even in
-    let count : c.in-Some.count ≡ length (joined lists) = omega (arith, cells, product, c.in-Some.ensures.1) in
+    let product : row_count lists * col_count lists ≡ length c.args.rows.now * c.first_len-cols.result =
+    ap (λ x. x * col_count lists) (length-map c.args.rows.now g.L.AsSlice.items) ∙ ap (λ x. length c.args.rows.now * x) (sym c.first_len-cols.ensures) in
+    let cells : length (concat_rows lists) ≡ row_count lists * col_count lists = length-even lists even in
+    let count : c.in-Some.count ≡ length (concat_rows lists) = omega (arith, cells, product, c.in-Some.ensures.1) in
     (record { even = even; below = omega (arith, c.in-Some.ensures.0, c.in-Some.ensures.1) }, count, c.first_len-cols.ensures)
 
 pub returns-in-None : goal.returns-in-None
 returns-in-None g c =
     let lists = map g.L.AsSlice.items c.args.rows.now in
     let even : AreEven lists = λ r lr. c.loop-number.invariant r (omega (arith, length-map c.args.rows.now g.L.AsSlice.items)) in
-    let product : rows_of lists * cols_of lists ≡ length c.args.rows.now * c.first_len-cols.result =
-    ap (λ x. x * cols_of lists) (length-map c.args.rows.now g.L.AsSlice.items) ∙ ap (λ x. length c.args.rows.now * x) (sym c.first_len-cols.ensures) in
-    let count : length (joined lists) ≡ length c.args.rows.now * c.first_len-cols.result = length-even lists even ∙ product in
+    let product : row_count lists * col_count lists ≡ length c.args.rows.now * c.first_len-cols.result =
+    ap (λ x. x * col_count lists) (length-map c.args.rows.now g.L.AsSlice.items) ∙ ap (λ x. length c.args.rows.now * x) (sym c.first_len-cols.ensures) in
+    let count : length (concat_rows lists) ≡ length c.args.rows.now * c.first_len-cols.result = length-even lists even ∙ product in
     let large : 2 ^ 64 ≤ length c.args.rows.now * c.first_len-cols.result =
     not_less (length c.args.rows.now * c.first_len-cols.result) (2 ^ 64) c.in-None.ensures in
     ((even, omega arith), λ e. cc)

@@ -1,7 +1,7 @@
 use Rattle.std.proofs.Common.{◌∙◌, ap}
 use Rattle.grid_base.specs.declared.words.Symmetry.TheVariants.{FlipCols, FlipRows}
 use Rattle.grid_base.specs.Symmetry.{act}
-use Rattle.grid_base.proofs.Group.{act-act}
+use Rattle.grid_base.proofs.GroupLemmas.{act-act}
 use Rattle.grid.proofs.laws.flip_rows_then_cols.Goals as goal
 
 pub returns-clause-rows : goal.returns-clause-rows

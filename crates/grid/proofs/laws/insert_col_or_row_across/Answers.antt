@@ -2,10 +2,10 @@ use Rattle.std.proofs.Common.{◌∙◌, ap, refl, sym, subst}
 use Rattle.grid_base.specs.declared.words.Symmetry.TheVariants.{Transpose}
 use Rattle.grid_base.specs.Order.{flipped}
 use Rattle.grid_base.specs.Symmetry.{act}
-use Rattle.grid_base.proofs.Acts.{rows-act}
+use Rattle.grid_base.proofs.ActLemmas.{rows-act}
 use Rattle.grid_base.specs.Table.{IsTable}
-use Rattle.grid_base.proofs.Views.{same_sheet, flipped-flipped}
-use Rattle.grid.proofs.Across.{on_ok, on_err, fits_across, col_inserted, twice_across}
+use Rattle.grid_base.proofs.ViewLemmas.{same_grid_value, flipped-flipped}
+use Rattle.grid.proofs.TransposedEditLemmas.{on_ok, on_err, fits_across, col_inserted, twice_across}
 use Rattle.grid.proofs.laws.insert_col_or_row_across.Goals as goal
 
 pub insert_row-as_row-requires-clause-nonempty : goal.insert_row-as_row-requires-clause-nonempty
@@ -26,7 +26,7 @@ returns-clause-same g c =
     let there = c.transpose.ensures.rows ∙ ap (λ s. act Transpose s.rows) c.requires.same in
     on_ok c.insert_col-as_col.result
     (λ as_col. on_ok c.insert_row-as_row.result
-    (λ as_row. same_sheet _ _
+    (λ as_row. same_grid_value _ _
     (col_inserted c.args.at line old.rows _ _ _ c.size.ensures.table c.requires.fits c.requires.nonempty c.requires.place there c.transpose-2.ensures.rows (rw c.requires.same_line at as_row) ∙ sym as_col)
     (c.transpose-2.ensures.order ∙ (ap flipped (c.insert_row-as_row.ensures.order ∙ c.transpose.ensures.order) ∙ flipped-flipped c.args.other.now.order) ∙ (ap (λ s. s.order) c.requires.same ∙ sym c.insert_col-as_col.ensures.order)))
     c.insert_row-as_row.ensures.rows)

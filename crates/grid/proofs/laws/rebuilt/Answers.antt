@@ -1,7 +1,7 @@
 use Rattle.std.proofs.Common.{◌≡◌, ◌∙◌, length, sym, ap, ⊎_elim}
 use Rattle.std.proofs.lemmas.Bool.{cases_eq}
 use Rattle.grid_base.specs.Order.{storage}
-use Rattle.grid_base.proofs.Views.{same_sheet, same_by_storage, none_by_storage, CanCut-storage}
+use Rattle.grid_base.proofs.ViewLemmas.{same_grid_value, same_by_storage, none_by_storage, CanCut-storage}
 use Rattle.grid.proofs.laws.rebuilt.Goals as goal
 
 pub from_vec_with_order-requires : goal.from_vec_with_order-requires
@@ -22,7 +22,7 @@ returns-clause-same g c =
     ∙ sym (none_by_storage old.order old.rows table (ap length (sym c.into_vec.ensures) ∙ none)))
     (λ some. same_by_storage old.order _ old.rows built.table table (built.cols some ∙ c.size-cols.ensures.cols) stored)
     (cases_eq (length c.into_vec.result.items) 0) in
-    same_sheet _ _ rows order
+    same_grid_value _ _ rows order
 
 pub returns-clause-law : goal.returns-clause-law
 returns-clause-law g c = λ t h cols same. same_by_storage c.args.grid.order t c.args.grid.rows h c.size-cols.ensures.table cols same

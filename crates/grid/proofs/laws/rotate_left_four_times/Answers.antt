@@ -1,8 +1,8 @@
 use Rattle.std.proofs.Common.{◌≡◌, ◌∙◌, ap, sym, refl, arith}
 use Rattle.grid_base.specs.Symmetry.{act, order_after}
-use Rattle.grid_base.proofs.Group.{act-identity}
-use Rattle.grid_base.proofs.Views.{same_sheet}
-use Rattle.grid.proofs.Turns.{turned_left, turned_more, order_more, four_turns}
+use Rattle.grid_base.proofs.GroupLemmas.{act-identity}
+use Rattle.grid_base.proofs.ViewLemmas.{same_grid_value}
+use Rattle.grid.proofs.RotationLemmas.{turned_left, transposed_more, order_more, four_turns}
 use Rattle.grid.proofs.laws.rotate_left_four_times.Goals as goal
 
 pub loop-turn-init : goal.loop-turn-init
@@ -10,14 +10,14 @@ loop-turn-init g c = record { rows = sym (act-identity _ c.size.ensures.table); 
 
 pub loop-turn-preserved : goal.loop-turn-preserved
 loop-turn-preserved g c = record {
-  rows = turned_more c.loop-turn._turn _ _ _ c.size.ensures.table c.loop-turn.invariant.rows c.rotate_left.ensures.rows;
+  rows = transposed_more c.loop-turn._turn _ _ _ c.size.ensures.table c.loop-turn.invariant.rows c.rotate_left.ensures.rows;
   order = order_more c.loop-turn._turn _ _ _ c.loop-turn.invariant.order c.rotate_left.ensures.order;
 }
 
 pub returns-clause-same : goal.returns-clause-same
 returns-clause-same g c =
     let all : c.loop-turn._turn ≡ 4 = omega arith in
-    same_sheet _ _
+    same_grid_value _ _
     (c.loop-turn.invariant.rows ∙ (ap (λ k. act (turned_left k) c.args.grid.now.rows) all ∙ act-identity _ c.size.ensures.table))
     (c.loop-turn.invariant.order ∙ ap (λ k. order_after (turned_left k) c.args.grid.now.order) all)
 

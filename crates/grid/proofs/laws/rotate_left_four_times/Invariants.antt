@@ -1,6 +1,6 @@
 use Rattle.std.proofs.Common.{◌≡◌}
 use Rattle.grid_base.specs.Symmetry.{act, order_after}
-use Rattle.grid.proofs.Turns.{turned_left}
+use Rattle.grid.proofs.RotationLemmas.{turned_left}
 use Rattle.grid.proofs.laws.rotate_left_four_times.Given as goal
 
 abbrev pub invariant-loop-turn : goal.invariant-loop-turn

@@ -2,13 +2,13 @@ use Rattle.std.proofs.Common.{◌∙◌, ap}
 use Rattle.grid_base.specs.declared.words.Symmetry.TheVariants.{RotateLeft, RotateRight}
 use Rattle.grid_base.specs.Order.{flipped}
 use Rattle.grid_base.specs.Symmetry.{act}
-use Rattle.grid_base.proofs.Group.{act-act, act-identity}
-use Rattle.grid_base.proofs.Views.{same_sheet, flipped-flipped}
+use Rattle.grid_base.proofs.GroupLemmas.{act-act, act-identity}
+use Rattle.grid_base.proofs.ViewLemmas.{same_grid_value, flipped-flipped}
 use Rattle.grid.proofs.laws.rotate_right_then_left.Goals as goal
 
 pub returns-clause-same : goal.returns-clause-same
 returns-clause-same g c =
-    same_sheet _ _
+    same_grid_value _ _
     (c.rotate_left.ensures.rows
     ∙ (ap (act RotateLeft) c.rotate_right.ensures.rows ∙ (act-act RotateRight RotateLeft _ c.size.ensures.table ∙ act-identity _ c.size.ensures.table)))
     (c.rotate_left.ensures.order ∙ (ap flipped c.rotate_right.ensures.order ∙ flipped-flipped _))

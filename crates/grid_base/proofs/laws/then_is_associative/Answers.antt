@@ -1,8 +1,15 @@
-use Rattle.std.proofs.Common.{◌≡◌, ◌∙◌, sym, ap}
-use Rattle.grid_base.proofs.Group.{product, product_assoc, then_is}
-use denote.Enum.Bare.{true_same}
-use Rattle.grid_base.specs.contracts.words.Symmetry.{the_type}
+use Rattle.std.proofs.Common.{◌≡◌, ◌∙◌, sym, ap, subst}
+use Rattle.grid_base.proofs.GroupLemmas.{product, product_assoc, then_is}
+use Rattle.grid_base.specs.Symmetry.{IsThen}
 use Rattle.grid_base.proofs.laws.then_is_associative.Goals as goal
+
+pub returns-clause-left : goal.returns-clause-left
+returns-clause-left c a h =
+    subst (λ x. IsThen x c.args.third c.then-2.result) (then_is _ _ _ c.then.ensures ∙ sym (then_is _ _ _ h)) c.then-2.ensures
+
+pub returns-clause-right : goal.returns-clause-right
+returns-clause-right c b h =
+    subst (λ x. IsThen c.args.first x c.then-4.result) (then_is _ _ _ c.then-3.ensures ∙ sym (then_is _ _ _ h)) c.then-4.ensures
 
 pub returns-clause-same : goal.returns-clause-same
 returns-clause-same c =
@@ -10,7 +17,7 @@ returns-clause-same c =
     then_is _ _ _ c.then-2.ensures ∙ ap (λ s. product s c.args.third) (then_is _ _ _ c.then.ensures) in
     let right : c.then-4.result ≡ product c.args.first (product c.args.second c.args.third) =
     then_is _ _ _ c.then-4.ensures ∙ ap (product c.args.first) (then_is _ _ _ c.then-3.ensures) in
-    c.eq.ensures ∙ true_same the_type _ _ (left ∙ (product_assoc c.args.first c.args.second c.args.third ∙ sym right))
+    left ∙ (product_assoc c.args.first c.args.second c.args.third ∙ sym right)
 
 pub returns-clause-law : goal.returns-clause-law
 returns-clause-law c a b v w first second third last =

@@ -1,5 +1,5 @@
 use Rattle.std.proofs.Common.{arith, refl}
-use Rattle.grid_reference.proofs.Written.{if_written, IsTable-two}
+use Rattle.grid_reference.proofs.WriteLemmas.{if_written, IsTable-two}
 use Rattle.grid_reference.proofs.chains.written_by_columns.Goals as goal
 
 pub returns-clause-rows : goal.returns-clause-rows

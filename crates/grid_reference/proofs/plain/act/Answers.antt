@@ -1,9 +1,9 @@
 use Rattle.std.proofs.Common.{◌≡◌, sym, ◌∙◌, ap, arith, map}
 use Rattle.std.proofs.lemmas.List.{map-append}
 use Rattle.grid_base.specs.Symmetry.{act, image_rows}
-use Rattle.grid_base.specs.Table.{rows_of, cols_of}
-use Rattle.grid_reference.specs.Plain.{rows_of_vec}
-use Rattle.grid_reference.proofs.Growing.{tabulate-none, tabulate-grown, tabulate-at}
+use Rattle.grid_base.specs.Table.{row_count, col_count}
+use Rattle.grid_reference.specs.Plain.{items_of_each}
+use Rattle.grid_reference.proofs.GrowLemmas.{tabulate-none, tabulate-grown, tabulate-at}
 use Rattle.grid_reference.proofs.plain.act.Goals as goal
 
 pub loop-row-init : goal.loop-row-init
@@ -17,8 +17,8 @@ loop-row-preserved g c =
 pub returns : goal.returns
 unfolding act
 returns g c =
-    let t = rows_of_vec c.args.table.now in
+    let t = items_of_each c.args.table.now in
     let size = c.size-rows.ensures in
-    let height : c.image_size-height.result.0 ≡ image_rows c.args.symmetry (rows_of t) (cols_of t) =
-    c.image_size-height.ensures.rows ∙ (ap (λ m. image_rows c.args.symmetry m c.size-rows.result.1) size.rows ∙ ap (image_rows c.args.symmetry (rows_of t)) size.cols) in
+    let height : c.image_size-height.result.0 ≡ image_rows c.args.symmetry (row_count t) (col_count t) =
+    c.image_size-height.ensures.rows ∙ (ap (λ m. image_rows c.args.symmetry m c.size-rows.result.1) size.rows ∙ ap (image_rows c.args.symmetry (row_count t)) size.cols) in
     c.loop-row.invariant ∙ tabulate-at _ _ _ _ (omega arith)

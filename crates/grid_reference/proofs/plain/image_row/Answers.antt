@@ -1,5 +1,5 @@
 use Rattle.std.proofs.Common.{sym, ◌∙◌, ap, append-nil}
-use Rattle.grid_reference.proofs.Growing.{line-none, line-grown, source-read}
+use Rattle.grid_reference.proofs.GrowLemmas.{line-none, line-grown, source-read}
 use Rattle.grid_reference.proofs.plain.image_row.Goals as goal
 use Rattle.grid_reference.proofs.plain.image_row.Goals.{in-Some+in_ok-push, in_default}
 

@@ -1,7 +1,7 @@
 use Rattle.std.proofs.Common.{Result, Ok, Err, OnErr, ◌+◌, ◌∙◌, ap, map, arith}
 use Rattle.std.proofs.lemmas.List.{map-append}
-use Rattle.grid.specs.Reply.{plain}
-use Rattle.grid_reference.proofs.Growing.{rows-stepped, replies-stepped}
+use Rattle.grid.specs.Reply.{reply_value}
+use Rattle.grid_reference.proofs.GrowLemmas.{rows-stepped, replies-stepped}
 use Rattle.grid_reference.proofs.plain.run.Goals as goal
 
 on_err : {T E : Type 0} (r : Result T E) (P : Type 0) → P → OnErr r P
@@ -15,7 +15,7 @@ loop-command-preserved g c =
     record {
       rows = rows-stepped c.args.commands.now c.loop-command.command-index _ _ _ (omega arith) before.rows _ stepped.rows;
       replies = replies-stepped c.args.commands.now c.loop-command.command-index _ _ _ (omega arith) before.rows _ _ _ before.replies stepped.reply
-          (ap (map plain) c.in_ok-push.ensures.items ∙ map-append _ _ _);
+          (ap (map reply_value) c.in_ok-push.ensures.items ∙ map-append _ _ _);
     }
 
 pub returns-in_err-push-clause-err : goal.returns-in_err-push-clause-err

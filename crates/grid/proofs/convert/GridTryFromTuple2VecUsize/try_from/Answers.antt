@@ -1,5 +1,5 @@
 use Rattle.std.proofs.Common.{◌≡◌, refl, length, arith}
-use Rattle.grid.proofs.Joins.{refused}
+use Rattle.grid.proofs.ConversionLemmas.{refused}
 use Rattle.grid.proofs.convert.GridTryFromTuple2VecUsize.try_from.Goals as goal
 
 pub returns-else-can_cut : goal.returns-else-can_cut

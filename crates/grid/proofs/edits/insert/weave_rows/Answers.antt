@@ -1,5 +1,5 @@
 use Rattle.std.proofs.Common.{refl}
-use Rattle.grid.proofs.SeenEdits.{rows_put}
+use Rattle.grid.proofs.SeenEditLemmas.{rows_put}
 use Rattle.grid.proofs.edits.insert.weave_rows.Goals as goal
 
 pub returns-in-RowMajor : goal.returns-in-RowMajor

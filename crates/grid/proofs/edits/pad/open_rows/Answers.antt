@@ -1,6 +1,6 @@
 use Rattle.std.proofs.Common.{◌≡◌, ◌+◌, ◌-◌, ◌*◌, ap, refl, arith}
 use Rattle.std.proofs.lemmas.Bool.{ne_eqb}
-use Rattle.grid.proofs.SeenPads.{rows_open}
+use Rattle.grid.proofs.SeenPaddingLemmas.{rows_open}
 use Rattle.grid.proofs.edits.pad.open_rows.Goals as goal
 
 pub returns-in-RowMajor-clause-opened : goal.returns-in-RowMajor-clause-opened

@@ -1,5 +1,5 @@
 use Rattle.std.proofs.Common.{◌≡◌, ◌+◌, ◌-◌, ◌*◌, ap, refl, arith}
-use Rattle.grid.proofs.SeenEdits.{rows_taken}
+use Rattle.grid.proofs.SeenEditLemmas.{rows_taken}
 use Rattle.grid.proofs.edits.remove.close_rows.Goals as goal
 
 pub returns-in-RowMajor-clause-taken : goal.returns-in-RowMajor-clause-taken

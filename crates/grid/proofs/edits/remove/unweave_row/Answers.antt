@@ -1,5 +1,5 @@
 use Rattle.std.proofs.Common.{refl, arith}
-use Rattle.grid.proofs.SeenEdits.{row_behind}
+use Rattle.grid.proofs.SeenEditLemmas.{row_behind}
 use Rattle.grid.proofs.edits.remove.unweave_row.Goals as goal
 
 pub returns-in-RowMajor : goal.returns-in-RowMajor

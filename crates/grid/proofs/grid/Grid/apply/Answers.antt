@@ -1,6 +1,6 @@
 use Rattle.std.proofs.Common.{◌∙◌, sym}
-use Rattle.grid_base.proofs.Group.{normal-acts}
-use Rattle.grid.proofs.Seen.{seen_table}
+use Rattle.grid_base.proofs.GroupLemmas.{normal-acts}
+use Rattle.grid.proofs.SeenLemmas.{seen_table}
 use Rattle.grid.proofs.grid.Grid.apply.Goals as goal
 
 pub returns-clause-words : goal.returns-clause-words

@@ -1,7 +1,7 @@
 use Rattle.std.proofs.Common.{sym, arith}
-use Rattle.grid_base.proofs.Group.{act-identity}
-use Rattle.grid.proofs.Flips.{after_transpose, turned_rows, turned_cols}
-use Rattle.grid.proofs.Seen.{seen_table}
+use Rattle.grid_base.proofs.GroupLemmas.{act-identity}
+use Rattle.grid.proofs.FlipLemmas.{after_transpose, turned_rows, turned_cols}
+use Rattle.grid.proofs.SeenLemmas.{seen_table}
 use Rattle.grid.proofs.grid.Grid.apply_counted.Goals as goal
 
 pub returns-in-Identity-clause-rows : goal.returns-in-Identity-clause-rows

@@ -1,4 +1,4 @@
-use Rattle.grid_base.proofs.Views.{table_of-none}
+use Rattle.grid_base.proofs.ViewLemmas.{table_of-none}
 use Rattle.grid.proofs.grid.Grid.clear.Goals as goal
 
 pub returns-clause-rows : goal.returns-clause-rows

@@ -1,5 +1,5 @@
 use Rattle.std.proofs.Common.{sym}
-use Rattle.grid.proofs.Seen.{seen_cols, seen_table}
+use Rattle.grid.proofs.SeenLemmas.{seen_cols, seen_table}
 use Rattle.grid.proofs.grid.Grid.cols.Goals as goal
 
 pub returns-clause-cols : goal.returns-clause-cols

@@ -1,7 +1,7 @@
 use Rattle.grid_base.specs.declared.words.Symmetry.TheVariants.{Transpose}
-use Rattle.grid_base.proofs.Acts.{rows-act}
-use Rattle.grid.proofs.Seen.{seen_table}
-use Rattle.grid.proofs.Across.{cols_taken, delete_shift_across}
+use Rattle.grid_base.proofs.ActLemmas.{rows-act}
+use Rattle.grid.proofs.SeenLemmas.{seen_table}
+use Rattle.grid.proofs.TransposedEditLemmas.{cols_taken, delete_shift_across}
 use Rattle.grid.proofs.grid.Grid.delete_cols_counted.Goals as goal
 
 pub returns-clause-found : goal.returns-clause-found

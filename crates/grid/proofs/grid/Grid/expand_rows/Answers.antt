@@ -1,5 +1,5 @@
-use Rattle.grid.proofs.Across.{on_ok}
-use Rattle.grid.proofs.SeenPads.{pads_expanded}
+use Rattle.grid.proofs.TransposedEditLemmas.{on_ok}
+use Rattle.grid.proofs.SeenPaddingLemmas.{pads_expanded}
 use Rattle.grid.proofs.grid.Grid.expand_rows.Goals as goal
 
 pub returns-clause-fixed : goal.returns-clause-fixed

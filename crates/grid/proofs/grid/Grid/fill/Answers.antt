@@ -1,8 +1,8 @@
 use Rattle.std.proofs.Common.{◌≡◌, replicate, length}
 use Rattle.std.proofs.lemmas.Result.{on_ok_weaker}
 use Rattle.grid_base.specs.Order.{table_of}
-use Rattle.grid.specs.Wholes.{filled}
-use Rattle.grid.proofs.SeenWholes.{seen_filled, seen_none}
+use Rattle.grid.specs.AllCells.{filled}
+use Rattle.grid.proofs.SeenAllCellsLemmas.{seen_filled, seen_none}
 use Rattle.grid.proofs.grid.Grid.fill.Goals as goal
 
 pub returns-clause-ok : goal.returns-clause-ok

@@ -1,7 +1,7 @@
 use Rattle.std.proofs.Common.{length, subst, ap}
-use Rattle.grid_base.specs.Answers.{CallableTimes}
-use Rattle.grid.proofs.Seen.{seen_storage}
-use Rattle.grid.proofs.SeenWholes.{whole_rows, whole_cols, whole_table, whole_cells}
+use Rattle.grid_base.specs.ClosureCalls.{CallableTimes}
+use Rattle.grid.proofs.SeenLemmas.{seen_storage}
+use Rattle.grid.proofs.SeenAllCellsLemmas.{whole_rows, whole_cols, whole_table, whole_cells}
 use Rattle.grid.proofs.grid.Grid.fill_with.Goals as goal
 
 pub returns-clause-rows : goal.returns-clause-rows

@@ -1,6 +1,6 @@
 use Rattle.std.proofs.Common.{arith}
-use Rattle.grid.proofs.Flips.{flip_cols_by_lines, flip_cols_by_each}
-use Rattle.grid.proofs.Seen.{seen_rows, seen_cols}
+use Rattle.grid.proofs.FlipLemmas.{flip_cols_by_lines, flip_cols_by_each}
+use Rattle.grid.proofs.SeenLemmas.{seen_rows, seen_cols}
 use Rattle.grid.proofs.grid.Grid.flip_cols_counted.Goals as goal
 
 pub returns-in-RowMajor-clause-rows : goal.returns-in-RowMajor-clause-rows

@@ -1,6 +1,6 @@
 use Rattle.std.proofs.Common.{arith}
-use Rattle.grid.proofs.Flips.{flip_rows_by_lines, flip_rows_by_each}
-use Rattle.grid.proofs.Seen.{seen_rows, seen_cols}
+use Rattle.grid.proofs.FlipLemmas.{flip_rows_by_lines, flip_rows_by_each}
+use Rattle.grid.proofs.SeenLemmas.{seen_rows, seen_cols}
 use Rattle.grid.proofs.grid.Grid.flip_rows_counted.Goals as goal
 
 pub returns-in-RowMajor-clause-rows : goal.returns-in-RowMajor-clause-rows

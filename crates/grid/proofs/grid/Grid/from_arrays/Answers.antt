@@ -1,8 +1,8 @@
 use Rattle.std.proofs.Common.{rules, ◌≡◌, ◌+◌, ◌*◌, ◌++◌, [], ◌∷◌, ◌∙◌, ap, sym, length, arith}
 use Rattle.std.proofs.lemmas.Grind.{common_steps}
-use Rattle.grid_base.proofs.Stores.{place_within}
-use Rattle.grid.proofs.Made.{CanCut-cells, made_size}
-use Rattle.grid.proofs.Emptying.{slot_in_line, product_in_line, emptying_none, emptying_at, emptying_next, held_all, full_slot}
+use Rattle.grid_base.proofs.StorageLemmas.{place_within}
+use Rattle.grid.proofs.MadeLemmas.{CanCut-cells, made_size}
+use Rattle.grid.proofs.EmptyingLemmas.{slot_by_order, product_by_order, emptying_none, emptying_at, emptying_next, held_all, full_slot}
 use Rattle.grid.proofs.grid.Grid.from_arrays.Goals as goal
 
 pub loop-i-init : goal.loop-i-init
@@ -19,53 +19,53 @@ loop-j-init g c = record {
 
 pub take_cell-cell-requires : goal.take_cell-cell-requires
 take_cell-cell-requires g c =
-    let slot = slot_in_line c.args.order g.row.R g.row.C c.loop-i.i c.loop-j.j _ _ c.in_line-lines.ensures c.in_line-row.ensures c.loop-i-test.true c.loop-j-test.true in
+    let slot = slot_by_order c.args.order g.row.R g.row.C c.loop-i.i c.loop-j.j _ _ c.by_order-lines.ensures c.by_order-row.ensures c.loop-i-test.true c.loop-j-test.true in
     let stays = c.loop-j.invariant.slots.stays _ _ slot.lr slot.lc (omega (arith, slot.is)) in
     (search rules, (search rules, (slot.lr, (slot.lc, λ e. full_slot c.args.cells.now _ _ c.requires (sym stays ∙ e)))))
 
-pub unwrap-requires : goal.unwrap-requires
-unwrap-requires g c =
-    let slot = slot_in_line c.args.order g.row.R g.row.C c.loop-i.i c.loop-j.j _ _ c.in_line-lines.ensures c.in_line-row.ensures c.loop-i-test.true c.loop-j-test.true in
+pub push_reserved-requires : goal.push_reserved-requires
+push_reserved-requires g c =
+    let slot = slot_by_order c.args.order g.row.R g.row.C c.loop-i.i c.loop-j.j _ _ c.by_order-lines.ensures c.by_order-row.ensures c.loop-i-test.true c.loop-j-test.true in
     let within = place_within c.args.order g.row.R g.row.C _ _ slot.lr slot.lc in
-    c.push.ensures.succeeds (omega (arith, within, slot.is, c.loop-j.invariant.slots.count, c.loop-j.invariant.room))
+    omega (arith, within, slot.is, c.loop-j.invariant.slots.count, c.loop-j.invariant.room)
 
 pub loop-j-preserved : goal.loop-j-preserved
 loop-j-preserved g c =
-    let slot = slot_in_line c.args.order g.row.R g.row.C c.loop-i.i c.loop-j.j _ _ c.in_line-lines.ensures c.in_line-row.ensures c.loop-i-test.true c.loop-j-test.true in
-    let items : c.push.new.self.items ≡ c.loop-j.taken.items ++ c.take_cell-cell.result ∷ [] = grind (arith, common_steps) in
+    let slot = slot_by_order c.args.order g.row.R g.row.C c.loop-i.i c.loop-j.j _ _ c.by_order-lines.ensures c.by_order-row.ensures c.loop-i-test.true c.loop-j-test.true in
+    let items : c.push_reserved.new.self.items ≡ c.loop-j.taken.items ++ c.take_cell-cell.result ∷ [] = grind (arith, common_steps) in
     record {
-      slots = emptying_next c.args.order g.row.R g.row.C _ _ _ _ c.args.cells.now c.loop-j.cells c.take_cell-cell.new.cells c.loop-j.taken.items c.push.new.self.items c.take_cell-cell.result slot (omega arith) c.take_cell-cell.ensures.cell c.take_cell-cell.ensures.emptied items c.loop-j.invariant.slots;
-      room = omega (arith, c.push.ensures.capacity);
+      slots = emptying_next c.args.order g.row.R g.row.C _ _ _ _ c.args.cells.now c.loop-j.cells c.take_cell-cell.new.cells c.loop-j.taken.items c.push_reserved.new.self.items c.take_cell-cell.result slot (omega arith) c.take_cell-cell.ensures.cell c.take_cell-cell.ensures.emptied items c.loop-j.invariant.slots;
+      room = omega (arith, c.push_reserved.ensures.capacity);
     }
 
 pub loop-i-preserved : goal.loop-i-preserved
 loop-i-preserved g c =
-    let all : c.loop-j.j ≡ c.in_line-lines.result.1 = omega arith in
+    let all : c.loop-j.j ≡ c.by_order-lines.result.1 = omega arith in
     record {
-      slots = emptying_at c.args.order g.row.R g.row.C _ _ _ _ _ (ap (λ x. c.loop-i.i * c.in_line-lines.result.1 + x) all ∙ omega arith) c.loop-j.invariant.slots;
+      slots = emptying_at c.args.order g.row.R g.row.C _ _ _ _ _ (ap (λ x. c.loop-i.i * c.by_order-lines.result.1 + x) all ∙ omega arith) c.loop-j.invariant.slots;
       room = c.loop-j.invariant.room;
     }
 
 pub from_vec_with_order-requires : goal.from_vec_with_order-requires
 from_vec_with_order-requires g c =
-    let all : c.loop-i.i ≡ c.in_line-lines.result.0 = omega arith in
+    let all : c.loop-i.i ≡ c.by_order-lines.result.0 = omega arith in
     let count : length c.loop-i.taken.items ≡ g.row.R * g.row.C =
-    c.loop-i.invariant.slots.count ∙ (ap (λ x. x * c.in_line-lines.result.1) all ∙ product_in_line c.args.order g.row.R g.row.C _ c.in_line-lines.ensures) in
+    c.loop-i.invariant.slots.count ∙ (ap (λ x. x * c.by_order-lines.result.1) all ∙ product_by_order c.args.order g.row.R g.row.C _ c.by_order-lines.ensures) in
     CanCut-cells _ g.row.R g.row.C count
 
 pub returns-clause-size : goal.returns-clause-size
 returns-clause-size g c =
-    let all : c.loop-i.i ≡ c.in_line-lines.result.0 = omega arith in
+    let all : c.loop-i.i ≡ c.by_order-lines.result.0 = omega arith in
     let count : length c.loop-i.taken.items ≡ g.row.R * g.row.C =
-    c.loop-i.invariant.slots.count ∙ (ap (λ x. x * c.in_line-lines.result.1) all ∙ product_in_line c.args.order g.row.R g.row.C _ c.in_line-lines.ensures) in
+    c.loop-i.invariant.slots.count ∙ (ap (λ x. x * c.by_order-lines.result.1) all ∙ product_by_order c.args.order g.row.R g.row.C _ c.by_order-lines.ensures) in
     let made = c.from_vec_with_order.ensures in
     made_size c.args.order _ _ _ _ made.table made.storage made.cols count
 
 pub returns-clause-cells : goal.returns-clause-cells
 returns-clause-cells g c =
-    let all : c.loop-i.i ≡ c.in_line-lines.result.0 = omega arith in
-    let whole : c.loop-i.i * c.in_line-lines.result.1 ≡ g.row.R * g.row.C =
-    ap (λ x. x * c.in_line-lines.result.1) all ∙ product_in_line c.args.order g.row.R g.row.C _ c.in_line-lines.ensures in
+    let all : c.loop-i.i ≡ c.by_order-lines.result.0 = omega arith in
+    let whole : c.loop-i.i * c.by_order-lines.result.1 ≡ g.row.R * g.row.C =
+    ap (λ x. x * c.by_order-lines.result.1) all ∙ product_by_order c.args.order g.row.R g.row.C _ c.by_order-lines.ensures in
     let count : length c.loop-i.taken.items ≡ g.row.R * g.row.C = c.loop-i.invariant.slots.count ∙ whole in
     let made = c.from_vec_with_order.ensures in
     held_all c.args.order g.row.R g.row.C _ c.args.cells.now _ _ _ c.loop-i.invariant.slots
@@ -74,7 +74,7 @@ returns-clause-cells g c =
 
 pub returns-clause-emptied : goal.returns-clause-emptied
 returns-clause-emptied g c =
-    let all : c.loop-i.i ≡ c.in_line-lines.result.0 = omega arith in
-    let whole : c.loop-i.i * c.in_line-lines.result.1 ≡ g.row.R * g.row.C =
-    ap (λ x. x * c.in_line-lines.result.1) all ∙ product_in_line c.args.order g.row.R g.row.C _ c.in_line-lines.ensures in
+    let all : c.loop-i.i ≡ c.by_order-lines.result.0 = omega arith in
+    let whole : c.loop-i.i * c.by_order-lines.result.1 ≡ g.row.R * g.row.C =
+    ap (λ x. x * c.by_order-lines.result.1) all ∙ product_by_order c.args.order g.row.R g.row.C _ c.by_order-lines.ensures in
     λ r k lr lk. c.loop-i.invariant.slots.gone r k lr lk (omega (arith, whole, place_within c.args.order g.row.R g.row.C r k lr lk))

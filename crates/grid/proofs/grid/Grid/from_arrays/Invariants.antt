@@ -1,6 +1,6 @@
 use Rattle.std.proofs.Common.{◌≤◌, ◌+◌, ◌*◌}
 use Rattle.std.specs.Vec.{vec_capacity}
-use Rattle.grid.proofs.Emptying.{Emptying}
+use Rattle.grid.proofs.EmptyingLemmas.{Emptying}
 use Rattle.grid.proofs.grid.Grid.from_arrays.Given as goal
 
 abbrev pub invariant-loop-i : goal.invariant-loop-i

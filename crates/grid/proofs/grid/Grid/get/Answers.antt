@@ -1,7 +1,7 @@
 use Rattle.std.proofs.Common.{sym, ap, ◌∙◌, arith}
 use Rattle.std.specs.List.{slice_get}
-use Rattle.grid_base.proofs.Stores.{place_within}
-use Rattle.grid_base.proofs.Views.{view-cell, view-past_rows, view-past_cols}
+use Rattle.grid_base.proofs.StorageLemmas.{place_within}
+use Rattle.grid_base.proofs.ViewLemmas.{view-cell, view-past_rows, view-past_cols}
 use Rattle.grid.proofs.grid.Grid.get.Goals as goal
 use Rattle.grid.proofs.grid.Grid.get.Goals.{else-row-self-via-then-row-self+else-col-self, else-row-self-via-else-row-self}
 

@@ -1,8 +1,8 @@
 use Rattle.std.proofs.Common.{◌∙◌, sym, ap, arith}
 use Rattle.std.specs.List.{slice_get}
-use Rattle.grid_base.proofs.Stores.{place_within}
-use Rattle.grid_base.proofs.Views.{view-cell}
-use Rattle.grid.proofs.Seen.{seen_row_in, seen_col_in}
+use Rattle.grid_base.proofs.StorageLemmas.{place_within}
+use Rattle.grid_base.proofs.ViewLemmas.{view-cell}
+use Rattle.grid.proofs.SeenLemmas.{seen_row_in, seen_col_in}
 use Rattle.grid.proofs.grid.Grid.get_unchecked.Goals as goal
 
 pub place-requires-clause-row_in : goal.place-requires-clause-row_in

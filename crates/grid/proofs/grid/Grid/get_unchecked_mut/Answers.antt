@@ -1,9 +1,9 @@
 use Rattle.std.proofs.Common.{◌∙◌, sym, ap, arith, refl}
 use Rattle.std.specs.List.{slice_get}
-use Rattle.grid_base.proofs.Stores.{place_within}
-use Rattle.grid_base.proofs.Views.{view-cell}
-use Rattle.grid.proofs.Seen.{seen_row_in, seen_col_in}
-use Rattle.grid.proofs.Writing.{sheet_written}
+use Rattle.grid_base.proofs.StorageLemmas.{place_within}
+use Rattle.grid_base.proofs.ViewLemmas.{view-cell}
+use Rattle.grid.proofs.SeenLemmas.{seen_row_in, seen_col_in}
+use Rattle.grid.proofs.CellWriteLemmas.{grid_value_written}
 use Rattle.grid.proofs.grid.Grid.get_unchecked_mut.Goals as goal
 
 pub place-place-requires-clause-row_in : goal.place-place-requires-clause-row_in
@@ -24,6 +24,6 @@ returns g c =
     let col_in = seen_col_in _ _ _ _ _ c.self.invariant _ _ c.self.view_is c.requires in
     let read =
     view-cell _ _ _ _ c.self.invariant _ _ row_in col_in ∙ (ap (slice_get c.self.inside.flat) (sym c.place-place.ensures) ∙ c.at_mut.ensures.item) in (
-      (refl, λ w. rw c.place-place.ensures (sheet_written _ _ _ _ _ _ _ w c.self.invariant c.self.view_is row_in col_in)),
+      (refl, λ w. rw c.place-place.ensures (grid_value_written _ _ _ _ _ _ _ w c.self.invariant c.self.view_is row_in col_in)),
       record { writes_back = tt; item = rw (← c.self.view_is) read },
     )

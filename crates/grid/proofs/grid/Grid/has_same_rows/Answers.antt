@@ -1,6 +1,6 @@
 use Rattle.std.proofs.Common.{rules, ◌≡◌, ◌<◌, true, false, sym, arith}
 use lib.Pointwise.{pointwise}
-use Rattle.grid_base.specs.Table.{row, rows_of}
+use Rattle.grid_base.specs.Table.{row, row_count}
 use Rattle.grid.proofs.SameLemmas.{same_next, differs, row_at}
 use Rattle.grid.proofs.grid.Grid.has_same_rows.Goals as goal
 
@@ -11,8 +11,8 @@ returns-then-not-has_same_row g c =
     let u = c.args.other.now.rows in
     let r = c.loop-row.row in
     let differ : pointwise E (row t r) (row u r) ≡ false = search rules in
-    let here : r < rows_of t = omega arith in
-    let there : r < rows_of u = omega arith in
+    let here : r < row_count t = omega arith in
+    let there : r < row_count u = omega arith in
     sym (differs (pointwise E) t u r (row t r) (row u r) (row_at t r here) (row_at u r there) differ)
 
 pub loop-row-preserved : goal.loop-row-preserved
@@ -22,6 +22,6 @@ loop-row-preserved g c =
     let u = c.args.other.now.rows in
     let r = c.loop-row.row in
     let same : pointwise E (row t r) (row u r) ≡ true = search rules in
-    let here : r < rows_of t = omega arith in
-    let there : r < rows_of u = omega arith in
+    let here : r < row_count t = omega arith in
+    let there : r < row_count u = omega arith in
     same_next (pointwise E) t u r (row t r) (row u r) (row_at t r here) (row_at u r there) c.loop-row.invariant same

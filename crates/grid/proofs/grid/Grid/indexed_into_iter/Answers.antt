@@ -1,5 +1,5 @@
 use Rattle.std.proofs.Common.{◌∙◌}
-use Rattle.grid.proofs.SeenWalks.{seen_indexed}
+use Rattle.grid.proofs.SeenWalkLemmas.{seen_indexed}
 use Rattle.grid.proofs.grid.Grid.indexed_into_iter.Goals as goal
 
 pub returns : goal.returns

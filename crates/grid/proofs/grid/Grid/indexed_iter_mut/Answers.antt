@@ -1,5 +1,5 @@
 use Rattle.std.proofs.Common.{◌∙◌, refl}
-use Rattle.grid.proofs.SeenWalks.{seen_indexed, seen_refilled, seen_keeps}
+use Rattle.grid.proofs.SeenWalkLemmas.{seen_indexed, seen_refilled, seen_keeps}
 use Rattle.grid.proofs.grid.Grid.indexed_iter_mut.Goals as goal
 
 pub returns : goal.returns

@@ -1,7 +1,7 @@
 use Rattle.grid_base.specs.declared.words.Symmetry.TheVariants.{Transpose}
-use Rattle.grid_base.proofs.Acts.{rows-act}
-use Rattle.grid.proofs.Seen.{seen_table}
-use Rattle.grid.proofs.Across.{on_ok, on_err, fits_across, col_inserted, twice_across}
+use Rattle.grid_base.proofs.ActLemmas.{rows-act}
+use Rattle.grid.proofs.SeenLemmas.{seen_table}
+use Rattle.grid.proofs.TransposedEditLemmas.{on_ok, on_err, fits_across, col_inserted, twice_across}
 use Rattle.grid.proofs.grid.Grid.insert_col.Goals as goal
 
 pub insert_row-inserted-requires-clause-fits : goal.insert_row-inserted-requires-clause-fits

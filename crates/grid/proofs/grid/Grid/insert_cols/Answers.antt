@@ -1,9 +1,9 @@
 use Rattle.std.proofs.Common.{arith}
 use Rattle.grid_base.specs.declared.words.Symmetry.TheVariants.{Transpose}
-use Rattle.grid_base.proofs.Acts.{rows-act}
-use Rattle.grid_base.proofs.Gathering.{rows-vecs}
-use Rattle.grid.proofs.Seen.{seen_table}
-use Rattle.grid.proofs.Across.{on_ok, on_err, fits_across, cols_inserted, twice_across}
+use Rattle.grid_base.proofs.ActLemmas.{rows-act}
+use Rattle.grid_base.proofs.GatherLemmas.{rows-vecs}
+use Rattle.grid.proofs.SeenLemmas.{seen_table}
+use Rattle.grid.proofs.TransposedEditLemmas.{on_ok, on_err, fits_across, cols_inserted, twice_across}
 use Rattle.grid.proofs.grid.Grid.insert_cols.Goals as goal
 
 pub insert_rows-inserted-requires-clause-fits : goal.insert_rows-inserted-requires-clause-fits

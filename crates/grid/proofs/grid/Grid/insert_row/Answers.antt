@@ -1,8 +1,8 @@
 use Rattle.std.proofs.Common.{◌≡◌, ◌+◌, ◌*◌, length, refl, ◌∙◌, ap, arith, length-append}
-use Rattle.grid_base.specs.Table.{rows_of}
-use Rattle.grid.proofs.Seen.{seen_rows}
-use Rattle.grid.proofs.SeenEdits.{cells_fit, rows_inserted, no_room, room}
-use Rattle.grid.proofs.Sizes.{Fits-filled}
+use Rattle.grid_base.specs.Table.{row_count}
+use Rattle.grid.proofs.SeenLemmas.{seen_rows}
+use Rattle.grid.proofs.SeenEditLemmas.{cells_fit, rows_inserted, no_room, room}
+use Rattle.grid.proofs.EditSizeLemmas.{HoldsSize-filled}
 use Rattle.grid.proofs.grid.Grid.insert_row.Goals as goal
 
 pub returns-then-not-has_room-clause-too_large : goal.returns-then-not-has_room-clause-too_large
@@ -18,7 +18,7 @@ weave_rows-requires-clause-cells g c =
 
 pub weave_rows-requires-clause-place : goal.weave_rows-requires-clause-place
 weave_rows-requires-clause-place g c =
-    let rows : rows_of c.args.self.now.rows ≡ c.self.inside.row_count = seen_rows _ _ _ _ _ c.self.invariant c.self.view_is in
+    let rows : row_count c.args.self.now.rows ≡ c.self.inside.row_count = seen_rows _ _ _ _ _ c.self.invariant c.self.view_is in
     omega (arith, rows, c.requires.place)
 
 pub invariant_of-self : goal.invariant_of-self
@@ -28,7 +28,7 @@ invariant_of-self g c =
     let small = rw width at (c.has_room.ensures.0 c.if-not-has_room.false) in
     let total : length c.weave_rows.new.flat ≡ (c.self.inside.row_count + 1) * length c.args.line.items =
     c.weave_rows.ensures.lengths ∙ (ap length c.in-Ok.ensures.ok ∙ omega (arith, length-append c.self.inside.flat c.args.line.items, fit)) in
-    rw width (Fits-filled _ _ _ (omega arith) c.requires.nonempty total (omega (arith, small, total)))
+    rw width (HoldsSize-filled _ _ _ (omega arith) c.requires.nonempty total (omega (arith, small, total)))
 
 pub returns-in-Ok-clause-rows : goal.returns-in-Ok-clause-rows
 returns-in-Ok-clause-rows g c =

@@ -1,68 +1,68 @@
 use Rattle.std.proofs.Common.{◌≡◌, ◌<◌, ◌+◌, ◌*◌, ◌++◌, length, refl, sym, ◌∙◌, ap, arith}
-use Rattle.grid_base.specs.Table.{rows_of, cols_of}
+use Rattle.grid_base.specs.Table.{row_count, col_count}
 use Rattle.grid_base.specs.Order.{storage}
-use Rattle.grid_base.specs.Gather.{cells_of}
-use Rattle.grid_base.proofs.Gathering.{rows-vecs}
-use Rattle.grid.proofs.Seen.{seen_rows}
-use Rattle.grid.proofs.SeenEdits.{range_cells, range_inserted, no_room, room}
-use Rattle.grid.proofs.Sizes.{Fits-filled, factor_small}
+use Rattle.grid_base.specs.Gather.{items_of_each}
+use Rattle.grid_base.proofs.GatherLemmas.{rows-vecs}
+use Rattle.grid.proofs.SeenLemmas.{seen_rows}
+use Rattle.grid.proofs.SeenEditLemmas.{range_cells, range_inserted, no_room, room}
+use Rattle.grid.proofs.EditSizeLemmas.{HoldsSize-filled, factor_small}
 use Rattle.grid.proofs.grid.Grid.insert_rows.Goals as goal
 
 pub returns-then-not-has_room-clause-too_large : goal.returns-then-not-has_room-clause-too_large
 returns-then-not-has_room-clause-too_large g c =
-    let width : c.first_len-width.result ≡ cols_of (cells_of c.args.lines.items) = c.first_len-width.ensures ∙ ap (λ xs. cols_of (cells_of xs)) c.as_slice.ensures.value in
+    let width : c.first_len-width.result ≡ col_count (items_of_each c.args.lines.items) = c.first_len-width.ensures ∙ ap (λ xs. col_count (items_of_each xs)) c.as_slice.ensures.value in
     let count : c.len-count.result ≡ length c.args.lines.items = omega arith in
     rw (sym count)
     (λ _. no_room _ _ _ _ _ _ (seen_rows _ _ _ _ _ c.self.invariant c.self.view_is) width c.has_room.ensures c.if-not-has_room.true, λ _. refl)
 
 pub weave_rows-requires-clause-cells : goal.weave_rows-requires-clause-cells
 weave_rows-requires-clause-cells g c =
-    let width : c.first_len-width.result ≡ cols_of (cells_of c.args.lines.items) = c.first_len-width.ensures ∙ ap (λ xs. cols_of (cells_of xs)) c.as_slice.ensures.value in
-    let count : rows_of (cells_of c.args.lines.items) ≡ c.len-count.result = omega (arith, rows-vecs c.args.lines.items) in
+    let width : c.first_len-width.result ≡ col_count (items_of_each c.args.lines.items) = c.first_len-width.ensures ∙ ap (λ xs. col_count (items_of_each xs)) c.as_slice.ensures.value in
+    let count : row_count (items_of_each c.args.lines.items) ≡ c.len-count.result = omega (arith, rows-vecs c.args.lines.items) in
     range_cells _ _ _ _ _ c.self.invariant c.self.view_is _ (rw width (c.requires.fits (omega arith))) _ _ _ c.requires.table count (sym width)
-    (c.in-Ok.ensures.ok ∙ ap (λ xs. c.self.inside.flat ++ storage c.self.inside.order (cells_of xs)) c.as_mut_slice.ensures.value)
+    (c.in-Ok.ensures.ok ∙ ap (λ xs. c.self.inside.flat ++ storage c.self.inside.order (items_of_each xs)) c.as_mut_slice.ensures.value)
 
 pub weave_rows-requires-clause-place : goal.weave_rows-requires-clause-place
 weave_rows-requires-clause-place g c =
-    let rows : rows_of c.args.self.now.rows ≡ c.self.inside.row_count = seen_rows _ _ _ _ _ c.self.invariant c.self.view_is in
+    let rows : row_count c.args.self.now.rows ≡ c.self.inside.row_count = seen_rows _ _ _ _ _ c.self.invariant c.self.view_is in
     omega (arith, rows, c.requires.place)
 
 pub overflow_add-self : goal.overflow_add-self
 overflow_add-self g c =
-    let width : c.first_len-width.result ≡ cols_of (cells_of c.args.lines.items) = c.first_len-width.ensures ∙ ap (λ xs. cols_of (cells_of xs)) c.as_slice.ensures.value in
+    let width : c.first_len-width.result ≡ col_count (items_of_each c.args.lines.items) = c.first_len-width.ensures ∙ ap (λ xs. col_count (items_of_each xs)) c.as_slice.ensures.value in
     let some : 0 < c.first_len-width.result = omega (arith, width, c.requires.table.nonempty 0 (omega (arith, rows-vecs c.args.lines.items))) in
     let small = factor_small _ _ some (c.has_room.ensures.0 c.if-not-has_room.false) in
     omega (arith, small)
 
 pub invariant_of-self : goal.invariant_of-self
 invariant_of-self g c =
-    let width : c.first_len-width.result ≡ cols_of (cells_of c.args.lines.items) = c.first_len-width.ensures ∙ ap (λ xs. cols_of (cells_of xs)) c.as_slice.ensures.value in
+    let width : c.first_len-width.result ≡ col_count (items_of_each c.args.lines.items) = c.first_len-width.ensures ∙ ap (λ xs. col_count (items_of_each xs)) c.as_slice.ensures.value in
     let some : 0 < c.first_len-width.result = omega (arith, width, c.requires.table.nonempty 0 (omega (arith, rows-vecs c.args.lines.items))) in
-    let count : rows_of (cells_of c.args.lines.items) ≡ c.len-count.result = omega (arith, rows-vecs c.args.lines.items) in
+    let count : row_count (items_of_each c.args.lines.items) ≡ c.len-count.result = omega (arith, rows-vecs c.args.lines.items) in
     let cells =
     range_cells _ _ _ _ _ c.self.invariant c.self.view_is _ (rw width (c.requires.fits (omega arith))) _ _ _ c.requires.table count (sym width)
-    (c.in-Ok.ensures.ok ∙ ap (λ xs. c.self.inside.flat ++ storage c.self.inside.order (cells_of xs)) c.as_mut_slice.ensures.value) in
+    (c.in-Ok.ensures.ok ∙ ap (λ xs. c.self.inside.flat ++ storage c.self.inside.order (items_of_each xs)) c.as_mut_slice.ensures.value) in
     let small = c.has_room.ensures.0 c.if-not-has_room.false in
     let total : length c.weave_rows.new.flat ≡ (c.self.inside.row_count + c.len-count.result) * c.first_len-width.result = c.weave_rows.ensures.lengths ∙ (cells ∙ omega arith) in
-    Fits-filled _ _ _ (omega arith) some total (omega (arith, small, total))
+    HoldsSize-filled _ _ _ (omega arith) some total (omega (arith, small, total))
 
 pub returns-in-Ok-clause-rows : goal.returns-in-Ok-clause-rows
 returns-in-Ok-clause-rows g c =
-    let width : c.first_len-width.result ≡ cols_of (cells_of c.args.lines.items) = c.first_len-width.ensures ∙ ap (λ xs. cols_of (cells_of xs)) c.as_slice.ensures.value in
-    let count : rows_of (cells_of c.args.lines.items) ≡ c.len-count.result = omega (arith, rows-vecs c.args.lines.items) in
+    let width : c.first_len-width.result ≡ col_count (items_of_each c.args.lines.items) = c.first_len-width.ensures ∙ ap (λ xs. col_count (items_of_each xs)) c.as_slice.ensures.value in
+    let count : row_count (items_of_each c.args.lines.items) ≡ c.len-count.result = omega (arith, rows-vecs c.args.lines.items) in
     range_inserted _ _ _ _ _ c.self.invariant c.self.view_is _ (rw width (c.requires.fits (omega arith))) c.args.at _ _ _ _ c.requires.table count (sym width)
-    (c.in-Ok.ensures.ok ∙ ap (λ xs. c.self.inside.flat ++ storage c.self.inside.order (cells_of xs)) c.as_mut_slice.ensures.value) c.weave_rows.ensures
+    (c.in-Ok.ensures.ok ∙ ap (λ xs. c.self.inside.flat ++ storage c.self.inside.order (items_of_each xs)) c.as_mut_slice.ensures.value) c.weave_rows.ensures
 
 pub returns-in-Ok-clause-too_large : goal.returns-in-Ok-clause-too_large
 returns-in-Ok-clause-too_large g c =
-    let width : c.first_len-width.result ≡ cols_of (cells_of c.args.lines.items) = c.first_len-width.ensures ∙ ap (λ xs. cols_of (cells_of xs)) c.as_slice.ensures.value in
+    let width : c.first_len-width.result ≡ col_count (items_of_each c.args.lines.items) = c.first_len-width.ensures ∙ ap (λ xs. col_count (items_of_each xs)) c.as_slice.ensures.value in
     let count : c.len-count.result ≡ length c.args.lines.items = omega arith in
     rw (sym count)
     (λ h. absurd h, λ large. room _ _ _ _ _ _ (seen_rows _ _ _ _ _ c.self.invariant c.self.view_is) width c.has_room.ensures c.if-not-has_room.false large)
 
 pub returns-in-Err-clause-too_large : goal.returns-in-Err-clause-too_large
 returns-in-Err-clause-too_large g c =
-    let width : c.first_len-width.result ≡ cols_of (cells_of c.args.lines.items) = c.first_len-width.ensures ∙ ap (λ xs. cols_of (cells_of xs)) c.as_slice.ensures.value in
+    let width : c.first_len-width.result ≡ col_count (items_of_each c.args.lines.items) = c.first_len-width.ensures ∙ ap (λ xs. col_count (items_of_each xs)) c.as_slice.ensures.value in
     let count : c.len-count.result ≡ length c.args.lines.items = omega arith in
     rw (sym count)
     (λ h. absurd (cc h), λ large. absurd (room _ _ _ _ _ _ (seen_rows _ _ _ _ _ c.self.invariant c.self.view_is) width c.has_room.ensures c.if-not-has_room.false large))

@@ -1,6 +1,6 @@
 use Rattle.std.proofs.Common.{◌<◌, ◌∙◌, arith}
-use Rattle.grid.proofs.Seen.{seen_cols}
-use Rattle.grid.proofs.Spans.{seen_col}
+use Rattle.grid.proofs.SeenLemmas.{seen_cols}
+use Rattle.grid.proofs.SpanLemmas.{seen_col}
 use Rattle.grid.proofs.grid.Grid.iter_col.Goals as goal
 
 pub col_span-start-requires-clause-col_in : goal.col_span-start-requires-clause-col_in

@@ -1,7 +1,7 @@
 use Rattle.std.proofs.Common.{◌<◌, ◌∙◌, arith, refl}
-use Rattle.grid.proofs.Seen.{seen_cols}
-use Rattle.grid.proofs.Spans.{seen_col}
-use Rattle.grid.proofs.SeenWalks.{seen_written, seen_keeps_from, first_place}
+use Rattle.grid.proofs.SeenLemmas.{seen_cols}
+use Rattle.grid.proofs.SpanLemmas.{seen_col}
+use Rattle.grid.proofs.SeenWalkLemmas.{seen_written, seen_keeps_from, first_place}
 use Rattle.grid.proofs.grid.Grid.iter_col_mut.Goals as goal
 
 pub col_span-start-requires-clause-col_in : goal.col_span-start-requires-clause-col_in

@@ -1,15 +1,15 @@
 use Rattle.std.proofs.Common.{arith, ◌∙◌, sym}
-use Rattle.grid.proofs.Seen.{seen_cols}
-use Rattle.grid_base.proofs.Tables.{rows-tabulate}
-use Rattle.grid_base.proofs.Strides.{lines_in_order, lines_in_reverse, each_line_in_order, each_line_in_reverse}
-use Rattle.grid_base.proofs.Left.{left_all}
+use Rattle.grid.proofs.SeenLemmas.{seen_cols}
+use Rattle.grid_base.proofs.TableLemmas.{rows-tabulate}
+use Rattle.grid_base.proofs.StrideLemmas.{lines_in_order, lines_in_reverse, each_line_in_order, each_line_in_reverse}
+use Rattle.grid_base.proofs.RemainingLemmas.{remaining_all}
 use Rattle.grid.proofs.grid.Grid.iter_cols.Goals as goal
 
 pub invariant_of-result : goal.invariant_of-result
 invariant_of-result g c = record { ordered = omega arith; within = omega (arith, seen_cols _ _ _ _ _ c.self.invariant c.self.view_is) }
 
 pub returns-clause-rest : goal.returns-clause-rest
-returns-clause-rest g c = left_all _ _ (sym (seen_cols _ _ _ _ _ c.self.invariant c.self.view_is) ∙ sym (rows-tabulate _ _ _))
+returns-clause-rest g c = remaining_all _ _ (sym (seen_cols _ _ _ _ _ c.self.invariant c.self.view_is) ∙ sym (rows-tabulate _ _ _))
 
 pub returns-clause-runs : goal.returns-clause-runs
 returns-clause-runs g c = each_line_in_order _

@@ -1,6 +1,6 @@
 use Rattle.std.proofs.Common.{◌<◌, ◌∙◌, arith}
-use Rattle.grid.proofs.Seen.{seen_rows}
-use Rattle.grid.proofs.Spans.{seen_row}
+use Rattle.grid.proofs.SeenLemmas.{seen_rows}
+use Rattle.grid.proofs.SpanLemmas.{seen_row}
 use Rattle.grid.proofs.grid.Grid.iter_row.Goals as goal
 
 pub row_span-start-requires-clause-row_in : goal.row_span-start-requires-clause-row_in

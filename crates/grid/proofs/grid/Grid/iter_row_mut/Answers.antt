@@ -1,7 +1,7 @@
 use Rattle.std.proofs.Common.{◌<◌, ◌∙◌, arith, refl}
-use Rattle.grid.proofs.Seen.{seen_rows}
-use Rattle.grid.proofs.Spans.{seen_row}
-use Rattle.grid.proofs.SeenWalks.{seen_written, seen_keeps_from, first_place}
+use Rattle.grid.proofs.SeenLemmas.{seen_rows}
+use Rattle.grid.proofs.SpanLemmas.{seen_row}
+use Rattle.grid.proofs.SeenWalkLemmas.{seen_written, seen_keeps_from, first_place}
 use Rattle.grid.proofs.grid.Grid.iter_row_mut.Goals as goal
 
 pub row_span-start-requires-clause-row_in : goal.row_span-start-requires-clause-row_in

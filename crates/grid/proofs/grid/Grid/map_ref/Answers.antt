@@ -1,7 +1,7 @@
 use Rattle.std.proofs.Common.{subst}
-use Rattle.grid_base.specs.Answers.{CallableAtRefs}
-use Rattle.grid.proofs.Seen.{seen_storage}
-use Rattle.grid.proofs.SeenWholes.{whole_rows, whole_cols, whole_table, whole_cells}
+use Rattle.grid_base.specs.ClosureCalls.{CallableAtRefs}
+use Rattle.grid.proofs.SeenLemmas.{seen_storage}
+use Rattle.grid.proofs.SeenAllCellsLemmas.{whole_rows, whole_cols, whole_table, whole_cells}
 use Rattle.grid.proofs.grid.Grid.map_ref.Goals as goal
 
 pub returns-clause-rows : goal.returns-clause-rows

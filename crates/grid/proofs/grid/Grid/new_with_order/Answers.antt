@@ -1,7 +1,7 @@
 use Rattle.std.proofs.Common.{◌≡◌, ◌*◌, All, length, arith}
 use Rattle.std.proofs.lemmas.List.Elements.{All-append}
 use Rattle.std.proofs.lemmas.Grind.{common_steps}
-use Rattle.grid.proofs.Made.{All-none, length-storage_none, made_size, made_fill}
+use Rattle.grid.proofs.MadeLemmas.{All-none, length-storage_none, made_size, made_fill}
 use Rattle.grid.proofs.grid.Grid.new_with_order.Goals as goal
 
 pub returns-then-rows-eq0-clause-defaults : goal.returns-then-rows-eq0-clause-defaults

@@ -1,15 +1,15 @@
 use Rattle.std.proofs.Common.{ap, arith}
 use Rattle.grid_base.specs.declared.words.Symmetry.TheVariants.{Transpose}
-use Rattle.grid_base.specs.Table.{rows_of}
-use Rattle.grid_base.proofs.Acts.{rows-act}
+use Rattle.grid_base.specs.Table.{row_count}
+use Rattle.grid_base.proofs.ActLemmas.{rows-act}
 use Rattle.grid.specs.Shift.{rows_added_shift}
-use Rattle.grid.proofs.Seen.{seen_table}
-use Rattle.grid.proofs.Across.{on_ok, on_err, twice_across}
-use Rattle.grid.proofs.SeenPads.{pads_cols, size_across, none_added, shift_across}
+use Rattle.grid.proofs.SeenLemmas.{seen_table}
+use Rattle.grid.proofs.TransposedEditLemmas.{on_ok, on_err, twice_across}
+use Rattle.grid.proofs.SeenPaddingLemmas.{pads_cols, size_across, none_added, shift_across}
 use Rattle.grid.proofs.grid.Grid.pad_cols_counted.Goals as goal
 
 pub pad_rows_counted-padded-requires : goal.pad_rows_counted-padded-requires
-pad_rows_counted-padded-requires g c = omega (arith, ap rows_of c.transpose.ensures.rows, rows-act Transpose c.args.self.now.rows)
+pad_rows_counted-padded-requires g c = omega (arith, ap row_count c.transpose.ensures.rows, rows-act Transpose c.args.self.now.rows)
 
 pub returns-clause-padded : goal.returns-clause-padded
 returns-clause-padded g c =

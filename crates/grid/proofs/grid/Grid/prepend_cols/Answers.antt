@@ -1,6 +1,6 @@
-use Rattle.grid.proofs.Seen.{seen_table}
-use Rattle.grid.proofs.Across.{on_ok}
-use Rattle.grid.proofs.SeenPads.{cols_prepended}
+use Rattle.grid.proofs.SeenLemmas.{seen_table}
+use Rattle.grid.proofs.TransposedEditLemmas.{on_ok}
+use Rattle.grid.proofs.SeenPaddingLemmas.{cols_prepended}
 use Rattle.grid.proofs.grid.Grid.prepend_cols.Goals as goal
 
 pub returns-clause-fixed : goal.returns-clause-fixed

@@ -1,7 +1,7 @@
 use Rattle.std.proofs.Common.{◌≡◌, ◌≢◌, ◌++◌, map, take, codes, List, ap, ◌∙◌, arith, append_assoc}
 use Rattle.std.specs.List.{flat_map}
 use Rattle.std.proofs.lemmas.List.{take_all}
-use Rattle.grid_base.specs.Table.{rows_of}
+use Rattle.grid_base.specs.Table.{row_count}
 use Rattle.grid.specs.Texts.{numbers, row_line, text_in_width}
 use Rattle.grid.proofs.TextLemmas.{text_of_lines}
 use Rattle.grid.proofs.grid.Grid.pretty.Goals as goal
@@ -13,7 +13,7 @@ returns g c =
     let width = c.in_ok-width.width in
     let lines = λ (u : List (List g.row.T.Denot)). flat_map (λ row. row_line width (map w row)) u in
     let all : take c.loop-row.row t ≡ t = take_all c.loop-row.row t (omega arith) in
-    let some : rows_of t ≢ 0 = omega arith in
+    let some : row_count t ≢ 0 = omega arith in
     c.in_ok-push_str-3.ensures.bytes
     ∙ (ap (λ l. l ++ codes "]") (c.loop-row.invariant ∙ ap (λ u. codes "[\n" ++ lines u) all)
     ∙ (append_assoc (codes "[\n") (lines t) (codes "]")

@@ -1,8 +1,8 @@
 use Rattle.grid_base.specs.declared.words.Symmetry.TheVariants.{Transpose}
-use Rattle.grid_base.proofs.Acts.{rows-act}
-use Rattle.grid.proofs.Cols.{across-turned}
-use Rattle.grid.proofs.Seen.{seen_table}
-use Rattle.grid.proofs.Across.{on_ok, on_err, col_removed, twice_across}
+use Rattle.grid_base.proofs.ActLemmas.{rows-act}
+use Rattle.grid.proofs.ColEditLemmas.{across-transposed}
+use Rattle.grid.proofs.SeenLemmas.{seen_table}
+use Rattle.grid.proofs.TransposedEditLemmas.{on_ok, on_err, col_removed, twice_across}
 use Rattle.grid.proofs.grid.Grid.remove_col.Goals as goal
 
 pub returns-clause-rows : goal.returns-clause-rows
@@ -12,7 +12,7 @@ returns-clause-rows g c =
 
 pub returns-clause-line : goal.returns-clause-line
 returns-clause-line g c =
-    rw (c.transpose.ensures.rows, rows-act Transpose c.args.self.now.rows, across-turned c.args.self.now.rows) at c.remove_row-removed.ensures.line
+    rw (c.transpose.ensures.rows, rows-act Transpose c.args.self.now.rows, across-transposed c.args.self.now.rows) at c.remove_row-removed.ensures.line
 
 pub returns-clause-err : goal.returns-clause-err
 returns-clause-err g c =

@@ -1,5 +1,5 @@
-use Rattle.grid.proofs.Flips.{rotate_half_by_part}
-use Rattle.grid.proofs.Seen.{seen_rows, seen_cols}
+use Rattle.grid.proofs.FlipLemmas.{rotate_half_by_part}
+use Rattle.grid.proofs.SeenLemmas.{seen_rows, seen_cols}
 use Rattle.grid.proofs.grid.Grid.rotate_half_counted.Goals as goal
 
 pub returns-clause-rows : goal.returns-clause-rows

@@ -1,5 +1,5 @@
 use Rattle.std.proofs.Common.{sym}
-use Rattle.grid.proofs.Seen.{seen_rows, seen_table}
+use Rattle.grid.proofs.SeenLemmas.{seen_rows, seen_table}
 use Rattle.grid.proofs.grid.Grid.rows.Goals as goal
 
 pub returns-clause-rows : goal.returns-clause-rows

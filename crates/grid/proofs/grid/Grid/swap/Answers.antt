@@ -1,7 +1,7 @@
 use Rattle.std.proofs.Common.{arith}
-use Rattle.grid_base.proofs.Stores.{place_within}
-use Rattle.grid.proofs.Seen.{seen_row_in, seen_col_in}
-use Rattle.grid.proofs.Writing.{rows_swapped}
+use Rattle.grid_base.proofs.StorageLemmas.{place_within}
+use Rattle.grid.proofs.SeenLemmas.{seen_row_in, seen_col_in}
+use Rattle.grid.proofs.CellWriteLemmas.{rows_swapped}
 use Rattle.grid.proofs.grid.Grid.swap.Goals as goal
 
 pub place-i-requires-clause-row_in : goal.place-i-requires-clause-row_in

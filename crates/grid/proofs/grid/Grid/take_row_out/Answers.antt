@@ -1,7 +1,7 @@
 use Rattle.std.proofs.Common.{◌≡◌, ◌-◌, ◌*◌, ◌∙◌, ◌++◌, length, drop, ap, Some, sym, arith}
-use Rattle.grid_base.specs.Table.{cols_of}
-use Rattle.grid.proofs.Seen.{seen_cols}
-use Rattle.grid.proofs.SeenEdits.{removed_in, removed_cells, removed_small, removed_length, row_removed, removed_fits, removed_line}
+use Rattle.grid_base.specs.Table.{col_count}
+use Rattle.grid.proofs.SeenLemmas.{seen_cols}
+use Rattle.grid.proofs.SeenEditLemmas.{removed_in, removed_cells, removed_small, removed_length, row_removed, removed_fits, removed_line}
 use Rattle.grid.proofs.grid.Grid.take_row_out.Goals as goal
 
 pub overflow_sub-rest : goal.overflow_sub-rest
@@ -28,17 +28,17 @@ move_tail-requires-clause-within g c =
 pub move_tail-requires-clause-room : goal.move_tail-requires-clause-room
 move_tail-requires-clause-room g c =
     let len = removed_length _ _ _ _ _ c.self.invariant c.self.view_is _ c.requires.within _ c.unweave_row.ensures in
-    let cols : cols_of c.args.self.now.rows ≡ c.self.inside.col_count = seen_cols _ _ _ _ _ c.self.invariant c.self.view_is in
+    let cols : col_count c.args.self.now.rows ≡ c.self.inside.col_count = seen_cols _ _ _ _ _ c.self.invariant c.self.view_is in
     omega (arith, len, cols, c.requires.room, ap length c.requires.none)
 
 pub invariant_of-self : goal.invariant_of-self
 invariant_of-self g c =
-    rw (c.width_left-self-inside.ensures, c.move_tail.ensures.cells)
+    rw (c.cols_if_rows-self-inside.ensures, c.move_tail.ensures.cells)
     (removed_fits _ _ _ _ _ c.self.invariant c.self.view_is _ c.requires.within _ c.unweave_row.ensures)
 
 pub returns-clause-rows : goal.returns-clause-rows
 returns-clause-rows g c =
-    rw (c.width_left-self-inside.ensures, c.move_tail.ensures.cells)
+    rw (c.cols_if_rows-self-inside.ensures, c.move_tail.ensures.cells)
     (row_removed _ _ _ _ _ c.self.invariant c.self.view_is _ c.requires.within _ c.unweave_row.ensures)
 
 pub returns-clause-line : goal.returns-clause-line

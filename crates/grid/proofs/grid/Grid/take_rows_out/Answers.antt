@@ -1,5 +1,5 @@
 use Rattle.std.proofs.Common.{arith}
-use Rattle.grid.proofs.SeenEdits.{taken_in, taken_wide, taken_cells, taken_small, rows_taken_out, taken_fits, taken_shift}
+use Rattle.grid.proofs.SeenEditLemmas.{taken_in, taken_wide, taken_cells, taken_small, rows_taken_out, taken_fits, taken_shift}
 use Rattle.grid.proofs.grid.Grid.take_rows_out.Goals as goal
 
 pub overflow_sub-rest : goal.overflow_sub-rest
@@ -23,12 +23,12 @@ close_rows-requires-clause-wide g c = taken_wide _ _ _ _ _ c.self.invariant c.se
 
 pub invariant_of-self : goal.invariant_of-self
 invariant_of-self g c =
-    rw c.width_left-self-inside.ensures
+    rw c.cols_if_rows-self-inside.ensures
     (taken_fits _ _ _ _ _ c.self.invariant c.self.view_is _ _ c.requires.within c.requires.some _ c.close_rows.ensures.taken)
 
 pub returns-clause-rows : goal.returns-clause-rows
 returns-clause-rows g c =
-    rw c.width_left-self-inside.ensures
+    rw c.cols_if_rows-self-inside.ensures
     (rows_taken_out _ _ _ _ _ c.self.invariant c.self.view_is _ _ c.requires.within c.requires.some _ c.close_rows.ensures.taken)
 
 pub returns-clause-shift : goal.returns-clause-shift

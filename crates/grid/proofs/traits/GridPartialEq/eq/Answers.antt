@@ -1,6 +1,6 @@
 use Rattle.std.proofs.Common.{rules, ◌≡◌, sym, ap, ◌∙◌, arith}
 use lib.Pointwise.{pointwise}
-use Rattle.grid_base.specs.Table.{rows_of, cols_of}
+use Rattle.grid_base.specs.Table.{row_count, col_count}
 use Rattle.grid_base.specs.Order.{storage}
 use Rattle.grid.proofs.SameLemmas.{same_stored}
 use Rattle.grid.proofs.traits.GridPartialEq.eq.Goals as goal
@@ -11,8 +11,8 @@ returns-then-eq g c =
     let a = c.args.self.now in
     let b = c.args.other.now in
     let order : a.order ≡ b.order = search rules in
-    let rows : rows_of a.rows ≡ rows_of b.rows = omega arith in
-    let cols : cols_of a.rows ≡ cols_of b.rows = omega arith in
+    let rows : row_count a.rows ≡ row_count b.rows = omega arith in
+    let cols : col_count a.rows ≡ col_count b.rows = omega arith in
     c.eq-then-eq.ensures
     ∙ ((λ k. pointwise E (c.flatten.ensures k) ((c.flatten-then-eq.ensures ∙ ap (λ o. storage o b.rows) (sym order)) k))
     ∙ same_stored E a.order a.rows b.rows c.size-rows.ensures.table c.size-other_rows.ensures.table rows cols)

@@ -1,4 +1,4 @@
-use Rattle.grid.proofs.Spans.{across_is}
+use Rattle.grid.proofs.SpanLemmas.{across_is}
 use Rattle.grid.proofs.walks.span.across.Goals as goal
 
 pub returns : goal.returns

@@ -1,4 +1,4 @@
-use Rattle.grid.proofs.Spans.{together_is}
+use Rattle.grid.proofs.SpanLemmas.{together_is}
 use Rattle.grid.proofs.walks.span.together.Goals as goal
 
 pub returns : goal.returns

@@ -1,11 +1,11 @@
 use Rattle.std.proofs.Common.{arith}
-use Rattle.grid_base.specs.Table.{cols_of}
-use Rattle.grid_base.specs.Gather.{cells_of}
-use Rattle.grid_base.proofs.Stores.{length-joined}
-use Rattle.grid_base.proofs.Gathering.{rows-vecs}
+use Rattle.grid_base.specs.Table.{col_count}
+use Rattle.grid_base.specs.Gather.{items_of_each}
+use Rattle.grid_base.proofs.StorageLemmas.{length-concat_rows}
+use Rattle.grid_base.proofs.GatherLemmas.{rows-vecs}
 use Rattle.grid_base.proofs.flat.Flat.append_rows.Goals as goal
 
 pub append_each-requires : goal.append_each-requires
 append_each-requires g c =
-    let t = cells_of c.args.rows.now in
-    record { room = grind (arith, c.in_ok-reserve.ensures.ok, length-joined t (cols_of t) c.requires.table.even, rows-vecs c.args.rows.now, c.requires.width) }
+    let t = items_of_each c.args.rows.now in
+    record { room = grind (arith, c.in_ok-reserve.ensures.ok, length-concat_rows t (col_count t) c.requires.table.even, rows-vecs c.args.rows.now, c.requires.width) }

@@ -1,5 +1,5 @@
 use Rattle.std.proofs.Common.{arith, length-append, append_assoc}
-use Rattle.grid_base.proofs.Answers.{AnswersTo-append, callable_next}
+use Rattle.grid_base.proofs.ClosureLemmas.{MapsThrough-append, callable_next}
 use Rattle.grid_base.proofs.flat.Flat.map.Goals as goal
 
 pub loop-cell-preserved : goal.loop-cell-preserved
@@ -13,7 +13,7 @@ loop-cell-preserved g c =
       rest = rw append_assoc (rw s.0 at i.rest);
       count = grind (arith, p.len, i.count, length-append);
       room = grind (arith, p.capacity, i.room);
-      answers = rw p.items (AnswersTo-append _ _ _ c.f.new.self _ _ c.in-Some.cell c.f.result i.answers c.f.ensures);
+      answers = rw p.items (MapsThrough-append _ _ _ c.f.new.self _ _ c.in-Some.cell c.f.result i.answers c.f.ensures);
     }
 
 pub f-requires : goal.f-requires

@@ -1,7 +1,7 @@
 use Rattle.std.proofs.Common.{◌≡◌, ◌≤◌, ◌++◌, length, vec_len}
 use Rattle.std.specs.Vec.{vec_capacity}
 use Rattle.std.specs.Vec.Iter.{into_iter_items}
-use Rattle.grid_base.specs.Answers.{AnswersTo}
+use Rattle.grid_base.specs.ClosureCalls.{MapsThrough}
 use Rattle.grid_base.proofs.flat.Flat.map.Given as goal
 
 abbrev pub invariant-loop-cell : goal.invariant-loop-cell
@@ -11,5 +11,5 @@ invariant-loop-cell g l = record {
   rest : l.yielded ++ into_iter_items l.cell-iterator ≡ l.fn.self;
   count : vec_len l.mapped ≡ length l.yielded;
   room : length l.fn.self ≤ vec_capacity l.mapped;
-  answers : AnswersTo (λ p x y q. goal.F-step g p x y q) l.initial.f l.yielded l.mapped.items l.f;
+  answers : MapsThrough (λ p x y q. goal.F-step g p x y q) l.initial.f l.yielded l.mapped.items l.f;
 }

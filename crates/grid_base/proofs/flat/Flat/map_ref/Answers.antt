@@ -1,7 +1,7 @@
 use Rattle.std.proofs.Common.{◌<◌, refl, sym, subst, ◌∙◌, length, arith}
 use Rattle.std.proofs.lemmas.List.{take_more}
-use Rattle.grid_base.specs.Answers.{CallableAtRefs}
-use Rattle.grid_base.proofs.Answers.{AllZip-append}
+use Rattle.grid_base.specs.ClosureCalls.{CallableAtRefs}
+use Rattle.grid_base.proofs.ClosureLemmas.{AllZip-append}
 use Rattle.grid_base.proofs.flat.Flat.map_ref.Goals as goal
 
 pub loop-cell-preserved : goal.loop-cell-preserved

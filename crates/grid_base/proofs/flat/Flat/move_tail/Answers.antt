@@ -1,5 +1,5 @@
 use Rattle.std.proofs.Common.{◌≡◌, ◌++◌, take, drop, reverse, ◌∙◌, ap, arith}
-use Rattle.grid_base.proofs.Ends.{leaving_length, leaving_cells, leaving_tail}
+use Rattle.grid_base.proofs.AppendLemmas.{leaving_length, leaving_cells, leaving_tail}
 use Rattle.grid_base.proofs.flat.Flat.move_tail.Goals as goal
 
 pub returns-clause-cells : goal.returns-clause-cells
@@ -7,7 +7,7 @@ returns-clause-cells g c = leaving_cells _ _ _ _ _ _ c.loop.invariant.run (omega
 
 pub returns-clause-tail : goal.returns-clause-tail
 returns-clause-tail g c =
-    let turned : c.reverse_from.new.cells ≡ take c.len-start.result c.loop.into.items ++ reverse (drop c.len-start.result c.loop.into.items) =
+    let transposed : c.reverse_from.new.cells ≡ take c.len-start.result c.loop.into.items ++ reverse (drop c.len-start.result c.loop.into.items) =
     c.reverse_from.ensures ∙ ap (λ ys. take c.len-start.result ys ++ reverse (drop c.len-start.result ys)) c.as_mut_slice.ensures.value in
-    leaving_tail _ c.args.at c.len-start.result _ _ _ _ _ c.reverse_from.new.cells c.loop.invariant.run (omega (arith, leaving_length _ _ _ _ _ c.loop.invariant.run)) (omega arith) turned
+    leaving_tail _ c.args.at c.len-start.result _ _ _ _ _ c.reverse_from.new.cells c.loop.invariant.run (omega (arith, leaving_length _ _ _ _ _ c.loop.invariant.run)) (omega arith) transposed
     (omega (arith, c.reverse_from.auto.cells))

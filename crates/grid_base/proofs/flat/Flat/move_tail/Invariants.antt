@@ -1,5 +1,5 @@
 use Rattle.std.proofs.Common.{◌+◌, ◌-◌, ◌≤◌, length, vec_len, vec_capacity}
-use Rattle.grid_base.proofs.Ends.{Leaving}
+use Rattle.grid_base.proofs.AppendLemmas.{Leaving}
 use Rattle.grid_base.proofs.flat.Flat.move_tail.Given as goal
 
 abbrev pub invariant-loop : goal.invariant-loop

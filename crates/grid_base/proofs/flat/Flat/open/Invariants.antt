@@ -1,6 +1,6 @@
 use Rattle.std.proofs.Common.{◌≡◌, ◌+◌, ◌-◌, ◌*◌, ◌≤◌, min}
-use Rattle.grid_base.specs.Tally.{counted}
-use Rattle.grid_base.proofs.Spreading.{spread, Opening}
+use Rattle.grid_base.specs.Tally.{saturating_count}
+use Rattle.grid_base.proofs.SpreadLemmas.{spread, Opening}
 use Rattle.grid_base.proofs.flat.Flat.open.Given as goal
 
 abbrev pub invariant-loop-line : goal.invariant-loop-line
@@ -9,7 +9,7 @@ invariant-loop-line g l = record {
   within : l.line ≤ l.lines;
   place : l.end ≡ min (l.at + l.line * l.width) (l.lines * l.width);
   symmetry : l.tally.symmetry ≡ l.fn.tally.symmetry;
-  shift : l.tally.shift ≡ counted l.fn.tally.shift (l.lines * l.width - l.end);
+  shift : l.tally.shift ≡ saturating_count l.fn.tally.shift (l.lines * l.width - l.end);
 }
 
 abbrev pub decreases-loop-line : goal.decreases-loop-line

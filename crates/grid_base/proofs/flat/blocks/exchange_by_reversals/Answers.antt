@@ -1,4 +1,4 @@
-use Rattle.grid_base.proofs.Parts.{exchanged_by_reversals}
+use Rattle.grid_base.proofs.PartLemmas.{exchanged_by_reversals}
 use Rattle.grid_base.proofs.flat.blocks.exchange_by_reversals.Goals as goal
 
 pub returns : goal.returns

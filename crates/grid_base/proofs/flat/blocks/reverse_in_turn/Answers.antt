@@ -1,5 +1,5 @@
 use Rattle.std.proofs.Common.{arith}
-use Rattle.grid_base.proofs.Parts.{turning_none, turning_more, turning_all}
+use Rattle.grid_base.proofs.PartLemmas.{turning_none, turning_more, turning_all}
 use Rattle.grid_base.proofs.flat.blocks.reverse_in_turn.Goals as goal
 
 pub loop-i-init : goal.loop-i-init

@@ -1,4 +1,4 @@
-use Rattle.grid_base.proofs.Parts.{Turning}
+use Rattle.grid_base.proofs.PartLemmas.{Turning}
 use Rattle.grid_base.proofs.flat.blocks.reverse_in_turn.Given as goal
 
 abbrev pub invariant-loop-i : goal.invariant-loop-i

@@ -1,5 +1,5 @@
 use Rattle.std.proofs.Common.{arith}
-use Rattle.grid_base.proofs.Parts.{blocks_none, blocks_more}
+use Rattle.grid_base.proofs.PartLemmas.{blocks_none, blocks_more}
 use Rattle.grid_base.proofs.flat.blocks.swap_in_turn.Goals as goal
 
 pub loop-k-init : goal.loop-k-init

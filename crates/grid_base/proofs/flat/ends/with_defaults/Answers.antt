@@ -1,5 +1,5 @@
 use Rattle.std.proofs.Common.{refl, arith}
-use Rattle.grid_base.proofs.Ends.{fresh_none, fresh_more}
+use Rattle.grid_base.proofs.AppendLemmas.{fresh_none, fresh_more}
 use Rattle.grid_base.proofs.flat.ends.with_defaults.Goals as goal
 
 pub loop-init : goal.loop-init

@@ -1,13 +1,13 @@
 use Rattle.std.proofs.Common.{◌<◌, ◌++◌, length, flat_map, map, ◌∙◌, ap, arith, length-append}
-use Rattle.grid_base.specs.Table.{cols_of}
-use Rattle.grid_base.specs.Gather.{cells_of, last_of, before_last}
-use Rattle.grid_base.proofs.Gathering.{left_over, column_left, column_length, columns_given, columns_done, lines_done, none_left, rows-vecs}
+use Rattle.grid_base.specs.Table.{col_count}
+use Rattle.grid_base.specs.Gather.{items_of_each, last_of, before_last}
+use Rattle.grid_base.proofs.GatherLemmas.{left_over, column_left, column_length, columns_given, columns_done, lines_done, none_left, rows-vecs}
 use Rattle.grid_base.proofs.flat.gather.append_across.Goals as goal
 
 pub loop-preserved : goal.loop-preserved
 loop-preserved g c =
-    let t = cells_of c.args.lines.now in
-    let lt : c.loop.counter < cols_of t = omega (arith, c.requires.width) in
+    let t = items_of_each c.args.lines.now in
+    let lt : c.loop.counter < col_count t = omega (arith, c.requires.width) in
     let given = c.append_lasts.ensures.cells ∙ ap (λ u. c.loop.cells.items ++ flat_map last_of u) c.loop.invariant.lines in
     let len = ap length given ∙ length-append c.loop.cells.items (flat_map last_of (left_over c.loop.counter t)) in
     record {
@@ -19,8 +19,8 @@ loop-preserved g c =
 
 pub returns-clause-cells : goal.returns-clause-cells
 returns-clause-cells g c =
-    columns_done (cells_of c.args.lines.now) c.requires.table c.loop.counter _ _ (omega (arith, c.requires.width)) c.loop.invariant.cells
+    columns_done (items_of_each c.args.lines.now) c.requires.table c.loop.counter _ _ (omega (arith, c.requires.width)) c.loop.invariant.cells
 
 pub returns-clause-moved : goal.returns-clause-moved
 returns-clause-moved g c =
-    none_left _ _ (c.loop.invariant.lines ∙ lines_done (cells_of c.args.lines.now) c.requires.table c.loop.counter (omega (arith, c.requires.width)))
+    none_left _ _ (c.loop.invariant.lines ∙ lines_done (items_of_each c.args.lines.now) c.requires.table c.loop.counter (omega (arith, c.requires.width)))

@@ -1,5 +1,5 @@
 use Rattle.std.proofs.Common.{rules, ◌≡◌, ◌+◌, ◌*◌, ◌^◌, ◌<◌, length, ◌++◌, ◌-◌, ◌/◌, refl, arith, length-append}
-use Rattle.grid_base.proofs.Weaving.{woven_by_halves, exchanged_back, whole_of_halves}
+use Rattle.grid_base.proofs.WeaveLemmas.{woven_by_halves, exchanged_back, whole_of_halves}
 use Rattle.grid_base.proofs.flat.lines.+unweave_cells.Goals as goal
 
 pub unweave_cells-requires-2 : goal.unweave_cells-requires-2

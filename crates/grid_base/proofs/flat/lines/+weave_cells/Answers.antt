@@ -1,5 +1,5 @@
 use Rattle.std.proofs.Common.{rules, ◌≡◌, ◌+◌, ◌*◌, ◌^◌, ◌<◌, length, ◌-◌, ◌/◌, refl, arith}
-use Rattle.grid_base.proofs.Weaving.{woven_by_halves, whole_of_halves}
+use Rattle.grid_base.proofs.WeaveLemmas.{woven_by_halves, whole_of_halves}
 use Rattle.grid_base.proofs.flat.lines.+weave_cells.Goals as goal
 
 pub exchange_blocks-requires-clause-within : goal.exchange_blocks-requires-clause-within

@@ -1,7 +1,7 @@
 use Rattle.std.proofs.Common.{◌≡◌, ◌+◌, ◌*◌, ◌≤◌, refl, ap, arith, ⊎_elim}
 use Rattle.std.proofs.lemmas.Bool.{cases_eq}
 use Rattle.std.proofs.Math.Nat.{mul-le-mul_right}
-use Rattle.grid_base.proofs.Spreading.{closing_none, closing_run, closing_end, first_line}
+use Rattle.grid_base.proofs.SpreadLemmas.{closing_none, closing_run, closing_end, first_line}
 use Rattle.grid_base.proofs.flat.lines.close_at.Goals as goal
 
 pub loop-line-init : goal.loop-line-init

@@ -1,5 +1,5 @@
 use Rattle.std.proofs.Common.{refl, arith}
-use Rattle.grid_base.proofs.Blocks.{back_none, back_more}
+use Rattle.grid_base.proofs.BlockLemmas.{back_none, back_more}
 use Rattle.grid_base.proofs.flat.lines.move_back.Goals as goal
 
 pub loop-left-init : goal.loop-left-init

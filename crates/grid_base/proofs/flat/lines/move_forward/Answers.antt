@@ -1,5 +1,5 @@
 use Rattle.std.proofs.Common.{refl, arith}
-use Rattle.grid_base.proofs.Blocks.{forward_more}
+use Rattle.grid_base.proofs.BlockLemmas.{forward_more}
 use Rattle.grid_base.proofs.flat.lines.move_forward.Goals as goal
 
 pub loop-done-preserved : goal.loop-done-preserved

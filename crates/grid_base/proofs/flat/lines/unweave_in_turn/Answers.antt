@@ -1,7 +1,7 @@
 use Rattle.std.proofs.Common.{◌≡◌, ◌+◌, ◌*◌, ◌≤◌, refl, ap, arith}
 use Rattle.std.proofs.Math.Nat.{mul-le-mul_right}
-use Rattle.grid_base.proofs.Spreading.{first_line}
-use Rattle.grid_base.proofs.InTurn.{unweaving_none, unweaving_run, unweaving_end}
+use Rattle.grid_base.proofs.SpreadLemmas.{first_line}
+use Rattle.grid_base.proofs.InTurnLemmas.{unweaving_none, unweaving_run, unweaving_end}
 use Rattle.grid_base.proofs.flat.lines.unweave_in_turn.Goals as goal
 
 pub loop-line-init : goal.loop-line-init

@@ -1,7 +1,7 @@
 use Rattle.std.proofs.Common.{◌≡◌, ◌+◌, ◌-◌, ◌*◌, ◌<◌, ◌≤◌, refl, ap, arith}
 use Rattle.std.proofs.Math.Nat.{mul-le-mul_right}
-use Rattle.grid_base.proofs.Spreading.{times_less, first_line}
-use Rattle.grid_base.proofs.InTurn.{weaving_run, weaving_end}
+use Rattle.grid_base.proofs.SpreadLemmas.{times_less, first_line}
+use Rattle.grid_base.proofs.InTurnLemmas.{weaving_run, weaving_end}
 use Rattle.grid_base.proofs.flat.lines.weave_in_turn.Goals as goal
 
 pub loop-line-preserved : goal.loop-line-preserved

@@ -1,4 +1,4 @@
-use Rattle.grid_base.proofs.Places.{get-row_major, get-column_major}
+use Rattle.grid_base.proofs.PlaceLemmas.{get-row_major, get-column_major}
 use Rattle.grid_base.proofs.flat.places.cell_at.Goals as goal
 
 pub returns-in-RowMajor : goal.returns-in-RowMajor

@@ -1,6 +1,6 @@
 -- What stands before the first separator is the first word, unless it is empty.
 use Rattle.std.proofs.Common.{◌<◌, ◌∙◌, length, sym, arith, rules}
-use Rattle.grid_play.proofs.Words.{word_first, rest_is_shorter}
+use Rattle.grid_play.proofs.TokenLemmas.{word_first, rest_is_shorter}
 use Rattle.grid_play.proofs.tokens.WordsIterator.next.Goals as goal
 
 pub returns-then-not-is_empty-clause-steps : goal.returns-then-not-is_empty-clause-steps

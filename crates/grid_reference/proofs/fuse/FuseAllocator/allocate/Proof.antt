@@ -38,7 +38,7 @@ use denote.RawPtr.{block_ptr}
 use denote.Builtin.{usize, RefOf}
 use denote.Triple.Call.{calls_at}
 use Rattle.std.proofs.alloc.Calls.{Al, α, seen, Answer, answer_val, Answer-typed, Answer-Ok, Answer-err, takes_key, Takes, at_takes, Answered, Takes-goes, Takes-gives, answers}
-use Rattle.grid_reference.proofs.Spends.{Spend, at_spend, Spend-goes}
+use Rattle.grid_reference.proofs.SpendLemmas.{Spend, at_spend, Spend-goes}
 use Rattle.grid_reference.proofs.fuse.spend.Symbol as c_sym
 use Rattle.grid_reference.proofs.fuse.spend.Met as c_met
 use Rattle.grid_reference.specs.contracts.fuse.Fuse as wrapper

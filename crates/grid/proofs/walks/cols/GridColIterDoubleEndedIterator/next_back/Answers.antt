@@ -1,12 +1,12 @@
 use Rattle.std.proofs.Common.{sym, ◌∙◌, ap, length, arith, [], length-append}
-use Rattle.grid_base.proofs.Tables.{rows-tabulate}
-use Rattle.grid_base.proofs.Left.{left_next_back}
+use Rattle.grid_base.proofs.TableLemmas.{rows-tabulate}
+use Rattle.grid_base.proofs.RemainingLemmas.{remaining_next_back}
 use Rattle.grid.proofs.walks.cols.GridColIterDoubleEndedIterator.next_back.Goals as goal
 
 pub returns-clause-steps : goal.returns-clause-steps
 returns-clause-steps g c =
     let s = c.in_ok-c.ensures.steps in
-    sym c.self.view_is ∙ left_next_back _ _ _ _ _ _ _ _ [] c.self.invariant (sym (rows-tabulate _ _ _)) (omega (arith, s)) (omega (arith, s)) (omega (arith, s)) (omega (arith, s)) c.iter_col.ensures.rest
+    sym c.self.view_is ∙ remaining_next_back _ _ _ _ _ _ _ _ [] c.self.invariant (sym (rows-tabulate _ _ _)) (omega (arith, s)) (omega (arith, s)) (omega (arith, s)) (omega (arith, s)) c.iter_col.ensures.rest
 
 pub returns-clause-goes : goal.returns-clause-goes
 returns-clause-goes g c =

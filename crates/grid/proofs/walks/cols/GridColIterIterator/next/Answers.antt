@@ -1,12 +1,12 @@
 use Rattle.std.proofs.Common.{sym, ◌∙◌, ap, length, arith, []}
-use Rattle.grid_base.proofs.Tables.{rows-tabulate}
-use Rattle.grid_base.proofs.Left.{left_next}
+use Rattle.grid_base.proofs.TableLemmas.{rows-tabulate}
+use Rattle.grid_base.proofs.RemainingLemmas.{remaining_next}
 use Rattle.grid.proofs.walks.cols.GridColIterIterator.next.Goals as goal
 
 pub returns-clause-steps : goal.returns-clause-steps
 returns-clause-steps g c =
     let s = c.in_ok-c.ensures.steps in
-    sym c.self.view_is ∙ left_next _ _ _ _ _ _ _ _ [] c.self.invariant (sym (rows-tabulate _ _ _)) (omega (arith, s)) (omega (arith, s)) (omega (arith, s)) (omega (arith, s)) c.iter_col.ensures.rest
+    sym c.self.view_is ∙ remaining_next _ _ _ _ _ _ _ _ [] c.self.invariant (sym (rows-tabulate _ _ _)) (omega (arith, s)) (omega (arith, s)) (omega (arith, s)) (omega (arith, s)) c.iter_col.ensures.rest
 
 pub returns-clause-goes : goal.returns-clause-goes
 returns-clause-goes g c =

@@ -1,5 +1,5 @@
 use Rattle.std.proofs.Common.{sym, ◌∙◌, ap, length, arith}
-use Rattle.grid_base.proofs.Left.{length-left}
+use Rattle.grid_base.proofs.RemainingLemmas.{length-left}
 use Rattle.grid.proofs.walks.rows.GridRowIterExactSizeIterator.len.Goals as goal
 
 pub returns-clause-value : goal.returns-clause-value

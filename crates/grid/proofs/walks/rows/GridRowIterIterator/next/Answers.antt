@@ -1,11 +1,11 @@
 use Rattle.std.proofs.Common.{sym, ◌∙◌, ap, length, arith, refl, []}
-use Rattle.grid_base.proofs.Left.{left_next}
+use Rattle.grid_base.proofs.RemainingLemmas.{remaining_next}
 use Rattle.grid.proofs.walks.rows.GridRowIterIterator.next.Goals as goal
 
 pub returns-clause-steps : goal.returns-clause-steps
 returns-clause-steps g c =
     let s = c.in_ok-r.ensures.steps in
-    sym c.self.view_is ∙ left_next _ _ _ _ _ _ _ _ [] c.self.invariant refl (omega (arith, s)) (omega (arith, s)) (omega (arith, s)) (omega (arith, s)) c.iter_row.ensures.rest
+    sym c.self.view_is ∙ remaining_next _ _ _ _ _ _ _ _ [] c.self.invariant refl (omega (arith, s)) (omega (arith, s)) (omega (arith, s)) (omega (arith, s)) c.iter_row.ensures.rest
 
 pub returns-clause-goes : goal.returns-clause-goes
 returns-clause-goes g c =

@@ -1,5 +1,5 @@
 use Rattle.std.proofs.Common.{sym, ◌∙◌, ap, length}
-use Rattle.grid_base.proofs.Places.{length-left}
+use Rattle.grid_base.proofs.PlaceLemmas.{length-left}
 use Rattle.grid_base.proofs.flat.places.Places.len.Goals as goal
 
 pub returns : goal.returns

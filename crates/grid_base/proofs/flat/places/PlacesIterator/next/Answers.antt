@@ -1,6 +1,6 @@
 use Rattle.std.proofs.Common.{arith, ap, length, sym, ◌∙◌}
 use Rattle.grid_base.specs.Places.{places}
-use Rattle.grid_base.proofs.Places.{drop_from, none_left}
+use Rattle.grid_base.proofs.PlaceLemmas.{drop_from, none_left}
 use Rattle.grid_base.proofs.flat.places.PlacesIterator.next.Goals as goal
 
 pub returns-then-self-clause-steps : goal.returns-then-self-clause-steps

@@ -1,7 +1,7 @@
 use Rattle.std.proofs.Common.{List, ◌≡◌, ◌∷◌, ◌∙◌, ◌-◌, Some, drop, length, sym, ap, arith}
 use Rattle.std.specs.List.{slice_get}
 use Rattle.grid_base.specs.Strides.{every}
-use Rattle.grid_base.proofs.Strides.{line_step}
+use Rattle.grid_base.proofs.StrideLemmas.{line_step}
 use Rattle.grid_base.proofs.flat.strides.GridLineIterMutIterator.next.Goals as goal
 
 pub returns-clause-steps : goal.returns-clause-steps

@@ -1,6 +1,6 @@
 use Rattle.std.proofs.Common.{arith, ap, length, ◌≡◌, ◌∙◌, sym, ℕ, Some}
 use Rattle.grid_base.specs.GridLineIterMut.{line_mut_rest}
-use Rattle.grid_base.proofs.Strides.{length-strided}
+use Rattle.grid_base.proofs.StrideLemmas.{length-strided}
 use Rattle.grid_base.proofs.flat.strides.GridLineIterMutIterator.size_hint.Goals as goal
 
 pub returns-clause-lower : goal.returns-clause-lower

@@ -1,0 +1,61 @@
+-- What a pass over the cells of a grid makes of its table.
+use Rattle.std.proofs.Common.{◌≡◌, ℕ, ◌+◌, ◌-◌, ◌*◌, ◌<◌, List, length, sym, ◌∙◌, ap, arith}
+use Rattle.std.specs.List.{slice_get}
+use Rattle.grid_base.specs.declared.flat.order.Order.{Order}
+use Rattle.grid_base.specs.declared.flat.order.Order.TheVariants.{RowMajor, ColumnMajor}
+use Rattle.grid_base.specs.declared.words.Symmetry.TheVariants.{FlipRows, FlipCols, RotateHalf}
+use Rattle.grid_base.specs.Table.{row_count, col_count, IsTable}
+use Rattle.grid_base.specs.Order.{table_of, place}
+use Rattle.grid_base.specs.GridValue.{HoldsSize}
+use Rattle.grid_base.specs.Symmetry.{act}
+use Rattle.grid_base.proofs.ViewLemmas.{view-act}
+use Rattle.grid_base.proofs.ActLemmas.{rows-act, cols-act}
+use Rattle.grid_base.proofs.GroupLemmas.{product, act-act}
+use Rattle.grid_base.specs.declared.words.Symmetry.{Symmetry}
+use Rattle.grid_base.specs.declared.words.Symmetry.TheVariants.{Transpose}
+use Rattle.grid_base.proofs.StorageLemmas.{place_within}
+use Rattle.grid_base.specs.Blocks.{PartReversed}
+use Rattle.grid.specs.Passes.{LinesReversed, EachLineReversed}
+
+module _ {T : Type 0} (m n : ℕ) (old new : List T) (h : HoldsSize m n (length old)) where
+  pub flip_rows_by_lines : LinesReversed m n old new → table_of RowMajor m n new ≡ act FlipRows (table_of RowMajor m n old)
+  flip_rows_by_lines e = view-act RowMajor m n old h FlipRows RowMajor new (λ i j p q. e.moved i j p q)
+
+  pub flip_rows_by_each : EachLineReversed n m old new → table_of ColumnMajor m n new ≡ act FlipRows (table_of ColumnMajor m n old)
+  flip_rows_by_each e = view-act ColumnMajor m n old h FlipRows ColumnMajor new (λ i j p q. e.moved j i q p)
+
+  pub flip_cols_by_lines : LinesReversed n m old new → table_of ColumnMajor m n new ≡ act FlipCols (table_of ColumnMajor m n old)
+  flip_cols_by_lines e = view-act ColumnMajor m n old h FlipCols ColumnMajor new (λ i j p q. e.moved j i q p)
+
+  pub flip_cols_by_each : EachLineReversed m n old new → table_of RowMajor m n new ≡ act FlipCols (table_of RowMajor m n old)
+  flip_cols_by_each e = view-act RowMajor m n old h FlipCols RowMajor new (λ i j p q. e.moved i j p q)
+
+-- the place of the cell that stands opposite
+opposite : (p q i j : ℕ) → i < p → j < q → p * q - 1 - (i * q + j) ≡ (p - 1 - i) * q + (q - 1 - j)
+opposite p q i j a b =
+    let whole : (p - 1 - i) + (i + 1) ≡ p = omega arith in
+    let rest : (q - 1 - j) + (j + 1) ≡ q = omega arith in
+    let all : ((p - 1 - i) + (i + 1)) * q ≡ p * q = ap (λ x. x * q) whole in
+    omega arith
+
+opposite_place : (o : Order) (m n i j : ℕ) → i < m → j < n → m * n - 1 - place o m n i j ≡ place o m n (m - 1 - i) (n - 1 - j)
+opposite_place RowMajor m n i j a b = opposite m n i j a b
+opposite_place ColumnMajor m n i j a b = let e = opposite n m j i b a in omega arith
+
+pub rotate_half_by_part : {T : Type 0} (o : Order) (m n : ℕ) (old new : List T) → HoldsSize m n (length old) → PartReversed 0 (m * n) old new → table_of o m n new ≡ act RotateHalf (table_of o m n old)
+rotate_half_by_part o m n old new h e =
+    view-act o m n old h RotateHalf o new
+    (λ i j p q.
+    let from : 0 + place o m n i j ≡ place o m n i j = omega arith in
+    let to : 0 + (m * n - 1 - place o m n i j) ≡ place o m n (m - 1 - i) (n - 1 - j) = omega (arith, opposite_place o m n i j p q) in
+    sym (ap (slice_get new) from) ∙ (e.moved (place o m n i j) (place_within o m n i j p q) ∙ ap (slice_get old) to))
+
+-- a transpose and then u
+pub after_transpose : {T : Type 0} (u : Symmetry) (old mid new : List (List T)) → IsTable old → mid ≡ act Transpose old → new ≡ act u mid → new ≡ act (product Transpose u) old
+after_transpose u old mid new t a b = b ∙ (ap (act u) a ∙ act-act Transpose u old t)
+
+pub turned_rows : {T : Type 0} (old mid : List (List T)) → IsTable old → mid ≡ act Transpose old → row_count mid ≡ col_count old
+turned_rows old mid t a = ap row_count a ∙ rows-act Transpose old
+
+pub turned_cols : {T : Type 0} (old mid : List (List T)) → IsTable old → mid ≡ act Transpose old → col_count mid ≡ row_count old
+turned_cols old mid t a = ap col_count a ∙ cols-act Transpose old t

@@ -1,0 +1,41 @@
+-- What a grid's fields say of the value that a contract sees.
+use Rattle.std.proofs.Common.{◌≡◌, ◌<◌, ◌*◌, ◌^◌, ℕ, List, [], ◌∷◌, length, refl, sym, ◌∙◌, ap, arith, ◌↔◌, IsTrue, nat_eq}
+use borrow.Author.Tests.{eqb-true, eq-eqb}
+use Rattle.grid_base.specs.declared.flat.order.Order.{Order}
+use Rattle.grid_base.specs.Table.{row_count, col_count, IsTable, InRange}
+use Rattle.grid_base.specs.Order.{table_of, storage}
+use Rattle.grid_base.specs.GridValue.{GridValue, HoldsSize}
+use Rattle.grid_base.proofs.ViewLemmas.{view-rows, view-cols, view-table, view-storage}
+
+no_rows : {X : Type 0} (xs : List X) → length xs ≡ 0 → xs ≡ []
+no_rows [] e = refl
+no_rows (x ∷ xs) e = absurd (omega arith)
+
+module _ {T : Type 0} (o : Order) (m n : ℕ) (cells : List T) (s : GridValue T) (h : HoldsSize m n (length cells)) where
+  pub seen_rows : (let v : GridValue T = record { rows = table_of o m n cells; order = o } in v) ≡ s → row_count s.rows ≡ m
+  seen_rows e = sym (ap (λ x. row_count x.rows) e) ∙ view-rows o m n cells h
+
+  pub seen_cols : (let v : GridValue T = record { rows = table_of o m n cells; order = o } in v) ≡ s → col_count s.rows ≡ n
+  seen_cols e = sym (ap (λ x. col_count x.rows) e) ∙ view-cols o m n cells h
+
+  pub seen_table : (let v : GridValue T = record { rows = table_of o m n cells; order = o } in v) ≡ s → IsTable s.rows
+  seen_table e = rw (← e) (view-table o m n cells h)
+
+  pub seen_storage : (let v : GridValue T = record { rows = table_of o m n cells; order = o } in v) ≡ s → storage s.order s.rows ≡ cells
+  seen_storage e = rw (← e) (view-storage o m n cells h)
+
+  pub seen_below : (let v : GridValue T = record { rows = table_of o m n cells; order = o } in v) ≡ s → row_count s.rows * col_count s.rows < 2 ^ 64
+  seen_below e = rw (seen_rows e, seen_cols e) h.below
+
+  pub seen_empty : (let v : GridValue T = record { rows = table_of o m n cells; order = o } in v) ≡ s → IsTrue (nat_eq m 0) ↔ (s.rows ≡ [])
+  seen_empty e = (
+    λ none. no_rows s.rows (omega (arith, seen_rows e, eqb-true m 0 none)),
+    λ none. eq-eqb m 0 (sym (seen_rows e) ∙ ap length none),
+  )
+
+  -- a place in range of the value is in range of the fields
+  pub seen_row_in : (r c : ℕ) → (let v : GridValue T = record { rows = table_of o m n cells; order = o } in v) ≡ s → InRange s.rows r c → r < m
+  seen_row_in r c e p = rw (seen_rows e) at p.0
+
+  pub seen_col_in : (r c : ℕ) → (let v : GridValue T = record { rows = table_of o m n cells; order = o } in v) ≡ s → InRange s.rows r c → c < n
+  seen_col_in r c e p = rw (seen_cols e) at p.1

@@ -1,0 +1,224 @@
+-- What padding starts from and leaves, by a grid's fields, and as columns between two transposes.
+use Rattle.std.proofs.Common.{◌≡◌, ◌<◌, ◌≤◌, ◌+◌, ◌*◌, ◌^◌, ◌⊎◌, ◌∷◌, [], ℕ, List, take, drop, length, refl, sym, ◌∙◌, ap, arith, ⊎_elim, subst, inr, length-append}
+use Rattle.std.specs.List.{All}
+use Rattle.std.proofs.lemmas.List.{nil_from_length, take_at, drop_at, ext_get_or, length-replicate}
+use Rattle.std.proofs.lemmas.List.Elements.{All-nil, All-get_or}
+use Rattle.std.proofs.lemmas.Bool.{cases_eq}
+use Rattle.grid_base.specs.declared.flat.order.Order.{Order}
+use Rattle.grid_base.specs.declared.words.Symmetry.TheVariants.{Transpose}
+use Rattle.grid_base.specs.Table.{row, row_count, col_count, IsTable}
+use Rattle.grid_base.specs.Order.{table_of, flipped}
+use Rattle.grid_base.specs.GridValue.{GridValue, HoldsSize}
+use Rattle.grid_base.specs.Groups.{Opened}
+use Rattle.grid_base.specs.Append.{AppendsEach}
+use Rattle.grid_base.specs.Symmetry.{act}
+use Rattle.grid.specs.Edits.{PadsRows, PadsCols, padding_count, insert_rows, insert_cols, expanded_rows, prepended_rows, expanded_cols, prepended_cols}
+use Rattle.grid.specs.RowGroups.{RowsOpened}
+use Rattle.grid.proofs.SeenLemmas.{seen_rows, seen_cols}
+use Rattle.grid.proofs.RowEditLemmas.{RowGroups}
+use Rattle.grid.proofs.PaddingLemmas.{Padded, view-open_rows, All-all_fresh, replicate_from_all, All-from_gets, holds_at}
+use Rattle.grid.proofs.EditSizeLemmas.{HoldsSize-filled, factor_small, IsTable-width, put-no_lines, copies, row-copies, HasWidth-copies, expanded-put, prepended-put}
+use Rattle.grid.proofs.ColEditLemmas.{rows-across, cols-across, across-none, ColumnsFit, insert_cols-across, expanded_cols-across, prepended_cols-across}
+
+-- groups that are opened are rows
+pub rows_open : {T : Type 0} (o : Order) (m n i k p q a g : ℕ) (old new : List T) → RowGroups o m n i k p q a g → m * n ≤ length old → i ≤ m → Opened p q a g old new → RowsOpened o m n i k old new
+rows_open o m n i k p q a g old new groups len le h =
+    let v : Padded o m n i k old new = view-open_rows o m n i k p q a g old new groups len le h in
+    record { lengths = h.lengths; fresh = v.fresh; rows = v.rows; widths = v.widths; from = v.from; put = v.put }
+
+module _ {T : Type 0} where
+  pub padding_some : (k : ℕ) (t : List (List T)) → 0 < row_count t → padding_count k t ≡ k
+  padding_some k [] some = absurd (omega arith)
+  padding_some k (r ∷ t) some = refl
+
+  pub padding_none : (k : ℕ) (t : List (List T)) → (k ≡ 0) ⊎ (row_count t ≡ 0) → padding_count k t ≡ 0
+  padding_none k [] none = refl
+  padding_none k (r ∷ t) none = ⊎_elim {C = k ≡ 0} (λ e. e) (λ e. absurd (omega arith)) none
+
+  -- padding by no rows
+  pub pads_none : (P : T → Type 0) (i k : ℕ) (t : List (List T)) → k ≡ 0 → PadsRows P i k t t
+  pads_none P i k t none =
+      record {
+        fresh = [];
+        number = sym none;
+        widths = λ j lt. absurd (omega arith);
+        each = All-nil (All P);
+        put = sym (put-no_lines i [] t refl);
+      }
+
+  -- the fresh rows where there is one default
+  fresh_copies : (P : T → Type 0) (n : ℕ) (d : T) (fresh : List (List T)) → ((x : T) → P x → x ≡ d) → ((j : ℕ) → j < row_count fresh → length (row fresh j) ≡ n) → All (All P) fresh → fresh ≡ copies (row_count fresh) n d
+  fresh_copies P n d fresh one wide all =
+      ext_get_or [] fresh (copies (row_count fresh) n d) (sym (length-replicate (row_count fresh) _))
+      (λ j lt.
+      let each : All P (row fresh j) = All-get_or (All P) fresh j [] lt all in
+      let same : All (λ x. x ≡ d) (row fresh j) = All-from_gets (λ x. x ≡ d) (row fresh j) (λ c x lc e. one x (holds_at P (row fresh j) c x each lc e)) in
+      replicate_from_all d (row fresh j) n same (wide j lt) ∙ sym (row-copies (row_count fresh) n d j lt))
+
+  pads_copies : (P : T → Type 0) (i k : ℕ) (d : T) (t new : List (List T)) → ((x : T) → P x → x ≡ d) → PadsRows P i k t new → new ≡ insert_rows i (copies k (col_count t) d) t
+  pads_copies P i k d t new one p =
+      p.put
+      ∙ (ap (λ v. insert_rows i v t) (fresh_copies P (col_count t) d p.fresh one p.widths p.each)
+      ∙ ap (λ x. insert_rows i (copies x (col_count t) d) t) p.number)
+
+  -- rows of the one default
+  pub pads_expanded : (P : T → Type 0) (k : ℕ) (d : T) (t new : List (List T)) → PadsRows P (row_count t) (padding_count k t) t new → ((x : T) → P x → x ≡ d) → new ≡ expanded_rows k d t
+  pads_expanded P k d [] new p one = pads_copies P 0 0 d [] new one p
+  pads_expanded P k d (r ∷ t) new p one = pads_copies P (row_count (r ∷ t)) k d (r ∷ t) new one p ∙ sym (expanded-put k d (r ∷ t) (omega arith))
+
+  pub pads_prepended : (P : T → Type 0) (k : ℕ) (d : T) (t new : List (List T)) → PadsRows P 0 (padding_count k t) t new → ((x : T) → P x → x ≡ d) → new ≡ prepended_rows k d t
+  pads_prepended P k d [] new p one = pads_copies P 0 0 d [] new one p
+  pads_prepended P k d (r ∷ t) new p one = pads_copies P 0 k d (r ∷ t) new one p ∙ sym (prepended-put k d (r ∷ t) (omega arith))
+
+-- padding some rows of a grid
+module _ {T : Type 0} (o : Order) (m n : ℕ) (cells : List T) (s : GridValue T) (h : HoldsSize m n (length cells)) (e : (let v : GridValue T = record { rows = table_of o m n cells; order = o } in v) ≡ s) (k a b : ℕ) (rows : a ≡ row_count s.rows) (cols : b ≡ col_count s.rows) (some : a ≡ 0 → ⊥) (room : (a + k) * b < 2 ^ 64) where
+  as_rows : a ≡ m
+  as_rows = rows ∙ seen_rows o m n cells s h e
+
+  as_cols : b ≡ n
+  as_cols = cols ∙ seen_cols o m n cells s h e
+
+  total : (a + k) * b ≡ (m + k) * n
+  total = ap (λ x. (x + k) * b) as_rows ∙ ap (λ x. (m + k) * x) as_cols
+
+  some_rows : 0 < m
+  some_rows = omega (arith, as_rows, some)
+
+  some_cols : 0 < n
+  some_cols = h.size.has_cols some_rows
+
+  pub pad_cols : 0 < b
+  pad_cols = omega (arith, as_cols, some_cols)
+
+  pub pad_rows_small : m + k < 2 ^ 64
+  pad_rows_small = factor_small (m + k) n some_cols (omega (arith, total, room))
+
+  pub pad_shift : (F : Order → ℕ → ℕ → ℕ → ℕ) → F s.order (row_count s.rows) (col_count s.rows) k ≡ F o a b k
+  pad_shift F =
+      ap (λ x. F s.order x (col_count s.rows) k) (sym rows)
+      ∙ (ap (λ x. F s.order a x k) (sym cols) ∙ ap (λ x. F x.order a b k) (sym e))
+
+  module _ (P : T → Type 0) (grown : List T) (f : AppendsEach P (k * b) cells grown) where
+    pub pad_cells : length grown ≡ (a + k) * b
+    pad_cells =
+        let size : a * b ≡ m * n = ap (λ x. x * b) as_rows ∙ ap (λ x. m * x) as_cols in
+        ap length f.concat_rows ∙ (length-append cells f.fresh ∙ omega (arith, h.cells, f.number, size))
+
+    front : take (m * n) grown ≡ cells
+    front = ap (take (m * n)) f.concat_rows ∙ take_at cells f.fresh (m * n) h.cells
+
+    back : All P (drop (m * n) grown)
+    back = subst (All P) (sym (ap (drop (m * n)) f.concat_rows ∙ drop_at cells f.fresh (m * n) h.cells)) f.each
+
+    module _ (i : ℕ) (new : List T) (opened : RowsOpened o a b i k grown new) where
+      abbrev p : RowsOpened o m n i k grown new
+      p = subst (λ x. RowsOpened o x n i k grown new) as_rows (subst (λ x. RowsOpened o a x i k grown new) as_cols opened)
+
+      abbrev padded : Padded o m n i k grown new
+      padded = record { fresh = p.fresh; rows = p.rows; widths = p.widths; from = p.from; put = p.put }
+
+      pub pads_rows : PadsRows P i (padding_count k s.rows) s.rows (table_of o (m + k) n new)
+      pads_rows =
+          record {
+            fresh = p.fresh;
+            number = p.rows ∙ sym (padding_some k s.rows (omega (arith, rows, some)));
+            widths = λ r lt. p.widths r lt ∙ sym (seen_cols o m n cells s h e);
+            each = All-all_fresh o m n i k grown new padded P back;
+            put =
+                p.put ∙ (ap (λ v. insert_rows i p.fresh (table_of o m n v)) front ∙ ap (λ v. insert_rows i p.fresh v.rows) e);
+          }
+
+      pub pad_fits : HoldsSize (m + k) n (length new)
+      pad_fits =
+          let len : length new ≡ (m + k) * n = p.lengths ∙ (pad_cells ∙ total) in
+          HoldsSize-filled (m + k) n (length new) (omega (arith, some_rows)) some_cols len (omega (arith, len, total, room))
+
+-- rows of padding between two transposes are columns
+module _ {T : Type 0} (t : List (List T)) (h : IsTable t) where
+  pub padding_count-across : (k : ℕ) → padding_count k (act Transpose t) ≡ padding_count k t
+  padding_count-across k =
+      ⊎_elim
+      (λ none. let e : t ≡ [] = nil_from_length t none in ap (λ v. padding_count k (act Transpose v)) e ∙ (ap (padding_count k) across-none ∙ ap (padding_count k) (sym e)))
+      (λ more.
+      let some : 0 < row_count t = omega arith in
+      let wide : 0 < col_count t = h.nonempty 0 some in
+      padding_some k (act Transpose t) (omega (arith, rows-across t h, wide)) ∙ sym (padding_some k t some))
+      (cases_eq (row_count t) 0)
+
+  pub pads_cols : (P : T → Type 0) (i k : ℕ) (mid late new : List (List T)) → mid ≡ act Transpose t → new ≡ act Transpose late → i ≤ col_count t → PadsRows P i (padding_count k mid) mid late → PadsCols P i (padding_count k t) t new
+  pads_cols P i k mid late new there back le p =
+      let number : row_count p.fresh ≡ padding_count k t = p.number ∙ (ap (padding_count k) there ∙ padding_count-across k) in
+      let heights : (r : ℕ) → r < row_count p.fresh → length (row p.fresh r) ≡ row_count t = λ r lt. p.widths r lt ∙ (ap col_count there ∙ cols-across t h) in
+      let table : IsTable p.fresh =
+      ⊎_elim
+      (λ none.
+      let empty : padding_count k t ≡ 0 = padding_none k t (inr none) in
+      record {
+        nonempty = λ r lt. absurd (omega (arith, number, empty, lt));
+        even = λ r lt. absurd (omega (arith, number, empty, lt));
+      })
+      (λ more. IsTable-width p.fresh (row_count t) (omega arith) heights)
+      (cases_eq (row_count t) 0) in
+      let fit : ColumnsFit i p.fresh t = record { in_cols = le; old = h; new = table; height = λ _ lt. heights 0 lt } in
+      record {
+        fresh = p.fresh;
+        number = number;
+        heights = heights;
+        each = p.each;
+        put =
+            back ∙ (ap (act Transpose) (p.put ∙ ap (insert_rows i p.fresh) there) ∙ sym (insert_cols-across i p.fresh t fit));
+      }
+
+  -- columns of copies are rows of the turned table
+  pads_copied : (P : T → Type 0) (i k : ℕ) (d : T) (new : List (List T)) → 0 < row_count t → i ≤ col_count t → ((x : T) → P x → x ≡ d) → PadsCols P i k t new → new ≡ act Transpose (insert_rows i (copies k (col_count (act Transpose t)) d) (act Transpose t))
+  pads_copied P i k d new some le one p =
+      let lines = copies k (row_count t) d in
+      let fit : ColumnsFit i lines t =
+      record {
+        in_cols = le;
+        old = h;
+        new = IsTable-width lines (row_count t) some (HasWidth-copies k (row_count t) d);
+        height = λ _ lt. HasWidth-copies k (row_count t) d 0 lt;
+      } in
+      p.put
+      ∙ (ap (λ v. insert_cols i v t) (fresh_copies P (row_count t) d p.fresh one p.heights p.each ∙ ap (λ x. copies x (row_count t) d) p.number)
+      ∙ (insert_cols-across i lines t fit ∙ ap (λ x. act Transpose (insert_rows i (copies k x d) (act Transpose t))) (sym (cols-across t h))))
+
+  -- where no columns are added, no rows are added to the turned table
+  pub none_added : (k : ℕ) (mid : List (List T)) → mid ≡ act Transpose t → padding_count k t ≡ 0 → padding_count k mid ≡ 0
+  none_added k mid there none = ap (padding_count k) there ∙ (padding_count-across k ∙ none)
+
+  -- the size and the shift are those of the turned table
+  pub size_across : (k : ℕ) (mid : List (List T)) → mid ≡ act Transpose t → (row_count mid + padding_count k mid) * col_count mid ≡ (col_count t + padding_count k t) * row_count t
+  size_across k mid there =
+      ap (λ v. (row_count v + padding_count k v) * col_count v) there
+      ∙ (ap (λ x. (x + padding_count k (act Transpose t)) * col_count (act Transpose t)) (rows-across t h)
+      ∙ (ap (λ x. (col_count t + x) * col_count (act Transpose t)) (padding_count-across k) ∙ ap (λ x. (col_count t + padding_count k t) * x) (cols-across t h)))
+
+-- columns of the one default, at the end and at the beginning
+module _ {T : Type 0} where
+  pub cols_expanded : (P : T → Type 0) (k : ℕ) (d : T) (t new : List (List T)) → IsTable t → PadsCols P (col_count t) (padding_count k t) t new → ((x : T) → P x → x ≡ d) → new ≡ expanded_cols k d t
+  cols_expanded P k d [] new h p one = p.put ∙ ap (λ v. insert_cols 0 v []) (nil_from_length p.fresh p.number)
+  cols_expanded P k d (r ∷ t) new h p one =
+      let u = r ∷ t in
+      let v = act Transpose u in
+      let some : 0 < row_count v = omega (arith, rows-across u h, h.nonempty 0 (omega arith)) in
+      pads_copied u h P (col_count u) k d new (omega arith) (omega arith) one p
+      ∙ (ap (act Transpose) (ap (λ x. insert_rows x (copies k (col_count v) d) v) (sym (rows-across u h)) ∙ sym (expanded-put k d v some))
+      ∙ sym (expanded_cols-across k d u h))
+
+  pub cols_prepended : (P : T → Type 0) (k : ℕ) (d : T) (t new : List (List T)) → IsTable t → PadsCols P 0 (padding_count k t) t new → ((x : T) → P x → x ≡ d) → new ≡ prepended_cols k d t
+  cols_prepended P k d [] new h p one = p.put ∙ ap (λ v. insert_cols 0 v []) (nil_from_length p.fresh p.number)
+  cols_prepended P k d (r ∷ t) new h p one =
+      let u = r ∷ t in
+      let v = act Transpose u in
+      let some : 0 < row_count v = omega (arith, rows-across u h, h.nonempty 0 (omega arith)) in
+      pads_copied u h P 0 k d new (omega arith) (omega arith) one p
+      ∙ (ap (act Transpose) (sym (prepended-put k d v some)) ∙ sym (prepended_cols-across k d u h))
+
+pub shift_across : {T : Type 0} (F : Order → ℕ → ℕ → ℕ → ℕ) (k : ℕ) (old mid : GridValue T) → IsTable old.rows → mid.rows ≡ act Transpose old.rows → mid.order ≡ flipped old.order → F mid.order (row_count mid.rows) (col_count mid.rows) k ≡ F (flipped old.order) (col_count old.rows) (row_count old.rows) k
+shift_across F k old mid h rows order =
+    ap (λ x. F x (row_count mid.rows) (col_count mid.rows) k) order
+    ∙ (ap (λ v. F (flipped old.order) (row_count v) (col_count v) k) rows
+    ∙ (ap (λ x. F (flipped old.order) x (col_count (act Transpose old.rows)) k) (rows-across old.rows h)
+    ∙ ap (λ x. F (flipped old.order) (col_count old.rows) x k) (cols-across old.rows h)))

@@ -1,0 +1,77 @@
+-- What walks over a grid's fields say of the value that a contract sees.
+use Rattle.std.proofs.Common.{◌≡◌, ℕ, ◌<◌, List, ◌++◌, length, take, drop, zip, refl, sym, ◌∙◌, ap, arith}
+use Rattle.std.specs.List.{refill, length_refill}
+use Rattle.grid_base.specs.declared.flat.order.Order.{Order}
+use Rattle.grid_base.specs.Table.{row_count, col_count}
+use Rattle.grid_base.specs.Order.{place}
+use Rattle.grid_base.specs.Places.{places}
+use Rattle.grid_base.specs.GridValue.{GridValue, HoldsSize}
+use Rattle.grid_base.specs.FlatLends.{written_from}
+use Rattle.grid.specs.declared.walks.span.Span.{Span}
+use Rattle.grid.specs.Span.{IsSpan}
+use Rattle.grid.specs.Walks.{stored, with_cells, refilled, refilled_from, IsSameSize, KeepsSize, KeepsSizeFrom}
+use Rattle.grid.proofs.CellWriteLemmas.{grid_value}
+use Rattle.grid.proofs.SeenLemmas.{seen_rows, seen_cols, seen_table, seen_storage}
+
+module _ {T : Type 0} (o : Order) (m n : ℕ) (cells : List T) (v : GridValue T) (h : HoldsSize m n (length cells)) (e : grid_value o m n cells ≡ v) where
+  order_is : v.order ≡ o
+  order_is = sym (ap (λ x. x.order) e)
+
+  rows_are : row_count v.rows ≡ m
+  rows_are = seen_rows o m n cells v h e
+
+  cols_are : col_count v.rows ≡ n
+  cols_are = seen_cols o m n cells v h e
+
+  cells_are : stored v ≡ cells
+  cells_are = seen_storage o m n cells v h e
+
+  -- the cells with their places
+  pub seen_indexed : zip (places o m n) cells ≡ zip (places v.order (row_count v.rows) (col_count v.rows)) (stored v)
+  seen_indexed = sym (
+      ap (λ x. zip (places x (row_count v.rows) (col_count v.rows)) (stored v)) order_is
+      ∙ (ap (λ x. zip (places o x (col_count v.rows)) (stored v)) rows_are
+      ∙ (ap (λ x. zip (places o m x) (stored v)) cols_are ∙ ap (zip (places o m n)) cells_are))
+      )
+
+  -- the grid with other cells
+  pub seen_with : (xs ys : List T) → xs ≡ ys → grid_value o m n xs ≡ with_cells v ys
+  seen_with xs ys same =
+      ap (grid_value o m n) same
+      ∙ sym (ap (λ x. grid_value x (row_count v.rows) (col_count v.rows) ys) order_is
+      ∙ (ap (λ x. grid_value o x (col_count v.rows) ys) rows_are ∙ ap (λ x. grid_value o m x ys) cols_are))
+
+  pub seen_refilled : (ws : List T) → grid_value o m n (refill (length cells) cells ws) ≡ refilled v ws
+  seen_refilled ws = seen_with _ _ (ap (λ c. refill (length c) c ws) (sym cells_are))
+
+  place_is : (r c : ℕ) → place v.order (row_count v.rows) (col_count v.rows) r c ≡ place o m n r c
+  place_is r c =
+      ap (λ x. place x (row_count v.rows) (col_count v.rows) r c) order_is
+      ∙ (ap (λ x. place o x (col_count v.rows) r c) rows_are ∙ ap (λ x. place o m x r c) cols_are)
+
+  pub seen_written : (start r c : ℕ) (ws : List T) → start ≡ place o m n r c → grid_value o m n (written_from start cells ws) ≡ refilled_from v r c ws
+  seen_written start r c ws s =
+      seen_with _ _ (ap (λ x. written_from x cells ws) (s ∙ sym (place_is r c)) ∙ ap (λ x. written_from (place v.order (row_count v.rows) (col_count v.rows) r c) x ws) (sym cells_are))
+
+  -- the size stays where as many cells are written
+  fits_of : (news : List T) → length news ≡ length cells → HoldsSize m n (length news)
+  fits_of news same = rw same h
+
+  size_kept : (news : List T) (u : GridValue T) → length news ≡ length cells → grid_value o m n news ≡ u → IsSameSize v u.rows
+  size_kept news u same f =
+      let fits = fits_of news same in
+      (seen_rows o m n news u fits f ∙ sym rows_are, seen_cols o m n news u fits f ∙ sym cols_are, seen_table o m n news u fits f)
+
+  pub seen_keeps : KeepsSize v
+  seen_keeps ws = size_kept (refill (length cells) cells ws) (refilled v ws) (sym (length_refill (length cells) cells ws refl)) (seen_refilled ws)
+
+  pub seen_keeps_from : (r c : ℕ) → KeepsSizeFrom v r c
+  seen_keeps_from r c ws =
+      let start = place o m n r c in
+      size_kept (written_from start cells ws) (refilled_from v r c ws)
+      (sym (length_refill (length cells) cells (take start cells ++ (ws ++ drop (length ws) (drop start cells))) refl))
+      (seen_written start r c ws refl)
+
+-- the first place of a line
+pub first_place : (n : ℕ) (at : ℕ → ℕ) (len : ℕ) (s : Span) → IsSpan n at len s → 0 < n → s.start ≡ at 0
+first_place n at len s h some = let first = h.places 0 some in omega (arith, first)

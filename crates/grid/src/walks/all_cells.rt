@@ -1,0 +1,111 @@
+//! Calls on all cells of a grid.
+ghost use Rattle.std.specs.Prelude.{◌≡◌, [], length, IsOk, IfOk, IfErr, OnOk, OnErr};
+ghost use Rattle.std.specs.Fn.{FnReturnsAt};
+ghost use Rattle.grid_base.specs.Table.{row_count, col_count, IsTable};
+ghost use Rattle.grid_base.specs.Order.{storage};
+ghost use Rattle.grid_base.specs.ClosureCalls.{MapsTo, CallableAtEach, CallableAtRefs, CallableTimes, Generates, PairsUp};
+ghost use Rattle.grid_base.specs.Clones.{ClonesAreEqual};
+ghost use Rattle.grid.specs.AllCells.{filled};
+
+use crate::Grid;
+use std::alloc::{AllocError, Allocator};
+
+impl<T, A: Allocator> Grid<T, A> {
+    /// Makes every cell the value. The size and the order stay.
+    ///
+    /// All clones are made before the first change, in a vector of their own, so a refusal changes nothing; it drops
+    /// the value. On an empty grid no memory is taken.
+    pub fn fill(&mut self, value: T) -> Result<(), AllocError>
+    where
+        T: Clone,
+        A: Clone,
+        requires clones { ClonesAreEqual T.is_clone }
+        ensures ok { OnOk result (self.new.rows ≡ filled value self.old.rows) }
+        ensures order { self.new.order ≡ self.old.order }
+        ensures err { OnErr result (self.new ≡ self.old) }
+        ensures empty { self.old.rows ≡ [] → IsOk result }
+    {
+        self.flat.fill(value)
+    }
+
+    /// Fills the cells by the closure's answers, one call a cell in storage order. The size and the order stay.
+    ///
+    /// The closure can be called once for each cell in turn. Takes no memory.
+    pub fn fill_with<F: FnMut() -> T>(&mut self, f: F)
+    where
+        T: Drop,
+        requires { CallableTimes F.pre
+            (λ p x q. F.step p x q) f (length (storage self.old.order self.old.rows)) }
+        ensures order { self.new.order ≡ self.old.order }
+        ensures rows { row_count self.new.rows ≡ row_count self.old.rows }
+        ensures cols { col_count self.new.rows ≡ col_count self.old.rows }
+        ensures table { IsTable self.new.rows }
+        ensures cells { Generates (λ p x q. F.step p x q) f (storage self.new.order self.new.rows) }
+    {
+        self.flat.fill_with(f);
+    }
+
+    /// The grid of the closure's answers, one call a cell in storage order, of the same size and order.
+    ///
+    /// The closure can be called at each cell. Where memory is refused this grid comes back, and the closure wasn't
+    /// called.
+    pub fn map<U, F: FnMut(T) -> U>(self, f: F) -> Result<Grid<U, A>, Grid<T, A>>
+    where
+        T: Drop,
+        A: Clone,
+        requires { CallableAtEach F.pre
+            (λ p x y q. F.step p x y q) f (storage self.order self.rows) }
+        ensures order { IfOk result (λ g. g.order ≡ self.order) }
+        ensures rows { IfOk result (λ g. row_count g.rows ≡ row_count self.rows) }
+        ensures cols { IfOk result (λ g. col_count g.rows ≡ col_count self.rows) }
+        ensures table { IfOk result (λ g. IsTable g.rows) }
+        ensures cells { IfOk result (λ g. MapsTo
+            (λ p x y q. F.step p x y q) f (storage self.order self.rows) (storage g.order g.rows)) }
+        ensures refused { IfErr result (λ g. g ≡ self) }
+    {
+        let Grid {
+            flat,
+            row_count,
+            col_count,
+            order,
+        } = self;
+        match flat.map(f) {
+            Ok(flat) => Ok(Grid {
+                flat,
+                row_count,
+                col_count,
+                order,
+            }),
+            Err(flat) => Err(Grid {
+                flat,
+                row_count,
+                col_count,
+                order,
+            }),
+        }
+    }
+
+    /// The grid of the closure's answers at references to the cells, in storage order, of the same size and order.
+    ///
+    /// The closure can be called at a reference to each cell. Memory is taken once, before the first call. Where it is
+    /// refused the closure wasn't called; this grid is as it was in any case.
+    pub fn map_ref<U, F: Fn(&T) -> U>(&self, f: F) -> Result<Grid<U, A>, AllocError>
+    where
+        A: Clone,
+        requires { CallableAtRefs F.pre f (storage self.now.order self.now.rows) }
+        ensures order { IfOk result (λ g. g.order ≡ self.now.order) }
+        ensures rows { IfOk result (λ g. row_count g.rows ≡ row_count self.now.rows) }
+        ensures cols { IfOk result (λ g. col_count g.rows ≡ col_count self.now.rows) }
+        ensures table { IfOk result (λ g. IsTable g.rows) }
+        ensures cells { IfOk result (λ g. PairsUp
+            (FnReturnsAt F.Fn f) (storage self.now.order self.now.rows) (storage g.order g.rows)) }
+    {
+        let flat = self.flat.map_ref(f)?;
+        Ok(Grid {
+            flat,
+            row_count: self.row_count,
+            col_count: self.col_count,
+            order: self.order,
+        })
+    }
+}

@@ -1,0 +1,77 @@
+-- Closures, call by call.
+use Rattle.std.proofs.Common.{◌≡◌, List, [], ◌∷◌, ◌++◌, map, refl, sym, subst, ap, replicate, length, take, arith}
+use Rattle.std.proofs.lemmas.List.{length-append}
+use Rattle.std.proofs.Math.Seq.{get_or-append_seam}
+use Rattle.std.specs.List.{FoldsTo, AllZip}
+use denote.Param.Members.{Mut, Called}
+use denote.Param.Always.{always_mut, mut_next}
+use Rattle.grid_base.specs.ClosureCalls.{MapsThrough, MapsTo, Generates, PairsUp, CallableAtEach}
+
+-- one more answer
+pub MapsThrough-append : {F A B : Type 0} (step : F → A → B → F → Type 0) (f g h : F) (xs : List A) (ys : List B) (x : A) (y : B) → MapsThrough step f xs ys g → step g x y h → MapsThrough step f (xs ++ x ∷ []) (ys ++ y ∷ []) h
+MapsThrough-append {F} step f g h [] [] x y a s = (h, subst (λ (v : F). step v x y h) (sym a) s, refl)
+MapsThrough-append step f g h [] (b ∷ ys) x y a s = absurd a
+MapsThrough-append step f g h (a' ∷ xs) [] x y a s = absurd a
+MapsThrough-append step f g h (a' ∷ xs) (b ∷ ys) x y a s = (a.0, a.1, MapsThrough-append step a.0 g h xs ys x y a.2 s)
+
+pub FoldsTo-append : {P A : Type 0} (R : P → A → P → Type 0) (p q r : P) (xs : List A) (x : A) → FoldsTo R p xs q → R q x r → FoldsTo R p (xs ++ x ∷ []) r
+FoldsTo-append {P} R p q r [] x a s = (r, subst (λ (v : P). R v x r) (sym a) s, refl)
+FoldsTo-append R p q r (y ∷ xs) x a s = (a.0, a.1, FoldsTo-append R a.0 q r xs x a.2 s)
+
+pub AllZip-append : {A B : Type 0} (R : A → B → Type 0) (xs : List A) (ys : List B) (x : A) (y : B) → AllZip R xs ys → R x y → AllZip R (xs ++ x ∷ []) (ys ++ y ∷ [])
+AllZip-append R [] [] x y a r = (r, tt)
+AllZip-append R [] (b ∷ ys) x y a r = absurd a
+AllZip-append R (c ∷ xs) [] x y a r = absurd a
+AllZip-append R (c ∷ xs) (b ∷ ys) x y a r = (a.0, AllZip-append R xs ys x y a.1 r)
+
+module _ {F A B : Type 0} (step : F → A → B → F → Type 0) (h : A → B) (k : (p : F) (x : A) (y : B) (q : F) → step p x y q → y ≡ h x) where
+  answers_map : (f g : F) (xs : List A) (ys : List B) → MapsThrough step f xs ys g → ys ≡ map h xs
+  answers_map f g [] [] a = refl
+  answers_map f g [] (y ∷ ys) a = absurd a
+  answers_map f g (x ∷ xs) [] a = absurd a
+  answers_map f g (x ∷ xs) (y ∷ ys) a = λ i. k f x y a.0 a.1 i ∷ answers_map a.0 g xs ys a.2 i
+
+module _ {F B : Type 0} (step : F → B → F → Type 0) (b : B) (k : (p : F) (y : B) (q : F) → step p y q → y ≡ b) where
+  gives_same : (f g : F) (ys : List B) → FoldsTo step f ys g → ys ≡ replicate (length ys) b
+  gives_same f g [] a = refl
+  gives_same f g (y ∷ ys) a = λ i. k f y a.0 a.1 i ∷ gives_same a.0 g ys a.2 i
+
+module _ {A B : Type 0} (R : A → B → Type 0) (h : A → B) (k : (x : A) (y : B) → R x y → y ≡ h x) where
+  zips_map : (xs : List A) (ys : List B) → AllZip R xs ys → ys ≡ map h xs
+  zips_map [] [] a = refl
+  zips_map [] (y ∷ ys) a = absurd a
+  zips_map (x ∷ xs) [] a = absurd a
+  zips_map (x ∷ xs) (y ∷ ys) a = λ i. k x y a.0 i ∷ zips_map xs ys a.1 i
+
+-- where each answer is h of its item, whatever the state, the answers are h of the items
+pub answers_pure : {F A B : Type 0} {step : F → A → B → F → Type 0} {f : F} {xs : List A} {ys : List B} → MapsTo step f xs ys → (h : A → B) → ((p : F) (x : A) (y : B) (q : F) → step p x y q → y ≡ h x) → ys ≡ map h xs
+answers_pure {step = step} {f} {xs} {ys} r h k = answers_map step h k f r.last xs ys r.calls
+
+pub gives_pure : {F B : Type 0} {step : F → B → F → Type 0} {f : F} {ys : List B} → Generates step f ys → (b : B) → ((p : F) (y : B) (q : F) → step p y q → y ≡ b) → ys ≡ replicate (length ys) b
+gives_pure {step = step} {f} {ys} r b k = gives_same step b k f r.last ys r.calls
+
+pub pairs_pure : {A B : Type 0} {R : A → B → Type 0} {xs : List A} {ys : List B} → PairsUp R xs ys → (h : A → B) → ((x : A) (y : B) → R x y → y ≡ h x) → ys ≡ map h xs
+pairs_pure {R = R} {xs} {ys} r h k = zips_map R h k xs ys r.places
+
+take_seam : {A : Type 0} (xs ys : List A) → take (length xs) (xs ++ ys) ≡ xs
+take_seam [] ys = refl
+take_seam (x ∷ xs) ys = ap (λ l. x ∷ l) (take_seam xs ys)
+
+module _ {F A B : Type 0} (takes : F → A → Type 0) (step : F → A → B → F → Type 0) (f : F) where
+  -- the closure can be called at the item after those that it answered
+  pub callable_next : (g : F) (xs done rest : List A) (x : A) (ys : List B) → CallableAtEach takes step f xs → done ++ x ∷ rest ≡ xs → MapsThrough step f done ys g → takes g x
+  callable_next g xs done rest x ys h is a =
+      let whole : CallableAtEach takes step f (done ++ x ∷ rest) = subst (CallableAtEach takes step f) (sym is) h in
+      whole.at (length done) x ys g (omega (arith, length-append done (x ∷ rest))) (sym (get_or-append_seam done x rest x))
+      (subst (λ l. MapsThrough step f l ys g) (sym (take_seam done (x ∷ rest))) a)
+
+module _ {F A B : Type 0} (m : Mut F (A × Unit {0}) B) where
+  always_after : (f g : F) (xs : List A) (ys : List B) → MapsThrough (λ p x y q. Called m p (x, tt) y q) f xs ys g → always_mut m f → always_mut m g
+  always_after f g [] [] a h = subst (always_mut m) a h
+  always_after f g [] (y ∷ ys) a h = absurd a
+  always_after f g (x ∷ xs) [] a h = absurd a
+  always_after f g (x ∷ xs) (y ∷ ys) a h = always_after a.0 g xs ys a.2 (mut_next m f (x, tt) y a.0 a.0 a.1 refl h)
+
+  -- a closure that can always be called can be called at each item
+  pub callable_always : (f : F) (xs : List A) → always_mut m f → CallableAtEach (λ p x. m.pre p (x, tt)) (λ p x y q. Called m p (x, tt) y q) f xs
+  callable_always f xs h = record { at = λ k x ys g lt is a. ((always_after f g (take k xs) ys a h).at ((x, tt) ∷ [])).0 }

@@ -1,0 +1,132 @@
+-- What a grid's parts say of its table.
+use Rattle.std.proofs.Common.{◌≡◌, ◌≢◌, ℕ, zero, suc, ◌*◌, ◌/◌, ◌%◌, ◌^◌, ◌<◌, ◌≤◌, None, List, [], ◌∷◌, length, refl, sym, ◌∙◌, ap, arith, lit<, inl, inr, ⊎_elim}
+use Rattle.std.specs.List.{slice_get}
+use Rattle.std.proofs.lemmas.Nat.{div-add-mod'}
+use Rattle.std.proofs.lemmas.Bool.{cases_eq}
+use Rattle.std.proofs.Math.Nat.{mul_comm, mul-div_cancel, mul-mod_left}
+use Rattle.grid_base.specs.declared.flat.order.Order.{Order}
+use Rattle.grid_base.specs.declared.flat.order.Order.TheVariants.{RowMajor, ColumnMajor}
+use Rattle.grid_base.specs.declared.words.Symmetry.{Symmetry}
+use Rattle.grid_base.specs.declared.words.Symmetry.TheVariants.{Transpose}
+use Rattle.grid_base.specs.Table.{row_count, col_count, cell, IsTable, tabulate}
+use Rattle.grid_base.specs.Order.{storage, place, flipped, table_of, CanCut}
+use Rattle.grid_base.specs.GridValue.{GridValue, HoldsSize}
+use Rattle.grid_base.specs.Symmetry.{act, image_rows, image_cols, source_row, source_col}
+use Rattle.grid_base.proofs.TableLemmas.{zero_by, tabulate-cells, IsSize-table, rows-tabulate, cols-tabulate, cell-tabulate, tabulate-same, IsFull, IsTable-tabulate, cell_past_rows, cell_past_cols}
+use Rattle.grid_base.proofs.ActLemmas.{act-tabulate, IsFull-image}
+use Rattle.grid_base.proofs.StorageLemmas.{length-storage, get-storage, IsFull-table_of, storage-table_of}
+
+pos_of : (k : ℕ) → k ≢ 0 → 0 < k
+pos_of zero h = absurd (h refl)
+pos_of (suc k) h = omega arith
+
+module _ {T : Type 0} (o : Order) (m n : ℕ) (cells : List T) (h : HoldsSize m n (length cells)) where
+  full : IsFull m n (λ r c. slice_get cells (place o m n r c))
+  full = IsFull-table_of o m n cells h.cells
+
+  pub view-rows : row_count (table_of o m n cells) ≡ m
+  view-rows = rows-tabulate m n _
+
+  pub view-cols : col_count (table_of o m n cells) ≡ n
+  view-cols = cols-tabulate m n _ h.size full
+
+  pub view-table : IsTable (table_of o m n cells)
+  view-table = IsTable-tabulate m n _ h.size full
+
+  pub view-cell : (r c : ℕ) → r < m → c < n → cell (table_of o m n cells) r c ≡ slice_get cells (place o m n r c)
+  view-cell r c lr lc = cell-tabulate m n _ r c full lr lc
+
+  pub view-past_cols : (r c : ℕ) → r < m → n ≤ c → cell (table_of o m n cells) r c ≡ None
+  view-past_cols r c lr lc = cell_past_cols m n _ r c full lr lc
+
+  pub view-past_rows : (r c : ℕ) → m ≤ r → cell (table_of o m n cells) r c ≡ None
+  view-past_rows r c lr = cell_past_rows (table_of o m n cells) r c (omega (arith, view-rows))
+
+  pub view-storage : storage o (table_of o m n cells) ≡ cells
+  view-storage = storage-table_of o m n cells h.size h.cells
+
+  -- a table whose cells stand where the formula says is the image
+  pub view-act : (s : Symmetry) (u : Order) (news : List T) → ((i j : ℕ) → i < image_rows s m n → j < image_cols s m n → slice_get news (place u (image_rows s m n) (image_cols s m n) i j) ≡ slice_get cells (place o m n (source_row s m n i j) (source_col s m n i j))) → table_of u (image_rows s m n) (image_cols s m n) news ≡ act s (table_of o m n cells)
+  view-act s u news same =
+      tabulate-same _ _ _ _ same (IsFull-image s m n _ full) ∙ sym (act-tabulate s m n _ h.size full)
+
+  pub view-transpose : table_of (flipped o) n m cells ≡ act Transpose (table_of o m n cells)
+  view-transpose = view-act Transpose (flipped o) cells (λ i j p q. by_order o i j)
+    where
+      by_order : (o : Order) (i j : ℕ) → slice_get cells (place (flipped o) n m i j) ≡ slice_get cells (place o m n j i)
+      by_order RowMajor i j = refl
+      by_order ColumnMajor i j = refl
+
+-- no rows
+pub table_of-none : {T : Type 0} (o : Order) (cells : List T) → table_of o 0 0 cells ≡ []
+unfolding tabulate
+table_of-none o cells = refl
+
+-- the size of no cells, and of cells that are cut into rows
+pub HoldsSize-none : (len : ℕ) → len ≡ 0 → HoldsSize 0 0 len
+HoldsSize-none len e = record { cells = omega arith; below = lit< tt; size = record { has_cols = λ h. h; has_rows = λ h. h } }
+
+pub HoldsSize-cut : (len cols : ℕ) → len ≢ 0 → cols ≢ 0 → len % cols ≡ 0 → len < 2 ^ 64 → HoldsSize (len / cols) cols len
+HoldsSize-cut len cols some wide even small =
+    let whole = div-add-mod' len cols in
+    record {
+      cells = omega arith;
+      below = omega arith;
+      size = record { has_cols = λ _. omega arith; has_rows = λ _. pos_of (len / cols) (λ e. some (omega (arith, ap (λ x. x * cols) e))) };
+    }
+
+-- the size of the turned table
+pub HoldsSize-transposed : (m n len : ℕ) → HoldsSize m n len → HoldsSize n m len
+HoldsSize-transposed m n len h =
+    record {
+      cells = h.cells ∙ mul_comm m n;
+      below = rw (mul_comm n m) h.below;
+      size = record { has_cols = h.size.has_rows; has_rows = h.size.has_cols };
+    }
+
+-- a table is what is cut from its storage
+by_storage : {T : Type 0} (o : Order) (t : List (List T)) → IsTable t → t ≡ table_of o (row_count t) (col_count t) (storage o t)
+by_storage o t h =
+    sym (tabulate-cells t h)
+    ∙ tabulate-same (row_count t) (col_count t) (cell t) (λ r c. slice_get (storage o t) (place o (row_count t) (col_count t) r c))
+    (λ r c p q. sym (get-storage o t r c h p q)) (IsFull-table_of o (row_count t) (col_count t) (storage o t) (length-storage o t h))
+
+rows_by_cells : (m k n : ℕ) → (0 < m → 0 < n) → (0 < k → 0 < n) → m * n ≡ k * n → m ≡ k
+rows_by_cells m k zero p q e = sym (zero_by m p) ∙ zero_by k q
+rows_by_cells m k (suc n) p q e =
+    let some : 0 < suc n = omega arith in
+    sym (mul-div_cancel m {n = suc n} some) ∙ (ap (λ x. x / suc n) e ∙ mul-div_cancel k {n = suc n} some)
+
+-- two tables of one storage and one number of columns are one
+pub same_by_storage : {T : Type 0} (o : Order) (t u : List (List T)) → IsTable t → IsTable u → col_count t ≡ col_count u → storage o t ≡ storage o u → t ≡ u
+same_by_storage o t u h k cols same =
+    let product : row_count t * col_count t ≡ row_count u * col_count u = sym (length-storage o t h) ∙ (ap length same ∙ length-storage o u k) in
+    let rows : row_count t ≡ row_count u =
+    rows_by_cells (row_count t) (row_count u) (col_count t) (IsSize-table t h).has_cols (rw cols (IsSize-table u k).has_cols)
+    (product ∙ ap (λ n. row_count u * n) (sym cols)) in
+    by_storage o t h
+    ∙ (ap (λ m. table_of o m (col_count t) (storage o t)) rows
+    ∙ (ap (λ n. table_of o (row_count u) n (storage o t)) cols ∙ (ap (table_of o (row_count u) (col_count u)) same ∙ sym (by_storage o u k))))
+
+-- the storage of a table can be cut into rows of its length
+pub CanCut-storage : {T : Type 0} (o : Order) (t : List (List T)) → IsTable t → CanCut (length (storage o t)) (col_count t)
+CanCut-storage o t h =
+    ⊎_elim (λ none. inl (length-storage o t h ∙ (ap (λ n. row_count t * n) none ∙ omega arith)))
+    (λ some. inr (some, ap (λ x. x % col_count t) (length-storage o t h) ∙ mul-mod_left (row_count t) (col_count t)))
+    (cases_eq (col_count t) 0)
+
+-- no cells, no rows
+pub none_by_storage : {T : Type 0} (o : Order) (t : List (List T)) → IsTable t → length (storage o t) ≡ 0 → t ≡ []
+none_by_storage o [] h e = refl
+none_by_storage o (r ∷ t) h e =
+    let some : 0 < col_count (r ∷ t) = h.nonempty 0 (omega arith) in
+    absurd (omega (arith, length-storage o (r ∷ t) h, some))
+
+pub flipped-flipped : (o : Order) → flipped (flipped o) ≡ o
+flipped-flipped RowMajor = refl
+flipped-flipped ColumnMajor = refl
+
+pub same_grid_value : {T : Type 0} (s u : GridValue T) → s.rows ≡ u.rows → s.order ≡ u.order → s ≡ u
+same_grid_value {T} s u rows order =
+    ap (λ t. let v : GridValue T = record { rows = t; order = s.order } in v) rows
+    ∙ ap (λ o. let v : GridValue T = record { rows = u.rows; order = o } in v) order

@@ -1,0 +1,109 @@
+-- A table of which one cell is written.
+use Rattle.std.proofs.Common.{◌≡◌, ◌≢◌, ℕ, zero, suc, ◌<◌, ◌≤◌, Some, List, [], ◌∷◌, length, set, get_or, refl, sym, ◌∙◌, ap, arith, ⊎_elim}
+use Rattle.std.specs.List.{slice_get, swap}
+use Rattle.std.proofs.lemmas.List.{length-set, get_or-set_same, get_or-set_other, set_past, set-get_or}
+use Rattle.std.proofs.lemmas.List.Edits.{swap_is}
+use Rattle.std.proofs.lemmas.Option.{slice_get-get_or}
+use Rattle.std.proofs.lemmas.Nat.{same_from_place}
+use Rattle.std.proofs.lemmas.Bool.{cases_eq}
+use Rattle.grid_base.specs.declared.flat.order.Order.{Order}
+use Rattle.grid_base.specs.declared.flat.order.Order.TheVariants.{RowMajor, ColumnMajor}
+use Rattle.grid_base.specs.Table.{row, cell, with_cell, exchanged}
+use Rattle.grid_base.specs.Order.{place, table_of}
+use Rattle.grid_base.specs.GridValue.{HoldsSize}
+use Rattle.grid_base.proofs.TableLemmas.{rows-tabulate, width-tabulate, cell-tabulate, same_tables, IsFull}
+use Rattle.grid_base.proofs.StorageLemmas.{IsFull-table_of, place_within}
+use Rattle.grid_base.proofs.ViewLemmas.{view-cell}
+
+pub get-set_same : {T : Type 0} (xs : List T) (i : ℕ) (w : T) → i < length xs → slice_get (set xs i w) i ≡ Some w
+get-set_same [] i w h = absurd (omega arith)
+get-set_same (x ∷ xs) zero w h = refl
+get-set_same (x ∷ xs) (suc i) w h = get-set_same xs i w (omega arith)
+
+pub get-set_other : {T : Type 0} (xs : List T) (i j : ℕ) (w : T) → j ≢ i → slice_get (set xs i w) j ≡ slice_get xs j
+get-set_other [] i j w h = refl
+get-set_other (x ∷ xs) zero zero w h = absurd (h refl)
+get-set_other (x ∷ xs) zero (suc j) w h = refl
+get-set_other (x ∷ xs) (suc i) zero w h = refl
+get-set_other (x ∷ xs) (suc i) (suc j) w h = get-set_other xs i j w (λ e. h (ap suc e))
+
+-- two cells of one place are one
+pub same_place : (o : Order) (m n i j r c : ℕ) → i < m → j < n → r < m → c < n → place o m n i j ≡ place o m n r c → (i ≡ r) × (j ≡ c)
+same_place RowMajor m n i j r c p q a b e = same_from_place i j r c n q b e
+same_place ColumnMajor m n i j r c p q a b e = let s = same_from_place j i c r m p a e in (s.1, s.0)
+
+module _ {T : Type 0} (o : Order) (m n : ℕ) (cells : List T) (h : HoldsSize m n (length cells)) (r c : ℕ) (lr : r < m) (lc : c < n) (w : T) where
+  rows : length (table_of o m n cells) ≡ m
+  rows = rows-tabulate m n _
+
+  widths : (i : ℕ) → i < m → length (row (table_of o m n cells) i) ≡ n
+  widths i l = width-tabulate m n _ i (IsFull-table_of o m n cells h.cells) l
+
+  full : IsFull m n (λ i j. slice_get (set cells (place o m n r c) w) (place o m n i j))
+  full = IsFull-table_of o m n _ (length-set cells _ w ∙ h.cells)
+
+  width_after : (i : ℕ) → i < m → length (row (with_cell (table_of o m n cells) r c w) i) ≡ n
+  width_after i l =
+      ⊎_elim (λ e.
+      ap (λ x. length (row (with_cell (table_of o m n cells) r c w) x)) e
+      ∙ (ap length (get_or-set_same (table_of o m n cells) r (set (row (table_of o m n cells) r) c w) [] (omega (arith, rows)))
+      ∙ (length-set (row (table_of o m n cells) r) c w ∙ widths r lr)))
+      (λ ne. ap length (get_or-set_other (table_of o m n cells) r i _ [] ne) ∙ widths i l)
+      (cases_eq i r)
+
+  cell_at : (i j : ℕ) → i < m → j < n → slice_get (set cells (place o m n r c) w) (place o m n i j) ≡ cell (with_cell (table_of o m n cells) r c w) i j
+  cell_at i j li lj =
+      let before = cell-tabulate m n _ i j (IsFull-table_of o m n cells h.cells) li lj in
+      ⊎_elim (λ e.
+      let at_row : row (with_cell (table_of o m n cells) r c w) i ≡ set (row (table_of o m n cells) r) c w =
+      ap (λ x. row (with_cell (table_of o m n cells) r c w) x) e ∙ get_or-set_same (table_of o m n cells) r (set (row (table_of o m n cells) r) c w) [] (omega (arith, rows)) in
+      ⊎_elim (λ f.
+      (ap (λ x. slice_get (set cells (place o m n r c) w) (place o m n x j)) e ∙ ap (λ x. slice_get (set cells (place o m n r c) w) (place o m n r x)) f)
+      ∙ (get-set_same cells (place o m n r c) w (omega (arith, h.cells, place_within o m n r c lr lc))
+      ∙ sym (ap (λ x. slice_get x j) at_row ∙ (ap (λ x. slice_get (set (row (table_of o m n cells) r) c w) x) f ∙ get-set_same (row (table_of o m n cells) r) c w (omega (arith, widths r lr))))))
+      (λ nf.
+      get-set_other cells (place o m n r c) (place o m n i j) w (λ s. nf (same_place o m n i j r c li lj lr lc s).1)
+      ∙ (sym before ∙ (ap (λ x. cell (table_of o m n cells) x j) e ∙ sym (ap (λ x. slice_get x j) at_row ∙ get-set_other (row (table_of o m n cells) r) c j w nf))))
+      (cases_eq j c))
+      (λ ne.
+      get-set_other cells (place o m n r c) (place o m n i j) w (λ s. ne (same_place o m n i j r c li lj lr lc s).0)
+      ∙ (sym before ∙ sym (ap (λ x. slice_get x j) (get_or-set_other (table_of o m n cells) r i _ [] ne))))
+      (cases_eq i r)
+
+  -- a write to a cell's place writes the cell
+  pub view-write : table_of o m n (set cells (place o m n r c) w) ≡ with_cell (table_of o m n cells) r c w
+  view-write =
+      let len = rows-tabulate m n (λ i j. slice_get (set cells (place o m n r c) w) (place o m n i j)) in
+      same_tables _ _ (len ∙ sym (length-set (table_of o m n cells) r _ ∙ rows))
+      (λ i l. let k : i < m = omega arith in width-tabulate m n _ i full k ∙ sym (width_after i k))
+      (λ i j l k.
+      let li : i < m = omega arith in
+      let lj : j < n = omega (arith, width-tabulate m n (λ i j. slice_get (set cells (place o m n r c) w) (place o m n i j)) i full li) in
+      cell-tabulate m n _ i j full li lj ∙ cell_at i j li lj)
+
+-- a write past the end of a row, or of the rows, changes nothing
+pub write_past_cols : {T : Type 0} (t : List (List T)) (r c : ℕ) (w : T) → length (row t r) ≤ c → with_cell t r c w ≡ t
+write_past_cols t r c w h = ap (set t r) (set_past (row t r) c w h) ∙ set-get_or t r []
+
+pub write_past_rows : {T : Type 0} (t : List (List T)) (r c : ℕ) (w : T) → length t ≤ r → with_cell t r c w ≡ t
+write_past_rows t r c w h = set_past t r _ h
+
+-- a swap of two cells' places exchanges the cells
+swap_with : {T : Type 0} (o : Order) (m n : ℕ) (d : T) (cells : List T) (h : HoldsSize m n (length cells)) (a b : ℕ × ℕ) → a.0 < m → a.1 < n → b.0 < m → b.1 < n → table_of o m n (swap cells (place o m n a.0 a.1) (place o m n b.0 b.1)) ≡ exchanged (table_of o m n cells) a b
+swap_with o m n d cells h a b ra ca rb cb =
+    let i = place o m n a.0 a.1 in
+    let j = place o m n b.0 b.1 in
+    let i_in : i < length cells = omega (arith, h.cells, place_within o m n a.0 a.1 ra ca) in
+    let j_in : j < length cells = omega (arith, h.cells, place_within o m n b.0 b.1 rb cb) in
+    let x = get_or cells j d in
+    let y = get_or cells i d in
+    let fits : HoldsSize m n (length (set cells i x)) = rw (length-set cells i x) h in
+    let at_a = view-cell o m n cells h a.0 a.1 ra ca ∙ slice_get-get_or cells i d i_in in
+    let at_b = view-cell o m n cells h b.0 b.1 rb cb ∙ slice_get-get_or cells j d j_in in
+    ap (table_of o m n) (sym (swap_is cells i j d i_in j_in))
+    ∙ (view-write o m n (set cells i x) fits b.0 b.1 rb cb y
+    ∙ (ap (λ t. with_cell t b.0 b.1 y) (view-write o m n cells h a.0 a.1 ra ca x) ∙ sym (rw (at_a, at_b) refl)))
+
+pub view-swap : {T : Type 0} (o : Order) (m n : ℕ) (cells : List T) (h : HoldsSize m n (length cells)) (a b : ℕ × ℕ) → a.0 < m → a.1 < n → b.0 < m → b.1 < n → table_of o m n (swap cells (place o m n a.0 a.1) (place o m n b.0 b.1)) ≡ exchanged (table_of o m n cells) a b
+view-swap o m n [] h a b ra ca rb cb = absurd (omega (arith, h.cells, place_within o m n a.0 a.1 ra ca))
+view-swap o m n (d ∷ cells) h a b ra ca rb cb = swap_with o m n d (d ∷ cells) h a b ra ca rb cb

@@ -1,0 +1,5 @@
+use Rattle.grid_base.proofs.GroupLemmas.{inverse_acts}
+use Rattle.grid_base.proofs.laws.inverse_acts.Goals as goal
+
+pub returns-clause-law : goal.returns-clause-law
+returns-clause-law g c = λ v e t h. inverse_acts _ v e t h

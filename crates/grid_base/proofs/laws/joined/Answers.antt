@@ -1,5 +1,0 @@
-use Rattle.grid_base.proofs.Group.{then_acts}
-use Rattle.grid_base.proofs.laws.joined.Goals as goal
-
-pub returns-clause-law : goal.returns-clause-law
-returns-clause-law g c = λ v e t h. then_acts _ _ v e t h

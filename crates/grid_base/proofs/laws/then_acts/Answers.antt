@@ -1,0 +1,5 @@
+use Rattle.grid_base.proofs.GroupLemmas.{then_acts}
+use Rattle.grid_base.proofs.laws.then_acts.Goals as goal
+
+pub returns-clause-law : goal.returns-clause-law
+returns-clause-law g c = λ v e t h. then_acts _ _ v e t h
