@@ -1,18 +1,19 @@
 -- What a pass over the cells of a grid makes of its table.
-use Rattle.std.proofs.Common.{◌≡◌, ℕ, ◌+◌, ◌-◌, ◌*◌, ◌<◌, List, length, sym, ◌∙◌, ap, arith}
+use Rattle.std.proofs.Common.{◌≡◌, ℕ, ◌+◌, ◌-◌, ◌*◌, ◌/◌, ◌<◌, List, Bool, true, false, length, refl, sym, ◌∙◌, ap, arith}
+use Rattle.std.proofs.Math.Nat.{mul_comm}
 use Rattle.std.specs.List.{slice_get}
 use Rattle.grid_base.specs.declared.flat.order.Order.{Order}
 use Rattle.grid_base.specs.declared.flat.order.Order.TheVariants.{RowMajor, ColumnMajor}
-use Rattle.grid_base.specs.declared.words.Symmetry.TheVariants.{FlipRows, FlipCols, RotateHalf}
+use Rattle.grid_base.specs.declared.words.Symmetry.TheVariants.{Identity, FlipRows, FlipCols, RotateHalf, Transpose, RotateLeft, RotateRight, AntiTranspose}
 use Rattle.grid_base.specs.Table.{row_count, col_count, IsTable}
 use Rattle.grid_base.specs.Order.{table_of, place}
 use Rattle.grid_base.specs.GridValue.{HoldsSize}
-use Rattle.grid_base.specs.Symmetry.{act}
+use Rattle.grid_base.specs.Symmetry.{act, price}
 use Rattle.grid_base.proofs.ViewLemmas.{view-act}
 use Rattle.grid_base.proofs.ActLemmas.{rows-act, cols-act}
 use Rattle.grid_base.proofs.GroupLemmas.{product, act-act}
 use Rattle.grid_base.specs.declared.words.Symmetry.{Symmetry}
-use Rattle.grid_base.specs.declared.words.Symmetry.TheVariants.{Transpose}
+use Rattle.grid_base.specs.Flags.{flags_of, from_flags}
 use Rattle.grid_base.proofs.StorageLemmas.{place_within}
 use Rattle.grid_base.specs.Blocks.{PartReversed}
 use Rattle.grid.specs.Passes.{LinesReversed, EachLineReversed}
@@ -59,3 +60,31 @@ turned_rows old mid t a = ap row_count a ∙ rows-act Transpose old
 
 pub turned_cols : {T : Type 0} (old mid : List (List T)) → IsTable old → mid ≡ act Transpose old → col_count mid ≡ row_count old
 turned_cols old mid t a = ap col_count a ∙ cols-act Transpose old t
+
+-- a symmetry by its flags
+pub from_its_flags : (s : Symmetry) (f : Bool × Bool × Bool) (b : Bool) → f ≡ flags_of s → f.0 ≡ b → from_flags b f.1 f.2 ≡ s
+from_its_flags s f b e h = sym (ap (λ x. from_flags x f.1 f.2) h) ∙ (ap (λ f. from_flags f.0 f.1 f.2) e ∙ by_cases s)
+  where
+    by_cases : (s : Symmetry) → from_flags (flags_of s).0 (flags_of s).1 (flags_of s).2 ≡ s
+    by_cases Identity = refl
+    by_cases FlipCols = refl
+    by_cases FlipRows = refl
+    by_cases RotateHalf = refl
+    by_cases Transpose = refl
+    by_cases RotateLeft = refl
+    by_cases RotateRight = refl
+    by_cases AntiTranspose = refl
+
+-- flips after a transpose
+pub transpose_then_flips : (r c : Bool) → product Transpose (from_flags false r c) ≡ from_flags true r c
+transpose_then_flips false false = refl
+transpose_then_flips false true = refl
+transpose_then_flips true false = refl
+transpose_then_flips true true = refl
+
+-- what they cost
+pub price_of_flips : (r c : Bool) (m n : ℕ) → price (from_flags false r c) n m ≡ price (from_flags true r c) m n
+price_of_flips false false m n = refl
+price_of_flips false true m n = refl
+price_of_flips true false m n = mul_comm (n / 2) m
+price_of_flips true true m n = ap (λ k. k / 2) (mul_comm n m)

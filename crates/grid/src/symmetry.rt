@@ -1,9 +1,10 @@
 //! The six moves of a grid, and the eight symmetries.
-ghost use Rattle.std.specs.Prelude.{◌≡◌, List};
+ghost use Rattle.std.specs.Prelude.{◌≡◌, List, false};
 ghost use Rattle.grid_base.specs.Table.{row_count, col_count};
 ghost use Rattle.grid_base.specs.Order.{flipped, storage};
 ghost use Rattle.grid_base.specs.Symmetry.{act, order_after, price};
 ghost use Rattle.grid_base.specs.Move.{word_image, IsNormalForm};
+ghost use Rattle.grid_base.specs.Flags.{from_flags};
 ghost use Rattle.grid_base.specs.Tally.{saturating_count};
 ghost use Rattle.grid_base.specs.declared.words.Move.{Move};
 ghost use Rattle.grid_base.specs.declared.words.Symmetry.TheVariants.{FlipRows, FlipCols, RotateHalf, Transpose, RotateLeft, RotateRight};
@@ -113,32 +114,40 @@ impl<T, A: Allocator> Grid<T, A> {
         self.apply_counted(symmetry, &mut tally);
     }
 
-    pub(crate) fn apply_counted(&mut self, symmetry: Symmetry, tally: &mut Tally)
+    /// Applies a symmetry, as [`apply`](Grid::apply) does, and counts its swaps in the tally.
+    ///
+    /// Cost: the swaps of its flips, each counted once.
+    pub fn apply_counted(&mut self, symmetry: Symmetry, tally: &mut Tally)
         ensures rows { self.new.rows ≡ act symmetry self.old.rows }
         ensures order { self.new.order ≡ order_after symmetry self.old.order }
         ensures symmetry { tally.new.symmetry ≡ saturating_count tally.old.symmetry
             (price symmetry (row_count self.old.rows) (col_count self.old.rows)) }
         ensures shift { tally.new.shift ≡ tally.old.shift }
     {
+        // shows the prover that the rows are a table
         let _ = &self.flat;
-        match symmetry {
-            Symmetry::Identity => {}
-            Symmetry::FlipCols => self.flip_cols_counted(tally),
-            Symmetry::FlipRows => self.flip_rows_counted(tally),
-            Symmetry::RotateHalf => self.rotate_half_counted(tally),
-            Symmetry::Transpose => self.transpose(),
-            Symmetry::RotateLeft => {
-                self.transpose();
-                self.flip_rows_counted(tally)
-            }
-            Symmetry::RotateRight => {
-                self.transpose();
-                self.flip_cols_counted(tally)
-            }
-            Symmetry::AntiTranspose => {
-                self.transpose();
-                self.rotate_half_counted(tally)
-            }
+        let (transposes, rows, cols) = symmetry.flags();
+        if transposes {
+            self.transpose();
+        }
+        self.flip_counted(rows, cols, tally);
+    }
+
+    // Flips the rows, the columns, or both in one pass.
+    fn flip_counted(&mut self, rows: bool, cols: bool, tally: &mut Tally)
+        ensures rows { self.new.rows ≡ act (from_flags false rows cols) self.old.rows }
+        ensures order { self.new.order ≡ self.old.order }
+        ensures symmetry { tally.new.symmetry ≡ saturating_count tally.old.symmetry
+            (price (from_flags false rows cols) (row_count self.old.rows) (col_count self.old.rows)) }
+        ensures shift { tally.new.shift ≡ tally.old.shift }
+    {
+        // shows the prover that the rows are a table
+        let _ = &self.flat;
+        match (rows, cols) {
+            (false, false) => {}
+            (true, false) => self.flip_rows_counted(tally),
+            (false, true) => self.flip_cols_counted(tally),
+            (true, true) => self.rotate_half_counted(tally),
         }
     }
 

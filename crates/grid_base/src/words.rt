@@ -62,8 +62,10 @@ impl Symmetry {
         }
     }
 
-    // Whether it transposes, and whether it then flips the rows and the columns.
-    fn flags(self) -> (bool, bool, bool)
+    /// Whether it transposes, and whether it then flips the rows and the columns.
+    ///
+    ///     RotateLeft.flags()   (true, true, false)
+    pub fn flags(self) -> (bool, bool, bool)
         ensures { result ≡ flags_of self }
     {
         match self {
