@@ -2,13 +2,12 @@
 ghost use Rattle.std.specs.Prelude.{◌≡◌, ◌<◌, [], length, swap, slice_get, Some};
 ghost use Rattle.std.specs.Borrow.{sem};
 
+mod all_cells;
 mod blocks;
 mod clone;
 mod ends;
 mod gather;
 mod indexed;
-mod indexed_into;
-mod indexed_mut;
 mod line_iter;
 mod lines;
 mod order;
@@ -18,11 +17,8 @@ mod tally;
 #[cfg(test)]
 mod tests;
 mod whole;
-mod all_cells;
 
-pub use indexed::IndexedIter;
-pub use indexed_into::IndexedIntoIter;
-pub use indexed_mut::IndexedIterMut;
+pub use indexed::{IndexedIntoIter, IndexedIter, IndexedIterMut};
 pub use line_iter::GridLineIter;
 pub use order::Order;
 use std::alloc::{Allocator, Global};

@@ -1,18 +1,22 @@
-//! A walk over cells with their places, in storage order.
+//! Walks over all cells with their rows and columns, in storage order: by reference, for writing, and by value.
 ghost use Rattle.std.specs.Prelude.{◌≡◌, length, zip, IfSome, Some};
-ghost use Rattle.std.specs.Iterator.{YieldsFirstBy, item_count, UpTo, at_most};
+ghost use Rattle.std.specs.Borrow.{sem};
+ghost use Rattle.std.specs.Iterator.{YieldsFirst, YieldsFirstBy, item_count, UpTo, at_most};
 ghost use Rattle.std.specs.Iterator.SizeHint.{IsWithinCount};
 ghost use Rattle.grid_base.specs.GridValue.{HoldsSize};
 ghost use Rattle.grid_base.specs.Places.{places};
+ghost use Rattle.grid_base.specs.IndexedIterMut.{indexed_mut_rest};
 
 use super::places::Places;
 use super::{Flat, Order};
-use std::alloc::Allocator;
+use std::alloc::{Allocator, Global};
 use std::marker::Model;
-use std::slice;
+use std::{slice, vec};
 
 impl<T, A: Allocator> Flat<T, A> {
-    /// The cells of so many rows and columns, each with its row and its column.
+    ghost use Rattle.grid_base.specs.FlatLends.{lends_indexed};
+
+    /// The cells of a vector of `rows` times `cols` cells, each with its row and its column.
     pub fn indexed_iter(&self, order: Order, rows: usize, cols: usize) -> IndexedIter<'_, T>
         requires { HoldsSize rows cols (length self.now) }
         ensures { result ≡ zip (places order rows cols) self.now }
@@ -20,6 +24,35 @@ impl<T, A: Allocator> Flat<T, A> {
         IndexedIter {
             places: Places::new(order, rows, cols),
             cells: self.cells.as_slice().iter(),
+        }
+    }
+
+    /// The cells of a vector of `rows` times `cols` cells for writing, each with its row and its column.
+    pub fn indexed_iter_mut(
+        &mut self,
+        order: Order,
+        rows: usize,
+        cols: usize,
+    ) -> IndexedIterMut<'_, T>
+        requires { HoldsSize rows cols (length self.old) }
+        ensures* writes_back { sem 𝓛 (lends_indexed T.row A.row A.Allocator self.entry result) }
+        ensures rest { indexed_mut_rest result ≡ zip (places order rows cols) self.old }
+    {
+        IndexedIterMut {
+            places: Places::new(order, rows, cols),
+            lent: self.cells.as_mut_slice().iter_mut(),
+        }
+    }
+
+    /// The cells of a vector of `rows` times `cols` cells by value, each with its row and its column.
+    pub fn indexed_into_iter(self, order: Order, rows: usize, cols: usize) -> IndexedIntoIter<T, A>
+        requires { HoldsSize rows cols (length self) }
+        ensures { result ≡ zip (places order rows cols) self }
+    {
+        let Flat { cells } = self;
+        IndexedIntoIter {
+            places: Places::new(order, rows, cols),
+            owned: cells.into_iter(),
         }
     }
 }
@@ -59,7 +92,77 @@ impl<'a, T> Iterator for IndexedIter<'a, T> {
         ensures upper { IfSome result.1 (UpTo (at_most (length self.now))) }
         ensures exact { result ≡ (length self.now, Some (length self.now)) }
     {
-        let len = self.places.len().min(self.cells.len());
-        (len, Some(len))
+        self.places.hint(self.cells.len())
+    }
+}
+
+/// The cells that are left, for writing, each with its row and its column.
+// It has no model, so that a contract can follow the loan.
+#[derive(Drop)]
+pub struct IndexedIterMut<'a, T> {
+    places: Places,
+    lent: slice::IterMut<'a, T>,
+}
+
+#[tactic(auto, using(crate::proofs::WalkLemmas::walks))]
+impl<'a, T> Iterator for IndexedIterMut<'a, T> {
+    type Item = ((usize, usize), &'a mut T);
+
+    ghost next_gives = { YieldsFirstBy (λ item. (item.0, item.1.now)) indexed_mut_rest };
+
+    ghost remaining = { item_count indexed_mut_rest };
+
+    fn next(&mut self) -> Option<((usize, usize), &'a mut T)> {
+        let at = self.places.next()?;
+        let cell = self.lent.next()?;
+        Some((at, cell))
+    }
+
+    fn size_hint(&self) -> (usize, Option<usize>)
+        ensures lower { IsWithinCount result.0 (at_most (length (indexed_mut_rest self.now))) }
+        ensures upper { IfSome result.1 (UpTo (at_most (length (indexed_mut_rest self.now)))) }
+        ensures exact { result
+            ≡ (length (indexed_mut_rest self.now), Some (length (indexed_mut_rest self.now))) }
+    {
+        self.places.hint(self.lent.len())
+    }
+}
+
+/// The cells that are left, by value, each with its row and its column.
+#[derive(Drop)]
+pub struct IndexedIntoIter<T, A: Allocator = Global> {
+    places: Places,
+    owned: vec::IntoIter<T, A>,
+}
+
+impl<T, A: Allocator> Model for IndexedIntoIter<T, A> {
+    ghost use Rattle.std.specs.Prelude.{ℕ, List, zip};
+    ghost use Rattle.std.specs.Vec.Iter.{into_iter_items};
+
+    ghost Value = { List ((ℕ × ℕ) × T) };
+
+    ghost view = { λ a. zip a.places (into_iter_items a.owned) };
+}
+
+#[tactic(auto, using(crate::proofs::WalkLemmas::walks))]
+impl<T: Drop, A: Allocator> Iterator for IndexedIntoIter<T, A> {
+    type Item = ((usize, usize), T);
+
+    ghost next_gives = { YieldsFirst (λ rest. rest) };
+
+    ghost remaining = { item_count (λ rest. rest) };
+
+    fn next(&mut self) -> Option<((usize, usize), T)> {
+        let at = self.places.next()?;
+        let cell = self.owned.next()?;
+        Some((at, cell))
+    }
+
+    fn size_hint(&self) -> (usize, Option<usize>)
+        ensures lower { IsWithinCount result.0 (at_most (length self.now)) }
+        ensures upper { IfSome result.1 (UpTo (at_most (length self.now))) }
+        ensures exact { result ≡ (length self.now, Some (length self.now)) }
+    {
+        self.places.hint(self.owned.len())
     }
 }

@@ -1,5 +1,5 @@
 //! The places of a table's cells, one after another.
-ghost use Rattle.std.specs.Prelude.{◌≡◌, ◌*◌, ◌^◌, ◌<◌, length, IfSome, Some, slice_get};
+ghost use Rattle.std.specs.Prelude.{◌≡◌, ◌*◌, ◌^◌, ◌<◌, length, min, IfSome, Some, slice_get};
 ghost use Rattle.std.specs.Iterator.{YieldsFirst, item_count, UpTo, at_most};
 ghost use Rattle.std.specs.Iterator.SizeHint.{IsWithinCount};
 ghost use Rattle.grid_base.specs.Table.{IsSize};
@@ -58,6 +58,14 @@ impl Places {
         ensures { result ≡ length self.now }
     {
         self.rows * self.cols - self.passed
+    }
+
+    // The exact size hint of a walk over these places, each with one of `cells` cells.
+    pub(super) fn hint(&self, cells: usize) -> (usize, Option<usize>)
+        ensures { result ≡ (min (length self.now) cells, Some (min (length self.now) cells)) }
+    {
+        let len = self.len().min(cells);
+        (len, Some(len))
     }
 }
 
