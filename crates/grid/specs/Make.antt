@@ -1,12 +1,31 @@
 -- What the constructors of a grid say of its table.
-use Rattle.std.specs.Prelude.{◌≡◌, ◌≢◌, ℕ, ◌*◌, List, [], Some}
-use Rattle.grid_base.specs.Table.{row_count, col_count, cell, InRange}
+use Rattle.std.specs.Prelude.{◌≡◌, ◌≢◌, ◌↔◌, ◌≤◌, ◌^◌, ℕ, ◌*◌, List, [], Some, Result, IsOk, IsErrOf}
+use Rattle.grid_base.specs.declared.flat.order.Order.{Order}
+use Rattle.grid_base.specs.Table.{row_count, col_count, cell, InRange, IsTable}
+use Rattle.grid_base.specs.GridValue.{GridValue}
+use Rattle.grid.specs.declared.error.GridError.{GridError}
+use Rattle.grid.specs.declared.error.GridError.TheVariants.{TooLarge}
+
+-- m rows of n cells are more cells than `usize::MAX`
+abbrev pub ExceedsMax : ℕ → ℕ → Type 0
+ExceedsMax m n = 2 ^ 64 ≤ m * n
 
 -- a table of m rows and n columns, which is empty where it has no cells
 pub record HasSize {T : Type 0} (m n : ℕ) (t : List (List T)) : Type 0 where
   pub none : m * n ≡ 0 → t ≡ []
   pub rows : m * n ≢ 0 → row_count t ≡ m
   pub cols : m * n ≢ 0 → col_count t ≡ n
+
+-- a grid of this order, of m rows and n columns
+pub record IsMade {T : Type 0} (o : Order) (m n : ℕ) (g : GridValue T) : Type 0 where
+  pub order : g.order ≡ o
+  pub table : IsTable g.rows
+  pub size : HasSize m n g.rows
+
+-- it fails as too large exactly where m rows of n cells are too many, and never where they are no cells
+pub record FailsBySize {X : Type 0} (m n : ℕ) (made : Result X GridError) : Type 0 where
+  pub too_large : IsErrOf made TooLarge ↔ ExceedsMax m n
+  pub no_cells : m * n ≡ 0 → IsOk made
 
 -- every cell of a table is d
 abbrev pub EachCellIs : {T : Type 0} → T → List (List T) → Type 0

@@ -55,12 +55,12 @@ impl<T, A: Allocator> Grid<T, A> {
     where
         T: Clone + Default + Drop,
         ensures rows { OnOk result (self.new.rows ≡ step_rows command self.old.rows) }
-        ensures reply { IfOk result
-            (λ reply. ClonesAreEqual T.is_clone → reply_value reply ≡ step_reply command self.old.rows) }
+        ensures reply { IfOk result (λ reply. ClonesAreEqual T.is_clone
+            → reply_value reply ≡ step_reply command self.old.rows) }
         ensures order { OnOk result
             (self.new.order ≡ order_after (command_symmetry command) self.old.order) }
-        ensures symmetry { OnOk result
-            (tally.new.symmetry ≡ saturating_count tally.old.symmetry (step_price command self.old.rows)) }
+        ensures symmetry { OnOk result (tally.new.symmetry
+            ≡ saturating_count tally.old.symmetry (step_price command self.old.rows)) }
         ensures shift { tally.new.shift ≡ tally.old.shift }
 
         // No command costs more swaps for symmetries than half of the cells.
@@ -104,8 +104,8 @@ pub fn run<T, A: Allocator>(
 ) -> Result<Vec<Reply<T>, A>, RunStopped<T, A>>
 where
     T: Clone + Default + Drop,
-    ensures ran { IfOk result (λ replies. Ran
-        T.is_clone commands.items grid.old grid.new tally.old tally.new (map reply_value replies.items)) }
+    ensures ran { IfOk result (λ replies. Ran T.is_clone
+        commands.items grid.old grid.new tally.old tally.new (map reply_value replies.items)) }
     ensures stopped { IfErr result (λ stop. Ran T.is_clone (take stop.done commands.items)
         grid.old grid.new tally.old tally.new (map reply_value stop.replies.items)) }
     ensures stop { IfErr result (λ stop. MayStop commands.items stop.done grid.new.rows) }

@@ -8,8 +8,10 @@ use crate::{Grid, ShapeError};
 use std::alloc::Allocator;
 use std::convert::{AsSlice, TryFrom};
 
-// Whether so many cells can be cut into rows of `cols`.
-fn can_cut(len: usize, cols: usize) -> bool
+/// Whether `len` cells can be cut into rows of `cols`: there are no cells, or `cols` is not 0 and divides their number.
+///
+///     can_cut(6, 3)   true        can_cut(6, 4)   false        can_cut(0, 0)   true
+pub fn can_cut(len: usize, cols: usize) -> bool
     ensures { IsTrue result ↔ CanCut len cols }
 {
     len == 0 || (cols != 0 && len % cols == 0)
@@ -96,8 +98,8 @@ pub(crate) fn first_len<T, L: AsSlice<T>>(rows: &[L]) -> usize
 
 // How many cells rows of one length have together, and that length.
 fn measure<T, L: AsSlice<T>>(rows: &[L]) -> Result<(usize, usize), ShapeError>
-    ensures { MatchResult result (λ sizes. CanJoin (map L.items rows.now) × (sizes.0
-        ≡ length (concat_rows (map L.items rows.now))) × (sizes.1 ≡ col_count (map L.items rows.now)))
+    ensures { MatchResult result (λ sizes. CanJoin (map L.items rows.now) × (sizes.0 ≡ length
+        (concat_rows (map L.items rows.now))) × (sizes.1 ≡ col_count (map L.items rows.now)))
         (λ e. RowsFault (map L.items rows.now) e × (e ≢ ShapeError.Memory)) }
 {
     let cols = first_len(rows);

@@ -3,7 +3,11 @@ ghost use Rattle.std.specs.Prelude.{◌≡◌, ◌≢◌, ◌*◌, ◌^◌, ◌<
 ghost use Rattle.std.specs.Borrow.{sem};
 ghost use Rattle.std.specs.Option.{option_copied};
 ghost use Rattle.grid_base.specs.Table.{row_count, col_count, cell, exchanged, InRange, IsTable};
+ghost use Rattle.grid.specs.Edits.{FitsRow, FitsCol};
+ghost use Rattle.grid_base.specs.GridValue.{HoldsSize};
 ghost use Rattle.grid_base.specs.Order.{storage, place, CanCut};
+
+mod make;
 
 use grid_base::{Flat, Order};
 use std::alloc::{Allocator, Global};
@@ -47,6 +51,15 @@ fn place(order: Order, rows: usize, cols: usize, row: usize, col: usize) -> usiz
     }
 }
 
+// The numbers of rows and columns of `len` cells that are cut into rows of `cols`.
+fn size_of_cut(len: usize, cols: usize) -> (usize, usize)
+    requires { CanCut len cols }
+    ensures holds { HoldsSize result.0 result.1 len }
+    ensures cols { len ≢ 0 → result.1 ≡ cols }
+{
+    if len == 0 { (0, 0) } else { (len / cols, cols) }
+}
+
 impl<T, A: Allocator> Grid<T, A> {
     ghost use Rattle.grid.specs.Grid.{lends_cell, lends_cell_if};
 
@@ -84,21 +97,12 @@ impl<T, A: Allocator> Grid<T, A> {
         ensures storage { storage order result.rows ≡ vec.items }
         ensures cols { length vec.items ≢ 0 → col_count result.rows ≡ cols }
     {
-        let len = vec.len();
-        if len == 0 {
-            Grid {
-                flat: Flat::from_vec(vec),
-                row_count: 0,
-                col_count: 0,
-                order,
-            }
-        } else {
-            Grid {
-                flat: Flat::from_vec(vec),
-                row_count: len / cols,
-                col_count: cols,
-                order,
-            }
+        let (row_count, col_count) = size_of_cut(vec.len(), cols);
+        Grid {
+            flat: Flat::from_vec(vec),
+            row_count,
+            col_count,
+            order,
         }
     }
 
@@ -126,6 +130,24 @@ impl<T, A: Allocator> Grid<T, A> {
         ensures table { IsTable self.now.rows }
     {
         self.col_count
+    }
+
+    /// Whether a row of this length fits: as many cells as there are columns, or any number in an empty grid.
+    ///
+    ///     [[1, 2], [3, 4]]   fits_row(2)   true
+    pub fn fits_row(&self, len: usize) -> bool
+        ensures { IsTrue result ↔ FitsRow self.now.rows len }
+    {
+        self.is_empty() || len == self.cols()
+    }
+
+    /// Whether a column of this length fits: as many cells as there are rows, or any number in an empty grid.
+    ///
+    ///     [[1, 2], [3, 4]]   fits_col(3)   false
+    pub fn fits_col(&self, len: usize) -> bool
+        ensures { IsTrue result ↔ FitsCol self.now.rows len }
+    {
+        self.is_empty() || len == self.rows()
     }
 
     /// Returns the order of the cells in the vector.

@@ -19,6 +19,7 @@ pub fn rotate_right_then_left<T, A: Allocator>(grid: &mut Grid<T, A>)
     ensures same { grid.new ≡ grid.old }
     ensures law { (t : List (List T)) → IsTable t → act RotateLeft (act RotateRight t) ≡ t }
 {
+    // shows the prover that the rows are a table
     let _ = grid.size();
     grid.rotate_right();
     grid.rotate_left();
@@ -30,6 +31,7 @@ pub fn rotate_left_four_times<T, A: Allocator>(grid: &mut Grid<T, A>)
     ensures law { (t : List (List T))
         → IsTable t → act RotateLeft (act RotateLeft (act RotateLeft (act RotateLeft t))) ≡ t }
 {
+    // shows the prover that the rows are a table
     let _ = grid.size();
     for _turn in 0..4usize {
         grid.rotate_left();
@@ -43,6 +45,7 @@ pub fn flip_rows_then_cols<T, A: Allocator>(grid: &mut Grid<T, A>)
     ensures law { (t : List (List T))
         → IsTable t → act FlipCols (act FlipRows t) ≡ act RotateHalf t }
 {
+    // shows the prover that the rows are a table
     let _ = grid.size();
     grid.flip_rows();
     grid.flip_cols();
@@ -53,6 +56,7 @@ pub fn apply_then<T, A: Allocator>(grid: &mut Grid<T, A>, first: Symmetry, secon
     ensures rows { grid.new.rows ≡ act second (act first grid.old.rows) }
     ensures order { grid.new.order ≡ order_after second (order_after first grid.old.order) }
 {
+    // shows the prover that the rows are a table
     let _ = grid.size();
     grid.apply(laws::then_acts::<T>(first, second));
 }
@@ -63,6 +67,7 @@ pub fn apply_then_inverse<T, A: Allocator>(grid: &mut Grid<T, A>, symmetry: Symm
     ensures law { (t : List (List T))
         → IsTable t → (v : Symmetry) → IsInverse symmetry v → act v (act symmetry t) ≡ t }
 {
+    // shows the prover that the rows are a table
     let _ = grid.size();
     grid.apply(symmetry);
     grid.apply(laws::inverse_acts::<T>(symmetry));
@@ -132,6 +137,7 @@ pub fn insert_col_or_row_across<T, A: Allocator>(
     ensures law { insert_col at line.items grid.old.rows
         ≡ act Transpose (insert (act Transpose grid.old.rows) at line.items) }
 {
+    // shows the prover that the rows are a table
     let _ = grid.size();
     let as_col = grid.insert_col(at, line);
     other.transpose();

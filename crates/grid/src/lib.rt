@@ -11,13 +11,13 @@ mod error;
 mod grid;
 pub mod laws;
 mod macros;
-mod make;
 mod pretty;
 mod symmetry;
 mod traits;
 mod walks;
 
 pub use command::{Command, Reply, RunStopped, run};
+pub use convert::can_cut;
 pub use error::{GridError, LineRefused, LinesRefused, ShapeError};
 pub use grid::Grid;
 pub use grid_base::{

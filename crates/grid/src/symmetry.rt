@@ -109,6 +109,7 @@ impl<T, A: Allocator> Grid<T, A> {
             → IsNormalForm w symmetry → self.new.rows ≡ word_image w self.old.rows }
         ensures order { self.new.order ≡ order_after symmetry self.old.order }
     {
+        // shows the prover that the rows are a table
         let _ = &self.flat;
         let mut tally = Tally::new();
         self.apply_counted(symmetry, &mut tally);
@@ -137,8 +138,8 @@ impl<T, A: Allocator> Grid<T, A> {
     fn flip_counted(&mut self, rows: bool, cols: bool, tally: &mut Tally)
         ensures rows { self.new.rows ≡ act (from_flags false rows cols) self.old.rows }
         ensures order { self.new.order ≡ self.old.order }
-        ensures symmetry { tally.new.symmetry ≡ saturating_count tally.old.symmetry
-            (price (from_flags false rows cols) (row_count self.old.rows) (col_count self.old.rows)) }
+        ensures symmetry { tally.new.symmetry ≡ saturating_count tally.old.symmetry (price
+            (from_flags false rows cols) (row_count self.old.rows) (col_count self.old.rows)) }
         ensures shift { tally.new.shift ≡ tally.old.shift }
     {
         // shows the prover that the rows are a table

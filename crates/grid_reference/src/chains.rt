@@ -57,7 +57,8 @@ pub fn row_sum<A: Allocator>(grid: &Grid<u32, A>, r: usize) -> u32
 /// The sum of column c, or `u32::MAX` if it is larger.
 pub fn column_sum<A: Allocator>(grid: &Grid<u32, A>, c: usize) -> u32
     requires { c < col_count grid.now.rows }
-    ensures { result ≡ fold (λ total y. min (total + y) u32.MAX) 0 (row (transposed grid.now.rows) c) }
+    ensures { result
+        ≡ fold (λ total y. min (total + y) u32.MAX) 0 (row (transposed grid.now.rows) c) }
 {
     grid.iter_col(c)
         .fold(0, |total: u32, y| total.saturating_add(*y))

@@ -66,8 +66,8 @@ fn all_of_length<T, A: Allocator>(lines: &[Vec<T, A>], width: usize) -> bool
 
 // The length of the lines of a table, 0 if it has none; nothing if some line is empty or they differ in length.
 fn width_of<T, A: Allocator>(lines: &[Vec<T, A>]) -> Option<usize>
-    ensures { IfSome result
-        (λ width. IsTable (items_of_each lines.now) × (col_count (items_of_each lines.now) ≡ width)) }
+    ensures { IfSome result (λ width. IsTable (items_of_each lines.now)
+        × (col_count (items_of_each lines.now) ≡ width)) }
 {
     let width = match lines.first() {
         Some(line) => line.len(),

@@ -76,11 +76,12 @@ fn image_row<T: Copy>(
     table: &Vec<Vec<T>>,
     row: usize,
 ) -> Result<Vec<T>, AllocError>
-    requires { row
-        < image_rows symmetry (row_count (items_of_each table.now)) (col_count (items_of_each table.now)) }
-    ensures { let t = items_of_each table.now in IfOk result (λ cells. cells.items
-        ≡ cells_by (image_cols symmetry (row_count t) (col_count t)) (λ col. cell t (source_row symmetry
-        (row_count t) (col_count t) row col) (source_col symmetry (row_count t) (col_count t) row col))) }
+    requires { row < image_rows symmetry
+        (row_count (items_of_each table.now)) (col_count (items_of_each table.now)) }
+    ensures { let t = items_of_each table.now in IfOk result
+        (λ cells. cells.items ≡ cells_by (image_cols symmetry (row_count t) (col_count t))
+        (λ col. cell t (source_row symmetry (row_count t) (col_count t) row col)
+        (source_col symmetry (row_count t) (col_count t) row col))) }
 {
     let (rows, cols) = size(table);
     let (_, width) = image_size(symmetry, rows, cols);
@@ -172,8 +173,8 @@ pub fn run<T: Copy>(
 ) -> Result<Vec<Reply<T>>, AllocError>
     ensures rows { OnOk result
         (items_of_each table.new ≡ run_rows commands.now (items_of_each table.old)) }
-    ensures replies { IfOk result
-        (λ replies. map reply_value replies.items ≡ run_replies commands.now (items_of_each table.old)) }
+    ensures replies { IfOk result (λ replies. map reply_value replies.items
+        ≡ run_replies commands.now (items_of_each table.old)) }
     ensures err { OnErr result
         (AfterSome commands.now (items_of_each table.old) (items_of_each table.new)) }
 {

@@ -3,6 +3,7 @@ ghost use Rattle.std.specs.Prelude.{◌≡◌, ◌↔◌, ◌+◌, ◌*◌, ◌^
 ghost use Rattle.grid_base.specs.Table.{row_count, col_count, IsTable};
 ghost use Rattle.grid_base.specs.Gather.{items_of_each};
 ghost use Rattle.grid.specs.Edits.{FitsRow, FitsCol, insert_col, insert_rows, insert_cols};
+ghost use Rattle.grid.specs.Make.{ExceedsMax};
 ghost use Rattle.grid.specs.RowGroups.{RowsInserted};
 ghost use Rattle.grid.specs.declared.error.GridError.TheVariants.{TooLarge};
 
@@ -62,7 +63,7 @@ impl<T, A: Allocator> Grid<T, A> {
             (self.new.rows ≡ insert self.old.rows (row_count self.old.rows) line.items) }
         ensures order { self.new.order ≡ self.old.order }
         ensures too_large { IsErrAnd result (λ refused. refused.fault ≡ TooLarge)
-            ↔ (2 ^ 64 ≤ (row_count self.old.rows + 1) * length line.items) }
+            ↔ ExceedsMax (row_count self.old.rows + 1) (length line.items) }
         ensures line { IfErr result (λ refused. refused.line.items ≡ line.items) }
         ensures err { OnErr result (self.new ≡ self.old) }
     {
@@ -86,7 +87,7 @@ impl<T, A: Allocator> Grid<T, A> {
             (self.new.rows ≡ insert_col (col_count self.old.rows) line.items self.old.rows) }
         ensures order { self.new.order ≡ self.old.order }
         ensures too_large { IsErrAnd result (λ refused. refused.fault ≡ TooLarge)
-            ↔ (2 ^ 64 ≤ (col_count self.old.rows + 1) * length line.items) }
+            ↔ ExceedsMax (col_count self.old.rows + 1) (length line.items) }
         ensures line { IfErr result (λ refused. refused.line.items ≡ line.items) }
         ensures err { OnErr result (self.new ≡ self.old) }
     {
@@ -110,7 +111,7 @@ impl<T, A: Allocator> Grid<T, A> {
         ensures rows { OnOk result (self.new.rows ≡ insert self.old.rows at line.items) }
         ensures order { self.new.order ≡ self.old.order }
         ensures too_large { IsErrAnd result (λ refused. refused.fault ≡ TooLarge)
-            ↔ (2 ^ 64 ≤ (row_count self.old.rows + 1) * length line.items) }
+            ↔ ExceedsMax (row_count self.old.rows + 1) (length line.items) }
         ensures line { IfErr result (λ refused. refused.line.items ≡ line.items) }
         ensures err { OnErr result (self.new ≡ self.old) }
     {
@@ -153,10 +154,11 @@ impl<T, A: Allocator> Grid<T, A> {
         ensures rows { OnOk result (self.new.rows ≡ insert_col at line.items self.old.rows) }
         ensures order { self.new.order ≡ self.old.order }
         ensures too_large { IsErrAnd result (λ refused. refused.fault ≡ TooLarge)
-            ↔ (2 ^ 64 ≤ (col_count self.old.rows + 1) * length line.items) }
+            ↔ ExceedsMax (col_count self.old.rows + 1) (length line.items) }
         ensures line { IfErr result (λ refused. refused.line.items ≡ line.items) }
         ensures err { OnErr result (self.new ≡ self.old) }
     {
+        // shows the prover that the rows are a table
         let _ = &self.flat;
         self.transpose();
         let inserted = self.insert_row(at, line);
@@ -189,8 +191,8 @@ impl<T, A: Allocator> Grid<T, A> {
             (self.new.rows ≡ insert_rows at (items_of_each lines.items) self.old.rows) }
         ensures order { self.new.order ≡ self.old.order }
         ensures none { lines.items ≡ [] → IsOk result }
-        ensures too_large { IsErrAnd result (λ refused. refused.fault ≡ TooLarge) ↔ (2 ^ 64
-            ≤ (row_count self.old.rows + length lines.items) * col_count (items_of_each lines.items)) }
+        ensures too_large { IsErrAnd result (λ refused. refused.fault ≡ TooLarge) ↔ ExceedsMax
+            (row_count self.old.rows + length lines.items) (col_count (items_of_each lines.items)) }
         ensures lines { IfErr result (λ refused. refused.lines.items ≡ lines.items) }
         ensures err { OnErr result (self.new ≡ self.old) }
     {
@@ -250,11 +252,12 @@ impl<T, A: Allocator> Grid<T, A> {
             (self.new.rows ≡ insert_cols at (items_of_each lines.items) self.old.rows) }
         ensures order { self.new.order ≡ self.old.order }
         ensures none { lines.items ≡ [] → IsOk result }
-        ensures too_large { IsErrAnd result (λ refused. refused.fault ≡ TooLarge) ↔ (2 ^ 64
-            ≤ (col_count self.old.rows + length lines.items) * col_count (items_of_each lines.items)) }
+        ensures too_large { IsErrAnd result (λ refused. refused.fault ≡ TooLarge) ↔ ExceedsMax
+            (col_count self.old.rows + length lines.items) (col_count (items_of_each lines.items)) }
         ensures lines { IfErr result (λ refused. refused.lines.items ≡ lines.items) }
         ensures err { OnErr result (self.new ≡ self.old) }
     {
+        // shows the prover that the rows are a table
         let _ = &self.flat;
         self.transpose();
         let inserted = self.insert_rows(at, lines);

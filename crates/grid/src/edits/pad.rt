@@ -3,7 +3,7 @@ ghost use Rattle.std.specs.Prelude.{◌≡◌, ◌↔◌, ◌+◌, ◌*◌, ◌^
 ghost use Rattle.grid_base.specs.Table.{row_count, col_count};
 ghost use Rattle.grid_base.specs.Tally.{saturating_count};
 ghost use Rattle.grid.specs.Edits.{PadsRows, PadsCols, padding_count, expanded_rows, expanded_cols, prepended_rows, prepended_cols};
-ghost use Rattle.grid.specs.Make.{IsOnlyDefault};
+ghost use Rattle.grid.specs.Make.{IsOnlyDefault, ExceedsMax};
 ghost use Rattle.grid.specs.RowGroups.{RowsOpened};
 ghost use Rattle.grid.specs.Shift.{rows_added_shift, cols_added_shift};
 ghost use Rattle.grid.specs.declared.error.GridError.TheVariants.{TooLarge};
@@ -53,12 +53,13 @@ impl<T, A: Allocator> Grid<T, A> {
     where
         T: Default,
         A: Clone,
-        ensures padded { OnOk result (PadsRows T.is_default
-            (row_count self.old.rows) (padding_count count self.old.rows) self.old.rows self.new.rows) }
+        ensures padded { OnOk result (PadsRows T.is_default (row_count self.old.rows)
+            (padding_count count self.old.rows) self.old.rows self.new.rows) }
         ensures fixed { OnOk result ((d : T)
             → IsOnlyDefault T.is_default d → self.new.rows ≡ expanded_rows count d self.old.rows) }
-        ensures too_large { IsErrOf result TooLarge ↔ (2 ^ 64
-            ≤ (row_count self.old.rows + padding_count count self.old.rows) * col_count self.old.rows) }
+        ensures too_large { IsErrOf result TooLarge ↔ ExceedsMax
+            (row_count self.old.rows + padding_count count self.old.rows)
+            (col_count self.old.rows) }
         ensures none { padding_count count self.old.rows ≡ 0 → IsOk result }
         ensures order { self.new.order ≡ self.old.order }
         ensures err { OnErr result (self.new ≡ self.old) }
@@ -80,12 +81,13 @@ impl<T, A: Allocator> Grid<T, A> {
     where
         T: Default,
         A: Clone,
-        ensures padded { OnOk result (PadsCols T.is_default
-            (col_count self.old.rows) (padding_count count self.old.rows) self.old.rows self.new.rows) }
+        ensures padded { OnOk result (PadsCols T.is_default (col_count self.old.rows)
+            (padding_count count self.old.rows) self.old.rows self.new.rows) }
         ensures fixed { OnOk result ((d : T)
             → IsOnlyDefault T.is_default d → self.new.rows ≡ expanded_cols count d self.old.rows) }
-        ensures too_large { IsErrOf result TooLarge ↔ (2 ^ 64
-            ≤ (col_count self.old.rows + padding_count count self.old.rows) * row_count self.old.rows) }
+        ensures too_large { IsErrOf result TooLarge ↔ ExceedsMax
+            (col_count self.old.rows + padding_count count self.old.rows)
+            (row_count self.old.rows) }
         ensures none { padding_count count self.old.rows ≡ 0 → IsOk result }
         ensures order { self.new.order ≡ self.old.order }
         ensures err { OnErr result (self.new ≡ self.old) }
@@ -105,12 +107,13 @@ impl<T, A: Allocator> Grid<T, A> {
     where
         T: Default,
         A: Clone,
-        ensures padded { OnOk result
-            (PadsRows T.is_default 0 (padding_count count self.old.rows) self.old.rows self.new.rows) }
+        ensures padded { OnOk result (PadsRows T.is_default 0
+            (padding_count count self.old.rows) self.old.rows self.new.rows) }
         ensures fixed { OnOk result ((d : T)
             → IsOnlyDefault T.is_default d → self.new.rows ≡ prepended_rows count d self.old.rows) }
-        ensures too_large { IsErrOf result TooLarge ↔ (2 ^ 64
-            ≤ (row_count self.old.rows + padding_count count self.old.rows) * col_count self.old.rows) }
+        ensures too_large { IsErrOf result TooLarge ↔ ExceedsMax
+            (row_count self.old.rows + padding_count count self.old.rows)
+            (col_count self.old.rows) }
         ensures none { padding_count count self.old.rows ≡ 0 → IsOk result }
         ensures order { self.new.order ≡ self.old.order }
         ensures err { OnErr result (self.new ≡ self.old) }
@@ -129,16 +132,18 @@ impl<T, A: Allocator> Grid<T, A> {
     where
         T: Default,
         A: Clone,
-        ensures padded { OnOk result
-            (PadsCols T.is_default 0 (padding_count count self.old.rows) self.old.rows self.new.rows) }
+        ensures padded { OnOk result (PadsCols T.is_default 0
+            (padding_count count self.old.rows) self.old.rows self.new.rows) }
         ensures fixed { OnOk result ((d : T)
             → IsOnlyDefault T.is_default d → self.new.rows ≡ prepended_cols count d self.old.rows) }
-        ensures too_large { IsErrOf result TooLarge ↔ (2 ^ 64
-            ≤ (col_count self.old.rows + padding_count count self.old.rows) * row_count self.old.rows) }
+        ensures too_large { IsErrOf result TooLarge ↔ ExceedsMax
+            (col_count self.old.rows + padding_count count self.old.rows)
+            (row_count self.old.rows) }
         ensures none { padding_count count self.old.rows ≡ 0 → IsOk result }
         ensures order { self.new.order ≡ self.old.order }
         ensures err { OnErr result (self.new ≡ self.old) }
     {
+        // shows the prover that the rows are a table
         let _ = &self.flat;
         let mut tally = Tally::new();
         self.pad_cols_counted(0, count, &mut tally)
@@ -155,14 +160,16 @@ impl<T, A: Allocator> Grid<T, A> {
         T: Default,
         A: Clone,
         requires place { at ≤ row_count self.old.rows }
-        ensures padded { OnOk result
-            (PadsRows T.is_default at (padding_count count self.old.rows) self.old.rows self.new.rows) }
-        ensures too_large { IsErrOf result TooLarge ↔ (2 ^ 64
-            ≤ (row_count self.old.rows + padding_count count self.old.rows) * col_count self.old.rows) }
+        ensures padded { OnOk result (PadsRows T.is_default at
+            (padding_count count self.old.rows) self.old.rows self.new.rows) }
+        ensures too_large { IsErrOf result TooLarge ↔ ExceedsMax
+            (row_count self.old.rows + padding_count count self.old.rows)
+            (col_count self.old.rows) }
         ensures none { padding_count count self.old.rows ≡ 0 → IsOk result }
         ensures order { self.new.order ≡ self.old.order }
-        ensures shift { OnOk result (tally.new.shift ≡ saturating_count tally.old.shift (rows_added_shift
-            self.old.order (row_count self.old.rows) (col_count self.old.rows) at count)) }
+        ensures shift { OnOk result
+            (tally.new.shift ≡ saturating_count tally.old.shift (rows_added_shift self.old.order
+            (row_count self.old.rows) (col_count self.old.rows) at count)) }
         ensures symmetry { tally.new.symmetry ≡ tally.old.symmetry }
         ensures err { OnErr result (self.new ≡ self.old) }
         ensures err_shift { OnErr result (tally.new.shift ≡ tally.old.shift) }
@@ -191,18 +198,21 @@ impl<T, A: Allocator> Grid<T, A> {
         T: Default,
         A: Clone,
         requires place { at ≤ col_count self.old.rows }
-        ensures padded { OnOk result
-            (PadsCols T.is_default at (padding_count count self.old.rows) self.old.rows self.new.rows) }
-        ensures too_large { IsErrOf result TooLarge ↔ (2 ^ 64
-            ≤ (col_count self.old.rows + padding_count count self.old.rows) * row_count self.old.rows) }
+        ensures padded { OnOk result (PadsCols T.is_default at
+            (padding_count count self.old.rows) self.old.rows self.new.rows) }
+        ensures too_large { IsErrOf result TooLarge ↔ ExceedsMax
+            (col_count self.old.rows + padding_count count self.old.rows)
+            (row_count self.old.rows) }
         ensures none { padding_count count self.old.rows ≡ 0 → IsOk result }
         ensures order { self.new.order ≡ self.old.order }
-        ensures shift { OnOk result (tally.new.shift ≡ saturating_count tally.old.shift (cols_added_shift
-            self.old.order (row_count self.old.rows) (col_count self.old.rows) at count)) }
+        ensures shift { OnOk result
+            (tally.new.shift ≡ saturating_count tally.old.shift (cols_added_shift self.old.order
+            (row_count self.old.rows) (col_count self.old.rows) at count)) }
         ensures symmetry { tally.new.symmetry ≡ tally.old.symmetry }
         ensures err { OnErr result (self.new ≡ self.old) }
         ensures err_shift { OnErr result (tally.new.shift ≡ tally.old.shift) }
     {
+        // shows the prover that the rows are a table
         let _ = &self.flat;
         self.transpose();
         let padded = self.pad_rows_counted(at, count, tally);

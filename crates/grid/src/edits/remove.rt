@@ -157,6 +157,7 @@ impl<T, A: Allocator> Grid<T, A> {
         ensures err { OnErr result (self.new ≡ self.old) }
         ensures err_found { OnErr result (at < col_count self.old.rows) }
     {
+        // shows the prover that the rows are a table
         let _ = &self.flat;
         self.transpose();
         let removed = self.remove_row(at);
@@ -281,8 +282,8 @@ impl<T, A: Allocator> Grid<T, A> {
         ensures rows { self.new.rows
             ≡ (if result then without_rows start count self.old.rows else self.old.rows) }
         ensures order { self.new.order ≡ self.old.order }
-        ensures shift { tally.new.shift ≡ saturating_count tally.old.shift (delete_rows_shift self.old.order
-            (row_count self.old.rows) (col_count self.old.rows) start count) }
+        ensures shift { tally.new.shift ≡ saturating_count tally.old.shift (delete_rows_shift
+            self.old.order (row_count self.old.rows) (col_count self.old.rows) start count) }
         ensures symmetry { tally.new.symmetry ≡ tally.old.symmetry }
     {
         let rows = self.rows();
@@ -305,10 +306,11 @@ impl<T, A: Allocator> Grid<T, A> {
         ensures rows { self.new.rows
             ≡ (if result then without_cols start count self.old.rows else self.old.rows) }
         ensures order { self.new.order ≡ self.old.order }
-        ensures shift { tally.new.shift ≡ saturating_count tally.old.shift (delete_cols_shift self.old.order
-            (row_count self.old.rows) (col_count self.old.rows) start count) }
+        ensures shift { tally.new.shift ≡ saturating_count tally.old.shift (delete_cols_shift
+            self.old.order (row_count self.old.rows) (col_count self.old.rows) start count) }
         ensures symmetry { tally.new.symmetry ≡ tally.old.symmetry }
     {
+        // shows the prover that the rows are a table
         let _ = &self.flat;
         self.transpose();
         let found = self.delete_rows_counted(start, count, tally);
@@ -324,8 +326,8 @@ impl<T, A: Allocator> Grid<T, A> {
         requires some { 0 < count }
         ensures rows { self.new.rows ≡ without_rows start count self.old.rows }
         ensures order { self.new.order ≡ self.old.order }
-        ensures shift { tally.new.shift ≡ saturating_count tally.old.shift (rows_taken_shift self.old.order
-            (row_count self.old.rows) (col_count self.old.rows) start count) }
+        ensures shift { tally.new.shift ≡ saturating_count tally.old.shift (rows_taken_shift
+            self.old.order (row_count self.old.rows) (col_count self.old.rows) start count) }
         ensures symmetry { tally.new.symmetry ≡ tally.old.symmetry }
     {
         let rest = self.row_count - count;

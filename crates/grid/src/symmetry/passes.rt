@@ -16,7 +16,8 @@ pub(super) fn reverse_lines<T, A: Allocator>(
     requires cells { length flat.old ≡ lines * width }
     requires fits { lines * width < 2 ^ 64 }
     ensures moved { LinesReversed lines width flat.old flat.new }
-    ensures symmetry { tally.new.symmetry ≡ saturating_count tally.old.symmetry (lines / 2 * width) }
+    ensures symmetry { tally.new.symmetry
+        ≡ saturating_count tally.old.symmetry (lines / 2 * width) }
     ensures shift { tally.new.shift ≡ tally.old.shift }
 {
     for line in 0..lines / 2 {
@@ -34,7 +35,8 @@ pub(super) fn reverse_each_line<T, A: Allocator>(
     requires cells { length flat.old ≡ lines * width }
     requires fits { lines * width < 2 ^ 64 }
     ensures moved { EachLineReversed lines width flat.old flat.new }
-    ensures symmetry { tally.new.symmetry ≡ saturating_count tally.old.symmetry (lines * (width / 2)) }
+    ensures symmetry { tally.new.symmetry
+        ≡ saturating_count tally.old.symmetry (lines * (width / 2)) }
     ensures shift { tally.new.shift ≡ tally.old.shift }
 {
     for line in 0..lines {

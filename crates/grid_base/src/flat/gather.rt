@@ -19,7 +19,8 @@ impl<T, A: Allocator> Flat<T, A> {
     ) -> Result<(), AllocError>
         requires table { IsTable (items_of_each rows.old) }
         requires width { width ≡ col_count (items_of_each rows.old) }
-        requires fits { row_count (items_of_each rows.old) * col_count (items_of_each rows.old) < 2 ^ 64 }
+        requires fits { row_count (items_of_each rows.old) * col_count (items_of_each rows.old)
+            < 2 ^ 64 }
         ensures ok { OnOk result (self.new ≡ self.old ++ storage order (items_of_each rows.old)) }
         ensures moved { OnOk result (All (λ row. row.items ≡ []) rows.new) }
         ensures err { OnErr result (self.new ≡ self.old) }
@@ -72,7 +73,8 @@ fn reverse_each<T, A: Allocator>(lines: &mut [Vec<T, A>])
 // Moves the last cell of each line to the end.
 fn append_lasts<T, A: Allocator>(cells: &mut Vec<T, A>, lines: &mut [Vec<T, A>])
     requires room { vec_len cells.old + length lines.old ≤ vec_capacity cells.old }
-    ensures cells { cells.new.items ≡ cells.old.items ++ flat_map last_of (items_of_each lines.old) }
+    ensures cells { cells.new.items
+        ≡ cells.old.items ++ flat_map last_of (items_of_each lines.old) }
     ensures lines { items_of_each lines.new ≡ map before_last (items_of_each lines.old) }
     ensures room { vec_capacity cells.new ≡ vec_capacity cells.old }
 {

@@ -53,13 +53,13 @@ from_vec_with_order-requires g c =
     c.loop-i.invariant.slots.count ∙ (ap (λ x. x * c.by_order-lines.result.1) all ∙ product_by_order c.args.order g.row.R g.row.C _ c.by_order-lines.ensures) in
     CanCut-cells _ g.row.R g.row.C count
 
-pub returns-clause-size : goal.returns-clause-size
-returns-clause-size g c =
+pub returns-clause-made : goal.returns-clause-made
+returns-clause-made g c =
     let all : c.loop-i.i ≡ c.by_order-lines.result.0 = omega arith in
     let count : length c.loop-i.taken.items ≡ g.row.R * g.row.C =
     c.loop-i.invariant.slots.count ∙ (ap (λ x. x * c.by_order-lines.result.1) all ∙ product_by_order c.args.order g.row.R g.row.C _ c.by_order-lines.ensures) in
     let made = c.from_vec_with_order.ensures in
-    made_size c.args.order _ _ _ _ made.table made.storage made.cols count
+    record { order = made.order; table = made.table; size = made_size c.args.order _ _ _ _ made.table made.storage made.cols count }
 
 pub returns-clause-cells : goal.returns-clause-cells
 returns-clause-cells g c =

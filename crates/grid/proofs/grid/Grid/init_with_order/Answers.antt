@@ -2,11 +2,11 @@ use Rattle.std.proofs.Common.{◌≡◌, ◌*◌, All, length, replicate, arith}
 use Rattle.grid.proofs.MadeLemmas.{All-replicate, made_size, made_fill}
 use Rattle.grid.proofs.grid.Grid.init_with_order.Goals as goal
 
-pub returns-clause-size : goal.returns-clause-size
-returns-clause-size g c =
+pub returns-clause-made : goal.returns-clause-made
+returns-clause-made g c =
     let count : length c.in_ok-cells.cells.items ≡ c.args.rows * c.args.cols = omega (arith, c.in_ok-cells.ensures.len) in
     let made = c.from_vec_with_order.ensures in
-    made_size c.args.order _ _ _ _ made.table made.storage made.cols count
+    record { order = made.order; table = made.table; size = made_size c.args.order _ _ _ _ made.table made.storage made.cols count }
 
 pub returns-clause-cells : goal.returns-clause-cells
 returns-clause-cells g c =

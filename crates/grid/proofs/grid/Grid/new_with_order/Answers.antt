@@ -14,19 +14,19 @@ loop-preserved g c = record {
   defaults = grind (arith, common_steps, All-append);
 }
 
-pub returns-clause-size : goal.returns-clause-size
-returns-clause-size g c =
+pub returns-clause-made : goal.returns-clause-made
+returns-clause-made g c =
     let count : length c.loop.cells.items ≡ c.args.rows * c.args.cols = omega (arith, c.loop.invariant.len) in
     let made = c.from_vec_with_order.ensures in
-    made_size c.args.order _ _ _ _ made.table made.storage made.cols count
+    record { order = made.order; table = made.table; size = made_size c.args.order _ _ _ _ made.table made.storage made.cols count }
 
 pub returns-clause-defaults : goal.returns-clause-defaults
 returns-clause-defaults g c =
     let made = c.from_vec_with_order.ensures in
     rw (made.order, made.storage) c.loop.invariant.defaults
 
-pub returns-clause-fixed : goal.returns-clause-fixed
-returns-clause-fixed g c = λ d only.
+pub returns-clause-one_default : goal.returns-clause-one_default
+returns-clause-one_default g c = λ d only.
     let count : length c.loop.cells.items ≡ c.args.rows * c.args.cols = omega (arith, c.loop.invariant.len) in
     let made = c.from_vec_with_order.ensures in
     let same : All (λ x. x ≡ d) c.loop.cells.items = λ k e lt. only _ (c.loop.invariant.defaults k e lt) in

@@ -3,7 +3,7 @@ ghost use Rattle.std.specs.Prelude.{◌≡◌, ◌*◌, ◌^◌, ◌≤◌, ◌�
 ghost use Rattle.grid_base.specs.Table.{IsTable};
 ghost use Rattle.grid_base.specs.Order.{storage};
 ghost use Rattle.grid_base.specs.Clones.{ClonesAreEqual};
-ghost use Rattle.grid.specs.Make.{HasSize, EachCellIs, IsOnlyDefault};
+ghost use Rattle.grid.specs.Make.{IsMade, FailsBySize, EachCellIs, IsOnlyDefault};
 
 use crate::{Grid, GridError};
 use grid_base::Order;
@@ -29,14 +29,11 @@ impl<T, A: Allocator> Grid<T, A> {
     pub fn new(alloc: A, rows: usize, cols: usize) -> Result<Grid<T, A>, GridError>
     where
         T: Default,
-        ensures order { IfOk result (λ g. g.order ≡ Order.RowMajor) }
-        ensures table { IfOk result (λ g. IsTable g.rows) }
-        ensures size { IfOk result (λ g. HasSize rows cols g.rows) }
+        ensures made { IfOk result (IsMade Order.RowMajor rows cols) }
         ensures defaults { IfOk result (λ g. All T.is_default (storage g.order g.rows)) }
-        ensures fixed { IfOk result
+        ensures one_default { IfOk result
             (λ g. (d : T) → IsOnlyDefault T.is_default d → EachCellIs d g.rows) }
-        ensures too_large { IsErrOf result GridError.TooLarge ↔ (2 ^ 64 ≤ rows * cols) }
-        ensures none { rows * cols ≡ 0 → IsOk result }
+        ensures fails { FailsBySize rows cols result }
     {
         Grid::new_with_order(alloc, rows, cols, Order::RowMajor)
     }
@@ -50,14 +47,11 @@ impl<T, A: Allocator> Grid<T, A> {
     ) -> Result<Grid<T, A>, GridError>
     where
         T: Default,
-        ensures order { IfOk result (λ g. g.order ≡ order) }
-        ensures table { IfOk result (λ g. IsTable g.rows) }
-        ensures size { IfOk result (λ g. HasSize rows cols g.rows) }
+        ensures made { IfOk result (IsMade order rows cols) }
         ensures defaults { IfOk result (λ g. All T.is_default (storage g.order g.rows)) }
-        ensures fixed { IfOk result
+        ensures one_default { IfOk result
             (λ g. (d : T) → IsOnlyDefault T.is_default d → EachCellIs d g.rows) }
-        ensures too_large { IsErrOf result GridError.TooLarge ↔ (2 ^ 64 ≤ rows * cols) }
-        ensures none { rows * cols ≡ 0 → IsOk result }
+        ensures fails { FailsBySize rows cols result }
     {
         if rows == 0 || cols == 0 {
             return Ok(Grid::empty_with_order(alloc, order));
@@ -85,12 +79,9 @@ impl<T, A: Allocator> Grid<T, A> {
     where
         T: Clone,
         requires clones { ClonesAreEqual T.is_clone }
-        ensures order { IfOk result (λ g. g.order ≡ Order.RowMajor) }
-        ensures table { IfOk result (λ g. IsTable g.rows) }
-        ensures size { IfOk result (λ g. HasSize rows cols g.rows) }
+        ensures made { IfOk result (IsMade Order.RowMajor rows cols) }
         ensures cells { IfOk result (λ g. EachCellIs value g.rows) }
-        ensures too_large { IsErrOf result GridError.TooLarge ↔ (2 ^ 64 ≤ rows * cols) }
-        ensures none { rows * cols ≡ 0 → IsOk result }
+        ensures fails { FailsBySize rows cols result }
     {
         Grid::init_with_order(alloc, rows, cols, Order::RowMajor, value)
     }
@@ -106,12 +97,9 @@ impl<T, A: Allocator> Grid<T, A> {
     where
         T: Clone,
         requires clones { ClonesAreEqual T.is_clone }
-        ensures order { IfOk result (λ g. g.order ≡ order) }
-        ensures table { IfOk result (λ g. IsTable g.rows) }
-        ensures size { IfOk result (λ g. HasSize rows cols g.rows) }
+        ensures made { IfOk result (IsMade order rows cols) }
         ensures cells { IfOk result (λ g. EachCellIs value g.rows) }
-        ensures too_large { IsErrOf result GridError.TooLarge ↔ (2 ^ 64 ≤ rows * cols) }
-        ensures none { rows * cols ≡ 0 → IsOk result }
+        ensures fails { FailsBySize rows cols result }
     {
         if rows == 0 || cols == 0 {
             return Ok(Grid::empty_with_order(alloc, order));
@@ -130,8 +118,7 @@ impl<T, A: Allocator> Grid<T, A> {
     pub fn with_capacity(alloc: A, rows: usize, cols: usize) -> Result<Grid<T, A>, GridError>
         ensures rows { IfOk result (λ g. g.rows ≡ []) }
         ensures order { IfOk result (λ g. g.order ≡ Order.RowMajor) }
-        ensures too_large { IsErrOf result GridError.TooLarge ↔ (2 ^ 64 ≤ rows * cols) }
-        ensures none { rows * cols ≡ 0 → IsOk result }
+        ensures fails { FailsBySize rows cols result }
     {
         Grid::with_capacity_and_order(alloc, rows, cols, Order::RowMajor)
     }
@@ -145,8 +132,7 @@ impl<T, A: Allocator> Grid<T, A> {
     ) -> Result<Grid<T, A>, GridError>
         ensures rows { IfOk result (λ g. g.rows ≡ []) }
         ensures order { IfOk result (λ g. g.order ≡ order) }
-        ensures too_large { IsErrOf result GridError.TooLarge ↔ (2 ^ 64 ≤ rows * cols) }
-        ensures none { rows * cols ≡ 0 → IsOk result }
+        ensures fails { FailsBySize rows cols result }
     {
         let Some(count) = rows.checked_mul(cols) else {
             return Err(GridError::TooLarge);

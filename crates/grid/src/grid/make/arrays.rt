@@ -1,7 +1,7 @@
 //! A grid of the cells in an array of rows.
 ghost use Rattle.std.specs.Prelude.{◌≡◌, ◌≢◌, ◌*◌, ◌^◌, ◌<◌, ◌≤◌, ◌↔◌, Some, None, IsTrue, IsOk, IfOk, OnOk, OnErr, IsErrOf, slice_get, slice_set};
 ghost use Rattle.grid_base.specs.Table.{cell, with_cell, IsTable};
-ghost use Rattle.grid.specs.Make.{HasSize};
+ghost use Rattle.grid.specs.Make.{IsMade, FailsBySize};
 ghost use Rattle.grid.specs.Slots.{by_order, are_full, AreEmpty, HoldCells};
 
 use crate::{Grid, GridError};
@@ -59,14 +59,11 @@ impl<T, A: Allocator> Grid<T, A> {
         cells: &mut [[Option<T>; C]; R],
     ) -> Result<Grid<T, A>, GridError>
         requires { IsTrue (are_full cells.old) }
-        ensures order { IfOk result (λ g. g.order ≡ order) }
-        ensures table { IfOk result (λ g. IsTable g.rows) }
-        ensures size { IfOk result (λ g. HasSize R C g.rows) }
+        ensures made { IfOk result (IsMade order R C) }
         ensures cells { IfOk result (λ g. HoldCells R C cells.old g.rows) }
         ensures emptied { OnOk result (AreEmpty R C cells.new) }
         ensures kept { OnErr result (cells.new ≡ cells.old) }
-        ensures too_large { IsErrOf result GridError.TooLarge ↔ (2 ^ 64 ≤ R * C) }
-        ensures none { R * C ≡ 0 → IsOk result }
+        ensures fails { FailsBySize R C result }
     {
         let Some(count) = R.checked_mul(C) else {
             return Err(GridError::TooLarge);
