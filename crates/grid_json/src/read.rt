@@ -6,7 +6,7 @@ ghost use Rattle.grid_json.specs.Content.{contents};
 ghost use Rattle.grid_json.specs.Reading.{is_field, has_unknown, parts_of, or_refuse, cols_in, items_in, cells_from, order_named, order_in, cut, reading, Gives, GivesOrMemory};
 
 use crate::{Cell, Field, ReadError};
-use grid::{Grid, Order};
+use grid::{Grid, Order, can_cut};
 use serde_json::{Map, Value};
 use std::alloc::Global;
 
@@ -144,7 +144,7 @@ fn cut<T: Drop>(cells: Vec<T>, cols: usize, order: Order) -> Result<Grid<T>, Rea
     ensures { result ≡ cut order cols cells.items }
 {
     let len = cells.len();
-    if len == 0 || (cols != 0 && len % cols == 0) {
+    if can_cut(len, cols) {
         Ok(Grid::from_vec_with_order(cells, cols, order))
     } else {
         Err(ReadError::Shape { len, cols })

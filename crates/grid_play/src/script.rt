@@ -3,7 +3,7 @@ ghost use Rattle.std.specs.Prelude.{◌≡◌, ◌↔◌, codes};
 
 use crate::fault::ScriptFault;
 use crate::tokens::{Lines, Words, cell, index};
-use grid::{Command, Grid, Order, Symmetry};
+use grid::{Command, Grid, Order, Symmetry, can_cut};
 use std::alloc::{AllocError, Allocator, Global};
 
 /// A script that was read.
@@ -20,30 +20,22 @@ impl<A: Allocator + Clone> Script<A> {
     pub fn parse(alloc: A, input: &[u8]) -> Result<Script<A>, ScriptFault> {
         let mut lines = Lines::of(input);
         let (_, first) = lines.next().ok_or(ScriptFault::BadGrid)?;
-        let grid = parse_grid(alloc.clone()?, first)?.ok_or(ScriptFault::BadGrid)?;
+        let grid = parse_grid(alloc.clone()?, first)?;
         let commands = parse_commands(alloc, lines)?;
         Ok(Script { grid, commands })
     }
 }
 
 // The order, the number of columns, and the cells in storage order.
-fn parse_grid<A: Allocator>(alloc: A, line: &[u8]) -> Result<Option<Grid<i64, A>>, AllocError> {
-    let Some(mut words) = Words::of(line) else {
-        return Ok(None);
-    };
-    let Some(order) = words.next().and_then(order) else {
-        return Ok(None);
-    };
-    let Some(cols) = words.next().and_then(index) else {
-        return Ok(None);
-    };
-    let Some(cells) = parse_cells(alloc, words)? else {
-        return Ok(None);
-    };
-    if cells.is_empty() || (cols != 0 && cells.len() % cols == 0) {
-        Ok(Some(Grid::from_vec_with_order(cells, cols, order)))
+fn parse_grid<A: Allocator>(alloc: A, line: &[u8]) -> Result<Grid<i64, A>, ScriptFault> {
+    let mut words = Words::of(line).ok_or(ScriptFault::BadGrid)?;
+    let order = words.next().and_then(order).ok_or(ScriptFault::BadGrid)?;
+    let cols = words.next().and_then(index).ok_or(ScriptFault::BadGrid)?;
+    let cells = parse_cells(alloc, words)?.ok_or(ScriptFault::BadGrid)?;
+    if can_cut(cells.len(), cols) {
+        Ok(Grid::from_vec_with_order(cells, cols, order))
     } else {
-        Ok(None)
+        Err(ScriptFault::BadGrid)
     }
 }
 

@@ -24,10 +24,10 @@ pub fn insert<T: Drop, A: Allocator>(
     let (rows, cols) = grid.size();
     let len = line.len();
     match place {
-        LineAt::Row(at) if len != 0 && at <= rows && (rows == 0 || len == cols) => {
+        LineAt::Row(at) if len != 0 && at <= rows && grid.fits_row(len) => {
             grid.insert_row(at, line)
         }
-        LineAt::Col(at) if len != 0 && at <= cols && (rows == 0 || len == rows) => {
+        LineAt::Col(at) if len != 0 && at <= cols && grid.fits_col(len) => {
             grid.insert_col(at, line)
         }
         _ => Err(misfit(line)),
@@ -39,8 +39,7 @@ pub fn push_row<T: Drop, A: Allocator>(
     grid: &mut Grid<T, A>,
     line: Vec<T, A>,
 ) -> Result<(), LineRefused<T, A>> {
-    let (rows, cols) = grid.size();
-    if line.is_empty() || rows != 0 && line.len() != cols {
+    if line.is_empty() || !grid.fits_row(line.len()) {
         return Err(misfit(line));
     }
     grid.push_row(line)
@@ -51,8 +50,7 @@ pub fn push_col<T: Drop, A: Allocator>(
     grid: &mut Grid<T, A>,
     line: Vec<T, A>,
 ) -> Result<(), LineRefused<T, A>> {
-    let (rows, _) = grid.size();
-    if line.is_empty() || rows != 0 && line.len() != rows {
+    if line.is_empty() || !grid.fits_col(line.len()) {
         return Err(misfit(line));
     }
     grid.push_col(line)
@@ -87,12 +85,12 @@ pub fn insert_several<T: Drop, A: Allocator>(
     lines: Vec<Vec<T, A>, A>,
 ) -> Result<(), LinesRefused<T, A>> {
     let (rows, cols) = grid.size();
-    let any_fits = rows == 0 || lines.is_empty();
+    let none = lines.is_empty();
     match (width_of(lines.as_slice()), place) {
-        (Some(width), LineAt::Row(at)) if at <= rows && (any_fits || width == cols) => {
+        (Some(width), LineAt::Row(at)) if at <= rows && (none || grid.fits_row(width)) => {
             grid.insert_rows(at, lines)
         }
-        (Some(width), LineAt::Col(at)) if at <= cols && (any_fits || width == rows) => {
+        (Some(width), LineAt::Col(at)) if at <= cols && (none || grid.fits_col(width)) => {
             grid.insert_cols(at, lines)
         }
         _ => Err(LinesRefused {

@@ -3,7 +3,7 @@ ghost use Rattle.std.specs.Prelude.{◌≡◌};
 
 use crate::fuse::Fuse;
 use crate::plain;
-use grid::{Grid, Move, Order, ShapeError, Symmetry};
+use grid::{Grid, Move, Order, ShapeError, Symmetry, can_cut};
 use std::alloc::{AllocError, Allocator, Global};
 use std::cell::Cell;
 
@@ -108,7 +108,7 @@ pub fn cut<T: Drop, A: Allocator>(
     order: Order,
 ) -> Result<Grid<T, A>, ShapeError> {
     let len = cells.len();
-    if len == 0 || cols != 0 && len % cols == 0 {
+    if can_cut(len, cols) {
         Ok(Grid::from_vec_with_order(cells, cols, order))
     } else {
         Err(ShapeError::Shape { len, cols })
