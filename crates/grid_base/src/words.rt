@@ -39,16 +39,16 @@ pub enum Move {
     FlipCols,
     /// The rows are reversed.
     FlipRows,
-    /// A quarter turn against the clock.
+    /// A quarter turn counterclockwise.
     RotateLeft,
-    /// A quarter turn with the clock.
+    /// A quarter turn clockwise.
     RotateRight,
     /// A half turn.
     RotateHalf,
 }
 
 impl Symmetry {
-    /// The symmetry that a move does.
+    /// Returns the symmetry that a move does.
     pub fn of(step: Move) -> Symmetry
         ensures { result ≡ of_move step }
     {
@@ -62,7 +62,7 @@ impl Symmetry {
         }
     }
 
-    // Whether it transposes, and whether it then flips the rows and the columns.
+    // Returns whether it transposes, and whether it then flips the rows and the columns.
     fn flags(self) -> (bool, bool, bool)
         ensures { result ≡ flags_of self }
     {
@@ -93,7 +93,9 @@ impl Symmetry {
         }
     }
 
-    /// The symmetry that acts on every table as this one followed by `next`.
+    /// Returns the symmetry that acts on every table as this one followed by `next`.
+    ///
+    ///     RotateLeft.then(Transpose)   FlipCols
     pub fn then(self, next: Symmetry) -> Symmetry
         ensures { IsThen self next result }
     {
@@ -106,7 +108,9 @@ impl Symmetry {
         }
     }
 
-    /// The symmetry whose action after this one leaves every table as it was.
+    /// Returns the symmetry whose action after this one leaves every table as it was.
+    ///
+    ///     RotateLeft.inverse()   RotateRight
     pub fn inverse(self) -> Symmetry
         ensures { IsInverse self result }
     {
@@ -118,9 +122,12 @@ impl Symmetry {
     }
 }
 
-/// The normal form of a word: the one symmetry that acts on every table as its moves from left to right.
+/// Returns the normal form of a word: the one symmetry that acts on every table as its moves from left to right.
+///
+///     reduce([RotateLeft, FlipCols])   AntiTranspose
 ///
 /// Two words have one normal form exactly if they act alike on all tables of whole numbers.
+/// Cost: time in the length of the word; no memory.
 pub fn reduce(word: &[Move]) -> Symmetry
     ensures normal { IsNormalForm word.now result }
     ensures acts { (t : List (List ℕ)) → IsTable t → word_image word.now t ≡ act result t }

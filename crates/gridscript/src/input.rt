@@ -7,7 +7,7 @@ use std::io::Read;
 use std::rt::Env;
 use std::{env, io};
 
-// An input that doesn't end within so many reads is refused.
+// The number of reads within which an input has to end.
 const READS: u32 = 1_048_576;
 
 const READ_LEN: usize = 4096;

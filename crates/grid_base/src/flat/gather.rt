@@ -10,7 +10,8 @@ use std::alloc::{AllocError, Allocator};
 impl<T, A: Allocator> Flat<T, A> {
     /// Moves the cells of rows of `width` cells to the end, in storage order.
     ///
-    /// The memory for all of them is had first, and a refusal leaves this vector and the rows as they were.
+    /// Fails: where memory for all of them is refused, which is asked for first; this vector and the rows are
+    /// unchanged.
     pub fn append_rows(
         &mut self,
         order: Order,

@@ -1,4 +1,4 @@
-//! A walk over cells with their places, in storage order.
+//! An iterator over cells with their places, in storage order.
 ghost use Rattle.std.specs.Prelude.{◌≡◌, length, zip, IfSome, Some};
 ghost use Rattle.std.specs.Iterator.{YieldsFirstBy, item_count, UpTo, at_most};
 ghost use Rattle.std.specs.Iterator.SizeHint.{IsWithinCount};
@@ -12,7 +12,8 @@ use std::marker::Model;
 use std::slice;
 
 impl<T, A: Allocator> Flat<T, A> {
-    /// The cells of so many rows and columns, each with its row and its column.
+    /// Returns an iterator over the cells of a table of `rows` rows and `cols` columns, each with its row and its
+    /// column.
     pub fn indexed_iter(&self, order: Order, rows: usize, cols: usize) -> IndexedIter<'_, T>
         requires { HoldsSize rows cols (length self.now) }
         ensures { result ≡ zip (places order rows cols) self.now }
@@ -24,7 +25,7 @@ impl<T, A: Allocator> Flat<T, A> {
     }
 }
 
-/// The cells that are left, each with its row and its column.
+/// An iterator over cells, each with its row and its column.
 #[derive(Drop)]
 pub struct IndexedIter<'a, T> {
     places: Places,

@@ -1,4 +1,4 @@
-//! A walk over cells by value, with their places, in storage order.
+//! An iterator over cells by value, with their places, in storage order.
 ghost use Rattle.std.specs.Prelude.{◌≡◌, length, zip, IfSome, Some};
 ghost use Rattle.std.specs.Iterator.{YieldsFirst, item_count, UpTo, at_most};
 ghost use Rattle.std.specs.Iterator.SizeHint.{IsWithinCount};
@@ -12,7 +12,8 @@ use std::marker::Model;
 use std::vec;
 
 impl<T, A: Allocator> Flat<T, A> {
-    /// The cells of so many rows and columns by value, each with its row and its column.
+    /// Returns an iterator over the cells of a table of `rows` rows and `cols` columns, by value, each with its row and
+    /// its column.
     pub fn indexed_into_iter(self, order: Order, rows: usize, cols: usize) -> IndexedIntoIter<T, A>
         requires { HoldsSize rows cols (length self) }
         ensures { result ≡ zip (places order rows cols) self }
@@ -25,7 +26,7 @@ impl<T, A: Allocator> Flat<T, A> {
     }
 }
 
-/// The cells that are left, by value, each with its row and its column.
+/// An iterator over cells, by value, each with its row and its column.
 #[derive(Drop)]
 pub struct IndexedIntoIter<T, A: Allocator = Global> {
     places: Places,

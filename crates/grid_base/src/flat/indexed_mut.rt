@@ -1,4 +1,4 @@
-//! A walk over cells for writing, with their places, in storage order.
+//! An iterator over cells for writing, with their places, in storage order.
 ghost use Rattle.std.specs.Prelude.{◌≡◌, length, zip, IfSome, Some};
 ghost use Rattle.std.specs.Borrow.{sem};
 ghost use Rattle.std.specs.Iterator.{YieldsFirstBy, item_count, UpTo, at_most};
@@ -15,7 +15,8 @@ use std::slice;
 impl<T, A: Allocator> Flat<T, A> {
     ghost use Rattle.grid_base.specs.FlatLends.{lends_indexed};
 
-    /// The cells of so many rows and columns for writing, each with its row and its column.
+    /// Returns an iterator over the cells of a table of `rows` rows and `cols` columns, for writing, each with its row
+    /// and its column.
     pub fn indexed_iter_mut(
         &mut self,
         order: Order,
@@ -33,8 +34,7 @@ impl<T, A: Allocator> Flat<T, A> {
     }
 }
 
-/// The cells that are left, for writing, each with its row and its column.
-// It has no model, so that a contract can follow the loan.
+/// An iterator over cells, for writing, each with its row and its column.
 #[derive(Drop)]
 pub struct IndexedIterMut<'a, T> {
     places: Places,

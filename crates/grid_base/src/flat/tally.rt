@@ -8,7 +8,7 @@ use super::blocks::{reverse_part, swap_blocks};
 use std::alloc::Allocator;
 use std::marker::Model;
 
-/// How many swaps of two cells were done: for symmetries, and for shifts in expand, prepend and delete.
+/// The numbers of swaps that were done: for symmetries, and for shifts in expand, prepend and delete.
 ///
 /// Only the counted swaps of a [`Flat`](crate::Flat) and its runs of them raise a count, by one for each pair of cells
 /// that is exchanged. A count stops at `u128::MAX`, and no call lowers it.
@@ -27,7 +27,7 @@ impl Model for Tally {
 }
 
 impl Tally {
-    /// A tally with both counts 0.
+    /// Returns a tally with both counts 0.
     pub fn new() -> Tally
         ensures symmetry { result.symmetry ≡ 0 }
         ensures shift { result.shift ≡ 0 }
@@ -38,14 +38,14 @@ impl Tally {
         }
     }
 
-    /// The number of swaps that were done for symmetries.
+    /// Returns the number of swaps that were done for symmetries.
     pub fn symmetry(&self) -> u128
         ensures { result ≡ self.now.symmetry }
     {
         self.for_symmetry
     }
 
-    /// The number of swaps that were done for shifts.
+    /// Returns the number of swaps that were done for shifts.
     pub fn shift(&self) -> u128
         ensures { result ≡ self.now.shift }
     {
