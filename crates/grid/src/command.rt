@@ -51,8 +51,8 @@ impl<T, A: Allocator> Grid<T, A> {
     ///     [[1, 2], [3, 4]]   step(Apply(FlipRows))   Done   [[3, 4], [1, 2]]
     ///
     /// Fails: where memory is refused, at a command that takes memory; the grid and the tally are unchanged.
-    /// Cost: that of the call that the command names. The swaps of a symmetry are added to the symmetry count of the
-    /// tally; the shift count stays.
+    /// Cost: that of the call that the command names, and for `Get` a clone of the cell. The swaps of a symmetry are
+    /// added to the symmetry count of the tally; the shift count stays.
     pub fn step(&mut self, command: Command, tally: &mut Tally) -> Result<Reply<T>, AllocError>
     where
         T: Clone + Default + Drop,
