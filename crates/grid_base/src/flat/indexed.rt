@@ -14,6 +14,8 @@ use std::slice;
 impl<T, A: Allocator> Flat<T, A> {
     /// Returns an iterator over the cells of a table of `rows` rows and `cols` columns, each with its row and its
     /// column.
+    ///
+    /// Requires: the vector has `rows * cols` cells, and there are rows exactly if there are columns.
     pub fn indexed_iter(&self, order: Order, rows: usize, cols: usize) -> IndexedIter<'_, T>
         requires { HoldsSize rows cols (length self.now) }
         ensures { result ≡ zip (places order rows cols) self.now }

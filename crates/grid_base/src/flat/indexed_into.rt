@@ -14,6 +14,8 @@ use std::vec;
 impl<T, A: Allocator> Flat<T, A> {
     /// Returns an iterator over the cells of a table of `rows` rows and `cols` columns, by value, each with its row and
     /// its column.
+    ///
+    /// Requires: the vector has `rows * cols` cells, and there are rows exactly if there are columns.
     pub fn indexed_into_iter(self, order: Order, rows: usize, cols: usize) -> IndexedIntoIter<T, A>
         requires { HoldsSize rows cols (length self) }
         ensures { result ≡ zip (places order rows cols) self }

@@ -17,6 +17,8 @@ impl<T, A: Allocator> Flat<T, A> {
 
     /// Returns an iterator over the cells of a table of `rows` rows and `cols` columns, for writing, each with its row
     /// and its column.
+    ///
+    /// Requires: the vector has `rows * cols` cells, and there are rows exactly if there are columns.
     pub fn indexed_iter_mut(
         &mut self,
         order: Order,

@@ -14,6 +14,10 @@ use std::ops::Range;
 impl<T, A: Allocator> Flat<T, A> {
     /// Returns an iterator over the cells from `start` on and before `end`, each `stride` places after the one before
     /// it.
+    ///
+    ///     [1, 2, 3, 4, 5, 6]   line(1, 6, 2)   2, 4, 6
+    ///
+    /// Requires: `start` is at most `end`, which is at most the number of cells; `stride` is not 0.
     pub fn line(&self, start: usize, end: usize, stride: usize) -> GridLineIter<'_, T>
         requires ordered { start ≤ end }
         requires within { end ≤ length self.now }

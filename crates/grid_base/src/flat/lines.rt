@@ -11,6 +11,10 @@ use std::alloc::Allocator;
 impl<T, A: Allocator> Flat<T, A> {
     /// Puts the groups of `count` cells that stand behind the lines into their lines, each before place `at`.
     ///
+    ///     [1, 2, 3, 4, 5, 6]   weave(1, 4, 2, 2)   [1, 2, 5, 6, 3, 4]
+    ///     [1, 3, 2, 4, 5, 6]   weave(2, 2, 1, 1)   [1, 5, 3, 2, 6, 4]
+    ///
+    /// Requires: the vector has `lines` lines of `width` cells and as many groups; `at` is at most `width`.
     /// Cost: time in the number of cells times log2(lines) + 1 at most, by rotations; no memory.
     pub fn weave(&mut self, lines: usize, width: usize, at: usize, count: usize)
         requires cells { length self.old ≡ lines * width + lines * count }
@@ -23,6 +27,9 @@ impl<T, A: Allocator> Flat<T, A> {
 
     /// Takes the `count` cells from place `at` on out of each line, and puts them behind the lines.
     ///
+    ///     [1, 5, 3, 2, 6, 4]   unweave(2, 2, 1, 1)   [1, 3, 2, 4, 5, 6]
+    ///
+    /// Requires: the vector has `lines` lines of `width + count` cells; `at` is at most `width`.
     /// Cost: that of [`weave`](Flat::weave).
     pub fn unweave(&mut self, lines: usize, width: usize, at: usize, count: usize)
         requires cells { length self.old ≡ lines * (width + count) }
@@ -34,8 +41,12 @@ impl<T, A: Allocator> Flat<T, A> {
     }
 
     /// Spreads the lines that stand first, so that each has room for `count` cells before its place `at`. What stood
-    /// behind the lines comes to the room.
+    /// behind the lines comes to the room, in any order.
     ///
+    ///     [1, 3, 2, 4, 0, 0]   open(2, 2, 1, 1)   [1, 0, 3, 2, 0, 4]
+    ///
+    /// Requires: the vector has `lines` lines of `width` cells and as many groups behind them; none of these numbers is
+    /// 0, and `at` is at most `width`.
     /// Cost: each cell whose place changes is swapped once, for a shift; no memory.
     pub fn open(&mut self, lines: usize, width: usize, at: usize, count: usize, tally: &mut Tally)
         requires cells { length self.old ≡ lines * (width + count) }
@@ -61,6 +72,9 @@ impl<T, A: Allocator> Flat<T, A> {
 
     /// Closes up the lines without the `count` cells from place `at` on in each, and drops those.
     ///
+    ///     [1, 5, 3, 2, 6, 4]   close_up(2, 2, 1, 1)   [1, 3, 2, 4]
+    ///
+    /// Requires: the vector has `lines` lines of `width + count` cells; `count` is not 0, and `at` is at most `width`.
     /// Cost: each kept cell whose place changes is swapped once, for a shift; no memory.
     pub fn close_up(
         &mut self,

@@ -68,7 +68,11 @@ impl Tally {
 }
 
 impl<T, A: Allocator> Flat<T, A> {
-    /// Exchanges the cells of two unlike places, and counts one swap for a symmetry.
+    /// Exchanges two cells, and counts one swap for a symmetry.
+    ///
+    ///     [1, 2, 3]   swap_for_symmetry(0, 2)   [3, 2, 1]   1 swap
+    ///
+    /// Requires: the places are in range, and unlike.
     pub fn swap_for_symmetry(&mut self, i: usize, j: usize, tally: &mut Tally)
         requires i_in { i < length self.old }
         requires j_in { j < length self.old }
@@ -81,7 +85,11 @@ impl<T, A: Allocator> Flat<T, A> {
         tally.count_symmetries(1);
     }
 
-    /// Exchanges the cells of two unlike places, and counts one swap for a shift.
+    /// Exchanges two cells, and counts one swap for a shift.
+    ///
+    ///     [1, 2, 3]   swap_for_shift(0, 2)   [3, 2, 1]   1 swap
+    ///
+    /// Requires: the places are in range, and unlike.
     pub fn swap_for_shift(&mut self, i: usize, j: usize, tally: &mut Tally)
         requires i_in { i < length self.old }
         requires j_in { j < length self.old }
@@ -95,6 +103,10 @@ impl<T, A: Allocator> Flat<T, A> {
     }
 
     /// Reverses the `n` cells from `start` on, by `n / 2` swaps for a symmetry.
+    ///
+    ///     [1, 2, 3, 4]   reverse_for_symmetry(1, 3)   [1, 4, 3, 2]   1 swap
+    ///
+    /// Requires: these cells are in range.
     pub fn reverse_for_symmetry(&mut self, start: usize, n: usize, tally: &mut Tally)
         requires within { start + n ≤ length self.old }
         requires fits { start + n < 2 ^ 64 }
@@ -106,7 +118,11 @@ impl<T, A: Allocator> Flat<T, A> {
         tally.count_symmetries(n / 2);
     }
 
-    /// Exchanges the `n` cells from `i` on with those from `j` on, which come later, by `n` swaps for a symmetry.
+    /// Exchanges the `n` cells from `i` on with those from `j` on, by `n` swaps for a symmetry.
+    ///
+    ///     [1, 2, 3, 4, 5]   swap_blocks_for_symmetry(0, 3, 2)   [4, 5, 3, 1, 2]   2 swaps
+    ///
+    /// Requires: both blocks are in range, and the second begins behind the first.
     pub fn swap_blocks_for_symmetry(&mut self, i: usize, j: usize, n: usize, tally: &mut Tally)
         requires apart { i + n ≤ j }
         requires within { j + n ≤ length self.old }
@@ -119,7 +135,11 @@ impl<T, A: Allocator> Flat<T, A> {
         tally.count_symmetries(n);
     }
 
-    /// Exchanges the `n` cells from `i` on with those from `j` on, which come later, by `n` swaps for a shift.
+    /// Exchanges the `n` cells from `i` on with those from `j` on, by `n` swaps for a shift.
+    ///
+    ///     [1, 2, 3, 4, 5]   swap_blocks_for_shift(0, 3, 2)   [4, 5, 3, 1, 2]   2 swaps
+    ///
+    /// Requires: both blocks are in range, and the second begins behind the first.
     pub fn swap_blocks_for_shift(&mut self, i: usize, j: usize, n: usize, tally: &mut Tally)
         requires apart { i + n ≤ j }
         requires within { j + n ≤ length self.old }
