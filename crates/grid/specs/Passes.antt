@@ -1,4 +1,4 @@
--- What a pass over lines of cells leaves.
+-- What a pass over lines of cells leaves. No public clause cites this module.
 use Rattle.std.specs.Prelude.{◌≡◌, ℕ, ◌+◌, ◌-◌, ◌*◌, ◌<◌, List, length, slice_get}
 
 -- p lines of q cells stand in the reversed order

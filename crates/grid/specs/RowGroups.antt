@@ -1,4 +1,4 @@
--- What an edit of the vector does to the rows of its table.
+-- What an edit of the vector does to the rows of its table. No public clause cites this module.
 use Rattle.std.specs.Prelude.{◌≡◌, ℕ, ◌+◌, ◌*◌, List, ◌++◌, length, take, drop, remove, nat_eq, ◌<◌, ◌≤◌, slice_get, if◌then◌else◌}
 use Rattle.grid_base.specs.declared.flat.order.Order.{Order}
 use Rattle.grid_base.specs.Table.{row, row_count, col_count, cell, IsTable}

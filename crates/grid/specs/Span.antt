@@ -1,4 +1,4 @@
--- Where the cells of a row or a column stand in the storage.
+-- Where the cells of a row or a column stand in the storage. No public clause cites this module.
 use Rattle.std.specs.Prelude.{◌≡◌, ℕ, ◌+◌, ◌-◌, ◌*◌, ◌<◌, ◌≤◌}
 use Rattle.std.specs.Int.{div_ceil}
 use Rattle.grid.specs.declared.walks.span.Span.{Span}

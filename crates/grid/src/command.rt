@@ -23,7 +23,7 @@ pub enum Command {
     Apply(Symmetry),
 }
 
-/// What a command replies.
+/// What a command returns, as data.
 #[derive(Debug, PartialEq, Drop)]
 pub enum Reply<T> {
     /// It was done.
@@ -34,23 +34,25 @@ pub enum Reply<T> {
     Cell(Option<T>),
 }
 
-/// A run that found no memory.
-///
-/// The grid has the rows after the first `done` commands, and `replies` are theirs.
+/// The error of [`run`], where memory is refused. The grid has the rows after the first `done` commands, and `replies`
+/// are theirs.
 #[derive(Drop)]
 #[derive_where(Debug, PartialEq; T)]
 pub struct RunStopped<T, A: Allocator = Global> {
-    /// How many commands were done.
+    /// The number of commands that were done.
     pub done: usize,
     /// Their replies.
     pub replies: Vec<Reply<T>, A>,
 }
 
 impl<T, A: Allocator> Grid<T, A> {
-    /// Does a command.
+    /// Does a command, and returns its reply.
     ///
-    /// Adds what a symmetry costs to the symmetry count of the tally, and nothing to the shift count. An error comes
-    /// only at a command that takes memory, and leaves the grid and the tally as they were.
+    ///     [[1, 2], [3, 4]]   step(Apply(FlipRows))   Done   [[3, 4], [1, 2]]
+    ///
+    /// Fails: where memory is refused, at a command that takes memory; the grid and the tally are unchanged.
+    /// Cost: that of the call that the command names, and for `Get` a clone of the cell. The swaps of a symmetry are
+    /// added to the symmetry count of the tally; the shift count stays.
     pub fn step(&mut self, command: Command, tally: &mut Tally) -> Result<Reply<T>, AllocError>
     where
         T: Clone + Default + Drop,
@@ -92,10 +94,13 @@ impl<T, A: Allocator> Grid<T, A> {
     }
 }
 
-/// Does a list of commands in turn, each as [`Grid::step`] does it.
+/// Does a list of commands in turn, each as [`Grid::step`] does it, and returns the list of their replies.
 ///
-/// The list of replies is reserved before the first command. Where memory is refused, the run stops: at a command
-/// that takes memory, or before the first command of a list that isn't empty. The commands that remain are dropped.
+///     [[1, 2], [3, 4]]   run([Apply(FlipRows), Get(0, 0)])   [Done, Cell(Some(3))]   [[3, 4], [1, 2]]
+///
+/// Fails: `RunStopped` where memory is refused, at a command that takes memory, or before the first command of a list
+/// that isn't empty. The grid and the tally are as after the commands that were done; the others are dropped.
+/// Cost: that of the commands; the list of replies is reserved before the first of them.
 pub fn run<T, A: Allocator>(
     alloc: A,
     grid: &mut Grid<T, A>,

@@ -1,4 +1,4 @@
-//! Conversions of vectors into row-major grids.
+//! Conversions of vectors into row-major grids: the six `TryFrom`.
 ghost use Rattle.std.specs.Prelude.{◌≡◌, ◌≢◌, ◌↔◌, length, map, IsTrue, MatchResult};
 ghost use Rattle.grid_base.specs.Table.{col_count, concat_rows};
 ghost use Rattle.grid_base.specs.Order.{CanCut};
@@ -8,7 +8,7 @@ use crate::{Grid, ShapeError};
 use std::alloc::Allocator;
 use std::convert::{AsSlice, TryFrom};
 
-/// Whether `len` cells can be cut into rows of `cols`: there are no cells, or `cols` is not 0 and divides their number.
+/// Returns whether `len` cells can be cut into rows of `cols`: there are no cells, or `cols` is not 0 and divides their number.
 ///
 ///     can_cut(6, 3)   true        can_cut(6, 4)   false        can_cut(0, 0)   true
 pub fn can_cut(len: usize, cols: usize) -> bool
@@ -17,11 +17,13 @@ pub fn can_cut(len: usize, cols: usize) -> bool
     len == 0 || (cols != 0 && len % cols == 0)
 }
 
-/// The grid of rows of this length whose rows, joined, are the vector.
+/// Returns the row-major grid of the vector's cells, cut into rows of this length.
 ///
-/// `Shape` exactly where the vector is not empty and the length is 0 or does not divide the number of cells; then the
-/// vector is dropped. Takes no memory. `TooLarge` never comes, since one vector never holds too many cells, nor do
-/// `Ragged` and `Memory`.
+///     try_from(([1, 2, 3, 4], 2))   [[1, 2], [3, 4]]
+///
+/// Fails: `Shape` where the vector is not empty, and the length is 0 or does not divide the number of cells; the vector
+/// is dropped. No other error comes.
+/// Cost: constant; the vector is kept, and no memory is taken.
 impl<T: Drop, A: Allocator> TryFrom<(Vec<T, A>, usize)> for Grid<T, A> {
     type Error = ShapeError;
 
@@ -55,12 +57,14 @@ fn cut_clones<T: Clone, A: Allocator + Clone>(
     }
 }
 
-/// The grid of rows of this length whose rows, joined, are clones of the vector's cells.
+/// Returns the row-major grid of clones of the vector's cells, cut into rows of this length. Where clones equal their
+/// source, the cells are those of the vector.
 ///
-/// Each is a clone of its source; where clones equal their source, the cells are those of the vector. `Shape` exactly
-/// where the vector is not empty and the length is 0 or does not divide the number of cells; only after that test
-/// memory is asked for, of the vector's allocator. `TooLarge` never comes, since one vector never holds too many cells,
-/// nor does `Ragged`.
+///     try_from((&[1, 2, 3, 4], 2))   [[1, 2], [3, 4]]
+///
+/// Fails: `Shape` where the vector is not empty, and the length is 0 or does not divide the number of cells; else
+/// `Memory`, from the vector's allocator or a clone. No other error comes.
+/// Cost: one clone for each cell; no memory is asked for before the shape is tested.
 impl<T: Clone, A: Allocator + Clone> TryFrom<(&Vec<T, A>, usize)> for Grid<T, A> {
     type Error = ShapeError;
 
@@ -73,7 +77,7 @@ impl<T: Clone, A: Allocator + Clone> TryFrom<(&Vec<T, A>, usize)> for Grid<T, A>
     }
 }
 
-/// The same, with the length by reference.
+/// Same as of `(&Vec<T, A>, usize)`, with the length by reference.
 impl<T: Clone, A: Allocator + Clone> TryFrom<(&Vec<T, A>, &usize)> for Grid<T, A> {
     type Error = ShapeError;
 
@@ -86,7 +90,7 @@ impl<T: Clone, A: Allocator + Clone> TryFrom<(&Vec<T, A>, &usize)> for Grid<T, A
     }
 }
 
-// The length of the first row, or 0 where there is none.
+// Returns the length of the first row, or 0 where there is none.
 pub(crate) fn first_len<T, L: AsSlice<T>>(rows: &[L]) -> usize
     ensures { result ≡ col_count (map L.items rows.now) }
 {
@@ -96,7 +100,7 @@ pub(crate) fn first_len<T, L: AsSlice<T>>(rows: &[L]) -> usize
     }
 }
 
-// How many cells rows of one length have together, and that length.
+// Returns the number of cells of rows that have one length, and that length.
 fn measure<T, L: AsSlice<T>>(rows: &[L]) -> Result<(usize, usize), ShapeError>
     ensures { MatchResult result (λ sizes. CanJoin (map L.items rows.now) × (sizes.0 ≡ length
         (concat_rows (map L.items rows.now))) × (sizes.1 ≡ col_count (map L.items rows.now)))
@@ -119,11 +123,14 @@ fn measure<T, L: AsSlice<T>>(rows: &[L]) -> Result<(usize, usize), ShapeError>
     }
 }
 
-/// The grid of these rows, which are moved.
+/// Returns the row-major grid of these rows, which are moved. No rows, or rows of length 0, give the empty grid.
 ///
-/// `Ragged` exactly where some row's length is not that of row 0, for the first such row; this is tested first and
-/// takes no memory. `TooLarge` exactly where there are more cells than `usize::MAX`, which cells of no size alone can
-/// reach. Memory comes from the outer vector's allocator. On a refusal the rows are dropped.
+///     try_from([[1, 2], [3, 4]])   [[1, 2], [3, 4]]
+///
+/// Fails: `Ragged` with the first row whose length is not that of row 0; else `TooLarge` where there are more than
+/// `usize::MAX` cells (only zero-sized cells can be so many); else `Memory`, from the outer vector's allocator. The
+/// rows are dropped.
+/// Cost: each cell is moved once; one allocation; no memory is asked for before the rows are measured.
 impl<T: Drop, A: Allocator + Clone> TryFrom<Vec<Vec<T, A>, A>> for Grid<T, A> {
     type Error = ShapeError;
 
@@ -156,12 +163,15 @@ fn join_clones<T: Clone, L: AsSlice<T>, A: Allocator + Clone>(
     Ok(Grid::from_vec(cells, cols))
 }
 
-/// The grid of clones of these rows.
+/// Returns the row-major grid of clones of these rows. Where clones equal their source, the rows are these. No rows, or
+/// rows of length 0, give the empty grid.
 ///
-/// Where clones equal their source, the rows are those of the vector. `Ragged` exactly where some row's length is not
-/// that of row 0, for the first such row; this is tested first and takes no memory. `TooLarge` exactly where there are
-/// more cells than `usize::MAX`, which cells of no size alone can reach. Memory comes from the outer vector's
-/// allocator.
+///     try_from(&[[1, 2], [3, 4]])   [[1, 2], [3, 4]]
+///
+/// Fails: `Ragged` with the first row whose length is not that of row 0; else `TooLarge` where there are more than
+/// `usize::MAX` cells (only zero-sized cells can be so many); else `Memory`, from the outer vector's allocator or a
+/// clone.
+/// Cost: one clone for each cell; no memory is asked for before the rows are measured.
 impl<T: Clone, A: Allocator + Clone> TryFrom<&Vec<Vec<T, A>, A>> for Grid<T, A> {
     type Error = ShapeError;
 
@@ -173,12 +183,15 @@ impl<T: Clone, A: Allocator + Clone> TryFrom<&Vec<Vec<T, A>, A>> for Grid<T, A> 
     }
 }
 
-/// The grid of clones of these rows, which are lent.
+/// Returns the row-major grid of clones of these rows, which are lent. Where clones equal their source, the rows are
+/// these. No rows, or rows of length 0, give the empty grid.
 ///
-/// Where clones equal their source, the rows are those that are lent. `Ragged` exactly where some row's length is not
-/// that of row 0, for the first such row; this is tested first and takes no memory. `TooLarge` exactly where there are
-/// more cells than `usize::MAX`, which cells of no size, or one vector that is lent many times, alone can reach. Memory
-/// comes from the outer vector's allocator.
+///     try_from(&[&[1, 2], &[3, 4]])   [[1, 2], [3, 4]]
+///
+/// Fails: `Ragged` with the first row whose length is not that of row 0; else `TooLarge` where there are more than
+/// `usize::MAX` cells (only zero-sized cells, or one vector that is lent many times, can be so many); else `Memory`,
+/// from the outer vector's allocator or a clone.
+/// Cost: one clone for each cell; no memory is asked for before the rows are measured.
 impl<T: Clone, A: Allocator + Clone> TryFrom<&Vec<&Vec<T, A>, A>> for Grid<T, A> {
     type Error = ShapeError;
 

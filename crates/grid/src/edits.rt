@@ -8,7 +8,7 @@ mod insert;
 mod pad;
 mod remove;
 
-// Whether a grid of so many rows can take `count` more of this length.
+// Whether `rows` rows and `count` more, each of `width` cells, have at most `usize::MAX` cells.
 fn has_room(rows: usize, count: usize, width: usize) -> bool
     requires { 0 < width }
     ensures { IsTrue result ↔ ((rows + count) * width < 2 ^ 64) }

@@ -1,4 +1,4 @@
-//! Why a grid could not be made or edited.
+//! Why a grid could not be made or edited: the errors of the calls.
 ghost use Rattle.std.specs.Prelude.{◌≡◌};
 ghost use Rattle.grid.specs.declared.error.GridError.TheVariants.{Memory};
 ghost use Rattle.grid.specs.declared.error.ShapeError.TheVariants.{Memory as OutOfMemory};
@@ -23,10 +23,10 @@ pub enum ShapeError {
     /// The number of cells would pass `usize::MAX`.
     #[error("too many cells")]
     TooLarge,
-    /// So many cells cannot be cut into rows of `cols`.
+    /// `len` cells cannot be cut into rows of `cols`.
     #[error("{len} cells do not fit rows of {cols}")]
     Shape {
-        /// How many cells there are.
+        /// The number of cells.
         len: usize,
         /// The length of a row that was asked for.
         cols: usize,
@@ -46,7 +46,7 @@ pub enum ShapeError {
     Memory,
 }
 
-/// A line that was not inserted into a grid, and why. The grid is unchanged.
+/// The error of a call that inserts a line: the line, which comes back, and why. The grid is unchanged.
 #[derive(Drop)]
 #[derive_where(Debug, PartialEq; T)]
 pub struct LineRefused<T, A: Allocator = Global> {
@@ -56,7 +56,7 @@ pub struct LineRefused<T, A: Allocator = Global> {
     pub fault: GridError,
 }
 
-/// Lines that were not inserted into a grid, and why. The grid is unchanged.
+/// The error of a call that inserts several lines: the lines, which come back, and why. The grid is unchanged.
 #[derive(Drop)]
 #[derive_where(Debug, PartialEq; T)]
 pub struct LinesRefused<T, A: Allocator = Global> {
@@ -66,7 +66,7 @@ pub struct LinesRefused<T, A: Allocator = Global> {
     pub fault: GridError,
 }
 
-/// A refusal of memory is `GridError::Memory`.
+/// Returns `GridError::Memory`.
 impl From<AllocError> for GridError {
     ghost from_gives = { λ _ e. e ≡ Memory };
 
@@ -75,7 +75,7 @@ impl From<AllocError> for GridError {
     }
 }
 
-/// A refusal of memory is `ShapeError::Memory`.
+/// Returns `ShapeError::Memory`.
 impl From<AllocError> for ShapeError {
     ghost from_gives = { λ _ e. e ≡ OutOfMemory };
 

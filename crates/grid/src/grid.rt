@@ -1,4 +1,4 @@
-//! A grid, how one is made of a vector, and access to its cells.
+//! A grid, its constructors from a vector, and access to its cells.
 ghost use Rattle.std.specs.Prelude.{◌≡◌, ◌≢◌, ◌*◌, ◌^◌, ◌<◌, ◌↔◌, [], length, IsTrue, IfSome, Some, is_some};
 ghost use Rattle.std.specs.Borrow.{sem};
 ghost use Rattle.std.specs.Option.{option_copied};
@@ -38,7 +38,7 @@ impl<T, A: Allocator> Model for Grid<T, A> {
     ghost invariant = { λ g. HoldsSize g.row_count g.col_count (length g.flat) };
 }
 
-// Where the storage has a cell.
+// Returns the place in the storage of the cell in a row and a column.
 fn place(order: Order, rows: usize, cols: usize, row: usize, col: usize) -> usize
     requires fits { rows * cols < 2 ^ 64 }
     requires row_in { row < rows }
@@ -63,7 +63,9 @@ fn size_of_cut(len: usize, cols: usize) -> (usize, usize)
 impl<T, A: Allocator> Grid<T, A> {
     ghost use Rattle.grid.specs.Grid.{lends_cell, lends_cell_if};
 
-    /// Returns the empty grid, row-major. Takes no memory.
+    /// Returns the empty grid, row-major.
+    ///
+    /// Cost: constant; no memory.
     pub fn empty(alloc: A) -> Grid<T, A>
         ensures rows { result.rows ≡ [] }
         ensures order { result.order ≡ Order.RowMajor }
@@ -71,11 +73,11 @@ impl<T, A: Allocator> Grid<T, A> {
         Grid::from_vec(Vec::new(alloc), 0)
     }
 
-    /// Makes a row-major grid of a vector, in rows of `cols`.
+    /// Returns the row-major grid of the vector's cells, cut into rows of `cols`. An empty vector gives the empty grid.
     ///
     ///     from_vec([1, 2, 3, 4, 5, 6], 3)   [[1, 2, 3], [4, 5, 6]]
     ///
-    /// Requires: the vector is empty, or `cols` is not 0 and divides its length. An empty vector gives the empty grid.
+    /// Requires: the vector is empty, or `cols` is not 0 and divides its length.
     /// Cost: constant; the vector is kept, and no memory is taken.
     pub fn from_vec(vec: Vec<T, A>, cols: usize) -> Grid<T, A>
         requires { CanCut (length vec.items) cols }
@@ -107,6 +109,8 @@ impl<T, A: Allocator> Grid<T, A> {
     }
 
     /// Returns the number of rows and the number of columns.
+    ///
+    ///     [[1, 2, 3], [4, 5, 6]]   size()   (2, 3)
     pub fn size(&self) -> (usize, usize)
         ensures rows { result.0 ≡ row_count self.now.rows }
         ensures cols { result.1 ≡ col_count self.now.rows }
@@ -117,6 +121,8 @@ impl<T, A: Allocator> Grid<T, A> {
     }
 
     /// Returns the number of rows.
+    ///
+    ///     [[1, 2, 3], [4, 5, 6]]   rows()   2
     pub fn rows(&self) -> usize
         ensures rows { result ≡ row_count self.now.rows }
         ensures table { IsTable self.now.rows }
@@ -125,6 +131,8 @@ impl<T, A: Allocator> Grid<T, A> {
     }
 
     /// Returns the number of columns.
+    ///
+    ///     [[1, 2, 3], [4, 5, 6]]   cols()   3
     pub fn cols(&self) -> usize
         ensures cols { result ≡ col_count self.now.rows }
         ensures table { IsTable self.now.rows }
@@ -132,7 +140,7 @@ impl<T, A: Allocator> Grid<T, A> {
         self.col_count
     }
 
-    /// Whether a row of this length fits: as many cells as there are columns, or any number in an empty grid.
+    /// Returns whether a row of this length fits: as many cells as there are columns, or any number in an empty grid.
     ///
     ///     [[1, 2], [3, 4]]   fits_row(2)   true
     pub fn fits_row(&self, len: usize) -> bool
@@ -141,7 +149,7 @@ impl<T, A: Allocator> Grid<T, A> {
         self.is_empty() || len == self.cols()
     }
 
-    /// Whether a column of this length fits: as many cells as there are rows, or any number in an empty grid.
+    /// Returns whether a column of this length fits: as many cells as there are rows, or any number in an empty grid.
     ///
     ///     [[1, 2], [3, 4]]   fits_col(3)   false
     pub fn fits_col(&self, len: usize) -> bool
@@ -150,7 +158,7 @@ impl<T, A: Allocator> Grid<T, A> {
         self.is_empty() || len == self.rows()
     }
 
-    /// Returns the order of the cells in the vector.
+    /// Returns the order in which the vector holds the cells.
     pub fn order(&self) -> Order
         ensures { result ≡ self.now.order }
     {
@@ -165,6 +173,8 @@ impl<T, A: Allocator> Grid<T, A> {
     }
 
     /// Returns the cell in a row and a column, or `None` out of range.
+    ///
+    ///     [[1, 2], [3, 4]]   get(0, 1)   Some(2)
     pub fn get(&self, row: usize, col: usize) -> Option<&T>
         ensures { option_copied result ≡ cell self.now.rows row col }
     {
@@ -175,7 +185,9 @@ impl<T, A: Allocator> Grid<T, A> {
         }
     }
 
-    /// Returns the cell in a row and a column, for writing, or `None` out of range.
+    /// Returns the cell in a row and a column, for writing, or `None` out of range. The other cells stay.
+    ///
+    ///     [[1, 2], [3, 4]]   *get_mut(0, 1)? = 9   [[1, 9], [3, 4]]
     pub fn get_mut(&mut self, row: usize, col: usize) -> Option<&mut T>
         ensures* writes_back { sem 𝓛
             (lends_cell_if T.row A.row A.Allocator self.entry row col result) }
@@ -191,7 +203,10 @@ impl<T, A: Allocator> Grid<T, A> {
 
     /// Returns the cell in a row and a column.
     ///
-    /// Requires: both are in range; no test runs.
+    ///     [[1, 2], [3, 4]]   get_unchecked(0, 1)   2
+    ///
+    /// Requires: both are in range.
+    /// Cost: constant; the range isn't tested when it runs.
     pub fn get_unchecked(&self, row: usize, col: usize) -> &T
         requires { InRange self.now.rows row col }
         ensures { cell self.now.rows row col ≡ Some result.now }
@@ -199,9 +214,12 @@ impl<T, A: Allocator> Grid<T, A> {
         self.flat.at(place(self.order, self.row_count, self.col_count, row, col))
     }
 
-    /// Returns the cell in a row and a column, for writing.
+    /// Returns the cell in a row and a column, for writing. The other cells stay.
     ///
-    /// Requires: both are in range; no test runs.
+    ///     [[1, 2], [3, 4]]   *get_unchecked_mut(0, 1) = 9   [[1, 9], [3, 4]]
+    ///
+    /// Requires: both are in range.
+    /// Cost: constant; the range isn't tested when it runs.
     pub fn get_unchecked_mut(&mut self, row: usize, col: usize) -> &mut T
         requires { InRange self.old.rows row col }
         ensures* writes_back { sem 𝓛
@@ -214,7 +232,10 @@ impl<T, A: Allocator> Grid<T, A> {
 
     /// Exchanges two cells. No tally counts it.
     ///
+    ///     [[1, 2], [3, 4]]   swap((0, 0), (1, 1))   [[4, 2], [3, 1]]
+    ///
     /// Requires: both are in range.
+    /// Cost: constant.
     pub fn swap(&mut self, a: (usize, usize), b: (usize, usize))
         requires a_in { InRange self.old.rows a.0 a.1 }
         requires b_in { InRange self.old.rows b.0 b.1 }
@@ -227,6 +248,8 @@ impl<T, A: Allocator> Grid<T, A> {
     }
 
     /// Drops all cells, which leaves the size (0, 0). The order stays.
+    ///
+    ///     [[1, 2], [3, 4]]   clear()   []
     pub fn clear(&mut self)
     where
         T: Drop,
@@ -239,13 +262,21 @@ impl<T, A: Allocator> Grid<T, A> {
     }
 
     /// Returns the cells in storage order.
+    ///
+    ///     [[1, 2, 3], [4, 5, 6]]   flatten()   row-major [1, 2, 3, 4, 5, 6], column-major [1, 4, 2, 5, 3, 6]
+    ///
+    /// Cost: constant.
     pub fn flatten(&self) -> &[T]
         ensures { result.now ≡ storage self.now.order self.now.rows }
     {
         self.flat.as_slice()
     }
 
-    /// Returns the vector of the cells, in storage order. Takes no memory and clones nothing.
+    /// Returns the vector of the cells, in storage order.
+    ///
+    ///     [[1, 2, 3], [4, 5, 6]]   into_vec()   row-major [1, 2, 3, 4, 5, 6], column-major [1, 4, 2, 5, 3, 6]
+    ///
+    /// Cost: constant; takes no memory and clones nothing.
     pub fn into_vec(self) -> Vec<T, A>
         ensures { result.items ≡ storage self.order self.rows }
     {
@@ -259,7 +290,11 @@ impl<T, A: Allocator> Grid<T, A> {
     }
 }
 
-/// `grid[(row, col)]` is the cell in a row and a column. Requires: both are in range.
+/// `grid[(row, col)]` is the cell in a row and a column.
+///
+///     [[1, 2], [3, 4]]   grid[(1, 0)]   3
+///
+/// Requires: both are in range.
 impl<T, A: Allocator> Index<(usize, usize)> for Grid<T, A> {
     type Output = T;
 
@@ -272,7 +307,11 @@ impl<T, A: Allocator> Index<(usize, usize)> for Grid<T, A> {
     }
 }
 
-/// `grid[(row, col)] = x` writes a cell. Requires: both are in range.
+/// `grid[(row, col)] = x` writes a cell. The other cells stay.
+///
+///     [[1, 2], [3, 4]]   grid[(1, 0)] = 9   [[1, 2], [9, 4]]
+///
+/// Requires: both are in range.
 impl<T, A: Allocator> IndexMut<(usize, usize)> for Grid<T, A> {
     ghost use Rattle.grid.specs.Grid.{lends_cell};
 

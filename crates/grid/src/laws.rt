@@ -1,7 +1,7 @@
 //! Laws of grids as public calls: each makes the calls that its name says, and ensures what they leave.
 //!
-//! A law is the clause of that name. It speaks of tables, so it says nothing of the calls; what those do is in the
-//! other clauses.
+//! A clause `law`, `law_rows` or `law_line` states the law itself. It speaks of tables and says nothing of the calls;
+//! what those leave is in the other clauses.
 ghost use Rattle.std.specs.Prelude.{◌≡◌, ◌<◌, ◌≤◌, List, length, insert, remove, slice_get, Some, OnOk, OnErr, IfOk, IfErr, MatchOption};
 ghost use Rattle.grid_base.specs.Table.{row_count, col_count, IsTable};
 ghost use Rattle.grid_base.specs.Order.{storage};
@@ -14,7 +14,7 @@ use crate::{Grid, LineRefused};
 use grid_base::{Symmetry, laws};
 use std::alloc::{AllocError, Allocator};
 
-/// A quarter turn with the clock and one against it leave the rows and the order.
+/// Rotates a quarter turn clockwise and then one counterclockwise, which leaves the rows and the order.
 pub fn rotate_right_then_left<T, A: Allocator>(grid: &mut Grid<T, A>)
     ensures same { grid.new ≡ grid.old }
     ensures law { (t : List (List T)) → IsTable t → act RotateLeft (act RotateRight t) ≡ t }
@@ -25,7 +25,7 @@ pub fn rotate_right_then_left<T, A: Allocator>(grid: &mut Grid<T, A>)
     grid.rotate_left();
 }
 
-/// Four quarter turns leave the rows and the order.
+/// Rotates four quarter turns counterclockwise, which leaves the rows and the order.
 pub fn rotate_left_four_times<T, A: Allocator>(grid: &mut Grid<T, A>)
     ensures same { grid.new ≡ grid.old }
     ensures law { (t : List (List T))
@@ -38,7 +38,7 @@ pub fn rotate_left_four_times<T, A: Allocator>(grid: &mut Grid<T, A>)
     }
 }
 
-/// A flip of the rows and then of the columns is a half turn.
+/// Flips the rows and then the columns, which is a half turn.
 pub fn flip_rows_then_cols<T, A: Allocator>(grid: &mut Grid<T, A>)
     ensures rows { grid.new.rows ≡ act RotateHalf grid.old.rows }
     ensures order { grid.new.order ≡ grid.old.order }
@@ -51,7 +51,7 @@ pub fn flip_rows_then_cols<T, A: Allocator>(grid: &mut Grid<T, A>)
     grid.flip_cols();
 }
 
-/// Applying what two symmetries are joined to is applying the one and then the other.
+/// Applies two symmetries joined into one, which is applying `first` and then `second`.
 pub fn apply_then<T, A: Allocator>(grid: &mut Grid<T, A>, first: Symmetry, second: Symmetry)
     ensures rows { grid.new.rows ≡ act second (act first grid.old.rows) }
     ensures order { grid.new.order ≡ order_after second (order_after first grid.old.order) }
@@ -61,7 +61,7 @@ pub fn apply_then<T, A: Allocator>(grid: &mut Grid<T, A>, first: Symmetry, secon
     grid.apply(laws::then_acts::<T>(first, second));
 }
 
-/// Applying a symmetry and then its inverse leaves the rows and the order.
+/// Applies a symmetry and then its inverse, which leaves the rows and the order.
 pub fn apply_then_inverse<T, A: Allocator>(grid: &mut Grid<T, A>, symmetry: Symmetry)
     ensures same { grid.new ≡ grid.old }
     ensures law { (t : List (List T))
@@ -73,7 +73,9 @@ pub fn apply_then_inverse<T, A: Allocator>(grid: &mut Grid<T, A>, symmetry: Symm
     grid.apply(laws::inverse_acts::<T>(symmetry));
 }
 
-/// A grid's vector, cut into its columns in its order, is the grid.
+/// Returns the grid that is made of a grid's own vector, with its columns and its order, which is the same grid.
+///
+/// Cost: constant; no memory.
 pub fn rebuilt<T, A: Allocator>(grid: Grid<T, A>) -> Grid<T, A>
     ensures same { result ≡ grid }
     ensures law { (t : List (List T)) → IsTable t → col_count t ≡ col_count grid.rows
@@ -84,10 +86,11 @@ pub fn rebuilt<T, A: Allocator>(grid: Grid<T, A>) -> Grid<T, A>
     Grid::from_vec_with_order(grid.into_vec(), cols, order)
 }
 
-/// A row that is pushed and popped comes back, and leaves the rows and the order.
+/// Pushes a row, pops it, and returns it, which leaves the rows and the order.
 ///
-/// Its condition is that of [`push_row`](Grid::push_row). Where the push is refused nothing changes; where the pop is,
-/// the row stays in the grid.
+/// Requires: the line is not empty, and fits as in [`push_row`](Grid::push_row).
+/// Fails: `LineRefused` where the push fails; the grid is unchanged, and the line comes back. The inner `AllocError`
+/// where the pop fails; the row stays in the grid.
 pub fn push_row_then_pop_row<T, A: Allocator>(
     grid: &mut Grid<T, A>,
     line: Vec<T, A>,
@@ -112,10 +115,12 @@ where
     Ok(grid.pop_row())
 }
 
-/// A column that is inserted leaves what a row leaves that is inserted between two transposes.
+/// Inserts a column into one grid, and the same line as a row, between two transposes, into an equal grid. Returns both
+/// results. Where both are done, the two grids are equal.
 ///
-/// The two grids are equal, and so are the two lines, which meet the condition of [`insert_col`](Grid::insert_col). A
-/// grid whose line is refused is as it was.
+/// Requires: the grids are equal, and so are the lines, which are not empty and fit as in
+/// [`insert_col`](Grid::insert_col); `at` is at most the number of columns.
+/// Fails: each of the two as `insert_col`; its grid is unchanged, and its line comes back.
 pub fn insert_col_or_row_across<T, A: Allocator>(
     grid: &mut Grid<T, A>,
     other: &mut Grid<T, A>,

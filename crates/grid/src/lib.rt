@@ -1,7 +1,22 @@
 //! A growable two-dimensional container in one flat vector, row by row or column by column.
 //!
 //! The order is invisible, except where the storage itself is shown: a contract sees a grid as a table, the list of
-//! its rows, and an order. Walks take no memory, copy no cell, and may be dropped early.
+//! its rows, and an order. Iterators take no memory, copy no cell, and may be dropped early.
+//!
+//! The calls of [`Grid`] by theme:
+//!
+//! - make one: `empty`, `new`, `init`, `with_capacity`, `from_vec`, `from_arrays`, each in either order; `grid!`,
+//!   `grid_cm!`; `TryFrom` a vector and a number of columns, or a list of rows
+//! - read: `size`, `rows`, `cols`, `order`, `is_empty`, `get`, `get_unchecked`, `grid[(row, col)]`, `flatten`,
+//!   `into_vec`
+//! - write: `get_mut`, `get_unchecked_mut`, `grid[(row, col)] = x`, `swap`, `fill`, `fill_with`, `clear`
+//! - rows and columns: `push_*`, `insert_*`, `pop_*`, `remove_*`, `delete_*`, `expand_*`, `prepend_*`
+//! - iterate: `iter`, `iter_row`, `iter_col` and their forms for writing, `iter_rows`, `iter_cols`, `indexed_iter`,
+//!   `indexed_iter_mut`, `indexed_into_iter`, and a `for` over a grid
+//! - the whole grid: `map`, `map_ref`, `clone`, `==`, `Hash`, `Debug`, `pretty`
+//! - turn: `transpose`, `flip_rows`, `flip_cols`, `rotate_left`, `rotate_right`, `rotate_half`, and `apply` of a
+//!   [`Symmetry`], to which [`reduce`] brings a list of [`Move`]s
+//! - commands as data: [`Command`], `step`, [`run`]
 #![tactic(auto)]
 
 mod command;

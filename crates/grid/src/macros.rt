@@ -1,4 +1,4 @@
-//! Grids written out cell by cell.
+//! Grids that are written out row by row.
 
 #[doc(hidden)]
 #[macro_export]
@@ -13,10 +13,12 @@ macro_rules! grid_of {
     }};
 }
 
-/// Makes the row-major grid of these rows, in a function: `grid!(alloc; [1, 2] [3, 4])`.
+/// Returns the row-major grid of these rows, as [`Grid::from_arrays`](crate::Grid::from_arrays) does, in the body of a
+/// function. Rows of unequal length don't compile. No rows, or rows without cells, give the empty grid.
 ///
-/// Rows of unequal length do not compile. No rows, or rows without cells, give the empty grid. It returns what
-/// `Grid::from_arrays` does; an error drops the cells.
+///     grid!(alloc; [1, 2] [3, 4])   [[1, 2], [3, 4]]
+///
+/// Fails: as `from_arrays`; the cells are dropped.
 #[macro_export]
 macro_rules! grid {
     ($alloc:expr; $($rows:tt)*) => {
@@ -24,7 +26,9 @@ macro_rules! grid {
     };
 }
 
-/// Same as [`grid!`], in column-major order: `grid_cm!(alloc; [1, 2] [3, 4])` has the rows [1, 2] and [3, 4] too.
+/// Same as [`grid!`], in column-major order. The rows are written out too.
+///
+///     grid_cm!(alloc; [1, 2] [3, 4])   [[1, 2], [3, 4]]
 #[macro_export]
 macro_rules! grid_cm {
     ($alloc:expr; $($rows:tt)*) => {

@@ -9,8 +9,8 @@ use grid_base::Whole;
 use std::alloc::{AllocError, Allocator};
 
 impl<T: Whole, A: Allocator> Grid<T, A> {
-    // The length of the longest number of row r, which is in range. Each number is written into the text, which is
-    // empty before and after.
+    // Returns the length of the longest number of row `r`, which is in range. Each number is written into the text,
+    // which is empty before and after.
     fn longest_in_row<B: Allocator>(
         &self,
         text: &mut String<B>,
@@ -32,7 +32,7 @@ impl<T: Whole, A: Allocator> Grid<T, A> {
         Ok(longest)
     }
 
-    // The length of the longest number. The text is empty before and after.
+    // Returns the length of the longest number. The text is empty before and after.
     fn longest_number<B: Allocator>(&self, text: &mut String<B>) -> Result<usize, AllocError>
         requires { string_bytes text.old ≡ [] }
         ensures text { OnOk result (string_bytes text.new ≡ []) }
@@ -47,7 +47,7 @@ impl<T: Whole, A: Allocator> Grid<T, A> {
         Ok(longest)
     }
 
-    // The width, or else the length of the longest number. The text is empty before and after.
+    // Returns the width, or else the length of the longest number. The text is empty before and after.
     fn width_or_longest<B: Allocator>(
         &self,
         text: &mut String<B>,
@@ -64,7 +64,7 @@ impl<T: Whole, A: Allocator> Grid<T, A> {
         }
     }
 
-    // Writes the line of row r, which is in range, behind the text.
+    // Writes the line of row `r`, which is in range, behind the text.
     fn push_row_line<B: Allocator>(
         &self,
         text: &mut String<B>,
@@ -85,22 +85,17 @@ impl<T: Whole, A: Allocator> Grid<T, A> {
         text.push_str("]\n")
     }
 
-    /// Returns the rows in lines of their own, each number right-aligned in the width.
+    /// Returns the text of the rows, each in a line of its own, each number right-aligned in the width. Without a width
+    /// it is the length of the longest number. A longer number stands in full. The text is the same in either order.
     ///
-    /// Without a width it is the length of the longest number. A longer number stands in full. The rows 1, 20 and
-    /// 3, 4 without a width give
+    ///     [[1, 20], [3, 4]]   pretty(alloc, None)   [
+    ///                                                   [  1, 20]
+    ///                                                   [  3,  4]
+    ///                                               ]
+    ///     []                  pretty(alloc, None)   []
     ///
-    /// ```text
-    /// [
-    ///     [  1, 20]
-    ///     [  3,  4]
-    /// ]
-    /// ```
-    ///
-    /// with no line end behind the last bracket. The empty grid gives `[]`. The text is the same in either order.
-    ///
-    /// Fails: memory was refused.
-    ///
+    /// No line end stands behind the last bracket.
+    /// Fails: where memory is refused.
     /// Cost: each number is written once, and without a width once more to be measured.
     pub fn pretty<B: Allocator>(
         &self,

@@ -18,9 +18,11 @@ use std::alloc::Allocator;
 use std::mem;
 
 impl<T, A: Allocator> Grid<T, A> {
-    /// Exchanges rows with columns. Flips the order; the storage stays, so no cell moves.
+    /// Exchanges rows with columns. Flips the order; the storage stays.
     ///
     ///     [[1, 2, 3], [4, 5, 6]]   transpose()   [[1, 4], [2, 5], [3, 6]]
+    ///
+    /// Cost: constant; no cell moves.
     pub fn transpose(&mut self)
         ensures rows { self.new.rows ≡ act Transpose self.old.rows }
         ensures order { self.new.order ≡ flipped self.old.order }
@@ -152,6 +154,7 @@ impl<T, A: Allocator> Grid<T, A> {
         }
     }
 
+    // As `flip_rows`, and adds the swaps to the symmetry count of the tally.
     fn flip_rows_counted(&mut self, tally: &mut Tally)
         ensures rows { self.new.rows ≡ act FlipRows self.old.rows }
         ensures order { self.new.order ≡ self.old.order }
@@ -167,6 +170,7 @@ impl<T, A: Allocator> Grid<T, A> {
         }
     }
 
+    // As `flip_cols`, and adds the swaps to the symmetry count of the tally.
     fn flip_cols_counted(&mut self, tally: &mut Tally)
         ensures rows { self.new.rows ≡ act FlipCols self.old.rows }
         ensures order { self.new.order ≡ self.old.order }
@@ -187,6 +191,7 @@ impl<T, A: Allocator> Grid<T, A> {
         }
     }
 
+    // As `rotate_half`, and adds the swaps to the symmetry count of the tally.
     fn rotate_half_counted(&mut self, tally: &mut Tally)
         ensures rows { self.new.rows ≡ act RotateHalf self.old.rows }
         ensures order { self.new.order ≡ self.old.order }

@@ -14,13 +14,11 @@ use std::fmt;
 use std::hash::{Hash, Hasher};
 
 impl<T: Clone, A: Allocator + Clone> Grid<T, A> {
-    /// Returns a grid of clones of the cells, of the same rows and order.
+    /// Returns a grid of clones of the cells, with the same rows and the same order.
     ///
-    /// Requires: a clone equals its source.
-    ///
-    /// Fails: memory was refused.
-    ///
-    /// Cost: one clone a cell.
+    /// Requires: clones of the cell type equal their source.
+    /// Fails: where memory is refused, for the vector or for a clone.
+    /// Cost: one clone for each cell.
     pub fn clone(&self) -> Result<Grid<T, A>, AllocError>
         requires clones { ClonesAreEqual T.is_clone }
         ensures { IfOk result (λ copy. copy ≡ self.now) }
@@ -36,7 +34,7 @@ impl<T: Clone, A: Allocator + Clone> Grid<T, A> {
 }
 
 impl<T: PartialEq, A: Allocator> Grid<T, A> {
-    // Whether row r, which is in range, is the same in a grid of the same size.
+    // Whether row `r`, which is in range, is the same in a grid of the same size.
     fn has_same_row(&self, other: &Grid<T, A>, r: usize) -> bool
         requires here { r < row_count self.now.rows }
         requires there { r < row_count other.now.rows }
@@ -70,12 +68,12 @@ impl<T: PartialEq, A: Allocator> Grid<T, A> {
     }
 }
 
-/// Two grids are equal exactly if their sizes and all their cells are. The orders don't matter.
+/// `==` returns whether the sizes and all cells are equal. The orders don't matter.
 ///
-/// Row-major `[1, 2, 3, 4]` and column-major `[1, 3, 2, 4]`, both in rows of two, are equal.
+///     row-major [1, 2, 3, 4] == column-major [1, 3, 2, 4]   true, both with two columns
 ///
-/// Cost: the sizes are compared first, and the storages directly where the orders agree. Else each cell is read
-/// once from either grid.
+/// Cost: the sizes are compared first. Where the orders agree, the storages are compared then; else each cell is read
+/// once at most from either grid.
 impl<T: PartialEq, A: Allocator> PartialEq for Grid<T, A> {
     ghost eq = { same_cells T.eq };
 
@@ -99,7 +97,7 @@ impl<T: Eq, A: Allocator> Eq for Grid<T, A> {
 }
 
 impl<T: Hash, A: Allocator> Grid<T, A> {
-    // Feeds the cells of row r, which is in range.
+    // Feeds the cells of row `r`, which is in range.
     fn hash_row<H: Hasher>(&self, r: usize, state: &mut H)
         requires { r < row_count self.now.rows }
         ensures { state.new ≡ fold H.write state.old (flat_map T.hash_input (row self.now.rows r)) }
@@ -111,7 +109,7 @@ impl<T: Hash, A: Allocator> Grid<T, A> {
     }
 }
 
-/// Feeds the number of rows, the number of columns, then the cells row by row. So equal grids feed the same.
+/// Feeds a hasher the number of rows, the number of columns, then the cells row by row. So equal grids feed the same.
 ///
 /// Cost: each cell is fed once.
 impl<T: Hash, A: Allocator> Hash for Grid<T, A> {
@@ -129,7 +127,7 @@ impl<T: Hash, A: Allocator> Hash for Grid<T, A> {
     }
 }
 
-// What stands before the item at an index: nothing before the first, else the separator.
+// Returns what stands before the item at an index: nothing before the first, else the separator.
 pub(crate) fn separator_before(index: usize, separator: &'static str) -> &'static str
     ensures { result.now ≡ (if nat_lt 0 index then separator.now else []) }
 {
@@ -137,7 +135,7 @@ pub(crate) fn separator_before(index: usize, separator: &'static str) -> &'stati
 }
 
 impl<T: fmt::Debug, A: Allocator> Grid<T, A> {
-    // Writes row r, which is in range, as a debug list.
+    // Writes row `r`, which is in range, as a debug list.
     fn write_row<W: fmt::Write>(&self, r: usize, f: &mut fmt::Formatter<W>) -> fmt::Result
         requires { r < row_count self.now.rows }
         ensures { DisplaysOnOk W.write_str_gives f.old result
@@ -154,9 +152,10 @@ impl<T: fmt::Debug, A: Allocator> Grid<T, A> {
     }
 }
 
-/// Writes `[`, each row as a debug list with nothing between two, and `]`.
+/// Writes `[`, each row as a debug list with nothing between two, and `]`. The text is the same in either order.
 ///
-/// The rows 1, 2 and 3, 4 give `[[1, 2][3, 4]]`, in either order. The empty grid gives `[]`.
+///     [[1, 2], [3, 4]]   {:?}   "[[1, 2][3, 4]]"
+///     []                 {:?}   "[]"
 impl<T: fmt::Debug, A: Allocator> fmt::Debug for Grid<T, A> {
     ghost debug_output = { λ grid. table_text T.debug_output grid.rows };
 

@@ -1,4 +1,5 @@
-//! Walks over the cells of a grid, of its rows and of its columns. None takes memory, and each may be dropped early.
+//! Iterators over the cells of a grid, over one row or column, and over the rows and the columns. An iterator is
+//! called a walk here. No walk takes memory, and each may be dropped early.
 ghost use Rattle.std.specs.Prelude.{◌≡◌, zip};
 ghost use Rattle.std.specs.Borrow.{sem};
 ghost use Rattle.std.specs.Iterator.Runs.{YieldsInOrder, YieldsInReverse, YieldsRefsInOrder, YieldsRefsInReverse, YieldsMutRefsInOrder, YieldsMutRefsInReverse};
@@ -24,7 +25,9 @@ use std::{slice, vec};
 impl<T, A: Allocator> Grid<T, A> {
     ghost use Rattle.grid.specs.Walks.{lends_cells, lends_indexed, KeepsSize};
 
-    /// The cells in storage order.
+    /// Returns an iterator over the cells in storage order, from both ends.
+    ///
+    ///     [[1, 2], [3, 4]]   iter()   row-major 1, 2, 3, 4, column-major 1, 3, 2, 4
     pub fn iter(&self) -> slice::Iter<'_, T>
         ensures rest { iter_rest result ≡ storage self.now.order self.now.rows }
         ensures runs { YieldsRefsInOrder (iter_steps {A = T}) iter_rest }
@@ -33,7 +36,9 @@ impl<T, A: Allocator> Grid<T, A> {
         self.flat.as_slice().iter()
     }
 
-    /// The cells in storage order, for writing. The size and the order stay.
+    /// Returns an iterator over the cells in storage order, for writing, from both ends. The size and the order stay.
+    ///
+    ///     [[1, 2], [3, 4]]   for cell in iter_mut() { *cell += 1 }   [[2, 3], [4, 5]]
     pub fn iter_mut(&mut self) -> slice::IterMut<'_, T>
         ensures* writes_back { sem 𝓛 (lends_cells T.row A.row A.Allocator self.entry result) }
         ensures keeps { KeepsSize self.old }
@@ -44,7 +49,9 @@ impl<T, A: Allocator> Grid<T, A> {
         self.flat.iter_mut()
     }
 
-    /// The cells in storage order, each with its row and its column.
+    /// Returns an iterator over the cells in storage order, each with its row and its column.
+    ///
+    ///     [[1, 2], [3, 4]]   indexed_iter()   row-major ((0, 0), 1), ((0, 1), 2), ((1, 0), 3), ((1, 1), 4)
     pub fn indexed_iter(&self) -> IndexedIter<'_, T>
         ensures { result
             ≡ zip (places self.now.order (row_count self.now.rows) (col_count self.now.rows))
@@ -54,7 +61,10 @@ impl<T, A: Allocator> Grid<T, A> {
             .indexed_iter(self.order, self.row_count, self.col_count)
     }
 
-    /// The cells in storage order for writing, each with its row and its column. The size and the order stay.
+    /// Returns an iterator over the cells in storage order, for writing, each with its row and its column. The size and
+    /// the order stay.
+    ///
+    ///     [[1, 2], [3, 4]]   for ((row, _), cell) in indexed_iter_mut() { *cell *= row }   [[0, 0], [3, 4]]
     pub fn indexed_iter_mut(&mut self) -> IndexedIterMut<'_, T>
         ensures* writes_back { sem 𝓛 (lends_indexed T.row A.row A.Allocator self.entry result) }
         ensures keeps { KeepsSize self.old }
@@ -66,7 +76,9 @@ impl<T, A: Allocator> Grid<T, A> {
             .indexed_iter_mut(self.order, self.row_count, self.col_count)
     }
 
-    /// The cells in storage order by value, each with its row and its column.
+    /// Returns an iterator over the cells in storage order, by value, each with its row and its column.
+    ///
+    ///     [[1, 2], [3, 4]]   indexed_into_iter()   row-major ((0, 0), 1), ((0, 1), 2), ((1, 0), 3), ((1, 1), 4)
     pub fn indexed_into_iter(self) -> IndexedIntoIter<T, A>
         ensures { result ≡ zip (places self.order (row_count self.rows) (col_count self.rows))
             (storage self.order self.rows) }
@@ -81,7 +93,9 @@ impl<T, A: Allocator> Grid<T, A> {
     }
 }
 
-/// The cells in storage order, by value. Takes no memory.
+/// Iterates over the cells in storage order, by value, from both ends.
+///
+/// Cost: constant; the vector is kept, and no memory is taken.
 impl<T: Drop, A: Allocator> IntoIterator for Grid<T, A> {
     type Item = T;
 
@@ -96,7 +110,7 @@ impl<T: Drop, A: Allocator> IntoIterator for Grid<T, A> {
     }
 }
 
-/// The cells in storage order, as [`iter`](Grid::iter) gives them.
+/// Iterates over the cells in storage order, as [`iter`](Grid::iter) does.
 impl<'a, T, A: Allocator> IntoIterator for &'a Grid<T, A> {
     type Item = &'a T;
 
@@ -111,7 +125,7 @@ impl<'a, T, A: Allocator> IntoIterator for &'a Grid<T, A> {
     }
 }
 
-/// The cells in storage order for writing, as [`iter_mut`](Grid::iter_mut) gives them.
+/// Iterates over the cells in storage order, for writing, as [`iter_mut`](Grid::iter_mut) does.
 impl<'a, T, A: Allocator> IntoIterator for &'a mut Grid<T, A> {
     ghost use Rattle.grid.specs.Walks.{lends_cells, KeepsSize};
 

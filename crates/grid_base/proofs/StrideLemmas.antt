@@ -1,4 +1,4 @@
--- Every so many cells of a list, and the walks over them.
+-- The cells of a list at a stride, and the walks over them.
 use Rattle.std.proofs.Common.{◌≡◌, ℕ, zero, suc, ◌+◌, ◌-◌, ◌*◌, ◌/◌, ◌%◌, ◌<◌, ◌≤◌, List, [], ◌∷◌, ◌++◌, Some, None, take, drop, length, refl, ap, sym, ◌∙◌, arith, get_or, length-drop, length-take, ⊎_elim}
 use Rattle.std.proofs.Math.Nat.{add-div_right, div-eq_of_lt}
 use Rattle.std.specs.Int.{div_ceil}

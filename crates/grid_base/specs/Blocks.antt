@@ -1,4 +1,5 @@
--- Two blocks of cells that change places, and a part of the cells that is reversed.
+-- Two blocks of cells that change places, and a part of the cells that is reversed. Only contracts of `Flat` cite this
+-- module.
 use Rattle.std.specs.Prelude.{◌≡◌, ℕ, ◌+◌, ◌-◌, ◌<◌, ◌≤◌, List, length, slice_get}
 
 -- the m cells from place a on, and the n cells behind them

@@ -1,4 +1,4 @@
--- What a closure answered, call by call.
+-- What a closure returned, call by call.
 use Rattle.std.specs.Prelude.{◌≡◌, ◌<◌, ℕ, List, [], ◌∷◌, length, take, slice_index_or}
 use Rattle.std.specs.List.{FoldsTo, AllZip}
 use denote.Ref.{Bor}

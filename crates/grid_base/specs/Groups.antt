@@ -1,5 +1,5 @@
 -- Groups of cells that are put into lines, or taken out of them. A vector is seen as p lines of q cells, and each
--- line has room for a group of k cells before its place i.
+-- line has room for a group of k cells before its place i. Only contracts of `Flat` cite this module.
 use Rattle.std.specs.Prelude.{◌≡◌, ℕ, ◌+◌, ◌*◌, ◌<◌, ◌≤◌, List, length, slice_get}
 
 module _ {T : Type 0} (p q i k : ℕ) (short long : List T) where

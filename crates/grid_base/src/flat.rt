@@ -44,14 +44,14 @@ impl<T, A: Allocator> Model for Flat<T, A> {
 impl<T, A: Allocator> Flat<T, A> {
     ghost use Rattle.grid_base.specs.Flat.{lends_place};
 
-    /// Holds the cells of a vector.
+    /// Returns the `Flat` of the cells of a vector.
     pub fn from_vec(cells: Vec<T, A>) -> Flat<T, A>
         ensures { result ≡ cells.items }
     {
         Flat { cells }
     }
 
-    /// The vector.
+    /// Returns the vector.
     pub fn into_vec(self) -> Vec<T, A>
         ensures { result.items ≡ self }
     {
@@ -59,21 +59,23 @@ impl<T, A: Allocator> Flat<T, A> {
         cells
     }
 
-    /// How many cells there are.
+    /// Returns the number of cells.
     pub fn len(&self) -> usize
         ensures { result ≡ length self.now }
     {
         self.cells.len()
     }
 
-    /// The cells.
+    /// Returns the cells.
     pub fn as_slice(&self) -> &[T]
         ensures { result.now ≡ self.now }
     {
         self.cells.as_slice()
     }
 
-    /// The cell at a place in range.
+    /// Returns the cell at a place.
+    ///
+    /// Requires: the place is in range.
     pub fn at(&self, place: usize) -> &T
         requires { place < length self.now }
         ensures { slice_get self.now place ≡ Some result.now }
@@ -81,7 +83,9 @@ impl<T, A: Allocator> Flat<T, A> {
         &self.cells[place]
     }
 
-    /// The cell at a place in range, for writing.
+    /// Returns the cell at a place, for writing. The other cells stay.
+    ///
+    /// Requires: the place is in range.
     pub fn at_mut(&mut self, place: usize) -> &mut T
         requires { place < length self.old }
         ensures* writes_back { sem 𝓛 (lends_place T.row A.row A.Allocator self.entry place result) }
@@ -90,7 +94,9 @@ impl<T, A: Allocator> Flat<T, A> {
         &mut self.cells[place]
     }
 
-    /// Exchanges two cells, uncounted.
+    /// Exchanges two cells. No tally counts it.
+    ///
+    /// Requires: both places are in range.
     pub fn swap(&mut self, i: usize, j: usize)
         requires i_in { i < length self.old }
         requires j_in { j < length self.old }

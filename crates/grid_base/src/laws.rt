@@ -11,7 +11,7 @@ ghost use Rattle.grid_base.specs.Symmetry.{act, IsThen, IsInverse, IsAssociative
 
 use crate::Symmetry;
 
-/// Three symmetries, joined from the left and joined from the right: the two are one.
+/// Returns three symmetries joined from the left, and joined from the right. The two are one symmetry.
 pub fn then_is_associative(
     first: Symmetry,
     second: Symmetry,
@@ -28,7 +28,7 @@ pub fn then_is_associative(
     )
 }
 
-/// `Identity` joined before a symmetry, and behind it: both are the symmetry.
+/// Returns `Identity` joined before a symmetry, and behind it. Both are the symmetry.
 pub fn identity_is_neutral(symmetry: Symmetry) -> (Symmetry, Symmetry)
     ensures before { IsThen Identity symmetry result.0 }
     ensures behind { IsThen symmetry Identity result.1 }
@@ -42,7 +42,7 @@ pub fn identity_is_neutral(symmetry: Symmetry) -> (Symmetry, Symmetry)
     )
 }
 
-/// A symmetry joined before its inverse, and behind it: both are `Identity`.
+/// Returns a symmetry joined before its inverse, and behind it. Both are `Identity`.
 pub fn inverse_undoes(symmetry: Symmetry) -> (Symmetry, Symmetry)
     ensures before { (v : Symmetry) → IsInverse symmetry v → IsThen symmetry v result.0 }
     ensures behind { (v : Symmetry) → IsInverse symmetry v → IsThen v symmetry result.1 }
@@ -54,7 +54,7 @@ pub fn inverse_undoes(symmetry: Symmetry) -> (Symmetry, Symmetry)
     (symmetry.then(inverse), inverse.then(symmetry))
 }
 
-/// `symmetry.then(next)`, which acts as the one and then the other on tables of cells of any type `T`.
+/// Returns `symmetry.then(next)`, which acts as the one and then the other on tables of cells of any type `T`.
 pub fn then_acts<T>(symmetry: Symmetry, next: Symmetry) -> Symmetry
     ensures same { IsThen symmetry next result }
     ensures law { (v : Symmetry) → IsThen symmetry next v
@@ -63,7 +63,7 @@ pub fn then_acts<T>(symmetry: Symmetry, next: Symmetry) -> Symmetry
     symmetry.then(next)
 }
 
-/// `done.inverse()`, which undoes it on tables of cells of any type `T`.
+/// Returns `done.inverse()`, which undoes it on tables of cells of any type `T`.
 pub fn inverse_acts<T>(done: Symmetry) -> Symmetry
     ensures same { IsInverse done result }
     ensures law { (v : Symmetry)

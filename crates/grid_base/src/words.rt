@@ -62,7 +62,7 @@ impl Symmetry {
         }
     }
 
-    /// Whether it transposes, and whether it then flips the rows and the columns.
+    /// Returns whether it transposes, and whether it then flips the rows and the columns.
     ///
     ///     RotateLeft.flags()   (true, true, false)
     pub fn flags(self) -> (bool, bool, bool)

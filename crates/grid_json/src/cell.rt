@@ -20,18 +20,17 @@ pub trait Cell: Drop {
 
     /// Returns the cell as a JSON value, which is read as the same content.
     ///
-    /// The number 5 gives `5`, the truth value true gives `true`, the text `a` gives `"a"`.
+    ///     5, true and "a"   to_cell(alloc)   5, true and "a"
     ///
-    /// Fails: memory was refused.
+    /// Fails: where memory is refused.
     fn to_cell(&self, alloc: Global) -> Result<Value, AllocError>
         ensures written { IfOk result (λ value. view value ≡ written (content self.now)) }
         ensures read { IfOk result (λ value. read (view value) ≡ Some (content self.now)) };
 
-    /// Returns the cell that a JSON value is, or `None` where it is none.
+    /// Returns the cell that a JSON value is, or `None` where it is none. A number is a cell exactly in the range of
+    /// the type: 0 and 255 are a `u8`, and 256, -1 and 1.0 are not.
     ///
-    /// A number is a cell exactly in the range of the type: of `u8` are 0 and 255, not 256, -1 or 1.0.
-    ///
-    /// Fails: memory was refused.
+    /// Fails: where memory is refused.
     fn from_cell(alloc: Global, value: &Value) -> Result<Option<Self>, AllocError>
         ensures { IfOk result (λ found. option_map content found ≡ read (view value.now)) };
 }

@@ -7,9 +7,9 @@ use crate::{Cell, ReadError, from_value, to_value};
 use grid::Grid;
 use std::alloc::{Allocator, Global};
 
-/// Returns what is read of the value that is written of a grid: a grid of the same contents and order.
+/// Writes a grid as a JSON value, and returns the grid that is read from it: one of the same contents and order.
 ///
-/// Fails: `Memory`, and no other refusal.
+/// Fails: `Memory`, and no other error.
 pub fn written_and_read<T: Cell, A: Allocator>(
     alloc: Global,
     grid: &Grid<T, A>,

@@ -1,4 +1,4 @@
-//! Reading a grid of a JSON value.
+//! Reading a grid from a JSON value.
 ghost use Rattle.std.specs.Prelude.{◌≡◌, map};
 ghost use Rattle.std.specs.Option.{option_map};
 ghost use Rattle.serde_json.specs.View.{view, items_view, members_view};
@@ -151,23 +151,22 @@ fn cut<T: Drop>(cells: Vec<T>, cols: usize, order: Order) -> Result<Grid<T>, Rea
     }
 }
 
-/// Returns the grid that a JSON value is: an object, or an array of `cols`, `data` and perhaps `order`.
+/// Returns the grid that a JSON value is: an object, or an array of `cols`, `data` and perhaps `order`. An absent
+/// `order` is row-major. No data gives the empty grid, whatever `cols` is.
 ///
-/// An absent `order` is row-major. `[2,[1,2,3,4]]` gives the rows 1, 2 and 3, 4. No data gives the empty grid, whatever
-/// `cols` is.
+///     [2,[1,2,3,4]]   from_value(alloc)   [[1, 2], [3, 4]]
 ///
-/// Fails: the first of these tests that the value doesn't pass is answered.
+/// Fails: by the first of these tests that the value doesn't pass; `Memory` may come at any point.
 ///
-/// 1. `NotGrid`: it is neither an object nor an array.
-/// 2. `UnknownField`: an object has another key than the three. `TooLong`: an array has more than three items.
-/// 3. `MissingField`: `cols` isn't there, then `data`.
-/// 4. `BadCols`: `cols` isn't a whole number from 0 to `usize::MAX`.
-/// 5. `BadData`: `data` isn't an array.
-/// 6. `BadCell`: an item of `data` is no cell; the index is that of the first such item.
-/// 7. `BadOrder`: `order` is there, and is neither the text `RowMajor` nor `ColumnMajor`.
-/// 8. `Shape`: there are cells, and `cols` is 0 or does not divide their number.
-///
-/// `Memory` may come at any point.
+///     1. NotGrid         it is neither an object nor an array
+///     2. UnknownField    an object has another key than the three
+///        TooLong         an array has more than three items
+///     3. MissingField    cols isn't there, then data
+///     4. BadCols         cols isn't a whole number from 0 to usize::MAX
+///     5. BadData         data isn't an array
+///     6. BadCell         an item of data is no cell; the index is that of the first such item
+///     7. BadOrder        order is there, and is neither the text RowMajor nor ColumnMajor
+///     8. Shape           there are cells, and cols is 0 or does not divide their number
 ///
 /// Cost: each item of `data` is read once, and each key of an object is compared with the three.
 pub fn from_value<T: Cell>(alloc: Global, value: &Value) -> Result<Grid<T>, ReadError>

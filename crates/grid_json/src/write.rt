@@ -34,13 +34,11 @@ fn object_of(alloc: Global, cols: usize, data: Value, order: &str) -> Result<Val
 }
 
 /// Returns an object of `cols`, `data`, the cells in storage order, and `order`, which is read as the same rows and
-/// order.
+/// order. The empty grid has no columns and no data.
 ///
-/// The rows 1, 2 and 3, 4 in column-major order give `{"cols":2,"data":[1,3,2,4],"order":"ColumnMajor"}`. The empty
-/// grid has no columns and no data.
+///     [[1, 2], [3, 4]], column-major   to_value(alloc)   {"cols":2,"data":[1,3,2,4],"order":"ColumnMajor"}
 ///
-/// Fails: memory was refused.
-///
+/// Fails: where memory is refused.
 /// Cost: each cell is written once.
 pub fn to_value<T: Cell, A: Allocator>(
     alloc: Global,

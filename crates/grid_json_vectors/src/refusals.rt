@@ -1,4 +1,4 @@
-//! JSON texts that are no grids: the first fault in the sequence of tests is answered.
+//! JSON texts that are no grids: the first fault in the sequence of tests is returned.
 use grid_json::ReadError::{
     BadCell, BadCols, BadData, BadOrder, Memory, MissingField, NotGrid, Shape, TooLong,
     UnknownField,

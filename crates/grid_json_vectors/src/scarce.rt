@@ -86,7 +86,7 @@ fn refused_at_each_cell_that_is_read(rt: HostRuntime) -> Result<(), Fail> {
     Ok(())
 }
 
-// A fault before the refused cell is answered.
+// A fault before the refused cell is returned.
 #[test]
 fn faults_before_the_refused_cell(rt: HostRuntime) -> Result<(), Fail> {
     let early = refusal::<Scarce>(rt.alloc(), "[2,[300,13]]")?;

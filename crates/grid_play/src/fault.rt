@@ -18,7 +18,7 @@ pub enum ScriptFault {
 }
 
 impl ScriptFault {
-    /// The exit status of the program that ran the script.
+    /// Returns the exit status of a program that ran the script.
     pub fn status(&self) -> u8
         ensures { result ≡ fault_status self.now }
     {

@@ -16,7 +16,9 @@ pub struct Script<A: Allocator = Global> {
 }
 
 impl<A: Allocator + Clone> Script<A> {
-    /// Reads a script. The first line that is at fault is the one that an error names.
+    /// Reads a script.
+    ///
+    /// Fails: `BadGrid` or `BadCommand` at the first line that is at fault; `Memory` where memory is refused.
     pub fn parse(alloc: A, input: &[u8]) -> Result<Script<A>, ScriptFault> {
         let mut lines = Lines::of(input);
         let (_, first) = lines.next().ok_or(ScriptFault::BadGrid)?;

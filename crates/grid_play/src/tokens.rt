@@ -7,10 +7,10 @@ ghost use Rattle.std.specs.Str.{IsUtf8};
 ghost use Rattle.std.specs.Int.{w64};
 ghost use Rattle.std.specs.Str.Parse.{IsNumeral, digits_value, signed_digits_value, without_leading_sign};
 
-/// The lines of a script and their numbers, counted from 1.
+/// An iterator over the lines of a script, with their numbers, counted from 1.
 ///
-/// A line ends at a line feed or at the end of the script. A line comes without its end and without one carriage
-/// return just before that.
+/// A line ends at a line feed or at the end of the script. It comes without its end, and without one carriage return
+/// just before that.
 #[derive(Drop)]
 pub struct Lines<'a> {
     rest: &'a [u8],
@@ -19,7 +19,7 @@ pub struct Lines<'a> {
 }
 
 impl<'a> Lines<'a> {
-    /// The lines of a script.
+    /// Returns the lines of a script.
     pub fn of(script: &'a [u8]) -> Lines<'a>
         ensures rest { result.rest.now ≡ script.now }
         ensures count { result.count ≡ 0 }
@@ -75,12 +75,12 @@ fn without_return(line: &[u8]) -> &[u8]
     line.strip_suffix(b"\r").unwrap_or(line)
 }
 
-/// The words of a line, which are separated by spaces and tabs.
+/// An iterator over the words of a line, which are separated by spaces and tabs.
 #[derive(Drop)]
 pub struct Words<'a>(&'a str);
 
 impl<'a> Words<'a> {
-    /// The words of a line, or `None` where it is not UTF-8.
+    /// Returns the words of a line, or `None` where it is not UTF-8.
     pub fn of(line: &'a [u8]) -> Option<Words<'a>>
         ensures text { IsSome result ↔ IsUtf8 line.now }
         ensures line { IfSome result (λ words. words.0.now ≡ line.now) }
@@ -132,7 +132,7 @@ fn separator(text: &str) -> Option<usize>
         .position(|byte| *byte == b' ' || *byte == b'\t')
 }
 
-/// The index or count that a word writes: decimal digits alone, in the range of a `usize`.
+/// Returns the index or count that a word writes: decimal digits alone, in the range of a `usize`. Else `None`.
 pub fn index(word: &str) -> Option<usize>
     ensures numeral { IsSome result
         ↔ (IsNumeral 10 word.now × (digits_value 10 word.now < 2 ^ 64)) }
@@ -144,7 +144,7 @@ pub fn index(word: &str) -> Option<usize>
     word.parse::<usize>().ok()
 }
 
-/// The cell that a word writes: decimal digits, perhaps after a minus, in the range of an `i64`.
+/// Returns the cell that a word writes: decimal digits, perhaps after a minus, in the range of an `i64`. Else `None`.
 pub fn cell(word: &str) -> Option<i64>
     ensures numeral { IsSome result
         ↔ ((slice_index word.now 0 ≢ 43) × IsNumeral 10 (without_leading_sign word.now)

@@ -1,5 +1,7 @@
-//! Callers of the library, whose contracts say what they find by the rows of a grid or by the list of its cells: chains
-//! over a row or a column, calls on all cells, symmetries and commands on texts, and grids that are written out.
+//! Callers of the library, whose contracts say what they return by the rows of a grid or by the list of its cells:
+//! chains over a row or a column, calls on all cells, symmetries and commands on texts, and grids that are written out.
+//!
+//! A row `r` or a column `c` is required to be in range.
 ghost use Rattle.std.specs.Prelude.{◌≡◌, ◌/◌, ◌^◌, ◌<◌, ◌≤◌, ◌==◌, ◌↔◌, IsTrue, IfOk, MatchOption, Any, All, length, map, reverse, sum, count_by, filter, fold, min, ◌+◌, ◌*◌, nat_lt, [], ◌∷◌, ◌-◌, slice_get};
 ghost use Rattle.std.specs.List.{range_with_len};
 ghost use Rattle.grid_base.specs.Table.{row, row_count, col_count, transposed};
@@ -11,7 +13,7 @@ use grid::{Command, Grid, GridError, Symmetry, Tally, grid, grid_cm, laws};
 use grid_base::laws as symmetry_laws;
 use std::alloc::{AllocError, Allocator, Global};
 
-/// How many cells of row r are x.
+/// Returns the number of cells of row `r` that are `x`.
 pub fn count_in_row<A: Allocator>(grid: &Grid<u32, A>, r: usize, x: u32) -> usize
     requires { r < row_count grid.now.rows }
     ensures { result ≡ count_by (λ y. y == x) (row grid.now.rows r) }
@@ -19,7 +21,7 @@ pub fn count_in_row<A: Allocator>(grid: &Grid<u32, A>, r: usize, x: u32) -> usiz
     grid.iter_row(r).filter(|y| **y == x).count()
 }
 
-/// How many cells of the first row are x.
+/// Returns the number of cells of the first row that are `x`.
 pub fn count_in_first_row<A: Allocator>(grid: &Grid<u32, A>, x: u32) -> usize
     ensures { result ≡ count_by (λ y. y == x) (row grid.now.rows 0) }
 {
@@ -29,7 +31,7 @@ pub fn count_in_first_row<A: Allocator>(grid: &Grid<u32, A>, x: u32) -> usize
     }
 }
 
-/// Whether a cell of column c is x.
+/// Returns whether a cell of column `c` is `x`.
 pub fn column_has<A: Allocator>(grid: &Grid<u32, A>, c: usize, x: u32) -> bool
     requires { c < col_count grid.now.rows }
     ensures { IsTrue result ↔ Any (λ y. y ≡ x) (row (transposed grid.now.rows) c) }
@@ -37,7 +39,7 @@ pub fn column_has<A: Allocator>(grid: &Grid<u32, A>, c: usize, x: u32) -> bool
     grid.iter_col(c).any(|y| *y == x)
 }
 
-/// Whether every cell of row r is at most x.
+/// Returns whether every cell of row `r` is at most `x`.
 pub fn row_is_within<A: Allocator>(grid: &Grid<u32, A>, r: usize, x: u32) -> bool
     requires { r < row_count grid.now.rows }
     ensures { IsTrue result ↔ All (λ y. y ≤ x) (row grid.now.rows r) }
@@ -45,7 +47,9 @@ pub fn row_is_within<A: Allocator>(grid: &Grid<u32, A>, r: usize, x: u32) -> boo
     grid.iter_row(r).all(|y| *y <= x)
 }
 
-/// The sum of row r, which fits.
+/// Returns the sum of row `r`.
+///
+/// Requires: the sum fits a `u32`.
 pub fn row_sum<A: Allocator>(grid: &Grid<u32, A>, r: usize) -> u32
     requires in_range { r < row_count grid.now.rows }
     requires fits { sum (row grid.now.rows r) < 2 ^ 32 }
@@ -54,7 +58,7 @@ pub fn row_sum<A: Allocator>(grid: &Grid<u32, A>, r: usize) -> u32
     grid.iter_row(r).sum()
 }
 
-/// The sum of column c, or `u32::MAX` if it is larger.
+/// Returns the sum of column `c`, or `u32::MAX` if it is larger.
 pub fn column_sum<A: Allocator>(grid: &Grid<u32, A>, c: usize) -> u32
     requires { c < col_count grid.now.rows }
     ensures { result
@@ -64,7 +68,7 @@ pub fn column_sum<A: Allocator>(grid: &Grid<u32, A>, c: usize) -> u32
         .fold(0, |total: u32, y| total.saturating_add(*y))
 }
 
-/// Half of each cell of row r, rounded down.
+/// Returns half of each cell of row `r`, rounded down.
 pub fn halves_of_row<A: Allocator>(
     alloc: Global,
     grid: &Grid<u32, A>,
@@ -76,7 +80,7 @@ pub fn halves_of_row<A: Allocator>(
     grid.iter_row(r).map(|y| *y / 2).collect(alloc)
 }
 
-/// The cells of column c.
+/// Returns the cells of column `c`.
 pub fn column<T: Copy, A: Allocator>(
     alloc: Global,
     grid: &Grid<T, A>,
@@ -88,7 +92,7 @@ pub fn column<T: Copy, A: Allocator>(
     grid.iter_col(c).copied().collect(alloc)
 }
 
-/// The cells of column c that are above x.
+/// Returns the cells of column `c` that are above `x`.
 pub fn column_above<A: Allocator>(
     alloc: Global,
     grid: &Grid<u32, A>,
@@ -102,7 +106,7 @@ pub fn column_above<A: Allocator>(
     grid.iter_col(c).copied().filter(|y| x < *y).collect(alloc)
 }
 
-/// The largest cell of row r.
+/// Returns the largest cell of row `r`.
 pub fn row_max<A: Allocator>(grid: &Grid<u32, A>, r: usize) -> Option<u32>
     requires { r < row_count grid.now.rows }
     ensures { MatchOption result (row grid.now.rows r ≡ []) (λ most.
@@ -111,7 +115,7 @@ pub fn row_max<A: Allocator>(grid: &Grid<u32, A>, r: usize) -> Option<u32>
     grid.iter_row(r).copied().max()
 }
 
-/// Half of each cell of the whole grid, last first.
+/// Returns half of each cell of the whole grid, last first.
 pub fn halves_reversed<A: Allocator>(
     alloc: Global,
     grid: &Grid<u32, A>,
@@ -122,7 +126,7 @@ pub fn halves_reversed<A: Allocator>(
     grid.iter().rev().map(|y| *y / 2).collect(alloc)
 }
 
-/// The cells of column c, last first.
+/// Returns the cells of column `c`, last first.
 pub fn column_reversed<T: Copy, A: Allocator>(
     alloc: Global,
     grid: &Grid<T, A>,
@@ -134,7 +138,7 @@ pub fn column_reversed<T: Copy, A: Allocator>(
     grid.iter_col(c).rev().copied().collect(alloc)
 }
 
-/// The last cell of row r, if there is one.
+/// Returns the last cell of row `r`, if there is one.
 pub fn last_in_row<A: Allocator>(grid: &Grid<u32, A>, r: usize) -> Option<u32>
     requires { r < row_count grid.now.rows }
     ensures { result ≡ slice_get (row grid.now.rows r) (length (row grid.now.rows r) - 1) }
@@ -142,7 +146,7 @@ pub fn last_in_row<A: Allocator>(grid: &Grid<u32, A>, r: usize) -> Option<u32>
     grid.iter_row(r).next_back().copied()
 }
 
-/// Cell number k of column c, if there is one.
+/// Returns cell number `k` of column `c`, if there is one.
 pub fn cell_of_column<A: Allocator>(grid: &Grid<u32, A>, c: usize, k: usize) -> Option<u32>
     requires { c < col_count grid.now.rows }
     ensures { result ≡ slice_get (row (transposed grid.now.rows) c) k }
@@ -150,14 +154,14 @@ pub fn cell_of_column<A: Allocator>(grid: &Grid<u32, A>, c: usize, k: usize) -> 
     grid.iter_col(c).nth(k).copied()
 }
 
-/// Whether every row has n cells.
+/// Returns whether every row has `n` cells.
 pub fn rows_have<T, A: Allocator>(grid: &Grid<T, A>, n: usize) -> bool
     ensures { IsTrue result ↔ All (λ line. length line ≡ n) grid.now.rows }
 {
     grid.iter_rows().all(|line| line.len() == n)
 }
 
-/// How many cells of each column are x.
+/// Returns, for each column, the number of its cells that are `x`.
 pub fn count_in_columns<A: Allocator>(
     alloc: Global,
     grid: &Grid<u32, A>,
@@ -171,14 +175,16 @@ pub fn count_in_columns<A: Allocator>(
         .collect(alloc)
 }
 
-/// How many rows there are.
+/// Returns the number of rows.
 pub fn count_rows<A: Allocator>(grid: &Grid<u32, A>) -> usize
     ensures { result ≡ length grid.now.rows }
 {
     grid.iter_rows().count()
 }
 
-/// What each cell lacks to ten. The closure can't be called at a larger number.
+/// Returns what each cell lacks to ten. The closure can't be called at a larger number.
+///
+/// Requires: every cell is at most ten.
 #[tactic(auto, using(grid_base::proofs::ClosureLemmas::answers_pure))]
 pub fn lacking<A: Allocator + Clone>(grid: Grid<u32, A>) -> Result<Grid<u32, A>, AllocError>
     requires { All (λ y. y ≤ 10) (storage grid.order grid.rows) }
@@ -194,7 +200,7 @@ pub fn lacking<A: Allocator + Clone>(grid: Grid<u32, A>) -> Result<Grid<u32, A>,
     }
 }
 
-/// The same, of a grid that stays.
+/// Same as [`lacking`], of a grid that stays.
 #[tactic(auto, using(grid_base::proofs::ClosureLemmas::pairs_pure))]
 pub fn lacking_in<A: Allocator + Clone>(grid: &Grid<u32, A>) -> Result<Grid<u32, A>, AllocError>
     requires { All (λ y. y ≤ 10) (storage grid.now.order grid.now.rows) }
@@ -209,6 +215,8 @@ pub fn lacking_in<A: Allocator + Clone>(grid: &Grid<u32, A>) -> Result<Grid<u32,
 }
 
 /// Numbers the cells in storage order, from 1 on. The closure can't be called more than 255 times.
+///
+/// Requires: there are at most 255 cells.
 pub fn number_cells<A: Allocator>(grid: &mut Grid<u8, A>)
     requires { length (storage grid.old.order grid.old.rows) < 2 ^ 8 }
     ensures order { grid.new.order ≡ grid.old.order }
@@ -228,7 +236,7 @@ pub fn number_cells<A: Allocator>(grid: &mut Grid<u8, A>)
     );
 }
 
-/// Applies what two symmetries are joined to. The clones of texts aren't known to equal them.
+/// Applies two symmetries joined into one. The clones of texts aren't known to equal them.
 pub fn apply_to_texts<A: Allocator>(grid: &mut Grid<String, A>, first: Symmetry, second: Symmetry)
     ensures { grid.new.rows ≡ act second (act first grid.old.rows) }
 {
@@ -255,7 +263,7 @@ pub fn run_on_texts<A: Allocator>(
     let _ = grid.step(Command::Apply(symmetry), tally);
 }
 
-/// Two rows that are written out, row-major.
+/// Returns two rows that are written out, row-major.
 pub fn written_by_rows(alloc: Global) -> Result<Grid<u32>, GridError>
     ensures rows { IfOk result (λ g. g.rows ≡ (1 ∷ 2 ∷ 3 ∷ []) ∷ (4 ∷ 5 ∷ 6 ∷ []) ∷ []) }
     ensures order { IfOk result (λ g. g.order ≡ RowMajor) }
@@ -263,7 +271,7 @@ pub fn written_by_rows(alloc: Global) -> Result<Grid<u32>, GridError>
     grid!(alloc; [1, 2, 3] [4, 5, 6])
 }
 
-/// The same rows, column-major.
+/// Returns the same rows, column-major.
 pub fn written_by_columns(alloc: Global) -> Result<Grid<u32>, GridError>
     ensures rows { IfOk result (λ g. g.rows ≡ (1 ∷ 2 ∷ 3 ∷ []) ∷ (4 ∷ 5 ∷ 6 ∷ []) ∷ []) }
     ensures order { IfOk result (λ g. g.order ≡ ColumnMajor) }

@@ -89,7 +89,7 @@ fn without_cols(
     Ok(left)
 }
 
-// The table without so many lines from a place on.
+// The table without `count` lines from a place on.
 pub fn without(
     alloc: Global,
     table: &[Vec<u32>],
@@ -124,7 +124,7 @@ pub fn line_at(
     }
 }
 
-// Puts so many lines of zeros into a table, if it has any rows.
+// Puts `count` lines of zeros into a table, if it has any rows.
 pub fn pad(
     alloc: Global,
     table: &mut Vec<Vec<u32>>,

@@ -48,7 +48,7 @@ pub const MOVES: [Move; 6] = [
 // Rows and columns in range of a table, and some past its end.
 pub const INDICES: [usize; 6] = [0, 1, 2, 3, 4, usize::MAX];
 
-// A line of so many numbers, each one more than the one before it.
+// A line of `len` numbers, each one more than the one before it.
 fn next_line<A: Allocator>(
     alloc: A,
     next: &mut u32,
@@ -62,7 +62,7 @@ fn next_line<A: Allocator>(
     Ok(line)
 }
 
-// A line of so many numbers, from the first on.
+// A line of `len` numbers, from the first on.
 pub fn line_from<A: Allocator>(
     alloc: A,
     first: u32,
@@ -72,7 +72,7 @@ pub fn line_from<A: Allocator>(
     next_line(alloc, &mut next, len)
 }
 
-// So many lines of so many numbers, which go on from line to line.
+// `count` lines of `len` numbers, which go on from line to line.
 pub fn lines_from<A: Allocator + Copy>(
     alloc: A,
     first: u32,
@@ -214,7 +214,7 @@ pub fn shows<A: Allocator>(grid: &Grid<u32, A>, table: &Vec<Vec<u32>>, order: Or
     same_size && same_order && stored && has_cells(grid, table)
 }
 
-// Whether these are so many numbers: the first, and each later one by so much more.
+// Whether these are `len` numbers: the first, and each later one larger by `step`.
 pub fn is_count(cells: &[u32], len: usize, first: u32, step: u32) -> bool {
     let mut next = first;
     for cell in cells {

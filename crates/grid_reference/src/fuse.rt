@@ -11,7 +11,7 @@ pub struct Fuse<B: Allocator> {
 }
 
 impl<B: Allocator> Fuse<B> {
-    /// Grants this many requests, and refuses each later one.
+    /// Returns an allocator that grants this many requests, and refuses each later one.
     pub fn new(inner: B, left: u64) -> Fuse<B> {
         Fuse {
             inner,
@@ -24,7 +24,7 @@ impl<B: Allocator> Fuse<B> {
         self.left.set(left);
     }
 
-    /// How many requests are left to grant.
+    /// Returns the number of requests that are left to grant.
     pub fn left(&self) -> u64 {
         self.left.get()
     }

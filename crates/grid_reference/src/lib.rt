@@ -1,4 +1,5 @@
-//! What the library is compared with: a plain program over tables, callers' chains over walks, and what the tests share.
+//! What the library is compared with: a plain program over tables, callers' chains over iterators, and what the tests
+//! share.
 #![tactic(auto)]
 
 pub mod chains;

@@ -12,7 +12,7 @@ ghost use Rattle.grid_reference.specs.Plain.{items_of_each, AfterSome};
 use grid::{Command, Order, Reply, Symmetry};
 use std::alloc::{AllocError, Global};
 
-/// The number of rows, and the number of cells in the first row.
+/// Returns the number of rows, and the number of cells in the first row.
 pub fn size<T>(table: &Vec<Vec<T>>) -> (usize, usize)
     ensures rows { result.0 ≡ row_count (items_of_each table.now) }
     ensures cols { result.1 ≡ col_count (items_of_each table.now) }
@@ -24,7 +24,7 @@ pub fn size<T>(table: &Vec<Vec<T>>) -> (usize, usize)
     (table.len(), cols)
 }
 
-/// The cell in a row and a column, or `None` where there is none.
+/// Returns the cell in a row and a column, or `None` where there is none.
 pub fn get<T: Copy>(table: &Vec<Vec<T>>, row: usize, col: usize) -> Option<T>
     ensures { result ≡ cell (items_of_each table.now) row col }
 {
@@ -95,7 +95,7 @@ fn image_row<T: Copy>(
     Ok(cells)
 }
 
-/// The image of a table under a symmetry.
+/// Returns the image of a table under a symmetry.
 pub fn act<T: Copy>(
     alloc: Global,
     symmetry: Symmetry,
@@ -123,7 +123,7 @@ fn joined_rows<T: Copy>(alloc: Global, table: &Vec<Vec<T>>) -> Result<Vec<T>, Al
     Ok(cells)
 }
 
-/// The cells of a table in an order: the rows joined, or the columns joined.
+/// Returns the cells of a table in an order: the rows joined, or the columns joined.
 pub fn storage<T: Copy>(
     alloc: Global,
     order: Order,
@@ -140,7 +140,9 @@ pub fn storage<T: Copy>(
     }
 }
 
-/// Does a command. An error leaves the table as it was.
+/// Does a command, and returns its reply.
+///
+/// Fails: where memory is refused; the table is unchanged.
 pub fn step<T: Copy>(
     alloc: Global,
     command: &Command,
@@ -165,7 +167,9 @@ pub fn step<T: Copy>(
     }
 }
 
-/// Does commands one after another, and lists their replies. An error leaves the table after some of them.
+/// Does commands one after another, and returns their replies.
+///
+/// Fails: where memory is refused; the table is as after some of the commands.
 pub fn run<T: Copy>(
     alloc: Global,
     commands: &[Command],

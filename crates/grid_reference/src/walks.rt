@@ -121,7 +121,7 @@ fn line_reads_back(mut line: GridLineIter<'_, u32>, want: &[u32]) -> bool {
     line.next_back().is_none() && line.next().is_none()
 }
 
-// Whether a line says that so many cells are left, and the next is this one.
+// Whether a line says that `left` cells remain, and the next is this one.
 fn line_stands_at(mut line: GridLineIter<'_, u32>, left: usize, cell: &u32) -> bool {
     let counted = line.len() == left && line.size_hint() == (left, Some(left));
     counted && line.next() == Some(cell)
@@ -170,7 +170,7 @@ impl<'a> Lines<'a> {
         }
     }
 
-    // Whether the walk says that so many lines are left.
+    // Whether the walk says that `left` lines remain.
     fn counts(&self, left: usize) -> bool {
         match self {
             Lines::Rows(rows) => rows.len() == left && rows.size_hint() == (left, Some(left)),
@@ -193,7 +193,7 @@ impl<'a> Lines<'a> {
     }
 }
 
-// Whether a walk says that so many lines are left, and the next is this one.
+// Whether a walk says that `left` lines remain, and the next is this one.
 fn lines_stand_at(
     mut lines: Lines<'_>,
     left: usize,
@@ -232,8 +232,8 @@ pub fn lines_read(
     Ok(lines.counts(0) && lines.next().is_none() && lines.next_back().is_none())
 }
 
-// Writes along a row by a walk that says that it has so many cells. Each of the first `count` becomes three times what
-// it was, and one more.
+// Writes along a row by an iterator that says that it has `len` cells. Each of the first `count` becomes three times
+// what it was, and one more.
 pub fn write_row<A: Allocator>(
     grid: &mut Grid<u32, A>,
     row: usize,

@@ -8,7 +8,7 @@ const SCRIPT: &str = "ColumnMajor 2 1 3 2 4\nrotate_left\nget 0 1\nsize\n";
 
 const OUTPUT: &str = "ok\ncell 4\nsize 2 2\n[[2, 4][1, 3]]\n";
 
-// Whether the script is played where so many requests are granted. If not, the fault is memory.
+// Whether the script is played where `granted` requests are granted. If not, the fault is memory.
 fn plays(rt: &impl Abort, alloc: Global, granted: u64, deferred: bool) -> bool {
     let heap = Heap::new(alloc, granted);
     match play(&heap, SCRIPT.as_bytes(), deferred) {

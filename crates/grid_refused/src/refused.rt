@@ -26,7 +26,7 @@ fn starved_rotations(heap: &Heap, len: usize) -> Result<Vec<Command, &Heap>, All
     Ok(commands)
 }
 
-// Whether a run of so many commands did none of them, and was stopped if there is one.
+// Whether a run of `len` commands did none of them, and was stopped if there is one.
 fn did_nothing(ran: Result<Vec<Reply<u32>, &Heap>, RunStopped<u32, &Heap>>, len: usize) -> bool {
     match ran {
         Ok(replies) => len == 0 && replies.is_empty(),
@@ -225,7 +225,7 @@ fn check_moves(
     Ok(())
 }
 
-// Walks over all cells, of which there are so many, by the call and by reference.
+// Iterators over all cells, by the call and by reference.
 fn check_cell_walks(rt: &impl Abort, grid: &Grid<u32, &Heap>, cells: usize) {
     let mut seen = 0usize;
     for _ in grid.indexed_iter() {

@@ -233,7 +233,7 @@ fn delete_lines(grid: &mut Grid<u32, &Heap>, place: LineAt, count: usize) -> boo
     }
 }
 
-// Whether a table of this size has so many lines from a place on.
+// Whether a table of this size has `count` lines from a place on.
 fn has_lines((rows, cols): (usize, usize), place: LineAt, count: usize) -> bool {
     let (lines, start) = match place {
         LineAt::Row(start) => (rows, start),
@@ -346,7 +346,7 @@ fn all_take_one_request<'a>(
     Ok(put && heap.left() == 0)
 }
 
-// The table with so many lines, which go on from 101.
+// The table with new lines, whose cells go on from 101.
 fn with_lines(
     alloc: Global,
     mut table: Vec<Vec<u32>>,
@@ -411,7 +411,7 @@ fn pad_grid(
     }
 }
 
-// Pads by too many lines, and by so many where memory is refused, and says whether each was refused for its reason.
+// Pads by too many lines, and by `count` where memory is refused, and says whether each failed for its reason.
 fn pad_is_refused(grid: &mut Grid<u32, &Heap>, end: (LineAt, bool), count: usize) -> bool {
     let too_large = pad_grid(grid, end, usize::MAX) == Err(GridError::TooLarge);
     too_large && (count == 0 || pad_grid(grid, end, count) == Err(GridError::Memory))

@@ -11,7 +11,7 @@ use std::convert::TryFrom;
 use std::process::Abort;
 use std::test::Fail;
 
-// Whether a call that takes one request for so many cells was granted it, or was refused for want of memory.
+// Whether a call that takes one request, for all cells, was granted it, or failed for memory.
 fn is_due(made: &Result<Grid<u32, &Heap>, GridError>, cells: usize, granted: u64) -> bool {
     match made {
         Ok(_) => cells == 0 || granted != 0,
@@ -32,7 +32,7 @@ fn has_count(
     }
 }
 
-// What a call answers that makes a grid of this size with one value in each cell.
+// What a call returns that makes a grid of this size with one value in each cell.
 fn assert_even(
     rt: &impl Abort,
     made: Result<Grid<u32, &Heap>, GridError>,
@@ -238,7 +238,7 @@ fn writes_grids_out(rt: HostRuntime) -> Result<(), Fail> {
     Ok(())
 }
 
-// The size of a grid that was cut from so many cells in rows of `cols`, if they fit.
+// The size of a grid that was cut from `len` cells in rows of `cols`, if they fit.
 fn cut_size(len: usize, cols: usize) -> Option<(usize, usize)> {
     if len == 0 {
         Some((0, 0))
@@ -249,7 +249,7 @@ fn cut_size(len: usize, cols: usize) -> Option<(usize, usize)> {
     }
 }
 
-// Whether a cut answers what it should, where memory is enough or not.
+// Whether a cut returns what it should, where memory is enough or not.
 fn is_cut(
     made: Result<Grid<u32, &Heap>, ShapeError>,
     (len, cols): (usize, usize),
@@ -347,7 +347,7 @@ fn has_rows(grid: &Grid<u32, &Heap>, lens: &[usize]) -> bool {
     left.is_empty()
 }
 
-// Whether a conversion of rows of these lengths, which takes one request after it has tested them, answers what it
+// Whether a conversion of rows of these lengths, which takes one request after it has tested them, returns what it
 // should.
 fn is_joined(made: Result<Grid<u32, &Heap>, ShapeError>, lens: &[usize], granted: u64) -> bool {
     let none = lens.first().copied().unwrap_or(0) == 0;
@@ -444,7 +444,7 @@ fn refuses_rows_of_too_many_cells(rt: HostRuntime) -> Result<(), Fail> {
     Ok(())
 }
 
-// A row of so many cells from a value on, whose clones are granted.
+// A row of `len` cells from a value on, which share the number of clones that are granted.
 fn fragile_row<'a>(
     alloc: Global,
     granted: &'a Cell<u64>,
@@ -461,7 +461,7 @@ fn fragile_row<'a>(
     Ok(row)
 }
 
-// The rows 1, 2 and 3, 4, of which so many clones are granted.
+// The rows 1, 2 and 3, 4, whose cells share the number of clones that are granted.
 fn fragile_rows<'a>(
     alloc: Global,
     granted: &'a Cell<u64>,
@@ -472,7 +472,7 @@ fn fragile_rows<'a>(
     Ok(rows)
 }
 
-// Whether a maker that clones four cells answers that memory was refused until all four clones are granted.
+// Whether a constructor that clones four cells fails for memory until all four clones are granted.
 fn is_cloned(made: Result<Grid<Fragile>, ShapeError>, granted: u64) -> bool {
     match made {
         Ok(grid) => granted == 4 && has_values(&grid, Order::RowMajor, &[1, 2, 3, 4]),

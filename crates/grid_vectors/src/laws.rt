@@ -5,7 +5,7 @@ use grid_reference::chains::*;
 use std::process::Abort;
 use std::test::Fail;
 
-// [[1, 2, 3], [4, 5, 6]] turned against the clock and then flipped top to bottom is [[1, 4], [2, 5], [3, 6]].
+// [[1, 2, 3], [4, 5, 6]] rotated counterclockwise and then flipped top to bottom is [[1, 4], [2, 5], [3, 6]].
 const TURNED: Symmetry = Symmetry::RotateLeft;
 
 const FLIPPED: Symmetry = Symmetry::FlipRows;

@@ -22,7 +22,7 @@ pub enum Ending {
 }
 
 impl Ending {
-    /// The exit status.
+    /// Returns the exit status.
     pub fn status(&self) -> u8
         ensures { result ≡ ending_status self.now }
     {

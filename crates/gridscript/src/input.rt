@@ -7,12 +7,12 @@ use std::io::Read;
 use std::rt::Env;
 use std::{env, io};
 
-// An input that doesn't end within so many reads is refused.
+// The number of reads within which an input has to end.
 const READS: u32 = 1_048_576;
 
 const READ_LEN: usize = 4096;
 
-/// The arguments after the program's name. One that is no text ends the program as bad arguments do.
+/// Returns the arguments after the program's name. One that is no text ends the program as bad arguments do.
 pub fn arguments<R: Env + AllocGlobal>(rt: &R) -> Result<Vec<String>, Ending> {
     match env::args(rt) {
         Ok(args) => Ok(args.skip(1).collect(rt.alloc())?),
@@ -21,8 +21,8 @@ pub fn arguments<R: Env + AllocGlobal>(rt: &R) -> Result<Vec<String>, Ending> {
     }
 }
 
-/// Whether the arguments after the program's name ask for a deferred run, or `None` where they are neither none nor
-/// the word `deferred`.
+/// Returns whether the arguments after the program's name ask for a deferred run, or `None` where they are neither none
+/// nor the word `deferred`.
 pub fn mode(args: &[String]) -> Option<bool>
     ensures plain { (result ≡ Some false) ↔ (args.now ≡ []) }
     ensures deferred { (result ≡ Some true) ↔ (map string_bytes args.now ≡ codes "deferred" ∷ []) }
@@ -34,7 +34,9 @@ pub fn mode(args: &[String]) -> Option<bool>
     }
 }
 
-/// The bytes of the reader up to its end, which must come within `READS` reads.
+/// Returns the bytes of the reader up to its end.
+///
+/// Fails: where reading fails, memory is refused, or the end doesn't come within `READS` reads.
 pub fn read_all<A: Allocator, R: Read>(alloc: A, reader: &mut R) -> io::Result<Vec<u8, A>>
     ensures { IfOk result (λ bytes. IfSome (R.remaining reader.old) (λ left. bytes.items ≡ left)) }
 {

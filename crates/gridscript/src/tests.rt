@@ -292,7 +292,7 @@ fn a_process_that_wrote_its_output_ends_well(rt: HostRuntime) -> Result<(), Fail
     Ok(())
 }
 
-// Gives so many bytes, one at a time, each after an interrupted read, and then fails or ends.
+// Gives `bytes` bytes, one at a time, each after an interrupted read, and then fails or ends.
 #[derive(Drop)]
 struct Drip {
     bytes: u32,

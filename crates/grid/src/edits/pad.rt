@@ -47,8 +47,8 @@ impl<T, A: Allocator> Grid<T, A> {
     ///
     /// Fails: `TooLarge` where the cells would pass `usize::MAX`, else `Memory`; the grid is unchanged. On an empty
     /// grid, or where `count` is 0, it takes no memory and never fails.
-    /// Cost: row-major, time in the new cells, not counting a reallocation; column-major, time in all cells: each one is
-    /// swapped once, but for those of the first column.
+    /// Cost: row-major, time in the new cells, not counting a reallocation; column-major, time in all cells: each one
+    /// is swapped once, but for those of the first column.
     pub fn expand_rows(&mut self, count: usize) -> Result<(), GridError>
     where
         T: Default,
@@ -75,8 +75,8 @@ impl<T, A: Allocator> Grid<T, A> {
     ///
     /// Fails: `TooLarge` where the cells would pass `usize::MAX`, else `Memory`; the grid is unchanged. On an empty
     /// grid, or where `count` is 0, it takes no memory and never fails.
-    /// Cost: column-major, time in the new cells, not counting a reallocation; row-major, time in all cells: each one is
-    /// swapped once, but for those of the first row.
+    /// Cost: column-major, time in the new cells, not counting a reallocation; row-major, time in all cells: each one
+    /// is swapped once, but for those of the first row.
     pub fn expand_cols(&mut self, count: usize) -> Result<(), GridError>
     where
         T: Default,
@@ -149,7 +149,8 @@ impl<T, A: Allocator> Grid<T, A> {
         self.pad_cols_counted(0, count, &mut tally)
     }
 
-    // Adds `count` rows of defaults before row `at`, and none to an empty grid.
+    // Adds `count` rows of defaults before row `at`, and none to an empty grid. Adds the cells that move to the shift
+    // count of the tally.
     pub(crate) fn pad_rows_counted(
         &mut self,
         at: usize,
@@ -187,7 +188,8 @@ impl<T, A: Allocator> Grid<T, A> {
         Ok(())
     }
 
-    // Adds `count` columns of defaults before column `at`, and none to an empty grid.
+    // Adds `count` columns of defaults before column `at`, and none to an empty grid. Adds the cells that move to the
+    // shift count of the tally.
     pub(crate) fn pad_cols_counted(
         &mut self,
         at: usize,

@@ -140,8 +140,8 @@ impl<T, A: Allocator> Grid<T, A> {
         Ok(Some(line))
     }
 
-    /// Removes column `at` and returns it, or `None` where there is none. The order stays. Taking the only column leaves
-    /// the size (0, 0).
+    /// Removes column `at` and returns it, or `None` where there is none. The order stays. Taking the only column
+    /// leaves the size (0, 0).
     ///
     ///     [[1, 2], [3, 4]]   remove_col(0)   Some([1, 3])   [[2], [4]]
     ///
@@ -185,7 +185,7 @@ impl<T, A: Allocator> Grid<T, A> {
         Ok(line)
     }
 
-    // Takes a row that is there into a vector that has room for it.
+    // Removes row `at`, which is in range, into a vector that has room for it.
     fn take_row_out(&mut self, at: usize, line: &mut Vec<T, A>)
         requires within { at < row_count self.old.rows }
         requires none { line.old.items ≡ [] }
@@ -217,8 +217,8 @@ impl<T, A: Allocator> Grid<T, A> {
         self.delete_rows(at, 1)
     }
 
-    /// Drops column `at`, and returns whether there was one; if not, nothing changes. The order stays. Deleting the only
-    /// column leaves the size (0, 0).
+    /// Drops column `at`, and returns whether there was one; if not, nothing changes. The order stays. Deleting the
+    /// only column leaves the size (0, 0).
     ///
     ///     [[1, 2], [3, 4]]   delete_col(0)   true   [[2], [4]]
     ///
@@ -234,7 +234,7 @@ impl<T, A: Allocator> Grid<T, A> {
         self.delete_cols(at, 1)
     }
 
-    /// Drops `count` rows from row `start` on, and returns whether there were so many; if not, nothing changes. The
+    /// Drops `count` rows from row `start` on, and returns whether they were all there; if not, nothing changes. The
     /// order stays. Deleting all rows leaves the size (0, 0).
     ///
     ///     [[1, 2], [3, 4], [5, 6]]   delete_rows(0, 2)   true   [[5, 6]]
@@ -252,8 +252,8 @@ impl<T, A: Allocator> Grid<T, A> {
         self.delete_rows_counted(start, count, &mut tally)
     }
 
-    /// Drops `count` columns from column `start` on, and returns whether there were so many; if not, nothing changes. The
-    /// order stays. Deleting all columns leaves the size (0, 0).
+    /// Drops `count` columns from column `start` on, and returns whether they were all there; if not, nothing changes.
+    /// The order stays. Deleting all columns leaves the size (0, 0).
     ///
     ///     [[1, 2, 3], [4, 5, 6]]   delete_cols(0, 2)   true   [[3], [6]]
     ///
@@ -270,6 +270,7 @@ impl<T, A: Allocator> Grid<T, A> {
         self.delete_cols_counted(start, count, &mut tally)
     }
 
+    // As `delete_rows`, and adds the cells that stay and move to the shift count of the tally.
     pub(crate) fn delete_rows_counted(
         &mut self,
         start: usize,
@@ -294,6 +295,7 @@ impl<T, A: Allocator> Grid<T, A> {
         found
     }
 
+    // As `delete_cols`, and adds the cells that stay and move to the shift count of the tally.
     pub(crate) fn delete_cols_counted(
         &mut self,
         start: usize,
@@ -318,7 +320,7 @@ impl<T, A: Allocator> Grid<T, A> {
         found
     }
 
-    // Drops rows that are there, at least one.
+    // Drops `count` rows, at least one, from row `start` on; all are in range.
     fn take_rows_out(&mut self, start: usize, count: usize, tally: &mut Tally)
     where
         T: Drop,

@@ -1,4 +1,4 @@
-//! How a grid is made of its size.
+//! Constructors of a grid by its size.
 ghost use Rattle.std.specs.Prelude.{◌≡◌, ◌*◌, ◌^◌, ◌≤◌, ◌↔◌, ℕ, [], All, IfOk, IsOk, IsErrOf};
 ghost use Rattle.grid_base.specs.Table.{IsTable};
 ghost use Rattle.grid_base.specs.Order.{storage};
@@ -12,7 +12,7 @@ use std::alloc::Allocator;
 mod arrays;
 
 impl<T, A: Allocator> Grid<T, A> {
-    // The empty grid of an order.
+    // Returns the empty grid in this order.
     fn empty_with_order(alloc: A, order: Order) -> Grid<T, A>
         ensures rows { result.rows ≡ [] }
         ensures order { result.order ≡ order }
@@ -20,12 +20,14 @@ impl<T, A: Allocator> Grid<T, A> {
         Grid::from_vec_with_order(Vec::new(alloc), 0, order)
     }
 
-    /// Makes a row-major grid of this size, of default cells. Without rows or without columns it is the empty grid.
+    /// Returns the row-major grid of this size whose cells are defaults. Without rows or without columns it is the
+    /// empty grid.
     ///
     ///     new(alloc, 2, 3)   [[0, 0, 0], [0, 0, 0]]
     ///
-    /// Fails: `TooLarge` where `rows * cols` passes `usize::MAX`, else `Memory`. Without rows or without columns it takes
-    /// no memory and never fails.
+    /// Fails: `TooLarge` where `rows * cols` passes `usize::MAX`, else `Memory`. Without rows or without columns it
+    /// takes no memory and never fails.
+    /// Cost: one default for each cell; one allocation.
     pub fn new(alloc: A, rows: usize, cols: usize) -> Result<Grid<T, A>, GridError>
     where
         T: Default,
@@ -66,15 +68,15 @@ impl<T, A: Allocator> Grid<T, A> {
         Ok(Grid::from_vec_with_order(cells, cols, order))
     }
 
-    /// Makes a row-major grid of this size whose cells all equal a value. Without rows or without columns it is the
+    /// Returns the row-major grid of this size whose cells all equal a value. Without rows or without columns it is the
     /// empty grid. The last cell is the value itself.
     ///
     ///     init(alloc, 2, 2, 7)   [[7, 7], [7, 7]]
     ///
     /// Requires: clones of the cell type equal their source.
-    /// Fails: `TooLarge` where `rows * cols` passes `usize::MAX`, else `Memory`. Without rows or without columns it takes
-    /// no memory and never fails.
-    /// An error drops the value.
+    /// Fails: `TooLarge` where `rows * cols` passes `usize::MAX`, else `Memory`; the value is dropped. Without rows or
+    /// without columns it takes no memory and never fails.
+    /// Cost: one clone for each cell but the last; one allocation, and those of the clones.
     pub fn init(alloc: A, rows: usize, cols: usize, value: T) -> Result<Grid<T, A>, GridError>
     where
         T: Clone,
@@ -111,10 +113,11 @@ impl<T, A: Allocator> Grid<T, A> {
         Ok(Grid::from_vec_with_order(cells, cols, order))
     }
 
-    /// Makes an empty row-major grid with room for this many rows and columns.
+    /// Returns an empty row-major grid with room for this many rows and columns.
     ///
-    /// Fails: `TooLarge` where `rows * cols` passes `usize::MAX`, else `Memory`. Without rows or without columns it takes
-    /// no memory and never fails.
+    /// Fails: `TooLarge` where `rows * cols` passes `usize::MAX`, else `Memory`. Without rows or without columns it
+    /// takes no memory and never fails.
+    /// Cost: one allocation.
     pub fn with_capacity(alloc: A, rows: usize, cols: usize) -> Result<Grid<T, A>, GridError>
         ensures rows { IfOk result (λ g. g.rows ≡ []) }
         ensures order { IfOk result (λ g. g.order ≡ Order.RowMajor) }

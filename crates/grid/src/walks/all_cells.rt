@@ -1,4 +1,4 @@
-//! Calls on all cells of a grid.
+//! Calls on all cells of a grid: `fill`, `fill_with`, `map`, `map_ref`.
 ghost use Rattle.std.specs.Prelude.{◌≡◌, [], length, IsOk, IfOk, IfErr, OnOk, OnErr};
 ghost use Rattle.std.specs.Fn.{FnReturnsAt};
 ghost use Rattle.grid_base.specs.Table.{row_count, col_count, IsTable};
@@ -13,8 +13,13 @@ use std::alloc::{AllocError, Allocator};
 impl<T, A: Allocator> Grid<T, A> {
     /// Makes every cell the value. The size and the order stay.
     ///
-    /// All clones are made before the first change, in a vector of their own, so a refusal changes nothing; it drops
-    /// the value. On an empty grid no memory is taken.
+    ///     [[1, 2], [3, 4]]   fill(7)   [[7, 7], [7, 7]]
+    ///
+    /// Requires: clones of the cell type equal their source.
+    /// Fails: where memory is refused; the grid is unchanged, and the value is dropped. An empty grid takes no memory
+    /// and never fails.
+    /// Cost: one clone for each cell but the last, all of them before the first change; one allocation, of a second
+    /// vector.
     pub fn fill(&mut self, value: T) -> Result<(), AllocError>
     where
         T: Clone,
@@ -28,9 +33,13 @@ impl<T, A: Allocator> Grid<T, A> {
         self.flat.fill(value)
     }
 
-    /// Fills the cells by the closure's answers, one call a cell in storage order. The size and the order stay.
+    /// Replaces each cell by what the closure returns, one call for each cell, in storage order. The size and the order
+    /// stay.
     ///
-    /// The closure can be called once for each cell in turn. Takes no memory.
+    ///     [[1, 2], [3, 4]]   fill_with(|| { n += 1; n * 10 })   row-major [[10, 20], [30, 40]], where n was 0
+    ///
+    /// Requires: the closure can be called once for each cell, in turn.
+    /// Cost: one call for each cell; no memory.
     pub fn fill_with<F: FnMut() -> T>(&mut self, f: F)
     where
         T: Drop,
@@ -45,10 +54,14 @@ impl<T, A: Allocator> Grid<T, A> {
         self.flat.fill_with(f);
     }
 
-    /// The grid of the closure's answers, one call a cell in storage order, of the same size and order.
+    /// Returns the grid of what the closure returns at each cell, called in storage order. The size and the order are
+    /// the same.
     ///
-    /// The closure can be called at each cell. Where memory is refused this grid comes back, and the closure wasn't
-    /// called.
+    ///     [[1, 2], [3, 4]]   map(|x| x * 10)   [[10, 20], [30, 40]]
+    ///
+    /// Requires: the closure can be called at each cell, in turn.
+    /// Fails: where memory is refused; this grid comes back, and the closure wasn't called.
+    /// Cost: one call for each cell; one allocation.
     pub fn map<U, F: FnMut(T) -> U>(self, f: F) -> Result<Grid<U, A>, Grid<T, A>>
     where
         T: Drop,
@@ -85,10 +98,14 @@ impl<T, A: Allocator> Grid<T, A> {
         }
     }
 
-    /// The grid of the closure's answers at references to the cells, in storage order, of the same size and order.
+    /// Returns the grid of what the closure returns at a reference to each cell, called in storage order. The size and
+    /// the order are the same.
     ///
-    /// The closure can be called at a reference to each cell. Memory is taken once, before the first call. Where it is
-    /// refused the closure wasn't called; this grid is as it was in any case.
+    ///     [[1, 2], [3, 4]]   map_ref(|x| *x * 10)   [[10, 20], [30, 40]]
+    ///
+    /// Requires: the closure can be called at a reference to each cell.
+    /// Fails: where memory is refused; the closure wasn't called.
+    /// Cost: one call for each cell; one allocation, before the first call.
     pub fn map_ref<U, F: Fn(&T) -> U>(&self, f: F) -> Result<Grid<U, A>, AllocError>
     where
         A: Clone,

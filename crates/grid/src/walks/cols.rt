@@ -1,4 +1,4 @@
-//! Walks over a column, and over the columns from both ends.
+//! Iterators over one column, and over the columns from both ends.
 ghost use Rattle.std.specs.Prelude.{◌≡◌, ◌^◌, ◌<◌, ⊤, length, IfSome, Some};
 ghost use Rattle.std.specs.Borrow.{sem};
 ghost use Rattle.std.specs.Iterator.{YieldsFirst, YieldsLast, item_count, UpTo, at_most};
@@ -18,7 +18,12 @@ use std::ops::Range;
 impl<T, A: Allocator> Grid<T, A> {
     ghost use Rattle.grid.specs.Walks.{lends_col, KeepsSizeFrom};
 
-    /// The cells of column c, which is in range, from both ends. Each step takes the same time.
+    /// Returns an iterator over the cells of column `c`, from both ends.
+    ///
+    ///     [[1, 2], [3, 4]]   iter_col(1)   2, 4
+    ///
+    /// Requires: `c` is in range.
+    /// Cost: each step takes the same time, in either order.
     pub fn iter_col(&self, c: usize) -> GridLineIter<'_, T>
         requires { c < col_count self.now.rows }
         ensures rest { result ≡ row (transposed self.now.rows) c }
@@ -29,8 +34,12 @@ impl<T, A: Allocator> Grid<T, A> {
         self.flat.line(start, end, stride)
     }
 
-    /// The cells of column c, which is in range, for writing. The size and the order stay. Each step takes the same
-    /// time.
+    /// Returns an iterator over the cells of column `c`, for writing. The size and the order stay.
+    ///
+    ///     [[1, 2], [3, 4]]   for cell in iter_col_mut(1) { *cell = 0 }   [[1, 0], [3, 0]]
+    ///
+    /// Requires: `c` is in range.
+    /// Cost: each step takes the same time, in either order.
     pub fn iter_col_mut(&mut self, c: usize) -> GridLineIterMut<'_, T>
         requires { c < col_count self.old.rows }
         ensures* writes_back { sem 𝓛 (lends_col T.row A.row A.Allocator self.entry c result) }
@@ -41,7 +50,9 @@ impl<T, A: Allocator> Grid<T, A> {
         self.flat.line_mut(start, end, stride)
     }
 
-    /// The columns, each as [`iter_col`](Grid::iter_col) gives it, from both ends.
+    /// Returns an iterator over the columns, from both ends, each as [`iter_col`](Grid::iter_col) gives it.
+    ///
+    ///     [[1, 2], [3, 4]]   iter_cols()   1, 3; then 2, 4
     pub fn iter_cols(&self) -> GridColIter<'_, T, A>
         ensures rest { result ≡ transposed self.now.rows }
         ensures runs { EachLineInOrder T }
@@ -57,7 +68,7 @@ impl<T, A: Allocator> Grid<T, A> {
     }
 }
 
-/// The columns of a grid that are left.
+/// An iterator over the columns of a grid, seen as the list of the columns that remain.
 #[derive(Drop)]
 pub struct GridColIter<'a, T, A: Allocator = Global> {
     grid: &'a Grid<T, A>,
@@ -115,7 +126,9 @@ impl<'a, T, A: Allocator> ExactSizeIterator for GridColIter<'a, T, A> {
 
 impl<'a, T, A: Allocator> FusedIterator for GridColIter<'a, T, A> {}
 
-/// A clone stands at the same columns. It is always `Ok`, and takes no memory.
+/// Returns an iterator that stands at the same columns.
+///
+/// Cost: constant; it is always `Ok`, and takes no memory.
 impl<'a, T, A: Allocator> Clone for GridColIter<'a, T, A> {
     ghost is_clone = { λ it copy. copy ≡ it };
 

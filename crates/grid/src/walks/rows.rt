@@ -1,4 +1,4 @@
-//! Walks over a row, and over the rows from both ends.
+//! Iterators over one row, and over the rows from both ends.
 ghost use Rattle.std.specs.Prelude.{◌≡◌, ◌^◌, ◌<◌, ⊤, length, IfSome, Some};
 ghost use Rattle.std.specs.Borrow.{sem};
 ghost use Rattle.std.specs.Iterator.{YieldsFirst, YieldsLast, item_count, UpTo, at_most};
@@ -18,7 +18,12 @@ use std::ops::Range;
 impl<T, A: Allocator> Grid<T, A> {
     ghost use Rattle.grid.specs.Walks.{lends_row, KeepsSizeFrom};
 
-    /// The cells of row r, which is in range, from both ends. Each step takes the same time.
+    /// Returns an iterator over the cells of row `r`, from both ends.
+    ///
+    ///     [[1, 2], [3, 4]]   iter_row(1)   3, 4
+    ///
+    /// Requires: `r` is in range.
+    /// Cost: each step takes the same time, in either order.
     pub fn iter_row(&self, r: usize) -> GridLineIter<'_, T>
         requires { r < row_count self.now.rows }
         ensures rest { result ≡ row self.now.rows r }
@@ -29,7 +34,12 @@ impl<T, A: Allocator> Grid<T, A> {
         self.flat.line(start, end, stride)
     }
 
-    /// The cells of row r, which is in range, for writing. The size and the order stay. Each step takes the same time.
+    /// Returns an iterator over the cells of row `r`, for writing. The size and the order stay.
+    ///
+    ///     [[1, 2], [3, 4]]   for cell in iter_row_mut(1) { *cell = 0 }   [[1, 2], [0, 0]]
+    ///
+    /// Requires: `r` is in range.
+    /// Cost: each step takes the same time, in either order.
     pub fn iter_row_mut(&mut self, r: usize) -> GridLineIterMut<'_, T>
         requires { r < row_count self.old.rows }
         ensures* writes_back { sem 𝓛 (lends_row T.row A.row A.Allocator self.entry r result) }
@@ -40,7 +50,9 @@ impl<T, A: Allocator> Grid<T, A> {
         self.flat.line_mut(start, end, stride)
     }
 
-    /// The rows, each as [`iter_row`](Grid::iter_row) gives it, from both ends.
+    /// Returns an iterator over the rows, from both ends, each as [`iter_row`](Grid::iter_row) gives it.
+    ///
+    ///     [[1, 2], [3, 4]]   iter_rows()   1, 2; then 3, 4
     pub fn iter_rows(&self) -> GridRowIter<'_, T, A>
         ensures rest { result ≡ self.now.rows }
         ensures runs { EachLineInOrder T }
@@ -56,7 +68,7 @@ impl<T, A: Allocator> Grid<T, A> {
     }
 }
 
-/// The rows of a grid that are left.
+/// An iterator over the rows of a grid, seen as the list of the rows that remain.
 #[derive(Drop)]
 pub struct GridRowIter<'a, T, A: Allocator = Global> {
     grid: &'a Grid<T, A>,
@@ -114,7 +126,9 @@ impl<'a, T, A: Allocator> ExactSizeIterator for GridRowIter<'a, T, A> {
 
 impl<'a, T, A: Allocator> FusedIterator for GridRowIter<'a, T, A> {}
 
-/// A clone stands at the same rows. It is always `Ok`, and takes no memory.
+/// Returns an iterator that stands at the same rows.
+///
+/// Cost: constant; it is always `Ok`, and takes no memory.
 impl<'a, T, A: Allocator> Clone for GridRowIter<'a, T, A> {
     ghost is_clone = { λ it copy. copy ≡ it };
 

@@ -1,4 +1,4 @@
-//! Where the cells of a row or a column stand in the storage.
+//! Where the cells of a row or a column stand in the storage: a start, an end, and a stride.
 ghost use Rattle.std.specs.Prelude.{◌+◌, ◌*◌, ◌^◌, ◌<◌};
 ghost use Rattle.grid_base.specs.Order.{place};
 ghost use Rattle.grid.specs.Span.{IsSpan};
@@ -12,7 +12,7 @@ pub(super) struct Span {
     pub(super) stride: usize,
 }
 
-// Where the cells of row r stand.
+// Returns where the cells of row `r` stand.
 pub(super) fn row_span(order: Order, rows: usize, cols: usize, r: usize) -> Span
     requires fits { rows * cols < 2 ^ 64 }
     requires row_in { r < rows }
@@ -25,7 +25,7 @@ pub(super) fn row_span(order: Order, rows: usize, cols: usize, r: usize) -> Span
     }
 }
 
-// Where the cells of column c stand.
+// Returns where the cells of column `c` stand.
 pub(super) fn col_span(order: Order, rows: usize, cols: usize, c: usize) -> Span
     requires fits { rows * cols < 2 ^ 64 }
     requires col_in { c < cols }
@@ -38,7 +38,7 @@ pub(super) fn col_span(order: Order, rows: usize, cols: usize, c: usize) -> Span
     }
 }
 
-// Line i of so many lines of `len` cells that stand one after another.
+// Returns where line `i` stands, of `lines` lines of `len` cells that stand one after another.
 fn together(lines: usize, len: usize, i: usize) -> Span
     requires fits { lines * len < 2 ^ 64 }
     requires line_in { i < lines }
@@ -52,7 +52,7 @@ fn together(lines: usize, len: usize, i: usize) -> Span
     }
 }
 
-// The i-th cell of each of so many lines of `len` cells that stand one after another.
+// Returns where cell `i` of each line stands, of `lines` lines of `len` cells that stand one after another.
 fn across(lines: usize, len: usize, i: usize) -> Span
     requires fits { lines * len < 2 ^ 64 }
     requires some { 0 < lines }

@@ -10,8 +10,11 @@ use std::alloc::{AllocError, Allocator};
 impl<T, A: Allocator> Flat<T, A> {
     /// Makes every cell the value.
     ///
-    /// All clones are made before the first change, in a vector of their own, so a refusal changes nothing. Without
-    /// cells no memory is taken.
+    /// Requires: clones of the cell type equal their source.
+    /// Fails: where memory is refused; the cells are unchanged, and the value is dropped. Without cells it takes no
+    /// memory and never fails.
+    /// Cost: one clone for each cell but the last, all of them before the first change; one allocation, of a second
+    /// vector.
     pub fn fill(&mut self, value: T) -> Result<(), AllocError>
     where
         T: Clone,
@@ -30,9 +33,10 @@ impl<T, A: Allocator> Flat<T, A> {
         Ok(())
     }
 
-    /// Fills the cells by the closure's answers, in order. Takes no memory.
+    /// Replaces each cell by what the closure returns, in order.
     ///
-    /// The closure can be called once for each cell in turn.
+    /// Requires: the closure can be called once for each cell, in turn.
+    /// Cost: one call for each cell; no memory.
     pub fn fill_with<F: FnMut() -> T>(&mut self, mut f: F)
     where
         T: Drop,
@@ -46,9 +50,11 @@ impl<T, A: Allocator> Flat<T, A> {
         }
     }
 
-    /// The closure's answers at the cells, in order, or these cells where memory is refused.
+    /// Returns what the closure returns at each cell, in order.
     ///
-    /// The closure can be called at each cell.
+    /// Requires: the closure can be called at each cell, in turn.
+    /// Fails: where memory is refused; these cells come back, and the closure wasn't called.
+    /// Cost: one call for each cell; one allocation.
     pub fn map<U, F: FnMut(T) -> U>(self, mut f: F) -> Result<Flat<U, A>, Flat<T, A>>
     where
         T: Drop,
@@ -73,9 +79,11 @@ impl<T, A: Allocator> Flat<T, A> {
         Ok(Flat { cells: mapped })
     }
 
-    /// The closure's answers at references to the cells, in order.
+    /// Returns what the closure returns at a reference to each cell, in order.
     ///
-    /// The closure can be called at a reference to each cell.
+    /// Requires: the closure can be called at a reference to each cell.
+    /// Fails: where memory is refused; the closure wasn't called.
+    /// Cost: one call for each cell; one allocation, before the first call.
     pub fn map_ref<U, F: Fn(&T) -> U>(&self, f: F) -> Result<Flat<U, A>, AllocError>
     where
         A: Clone,

@@ -6,13 +6,11 @@ use super::Flat;
 use std::alloc::{AllocError, Allocator};
 
 impl<T: Clone, A: Allocator + Clone> Flat<T, A> {
-    /// Returns clones of the cells in a vector of their own.
+    /// Returns clones of the cells, in a vector of their own.
     ///
-    /// Requires: a clone equals its source.
-    ///
-    /// Fails: memory was refused.
-    ///
-    /// Cost: one clone a cell.
+    /// Requires: clones of the cell type equal their source.
+    /// Fails: where memory is refused, for the vector or for a clone.
+    /// Cost: one clone for each cell.
     pub fn clone(&self) -> Result<Flat<T, A>, AllocError>
         requires clones { ClonesAreEqual T.is_clone }
         ensures { IfOk result (λ copy. copy ≡ self.now) }

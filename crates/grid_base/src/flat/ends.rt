@@ -7,12 +7,14 @@ use std::alloc::{AllocError, Allocator};
 use std::mem::replace;
 
 impl<T, A: Allocator> Flat<T, A> {
-    /// The allocator of the vector.
+    /// Returns the allocator of the vector.
     pub fn allocator(&self) -> &A {
         self.cells.allocator()
     }
 
-    /// Moves the cells of `line` to the end. A refusal leaves both vectors as they were.
+    /// Moves the cells of `line` to the end.
+    ///
+    /// Fails: where memory is refused; both vectors are unchanged.
     pub fn append(&mut self, line: &mut Vec<T, A>) -> Result<(), AllocError>
         ensures ok { OnOk result (self.new ≡ self.old ++ line.old.items) }
         ensures moved { OnOk result (line.new.items ≡ []) }
@@ -22,7 +24,9 @@ impl<T, A: Allocator> Flat<T, A> {
         self.cells.append(line)
     }
 
-    /// Puts `count` default cells at the end. The memory for all of them is had first, and a refusal changes nothing.
+    /// Puts `count` default cells at the end.
+    ///
+    /// Fails: where memory is refused, which is asked for first; the cells are unchanged.
     pub fn append_defaults(&mut self, count: usize) -> Result<(), AllocError>
     where
         T: Default,
@@ -37,7 +41,10 @@ impl<T, A: Allocator> Flat<T, A> {
         Ok(())
     }
 
-    /// Moves the cells from `at` on to the end of `into`, which has room for them.
+    /// Moves the cells from `at` on to the end of `into`.
+    ///
+    /// Requires: `at` is at most the number of cells, and `into` has room for those behind it.
+    /// Cost: each of these cells is moved twice; no memory.
     pub fn move_tail(&mut self, at: usize, into: &mut Vec<T, A>)
         requires within { at ≤ length self.old }
         requires room { vec_len into.old + (length self.old - at) ≤ vec_capacity into.old }
@@ -53,7 +60,10 @@ impl<T, A: Allocator> Flat<T, A> {
         reverse_from(into.as_mut_slice(), start);
     }
 
-    /// Cuts the cells from `at` on off. The memory for them is had first, and a refusal changes nothing.
+    /// Cuts off the cells from `at` on, and returns them.
+    ///
+    /// Requires: `at` is at most the number of cells.
+    /// Fails: where memory for them is refused, which is asked for first; the cells are unchanged.
     pub fn split_off(&mut self, at: usize) -> Result<Vec<T, A>, AllocError>
     where
         A: Clone,

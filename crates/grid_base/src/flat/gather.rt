@@ -10,7 +10,12 @@ use std::alloc::{AllocError, Allocator};
 impl<T, A: Allocator> Flat<T, A> {
     /// Moves the cells of rows of `width` cells to the end, in storage order.
     ///
-    /// The memory for all of them is had first, and a refusal leaves this vector and the rows as they were.
+    ///     [0]   append_rows(RowMajor, 2, [[1, 2], [3, 4]])      [0, 1, 2, 3, 4]
+    ///     [0]   append_rows(ColumnMajor, 2, [[1, 2], [3, 4]])   [0, 1, 3, 2, 4]
+    ///
+    /// Requires: no row is empty, all have this length, and they have fewer than 2^64 cells.
+    /// Fails: where memory for all of them is refused, which is asked for first; this vector and the rows are
+    /// unchanged.
     pub fn append_rows(
         &mut self,
         order: Order,

@@ -1,4 +1,4 @@
-//! Walks over all cells with their rows and columns, in storage order: by reference, for writing, and by value.
+//! Iterators over all cells with their rows and columns, in storage order: by reference, for writing, and by value.
 ghost use Rattle.std.specs.Prelude.{◌≡◌, length, zip, IfSome, Some};
 ghost use Rattle.std.specs.Borrow.{sem};
 ghost use Rattle.std.specs.Iterator.{YieldsFirst, YieldsFirstBy, item_count, UpTo, at_most};
@@ -16,7 +16,10 @@ use std::{slice, vec};
 impl<T, A: Allocator> Flat<T, A> {
     ghost use Rattle.grid_base.specs.FlatLends.{lends_indexed};
 
-    /// The cells of a vector of `rows` times `cols` cells, each with its row and its column.
+    /// Returns an iterator over the cells of a table of `rows` rows and `cols` columns, each with its row and its
+    /// column.
+    ///
+    /// Requires: the vector has `rows * cols` cells, and there are rows exactly if there are columns.
     pub fn indexed_iter(&self, order: Order, rows: usize, cols: usize) -> IndexedIter<'_, T>
         requires { HoldsSize rows cols (length self.now) }
         ensures { result ≡ zip (places order rows cols) self.now }
@@ -27,7 +30,10 @@ impl<T, A: Allocator> Flat<T, A> {
         }
     }
 
-    /// The cells of a vector of `rows` times `cols` cells for writing, each with its row and its column.
+    /// Returns an iterator over the cells of a table of `rows` rows and `cols` columns, for writing, each with its row
+    /// and its column.
+    ///
+    /// Requires: the vector has `rows * cols` cells, and there are rows exactly if there are columns.
     pub fn indexed_iter_mut(
         &mut self,
         order: Order,
@@ -44,7 +50,10 @@ impl<T, A: Allocator> Flat<T, A> {
         }
     }
 
-    /// The cells of a vector of `rows` times `cols` cells by value, each with its row and its column.
+    /// Returns an iterator over the cells of a table of `rows` rows and `cols` columns, by value, each with its row and
+    /// its column.
+    ///
+    /// Requires: the vector has `rows * cols` cells, and there are rows exactly if there are columns.
     pub fn indexed_into_iter(self, order: Order, rows: usize, cols: usize) -> IndexedIntoIter<T, A>
         requires { HoldsSize rows cols (length self) }
         ensures { result ≡ zip (places order rows cols) self }
@@ -57,7 +66,7 @@ impl<T, A: Allocator> Flat<T, A> {
     }
 }
 
-/// The cells that are left, each with its row and its column.
+/// An iterator over cells, each with its row and its column.
 #[derive(Drop)]
 pub struct IndexedIter<'a, T> {
     places: Places,
@@ -96,7 +105,7 @@ impl<'a, T> Iterator for IndexedIter<'a, T> {
     }
 }
 
-/// The cells that are left, for writing, each with its row and its column.
+/// An iterator over cells, for writing, each with its row and its column.
 // It has no model, so that a contract can follow the loan.
 #[derive(Drop)]
 pub struct IndexedIterMut<'a, T> {
@@ -128,7 +137,7 @@ impl<'a, T> Iterator for IndexedIterMut<'a, T> {
     }
 }
 
-/// The cells that are left, by value, each with its row and its column.
+/// An iterator over cells, by value, each with its row and its column.
 #[derive(Drop)]
 pub struct IndexedIntoIter<T, A: Allocator = Global> {
     places: Places,

@@ -1,4 +1,4 @@
-//! A walk along a row or a column.
+//! An iterator over a row or a column.
 ghost use Rattle.std.specs.Prelude.{◌≡◌, ◌+◌, ◌<◌, ◌≤◌, ⊤, length, drop, slice_get, IfSome, Some};
 ghost use Rattle.std.specs.Option.{option_copied};
 ghost use Rattle.std.specs.Iterator.{YieldsFirstRef, YieldsLastRef, item_count, UpTo, at_most};
@@ -12,7 +12,12 @@ use std::marker::Model;
 use std::ops::Range;
 
 impl<T, A: Allocator> Flat<T, A> {
-    /// The cells from `start` on and before `end`, each `stride` places after the last.
+    /// Returns an iterator over the cells from `start` on and before `end`, each `stride` places after the one before
+    /// it.
+    ///
+    ///     [1, 2, 3, 4, 5, 6]   line(1, 6, 2)   2, 4, 6
+    ///
+    /// Requires: `start` is at most `end`, which is at most the number of cells; `stride` is not 0.
     pub fn line(&self, start: usize, end: usize, stride: usize) -> GridLineIter<'_, T>
         requires ordered { start ≤ end }
         requires within { end ≤ length self.now }
@@ -30,7 +35,7 @@ impl<T, A: Allocator> Flat<T, A> {
     }
 }
 
-/// The cells of a row or a column that are left, from both ends. Each step takes the same time.
+/// An iterator over a row or a column, from both ends. Each step takes the same time.
 #[derive(Drop)]
 pub struct GridLineIter<'a, T> {
     // From the first cell of the line on.
@@ -52,7 +57,9 @@ impl<'a, T> Model for GridLineIter<'a, T> {
 }
 
 impl<'a, T> GridLineIter<'a, T> {
-    /// Passes over n cells and gives the next, or `None` if fewer are left. Takes the same time at every n.
+    /// Passes over `n` cells and returns the next, or `None` if fewer remain.
+    ///
+    /// Cost: the same time at every `n`.
     pub fn nth(&mut self, n: usize) -> Option<&'a T>
         ensures item { option_copied result ≡ slice_get self.old n }
         ensures rest { self.new ≡ drop (n + 1) self.old }
@@ -102,7 +109,9 @@ impl<'a, T> ExactSizeIterator for GridLineIter<'a, T> {
 
 impl<'a, T> FusedIterator for GridLineIter<'a, T> {}
 
-/// A clone stands at the same cells. It is always `Ok`, and takes no memory.
+/// Returns an iterator that stands at the same cells.
+///
+/// Cost: constant; it is always `Ok`, and takes no memory.
 impl<'a, T> Clone for GridLineIter<'a, T> {
     ghost is_clone = { λ it copy. copy ≡ it };
 

@@ -11,7 +11,11 @@ use std::alloc::Allocator;
 impl<T, A: Allocator> Flat<T, A> {
     /// Puts the groups of `count` cells that stand behind the lines into their lines, each before place `at`.
     ///
-    /// By rotations of halves: it takes time in the number of cells times log2(lines) + 1, and no memory.
+    ///     [1, 2, 3, 4, 5, 6]   weave(1, 4, 2, 2)   [1, 2, 5, 6, 3, 4]
+    ///     [1, 3, 2, 4, 5, 6]   weave(2, 2, 1, 1)   [1, 5, 3, 2, 6, 4]
+    ///
+    /// Requires: the vector has `lines` lines of `width` cells and as many groups; `at` is at most `width`.
+    /// Cost: time in the number of cells times log2(lines) + 1 at most, by rotations; no memory.
     pub fn weave(&mut self, lines: usize, width: usize, at: usize, count: usize)
         requires cells { length self.old ≡ lines * width + lines * count }
         requires fits { lines * width + lines * count < 2 ^ 64 }
@@ -23,7 +27,10 @@ impl<T, A: Allocator> Flat<T, A> {
 
     /// Takes the `count` cells from place `at` on out of each line, and puts them behind the lines.
     ///
-    /// By rotations of halves, at the cost of [`weave`](Flat::weave), and without memory.
+    ///     [1, 5, 3, 2, 6, 4]   unweave(2, 2, 1, 1)   [1, 3, 2, 4, 5, 6]
+    ///
+    /// Requires: the vector has `lines` lines of `width + count` cells; `at` is at most `width`.
+    /// Cost: that of [`weave`](Flat::weave).
     pub fn unweave(&mut self, lines: usize, width: usize, at: usize, count: usize)
         requires cells { length self.old ≡ lines * (width + count) }
         requires fits { lines * (width + count) < 2 ^ 64 }
@@ -33,9 +40,14 @@ impl<T, A: Allocator> Flat<T, A> {
         unweave_cells(self.cells.as_mut_slice(), lines, width, at, count);
     }
 
-    /// Spreads the lines that stand first, so that each has room for `count` cells before its place `at`.
+    /// Spreads the lines that stand first, so that each has room for `count` cells before its place `at`. What stood
+    /// behind the lines comes to the room, in any order.
     ///
-    /// Each cell whose place changes is swapped once, for a shift. What stood behind the lines comes to the room.
+    ///     [1, 3, 2, 4, 0, 0]   open(2, 2, 1, 1)   [1, 0, 3, 2, 0, 4]
+    ///
+    /// Requires: the vector has `lines` lines of `width` cells and as many groups behind them; none of these numbers is
+    /// 0, and `at` is at most `width`.
+    /// Cost: each cell whose place changes is swapped once, for a shift; no memory.
     pub fn open(&mut self, lines: usize, width: usize, at: usize, count: usize, tally: &mut Tally)
         requires cells { length self.old ≡ lines * (width + count) }
         requires fits { lines * (width + count) < 2 ^ 64 }
@@ -47,7 +59,7 @@ impl<T, A: Allocator> Flat<T, A> {
         ensures symmetry { tally.new.symmetry ≡ tally.old.symmetry }
         ensures shift { tally.new.shift ≡ saturating_count tally.old.shift (lines * width - at) }
     {
-        // The run of cells behind each group, the last run first. The cells behind so many groups move on by those.
+        // The run of cells behind each group, the last run first. A run moves on by the groups before it.
         let mut end = lines * width;
         let mut line = lines;
         while 0 < line {
@@ -60,7 +72,10 @@ impl<T, A: Allocator> Flat<T, A> {
 
     /// Closes up the lines without the `count` cells from place `at` on in each, and drops those.
     ///
-    /// Each kept cell whose place changes is swapped once, for a shift.
+    ///     [1, 5, 3, 2, 6, 4]   close_up(2, 2, 1, 1)   [1, 3, 2, 4]
+    ///
+    /// Requires: the vector has `lines` lines of `width + count` cells; `count` is not 0, and `at` is at most `width`.
+    /// Cost: each kept cell whose place changes is swapped once, for a shift; no memory.
     pub fn close_up(
         &mut self,
         lines: usize,
@@ -84,8 +99,8 @@ impl<T, A: Allocator> Flat<T, A> {
     }
 }
 
-// The groups of the first half of the lines come before the lines of the second half; then each half is woven. Lines that
-// are long beside the groups are woven in turn, since then each round moves little more than a line.
+// The groups of the first half of the lines come before the lines of the second half; then each half is woven. Lines
+// that are long beside the groups are woven in turn, since then each round moves little more than a line.
 fn weave_cells<T>(cells: &mut [T], lines: usize, width: usize, at: usize, count: usize)
     requires cells { length cells.old ≡ lines * width + lines * count }
     requires fits { lines * width + lines * count < 2 ^ 64 }
@@ -203,8 +218,8 @@ fn move_forward<T, A: Allocator>(
     }
 }
 
-// Takes the run of kept cells behind each group, from the first on, to its place in the closed lines. The cells behind
-// so many groups move by those.
+// Takes the run of kept cells behind each group, from the first on, to its place in the closed lines. A run moves
+// forward by the groups before it.
 fn close_at<T, A: Allocator>(
     flat: &mut Flat<T, A>,
     lines: usize,

@@ -1,4 +1,4 @@
-//! Walks over cells in storage order, and over every so many of them.
+//! Iterators for writing: over all cells in storage order, and over a row or a column.
 ghost use Rattle.std.specs.Prelude.{◌≡◌, ◌-◌, ◌<◌, ◌≤◌, length, take, drop, slice_get, IfSome, Some};
 ghost use Rattle.std.specs.Borrow.{sem};
 ghost use Rattle.std.specs.Iterator.{item_count, UpTo, at_most};
@@ -16,7 +16,7 @@ impl<T, A: Allocator> Flat<T, A> {
     ghost use Rattle.grid_base.specs.FlatLends.{lends_cells, lends_line};
     ghost use Rattle.grid_base.specs.GridLineIterMut.{line_mut_rest, line_mut_cells};
 
-    /// The cells for writing, in order.
+    /// Returns an iterator over the cells in order, for writing.
     pub fn iter_mut(&mut self) -> slice::IterMut<'_, T>
         ensures* writes_back { sem 𝓛 (lends_cells T.row A.row A.Allocator self.entry result) }
         ensures rest { iter_mut_rest result ≡ self.old }
@@ -26,7 +26,12 @@ impl<T, A: Allocator> Flat<T, A> {
         self.cells.as_mut_slice().iter_mut()
     }
 
-    /// The cells from `start` on and before `end`, each `stride` places after the last, for writing.
+    /// Returns an iterator over the cells from `start` on and before `end`, each `stride` places after the one before
+    /// it, for writing.
+    ///
+    ///     [1, 2, 3, 4, 5, 6]   line_mut(1, 6, 2)   2, 4, 6
+    ///
+    /// Requires: `start` is at most `end`, which is at most the number of cells; `stride` is not 0.
     pub fn line_mut(&mut self, start: usize, end: usize, stride: usize) -> GridLineIterMut<'_, T>
         requires ordered { start ≤ end }
         requires within { end ≤ length self.old }
@@ -42,8 +47,7 @@ impl<T, A: Allocator> Flat<T, A> {
     }
 }
 
-/// The cells of a row or a column that are left, for writing: every so many cells of one part of the vector.
-// It has no model, so that a contract can follow the loan.
+/// An iterator over a row or a column, for writing. Each step takes the same time.
 #[derive(Drop)]
 pub struct GridLineIterMut<'a, T> {
     rest: &'a mut [T],

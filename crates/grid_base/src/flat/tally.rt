@@ -8,7 +8,7 @@ use super::blocks::{reverse_part, swap_blocks};
 use std::alloc::Allocator;
 use std::marker::Model;
 
-/// How many swaps of two cells were done: for symmetries, and for shifts in expand, prepend and delete.
+/// The numbers of swaps that were done: for symmetries, and for shifts in expand, prepend and delete.
 ///
 /// Only the counted swaps of a [`Flat`](crate::Flat) and its runs of them raise a count, by one for each pair of cells
 /// that is exchanged. A count stops at `u128::MAX`, and no call lowers it.
@@ -27,7 +27,7 @@ impl Model for Tally {
 }
 
 impl Tally {
-    /// A tally with both counts 0.
+    /// Returns a tally with both counts 0.
     pub fn new() -> Tally
         ensures symmetry { result.symmetry ≡ 0 }
         ensures shift { result.shift ≡ 0 }
@@ -38,14 +38,14 @@ impl Tally {
         }
     }
 
-    /// The number of swaps that were done for symmetries.
+    /// Returns the number of swaps that were done for symmetries.
     pub fn symmetry(&self) -> u128
         ensures { result ≡ self.now.symmetry }
     {
         self.for_symmetry
     }
 
-    /// The number of swaps that were done for shifts.
+    /// Returns the number of swaps that were done for shifts.
     pub fn shift(&self) -> u128
         ensures { result ≡ self.now.shift }
     {
@@ -68,7 +68,11 @@ impl Tally {
 }
 
 impl<T, A: Allocator> Flat<T, A> {
-    /// Exchanges the cells of two unlike places, and counts one swap for a symmetry.
+    /// Exchanges two cells, and counts one swap for a symmetry.
+    ///
+    ///     [1, 2, 3]   swap_for_symmetry(0, 2)   [3, 2, 1]   1 swap
+    ///
+    /// Requires: the places are in range, and unlike.
     pub fn swap_for_symmetry(&mut self, i: usize, j: usize, tally: &mut Tally)
         requires i_in { i < length self.old }
         requires j_in { j < length self.old }
@@ -81,7 +85,11 @@ impl<T, A: Allocator> Flat<T, A> {
         tally.count_symmetries(1);
     }
 
-    /// Exchanges the cells of two unlike places, and counts one swap for a shift.
+    /// Exchanges two cells, and counts one swap for a shift.
+    ///
+    ///     [1, 2, 3]   swap_for_shift(0, 2)   [3, 2, 1]   1 swap
+    ///
+    /// Requires: the places are in range, and unlike.
     pub fn swap_for_shift(&mut self, i: usize, j: usize, tally: &mut Tally)
         requires i_in { i < length self.old }
         requires j_in { j < length self.old }
@@ -95,6 +103,10 @@ impl<T, A: Allocator> Flat<T, A> {
     }
 
     /// Reverses the `n` cells from `start` on, by `n / 2` swaps for a symmetry.
+    ///
+    ///     [1, 2, 3, 4]   reverse_for_symmetry(1, 3)   [1, 4, 3, 2]   1 swap
+    ///
+    /// Requires: these cells are in range.
     pub fn reverse_for_symmetry(&mut self, start: usize, n: usize, tally: &mut Tally)
         requires within { start + n ≤ length self.old }
         requires fits { start + n < 2 ^ 64 }
@@ -106,7 +118,11 @@ impl<T, A: Allocator> Flat<T, A> {
         tally.count_symmetries(n / 2);
     }
 
-    /// Exchanges the `n` cells from `i` on with those from `j` on, which come later, by `n` swaps for a symmetry.
+    /// Exchanges the `n` cells from `i` on with those from `j` on, by `n` swaps for a symmetry.
+    ///
+    ///     [1, 2, 3, 4, 5]   swap_blocks_for_symmetry(0, 3, 2)   [4, 5, 3, 1, 2]   2 swaps
+    ///
+    /// Requires: both blocks are in range, and the second begins behind the first.
     pub fn swap_blocks_for_symmetry(&mut self, i: usize, j: usize, n: usize, tally: &mut Tally)
         requires apart { i + n ≤ j }
         requires within { j + n ≤ length self.old }
@@ -119,7 +135,11 @@ impl<T, A: Allocator> Flat<T, A> {
         tally.count_symmetries(n);
     }
 
-    /// Exchanges the `n` cells from `i` on with those from `j` on, which come later, by `n` swaps for a shift.
+    /// Exchanges the `n` cells from `i` on with those from `j` on, by `n` swaps for a shift.
+    ///
+    ///     [1, 2, 3, 4, 5]   swap_blocks_for_shift(0, 3, 2)   [4, 5, 3, 1, 2]   2 swaps
+    ///
+    /// Requires: both blocks are in range, and the second begins behind the first.
     pub fn swap_blocks_for_shift(&mut self, i: usize, j: usize, n: usize, tally: &mut Tally)
         requires apart { i + n ≤ j }
         requires within { j + n ≤ length self.old }

@@ -1,4 +1,4 @@
-//! Edits of lines: each edit with its answer, and the grid after it.
+//! Edits of lines: each edit with what it returns, and the grid after it.
 use crate::asserts::{Rows, assert_rows, assert_stored, grid_with};
 use grid::Order::{ColumnMajor, RowMajor};
 use grid::{Grid, GridError, LineRefused, LinesRefused, Order};
@@ -32,7 +32,7 @@ enum Edit {
     PrependCols(usize),
 }
 
-// What an edit answers.
+// What an edit returns.
 #[derive(Clone, Copy, Debug)]
 enum Answer {
     Done,
@@ -88,7 +88,7 @@ fn is_deleted(deleted: bool, want: Answer) -> bool {
     }
 }
 
-// Whether an edit that puts or takes a line answers so.
+// Whether an edit that puts or takes a line returns this.
 fn answers_line(
     alloc: Global,
     grid: &mut Grid<u32>,
@@ -115,7 +115,7 @@ fn answers_line(
     Ok(met)
 }
 
-// Whether an edit answers so.
+// Whether an edit returns this.
 fn answers(
     alloc: Global,
     grid: &mut Grid<u32>,
@@ -145,7 +145,7 @@ fn answers(
 // The storage that edits begin with: its cells, the number of columns, and the order.
 type Start = (Line, usize, Order);
 
-// An edit, its answer, and the size and the storage after it.
+// An edit, what it returns, and the size and the storage after it.
 type Stored = (Edit, Answer, (usize, usize), Line);
 
 // Does edits one after another.
@@ -164,7 +164,7 @@ fn check_stored(
     Ok(())
 }
 
-// An edit, its answer, and the rows after it.
+// An edit, what it returns, and the rows after it.
 type Shown = (Edit, Answer, Rows);
 
 fn check_shown_in(

@@ -1,4 +1,4 @@
-//! Makers and the macros.
+//! Constructors and the macros.
 use crate::asserts::{assert_made, assert_refused};
 use grid::Order::{ColumnMajor, RowMajor};
 use grid::{Grid, GridError, grid, grid_cm};

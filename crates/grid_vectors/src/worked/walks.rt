@@ -1,4 +1,4 @@
-//! Walks.
+//! Iterators over cells, rows and columns.
 use crate::asserts::{Rows, assert_stored, grid_with};
 use grid::Order::{ColumnMajor, RowMajor};
 use grid::{Grid, GridColIter, GridLineIter, GridRowIter};

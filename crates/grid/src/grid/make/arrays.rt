@@ -1,4 +1,4 @@
-//! A grid of the cells in an array of rows.
+//! The constructor from an array of rows.
 ghost use Rattle.std.specs.Prelude.{◌≡◌, ◌≢◌, ◌*◌, ◌^◌, ◌<◌, ◌≤◌, ◌↔◌, Some, None, IsTrue, IsOk, IfOk, OnOk, OnErr, IsErrOf, slice_get, slice_set};
 ghost use Rattle.grid_base.specs.Table.{cell, with_cell, IsTable};
 ghost use Rattle.grid.specs.Make.{IsMade, FailsBySize};
@@ -8,7 +8,7 @@ use crate::{Grid, GridError};
 use grid_base::Order;
 use std::alloc::Allocator;
 
-// What an order takes first and second: row and column, or column and row.
+// Returns the outer number and the inner one: row and column, or column and row.
 fn by_order(order: Order, i: usize, j: usize) -> (usize, usize)
     ensures { result ≡ by_order order i j }
 {
@@ -47,12 +47,15 @@ fn take_cell<T, const R: usize, const C: usize>(
 }
 
 impl<T, A: Allocator> Grid<T, A> {
-    /// Makes a grid of this order whose row i takes the cells of row i of the slots, and leaves every slot `None`.
+    /// Returns the grid in this order whose row i has the cells of row i of the slots, and leaves every slot `None`.
     /// Without rows or without columns it is the empty grid.
+    ///
+    ///     from_arrays(alloc, RowMajor, [[Some(1), Some(2)], [Some(3), Some(4)]])   [[1, 2], [3, 4]]
     ///
     /// Requires: every slot holds a cell.
     /// Fails: `TooLarge` where `R * C` passes `usize::MAX`, else `Memory`; all slots are unchanged. Without rows or
     /// without columns it takes no memory and never fails.
+    /// Cost: each cell is moved once; one allocation.
     pub fn from_arrays<const R: usize, const C: usize>(
         alloc: A,
         order: Order,
