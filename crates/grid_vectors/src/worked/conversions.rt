@@ -1,7 +1,7 @@
 //! Conversions of vectors and of lists of rows.
 use crate::asserts::{Rows, assert_stored};
 use grid::Order::RowMajor;
-use grid::{Grid, ShapeError};
+use grid::{Grid, ShapeError, can_cut};
 use grid_reference::fixtures::table_of;
 use std::alloc::{AllocError, Global};
 use std::convert::TryFrom;
@@ -127,4 +127,20 @@ fn rows_converted_by_try_into(rt: HostRuntime) -> Result<(), Fail> {
     let want: Made = Ok(((2, 2), &[1, 2, 3, 4]));
     assert_converts(&rt, table.try_into(), want);
     Ok(())
+}
+
+// Numbers of cells, lengths of rows, and whether the cells can be cut so.
+const CUTS: [(usize, usize, bool); 5] = [
+    (6, 3, true),
+    (6, 4, false),
+    (6, 0, false),
+    (0, 0, true),
+    (0, 5, true),
+];
+
+#[test]
+fn cells_are_cut_where_none_is_left(rt: HostRuntime) {
+    for (len, cols, want) in CUTS {
+        assert_eq!(rt; can_cut(len, cols), want);
+    }
 }

@@ -366,3 +366,22 @@ fn a_row_of_one_cell_inserted_into_the_empty_grid(rt: HostRuntime) -> Result<(),
     ];
     check_shown(&rt, rt.alloc(), &[], &EDITS)
 }
+
+// The lengths of a row and of a column that fit two rows of three.
+const FITTING: [(usize, bool, bool); 4] = [
+    (0, false, false),
+    (2, false, true),
+    (3, true, false),
+    (6, false, false),
+];
+
+#[test]
+fn lines_fit_by_their_length(rt: HostRuntime) -> Result<(), Fail> {
+    let mut grid = stored(rt.alloc(), &[1, 2, 3, 4, 5, 6], 3, RowMajor)?;
+    for (len, row, col) in FITTING {
+        assert_eq!(rt; (grid.fits_row(len), grid.fits_col(len)), (row, col));
+    }
+    grid.clear();
+    assert!(rt; grid.fits_row(5) && grid.fits_col(7));
+    Ok(())
+}

@@ -136,3 +136,27 @@ fn four_quarter_turns(rt: HostRuntime) -> Result<(), Fail> {
     }
     Ok(())
 }
+
+// What each symmetry costs on two rows of three, and its flags.
+const COSTS: [(Symmetry, u128, (bool, bool, bool)); 8] = [
+    (Symmetry::Identity, 0, (false, false, false)),
+    (Symmetry::FlipCols, 2, (false, false, true)),
+    (Symmetry::FlipRows, 3, (false, true, false)),
+    (Symmetry::RotateHalf, 3, (false, true, true)),
+    (Symmetry::Transpose, 0, (true, false, false)),
+    (Symmetry::RotateLeft, 2, (true, true, false)),
+    (Symmetry::RotateRight, 3, (true, false, true)),
+    (Symmetry::AntiTranspose, 3, (true, true, true)),
+];
+
+#[test]
+fn symmetries_cost_their_flips(rt: HostRuntime) -> Result<(), Fail> {
+    for (symmetry, cost, flags) in COSTS {
+        let mut grid = grid_with(rt.alloc(), WIDE, RowMajor)?;
+        let mut tally = Tally::new();
+        grid.apply_counted(symmetry, &mut tally);
+        assert_eq!(rt; (tally.symmetry(), tally.shift()), (cost, 0));
+        assert_eq!(rt; symmetry.flags(), flags);
+    }
+    Ok(())
+}
