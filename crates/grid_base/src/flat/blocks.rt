@@ -7,7 +7,7 @@ const SHORT_PART: usize = 16;
 
 const SHORT_BLOCK: usize = 8;
 
-const SHORT_ROTATION: usize = 24;
+const SHORT_ROTATION: usize = 128;
 
 // Reverses the `n` cells from `start` on.
 pub(super) fn reverse_part<T>(cells: &mut [T], start: usize, n: usize)
@@ -83,6 +83,9 @@ pub(super) fn exchange_blocks<T>(cells: &mut [T], start: usize, first: usize, se
     requires fits { start + first + second < 2 ^ 64 }
     ensures { BlocksExchanged start first second cells.old cells.new }
 {
+    if first == 0 || second == 0 {
+        return;
+    }
     if first + second < SHORT_ROTATION {
         exchange_by_reversals(cells, start, first, second);
     } else {
@@ -95,9 +98,9 @@ fn exchange_by_reversals<T>(cells: &mut [T], start: usize, first: usize, second:
     requires fits { start + first + second < 2 ^ 64 }
     ensures { BlocksExchanged start first second cells.old cells.new }
 {
-    reverse_in_turn(cells, start, first);
-    reverse_in_turn(cells, start + first, second);
-    reverse_in_turn(cells, start, first + second);
+    reverse_part(cells, start, first);
+    reverse_part(cells, start + first, second);
+    reverse_part(cells, start, first + second);
 }
 
 fn exchange_at_once<T>(cells: &mut [T], start: usize, first: usize, second: usize)
