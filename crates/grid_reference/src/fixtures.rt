@@ -202,6 +202,12 @@ fn is_joined_across(cells: &[u32], table: &Vec<Vec<u32>>) -> bool {
     left.next().is_none()
 }
 
+// Whether each call that tells of its size or its order says that a grid has these.
+fn has_size<A: Allocator>(grid: &Grid<u32, A>, (rows, cols): (usize, usize), order: Order) -> bool {
+    let by_each = grid.size() == (rows, cols) && grid.rows() == rows && grid.cols() == cols;
+    by_each && grid.order() == order && grid.is_empty() == (rows == 0)
+}
+
 // Whether a grid shows this table, by its size and each cell, and has stored it in this order.
 pub fn shows<A: Allocator>(grid: &Grid<u32, A>, table: &Vec<Vec<u32>>, order: Order) -> bool {
     let (rows, cols) = plain::size(table);
@@ -209,9 +215,7 @@ pub fn shows<A: Allocator>(grid: &Grid<u32, A>, table: &Vec<Vec<u32>>, order: Or
         Order::RowMajor => is_joined(grid.flatten(), table),
         Order::ColumnMajor => is_joined_across(grid.flatten(), table),
     };
-    let same_size = grid.size() == (rows, cols) && grid.rows() == rows && grid.cols() == cols;
-    let same_order = grid.order() == order && grid.is_empty() == (rows == 0);
-    same_size && same_order && stored && has_cells(grid, table)
+    stored && has_size(grid, (rows, cols), order) && has_cells(grid, table)
 }
 
 // Whether these are `len` numbers: the first, and each later one larger by `step`.
@@ -243,23 +247,32 @@ fn count_at(
     Some(first.wrapping_add(step.wrapping_mul((number % 1000) as u32)))
 }
 
-// Whether a small grid of this size and order has stored the first number, and each later one by so much more.
+// Whether the cells of a small grid of this size and order are those numbers, in range, and none past its ends.
+fn has_count<A: Allocator>(
+    grid: &Grid<u32, A>,
+    size: (usize, usize),
+    order: Order,
+    count: (u32, u32),
+) -> bool {
+    for row in INDICES {
+        for col in INDICES {
+            if grid.get(row, col).copied() != count_at(size, order, count, (row, col)) {
+                return false;
+            }
+        }
+    }
+    true
+}
+
+// Whether a small grid shows this size and order, and has stored the first number, and each later one by so much more.
 pub fn shows_count<A: Allocator>(
     grid: &Grid<u32, A>,
     size: (usize, usize),
     order: Order,
     (first, step): (u32, u32),
 ) -> bool {
-    for row in INDICES {
-        for col in INDICES {
-            let want = count_at(size, order, (first, step), (row, col));
-            if grid.get(row, col).copied() != want {
-                return false;
-            }
-        }
-    }
-    let len = size.0.wrapping_mul(size.1);
-    grid.size() == size && grid.order() == order && is_count(grid.flatten(), len, first, step)
+    let stored = is_count(grid.flatten(), size.0.wrapping_mul(size.1), first, step);
+    stored && has_size(grid, size, order) && has_count(grid, size, order, (first, step))
 }
 
 // Whether a grid has this size, and has stored these cells in this order.

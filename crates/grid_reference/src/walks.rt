@@ -1,4 +1,5 @@
 //! Whether a walk hands out what it should. Each goes through a walk to its end, and compares each step.
+use crate::edits::LineAt;
 use crate::plain;
 use grid::{Grid, GridColIter, GridLineIter, GridRowIter, IndexedIntoIter, IndexedIter};
 use std::alloc::{AllocError, Allocator};
@@ -232,38 +233,25 @@ pub fn lines_read(
     Ok(lines.counts(0) && lines.next().is_none() && lines.next_back().is_none())
 }
 
-// Writes along a row by an iterator that says that it has `len` cells. Each of the first `count` becomes three times
-// what it was, and one more.
-pub fn write_row<A: Allocator>(
+// Writes along the line at a place, by an iterator that says that it has `len` cells; returns whether there is a line. Each
+// of the first `count` becomes three times what it was, and one more.
+pub fn write_along<A: Allocator>(
     grid: &mut Grid<u32, A>,
-    row: usize,
+    place: LineAt,
     len: usize,
     count: usize,
 ) -> bool {
-    if row >= grid.rows() {
+    let there = match place {
+        LineAt::Row(row) => row < grid.rows(),
+        LineAt::Col(col) => col < grid.cols(),
+    };
+    if !there {
         return false;
     }
-    let line = grid.iter_row_mut(row);
-    let counted = line.size_hint() == (len, Some(len));
-    let mut written = 0usize;
-    for cell in line.take(count) {
-        *cell = cell.wrapping_mul(3).wrapping_add(1);
-        written = written.wrapping_add(1);
-    }
-    counted && written == count.min(len)
-}
-
-// The same along a column.
-pub fn write_col<A: Allocator>(
-    grid: &mut Grid<u32, A>,
-    col: usize,
-    len: usize,
-    count: usize,
-) -> bool {
-    if col >= grid.cols() {
-        return false;
-    }
-    let line = grid.iter_col_mut(col);
+    let line = match place {
+        LineAt::Row(row) => grid.iter_row_mut(row),
+        LineAt::Col(col) => grid.iter_col_mut(col),
+    };
     let counted = line.size_hint() == (len, Some(len));
     let mut written = 0usize;
     for cell in line.take(count) {

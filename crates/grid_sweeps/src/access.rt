@@ -1,12 +1,35 @@
 //! How a grid is made and its cells are reached, over all small tables and both orders.
 use crate::asserts::assert_shows;
-use grid::Order;
-use grid_reference::fixtures::{ORDERS, INDICES, SIZES, grid_of, numbered, places_of, put_cell};
+use grid::{Grid, Order};
+use grid_reference::fixtures::{INDICES, ORDERS, SIZES, grid_of, numbered, places_of, put_cell};
 use grid_reference::plain;
 use grid_reference::reached::{read_both_ways, swap, write, write_indexed, write_unchecked};
 use std::alloc::{AllocError, Global};
 use std::process::Abort;
 use std::test::Fail;
+
+// Each cell in range, read in both ways that give no `Option`.
+fn check_reads(rt: &impl Abort, grid: &Grid<u32>, table: &Vec<Vec<u32>>) {
+    let (rows, cols) = grid.size();
+    for row in 0..rows {
+        for col in 0..cols {
+            let want = plain::get(table, row, col);
+            assert!(rt; want.is_some() && read_both_ways(grid, (row, col)) == want);
+        }
+    }
+}
+
+fn check_into_vec(
+    rt: &impl Abort,
+    alloc: Global,
+    grid: Grid<u32>,
+    table: &Vec<Vec<u32>>,
+    order: Order,
+) -> Result<(), AllocError> {
+    let cells = plain::storage(alloc, order, table)?;
+    assert_eq!(rt; grid.into_vec().as_slice(), cells.as_slice());
+    Ok(())
+}
 
 fn check_shown(
     rt: &impl Abort,
@@ -14,17 +37,10 @@ fn check_shown(
     table: &Vec<Vec<u32>>,
     order: Order,
 ) -> Result<(), Fail> {
-    let cells = plain::storage(alloc, order, table)?;
     let grid = grid_of(alloc, table, order)?;
     assert_shows(rt, &grid, table, order);
-    let (rows, cols) = grid.size();
-    for row in 0..rows {
-        for col in 0..cols {
-            let want = plain::get(table, row, col);
-            assert!(rt; want.is_some() && read_both_ways(&grid, (row, col)) == want);
-        }
-    }
-    assert_eq!(rt; grid.into_vec().as_slice(), cells.as_slice());
+    check_reads(rt, &grid, table);
+    check_into_vec(rt, alloc, grid, table, order)?;
     Ok(())
 }
 
@@ -41,18 +57,13 @@ fn shows_each_table(rt: HostRuntime) -> Result<(), Fail> {
 
 fn check_get_mut(
     rt: &impl Abort,
-    alloc: Global,
-    (rows, cols): (usize, usize),
-    order: Order,
+    grid: &mut Grid<u32>,
+    table: &mut Vec<Vec<u32>>,
     (row, col): (usize, usize),
-) -> Result<(), Fail> {
-    let mut table = numbered(alloc, rows, cols)?;
-    let mut grid = grid_of(alloc, &table, order)?;
-    let there = plain::get(&table, row, col).is_some();
-    assert_eq!(rt; write(&mut grid, (row, col), 99), there);
-    put_cell(&mut table, row, col, 99);
-    assert_shows(rt, &grid, &table, order);
-    Ok(())
+) {
+    let there = plain::get(table, row, col).is_some();
+    assert_eq!(rt; write(grid, (row, col), 99), there);
+    put_cell(table, row, col, 99);
 }
 
 #[test]
@@ -61,7 +72,7 @@ fn writes_by_get_mut(rt: HostRuntime) -> Result<(), Fail> {
         for order in ORDERS {
             for row in INDICES {
                 for col in INDICES {
-                    check_get_mut(&rt, rt.alloc(), size, order, (row, col))?;
+                    check_change(&rt, rt.alloc(), size, order, Change::GetMut(row, col))?;
                 }
             }
         }
@@ -72,20 +83,16 @@ fn writes_by_get_mut(rt: HostRuntime) -> Result<(), Fail> {
 // Writes a cell in range in both ways that need no `Option`, one after the other.
 fn check_writes(
     rt: &impl Abort,
-    alloc: Global,
-    (rows, cols): (usize, usize),
+    grid: &mut Grid<u32>,
+    table: &mut Vec<Vec<u32>>,
     order: Order,
     (row, col): (usize, usize),
-) -> Result<(), Fail> {
-    let mut table = numbered(alloc, rows, cols)?;
-    let mut grid = grid_of(alloc, &table, order)?;
-    assert!(rt; write_unchecked(&mut grid, (row, col), 98));
-    put_cell(&mut table, row, col, 98);
-    assert_shows(rt, &grid, &table, order);
-    assert!(rt; write_indexed(&mut grid, (row, col), 99));
-    put_cell(&mut table, row, col, 99);
-    assert_shows(rt, &grid, &table, order);
-    Ok(())
+) {
+    assert!(rt; write_unchecked(grid, (row, col), 98));
+    put_cell(table, row, col, 98);
+    assert_shows(rt, grid, table, order);
+    assert!(rt; write_indexed(grid, (row, col), 99));
+    put_cell(table, row, col, 99);
 }
 
 #[test]
@@ -94,7 +101,13 @@ fn writes_in_range(rt: HostRuntime) -> Result<(), Fail> {
         for order in ORDERS {
             for row in 0..rows {
                 for col in 0..cols {
-                    check_writes(&rt, rt.alloc(), (rows, cols), order, (row, col))?;
+                    check_change(
+                        &rt,
+                        rt.alloc(),
+                        (rows, cols),
+                        order,
+                        Change::Write(row, col),
+                    )?;
                 }
             }
         }
@@ -112,33 +125,67 @@ fn swap_cells(table: &mut Vec<Vec<u32>>, a: (usize, usize), b: (usize, usize)) {
     }
 }
 
-fn check_swap(
+// A change of a grid of a table, done to both.
+#[derive(Clone, Copy)]
+enum Change {
+    GetMut(usize, usize),
+    Write(usize, usize),
+    Swap((usize, usize), (usize, usize)),
+}
+
+fn do_change(
+    rt: &impl Abort,
+    grid: &mut Grid<u32>,
+    table: &mut Vec<Vec<u32>>,
+    order: Order,
+    change: Change,
+) {
+    match change {
+        Change::GetMut(row, col) => check_get_mut(rt, grid, table, (row, col)),
+        Change::Write(row, col) => check_writes(rt, grid, table, order, (row, col)),
+        Change::Swap(a, b) => {
+            assert!(rt; swap(grid, a, b));
+            swap_cells(table, a, b);
+        }
+    }
+}
+
+// After a change a grid shows the changed table.
+fn check_change(
     rt: &impl Abort,
     alloc: Global,
     (rows, cols): (usize, usize),
     order: Order,
-    a: (usize, usize),
-    b: (usize, usize),
+    change: Change,
 ) -> Result<(), Fail> {
     let mut table = numbered(alloc, rows, cols)?;
     let mut grid = grid_of(alloc, &table, order)?;
-    assert!(rt; swap(&mut grid, a, b));
-    swap_cells(&mut table, a, b);
+    do_change(rt, &mut grid, &mut table, order, change);
     assert_shows(rt, &grid, &table, order);
+    Ok(())
+}
+
+fn check_swaps(
+    rt: &impl Abort,
+    alloc: Global,
+    size: (usize, usize),
+    places: &[(usize, usize)],
+) -> Result<(), Fail> {
+    for order in ORDERS {
+        for a in places {
+            for b in places {
+                check_change(rt, alloc, size, order, Change::Swap(*a, *b))?;
+            }
+        }
+    }
     Ok(())
 }
 
 #[test]
 fn swaps_every_two_cells(rt: HostRuntime) -> Result<(), Fail> {
-    for (rows, cols) in SIZES {
-        let places = places_of(rt.alloc(), (rows, cols), Order::RowMajor)?;
-        for order in ORDERS {
-            for a in &places {
-                for b in &places {
-                    check_swap(&rt, rt.alloc(), (rows, cols), order, *a, *b)?;
-                }
-            }
-        }
+    for size in SIZES {
+        let places = places_of(rt.alloc(), size, Order::RowMajor)?;
+        check_swaps(&rt, rt.alloc(), size, places.as_slice())?;
     }
     Ok(())
 }

@@ -56,6 +56,31 @@ fn fills(rt: HostRuntime) -> Result<(), Fail> {
     Ok(())
 }
 
+type Counted<'a> = Grid<u32, &'a Heap>;
+
+// Adds 10 to the first cell, 20 to the second, and so on, and says how often the closure was called.
+fn map_by_tens(grid: Counted<'_>) -> (Result<Counted<'_>, Counted<'_>>, u32) {
+    let mut calls = 0u32;
+    let mapped = grid.map(|cell| {
+        calls = calls.wrapping_add(1);
+        cell.wrapping_add(calls.wrapping_mul(10))
+    });
+    (mapped, calls)
+}
+
+// Whether a map by tens was done, or refused with the grid that came back.
+fn is_mapped(
+    mapped: &Result<Counted<'_>, Counted<'_>>,
+    size: (usize, usize),
+    order: Order,
+    done: bool,
+) -> bool {
+    match mapped {
+        Ok(mapped) => done && shows_count(mapped, size, order, (11, 11)),
+        Err(same) => !done && shows_count(same, size, order, (1, 1)),
+    }
+}
+
 // A map takes one request, and none on an empty grid. Where it is refused the closure isn't called, and the grid comes
 // back.
 fn check_map(
@@ -68,26 +93,35 @@ fn check_map(
     let heap = Fuse::new(alloc, 0);
     let grid = counted(&heap, size, order)?;
     heap.grant(granted);
-    let mut calls = 0u32;
-    let mapped = grid.map(|cell| {
-        calls = calls.wrapping_add(1);
-        cell.wrapping_add(calls.wrapping_mul(10))
-    });
-    let some = size.0 != 0;
-    match mapped {
-        Ok(mapped) => {
-            assert!(rt; !some || granted != 0);
-            assert!(rt; shows_count(&mapped, size, order, (11, 11)));
-        }
-        Err(same) => assert!(rt; some && granted == 0 && shows_count(&same, size, order, (1, 1))),
-    }
-    let all = if some && granted == 0 {
-        0
-    } else {
-        size.0.wrapping_mul(size.1)
-    };
+    let done = size.0 == 0 || granted != 0;
+    let (mapped, calls) = map_by_tens(grid);
+    assert!(rt; is_mapped(&mapped, size, order, done));
+    let all = if done { size.0.wrapping_mul(size.1) } else { 0 };
     assert_eq!(rt; calls as usize, all);
     Ok(())
+}
+
+// Three times each cell, and how often the closure was called.
+fn map_by_three<'a>(grid: &Counted<'a>) -> (Result<Counted<'a>, AllocError>, usize) {
+    let calls = Cell::new(0usize);
+    let mapped = grid.map_ref(|cell| {
+        calls.set(calls.get().wrapping_add(1));
+        cell.wrapping_mul(3)
+    });
+    (mapped, calls.get())
+}
+
+// Whether a map by three was done, or refused.
+fn is_tripled(
+    mapped: &Result<Counted<'_>, AllocError>,
+    size: (usize, usize),
+    order: Order,
+    done: bool,
+) -> bool {
+    match mapped {
+        Ok(mapped) => done && shows_count(mapped, size, order, (3, 3)),
+        Err(_) => !done,
+    }
 }
 
 // So does a map by references, which leaves the grid in any case.
@@ -101,25 +135,12 @@ fn check_map_ref(
     let heap = Fuse::new(alloc, 0);
     let grid = counted(&heap, size, order)?;
     heap.grant(granted);
-    let calls = Cell::new(0usize);
-    let mapped = grid.map_ref(|cell| {
-        calls.set(calls.get().wrapping_add(1));
-        cell.wrapping_mul(3)
-    });
-    let some = size.0 != 0;
-    match mapped {
-        Ok(mapped) => {
-            assert!(rt; !some || granted != 0);
-            assert!(rt; shows_count(&mapped, size, order, (3, 3)));
-        }
-        Err(_) => assert!(rt; some && granted == 0),
-    }
-    let all = if some && granted == 0 {
-        0
-    } else {
-        size.0.wrapping_mul(size.1)
-    };
-    assert_eq!(rt; calls.get(), all);
+    let done = size.0 == 0 || granted != 0;
+    let (mapped, calls) = map_by_three(&grid);
+    assert!(rt; is_tripled(&mapped, size, order, done));
+    drop(mapped);
+    let all = if done { size.0.wrapping_mul(size.1) } else { 0 };
+    assert_eq!(rt; calls, all);
     assert!(rt; shows_count(&grid, size, order, (1, 1)));
     Ok(())
 }
@@ -137,6 +158,15 @@ fn maps(rt: HostRuntime) -> Result<(), Fail> {
     Ok(())
 }
 
+// Fills with a cell whose clones are granted by this count.
+fn fills_with_nine<'a>(grid: &mut Grid<Fragile<'a>, &Heap>, granted: &'a Cell<u64>) -> bool {
+    let value = Fragile {
+        value: 9,
+        granted: Some(granted),
+    };
+    grid.fill(value).is_ok()
+}
+
 // A fill of four cells makes three clones, after its request for memory.
 fn check_clones(
     rt: &impl Abort,
@@ -149,11 +179,7 @@ fn check_clones(
     heap.grant(u64::MAX);
     let mut grid = fragile_cells(heap, &granted, order)?;
     heap.grant(requests);
-    let value = Fragile {
-        value: 9,
-        granted: Some(&granted),
-    };
-    let done = grid.fill(value).is_ok();
+    let done = fills_with_nine(&mut grid, &granted);
     assert_eq!(rt; done, requests == 1 && clones >= 3);
     let want = if done { [9u32, 9, 9, 9] } else { [1, 2, 3, 4] };
     assert!(rt; has_values(&grid, order, want.as_slice()));

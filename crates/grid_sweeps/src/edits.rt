@@ -1,4 +1,8 @@
 //! Edits of lines over all small tables, all places and both orders, where memory is refused and then granted.
+ghost use Rattle.std.specs.Prelude.{◌≡◌, ◌<◌, ◌≤◌, length, IfOk, IsTrue};
+ghost use Rattle.grid_base.specs.Table.{col_count};
+ghost use Rattle.grid.specs.Edits.{FitsCol};
+
 use crate::asserts::assert_shows;
 use grid::laws::{insert_col_or_row_across, push_row_then_pop_row};
 use grid::{Grid, GridError, LineRefused, Order};
@@ -112,19 +116,34 @@ fn takes_one_request<'a>(
     Ok(put && heap.left() == 0)
 }
 
-// The table with a line from 101 on.
-fn with_line(
+// Puts a line from 101 on into a table.
+fn put_counted(
     alloc: Global,
-    mut table: Vec<Vec<u32>>,
+    table: &mut Vec<Vec<u32>>,
     place: LineAt,
     len: usize,
-) -> Result<Vec<Vec<u32>>, AllocError> {
+) -> Result<(), AllocError> {
     let line = line_from(alloc, 101, len)?;
-    put_line(alloc, &mut table, place, line.as_slice())?;
-    Ok(table)
+    put_line(alloc, table, place, line.as_slice())
 }
 
-// A line that is put is one request: refused, it comes back, and the grid is as it was; granted, it is put.
+// Puts a line into the grid of a table, and into the table: refused, it comes back, and the grid is as it was; granted,
+// it is put.
+fn check_put_into<'a>(
+    rt: &impl Abort,
+    heap: &'a Heap,
+    grid: &mut Grid<u32, &'a Heap>,
+    (table, order): (&Vec<Vec<u32>>, Order),
+    (place, pushed): (LineAt, bool),
+) -> Result<(), AllocError> {
+    let len = fitting_len(plain::size(table), place);
+    assert!(rt; comes_back(heap, grid, (place, pushed), len)?);
+    assert_shows(rt, grid, table, order);
+    assert!(rt; takes_one_request(heap, grid, (place, pushed), len)?);
+    Ok(())
+}
+
+// A line that is put is one request.
 fn check_put(
     rt: &impl Abort,
     alloc: Global,
@@ -132,34 +151,42 @@ fn check_put(
     order: Order,
     (place, pushed): (LineAt, bool),
 ) -> Result<(), Fail> {
-    let table = numbered(alloc, size.0, size.1)?;
     let heap = Fuse::new(alloc, 0);
+    let mut table = numbered(alloc, size.0, size.1)?;
     let mut grid = starved_grid_of(alloc, &heap, &table, order)?;
-    let len = fitting_len(size, place);
-    assert!(rt; comes_back(&heap, &mut grid, (place, pushed), len)?);
+    check_put_into(rt, &heap, &mut grid, (&table, order), (place, pushed))?;
+    put_counted(alloc, &mut table, place, fitting_len(size, place))?;
     assert_shows(rt, &grid, &table, order);
-    assert!(rt; takes_one_request(&heap, &mut grid, (place, pushed), len)?);
-    assert_shows(rt, &grid, &with_line(alloc, table, place, len)?, order);
     Ok(())
 }
 
-#[test]
-fn puts_lines(rt: HostRuntime) -> Result<(), Fail> {
-    let alloc = rt.alloc();
-    for (rows, cols) in SIZES {
-        for order in ORDERS {
-            for place in places_to_put(alloc, (rows, cols))? {
-                check_put(&rt, alloc, (rows, cols), order, (place, false))?;
-            }
-            for place in [LineAt::Row(rows), LineAt::Col(cols)] {
-                check_put(&rt, alloc, (rows, cols), order, (place, true))?;
-            }
+fn check_puts(
+    rt: &impl Abort,
+    alloc: Global,
+    size: (usize, usize),
+    places: &[LineAt],
+    pushed: bool,
+) -> Result<(), Fail> {
+    for order in ORDERS {
+        for place in places {
+            check_put(rt, alloc, size, order, (*place, pushed))?;
         }
     }
     Ok(())
 }
 
-fn same_line<A: Allocator>(taken: Option<Vec<u32, A>>, line: Option<&Vec<u32>>) -> bool {
+#[test]
+fn puts_lines(rt: HostRuntime) -> Result<(), Fail> {
+    for (rows, cols) in SIZES {
+        let places = places_to_put(rt.alloc(), (rows, cols))?;
+        check_puts(&rt, rt.alloc(), (rows, cols), places.as_slice(), false)?;
+        let ends = [LineAt::Row(rows), LineAt::Col(cols)];
+        check_puts(&rt, rt.alloc(), (rows, cols), ends.as_slice(), true)?;
+    }
+    Ok(())
+}
+
+fn same_line<A: Allocator>(taken: &Option<Vec<u32, A>>, line: Option<&Vec<u32>>) -> bool {
     match (taken, line) {
         (Some(taken), Some(line)) => taken.as_slice() == line.as_slice(),
         (None, None) => true,
@@ -177,10 +204,26 @@ fn takes<'a>(
     heap.grant(1);
     let taken = take_line(grid, place, popped)?;
     let left = if line.is_some() { 0 } else { 1 };
-    Ok(heap.left() == left && same_line(taken, line))
+    Ok(heap.left() == left && same_line(&taken, line))
 }
 
-// A line that is taken is one request, refused and then granted, and none where there is no such line.
+// Takes a line of the grid of a table, refused and then granted.
+fn check_taken_from<'a>(
+    rt: &impl Abort,
+    (alloc, heap): (Global, &'a Heap),
+    grid: &mut Grid<u32, &'a Heap>,
+    (table, order): (&Vec<Vec<u32>>, Order),
+    (place, popped): (LineAt, bool),
+) -> Result<(), AllocError> {
+    let line = line_at(alloc, table, place)?;
+    let refused = take_line(grid, place, popped).is_err();
+    assert_eq!(rt; refused, line.is_some());
+    assert_shows(rt, grid, table, order);
+    assert!(rt; takes(heap, grid, (place, popped), line.as_ref())?);
+    Ok(())
+}
+
+// A line that is taken is one request, and none where there is no such line.
 fn check_taken(
     rt: &impl Abort,
     alloc: Global,
@@ -188,14 +231,17 @@ fn check_taken(
     order: Order,
     (place, popped): (LineAt, bool),
 ) -> Result<(), Fail> {
-    let line = line_at(alloc, table, place)?;
     let heap = Fuse::new(alloc, 0);
     let mut grid = starved_grid_of(alloc, &heap, table, order)?;
-    let refused = take_line(&mut grid, place, popped).is_err();
-    assert_eq!(rt; refused, line.is_some());
-    assert_shows(rt, &grid, table, order);
-    assert!(rt; takes(&heap, &mut grid, (place, popped), line.as_ref())?);
-    assert_shows(rt, &grid, &without(alloc, table, place, 1)?, order);
+    check_taken_from(
+        rt,
+        (alloc, &heap),
+        &mut grid,
+        (table, order),
+        (place, popped),
+    )?;
+    let left = without(alloc, table, place, 1)?;
+    assert_shows(rt, &grid, &left, order);
     Ok(())
 }
 
@@ -251,11 +297,11 @@ fn check_deleted(
     (place, count): (LineAt, usize),
 ) -> Result<(), Fail> {
     let there = has_lines(plain::size(table), place, count);
-    let left = without(alloc, table, place, if there { count } else { 0 })?;
     let heap = Fuse::new(alloc, 0);
     let mut grid = starved_grid_of(alloc, &heap, table, order)?;
     assert_eq!(rt; delete_lines(&mut grid, place, count), there);
-    assert_shows(rt, &grid, &left, order);
+    let count = if there { count } else { 0 };
+    assert_shows(rt, &grid, &without(alloc, table, place, count)?, order);
     Ok(())
 }
 
@@ -267,11 +313,10 @@ fn check_deleted_one(
     place: LineAt,
 ) -> Result<(), Fail> {
     let there = has_lines(plain::size(table), place, 1);
-    let left = without(alloc, table, place, 1)?;
     let heap = Fuse::new(alloc, 0);
     let mut grid = starved_grid_of(alloc, &heap, table, order)?;
     assert_eq!(rt; delete_line(&mut grid, place), there);
-    assert_shows(rt, &grid, &left, order);
+    assert_shows(rt, &grid, &without(alloc, table, place, 1)?, order);
     Ok(())
 }
 
@@ -346,22 +391,39 @@ fn all_take_one_request<'a>(
     Ok(put && heap.left() == 0)
 }
 
-// The table with new lines, whose cells go on from 101.
-fn with_lines(
+// Puts new lines, whose cells go on from 101, into a table.
+fn put_several_counted(
     alloc: Global,
-    mut table: Vec<Vec<u32>>,
+    table: &mut Vec<Vec<u32>>,
     place: LineAt,
     (count, len): (usize, usize),
-) -> Result<Vec<Vec<u32>>, AllocError> {
+) -> Result<(), AllocError> {
     let lines = lines_from(alloc, 101, count, len)?;
     for line in lines.iter().rev() {
-        put_line(alloc, &mut table, place, line.as_slice())?;
+        put_line(alloc, table, place, line.as_slice())?;
     }
-    Ok(table)
+    Ok(())
 }
 
-// Lines that are put are one request: refused, they come back, and the grid is as it was; granted, they are put. No
-// lines are no request.
+// Puts several lines into the grid of a table: refused, they come back, and the grid is as it was; granted, they are
+// put.
+fn check_put_several_into<'a>(
+    rt: &impl Abort,
+    heap: &'a Heap,
+    grid: &mut Grid<u32, &'a Heap>,
+    (table, order): (&Vec<Vec<u32>>, Order),
+    (place, count): (LineAt, usize),
+) -> Result<(), AllocError> {
+    let shape = (count, fitting_len(plain::size(table), place));
+    if count != 0 {
+        assert!(rt; all_come_back(heap, grid, place, shape)?);
+        assert_shows(rt, grid, table, order);
+    }
+    assert!(rt; all_take_one_request(heap, grid, place, shape)?);
+    Ok(())
+}
+
+// Lines that are put are one request, and no lines are none.
 fn check_put_several(
     rt: &impl Abort,
     alloc: Global,
@@ -369,30 +431,36 @@ fn check_put_several(
     order: Order,
     (place, count): (LineAt, usize),
 ) -> Result<(), Fail> {
-    let table = numbered(alloc, size.0, size.1)?;
     let heap = Fuse::new(alloc, 0);
+    let mut table = numbered(alloc, size.0, size.1)?;
     let mut grid = starved_grid_of(alloc, &heap, &table, order)?;
-    let shape = (count, fitting_len(size, place));
-    if count != 0 {
-        assert!(rt; all_come_back(&heap, &mut grid, place, shape)?);
-        assert_shows(rt, &grid, &table, order);
+    check_put_several_into(rt, &heap, &mut grid, (&table, order), (place, count))?;
+    put_several_counted(alloc, &mut table, place, (count, fitting_len(size, place)))?;
+    assert_shows(rt, &grid, &table, order);
+    Ok(())
+}
+
+fn check_puts_of_several(
+    rt: &impl Abort,
+    alloc: Global,
+    size: (usize, usize),
+    places: &[LineAt],
+) -> Result<(), Fail> {
+    for order in ORDERS {
+        for place in places {
+            for count in 0..4usize {
+                check_put_several(rt, alloc, size, order, (*place, count))?;
+            }
+        }
     }
-    assert!(rt; all_take_one_request(&heap, &mut grid, place, shape)?);
-    assert_shows(rt, &grid, &with_lines(alloc, table, place, shape)?, order);
     Ok(())
 }
 
 #[test]
 fn puts_several_lines(rt: HostRuntime) -> Result<(), Fail> {
-    let alloc = rt.alloc();
     for size in SIZES {
-        for order in ORDERS {
-            for place in places_to_put(alloc, size)? {
-                for count in 0..4usize {
-                    check_put_several(&rt, alloc, size, order, (place, count))?;
-                }
-            }
-        }
+        let places = places_to_put(rt.alloc(), size)?;
+        check_puts_of_several(&rt, rt.alloc(), size, places.as_slice())?;
     }
     Ok(())
 }
@@ -417,8 +485,25 @@ fn pad_is_refused(grid: &mut Grid<u32, &Heap>, end: (LineAt, bool), count: usize
     too_large && (count == 0 || pad_grid(grid, end, count) == Err(GridError::Memory))
 }
 
-// Padding is one request, refused and then granted, and none on an empty grid or by nothing. What is too large is
-// found before memory is asked for.
+// Pads the grid of a table, refused and then granted.
+fn check_padding_of<'a>(
+    rt: &impl Abort,
+    heap: &'a Heap,
+    grid: &mut Grid<u32, &'a Heap>,
+    (table, order): (&Vec<Vec<u32>>, Order),
+    (end, count): ((LineAt, bool), usize),
+) {
+    if !table.is_empty() {
+        assert!(rt; pad_is_refused(grid, end, count));
+        assert_shows(rt, grid, table, order);
+        heap.grant(if count == 0 { 0 } else { 1 });
+    }
+    let padded = pad_grid(grid, end, count).is_ok();
+    assert!(rt; padded && heap.left() == 0);
+}
+
+// Padding is one request, and none on an empty grid or by nothing. What is too large is found before memory is asked
+// for.
 fn check_padded(
     rt: &impl Abort,
     alloc: Global,
@@ -426,16 +511,10 @@ fn check_padded(
     order: Order,
     (end, count): ((LineAt, bool), usize),
 ) -> Result<(), Fail> {
-    let mut table = numbered(alloc, size.0, size.1)?;
     let heap = Fuse::new(alloc, 0);
+    let mut table = numbered(alloc, size.0, size.1)?;
     let mut grid = starved_grid_of(alloc, &heap, &table, order)?;
-    if size.0 != 0 {
-        assert!(rt; pad_is_refused(&mut grid, end, count));
-        assert_shows(rt, &grid, &table, order);
-        heap.grant(if count == 0 { 0 } else { 1 });
-    }
-    let padded = pad_grid(&mut grid, end, count).is_ok();
-    assert!(rt; padded && heap.left() == 0);
+    check_padding_of(rt, &heap, &mut grid, (&table, order), (end, count));
     pad(alloc, &mut table, end.0, count)?;
     assert_shows(rt, &grid, &table, order);
     Ok(())
@@ -491,7 +570,29 @@ fn pops_what_was_pushed(rt: HostRuntime) -> Result<(), Fail> {
     Ok(())
 }
 
-// Puts a column into a grid and a row across another of the same rows and order, by the law.
+// Puts a column into a grid and a row across another that equals it, by the law, and says whether both were put.
+fn puts_across(
+    alloc: Global,
+    grid: &mut Grid<u32>,
+    other: &mut Grid<u32>,
+    at: usize,
+    line: &[u32],
+) -> Result<bool, AllocError>
+    requires same { other.old ≡ grid.old }
+    requires nonempty { 0 < length line.now }
+    requires fits { FitsCol grid.old.rows (length line.now) }
+    requires place { at ≤ col_count grid.old.rows }
+    ensures { IfOk result (λ put. IsTrue put → other.new ≡ grid.new) }
+{
+    let same = Vec::from_slice(alloc, line)?;
+    let line = Vec::from_slice(alloc, line)?;
+    match insert_col_or_row_across(grid, other, at, line, same) {
+        (Ok(()), Ok(())) => Ok(true),
+        _ => Ok(false),
+    }
+}
+
+// Two columns, on two grids that are empty, of this order.
 fn check_puts_across(
     rt: &impl Abort,
     alloc: Global,
@@ -505,17 +606,9 @@ fn check_puts_across(
         other.transpose();
     }
     assert!(rt; grid.is_empty());
-    let line = vec![in alloc; 1, 2, 3]?;
-    let same = vec![in alloc; 1, 2, 3]?;
-    match insert_col_or_row_across(&mut grid, &mut other, 0, line, same) {
-        (Ok(()), Ok(())) => {}
-        _ => panic!(rt; "there is memory"),
-    }
+    assert!(rt; puts_across(alloc, &mut grid, &mut other, 0, &[1, 2, 3])?);
     assert_eq!(rt; grid.size(), (3, 1));
-    let line = vec![in alloc; 4, 5, 6]?;
-    let same = vec![in alloc; 4, 5, 6]?;
-    let put = insert_col_or_row_across(&mut grid, &mut other, 1, line, same);
-    assert_eq!(rt; put, (Ok(()), Ok(())));
+    assert!(rt; puts_across(alloc, &mut grid, &mut other, 1, &[4, 5, 6])?);
     assert_shows(rt, &grid, table, order);
     assert_shows(rt, &other, table, order);
     Ok(())

@@ -2,7 +2,7 @@
 use crate::asserts::assert_shows;
 use grid::{Grid, GridError, Order, ShapeError, grid, grid_cm};
 use grid_reference::fixtures::{
-    Fragile, Heap, ORDERS, has_values, is_count, line_from, numbered, shows_count,
+    Fragile, Heap, INDICES, ORDERS, has_values, is_count, line_from, numbered, shows, shows_count,
 };
 use grid_reference::fuse::Fuse;
 use std::alloc::{AllocError, Allocator, Global};
@@ -107,26 +107,31 @@ fn check_room(
     assert_room(rt, made, (rows, cols), order, granted);
 }
 
+// Each maker of a grid of this size.
+fn check_makers(rt: &impl Abort, alloc: Global, size: (usize, usize)) {
+    for granted in 0..2u64 {
+        for order in ORDERS {
+            check_new(rt, alloc, size, order, granted);
+            check_init(rt, alloc, size, order, granted);
+            check_room(rt, alloc, size, order, granted);
+        }
+    }
+}
+
 #[test]
 fn makes_grids_of_a_size(rt: HostRuntime) -> Result<(), Fail> {
     for rows in 0..4usize {
         for cols in 0..4usize {
-            for granted in 0..2u64 {
-                for order in ORDERS {
-                    check_new(&rt, rt.alloc(), (rows, cols), order, granted);
-                    check_init(&rt, rt.alloc(), (rows, cols), order, granted);
-                    check_room(&rt, rt.alloc(), (rows, cols), order, granted);
-                }
-            }
+            check_makers(&rt, rt.alloc(), (rows, cols));
         }
     }
     Ok(())
 }
 
-fn is_too_large(made: Result<Grid<u32, &Heap>, GridError>) -> bool {
+fn is_too_large(made: &Result<Grid<u32, &Heap>, GridError>) -> bool {
     match made {
         Ok(_) => false,
-        Err(refused) => refused == GridError::TooLarge,
+        Err(refused) => *refused == GridError::TooLarge,
     }
 }
 
@@ -135,9 +140,9 @@ fn is_too_large(made: Result<Grid<u32, &Heap>, GridError>) -> bool {
 fn refuses_sizes_with_no_memory(rt: HostRuntime) -> Result<(), Fail> {
     let heap = Fuse::new(rt.alloc(), 0);
     for (rows, cols) in [(usize::MAX, 2), (2, usize::MAX), (4294967296, 4294967296)] {
-        assert!(rt; is_too_large(Grid::new(&heap, rows, cols)));
-        assert!(rt; is_too_large(Grid::init(&heap, rows, cols, 1u32)));
-        assert!(rt; is_too_large(Grid::with_capacity(&heap, rows, cols)));
+        assert!(rt; is_too_large(&Grid::new(&heap, rows, cols)));
+        assert!(rt; is_too_large(&Grid::init(&heap, rows, cols, 1u32)));
+        assert!(rt; is_too_large(&Grid::with_capacity(&heap, rows, cols)));
     }
     let whole = Grid::<u32, &Heap>::new(&heap, usize::MAX, 1);
     assert_eq!(rt; whole.err(), Some(GridError::Memory));
@@ -146,31 +151,34 @@ fn refuses_sizes_with_no_memory(rt: HostRuntime) -> Result<(), Fail> {
 
 const SLOTS: [[Option<u32>; 3]; 2] = [[Some(1), Some(2), Some(3)], [Some(4), Some(5), Some(6)]];
 
-// A refusal leaves all slots as they were, and they serve a second time.
-fn check_slots(
-    rt: &impl Abort,
-    alloc: Global,
+// Whether a call made a grid that shows a table.
+fn shows_made(
+    made: &Result<Grid<u32, &Heap>, GridError>,
     table: &Vec<Vec<u32>>,
     order: Order,
-) -> Result<(), Fail> {
+) -> bool {
+    match made {
+        Ok(grid) => shows(grid, table, order),
+        Err(_) => false,
+    }
+}
+
+// A refusal leaves all slots as they were, and they serve a second time.
+fn check_slots(rt: &impl Abort, alloc: Global, table: &Vec<Vec<u32>>, order: Order) {
     let heap = Fuse::new(alloc, 0);
     let mut slots = SLOTS;
     let refused = Grid::from_arrays(&heap, order, &mut slots).err();
     assert!(rt; refused == Some(GridError::Memory) && slots == SLOTS);
     heap.grant(1);
-    match Grid::from_arrays(&heap, order, &mut slots) {
-        Ok(grid) => assert_shows(rt, &grid, table, order),
-        Err(_) => panic!(rt; "one request is granted"),
-    }
-    assert!(rt; slots == [[None; 3]; 2] && heap.left() == 0);
-    Ok(())
+    let made = shows_made(&Grid::from_arrays(&heap, order, &mut slots), table, order);
+    assert!(rt; made && slots == [[None; 3]; 2] && heap.left() == 0);
 }
 
 #[test]
 fn takes_cells_of_arrays(rt: HostRuntime) -> Result<(), Fail> {
     let table = numbered(rt.alloc(), 2, 3)?;
     for order in ORDERS {
-        check_slots(&rt, rt.alloc(), &table, order)?;
+        check_slots(&rt, rt.alloc(), &table, order);
     }
     Ok(())
 }
@@ -251,7 +259,7 @@ fn cut_size(len: usize, cols: usize) -> Option<(usize, usize)> {
 
 // Whether a cut returns what it should, where memory is enough or not.
 fn is_cut(
-    made: Result<Grid<u32, &Heap>, ShapeError>,
+    made: &Result<Grid<u32, &Heap>, ShapeError>,
     (len, cols): (usize, usize),
     enough: bool,
 ) -> bool {
@@ -261,7 +269,7 @@ fn is_cut(
             enough && same && is_count(grid.flatten(), len, 1, 1)
         }
         (Err(ShapeError::Memory), Some(_)) => !enough,
-        (Err(refused), None) => refused == ShapeError::Shape { len, cols },
+        (Err(refused), None) => *refused == ShapeError::Shape { len, cols },
         _ => false,
     }
 }
@@ -276,11 +284,11 @@ fn check_cuts(
     let cells = line_from(heap, 1, len)?;
     let enough = len == 0 || granted != 0;
     heap.grant(granted);
-    assert!(rt; is_cut(Grid::try_from((&cells, cols)), (len, cols), enough));
+    assert!(rt; is_cut(&Grid::try_from((&cells, cols)), (len, cols), enough));
     heap.grant(granted);
-    assert!(rt; is_cut(Grid::try_from((&cells, &cols)), (len, cols), enough));
+    assert!(rt; is_cut(&Grid::try_from((&cells, &cols)), (len, cols), enough));
     heap.grant(granted);
-    let cut = is_cut(Grid::try_from((cells, cols)), (len, cols), true);
+    let cut = is_cut(&Grid::try_from((cells, cols)), (len, cols), true);
     assert!(rt; cut && heap.left() == granted);
     Ok(())
 }
@@ -325,19 +333,10 @@ fn first_ragged(lens: &[usize]) -> Option<ShapeError> {
     None
 }
 
-// Whether a grid has rows of these lengths with the cells 1, 2, 3, .. in each, or no cell where they have none.
-fn has_rows(grid: &Grid<u32, &Heap>, lens: &[usize]) -> bool {
-    let cols = lens.first().copied().unwrap_or(0);
-    let size = if cols == 0 {
-        (0, 0)
-    } else {
-        (lens.len(), cols)
-    };
-    if grid.size() != size || grid.order() != Order::RowMajor {
-        return false;
-    }
-    let mut left = grid.flatten();
-    for _ in 0..size.0 {
+// Whether these are so many rows with the cells 1, 2, 3, .. in each, one after another.
+fn are_rows(cells: &[u32], (rows, cols): (usize, usize)) -> bool {
+    let mut left = cells;
+    for _ in 0..rows {
         let (row, rest) = left.split_at(cols.min(left.len()));
         if !is_count(row, cols, 1, 1) {
             return false;
@@ -347,14 +346,44 @@ fn has_rows(grid: &Grid<u32, &Heap>, lens: &[usize]) -> bool {
     left.is_empty()
 }
 
+// Whether a grid of this size has the cells 1, 2, 3, .. in each row, cell by cell, and none past its ends.
+fn has_cells(grid: &Grid<u32, &Heap>, (rows, cols): (usize, usize)) -> bool {
+    for row in INDICES {
+        for col in INDICES {
+            let there = row < rows && col < cols;
+            let want = if there {
+                Some((col % 10 + 1) as u32)
+            } else {
+                None
+            };
+            if grid.get(row, col).copied() != want {
+                return false;
+            }
+        }
+    }
+    true
+}
+
+// Whether a grid has rows of these lengths with the cells 1, 2, 3, .. in each, or no cell where they have none.
+fn has_rows(grid: &Grid<u32, &Heap>, lens: &[usize]) -> bool {
+    let cols = lens.first().copied().unwrap_or(0);
+    let size = if cols == 0 {
+        (0, 0)
+    } else {
+        (lens.len(), cols)
+    };
+    let same = grid.size() == size && grid.order() == Order::RowMajor;
+    same && are_rows(grid.flatten(), size) && has_cells(grid, size)
+}
+
 // Whether a conversion of rows of these lengths, which takes one request after it has tested them, returns what it
 // should.
-fn is_joined(made: Result<Grid<u32, &Heap>, ShapeError>, lens: &[usize], granted: u64) -> bool {
+fn is_joined(made: &Result<Grid<u32, &Heap>, ShapeError>, lens: &[usize], granted: u64) -> bool {
     let none = lens.first().copied().unwrap_or(0) == 0;
     match (first_ragged(lens), made) {
-        (Some(fault), Err(refused)) => refused == fault,
-        (None, Ok(grid)) => (none || granted != 0) && has_rows(&grid, lens),
-        (None, Err(refused)) => refused == ShapeError::Memory && !none && granted == 0,
+        (Some(fault), Err(refused)) => *refused == fault,
+        (None, Ok(grid)) => (none || granted != 0) && has_rows(grid, lens),
+        (None, Err(refused)) => *refused == ShapeError::Memory && !none && granted == 0,
         (Some(_), Ok(_)) => false,
     }
 }
@@ -368,7 +397,7 @@ fn check_lent(rt: &impl Abort, alloc: Global, lens: &[usize], granted: u64) -> R
         lent.push(row)?;
     }
     heap.grant(granted);
-    assert!(rt; is_joined(Grid::try_from(&lent), lens, granted));
+    assert!(rt; is_joined(&Grid::try_from(&lent), lens, granted));
     Ok(())
 }
 
@@ -377,9 +406,9 @@ fn check_rows(rt: &impl Abort, alloc: Global, lens: &[usize], granted: u64) -> R
     let heap = Fuse::new(alloc, u64::MAX);
     let rows = rows_in(&&heap, lens)?;
     heap.grant(granted);
-    assert!(rt; is_joined(Grid::try_from(&rows), lens, granted));
+    assert!(rt; is_joined(&Grid::try_from(&rows), lens, granted));
     heap.grant(granted);
-    assert!(rt; is_joined(Grid::try_from(rows), lens, granted));
+    assert!(rt; is_joined(&Grid::try_from(rows), lens, granted));
     Ok(())
 }
 
@@ -416,10 +445,10 @@ fn long_row(alloc: Global) -> Result<Vec<()>, AllocError> {
     Ok(cells)
 }
 
-fn are_too_many(made: Result<Grid<()>, ShapeError>) -> bool {
+fn are_too_many(made: &Result<Grid<()>, ShapeError>) -> bool {
     match made {
         Ok(_) => false,
-        Err(refused) => refused == ShapeError::TooLarge,
+        Err(refused) => *refused == ShapeError::TooLarge,
     }
 }
 
@@ -429,7 +458,7 @@ fn refuses_lent_rows_of_too_many_cells(rt: HostRuntime) -> Result<(), Fail> {
     let row = long_row(rt.alloc())?;
     assert_eq!(rt; row.len(), 4611686018427387904);
     let lent = vec![in rt.alloc(); &row, &row, &row, &row]?;
-    assert!(rt; are_too_many(Grid::try_from(&lent)));
+    assert!(rt; are_too_many(&Grid::try_from(&lent)));
     Ok(())
 }
 
@@ -439,8 +468,8 @@ fn refuses_rows_of_too_many_cells(rt: HostRuntime) -> Result<(), Fail> {
     for _ in 0..4usize {
         rows.push(long_row(rt.alloc())?)?;
     }
-    assert!(rt; are_too_many(Grid::try_from(&rows)));
-    assert!(rt; are_too_many(Grid::try_from(rows)));
+    assert!(rt; are_too_many(&Grid::try_from(&rows)));
+    assert!(rt; are_too_many(&Grid::try_from(rows)));
     Ok(())
 }
 
@@ -473,10 +502,10 @@ fn fragile_rows<'a>(
 }
 
 // Whether a constructor that clones four cells fails for memory until all four clones are granted.
-fn is_cloned(made: Result<Grid<Fragile>, ShapeError>, granted: u64) -> bool {
+fn is_cloned(made: &Result<Grid<Fragile>, ShapeError>, granted: u64) -> bool {
     match made {
-        Ok(grid) => granted == 4 && has_values(&grid, Order::RowMajor, &[1, 2, 3, 4]),
-        Err(refused) => granted < 4 && refused == ShapeError::Memory,
+        Ok(grid) => granted == 4 && has_values(grid, Order::RowMajor, &[1, 2, 3, 4]),
+        Err(refused) => granted < 4 && *refused == ShapeError::Memory,
     }
 }
 
@@ -490,39 +519,48 @@ fn check_clones_of_lent_rows<'a>(
     for row in rows {
         lent.push(row)?;
     }
-    assert!(rt; is_cloned(Grid::try_from(&lent), granted));
+    assert!(rt; is_cloned(&Grid::try_from(&lent), granted));
     Ok(())
+}
+
+fn check_clones_of_rows(rt: &impl Abort, alloc: Global, granted: u64) -> Result<(), Fail> {
+    let left = Cell::new(granted);
+    let rows = fragile_rows(alloc, &left)?;
+    assert!(rt; is_cloned(&Grid::try_from(&rows), granted));
+    left.set(granted);
+    check_clones_of_lent_rows(rt, alloc, rows.as_slice(), granted)
 }
 
 #[test]
 fn refuses_clones_of_rows_in_turn(rt: HostRuntime) -> Result<(), Fail> {
     for granted in 0..5u64 {
-        let left = Cell::new(granted);
-        let rows = fragile_rows(rt.alloc(), &left)?;
-        assert!(rt; is_cloned(Grid::try_from(&rows), granted));
-        left.set(granted);
-        check_clones_of_lent_rows(&rt, rt.alloc(), rows.as_slice(), granted)?;
+        check_clones_of_rows(&rt, rt.alloc(), granted)?;
     }
+    Ok(())
+}
+
+fn check_clones_of_cells(rt: &impl Abort, alloc: Global, granted: u64) -> Result<(), AllocError> {
+    let left = Cell::new(granted);
+    let cells = fragile_row(alloc, &left, 1, 4)?;
+    assert!(rt; is_cloned(&Grid::try_from((&cells, 2)), granted));
+    left.set(granted);
+    assert!(rt; is_cloned(&Grid::try_from((&cells, &2)), granted));
     Ok(())
 }
 
 #[test]
 fn refuses_clones_of_cells_in_turn(rt: HostRuntime) -> Result<(), Fail> {
     for granted in 0..5u64 {
-        let left = Cell::new(granted);
-        let cells = fragile_row(rt.alloc(), &left, 1, 4)?;
-        assert!(rt; is_cloned(Grid::try_from((&cells, 2)), granted));
-        left.set(granted);
-        assert!(rt; is_cloned(Grid::try_from((&cells, &2)), granted));
+        check_clones_of_cells(&rt, rt.alloc(), granted)?;
     }
     Ok(())
 }
 
 // Whether four cells are made of a value that is cloned into each but the last, which it becomes.
-fn is_init(made: Result<Grid<Fragile>, GridError>, order: Order, granted: u64) -> bool {
+fn is_init(made: &Result<Grid<Fragile>, GridError>, order: Order, granted: u64) -> bool {
     match made {
-        Ok(grid) => 3 <= granted && has_values(&grid, order, &[7, 7, 7, 7]),
-        Err(refused) => granted < 3 && refused == GridError::Memory,
+        Ok(grid) => 3 <= granted && has_values(grid, order, &[7, 7, 7, 7]),
+        Err(refused) => granted < 3 && *refused == GridError::Memory,
     }
 }
 
@@ -536,7 +574,7 @@ fn refuses_clones_of_a_value_in_turn(rt: HostRuntime) -> Result<(), Fail> {
                 granted: Some(&left),
             };
             let made = Grid::init_with_order(rt.alloc(), 2, 2, order, value);
-            assert!(rt; is_init(made, order, granted));
+            assert!(rt; is_init(&made, order, granted));
         }
     }
     Ok(())

@@ -1,13 +1,14 @@
 //! Walks over all small tables and both orders, beside plain walks over the plain program's rows.
 use crate::asserts::assert_shows;
 use grid::{Grid, Order, Symmetry};
+use grid_reference::edits::LineAt;
 use grid_reference::fixtures::{
     ORDERS, SIZES, grid_of, numbered, places_of, put_cell, shows_count,
 };
 use grid_reference::plain;
 use grid_reference::walks::{
     Lines, gives, gives_at, gives_back, lends_at, line_reads, lines_read, reads, reads_at,
-    reads_back, write_col, write_row,
+    reads_back, write_along,
 };
 use std::alloc::{AllocError, Global};
 use std::process::Abort;
@@ -197,19 +198,29 @@ fn marked(alloc: Global, rows: usize, cols: usize) -> Result<Vec<Vec<u32>>, Allo
     Ok(table)
 }
 
-// Walks for writing over the whole grid, by the call and by reference: numbers in storage order.
-fn check_counts(rt: &impl Abort, grid: &mut Grid<u32>, size: (usize, usize), order: Order) {
+// Numbers the cells in storage order, by a walk by the call.
+fn number_by_one(grid: &mut Grid<u32>) {
     let mut next = 100u32;
     for cell in grid.iter_mut() {
         *cell = next;
         next = next.wrapping_add(1);
     }
-    assert!(rt; shows_count(grid, size, order, (100, 1)));
+}
+
+// Numbers them by a walk by reference.
+fn number_by_seven(grid: &mut Grid<u32>) {
     let mut next = 0u32;
-    for cell in &mut *grid {
+    for cell in grid {
         *cell = next;
         next = next.wrapping_add(7);
     }
+}
+
+// Walks for writing over the whole grid, by the call and by reference: numbers in storage order.
+fn check_counts(rt: &impl Abort, grid: &mut Grid<u32>, size: (usize, usize), order: Order) {
+    number_by_one(grid);
+    assert!(rt; shows_count(grid, size, order, (100, 1)));
+    number_by_seven(grid);
     assert!(rt; shows_count(grid, size, order, (0, 7)));
 }
 
@@ -246,7 +257,40 @@ fn write_cell(table: &mut Vec<Vec<u32>>, row: usize, col: usize) {
     }
 }
 
-// Walks for writing along each row and each column, of which the first `count` cells are written.
+// Walks for writing along each row, of which the first `count` cells are written.
+fn check_row_writes(
+    rt: &impl Abort,
+    grid: &mut Grid<u32>,
+    table: &mut Vec<Vec<u32>>,
+    (order, count): (Order, usize),
+) {
+    let (rows, cols) = plain::size(table);
+    for row in 0..rows {
+        assert!(rt; write_along(grid, LineAt::Row(row), cols, count));
+        for col in 0..count {
+            write_cell(table, row, col);
+        }
+        assert_shows(rt, grid, table, order);
+    }
+}
+
+// The same along each column.
+fn check_col_writes(
+    rt: &impl Abort,
+    grid: &mut Grid<u32>,
+    table: &mut Vec<Vec<u32>>,
+    (order, count): (Order, usize),
+) {
+    let (rows, cols) = plain::size(table);
+    for col in 0..cols {
+        assert!(rt; write_along(grid, LineAt::Col(col), rows, count));
+        for row in 0..count {
+            write_cell(table, row, col);
+        }
+        assert_shows(rt, grid, table, order);
+    }
+}
+
 fn check_line_writes(
     rt: &impl Abort,
     alloc: Global,
@@ -256,20 +300,8 @@ fn check_line_writes(
 ) -> Result<(), Fail> {
     let mut table = numbered(alloc, rows, cols)?;
     let mut grid = grid_of(alloc, &table, order)?;
-    for row in 0..rows {
-        assert!(rt; write_row(&mut grid, row, cols, count));
-        for col in 0..count {
-            write_cell(&mut table, row, col);
-        }
-        assert_shows(rt, &grid, &table, order);
-    }
-    for col in 0..cols {
-        assert!(rt; write_col(&mut grid, col, rows, count));
-        for row in 0..count {
-            write_cell(&mut table, row, col);
-        }
-        assert_shows(rt, &grid, &table, order);
-    }
+    check_row_writes(rt, &mut grid, &mut table, (order, count));
+    check_col_writes(rt, &mut grid, &mut table, (order, count));
     Ok(())
 }
 
