@@ -233,8 +233,8 @@ pub fn lines_read(
     Ok(lines.counts(0) && lines.next().is_none() && lines.next_back().is_none())
 }
 
-// Writes along the line at a place, by an iterator that says that it has `len` cells; returns whether there is a line. Each
-// of the first `count` becomes three times what it was, and one more.
+// Writes along the line at a place, by an iterator that says that it has `len` cells; returns whether there is a line.
+// Each of the first `count` cells becomes three times what it was, and one more.
 pub fn write_along<A: Allocator>(
     grid: &mut Grid<u32, A>,
     place: LineAt,
