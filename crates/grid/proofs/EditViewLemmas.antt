@@ -11,7 +11,8 @@ use Rattle.grid_base.proofs.TableLemmas.{rows-tabulate, cell-tabulate, width-tab
 use Rattle.grid_base.proofs.StorageLemmas.{length-storage, get-storage, IsFull-table_of, place_within, has_place, get_append_left, get_append_right, get-take, get-drop}
 use Rattle.grid.specs.Edits.{insert_rows, without_rows}
 use Rattle.grid.proofs.ListEditLemmas.{get_or-same}
-use Rattle.grid.proofs.RowEditLemmas.{RowGroups, RowsWidened, rows_widened, rows_woven, table-put, table-take, cells-groups}
+use Rattle.grid.specs.RowGroups.{RowGroups}
+use Rattle.grid.proofs.RowEditLemmas.{RowsWidened, rows_widened, rows_woven, table-put, table-take, cells-groups}
 
 place_of_line : (o : Order) (n c : ℕ) → place o 1 n 0 c ≡ c
 place_of_line RowMajor n c = omega arith

@@ -11,7 +11,8 @@ use Rattle.grid_base.specs.Groups.{Opened}
 use Rattle.grid_base.proofs.TableLemmas.{rows-tabulate, cell-tabulate, width-tabulate, IsFull, IsSome_within}
 use Rattle.grid_base.proofs.StorageLemmas.{place_within, get-take, get-drop}
 use Rattle.grid.specs.Edits.{insert_rows}
-use Rattle.grid.proofs.RowEditLemmas.{RowGroups, HasWidth, rows_widened, rows_opened, table-put}
+use Rattle.grid.specs.RowGroups.{RowGroups}
+use Rattle.grid.proofs.RowEditLemmas.{HasWidth, rows_widened, rows_opened, table-put}
 use Rattle.grid.proofs.EditViewLemmas.{rows-cut, width-cut, cell-cut}
 
 module _ {T : Type 0} where

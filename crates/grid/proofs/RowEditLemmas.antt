@@ -2,7 +2,7 @@
 use Rattle.std.proofs.Common.{◌≡◌, ℕ, ◌+◌, ◌*◌, ◌-◌, ◌<◌, ◌≤◌, Option, List, [], length, refl, sym, ◌∙◌, ap, subst, arith, is_some, ⊎_elim}
 use Rattle.std.specs.List.{slice_get}
 use Rattle.std.proofs.lemmas.Nat.{mul-add-lt}
-use Rattle.std.proofs.lemmas.Bool.{cases_lt}
+use Rattle.std.proofs.lemmas.Bool.{cases_lt, ne_eqb}
 use Rattle.std.proofs.Math.Nat.{mul-le-mul_right}
 use Rattle.grid_base.specs.declared.flat.order.Order.{Order}
 use Rattle.grid_base.specs.declared.flat.order.Order.TheVariants.{RowMajor, ColumnMajor}
@@ -11,17 +11,19 @@ use Rattle.grid_base.specs.Order.{place, table_of}
 use Rattle.grid_base.specs.Groups.{Widened, Woven, Opened}
 use Rattle.grid_base.proofs.TableLemmas.{rows-tabulate, cell-tabulate, width-tabulate, same_tables, IsFull, IsSome_within}
 use Rattle.grid.specs.Edits.{insert_rows, without_rows}
+use Rattle.grid.specs.RowGroups.{RowGroups}
+use Rattle.grid.specs.Shift.{rows_added_shift, rows_taken_shift}
 use Rattle.grid.proofs.ListEditLemmas.{get-cut_before, get-cut_after, get-put_before, get-put_new, get-put_after, length-put, length-cut, get_or-same, put_cases}
-
--- k rows before row i of a table of m rows and n columns are a group of g cells before place a of each of p lines of q cells
-abbrev pub RowGroups : Order → (m n i k p q a g : ℕ) → Type 0
-RowGroups RowMajor m n i k p q a g = (p ≡ 1) × (q ≡ m * n) × (a ≡ i * n) × (g ≡ k * n)
-RowGroups ColumnMajor m n i k p q a g = (p ≡ n) × (q ≡ m) × (a ≡ i) × (g ≡ k)
 
 -- the lines have the cells of the other rows
 pub cells-groups : (o : Order) (m n i k p q a g : ℕ) → RowGroups o m n i k p q a g → p * q ≡ m * n
 cells-groups RowMajor m n i k p q a g e = ap (λ x. x * q) e.0 ∙ (ap (λ x. 1 * x) e.1 ∙ omega arith)
 cells-groups ColumnMajor m n i k p q a g e = ap (λ x. x * q) e.0 ∙ (ap (λ x. n * x) e.1 ∙ omega arith)
+
+-- rows that are added move as many cells as the same rows move when they go
+pub shift-taken : (o : Order) (m n i k : ℕ) → 0 < k → rows_taken_shift o (m + k) n i k ≡ rows_added_shift o m n i k
+shift-taken RowMajor m n i k some = rw (ne_eqb k 0 (λ e. omega arith)) (ap (λ x. x * n) (omega arith))
+shift-taken ColumnMajor m n i k some = rw (ne_eqb k 0 (λ e. omega arith)) (ap (λ x. n * x - i) (omega arith))
 
 -- the rows of a table of m rows and n columns stand in a longer one, on both sides of k rows before row i
 pub record RowsWidened {T : Type 0} (o : Order) (m n i k : ℕ) (short long : List T) : Type 0 where

@@ -13,8 +13,7 @@ use Rattle.grid_base.specs.GridValue.{GridValue, HoldsSize}
 use Rattle.grid_base.proofs.StorageLemmas.{length-storage}
 use Rattle.grid_base.specs.Groups.{Woven, Closed}
 use Rattle.grid.specs.Edits.{FitsRow, insert_rows, without_rows}
-use Rattle.grid.proofs.RowEditLemmas.{RowGroups}
-use Rattle.grid.specs.RowGroups.{RowsInserted, RowsTaken, RowMovedToEnd, cols_if_rows}
+use Rattle.grid.specs.RowGroups.{RowGroups, RowsInserted, RowsTaken, RowMovedToEnd, cols_if_rows}
 use Rattle.grid.proofs.SeenLemmas.{seen_rows, seen_cols}
 use Rattle.grid_base.proofs.ViewLemmas.{HoldsSize-none, view-rows, view-cols}
 use Rattle.grid.specs.Shift.{rows_taken_shift}

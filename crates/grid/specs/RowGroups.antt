@@ -1,9 +1,15 @@
 -- What an edit of the vector does to the rows of its table. No public clause cites this module.
 use Rattle.std.specs.Prelude.{◌≡◌, ℕ, ◌+◌, ◌*◌, List, ◌++◌, length, take, drop, remove, nat_eq, ◌<◌, ◌≤◌, slice_get, if◌then◌else◌}
 use Rattle.grid_base.specs.declared.flat.order.Order.{Order}
+use Rattle.grid_base.specs.declared.flat.order.Order.TheVariants.{RowMajor, ColumnMajor}
 use Rattle.grid_base.specs.Table.{row, row_count, col_count, cell, IsTable}
 use Rattle.grid_base.specs.Order.{storage, table_of}
 use Rattle.grid.specs.Edits.{insert_rows, without_rows}
+
+-- k rows before row i of a table of m rows and n columns are a group of g cells before place a of each of p lines of q cells
+abbrev pub RowGroups : Order → (m n i k p q a g : ℕ) → Type 0
+RowGroups RowMajor m n i k p q a g = (p ≡ 1) × (q ≡ m * n) × (a ≡ i * n) × (g ≡ k * n)
+RowGroups ColumnMajor m n i k p q a g = (p ≡ n) × (q ≡ m) × (a ≡ i) × (g ≡ k)
 
 -- the number of columns where so many rows of n cells are left
 abbrev pub cols_if_rows : ℕ → ℕ → ℕ

@@ -2,11 +2,59 @@
 //!
 //! A row edit sees the vector as lines of cells. A column edit is the row edit between two transposes, which move no
 //! cell.
-ghost use Rattle.std.specs.Prelude.{◌+◌, ◌*◌, ◌^◌, ◌<◌, ◌↔◌, IsTrue};
+ghost use Rattle.std.specs.Prelude.{◌≡◌, ◌+◌, ◌-◌, ◌*◌, ◌^◌, ◌<◌, ◌≤◌, ◌↔◌, IsTrue};
+ghost use Rattle.grid.specs.RowGroups.{RowGroups};
+ghost use Rattle.grid.specs.Shift.{rows_added_shift};
 
 mod insert;
 mod pad;
 mod remove;
+
+use grid_base::Order;
+
+// Rows as the vector sees them: `count` cells before place `at` of each of `lines` lines of `width` cells.
+#[derive(Drop)]
+struct Groups {
+    lines: usize,
+    width: usize,
+    at: usize,
+    count: usize,
+}
+
+// Returns the groups that are `count` rows before row `at` of a table. Row-major the table is one line, column-major
+// each column is one:
+//
+//     [[1, 2], [3, 4]], one row before row 1     row-major     [1 2 | 5 6 | 3 4]
+//                                                column-major  [1 | 5 | 3] [2 | 6 | 4]
+fn row_groups(order: Order, rows: usize, cols: usize, at: usize, count: usize) -> Groups
+    requires fits { (rows + count) * cols < 2 ^ 64 }
+    requires place { at ≤ rows }
+    ensures groups { RowGroups
+        order rows cols at count result.lines result.width result.at result.count }
+    ensures cells { result.lines * result.width ≡ rows * cols }
+    ensures added { result.lines * result.count ≡ count * cols }
+    ensures within { result.at ≤ result.width }
+    ensures has_lines { 0 < cols → 0 < result.lines }
+    ensures has_width { 0 < rows * cols → 0 < result.width }
+    ensures has_count { 0 < count * cols → 0 < result.count }
+    ensures shift { 0 < count
+        → result.lines * result.width - result.at ≡ rows_added_shift order rows cols at count }
+{
+    match order {
+        Order::RowMajor => Groups {
+            lines: 1,
+            width: rows * cols,
+            at: at * cols,
+            count: count * cols,
+        },
+        Order::ColumnMajor => Groups {
+            lines: cols,
+            width: rows,
+            at,
+            count,
+        },
+    }
+}
 
 // Whether `rows` rows and `count` more, each of `width` cells, have at most `usize::MAX` cells.
 fn has_room(rows: usize, count: usize, width: usize) -> bool

@@ -7,7 +7,7 @@ ghost use Rattle.grid.specs.Make.{ExceedsMax};
 ghost use Rattle.grid.specs.RowGroups.{RowsInserted};
 ghost use Rattle.grid.specs.declared.error.GridError.TheVariants.{TooLarge};
 
-use super::has_room;
+use super::{has_room, row_groups};
 use crate::convert::first_len;
 use crate::{Grid, GridError, LineRefused, LinesRefused};
 use grid_base::{Flat, Order};
@@ -27,10 +27,8 @@ fn weave_rows<T, A: Allocator>(
     requires place { at ≤ rows }
     ensures { RowsInserted order rows cols at count flat.old flat.new }
 {
-    match order {
-        Order::RowMajor => flat.weave(1, rows * cols, at * cols, count * cols),
-        Order::ColumnMajor => flat.weave(cols, rows, at, count),
-    }
+    let groups = row_groups(order, rows, cols, at, count);
+    flat.weave(groups.lines, groups.width, groups.at, groups.count);
 }
 
 // Frees lines that have no cells left.

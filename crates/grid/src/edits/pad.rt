@@ -8,7 +8,7 @@ ghost use Rattle.grid.specs.RowGroups.{RowsOpened};
 ghost use Rattle.grid.specs.Shift.{rows_added_shift, cols_added_shift};
 ghost use Rattle.grid.specs.declared.error.GridError.TheVariants.{TooLarge};
 
-use super::has_room;
+use super::{has_room, row_groups};
 use crate::{Grid, GridError};
 use grid_base::{Flat, Order, Tally};
 use std::alloc::Allocator;
@@ -34,10 +34,8 @@ fn open_rows<T, A: Allocator>(
     ensures shift { tally.new.shift
         ≡ saturating_count tally.old.shift (rows_added_shift order rows cols at count) }
 {
-    match order {
-        Order::RowMajor => flat.open(1, rows * cols, at * cols, count * cols, tally),
-        Order::ColumnMajor => flat.open(cols, rows, at, count, tally),
-    }
+    let groups = row_groups(order, rows, cols, at, count);
+    flat.open(groups.lines, groups.width, groups.at, groups.count, tally);
 }
 
 impl<T, A: Allocator> Grid<T, A> {

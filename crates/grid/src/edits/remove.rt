@@ -6,6 +6,7 @@ ghost use Rattle.grid.specs.Edits.{without_rows, without_cols};
 ghost use Rattle.grid.specs.RowGroups.{RowsTaken, RowMovedToEnd, cols_if_rows};
 ghost use Rattle.grid.specs.Shift.{rows_taken_shift, delete_rows_shift, delete_cols_shift};
 
+use super::row_groups;
 use crate::Grid;
 use grid_base::{Flat, Order, Tally};
 use std::alloc::{AllocError, Allocator};
@@ -30,10 +31,8 @@ fn unweave_row<T, A: Allocator>(
     requires place { at ≤ rest }
     ensures { RowMovedToEnd order cols at rest flat.old flat.new }
 {
-    match order {
-        Order::RowMajor => flat.unweave(1, rest * cols, at * cols, cols),
-        Order::ColumnMajor => flat.unweave(cols, rest, at, 1),
-    }
+    let groups = row_groups(order, rest, cols, at, 1);
+    flat.unweave(groups.lines, groups.width, groups.at, groups.count);
 }
 
 // Drops `count` rows from row `at` on; `rest` rows stay.
@@ -56,10 +55,8 @@ fn close_rows<T: Drop, A: Allocator>(
     ensures shift { tally.new.shift
         ≡ saturating_count tally.old.shift (rows_taken_shift order (rest + count) cols at count) }
 {
-    match order {
-        Order::RowMajor => flat.close_up(1, rest * cols, at * cols, count * cols, tally),
-        Order::ColumnMajor => flat.close_up(cols, rest, at, count, tally),
-    }
+    let groups = row_groups(order, rest, cols, at, count);
+    flat.close_up(groups.lines, groups.width, groups.at, groups.count, tally);
 }
 
 impl<T, A: Allocator> Grid<T, A> {
