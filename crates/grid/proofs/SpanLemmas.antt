@@ -1,5 +1,5 @@
 -- The rows and the columns of a grid as lines of its storage.
-use Rattle.std.proofs.Common.{◌≡◌, ℕ, ◌+◌, ◌-◌, ◌*◌, ◌/◌, ◌<◌, ◌≤◌, List, length, sym, ◌∙◌, ap, arith}
+use Rattle.std.proofs.Common.{◌≡◌, ℕ, ◌+◌, ◌-◌, ◌*◌, ◌/◌, ◌<◌, ◌≤◌, List, length, refl, sym, ◌∙◌, ap, arith}
 use Rattle.std.proofs.Math.Nat.{mul-le-mul_right}
 use Rattle.std.proofs.lemmas.Nat.{div-mul-add}
 use Rattle.std.specs.List.{slice_get}
@@ -18,10 +18,11 @@ use Rattle.grid.specs.Span.{IsSpan}
 use Rattle.grid.proofs.CellWriteLemmas.{grid_value}
 
 -- a line whose cells stand one after another
-pub together_is : (p q i : ℕ) → i < p → IsSpan q (λ k. i * q + k) (p * q) (record { start = i * q; end = i * q + q; stride = 1 })
+pub together_is : (p q i : ℕ) → i < p → IsSpan q (λ k. i * q + k) (p * q) (record { start = i * q; end = i * q + q; stride = 1; count = q })
 together_is p q i h =
     let all : (i + 1) * q ≤ p * q = mul-le-mul_right q (omega arith) in
     record {
+      len = refl;
       steps = omega arith;
       ordered = omega arith;
       within = omega (arith, all);
@@ -40,10 +41,11 @@ steps_across p q i some h =
     ∙ (sym (ceil_is (p * q - i) (q - 1)) ∙ (ap (λ x. x / (q - 1 + 1)) e ∙ div-mul-add p (q - 1 + 1) (q - 1 - i) (omega arith)))
 
 -- one cell of each line
-pub across_is : (p q i : ℕ) → 0 < p → i < q → IsSpan p (λ k. k * q + i) (p * q) (record { start = i; end = p * q; stride = q })
+pub across_is : (p q i : ℕ) → 0 < p → i < q → IsSpan p (λ k. k * q + i) (p * q) (record { start = i; end = p * q; stride = q; count = p })
 across_is p q i some h =
     let all : 1 * q ≤ p * q = mul-le-mul_right q some in
     record {
+      len = refl;
       steps = omega arith;
       ordered = omega (arith, all);
       within = omega arith;

@@ -7,7 +7,7 @@ ghost use Rattle.grid_base.specs.Table.{row, col_count, transposed};
 ghost use Rattle.grid_base.specs.Strides.{LinesInOrder, LinesInReverse, EachLineInOrder, EachLineInReverse};
 ghost use Rattle.grid_base.specs.GridLineIterMut.{line_mut_rest};
 
-use super::span::{Span, col_span};
+use super::span::col_span;
 use crate::Grid;
 use grid_base::{GridLineIter, GridLineIterMut};
 use std::alloc::{AllocError, Allocator, Global};
@@ -30,8 +30,9 @@ impl<T, A: Allocator> Grid<T, A> {
         ensures runs { LinesInOrder T }
         ensures runs_back { LinesInReverse T }
     {
-        let Span { start, end, stride } = col_span(self.order, self.row_count, self.col_count, c);
-        self.flat.line(start, end, stride)
+        let span = col_span(self.order, self.row_count, self.col_count, c);
+        self.flat
+            .line(span.start, span.end, span.stride, span.count)
     }
 
     /// Returns an iterator over the cells of column `c`, for writing. The size and the order stay.
@@ -46,8 +47,8 @@ impl<T, A: Allocator> Grid<T, A> {
         ensures keeps { KeepsSizeFrom self.old 0 c }
         ensures rest { line_mut_rest result ≡ row (transposed self.old.rows) c }
     {
-        let Span { start, end, stride } = col_span(self.order, self.row_count, self.col_count, c);
-        self.flat.line_mut(start, end, stride)
+        let span = col_span(self.order, self.row_count, self.col_count, c);
+        self.flat.line_mut(span.start, span.end, span.stride)
     }
 
     /// Returns an iterator over the columns, from both ends, each as [`iter_col`](Grid::iter_col) gives it.

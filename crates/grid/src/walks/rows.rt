@@ -7,7 +7,7 @@ ghost use Rattle.grid_base.specs.Table.{row, row_count};
 ghost use Rattle.grid_base.specs.Strides.{LinesInOrder, LinesInReverse, EachLineInOrder, EachLineInReverse};
 ghost use Rattle.grid_base.specs.GridLineIterMut.{line_mut_rest};
 
-use super::span::{Span, row_span};
+use super::span::row_span;
 use crate::Grid;
 use grid_base::{GridLineIter, GridLineIterMut};
 use std::alloc::{AllocError, Allocator, Global};
@@ -30,8 +30,9 @@ impl<T, A: Allocator> Grid<T, A> {
         ensures runs { LinesInOrder T }
         ensures runs_back { LinesInReverse T }
     {
-        let Span { start, end, stride } = row_span(self.order, self.row_count, self.col_count, r);
-        self.flat.line(start, end, stride)
+        let span = row_span(self.order, self.row_count, self.col_count, r);
+        self.flat
+            .line(span.start, span.end, span.stride, span.count)
     }
 
     /// Returns an iterator over the cells of row `r`, for writing. The size and the order stay.
@@ -46,8 +47,8 @@ impl<T, A: Allocator> Grid<T, A> {
         ensures keeps { KeepsSizeFrom self.old r 0 }
         ensures rest { line_mut_rest result ≡ row self.old.rows r }
     {
-        let Span { start, end, stride } = row_span(self.order, self.row_count, self.col_count, r);
-        self.flat.line_mut(start, end, stride)
+        let span = row_span(self.order, self.row_count, self.col_count, r);
+        self.flat.line_mut(span.start, span.end, span.stride)
     }
 
     /// Returns an iterator over the rows, from both ends, each as [`iter_row`](Grid::iter_row) gives it.

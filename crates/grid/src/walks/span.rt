@@ -1,15 +1,17 @@
-//! Where the cells of a row or a column stand in the storage: a start, an end, and a stride.
+//! Where the cells of a row or a column stand in the storage: a start, an end, a stride, and their number.
 ghost use Rattle.std.specs.Prelude.{◌+◌, ◌*◌, ◌^◌, ◌<◌};
 ghost use Rattle.grid_base.specs.Order.{place};
 ghost use Rattle.grid.specs.Span.{IsSpan};
 
 use grid_base::Order;
 
-// The places from `start` on and before `end`, each `stride` after the last.
+// The `count` places from `start` on and before `end`, each `stride` after the last.
+#[derive(Drop)]
 pub(super) struct Span {
     pub(super) start: usize,
     pub(super) end: usize,
     pub(super) stride: usize,
+    pub(super) count: usize,
 }
 
 // Returns where the cells of row `r` stand.
@@ -49,6 +51,7 @@ fn together(lines: usize, len: usize, i: usize) -> Span
         start,
         end: start + len,
         stride: 1,
+        count: len,
     }
 }
 
@@ -63,5 +66,6 @@ fn across(lines: usize, len: usize, i: usize) -> Span
         start: i,
         end: lines * len,
         stride: len,
+        count: lines,
     }
 }

@@ -1,5 +1,6 @@
 //! An iterator over a row or a column.
-ghost use Rattle.std.specs.Prelude.{◌≡◌, ◌+◌, ◌<◌, ◌≤◌, ⊤, length, drop, slice_get, IfSome, Some};
+ghost use Rattle.std.specs.Prelude.{◌≡◌, ◌+◌, ◌-◌, ◌<◌, ◌≤◌, ⊤, length, drop, slice_get, IfSome, Some};
+ghost use Rattle.std.specs.Int.{div_ceil};
 ghost use Rattle.std.specs.Option.{option_copied};
 ghost use Rattle.std.specs.Iterator.{YieldsFirstRef, YieldsLastRef, item_count, UpTo, at_most};
 ghost use Rattle.std.specs.Iterator.SizeHint.{IsWithinCount};
@@ -15,13 +16,15 @@ impl<T, A: Allocator> Flat<T, A> {
     /// Returns an iterator over the cells from `start` on and before `end`, each `stride` places after the one before
     /// it.
     ///
-    ///     [1, 2, 3, 4, 5, 6]   line(1, 6, 2)   2, 4, 6
+    ///     [1, 2, 3, 4, 5, 6]   line(1, 6, 2, 3)   2, 4, 6
     ///
-    /// Requires: `start` is at most `end`, which is at most the number of cells; `stride` is not 0.
-    pub fn line(&self, start: usize, end: usize, stride: usize) -> GridLineIter<'_, T>
+    /// Requires: `start` is at most `end`, which is at most the number of cells; `stride` is not 0; `count` is the
+    /// number of cells, so that nothing is divided here.
+    pub fn line(&self, start: usize, end: usize, stride: usize, count: usize) -> GridLineIter<'_, T>
         requires ordered { start ≤ end }
         requires within { end ≤ length self.now }
         requires steps { 0 < stride }
+        requires counted { count ≡ div_ceil (end - start) stride }
         ensures rest { result ≡ strided start end stride self.now }
         ensures runs { LinesInOrder T }
         ensures runs_back { LinesInReverse T }
@@ -30,7 +33,7 @@ impl<T, A: Allocator> Flat<T, A> {
         GridLineIter {
             cells: &cells[start..end],
             stride,
-            ahead: 0..(end - start).div_ceil(stride),
+            ahead: 0..count,
         }
     }
 }

@@ -2,10 +2,10 @@ use Rattle.grid_base.proofs.StrideLemmas.{lines_in_order, lines_in_reverse, line
 use Rattle.grid_base.proofs.flat.Flat.line.Goals as goal
 
 pub invariant_of-result : goal.invariant_of-result
-invariant_of-result g c = line_all _ _ _ _ _ _ c.requires.steps c.requires.within c.div_ceil.ensures c.as_slice-cells.ensures
+invariant_of-result g c = line_all _ _ _ _ _ _ c.requires.steps c.requires.within c.requires.counted c.as_slice-cells.ensures
 
 pub returns-clause-rest : goal.returns-clause-rest
-returns-clause-rest g c = remaining_line _ _ _ _ _ _ c.requires.steps c.requires.within c.div_ceil.ensures c.as_slice-cells.ensures
+returns-clause-rest g c = remaining_line _ _ _ _ _ _ c.requires.steps c.requires.within c.requires.counted c.as_slice-cells.ensures
 
 pub returns-clause-runs : goal.returns-clause-runs
 returns-clause-runs g c = lines_in_order _
