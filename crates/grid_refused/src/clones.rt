@@ -7,11 +7,27 @@ use std::process::Abort;
 use std::test::Fail;
 
 // Whether a run was stopped after one command, whose reply was `Done`.
-fn stopped_after_done(ran: Result<Vec<Reply<Fragile>>, RunStopped<Fragile>>) -> bool {
+fn stopped_after_done(ran: &Result<Vec<Reply<Fragile>>, RunStopped<Fragile>>) -> bool {
     match ran {
         Ok(_) => false,
         Err(stop) => stop.done == 1 && matches!(stop.replies.as_slice(), [Reply::Done]),
     }
+}
+
+// Runs a symmetry and a command that clones: how the swaps were counted, if the run was stopped after the symmetry.
+fn counts_at_stop(
+    alloc: Global,
+    grid: &mut Grid<Fragile>,
+    symmetry: Symmetry,
+) -> Result<Option<(u128, u128)>, AllocError> {
+    let commands = vec![in alloc; Command::Apply(symmetry), Command::Get(0, 0), Command::Size]?;
+    let mut tally = Tally::new();
+    let stopped = stopped_after_done(&run(alloc, grid, commands, &mut tally));
+    Ok(if stopped {
+        Some((tally.symmetry(), tally.shift()))
+    } else {
+        None
+    })
 }
 
 // A run of a symmetry, and of a command that clones: what the grid has stored then, in which order, and the swaps.
@@ -68,16 +84,10 @@ fn check_stop(
     (order, symmetry, new_order, cells, swaps): Case,
 ) -> Result<(), Fail> {
     let granted = Cell::new(0);
-    let commands = vec![in alloc; Command::Apply(symmetry), Command::Get(0, 0), Command::Size]?;
     let mut grid = fragile_cells(alloc, &granted, order)?;
-    let mut tally = Tally::new();
-    let ran = run(alloc, &mut grid, commands, &mut tally);
-    assert!(rt; stopped_after_done(ran), "{symmetry:?} in {order:?}");
-    assert!(rt;
-        has_values(&grid, new_order, cells.as_slice()),
-        "{symmetry:?} in {order:?}"
-    );
-    assert_eq!(rt; (tally.symmetry(), tally.shift()), (swaps, 0));
+    let counts = counts_at_stop(alloc, &mut grid, symmetry)?;
+    assert_eq!(rt; counts, Some((swaps, 0)), "{symmetry:?} in {order:?}");
+    assert!(rt; has_values(&grid, new_order, cells.as_slice()));
     Ok(())
 }
 
@@ -90,7 +100,7 @@ fn stops_at_a_refused_clone(rt: HostRuntime) -> Result<(), Fail> {
 }
 
 // How many commands a run did, or `None` if it stopped with another number of replies.
-fn done_count(ran: Result<Vec<Reply<Fragile>>, RunStopped<Fragile>>) -> Option<usize> {
+fn done_count(ran: &Result<Vec<Reply<Fragile>>, RunStopped<Fragile>>) -> Option<usize> {
     match ran {
         Ok(replies) => Some(replies.len()),
         Err(stop) => if stop.replies.len() == stop.done {
@@ -101,12 +111,16 @@ fn done_count(ran: Result<Vec<Reply<Fragile>>, RunStopped<Fragile>>) -> Option<u
     }
 }
 
+// How many of three commands that clone a run does, or `None` as above.
+fn done_of_three(alloc: Global, grid: &mut Grid<Fragile>) -> Result<Option<usize>, AllocError> {
+    let commands = vec![in alloc; Command::Get(0, 0), Command::Get(0, 1), Command::Get(1, 0)]?;
+    Ok(done_count(&run(alloc, grid, commands, &mut Tally::new())))
+}
+
 fn check_clones(rt: &impl Abort, alloc: Global, order: Order, count: usize) -> Result<(), Fail> {
     let granted = Cell::new(count as u64);
-    let commands = vec![in alloc; Command::Get(0, 0), Command::Get(0, 1), Command::Get(1, 0)]?;
     let mut grid = fragile_cells(alloc, &granted, order)?;
-    let ran = run(alloc, &mut grid, commands, &mut Tally::new());
-    assert_eq!(rt; done_count(ran), Some(count));
+    assert_eq!(rt; done_of_three(alloc, &mut grid)?, Some(count));
     assert!(rt; has_values(&grid, order, [1, 2, 3, 4].as_slice()));
     Ok(())
 }
@@ -123,7 +137,7 @@ fn stops_at_each_clone_in_turn(rt: HostRuntime) -> Result<(), Fail> {
 }
 
 // Whether a command replied with a cell of this value, or `None` for no cell.
-fn is_cell(reply: Result<Reply<Fragile>, AllocError>, want: Option<u32>) -> bool {
+fn is_cell(reply: &Result<Reply<Fragile>, AllocError>, want: Option<u32>) -> bool {
     match reply {
         Ok(Reply::Cell(Some(cell))) => want == Some(cell.value),
         Ok(Reply::Cell(None)) => want.is_none(),
@@ -142,9 +156,9 @@ fn check_step(
     granted.set(0);
     let refused = grid.step(Command::Get(row, col), &mut tally).is_err();
     assert!(rt; refused && has_values(grid, order, [1, 2, 3, 4].as_slice()));
-    assert!(rt; is_cell(grid.step(Command::Get(2, 0), &mut tally), None));
+    assert!(rt; is_cell(&grid.step(Command::Get(2, 0), &mut tally), None));
     granted.set(1);
-    assert!(rt; is_cell(grid.step(Command::Get(row, col), &mut tally), Some(want)));
+    assert!(rt; is_cell(&grid.step(Command::Get(row, col), &mut tally), Some(want)));
 }
 
 #[test]

@@ -116,45 +116,46 @@ fn reading_lines(rt: HostRuntime) -> Result<(), Fail> {
     check_reading_lines(&rt, rt.alloc(), Order::ColumnMajor, by_columns.as_slice())
 }
 
-// Walks over all cells for writing, each of which writes into what it hands out.
-fn write_ends(grid: &mut Grid<String>) -> Result<(), Fail> {
-    let mut walk = grid.iter_mut();
-    if let Some(text) = walk.next() {
-        text.push_str("1")?;
+// Writes a mark into a text that was handed out.
+fn mark(cell: Option<&mut String>, with: &str) -> Result<(), AllocError> {
+    match cell {
+        Some(text) => text.push_str(with),
+        None => Ok(()),
     }
-    if let Some(text) = walk.next_back() {
-        text.push_str("2")?;
-    }
-    drop(walk);
-    let mut walk = (&mut *grid).into_iter();
-    if let Some(text) = walk.next() {
-        text.push_str("3")?;
-    }
-    if let Some(text) = walk.next_back() {
-        text.push_str("4")?;
-    }
-    drop(walk);
+}
+
+// Marks both ends of a walk over all cells for writing.
+fn mark_ends(
+    mut walk: slice::IterMut<'_, String>,
+    first: &str,
+    last: &str,
+) -> Result<(), AllocError> {
+    mark(walk.next(), first)?;
+    mark(walk.next_back(), last)
+}
+
+// Marks the first cell of a walk with places.
+fn mark_first(grid: &mut Grid<String>, with: &str) -> Result<(), AllocError> {
     let mut walk = grid.indexed_iter_mut();
-    if let Some((_, text)) = walk.next() {
-        text.push_str("5")?;
+    match walk.next() {
+        Some((_, text)) => text.push_str(with),
+        None => Ok(()),
     }
-    Ok(())
+}
+
+// Walks over all cells for writing, each of which writes into what it hands out.
+fn write_ends(grid: &mut Grid<String>) -> Result<(), AllocError> {
+    mark_ends(grid.iter_mut(), "1", "2")?;
+    mark_ends((&mut *grid).into_iter(), "3", "4")?;
+    mark_first(grid, "5")
 }
 
 // Walks along the second row and the second column.
-fn write_lines(rt: &impl Abort, grid: &mut Grid<String>) -> Result<(), Fail> {
+fn write_lines(rt: &impl Abort, grid: &mut Grid<String>) -> Result<(), AllocError> {
     assert!(rt; 1 < grid.rows());
-    let mut line = grid.iter_row_mut(1);
-    if let Some(text) = line.next() {
-        text.push_str("6")?;
-    }
-    drop(line);
+    mark(grid.iter_row_mut(1).next(), "6")?;
     assert!(rt; 1 < grid.cols());
-    let mut line = grid.iter_col_mut(1);
-    if let Some(text) = line.next() {
-        text.push_str("7")?;
-    }
-    Ok(())
+    mark(grid.iter_col_mut(1).next(), "7")
 }
 
 fn check_writing(

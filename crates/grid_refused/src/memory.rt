@@ -103,19 +103,23 @@ fn has_label_b(replies: &[Reply<Label>]) -> bool {
     }
 }
 
-#[test]
-fn replies_with_clones(rt: HostRuntime) -> Result<(), Fail> {
-    let alloc = rt.alloc();
+fn check_replies(rt: &impl Abort, alloc: Global, grid: &mut Grid<Label>) -> Result<(), AllocError> {
     let commands = vec![in alloc;
         Command::Apply(Symmetry::RotateLeft),
         Command::Get(0, 1),
         Command::Get(1, 0),
     ]?;
-    let mut grid = labels(&rt, alloc)?;
-    match run(alloc, &mut grid, commands, &mut Tally::new()) {
+    match run(alloc, grid, commands, &mut Tally::new()) {
         Ok(replies) => assert!(rt; has_label_b(replies.as_slice())),
         Err(_) => panic!(rt; "there is memory"),
     }
+    Ok(())
+}
+
+#[test]
+fn replies_with_clones(rt: HostRuntime) -> Result<(), Fail> {
+    let mut grid = labels(&rt, rt.alloc())?;
+    check_replies(&rt, rt.alloc(), &mut grid)?;
     match grid.get(0, 1) {
         Some(label) => assert!(rt; is_label(label, "b")),
         None => panic!(rt; "the cell is gone"),

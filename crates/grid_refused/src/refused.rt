@@ -27,7 +27,7 @@ fn starved_rotations(heap: &Heap, len: usize) -> Result<Vec<Command, &Heap>, All
 }
 
 // Whether a run of `len` commands did none of them, and was stopped if there is one.
-fn did_nothing(ran: Result<Vec<Reply<u32>, &Heap>, RunStopped<u32, &Heap>>, len: usize) -> bool {
+fn did_nothing(ran: &Result<Vec<Reply<u32>, &Heap>, RunStopped<u32, &Heap>>, len: usize) -> bool {
     match ran {
         Ok(replies) => len == 0 && replies.is_empty(),
         Err(stop) => len != 0 && stop.done == 0 && stop.replies.is_empty(),
@@ -46,7 +46,7 @@ fn check_run_with_no_replies(
     let mut grid = starved_grid_of(alloc, &heap, table, order)?;
     let commands = starved_rotations(&heap, len)?;
     let mut tally = Tally::new();
-    assert!(rt; did_nothing(run(&heap, &mut grid, commands, &mut tally), len));
+    assert!(rt; did_nothing(&run(&heap, &mut grid, commands, &mut tally), len));
     assert_eq!(rt; (tally.symmetry(), tally.shift()), (0, 0));
     assert_shows(rt, &grid, table, order);
     Ok(())
@@ -72,47 +72,70 @@ const REPLIES: [Reply<u32>; 4] = [
     Reply::Size(3, 2),
 ];
 
-// The list of replies is the only request of a run whose cells' clones take no memory.
-#[test]
-fn runs_with_one_request(rt: HostRuntime) -> Result<(), Fail> {
-    let table = numbered(rt.alloc(), 2, 3)?;
-    let heap = Fuse::new(rt.alloc(), 0);
-    let mut grid = starved_grid_of(rt.alloc(), &heap, &table, Order::RowMajor)?;
+// Runs four commands where one request is granted for their list, and one for the replies.
+fn check_run_with_one_request<'a>(
+    rt: &impl Abort,
+    heap: &'a Heap,
+    grid: &mut Grid<u32, &'a Heap>,
+) -> Result<(), AllocError> {
     heap.grant(1);
-    let commands = vec![in &heap;
+    let commands = vec![in heap;
         Command::Get(0, 2),
         Command::Apply(Symmetry::RotateLeft),
         Command::Get(0, 1),
         Command::Size,
     ]?;
     heap.grant(1);
-    match run(&heap, &mut grid, commands, &mut Tally::new()) {
+    match run(heap, grid, commands, &mut Tally::new()) {
         Ok(replies) => assert_eq!(rt; replies.as_slice(), REPLIES.as_slice()),
         Err(_) => panic!(rt; "one request is granted"),
     }
+    Ok(())
+}
+
+// The list of replies is the only request of a run whose cells' clones take no memory.
+#[test]
+fn runs_with_one_request(rt: HostRuntime) -> Result<(), Fail> {
+    let heap = Fuse::new(rt.alloc(), 0);
+    let table = numbered(rt.alloc(), 2, 3)?;
+    let mut grid = starved_grid_of(rt.alloc(), &heap, &table, Order::RowMajor)?;
+    drop(table);
+    check_run_with_one_request(&rt, &heap, &mut grid)?;
     assert_eq!(rt; heap.left(), 0);
     Ok(())
 }
 
 // What reads a cell or writes one, with no memory.
+fn check_access_at(
+    rt: &impl Abort,
+    grid: &mut Grid<u32, &Heap>,
+    table: &mut Vec<Vec<u32>>,
+    order: Order,
+    (row, col): (usize, usize),
+) {
+    assert_eq!(rt;
+        read_both_ways(grid, (row, col)),
+        plain::get(table, row, col)
+    );
+    assert!(rt; write_both_ways(grid, (row, col), (97, 98)));
+    assert!(rt; write(grid, (row, col), 99));
+    put_cell(table, row, col, 99);
+    assert_shows(rt, grid, table, order);
+}
+
 fn check_access(
     rt: &impl Abort,
     alloc: Global,
     (rows, cols): (usize, usize),
     order: Order,
 ) -> Result<(), Fail> {
-    let mut table = numbered(alloc, rows, cols)?;
     let heap = Fuse::new(alloc, 0);
+    let mut table = numbered(alloc, rows, cols)?;
     let mut grid = starved_grid_of(alloc, &heap, &table, order)?;
     assert_shows(rt, &grid, &table, order);
     for row in 0..rows {
         for col in 0..cols {
-            let want = plain::get(&table, row, col);
-            assert_eq!(rt; read_both_ways(&grid, (row, col)), want);
-            assert!(rt; write_both_ways(&mut grid, (row, col), (97, 98)));
-            assert!(rt; write(&mut grid, (row, col), 99));
-            put_cell(&mut table, row, col, 99);
-            assert_shows(rt, &grid, &table, order);
+            check_access_at(rt, &mut grid, &mut table, order, (row, col));
         }
     }
     Ok(())
@@ -170,37 +193,47 @@ fn starved_cells(heap: &Heap, len: usize) -> Result<Vec<u32, &Heap>, AllocError>
     Ok(cells)
 }
 
-// A vector of cells that becomes a grid, with no memory.
-#[test]
-fn vectors_become_grids_without_memory(rt: HostRuntime) -> Result<(), Fail> {
-    let heap = Fuse::new(rt.alloc(), 0);
-    let cells = starved_cells(&heap, 6)?;
+// Six cells become a grid, with no memory.
+fn check_from_vec(rt: &impl Abort, heap: &Heap) -> Result<(), AllocError> {
+    let cells = starved_cells(heap, 6)?;
     assert_eq!(rt; cells.len(), 6);
     let grid = Grid::from_vec(cells, 3);
     assert!(rt; is_stored(&grid, (2, 3), Order::RowMajor, &[1, 2, 3, 4, 5, 6]));
-    for order in ORDERS {
-        let cells = starved_cells(&heap, 6)?;
-        assert_eq!(rt; cells.len(), 6);
-        let grid = Grid::from_vec_with_order(cells, 2, order);
-        assert!(rt; is_stored(&grid, (3, 2), order, &[1, 2, 3, 4, 5, 6]));
-    }
+    Ok(())
+}
+
+fn check_from_vec_with_order(rt: &impl Abort, heap: &Heap, order: Order) -> Result<(), AllocError> {
+    let cells = starved_cells(heap, 6)?;
+    assert_eq!(rt; cells.len(), 6);
+    let grid = Grid::from_vec_with_order(cells, 2, order);
+    assert!(rt; is_stored(&grid, (3, 2), order, &[1, 2, 3, 4, 5, 6]));
     Ok(())
 }
 
 #[test]
-fn empty_grids_take_no_memory(rt: HostRuntime) -> Result<(), Fail> {
+fn vectors_become_grids_without_memory(rt: HostRuntime) -> Result<(), Fail> {
     let heap = Fuse::new(rt.alloc(), 0);
-    let none = Vec::new(rt.alloc());
-    assert_shows(&rt, &Grid::empty(&heap), &none, Order::RowMajor);
-    assert_shows(
-        &rt,
-        &Grid::from_vec(Vec::new(&heap), 3),
-        &none,
-        Order::RowMajor,
-    );
+    check_from_vec(&rt, &heap)?;
+    for order in ORDERS {
+        check_from_vec_with_order(&rt, &heap, order)?;
+    }
+    Ok(())
+}
+
+fn assert_empty(rt: &impl Abort, alloc: Global, grid: Grid<u32, &Heap>, order: Order) {
+    assert_shows(rt, &grid, &Vec::new(alloc), order);
+}
+
+#[test]
+fn empty_grids_take_no_memory(rt: HostRuntime) -> Result<(), Fail> {
+    let alloc = rt.alloc();
+    let heap = Fuse::new(alloc, 0);
+    assert_empty(&rt, alloc, Grid::empty(&heap), Order::RowMajor);
+    let cut = Grid::from_vec(Vec::new(&heap), 3);
+    assert_empty(&rt, alloc, cut, Order::RowMajor);
     for order in ORDERS {
         let cut = Grid::from_vec_with_order(Vec::new(&heap), 0, order);
-        assert_shows(&rt, &cut, &none, order);
+        assert_empty(&rt, alloc, cut, order);
     }
     Ok(())
 }
@@ -218,6 +251,7 @@ fn check_moves(
     let symmetry = reduce([step].as_slice());
     let image = plain::act(alloc, symmetry, table)?;
     assert_shows(rt, grid, &image, order_after(symmetry, order));
+    drop(image);
     grid.apply(symmetry.inverse());
     assert_shows(rt, grid, table, order);
     grid.apply(symmetry.then(symmetry.inverse()));
@@ -231,9 +265,10 @@ fn check_cell_walks(rt: &impl Abort, grid: &Grid<u32, &Heap>, cells: usize) {
     for _ in grid.indexed_iter() {
         seen = seen.wrapping_add(1);
     }
+    assert_eq!(rt; seen, cells);
     assert_eq!(rt;
-        (grid.iter().count(), grid.into_iter().count(), seen),
-        (cells, cells, cells)
+        (grid.iter().count(), grid.into_iter().count()),
+        (cells, cells)
     );
 }
 
@@ -275,18 +310,29 @@ fn check_col_walks(
     Ok(())
 }
 
-// Walks for writing over all cells, by the calls and by reference.
-fn check_writing_walks(rt: &impl Abort, grid: &mut Grid<u32, &Heap>, cells: usize) {
-    assert_eq!(rt; grid.iter_mut().count(), cells);
+// How many cells a walk for writing hands out, by reference to the grid.
+fn lent_count(grid: &mut Grid<u32, &Heap>) -> usize {
     let mut lent = 0usize;
-    for _ in &mut *grid {
+    for _ in grid {
         lent = lent.wrapping_add(1);
     }
+    lent
+}
+
+// How many a walk for writing hands out with their places.
+fn placed_count(grid: &mut Grid<u32, &Heap>) -> usize {
     let mut seen = 0usize;
     for _ in grid.indexed_iter_mut() {
         seen = seen.wrapping_add(1);
     }
-    assert_eq!(rt; (lent, seen), (cells, cells));
+    seen
+}
+
+// Walks for writing over all cells, by the calls and by reference.
+fn check_writing_walks(rt: &impl Abort, grid: &mut Grid<u32, &Heap>, cells: usize) {
+    assert_eq!(rt; grid.iter_mut().count(), cells);
+    assert_eq!(rt; lent_count(grid), cells);
+    assert_eq!(rt; placed_count(grid), cells);
 }
 
 // Walks along a row and along a column, for reading and for writing. Each says how many cells there are.
@@ -306,46 +352,68 @@ fn col_counts(grid: &mut Grid<u32, &Heap>, col: usize) -> Option<(usize, usize)>
     Some((read, grid.iter_col_mut(col).count()))
 }
 
+fn check_line_walks(rt: &impl Abort, grid: &mut Grid<u32, &Heap>, (rows, cols): (usize, usize)) {
+    for row in 0..rows {
+        assert_eq!(rt; row_counts(grid, row), Some((cols, cols)));
+    }
+    for col in 0..cols {
+        assert_eq!(rt; col_counts(grid, col), Some((rows, rows)));
+    }
+}
+
 // Each walk, from one end to the other, and clones of those that have one.
+fn check_walks_over(
+    rt: &impl Abort,
+    grid: &mut Grid<u32, &Heap>,
+    (rows, cols): (usize, usize),
+) -> Result<(), Fail> {
+    check_cell_walks(rt, grid, rows.wrapping_mul(cols));
+    check_row_walks(rt, grid, (rows, cols))?;
+    check_col_walks(rt, grid, (rows, cols))?;
+    check_writing_walks(rt, grid, rows.wrapping_mul(cols));
+    check_line_walks(rt, grid, (rows, cols));
+    Ok(())
+}
+
 fn check_walks(
     rt: &impl Abort,
     alloc: Global,
-    (rows, cols): (usize, usize),
     table: &Vec<Vec<u32>>,
     order: Order,
 ) -> Result<(), Fail> {
     let heap = Fuse::new(alloc, 0);
     let mut grid = starved_grid_of(alloc, &heap, table, order)?;
-    check_cell_walks(rt, &grid, rows.wrapping_mul(cols));
-    check_row_walks(rt, &grid, (rows, cols))?;
-    check_col_walks(rt, &grid, (rows, cols))?;
-    check_writing_walks(rt, &mut grid, rows.wrapping_mul(cols));
-    for row in 0..rows {
-        assert_eq!(rt; row_counts(&mut grid, row), Some((cols, cols)));
-    }
-    for col in 0..cols {
-        assert_eq!(rt; col_counts(&mut grid, col), Some((rows, rows)));
-    }
+    check_walks_over(rt, &mut grid, plain::size(table))?;
     assert_shows(rt, &grid, table, order);
     Ok(())
 }
 
-fn check_walks_by_value(
+fn check_into_iter(
     rt: &impl Abort,
     alloc: Global,
-    cells: usize,
     table: &Vec<Vec<u32>>,
     order: Order,
 ) -> Result<(), Fail> {
     let heap = Fuse::new(alloc, 0);
+    let (rows, cols) = plain::size(table);
     let grid = starved_grid_of(alloc, &heap, table, order)?;
-    assert_eq!(rt; grid.into_iter().count(), cells);
-    let grid = starved_grid_of(alloc, &heap, table, order)?;
+    assert_eq!(rt; grid.into_iter().count(), rows.wrapping_mul(cols));
+    Ok(())
+}
+
+fn check_indexed_into_iter(
+    rt: &impl Abort,
+    alloc: Global,
+    table: &Vec<Vec<u32>>,
+    order: Order,
+) -> Result<(), Fail> {
+    let heap = Fuse::new(alloc, 0);
+    let (rows, cols) = plain::size(table);
     let mut seen = 0usize;
-    for _ in grid.indexed_into_iter() {
+    for _ in starved_grid_of(alloc, &heap, table, order)?.indexed_into_iter() {
         seen = seen.wrapping_add(1);
     }
-    assert_eq!(rt; seen, cells);
+    assert_eq!(rt; seen, rows.wrapping_mul(cols));
     Ok(())
 }
 
@@ -354,24 +422,34 @@ fn walks_take_no_memory(rt: HostRuntime) -> Result<(), Fail> {
     for (rows, cols) in SIZES {
         let table = numbered(rt.alloc(), rows, cols)?;
         for order in ORDERS {
-            check_walks(&rt, rt.alloc(), (rows, cols), &table, order)?;
-            check_walks_by_value(&rt, rt.alloc(), rows.wrapping_mul(cols), &table, order)?;
+            check_walks(&rt, rt.alloc(), &table, order)?;
+            check_into_iter(&rt, rt.alloc(), &table, order)?;
+            check_indexed_into_iter(&rt, rt.alloc(), &table, order)?;
         }
+    }
+    Ok(())
+}
+
+fn check_all_moves(
+    rt: &impl Abort,
+    alloc: Global,
+    table: &Vec<Vec<u32>>,
+    order: Order,
+) -> Result<(), Fail> {
+    let heap = Fuse::new(alloc, 0);
+    let mut grid = starved_grid_of(alloc, &heap, table, order)?;
+    for step in MOVES {
+        check_moves(rt, alloc, &mut grid, table, step)?;
     }
     Ok(())
 }
 
 #[test]
 fn moves_take_no_memory(rt: HostRuntime) -> Result<(), Fail> {
-    let alloc = rt.alloc();
     for (rows, cols) in SIZES {
-        let table = numbered(alloc, rows, cols)?;
+        let table = numbered(rt.alloc(), rows, cols)?;
         for order in ORDERS {
-            let heap = Fuse::new(alloc, 0);
-            let mut grid = starved_grid_of(alloc, &heap, &table, order)?;
-            for step in MOVES {
-                check_moves(&rt, alloc, &mut grid, &table, step)?;
-            }
+            check_all_moves(&rt, rt.alloc(), &table, order)?;
         }
     }
     Ok(())
@@ -393,6 +471,17 @@ fn replies_size(grid: &mut Grid<Fragile, &Heap>, tally: &mut Tally) -> bool {
     matches!(grid.step(Command::Size, tally), Ok(Reply::Size(2, 2)))
 }
 
+fn check_steps(rt: &impl Abort, grid: &mut Grid<Fragile, &Heap>, tally: &mut Tally) {
+    assert!(rt; replies_size(grid, tally));
+    for place in [(2, 0), (0, 2), (usize::MAX, usize::MAX)] {
+        assert!(rt; replies_none(grid, place, tally));
+    }
+    for symmetry in SYMMETRIES {
+        let done = replies_done(grid, symmetry, tally);
+        assert!(rt; done && replies_done(grid, symmetry.inverse(), tally));
+    }
+}
+
 // Only a `Get` in range takes memory, and that for its clone.
 #[test]
 fn steps_take_no_memory(rt: HostRuntime) -> Result<(), Fail> {
@@ -401,14 +490,7 @@ fn steps_take_no_memory(rt: HostRuntime) -> Result<(), Fail> {
     let mut grid = fragile_cells(&heap, &granted, Order::RowMajor)?;
     heap.grant(0);
     let mut tally = Tally::new();
-    assert!(rt; replies_size(&mut grid, &mut tally));
-    for place in [(2, 0), (0, 2), (usize::MAX, usize::MAX)] {
-        assert!(rt; replies_none(&mut grid, place, &mut tally));
-    }
-    for symmetry in SYMMETRIES {
-        assert!(rt; replies_done(&mut grid, symmetry, &mut tally));
-        assert!(rt; replies_done(&mut grid, symmetry.inverse(), &mut tally));
-    }
+    check_steps(&rt, &mut grid, &mut tally);
     check_refused_step(&rt, &mut grid, &mut tally);
     Ok(())
 }

@@ -1,33 +1,40 @@
 //! Callers' chains over walks, each run once.
-use grid::Grid;
+use grid::{Grid, Order, ShapeError};
 use grid_reference::chains::*;
-use grid_reference::fixtures::{ORDERS, grid_of, numbered};
-use std::alloc::Global;
+use grid_reference::fixtures::{ORDERS, stored};
+use std::alloc::{AllocError, Global};
 use std::process::Abort;
 use std::test::Fail;
 
-// [[1, 2, 3], [4, 5, 6]] in both orders.
-fn boards(rt: &impl Abort, alloc: Global) -> Result<Vec<Grid<u32>>, Fail> {
-    let table = numbered(alloc, 2, 3)?;
-    let mut boards = Vec::new(alloc);
-    for order in ORDERS {
-        let board = grid_of(alloc, &table, order)?;
-        assert_eq!(rt; board.size(), (2, 3));
-        boards.push(board)?;
-    }
-    Ok(boards)
+// [[1, 2, 3], [4, 5, 6]], stored in an order.
+fn board_in(rt: &impl Abort, alloc: Global, order: Order) -> Result<Grid<u32>, ShapeError> {
+    let board = match order {
+        Order::RowMajor => stored(alloc, &[1, 2, 3, 4, 5, 6], 3, order)?,
+        Order::ColumnMajor => stored(alloc, &[1, 4, 2, 5, 3, 6], 3, order)?,
+    };
+    assert_eq!(rt; board.size(), (2, 3));
+    Ok(board)
+}
+
+// How many cells of row 1 are x.
+fn count_in_row_1(rt: &impl Abort, board: &Grid<u32>, x: u32) -> usize {
+    assert!(rt; 1 < board.rows());
+    count_in_row(board, 1, x)
+}
+
+fn check_counts(rt: &impl Abort, board: &mut Grid<u32>) {
+    let counts = (count_in_row_1(rt, board, 5), count_in_row_1(rt, board, 2));
+    assert_eq!(rt; counts, (1, 0));
+    assert_eq!(rt; count_in_first_row(board, 2), 1);
+    board.fill_with(|| 5);
+    assert_eq!(rt; count_in_row_1(rt, board, 5), 3);
 }
 
 #[test]
 fn counts_in_rows(rt: HostRuntime) -> Result<(), Fail> {
-    for board in boards(&rt, rt.alloc())?.iter_mut() {
-        assert!(rt; 1 < board.rows());
-        assert_eq!(rt; count_in_row(board, 1, 5), 1);
-        assert_eq!(rt; count_in_row(board, 1, 2), 0);
-        assert_eq!(rt; count_in_first_row(board, 2), 1);
-        board.fill_with(|| 5);
-        assert!(rt; 1 < board.rows());
-        assert_eq!(rt; count_in_row(board, 1, 5), 3);
+    for order in ORDERS {
+        let mut board = board_in(&rt, rt.alloc(), order)?;
+        check_counts(&rt, &mut board);
     }
     Ok(())
 }
@@ -43,97 +50,179 @@ fn sums_rows(rt: HostRuntime) -> Result<(), Fail> {
     Ok(())
 }
 
+// The sum of a column, or nothing where there is none.
+fn sum_at(board: &Grid<u32>, c: usize) -> Option<u32> {
+    if c < board.cols() {
+        Some(column_sum(board, c))
+    } else {
+        None
+    }
+}
+
+fn check_sums(rt: &impl Abort, board: &mut Grid<u32>) -> Result<(), AllocError> {
+    assert_eq!(rt; (sum_at(board, 0), sum_at(board, 2)), (Some(5), Some(9)));
+    board.fill(u32::MAX)?;
+    assert_eq!(rt; sum_at(board, 2), Some(u32::MAX));
+    Ok(())
+}
+
 #[test]
 fn sums_columns(rt: HostRuntime) -> Result<(), Fail> {
-    for board in boards(&rt, rt.alloc())?.iter_mut() {
-        assert!(rt; 2 < board.cols());
-        assert_eq!(rt; column_sum(board, 0), 5);
-        assert_eq!(rt; column_sum(board, 2), 9);
-        board.fill(u32::MAX)?;
-        assert!(rt; 2 < board.cols());
-        assert_eq!(rt; column_sum(board, 2), u32::MAX);
+    for order in ORDERS {
+        let mut board = board_in(&rt, rt.alloc(), order)?;
+        check_sums(&rt, &mut board)?;
     }
     Ok(())
 }
 
+fn check_found(rt: &impl Abort, board: &Grid<u32>) {
+    assert!(rt; 2 < board.cols());
+    assert!(rt; column_has(board, 2, 6));
+    assert!(rt; !column_has(board, 2, 5));
+}
+
+fn check_bounds(rt: &impl Abort, board: &Grid<u32>) {
+    assert!(rt; 1 < board.rows());
+    assert!(rt; row_is_within(board, 0, 3) && !row_is_within(board, 1, 5));
+    assert_eq!(rt; (row_max(board, 0), row_max(board, 1)), (Some(3), Some(6)));
+}
+
 #[test]
-fn finds_in_columns(rt: HostRuntime) -> Result<(), Fail> {
-    for board in &boards(&rt, rt.alloc())? {
-        assert!(rt; 2 < board.cols());
-        assert!(rt; column_has(board, 2, 6));
-        assert!(rt; !column_has(board, 2, 5));
+fn finds_in_columns_and_bounds_rows(rt: HostRuntime) -> Result<(), Fail> {
+    for order in ORDERS {
+        let board = board_in(&rt, rt.alloc(), order)?;
+        check_found(&rt, &board);
+        check_bounds(&rt, &board);
     }
     Ok(())
 }
 
-#[test]
-fn bounds_rows(rt: HostRuntime) -> Result<(), Fail> {
-    for board in &boards(&rt, rt.alloc())? {
-        assert!(rt; 1 < board.rows());
-        assert!(rt; row_is_within(board, 0, 3));
-        assert!(rt; !row_is_within(board, 1, 5));
-        assert_eq!(rt; row_max(board, 0), Some(3));
-        assert_eq!(rt; row_max(board, 1), Some(6));
+// A list that a chain makes of a board.
+#[derive(Clone, Copy, Debug)]
+enum List {
+    HalvesOfRow,
+    Column,
+    Above(usize, u32),
+    Reversed,
+    HalvesReversed,
+}
+
+fn list_of(
+    rt: &impl Abort,
+    alloc: Global,
+    board: &Grid<u32>,
+    list: List,
+) -> Result<Vec<u32>, AllocError> {
+    assert!(rt; 1 < board.rows() && 2 < board.cols());
+    match list {
+        List::HalvesOfRow => halves_of_row(alloc, board, 1),
+        List::Column => column(alloc, board, 1),
+        List::Above(c, x) => {
+            assert!(rt; c < board.cols());
+            column_above(alloc, board, c, x)
+        }
+        List::Reversed => column_reversed(alloc, board, 1),
+        List::HalvesReversed => halves_reversed(alloc, board),
     }
+}
+
+fn check_list(
+    rt: &impl Abort,
+    alloc: Global,
+    board: &Grid<u32>,
+    list: List,
+    want: &[u32],
+) -> Result<(), AllocError> {
+    let met = list_of(rt, alloc, board, list)?;
+    assert_eq!(rt; met.as_slice(), want, "{list:?}");
     Ok(())
 }
+
+const LISTS: [(List, &'static [u32]); 5] = [
+    (List::HalvesOfRow, &[2, 2, 3]),
+    (List::Column, &[2, 5]),
+    (List::Above(2, 3), &[6]),
+    (List::Above(0, 4), &[]),
+    (List::Reversed, &[5, 2]),
+];
 
 #[test]
 fn lists_rows_and_columns(rt: HostRuntime) -> Result<(), Fail> {
-    let alloc = rt.alloc();
-    for board in &boards(&rt, alloc)? {
-        assert!(rt; 1 < board.rows() && 2 < board.cols());
-        let halves = halves_of_row(alloc, board, 1)?;
-        assert_eq!(rt; halves.as_slice(), [2, 2, 3].as_slice());
-        let cells = column(alloc, board, 1)?;
-        assert_eq!(rt; cells.as_slice(), [2, 5].as_slice());
-        let above = column_above(alloc, board, 2, 3)?;
-        assert_eq!(rt; above.as_slice(), [6].as_slice());
-        assert!(rt; column_above(alloc, board, 0, 4)?.is_empty());
+    for order in ORDERS {
+        let board = board_in(&rt, rt.alloc(), order)?;
+        for (list, want) in LISTS {
+            check_list(&rt, rt.alloc(), &board, list, want)?;
+        }
     }
     Ok(())
 }
 
 #[test]
 fn walks_back(rt: HostRuntime) -> Result<(), Fail> {
-    let alloc = rt.alloc();
-    for (board, want) in boards(&rt, alloc)?
-        .iter()
-        .zip([[3u32, 2, 2, 1, 1, 0], [3, 1, 2, 1, 2, 0]])
-    {
-        assert_eq!(rt; halves_reversed(alloc, board)?.as_slice(), want.as_slice());
+    for (order, want) in [
+        (Order::RowMajor, [3u32, 2, 2, 1, 1, 0]),
+        (Order::ColumnMajor, [3, 1, 2, 1, 2, 0]),
+    ] {
+        let board = board_in(&rt, rt.alloc(), order)?;
+        check_list(
+            &rt,
+            rt.alloc(),
+            &board,
+            List::HalvesReversed,
+            want.as_slice(),
+        )?;
     }
+    Ok(())
+}
+
+// Chains that list nothing.
+fn check_lines(rt: &impl Abort, board: &Grid<u32>) {
+    assert!(rt; 1 < board.rows() && 2 < board.cols());
+    assert_eq!(rt; last_in_row(board, 0), Some(3));
+    assert_eq!(rt;
+        (cell_of_column(board, 2, 1), cell_of_column(board, 2, 2)),
+        (Some(6), None)
+    );
+}
+
+fn check_columns(rt: &impl Abort, alloc: Global, board: &Grid<u32>) -> Result<(), AllocError> {
+    let counts = count_in_columns(alloc, board, 5)?;
+    assert_eq!(rt; counts.as_slice(), [0, 1, 0].as_slice());
+    assert!(rt; count_rows(board) == 2 && rows_have(board, 3));
     Ok(())
 }
 
 #[test]
 fn walks_lines_both_ways(rt: HostRuntime) -> Result<(), Fail> {
-    let alloc = rt.alloc();
-    for board in &boards(&rt, alloc)? {
-        assert!(rt; 1 < board.rows() && 2 < board.cols());
-        let back = column_reversed(alloc, board, 1)?;
-        assert_eq!(rt; back.as_slice(), [5, 2].as_slice());
-        assert_eq!(rt; last_in_row(board, 0), Some(3));
-        assert_eq!(rt; cell_of_column(board, 2, 1), Some(6));
-        assert_eq!(rt; cell_of_column(board, 2, 2), None);
-        let counts = count_in_columns(alloc, board, 5)?;
-        assert_eq!(rt; counts.as_slice(), [0, 1, 0].as_slice());
-        assert_eq!(rt; count_rows(board), 2);
-        assert!(rt; rows_have(board, 3));
+    for order in ORDERS {
+        let board = board_in(&rt, rt.alloc(), order)?;
+        check_lines(&rt, &board);
+        check_columns(&rt, rt.alloc(), &board)?;
     }
+    Ok(())
+}
+
+fn check_lacking_in(rt: &impl Abort, board: &Grid<u32>, want: &[u32]) -> Result<(), AllocError> {
+    assert!(rt; board.iter().all(|y| *y <= 10));
+    assert_eq!(rt; lacking_in(board)?.flatten(), want);
+    Ok(())
+}
+
+fn check_lacking(rt: &impl Abort, board: Grid<u32>, want: &[u32]) -> Result<(), AllocError> {
+    assert!(rt; board.iter().all(|y| *y <= 10));
+    assert_eq!(rt; lacking(board)?.flatten(), want);
     Ok(())
 }
 
 #[test]
 fn maps_small_cells(rt: HostRuntime) -> Result<(), Fail> {
-    let alloc = rt.alloc();
-    for (board, want) in boards(&rt, alloc)?
-        .into_iter()
-        .zip([[9u32, 8, 7, 6, 5, 4], [9, 6, 8, 5, 7, 4]])
-    {
-        assert!(rt; board.iter().all(|y| *y <= 10));
-        assert_eq!(rt; lacking_in(&board)?.flatten(), want.as_slice());
-        assert_eq!(rt; lacking(board)?.flatten(), want.as_slice());
+    for (order, want) in [
+        (Order::RowMajor, [9u32, 8, 7, 6, 5, 4]),
+        (Order::ColumnMajor, [9, 6, 8, 5, 7, 4]),
+    ] {
+        let board = board_in(&rt, rt.alloc(), order)?;
+        check_lacking_in(&rt, &board, want.as_slice())?;
+        check_lacking(&rt, board, want.as_slice())?;
     }
     Ok(())
 }

@@ -1,33 +1,55 @@
 //! What a grid stands on: its vector with counted swaps, and the laws of joined symmetries.
 use grid_base::laws::{identity_is_neutral, inverse_undoes, then_is_associative};
 use grid_base::{Flat, Move, Symmetry, Tally};
-use grid_reference::fixtures::SYMMETRIES;
+use grid_reference::fixtures::{SYMMETRIES, line_from};
+use std::alloc::{AllocError, Global};
+use std::process::Abort;
 use std::test::Fail;
 
-#[test]
-fn counts_swaps(rt: HostRuntime) -> Result<(), Fail> {
-    let mut flat = Flat::from_vec(vec![in rt.alloc(); 1u32, 2, 3]?);
-    let mut tally = Tally::new();
+// A vector of 1, 2 and 3.
+fn three(alloc: Global) -> Result<Flat<u32>, AllocError> {
+    Ok(Flat::from_vec(line_from(alloc, 1, 3)?))
+}
+
+// A swap that isn't counted.
+fn check_swap(rt: &impl Abort, flat: &mut Flat<u32>) {
     assert_eq!(rt; flat.len(), 3);
     flat.swap(0, 2);
     assert_eq!(rt; flat.as_slice(), [3, 2, 1].as_slice());
-    assert_eq!(rt; (tally.symmetry(), tally.shift()), (0, 0));
-    flat.swap_for_symmetry(0, 1, &mut tally);
+}
+
+// Swaps that are counted, on 3, 2 and 1.
+fn check_counted_swaps(rt: &impl Abort, flat: &mut Flat<u32>, tally: &mut Tally) {
+    assert_eq!(rt; flat.len(), 3);
+    flat.swap_for_symmetry(0, 1, tally);
     assert_eq!(rt; (tally.symmetry(), tally.shift()), (1, 0));
-    flat.swap_for_shift(1, 2, &mut tally);
-    flat.swap_for_shift(2, 1, &mut tally);
+    flat.swap_for_shift(1, 2, tally);
+    flat.swap_for_shift(2, 1, tally);
     assert_eq!(rt; (tally.symmetry(), tally.shift()), (1, 2));
+}
+
+#[test]
+fn counts_swaps(rt: HostRuntime) -> Result<(), Fail> {
+    let mut flat = three(rt.alloc())?;
+    let mut tally = Tally::new();
+    check_swap(&rt, &mut flat);
+    assert_eq!(rt; (tally.symmetry(), tally.shift()), (0, 0));
+    check_counted_swaps(&rt, &mut flat, &mut tally);
     assert_eq!(rt; flat.into_vec().as_slice(), [2, 3, 1].as_slice());
     Ok(())
 }
 
-#[test]
-fn reaches_places(rt: HostRuntime) -> Result<(), Fail> {
-    let mut flat = Flat::from_vec(vec![in rt.alloc(); 1u32, 2, 3]?);
+fn check_places(rt: &impl Abort, flat: &mut Flat<u32>) {
     assert_eq!(rt; flat.len(), 3);
     assert_eq!(rt; *flat.at(2), 3);
     *flat.at_mut(1) = 8;
     assert_eq!(rt; flat.as_slice(), [1, 8, 3].as_slice());
+}
+
+#[test]
+fn reaches_places(rt: HostRuntime) -> Result<(), Fail> {
+    let mut flat = three(rt.alloc())?;
+    check_places(&rt, &mut flat);
     flat.clear();
     assert_eq!(rt; flat.len(), 0);
     Ok(())
@@ -50,12 +72,18 @@ fn joined_symmetries_are_a_group(rt: HostRuntime) {
     }
 }
 
+const MOVED: [(Move, Symmetry); 6] = [
+    (Move::Transpose, Symmetry::Transpose),
+    (Move::FlipCols, Symmetry::FlipCols),
+    (Move::FlipRows, Symmetry::FlipRows),
+    (Move::RotateLeft, Symmetry::RotateLeft),
+    (Move::RotateRight, Symmetry::RotateRight),
+    (Move::RotateHalf, Symmetry::RotateHalf),
+];
+
 #[test]
 fn moves_are_symmetries(rt: HostRuntime) {
-    assert_eq!(rt; Symmetry::of(Move::Transpose), Symmetry::Transpose);
-    assert_eq!(rt; Symmetry::of(Move::FlipCols), Symmetry::FlipCols);
-    assert_eq!(rt; Symmetry::of(Move::FlipRows), Symmetry::FlipRows);
-    assert_eq!(rt; Symmetry::of(Move::RotateLeft), Symmetry::RotateLeft);
-    assert_eq!(rt; Symmetry::of(Move::RotateRight), Symmetry::RotateRight);
-    assert_eq!(rt; Symmetry::of(Move::RotateHalf), Symmetry::RotateHalf);
+    for (step, want) in MOVED {
+        assert_eq!(rt; Symmetry::of(step), want);
+    }
 }

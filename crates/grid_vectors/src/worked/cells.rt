@@ -162,15 +162,27 @@ fn assert_joined(
     Ok(())
 }
 
+fn put_and_delete_texts(
+    rt: &impl Abort,
+    alloc: Global,
+    grid: &mut Grid<String>,
+) -> Result<(), Fail> {
+    push_row(grid, texts_of(alloc, &["c"])?)?;
+    assert!(rt; grid.delete_row(0));
+    insert(grid, LineAt::Col(0), texts_of(alloc, &["d", "e"])?)?;
+    assert_joined(rt, alloc, grid, "dbec")?;
+    Ok(())
+}
+
+fn take_texts(rt: &impl Abort, alloc: Global, grid: &mut Grid<String>) -> Result<(), AllocError> {
+    assert_eq!(rt; grid.pop_row()?.map(|line| line.len()), Some(2));
+    assert_joined(rt, alloc, grid, "db")
+}
+
 #[test]
 fn puts_deletes_and_takes_texts(rt: HostRuntime) -> Result<(), Fail> {
-    let alloc = rt.alloc();
-    let mut grid = Grid::from_vec(texts_of(alloc, &["a", "b"])?, 1);
-    push_row(&mut grid, texts_of(alloc, &["c"])?)?;
-    assert!(rt; grid.delete_row(0));
-    insert(&mut grid, LineAt::Col(0), texts_of(alloc, &["d", "e"])?)?;
-    assert_joined(&rt, alloc, &grid, "dbec")?;
-    assert_eq!(rt; grid.pop_row()?.map(|line| line.len()), Some(2));
-    assert_joined(&rt, alloc, &grid, "db")?;
+    let mut grid = Grid::from_vec(texts_of(rt.alloc(), &["a", "b"])?, 1);
+    put_and_delete_texts(&rt, rt.alloc(), &mut grid)?;
+    take_texts(&rt, rt.alloc(), &mut grid)?;
     Ok(())
 }

@@ -118,13 +118,23 @@ fn turns(alloc: Global, count: usize) -> Result<Vec<Command>, AllocError> {
     Ok(commands)
 }
 
+const ALL_DONE: [Reply<u32>; 4] = [Reply::Done, Reply::Done, Reply::Done, Reply::Done];
+
+fn do_four_turns(
+    rt: &impl Abort,
+    alloc: Global,
+    grid: &mut Grid<u32>,
+    tally: &mut Tally,
+) -> Result<(), Fail> {
+    let replies = run(alloc, grid, turns(alloc, 4)?, tally)?;
+    assert_eq!(rt; replies.as_slice(), ALL_DONE.as_slice());
+    Ok(())
+}
+
 fn check_four_turns(rt: &impl Abort, alloc: Global, order: Order) -> Result<(), Fail> {
     let mut grid = grid_with(alloc, WIDE, order)?;
     let mut tally = Tally::new();
-    let replies = run(alloc, &mut grid, turns(alloc, 4)?, &mut tally)?;
-    let all_done = [Reply::Done, Reply::Done, Reply::Done, Reply::Done];
-    assert_eq!(rt; replies.as_slice(), all_done.as_slice());
-    drop(replies);
+    do_four_turns(rt, alloc, &mut grid, &mut tally)?;
     assert_eq!(rt; (tally.symmetry(), tally.shift()), (10, 0));
     assert_rows(rt, alloc, &grid, WIDE, order)
 }

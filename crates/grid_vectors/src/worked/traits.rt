@@ -70,13 +70,22 @@ fn equal_grids_hash_alike(rt: HostRuntime) -> Result<(), Fail> {
     Ok(())
 }
 
+// Puts a grid into a set, and says whether it is new there.
+fn is_new(
+    alloc: Global,
+    set: &mut HashSet<Grid<u32>>,
+    (cells, cols, order): Stored,
+) -> Result<bool, Fail> {
+    let grid = stored(alloc, cells, cols, order)?;
+    Ok(set.insert(grid)?)
+}
+
 #[test]
 fn one_member_of_a_set(rt: HostRuntime) -> Result<(), Fail> {
-    let alloc = rt.alloc();
-    let mut set = HashSet::new(alloc);
-    let is_new = set.insert(stored(alloc, &[1, 2, 3, 4], 2, RowMajor)?)?;
-    let is_new_again = set.insert(stored(alloc, &[1, 3, 2, 4], 2, ColumnMajor)?)?;
-    assert_eq!(rt; (is_new, is_new_again, set.len()), (true, false, 1));
+    let mut set = HashSet::new(rt.alloc());
+    let first = is_new(rt.alloc(), &mut set, UPWARD)?;
+    let second = is_new(rt.alloc(), &mut set, (&[1, 3, 2, 4], 2, ColumnMajor))?;
+    assert_eq!(rt; (first, second, set.len()), (true, false, 1));
     Ok(())
 }
 

@@ -124,15 +124,24 @@ fn cols_back(alloc: Global, grid: &Grid<u32>) -> Result<Vec<u32>, AllocError> {
     Ok(cells)
 }
 
+fn check_rows_back(rt: &impl Abort, alloc: Global, grid: &Grid<u32>) -> Result<(), AllocError> {
+    let rows = rows_back(alloc, grid)?;
+    assert_eq!(rt; rows.as_slice(), [5, 6, 3, 4, 1, 2].as_slice());
+    Ok(())
+}
+
+fn check_cols_back(rt: &impl Abort, alloc: Global, grid: &Grid<u32>) -> Result<(), AllocError> {
+    let cols = cols_back(alloc, grid)?;
+    assert_eq!(rt; cols.as_slice(), [2, 4, 6, 1, 3, 5].as_slice());
+    Ok(())
+}
+
 #[test]
 fn lines_last_first(rt: HostRuntime) -> Result<(), Fail> {
     for order in ORDERS {
         let grid = grid_with(rt.alloc(), TALL, order)?;
-        let rows = rows_back(rt.alloc(), &grid)?;
-        assert_eq!(rt; rows.as_slice(), [5, 6, 3, 4, 1, 2].as_slice());
-        drop(rows);
-        let cols = cols_back(rt.alloc(), &grid)?;
-        assert_eq!(rt; cols.as_slice(), [2, 4, 6, 1, 3, 5].as_slice());
+        check_rows_back(&rt, rt.alloc(), &grid)?;
+        check_cols_back(&rt, rt.alloc(), &grid)?;
     }
     Ok(())
 }
@@ -150,15 +159,20 @@ fn large_in_columns(alloc: Global, grid: &Grid<u32>) -> Result<Vec<usize>, Alloc
         .collect(alloc)
 }
 
+fn check_mapped(rt: &impl Abort, alloc: Global, grid: &Grid<u32>) -> Result<(), AllocError> {
+    let lengths = row_lengths(alloc, grid)?;
+    assert_eq!(rt; lengths.as_slice(), [2, 2, 2].as_slice());
+    drop(lengths);
+    let large = large_in_columns(alloc, grid)?;
+    assert_eq!(rt; large.as_slice(), [2, 1].as_slice());
+    Ok(())
+}
+
 #[test]
 fn lines_mapped(rt: HostRuntime) -> Result<(), Fail> {
     for order in ORDERS {
         let grid = grid_with(rt.alloc(), TALL, order)?;
-        let lengths = row_lengths(rt.alloc(), &grid)?;
-        assert_eq!(rt; lengths.as_slice(), [2, 2, 2].as_slice());
-        drop(lengths);
-        let large = large_in_columns(rt.alloc(), &grid)?;
-        assert_eq!(rt; large.as_slice(), [2, 1].as_slice());
+        check_mapped(&rt, rt.alloc(), &grid)?;
     }
     Ok(())
 }
