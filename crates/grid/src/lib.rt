@@ -17,7 +17,7 @@ mod symmetry;
 mod traits;
 mod walks;
 
-pub use command::{Command, Reply, RunStopped, run};
+pub use command::{Axis, Command, Refusal, Reply, RunStopped, run};
 pub use error::{GridError, LineRefused, LinesRefused, ShapeError};
 pub use grid::Grid;
 pub use grid_base::{

@@ -113,7 +113,10 @@ impl<T, A: Allocator> Grid<T, A> {
         self.apply_counted(symmetry, &mut tally);
     }
 
-    pub(crate) fn apply_counted(&mut self, symmetry: Symmetry, tally: &mut Tally)
+    /// Same as [`apply`](Grid::apply), and adds the swaps that it makes to the symmetry count of the tally.
+    ///
+    ///     [[1, 2, 3], [4, 5, 6]]   apply_counted(FlipCols, tally)   [[3, 2, 1], [6, 5, 4]], and 2 swaps counted
+    pub fn apply_counted(&mut self, symmetry: Symmetry, tally: &mut Tally)
         ensures rows { self.new.rows ≡ act symmetry self.old.rows }
         ensures order { self.new.order ≡ order_after symmetry self.old.order }
         ensures symmetry { tally.new.symmetry ≡ saturating_count tally.old.symmetry

@@ -9,10 +9,10 @@ ghost use Rattle.grid_base.specs.Order.{storage};
 ghost use Rattle.grid_base.specs.Places.{places};
 ghost use Rattle.grid_base.specs.IndexedIterMut.{indexed_mut_rest};
 
+mod all_cells;
 mod cols;
 mod rows;
 mod span;
-mod all_cells;
 
 use crate::Grid;
 pub use cols::GridColIter;
