@@ -1,5 +1,5 @@
 -- Cells read, written, exchanged and filled, through the flip of the rows and the transpose.
-use Rattle.std.proofs.Common.{◌≡◌, ◌≢◌, ℕ, zero, suc, ◌+◌, ◌-◌, ◌<◌, ◌≤◌, Bool, true, false, ◌&&◌, Option, Some, None, List, [], ◌∷◌, ◌++◌, length, map, reverse, replicate, set, get_or, nat_lt, if◌then◌else◌, refl, sym, ◌∙◌, ap, subst, arith, ⊎_elim}
+use Rattle.std.proofs.Common.{◌≡◌, ◌≢◌, ℕ, zero, suc, ◌-◌, ◌<◌, ◌≤◌, true, false, ◌&&◌, Option, Some, None, List, [], ◌∷◌, ◌++◌, length, map, reverse, replicate, set, get_or, refl, sym, ◌∙◌, ap, arith, ⊎_elim}
 use Rattle.std.specs.List.{slice_get}
 use Rattle.std.proofs.lemmas.List.{length-reverse, length-map, length-set, get_or-reverse, get_or-map, get_or-set_same, get_or-set_other, get_or_past, reverse-append, same_lists, length-replicate, map-append}
 use Rattle.std.proofs.lemmas.Option.{slice_get_past}
@@ -8,14 +8,14 @@ use Rattle.grid_base.specs.declared.words.Symmetry.{Symmetry}
 use Rattle.grid_base.specs.declared.words.Symmetry.TheVariants.{Identity, FlipRows, Transpose}
 use Rattle.grid_base.specs.Table.{row, row_count, col_count, cell, IsTable, with_cell, with_cell_of, exchanged, tabulate}
 use Rattle.grid_base.specs.Symmetry.{act, symmetry_of}
-use Rattle.grid_base.proofs.ActLemmas.{rows-act, cols-act, cell-act, IsTable-act}
+use Rattle.grid_base.proofs.ActLemmas.{IsTable-act}
 use Rattle.grid_base.proofs.WriteLemmas.{get-set_same, get-set_other}
 use Rattle.grid_base.proofs.GroupLemmas.{product, act-act, act-identity, act_all-is, symmetry_of-concat_rows}
 use Rattle.grid.specs.AllCells.{filled}
-use Rattle.grid.proofs.ColEditLemmas.{across-across, rows-across, cols-across, cell-across, across_by_cells}
+use Rattle.grid.proofs.ColEditLemmas.{rows-across, cols-across, cell-across, across_by_cells}
 use Rattle.grid.specs.Refusal.{in_range}
 use Rattle.grid.specs.Through.{mirror_place}
-use Rattle.grid.proofs.MirrorLemmas.{flip_rows-is, reverse-replicate, map-replicate}
+use Rattle.grid.proofs.MirrorLemmas.{flip_rows-is}
 
 -- an element written to a reversed list
 set-mirrored : {X : Type 0} (xs : List X) (k : ℕ) (y : X) → k < length xs → set (reverse xs) k y ≡ reverse (set xs (length xs - 1 - k) y)

@@ -1,27 +1,25 @@
 -- Edits of lines through the flip of the rows and the transpose: what they do, reply and take.
-use Rattle.std.proofs.Common.{◌≡◌, ℕ, zero, suc, ◌+◌, ◌-◌, ◌*◌, ◌<◌, ◌≤◌, Bool, true, false, not, ◌&&◌, Option, Some, None, List, [], ◌∷◌, length, map, reverse, nat_eq, nat_lt, if◌then◌else◌, refl, sym, ◌∙◌, ap, subst, arith, ⊎_elim}
+use Rattle.std.proofs.Common.{◌≡◌, ℕ, zero, suc, ◌+◌, ◌-◌, ◌<◌, ◌≤◌, Bool, true, false, not, ◌&&◌, Some, None, List, [], ◌∷◌, length, map, reverse, nat_eq, nat_lt, if◌then◌else◌, refl, sym, ◌∙◌, ap, subst, arith, ⊎_elim}
 use Rattle.std.specs.List.{list_any, list_all, slice_get}
 use Rattle.std.specs.Option.{is_none, option_map}
 use Rattle.std.proofs.lemmas.List.{length-reverse, length-map}
 use Rattle.std.proofs.lemmas.Option.{slice_get-map, slice_get_past}
-use Rattle.std.proofs.lemmas.Bool.{eqb-true, eqb-false, ltb-false, lt-ltb, le-ltb, cases_lt, not-false}
-use Rattle.grid_base.specs.declared.words.Symmetry.TheVariants.{FlipRows, FlipCols, Transpose}
-use Rattle.grid_base.specs.Table.{row, row_count, col_count, transposed, IsTable}
+use Rattle.std.proofs.lemmas.Bool.{eqb-true, eqb-false, ltb-false, lt-ltb, le-ltb, cases_lt}
+use Rattle.grid_base.specs.declared.words.Symmetry.TheVariants.{FlipRows, Transpose}
+use Rattle.grid_base.specs.Table.{row, row_count, col_count, IsTable}
 use Rattle.grid_base.specs.Symmetry.{act}
 use Rattle.grid_base.proofs.ActLemmas.{rows-act, cols-act, IsTable-act}
 use Rattle.grid.proofs.EditSizeLemmas.{LinesFit}
 use Rattle.grid.proofs.ColEditLemmas.{across-across, across-transposed, rows-across, cols-across}
-use Rattle.grid.specs.declared.command.Axis.{Axis}
 use Rattle.grid.specs.declared.command.Axis.TheVariants.{Row, Col}
-use Rattle.grid.specs.declared.command.Refusal.{Refusal}
 use Rattle.grid.specs.declared.command.Refusal.TheVariants.{EmptyLine, Length, Index, TooLarge}
 use Rattle.grid.specs.Command.{Edit, read, push, insert_at, insert_all, pop, remove_at, delete_at, delete_range, expand, prepend}
-use Rattle.grid.specs.Reply.{ReplyValue, line_is, flag_is}
-use Rattle.grid.specs.Refusal.{insert_refusal, edit_refusal, first_width, fitting_width}
-use Rattle.grid.specs.Step.{Effect, nothing, inserts, removes, pads_end, pads_front, range_effect, effect, after_effect, edit_takes_memory, has_lines, edit_reply, line_at}
+use Rattle.grid.specs.Reply.{line_is, flag_is}
+use Rattle.grid.specs.Refusal.{insert_refusal, edit_refusal, fitting_width}
+use Rattle.grid.specs.Step.{Effect, nothing, inserts, removes, range_effect, effect, after_effect, edit_takes_memory, has_lines, edit_reply, line_at}
 use Rattle.grid.specs.Through.{turned_reply, mirror_place, mirror_gap, mirror_start, edit_of_flipped, edit_of_reversed}
 use Rattle.grid.proofs.MirrorLemmas.{get-reverse, flip_rows-is, flip_cols-is}
-use Rattle.grid.proofs.EffectLemmas.{IsApplicable, HasRange, flipped_effect, reversed_effect, effect-across}
+use Rattle.grid.proofs.EffectLemmas.{IsApplicable, flipped_effect, reversed_effect}
 use Rattle.grid.proofs.ThroughLemmas.{rows-flip, cols-flip, rows-transpose, cols-transpose, table-after, table-after_col, flip-across}
 use Rattle.grid.proofs.RefusalLemmas.{all-at, any-at, fitting-some, command_refusal-edit_of_flipped, command_refusal-edit_of_reversed}
 

@@ -1,19 +1,17 @@
 -- What is put into a table, taken out of it and padded, through the flips and the transpose.
-use Rattle.std.proofs.Common.{◌≡◌, ℕ, zero, suc, ◌+◌, ◌-◌, ◌<◌, ◌≤◌, List, [], ◌∷◌, ◌++◌, length, map, take, drop, reverse, replicate, refl, sym, ◌∙◌, ap, subst, arith, append_assoc}
-use Rattle.std.proofs.lemmas.List.{map-append, reverse-append, reverse-reverse, length-reverse, length-map, length-replicate, append-nil, nil_from_length, get_or-reverse, get_or-map}
-use Rattle.grid_base.specs.declared.words.Symmetry.TheVariants.{FlipRows, FlipCols, Transpose, RotateLeft, RotateRight}
-use Rattle.grid_base.specs.Table.{row, row_count, col_count, cell, IsTable}
+use Rattle.std.proofs.Common.{◌≡◌, ℕ, ◌+◌, ◌-◌, ◌<◌, ◌≤◌, List, [], ◌∷◌, ◌++◌, length, map, take, drop, reverse, replicate, refl, sym, ◌∙◌, ap, arith}
+use Rattle.std.proofs.lemmas.List.{map-append, length-reverse}
+use Rattle.grid_base.specs.declared.words.Symmetry.TheVariants.{FlipRows, Transpose}
+use Rattle.grid_base.specs.Table.{row_count, col_count, IsTable}
 use Rattle.grid_base.specs.Symmetry.{act}
-use Rattle.grid_base.proofs.ActLemmas.{rows-act, cols-act, cell-act, IsTable-act}
+use Rattle.grid_base.proofs.ActLemmas.{cols-act}
 use Rattle.grid_base.proofs.TableLemmas.{IsSize-table}
-use Rattle.grid_base.proofs.GroupLemmas.{act-act}
-use Rattle.grid.specs.Edits.{insert_rows, without_rows, insert_cols, without_cols, expanded_rows, prepended_rows, expanded_cols, prepended_cols}
-use Rattle.grid.proofs.EditSizeLemmas.{LinesFit, IsTable-put, IsTable-take, copies, expanded-put, prepended-put}
+use Rattle.grid.specs.Edits.{insert_rows, expanded_rows, prepended_rows}
+use Rattle.grid.proofs.EditSizeLemmas.{LinesFit, copies, expanded-put, prepended-put}
 use Rattle.grid.proofs.ColEditLemmas.{ColumnsFit, insert_cols-across, without_cols-across, expanded_cols-across, prepended_cols-across, across-across, rows-across, cols-across}
-use Rattle.grid.specs.declared.command.Axis.{Axis}
 use Rattle.grid.specs.declared.command.Axis.TheVariants.{Row, Col}
 use Rattle.grid.specs.Step.{Effect, nothing, inserts, removes, pads_end, pads_front, after_effect}
-use Rattle.grid.proofs.MirrorLemmas.{put-reversed, take-reversed, reverse-replicate, map-replicate, flip_rows-is, flip_cols-is, put-mapped, take-mapped, map-reverse-reverse}
+use Rattle.grid.proofs.MirrorLemmas.{put-reversed, take-reversed, reverse-replicate, map-replicate, flip_rows-is, put-mapped, take-mapped, map-reverse-reverse}
 
 module _ {T : Type 0} where
   -- a deed on rows that a table has room for

@@ -1,16 +1,14 @@
 -- Refusals of edits through the flips, and what an edit that isn't refused is.
-use Rattle.std.proofs.Common.{◌≡◌, ◌≢◌, ℕ, zero, suc, ◌+◌, ◌-◌, ◌*◌, ◌<◌, ◌≤◌, Bool, true, false, not, ◌&&◌, ◌||◌, Option, Some, None, List, [], ◌∷◌, ◌++◌, length, map, reverse, nat_eq, nat_lt, if◌then◌else◌, refl, sym, ◌∙◌, ap, subst, arith, ⊎_elim}
+use Rattle.std.proofs.Common.{◌≡◌, ℕ, zero, suc, ◌+◌, ◌-◌, ◌*◌, ◌<◌, Bool, true, false, not, ◌&&◌, ◌||◌, Some, None, List, [], ◌∷◌, length, map, reverse, nat_eq, nat_lt, if◌then◌else◌, refl, sym, ◌∙◌, ap, arith, ⊎_elim}
 use Rattle.std.specs.List.{list_any, list_all}
 use Rattle.std.proofs.lemmas.List.{length-reverse, length-map, reverse-append, reverse-reverse, get_or-reverse}
 use Rattle.std.proofs.lemmas.List.Folds.{list_all-append, list_any-append}
-use Rattle.std.proofs.lemmas.Bool.{eqb-true, eqb-false, eq-eqb, ne_eqb, ltb-true, ltb-false, lt-ltb, le-ltb, cases_Bool, cases_lt, and_parts, or_parts, both_ways, false_from_ne_true, not-false}
-use Rattle.grid_base.specs.Table.{row, row_count, col_count, IsTable}
-use Rattle.grid.specs.declared.command.Refusal.{Refusal}
+use Rattle.std.proofs.lemmas.Bool.{eqb-true, ne_eqb, lt-ltb, le-ltb, cases_Bool, cases_lt, and_parts, or_parts, both_ways, false_from_ne_true}
+use Rattle.grid_base.specs.Table.{row}
 use Rattle.grid.specs.declared.command.Refusal.TheVariants.{EmptyLine, Length, Index, TooLarge}
-use Rattle.grid.specs.Command.{Edit, read, push, insert_at, insert_all, pop, remove_at, delete_at, delete_range, expand, prepend}
-use Rattle.grid.specs.Refusal.{first_width, fitting_width, insert_refusal, pad_refusal, edit_refusal}
-use Rattle.grid.specs.Step.{edit_takes_memory, has_lines}
-use Rattle.grid.specs.Through.{mirror_place, mirror_gap, mirror_start, edit_of_flipped, edit_of_reversed}
+use Rattle.grid.specs.Command.{Edit, read, push, insert_at, insert_all}
+use Rattle.grid.specs.Refusal.{first_width, fitting_width, insert_refusal, edit_refusal}
+use Rattle.grid.specs.Through.{mirror_gap, edit_of_flipped, edit_of_reversed}
 
 and_comm : (x y : Bool) → (x && y) ≡ (y && x)
 and_comm true true = refl

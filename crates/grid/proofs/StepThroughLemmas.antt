@@ -1,23 +1,17 @@
 -- Commands through the flip of the rows and the transpose, and through words of these.
-use Rattle.std.proofs.Common.{◌≡◌, ℕ, zero, suc, ◌+◌, ◌-◌, ◌<◌, ◌≤◌, Bool, true, false, not, ◌&&◌, Option, Some, None, List, [], ◌∷◌, length, map, reverse, nat_lt, if◌then◌else◌, refl, sym, ◌∙◌, ap, subst, arith, ⊎_elim}
-use Rattle.std.specs.Bool.{beq}
-use Rattle.std.specs.Option.{option_map}
-use Rattle.std.proofs.lemmas.List.{reverse-reverse}
+use Rattle.std.proofs.Common.{◌≡◌, ℕ, zero, suc, ◌<◌, ◌≤◌, Bool, true, false, ◌&&◌, Option, Some, None, List, nat_lt, if◌then◌else◌, refl, sym, ◌∙◌, ap, arith, ⊎_elim}
 use Rattle.std.proofs.lemmas.Bool.{ltb-true, lt-ltb, le-ltb, cases_lt, and_parts}
 use Rattle.grid_base.specs.declared.words.Symmetry.{Symmetry}
-use Rattle.grid_base.specs.declared.words.Symmetry.TheVariants.{Identity, FlipCols, FlipRows, RotateHalf, Transpose, RotateLeft, RotateRight, AntiTranspose}
-use Rattle.grid_base.specs.declared.flat.order.Order.{Order}
+use Rattle.grid_base.specs.declared.words.Symmetry.TheVariants.{FlipRows, Transpose}
 use Rattle.grid_base.specs.Table.{row_count, col_count, IsTable, IsSize}
 use Rattle.grid_base.proofs.TableLemmas.{IsSize-table}
-use Rattle.grid_base.specs.Symmetry.{act, image_rows, image_cols, symmetry_of}
-use Rattle.grid.specs.Command.{Edit, read, push, insert_at, insert_all, pop, remove_at, delete_at, delete_range, expand, prepend, CommandValue, size, get, set_cell, swap_cells, lines, fill, clear, apply, axis_of}
-use Rattle.grid.specs.Reply.{ReplyValue, done, size_is, cell_is, line_is, flag_is, refused}
-use Rattle.grid.specs.Refusal.{in_range, edit_refusal, command_refusal, unless_refused}
+use Rattle.grid_base.specs.Symmetry.{act}
+use Rattle.grid.specs.Command.{CommandValue, size, get, set_cell, swap_cells, lines, fill, clear, apply, axis_of}
+use Rattle.grid.specs.Reply.{ReplyValue, cell_is, refused}
+use Rattle.grid.specs.Refusal.{in_range, command_refusal, unless_refused}
 use Rattle.grid.specs.Step.{rows_after, reply_to, step_rows, step_reply, takes_memory}
-use Rattle.grid.specs.Cost.{command_symmetry}
-use Rattle.grid.specs.Through.{other_axis, reverses_cells, base_axis, reversed_if, turned_reply, mirror_place, edit_of_flipped, edit_of_reversed, command_of_transposed, command_of_flipped}
+use Rattle.grid.specs.Through.{turned_reply, mirror_place, command_of_transposed, command_of_flipped}
 use Rattle.grid_base.proofs.ActLemmas.{rows-act, cols-act, IsTable-act}
-use Rattle.grid_base.proofs.GroupLemmas.{product, act-act, act-identity, symmetry_of-concat_rows, identity_product, product_identity}
 use Rattle.grid.proofs.ColEditLemmas.{across-none, rows-across, cols-across}
 use Rattle.grid.specs.declared.command.Axis.{Axis}
 use Rattle.grid.specs.declared.command.Axis.TheVariants.{Row, Col}

@@ -1,19 +1,17 @@
 -- Deeds on lines through the flip of the rows and the transpose; every other symmetry is a word of these.
-use Rattle.std.proofs.Common.{◌≡◌, ℕ, ◌+◌, ◌-◌, ◌<◌, ◌≤◌, List, [], ◌∷◌, ◌++◌, length, map, reverse, replicate, refl, sym, ◌∙◌, ap, subst, arith}
-use Rattle.std.proofs.lemmas.List.{length-reverse, length-map, length-replicate}
-use Rattle.grid_base.specs.declared.words.Symmetry.TheVariants.{FlipRows, FlipCols, Transpose, RotateLeft, RotateRight}
-use Rattle.grid_base.specs.Table.{row, row_count, col_count, IsTable}
+use Rattle.std.proofs.Common.{◌≡◌, ℕ, ◌<◌, ◌≤◌, List, [], ◌∷◌, map, reverse, sym, ◌∙◌, ap, subst, arith}
+use Rattle.std.proofs.lemmas.List.{length-reverse, length-map}
+use Rattle.grid_base.specs.declared.words.Symmetry.TheVariants.{FlipRows, FlipCols, Transpose}
+use Rattle.grid_base.specs.Table.{row_count, col_count, IsTable}
 use Rattle.grid_base.specs.Symmetry.{act}
-use Rattle.grid_base.proofs.ActLemmas.{rows-act, cols-act, IsTable-act}
+use Rattle.grid_base.proofs.ActLemmas.{cols-act, IsTable-act}
 use Rattle.grid_base.proofs.GroupLemmas.{act-act}
-use Rattle.grid.specs.Edits.{insert_rows, expanded_rows, prepended_rows}
 use Rattle.grid.proofs.EditSizeLemmas.{LinesFit, IsTable-put, IsTable-take, IsTable-width, copies, HasWidth-copies, expanded-put, prepended-put}
-use Rattle.grid.proofs.ColEditLemmas.{across-across, rows-across, cols-across}
-use Rattle.grid.specs.declared.command.Axis.{Axis}
+use Rattle.grid.proofs.ColEditLemmas.{across-across}
 use Rattle.grid.specs.declared.command.Axis.TheVariants.{Row, Col}
 use Rattle.grid.specs.Step.{Effect, nothing, inserts, removes, pads_end, pads_front, after_effect}
 use Rattle.grid.proofs.MirrorLemmas.{flip_rows-is, flip_cols-is}
-use Rattle.grid.proofs.EffectLemmas.{IsApplicable, HasRange, table-applicable, flipped_effect, reversed_effect, effect-flipped, effect-reversed, effect-across}
+use Rattle.grid.proofs.EffectLemmas.{IsApplicable, flipped_effect, reversed_effect, effect-flipped, effect-reversed, effect-across}
 
 module _ {T : Type 0} where
   IsTable-reverse : (t : List (List T)) → IsTable t → IsTable (reverse t)

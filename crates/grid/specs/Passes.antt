@@ -1,5 +1,5 @@
 -- What a pass over lines of cells leaves.
-use Rattle.std.specs.Prelude.{◌≡◌, ℕ, ◌+◌, ◌-◌, ◌*◌, ◌<◌, ◌≤◌, List, length, slice_get}
+use Rattle.std.specs.Prelude.{◌≡◌, ℕ, ◌+◌, ◌-◌, ◌*◌, ◌<◌, List, length, slice_get}
 
 -- p lines of q cells stand in the reversed order
 pub record LinesReversed {T : Type 0} (p q : ℕ) (old new : List T) : Type 0 where

@@ -1,4 +1,3 @@
-use Rattle.std.proofs.Common.{◌≡◌, ◌∙◌}
 use Rattle.grid.proofs.TransposedEditLemmas.{on_ok, on_err, twice_across}
 use Rattle.grid.proofs.ColEditLemmas.{rows-across, cols-across}
 use Rattle.grid.proofs.LineEditLemmas.{map_ok, crossed_rows, crossed_reply}

@@ -1,4 +1,3 @@
-use Rattle.std.proofs.Common.{[], ◌∷◌}
 use Rattle.grid.specs.Command.{insert_at}
 use Rattle.grid.proofs.LineEditLemmas.{refused_reply}
 use Rattle.grid.proofs.command.lines.insert_line.Goals as goal

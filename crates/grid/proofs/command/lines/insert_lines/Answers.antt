@@ -1,4 +1,3 @@
-use Rattle.std.proofs.Common.{◌≡◌}
 use Rattle.grid_base.specs.Gather.{items_of_each}
 use Rattle.grid.specs.Command.{insert_all}
 use Rattle.grid.proofs.LineEditLemmas.{refused_reply}

@@ -1,4 +1,4 @@
-use Rattle.std.proofs.Common.{◌≡◌, ◌<◌, suc, List, refl, inl, Result, Ok, Err, OnOk, OnErr, true, false, ◌∙◌, ◌++◌, ◌∷◌, [], length, map, take, slice_get, Some, sym, ap, arith, length-append, append_assoc}
+use Rattle.std.proofs.Common.{◌≡◌, ◌<◌, suc, List, refl, inl, Result, Ok, Err, OnOk, OnErr, true, false, ◌∙◌, ◌++◌, ◌∷◌, [], length, map, sym, ap, arith, length-append, append_assoc}
 use Rattle.std.specs.Result.{is_err}
 use Rattle.std.specs.Vec.Iter.{into_iter_items}
 use Rattle.std.proofs.lemmas.List.{map-append, append-nil, nil_from_length}
