@@ -1,40 +1,67 @@
 -- A run of one more command.
-use Rattle.std.proofs.Common.{◌≡◌, ℕ, ◌+◌, suc, List, [], ◌∷◌, ◌++◌, map, length, take, slice_get, Some, refl, sym, ◌∙◌, ap, arith}
-use Rattle.std.proofs.lemmas.List.{map-append, length-append}
+use Rattle.std.proofs.Common.{◌≡◌, ℕ, ◌+◌, ◌<◌, suc, List, [], ◌∷◌, ◌++◌, map, length, take, slice_get, get_or, length-append, Some, IsTrue, inr, refl, sym, ◌∙◌, ap, arith}
+use Rattle.std.specs.List.{All}
+use Rattle.std.specs.Option.{option_map}
+use Rattle.std.proofs.lemmas.List.{map-append, take-map, length-map}
+use Rattle.std.proofs.lemmas.List.Elements.{All-pop, All-from_get_or}
+use Rattle.std.proofs.lemmas.Option.{slice_get-map}
 use Rattle.std.proofs.Math.Seq.{take-append_seam}
 use Rattle.grid_base.specs.declared.flat.order.Order.{Order}
 use Rattle.grid_base.specs.declared.words.Symmetry.TheVariants.{Identity}
 use Rattle.grid_base.specs.GridValue.{GridValue}
+use Rattle.grid_base.specs.Table.{row_count, col_count}
 use Rattle.grid_base.specs.Symmetry.{symmetry_of, order_after}
 use Rattle.grid_base.specs.Tally.{Counts, saturating_count}
 use Rattle.grid_base.specs.Clones.{ClonesAreEqual}
 use Rattle.grid_base.proofs.GroupLemmas.{product, symmetry_of-concat_rows, symmetry_of-more, order_after-order_after}
-use Rattle.grid.specs.declared.command.Command.{Command}
-use Rattle.grid.specs.Reply.{PlainReply}
-use Rattle.grid.specs.Command.{step_rows, step_reply, step_price, command_symmetry}
-use Rattle.grid.specs.Run.{run_rows, run_replies, run_price, list_symmetry, Ran}
+use Rattle.grid.specs.Make.{IsOnlyDefault}
+use Rattle.grid.specs.Command.{CommandValue, size, fill}
+use Rattle.grid.specs.Reply.{ReplyValue}
+use Rattle.grid.specs.Step.{step_rows, step_reply, takes_memory, RowsAreKnown}
+use Rattle.grid.specs.Cost.{command_symmetry, list_symmetry, step_price, step_shift}
+use Rattle.grid.specs.Run.{run_rows, run_replies, run_price, run_shift, LeftByRun, Ran, MayStop}
 
 module _ {T : Type 0} where
-  run_rows-more : (cs : List Command) (c : Command) (t : List (List T)) → run_rows (cs ++ c ∷ []) t ≡ step_rows c (run_rows cs t)
-  run_rows-more [] c t = refl
-  run_rows-more (d ∷ cs) c t = run_rows-more cs c (step_rows d t)
+  -- what a command costs at a table
+  abbrev pub price_at : CommandValue T → List (List T) → ℕ
+  price_at x t = step_price x (row_count t) (col_count t)
 
-  run_replies-more : (cs : List Command) (c : Command) (t : List (List T)) → run_replies (cs ++ c ∷ []) t ≡ run_replies cs t ++ step_reply c (run_rows cs t) ∷ []
-  run_replies-more [] c t = refl
-  run_replies-more (d ∷ cs) c t = ap (λ rs. step_reply d t ∷ rs) (run_replies-more cs c (step_rows d t))
+  abbrev pub shift_at : CommandValue T → Order → List (List T) → ℕ
+  shift_at x o t = step_shift x o (row_count t) (col_count t)
 
-  run_price-more : (cs : List Command) (c : Command) (t : List (List T)) → run_price (cs ++ c ∷ []) t ≡ run_price cs t + step_price c (run_rows cs t)
-  run_price-more [] c t = omega arith
-  run_price-more (d ∷ cs) c t = omega (arith, run_price-more cs c (step_rows d t))
+  -- the order after a list of commands, one after another
+  abbrev pub run_order : List (CommandValue T) → Order → Order
+  run_order [] o = o
+  run_order (x ∷ xs) o = run_order xs (order_after (command_symmetry x) o)
 
-list_symmetry-more : (cs : List Command) (c : Command) → list_symmetry (cs ++ c ∷ []) ≡ product (list_symmetry cs) (command_symmetry c)
-list_symmetry-more cs c = ap symmetry_of (map-append command_symmetry cs (c ∷ [])) ∙ symmetry_of-more (map command_symmetry cs) (command_symmetry c)
+  pub run_order-more : (xs : List (CommandValue T)) (x : CommandValue T) (o : Order) → run_order (xs ++ x ∷ []) o ≡ order_after (command_symmetry x) (run_order xs o)
+  run_order-more [] x o = refl
+  run_order-more (y ∷ xs) x o = run_order-more xs x (order_after (command_symmetry y) o)
 
-list_symmetry-none : list_symmetry [] ≡ Identity
+  run_rows-more : (d : T) (xs : List (CommandValue T)) (x : CommandValue T) (t : List (List T)) → run_rows d (xs ++ x ∷ []) t ≡ step_rows d x (run_rows d xs t)
+  run_rows-more d [] x t = refl
+  run_rows-more d (y ∷ xs) x t = run_rows-more d xs x (step_rows d y t)
+
+  run_replies-more : (d : T) (xs : List (CommandValue T)) (x : CommandValue T) (t : List (List T)) → run_replies d (xs ++ x ∷ []) t ≡ run_replies d xs t ++ step_reply x (run_rows d xs t) ∷ []
+  run_replies-more d [] x t = refl
+  run_replies-more d (y ∷ xs) x t = ap (λ rs. step_reply y t ∷ rs) (run_replies-more d xs x (step_rows d y t))
+
+  run_price-more : (d : T) (xs : List (CommandValue T)) (x : CommandValue T) (t : List (List T)) → run_price d (xs ++ x ∷ []) t ≡ run_price d xs t + price_at x (run_rows d xs t)
+  run_price-more d [] x t = omega arith
+  run_price-more d (y ∷ xs) x t = omega (arith, run_price-more d xs x (step_rows d y t))
+
+  run_shift-more : (d : T) (xs : List (CommandValue T)) (x : CommandValue T) (o : Order) (t : List (List T)) → run_shift d (xs ++ x ∷ []) o t ≡ run_shift d xs o t + shift_at x (run_order xs o) (run_rows d xs t)
+  run_shift-more d [] x o t = omega arith
+  run_shift-more d (y ∷ xs) x o t = omega (arith, run_shift-more d xs x (order_after (command_symmetry y) o) (step_rows d y t))
+
+  list_symmetry-more : (xs : List (CommandValue T)) (x : CommandValue T) → list_symmetry (xs ++ x ∷ []) ≡ product (list_symmetry xs) (command_symmetry x)
+  list_symmetry-more xs x = ap symmetry_of (map-append command_symmetry xs (x ∷ [])) ∙ symmetry_of-more (map command_symmetry xs) (command_symmetry x)
+
+  order-more : (xs : List (CommandValue T)) (x : CommandValue T) (o : Order) → order_after (list_symmetry (xs ++ x ∷ [])) o ≡ order_after (command_symmetry x) (order_after (list_symmetry xs) o)
+  order-more xs x o = ap (λ s. order_after s o) (list_symmetry-more xs x) ∙ sym (order_after-order_after (list_symmetry xs) (command_symmetry x) o)
+
+list_symmetry-none : symmetry_of [] ≡ Identity
 list_symmetry-none = symmetry_of-concat_rows []
-
-order-more : (cs : List Command) (c : Command) (o : Order) → order_after (list_symmetry (cs ++ c ∷ [])) o ≡ order_after (command_symmetry c) (order_after (list_symmetry cs) o)
-order-more cs c o = ap (λ s. order_after s o) (list_symmetry-more cs c) ∙ sym (order_after-order_after (list_symmetry cs) (command_symmetry c) o)
 
 saturating_count-none : (n : ℕ) → n ≡ saturating_count n 0
 saturating_count-none n = omega arith
@@ -42,42 +69,71 @@ saturating_count-none n = omega arith
 saturating_count-saturating_count : (n j k : ℕ) → saturating_count (saturating_count n j) k ≡ saturating_count n (j + k)
 saturating_count-saturating_count n j k = omega arith
 
-pub ran_none : {T : Type 0} (is_clone : T → T → Type 0) (s : GridValue T) (t : Counts) → Ran is_clone [] s s t t []
-ran_none is_clone s t = record {
-  rows = refl;
-  count = refl;
-  replies = λ same. refl;
-  order = ap (λ x. order_after x s.order) (sym list_symmetry-none);
-  symmetry = saturating_count-none t.symmetry;
-  shift = refl;
-}
+-- a count of one more command
+count_more : (n j k : ℕ) (before between after : ℕ) → between ≡ saturating_count before j → after ≡ saturating_count between k → n ≡ j + k → after ≡ saturating_count before n
+count_more n j k before between after first more sum =
+    more ∙ (ap (λ b. saturating_count b k) first ∙ (saturating_count-saturating_count before j k ∙ ap (saturating_count before) (sym sum)))
 
-module _ {T : Type 0} (is_clone : T → T → Type 0) (cs : List Command) (c : Command) (old mid new : GridValue T) (first between last : Counts) (answers more : List (PlainReply T)) where
-  pub ran_more : Ran is_clone cs old mid first between answers → new.rows ≡ step_rows c mid.rows → length more ≡ suc (length answers) → (ClonesAreEqual is_clone → more ≡ answers ++ step_reply c mid.rows ∷ []) → new.order ≡ order_after (command_symmetry c) mid.order → last.symmetry ≡ saturating_count between.symmetry (step_price c mid.rows) → last.shift ≡ between.shift → Ran is_clone (cs ++ c ∷ []) old new first last more
-  ran_more h rows count replies order symmetry shift = record {
-    rows = rows ∙ (ap (step_rows c) h.rows ∙ sym (run_rows-more cs c old.rows));
-    count = omega (arith, count, h.count, length-append cs (c ∷ []));
-    replies = λ same.
-        replies same ∙ (ap (λ rs. rs ++ step_reply c mid.rows ∷ []) (h.replies same)
-        ∙ (ap (λ t. run_replies cs old.rows ++ step_reply c t ∷ []) h.rows ∙ sym (run_replies-more cs c old.rows)));
-    order = order ∙ (ap (order_after (command_symmetry c)) h.order ∙ sym (order-more cs c old.order));
-    symmetry =
-        symmetry ∙ (ap (λ n. saturating_count n (step_price c mid.rows)) h.symmetry
-        ∙ (saturating_count-saturating_count first.symmetry (run_price cs old.rows) (step_price c mid.rows)
-        ∙ ap (saturating_count first.symmetry) (ap (λ t. run_price cs old.rows + step_price c t) h.rows ∙ sym (run_price-more cs c old.rows))));
-    shift = shift ∙ h.shift;
+-- what a run so far made, with the order as it went
+pub record Running {T : Type 0} (is_clone : T → T → Type 0) (is_default : T → Type 0) (xs : List (CommandValue T)) (old new : GridValue T) (before after : Counts) (answers : List (ReplyValue T)) : Type 0 where
+  pub ran : Ran is_clone is_default xs old new before after answers
+  pub walked : new.order ≡ run_order xs old.order
+
+module _ {T : Type 0} (is_clone : T → T → Type 0) (is_default : T → Type 0) where
+  pub running_none : (s : GridValue T) (t : Counts) → Running is_clone is_default [] s s t t []
+  running_none s t = record {
+    ran = record {
+      count = refl;
+      order = ap (λ x. order_after x s.order) (sym list_symmetry-none);
+      left = λ d known. record { rows = refl; symmetry = saturating_count-none t.symmetry; shift = saturating_count-none t.shift };
+      replies = λ d one same. refl;
+    };
+    walked = refl;
   }
 
--- a command that changed nothing leaves what the run so far made
-pub ran_still : {T : Type 0} (is_clone : T → T → Type 0) (cs : List Command) (old mid new : GridValue T) (first between last : Counts) (answers : List (PlainReply T)) → Ran is_clone cs old mid first between answers → new ≡ mid → last.symmetry ≡ between.symmetry → last.shift ≡ between.shift → Ran is_clone cs old new first last answers
-ran_still is_clone cs old mid new first between last answers h same symmetry shift = record {
-  rows = ap (λ s. s.rows) same ∙ h.rows;
-  count = h.count;
-  replies = h.replies;
-  order = ap (λ s. s.order) same ∙ h.order;
-  symmetry = symmetry ∙ h.symmetry;
-  shift = shift ∙ h.shift;
-}
+  known_all : (d : T) → IsOnlyDefault is_default d → ClonesAreEqual is_clone → (x : CommandValue T) → RowsAreKnown is_default is_clone d x
+  known_all d one same (fill v) = (one, same)
+  known_all d one same size = one
+  known_all d one same x = one
+
+  known_list : (d : T) → IsOnlyDefault is_default d → ClonesAreEqual is_clone → (xs : List (CommandValue T)) → All (RowsAreKnown is_default is_clone d) xs
+  known_list d one same xs = All-from_get_or (RowsAreKnown is_default is_clone d) xs size (λ i lt. known_all d one same (get_or xs i size))
+
+  module _ (xs : List (CommandValue T)) (x : CommandValue T) (old mid new : GridValue T) (first between last : Counts) (answers more : List (ReplyValue T)) where
+    pub running_more : Running is_clone is_default xs old mid first between answers → ((d : T) → RowsAreKnown is_default is_clone d x → new.rows ≡ step_rows d x mid.rows) → length more ≡ suc (length answers) → (ClonesAreEqual is_clone → more ≡ answers ++ step_reply x mid.rows ∷ []) → new.order ≡ order_after (command_symmetry x) mid.order → last.symmetry ≡ saturating_count between.symmetry (price_at x mid.rows) → last.shift ≡ saturating_count between.shift (shift_at x mid.order mid.rows) → Running is_clone is_default (xs ++ x ∷ []) old new first last more
+    running_more r rows count reply order symmetry shift = record {
+      ran = record {
+        count = omega (arith, count, r.ran.count, length-append xs (x ∷ []));
+        order = order ∙ (ap (order_after (command_symmetry x)) r.ran.order ∙ sym (order-more xs x old.order));
+        left = λ d known. all_left d (All-pop (RowsAreKnown is_default is_clone d) (xs ++ x ∷ []) xs (Some x) refl known);
+        replies = λ d one same.
+            let l = r.ran.left d (known_list d one same xs) in
+            reply same
+            ∙ (ap (λ rs. rs ++ step_reply x mid.rows ∷ []) (r.ran.replies d one same)
+            ∙ (ap (λ t. run_replies d xs old.rows ++ step_reply x t ∷ []) l.rows ∙ sym (run_replies-more d xs x old.rows)));
+      };
+      walked = order ∙ (ap (order_after (command_symmetry x)) r.walked ∙ sym (run_order-more xs x old.order));
+    }
+      where
+        all_left : (d : T) → All (RowsAreKnown is_default is_clone d) xs × RowsAreKnown is_default is_clone d x → LeftByRun d (xs ++ x ∷ []) old new first last
+        all_left d known =
+            let l = r.ran.left d known.0 in
+            record {
+              rows = rows d known.1 ∙ (ap (step_rows d x) l.rows ∙ sym (run_rows-more d xs x old.rows));
+              symmetry = count_more _ _ _ _ _ _ l.symmetry (symmetry ∙ ap (λ t. saturating_count between.symmetry (price_at x t)) l.rows) (run_price-more d xs x old.rows);
+              shift = count_more _ _ _ _ _ _ l.shift (shift ∙ (ap (λ t. saturating_count between.shift (shift_at x mid.order t)) l.rows ∙ ap (λ o. saturating_count between.shift (shift_at x o (run_rows d xs old.rows))) r.walked)) (run_shift-more d xs x old.order old.rows);
+            }
+
+  -- a command that changed nothing leaves what the run so far made
+  pub ran_still : (xs : List (CommandValue T)) (old mid new : GridValue T) (first between last : Counts) (answers : List (ReplyValue T)) → Ran is_clone is_default xs old mid first between answers → new ≡ mid → last.symmetry ≡ between.symmetry → last.shift ≡ between.shift → Ran is_clone is_default xs old new first last answers
+  ran_still xs old mid new first between last answers h same symmetry shift = record {
+    count = h.count;
+    order = ap (λ s. s.order) same ∙ h.order;
+    left = λ d known.
+        let l = h.left d known in
+        record { rows = ap (λ s. s.rows) same ∙ l.rows; symmetry = symmetry ∙ l.symmetry; shift = shift ∙ l.shift };
+    replies = h.replies;
+  }
 
 -- what stands at the length of the first part
 at_seam : {X : Type 0} (xs : List X) (y : X) (ys : List X) → slice_get (xs ++ y ∷ ys) (length xs) ≡ Some y
@@ -89,3 +145,16 @@ take_at_seam all xs ys n e h = rw (h, ← e) (take-append_seam xs ys)
 
 pub get_at_seam : {X : Type 0} (all xs : List X) (y : X) (ys : List X) (n : ℕ) → xs ++ y ∷ ys ≡ all → n ≡ length xs → slice_get all n ≡ Some y
 get_at_seam all xs y ys n e h = rw (h, ← e) (at_seam xs y ys)
+
+-- where a run stops: the commands done are the first ones
+pub take_values : {X Y : Type 0} (f : X → Y) (all xs ys : List X) (n : ℕ) → xs ++ ys ≡ all → n ≡ length xs → take n (map f all) ≡ map f xs
+take_values f all xs ys n e h = take-map f n all ∙ ap (map f) (take_at_seam all xs ys n e h)
+
+pub get_value : {X Y : Type 0} (f : X → Y) (all xs : List X) (y : X) (ys : List X) (n : ℕ) → xs ++ y ∷ ys ≡ all → n ≡ length xs → slice_get (map f all) n ≡ Some (f y)
+get_value f all xs y ys n e h = slice_get-map f all n ∙ ap (option_map f) (get_at_seam all xs y ys n e h)
+
+pub some_values : {X Y : Type 0} (f : X → Y) (xs : List X) → 0 < length xs → 0 < length (map f xs)
+some_values f xs some = omega (arith, some, length-map xs f)
+
+pub may_stop : {T : Type 0} (all : List (CommandValue T)) (n : ℕ) (x : CommandValue T) (last t : List (List T)) → slice_get all n ≡ Some x → last ≡ t → IsTrue (takes_memory x (row_count t) (col_count t)) → MayStop all n last
+may_stop all n x last t at same memory = inr (rw (at, same) memory)

@@ -5,6 +5,11 @@ pub mod Conversion
 pub mod Passes
 pub mod Reply
 pub mod Command
+pub mod Refusal
+pub mod LineEdit
+pub mod Step
+pub mod Cost
+pub mod Through
 pub mod Run
 pub mod Edits
 pub mod RowGroups

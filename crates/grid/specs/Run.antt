@@ -1,45 +1,55 @@
--- What a list of commands does to a table: the plain run.
-use Rattle.std.specs.Prelude.{◌≡◌, ◌⊎◌, ℕ, ◌+◌, ◌<◌, List, [], ◌∷◌, map, length, slice_get, IsSomeAnd}
-use Rattle.grid_base.specs.declared.words.Symmetry.{Symmetry}
+-- What a list of commands does to a table and replies: the plain run. And what it costs.
+use Rattle.std.specs.Prelude.{◌≡◌, ◌⊎◌, ℕ, ◌+◌, ◌<◌, List, [], ◌∷◌, length, slice_get, All, IsSomeAnd, IsTrue}
+use Rattle.grid_base.specs.declared.flat.order.Order.{Order}
+use Rattle.grid_base.specs.Table.{row_count, col_count}
 use Rattle.grid_base.specs.GridValue.{GridValue}
-use Rattle.grid_base.specs.Symmetry.{symmetry_of, order_after}
+use Rattle.grid_base.specs.Symmetry.{order_after}
 use Rattle.grid_base.specs.Tally.{Counts, saturating_count}
 use Rattle.grid_base.specs.Clones.{ClonesAreEqual}
-use Rattle.grid.specs.declared.command.Command.{Command}
-use Rattle.grid.specs.Reply.{PlainReply}
-use Rattle.grid.specs.Command.{step_rows, step_reply, step_price, command_symmetry, TakesMemory}
+use Rattle.grid.specs.Make.{IsOnlyDefault}
+use Rattle.grid.specs.Command.{CommandValue}
+use Rattle.grid.specs.Reply.{ReplyValue}
+use Rattle.grid.specs.Step.{step_rows, step_reply, takes_memory, RowsAreKnown}
+use Rattle.grid.specs.Cost.{command_symmetry, list_symmetry, step_price, step_shift}
 
 module _ {T : Type 0} where
-  -- the table after a list of commands
-  abbrev pub run_rows : List Command → List (List T) → List (List T)
-  run_rows [] t = t
-  run_rows (c ∷ cs) t = run_rows cs (step_rows c t)
+  -- the table after a list of commands, where d is the cells' default
+  abbrev pub run_rows : T → List (CommandValue T) → List (List T) → List (List T)
+  run_rows d [] t = t
+  run_rows d (x ∷ xs) t = run_rows d xs (step_rows d x t)
 
   -- their replies
-  abbrev pub run_replies : List Command → List (List T) → List (PlainReply T)
-  run_replies [] t = []
-  run_replies (c ∷ cs) t = step_reply c t ∷ run_replies cs (step_rows c t)
+  abbrev pub run_replies : T → List (CommandValue T) → List (List T) → List (ReplyValue T)
+  run_replies d [] t = []
+  run_replies d (x ∷ xs) t = step_reply x t ∷ run_replies d xs (step_rows d x t)
 
   -- how many swaps for symmetries they cost, each at the table before it
-  abbrev pub run_price : List Command → List (List T) → ℕ
-  run_price [] t = 0
-  run_price (c ∷ cs) t = step_price c t + run_price cs (step_rows c t)
+  abbrev pub run_price : T → List (CommandValue T) → List (List T) → ℕ
+  run_price d [] t = 0
+  run_price d (x ∷ xs) t = step_price x (row_count t) (col_count t) + run_price d xs (step_rows d x t)
 
--- the symmetry of a command list
-abbrev pub list_symmetry : List Command → Symmetry
-list_symmetry cs = symmetry_of (map command_symmetry cs)
+  -- how many shifts, each at the table and the order before it
+  abbrev pub run_shift : T → List (CommandValue T) → Order → List (List T) → ℕ
+  run_shift d [] o t = 0
+  run_shift d (x ∷ xs) o t =
+      step_shift x o (row_count t) (col_count t) + run_shift d xs (order_after (command_symmetry x) o) (step_rows d x t)
 
--- what a run of these commands makes of a grid and a tally, and what it replies: a reply a command, and where clones
--- equal their source, what is due
-pub record Ran {T : Type 0} (is_clone : T → T → Type 0) (commands : List Command) (old new : GridValue T) (before after : Counts) (answers : List (PlainReply T)) : Type 0 where
-  pub rows : new.rows ≡ run_rows commands old.rows
-  pub count : length answers ≡ length commands
-  pub replies : ClonesAreEqual is_clone → answers ≡ run_replies commands old.rows
-  pub order : new.order ≡ order_after (list_symmetry commands) old.order
-  pub symmetry : after.symmetry ≡ saturating_count before.symmetry (run_price commands old.rows)
-  pub shift : after.shift ≡ before.shift
+  -- the rows and the counts that a run of these commands leaves, where d is the cells' default
+  pub record LeftByRun (d : T) (commands : List (CommandValue T)) (old new : GridValue T) (before after : Counts) : Type 0 where
+    pub rows : new.rows ≡ run_rows d commands old.rows
+    pub symmetry : after.symmetry ≡ saturating_count before.symmetry (run_price d commands old.rows)
+    pub shift : after.shift ≡ saturating_count before.shift (run_shift d commands old.order old.rows)
 
--- a run may stop for memory after so many commands, at this table: the next command takes memory, or none was
--- done of a list that isn't empty
-abbrev pub MayStop : {T : Type 0} → List Command → ℕ → List (List T) → Type 0
-MayStop commands finished t = ((finished ≡ 0) × (0 < length commands)) ⊎ IsSomeAnd (slice_get commands finished) (λ c. TakesMemory c t)
+  -- what a run of these commands makes of a grid and a tally, and what it replies: a reply a command, and where the
+  -- default is one value and clones equal their source, what is due
+  pub record Ran (is_clone : T → T → Type 0) (is_default : T → Type 0) (commands : List (CommandValue T)) (old new : GridValue T) (before after : Counts) (answers : List (ReplyValue T)) : Type 0 where
+    pub count : length answers ≡ length commands
+    pub order : new.order ≡ order_after (list_symmetry commands) old.order
+    pub left : (d : T) → All (RowsAreKnown is_default is_clone d) commands → LeftByRun d commands old new before after
+    pub replies : (d : T) → IsOnlyDefault is_default d → ClonesAreEqual is_clone → answers ≡ run_replies d commands old.rows
+
+  -- a run may stop for memory after so many commands, at this table: the next command takes memory, or none was
+  -- done of a list that isn't empty
+  abbrev pub MayStop : List (CommandValue T) → ℕ → List (List T) → Type 0
+  MayStop commands finished t =
+      ((finished ≡ 0) × (0 < length commands)) ⊎ IsSomeAnd (slice_get commands finished) (λ x. IsTrue (takes_memory x (row_count t) (col_count t)))

@@ -31,7 +31,7 @@ mod symmetry;
 mod traits;
 mod walks;
 
-pub use command::{Command, Reply, RunStopped, run};
+pub use command::{Axis, Command, Refusal, Reply, RunStopped, run};
 pub use convert::can_cut;
 pub use error::{GridError, LineRefused, LinesRefused, ShapeError};
 pub use grid::Grid;

@@ -117,7 +117,9 @@ impl<T, A: Allocator> Grid<T, A> {
         self.apply_counted(symmetry, &mut tally);
     }
 
-    /// Applies a symmetry, as [`apply`](Grid::apply) does, and counts its swaps in the tally.
+    /// Same as [`apply`](Grid::apply), and adds the swaps that it makes to the symmetry count of the tally.
+    ///
+    ///     [[1, 2, 3], [4, 5, 6]]   apply_counted(FlipCols, tally)   [[3, 2, 1], [6, 5, 4]], and 2 swaps counted
     ///
     /// Cost: the swaps of its flips, each counted once.
     pub fn apply_counted(&mut self, symmetry: Symmetry, tally: &mut Tally)

@@ -30,6 +30,20 @@ impl<T, A: Allocator> Grid<T, A> {
         ensures err { OnErr result (self.new ≡ self.old) }
         ensures empty { self.old.rows ≡ [] → IsOk result }
     {
+        self.fill_clones(value)
+    }
+
+    // Makes every cell a clone of the value, or the value, also where a clone may differ from it.
+    pub(crate) fn fill_clones(&mut self, value: T) -> Result<(), AllocError>
+    where
+        T: Clone,
+        A: Clone,
+        ensures ok { OnOk result
+            (ClonesAreEqual T.is_clone → self.new.rows ≡ filled value self.old.rows) }
+        ensures order { self.new.order ≡ self.old.order }
+        ensures err { OnErr result (self.new ≡ self.old) }
+        ensures empty { self.old.rows ≡ [] → IsOk result }
+    {
         self.flat.fill(value)
     }
 

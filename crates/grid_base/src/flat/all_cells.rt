@@ -8,7 +8,7 @@ use super::Flat;
 use std::alloc::{AllocError, Allocator};
 
 impl<T, A: Allocator> Flat<T, A> {
-    /// Makes every cell the value.
+    /// Makes every cell a clone of the value, or the value.
     ///
     /// Requires: clones of the cell type equal their source.
     /// Fails: where memory is refused; the cells are unchanged, and the value is dropped. Without cells it takes no
@@ -19,8 +19,9 @@ impl<T, A: Allocator> Flat<T, A> {
     where
         T: Clone,
         A: Clone,
-        requires clones { ClonesAreEqual T.is_clone }
-        ensures ok { OnOk result (self.new ≡ replicate (length self.old) value) }
+        ensures ok { OnOk result
+            (ClonesAreEqual T.is_clone → self.new ≡ replicate (length self.old) value) }
+        ensures len { OnOk result (length self.new ≡ length self.old) }
         ensures err { OnErr result (self.new ≡ self.old) }
         ensures none { length self.old ≡ 0 → IsOk result }
     {

@@ -1,16 +1,17 @@
 use Rattle.std.proofs.Common.{◌≡◌, ◌++◌, ◌≤◌, length, map, vec_len}
 use Rattle.std.specs.Vec.{vec_capacity}
 use Rattle.std.specs.Vec.Iter.{into_iter_items}
+use Rattle.grid.specs.Command.{command_value}
 use Rattle.grid.specs.Reply.{reply_value}
-use Rattle.grid.specs.Run.{Ran}
-use Rattle.grid.proofs.command.run.Given as goal
+use Rattle.grid.proofs.RunLemmas.{Running}
+use Rattle.grid.proofs.command.runs.run.Given as goal
 
 abbrev pub invariant-loop-command : goal.invariant-loop-command
 invariant-loop-command g l = record {
   can : (goal.iterator-loop-command g).can_next l.command-iterator;
   finite : (goal.iterator-loop-command g).is_finite l.command-iterator;
   rest : l.yielded ++ into_iter_items l.command-iterator ≡ l.fn.commands.items;
-  ran : Ran g.T.Clone.is_clone l.yielded l.fn.grid l.grid l.fn.tally l.tally (map reply_value l.replies.items);
+  running : Running g.T.Clone.is_clone g.T.Default.is_default (map command_value l.yielded) l.fn.grid l.grid l.fn.tally l.tally (map reply_value l.replies.items);
   count : vec_len l.replies ≡ length l.yielded;
   room : length l.fn.commands.items ≤ vec_capacity l.replies;
 }

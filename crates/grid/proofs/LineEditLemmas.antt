@@ -1,0 +1,210 @@
+-- Edits of rows as the code of a grid does them, and of columns as those of rows between two transposes.
+use Rattle.std.proofs.Common.{◌≡◌, ℕ, zero, suc, ◌+◌, ◌-◌, ◌*◌, ◌^◌, ◌<◌, ◌≤◌, Bool, true, false, not, Option, Some, None, List, [], ◌∷◌, Vec, nat_eq, nat_lt, if◌then◌else◌, IsTrue, MatchOption, Result, Ok, Err, OnOk, IfOk, ◌↔◌, refl, sym, ◌∙◌, ap, arith, ⊎_elim}
+use Rattle.std.specs.List.{insert, remove, slice_get}
+use Rattle.std.specs.Option.{option_map}
+use Rattle.std.proofs.lemmas.Bool.{lt-ltb, le-ltb, ne_eqb, cases_lt}
+use Rattle.std.proofs.lemmas.Option.{slice_get_past, slice_get-get_or}
+use Rattle.grid_base.specs.declared.words.Symmetry.TheVariants.{Transpose}
+use Rattle.grid_base.specs.Table.{row, row_count, col_count, IsTable}
+use Rattle.grid_base.specs.Symmetry.{act}
+use Rattle.grid.specs.declared.command.Axis.{Axis}
+use Rattle.grid.specs.declared.command.Axis.TheVariants.{Row, Col}
+use Rattle.grid.specs.declared.command.Refusal.{Refusal}
+use Rattle.grid.specs.Edits.{insert_rows, without_rows, PadsRows, padding_count}
+use Rattle.grid.specs.Command.{Edit, read, push, insert_at, insert_all, pop, remove_at, delete_at, delete_range, expand, prepend, get, lines}
+use Rattle.grid.specs.Reply.{ReplyValue, done, cell_is, line_is, flag_is, refused}
+use Rattle.grid.specs.Refusal.{too_many, in_range, insert_refusal, pad_refusal, edit_refusal, unless_refused}
+use Rattle.grid.specs.LineEdit.{pad_edit}
+use Rattle.grid.specs.Step.{nothing, removes, range_effect, effect, after_effect, edit_reply, step_rows, step_reply}
+use Rattle.grid.specs.Through.{turned_reply}
+use Rattle.grid.proofs.EditViewLemmas.{put_line, take_line}
+use Rattle.grid.proofs.EditSizeLemmas.{factor_small}
+use Rattle.grid.proofs.NoneTakenLemmas.{remove-past}
+use Rattle.grid.proofs.SeenPaddingLemmas.{pads_expanded, pads_prepended}
+use Rattle.grid.proofs.ColEditLemmas.{across-across}
+use Rattle.grid.proofs.CellThroughLemmas.{cell_past}
+use Rattle.grid.proofs.StepThroughLemmas.{through_cross, table-step}
+
+-- facts for each outcome, from others
+pub always_ok : {V E : Type 0} (r : Result V E) {P : Type 0} → P → OnOk r P
+always_ok (Ok v) p = p
+always_ok (Err e) p = tt
+
+pub map_ok : {V E : Type 0} (r : Result V E) {P Q : V → Type 0} → ((v : V) → P v → Q v) → IfOk r P → IfOk r Q
+map_ok (Ok v) f h = f v h
+map_ok (Err e) f h = h
+
+-- lines of some width that are too many alone have too many cells
+pub many_lines : (total width : ℕ) → 2 ^ 64 ≤ total → not (nat_eq width 0) ≡ too_many (total * width)
+many_lines total zero h = sym (le-ltb 18446744073709551615 (total * 0) (omega arith))
+many_lines total (suc width) h =
+    ⊎_elim {C = not (nat_eq (suc width) 0) ≡ too_many (total * suc width)}
+    (λ lt. rw (ne_eqb (suc width) 0 (λ e. omega (arith, e))) (sym (lt-ltb 18446744073709551615 (total * suc width) lt)))
+    (λ le. absurd (omega (arith, h, factor_small total (suc width) (omega arith) (omega (arith, le)))))
+    (cases_lt 18446744073709551615 (total * suc width))
+
+found_is : (found : Bool) (a b : ℕ) → IsTrue found ↔ (a ≤ b) → found ≡ not (nat_lt b a)
+found_is true a b h = sym (ap not (le-ltb b a (h.0 refl)))
+found_is false a b h = sym (ap not (⊎_elim {C = nat_lt b a ≡ true} (λ lt. lt-ltb b a lt) (λ le. absurd (true_is (h.1 le))) (cases_lt b a)))
+  where
+    true_is : IsTrue false → ⊥
+    true_is e = cc e
+
+one_past : (at n : ℕ) → not (nat_lt n (at + 1)) ≡ nat_lt at n
+one_past at n =
+    ⊎_elim {C = not (nat_lt n (at + 1)) ≡ nat_lt at n}
+    (λ lt. rw (lt-ltb n (at + 1) lt, le-ltb at n (omega arith)) refl)
+    (λ le. rw (le-ltb n (at + 1) le, lt-ltb at n (omega arith)) refl)
+    (cases_lt n (at + 1))
+
+pad_none : (T : Type 0) (b : Bool) (m n k : ℕ) → edit_refusal m n (pad_edit {T = T} b k) ≡ pad_refusal m n k
+pad_none T true m n k = refl
+pad_none T false m n k = refl
+
+module _ {T : Type 0} where
+  -- an edit of rows by whether it is refused
+  pub done_rows : (d : T) (e : Edit T) (t : List (List T)) → edit_refusal (row_count t) (col_count t) e ≡ None → after_effect d Row (effect (row_count t) e) t ≡ step_rows d (lines Row e) t
+  unfolding step_rows
+  done_rows d e t none = rw none refl
+
+  pub done_reply : (e : Edit T) (t : List (List T)) → edit_refusal (row_count t) (col_count t) e ≡ None → edit_reply Row e (row_count t) t ≡ step_reply (lines Row e) t
+  unfolding step_reply
+  done_reply e t none = rw none refl
+
+  pub refused_rows : (d : T) (e : Edit T) (t : List (List T)) (r : Refusal) → edit_refusal (row_count t) (col_count t) e ≡ Some r → t ≡ step_rows d (lines Row e) t
+  unfolding step_rows
+  refused_rows d e t r some = rw some refl
+
+  pub refused_reply : (e : Edit T) (t : List (List T)) (r : Refusal) → edit_refusal (row_count t) (col_count t) e ≡ Some r → refused r ≡ step_reply (lines Row e) t
+  unfolding step_reply
+  refused_reply e t r some = rw some refl
+
+  -- a cell that isn't there
+  pub get_past : (t : List (List T)) → IsTable t → (r c : ℕ) → in_range (row_count t) (col_count t) (r, c) ≡ false → cell_is None ≡ step_reply (get r c) t
+  unfolding step_reply
+  get_past t h r c e = ap cell_is (sym (cell_past t h r c e))
+
+  -- a row that is read
+  pub read_some : (at : ℕ) (t : List (List T)) → at < row_count t → line_is (Some (row t at)) ≡ step_reply (lines Row (read at)) t
+  read_some at t lt = ap line_is (sym (slice_get-get_or t at [] lt)) ∙ done_reply (read at) t refl
+
+  pub read_none : (at : ℕ) (t : List (List T)) → row_count t ≤ at → line_is None ≡ step_reply (lines Row (read at)) t
+  read_none at t le = ap line_is (sym (slice_get_past t at le)) ∙ done_reply (read at) t refl
+
+  pub read_rows : (d : T) (at : ℕ) (t : List (List T)) → t ≡ step_rows d (lines Row (read at)) t
+  read_rows d at t = done_rows d (read at) t refl
+
+  -- a line that is inserted
+  pub insert_done : (d : T) (at : ℕ) (line : List T) (t : List (List T)) → insert_refusal (row_count t) (col_count t) at (line ∷ []) ≡ None → insert t at line ≡ step_rows d (lines Row (insert_at at line)) t
+  insert_done d at line t none = sym (put_line at line t) ∙ done_rows d (insert_at at line) t none
+
+  pub insert_replied : (at : ℕ) (line : List T) (t : List (List T)) → insert_refusal (row_count t) (col_count t) at (line ∷ []) ≡ None → ◌≡◌ {A = ReplyValue T} done (step_reply (lines Row (insert_at at line)) t)
+  insert_replied at line t none = done_reply (insert_at at line) t none
+
+  pub insert_refused : (d : T) (at : ℕ) (line : List T) (t : List (List T)) (r : Refusal) → insert_refusal (row_count t) (col_count t) at (line ∷ []) ≡ Some r → t ≡ step_rows d (lines Row (insert_at at line)) t
+  insert_refused d at line t r some = refused_rows d (insert_at at line) t r some
+
+  -- several lines
+  pub insert_all_done : (d : T) (at : ℕ) (ls t : List (List T)) → insert_refusal (row_count t) (col_count t) at ls ≡ None → insert_rows at ls t ≡ step_rows d (lines Row (insert_all at ls)) t
+  insert_all_done d at ls t none = done_rows d (insert_all at ls) t none
+
+  pub insert_all_replied : (at : ℕ) (ls t : List (List T)) → insert_refusal (row_count t) (col_count t) at ls ≡ None → ◌≡◌ {A = ReplyValue T} done (step_reply (lines Row (insert_all at ls)) t)
+  insert_all_replied at ls t none = done_reply (insert_all at ls) t none
+
+  pub insert_all_refused : (d : T) (at : ℕ) (ls t : List (List T)) (r : Refusal) → insert_refusal (row_count t) (col_count t) at ls ≡ Some r → t ≡ step_rows d (lines Row (insert_all at ls)) t
+  insert_all_refused d at ls t r some = refused_rows d (insert_all at ls) t r some
+
+  -- a push is an insert at the end
+  pub push_rows : (d : T) (at : ℕ) (line : List T) (t : List (List T)) → at ≡ row_count t → step_rows d (lines Row (insert_at at line)) t ≡ step_rows d (lines Row (push line)) t
+  unfolding step_rows
+  push_rows d at line t e = rw e refl
+
+  pub push_reply : (at : ℕ) (line : List T) (t : List (List T)) → at ≡ row_count t → step_reply (lines Row (insert_at at line)) t ≡ step_reply (lines Row (push line)) t
+  unfolding step_reply
+  push_reply at line t e = rw e refl
+
+  -- a row that is removed
+  range_is : (d : T) (i k : ℕ) (t : List (List T)) (b : Bool) → after_effect d Row (if b then nothing else removes i k) t ≡ (if b then t else without_rows i k t)
+  range_is d i k t true = refl
+  range_is d i k t false = refl
+
+  pub removed_rows : (d : T) (at : ℕ) (t : List (List T)) → remove t at ≡ step_rows d (lines Row (remove_at at)) t
+  removed_rows d at t =
+      ⊎_elim {C = remove t at ≡ after_effect d Row (range_effect (row_count t) at 1) t}
+      (λ lt. remove-past at t (omega arith) ∙ sym (range_is d at 1 t (nat_lt (row_count t) (at + 1)) ∙ rw (lt-ltb (row_count t) (at + 1) lt) refl))
+      (λ le. sym (take_line at t) ∙ sym (range_is d at 1 t (nat_lt (row_count t) (at + 1)) ∙ rw (le-ltb (row_count t) (at + 1) le) refl))
+      (cases_lt (row_count t) (at + 1))
+      ∙ done_rows d (remove_at at) t refl
+
+  pub removed_reply : {A : Type 0} (at : ℕ) (t : List (List T)) (taken : Option (Vec T A)) → MatchOption taken (row_count t ≤ at) (λ line. slice_get t at ≡ Some line.items) → ◌≡◌ {A = ReplyValue T} (line_is (option_map (λ l. l.items) taken)) (step_reply (lines Row (remove_at at)) t)
+  removed_reply at t None h = ap line_is (sym (slice_get_past t at h)) ∙ done_reply (remove_at at) t refl
+  removed_reply at t (Some line) h = ap line_is (sym h) ∙ done_reply (remove_at at) t refl
+
+  -- popping is removing the last
+  pub pop_rows : (d : T) (at : ℕ) (t : List (List T)) → at ≡ row_count t - 1 → step_rows d (lines Row (remove_at at)) t ≡ step_rows d (lines Row pop) t
+  unfolding step_rows
+  pop_rows d at t e = rw e refl
+
+  pub pop_reply : (at : ℕ) (t : List (List T)) → at ≡ row_count t - 1 → step_reply (lines Row (remove_at at)) t ≡ step_reply (lines Row pop) t
+  unfolding step_reply
+  pop_reply at t e = rw e refl
+
+  -- rows that are deleted
+  pub range_rows : (d : T) (found : Bool) (start count : ℕ) (t : List (List T)) → IsTrue found ↔ (start + count ≤ row_count t) → (if found then without_rows start count t else t) ≡ step_rows d (lines Row (delete_range start count)) t
+  range_rows d found start count t h =
+      rw (found_is found (start + count) (row_count t) h) (by (nat_lt (row_count t) (start + count)))
+      ∙ (sym (range_is d start count t (nat_lt (row_count t) (start + count))) ∙ done_rows d (delete_range start count) t refl)
+    where
+      by : (b : Bool) → (if not b then without_rows start count t else t) ≡ (if b then t else without_rows start count t)
+      by true = refl
+      by false = refl
+
+  pub range_reply : (found : Bool) (start count : ℕ) (t : List (List T)) → IsTrue found ↔ (start + count ≤ row_count t) → ◌≡◌ {A = ReplyValue T} (flag_is found) (step_reply (lines Row (delete_range start count)) t)
+  range_reply found start count t h = ap flag_is (found_is found (start + count) (row_count t) h) ∙ done_reply (delete_range start count) t refl
+
+  -- deleting one row
+  pub delete_rows_one : (d : T) (at : ℕ) (t : List (List T)) → step_rows d (lines Row (delete_range at 1)) t ≡ step_rows d (lines Row (delete_at at)) t
+  unfolding step_rows
+  delete_rows_one d at t = refl
+
+  pub delete_reply_one : (at : ℕ) (t : List (List T)) → step_reply (lines Row (delete_range at 1)) t ≡ step_reply (lines Row (delete_at at)) t
+  delete_reply_one at t =
+      sym (done_reply (delete_range at 1) t refl) ∙ (ap flag_is (one_past at (row_count t)) ∙ done_reply (delete_at at) t refl)
+
+  -- padding
+  pub padded_rows : (d : T) (P : T → Type 0) (b : Bool) (at k : ℕ) (t new : List (List T)) → at ≡ (if b then row_count t else 0) → PadsRows P at (padding_count k t) t new → ((x : T) → P x → x ≡ d) → pad_refusal (row_count t) (col_count t) k ≡ None → new ≡ step_rows d (lines Row (pad_edit b k)) t
+  padded_rows d P true at k t new e p one none = pads_expanded P k d t new (rw e at p) one ∙ done_rows d (expand k) t none
+  padded_rows d P false at k t new e p one none = pads_prepended P k d t new (rw e at p) one ∙ done_rows d (prepend k) t none
+
+  pub padded_reply : (b : Bool) (k : ℕ) (t : List (List T)) → pad_refusal (row_count t) (col_count t) k ≡ None → ◌≡◌ {A = ReplyValue T} done (step_reply (lines Row (pad_edit b k)) t)
+  padded_reply true k t none = done_reply (expand k) t none
+  padded_reply false k t none = done_reply (prepend k) t none
+
+  pub pad_refused_rows : (d : T) (b : Bool) (k : ℕ) (t : List (List T)) (r : Refusal) → pad_refusal (row_count t) (col_count t) k ≡ Some r → t ≡ step_rows d (lines Row (pad_edit b k)) t
+  pad_refused_rows d b k t r some = refused_rows d (pad_edit b k) t r (pad_none T b (row_count t) (col_count t) k ∙ some)
+
+  pub pad_refused_reply : (b : Bool) (k : ℕ) (t : List (List T)) (r : Refusal) → pad_refusal (row_count t) (col_count t) k ≡ Some r → refused r ≡ step_reply (lines Row (pad_edit b k)) t
+  pad_refused_reply b k t r some = refused_reply (pad_edit b k) t r (pad_none T b (row_count t) (col_count t) k ∙ some)
+
+  -- an edit of rows between two transposes
+  pub crossed_rows : (d : T) (e : Edit T) (t mid grown new : List (List T)) → IsTable t → mid ≡ act Transpose t → grown ≡ step_rows d (lines Row e) mid → new ≡ act Transpose grown → new ≡ step_rows d (lines Col e) t
+  crossed_rows d e t mid grown new h transposed step back =
+      back
+      ∙ (ap (act Transpose) (step ∙ (ap (step_rows d (lines Row e)) transposed ∙ (through_cross (lines Row e) t h).rows d))
+      ∙ across-across (step_rows d (lines Col e) t) (table-step d (lines Col e) t h))
+
+  plain_edit : (a : Axis) (e : Edit T) (count : ℕ) (t : List (List T)) → turned_reply Transpose Row (edit_reply a e count t) ≡ edit_reply a e count t
+  plain_edit a (read i) count t = refl
+  plain_edit a e count t = refl
+
+  plain_unless : (p : Option Refusal) (a : Axis) (e : Edit T) (count : ℕ) (t : List (List T)) → turned_reply Transpose Row (unless_refused p (λ r. refused r) (edit_reply a e count t)) ≡ unless_refused p (λ r. refused r) (edit_reply a e count t)
+  plain_unless None a e count t = plain_edit a e count t
+  plain_unless (Some r) a e count t = refl
+
+  turned_plain : (e : Edit T) (t : List (List T)) → turned_reply Transpose Row (step_reply (lines Col e) t) ≡ step_reply (lines Col e) t
+  unfolding step_reply
+  turned_plain e t = plain_unless _ Col e (col_count t) t
+
+  pub crossed_reply : (e : Edit T) (t mid : List (List T)) (q : ReplyValue T) → IsTable t → mid ≡ act Transpose t → q ≡ step_reply (lines Row e) mid → q ≡ step_reply (lines Col e) t
+  crossed_reply e t mid q h transposed step =
+      step ∙ (ap (step_reply (lines Row e)) transposed ∙ ((through_cross (lines Row e) t h).reply Row refl ∙ turned_plain e t))

@@ -1,0 +1,65 @@
+//! Runs of commands.
+ghost use Rattle.std.specs.Prelude.{IfOk, IfErr, map, take};
+ghost use Rattle.grid.specs.Command.{command_value};
+ghost use Rattle.grid.specs.Reply.{reply_value};
+ghost use Rattle.grid.specs.Run.{Ran, MayStop};
+
+use crate::Grid;
+use crate::command::{Command, Reply};
+use grid_base::Tally;
+use std::alloc::{Allocator, Global};
+
+/// A run that found no memory.
+///
+/// The grid has the rows after the first `done` commands, and `replies` are theirs.
+#[derive(Drop)]
+#[derive_where(Debug, PartialEq; T)]
+pub struct RunStopped<T, A: Allocator = Global> {
+    /// How many commands were done.
+    pub done: usize,
+    /// Their replies.
+    pub replies: Vec<Reply<T, A>, A>,
+}
+
+/// Does a list of commands in turn, each as [`Grid::step`] does it, and returns their replies.
+///
+///     [[1, 2]]   run([Apply(FlipCols), PushRow([3, 4]), Size])   [Done, Done, Size(2, 2)]   [[2, 1], [3, 4]]
+///
+/// The list of replies is reserved before the first command.
+///
+/// Fails: where memory is refused, at a command that takes memory, or before the first command of a list that isn't
+/// empty. The grid has the rows after the commands that were done, and their replies come with the error; the commands
+/// that remain are dropped.
+/// Cost: that of the commands.
+pub fn run<T, A: Allocator>(
+    alloc: A,
+    grid: &mut Grid<T, A>,
+    commands: Vec<Command<T, A>, A>,
+    tally: &mut Tally,
+) -> Result<Vec<Reply<T, A>, A>, RunStopped<T, A>>
+where
+    T: Clone + Default + Drop,
+    A: Clone,
+    ensures ran { IfOk result (λ replies. Ran T.is_clone T.is_default (map command_value commands.items)
+        grid.old grid.new tally.old tally.new (map reply_value replies.items)) }
+    ensures stopped { IfErr result (λ stop. Ran T.is_clone T.is_default
+        (take stop.done (map command_value commands.items))
+        grid.old grid.new tally.old tally.new (map reply_value stop.replies.items)) }
+    ensures stop { IfErr result
+        (λ stop. MayStop (map command_value commands.items) stop.done grid.new.rows) }
+{
+    let mut replies = Vec::new(alloc);
+    if replies.reserve_exact(commands.len()).is_err() {
+        return Err(RunStopped { done: 0, replies });
+    }
+    for command in commands {
+        match grid.step(command, tally) {
+            Ok(reply) => replies.push_reserved(reply),
+            Err(_) => {
+                let done = replies.len();
+                return Err(RunStopped { done, replies });
+            }
+        }
+    }
+    Ok(replies)
+}

@@ -1,0 +1,280 @@
+//! The step of a grid: one command.
+ghost use Rattle.std.specs.Prelude.{◌≡◌, ◌+◌, ◌≤◌, OnOk, OnErr, IfOk, IsTrue, nat_lt};
+ghost use Rattle.grid_base.specs.Table.{row_count, col_count, IsTable};
+ghost use Rattle.grid_base.specs.Symmetry.{act, order_after, half};
+ghost use Rattle.grid_base.specs.Tally.{saturating_count};
+ghost use Rattle.grid_base.specs.Clones.{ClonesAreEqual};
+ghost use Rattle.grid_base.specs.declared.words.Symmetry.{Symmetry};
+ghost use Rattle.grid.specs.Make.{IsOnlyDefault};
+ghost use Rattle.grid.specs.Command.{command_value, get, set_cell, swap_cells, lines, fill, apply};
+ghost use Rattle.grid.specs.Reply.{reply_value};
+ghost use Rattle.grid.specs.Refusal.{in_range};
+ghost use Rattle.grid.specs.LineEdit.{edit_value, request_value};
+ghost use Rattle.grid.specs.Step.{step_rows, step_reply, takes_memory, RowsAreKnown};
+ghost use Rattle.grid.specs.Cost.{command_symmetry, step_price, step_shift};
+
+use super::lines::{LineEdit, edit_cols, edit_rows};
+use crate::Grid;
+use crate::command::{Axis, Command, Refusal, Reply};
+use grid_base::{Symmetry, Tally};
+use std::alloc::{AllocError, Allocator};
+
+/// A command as it is read: the commands on lines are one, with its axis.
+#[derive(Drop)]
+pub(crate) enum Request<T, A: Allocator> {
+    Size,
+    Get(usize, usize),
+    Set(usize, usize, T),
+    Swap((usize, usize), (usize, usize)),
+    Lines(Axis, LineEdit<T, A>),
+    Fill(T),
+    Clear,
+    Apply(Symmetry),
+}
+
+// Reads a command.
+fn request_of<T, A: Allocator>(command: Command<T, A>) -> Request<T, A>
+    ensures { request_value result ≡ command_value command }
+{
+    match command {
+        Command::Size => Request::Size,
+        Command::Get(row, col) => Request::Get(row, col),
+        Command::Row(at) => Request::Lines(Axis::Row, LineEdit::Read(at)),
+        Command::Col(at) => Request::Lines(Axis::Col, LineEdit::Read(at)),
+        Command::Set(row, col, value) => Request::Set(row, col, value),
+        Command::Swap(a, b) => Request::Swap(a, b),
+        Command::PushRow(line) => Request::Lines(Axis::Row, LineEdit::Push(line)),
+        Command::PushCol(line) => Request::Lines(Axis::Col, LineEdit::Push(line)),
+        Command::InsertRow(at, line) => Request::Lines(Axis::Row, LineEdit::Insert(at, line)),
+        Command::InsertCol(at, line) => Request::Lines(Axis::Col, LineEdit::Insert(at, line)),
+        Command::InsertRows(at, lines) => Request::Lines(Axis::Row, LineEdit::InsertAll(at, lines)),
+        Command::InsertCols(at, lines) => Request::Lines(Axis::Col, LineEdit::InsertAll(at, lines)),
+        Command::PopRow => Request::Lines(Axis::Row, LineEdit::Pop),
+        Command::PopCol => Request::Lines(Axis::Col, LineEdit::Pop),
+        Command::RemoveRow(at) => Request::Lines(Axis::Row, LineEdit::Remove(at)),
+        Command::RemoveCol(at) => Request::Lines(Axis::Col, LineEdit::Remove(at)),
+        Command::DeleteRow(at) => Request::Lines(Axis::Row, LineEdit::Delete(at)),
+        Command::DeleteCol(at) => Request::Lines(Axis::Col, LineEdit::Delete(at)),
+        Command::DeleteRows(start, count) => {
+            Request::Lines(Axis::Row, LineEdit::DeleteRange(start, count))
+        }
+        Command::DeleteCols(start, count) => {
+            Request::Lines(Axis::Col, LineEdit::DeleteRange(start, count))
+        }
+        Command::ExpandRows(count) => Request::Lines(Axis::Row, LineEdit::Expand(count)),
+        Command::ExpandCols(count) => Request::Lines(Axis::Col, LineEdit::Expand(count)),
+        Command::PrependRows(count) => Request::Lines(Axis::Row, LineEdit::Prepend(count)),
+        Command::PrependCols(count) => Request::Lines(Axis::Col, LineEdit::Prepend(count)),
+        Command::Fill(value) => Request::Fill(value),
+        Command::Clear => Request::Clear,
+        Command::Apply(symmetry) => Request::Apply(symmetry),
+    }
+}
+
+// Whether there is a cell in a row and a column.
+fn has_cell<T, A: Allocator>(grid: &Grid<T, A>, at: (usize, usize)) -> bool
+    ensures { result ≡ in_range (row_count grid.now.rows) (col_count grid.now.rows) at }
+{
+    let (rows, cols) = grid.size();
+    at.0 < rows && at.1 < cols
+}
+
+// Reads a cell.
+#[tactic(auto, unfolding(crate::specs::Step::step_reply))]
+fn read_cell<T, A: Allocator>(
+    grid: &Grid<T, A>,
+    row: usize,
+    col: usize,
+) -> Result<Reply<T, A>, AllocError>
+where
+    T: Clone + Drop,
+    ensures reply { IfOk result (λ reply. ClonesAreEqual T.is_clone
+        → reply_value reply ≡ step_reply (get row col) grid.now.rows) }
+    ensures err_memory { OnErr result
+        (IsTrue (in_range (row_count grid.now.rows) (col_count grid.now.rows) (row, col))) }
+{
+    let _ = grid.size();
+    if !has_cell(grid, (row, col)) {
+        return Ok(Reply::Cell(None));
+    }
+    let copy = grid.get_unchecked(row, col).clone()?;
+    Ok(Reply::Cell(Some(copy)))
+}
+
+// Writes a cell.
+#[tactic(auto, unfolding(crate::specs::Step::step_rows, crate::specs::Step::step_reply))]
+fn write_cell<T: Drop, A: Allocator>(
+    grid: &mut Grid<T, A>,
+    row: usize,
+    col: usize,
+    value: T,
+) -> Reply<T, A>
+    ensures table { IsTable grid.new.rows }
+    ensures rows { (d : T) → grid.new.rows ≡ step_rows d (set_cell row col value) grid.old.rows }
+    ensures reply { reply_value result ≡ step_reply (set_cell row col value) grid.old.rows }
+    ensures order { grid.new.order ≡ grid.old.order }
+{
+    let written = has_cell(grid, (row, col));
+    if written {
+        *grid.get_unchecked_mut(row, col) = value;
+    }
+    let _ = grid.size();
+    if written {
+        Reply::Done
+    } else {
+        Reply::Refused(Refusal::Index)
+    }
+}
+
+// Exchanges two cells.
+#[tactic(auto, unfolding(crate::specs::Step::step_rows, crate::specs::Step::step_reply))]
+fn exchange_cells<T, A: Allocator>(
+    grid: &mut Grid<T, A>,
+    a: (usize, usize),
+    b: (usize, usize),
+) -> Reply<T, A>
+    ensures table { IsTable grid.new.rows }
+    ensures rows { (d : T) → grid.new.rows ≡ step_rows d (swap_cells a b) grid.old.rows }
+    ensures reply { reply_value result ≡ step_reply (swap_cells a b) grid.old.rows }
+    ensures order { grid.new.order ≡ grid.old.order }
+{
+    let (rows, cols) = grid.size();
+    if a.0 < rows && a.1 < cols && b.0 < rows && b.1 < cols {
+        grid.swap(a, b);
+        let _ = grid.size();
+        Reply::Done
+    } else {
+        Reply::Refused(Refusal::Index)
+    }
+}
+
+// Makes every cell the value.
+#[tactic(auto, unfolding(crate::specs::Step::step_rows, crate::specs::Step::step_reply))]
+fn fill_cells<T, A: Allocator>(grid: &mut Grid<T, A>, value: T) -> Result<Reply<T, A>, AllocError>
+where
+    T: Clone,
+    A: Clone,
+    ensures table { IsTable grid.new.rows }
+    ensures rows { OnOk result ((d : T) → ClonesAreEqual T.is_clone
+        → grid.new.rows ≡ step_rows d (fill value) grid.old.rows) }
+    ensures reply { IfOk result (λ reply.
+        reply_value reply ≡ step_reply (fill value) grid.old.rows) }
+    ensures order { grid.new.order ≡ grid.old.order }
+    ensures err_grid { OnErr result (grid.new ≡ grid.old) }
+    ensures err_memory { OnErr result (IsTrue (nat_lt 0 (row_count grid.old.rows))) }
+{
+    let _ = grid.size();
+    match grid.fill_clones(value) {
+        Ok(()) => {
+            let _ = grid.size();
+            Ok(Reply::Done)
+        }
+        Err(refused) => Err(refused),
+    }
+}
+
+// Edits the lines of an axis.
+fn edit_lines<T, A: Allocator>(
+    grid: &mut Grid<T, A>,
+    axis: Axis,
+    edit: LineEdit<T, A>,
+    tally: &mut Tally,
+) -> Result<Reply<T, A>, AllocError>
+where
+    T: Clone + Default + Drop,
+    A: Clone,
+    ensures table { IsTable grid.new.rows }
+    ensures rows { OnOk result ((d : T) → IsOnlyDefault T.is_default d
+        → grid.new.rows ≡ step_rows d (lines axis (edit_value edit)) grid.old.rows) }
+    ensures reply { IfOk result (λ reply. ClonesAreEqual T.is_clone
+        → reply_value reply ≡ step_reply (lines axis (edit_value edit)) grid.old.rows) }
+    ensures order { grid.new.order ≡ grid.old.order }
+    ensures symmetry { tally.new.symmetry ≡ tally.old.symmetry }
+    ensures shift { OnOk result (tally.new.shift ≡ saturating_count tally.old.shift
+        (step_shift (lines axis (edit_value edit)) grid.old.order
+        (row_count grid.old.rows) (col_count grid.old.rows))) }
+    ensures err_shift { OnErr result (tally.new.shift ≡ tally.old.shift) }
+    ensures err_grid { OnErr result (grid.new ≡ grid.old) }
+    ensures err_memory { OnErr result (IsTrue (takes_memory (lines axis (edit_value edit))
+        (row_count grid.old.rows) (col_count grid.old.rows))) }
+{
+    match axis {
+        Axis::Row => edit_rows(grid, edit, tally),
+        Axis::Col => edit_cols(grid, edit, tally),
+    }
+}
+
+impl<T, A: Allocator> Grid<T, A> {
+    /// Does a command, and returns its reply.
+    ///
+    ///     [[1, 2]]   step(PushRow([3, 4]))   Done                [[1, 2], [3, 4]]
+    ///     [[1, 2]]   step(PushRow([3]))      Refused(Length)     [[1, 2]]
+    ///
+    /// Adds the swaps of a symmetry to the symmetry count of the tally, and the cells that an expand, a prepend or a
+    /// delete moves to the shift count.
+    ///
+    /// Fails: where memory is refused; this comes only at a command that takes memory. The grid and the tally are
+    /// unchanged, and the command is dropped.
+    /// Cost: that of the call of the same name; a command on columns is that on rows between two transposes.
+    #[tactic(auto, unfolding(crate::specs::Step::step_rows, crate::specs::Step::step_reply))]
+    pub fn step(
+        &mut self,
+        command: Command<T, A>,
+        tally: &mut Tally,
+    ) -> Result<Reply<T, A>, AllocError>
+    where
+        T: Clone + Default + Drop,
+        A: Clone,
+        ensures table { IsTable self.new.rows }
+        ensures rows { OnOk result ((d : T)
+            → RowsAreKnown T.is_default T.is_clone d (command_value command)
+            → self.new.rows ≡ step_rows d (command_value command) self.old.rows) }
+        ensures applied { OnOk result ((s : Symmetry)
+            → command_value command ≡ apply s → self.new.rows ≡ act s self.old.rows) }
+        ensures reply { IfOk result (λ reply. ClonesAreEqual T.is_clone
+            → reply_value reply ≡ step_reply (command_value command) self.old.rows) }
+        ensures order { OnOk result (self.new.order
+            ≡ order_after (command_symmetry (command_value command)) self.old.order) }
+        ensures symmetry { OnOk result (tally.new.symmetry ≡ saturating_count tally.old.symmetry
+            (step_price (command_value command) (row_count self.old.rows) (col_count self.old.rows))) }
+        ensures shift { OnOk result (tally.new.shift
+            ≡ saturating_count tally.old.shift (step_shift (command_value command)
+            self.old.order (row_count self.old.rows) (col_count self.old.rows))) }
+
+        // No command costs more swaps for symmetries than half of the cells.
+        ensures half { tally.new.symmetry
+            ≤ tally.old.symmetry + half (row_count self.old.rows) (col_count self.old.rows) }
+
+        // An error comes at a command that takes memory, and changes nothing.
+        ensures err_grid { OnErr result (self.new ≡ self.old) }
+        ensures err_symmetry { OnErr result (tally.new.symmetry ≡ tally.old.symmetry) }
+        ensures err_shift { OnErr result (tally.new.shift ≡ tally.old.shift) }
+        ensures err_memory { OnErr result (IsTrue (takes_memory (command_value command)
+            (row_count self.old.rows) (col_count self.old.rows))) }
+    {
+        match request_of(command) {
+            Request::Size => {
+                let (rows, cols) = self.size();
+                Ok(Reply::Size(rows, cols))
+            }
+            Request::Get(row, col) => {
+                let _ = self.size();
+                read_cell(self, row, col)
+            }
+            Request::Set(row, col, value) => Ok(write_cell(self, row, col, value)),
+            Request::Swap(a, b) => Ok(exchange_cells(self, a, b)),
+            Request::Lines(axis, edit) => edit_lines(self, axis, edit, tally),
+            Request::Fill(value) => fill_cells(self, value),
+            Request::Clear => {
+                self.clear();
+                let _ = self.size();
+                Ok(Reply::Done)
+            }
+            Request::Apply(symmetry) => {
+                self.apply_counted(symmetry, tally);
+                let _ = self.size();
+                Ok(Reply::Done)
+            }
+        }
+    }
+}
