@@ -19,3 +19,4 @@ pub mod Walks
 pub mod AllCells
 pub mod Same
 pub mod Texts
+pub mod EditFails

@@ -3,6 +3,7 @@ ghost use Rattle.std.specs.Prelude.{◌≡◌, ◌↔◌, ◌+◌, ◌*◌, ◌^
 ghost use Rattle.grid_base.specs.Table.{row_count, col_count};
 ghost use Rattle.grid_base.specs.Tally.{saturating_count};
 ghost use Rattle.grid.specs.Edits.{PadsRows, PadsCols, padding_count, expanded_rows, expanded_cols, prepended_rows, prepended_cols};
+ghost use Rattle.grid.specs.EditFails.{PaddingFails};
 ghost use Rattle.grid.specs.Make.{IsOnlyDefault, ExceedsMax};
 ghost use Rattle.grid.specs.RowGroups.{RowsOpened};
 ghost use Rattle.grid.specs.Shift.{rows_added_shift, cols_added_shift};
@@ -53,14 +54,11 @@ impl<T, A: Allocator> Grid<T, A> {
         A: Clone,
         ensures padded { OnOk result (PadsRows T.is_default (row_count self.old.rows)
             (padding_count count self.old.rows) self.old.rows self.new.rows) }
-        ensures fixed { OnOk result ((d : T)
+        ensures one_default { OnOk result ((d : T)
             → IsOnlyDefault T.is_default d → self.new.rows ≡ expanded_rows count d self.old.rows) }
-        ensures too_large { IsErrOf result TooLarge ↔ ExceedsMax
-            (row_count self.old.rows + padding_count count self.old.rows)
-            (col_count self.old.rows) }
-        ensures none { padding_count count self.old.rows ≡ 0 → IsOk result }
         ensures order { self.new.order ≡ self.old.order }
-        ensures err { OnErr result (self.new ≡ self.old) }
+        ensures fails { PaddingFails (row_count self.old.rows + padding_count count self.old.rows)
+            (col_count self.old.rows) (padding_count count self.old.rows) self.old self.new result }
     {
         let mut tally = Tally::new();
         let end = self.rows();
@@ -81,14 +79,11 @@ impl<T, A: Allocator> Grid<T, A> {
         A: Clone,
         ensures padded { OnOk result (PadsCols T.is_default (col_count self.old.rows)
             (padding_count count self.old.rows) self.old.rows self.new.rows) }
-        ensures fixed { OnOk result ((d : T)
+        ensures one_default { OnOk result ((d : T)
             → IsOnlyDefault T.is_default d → self.new.rows ≡ expanded_cols count d self.old.rows) }
-        ensures too_large { IsErrOf result TooLarge ↔ ExceedsMax
-            (col_count self.old.rows + padding_count count self.old.rows)
-            (row_count self.old.rows) }
-        ensures none { padding_count count self.old.rows ≡ 0 → IsOk result }
         ensures order { self.new.order ≡ self.old.order }
-        ensures err { OnErr result (self.new ≡ self.old) }
+        ensures fails { PaddingFails (col_count self.old.rows + padding_count count self.old.rows)
+            (row_count self.old.rows) (padding_count count self.old.rows) self.old self.new result }
     {
         let mut tally = Tally::new();
         let end = self.cols();
@@ -107,14 +102,11 @@ impl<T, A: Allocator> Grid<T, A> {
         A: Clone,
         ensures padded { OnOk result (PadsRows T.is_default 0
             (padding_count count self.old.rows) self.old.rows self.new.rows) }
-        ensures fixed { OnOk result ((d : T)
+        ensures one_default { OnOk result ((d : T)
             → IsOnlyDefault T.is_default d → self.new.rows ≡ prepended_rows count d self.old.rows) }
-        ensures too_large { IsErrOf result TooLarge ↔ ExceedsMax
-            (row_count self.old.rows + padding_count count self.old.rows)
-            (col_count self.old.rows) }
-        ensures none { padding_count count self.old.rows ≡ 0 → IsOk result }
         ensures order { self.new.order ≡ self.old.order }
-        ensures err { OnErr result (self.new ≡ self.old) }
+        ensures fails { PaddingFails (row_count self.old.rows + padding_count count self.old.rows)
+            (col_count self.old.rows) (padding_count count self.old.rows) self.old self.new result }
     {
         let mut tally = Tally::new();
         self.pad_rows_counted(0, count, &mut tally)
@@ -132,14 +124,11 @@ impl<T, A: Allocator> Grid<T, A> {
         A: Clone,
         ensures padded { OnOk result (PadsCols T.is_default 0
             (padding_count count self.old.rows) self.old.rows self.new.rows) }
-        ensures fixed { OnOk result ((d : T)
+        ensures one_default { OnOk result ((d : T)
             → IsOnlyDefault T.is_default d → self.new.rows ≡ prepended_cols count d self.old.rows) }
-        ensures too_large { IsErrOf result TooLarge ↔ ExceedsMax
-            (col_count self.old.rows + padding_count count self.old.rows)
-            (row_count self.old.rows) }
-        ensures none { padding_count count self.old.rows ≡ 0 → IsOk result }
         ensures order { self.new.order ≡ self.old.order }
-        ensures err { OnErr result (self.new ≡ self.old) }
+        ensures fails { PaddingFails (col_count self.old.rows + padding_count count self.old.rows)
+            (row_count self.old.rows) (padding_count count self.old.rows) self.old self.new result }
     {
         // shows the prover that the rows are a table
         let _ = &self.flat;

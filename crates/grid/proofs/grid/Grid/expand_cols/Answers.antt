@@ -2,6 +2,6 @@ use Rattle.grid.proofs.TransposedEditLemmas.{on_ok}
 use Rattle.grid.proofs.SeenPaddingLemmas.{cols_expanded}
 use Rattle.grid.proofs.grid.Grid.expand_cols.Goals as goal
 
-pub returns-clause-fixed : goal.returns-clause-fixed
-returns-clause-fixed g c =
+pub returns-clause-one_default : goal.returns-clause-one_default
+returns-clause-one_default g c =
     on_ok c.pad_cols_counted.result (λ p d one. cols_expanded _ c.args.count d _ _ c.cols-end.ensures.table p one) (rw c.cols-end.ensures.cols at c.pad_cols_counted.ensures.padded)

@@ -3,6 +3,6 @@ use Rattle.grid.proofs.TransposedEditLemmas.{on_ok}
 use Rattle.grid.proofs.SeenPaddingLemmas.{cols_prepended}
 use Rattle.grid.proofs.grid.Grid.prepend_cols.Goals as goal
 
-pub returns-clause-fixed : goal.returns-clause-fixed
-returns-clause-fixed g c =
+pub returns-clause-one_default : goal.returns-clause-one_default
+returns-clause-one_default g c =
     on_ok c.pad_cols_counted.result (λ p d one. cols_prepended _ c.args.count d _ _ (seen_table _ _ _ _ _ c.self.invariant c.self.view_is) p one) c.pad_cols_counted.ensures.padded
