@@ -3,7 +3,7 @@ ghost use Rattle.std.specs.Prelude.{◌≡◌, ◌↔◌, ◌+◌, ◌*◌, ◌^
 ghost use Rattle.grid_base.specs.Table.{row_count, col_count, IsTable};
 ghost use Rattle.grid_base.specs.Gather.{items_of_each};
 ghost use Rattle.grid.specs.Edits.{FitsRow, FitsCol, insert_col, insert_rows, insert_cols};
-ghost use Rattle.grid.specs.Make.{ExceedsMax};
+ghost use Rattle.grid.specs.EditFails.{LineFails, LinesFail};
 ghost use Rattle.grid.specs.RowGroups.{RowsInserted};
 ghost use Rattle.grid.specs.declared.error.GridError.TheVariants.{TooLarge};
 
@@ -60,10 +60,8 @@ impl<T, A: Allocator> Grid<T, A> {
         ensures rows { OnOk result
             (self.new.rows ≡ insert self.old.rows (row_count self.old.rows) line.items) }
         ensures order { self.new.order ≡ self.old.order }
-        ensures too_large { IsErrAnd result (λ refused. refused.fault ≡ TooLarge)
-            ↔ ExceedsMax (row_count self.old.rows + 1) (length line.items) }
-        ensures line { IfErr result (λ refused. refused.line.items ≡ line.items) }
-        ensures err { OnErr result (self.new ≡ self.old) }
+        ensures fails { LineFails (row_count self.old.rows + 1) (length line.items)
+            line.items self.old self.new result }
     {
         let at = self.rows();
         self.insert_row(at, line)
@@ -84,10 +82,8 @@ impl<T, A: Allocator> Grid<T, A> {
         ensures rows { OnOk result
             (self.new.rows ≡ insert_col (col_count self.old.rows) line.items self.old.rows) }
         ensures order { self.new.order ≡ self.old.order }
-        ensures too_large { IsErrAnd result (λ refused. refused.fault ≡ TooLarge)
-            ↔ ExceedsMax (col_count self.old.rows + 1) (length line.items) }
-        ensures line { IfErr result (λ refused. refused.line.items ≡ line.items) }
-        ensures err { OnErr result (self.new ≡ self.old) }
+        ensures fails { LineFails (col_count self.old.rows + 1) (length line.items)
+            line.items self.old self.new result }
     {
         let at = self.cols();
         self.insert_col(at, line)
@@ -108,10 +104,8 @@ impl<T, A: Allocator> Grid<T, A> {
         requires place { at ≤ row_count self.old.rows }
         ensures rows { OnOk result (self.new.rows ≡ insert self.old.rows at line.items) }
         ensures order { self.new.order ≡ self.old.order }
-        ensures too_large { IsErrAnd result (λ refused. refused.fault ≡ TooLarge)
-            ↔ ExceedsMax (row_count self.old.rows + 1) (length line.items) }
-        ensures line { IfErr result (λ refused. refused.line.items ≡ line.items) }
-        ensures err { OnErr result (self.new ≡ self.old) }
+        ensures fails { LineFails (row_count self.old.rows + 1) (length line.items)
+            line.items self.old self.new result }
     {
         let mut line = line;
         let width = line.len();
@@ -151,10 +145,8 @@ impl<T, A: Allocator> Grid<T, A> {
         requires place { at ≤ col_count self.old.rows }
         ensures rows { OnOk result (self.new.rows ≡ insert_col at line.items self.old.rows) }
         ensures order { self.new.order ≡ self.old.order }
-        ensures too_large { IsErrAnd result (λ refused. refused.fault ≡ TooLarge)
-            ↔ ExceedsMax (col_count self.old.rows + 1) (length line.items) }
-        ensures line { IfErr result (λ refused. refused.line.items ≡ line.items) }
-        ensures err { OnErr result (self.new ≡ self.old) }
+        ensures fails { LineFails (col_count self.old.rows + 1) (length line.items)
+            line.items self.old self.new result }
     {
         // shows the prover that the rows are a table
         let _ = &self.flat;
@@ -188,11 +180,8 @@ impl<T, A: Allocator> Grid<T, A> {
         ensures rows { OnOk result
             (self.new.rows ≡ insert_rows at (items_of_each lines.items) self.old.rows) }
         ensures order { self.new.order ≡ self.old.order }
-        ensures none { lines.items ≡ [] → IsOk result }
-        ensures too_large { IsErrAnd result (λ refused. refused.fault ≡ TooLarge) ↔ ExceedsMax
-            (row_count self.old.rows + length lines.items) (col_count (items_of_each lines.items)) }
-        ensures lines { IfErr result (λ refused. refused.lines.items ≡ lines.items) }
-        ensures err { OnErr result (self.new ≡ self.old) }
+        ensures fails { LinesFail (row_count self.old.rows + length lines.items)
+            (col_count (items_of_each lines.items)) lines.items self.old self.new result }
     {
         let mut lines = lines;
         let count = lines.len();
@@ -249,11 +238,8 @@ impl<T, A: Allocator> Grid<T, A> {
         ensures rows { OnOk result
             (self.new.rows ≡ insert_cols at (items_of_each lines.items) self.old.rows) }
         ensures order { self.new.order ≡ self.old.order }
-        ensures none { lines.items ≡ [] → IsOk result }
-        ensures too_large { IsErrAnd result (λ refused. refused.fault ≡ TooLarge) ↔ ExceedsMax
-            (col_count self.old.rows + length lines.items) (col_count (items_of_each lines.items)) }
-        ensures lines { IfErr result (λ refused. refused.lines.items ≡ lines.items) }
-        ensures err { OnErr result (self.new ≡ self.old) }
+        ensures fails { LinesFail (col_count self.old.rows + length lines.items)
+            (col_count (items_of_each lines.items)) lines.items self.old self.new result }
     {
         // shows the prover that the rows are a table
         let _ = &self.flat;

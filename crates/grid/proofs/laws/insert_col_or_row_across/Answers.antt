@@ -36,7 +36,7 @@ pub returns-clause-refused_row : goal.returns-clause-refused_row
 returns-clause-refused_row g c =
     on_err c.insert_row-as_row.result
     (λ same. twice_across _ _ _ _ (subst (λ s. IsTable s.rows) (sym c.requires.same) c.size.ensures.table) c.transpose.ensures.rows c.transpose.ensures.order same c.transpose-2.ensures.rows c.transpose-2.ensures.order)
-    c.insert_row-as_row.ensures.err
+    c.insert_row-as_row.ensures.fails.unchanged
 
 pub returns-clause-law : goal.returns-clause-law
 returns-clause-law g c =

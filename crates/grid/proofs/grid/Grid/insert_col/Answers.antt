@@ -17,11 +17,14 @@ returns-clause-rows g c =
     on_ok c.insert_row-inserted.result (col_inserted c.args.at c.args.line.items _ _ _ _ (seen_table _ _ _ _ _ c.self.invariant c.self.view_is) c.requires.fits c.requires.nonempty c.requires.place c.transpose.ensures.rows c.transpose-2.ensures.rows)
     c.insert_row-inserted.ensures.rows
 
-pub returns-clause-too_large : goal.returns-clause-too_large
-returns-clause-too_large g c = rw (c.transpose.ensures.rows, rows-act Transpose c.args.self.now.rows) at c.insert_row-inserted.ensures.too_large
-
-pub returns-clause-err : goal.returns-clause-err
-returns-clause-err g c =
-    on_err c.insert_row-inserted.result
-    (λ same. twice_across _ _ _ _ (seen_table _ _ _ _ _ c.self.invariant c.self.view_is) c.transpose.ensures.rows c.transpose.ensures.order same c.transpose-2.ensures.rows c.transpose-2.ensures.order)
-    c.insert_row-inserted.ensures.err
+pub returns-clause-fails : goal.returns-clause-fails
+returns-clause-fails g c =
+    let fails = c.insert_row-inserted.ensures.fails in
+    record {
+      too_large = rw (c.transpose.ensures.rows, rows-act Transpose c.args.self.now.rows) at fails.too_large;
+      line_back = fails.line_back;
+      unchanged =
+          on_err c.insert_row-inserted.result
+          (λ same. twice_across _ _ _ _ (seen_table _ _ _ _ _ c.self.invariant c.self.view_is) c.transpose.ensures.rows c.transpose.ensures.order same c.transpose-2.ensures.rows c.transpose-2.ensures.order)
+          fails.unchanged;
+    }

@@ -19,11 +19,15 @@ returns-clause-rows g c =
     on_ok c.insert_rows-inserted.result (cols_inserted c.args.at _ _ _ _ _ (seen_table _ _ _ _ _ c.self.invariant c.self.view_is) c.requires.table (λ some. c.requires.fits (omega (arith, rows-vecs c.args.lines.items))) c.requires.place c.transpose.ensures.rows c.transpose-2.ensures.rows)
     c.insert_rows-inserted.ensures.rows
 
-pub returns-clause-too_large : goal.returns-clause-too_large
-returns-clause-too_large g c = rw (c.transpose.ensures.rows, rows-act Transpose c.args.self.now.rows) at c.insert_rows-inserted.ensures.too_large
-
-pub returns-clause-err : goal.returns-clause-err
-returns-clause-err g c =
-    on_err c.insert_rows-inserted.result
-    (λ same. twice_across _ _ _ _ (seen_table _ _ _ _ _ c.self.invariant c.self.view_is) c.transpose.ensures.rows c.transpose.ensures.order same c.transpose-2.ensures.rows c.transpose-2.ensures.order)
-    c.insert_rows-inserted.ensures.err
+pub returns-clause-fails : goal.returns-clause-fails
+returns-clause-fails g c =
+    let fails = c.insert_rows-inserted.ensures.fails in
+    record {
+      too_large = rw (c.transpose.ensures.rows, rows-act Transpose c.args.self.now.rows) at fails.too_large;
+      none = fails.none;
+      lines_back = fails.lines_back;
+      unchanged =
+          on_err c.insert_rows-inserted.result
+          (λ same. twice_across _ _ _ _ (seen_table _ _ _ _ _ c.self.invariant c.self.view_is) c.transpose.ensures.rows c.transpose.ensures.order same c.transpose-2.ensures.rows c.transpose-2.ensures.order)
+          fails.unchanged;
+    }

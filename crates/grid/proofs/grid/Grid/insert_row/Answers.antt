@@ -1,14 +1,18 @@
-use Rattle.std.proofs.Common.{◌≡◌, ◌+◌, ◌*◌, length, refl, ◌∙◌, ap, arith, length-append}
+use Rattle.std.proofs.Common.{rules, ◌≡◌, ◌+◌, ◌*◌, length, refl, ◌∙◌, ap, arith, length-append}
 use Rattle.grid_base.specs.Table.{row_count}
 use Rattle.grid.proofs.SeenLemmas.{seen_rows}
 use Rattle.grid.proofs.SeenEditLemmas.{cells_fit, rows_inserted, no_room, room}
 use Rattle.grid.proofs.EditSizeLemmas.{HoldsSize-filled}
 use Rattle.grid.proofs.grid.Grid.insert_row.Goals as goal
 
-pub returns-then-not-has_room-clause-too_large : goal.returns-then-not-has_room-clause-too_large
-returns-then-not-has_room-clause-too_large g c =
+pub returns-then-not-has_room-clause-fails : goal.returns-then-not-has_room-clause-fails
+returns-then-not-has_room-clause-fails g c =
     let width : c.len-width.result ≡ length c.args.line.items = omega arith in
-    (λ _. no_room _ _ _ _ _ _ (seen_rows _ _ _ _ _ c.self.invariant c.self.view_is) width c.has_room.ensures c.if-not-has_room.true, λ _. refl)
+    record {
+      too_large = (λ _. no_room _ _ _ _ _ _ (seen_rows _ _ _ _ _ c.self.invariant c.self.view_is) width c.has_room.ensures c.if-not-has_room.true, λ _. refl);
+      line_back = (search rules);
+      unchanged = (search rules);
+    }
 
 pub weave_rows-requires-clause-cells : goal.weave_rows-requires-clause-cells
 weave_rows-requires-clause-cells g c =
@@ -36,12 +40,20 @@ returns-in-Ok-clause-rows g c =
     rw width
     (rows_inserted _ _ _ _ _ c.self.invariant c.self.view_is _ c.requires.fits c.args.at c.args.line.items _ _ c.requires.nonempty refl c.in-Ok.ensures.ok (rw width at c.weave_rows.ensures))
 
-pub returns-in-Ok-clause-too_large : goal.returns-in-Ok-clause-too_large
-returns-in-Ok-clause-too_large g c =
+pub returns-in-Ok-clause-fails : goal.returns-in-Ok-clause-fails
+returns-in-Ok-clause-fails g c =
     let width : c.len-width.result ≡ length c.args.line.items = omega arith in
-    (λ h. absurd h, λ large. room _ _ _ _ _ _ (seen_rows _ _ _ _ _ c.self.invariant c.self.view_is) width c.has_room.ensures c.if-not-has_room.false large)
+    record {
+      too_large = (λ h. absurd h, λ large. room _ _ _ _ _ _ (seen_rows _ _ _ _ _ c.self.invariant c.self.view_is) width c.has_room.ensures c.if-not-has_room.false large);
+      line_back = (search rules);
+      unchanged = (search rules);
+    }
 
-pub returns-in-Err-clause-too_large : goal.returns-in-Err-clause-too_large
-returns-in-Err-clause-too_large g c =
+pub returns-in-Err-clause-fails : goal.returns-in-Err-clause-fails
+returns-in-Err-clause-fails g c =
     let width : c.len-width.result ≡ length c.args.line.items = omega arith in
-    (λ h. absurd (cc h), λ large. absurd (room _ _ _ _ _ _ (seen_rows _ _ _ _ _ c.self.invariant c.self.view_is) width c.has_room.ensures c.if-not-has_room.false large))
+    record {
+      too_large = (λ h. absurd (cc h), λ large. absurd (room _ _ _ _ _ _ (seen_rows _ _ _ _ _ c.self.invariant c.self.view_is) width c.has_room.ensures c.if-not-has_room.false large));
+      line_back = (search rules);
+      unchanged = (search rules);
+    }

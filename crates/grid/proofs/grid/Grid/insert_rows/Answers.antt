@@ -1,4 +1,5 @@
-use Rattle.std.proofs.Common.{◌≡◌, ◌<◌, ◌+◌, ◌*◌, ◌++◌, length, refl, sym, ◌∙◌, ap, arith}
+use Rattle.std.proofs.Common.{rules, ◌≡◌, ◌<◌, ◌+◌, ◌*◌, ◌++◌, length, refl, sym, ◌∙◌, ap, arith}
+use Rattle.std.proofs.lemmas.Grind.{common_steps}
 use Rattle.grid_base.specs.Table.{row_count, col_count}
 use Rattle.grid_base.specs.Order.{storage}
 use Rattle.grid_base.specs.Gather.{items_of_each}
@@ -8,12 +9,16 @@ use Rattle.grid.proofs.SeenEditLemmas.{range_cells, range_inserted, no_room, roo
 use Rattle.grid.proofs.EditSizeLemmas.{HoldsSize-filled, factor_small}
 use Rattle.grid.proofs.grid.Grid.insert_rows.Goals as goal
 
-pub returns-then-not-has_room-clause-too_large : goal.returns-then-not-has_room-clause-too_large
-returns-then-not-has_room-clause-too_large g c =
+pub returns-then-not-has_room-clause-fails : goal.returns-then-not-has_room-clause-fails
+returns-then-not-has_room-clause-fails g c =
     let width : c.first_len-width.result ≡ col_count (items_of_each c.args.lines.items) = c.first_len-width.ensures ∙ ap (λ xs. col_count (items_of_each xs)) c.as_slice.ensures.value in
     let count : c.len-count.result ≡ length c.args.lines.items = omega arith in
-    rw (sym count)
-    (λ _. no_room _ _ _ _ _ _ (seen_rows _ _ _ _ _ c.self.invariant c.self.view_is) width c.has_room.ensures c.if-not-has_room.true, λ _. refl)
+    record {
+      too_large = rw (sym count) (λ _. no_room _ _ _ _ _ _ (seen_rows _ _ _ _ _ c.self.invariant c.self.view_is) width c.has_room.ensures c.if-not-has_room.true, λ _. refl);
+      none = λ e. (search rules);
+      lines_back = (search rules);
+      unchanged = (search rules);
+    }
 
 pub weave_rows-requires-clause-cells : goal.weave_rows-requires-clause-cells
 weave_rows-requires-clause-cells g c =
@@ -53,16 +58,24 @@ returns-in-Ok-clause-rows g c =
     range_inserted _ _ _ _ _ c.self.invariant c.self.view_is _ (rw width (c.requires.fits (omega arith))) c.args.at _ _ _ _ c.requires.table count (sym width)
     (c.in-Ok.ensures.ok ∙ ap (λ xs. c.self.inside.flat ++ storage c.self.inside.order (items_of_each xs)) c.as_mut_slice.ensures.value) c.weave_rows.ensures
 
-pub returns-in-Ok-clause-too_large : goal.returns-in-Ok-clause-too_large
-returns-in-Ok-clause-too_large g c =
+pub returns-in-Ok-clause-fails : goal.returns-in-Ok-clause-fails
+returns-in-Ok-clause-fails g c =
     let width : c.first_len-width.result ≡ col_count (items_of_each c.args.lines.items) = c.first_len-width.ensures ∙ ap (λ xs. col_count (items_of_each xs)) c.as_slice.ensures.value in
     let count : c.len-count.result ≡ length c.args.lines.items = omega arith in
-    rw (sym count)
-    (λ h. absurd h, λ large. room _ _ _ _ _ _ (seen_rows _ _ _ _ _ c.self.invariant c.self.view_is) width c.has_room.ensures c.if-not-has_room.false large)
+    record {
+      too_large = rw (sym count) (λ h. absurd h, λ large. room _ _ _ _ _ _ (seen_rows _ _ _ _ _ c.self.invariant c.self.view_is) width c.has_room.ensures c.if-not-has_room.false large);
+      none = λ e. (search rules);
+      lines_back = (search rules);
+      unchanged = (search rules);
+    }
 
-pub returns-in-Err-clause-too_large : goal.returns-in-Err-clause-too_large
-returns-in-Err-clause-too_large g c =
+pub returns-in-Err-clause-fails : goal.returns-in-Err-clause-fails
+returns-in-Err-clause-fails g c =
     let width : c.first_len-width.result ≡ col_count (items_of_each c.args.lines.items) = c.first_len-width.ensures ∙ ap (λ xs. col_count (items_of_each xs)) c.as_slice.ensures.value in
     let count : c.len-count.result ≡ length c.args.lines.items = omega arith in
-    rw (sym count)
-    (λ h. absurd (cc h), λ large. absurd (room _ _ _ _ _ _ (seen_rows _ _ _ _ _ c.self.invariant c.self.view_is) width c.has_room.ensures c.if-not-has_room.false large))
+    record {
+      too_large = rw (sym count) (λ h. absurd (cc h), λ large. absurd (room _ _ _ _ _ _ (seen_rows _ _ _ _ _ c.self.invariant c.self.view_is) width c.has_room.ensures c.if-not-has_room.false large));
+      none = λ e. (search rules);
+      lines_back = grind (arith, common_steps);
+      unchanged = (search rules);
+    }
