@@ -55,11 +55,11 @@ rotate_half_by_part o m n old new h e =
 pub after_transpose : {T : Type 0} (u : Symmetry) (old mid new : List (List T)) → IsTable old → mid ≡ act Transpose old → new ≡ act u mid → new ≡ act (product Transpose u) old
 after_transpose u old mid new t a b = b ∙ (ap (act u) a ∙ act-act Transpose u old t)
 
-pub turned_rows : {T : Type 0} (old mid : List (List T)) → IsTable old → mid ≡ act Transpose old → row_count mid ≡ col_count old
-turned_rows old mid t a = ap row_count a ∙ rows-act Transpose old
+pub transposed_rows : {T : Type 0} (old mid : List (List T)) → IsTable old → mid ≡ act Transpose old → row_count mid ≡ col_count old
+transposed_rows old mid t a = ap row_count a ∙ rows-act Transpose old
 
-pub turned_cols : {T : Type 0} (old mid : List (List T)) → IsTable old → mid ≡ act Transpose old → col_count mid ≡ row_count old
-turned_cols old mid t a = ap col_count a ∙ cols-act Transpose old t
+pub transposed_cols : {T : Type 0} (old mid : List (List T)) → IsTable old → mid ≡ act Transpose old → col_count mid ≡ row_count old
+transposed_cols old mid t a = ap col_count a ∙ cols-act Transpose old t
 
 -- a symmetry by its flags
 pub from_its_flags : (s : Symmetry) (f : Bool × Bool × Bool) (b : Bool) → f ≡ flags_of s → f.0 ≡ b → from_flags b f.1 f.2 ≡ s

@@ -11,7 +11,7 @@ use Rattle.grid_base.specs.Groups.{Opened}
 use Rattle.grid_base.proofs.TableLemmas.{rows-tabulate, cell-tabulate, width-tabulate, IsFull, IsSome_within}
 use Rattle.grid_base.proofs.StorageLemmas.{place_within, get-take, get-drop}
 use Rattle.grid.specs.Edits.{insert_rows}
-use Rattle.grid.specs.RowGroups.{RowGroups}
+use Rattle.grid.specs.RowGroups.{RowGroups, RowsOpened}
 use Rattle.grid.proofs.RowEditLemmas.{HasWidth, rows_widened, rows_opened, table-put}
 use Rattle.grid.proofs.EditViewLemmas.{rows-cut, width-cut, cell-cut}
 
@@ -36,16 +36,9 @@ module _ {T : Type 0} where
       let rest : xs ≡ replicate n d = replicate_from_all d xs n (All-tail (λ x. x ≡ d) x xs all) (omega arith) in
       cc
 
-  -- k rows of cells from behind the first m * n are put before row i
-  pub record Padded (o : Order) (m n i k : ℕ) (before new : List T) : Type 0 where
-    pub fresh : List (List T)
-    pub rows : row_count fresh ≡ k
-    pub widths : HasWidth fresh n
-    pub from : (j c : ℕ) → j < k → c < n → (x : ℕ) × (m * n ≤ x) × (x < length before) × (cell fresh j c ≡ slice_get before x)
-    pub put : table_of o (m + k) n new ≡ insert_rows i fresh (table_of o m n (take (m * n) before))
-
+  -- groups that are opened are rows of cells from behind the first m * n
   module _ (o : Order) (m n i k p q a g : ℕ) (before new : List T) (e : RowGroups o m n i k p q a g) (len : m * n ≤ length before) (le : i ≤ m) (h : Opened p q a g before new) where
-    pub view-open_rows : Padded o m n i k before new
+    pub view-open_rows : RowsOpened o m n i k before new
     view-open_rows =
         let f : ℕ → ℕ → Option T = λ j c. slice_get new (place o (m + k) n (i + j) c) in
         let full : IsFull k n f = record { full = λ j c lj lc. let x = rows_opened o m n i k p q a g before new e h j c lj lc in ap is_some x.3 ∙ IsSome_within before x.0 x.2 } in
@@ -56,6 +49,7 @@ module _ {T : Type 0} where
         let size : length kept ≡ m * n = length-take-le (m * n) before len in
         let wide = rows_widened o m n i k p q a g before new e h.lines in
         record {
+          lengths = h.lengths;
           fresh = fresh;
           rows = rows;
           widths = λ j lt. widths j (omega arith);
@@ -71,7 +65,7 @@ module _ {T : Type 0} where
               ∙ (sym (get-take (m * n) before (place o m n r c) (place_within o m n r c lm lc)) ∙ cell-cut o m n kept size r c lm lc));
         }
 
-  module _ (o : Order) (m n i k : ℕ) (before new : List T) (h : Padded o m n i k before new) where
+  module _ (o : Order) (m n i k : ℕ) (before new : List T) (h : RowsOpened o m n i k before new) where
     -- what holds of each cell behind holds of each fresh one
     pub All-fresh : (P : T → Type 0) → All P (drop (m * n) before) → (j : ℕ) → j < k → All P (row h.fresh j)
     All-fresh P all j lj =

@@ -8,15 +8,15 @@ use Rattle.grid_base.specs.declared.flat.order.Order.{Order}
 use Rattle.grid_base.proofs.GroupLemmas.{product, act-act, act-identity, order_after-order_after}
 
 -- the symmetry of k quarter turns to the left
-abbrev pub turned_left : ℕ → Symmetry
-turned_left zero = Identity
-turned_left (suc k) = product (turned_left k) RotateLeft
+abbrev pub rotated_left : ℕ → Symmetry
+rotated_left zero = Identity
+rotated_left (suc k) = product (rotated_left k) RotateLeft
 
-pub transposed_more : {T : Type 0} (k : ℕ) (old now new : List (List T)) → IsTable old → now ≡ act (turned_left k) old → new ≡ act RotateLeft now → new ≡ act (turned_left (k + 1)) old
-transposed_more k old now new t e f = rw add-one (f ∙ (ap (act RotateLeft) e ∙ act-act (turned_left k) RotateLeft old t))
+pub transposed_more : {T : Type 0} (k : ℕ) (old now new : List (List T)) → IsTable old → now ≡ act (rotated_left k) old → new ≡ act RotateLeft now → new ≡ act (rotated_left (k + 1)) old
+transposed_more k old now new t e f = rw add-one (f ∙ (ap (act RotateLeft) e ∙ act-act (rotated_left k) RotateLeft old t))
 
-pub order_more : (k : ℕ) (old now new : Order) → now ≡ order_after (turned_left k) old → new ≡ order_after RotateLeft now → new ≡ order_after (turned_left (k + 1)) old
-order_more k old now new e f = rw add-one (f ∙ (ap (order_after RotateLeft) e ∙ order_after-order_after (turned_left k) RotateLeft old))
+pub order_more : (k : ℕ) (old now new : Order) → now ≡ order_after (rotated_left k) old → new ≡ order_after RotateLeft now → new ≡ order_after (rotated_left (k + 1)) old
+order_more k old now new e f = rw add-one (f ∙ (ap (order_after RotateLeft) e ∙ order_after-order_after (rotated_left k) RotateLeft old))
 
 -- four of them do nothing
 pub four_turns : {T : Type 0} (t : List (List T)) → IsTable t → act RotateLeft (act RotateLeft (act RotateLeft (act RotateLeft t))) ≡ t

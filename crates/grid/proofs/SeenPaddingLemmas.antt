@@ -15,15 +15,9 @@ use Rattle.grid_base.specs.Symmetry.{act}
 use Rattle.grid.specs.Edits.{PadsRows, PadsCols, padding_count, insert_rows, insert_cols, expanded_rows, prepended_rows, expanded_cols, prepended_cols}
 use Rattle.grid.specs.RowGroups.{RowGroups, RowsOpened}
 use Rattle.grid.proofs.SeenLemmas.{seen_rows, seen_cols}
-use Rattle.grid.proofs.PaddingLemmas.{Padded, view-open_rows, All-all_fresh, replicate_from_all, All-from_gets, holds_at}
+use Rattle.grid.proofs.PaddingLemmas.{All-all_fresh, replicate_from_all, All-from_gets, holds_at}
 use Rattle.grid.proofs.EditSizeLemmas.{HoldsSize-filled, factor_small, IsTable-width, put-no_lines, copies, row-copies, HasWidth-copies, expanded-put, prepended-put}
 use Rattle.grid.proofs.ColEditLemmas.{rows-across, cols-across, across-none, ColumnsFit, insert_cols-across, expanded_cols-across, prepended_cols-across}
-
--- groups that are opened are rows
-pub rows_open : {T : Type 0} (o : Order) (m n i k p q a g : ℕ) (old new : List T) → RowGroups o m n i k p q a g → m * n ≤ length old → i ≤ m → Opened p q a g old new → RowsOpened o m n i k old new
-rows_open o m n i k p q a g old new groups len le h =
-    let v : Padded o m n i k old new = view-open_rows o m n i k p q a g old new groups len le h in
-    record { lengths = h.lengths; fresh = v.fresh; rows = v.rows; widths = v.widths; from = v.from; put = v.put }
 
 module _ {T : Type 0} where
   pub padding_some : (k : ℕ) (t : List (List T)) → 0 < row_count t → padding_count k t ≡ k
@@ -101,20 +95,17 @@ module _ {T : Type 0} (o : Order) (m n : ℕ) (cells : List T) (s : GridValue T)
     pub pad_cells : length grown ≡ (a + k) * b
     pad_cells =
         let size : a * b ≡ m * n = ap (λ x. x * b) as_rows ∙ ap (λ x. m * x) as_cols in
-        ap length f.concat_rows ∙ (length-append cells f.fresh ∙ omega (arith, h.cells, f.number, size))
+        ap length f.appended ∙ (length-append cells f.fresh ∙ omega (arith, h.cells, f.number, size))
 
     front : take (m * n) grown ≡ cells
-    front = ap (take (m * n)) f.concat_rows ∙ take_at cells f.fresh (m * n) h.cells
+    front = ap (take (m * n)) f.appended ∙ take_at cells f.fresh (m * n) h.cells
 
     back : All P (drop (m * n) grown)
-    back = subst (All P) (sym (ap (drop (m * n)) f.concat_rows ∙ drop_at cells f.fresh (m * n) h.cells)) f.each
+    back = subst (All P) (sym (ap (drop (m * n)) f.appended ∙ drop_at cells f.fresh (m * n) h.cells)) f.each
 
     module _ (i : ℕ) (new : List T) (opened : RowsOpened o a b i k grown new) where
       abbrev p : RowsOpened o m n i k grown new
       p = subst (λ x. RowsOpened o x n i k grown new) as_rows (subst (λ x. RowsOpened o a x i k grown new) as_cols opened)
-
-      abbrev padded : Padded o m n i k grown new
-      padded = record { fresh = p.fresh; rows = p.rows; widths = p.widths; from = p.from; put = p.put }
 
       pub pads_rows : PadsRows P i (padding_count k s.rows) s.rows (table_of o (m + k) n new)
       pads_rows =
@@ -122,7 +113,7 @@ module _ {T : Type 0} (o : Order) (m n : ℕ) (cells : List T) (s : GridValue T)
             fresh = p.fresh;
             number = p.rows ∙ sym (padding_some k s.rows (omega (arith, rows, some)));
             widths = λ r lt. p.widths r lt ∙ sym (seen_cols o m n cells s h e);
-            each = All-all_fresh o m n i k grown new padded P back;
+            each = All-all_fresh o m n i k grown new p P back;
             put =
                 p.put ∙ (ap (λ v. insert_rows i p.fresh (table_of o m n v)) front ∙ ap (λ v. insert_rows i p.fresh v.rows) e);
           }

@@ -6,7 +6,7 @@ use Rattle.std.proofs.Math.Seq.{take-append_seam, drop-append_seam}
 use Rattle.grid_base.specs.Append.{AppendsEach}
 
 pub fresh_none : {T : Type 0} (P : T → Type 0) (old now : List T) → now ≡ old → AppendsEach P 0 old now
-fresh_none P old now e = record { fresh = []; number = refl; each = All-nil P; concat_rows = e ∙ sym (append-nil old) }
+fresh_none P old now e = record { fresh = []; number = refl; each = All-nil P; appended = e ∙ sym (append-nil old) }
 
 All-one : {T : Type 0} (P : T → Type 0) (x : T) → P x → All P (x ∷ [])
 All-one P x h zero d lt = h
@@ -18,7 +18,7 @@ fresh_more P n x old now new h p e =
       fresh = h.fresh ++ x ∷ [];
       number = length-append h.fresh (x ∷ []) ∙ omega (arith, h.number);
       each = All-append P h.fresh (x ∷ []) h.each (All-one P x p);
-      concat_rows = e ∙ (ap (λ ys. ys ++ x ∷ []) h.concat_rows ∙ append_assoc old h.fresh (x ∷ []));
+      appended = e ∙ (ap (λ ys. ys ++ x ∷ []) h.appended ∙ append_assoc old h.fresh (x ∷ []));
     }
 
 -- some items have left the end of a list for the end of another, last first

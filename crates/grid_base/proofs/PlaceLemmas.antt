@@ -55,7 +55,7 @@ pub record HasParts (m n k : ℕ) : Type 0 where
   pub wide : 0 < n
   pub quotient : k / n < m
   pub remainder : k % n < n
-  pub concat_rows : k / n * n + k % n ≡ k
+  pub whole : k / n * n + k % n ≡ k
 
 pub parts_of : (m n k : ℕ) → k < m * n → HasParts m n k
 parts_of m zero k lt = absurd (omega arith)
@@ -63,19 +63,19 @@ parts_of m (suc n) k lt = record {
   wide = omega arith;
   quotient = div_below k (suc n) m (omega arith) lt;
   remainder = mod_below k (suc n) (omega arith);
-  concat_rows = div-add-mod' k (suc n);
+  whole = div-add-mod' k (suc n);
 }
 
 -- the place that holds a cell, by division
 pub get-row_major : (m n k : ℕ) → IsSize m n → k < m * n → slice_get (places RowMajor m n) k ≡ Some (k / n, k % n)
 get-row_major m n k z lt =
     let p = parts_of m n k lt in
-    ap (slice_get (places RowMajor m n)) (sym p.concat_rows) ∙ get-places RowMajor m n (k / n) (k % n) z p.quotient p.remainder
+    ap (slice_get (places RowMajor m n)) (sym p.whole) ∙ get-places RowMajor m n (k / n) (k % n) z p.quotient p.remainder
 
 pub get-column_major : (m n k : ℕ) → IsSize m n → k < m * n → slice_get (places ColumnMajor m n) k ≡ Some (k % m, k / m)
 get-column_major m n k z lt =
     let p = parts_of n m k (omega (arith, mul_comm m n)) in
-    ap (slice_get (places ColumnMajor m n)) (sym p.concat_rows) ∙ get-places ColumnMajor m n (k % m) (k / m) z p.remainder p.quotient
+    ap (slice_get (places ColumnMajor m n)) (sym p.whole) ∙ get-places ColumnMajor m n (k % m) (k / m) z p.remainder p.quotient
 
 -- how many are left
 pub length-left : (o : Order) (m n k : ℕ) → ArePassed m n k → length (drop k (places o m n)) ≡ m * n - k

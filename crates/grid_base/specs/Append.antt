@@ -6,4 +6,4 @@ pub record AppendsEach {T : Type 0} (P : T → Type 0) (n : ℕ) (old new : List
   pub fresh : List T
   pub number : length fresh ≡ n
   pub each : All P fresh
-  pub concat_rows : new ≡ old ++ fresh
+  pub appended : new ≡ old ++ fresh

@@ -133,7 +133,7 @@ impl<T, A: Allocator> Grid<T, A> {
         }
         let alloc = self.flat.allocator().clone()?;
         let mut line = Vec::with_capacity(alloc, self.cols())?;
-        self.take_row_out(at, &mut line);
+        self.move_row_out(at, &mut line);
         Ok(Some(line))
     }
 
@@ -183,7 +183,7 @@ impl<T, A: Allocator> Grid<T, A> {
     }
 
     // Removes row `at`, which is in range, into a vector that has room for it.
-    fn take_row_out(&mut self, at: usize, line: &mut Vec<T, A>)
+    fn move_row_out(&mut self, at: usize, line: &mut Vec<T, A>)
         requires within { at < row_count self.old.rows }
         requires none { line.old.items ≡ [] }
         requires room { col_count self.old.rows ≤ vec_capacity line.old }
@@ -287,7 +287,7 @@ impl<T, A: Allocator> Grid<T, A> {
         let rows = self.rows();
         let found = count <= rows && start <= rows - count;
         if found && count != 0 {
-            self.take_rows_out(start, count, tally);
+            self.drop_rows(start, count, tally);
         }
         found
     }
@@ -318,7 +318,7 @@ impl<T, A: Allocator> Grid<T, A> {
     }
 
     // Drops `count` rows, at least one, from row `start` on; all are in range.
-    fn take_rows_out(&mut self, start: usize, count: usize, tally: &mut Tally)
+    fn drop_rows(&mut self, start: usize, count: usize, tally: &mut Tally)
     where
         T: Drop,
         requires within { start + count ≤ row_count self.old.rows }

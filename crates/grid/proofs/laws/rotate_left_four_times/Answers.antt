@@ -2,7 +2,7 @@ use Rattle.std.proofs.Common.{◌≡◌, ◌∙◌, ap, sym, refl, arith}
 use Rattle.grid_base.specs.Symmetry.{act, order_after}
 use Rattle.grid_base.proofs.GroupLemmas.{act-identity}
 use Rattle.grid_base.proofs.ViewLemmas.{same_grid_value}
-use Rattle.grid.proofs.RotationLemmas.{turned_left, transposed_more, order_more, four_turns}
+use Rattle.grid.proofs.RotationLemmas.{rotated_left, transposed_more, order_more, four_turns}
 use Rattle.grid.proofs.laws.rotate_left_four_times.Goals as goal
 
 pub loop-turn-init : goal.loop-turn-init
@@ -18,8 +18,8 @@ pub returns-clause-same : goal.returns-clause-same
 returns-clause-same g c =
     let all : c.loop-turn._turn ≡ 4 = omega arith in
     same_grid_value _ _
-    (c.loop-turn.invariant.rows ∙ (ap (λ k. act (turned_left k) c.args.grid.now.rows) all ∙ act-identity _ c.size.ensures.table))
-    (c.loop-turn.invariant.order ∙ ap (λ k. order_after (turned_left k) c.args.grid.now.order) all)
+    (c.loop-turn.invariant.rows ∙ (ap (λ k. act (rotated_left k) c.args.grid.now.rows) all ∙ act-identity _ c.size.ensures.table))
+    (c.loop-turn.invariant.order ∙ ap (λ k. order_after (rotated_left k) c.args.grid.now.order) all)
 
 pub returns-clause-law : goal.returns-clause-law
 returns-clause-law g c = λ t h. four_turns t h

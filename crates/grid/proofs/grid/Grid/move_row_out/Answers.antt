@@ -2,7 +2,7 @@ use Rattle.std.proofs.Common.{◌≡◌, ◌-◌, ◌*◌, ◌∙◌, ◌++◌, 
 use Rattle.grid_base.specs.Table.{col_count}
 use Rattle.grid.proofs.SeenLemmas.{seen_cols}
 use Rattle.grid.proofs.SeenEditLemmas.{removed_in, removed_cells, removed_small, removed_length, row_removed, removed_fits, removed_line}
-use Rattle.grid.proofs.grid.Grid.take_row_out.Goals as goal
+use Rattle.grid.proofs.grid.Grid.move_row_out.Goals as goal
 
 pub overflow_sub-rest : goal.overflow_sub-rest
 overflow_sub-rest g c =

@@ -1,6 +1,6 @@
 use Rattle.std.proofs.Common.{arith}
 use Rattle.grid.proofs.SeenEditLemmas.{taken_in, taken_wide, taken_cells, taken_small, rows_taken_out, taken_fits, taken_shift}
-use Rattle.grid.proofs.grid.Grid.take_rows_out.Goals as goal
+use Rattle.grid.proofs.grid.Grid.drop_rows.Goals as goal
 
 pub overflow_sub-rest : goal.overflow_sub-rest
 overflow_sub-rest g c =
