@@ -1,5 +1,6 @@
 //! Worked examples, with values that were found by hand.
 mod cells;
+mod commands;
 mod conversions;
 mod edits;
 mod makers;
