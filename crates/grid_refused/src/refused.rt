@@ -30,7 +30,10 @@ fn starved_rotations(
 }
 
 // Whether a run of so many commands did none of them, and was stopped if there is one.
-fn did_nothing(ran: Result<Vec<Reply<u32, &Heap>, &Heap>, RunStopped<u32, &Heap>>, len: usize) -> bool {
+fn did_nothing(
+    ran: Result<Vec<Reply<u32, &Heap>, &Heap>, RunStopped<u32, &Heap>>,
+    len: usize,
+) -> bool {
     match ran {
         Ok(replies) => len == 0 && replies.is_empty(),
         Err(stop) => len != 0 && stop.done == 0 && stop.replies.is_empty(),
@@ -72,7 +75,12 @@ fn runs_with_no_memory_for_replies(rt: HostRuntime) -> Result<(), Fail> {
 fn has_cells(replies: &[Reply<u32, &Heap>]) -> bool {
     matches!(
         replies,
-        [Reply::Cell(Some(3)), Reply::Done, Reply::Cell(Some(6)), Reply::Size(3, 2)]
+        [
+            Reply::Cell(Some(3)),
+            Reply::Done,
+            Reply::Cell(Some(6)),
+            Reply::Size(3, 2)
+        ]
     )
 }
 

@@ -1,7 +1,7 @@
 //! How a grid is made and its cells are reached, over all small tables and both orders.
 use crate::asserts::assert_shows;
 use grid::Order;
-use grid_reference::fixtures::{ORDERS, INDICES, SIZES, grid_of, numbered, places_of, put_cell};
+use grid_reference::fixtures::{INDICES, ORDERS, SIZES, grid_of, numbered, places_of, put_cell};
 use grid_reference::plain;
 use grid_reference::reached::{read_both_ways, swap, write, write_indexed, write_unchecked};
 use std::alloc::{AllocError, Global};

@@ -4,6 +4,8 @@
 #[cfg(test)]
 mod access;
 #[cfg(test)]
+mod all_cells;
+#[cfg(test)]
 mod asserts;
 #[cfg(test)]
 mod commands;
@@ -15,5 +17,3 @@ mod made;
 mod symmetries;
 #[cfg(test)]
 mod walks;
-#[cfg(test)]
-mod all_cells;

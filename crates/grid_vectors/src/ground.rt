@@ -37,7 +37,10 @@ fn reaches_places(rt: HostRuntime) -> Result<(), Fail> {
 fn joined_symmetries_are_a_group(rt: HostRuntime) {
     for first in SYMMETRIES {
         assert_eq!(rt; identity_is_neutral(first), (first, first));
-        assert_eq!(rt; inverse_undoes(first), (Symmetry::Identity, Symmetry::Identity));
+        assert_eq!(rt;
+            inverse_undoes(first),
+            (Symmetry::Identity, Symmetry::Identity)
+        );
         for second in SYMMETRIES {
             for third in SYMMETRIES {
                 let (left, right) = then_is_associative(first, second, third);

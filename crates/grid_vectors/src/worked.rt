@@ -1,4 +1,5 @@
 //! Worked examples, with values that were found by hand.
+mod all_cells;
 mod cells;
 mod commands;
 mod conversions;
@@ -8,4 +9,3 @@ mod moves;
 mod texts;
 mod traits;
 mod walks;
-mod all_cells;

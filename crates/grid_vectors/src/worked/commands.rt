@@ -107,6 +107,7 @@ fn is_wanted(reply: &Reply<u32>, want: Want) -> bool {
 }
 
 const BOARD: Rows = &[&[1, 2], &[3, 4]];
+
 const LARGE: usize = usize::MAX;
 
 // A command on the board, its reply, and the rows after it.
@@ -125,32 +126,72 @@ const PLAIN: [(Plain, Want, Rows); 27] = [
     (Plain::PopRow, Want::Line(Some(&[3, 4])), &[&[1, 2]]),
     (Plain::PopCol, Want::Line(Some(&[2, 4])), &[&[1], &[3]]),
     (Plain::RemoveRow(0), Want::Line(Some(&[1, 2])), &[&[3, 4]]),
-    (Plain::RemoveCol(0), Want::Line(Some(&[1, 3])), &[&[2], &[4]]),
+    (
+        Plain::RemoveCol(0),
+        Want::Line(Some(&[1, 3])),
+        &[&[2], &[4]],
+    ),
     (Plain::RemoveRow(2), Want::Line(None), BOARD),
     (Plain::DeleteRow(0), Want::Flag(true), &[&[3, 4]]),
     (Plain::DeleteCol(1), Want::Flag(true), &[&[1], &[3]]),
     (Plain::DeleteRows(0, 2), Want::Flag(true), &[]),
     (Plain::DeleteCols(1, LARGE), Want::Flag(false), BOARD),
-    (Plain::ExpandRows(1), Want::Done, &[&[1, 2], &[3, 4], &[0, 0]]),
+    (
+        Plain::ExpandRows(1),
+        Want::Done,
+        &[&[1, 2], &[3, 4], &[0, 0]],
+    ),
     (Plain::ExpandCols(1), Want::Done, &[&[1, 2, 0], &[3, 4, 0]]),
-    (Plain::PrependRows(1), Want::Done, &[&[0, 0], &[1, 2], &[3, 4]]),
+    (
+        Plain::PrependRows(1),
+        Want::Done,
+        &[&[0, 0], &[1, 2], &[3, 4]],
+    ),
     (Plain::PrependCols(1), Want::Done, &[&[0, 1, 2], &[0, 3, 4]]),
-    (Plain::ExpandRows(LARGE), Want::Refused(Refusal::TooLarge), BOARD),
+    (
+        Plain::ExpandRows(LARGE),
+        Want::Refused(Refusal::TooLarge),
+        BOARD,
+    ),
     (Plain::ExpandRows(0), Want::Done, BOARD),
     (Plain::Fill(7), Want::Done, &[&[7, 7], &[7, 7]]),
     (Plain::Clear, Want::Done, &[]),
-    (Plain::Apply(Symmetry::FlipRows), Want::Done, &[&[3, 4], &[1, 2]]),
+    (
+        Plain::Apply(Symmetry::FlipRows),
+        Want::Done,
+        &[&[3, 4], &[1, 2]],
+    ),
 ];
 
 const WITH_LINES: [Case; 14] = [
-    (Ask::PushRow(&[5, 6]), Want::Done, &[&[1, 2], &[3, 4], &[5, 6]]),
+    (
+        Ask::PushRow(&[5, 6]),
+        Want::Done,
+        &[&[1, 2], &[3, 4], &[5, 6]],
+    ),
     (Ask::PushCol(&[5, 6]), Want::Done, &[&[1, 2, 5], &[3, 4, 6]]),
     (Ask::PushRow(&[]), Want::Refused(Refusal::EmptyLine), BOARD),
     (Ask::PushCol(&[5]), Want::Refused(Refusal::Length), BOARD),
-    (Ask::InsertRow(0, &[5, 6]), Want::Done, &[&[5, 6], &[1, 2], &[3, 4]]),
-    (Ask::InsertCol(1, &[5, 6]), Want::Done, &[&[1, 5, 2], &[3, 6, 4]]),
-    (Ask::InsertRow(3, &[1]), Want::Refused(Refusal::Length), BOARD),
-    (Ask::InsertRow(3, &[9, 9]), Want::Refused(Refusal::Index), BOARD),
+    (
+        Ask::InsertRow(0, &[5, 6]),
+        Want::Done,
+        &[&[5, 6], &[1, 2], &[3, 4]],
+    ),
+    (
+        Ask::InsertCol(1, &[5, 6]),
+        Want::Done,
+        &[&[1, 5, 2], &[3, 6, 4]],
+    ),
+    (
+        Ask::InsertRow(3, &[1]),
+        Want::Refused(Refusal::Length),
+        BOARD,
+    ),
+    (
+        Ask::InsertRow(3, &[9, 9]),
+        Want::Refused(Refusal::Index),
+        BOARD,
+    ),
     (
         Ask::InsertRows(1, &[&[5, 6], &[7, 8]]),
         Want::Done,
@@ -161,10 +202,22 @@ const WITH_LINES: [Case; 14] = [
         Want::Done,
         &[&[1, 5, 7, 2], &[3, 6, 8, 4]],
     ),
-    (Ask::InsertRows(9, &[]), Want::Refused(Refusal::Index), BOARD),
+    (
+        Ask::InsertRows(9, &[]),
+        Want::Refused(Refusal::Index),
+        BOARD,
+    ),
     (Ask::InsertRows(0, &[]), Want::Done, BOARD),
-    (Ask::InsertRows(9, &[&[5, 6], &[]]), Want::Refused(Refusal::EmptyLine), BOARD),
-    (Ask::InsertRows(9, &[&[5, 6], &[7]]), Want::Refused(Refusal::Length), BOARD),
+    (
+        Ask::InsertRows(9, &[&[5, 6], &[]]),
+        Want::Refused(Refusal::EmptyLine),
+        BOARD,
+    ),
+    (
+        Ask::InsertRows(9, &[&[5, 6], &[7]]),
+        Want::Refused(Refusal::Length),
+        BOARD,
+    ),
 ];
 
 fn check_step(
