@@ -1,5 +1,5 @@
 -- A run of one more command.
-use Rattle.std.proofs.Common.{◌≡◌, ℕ, ◌+◌, ◌<◌, suc, List, [], ◌∷◌, ◌++◌, map, length, take, slice_get, get_or, length-append, Some, IsTrue, inr, refl, sym, ◌∙◌, ap, arith}
+use Rattle.std.proofs.Common.{◌≡◌, ℕ, ◌+◌, ◌<◌, suc, List, [], ◌∷◌, ◌++◌, map, length, take, slice_get, get_or, length-append, Some, IsTrue, Result, Ok, Err, OnOk, IfOk, inr, refl, sym, ◌∙◌, ap, arith}
 use Rattle.std.specs.List.{All}
 use Rattle.std.specs.Option.{option_map}
 use Rattle.std.proofs.lemmas.List.{map-append, take-map, length-map}
@@ -38,11 +38,11 @@ module _ {T : Type 0} where
   run_order-more [] x o = refl
   run_order-more (y ∷ xs) x o = run_order-more xs x (order_after (command_symmetry y) o)
 
-  run_rows-more : (d : T) (xs : List (CommandValue T)) (x : CommandValue T) (t : List (List T)) → run_rows d (xs ++ x ∷ []) t ≡ step_rows d x (run_rows d xs t)
+  pub run_rows-more : (d : T) (xs : List (CommandValue T)) (x : CommandValue T) (t : List (List T)) → run_rows d (xs ++ x ∷ []) t ≡ step_rows d x (run_rows d xs t)
   run_rows-more d [] x t = refl
   run_rows-more d (y ∷ xs) x t = run_rows-more d xs x (step_rows d y t)
 
-  run_replies-more : (d : T) (xs : List (CommandValue T)) (x : CommandValue T) (t : List (List T)) → run_replies d (xs ++ x ∷ []) t ≡ run_replies d xs t ++ step_reply x (run_rows d xs t) ∷ []
+  pub run_replies-more : (d : T) (xs : List (CommandValue T)) (x : CommandValue T) (t : List (List T)) → run_replies d (xs ++ x ∷ []) t ≡ run_replies d xs t ++ step_reply x (run_rows d xs t) ∷ []
   run_replies-more d [] x t = refl
   run_replies-more d (y ∷ xs) x t = ap (λ rs. step_reply y t ∷ rs) (run_replies-more d xs x (step_rows d y t))
 
@@ -134,6 +134,26 @@ module _ {T : Type 0} (is_clone : T → T → Type 0) (is_default : T → Type 0
         record { rows = ap (λ s. s.rows) same ∙ l.rows; symmetry = symmetry ∙ l.symmetry; shift = shift ∙ l.shift };
     replies = h.replies;
   }
+
+  -- runs of the same commands on grids of the same rows
+  module _ {V W E F : Type 0} (first : V → List (ReplyValue T)) (second : W → List (ReplyValue T)) (xs ys : List (CommandValue T)) (old new other other_new : GridValue T) (before after other_before other_after : Counts) (rows : other.rows ≡ old.rows) (same : ys ≡ xs) where
+    pub same_run_rows : (r : Result V E) (q : Result W F) → IfOk r (λ v. Ran is_clone is_default xs old new before after (first v)) → IfOk q (λ w. Ran is_clone is_default ys other other_new other_before other_after (second w)) → OnOk r (OnOk q ((d : T) → IsOnlyDefault is_default d → ClonesAreEqual is_clone → other_new.rows ≡ new.rows))
+    same_run_rows (Ok v) (Ok w) h k = λ d one equal.
+        (k.left d (known_list d one equal ys)).rows
+        ∙ (ap (λ zs. run_rows d zs other.rows) same ∙ (ap (run_rows d xs) rows ∙ sym (h.left d (known_list d one equal xs)).rows))
+    same_run_rows (Ok v) (Err e) h k = tt
+    same_run_rows (Err e) q h k = tt
+
+    pub same_run_replies : (r : Result V E) (q : Result W F) → IfOk r (λ v. Ran is_clone is_default xs old new before after (first v)) → IfOk q (λ w. Ran is_clone is_default ys other other_new other_before other_after (second w)) → IfOk r (λ v. IfOk q (λ w. (d : T) → IsOnlyDefault is_default d → ClonesAreEqual is_clone → second w ≡ first v))
+    same_run_replies (Ok v) (Ok w) h k = λ d one equal.
+        k.replies d one equal
+        ∙ (ap (λ zs. run_replies d zs other.rows) same ∙ (ap (run_replies d xs) rows ∙ sym (h.replies d one equal)))
+    same_run_replies (Ok v) (Err e) h k = tt
+    same_run_replies (Err e) q h k = tt
+
+pub on_ok_of : {V E : Type 0} (r : Result V E) {P : V → Type 0} {Q : Type 0} → ((v : V) → P v → Q) → IfOk r P → OnOk r Q
+on_ok_of (Ok v) f h = f v h
+on_ok_of (Err e) f h = tt
 
 -- what stands at the length of the first part
 at_seam : {X : Type 0} (xs : List X) (y : X) (ys : List X) → slice_get (xs ++ y ∷ ys) (length xs) ≡ Some y

@@ -2,16 +2,21 @@
 //!
 //! A clause `law`, `law_rows` or `law_line` states the law itself. It speaks of tables and says nothing of the calls;
 //! what those leave is in the other clauses.
-ghost use Rattle.std.specs.Prelude.{◌≡◌, ◌<◌, ◌≤◌, List, length, insert, remove, slice_get, Some, OnOk, OnErr, IfOk, IfErr, MatchOption};
+ghost use Rattle.std.specs.Prelude.{◌≡◌, ◌<◌, ◌≤◌, List, length, map, insert, remove, slice_get, Some, OnOk, OnErr, IfOk, IfErr, MatchOption};
 ghost use Rattle.grid_base.specs.Table.{row_count, col_count, IsTable};
 ghost use Rattle.grid_base.specs.Order.{storage};
 ghost use Rattle.grid_base.specs.Symmetry.{act, order_after, IsInverse};
 ghost use Rattle.grid_base.specs.declared.words.Symmetry.{Symmetry};
 ghost use Rattle.grid_base.specs.declared.words.Symmetry.TheVariants.{FlipCols, FlipRows, RotateHalf, RotateLeft, RotateRight, Transpose};
+ghost use Rattle.grid_base.specs.Clones.{ClonesAreEqual};
+ghost use Rattle.grid.specs.Make.{IsOnlyDefault};
 ghost use Rattle.grid.specs.Edits.{FitsRow, FitsCol, insert_col};
+ghost use Rattle.grid.specs.Command.{command_value};
+ghost use Rattle.grid.specs.Reply.{reply_value};
+ghost use Rattle.grid.specs.Cost.{list_symmetry};
 
-use crate::{Grid, LineRefused};
-use grid_base::{Symmetry, laws};
+use crate::{Command, Grid, LineRefused, Reply, RunStopped, run};
+use grid_base::{Symmetry, Tally, laws};
 use std::alloc::{AllocError, Allocator};
 
 /// Rotates a quarter turn clockwise and then one counterclockwise, which leaves the rows and the order.
@@ -149,4 +154,42 @@ pub fn insert_col_or_row_across<T, A: Allocator>(
     let as_row = other.insert_row(at, other_line);
     other.transpose();
     (as_col, as_row)
+}
+
+/// A list of commands gives the same replies and rows on two grids of the same rows, whatever their orders, where neither
+/// run stops.
+///
+/// The two lists say the same commands. Replies and rows are the same where the default is one value and clones equal
+/// their source.
+pub fn run_in_either_order<T, A: Allocator>(
+    alloc: A,
+    grid: &mut Grid<T, A>,
+    commands: Vec<Command<T, A>, A>,
+    other_alloc: A,
+    other: &mut Grid<T, A>,
+    other_commands: Vec<Command<T, A>, A>,
+) -> (
+    Result<Vec<Reply<T, A>, A>, RunStopped<T, A>>,
+    Result<Vec<Reply<T, A>, A>, RunStopped<T, A>>,
+)
+where
+    T: Clone + Default + Drop,
+    A: Clone,
+    requires same { other.old.rows ≡ grid.old.rows }
+    requires same_commands { map command_value other_commands.items
+        ≡ map command_value commands.items }
+    ensures law_rows { OnOk result.0 (OnOk result.1 ((d : T) → IsOnlyDefault T.is_default d
+        → ClonesAreEqual T.is_clone → other.new.rows ≡ grid.new.rows)) }
+    ensures law_replies { IfOk result.0 (λ replies. IfOk result.1
+        (λ more. (d : T) → IsOnlyDefault T.is_default d → ClonesAreEqual T.is_clone
+        → map reply_value more.items ≡ map reply_value replies.items)) }
+    ensures order { OnOk result.0 (grid.new.order
+        ≡ order_after (list_symmetry (map command_value commands.items)) grid.old.order) }
+    ensures other_order { OnOk result.1 (other.new.order
+        ≡ order_after (list_symmetry (map command_value commands.items)) other.old.order) }
+    ensures count { IfOk result.0 (λ replies. length replies.items ≡ length commands.items) }
+{
+    let first = run(alloc, grid, commands, &mut Tally::new());
+    let second = run(other_alloc, other, other_commands, &mut Tally::new());
+    (first, second)
 }

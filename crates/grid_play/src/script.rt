@@ -12,7 +12,7 @@ pub struct Script<A: Allocator = Global> {
     /// The grid of its first line.
     pub grid: Grid<i64, A>,
     /// The commands of its later lines.
-    pub commands: Vec<Command, A>,
+    pub commands: Vec<Command<i64, A>, A>,
 }
 
 impl<A: Allocator + Clone> Script<A> {
@@ -70,7 +70,7 @@ fn parse_cells<A: Allocator>(
 fn parse_commands<A: Allocator>(
     alloc: A,
     lines: Lines<'_>,
-) -> Result<Vec<Command, A>, ScriptFault> {
+) -> Result<Vec<Command<i64, A>, A>, ScriptFault> {
     let mut commands = Vec::new(alloc);
     for (number, line) in lines {
         let mut words = Words::of(line).ok_or(ScriptFault::BadCommand(number))?;
@@ -83,7 +83,7 @@ fn parse_commands<A: Allocator>(
 }
 
 // The command of a name and all words after it.
-fn parse_command(name: &str, mut words: Words<'_>) -> Option<Command> {
+fn parse_command<A: Allocator>(name: &str, mut words: Words<'_>) -> Option<Command<i64, A>> {
     let command = match name {
         "size" => Command::Size,
         "get" => {

@@ -1,16 +1,17 @@
 -- Lists and tables that grow at the end, by a cell, a row or a command.
-use Rattle.std.proofs.Common.{◌≡◌, ℕ, ◌+◌, ◌<◌, Option, List, [], ◌∷◌, ◌++◌, length, take, get_or, refl, sym, ◌∙◌, ap, arith}
+use Rattle.std.proofs.Common.{◌≡◌, ℕ, ◌+◌, ◌<◌, Option, List, [], ◌∷◌, ◌++◌, length, map, take, get_or, refl, sym, ◌∙◌, ap, arith}
 use Rattle.std.specs.List.{filter_map, range_with_len, cons_option}
-use Rattle.std.proofs.lemmas.List.{map-id, take_more}
+use Rattle.std.proofs.lemmas.List.{map-id, length-map, get_or-map, take_more}
 use Rattle.std.proofs.lemmas.List.FromFn.{map-range_with_len_more}
 use Rattle.std.proofs.lemmas.List.Elements.{filter_map-append}
 use Rattle.grid_base.specs.declared.words.Symmetry.{Symmetry}
 use Rattle.grid_base.specs.Table.{row_count, col_count, cell, cells_by, tabulate}
 use Rattle.grid_base.specs.Symmetry.{source_row, source_col}
-use Rattle.grid.specs.declared.command.Command.{Command}
-use Rattle.grid.specs.Reply.{PlainReply}
-use Rattle.grid.specs.Command.{step_rows, step_reply}
+use Rattle.grid.specs.Command.{CommandValue}
+use Rattle.grid.specs.Reply.{ReplyValue}
+use Rattle.grid.specs.Step.{step_rows, step_reply}
 use Rattle.grid.specs.Run.{run_rows, run_replies}
+use Rattle.grid.proofs.RunLemmas.{run_rows-more, run_replies-more}
 
 module _ {T : Type 0} where
   pub line-none : (f : ℕ → Option T) → cells_by 0 f ≡ []
@@ -53,24 +54,20 @@ module _ {T : Type 0} where
       e ∙ (ap (λ x. cell t x c) (er ∙ (ap (λ x. source_row s x n i j) em ∙ ap (λ x. source_row s (row_count t) x i j) en))
       ∙ ap (cell t (source_row s (row_count t) (col_count t) i j)) (ec ∙ (ap (λ x. source_col s x n i j) em ∙ ap (λ x. source_col s (row_count t) x i j) en)))
 
-  -- one more command
-  run_rows-more : (cs : List Command) (c : Command) (t : List (List T)) → run_rows (cs ++ c ∷ []) t ≡ step_rows c (run_rows cs t)
-  run_rows-more [] c t = refl
-  run_rows-more (d ∷ cs) c t = run_rows-more cs c (step_rows d t)
-
-  run_replies-more : (cs : List Command) (c : Command) (t : List (List T)) → run_replies (cs ++ c ∷ []) t ≡ run_replies cs t ++ step_reply c (run_rows cs t) ∷ []
-  run_replies-more [] c t = refl
-  run_replies-more (d ∷ cs) c t = ap (λ rs. step_reply d t ∷ rs) (run_replies-more cs c (step_rows d t))
-
   -- the table t after the first i commands of a list, and what the next command makes of it
-  module _ (cs : List Command) (i : ℕ) (d : Command) (start t : List (List T)) (within : i < length cs) (rows : t ≡ run_rows (take i cs) start) where
-    pub rows-stepped : (next : List (List T)) → next ≡ step_rows (get_or cs i d) t → next ≡ run_rows (take (i + 1) cs) start
-    rows-stepped next e =
-        e ∙ (ap (step_rows (get_or cs i d)) rows
-        ∙ (sym (run_rows-more (take i cs) (get_or cs i d) start) ∙ ap (λ xs. run_rows xs start) (sym (take_more cs i d within))))
+  module _ {C : Type 0} (f : C → CommandValue T) (d : T) (cs : List C) (i : ℕ) (c : C) (start t : List (List T)) (within : i < length cs) (is : c ≡ get_or cs i c) (rows : t ≡ run_rows d (take i (map f cs)) start) where
+    next : take (i + 1) (map f cs) ≡ take i (map f cs) ++ f c ∷ []
+    next =
+        take_more (map f cs) i (f c) (omega (arith, within, length-map cs f))
+        ∙ ap (λ x. take i (map f cs) ++ x ∷ []) (get_or-map f cs i c (f c) within ∙ ap f (sym is))
 
-    pub replies-stepped : (replies news : List (PlainReply T)) (reply : PlainReply T) → replies ≡ run_replies (take i cs) start → reply ≡ step_reply (get_or cs i d) t → news ≡ replies ++ reply ∷ [] → news ≡ run_replies (take (i + 1) cs) start
+    pub rows-stepped : (new : List (List T)) → new ≡ step_rows d (f c) t → new ≡ run_rows d (take (i + 1) (map f cs)) start
+    rows-stepped new e =
+        e ∙ (ap (step_rows d (f c)) rows
+        ∙ (sym (run_rows-more d (take i (map f cs)) (f c) start) ∙ ap (λ xs. run_rows d xs start) (sym next)))
+
+    pub replies-stepped : (replies news : List (ReplyValue T)) (reply : ReplyValue T) → replies ≡ run_replies d (take i (map f cs)) start → reply ≡ step_reply (f c) t → news ≡ replies ++ reply ∷ [] → news ≡ run_replies d (take (i + 1) (map f cs)) start
     replies-stepped replies news reply so_far e grown =
         grown ∙ (ap (λ xs. xs ++ reply ∷ []) so_far
-        ∙ (ap (λ x. run_replies (take i cs) start ++ x ∷ []) (e ∙ ap (step_reply (get_or cs i d)) rows)
-        ∙ (sym (run_replies-more (take i cs) (get_or cs i d) start) ∙ ap (λ xs. run_replies xs start) (sym (take_more cs i d within)))))
+        ∙ (ap (λ x. run_replies d (take i (map f cs)) start ++ x ∷ []) (e ∙ ap (step_reply (f c)) rows)
+        ∙ (sym (run_replies-more d (take i (map f cs)) (f c) start) ∙ ap (λ xs. run_replies d xs start) (sym next))))

@@ -253,7 +253,7 @@ pub fn turn_texts_back<A: Allocator>(grid: &mut Grid<String, A>, symmetry: Symme
 }
 
 /// Runs one symmetry as a command on texts.
-pub fn run_on_texts<A: Allocator>(
+pub fn run_on_texts<A: Allocator + Clone>(
     grid: &mut Grid<Option<String>, A>,
     symmetry: Symmetry,
     tally: &mut Tally,

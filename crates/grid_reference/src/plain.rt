@@ -5,7 +5,8 @@ ghost use Rattle.grid_base.specs.Table.{row_count, col_count, cell, cells_by, co
 ghost use Rattle.grid_base.specs.Order.{storage};
 ghost use Rattle.grid_base.specs.Symmetry.{act, image_rows, image_cols, source_row, source_col};
 ghost use Rattle.grid.specs.Reply.{reply_value};
-ghost use Rattle.grid.specs.Command.{step_rows, step_reply};
+ghost use Rattle.grid.specs.Command.{command_value};
+ghost use Rattle.grid.specs.Step.{step_rows, step_reply};
 ghost use Rattle.grid.specs.Run.{run_rows, run_replies};
 ghost use Rattle.grid_reference.specs.Plain.{items_of_each, AfterSome};
 
@@ -140,18 +141,24 @@ pub fn storage<T: Copy>(
     }
 }
 
-/// Does a command, and returns its reply.
+#[tactic(auto, unfolding(grid::specs::Step::step_rows, grid::specs::Step::step_reply))]
+/// Does a command, where `default` is the cells' default, and returns its reply.
 ///
-/// Fails: where memory is refused; the table is unchanged.
+/// It knows `Size`, `Get` and `Apply`.
+///
+/// Fails: at every other command, and where memory is refused; the table is unchanged.
 pub fn step<T: Copy>(
     alloc: Global,
-    command: &Command,
+    default: T,
+    command: &Command<T>,
     table: &mut Vec<Vec<T>>,
 ) -> Result<Reply<T>, AllocError>
     ensures rows { OnOk result
-        (items_of_each table.new ≡ step_rows command.now (items_of_each table.old)) }
+        (items_of_each table.new
+        ≡ step_rows default (command_value command.now) (items_of_each table.old)) }
     ensures reply { IfOk result
-        (λ reply. reply_value reply ≡ step_reply command.now (items_of_each table.old)) }
+        (λ reply. reply_value reply
+        ≡ step_reply (command_value command.now) (items_of_each table.old)) }
     ensures err { OnErr result (table.new ≡ table.old) }
 {
     match command {
@@ -164,6 +171,7 @@ pub fn step<T: Copy>(
             *table = act(alloc, *symmetry, table)?;
             Ok(Reply::Done)
         }
+        _ => Err(AllocError),
     }
 }
 
@@ -172,19 +180,23 @@ pub fn step<T: Copy>(
 /// Fails: where memory is refused; the table is as after some of the commands.
 pub fn run<T: Copy>(
     alloc: Global,
-    commands: &[Command],
+    default: T,
+    commands: &[Command<T>],
     table: &mut Vec<Vec<T>>,
 ) -> Result<Vec<Reply<T>>, AllocError>
     ensures rows { OnOk result
-        (items_of_each table.new ≡ run_rows commands.now (items_of_each table.old)) }
-    ensures replies { IfOk result (λ replies. map reply_value replies.items
-        ≡ run_replies commands.now (items_of_each table.old)) }
+        (items_of_each table.new
+        ≡ run_rows default (map command_value commands.now) (items_of_each table.old)) }
+    ensures replies { IfOk result
+        (λ replies. map reply_value replies.items
+        ≡ run_replies default (map command_value commands.now) (items_of_each table.old)) }
     ensures err { OnErr result
-        (AfterSome commands.now (items_of_each table.old) (items_of_each table.new)) }
+        (AfterSome default (map command_value commands.now)
+        (items_of_each table.old) (items_of_each table.new)) }
 {
     let mut replies = Vec::new(alloc);
     for command in commands {
-        replies.push(step(alloc, command, table)?)?;
+        replies.push(step(alloc, default, command, table)?)?;
     }
     Ok(replies)
 }

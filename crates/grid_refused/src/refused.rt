@@ -16,7 +16,10 @@ use std::process::Abort;
 use std::test::Fail;
 
 // So many rotations, in a list whose heap refuses each later request.
-fn starved_rotations(heap: &Heap, len: usize) -> Result<Vec<Command, &Heap>, AllocError> {
+fn starved_rotations(
+    heap: &Heap,
+    len: usize,
+) -> Result<Vec<Command<u32, &Heap>, &Heap>, AllocError> {
     heap.grant(1);
     let mut commands = Vec::with_capacity(heap, len)?;
     for _ in 0..len {
@@ -27,7 +30,10 @@ fn starved_rotations(heap: &Heap, len: usize) -> Result<Vec<Command, &Heap>, All
 }
 
 // Whether a run of `len` commands did none of them, and was stopped if there is one.
-fn did_nothing(ran: &Result<Vec<Reply<u32>, &Heap>, RunStopped<u32, &Heap>>, len: usize) -> bool {
+fn did_nothing(
+    ran: &Result<Vec<Reply<u32, &Heap>, &Heap>, RunStopped<u32, &Heap>>,
+    len: usize,
+) -> bool {
     match ran {
         Ok(replies) => len == 0 && replies.is_empty(),
         Err(stop) => len != 0 && stop.done == 0 && stop.replies.is_empty(),
@@ -65,12 +71,18 @@ fn runs_with_no_memory_for_replies(rt: HostRuntime) -> Result<(), Fail> {
     Ok(())
 }
 
-const REPLIES: [Reply<u32>; 4] = [
-    Reply::Cell(Some(3)),
-    Reply::Done,
-    Reply::Cell(Some(6)),
-    Reply::Size(3, 2),
-];
+// Whether a run replied with the cells 3 and 6, before and after a rotation, and with the size then.
+fn has_cells(replies: &[Reply<u32, &Heap>]) -> bool {
+    matches!(
+        replies,
+        [
+            Reply::Cell(Some(3)),
+            Reply::Done,
+            Reply::Cell(Some(6)),
+            Reply::Size(3, 2)
+        ]
+    )
+}
 
 // Runs four commands where one request is granted for their list, and one for the replies.
 fn check_run_with_one_request<'a>(
@@ -87,7 +99,7 @@ fn check_run_with_one_request<'a>(
     ]?;
     heap.grant(1);
     match run(heap, grid, commands, &mut Tally::new()) {
-        Ok(replies) => assert_eq!(rt; replies.as_slice(), REPLIES.as_slice()),
+        Ok(replies) => assert!(rt; has_cells(replies.as_slice())),
         Err(_) => panic!(rt; "one request is granted"),
     }
     Ok(())

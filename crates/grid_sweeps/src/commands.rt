@@ -26,7 +26,7 @@ enum Code {
     Apply(Symmetry),
 }
 
-fn command_of(code: Code) -> Command {
+fn command_of(code: Code) -> Command<u32> {
     match code {
         Code::Size => Command::Size,
         Code::Get(row, col) => Command::Get(row, col),
@@ -46,7 +46,7 @@ fn all_codes(alloc: Global) -> Result<Vec<Code>, AllocError> {
     Ok(codes)
 }
 
-fn commands_of(alloc: Global, codes: &[Code]) -> Result<Vec<Command>, AllocError> {
+fn commands_of(alloc: Global, codes: &[Code]) -> Result<Vec<Command<u32>>, AllocError> {
     let mut commands = Vec::new(alloc);
     for code in codes {
         commands.push(command_of(*code))?;
@@ -88,7 +88,7 @@ fn plain_outcome(
             swaps = swaps.saturating_add(price(symmetry, rows, cols) as u128);
             order = order_after(symmetry, order);
         }
-        replies.push(plain::step(alloc, &command_of(*code), &mut table)?)?;
+        replies.push(plain::step(alloc, 0, &command_of(*code), &mut table)?)?;
     }
     Ok(Outcome {
         table,
@@ -107,7 +107,7 @@ fn check_plain_run(
     want: &Outcome,
 ) -> Result<(), Fail> {
     let commands = commands_of(alloc, codes)?;
-    let replies = plain::run(alloc, commands.as_slice(), &mut table)?;
+    let replies = plain::run(alloc, 0, commands.as_slice(), &mut table)?;
     assert!(rt; replies == want.replies && table == want.table);
     Ok(())
 }

@@ -1,6 +1,7 @@
 //! Worked examples, with values that were found by hand.
 mod all_cells;
 mod cells;
+mod commands;
 mod conversions;
 mod edits;
 mod makers;

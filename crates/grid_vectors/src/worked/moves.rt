@@ -110,7 +110,7 @@ fn flip_rows_column_major(rt: HostRuntime) -> Result<(), Fail> {
     Ok(())
 }
 
-fn turns(alloc: Global, count: usize) -> Result<Vec<Command>, AllocError> {
+fn turns<T: Drop>(alloc: Global, count: usize) -> Result<Vec<Command<T>>, AllocError> {
     let mut commands = Vec::new(alloc);
     for _ in 0..count {
         commands.push(Command::Apply(Symmetry::RotateLeft))?;

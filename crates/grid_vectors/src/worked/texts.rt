@@ -48,15 +48,15 @@ fn moves_compare_and_print(rt: HostRuntime) -> Result<(), Fail> {
 
 #[test]
 fn commands_compare_and_print(rt: HostRuntime) -> Result<(), Fail> {
-    assert_eq!(rt; Command::Get(1, 2), Command::Get(1, 2));
-    assert_ne!(rt; Command::Size, Command::Apply(Symmetry::FlipRows));
-    assert_debug(&rt, rt.alloc(), &Command::Get(1, 2), "Get(1, 2)")?;
+    assert_eq!(rt; Command::<u32>::Get(1, 2), Command::Get(1, 2));
+    assert_ne!(rt; Command::<u32>::Size, Command::Apply(Symmetry::FlipRows));
+    assert_debug(&rt, rt.alloc(), &Command::<u32>::Get(1, 2), "Get(1, 2)")?;
     Ok(())
 }
 
 #[test]
 fn replies_compare_and_print(rt: HostRuntime) -> Result<(), Fail> {
-    let cell = Reply::Cell(Some(7u32));
+    let cell: Reply<u32> = Reply::Cell(Some(7));
     assert_eq!(rt; cell, Reply::Cell(Some(7)));
     assert_ne!(rt; cell, Reply::Done);
     assert_debug(&rt, rt.alloc(), &cell, "Cell(Some(7))")?;

@@ -1,4 +1,5 @@
 use Rattle.std.proofs.Common.{◌≡◌, map, take}
+use Rattle.grid.specs.Command.{command_value}
 use Rattle.grid.specs.Reply.{reply_value}
 use Rattle.grid.specs.Run.{run_rows, run_replies}
 use Rattle.grid_reference.specs.Plain.{items_of_each}
@@ -6,6 +7,6 @@ use Rattle.grid_reference.proofs.plain.run.Given as goal
 
 abbrev pub invariant-loop-command : goal.invariant-loop-command
 invariant-loop-command g l = record {
-  rows : items_of_each l.table ≡ run_rows (take l.command-index l.commands) (items_of_each l.initial.table);
-  replies : map reply_value l.replies.items ≡ run_replies (take l.command-index l.commands) (items_of_each l.initial.table);
+  rows : items_of_each l.table ≡ run_rows l.default (take l.command-index (map command_value l.commands)) (items_of_each l.initial.table);
+  replies : map reply_value l.replies.items ≡ run_replies l.default (take l.command-index (map command_value l.commands)) (items_of_each l.initial.table);
 }
