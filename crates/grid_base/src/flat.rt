@@ -2,6 +2,7 @@
 ghost use Rattle.std.specs.Prelude.{◌≡◌, ◌<◌, [], length, swap, slice_get, Some};
 ghost use Rattle.std.specs.Borrow.{sem};
 
+mod all_cells;
 mod blocks;
 mod clone;
 mod ends;
@@ -18,7 +19,6 @@ mod tally;
 #[cfg(test)]
 mod tests;
 mod whole;
-mod all_cells;
 
 pub use indexed::IndexedIter;
 pub use indexed_into::IndexedIntoIter;
