@@ -1,6 +1,7 @@
 //! Plays a script on a grid: reads the grid and the commands, runs them, and writes a line for each reply.
 #![tactic(auto)]
 
+mod command;
 mod fault;
 mod run;
 mod script;

@@ -1,9 +1,10 @@
 //! Scripts: a grid on the first line, then at most one command on a line.
-ghost use Rattle.std.specs.Prelude.{◌≡◌, ◌↔◌, codes};
+ghost use Rattle.std.specs.Prelude.{◌≡◌, ◌↔◌, Some, codes};
 
+use crate::command::parse_command;
 use crate::fault::ScriptFault;
 use crate::tokens::{Lines, Words, cell, index};
-use grid::{Command, Grid, Order, Symmetry, can_cut};
+use grid::{Command, Grid, Order, can_cut};
 use std::alloc::{AllocError, Allocator, Global};
 
 /// A script that was read.
@@ -53,7 +54,7 @@ fn order(word: &str) -> Option<Order>
 }
 
 // The cells that the words write, or `None` where one writes no cell.
-fn parse_cells<A: Allocator>(
+pub(crate) fn parse_cells<A: Allocator>(
     alloc: A,
     words: Words<'_>,
 ) -> Result<Option<Vec<i64, A>>, AllocError> {
@@ -67,59 +68,17 @@ fn parse_cells<A: Allocator>(
     Ok(Some(cells))
 }
 
-fn parse_commands<A: Allocator>(
+fn parse_commands<A: Allocator + Clone>(
     alloc: A,
     lines: Lines<'_>,
 ) -> Result<Vec<Command<i64, A>, A>, ScriptFault> {
-    let mut commands = Vec::new(alloc);
+    let mut commands = Vec::new(alloc.clone()?);
     for (number, line) in lines {
         let mut words = Words::of(line).ok_or(ScriptFault::BadCommand(number))?;
         if let Some(name) = words.next() {
-            let command = parse_command(name, words).ok_or(ScriptFault::BadCommand(number))?;
-            commands.push(command)?;
+            let command = parse_command(alloc.clone()?, name, words)?;
+            commands.push(command.ok_or(ScriptFault::BadCommand(number))?)?;
         }
     }
     Ok(commands)
-}
-
-// The command of a name and all words after it.
-fn parse_command<A: Allocator>(name: &str, mut words: Words<'_>) -> Option<Command<i64, A>> {
-    let command = match name {
-        "size" => Command::Size,
-        "get" => {
-            let row = index(words.next()?)?;
-            let col = index(words.next()?)?;
-            Command::Get(row, col)
-        }
-        _ => Command::Apply(symmetry(name)?),
-    };
-    match words.next() {
-        None => Some(command),
-        Some(_) => None,
-    }
-}
-
-fn symmetry(name: &str) -> Option<Symmetry>
-    ensures identity { (result ≡ Some Symmetry.Identity) ↔ (name.now ≡ codes "identity") }
-    ensures flip_cols { (result ≡ Some Symmetry.FlipCols) ↔ (name.now ≡ codes "flip_cols") }
-    ensures flip_rows { (result ≡ Some Symmetry.FlipRows) ↔ (name.now ≡ codes "flip_rows") }
-    ensures rotate_half { (result ≡ Some Symmetry.RotateHalf) ↔ (name.now ≡ codes "rotate_half") }
-    ensures transpose { (result ≡ Some Symmetry.Transpose) ↔ (name.now ≡ codes "transpose") }
-    ensures rotate_left { (result ≡ Some Symmetry.RotateLeft) ↔ (name.now ≡ codes "rotate_left") }
-    ensures rotate_right { (result ≡ Some Symmetry.RotateRight)
-        ↔ (name.now ≡ codes "rotate_right") }
-    ensures anti_transpose { (result ≡ Some Symmetry.AntiTranspose)
-        ↔ (name.now ≡ codes "anti_transpose") }
-{
-    match name {
-        "identity" => Some(Symmetry::Identity),
-        "flip_cols" => Some(Symmetry::FlipCols),
-        "flip_rows" => Some(Symmetry::FlipRows),
-        "rotate_half" => Some(Symmetry::RotateHalf),
-        "transpose" => Some(Symmetry::Transpose),
-        "rotate_left" => Some(Symmetry::RotateLeft),
-        "rotate_right" => Some(Symmetry::RotateRight),
-        "anti_transpose" => Some(Symmetry::AntiTranspose),
-        _ => None,
-    }
 }
