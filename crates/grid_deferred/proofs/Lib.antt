@@ -1,0 +1,2 @@
+mod CarryLemmas
+mod LineLemmas
