@@ -1,2 +1,4 @@
 mod CarryLemmas
 mod LineLemmas
+mod ShownLemmas
+mod PendingLemmas

@@ -1,2 +1,4 @@
 pub mod Carry
 pub mod Carried
+pub mod Deferred
+pub mod Run
