@@ -7,7 +7,7 @@ use Rattle.grid_base.specs.declared.flat.order.Order.{Order}
 use Rattle.grid_base.specs.Tally.{saturating_count}
 use Rattle.grid_base.specs.Symmetry.{act, IsThen, symmetry_of}
 use Rattle.grid_base.proofs.GroupLemmas.{product, then_is, act-act, symmetry_of-concat_rows, identity_product, product_identity}
-use Rattle.grid.specs.Command.{CommandValue, command_value, size, get, set_cell, swap_cells, lines, fill, clear, apply, axis_of}
+use Rattle.grid.specs.Command.{CommandValue, command_value, size, get, set_cell, swap_cells, lines, fill, clear, apply, axis_of, read}
 use Rattle.grid.specs.Reply.{ReplyValue, done}
 use Rattle.grid.specs.declared.command.Axis.{Axis}
 use Rattle.grid.specs.declared.command.Axis.TheVariants.{Row, Col}
@@ -55,6 +55,11 @@ module _ {T : Type 0} where
   pub get-rows : (d : T) (r c : ℕ) (t : List (List T)) → t ≡ step_rows d (get r c) t
   unfolding step_rows
   get-rows d r c t = refl
+
+  pub line-rows : (d : T) (a : Axis) (at : ℕ) (t : List (List T)) → t ≡ step_rows d (lines a (read at)) t
+  unfolding step_rows
+  line-rows d Row at t = refl
+  line-rows d Col at t = refl
 
   pub none_applied : (y : CommandValue T) → is_apply y ≡ false → (u : Symmetry) → y ≡ apply u → ⊥
   none_applied y h u e = absurd (cc (h, ap is_apply e))

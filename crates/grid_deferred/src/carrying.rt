@@ -133,7 +133,7 @@ fn flip<T, A: Allocator>(rows: usize, command: Command<T, A>) -> Command<T, A>
 }
 
 // Where a line stands, counted from the other end; past the end it stays.
-fn place(count: usize, at: usize) -> usize
+pub(crate) fn place(count: usize, at: usize) -> usize
     ensures { result ≡ mirror_place count at }
 {
     if at < count { count - 1 - at } else { at }

@@ -1,5 +1,5 @@
 //! A grid seen through a symmetry that isn't applied yet.
-ghost use Rattle.std.specs.Prelude.{◌≡◌, OnOk, OnErr, IfOk, IsTrue, false};
+ghost use Rattle.std.specs.Prelude.{◌≡◌, OnOk, OnErr, IfOk, IsTrue, false, nat_lt};
 ghost use Rattle.std.specs.Option.{option_copied};
 ghost use Rattle.grid_base.specs.Table.{row_count, col_count, cell, IsTable};
 ghost use Rattle.grid_base.specs.Symmetry.{act, order_after, price};
@@ -7,17 +7,21 @@ ghost use Rattle.grid_base.specs.Tally.{saturating_count};
 ghost use Rattle.grid_base.specs.Clones.{ClonesAreEqual};
 ghost use Rattle.grid_base.specs.declared.words.Symmetry.{Symmetry};
 ghost use Rattle.grid_base.specs.declared.words.Symmetry.TheVariants.{Identity};
-ghost use Rattle.grid.specs.Command.{command_value, get, apply};
+ghost use Rattle.grid.specs.declared.command.Axis.TheVariants.{Row, Col};
+ghost use Rattle.grid.specs.Command.{command_value, get, lines, read, apply};
 ghost use Rattle.grid.specs.Reply.{reply_value};
 ghost use Rattle.grid.specs.Refusal.{in_range};
 ghost use Rattle.grid.specs.Step.{step_rows, step_reply, takes_memory, RowsAreKnown};
 ghost use Rattle.grid_deferred.specs.Carry.{shift_through, is_apply};
 ghost use Rattle.grid_deferred.specs.Deferred.{pending_after};
 
+mod walk;
+
 use crate::carrying::{base_place, carried, carry_reply, transposes};
 use grid::{Command, Grid, Reply, Tally};
 use grid_base::Symmetry;
 use std::alloc::{AllocError, Allocator, Global};
+pub use walk::DeferredLineIter;
 
 // Does on a base what a command, which is no Apply, does on the base's image.
 #[tactic(auto, using(crate::proofs::PendingLemmas::carried_known, crate::proofs::PendingLemmas::carried_still))]
@@ -58,6 +62,21 @@ where
         Ok(reply) => Ok(carry_reply(symmetry, axis, reply)),
         Err(refused) => Err(refused),
     }
+}
+
+// Clones of the cells of a line.
+fn clone_cells<T: Clone + Drop, A: Allocator>(
+    alloc: A,
+    line: DeferredLineIter<'_, T>,
+) -> Result<Vec<T, A>, AllocError>
+    ensures { IfOk result (λ cells. ClonesAreEqual T.is_clone → cells.items ≡ line.entry) }
+{
+    let mut cells = Vec::with_capacity(alloc, line.len())?;
+    for cell in line {
+        let copy = cell.clone()?;
+        cells.push(copy)?;
+    }
+    Ok(cells)
 }
 
 /// A grid with a symmetry that isn't applied to it yet, shown as if it were.
@@ -145,6 +164,42 @@ impl<'a, T, A: Allocator> Deferred<'a, T, A> {
         }
     }
 
+    // Reads a row.
+    fn read_row(&self, at: usize) -> Result<Reply<T, A>, AllocError>
+    where
+        T: Clone + Drop,
+        A: Clone,
+        ensures reply { IfOk result (λ reply. ClonesAreEqual T.is_clone
+            → reply_value reply ≡ step_reply (lines Row (read at)) (shown self.now)) }
+        ensures err_memory { OnErr result (IsTrue (nat_lt at (row_count (shown self.now)))) }
+    {
+        let (rows, _) = self.size();
+        if at >= rows {
+            return Ok(Reply::Line(None));
+        }
+        let alloc = self.base.allocator().clone()?;
+        let line = clone_cells(alloc, self.iter_row(at))?;
+        Ok(Reply::Line(Some(line)))
+    }
+
+    // Reads a column.
+    fn read_col(&self, at: usize) -> Result<Reply<T, A>, AllocError>
+    where
+        T: Clone + Drop,
+        A: Clone,
+        ensures reply { IfOk result (λ reply. ClonesAreEqual T.is_clone
+            → reply_value reply ≡ step_reply (lines Col (read at)) (shown self.now)) }
+        ensures err_memory { OnErr result (IsTrue (nat_lt at (col_count (shown self.now)))) }
+    {
+        let (_, cols) = self.size();
+        if at >= cols {
+            return Ok(Reply::Line(None));
+        }
+        let alloc = self.base.allocator().clone()?;
+        let line = clone_cells(alloc, self.iter_col(at))?;
+        Ok(Reply::Line(Some(line)))
+    }
+
     /// Does a command on the shown grid, and returns its reply.
     ///
     ///     over([[1, 2]])   step(Apply(FlipCols))     Done   base [[1, 2]], shown [[2, 1]]
@@ -196,6 +251,8 @@ impl<'a, T, A: Allocator> Deferred<'a, T, A> {
                 Ok(Reply::Done)
             }
             Command::Get(row, col) => self.read_cell(row, col),
+            Command::Row(at) => self.read_row(at),
+            Command::Col(at) => self.read_col(at),
             other => step_through(self.base, self.pending, size, other, tally),
         }
     }

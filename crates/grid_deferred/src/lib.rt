@@ -9,5 +9,5 @@ mod deferred;
 mod run;
 
 pub use carrying::{carry, carry_reply};
-pub use deferred::Deferred;
+pub use deferred::{Deferred, DeferredLineIter};
 pub use run::run_deferred;

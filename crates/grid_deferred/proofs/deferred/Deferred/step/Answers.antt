@@ -2,7 +2,8 @@ use Rattle.std.proofs.Common.{◌≡◌, refl}
 use Rattle.grid_base.specs.declared.words.Symmetry.{Symmetry}
 use Rattle.grid.specs.Step.{step_rows, RowsAreKnown}
 use Rattle.grid_deferred.specs.Deferred.{base, shown}
-use Rattle.grid_deferred.proofs.PendingLemmas.{pending-then, shown-then, reply-then, pending-still, applies-none, none_applied, get-rows, ok_any, err_any}
+use Rattle.grid_deferred.proofs.PendingLemmas.{pending-then, shown-then, reply-then, pending-still, applies-none, none_applied, get-rows, line-rows, ok_any, err_any}
+use Rattle.grid.specs.declared.command.Axis.TheVariants.{Row, Col}
 use Rattle.grid.specs.Command.{command_value, apply}
 use Rattle.grid_deferred.proofs.deferred.Deferred.step.Goals as goal
 
@@ -23,6 +24,24 @@ returns-in-Get-clause-rows g c =
 
 pub returns-in-Get-clause-pending : goal.returns-in-Get-clause-pending
 returns-in-Get-clause-pending g c = ok_any _ (pending-still (command_value c.args.command) _ (rw c.in-Get.is refl))
+
+pub returns-in-Row-clause-rows : goal.returns-in-Row-clause-rows
+returns-in-Row-clause-rows g c =
+    let p : (d : g.row.T.Denot) → RowsAreKnown g.T.Default.is_default g.T.Clone.is_clone d (command_value c.args.command) → shown c.args.self.now ≡ step_rows d (command_value c.args.command) (shown c.args.self.now) =
+    λ d h. rw c.in-Row.is (line-rows d Row _ _) in
+    ok_any _ p
+
+pub returns-in-Row-clause-pending : goal.returns-in-Row-clause-pending
+returns-in-Row-clause-pending g c = ok_any _ (pending-still (command_value c.args.command) _ (rw c.in-Row.is refl))
+
+pub returns-in-Col-clause-rows : goal.returns-in-Col-clause-rows
+returns-in-Col-clause-rows g c =
+    let p : (d : g.row.T.Denot) → RowsAreKnown g.T.Default.is_default g.T.Clone.is_clone d (command_value c.args.command) → shown c.args.self.now ≡ step_rows d (command_value c.args.command) (shown c.args.self.now) =
+    λ d h. rw c.in-Col.is (line-rows d Col _ _) in
+    ok_any _ p
+
+pub returns-in-Col-clause-pending : goal.returns-in-Col-clause-pending
+returns-in-Col-clause-pending g c = ok_any _ (pending-still (command_value c.args.command) _ (rw c.in-Col.is refl))
 
 pub returns-in_default : goal.returns-in_default
 returns-in_default g c =
