@@ -54,23 +54,23 @@ module _ {T : Type 0} where
   run_shift-more d [] x o t = omega arith
   run_shift-more d (y ∷ xs) x o t = omega (arith, run_shift-more d xs x (order_after (command_symmetry y) o) (step_rows d y t))
 
-  list_symmetry-more : (xs : List (CommandValue T)) (x : CommandValue T) → list_symmetry (xs ++ x ∷ []) ≡ product (list_symmetry xs) (command_symmetry x)
+  pub list_symmetry-more : (xs : List (CommandValue T)) (x : CommandValue T) → list_symmetry (xs ++ x ∷ []) ≡ product (list_symmetry xs) (command_symmetry x)
   list_symmetry-more xs x = ap symmetry_of (map-append command_symmetry xs (x ∷ [])) ∙ symmetry_of-more (map command_symmetry xs) (command_symmetry x)
 
   order-more : (xs : List (CommandValue T)) (x : CommandValue T) (o : Order) → order_after (list_symmetry (xs ++ x ∷ [])) o ≡ order_after (command_symmetry x) (order_after (list_symmetry xs) o)
   order-more xs x o = ap (λ s. order_after s o) (list_symmetry-more xs x) ∙ sym (order_after-order_after (list_symmetry xs) (command_symmetry x) o)
 
-list_symmetry-none : symmetry_of [] ≡ Identity
+pub list_symmetry-none : symmetry_of [] ≡ Identity
 list_symmetry-none = symmetry_of-concat_rows []
 
-saturating_count-none : (n : ℕ) → n ≡ saturating_count n 0
+pub saturating_count-none : (n : ℕ) → n ≡ saturating_count n 0
 saturating_count-none n = omega arith
 
 saturating_count-saturating_count : (n j k : ℕ) → saturating_count (saturating_count n j) k ≡ saturating_count n (j + k)
 saturating_count-saturating_count n j k = omega arith
 
 -- a count of one more command
-count_more : (n j k : ℕ) (before between after : ℕ) → between ≡ saturating_count before j → after ≡ saturating_count between k → n ≡ j + k → after ≡ saturating_count before n
+pub count_more : (n j k : ℕ) (before between after : ℕ) → between ≡ saturating_count before j → after ≡ saturating_count between k → n ≡ j + k → after ≡ saturating_count before n
 count_more n j k before between after first more sum =
     more ∙ (ap (λ b. saturating_count b k) first ∙ (saturating_count-saturating_count before j k ∙ ap (saturating_count before) (sym sum)))
 
@@ -96,7 +96,7 @@ module _ {T : Type 0} (is_clone : T → T → Type 0) (is_default : T → Type 0
   known_all d one same size = one
   known_all d one same x = one
 
-  known_list : (d : T) → IsOnlyDefault is_default d → ClonesAreEqual is_clone → (xs : List (CommandValue T)) → All (RowsAreKnown is_default is_clone d) xs
+  pub known_list : (d : T) → IsOnlyDefault is_default d → ClonesAreEqual is_clone → (xs : List (CommandValue T)) → All (RowsAreKnown is_default is_clone d) xs
   known_list d one same xs = All-from_get_or (RowsAreKnown is_default is_clone d) xs size (λ i lt. known_all d one same (get_or xs i size))
 
   module _ (xs : List (CommandValue T)) (x : CommandValue T) (old mid new : GridValue T) (first between last : Counts) (answers more : List (ReplyValue T)) where

@@ -120,6 +120,11 @@ impl<T, A: Allocator> Grid<T, A> {
         (self.row_count, self.col_count)
     }
 
+    /// Returns the allocator of the vector.
+    pub fn allocator(&self) -> &A {
+        self.flat.allocator()
+    }
+
     /// Returns the number of rows.
     ///
     ///     [[1, 2, 3], [4, 5, 6]]   rows()   2

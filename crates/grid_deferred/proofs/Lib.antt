@@ -1,0 +1,7 @@
+mod CarryLemmas
+mod LineLemmas
+mod ShownLemmas
+mod PendingLemmas
+mod AllowanceLemmas
+mod RunLemmas
+mod WalkLemmas

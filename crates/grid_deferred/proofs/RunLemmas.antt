@@ -1,0 +1,151 @@
+-- A deferred run of one more command.
+use Rattle.std.proofs.Common.{◌≡◌, ℕ, suc, ◌+◌, ◌*◌, ◌/◌, ◌≤◌, List, [], ◌∷◌, ◌++◌, length, length-append, Some, refl, sym, ◌∙◌, ap, arith}
+use Rattle.std.specs.List.{All}
+use Rattle.std.proofs.lemmas.List.Elements.{All-pop}
+use Rattle.grid_base.specs.declared.words.Symmetry.{Symmetry}
+use Rattle.grid_base.specs.declared.words.Symmetry.TheVariants.{Identity}
+use Rattle.grid_base.specs.declared.flat.order.Order.{Order}
+use Rattle.grid_base.specs.GridValue.{GridValue}
+use Rattle.grid_base.specs.Table.{row_count, col_count, IsTable}
+use Rattle.grid_base.specs.Tally.{Counts, saturating_count}
+use Rattle.grid_base.specs.Clones.{ClonesAreEqual}
+use Rattle.grid_base.specs.Symmetry.{act, order_after, price, half, image_rows, image_cols}
+use Rattle.grid_base.proofs.ActLemmas.{rows-act, cols-act}
+use Rattle.grid_base.proofs.GroupLemmas.{product, act-identity}
+use Rattle.grid_base.proofs.PriceLemmas.{price_within_half}
+use Rattle.grid.specs.Make.{IsOnlyDefault}
+use Rattle.grid.specs.Command.{CommandValue}
+use Rattle.grid.specs.Reply.{ReplyValue}
+use Rattle.grid.specs.Step.{step_rows, step_reply, RowsAreKnown}
+use Rattle.grid.specs.Cost.{command_symmetry, list_symmetry}
+use Rattle.grid.specs.Run.{run_rows, run_replies}
+use Rattle.grid.proofs.RunLemmas.{run_rows-more, run_replies-more, list_symmetry-more, list_symmetry-none, known_list, saturating_count-none, count_more}
+use Rattle.grid_deferred.specs.Carry.{shift_through}
+use Rattle.grid_deferred.specs.Deferred.{pending_after}
+use Rattle.grid_deferred.specs.Run.{settling_price, shown_shift, deferred_shift, run_allowance, LeftByDeferred, RanDeferred}
+use Rattle.grid_deferred.proofs.PendingLemmas.{pending-product}
+use Rattle.grid_deferred.proofs.AllowanceLemmas.{image_cells, run_within}
+
+-- exchanging twice
+size_back : (s : Symmetry) (m n : ℕ) → (image_rows s (image_rows s m n) (image_cols s m n) ≡ m) × (image_cols s (image_rows s m n) (image_cols s m n) ≡ n)
+size_back Identity m n = (refl, refl)
+size_back s m n = (refl, refl)
+
+module _ {T : Type 0} where
+  -- what is pending after a list of commands, one after another
+  abbrev pub run_pending : List (CommandValue T) → Symmetry → Symmetry
+  run_pending [] s = s
+  run_pending (x ∷ xs) s = run_pending xs (pending_after x s)
+
+  run_pending-more : (xs : List (CommandValue T)) (x : CommandValue T) (s : Symmetry) → run_pending (xs ++ x ∷ []) s ≡ pending_after x (run_pending xs s)
+  run_pending-more [] x s = refl
+  run_pending-more (y ∷ xs) x s = run_pending-more xs x (pending_after y s)
+
+  deferred_shift-more : (d : T) (o : Order) (xs : List (CommandValue T)) (x : CommandValue T) (s : Symmetry) (t : List (List T)) → deferred_shift d o (xs ++ x ∷ []) s t ≡ deferred_shift d o xs s t + shown_shift (run_pending xs s) x o (run_rows d xs t)
+  deferred_shift-more d o [] x s t = omega arith
+  deferred_shift-more d o (y ∷ xs) x s t = omega (arith, deferred_shift-more d o xs x (pending_after y s) (step_rows d y t))
+
+  -- the size of a base by that of its image
+  rows_back : (s : Symmetry) (t : List (List T)) → IsTable t → image_rows s (row_count (act s t)) (col_count (act s t)) ≡ row_count t
+  rows_back s t h = rw (rows-act s t, cols-act s t h) (size_back s (row_count t) (col_count t)).0
+
+  cols_back : (s : Symmetry) (t : List (List T)) → IsTable t → image_cols s (row_count (act s t)) (col_count (act s t)) ≡ col_count t
+  cols_back s t h = rw (rows-act s t, cols-act s t h) (size_back s (row_count t) (col_count t)).1
+
+  shift_shown : (s : Symmetry) (x : CommandValue T) (o : Order) (t : List (List T)) → IsTable t → shift_through s x o (row_count t) (col_count t) ≡ shown_shift s x o (act s t)
+  shift_shown s x o t h = rw (rows_back s t h, cols_back s t h) refl
+
+  -- the rows and the shifts of a deferred run after these commands
+  pub record GoingRows (d : T) (xs : List (CommandValue T)) (first base : GridValue T) (pending : Symmetry) (before after : ℕ) : Type 0 where
+    pub rows : act pending base.rows ≡ run_rows d xs first.rows
+    pub shift : after ≡ saturating_count before (deferred_shift d first.order xs Identity first.rows)
+
+-- a deferred run after these commands: the base, what is pending and the replies
+pub record Going {T : Type 0} (is_clone : T → T → Type 0) (is_default : T → Type 0) (xs : List (CommandValue T)) (first base : GridValue T) (pending : Symmetry) (before after : ℕ) (answers : List (ReplyValue T)) : Type 0 where
+  pub table : IsTable base.rows
+  pub order : base.order ≡ first.order
+  pub pends : pending ≡ run_pending xs Identity
+  pub joins : pending ≡ list_symmetry xs
+  pub count : length answers ≡ length xs
+  pub left : (d : T) → All (RowsAreKnown is_default is_clone d) xs → GoingRows d xs first base pending before after
+  pub replies : (d : T) → IsOnlyDefault is_default d → ClonesAreEqual is_clone → answers ≡ run_replies d xs first.rows
+
+module _ {T : Type 0} (is_clone : T → T → Type 0) (is_default : T → Type 0) where
+  pub going_none : (s : GridValue T) (n : ℕ) → IsTable s.rows → act Identity s.rows ≡ s.rows → Going is_clone is_default [] s s Identity n n []
+  going_none s n h e = record {
+    table = h;
+    order = refl;
+    pends = refl;
+    joins = sym list_symmetry-none;
+    count = refl;
+    left = λ d known. record { rows = e; shift = saturating_count-none n };
+    replies = λ d one same. refl;
+  }
+
+  module _ (xs : List (CommandValue T)) (x : CommandValue T) (first base next : GridValue T) (s u : Symmetry) (before between after : ℕ) (answers more : List (ReplyValue T)) where
+    pub going_more : Going is_clone is_default xs first base s before between answers → IsTable next.rows → next.order ≡ base.order → ((d : T) → RowsAreKnown is_default is_clone d x → act u next.rows ≡ step_rows d x (act s base.rows)) → u ≡ pending_after x s → after ≡ saturating_count between (shift_through s x base.order (row_count base.rows) (col_count base.rows)) → length more ≡ suc (length answers) → (ClonesAreEqual is_clone → more ≡ answers ++ step_reply x (act s base.rows) ∷ []) → Going is_clone is_default (xs ++ x ∷ []) first next u before after more
+    going_more g table order rows pends shift count reply = record {
+      table = table;
+      order = order ∙ g.order;
+      pends = pends ∙ (ap (pending_after x) g.pends ∙ sym (run_pending-more xs x Identity));
+      joins = pends ∙ (pending-product x s ∙ (ap (λ p. product p (command_symmetry x)) g.joins ∙ sym (list_symmetry-more xs x)));
+      count = omega (arith, count, g.count, length-append xs (x ∷ []));
+      left = λ d known. all_left d (All-pop (RowsAreKnown is_default is_clone d) (xs ++ x ∷ []) xs (Some x) refl known);
+      replies = λ d one same.
+          let l = g.left d (known_list is_clone is_default d one same xs) in
+          reply same
+          ∙ (ap (λ rs. rs ++ step_reply x (act s base.rows) ∷ []) (g.replies d one same)
+          ∙ (ap (λ t. run_replies d xs first.rows ++ step_reply x t ∷ []) l.rows ∙ sym (run_replies-more d xs x first.rows)));
+    }
+      where
+        by : (d : T) → GoingRows d xs first base s before between → shift_through s x base.order (row_count base.rows) (col_count base.rows) ≡ shown_shift (run_pending xs Identity) x first.order (run_rows d xs first.rows)
+        by d l =
+            shift_shown s x base.order base.rows g.table
+            ∙ (ap (λ o. shown_shift s x o (act s base.rows)) g.order
+            ∙ (ap (λ t. shown_shift s x first.order t) l.rows ∙ ap (λ p. shown_shift p x first.order (run_rows d xs first.rows)) g.pends))
+
+        all_left : (d : T) → All (RowsAreKnown is_default is_clone d) xs × RowsAreKnown is_default is_clone d x → GoingRows d (xs ++ x ∷ []) first next u before after
+        all_left d known =
+            let l = g.left d known.0 in
+            record {
+              rows = rows d known.1 ∙ (ap (step_rows d x) l.rows ∙ sym (run_rows-more d xs x first.rows));
+              shift = count_more _ _ _ _ _ _ l.shift (shift ∙ ap (saturating_count between) (by d l)) (deferred_shift-more d first.order xs x Identity first.rows);
+            }
+
+  -- a command that changed nothing
+  pub still_going : (xs : List (CommandValue T)) (first base next : GridValue T) (s u : Symmetry) (before between after : ℕ) (answers : List (ReplyValue T)) → Going is_clone is_default xs first base s before between answers → next ≡ base → u ≡ s → after ≡ between → Going is_clone is_default xs first next u before after answers
+  still_going xs first base next s u before between after answers g e f k = rw (e, f, k) g
+
+  -- settling ends a run
+  module _ (xs : List (CommandValue T)) (first base last : GridValue T) (s : Symmetry) (before between after : Counts) (answers : List (ReplyValue T)) where
+    pub settled : Going is_clone is_default xs first base s before.shift between.shift answers → between.symmetry ≡ before.symmetry → last.rows ≡ act s base.rows → last.order ≡ order_after s base.order → after.symmetry ≡ saturating_count between.symmetry (price s (row_count base.rows) (col_count base.rows)) → after.shift ≡ between.shift → RanDeferred is_clone is_default xs first last before after answers
+    settled g none rows flips paid shift = record {
+      count = g.count;
+      order = flips ∙ (ap (order_after s) g.order ∙ ap (λ p. order_after p first.order) g.joins);
+      symmetry = cost ∙ ap (λ p. saturating_count before.symmetry (settling_price p last.rows)) g.joins;
+      half = omega (arith, cost, small);
+      left = λ d known.
+          let l = g.left d known in
+          record { rows = rows ∙ l.rows; shift = shift ∙ l.shift; allowance = omega (arith, shift, l.shift, run_within d first.order xs Identity first.rows) };
+      replies = g.replies;
+    }
+      where
+        cost : after.symmetry ≡ saturating_count before.symmetry (settling_price s last.rows)
+        cost =
+            paid
+            ∙ (ap (λ k. saturating_count k (price s (row_count base.rows) (col_count base.rows))) none
+            ∙ rw (rows, rows_back s base.rows g.table, cols_back s base.rows g.table) refl)
+
+        small : settling_price s last.rows ≤ half (row_count last.rows) (col_count last.rows)
+        small =
+            let m = image_rows s (row_count last.rows) (col_count last.rows) in
+            let n = image_cols s (row_count last.rows) (col_count last.rows) in
+            let h = price_within_half s m n in
+            let same : half m n ≡ half (row_count last.rows) (col_count last.rows) = ap (λ k. k / 2) (image_cells s (row_count last.rows) (col_count last.rows)) in
+            omega (arith, h, same)
+
+  -- a run of no commands
+  pub ran_none : (s : GridValue T) (t : Counts) → IsTable s.rows → RanDeferred is_clone is_default [] s s t t []
+  ran_none s t h =
+      let same = act-identity s.rows h in
+      settled [] s s s Identity t t t [] (going_none s t.shift h same) refl (sym same) refl (saturating_count-none t.symmetry) refl

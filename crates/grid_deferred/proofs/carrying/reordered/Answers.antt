@@ -1,0 +1,6 @@
+use Rattle.std.proofs.Common.{map, reverse, ap, ◌∙◌}
+use Rattle.grid.proofs.CellThroughLemmas.{map-reversed}
+use Rattle.grid_deferred.proofs.carrying.reordered.Goals as goal
+
+pub returns : goal.returns
+returns g c = rw c.reverse.ensures.items (map-reversed (λ line. line.items) c.args.lines.items)

@@ -1,0 +1,10 @@
+use Rattle.std.proofs.Common.{◌≡◌, ◌++◌}
+use Rattle.grid_base.specs.Clones.{ClonesAreEqual}
+use Rattle.grid_deferred.proofs.deferred.clone_cells.Given as goal
+
+abbrev pub invariant-loop-cell : goal.invariant-loop-cell
+invariant-loop-cell g l = record {
+  can : (goal.iterator-loop-cell g).can_next l.cell-iterator;
+  finite : (goal.iterator-loop-cell g).is_finite l.cell-iterator;
+  cells : ClonesAreEqual g.T.Clone.is_clone → l.cells.items ++ l.cell-iterator ≡ l.fn.line;
+}

@@ -1,0 +1,95 @@
+use Rattle.std.proofs.Common.{◌≡◌, ◌<◌, suc, List, ◌++◌, ◌∷◌, [], map, length, rules, Result, Ok, Err, OnOk, OnErr, true, false, refl, inl, sym, ◌∙◌, ap, arith, length-append, append_assoc}
+use Rattle.std.proofs.lemmas.List.{map-append, append-nil, nil_from_length}
+use Rattle.std.specs.Result.{is_err}
+use Rattle.std.specs.Vec.Iter.{into_iter_items}
+use Rattle.grid_base.proofs.GroupLemmas.{act-identity}
+use Rattle.grid.specs.Command.{command_value}
+use Rattle.grid.specs.Reply.{reply_value}
+use Rattle.grid.proofs.RunLemmas.{take_values, get_value, some_values, may_stop}
+use Rattle.grid_deferred.specs.Deferred.{base, pending, shown}
+use Rattle.grid_deferred.proofs.RunLemmas.{going_none, going_more, still_going, settled, ran_none}
+use Rattle.grid_deferred.proofs.run.run_deferred.Goals as goal
+
+on_ok : {T E : Type 0} (r : Result T E) (P : Type 0) → is_err r ≡ false → OnOk r P → P
+on_ok (Ok x) P h p = p
+on_ok (Err e) P h p = absurd (cc)
+
+on_err : {T E : Type 0} (r : Result T E) (P : Type 0) → is_err r ≡ true → OnErr r P → P
+on_err (Ok x) P h p = absurd (cc)
+on_err (Err e) P h p = p
+
+one_more : {X Y : Type 0} (f : X → Y) (xs all : List X) (x : X) → all ≡ xs ++ x ∷ [] → length (map f all) ≡ suc (length (map f xs))
+one_more f xs all x e = rw e (omega (arith, ap length (map-append f xs (x ∷ [])), length-append (map f xs) (f x ∷ [])))
+
+pub loop-command-init : goal.loop-command-init
+loop-command-init g c =
+    let none = c.reserve_exact.ensures.items ∙ c.new-replies.ensures.items in
+    record {
+      can = tt;
+      finite = tt;
+      rest = c.into_iter-command-iterator.ensures.into_iter_gives.0;
+      name = refl;
+      symmetry = refl;
+      going = rw (c.over-deferred.ensures.base, c.over-deferred.ensures.pending, none) (going_none _ _ _ _ c.size.ensures.table (act-identity _ c.size.ensures.table));
+      count = c.reserve_exact.ensures.len ∙ c.new-replies.ensures.len;
+      room = let room = on_ok _ _ (sym c.is_err.ensures.value ∙ c.if-is_err.false) c.reserve_exact.ensures.ok in omega (arith, room, c.len.ensures);
+    }
+
+pub loop-command-preserved : goal.loop-command-preserved
+loop-command-preserved g c =
+    let i = c.loop-command.invariant in
+    let s = c.in-Some.ensures.steps in
+    let e = c.in-Ok.ensures in
+    let p = c.push_reserved.ensures in
+    record {
+      can = tt;
+      finite = tt;
+      rest = rw append_assoc (rw s.0 at i.rest);
+      name = c.step.ensures.same_reference ∙ i.name;
+      symmetry = c.step.ensures.symmetry ∙ i.symmetry;
+      going =
+          rw (map-append command_value c.loop-command.yielded (c.in-Some.command ∷ []))
+          (going_more _ _ _ (command_value c.in-Some.command) _ _ _ _ _ _ _ _ _ _ i.going c.step.ensures.table c.step.ensures.order e.rows e.pending e.shift
+          (one_more reply_value _ _ _ p.items)
+          (λ same. ap (map reply_value) p.items ∙ (map-append reply_value _ _ ∙ ap (λ x. map reply_value c.loop-command.replies.items ++ x ∷ []) (e.reply same))));
+      count = grind (arith, p.len, i.count, length-append);
+      room = grind (arith, p.capacity, i.room);
+    }
+
+pub returns-in-Err-clause-stopped : goal.returns-in-Err-clause-stopped
+returns-in-Err-clause-stopped g c =
+    let i = c.loop-command.invariant in
+    let e = c.in-Err.ensures in
+    let k = c.step.ensures in
+    let f = c.settle.ensures in
+    rw (take_values command_value c.args.commands.items c.loop-command.yielded _ c.len-done.result i.rest (c.len-done.ensures ∙ i.count))
+    (settled _ _ _ _ (base c.step.new.self) _ (pending c.step.new.self) _ c.step.new.tally _ _
+    (still_going _ _ _ _ _ _ _ _ _ _ _ _ i.going e.err_base e.err_pending e.err_shift)
+    (k.symmetry ∙ i.symmetry) (search rules) (search rules) f.symmetry f.shift)
+
+pub returns-in-Err-clause-stop : goal.returns-in-Err-clause-stop
+returns-in-Err-clause-stop g c =
+    let i = c.loop-command.invariant in
+    let s = c.in-Some.ensures.steps in
+    let e = c.in-Err.ensures in
+    may_stop _ _ (command_value c.in-Some.command) _ (shown c.step.new.self)
+    (get_value command_value _ _ _ _ _ (rw s.0 at i.rest) (c.len-done.ensures ∙ i.count))
+    (search rules) (rw (e.err_base, e.err_pending) e.err_memory)
+
+pub returns-clause-ran : goal.returns-clause-ran
+returns-clause-ran g c =
+    let i = c.loop-command.invariant in
+    let e = c.settle-2.ensures in
+    let s = c.in-None.ensures.steps in
+    let none : into_iter_items c.loop-command.command-iterator ≡ [] = nil_from_length _ (grind (arith, s.0)) in
+    let all : c.loop-command.yielded ≡ c.args.commands.items = sym (append-nil c.loop-command.yielded) ∙ (ap (λ v. c.loop-command.yielded ++ v) (sym none) ∙ i.rest) in
+    rw (← all) (settled _ _ _ _ (base c.loop-command.deferred) _ (pending c.loop-command.deferred) _ c.loop-command.tally _ _ i.going i.symmetry (search rules) (search rules) e.symmetry e.shift)
+
+pub returns-then-is_err-clause-stop : goal.returns-then-is_err-clause-stop
+returns-then-is_err-clause-stop g c =
+    let full = on_err _ _ (sym c.is_err.ensures.value ∙ c.if-is_err.true) c.reserve_exact.ensures.full in
+    let some : 0 < length c.args.commands.items = omega (arith, full, c.new-replies.ensures.len, c.len.ensures) in
+    inl (refl, some_values command_value c.args.commands.items some)
+
+pub returns-then-is_err-clause-stopped : goal.returns-then-is_err-clause-stopped
+returns-then-is_err-clause-stopped g c = rw (c.reserve_exact.ensures.items, c.new-replies.ensures.items) (ran_none _ _ _ _ c.size.ensures.table)

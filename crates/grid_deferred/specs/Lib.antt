@@ -1,0 +1,5 @@
+pub mod Carry
+pub mod Carried
+pub mod Deferred
+pub mod Run
+pub mod Walk

@@ -1,0 +1,270 @@
+//! Commands carried from the image of a grid to the grid itself.
+//!
+//! Each symmetry is a word of transposes and flips of the rows, so a command is carried by these two.
+ghost use Rattle.std.specs.Prelude.{◌≡◌, map, reverse};
+ghost use Rattle.grid_base.specs.Gather.{items_of_each};
+ghost use Rattle.grid_base.specs.Symmetry.{transposes};
+ghost use Rattle.grid.specs.Command.{command_value};
+ghost use Rattle.grid.specs.Reply.{reply_value};
+ghost use Rattle.grid.specs.Through.{turned_reply, reverses_cells, mirror_place, mirror_gap, mirror_start, command_of_transposed, command_of_flipped};
+ghost use Rattle.grid_deferred.specs.Carry.{Carries, is_apply};
+ghost use Rattle.grid_deferred.specs.Carried.{carried, base_place};
+
+use grid::{Axis, Command, Reply};
+use grid_base::Symmetry;
+use std::alloc::Allocator;
+
+/// Returns the command on a grid of this size, of so many rows and columns, that does what the given one does on the
+/// grid's image under a symmetry: the same rows and, by [`carry_reply`], the same reply. It takes memory exactly where
+/// the given one does, and moves as many counted cells as the given one does through the symmetry.
+///
+///     carry(FlipCols, (2, 3), PushRow([7, 8, 9]))   PushRow([9, 8, 7])
+///     carry(RotateLeft, (2, 3), ExpandRows(1))      PrependCols(1)
+///
+/// It is an `Apply` only where the given one is. Places out of range stay out of range.
+///
+/// Cost: that of reversing the lines of the command, in place; it takes no memory.
+#[tactic(auto, using(crate::proofs::CarryLemmas::carries, crate::proofs::CarryLemmas::applies))]
+pub fn carry<T, A: Allocator>(
+    symmetry: Symmetry,
+    size: (usize, usize),
+    command: Command<T, A>,
+) -> Command<T, A>
+    ensures carries { Carries symmetry size.0 size.1
+        (command_value result) (command_value command) }
+    ensures still { is_apply (command_value result) ≡ is_apply (command_value command) }
+{
+    carried(symmetry, size.0, size.1, command)
+}
+
+// Each symmetry is a word of transposes and flips of the rows.
+pub(crate) fn carried<T, A: Allocator>(
+    symmetry: Symmetry,
+    rows: usize,
+    cols: usize,
+    command: Command<T, A>,
+) -> Command<T, A>
+    ensures { command_value result ≡ carried symmetry rows cols (command_value command) }
+{
+    match symmetry {
+        Symmetry::Identity => command,
+        Symmetry::Transpose => exchange(command),
+        Symmetry::FlipRows => flip(rows, command),
+        Symmetry::RotateLeft => exchange(flip(cols, command)),
+        Symmetry::RotateRight => flip(rows, exchange(command)),
+        Symmetry::FlipCols => exchange(flip(cols, exchange(command))),
+        Symmetry::AntiTranspose => flip(rows, exchange(flip(cols, command))),
+        Symmetry::RotateHalf => exchange(flip(cols, exchange(flip(rows, command)))),
+    }
+}
+
+// The same command on the turned table.
+fn exchange<T, A: Allocator>(command: Command<T, A>) -> Command<T, A>
+    ensures { command_value result ≡ command_of_transposed (command_value command) }
+{
+    match command {
+        Command::Size => Command::Size,
+        Command::Get(row, col) => Command::Get(col, row),
+        Command::Row(at) => Command::Col(at),
+        Command::Col(at) => Command::Row(at),
+        Command::Set(row, col, cell) => Command::Set(col, row, cell),
+        Command::Swap(a, b) => Command::Swap((a.1, a.0), (b.1, b.0)),
+        Command::PushRow(line) => Command::PushCol(line),
+        Command::PushCol(line) => Command::PushRow(line),
+        Command::InsertRow(at, line) => Command::InsertCol(at, line),
+        Command::InsertCol(at, line) => Command::InsertRow(at, line),
+        Command::InsertRows(at, lines) => Command::InsertCols(at, lines),
+        Command::InsertCols(at, lines) => Command::InsertRows(at, lines),
+        Command::PopRow => Command::PopCol,
+        Command::PopCol => Command::PopRow,
+        Command::RemoveRow(at) => Command::RemoveCol(at),
+        Command::RemoveCol(at) => Command::RemoveRow(at),
+        Command::DeleteRow(at) => Command::DeleteCol(at),
+        Command::DeleteCol(at) => Command::DeleteRow(at),
+        Command::DeleteRows(start, count) => Command::DeleteCols(start, count),
+        Command::DeleteCols(start, count) => Command::DeleteRows(start, count),
+        Command::ExpandRows(count) => Command::ExpandCols(count),
+        Command::ExpandCols(count) => Command::ExpandRows(count),
+        Command::PrependRows(count) => Command::PrependCols(count),
+        Command::PrependCols(count) => Command::PrependRows(count),
+        Command::Fill(cell) => Command::Fill(cell),
+        Command::Clear => Command::Clear,
+        Command::Apply(next) => {
+            Command::Apply(Symmetry::Transpose.then(next).then(Symmetry::Transpose))
+        }
+    }
+}
+
+// The same command on a table of so many rows in the reversed order.
+fn flip<T, A: Allocator>(rows: usize, command: Command<T, A>) -> Command<T, A>
+    ensures { command_value result ≡ command_of_flipped rows (command_value command) }
+{
+    match command {
+        Command::Size => Command::Size,
+        Command::Get(row, col) => Command::Get(place(rows, row), col),
+        Command::Row(at) => Command::Row(place(rows, at)),
+        Command::Col(at) => Command::Col(at),
+        Command::Set(row, col, cell) => Command::Set(place(rows, row), col, cell),
+        Command::Swap(a, b) => Command::Swap((place(rows, a.0), a.1), (place(rows, b.0), b.1)),
+        Command::PushRow(line) => Command::InsertRow(0, line),
+        Command::PushCol(line) => Command::PushCol(reversed(line)),
+        Command::InsertRow(at, line) => Command::InsertRow(gap(rows, at), line),
+        Command::InsertCol(at, line) => Command::InsertCol(at, reversed(line)),
+        Command::InsertRows(at, lines) => Command::InsertRows(gap(rows, at), reordered(lines)),
+        Command::InsertCols(at, lines) => Command::InsertCols(at, each_reversed(lines)),
+        Command::PopRow => Command::RemoveRow(0),
+        Command::PopCol => Command::PopCol,
+        Command::RemoveRow(at) => Command::RemoveRow(place(rows, at)),
+        Command::RemoveCol(at) => Command::RemoveCol(at),
+        Command::DeleteRow(at) => Command::DeleteRow(place(rows, at)),
+        Command::DeleteCol(at) => Command::DeleteCol(at),
+        Command::DeleteRows(from, count) => Command::DeleteRows(start(rows, from, count), count),
+        Command::DeleteCols(from, count) => Command::DeleteCols(from, count),
+        Command::ExpandRows(count) => Command::PrependRows(count),
+        Command::ExpandCols(count) => Command::ExpandCols(count),
+        Command::PrependRows(count) => Command::ExpandRows(count),
+        Command::PrependCols(count) => Command::PrependCols(count),
+        Command::Fill(cell) => Command::Fill(cell),
+        Command::Clear => Command::Clear,
+        Command::Apply(next) => {
+            Command::Apply(Symmetry::FlipRows.then(next).then(Symmetry::FlipRows))
+        }
+    }
+}
+
+// Where a line stands, counted from the other end; past the end it stays.
+pub(crate) fn place(count: usize, at: usize) -> usize
+    ensures { result ≡ mirror_place count at }
+{
+    if at < count { count - 1 - at } else { at }
+}
+
+// Where a line is put, counted from the other end; past the end it stays.
+fn gap(count: usize, at: usize) -> usize
+    ensures { result ≡ mirror_gap count at }
+{
+    if count < at { at } else { count - at }
+}
+
+// Where a range of lines starts, counted from the other end; past the end it stays.
+fn start(count: usize, from: usize, len: usize) -> usize
+    ensures { result ≡ mirror_start count from len }
+{
+    if from > count || len > count - from {
+        from
+    } else {
+        count - from - len
+    }
+}
+
+fn reversed<T, A: Allocator>(line: Vec<T, A>) -> Vec<T, A>
+    ensures { result.items ≡ reverse line.items }
+{
+    let mut line = line;
+    line.reverse();
+    line
+}
+
+fn reordered<T, A: Allocator>(lines: Vec<Vec<T, A>, A>) -> Vec<Vec<T, A>, A>
+    ensures { items_of_each result.items ≡ reverse (items_of_each lines.items) }
+{
+    let mut lines = lines;
+    lines.reverse();
+    lines
+}
+
+fn each_reversed<T, A: Allocator>(lines: Vec<Vec<T, A>, A>) -> Vec<Vec<T, A>, A>
+    ensures { items_of_each result.items ≡ map reverse (items_of_each lines.items) }
+{
+    let mut lines = lines;
+    for line in lines.iter_mut() {
+        line.reverse();
+    }
+    lines
+}
+
+/// Returns the reply to a command on the image under a symmetry, from the reply to the carried command; the axis is
+/// that of the command on the image, as [`Command::axis`] returns it.
+///
+///     carry_reply(FlipCols, Row, Line([3, 2, 1]))   Line([1, 2, 3])
+///     carry_reply(Transpose, Row, Size(2, 3))       Size(3, 2)
+///
+/// Cost: that of reversing the line of the reply, in place; it takes no memory.
+pub fn carry_reply<T, A: Allocator>(
+    symmetry: Symmetry,
+    axis: Axis,
+    reply: Reply<T, A>,
+) -> Reply<T, A>
+    ensures { reply_value result ≡ turned_reply symmetry axis (reply_value reply) }
+{
+    match reply {
+        Reply::Size(rows, cols) => {
+            if transposes(symmetry) {
+                Reply::Size(cols, rows)
+            } else {
+                Reply::Size(rows, cols)
+            }
+        }
+        Reply::Line(Some(line)) => {
+            if reverses_cells(symmetry, axis) {
+                Reply::Line(Some(reversed(line)))
+            } else {
+                Reply::Line(Some(line))
+            }
+        }
+        other => other,
+    }
+}
+
+pub(crate) fn transposes(symmetry: Symmetry) -> bool
+    ensures { result ≡ transposes symmetry }
+{
+    matches!(
+        symmetry,
+        Symmetry::Transpose | Symmetry::RotateLeft | Symmetry::RotateRight | Symmetry::AntiTranspose
+    )
+}
+
+// Whether each line of an axis of the image is reversed.
+fn reverses_cells(symmetry: Symmetry, axis: Axis) -> bool
+    ensures { result ≡ reverses_cells symmetry axis }
+{
+    match axis {
+        Axis::Row => matches!(
+            symmetry,
+            Symmetry::FlipCols
+                | Symmetry::RotateHalf
+                | Symmetry::RotateRight
+                | Symmetry::AntiTranspose
+        ),
+        Axis::Col => matches!(
+            symmetry,
+            Symmetry::FlipRows
+                | Symmetry::RotateHalf
+                | Symmetry::RotateLeft
+                | Symmetry::AntiTranspose
+        ),
+    }
+}
+
+// Where a cell of the image comes from; past the end it stays past the end.
+pub(crate) fn base_place(
+    symmetry: Symmetry,
+    rows: usize,
+    cols: usize,
+    row: usize,
+    col: usize,
+) -> (usize, usize)
+    ensures { result ≡ base_place symmetry rows cols row col }
+{
+    match symmetry {
+        Symmetry::Identity => (row, col),
+        Symmetry::FlipCols => (row, place(cols, col)),
+        Symmetry::FlipRows => (place(rows, row), col),
+        Symmetry::RotateHalf => (place(rows, row), place(cols, col)),
+        Symmetry::Transpose => (col, row),
+        Symmetry::RotateLeft => (col, place(cols, row)),
+        Symmetry::RotateRight => (place(rows, col), row),
+        Symmetry::AntiTranspose => (place(rows, col), place(cols, row)),
+    }
+}

@@ -1,0 +1,288 @@
+//! A grid seen through a symmetry that isn't applied yet.
+ghost use Rattle.std.specs.Prelude.{◌≡◌, OnOk, OnErr, IfOk, IsTrue, false, nat_lt};
+ghost use Rattle.std.specs.Option.{option_copied};
+ghost use Rattle.grid_base.specs.Table.{row_count, col_count, cell, IsTable};
+ghost use Rattle.grid_base.specs.Symmetry.{act, order_after, price};
+ghost use Rattle.grid_base.specs.Tally.{saturating_count};
+ghost use Rattle.grid_base.specs.Clones.{ClonesAreEqual};
+ghost use Rattle.grid_base.specs.declared.words.Symmetry.{Symmetry};
+ghost use Rattle.grid_base.specs.declared.words.Symmetry.TheVariants.{Identity};
+ghost use Rattle.grid.specs.declared.command.Axis.TheVariants.{Row, Col};
+ghost use Rattle.grid.specs.Command.{command_value, get, lines, read, apply};
+ghost use Rattle.grid.specs.Reply.{reply_value};
+ghost use Rattle.grid.specs.Refusal.{in_range};
+ghost use Rattle.grid.specs.Step.{step_rows, step_reply, takes_memory, RowsAreKnown};
+ghost use Rattle.grid_deferred.specs.Carry.{shift_through, is_apply};
+ghost use Rattle.grid_deferred.specs.Deferred.{pending_after};
+
+mod walk;
+
+use crate::carrying::{base_place, carried, carry_reply, transposes};
+use grid::{Command, Grid, Reply, Tally};
+use grid_base::Symmetry;
+use std::alloc::{AllocError, Allocator, Global};
+pub use walk::DeferredLineIter;
+
+// Does on a base what a command, which is no Apply, does on the base's image.
+#[tactic(auto, using(crate::proofs::PendingLemmas::carried_known, crate::proofs::PendingLemmas::carried_still))]
+fn step_through<T, A: Allocator>(
+    base: &mut Grid<T, A>,
+    symmetry: Symmetry,
+    size: (usize, usize),
+    command: Command<T, A>,
+    tally: &mut Tally,
+) -> Result<Reply<T, A>, AllocError>
+where
+    T: Clone + Default + Drop,
+    A: Clone,
+    requires table { IsTable base.old.rows }
+    requires rows { size.0 ≡ row_count base.old.rows }
+    requires cols { size.1 ≡ col_count base.old.rows }
+    requires still { is_apply (command_value command) ≡ false }
+    ensures table { IsTable base.new.rows }
+    ensures rows { OnOk result ((d : T)
+        → RowsAreKnown T.is_default T.is_clone d (command_value command)
+        → act symmetry base.new.rows
+        ≡ step_rows d (command_value command) (act symmetry base.old.rows)) }
+    ensures reply { IfOk result (λ reply. ClonesAreEqual T.is_clone → reply_value reply
+        ≡ step_reply (command_value command) (act symmetry base.old.rows)) }
+    ensures order { base.new.order ≡ base.old.order }
+    ensures symmetry { tally.new.symmetry ≡ tally.old.symmetry }
+    ensures shift { OnOk result (tally.new.shift ≡ saturating_count tally.old.shift
+        (shift_through symmetry (command_value command) base.old.order
+        (row_count base.old.rows) (col_count base.old.rows))) }
+    ensures err_shift { OnErr result (tally.new.shift ≡ tally.old.shift) }
+    ensures err_base { OnErr result (base.new ≡ base.old) }
+    ensures err_memory { OnErr result (IsTrue (takes_memory (command_value command)
+        (row_count (act symmetry base.old.rows)) (col_count (act symmetry base.old.rows)))) }
+{
+    let axis = command.axis();
+    let carried = carried(symmetry, size.0, size.1, command);
+    match base.step(carried, tally) {
+        Ok(reply) => Ok(carry_reply(symmetry, axis, reply)),
+        Err(refused) => Err(refused),
+    }
+}
+
+// Clones of the cells of a line.
+fn clone_cells<T: Clone + Drop, A: Allocator>(
+    alloc: A,
+    line: DeferredLineIter<'_, T>,
+) -> Result<Vec<T, A>, AllocError>
+    ensures { IfOk result (λ cells. ClonesAreEqual T.is_clone → cells.items ≡ line.entry) }
+{
+    let mut cells = Vec::with_capacity(alloc, line.len())?;
+    for cell in line {
+        let copy = cell.clone()?;
+        cells.push(copy)?;
+    }
+    Ok(cells)
+}
+
+/// A grid with a symmetry that isn't applied to it yet, shown as if it were.
+///
+/// A symmetry as a command costs no swap here: it joins the pending one. The value must be spent, by
+/// [`settle`](Deferred::settle) or by [`release`](Deferred::release).
+pub struct Deferred<'a, T, A: Allocator = Global> {
+    base: &'a mut Grid<T, A>,
+    pending: Symmetry,
+}
+
+impl<'a, T, A: Allocator> Deferred<'a, T, A> {
+    ghost use Rattle.grid_deferred.specs.Deferred.{base, lender, pending, shown};
+
+    /// Returns the grid with nothing pending. The grid stays as it is.
+    ///
+    ///     [[1, 2]]   over()   pending Identity, shown [[1, 2]]
+    pub fn over(grid: &'a mut Grid<T, A>) -> Deferred<'a, T, A>
+        ensures same_reference { lender result ≡ grid.entry.ghost_name }
+        ensures base { base result ≡ grid.old }
+        ensures pending { pending result ≡ Identity }
+    {
+        Deferred {
+            base: grid,
+            pending: Symmetry::Identity,
+        }
+    }
+
+    /// Returns the symmetry that isn't applied yet.
+    ///
+    ///     over([[1, 2]])   step(Apply(FlipCols)), then pending()   FlipCols
+    pub fn pending(&self) -> Symmetry
+        ensures { result ≡ pending self.now }
+    {
+        self.pending
+    }
+
+    /// Returns the number of rows and of columns as seen through the pending symmetry.
+    ///
+    ///     [[1, 2]] with Transpose pending   size()   (2, 1)
+    #[tactic(auto, using(crate::proofs::ShownLemmas::rows_shown, crate::proofs::ShownLemmas::cols_shown, crate::proofs::ShownLemmas::table_shown))]
+    pub fn size(&self) -> (usize, usize)
+        ensures size { result ≡ (row_count (shown self.now), col_count (shown self.now)) }
+        ensures table { IsTable (shown self.now) }
+    {
+        let (rows, cols) = self.base.size();
+        if transposes(self.pending) {
+            (cols, rows)
+        } else {
+            (rows, cols)
+        }
+    }
+
+    /// Returns the cell in a row and a column as seen through the pending symmetry, or `None` where there is none.
+    ///
+    ///     [[1, 2]] with FlipCols pending   get(0, 0)   2
+    ///
+    /// Cost: constant; no cell moves.
+    #[tactic(auto, using(crate::proofs::ShownLemmas::cell_base))]
+    pub fn get(&self, row: usize, col: usize) -> Option<&T>
+        ensures { option_copied result ≡ cell (shown self.now) row col }
+    {
+        let (rows, cols) = self.base.size();
+        let (base_row, base_col) = base_place(self.pending, rows, cols, row, col);
+        self.base.get(base_row, base_col)
+    }
+
+    // Reads a cell.
+    #[tactic(auto, unfolding(grid::specs::Step::step_reply))]
+    fn read_cell(&self, row: usize, col: usize) -> Result<Reply<T, A>, AllocError>
+    where
+        T: Clone + Drop,
+        ensures reply { IfOk result (λ reply. ClonesAreEqual T.is_clone
+            → reply_value reply ≡ step_reply (get row col) (shown self.now)) }
+        ensures err_memory { OnErr result (IsTrue
+            (in_range (row_count (shown self.now)) (col_count (shown self.now)) (row, col))) }
+    {
+        let _ = self.size();
+        match self.get(row, col) {
+            Some(cell) => {
+                let copy = cell.clone()?;
+                Ok(Reply::Cell(Some(copy)))
+            }
+            None => Ok(Reply::Cell(None)),
+        }
+    }
+
+    // Reads a row.
+    fn read_row(&self, at: usize) -> Result<Reply<T, A>, AllocError>
+    where
+        T: Clone + Drop,
+        A: Clone,
+        ensures reply { IfOk result (λ reply. ClonesAreEqual T.is_clone
+            → reply_value reply ≡ step_reply (lines Row (read at)) (shown self.now)) }
+        ensures err_memory { OnErr result (IsTrue (nat_lt at (row_count (shown self.now)))) }
+    {
+        let (rows, _) = self.size();
+        if at >= rows {
+            return Ok(Reply::Line(None));
+        }
+        let alloc = self.base.allocator().clone()?;
+        let line = clone_cells(alloc, self.iter_row(at))?;
+        Ok(Reply::Line(Some(line)))
+    }
+
+    // Reads a column.
+    fn read_col(&self, at: usize) -> Result<Reply<T, A>, AllocError>
+    where
+        T: Clone + Drop,
+        A: Clone,
+        ensures reply { IfOk result (λ reply. ClonesAreEqual T.is_clone
+            → reply_value reply ≡ step_reply (lines Col (read at)) (shown self.now)) }
+        ensures err_memory { OnErr result (IsTrue (nat_lt at (col_count (shown self.now)))) }
+    {
+        let (_, cols) = self.size();
+        if at >= cols {
+            return Ok(Reply::Line(None));
+        }
+        let alloc = self.base.allocator().clone()?;
+        let line = clone_cells(alloc, self.iter_col(at))?;
+        Ok(Reply::Line(Some(line)))
+    }
+
+    /// Does a command on the shown grid, and returns its reply.
+    ///
+    ///     over([[1, 2]])   step(Apply(FlipCols))     Done   base [[1, 2]], shown [[2, 1]]
+    ///                      step(PushRow([3, 4]))     Done   base [[1, 2], [4, 3]], shown [[2, 1], [3, 4]]
+    ///
+    /// A symmetry joins the pending one, and no cell moves. A read goes by the pending symmetry. Every other command is
+    /// carried to the base and its reply back; an expand, a prepend or a delete adds the cells that it moves there to
+    /// the shift count of the tally. Nothing is added to the symmetry count.
+    ///
+    /// Fails: where memory is refused; this comes only at a command that takes memory. The base, what is pending and the
+    /// tally are unchanged, and the command is dropped.
+    /// Cost: that of the carried command.
+    pub fn step(
+        &mut self,
+        command: Command<T, A>,
+        tally: &mut Tally,
+    ) -> Result<Reply<T, A>, AllocError>
+    where
+        T: Clone + Default + Drop,
+        A: Clone,
+        ensures same_reference { lender self.new ≡ lender self.old }
+        ensures table { IsTable (base self.new).rows }
+        ensures rows { OnOk result ((d : T)
+            → RowsAreKnown T.is_default T.is_clone d (command_value command)
+            → shown self.new ≡ step_rows d (command_value command) (shown self.old)) }
+        ensures applied { OnOk result ((s : Symmetry)
+            → command_value command ≡ apply s → base self.new ≡ base self.old) }
+        ensures reply { IfOk result (λ reply. ClonesAreEqual T.is_clone
+            → reply_value reply ≡ step_reply (command_value command) (shown self.old)) }
+        ensures pending { OnOk result
+            (pending self.new ≡ pending_after (command_value command) (pending self.old)) }
+        ensures order { (base self.new).order ≡ (base self.old).order }
+        ensures symmetry { tally.new.symmetry ≡ tally.old.symmetry }
+        ensures shift { OnOk result (tally.new.shift ≡ saturating_count tally.old.shift
+            (shift_through (pending self.old) (command_value command) (base self.old).order
+            (row_count (base self.old).rows) (col_count (base self.old).rows))) }
+
+        // An error comes at a command that takes memory, and changes nothing.
+        ensures err_shift { OnErr result (tally.new.shift ≡ tally.old.shift) }
+        ensures err_base { OnErr result (base self.new ≡ base self.old) }
+        ensures err_pending { OnErr result (pending self.new ≡ pending self.old) }
+        ensures err_memory { OnErr result (IsTrue (takes_memory (command_value command)
+            (row_count (shown self.old)) (col_count (shown self.old)))) }
+    {
+        let size = self.base.size();
+        match command {
+            Command::Apply(symmetry) => {
+                self.pending = self.pending.then(symmetry);
+                Ok(Reply::Done)
+            }
+            Command::Get(row, col) => self.read_cell(row, col),
+            Command::Row(at) => self.read_row(at),
+            Command::Col(at) => self.read_col(at),
+            other => step_through(self.base, self.pending, size, other, tally),
+        }
+    }
+
+    /// Applies the pending symmetry to the base, and adds its swaps to the symmetry count of the tally.
+    ///
+    ///     [[1, 2]] with FlipCols pending   settle(tally)   the base is [[2, 1]], and 1 swap is counted
+    ///
+    /// Cost: the swaps of the symmetry's flips, at most half of the cells.
+    pub fn settle(self, tally: &mut Tally)
+        ensures rows { self.exit.0.now.rows ≡ shown self.entry }
+        ensures order { self.exit.0.now.order
+            ≡ order_after (pending self.entry) (base self.entry).order }
+        ensures symmetry { tally.new.symmetry ≡ saturating_count tally.old.symmetry
+            (price (pending self.entry) (row_count (base self.entry).rows)
+            (col_count (base self.entry).rows)) }
+        ensures shift { tally.new.shift ≡ tally.old.shift }
+    {
+        let Deferred { base, pending } = self;
+        base.apply_counted(pending, tally);
+    }
+
+    /// Returns the symmetry that isn't applied yet, and leaves the base without it.
+    ///
+    ///     [[1, 2]] with FlipCols pending   release()   FlipCols, and the base is [[1, 2]]
+    pub fn release(self) -> Symmetry
+        ensures base { self.exit.0.now ≡ base self.entry }
+        ensures pending { result ≡ pending self.entry }
+    {
+        let Deferred { base: _, pending } = self;
+        pending
+    }
+}
