@@ -12,10 +12,10 @@ use Rattle.grid_base.proofs.ActLemmas.{rows-act, IsTable-act}
 use Rattle.grid_base.proofs.GroupLemmas.{product, act-act, act-identity}
 use Rattle.grid.specs.declared.command.Axis.{Axis}
 use Rattle.grid.specs.declared.command.Axis.TheVariants.{Row, Col}
-use Rattle.grid.specs.Command.{CommandValue, size, get, set_cell, swap_cells, lines, fill, clear, apply, read, push, axis_of}
+use Rattle.grid.specs.Command.{CommandValue, size, lines, read, push, axis_of}
 use Rattle.grid.specs.Reply.{ReplyValue, done, size_is, cell_is, line_is, flag_is, refused}
-use Rattle.grid.specs.Step.{step_rows, step_reply, takes_memory, RowsAreKnown}
-use Rattle.grid.specs.Cost.{step_shift, command_symmetry}
+use Rattle.grid.specs.Step.{step_rows, step_reply, takes_memory}
+use Rattle.grid.specs.Cost.{step_shift}
 use Rattle.grid.specs.Through.{other_axis, reverses_cells, base_axis, reversed_if, turned_reply, command_of_transposed, command_of_flipped}
 use Rattle.grid.proofs.StepThroughLemmas.{IsAxis, IsAxis-axis_of, Through, through_flip, through_cross, table-step}
 use Rattle.grid_deferred.specs.Carry.{shift_through, Carries, is_apply}

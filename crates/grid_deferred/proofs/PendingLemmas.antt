@@ -5,9 +5,9 @@ use Rattle.grid_base.specs.declared.words.Symmetry.TheVariants.{Identity, FlipCo
 use Rattle.grid_base.specs.Table.{row_count, col_count, cell, IsTable}
 use Rattle.grid_base.specs.declared.flat.order.Order.{Order}
 use Rattle.grid_base.specs.Tally.{saturating_count}
-use Rattle.grid_base.specs.Symmetry.{act, IsThen, symmetry_of}
+use Rattle.grid_base.specs.Symmetry.{act, IsThen}
 use Rattle.grid_base.proofs.GroupLemmas.{product, then_is, act-act, symmetry_of-concat_rows, identity_product, product_identity}
-use Rattle.grid.specs.Command.{CommandValue, command_value, size, get, set_cell, swap_cells, lines, fill, clear, apply, axis_of, read}
+use Rattle.grid.specs.Command.{CommandValue, command_value, size, get, lines, apply, axis_of, read}
 use Rattle.grid.specs.Reply.{ReplyValue, done}
 use Rattle.grid.specs.declared.command.Axis.{Axis}
 use Rattle.grid.specs.declared.command.Axis.TheVariants.{Row, Col}

@@ -1,5 +1,5 @@
 -- A deferred run of one more command.
-use Rattle.std.proofs.Common.{◌≡◌, ℕ, suc, ◌+◌, ◌*◌, ◌/◌, ◌≤◌, List, [], ◌∷◌, ◌++◌, length, length-append, Some, refl, sym, ◌∙◌, ap, arith}
+use Rattle.std.proofs.Common.{◌≡◌, ℕ, suc, ◌+◌, ◌/◌, ◌≤◌, List, [], ◌∷◌, ◌++◌, length, length-append, Some, refl, sym, ◌∙◌, ap, subst, arith}
 use Rattle.std.specs.List.{All}
 use Rattle.std.proofs.lemmas.List.Elements.{All-pop}
 use Rattle.grid_base.specs.declared.words.Symmetry.{Symmetry}
@@ -18,11 +18,11 @@ use Rattle.grid.specs.Command.{CommandValue}
 use Rattle.grid.specs.Reply.{ReplyValue}
 use Rattle.grid.specs.Step.{step_rows, step_reply, RowsAreKnown}
 use Rattle.grid.specs.Cost.{command_symmetry, list_symmetry}
-use Rattle.grid.specs.Run.{run_rows, run_replies}
+use Rattle.grid.specs.Run.{run_rows, run_replies, Ran}
 use Rattle.grid.proofs.RunLemmas.{run_rows-more, run_replies-more, list_symmetry-more, list_symmetry-none, known_list, saturating_count-none, count_more}
 use Rattle.grid_deferred.specs.Carry.{shift_through}
 use Rattle.grid_deferred.specs.Deferred.{pending_after}
-use Rattle.grid_deferred.specs.Run.{settling_price, shown_shift, deferred_shift, run_allowance, LeftByDeferred, RanDeferred}
+use Rattle.grid_deferred.specs.Run.{settling_price, shown_shift, deferred_shift, RanDeferred}
 use Rattle.grid_deferred.proofs.PendingLemmas.{pending-product}
 use Rattle.grid_deferred.proofs.AllowanceLemmas.{image_cells, run_within}
 
@@ -149,3 +149,17 @@ module _ {T : Type 0} (is_clone : T → T → Type 0) (is_default : T → Type 0
   ran_none s t h =
       let same = act-identity s.rows h in
       settled [] s s s Identity t t t [] (going_none s t.shift h same) refl (sym same) refl (saturating_count-none t.symmetry) refl
+
+  -- a run at once and a deferred run of the same commands, on grids of the same rows
+  module _ (xs ys : List (CommandValue T)) (old new other_old other_new : GridValue T) (first last other_first other_last : Counts) (answers others : List (ReplyValue T)) where
+    pub agree_rows : Ran is_clone is_default xs old new first last answers → RanDeferred is_clone is_default ys other_old other_new other_first other_last others → old.rows ≡ other_old.rows → xs ≡ ys → (d : T) → All (RowsAreKnown is_default is_clone d) xs → new.rows ≡ other_new.rows
+    agree_rows r q rows same d known =
+        (r.left d known).rows ∙ (ap (run_rows d xs) rows ∙ (ap (λ zs. run_rows d zs other_old.rows) same ∙ sym (q.left d (subst (All (RowsAreKnown is_default is_clone d)) same known)).rows))
+
+    pub agree_order : Ran is_clone is_default xs old new first last answers → RanDeferred is_clone is_default ys other_old other_new other_first other_last others → xs ≡ ys → old.order ≡ other_old.order → new.order ≡ other_new.order
+    agree_order r q same order =
+        r.order ∙ (ap (order_after (list_symmetry xs)) order ∙ (ap (λ zs. order_after (list_symmetry zs) other_old.order) same ∙ sym q.order))
+
+    pub agree_replies : Ran is_clone is_default xs old new first last answers → RanDeferred is_clone is_default ys other_old other_new other_first other_last others → old.rows ≡ other_old.rows → xs ≡ ys → (d : T) → IsOnlyDefault is_default d → ClonesAreEqual is_clone → answers ≡ others
+    agree_replies r q rows same d one clones =
+        r.replies d one clones ∙ (ap (run_replies d xs) rows ∙ (ap (λ zs. run_replies d zs other_old.rows) same ∙ sym (q.replies d one clones)))

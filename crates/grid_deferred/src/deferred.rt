@@ -111,7 +111,8 @@ impl<'a, T, A: Allocator> Deferred<'a, T, A> {
     pub fn pending(&self) -> Symmetry
         ensures { result ≡ pending self.now }
     {
-        self.pending
+        let Deferred { pending, .. } = self;
+        *pending
     }
 
     /// Returns the number of rows and of columns as seen through the pending symmetry.

@@ -6,6 +6,7 @@
 
 mod carrying;
 mod deferred;
+pub mod laws;
 mod run;
 
 pub use carrying::{carry, carry_reply};

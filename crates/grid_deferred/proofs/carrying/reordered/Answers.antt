@@ -1,4 +1,3 @@
-use Rattle.std.proofs.Common.{map, reverse, ap, ◌∙◌}
 use Rattle.grid.proofs.CellThroughLemmas.{map-reversed}
 use Rattle.grid_deferred.proofs.carrying.reordered.Goals as goal
 
