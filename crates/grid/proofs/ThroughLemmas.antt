@@ -1,4 +1,4 @@
--- Deeds on lines through the flip of the rows and the transpose; every other symmetry is a word of these.
+-- Effects on lines through the flip of the rows and the transpose; every other symmetry is a word of these.
 use Rattle.std.proofs.Common.{◌≡◌, ℕ, ◌<◌, ◌≤◌, List, [], ◌∷◌, map, reverse, sym, ◌∙◌, ap, subst, arith}
 use Rattle.std.proofs.lemmas.List.{length-reverse, length-map}
 use Rattle.grid_base.specs.declared.words.Symmetry.TheVariants.{FlipRows, FlipCols, Transpose}
