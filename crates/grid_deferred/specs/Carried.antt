@@ -1,4 +1,5 @@
--- How `carry` rewrites a command, by the two symmetries of which the others are words; and where a cell comes from.
+-- How `carry` rewrites a command, by the two symmetries of which the others are words; and where a cell comes from. No
+-- public clause cites this module.
 use Rattle.std.specs.Prelude.{ℕ}
 use Rattle.grid_base.specs.declared.words.Symmetry.{Symmetry}
 use Rattle.grid_base.specs.declared.words.Symmetry.TheVariants.{Identity, FlipCols, FlipRows, RotateHalf, Transpose, RotateLeft, RotateRight, AntiTranspose}

@@ -1,4 +1,4 @@
--- The cells of a line, as a `Deferred` walks them.
+-- The cells of a line, as a `Deferred` walks them. No public clause cites this module.
 use Rattle.std.specs.Prelude.{ℕ, Bool, true, false, List, reverse}
 use Rattle.grid_base.specs.Table.{row, row_count, col_count, transposed}
 use Rattle.grid.specs.Through.{mirror_place}
