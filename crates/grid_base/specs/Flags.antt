@@ -1,5 +1,4 @@
--- A symmetry as an optional transpose, then an optional flip of the rows, then one of the columns. No public clause
--- cites this module.
+-- A symmetry as an optional transpose, then an optional flip of the rows, then one of the columns.
 use Rattle.std.specs.Prelude.{Bool, true, false}
 use Rattle.grid_base.specs.declared.words.Symmetry.{Symmetry}
 use Rattle.grid_base.specs.declared.words.Symmetry.TheVariants.{Identity, FlipCols, FlipRows, RotateHalf, Transpose, RotateLeft, RotateRight, AntiTranspose}
