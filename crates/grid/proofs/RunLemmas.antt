@@ -1,5 +1,5 @@
 -- A run of one more command.
-use Rattle.std.proofs.Common.{◌≡◌, ℕ, ◌+◌, ◌<◌, suc, List, [], ◌∷◌, ◌++◌, map, length, take, slice_get, get_or, length-append, Some, IsTrue, Result, Ok, Err, OnOk, IfOk, inr, refl, sym, ◌∙◌, ap, arith}
+use Rattle.std.proofs.Common.{◌≡◌, ℕ, ◌+◌, ◌<◌, suc, List, [], ◌∷◌, ◌++◌, map, length, take, slice_get, get_or, length-append, Some, IsTrue, Result, Ok, Err, OnOk, IfOk, inr, refl, sym, ◌∙◌, ap, subst, arith}
 use Rattle.std.specs.List.{All}
 use Rattle.std.specs.Option.{option_map}
 use Rattle.std.proofs.lemmas.List.{map-append, take-map, length-map}
@@ -15,9 +15,9 @@ use Rattle.grid_base.specs.Tally.{Counts, saturating_count}
 use Rattle.grid_base.specs.Clones.{ClonesAreEqual}
 use Rattle.grid_base.proofs.GroupLemmas.{product, symmetry_of-concat_rows, symmetry_of-more, order_after-order_after}
 use Rattle.grid.specs.Make.{IsOnlyDefault}
-use Rattle.grid.specs.Command.{CommandValue, size, fill}
+use Rattle.grid.specs.Command.{CommandValue, Edit, expand, prepend, pop, size, lines, fill}
 use Rattle.grid.specs.Reply.{ReplyValue}
-use Rattle.grid.specs.Step.{step_rows, step_reply, takes_memory, RowsAreKnown}
+use Rattle.grid.specs.Step.{step_rows, step_reply, takes_memory, RowsAreKnown, EditIsKnown}
 use Rattle.grid.specs.Cost.{command_symmetry, list_symmetry, step_price, step_shift}
 use Rattle.grid.specs.Run.{run_rows, run_replies, run_price, run_shift, LeftByRun, Ran, MayStop}
 
@@ -86,15 +86,22 @@ module _ {T : Type 0} (is_clone : T → T → Type 0) (is_default : T → Type 0
       count = refl;
       order = ap (λ x. order_after x s.order) (sym list_symmetry-none);
       left = λ d known. record { rows = refl; symmetry = saturating_count-none t.symmetry; shift = saturating_count-none t.shift };
-      replies = λ d one same. refl;
+      replies = λ d known same. refl;
     };
     walked = refl;
   }
 
+  known_edit : (d : T) → IsOnlyDefault is_default d → (e : Edit T) → EditIsKnown is_default d e
+  known_edit d one (expand k) = one
+  known_edit d one (prepend k) = one
+  known_edit d one pop = tt
+  known_edit d one e = tt
+
   known_all : (d : T) → IsOnlyDefault is_default d → ClonesAreEqual is_clone → (x : CommandValue T) → RowsAreKnown is_default is_clone d x
-  known_all d one same (fill v) = (one, same)
-  known_all d one same size = one
-  known_all d one same x = one
+  known_all d one same (fill v) = same
+  known_all d one same (lines a e) = known_edit d one e
+  known_all d one same size = tt
+  known_all d one same x = tt
 
   pub known_list : (d : T) → IsOnlyDefault is_default d → ClonesAreEqual is_clone → (xs : List (CommandValue T)) → All (RowsAreKnown is_default is_clone d) xs
   known_list d one same xs = All-from_get_or (RowsAreKnown is_default is_clone d) xs size (λ i lt. known_all d one same (get_or xs i size))
@@ -106,10 +113,11 @@ module _ {T : Type 0} (is_clone : T → T → Type 0) (is_default : T → Type 0
         count = omega (arith, count, r.ran.count, length-append xs (x ∷ []));
         order = order ∙ (ap (order_after (command_symmetry x)) r.ran.order ∙ sym (order-more xs x old.order));
         left = λ d known. all_left d (All-pop (RowsAreKnown is_default is_clone d) (xs ++ x ∷ []) xs (Some x) refl known);
-        replies = λ d one same.
-            let l = r.ran.left d (known_list d one same xs) in
+        replies = λ d known same.
+            let before = (All-pop (RowsAreKnown is_default is_clone d) (xs ++ x ∷ []) xs (Some x) refl known).0 in
+            let l = r.ran.left d before in
             reply same
-            ∙ (ap (λ rs. rs ++ step_reply x mid.rows ∷ []) (r.ran.replies d one same)
+            ∙ (ap (λ rs. rs ++ step_reply x mid.rows ∷ []) (r.ran.replies d before same)
             ∙ (ap (λ t. run_replies d xs old.rows ++ step_reply x t ∷ []) l.rows ∙ sym (run_replies-more d xs x old.rows)));
       };
       walked = order ∙ (ap (order_after (command_symmetry x)) r.walked ∙ sym (run_order-more xs x old.order));
@@ -137,17 +145,17 @@ module _ {T : Type 0} (is_clone : T → T → Type 0) (is_default : T → Type 0
 
   -- runs of the same commands on grids of the same rows
   module _ {V W E F : Type 0} (first : V → List (ReplyValue T)) (second : W → List (ReplyValue T)) (xs ys : List (CommandValue T)) (old new other other_new : GridValue T) (before after other_before other_after : Counts) (rows : other.rows ≡ old.rows) (same : ys ≡ xs) where
-    pub same_run_rows : (r : Result V E) (q : Result W F) → IfOk r (λ v. Ran is_clone is_default xs old new before after (first v)) → IfOk q (λ w. Ran is_clone is_default ys other other_new other_before other_after (second w)) → OnOk r (OnOk q ((d : T) → IsOnlyDefault is_default d → ClonesAreEqual is_clone → other_new.rows ≡ new.rows))
-    same_run_rows (Ok v) (Ok w) h k = λ d one equal.
-        (k.left d (known_list d one equal ys)).rows
-        ∙ (ap (λ zs. run_rows d zs other.rows) same ∙ (ap (run_rows d xs) rows ∙ sym (h.left d (known_list d one equal xs)).rows))
+    pub same_run_rows : (r : Result V E) (q : Result W F) → IfOk r (λ v. Ran is_clone is_default xs old new before after (first v)) → IfOk q (λ w. Ran is_clone is_default ys other other_new other_before other_after (second w)) → OnOk r (OnOk q ((d : T) → All (RowsAreKnown is_default is_clone d) xs → other_new.rows ≡ new.rows))
+    same_run_rows (Ok v) (Ok w) h k = λ d known.
+        (k.left d (subst (All (RowsAreKnown is_default is_clone d)) (sym same) known)).rows
+        ∙ (ap (λ zs. run_rows d zs other.rows) same ∙ (ap (run_rows d xs) rows ∙ sym (h.left d known).rows))
     same_run_rows (Ok v) (Err e) h k = tt
     same_run_rows (Err e) q h k = tt
 
-    pub same_run_replies : (r : Result V E) (q : Result W F) → IfOk r (λ v. Ran is_clone is_default xs old new before after (first v)) → IfOk q (λ w. Ran is_clone is_default ys other other_new other_before other_after (second w)) → IfOk r (λ v. IfOk q (λ w. (d : T) → IsOnlyDefault is_default d → ClonesAreEqual is_clone → second w ≡ first v))
-    same_run_replies (Ok v) (Ok w) h k = λ d one equal.
-        k.replies d one equal
-        ∙ (ap (λ zs. run_replies d zs other.rows) same ∙ (ap (run_replies d xs) rows ∙ sym (h.replies d one equal)))
+    pub same_run_replies : (r : Result V E) (q : Result W F) → IfOk r (λ v. Ran is_clone is_default xs old new before after (first v)) → IfOk q (λ w. Ran is_clone is_default ys other other_new other_before other_after (second w)) → IfOk r (λ v. IfOk q (λ w. (d : T) → All (RowsAreKnown is_default is_clone d) xs → ClonesAreEqual is_clone → second w ≡ first v))
+    same_run_replies (Ok v) (Ok w) h k = λ d known equal.
+        k.replies d (subst (All (RowsAreKnown is_default is_clone d)) (sym same) known) equal
+        ∙ (ap (λ zs. run_replies d zs other.rows) same ∙ (ap (run_replies d xs) rows ∙ sym (h.replies d known equal)))
     same_run_replies (Ok v) (Err e) h k = tt
     same_run_replies (Err e) q h k = tt
 

@@ -6,7 +6,6 @@ use Rattle.grid_base.specs.GridValue.{GridValue}
 use Rattle.grid_base.specs.Symmetry.{order_after}
 use Rattle.grid_base.specs.Tally.{Counts, saturating_count}
 use Rattle.grid_base.specs.Clones.{ClonesAreEqual}
-use Rattle.grid.specs.Make.{IsOnlyDefault}
 use Rattle.grid.specs.Command.{CommandValue}
 use Rattle.grid.specs.Reply.{ReplyValue}
 use Rattle.grid.specs.Step.{step_rows, step_reply, takes_memory, RowsAreKnown}
@@ -41,12 +40,12 @@ module _ {T : Type 0} where
     pub shift : after.shift ≡ saturating_count before.shift (run_shift d commands old.order old.rows)
 
   -- what a run of these commands makes of a grid and a tally, and what it replies: a reply a command, and where the
-  -- default is one value and clones equal their source, what is due
+  -- rows are known and clones equal their source, what is due
   pub record Ran (is_clone : T → T → Type 0) (is_default : T → Type 0) (commands : List (CommandValue T)) (old new : GridValue T) (before after : Counts) (answers : List (ReplyValue T)) : Type 0 where
     pub count : length answers ≡ length commands
     pub order : new.order ≡ order_after (list_symmetry commands) old.order
     pub left : (d : T) → All (RowsAreKnown is_default is_clone d) commands → LeftByRun d commands old new before after
-    pub replies : (d : T) → IsOnlyDefault is_default d → ClonesAreEqual is_clone → answers ≡ run_replies d commands old.rows
+    pub replies : (d : T) → All (RowsAreKnown is_default is_clone d) commands → ClonesAreEqual is_clone → answers ≡ run_replies d commands old.rows
 
   -- a run may stop for memory after so many commands, at this table: the next command takes memory, or none was
   -- done of a list that isn't empty

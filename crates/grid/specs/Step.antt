@@ -1,5 +1,5 @@
 -- What a command does to a table and replies: the plain step. And when it takes memory.
-use Rattle.std.specs.Prelude.{ℕ, ◌+◌, ◌-◌, Bool, true, false, not, ◌&&◌, Option, List, [], ◌∷◌, slice_get, nat_lt, if◌then◌else◌}
+use Rattle.std.specs.Prelude.{ℕ, ◌+◌, ◌-◌, ⊤, Bool, true, false, not, ◌&&◌, Option, List, [], ◌∷◌, slice_get, nat_lt, if◌then◌else◌}
 use Rattle.std.specs.Option.{is_none}
 use Rattle.grid_base.specs.Table.{row_count, col_count, cell, transposed, with_cell, exchanged}
 use Rattle.grid_base.specs.Symmetry.{act}
@@ -125,13 +125,26 @@ module _ {T : Type 0} where
   takes_memory clear m n = false
   takes_memory (apply s) m n = false
 
-  -- what the rows after a command rest on: d is the one default, and for a fill clones equal their source
+  -- what the rows after an edit of lines rest on: those after padding, that d is the one default
+  abbrev pub EditIsKnown : (T → Type 0) → T → Edit T → Type 0
+  EditIsKnown is_default d (expand k) = IsOnlyDefault is_default d
+  EditIsKnown is_default d (prepend k) = IsOnlyDefault is_default d
+  EditIsKnown is_default d (read i) = ⊤
+  EditIsKnown is_default d (push line) = ⊤
+  EditIsKnown is_default d (insert_at i line) = ⊤
+  EditIsKnown is_default d (insert_all i ls) = ⊤
+  EditIsKnown is_default d pop = ⊤
+  EditIsKnown is_default d (remove_at i) = ⊤
+  EditIsKnown is_default d (delete_at i) = ⊤
+  EditIsKnown is_default d (delete_range i k) = ⊤
+
+  -- what the rows after a command rest on: besides, those after a fill, that clones equal their source
   abbrev pub RowsAreKnown : (T → Type 0) → (T → T → Type 0) → T → CommandValue T → Type 0
-  RowsAreKnown is_default is_clone d (fill v) = IsOnlyDefault is_default d × ClonesAreEqual is_clone
-  RowsAreKnown is_default is_clone d size = IsOnlyDefault is_default d
-  RowsAreKnown is_default is_clone d (get r c) = IsOnlyDefault is_default d
-  RowsAreKnown is_default is_clone d (set_cell r c v) = IsOnlyDefault is_default d
-  RowsAreKnown is_default is_clone d (swap_cells p q) = IsOnlyDefault is_default d
-  RowsAreKnown is_default is_clone d (lines a e) = IsOnlyDefault is_default d
-  RowsAreKnown is_default is_clone d clear = IsOnlyDefault is_default d
-  RowsAreKnown is_default is_clone d (apply s) = IsOnlyDefault is_default d
+  RowsAreKnown is_default is_clone d (lines a e) = EditIsKnown is_default d e
+  RowsAreKnown is_default is_clone d (fill v) = ClonesAreEqual is_clone
+  RowsAreKnown is_default is_clone d size = ⊤
+  RowsAreKnown is_default is_clone d (get r c) = ⊤
+  RowsAreKnown is_default is_clone d (set_cell r c v) = ⊤
+  RowsAreKnown is_default is_clone d (swap_cells p q) = ⊤
+  RowsAreKnown is_default is_clone d clear = ⊤
+  RowsAreKnown is_default is_clone d (apply s) = ⊤

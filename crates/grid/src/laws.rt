@@ -2,17 +2,17 @@
 //!
 //! A clause `law`, `law_rows` or `law_line` states the law itself. It speaks of tables and says nothing of the calls;
 //! what those leave is in the other clauses.
-ghost use Rattle.std.specs.Prelude.{◌≡◌, ◌<◌, ◌≤◌, List, length, map, insert, remove, slice_get, Some, OnOk, OnErr, IfOk, IfErr, MatchOption};
+ghost use Rattle.std.specs.Prelude.{◌≡◌, ◌<◌, ◌≤◌, List, length, map, insert, All, remove, slice_get, Some, OnOk, OnErr, IfOk, IfErr, MatchOption};
 ghost use Rattle.grid_base.specs.Table.{row_count, col_count, IsTable};
 ghost use Rattle.grid_base.specs.Order.{storage};
 ghost use Rattle.grid_base.specs.Symmetry.{act, order_after, IsInverse};
 ghost use Rattle.grid_base.specs.declared.words.Symmetry.{Symmetry};
 ghost use Rattle.grid_base.specs.declared.words.Symmetry.TheVariants.{FlipCols, FlipRows, RotateHalf, RotateLeft, RotateRight, Transpose};
 ghost use Rattle.grid_base.specs.Clones.{ClonesAreEqual};
-ghost use Rattle.grid.specs.Make.{IsOnlyDefault};
 ghost use Rattle.grid.specs.Edits.{FitsRow, FitsCol, insert_col};
 ghost use Rattle.grid.specs.Command.{command_value};
 ghost use Rattle.grid.specs.Reply.{reply_value};
+ghost use Rattle.grid.specs.Step.{RowsAreKnown};
 ghost use Rattle.grid.specs.Cost.{list_symmetry};
 
 use crate::{Command, Grid, LineRefused, Reply, RunStopped, run};
@@ -178,10 +178,12 @@ where
     requires same { other.old.rows ≡ grid.old.rows }
     requires same_commands { map command_value other_commands.items
         ≡ map command_value commands.items }
-    ensures law_rows { OnOk result.0 (OnOk result.1 ((d : T) → IsOnlyDefault T.is_default d
-        → ClonesAreEqual T.is_clone → other.new.rows ≡ grid.new.rows)) }
-    ensures law_replies { IfOk result.0 (λ replies. IfOk result.1
-        (λ more. (d : T) → IsOnlyDefault T.is_default d → ClonesAreEqual T.is_clone
+    ensures law_rows { OnOk result.0 (OnOk result.1 ((d : T)
+        → All (RowsAreKnown T.is_default T.is_clone d) (map command_value commands.items)
+        → other.new.rows ≡ grid.new.rows)) }
+    ensures law_replies { IfOk result.0 (λ replies. IfOk result.1 (λ more. (d : T)
+        → All (RowsAreKnown T.is_default T.is_clone d) (map command_value commands.items)
+        → ClonesAreEqual T.is_clone
         → map reply_value more.items ≡ map reply_value replies.items)) }
     ensures order { OnOk result.0 (grid.new.order
         ≡ order_after (list_symmetry (map command_value commands.items)) grid.old.order) }

@@ -7,17 +7,17 @@ use Rattle.grid_base.specs.declared.flat.order.Order.{Order}
 use Rattle.grid_base.specs.Tally.{saturating_count}
 use Rattle.grid_base.specs.Symmetry.{act, IsThen}
 use Rattle.grid_base.proofs.GroupLemmas.{product, then_is, act-act, symmetry_of-concat_rows, identity_product, product_identity}
-use Rattle.grid.specs.Command.{CommandValue, command_value, size, get, lines, apply, axis_of, read}
+use Rattle.grid.specs.Command.{CommandValue, Edit, command_value, size, get, lines, apply, axis_of, read, pop}
 use Rattle.grid.specs.Reply.{ReplyValue, done}
 use Rattle.grid.specs.declared.command.Axis.{Axis}
 use Rattle.grid.specs.declared.command.Axis.TheVariants.{Row, Col}
 use Rattle.grid.specs.declared.command.Command.{Command}
 use Rattle.grid.specs.declared.command.Command.TheVariants.{Apply, Size}
-use Rattle.grid.specs.Step.{step_rows, step_reply, takes_memory, RowsAreKnown}
+use Rattle.grid.specs.Step.{step_rows, step_reply, takes_memory, RowsAreKnown, EditIsKnown}
 use Rattle.grid.specs.Cost.{command_symmetry, step_shift}
 use Rattle.grid.specs.Refusal.{in_range}
 use Rattle.grid.proofs.CellThroughLemmas.{cell_past}
-use Rattle.grid.specs.Through.{turned_reply, command_of_transposed, command_of_flipped}
+use Rattle.grid.specs.Through.{turned_reply, edit_of_flipped, edit_of_reversed, command_of_transposed, command_of_flipped}
 use Rattle.grid_deferred.specs.Carry.{shift_through, CarriesAt, is_apply}
 use Rattle.grid_deferred.specs.Carried.{carried}
 use Rattle.grid_deferred.specs.Deferred.{pending_after}
@@ -83,9 +83,17 @@ module _ {T : Type 0} (is_default : T → Type 0) (is_clone : T → T → Type 0
   known-transposed size h = h
   known-transposed y h = h
 
+  edit-flipped : (m : ℕ) (e : Edit T) → EditIsKnown is_default d e → EditIsKnown is_default d (edit_of_flipped m e)
+  edit-flipped m pop h = h
+  edit-flipped m e h = h
+
+  edit-reversed : (e : Edit T) → EditIsKnown is_default d e → EditIsKnown is_default d (edit_of_reversed e)
+  edit-reversed pop h = h
+  edit-reversed e h = h
+
   known-flipped : (m : ℕ) (y : CommandValue T) → RowsAreKnown is_default is_clone d y → RowsAreKnown is_default is_clone d (command_of_flipped m y)
-  known-flipped m (lines Row e) h = h
-  known-flipped m (lines Col e) h = h
+  known-flipped m (lines Row e) h = edit-flipped m e h
+  known-flipped m (lines Col e) h = edit-reversed e h
   known-flipped m size h = h
   known-flipped m y h = h
 

@@ -13,13 +13,12 @@ use Rattle.grid_base.specs.Symmetry.{act, order_after, price, half, image_rows, 
 use Rattle.grid_base.proofs.ActLemmas.{rows-act, cols-act}
 use Rattle.grid_base.proofs.GroupLemmas.{product, act-identity}
 use Rattle.grid_base.proofs.PriceLemmas.{price_within_half}
-use Rattle.grid.specs.Make.{IsOnlyDefault}
 use Rattle.grid.specs.Command.{CommandValue}
 use Rattle.grid.specs.Reply.{ReplyValue}
 use Rattle.grid.specs.Step.{step_rows, step_reply, RowsAreKnown}
 use Rattle.grid.specs.Cost.{command_symmetry, list_symmetry}
 use Rattle.grid.specs.Run.{run_rows, run_replies, Ran}
-use Rattle.grid.proofs.RunLemmas.{run_rows-more, run_replies-more, list_symmetry-more, list_symmetry-none, known_list, saturating_count-none, count_more}
+use Rattle.grid.proofs.RunLemmas.{run_rows-more, run_replies-more, list_symmetry-more, list_symmetry-none, saturating_count-none, count_more}
 use Rattle.grid_deferred.specs.Carry.{shift_through}
 use Rattle.grid_deferred.specs.Deferred.{pending_after}
 use Rattle.grid_deferred.specs.Run.{settling_price, shown_shift, deferred_shift, RanDeferred}
@@ -68,7 +67,7 @@ pub record Going {T : Type 0} (is_clone : T → T → Type 0) (is_default : T �
   pub joins : pending ≡ list_symmetry xs
   pub count : length answers ≡ length xs
   pub left : (d : T) → All (RowsAreKnown is_default is_clone d) xs → GoingRows d xs first base pending before after
-  pub replies : (d : T) → IsOnlyDefault is_default d → ClonesAreEqual is_clone → answers ≡ run_replies d xs first.rows
+  pub replies : (d : T) → All (RowsAreKnown is_default is_clone d) xs → ClonesAreEqual is_clone → answers ≡ run_replies d xs first.rows
 
 module _ {T : Type 0} (is_clone : T → T → Type 0) (is_default : T → Type 0) where
   pub going_none : (s : GridValue T) (n : ℕ) → IsTable s.rows → act Identity s.rows ≡ s.rows → Going is_clone is_default [] s s Identity n n []
@@ -79,7 +78,7 @@ module _ {T : Type 0} (is_clone : T → T → Type 0) (is_default : T → Type 0
     joins = sym list_symmetry-none;
     count = refl;
     left = λ d known. record { rows = e; shift = saturating_count-none n };
-    replies = λ d one same. refl;
+    replies = λ d known same. refl;
   }
 
   module _ (xs : List (CommandValue T)) (x : CommandValue T) (first base next : GridValue T) (s u : Symmetry) (before between after : ℕ) (answers more : List (ReplyValue T)) where
@@ -91,10 +90,11 @@ module _ {T : Type 0} (is_clone : T → T → Type 0) (is_default : T → Type 0
       joins = pends ∙ (pending-product x s ∙ (ap (λ p. product p (command_symmetry x)) g.joins ∙ sym (list_symmetry-more xs x)));
       count = omega (arith, count, g.count, length-append xs (x ∷ []));
       left = λ d known. all_left d (All-pop (RowsAreKnown is_default is_clone d) (xs ++ x ∷ []) xs (Some x) refl known);
-      replies = λ d one same.
-          let l = g.left d (known_list is_clone is_default d one same xs) in
+      replies = λ d known same.
+          let before = (All-pop (RowsAreKnown is_default is_clone d) (xs ++ x ∷ []) xs (Some x) refl known).0 in
+          let l = g.left d before in
           reply same
-          ∙ (ap (λ rs. rs ++ step_reply x (act s base.rows) ∷ []) (g.replies d one same)
+          ∙ (ap (λ rs. rs ++ step_reply x (act s base.rows) ∷ []) (g.replies d before same)
           ∙ (ap (λ t. run_replies d xs first.rows ++ step_reply x t ∷ []) l.rows ∙ sym (run_replies-more d xs x first.rows)));
     }
       where
@@ -160,6 +160,8 @@ module _ {T : Type 0} (is_clone : T → T → Type 0) (is_default : T → Type 0
     agree_order r q same order =
         r.order ∙ (ap (order_after (list_symmetry xs)) order ∙ (ap (λ zs. order_after (list_symmetry zs) other_old.order) same ∙ sym q.order))
 
-    pub agree_replies : Ran is_clone is_default xs old new first last answers → RanDeferred is_clone is_default ys other_old other_new other_first other_last others → old.rows ≡ other_old.rows → xs ≡ ys → (d : T) → IsOnlyDefault is_default d → ClonesAreEqual is_clone → answers ≡ others
-    agree_replies r q rows same d one clones =
-        r.replies d one clones ∙ (ap (run_replies d xs) rows ∙ (ap (λ zs. run_replies d zs other_old.rows) same ∙ sym (q.replies d one clones)))
+    pub agree_replies : Ran is_clone is_default xs old new first last answers → RanDeferred is_clone is_default ys other_old other_new other_first other_last others → old.rows ≡ other_old.rows → xs ≡ ys → (d : T) → All (RowsAreKnown is_default is_clone d) xs → ClonesAreEqual is_clone → answers ≡ others
+    agree_replies r q rows same d known clones =
+        r.replies d known clones
+        ∙ (ap (run_replies d xs) rows
+        ∙ (ap (λ zs. run_replies d zs other_old.rows) same ∙ sym (q.replies d (subst (All (RowsAreKnown is_default is_clone d)) same known) clones)))

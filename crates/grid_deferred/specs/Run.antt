@@ -8,7 +8,6 @@ use Rattle.grid_base.specs.Table.{row_count, col_count}
 use Rattle.grid_base.specs.Tally.{Counts, saturating_count}
 use Rattle.grid_base.specs.Clones.{ClonesAreEqual}
 use Rattle.grid_base.specs.Symmetry.{order_after, price, half, image_rows, image_cols}
-use Rattle.grid.specs.Make.{IsOnlyDefault}
 use Rattle.grid.specs.Command.{Edit, read, push, insert_at, insert_all, pop, remove_at, delete_at, delete_range, expand, prepend, CommandValue, size, get, set_cell, swap_cells, lines, fill, clear, apply}
 use Rattle.grid.specs.Reply.{ReplyValue}
 use Rattle.grid.specs.Step.{step_rows, RowsAreKnown}
@@ -66,11 +65,11 @@ module _ {T : Type 0} where
     pub allowance : after ≤ before + run_allowance d commands old.rows
 
   -- what a deferred run of these commands makes of a grid and a tally, and what it replies: a reply a command, and
-  -- where the default is one value and clones equal their source, what is due
+  -- where the rows are known and clones equal their source, what is due
   pub record RanDeferred (is_clone : T → T → Type 0) (is_default : T → Type 0) (commands : List (CommandValue T)) (old new : GridValue T) (before after : Counts) (answers : List (ReplyValue T)) : Type 0 where
     pub count : length answers ≡ length commands
     pub order : new.order ≡ order_after (list_symmetry commands) old.order
     pub symmetry : after.symmetry ≡ saturating_count before.symmetry (settling_price (list_symmetry commands) new.rows)
     pub half : after.symmetry ≤ before.symmetry + half (row_count new.rows) (col_count new.rows)
     pub left : (d : T) → All (RowsAreKnown is_default is_clone d) commands → LeftByDeferred d commands old new before.shift after.shift
-    pub replies : (d : T) → IsOnlyDefault is_default d → ClonesAreEqual is_clone → answers ≡ run_replies d commands old.rows
+    pub replies : (d : T) → All (RowsAreKnown is_default is_clone d) commands → ClonesAreEqual is_clone → answers ≡ run_replies d commands old.rows

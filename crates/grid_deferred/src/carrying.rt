@@ -229,21 +229,10 @@ pub(crate) fn transposes(symmetry: Symmetry) -> bool
 fn reverses_cells(symmetry: Symmetry, axis: Axis) -> bool
     ensures { result ≡ reverses_cells symmetry axis }
 {
+    let (_, flips_rows, flips_cols) = symmetry.flags();
     match axis {
-        Axis::Row => matches!(
-            symmetry,
-            Symmetry::FlipCols
-                | Symmetry::RotateHalf
-                | Symmetry::RotateRight
-                | Symmetry::AntiTranspose
-        ),
-        Axis::Col => matches!(
-            symmetry,
-            Symmetry::FlipRows
-                | Symmetry::RotateHalf
-                | Symmetry::RotateLeft
-                | Symmetry::AntiTranspose
-        ),
+        Axis::Row => flips_cols,
+        Axis::Col => flips_rows,
     }
 }
 

@@ -74,7 +74,7 @@ fn clone_cells<T: Clone + Drop, A: Allocator>(
     let mut cells = Vec::with_capacity(alloc, line.len())?;
     for cell in line {
         let copy = cell.clone()?;
-        cells.push(copy)?;
+        cells.push_reserved(copy);
     }
     Ok(cells)
 }

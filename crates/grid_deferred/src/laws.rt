@@ -1,7 +1,6 @@
 //! Laws of deferred runs as public calls: each makes the calls that its name says, and ensures what they leave.
 ghost use Rattle.std.specs.Prelude.{◌≡◌, All, IfSome, map};
 ghost use Rattle.grid_base.specs.Clones.{ClonesAreEqual};
-ghost use Rattle.grid.specs.Make.{IsOnlyDefault};
 ghost use Rattle.grid.specs.Command.{command_value};
 ghost use Rattle.grid.specs.Reply.{reply_value};
 ghost use Rattle.grid.specs.Step.{RowsAreKnown};
@@ -37,7 +36,8 @@ where
     ensures order { IfSome result (λ _.
         grid.old.order ≡ other.old.order → grid.new.order ≡ other.new.order) }
     ensures replies { IfSome result (λ both. (d : T)
-        → IsOnlyDefault T.is_default d → ClonesAreEqual T.is_clone
+        → All (RowsAreKnown T.is_default T.is_clone d) (map command_value commands.items)
+        → ClonesAreEqual T.is_clone
         → map reply_value both.0.items ≡ map reply_value both.1.items) }
 {
     match run(allocs.0, grid, commands, tally) {

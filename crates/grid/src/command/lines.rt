@@ -1,6 +1,7 @@
 //! Commands on lines: an edit of rows, and an edit of columns as that of rows between two transposes.
 //!
-//! A refusal is decided as its definition says, before memory is asked for.
+//! A refusal is decided as its definition says, before memory is asked for. `let _ = grid.size();` shows the prover that
+//! the rows are a table.
 ghost use Rattle.std.specs.Prelude.{◌≡◌, ◌+◌, ◌*◌, ◌<◌, length, nat_eq, nat_lt, [], ◌∷◌, OnOk, OnErr, IfOk, IsTrue};
 ghost use Rattle.std.specs.List.{list_any, list_all};
 ghost use Rattle.grid_base.specs.Table.{row, row_count, col_count, IsTable};
@@ -12,7 +13,7 @@ ghost use Rattle.grid.specs.Command.{lines, read, insert_at, insert_all, remove_
 ghost use Rattle.grid.specs.Reply.{reply_value};
 ghost use Rattle.grid.specs.Refusal.{too_many, insert_refusal, pad_refusal};
 ghost use Rattle.grid.specs.LineEdit.{edit_value, pad_edit};
-ghost use Rattle.grid.specs.Step.{step_rows, step_reply, takes_memory};
+ghost use Rattle.grid.specs.Step.{step_rows, step_reply, takes_memory, EditIsKnown};
 ghost use Rattle.grid.specs.Cost.{step_shift};
 ghost use Rattle.grid.specs.Shift.{delete_rows_shift};
 ghost use Rattle.grid.specs.declared.command.Axis.TheVariants.{Row, Col};
@@ -131,7 +132,7 @@ fn clone_row<T: Clone + Drop, A: Allocator>(
     let mut line = Vec::with_capacity(alloc, cols)?;
     for col in 0..cols {
         let copy = grid.get_unchecked(at, col).clone()?;
-        line.push(copy)?;
+        line.push_reserved(copy);
     }
     Ok(line)
 }
@@ -315,7 +316,7 @@ where
     T: Clone + Default + Drop,
     A: Clone,
     ensures table { IsTable grid.new.rows }
-    ensures rows { OnOk result ((d : T) → IsOnlyDefault T.is_default d
+    ensures rows { OnOk result ((d : T) → EditIsKnown T.is_default d (edit_value edit)
         → grid.new.rows ≡ step_rows d (lines Row (edit_value edit)) grid.old.rows) }
     ensures reply { IfOk result (λ reply. ClonesAreEqual T.is_clone
         → reply_value reply ≡ step_reply (lines Row (edit_value edit)) grid.old.rows) }
@@ -355,7 +356,7 @@ where
     T: Clone + Default + Drop,
     A: Clone,
     ensures table { IsTable grid.new.rows }
-    ensures rows { OnOk result ((d : T) → IsOnlyDefault T.is_default d
+    ensures rows { OnOk result ((d : T) → EditIsKnown T.is_default d (edit_value edit)
         → grid.new.rows ≡ step_rows d (lines Col (edit_value edit)) grid.old.rows) }
     ensures reply { IfOk result (λ reply. ClonesAreEqual T.is_clone
         → reply_value reply ≡ step_reply (lines Col (edit_value edit)) grid.old.rows) }

@@ -1,4 +1,4 @@
-//! The step of a grid: one command.
+//! The step of a grid: one command. `let _ = grid.size();` shows the prover that the rows are a table.
 ghost use Rattle.std.specs.Prelude.{◌≡◌, ◌+◌, ◌≤◌, OnOk, OnErr, IfOk, IsTrue, nat_lt};
 ghost use Rattle.grid_base.specs.Table.{row_count, col_count, IsTable};
 ghost use Rattle.grid_base.specs.Symmetry.{act, order_after, half};
@@ -138,8 +138,8 @@ fn exchange_cells<T, A: Allocator>(
     ensures reply { reply_value result ≡ step_reply (swap_cells a b) grid.old.rows }
     ensures order { grid.new.order ≡ grid.old.order }
 {
-    let (rows, cols) = grid.size();
-    if a.0 < rows && a.1 < cols && b.0 < rows && b.1 < cols {
+    let _ = grid.size();
+    if has_cell(grid, a) && has_cell(grid, b) {
         grid.swap(a, b);
         let _ = grid.size();
         Reply::Done
@@ -170,37 +170,6 @@ where
             Ok(Reply::Done)
         }
         Err(refused) => Err(refused),
-    }
-}
-
-// Edits the lines of an axis.
-fn edit_lines<T, A: Allocator>(
-    grid: &mut Grid<T, A>,
-    axis: Axis,
-    edit: LineEdit<T, A>,
-    tally: &mut Tally,
-) -> Result<Reply<T, A>, AllocError>
-where
-    T: Clone + Default + Drop,
-    A: Clone,
-    ensures table { IsTable grid.new.rows }
-    ensures rows { OnOk result ((d : T) → IsOnlyDefault T.is_default d
-        → grid.new.rows ≡ step_rows d (lines axis (edit_value edit)) grid.old.rows) }
-    ensures reply { IfOk result (λ reply. ClonesAreEqual T.is_clone
-        → reply_value reply ≡ step_reply (lines axis (edit_value edit)) grid.old.rows) }
-    ensures order { grid.new.order ≡ grid.old.order }
-    ensures symmetry { tally.new.symmetry ≡ tally.old.symmetry }
-    ensures shift { OnOk result (tally.new.shift ≡ saturating_count tally.old.shift
-        (step_shift (lines axis (edit_value edit)) grid.old.order
-        (row_count grid.old.rows) (col_count grid.old.rows))) }
-    ensures err_shift { OnErr result (tally.new.shift ≡ tally.old.shift) }
-    ensures err_grid { OnErr result (grid.new ≡ grid.old) }
-    ensures err_memory { OnErr result (IsTrue (takes_memory (lines axis (edit_value edit))
-        (row_count grid.old.rows) (col_count grid.old.rows))) }
-{
-    match axis {
-        Axis::Row => edit_rows(grid, edit, tally),
-        Axis::Col => edit_cols(grid, edit, tally),
     }
 }
 
@@ -263,7 +232,8 @@ impl<T, A: Allocator> Grid<T, A> {
             }
             Request::Set(row, col, value) => Ok(write_cell(self, row, col, value)),
             Request::Swap(a, b) => Ok(exchange_cells(self, a, b)),
-            Request::Lines(axis, edit) => edit_lines(self, axis, edit, tally),
+            Request::Lines(Axis::Row, edit) => edit_rows(self, edit, tally),
+            Request::Lines(Axis::Col, edit) => edit_cols(self, edit, tally),
             Request::Fill(value) => fill_cells(self, value),
             Request::Clear => {
                 self.clear();

@@ -1,4 +1,4 @@
-use Rattle.std.proofs.Common.{◌≡◌, ◌++◌}
+use Rattle.std.proofs.Common.{◌≡◌, ◌≤◌, ◌+◌, ◌++◌, length, vec_len, vec_capacity}
 use Rattle.grid_base.specs.Clones.{ClonesAreEqual}
 use Rattle.grid_deferred.proofs.deferred.clone_cells.Given as goal
 
@@ -7,4 +7,5 @@ invariant-loop-cell g l = record {
   can : (goal.iterator-loop-cell g).can_next l.cell-iterator;
   finite : (goal.iterator-loop-cell g).is_finite l.cell-iterator;
   cells : ClonesAreEqual g.T.Clone.is_clone → l.cells.items ++ l.cell-iterator ≡ l.fn.line;
+  room : vec_len l.cells + length l.cell-iterator ≤ vec_capacity l.cells;
 }

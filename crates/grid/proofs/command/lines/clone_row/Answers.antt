@@ -4,16 +4,20 @@ use Rattle.grid.proofs.TextLemmas.{take_next, whole_row}
 use Rattle.grid.proofs.command.lines.clone_row.Goals as goal
 
 pub loop-col-preserved : goal.loop-col-preserved
-loop-col-preserved g c same =
-    let line = row c.args.grid.now.rows c.args.at in
-    let i = c.loop-col.col in
-    let x = c.get_unchecked.result.now in
-    let copy = c.in_ok-copy.copy in
-    let e : copy ≡ x = same x copy c.in_ok-copy.ensures.cases in
-    c.in_ok-push.ensures.items
-    ∙ (ap (λ xs. xs ++ copy ∷ []) (c.loop-col.invariant same)
-    ∙ (ap (λ y. take i line ++ y ∷ []) e ∙ sym (take_next line i x c.get_unchecked.ensures)))
+loop-col-preserved g c = record {
+  cells = λ same.
+      let line = row c.args.grid.now.rows c.args.at in
+      let i = c.loop-col.col in
+      let x = c.get_unchecked.result.now in
+      let copy = c.in_ok-copy.copy in
+      let e : copy ≡ x = same x copy c.in_ok-copy.ensures.cases in
+      c.push_reserved.ensures.items
+      ∙ (ap (λ xs. xs ++ copy ∷ []) (c.loop-col.invariant.cells same)
+      ∙ (ap (λ y. take i line ++ y ∷ []) e ∙ sym (take_next line i x c.get_unchecked.ensures)));
+  len = omega (arith, c.push_reserved.ensures.len, c.loop-col.invariant.len);
+  room = omega (arith, c.push_reserved.ensures.capacity, c.loop-col.invariant.room);
+}
 
 pub returns : goal.returns
 returns g c same =
-    c.loop-col.invariant same ∙ whole_row c.args.grid.now.rows c.args.at c.loop-col.col c.size-cols.ensures.table c.requires.within (omega arith)
+    c.loop-col.invariant.cells same ∙ whole_row c.args.grid.now.rows c.args.at c.loop-col.col c.size-cols.ensures.table c.requires.within (omega arith)
