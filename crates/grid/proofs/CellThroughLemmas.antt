@@ -10,7 +10,7 @@ use Rattle.grid_base.specs.Table.{row, row_count, col_count, cell, IsTable, with
 use Rattle.grid_base.specs.Symmetry.{act, symmetry_of}
 use Rattle.grid_base.proofs.ActLemmas.{IsTable-act}
 use Rattle.grid_base.proofs.WriteLemmas.{get-set_same, get-set_other}
-use Rattle.grid_base.proofs.GroupLemmas.{product, act-act, act-identity, act_all-is, symmetry_of-concat_rows}
+use Rattle.grid_base.proofs.GroupLemmas.{product, act-act, act-identity, act_all-is, symmetry_of-product_from}
 use Rattle.grid.specs.AllCells.{filled}
 use Rattle.grid.proofs.ColEditLemmas.{rows-across, cols-across, cell-across, across_by_cells}
 use Rattle.grid.specs.Refusal.{in_range}
@@ -266,5 +266,5 @@ apply-through g u t h own =
     let ss = g ∷ u ∷ g ∷ [] in
     let v = act u (act g t) in
     let hv = IsTable-act u (act g t) (IsTable-act g t h) in
-    let all : act (symmetry_of ss) t ≡ act g v = ap (λ s. act s t) (symmetry_of-concat_rows ss) ∙ sym (act_all-is ss t h) in
+    let all : act (symmetry_of ss) t ≡ act g v = ap (λ s. act s t) (symmetry_of-product_from ss) ∙ sym (act_all-is ss t h) in
     sym (ap (act g) all ∙ (act-act g g v hv ∙ (ap (λ s. act s v) own ∙ act-identity v hv)))

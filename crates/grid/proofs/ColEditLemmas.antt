@@ -30,7 +30,7 @@ module _ {T : Type 0} where
     pub HasWidth-across : HasWidth (act Transpose t) (row_count t)
     HasWidth-across r lt = (IsTable-act Transpose t h).even r lt ∙ cols-across
 
-  -- a table is the turned table of u if it has its cells
+  -- a table is the transposed table of u if it has its cells
   pub across_by_cells : (t u : List (List T)) → IsTable u → row_count t ≡ col_count u → HasWidth t (row_count u) → ((r : ℕ) → r < col_count u → (c : ℕ) → c < row_count u → cell t r c ≡ cell u c r) → t ≡ act Transpose u
   across_by_cells t u h rows widths cells =
       same_tables t (act Transpose u) (rows ∙ sym (rows-across u h))
@@ -216,7 +216,7 @@ module _ {T : Type 0} where
         nonempty = h.new.nonempty 0 (omega arith);
       }
 
-  -- columns are put as rows of the turned table
+  -- columns are put as rows of the transposed table
   pub insert_cols-across : (i : ℕ) (lines t : List (List T)) → ColumnsFit i lines t → insert_cols i lines t ≡ act Transpose (insert_rows i lines (act Transpose t))
   insert_cols-across i [] t h = sym (ap (act Transpose) (put-no_lines i [] (act Transpose t) refl) ∙ across-across t h.old)
   insert_cols-across i (line ∷ lines) t h =
@@ -285,7 +285,7 @@ module _ {T : Type 0} where
         filter_none u (λ r lt. omega (arith, width_of_cut r (omega arith)))
         ∙ (sym across-none ∙ ap (act Transpose) (sym (take_all_rows i k v (IsTable-act Transpose t h) (omega arith) (omega arith))))
 
-    -- columns are taken as rows of the turned table
+    -- columns are taken as rows of the transposed table
     pub without_cols-across : without_cols i k t ≡ act Transpose (without_rows i k (act Transpose t))
     without_cols-across = ⊎_elim (λ lt. some_left lt) (λ ge. none_left (omega arith)) (cases_lt k (col_count t))
 
@@ -346,7 +346,7 @@ module _ {T : Type 0} where
         ∙ (ap (λ y. slice_get y r) (sym (row-put_after i lines v in_v c ge)) ∙ ap (λ x. cell w (x + c) r) rows_lines)))))
         c (omega arith))
 
-    -- the turned table with copies put as rows
+    -- the transposed table with copies put as rows
     copies_across : (i : ℕ) → insert_rows i (copies k (col_count (act Transpose t)) d) (act Transpose t) ≡ insert_rows i (copies k (row_count t) d) (act Transpose t)
     copies_across i = ap (λ x. insert_rows i (copies k x d) (act Transpose t)) (cols-across t h)
 
@@ -370,7 +370,7 @@ module _ {T : Type 0} where
         pad_at 0 (omega arith)
         ∙ ap (act Transpose) (sym (prepended-put k d (act Transpose t) some_across ∙ copies_across 0))
 
-  -- cells at the end or at the beginning of each row are rows of the turned table
+  -- cells at the end or at the beginning of each row are rows of the transposed table
   pub expanded_cols-across : (k : ℕ) (d : T) (t : List (List T)) → IsTable t → expanded_cols k d t ≡ act Transpose (expanded_rows k d (act Transpose t))
   expanded_cols-across k d [] h = sym (ap (λ v. act Transpose (expanded_rows k d v)) across-none ∙ across-none)
   expanded_cols-across k d (r ∷ t) h = expand_at k d (r ∷ t) h (omega arith)

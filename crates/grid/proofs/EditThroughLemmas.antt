@@ -195,7 +195,7 @@ module _ {T : Type 0} where
         cols-flip d (effect (col_count t) e) t h (subst (λ k. IsApplicable (effect k e) v) m g)
         ∙ ap (λ x. act FlipRows (after_effect d Col x t)) (sym (effect-edit_of_reversed (col_count t) e))
 
-    -- of rows and of columns of the turned table
+    -- of rows and of columns of the transposed table
     pub rows-edit_across : edit_refusal (col_count t) (row_count t) e ≡ None → after_effect d Row (effect (col_count t) e) (act Transpose t) ≡ act Transpose (after_effect d Col (effect (col_count t) e) t)
     rows-edit_across none =
         let v = act Transpose t in

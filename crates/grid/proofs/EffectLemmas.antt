@@ -118,7 +118,7 @@ module _ {T : Type 0} where
         height = λ some more. g.width (omega (arith, rows-across t h, (IsSize-table t h).has_cols some)) more ∙ cols-across t h;
       }
 
-  -- a deed on columns is the one on rows of the turned table
+  -- a deed on columns is the one on rows of the transposed table
   pub effect-across : (d : T) (x : Effect T) (t : List (List T)) → IsTable t → IsApplicable x (act Transpose t) → after_effect d Col x t ≡ act Transpose (after_effect d Row x (act Transpose t))
   effect-across d nothing t h g = sym (across-across t h)
   effect-across d (inserts i ls) t h g = insert_cols-across i ls t (columns-fit i ls t h g)

@@ -201,10 +201,10 @@ module _ {T : Type 0} where
   plain_unless None a e count t = plain_edit a e count t
   plain_unless (Some r) a e count t = refl
 
-  turned_plain : (e : Edit T) (t : List (List T)) → turned_reply Transpose Row (step_reply (lines Col e) t) ≡ step_reply (lines Col e) t
+  transposed_plain : (e : Edit T) (t : List (List T)) → turned_reply Transpose Row (step_reply (lines Col e) t) ≡ step_reply (lines Col e) t
   unfolding step_reply
-  turned_plain e t = plain_unless _ Col e (col_count t) t
+  transposed_plain e t = plain_unless _ Col e (col_count t) t
 
   pub crossed_reply : (e : Edit T) (t mid : List (List T)) (q : ReplyValue T) → IsTable t → mid ≡ act Transpose t → q ≡ step_reply (lines Row e) mid → q ≡ step_reply (lines Col e) t
   crossed_reply e t mid q h transposed step =
-      step ∙ (ap (step_reply (lines Row e)) transposed ∙ ((through_cross (lines Row e) t h).reply Row refl ∙ turned_plain e t))
+      step ∙ (ap (step_reply (lines Row e)) transposed ∙ ((through_cross (lines Row e) t h).reply Row refl ∙ transposed_plain e t))

@@ -13,7 +13,7 @@ use Rattle.grid_base.specs.Table.{row_count, col_count}
 use Rattle.grid_base.specs.Symmetry.{symmetry_of, order_after}
 use Rattle.grid_base.specs.Tally.{Counts, saturating_count}
 use Rattle.grid_base.specs.Clones.{ClonesAreEqual}
-use Rattle.grid_base.proofs.GroupLemmas.{product, symmetry_of-concat_rows, symmetry_of-more, order_after-order_after}
+use Rattle.grid_base.proofs.GroupLemmas.{product, symmetry_of-product_from, symmetry_of-more, order_after-order_after}
 use Rattle.grid.specs.Make.{IsOnlyDefault}
 use Rattle.grid.specs.Command.{CommandValue, Edit, expand, prepend, pop, size, lines, fill}
 use Rattle.grid.specs.Reply.{ReplyValue}
@@ -61,7 +61,7 @@ module _ {T : Type 0} where
   order-more xs x o = ap (λ s. order_after s o) (list_symmetry-more xs x) ∙ sym (order_after-order_after (list_symmetry xs) (command_symmetry x) o)
 
 pub list_symmetry-none : symmetry_of [] ≡ Identity
-list_symmetry-none = symmetry_of-concat_rows []
+list_symmetry-none = symmetry_of-product_from []
 
 pub saturating_count-none : (n : ℕ) → n ≡ saturating_count n 0
 saturating_count-none n = omega arith

@@ -159,7 +159,7 @@ module _ {T : Type 0} (t : List (List T)) (h : IsTable t) where
             back ∙ (ap (act Transpose) (p.put ∙ ap (insert_rows i p.fresh) there) ∙ sym (insert_cols-across i p.fresh t fit));
       }
 
-  -- columns of copies are rows of the turned table
+  -- columns of copies are rows of the transposed table
   pads_copied : (P : T → Type 0) (i k : ℕ) (d : T) (new : List (List T)) → 0 < row_count t → i ≤ col_count t → ((x : T) → P x → x ≡ d) → PadsCols P i k t new → new ≡ act Transpose (insert_rows i (copies k (col_count (act Transpose t)) d) (act Transpose t))
   pads_copied P i k d new some le one p =
       let lines = copies k (row_count t) d in
@@ -174,11 +174,11 @@ module _ {T : Type 0} (t : List (List T)) (h : IsTable t) where
       ∙ (ap (λ v. insert_cols i v t) (fresh_copies P (row_count t) d p.fresh one p.heights p.each ∙ ap (λ x. copies x (row_count t) d) p.number)
       ∙ (insert_cols-across i lines t fit ∙ ap (λ x. act Transpose (insert_rows i (copies k x d) (act Transpose t))) (sym (cols-across t h))))
 
-  -- where no columns are added, no rows are added to the turned table
+  -- where no columns are added, no rows are added to the transposed table
   pub none_added : (k : ℕ) (mid : List (List T)) → mid ≡ act Transpose t → padding_count k t ≡ 0 → padding_count k mid ≡ 0
   none_added k mid there none = ap (padding_count k) there ∙ (padding_count-across k ∙ none)
 
-  -- the size and the shift are those of the turned table
+  -- the size and the shift are those of the transposed table
   pub size_across : (k : ℕ) (mid : List (List T)) → mid ≡ act Transpose t → (row_count mid + padding_count k mid) * col_count mid ≡ (col_count t + padding_count k t) * row_count t
   size_across k mid there =
       ap (λ v. (row_count v + padding_count k v) * col_count v) there

@@ -67,14 +67,14 @@ in_range-parts m n p e = let b = and_parts (nat_lt p.0 m) (nat_lt p.1 n) e in (l
 in_range-flip : (m n : ℕ) (p : ℕ × ℕ) → in_range m n p ≡ in_range m n (mirror_place m p.0, p.1)
 in_range-flip m n p = ap (λ b. b && nat_lt p.1 n) (sym (place_past m p.0))
 
-and_turned : (x y : Bool) → (x && y) ≡ (y && x)
-and_turned true true = refl
-and_turned true false = refl
-and_turned false true = refl
-and_turned false false = refl
+and_exchanged : (x y : Bool) → (x && y) ≡ (y && x)
+and_exchanged true true = refl
+and_exchanged true false = refl
+and_exchanged false true = refl
+and_exchanged false false = refl
 
 in_range-cross : (m n : ℕ) (p : ℕ × ℕ) → in_range n m p ≡ in_range m n (p.1, p.0)
-in_range-cross m n p = and_turned (nat_lt p.0 n) (nat_lt p.1 m)
+in_range-cross m n p = and_exchanged (nat_lt p.0 n) (nat_lt p.1 m)
 
 index-none : (b : Bool) → ◌≡◌ {A = Option Refusal} (if b then None else Some Index) None → b ≡ true
 index-none true e = refl

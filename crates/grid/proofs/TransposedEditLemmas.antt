@@ -25,7 +25,7 @@ on_err (Ok v) f h = h
 on_err (Err e) f h = f h
 
 module _ {T : Type 0} where
-  -- a column that fits a table fits the turned table as a row
+  -- a column that fits a table fits the transposed table as a row
   pub fits_across : (t : List (List T)) (w : ℕ) → IsTable t → FitsCol t w → FitsRow (act Transpose t) w
   fits_across t w h f =
       ⊎_elim {C = FitsRow (act Transpose t) w} (λ none. inl (ap (act Transpose) none ∙ across-none)) (λ tall. inr (tall ∙ sym (cols-across t h))) f
@@ -72,7 +72,7 @@ module _ {T : Type 0} where
   cols_taken i k false t mid less new h tests transposed back taken =
       back ∙ (ap (act Transpose) (taken ∙ transposed) ∙ across-across t h)
 
-  -- the shift is that of the rows of the turned table
+  -- the shift is that of the rows of the transposed table
   pub delete_shift_across : (old mid : GridValue T) (i k : ℕ) → IsTable old.rows → mid.rows ≡ act Transpose old.rows → mid.order ≡ flipped old.order → delete_rows_shift mid.order (row_count mid.rows) (col_count mid.rows) i k ≡ delete_cols_shift old.order (row_count old.rows) (col_count old.rows) i k
   delete_shift_across old mid i k h rows order =
       rw (order, rows, rows-act Transpose old.rows, cols-across old.rows h) refl

@@ -19,7 +19,7 @@ abbrev pub delete_rows_shift : Order → ℕ → ℕ → ℕ → ℕ → ℕ
 delete_rows_shift o m n start count =
     if nat_eq count 0 then 0 else (if nat_lt m (start + count) then 0 else rows_taken_shift o m n start count)
 
--- columns are the rows of the turned table, which is stored in the other order
+-- columns are the rows of the transposed table, which is stored in the other order
 abbrev pub cols_added_shift : Order → ℕ → ℕ → ℕ → ℕ → ℕ
 cols_added_shift o m n i k = rows_added_shift (flipped o) n m i k
 

@@ -73,7 +73,7 @@ module _ {T : Type 0} where
   edit_of_reversed (expand k) = expand k
   edit_of_reversed (prepend k) = prepend k
 
-  -- the command on a table that does what this one does on the turned table
+  -- the command on a table that does what this one does on the transposed table
   abbrev pub command_of_transposed : CommandValue T → CommandValue T
   command_of_transposed size = size
   command_of_transposed (get r c) = get c r

@@ -14,8 +14,8 @@ use std::alloc::{Allocator, Global};
 
 /// What can be asked of a grid, as data.
 ///
-/// A refused command changes nothing. A command is refused for the first of these reasons that holds, in the order of
-/// [`Refusal`]; which one is a function of the command and of the size of the grid.
+/// A refused command changes nothing. It is refused for the first reason that holds, in the order of [`Refusal`]; which
+/// one is a function of the command and of the size of the grid. A command without a line 'Refused' never is.
 #[derive(Drop)]
 #[derive_where(Debug, PartialEq; T)]
 pub enum Command<T, A: Allocator = Global> {
@@ -27,22 +27,42 @@ pub enum Command<T, A: Allocator = Global> {
     Row(usize),
     /// The cells of a column. Replies `Line`; takes memory where there is such a column.
     Col(usize),
-    /// Writes the cell in a row and a column. Refused where there is none. Replies `Done`.
+    /// Writes the cell in a row and a column; the old cell is dropped. Replies `Done`.
+    ///
+    /// Refused: `Index` where there is no such cell.
     Set(usize, usize, T),
-    /// Exchanges two cells. Refused where there is none in one of the places. Replies `Done`.
+    /// Exchanges two cells. Replies `Done`.
+    ///
+    /// Refused: `Index` where there is no cell in one of the places.
     Swap((usize, usize), (usize, usize)),
     /// Adds a row at the end. Replies `Done`; takes memory unless it is refused.
+    ///
+    /// Refused: `EmptyLine` of no cells; `Length` on a grid that isn't empty, where it is not as long as its rows;
+    /// `TooLarge`.
     PushRow(Vec<T, A>),
     /// Adds a column at the end. Replies `Done`; takes memory unless it is refused.
+    ///
+    /// Refused: as [`PushRow`](Command::PushRow), of columns.
     PushCol(Vec<T, A>),
-    /// Inserts a row before a row. Replies `Done`; takes memory unless it is refused.
+    /// Inserts a row before a row, or at the end. Replies `Done`; takes memory unless it is refused.
+    ///
+    /// Refused: as [`PushRow`](Command::PushRow), and before `TooLarge` by `Index` where the place is past the end.
     InsertRow(usize, Vec<T, A>),
-    /// Inserts a column before a column. Replies `Done`; takes memory unless it is refused.
+    /// Inserts a column before a column, or at the end. Replies `Done`; takes memory unless it is refused.
+    ///
+    /// Refused: as [`InsertRow`](Command::InsertRow), of columns.
     InsertCol(usize, Vec<T, A>),
-    /// Inserts rows before a row, in their order. Replies `Done`; takes memory unless it is refused or has no lines.
+    /// Inserts rows before a row, or at the end, in their order. Replies `Done`; takes memory unless it is refused or
+    /// has no lines.
+    ///
+    /// Refused: `EmptyLine` where one has no cells; `Length` where one is not as long as the rows of the grid, or, into
+    /// an empty grid, where two have unlike lengths; `Index` where the place is past the end, also without lines;
+    /// `TooLarge`.
     InsertRows(usize, Vec<Vec<T, A>, A>),
-    /// Inserts columns before a column, in their order. Replies `Done`; takes memory unless it is refused or has no
-    /// lines.
+    /// Inserts columns before a column, or at the end, in their order. Replies `Done`; takes memory unless it is refused
+    /// or has no lines.
+    ///
+    /// Refused: as [`InsertRows`](Command::InsertRows), of columns.
     InsertCols(usize, Vec<Vec<T, A>, A>),
     /// Removes the last row. Replies `Line`; takes memory where there is a row.
     PopRow,
@@ -61,14 +81,24 @@ pub enum Command<T, A: Allocator = Global> {
     /// Drops columns from a column on, so many of them. Replies `Flag`: whether there were so many; if not, nothing
     /// changes.
     DeleteCols(usize, usize),
-    /// Adds rows of defaults at the end of a grid that is not empty. Replies `Done`; takes memory where it adds rows.
+    /// Adds rows of defaults at the end; an empty grid stays empty. Replies `Done`; takes memory where it adds rows.
+    ///
+    /// Refused: `TooLarge`, on a grid that isn't empty and where the number is not 0.
     ExpandRows(usize),
-    /// Adds columns of defaults at the end. Replies `Done`; takes memory where it adds columns.
+    /// Adds columns of defaults at the end; an empty grid stays empty. Replies `Done`; takes memory where it adds
+    /// columns.
+    ///
+    /// Refused: as [`ExpandRows`](Command::ExpandRows).
     ExpandCols(usize),
-    /// Adds rows of defaults at the beginning of a grid that is not empty. Replies `Done`; takes memory where it adds
+    /// Adds rows of defaults at the beginning; an empty grid stays empty. Replies `Done`; takes memory where it adds
     /// rows.
+    ///
+    /// Refused: as [`ExpandRows`](Command::ExpandRows).
     PrependRows(usize),
-    /// Adds columns of defaults at the beginning. Replies `Done`; takes memory where it adds columns.
+    /// Adds columns of defaults at the beginning; an empty grid stays empty. Replies `Done`; takes memory where it adds
+    /// columns.
+    ///
+    /// Refused: as [`ExpandRows`](Command::ExpandRows).
     PrependCols(usize),
     /// Makes every cell the value. Replies `Done`; takes memory on a grid that is not empty.
     Fill(T),

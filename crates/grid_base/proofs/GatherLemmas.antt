@@ -134,8 +134,8 @@ module _ {T : Type 0} where
   split zero (x ∷ xs) lt = record { x = x; is = refl; parts = refl }
   split (suc c) (x ∷ xs) lt = let s = split c xs (omega arith) in record { x = s.x; is = s.is; parts = s.parts }
 
-  turned_parts : (c : ℕ) (line : List T) (s : Split c line) → reverse (drop c line) ≡ reverse (drop (suc c) line) ++ s.x ∷ []
-  turned_parts c line s = ap reverse s.parts ∙ reverse-append (s.x ∷ []) (drop (suc c) line)
+  reversed_parts : (c : ℕ) (line : List T) (s : Split c line) → reverse (drop c line) ≡ reverse (drop (suc c) line) ++ s.x ∷ []
+  reversed_parts c line s = ap reverse s.parts ∙ reverse-append (s.x ∷ []) (drop (suc c) line)
 
   last_item : (xs : List T) (y : T) → last_of (xs ++ y ∷ []) ≡ y ∷ []
   last_item xs y = drop_at xs (y ∷ []) (length (xs ++ y ∷ []) - 1) (omega (arith, length-append xs (y ∷ [])))
@@ -154,25 +154,25 @@ module _ {T : Type 0} where
   length-lasts c [] h = refl
   length-lasts c (line ∷ t) h =
       let s = split c line (h 0 (omega arith)) in
-      let first : last_of (reverse (drop c line)) ≡ s.x ∷ [] = ap last_of (turned_parts c line s) ∙ last_item (reverse (drop (suc c) line)) s.x in
+      let first : last_of (reverse (drop c line)) ≡ s.x ∷ [] = ap last_of (reversed_parts c line s) ∙ last_item (reverse (drop (suc c) line)) s.x in
       ap (λ xs. length (xs ++ flat_map last_of (left_over c t))) first ∙ ap suc (length-lasts c t (λ r lt. h (suc r) (omega arith)))
 
   get-lasts : (c : ℕ) (t : List (List T)) (k : ℕ) → Longer c t → k < row_count t → slice_get (flat_map last_of (left_over c t)) k ≡ cell t k c
   get-lasts c [] k h lt = absurd (omega arith)
   get-lasts c (line ∷ t) zero h lt =
       let s = split c line (h 0 (omega arith)) in
-      let first : last_of (reverse (drop c line)) ≡ s.x ∷ [] = ap last_of (turned_parts c line s) ∙ last_item (reverse (drop (suc c) line)) s.x in
+      let first : last_of (reverse (drop c line)) ≡ s.x ∷ [] = ap last_of (reversed_parts c line s) ∙ last_item (reverse (drop (suc c) line)) s.x in
       ap (λ xs. slice_get (xs ++ flat_map last_of (left_over c t)) 0) first ∙ sym s.is
   get-lasts c (line ∷ t) (suc k) h lt =
       let s = split c line (h 0 (omega arith)) in
-      let first : last_of (reverse (drop c line)) ≡ s.x ∷ [] = ap last_of (turned_parts c line s) ∙ last_item (reverse (drop (suc c) line)) s.x in
+      let first : last_of (reverse (drop c line)) ≡ s.x ∷ [] = ap last_of (reversed_parts c line s) ∙ last_item (reverse (drop (suc c) line)) s.x in
       ap (λ xs. slice_get (xs ++ flat_map last_of (left_over c t)) (suc k)) first ∙ get-lasts c t k (λ r lt. h (suc r) (omega arith)) (omega arith)
 
   one_gone : (c : ℕ) (t : List (List T)) → Longer c t → map before_last (left_over c t) ≡ left_over (suc c) t
   one_gone c [] h = refl
   one_gone c (line ∷ t) h =
       let s = split c line (h 0 (omega arith)) in
-      let first : before_last (reverse (drop c line)) ≡ reverse (drop (suc c) line) = ap before_last (turned_parts c line s) ∙ other_items (reverse (drop (suc c) line)) s.x in
+      let first : before_last (reverse (drop c line)) ≡ reverse (drop (suc c) line) = ap before_last (reversed_parts c line s) ∙ other_items (reverse (drop (suc c) line)) s.x in
       ap (λ xs. xs ∷ map before_last (left_over c t)) first ∙ ap (λ u. reverse (drop (suc c) line) ∷ u) (one_gone c t (λ r lt. h (suc r) (omega arith)))
 
   all_gone : (c : ℕ) (t : List (List T)) → ((r : ℕ) → r < row_count t → length (row t r) ≤ c) → left_over c t ≡ map (λ r. []) t

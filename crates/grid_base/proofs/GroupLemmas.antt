@@ -186,14 +186,14 @@ inverse_left AntiTranspose AntiTranspose h = refl
 inverse_left s v h = cc h
 
 -- symmetries that act one after another, joined from s on
-abbrev pub concat_rows_from : Symmetry → List Symmetry → Symmetry
-concat_rows_from s ss = fold product s ss
+abbrev pub product_from : Symmetry → List Symmetry → Symmetry
+product_from s ss = fold product s ss
 
-pub act_all-act : {T : Type 0} (ss : List Symmetry) (s : Symmetry) (t : List (List T)) → IsTable t → act_all ss (act s t) ≡ act (concat_rows_from s ss) t
+pub act_all-act : {T : Type 0} (ss : List Symmetry) (s : Symmetry) (t : List (List T)) → IsTable t → act_all ss (act s t) ≡ act (product_from s ss) t
 act_all-act [] s t h = refl
 act_all-act (u ∷ ss) s t h = ap (act_all ss) (act-act s u t h) ∙ act_all-act ss (product s u) t h
 
-pub act_all-is : {T : Type 0} (ss : List Symmetry) (t : List (List T)) → IsTable t → act_all ss t ≡ act (concat_rows_from Identity ss) t
+pub act_all-is : {T : Type 0} (ss : List Symmetry) (t : List (List T)) → IsTable t → act_all ss t ≡ act (product_from Identity ss) t
 act_all-is ss t h = sym (ap (act_all ss) (act-identity t h)) ∙ act_all-act ss Identity t h
 
 -- the search by the test table finds the symmetry
@@ -202,19 +202,19 @@ unfolding act tabulate cells_by
 found Identity = refl
 found s = refl
 
-pub symmetry_of-concat_rows : (ss : List Symmetry) → symmetry_of ss ≡ concat_rows_from Identity ss
+pub symmetry_of-product_from : (ss : List Symmetry) → symmetry_of ss ≡ product_from Identity ss
 unfolding symmetry_of
-symmetry_of-concat_rows ss =
+symmetry_of-product_from ss =
     ap (λ t. unwrap_or (find (λ u. pointwise (pointwise nat_eq) (act u test_table) t) symmetries) Identity) (act_all-is ss test_table IsTable-test)
-    ∙ found (concat_rows_from Identity ss)
+    ∙ found (product_from Identity ss)
 
 pub symmetry_of-more : (ss : List Symmetry) (s : Symmetry) → symmetry_of (ss ++ s ∷ []) ≡ product (symmetry_of ss) s
 symmetry_of-more ss s =
-    symmetry_of-concat_rows (ss ++ s ∷ []) ∙ (fold-append product Identity ss (s ∷ []) ∙ ap (λ x. product x s) (sym (symmetry_of-concat_rows ss)))
+    symmetry_of-product_from (ss ++ s ∷ []) ∙ (fold-append product Identity ss (s ∷ []) ∙ ap (λ x. product x s) (sym (symmetry_of-product_from ss)))
 
 -- the symmetry of a word
 abbrev pub word_symmetry : List Move → Symmetry
-word_symmetry w = concat_rows_from Identity (map of_move w)
+word_symmetry w = product_from Identity (map of_move w)
 
 -- a word acts as its symmetry, on tables of any cells
 pub word-acts : {T : Type 0} (w : List Move) (t : List (List T)) → IsTable t → word_image w t ≡ act (word_symmetry w) t
@@ -236,4 +236,4 @@ alike_normal w v s e = (
 pub word_symmetry-more : (w : List Move) (i : ℕ) (d : Move) → i < length w → word_symmetry (take (i + 1) w) ≡ product (word_symmetry (take i w)) (of_move (get_or w i d))
 word_symmetry-more w i d h =
     ap word_symmetry (take_more w i d h)
-    ∙ (ap (concat_rows_from Identity) (map-append of_move (take i w) (get_or w i d ∷ [])) ∙ fold-append product Identity (map of_move (take i w)) (of_move (get_or w i d) ∷ []))
+    ∙ (ap (product_from Identity) (map-append of_move (take i w) (get_or w i d ∷ [])) ∙ fold-append product Identity (map of_move (take i w)) (of_move (get_or w i d) ∷ []))

@@ -75,7 +75,7 @@ HoldsSize-cut len cols some wide even small =
       size = record { has_cols = λ _. omega arith; has_rows = λ _. pos_of (len / cols) (λ e. some (omega (arith, ap (λ x. x * cols) e))) };
     }
 
--- the size of the turned table
+-- the size of the transposed table
 pub HoldsSize-transposed : (m n len : ℕ) → HoldsSize m n len → HoldsSize n m len
 HoldsSize-transposed m n len h =
     record {

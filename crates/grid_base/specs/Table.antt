@@ -40,7 +40,7 @@ module _ {T : Type 0} where
   unfoldable pub tabulate : ℕ → ℕ → (ℕ → ℕ → Option T) → List (List T)
   tabulate m n f = map (λ r. cells_by n (f r)) (range_with_len 0 m)
 
-  -- the turned table: its rows are the columns
+  -- the transposed table: its rows are the columns
   abbrev pub transposed : List (List T) → List (List T)
   transposed t = tabulate (col_count t) (row_count t) (λ c r. cell t r c)
 

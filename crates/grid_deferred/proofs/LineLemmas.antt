@@ -5,7 +5,7 @@ use Rattle.std.proofs.lemmas.List.Edits.{map_over_more}
 use Rattle.grid_base.specs.Gather.{items_of_each}
 use Rattle.grid_base.specs.declared.words.Symmetry.{Symmetry}
 use Rattle.grid_base.specs.Symmetry.{IsThen, symmetry_of}
-use Rattle.grid_base.proofs.GroupLemmas.{product, then_is, symmetry_of-concat_rows, identity_product}
+use Rattle.grid_base.proofs.GroupLemmas.{product, then_is, symmetry_of-product_from, identity_product}
 use Rattle.grid.specs.Command.{CommandValue, apply}
 
 -- a symmetry between two others, joined one by one
@@ -14,7 +14,7 @@ between g u v w first last =
     ap apply
     (then_is v g w last
     ∙ (ap (λ x. product x g) (then_is g u v first)
-    ∙ sym (symmetry_of-concat_rows (g ∷ u ∷ g ∷ []) ∙ ap (λ x. product (product x u) g) (identity_product g))))
+    ∙ sym (symmetry_of-product_from (g ∷ u ∷ g ∷ []) ∙ ap (λ x. product (product x u) g) (identity_product g))))
 
 module _ {T A : Type 0} where
   -- one line more is reversed

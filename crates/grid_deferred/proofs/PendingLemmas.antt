@@ -6,7 +6,7 @@ use Rattle.grid_base.specs.Table.{row_count, col_count, cell, IsTable}
 use Rattle.grid_base.specs.declared.flat.order.Order.{Order}
 use Rattle.grid_base.specs.Tally.{saturating_count}
 use Rattle.grid_base.specs.Symmetry.{act, IsThen}
-use Rattle.grid_base.proofs.GroupLemmas.{product, then_is, act-act, symmetry_of-concat_rows, identity_product, product_identity}
+use Rattle.grid_base.proofs.GroupLemmas.{product, then_is, act-act, symmetry_of-product_from, identity_product, product_identity}
 use Rattle.grid.specs.Command.{CommandValue, Edit, command_value, size, get, lines, apply, axis_of, read, pop}
 use Rattle.grid.specs.Reply.{ReplyValue, done}
 use Rattle.grid.specs.declared.command.Axis.{Axis}
@@ -25,7 +25,7 @@ use Rattle.grid_deferred.proofs.CarryLemmas.{carries, applies}
 
 module _ {T : Type 0} where
   pub pending-product : (y : CommandValue T) (s : Symmetry) → pending_after y s ≡ product s (command_symmetry y)
-  pending-product y s = symmetry_of-concat_rows (s ∷ command_symmetry y ∷ []) ∙ ap (λ x. product x (command_symmetry y)) (identity_product s)
+  pending-product y s = symmetry_of-product_from (s ∷ command_symmetry y ∷ []) ∙ ap (λ x. product x (command_symmetry y)) (identity_product s)
 
   -- a command that is no Apply has no symmetry
   no_symmetry : (y : CommandValue T) → is_apply y ≡ false → command_symmetry y ≡ Identity

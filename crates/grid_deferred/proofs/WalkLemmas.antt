@@ -91,14 +91,14 @@ flags-across Transpose = refl
 flags-across s = refl
 
 module _ {T : Type 0} where
-  turned_again : (s : Symmetry) (t : List (List T)) → IsTable t → transposed (act s t) ≡ act (product s Transpose) t
-  turned_again s t h = sym (across-transposed (act s t)) ∙ act-act s Transpose t h
+  transposed_act : (s : Symmetry) (t : List (List T)) → IsTable t → transposed (act s t) ≡ act (product s Transpose) t
+  transposed_act s t h = sym (across-transposed (act s t)) ∙ act-act s Transpose t h
 
   pub col_shown : (s : Symmetry) (t : List (List T)) → IsTable t → (c : ℕ) → c < col_count (act s t) → row (transposed (act s t)) c ≡ walked (flags_of s).1 (line_from (not (flags_of s).0) (flags_of s).2 c t)
   col_shown s t h c lt =
       let p = product s Transpose in
       let f = flags-across s in
-      let e = turned_again s t h in
+      let e = transposed_act s t h in
       let n : row_count (act p t) ≡ col_count (act s t) = ap row_count (sym e) ∙ (ap row_count (sym (across-transposed (act s t))) ∙ rows-across (act s t) (IsTable-act s t h)) in
       ap (λ v. row v c) e
       ∙ (row_shown p t h c (omega (arith, lt, n)) ∙ ap (λ x. walked x.2 (line_from x.0 x.1 c t)) f)

@@ -58,7 +58,7 @@ pub(crate) fn carried<T, A: Allocator>(
     }
 }
 
-// The same command on the turned table.
+// The same command on the transposed table.
 fn exchange<T, A: Allocator>(command: Command<T, A>) -> Command<T, A>
     ensures { command_value result ≡ command_of_transposed (command_value command) }
 {

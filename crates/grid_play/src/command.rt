@@ -17,71 +17,47 @@ pub(crate) fn parse_command<A: Allocator + Clone>(
     words: Words<'_>,
 ) -> Result<Option<Command<i64, A>>, AllocError> {
     match name {
-        "push_row" => parse_push(alloc, name, words),
-        "push_col" => parse_push(alloc, name, words),
-        "insert_row" => parse_insert(alloc, name, words),
-        "insert_col" => parse_insert(alloc, name, words),
-        "insert_rows" => parse_insert_lines(alloc, name, words),
-        "insert_cols" => parse_insert_lines(alloc, name, words),
+        "push_row" => Ok(parse_cells(alloc, words)?.map(|line| Command::PushRow(line))),
+        "push_col" => Ok(parse_cells(alloc, words)?.map(|line| Command::PushCol(line))),
+        "insert_row" => {
+            Ok(parse_insert(alloc, words)?.map(|(at, line)| Command::InsertRow(at, line)))
+        }
+        "insert_col" => {
+            Ok(parse_insert(alloc, words)?.map(|(at, line)| Command::InsertCol(at, line)))
+        }
+        "insert_rows" => {
+            Ok(parse_insert_lines(alloc, words)?.map(|(at, lines)| Command::InsertRows(at, lines)))
+        }
+        "insert_cols" => {
+            Ok(parse_insert_lines(alloc, words)?.map(|(at, lines)| Command::InsertCols(at, lines)))
+        }
         _ => Ok(parse_short(name, words)),
     }
 }
 
-// A line that is pushed: `V..`.
-fn parse_push<A: Allocator>(
-    alloc: A,
-    name: &str,
-    words: Words<'_>,
-) -> Result<Option<Command<i64, A>>, AllocError> {
-    let Some(line) = parse_cells(alloc, words)? else {
-        return Ok(None);
-    };
-    match name {
-        "push_row" => Ok(Some(Command::PushRow(line))),
-        _ => Ok(Some(Command::PushCol(line))),
-    }
-}
-
-// A line that is inserted: `I V..`.
+// A place and a line that is inserted there: `I V..`.
 fn parse_insert<A: Allocator>(
     alloc: A,
-    name: &str,
     mut words: Words<'_>,
-) -> Result<Option<Command<i64, A>>, AllocError> {
+) -> Result<Option<(usize, Vec<i64, A>)>, AllocError> {
     let Some(at) = words.next().and_then(index) else {
         return Ok(None);
     };
-    let Some(line) = parse_cells(alloc, words)? else {
-        return Ok(None);
-    };
-    match name {
-        "insert_row" => Ok(Some(Command::InsertRow(at, line))),
-        _ => Ok(Some(Command::InsertCol(at, line))),
-    }
+    Ok(parse_cells(alloc, words)?.map(|line| (at, line)))
 }
 
-// Lines that are inserted: `I L V..`, the cells joined, in lines of length L.
+// A place and lines that are inserted there: `I L V..`, the cells joined, in lines of length L.
 fn parse_insert_lines<A: Allocator + Clone>(
     alloc: A,
-    name: &str,
     mut words: Words<'_>,
-) -> Result<Option<Command<i64, A>>, AllocError> {
-    let Some(at) = words.next().and_then(index) else {
-        return Ok(None);
-    };
-    let Some(len) = words.next().and_then(index) else {
+) -> Result<Option<(usize, Vec<Vec<i64, A>, A>)>, AllocError> {
+    let Some((at, len)) = next_two(&mut words) else {
         return Ok(None);
     };
     let Some(cells) = parse_cells(alloc.clone()?, words)? else {
         return Ok(None);
     };
-    let Some(lines) = cut_lines(alloc, cells.as_slice(), len)? else {
-        return Ok(None);
-    };
-    match name {
-        "insert_rows" => Ok(Some(Command::InsertRows(at, lines))),
-        _ => Ok(Some(Command::InsertCols(at, lines))),
-    }
+    Ok(cut_lines(alloc, cells.as_slice(), len)?.map(|lines| (at, lines)))
 }
 
 // The cells in lines of length `len`, or `None` where they can't be cut so.

@@ -59,15 +59,7 @@ impl<T, A: Allocator> Flat<T, A> {
         ensures symmetry { tally.new.symmetry ≡ tally.old.symmetry }
         ensures shift { tally.new.shift ≡ saturating_count tally.old.shift (lines * width - at) }
     {
-        // The run of cells behind each group, the last run first. A run moves on by the groups before it.
-        let mut end = lines * width;
-        let mut line = lines;
-        while 0 < line {
-            line -= 1;
-            let start = at + line * width;
-            move_back(self, start, (line + 1) * count, end - start, tally);
-            end = start;
-        }
+        open_at(self, lines, width, at, count, tally);
     }
 
     /// Closes up the lines without the `count` cells from place `at` on in each, and drops those.
@@ -215,6 +207,36 @@ fn move_forward<T, A: Allocator>(
         let run = shift.min(n - done);
         flat.swap_blocks_for_shift(start + done, start + done + shift, run, tally);
         done += run;
+    }
+}
+
+// Takes the run of cells behind each group, the last first, to its place in the spread lines. A run moves on by the
+// groups before it.
+fn open_at<T, A: Allocator>(
+    flat: &mut Flat<T, A>,
+    lines: usize,
+    width: usize,
+    at: usize,
+    count: usize,
+    tally: &mut Tally,
+)
+    requires cells { length flat.old ≡ lines * (width + count) }
+    requires fits { lines * (width + count) < 2 ^ 64 }
+    requires within { at ≤ width }
+    requires has_lines { 0 < lines }
+    requires has_width { 0 < width }
+    requires has_count { 0 < count }
+    ensures opened { Opened lines width at count flat.old flat.new }
+    ensures symmetry { tally.new.symmetry ≡ tally.old.symmetry }
+    ensures shift { tally.new.shift ≡ saturating_count tally.old.shift (lines * width - at) }
+{
+    let mut end = lines * width;
+    let mut line = lines;
+    while 0 < line {
+        line -= 1;
+        let start = at + line * width;
+        move_back(flat, start, (line + 1) * count, end - start, tally);
+        end = start;
     }
 }
 

@@ -1,7 +1,7 @@
 use Rattle.std.proofs.Common.{◌≡◌, ◌+◌, ◌-◌, ◌*◌, ◌≤◌, refl, ap, arith}
 use Rattle.std.proofs.Math.Nat.{mul-le-mul_right}
 use Rattle.grid_base.proofs.SpreadLemmas.{opening_none, opening_run, opening_end, times_less, first_line}
-use Rattle.grid_base.proofs.flat.Flat.open.Goals as goal
+use Rattle.grid_base.proofs.flat.lines.open_at.Goals as goal
 
 pub loop-line-init : goal.loop-line-init
 loop-line-init g c =
