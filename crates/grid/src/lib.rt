@@ -3,6 +3,15 @@
 //! The order is invisible, except where the storage itself is shown: a contract sees a grid as a table, the list of
 //! its rows, and an order. Iterators take no memory, copy no cell, and may be dropped early.
 //!
+//!     rows [[1, 2, 3], [4, 5, 6]]   row-major  1 2 3 | 4 5 6      column-major  1 4 | 2 5 | 3 6
+//!
+//! The eight symmetries of a table:
+//!
+//!     Identity   FlipCols   FlipRows   RotateHalf     Transpose  RotateLeft  RotateRight  AntiTranspose
+//!      1 2 3      3 2 1      4 5 6       6 5 4           1 4         3 6          4 1           6 3
+//!      4 5 6      6 5 4      1 2 3       3 2 1           2 5         2 5          5 2           5 2
+//!                                                        3 6         1 4          6 3           4 1
+//!
 //! The calls of [`Grid`] by theme:
 //!
 //! - make one: `empty`, `new`, `init`, `with_capacity`, `from_vec`, `from_arrays`, each in either order; `grid!`,
