@@ -1,0 +1,148 @@
+//! Counts the polyominoes of up to five cells, and draws the pentominoes.
+//!
+//! Shapes are grown cell by cell and cut to the rows and columns that they fill. Two fixed shapes are of one kind where a
+//! symmetry brings one to the other: one of the four rotations for one-sided kinds, one of all eight for free ones.
+//! Turned grids differ in their order of storage; `==` and the hash of a set don't see it.
+#![tactic(auto)]
+
+use anyhow::Result;
+use grid::{Grid, Move, Symmetry, reduce};
+use std::alloc::Global;
+use std::collections::HashSet;
+
+// The cells of a shape are true.
+type Shape = Grid<bool>;
+
+// No turn, and one, two and three quarter turns to the left.
+fn rotations() -> [Symmetry; 4] {
+    let turns = [Move::RotateLeft; 3];
+    [
+        reduce(&turns[..0]),
+        reduce(&turns[..1]),
+        reduce(&turns[..2]),
+        reduce(&turns),
+    ]
+}
+
+// The rotations, and those of the mirror image.
+fn all_symmetries() -> [Symmetry; 8] {
+    let [r0, r1, r2, r3] = rotations();
+    let [m0, m1, m2, m3] = rotations().map(|turn| Symmetry::FlipCols.then(turn));
+    [r0, r1, r2, r3, m0, m1, m2, m3]
+}
+
+// Adds a row or a column of empty cells on each side.
+fn padded(shape: &Shape) -> Result<Shape> {
+    let mut padded = shape.clone()?;
+    for _ in 0..4u8 {
+        padded.prepend_rows(1)?;
+        padded.rotate_left();
+    }
+    Ok(padded)
+}
+
+// Cuts one empty row or column off each side that has one.
+fn trim(shape: &mut Shape) {
+    for _ in 0..4u8 {
+        let top = shape.iter_rows().next();
+        if top.is_some_and(|mut cells| !cells.any(|filled| *filled)) {
+            shape.delete_row(0);
+        }
+        shape.rotate_left();
+    }
+}
+
+// Whether a cell above, below, left or right of a place is filled. What lies before the first place is out of range.
+fn touches(shape: &Shape, row: usize, col: usize) -> bool {
+    let (above, below) = (row.wrapping_sub(1), row.wrapping_add(1));
+    let (left, right) = (col.wrapping_sub(1), col.wrapping_add(1));
+    let beside = [(above, col), (below, col), (row, left), (row, right)];
+    beside.iter().any(|(r, c)| shape.get(*r, *c) == Some(&true))
+}
+
+// Adds the shapes with one cell more than a shape.
+fn grow(shape: &Shape, grown: &mut Vec<Shape>) -> Result<()> {
+    let padded = padded(shape)?;
+    for ((row, col), filled) in padded.indexed_iter() {
+        if !*filled && touches(&padded, row, col) {
+            let mut larger = padded.clone()?;
+            if let Some(cell) = larger.get_mut(row, col) {
+                *cell = true;
+            }
+            trim(&mut larger);
+            grown.push(larger)?;
+        }
+    }
+    Ok(())
+}
+
+fn grow_each(alloc: Global, shapes: &[Shape]) -> Result<Vec<Shape>> {
+    let mut grown = Vec::new(alloc);
+    for shape in shapes {
+        grow(shape, &mut grown)?;
+    }
+    Ok(grown)
+}
+
+fn add_images(seen: &mut HashSet<Shape>, shape: &Shape, symmetries: &[Symmetry]) -> Result<()> {
+    for symmetry in symmetries {
+        let mut image = shape.clone()?;
+        image.apply(*symmetry);
+        seen.insert(image)?;
+    }
+    Ok(())
+}
+
+// The first shape of each kind: a shape and its images under the symmetries are of one kind.
+fn kinds(alloc: Global, shapes: &[Shape], symmetries: &[Symmetry]) -> Result<Vec<Shape>> {
+    let mut seen = HashSet::new(alloc);
+    let mut kinds = Vec::new(alloc);
+    for shape in shapes {
+        if !seen.contains(shape) {
+            add_images(&mut seen, shape, symmetries)?;
+            kinds.push(shape.clone()?)?;
+        }
+    }
+    Ok(kinds)
+}
+
+// Prints one row of each shape, side by side.
+fn print_row<R: Print + AllocGlobal>(rt: &R, shapes: &[Shape], row: usize) -> Result<()> {
+    let mut text = String::new(rt.alloc());
+    for shape in shapes {
+        let filled = (0..shape.cols()).map(|col| shape.get(row, col) == Some(&true));
+        text.extend(filled.map(|filled| if filled { '#' } else { ' ' }))?;
+        text.push_str("   ")?;
+    }
+    println!(rt; "{}", text.as_str().trim_end())?;
+    Ok(())
+}
+
+fn run<R: Print + AllocGlobal>(rt: &R) -> Result<()> {
+    println!(rt; "cells  free  one-sided  fixed")?;
+    let mut fixed = vec![in rt.alloc(); Grid::init(rt.alloc(), 1, 1, true)?]?;
+    let mut free = Vec::new(rt.alloc());
+    for cells in 1..=5u8 {
+        if cells > 1 {
+            let grown = grow_each(rt.alloc(), fixed.as_slice())?;
+            fixed = kinds(rt.alloc(), grown.as_slice(), &[Symmetry::Identity])?;
+        }
+        let one_sided = kinds(rt.alloc(), fixed.as_slice(), &rotations())?;
+        free = kinds(rt.alloc(), one_sided.as_slice(), &all_symmetries())?;
+        println!(rt;
+            "{cells:5} {:5} {:10} {:6}",
+            free.len(),
+            one_sided.len(),
+            fixed.len()
+        )?;
+    }
+    println!(rt;)?;
+    for row in 0..5usize {
+        print_row(rt, free.as_slice(), row)?;
+    }
+    Ok(())
+}
+
+fn main(rt: HostRuntime) -> Result<()> {
+    run(&rt)
+}
