@@ -10,18 +10,6 @@ use std::alloc::{AllocError, Global};
 use std::process::Abort;
 use std::test::Fail;
 
-// The symmetry that a move does.
-fn symmetry_of(step: Move) -> Symmetry {
-    match step {
-        Move::Transpose => Symmetry::Transpose,
-        Move::FlipCols => Symmetry::FlipCols,
-        Move::FlipRows => Symmetry::FlipRows,
-        Move::RotateLeft => Symmetry::RotateLeft,
-        Move::RotateRight => Symmetry::RotateRight,
-        Move::RotateHalf => Symmetry::RotateHalf,
-    }
-}
-
 fn check_apply(
     rt: &impl Abort,
     alloc: Global,
@@ -59,8 +47,8 @@ fn image_of(
     let mut image = plain::act(alloc, Symmetry::Identity, table)?;
     let mut order = order;
     for step in word {
-        image = plain::act(alloc, symmetry_of(*step), &image)?;
-        order = order_after(symmetry_of(*step), order);
+        image = plain::act(alloc, Symmetry::of(*step), &image)?;
+        order = order_after(Symmetry::of(*step), order);
     }
     Ok((image, order))
 }
