@@ -1,9 +1,11 @@
 //! Counts the polyominoes of up to five cells, and draws the pentominoes.
 //!
-//! Shapes are grown cell by cell and cut to the rows and columns that they fill. Two fixed shapes are of one kind where a
-//! symmetry brings one to the other: one of the four rotations for one-sided kinds, one of all eight for free ones.
-//! Turned grids differ in their order of storage; `==` and the hash of a set don't see it.
+//! Two shapes are of one kind where a symmetry brings one to the other: one of the four rotations for one-sided kinds,
+//! one of all eight for free ones. Turned grids differ in their order of storage; `==` and the hash don't see it.
 #![tactic(auto)]
+
+ghost use Rattle.std.specs.Prelude.{◌≡◌, ◌∷◌, []};
+ghost use Rattle.grid_base.specs.declared.words.Symmetry.TheVariants.{Identity, FlipCols, FlipRows, RotateHalf, Transpose, RotateLeft, RotateRight, AntiTranspose};
 
 use anyhow::Result;
 use grid::{Grid, Move, Symmetry, reduce};
@@ -14,20 +16,24 @@ use std::collections::HashSet;
 type Shape = Grid<bool>;
 
 // No turn, and one, two and three quarter turns to the left.
-fn rotations() -> [Symmetry; 4] {
-    let turns = [Move::RotateLeft; 3];
-    [
-        reduce(&turns[..0]),
-        reduce(&turns[..1]),
-        reduce(&turns[..2]),
-        reduce(&turns),
-    ]
+fn rotations() -> [Symmetry; 4]
+    ensures { result ≡ Identity ∷ RotateLeft ∷ RotateHalf ∷ RotateRight ∷ [] }
+{
+    let turn = Move::RotateLeft;
+    let half = reduce(&[turn, turn]);
+    let right = reduce(&[turn, turn, turn]);
+    [reduce(&[]), reduce(&[turn]), half, right]
 }
 
 // The rotations, and those of the mirror image.
-fn all_symmetries() -> [Symmetry; 8] {
+fn all_symmetries() -> [Symmetry; 8]
+    ensures { result ≡ Identity ∷ RotateLeft ∷ RotateHalf ∷ RotateRight
+        ∷ FlipCols ∷ Transpose ∷ FlipRows ∷ AntiTranspose ∷ [] }
+{
     let [r0, r1, r2, r3] = rotations();
-    let [m0, m1, m2, m3] = rotations().map(|turn| Symmetry::FlipCols.then(turn));
+    let mirror = Symmetry::FlipCols;
+    let (m0, m1) = (mirror.then(r0), mirror.then(r1));
+    let (m2, m3) = (mirror.then(r2), mirror.then(r3));
     [r0, r1, r2, r3, m0, m1, m2, m3]
 }
 
@@ -76,14 +82,6 @@ fn grow(shape: &Shape, grown: &mut Vec<Shape>) -> Result<()> {
     Ok(())
 }
 
-fn grow_each(alloc: Global, shapes: &[Shape]) -> Result<Vec<Shape>> {
-    let mut grown = Vec::new(alloc);
-    for shape in shapes {
-        grow(shape, &mut grown)?;
-    }
-    Ok(grown)
-}
-
 fn add_images(seen: &mut HashSet<Shape>, shape: &Shape, symmetries: &[Symmetry]) -> Result<()> {
     for symmetry in symmetries {
         let mut image = shape.clone()?;
@@ -106,8 +104,16 @@ fn kinds(alloc: Global, shapes: &[Shape], symmetries: &[Symmetry]) -> Result<Vec
     Ok(kinds)
 }
 
-// Prints one row of each shape, side by side.
-fn print_row<R: Print + AllocGlobal>(rt: &R, shapes: &[Shape], row: usize) -> Result<()> {
+// The fixed shapes with one cell more than these.
+fn next_fixed(alloc: Global, fixed: &[Shape]) -> Result<Vec<Shape>> {
+    let mut grown = Vec::new(alloc);
+    for shape in fixed {
+        grow(shape, &mut grown)?;
+    }
+    kinds(alloc, grown.as_slice(), &[Symmetry::Identity])
+}
+
+fn print_row_of_each<R: Print + AllocGlobal>(rt: &R, shapes: &[Shape], row: usize) -> Result<()> {
     let mut text = String::new(rt.alloc());
     for shape in shapes {
         let filled = (0..shape.cols()).map(|col| shape.get(row, col) == Some(&true));
@@ -124,21 +130,16 @@ fn run<R: Print + AllocGlobal>(rt: &R) -> Result<()> {
     let mut free = Vec::new(rt.alloc());
     for cells in 1..=5u8 {
         if cells > 1 {
-            let grown = grow_each(rt.alloc(), fixed.as_slice())?;
-            fixed = kinds(rt.alloc(), grown.as_slice(), &[Symmetry::Identity])?;
+            fixed = next_fixed(rt.alloc(), fixed.as_slice())?;
         }
         let one_sided = kinds(rt.alloc(), fixed.as_slice(), &rotations())?;
         free = kinds(rt.alloc(), one_sided.as_slice(), &all_symmetries())?;
-        println!(rt;
-            "{cells:5} {:5} {:10} {:6}",
-            free.len(),
-            one_sided.len(),
-            fixed.len()
-        )?;
+        let counts = (free.len(), one_sided.len(), fixed.len());
+        println!(rt; "{cells:5} {:5} {:10} {:6}", counts.0, counts.1, counts.2)?;
     }
     println!(rt;)?;
     for row in 0..5usize {
-        print_row(rt, free.as_slice(), row)?;
+        print_row_of_each(rt, free.as_slice(), row)?;
     }
     Ok(())
 }

@@ -1,7 +1,7 @@
 //! A text screen driven by commands, run at once and deferred, with the swaps that either takes.
 //!
-//! The commands frame the text: each side is put in as the top row, and the screen turned on. Then the text scrolls by a
-//! line, and at last the screen is set on end. Deferred, the turns join to one, and only that one moves cells.
+//! The commands frame the text: each side is put in as the top row, and the screen turned on. Then the text scrolls by
+//! a line, and at last the screen is set on end. Deferred, the turns join to one, and only that one moves cells.
 #![tactic(auto)]
 
 use anyhow::{Result, bail};
