@@ -1,12 +1,13 @@
 //! A plain program beside the library: tables as vectors of rows, written from the definitions with no care for
 //! speed. It shares no code with the library, whose tests compare the two.
-ghost use Rattle.std.specs.Prelude.{◌≡◌, ◌<◌, OnOk, OnErr, IfOk, map};
-ghost use Rattle.grid_base.specs.Table.{row_count, col_count, cell, cells_by, concat_rows};
+ghost use Rattle.std.specs.Prelude.{◌≡◌, ◌<◌, OnOk, OnErr, IfOk, map, slice_get};
+ghost use Rattle.std.specs.Option.{option_map};
+ghost use Rattle.grid_base.specs.Table.{row_count, col_count, cell, cells_by, concat_rows, transposed};
 ghost use Rattle.grid_base.specs.Order.{storage};
 ghost use Rattle.grid_base.specs.Symmetry.{act, image_rows, image_cols, source_row, source_col};
 ghost use Rattle.grid.specs.Reply.{reply_value};
 ghost use Rattle.grid.specs.Command.{command_value};
-ghost use Rattle.grid.specs.Step.{step_rows, step_reply};
+ghost use Rattle.grid.specs.Step.{rows_after, reply_to, step_rows, step_reply};
 ghost use Rattle.grid.specs.Run.{run_rows, run_replies};
 ghost use Rattle.grid_reference.specs.Plain.{items_of_each, AfterSome};
 
@@ -160,7 +161,10 @@ fn rows_after<T: Copy>(
     default: T,
     command: &Command<T>,
     table: &Vec<Vec<T>>,
-) -> Result<Vec<Vec<T>>, AllocError> {
+) -> Result<Vec<Vec<T>>, AllocError>
+    ensures { IfOk result (λ after. items_of_each after
+        ≡ rows_after default (command_value command.now) (items_of_each table.now)) }
+{
     let (rows, cols) = size(table);
     match command {
         Command::Size | Command::Get(_, _) | Command::Row(_) | Command::Col(_) => {
@@ -197,7 +201,10 @@ fn col_at<T: Copy>(
     alloc: Global,
     table: &Vec<Vec<T>>,
     at: usize,
-) -> Result<Option<Vec<T>>, AllocError> {
+) -> Result<Option<Vec<T>>, AllocError>
+    ensures { IfOk result (λ line. option_map (λ l. l.items) line
+        ≡ slice_get (transposed (items_of_each table.now)) at) }
+{
     let turned = act(alloc, Symmetry::Transpose, table)?;
     line_at(alloc, &turned, at)
 }
@@ -207,7 +214,10 @@ fn reply_to<T: Copy>(
     alloc: Global,
     command: &Command<T>,
     table: &Vec<Vec<T>>,
-) -> Result<Reply<T>, AllocError> {
+) -> Result<Reply<T>, AllocError>
+    ensures { IfOk result (λ reply.
+        reply_value reply ≡ reply_to (command_value command.now) (items_of_each table.now)) }
+{
     let (rows, cols) = size(table);
     let reply = match command {
         Command::Size => Reply::Size(rows, cols),
@@ -239,6 +249,7 @@ fn reply_to<T: Copy>(
     Ok(reply)
 }
 
+#[tactic(auto, unfolding(grid::specs::Step::step_rows, grid::specs::Step::step_reply))]
 /// Does a command, where `default` is the cells' default, and returns its reply.
 ///
 ///     [[1, 2]]   step(PushRow([3, 4]))   Done                [[1, 2], [3, 4]]
@@ -251,6 +262,12 @@ pub fn step<T: Copy>(
     command: &Command<T>,
     table: &mut Vec<Vec<T>>,
 ) -> Result<Reply<T>, AllocError>
+    ensures rows { OnOk result
+        (items_of_each table.new
+        ≡ step_rows default (command_value command.now) (items_of_each table.old)) }
+    ensures reply { IfOk result
+        (λ reply. reply_value reply
+        ≡ step_reply (command_value command.now) (items_of_each table.old)) }
     ensures err { OnErr result (table.new ≡ table.old) }
 {
     let (rows, cols) = size(table);
@@ -270,7 +287,17 @@ pub fn run<T: Copy>(
     default: T,
     commands: &[Command<T>],
     table: &mut Vec<Vec<T>>,
-) -> Result<Vec<Reply<T>>, AllocError> {
+) -> Result<Vec<Reply<T>>, AllocError>
+    ensures rows { OnOk result
+        (items_of_each table.new
+        ≡ run_rows default (map command_value commands.now) (items_of_each table.old)) }
+    ensures replies { IfOk result
+        (λ replies. map reply_value replies.items
+        ≡ run_replies default (map command_value commands.now) (items_of_each table.old)) }
+    ensures err { OnErr result
+        (AfterSome default (map command_value commands.now)
+        (items_of_each table.old) (items_of_each table.new)) }
+{
     let mut replies = Vec::new(alloc);
     for command in commands {
         replies.push(step(alloc, default, command, table)?)?;

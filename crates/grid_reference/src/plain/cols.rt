@@ -1,4 +1,9 @@
 //! Columns of a table: put, taken and padded, row by row. Each function returns a new table.
+ghost use Rattle.std.specs.Prelude.{◌≡◌, ◌++◌, [], ◌∷◌, take, drop, map, filter, insert, IfOk};
+ghost use Rattle.grid_base.specs.Gather.{items_of_each};
+ghost use Rattle.grid.specs.declared.command.Axis.TheVariants.{Col};
+ghost use Rattle.grid.specs.Edits.{insert_into_rows, insert_col, insert_cols, has_cells, expanded_cols, prepended_cols};
+ghost use Rattle.grid.specs.Step.{range_effect, after_effect};
 
 use crate::plain::rows::{before, blank_line, copied, from, has_lines};
 use std::alloc::{AllocError, Global};
@@ -9,7 +14,9 @@ fn row_with_cell<T: Copy>(
     row: &[T],
     at: usize,
     cell: T,
-) -> Result<Vec<T>, AllocError> {
+) -> Result<Vec<T>, AllocError>
+    ensures { IfOk result (λ grown. grown.items ≡ insert row.now at cell) }
+{
     let mut grown = Vec::from_slice(alloc, before(row, at))?;
     grown.push(cell)?;
     grown.extend_from_slice(from(row, at))?;
@@ -17,7 +24,9 @@ fn row_with_cell<T: Copy>(
 }
 
 // The cells of a line, each a row of its own.
-fn rows_of_one<T: Copy>(alloc: Global, line: &[T]) -> Result<Vec<Vec<T>>, AllocError> {
+fn rows_of_one<T: Copy>(alloc: Global, line: &[T]) -> Result<Vec<Vec<T>>, AllocError>
+    ensures { IfOk result (λ rows. items_of_each rows.items ≡ map (λ x. x ∷ []) line.now) }
+{
     let mut rows = Vec::new(alloc);
     for cell in line {
         let mut row = Vec::new(alloc);
@@ -33,10 +42,15 @@ fn insert_into_rows<T: Copy>(
     table: &Vec<Vec<T>>,
     at: usize,
     line: &[T],
-) -> Result<Vec<Vec<T>>, AllocError> {
+) -> Result<Vec<Vec<T>>, AllocError>
+    ensures { IfOk result (λ grown. items_of_each grown.items
+        ≡ insert_into_rows at line.now (items_of_each table.now.items)) }
+{
     let mut grown = Vec::new(alloc);
-    for (cell, row) in line.iter().zip(table.iter()) {
-        grown.push(row_with_cell(alloc, row.as_slice(), at, *cell)?)?;
+    for (r, cell) in line.iter().enumerate() {
+        if let Some(row) = table.get(r) {
+            grown.push(row_with_cell(alloc, row.as_slice(), at, *cell)?)?;
+        }
     }
     Ok(grown)
 }
@@ -47,7 +61,10 @@ pub(crate) fn insert_col<T: Copy>(
     table: &Vec<Vec<T>>,
     at: usize,
     line: &[T],
-) -> Result<Vec<Vec<T>>, AllocError> {
+) -> Result<Vec<Vec<T>>, AllocError>
+    ensures { IfOk result (λ grown. items_of_each grown.items
+        ≡ insert_col at line.now (items_of_each table.now.items)) }
+{
     if table.is_empty() {
         rows_of_one(alloc, line)
     } else {
@@ -61,12 +78,17 @@ pub(crate) fn insert_cols<T: Copy>(
     table: &Vec<Vec<T>>,
     at: usize,
     lines: &[Vec<T>],
-) -> Result<Vec<Vec<T>>, AllocError> {
-    let mut grown = copied(alloc, table)?;
-    for line in lines.iter().rev() {
-        grown = insert_col(alloc, &grown, at, line.as_slice())?;
+) -> Result<Vec<Vec<T>>, AllocError>
+    ensures { IfOk result (λ grown. items_of_each grown.items
+        ≡ insert_cols at (items_of_each lines.now) (items_of_each table.now.items)) }
+{
+    match lines.split_first() {
+        Some((line, others)) => {
+            let grown = insert_cols(alloc, table, at, others)?;
+            insert_col(alloc, &grown, at, line.as_slice())
+        }
+        None => copied(alloc, table),
     }
-    Ok(grown)
 }
 
 // A row without the cells from one place to another.
@@ -75,7 +97,9 @@ fn row_without<T: Copy>(
     row: &[T],
     start: usize,
     end: usize,
-) -> Result<Vec<T>, AllocError> {
+) -> Result<Vec<T>, AllocError>
+    ensures { IfOk result (λ left. left.items ≡ take start row.now ++ drop end row.now) }
+{
     let mut left = Vec::from_slice(alloc, before(row, start))?;
     left.extend_from_slice(from(row, end))?;
     Ok(left)
@@ -87,7 +111,10 @@ fn without_cols<T: Copy>(
     table: &Vec<Vec<T>>,
     start: usize,
     end: usize,
-) -> Result<Vec<Vec<T>>, AllocError> {
+) -> Result<Vec<Vec<T>>, AllocError>
+    ensures { IfOk result (λ left. items_of_each left.items
+        ≡ filter has_cells (map (λ r. take start r ++ drop end r) (items_of_each table.now.items))) }
+{
     let mut left = Vec::new(alloc);
     for row in table {
         let kept = row_without(alloc, row.as_slice(), start, end)?;
@@ -105,7 +132,10 @@ pub(crate) fn delete_cols<T: Copy>(
     cols: usize,
     start: usize,
     count: usize,
-) -> Result<Vec<Vec<T>>, AllocError> {
+) -> Result<Vec<Vec<T>>, AllocError>
+    ensures { IfOk result (λ left. (d : T) → items_of_each left.items
+        ≡ after_effect d Col (range_effect cols start count) (items_of_each table.now.items)) }
+{
     if has_lines(cols, start, count) {
         without_cols(alloc, table, start, start + count)
     } else {
@@ -119,7 +149,10 @@ pub(crate) fn expand_cols<T: Copy>(
     default: T,
     table: &Vec<Vec<T>>,
     count: usize,
-) -> Result<Vec<Vec<T>>, AllocError> {
+) -> Result<Vec<Vec<T>>, AllocError>
+    ensures { IfOk result (λ padded. items_of_each padded.items
+        ≡ expanded_cols count default (items_of_each table.now.items)) }
+{
     let mut padded = Vec::new(alloc);
     for row in table {
         let mut cells = Vec::from_slice(alloc, row.as_slice())?;
@@ -135,7 +168,10 @@ pub(crate) fn prepend_cols<T: Copy>(
     default: T,
     table: &Vec<Vec<T>>,
     count: usize,
-) -> Result<Vec<Vec<T>>, AllocError> {
+) -> Result<Vec<Vec<T>>, AllocError>
+    ensures { IfOk result (λ padded. items_of_each padded.items
+        ≡ prepended_cols count default (items_of_each table.now.items)) }
+{
     let mut padded = Vec::new(alloc);
     for row in table {
         let mut cells = blank_line(alloc, default, count)?;
