@@ -3,3 +3,4 @@ pub mod SpendLemmas
 pub mod SumLemmas
 mod CountLemmas
 mod WriteLemmas
+pub mod PlainLemmas

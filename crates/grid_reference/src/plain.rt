@@ -1,16 +1,30 @@
 //! A plain program beside the library: tables as vectors of rows, written from the definitions with no care for
 //! speed. It shares no code with the library, whose tests compare the two.
-ghost use Rattle.std.specs.Prelude.{◌≡◌, ◌<◌, OnOk, OnErr, IfOk, map};
-ghost use Rattle.grid_base.specs.Table.{row_count, col_count, cell, cells_by, concat_rows};
+ghost use Rattle.std.specs.Prelude.{◌≡◌, ◌<◌, OnOk, OnErr, IfOk, map, slice_get};
+ghost use Rattle.std.specs.Option.{option_map};
+ghost use Rattle.grid_base.specs.Table.{row_count, col_count, cell, cells_by, concat_rows, transposed};
 ghost use Rattle.grid_base.specs.Order.{storage};
 ghost use Rattle.grid_base.specs.Symmetry.{act, image_rows, image_cols, source_row, source_col};
 ghost use Rattle.grid.specs.Reply.{reply_value};
 ghost use Rattle.grid.specs.Command.{command_value};
-ghost use Rattle.grid.specs.Step.{step_rows, step_reply};
+ghost use Rattle.grid.specs.Step.{rows_after, reply_to, step_rows, step_reply};
 ghost use Rattle.grid.specs.Run.{run_rows, run_replies};
 ghost use Rattle.grid_reference.specs.Plain.{items_of_each, AfterSome};
 
+mod cells;
+mod cols;
+mod costs;
+mod refusals;
+mod rows;
+
+use cells::{exchanged, filled, with_cell};
+use cols::{delete_cols, expand_cols, insert_col, insert_cols, prepend_cols};
+pub use costs::{price, shift};
 use grid::{Command, Order, Reply, Symmetry};
+pub use refusals::refusal;
+use rows::{
+    copied, delete_rows, expand_rows, has_lines, insert_row, insert_rows, line_at, prepend_rows,
+};
 use std::alloc::{AllocError, Global};
 
 /// Returns the number of rows, and the number of cells in the first row.
@@ -141,12 +155,107 @@ pub fn storage<T: Copy>(
     }
 }
 
+// The table after a command that is not refused.
+fn rows_after<T: Copy>(
+    alloc: Global,
+    default: T,
+    command: &Command<T>,
+    table: &Vec<Vec<T>>,
+) -> Result<Vec<Vec<T>>, AllocError>
+    ensures { IfOk result (λ after. items_of_each after
+        ≡ rows_after default (command_value command.now) (items_of_each table.now)) }
+{
+    let (rows, cols) = size(table);
+    match command {
+        Command::Size | Command::Get(_, _) | Command::Row(_) | Command::Col(_) => {
+            copied(alloc, table)
+        }
+        Command::Set(row, col, value) => with_cell(alloc, table, *row, *col, *value),
+        Command::Swap(a, b) => exchanged(alloc, table, *a, *b),
+        Command::PushRow(line) => insert_row(alloc, table, rows, line.as_slice()),
+        Command::PushCol(line) => insert_col(alloc, table, cols, line.as_slice()),
+        Command::InsertRow(at, line) => insert_row(alloc, table, *at, line.as_slice()),
+        Command::InsertCol(at, line) => insert_col(alloc, table, *at, line.as_slice()),
+        Command::InsertRows(at, lines) => insert_rows(alloc, table, *at, lines.as_slice()),
+        Command::InsertCols(at, lines) => insert_cols(alloc, table, *at, lines.as_slice()),
+        Command::PopRow => delete_rows(alloc, table, rows.saturating_sub(1), 1),
+        Command::PopCol => delete_cols(alloc, table, cols, cols.saturating_sub(1), 1),
+        Command::RemoveRow(at) | Command::DeleteRow(at) => delete_rows(alloc, table, *at, 1),
+        Command::RemoveCol(at) | Command::DeleteCol(at) => {
+            delete_cols(alloc, table, cols, *at, 1)
+        }
+        Command::DeleteRows(start, count) => delete_rows(alloc, table, *start, *count),
+        Command::DeleteCols(start, count) => delete_cols(alloc, table, cols, *start, *count),
+        Command::ExpandRows(count) => expand_rows(alloc, default, table, *count),
+        Command::ExpandCols(count) => expand_cols(alloc, default, table, *count),
+        Command::PrependRows(count) => prepend_rows(alloc, default, table, *count),
+        Command::PrependCols(count) => prepend_cols(alloc, default, table, *count),
+        Command::Fill(value) => filled(alloc, table, *value),
+        Command::Clear => Ok(Vec::new(alloc)),
+        Command::Apply(symmetry) => act(alloc, *symmetry, table),
+    }
+}
+
+// A copy of a column, if there is one at the place.
+fn col_at<T: Copy>(
+    alloc: Global,
+    table: &Vec<Vec<T>>,
+    at: usize,
+) -> Result<Option<Vec<T>>, AllocError>
+    ensures { IfOk result (λ line. option_map (λ l. l.items) line
+        ≡ slice_get (transposed (items_of_each table.now)) at) }
+{
+    let turned = act(alloc, Symmetry::Transpose, table)?;
+    line_at(alloc, &turned, at)
+}
+
+// The reply to a command that is not refused.
+fn reply_to<T: Copy>(
+    alloc: Global,
+    command: &Command<T>,
+    table: &Vec<Vec<T>>,
+) -> Result<Reply<T>, AllocError>
+    ensures { IfOk result (λ reply.
+        reply_value reply ≡ reply_to (command_value command.now) (items_of_each table.now)) }
+{
+    let (rows, cols) = size(table);
+    let reply = match command {
+        Command::Size => Reply::Size(rows, cols),
+        Command::Get(row, col) => Reply::Cell(get(table, *row, *col)),
+        Command::Row(at) | Command::RemoveRow(at) => Reply::Line(line_at(alloc, table, *at)?),
+        Command::Col(at) | Command::RemoveCol(at) => Reply::Line(col_at(alloc, table, *at)?),
+        Command::PopRow => Reply::Line(line_at(alloc, table, rows.saturating_sub(1))?),
+        Command::PopCol => Reply::Line(col_at(alloc, table, cols.saturating_sub(1))?),
+        Command::DeleteRow(at) => Reply::Flag(*at < rows),
+        Command::DeleteCol(at) => Reply::Flag(*at < cols),
+        Command::DeleteRows(start, count) => Reply::Flag(has_lines(rows, *start, *count)),
+        Command::DeleteCols(start, count) => Reply::Flag(has_lines(cols, *start, *count)),
+        Command::Set(_, _, _)
+        | Command::Swap(_, _)
+        | Command::PushRow(_)
+        | Command::PushCol(_)
+        | Command::InsertRow(_, _)
+        | Command::InsertCol(_, _)
+        | Command::InsertRows(_, _)
+        | Command::InsertCols(_, _)
+        | Command::ExpandRows(_)
+        | Command::ExpandCols(_)
+        | Command::PrependRows(_)
+        | Command::PrependCols(_)
+        | Command::Fill(_)
+        | Command::Clear
+        | Command::Apply(_) => Reply::Done,
+    };
+    Ok(reply)
+}
+
 #[tactic(auto, unfolding(grid::specs::Step::step_rows, grid::specs::Step::step_reply))]
 /// Does a command, where `default` is the cells' default, and returns its reply.
 ///
-/// It knows `Size`, `Get` and `Apply`.
+///     [[1, 2]]   step(PushRow([3, 4]))   Done                [[1, 2], [3, 4]]
+///     [[1, 2]]   step(PushRow([3]))      Refused(Length)     [[1, 2]]
 ///
-/// Fails: at every other command, and where memory is refused; the table is unchanged.
+/// Fails: where memory is refused; the table is unchanged.
 pub fn step<T: Copy>(
     alloc: Global,
     default: T,
@@ -161,18 +270,13 @@ pub fn step<T: Copy>(
         ≡ step_reply (command_value command.now) (items_of_each table.old)) }
     ensures err { OnErr result (table.new ≡ table.old) }
 {
-    match command {
-        Command::Size => {
-            let (rows, cols) = size(table);
-            Ok(Reply::Size(rows, cols))
-        }
-        Command::Get(row, col) => Ok(Reply::Cell(get(table, *row, *col))),
-        Command::Apply(symmetry) => {
-            *table = act(alloc, *symmetry, table)?;
-            Ok(Reply::Done)
-        }
-        _ => Err(AllocError),
+    let (rows, cols) = size(table);
+    if let Some(reason) = refusal(command, rows, cols) {
+        return Ok(Reply::Refused(reason));
     }
+    let reply = reply_to(alloc, command, table)?;
+    *table = rows_after(alloc, default, command, table)?;
+    Ok(reply)
 }
 
 /// Does commands one after another, and returns their replies.

@@ -6,6 +6,8 @@ mod asserts;
 #[cfg(test)]
 mod clones;
 #[cfg(test)]
+mod commands;
+#[cfg(test)]
 mod dropped;
 #[cfg(test)]
 mod fuse;

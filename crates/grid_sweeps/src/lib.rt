@@ -8,8 +8,6 @@ mod all_cells;
 #[cfg(test)]
 mod asserts;
 #[cfg(test)]
-mod commands;
-#[cfg(test)]
 mod edits;
 #[cfg(test)]
 mod made;

@@ -1,6 +1,5 @@
-use Rattle.std.proofs.Common.{◌≡◌, ◌<◌, [], length, ◌∙◌, ap, arith}
-use Rattle.std.proofs.lemmas.List.{get_or-map, length-map}
-use Rattle.grid_base.specs.Table.{row, row_count}
+use Rattle.std.proofs.Common.{◌<◌, [], length, ◌∙◌, ap, arith}
+use Rattle.std.proofs.lemmas.List.{get_or-map}
 use Rattle.grid_base.specs.Gather.{items_of_each}
 use Rattle.grid_base.proofs.GatherLemmas.{rows-vecs}
 use Rattle.grid.proofs.RowEditLemmas.{HasWidth}
