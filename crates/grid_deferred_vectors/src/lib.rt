@@ -4,6 +4,8 @@
 #[cfg(test)]
 mod carried;
 #[cfg(test)]
+mod laws;
+#[cfg(test)]
 mod runs;
 #[cfg(test)]
 mod shown;

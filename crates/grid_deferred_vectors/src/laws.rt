@@ -1,0 +1,68 @@
+//! The laws of runs: the same list on grids of the same rows, in unlike orders and in both kinds of run.
+ghost use Rattle.std.specs.Prelude.{◌≡◌, [], ◌∷◌, map, IfOk};
+ghost use Rattle.grid.specs.Command.{command_value, lines, push, size, apply};
+ghost use Rattle.grid.specs.declared.command.Axis.TheVariants.{Row};
+ghost use Rattle.grid_base.specs.declared.words.Symmetry.TheVariants.{RotateLeft};
+
+use grid::laws::run_in_either_order;
+use grid::{Command, Grid, Order, Reply, RunStopped, Symmetry, Tally};
+use grid_deferred::laws::run_at_once_and_deferred;
+use std::alloc::{AllocError, Global};
+use std::test::Fail;
+
+// A row is pushed, the grid is turned, and its size is asked for.
+fn push_and_turn(alloc: Global) -> Result<Vec<Command<u32>>, AllocError>
+    ensures { IfOk result (λ list. map command_value list.items
+        ≡ lines Row (push (1 ∷ 2 ∷ [])) ∷ apply RotateLeft ∷ size ∷ []) }
+{
+    let line = vec![in alloc; 1, 2]?;
+    Ok(vec![in alloc;
+        Command::PushRow(line),
+        Command::Apply(Symmetry::RotateLeft),
+        Command::Size,
+    ]?)
+}
+
+fn is_due(replies: &Vec<Reply<u32>>) -> bool {
+    replies.as_slice() == [Reply::Done, Reply::Done, Reply::Size(2, 1)].as_slice()
+}
+
+fn went(ran: &Result<Vec<Reply<u32>>, RunStopped<u32>>) -> bool {
+    match ran {
+        Ok(replies) => is_due(replies),
+        Err(_) => false,
+    }
+}
+
+// Whether the grid has the rows 2 and 1.
+fn is_turned(grid: &Grid<u32>) -> bool {
+    grid.size() == (2, 1) && grid.flatten() == [2, 1].as_slice()
+}
+
+#[test]
+fn runs_in_either_order(rt: HostRuntime) -> Result<(), Fail> {
+    let alloc = rt.alloc();
+    let mut grid = Grid::empty(alloc);
+    let mut other = Grid::with_capacity_and_order(alloc, 0, 0, Order::ColumnMajor)?;
+    let (first, second) = (push_and_turn(alloc)?, push_and_turn(alloc)?);
+    let (ran, other_ran) = run_in_either_order(alloc, &mut grid, first, alloc, &mut other, second);
+    assert!(rt; went(&ran) && went(&other_ran));
+    assert!(rt; is_turned(&grid) && is_turned(&other) && grid.order() != other.order());
+    Ok(())
+}
+
+#[test]
+fn runs_at_once_and_deferred(rt: HostRuntime) -> Result<(), Fail> {
+    let alloc = rt.alloc();
+    let mut grid = Grid::empty(alloc);
+    let mut other = Grid::with_capacity_and_order(alloc, 0, 0, Order::ColumnMajor)?;
+    let (first, second) = (push_and_turn(alloc)?, push_and_turn(alloc)?);
+    let mut tally = Tally::new();
+    let allocs = (alloc, alloc);
+    match run_at_once_and_deferred(allocs, &mut grid, &mut other, first, second, &mut tally) {
+        Some((replies, others)) => assert!(rt; is_due(&replies) && is_due(&others)),
+        None => panic!(rt; "there is memory"),
+    }
+    assert!(rt; is_turned(&grid) && is_turned(&other) && grid.order() != other.order());
+    Ok(())
+}
