@@ -1,11 +1,11 @@
 //! Conversions of vectors into row-major grids: the six `TryFrom`.
-ghost use Rattle.std.specs.Prelude.{◌≡◌, ◌≢◌, ◌↔◌, length, map, IsTrue, MatchResult};
+ghost use Rattle.std.specs.Prelude.{◌≡◌, ◌≢◌, ◌↔◌, length, map, IsTrue, MatchResult, IfOk};
 ghost use Rattle.grid_base.specs.Table.{col_count, concat_rows};
 ghost use Rattle.grid_base.specs.Order.{CanCut};
 ghost use Rattle.grid.specs.Conversion.{equal_rows, AreClones, AreClonedRows, CanJoin, RowsFault, RowsAnswer, CutAnswer};
 
 use crate::{Grid, ShapeError};
-use std::alloc::Allocator;
+use std::alloc::{AllocError, Allocator};
 use std::convert::{AsSlice, TryFrom};
 
 /// Returns whether `len` cells can be cut into rows of `cols`: there are no cells, or `cols` is not 0 and divides their number.
@@ -123,6 +123,21 @@ fn measure<T, L: AsSlice<T>>(rows: &[L]) -> Result<(usize, usize), ShapeError>
     }
 }
 
+// Returns the cells of the rows, one row after another; `count` is their number.
+fn join_rows<T: Drop, A: Allocator>(
+    alloc: A,
+    count: usize,
+    rows: Vec<Vec<T, A>, A>,
+) -> Result<Vec<T, A>, AllocError>
+    ensures { IfOk result (λ cells. cells.items ≡ concat_rows (map (λ row. row.items) rows.items)) }
+{
+    let mut cells = Vec::with_capacity(alloc, count)?;
+    for mut row in rows {
+        cells.append(&mut row)?;
+    }
+    Ok(cells)
+}
+
 /// Returns the row-major grid of these rows, which are moved. No rows, or rows of length 0, give the empty grid.
 ///
 ///     try_from([[1, 2], [3, 4]])   [[1, 2], [3, 4]]
@@ -139,10 +154,8 @@ impl<T: Drop, A: Allocator + Clone> TryFrom<Vec<Vec<T, A>, A>> for Grid<T, A> {
 
     fn try_from(rows: Vec<Vec<T, A>, A>) -> Result<Grid<T, A>, ShapeError> {
         let (count, cols) = measure(rows.as_slice())?;
-        let mut cells = Vec::with_capacity(rows.allocator().clone()?, count)?;
-        for mut row in rows {
-            cells.append(&mut row)?;
-        }
+        let alloc = rows.allocator().clone()?;
+        let cells = join_rows(alloc, count, rows)?;
         Ok(Grid::from_vec(cells, cols))
     }
 }

@@ -259,7 +259,8 @@ where
     ensures order { grid.new.order ≡ grid.old.order }
     ensures symmetry { tally.new.symmetry ≡ tally.old.symmetry }
     ensures shift { tally.new.shift ≡ saturating_count tally.old.shift
-        (delete_rows_shift grid.old.order (row_count grid.old.rows) (col_count grid.old.rows) start count) }
+        (delete_rows_shift grid.old.order
+        (row_count grid.old.rows) (col_count grid.old.rows) start count) }
 {
     let found = grid.delete_rows_counted(start, count, tally);
     let _ = grid.size();
@@ -288,7 +289,8 @@ where
         (row_count grid.old.rows) (col_count grid.old.rows))) }
     ensures err_shift { OnErr result (tally.new.shift ≡ tally.old.shift) }
     ensures err_grid { OnErr result (grid.new ≡ grid.old) }
-    ensures err_memory { OnErr result (IsTrue (takes_memory {T = T} (lines Row (pad_edit at_end count))
+    ensures err_memory { OnErr result (IsTrue
+        (takes_memory {T = T} (lines Row (pad_edit at_end count))
         (row_count grid.old.rows) (col_count grid.old.rows))) }
 {
     let (rows, cols) = grid.size();

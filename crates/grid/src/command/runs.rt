@@ -40,7 +40,8 @@ pub fn run<T, A: Allocator>(
 where
     T: Clone + Default + Drop,
     A: Clone,
-    ensures ran { IfOk result (λ replies. Ran T.is_clone T.is_default (map command_value commands.items)
+    ensures ran { IfOk result (λ replies. Ran T.is_clone T.is_default
+        (map command_value commands.items)
         grid.old grid.new tally.old tally.new (map reply_value replies.items)) }
     ensures stopped { IfErr result (λ stop. Ran T.is_clone T.is_default
         (take stop.done (map command_value commands.items))

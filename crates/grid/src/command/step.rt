@@ -205,7 +205,8 @@ impl<T, A: Allocator> Grid<T, A> {
         ensures order { OnOk result (self.new.order
             ≡ order_after (command_symmetry (command_value command)) self.old.order) }
         ensures symmetry { OnOk result (tally.new.symmetry ≡ saturating_count tally.old.symmetry
-            (step_price (command_value command) (row_count self.old.rows) (col_count self.old.rows))) }
+            (step_price (command_value command)
+            (row_count self.old.rows) (col_count self.old.rows))) }
         ensures shift { OnOk result (tally.new.shift
             ≡ saturating_count tally.old.shift (step_shift (command_value command)
             self.old.order (row_count self.old.rows) (col_count self.old.rows))) }

@@ -62,7 +62,8 @@ pub(crate) fn filled<T: Copy>(
     table: &Vec<Vec<T>>,
     value: T,
 ) -> Result<Vec<Vec<T>>, AllocError>
-    ensures { IfOk result (λ cells. items_of_each cells.items ≡ filled value (items_of_each table.now.items)) }
+    ensures { IfOk result (λ cells.
+        items_of_each cells.items ≡ filled value (items_of_each table.now.items)) }
 {
     let mut cells = Vec::new(alloc);
     for row in table {

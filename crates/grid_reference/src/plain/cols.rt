@@ -112,8 +112,8 @@ fn without_cols<T: Copy>(
     start: usize,
     end: usize,
 ) -> Result<Vec<Vec<T>>, AllocError>
-    ensures { IfOk result (λ left. items_of_each left.items
-        ≡ filter has_cells (map (λ r. take start r ++ drop end r) (items_of_each table.now.items))) }
+    ensures { IfOk result (λ left. items_of_each left.items ≡ filter has_cells
+        (map (λ r. take start r ++ drop end r) (items_of_each table.now.items))) }
 {
     let mut left = Vec::new(alloc);
     for row in table {

@@ -170,7 +170,8 @@ pub(crate) fn delete_rows<T: Copy>(
     count: usize,
 ) -> Result<Vec<Vec<T>>, AllocError>
     ensures { let t = items_of_each table.now.items in IfOk result (λ left. (d : T)
-        → items_of_each left.items ≡ after_effect d Row (range_effect (row_count t) start count) t) }
+        → items_of_each left.items
+        ≡ after_effect d Row (range_effect (row_count t) start count) t) }
 {
     if has_lines(table.len(), start, count) {
         without_rows(alloc, table, start, start + count)
