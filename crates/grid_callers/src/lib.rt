@@ -3,4 +3,6 @@
 #![tactic(auto)]
 
 pub mod boards;
+#[cfg(test)]
+mod tests;
 pub mod words;

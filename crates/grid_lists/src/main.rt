@@ -10,13 +10,10 @@ mod ways;
 
 use commands::{all_commands, list_of};
 use grid::{Command, Order, Symmetry};
-use grid_reference::fixtures::{ORDERS, SYMMETRIES};
+use grid_reference::fixtures::{ORDERS, SIZES, SYMMETRIES};
 use std::io;
 use std::process::ExitCode;
 use ways::{Start, differing_way};
-
-// The sizes of the tables, by rows and columns.
-const SIZES: [(usize, usize); 5] = [(0, 0), (1, 1), (1, 2), (2, 1), (2, 2)];
 
 // How many lists agreed, and how many did not.
 #[derive(Drop)]

@@ -27,7 +27,7 @@ pub enum Way {
     StepByStep,
 }
 
-// What the plain program says of a list.
+// What the plain program says of a list: its run gives the replies and the rows, its steps the sizes that cost goes by.
 #[derive(Drop)]
 struct Outcome {
     table: Vec<Vec<u32>>,
@@ -42,13 +42,14 @@ fn plain_outcome(
     start: Start,
     commands: &[Command<u32>],
 ) -> Result<Outcome, AllocError> {
-    let mut table = numbered(alloc, start.size.0, start.size.1)?;
+    let mut stepped = numbered(alloc, start.size.0, start.size.1)?;
     let mut costs = Costs::new(start.order);
-    let mut replies = Vec::new(alloc);
     for command in commands {
-        costs.add(command, plain::size(&table));
-        replies.push(plain::step(alloc, 0, command, &mut table)?)?;
+        costs.add(command, plain::size(&stepped));
+        let _ = plain::step(alloc, 0, command, &mut stepped)?;
     }
+    let mut table = numbered(alloc, start.size.0, start.size.1)?;
+    let replies = plain::run(alloc, 0, commands, &mut table)?;
     let deferred = costs.deferred(plain::size(&table));
     Ok(Outcome {
         table,

@@ -2,13 +2,6 @@ use Rattle.std.proofs.Common.{◌≡◌, ◌+◌, ◌≤◌, length, is_ok, true
 use Rattle.grid_base.proofs.GatherLemmas.{passed_line, passed_step, all_left, left_to_give, none_left}
 use Rattle.grid_base.proofs.flat.gather.append_each.Goals as goal
 
-pub unwrap-requires : goal.unwrap-requires
-unwrap-requires g c =
-    let here = passed_line _ _ _ _ _ _ _ c.loop-line.invariant.passed (omega arith) (omega arith) c.line-item.result c.line-item.is in
-    c.append.ensures.succeeds
-    (rw (sym c.line-item.is)
-    (omega (arith, c.loop-line.invariant.room, left_to_give c.args.lines.now c.loop-line.line-index (omega arith), ap length here, c.line-item.result.ok.0)))
-
 pub loop-line-preserved : goal.loop-line-preserved
 loop-line-preserved g c =
     let here = passed_line _ _ _ _ _ _ _ c.loop-line.invariant.passed (omega arith) (omega arith) c.line-item.result c.line-item.is in

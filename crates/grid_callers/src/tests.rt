@@ -1,0 +1,73 @@
+//! Each caller on its happy path, and where it says no.
+use crate::boards::{cut, exchange, push, push_by_command, take_first};
+use crate::words::apply_word;
+use grid::{Grid, Move, Refusal, Tally};
+use std::alloc::{AllocError, Global};
+use std::test::Fail;
+
+// The rows 1, 2 and 3, 4.
+fn board(alloc: Global) -> Result<Grid<u32>, AllocError> {
+    Ok(Grid::from_vec(vec![in alloc; 1, 2, 3, 4]?, 2))
+}
+
+#[test]
+fn cuts_what_can_be_cut(rt: HostRuntime) -> Result<(), Fail> {
+    let grid = cut(vec![in rt.alloc(); 1u32, 2, 3, 4, 5, 6]?, 3);
+    assert!(rt; grid.is_some_and(|grid| grid.size() == (2, 3) && grid[(1, 0)] == 4));
+    assert!(rt; cut(vec![in rt.alloc(); 1u32, 2, 3, 4, 5, 6]?, 4).is_none());
+    Ok(())
+}
+
+#[test]
+fn exchanges_cells_in_range(rt: HostRuntime) -> Result<(), Fail> {
+    let mut grid = board(rt.alloc())?;
+    assert!(rt; exchange(&mut grid, (0, 0), (1, 1)));
+    assert!(rt; !exchange(&mut grid, (0, 0), (2, 1)));
+    assert_eq!(rt; grid.flatten(), [4, 2, 3, 1].as_slice());
+    Ok(())
+}
+
+#[test]
+fn pushes_a_row_that_fits(rt: HostRuntime) -> Result<(), Fail> {
+    let mut grid = board(rt.alloc())?;
+    assert!(rt; push(&mut grid, vec![in rt.alloc(); 5, 6]?).is_ok());
+    assert!(rt; push(&mut grid, vec![in rt.alloc(); 7]?).is_err());
+    assert_eq!(rt; grid.flatten(), [1, 2, 3, 4, 5, 6].as_slice());
+    Ok(())
+}
+
+#[test]
+fn takes_the_first_row(rt: HostRuntime) -> Result<(), Fail> {
+    let mut grid = board(rt.alloc())?;
+    let line = take_first(&mut grid)?;
+    assert!(rt; line.is_some_and(|line| line.as_slice() == [1, 2].as_slice()));
+    assert_eq!(rt; grid.flatten(), [3, 4].as_slice());
+    Ok(())
+}
+
+#[test]
+fn pushes_by_a_command(rt: HostRuntime) -> Result<(), Fail> {
+    let mut grid = board(rt.alloc())?;
+    let mut tally = Tally::new();
+    let line = vec![in rt.alloc(); 5, 6]?;
+    assert_eq!(rt; push_by_command(&mut grid, line, &mut tally)?, None);
+    let line = vec![in rt.alloc(); 7]?;
+    assert_eq!(rt;
+        push_by_command(&mut grid, line, &mut tally)?,
+        Some(Refusal::Length)
+    );
+    assert_eq!(rt; grid.flatten(), [1, 2, 3, 4, 5, 6].as_slice());
+    Ok(())
+}
+
+#[test]
+fn applies_a_word(rt: HostRuntime) -> Result<(), Fail> {
+    let mut grid = board(rt.alloc())?;
+    apply_word(
+        &mut grid,
+        &[Move::RotateLeft, Move::FlipCols, Move::FlipCols],
+    );
+    assert!(rt; grid.get(0, 0) == Some(&2) && grid.get(0, 1) == Some(&4));
+    assert!(rt; grid.get(1, 0) == Some(&1) && grid.get(1, 1) == Some(&3));
+    Ok(())
+}
