@@ -5,14 +5,13 @@ use Rattle.std.proofs.lemmas.List.{length-take-le}
 use Rattle.std.proofs.lemmas.List.Elements.{All-nil, All-cons, All-head, All-tail, All-get_or, All-from_get_or}
 use Rattle.std.proofs.lemmas.Option.{get_or_from_slice_get}
 use Rattle.grid_base.specs.declared.flat.order.Order.{Order}
-use Rattle.grid_base.specs.Table.{row, row_count, cell, tabulate}
+use Rattle.grid_base.specs.Table.{row, row_count, tabulate}
 use Rattle.grid_base.specs.Order.{place, table_of}
 use Rattle.grid_base.specs.Groups.{Opened}
 use Rattle.grid_base.proofs.TableLemmas.{rows-tabulate, cell-tabulate, width-tabulate, IsFull, IsSome_within}
 use Rattle.grid_base.proofs.StorageLemmas.{place_within, get-take, get-drop}
-use Rattle.grid.specs.Edits.{insert_rows}
 use Rattle.grid.specs.RowGroups.{RowGroups, RowsOpened}
-use Rattle.grid.proofs.RowEditLemmas.{HasWidth, rows_widened, rows_opened, table-put}
+use Rattle.grid.proofs.RowEditLemmas.{rows_widened, rows_opened, table-put}
 use Rattle.grid.proofs.EditViewLemmas.{rows-cut, width-cut, cell-cut}
 
 module _ {T : Type 0} where

@@ -9,11 +9,10 @@ use Rattle.grid_base.specs.declared.words.Symmetry.TheVariants.{Transpose}
 use Rattle.grid_base.specs.Table.{row, row_count, col_count, IsTable}
 use Rattle.grid_base.specs.Order.{table_of, flipped}
 use Rattle.grid_base.specs.GridValue.{GridValue, HoldsSize}
-use Rattle.grid_base.specs.Groups.{Opened}
 use Rattle.grid_base.specs.Append.{AppendsEach}
 use Rattle.grid_base.specs.Symmetry.{act}
 use Rattle.grid.specs.Edits.{PadsRows, PadsCols, padding_count, insert_rows, insert_cols, expanded_rows, prepended_rows, expanded_cols, prepended_cols}
-use Rattle.grid.specs.RowGroups.{RowGroups, RowsOpened}
+use Rattle.grid.specs.RowGroups.{RowsOpened}
 use Rattle.grid.proofs.SeenLemmas.{seen_rows, seen_cols}
 use Rattle.grid.proofs.PaddingLemmas.{All-all_fresh, replicate_from_all, All-from_gets, holds_at}
 use Rattle.grid.proofs.EditSizeLemmas.{HoldsSize-filled, factor_small, IsTable-width, put-no_lines, copies, row-copies, HasWidth-copies, expanded-put, prepended-put}

@@ -1,5 +1,5 @@
 //! Callers of `grid`.
-ghost use Rattle.std.specs.Prelude.{◌≡◌, ◌↔◌, IsTrue, IsSome, IfSome, IfOk, IfErr, OnOk, OnErr, insert, length, remove};
+ghost use Rattle.std.specs.Prelude.{◌≡◌, ◌↔◌, IsTrue, IsSome, IfSome, IfErr, OnOk, OnErr, insert, length, remove};
 ghost use Rattle.grid_base.specs.Table.{row_count, exchanged, InRange};
 ghost use Rattle.grid_base.specs.Order.{storage, CanCut};
 ghost use Rattle.grid.specs.Command.{lines, push};

@@ -5,11 +5,10 @@ ghost use Rattle.grid_base.specs.Symmetry.{act, order_after, half};
 ghost use Rattle.grid_base.specs.Tally.{saturating_count};
 ghost use Rattle.grid_base.specs.Clones.{ClonesAreEqual};
 ghost use Rattle.grid_base.specs.declared.words.Symmetry.{Symmetry};
-ghost use Rattle.grid.specs.Make.{IsOnlyDefault};
 ghost use Rattle.grid.specs.Command.{command_value, get, set_cell, swap_cells, lines, fill, apply};
 ghost use Rattle.grid.specs.Reply.{reply_value};
 ghost use Rattle.grid.specs.Refusal.{in_range};
-ghost use Rattle.grid.specs.LineEdit.{edit_value, request_value};
+ghost use Rattle.grid.specs.LineEdit.{request_value};
 ghost use Rattle.grid.specs.Step.{step_rows, step_reply, takes_memory, RowsAreKnown};
 ghost use Rattle.grid.specs.Cost.{command_symmetry, step_price, step_shift};
 

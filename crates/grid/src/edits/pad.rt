@@ -1,13 +1,12 @@
 //! Padding: rows and columns of defaults at the end or at the beginning, by counted passes.
-ghost use Rattle.std.specs.Prelude.{◌≡◌, ◌↔◌, ◌+◌, ◌*◌, ◌^◌, ◌<◌, ◌≤◌, length, IsTrue, IsErrOf, IsOk, OnOk, OnErr};
+ghost use Rattle.std.specs.Prelude.{◌≡◌, ◌+◌, ◌*◌, ◌^◌, ◌<◌, ◌≤◌, length, OnOk, OnErr};
 ghost use Rattle.grid_base.specs.Table.{row_count, col_count};
 ghost use Rattle.grid_base.specs.Tally.{saturating_count};
 ghost use Rattle.grid.specs.Edits.{PadsRows, PadsCols, padding_count, expanded_rows, expanded_cols, prepended_rows, prepended_cols};
 ghost use Rattle.grid.specs.EditFails.{PaddingFails};
-ghost use Rattle.grid.specs.Make.{IsOnlyDefault, ExceedsMax};
+ghost use Rattle.grid.specs.Make.{IsOnlyDefault};
 ghost use Rattle.grid.specs.RowGroups.{RowsOpened};
 ghost use Rattle.grid.specs.Shift.{rows_added_shift, cols_added_shift};
-ghost use Rattle.grid.specs.declared.error.GridError.TheVariants.{TooLarge};
 
 use super::{has_room, row_groups};
 use crate::{Grid, GridError};
@@ -150,16 +149,13 @@ impl<T, A: Allocator> Grid<T, A> {
         requires place { at ≤ row_count self.old.rows }
         ensures padded { OnOk result (PadsRows T.is_default at
             (padding_count count self.old.rows) self.old.rows self.new.rows) }
-        ensures too_large { IsErrOf result TooLarge ↔ ExceedsMax
-            (row_count self.old.rows + padding_count count self.old.rows)
-            (col_count self.old.rows) }
-        ensures none { padding_count count self.old.rows ≡ 0 → IsOk result }
+        ensures fails { PaddingFails (row_count self.old.rows + padding_count count self.old.rows)
+            (col_count self.old.rows) (padding_count count self.old.rows) self.old self.new result }
         ensures order { self.new.order ≡ self.old.order }
         ensures shift { OnOk result
             (tally.new.shift ≡ saturating_count tally.old.shift (rows_added_shift self.old.order
             (row_count self.old.rows) (col_count self.old.rows) at count)) }
         ensures symmetry { tally.new.symmetry ≡ tally.old.symmetry }
-        ensures err { OnErr result (self.new ≡ self.old) }
         ensures err_shift { OnErr result (tally.new.shift ≡ tally.old.shift) }
     {
         let (rows, cols) = self.size();
@@ -189,16 +185,13 @@ impl<T, A: Allocator> Grid<T, A> {
         requires place { at ≤ col_count self.old.rows }
         ensures padded { OnOk result (PadsCols T.is_default at
             (padding_count count self.old.rows) self.old.rows self.new.rows) }
-        ensures too_large { IsErrOf result TooLarge ↔ ExceedsMax
-            (col_count self.old.rows + padding_count count self.old.rows)
-            (row_count self.old.rows) }
-        ensures none { padding_count count self.old.rows ≡ 0 → IsOk result }
+        ensures fails { PaddingFails (col_count self.old.rows + padding_count count self.old.rows)
+            (row_count self.old.rows) (padding_count count self.old.rows) self.old self.new result }
         ensures order { self.new.order ≡ self.old.order }
         ensures shift { OnOk result
             (tally.new.shift ≡ saturating_count tally.old.shift (cols_added_shift self.old.order
             (row_count self.old.rows) (col_count self.old.rows) at count)) }
         ensures symmetry { tally.new.symmetry ≡ tally.old.symmetry }
-        ensures err { OnErr result (self.new ≡ self.old) }
         ensures err_shift { OnErr result (tally.new.shift ≡ tally.old.shift) }
     {
         // shows the prover that the rows are a table

@@ -1,6 +1,5 @@
 //! Constructors of a grid by its size.
-ghost use Rattle.std.specs.Prelude.{◌≡◌, ◌*◌, ◌^◌, ◌≤◌, ◌↔◌, ℕ, [], All, IfOk, IsOk, IsErrOf};
-ghost use Rattle.grid_base.specs.Table.{IsTable};
+ghost use Rattle.std.specs.Prelude.{◌≡◌, [], All, IfOk};
 ghost use Rattle.grid_base.specs.Order.{storage};
 ghost use Rattle.grid_base.specs.Clones.{ClonesAreEqual};
 ghost use Rattle.grid.specs.Make.{IsMade, FailsBySize, EachCellIs, IsOnlyDefault};

@@ -1,6 +1,6 @@
 //! The constructor from an array of rows.
-ghost use Rattle.std.specs.Prelude.{◌≡◌, ◌≢◌, ◌*◌, ◌^◌, ◌<◌, ◌≤◌, ◌↔◌, Some, None, IsTrue, IsOk, IfOk, OnOk, OnErr, IsErrOf, slice_get, slice_set};
-ghost use Rattle.grid_base.specs.Table.{cell, with_cell, IsTable};
+ghost use Rattle.std.specs.Prelude.{◌≡◌, ◌≢◌, ◌<◌, Some, None, IsTrue, IfOk, OnOk, OnErr, slice_get, slice_set};
+ghost use Rattle.grid_base.specs.Table.{cell, with_cell};
 ghost use Rattle.grid.specs.Make.{IsMade, FailsBySize};
 ghost use Rattle.grid.specs.Slots.{by_order, are_full, AreEmpty, HoldCells};
 

@@ -1,4 +1,4 @@
-use Rattle.std.proofs.Common.{◌≡◌, ◌∙◌, sym, subst}
+use Rattle.std.proofs.Common.{◌∙◌, sym, subst}
 use Rattle.grid_base.proofs.GroupLemmas.{then_is, IsThen-product, inverse_is, inverse_left}
 use Rattle.grid_base.specs.Symmetry.{IsThen, IsUndoneAt}
 use Rattle.grid_base.specs.declared.words.Symmetry.{Symmetry}

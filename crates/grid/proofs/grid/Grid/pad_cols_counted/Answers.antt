@@ -18,23 +18,20 @@ returns-clause-padded g c =
     (pads_cols c.args.self.now.rows t _ _ c.args.count _ _ _ c.transpose.ensures.rows c.transpose-2.ensures.rows c.requires.place)
     c.pad_rows_counted-padded.ensures.padded
 
-pub returns-clause-too_large : goal.returns-clause-too_large
-returns-clause-too_large g c =
+pub returns-clause-fails : goal.returns-clause-fails
+returns-clause-fails g c =
     let t = seen_table _ _ _ _ _ c.self.invariant c.self.view_is in
-    rw (size_across c.args.self.now.rows t c.args.count _ c.transpose.ensures.rows) at c.pad_rows_counted-padded.ensures.too_large
-
-pub returns-clause-none : goal.returns-clause-none
-returns-clause-none g c none =
-    let t = seen_table _ _ _ _ _ c.self.invariant c.self.view_is in
-    c.pad_rows_counted-padded.ensures.none (none_added c.args.self.now.rows t c.args.count _ c.transpose.ensures.rows none)
+    let fails = c.pad_rows_counted-padded.ensures.fails in
+    record {
+      too_large = rw (size_across c.args.self.now.rows t c.args.count _ c.transpose.ensures.rows) at fails.too_large;
+      none = λ e. fails.none (none_added c.args.self.now.rows t c.args.count _ c.transpose.ensures.rows e);
+      unchanged =
+          on_err c.pad_rows_counted-padded.result
+          (λ same. twice_across _ _ _ _ t c.transpose.ensures.rows c.transpose.ensures.order same c.transpose-2.ensures.rows c.transpose-2.ensures.order)
+          fails.unchanged;
+    }
 
 pub returns-clause-shift : goal.returns-clause-shift
 returns-clause-shift g c =
     let t = seen_table _ _ _ _ _ c.self.invariant c.self.view_is in
     rw (shift_across (λ o m n k. rows_added_shift o m n c.args.at k) c.args.count _ _ t c.transpose.ensures.rows c.transpose.ensures.order) at c.pad_rows_counted-padded.ensures.shift
-
-pub returns-clause-err : goal.returns-clause-err
-returns-clause-err g c =
-    on_err c.pad_rows_counted-padded.result
-    (λ same. twice_across _ _ _ _ (seen_table _ _ _ _ _ c.self.invariant c.self.view_is) c.transpose.ensures.rows c.transpose.ensures.order same c.transpose-2.ensures.rows c.transpose-2.ensures.order)
-    c.pad_rows_counted-padded.ensures.err

@@ -1,4 +1,4 @@
-use Rattle.std.proofs.Common.{◌≡◌, ◌+◌, ◌*◌, ◌⊎◌, inl, inr, ap, refl, arith}
+use Rattle.std.proofs.Common.{◌≡◌, ◌+◌, ◌*◌, ◌⊎◌, inl, inr, ap, refl, arith, rules}
 use Rattle.grid_base.specs.Table.{row_count, col_count}
 use Rattle.grid.specs.Edits.{padding_count}
 use Rattle.grid.specs.Shift.{rows_added_shift}
@@ -12,13 +12,17 @@ returns-then-count-eq0-clause-padded g c =
     elim c.then-count-eq0.branch [ then-count-eq0-via-then-count-eq0 w ↦ inl (omega (arith, w.if-count-eq0.true)) | then-count-eq0-via-else-count-eq0+then-rows-eq0 w ↦ inr (omega (arith, w.if-rows-eq0.true, c.size-rows.ensures.rows)) ] in
     pads_none _ _ _ _ (padding_none c.args.count c.args.self.now.rows none)
 
-pub returns-then-count-eq0-clause-too_large : goal.returns-then-count-eq0-clause-too_large
-returns-then-count-eq0-clause-too_large g c =
+pub returns-then-count-eq0-clause-fails : goal.returns-then-count-eq0-clause-fails
+returns-then-count-eq0-clause-fails g c =
     let none : (c.args.count ≡ 0) ⊎ (row_count c.args.self.now.rows ≡ 0) =
     elim c.then-count-eq0.branch [ then-count-eq0-via-then-count-eq0 w ↦ inl (omega (arith, w.if-count-eq0.true)) | then-count-eq0-via-else-count-eq0+then-rows-eq0 w ↦ inr (omega (arith, w.if-rows-eq0.true, c.size-rows.ensures.rows)) ] in
     let same : (row_count c.args.self.now.rows + padding_count c.args.count c.args.self.now.rows) * col_count c.args.self.now.rows ≡ (row_count c.args.self.now.rows + 0) * col_count c.args.self.now.rows =
     ap (λ x. (row_count c.args.self.now.rows + x) * col_count c.args.self.now.rows) (padding_none c.args.count c.args.self.now.rows none) in
-    (λ h. absurd (cc h), λ large. absurd (omega (arith, large, same, c.size-rows.ensures.below)))
+    record {
+      too_large = (λ h. absurd (cc h), λ large. absurd (omega (arith, large, same, c.size-rows.ensures.below)));
+      none = λ e. (search rules);
+      unchanged = (search rules);
+    }
 
 pub open_rows-requires-clause-cells : goal.open_rows-requires-clause-cells
 open_rows-requires-clause-cells g c = pad_cells _ _ _ _ _ c.self.invariant c.self.view_is _ _ _ c.size-rows.ensures.rows c.size-rows.ensures.cols c.if-rows-eq0.false (c.if-not-has_room.ensures.0 refl) _ _ c.in_ok-append_defaults.ensures.ok
