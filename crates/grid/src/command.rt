@@ -59,8 +59,8 @@ pub enum Command<T, A: Allocator = Global> {
     /// an empty grid, where two have unlike lengths; `Index` where the place is past the end, also without lines;
     /// `TooLarge`.
     InsertRows(usize, Vec<Vec<T, A>, A>),
-    /// Inserts columns before a column, or at the end, in their order. Replies `Done`; takes memory unless it is refused
-    /// or has no lines.
+    /// Inserts columns before a column, or at the end, in their order. Replies `Done`; takes memory unless it is
+    /// refused or has no lines.
     ///
     /// Refused: as [`InsertRows`](Command::InsertRows), of columns.
     InsertCols(usize, Vec<Vec<T, A>, A>),
@@ -76,9 +76,9 @@ pub enum Command<T, A: Allocator = Global> {
     DeleteRow(usize),
     /// Drops a column. Replies `Flag`: whether there was such a column.
     DeleteCol(usize),
-    /// Drops rows from a row on, so many of them. Replies `Flag`: whether there were so many; if not, nothing changes.
+    /// Drops a number of rows, from a row on. Replies `Flag`: whether there were so many; if not, nothing changes.
     DeleteRows(usize, usize),
-    /// Drops columns from a column on, so many of them. Replies `Flag`: whether there were so many; if not, nothing
+    /// Drops a number of columns, from a column on. Replies `Flag`: whether there were so many; if not, nothing
     /// changes.
     DeleteCols(usize, usize),
     /// Adds rows of defaults at the end; an empty grid stays empty. Replies `Done`; takes memory where it adds rows.

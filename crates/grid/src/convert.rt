@@ -8,7 +8,8 @@ use crate::{Grid, ShapeError};
 use std::alloc::{AllocError, Allocator};
 use std::convert::{AsSlice, TryFrom};
 
-/// Returns whether `len` cells can be cut into rows of `cols`: there are no cells, or `cols` is not 0 and divides their number.
+/// Returns whether `len` cells can be cut into rows of `cols`: there are no cells, or `cols` is not 0 and divides their
+/// number.
 ///
 ///     can_cut(6, 3)   true        can_cut(6, 4)   false        can_cut(0, 0)   true
 pub fn can_cut(len: usize, cols: usize) -> bool

@@ -156,8 +156,8 @@ pub fn insert_col_or_row_across<T, A: Allocator>(
     (as_col, as_row)
 }
 
-/// A list of commands gives the same replies and rows on two grids of the same rows, whatever their orders, where neither
-/// run stops.
+/// A list of commands gives the same replies and rows on two grids of the same rows, whatever their orders, where
+/// neither run stops.
 ///
 /// The two lists say the same commands. Replies and rows are the same where the default is one value and clones equal
 /// their source.

@@ -14,7 +14,7 @@
 //!
 //! The calls of [`Grid`] by theme:
 //!
-//! - make one: `empty`, `new`, `init`, `with_capacity`, `from_vec`, `from_arrays`, each in either order; `grid!`,
+//! - make one: `empty`; `new`, `init`, `with_capacity`, `from_vec`, `from_arrays`, each in either order; `grid!`,
 //!   `grid_cm!`; `TryFrom` a vector and a number of columns, or a list of rows
 //! - read: `size`, `rows`, `cols`, `order`, `is_empty`, `get`, `get_unchecked`, `grid[(row, col)]`, `flatten`,
 //!   `into_vec`

@@ -1,4 +1,4 @@
-//! Clones, equality, hash and debug text of grids, which speak of the rows and not of the order.
+//! Clones of grids; and their equality, hash and debug text, which speak of the rows and not of the order.
 ghost use Rattle.std.specs.Prelude.{◌≡◌, ◌<◌, [], IfOk, nat_lt, if◌then◌else◌};
 ghost use Rattle.std.specs.Fmt.{DisplaysOnOk, debug_list};
 ghost use Rattle.std.specs.List.{flat_map, fold};

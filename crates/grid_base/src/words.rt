@@ -39,16 +39,16 @@ pub enum Move {
     FlipCols,
     /// The rows are reversed.
     FlipRows,
-    /// A quarter turn against the clock.
+    /// A quarter turn counterclockwise.
     RotateLeft,
-    /// A quarter turn with the clock.
+    /// A quarter turn clockwise.
     RotateRight,
     /// A half turn.
     RotateHalf,
 }
 
 impl Symmetry {
-    /// The symmetry that a move does.
+    /// Returns the symmetry that a move does.
     pub fn of(step: Move) -> Symmetry
         ensures { result ≡ of_move step }
     {
@@ -95,7 +95,7 @@ impl Symmetry {
         }
     }
 
-    /// The symmetry that acts on every table as this one followed by `next`.
+    /// Returns the symmetry that acts on every table as this one followed by `next`.
     pub fn then(self, next: Symmetry) -> Symmetry
         ensures { IsThen self next result }
     {
@@ -108,7 +108,7 @@ impl Symmetry {
         }
     }
 
-    /// The symmetry whose action after this one leaves every table as it was.
+    /// Returns the symmetry whose action after this one leaves every table as it was.
     pub fn inverse(self) -> Symmetry
         ensures { IsInverse self result }
     {
@@ -120,7 +120,7 @@ impl Symmetry {
     }
 }
 
-/// The normal form of a word: the one symmetry that acts on every table as its moves from left to right.
+/// Returns the normal form of a word: the one symmetry that acts on every table as its moves from left to right.
 ///
 /// Two words have one normal form exactly if they act alike on all tables of whole numbers.
 pub fn reduce(word: &[Move]) -> Symmetry

@@ -3,6 +3,8 @@
 #![tactic(auto)]
 
 pub mod boards;
+pub mod shown;
 #[cfg(test)]
 mod tests;
+pub mod whole;
 pub mod words;

@@ -1,7 +1,9 @@
 //! Each caller on its happy path, and where it says no.
 use crate::boards::{cut, exchange, push, push_by_command, take_first};
+use crate::shown::cell_through;
+use crate::whole::{add_blank_row, of_rows};
 use crate::words::apply_word;
-use grid::{Grid, Move, Refusal, Tally};
+use grid::{Grid, Move, Refusal, Symmetry, Tally};
 use std::alloc::{AllocError, Global};
 use std::test::Fail;
 
@@ -69,5 +71,35 @@ fn applies_a_word(rt: HostRuntime) -> Result<(), Fail> {
     );
     assert!(rt; grid.get(0, 0) == Some(&2) && grid.get(0, 1) == Some(&4));
     assert!(rt; grid.get(1, 0) == Some(&1) && grid.get(1, 1) == Some(&3));
+    Ok(())
+}
+
+#[test]
+fn makes_a_board_of_rows(rt: HostRuntime) -> Result<(), Fail> {
+    let alloc = rt.alloc();
+    let even = vec![in alloc; vec![in alloc; 1u32, 2]?, vec![in alloc; 3, 4]?]?;
+    assert!(rt; of_rows(even).is_some_and(|grid| grid.size() == (2, 2) && grid[(1, 0)] == 3));
+    let ragged = vec![in alloc; vec![in alloc; 1u32, 2]?, vec![in alloc; 3]?]?;
+    assert!(rt; of_rows(ragged).is_none());
+    Ok(())
+}
+
+#[test]
+fn adds_a_blank_row(rt: HostRuntime) -> Result<(), Fail> {
+    let mut grid = board(rt.alloc())?;
+    assert!(rt; add_blank_row(&mut grid).is_ok());
+    assert_eq!(rt; grid.flatten(), [1, 2, 3, 4, 0, 0].as_slice());
+    Ok(())
+}
+
+#[test]
+fn looks_through_a_symmetry(rt: HostRuntime) -> Result<(), Fail> {
+    let mut grid = board(rt.alloc())?;
+    assert_eq!(rt;
+        cell_through(&mut grid, Symmetry::RotateLeft, 0, 1),
+        Some(4)
+    );
+    assert_eq!(rt; cell_through(&mut grid, Symmetry::RotateLeft, 2, 0), None);
+    assert_eq!(rt; grid.flatten(), [1, 2, 3, 4].as_slice());
     Ok(())
 }

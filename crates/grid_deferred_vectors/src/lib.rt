@@ -4,7 +4,11 @@
 #[cfg(test)]
 mod carried;
 #[cfg(test)]
+mod ground;
+#[cfg(test)]
 mod laws;
+#[cfg(test)]
+mod lists;
 #[cfg(test)]
 mod runs;
 #[cfg(test)]

@@ -1,4 +1,5 @@
 //! Runs that defer their symmetries, with what they count.
+use crate::ground::{ORDERS, WIDE, assert_rows, grid_with};
 use grid::{Command, Grid, Order, Symmetry, Tally};
 use grid_deferred::run_deferred;
 use std::alloc::{AllocError, Global};
@@ -22,17 +23,22 @@ fn check_run(
     assert_eq!(rt; (tally.symmetry(), tally.shift()), counts);
 }
 
-#[test]
-fn four_quarter_turns_cost_nothing(rt: HostRuntime) -> Result<(), Fail> {
-    let alloc = rt.alloc();
-    let mut grid = wide(alloc)?;
+fn four_turns(alloc: Global) -> Result<Vec<Command<u32>>, AllocError> {
     let mut commands = Vec::new(alloc);
     for _ in 0..4 {
         commands.push(Command::Apply(Symmetry::RotateLeft))?;
     }
-    check_run(&rt, alloc, &mut grid, commands, (0, 0));
-    assert_eq!(rt; (grid.size(), grid.order()), ((2, 3), Order::RowMajor));
-    assert_eq!(rt; grid.flatten(), [1, 2, 3, 4, 5, 6].as_slice());
+    Ok(commands)
+}
+
+#[test]
+fn four_quarter_turns_cost_nothing(rt: HostRuntime) -> Result<(), Fail> {
+    for order in ORDERS {
+        let mut grid = grid_with(rt.alloc(), WIDE, order)?;
+        let commands = four_turns(rt.alloc())?;
+        check_run(&rt, rt.alloc(), &mut grid, commands, (0, 0));
+        assert_rows(&rt, &grid, WIDE, order);
+    }
     Ok(())
 }
 

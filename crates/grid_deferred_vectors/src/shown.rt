@@ -1,7 +1,9 @@
 //! A grid seen through what is pending.
-use grid::{Command, Grid, Order, Reply, Symmetry, Tally};
+use crate::ground::{BOARD, ORDERS, WIDE, assert_rows, cut, grid_with};
+use grid::{Command, Grid, Order, Reply, ShapeError, Symmetry, Tally};
 use grid_deferred::Deferred;
-use std::alloc::AllocError;
+use std::alloc::{AllocError, Global};
+use std::process::Abort;
 use std::test::Fail;
 
 fn row_is(deferred: &Deferred<'_, u32>, at: usize, want: &[u32]) -> bool {
@@ -47,9 +49,8 @@ fn shows_a_turn(deferred: &Deferred<'_, u32>) -> bool {
     deferred.size() == (3, 2) && cells && lines
 }
 
-#[test]
-fn reads_through_what_is_pending(rt: HostRuntime) -> Result<(), Fail> {
-    let mut grid = Grid::from_vec(vec![in rt.alloc(); 1u32, 2, 3, 4, 5, 6]?, 3);
+fn check_reads(rt: &impl Abort, alloc: Global, order: Order) -> Result<(), Fail> {
+    let mut grid = grid_with(alloc, WIDE, order)?;
     let mut tally = Tally::new();
     let mut deferred = Deferred::over(&mut grid);
     let turned = deferred
@@ -68,10 +69,50 @@ fn reads_through_what_is_pending(rt: HostRuntime) -> Result<(), Fail> {
         (pending, released),
         (Symmetry::AntiTranspose, Symmetry::AntiTranspose)
     );
+    assert_eq!(rt; tally.symmetry(), 0);
+    assert_rows(rt, &grid, WIDE, order);
+    Ok(())
+}
+
+#[test]
+fn reads_through_what_is_pending(rt: HostRuntime) -> Result<(), Fail> {
+    for order in ORDERS {
+        check_reads(&rt, rt.alloc(), order)?;
+    }
+    Ok(())
+}
+
+fn is_done(reply: &Result<Reply<u32>, AllocError>) -> bool {
+    match reply {
+        Ok(Reply::Done) => true,
+        _ => false,
+    }
+}
+
+// A row that is pushed through a flip comes first in the base.
+fn check_base(rt: &impl Abort, alloc: Global, order: Order) -> Result<(), Fail> {
+    let line = vec![in alloc; 5, 6]?;
+    let mut grid = grid_with(alloc, BOARD, order)?;
+    let mut tally = Tally::new();
+    let mut deferred = Deferred::over(&mut grid);
+    let flipped = is_done(&deferred.step(Command::Apply(Symmetry::FlipRows), &mut tally));
+    let pushed = is_done(&deferred.step(Command::PushRow(line), &mut tally));
+    let pending = deferred.pending();
+    let released = deferred.release();
+    assert!(rt; flipped && pushed);
     assert_eq!(rt;
-        (grid.flatten(), tally.symmetry()),
-        ([1, 2, 3, 4, 5, 6].as_slice(), 0)
+        (pending, released),
+        (Symmetry::FlipRows, Symmetry::FlipRows)
     );
+    assert_rows(rt, &grid, &[&[5, 6], &[1, 2], &[3, 4]], order);
+    Ok(())
+}
+
+#[test]
+fn releases_the_base_of_a_push(rt: HostRuntime) -> Result<(), Fail> {
+    for order in ORDERS {
+        check_base(&rt, rt.alloc(), order)?;
+    }
     Ok(())
 }
 
@@ -95,5 +136,104 @@ fn settles_at_the_price_of_what_is_pending(rt: HostRuntime) -> Result<(), Fail> 
         (tally.symmetry(), tally.shift(), grid.order()),
         (2, 0, Order::RowMajor)
     );
+    Ok(())
+}
+
+fn is_text(cell: Option<&String>, want: &str) -> bool {
+    match cell {
+        Some(text) => text.as_str() == want,
+        None => false,
+    }
+}
+
+// Each walk is dropped after its first cell.
+fn begins_walks(deferred: &Deferred<'_, String>) -> bool {
+    if deferred.size() != (2, 2) {
+        return false;
+    }
+    let row = is_text(deferred.iter_row(1).next(), "c");
+    row && is_text(deferred.iter_col(1).next(), "b")
+}
+
+// The rows "a", "b" and "c", "d", in each order.
+const LETTERS: [(Order, [&'static str; 4]); 2] = [
+    (Order::RowMajor, ["a", "b", "c", "d"]),
+    (Order::ColumnMajor, ["a", "c", "b", "d"]),
+];
+
+fn texts_of(alloc: Global, letters: [&str; 4]) -> Result<Vec<String>, AllocError> {
+    let mut cells = Vec::new(alloc);
+    for letter in letters {
+        cells.push(String::from_str(alloc, letter)?)?;
+    }
+    Ok(cells)
+}
+
+fn texts(alloc: Global, order: Order, letters: [&str; 4]) -> Result<Grid<String>, ShapeError> {
+    cut(texts_of(alloc, letters)?, 2, order)
+}
+
+#[test]
+fn walks_over_texts_are_dropped_early(rt: HostRuntime) -> Result<(), Fail> {
+    for (order, letters) in LETTERS {
+        let same = texts(rt.alloc(), order, letters)?;
+        let mut grid = texts(rt.alloc(), order, letters)?;
+        let deferred = Deferred::over(&mut grid);
+        let walked = begins_walks(&deferred);
+        let released = deferred.release();
+        assert!(rt; walked && grid == same);
+        assert_eq!(rt; (released, grid.order()), (Symmetry::Identity, order));
+    }
+    Ok(())
+}
+
+// The same as cells that have a default.
+fn kept_texts_of(alloc: Global, letters: [&str; 4]) -> Result<Vec<Option<String>>, AllocError> {
+    let mut cells = Vec::new(alloc);
+    for letter in letters {
+        cells.push(Some(String::from_str(alloc, letter)?))?;
+    }
+    Ok(cells)
+}
+
+fn kept_texts(
+    alloc: Global,
+    order: Order,
+    letters: [&str; 4],
+) -> Result<Grid<Option<String>>, ShapeError> {
+    cut(kept_texts_of(alloc, letters)?, 2, order)
+}
+
+fn is_kept(cell: Option<&Option<String>>, want: &str) -> bool {
+    match cell {
+        Some(kept) => is_text(kept.as_ref(), want),
+        None => false,
+    }
+}
+
+// Each walk of the turned texts is dropped after its first cell.
+fn begins_turned_walks(deferred: &Deferred<'_, Option<String>>) -> bool {
+    if deferred.size() != (2, 2) {
+        return false;
+    }
+    let row = is_kept(deferred.iter_row(1).next(), "a");
+    row && is_kept(deferred.iter_col(1).next(), "d")
+}
+
+#[test]
+fn walks_over_turned_texts_are_dropped_early(rt: HostRuntime) -> Result<(), Fail> {
+    for (order, letters) in LETTERS {
+        let same = kept_texts(rt.alloc(), order, letters)?;
+        let mut grid = kept_texts(rt.alloc(), order, letters)?;
+        let mut tally = Tally::new();
+        let mut deferred = Deferred::over(&mut grid);
+        let turned = deferred
+            .step(Command::Apply(Symmetry::RotateLeft), &mut tally)
+            .is_ok();
+        let walked = begins_turned_walks(&deferred);
+        let released = deferred.release();
+        assert!(rt; turned && walked && grid == same);
+        assert_eq!(rt; (released, grid.order()), (Symmetry::RotateLeft, order));
+    }
     Ok(())
 }

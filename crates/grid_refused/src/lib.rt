@@ -18,4 +18,6 @@ mod play;
 #[cfg(test)]
 mod refused;
 #[cfg(test)]
+mod stops;
+#[cfg(test)]
 mod texts;

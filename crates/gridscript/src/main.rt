@@ -21,8 +21,7 @@ fn run<R: Env + Input + Print + AllocGlobal>(rt: &R) -> Result<(), Ending> {
     let deferred = mode(&arguments(rt)?).ok_or(Ending::Usage)?;
     let script = read_all(rt.alloc(), &mut rt.reader())?;
     let output = play(rt.alloc(), &script, deferred)?;
-    rt.print(&output)?;
-    Ok(())
+    rt.print(&output).map_err(|_| Ending::Transfer)
 }
 
 // The status of a program that ended so.

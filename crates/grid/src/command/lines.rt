@@ -1,7 +1,7 @@
 //! Commands on lines: an edit of rows, and an edit of columns as that of rows between two transposes.
 //!
-//! A refusal is decided as its definition says, before memory is asked for. `let _ = grid.size();` shows the prover that
-//! the rows are a table.
+//! A refusal is decided as its definition says, before memory is asked for. `let _ = grid.size();` shows the prover
+//! that the rows are a table.
 ghost use Rattle.std.specs.Prelude.{◌≡◌, ◌+◌, ◌*◌, ◌<◌, length, nat_eq, nat_lt, [], ◌∷◌, OnOk, OnErr, IfOk, IsTrue};
 ghost use Rattle.std.specs.List.{list_any, list_all};
 ghost use Rattle.grid_base.specs.Table.{row, row_count, col_count, IsTable};

@@ -19,7 +19,7 @@ impl<T, A: Allocator> Flat<T, A> {
     ///     [1, 2, 3, 4, 5, 6]   line(1, 6, 2, 3)   2, 4, 6
     ///
     /// Requires: `start` is at most `end`, which is at most the number of cells; `stride` is not 0; `count` is the
-    /// number of cells, so that nothing is divided here.
+    /// number of cells of the line, handed in so that nothing is divided here.
     pub fn line(&self, start: usize, end: usize, stride: usize, count: usize) -> GridLineIter<'_, T>
         requires ordered { start ≤ end }
         requires within { end ≤ length self.now }

@@ -1,6 +1,6 @@
 //! Commands, each with its reply and the rows after it, in both orders.
 use crate::asserts::{Rows, assert_rows, grid_with};
-use grid::{Axis, Command, Grid, Order, Refusal, Reply, Symmetry, Tally, run};
+use grid::{Axis, Command, Order, Refusal, Reply, Symmetry, Tally};
 use grid_reference::fixtures::{ORDERS, stored, table_of};
 use std::alloc::{AllocError, Global};
 use std::process::Abort;
@@ -8,7 +8,7 @@ use std::test::Fail;
 
 // A command whose lines are written out.
 #[derive(Clone, Copy)]
-enum Ask {
+pub enum Ask {
     Plain(Plain),
     PushRow(&'static [u32]),
     PushCol(&'static [u32]),
@@ -20,7 +20,7 @@ enum Ask {
 
 // A command without lines.
 #[derive(Clone, Copy)]
-enum Plain {
+pub enum Plain {
     Size,
     Get(usize, usize),
     Row(usize),
@@ -70,7 +70,7 @@ fn plain_command(plain: Plain) -> Command<u32> {
     }
 }
 
-fn command_of(alloc: Global, ask: Ask) -> Result<Command<u32>, AllocError> {
+pub fn command_of(alloc: Global, ask: Ask) -> Result<Command<u32>, AllocError> {
     Ok(match ask {
         Ask::Plain(plain) => plain_command(plain),
         Ask::PushRow(line) => Command::PushRow(Vec::from_slice(alloc, line)?),
@@ -84,7 +84,7 @@ fn command_of(alloc: Global, ask: Ask) -> Result<Command<u32>, AllocError> {
 
 // A reply whose line is written out.
 #[derive(Clone, Copy, Debug)]
-enum Want {
+pub enum Want {
     Done,
     Size(usize, usize),
     Cell(Option<u32>),
@@ -93,7 +93,7 @@ enum Want {
     Refused(Refusal),
 }
 
-fn is_wanted(reply: &Reply<u32>, want: Want) -> bool {
+pub fn is_wanted(reply: &Reply<u32>, want: Want) -> bool {
     match (reply, want) {
         (Reply::Done, Want::Done) => true,
         (Reply::Size(rows, cols), Want::Size(m, n)) => (*rows, *cols) == (m, n),
@@ -106,9 +106,9 @@ fn is_wanted(reply: &Reply<u32>, want: Want) -> bool {
     }
 }
 
-const BOARD: Rows = &[&[1, 2], &[3, 4]];
+pub const BOARD: Rows = &[&[1, 2], &[3, 4]];
 
-const LARGE: usize = usize::MAX;
+pub const LARGE: usize = usize::MAX;
 
 // A command on the board, its reply, and the rows after it.
 type Case = (Ask, Want, Rows);
@@ -253,12 +253,19 @@ fn steps_with_lines(rt: HostRuntime) -> Result<(), Fail> {
     Ok(())
 }
 
-// A step, the order and the columns of its grid, the cells stored before and after, and the shift count.
-type Shift = (Plain, Order, usize, &'static [u32], &'static [u32], u128);
+// A step with its reply, the order and the columns of its grid, the cells stored before and after, and the shift count.
+type Shift = (
+    (Plain, Want),
+    Order,
+    usize,
+    &'static [u32],
+    &'static [u32],
+    u128,
+);
 
-const SHIFTS: [Shift; 4] = [
+const SHIFTS: [Shift; 5] = [
     (
-        Plain::DeleteRow(1),
+        (Plain::DeleteRow(1), Want::Flag(true)),
         Order::ColumnMajor,
         2,
         &[1, 3, 5, 2, 4, 6],
@@ -266,7 +273,7 @@ const SHIFTS: [Shift; 4] = [
         3,
     ),
     (
-        Plain::ExpandRows(2),
+        (Plain::ExpandRows(2), Want::Done),
         Order::ColumnMajor,
         3,
         &[1, 2, 1, 2, 1, 2],
@@ -274,7 +281,7 @@ const SHIFTS: [Shift; 4] = [
         4,
     ),
     (
-        Plain::PrependRows(2),
+        (Plain::PrependRows(2), Want::Done),
         Order::ColumnMajor,
         3,
         &[1, 2, 1, 2, 1, 2],
@@ -282,11 +289,19 @@ const SHIFTS: [Shift; 4] = [
         6,
     ),
     (
-        Plain::ExpandCols(1),
+        (Plain::ExpandCols(1), Want::Done),
         Order::RowMajor,
         3,
         &[1, 2, 3, 4, 5, 6],
         &[1, 2, 3, 0, 4, 5, 6, 0],
+        3,
+    ),
+    (
+        (Plain::DeleteRows(1, 2), Want::Flag(true)),
+        Order::ColumnMajor,
+        2,
+        &[1, 5, 7, 3, 2, 6, 8, 4],
+        &[1, 3, 2, 4],
         3,
     ),
 ];
@@ -294,11 +309,12 @@ const SHIFTS: [Shift; 4] = [
 fn check_shift(
     rt: &impl Abort,
     alloc: Global,
-    (plain, order, cols, before, after, count): Shift,
+    ((plain, want), order, cols, before, after, count): Shift,
 ) -> Result<(), Fail> {
     let mut grid = stored(alloc, before, cols, order)?;
     let mut tally = Tally::new();
-    let _ = grid.step(plain_command(plain), &mut tally)?;
+    let reply = grid.step(plain_command(plain), &mut tally)?;
+    assert!(rt; is_wanted(&reply, want), "{reply:?} is not {want:?}");
     assert_eq!(rt; grid.flatten(), after);
     assert_eq!(rt; (tally.symmetry(), tally.shift()), (0, count));
     Ok(())
@@ -312,42 +328,16 @@ fn steps_count_shifts(rt: HostRuntime) -> Result<(), Fail> {
     Ok(())
 }
 
-// A run that turns the grid, and expands it then.
+// A thousand columns are added by the three swaps of the second row.
 #[test]
-fn turns_then_expands(rt: HostRuntime) -> Result<(), Fail> {
-    let alloc = rt.alloc();
-    let mut grid = grid_with(alloc, &[&[1, 2, 3], &[4, 5, 6]], Order::RowMajor)?;
-    let commands = vec![in alloc;
-        Command::Apply(Symmetry::RotateLeft),
-        Command::ExpandRows(1),
-    ]?;
+fn expands_by_a_thousand_columns(rt: HostRuntime) -> Result<(), Fail> {
+    let mut grid = stored(rt.alloc(), &[1, 2, 3, 4, 5, 6], 3, Order::RowMajor)?;
     let mut tally = Tally::new();
-    let replies = run(alloc, &mut grid, commands, &mut tally)?;
-    assert_eq!(rt; replies.as_slice(), [Reply::Done, Reply::Done].as_slice());
-    assert_eq!(rt; grid.flatten(), [3, 2, 1, 0, 6, 5, 4, 0].as_slice());
-    assert_eq!(rt; (tally.symmetry(), tally.shift()), (2, 3));
+    let _ = grid.step(Command::ExpandCols(1000), &mut tally)?;
+    assert_eq!(rt; grid.size(), (2, 1003));
+    assert_eq!(rt; (grid.get(1, 0), grid.get(1, 3)), (Some(&4), Some(&0)));
+    assert_eq!(rt; (tally.symmetry(), tally.shift()), (0, 3));
     Ok(())
-}
-
-#[test]
-fn refuses_in_turn(rt: HostRuntime) -> Result<(), Fail> {
-    let alloc = rt.alloc();
-    let mut grid: Grid<u32> = grid_with(alloc, BOARD, Order::RowMajor)?;
-    let commands = vec![in alloc;
-        Command::InsertRow(3, Vec::from_slice(alloc, &[1])?),
-        Command::PushRow(Vec::new(alloc)),
-        Command::PopRow,
-    ]?;
-    let replies = run(alloc, &mut grid, commands, &mut Tally::new())?;
-    let wants = [
-        Want::Refused(Refusal::Length),
-        Want::Refused(Refusal::EmptyLine),
-        Want::Line(Some(&[3, 4])),
-    ];
-    for (reply, want) in replies.iter().zip(wants) {
-        assert!(rt; is_wanted(reply, want), "{reply:?} is not {want:?}");
-    }
-    assert_rows(&rt, alloc, &grid, &[&[1, 2]], Order::RowMajor)
 }
 
 const AXES: [(Plain, Axis); 4] = [

@@ -64,6 +64,8 @@ fn limits_column_major(rt: HostRuntime) {
     assert_refused(&rt, made, LARGE);
     let made = Grid::<u8>::with_capacity_and_order(alloc, usize::MAX, 2, ColumnMajor);
     assert_refused(&rt, made, LARGE);
+    let made = Grid::<()>::new_with_order(alloc, usize::MAX, 2, ColumnMajor);
+    assert_refused(&rt, made, LARGE);
 }
 
 // A capacity needs no cells, so their type need have no value to begin with.
