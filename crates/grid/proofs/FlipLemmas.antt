@@ -6,12 +6,12 @@ use Rattle.grid_base.specs.declared.flat.order.Order.{Order}
 use Rattle.grid_base.specs.declared.flat.order.Order.TheVariants.{RowMajor, ColumnMajor}
 use Rattle.grid_base.specs.declared.words.Symmetry.TheVariants.{Identity, FlipRows, FlipCols, RotateHalf, Transpose, RotateLeft, RotateRight, AntiTranspose}
 use Rattle.grid_base.specs.Table.{row_count, col_count, IsTable}
-use Rattle.grid_base.specs.Order.{table_of, place}
+use Rattle.grid_base.specs.Order.{table_of, place, flipped}
 use Rattle.grid_base.specs.GridValue.{HoldsSize}
 use Rattle.grid_base.specs.Symmetry.{act, price}
-use Rattle.grid_base.proofs.ViewLemmas.{view-act}
+use Rattle.grid_base.proofs.ViewLemmas.{view-act, view-table, view-transpose}
 use Rattle.grid_base.proofs.ActLemmas.{rows-act, cols-act}
-use Rattle.grid_base.proofs.GroupLemmas.{product, act-act}
+use Rattle.grid_base.proofs.GroupLemmas.{product, act-act, act-identity}
 use Rattle.grid_base.specs.declared.words.Symmetry.{Symmetry}
 use Rattle.grid_base.specs.Flags.{flags_of, from_flags}
 use Rattle.grid_base.proofs.StorageLemmas.{place_within}
@@ -25,11 +25,18 @@ module _ {T : Type 0} (m n : ℕ) (old new : List T) (h : HoldsSize m n (length 
   pub flip_rows_by_each : EachLineReversed n m old new → table_of ColumnMajor m n new ≡ act FlipRows (table_of ColumnMajor m n old)
   flip_rows_by_each e = view-act ColumnMajor m n old h FlipRows ColumnMajor new (λ i j p q. e.moved j i q p)
 
-  pub flip_cols_by_lines : LinesReversed n m old new → table_of ColumnMajor m n new ≡ act FlipCols (table_of ColumnMajor m n old)
-  flip_cols_by_lines e = view-act ColumnMajor m n old h FlipCols ColumnMajor new (λ i j p q. e.moved j i q p)
+-- a flip of the rows of the transposed table is one of the columns
+pub flip_cols_across : {T : Type 0} (o : Order) (m n : ℕ) (old new : List T) → HoldsSize m n (length old) → length new ≡ length old → table_of (flipped o) n m new ≡ act FlipRows (table_of (flipped o) n m old) → table_of o m n new ≡ act FlipCols (table_of o m n old)
+flip_cols_across o m n old new h len e =
+    let k : HoldsSize m n (length new) = rw len h in
+    let t = view-table o m n old h in
+    let back : act Transpose (act Transpose (table_of o m n new)) ≡ table_of o m n new = act-act Transpose Transpose _ (view-table o m n new k) ∙ act-identity _ (view-table o m n new k) in
+    let mid : act Transpose (table_of o m n new) ≡ act FlipRows (act Transpose (table_of o m n old)) = sym (view-transpose o m n new k) ∙ (e ∙ ap (act FlipRows) (view-transpose o m n old h)) in
+    sym back
+    ∙ (ap (act Transpose) (mid ∙ act-act Transpose FlipRows _ t) ∙ act-act (product Transpose FlipRows) Transpose _ t)
 
-  pub flip_cols_by_each : EachLineReversed m n old new → table_of RowMajor m n new ≡ act FlipCols (table_of RowMajor m n old)
-  flip_cols_by_each e = view-act RowMajor m n old h FlipCols RowMajor new (λ i j p q. e.moved i j p q)
+pub price_across : (m n : ℕ) → price FlipRows n m ≡ price FlipCols m n
+price_across m n = mul_comm (n / 2) m
 
 -- the place of the cell that stands opposite
 opposite : (p q i j : ℕ) → i < p → j < q → p * q - 1 - (i * q + j) ≡ (p - 1 - i) * q + (q - 1 - j)

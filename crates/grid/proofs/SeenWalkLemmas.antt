@@ -1,17 +1,28 @@
 -- What walks over a grid's fields say of the value that a contract sees.
-use Rattle.std.proofs.Common.{◌≡◌, ℕ, ◌<◌, List, ◌++◌, length, take, drop, zip, refl, sym, ◌∙◌, ap, arith}
+use Rattle.std.proofs.Common.{◌≡◌, ℕ, List, ◌++◌, length, take, drop, zip, refl, sym, ◌∙◌, ap}
 use Rattle.std.specs.List.{refill, length_refill}
 use Rattle.grid_base.specs.declared.flat.order.Order.{Order}
-use Rattle.grid_base.specs.Table.{row_count, col_count}
-use Rattle.grid_base.specs.Order.{place}
+use Rattle.grid_base.specs.declared.flat.order.Order.TheVariants.{RowMajor, ColumnMajor}
+use Rattle.grid_base.specs.declared.words.Symmetry.TheVariants.{Transpose}
+use Rattle.grid_base.specs.Table.{row_count, col_count, transposed}
+use Rattle.grid_base.specs.Order.{place, flipped, table_of}
+use Rattle.grid_base.specs.Symmetry.{act}
 use Rattle.grid_base.specs.Places.{places}
 use Rattle.grid_base.specs.GridValue.{GridValue, HoldsSize}
 use Rattle.grid_base.specs.FlatLends.{written_from}
-use Rattle.grid.specs.declared.walks.span.Span.{Span}
-use Rattle.grid.specs.Span.{IsSpan}
+use Rattle.grid_base.proofs.ViewLemmas.{view-transpose}
 use Rattle.grid.specs.Walks.{stored, with_cells, refilled, refilled_from, IsSameSize, KeepsSize, KeepsSizeFrom}
 use Rattle.grid.proofs.CellWriteLemmas.{grid_value}
 use Rattle.grid.proofs.SeenLemmas.{seen_rows, seen_cols, seen_table, seen_storage}
+
+-- the storage of a table is that of the transposed table in the other order
+pub place_flipped : (o : Order) (m n r c : ℕ) → place (flipped o) n m c r ≡ place o m n r c
+place_flipped RowMajor m n r c = refl
+place_flipped ColumnMajor m n r c = refl
+
+act_is_transposed : {T : Type 0} (t : List (List T)) → act Transpose t ≡ transposed t
+unfolding act
+act_is_transposed t = refl
 
 module _ {T : Type 0} (o : Order) (m n : ℕ) (cells : List T) (v : GridValue T) (h : HoldsSize m n (length cells)) (e : grid_value o m n cells ≡ v) where
   order_is : v.order ≡ o
@@ -25,6 +36,9 @@ module _ {T : Type 0} (o : Order) (m n : ℕ) (cells : List T) (v : GridValue T)
 
   cells_are : stored v ≡ cells
   cells_are = seen_storage o m n cells v h e
+
+  pub seen_transposed : table_of (flipped o) n m cells ≡ transposed v.rows
+  seen_transposed = view-transpose o m n cells h ∙ (act_is_transposed _ ∙ ap (λ x. transposed x.rows) e)
 
   -- the cells with their places
   pub seen_indexed : zip (places o m n) cells ≡ zip (places v.order (row_count v.rows) (col_count v.rows)) (stored v)
@@ -71,7 +85,3 @@ module _ {T : Type 0} (o : Order) (m n : ℕ) (cells : List T) (v : GridValue T)
       size_kept (written_from start cells ws) (refilled_from v r c ws)
       (sym (length_refill (length cells) cells (take start cells ++ (ws ++ drop (length ws) (drop start cells))) refl))
       (seen_written start r c ws refl)
-
--- the first place of a line
-pub first_place : (n : ℕ) (at : ℕ → ℕ) (len : ℕ) (s : Span) → IsSpan n at len s → 0 < n → s.start ≡ at 0
-first_place n at len s h some = let first = h.places 0 some in omega (arith, first)

@@ -14,7 +14,6 @@ pub mod Run
 pub mod Edits
 pub mod RowGroups
 pub mod Shift
-pub mod Span
 pub mod Walks
 pub mod AllCells
 pub mod Same

@@ -45,7 +45,7 @@ pub use convert::can_cut;
 pub use error::{GridError, LineRefused, LinesRefused, ShapeError};
 pub use grid::Grid;
 pub use grid_base::{
-    GridLineIter, GridLineIterMut, IndexedIntoIter, IndexedIter, IndexedIterMut, Move, Order,
-    Symmetry, Tally, Whole, reduce,
+    GridLineIter, GridLineIterMut, GridRowIter, IndexedIntoIter, IndexedIter, IndexedIterMut, Move,
+    Order, Symmetry, Tally, Whole, reduce,
 };
-pub use walks::{GridColIter, GridRowIter};
+pub use walks::GridColIter;

@@ -1,7 +1,8 @@
 //! The six moves of a grid, and the eight symmetries.
-ghost use Rattle.std.specs.Prelude.{◌≡◌, List, false};
+ghost use Rattle.std.specs.Prelude.{◌≡◌, List, false, length};
 ghost use Rattle.grid_base.specs.Table.{row_count, col_count};
-ghost use Rattle.grid_base.specs.Order.{flipped, storage};
+ghost use Rattle.grid_base.specs.Order.{flipped, storage, table_of};
+ghost use Rattle.grid_base.specs.GridValue.{HoldsSize};
 ghost use Rattle.grid_base.specs.Symmetry.{act, order_after, price};
 ghost use Rattle.grid_base.specs.Move.{word_image, IsNormalForm};
 ghost use Rattle.grid_base.specs.Flags.{from_flags};
@@ -12,7 +13,7 @@ ghost use Rattle.grid_base.specs.declared.words.Symmetry.TheVariants.{FlipRows, 
 mod passes;
 
 use crate::Grid;
-use grid_base::{Order, Symmetry, Tally};
+use grid_base::{Flat, Order, Symmetry, Tally};
 use passes::{reverse_each_line, reverse_lines};
 use std::alloc::Allocator;
 use std::mem;
@@ -30,10 +31,7 @@ impl<T, A: Allocator> Grid<T, A> {
             ≡ storage self.old.order self.old.rows }
     {
         mem::swap(&mut self.row_count, &mut self.col_count);
-        self.order = match self.order {
-            Order::RowMajor => Order::ColumnMajor,
-            Order::ColumnMajor => Order::RowMajor,
-        };
+        self.order = flipped(self.order);
     }
 
     /// Reverses the order of the rows. The order of the storage stays.
@@ -164,12 +162,13 @@ impl<T, A: Allocator> Grid<T, A> {
             (price FlipRows (row_count self.old.rows) (col_count self.old.rows)) }
         ensures shift { tally.new.shift ≡ tally.old.shift }
     {
-        match self.order {
-            Order::RowMajor => reverse_lines(&mut self.flat, self.row_count, self.col_count, tally),
-            Order::ColumnMajor => {
-                reverse_each_line(&mut self.flat, self.col_count, self.row_count, tally)
-            }
-        }
+        flip_stored(
+            &mut self.flat,
+            self.order,
+            self.row_count,
+            self.col_count,
+            tally,
+        );
     }
 
     // As `flip_cols`, and adds the swaps to the symmetry count of the tally.
@@ -180,17 +179,8 @@ impl<T, A: Allocator> Grid<T, A> {
             (price FlipCols (row_count self.old.rows) (col_count self.old.rows)) }
         ensures shift { tally.new.shift ≡ tally.old.shift }
     {
-        match self.order {
-            Order::RowMajor => {
-                reverse_each_line(&mut self.flat, self.row_count, self.col_count, tally)
-            }
-            Order::ColumnMajor => reverse_lines(
-                &mut self.flat,
-                self.col_count,
-                self.row_count,
-                tally,
-            ),
-        }
+        let order = flipped(self.order);
+        flip_stored(&mut self.flat, order, self.col_count, self.row_count, tally);
     }
 
     // As `rotate_half`, and adds the swaps to the symmetry count of the tally.
@@ -203,5 +193,36 @@ impl<T, A: Allocator> Grid<T, A> {
     {
         let len = self.row_count * self.col_count;
         self.flat.reverse_for_symmetry(0, len, tally);
+    }
+}
+
+// Returns the other order. In it the same vector stores the transposed table.
+pub(crate) fn flipped(order: Order) -> Order
+    ensures { result ≡ flipped order }
+{
+    match order {
+        Order::RowMajor => Order::ColumnMajor,
+        Order::ColumnMajor => Order::RowMajor,
+    }
+}
+
+// Reverses the rows of the table of `rows` rows and `cols` columns that a vector stores in an order.
+fn flip_stored<T, A: Allocator>(
+    flat: &mut Flat<T, A>,
+    order: Order,
+    rows: usize,
+    cols: usize,
+    tally: &mut Tally,
+)
+    requires { HoldsSize rows cols (length flat.old) }
+    ensures cells { length flat.new ≡ length flat.old }
+    ensures rows { table_of order rows cols flat.new ≡ act FlipRows (table_of order rows cols flat.old) }
+    ensures symmetry { tally.new.symmetry
+        ≡ saturating_count tally.old.symmetry (price FlipRows rows cols) }
+    ensures shift { tally.new.shift ≡ tally.old.shift }
+{
+    match order {
+        Order::RowMajor => reverse_lines(flat, rows, cols, tally),
+        Order::ColumnMajor => reverse_each_line(flat, cols, rows, tally),
     }
 }

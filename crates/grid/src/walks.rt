@@ -11,14 +11,11 @@ ghost use Rattle.grid_base.specs.Places.{places};
 ghost use Rattle.grid_base.specs.IndexedIterMut.{indexed_mut_rest};
 
 mod all_cells;
-mod cols;
-mod rows;
-mod span;
+mod lines;
 
 use crate::Grid;
-pub use cols::GridColIter;
 use grid_base::{IndexedIntoIter, IndexedIter, IndexedIterMut};
-pub use rows::GridRowIter;
+pub use lines::GridColIter;
 use std::alloc::Allocator;
 use std::{slice, vec};
 

@@ -13,6 +13,8 @@ pub mod Append
 pub mod Places
 pub mod Remaining
 pub mod Strides
+pub mod Span
+pub mod RowsLeft
 pub mod GridLineIterMut
 pub mod IndexedIterMut
 pub mod FlatLends

@@ -12,6 +12,8 @@ mod line_iter;
 mod lines;
 mod order;
 mod places;
+mod row_iter;
+mod span;
 mod strides;
 mod tally;
 #[cfg(test)]
@@ -21,6 +23,7 @@ mod whole;
 pub use indexed::{IndexedIntoIter, IndexedIter, IndexedIterMut};
 pub use line_iter::GridLineIter;
 pub use order::Order;
+pub use row_iter::GridRowIter;
 use std::alloc::{Allocator, Global};
 use std::marker::Model;
 pub use strides::GridLineIterMut;

@@ -1,7 +1,7 @@
 //! Whether a walk hands out what it should. Each goes through a walk to its end, and compares each step.
 use crate::edits::LineAt;
 use crate::plain;
-use grid::{Grid, GridColIter, GridLineIter, GridRowIter, IndexedIntoIter, IndexedIter};
+use grid::{Grid, GridLineIter, GridRowIter, IndexedIntoIter, IndexedIter};
 use std::alloc::{AllocError, Allocator};
 use std::{slice, vec};
 
@@ -156,57 +156,24 @@ fn is_line(
     }
 }
 
-// A walk over all rows or all columns.
-#[derive(Drop)]
-pub enum Lines<'a> {
-    Rows(GridRowIter<'a, u32>),
-    Cols(GridColIter<'a, u32>),
-}
-
-impl<'a> Lines<'a> {
-    fn copied(&self) -> Result<Lines<'a>, AllocError> {
-        match self {
-            Lines::Rows(rows) => Ok(Lines::Rows(rows.clone()?)),
-            Lines::Cols(cols) => Ok(Lines::Cols(cols.clone()?)),
-        }
-    }
-
-    // Whether the walk says that `left` lines remain.
-    fn counts(&self, left: usize) -> bool {
-        match self {
-            Lines::Rows(rows) => rows.len() == left && rows.size_hint() == (left, Some(left)),
-            Lines::Cols(cols) => cols.len() == left && cols.size_hint() == (left, Some(left)),
-        }
-    }
-
-    fn next(&mut self) -> Option<GridLineIter<'a, u32>> {
-        match self {
-            Lines::Rows(rows) => rows.next(),
-            Lines::Cols(cols) => cols.next(),
-        }
-    }
-
-    fn next_back(&mut self) -> Option<GridLineIter<'a, u32>> {
-        match self {
-            Lines::Rows(rows) => rows.next_back(),
-            Lines::Cols(cols) => cols.next_back(),
-        }
-    }
+// Whether a walk over lines says that `left` of them remain.
+fn counts(lines: &GridRowIter<'_, u32>, left: usize) -> bool {
+    lines.len() == left && lines.size_hint() == (left, Some(left))
 }
 
 // Whether a walk says that `left` lines remain, and the next is this one.
 fn lines_stand_at(
-    mut lines: Lines<'_>,
+    mut lines: GridRowIter<'_, u32>,
     left: usize,
     want: Option<&Vec<u32>>,
 ) -> Result<bool, AllocError> {
-    Ok(lines.counts(left) && is_line(lines.next(), want)?)
+    Ok(counts(&lines, left) && is_line(lines.next(), want)?)
 }
 
-// A walk over lines hands out these, where bit i of the pattern says whether the i-th is taken from the front. It and a
-// clone of it say at each step how many are left, and the clone which is next.
+// A walk over rows or columns hands out these, where bit i of the pattern says whether the i-th is taken from the front.
+// It and a clone of it say at each step how many are left, and the clone which is next.
 pub fn lines_read(
-    mut lines: Lines<'_>,
+    mut lines: GridRowIter<'_, u32>,
     want: &[Vec<u32>],
     pattern: u32,
 ) -> Result<bool, AllocError> {
@@ -215,7 +182,7 @@ pub fn lines_read(
     let mut bits = pattern;
     for _ in 0..want.len() {
         let left = back.wrapping_sub(front);
-        if !lines.counts(left) || !lines_stand_at(lines.copied()?, left, want.get(front))? {
+        if !counts(&lines, left) || !lines_stand_at(lines.clone()?, left, want.get(front))? {
             return Ok(false);
         }
         let (line, number) = if bits % 2 == 0 {
@@ -230,7 +197,7 @@ pub fn lines_read(
             return Ok(false);
         }
     }
-    Ok(lines.counts(0) && lines.next().is_none() && lines.next_back().is_none())
+    Ok(counts(&lines, 0) && lines.next().is_none() && lines.next_back().is_none())
 }
 
 // Writes along the line at a place, by an iterator that says that it has `len` cells; returns whether there is a line.

@@ -1,14 +1,14 @@
 //! Walks over all small tables and both orders, beside plain walks over the plain program's rows.
 use crate::asserts::assert_shows;
-use grid::{Grid, Order, Symmetry};
+use grid::{Grid, GridRowIter, Order, Symmetry};
 use grid_reference::edits::LineAt;
 use grid_reference::fixtures::{
     ORDERS, SIZES, grid_of, numbered, places_of, put_cell, shows_count,
 };
 use grid_reference::plain;
 use grid_reference::walks::{
-    Lines, gives, gives_at, gives_back, lends_at, line_reads, lines_read, reads, reads_at,
-    reads_back, write_along,
+    gives, gives_at, gives_back, lends_at, line_reads, lines_read, reads, reads_at, reads_back,
+    write_along,
 };
 use std::alloc::{AllocError, Global};
 use std::process::Abort;
@@ -140,21 +140,15 @@ fn clones_lines_that_have_moved(rt: HostRuntime) -> Result<(), Fail> {
     Ok(())
 }
 
-// All rows, taken from the two ends in every way, also by a clone.
-fn check_all_rows(rt: &impl Abort, grid: &Grid<u32>, rows: &[Vec<u32>]) -> Result<(), Fail> {
+// All rows or all columns, taken from the two ends in every way, also by a clone.
+fn check_both_ends(
+    rt: &impl Abort,
+    walk: GridRowIter<'_, u32>,
+    lines: &[Vec<u32>],
+) -> Result<(), Fail> {
     for pattern in 0..8u32 {
-        let walk = grid.iter_rows();
-        assert!(rt; lines_read(Lines::Rows(walk.clone()?), rows, pattern)?);
-        assert!(rt; lines_read(Lines::Rows(walk), rows, !pattern)?);
-    }
-    Ok(())
-}
-
-fn check_all_cols(rt: &impl Abort, grid: &Grid<u32>, cols: &[Vec<u32>]) -> Result<(), Fail> {
-    for pattern in 0..8u32 {
-        let walk = grid.iter_cols();
-        assert!(rt; lines_read(Lines::Cols(walk.clone()?), cols, pattern)?);
-        assert!(rt; lines_read(Lines::Cols(walk), cols, !pattern)?);
+        assert!(rt; lines_read(walk.clone()?, lines, pattern)?);
+        assert!(rt; lines_read(walk.clone()?, lines, !pattern)?);
     }
     Ok(())
 }
@@ -167,8 +161,8 @@ fn check_all_lines(
 ) -> Result<(), Fail> {
     let turned = plain::act(alloc, Symmetry::Transpose, table)?;
     let grid = grid_of(alloc, table, order)?;
-    check_all_rows(rt, &grid, table.as_slice())?;
-    check_all_cols(rt, &grid, turned.as_slice())
+    check_both_ends(rt, grid.iter_rows(), table.as_slice())?;
+    check_both_ends(rt, grid.iter_cols(), turned.as_slice())
 }
 
 #[test]

@@ -6,35 +6,26 @@ ghost use Rattle.std.specs.Iterator.{YieldsFirstRef, YieldsLastRef, item_count, 
 ghost use Rattle.std.specs.Iterator.SizeHint.{IsWithinCount};
 ghost use Rattle.grid_base.specs.Strides.{strided, LinesInOrder, LinesInReverse};
 
-use super::Flat;
-use std::alloc::{AllocError, Allocator};
+use super::span::Span;
+use std::alloc::AllocError;
 use std::iter::FusedIterator;
 use std::marker::Model;
 use std::ops::Range;
 
-impl<T, A: Allocator> Flat<T, A> {
-    /// Returns an iterator over the cells from `start` on and before `end`, each `stride` places after the one before
-    /// it.
-    ///
-    ///     [1, 2, 3, 4, 5, 6]   line(1, 6, 2, 3)   2, 4, 6
-    ///
-    /// Requires: `start` is at most `end`, which is at most the number of cells; `stride` is not 0; `count` is the
-    /// number of cells of the line, handed in so that nothing is divided here.
-    pub fn line(&self, start: usize, end: usize, stride: usize, count: usize) -> GridLineIter<'_, T>
-        requires ordered { start ≤ end }
-        requires within { end ≤ length self.now }
-        requires steps { 0 < stride }
-        requires counted { count ≡ div_ceil (end - start) stride }
-        ensures rest { result ≡ strided start end stride self.now }
-        ensures runs { LinesInOrder T }
-        ensures runs_back { LinesInReverse T }
-    {
-        let cells = self.as_slice();
-        GridLineIter {
-            cells: &cells[start..end],
-            stride,
-            ahead: 0..count,
-        }
+// Returns an iterator over the cells of a slice at the places of a span.
+pub(super) fn line_of<T>(cells: &[T], span: Span) -> GridLineIter<'_, T>
+    requires ordered { span.start ≤ span.end }
+    requires within { span.end ≤ length cells.now }
+    requires steps { 0 < span.stride }
+    requires counted { span.count ≡ div_ceil (span.end - span.start) span.stride }
+    ensures rest { result ≡ strided span.start span.end span.stride cells.now }
+    ensures runs { LinesInOrder T }
+    ensures runs_back { LinesInReverse T }
+{
+    GridLineIter {
+        cells: &cells[span.start..span.end],
+        stride: span.stride,
+        ahead: 0..span.count,
     }
 }
 

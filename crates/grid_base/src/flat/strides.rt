@@ -26,13 +26,14 @@ impl<T, A: Allocator> Flat<T, A> {
         self.cells.as_mut_slice().iter_mut()
     }
 
-    /// Returns an iterator over the cells from `start` on and before `end`, each `stride` places after the one before
-    /// it, for writing.
-    ///
-    ///     [1, 2, 3, 4, 5, 6]   line_mut(1, 6, 2)   2, 4, 6
-    ///
-    /// Requires: `start` is at most `end`, which is at most the number of cells; `stride` is not 0.
-    pub fn line_mut(&mut self, start: usize, end: usize, stride: usize) -> GridLineIterMut<'_, T>
+    // Returns an iterator over the cells from `start` on and before `end`, each `stride` places after the one before
+    // it, for writing.
+    pub(super) fn line_mut(
+        &mut self,
+        start: usize,
+        end: usize,
+        stride: usize,
+    ) -> GridLineIterMut<'_, T>
         requires ordered { start ≤ end }
         requires within { end ≤ length self.old }
         requires steps { 0 < stride }

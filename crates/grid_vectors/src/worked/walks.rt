@@ -27,39 +27,19 @@ fn is_line(line: Option<GridLineIter<'_, u32>>, want: Option<&[u32]>) -> bool {
     }
 }
 
-fn next_row<'a>(
-    rows: &mut GridRowIter<'a, u32, Global>,
-    end: End,
-) -> Option<GridLineIter<'a, u32>> {
+fn next_line<'a>(lines: &mut GridRowIter<'a, u32>, end: End) -> Option<GridLineIter<'a, u32>> {
     match end {
-        Front => rows.next(),
-        Back => rows.next_back(),
+        Front => lines.next(),
+        Back => lines.next_back(),
     }
 }
 
-fn next_col<'a>(
-    cols: &mut GridColIter<'a, u32, Global>,
-    end: End,
-) -> Option<GridLineIter<'a, u32>> {
-    match end {
-        Front => cols.next(),
-        Back => cols.next_back(),
-    }
-}
-
-fn check_rows(rt: &impl Abort, mut rows: GridRowIter<'_, u32, Global>, handed: &[Handed]) {
+// Goes through a walk over rows or columns.
+fn check_lines(rt: &impl Abort, mut lines: GridRowIter<'_, u32>, handed: &[Handed]) {
     for (end, want, left) in handed {
-        let met = is_line(next_row(&mut rows, *end), *want);
+        let met = is_line(next_line(&mut lines, *end), *want);
         assert!(rt; met, "{want:?} comes from the {end:?}");
-        assert_eq!(rt; rows.len(), *left);
-    }
-}
-
-fn check_cols(rt: &impl Abort, mut cols: GridColIter<'_, u32, Global>, handed: &[Handed]) {
-    for (end, want, left) in handed {
-        let met = is_line(next_col(&mut cols, *end), *want);
-        assert!(rt; met, "{want:?} comes from the {end:?}");
-        assert_eq!(rt; cols.len(), *left);
+        assert_eq!(rt; lines.len(), *left);
     }
 }
 
@@ -78,7 +58,7 @@ fn rows_from_both_ends(rt: HostRuntime) -> Result<(), Fail> {
     ];
     for order in ORDERS {
         let grid = grid_with(rt.alloc(), TALL, order)?;
-        check_rows(&rt, grid.iter_rows(), &HANDED);
+        check_lines(&rt, grid.iter_rows(), &HANDED);
     }
     Ok(())
 }
@@ -94,7 +74,8 @@ fn cols_from_both_ends(rt: HostRuntime) -> Result<(), Fail> {
     ];
     for order in ORDERS {
         let grid = grid_with(rt.alloc(), WIDE, order)?;
-        check_cols(&rt, grid.iter_cols(), &HANDED);
+        let cols: GridColIter<'_, u32> = grid.iter_cols();
+        check_lines(&rt, cols, &HANDED);
     }
     Ok(())
 }
@@ -106,33 +87,23 @@ fn push_line(cells: &mut Vec<u32>, line: GridLineIter<'_, u32>) -> Result<(), Al
     Ok(())
 }
 
-// The cells of the rows, the last row first.
-fn rows_back(alloc: Global, grid: &Grid<u32>) -> Result<Vec<u32>, AllocError> {
+// The cells of the lines, the last line first.
+fn cells_back(alloc: Global, lines: GridRowIter<'_, u32>) -> Result<Vec<u32>, AllocError> {
     let mut cells = Vec::new(alloc);
-    for line in grid.iter_rows().rev() {
+    for line in lines.rev() {
         push_line(&mut cells, line)?;
     }
     Ok(cells)
 }
 
-// The cells of the columns, the last column first.
-fn cols_back(alloc: Global, grid: &Grid<u32>) -> Result<Vec<u32>, AllocError> {
-    let mut cells = Vec::new(alloc);
-    for line in grid.iter_cols().rev() {
-        push_line(&mut cells, line)?;
-    }
-    Ok(cells)
-}
-
-fn check_rows_back(rt: &impl Abort, alloc: Global, grid: &Grid<u32>) -> Result<(), AllocError> {
-    let rows = rows_back(alloc, grid)?;
-    assert_eq!(rt; rows.as_slice(), [5, 6, 3, 4, 1, 2].as_slice());
-    Ok(())
-}
-
-fn check_cols_back(rt: &impl Abort, alloc: Global, grid: &Grid<u32>) -> Result<(), AllocError> {
-    let cols = cols_back(alloc, grid)?;
-    assert_eq!(rt; cols.as_slice(), [2, 4, 6, 1, 3, 5].as_slice());
+fn check_back(
+    rt: &impl Abort,
+    alloc: Global,
+    lines: GridRowIter<'_, u32>,
+    want: &[u32],
+) -> Result<(), AllocError> {
+    let cells = cells_back(alloc, lines)?;
+    assert_eq!(rt; cells.as_slice(), want);
     Ok(())
 }
 
@@ -140,8 +111,8 @@ fn check_cols_back(rt: &impl Abort, alloc: Global, grid: &Grid<u32>) -> Result<(
 fn lines_last_first(rt: HostRuntime) -> Result<(), Fail> {
     for order in ORDERS {
         let grid = grid_with(rt.alloc(), TALL, order)?;
-        check_rows_back(&rt, rt.alloc(), &grid)?;
-        check_cols_back(&rt, rt.alloc(), &grid)?;
+        check_back(&rt, rt.alloc(), grid.iter_rows(), &[5, 6, 3, 4, 1, 2])?;
+        check_back(&rt, rt.alloc(), grid.iter_cols(), &[2, 4, 6, 1, 3, 5])?;
     }
     Ok(())
 }

@@ -1,20 +1,15 @@
-use Rattle.std.proofs.Common.{arith}
-use Rattle.grid.proofs.FlipLemmas.{flip_cols_by_lines, flip_cols_by_each}
+use Rattle.grid_base.proofs.ViewLemmas.{HoldsSize-transposed}
+use Rattle.grid.proofs.FlipLemmas.{flip_cols_across, price_across}
 use Rattle.grid.proofs.SeenLemmas.{seen_rows, seen_cols}
 use Rattle.grid.proofs.grid.Grid.flip_cols_counted.Goals as goal
 
-pub returns-in-RowMajor-clause-rows : goal.returns-in-RowMajor-clause-rows
-returns-in-RowMajor-clause-rows g c =
-    rw (← c.self.view_is, c.in-RowMajor.is) (flip_cols_by_each _ _ _ _ c.self.invariant c.reverse_each_line.ensures.moved)
+pub flip_stored-requires : goal.flip_stored-requires
+flip_stored-requires g c = HoldsSize-transposed _ _ _ c.self.invariant
 
-pub returns-in-RowMajor-clause-symmetry : goal.returns-in-RowMajor-clause-symmetry
-returns-in-RowMajor-clause-symmetry g c =
-    rw (seen_rows _ _ _ _ _ c.self.invariant c.self.view_is, seen_cols _ _ _ _ _ c.self.invariant c.self.view_is) c.reverse_each_line.ensures.symmetry
+pub returns-clause-rows : goal.returns-clause-rows
+returns-clause-rows g c =
+    rw (← c.self.view_is) (flip_cols_across _ _ _ _ _ c.self.invariant c.flip_stored.ensures.cells (rw c.flipped-order.ensures at c.flip_stored.ensures.rows))
 
-pub returns-in-ColumnMajor-clause-rows : goal.returns-in-ColumnMajor-clause-rows
-returns-in-ColumnMajor-clause-rows g c =
-    rw (← c.self.view_is, c.in-ColumnMajor.is) (flip_cols_by_lines _ _ _ _ c.self.invariant c.reverse_lines.ensures.moved)
-
-pub returns-in-ColumnMajor-clause-symmetry : goal.returns-in-ColumnMajor-clause-symmetry
-returns-in-ColumnMajor-clause-symmetry g c =
-    rw (seen_rows _ _ _ _ _ c.self.invariant c.self.view_is, seen_cols _ _ _ _ _ c.self.invariant c.self.view_is) (omega arith)
+pub returns-clause-symmetry : goal.returns-clause-symmetry
+returns-clause-symmetry g c =
+    rw (seen_rows _ _ _ _ _ c.self.invariant c.self.view_is, seen_cols _ _ _ _ _ c.self.invariant c.self.view_is, ← price_across c.self.inside.row_count c.self.inside.col_count) c.flip_stored.ensures.symmetry

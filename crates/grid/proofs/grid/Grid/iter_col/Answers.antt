@@ -1,18 +1,20 @@
-use Rattle.std.proofs.Common.{◌<◌, ◌∙◌, sym, arith}
+use Rattle.std.proofs.Common.{◌∙◌, ap, arith}
+use Rattle.grid_base.specs.Table.{row}
+use Rattle.grid_base.specs.Order.{table_of}
+use Rattle.grid_base.proofs.ViewLemmas.{HoldsSize-transposed}
 use Rattle.grid.proofs.SeenLemmas.{seen_cols}
-use Rattle.grid.proofs.SpanLemmas.{seen_col}
+use Rattle.grid.proofs.SeenWalkLemmas.{seen_transposed}
 use Rattle.grid.proofs.grid.Grid.iter_col.Goals as goal
 
-pub col_span-span-requires-clause-col_in : goal.col_span-span-requires-clause-col_in
-col_span-span-requires-clause-col_in g c = omega (arith, seen_cols _ _ _ _ _ c.self.invariant c.self.view_is, c.requires)
+pub row-requires-clause-size : goal.row-requires-clause-size
+row-requires-clause-size g c = HoldsSize-transposed _ _ _ c.self.invariant
 
-pub col_span-span-requires-clause-tall : goal.col_span-span-requires-clause-tall
-col_span-span-requires-clause-tall g c = let lt : c.args.c < c.self.inside.col_count = omega (arith, seen_cols _ _ _ _ _ c.self.invariant c.self.view_is, c.requires) in c.self.invariant.size.has_rows (omega arith)
+pub row-requires-clause-row_in : goal.row-requires-clause-row_in
+row-requires-clause-row_in g c = omega (arith, seen_cols _ _ _ _ _ c.self.invariant c.self.view_is, c.requires)
 
 pub returns-clause-rest : goal.returns-clause-rest
 returns-clause-rest g c =
-    let lt : c.args.c < c.self.inside.col_count = omega (arith, seen_cols _ _ _ _ _ c.self.invariant c.self.view_is, c.requires) in
-    c.line.ensures.rest ∙ seen_col _ _ _ _ _ c.self.invariant _ c.self.view_is _ lt c.col_span-span.ensures
-
-pub line-requires-clause-counted : goal.line-requires-clause-counted
-line-requires-clause-counted g c = c.col_span-span.ensures.len ∙ sym c.col_span-span.ensures.count
+    let s = c.self.inside in
+    c.row.ensures.rest
+    ∙ (ap (λ o. row (table_of o s.col_count s.row_count s.flat) c.args.c) c.flipped-order.ensures
+    ∙ ap (λ t. row t c.args.c) (seen_transposed _ _ _ _ _ c.self.invariant c.self.view_is))

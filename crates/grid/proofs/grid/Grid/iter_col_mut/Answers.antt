@@ -1,20 +1,28 @@
-use Rattle.std.proofs.Common.{◌<◌, ◌∙◌, arith, refl}
+use Rattle.std.proofs.Common.{◌∙◌, ap, arith, refl}
+use Rattle.grid_base.specs.Table.{row}
+use Rattle.grid_base.specs.Order.{place, table_of}
+use Rattle.grid_base.proofs.ViewLemmas.{HoldsSize-transposed}
 use Rattle.grid.proofs.SeenLemmas.{seen_cols}
-use Rattle.grid.proofs.SpanLemmas.{seen_col}
-use Rattle.grid.proofs.SeenWalkLemmas.{seen_written, seen_keeps_from, first_place}
+use Rattle.grid.proofs.SeenWalkLemmas.{seen_written, seen_keeps_from, seen_transposed, place_flipped}
 use Rattle.grid.proofs.grid.Grid.iter_col_mut.Goals as goal
 
-pub col_span-span-requires-clause-col_in : goal.col_span-span-requires-clause-col_in
-col_span-span-requires-clause-col_in g c = omega (arith, seen_cols _ _ _ _ _ c.self.invariant c.self.view_is, c.requires)
+pub row_mut-requires-clause-size : goal.row_mut-requires-clause-size
+row_mut-requires-clause-size g c = HoldsSize-transposed _ _ _ c.self.invariant
 
-pub col_span-span-requires-clause-tall : goal.col_span-span-requires-clause-tall
-col_span-span-requires-clause-tall g c = let lt : c.args.c < c.self.inside.col_count = omega (arith, seen_cols _ _ _ _ _ c.self.invariant c.self.view_is, c.requires) in c.self.invariant.size.has_rows (omega arith)
+pub row_mut-requires-clause-row_in : goal.row_mut-requires-clause-row_in
+row_mut-requires-clause-row_in g c = omega (arith, seen_cols _ _ _ _ _ c.self.invariant c.self.view_is, c.requires)
 
 pub returns : goal.returns
 returns g c =
-    let lt : c.args.c < c.self.inside.col_count = omega (arith, seen_cols _ _ _ _ _ c.self.invariant c.self.view_is, c.requires) in
-    let some = c.self.invariant.size.has_rows (omega arith) in
-    let first = first_place _ _ _ _ c.col_span-span.ensures some in (
+    let s = c.self.inside in
+    let first = ap (λ o. place o s.col_count s.row_count c.args.c 0) c.flipped-order.ensures ∙ place_flipped s.order s.row_count s.col_count 0 c.args.c in (
       (refl, λ w. seen_written _ _ _ _ _ c.self.invariant c.self.view_is _ _ _ w first),
-      record { writes_back = tt; keeps = seen_keeps_from _ _ _ _ _ c.self.invariant c.self.view_is _ _; rest = c.line_mut.ensures.rest ∙ seen_col _ _ _ _ _ c.self.invariant _ c.self.view_is _ lt c.col_span-span.ensures },
+      record {
+        writes_back = tt;
+        keeps = seen_keeps_from _ _ _ _ _ c.self.invariant c.self.view_is _ _;
+        rest =
+            c.row_mut.ensures.rest
+            ∙ (ap (λ o. row (table_of o s.col_count s.row_count s.flat) c.args.c) c.flipped-order.ensures
+            ∙ ap (λ t. row t c.args.c) (seen_transposed _ _ _ _ _ c.self.invariant c.self.view_is));
+      },
     )

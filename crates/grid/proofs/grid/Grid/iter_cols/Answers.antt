@@ -1,24 +1,20 @@
-use Rattle.std.proofs.Common.{arith, ◌∙◌, sym}
-use Rattle.grid.proofs.SeenLemmas.{seen_cols}
-use Rattle.grid_base.proofs.TableLemmas.{rows-tabulate}
-use Rattle.grid_base.proofs.StrideLemmas.{lines_in_order, lines_in_reverse, each_line_in_order, each_line_in_reverse}
-use Rattle.grid_base.proofs.RemainingLemmas.{remaining_all}
+use Rattle.std.proofs.Common.{◌∙◌, ap, length, arith}
+use Rattle.grid_base.specs.Order.{table_of}
+use Rattle.grid_base.proofs.ViewLemmas.{view-rows, HoldsSize-transposed}
+use Rattle.grid.proofs.SeenWalkLemmas.{seen_transposed}
 use Rattle.grid.proofs.grid.Grid.iter_cols.Goals as goal
 
-pub invariant_of-result : goal.invariant_of-result
-invariant_of-result g c = record { ordered = omega arith; within = omega (arith, seen_cols _ _ _ _ _ c.self.invariant c.self.view_is) }
+pub rows-requires : goal.rows-requires
+rows-requires g c = HoldsSize-transposed _ _ _ c.self.invariant
 
 pub returns-clause-rest : goal.returns-clause-rest
-returns-clause-rest g c = remaining_all _ _ (sym (seen_cols _ _ _ _ _ c.self.invariant c.self.view_is) ∙ sym (rows-tabulate _ _ _))
+returns-clause-rest g c =
+    let s = c.self.inside in
+    c.rows.ensures.rest
+    ∙ (ap (λ o. table_of o s.col_count s.row_count s.flat) c.flipped-order.ensures ∙ seen_transposed _ _ _ _ _ c.self.invariant c.self.view_is)
 
-pub returns-clause-runs : goal.returns-clause-runs
-returns-clause-runs g c = each_line_in_order _
-
-pub returns-clause-runs_back : goal.returns-clause-runs_back
-returns-clause-runs_back g c = each_line_in_reverse _
-
-pub returns-clause-along : goal.returns-clause-along
-returns-clause-along g c = lines_in_order _
-
-pub returns-clause-along_back : goal.returns-clause-along_back
-returns-clause-along_back g c = lines_in_reverse _
+pub returns-clause-fits : goal.returns-clause-fits
+returns-clause-fits g c =
+    let s = c.self.inside in
+    let rows = view-rows c.flipped-order.result s.col_count s.row_count s.flat (HoldsSize-transposed _ _ _ c.self.invariant) in
+    omega (arith, ap length c.rows.ensures.rest, rows)

@@ -1,18 +1,10 @@
-use Rattle.std.proofs.Common.{◌<◌, ◌∙◌, sym, arith}
+use Rattle.std.proofs.Common.{◌∙◌, ap, arith}
+use Rattle.grid_base.specs.Table.{row}
 use Rattle.grid.proofs.SeenLemmas.{seen_rows}
-use Rattle.grid.proofs.SpanLemmas.{seen_row}
 use Rattle.grid.proofs.grid.Grid.iter_row.Goals as goal
 
-pub row_span-span-requires-clause-row_in : goal.row_span-span-requires-clause-row_in
-row_span-span-requires-clause-row_in g c = omega (arith, seen_rows _ _ _ _ _ c.self.invariant c.self.view_is, c.requires)
-
-pub row_span-span-requires-clause-wide : goal.row_span-span-requires-clause-wide
-row_span-span-requires-clause-wide g c = let lt : c.args.r < c.self.inside.row_count = omega (arith, seen_rows _ _ _ _ _ c.self.invariant c.self.view_is, c.requires) in c.self.invariant.size.has_cols (omega arith)
+pub row-requires-clause-row_in : goal.row-requires-clause-row_in
+row-requires-clause-row_in g c = omega (arith, seen_rows _ _ _ _ _ c.self.invariant c.self.view_is, c.requires)
 
 pub returns-clause-rest : goal.returns-clause-rest
-returns-clause-rest g c =
-    let lt : c.args.r < c.self.inside.row_count = omega (arith, seen_rows _ _ _ _ _ c.self.invariant c.self.view_is, c.requires) in
-    c.line.ensures.rest ∙ seen_row _ _ _ _ _ c.self.invariant _ c.self.view_is _ lt c.row_span-span.ensures
-
-pub line-requires-clause-counted : goal.line-requires-clause-counted
-line-requires-clause-counted g c = c.row_span-span.ensures.len ∙ sym c.row_span-span.ensures.count
+returns-clause-rest g c = c.row.ensures.rest ∙ ap (λ x. row x.rows c.args.r) c.self.view_is

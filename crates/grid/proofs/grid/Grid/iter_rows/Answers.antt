@@ -1,23 +1,12 @@
-use Rattle.std.proofs.Common.{arith}
-use Rattle.grid.proofs.SeenLemmas.{seen_rows}
-use Rattle.grid_base.proofs.StrideLemmas.{lines_in_order, lines_in_reverse, each_line_in_order, each_line_in_reverse}
-use Rattle.grid_base.proofs.RemainingLemmas.{remaining_all}
+use Rattle.std.proofs.Common.{◌∙◌, ap, length, arith}
+use Rattle.grid_base.proofs.ViewLemmas.{view-rows}
 use Rattle.grid.proofs.grid.Grid.iter_rows.Goals as goal
 
-pub invariant_of-result : goal.invariant_of-result
-invariant_of-result g c = record { ordered = omega arith; within = omega (arith, seen_rows _ _ _ _ _ c.self.invariant c.self.view_is) }
-
 pub returns-clause-rest : goal.returns-clause-rest
-returns-clause-rest g c = remaining_all _ _ (omega (arith, seen_rows _ _ _ _ _ c.self.invariant c.self.view_is))
+returns-clause-rest g c = c.rows.ensures.rest ∙ ap (λ x. x.rows) c.self.view_is
 
-pub returns-clause-runs : goal.returns-clause-runs
-returns-clause-runs g c = each_line_in_order _
-
-pub returns-clause-runs_back : goal.returns-clause-runs_back
-returns-clause-runs_back g c = each_line_in_reverse _
-
-pub returns-clause-along : goal.returns-clause-along
-returns-clause-along g c = lines_in_order _
-
-pub returns-clause-along_back : goal.returns-clause-along_back
-returns-clause-along_back g c = lines_in_reverse _
+pub returns-clause-fits : goal.returns-clause-fits
+returns-clause-fits g c =
+    let s = c.self.inside in
+    let rows = view-rows s.order s.row_count s.col_count s.flat c.self.invariant in
+    omega (arith, ap length c.rows.ensures.rest, rows)

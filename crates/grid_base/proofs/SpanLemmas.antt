@@ -1,0 +1,71 @@
+-- The rows of a stored table as lines of its storage; of this crate alone.
+use Rattle.std.proofs.Common.{◌≡◌, ℕ, ◌+◌, ◌-◌, ◌*◌, ◌/◌, ◌<◌, ◌≤◌, List, length, refl, sym, ◌∙◌, ap, arith}
+use Rattle.std.proofs.Math.Nat.{mul-le-mul_right}
+use Rattle.std.proofs.lemmas.Nat.{div-mul-add}
+use Rattle.std.specs.List.{slice_get}
+use Rattle.std.specs.Int.{div_ceil}
+use Rattle.grid_base.specs.declared.flat.order.Order.{Order}
+use Rattle.grid_base.specs.declared.flat.span.Span.{Span}
+use Rattle.grid_base.specs.Table.{row}
+use Rattle.grid_base.specs.Order.{place, table_of}
+use Rattle.grid_base.specs.GridValue.{HoldsSize}
+use Rattle.grid_base.specs.Strides.{strided}
+use Rattle.grid_base.specs.Span.{IsSpan}
+use Rattle.grid_base.proofs.TableLemmas.{width-tabulate, same_cells}
+use Rattle.grid_base.proofs.StorageLemmas.{IsFull-table_of}
+use Rattle.grid_base.proofs.StrideLemmas.{get-strided, length-line_of, ceil_is}
+use Rattle.grid_base.proofs.ViewLemmas.{view-cell}
+
+-- a line whose cells stand one after another
+pub together_is : (p q i : ℕ) → i < p → IsSpan q (λ k. i * q + k) (p * q) (record { start = i * q; end = i * q + q; stride = 1; count = q })
+together_is p q i h =
+    let all : (i + 1) * q ≤ p * q = mul-le-mul_right q (omega arith) in
+    record {
+      len = refl;
+      steps = omega arith;
+      ordered = omega arith;
+      within = omega (arith, all);
+      count = omega arith;
+      places = λ k l. omega arith;
+      inside = λ k l. omega arith;
+    }
+
+-- how many steps of q there are from i to p * q
+steps_across : (p q i : ℕ) → 0 < p → i < q → div_ceil (p * q - i) q ≡ p
+steps_across p q i some h =
+    let one : q - 1 + 1 ≡ q = omega arith in
+    let all : 1 * q ≤ p * q = mul-le-mul_right q some in
+    let e : p * q - i + (q - 1) ≡ p * (q - 1 + 1) + (q - 1 - i) = omega (arith, ap (λ x. p * x) one) in
+    sym (ap (div_ceil (p * q - i)) one)
+    ∙ (sym (ceil_is (p * q - i) (q - 1)) ∙ (ap (λ x. x / (q - 1 + 1)) e ∙ div-mul-add p (q - 1 + 1) (q - 1 - i) (omega arith)))
+
+-- one cell of each line
+pub across_is : (p q i : ℕ) → 0 < p → i < q → IsSpan p (λ k. k * q + i) (p * q) (record { start = i; end = p * q; stride = q; count = p })
+across_is p q i some h =
+    let all : 1 * q ≤ p * q = mul-le-mul_right q some in
+    record {
+      len = refl;
+      steps = omega arith;
+      ordered = omega (arith, all);
+      within = omega arith;
+      count = steps_across p q i some h;
+      places = λ k l. omega arith;
+      inside = λ k l. let more : (k + 1) * q ≤ p * q = mul-le-mul_right q (omega arith) in omega (arith, more);
+    }
+
+-- the first place of a line
+pub first_place : (n : ℕ) (at : ℕ → ℕ) (len : ℕ) (s : Span) → IsSpan n at len s → 0 < n → s.start ≡ at 0
+first_place n at len s h some = let first = h.places 0 some in omega (arith, first)
+
+-- the cells of a line, if it is a row of the table that is stored
+module _ {T : Type 0} (o : Order) (m n : ℕ) (cells : List T) (fits : HoldsSize m n (length cells)) (s : Span) (r : ℕ) (lr : r < m) (h : IsSpan n (λ c. place o m n r c) (m * n) s) where
+  pub span_within : s.end ≤ length cells
+  span_within = omega (arith, h.within, fits.cells)
+
+  pub row_is : strided s.start s.end s.stride cells ≡ row (table_of o m n cells) r
+  row_is =
+      let len : length (strided s.start s.end s.stride cells) ≡ n = length-line_of s.start s.end s.stride cells h.steps span_within ∙ h.count in
+      same_cells _ _ (len ∙ sym (width-tabulate m n _ r (IsFull-table_of o m n cells fits.cells) lr))
+      (λ c lt.
+      let lc : c < n = omega (arith, len) in
+      get-strided s.start s.end s.stride c cells h.steps (h.inside c lc) ∙ (ap (slice_get cells) (h.places c lc) ∙ sym (view-cell o m n cells fits r c lr lc)))

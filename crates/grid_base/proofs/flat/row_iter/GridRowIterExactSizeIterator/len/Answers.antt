@@ -1,0 +1,14 @@
+use Rattle.std.proofs.Common.{sym, ◌∙◌, ap, length, arith}
+use Rattle.grid_base.specs.Order.{table_of}
+use Rattle.grid_base.proofs.RemainingLemmas.{length-left}
+use Rattle.grid_base.proofs.ViewLemmas.{view-rows}
+use Rattle.grid_base.proofs.flat.row_iter.GridRowIterExactSizeIterator.len.Goals as goal
+
+pub returns-clause-value : goal.returns-clause-value
+returns-clause-value g c =
+    let a = c.self.inside in
+    let i = c.self.invariant in
+    let rows = view-rows a.order a.row_count a.col_count a.cells.now i.holds in
+    c.len.ensures.value
+    ∙ (sym (length-left a.ahead.start a.ahead.end (table_of a.order a.row_count a.col_count a.cells.now) (record { ordered = i.remaining.ordered; within = omega (arith, i.remaining.within, rows) }))
+    ∙ ap length c.self.view_is)

@@ -1,0 +1,58 @@
+//! Where the cells of a row stand in the storage of a table: a start, an end, a stride, and their number.
+ghost use Rattle.std.specs.Prelude.{◌+◌, ◌*◌, ◌^◌, ◌<◌};
+ghost use Rattle.grid_base.specs.Order.{place};
+ghost use Rattle.grid_base.specs.Span.{IsSpan};
+
+use super::Order;
+
+// The `count` places from `start` on and before `end`, each `stride` after the last.
+#[derive(Drop)]
+pub(super) struct Span {
+    pub(super) start: usize,
+    pub(super) end: usize,
+    pub(super) stride: usize,
+    pub(super) count: usize,
+}
+
+// Returns where the cells of row `r` stand.
+pub(super) fn row_span(order: Order, rows: usize, cols: usize, r: usize) -> Span
+    requires fits { rows * cols < 2 ^ 64 }
+    requires row_in { r < rows }
+    requires wide { 0 < cols }
+    ensures { IsSpan cols (λ c. place order rows cols r c) (rows * cols) result }
+{
+    match order {
+        Order::RowMajor => together(rows, cols, r),
+        Order::ColumnMajor => across(cols, rows, r),
+    }
+}
+
+// Returns where line `i` stands, of `lines` lines of `len` cells that stand one after another.
+fn together(lines: usize, len: usize, i: usize) -> Span
+    requires fits { lines * len < 2 ^ 64 }
+    requires line_in { i < lines }
+    ensures { IsSpan len (λ k. i * len + k) (lines * len) result }
+{
+    let start = i * len;
+    Span {
+        start,
+        end: start + len,
+        stride: 1,
+        count: len,
+    }
+}
+
+// Returns where cell `i` of each line stands, of `lines` lines of `len` cells that stand one after another.
+fn across(lines: usize, len: usize, i: usize) -> Span
+    requires fits { lines * len < 2 ^ 64 }
+    requires some { 0 < lines }
+    requires cell_in { i < len }
+    ensures { IsSpan lines (λ k. k * len + i) (lines * len) result }
+{
+    Span {
+        start: i,
+        end: lines * len,
+        stride: len,
+        count: lines,
+    }
+}
