@@ -1,16 +1,13 @@
 -- The places of a table's cells, one after another.
-use Rattle.std.proofs.Common.{◌≡◌, ℕ, zero, suc, ◌+◌, ◌*◌, ◌-◌, ◌/◌, ◌%◌, ◌<◌, ◌≤◌, Option, Some, List, [], ◌∷◌, length, drop, refl, sym, ◌∙◌, ap, arith, add-one, length-drop}
+use Rattle.std.proofs.Common.{◌≡◌, ℕ, zero, suc, ◌+◌, ◌*◌, ◌-◌, ◌<◌, ◌≤◌, ⊎_elim, Option, Some, List, [], ◌∷◌, length, drop, refl, sym, ◌∙◌, ap, arith, add-one, length-drop}
 use Rattle.std.specs.List.{slice_get}
 use Rattle.std.proofs.lemmas.List.{drop_all}
-use Rattle.std.proofs.lemmas.Nat.{div_below, mod_below, div-add-mod'}
-use Rattle.std.proofs.Math.Nat.{mul_comm}
 use Rattle.grid_base.specs.declared.flat.order.Order.{Order}
-use Rattle.grid_base.specs.declared.flat.order.Order.TheVariants.{RowMajor, ColumnMajor}
 use Rattle.grid_base.specs.Table.{row_count, col_count, IsSize, tabulate}
 use Rattle.grid_base.specs.Order.{storage, place}
-use Rattle.grid_base.specs.Places.{places, ArePassed}
+use Rattle.grid_base.specs.Places.{places, StandsAt}
 use Rattle.grid_base.proofs.TableLemmas.{rows-tabulate, cols-tabulate, cell-tabulate, IsFull, IsTable-tabulate}
-use Rattle.grid_base.proofs.StorageLemmas.{length-storage, get-storage}
+use Rattle.grid_base.proofs.StorageLemmas.{length-storage, get-storage, place_within}
 
 abbrev pair_at : ℕ → ℕ → Option (ℕ × ℕ)
 pair_at r c = Some (r, c)
@@ -50,36 +47,22 @@ drop_at_suc (y ∷ xs) (suc k) x h = drop_at_suc xs k x h
 pub drop_from : {X : Type 0} (xs : List X) (k : ℕ) (x : X) → slice_get xs k ≡ Some x → drop k xs ≡ x ∷ drop (k + 1) xs
 drop_from xs k x h = rw add-one (drop_at_suc xs k x h)
 
--- a number below a product has a quotient and a remainder
-pub record HasParts (m n k : ℕ) : Type 0 where
-  pub wide : 0 < n
-  pub quotient : k / n < m
-  pub remainder : k % n < n
-  pub whole : k / n * n + k % n ≡ k
-
-pub parts_of : (m n k : ℕ) → k < m * n → HasParts m n k
-parts_of m zero k lt = absurd (omega arith)
-parts_of m (suc n) k lt = record {
-  wide = omega arith;
-  quotient = div_below k (suc n) m (omega arith) lt;
-  remainder = mod_below k (suc n) (omega arith);
-  whole = div-add-mod' k (suc n);
-}
-
--- the place that holds a cell, by division
-pub get-row_major : (m n k : ℕ) → IsSize m n → k < m * n → slice_get (places RowMajor m n) k ≡ Some (k / n, k % n)
-get-row_major m n k z lt =
-    let p = parts_of m n k lt in
-    ap (slice_get (places RowMajor m n)) (sym p.whole) ∙ get-places RowMajor m n (k / n) (k % n) z p.quotient p.remainder
-
-pub get-column_major : (m n k : ℕ) → IsSize m n → k < m * n → slice_get (places ColumnMajor m n) k ≡ Some (k % m, k / m)
-get-column_major m n k z lt =
-    let p = parts_of n m k (omega (arith, mul_comm m n)) in
-    ap (slice_get (places ColumnMajor m n)) (sym p.whole) ∙ get-places ColumnMajor m n (k % m) (k / m) z p.remainder p.quotient
+-- no place lies past the last
+pub within-places : (o : Order) (m n r c : ℕ) → StandsAt o m n r c → place o m n r c ≤ m * n
+within-places o m n r c h =
+    ⊎_elim (λ inside. let lt = place_within o m n r c inside.0 inside.1 in omega arith) (λ last. omega arith) h.next
 
 -- how many are left
-pub length-left : (o : Order) (m n k : ℕ) → ArePassed m n k → length (drop k (places o m n)) ≡ m * n - k
-length-left o m n k h = omega (arith, length-drop k (places o m n), length-places o m n h.size)
+pub length-left : (o : Order) (m n r c : ℕ) → StandsAt o m n r c → length (drop (place o m n r c) (places o m n)) ≡ m * n - place o m n r c
+length-left o m n r c h = omega (arith, length-drop (place o m n r c) (places o m n), length-places o m n h.size)
 
-pub none_left : (o : Order) (m n k : ℕ) → ArePassed m n k → m * n ≤ k → drop k (places o m n) ≡ []
-none_left o m n k h le = drop_all k (places o m n) (omega (arith, length-places o m n h.size))
+-- the next place, and those after it
+pub place_and_rest : (o : Order) (m n r c k : ℕ) → IsSize m n → r < m → c < n → k ≡ place o m n r c + 1 → drop (place o m n r c) (places o m n) ≡ (r, c) ∷ drop k (places o m n)
+place_and_rest o m n r c k z lr lc e =
+    drop_from (places o m n) (place o m n r c) (r, c) (get-places o m n r c z lr lc) ∙ ap (λ i. (r, c) ∷ drop i (places o m n)) (sym e)
+
+-- none at the end
+pub none_left : (o : Order) (m n r c : ℕ) → StandsAt o m n r c → ((r < m × c < n) → ⊥) → drop (place o m n r c) (places o m n) ≡ []
+none_left o m n r c h past =
+    ⊎_elim (λ inside. absurd (past inside))
+    (λ last. drop_all (place o m n r c) (places o m n) (omega (arith, length-places o m n h.size))) h.next

@@ -1,9 +1,10 @@
 //! The places of a table's cells, one after another.
-ghost use Rattle.std.specs.Prelude.{◌≡◌, ◌*◌, ◌^◌, ◌<◌, length, min, IfSome, Some, slice_get};
+ghost use Rattle.std.specs.Prelude.{◌≡◌, ◌+◌, ◌*◌, ◌^◌, ◌<◌, length, min, IfSome, Some};
 ghost use Rattle.std.specs.Iterator.{YieldsFirst, item_count, UpTo, at_most};
 ghost use Rattle.std.specs.Iterator.SizeHint.{IsWithinCount};
 ghost use Rattle.grid_base.specs.Table.{IsSize};
-ghost use Rattle.grid_base.specs.Places.{places};
+ghost use Rattle.grid_base.specs.Order.{place};
+ghost use Rattle.grid_base.specs.Places.{places, StandsAt};
 
 use super::Order;
 use std::marker::Model;
@@ -14,29 +15,45 @@ pub(super) struct Places {
     order: Order,
     rows: usize,
     cols: usize,
-    passed: usize,
+    // The next cell.
+    row: usize,
+    col: usize,
 }
 
 impl Model for Places {
     ghost use Rattle.std.specs.Prelude.{ℕ, List, drop};
-    ghost use Rattle.grid_base.specs.Places.{places, ArePassed};
+    ghost use Rattle.grid_base.specs.Order.{place};
+    ghost use Rattle.grid_base.specs.Places.{places, StandsAt};
 
     ghost Value = { List (ℕ × ℕ) };
 
-    ghost view = { λ a. drop a.passed (places a.order a.rows a.cols) };
+    ghost view = { λ a. drop (place a.order a.rows a.cols a.row a.col)
+        (places a.order a.rows a.cols) };
 
-    ghost invariant = { λ a. ArePassed a.rows a.cols a.passed };
+    ghost invariant = { λ a. StandsAt a.order a.rows a.cols a.row a.col };
 }
 
-// The row and the column of the cell at a place.
-fn cell_at(order: Order, rows: usize, cols: usize, place: usize) -> (usize, usize)
-    requires within { place < rows * cols }
+// Returns the row and the column of the cell that is stored after cell (row, col). Nothing is divided, since a division
+// would be most of a step.
+fn place_after(
+    order: Order,
+    rows: usize,
+    cols: usize,
+    row: usize,
+    col: usize,
+) -> (usize, usize)
+    requires fits { rows * cols < 2 ^ 64 }
     requires size { IsSize rows cols }
-    ensures { slice_get (places order rows cols) place ≡ Some result }
+    requires row_in { row < rows }
+    requires col_in { col < cols }
+    ensures stands { StandsAt order rows cols result.0 result.1 }
+    ensures after { place order rows cols result.0 result.1 ≡ place order rows cols row col + 1 }
 {
     match order {
-        Order::RowMajor => (place / cols, place % cols),
-        Order::ColumnMajor => (place % rows, place / rows),
+        Order::RowMajor if col + 1 < cols => (row, col + 1),
+        Order::RowMajor => (row + 1, 0),
+        Order::ColumnMajor if row + 1 < rows => (row + 1, col),
+        Order::ColumnMajor => (0, col + 1),
     }
 }
 
@@ -50,14 +67,19 @@ impl Places {
             order,
             rows,
             cols,
-            passed: 0,
+            row: 0,
+            col: 0,
         }
     }
 
     pub(super) fn len(&self) -> usize
         ensures { result ≡ length self.now }
     {
-        self.rows * self.cols - self.passed
+        let passed = match self.order {
+            Order::RowMajor => self.row * self.cols + self.col,
+            Order::ColumnMajor => self.col * self.rows + self.row,
+        };
+        self.rows * self.cols - passed
     }
 
     // The exact size hint of a walk over these places, each with one of `cells` cells.
@@ -77,9 +99,11 @@ impl Iterator for Places {
     ghost remaining = { item_count (λ rest. rest) };
 
     fn next(&mut self) -> Option<(usize, usize)> {
-        if self.passed < self.rows * self.cols {
-            let at = cell_at(self.order, self.rows, self.cols, self.passed);
-            self.passed += 1;
+        if self.row < self.rows && self.col < self.cols {
+            let at = (self.row, self.col);
+            let (row, col) = place_after(self.order, self.rows, self.cols, at.0, at.1);
+            self.row = row;
+            self.col = col;
             Some(at)
         } else {
             None

@@ -1,19 +1,24 @@
-use Rattle.std.proofs.Common.{arith, ap, length, sym, ◌∙◌}
-use Rattle.grid_base.specs.Places.{places}
-use Rattle.grid_base.proofs.PlaceLemmas.{drop_from, none_left}
+use Rattle.std.proofs.Common.{◌<◌, arith, ap, length, sym, ◌∙◌}
+use Rattle.grid_base.proofs.PlaceLemmas.{place_and_rest, none_left}
 use Rattle.grid_base.proofs.flat.places.PlacesIterator.next.Goals as goal
+use Rattle.grid_base.proofs.flat.places.PlacesIterator.next.Goals.{else-self-via-then-self+else-self-2, else-self-via-else-self}
 
-pub returns-then-self-clause-steps : goal.returns-then-self-clause-steps
-returns-then-self-clause-steps c =
-    let s = c.self.inside in sym c.self.view_is ∙ drop_from (places s.order s.rows s.cols) s.passed c.cell_at-at.result c.cell_at-at.ensures
+pub returns-then-self-2-clause-steps : goal.returns-then-self-2-clause-steps
+returns-then-self-2-clause-steps c =
+    let s = c.self.inside in
+    sym c.self.view_is ∙ place_and_rest s.order s.rows s.cols s.row s.col _ c.self.invariant.size c.if-self.true c.if-self-2.true c.place_after-row.ensures.after
 
-pub returns-then-self-clause-goes : goal.returns-then-self-clause-goes
-returns-then-self-clause-goes c =
-    let e = ap length (returns-then-self-clause-steps c) in
+pub returns-then-self-2-clause-goes : goal.returns-then-self-2-clause-goes
+returns-then-self-2-clause-goes c =
+    let e = ap length (returns-then-self-2-clause-steps c) in
     record { on = λ _. (tt, tt, omega (arith, e)); keeps = tt; rests = λ _. tt }
 
 pub returns-else-self-clause-steps : goal.returns-else-self-clause-steps
 returns-else-self-clause-steps c =
     let s = c.self.inside in
-    let e = sym c.self.view_is ∙ none_left s.order s.rows s.cols s.passed c.self.invariant c.if-self.false in
+    let past : (s.row < s.rows × s.col < s.cols) → ⊥ = elim c.else-self.branch [
+      | else-self-via-then-self+else-self-2 w ↦ λ h. (let lt = h.1 in absurd (omega (arith, w.if-self-2.false)))
+      | else-self-via-else-self w ↦ λ h. (let lt = h.0 in absurd (omega (arith, w.if-self.false)))
+    ] in
+    let e = sym c.self.view_is ∙ none_left s.order s.rows s.cols s.row s.col c.self.invariant past in
     (e, e)
