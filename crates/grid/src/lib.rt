@@ -33,7 +33,6 @@ mod convert;
 mod edits;
 mod error;
 mod grid;
-pub mod laws;
 mod macros;
 mod pretty;
 mod symmetry;

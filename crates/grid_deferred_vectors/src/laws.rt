@@ -4,9 +4,9 @@ ghost use Rattle.grid.specs.Command.{command_value, lines, push, size, apply};
 ghost use Rattle.grid.specs.declared.command.Axis.TheVariants.{Row};
 ghost use Rattle.grid_base.specs.declared.words.Symmetry.TheVariants.{RotateLeft};
 
-use grid::laws::run_in_either_order;
 use grid::{Command, Grid, Order, Reply, RunStopped, Symmetry, Tally};
 use grid_deferred::laws::run_at_once_and_deferred;
+use grid_laws::run_in_either_order;
 use std::alloc::{AllocError, Global};
 use std::test::Fail;
 

@@ -9,7 +9,7 @@ ghost use Rattle.grid_base.specs.Order.{storage};
 ghost use Rattle.grid_base.specs.Symmetry.{act};
 ghost use Rattle.grid_base.specs.declared.flat.order.Order.TheVariants.{RowMajor, ColumnMajor};
 
-use grid::{Command, Grid, GridError, Symmetry, Tally, grid, grid_cm, laws};
+use grid::{Command, Grid, GridError, Symmetry, Tally, grid, grid_cm};
 use grid_base::laws as symmetry_laws;
 use std::alloc::{AllocError, Allocator, Global};
 
@@ -249,7 +249,7 @@ pub fn apply_to_texts<A: Allocator>(grid: &mut Grid<String, A>, first: Symmetry,
 pub fn turn_texts_back<A: Allocator>(grid: &mut Grid<String, A>, symmetry: Symmetry)
     ensures { grid.new ≡ grid.old }
 {
-    laws::apply_then_inverse(grid, symmetry);
+    grid_laws::apply_then_inverse(grid, symmetry);
 }
 
 /// Runs one symmetry as a command on texts.

@@ -4,8 +4,8 @@ ghost use Rattle.grid_base.specs.Table.{col_count};
 ghost use Rattle.grid.specs.Edits.{FitsCol};
 
 use crate::asserts::assert_shows;
-use grid::laws::{insert_col_or_row_across, push_row_then_pop_row};
 use grid::{Grid, GridError, LineRefused, Order};
+use grid_laws::{insert_col_or_row_across, push_row_then_pop_row};
 use grid_reference::edits::{LineAt, line_at, pad, put_line, without};
 use grid_reference::fitting::{insert, insert_several, push_col, push_row};
 use grid_reference::fixtures::{

@@ -1,7 +1,7 @@
 //! The eight symmetries, the six calls, and words of them, over all small tables and both orders.
 use crate::asserts::assert_shows;
-use grid::laws::{flip_rows_then_cols, rebuilt, rotate_left_four_times, rotate_right_then_left};
 use grid::{Grid, Move, Order, Symmetry, reduce};
+use grid_laws::{flip_rows_then_cols, rebuilt, rotate_left_four_times, rotate_right_then_left};
 use grid_reference::fixtures::{
     MOVES, ORDERS, SIZES, SYMMETRIES, call, grid_of, numbered, order_after,
 };

@@ -1,5 +1,5 @@
 //! Laws, and callers whose contracts rest on them, each run once.
-use grid::{Grid, Order, Symmetry, Tally, laws};
+use grid::{Grid, Order, Symmetry, Tally};
 use grid_base::laws as symmetry_laws;
 use grid_reference::chains::*;
 use std::process::Abort;
@@ -22,10 +22,10 @@ fn joins_and_undoes_symmetries(rt: HostRuntime) -> Result<(), Fail> {
 #[test]
 fn applies_what_is_joined(rt: HostRuntime) -> Result<(), Fail> {
     let mut grid = Grid::from_vec(vec![in rt.alloc(); 1, 2, 3, 4, 5, 6]?, 3);
-    laws::apply_then(&mut grid, TURNED, FLIPPED);
+    grid_laws::apply_then(&mut grid, TURNED, FLIPPED);
     assert_eq!(rt; grid.size(), (3, 2));
     assert_eq!(rt; grid.get(0, 1), Some(&4));
-    laws::apply_then_inverse(&mut grid, TURNED);
+    grid_laws::apply_then_inverse(&mut grid, TURNED);
     assert_eq!(rt; grid.get(0, 1), Some(&4));
     Ok(())
 }
