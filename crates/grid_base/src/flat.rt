@@ -12,6 +12,7 @@ mod line_iter;
 mod lines;
 mod order;
 mod places;
+mod shift;
 mod strides;
 mod tally;
 #[cfg(test)]
