@@ -1,6 +1,6 @@
 //! Cells of a slice that come some places forward or back, swap by swap.
 ghost use Rattle.std.specs.Prelude.{◌≡◌, ◌<◌, ◌≤◌, ◌+◌, ◌^◌, length};
-ghost use Rattle.grid_base.specs.Blocks.{MovedForward, MovedBack};
+ghost use Rattle.grid_base.specs.Blocks.{swapped_back, swapped_forward};
 
 use super::blocks::{SHORT_BLOCK, swap_blocks};
 
@@ -10,7 +10,7 @@ pub(super) fn move_forward<T>(cells: &mut [T], start: usize, shift: usize, n: us
     requires within { start + n + shift ≤ length cells.old }
     requires fits { start + n + shift < 2 ^ 64 }
     requires moves { 0 < shift }
-    ensures { MovedForward start shift n cells.old cells.new }
+    ensures { cells.new ≡ swapped_forward start shift n cells.old }
 {
     if shift < SHORT_BLOCK {
         move_forward_in_turn(cells, start, shift, n);
@@ -23,7 +23,7 @@ fn move_forward_in_turn<T>(cells: &mut [T], start: usize, shift: usize, n: usize
     requires within { start + n + shift ≤ length cells.old }
     requires fits { start + n + shift < 2 ^ 64 }
     requires moves { 0 < shift }
-    ensures { MovedForward start shift n cells.old cells.new }
+    ensures { cells.new ≡ swapped_forward start shift n cells.old }
 {
     for done in 0..n {
         cells.swap(start + done, start + done + shift);
@@ -35,7 +35,7 @@ fn move_forward_by_blocks<T>(cells: &mut [T], start: usize, shift: usize, n: usi
     requires within { start + n + shift ≤ length cells.old }
     requires fits { start + n + shift < 2 ^ 64 }
     requires moves { 0 < shift }
-    ensures { MovedForward start shift n cells.old cells.new }
+    ensures { cells.new ≡ swapped_forward start shift n cells.old }
 {
     let mut done = 0;
     while done < n {
@@ -51,7 +51,7 @@ pub(super) fn move_back<T>(cells: &mut [T], start: usize, shift: usize, n: usize
     requires within { start + n + shift ≤ length cells.old }
     requires fits { start + n + shift < 2 ^ 64 }
     requires moves { 0 < shift }
-    ensures { MovedBack start shift n cells.old cells.new }
+    ensures { cells.new ≡ swapped_back start shift n cells.old }
 {
     if shift < SHORT_BLOCK {
         move_back_in_turn(cells, start, shift, n);
@@ -64,7 +64,7 @@ fn move_back_in_turn<T>(cells: &mut [T], start: usize, shift: usize, n: usize)
     requires within { start + n + shift ≤ length cells.old }
     requires fits { start + n + shift < 2 ^ 64 }
     requires moves { 0 < shift }
-    ensures { MovedBack start shift n cells.old cells.new }
+    ensures { cells.new ≡ swapped_back start shift n cells.old }
 {
     let mut left = n;
     while 0 < left {
@@ -78,7 +78,7 @@ fn move_back_by_blocks<T>(cells: &mut [T], start: usize, shift: usize, n: usize)
     requires within { start + n + shift ≤ length cells.old }
     requires fits { start + n + shift < 2 ^ 64 }
     requires moves { 0 < shift }
-    ensures { MovedBack start shift n cells.old cells.new }
+    ensures { cells.new ≡ swapped_back start shift n cells.old }
 {
     let mut left = n;
     while 0 < left {

@@ -1,6 +1,6 @@
 //! Two counts of swaps, and the counted swaps of a `Flat`, which alone raise them.
 ghost use Rattle.std.specs.Prelude.{◌≡◌, ◌≢◌, ◌<◌, ◌≤◌, ◌+◌, ◌/◌, ◌^◌, length, swap};
-ghost use Rattle.grid_base.specs.Blocks.{BlocksSwapped, MovedBack, MovedForward, PartReversed};
+ghost use Rattle.grid_base.specs.Blocks.{BlocksSwapped, PartReversed, swapped_back, swapped_forward};
 ghost use Rattle.grid_base.specs.Tally.{saturating_count};
 
 use super::Flat;
@@ -145,7 +145,7 @@ impl<T, A: Allocator> Flat<T, A> {
         requires within { start + n + shift ≤ length self.old }
         requires fits { start + n + shift < 2 ^ 64 }
         requires moves { 0 < shift }
-        ensures moved { MovedForward start shift n self.old self.new }
+        ensures moved { self.new ≡ swapped_forward start shift n self.old }
         ensures symmetry { tally.new.symmetry ≡ tally.old.symmetry }
         ensures shift { tally.new.shift ≡ saturating_count tally.old.shift n }
     {
@@ -162,7 +162,7 @@ impl<T, A: Allocator> Flat<T, A> {
         requires within { start + n + shift ≤ length self.old }
         requires fits { start + n + shift < 2 ^ 64 }
         requires moves { 0 < shift }
-        ensures moved { MovedBack start shift n self.old self.new }
+        ensures moved { self.new ≡ swapped_back start shift n self.old }
         ensures symmetry { tally.new.symmetry ≡ tally.old.symmetry }
         ensures shift { tally.new.shift ≡ saturating_count tally.old.shift n }
     {

@@ -1,13 +1,13 @@
-use Rattle.std.proofs.Common.{refl, arith}
-use Rattle.grid_base.proofs.BlockLemmas.{back_none, back_more}
+use Rattle.std.proofs.Common.{◌∙◌, sym, arith}
+use Rattle.grid_base.proofs.ShiftLemmas.{back_end, back_run}
 use Rattle.grid_base.proofs.flat.shift.move_back_by_blocks.Goals as goal
-
-pub loop-left-init : goal.loop-left-init
-loop-left-init g c = record { run = back_none _ _ _ _ (omega arith); within = omega arith }
 
 pub loop-left-preserved : goal.loop-left-preserved
 loop-left-preserved g c =
     record {
-      run = back_more _ _ _ _ _ _ _ _ _ _ (omega arith) c.loop-left.invariant.run c.swap_blocks.ensures (omega arith) refl (omega arith);
+      rest = back_run _ _ _ _ _ _ _ (omega arith) (omega arith) (omega arith) c.swap_blocks.ensures ∙ c.loop-left.invariant.rest;
       within = omega arith;
     }
+
+pub returns : goal.returns
+returns g c = sym (back_end _ _ _ _ (omega arith)) ∙ c.loop-left.invariant.rest

@@ -1,10 +1,10 @@
-use Rattle.std.proofs.Common.{◌+◌, ◌-◌, ◌≤◌}
-use Rattle.grid_base.specs.Blocks.{MovedBack}
+use Rattle.std.proofs.Common.{◌≡◌, ◌≤◌}
+use Rattle.grid_base.specs.Blocks.{swapped_back}
 use Rattle.grid_base.proofs.flat.shift.move_back_by_blocks.Given as goal
 
 abbrev pub invariant-loop-left : goal.invariant-loop-left
 invariant-loop-left g l = record {
-  run : MovedBack (l.start + l.left) l.shift (l.n - l.left) l.fn.cells l.cells;
+  rest : swapped_back l.start l.shift l.left l.cells ≡ swapped_back l.start l.shift l.n l.fn.cells;
   within : l.left ≤ l.n;
 }
 
