@@ -3,7 +3,7 @@ use Rattle.std.proofs.Common.{◌≡◌, ℕ, ◌+◌, ◌-◌, ◌<◌, ◌≤�
 use Rattle.std.specs.List.{slice_get}
 use Rattle.std.proofs.lemmas.List.{length-take-le}
 use Rattle.std.proofs.lemmas.Bool.{cases_lt}
-use Rattle.grid_base.specs.Blocks.{BlocksSwapped, MovedForward, MovedBack}
+use Rattle.grid_base.specs.Blocks.{BlocksSwapped}
 use Rattle.grid_base.proofs.StorageLemmas.{get_append_left, get_append_right, get-take, get-drop}
 
 -- the five parts of a list of which two blocks are exchanged
@@ -102,6 +102,13 @@ blocks_swapped i j n old seen new apart within same e =
     let is : new ≡ whole i j n old apart within = e ∙ ap (λ ys. take i ys ++ take n (drop j ys) ++ drop (i + n) (take j ys) ++ take n (drop i ys) ++ drop (j + n) ys) same in
     rw is (whole_swapped i j n old apart within)
 
+-- each of the n cells from x + s on has come s places forward, the first of them first
+pub record MovedForward {T : Type 0} (x s n : ℕ) (old new : List T) : Type 0 where
+  pub length_stays : length new ≡ length old
+  pub placed : (y : ℕ) → x ≤ y → y < x + n → slice_get new y ≡ slice_get old (y + s)
+  pub before : (y : ℕ) → y < x → slice_get new y ≡ slice_get old y
+  pub behind : (y : ℕ) → x + n + s ≤ y → slice_get new y ≡ slice_get old y
+
 pub forward_none : {T : Type 0} (x s : ℕ) (xs : List T) → MovedForward x s 0 xs xs
 forward_none x s xs =
     record { length_stays = refl; placed = λ y a b. absurd (omega arith); before = λ y a. refl; behind = λ y a. refl }
@@ -119,6 +126,14 @@ forward_more x s m p a b t old now new le h w ea eb et =
       before = λ y lt. w.others y (λ c. omega arith) (λ c. omega arith) ∙ h.before y lt;
       behind = λ y ge. w.others y (λ c. omega arith) (λ c. omega arith) ∙ h.behind y (omega arith);
     }
+
+-- each of the n cells from x on has come s places back, the last of them first; what stood behind them came before them
+pub record MovedBack {T : Type 0} (x s n : ℕ) (old new : List T) : Type 0 where
+  pub length_stays : length new ≡ length old
+  pub placed : (y : ℕ) → x ≤ y → y < x + n → slice_get new (y + s) ≡ slice_get old y
+  pub before : (y : ℕ) → y < x → slice_get new y ≡ slice_get old y
+  pub behind : (y : ℕ) → x + n + s ≤ y → slice_get new y ≡ slice_get old y
+  pub gap : (y : ℕ) → x ≤ y → y < x + s → (v : ℕ) × (x + n ≤ v) × (v < x + n + s) × (slice_get new y ≡ slice_get old v)
 
 pub back_none : {T : Type 0} (x s n : ℕ) (xs : List T) → n ≡ 0 → MovedBack x s n xs xs
 back_none x s n xs e =

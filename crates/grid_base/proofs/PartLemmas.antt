@@ -133,6 +133,14 @@ blocks_more i j n old now new apart within h e =
           ∙ h.others k (λ le. let o : i + (n + 1) ≤ k = a le in omega arith) (λ le. let o : j + (n + 1) ≤ k = b le in omega arith);
     })
 
+-- one pair alone
+pub one_swapped : {T : Type 0} (i j : ℕ) (old new : List T) → i < j → j < length old → new ≡ swap old i j → BlocksSwapped i j 1 old new
+one_swapped i j old new apart within e =
+    let first : i ≡ i + 0 = omega arith in
+    let second : j ≡ j + 0 = omega arith in
+    blocks_more i j 0 old old new (omega arith) (omega arith) (blocks_none i j old)
+    (e ∙ (ap (λ v. swap old v j) first ∙ ap (λ v. swap old (i + 0) v) second))
+
 -- two parts that are reversed, and then both as one
 pub exchanged_by_reversals : {T : Type 0} (a m n : ℕ) (old one two new : List T) → PartReversed a m old one → PartReversed (a + m) n one two → PartReversed a (m + n) two new → BlocksExchanged a m n old new
 exchanged_by_reversals a m n old one two new h i j =

@@ -4,9 +4,9 @@ use Rattle.std.specs.List.{slice_get}
 use Rattle.std.proofs.lemmas.Nat.{div-mul-add, div-add-mod', mod_below, same_from_place, le-div, div_below}
 use Rattle.std.proofs.lemmas.Bool.{cases_lt, cases_eq}
 use Rattle.std.proofs.Math.Nat.{mul-le-mul_right}
-use Rattle.grid_base.specs.Blocks.{MovedForward, MovedBack}
 use Rattle.grid_base.specs.Groups.{Widened, Opened}
 use Rattle.grid_base.proofs.WeaveLemmas.{place_below}
+use Rattle.grid_base.proofs.BlockLemmas.{MovedForward, MovedBack}
 
 -- the place of cell x once each line of q cells has a group of k cells before its place i
 pub spread : (q i k x : ℕ) → ℕ

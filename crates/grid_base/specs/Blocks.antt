@@ -1,6 +1,6 @@
--- Two blocks of cells that change places, and a part of the cells that is reversed. Only contracts of `Flat` cite this
--- module.
-use Rattle.std.specs.Prelude.{◌≡◌, ℕ, ◌+◌, ◌-◌, ◌<◌, ◌≤◌, List, length, slice_get}
+-- Two blocks of cells that change places, swaps at one distance one after another, and a part of the cells that is
+-- reversed. Only contracts of `Flat` cite this module.
+use Rattle.std.specs.Prelude.{◌≡◌, ℕ, zero, suc, ◌+◌, ◌-◌, ◌<◌, ◌≤◌, List, length, slice_get, swap}
 
 -- the m cells from place a on, and the n cells behind them
 pub record BlocksExchanged {T : Type 0} (a m n : ℕ) (old new : List T) : Type 0 where
@@ -17,20 +17,15 @@ pub record BlocksSwapped {T : Type 0} (i j n : ℕ) (old new : List T) : Type 0 
   pub second : (x : ℕ) → x < n → slice_get new (j + x) ≡ slice_get old (i + x)
   pub others : (k : ℕ) → (i ≤ k → i + n ≤ k) → (j ≤ k → j + n ≤ k) → slice_get new k ≡ slice_get old k
 
--- each of the n cells from x + s on has come s places forward, the first of them first
-pub record MovedForward {T : Type 0} (x s n : ℕ) (old new : List T) : Type 0 where
-  pub length_stays : length new ≡ length old
-  pub placed : (y : ℕ) → x ≤ y → y < x + n → slice_get new y ≡ slice_get old (y + s)
-  pub before : (y : ℕ) → y < x → slice_get new y ≡ slice_get old y
-  pub behind : (y : ℕ) → x + n + s ≤ y → slice_get new y ≡ slice_get old y
+-- the list after n swaps one after another, of the cells at start + k and start + k + shift, from k = 0 up
+unfoldable pub swapped_forward : {T : Type 0} → ℕ → ℕ → ℕ → List T → List T
+swapped_forward start shift zero cells = cells
+swapped_forward start shift (suc n) cells = swap (swapped_forward start shift n cells) (start + n) (start + n + shift)
 
--- each of the n cells from x on has come s places back, the last of them first; what stood behind them came before them
-pub record MovedBack {T : Type 0} (x s n : ℕ) (old new : List T) : Type 0 where
-  pub length_stays : length new ≡ length old
-  pub placed : (y : ℕ) → x ≤ y → y < x + n → slice_get new (y + s) ≡ slice_get old y
-  pub before : (y : ℕ) → y < x → slice_get new y ≡ slice_get old y
-  pub behind : (y : ℕ) → x + n + s ≤ y → slice_get new y ≡ slice_get old y
-  pub gap : (y : ℕ) → x ≤ y → y < x + s → (v : ℕ) × (x + n ≤ v) × (v < x + n + s) × (slice_get new y ≡ slice_get old v)
+-- the list after the same swaps, from k = n - 1 down
+unfoldable pub swapped_back : {T : Type 0} → ℕ → ℕ → ℕ → List T → List T
+swapped_back start shift zero cells = cells
+swapped_back start shift (suc n) cells = swapped_back start shift n (swap cells (start + n) (start + n + shift))
 
 -- n cells from a on are reversed
 pub record PartReversed {T : Type 0} (a n : ℕ) (old new : List T) : Type 0 where

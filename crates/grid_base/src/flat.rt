@@ -13,6 +13,7 @@ mod lines;
 mod order;
 mod places;
 mod row_iter;
+mod shift;
 mod span;
 mod strides;
 mod tally;

@@ -5,7 +5,7 @@ ghost use Rattle.grid_base.specs.Blocks.{BlocksExchanged, BlocksSwapped, PartRev
 // Fewer cells are moved one by one, since a call out of line would cost more.
 const SHORT_PART: usize = 16;
 
-const SHORT_BLOCK: usize = 8;
+pub(super) const SHORT_BLOCK: usize = 8;
 
 const SHORT_ROTATION: usize = 128;
 

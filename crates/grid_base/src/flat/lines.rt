@@ -1,6 +1,5 @@
 //! Groups of cells that are put into the lines of a vector, or taken out of them.
 ghost use Rattle.std.specs.Prelude.{◌≡◌, ◌+◌, ◌-◌, ◌*◌, ◌^◌, ◌<◌, ◌≤◌, length};
-ghost use Rattle.grid_base.specs.Blocks.{MovedForward, MovedBack};
 ghost use Rattle.grid_base.specs.Groups.{Widened, Woven, Opened, Closed};
 ghost use Rattle.grid_base.specs.Tally.{saturating_count};
 
@@ -163,53 +162,6 @@ fn unweave_in_turn<T>(cells: &mut [T], lines: usize, width: usize, at: usize, co
     }
 }
 
-// Moves the `n` cells from `start` on by `shift` places to the back, the last first, by runs of at most `shift` swaps.
-fn move_back<T, A: Allocator>(
-    flat: &mut Flat<T, A>,
-    start: usize,
-    shift: usize,
-    n: usize,
-    tally: &mut Tally,
-)
-    requires within { start + n + shift ≤ length flat.old }
-    requires fits { start + n + shift < 2 ^ 64 }
-    requires moves { 0 < shift }
-    ensures moved { MovedBack start shift n flat.old flat.new }
-    ensures symmetry { tally.new.symmetry ≡ tally.old.symmetry }
-    ensures shift { tally.new.shift ≡ saturating_count tally.old.shift n }
-{
-    let mut left = n;
-    while 0 < left {
-        let run = shift.min(left);
-        left -= run;
-        flat.swap_blocks_for_shift(start + left, start + left + shift, run, tally);
-    }
-}
-
-// Moves the `n` cells that stand `shift` places behind `start` there, the first first, by runs of at most `shift`
-// swaps.
-fn move_forward<T, A: Allocator>(
-    flat: &mut Flat<T, A>,
-    start: usize,
-    shift: usize,
-    n: usize,
-    tally: &mut Tally,
-)
-    requires within { start + n + shift ≤ length flat.old }
-    requires fits { start + n + shift < 2 ^ 64 }
-    requires moves { 0 < shift }
-    ensures moved { MovedForward start shift n flat.old flat.new }
-    ensures symmetry { tally.new.symmetry ≡ tally.old.symmetry }
-    ensures shift { tally.new.shift ≡ saturating_count tally.old.shift n }
-{
-    let mut done = 0;
-    while done < n {
-        let run = shift.min(n - done);
-        flat.swap_blocks_for_shift(start + done, start + done + shift, run, tally);
-        done += run;
-    }
-}
-
 // Takes the run of cells behind each group, the last first, to its place in the spread lines. A run moves on by the
 // groups before it.
 fn open_at<T, A: Allocator>(
@@ -235,7 +187,7 @@ fn open_at<T, A: Allocator>(
     while 0 < line {
         line -= 1;
         let start = at + line * width;
-        move_back(flat, start, (line + 1) * count, end - start, tally);
+        flat.move_back(start, (line + 1) * count, end - start, tally);
         end = start;
     }
 }
@@ -262,7 +214,7 @@ fn close_at<T, A: Allocator>(
     let mut start = at;
     for line in 0..lines {
         let run = width.min(lines * width - start);
-        move_forward(flat, start, (line + 1) * count, run, tally);
+        flat.move_forward(start, (line + 1) * count, run, tally);
         start += run;
     }
 }

@@ -35,13 +35,7 @@ impl Model for Places {
 
 // Returns the row and the column of the cell that is stored after cell (row, col). Nothing is divided, since a division
 // would be most of a step.
-fn place_after(
-    order: Order,
-    rows: usize,
-    cols: usize,
-    row: usize,
-    col: usize,
-) -> (usize, usize)
+fn place_after(order: Order, rows: usize, cols: usize, row: usize, col: usize) -> (usize, usize)
     requires fits { rows * cols < 2 ^ 64 }
     requires size { IsSize rows cols }
     requires row_in { row < rows }

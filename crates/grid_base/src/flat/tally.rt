@@ -1,17 +1,18 @@
 //! Two counts of swaps, and the counted swaps of a `Flat`, which alone raise them.
 ghost use Rattle.std.specs.Prelude.{◌≡◌, ◌≢◌, ◌<◌, ◌≤◌, ◌+◌, ◌/◌, ◌^◌, length, swap};
-ghost use Rattle.grid_base.specs.Blocks.{BlocksSwapped, PartReversed};
+ghost use Rattle.grid_base.specs.Blocks.{BlocksSwapped, PartReversed, swapped_back, swapped_forward};
 ghost use Rattle.grid_base.specs.Tally.{saturating_count};
 
 use super::Flat;
 use super::blocks::{reverse_part, swap_blocks};
+use super::shift::{move_back, move_forward};
 use std::alloc::Allocator;
 use std::marker::Model;
 
 /// The numbers of swaps that were done: for symmetries, and for shifts in expand, prepend and delete.
 ///
-/// Only the counted swaps of a [`Flat`](crate::Flat) and its runs of them raise a count, by one for each pair of cells
-/// that is exchanged. A count stops at `u128::MAX`, and no call lowers it.
+/// Only the counted swaps of a [`Flat`](crate::Flat), its runs of them and its moves by them raise a count, by one for
+/// each pair of cells that is exchanged. A count stops at `u128::MAX`, and no call lowers it.
 #[derive(Drop)]
 pub struct Tally {
     for_symmetry: u128,
@@ -135,20 +136,37 @@ impl<T, A: Allocator> Flat<T, A> {
         tally.count_symmetries(n);
     }
 
-    /// Exchanges the `n` cells from `i` on with those from `j` on, by `n` swaps for a shift.
-    ///
-    ///     [1, 2, 3, 4, 5]   swap_blocks_for_shift(0, 3, 2)   [4, 5, 3, 1, 2]   2 swaps
-    ///
-    /// Requires: both blocks are in range, and the second begins behind the first.
-    pub fn swap_blocks_for_shift(&mut self, i: usize, j: usize, n: usize, tally: &mut Tally)
-        requires apart { i + n ≤ j }
-        requires within { j + n ≤ length self.old }
-        requires fits { j + n < 2 ^ 64 }
-        ensures cells { BlocksSwapped i j n self.old self.new }
+    // Moves the `n` cells that stand `shift` places behind `start` there, the first first, by `n` swaps for a shift.
+    //
+    //     [1, 2, 3, 4, 5]   move_forward(0, 2, 3)   [3, 4, 5, 2, 1]   3 swaps
+    //
+    // Requires: these cells are in range, and `shift` is not 0.
+    pub(super) fn move_forward(&mut self, start: usize, shift: usize, n: usize, tally: &mut Tally)
+        requires within { start + n + shift ≤ length self.old }
+        requires fits { start + n + shift < 2 ^ 64 }
+        requires moves { 0 < shift }
+        ensures moved { self.new ≡ swapped_forward start shift n self.old }
         ensures symmetry { tally.new.symmetry ≡ tally.old.symmetry }
         ensures shift { tally.new.shift ≡ saturating_count tally.old.shift n }
     {
-        swap_blocks(self.cells.as_mut_slice(), i, j, n);
+        move_forward(self.cells.as_mut_slice(), start, shift, n);
+        tally.count_shifts(n);
+    }
+
+    // Moves the `n` cells from `start` on by `shift` places to the back, the last first, by `n` swaps for a shift.
+    //
+    //     [1, 2, 3, 4, 5]   move_back(0, 2, 3)   [5, 4, 1, 2, 3]   3 swaps
+    //
+    // Requires: the places that these cells come to are in range, and `shift` is not 0.
+    pub(super) fn move_back(&mut self, start: usize, shift: usize, n: usize, tally: &mut Tally)
+        requires within { start + n + shift ≤ length self.old }
+        requires fits { start + n + shift < 2 ^ 64 }
+        requires moves { 0 < shift }
+        ensures moved { self.new ≡ swapped_back start shift n self.old }
+        ensures symmetry { tally.new.symmetry ≡ tally.old.symmetry }
+        ensures shift { tally.new.shift ≡ saturating_count tally.old.shift n }
+    {
+        move_back(self.cells.as_mut_slice(), start, shift, n);
         tally.count_shifts(n);
     }
 }

@@ -52,6 +52,43 @@ fn close_up_keeps_the_lines(rt: HostRuntime) -> Result<(), AllocError> {
 }
 
 #[test]
+fn cells_move_by_one_place_and_back(rt: HostRuntime) -> Result<(), AllocError> {
+    let mut flat = Flat::from_vec(vec![in rt.alloc(); 1, 2, 3, 4, 0]?);
+    let mut tally = Tally::new();
+    flat.open(1, 4, 1, 1, &mut tally);
+    assert_eq!(rt; flat.as_slice(), [1, 0, 2, 3, 4].as_slice());
+    assert_eq!(rt; tally.shift(), 3);
+    flat.close_up(1, 4, 1, 1, &mut tally);
+    assert_eq!(rt; flat.as_slice(), [1, 2, 3, 4].as_slice());
+    assert_eq!(rt; tally.shift(), 6);
+    Ok(())
+}
+
+#[test]
+fn cells_move_by_nine_places_and_back(rt: HostRuntime) -> Result<(), AllocError> {
+    let mut flat = Flat::from_vec(vec![in rt.alloc();
+        1, 2, 3, 4, 5, 6, 7, 8, 9, 10, 11, 12, 0, 0, 0, 0, 0, 0, 0, 0, 0,
+    ]?);
+    let mut tally = Tally::new();
+    flat.open(1, 12, 1, 9, &mut tally);
+    assert_eq!(rt;
+        flat.as_slice(),
+        [
+            1, 0, 0, 0, 0, 0, 0, 0, 0, 0, 2, 3, 4, 5, 6, 7, 8, 9, 10, 11, 12
+        ]
+        .as_slice()
+    );
+    assert_eq!(rt; tally.shift(), 11);
+    flat.close_up(1, 12, 1, 9, &mut tally);
+    assert_eq!(rt;
+        flat.as_slice(),
+        [1, 2, 3, 4, 5, 6, 7, 8, 9, 10, 11, 12].as_slice()
+    );
+    assert_eq!(rt; tally.shift(), 22);
+    Ok(())
+}
+
+#[test]
 fn cells_come_to_the_end_and_leave_it(rt: HostRuntime) -> Result<(), AllocError> {
     let mut flat = Flat::from_vec(vec![in rt.alloc(); 1, 2]?);
     let mut line = vec![in rt.alloc(); 3, 4]?;

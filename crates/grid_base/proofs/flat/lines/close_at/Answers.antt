@@ -1,6 +1,7 @@
 use Rattle.std.proofs.Common.{◌≡◌, ◌+◌, ◌*◌, ◌≤◌, refl, ap, arith, ⊎_elim}
 use Rattle.std.proofs.lemmas.Bool.{cases_eq}
 use Rattle.std.proofs.Math.Nat.{mul-le-mul_right}
+use Rattle.grid_base.proofs.ShiftLemmas.{moved_forward}
 use Rattle.grid_base.proofs.SpreadLemmas.{closing_none, closing_run, closing_end, first_line}
 use Rattle.grid_base.proofs.flat.lines.close_at.Goals as goal
 
@@ -20,8 +21,11 @@ loop-line-preserved g c =
     let more = mul-le-mul_right c.args.width line in
     let place = c.loop-line.invariant.place (omega arith) in
     let here : c.loop-line.start ≡ c.args.at + c.loop-line.line * c.args.width = omega arith in
+    let some = first_line (c.loop-line.line + 1) c.args.count (omega arith) in
+    let groups = mul-le-mul_right c.args.count line in
+    let moved = moved_forward _ _ _ _ _ (omega arith) (omega (arith, c.loop-line.invariant.run.length_stays)) c.move_forward.ensures.moved in
     record {
-      run = closing_run _ _ _ _ (c.loop-line.line + 1) _ _ _ _ _ _ c.requires.within (omega arith) (omega arith) c.min-run.ensures c.loop-line.invariant.run c.move_forward.ensures.moved refl;
+      run = closing_run _ _ _ _ (c.loop-line.line + 1) _ _ _ _ _ _ c.requires.within (omega arith) (omega arith) c.min-run.ensures c.loop-line.invariant.run moved refl;
       place = λ _. omega arith;
       none = λ e. absurd (omega arith);
       symmetry = omega arith;

@@ -1,5 +1,6 @@
 use Rattle.std.proofs.Common.{◌≡◌, ◌+◌, ◌-◌, ◌*◌, ◌≤◌, refl, ap, arith}
 use Rattle.std.proofs.Math.Nat.{mul-le-mul_right}
+use Rattle.grid_base.proofs.ShiftLemmas.{moved_back}
 use Rattle.grid_base.proofs.SpreadLemmas.{opening_none, opening_run, opening_end, times_less, first_line}
 use Rattle.grid_base.proofs.flat.lines.open_at.Goals as goal
 
@@ -18,8 +19,11 @@ loop-line-preserved g c =
     let some = times_less c.loop-line.line c.args.width (omega arith) in
     let before : (c.loop-line.line - 1) * c.args.width + c.args.width ≤ c.args.lines * c.args.width =
     omega (arith, mul-le-mul_right c.args.width line) in
+    let grows = first_line (c.loop-line.line - 1 + 1) c.args.count (omega arith) in
+    let groups = mul-le-mul_right c.args.count line in
+    let moved = moved_back _ _ _ _ _ (omega arith) (omega (arith, c.loop-line.invariant.run.length_stays)) c.move_back.ensures.moved in
     record {
-      run = opening_run _ _ _ _ (c.loop-line.line - 1 + 1) _ _ _ _ _ _ c.requires.within c.requires.has_count c.requires.cells line (omega arith) (omega arith) (omega arith) refl c.loop-line.invariant.run c.move_back.ensures.moved;
+      run = opening_run _ _ _ _ (c.loop-line.line - 1 + 1) _ _ _ _ _ _ c.requires.within c.requires.has_count c.requires.cells line (omega arith) (omega arith) (omega arith) refl c.loop-line.invariant.run moved;
       within = omega arith;
       place = omega arith;
       symmetry = omega arith;
