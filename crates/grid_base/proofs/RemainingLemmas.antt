@@ -1,7 +1,6 @@
 -- A walk from both ends of a list.
-use Rattle.std.proofs.Common.{◌≡◌, ℕ, ◌+◌, ◌-◌, ◌<◌, ◌≤◌, List, [], ◌∷◌, ◌++◌, take, drop, length, get_or, sym, ◌∙◌, ap, arith, suc, add-one, length-take, length-drop, min, ⊎_elim}
-use Rattle.std.proofs.lemmas.List.{take_all, take_more, get_or-drop, drop-take, drop-drop, drop_all}
-use Rattle.std.proofs.lemmas.Bool.{cases_lt}
+use Rattle.std.proofs.Common.{◌≡◌, ℕ, ◌+◌, ◌-◌, ◌<◌, ◌≤◌, List, [], ◌∷◌, ◌++◌, take, drop, length, get_or, sym, ◌∙◌, ap, arith, suc, add-one, length-take, length-drop, min}
+use Rattle.std.proofs.lemmas.List.{take_all, take_more, get_or-drop, drop-take, drop-drop, drop_min}
 use Rattle.std.proofs.Math.Seq.{drop-cons}
 use Rattle.grid_base.specs.Remaining.{IsRemaining, remaining}
 
@@ -45,16 +44,16 @@ module _ {X : Type 0} where
       ∙ (ap (λ y. remaining first (past - 1) xs ++ y ∷ []) (ap (λ k. get_or xs k d) (sym ej) ∙ sym ex)
       ∙ (ap (λ k. remaining k (past - 1) xs ++ x ∷ []) (sym eu) ∙ ap (λ k. remaining u k xs ++ x ∷ []) (sym ev)))
 
-  -- past n items, or past all where fewer are left
-  pub remaining_past : (first past n k u : ℕ) (xs : List X) → IsRemaining first past (length xs) → k ≡ min n (past - first) → u ≡ first + k → remaining u past xs ≡ drop n (remaining first past xs)
-  remaining_past first past n k u xs h ek eu =
-      ⊎_elim (λ lt.
-      let at : u ≡ first + n = omega arith in
+  -- past n items, which are left
+  pub remaining_past : (first past n : ℕ) (xs : List X) → n ≤ past - first → remaining (first + n) past xs ≡ drop n (remaining first past xs)
+  remaining_past first past n xs le =
       let more : past - first ≡ n + (past - (first + n)) = omega arith in
-      ap (λ i. remaining i past xs) at
-      ∙ (ap (take (past - (first + n))) (sym (drop-drop n first xs))
-      ∙ (sym (drop-take n (past - (first + n)) (drop first xs)) ∙ ap (λ i. drop n (take i (drop first xs))) (sym more))))
-      (λ ge.
-      let none : past - u ≡ 0 = omega (arith, h.ordered) in
-      ap (λ i. take i (drop u xs)) none ∙ sym (drop_all n (remaining first past xs) (omega (arith, length-left first past xs h))))
-      (cases_lt n (past - first))
+      ap (take (past - (first + n))) (sym (drop-drop n first xs))
+      ∙ (sym (drop-take n (past - (first + n)) (drop first xs)) ∙ ap (λ i. drop n (take i (drop first xs))) (sym more))
+
+  -- past n items, or past all where fewer are left
+  pub past_most : (n k : ℕ) (xs ys : List X) → k ≡ min n (length xs) → ys ≡ xs → drop k ys ≡ drop n xs
+  past_most n k xs ys ek e = rw (e, ek) (drop_min n xs)
+
+  pub part_past_most : (n k : ℕ) (xs ys : List X) → k ≡ min n (length xs) → ys ≡ xs → take (length ys - k) (drop k ys) ≡ drop n xs
+  part_past_most n k xs ys ek e = take_all (length ys - k) (drop k ys) (omega (arith, length-drop k ys)) ∙ past_most n k xs ys ek e

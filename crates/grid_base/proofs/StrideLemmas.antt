@@ -167,16 +167,21 @@ module _ {X : Type 0} (stride first past : ℕ) (xs : List X) (h : IsLine stride
   pub line_last : (j u v : ℕ) (d : X) → first < past → j ≡ past - 1 → u ≡ first → v ≡ past - 1 → strided_remaining stride first past xs ≡ strided_remaining stride u v xs ++ get_or xs (j * stride) d ∷ []
   line_last j u v d lt ej eu ev = remaining_next_back first past _ j u v line (get_or xs (j * stride) d) d h.remaining refl lt ej eu ev (sym (get-line j d))
 
--- a walk along a whole line
-module _ {X : Type 0} (start end stride n : ℕ) (xs ys : List X) (p : 0 < stride) (h : end ≤ length xs) (e : n ≡ div_ceil (end - start) stride) (same : ys ≡ xs) where
-  within_line : end ≤ length ys
-  within_line = omega (arith, ap length same)
+-- a walk along all of them
+module _ {X : Type 0} (stride n : ℕ) (xs : List X) (p : 0 < stride) (e : n ≡ div_ceil (length xs) stride) where
+  pub line_all : IsLine stride 0 n xs
+  line_all = record { steps = p; remaining = record { ordered = omega arith; within = omega (arith, length-strided stride xs p) } }
 
-  pub line_all : IsLine stride 0 n (take (end - start) (drop start ys))
-  line_all = record { steps = p; remaining = record { ordered = omega arith; within = omega (arith, length-line_of start end stride ys p within_line) } }
+  pub remaining_line : strided_remaining stride 0 n xs ≡ every 0 (stride - 1) xs
+  remaining_line = remaining_all n (every 0 (stride - 1) xs) (omega (arith, length-strided stride xs p))
 
-  pub remaining_line : strided_remaining stride 0 n (take (end - start) (drop start ys)) ≡ strided start end stride xs
-  remaining_line = remaining_all n (strided start end stride ys) (omega (arith, length-line_of start end stride ys p within_line)) ∙ ap (strided start end stride) same
+every_all : {X : Type 0} (xs : List X) → every 0 0 xs ≡ xs
+every_all [] = refl
+every_all (x ∷ xs) = ap (λ l. x ∷ l) (every_all xs)
+
+-- cells that stand together are all of those between the first and the last
+pub strided_together : {X : Type 0} (start end stride : ℕ) (xs : List X) → stride ≡ 1 → strided start end stride xs ≡ take (end - start) (drop start xs)
+strided_together start end stride xs e = rw e (every_all (take (end - start) (drop start xs)))
 
 -- the first cell after n others
 pub nth_found : {X : Type 0} (n : ℕ) (xs mid rest : List X) (r : Option (Bor X)) → mid ≡ drop n xs → YieldsFirstRef (λ (l : List X). l) mid r rest → (option_copied r ≡ slice_get xs n) × (rest ≡ drop (n + 1) xs)

@@ -13,6 +13,7 @@ pub mod Append
 pub mod Places
 pub mod Remaining
 pub mod Strides
+pub mod LineCells
 pub mod Span
 pub mod RowsLeft
 pub mod GridLineIterMut

@@ -15,6 +15,7 @@ mod places;
 mod row_iter;
 mod shift;
 mod span;
+mod strided_iter;
 mod strides;
 mod tally;
 #[cfg(test)]

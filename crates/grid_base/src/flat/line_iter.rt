@@ -7,10 +7,11 @@ ghost use Rattle.std.specs.Iterator.SizeHint.{IsWithinCount};
 ghost use Rattle.grid_base.specs.Strides.{strided, LinesInOrder, LinesInReverse};
 
 use super::span::Span;
+use super::strided_iter::StridedIter;
 use std::alloc::AllocError;
 use std::iter::FusedIterator;
 use std::marker::Model;
-use std::ops::Range;
+use std::slice;
 
 // Returns an iterator over the cells of a slice at the places of a span.
 pub(super) fn line_of<T>(cells: &[T], span: Span) -> GridLineIter<'_, T>
@@ -22,32 +23,36 @@ pub(super) fn line_of<T>(cells: &[T], span: Span) -> GridLineIter<'_, T>
     ensures runs { LinesInOrder T }
     ensures runs_back { LinesInReverse T }
 {
-    GridLineIter {
-        cells: &cells[span.start..span.end],
-        stride: span.stride,
-        ahead: 0..span.count,
-    }
+    let line = &cells[span.start..span.end];
+    let cells = if span.stride == 1 {
+        Cells::Together(line.iter())
+    } else {
+        Cells::Apart(StridedIter::new(line, span.stride, span.count))
+    };
+    GridLineIter { cells }
 }
 
 /// An iterator over a row or a column, from both ends. Each step takes the same time.
 #[derive(Drop)]
 pub struct GridLineIter<'a, T> {
-    // From the first cell of the line on.
-    cells: &'a [T],
-    stride: usize,
-    // The numbers of the cells that are left.
-    ahead: Range<usize>,
+    cells: Cells<'a, T>,
+}
+
+// The cells that are left. Where they stand together, a loop over them is as fast as one over a slice.
+#[derive(Drop)]
+enum Cells<'a, T> {
+    Together(slice::Iter<'a, T>),
+    Apart(StridedIter<'a, T>),
 }
 
 impl<'a, T> Model for GridLineIter<'a, T> {
     ghost use Rattle.std.specs.Prelude.{List};
-    ghost use Rattle.grid_base.specs.Strides.{IsLine, strided_remaining};
 
     ghost Value = { List T };
 
-    ghost view = { λ a. strided_remaining a.stride a.ahead.start a.ahead.end a.cells.now };
+    ghost use Rattle.grid_base.specs.LineCells.{cells_left};
 
-    ghost invariant = { λ a. IsLine a.stride a.ahead.start a.ahead.end a.cells.now };
+    ghost view = { λ a. cells_left a.cells };
 }
 
 impl<'a, T> GridLineIter<'a, T> {
@@ -59,7 +64,10 @@ impl<'a, T> GridLineIter<'a, T> {
         ensures rest { self.new ≡ drop (n + 1) self.old }
     {
         let passed = n.min(self.len());
-        self.ahead.start += passed;
+        match &mut self.cells {
+            Cells::Together(cells) => *cells = cells.as_slice()[passed..].iter(),
+            Cells::Apart(cells) => cells.pass(passed),
+        }
         self.next()
     }
 }
@@ -72,8 +80,10 @@ impl<'a, T> Iterator for GridLineIter<'a, T> {
     ghost remaining = { item_count (λ rest. rest) };
 
     fn next(&mut self) -> Option<&'a T> {
-        let number = self.ahead.next()?;
-        Some(&self.cells[number * self.stride])
+        match &mut self.cells {
+            Cells::Together(cells) => cells.next(),
+            Cells::Apart(cells) => cells.next(),
+        }
     }
 
     fn size_hint(&self) -> (usize, Option<usize>)
@@ -90,14 +100,19 @@ impl<'a, T> DoubleEndedIterator for GridLineIter<'a, T> {
     ghost next_back_gives = { YieldsLastRef (λ rest. rest) };
 
     fn next_back(&mut self) -> Option<&'a T> {
-        let number = self.ahead.next_back()?;
-        Some(&self.cells[number * self.stride])
+        match &mut self.cells {
+            Cells::Together(cells) => cells.next_back(),
+            Cells::Apart(cells) => cells.next_back(),
+        }
     }
 }
 
 impl<'a, T> ExactSizeIterator for GridLineIter<'a, T> {
     fn len(&self) -> usize {
-        self.ahead.len()
+        match &self.cells {
+            Cells::Together(cells) => cells.len(),
+            Cells::Apart(cells) => cells.len(),
+        }
     }
 }
 
@@ -112,10 +127,10 @@ impl<'a, T> Clone for GridLineIter<'a, T> {
     ghost is_infallible = { λ _. ⊤ };
 
     fn clone(&self) -> Result<Self, AllocError> {
-        Ok(GridLineIter {
-            cells: self.cells,
-            stride: self.stride,
-            ahead: self.ahead.start..self.ahead.end,
-        })
+        let cells = match &self.cells {
+            Cells::Together(cells) => Cells::Together(cells.clone()?),
+            Cells::Apart(cells) => Cells::Apart(cells.clone()?),
+        };
+        Ok(GridLineIter { cells })
     }
 }

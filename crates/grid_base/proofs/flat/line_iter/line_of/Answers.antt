@@ -1,12 +1,14 @@
-use Rattle.std.proofs.Common.{refl}
-use Rattle.grid_base.proofs.StrideLemmas.{lines_in_order, lines_in_reverse, line_all, remaining_line}
+use Rattle.std.proofs.Common.{ap, sym, ◌∙◌}
+use Rattle.grid_base.specs.LineCells.{cells_left}
+use Rattle.grid_base.proofs.StrideLemmas.{lines_in_order, lines_in_reverse, strided_together}
+use Rattle.grid_base.proofs.flat.line_iter.line_of.Goals.{then-span-eq1, else-span-eq1}
 use Rattle.grid_base.proofs.flat.line_iter.line_of.Goals as goal
 
-pub invariant_of-result : goal.invariant_of-result
-invariant_of-result g c = line_all _ _ _ _ _ _ c.requires.steps c.requires.within c.requires.counted refl
-
 pub returns-clause-rest : goal.returns-clause-rest
-returns-clause-rest g c = remaining_line _ _ _ _ _ _ c.requires.steps c.requires.within c.requires.counted refl
+returns-clause-rest g c = elim c.if-span-eq1.branch [
+  | then-span-eq1 w ↦ ap cells_left w.cells-is ∙ (w.iter.ensures.rest ∙ sym (strided_together c.args.span.start c.args.span.end _ c.args.cells.now w.if-span-eq1.true))
+  | else-span-eq1 w ↦ ap cells_left w.cells-is ∙ w.new.ensures
+]
 
 pub returns-clause-runs : goal.returns-clause-runs
 returns-clause-runs g c = lines_in_order _

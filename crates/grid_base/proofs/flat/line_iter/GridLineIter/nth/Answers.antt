@@ -1,9 +1,16 @@
-use Rattle.std.proofs.Common.{arith, drop, length, refl, ap, ◌∙◌}
-use Rattle.grid_base.proofs.RemainingLemmas.{remaining_past, length-left}
+use Rattle.std.proofs.Common.{drop, min, ap, sym, ◌∙◌, ◌≡◌}
+use Rattle.grid_base.specs.LineCells.{cells_left}
+use Rattle.grid_base.proofs.RemainingLemmas.{past_most, part_past_most}
 use Rattle.grid_base.proofs.StrideLemmas.{nth_found}
+use Rattle.grid_base.proofs.flat.line_iter.GridLineIter.nth.Goals.{in-Together, in-Apart}
 use Rattle.grid_base.proofs.flat.line_iter.GridLineIter.nth.Goals as goal
 
 pub returns : goal.returns
 returns g c =
-    let found = nth_found c.args.n c.args.self.now _ _ _ (remaining_past _ _ c.args.n c.min-passed.result _ _ c.self.invariant.remaining (omega (arith, c.min-passed.ensures, c.len.ensures.value, ap length c.self.view_is, length-left _ _ _ c.self.invariant.remaining)) refl ∙ ap (drop c.args.n) c.self.view_is) c.next.ensures.steps in
+    let count = c.min-passed.ensures ∙ ap (min c.args.n) c.len.ensures.value in
+    let passed : cells_left c.match-self.self-inside.cells ≡ drop c.args.n c.args.self.now = elim c.match-self.branch [
+      | in-Together w ↦ ap (λ i. cells_left i.cells) w.self-inside-is ∙ (w.iter.ensures.rest ∙ part_past_most _ _ _ _ count (w.as_slice.ensures.value ∙ (sym (ap cells_left w.in-Together.is) ∙ c.self.view_is)))
+      | in-Apart w ↦ ap (λ i. cells_left i.cells) w.self-inside-is ∙ (w.pass.ensures ∙ past_most _ _ _ _ count (sym (ap cells_left w.in-Apart.is) ∙ c.self.view_is))
+    ] in
+    let found = nth_found c.args.n c.args.self.now _ _ _ passed c.next.ensures.steps in
     record { item = found.0; rest = found.1 }

@@ -1,6 +1,6 @@
 use Rattle.std.proofs.Common.{arith, sym, ◌∙◌, rules}
 use Rattle.grid_base.proofs.StrideLemmas.{line_within, line_last}
-use Rattle.grid_base.proofs.flat.line_iter.GridLineIterDoubleEndedIterator.next_back.Goals as goal
+use Rattle.grid_base.proofs.flat.strided_iter.StridedIterDoubleEndedIterator.next_back.Goals as goal
 
 pub bounds-self-inside-number : goal.bounds-self-inside-number
 bounds-self-inside-number g c = line_within _ _ _ _ c.self.invariant _ (omega (arith, c.in_ok-number.ensures.steps))
