@@ -216,7 +216,8 @@ fn flip_stored<T, A: Allocator>(
 )
     requires { HoldsSize rows cols (length flat.old) }
     ensures cells { length flat.new ≡ length flat.old }
-    ensures rows { table_of order rows cols flat.new ≡ act FlipRows (table_of order rows cols flat.old) }
+    ensures rows { table_of order rows cols flat.new
+        ≡ act FlipRows (table_of order rows cols flat.old) }
     ensures symmetry { tally.new.symmetry
         ≡ saturating_count tally.old.symmetry (price FlipRows rows cols) }
     ensures shift { tally.new.shift ≡ tally.old.shift }
