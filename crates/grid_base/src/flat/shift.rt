@@ -4,6 +4,9 @@ ghost use Rattle.grid_base.specs.Blocks.{swapped_back, swapped_forward};
 
 use super::blocks::{SHORT_BLOCK, swap_blocks};
 
+// As many bytes as one vector of the processor holds.
+const VECTOR: usize = 16;
+
 // Moves the `n` cells that stand `shift` places behind `start` there, the first first, by `n` swaps. No block is longer
 // than `shift`, so short shifts go cell by cell.
 pub(super) fn move_forward<T>(cells: &mut [T], start: usize, shift: usize, n: usize)
@@ -37,9 +40,10 @@ fn move_forward_by_blocks<T>(cells: &mut [T], start: usize, shift: usize, n: usi
     requires moves { 0 < shift }
     ensures { cells.new ≡ swapped_forward start shift n cells.old }
 {
+    let block = whole_vectors(shift);
     let mut done = 0;
     while done < n {
-        let run = shift.min(n - done);
+        let run = block.min(n - done);
         swap_blocks(cells, start + done, start + done + shift, run);
         done += run;
     }
@@ -80,10 +84,24 @@ fn move_back_by_blocks<T>(cells: &mut [T], start: usize, shift: usize, n: usize)
     requires moves { 0 < shift }
     ensures { cells.new ≡ swapped_back start shift n cells.old }
 {
+    let block = whole_vectors(shift);
     let mut left = n;
     while 0 < left {
-        let run = shift.min(left);
+        let run = block.min(left);
         left -= run;
         swap_blocks(cells, start + left, start + left + shift, run);
     }
+}
+
+// The longest block of at most `n` cells that is whole vectors where cells are bytes, and `n` where it is shorter than
+// one: the last bytes of a block go one by one.
+fn whole_vectors(n: usize) -> usize
+    requires { 0 < n }
+    ensures some { 0 < result }
+    ensures within { result ≤ n }
+{
+    if n < VECTOR {
+        return n;
+    }
+    n - n % VECTOR
 }

@@ -89,6 +89,23 @@ fn cells_move_by_nine_places_and_back(rt: HostRuntime) -> Result<(), AllocError>
 }
 
 #[test]
+fn cells_move_by_seventeen_places_and_back(rt: HostRuntime) -> Result<(), AllocError> {
+    let cells = [
+        1, 2, 3, 4, 5, 6, 7, 8, 9, 10, 11, 12, 13, 14, 15, 16, 17, 18, 19, 20,
+    ];
+    let mut flat = Flat::from_vec(cells.to_vec(rt.alloc())?);
+    let mut tally = Tally::new();
+    flat.append_defaults(17)?;
+    flat.open(1, 20, 0, 17, &mut tally);
+    assert_eq!(rt; &flat.as_slice()[17..], cells.as_slice());
+    assert_eq!(rt; tally.shift(), 20);
+    flat.close_up(1, 20, 0, 17, &mut tally);
+    assert_eq!(rt; flat.as_slice(), cells.as_slice());
+    assert_eq!(rt; tally.shift(), 40);
+    Ok(())
+}
+
+#[test]
 fn cells_come_to_the_end_and_leave_it(rt: HostRuntime) -> Result<(), AllocError> {
     let mut flat = Flat::from_vec(vec![in rt.alloc(); 1, 2]?);
     let mut line = vec![in rt.alloc(); 3, 4]?;
