@@ -1,5 +1,5 @@
 //! Groups of cells that are put into the lines of a vector, or taken out of them.
-ghost use Rattle.std.specs.Prelude.{◌≡◌, ◌+◌, ◌-◌, ◌*◌, ◌^◌, ◌<◌, ◌≤◌, length};
+ghost use Rattle.std.specs.Prelude.{◌≡◌, ◌+◌, ◌-◌, ◌*◌, ◌^◌, ◌<◌, ◌≤◌, ◌⊎◌, length, IsFalse};
 ghost use Rattle.grid_base.specs.Groups.{Widened, Woven, Opened, Closed};
 ghost use Rattle.grid_base.specs.Tally.{saturating_count};
 
@@ -21,7 +21,9 @@ impl<T, A: Allocator> Flat<T, A> {
         requires within { at ≤ width }
         ensures { Woven lines width at count self.old self.new }
     {
-        weave_cells(self.cells.as_mut_slice(), lines, width, at, count);
+        if moves_groups(lines, width, at) {
+            weave_cells(self.cells.as_mut_slice(), lines, width, at, count);
+        }
     }
 
     /// Takes the `count` cells from place `at` on out of each line, and puts them behind the lines.
@@ -36,7 +38,9 @@ impl<T, A: Allocator> Flat<T, A> {
         requires within { at ≤ width }
         ensures { Woven lines width at count self.new self.old }
     {
-        unweave_cells(self.cells.as_mut_slice(), lines, width, at, count);
+        if moves_groups(lines, width, at) {
+            unweave_cells(self.cells.as_mut_slice(), lines, width, at, count);
+        }
     }
 
     /// Spreads the lines that stand first, so that each has room for `count` cells before its place `at`. What stood
@@ -88,6 +92,14 @@ impl<T, A: Allocator> Flat<T, A> {
         close_at(self, lines, width, at, count, tally);
         self.cells.truncate(lines * width);
     }
+}
+
+// Whether groups that stand behind their lines have to move to stand before place `at` of each. Where the lines have no
+// cells, or at the end of a single line, they stand there.
+fn moves_groups(lines: usize, width: usize, at: usize) -> bool
+    ensures { IsFalse result → (width ≡ 0) ⊎ ((lines ≤ 1) × (at ≡ width)) }
+{
+    0 < width && (1 < lines || at != width)
 }
 
 // The groups of the first half of the lines come before the lines of the second half; then each half is woven. Lines

@@ -22,6 +22,17 @@ fn unweave_takes_the_groups_out_of_each_line(rt: HostRuntime) -> Result<(), Allo
 }
 
 #[test]
+fn groups_that_stand_in_place_stay(rt: HostRuntime) -> Result<(), AllocError> {
+    let mut flat = Flat::from_vec(vec![in rt.alloc(); 1, 2, 3, 4, 5, 6]?);
+    flat.weave(3, 0, 0, 2);
+    flat.unweave(3, 0, 0, 2);
+    flat.weave(1, 4, 4, 2);
+    flat.unweave(1, 4, 4, 2);
+    assert_eq!(rt; flat.as_slice(), [1, 2, 3, 4, 5, 6].as_slice());
+    Ok(())
+}
+
+#[test]
 fn open_at_the_end_spreads_the_lines(rt: HostRuntime) -> Result<(), AllocError> {
     let mut flat = Flat::from_vec(vec![in rt.alloc(); 1, 2, 3, 4, 5, 6, 0, 0, 0, 0]?);
     let mut tally = Tally::new();
