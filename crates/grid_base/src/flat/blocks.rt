@@ -3,7 +3,7 @@ ghost use Rattle.std.specs.Prelude.{◌≡◌, ◌<◌, ◌≤◌, ◌+◌, ◌^
 ghost use Rattle.grid_base.specs.Blocks.{BlocksExchanged, BlocksSwapped, PartReversed};
 
 // Fewer cells are moved one by one, since a call out of line would cost more.
-const SHORT_PART: usize = 16;
+pub(super) const SHORT_PART: usize = 16;
 
 pub(super) const SHORT_BLOCK: usize = 8;
 

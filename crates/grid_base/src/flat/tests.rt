@@ -2,6 +2,10 @@
 use super::{Flat, Tally};
 use std::alloc::AllocError;
 
+const TWENTY: [u8; 20] = [
+    1, 2, 3, 4, 5, 6, 7, 8, 9, 10, 11, 12, 13, 14, 15, 16, 17, 18, 19, 20,
+];
+
 #[test]
 fn weave_puts_a_group_into_each_line(rt: HostRuntime) -> Result<(), AllocError> {
     let mut flat = Flat::from_vec(vec![in rt.alloc(); 1, 2, 3, 4, 5, 6, 10, 11, 20, 21]?);
@@ -76,6 +80,51 @@ fn cells_move_by_one_place_and_back(rt: HostRuntime) -> Result<(), AllocError> {
 }
 
 #[test]
+fn many_cells_move_by_one_place_and_back(rt: HostRuntime) -> Result<(), AllocError> {
+    let mut flat = Flat::from_vec(TWENTY.to_vec(rt.alloc())?);
+    let mut tally = Tally::new();
+    flat.append_defaults(1)?;
+    flat.open(1, 20, 1, 1, &mut tally);
+    assert_eq!(rt; &flat.as_slice()[..2], [1, 0].as_slice());
+    assert_eq!(rt; &flat.as_slice()[2..], &TWENTY[1..]);
+    assert_eq!(rt; tally.shift(), 19);
+    flat.close_up(1, 20, 1, 1, &mut tally);
+    assert_eq!(rt; flat.as_slice(), TWENTY.as_slice());
+    assert_eq!(rt; tally.shift(), 38);
+    Ok(())
+}
+
+#[test]
+fn an_odd_number_of_cells_moves_by_two_places(rt: HostRuntime) -> Result<(), AllocError> {
+    let mut flat = Flat::from_vec(TWENTY.to_vec(rt.alloc())?);
+    let mut tally = Tally::new();
+    flat.append_defaults(2)?;
+    flat.open(1, 20, 1, 2, &mut tally);
+    assert_eq!(rt; &flat.as_slice()[..3], [1, 0, 0].as_slice());
+    assert_eq!(rt; &flat.as_slice()[3..], &TWENTY[1..]);
+    assert_eq!(rt; tally.shift(), 19);
+    flat.close_up(1, 20, 1, 2, &mut tally);
+    assert_eq!(rt; flat.as_slice(), TWENTY.as_slice());
+    assert_eq!(rt; tally.shift(), 38);
+    Ok(())
+}
+
+#[test]
+fn an_even_number_of_cells_moves_by_two_places(rt: HostRuntime) -> Result<(), AllocError> {
+    let mut flat = Flat::from_vec(TWENTY.to_vec(rt.alloc())?);
+    let mut tally = Tally::new();
+    flat.append_defaults(2)?;
+    flat.open(1, 20, 0, 2, &mut tally);
+    assert_eq!(rt; &flat.as_slice()[..2], [0, 0].as_slice());
+    assert_eq!(rt; &flat.as_slice()[2..], TWENTY.as_slice());
+    assert_eq!(rt; tally.shift(), 20);
+    flat.close_up(1, 20, 0, 2, &mut tally);
+    assert_eq!(rt; flat.as_slice(), TWENTY.as_slice());
+    assert_eq!(rt; tally.shift(), 40);
+    Ok(())
+}
+
+#[test]
 fn cells_move_by_nine_places_and_back(rt: HostRuntime) -> Result<(), AllocError> {
     let mut flat = Flat::from_vec(vec![in rt.alloc();
         1, 2, 3, 4, 5, 6, 7, 8, 9, 10, 11, 12, 0, 0, 0, 0, 0, 0, 0, 0, 0,
@@ -101,17 +150,14 @@ fn cells_move_by_nine_places_and_back(rt: HostRuntime) -> Result<(), AllocError>
 
 #[test]
 fn cells_move_by_seventeen_places_and_back(rt: HostRuntime) -> Result<(), AllocError> {
-    let cells = [
-        1, 2, 3, 4, 5, 6, 7, 8, 9, 10, 11, 12, 13, 14, 15, 16, 17, 18, 19, 20,
-    ];
-    let mut flat = Flat::from_vec(cells.to_vec(rt.alloc())?);
+    let mut flat = Flat::from_vec(TWENTY.to_vec(rt.alloc())?);
     let mut tally = Tally::new();
     flat.append_defaults(17)?;
     flat.open(1, 20, 0, 17, &mut tally);
-    assert_eq!(rt; &flat.as_slice()[17..], cells.as_slice());
+    assert_eq!(rt; &flat.as_slice()[17..], TWENTY.as_slice());
     assert_eq!(rt; tally.shift(), 20);
     flat.close_up(1, 20, 0, 17, &mut tally);
-    assert_eq!(rt; flat.as_slice(), cells.as_slice());
+    assert_eq!(rt; flat.as_slice(), TWENTY.as_slice());
     assert_eq!(rt; tally.shift(), 40);
     Ok(())
 }
