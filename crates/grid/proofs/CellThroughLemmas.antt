@@ -11,9 +11,9 @@ use Rattle.grid_base.specs.Symmetry.{act, symmetry_of}
 use Rattle.grid_base.proofs.ActLemmas.{IsTable-act}
 use Rattle.grid_base.proofs.WriteLemmas.{get-set_same, get-set_other}
 use Rattle.grid_base.proofs.GroupLemmas.{product, act-act, act-identity, act_all-is, symmetry_of-product_from}
+use Rattle.grid_commands.specs.Refusal.{in_range}
 use Rattle.grid.specs.AllCells.{filled}
 use Rattle.grid.proofs.ColEditLemmas.{rows-across, cols-across, cell-across, across_by_cells}
-use Rattle.grid.specs.Refusal.{in_range}
 use Rattle.grid.specs.Through.{mirror_place}
 use Rattle.grid.proofs.MirrorLemmas.{flip_rows-is}
 

@@ -12,8 +12,8 @@ use Rattle.grid_base.specs.Order.{storage, CanCut}
 use Rattle.grid_base.specs.GridValue.{GridValue}
 use Rattle.grid_base.proofs.StorageLemmas.{length-concat_rows}
 use Rattle.grid_base.proofs.ViewLemmas.{same_by_storage, none_by_storage}
-use Rattle.grid.specs.declared.error.ShapeError.{ShapeError}
-use Rattle.grid.specs.declared.error.ShapeError.TheVariants.{Memory}
+use Rattle.grid_commands.specs.declared.error.ShapeError.{ShapeError}
+use Rattle.grid_commands.specs.declared.error.ShapeError.TheVariants.{Memory}
 use Rattle.grid.proofs.MadeLemmas.{CanCut-cells}
 use Rattle.grid.specs.Conversion.{HasShape, AreEven, CanJoin, equal_rows, CutAnswer}
 

@@ -8,13 +8,6 @@ use Rattle.grid_base.specs.GridValue.{HoldsSize}
 use Rattle.grid.specs.Edits.{insert_rows, without_rows, expanded_rows, prepended_rows}
 use Rattle.grid.proofs.RowEditLemmas.{HasWidth, HasWidth-put, HasWidth-take, rows-put, rows-take}
 
--- a product that is small has small factors
-pub factor_small : (x y : ℕ) → 0 < y → x * y < 2 ^ 64 → x < 2 ^ 64
-factor_small x y some small = let le : x * 1 ≤ x * y = times 1 y some in omega (arith, small, le)
-  where
-    times : (a b : ℕ) → a ≤ b → x * a ≤ x * b
-    times a b le = grind (arith, mul-le-mul_right x le)
-
 module _ {T : Type 0} where
   pub IsTable-width : (t : List (List T)) (n : ℕ) → 0 < n → HasWidth t n → IsTable t
   IsTable-width t n some h =

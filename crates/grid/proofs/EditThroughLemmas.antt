@@ -9,13 +9,13 @@ use Rattle.grid_base.specs.declared.words.Symmetry.TheVariants.{FlipRows, Transp
 use Rattle.grid_base.specs.Table.{row, row_count, col_count, IsTable}
 use Rattle.grid_base.specs.Symmetry.{act}
 use Rattle.grid_base.proofs.ActLemmas.{rows-act, cols-act, IsTable-act}
+use Rattle.grid_commands.specs.declared.command.Axis.TheVariants.{Row, Col}
+use Rattle.grid_commands.specs.declared.command.Refusal.TheVariants.{EmptyLine, Length, Index, TooLarge}
+use Rattle.grid_commands.specs.Command.{Edit, read, push, insert_at, insert_all, pop, remove_at, delete_at, delete_range, expand, prepend}
+use Rattle.grid_commands.specs.Reply.{line_is, flag_is}
+use Rattle.grid_commands.specs.Refusal.{insert_refusal, edit_refusal, fitting_width}
 use Rattle.grid.proofs.EditSizeLemmas.{LinesFit}
 use Rattle.grid.proofs.ColEditLemmas.{across-across, across-transposed, rows-across, cols-across}
-use Rattle.grid.specs.declared.command.Axis.TheVariants.{Row, Col}
-use Rattle.grid.specs.declared.command.Refusal.TheVariants.{EmptyLine, Length, Index, TooLarge}
-use Rattle.grid.specs.Command.{Edit, read, push, insert_at, insert_all, pop, remove_at, delete_at, delete_range, expand, prepend}
-use Rattle.grid.specs.Reply.{line_is, flag_is}
-use Rattle.grid.specs.Refusal.{insert_refusal, edit_refusal, fitting_width}
 use Rattle.grid.specs.Step.{Effect, nothing, inserts, removes, range_effect, effect, after_effect, edit_takes_memory, has_lines, edit_reply, line_at}
 use Rattle.grid.specs.Through.{turned_reply, mirror_place, mirror_gap, mirror_start, edit_of_flipped, edit_of_reversed}
 use Rattle.grid.proofs.MirrorLemmas.{get-reverse, flip_rows-is, flip_cols-is}

@@ -6,10 +6,10 @@ use Rattle.grid_base.specs.Table.{row_count, col_count, IsTable}
 use Rattle.grid_base.specs.Symmetry.{act}
 use Rattle.grid_base.proofs.ActLemmas.{cols-act}
 use Rattle.grid_base.proofs.TableLemmas.{IsSize-table}
+use Rattle.grid_commands.specs.declared.command.Axis.TheVariants.{Row, Col}
 use Rattle.grid.specs.Edits.{insert_rows, expanded_rows, prepended_rows}
 use Rattle.grid.proofs.EditSizeLemmas.{LinesFit, copies, expanded-put, prepended-put}
 use Rattle.grid.proofs.ColEditLemmas.{ColumnsFit, insert_cols-across, without_cols-across, expanded_cols-across, prepended_cols-across, across-across, rows-across, cols-across}
-use Rattle.grid.specs.declared.command.Axis.TheVariants.{Row, Col}
 use Rattle.grid.specs.Step.{Effect, nothing, inserts, removes, pads_end, pads_front, after_effect}
 use Rattle.grid.proofs.MirrorLemmas.{put-reversed, take-reversed, reverse-replicate, map-replicate, flip_rows-is, put-mapped, take-mapped, map-reverse-reverse}
 

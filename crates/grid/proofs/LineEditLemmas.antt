@@ -1,24 +1,23 @@
 -- Edits of rows as the code of a grid does them, and of columns as those of rows between two transposes.
-use Rattle.std.proofs.Common.{◌≡◌, ℕ, zero, suc, ◌+◌, ◌-◌, ◌*◌, ◌^◌, ◌<◌, ◌≤◌, Bool, true, false, not, Option, Some, None, List, [], ◌∷◌, Vec, nat_eq, nat_lt, if◌then◌else◌, IsTrue, MatchOption, Result, Ok, Err, OnOk, IfOk, ◌↔◌, refl, sym, ◌∙◌, ap, arith, ⊎_elim}
+use Rattle.std.proofs.Common.{◌≡◌, ℕ, ◌+◌, ◌-◌, ◌<◌, ◌≤◌, Bool, true, false, not, Option, Some, None, List, [], ◌∷◌, Vec, nat_lt, if◌then◌else◌, IsTrue, MatchOption, Result, Ok, Err, OnOk, IfOk, ◌↔◌, refl, sym, ◌∙◌, ap, arith, ⊎_elim}
 use Rattle.std.specs.List.{insert, remove, slice_get}
 use Rattle.std.specs.Option.{option_map}
-use Rattle.std.proofs.lemmas.Bool.{lt-ltb, le-ltb, ne_eqb, cases_lt}
+use Rattle.std.proofs.lemmas.Bool.{lt-ltb, le-ltb, cases_lt}
 use Rattle.std.proofs.lemmas.Option.{slice_get_past, slice_get-get_or}
 use Rattle.grid_base.specs.declared.words.Symmetry.TheVariants.{Transpose}
 use Rattle.grid_base.specs.Table.{row, row_count, col_count, IsTable}
 use Rattle.grid_base.specs.Symmetry.{act}
-use Rattle.grid.specs.declared.command.Axis.{Axis}
-use Rattle.grid.specs.declared.command.Axis.TheVariants.{Row, Col}
-use Rattle.grid.specs.declared.command.Refusal.{Refusal}
+use Rattle.grid_commands.specs.declared.command.Axis.{Axis}
+use Rattle.grid_commands.specs.declared.command.Axis.TheVariants.{Row, Col}
+use Rattle.grid_commands.specs.declared.command.Refusal.{Refusal}
+use Rattle.grid_commands.specs.Command.{Edit, read, push, insert_at, insert_all, pop, remove_at, delete_at, delete_range, expand, prepend, get, lines}
+use Rattle.grid_commands.specs.Reply.{ReplyValue, done, cell_is, line_is, flag_is, refused}
+use Rattle.grid_commands.specs.Refusal.{in_range, insert_refusal, pad_refusal, edit_refusal, unless_refused}
+use Rattle.grid_commands.specs.LineEdit.{pad_edit}
 use Rattle.grid.specs.Edits.{insert_rows, without_rows, PadsRows, padding_count}
-use Rattle.grid.specs.Command.{Edit, read, push, insert_at, insert_all, pop, remove_at, delete_at, delete_range, expand, prepend, get, lines}
-use Rattle.grid.specs.Reply.{ReplyValue, done, cell_is, line_is, flag_is, refused}
-use Rattle.grid.specs.Refusal.{too_many, in_range, insert_refusal, pad_refusal, edit_refusal, unless_refused}
-use Rattle.grid.specs.LineEdit.{pad_edit}
 use Rattle.grid.specs.Step.{nothing, removes, range_effect, effect, after_effect, edit_reply, step_rows, step_reply}
 use Rattle.grid.specs.Through.{turned_reply}
 use Rattle.grid.proofs.EditViewLemmas.{put_line, take_line}
-use Rattle.grid.proofs.EditSizeLemmas.{factor_small}
 use Rattle.grid.proofs.NoneTakenLemmas.{remove-past}
 use Rattle.grid.proofs.SeenPaddingLemmas.{pads_expanded, pads_prepended}
 use Rattle.grid.proofs.ColEditLemmas.{across-across}
@@ -33,15 +32,6 @@ always_ok (Err e) p = tt
 pub map_ok : {V E : Type 0} (r : Result V E) {P Q : V → Type 0} → ((v : V) → P v → Q v) → IfOk r P → IfOk r Q
 map_ok (Ok v) f h = f v h
 map_ok (Err e) f h = h
-
--- lines of some width that are too many alone have too many cells
-pub many_lines : (total width : ℕ) → 2 ^ 64 ≤ total → not (nat_eq width 0) ≡ too_many (total * width)
-many_lines total zero h = sym (le-ltb 18446744073709551615 (total * 0) (omega arith))
-many_lines total (suc width) h =
-    ⊎_elim {C = not (nat_eq (suc width) 0) ≡ too_many (total * suc width)}
-    (λ lt. rw (ne_eqb (suc width) 0 (λ e. omega (arith, e))) (sym (lt-ltb 18446744073709551615 (total * suc width) lt)))
-    (λ le. absurd (omega (arith, h, factor_small total (suc width) (omega arith) (omega (arith, le)))))
-    (cases_lt 18446744073709551615 (total * suc width))
 
 found_is : (found : Bool) (a b : ℕ) → IsTrue found ↔ (a ≤ b) → found ≡ not (nat_lt b a)
 found_is true a b h = sym (ap not (le-ltb b a (h.0 refl)))

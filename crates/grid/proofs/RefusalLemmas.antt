@@ -5,9 +5,9 @@ use Rattle.std.proofs.lemmas.List.{length-reverse, length-map, reverse-append, r
 use Rattle.std.proofs.lemmas.List.Folds.{list_all-append, list_any-append}
 use Rattle.std.proofs.lemmas.Bool.{eqb-true, ne_eqb, lt-ltb, le-ltb, cases_Bool, cases_lt, and_parts, or_parts, both_ways, false_from_ne_true}
 use Rattle.grid_base.specs.Table.{row}
-use Rattle.grid.specs.declared.command.Refusal.TheVariants.{EmptyLine, Length, Index, TooLarge}
-use Rattle.grid.specs.Command.{Edit, read, push, insert_at, insert_all}
-use Rattle.grid.specs.Refusal.{first_width, fitting_width, insert_refusal, edit_refusal}
+use Rattle.grid_commands.specs.declared.command.Refusal.TheVariants.{EmptyLine, Length, Index, TooLarge}
+use Rattle.grid_commands.specs.Command.{Edit, read, push, insert_at, insert_all}
+use Rattle.grid_commands.specs.Refusal.{first_width, fitting_width, insert_refusal, edit_refusal}
 use Rattle.grid.specs.Through.{mirror_gap, edit_of_flipped, edit_of_reversed}
 
 and_comm : (x y : Bool) → (x && y) ≡ (y && x)

@@ -14,9 +14,9 @@ use Rattle.grid_base.specs.Symmetry.{symmetry_of, order_after}
 use Rattle.grid_base.specs.Tally.{Counts, saturating_count}
 use Rattle.grid_base.specs.Clones.{ClonesAreEqual}
 use Rattle.grid_base.proofs.GroupLemmas.{product, symmetry_of-product_from, symmetry_of-more, order_after-order_after}
+use Rattle.grid_commands.specs.Command.{CommandValue, Edit, expand, prepend, pop, size, lines, fill}
+use Rattle.grid_commands.specs.Reply.{ReplyValue}
 use Rattle.grid.specs.Make.{IsOnlyDefault}
-use Rattle.grid.specs.Command.{CommandValue, Edit, expand, prepend, pop, size, lines, fill}
-use Rattle.grid.specs.Reply.{ReplyValue}
 use Rattle.grid.specs.Step.{step_rows, step_reply, takes_memory, RowsAreKnown, EditIsKnown}
 use Rattle.grid.specs.Cost.{command_symmetry, list_symmetry, step_price, step_shift}
 use Rattle.grid.specs.Run.{run_rows, run_replies, run_price, run_shift, LeftByRun, Ran, MayStop}

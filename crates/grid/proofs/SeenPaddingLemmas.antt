@@ -11,11 +11,12 @@ use Rattle.grid_base.specs.Order.{table_of, flipped}
 use Rattle.grid_base.specs.GridValue.{GridValue, HoldsSize}
 use Rattle.grid_base.specs.Append.{AppendsEach}
 use Rattle.grid_base.specs.Symmetry.{act}
+use Rattle.grid_commands.proofs.FactorLemmas.{factor_small}
 use Rattle.grid.specs.Edits.{PadsRows, PadsCols, padding_count, insert_rows, insert_cols, expanded_rows, prepended_rows, expanded_cols, prepended_cols}
 use Rattle.grid.specs.RowGroups.{RowsOpened}
 use Rattle.grid.proofs.SeenLemmas.{seen_rows, seen_cols}
 use Rattle.grid.proofs.PaddingLemmas.{All-all_fresh, replicate_from_all, All-from_gets, holds_at}
-use Rattle.grid.proofs.EditSizeLemmas.{HoldsSize-filled, factor_small, IsTable-width, put-no_lines, copies, row-copies, HasWidth-copies, expanded-put, prepended-put}
+use Rattle.grid.proofs.EditSizeLemmas.{HoldsSize-filled, IsTable-width, put-no_lines, copies, row-copies, HasWidth-copies, expanded-put, prepended-put}
 use Rattle.grid.proofs.ColEditLemmas.{rows-across, cols-across, across-none, ColumnsFit, insert_cols-across, expanded_cols-across, prepended_cols-across}
 
 module _ {T : Type 0} where

@@ -6,17 +6,17 @@ use Rattle.grid_base.specs.declared.words.Symmetry.TheVariants.{FlipRows, Transp
 use Rattle.grid_base.specs.Table.{row_count, col_count, IsTable, IsSize}
 use Rattle.grid_base.proofs.TableLemmas.{IsSize-table}
 use Rattle.grid_base.specs.Symmetry.{act}
-use Rattle.grid.specs.Command.{CommandValue, size, get, set_cell, swap_cells, lines, fill, clear, apply, axis_of}
-use Rattle.grid.specs.Reply.{ReplyValue, cell_is, refused}
-use Rattle.grid.specs.Refusal.{in_range, command_refusal, unless_refused}
 use Rattle.grid.specs.Step.{rows_after, reply_to, step_rows, step_reply, takes_memory}
 use Rattle.grid.specs.Through.{turned_reply, mirror_place, command_of_transposed, command_of_flipped}
 use Rattle.grid_base.proofs.ActLemmas.{rows-act, cols-act, IsTable-act}
+use Rattle.grid_commands.specs.Command.{CommandValue, size, get, set_cell, swap_cells, lines, fill, clear, apply, axis_of}
+use Rattle.grid_commands.specs.Reply.{ReplyValue, cell_is, refused}
+use Rattle.grid_commands.specs.Refusal.{in_range, command_refusal, unless_refused}
+use Rattle.grid_commands.specs.declared.command.Axis.{Axis}
+use Rattle.grid_commands.specs.declared.command.Axis.TheVariants.{Row, Col}
+use Rattle.grid_commands.specs.declared.command.Refusal.{Refusal}
+use Rattle.grid_commands.specs.declared.command.Refusal.TheVariants.{Index}
 use Rattle.grid.proofs.ColEditLemmas.{across-none, rows-across, cols-across}
-use Rattle.grid.specs.declared.command.Axis.{Axis}
-use Rattle.grid.specs.declared.command.Axis.TheVariants.{Row, Col}
-use Rattle.grid.specs.declared.command.Refusal.{Refusal}
-use Rattle.grid.specs.declared.command.Refusal.TheVariants.{Index}
 use Rattle.grid.proofs.RefusalLemmas.{command_refusal-edit_of_flipped, command_refusal-edit_of_reversed}
 use Rattle.grid.proofs.EditThroughLemmas.{place_past, memory-edit_of_flipped, memory-edit_of_reversed, rows-edit_flipped, cols-edit_flipped, rows-edit_across, cols-edit_across, table-rows_edit, table-cols_edit, reply-rows_flip, reply-cols_flip, reply-rows_cross, reply-cols_cross}
 use Rattle.grid.proofs.CellThroughLemmas.{cell-flip, cell-cross, set-flip, set-cross, swap-flip, swap-cross, fill-flip, fill-cross, none-flip, apply-through, IsTable-with, IsTable-exchanged, IsTable-filled}

@@ -6,9 +6,9 @@ use Rattle.grid_base.specs.Table.{row_count, col_count, IsTable}
 use Rattle.grid_base.specs.Symmetry.{act}
 use Rattle.grid_base.proofs.ActLemmas.{cols-act, IsTable-act}
 use Rattle.grid_base.proofs.GroupLemmas.{act-act}
+use Rattle.grid_commands.specs.declared.command.Axis.TheVariants.{Row, Col}
 use Rattle.grid.proofs.EditSizeLemmas.{LinesFit, IsTable-put, IsTable-take, IsTable-width, copies, HasWidth-copies, expanded-put, prepended-put}
 use Rattle.grid.proofs.ColEditLemmas.{across-across}
-use Rattle.grid.specs.declared.command.Axis.TheVariants.{Row, Col}
 use Rattle.grid.specs.Step.{Effect, nothing, inserts, removes, pads_end, pads_front, after_effect}
 use Rattle.grid.proofs.MirrorLemmas.{flip_rows-is, flip_cols-is}
 use Rattle.grid.proofs.EffectLemmas.{IsApplicable, flipped_effect, reversed_effect, effect-flipped, effect-reversed, effect-across}

@@ -6,8 +6,8 @@ use Rattle.grid_base.specs.Table.{row, row_count, col_count, concat_rows, IsTabl
 use Rattle.grid_base.specs.Order.{CanCut}
 use Rattle.grid_base.specs.GridValue.{GridValue}
 use Rattle.grid_base.specs.Clones.{ClonesAreEqual}
-use Rattle.grid.specs.declared.error.ShapeError.{ShapeError}
-use Rattle.grid.specs.declared.error.ShapeError.TheVariants.{TooLarge, Shape, Ragged, Memory}
+use Rattle.grid_commands.specs.declared.error.ShapeError.{ShapeError}
+use Rattle.grid_commands.specs.declared.error.ShapeError.TheVariants.{TooLarge, Shape, Ragged, Memory}
 
 -- why so many cells could not be cut into rows of n: the cells of one vector are never too many, and rows that are cut
 -- are never ragged; memory says when want of memory may come

@@ -6,11 +6,11 @@ use Rattle.grid_base.specs.declared.words.Symmetry.{Symmetry}
 use Rattle.grid_base.specs.declared.words.Symmetry.TheVariants.{Identity}
 use Rattle.grid_base.specs.Order.{flipped}
 use Rattle.grid_base.specs.Symmetry.{price, symmetry_of}
-use Rattle.grid.specs.declared.command.Axis.{Axis}
-use Rattle.grid.specs.declared.command.Axis.TheVariants.{Row, Col}
+use Rattle.grid_commands.specs.declared.command.Axis.{Axis}
+use Rattle.grid_commands.specs.declared.command.Axis.TheVariants.{Row, Col}
+use Rattle.grid_commands.specs.Command.{Edit, read, push, insert_at, insert_all, pop, remove_at, delete_at, delete_range, expand, prepend, CommandValue, size, get, set_cell, swap_cells, lines, fill, clear, apply, line_count, line_width}
+use Rattle.grid_commands.specs.Refusal.{pad_refusal}
 use Rattle.grid.specs.Shift.{rows_added_shift, delete_rows_shift}
-use Rattle.grid.specs.Command.{Edit, read, push, insert_at, insert_all, pop, remove_at, delete_at, delete_range, expand, prepend, CommandValue, size, get, set_cell, swap_cells, lines, fill, clear, apply, line_count, line_width}
-use Rattle.grid.specs.Refusal.{pad_refusal}
 
 -- the order in which the lines of an axis are those of a row-major storage
 abbrev pub axis_order : Axis → Order → Order

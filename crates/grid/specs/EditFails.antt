@@ -1,10 +1,10 @@
 -- How an edit that adds lines fails: as too large exactly where the cells would be too many, and with nothing changed.
 use Rattle.std.specs.Prelude.{◌≡◌, ◌↔◌, ℕ, List, [], Vec, Result, IsOk, IsErrOf, IsErrAnd, IfErr, OnErr}
 use Rattle.grid_base.specs.GridValue.{GridValue}
-use Rattle.grid.specs.declared.error.GridError.{GridError}
-use Rattle.grid.specs.declared.error.GridError.TheVariants.{TooLarge}
-use Rattle.grid.specs.declared.error.LineRefused.{LineRefused}
-use Rattle.grid.specs.declared.error.LinesRefused.{LinesRefused}
+use Rattle.grid_commands.specs.declared.error.GridError.{GridError}
+use Rattle.grid_commands.specs.declared.error.GridError.TheVariants.{TooLarge}
+use Rattle.grid_commands.specs.declared.error.LineRefused.{LineRefused}
+use Rattle.grid_commands.specs.declared.error.LinesRefused.{LinesRefused}
 use Rattle.grid.specs.Make.{ExceedsMax}
 
 module _ {T X : Type 0} where

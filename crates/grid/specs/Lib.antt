@@ -3,10 +3,6 @@ pub mod Make
 pub mod Slots
 pub mod Conversion
 pub mod Passes
-pub mod Reply
-pub mod Command
-pub mod Refusal
-pub mod LineEdit
 pub mod Step
 pub mod Cost
 pub mod Through

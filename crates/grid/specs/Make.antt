@@ -3,8 +3,8 @@ use Rattle.std.specs.Prelude.{◌≡◌, ◌≢◌, ◌↔◌, ◌≤◌, ◌^�
 use Rattle.grid_base.specs.declared.flat.order.Order.{Order}
 use Rattle.grid_base.specs.Table.{row_count, col_count, cell, InRange, IsTable}
 use Rattle.grid_base.specs.GridValue.{GridValue}
-use Rattle.grid.specs.declared.error.GridError.{GridError}
-use Rattle.grid.specs.declared.error.GridError.TheVariants.{TooLarge}
+use Rattle.grid_commands.specs.declared.error.GridError.{GridError}
+use Rattle.grid_commands.specs.declared.error.GridError.TheVariants.{TooLarge}
 
 -- m rows of n cells are more cells than `usize::MAX`
 abbrev pub ExceedsMax : ℕ → ℕ → Type 0

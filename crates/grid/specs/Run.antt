@@ -6,8 +6,8 @@ use Rattle.grid_base.specs.GridValue.{GridValue}
 use Rattle.grid_base.specs.Symmetry.{order_after}
 use Rattle.grid_base.specs.Tally.{Counts, saturating_count}
 use Rattle.grid_base.specs.Clones.{ClonesAreEqual}
-use Rattle.grid.specs.Command.{CommandValue}
-use Rattle.grid.specs.Reply.{ReplyValue}
+use Rattle.grid_commands.specs.Command.{CommandValue}
+use Rattle.grid_commands.specs.Reply.{ReplyValue}
 use Rattle.grid.specs.Step.{step_rows, step_reply, takes_memory, RowsAreKnown}
 use Rattle.grid.specs.Cost.{command_symmetry, list_symmetry, step_price, step_shift}
 

@@ -4,7 +4,8 @@ ghost use Rattle.grid_base.specs.Table.{col_count, concat_rows};
 ghost use Rattle.grid_base.specs.Order.{CanCut};
 ghost use Rattle.grid.specs.Conversion.{equal_rows, AreClones, AreClonedRows, CanJoin, RowsFault, RowsAnswer, CutAnswer};
 
-use crate::{Grid, ShapeError};
+use crate::Grid;
+use grid_commands::{ShapeError, first_len};
 use std::alloc::{AllocError, Allocator};
 use std::convert::{AsSlice, TryFrom};
 
@@ -88,16 +89,6 @@ impl<T: Clone, A: Allocator + Clone> TryFrom<(&Vec<T, A>, &usize)> for Grid<T, A
 
     fn try_from(pair: (&Vec<T, A>, &usize)) -> Result<Grid<T, A>, ShapeError> {
         cut_clones(pair.0, *pair.1)
-    }
-}
-
-// Returns the length of the first row, or 0 where there is none.
-pub(crate) fn first_len<T, L: AsSlice<T>>(rows: &[L]) -> usize
-    ensures { result ≡ col_count (map L.items rows.now) }
-{
-    match rows.first() {
-        Some(row) => row.as_slice().len(),
-        None => 0,
     }
 }
 

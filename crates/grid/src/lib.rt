@@ -31,7 +31,6 @@
 mod command;
 mod convert;
 mod edits;
-mod error;
 mod grid;
 mod macros;
 mod pretty;
@@ -39,12 +38,14 @@ mod symmetry;
 mod traits;
 mod walks;
 
-pub use command::{Axis, Command, Refusal, Reply, RunStopped, run};
+pub use command::run;
 pub use convert::can_cut;
-pub use error::{GridError, LineRefused, LinesRefused, ShapeError};
 pub use grid::Grid;
 pub use grid_base::{
     GridLineIter, GridLineIterMut, GridRowIter, IndexedIntoIter, IndexedIter, IndexedIterMut, Move,
     Order, Symmetry, Tally, Whole, reduce,
+};
+pub use grid_commands::{
+    Axis, Command, GridError, LineRefused, LinesRefused, Refusal, Reply, RunStopped, ShapeError,
 };
 pub use walks::GridColIter;

@@ -1,12 +1,14 @@
 //! Callers of `grid`.
 ghost use Rattle.std.specs.Prelude.{◌≡◌, ◌↔◌, IsTrue, IsSome, IfSome, IfErr, OnOk, OnErr, insert, length, remove};
-ghost use Rattle.grid_base.specs.Table.{row_count, exchanged, InRange};
+ghost use Rattle.grid_base.specs.Table.{row_count, col_count, exchanged, InRange};
 ghost use Rattle.grid_base.specs.Order.{storage, CanCut};
-ghost use Rattle.grid.specs.Command.{lines, push};
-ghost use Rattle.grid.specs.declared.command.Axis.TheVariants.{Row};
+ghost use Rattle.grid_commands.specs.Command.{lines, push, insert_at};
+ghost use Rattle.grid_commands.specs.Refusal.{command_refusal};
+ghost use Rattle.grid_commands.specs.declared.command.Axis.TheVariants.{Row};
 ghost use Rattle.grid.specs.Step.{step_rows};
 
 use grid::{Command, Grid, Order, Refusal, Reply, Tally, can_cut};
+use grid_commands::line_refusal;
 use std::alloc::{AllocError, Allocator};
 
 /// Returns the grid of these cells, cut into rows of `cols`, or `None` where they can't be cut so.
@@ -90,4 +92,19 @@ where
         Reply::Refused(refusal) => Ok(Some(refusal)),
         _ => Ok(None),
     }
+}
+
+/// Returns why a command that inserts this row before row `at` would be refused, or `None` where it wouldn't be.
+///
+///     [[1, 2], [3, 4]]   why_not_inserted(3, [5, 6])   Some(Index)        why_not_inserted(2, [5, 6])   None
+pub fn why_not_inserted<T, A: Allocator>(
+    grid: &Grid<T, A>,
+    at: usize,
+    line: &Vec<T, A>,
+) -> Option<Refusal>
+    ensures { result ≡ command_refusal (lines Row (insert_at at line.now.items))
+        (row_count grid.now.rows) (col_count grid.now.rows) }
+{
+    let (rows, cols) = grid.size();
+    line_refusal(rows, cols, at, line)
 }

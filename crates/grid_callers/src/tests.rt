@@ -1,5 +1,5 @@
 //! Each caller on its happy path, and where it says no.
-use crate::boards::{cut, exchange, push, push_by_command, take_first};
+use crate::boards::{cut, exchange, push, push_by_command, take_first, why_not_inserted};
 use crate::shown::cell_through;
 use crate::whole::{add_blank_row, of_rows};
 use crate::words::apply_word;
@@ -59,6 +59,15 @@ fn pushes_by_a_command(rt: HostRuntime) -> Result<(), Fail> {
         Some(Refusal::Length)
     );
     assert_eq!(rt; grid.flatten(), [1, 2, 3, 4, 5, 6].as_slice());
+    Ok(())
+}
+
+#[test]
+fn says_why_not_inserted(rt: HostRuntime) -> Result<(), Fail> {
+    let grid = board(rt.alloc())?;
+    let line = vec![in rt.alloc(); 5, 6]?;
+    assert_eq!(rt; why_not_inserted(&grid, 3, &line), Some(Refusal::Index));
+    assert_eq!(rt; why_not_inserted(&grid, 2, &line), None);
     Ok(())
 }
 

@@ -10,10 +10,10 @@ use Rattle.grid_base.specs.Table.{row_count, col_count, IsTable}
 use Rattle.grid_base.specs.Symmetry.{act, image_rows, image_cols}
 use Rattle.grid_base.proofs.ActLemmas.{rows-act, IsTable-act}
 use Rattle.grid_base.proofs.GroupLemmas.{product, act-act, act-identity}
-use Rattle.grid.specs.declared.command.Axis.{Axis}
-use Rattle.grid.specs.declared.command.Axis.TheVariants.{Row, Col}
-use Rattle.grid.specs.Command.{CommandValue, size, lines, read, push, axis_of}
-use Rattle.grid.specs.Reply.{ReplyValue, done, size_is, cell_is, line_is, flag_is, refused}
+use Rattle.grid_commands.specs.declared.command.Axis.{Axis}
+use Rattle.grid_commands.specs.declared.command.Axis.TheVariants.{Row, Col}
+use Rattle.grid_commands.specs.Command.{CommandValue, size, lines, read, push, axis_of}
+use Rattle.grid_commands.specs.Reply.{ReplyValue, done, size_is, cell_is, line_is, flag_is, refused}
 use Rattle.grid.specs.Step.{step_rows, step_reply, takes_memory}
 use Rattle.grid.specs.Cost.{step_shift}
 use Rattle.grid.specs.Through.{other_axis, reverses_cells, base_axis, reversed_if, turned_reply, command_of_transposed, command_of_flipped}

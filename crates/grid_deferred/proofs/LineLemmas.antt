@@ -6,7 +6,7 @@ use Rattle.grid_base.specs.Gather.{items_of_each}
 use Rattle.grid_base.specs.declared.words.Symmetry.{Symmetry}
 use Rattle.grid_base.specs.Symmetry.{IsThen, symmetry_of}
 use Rattle.grid_base.proofs.GroupLemmas.{product, then_is, symmetry_of-product_from, identity_product}
-use Rattle.grid.specs.Command.{CommandValue, apply}
+use Rattle.grid_commands.specs.Command.{CommandValue, apply}
 
 -- a symmetry between two others, joined one by one
 pub between : {T : Type 0} (g u v w : Symmetry) → IsThen g u v → IsThen v g w → ◌≡◌ {A = CommandValue T} (apply w) (apply (symmetry_of (g ∷ u ∷ g ∷ [])))

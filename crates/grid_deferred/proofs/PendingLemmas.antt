@@ -7,15 +7,15 @@ use Rattle.grid_base.specs.declared.flat.order.Order.{Order}
 use Rattle.grid_base.specs.Tally.{saturating_count}
 use Rattle.grid_base.specs.Symmetry.{act, IsThen}
 use Rattle.grid_base.proofs.GroupLemmas.{product, then_is, act-act, symmetry_of-product_from, identity_product, product_identity}
-use Rattle.grid.specs.Command.{CommandValue, Edit, command_value, size, get, lines, apply, axis_of, read, pop}
-use Rattle.grid.specs.Reply.{ReplyValue, done}
-use Rattle.grid.specs.declared.command.Axis.{Axis}
-use Rattle.grid.specs.declared.command.Axis.TheVariants.{Row, Col}
-use Rattle.grid.specs.declared.command.Command.{Command}
-use Rattle.grid.specs.declared.command.Command.TheVariants.{Apply, Size}
+use Rattle.grid_commands.specs.Command.{CommandValue, Edit, command_value, size, get, lines, apply, axis_of, read, pop}
+use Rattle.grid_commands.specs.Reply.{ReplyValue, done}
+use Rattle.grid_commands.specs.declared.command.Axis.{Axis}
+use Rattle.grid_commands.specs.declared.command.Axis.TheVariants.{Row, Col}
+use Rattle.grid_commands.specs.declared.command.Command.{Command}
+use Rattle.grid_commands.specs.declared.command.Command.TheVariants.{Apply, Size}
+use Rattle.grid_commands.specs.Refusal.{in_range}
 use Rattle.grid.specs.Step.{step_rows, step_reply, takes_memory, RowsAreKnown, EditIsKnown}
 use Rattle.grid.specs.Cost.{command_symmetry, step_shift}
-use Rattle.grid.specs.Refusal.{in_range}
 use Rattle.grid.proofs.CellThroughLemmas.{cell_past}
 use Rattle.grid.specs.Through.{turned_reply, edit_of_flipped, edit_of_reversed, command_of_transposed, command_of_flipped}
 use Rattle.grid_deferred.specs.Carry.{shift_through, CarriesAt, is_apply}

@@ -13,8 +13,8 @@ use Rattle.grid_base.specs.Symmetry.{act, order_after, price, half, image_rows, 
 use Rattle.grid_base.proofs.ActLemmas.{rows-act, cols-act}
 use Rattle.grid_base.proofs.GroupLemmas.{product, act-identity}
 use Rattle.grid_base.proofs.PriceLemmas.{price_within_half}
-use Rattle.grid.specs.Command.{CommandValue}
-use Rattle.grid.specs.Reply.{ReplyValue}
+use Rattle.grid_commands.specs.Command.{CommandValue}
+use Rattle.grid_commands.specs.Reply.{ReplyValue}
 use Rattle.grid.specs.Step.{step_rows, step_reply, RowsAreKnown}
 use Rattle.grid.specs.Cost.{command_symmetry, list_symmetry}
 use Rattle.grid.specs.Run.{run_rows, run_replies, Ran}

@@ -12,9 +12,9 @@ use Rattle.grid_base.specs.Symmetry.{act, image_rows, image_cols}
 use Rattle.grid_base.proofs.TableLemmas.{same_cells}
 use Rattle.grid_base.proofs.ActLemmas.{rows-act, cols-act, IsTable-act}
 use Rattle.grid_base.proofs.GroupLemmas.{product, act-act, act-identity}
-use Rattle.grid.specs.declared.command.Axis.TheVariants.{Col}
-use Rattle.grid.specs.Command.{read, lines}
-use Rattle.grid.specs.Reply.{line_is}
+use Rattle.grid_commands.specs.declared.command.Axis.TheVariants.{Col}
+use Rattle.grid_commands.specs.Command.{read, lines}
+use Rattle.grid_commands.specs.Reply.{line_is}
 use Rattle.grid.specs.Step.{step_reply}
 use Rattle.grid.specs.Through.{mirror_place}
 use Rattle.grid.proofs.ColEditLemmas.{across-transposed, rows-across, cols-across}

@@ -3,7 +3,7 @@
 use Rattle.std.specs.Prelude.{ℕ}
 use Rattle.grid_base.specs.declared.words.Symmetry.{Symmetry}
 use Rattle.grid_base.specs.declared.words.Symmetry.TheVariants.{Identity, FlipCols, FlipRows, RotateHalf, Transpose, RotateLeft, RotateRight, AntiTranspose}
-use Rattle.grid.specs.Command.{CommandValue}
+use Rattle.grid_commands.specs.Command.{CommandValue}
 use Rattle.grid.specs.Through.{mirror_place, command_of_transposed, command_of_flipped}
 
 -- the command on a base of m rows and n columns that does what this one does on its image

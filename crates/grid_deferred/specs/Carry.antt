@@ -5,9 +5,9 @@ use Rattle.grid_base.specs.declared.flat.order.Order.{Order}
 use Rattle.grid_base.specs.Flags.{flags_of}
 use Rattle.grid_base.specs.Table.{row_count, col_count, IsTable}
 use Rattle.grid_base.specs.Symmetry.{act}
-use Rattle.grid.specs.declared.command.Axis.{Axis}
-use Rattle.grid.specs.declared.command.Axis.TheVariants.{Row, Col}
-use Rattle.grid.specs.Command.{Edit, read, push, insert_at, insert_all, pop, remove_at, delete_at, delete_range, expand, prepend, CommandValue, size, get, set_cell, swap_cells, lines, fill, clear, apply, axis_of, line_count}
+use Rattle.grid_commands.specs.declared.command.Axis.{Axis}
+use Rattle.grid_commands.specs.declared.command.Axis.TheVariants.{Row, Col}
+use Rattle.grid_commands.specs.Command.{Edit, read, push, insert_at, insert_all, pop, remove_at, delete_at, delete_range, expand, prepend, CommandValue, size, get, set_cell, swap_cells, lines, fill, clear, apply, axis_of, line_count}
 use Rattle.grid.specs.Step.{step_rows, step_reply, takes_memory}
 use Rattle.grid.specs.Cost.{step_shift}
 use Rattle.grid.specs.Through.{turned_reply, base_axis, mirror_place, mirror_start}

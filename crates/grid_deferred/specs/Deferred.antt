@@ -4,8 +4,8 @@ use Rattle.std.specs.Borrow.{GName}
 use Rattle.grid_base.specs.declared.words.Symmetry.{Symmetry}
 use Rattle.grid_base.specs.GridValue.{GridValue}
 use Rattle.grid_base.specs.Symmetry.{act, symmetry_of}
+use Rattle.grid_commands.specs.Command.{CommandValue}
 use Rattle.grid_deferred.specs.declared.deferred.Deferred.{Deferred}
-use Rattle.grid.specs.Command.{CommandValue}
 use Rattle.grid.specs.Cost.{command_symmetry}
 
 module _ {T A : Type 0} where

@@ -8,8 +8,8 @@ use Rattle.grid_base.specs.Table.{row_count, col_count}
 use Rattle.grid_base.specs.Tally.{Counts, saturating_count}
 use Rattle.grid_base.specs.Clones.{ClonesAreEqual}
 use Rattle.grid_base.specs.Symmetry.{order_after, price, half, image_rows, image_cols}
-use Rattle.grid.specs.Command.{Edit, read, push, insert_at, insert_all, pop, remove_at, delete_at, delete_range, expand, prepend, CommandValue, size, get, set_cell, swap_cells, lines, fill, clear, apply}
-use Rattle.grid.specs.Reply.{ReplyValue}
+use Rattle.grid_commands.specs.Command.{Edit, read, push, insert_at, insert_all, pop, remove_at, delete_at, delete_range, expand, prepend, CommandValue, size, get, set_cell, swap_cells, lines, fill, clear, apply}
+use Rattle.grid_commands.specs.Reply.{ReplyValue}
 use Rattle.grid.specs.Step.{step_rows, RowsAreKnown}
 use Rattle.grid.specs.Cost.{list_symmetry}
 use Rattle.grid.specs.Run.{run_rows, run_replies}

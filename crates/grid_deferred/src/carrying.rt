@@ -4,8 +4,8 @@
 ghost use Rattle.std.specs.Prelude.{◌≡◌, map, reverse};
 ghost use Rattle.grid_base.specs.Gather.{items_of_each};
 ghost use Rattle.grid_base.specs.Symmetry.{transposes};
-ghost use Rattle.grid.specs.Command.{command_value};
-ghost use Rattle.grid.specs.Reply.{reply_value};
+ghost use Rattle.grid_commands.specs.Command.{command_value};
+ghost use Rattle.grid_commands.specs.Reply.{reply_value};
 ghost use Rattle.grid.specs.Through.{turned_reply, reverses_cells, mirror_place, mirror_gap, mirror_start, command_of_transposed, command_of_flipped};
 ghost use Rattle.grid_deferred.specs.Carry.{Carries, is_apply};
 ghost use Rattle.grid_deferred.specs.Carried.{carried, base_place};

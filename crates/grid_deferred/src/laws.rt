@@ -1,8 +1,8 @@
 //! Laws of deferred runs as public calls: each makes the calls that its name says, and ensures what they leave.
 ghost use Rattle.std.specs.Prelude.{◌≡◌, All, IfSome, map};
 ghost use Rattle.grid_base.specs.Clones.{ClonesAreEqual};
-ghost use Rattle.grid.specs.Command.{command_value};
-ghost use Rattle.grid.specs.Reply.{reply_value};
+ghost use Rattle.grid_commands.specs.Command.{command_value};
+ghost use Rattle.grid_commands.specs.Reply.{reply_value};
 ghost use Rattle.grid.specs.Step.{RowsAreKnown};
 
 use crate::run_deferred;

@@ -1,7 +1,7 @@
 //! A run that defers its symmetries.
 ghost use Rattle.std.specs.Prelude.{IfOk, IfErr, map, take};
-ghost use Rattle.grid.specs.Command.{command_value};
-ghost use Rattle.grid.specs.Reply.{reply_value};
+ghost use Rattle.grid_commands.specs.Command.{command_value};
+ghost use Rattle.grid_commands.specs.Reply.{reply_value};
 ghost use Rattle.grid.specs.Run.{MayStop};
 ghost use Rattle.grid_deferred.specs.Run.{RanDeferred};
 

@@ -1,8 +1,8 @@
 //! The laws of runs: the same list on grids of the same rows, in unlike orders and in both kinds of run.
 ghost use Rattle.std.specs.Prelude.{◌≡◌, [], ◌∷◌, map, IfOk};
-ghost use Rattle.grid.specs.Command.{command_value, lines, push, size, apply};
-ghost use Rattle.grid.specs.declared.command.Axis.TheVariants.{Row};
 ghost use Rattle.grid_base.specs.declared.words.Symmetry.TheVariants.{RotateLeft};
+ghost use Rattle.grid_commands.specs.Command.{command_value, lines, push, size, apply};
+ghost use Rattle.grid_commands.specs.declared.command.Axis.TheVariants.{Row};
 
 use grid::{Command, Grid, Order, Reply, RunStopped, Symmetry, Tally};
 use grid_deferred::laws::run_at_once_and_deferred;

@@ -11,9 +11,9 @@ ghost use Rattle.grid_base.specs.Symmetry.{act, order_after, IsInverse};
 ghost use Rattle.grid_base.specs.declared.words.Symmetry.{Symmetry};
 ghost use Rattle.grid_base.specs.declared.words.Symmetry.TheVariants.{FlipCols, FlipRows, RotateHalf, RotateLeft, RotateRight, Transpose};
 ghost use Rattle.grid_base.specs.Clones.{ClonesAreEqual};
+ghost use Rattle.grid_commands.specs.Command.{command_value};
+ghost use Rattle.grid_commands.specs.Reply.{reply_value};
 ghost use Rattle.grid.specs.Edits.{FitsRow, FitsCol, insert_col};
-ghost use Rattle.grid.specs.Command.{command_value};
-ghost use Rattle.grid.specs.Reply.{reply_value};
 ghost use Rattle.grid.specs.Step.{RowsAreKnown};
 ghost use Rattle.grid.specs.Cost.{list_symmetry};
 

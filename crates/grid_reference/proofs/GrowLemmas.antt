@@ -7,8 +7,8 @@ use Rattle.std.proofs.lemmas.List.Elements.{filter_map-append}
 use Rattle.grid_base.specs.declared.words.Symmetry.{Symmetry}
 use Rattle.grid_base.specs.Table.{row_count, col_count, cell, cells_by, tabulate}
 use Rattle.grid_base.specs.Symmetry.{source_row, source_col}
-use Rattle.grid.specs.Command.{CommandValue}
-use Rattle.grid.specs.Reply.{ReplyValue}
+use Rattle.grid_commands.specs.Command.{CommandValue}
+use Rattle.grid_commands.specs.Reply.{ReplyValue}
 use Rattle.grid.specs.Step.{step_rows, step_reply}
 use Rattle.grid.specs.Run.{run_rows, run_replies}
 use Rattle.grid.proofs.RunLemmas.{run_rows-more, run_replies-more}

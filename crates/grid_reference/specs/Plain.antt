@@ -1,7 +1,7 @@
 -- What a contract sees of a vector of rows.
 use Rattle.std.specs.Prelude.{◌≡◌, ℕ, ◌≤◌, List, Vec, length, map, take}
 use Rattle.std.specs.declared.alloc.Global.{Global}
-use Rattle.grid.specs.Command.{CommandValue}
+use Rattle.grid_commands.specs.Command.{CommandValue}
 use Rattle.grid.specs.Run.{run_rows}
 
 -- its rows

@@ -1,122 +1,25 @@
 //! Commands on lines: an edit of rows, and an edit of columns as that of rows between two transposes.
 //!
-//! A refusal is decided as its definition says, before memory is asked for. `let _ = grid.size();` shows the prover
-//! that the rows are a table.
-ghost use Rattle.std.specs.Prelude.{◌≡◌, ◌+◌, ◌*◌, ◌<◌, length, nat_eq, nat_lt, [], ◌∷◌, OnOk, OnErr, IfOk, IsTrue};
-ghost use Rattle.std.specs.List.{list_any, list_all};
+//! A refusal is decided before memory is asked for. `let _ = grid.size();` shows the prover that the rows are a
+//! table.
+ghost use Rattle.std.specs.Prelude.{◌≡◌, ◌<◌, nat_lt, OnOk, OnErr, IfOk, IsTrue};
 ghost use Rattle.grid_base.specs.Table.{row, row_count, col_count, IsTable};
 ghost use Rattle.grid_base.specs.Gather.{items_of_each};
 ghost use Rattle.grid_base.specs.Tally.{saturating_count};
 ghost use Rattle.grid_base.specs.Clones.{ClonesAreEqual};
+ghost use Rattle.grid_commands.specs.Command.{lines, read, insert_at, insert_all, remove_at, delete_range};
+ghost use Rattle.grid_commands.specs.Reply.{reply_value};
+ghost use Rattle.grid_commands.specs.LineEdit.{edit_value, pad_edit};
+ghost use Rattle.grid_commands.specs.declared.command.Axis.TheVariants.{Row, Col};
 ghost use Rattle.grid.specs.Make.{IsOnlyDefault};
-ghost use Rattle.grid.specs.Command.{lines, read, insert_at, insert_all, remove_at, delete_range};
-ghost use Rattle.grid.specs.Reply.{reply_value};
-ghost use Rattle.grid.specs.Refusal.{too_many, insert_refusal, pad_refusal};
-ghost use Rattle.grid.specs.LineEdit.{edit_value, pad_edit};
 ghost use Rattle.grid.specs.Step.{step_rows, step_reply, takes_memory, EditIsKnown};
 ghost use Rattle.grid.specs.Cost.{step_shift};
 ghost use Rattle.grid.specs.Shift.{delete_rows_shift};
-ghost use Rattle.grid.specs.declared.command.Axis.TheVariants.{Row, Col};
 
 use crate::Grid;
-use crate::command::{Refusal, Reply};
-use crate::convert::first_len;
 use grid_base::Tally;
+use grid_commands::{LineEdit, Reply, line_refusal, lines_refusal, pad_refusal};
 use std::alloc::{AllocError, Allocator};
-
-/// An edit of the lines of one axis.
-#[derive(Drop)]
-pub(crate) enum LineEdit<T, A: Allocator> {
-    Read(usize),
-    Push(Vec<T, A>),
-    Insert(usize, Vec<T, A>),
-    InsertAll(usize, Vec<Vec<T, A>, A>),
-    Pop,
-    Remove(usize),
-    Delete(usize),
-    DeleteRange(usize, usize),
-    Expand(usize),
-    Prepend(usize),
-}
-
-// Whether so many lines of this width, and more of them, have too many cells for a grid.
-fn exceeds(count: usize, more: usize, width: usize) -> bool
-    ensures { result ≡ too_many ((count + more) * width) }
-{
-    match count.checked_add(more) {
-        Some(total) => total.checked_mul(width).is_none(),
-        None => width != 0,
-    }
-}
-
-// Why a line can't be put before one of so many lines of this width.
-fn line_refusal<T, A: Allocator>(
-    count: usize,
-    width: usize,
-    at: usize,
-    line: &Vec<T, A>,
-) -> Option<Refusal>
-    ensures { result ≡ insert_refusal count width at (line.now.items ∷ []) }
-{
-    let len = line.len();
-    if len == 0 {
-        Some(Refusal::EmptyLine)
-    } else if count != 0 && len != width {
-        Some(Refusal::Length)
-    } else if at > count {
-        Some(Refusal::Index)
-    } else if exceeds(count, 1, len) {
-        Some(Refusal::TooLarge)
-    } else {
-        None
-    }
-}
-
-fn any_of_length<T, A: Allocator>(lines: &[Vec<T, A>], len: usize) -> bool
-    ensures { result ≡ list_any (λ l. nat_eq (length l) len) (items_of_each lines.now) }
-{
-    lines.iter().any(|line| line.len() == len)
-}
-
-fn all_of_length<T, A: Allocator>(lines: &[Vec<T, A>], len: usize) -> bool
-    ensures { result ≡ list_all (λ l. nat_eq (length l) len) (items_of_each lines.now) }
-{
-    lines.iter().all(|line| line.len() == len)
-}
-
-// Why lines can't be put before one of so many lines of this width.
-fn lines_refusal<T, A: Allocator>(
-    count: usize,
-    width: usize,
-    at: usize,
-    lines: &[Vec<T, A>],
-) -> Option<Refusal>
-    ensures { result ≡ insert_refusal count width at (items_of_each lines.now) }
-{
-    let fitting = if count == 0 { first_len(lines) } else { width };
-    if any_of_length(lines, 0) {
-        Some(Refusal::EmptyLine)
-    } else if !all_of_length(lines, fitting) {
-        Some(Refusal::Length)
-    } else if at > count {
-        Some(Refusal::Index)
-    } else if exceeds(count, lines.len(), fitting) {
-        Some(Refusal::TooLarge)
-    } else {
-        None
-    }
-}
-
-// Why so many lines of this width can't be padded by `more` of them.
-fn pad_refusal(count: usize, width: usize, more: usize) -> Option<Refusal>
-    ensures { result ≡ pad_refusal count width more }
-{
-    if count != 0 && more != 0 && exceeds(count, more, width) {
-        Some(Refusal::TooLarge)
-    } else {
-        None
-    }
-}
 
 // Clones of the cells of a row.
 fn clone_row<T: Clone + Drop, A: Allocator>(

@@ -1,25 +1,13 @@
 //! Runs of commands.
 ghost use Rattle.std.specs.Prelude.{IfOk, IfErr, map, take};
-ghost use Rattle.grid.specs.Command.{command_value};
-ghost use Rattle.grid.specs.Reply.{reply_value};
+ghost use Rattle.grid_commands.specs.Command.{command_value};
+ghost use Rattle.grid_commands.specs.Reply.{reply_value};
 ghost use Rattle.grid.specs.Run.{Ran, MayStop};
 
 use crate::Grid;
-use crate::command::{Command, Reply};
 use grid_base::Tally;
-use std::alloc::{Allocator, Global};
-
-/// A run that found no memory.
-///
-/// The grid has the rows after the first `done` commands, and `replies` are theirs.
-#[derive(Drop)]
-#[derive_where(Debug, PartialEq; T)]
-pub struct RunStopped<T, A: Allocator = Global> {
-    /// How many commands were done.
-    pub done: usize,
-    /// Their replies.
-    pub replies: Vec<Reply<T, A>, A>,
-}
+use grid_commands::{Command, Reply, RunStopped};
+use std::alloc::Allocator;
 
 /// Does a list of commands in turn, each as [`Grid::step`] does it, and returns their replies.
 ///

@@ -5,70 +5,17 @@ ghost use Rattle.grid_base.specs.Symmetry.{act, order_after, half};
 ghost use Rattle.grid_base.specs.Tally.{saturating_count};
 ghost use Rattle.grid_base.specs.Clones.{ClonesAreEqual};
 ghost use Rattle.grid_base.specs.declared.words.Symmetry.{Symmetry};
-ghost use Rattle.grid.specs.Command.{command_value, get, set_cell, swap_cells, lines, fill, apply};
-ghost use Rattle.grid.specs.Reply.{reply_value};
-ghost use Rattle.grid.specs.Refusal.{in_range};
-ghost use Rattle.grid.specs.LineEdit.{request_value};
+ghost use Rattle.grid_commands.specs.Command.{command_value, get, set_cell, swap_cells, lines, fill, apply};
+ghost use Rattle.grid_commands.specs.Reply.{reply_value};
+ghost use Rattle.grid_commands.specs.Refusal.{in_range};
 ghost use Rattle.grid.specs.Step.{step_rows, step_reply, takes_memory, RowsAreKnown};
 ghost use Rattle.grid.specs.Cost.{command_symmetry, step_price, step_shift};
 
-use super::lines::{LineEdit, edit_cols, edit_rows};
+use super::lines::{edit_cols, edit_rows};
 use crate::Grid;
-use crate::command::{Axis, Command, Refusal, Reply};
-use grid_base::{Symmetry, Tally};
+use grid_base::Tally;
+use grid_commands::{Axis, Command, Refusal, Reply, Request, request_of};
 use std::alloc::{AllocError, Allocator};
-
-/// A command as it is read: the commands on lines are one, with its axis.
-#[derive(Drop)]
-pub(crate) enum Request<T, A: Allocator> {
-    Size,
-    Get(usize, usize),
-    Set(usize, usize, T),
-    Swap((usize, usize), (usize, usize)),
-    Lines(Axis, LineEdit<T, A>),
-    Fill(T),
-    Clear,
-    Apply(Symmetry),
-}
-
-// Reads a command.
-fn request_of<T, A: Allocator>(command: Command<T, A>) -> Request<T, A>
-    ensures { request_value result ≡ command_value command }
-{
-    match command {
-        Command::Size => Request::Size,
-        Command::Get(row, col) => Request::Get(row, col),
-        Command::Row(at) => Request::Lines(Axis::Row, LineEdit::Read(at)),
-        Command::Col(at) => Request::Lines(Axis::Col, LineEdit::Read(at)),
-        Command::Set(row, col, value) => Request::Set(row, col, value),
-        Command::Swap(a, b) => Request::Swap(a, b),
-        Command::PushRow(line) => Request::Lines(Axis::Row, LineEdit::Push(line)),
-        Command::PushCol(line) => Request::Lines(Axis::Col, LineEdit::Push(line)),
-        Command::InsertRow(at, line) => Request::Lines(Axis::Row, LineEdit::Insert(at, line)),
-        Command::InsertCol(at, line) => Request::Lines(Axis::Col, LineEdit::Insert(at, line)),
-        Command::InsertRows(at, lines) => Request::Lines(Axis::Row, LineEdit::InsertAll(at, lines)),
-        Command::InsertCols(at, lines) => Request::Lines(Axis::Col, LineEdit::InsertAll(at, lines)),
-        Command::PopRow => Request::Lines(Axis::Row, LineEdit::Pop),
-        Command::PopCol => Request::Lines(Axis::Col, LineEdit::Pop),
-        Command::RemoveRow(at) => Request::Lines(Axis::Row, LineEdit::Remove(at)),
-        Command::RemoveCol(at) => Request::Lines(Axis::Col, LineEdit::Remove(at)),
-        Command::DeleteRow(at) => Request::Lines(Axis::Row, LineEdit::Delete(at)),
-        Command::DeleteCol(at) => Request::Lines(Axis::Col, LineEdit::Delete(at)),
-        Command::DeleteRows(start, count) => {
-            Request::Lines(Axis::Row, LineEdit::DeleteRange(start, count))
-        }
-        Command::DeleteCols(start, count) => {
-            Request::Lines(Axis::Col, LineEdit::DeleteRange(start, count))
-        }
-        Command::ExpandRows(count) => Request::Lines(Axis::Row, LineEdit::Expand(count)),
-        Command::ExpandCols(count) => Request::Lines(Axis::Col, LineEdit::Expand(count)),
-        Command::PrependRows(count) => Request::Lines(Axis::Row, LineEdit::Prepend(count)),
-        Command::PrependCols(count) => Request::Lines(Axis::Col, LineEdit::Prepend(count)),
-        Command::Fill(value) => Request::Fill(value),
-        Command::Clear => Request::Clear,
-        Command::Apply(symmetry) => Request::Apply(symmetry),
-    }
-}
 
 // Whether there is a cell in a row and a column.
 fn has_cell<T, A: Allocator>(grid: &Grid<T, A>, at: (usize, usize)) -> bool

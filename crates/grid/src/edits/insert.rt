@@ -2,15 +2,15 @@
 ghost use Rattle.std.specs.Prelude.{◌≡◌, ◌+◌, ◌*◌, ◌^◌, ◌<◌, ◌≤◌, [], length, insert, All, OnOk};
 ghost use Rattle.grid_base.specs.Table.{row_count, col_count, IsTable};
 ghost use Rattle.grid_base.specs.Gather.{items_of_each};
+ghost use Rattle.grid_commands.specs.declared.error.GridError.TheVariants.{TooLarge};
 ghost use Rattle.grid.specs.Edits.{FitsRow, FitsCol, insert_col, insert_rows, insert_cols};
 ghost use Rattle.grid.specs.EditFails.{LineFails, LinesFail};
 ghost use Rattle.grid.specs.RowGroups.{RowsInserted};
-ghost use Rattle.grid.specs.declared.error.GridError.TheVariants.{TooLarge};
 
 use super::{has_room, row_groups};
-use crate::convert::first_len;
 use crate::{Grid, GridError, LineRefused, LinesRefused};
 use grid_base::{Flat, Order};
+use grid_commands::first_len;
 use std::alloc::Allocator;
 
 // Puts the rows that stand behind the cells of a table, `count` of them in storage order, before its row `at`.

@@ -1,8 +1,8 @@
 use Rattle.std.proofs.Common.{map, sym, ap, ◌∙◌}
 use Rattle.std.proofs.lemmas.List.{length-map}
 use Rattle.grid_base.specs.Symmetry.{order_after}
-use Rattle.grid.specs.Command.{command_value}
-use Rattle.grid.specs.Reply.{reply_value}
+use Rattle.grid_commands.specs.Command.{command_value}
+use Rattle.grid_commands.specs.Reply.{reply_value}
 use Rattle.grid.specs.Cost.{list_symmetry}
 use Rattle.grid.proofs.LineEditLemmas.{map_ok}
 use Rattle.grid.proofs.RunLemmas.{on_ok_of, same_run_rows, same_run_replies}

@@ -2,8 +2,8 @@
 ghost use Rattle.std.specs.Prelude.{◌≡◌, ◌+◌, ◌*◌, length, nat_eq, [], ◌∷◌, if◌then◌else◌};
 ghost use Rattle.std.specs.List.{list_any, list_all};
 ghost use Rattle.grid_base.specs.Gather.{items_of_each};
-ghost use Rattle.grid.specs.Command.{command_value};
-ghost use Rattle.grid.specs.Refusal.{too_many, in_range, fitting_width, insert_refusal, pad_refusal, command_refusal};
+ghost use Rattle.grid_commands.specs.Command.{command_value};
+ghost use Rattle.grid_commands.specs.Refusal.{too_many, in_range, fitting_width, insert_refusal, pad_refusal, command_refusal};
 
 use grid::{Command, Refusal};
 

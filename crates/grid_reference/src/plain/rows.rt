@@ -3,7 +3,7 @@ ghost use Rattle.std.specs.Prelude.{◌≡◌, ◌+◌, ◌++◌, [], ◌∷◌,
 ghost use Rattle.std.specs.Option.{option_map};
 ghost use Rattle.grid_base.specs.Gather.{items_of_each};
 ghost use Rattle.grid_base.specs.Table.{row_count};
-ghost use Rattle.grid.specs.declared.command.Axis.TheVariants.{Row};
+ghost use Rattle.grid_commands.specs.declared.command.Axis.TheVariants.{Row};
 ghost use Rattle.grid.specs.Edits.{insert_rows, expanded_rows, prepended_rows};
 ghost use Rattle.grid.specs.Step.{range_effect, after_effect};
 

@@ -1,4 +1,4 @@
-use Rattle.grid.specs.Command.{command_value}
+use Rattle.grid_commands.specs.Command.{command_value}
 use Rattle.grid_deferred.proofs.PendingLemmas.{carried_known, through-rows, through-reply, through-shift, through-memory}
 use Rattle.grid_deferred.proofs.deferred.step_through.Goals as goal
 

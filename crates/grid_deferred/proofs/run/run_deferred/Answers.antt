@@ -3,8 +3,8 @@ use Rattle.std.proofs.lemmas.List.{map-append, append-nil, nil_from_length}
 use Rattle.std.specs.Result.{is_err}
 use Rattle.std.specs.Vec.Iter.{into_iter_items}
 use Rattle.grid_base.proofs.GroupLemmas.{act-identity}
-use Rattle.grid.specs.Command.{command_value}
-use Rattle.grid.specs.Reply.{reply_value}
+use Rattle.grid_commands.specs.Command.{command_value}
+use Rattle.grid_commands.specs.Reply.{reply_value}
 use Rattle.grid.proofs.RunLemmas.{take_values, get_value, some_values, may_stop}
 use Rattle.grid_deferred.specs.Deferred.{base, pending, shown}
 use Rattle.grid_deferred.proofs.RunLemmas.{going_none, going_more, still_going, settled, ran_none}

@@ -1,7 +1,7 @@
 use Rattle.std.proofs.Common.{Result, Ok, Err, OnErr, ◌+◌, ◌∙◌, ap, map, arith}
 use Rattle.std.proofs.lemmas.List.{map-append, length-map}
-use Rattle.grid.specs.Command.{command_value}
-use Rattle.grid.specs.Reply.{reply_value}
+use Rattle.grid_commands.specs.Command.{command_value}
+use Rattle.grid_commands.specs.Reply.{reply_value}
 use Rattle.grid_reference.specs.Plain.{items_of_each}
 use Rattle.grid_reference.proofs.GrowLemmas.{rows-stepped, replies-stepped}
 use Rattle.grid_reference.proofs.plain.run.Goals as goal

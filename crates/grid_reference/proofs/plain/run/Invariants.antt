@@ -1,6 +1,6 @@
 use Rattle.std.proofs.Common.{◌≡◌, map, take}
-use Rattle.grid.specs.Command.{command_value}
-use Rattle.grid.specs.Reply.{reply_value}
+use Rattle.grid_commands.specs.Command.{command_value}
+use Rattle.grid_commands.specs.Reply.{reply_value}
 use Rattle.grid.specs.Run.{run_rows, run_replies}
 use Rattle.grid_reference.specs.Plain.{items_of_each}
 use Rattle.grid_reference.proofs.plain.run.Given as goal

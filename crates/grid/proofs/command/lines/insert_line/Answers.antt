@@ -1,4 +1,4 @@
-use Rattle.grid.specs.Command.{insert_at}
+use Rattle.grid_commands.specs.Command.{insert_at}
 use Rattle.grid.proofs.LineEditLemmas.{refused_reply}
 use Rattle.grid.proofs.command.lines.insert_line.Goals as goal
 

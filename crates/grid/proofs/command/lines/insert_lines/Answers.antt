@@ -1,5 +1,5 @@
 use Rattle.grid_base.specs.Gather.{items_of_each}
-use Rattle.grid.specs.Command.{insert_all}
+use Rattle.grid_commands.specs.Command.{insert_all}
 use Rattle.grid.proofs.LineEditLemmas.{refused_reply}
 use Rattle.grid.proofs.command.lines.insert_lines.Goals as goal
 

@@ -1,5 +1,5 @@
 use Rattle.std.proofs.Common.{Some, ap, ◌∙◌, arith}
-use Rattle.grid.specs.Reply.{line_is}
+use Rattle.grid_commands.specs.Reply.{line_is}
 use Rattle.grid.proofs.LineEditLemmas.{read_some, read_none}
 use Rattle.grid.proofs.command.lines.read_row.Goals as goal
 

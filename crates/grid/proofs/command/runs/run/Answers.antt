@@ -2,8 +2,8 @@ use Rattle.std.proofs.Common.{◌≡◌, ◌<◌, suc, List, refl, inl, Result, 
 use Rattle.std.specs.Result.{is_err}
 use Rattle.std.specs.Vec.Iter.{into_iter_items}
 use Rattle.std.proofs.lemmas.List.{map-append, append-nil, nil_from_length}
-use Rattle.grid.specs.Command.{command_value}
-use Rattle.grid.specs.Reply.{reply_value}
+use Rattle.grid_commands.specs.Command.{command_value}
+use Rattle.grid_commands.specs.Reply.{reply_value}
 use Rattle.grid.proofs.RunLemmas.{running_none, running_more, ran_still, take_values, get_value, some_values, may_stop}
 use Rattle.grid.proofs.command.runs.run.Goals as goal
 

@@ -4,9 +4,10 @@ use Rattle.grid_base.specs.Table.{row_count, col_count}
 use Rattle.grid_base.specs.Order.{storage}
 use Rattle.grid_base.specs.Gather.{items_of_each}
 use Rattle.grid_base.proofs.GatherLemmas.{rows-vecs}
+use Rattle.grid_commands.proofs.FactorLemmas.{factor_small}
 use Rattle.grid.proofs.SeenLemmas.{seen_rows}
 use Rattle.grid.proofs.SeenEditLemmas.{range_cells, range_inserted, no_room, room}
-use Rattle.grid.proofs.EditSizeLemmas.{HoldsSize-filled, factor_small}
+use Rattle.grid.proofs.EditSizeLemmas.{HoldsSize-filled}
 use Rattle.grid.proofs.grid.Grid.insert_rows.Goals as goal
 
 pub returns-then-not-has_room-clause-fails : goal.returns-then-not-has_room-clause-fails

@@ -2,9 +2,9 @@ use Rattle.std.proofs.Common.{◌≡◌, ◌≤◌, sym, ◌∙◌, ap, arith}
 use Rattle.grid_base.specs.Table.{row_count, col_count}
 use Rattle.grid_base.specs.Symmetry.{half, price}
 use Rattle.grid_base.proofs.PriceLemmas.{price_within_half}
-use Rattle.grid.specs.declared.command.Axis.TheVariants.{Row, Col}
-use Rattle.grid.specs.Command.{command_value, lines}
-use Rattle.grid.specs.LineEdit.{edit_value, request_value}
+use Rattle.grid_commands.specs.declared.command.Axis.TheVariants.{Row, Col}
+use Rattle.grid_commands.specs.Command.{command_value, lines}
+use Rattle.grid_commands.specs.LineEdit.{edit_value, request_value}
 use Rattle.grid.proofs.grid.Grid.step.Goals as goal
 
 pub returns-in-Apply-clause-half : goal.returns-in-Apply-clause-half

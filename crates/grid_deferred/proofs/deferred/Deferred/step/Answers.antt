@@ -1,10 +1,10 @@
 use Rattle.std.proofs.Common.{◌≡◌, refl}
 use Rattle.grid_base.specs.declared.words.Symmetry.{Symmetry}
+use Rattle.grid_commands.specs.declared.command.Axis.TheVariants.{Row, Col}
+use Rattle.grid_commands.specs.Command.{command_value, apply}
 use Rattle.grid.specs.Step.{step_rows, RowsAreKnown}
 use Rattle.grid_deferred.specs.Deferred.{base, shown}
 use Rattle.grid_deferred.proofs.PendingLemmas.{pending-then, shown-then, reply-then, pending-still, applies-none, none_applied, get-rows, line-rows, ok_any, err_any}
-use Rattle.grid.specs.declared.command.Axis.TheVariants.{Row, Col}
-use Rattle.grid.specs.Command.{command_value, apply}
 use Rattle.grid_deferred.proofs.deferred.Deferred.step.Goals as goal
 
 pub returns-in-Apply-clause-rows : goal.returns-in-Apply-clause-rows

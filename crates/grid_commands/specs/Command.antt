@@ -2,10 +2,10 @@
 use Rattle.std.specs.Prelude.{ℕ, List}
 use Rattle.grid_base.specs.declared.words.Symmetry.{Symmetry}
 use Rattle.grid_base.specs.Gather.{items_of_each}
-use Rattle.grid.specs.declared.command.Axis.{Axis}
-use Rattle.grid.specs.declared.command.Axis.TheVariants.{Row, Col}
-use Rattle.grid.specs.declared.command.Command.{Command}
-use Rattle.grid.specs.declared.command.Command.TheVariants as the
+use Rattle.grid_commands.specs.declared.command.Axis.{Axis}
+use Rattle.grid_commands.specs.declared.command.Axis.TheVariants.{Row, Col}
+use Rattle.grid_commands.specs.declared.command.Command.{Command}
+use Rattle.grid_commands.specs.declared.command.Command.TheVariants as the
 
 -- what is asked of the lines of one axis, the rows or the columns of a table
 pub data Edit (T : Type 0) : Type 0 where

@@ -1,7 +1,7 @@
 //! Why a grid could not be made or edited: the errors of the calls.
 ghost use Rattle.std.specs.Prelude.{◌≡◌};
-ghost use Rattle.grid.specs.declared.error.GridError.TheVariants.{Memory};
-ghost use Rattle.grid.specs.declared.error.ShapeError.TheVariants.{Memory as OutOfMemory};
+ghost use Rattle.grid_commands.specs.declared.error.GridError.TheVariants.{Memory};
+ghost use Rattle.grid_commands.specs.declared.error.ShapeError.TheVariants.{Memory as OutOfMemory};
 
 use std::alloc::{AllocError, Allocator, Global};
 use thiserror::Error;

@@ -1,9 +1,9 @@
 -- What replies say.
 use Rattle.std.specs.Prelude.{ℕ, Bool, Option, List}
 use Rattle.std.specs.Option.{option_map}
-use Rattle.grid.specs.declared.command.Refusal.{Refusal}
-use Rattle.grid.specs.declared.command.Reply.{Reply}
-use Rattle.grid.specs.declared.command.Reply.TheVariants as the
+use Rattle.grid_commands.specs.declared.command.Refusal.{Refusal}
+use Rattle.grid_commands.specs.declared.command.Reply.{Reply}
+use Rattle.grid_commands.specs.declared.command.Reply.TheVariants as the
 
 -- what a contract sees of a reply: a line of cells is the list of them
 pub data ReplyValue (T : Type 0) : Type 0 where

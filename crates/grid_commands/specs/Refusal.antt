@@ -1,9 +1,9 @@
 -- Which commands are refused: a function of the command and the size of the table.
 use Rattle.std.specs.Prelude.{ℕ, ◌+◌, ◌*◌, Bool, not, ◌&&◌, Option, None, Some, List, [], ◌∷◌, length, slice_index_or, nat_eq, nat_lt, if◌then◌else◌}
 use Rattle.std.specs.List.{list_any, list_all}
-use Rattle.grid.specs.declared.command.Refusal.{Refusal}
-use Rattle.grid.specs.declared.command.Refusal.TheVariants.{EmptyLine, Length, Index, TooLarge}
-use Rattle.grid.specs.Command.{Edit, read, push, insert_at, insert_all, pop, remove_at, delete_at, delete_range, expand, prepend, CommandValue, size, get, set_cell, swap_cells, lines, fill, clear, apply, line_count, line_width}
+use Rattle.grid_commands.specs.declared.command.Refusal.{Refusal}
+use Rattle.grid_commands.specs.declared.command.Refusal.TheVariants.{EmptyLine, Length, Index, TooLarge}
+use Rattle.grid_commands.specs.Command.{Edit, read, push, insert_at, insert_all, pop, remove_at, delete_at, delete_range, expand, prepend, CommandValue, size, get, set_cell, swap_cells, lines, fill, clear, apply, line_count, line_width}
 
 -- whether so many cells are more than a grid can have, `usize::MAX`
 abbrev pub too_many : ℕ → Bool

@@ -1,0 +1,4 @@
+pub mod Command
+pub mod Reply
+pub mod Refusal
+pub mod LineEdit
