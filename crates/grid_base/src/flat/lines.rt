@@ -89,7 +89,10 @@ impl<T, A: Allocator> Flat<T, A> {
         ensures symmetry { tally.new.symmetry ≡ tally.old.symmetry }
         ensures shift { tally.new.shift ≡ saturating_count tally.old.shift (lines * width - at) }
     {
-        close_at(self, lines, width, at, count, tally);
+        // lines of no cells leave nothing to move
+        if width != 0 {
+            close_at(self, lines, width, at, count, tally);
+        }
         self.cells.truncate(lines * width);
     }
 }
