@@ -18,8 +18,6 @@ mod span;
 mod strided_iter;
 mod strides;
 mod tally;
-#[cfg(test)]
-mod tests;
 mod whole;
 
 pub use indexed::{IndexedIntoIter, IndexedIter, IndexedIterMut};

@@ -1,10 +1,9 @@
-//! Callers of the library, one for each group of calls. Each tests what its calls require, and its contract says what
-//! they come to. The pages for callers quote them.
+//! Callers of the library, whose contracts say what their calls come to: one for each group of calls, which tests what
+//! these require and which the pages for callers quote, and chains over iterators.
 #![tactic(auto)]
 
 pub mod boards;
+pub mod chains;
 pub mod shown;
-#[cfg(test)]
-mod tests;
 pub mod whole;
 pub mod words;

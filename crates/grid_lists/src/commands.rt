@@ -1,6 +1,6 @@
 //! The commands of the lists: each kind, with places in range and past it, and lines that fit and that don't.
 use grid::{Command, Symmetry};
-use grid_reference::fixtures::{SYMMETRIES, line_from};
+use grid_support::fixtures::{SYMMETRIES, line_from};
 use std::alloc::{AllocError, Global};
 
 // Lines in range of a table of two, and one past its end.

@@ -1,7 +1,7 @@
 //! What lists of commands cost, at once and deferred, worked out from the definitions.
 use grid::{Axis, Command, Order, Symmetry};
-use grid_reference::fixtures::order_after;
 use grid_reference::plain;
+use grid_support::fixtures::order_after;
 
 /// The symmetry count and the shift count.
 pub type Tallied = (u128, u128);

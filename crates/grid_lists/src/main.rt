@@ -10,7 +10,7 @@ mod ways;
 
 use commands::{all_commands, list_of};
 use grid::{Command, Order, Symmetry};
-use grid_reference::fixtures::{ORDERS, SIZES, SYMMETRIES};
+use grid_support::fixtures::{ORDERS, SIZES, SYMMETRIES};
 use std::io;
 use std::process::ExitCode;
 use ways::{Start, differing_way};

@@ -3,8 +3,8 @@ use crate::commands::{copies, copy};
 use crate::costs::{Costs, Tallied};
 use grid::{Command, Grid, Order, Reply, RunStopped, Tally, run};
 use grid_deferred::run_deferred;
-use grid_reference::fixtures::{grid_of, numbered, shows};
 use grid_reference::plain;
+use grid_support::fixtures::{grid_of, numbered, shows};
 use std::alloc::{AllocError, Global};
 
 /// The size and the order of a grid before a list, whose rows have the cells 1, 2, 3, ..

@@ -1,12 +1,6 @@
-//! What the library is compared with: a plain program over tables, callers' chains over iterators, and what the tests
-//! share.
+//! What the library is tested against: a plain program over tables, and an allocator that grants a stated number of
+//! requests for memory.
 #![tactic(auto)]
 
-pub mod chains;
-pub mod edits;
-pub mod fitting;
-pub mod fixtures;
 pub mod fuse;
 pub mod plain;
-pub mod reached;
-pub mod walks;

@@ -1,6 +1,6 @@
 //! Comparisons that end a test.
 use grid::{Grid, Order};
-use grid_reference::fixtures::shows;
+use grid_support::fixtures::shows;
 use std::alloc::Allocator;
 use std::process::Abort;
 

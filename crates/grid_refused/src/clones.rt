@@ -1,6 +1,6 @@
 //! Clones that are refused, in commands and in runs, over both orders.
 use grid::{Command, Grid, Order, Reply, RunStopped, Symmetry, Tally, run};
-use grid_reference::fixtures::{Fragile, ORDERS, fragile_cells, has_values};
+use grid_support::fixtures::{Fragile, ORDERS, fragile_cells, has_values};
 use std::alloc::{AllocError, Global};
 use std::cell::Cell;
 use std::process::Abort;

@@ -2,8 +2,8 @@
 use crate::asserts::assert_shows;
 use grid::{Command, Grid, Order, Reply, RunStopped, Symmetry, Tally, run};
 use grid_deferred::run_deferred;
-use grid_reference::fixtures::{Heap, ORDERS, order_after, starved_grid_of, table_of};
 use grid_reference::fuse::Fuse;
+use grid_support::fixtures::{Heap, ORDERS, order_after, starved_grid_of, table_of};
 use std::alloc::{AllocError, Allocator, Global};
 use std::process::Abort;
 use std::test::Fail;

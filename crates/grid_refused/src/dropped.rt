@@ -1,7 +1,7 @@
 //! Walks of every kind over texts, which are dropped after one item from each end that they have.
 use grid::{Grid, GridLineIter, Order};
-use grid_reference::fitting::push_row;
-use grid_reference::fixtures::{has_texts, letters};
+use grid_support::fitting::push_row;
+use grid_support::fixtures::{has_texts, letters};
 use std::alloc::{AllocError, Global};
 use std::process::Abort;
 use std::slice;

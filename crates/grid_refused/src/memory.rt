@@ -2,7 +2,7 @@
 ghost use Rattle.std.specs.Prelude.{◌≡◌};
 
 use grid::{Command, Grid, Order, Reply, Symmetry, Tally, run};
-use grid_reference::fixtures::{has_texts, letters};
+use grid_support::fixtures::{has_texts, letters};
 use std::alloc::{AllocError, Global};
 use std::marker::Model;
 use std::process::Abort;

@@ -1,6 +1,6 @@
 //! Scripts whose requests for memory are refused in turn.
 use grid_play::{ScriptFault, play};
-use grid_reference::fixtures::Heap;
+use grid_support::fixtures::Heap;
 use std::alloc::Global;
 use std::process::Abort;
 

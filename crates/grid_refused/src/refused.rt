@@ -3,13 +3,13 @@ use crate::asserts::assert_shows;
 use grid::{
     Command, Grid, GridLineIter, Move, Order, Reply, RunStopped, Symmetry, Tally, reduce, run,
 };
-use grid_reference::fixtures::{
+use grid_reference::fuse::Fuse;
+use grid_reference::plain;
+use grid_support::fixtures::{
     Fragile, Heap, MOVES, ORDERS, SIZES, SYMMETRIES, call, fragile_cells, has_values, is_stored,
     line_from, numbered, order_after, put_cell, starved_grid_of,
 };
-use grid_reference::fuse::Fuse;
-use grid_reference::plain;
-use grid_reference::reached::{read_both_ways, swap, write, write_both_ways};
+use grid_support::reached::{read_both_ways, swap, write, write_both_ways};
 use std::alloc::{AllocError, Global};
 use std::cell::Cell;
 use std::process::Abort;

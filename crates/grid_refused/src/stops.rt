@@ -2,12 +2,12 @@
 use crate::asserts::assert_shows;
 use grid::{Command, Grid, Order, Refusal, Reply, RunStopped, Symmetry, Tally, run};
 use grid_deferred::{Deferred, DeferredLineIter, run_deferred};
-use grid_reference::fixtures::{
+use grid_reference::fuse::Fuse;
+use grid_reference::plain;
+use grid_support::fixtures::{
     Fragile, Heap, INDICES, ORDERS, fragile_cells, has_values, line_from, order_after,
     starved_grid_of, table_of,
 };
-use grid_reference::fuse::Fuse;
-use grid_reference::plain;
 use std::alloc::{AllocError, Global};
 use std::cell::Cell;
 use std::process::Abort;

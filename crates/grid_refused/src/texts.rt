@@ -2,10 +2,10 @@
 use crate::asserts::assert_shows;
 use grid::Order::RowMajor;
 use grid::{Grid, Order};
-use grid_reference::fixtures::{
+use grid_reference::fuse::Fuse;
+use grid_support::fixtures::{
     Heap, ORDERS, SIZES, fragile_cells, grid_of, has_values, numbered, starved_grid_of,
 };
-use grid_reference::fuse::Fuse;
 use std::alloc::{Allocator, Global};
 use std::cell::Cell;
 use std::process::Abort;

@@ -1,9 +1,9 @@
 //! How a grid is made and its cells are reached, over all small tables and both orders.
 use crate::asserts::assert_shows;
 use grid::{Grid, Order};
-use grid_reference::fixtures::{INDICES, ORDERS, SIZES, grid_of, numbered, places_of, put_cell};
 use grid_reference::plain;
-use grid_reference::reached::{read_both_ways, swap, write, write_indexed, write_unchecked};
+use grid_support::fixtures::{INDICES, ORDERS, SIZES, grid_of, numbered, places_of, put_cell};
+use grid_support::reached::{read_both_ways, swap, write, write_indexed, write_unchecked};
 use std::alloc::{AllocError, Global};
 use std::process::Abort;
 use std::test::Fail;

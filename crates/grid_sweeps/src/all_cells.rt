@@ -1,9 +1,9 @@
 //! Calls on all cells of a grid, over all small tables and both orders, also where memory or a clone is refused.
 use grid::{Grid, Order};
-use grid_reference::fixtures::{
+use grid_reference::fuse::Fuse;
+use grid_support::fixtures::{
     Fragile, Heap, ORDERS, SIZES, counted, fragile_cells, has_values, shows_count,
 };
-use grid_reference::fuse::Fuse;
 use std::alloc::{AllocError, Allocator, Global};
 use std::cell::Cell;
 use std::process::Abort;

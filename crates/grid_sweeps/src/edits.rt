@@ -6,14 +6,14 @@ ghost use Rattle.grid.specs.Edits.{FitsCol};
 use crate::asserts::assert_shows;
 use grid::{Grid, GridError, LineRefused, Order};
 use grid_laws::{insert_col_or_row_across, push_row_then_pop_row};
-use grid_reference::edits::{LineAt, line_at, pad, put_line, without};
-use grid_reference::fitting::{insert, insert_several, push_col, push_row};
-use grid_reference::fixtures::{
+use grid_reference::fuse::Fuse;
+use grid_reference::plain;
+use grid_support::edits::{LineAt, line_at, pad, put_line, put_lines, without};
+use grid_support::fitting::{insert, insert_several, push_col, push_row};
+use grid_support::fixtures::{
     Heap, ORDERS, SIZES, grid_of, is_count, line_from, lines_from, numbered, starved_grid_of,
     table_of,
 };
-use grid_reference::fuse::Fuse;
-use grid_reference::plain;
 use std::alloc::{AllocError, Allocator, Global};
 use std::process::Abort;
 use std::test::Fail;
@@ -123,8 +123,7 @@ fn put_counted(
     place: LineAt,
     len: usize,
 ) -> Result<(), AllocError> {
-    let line = line_from(alloc, 101, len)?;
-    put_line(alloc, table, place, line.as_slice())
+    put_line(alloc, table, place, line_from(alloc, 101, len)?)
 }
 
 // Puts a line into the grid of a table, and into the table: refused, it comes back, and the grid is as it was; granted,
@@ -300,7 +299,6 @@ fn check_deleted(
     let heap = Fuse::new(alloc, 0);
     let mut grid = starved_grid_of(alloc, &heap, table, order)?;
     assert_eq!(rt; delete_lines(&mut grid, place, count), there);
-    let count = if there { count } else { 0 };
     assert_shows(rt, &grid, &without(alloc, table, place, count)?, order);
     Ok(())
 }
@@ -398,11 +396,7 @@ fn put_several_counted(
     place: LineAt,
     (count, len): (usize, usize),
 ) -> Result<(), AllocError> {
-    let lines = lines_from(alloc, 101, count, len)?;
-    for line in lines.iter().rev() {
-        put_line(alloc, table, place, line.as_slice())?;
-    }
-    Ok(())
+    put_lines(alloc, table, place, lines_from(alloc, 101, count, len)?)
 }
 
 // Puts several lines into the grid of a table: refused, they come back, and the grid is as it was; granted, they are
@@ -515,7 +509,7 @@ fn check_padded(
     let mut table = numbered(alloc, size.0, size.1)?;
     let mut grid = starved_grid_of(alloc, &heap, &table, order)?;
     check_padding_of(rt, &heap, &mut grid, (&table, order), (end, count));
-    pad(alloc, &mut table, end.0, count)?;
+    pad(alloc, &mut table, end, count)?;
     assert_shows(rt, &grid, &table, order);
     Ok(())
 }

@@ -1,10 +1,10 @@
 //! How grids are made and converted, over all small sizes, also where memory is refused.
 use crate::asserts::assert_shows;
 use grid::{Grid, GridError, Order, ShapeError, grid, grid_cm};
-use grid_reference::fixtures::{
+use grid_reference::fuse::Fuse;
+use grid_support::fixtures::{
     Fragile, Heap, INDICES, ORDERS, has_values, is_count, line_from, numbered, shows, shows_count,
 };
-use grid_reference::fuse::Fuse;
 use std::alloc::{AllocError, Allocator, Global};
 use std::cell::Cell;
 use std::convert::TryFrom;

@@ -2,10 +2,10 @@
 use crate::asserts::assert_shows;
 use grid::{Grid, Move, Order, Symmetry, reduce};
 use grid_laws::{flip_rows_then_cols, rebuilt, rotate_left_four_times, rotate_right_then_left};
-use grid_reference::fixtures::{
+use grid_reference::plain;
+use grid_support::fixtures::{
     MOVES, ORDERS, SIZES, SYMMETRIES, call, grid_of, numbered, order_after,
 };
-use grid_reference::plain;
 use std::alloc::{AllocError, Global};
 use std::process::Abort;
 use std::test::Fail;

@@ -1,12 +1,10 @@
 //! Walks over all small tables and both orders, beside plain walks over the plain program's rows.
 use crate::asserts::assert_shows;
 use grid::{Grid, GridRowIter, Order, Symmetry};
-use grid_reference::edits::LineAt;
-use grid_reference::fixtures::{
-    ORDERS, SIZES, grid_of, numbered, places_of, put_cell, shows_count,
-};
 use grid_reference::plain;
-use grid_reference::walks::{
+use grid_support::edits::LineAt;
+use grid_support::fixtures::{ORDERS, SIZES, grid_of, numbered, places_of, put_cell, shows_count};
+use grid_support::walks::{
     gives, gives_at, gives_back, lends_at, line_reads, lines_read, reads, reads_at, reads_back,
     write_along,
 };

@@ -1,6 +1,6 @@
 //! Comparisons that end a test.
 use grid::{Grid, Order, ShapeError};
-use grid_reference::fixtures::{grid_of, is_stored, shows, table_of};
+use grid_support::fixtures::{grid_of, is_stored, shows, table_of};
 use std::alloc::{AllocError, Allocator, Global};
 use std::fmt::{Debug, Display};
 use std::process::Abort;

@@ -1,7 +1,7 @@
 //! Callers' chains over walks, each run once.
 use grid::{Grid, Order, ShapeError};
-use grid_reference::chains::*;
-use grid_reference::fixtures::{ORDERS, stored};
+use grid_callers::chains::*;
+use grid_support::fixtures::{ORDERS, stored};
 use std::alloc::{AllocError, Global};
 use std::process::Abort;
 use std::test::Fail;
@@ -39,7 +39,7 @@ fn counts_in_rows(rt: HostRuntime) -> Result<(), Fail> {
     Ok(())
 }
 
-#[tactic(auto, using(grid_reference::proofs::SumLemmas::row_within))]
+#[tactic(auto, using(grid_callers::proofs::SumLemmas::row_within))]
 #[test]
 fn sums_rows(rt: HostRuntime) -> Result<(), Fail> {
     let cells = vec![in rt.alloc(); 1u32, 2, 3, 4]?;

@@ -1,7 +1,7 @@
 //! What a grid stands on: its vector with counted swaps, and the laws of joined symmetries.
 use grid_base::laws::{identity_is_neutral, inverse_undoes, then_is_associative};
 use grid_base::{Flat, Move, Symmetry, Tally};
-use grid_reference::fixtures::{SYMMETRIES, line_from};
+use grid_support::fixtures::{SYMMETRIES, line_from};
 use std::alloc::{AllocError, Global};
 use std::process::Abort;
 use std::test::Fail;

@@ -1,7 +1,7 @@
 //! Laws, and callers whose contracts rest on them, each run once.
 use grid::{Grid, Order, Symmetry, Tally};
 use grid_base::laws as symmetry_laws;
-use grid_reference::chains::*;
+use grid_callers::chains::*;
 use std::process::Abort;
 use std::test::Fail;
 

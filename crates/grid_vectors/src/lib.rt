@@ -4,7 +4,11 @@
 #[cfg(test)]
 mod asserts;
 #[cfg(test)]
+mod callers;
+#[cfg(test)]
 mod chains;
+#[cfg(test)]
+mod flat;
 #[cfg(test)]
 mod ground;
 #[cfg(test)]

@@ -2,7 +2,7 @@
 use crate::asserts::{Rows, assert_rows, assert_stored, grid_with};
 use grid::Order::{ColumnMajor, RowMajor};
 use grid::{Grid, Order};
-use grid_reference::fixtures::Fragile;
+use grid_support::fixtures::Fragile;
 use std::alloc::AllocError;
 use std::cell::Cell;
 use std::test::Fail;

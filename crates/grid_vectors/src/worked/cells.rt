@@ -2,9 +2,9 @@
 use crate::asserts::assert_stored;
 use grid::Order::{ColumnMajor, RowMajor};
 use grid::{Grid, GridError, Order};
-use grid_reference::edits::LineAt;
-use grid_reference::fitting::{insert, insert_several, push_row};
-use grid_reference::fixtures::{ORDERS, joined_texts};
+use grid_support::edits::LineAt;
+use grid_support::fitting::{insert, insert_several, push_row};
+use grid_support::fixtures::{ORDERS, joined_texts};
 use std::alloc::{AllocError, Global};
 use std::process::Abort;
 use std::test::Fail;

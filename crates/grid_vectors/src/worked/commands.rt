@@ -1,7 +1,7 @@
 //! Commands, each with its reply and the rows after it, in both orders.
 use crate::asserts::{Rows, assert_rows, grid_with};
 use grid::{Axis, Command, Order, Refusal, Reply, Symmetry, Tally};
-use grid_reference::fixtures::{ORDERS, stored, table_of};
+use grid_support::fixtures::{ORDERS, stored, table_of};
 use std::alloc::{AllocError, Global};
 use std::process::Abort;
 use std::test::Fail;

@@ -2,7 +2,7 @@
 use crate::asserts::{Rows, assert_stored};
 use grid::Order::RowMajor;
 use grid::{Grid, ShapeError, can_cut};
-use grid_reference::fixtures::table_of;
+use grid_support::fixtures::table_of;
 use std::alloc::{AllocError, Global};
 use std::convert::TryFrom;
 use std::process::Abort;

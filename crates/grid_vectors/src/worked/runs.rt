@@ -2,7 +2,7 @@
 use crate::asserts::{Rows, assert_rows, assert_stored, grid_with};
 use crate::worked::commands::{Ask, BOARD, LARGE, Plain, Want, command_of, is_wanted};
 use grid::{Command, Grid, Order, Refusal, Reply, Symmetry, Tally, run};
-use grid_reference::fixtures::{ORDERS, stored};
+use grid_support::fixtures::{ORDERS, stored};
 use std::alloc::{AllocError, Global};
 use std::process::Abort;
 use std::test::Fail;

@@ -4,7 +4,7 @@ use grid::{
     Command, GridError, LineRefused, LinesRefused, Move, Order, Reply, RunStopped, ShapeError,
     Symmetry,
 };
-use grid_reference::fixtures::line_from;
+use grid_support::fixtures::line_from;
 use std::alloc::{AllocError, Global};
 use std::hash::{DefaultHasher, Hash, Hasher};
 use std::test::Fail;

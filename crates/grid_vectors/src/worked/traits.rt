@@ -2,7 +2,7 @@
 use crate::asserts::assert_stored;
 use grid::Order::{ColumnMajor, RowMajor};
 use grid::{Grid, Order, Whole};
-use grid_reference::fixtures::{ORDERS, cut, stored};
+use grid_support::fixtures::{ORDERS, cut, stored};
 use std::alloc::Global;
 use std::collections::HashSet;
 use std::hash::{DefaultHasher, Hash, Hasher};

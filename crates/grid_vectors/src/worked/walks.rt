@@ -2,7 +2,7 @@
 use crate::asserts::{Rows, assert_stored, grid_with};
 use grid::Order::{ColumnMajor, RowMajor};
 use grid::{Grid, GridColIter, GridLineIter, GridRowIter};
-use grid_reference::fixtures::{ORDERS, stored};
+use grid_support::fixtures::{ORDERS, stored};
 use std::alloc::{AllocError, Global};
 use std::process::Abort;
 use std::test::Fail;

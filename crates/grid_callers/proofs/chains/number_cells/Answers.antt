@@ -3,8 +3,8 @@ use Rattle.std.specs.List.{range_with_len}
 use Rattle.grid_base.specs.Table.{row_count, col_count}
 use Rattle.grid_base.specs.Order.{storage}
 use Rattle.grid_base.proofs.StorageLemmas.{length-storage}
-use Rattle.grid_reference.proofs.CountLemmas.{calls_after, numbers_from}
-use Rattle.grid_reference.proofs.chains.number_cells.Goals as goal
+use Rattle.grid_callers.proofs.CountLemmas.{calls_after, numbers_from}
+use Rattle.grid_callers.proofs.chains.number_cells.Goals as goal
 
 pub fill_with-requires : goal.fill_with-requires
 fill_with-requires g c = record {

@@ -1,9 +1,9 @@
 //! Each caller on its happy path, and where it says no.
-use crate::boards::{cut, exchange, push, push_by_command, take_first, why_not_inserted};
-use crate::shown::cell_through;
-use crate::whole::{add_blank_row, of_rows};
-use crate::words::apply_word;
 use grid::{Grid, Move, Refusal, Symmetry, Tally};
+use grid_callers::boards::{cut, exchange, push, push_by_command, take_first, why_not_inserted};
+use grid_callers::shown::cell_through;
+use grid_callers::whole::{add_blank_row, of_rows};
+use grid_callers::words::apply_word;
 use std::alloc::{AllocError, Global};
 use std::test::Fail;
 

@@ -1,5 +1,5 @@
-//! Each line edit on a small vector.
-use super::{Flat, Tally};
+//! Each line edit of the bare vector.
+use grid_base::{Flat, Tally};
 use std::alloc::AllocError;
 
 const TWENTY: [u8; 20] = [

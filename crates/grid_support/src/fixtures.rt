@@ -1,9 +1,9 @@
 //! What the tests share: all small tables, whether a grid shows one, and cells and memory that are refused.
 ghost use Rattle.std.specs.Prelude.{◌≡◌};
 
-use crate::fuse::Fuse;
-use crate::plain;
 use grid::{Grid, Move, Order, ShapeError, Symmetry, can_cut};
+use grid_reference::fuse::Fuse;
+use grid_reference::plain;
 use std::alloc::{AllocError, Allocator, Global};
 use std::cell::Cell;
 
