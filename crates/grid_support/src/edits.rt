@@ -10,6 +10,16 @@ pub enum LineAt {
     Col(usize),
 }
 
+// Does a command on a table, where the cells' default is 0.
+fn step(
+    alloc: Global,
+    table: &mut Vec<Vec<u32>>,
+    command: &Command<u32>,
+) -> Result<(), AllocError> {
+    plain::step(alloc, 0, command, table)?;
+    Ok(())
+}
+
 // The table after a command, where the cells' default is 0, and the reply.
 fn stepped(
     alloc: Global,
@@ -19,16 +29,6 @@ fn stepped(
     let mut table = plain::act(alloc, Symmetry::Identity, table)?;
     let reply = plain::step(alloc, 0, command, &mut table)?;
     Ok((table, reply))
-}
-
-// Does a command on a table, where the cells' default is 0.
-fn apply(
-    alloc: Global,
-    table: &mut Vec<Vec<u32>>,
-    command: &Command<u32>,
-) -> Result<(), AllocError> {
-    plain::step(alloc, 0, command, table)?;
-    Ok(())
 }
 
 // Puts a line into a table.
@@ -42,7 +42,7 @@ pub fn put_line(
         LineAt::Row(at) => Command::InsertRow(at, line),
         LineAt::Col(at) => Command::InsertCol(at, line),
     };
-    apply(alloc, table, &command)
+    step(alloc, table, &command)
 }
 
 // Puts several lines into a table.
@@ -56,7 +56,7 @@ pub fn put_lines(
         LineAt::Row(at) => Command::InsertRows(at, lines),
         LineAt::Col(at) => Command::InsertCols(at, lines),
     };
-    apply(alloc, table, &command)
+    step(alloc, table, &command)
 }
 
 // The table without `count` lines from a place on, or as it is where there are not so many.
@@ -104,5 +104,5 @@ pub fn pad(
         (LineAt::Col(_), false) => Command::PrependCols(count),
         (LineAt::Col(_), true) => Command::ExpandCols(count),
     };
-    apply(alloc, table, &command)
+    step(alloc, table, &command)
 }
