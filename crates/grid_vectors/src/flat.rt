@@ -1,6 +1,7 @@
 //! Each line edit of the bare vector.
 use grid_base::{Flat, Tally};
-use std::alloc::AllocError;
+use std::alloc::{AllocError, Global};
+use std::process::Abort;
 
 const TWENTY: [u8; 20] = [
     1, 2, 3, 4, 5, 6, 7, 8, 9, 10, 11, 12, 13, 14, 15, 16, 17, 18, 19, 20,
@@ -66,109 +67,97 @@ fn close_up_keeps_the_lines(rt: HostRuntime) -> Result<(), AllocError> {
     Ok(())
 }
 
-#[test]
-fn cells_move_by_one_place_and_back(rt: HostRuntime) -> Result<(), AllocError> {
-    let mut flat = Flat::from_vec(vec![in rt.alloc(); 1, 2, 3, 4, 0]?);
+// Cells, the cell before which a gap opens, its places, and the cells with the gap.
+type Gap = (&'static [u8], usize, usize, &'static [u8]);
+
+// By one place, by two where an odd and an even number of cells moves, by nine and by seventeen.
+const GAPS: [Gap; 6] = [
+    (&[1, 2, 3, 4], 1, 1, &[1, 0, 2, 3, 4]),
+    (
+        &TWENTY,
+        1,
+        1,
+        &[
+            1, 0, 2, 3, 4, 5, 6, 7, 8, 9, 10, 11, 12, 13, 14, 15, 16, 17, 18, 19, 20,
+        ],
+    ),
+    (
+        &TWENTY,
+        1,
+        2,
+        &[
+            1, 0, 0, 2, 3, 4, 5, 6, 7, 8, 9, 10, 11, 12, 13, 14, 15, 16, 17, 18, 19, 20,
+        ],
+    ),
+    (
+        &TWENTY,
+        0,
+        2,
+        &[
+            0, 0, 1, 2, 3, 4, 5, 6, 7, 8, 9, 10, 11, 12, 13, 14, 15, 16, 17, 18, 19, 20,
+        ],
+    ),
+    (
+        &[1, 2, 3, 4, 5, 6, 7, 8, 9, 10, 11, 12],
+        1,
+        9,
+        &[
+            1, 0, 0, 0, 0, 0, 0, 0, 0, 0, 2, 3, 4, 5, 6, 7, 8, 9, 10, 11, 12,
+        ],
+    ),
+    (
+        &TWENTY,
+        0,
+        17,
+        &[
+            0, 0, 0, 0, 0, 0, 0, 0, 0, 0, 0, 0, 0, 0, 0, 0, 0, 1, 2, 3, 4, 5, 6, 7, 8, 9, 10, 11,
+            12, 13, 14, 15, 16, 17, 18, 19, 20,
+        ],
+    ),
+];
+
+// A gap opens and closes: the cells with it and without it, and the swaps of each.
+fn check_gap(
+    rt: &impl Abort,
+    alloc: Global,
+    (cells, at, count, opened): Gap,
+) -> Result<(), AllocError> {
+    let width = cells.len();
+    assert!(rt; at < width && count != 0);
+    let mut flat = Flat::from_vec(Vec::from_slice(alloc, cells)?);
+    flat.append_defaults(count)?;
     let mut tally = Tally::new();
-    flat.open(1, 4, 1, 1, &mut tally);
-    assert_eq!(rt; flat.as_slice(), [1, 0, 2, 3, 4].as_slice());
-    assert_eq!(rt; tally.shift(), 3);
-    flat.close_up(1, 4, 1, 1, &mut tally);
-    assert_eq!(rt; flat.as_slice(), [1, 2, 3, 4].as_slice());
-    assert_eq!(rt; tally.shift(), 6);
+    flat.open(1, width, at, count, &mut tally);
+    assert_eq!(rt; flat.as_slice(), opened);
+    assert_eq!(rt; tally.shift(), (width - at) as u128);
+    flat.close_up(1, width, at, count, &mut tally);
+    assert_eq!(rt; flat.as_slice(), cells);
+    assert_eq!(rt; tally.shift(), 2 * (width - at) as u128);
     Ok(())
 }
 
 #[test]
-fn many_cells_move_by_one_place_and_back(rt: HostRuntime) -> Result<(), AllocError> {
-    let mut flat = Flat::from_vec(TWENTY.to_vec(rt.alloc())?);
-    let mut tally = Tally::new();
-    flat.append_defaults(1)?;
-    flat.open(1, 20, 1, 1, &mut tally);
-    assert_eq!(rt; &flat.as_slice()[..2], [1, 0].as_slice());
-    assert_eq!(rt; &flat.as_slice()[2..], &TWENTY[1..]);
-    assert_eq!(rt; tally.shift(), 19);
-    flat.close_up(1, 20, 1, 1, &mut tally);
-    assert_eq!(rt; flat.as_slice(), TWENTY.as_slice());
-    assert_eq!(rt; tally.shift(), 38);
+fn gaps_open_and_close(rt: HostRuntime) -> Result<(), AllocError> {
+    for gap in GAPS {
+        check_gap(&rt, rt.alloc(), gap)?;
+    }
     Ok(())
 }
 
-#[test]
-fn an_odd_number_of_cells_moves_by_two_places(rt: HostRuntime) -> Result<(), AllocError> {
-    let mut flat = Flat::from_vec(TWENTY.to_vec(rt.alloc())?);
-    let mut tally = Tally::new();
+// The cells 1 and 2, then 3 and 4 of a line, then two cells of the default.
+fn extended(alloc: Global) -> Result<Flat<i32>, AllocError> {
+    let mut flat = Flat::from_vec(vec![in alloc; 1, 2]?);
+    let mut line = vec![in alloc; 3, 4]?;
+    flat.append(&mut line)?;
     flat.append_defaults(2)?;
-    flat.open(1, 20, 1, 2, &mut tally);
-    assert_eq!(rt; &flat.as_slice()[..3], [1, 0, 0].as_slice());
-    assert_eq!(rt; &flat.as_slice()[3..], &TWENTY[1..]);
-    assert_eq!(rt; tally.shift(), 19);
-    flat.close_up(1, 20, 1, 2, &mut tally);
-    assert_eq!(rt; flat.as_slice(), TWENTY.as_slice());
-    assert_eq!(rt; tally.shift(), 38);
-    Ok(())
-}
-
-#[test]
-fn an_even_number_of_cells_moves_by_two_places(rt: HostRuntime) -> Result<(), AllocError> {
-    let mut flat = Flat::from_vec(TWENTY.to_vec(rt.alloc())?);
-    let mut tally = Tally::new();
-    flat.append_defaults(2)?;
-    flat.open(1, 20, 0, 2, &mut tally);
-    assert_eq!(rt; &flat.as_slice()[..2], [0, 0].as_slice());
-    assert_eq!(rt; &flat.as_slice()[2..], TWENTY.as_slice());
-    assert_eq!(rt; tally.shift(), 20);
-    flat.close_up(1, 20, 0, 2, &mut tally);
-    assert_eq!(rt; flat.as_slice(), TWENTY.as_slice());
-    assert_eq!(rt; tally.shift(), 40);
-    Ok(())
-}
-
-#[test]
-fn cells_move_by_nine_places_and_back(rt: HostRuntime) -> Result<(), AllocError> {
-    let mut flat = Flat::from_vec(vec![in rt.alloc();
-        1, 2, 3, 4, 5, 6, 7, 8, 9, 10, 11, 12, 0, 0, 0, 0, 0, 0, 0, 0, 0,
-    ]?);
-    let mut tally = Tally::new();
-    flat.open(1, 12, 1, 9, &mut tally);
-    assert_eq!(rt;
-        flat.as_slice(),
-        [
-            1, 0, 0, 0, 0, 0, 0, 0, 0, 0, 2, 3, 4, 5, 6, 7, 8, 9, 10, 11, 12
-        ]
-        .as_slice()
-    );
-    assert_eq!(rt; tally.shift(), 11);
-    flat.close_up(1, 12, 1, 9, &mut tally);
-    assert_eq!(rt;
-        flat.as_slice(),
-        [1, 2, 3, 4, 5, 6, 7, 8, 9, 10, 11, 12].as_slice()
-    );
-    assert_eq!(rt; tally.shift(), 22);
-    Ok(())
-}
-
-#[test]
-fn cells_move_by_seventeen_places_and_back(rt: HostRuntime) -> Result<(), AllocError> {
-    let mut flat = Flat::from_vec(TWENTY.to_vec(rt.alloc())?);
-    let mut tally = Tally::new();
-    flat.append_defaults(17)?;
-    flat.open(1, 20, 0, 17, &mut tally);
-    assert_eq!(rt; &flat.as_slice()[17..], TWENTY.as_slice());
-    assert_eq!(rt; tally.shift(), 20);
-    flat.close_up(1, 20, 0, 17, &mut tally);
-    assert_eq!(rt; flat.as_slice(), TWENTY.as_slice());
-    assert_eq!(rt; tally.shift(), 40);
-    Ok(())
+    Ok(flat)
 }
 
 #[test]
 fn cells_come_to_the_end_and_leave_it(rt: HostRuntime) -> Result<(), AllocError> {
-    let mut flat = Flat::from_vec(vec![in rt.alloc(); 1, 2]?);
-    let mut line = vec![in rt.alloc(); 3, 4]?;
-    flat.append(&mut line)?;
-    flat.append_defaults(2)?;
+    let mut flat = extended(rt.alloc())?;
     assert_eq!(rt; flat.as_slice(), [1, 2, 3, 4, 0, 0].as_slice());
+    assert_eq!(rt; flat.len(), 6);
     let mut tail = Vec::with_capacity(flat.allocator().clone()?, 4)?;
     flat.move_tail(2, &mut tail);
     assert_eq!(rt; flat.as_slice(), [1, 2].as_slice());
