@@ -67,12 +67,48 @@ fn close_up_keeps_the_lines(rt: HostRuntime) -> Result<(), AllocError> {
     Ok(())
 }
 
+#[test]
+fn cells_move_by_one_place_and_back(rt: HostRuntime) -> Result<(), AllocError> {
+    let mut flat = Flat::from_vec(vec![in rt.alloc(); 1, 2, 3, 4, 0]?);
+    let mut tally = Tally::new();
+    flat.open(1, 4, 1, 1, &mut tally);
+    assert_eq!(rt; flat.as_slice(), [1, 0, 2, 3, 4].as_slice());
+    assert_eq!(rt; tally.shift(), 3);
+    flat.close_up(1, 4, 1, 1, &mut tally);
+    assert_eq!(rt; flat.as_slice(), [1, 2, 3, 4].as_slice());
+    assert_eq!(rt; tally.shift(), 6);
+    Ok(())
+}
+
+#[test]
+fn cells_move_by_nine_places_and_back(rt: HostRuntime) -> Result<(), AllocError> {
+    let mut flat = Flat::from_vec(vec![in rt.alloc();
+        1, 2, 3, 4, 5, 6, 7, 8, 9, 10, 11, 12, 0, 0, 0, 0, 0, 0, 0, 0, 0,
+    ]?);
+    let mut tally = Tally::new();
+    flat.open(1, 12, 1, 9, &mut tally);
+    assert_eq!(rt;
+        flat.as_slice(),
+        [
+            1, 0, 0, 0, 0, 0, 0, 0, 0, 0, 2, 3, 4, 5, 6, 7, 8, 9, 10, 11, 12
+        ]
+        .as_slice()
+    );
+    assert_eq!(rt; tally.shift(), 11);
+    flat.close_up(1, 12, 1, 9, &mut tally);
+    assert_eq!(rt;
+        flat.as_slice(),
+        [1, 2, 3, 4, 5, 6, 7, 8, 9, 10, 11, 12].as_slice()
+    );
+    assert_eq!(rt; tally.shift(), 22);
+    Ok(())
+}
+
 // Cells, the cell before which a gap opens, its places, and the cells with the gap.
 type Gap = (&'static [u8], usize, usize, &'static [u8]);
 
-// By one place, by two where an odd and an even number of cells moves, by nine and by seventeen.
-const GAPS: [Gap; 6] = [
-    (&[1, 2, 3, 4], 1, 1, &[1, 0, 2, 3, 4]),
+// Bytes: by one place, by two where an odd and an even number of cells moves, and by seventeen.
+const GAPS: [Gap; 4] = [
     (
         &TWENTY,
         1,
@@ -95,14 +131,6 @@ const GAPS: [Gap; 6] = [
         2,
         &[
             0, 0, 1, 2, 3, 4, 5, 6, 7, 8, 9, 10, 11, 12, 13, 14, 15, 16, 17, 18, 19, 20,
-        ],
-    ),
-    (
-        &[1, 2, 3, 4, 5, 6, 7, 8, 9, 10, 11, 12],
-        1,
-        9,
-        &[
-            1, 0, 0, 0, 0, 0, 0, 0, 0, 0, 2, 3, 4, 5, 6, 7, 8, 9, 10, 11, 12,
         ],
     ),
     (
