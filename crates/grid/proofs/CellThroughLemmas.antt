@@ -56,10 +56,10 @@ module _ {T : Type 0} where
   pub cell-flip : (t : List (List T)) → IsTable t → (r c : ℕ) → cell (act FlipRows t) r c ≡ cell t (mirror_place (row_count t) r) c
   cell-flip t h r c = ap (λ v. cell v r c) (flip_rows-is t h) ∙ ap (λ v. slice_get v c) (row-mirrored t r)
 
-  past_rows : (t : List (List T)) (r c : ℕ) → row_count t ≤ r → cell t r c ≡ None
+  pub past_rows : (t : List (List T)) (r c : ℕ) → row_count t ≤ r → cell t r c ≡ None
   past_rows t r c le = ap (λ v. slice_get v c) (get_or_past t r [] le)
 
-  past_cols : (t : List (List T)) → IsTable t → (r c : ℕ) → col_count t ≤ c → cell t r c ≡ None
+  pub past_cols : (t : List (List T)) → IsTable t → (r c : ℕ) → col_count t ≤ c → cell t r c ≡ None
   past_cols t h r c le =
       ⊎_elim (λ lt. slice_get_past (row t r) c (omega (arith, h.even r lt))) (λ ge. past_rows t r c ge) (cases_lt r (row_count t))
 

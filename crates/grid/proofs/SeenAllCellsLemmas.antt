@@ -8,13 +8,12 @@ use Rattle.grid_base.specs.Order.{table_of, storage, place}
 use Rattle.grid_base.specs.GridValue.{GridValue, HoldsSize}
 use Rattle.grid_base.proofs.TableLemmas.{same_tables, width-tabulate}
 use Rattle.grid_base.proofs.StorageLemmas.{IsFull-table_of, place_within}
-use Rattle.grid_base.proofs.ViewLemmas.{view-rows, view-cols, view-table, view-storage, view-cell}
+use Rattle.grid_base.proofs.ViewLemmas.{grid_value, view-rows, view-cols, view-table, view-storage, view-cell}
 use Rattle.grid.specs.AllCells.{filled}
-use Rattle.grid.proofs.CellWriteLemmas.{grid_value}
 use Rattle.grid.proofs.SeenLemmas.{seen_rows, seen_cols}
 
 -- as many other cells in place of a grid's
-module _ {T U : Type 0} (o : Order) (m n : ℕ) (cells : List T) (news : List U) (v : GridValue T) (h : HoldsSize m n (length cells)) (e : grid_value o m n cells ≡ v) (same : length news ≡ length cells) where
+module _ {T U : Type 0} (o : Order) (m n : ℕ) (cells : List T) (news : List U) (v : GridValue T) (h : HoldsSize m n (length cells)) (e : grid_value o m n cells h ≡ v) (same : length news ≡ length cells) where
   fits : HoldsSize m n (length news)
   fits = rw same h
 
@@ -75,11 +74,11 @@ module _ {T : Type 0} (w : T) where
         ∙ (get_same (length cells) (place o m n r c) in_cells
         ∙ sym (ap (λ x. slice_get x c) (row_filled t r inside) ∙ get_filled (row t r) c (omega (arith, width r lr)))))
 
-  pub seen_filled : (o : Order) (m n : ℕ) (cells news : List T) (v : GridValue T) → HoldsSize m n (length cells) → grid_value o m n cells ≡ v → news ≡ replicate (length cells) w → table_of o m n news ≡ filled w v.rows
+  pub seen_filled : (o : Order) (m n : ℕ) (cells news : List T) (v : GridValue T) (h : HoldsSize m n (length cells)) → grid_value o m n cells h ≡ v → news ≡ replicate (length cells) w → table_of o m n news ≡ filled w v.rows
   seen_filled o m n cells news v h e same =
       ap (table_of o m n) same ∙ (filled_at o m n cells h ∙ ap (λ x. filled w x.rows) e)
 
 -- a grid without rows has no cells
-pub seen_none : {T : Type 0} (o : Order) (m n : ℕ) (cells : List T) (v : GridValue T) → HoldsSize m n (length cells) → grid_value o m n cells ≡ v → v.rows ≡ [] → length cells ≡ 0
+pub seen_none : {T : Type 0} (o : Order) (m n : ℕ) (cells : List T) (v : GridValue T) (h : HoldsSize m n (length cells)) → grid_value o m n cells h ≡ v → v.rows ≡ [] → length cells ≡ 0
 seen_none o m n cells v h e none =
     let zero_rows : m ≡ 0 = sym (seen_rows o m n cells v h e) ∙ ap length none in omega (arith, h.cells, ap (λ x. x * n) zero_rows)

@@ -15,7 +15,7 @@ use Rattle.grid_base.specs.Groups.{Woven, Closed}
 use Rattle.grid.specs.Edits.{FitsRow, insert_rows, without_rows}
 use Rattle.grid.specs.RowGroups.{RowGroups, RowsInserted, RowsTaken, RowMovedToEnd, cols_if_rows}
 use Rattle.grid.proofs.SeenLemmas.{seen_rows, seen_cols}
-use Rattle.grid_base.proofs.ViewLemmas.{HoldsSize-none, view-rows, view-cols}
+use Rattle.grid_base.proofs.ViewLemmas.{grid_value, HoldsSize-none, view-rows, view-cols}
 use Rattle.grid.specs.Shift.{rows_taken_shift}
 use Rattle.grid.proofs.EditViewLemmas.{view-remove_row, view-removed_row, view-close_rows, cells-closed, view-insert_rows, table_of-no_rows, storage-line, IsTable-line, put_line}
 use Rattle.grid.proofs.EditSizeLemmas.{HoldsSize-fewer}
@@ -28,7 +28,7 @@ rows_put {T} o m n i k p q a g old new groups le w =
       table = λ cells lines e len h em en. view-insert_rows o m n cells len i k p q a g lines new groups h em en le (subst (λ x. Woven p q a g x new) e w);
     }
 
-module _ {T : Type 0} (o : Order) (m n : ℕ) (cells : List T) (s : GridValue T) (h : HoldsSize m n (length cells)) (e : (let v : GridValue T = record { rows = table_of o m n cells; order = o } in v) ≡ s) (w : ℕ) (f : FitsRow s.rows w) where
+module _ {T : Type 0} (o : Order) (m n : ℕ) (cells : List T) (s : GridValue T) (h : HoldsSize m n (length cells)) (e : grid_value o m n cells h ≡ s) (w : ℕ) (f : FitsRow s.rows w) where
   no_rows : s.rows ≡ [] → m ≡ 0
   no_rows none = sym (seen_rows o m n cells s h e) ∙ ap length none
 
@@ -94,7 +94,7 @@ HoldsSize-left m n zero len part h le e = HoldsSize-none part (e ∙ omega arith
 HoldsSize-left m n (suc rest) len part h le e = rw (eqb-suc-zero rest) (HoldsSize-fewer m n (suc rest) len part h (omega arith) le e)
 
 -- taking some rows of a grid
-module _ {T : Type 0} (o : Order) (m n : ℕ) (cells : List T) (s : GridValue T) (h : HoldsSize m n (length cells)) (e : (let v : GridValue T = record { rows = table_of o m n cells; order = o } in v) ≡ s) (i k : ℕ) (within : i + k ≤ row_count s.rows) (some : 0 < k) where
+module _ {T : Type 0} (o : Order) (m n : ℕ) (cells : List T) (s : GridValue T) (h : HoldsSize m n (length cells)) (e : grid_value o m n cells h ≡ s) (i k : ℕ) (within : i + k ≤ row_count s.rows) (some : 0 < k) where
   pub taken_in : i + k ≤ m
   taken_in = rw (seen_rows o m n cells s h e) at within
 
@@ -161,7 +161,7 @@ row_last n rest cells len =
     row_behind RowMajor n rest rest 1 (rest * n) (rest * n) n cells cells (refl, refl, refl, omega arith) len (omega arith) (woven_last (rest * n) n cells)
 
 -- taking a row of a grid
-module _ {T : Type 0} (o : Order) (m n : ℕ) (cells : List T) (s : GridValue T) (h : HoldsSize m n (length cells)) (e : (let v : GridValue T = record { rows = table_of o m n cells; order = o } in v) ≡ s) (i : ℕ) (within : i < row_count s.rows) where
+module _ {T : Type 0} (o : Order) (m n : ℕ) (cells : List T) (s : GridValue T) (h : HoldsSize m n (length cells)) (e : grid_value o m n cells h ≡ s) (i : ℕ) (within : i < row_count s.rows) where
   pub removed_in : i < m
   removed_in = rw (seen_rows o m n cells s h e) at within
 
@@ -195,7 +195,7 @@ module _ {T : Type 0} (o : Order) (m n : ℕ) (cells : List T) (s : GridValue T)
         ∙ ap Some (sym (p.taken removed_wide ∙ (ap (λ x. row (table_of o x n cells) i) removed_whole ∙ ap (λ x. row x.rows i) e)))
 
 -- the last row of a grid whose rows stand in their order
-pub last_row : {T : Type 0} (o : Order) (m n : ℕ) (cells : List T) (s : GridValue T) (h : HoldsSize m n (length cells)) (e : (let v : GridValue T = record { rows = table_of o m n cells; order = o } in v) ≡ s) → s.order ≡ RowMajor → 0 < row_count s.rows → RowMovedToEnd o n (row_count s.rows - 1) (m - 1) cells cells
+pub last_row : {T : Type 0} (o : Order) (m n : ℕ) (cells : List T) (s : GridValue T) (h : HoldsSize m n (length cells)) (e : grid_value o m n cells h ≡ s) → s.order ≡ RowMajor → 0 < row_count s.rows → RowMovedToEnd o n (row_count s.rows - 1) (m - 1) cells cells
 last_row o m n cells s h e major some =
     let rows : row_count s.rows ≡ m = seen_rows o m n cells s h e in
     let is : o ≡ RowMajor = ap (λ x. x.order) e ∙ major in

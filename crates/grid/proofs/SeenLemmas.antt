@@ -5,37 +5,41 @@ use Rattle.grid_base.specs.declared.flat.order.Order.{Order}
 use Rattle.grid_base.specs.Table.{row_count, col_count, IsTable, InRange}
 use Rattle.grid_base.specs.Order.{table_of, storage}
 use Rattle.grid_base.specs.GridValue.{GridValue, HoldsSize}
-use Rattle.grid_base.proofs.ViewLemmas.{view-rows, view-cols, view-table, view-storage}
+use Rattle.grid_base.proofs.ViewLemmas.{grid_value, same_grid_value, view-rows, view-cols, view-table, view-storage}
 
 no_rows : {X : Type 0} (xs : List X) → length xs ≡ 0 → xs ≡ []
 no_rows [] e = refl
 no_rows (x ∷ xs) e = absurd (omega arith)
 
 module _ {T : Type 0} (o : Order) (m n : ℕ) (cells : List T) (s : GridValue T) (h : HoldsSize m n (length cells)) where
-  pub seen_rows : (let v : GridValue T = record { rows = table_of o m n cells; order = o } in v) ≡ s → row_count s.rows ≡ m
+  pub seen_rows : grid_value o m n cells h ≡ s → row_count s.rows ≡ m
   seen_rows e = sym (ap (λ x. row_count x.rows) e) ∙ view-rows o m n cells h
 
-  pub seen_cols : (let v : GridValue T = record { rows = table_of o m n cells; order = o } in v) ≡ s → col_count s.rows ≡ n
+  pub seen_cols : grid_value o m n cells h ≡ s → col_count s.rows ≡ n
   seen_cols e = sym (ap (λ x. col_count x.rows) e) ∙ view-cols o m n cells h
 
-  pub seen_table : (let v : GridValue T = record { rows = table_of o m n cells; order = o } in v) ≡ s → IsTable s.rows
+  pub seen_table : grid_value o m n cells h ≡ s → IsTable s.rows
   seen_table e = rw (← e) (view-table o m n cells h)
 
-  pub seen_storage : (let v : GridValue T = record { rows = table_of o m n cells; order = o } in v) ≡ s → storage s.order s.rows ≡ cells
+  pub seen_storage : grid_value o m n cells h ≡ s → storage s.order s.rows ≡ cells
   seen_storage e = rw (← e) (view-storage o m n cells h)
 
-  pub seen_below : (let v : GridValue T = record { rows = table_of o m n cells; order = o } in v) ≡ s → row_count s.rows * col_count s.rows < 2 ^ 64
+  pub seen_below : grid_value o m n cells h ≡ s → row_count s.rows * col_count s.rows < 2 ^ 64
   seen_below e = rw (seen_rows e, seen_cols e) h.below
 
-  pub seen_empty : (let v : GridValue T = record { rows = table_of o m n cells; order = o } in v) ≡ s → IsTrue (nat_eq m 0) ↔ (s.rows ≡ [])
+  pub seen_empty : grid_value o m n cells h ≡ s → IsTrue (nat_eq m 0) ↔ (s.rows ≡ [])
   seen_empty e = (
     λ none. no_rows s.rows (omega (arith, seen_rows e, eqb-true m 0 none)),
     λ none. eq-eqb m 0 (sym (seen_rows e) ∙ ap length none),
   )
 
   -- a place in range of the value is in range of the fields
-  pub seen_row_in : (r c : ℕ) → (let v : GridValue T = record { rows = table_of o m n cells; order = o } in v) ≡ s → InRange s.rows r c → r < m
+  pub seen_row_in : (r c : ℕ) → grid_value o m n cells h ≡ s → InRange s.rows r c → r < m
   seen_row_in r c e p = rw (seen_rows e) at p.0
 
-  pub seen_col_in : (r c : ℕ) → (let v : GridValue T = record { rows = table_of o m n cells; order = o } in v) ≡ s → InRange s.rows r c → c < n
+  pub seen_col_in : (r c : ℕ) → grid_value o m n cells h ≡ s → InRange s.rows r c → c < n
   seen_col_in r c e p = rw (seen_cols e) at p.1
+
+  -- the same cells show the same value
+  pub seen_same : grid_value o m n cells h ≡ s → (news : List T) (k : HoldsSize m n (length news)) → news ≡ cells → grid_value o m n news k ≡ s
+  seen_same e news k same = same_grid_value _ _ (ap (table_of o m n) same ∙ ap (λ x. x.rows) e) (ap (λ x. x.order) e)

@@ -8,6 +8,7 @@ use Rattle.grid_base.specs.declared.flat.order.Order.{Order}
 use Rattle.grid_base.specs.declared.words.Symmetry.TheVariants.{Transpose}
 use Rattle.grid_base.specs.Table.{row, row_count, col_count, IsTable}
 use Rattle.grid_base.specs.Order.{table_of, flipped}
+use Rattle.grid_base.proofs.ViewLemmas.{grid_value}
 use Rattle.grid_base.specs.GridValue.{GridValue, HoldsSize}
 use Rattle.grid_base.specs.Append.{AppendsEach}
 use Rattle.grid_base.specs.Symmetry.{act}
@@ -64,7 +65,7 @@ module _ {T : Type 0} where
   pads_prepended P k d (r ∷ t) new p one = pads_copies P 0 k d (r ∷ t) new one p ∙ sym (prepended-put k d (r ∷ t) (omega arith))
 
 -- padding some rows of a grid
-module _ {T : Type 0} (o : Order) (m n : ℕ) (cells : List T) (s : GridValue T) (h : HoldsSize m n (length cells)) (e : (let v : GridValue T = record { rows = table_of o m n cells; order = o } in v) ≡ s) (k a b : ℕ) (rows : a ≡ row_count s.rows) (cols : b ≡ col_count s.rows) (some : a ≡ 0 → ⊥) (room : (a + k) * b < 2 ^ 64) where
+module _ {T : Type 0} (o : Order) (m n : ℕ) (cells : List T) (s : GridValue T) (h : HoldsSize m n (length cells)) (e : grid_value o m n cells h ≡ s) (k a b : ℕ) (rows : a ≡ row_count s.rows) (cols : b ≡ col_count s.rows) (some : a ≡ 0 → ⊥) (room : (a + k) * b < 2 ^ 64) where
   as_rows : a ≡ m
   as_rows = rows ∙ seen_rows o m n cells s h e
 

@@ -10,10 +10,9 @@ use Rattle.grid_base.specs.Symmetry.{act}
 use Rattle.grid_base.specs.Places.{places}
 use Rattle.grid_base.specs.GridValue.{GridValue, HoldsSize}
 use Rattle.grid_base.specs.FlatLends.{written_from}
-use Rattle.grid_base.proofs.ViewLemmas.{view-transpose}
+use Rattle.grid_base.proofs.ViewLemmas.{grid_value, same_grid_value, view-transpose}
 use Rattle.grid.specs.Walks.{stored, with_cells, refilled, refilled_from, IsSameSize, KeepsSize, KeepsSizeFrom}
-use Rattle.grid.proofs.CellWriteLemmas.{grid_value}
-use Rattle.grid.proofs.SeenLemmas.{seen_rows, seen_cols, seen_table, seen_storage}
+use Rattle.grid.proofs.SeenLemmas.{seen_rows, seen_cols, seen_storage}
 
 -- the storage of a table is that of the transposed table in the other order
 pub place_flipped : (o : Order) (m n r c : ℕ) → place (flipped o) n m c r ≡ place o m n r c
@@ -24,7 +23,7 @@ act_is_transposed : {T : Type 0} (t : List (List T)) → act Transpose t ≡ tra
 unfolding act
 act_is_transposed t = refl
 
-module _ {T : Type 0} (o : Order) (m n : ℕ) (cells : List T) (v : GridValue T) (h : HoldsSize m n (length cells)) (e : grid_value o m n cells ≡ v) where
+module _ {T : Type 0} (o : Order) (m n : ℕ) (cells : List T) (v : GridValue T) (h : HoldsSize m n (length cells)) (e : grid_value o m n cells h ≡ v) where
   order_is : v.order ≡ o
   order_is = sym (ap (λ x. x.order) e)
 
@@ -49,39 +48,41 @@ module _ {T : Type 0} (o : Order) (m n : ℕ) (cells : List T) (v : GridValue T)
       )
 
   -- the grid with other cells
-  pub seen_with : (xs ys : List T) → xs ≡ ys → grid_value o m n xs ≡ with_cells v ys
-  seen_with xs ys same =
-      ap (grid_value o m n) same
-      ∙ sym (ap (λ x. grid_value x (row_count v.rows) (col_count v.rows) ys) order_is
-      ∙ (ap (λ x. grid_value o x (col_count v.rows) ys) rows_are ∙ ap (λ x. grid_value o m x ys) cols_are))
+  pub seen_with : (xs ys : List T) (k : HoldsSize m n (length xs)) (l : length ys ≡ length (stored v)) → xs ≡ ys → grid_value o m n xs k ≡ with_cells v ys l
+  seen_with xs ys k l same =
+      same_grid_value _ _
+      (ap (table_of o m n) same
+      ∙ sym (ap (λ x. table_of x (row_count v.rows) (col_count v.rows) ys) order_is
+      ∙ (ap (λ x. table_of o x (col_count v.rows) ys) rows_are ∙ ap (λ x. table_of o m x ys) cols_are)))
+      (sym order_is)
 
-  pub seen_refilled : (ws : List T) → grid_value o m n (refill (length cells) cells ws) ≡ refilled v ws
-  seen_refilled ws = seen_with _ _ (ap (λ c. refill (length c) c ws) (sym cells_are))
+  pub seen_refilled : (ws : List T) (k : HoldsSize m n (length (refill (length cells) cells ws))) → grid_value o m n (refill (length cells) cells ws) k ≡ refilled v ws
+  seen_refilled ws k = seen_with _ _ k _ (ap (λ c. refill (length c) c ws) (sym cells_are))
 
   place_is : (r c : ℕ) → place v.order (row_count v.rows) (col_count v.rows) r c ≡ place o m n r c
   place_is r c =
       ap (λ x. place x (row_count v.rows) (col_count v.rows) r c) order_is
       ∙ (ap (λ x. place o x (col_count v.rows) r c) rows_are ∙ ap (λ x. place o m x r c) cols_are)
 
-  pub seen_written : (start r c : ℕ) (ws : List T) → start ≡ place o m n r c → grid_value o m n (written_from start cells ws) ≡ refilled_from v r c ws
-  seen_written start r c ws s =
-      seen_with _ _ (ap (λ x. written_from x cells ws) (s ∙ sym (place_is r c)) ∙ ap (λ x. written_from (place v.order (row_count v.rows) (col_count v.rows) r c) x ws) (sym cells_are))
+  pub seen_written : (start r c : ℕ) (ws : List T) (k : HoldsSize m n (length (written_from start cells ws))) → start ≡ place o m n r c → grid_value o m n (written_from start cells ws) k ≡ refilled_from v r c ws
+  seen_written start r c ws k s =
+      seen_with _ _ k _ (ap (λ x. written_from x cells ws) (s ∙ sym (place_is r c)) ∙ ap (λ x. written_from (place v.order (row_count v.rows) (col_count v.rows) r c) x ws) (sym cells_are))
 
   -- the size stays where as many cells are written
   fits_of : (news : List T) → length news ≡ length cells → HoldsSize m n (length news)
   fits_of news same = rw same h
 
-  size_kept : (news : List T) (u : GridValue T) → length news ≡ length cells → grid_value o m n news ≡ u → IsSameSize v u.rows
+  size_kept : (news : List T) (u : GridValue T) (same : length news ≡ length cells) → grid_value o m n news (fits_of news same) ≡ u → IsSameSize v u.rows
   size_kept news u same f =
       let fits = fits_of news same in
-      (seen_rows o m n news u fits f ∙ sym rows_are, seen_cols o m n news u fits f ∙ sym cols_are, seen_table o m n news u fits f)
+      (seen_rows o m n news u fits f ∙ sym rows_are, seen_cols o m n news u fits f ∙ sym cols_are, u.table)
 
   pub seen_keeps : KeepsSize v
-  seen_keeps ws = size_kept (refill (length cells) cells ws) (refilled v ws) (sym (length_refill (length cells) cells ws refl)) (seen_refilled ws)
+  seen_keeps ws = size_kept (refill (length cells) cells ws) (refilled v ws) (sym (length_refill (length cells) cells ws refl)) (seen_refilled ws _)
 
   pub seen_keeps_from : (r c : ℕ) → KeepsSizeFrom v r c
   seen_keeps_from r c ws =
       let start = place o m n r c in
       size_kept (written_from start cells ws) (refilled_from v r c ws)
       (sym (length_refill (length cells) cells (take start cells ++ (ws ++ drop (length ws) (drop start cells))) refl))
-      (seen_written start r c ws refl)
+      (seen_written start r c ws _ refl)

@@ -24,6 +24,10 @@ pub on_err : {V E : Type 0} (r : Result V E) {P Q : Type 0} → (P → Q) → On
 on_err (Ok v) f h = h
 on_err (Err e) f h = f h
 
+pub either_way : {V E : Type 0} (r : Result V E) {P : Type 0} → P → OnErr r P
+either_way (Ok v) h = tt
+either_way (Err e) h = h
+
 module _ {T : Type 0} where
   -- a column that fits a table fits the transposed table as a row
   pub fits_across : (t : List (List T)) (w : ℕ) → IsTable t → FitsCol t w → FitsRow (act Transpose t) w

@@ -15,3 +15,4 @@ pub mod AllCells
 pub mod Same
 pub mod Texts
 pub mod EditFails
+pub mod IndexedWalks

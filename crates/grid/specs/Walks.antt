@@ -1,6 +1,7 @@
 -- What a grid ends as, once a walk for writing has ended.
-use Rattle.std.specs.Prelude.{◌≡◌, ℕ, List, length}
-use Rattle.std.specs.List.{refill}
+use Rattle.std.specs.Prelude.{◌≡◌, ℕ, List, ◌++◌, length, take, drop}
+use Rattle.std.proofs.Common.{sym, refl}
+use Rattle.std.specs.List.{refill, length_refill}
 use Rattle.std.specs.Borrow.{follows, Fml, RattleType, MutBor, Array}
 use Rattle.std.specs.Slice.Iter.{iter_mut_name}
 use Rattle.std.specs.declared.slice.IterMut.{IterMut}
@@ -10,6 +11,7 @@ use Rattle.grid_base.specs.declared.flat.indexed.IndexedIterMut.{IndexedIterMut}
 use Rattle.grid_base.specs.Table.{row_count, col_count, IsTable}
 use Rattle.grid_base.specs.Order.{storage, place, table_of}
 use Rattle.grid_base.specs.GridValue.{GridValue}
+use Rattle.grid_base.proofs.ViewLemmas.{IsTable-recut}
 use Rattle.grid_base.specs.FlatLends.{written_from}
 use Rattle.grid_base.specs.GridLineIterMut.{line_mut_name}
 use Rattle.grid_base.specs.IndexedIterMut.{indexed_mut_name}
@@ -21,16 +23,20 @@ module _ {T : Type 0} (s : GridValue T) where
   stored = storage s.order s.rows
 
   -- the grid of the same size and order with these cells in storage order
-  abbrev pub with_cells : List T → GridValue T
-  with_cells cells = record s { rows = table_of s.order (row_count s.rows) (col_count s.rows) cells }
+  abbrev pub with_cells : (cells : List T) → length cells ≡ length stored → GridValue T
+  with_cells cells e =
+      record { rows = table_of s.order (row_count s.rows) (col_count s.rows) cells; order = s.order; table = IsTable-recut s.order s.rows cells s.table e }
 
   -- the same with ws written over its own cells from the first on
   abbrev pub refilled : List T → GridValue T
-  refilled ws = with_cells (refill (length stored) stored ws)
+  refilled ws = with_cells (refill (length stored) stored ws) (sym (length_refill (length stored) stored ws refl))
 
   -- or from the place of cell (r, c) on
   abbrev pub refilled_from : ℕ → ℕ → List T → GridValue T
-  refilled_from r c ws = with_cells (written_from (place s.order (row_count s.rows) (col_count s.rows) r c) stored ws)
+  refilled_from r c ws =
+      let start = place s.order (row_count s.rows) (col_count s.rows) r c in
+      with_cells (written_from start stored ws)
+      (sym (length_refill (length stored) stored (take start stored ++ (ws ++ drop (length ws) (drop start stored))) refl))
 
   -- a table of the same size
   abbrev pub IsSameSize : List (List T) → Type 0

@@ -1,8 +1,8 @@
 //! A grid, its constructors from a vector, and access to its cells.
-ghost use Rattle.std.specs.Prelude.{◌≡◌, ◌≢◌, ◌*◌, ◌^◌, ◌<◌, ◌↔◌, [], length, IsTrue, IfSome, Some, is_some};
+ghost use Rattle.std.specs.Prelude.{◌≡◌, ◌≢◌, ◌*◌, ◌^◌, ◌<◌, ◌↔◌, [], length, IsTrue, IfSome, MatchOption, Some, is_some};
 ghost use Rattle.std.specs.Borrow.{sem};
 ghost use Rattle.std.specs.Option.{option_copied};
-ghost use Rattle.grid_base.specs.Table.{row_count, col_count, cell, exchanged, InRange, IsTable};
+ghost use Rattle.grid_base.specs.Table.{row_count, col_count, cell, with_cell, exchanged, InRange, IsTable};
 ghost use Rattle.grid.specs.Edits.{FitsRow, FitsCol};
 ghost use Rattle.grid_base.specs.GridValue.{HoldsSize};
 ghost use Rattle.grid_base.specs.Order.{storage, place, CanCut};
@@ -12,6 +12,7 @@ mod make;
 use grid_base::{Flat, Order};
 use std::alloc::{Allocator, Global};
 use std::marker::Model;
+use std::mem;
 use std::ops::{Index, IndexMut};
 
 /// A table of cells in one vector, seen as its rows and its order.
@@ -23,19 +24,16 @@ pub struct Grid<T, A: Allocator = Global> {
     pub(crate) row_count: usize,
     pub(crate) col_count: usize,
     pub(crate) order: Order,
+    ghost fits: { HoldsSize row_count col_count (length flat) },
 }
 
 impl<T, A: Allocator> Model for Grid<T, A> {
-    ghost use Rattle.std.specs.Prelude.{length};
-    ghost use Rattle.grid_base.specs.Order.{table_of};
-    ghost use Rattle.grid_base.specs.GridValue.{GridValue, HoldsSize};
+    ghost use Rattle.grid_base.specs.GridValue.{GridValue};
+    ghost use Rattle.grid_base.proofs.ViewLemmas.{grid_value};
 
     ghost Value = { GridValue T };
 
-    ghost view = { λ g. record
-        { rows = table_of g.order g.row_count g.col_count g.flat; order = g.order } };
-
-    ghost invariant = { λ g. HoldsSize g.row_count g.col_count (length g.flat) };
+    ghost view = { λ g. grid_value g.order g.row_count g.col_count g.flat g.fits };
 }
 
 // Returns the place in the storage of the cell in a row and a column.
@@ -181,7 +179,8 @@ impl<T, A: Allocator> Grid<T, A> {
     ///
     ///     [[1, 2], [3, 4]]   get(0, 1)   Some(2)
     pub fn get(&self, row: usize, col: usize) -> Option<&T>
-        ensures { option_copied result ≡ cell self.now.rows row col }
+        ensures cell { option_copied result ≡ cell self.now.rows row col }
+        ensures in_range { IfSome result (λ _. InRange self.now.rows row col) }
     {
         if row < self.row_count && col < self.col_count {
             Some(self.flat.at(place(self.order, self.row_count, self.col_count, row, col)))
@@ -199,8 +198,9 @@ impl<T, A: Allocator> Grid<T, A> {
         ensures variant { is_some result ≡ is_some (cell self.old.rows row col) }
         ensures item { IfSome result (λ x. cell self.old.rows row col ≡ Some x.now) }
     {
-        if row < self.row_count && col < self.col_count {
-            Some(self.flat.at_mut(place(self.order, self.row_count, self.col_count, row, col)))
+        let (rows, cols) = self.size();
+        if row < rows && col < cols {
+            Some(self.get_unchecked_mut(row, col))
         } else {
             None
         }
@@ -233,6 +233,24 @@ impl<T, A: Allocator> Grid<T, A> {
     {
         let place = place(self.order, self.row_count, self.col_count, row, col);
         self.flat.at_mut(place)
+    }
+
+    /// Puts a value in a row and a column, and returns the cell that was there, or `None` out of range, where nothing
+    /// changes and the value is dropped.
+    pub fn set(&mut self, row: usize, col: usize, value: T) -> Option<T>
+    where
+        T: Drop,
+        ensures rows { MatchOption result (self.new.rows ≡ self.old.rows)
+            (λ _. self.new.rows ≡ with_cell self.old.rows row col value) }
+        ensures order { self.new.order ≡ self.old.order }
+        ensures size { row_count self.new.rows ≡ row_count self.old.rows }
+    {
+        let (rows, cols) = self.size();
+        if row < rows && col < cols {
+            Some(mem::replace(self.get_unchecked_mut(row, col), value))
+        } else {
+            None
+        }
     }
 
     /// Exchanges two cells. No tally counts it.

@@ -109,8 +109,6 @@ impl<T, A: Allocator> Grid<T, A> {
             → IsNormalForm w symmetry → self.new.rows ≡ word_image w self.old.rows }
         ensures order { self.new.order ≡ order_after symmetry self.old.order }
     {
-        // shows the prover that the rows are a table
-        let _ = &self.flat;
         let mut tally = Tally::new();
         self.apply_counted(symmetry, &mut tally);
     }
@@ -127,8 +125,6 @@ impl<T, A: Allocator> Grid<T, A> {
             (price symmetry (row_count self.old.rows) (col_count self.old.rows)) }
         ensures shift { tally.new.shift ≡ tally.old.shift }
     {
-        // shows the prover that the rows are a table
-        let _ = &self.flat;
         let (transposes, rows, cols) = symmetry.flags();
         if transposes {
             self.transpose();
@@ -144,8 +140,6 @@ impl<T, A: Allocator> Grid<T, A> {
             (from_flags false rows cols) (row_count self.old.rows) (col_count self.old.rows)) }
         ensures shift { tally.new.shift ≡ tally.old.shift }
     {
-        // shows the prover that the rows are a table
-        let _ = &self.flat;
         match (rows, cols) {
             (false, false) => {}
             (true, false) => self.flip_rows_counted(tally),

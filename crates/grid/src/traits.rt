@@ -42,8 +42,6 @@ impl<T: PartialEq, A: Allocator> Grid<T, A> {
         ensures { result ≡ pointwise T.eq (row self.now.rows r) (row other.now.rows r) }
     {
         let (_, cols) = self.size();
-        // shows the prover that the rows are a table
-        let _ = other.size();
         for col in 0..cols {
             if self.get_unchecked(r, col) != other.get_unchecked(r, col) {
                 return false;

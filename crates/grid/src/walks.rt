@@ -1,6 +1,6 @@
 //! Iterators over the cells of a grid, over one row or column, and over the rows and the columns. An iterator is
 //! called a walk here. No walk takes memory, and each may be dropped early.
-ghost use Rattle.std.specs.Prelude.{◌≡◌, zip};
+ghost use Rattle.std.specs.Prelude.{◌≡◌, ◌^◌, ◌<◌, length, zip};
 ghost use Rattle.std.specs.Borrow.{sem};
 ghost use Rattle.std.specs.Iterator.Runs.{YieldsInOrder, YieldsInReverse, YieldsRefsInOrder, YieldsRefsInReverse, YieldsMutRefsInOrder, YieldsMutRefsInReverse};
 ghost use Rattle.std.specs.Slice.Iter.{iter_rest, iter_steps, iter_steps_back, iter_mut_rest, iter_mut_steps, iter_mut_steps_back};
@@ -9,6 +9,7 @@ ghost use Rattle.grid_base.specs.Table.{row_count, col_count};
 ghost use Rattle.grid_base.specs.Order.{storage};
 ghost use Rattle.grid_base.specs.Places.{places};
 ghost use Rattle.grid_base.specs.IndexedIterMut.{indexed_mut_rest};
+ghost use Rattle.grid.specs.IndexedWalks.{GivesCells, GivesOwnedCells, GivesMutCells};
 
 mod all_cells;
 mod lines;
@@ -50,9 +51,11 @@ impl<T, A: Allocator> Grid<T, A> {
     ///
     ///     [[1, 2], [3, 4]]   indexed_iter()   row-major ((0, 0), 1), ((0, 1), 2), ((1, 0), 3), ((1, 1), 4)
     pub fn indexed_iter(&self) -> IndexedIter<'_, T>
-        ensures { result
+        ensures rest { result
             ≡ zip (places self.now.order (row_count self.now.rows) (col_count self.now.rows))
             (storage self.now.order self.now.rows) }
+        ensures cells { GivesCells self.now.rows result }
+        ensures fits { length result < 2 ^ 64 }
     {
         self.flat
             .indexed_iter(self.order, self.row_count, self.col_count)
@@ -68,17 +71,20 @@ impl<T, A: Allocator> Grid<T, A> {
         ensures rest { indexed_mut_rest result
             ≡ zip (places self.old.order (row_count self.old.rows) (col_count self.old.rows))
             (storage self.old.order self.old.rows) }
+        ensures cells { GivesMutCells self.old.rows result }
     {
-        self.flat
-            .indexed_iter_mut(self.order, self.row_count, self.col_count)
+        let (order, rows, cols) = (self.order, self.row_count, self.col_count);
+        self.flat.indexed_iter_mut(order, rows, cols)
     }
 
     /// Returns an iterator over the cells in storage order, by value, each with its row and its column.
     ///
     ///     [[1, 2], [3, 4]]   indexed_into_iter()   row-major ((0, 0), 1), ((0, 1), 2), ((1, 0), 3), ((1, 1), 4)
     pub fn indexed_into_iter(self) -> IndexedIntoIter<T, A>
-        ensures { result ≡ zip (places self.order (row_count self.rows) (col_count self.rows))
+        ensures rest { result ≡ zip (places self.order (row_count self.rows) (col_count self.rows))
             (storage self.order self.rows) }
+        ensures cells { GivesOwnedCells self.rows result }
+        ensures fits { length result < 2 ^ 64 }
     {
         let Grid {
             flat,

@@ -1,11 +1,12 @@
 -- Closures, call by call.
-use Rattle.std.proofs.Common.{◌≡◌, List, [], ◌∷◌, ◌++◌, map, refl, sym, subst, ap, replicate, length, take, arith}
+use Rattle.std.proofs.Common.{◌≡◌, ℕ, zero, suc, List, [], ◌∷◌, ◌++◌, map, refl, sym, subst, ◌∙◌, ap, replicate, length, take, arith}
 use Rattle.std.proofs.lemmas.List.{length-append}
 use Rattle.std.proofs.Math.Seq.{get_or-append_seam}
 use Rattle.std.specs.List.{FoldsTo, AllZip}
 use denote.Param.Members.{Mut, Called}
 use denote.Param.Always.{always_mut, mut_next}
-use Rattle.grid_base.specs.ClosureCalls.{MapsThrough, MapsTo, Generates, PairsUp, CallableAtEach}
+use denote.Ref.{Bor}
+use Rattle.grid_base.specs.ClosureCalls.{MapsThrough, MapsTo, Generates, PairsUp, CallableAtEach, CallableAtCells, ReturnsAtCell}
 
 -- one more answer
 pub MapsThrough-append : {F A B : Type 0} (step : F → A → B → F → Type 0) (f g h : F) (xs : List A) (ys : List B) (x : A) (y : B) → MapsThrough step f xs ys g → step g x y h → MapsThrough step f (xs ++ x ∷ []) (ys ++ y ∷ []) h
@@ -75,3 +76,26 @@ module _ {F A B : Type 0} (m : Mut F (A × Unit {0}) B) where
   -- a closure that can always be called can be called at each item
   pub callable_always : (f : F) (xs : List A) → always_mut m f → CallableAtEach (λ p x. m.pre p (x, tt)) (λ p x y q. Called m p (x, tt) y q) f xs
   callable_always f xs h = record { at = λ k x ys g lt is a. ((always_after f g (take k xs) ys a h).at ((x, tt) ∷ [])).0 }
+
+-- the closure can be called at the place and the cell after those that it answered
+pub callable_cell : {F P A : Type 0} (takes : F → P → Bor A → Type 0) (f : F) (xs done rest : List (P × A)) (at : P) (p : Bor A) → CallableAtCells takes f xs → done ++ (at, p.now) ∷ rest ≡ xs → takes f at p
+callable_cell {P = P} {A} takes f xs done rest at p h is =
+    let x : P × A = (at, p.now) in
+    let whole : CallableAtCells takes f (done ++ x ∷ rest) = subst (CallableAtCells takes f) (sym is) h in
+    whole.at (length done) at p (omega (arith, length-append done (x ∷ rest))) (sym (get_or-append_seam done x rest x))
+
+pub AllZip-length : {A B : Type 0} (R : A → B → Type 0) (xs : List A) (ys : List B) → AllZip R xs ys → length ys ≡ length xs
+AllZip-length R [] [] a = refl
+AllZip-length R [] (b ∷ ys) a = absurd a
+AllZip-length R (c ∷ xs) [] a = absurd a
+AllZip-length R (c ∷ xs) (b ∷ ys) a = omega (arith, AllZip-length R xs ys a.1)
+
+-- a whole list, cut where it ends
+pub take_whole : {A : Type 0} (n : ℕ) (xs : List A) → length xs ≡ n → take n xs ≡ xs
+take_whole zero [] h = refl
+take_whole zero (x ∷ xs) h = absurd (omega arith)
+take_whole (suc n) [] h = absurd (omega arith)
+take_whole (suc n) (x ∷ xs) h = ap (λ l. x ∷ l) (take_whole n xs (omega arith))
+
+pub take_front : {A : Type 0} (n : ℕ) (xs ys : List A) → length xs ≡ n → take n (xs ++ ys) ≡ xs
+take_front n xs ys h = ap (λ k. take k (xs ++ ys)) (sym h) ∙ take_seam xs ys

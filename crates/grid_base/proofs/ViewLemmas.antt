@@ -1,6 +1,10 @@
 -- What a grid's parts say of its table.
 use Rattle.std.proofs.Common.{◌≡◌, ◌≢◌, ℕ, zero, suc, ◌*◌, ◌/◌, ◌%◌, ◌^◌, ◌<◌, ◌≤◌, None, List, [], ◌∷◌, length, refl, sym, ◌∙◌, ap, arith, lit<, inl, inr, ⊎_elim}
 use Rattle.std.specs.List.{slice_get}
+use Rattle.std.specs.Coded.{le_prop}
+use native.Mathlib.Nat.{ℕ_set}
+use mathlib.Core.Path.{PathP}
+use mathlib.Core.HLevel.{is_prop→PathP}
 use Rattle.std.proofs.lemmas.Nat.{div-add-mod'}
 use Rattle.std.proofs.lemmas.Bool.{cases_eq}
 use Rattle.std.proofs.Math.Nat.{mul_comm, mul-div_cancel, mul-mod_left}
@@ -126,7 +130,19 @@ pub flipped-flipped : (o : Order) → flipped (flipped o) ≡ o
 flipped-flipped RowMajor = refl
 flipped-flipped ColumnMajor = refl
 
+IsTable-prop : {T : Type 0} (t : List (List T)) → IsProp (IsTable t)
+IsTable-prop t = hlevel (le_prop, ℕ_set)
+
 pub same_grid_value : {T : Type 0} (s u : GridValue T) → s.rows ≡ u.rows → s.order ≡ u.order → s ≡ u
-same_grid_value {T} s u rows order =
-    ap (λ t. let v : GridValue T = record { rows = t; order = s.order } in v) rows
-    ∙ ap (λ o. let v : GridValue T = record { rows = u.rows; order = o } in v) order
+same_grid_value s u rows order =
+    let table : PathP (λ i. IsTable (rows i)) s.table u.table = is_prop→PathP (λ i. IsTable (rows i)) (λ i. IsTable-prop (rows i)) s.table u.table in
+    λ i. record { rows = rows i; order = order i; table = table i }
+
+-- what a contract sees of a grid's fields
+abbrev pub grid_value : {T : Type 0} (o : Order) (m n : ℕ) (cells : List T) → HoldsSize m n (length cells) → GridValue T
+grid_value o m n cells h = record { rows = table_of o m n cells; order = o; table = view-table o m n cells h }
+
+-- a table's size holds another table of as many cells
+pub IsTable-recut : {T : Type 0} (o : Order) (t : List (List T)) (cells : List T) → IsTable t → length cells ≡ length (storage o t) → IsTable (table_of o (row_count t) (col_count t) cells)
+IsTable-recut o t cells h e =
+    IsTable-tabulate _ _ _ (IsSize-table t h) (IsFull-table_of o (row_count t) (col_count t) cells (e ∙ length-storage o t h))

@@ -8,7 +8,7 @@ use Rattle.std.proofs.lemmas.Nat.{same_from_place}
 use Rattle.std.proofs.lemmas.Bool.{cases_eq}
 use Rattle.grid_base.specs.declared.flat.order.Order.{Order}
 use Rattle.grid_base.specs.declared.flat.order.Order.TheVariants.{RowMajor, ColumnMajor}
-use Rattle.grid_base.specs.Table.{row, cell, with_cell, exchanged}
+use Rattle.grid_base.specs.Table.{row, row_count, col_count, cell, with_cell, exchanged, IsTable}
 use Rattle.grid_base.specs.Order.{place, table_of}
 use Rattle.grid_base.specs.GridValue.{HoldsSize}
 use Rattle.grid_base.proofs.TableLemmas.{rows-tabulate, width-tabulate, cell-tabulate, same_tables, IsFull}
@@ -26,6 +26,26 @@ get-set_other (x ∷ xs) zero zero w h = absurd (h refl)
 get-set_other (x ∷ xs) zero (suc j) w h = refl
 get-set_other (x ∷ xs) (suc i) zero w h = refl
 get-set_other (x ∷ xs) (suc i) (suc j) w h = get-set_other xs i j w (λ e. h (ap suc e))
+
+-- a table of which a cell is written is a table
+module _ {T : Type 0} (t : List (List T)) (h : IsTable t) (r c : ℕ) (w : T) where
+  rows-written : row_count (with_cell t r c w) ≡ row_count t
+  rows-written = length-set t r (set (row t r) c w)
+
+  widths-written : (i : ℕ) → i < row_count t → length (row (with_cell t r c w) i) ≡ col_count t
+  widths-written i lt =
+      ⊎_elim (λ e.
+      ap (λ x. length (row (with_cell t r c w) x)) e
+      ∙ (ap length (get_or-set_same t r (set (row t r) c w) [] (omega arith)) ∙ (length-set (row t r) c w ∙ h.even r (omega arith))))
+      (λ ne. ap length (get_or-set_other t r i (set (row t r) c w) [] ne) ∙ h.even i lt)
+      (cases_eq i r)
+
+  pub IsTable-with_cell : IsTable (with_cell t r c w)
+  IsTable-with_cell =
+      record {
+        nonempty = λ i lt. omega (arith, widths-written i (omega (arith, rows-written)), h.nonempty 0 (omega (arith, rows-written)));
+        even = λ i lt. widths-written i (omega (arith, rows-written)) ∙ sym (widths-written 0 (omega (arith, rows-written)));
+      }
 
 -- two cells of one place are one
 pub same_place : (o : Order) (m n i j r c : ℕ) → i < m → j < n → r < m → c < n → place o m n i j ≡ place o m n r c → (i ≡ r) × (j ≡ c)

@@ -18,6 +18,7 @@ mod span;
 mod strided_iter;
 mod strides;
 mod tally;
+mod turn;
 mod whole;
 
 pub use indexed::{IndexedIntoIter, IndexedIter, IndexedIterMut};

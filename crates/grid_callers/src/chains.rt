@@ -240,7 +240,6 @@ pub fn number_cells<A: Allocator>(grid: &mut Grid<u8, A>)
 pub fn apply_to_texts<A: Allocator>(grid: &mut Grid<String, A>, first: Symmetry, second: Symmetry)
     ensures { grid.new.rows ≡ act second (act first grid.old.rows) }
 {
-    let _ = grid.size();
     let _ = symmetry_laws::then_acts::<String>(first, second);
     grid.apply(first.then(second));
 }

@@ -20,8 +20,6 @@ pub fn cell_through<A: Allocator + Clone>(
     ensures cell { result ≡ cell (act symmetry grid.old.rows) row col }
     ensures same { grid.new ≡ grid.old }
 {
-    // shows the prover that the rows are a table
-    let _ = grid.size();
     let mut deferred = Deferred::over(grid);
     let _ = deferred.step(Command::Apply(symmetry), &mut Tally::new());
     let found = deferred.get(row, col).copied();

@@ -11,7 +11,5 @@ use std::alloc::Allocator;
 pub fn apply_word<A: Allocator>(grid: &mut Grid<u32, A>, word: &[Move])
     ensures { grid.new.rows ≡ word_image word.now grid.old.rows }
 {
-    // shows the prover that the rows are a table
-    let _ = grid.size();
     grid.apply(reduce(word));
 }

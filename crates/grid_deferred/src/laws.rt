@@ -1,9 +1,13 @@
 //! Laws of deferred runs as public calls: each makes the calls that its name says, and ensures what they leave.
-ghost use Rattle.std.specs.Prelude.{◌≡◌, All, IfSome, map};
+ghost use Rattle.std.specs.Prelude.{◌≡◌, All, IfSome, List, length, map};
 ghost use Rattle.grid_base.specs.Clones.{ClonesAreEqual};
-ghost use Rattle.grid_commands.specs.Command.{command_value};
-ghost use Rattle.grid_commands.specs.Reply.{reply_value};
+ghost use Rattle.grid_commands.specs.Command.{CommandValue, command_value};
+ghost use Rattle.grid_commands.specs.Reply.{ReplyValue, reply_value};
 ghost use Rattle.grid.specs.Step.{RowsAreKnown};
+ghost use Rattle.grid.specs.Run.{Ran, run_rows, run_replies};
+ghost use Rattle.grid_deferred.specs.Run.{RanDeferred};
+ghost use Rattle.grid_base.specs.GridValue.{GridValue};
+ghost use Rattle.grid_base.specs.Tally.{Counts};
 
 use crate::run_deferred;
 use grid::{Command, Grid, Reply, Tally, run};
@@ -39,6 +43,22 @@ where
         → All (RowsAreKnown T.is_default T.is_clone d) (map command_value commands.items)
         → ClonesAreEqual T.is_clone
         → map reply_value both.0.items ≡ map reply_value both.1.items) }
+    ensures count { IfSome result (λ both.
+        length (map reply_value both.0.items) ≡ length (map command_value commands.items)) }
+    ensures ran { IfSome result (λ _. (d : T)
+        → All (RowsAreKnown T.is_default T.is_clone d) (map command_value commands.items)
+        → grid.new.rows ≡ run_rows d (map command_value commands.items) grid.old.rows) }
+    ensures replied { IfSome result (λ both. (d : T)
+        → All (RowsAreKnown T.is_default T.is_clone d) (map command_value commands.items)
+        → ClonesAreEqual T.is_clone → map reply_value both.0.items
+        ≡ run_replies d (map command_value commands.items) grid.old.rows) }
+    ensures law { (d : T) (xs : List (CommandValue T)) (old other_old new other_new : GridValue T)
+        (first last other_first other_last : Counts) (answers others : List (ReplyValue T))
+        → Ran T.is_clone T.is_default xs old new first last answers
+        → RanDeferred T.is_clone T.is_default
+        xs other_old other_new other_first other_last others
+        → old.rows ≡ other_old.rows → All (RowsAreKnown T.is_default T.is_clone d) xs
+        → (new.rows ≡ other_new.rows) × (ClonesAreEqual T.is_clone → answers ≡ others) }
 {
     match run(allocs.0, grid, commands, tally) {
         Ok(at_once) => match run_deferred(allocs.1, other, same, tally) {

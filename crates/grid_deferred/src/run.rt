@@ -39,7 +39,6 @@ where
     ensures stop { IfErr result
         (λ stop. MayStop (map command_value commands.items) stop.done grid.new.rows) }
 {
-    let _ = grid.size();
     let mut replies = Vec::new(alloc);
     if replies.reserve_exact(commands.len()).is_err() {
         return Err(RunStopped { done: 0, replies });

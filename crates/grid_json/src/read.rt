@@ -2,7 +2,7 @@
 ghost use Rattle.std.specs.Prelude.{◌≡◌, map};
 ghost use Rattle.std.specs.Option.{option_map};
 ghost use Rattle.serde_json.specs.View.{view, items_view, members_view};
-ghost use Rattle.grid_json.specs.Content.{contents};
+ghost use Rattle.grid_json.specs.Content.{contents, layout};
 ghost use Rattle.grid_json.specs.Reading.{is_field, has_unknown, parts_of, or_refuse, cols_in, items_in, cells_from, order_named, order_in, cut, reading, Gives, GivesOrMemory};
 
 use crate::{Cell, Field, ReadError};
@@ -141,7 +141,7 @@ fn order_in(part: Option<&Value>) -> Result<Order, ReadError>
 
 // The grid of the cells in storage order, in rows of `cols`.
 fn cut<T: Drop>(cells: Vec<T>, cols: usize, order: Order) -> Result<Grid<T>, ReadError>
-    ensures { result ≡ cut order cols cells.items }
+    ensures { Gives layout (cut order cols cells.items) result }
 {
     let len = cells.len();
     if can_cut(len, cols) {

@@ -4,7 +4,7 @@
 //! what those leave is in the other clauses.
 #![tactic(auto)]
 
-ghost use Rattle.std.specs.Prelude.{◌≡◌, ◌<◌, ◌≤◌, List, length, map, insert, All, remove, slice_get, Some, OnOk, OnErr, IfOk, IfErr, MatchOption};
+ghost use Rattle.std.specs.Prelude.{◌≡◌, ◌<◌, ◌≤◌, List, length, map, take, insert, All, remove, slice_get, Some, OnOk, OnErr, IfOk, IfErr, MatchOption};
 ghost use Rattle.grid_base.specs.Table.{row_count, col_count, IsTable};
 ghost use Rattle.grid_base.specs.Order.{storage};
 ghost use Rattle.grid_base.specs.Symmetry.{act, order_after, IsInverse};
@@ -16,6 +16,7 @@ ghost use Rattle.grid_commands.specs.Reply.{reply_value};
 ghost use Rattle.grid.specs.Edits.{FitsRow, FitsCol, insert_col};
 ghost use Rattle.grid.specs.Step.{RowsAreKnown};
 ghost use Rattle.grid.specs.Cost.{list_symmetry};
+ghost use Rattle.grid.specs.Run.{run_rows, MayStop};
 
 use grid::{Command, Grid, LineRefused, Reply, RunStopped, run};
 use grid_base::{Symmetry, Tally, laws};
@@ -26,8 +27,6 @@ pub fn rotate_right_then_left<T, A: Allocator>(grid: &mut Grid<T, A>)
     ensures same { grid.new ≡ grid.old }
     ensures law { (t : List (List T)) → IsTable t → act RotateLeft (act RotateRight t) ≡ t }
 {
-    // shows the prover that the rows are a table
-    let _ = grid.size();
     grid.rotate_right();
     grid.rotate_left();
 }
@@ -38,8 +37,6 @@ pub fn rotate_left_four_times<T, A: Allocator>(grid: &mut Grid<T, A>)
     ensures law { (t : List (List T))
         → IsTable t → act RotateLeft (act RotateLeft (act RotateLeft (act RotateLeft t))) ≡ t }
 {
-    // shows the prover that the rows are a table
-    let _ = grid.size();
     for _turn in 0..4usize {
         grid.rotate_left();
     }
@@ -52,8 +49,6 @@ pub fn flip_rows_then_cols<T, A: Allocator>(grid: &mut Grid<T, A>)
     ensures law { (t : List (List T))
         → IsTable t → act FlipCols (act FlipRows t) ≡ act RotateHalf t }
 {
-    // shows the prover that the rows are a table
-    let _ = grid.size();
     grid.flip_rows();
     grid.flip_cols();
 }
@@ -63,8 +58,6 @@ pub fn apply_then<T, A: Allocator>(grid: &mut Grid<T, A>, first: Symmetry, secon
     ensures rows { grid.new.rows ≡ act second (act first grid.old.rows) }
     ensures order { grid.new.order ≡ order_after second (order_after first grid.old.order) }
 {
-    // shows the prover that the rows are a table
-    let _ = grid.size();
     grid.apply(laws::then_acts::<T>(first, second));
 }
 
@@ -74,8 +67,6 @@ pub fn apply_then_inverse<T, A: Allocator>(grid: &mut Grid<T, A>, symmetry: Symm
     ensures law { (t : List (List T))
         → IsTable t → (v : Symmetry) → IsInverse symmetry v → act v (act symmetry t) ≡ t }
 {
-    // shows the prover that the rows are a table
-    let _ = grid.size();
     grid.apply(symmetry);
     grid.apply(laws::inverse_acts::<T>(symmetry));
 }
@@ -149,8 +140,6 @@ pub fn insert_col_or_row_across<T, A: Allocator>(
     ensures law { insert_col at line.items grid.old.rows
         ≡ act Transpose (insert (act Transpose grid.old.rows) at line.items) }
 {
-    // shows the prover that the rows are a table
-    let _ = grid.size();
     let as_col = grid.insert_col(at, line);
     other.transpose();
     let as_row = other.insert_row(at, other_line);
@@ -192,6 +181,17 @@ where
     ensures other_order { OnOk result.1 (other.new.order
         ≡ order_after (list_symmetry (map command_value commands.items)) other.old.order) }
     ensures count { IfOk result.0 (λ replies. length replies.items ≡ length commands.items) }
+    ensures stopped { IfErr result.0 (λ stop. (d : T) → All (RowsAreKnown T.is_default T.is_clone d)
+        (take stop.done (map command_value commands.items)) → grid.new.rows
+        ≡ run_rows d (take stop.done (map command_value commands.items)) grid.old.rows) }
+    ensures stop { IfErr result.0 (λ stop.
+        MayStop (map command_value commands.items) stop.done grid.new.rows) }
+    ensures other_stopped { IfErr result.1 (λ stop. (d : T)
+        → All (RowsAreKnown T.is_default T.is_clone d)
+        (take stop.done (map command_value other_commands.items)) → other.new.rows
+        ≡ run_rows d (take stop.done (map command_value other_commands.items)) other.old.rows) }
+    ensures other_stop { IfErr result.1 (λ stop.
+        MayStop (map command_value other_commands.items) stop.done other.new.rows) }
 {
     let first = run(alloc, grid, commands, &mut Tally::new());
     let second = run(other_alloc, other, other_commands, &mut Tally::new());

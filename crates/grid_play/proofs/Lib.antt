@@ -1,1 +1,11 @@
 mod TokenLemmas
+mod NumberLemmas
+mod CutLemmas
+mod FormLemmas
+mod LineLemmas
+mod GridLemmas
+mod CommandsLemmas
+mod ScriptLemmas
+mod RunLemmas
+mod OutputLemmas
+mod ScriptExamples

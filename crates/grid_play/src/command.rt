@@ -1,5 +1,10 @@
 //! The commands of a script: a name, and the words after it.
-ghost use Rattle.std.specs.Prelude.{◌≡◌, ◌↔◌, Some, codes};
+ghost use Rattle.std.specs.Prelude.{◌≡◌, ◌↔◌, Some, codes, IfOk, length};
+ghost use Rattle.std.specs.Option.{option_map};
+ghost use Rattle.grid_base.specs.Gather.{items_of_each};
+ghost use Rattle.grid_commands.specs.Command.{command_value};
+ghost use Rattle.grid_play.specs.Lines.{words_of};
+ghost use Rattle.grid_play.specs.Commands.{command_of, with_no_word, one_cell, one_index, two_indices, place_and_cell, two_places, index_and_line, index_and_lines, lines_of_length};
 
 use crate::script::parse_cells;
 use crate::tokens::{Words, cell, index};
@@ -11,27 +16,63 @@ use std::alloc::{AllocError, Allocator};
 ///     "insert_row", "1 7 8 9"   InsertRow(1, [7, 8, 9])
 ///
 /// Fails: where memory for a line is refused.
+#[tactic(auto, unfolding(crate::specs::Commands::command_of, crate::specs::Commands::form_of, crate::specs::Commands::forms))]
 pub(crate) fn parse_command<A: Allocator + Clone>(
     alloc: A,
     name: &str,
     words: Words<'_>,
-) -> Result<Option<Command<i64, A>>, AllocError> {
+) -> Result<Option<Command<i64, A>>, AllocError>
+    ensures { IfOk result (λ command. option_map command_value command
+        ≡ command_of name.now (words_of words.entry.0.now)) }
+{
     match name {
+        "size" => Ok(alone(words, Command::Size)),
+        "get" => Ok(two_indices(words).map(|(row, col)| Command::Get(row, col))),
+        "set" => Ok(place_and_cell(words).map(|(row, col, value)| Command::Set(row, col, value))),
+        "swap" => Ok(two_places(words).map(|(first, second)| Command::Swap(first, second))),
+        "row" => Ok(one_index(words).map(|row| Command::Row(row))),
+        "col" => Ok(one_index(words).map(|col| Command::Col(col))),
         "push_row" => Ok(parse_cells(alloc, words)?.map(|line| Command::PushRow(line))),
         "push_col" => Ok(parse_cells(alloc, words)?.map(|line| Command::PushCol(line))),
-        "insert_row" => {
-            Ok(parse_insert(alloc, words)?.map(|(at, line)| Command::InsertRow(at, line)))
-        }
-        "insert_col" => {
-            Ok(parse_insert(alloc, words)?.map(|(at, line)| Command::InsertCol(at, line)))
-        }
-        "insert_rows" => {
-            Ok(parse_insert_lines(alloc, words)?.map(|(at, lines)| Command::InsertRows(at, lines)))
-        }
-        "insert_cols" => {
-            Ok(parse_insert_lines(alloc, words)?.map(|(at, lines)| Command::InsertCols(at, lines)))
-        }
-        _ => Ok(parse_short(name, words)),
+        "insert_row" => Ok(parse_insert(alloc, words)?.map(|(at, line)| Command::InsertRow(
+            at, line,
+        ))),
+        "insert_col" => Ok(parse_insert(alloc, words)?.map(|(at, line)| Command::InsertCol(
+            at, line,
+        ))),
+        "insert_rows" => Ok(parse_insert_lines(alloc, words)?.map(|(at, lines)| Command::InsertRows(
+            at, lines,
+        ))),
+        "insert_cols" => Ok(parse_insert_lines(alloc, words)?.map(|(at, lines)| Command::InsertCols(
+            at, lines,
+        ))),
+        "pop_row" => Ok(alone(words, Command::PopRow)),
+        "pop_col" => Ok(alone(words, Command::PopCol)),
+        "remove_row" => Ok(one_index(words).map(|row| Command::RemoveRow(row))),
+        "remove_col" => Ok(one_index(words).map(|col| Command::RemoveCol(col))),
+        "delete_row" => Ok(one_index(words).map(|row| Command::DeleteRow(row))),
+        "delete_col" => Ok(one_index(words).map(|col| Command::DeleteCol(col))),
+        "delete_rows" => Ok(two_indices(words).map(|(start, count)| Command::DeleteRows(
+            start, count,
+        ))),
+        "delete_cols" => Ok(two_indices(words).map(|(start, count)| Command::DeleteCols(
+            start, count,
+        ))),
+        "expand_rows" => Ok(one_index(words).map(|count| Command::ExpandRows(count))),
+        "expand_cols" => Ok(one_index(words).map(|count| Command::ExpandCols(count))),
+        "prepend_rows" => Ok(one_index(words).map(|count| Command::PrependRows(count))),
+        "prepend_cols" => Ok(one_index(words).map(|count| Command::PrependCols(count))),
+        "fill" => Ok(one_cell(words).map(|value| Command::Fill(value))),
+        "clear" => Ok(alone(words, Command::Clear)),
+        "identity" => Ok(alone(words, Command::Apply(Symmetry::Identity))),
+        "flip_cols" => Ok(alone(words, Command::Apply(Symmetry::FlipCols))),
+        "flip_rows" => Ok(alone(words, Command::Apply(Symmetry::FlipRows))),
+        "rotate_half" => Ok(alone(words, Command::Apply(Symmetry::RotateHalf))),
+        "transpose" => Ok(alone(words, Command::Apply(Symmetry::Transpose))),
+        "rotate_left" => Ok(alone(words, Command::Apply(Symmetry::RotateLeft))),
+        "rotate_right" => Ok(alone(words, Command::Apply(Symmetry::RotateRight))),
+        "anti_transpose" => Ok(alone(words, Command::Apply(Symmetry::AntiTranspose))),
+        _ => Ok(None),
     }
 }
 
@@ -39,7 +80,10 @@ pub(crate) fn parse_command<A: Allocator + Clone>(
 fn parse_insert<A: Allocator>(
     alloc: A,
     mut words: Words<'_>,
-) -> Result<Option<(usize, Vec<i64, A>)>, AllocError> {
+) -> Result<Option<(usize, Vec<i64, A>)>, AllocError>
+    ensures { IfOk result (λ read. option_map (λ p. (p.0, p.1.items)) read
+        ≡ index_and_line (words_of words.entry.0.now)) }
+{
     let Some(at) = words.next().and_then(index) else {
         return Ok(None);
     };
@@ -50,8 +94,14 @@ fn parse_insert<A: Allocator>(
 fn parse_insert_lines<A: Allocator + Clone>(
     alloc: A,
     mut words: Words<'_>,
-) -> Result<Option<(usize, Vec<Vec<i64, A>, A>)>, AllocError> {
-    let Some((at, len)) = next_two(&mut words) else {
+) -> Result<Option<(usize, Vec<Vec<i64, A>, A>)>, AllocError>
+    ensures { IfOk result (λ read. option_map (λ p. (p.0, items_of_each p.1.items)) read
+        ≡ index_and_lines (words_of words.entry.0.now)) }
+{
+    let (Some(at), Some(len)) = (words.next(), words.next()) else {
+        return Ok(None);
+    };
+    let (Some(at), Some(len)) = (index(at), index(len)) else {
         return Ok(None);
     };
     let Some(cells) = parse_cells(alloc.clone()?, words)? else {
@@ -65,7 +115,10 @@ fn cut_lines<A: Allocator + Clone>(
     alloc: A,
     cells: &[i64],
     len: usize,
-) -> Result<Option<Vec<Vec<i64, A>, A>>, AllocError> {
+) -> Result<Option<Vec<Vec<i64, A>, A>>, AllocError>
+    ensures { IfOk result (λ lines. option_map (λ ls. items_of_each ls.items) lines
+        ≡ lines_of_length len cells.now) }
+{
     if !can_cut(cells.len(), len) {
         return Ok(None);
     }
@@ -78,104 +131,74 @@ fn cut_lines<A: Allocator + Clone>(
     Ok(Some(lines))
 }
 
-// A command without lines.
-fn parse_short<A: Allocator>(name: &str, mut words: Words<'_>) -> Option<Command<i64, A>> {
-    let command = match bare_command(name) {
-        Some(command) => command,
-        None => parse_numbers(name, &mut words)?,
-    };
+// The command, if there are no words.
+fn alone<A: Allocator>(mut words: Words<'_>, command: Command<i64, A>) -> Option<Command<i64, A>>
+    ensures { option_map command_value result
+        ≡ with_no_word (words_of words.entry.0.now) (command_value command) }
+{
     match words.next() {
         None => Some(command),
         Some(_) => None,
     }
 }
 
-// A command that is a name alone.
-fn bare_command<A: Allocator>(name: &str) -> Option<Command<i64, A>> {
-    match name {
-        "size" => Some(Command::Size),
-        "pop_row" => Some(Command::PopRow),
-        "pop_col" => Some(Command::PopCol),
-        "clear" => Some(Command::Clear),
-        _ => Some(Command::Apply(symmetry(name)?)),
-    }
-}
-
-// A command of numbers.
-fn parse_numbers<A: Allocator>(name: &str, words: &mut Words<'_>) -> Option<Command<i64, A>> {
-    match name {
-        "fill" => Some(Command::Fill(cell(words.next()?)?)),
-        "set" => {
-            let (row, col) = next_two(words)?;
-            Some(Command::Set(row, col, cell(words.next()?)?))
-        }
-        "swap" => {
-            let first = next_two(words)?;
-            Some(Command::Swap(first, next_two(words)?))
-        }
-        _ => {
-            let number = index(words.next()?)?;
-            match with_index(name, number) {
-                Some(command) => Some(command),
-                None => with_two(name, number, index(words.next()?)?),
-            }
-        }
-    }
-}
-
-// Two numbers.
-fn next_two(words: &mut Words<'_>) -> Option<(usize, usize)> {
-    let first = index(words.next()?)?;
-    let second = index(words.next()?)?;
-    Some((first, second))
-}
-
-fn with_index<A: Allocator>(name: &str, number: usize) -> Option<Command<i64, A>> {
-    match name {
-        "row" => Some(Command::Row(number)),
-        "col" => Some(Command::Col(number)),
-        "remove_row" => Some(Command::RemoveRow(number)),
-        "remove_col" => Some(Command::RemoveCol(number)),
-        "delete_row" => Some(Command::DeleteRow(number)),
-        "delete_col" => Some(Command::DeleteCol(number)),
-        "expand_rows" => Some(Command::ExpandRows(number)),
-        "expand_cols" => Some(Command::ExpandCols(number)),
-        "prepend_rows" => Some(Command::PrependRows(number)),
-        "prepend_cols" => Some(Command::PrependCols(number)),
-        _ => None,
-    }
-}
-
-fn with_two<A: Allocator>(name: &str, first: usize, second: usize) -> Option<Command<i64, A>> {
-    match name {
-        "get" => Some(Command::Get(first, second)),
-        "delete_rows" => Some(Command::DeleteRows(first, second)),
-        "delete_cols" => Some(Command::DeleteCols(first, second)),
-        _ => None,
-    }
-}
-
-fn symmetry(name: &str) -> Option<Symmetry>
-    ensures identity { (result ≡ Some Symmetry.Identity) ↔ (name.now ≡ codes "identity") }
-    ensures flip_cols { (result ≡ Some Symmetry.FlipCols) ↔ (name.now ≡ codes "flip_cols") }
-    ensures flip_rows { (result ≡ Some Symmetry.FlipRows) ↔ (name.now ≡ codes "flip_rows") }
-    ensures rotate_half { (result ≡ Some Symmetry.RotateHalf) ↔ (name.now ≡ codes "rotate_half") }
-    ensures transpose { (result ≡ Some Symmetry.Transpose) ↔ (name.now ≡ codes "transpose") }
-    ensures rotate_left { (result ≡ Some Symmetry.RotateLeft) ↔ (name.now ≡ codes "rotate_left") }
-    ensures rotate_right { (result ≡ Some Symmetry.RotateRight)
-        ↔ (name.now ≡ codes "rotate_right") }
-    ensures anti_transpose { (result ≡ Some Symmetry.AntiTranspose)
-        ↔ (name.now ≡ codes "anti_transpose") }
+fn one_cell(mut words: Words<'_>) -> Option<i64>
+    ensures { result ≡ one_cell (words_of words.entry.0.now) }
 {
-    match name {
-        "identity" => Some(Symmetry::Identity),
-        "flip_cols" => Some(Symmetry::FlipCols),
-        "flip_rows" => Some(Symmetry::FlipRows),
-        "rotate_half" => Some(Symmetry::RotateHalf),
-        "transpose" => Some(Symmetry::Transpose),
-        "rotate_left" => Some(Symmetry::RotateLeft),
-        "rotate_right" => Some(Symmetry::RotateRight),
-        "anti_transpose" => Some(Symmetry::AntiTranspose),
-        _ => None,
+    let value = words.next()?;
+    if words.next().is_some() {
+        return None;
     }
+    cell(value)
+}
+
+fn one_index(mut words: Words<'_>) -> Option<usize>
+    ensures { result ≡ one_index (words_of words.entry.0.now) }
+{
+    let number = words.next()?;
+    if words.next().is_some() {
+        return None;
+    }
+    index(number)
+}
+
+fn two_indices(mut words: Words<'_>) -> Option<(usize, usize)>
+    ensures { result ≡ two_indices (words_of words.entry.0.now) }
+{
+    let first = words.next()?;
+    let second = words.next()?;
+    if words.next().is_some() {
+        return None;
+    }
+    Some((index(first)?, index(second)?))
+}
+
+// A place and a cell: `R C V`.
+fn place_and_cell(mut words: Words<'_>) -> Option<(usize, usize, i64)>
+    ensures { result ≡ place_and_cell (words_of words.entry.0.now) }
+{
+    let row = words.next()?;
+    let col = words.next()?;
+    let value = words.next()?;
+    if words.next().is_some() {
+        return None;
+    }
+    Some((index(row)?, index(col)?, cell(value)?))
+}
+
+// Two places: `R C R C`.
+fn two_places(mut words: Words<'_>) -> Option<((usize, usize), (usize, usize))>
+    ensures { result ≡ two_places (words_of words.entry.0.now) }
+{
+    let first_row = words.next()?;
+    let first_col = words.next()?;
+    let second_row = words.next()?;
+    let second_col = words.next()?;
+    if words.next().is_some() {
+        return None;
+    }
+    Some((
+        (index(first_row)?, index(first_col)?),
+        (index(second_row)?, index(second_col)?),
+    ))
 }

@@ -1,5 +1,12 @@
 //! Scripts: a grid on the first line, then at most one command on a line.
-ghost use Rattle.std.specs.Prelude.{◌≡◌, ◌↔◌, Some, codes};
+ghost use Rattle.std.specs.Prelude.{◌≡◌, ◌+◌, IfOk, map};
+ghost use Rattle.std.specs.Option.{option_map, option_to_list};
+ghost use Rattle.grid_commands.specs.Command.{command_value};
+ghost use Rattle.grid_play.specs.declared.fault.ScriptFault.TheVariants.{BadGrid};
+ghost use Rattle.grid_play.specs.Lines.{words_of, lines_of};
+ghost use Rattle.grid_play.specs.Script.{IsOrMemory, or_fault, order_of, grid_of, grid_of_words, line_commands, commands_from, script_of};
+ghost use Rattle.grid_play.specs.ScriptValue.{script_value};
+ghost use Rattle.grid_play.specs.Commands.{cells_of};
 
 use crate::command::parse_command;
 use crate::fault::ScriptFault;
@@ -20,31 +27,57 @@ impl<A: Allocator + Clone> Script<A> {
     /// Reads a script.
     ///
     /// Fails: `BadGrid` or `BadCommand` at the first line that is at fault; `Memory` where memory is refused.
-    pub fn parse(alloc: A, input: &[u8]) -> Result<Script<A>, ScriptFault> {
+    pub fn parse(alloc: A, input: &[u8]) -> Result<Script<A>, ScriptFault>
+        ensures { IsOrMemory script_value (script_of input.now) result }
+    {
         let mut lines = Lines::of(input);
-        let (_, first) = lines.next().ok_or(ScriptFault::BadGrid)?;
+        let Some((_, first)) = lines.next() else {
+            return Err(ScriptFault::BadGrid);
+        };
         let grid = parse_grid(alloc.clone()?, first)?;
         let commands = parse_commands(alloc, lines)?;
         Ok(Script { grid, commands })
     }
 }
 
-// The order, the number of columns, and the cells in storage order.
-fn parse_grid<A: Allocator>(alloc: A, line: &[u8]) -> Result<Grid<i64, A>, ScriptFault> {
-    let mut words = Words::of(line).ok_or(ScriptFault::BadGrid)?;
-    let order = words.next().and_then(order).ok_or(ScriptFault::BadGrid)?;
-    let cols = words.next().and_then(index).ok_or(ScriptFault::BadGrid)?;
-    let cells = parse_cells(alloc, words)?.ok_or(ScriptFault::BadGrid)?;
-    if can_cut(cells.len(), cols) {
-        Ok(Grid::from_vec_with_order(cells, cols, order))
-    } else {
-        Err(ScriptFault::BadGrid)
+// The grid of the first line.
+#[tactic(auto, unfolding(crate::specs::Script::grid_of))]
+fn parse_grid<A: Allocator>(alloc: A, line: &[u8]) -> Result<Grid<i64, A>, ScriptFault>
+    ensures { IsOrMemory (λ grid. grid) (or_fault BadGrid (grid_of line.now)) result }
+{
+    let Some(words) = Words::of(line) else {
+        return Err(ScriptFault::BadGrid);
+    };
+    match grid_of_words(alloc, words)? {
+        Some(grid) => Ok(grid),
+        None => Err(ScriptFault::BadGrid),
     }
 }
 
-fn order(word: &str) -> Option<Order>
-    ensures row_major { (result ≡ Some Order.RowMajor) ↔ (word.now ≡ codes "RowMajor") }
-    ensures column_major { (result ≡ Some Order.ColumnMajor) ↔ (word.now ≡ codes "ColumnMajor") }
+// The order, the number of columns, and the cells in storage order.
+fn grid_of_words<A: Allocator>(
+    alloc: A,
+    mut words: Words<'_>,
+) -> Result<Option<Grid<i64, A>>, AllocError>
+    ensures { IfOk result (λ grid. grid ≡ grid_of_words (words_of words.entry.0.now)) }
+{
+    let (Some(order), Some(cols)) = (words.next(), words.next()) else {
+        return Ok(None);
+    };
+    let (Some(order), Some(cols)) = (order_of(order), index(cols)) else {
+        return Ok(None);
+    };
+    let Some(cells) = parse_cells(alloc, words)? else {
+        return Ok(None);
+    };
+    if !can_cut(cells.len(), cols) {
+        return Ok(None);
+    }
+    Ok(Some(Grid::from_vec_with_order(cells, cols, order)))
+}
+
+fn order_of(word: &str) -> Option<Order>
+    ensures { result ≡ order_of word.now }
 {
     match word {
         "RowMajor" => Some(Order::RowMajor),
@@ -57,7 +90,10 @@ fn order(word: &str) -> Option<Order>
 pub(crate) fn parse_cells<A: Allocator>(
     alloc: A,
     words: Words<'_>,
-) -> Result<Option<Vec<i64, A>>, AllocError> {
+) -> Result<Option<Vec<i64, A>>, AllocError>
+    ensures { IfOk result (λ cells. option_map (λ line. line.items) cells
+        ≡ cells_of (words_of words.entry.0.now)) }
+{
     let mut cells = Vec::new(alloc);
     for word in words {
         match cell(word) {
@@ -71,14 +107,38 @@ pub(crate) fn parse_cells<A: Allocator>(
 fn parse_commands<A: Allocator + Clone>(
     alloc: A,
     lines: Lines<'_>,
-) -> Result<Vec<Command<i64, A>, A>, ScriptFault> {
+) -> Result<Vec<Command<i64, A>, A>, ScriptFault>
+    ensures { IsOrMemory (λ commands. map command_value commands.items)
+        (commands_from (lines.entry.count + 1) (lines_of lines.entry.rest.now)) result }
+{
     let mut commands = Vec::new(alloc.clone()?);
     for (number, line) in lines {
-        let mut words = Words::of(line).ok_or(ScriptFault::BadCommand(number))?;
-        if let Some(name) = words.next() {
-            let command = parse_command(alloc.clone()?, name, words)?;
-            commands.push(command.ok_or(ScriptFault::BadCommand(number))?)?;
+        match parse_line(alloc.clone()?, line)? {
+            None => return Err(ScriptFault::BadCommand(number)),
+            Some(None) => {}
+            Some(Some(command)) => commands.push(command)?,
         }
     }
     Ok(commands)
+}
+
+// The command of a line, if it has one; `None` where it is neither without words nor a command.
+#[tactic(auto, unfolding(crate::specs::Script::line_commands))]
+fn parse_line<A: Allocator + Clone>(
+    alloc: A,
+    line: &[u8],
+) -> Result<Option<Option<Command<i64, A>>>, AllocError>
+    ensures { IfOk result (λ read. option_map (λ command. map command_value
+        (option_to_list command)) read ≡ line_commands line.now) }
+{
+    let Some(mut words) = Words::of(line) else {
+        return Ok(None);
+    };
+    let Some(name) = words.next() else {
+        return Ok(Some(None));
+    };
+    match parse_command(alloc, name, words)? {
+        Some(command) => Ok(Some(Some(command))),
+        None => Ok(None),
+    }
 }

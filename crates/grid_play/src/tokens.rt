@@ -1,11 +1,11 @@
 //! The lines of a script, their words, and the numbers among these.
-ghost use Rattle.std.specs.Prelude.{◌≡◌, ◌≢◌, ◌+◌, ◌^◌, ◌<◌, ◌↔◌, [], ◌∷◌, length, MatchOption, ◌==◌, position, slice_index, IsSome, IfSome, FitsSigned};
+ghost use Rattle.std.specs.Prelude.{◌≡◌, ◌+◌, ◌^◌, ◌<◌, [], ◌∷◌, length, MatchOption, ◌==◌, position, slice_index, IfSome};
 ghost use Rattle.grid_play.specs.Lines.{first_line, later_lines, without_return, separates, words_of};
 ghost use Rattle.std.specs.Iterator.{at_most};
 ghost use Rattle.std.specs.List.{before_first, after_first};
-ghost use Rattle.std.specs.Str.{IsUtf8};
-ghost use Rattle.std.specs.Int.{w64};
-ghost use Rattle.std.specs.Str.Parse.{IsNumeral, digits_value, signed_digits_value, without_leading_sign};
+ghost use Rattle.std.specs.Str.{is_utf8};
+ghost use Rattle.std.specs.Option.{is_some};
+ghost use Rattle.grid_play.specs.Numbers.{index_of, cell_of};
 
 /// An iterator over the lines of a script, with their numbers, counted from 1.
 ///
@@ -36,7 +36,8 @@ impl<'a> Iterator for Lines<'a> {
 
     ghost next_gives = { λ old item new.
         MatchOption item (old.rest.now ≡ []) (λ line. (line.0 ≡ old.count + 1)
-        × (line.1.now ≡ first_line old.rest.now) × (new.rest.now ≡ later_lines old.rest.now)) };
+        × (line.1.now ≡ first_line old.rest.now) × (new.rest.now ≡ later_lines old.rest.now)
+        × (new.count ≡ old.count + 1) × (0 < length old.rest.now)) };
 
     ghost remaining = { λ lines. at_most (length lines.rest.now) };
 
@@ -82,7 +83,7 @@ pub struct Words<'a>(&'a str);
 impl<'a> Words<'a> {
     /// Returns the words of a line, or `None` where it is not UTF-8.
     pub fn of(line: &'a [u8]) -> Option<Words<'a>>
-        ensures text { IsSome result ↔ IsUtf8 line.now }
+        ensures text { is_some result ≡ is_utf8 line.now }
         ensures line { IfSome result (λ words. words.0.now ≡ line.now) }
     {
         let text = str::from_utf8(line).ok()?;
@@ -134,9 +135,7 @@ fn separator(text: &str) -> Option<usize>
 
 /// Returns the index or count that a word writes: decimal digits alone, in the range of a `usize`. Else `None`.
 pub fn index(word: &str) -> Option<usize>
-    ensures numeral { IsSome result
-        ↔ (IsNumeral 10 word.now × (digits_value 10 word.now < 2 ^ 64)) }
-    ensures value { IfSome result (λ number. number ≡ digits_value 10 word.now) }
+    ensures { result ≡ index_of word.now }
 {
     if word.starts_with('+') {
         return None;
@@ -146,10 +145,7 @@ pub fn index(word: &str) -> Option<usize>
 
 /// Returns the cell that a word writes: decimal digits, perhaps after a minus, in the range of an `i64`. Else `None`.
 pub fn cell(word: &str) -> Option<i64>
-    ensures numeral { IsSome result
-        ↔ ((slice_index word.now 0 ≢ 43) × IsNumeral 10 (without_leading_sign word.now)
-        × FitsSigned w64 (signed_digits_value 10 word.now)) }
-    ensures value { IfSome result (λ number. number ≡ signed_digits_value 10 word.now) }
+    ensures { result ≡ cell_of word.now }
 {
     if word.starts_with('+') {
         return None;

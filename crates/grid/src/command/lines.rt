@@ -1,7 +1,6 @@
 //! Commands on lines: an edit of rows, and an edit of columns as that of rows between two transposes.
 //!
-//! A refusal is decided before memory is asked for. `let _ = grid.size();` shows the prover that the rows are a
-//! table.
+//! A refusal is decided before memory is asked for.
 ghost use Rattle.std.specs.Prelude.{◌≡◌, ◌<◌, nat_lt, OnOk, OnErr, IfOk, IsTrue};
 ghost use Rattle.grid_base.specs.Table.{row, row_count, col_count, IsTable};
 ghost use Rattle.grid_base.specs.Gather.{items_of_each};
@@ -81,10 +80,7 @@ where
         return Ok(Reply::Refused(refusal));
     }
     match grid.insert_row(at, line) {
-        Ok(()) => {
-            let _ = grid.size();
-            Ok(Reply::Done)
-        }
+        Ok(()) => Ok(Reply::Done),
         Err(_) => Err(AllocError),
     }
 }
@@ -114,10 +110,7 @@ where
         return Ok(Reply::Refused(refusal));
     }
     match grid.insert_rows(at, several) {
-        Ok(()) => {
-            let _ = grid.size();
-            Ok(Reply::Done)
-        }
+        Ok(()) => Ok(Reply::Done),
         Err(_) => Err(AllocError),
     }
 }
@@ -135,12 +128,8 @@ where
     ensures err_grid { OnErr result (grid.new ≡ grid.old) }
     ensures err_memory { OnErr result (IsTrue (nat_lt at (row_count grid.old.rows))) }
 {
-    let _ = grid.size();
     match grid.remove_row(at) {
-        Ok(taken) => {
-            let _ = grid.size();
-            Ok(Reply::Line(taken))
-        }
+        Ok(taken) => Ok(Reply::Line(taken)),
         Err(refused) => Err(refused),
     }
 }
@@ -166,7 +155,6 @@ where
         (row_count grid.old.rows) (col_count grid.old.rows) start count) }
 {
     let found = grid.delete_rows_counted(start, count, tally);
-    let _ = grid.size();
     Reply::Flag(found)
 }
 
@@ -202,10 +190,7 @@ where
     }
     let at = if at_end { rows } else { 0 };
     match grid.pad_rows_counted(at, count, tally) {
-        Ok(()) => {
-            let _ = grid.size();
-            Ok(Reply::Done)
-        }
+        Ok(()) => Ok(Reply::Done),
         Err(_) => Err(AllocError),
     }
 }
@@ -275,10 +260,8 @@ where
     ensures err_memory { OnErr result (IsTrue (takes_memory (lines Col (edit_value edit))
         (row_count grid.old.rows) (col_count grid.old.rows))) }
 {
-    let _ = grid.size();
     grid.transpose();
     let edited = edit_rows(grid, edit, tally);
     grid.transpose();
-    let _ = grid.size();
     edited
 }

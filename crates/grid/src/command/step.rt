@@ -1,4 +1,4 @@
-//! The step of a grid: one command. `let _ = grid.size();` shows the prover that the rows are a table.
+//! The step of a grid: one command.
 ghost use Rattle.std.specs.Prelude.{◌≡◌, ◌+◌, ◌≤◌, OnOk, OnErr, IfOk, IsTrue, nat_lt};
 ghost use Rattle.grid_base.specs.Table.{row_count, col_count, IsTable};
 ghost use Rattle.grid_base.specs.Symmetry.{act, order_after, half};
@@ -39,7 +39,6 @@ where
     ensures err_memory { OnErr result
         (IsTrue (in_range (row_count grid.now.rows) (col_count grid.now.rows) (row, col))) }
 {
-    let _ = grid.size();
     if !has_cell(grid, (row, col)) {
         return Ok(Reply::Cell(None));
     }
@@ -64,7 +63,6 @@ fn write_cell<T: Drop, A: Allocator>(
     if written {
         *grid.get_unchecked_mut(row, col) = value;
     }
-    let _ = grid.size();
     if written {
         Reply::Done
     } else {
@@ -84,10 +82,8 @@ fn exchange_cells<T, A: Allocator>(
     ensures reply { reply_value result ≡ step_reply (swap_cells a b) grid.old.rows }
     ensures order { grid.new.order ≡ grid.old.order }
 {
-    let _ = grid.size();
     if has_cell(grid, a) && has_cell(grid, b) {
         grid.swap(a, b);
-        let _ = grid.size();
         Reply::Done
     } else {
         Reply::Refused(Refusal::Index)
@@ -109,12 +105,8 @@ where
     ensures err_grid { OnErr result (grid.new ≡ grid.old) }
     ensures err_memory { OnErr result (IsTrue (nat_lt 0 (row_count grid.old.rows))) }
 {
-    let _ = grid.size();
     match grid.fill_clones(value) {
-        Ok(()) => {
-            let _ = grid.size();
-            Ok(Reply::Done)
-        }
+        Ok(()) => Ok(Reply::Done),
         Err(refused) => Err(refused),
     }
 }
@@ -173,10 +165,7 @@ impl<T, A: Allocator> Grid<T, A> {
                 let (rows, cols) = self.size();
                 Ok(Reply::Size(rows, cols))
             }
-            Request::Get(row, col) => {
-                let _ = self.size();
-                read_cell(self, row, col)
-            }
+            Request::Get(row, col) => read_cell(self, row, col),
             Request::Set(row, col, value) => Ok(write_cell(self, row, col, value)),
             Request::Swap(a, b) => Ok(exchange_cells(self, a, b)),
             Request::Lines(Axis::Row, edit) => edit_rows(self, edit, tally),
@@ -184,12 +173,10 @@ impl<T, A: Allocator> Grid<T, A> {
             Request::Fill(value) => fill_cells(self, value),
             Request::Clear => {
                 self.clear();
-                let _ = self.size();
                 Ok(Reply::Done)
             }
             Request::Apply(symmetry) => {
                 self.apply_counted(symmetry, tally);
-                let _ = self.size();
                 Ok(Reply::Done)
             }
         }

@@ -148,8 +148,6 @@ impl<T, A: Allocator> Grid<T, A> {
         ensures fails { LineFails (col_count self.old.rows + 1) (length line.items)
             line.items self.old self.new result }
     {
-        // shows the prover that the rows are a table
-        let _ = &self.flat;
         self.transpose();
         let inserted = self.insert_row(at, line);
         self.transpose();
@@ -241,8 +239,6 @@ impl<T, A: Allocator> Grid<T, A> {
         ensures fails { LinesFail (col_count self.old.rows + length lines.items)
             (col_count (items_of_each lines.items)) lines.items self.old self.new result }
     {
-        // shows the prover that the rows are a table
-        let _ = &self.flat;
         self.transpose();
         let inserted = self.insert_rows(at, lines);
         self.transpose();

@@ -129,8 +129,6 @@ impl<T, A: Allocator> Grid<T, A> {
         ensures fails { PaddingFails (col_count self.old.rows + padding_count count self.old.rows)
             (row_count self.old.rows) (padding_count count self.old.rows) self.old self.new result }
     {
-        // shows the prover that the rows are a table
-        let _ = &self.flat;
         let mut tally = Tally::new();
         self.pad_cols_counted(0, count, &mut tally)
     }
@@ -194,8 +192,6 @@ impl<T, A: Allocator> Grid<T, A> {
         ensures symmetry { tally.new.symmetry ≡ tally.old.symmetry }
         ensures err_shift { OnErr result (tally.new.shift ≡ tally.old.shift) }
     {
-        // shows the prover that the rows are a table
-        let _ = &self.flat;
         self.transpose();
         let padded = self.pad_rows_counted(at, count, tally);
         self.transpose();

@@ -154,8 +154,6 @@ impl<T, A: Allocator> Grid<T, A> {
         ensures err { OnErr result (self.new ≡ self.old) }
         ensures err_found { OnErr result (at < col_count self.old.rows) }
     {
-        // shows the prover that the rows are a table
-        let _ = &self.flat;
         self.transpose();
         let removed = self.remove_row(at);
         self.transpose();
@@ -309,8 +307,6 @@ impl<T, A: Allocator> Grid<T, A> {
             self.old.order (row_count self.old.rows) (col_count self.old.rows) start count) }
         ensures symmetry { tally.new.symmetry ≡ tally.old.symmetry }
     {
-        // shows the prover that the rows are a table
-        let _ = &self.flat;
         self.transpose();
         let found = self.delete_rows_counted(start, count, tally);
         self.transpose();

@@ -5,7 +5,7 @@ ghost use Rattle.grid_base.specs.Table.{row_count, col_count, IsTable};
 ghost use Rattle.grid_base.specs.Order.{storage};
 ghost use Rattle.grid_base.specs.ClosureCalls.{MapsTo, CallableAtEach, CallableAtRefs, CallableTimes, Generates, PairsUp};
 ghost use Rattle.grid_base.specs.Clones.{ClonesAreEqual};
-ghost use Rattle.grid.specs.AllCells.{filled};
+ghost use Rattle.grid.specs.AllCells.{filled, CallableAtPlaces, TabulatedBy};
 
 use crate::Grid;
 use std::alloc::{AllocError, Allocator};
@@ -138,5 +138,59 @@ impl<T, A: Allocator> Grid<T, A> {
             col_count: self.col_count,
             order: self.order,
         })
+    }
+
+    /// Returns the grid of what the closure returns at each place and a reference to the cell there, called in storage
+    /// order. The size and the order are the same.
+    ///
+    ///     [[1, 2], [3, 4]]   map_indexed(|(row, col), x| row * 10 + col + *x)   [[1, 3], [13, 15]]
+    ///
+    /// Requires: the closure can be called at each place and a reference to the cell there.
+    /// Fails: where memory is refused; the closure wasn't called.
+    /// Cost: one call for each cell; one allocation, before the first call.
+    pub fn map_indexed<U, F: Fn((usize, usize), &T) -> U>(
+        &self,
+        f: F,
+    ) -> Result<Grid<U, A>, AllocError>
+    where
+        A: Clone,
+        requires { CallableAtPlaces F.pre f self.now.rows }
+        ensures order { IfOk result (λ g. g.order ≡ self.now.order) }
+        ensures rows { IfOk result (λ g. row_count g.rows ≡ row_count self.now.rows) }
+        ensures cols { IfOk result (λ g. col_count g.rows ≡ col_count self.now.rows) }
+        ensures table { IfOk result (λ g. IsTable g.rows) }
+        ensures cells { IfOk result (λ g. TabulatedBy F.post f self.now.rows g.rows) }
+    {
+        let order = self.order;
+        let flat = self
+            .flat
+            .map_indexed(order, self.row_count, self.col_count, f)?;
+        Ok(Grid {
+            flat,
+            row_count: self.row_count,
+            col_count: self.col_count,
+            order,
+        })
+    }
+
+    /// Replaces each cell by what the closure returns at its place and a reference to it, in storage order. The size and
+    /// the order stay.
+    ///
+    ///     [[1, 2], [3, 4]]   update(|(row, col), x| row * 10 + col + *x)   [[1, 3], [13, 15]]
+    ///
+    /// Requires: the closure can be called at each place and a reference to the cell there.
+    /// Cost: one call for each cell; no memory.
+    pub fn update<F: Fn((usize, usize), &T) -> T>(&mut self, f: F)
+    where
+        T: Drop,
+        requires { CallableAtPlaces F.pre f self.old.rows }
+        ensures order { self.new.order ≡ self.old.order }
+        ensures rows { row_count self.new.rows ≡ row_count self.old.rows }
+        ensures cols { col_count self.new.rows ≡ col_count self.old.rows }
+        ensures table { IsTable self.new.rows }
+        ensures cells { TabulatedBy F.post f self.old.rows self.new.rows }
+    {
+        self.flat
+            .update(self.order, self.row_count, self.col_count, f);
     }
 }

@@ -60,8 +60,8 @@ impl<T, A: Allocator> Grid<T, A> {
         ensures keeps { KeepsSizeFrom self.old r 0 }
         ensures rest { line_mut_rest result ≡ row self.old.rows r }
     {
-        self.flat
-            .row_mut(self.order, self.row_count, self.col_count, r)
+        let (order, rows, cols) = (self.order, self.row_count, self.col_count);
+        self.flat.row_mut(order, rows, cols, r)
     }
 
     /// Returns an iterator over the cells of column `c`, for writing. The size and the order stay.
@@ -76,8 +76,8 @@ impl<T, A: Allocator> Grid<T, A> {
         ensures keeps { KeepsSizeFrom self.old 0 c }
         ensures rest { line_mut_rest result ≡ row (transposed self.old.rows) c }
     {
-        let order = flipped(self.order);
-        self.flat.row_mut(order, self.col_count, self.row_count, c)
+        let (order, rows, cols) = (flipped(self.order), self.row_count, self.col_count);
+        self.flat.row_mut(order, cols, rows, c)
     }
 
     /// Returns an iterator over the rows, from both ends, each as [`iter_row`](Grid::iter_row) gives it.

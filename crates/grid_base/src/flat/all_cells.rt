@@ -1,10 +1,13 @@
 //! Calls on all cells of a `Flat`.
-ghost use Rattle.std.specs.Prelude.{◌≡◌, length, replicate, IsOk, IfOk, IfErr, OnOk, OnErr};
+ghost use Rattle.std.specs.Prelude.{◌≡◌, length, replicate, zip, IsOk, IfOk, IfErr, OnOk, OnErr};
 ghost use Rattle.std.specs.Fn.{FnReturnsAt};
-ghost use Rattle.grid_base.specs.ClosureCalls.{MapsTo, CallableAtEach, CallableAtRefs, CallableTimes, Generates, PairsUp};
+ghost use Rattle.grid_base.specs.ClosureCalls.{MapsTo, CallableAtEach, CallableAtRefs, CallableTimes, CallableAtCells, ReturnsAtCell, Generates, PairsUp};
+ghost use Rattle.grid_base.specs.GridValue.{HoldsSize};
+ghost use Rattle.grid_base.specs.Places.{places};
 ghost use Rattle.grid_base.specs.Clones.{ClonesAreEqual};
 
-use super::Flat;
+use super::places::Places;
+use super::{Flat, Order};
 use std::alloc::{AllocError, Allocator};
 
 impl<T, A: Allocator> Flat<T, A> {
@@ -98,5 +101,64 @@ impl<T, A: Allocator> Flat<T, A> {
             mapped.push_reserved(f(cell));
         }
         Ok(Flat { cells: mapped })
+    }
+
+    /// Returns what the closure returns at each place of a table of `rows` rows and `cols` columns, and a reference to
+    /// the cell there.
+    ///
+    /// Requires: the vector has `rows * cols` cells, there are rows exactly if there are columns, and the closure can be
+    /// called at each place and its cell.
+    /// Fails: where memory is refused; the closure wasn't called.
+    /// Cost: one call for each cell; one allocation, before the first call.
+    pub fn map_indexed<U, F: Fn((usize, usize), &T) -> U>(
+        &self,
+        order: Order,
+        rows: usize,
+        cols: usize,
+        f: F,
+    ) -> Result<Flat<U, A>, AllocError>
+    where
+        A: Clone,
+        requires size { HoldsSize rows cols (length self.now) }
+        requires calls { CallableAtCells F.pre f (zip (places order rows cols) self.now) }
+        ensures len { IfOk result (λ g. length g ≡ length self.now) }
+        ensures cells { IfOk result (λ g.
+            PairsUp (ReturnsAtCell F.post f) (zip (places order rows cols) self.now) g) }
+    {
+        let alloc = self.cells.allocator().clone()?;
+        let mut mapped = Vec::with_capacity(alloc, self.cells.len())?;
+        for (at, cell) in self.indexed_iter(order, rows, cols) {
+            mapped.push_reserved(f(at, cell));
+        }
+        Ok(Flat { cells: mapped })
+    }
+
+    /// Replaces each cell of a table of `rows` rows and `cols` columns by what the closure returns at its place and a
+    /// reference to it, in order.
+    ///
+    /// Requires: the vector has `rows * cols` cells, there are rows exactly if there are columns, and the closure can be
+    /// called at each place and its cell.
+    /// Cost: one call for each cell; no memory.
+    pub fn update<F: Fn((usize, usize), &T) -> T>(
+        &mut self,
+        order: Order,
+        rows: usize,
+        cols: usize,
+        f: F,
+    )
+    where
+        T: Drop,
+        requires size { HoldsSize rows cols (length self.old) }
+        requires calls { CallableAtCells F.pre f (zip (places order rows cols) self.old) }
+        ensures len { length self.new ≡ length self.old }
+        ensures cells { PairsUp (ReturnsAtCell F.post f) (zip (places order rows cols) self.old) self.new }
+    {
+        let mut left = Places::new(order, rows, cols);
+        let cells = self.cells.as_mut_slice();
+        for cell in cells.iter_mut() {
+            if let Some(at) = left.next() {
+                *cell = f(at, cell);
+            }
+        }
     }
 }

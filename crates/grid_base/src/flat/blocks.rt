@@ -1,16 +1,14 @@
-//! Parts of a slice that are reversed, and blocks of its cells that change places.
+//! Parts of a slice that are reversed, and blocks that stand side by side and change places. No tally counts it.
 ghost use Rattle.std.specs.Prelude.{◌≡◌, ◌<◌, ◌≤◌, ◌+◌, ◌^◌, ◌++◌, length, take, drop, reverse};
-ghost use Rattle.grid_base.specs.Blocks.{BlocksExchanged, BlocksSwapped, PartReversed};
+ghost use Rattle.grid_base.specs.Blocks.{BlocksExchanged, PartReversed};
 
 // Fewer cells are moved one by one, since a call out of line would cost more.
-pub(super) const SHORT_PART: usize = 16;
-
-pub(super) const SHORT_BLOCK: usize = 8;
+const SHORT_PART: usize = 16;
 
 const SHORT_ROTATION: usize = 128;
 
 // Reverses the `n` cells from `start` on.
-pub(super) fn reverse_part<T>(cells: &mut [T], start: usize, n: usize)
+fn reverse_part<T>(cells: &mut [T], start: usize, n: usize)
     requires within { start + n ≤ length cells.old }
     requires fits { start + n < 2 ^ 64 }
     ensures { PartReversed start n cells.old cells.new }
@@ -39,42 +37,6 @@ fn reverse_at_once<T>(cells: &mut [T], start: usize, n: usize)
         ++ reverse (take n (drop start cells.old)) ++ drop (start + n) cells.old }
 {
     cells[start..start + n].reverse();
-}
-
-// Exchanges the `n` cells from `i` on with those from `j` on.
-pub(super) fn swap_blocks<T>(cells: &mut [T], i: usize, j: usize, n: usize)
-    requires apart { i + n ≤ j }
-    requires within { j + n ≤ length cells.old }
-    requires fits { j + n < 2 ^ 64 }
-    ensures { BlocksSwapped i j n cells.old cells.new }
-{
-    if n < SHORT_BLOCK {
-        swap_in_turn(cells, i, j, n);
-    } else {
-        swap_at_once(cells, i, j, n);
-    }
-}
-
-fn swap_in_turn<T>(cells: &mut [T], i: usize, j: usize, n: usize)
-    requires apart { i + n ≤ j }
-    requires within { j + n ≤ length cells.old }
-    requires fits { j + n < 2 ^ 64 }
-    ensures { BlocksSwapped i j n cells.old cells.new }
-{
-    for k in 0..n {
-        cells.swap(i + k, j + k);
-    }
-}
-
-fn swap_at_once<T>(cells: &mut [T], i: usize, j: usize, n: usize)
-    requires apart { i + n ≤ j }
-    requires within { j + n ≤ length cells.old }
-    requires fits { j + n < 2 ^ 64 }
-    ensures { cells.new ≡ take i cells.old ++ take n (drop j cells.old)
-        ++ drop (i + n) (take j cells.old) ++ take n (drop i cells.old) ++ drop (j + n) cells.old }
-{
-    let (front, back) = cells.split_at_mut(j);
-    front[i..i + n].swap_with_slice(&mut back[..n]);
 }
 
 // Exchanges the `first` cells from `start` on with the `second` cells behind them.

@@ -1,152 +1,107 @@
-//! Cells of a slice that come some places forward or back, swap by swap.
-ghost use Rattle.std.specs.Prelude.{◌≡◌, ◌<◌, ◌≤◌, ◌+◌, ◌-◌, ◌%◌, ◌^◌, length};
+//! Cells that come some places forward or back, by counted swaps.
+ghost use Rattle.std.specs.Prelude.{◌≡◌, ◌<◌, ◌≤◌, ◌+◌, ◌^◌, length};
 ghost use Rattle.grid_base.specs.Blocks.{swapped_back, swapped_forward};
+ghost use Rattle.grid_base.specs.Tally.{saturating_count};
 
-use super::blocks::{SHORT_BLOCK, SHORT_PART, reverse_part, swap_blocks};
+use super::tally::{Swaps, swap_for_shift};
+use super::{Flat, Tally};
+use std::alloc::Allocator;
+
+// Shorter blocks cost more to begin than vector code saves.
+const SHORT_BLOCK: usize = 8;
 
 // As many bytes as one vector of the processor holds.
 const VECTOR: usize = 16;
 
-// Moves the `n` cells that stand `shift` places behind `start` there, the first first, by `n` swaps. No block is longer
-// than `shift`, so short shifts go cell by cell, and those by one or two places, of more than a few cells, by two
-// reversals.
-pub(super) fn move_forward<T>(cells: &mut [T], start: usize, shift: usize, n: usize)
-    requires within { start + n + shift ≤ length cells.old }
-    requires fits { start + n + shift < 2 ^ 64 }
-    requires moves { 0 < shift }
-    ensures { cells.new ≡ swapped_forward start shift n cells.old }
-{
-    if SHORT_BLOCK <= shift {
-        move_forward_by_blocks(cells, start, shift, n);
-    } else if 2 < shift || n < SHORT_PART {
-        move_forward_in_turn(cells, start, shift, n);
-    } else {
-        let alone = cells_alone(shift, n);
-        move_forward_in_turn(cells, start, shift, alone);
-        move_forward_by_reversals(cells, start + alone, shift, n - alone);
+impl<T, A: Allocator> Flat<T, A> {
+    // Moves the `n` cells that stand `shift` places behind `start` there, the first first, by `n` swaps for a shift.
+    //
+    //     [1, 2, 3, 4, 5]   move_forward(0, 2, 3)   [3, 4, 5, 2, 1]   3 swaps
+    //
+    // Requires: these cells are in range, and `shift` is not 0.
+    pub(super) fn move_forward(&mut self, start: usize, shift: usize, n: usize, tally: &mut Tally)
+        requires within { start + n + shift ≤ length self.old }
+        requires fits { start + n + shift < 2 ^ 64 }
+        requires moves { 0 < shift }
+        ensures moved { self.new ≡ swapped_forward start shift n self.old }
+        ensures symmetry { tally.new.symmetry ≡ tally.old.symmetry }
+        ensures shift { tally.new.shift ≡ saturating_count tally.old.shift n }
+    {
+        let swaps = swap_forward(self.cells.as_mut_slice(), start, shift, n);
+        tally.take(swaps);
+    }
+
+    // Moves the `n` cells from `start` on by `shift` places to the back, the last first, by `n` swaps for a shift.
+    //
+    //     [1, 2, 3, 4, 5]   move_back(0, 2, 3)   [5, 4, 1, 2, 3]   3 swaps
+    //
+    // Requires: the places that these cells come to are in range, and `shift` is not 0.
+    pub(super) fn move_back(&mut self, start: usize, shift: usize, n: usize, tally: &mut Tally)
+        requires within { start + n + shift ≤ length self.old }
+        requires fits { start + n + shift < 2 ^ 64 }
+        requires moves { 0 < shift }
+        ensures moved { self.new ≡ swapped_back start shift n self.old }
+        ensures symmetry { tally.new.symmetry ≡ tally.old.symmetry }
+        ensures shift { tally.new.shift ≡ saturating_count tally.old.shift n }
+    {
+        let swaps = swap_back(self.cells.as_mut_slice(), start, shift, n);
+        tally.take(swaps);
     }
 }
 
-fn move_forward_in_turn<T>(cells: &mut [T], start: usize, shift: usize, n: usize)
+fn swap_forward<T>(cells: &mut [T], start: usize, shift: usize, n: usize) -> Swaps
     requires within { start + n + shift ≤ length cells.old }
     requires fits { start + n + shift < 2 ^ 64 }
     requires moves { 0 < shift }
-    ensures { cells.new ≡ swapped_forward start shift n cells.old }
+    ensures cells { cells.new ≡ swapped_forward start shift n cells.old }
+    ensures symmetry { result.for_symmetry ≡ 0 }
+    ensures shift { result.for_shift ≡ n }
 {
-    for done in 0..n {
-        cells.swap(start + done, start + done + shift);
-    }
-}
-
-// A run of at most `shift` cells doesn't overlap the places that it comes to.
-fn move_forward_by_blocks<T>(cells: &mut [T], start: usize, shift: usize, n: usize)
-    requires within { start + n + shift ≤ length cells.old }
-    requires fits { start + n + shift < 2 ^ 64 }
-    requires moves { 0 < shift }
-    ensures { cells.new ≡ swapped_forward start shift n cells.old }
-{
-    let block = whole_vectors(shift);
+    let mut swaps = Swaps::none();
+    let block = block_of(shift, n);
     let mut done = 0;
     while done < n {
-        let run = block.min(n - done);
-        swap_blocks(cells, start + done, start + done + shift, run);
-        done += run;
+        let end = done + block.min(n - done);
+        for k in done..end {
+            swap_for_shift(cells, start + k, start + k + shift, &mut swaps);
+        }
+        done = end;
     }
+    swaps
 }
 
-// The moving cells are reversed, and then all: `n / 2` and `(n + shift) / 2` swaps, which are `n`.
-fn move_forward_by_reversals<T>(cells: &mut [T], start: usize, shift: usize, n: usize)
+fn swap_back<T>(cells: &mut [T], start: usize, shift: usize, n: usize) -> Swaps
     requires within { start + n + shift ≤ length cells.old }
     requires fits { start + n + shift < 2 ^ 64 }
     requires moves { 0 < shift }
-    requires short { shift ≤ 2 }
-    requires odd { shift ≡ 2 → n % 2 ≡ 1 }
-    ensures { cells.new ≡ swapped_forward start shift n cells.old }
+    ensures cells { cells.new ≡ swapped_back start shift n cells.old }
+    ensures symmetry { result.for_symmetry ≡ 0 }
+    ensures shift { result.for_shift ≡ n }
 {
-    reverse_part(cells, start + shift, n);
-    reverse_part(cells, start, n + shift);
-}
-
-// How many of `n` cells go alone, so that reversals move the others: two cells that an even number of cells passes one
-// by one keep their order, and a reversal turns them.
-fn cells_alone(shift: usize, n: usize) -> usize
-    requires some { 0 < n }
-    ensures within { result ≤ n }
-    ensures odd { shift ≡ 2 → (n - result) % 2 ≡ 1 }
-{
-    if shift == 2 && n % 2 == 0 { 1 } else { 0 }
-}
-
-// Moves the `n` cells from `start` on by `shift` places to the back, the last first, by `n` swaps. Short shifts go cell
-// by cell or by two reversals, too.
-pub(super) fn move_back<T>(cells: &mut [T], start: usize, shift: usize, n: usize)
-    requires within { start + n + shift ≤ length cells.old }
-    requires fits { start + n + shift < 2 ^ 64 }
-    requires moves { 0 < shift }
-    ensures { cells.new ≡ swapped_back start shift n cells.old }
-{
-    if SHORT_BLOCK <= shift {
-        move_back_by_blocks(cells, start, shift, n);
-    } else if 2 < shift || n < SHORT_PART {
-        move_back_in_turn(cells, start, shift, n);
-    } else {
-        let others = n - cells_alone(shift, n);
-        move_back_in_turn(cells, start + others, shift, n - others);
-        move_back_by_reversals(cells, start, shift, others);
-    }
-}
-
-fn move_back_in_turn<T>(cells: &mut [T], start: usize, shift: usize, n: usize)
-    requires within { start + n + shift ≤ length cells.old }
-    requires fits { start + n + shift < 2 ^ 64 }
-    requires moves { 0 < shift }
-    ensures { cells.new ≡ swapped_back start shift n cells.old }
-{
-    let mut left = n;
-    while 0 < left {
-        left -= 1;
-        cells.swap(start + left, start + left + shift);
-    }
-}
-
-// A run of at most `shift` cells doesn't overlap the places that it comes to.
-fn move_back_by_blocks<T>(cells: &mut [T], start: usize, shift: usize, n: usize)
-    requires within { start + n + shift ≤ length cells.old }
-    requires fits { start + n + shift < 2 ^ 64 }
-    requires moves { 0 < shift }
-    ensures { cells.new ≡ swapped_back start shift n cells.old }
-{
-    let block = whole_vectors(shift);
+    let mut swaps = Swaps::none();
+    let block = block_of(shift, n);
     let mut left = n;
     while 0 < left {
         let run = block.min(left);
+        for k in 0..run {
+            swap_for_shift(cells, start + (left - 1 - k), start + (left - 1 - k) + shift, &mut swaps);
+        }
         left -= run;
-        swap_blocks(cells, start + left, start + left + shift, run);
     }
+    swaps
 }
 
-// The moving cells are reversed, and then all.
-fn move_back_by_reversals<T>(cells: &mut [T], start: usize, shift: usize, n: usize)
-    requires within { start + n + shift ≤ length cells.old }
-    requires fits { start + n + shift < 2 ^ 64 }
+// How many cells are swapped as one block: no more than come to places where none of them stands, so that the block is
+// vector code, and whole vectors where cells are bytes and it is longer than one.
+fn block_of(shift: usize, n: usize) -> usize
     requires moves { 0 < shift }
-    requires short { shift ≤ 2 }
-    requires odd { shift ≡ 2 → n % 2 ≡ 1 }
-    ensures { cells.new ≡ swapped_back start shift n cells.old }
+    ensures some { 0 < n → 0 < result }
 {
-    reverse_part(cells, start, n);
-    reverse_part(cells, start, n + shift);
-}
-
-// The longest block of at most `n` cells that is whole vectors where cells are bytes, and `n` where it is shorter than
-// one: the last bytes of a block go one by one.
-fn whole_vectors(n: usize) -> usize
-    requires { 0 < n }
-    ensures some { 0 < result }
-    ensures within { result ≤ n }
-{
-    if n < VECTOR {
-        return n;
+    if shift < SHORT_BLOCK {
+        n
+    } else if shift < VECTOR {
+        shift
+    } else {
+        shift - shift % VECTOR
     }
-    n - n % VECTOR
 }

@@ -28,7 +28,6 @@ impl<'a, T, A: Allocator> Deferred<'a, T, A> {
         ensures rest { result ≡ row (shown self.now) r }
         ensures runs { LinesInOrder T }
     {
-        let _ = self.base.size();
         let (transposes, rows, cols) = self.pending.flags();
         self.walk(transposes, rows, r, cols)
     }
@@ -45,7 +44,6 @@ impl<'a, T, A: Allocator> Deferred<'a, T, A> {
         ensures rest { result ≡ row (transposed (shown self.now)) c }
         ensures runs { LinesInOrder T }
     {
-        let _ = self.base.size();
         let (transposes, rows, cols) = self.pending.flags();
         self.walk(!transposes, cols, c, rows)
     }

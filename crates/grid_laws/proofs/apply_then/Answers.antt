@@ -4,7 +4,7 @@ use Rattle.grid_base.proofs.GroupLemmas.{then_is, order_after-order_after}
 use Rattle.grid_laws.proofs.apply_then.Goals as goal
 
 pub returns-clause-rows : goal.returns-clause-rows
-returns-clause-rows g c = c.apply.ensures.rows ∙ c.then_acts.ensures.law _ c.then_acts.ensures.same _ c.size.ensures.table
+returns-clause-rows g c = c.apply.ensures.rows ∙ c.then_acts.ensures.law _ c.then_acts.ensures.same _ c.args.grid.now.table
 
 pub returns-clause-order : goal.returns-clause-order
 returns-clause-order g c =

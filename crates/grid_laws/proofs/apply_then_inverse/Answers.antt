@@ -8,7 +8,7 @@ pub returns-clause-same : goal.returns-clause-same
 returns-clause-same g c =
     let undoes = c.inverse_acts.ensures in
     same_grid_value _ _
-    (c.apply-2.ensures.rows ∙ (ap (act c.inverse_acts.result) c.apply.ensures.rows ∙ undoes.law _ undoes.same _ c.size.ensures.table))
+    (c.apply-2.ensures.rows ∙ (ap (act c.inverse_acts.result) c.apply.ensures.rows ∙ undoes.law _ undoes.same _ c.args.grid.now.table))
     (c.apply-2.ensures.order
     ∙ (ap (order_after c.inverse_acts.result) c.apply.ensures.order
     ∙ (order_after-order_after _ _ c.args.grid.now.order ∙ ap (λ s. order_after s c.args.grid.now.order) (inverse_is _ _ undoes.same))))

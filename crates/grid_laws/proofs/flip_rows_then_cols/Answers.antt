@@ -6,7 +6,7 @@ use Rattle.grid_laws.proofs.flip_rows_then_cols.Goals as goal
 
 pub returns-clause-rows : goal.returns-clause-rows
 returns-clause-rows g c =
-    c.flip_cols.ensures.rows ∙ (ap (act FlipCols) c.flip_rows.ensures.rows ∙ act-act FlipRows FlipCols _ c.size.ensures.table)
+    c.flip_cols.ensures.rows ∙ (ap (act FlipCols) c.flip_rows.ensures.rows ∙ act-act FlipRows FlipCols _ c.args.grid.now.table)
 
 pub returns-clause-law : goal.returns-clause-law
 returns-clause-law g c = λ t h. act-act FlipRows FlipCols t h

@@ -13,7 +13,7 @@ insert_row-as_row-requires-clause-nonempty g c = rw c.requires.same_line c.requi
 
 pub insert_row-as_row-requires-clause-fits : goal.insert_row-as_row-requires-clause-fits
 insert_row-as_row-requires-clause-fits g c =
-    rw (c.requires.same_line, c.transpose.ensures.rows, c.requires.same) (fits_across _ _ c.size.ensures.table c.requires.fits)
+    rw (c.requires.same_line, c.transpose.ensures.rows, c.requires.same) (fits_across _ _ c.args.grid.now.table c.requires.fits)
 
 pub insert_row-as_row-requires-clause-place : goal.insert_row-as_row-requires-clause-place
 insert_row-as_row-requires-clause-place g c =
@@ -27,7 +27,7 @@ returns-clause-same g c =
     on_ok c.insert_col-as_col.result
     (λ as_col. on_ok c.insert_row-as_row.result
     (λ as_row. same_grid_value _ _
-    (col_inserted c.args.at line old.rows _ _ _ c.size.ensures.table c.requires.fits c.requires.nonempty c.requires.place there c.transpose-2.ensures.rows (rw c.requires.same_line at as_row) ∙ sym as_col)
+    (col_inserted c.args.at line old.rows _ _ _ c.args.grid.now.table c.requires.fits c.requires.nonempty c.requires.place there c.transpose-2.ensures.rows (rw c.requires.same_line at as_row) ∙ sym as_col)
     (c.transpose-2.ensures.order ∙ (ap flipped (c.insert_row-as_row.ensures.order ∙ c.transpose.ensures.order) ∙ flipped-flipped c.args.other.now.order) ∙ (ap (λ s. s.order) c.requires.same ∙ sym c.insert_col-as_col.ensures.order)))
     c.insert_row-as_row.ensures.rows)
     c.insert_col-as_col.ensures.rows
@@ -35,9 +35,9 @@ returns-clause-same g c =
 pub returns-clause-refused_row : goal.returns-clause-refused_row
 returns-clause-refused_row g c =
     on_err c.insert_row-as_row.result
-    (λ same. twice_across _ _ _ _ (subst (λ s. IsTable s.rows) (sym c.requires.same) c.size.ensures.table) c.transpose.ensures.rows c.transpose.ensures.order same c.transpose-2.ensures.rows c.transpose-2.ensures.order)
+    (λ same. twice_across _ _ _ _ (subst (λ s. IsTable s.rows) (sym c.requires.same) c.args.grid.now.table) c.transpose.ensures.rows c.transpose.ensures.order same c.transpose-2.ensures.rows c.transpose-2.ensures.order)
     c.insert_row-as_row.ensures.fails.unchanged
 
 pub returns-clause-law : goal.returns-clause-law
 returns-clause-law g c =
-    sym (col_inserted c.args.at c.args.line.items c.args.grid.now.rows _ _ _ c.size.ensures.table c.requires.fits c.requires.nonempty c.requires.place refl refl refl)
+    sym (col_inserted c.args.at c.args.line.items c.args.grid.now.rows _ _ _ c.args.grid.now.table c.requires.fits c.requires.nonempty c.requires.place refl refl refl)

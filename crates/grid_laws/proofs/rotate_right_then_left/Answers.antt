@@ -10,7 +10,7 @@ pub returns-clause-same : goal.returns-clause-same
 returns-clause-same g c =
     same_grid_value _ _
     (c.rotate_left.ensures.rows
-    ∙ (ap (act RotateLeft) c.rotate_right.ensures.rows ∙ (act-act RotateRight RotateLeft _ c.size.ensures.table ∙ act-identity _ c.size.ensures.table)))
+    ∙ (ap (act RotateLeft) c.rotate_right.ensures.rows ∙ (act-act RotateRight RotateLeft _ c.args.grid.now.table ∙ act-identity _ c.args.grid.now.table)))
     (c.rotate_left.ensures.order ∙ (ap flipped c.rotate_right.ensures.order ∙ flipped-flipped _))
 
 pub returns-clause-law : goal.returns-clause-law

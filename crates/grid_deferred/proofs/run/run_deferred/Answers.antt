@@ -30,7 +30,7 @@ loop-command-init g c =
       rest = c.into_iter-command-iterator.ensures.into_iter_gives.0;
       name = refl;
       symmetry = refl;
-      going = rw (c.over-deferred.ensures.base, c.over-deferred.ensures.pending, none) (going_none _ _ _ _ c.size.ensures.table (act-identity _ c.size.ensures.table));
+      going = rw (c.over-deferred.ensures.base, c.over-deferred.ensures.pending, none) (going_none _ _ _ _ c.args.grid.now.table (act-identity _ c.args.grid.now.table));
       count = c.reserve_exact.ensures.len ∙ c.new-replies.ensures.len;
       room = let room = on_ok _ _ (sym c.is_err.ensures.value ∙ c.if-is_err.false) c.reserve_exact.ensures.ok in omega (arith, room, c.len.ensures);
     }
@@ -92,4 +92,4 @@ returns-then-is_err-clause-stop g c =
     inl (refl, some_values command_value c.args.commands.items some)
 
 pub returns-then-is_err-clause-stopped : goal.returns-then-is_err-clause-stopped
-returns-then-is_err-clause-stopped g c = rw (c.reserve_exact.ensures.items, c.new-replies.ensures.items) (ran_none _ _ _ _ c.size.ensures.table)
+returns-then-is_err-clause-stopped g c = rw (c.reserve_exact.ensures.items, c.new-replies.ensures.items) (ran_none _ _ _ _ c.args.grid.now.table)

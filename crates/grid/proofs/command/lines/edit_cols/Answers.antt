@@ -6,25 +6,25 @@ use Rattle.grid.proofs.command.lines.edit_cols.Goals as goal
 pub returns-clause-rows : goal.returns-clause-rows
 returns-clause-rows g c =
     on_ok c.edit_rows-edited.result
-    (λ h d one. crossed_rows d _ c.args.grid.now.rows _ _ _ c.size.ensures.table c.transpose.ensures.rows (h d one) c.transpose-2.ensures.rows)
+    (λ h d one. crossed_rows d _ c.args.grid.now.rows _ _ _ c.args.grid.now.table c.transpose.ensures.rows (h d one) c.transpose-2.ensures.rows)
     c.edit_rows-edited.ensures.rows
 
 pub returns-clause-reply : goal.returns-clause-reply
 returns-clause-reply g c =
     map_ok c.edit_rows-edited.result
-    (λ reply h same. crossed_reply _ c.args.grid.now.rows _ _ c.size.ensures.table c.transpose.ensures.rows (h same))
+    (λ reply h same. crossed_reply _ c.args.grid.now.rows _ _ c.args.grid.now.table c.transpose.ensures.rows (h same))
     c.edit_rows-edited.ensures.reply
 
 pub returns-clause-shift : goal.returns-clause-shift
 returns-clause-shift g c =
-    let t = c.size.ensures.table in
+    let t = c.args.grid.now.table in
     rw (c.transpose.ensures.order, c.transpose.ensures.rows, rows-across c.args.grid.now.rows t, cols-across c.args.grid.now.rows t) at c.edit_rows-edited.ensures.shift
 
 pub returns-clause-err_grid : goal.returns-clause-err_grid
 returns-clause-err_grid g c =
-    on_err _ (λ h. twice_across _ _ _ _ c.size.ensures.table c.transpose.ensures.rows c.transpose.ensures.order h c.transpose-2.ensures.rows c.transpose-2.ensures.order) c.edit_rows-edited.ensures.err_grid
+    on_err c.edit_rows-edited.result (λ h. twice_across c.args.grid.now c.transpose.new.self c.edit_rows-edited.new.grid c.transpose-2.new.self c.args.grid.now.table c.transpose.ensures.rows c.transpose.ensures.order h c.transpose-2.ensures.rows c.transpose-2.ensures.order) c.edit_rows-edited.ensures.err_grid
 
 pub returns-clause-err_memory : goal.returns-clause-err_memory
 returns-clause-err_memory g c =
-    let t = c.size.ensures.table in
+    let t = c.args.grid.now.table in
     rw (c.transpose.ensures.rows, rows-across c.args.grid.now.rows t, cols-across c.args.grid.now.rows t) at c.edit_rows-edited.ensures.err_memory

@@ -1,7 +1,6 @@
 use Rattle.std.proofs.Common.{◌∙◌, sym}
 use Rattle.grid_base.proofs.GroupLemmas.{normal-acts}
-use Rattle.grid.proofs.SeenLemmas.{seen_table}
 use Rattle.grid.proofs.grid.Grid.apply.Goals as goal
 
 pub returns-clause-words : goal.returns-clause-words
-returns-clause-words g c = λ w n. c.apply_counted.ensures.rows ∙ sym (normal-acts w _ _ (seen_table _ _ _ _ _ c.self.invariant c.self.view_is) n)
+returns-clause-words g c = λ w n. c.apply_counted.ensures.rows ∙ sym (normal-acts w _ _ c.args.self.now.table n)

@@ -1,6 +1,5 @@
 use Rattle.std.proofs.Common.{◌∙◌, ap}
 use Rattle.grid.proofs.FlipLemmas.{after_transpose, from_its_flags, transpose_then_flips, price_of_flips, transposed_rows, transposed_cols}
-use Rattle.grid.proofs.SeenLemmas.{seen_table}
 use Rattle.grid.proofs.grid.Grid.apply_counted.Goals.{then-transposes, else-transposes}
 use Rattle.grid.proofs.grid.Grid.apply_counted.Goals as goal
 
@@ -10,7 +9,7 @@ returns-clause-rows g c =
       | then-transposes w ↦
           (let turned = ap (λ s. s.rows) w.self-is ∙ w.transpose.ensures.rows in
           let is = transpose_then_flips _ _ ∙ from_its_flags c.args.symmetry _ _ c.flags-transposes.ensures w.if-transposes.true in
-          rw is at (after_transpose _ _ _ _ (seen_table _ _ _ _ _ c.self.invariant c.self.view_is) turned c.flip_counted.ensures.rows))
+          rw is at (after_transpose _ _ _ _ c.args.self.now.table turned c.flip_counted.ensures.rows))
       | else-transposes w ↦
           rw (from_its_flags c.args.symmetry _ _ c.flags-transposes.ensures w.if-transposes.false, w.self-is) at c.flip_counted.ensures.rows
     ]
@@ -20,7 +19,7 @@ returns-clause-symmetry g c =
     elim c.if-transposes.branch [
       | then-transposes w ↦
           (let turned = ap (λ s. s.rows) w.self-is ∙ w.transpose.ensures.rows in
-          let table = seen_table _ _ _ _ _ c.self.invariant c.self.view_is in
+          let table = c.args.self.now.table in
           let is = from_its_flags c.args.symmetry _ _ c.flags-transposes.ensures w.if-transposes.true in
           rw (transposed_rows _ _ table turned, transposed_cols _ _ table turned, price_of_flips _ _ _ _, is) at c.flip_counted.ensures.symmetry)
       | else-transposes w ↦

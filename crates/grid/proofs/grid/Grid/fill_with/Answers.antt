@@ -5,16 +5,16 @@ use Rattle.grid.proofs.SeenAllCellsLemmas.{whole_rows, whole_cols, whole_table, 
 use Rattle.grid.proofs.grid.Grid.fill_with.Goals as goal
 
 pub returns-clause-rows : goal.returns-clause-rows
-returns-clause-rows g c = whole_rows _ _ _ _ _ _ c.self.invariant c.self.view_is c.fill_with.ensures.len
+returns-clause-rows g c = whole_rows _ _ _ _ _ _ c.self.inside.fits c.self.view_is c.fill_with.ensures.len
 
 pub returns-clause-cols : goal.returns-clause-cols
-returns-clause-cols g c = whole_cols _ _ _ _ _ _ c.self.invariant c.self.view_is c.fill_with.ensures.len
+returns-clause-cols g c = whole_cols _ _ _ _ _ _ c.self.inside.fits c.self.view_is c.fill_with.ensures.len
 
 pub returns-clause-table : goal.returns-clause-table
-returns-clause-table g c = whole_table _ _ _ _ _ _ c.self.invariant c.self.view_is c.fill_with.ensures.len
+returns-clause-table g c = whole_table _ _ _ _ _ _ c.self.inside.fits c.self.view_is c.fill_with.ensures.len
 
 pub returns-clause-cells : goal.returns-clause-cells
-returns-clause-cells g c = rw (whole_cells _ _ _ _ _ _ c.self.invariant c.self.view_is c.fill_with.ensures.len) c.fill_with.ensures.cells
+returns-clause-cells g c = rw (whole_cells _ _ _ _ _ _ c.self.inside.fits c.self.view_is c.fill_with.ensures.len) c.fill_with.ensures.cells
 
 pub fill_with-requires : goal.fill_with-requires
-fill_with-requires g c = subst (CallableTimes _ _ _) (ap length (seen_storage _ _ _ _ _ c.self.invariant c.self.view_is)) c.requires
+fill_with-requires g c = subst (CallableTimes _ _ _) (ap length (seen_storage _ _ _ _ _ c.self.inside.fits c.self.view_is)) c.requires

@@ -6,4 +6,4 @@ returns-clause-rows g c = rw (← c.self.view_is) c.flip_stored.ensures.rows
 
 pub returns-clause-symmetry : goal.returns-clause-symmetry
 returns-clause-symmetry g c =
-    rw (seen_rows _ _ _ _ _ c.self.invariant c.self.view_is, seen_cols _ _ _ _ _ c.self.invariant c.self.view_is) c.flip_stored.ensures.symmetry
+    rw (seen_rows _ _ _ _ _ c.self.inside.fits c.self.view_is, seen_cols _ _ _ _ _ c.self.inside.fits c.self.view_is) c.flip_stored.ensures.symmetry

@@ -4,7 +4,7 @@ use Rattle.grid_base.proofs.ViewLemmas.{view-table, view-cols, view-storage}
 use Rattle.grid.proofs.grid.Grid.from_vec_with_order.Goals as goal
 
 -- the size fits the vector
-holds : (g : _) (c : goal.After-from_vec g) → HoldsSize c.size_of_cut-row_count.result.0 c.size_of_cut-row_count.result.1 (length c.from_vec.result)
+holds : (g : _) (c : goal.After-result-1 g) → HoldsSize c.size_of_cut-row_count.result.0 c.size_of_cut-row_count.result.1 (length c.from_vec.result)
 holds g c =
     let len : c.len.result ≡ length c.from_vec.result = omega (arith, ap length c.from_vec.ensures) in
     rw len at c.size_of_cut-row_count.ensures.holds

@@ -1,12 +1,11 @@
 use Rattle.grid_base.specs.declared.words.Symmetry.TheVariants.{Transpose}
 use Rattle.grid_base.proofs.ActLemmas.{rows-act}
-use Rattle.grid.proofs.SeenLemmas.{seen_table}
 use Rattle.grid.proofs.TransposedEditLemmas.{on_ok, on_err, fits_across, col_inserted, twice_across}
 use Rattle.grid.proofs.grid.Grid.insert_col.Goals as goal
 
 pub insert_row-inserted-requires-clause-fits : goal.insert_row-inserted-requires-clause-fits
 insert_row-inserted-requires-clause-fits g c =
-    rw c.transpose.ensures.rows (fits_across _ _ (seen_table _ _ _ _ _ c.self.invariant c.self.view_is) c.requires.fits)
+    rw c.transpose.ensures.rows (fits_across _ _ c.args.self.now.table c.requires.fits)
 
 pub insert_row-inserted-requires-clause-place : goal.insert_row-inserted-requires-clause-place
 insert_row-inserted-requires-clause-place g c =
@@ -14,7 +13,7 @@ insert_row-inserted-requires-clause-place g c =
 
 pub returns-clause-rows : goal.returns-clause-rows
 returns-clause-rows g c =
-    on_ok c.insert_row-inserted.result (col_inserted c.args.at c.args.line.items _ _ _ _ (seen_table _ _ _ _ _ c.self.invariant c.self.view_is) c.requires.fits c.requires.nonempty c.requires.place c.transpose.ensures.rows c.transpose-2.ensures.rows)
+    on_ok c.insert_row-inserted.result (col_inserted c.args.at c.args.line.items _ _ _ _ c.args.self.now.table c.requires.fits c.requires.nonempty c.requires.place c.transpose.ensures.rows c.transpose-2.ensures.rows)
     c.insert_row-inserted.ensures.rows
 
 pub returns-clause-fails : goal.returns-clause-fails
@@ -25,6 +24,6 @@ returns-clause-fails g c =
       line_back = fails.line_back;
       unchanged =
           on_err c.insert_row-inserted.result
-          (λ same. twice_across _ _ _ _ (seen_table _ _ _ _ _ c.self.invariant c.self.view_is) c.transpose.ensures.rows c.transpose.ensures.order same c.transpose-2.ensures.rows c.transpose-2.ensures.order)
+          (λ same. twice_across _ _ _ _ c.args.self.now.table c.transpose.ensures.rows c.transpose.ensures.order same c.transpose-2.ensures.rows c.transpose-2.ensures.order)
           fails.unchanged;
     }

@@ -2,4 +2,4 @@ use Rattle.grid.proofs.SeenLemmas.{seen_empty}
 use Rattle.grid.proofs.grid.Grid.is_empty.Goals as goal
 
 pub returns : goal.returns
-returns g c = seen_empty _ _ _ _ _ c.self.invariant c.self.view_is
+returns g c = seen_empty _ _ _ _ _ c.self.inside.fits c.self.view_is

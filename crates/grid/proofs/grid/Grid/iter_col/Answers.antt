@@ -7,14 +7,14 @@ use Rattle.grid.proofs.SeenWalkLemmas.{seen_transposed}
 use Rattle.grid.proofs.grid.Grid.iter_col.Goals as goal
 
 pub row-requires-clause-size : goal.row-requires-clause-size
-row-requires-clause-size g c = HoldsSize-transposed _ _ _ c.self.invariant
+row-requires-clause-size g c = HoldsSize-transposed _ _ _ c.self.inside.fits
 
 pub row-requires-clause-row_in : goal.row-requires-clause-row_in
-row-requires-clause-row_in g c = omega (arith, seen_cols _ _ _ _ _ c.self.invariant c.self.view_is, c.requires)
+row-requires-clause-row_in g c = omega (arith, seen_cols _ _ _ _ _ c.self.inside.fits c.self.view_is, c.requires)
 
 pub returns-clause-rest : goal.returns-clause-rest
 returns-clause-rest g c =
     let s = c.self.inside in
     c.row.ensures.rest
     ∙ (ap (λ o. row (table_of o s.col_count s.row_count s.flat) c.args.c) c.flipped-order.ensures
-    ∙ ap (λ t. row t c.args.c) (seen_transposed _ _ _ _ _ c.self.invariant c.self.view_is))
+    ∙ ap (λ t. row t c.args.c) (seen_transposed _ _ _ _ _ c.self.inside.fits c.self.view_is))

@@ -7,22 +7,22 @@ use Rattle.grid.proofs.SeenWalkLemmas.{seen_written, seen_keeps_from, seen_trans
 use Rattle.grid.proofs.grid.Grid.iter_col_mut.Goals as goal
 
 pub row_mut-requires-clause-size : goal.row_mut-requires-clause-size
-row_mut-requires-clause-size g c = HoldsSize-transposed _ _ _ c.self.invariant
+row_mut-requires-clause-size g c = HoldsSize-transposed _ _ _ c.self.inside.fits
 
 pub row_mut-requires-clause-row_in : goal.row_mut-requires-clause-row_in
-row_mut-requires-clause-row_in g c = omega (arith, seen_cols _ _ _ _ _ c.self.invariant c.self.view_is, c.requires)
+row_mut-requires-clause-row_in g c = omega (arith, seen_cols _ _ _ _ _ c.self.inside.fits c.self.view_is, c.requires)
 
 pub returns : goal.returns
 returns g c =
     let s = c.self.inside in
     let first = ap (λ o. place o s.col_count s.row_count c.args.c 0) c.flipped-order.ensures ∙ place_flipped s.order s.row_count s.col_count 0 c.args.c in (
-      (refl, λ w. seen_written _ _ _ _ _ c.self.invariant c.self.view_is _ _ _ w first),
+      (refl, λ w. seen_written _ _ _ _ _ c.self.inside.fits c.self.view_is _ _ _ w _ first),
       record {
         writes_back = tt;
-        keeps = seen_keeps_from _ _ _ _ _ c.self.invariant c.self.view_is _ _;
+        keeps = seen_keeps_from _ _ _ _ _ c.self.inside.fits c.self.view_is _ _;
         rest =
             c.row_mut.ensures.rest
             ∙ (ap (λ o. row (table_of o s.col_count s.row_count s.flat) c.args.c) c.flipped-order.ensures
-            ∙ ap (λ t. row t c.args.c) (seen_transposed _ _ _ _ _ c.self.invariant c.self.view_is));
+            ∙ ap (λ t. row t c.args.c) (seen_transposed _ _ _ _ _ c.self.inside.fits c.self.view_is));
       },
     )

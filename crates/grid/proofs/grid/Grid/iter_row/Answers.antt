@@ -4,7 +4,7 @@ use Rattle.grid.proofs.SeenLemmas.{seen_rows}
 use Rattle.grid.proofs.grid.Grid.iter_row.Goals as goal
 
 pub row-requires-clause-row_in : goal.row-requires-clause-row_in
-row-requires-clause-row_in g c = omega (arith, seen_rows _ _ _ _ _ c.self.invariant c.self.view_is, c.requires)
+row-requires-clause-row_in g c = omega (arith, seen_rows _ _ _ _ _ c.self.inside.fits c.self.view_is, c.requires)
 
 pub returns-clause-rest : goal.returns-clause-rest
 returns-clause-rest g c = c.row.ensures.rest ∙ ap (λ x. row x.rows c.args.r) c.self.view_is

@@ -5,10 +5,10 @@ use Rattle.grid.proofs.SeenWalkLemmas.{seen_written, seen_keeps_from}
 use Rattle.grid.proofs.grid.Grid.iter_row_mut.Goals as goal
 
 pub row_mut-requires-clause-row_in : goal.row_mut-requires-clause-row_in
-row_mut-requires-clause-row_in g c = omega (arith, seen_rows _ _ _ _ _ c.self.invariant c.self.view_is, c.requires)
+row_mut-requires-clause-row_in g c = omega (arith, seen_rows _ _ _ _ _ c.self.inside.fits c.self.view_is, c.requires)
 
 pub returns : goal.returns
 returns g c = (
-  (refl, λ w. seen_written _ _ _ _ _ c.self.invariant c.self.view_is _ _ _ w refl),
-  record { writes_back = tt; keeps = seen_keeps_from _ _ _ _ _ c.self.invariant c.self.view_is _ _; rest = c.row_mut.ensures.rest ∙ ap (λ x. row x.rows c.args.r) c.self.view_is },
+  (refl, λ w. seen_written _ _ _ _ _ c.self.inside.fits c.self.view_is _ _ _ w _ refl),
+  record { writes_back = tt; keeps = seen_keeps_from _ _ _ _ _ c.self.inside.fits c.self.view_is _ _; rest = c.row_mut.ensures.rest ∙ ap (λ x. row x.rows c.args.r) c.self.view_is },
 )

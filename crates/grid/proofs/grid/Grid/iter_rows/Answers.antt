@@ -8,5 +8,5 @@ returns-clause-rest g c = c.rows.ensures.rest ∙ ap (λ x. x.rows) c.self.view_
 pub returns-clause-fits : goal.returns-clause-fits
 returns-clause-fits g c =
     let s = c.self.inside in
-    let rows = view-rows s.order s.row_count s.col_count s.flat c.self.invariant in
+    let rows = view-rows s.order s.row_count s.col_count s.flat c.self.inside.fits in
     omega (arith, ap length c.rows.ensures.rest, rows)

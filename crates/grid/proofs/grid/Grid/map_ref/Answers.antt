@@ -5,16 +5,16 @@ use Rattle.grid.proofs.SeenAllCellsLemmas.{whole_rows, whole_cols, whole_table, 
 use Rattle.grid.proofs.grid.Grid.map_ref.Goals as goal
 
 pub returns-clause-rows : goal.returns-clause-rows
-returns-clause-rows g c = whole_rows _ _ _ _ _ _ c.self.invariant c.self.view_is c.in_ok-flat.ensures.len
+returns-clause-rows g c = whole_rows _ _ _ _ _ _ c.self.inside.fits c.self.view_is c.in_ok-flat.ensures.len
 
 pub returns-clause-cols : goal.returns-clause-cols
-returns-clause-cols g c = whole_cols _ _ _ _ _ _ c.self.invariant c.self.view_is c.in_ok-flat.ensures.len
+returns-clause-cols g c = whole_cols _ _ _ _ _ _ c.self.inside.fits c.self.view_is c.in_ok-flat.ensures.len
 
 pub returns-clause-table : goal.returns-clause-table
-returns-clause-table g c = whole_table _ _ _ _ _ _ c.self.invariant c.self.view_is c.in_ok-flat.ensures.len
+returns-clause-table g c = whole_table _ _ _ _ _ _ c.self.inside.fits c.self.view_is c.in_ok-flat.ensures.len
 
 pub returns-clause-cells : goal.returns-clause-cells
-returns-clause-cells g c = rw (whole_cells _ _ _ _ _ _ c.self.invariant c.self.view_is c.in_ok-flat.ensures.len, seen_storage _ _ _ _ _ c.self.invariant c.self.view_is) c.in_ok-flat.ensures.cells
+returns-clause-cells g c = rw (whole_cells _ _ _ _ _ _ c.self.inside.fits c.self.view_is c.in_ok-flat.ensures.len, seen_storage _ _ _ _ _ c.self.inside.fits c.self.view_is) c.in_ok-flat.ensures.cells
 
 pub map_ref-requires : goal.map_ref-requires
-map_ref-requires g c = subst (CallableAtRefs _ _) (seen_storage _ _ _ _ _ c.self.invariant c.self.view_is) c.requires
+map_ref-requires g c = subst (CallableAtRefs _ _) (seen_storage _ _ _ _ _ c.self.inside.fits c.self.view_is) c.requires

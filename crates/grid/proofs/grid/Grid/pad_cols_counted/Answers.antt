@@ -3,7 +3,6 @@ use Rattle.grid_base.specs.declared.words.Symmetry.TheVariants.{Transpose}
 use Rattle.grid_base.specs.Table.{row_count}
 use Rattle.grid_base.proofs.ActLemmas.{rows-act}
 use Rattle.grid.specs.Shift.{rows_added_shift}
-use Rattle.grid.proofs.SeenLemmas.{seen_table}
 use Rattle.grid.proofs.TransposedEditLemmas.{on_ok, on_err, twice_across}
 use Rattle.grid.proofs.SeenPaddingLemmas.{pads_cols, size_across, none_added, shift_across}
 use Rattle.grid.proofs.grid.Grid.pad_cols_counted.Goals as goal
@@ -13,14 +12,14 @@ pad_rows_counted-padded-requires g c = omega (arith, ap row_count c.transpose.en
 
 pub returns-clause-padded : goal.returns-clause-padded
 returns-clause-padded g c =
-    let t = seen_table _ _ _ _ _ c.self.invariant c.self.view_is in
+    let t = c.args.self.now.table in
     on_ok c.pad_rows_counted-padded.result
     (pads_cols c.args.self.now.rows t _ _ c.args.count _ _ _ c.transpose.ensures.rows c.transpose-2.ensures.rows c.requires.place)
     c.pad_rows_counted-padded.ensures.padded
 
 pub returns-clause-fails : goal.returns-clause-fails
 returns-clause-fails g c =
-    let t = seen_table _ _ _ _ _ c.self.invariant c.self.view_is in
+    let t = c.args.self.now.table in
     let fails = c.pad_rows_counted-padded.ensures.fails in
     record {
       too_large = rw (size_across c.args.self.now.rows t c.args.count _ c.transpose.ensures.rows) at fails.too_large;
@@ -33,5 +32,5 @@ returns-clause-fails g c =
 
 pub returns-clause-shift : goal.returns-clause-shift
 returns-clause-shift g c =
-    let t = seen_table _ _ _ _ _ c.self.invariant c.self.view_is in
-    rw (shift_across (λ o m n k. rows_added_shift o m n c.args.at k) c.args.count _ _ t c.transpose.ensures.rows c.transpose.ensures.order) at c.pad_rows_counted-padded.ensures.shift
+    let t = c.args.self.now.table in
+    rw (shift_across (λ o m n k. rows_added_shift o m n c.args.at k) c.args.count c.args.self.now c.transpose.new.self t c.transpose.ensures.rows c.transpose.ensures.order) at c.pad_rows_counted-padded.ensures.shift

@@ -3,6 +3,8 @@ use Rattle.grid_base.specs.Table.{row_count, col_count}
 use Rattle.grid.specs.Edits.{padding_count}
 use Rattle.grid.specs.Shift.{rows_added_shift}
 use Rattle.grid.proofs.SeenPaddingLemmas.{padding_none, pads_none, pad_cols, pad_rows_small, pad_shift, pad_cells, pads_rows, pad_fits}
+use Rattle.grid.proofs.SeenLemmas.{seen_same}
+use Rattle.grid.proofs.TransposedEditLemmas.{either_way}
 use Rattle.grid.proofs.grid.Grid.pad_rows_counted.Goals.{then-count-eq0-via-then-count-eq0, then-count-eq0-via-else-count-eq0+then-rows-eq0}
 use Rattle.grid.proofs.grid.Grid.pad_rows_counted.Goals as goal
 
@@ -25,22 +27,30 @@ returns-then-count-eq0-clause-fails g c =
     }
 
 pub open_rows-requires-clause-cells : goal.open_rows-requires-clause-cells
-open_rows-requires-clause-cells g c = pad_cells _ _ _ _ _ c.self.invariant c.self.view_is _ _ _ c.size-rows.ensures.rows c.size-rows.ensures.cols c.if-rows-eq0.false (c.if-not-has_room.ensures.0 refl) _ _ c.in_ok-append_defaults.ensures.ok
+open_rows-requires-clause-cells g c = pad_cells _ _ _ _ _ c.self.inside.fits c.self.view_is _ _ _ c.size-rows.ensures.rows c.size-rows.ensures.cols c.if-rows-eq0.false (c.if-not-has_room.ensures.0 refl) _ _ c.in_ok-append_defaults.ensures.ok
 
 pub open_rows-requires-clause-has_cols : goal.open_rows-requires-clause-has_cols
-open_rows-requires-clause-has_cols g c = pad_cols _ _ _ _ _ c.self.invariant c.self.view_is _ _ _ c.size-rows.ensures.rows c.size-rows.ensures.cols c.if-rows-eq0.false (c.if-not-has_room.ensures.0 refl)
+open_rows-requires-clause-has_cols g c = pad_cols _ _ _ _ _ c.self.inside.fits c.self.view_is _ _ _ c.size-rows.ensures.rows c.size-rows.ensures.cols c.if-rows-eq0.false (c.if-not-has_room.ensures.0 refl)
 
 pub overflow_add-self : goal.overflow_add-self
-overflow_add-self g c = let small = pad_rows_small _ _ _ _ _ c.self.invariant c.self.view_is _ _ _ c.size-rows.ensures.rows c.size-rows.ensures.cols c.if-rows-eq0.false (c.if-not-has_room.ensures.0 refl) in omega (arith, small)
+overflow_add-self g c = let small = pad_rows_small _ _ _ _ _ c.self.inside.fits c.self.view_is _ _ _ c.size-rows.ensures.rows c.size-rows.ensures.cols c.if-rows-eq0.false (c.if-not-has_room.ensures.0 refl) in omega (arith, small)
 
-pub invariant_of-self-2 : goal.invariant_of-self-2
-invariant_of-self-2 g c =
-    pad_fits _ _ _ _ _ c.self.invariant c.self.view_is _ _ _ c.size-rows.ensures.rows c.size-rows.ensures.cols c.if-rows-eq0.false (c.if-not-has_room.ensures.0 refl) _ _ c.in_ok-append_defaults.ensures.ok c.args.at _ c.open_rows.ensures.opened
+pub invariant_of-self-inside-2 : goal.invariant_of-self-inside-2
+invariant_of-self-inside-2 g c =
+    (pad_fits _ _ _ _ _ c.self.inside.fits c.self.view_is _ _ _ c.size-rows.ensures.rows c.size-rows.ensures.cols c.if-rows-eq0.false (c.if-not-has_room.ensures.0 refl) _ _ c.in_ok-append_defaults.ensures.ok c.args.at _ c.open_rows.ensures.opened, tt)
 
 pub returns-clause-padded : goal.returns-clause-padded
 returns-clause-padded g c =
-    pads_rows _ _ _ _ _ c.self.invariant c.self.view_is _ _ _ c.size-rows.ensures.rows c.size-rows.ensures.cols c.if-rows-eq0.false (c.if-not-has_room.ensures.0 refl) _ _ c.in_ok-append_defaults.ensures.ok c.args.at _ c.open_rows.ensures.opened
+    pads_rows _ _ _ _ _ c.self.inside.fits c.self.view_is _ _ _ c.size-rows.ensures.rows c.size-rows.ensures.cols c.if-rows-eq0.false (c.if-not-has_room.ensures.0 refl) _ _ c.in_ok-append_defaults.ensures.ok c.args.at _ c.open_rows.ensures.opened
 
 pub returns-clause-shift : goal.returns-clause-shift
 returns-clause-shift g c =
-    rw (pad_shift _ _ _ _ _ c.self.invariant c.self.view_is _ _ _ c.size-rows.ensures.rows c.size-rows.ensures.cols c.if-rows-eq0.false (c.if-not-has_room.ensures.0 refl) (λ o m n k. rows_added_shift o m n c.args.at k)) c.open_rows.ensures.shift
+    rw (pad_shift _ _ _ _ _ c.self.inside.fits c.self.view_is _ _ _ c.size-rows.ensures.rows c.size-rows.ensures.cols c.if-rows-eq0.false (c.if-not-has_room.ensures.0 refl) (λ o m n k. rows_added_shift o m n c.args.at k)) c.open_rows.ensures.shift
+
+pub returns-in_err-append_defaults-clause-fails : goal.returns-in_err-append_defaults-clause-fails
+returns-in_err-append_defaults-clause-fails g c =
+    record {
+      too_large = (search rules);
+      none = (search rules);
+      unchanged = either_way c.from_residual.result (seen_same _ _ _ _ _ c.self.inside.fits c.self.view_is _ _ c.in_err-append_defaults.ensures.err);
+    }

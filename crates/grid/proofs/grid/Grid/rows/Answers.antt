@@ -1,9 +1,6 @@
 use Rattle.std.proofs.Common.{sym}
-use Rattle.grid.proofs.SeenLemmas.{seen_rows, seen_table}
+use Rattle.grid.proofs.SeenLemmas.{seen_rows}
 use Rattle.grid.proofs.grid.Grid.rows.Goals as goal
 
 pub returns-clause-rows : goal.returns-clause-rows
-returns-clause-rows g c = sym (seen_rows _ _ _ _ _ c.self.invariant c.self.view_is)
-
-pub returns-clause-table : goal.returns-clause-table
-returns-clause-table g c = seen_table _ _ _ _ _ c.self.invariant c.self.view_is
+returns-clause-rows g c = sym (seen_rows _ _ _ _ _ c.self.inside.fits c.self.view_is)

@@ -5,34 +5,34 @@ use Rattle.grid.proofs.CellWriteLemmas.{rows_swapped}
 use Rattle.grid.proofs.grid.Grid.swap.Goals as goal
 
 pub place-i-requires-clause-row_in : goal.place-i-requires-clause-row_in
-place-i-requires-clause-row_in g c = seen_row_in _ _ _ _ _ c.self.invariant _ _ c.self.view_is c.requires.a_in
+place-i-requires-clause-row_in g c = seen_row_in _ _ _ _ _ c.self.inside.fits _ _ c.self.view_is c.requires.a_in
 
 pub place-i-requires-clause-col_in : goal.place-i-requires-clause-col_in
-place-i-requires-clause-col_in g c = seen_col_in _ _ _ _ _ c.self.invariant _ _ c.self.view_is c.requires.a_in
+place-i-requires-clause-col_in g c = seen_col_in _ _ _ _ _ c.self.inside.fits _ _ c.self.view_is c.requires.a_in
 
 pub place-j-requires-clause-row_in : goal.place-j-requires-clause-row_in
-place-j-requires-clause-row_in g c = seen_row_in _ _ _ _ _ c.self.invariant _ _ c.self.view_is c.requires.b_in
+place-j-requires-clause-row_in g c = seen_row_in _ _ _ _ _ c.self.inside.fits _ _ c.self.view_is c.requires.b_in
 
 pub place-j-requires-clause-col_in : goal.place-j-requires-clause-col_in
-place-j-requires-clause-col_in g c = seen_col_in _ _ _ _ _ c.self.invariant _ _ c.self.view_is c.requires.b_in
+place-j-requires-clause-col_in g c = seen_col_in _ _ _ _ _ c.self.inside.fits _ _ c.self.view_is c.requires.b_in
 
 pub swap-requires-clause-i_in : goal.swap-requires-clause-i_in
 swap-requires-clause-i_in g c =
-    let row_in = seen_row_in _ _ _ _ _ c.self.invariant _ _ c.self.view_is c.requires.a_in in
-    let col_in = seen_col_in _ _ _ _ _ c.self.invariant _ _ c.self.view_is c.requires.a_in in
-    omega (arith, c.place-i.ensures, c.self.invariant.cells, place_within c.self.inside.order _ _ _ _ row_in col_in)
+    let row_in = seen_row_in _ _ _ _ _ c.self.inside.fits _ _ c.self.view_is c.requires.a_in in
+    let col_in = seen_col_in _ _ _ _ _ c.self.inside.fits _ _ c.self.view_is c.requires.a_in in
+    omega (arith, c.place-i.ensures, c.self.inside.fits.cells, place_within c.self.inside.order _ _ _ _ row_in col_in)
 
 pub swap-requires-clause-j_in : goal.swap-requires-clause-j_in
 swap-requires-clause-j_in g c =
-    let row_in = seen_row_in _ _ _ _ _ c.self.invariant _ _ c.self.view_is c.requires.b_in in
-    let col_in = seen_col_in _ _ _ _ _ c.self.invariant _ _ c.self.view_is c.requires.b_in in
-    omega (arith, c.place-j.ensures, c.self.invariant.cells, place_within c.self.inside.order _ _ _ _ row_in col_in)
+    let row_in = seen_row_in _ _ _ _ _ c.self.inside.fits _ _ c.self.view_is c.requires.b_in in
+    let col_in = seen_col_in _ _ _ _ _ c.self.inside.fits _ _ c.self.view_is c.requires.b_in in
+    omega (arith, c.place-j.ensures, c.self.inside.fits.cells, place_within c.self.inside.order _ _ _ _ row_in col_in)
 
 pub returns-clause-rows : goal.returns-clause-rows
 returns-clause-rows g c =
-    let a_row = seen_row_in _ _ _ _ _ c.self.invariant _ _ c.self.view_is c.requires.a_in in
-    let a_col = seen_col_in _ _ _ _ _ c.self.invariant _ _ c.self.view_is c.requires.a_in in
-    let b_row = seen_row_in _ _ _ _ _ c.self.invariant _ _ c.self.view_is c.requires.b_in in
-    let b_col = seen_col_in _ _ _ _ _ c.self.invariant _ _ c.self.view_is c.requires.b_in in
+    let a_row = seen_row_in _ _ _ _ _ c.self.inside.fits _ _ c.self.view_is c.requires.a_in in
+    let a_col = seen_col_in _ _ _ _ _ c.self.inside.fits _ _ c.self.view_is c.requires.a_in in
+    let b_row = seen_row_in _ _ _ _ _ c.self.inside.fits _ _ c.self.view_is c.requires.b_in in
+    let b_col = seen_col_in _ _ _ _ _ c.self.inside.fits _ _ c.self.view_is c.requires.b_in in
     rw (c.swap.ensures, c.place-i.ensures, c.place-j.ensures)
-    (rows_swapped _ _ _ _ _ c.args.a c.args.b c.self.invariant c.self.view_is a_row a_col b_row b_col)
+    (rows_swapped _ _ _ _ _ c.args.a c.args.b c.self.inside.fits c.self.view_is a_row a_col b_row b_col)

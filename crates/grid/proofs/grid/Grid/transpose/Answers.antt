@@ -4,9 +4,9 @@ use Rattle.grid.proofs.grid.Grid.transpose.Goals as goal
 
 pub returns-clause-rows : goal.returns-clause-rows
 returns-clause-rows g c =
-    rw (c.flipped-self-inside.ensures, c.swap.ensures.x_after, c.swap.ensures.y_after, ← c.self.view_is) (view-transpose _ _ _ _ c.self.invariant)
+    rw (c.flipped-self-inside.ensures, c.swap.ensures.x_after, c.swap.ensures.y_after, ← c.self.view_is) (view-transpose _ _ _ _ c.self.inside.fits)
 
 pub returns-clause-storage : goal.returns-clause-storage
 returns-clause-storage g c =
     rw (c.flipped-self-inside.ensures, c.swap.ensures.x_after, c.swap.ensures.y_after, ← c.self.view_is)
-    (view-storage _ _ _ _ (HoldsSize-transposed _ _ _ c.self.invariant) ∙ sym (view-storage _ _ _ _ c.self.invariant))
+    (view-storage _ _ _ _ (HoldsSize-transposed _ _ _ c.self.inside.fits) ∙ sym (view-storage _ _ _ _ c.self.inside.fits))

@@ -1,0 +1,118 @@
+-- Calls of a closure at each place of a grid and the cell there.
+use Rattle.std.proofs.Common.{◌≡◌, ℕ, zero, suc, ◌*◌, ◌^◌, ◌<◌, ◌≤◌, List, [], ◌∷◌, Option, Some, length, zip, refl, sym, subst, ◌∙◌, ap, arith, is_some, ◌∷◌}
+use Rattle.std.specs.List.{slice_get, AllZip}
+use Rattle.std.specs.Option.{unwrap_or}
+use Rattle.std.proofs.lemmas.Option.{unwrap_or-slice_get}
+use Rattle.std.proofs.Math.Nat.{mul_comm}
+use denote.Ref.{Bor}
+use Rattle.grid_base.specs.declared.flat.order.Order.{Order}
+use Rattle.grid_base.specs.Table.{row_count, col_count, cell, InRange, IsTable, tabulate}
+use Rattle.grid_base.specs.Order.{table_of, place}
+use Rattle.grid_base.specs.Places.{places}
+use Rattle.grid_base.specs.ClosureCalls.{PairsUp, CallableAtCells, ReturnsAtCell}
+use Rattle.grid_base.specs.GridValue.{GridValue, HoldsSize}
+use Rattle.grid_base.proofs.TableLemmas.{IsFull, tabulate-same}
+use Rattle.grid_base.proofs.StorageLemmas.{place_within, has_place}
+use Rattle.grid_base.proofs.PlaceLemmas.{get-places, length-places}
+use Rattle.grid_base.proofs.WalkLemmas.{zip_within}
+use Rattle.grid_base.proofs.ViewLemmas.{view-cell}
+use Rattle.grid.specs.AllCells.{CallableAtPlaces, TabulatedBy}
+use Rattle.grid_base.proofs.ViewLemmas.{grid_value}
+use Rattle.grid.proofs.SeenLemmas.{seen_rows, seen_cols}
+
+pub get-zip : {A B : Type 0} (xs : List A) (ys : List B) (k : ℕ) (a : A) (b : B) → slice_get xs k ≡ Some a → slice_get ys k ≡ Some b → slice_get (zip xs ys) k ≡ Some (a, b)
+get-zip [] ys k a b p q = absurd (cc)
+get-zip (x ∷ xs) [] k a b p q = absurd (cc)
+get-zip (x ∷ xs) (y ∷ ys) zero a b p q =
+    let first : x ≡ a = cc in
+    let second : y ≡ b = cc in
+    ap (λ z. Some (z, y)) first ∙ ap (λ z. Some (a, z)) second
+get-zip (x ∷ xs) (y ∷ ys) (suc k) a b p q = get-zip xs ys k a b p q
+
+mul_grows : (m n : ℕ) → 0 < n → m ≤ m * n
+mul_grows zero n h = omega arith
+mul_grows (suc m) n h = omega (arith, mul_grows m n h)
+
+pub record ItemAt {T : Type 0} (xs : List T) (k : ℕ) : Type 0 where
+  pub x : T
+  pub is : slice_get xs k ≡ Some x
+
+pub item_at : {T : Type 0} (xs : List T) (k : ℕ) → k < length xs → ItemAt xs k
+item_at [] k lt = absurd (omega arith)
+item_at (x ∷ xs) zero lt = record { x = x; is = refl }
+item_at (x ∷ xs) (suc k) lt = let i = item_at xs k (omega arith) in record { x = i.x; is = i.is }
+
+record AnswerAt {A B : Type 0} (R : A → B → Type 0) (x : A) (ys : List B) (k : ℕ) : Type 0 where
+  pub y : B
+  pub is : slice_get ys k ≡ Some y
+  pub by : R x y
+
+answer_at : {A B : Type 0} (R : A → B → Type 0) (xs : List A) (ys : List B) (k : ℕ) (x : A) → AllZip R xs ys → slice_get xs k ≡ Some x → AnswerAt R x ys k
+answer_at R [] [] k x a e = absurd (cc)
+answer_at R [] (b ∷ ys) k x a e = absurd a
+answer_at R (c ∷ xs) [] k x a e = absurd a
+answer_at R (c ∷ xs) (b ∷ ys) zero x a e = let same : c ≡ x = cc in record { y = b; is = refl; by = subst (λ z. R z b) same a.0 }
+answer_at R (c ∷ xs) (b ∷ ys) (suc k) x a e = let i = answer_at R xs ys k x a.1 e in record { y = i.y; is = i.is; by = i.by }
+
+module _ {A : Type 0} (o : Order) (m n : ℕ) (cells : List A) (v : GridValue A) (h : HoldsSize m n (length cells)) (e : grid_value o m n cells h ≡ v) where
+  -- the cell of the value at a place
+  pub seen_cell : (r c : ℕ) → r < m → c < n → cell v.rows r c ≡ slice_get cells (place o m n r c)
+  seen_cell r c lr lc = sym (ap (λ x. cell x.rows r c) e) ∙ view-cell o m n cells h r c lr lc
+
+  pub seen_in : (r c : ℕ) → r < m → c < n → InRange v.rows r c
+  seen_in r c lr lc = (omega (arith, seen_rows o m n cells v h e), omega (arith, seen_cols o m n cells v h e))
+
+  rows_fit : (c : ℕ) → c < n → row_count v.rows < 2 ^ 64
+  rows_fit c lc = omega (arith, seen_rows o m n cells v h e, mul_grows m n (omega arith), h.below)
+
+  cols_fit : (r : ℕ) → r < m → col_count v.rows < 2 ^ 64
+  cols_fit r lr = omega (arith, seen_cols o m n cells v h e, mul_grows n m (omega arith), mul_comm m n, h.below)
+
+  -- a closure that can be called at each place of the table can be called along the vector
+  pub seen_callable : {F : Type 0} (takes : F → ℕ × ℕ → Bor A → Type 0) (f : F) → CallableAtPlaces takes f v.rows → CallableAtCells takes f (zip (places o m n) cells)
+  seen_callable {F} takes f can = record {
+    at = λ k at p lt is.
+        let below : k < length cells = omega (arith, zip_within (places o m n) cells) in
+        let w = has_place o m n k (omega (arith, h.cells)) in
+        let i = item_at cells k below in
+        let there : slice_get (places o m n) k ≡ Some (w.r, w.c) = ap (slice_get (places o m n)) (sym w.is) ∙ get-places o m n w.r w.c h.size w.lr w.lc in
+        let pair : slice_get (zip (places o m n) cells) k ≡ Some ((w.r, w.c), i.x) = get-zip (places o m n) cells k (w.r, w.c) i.x there i.is in
+        let same : ◌≡◌ {A = (ℕ × ℕ) × A} (at, p.now) ((w.r, w.c), i.x) =
+        is ∙ (sym (unwrap_or-slice_get (zip (places o m n) cells) k (at, p.now)) ∙ ap (λ z. unwrap_or z (at, p.now)) pair) in
+        let same_cell : p.now ≡ i.x = ap (λ z. z.1) same in
+        let same_at : at ≡ (w.r, w.c) = ap (λ z. z.0) same in
+        let old : cell v.rows w.r w.c ≡ Some p.now =
+        seen_cell w.r w.c w.lr w.lc ∙ (ap (slice_get cells) w.is ∙ (i.is ∙ ap Some (sym same_cell))) in
+        subst (λ z. takes f z p) (sym same_at) (can w.r w.c p (seen_in w.r w.c w.lr w.lc) (rows_fit w.c w.lc) (cols_fit w.r w.lr) old);
+  }
+
+  module _ {F B : Type 0} (returns : F → ℕ × ℕ → Bor A → B → Type 0) (f : F) (news : List B) (len : length news ≡ length cells) (a : PairsUp (ReturnsAtCell returns f) (zip (places o m n) cells) news) where
+    record Called (r c : ℕ) : Type 0 where
+      pub y : B
+      pub p : Bor A
+      pub is : slice_get news (place o m n r c) ≡ Some y
+      pub old : cell v.rows r c ≡ Some p.now
+      pub says : returns f (r, c) p y
+
+    called : (r c : ℕ) → r < m → c < n → Called r c
+    called r c lr lc =
+        let k = place o m n r c in
+        let i = item_at cells k (omega (arith, place_within o m n r c lr lc, h.cells)) in
+        let pair = get-zip (places o m n) cells k (r, c) i.x (get-places o m n r c h.size lr lc) i.is in
+        let w = answer_at (ReturnsAtCell returns f) (zip (places o m n) cells) news k ((r, c), i.x) a.places pair in
+        record {
+          y = w.y;
+          p = w.by.shown;
+          is = w.is;
+          old = seen_cell r c lr lc ∙ (i.is ∙ ap Some (sym w.by.shows));
+          says = w.by.says;
+        }
+
+    -- the new table is what the answers determine
+    pub seen_tabulated : TabulatedBy returns f v.rows (table_of o m n news)
+    seen_tabulated g by =
+        let same : (r c : ℕ) → r < m → c < n → g r c ≡ slice_get news (place o m n r c) =
+        λ r c lr lc. let w = called r c lr lc in by r c w.p w.y (seen_in r c lr lc) w.old w.says ∙ sym w.is in
+        let full : IsFull m n g = record { full = λ r c lr lc. let w = called r c lr lc in ap is_some (by r c w.p w.y (seen_in r c lr lc) w.old w.says) } in
+        let made : table_of o m n news ≡ tabulate m n g = tabulate-same m n (λ r c. slice_get news (place o m n r c)) g (λ r c lr lc. sym (same r c lr lc)) full in
+        made ∙ (ap (λ x. tabulate x n g) (sym (seen_rows o m n cells v h e)) ∙ ap (λ x. tabulate (row_count v.rows) x g) (sym (seen_cols o m n cells v h e)))

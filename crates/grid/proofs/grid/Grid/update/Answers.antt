@@ -1,0 +1,18 @@
+use Rattle.grid.proofs.CellCallLemmas.{seen_callable, seen_tabulated}
+use Rattle.grid.proofs.SeenAllCellsLemmas.{whole_rows, whole_cols, whole_table}
+use Rattle.grid.proofs.grid.Grid.update.Goals as goal
+
+pub returns-clause-rows : goal.returns-clause-rows
+returns-clause-rows g c = whole_rows _ _ _ _ _ _ c.self.inside.fits c.self.view_is c.update.ensures.len
+
+pub returns-clause-cols : goal.returns-clause-cols
+returns-clause-cols g c = whole_cols _ _ _ _ _ _ c.self.inside.fits c.self.view_is c.update.ensures.len
+
+pub returns-clause-table : goal.returns-clause-table
+returns-clause-table g c = whole_table _ _ _ _ _ _ c.self.inside.fits c.self.view_is c.update.ensures.len
+
+pub returns-clause-cells : goal.returns-clause-cells
+returns-clause-cells g c = seen_tabulated _ _ _ _ _ c.self.inside.fits c.self.view_is _ _ _ c.update.ensures.len c.update.ensures.cells
+
+pub update-requires-clause-calls : goal.update-requires-clause-calls
+update-requires-clause-calls g c = seen_callable _ _ _ _ _ c.self.inside.fits c.self.view_is _ _ c.requires

@@ -1,0 +1,24 @@
+use Rattle.std.proofs.Common.{◌≡◌, ◌+◌, ◌-◌, ◌/◌, ◌∙◌, ◌++◌, length, swap, refl, ap, arith, length-append}
+use Rattle.grid_base.proofs.PartLemmas.{turning_none, turning_more, turning_all}
+use Rattle.grid_base.proofs.flat.turn.swap_mirrored.Goals as goal
+
+pub loop-k-init : goal.loop-k-init
+loop-k-init g c =
+    record { run = turning_none _ _ _; front_len = refl; back_len = refl; symmetry = c.none-swaps.ensures.symmetry; shift = c.none-swaps.ensures.shift }
+
+pub loop-k-preserved : goal.loop-k-preserved
+loop-k-preserved g c =
+    let i = c.loop-k.invariant in
+    let now = c.loop-k.front ++ c.loop-k.back in
+    let len = length-append c.args.front.now c.args.back.now in
+    let there : length c.loop-k.front + (c.args.n / 2 - 1 - c.loop-k.k) ≡ c.args.start + (c.args.n - 1 - c.loop-k.k) = omega arith in
+    record {
+      run = turning_more _ _ _ _ _ _ (omega arith) (omega arith) i.run (c.swap_for_symmetry.ensures.cells ∙ ap (swap now (c.args.start + c.loop-k.k)) there);
+      front_len = c.swap_for_symmetry.ensures.front_len ∙ i.front_len;
+      back_len = c.swap_for_symmetry.ensures.back_len ∙ i.back_len;
+      symmetry = omega arith;
+      shift = omega arith;
+    }
+
+pub returns-clause-cells : goal.returns-clause-cells
+returns-clause-cells g c = turning_all _ _ _ _ _ (omega arith) c.loop-k.invariant.run

@@ -1,0 +1,83 @@
+//! Cells that are reversed, and blocks that change places, by counted swaps.
+ghost use Rattle.std.specs.Prelude.{◌≡◌, ◌<◌, ◌≤◌, ◌+◌, ◌/◌, ◌*◌, ◌^◌, ◌++◌, length};
+ghost use Rattle.grid_base.specs.Blocks.{BlocksSwapped, PartReversed};
+ghost use Rattle.grid_base.specs.Tally.{saturating_count};
+
+use super::tally::{Swaps, swap_for_symmetry};
+use super::{Flat, Tally};
+use std::alloc::Allocator;
+
+impl<T, A: Allocator> Flat<T, A> {
+    /// Reverses the `n` cells from `start` on, by `n / 2` swaps for a symmetry.
+    ///
+    ///     [1, 2, 3, 4]   reverse_for_symmetry(1, 3)   [1, 4, 3, 2]   1 swap
+    ///
+    /// Requires: these cells are in range.
+    pub fn reverse_for_symmetry(&mut self, start: usize, n: usize, tally: &mut Tally)
+        requires within { start + n ≤ length self.old }
+        requires fits { start + n < 2 ^ 64 }
+        ensures cells { PartReversed start n self.old self.new }
+        ensures symmetry { tally.new.symmetry ≡ saturating_count tally.old.symmetry (n / 2) }
+        ensures shift { tally.new.shift ≡ tally.old.shift }
+    {
+        let (front, back) = self.cells.as_mut_slice().split_at_mut(start + (n - n / 2));
+        let swaps = swap_mirrored(front, start, back, n);
+        tally.take(swaps);
+    }
+
+    /// Exchanges the `n` cells from `i` on with those from `j` on, by `n` swaps for a symmetry.
+    ///
+    ///     [1, 2, 3, 4, 5]   swap_blocks_for_symmetry(0, 3, 2)   [4, 5, 3, 1, 2]   2 swaps
+    ///
+    /// Requires: both blocks are in range, and the second begins behind the first.
+    pub fn swap_blocks_for_symmetry(&mut self, i: usize, j: usize, n: usize, tally: &mut Tally)
+        requires apart { i + n ≤ j }
+        requires within { j + n ≤ length self.old }
+        requires fits { j + n < 2 ^ 64 }
+        ensures cells { BlocksSwapped i j n self.old self.new }
+        ensures symmetry { tally.new.symmetry ≡ saturating_count tally.old.symmetry n }
+        ensures shift { tally.new.shift ≡ tally.old.shift }
+    {
+        let (front, back) = self.cells.as_mut_slice().split_at_mut(j);
+        let swaps = swap_blocks(front, i, back, n);
+        tally.take(swaps);
+    }
+}
+
+// Exchanges the first of the `n` cells from `start` on with the last, the second with the last but one, and so on, where
+// the last `n / 2` of them stand at the start of the back part. Out of line the parts are two slices to the compiler,
+// which then makes vector code of the loop.
+#[inline(never)]
+fn swap_mirrored<T>(front: &mut [T], start: usize, back: &mut [T], n: usize) -> Swaps
+    requires parts { length front.old + n / 2 ≡ start + n }
+    requires within { n / 2 ≤ length back.old }
+    requires fits { start + n < 2 ^ 64 }
+    ensures cells { PartReversed start n (front.old ++ back.old) (front.new ++ back.new) }
+    ensures symmetry { result.for_symmetry ≡ n / 2 }
+    ensures shift { result.for_shift ≡ 0 }
+{
+    let mut swaps = Swaps::none();
+    let half = n / 2;
+    for k in 0..half {
+        swap_for_symmetry(front, start + k, back, half - 1 - k, &mut swaps);
+    }
+    swaps
+}
+
+// Exchanges the `n` cells from `i` on with the first ones of the back part. Out of line for the same reason.
+#[inline(never)]
+fn swap_blocks<T>(front: &mut [T], i: usize, back: &mut [T], n: usize) -> Swaps
+    requires i_in { i + n ≤ length front.old }
+    requires within { n ≤ length back.old }
+    requires fits { i + n < 2 ^ 64 }
+    ensures cells { BlocksSwapped i (length front.old) n (front.old ++ back.old)
+        (front.new ++ back.new) }
+    ensures symmetry { result.for_symmetry ≡ n }
+    ensures shift { result.for_shift ≡ 0 }
+{
+    let mut swaps = Swaps::none();
+    for k in 0..n {
+        swap_for_symmetry(front, i + k, back, k, &mut swaps);
+    }
+    swaps
+}

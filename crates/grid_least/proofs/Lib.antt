@@ -1,0 +1,9 @@
+pub mod OriginLemmas
+pub mod PigeonLemmas
+pub mod MirrorLemmas
+pub mod PassLemmas
+pub mod ImageLemmas
+pub mod CountLemmas
+pub mod ChainLemmas
+pub mod DeleteLemmas
+pub mod ColLemmas

@@ -1,0 +1,23 @@
+use Rattle.std.proofs.Common.{◌∙◌, sym, refl, true}
+use Rattle.grid.proofs.LineEditLemmas.{range_rows}
+use Rattle.grid.proofs.TransposedEditLemmas.{on_ok}
+use Rattle.grid_least.proofs.DeleteLemmas.{delete_is_least, grew_by_delete, on_ok3}
+use Rattle.grid_least.proofs.delete_rows_by_least.Goals as goal
+
+pub returns-clause-rows : goal.returns-clause-rows
+returns-clause-rows g c =
+    on_ok c.step.result
+    (λ r d. r d tt ∙ sym (range_rows d true c.args.start c.args.count c.args.grid.now.rows (λ _. c.requires.within, λ _. refl)))
+    c.step.ensures.rows
+
+pub returns-clause-least : goal.returns-clause-least
+returns-clause-least g c =
+    on_ok3 c.step.result
+    (λ r o s d u.
+    grew_by_delete _ _ _ _ c.args.start c.args.count _ _ c.size.ensures.table u c.requires.within
+    (r d tt ∙ sym (range_rows d true c.args.start c.args.count c.args.grid.now.rows (λ _. c.requires.within, λ _. refl)))
+    o s)
+    c.step.ensures.rows c.step.ensures.order c.step.ensures.shift
+
+pub returns-clause-law : goal.returns-clause-law
+returns-clause-law g c = λ t o i k h d within. delete_is_least o t i k h d within
