@@ -9,3 +9,4 @@ mod tokens;
 
 pub use fault::ScriptFault;
 pub use run::play;
+pub use script::Script;

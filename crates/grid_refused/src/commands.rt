@@ -1,9 +1,9 @@
 //! Commands whose memory is refused request by request, each as a step, and in runs at once and deferred.
 use crate::asserts::assert_shows;
 use grid::{Command, Grid, Order, Reply, RunStopped, Symmetry, Tally, run};
-use grid_deferred::run_deferred;
+use grid_deferred::{Deferred, run_deferred};
 use grid_reference::fuse::Fuse;
-use grid_support::fixtures::{Heap, ORDERS, order_after, starved_grid_of, table_of};
+use grid_support::fixtures::{Heap, ORDERS, SYMMETRIES, order_after, starved_grid_of, table_of};
 use std::alloc::{AllocError, Allocator, Global};
 use std::process::Abort;
 use std::test::Fail;
@@ -209,6 +209,53 @@ fn steps_refused_request_by_request(rt: HostRuntime) -> Result<(), Fail> {
     for order in ORDERS {
         for case in CASES {
             check_step(&rt, rt.alloc(), order, case)?;
+        }
+    }
+    Ok(())
+}
+
+// Whether a step on what is seen through a symmetry is refused where no request is granted, and leaves it pending.
+fn is_refused_deferred<'a>(
+    heap: &'a Heap,
+    grid: &mut Grid<u32, &'a Heap>,
+    kind: Kind,
+    symmetry: Symmetry,
+) -> Result<bool, AllocError> {
+    heap.grant(u64::MAX);
+    let command = command_of(heap, kind)?;
+    heap.grant(0);
+    let mut tally = Tally::new();
+    let mut deferred = Deferred::over(grid);
+    let applied = deferred.step(Command::Apply(symmetry), &mut tally).is_ok();
+    let refused = deferred.step(command, &mut tally).is_err();
+    Ok(deferred.release() == symmetry && applied && refused)
+}
+
+// Each command that takes memory is refused through each symmetry. The grid below is as before.
+fn check_refused_deferred(
+    rt: &impl Abort,
+    alloc: Global,
+    order: Order,
+    symmetry: Symmetry,
+) -> Result<(), Fail> {
+    let heap = Fuse::new(alloc, 0);
+    let before = table_of(alloc, BEFORE)?;
+    let mut grid = starved_grid_of(alloc, &heap, &before, order)?;
+    for (kind, _, _) in CASES {
+        assert!(rt;
+            is_refused_deferred(&heap, &mut grid, kind, symmetry)?,
+            "{kind:?} through {symmetry:?}"
+        );
+        assert_shows(rt, &grid, &before, order);
+    }
+    Ok(())
+}
+
+#[test]
+fn deferred_steps_refused_through_each_symmetry(rt: HostRuntime) -> Result<(), Fail> {
+    for order in ORDERS {
+        for symmetry in SYMMETRIES {
+            check_refused_deferred(&rt, rt.alloc(), order, symmetry)?;
         }
     }
     Ok(())

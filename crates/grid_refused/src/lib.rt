@@ -4,6 +4,8 @@
 #[cfg(test)]
 mod asserts;
 #[cfg(test)]
+mod carried;
+#[cfg(test)]
 mod clones;
 #[cfg(test)]
 mod commands;
@@ -11,6 +13,8 @@ mod commands;
 mod dropped;
 #[cfg(test)]
 mod fuse;
+#[cfg(test)]
+mod maps;
 #[cfg(test)]
 mod memory;
 #[cfg(test)]

@@ -4,9 +4,15 @@ ghost use Rattle.std.specs.Prelude.{◌≡◌, IsTrue, All, IfSome, length};
 ghost use Rattle.grid_base.specs.Table.{col_count, IsTable};
 ghost use Rattle.grid_base.specs.Gather.{items_of_each};
 
-use crate::edits::LineAt;
 use grid::{Grid, GridError, LineRefused, LinesRefused};
 use std::alloc::Allocator;
+
+// A place among the rows of a table, or among its columns.
+#[derive(Clone, Copy)]
+pub enum LineAt {
+    Row(usize),
+    Col(usize),
+}
 
 fn misfit<T, A: Allocator>(line: Vec<T, A>) -> LineRefused<T, A> {
     LineRefused {

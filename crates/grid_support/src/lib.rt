@@ -1,7 +1,6 @@
-//! What the tests share: tables and grids to start from, comparisons, and edits of plain tables.
+//! What the tests share: tables and grids to start from, comparisons, and calls that test their own conditions.
 #![tactic(auto)]
 
-pub mod edits;
 pub mod fitting;
 pub mod fixtures;
 pub mod reached;

@@ -1,5 +1,5 @@
 //! Whether a walk hands out what it should. Each goes through a walk to its end, and compares each step.
-use crate::edits::LineAt;
+use crate::fitting::LineAt;
 use grid::{Grid, GridLineIter, GridRowIter, IndexedIntoIter, IndexedIter};
 use grid_reference::plain;
 use std::alloc::{AllocError, Allocator};

@@ -2,7 +2,7 @@
 use crate::asserts::assert_shows;
 use grid::{Grid, GridRowIter, Order, Symmetry};
 use grid_reference::plain;
-use grid_support::edits::LineAt;
+use grid_support::fitting::LineAt;
 use grid_support::fixtures::{ORDERS, SIZES, grid_of, numbered, places_of, put_cell, shows_count};
 use grid_support::walks::{
     gives, gives_at, gives_back, lends_at, line_reads, lines_read, reads, reads_at, reads_back,

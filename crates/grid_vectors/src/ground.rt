@@ -21,11 +21,10 @@ fn check_swap(rt: &impl Abort, flat: &mut Flat<u32>) {
 // Swaps that are counted, on 3, 2 and 1.
 fn check_counted_swaps(rt: &impl Abort, flat: &mut Flat<u32>, tally: &mut Tally) {
     assert_eq!(rt; flat.len(), 3);
-    flat.swap_for_symmetry(0, 1, tally);
+    flat.reverse_for_symmetry(0, 2, tally);
     assert_eq!(rt; (tally.symmetry(), tally.shift()), (1, 0));
-    flat.swap_for_shift(1, 2, tally);
-    flat.swap_for_shift(2, 1, tally);
-    assert_eq!(rt; (tally.symmetry(), tally.shift()), (1, 2));
+    flat.swap_blocks_for_symmetry(0, 2, 1, tally);
+    assert_eq!(rt; (tally.symmetry(), tally.shift()), (2, 0));
 }
 
 #[test]
@@ -35,7 +34,7 @@ fn counts_swaps(rt: HostRuntime) -> Result<(), Fail> {
     check_swap(&rt, &mut flat);
     assert_eq!(rt; (tally.symmetry(), tally.shift()), (0, 0));
     check_counted_swaps(&rt, &mut flat, &mut tally);
-    assert_eq!(rt; flat.into_vec().as_slice(), [2, 3, 1].as_slice());
+    assert_eq!(rt; flat.into_vec().as_slice(), [1, 3, 2].as_slice());
     Ok(())
 }
 

@@ -1,7 +1,9 @@
 //! Laws, and callers whose contracts rest on them, each run once.
+use crate::asserts::{Rows, assert_rows, grid_with};
 use grid::{Grid, Order, Symmetry, Tally};
 use grid_base::laws as symmetry_laws;
 use grid_callers::chains::*;
+use grid_support::fixtures::ORDERS;
 use std::process::Abort;
 use std::test::Fail;
 
@@ -9,6 +11,8 @@ use std::test::Fail;
 const TURNED: Symmetry = Symmetry::RotateLeft;
 
 const FLIPPED: Symmetry = Symmetry::FlipRows;
+
+const WIDE: Rows = &[&[1, 2, 3], &[4, 5, 6]];
 
 #[test]
 fn joins_and_undoes_symmetries(rt: HostRuntime) -> Result<(), Fail> {
@@ -76,5 +80,45 @@ fn writes_columns_out(rt: HostRuntime) -> Result<(), Fail> {
     let by_columns = written_by_columns(rt.alloc())?;
     assert_eq!(rt; by_columns.order(), Order::ColumnMajor);
     assert_eq!(rt; by_columns.flatten(), [1, 4, 2, 5, 3, 6].as_slice());
+    Ok(())
+}
+
+// The calls that leave a grid as it was, and two flips that turn it by a half.
+#[test]
+fn keeps_what_is_turned_back(rt: HostRuntime) -> Result<(), Fail> {
+    for order in ORDERS {
+        let mut grid = grid_laws::rebuilt(grid_with(rt.alloc(), WIDE, order)?);
+        grid_laws::rotate_right_then_left(&mut grid);
+        grid_laws::rotate_left_four_times(&mut grid);
+        assert_rows(&rt, rt.alloc(), &grid, WIDE, order)?;
+        grid_laws::flip_rows_then_cols(&mut grid);
+        assert_rows(&rt, rt.alloc(), &grid, &[&[6, 5, 4], &[3, 2, 1]], order)?;
+    }
+    Ok(())
+}
+
+#[test]
+fn pops_what_was_pushed(rt: HostRuntime) -> Result<(), Fail> {
+    let mut grid = grid_with(rt.alloc(), WIDE, Order::ColumnMajor)?;
+    let line = vec![in rt.alloc(); 7, 8, 9]?;
+    assert!(rt; grid.fits_row(line.len()));
+    match grid_laws::push_row_then_pop_row(&mut grid, line) {
+        Ok(Ok(Some(popped))) => assert_eq!(rt; popped.as_slice(), [7, 8, 9].as_slice()),
+        _ => panic!(rt; "there is memory, and a row"),
+    }
+    assert_rows(&rt, rt.alloc(), &grid, WIDE, Order::ColumnMajor)
+}
+
+#[test]
+fn puts_a_column_as_a_row_across(rt: HostRuntime) -> Result<(), Fail> {
+    let mut grid: Grid<u32> = Grid::empty(rt.alloc());
+    let mut other: Grid<u32> = Grid::empty(rt.alloc());
+    let line = vec![in rt.alloc(); 1, 2, 3]?;
+    let same = vec![in rt.alloc(); 1, 2, 3]?;
+    match grid_laws::insert_col_or_row_across(&mut grid, &mut other, 0, line, same) {
+        (Ok(()), Ok(())) => {}
+        _ => panic!(rt; "there is memory"),
+    }
+    assert_eq!(rt; (grid.size(), other.size()), ((3, 1), (3, 1)));
     Ok(())
 }

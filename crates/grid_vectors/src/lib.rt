@@ -8,10 +8,16 @@ mod callers;
 #[cfg(test)]
 mod chains;
 #[cfg(test)]
+mod deferred;
+#[cfg(test)]
 mod flat;
 #[cfg(test)]
 mod ground;
 #[cfg(test)]
+mod json;
+#[cfg(test)]
 mod laws;
+#[cfg(test)]
+mod run_laws;
 #[cfg(test)]
 mod worked;

@@ -6,7 +6,6 @@ mod conversions;
 mod edits;
 mod makers;
 mod moves;
-mod runs;
 mod texts;
 mod traits;
 mod walks;

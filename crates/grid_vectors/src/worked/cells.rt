@@ -2,8 +2,7 @@
 use crate::asserts::assert_stored;
 use grid::Order::{ColumnMajor, RowMajor};
 use grid::{Grid, GridError, Order};
-use grid_support::edits::LineAt;
-use grid_support::fitting::{insert, insert_several, push_row};
+use grid_support::fitting::{LineAt, insert, insert_several, push_row};
 use grid_support::fixtures::{ORDERS, joined_texts};
 use std::alloc::{AllocError, Global};
 use std::process::Abort;

@@ -2,8 +2,7 @@
 use crate::asserts::{Rows, assert_rows, assert_stored, grid_with};
 use grid::Order::{ColumnMajor, RowMajor};
 use grid::{Grid, GridError, LineRefused, LinesRefused, Order};
-use grid_support::edits::LineAt;
-use grid_support::fitting::{insert, insert_several, push_col, push_row};
+use grid_support::fitting::{LineAt, insert, insert_several, push_col, push_row};
 use grid_support::fixtures::{ORDERS, stored, table_of};
 use std::alloc::{AllocError, Global};
 use std::process::Abort;

@@ -1,5 +1,5 @@
 //! Constructors and the macros.
-use crate::asserts::{assert_made, assert_refused};
+use crate::asserts::{assert_made, assert_refused, assert_stored};
 use grid::Order::{ColumnMajor, RowMajor};
 use grid::{Grid, GridError, grid, grid_cm};
 use std::test::Fail;
@@ -124,5 +124,30 @@ fn texts_written_out(rt: HostRuntime) -> Result<(), Fail> {
     let made = grid_cm!(alloc; [String::from_str(alloc, "a")?, String::new(alloc)])?;
     assert_eq!(rt; made.size(), (1, 2));
     assert_eq!(rt; made.get(0, 0).map(|text| text.as_str()), Some("a"));
+    Ok(())
+}
+
+#[test]
+fn new_and_two_writes(rt: HostRuntime) -> Result<(), Fail> {
+    let mut grid: Grid<u8> = Grid::new(rt.alloc(), 1, 2)?;
+    if let Some(cell) = grid.get_mut(0, 0) {
+        *cell = 1;
+    }
+    if let Some(cell) = grid.get_mut(0, 1) {
+        *cell = 2;
+    }
+    assert_stored(&rt, &grid, (1, 2), RowMajor, &[1, 2]);
+    Ok(())
+}
+
+#[test]
+fn new_and_filled_by_a_closure(rt: HostRuntime) -> Result<(), Fail> {
+    let mut grid: Grid<u32> = Grid::new(rt.alloc(), 2, 2)?;
+    let mut count = 0u32;
+    grid.fill_with(|| {
+        count = count.wrapping_add(1);
+        count
+    });
+    assert_stored(&rt, &grid, (2, 2), RowMajor, &[1, 2, 3, 4]);
     Ok(())
 }

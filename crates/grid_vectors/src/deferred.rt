@@ -1,10 +1,15 @@
-//! A grid seen through what is pending.
-use crate::ground::{BOARD, ORDERS, WIDE, assert_rows, cut, grid_with};
-use grid::{Command, Grid, Order, Reply, ShapeError, Symmetry, Tally};
-use grid_deferred::Deferred;
+//! A grid seen through what is pending, and replies carried back.
+use crate::asserts::{Rows, assert_rows, grid_with};
+use grid::{Axis, Command, Grid, Order, Reply, ShapeError, Symmetry, Tally};
+use grid_deferred::{Deferred, carry_reply};
+use grid_support::fixtures::{ORDERS, cut};
 use std::alloc::{AllocError, Global};
 use std::process::Abort;
 use std::test::Fail;
+
+const BOARD: Rows = &[&[1, 2], &[3, 4]];
+
+const WIDE: Rows = &[&[1, 2, 3], &[4, 5, 6]];
 
 fn row_is(deferred: &Deferred<'_, u32>, at: usize, want: &[u32]) -> bool {
     let (rows, _) = deferred.size();
@@ -70,8 +75,7 @@ fn check_reads(rt: &impl Abort, alloc: Global, order: Order) -> Result<(), Fail>
         (Symmetry::AntiTranspose, Symmetry::AntiTranspose)
     );
     assert_eq!(rt; tally.symmetry(), 0);
-    assert_rows(rt, &grid, WIDE, order);
-    Ok(())
+    assert_rows(rt, alloc, &grid, WIDE, order)
 }
 
 #[test]
@@ -104,8 +108,7 @@ fn check_base(rt: &impl Abort, alloc: Global, order: Order) -> Result<(), Fail> 
         (pending, released),
         (Symmetry::FlipRows, Symmetry::FlipRows)
     );
-    assert_rows(rt, &grid, &[&[5, 6], &[1, 2], &[3, 4]], order);
-    Ok(())
+    assert_rows(rt, alloc, &grid, &[&[5, 6], &[1, 2], &[3, 4]], order)
 }
 
 #[test]
@@ -235,5 +238,31 @@ fn walks_over_turned_texts_are_dropped_early(rt: HostRuntime) -> Result<(), Fail
         assert!(rt; turned && walked && grid == same);
         assert_eq!(rt; (released, grid.order()), (Symmetry::RotateLeft, order));
     }
+    Ok(())
+}
+
+fn check_reply(
+    rt: &impl Abort,
+    symmetry: Symmetry,
+    axis: Axis,
+    reply: Reply<u32>,
+    want: &Reply<u32>,
+) {
+    assert_eq!(rt; &carry_reply(symmetry, axis, reply), want);
+}
+
+#[test]
+fn replies_are_carried_back(rt: HostRuntime) -> Result<(), Fail> {
+    let want = Reply::Size(3, 2);
+    check_reply(
+        &rt,
+        Symmetry::RotateLeft,
+        Axis::Row,
+        Reply::Size(2, 3),
+        &want,
+    );
+    let line = Reply::Line(Some(vec![in rt.alloc(); 2, 1]?));
+    let given = Reply::Line(Some(vec![in rt.alloc(); 1, 2]?));
+    check_reply(&rt, Symmetry::FlipCols, Axis::Row, given, &line);
     Ok(())
 }

@@ -1,12 +1,11 @@
-//! Memory that is refused cell by cell.
+//! JSON whose memory is refused cell by cell.
 ghost use Rattle.std.specs.Prelude.{◌^◌, pos};
 ghost use Rattle.grid_json.specs.Content.{whole, unsigned_content};
 
-use crate::refusals::refusal;
 use grid::Grid;
-use grid_json::{Cell, ReadError, to_value};
+use grid_json::{Cell, ReadError, from_value, to_value};
 use serde_json::Value;
-use std::alloc::{AllocError, Global};
+use std::alloc::{AllocError, AllocFailed, Global};
 use std::process::Abort;
 use std::test::Fail;
 
@@ -67,6 +66,15 @@ fn refused_at_each_cell_that_is_written(rt: HostRuntime) -> Result<(), Fail> {
     Ok(())
 }
 
+// Why a text is no grid of such cells.
+fn refusal<T: Cell>(alloc: Global, text: &str) -> Result<Option<ReadError>, Fail> {
+    let value = Value::from_str(alloc, text)?;
+    match from_value::<T>(alloc, &value) {
+        Ok(_) => Ok(None),
+        Err(refused) => Ok(Some(refused)),
+    }
+}
+
 const TEXTS: [&str; 4] = [
     "[2,[13,2,3,4]]",
     "[2,[1,13,3,4]]",
@@ -93,5 +101,14 @@ fn faults_before_the_refused_cell(rt: HostRuntime) -> Result<(), Fail> {
     assert_eq!(rt; early, Some(ReadError::BadCell(0)));
     let late = refusal::<Scarce>(rt.alloc(), "[-1,[13]]")?;
     assert_eq!(rt; late, Some(ReadError::BadCols));
+    Ok(())
+}
+
+#[test]
+fn refused_memory(rt: HostRuntime) -> Result<(), Fail> {
+    assert_eq!(rt; ReadError::from(AllocError), ReadError::Memory);
+    let refused = ReadError::from(AllocFailed { value: 7u8 });
+    assert_eq!(rt; refused, ReadError::Memory);
+    assert_eq!(rt; refused.to_string(rt.alloc())?.as_str(), "out of memory");
     Ok(())
 }
