@@ -1,5 +1,5 @@
 //! Runs of commands.
-ghost use Rattle.std.specs.Prelude.{IfOk, IfErr, map, take};
+ghost use Rattle.std.specs.Prelude.{◌≤◌, IfOk, IfErr, map, take};
 ghost use Rattle.grid_commands.specs.Command.{command_value};
 ghost use Rattle.grid_commands.specs.Reply.{reply_value};
 ghost use Rattle.grid.specs.Run.{Ran, MayStop};
@@ -36,6 +36,8 @@ where
         grid.old grid.new tally.old tally.new (map reply_value stop.replies.items)) }
     ensures stop { IfErr result
         (λ stop. MayStop (map command_value commands.items) stop.done grid.new.rows) }
+    ensures symmetry_grows { tally.old.symmetry ≤ tally.new.symmetry }
+    ensures shift_grows { tally.old.shift ≤ tally.new.shift }
 {
     let mut replies = Vec::new(alloc);
     if replies.reserve_exact(commands.len()).is_err() {

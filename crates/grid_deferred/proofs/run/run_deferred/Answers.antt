@@ -31,6 +31,7 @@ loop-command-init g c =
       name = refl;
       symmetry = refl;
       going = rw (c.over-deferred.ensures.base, c.over-deferred.ensures.pending, none) (going_none _ _ _ _ c.args.grid.now.table (act-identity _ c.args.grid.now.table));
+      shift_grows = omega arith;
       count = c.reserve_exact.ensures.len ∙ c.new-replies.ensures.len;
       room = let room = on_ok _ _ (sym c.is_err.ensures.value ∙ c.if-is_err.false) c.reserve_exact.ensures.ok in omega (arith, room, c.len.ensures);
     }
@@ -52,6 +53,7 @@ loop-command-preserved g c =
           (going_more _ _ _ (command_value c.in-Some.command) _ _ _ _ _ _ _ _ _ _ i.going c.step.ensures.table c.step.ensures.order e.rows e.pending e.shift
           (one_more reply_value _ _ _ p.items)
           (λ same. ap (map reply_value) p.items ∙ (map-append reply_value _ _ ∙ ap (λ x. map reply_value c.loop-command.replies.items ++ x ∷ []) (e.reply same))));
+      shift_grows = omega (arith, e.shift, i.shift_grows);
       count = grind (arith, p.len, i.count, length-append);
       room = grind (arith, p.capacity, i.room);
     }

@@ -15,6 +15,7 @@ invariant-loop-command g l = record {
   name : lender l.deferred ≡ lender l.initial.deferred;
   symmetry : l.tally.symmetry ≡ l.fn.tally.symmetry;
   going : Going g.T.Clone.is_clone g.T.Default.is_default (map command_value l.yielded) l.fn.grid (base l.deferred) (pending l.deferred) l.fn.tally.shift l.tally.shift (map reply_value l.replies.items);
+  shift_grows : l.fn.tally.shift ≤ l.tally.shift;
   count : vec_len l.replies ≡ length l.yielded;
   room : length l.fn.commands.items ≤ vec_capacity l.replies;
 }

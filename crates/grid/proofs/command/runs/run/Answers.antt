@@ -27,6 +27,8 @@ loop-command-init g c = record {
   finite = tt;
   rest = c.into_iter-command-iterator.ensures.into_iter_gives.0;
   running = rw (c.reserve_exact.ensures.items, c.new-replies.ensures.items) (running_none _ _ _ _);
+  symmetry_grows = omega arith;
+  shift_grows = omega arith;
   count = c.reserve_exact.ensures.len ∙ c.new-replies.ensures.len;
   room = let room = on_ok _ _ (sym c.is_err.ensures.value ∙ c.if-is_err.false) c.reserve_exact.ensures.ok in omega (arith, room, c.len.ensures);
 }
@@ -55,6 +57,8 @@ loop-command-preserved g c =
           (one_more reply_value _ _ _ p.items)
           (λ same. ap (map reply_value) p.items ∙ (map-append reply_value _ _ ∙ ap (λ x. map reply_value c.loop-command.replies.items ++ x ∷ []) (e.reply same)))
           e.order e.symmetry e.shift);
+      symmetry_grows = omega (arith, e.symmetry, i.symmetry_grows);
+      shift_grows = omega (arith, e.shift, i.shift_grows);
       count = grind (arith, p.len, i.count, length-append);
       room = grind (arith, p.capacity, i.room);
     }

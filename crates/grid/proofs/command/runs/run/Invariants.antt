@@ -12,6 +12,8 @@ invariant-loop-command g l = record {
   finite : (goal.iterator-loop-command g).is_finite l.command-iterator;
   rest : l.yielded ++ into_iter_items l.command-iterator ≡ l.fn.commands.items;
   running : Running g.T.Clone.is_clone g.T.Default.is_default (map command_value l.yielded) l.fn.grid l.grid l.fn.tally l.tally (map reply_value l.replies.items);
+  symmetry_grows : l.fn.tally.symmetry ≤ l.tally.symmetry;
+  shift_grows : l.fn.tally.shift ≤ l.tally.shift;
   count : vec_len l.replies ≡ length l.yielded;
   room : length l.fn.commands.items ≤ vec_capacity l.replies;
 }
