@@ -130,7 +130,7 @@ fn transposes_deletes_and_pushes(rt: HostRuntime) -> Result<(), Fail> {
     let mut grid = grid_with(rt.alloc(), &[&[1, 2]], Order::RowMajor)?;
     let _ = check_list(&rt, rt.alloc(), &mut grid, TRANSPOSE_DELETE_PUSH)?;
     assert_rows(&rt, &grid, &[&[7, 8, 9]], Order::ColumnMajor);
-    assert_eq!(rt; grid.flatten(), [7, 8, 9].as_slice());
+    assert_eq!(rt; grid.flatten().as_slice(), [7, 8, 9].as_slice());
     Ok(())
 }
 

@@ -51,6 +51,6 @@ fn expands_through_a_turn(rt: HostRuntime) -> Result<(), Fail> {
     commands.push(Command::ExpandRows(1))?;
     check_run(&rt, alloc, &mut grid, commands, (4, 6));
     assert_eq!(rt; (grid.size(), grid.order()), ((4, 2), Order::ColumnMajor));
-    assert_eq!(rt; grid.flatten(), [3, 2, 1, 0, 6, 5, 4, 0].as_slice());
+    assert_eq!(rt; grid.flatten().as_slice(), [3, 2, 1, 0, 6, 5, 4, 0].as_slice());
     Ok(())
 }

@@ -51,7 +51,7 @@ fn check_read(
 ) -> Result<(), Fail> {
     let grid: Grid<u8> = read(alloc, text)?;
     assert_eq!(rt; (grid.size(), grid.order()), (size, order), "{text}");
-    assert_eq!(rt; grid.flatten(), cells, "{text}");
+    assert_eq!(rt; grid.flatten().as_slice(), cells, "{text}");
     Ok(())
 }
 

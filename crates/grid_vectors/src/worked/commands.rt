@@ -315,7 +315,7 @@ fn check_shift(
     let mut tally = Tally::new();
     let reply = grid.step(plain_command(plain), &mut tally)?;
     assert!(rt; is_wanted(&reply, want), "{reply:?} is not {want:?}");
-    assert_eq!(rt; grid.flatten(), after);
+    assert_eq!(rt; grid.flatten().as_slice(), after);
     assert_eq!(rt; (tally.symmetry(), tally.shift()), (0, count));
     Ok(())
 }

@@ -203,7 +203,7 @@ fn symmetries_count_no_shifts(rt: HostRuntime) -> Result<(), Fail> {
     ]?;
     let mut tally = Tally::new();
     let _ = run(alloc, &mut grid, commands, &mut tally);
-    assert_eq!(rt; grid.flatten(), [1, 2, 3, 4, 5, 6].as_slice());
+    assert_eq!(rt; grid.flatten().as_slice(), [1, 2, 3, 4, 5, 6].as_slice());
     assert_eq!(rt; (tally.symmetry(), tally.shift()), (4, 0));
     Ok(())
 }
