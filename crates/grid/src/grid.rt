@@ -2,7 +2,7 @@
 ghost use Rattle.std.specs.Prelude.{◌≡◌, ◌≢◌, ◌*◌, ◌^◌, ◌<◌, ◌↔◌, [], length, IsTrue, IfSome, MatchOption, Some, is_some};
 ghost use Rattle.std.specs.Borrow.{sem};
 ghost use Rattle.std.specs.Option.{option_copied};
-ghost use Rattle.grid_base.specs.Table.{row_count, col_count, cell, with_cell, exchanged, InRange, IsTable};
+ghost use Rattle.grid_base.specs.Table.{row_count, col_count, cell, with_cell, exchanged, InRange};
 ghost use Rattle.grid.specs.Edits.{FitsRow, FitsCol};
 ghost use Rattle.grid_base.specs.GridValue.{HoldsSize};
 ghost use Rattle.grid_base.specs.Order.{storage, place, CanCut};
@@ -80,7 +80,6 @@ impl<T, A: Allocator> Grid<T, A> {
     pub fn from_vec(vec: Vec<T, A>, cols: usize) -> Grid<T, A>
         requires { CanCut (length vec.items) cols }
         ensures order { result.order ≡ Order.RowMajor }
-        ensures table { IsTable result.rows }
         ensures storage { storage Order.RowMajor result.rows ≡ vec.items }
         ensures cols { length vec.items ≢ 0 → col_count result.rows ≡ cols }
     {
@@ -93,7 +92,6 @@ impl<T, A: Allocator> Grid<T, A> {
     pub fn from_vec_with_order(vec: Vec<T, A>, cols: usize, order: Order) -> Grid<T, A>
         requires { CanCut (length vec.items) cols }
         ensures order { result.order ≡ order }
-        ensures table { IsTable result.rows }
         ensures storage { storage order result.rows ≡ vec.items }
         ensures cols { length vec.items ≢ 0 → col_count result.rows ≡ cols }
     {
@@ -112,7 +110,6 @@ impl<T, A: Allocator> Grid<T, A> {
     pub fn size(&self) -> (usize, usize)
         ensures rows { result.0 ≡ row_count self.now.rows }
         ensures cols { result.1 ≡ col_count self.now.rows }
-        ensures table { IsTable self.now.rows }
         ensures below { row_count self.now.rows * col_count self.now.rows < 2 ^ 64 }
     {
         (self.row_count, self.col_count)
@@ -128,7 +125,6 @@ impl<T, A: Allocator> Grid<T, A> {
     ///     [[1, 2, 3], [4, 5, 6]]   rows()   2
     pub fn rows(&self) -> usize
         ensures rows { result ≡ row_count self.now.rows }
-        ensures table { IsTable self.now.rows }
     {
         self.row_count
     }
@@ -138,7 +134,6 @@ impl<T, A: Allocator> Grid<T, A> {
     ///     [[1, 2, 3], [4, 5, 6]]   cols()   3
     pub fn cols(&self) -> usize
         ensures cols { result ≡ col_count self.now.rows }
-        ensures table { IsTable self.now.rows }
     {
         self.col_count
     }
