@@ -6,17 +6,18 @@ use Rattle.std.proofs.lemmas.Option.{unwrap_or-slice_get}
 use Rattle.std.proofs.Math.Nat.{mul_comm}
 use denote.Ref.{Bor}
 use Rattle.grid_base.specs.declared.flat.order.Order.{Order}
-use Rattle.grid_base.specs.Table.{row_count, col_count, cell, InRange, IsTable, tabulate}
+use Rattle.grid_base.specs.Table.{row_count, col_count, cell, InRange, IsSize, IsTable, tabulate}
 use Rattle.grid_base.specs.Order.{table_of, place}
 use Rattle.grid_base.specs.Places.{places}
-use Rattle.grid_base.specs.ClosureCalls.{PairsUp, CallableAtCells, ReturnsAtCell}
+use Rattle.grid_base.specs.ClosureCalls.{PairsUp, CallableAtCells, CallableAtItems, ReturnsAtCell}
 use Rattle.grid_base.specs.GridValue.{GridValue, HoldsSize}
 use Rattle.grid_base.proofs.TableLemmas.{IsFull, tabulate-same}
 use Rattle.grid_base.proofs.StorageLemmas.{place_within, has_place}
 use Rattle.grid_base.proofs.PlaceLemmas.{get-places, length-places}
 use Rattle.grid_base.proofs.WalkLemmas.{zip_within}
-use Rattle.grid_base.proofs.ViewLemmas.{view-cell}
+use Rattle.grid_base.proofs.ViewLemmas.{view-rows, view-cols, view-table, view-cell}
 use Rattle.grid.specs.AllCells.{CallableAtPlaces, TabulatedBy}
+use Rattle.grid.specs.Make.{HasSize, IsMade, CallableOver, TabulatedOver}
 use Rattle.grid_base.proofs.ViewLemmas.{grid_value}
 use Rattle.grid.proofs.SeenLemmas.{seen_rows, seen_cols}
 
@@ -116,3 +117,35 @@ module _ {A : Type 0} (o : Order) (m n : ℕ) (cells : List A) (v : GridValue A)
         let full : IsFull m n g = record { full = λ r c lr lc. let w = called r c lr lc in ap is_some (by r c w.p w.y (seen_in r c lr lc) w.old w.says) } in
         let made : table_of o m n news ≡ tabulate m n g = tabulate-same m n (λ r c. slice_get news (place o m n r c)) g (λ r c lr lc. sym (same r c lr lc)) full in
         made ∙ (ap (λ x. tabulate x n g) (sym (seen_rows o m n cells v h e)) ∙ ap (λ x. tabulate (row_count v.rows) x g) (sym (seen_cols o m n cells v h e)))
+
+module _ (o : Order) (m n : ℕ) (z : IsSize m n) where
+  -- a closure that can be called at each place can be called along the places
+  pub callable_places : {F : Type 0} (takes : F → ℕ × ℕ → Type 0) (f : F) → m < 2 ^ 64 → n < 2 ^ 64 → m * n < 2 ^ 64 → CallableOver takes f m n → CallableAtItems takes f (places o m n)
+  callable_places {F} takes f rows cols below can = record {
+    at = λ k at lt is.
+        let w = has_place o m n k (omega (arith, length-places o m n z)) in
+        let there : slice_get (places o m n) k ≡ Some (w.r, w.c) = ap (slice_get (places o m n)) (sym w.is) ∙ get-places o m n w.r w.c z w.lr w.lc in
+        let same : at ≡ (w.r, w.c) = is ∙ (sym (unwrap_or-slice_get (places o m n) k at) ∙ ap (λ x. unwrap_or x at) there) in
+        subst (takes f) (sym same) (can w.r w.c w.lr w.lc rows cols below);
+  }
+
+  -- the table of answers along the places is what they determine
+  pub answers_tabulated : {F T : Type 0} (returns : F → ℕ × ℕ → T → Type 0) (f : F) (cells : List T) → PairsUp (returns f) (places o m n) cells → TabulatedOver returns f m n (table_of o m n cells)
+  answers_tabulated {T = T} returns f cells a h by _ _ =
+      let called : (r c : ℕ) → r < m → c < n → AnswerAt (returns f) (r, c) cells (place o m n r c) =
+      λ r c lr lc. answer_at (returns f) (places o m n) cells (place o m n r c) (r, c) a.places (get-places o m n r c z lr lc) in
+      let given : (r c : ℕ) (lr : r < m) (lc : c < n) → h r c ≡ Some (called r c lr lc).y = λ r c lr lc. by r c (called r c lr lc).y lr lc (called r c lr lc).by in
+      let full : IsFull m n h = record { full = λ r c lr lc. ap is_some (given r c lr lc) } in
+      tabulate-same m n (λ r c. slice_get cells (place o m n r c)) h (λ r c lr lc. (called r c lr lc).is ∙ sym (given r c lr lc)) full
+
+-- a grid of the size that was asked for
+pub seen_made : {T : Type 0} (o : Order) (m n : ℕ) (cells : List T) (h : HoldsSize m n (length cells)) → 0 < m → 0 < n → IsMade o m n (grid_value o m n cells h)
+seen_made o m n cells h some_rows some_cols = record {
+  order = refl;
+  table = view-table o m n cells h;
+  size = record {
+    none = λ e. absurd (omega (arith, mul_grows m n some_cols));
+    rows = λ _. view-rows o m n cells h;
+    cols = λ _. view-cols o m n cells h;
+  };
+}

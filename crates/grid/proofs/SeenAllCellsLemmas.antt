@@ -3,12 +3,12 @@ use Rattle.std.proofs.Common.{◌≡◌, ℕ, zero, suc, ◌*◌, ◌<◌, List,
 use Rattle.std.specs.List.{slice_get}
 use Rattle.std.proofs.lemmas.List.{get_or-map, length-map}
 use Rattle.grid_base.specs.declared.flat.order.Order.{Order}
-use Rattle.grid_base.specs.Table.{row, row_count, col_count, IsTable}
+use Rattle.grid_base.specs.Table.{row, row_count, col_count}
 use Rattle.grid_base.specs.Order.{table_of, storage, place}
 use Rattle.grid_base.specs.GridValue.{GridValue, HoldsSize}
 use Rattle.grid_base.proofs.TableLemmas.{same_tables, width-tabulate}
 use Rattle.grid_base.proofs.StorageLemmas.{IsFull-table_of, place_within}
-use Rattle.grid_base.proofs.ViewLemmas.{grid_value, view-rows, view-cols, view-table, view-storage, view-cell}
+use Rattle.grid_base.proofs.ViewLemmas.{grid_value, view-rows, view-cols, view-storage, view-cell}
 use Rattle.grid.specs.AllCells.{filled}
 use Rattle.grid.proofs.SeenLemmas.{seen_rows, seen_cols}
 
@@ -22,9 +22,6 @@ module _ {T U : Type 0} (o : Order) (m n : ℕ) (cells : List T) (news : List U)
 
   pub whole_cols : col_count (table_of o m n news) ≡ col_count v.rows
   whole_cols = view-cols o m n news fits ∙ sym (seen_cols o m n cells v h e)
-
-  pub whole_table : IsTable (table_of o m n news)
-  whole_table = view-table o m n news fits
 
   pub whole_cells : storage o (table_of o m n news) ≡ news
   whole_cells = view-storage o m n news fits

@@ -2,7 +2,7 @@
 ghost use Rattle.std.specs.Prelude.{◌≡◌, ◌≢◌, ◌*◌, ◌^◌, ◌<◌, ◌↔◌, [], length, IsTrue, IfSome, MatchOption, Some, is_some};
 ghost use Rattle.std.specs.Borrow.{sem};
 ghost use Rattle.std.specs.Option.{option_copied};
-ghost use Rattle.grid_base.specs.Table.{row_count, col_count, cell, with_cell, exchanged, InRange, IsTable};
+ghost use Rattle.grid_base.specs.Table.{row_count, col_count, cell, with_cell, exchanged, InRange};
 ghost use Rattle.grid.specs.Edits.{FitsRow, FitsCol};
 ghost use Rattle.grid_base.specs.GridValue.{HoldsSize};
 ghost use Rattle.grid_base.specs.Order.{storage, place, CanCut};
@@ -80,7 +80,6 @@ impl<T, A: Allocator> Grid<T, A> {
     pub fn from_vec(vec: Vec<T, A>, cols: usize) -> Grid<T, A>
         requires { CanCut (length vec.items) cols }
         ensures order { result.order ≡ Order.RowMajor }
-        ensures table { IsTable result.rows }
         ensures storage { storage Order.RowMajor result.rows ≡ vec.items }
         ensures cols { length vec.items ≢ 0 → col_count result.rows ≡ cols }
     {
@@ -93,7 +92,6 @@ impl<T, A: Allocator> Grid<T, A> {
     pub fn from_vec_with_order(vec: Vec<T, A>, cols: usize, order: Order) -> Grid<T, A>
         requires { CanCut (length vec.items) cols }
         ensures order { result.order ≡ order }
-        ensures table { IsTable result.rows }
         ensures storage { storage order result.rows ≡ vec.items }
         ensures cols { length vec.items ≢ 0 → col_count result.rows ≡ cols }
     {
@@ -112,7 +110,6 @@ impl<T, A: Allocator> Grid<T, A> {
     pub fn size(&self) -> (usize, usize)
         ensures rows { result.0 ≡ row_count self.now.rows }
         ensures cols { result.1 ≡ col_count self.now.rows }
-        ensures table { IsTable self.now.rows }
         ensures below { row_count self.now.rows * col_count self.now.rows < 2 ^ 64 }
     {
         (self.row_count, self.col_count)
@@ -128,7 +125,6 @@ impl<T, A: Allocator> Grid<T, A> {
     ///     [[1, 2, 3], [4, 5, 6]]   rows()   2
     pub fn rows(&self) -> usize
         ensures rows { result ≡ row_count self.now.rows }
-        ensures table { IsTable self.now.rows }
     {
         self.row_count
     }
@@ -138,7 +134,6 @@ impl<T, A: Allocator> Grid<T, A> {
     ///     [[1, 2, 3], [4, 5, 6]]   cols()   3
     pub fn cols(&self) -> usize
         ensures cols { result ≡ col_count self.now.rows }
-        ensures table { IsTable self.now.rows }
     {
         self.col_count
     }
@@ -197,6 +192,7 @@ impl<T, A: Allocator> Grid<T, A> {
             (lends_cell_if T.row A.row A.Allocator self.entry row col result) }
         ensures variant { is_some result ≡ is_some (cell self.old.rows row col) }
         ensures item { IfSome result (λ x. cell self.old.rows row col ≡ Some x.now) }
+        ensures in_range { IfSome result (λ _. InRange self.old.rows row col) }
     {
         let (rows, cols) = self.size();
         if row < rows && col < cols {
@@ -235,15 +231,24 @@ impl<T, A: Allocator> Grid<T, A> {
         self.flat.at_mut(place)
     }
 
-    /// Puts a value in a row and a column, and returns the cell that was there, or `None` out of range, where nothing
-    /// changes and the value is dropped.
+    /// Writes a cell, and returns the one that was there. Returns `None` exactly out of range, where nothing changes and
+    /// the value is dropped.
+    ///
+    ///     [[1, 2], [3, 4]]   set(1, 0, 9)   Some(3)   [[1, 2], [9, 4]]
+    ///     [[1, 2], [3, 4]]   set(2, 0, 9)   None      [[1, 2], [3, 4]]
+    ///
+    /// Cost: constant; no memory.
     pub fn set(&mut self, row: usize, col: usize, value: T) -> Option<T>
     where
         T: Drop,
+        ensures cell { result ≡ cell self.old.rows row col }
+        ensures in_range { MatchOption result
+            (InRange self.old.rows row col → ⊥) (λ _. InRange self.old.rows row col) }
         ensures rows { MatchOption result (self.new.rows ≡ self.old.rows)
             (λ _. self.new.rows ≡ with_cell self.old.rows row col value) }
+        ensures row_count { row_count self.new.rows ≡ row_count self.old.rows }
+        ensures col_count { col_count self.new.rows ≡ col_count self.old.rows }
         ensures order { self.new.order ≡ self.old.order }
-        ensures size { row_count self.new.rows ≡ row_count self.old.rows }
     {
         let (rows, cols) = self.size();
         if row < rows && col < cols {
@@ -263,6 +268,8 @@ impl<T, A: Allocator> Grid<T, A> {
         requires a_in { InRange self.old.rows a.0 a.1 }
         requires b_in { InRange self.old.rows b.0 b.1 }
         ensures rows { self.new.rows ≡ exchanged self.old.rows a b }
+        ensures row_count { row_count self.new.rows ≡ row_count self.old.rows }
+        ensures col_count { col_count self.new.rows ≡ col_count self.old.rows }
         ensures order { self.new.order ≡ self.old.order }
     {
         let i = place(self.order, self.row_count, self.col_count, a.0, a.1);
@@ -284,15 +291,15 @@ impl<T, A: Allocator> Grid<T, A> {
         self.col_count = 0;
     }
 
-    /// Returns the cells in storage order.
+    /// Returns the vector of the cells, in storage order.
     ///
     ///     [[1, 2, 3], [4, 5, 6]]   flatten()   row-major [1, 2, 3, 4, 5, 6], column-major [1, 4, 2, 5, 3, 6]
     ///
     /// Cost: constant.
-    pub fn flatten(&self) -> &[T]
-        ensures { result.now ≡ storage self.now.order self.now.rows }
+    pub fn flatten(&self) -> &Vec<T, A>
+        ensures { result.now.items ≡ storage self.now.order self.now.rows }
     {
-        self.flat.as_slice()
+        self.flat.as_vec()
     }
 
     /// Returns the vector of the cells, in storage order.

@@ -6,7 +6,7 @@ use Rattle.std.specs.List.{FoldsTo, AllZip}
 use denote.Param.Members.{Mut, Called}
 use denote.Param.Always.{always_mut, mut_next}
 use denote.Ref.{Bor}
-use Rattle.grid_base.specs.ClosureCalls.{MapsThrough, MapsTo, Generates, PairsUp, CallableAtEach, CallableAtCells, ReturnsAtCell}
+use Rattle.grid_base.specs.ClosureCalls.{MapsThrough, MapsTo, Generates, PairsUp, CallableAtEach, CallableAtCells, CallableAtItems, ReturnsAtCell}
 
 -- one more answer
 pub MapsThrough-append : {F A B : Type 0} (step : F → A → B → F → Type 0) (f g h : F) (xs : List A) (ys : List B) (x : A) (y : B) → MapsThrough step f xs ys g → step g x y h → MapsThrough step f (xs ++ x ∷ []) (ys ++ y ∷ []) h
@@ -76,6 +76,12 @@ module _ {F A B : Type 0} (m : Mut F (A × Unit {0}) B) where
   -- a closure that can always be called can be called at each item
   pub callable_always : (f : F) (xs : List A) → always_mut m f → CallableAtEach (λ p x. m.pre p (x, tt)) (λ p x y q. Called m p (x, tt) y q) f xs
   callable_always f xs h = record { at = λ k x ys g lt is a. ((always_after f g (take k xs) ys a h).at ((x, tt) ∷ [])).0 }
+
+-- the closure can be called at the item after those that it answered, where no call changes it
+pub callable_item : {F A : Type 0} (takes : F → A → Type 0) (f : F) (xs done rest : List A) (x : A) → CallableAtItems takes f xs → done ++ x ∷ rest ≡ xs → takes f x
+callable_item takes f xs done rest x h is =
+    let whole : CallableAtItems takes f (done ++ x ∷ rest) = subst (CallableAtItems takes f) (sym is) h in
+    whole.at (length done) x (omega (arith, length-append done (x ∷ rest))) (sym (get_or-append_seam done x rest x))
 
 -- the closure can be called at the place and the cell after those that it answered
 pub callable_cell : {F P A : Type 0} (takes : F → P → Bor A → Type 0) (f : F) (xs done rest : List (P × A)) (at : P) (p : Bor A) → CallableAtCells takes f xs → done ++ (at, p.now) ∷ rest ≡ xs → takes f at p

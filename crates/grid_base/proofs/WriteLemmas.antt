@@ -1,5 +1,5 @@
 -- A table of which one cell is written.
-use Rattle.std.proofs.Common.{◌≡◌, ◌≢◌, ℕ, zero, suc, ◌<◌, ◌≤◌, Some, List, [], ◌∷◌, length, set, get_or, refl, sym, ◌∙◌, ap, arith, ⊎_elim}
+use Rattle.std.proofs.Common.{◌≡◌, ◌≢◌, ℕ, zero, suc, ◌<◌, ◌≤◌, Option, Some, None, List, [], ◌∷◌, length, set, get_or, refl, sym, ◌∙◌, ap, arith, ⊎_elim}
 use Rattle.std.specs.List.{slice_get, swap}
 use Rattle.std.proofs.lemmas.List.{length-set, get_or-set_same, get_or-set_other, set_past, set-get_or}
 use Rattle.std.proofs.lemmas.List.Edits.{swap_is}
@@ -8,7 +8,7 @@ use Rattle.std.proofs.lemmas.Nat.{same_from_place}
 use Rattle.std.proofs.lemmas.Bool.{cases_eq}
 use Rattle.grid_base.specs.declared.flat.order.Order.{Order}
 use Rattle.grid_base.specs.declared.flat.order.Order.TheVariants.{RowMajor, ColumnMajor}
-use Rattle.grid_base.specs.Table.{row, row_count, col_count, cell, with_cell, exchanged, IsTable}
+use Rattle.grid_base.specs.Table.{row, row_count, col_count, cell, with_cell, with_cell_of, exchanged, IsTable}
 use Rattle.grid_base.specs.Order.{place, table_of}
 use Rattle.grid_base.specs.GridValue.{HoldsSize}
 use Rattle.grid_base.proofs.TableLemmas.{rows-tabulate, width-tabulate, cell-tabulate, same_tables, IsFull}
@@ -46,6 +46,34 @@ module _ {T : Type 0} (t : List (List T)) (h : IsTable t) (r c : ℕ) (w : T) wh
         nonempty = λ i lt. omega (arith, widths-written i (omega (arith, rows-written)), h.nonempty 0 (omega (arith, rows-written)));
         even = λ i lt. widths-written i (omega (arith, rows-written)) ∙ sym (widths-written 0 (omega (arith, rows-written)));
       }
+
+-- and its size is the same
+pub cols-with_cell : {T : Type 0} (t : List (List T)) → IsTable t → (r c : ℕ) (w : T) → col_count (with_cell t r c w) ≡ col_count t
+cols-with_cell [] h r c w = refl
+cols-with_cell (x ∷ t) h r c w = widths-written (x ∷ t) h r c w 0 (omega arith)
+
+module _ {T : Type 0} (t : List (List T)) (h : IsTable t) (r c : ℕ) where
+  rows-with_cell_of : (w : Option T) → row_count (with_cell_of t r c w) ≡ row_count t
+  rows-with_cell_of None = refl
+  rows-with_cell_of (Some w) = rows-written t h r c w
+
+  cols-with_cell_of : (w : Option T) → col_count (with_cell_of t r c w) ≡ col_count t
+  cols-with_cell_of None = refl
+  cols-with_cell_of (Some w) = cols-with_cell t h r c w
+
+  IsTable-with_cell_of : (w : Option T) → IsTable (with_cell_of t r c w)
+  IsTable-with_cell_of None = h
+  IsTable-with_cell_of (Some w) = IsTable-with_cell t h r c w
+
+module _ {T : Type 0} (t : List (List T)) (h : IsTable t) (a b : ℕ × ℕ) where
+  once : IsTable (with_cell_of t a.0 a.1 (cell t b.0 b.1))
+  once = IsTable-with_cell_of t h a.0 a.1 (cell t b.0 b.1)
+
+  pub rows-exchanged : row_count (exchanged t a b) ≡ row_count t
+  rows-exchanged = rows-with_cell_of _ once b.0 b.1 (cell t a.0 a.1) ∙ rows-with_cell_of t h a.0 a.1 (cell t b.0 b.1)
+
+  pub cols-exchanged : col_count (exchanged t a b) ≡ col_count t
+  cols-exchanged = cols-with_cell_of _ once b.0 b.1 (cell t a.0 a.1) ∙ cols-with_cell_of t h a.0 a.1 (cell t b.0 b.1)
 
 -- two cells of one place are one
 pub same_place : (o : Order) (m n i j r c : ℕ) → i < m → j < n → r < m → c < n → place o m n i j ≡ place o m n r c → (i ≡ r) × (j ≡ c)

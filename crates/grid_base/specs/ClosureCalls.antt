@@ -36,6 +36,10 @@ pub record CallableTimes {F B : Type 0} (takes : F → Type 0) (step : F → B �
 pub record CallableAtRefs {F A : Type 0} (takes : F → Bor A → Type 0) (f : F) (xs : List A) : Type 0 where
   pub at : (k : ℕ) (p : Bor A) → k < length xs → p.now ≡ slice_index_or xs k p.now → takes f p
 
+-- the closure f can be called at each item of xs
+pub record CallableAtItems {F A : Type 0} (takes : F → A → Type 0) (f : F) (xs : List A) : Type 0 where
+  pub at : (k : ℕ) (x : A) → k < length xs → x ≡ slice_index_or xs k x → takes f x
+
 -- the closure f can be called at each item of xs: a place, and a reference to the cell there
 pub record CallableAtCells {F P A : Type 0} (takes : F → P → Bor A → Type 0) (f : F) (xs : List (P × A)) : Type 0 where
   pub at : (k : ℕ) (at : P) (p : Bor A) → k < length xs → ◌≡◌ {A = P × A} (at, p.now) (slice_index_or xs k (at, p.now)) → takes f at p

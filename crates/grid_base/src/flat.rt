@@ -70,6 +70,13 @@ impl<T, A: Allocator> Flat<T, A> {
         self.cells.len()
     }
 
+    /// Returns the vector, to read.
+    pub fn as_vec(&self) -> &Vec<T, A>
+        ensures { result.now.items ≡ self.now }
+    {
+        &self.cells
+    }
+
     /// Returns the cells.
     pub fn as_slice(&self) -> &[T]
         ensures { result.now ≡ self.now }

@@ -48,6 +48,19 @@ pub enum Move {
 }
 
 impl Symmetry {
+    /// The eight symmetries, in the order of their declaration: the four that keep rows as rows, then the four that
+    /// transpose.
+    pub const ALL: [Symmetry; 8] = [
+        Symmetry::Identity,
+        Symmetry::FlipCols,
+        Symmetry::FlipRows,
+        Symmetry::RotateHalf,
+        Symmetry::Transpose,
+        Symmetry::RotateLeft,
+        Symmetry::RotateRight,
+        Symmetry::AntiTranspose,
+    ];
+
     /// Returns the symmetry that a move does.
     pub fn of(step: Move) -> Symmetry
         ensures { result ≡ of_move step }

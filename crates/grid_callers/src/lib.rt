@@ -4,6 +4,8 @@
 
 pub mod boards;
 pub mod chains;
+pub mod loops;
 pub mod shown;
+pub mod updates;
 pub mod whole;
 pub mod words;

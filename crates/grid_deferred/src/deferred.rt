@@ -35,11 +35,9 @@ fn step_through<T, A: Allocator>(
 where
     T: Clone + Default + Drop,
     A: Clone,
-    requires table { IsTable base.old.rows }
     requires rows { size.0 ≡ row_count base.old.rows }
     requires cols { size.1 ≡ col_count base.old.rows }
     requires still { is_apply (command_value command) ≡ false }
-    ensures table { IsTable base.new.rows }
     ensures rows { OnOk result ((d : T)
         → RowsAreKnown T.is_default T.is_clone d (command_value command)
         → act symmetry base.new.rows
@@ -155,7 +153,6 @@ impl<'a, T, A: Allocator> Deferred<'a, T, A> {
         ensures err_memory { OnErr result (IsTrue
             (in_range (row_count (shown self.now)) (col_count (shown self.now)) (row, col))) }
     {
-        let _ = self.size();
         match self.get(row, col) {
             Some(cell) => {
                 let copy = cell.clone()?;
@@ -222,7 +219,6 @@ impl<'a, T, A: Allocator> Deferred<'a, T, A> {
         T: Clone + Default + Drop,
         A: Clone,
         ensures same_reference { lender self.new ≡ lender self.old }
-        ensures table { IsTable (base self.new).rows }
         ensures rows { OnOk result ((d : T)
             → RowsAreKnown T.is_default T.is_clone d (command_value command)
             → shown self.new ≡ step_rows d (command_value command) (shown self.old)) }

@@ -37,8 +37,6 @@ pub fn apply_by_least<T, A: Allocator>(grid: &mut Grid<T, A>, symmetry: Symmetry
         → IsLeast (price symmetry (row_count t) (col_count t))
         (storage o t) (storage (order_after symmetry o) (act symmetry t)) }
 {
-    // shows the prover that the rows are a table
-    let _ = grid.size();
     grid.apply_counted(symmetry, tally);
 }
 
@@ -96,8 +94,6 @@ where
         → IsLeastToBring (delete_rows_shift o (row_count t) (col_count t) i k)
         (storage o t) (storage o (without_rows i k t)) }
 {
-    // shows the prover that the rows are a table
-    let _ = grid.size();
     grid.step(Command::DeleteRows(start, count), tally)
 }
 
@@ -125,7 +121,5 @@ where
         → IsLeastToBring (delete_cols_shift o (row_count t) (col_count t) i k)
         (storage o t) (storage o (without_cols i k t)) }
 {
-    // shows the prover that the rows are a table
-    let _ = grid.size();
     grid.step(Command::DeleteCols(start, count), tally)
 }

@@ -282,7 +282,7 @@ pub fn is_stored<T: PartialEq, A: Allocator>(
     order: Order,
     cells: &[T],
 ) -> bool {
-    grid.size() == size && grid.order() == order && grid.flatten() == cells
+    grid.size() == size && grid.order() == order && grid.flatten().as_slice() == cells
 }
 
 // Where the cells of a table of this size stand, in storage order.

@@ -25,7 +25,7 @@ fn exchanges_cells_in_range(rt: HostRuntime) -> Result<(), Fail> {
     let mut grid = board(rt.alloc())?;
     assert!(rt; exchange(&mut grid, (0, 0), (1, 1)));
     assert!(rt; !exchange(&mut grid, (0, 0), (2, 1)));
-    assert_eq!(rt; grid.flatten(), [4, 2, 3, 1].as_slice());
+    assert_eq!(rt; grid.flatten().as_slice(), [4, 2, 3, 1].as_slice());
     Ok(())
 }
 
@@ -34,7 +34,7 @@ fn pushes_a_row_that_fits(rt: HostRuntime) -> Result<(), Fail> {
     let mut grid = board(rt.alloc())?;
     assert!(rt; push(&mut grid, vec![in rt.alloc(); 5, 6]?).is_ok());
     assert!(rt; push(&mut grid, vec![in rt.alloc(); 7]?).is_err());
-    assert_eq!(rt; grid.flatten(), [1, 2, 3, 4, 5, 6].as_slice());
+    assert_eq!(rt; grid.flatten().as_slice(), [1, 2, 3, 4, 5, 6].as_slice());
     Ok(())
 }
 
@@ -43,7 +43,7 @@ fn takes_the_first_row(rt: HostRuntime) -> Result<(), Fail> {
     let mut grid = board(rt.alloc())?;
     let line = take_first(&mut grid)?;
     assert!(rt; line.is_some_and(|line| line.as_slice() == [1, 2].as_slice()));
-    assert_eq!(rt; grid.flatten(), [3, 4].as_slice());
+    assert_eq!(rt; grid.flatten().as_slice(), [3, 4].as_slice());
     Ok(())
 }
 
@@ -58,7 +58,7 @@ fn pushes_by_a_command(rt: HostRuntime) -> Result<(), Fail> {
         push_by_command(&mut grid, line, &mut tally)?,
         Some(Refusal::Length)
     );
-    assert_eq!(rt; grid.flatten(), [1, 2, 3, 4, 5, 6].as_slice());
+    assert_eq!(rt; grid.flatten().as_slice(), [1, 2, 3, 4, 5, 6].as_slice());
     Ok(())
 }
 
@@ -97,7 +97,7 @@ fn makes_a_board_of_rows(rt: HostRuntime) -> Result<(), Fail> {
 fn adds_a_blank_row(rt: HostRuntime) -> Result<(), Fail> {
     let mut grid = board(rt.alloc())?;
     assert!(rt; add_blank_row(&mut grid).is_ok());
-    assert_eq!(rt; grid.flatten(), [1, 2, 3, 4, 0, 0].as_slice());
+    assert_eq!(rt; grid.flatten().as_slice(), [1, 2, 3, 4, 0, 0].as_slice());
     Ok(())
 }
 
@@ -109,6 +109,6 @@ fn looks_through_a_symmetry(rt: HostRuntime) -> Result<(), Fail> {
         Some(4)
     );
     assert_eq!(rt; cell_through(&mut grid, Symmetry::RotateLeft, 2, 0), None);
-    assert_eq!(rt; grid.flatten(), [1, 2, 3, 4].as_slice());
+    assert_eq!(rt; grid.flatten().as_slice(), [1, 2, 3, 4].as_slice());
     Ok(())
 }

@@ -204,13 +204,13 @@ fn walks_lines_both_ways(rt: HostRuntime) -> Result<(), Fail> {
 
 fn check_lacking_in(rt: &impl Abort, board: &Grid<u32>, want: &[u32]) -> Result<(), AllocError> {
     assert!(rt; board.iter().all(|y| *y <= 10));
-    assert_eq!(rt; lacking_in(board)?.flatten(), want);
+    assert_eq!(rt; lacking_in(board)?.flatten().as_slice(), want);
     Ok(())
 }
 
 fn check_lacking(rt: &impl Abort, board: Grid<u32>, want: &[u32]) -> Result<(), AllocError> {
     assert!(rt; board.iter().all(|y| *y <= 10));
-    assert_eq!(rt; lacking(board)?.flatten(), want);
+    assert_eq!(rt; lacking(board)?.flatten().as_slice(), want);
     Ok(())
 }
 

@@ -134,7 +134,7 @@ fn settles_at_the_price_of_what_is_pending(rt: HostRuntime) -> Result<(), Fail> 
     };
     deferred.settle(&mut tally);
     assert!(rt; flipped && pushed);
-    assert_eq!(rt; grid.flatten(), [3, 4, 1, 2, 5, 6].as_slice());
+    assert_eq!(rt; grid.flatten().as_slice(), [3, 4, 1, 2, 5, 6].as_slice());
     assert_eq!(rt;
         (tally.symmetry(), tally.shift(), grid.order()),
         (2, 0, Order::RowMajor)

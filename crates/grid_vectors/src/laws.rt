@@ -64,14 +64,14 @@ fn numbers_cells(rt: HostRuntime) -> Result<(), Fail> {
     let mut grid = Grid::from_vec(vec![in rt.alloc(); 0u8, 0, 0, 0]?, 2);
     assert!(rt; grid.flatten().len() < 256);
     number_cells(&mut grid);
-    assert_eq!(rt; grid.flatten(), [1, 2, 3, 4].as_slice());
+    assert_eq!(rt; grid.flatten().as_slice(), [1, 2, 3, 4].as_slice());
     Ok(())
 }
 
 #[test]
 fn writes_rows_out(rt: HostRuntime) -> Result<(), Fail> {
     let by_rows = written_by_rows(rt.alloc())?;
-    assert_eq!(rt; by_rows.flatten(), [1, 2, 3, 4, 5, 6].as_slice());
+    assert_eq!(rt; by_rows.flatten().as_slice(), [1, 2, 3, 4, 5, 6].as_slice());
     Ok(())
 }
 
@@ -79,7 +79,7 @@ fn writes_rows_out(rt: HostRuntime) -> Result<(), Fail> {
 fn writes_columns_out(rt: HostRuntime) -> Result<(), Fail> {
     let by_columns = written_by_columns(rt.alloc())?;
     assert_eq!(rt; by_columns.order(), Order::ColumnMajor);
-    assert_eq!(rt; by_columns.flatten(), [1, 4, 2, 5, 3, 6].as_slice());
+    assert_eq!(rt; by_columns.flatten().as_slice(), [1, 4, 2, 5, 3, 6].as_slice());
     Ok(())
 }
 

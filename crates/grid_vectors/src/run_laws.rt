@@ -36,7 +36,7 @@ fn went(ran: &Result<Vec<Reply<u32>>, RunStopped<u32>>) -> bool {
 
 // Whether the grid has the rows 2 and 1.
 fn is_turned(grid: &Grid<u32>) -> bool {
-    grid.size() == (2, 1) && grid.flatten() == [2, 1].as_slice()
+    grid.size() == (2, 1) && grid.flatten().as_slice() == [2, 1].as_slice()
 }
 
 #[test]

@@ -1,6 +1,6 @@
 //! The step of a grid: one command.
 ghost use Rattle.std.specs.Prelude.{◌≡◌, ◌+◌, ◌≤◌, OnOk, OnErr, IfOk, IsTrue, nat_lt};
-ghost use Rattle.grid_base.specs.Table.{row_count, col_count, IsTable};
+ghost use Rattle.grid_base.specs.Table.{row_count, col_count};
 ghost use Rattle.grid_base.specs.Symmetry.{act, order_after, half};
 ghost use Rattle.grid_base.specs.Tally.{saturating_count};
 ghost use Rattle.grid_base.specs.Clones.{ClonesAreEqual};
@@ -54,7 +54,6 @@ fn write_cell<T: Drop, A: Allocator>(
     col: usize,
     value: T,
 ) -> Reply<T, A>
-    ensures table { IsTable grid.new.rows }
     ensures rows { (d : T) → grid.new.rows ≡ step_rows d (set_cell row col value) grid.old.rows }
     ensures reply { reply_value result ≡ step_reply (set_cell row col value) grid.old.rows }
     ensures order { grid.new.order ≡ grid.old.order }
@@ -77,7 +76,6 @@ fn exchange_cells<T, A: Allocator>(
     a: (usize, usize),
     b: (usize, usize),
 ) -> Reply<T, A>
-    ensures table { IsTable grid.new.rows }
     ensures rows { (d : T) → grid.new.rows ≡ step_rows d (swap_cells a b) grid.old.rows }
     ensures reply { reply_value result ≡ step_reply (swap_cells a b) grid.old.rows }
     ensures order { grid.new.order ≡ grid.old.order }
@@ -96,7 +94,6 @@ fn fill_cells<T, A: Allocator>(grid: &mut Grid<T, A>, value: T) -> Result<Reply<
 where
     T: Clone,
     A: Clone,
-    ensures table { IsTable grid.new.rows }
     ensures rows { OnOk result ((d : T) → ClonesAreEqual T.is_clone
         → grid.new.rows ≡ step_rows d (fill value) grid.old.rows) }
     ensures reply { IfOk result (λ reply.
@@ -132,7 +129,6 @@ impl<T, A: Allocator> Grid<T, A> {
     where
         T: Clone + Default + Drop,
         A: Clone,
-        ensures table { IsTable self.new.rows }
         ensures rows { OnOk result ((d : T)
             → RowsAreKnown T.is_default T.is_clone d (command_value command)
             → self.new.rows ≡ step_rows d (command_value command) self.old.rows) }

@@ -2,10 +2,10 @@
 ghost use Rattle.std.specs.Prelude.{◌≡◌, [], All, IfOk};
 ghost use Rattle.grid_base.specs.Order.{storage};
 ghost use Rattle.grid_base.specs.Clones.{ClonesAreEqual};
-ghost use Rattle.grid.specs.Make.{IsMade, FailsBySize, EachCellIs, IsOnlyDefault};
+ghost use Rattle.grid.specs.Make.{IsMade, FailsBySize, EachCellIs, IsOnlyDefault, CallableOver, TabulatedOver};
 
 use crate::{Grid, GridError};
-use grid_base::Order;
+use grid_base::{Flat, Order};
 use std::alloc::Allocator;
 
 mod arrays;
@@ -110,6 +110,57 @@ impl<T, A: Allocator> Grid<T, A> {
         };
         let cells = Vec::from_elem(alloc, value, count)?;
         Ok(Grid::from_vec_with_order(cells, cols, order))
+    }
+
+    /// Returns the row-major grid of this size whose cells are what the closure returns at each place, called in
+    /// storage order. Without rows or without columns it is the empty grid.
+    ///
+    ///     from_fn(alloc, 2, 3, |(row, col)| 10 * row + col)   [[0, 1, 2], [10, 11, 12]]
+    ///
+    /// Requires: the closure can be called at each place, where `rows * cols` doesn't pass `usize::MAX`.
+    /// Fails: `TooLarge` where `rows * cols` passes `usize::MAX`, else `Memory`; the closure wasn't called. Without
+    /// rows or without columns it takes no memory and never fails.
+    /// Cost: one call for each cell; one allocation, before the first call.
+    pub fn from_fn<F: Fn((usize, usize)) -> T>(
+        alloc: A,
+        rows: usize,
+        cols: usize,
+        f: F,
+    ) -> Result<Grid<T, A>, GridError>
+        requires { CallableOver F.pre f rows cols }
+        ensures made { IfOk result (IsMade Order.RowMajor rows cols) }
+        ensures cells { IfOk result (λ g. TabulatedOver F.post f rows cols g.rows) }
+        ensures fails { FailsBySize rows cols result }
+    {
+        Grid::from_fn_with_order(alloc, rows, cols, Order::RowMajor, f)
+    }
+
+    /// Same as [`from_fn`](Grid::from_fn), in this order.
+    pub fn from_fn_with_order<F: Fn((usize, usize)) -> T>(
+        alloc: A,
+        rows: usize,
+        cols: usize,
+        order: Order,
+        f: F,
+    ) -> Result<Grid<T, A>, GridError>
+        requires { CallableOver F.pre f rows cols }
+        ensures made { IfOk result (IsMade order rows cols) }
+        ensures cells { IfOk result (λ g. TabulatedOver F.post f rows cols g.rows) }
+        ensures fails { FailsBySize rows cols result }
+    {
+        if rows == 0 || cols == 0 {
+            return Ok(Grid::empty_with_order(alloc, order));
+        }
+        if rows.checked_mul(cols).is_none() {
+            return Err(GridError::TooLarge);
+        }
+        let flat = Flat::from_fn(alloc, order, rows, cols, f)?;
+        Ok(Grid {
+            flat,
+            row_count: rows,
+            col_count: cols,
+            order,
+        })
     }
 
     /// Returns an empty row-major grid with room for this many rows and columns.

@@ -1,7 +1,7 @@
 //! Calls on all cells of a grid: `fill`, `fill_with`, `map`, `map_ref`.
 ghost use Rattle.std.specs.Prelude.{◌≡◌, [], length, IsOk, IfOk, IfErr, OnOk, OnErr};
 ghost use Rattle.std.specs.Fn.{FnReturnsAt};
-ghost use Rattle.grid_base.specs.Table.{row_count, col_count, IsTable};
+ghost use Rattle.grid_base.specs.Table.{row_count, col_count};
 ghost use Rattle.grid_base.specs.Order.{storage};
 ghost use Rattle.grid_base.specs.ClosureCalls.{MapsTo, CallableAtEach, CallableAtRefs, CallableTimes, Generates, PairsUp};
 ghost use Rattle.grid_base.specs.Clones.{ClonesAreEqual};
@@ -62,7 +62,6 @@ impl<T, A: Allocator> Grid<T, A> {
         ensures order { self.new.order ≡ self.old.order }
         ensures rows { row_count self.new.rows ≡ row_count self.old.rows }
         ensures cols { col_count self.new.rows ≡ col_count self.old.rows }
-        ensures table { IsTable self.new.rows }
         ensures cells { Generates (λ p x q. F.step p x q) f (storage self.new.order self.new.rows) }
     {
         self.flat.fill_with(f);
@@ -85,7 +84,6 @@ impl<T, A: Allocator> Grid<T, A> {
         ensures order { IfOk result (λ g. g.order ≡ self.order) }
         ensures rows { IfOk result (λ g. row_count g.rows ≡ row_count self.rows) }
         ensures cols { IfOk result (λ g. col_count g.rows ≡ col_count self.rows) }
-        ensures table { IfOk result (λ g. IsTable g.rows) }
         ensures cells { IfOk result (λ g. MapsTo
             (λ p x y q. F.step p x y q) f (storage self.order self.rows) (storage g.order g.rows)) }
         ensures refused { IfErr result (λ g. g ≡ self) }
@@ -127,7 +125,6 @@ impl<T, A: Allocator> Grid<T, A> {
         ensures order { IfOk result (λ g. g.order ≡ self.now.order) }
         ensures rows { IfOk result (λ g. row_count g.rows ≡ row_count self.now.rows) }
         ensures cols { IfOk result (λ g. col_count g.rows ≡ col_count self.now.rows) }
-        ensures table { IfOk result (λ g. IsTable g.rows) }
         ensures cells { IfOk result (λ g. PairsUp
             (FnReturnsAt F.Fn f) (storage self.now.order self.now.rows) (storage g.order g.rows)) }
     {
@@ -158,7 +155,6 @@ impl<T, A: Allocator> Grid<T, A> {
         ensures order { IfOk result (λ g. g.order ≡ self.now.order) }
         ensures rows { IfOk result (λ g. row_count g.rows ≡ row_count self.now.rows) }
         ensures cols { IfOk result (λ g. col_count g.rows ≡ col_count self.now.rows) }
-        ensures table { IfOk result (λ g. IsTable g.rows) }
         ensures cells { IfOk result (λ g. TabulatedBy F.post f self.now.rows g.rows) }
     {
         let order = self.order;
@@ -187,7 +183,6 @@ impl<T, A: Allocator> Grid<T, A> {
         ensures order { self.new.order ≡ self.old.order }
         ensures rows { row_count self.new.rows ≡ row_count self.old.rows }
         ensures cols { col_count self.new.rows ≡ col_count self.old.rows }
-        ensures table { IsTable self.new.rows }
         ensures cells { TabulatedBy F.post f self.old.rows self.new.rows }
     {
         self.flat

@@ -1,8 +1,9 @@
 //! Calls on all cells of a `Flat`.
-ghost use Rattle.std.specs.Prelude.{◌≡◌, length, replicate, zip, IsOk, IfOk, IfErr, OnOk, OnErr};
+ghost use Rattle.std.specs.Prelude.{◌≡◌, ◌*◌, ◌^◌, ◌<◌, length, replicate, zip, IsOk, IfOk, IfErr, OnOk, OnErr};
 ghost use Rattle.std.specs.Fn.{FnReturnsAt};
-ghost use Rattle.grid_base.specs.ClosureCalls.{MapsTo, CallableAtEach, CallableAtRefs, CallableTimes, CallableAtCells, ReturnsAtCell, Generates, PairsUp};
+ghost use Rattle.grid_base.specs.ClosureCalls.{MapsTo, CallableAtEach, CallableAtRefs, CallableTimes, CallableAtCells, CallableAtItems, ReturnsAtCell, Generates, PairsUp};
 ghost use Rattle.grid_base.specs.GridValue.{HoldsSize};
+ghost use Rattle.grid_base.specs.Table.{IsSize};
 ghost use Rattle.grid_base.specs.Places.{places};
 ghost use Rattle.grid_base.specs.Clones.{ClonesAreEqual};
 
@@ -11,6 +12,32 @@ use super::{Flat, Order};
 use std::alloc::{AllocError, Allocator};
 
 impl<T, A: Allocator> Flat<T, A> {
+    /// Returns what the closure returns at each place of a table of `rows` rows and `cols` columns, in storage order.
+    ///
+    /// Requires: there are rows exactly if there are columns, a vector can hold their cells, and the closure can be
+    /// called at each place.
+    /// Fails: where memory is refused; the closure wasn't called.
+    /// Cost: one call for each cell; one allocation, before the first call.
+    pub fn from_fn<F: Fn((usize, usize)) -> T>(
+        alloc: A,
+        order: Order,
+        rows: usize,
+        cols: usize,
+        f: F,
+    ) -> Result<Flat<T, A>, AllocError>
+        requires below { rows * cols < 2 ^ 64 }
+        requires size { IsSize rows cols }
+        requires calls { CallableAtItems F.pre f (places order rows cols) }
+        ensures len { IfOk result (λ g. length g ≡ rows * cols) }
+        ensures cells { IfOk result (λ g. PairsUp (F.post f) (places order rows cols) g) }
+    {
+        let mut cells = Vec::with_capacity(alloc, rows * cols)?;
+        for at in Places::new(order, rows, cols) {
+            cells.push_reserved(f(at));
+        }
+        Ok(Flat { cells })
+    }
+
     /// Makes every cell a clone of the value, or the value.
     ///
     /// Requires: clones of the cell type equal their source.

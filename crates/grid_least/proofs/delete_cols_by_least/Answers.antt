@@ -12,7 +12,7 @@ pub returns-clause-least : goal.returns-clause-least
 returns-clause-least g c =
     on_ok3 c.step.result
     (λ r o s d u.
-    grew_by_delete_cols _ _ _ _ c.args.start c.args.count _ _ c.size.ensures.table u c.requires.within
+    grew_by_delete_cols _ _ _ _ c.args.start c.args.count _ _ c.args.grid.now.table u c.requires.within
     (r d tt ∙ cols_deleted d c.args.start c.args.count c.args.grid.now.rows c.requires.within) o s)
     c.step.ensures.rows c.step.ensures.order c.step.ensures.shift
 

@@ -14,7 +14,7 @@ pub returns-clause-least : goal.returns-clause-least
 returns-clause-least g c =
     on_ok3 c.step.result
     (λ r o s d u.
-    grew_by_delete _ _ _ _ c.args.start c.args.count _ _ c.size.ensures.table u c.requires.within
+    grew_by_delete _ _ _ _ c.args.start c.args.count _ _ c.args.grid.now.table u c.requires.within
     (r d tt ∙ sym (range_rows d true c.args.start c.args.count c.args.grid.now.rows (λ _. c.requires.within, λ _. refl)))
     o s)
     c.step.ensures.rows c.step.ensures.order c.step.ensures.shift

@@ -1,13 +1,53 @@
-//! Calls on all cells, by closures that have a state.
+//! A write of one cell, and calls on all cells by closures: with a state, or by place.
 use crate::asserts::{Rows, assert_rows, assert_stored, grid_with};
 use grid::Order::{ColumnMajor, RowMajor};
 use grid::{Grid, Order};
-use grid_support::fixtures::Fragile;
+use grid_support::fixtures::{Fragile, ORDERS};
 use std::alloc::AllocError;
 use std::cell::Cell;
 use std::test::Fail;
 
 const SQUARE: Rows = &[&[1, 2], &[3, 4]];
+
+// A write in range, one below the last row, and one behind the last column.
+#[test]
+fn set_in_range_and_past_the_end(rt: HostRuntime) -> Result<(), Fail> {
+    const SETS: [((usize, usize), Option<u32>, Rows); 3] = [
+        ((1, 0), Some(3), &[&[1, 2], &[9, 4]]),
+        ((2, 0), None, SQUARE),
+        ((0, 2), None, SQUARE),
+    ];
+    for order in ORDERS {
+        for ((row, col), was, image) in SETS {
+            let mut grid = grid_with(rt.alloc(), SQUARE, order)?;
+            assert_eq!(rt; grid.set(row, col, 9), was);
+            assert_rows(&rt, rt.alloc(), &grid, image, order)?;
+        }
+    }
+    Ok(())
+}
+
+// A cell, and 10 more below the first row, and 1 more behind the first column.
+fn by_place((row, col): (usize, usize), cell: &u32) -> u32 {
+    let below = if row == 0 { 0 } else { 10 };
+    let behind = if col == 0 { 0 } else { 1 };
+    cell.wrapping_add(below).wrapping_add(behind)
+}
+
+#[test]
+fn map_indexed_and_update_by_place(rt: HostRuntime) -> Result<(), Fail> {
+    const IMAGE: Rows = &[&[1, 3], &[13, 15]];
+    for order in ORDERS {
+        let mut grid = grid_with(rt.alloc(), SQUARE, order)?;
+        let mapped = grid.map_indexed(by_place)?;
+        assert_rows(&rt, rt.alloc(), &mapped, IMAGE, order)?;
+        drop(mapped);
+        assert_rows(&rt, rt.alloc(), &grid, SQUARE, order)?;
+        grid.update(by_place);
+        assert_rows(&rt, rt.alloc(), &grid, IMAGE, order)?;
+    }
+    Ok(())
+}
 
 // Adds 10 to the first cell that it is called with, 20 to the second, and so on.
 fn map_by_tens(grid: Grid<u32>) -> Option<Grid<u32>> {

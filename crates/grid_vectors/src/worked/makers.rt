@@ -38,6 +38,30 @@ fn empty_shapes_column_major(rt: HostRuntime) {
 }
 
 #[test]
+fn from_fn_by_place(rt: HostRuntime) {
+    const BY_ROWS: [(usize, usize); 6] = [(0, 0), (0, 1), (0, 2), (1, 0), (1, 1), (1, 2)];
+    const BY_COLS: [(usize, usize); 6] = [(0, 0), (1, 0), (0, 1), (1, 1), (0, 2), (1, 2)];
+    let alloc = rt.alloc();
+    let made = Grid::from_fn(alloc, 2, 3, |at| at);
+    assert_made(&rt, made, (2, 3), RowMajor, &BY_ROWS);
+    let made = Grid::from_fn_with_order(alloc, 2, 3, ColumnMajor, |at| at);
+    assert_made(&rt, made, (2, 3), ColumnMajor, &BY_COLS);
+    let made = Grid::from_fn(alloc, 0, 3, |at| at);
+    assert_made(&rt, made, EMPTY, RowMajor, &[]);
+    let made = Grid::from_fn_with_order(alloc, usize::MAX, 0, ColumnMajor, |at| at);
+    assert_made(&rt, made, EMPTY, ColumnMajor, &[]);
+}
+
+#[test]
+fn limits_of_from_fn(rt: HostRuntime) {
+    let alloc = rt.alloc();
+    let made = Grid::from_fn(alloc, usize::MAX, 2, |_| 3u8);
+    assert_refused(&rt, made, GridError::TooLarge);
+    let made = Grid::from_fn_with_order(alloc, 1, usize::MAX, ColumnMajor, |_| 3u8);
+    assert_refused(&rt, made, GridError::Memory);
+}
+
+#[test]
 fn limits_row_major(rt: HostRuntime) {
     const LARGE: GridError = GridError::TooLarge;
     const MEMORY: GridError = GridError::Memory;

@@ -50,7 +50,7 @@ loop-command-preserved g c =
       symmetry = c.step.ensures.symmetry ∙ i.symmetry;
       going =
           rw (map-append command_value c.loop-command.yielded (c.in-Some.command ∷ []))
-          (going_more _ _ _ (command_value c.in-Some.command) _ _ _ _ _ _ _ _ _ _ i.going c.step.ensures.table c.step.ensures.order e.rows e.pending e.shift
+          (going_more _ _ _ (command_value c.in-Some.command) _ _ _ _ _ _ _ _ _ _ i.going c.step.new.self.base.now.table c.step.ensures.order e.rows e.pending e.shift
           (one_more reply_value _ _ _ p.items)
           (λ same. ap (map reply_value) p.items ∙ (map-append reply_value _ _ ∙ ap (λ x. map reply_value c.loop-command.replies.items ++ x ∷ []) (e.reply same))));
       shift_grows = omega (arith, e.shift, i.shift_grows);

@@ -20,4 +20,4 @@ loop-col-preserved g c = record {
 
 pub returns : goal.returns
 returns g c same =
-    c.loop-col.invariant.cells same ∙ whole_row c.args.grid.now.rows c.args.at c.loop-col.col c.size-cols.ensures.table c.requires.within (omega arith)
+    c.loop-col.invariant.cells same ∙ whole_row c.args.grid.now.rows c.args.at c.loop-col.col c.args.grid.now.table c.requires.within (omega arith)

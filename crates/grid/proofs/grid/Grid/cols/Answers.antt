@@ -2,5 +2,5 @@ use Rattle.std.proofs.Common.{sym}
 use Rattle.grid.proofs.SeenLemmas.{seen_cols}
 use Rattle.grid.proofs.grid.Grid.cols.Goals as goal
 
-pub returns-clause-cols : goal.returns-clause-cols
-returns-clause-cols g c = sym (seen_cols _ _ _ _ _ c.self.inside.fits c.self.view_is)
+pub returns : goal.returns
+returns g c = record { cols = sym (seen_cols _ _ _ _ _ c.self.inside.fits c.self.view_is) }

@@ -1,6 +1,6 @@
 use Rattle.std.proofs.Common.{◌≡◌, ◌∙◌, ap, length, arith}
 use Rattle.grid_base.specs.GridValue.{HoldsSize}
-use Rattle.grid_base.proofs.ViewLemmas.{view-table, view-cols, view-storage}
+use Rattle.grid_base.proofs.ViewLemmas.{view-cols, view-storage}
 use Rattle.grid.proofs.grid.Grid.from_vec_with_order.Goals as goal
 
 -- the size fits the vector
@@ -8,9 +8,6 @@ holds : (g : _) (c : goal.After-result-1 g) → HoldsSize c.size_of_cut-row_coun
 holds g c =
     let len : c.len.result ≡ length c.from_vec.result = omega (arith, ap length c.from_vec.ensures) in
     rw len at c.size_of_cut-row_count.ensures.holds
-
-pub returns-clause-table : goal.returns-clause-table
-returns-clause-table g c = view-table _ _ _ _ (holds g c)
 
 pub returns-clause-storage : goal.returns-clause-storage
 returns-clause-storage g c = view-storage _ _ _ _ (holds g c) ∙ c.from_vec.ensures

@@ -16,4 +16,4 @@ returns-else-row-rows g c =
       | else-row-rows-via-then-row-rows+else-col-cols w ↦ ap (λ x. x.0) w.self-is
       | else-row-rows-via-else-row-rows w ↦ ap (λ x. x.0) w.self-is
     ] in
-    (ap inr same, record { writes_back = tt; variant = sym (ap is_some none); item = tt })
+    (ap inr same, record { writes_back = tt; variant = sym (ap is_some none); item = tt; in_range = tt })

@@ -21,5 +21,5 @@ pub returns : goal.returns
 returns g c =
     let feed = g.T.Hash.hash_input in
     let t = c.args.self.now.rows in
-    let all : take c.loop-col.col (row t c.args.r) ≡ row t c.args.r = whole_row t c.args.r c.loop-col.col c.size-cols.ensures.table c.requires (omega arith) in
+    let all : take c.loop-col.col (row t c.args.r) ≡ row t c.args.r = whole_row t c.args.r c.loop-col.col c.args.self.now.table c.requires (omega arith) in
     c.loop-col.invariant ∙ ap (λ l. fold g.H.Hasher.write c.args.state.now (flat_map feed l)) all

@@ -33,5 +33,5 @@ pub returns-clause-longest : goal.returns-clause-longest
 returns-clause-longest g c =
     let w = g.T.Whole.whole in
     let t = c.args.self.now.rows in
-    let all : take c.loop-col.col (row t c.args.r) ≡ row t c.args.r = whole_row t c.args.r c.loop-col.col c.size-cols.ensures.table c.requires.row (omega arith) in
+    let all : take c.loop-col.col (row t c.args.r) ≡ row t c.args.r = whole_row t c.args.r c.loop-col.col c.args.self.now.table c.requires.row (omega arith) in
     c.loop-col.invariant.longest ∙ ap (λ l. longest (map w l)) all

@@ -1,7 +1,7 @@
 use Rattle.std.proofs.Common.{subst}
 use Rattle.grid_base.specs.ClosureCalls.{CallableAtEach}
 use Rattle.grid.proofs.SeenLemmas.{seen_storage, seen_same}
-use Rattle.grid.proofs.SeenAllCellsLemmas.{whole_rows, whole_cols, whole_table, whole_cells}
+use Rattle.grid.proofs.SeenAllCellsLemmas.{whole_rows, whole_cols, whole_cells}
 use Rattle.grid.proofs.grid.Grid.map.Goals as goal
 
 pub returns-in-Ok-clause-rows : goal.returns-in-Ok-clause-rows
@@ -9,9 +9,6 @@ returns-in-Ok-clause-rows g c = whole_rows _ _ _ _ _ _ c.self.inside.fits c.self
 
 pub returns-in-Ok-clause-cols : goal.returns-in-Ok-clause-cols
 returns-in-Ok-clause-cols g c = whole_cols _ _ _ _ _ _ c.self.inside.fits c.self.view_is c.in-Ok.ensures.len
-
-pub returns-in-Ok-clause-table : goal.returns-in-Ok-clause-table
-returns-in-Ok-clause-table g c = whole_table _ _ _ _ _ _ c.self.inside.fits c.self.view_is c.in-Ok.ensures.len
 
 pub returns-in-Ok-clause-cells : goal.returns-in-Ok-clause-cells
 returns-in-Ok-clause-cells g c = rw (whole_cells _ _ _ _ _ _ c.self.inside.fits c.self.view_is c.in-Ok.ensures.len, seen_storage _ _ _ _ _ c.self.inside.fits c.self.view_is) c.in-Ok.ensures.cells

@@ -18,7 +18,7 @@ pub returns-clause-made : goal.returns-clause-made
 returns-clause-made g c =
     let count : length c.loop.cells.items ≡ c.args.rows * c.args.cols = omega (arith, c.loop.invariant.len) in
     let made = c.from_vec_with_order.ensures in
-    record { order = made.order; table = made.table; size = made_size c.args.order _ _ _ _ made.table made.storage made.cols count }
+    record { order = made.order; table = c.from_vec_with_order.result.table; size = made_size c.args.order _ _ _ _ c.from_vec_with_order.result.table made.storage made.cols count }
 
 pub returns-clause-defaults : goal.returns-clause-defaults
 returns-clause-defaults g c =
@@ -30,4 +30,4 @@ returns-clause-one_default g c = λ d only.
     let count : length c.loop.cells.items ≡ c.args.rows * c.args.cols = omega (arith, c.loop.invariant.len) in
     let made = c.from_vec_with_order.ensures in
     let same : All (λ x. x ≡ d) c.loop.cells.items = λ k e lt. only _ (c.loop.invariant.defaults k e lt) in
-    made_fill c.args.order _ _ _ _ made.table made.storage made.cols count d same
+    made_fill c.args.order _ _ _ _ c.from_vec_with_order.result.table made.storage made.cols count d same

@@ -40,6 +40,6 @@ returns g c =
     let t = c.args.self.now.rows in
     let line = row t c.args.r in
     let item = λ (n : ℤ). codes " " ++ right_aligned width n in
-    let all : take c.loop-col.col line ≡ line = whole_row t c.args.r c.loop-col.col c.size-cols.ensures.table c.requires (omega arith) in
+    let all : take c.loop-col.col line ≡ line = whole_row t c.args.r c.loop-col.col c.args.self.now.table c.requires (omega arith) in
     let before = c.loop-col.invariant ∙ ap (λ l. string_bytes c.args.text.now ++ (codes "    [" ++ join_by item (codes ",") (map w l))) all in
     ended c.push_str-2.result _ _ _ _ _ c.push_str-2.ensures.bytes before

@@ -2,5 +2,5 @@ use Rattle.std.proofs.Common.{sym}
 use Rattle.grid.proofs.SeenLemmas.{seen_rows}
 use Rattle.grid.proofs.grid.Grid.rows.Goals as goal
 
-pub returns-clause-rows : goal.returns-clause-rows
-returns-clause-rows g c = sym (seen_rows _ _ _ _ _ c.self.inside.fits c.self.view_is)
+pub returns : goal.returns
+returns g c = record { rows = sym (seen_rows _ _ _ _ _ c.self.inside.fits c.self.view_is) }

@@ -1,5 +1,7 @@
-use Rattle.std.proofs.Common.{arith}
+use Rattle.std.proofs.Common.{arith, ap, ◌∙◌}
+use Rattle.grid_base.specs.Table.{row_count, col_count}
 use Rattle.grid_base.proofs.StorageLemmas.{place_within}
+use Rattle.grid_base.proofs.WriteLemmas.{rows-exchanged, cols-exchanged}
 use Rattle.grid.proofs.SeenLemmas.{seen_row_in, seen_col_in}
 use Rattle.grid.proofs.CellWriteLemmas.{rows_swapped}
 use Rattle.grid.proofs.grid.Grid.swap.Goals as goal
@@ -36,3 +38,9 @@ returns-clause-rows g c =
     let b_col = seen_col_in _ _ _ _ _ c.self.inside.fits _ _ c.self.view_is c.requires.b_in in
     rw (c.swap.ensures, c.place-i.ensures, c.place-j.ensures)
     (rows_swapped _ _ _ _ _ c.args.a c.args.b c.self.inside.fits c.self.view_is a_row a_col b_row b_col)
+
+pub returns-clause-row_count : goal.returns-clause-row_count
+returns-clause-row_count g c = ap row_count (returns-clause-rows g c) ∙ rows-exchanged c.args.self.now.rows c.args.self.now.table c.args.a c.args.b
+
+pub returns-clause-col_count : goal.returns-clause-col_count
+returns-clause-col_count g c = ap col_count (returns-clause-rows g c) ∙ cols-exchanged c.args.self.now.rows c.args.self.now.table c.args.a c.args.b

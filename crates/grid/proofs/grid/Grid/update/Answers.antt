@@ -1,5 +1,5 @@
 use Rattle.grid.proofs.CellCallLemmas.{seen_callable, seen_tabulated}
-use Rattle.grid.proofs.SeenAllCellsLemmas.{whole_rows, whole_cols, whole_table}
+use Rattle.grid.proofs.SeenAllCellsLemmas.{whole_rows, whole_cols}
 use Rattle.grid.proofs.grid.Grid.update.Goals as goal
 
 pub returns-clause-rows : goal.returns-clause-rows
@@ -7,9 +7,6 @@ returns-clause-rows g c = whole_rows _ _ _ _ _ _ c.self.inside.fits c.self.view_
 
 pub returns-clause-cols : goal.returns-clause-cols
 returns-clause-cols g c = whole_cols _ _ _ _ _ _ c.self.inside.fits c.self.view_is c.update.ensures.len
-
-pub returns-clause-table : goal.returns-clause-table
-returns-clause-table g c = whole_table _ _ _ _ _ _ c.self.inside.fits c.self.view_is c.update.ensures.len
 
 pub returns-clause-cells : goal.returns-clause-cells
 returns-clause-cells g c = seen_tabulated _ _ _ _ _ c.self.inside.fits c.self.view_is _ _ _ c.update.ensures.len c.update.ensures.cells

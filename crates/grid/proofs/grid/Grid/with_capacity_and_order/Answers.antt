@@ -4,5 +4,5 @@ use Rattle.grid.proofs.grid.Grid.with_capacity_and_order.Goals as goal
 
 pub returns-clause-rows : goal.returns-clause-rows
 returns-clause-rows g c =
-    none_by_storage c.args.order _ c.from_vec_with_order.ensures.table
+    none_by_storage c.args.order _ c.from_vec_with_order.result.table
     (ap length c.from_vec_with_order.ensures.storage ∙ ap length c.in_ok-cells.ensures.items)

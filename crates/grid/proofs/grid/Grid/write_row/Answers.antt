@@ -25,7 +25,7 @@ returns g c =
     let took = g.W.Write.write_str_gives in
     let text = g.T.Debug.debug_output in
     let line = row c.args.self.now.rows c.args.r in
-    let all : take c.loop-col.col line ≡ line = whole_row c.args.self.now.rows c.args.r c.loop-col.col c.size-cols.ensures.table c.requires (omega arith) in
+    let all : take c.loop-col.col line ≡ line = whole_row c.args.self.now.rows c.args.r c.loop-col.col c.args.self.now.table c.requires (omega arith) in
     displays_from took c.args.f.now c.write-2.new.self c.write-2.result (debug_list text line) (λ p ok.
     shows_part_then took c.args.f.now c.loop-col.f c.write-2.new.self (91 ∷ []) (debug_items text [] line) (Some (93 ∷ []))
     (rw all at (c.loop-col.invariant p))

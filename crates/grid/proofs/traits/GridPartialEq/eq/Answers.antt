@@ -15,4 +15,4 @@ returns-then-eq g c =
     let cols : col_count a.rows ≡ col_count b.rows = omega arith in
     c.eq-then-eq.ensures
     ∙ ((λ k. pointwise E (c.flatten.ensures k) ((c.flatten-then-eq.ensures ∙ ap (λ o. storage o b.rows) (sym order)) k))
-    ∙ same_stored E a.order a.rows b.rows c.size-rows.ensures.table c.size-other_rows.ensures.table rows cols)
+    ∙ same_stored E a.order a.rows b.rows a.table b.table rows cols)

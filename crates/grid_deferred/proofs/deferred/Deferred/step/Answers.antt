@@ -8,7 +8,7 @@ use Rattle.grid_deferred.proofs.PendingLemmas.{pending-then, shown-then, reply-t
 use Rattle.grid_deferred.proofs.deferred.Deferred.step.Goals as goal
 
 pub returns-in-Apply-clause-rows : goal.returns-in-Apply-clause-rows
-returns-in-Apply-clause-rows g c = λ d h. rw c.in-Apply.is (shown-then d _ _ _ _ c.then-self.ensures c.size-size.ensures.table)
+returns-in-Apply-clause-rows g c = λ d h. rw c.in-Apply.is (shown-then d _ _ _ _ c.then-self.ensures c.args.self.now.base.now.table)
 
 pub returns-in-Apply-clause-reply : goal.returns-in-Apply-clause-reply
 returns-in-Apply-clause-reply g c = λ h. rw c.in-Apply.is (reply-then _ _)
@@ -51,7 +51,6 @@ returns-in_default g c =
     λ u is. absurd (none_applied (command_value c.args.command) still u is) in
     record {
       same_reference = refl;
-      table = e.table;
       rows = e.rows;
       applied = ok_any _ none;
       reply = e.reply;
