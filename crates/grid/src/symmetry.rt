@@ -43,8 +43,7 @@ impl<T, A: Allocator> Grid<T, A> {
         ensures rows { self.new.rows ≡ act FlipRows self.old.rows }
         ensures order { self.new.order ≡ self.old.order }
     {
-        let mut tally = Tally::new();
-        self.flip_rows_counted(&mut tally);
+        self.apply(Symmetry::FlipRows);
     }
 
     /// Reverses each row. The order of the storage stays.
@@ -56,8 +55,7 @@ impl<T, A: Allocator> Grid<T, A> {
         ensures rows { self.new.rows ≡ act FlipCols self.old.rows }
         ensures order { self.new.order ≡ self.old.order }
     {
-        let mut tally = Tally::new();
-        self.flip_cols_counted(&mut tally);
+        self.apply(Symmetry::FlipCols);
     }
 
     /// Rotates the grid a quarter turn counterclockwise: a transpose, then a flip of the rows. Flips the order.
@@ -93,8 +91,7 @@ impl<T, A: Allocator> Grid<T, A> {
         ensures rows { self.new.rows ≡ act RotateHalf self.old.rows }
         ensures order { self.new.order ≡ self.old.order }
     {
-        let mut tally = Tally::new();
-        self.rotate_half_counted(&mut tally);
+        self.apply(Symmetry::RotateHalf);
     }
 
     /// Applies a symmetry: the rows become their image under it, which is their image under every word of moves that

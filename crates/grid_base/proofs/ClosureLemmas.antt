@@ -1,12 +1,12 @@
 -- Closures, call by call.
-use Rattle.std.proofs.Common.{◌≡◌, ℕ, zero, suc, List, [], ◌∷◌, ◌++◌, map, refl, sym, subst, ◌∙◌, ap, replicate, length, take, arith}
+use Rattle.std.proofs.Common.{◌≡◌, ℕ, zero, suc, List, [], ◌∷◌, ◌++◌, map, refl, sym, subst, ◌∙◌, ap, length, take, arith}
 use Rattle.std.proofs.lemmas.List.{length-append}
 use Rattle.std.proofs.Math.Seq.{get_or-append_seam}
 use Rattle.std.specs.List.{FoldsTo, AllZip}
 use denote.Param.Members.{Mut, Called}
 use denote.Param.Always.{always_mut, mut_next}
 use denote.Ref.{Bor}
-use Rattle.grid_base.specs.ClosureCalls.{MapsThrough, MapsTo, Generates, PairsUp, CallableAtEach, CallableAtCells, CallableAtItems, ReturnsAtCell}
+use Rattle.grid_base.specs.ClosureCalls.{MapsThrough, MapsTo, PairsUp, CallableAtEach, CallableAtCells, CallableAtItems}
 
 -- one more answer
 pub MapsThrough-append : {F A B : Type 0} (step : F → A → B → F → Type 0) (f g h : F) (xs : List A) (ys : List B) (x : A) (y : B) → MapsThrough step f xs ys g → step g x y h → MapsThrough step f (xs ++ x ∷ []) (ys ++ y ∷ []) h
@@ -32,11 +32,6 @@ module _ {F A B : Type 0} (step : F → A → B → F → Type 0) (h : A → B) 
   answers_map f g (x ∷ xs) [] a = absurd a
   answers_map f g (x ∷ xs) (y ∷ ys) a = λ i. k f x y a.0 a.1 i ∷ answers_map a.0 g xs ys a.2 i
 
-module _ {F B : Type 0} (step : F → B → F → Type 0) (b : B) (k : (p : F) (y : B) (q : F) → step p y q → y ≡ b) where
-  gives_same : (f g : F) (ys : List B) → FoldsTo step f ys g → ys ≡ replicate (length ys) b
-  gives_same f g [] a = refl
-  gives_same f g (y ∷ ys) a = λ i. k f y a.0 a.1 i ∷ gives_same a.0 g ys a.2 i
-
 module _ {A B : Type 0} (R : A → B → Type 0) (h : A → B) (k : (x : A) (y : B) → R x y → y ≡ h x) where
   zips_map : (xs : List A) (ys : List B) → AllZip R xs ys → ys ≡ map h xs
   zips_map [] [] a = refl
@@ -47,9 +42,6 @@ module _ {A B : Type 0} (R : A → B → Type 0) (h : A → B) (k : (x : A) (y :
 -- where each answer is h of its item, whatever the state, the answers are h of the items
 pub answers_pure : {F A B : Type 0} {step : F → A → B → F → Type 0} {f : F} {xs : List A} {ys : List B} → MapsTo step f xs ys → (h : A → B) → ((p : F) (x : A) (y : B) (q : F) → step p x y q → y ≡ h x) → ys ≡ map h xs
 answers_pure {step = step} {f} {xs} {ys} r h k = answers_map step h k f r.last xs ys r.calls
-
-pub gives_pure : {F B : Type 0} {step : F → B → F → Type 0} {f : F} {ys : List B} → Generates step f ys → (b : B) → ((p : F) (y : B) (q : F) → step p y q → y ≡ b) → ys ≡ replicate (length ys) b
-gives_pure {step = step} {f} {ys} r b k = gives_same step b k f r.last ys r.calls
 
 pub pairs_pure : {A B : Type 0} {R : A → B → Type 0} {xs : List A} {ys : List B} → PairsUp R xs ys → (h : A → B) → ((x : A) (y : B) → R x y → y ≡ h x) → ys ≡ map h xs
 pairs_pure {R = R} {xs} {ys} r h k = zips_map R h k xs ys r.places

@@ -17,16 +17,6 @@ pub record Weaving {T : Type 0} (p q i k g x : ℕ) (old now : List T) : Type 0 
   pub waiting : (y : ℕ) → y < g * k → slice_get now (x + y) ≡ slice_get old (p * q + y)
   pub woven : (l j : ℕ) → g ≤ l → l < p → j < k → slice_get now (l * (q + k) + (i + j)) ≡ slice_get old (p * q + (l * k + j))
 
-pub weaving_none : {T : Type 0} (p q i k : ℕ) (xs : List T) → Weaving p q i k p (p * q) xs xs
-weaving_none p q i k xs =
-    record {
-      length_stays = refl;
-      placed = λ y a b. absurd (omega arith);
-      kept = λ y a. refl;
-      waiting = λ y a. refl;
-      woven = λ l j a b c. absurd (omega arith);
-    }
-
 weaving_one : {T : Type 0} (p q i k h z m x : ℕ) (old now new : List T) → i ≤ q → h < p → z ≡ i + h * q → z ≤ p * q → x ≡ min (z + q) (p * q) → m ≡ x - z → Weaving p q i k (h + 1) x old now → BlocksExchanged z m ((h + 1) * k) now new → Weaving p q i k h z old new
 weaving_one p q i k h z m x old now new le lh ez lz ex em w moved =
     let e : z + (q - i) ≡ (h + 1) * q = omega arith in

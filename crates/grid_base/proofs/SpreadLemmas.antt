@@ -1,12 +1,12 @@
 -- Where the cells of lines stand once each line has room for a group.
 use Rattle.std.proofs.Common.{◌≡◌, ◌≢◌, ℕ, ◌+◌, ◌-◌, ◌*◌, ◌/◌, ◌%◌, ◌<◌, ◌≤◌, List, length, min, refl, sym, ◌∙◌, ap, arith, ⊎_elim}
 use Rattle.std.specs.List.{slice_get}
-use Rattle.std.proofs.lemmas.Nat.{div-mul-add, div-add-mod', mod_below, same_from_place, le-div, div_below}
+use Rattle.std.proofs.lemmas.Nat.{div-mul-add, div-add-mod', mod_below, same_from_place, le-div}
 use Rattle.std.proofs.lemmas.Bool.{cases_lt, cases_eq}
 use Rattle.std.proofs.Math.Nat.{mul-le-mul_right}
 use Rattle.grid_base.specs.Groups.{Widened, Opened}
 use Rattle.grid_base.proofs.WeaveLemmas.{place_below}
-use Rattle.grid_base.proofs.BlockLemmas.{MovedForward, MovedBack}
+use Rattle.grid_base.proofs.ShiftLemmas.{MovedForward, MovedBack}
 
 -- the place of cell x once each line of q cells has a group of k cells before its place i
 pub spread : (q i k x : ℕ) → ℕ
@@ -34,22 +34,6 @@ module _ (q i k : ℕ) (le : i ≤ q) where
   spread_rises x y some lt =
       let up : (x + (q - i)) / q ≤ (y + (q - i)) / q = le-div ((x + (q - i)) / q) (y + (q - i)) q some (omega (arith, groups_at x some)) in
       omega (arith, mul-le-mul_right k up)
-
-  pub spread_above : (x : ℕ) → 0 < q → 0 < k → i ≤ x → x < spread q i k x
-  unfolding spread
-  spread_above x some grows from =
-      let up : 1 ≤ (x + (q - i)) / q = le-div 1 (x + (q - i)) q some (omega arith) in
-      omega (arith, mul-le-mul_right k up)
-
-  pub spread_within : (p x : ℕ) → x < p * q → spread q i k x < p * (q + k)
-  unfolding spread
-  spread_within p x lt =
-      ⊎_elim (λ none. absurd (omega (arith, ap (λ y. p * y) none)))
-      (λ some_not.
-      let some : 0 < q = omega arith in
-      let up : (x + (q - i)) / q < p + 1 = div_below (x + (q - i)) q (p + 1) some (omega arith) in
-      let le : (x + (q - i)) / q ≤ p = omega arith in
-      omega (arith, mul-le-mul_right k le)) (cases_eq q 0)
 
   -- the place of a group's cell is no other's
   pub spread_misses : (l j x : ℕ) → 0 < q → j < k → spread q i k x ≢ l * (q + k) + (i + j)

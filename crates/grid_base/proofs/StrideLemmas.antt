@@ -15,18 +15,6 @@ use Rattle.std.proofs.lemmas.Option.{unwrap_or-slice_get}
 use Rattle.grid_base.specs.Strides.{every, strided, strided_remaining, IsLine, LinesInOrder, LinesInReverse, EachLineInOrder, EachLineInReverse}
 use Rattle.grid_base.proofs.RemainingLemmas.{remaining_all, remaining_next, remaining_next_back}
 
-module _ {X : Type 0} where
-  every_none : (n g : ℕ) (xs : List X) → length xs ≤ n → every n g xs ≡ []
-  every_none n g [] h = refl
-  every_none zero g (x ∷ xs) h = absurd (omega arith)
-  every_none (suc n) g (x ∷ xs) h = every_none n g xs (omega arith)
-
-  every_past : (n g : ℕ) (xs : List X) (y : X) (ys : List X) → length xs ≡ n → every n g (xs ++ y ∷ ys) ≡ y ∷ every g g ys
-  every_past zero g [] y ys h = refl
-  every_past (suc n) g [] y ys h = absurd (omega arith)
-  every_past zero g (x ∷ xs) y ys h = absurd (omega arith)
-  every_past (suc n) g (x ∷ xs) y ys h = every_past n g xs y ys (omega arith)
-
 -- ---- a walk for writing
 
 module _ {X : Type 0} where

@@ -1,7 +1,7 @@
 -- A table of which one cell is written.
-use Rattle.std.proofs.Common.{◌≡◌, ◌≢◌, ℕ, zero, suc, ◌<◌, ◌≤◌, Option, Some, None, List, [], ◌∷◌, length, set, get_or, refl, sym, ◌∙◌, ap, arith, ⊎_elim}
+use Rattle.std.proofs.Common.{◌≡◌, ◌≢◌, ℕ, zero, suc, ◌<◌, Option, Some, None, List, [], ◌∷◌, length, set, get_or, refl, sym, ◌∙◌, ap, arith, ⊎_elim}
 use Rattle.std.specs.List.{slice_get, swap}
-use Rattle.std.proofs.lemmas.List.{length-set, get_or-set_same, get_or-set_other, set_past, set-get_or}
+use Rattle.std.proofs.lemmas.List.{length-set, get_or-set_same, get_or-set_other}
 use Rattle.std.proofs.lemmas.List.Edits.{swap_is}
 use Rattle.std.proofs.lemmas.Option.{slice_get-get_or}
 use Rattle.std.proofs.lemmas.Nat.{same_from_place}
@@ -128,13 +128,6 @@ module _ {T : Type 0} (o : Order) (m n : ℕ) (cells : List T) (h : HoldsSize m 
       let li : i < m = omega arith in
       let lj : j < n = omega (arith, width-tabulate m n (λ i j. slice_get (set cells (place o m n r c) w) (place o m n i j)) i full li) in
       cell-tabulate m n _ i j full li lj ∙ cell_at i j li lj)
-
--- a write past the end of a row, or of the rows, changes nothing
-pub write_past_cols : {T : Type 0} (t : List (List T)) (r c : ℕ) (w : T) → length (row t r) ≤ c → with_cell t r c w ≡ t
-write_past_cols t r c w h = ap (set t r) (set_past (row t r) c w h) ∙ set-get_or t r []
-
-pub write_past_rows : {T : Type 0} (t : List (List T)) (r c : ℕ) (w : T) → length t ≤ r → with_cell t r c w ≡ t
-write_past_rows t r c w h = set_past t r _ h
 
 -- a swap of two cells' places exchanges the cells
 swap_with : {T : Type 0} (o : Order) (m n : ℕ) (d : T) (cells : List T) (h : HoldsSize m n (length cells)) (a b : ℕ × ℕ) → a.0 < m → a.1 < n → b.0 < m → b.1 < n → table_of o m n (swap cells (place o m n a.0 a.1) (place o m n b.0 b.1)) ≡ exchanged (table_of o m n cells) a b

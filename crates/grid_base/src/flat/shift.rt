@@ -84,7 +84,12 @@ fn swap_back<T>(cells: &mut [T], start: usize, shift: usize, n: usize) -> Swaps
     while 0 < left {
         let run = block.min(left);
         for k in 0..run {
-            swap_for_shift(cells, start + (left - 1 - k), start + (left - 1 - k) + shift, &mut swaps);
+            swap_for_shift(
+                cells,
+                start + (left - 1 - k),
+                start + (left - 1 - k) + shift,
+                &mut swaps,
+            );
         }
         left -= run;
     }

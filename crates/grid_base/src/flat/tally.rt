@@ -1,4 +1,14 @@
-//! Two counts of swaps, and the two counted swaps, which alone raise them.
+//! The two counts of swaps, and all the code that raises them.
+//!
+//! The rule: a counted swap exchanges the cells of two different places and adds one. Nothing else adds to a count.
+//!
+//! - `swap_for_symmetry` and `swap_for_shift` are the only counted swaps. Each adds its one to a run, `Swaps`.
+//! - A run starts empty (`Swaps::none`) and can't be dropped. `Tally::take` consumes it and adds its numbers to the
+//!   tally's two counts, which stop at `u128::MAX`.
+//! - The fields of `Swaps` and `Tally` are private to this module, so no other code can write a number.
+//!
+//! Flips, half turns, expand, prepend and delete move cells by these two swaps alone. Push, insert, pop and remove are
+//! not counted, and may move cells in any way.
 ghost use Rattle.std.specs.Prelude.{◌≡◌, ◌<◌, ◌+◌, ◌-◌, ◌^◌, ◌++◌, length, swap};
 ghost use Rattle.grid_base.specs.Tally.{saturating_count};
 
@@ -49,7 +59,7 @@ impl Tally {
         self.for_shift
     }
 
-    // Takes the swaps of a run. Here a count stops at `u128::MAX`.
+    // Takes the swaps of a run and adds them to the counts. Only here does a count stop at `u128::MAX`.
     pub(super) fn take(&mut self, swaps: Swaps)
         ensures symmetry { self.new.symmetry ≡ saturating_count self.old.symmetry swaps.for_symmetry }
         ensures shift { self.new.shift ≡ saturating_count self.old.shift swaps.for_shift }
@@ -63,16 +73,15 @@ impl Tally {
     }
 }
 
-// The swaps of a run so far: a run begins with none, only the two counted swaps add to them, and they can't be let go:
-// a tally takes them. A run has fewer than 2^64 turns, so that nothing stops a swap from counting, and a loop that holds
-// them by value is vector code.
+// The swaps of one run so far. A run has fewer than 2^64 swaps, so its numbers never stop short. They are held by value
+// and not behind the tally's reference, so that the compiler makes vector code of the loop.
 pub(super) struct Swaps {
     for_symmetry: usize,
     for_shift: usize,
 }
 
 impl Swaps {
-    // Returns those of a run that begins.
+    // Starts a run: no swaps yet.
     pub(super) fn none() -> Swaps
         ensures symmetry { result.for_symmetry ≡ 0 }
         ensures shift { result.for_shift ≡ 0 }
