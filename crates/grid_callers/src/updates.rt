@@ -1,5 +1,5 @@
 //! Whole boards at once, with their rows in the contract and no proof file.
-ghost use Rattle.std.specs.Prelude.{◌≡◌, ◌<◌, ◌≤◌, ◌+◌, ◌/◌, ◌==◌, nat_lt, IfOk, Some, option_map};
+ghost use Rattle.std.specs.Prelude.{◌≡◌, ◌<◌, ◌≤◌, ◌+◌, ◌/◌, ◌%◌, ◌==◌, nat_lt, IfOk, Some, option_map};
 ghost use Rattle.grid_base.specs.Table.{row_count, col_count, cell, tabulate, InRange};
 ghost use Rattle.grid_callers.specs.Rules.{level, before, after, weight, live_in_three, live_around, lives};
 
