@@ -14,17 +14,17 @@
 //!
 //! The calls of [`Grid`] by theme:
 //!
-//! - make one: `empty`; `new`, `init`, `with_capacity`, `from_vec`, `from_arrays`, each in either order; `grid!`,
-//!   `grid_cm!`; `TryFrom` a vector and a number of columns, or a list of rows
+//! - make one: `empty`; `new`, `init`, `from_fn`, `with_capacity`, `from_vec`, `from_arrays`, each in either order;
+//!   `grid!`, `grid_cm!`; `TryFrom` a vector and a number of columns, or a list of rows
 //! - read: `size`, `rows`, `cols`, `order`, `is_empty`, `get`, `get_unchecked`, `grid[(row, col)]`, `flatten`,
 //!   `into_vec`
-//! - write: `get_mut`, `get_unchecked_mut`, `grid[(row, col)] = x`, `swap`, `fill`, `fill_with`, `clear`
+//! - write: `set`, `get_mut`, `get_unchecked_mut`, `grid[(row, col)] = x`, `swap`, `fill`, `fill_with`, `clear`
 //! - rows and columns: `push_*`, `insert_*`, `pop_*`, `remove_*`, `delete_*`, `expand_*`, `prepend_*`
 //! - iterate: `iter`, `iter_row`, `iter_col` and their forms for writing, `iter_rows`, `iter_cols`, `indexed_iter`,
 //!   `indexed_iter_mut`, `indexed_into_iter`, and a `for` over a grid
-//! - the whole grid: `map`, `map_ref`, `clone`, `==`, `Hash`, `Debug`, `pretty`
+//! - the whole grid: `map`, `map_ref`, `map_indexed`, `update`, `clone`, `==`, `Hash`, `Debug`, `pretty`
 //! - turn: `transpose`, `flip_rows`, `flip_cols`, `rotate_left`, `rotate_right`, `rotate_half`, and `apply` of a
-//!   [`Symmetry`], to which [`reduce`] brings a list of [`Move`]s
+//!   [`Symmetry`], one of [`Symmetry::ALL`], to which [`reduce`] brings a list of [`Move`]s
 //! - commands as data: [`Command`], `step`, [`run`]
 #![tactic(auto)]
 

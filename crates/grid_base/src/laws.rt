@@ -1,9 +1,9 @@
-//! The laws of the symmetries as public calls: the eight are a group under `then` and `inverse`, and act as one on
-//! tables of any cells.
+//! The laws of the symmetries as public calls: the eight are a group under `then` and `inverse`, act as one on tables of
+//! any cells, and stand in `Symmetry::ALL`.
 //!
 //! A law is the clause of that name: it speaks of every table or every symmetry. The other clauses say what a call
 //! returns.
-ghost use Rattle.std.specs.Prelude.{◌≡◌, List};
+ghost use Rattle.std.specs.Prelude.{◌≡◌, List, Some, slice_get};
 ghost use Rattle.grid_base.specs.declared.words.Symmetry.{Symmetry};
 ghost use Rattle.grid_base.specs.declared.words.Symmetry.TheVariants.{Identity};
 ghost use Rattle.grid_base.specs.Table.{IsTable};
@@ -70,4 +70,20 @@ pub fn inverse_acts<T>(done: Symmetry) -> Symmetry
         → IsInverse done v → (t : List (List T)) → IsTable t → act v (act done t) ≡ t }
 {
     done.inverse()
+}
+
+/// Returns where [`Symmetry::ALL`] has a symmetry. Since it has eight places, it has each symmetry once.
+pub fn stands_in_all(symmetry: Symmetry) -> usize
+    ensures { slice_get Symmetry.ALL result ≡ Some symmetry }
+{
+    match symmetry {
+        Symmetry::Identity => 0,
+        Symmetry::FlipCols => 1,
+        Symmetry::FlipRows => 2,
+        Symmetry::RotateHalf => 3,
+        Symmetry::Transpose => 4,
+        Symmetry::RotateLeft => 5,
+        Symmetry::RotateRight => 6,
+        Symmetry::AntiTranspose => 7,
+    }
 }

@@ -1,5 +1,5 @@
 //! Whole boards at once, with their rows in the contract and no proof file.
-ghost use Rattle.std.specs.Prelude.{◌≡◌, ◌<◌, ◌≤◌, ◌+◌, ◌/◌, ◌==◌, nat_lt, IfOk, Some, option_map};
+ghost use Rattle.std.specs.Prelude.{◌≡◌, ◌<◌, ◌≤◌, ◌+◌, ◌/◌, ◌%◌, ◌==◌, nat_lt, IfOk, Some, option_map};
 ghost use Rattle.grid_base.specs.Table.{row_count, col_count, cell, tabulate, InRange};
 ghost use Rattle.grid_callers.specs.Rules.{level, before, after, weight, live_in_three, live_around, lives};
 
@@ -50,11 +50,14 @@ pub fn blurred(grid: &Grid<u8>) -> Result<Grid<usize>, AllocError>
     grid.map_indexed(|(row, col), _| (level(grid, row, col) + level(grid, row, col + 1)) / 2)
 }
 
-/// Returns the board of eight rows and columns whose cells are true where the sum of row and column is odd.
-pub fn chessboard(alloc: Global) -> Result<Grid<bool>, GridError>
-    ensures { IfOk result (λ new. new.rows ≡ tabulate 8 8 (λ r c. Some ((r + c) % 2 == 1))) }
+/// Returns the board of this size whose cells are true where row and column are both even or both odd.
+///
+///     chessboard(alloc, 2, 3)   [[true, false, true], [false, true, false]]
+pub fn chessboard(alloc: Global, rows: usize, cols: usize) -> Result<Grid<bool>, GridError>
+    ensures { IfOk result (λ new. 0 < rows → 0 < cols
+        → new.rows ≡ tabulate rows cols (λ r c. Some (r % 2 == c % 2))) }
 {
-    Grid::from_fn(alloc, 8, 8, |(row, col)| (row + col) % 2 == 1)
+    Grid::from_fn(alloc, rows, cols, |(row, col)| row % 2 == col % 2)
 }
 
 fn place_before(at: usize, len: usize) -> usize

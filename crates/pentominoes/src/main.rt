@@ -5,7 +5,7 @@
 #![tactic(auto)]
 
 ghost use Rattle.std.specs.Prelude.{◌≡◌, ◌∷◌, []};
-ghost use Rattle.grid_base.specs.declared.words.Symmetry.TheVariants.{Identity, FlipCols, FlipRows, RotateHalf, Transpose, RotateLeft, RotateRight, AntiTranspose};
+ghost use Rattle.grid_base.specs.declared.words.Symmetry.TheVariants.{Identity, RotateHalf, RotateLeft, RotateRight};
 
 use anyhow::Result;
 use grid::{Grid, Move, Symmetry, reduce};
@@ -23,18 +23,6 @@ fn rotations() -> [Symmetry; 4]
     let half = reduce(&[turn, turn]);
     let right = reduce(&[turn, turn, turn]);
     [reduce(&[]), reduce(&[turn]), half, right]
-}
-
-// The rotations, and those of the mirror image.
-fn all_symmetries() -> [Symmetry; 8]
-    ensures { result ≡ Identity ∷ RotateLeft ∷ RotateHalf ∷ RotateRight
-        ∷ FlipCols ∷ Transpose ∷ FlipRows ∷ AntiTranspose ∷ [] }
-{
-    let [r0, r1, r2, r3] = rotations();
-    let mirror = Symmetry::FlipCols;
-    let (m0, m1) = (mirror.then(r0), mirror.then(r1));
-    let (m2, m3) = (mirror.then(r2), mirror.then(r3));
-    [r0, r1, r2, r3, m0, m1, m2, m3]
 }
 
 // Adds a row or a column of empty cells on each side.
@@ -133,7 +121,7 @@ fn run<R: Print + AllocGlobal>(rt: &R) -> Result<()> {
             fixed = next_fixed(rt.alloc(), fixed.as_slice())?;
         }
         let one_sided = kinds(rt.alloc(), fixed.as_slice(), &rotations())?;
-        free = kinds(rt.alloc(), one_sided.as_slice(), &all_symmetries())?;
+        free = kinds(rt.alloc(), one_sided.as_slice(), &Symmetry::ALL)?;
         let counts = (free.len(), one_sided.len(), fixed.len());
         println!(rt; "{cells:5} {:5} {:10} {:6}", counts.0, counts.1, counts.2)?;
     }
