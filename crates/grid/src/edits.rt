@@ -10,16 +10,7 @@ mod insert;
 mod pad;
 mod remove;
 
-use grid_base::Order;
-
-// Rows as the vector sees them: `count` cells before place `at` of each of `lines` lines of `width` cells.
-#[derive(Drop)]
-struct Groups {
-    lines: usize,
-    width: usize,
-    at: usize,
-    count: usize,
-}
+use grid_base::{Groups, Order};
 
 // Returns the groups that are `count` rows before row `at` of a table. Row-major the table is one line, column-major
 // each column is one:
@@ -31,9 +22,7 @@ fn row_groups(order: Order, rows: usize, cols: usize, at: usize, count: usize) -
     requires place { at ≤ rows }
     ensures groups { RowGroups
         order rows cols at count result.lines result.width result.at result.count }
-    ensures cells { result.lines * result.width ≡ rows * cols }
-    ensures added { result.lines * result.count ≡ count * cols }
-    ensures within { result.at ≤ result.width }
+    ensures cells { result.lines * (result.width + result.count) ≡ (rows + count) * cols }
     ensures has_lines { 0 < cols → 0 < result.lines }
     ensures has_width { 0 < rows * cols → 0 < result.width }
     ensures has_count { 0 < count * cols → 0 < result.count }

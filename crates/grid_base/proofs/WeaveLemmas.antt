@@ -1,5 +1,5 @@
 -- Lines and groups that are woven half by half.
-use Rattle.std.proofs.Common.{◌≡◌, ℕ, ◌+◌, ◌-◌, ◌*◌, ◌/◌, ◌<◌, ◌≤◌, ◌++◌, List, length, sym, ◌∙◌, ap, arith, ⊎_elim, length-append}
+use Rattle.std.proofs.Common.{◌≡◌, ℕ, ◌+◌, ◌-◌, ◌*◌, ◌/◌, ◌<◌, ◌≤◌, ◌++◌, List, length, refl, sym, ◌∙◌, ap, arith, ◌⊎◌, ⊎_elim, length-append}
 use Rattle.std.specs.List.{slice_get}
 use Rattle.std.proofs.lemmas.Nat.{mul-add-lt}
 use Rattle.std.proofs.lemmas.Bool.{cases_lt}
@@ -108,3 +108,24 @@ pub whole_of_halves : (p q : ℕ) → p / 2 * q + (p - p / 2) * q ≡ p * q
 whole_of_halves p q =
     let e : p / 2 + (p - p / 2) ≡ p = omega arith in
     omega (arith, ap (λ x. x * q) e)
+
+-- lines without cells, and one line with its group at its end
+pub woven_in_place : {T : Type 0} (p q i k : ℕ) (xs : List T) → i ≤ q → (q ≡ 0) ⊎ ((p ≤ 1) × (i ≡ q)) → Woven p q i k xs xs
+woven_in_place p q i k xs le stand =
+    ⊎_elim
+    (λ none. record {
+      lengths = refl;
+      lines = record { before = λ l j a b c. absurd (omega arith); after = λ l j a b c. absurd (omega arith) };
+      groups = λ l j a b. ap (slice_get xs) (omega (arith, ap (λ v. l * v) none, ap (λ v. p * v) none));
+    })
+    (λ s. record {
+      lengths = refl;
+      lines = record {
+        before = λ l j a b c. let first : l ≡ 0 = omega (arith, s.0) in ap (slice_get xs) (omega (arith, ap (λ v. v * k) first));
+        after = λ l j a b c. absurd (omega (arith, s.1));
+      };
+      groups = λ l j a b.
+          let first : l ≡ 0 = omega (arith, s.0) in
+          let one : p ≡ 1 = omega (arith, s.0) in
+          ap (slice_get xs) (omega (arith, s.1, ap (λ v. v * q) one, ap (λ v. v * (q + k)) first, ap (λ v. v * k) first));
+    }) stand

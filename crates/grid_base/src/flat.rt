@@ -7,6 +7,7 @@ mod blocks;
 mod clone;
 mod ends;
 mod gather;
+mod groups;
 mod indexed;
 mod line_iter;
 mod lines;
@@ -21,6 +22,7 @@ mod tally;
 mod turn;
 mod whole;
 
+pub use groups::Groups;
 pub use indexed::{IndexedIntoIter, IndexedIter, IndexedIterMut};
 pub use line_iter::GridLineIter;
 pub use order::Order;

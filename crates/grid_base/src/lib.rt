@@ -7,7 +7,7 @@ pub mod laws;
 mod words;
 
 pub use flat::{
-    Flat, GridLineIter, GridLineIterMut, GridRowIter, IndexedIntoIter, IndexedIter, IndexedIterMut,
-    Order, Tally, Whole,
+    Flat, GridLineIter, GridLineIterMut, GridRowIter, Groups, IndexedIntoIter, IndexedIter,
+    IndexedIterMut, Order, Tally, Whole,
 };
 pub use words::{Move, Symmetry, reduce};

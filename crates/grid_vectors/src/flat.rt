@@ -1,5 +1,5 @@
 //! Each line edit of the bare vector.
-use grid_base::{Flat, Tally};
+use grid_base::{Flat, Groups, Tally};
 use std::alloc::{AllocError, Global};
 use std::process::Abort;
 
@@ -10,7 +10,12 @@ const TWENTY: [u8; 20] = [
 #[test]
 fn weave_puts_a_group_into_each_line(rt: HostRuntime) -> Result<(), AllocError> {
     let mut flat = Flat::from_vec(vec![in rt.alloc(); 1, 2, 3, 4, 5, 6, 10, 11, 20, 21]?);
-    flat.weave(2, 3, 1, 2);
+    flat.weave(Groups {
+        lines: 2,
+        width: 3,
+        at: 1,
+        count: 2,
+    });
     assert_eq!(rt;
         flat.as_slice(),
         [1, 10, 11, 2, 3, 4, 20, 21, 5, 6].as_slice()
@@ -21,7 +26,12 @@ fn weave_puts_a_group_into_each_line(rt: HostRuntime) -> Result<(), AllocError> 
 #[test]
 fn unweave_takes_the_groups_out_of_each_line(rt: HostRuntime) -> Result<(), AllocError> {
     let mut flat = Flat::from_vec(vec![in rt.alloc(); 1, 10, 2, 3, 20, 4, 5, 30, 6]?);
-    flat.unweave(3, 2, 1, 1);
+    flat.unweave(Groups {
+        lines: 3,
+        width: 2,
+        at: 1,
+        count: 1,
+    });
     assert_eq!(rt; flat.as_slice(), [1, 2, 3, 4, 5, 6, 10, 20, 30].as_slice());
     Ok(())
 }
@@ -29,10 +39,22 @@ fn unweave_takes_the_groups_out_of_each_line(rt: HostRuntime) -> Result<(), Allo
 #[test]
 fn groups_that_stand_in_place_stay(rt: HostRuntime) -> Result<(), AllocError> {
     let mut flat = Flat::from_vec(vec![in rt.alloc(); 1, 2, 3, 4, 5, 6]?);
-    flat.weave(3, 0, 0, 2);
-    flat.unweave(3, 0, 0, 2);
-    flat.weave(1, 4, 4, 2);
-    flat.unweave(1, 4, 4, 2);
+    let in_empty_lines = Groups {
+        lines: 3,
+        width: 0,
+        at: 0,
+        count: 2,
+    };
+    flat.weave(in_empty_lines);
+    flat.unweave(in_empty_lines);
+    let at_the_end = Groups {
+        lines: 1,
+        width: 4,
+        at: 4,
+        count: 2,
+    };
+    flat.weave(at_the_end);
+    flat.unweave(at_the_end);
     assert_eq!(rt; flat.as_slice(), [1, 2, 3, 4, 5, 6].as_slice());
     Ok(())
 }
@@ -41,7 +63,15 @@ fn groups_that_stand_in_place_stay(rt: HostRuntime) -> Result<(), AllocError> {
 fn open_at_the_end_spreads_the_lines(rt: HostRuntime) -> Result<(), AllocError> {
     let mut flat = Flat::from_vec(vec![in rt.alloc(); 1, 2, 3, 4, 5, 6, 0, 0, 0, 0]?);
     let mut tally = Tally::new();
-    flat.open(2, 3, 3, 2, &mut tally);
+    flat.open(
+        Groups {
+            lines: 2,
+            width: 3,
+            at: 3,
+            count: 2,
+        },
+        &mut tally,
+    );
     assert_eq!(rt; flat.as_slice(), [1, 2, 3, 0, 0, 4, 5, 6, 0, 0].as_slice());
     assert_eq!(rt; tally.shift(), 3);
     Ok(())
@@ -51,7 +81,15 @@ fn open_at_the_end_spreads_the_lines(rt: HostRuntime) -> Result<(), AllocError> 
 fn open_at_the_beginning_spreads_the_lines(rt: HostRuntime) -> Result<(), AllocError> {
     let mut flat = Flat::from_vec(vec![in rt.alloc(); 1, 2, 3, 4, 5, 6, 0, 0, 0, 0]?);
     let mut tally = Tally::new();
-    flat.open(2, 3, 0, 2, &mut tally);
+    flat.open(
+        Groups {
+            lines: 2,
+            width: 3,
+            at: 0,
+            count: 2,
+        },
+        &mut tally,
+    );
     assert_eq!(rt; flat.as_slice(), [0, 0, 1, 2, 3, 0, 0, 4, 5, 6].as_slice());
     assert_eq!(rt; tally.shift(), 6);
     Ok(())
@@ -61,7 +99,15 @@ fn open_at_the_beginning_spreads_the_lines(rt: HostRuntime) -> Result<(), AllocE
 fn close_up_keeps_the_lines(rt: HostRuntime) -> Result<(), AllocError> {
     let mut flat = Flat::from_vec(vec![in rt.alloc(); 1, 10, 11, 2, 3, 20, 21, 4, 5, 30, 31, 6]?);
     let mut tally = Tally::new();
-    flat.close_up(3, 2, 1, 2, &mut tally);
+    flat.close_up(
+        Groups {
+            lines: 3,
+            width: 2,
+            at: 1,
+            count: 2,
+        },
+        &mut tally,
+    );
     assert_eq!(rt; flat.as_slice(), [1, 2, 3, 4, 5, 6].as_slice());
     assert_eq!(rt; tally.shift(), 5);
     Ok(())
@@ -71,10 +117,16 @@ fn close_up_keeps_the_lines(rt: HostRuntime) -> Result<(), AllocError> {
 fn cells_move_by_one_place_and_back(rt: HostRuntime) -> Result<(), AllocError> {
     let mut flat = Flat::from_vec(vec![in rt.alloc(); 1, 2, 3, 4, 0]?);
     let mut tally = Tally::new();
-    flat.open(1, 4, 1, 1, &mut tally);
+    let gap = Groups {
+        lines: 1,
+        width: 4,
+        at: 1,
+        count: 1,
+    };
+    flat.open(gap, &mut tally);
     assert_eq!(rt; flat.as_slice(), [1, 0, 2, 3, 4].as_slice());
     assert_eq!(rt; tally.shift(), 3);
-    flat.close_up(1, 4, 1, 1, &mut tally);
+    flat.close_up(gap, &mut tally);
     assert_eq!(rt; flat.as_slice(), [1, 2, 3, 4].as_slice());
     assert_eq!(rt; tally.shift(), 6);
     Ok(())
@@ -86,7 +138,13 @@ fn cells_move_by_nine_places_and_back(rt: HostRuntime) -> Result<(), AllocError>
         1, 2, 3, 4, 5, 6, 7, 8, 9, 10, 11, 12, 0, 0, 0, 0, 0, 0, 0, 0, 0,
     ]?);
     let mut tally = Tally::new();
-    flat.open(1, 12, 1, 9, &mut tally);
+    let gap = Groups {
+        lines: 1,
+        width: 12,
+        at: 1,
+        count: 9,
+    };
+    flat.open(gap, &mut tally);
     assert_eq!(rt;
         flat.as_slice(),
         [
@@ -95,7 +153,7 @@ fn cells_move_by_nine_places_and_back(rt: HostRuntime) -> Result<(), AllocError>
         .as_slice()
     );
     assert_eq!(rt; tally.shift(), 11);
-    flat.close_up(1, 12, 1, 9, &mut tally);
+    flat.close_up(gap, &mut tally);
     assert_eq!(rt;
         flat.as_slice(),
         [1, 2, 3, 4, 5, 6, 7, 8, 9, 10, 11, 12].as_slice()
@@ -155,10 +213,16 @@ fn check_gap(
     let mut flat = Flat::from_vec(Vec::from_slice(alloc, cells)?);
     flat.append_defaults(count)?;
     let mut tally = Tally::new();
-    flat.open(1, width, at, count, &mut tally);
+    let gap = Groups {
+        lines: 1,
+        width,
+        at,
+        count,
+    };
+    flat.open(gap, &mut tally);
     assert_eq!(rt; flat.as_slice(), opened);
     assert_eq!(rt; tally.shift(), (width - at) as u128);
-    flat.close_up(1, width, at, count, &mut tally);
+    flat.close_up(gap, &mut tally);
     assert_eq!(rt; flat.as_slice(), cells);
     assert_eq!(rt; tally.shift(), 2 * (width - at) as u128);
     Ok(())

@@ -28,7 +28,7 @@ fn weave_rows<T, A: Allocator>(
     ensures { RowsInserted order rows cols at count flat.old flat.new }
 {
     let groups = row_groups(order, rows, cols, at, count);
-    flat.weave(groups.lines, groups.width, groups.at, groups.count);
+    flat.weave(groups);
 }
 
 // Frees lines that have no cells left.

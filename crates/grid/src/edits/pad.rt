@@ -35,7 +35,7 @@ fn open_rows<T, A: Allocator>(
         ≡ saturating_count tally.old.shift (rows_added_shift order rows cols at count) }
 {
     let groups = row_groups(order, rows, cols, at, count);
-    flat.open(groups.lines, groups.width, groups.at, groups.count, tally);
+    flat.open(groups, tally);
 }
 
 impl<T, A: Allocator> Grid<T, A> {

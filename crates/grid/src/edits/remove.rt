@@ -32,7 +32,7 @@ fn unweave_row<T, A: Allocator>(
     ensures { RowMovedToEnd order cols at rest flat.old flat.new }
 {
     let groups = row_groups(order, rest, cols, at, 1);
-    flat.unweave(groups.lines, groups.width, groups.at, groups.count);
+    flat.unweave(groups);
 }
 
 // Drops `count` rows from row `at` on; `rest` rows stay.
@@ -56,7 +56,7 @@ fn close_rows<T: Drop, A: Allocator>(
         ≡ saturating_count tally.old.shift (rows_taken_shift order (rest + count) cols at count) }
 {
     let groups = row_groups(order, rest, cols, at, count);
-    flat.close_up(groups.lines, groups.width, groups.at, groups.count, tally);
+    flat.close_up(groups, tally);
 }
 
 impl<T, A: Allocator> Grid<T, A> {

@@ -4,9 +4,9 @@ use Rattle.grid_base.proofs.flat.lines.weave_in_turn.Given as goal
 
 abbrev pub invariant-loop-line : goal.invariant-loop-line
 invariant-loop-line g l = record {
-  run : Weaving l.lines l.width l.at l.count l.line l.end l.fn.cells l.cells;
-  within : l.line ≤ l.lines;
-  place : l.end ≡ min (l.at + l.line * l.width) (l.lines * l.width);
+  run : Weaving l.groups.lines l.groups.width l.groups.at l.groups.count l.line l.end l.fn.cells l.cells;
+  within : l.line ≤ l.groups.lines;
+  place : l.end ≡ min (l.groups.at + l.line * l.groups.width) (l.groups.lines * l.groups.width);
 }
 
 abbrev pub decreases-loop-line : goal.decreases-loop-line

@@ -1,0 +1,38 @@
+use Rattle.std.proofs.Common.{◌≡◌, ◌+◌, ◌-◌, ◌*◌, ◌≤◌, refl, ap, arith}
+use Rattle.std.proofs.Math.Nat.{mul-le-mul_right}
+use Rattle.grid_base.proofs.ShiftLemmas.{moved_back}
+use Rattle.grid_base.proofs.SpreadLemmas.{opening_none, opening_run, opening_end, times_less, first_line}
+use Rattle.grid_base.proofs.flat.Flat.open.Goals as goal
+
+pub loop-line-init : goal.loop-line-init
+loop-line-init g c =
+    record { run = opening_none _ _ _ _ refl; within = omega arith; place = omega arith; symmetry = refl; shift = omega arith }
+
+pub move_back-requires-clause-fits : goal.move_back-requires-clause-fits
+move_back-requires-clause-fits g c =
+    let line : c.loop-line.line - 1 + 1 ≤ c.args.groups.lines = omega arith in
+    omega (arith, mul-le-mul_right c.args.groups.width line, mul-le-mul_right c.args.groups.count line)
+
+pub loop-line-preserved : goal.loop-line-preserved
+loop-line-preserved g c =
+    let line : c.loop-line.line - 1 + 1 ≤ c.args.groups.lines = omega arith in
+    let some = times_less c.loop-line.line c.args.groups.width (omega arith) in
+    let before : (c.loop-line.line - 1) * c.args.groups.width + c.args.groups.width ≤ c.args.groups.lines * c.args.groups.width =
+    omega (arith, mul-le-mul_right c.args.groups.width line) in
+    let grows = first_line (c.loop-line.line - 1 + 1) c.args.groups.count (omega arith) in
+    let groups = mul-le-mul_right c.args.groups.count line in
+    let moved = moved_back _ _ _ _ _ (omega arith) (omega (arith, c.loop-line.invariant.run.length_stays)) c.move_back.ensures.moved in
+    record {
+      run = opening_run _ _ _ _ (c.loop-line.line - 1 + 1) _ _ _ _ _ _ c.args.groups.within c.requires.has_count c.requires.cells line (omega arith) (omega arith) (omega arith) refl c.loop-line.invariant.run moved;
+      within = omega arith;
+      place = omega arith;
+      symmetry = omega arith;
+      shift = omega arith;
+    }
+
+pub returns-clause-opened : goal.returns-clause-opened
+returns-clause-opened g c =
+    let reach = first_line c.args.groups.lines c.args.groups.width c.requires.has_lines in
+    let none : c.loop-line.line ≡ 0 = omega arith in
+    let gone = ap (λ v. v * c.args.groups.width) none in
+    opening_end _ _ _ _ _ _ _ c.requires.has_lines c.requires.has_width c.args.groups.within c.requires.cells c.loop-line.invariant.run (omega arith)
