@@ -1,10 +1,10 @@
 -- The grid that is made of cells in storage order is the one that a first line says.
-use Rattle.std.proofs.Common.{◌≡◌, ◌≢◌, ◌⊎◌, inl, inr, ℕ, zero, suc, ◌+◌, ◌*◌, ◌/◌, ◌%◌, ◌<◌, ◌^◌, Bool, true, false, Some, List, [], ◌∷◌, length, refl, ap, sym, ◌∙◌, arith, ℤ}
+use Rattle.std.proofs.Common.{◌≡◌, ◌≢◌, inl, inr, ℕ, zero, suc, ◌+◌, ◌*◌, ◌/◌, ◌%◌, ◌<◌, ◌^◌, true, Some, List, [], ◌∷◌, length, refl, ap, sym, ◌∙◌, arith, ℤ}
 use Rattle.std.proofs.Math.Nat.{zero-div}
 use Rattle.std.proofs.lemmas.Nat.{div-add-mod'}
 use Rattle.std.proofs.lemmas.Bool.Decides.{nat_tests}
 use Rattle.grid_base.specs.declared.flat.order.Order.{Order}
-use Rattle.grid_base.specs.Table.{row_count, col_count, IsTable, tabulate}
+use Rattle.grid_base.specs.Table.{col_count, IsTable, tabulate}
 use Rattle.grid_base.specs.Order.{storage, table_of, CanCut}
 use Rattle.grid_base.specs.GridValue.{HoldsSize}
 use Rattle.grid_base.proofs.ViewLemmas.{same_by_storage, none_by_storage, view-table, view-cols, view-storage}

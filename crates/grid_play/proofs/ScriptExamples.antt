@@ -7,7 +7,7 @@ use Rattle.std.specs.Fmt.{digits}
 use Rattle.grid_base.specs.Table.{cells_by, tabulate}
 use Rattle.grid_base.specs.Symmetry.{act}
 use Rattle.grid_commands.specs.declared.command.Axis.TheVariants.{Row, Col}
-use Rattle.grid_commands.specs.Command.{insert_at, insert_all, get, lines}
+use Rattle.grid_commands.specs.Command.{insert_at, insert_all, lines}
 use Rattle.grid.specs.Step.{step_rows, step_reply}
 use Rattle.grid_play.specs.declared.fault.ScriptFault.TheVariants.{BadGrid, BadCommand}
 use Rattle.grid_play.specs.Lines.{lines_of}

@@ -1,11 +1,11 @@
 -- A script by its first line and the commands of the others.
-use Rattle.std.proofs.Common.{◌≡◌, ◌⊎◌, inl, inr, ℕ, ◌+◌, ◌<◌, List, [], ◌∷◌, ◌∙◌, length, refl, ap, sym, ℤ, arith}
-use Rattle.std.specs.Prelude.{Result, Ok, Err}
+use Rattle.std.proofs.Common.{◌≡◌, ◌⊎◌, inl, inr, ℕ, ◌<◌, List, [], ◌∙◌, length, refl, ℤ}
+use Rattle.std.specs.Prelude.{Ok, Err}
 use Rattle.grid_commands.specs.Command.{CommandValue}
 use Rattle.grid_play.specs.declared.fault.ScriptFault.{ScriptFault}
 use Rattle.grid_play.specs.declared.fault.ScriptFault.TheVariants.{BadGrid, Memory}
 use Rattle.grid_play.specs.Lines.{first_line, later_lines, lines_of}
-use Rattle.grid_play.specs.Script.{◌>>◌, or_fault, Layout, grid_of, commands_from, ScriptValue, script_of}
+use Rattle.grid_play.specs.Script.{◌>>◌, or_fault, Layout, grid_of, commands_from, script_of}
 use Rattle.grid_play.proofs.LineLemmas.{lines-none}
 use Rattle.grid_play.proofs.CommandsLemmas.{lines_at}
 
