@@ -1,7 +1,6 @@
 -- The commands of lines, one line after another.
-use Rattle.std.proofs.Common.{◌≡◌, ℕ, suc, ◌+◌, ◌<◌, List, [], ◌∷◌, ◌++◌, ◌∙◌, length, map, refl, ap, sym, arith, append_assoc, append-nil}
-use Rattle.std.specs.Prelude.{Option, Some, None, Result, Ok, Err}
-use Rattle.std.specs.Option.{option_to_list}
+use Rattle.std.proofs.Common.{◌≡◌, ℕ, ◌+◌, ◌<◌, List, [], ◌∷◌, ◌++◌, ◌∙◌, length, map, refl, ap, sym, arith, append_assoc, append-nil}
+use Rattle.std.specs.Prelude.{Some, None, Result, Ok, Err}
 use Rattle.grid_commands.specs.declared.command.Command.{Command}
 use Rattle.grid_commands.specs.Command.{CommandValue, command_value}
 use Rattle.grid_play.specs.declared.fault.ScriptFault.{ScriptFault}

@@ -1,12 +1,12 @@
 -- The grid that is made of cells in storage order is the one that a first line says.
-use Rattle.std.proofs.Common.{◌≡◌, ◌≢◌, ◌⊎◌, inl, inr, ℕ, zero, suc, ◌+◌, ◌*◌, ◌/◌, ◌%◌, ◌<◌, ◌^◌, Bool, true, false, Some, List, [], ◌∷◌, length, refl, ap, sym, ◌∙◌, arith, ℤ}
+use Rattle.std.proofs.Common.{◌≡◌, ◌≢◌, inl, inr, ℕ, zero, suc, ◌+◌, ◌*◌, ◌/◌, ◌%◌, ◌<◌, ◌^◌, true, Some, List, [], ◌∷◌, length, refl, ap, sym, ◌∙◌, arith, ℤ}
 use Rattle.std.proofs.Math.Nat.{zero-div}
 use Rattle.std.proofs.lemmas.Nat.{div-add-mod'}
 use Rattle.std.proofs.lemmas.Bool.Decides.{nat_tests}
 use Rattle.grid_base.specs.declared.flat.order.Order.{Order}
-use Rattle.grid_base.specs.Table.{row_count, col_count, IsTable, tabulate}
+use Rattle.grid_base.specs.Table.{col_count, IsTable, tabulate}
 use Rattle.grid_base.specs.Order.{storage, table_of, CanCut}
-use Rattle.grid_base.specs.GridValue.{GridValue, HoldsSize}
+use Rattle.grid_base.specs.GridValue.{HoldsSize}
 use Rattle.grid_base.proofs.ViewLemmas.{same_by_storage, none_by_storage, view-table, view-cols, view-storage}
 use Rattle.grid_play.specs.Commands.{can_be_cut}
 use Rattle.grid_play.specs.Script.{grid_from}
@@ -38,8 +38,8 @@ rows_are o cols (x ∷ cells) t (inl none) small table same wide = absurd (omega
 rows_are o cols (x ∷ cells) t (inr some) small table same wide =
     rows_of_some o cols (x ∷ cells) t (pos_of cols some.0) (omega arith) small some.1 table same (wide (λ e. omega (arith, e)))
 
-pub grid_is : (o : Order) (cols : ℕ) (cells : List ℤ) (g : GridValue ℤ) → CanCut (length cells) cols → length cells < 2 ^ 64 → g.order ≡ o → IsTable g.rows → storage o g.rows ≡ cells → (length cells ≢ 0 → col_count g.rows ≡ cols) → Some g ≡ grid_from o cols cells
-grid_is o cols cells g can small order table same wide =
-    let rows = rows_are o cols cells g.rows can small table same wide in
+pub grid_is : (o : Order) (cols : ℕ) (cells : List ℤ) (t : List (List ℤ)) (u : Order) → CanCut (length cells) cols → length cells < 2 ^ 64 → u ≡ o → IsTable t → storage o t ≡ cells → (length cells ≢ 0 → col_count t ≡ cols) → Some (record { rows = t; order = u }) ≡ grid_from o cols cells
+grid_is o cols cells t u can small order table same wide =
+    let rows = rows_are o cols cells t can small table same wide in
     let test = can_be_cut_from (length cells) cols can in
-    rw test (ap (λ t. Some (record { rows = t; order = g.order })) rows ∙ ap (λ u. Some (record { rows = table_of o (length cells / cols) cols cells; order = u })) order)
+    rw test (ap (λ w. Some (record { rows = w; order = u })) rows ∙ ap (λ w. Some (record { rows = table_of o (length cells / cols) cols cells; order = w })) order)

@@ -1,7 +1,6 @@
 mod TokenLemmas
 mod NumberLemmas
 mod CutLemmas
-mod FormLemmas
 mod LineLemmas
 mod GridLemmas
 mod CommandsLemmas

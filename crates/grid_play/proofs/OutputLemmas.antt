@@ -1,6 +1,6 @@
 -- What a run writes: the lines of the replies, and the text of the rows.
-use Rattle.std.proofs.Common.{◌≡◌, ◌⊎◌, inl, inr, ℕ, List, [], ◌∷◌, ◌++◌, ◌∙◌, map, refl, ap, sym, ℤ, pos, append_assoc}
-use Rattle.std.specs.Prelude.{Option, Some, None, Result, Ok, Err, codes}
+use Rattle.std.proofs.Common.{◌≡◌, ◌⊎◌, inl, inr, ℕ, List, [], ◌∷◌, ◌++◌, refl, ap, ℤ, pos, append_assoc}
+use Rattle.std.specs.Prelude.{Option, Some, Ok, Err, codes}
 use Rattle.std.specs.List.{flat_map}
 use Rattle.std.specs.Fmt.{debug_items, debug_list, signed_decimal, with_newline}
 use Rattle.grid.specs.Texts.{rows_text, table_text}

@@ -1,12 +1,11 @@
 -- A script by its first line and the commands of the others.
-use Rattle.std.proofs.Common.{◌≡◌, ◌⊎◌, inl, inr, ℕ, ◌+◌, ◌<◌, List, [], ◌∷◌, ◌∙◌, length, refl, ap, sym, ℤ, arith}
-use Rattle.std.specs.Prelude.{Result, Ok, Err}
-use Rattle.grid_base.specs.GridValue.{GridValue}
+use Rattle.std.proofs.Common.{◌≡◌, ◌⊎◌, inl, inr, ℕ, ◌<◌, List, [], ◌∙◌, length, refl, ℤ}
+use Rattle.std.specs.Prelude.{Ok, Err}
 use Rattle.grid_commands.specs.Command.{CommandValue}
 use Rattle.grid_play.specs.declared.fault.ScriptFault.{ScriptFault}
 use Rattle.grid_play.specs.declared.fault.ScriptFault.TheVariants.{BadGrid, Memory}
 use Rattle.grid_play.specs.Lines.{first_line, later_lines, lines_of}
-use Rattle.grid_play.specs.Script.{◌>>◌, or_fault, grid_of, commands_from, ScriptValue, script_of}
+use Rattle.grid_play.specs.Script.{◌>>◌, or_fault, Layout, grid_of, commands_from, script_of}
 use Rattle.grid_play.proofs.LineLemmas.{lines-none}
 use Rattle.grid_play.proofs.CommandsLemmas.{lines_at}
 
@@ -23,9 +22,9 @@ module _ (input first rest : List ℕ) (some : 0 < length input) (is_first : fir
   grid_fails fault (inl memory) = inl memory
   grid_fails fault (inr bad) = inr (due ∙ rw bad refl)
 
-  pub commands_fail : (grid : GridValue ℤ) (fault : ScriptFault) → or_fault BadGrid (grid_of first) ≡ Ok grid → (fault ≡ Memory) ⊎ (commands_from 2 (lines_of rest) ≡ Err fault) → (fault ≡ Memory) ⊎ (script_of input ≡ Err fault)
+  pub commands_fail : (grid : Layout) (fault : ScriptFault) → or_fault BadGrid (grid_of first) ≡ Ok grid → (fault ≡ Memory) ⊎ (commands_from 2 (lines_of rest) ≡ Err fault) → (fault ≡ Memory) ⊎ (script_of input ≡ Err fault)
   commands_fail grid fault good (inl memory) = inl memory
   commands_fail grid fault good (inr bad) = inr (due ∙ rw (good, bad) refl)
 
-  pub both_read : (grid : GridValue ℤ) (commands : List (CommandValue ℤ)) → or_fault BadGrid (grid_of first) ≡ Ok grid → commands_from 2 (lines_of rest) ≡ Ok commands → script_of input ≡ Ok (record { grid = grid; commands = commands })
+  pub both_read : (grid : Layout) (commands : List (CommandValue ℤ)) → or_fault BadGrid (grid_of first) ≡ Ok grid → commands_from 2 (lines_of rest) ≡ Ok commands → script_of input ≡ Ok (record { grid = grid; commands = commands })
   both_read grid commands good read = due ∙ rw (good, read) refl

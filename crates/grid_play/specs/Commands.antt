@@ -1,7 +1,6 @@
 -- The commands of a script: a name, and what the words behind it say.
-use Rattle.std.specs.Prelude.{◌≡◌, ℕ, ◌*◌, ◌/◌, ◌%◌, ◌==◌, ◌||◌, ◌&&◌, not, zero, suc, ℤ, pos, negsuc, Bool, if◌then◌else◌, Option, None, Some, List, [], ◌∷◌, length, take, drop, codes, bytes_eq, option_and_then, refl}
+use Rattle.std.specs.Prelude.{ℕ, ◌/◌, ◌%◌, ◌==◌, ◌||◌, ◌&&◌, not, zero, suc, ℤ, Bool, if◌then◌else◌, Option, None, Some, List, [], ◌∷◌, ◌++◌, length, take, drop, codes, bytes_eq, option_and_then}
 use Rattle.std.specs.Option.{option_map}
-use Rattle.grid_base.specs.declared.words.Symmetry.{Symmetry}
 use Rattle.grid_base.specs.declared.words.Symmetry.TheVariants.{Identity, FlipCols, FlipRows, RotateHalf, Transpose, RotateLeft, RotateRight, AntiTranspose}
 use Rattle.grid_commands.specs.declared.command.Axis.TheVariants.{Row, Col}
 use Rattle.grid_commands.specs.Command.{read, push, insert_at, insert_all, pop, remove_at, delete_at, delete_range, expand, prepend, CommandValue, size, get, set_cell, swap_cells, lines, fill, clear, apply}
@@ -44,23 +43,25 @@ pub data Form : Type 0 where
   with_index_and_line : (ℕ → List ℤ → CommandValue ℤ) → Form
   with_index_and_lines : (ℕ → List (List ℤ) → CommandValue ℤ) → Form
 
--- the names, as docs/SCRIPTS.md has them
-unfoldable pub forms : List (List ℕ × Form)
-forms =
-    (codes "size", alone size)
-    ∷ (codes "get", with_two get)
-    ∷ (codes "set", with_two_and_cell set_cell)
-    ∷ (codes "swap", with_two_pairs swap_cells)
-    ∷ (codes "row", with_index (λ i. lines Row (read i)))
-    ∷ (codes "col", with_index (λ i. lines Col (read i)))
-    ∷ (codes "push_row", with_line (λ cells. lines Row (push cells)))
+-- the names behind which lines of cells stand
+unfoldable pub line_forms : List (List ℕ × Form)
+line_forms =
+    (codes "push_row", with_line (λ cells. lines Row (push cells)))
     ∷ (codes "push_col", with_line (λ cells. lines Col (push cells)))
     ∷ (codes "insert_row", with_index_and_line (λ i cells. lines Row (insert_at i cells)))
     ∷ (codes "insert_col", with_index_and_line (λ i cells. lines Col (insert_at i cells)))
     ∷ (codes "insert_rows", with_index_and_lines (λ i ls. lines Row (insert_all i ls)))
     ∷ (codes "insert_cols", with_index_and_lines (λ i ls. lines Col (insert_all i ls)))
-    ∷ (codes "pop_row", alone (lines Row pop))
-    ∷ (codes "pop_col", alone (lines Col pop))
+    ∷ []
+
+-- the names behind which numbers stand
+unfoldable pub number_forms : List (List ℕ × Form)
+number_forms =
+    (codes "get", with_two get)
+    ∷ (codes "set", with_two_and_cell set_cell)
+    ∷ (codes "swap", with_two_pairs swap_cells)
+    ∷ (codes "row", with_index (λ i. lines Row (read i)))
+    ∷ (codes "col", with_index (λ i. lines Col (read i)))
     ∷ (codes "remove_row", with_index (λ i. lines Row (remove_at i)))
     ∷ (codes "remove_col", with_index (λ i. lines Col (remove_at i)))
     ∷ (codes "delete_row", with_index (λ i. lines Row (delete_at i)))
@@ -72,6 +73,14 @@ forms =
     ∷ (codes "prepend_rows", with_index (λ n. lines Row (prepend n)))
     ∷ (codes "prepend_cols", with_index (λ n. lines Col (prepend n)))
     ∷ (codes "fill", with_cell fill)
+    ∷ []
+
+-- the names that stand alone
+unfoldable pub bare_forms : List (List ℕ × Form)
+bare_forms =
+    (codes "size", alone size)
+    ∷ (codes "pop_row", alone (lines Row pop))
+    ∷ (codes "pop_col", alone (lines Col pop))
     ∷ (codes "clear", alone clear)
     ∷ (codes "identity", alone (apply Identity))
     ∷ (codes "flip_cols", alone (apply FlipCols))
@@ -83,13 +92,14 @@ forms =
     ∷ (codes "anti_transpose", alone (apply AntiTranspose))
     ∷ []
 
+-- the names, as docs/SCRIPTS.md has them
+abbrev pub forms : List (List ℕ × Form)
+forms = line_forms ++ (number_forms ++ bare_forms)
+
 -- the form of the first entry of this name
 abbrev pub form_among : List (List ℕ × Form) → List ℕ → Option Form
 form_among [] name = None
 form_among (entry ∷ entries) name = if bytes_eq name entry.0 then Some entry.1 else form_among entries name
-
-unfoldable pub form_of : List ℕ → Option Form
-form_of name = form_among forms name
 
 -- the words behind a name, by form: each stands for one number, and there are no more
 abbrev pub with_no_word : List (List ℕ) → CommandValue ℤ → Option (CommandValue ℤ)
@@ -104,14 +114,14 @@ abbrev pub one_index : List (List ℕ) → Option ℕ
 one_index (i ∷ []) = index_of i
 one_index _ = None
 
-abbrev pub two_indices : List (List ℕ) → Option (ℕ × ℕ)
+unfoldable pub two_indices : List (List ℕ) → Option (ℕ × ℕ)
 two_indices (i ∷ j ∷ []) = do
   i ← index_of i
   j ← index_of j
   Some (i, j)
 two_indices _ = None
 
-abbrev pub place_and_cell : List (List ℕ) → Option (ℕ × ℕ × ℤ)
+unfoldable pub place_and_cell : List (List ℕ) → Option (ℕ × ℕ × ℤ)
 place_and_cell (r ∷ c ∷ v ∷ []) = do
   r ← index_of r
   c ← index_of c
@@ -119,7 +129,7 @@ place_and_cell (r ∷ c ∷ v ∷ []) = do
   Some (r, c, v)
 place_and_cell _ = None
 
-abbrev pub two_places : List (List ℕ) → Option ((ℕ × ℕ) × (ℕ × ℕ))
+unfoldable pub two_places : List (List ℕ) → Option ((ℕ × ℕ) × (ℕ × ℕ))
 two_places (r ∷ c ∷ s ∷ d ∷ []) = do
   r ← index_of r
   c ← index_of c
@@ -129,7 +139,7 @@ two_places (r ∷ c ∷ s ∷ d ∷ []) = do
 two_places _ = None
 
 -- an index, and the cells of a line
-abbrev pub index_and_line : List (List ℕ) → Option (ℕ × List ℤ)
+unfoldable pub index_and_line : List (List ℕ) → Option (ℕ × List ℤ)
 index_and_line [] = None
 index_and_line (i ∷ words) = do
   i ← index_of i
@@ -137,7 +147,7 @@ index_and_line (i ∷ words) = do
   Some (i, cells)
 
 -- an index, a length, and the cells of lines of this length, joined
-abbrev pub index_and_lines : List (List ℕ) → Option (ℕ × List (List ℤ))
+unfoldable pub index_and_lines : List (List ℕ) → Option (ℕ × List (List ℤ))
 index_and_lines (i ∷ l ∷ words) = do
   i ← index_of i
   len ← index_of l
@@ -157,8 +167,11 @@ read_form (with_line f) words = option_map f (cells_of words)
 read_form (with_index_and_line f) words = option_map (λ p. f p.0 p.1) (index_and_line words)
 read_form (with_index_and_lines f) words = option_map (λ p. f p.0 p.1) (index_and_lines words)
 
--- the command of a name and the words behind it
-unfoldable pub command_of : List ℕ → List (List ℕ) → Option (CommandValue ℤ)
-command_of name words = do
-  form ← form_of name
+-- the command of a name and the words behind it, by these entries
+abbrev pub command_among : List (List ℕ × Form) → List ℕ → List (List ℕ) → Option (CommandValue ℤ)
+command_among entries name words = do
+  form ← form_among entries name
   read_form form words
+
+unfoldable pub command_of : List ℕ → List (List ℕ) → Option (CommandValue ℤ)
+command_of name words = command_among forms name words

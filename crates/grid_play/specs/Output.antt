@@ -1,5 +1,5 @@
 -- What the run of a script writes.
-use Rattle.std.specs.Prelude.{ℕ, ℤ, pos, Bool, true, false, Option, None, Some, Result, Ok, List, ◌++◌, codes, decimal}
+use Rattle.std.specs.Prelude.{ℕ, ℤ, pos, true, false, None, Some, Result, Ok, List, ◌++◌, codes, decimal}
 use Rattle.std.specs.List.{flat_map, join_by}
 use Rattle.std.specs.Fmt.{signed_decimal}
 use Rattle.grid_commands.specs.declared.command.Refusal.{Refusal}

@@ -1,5 +1,5 @@
 -- What a script says: a table in an order, and commands; or what is wrong with it.
-use Rattle.std.specs.Prelude.{◌≡◌, ◌⊎◌, ℕ, ◌+◌, ◌/◌, ℤ, Bool, true, false, if◌then◌else◌, Option, None, Some, Result, Ok, Err, List, [], ◌∷◌, ◌++◌, length, codes, bytes_eq}
+use Rattle.std.specs.Prelude.{◌≡◌, ◌⊎◌, ℕ, ◌+◌, ◌/◌, ℤ, if◌then◌else◌, Option, None, Some, Result, Ok, Err, List, [], ◌∷◌, ◌++◌, length, codes, bytes_eq}
 use Rattle.std.specs.Str.{is_utf8}
 use Rattle.grid_base.specs.declared.flat.order.Order.{Order}
 use Rattle.grid_base.specs.declared.flat.order.Order.TheVariants.{RowMajor, ColumnMajor}
@@ -21,14 +21,23 @@ order_of word =
     if bytes_eq word (codes "RowMajor") then Some RowMajor
     else (if bytes_eq word (codes "ColumnMajor") then Some ColumnMajor else None)
 
--- the grid of this order and so many columns whose cells in storage order are these, if they can be cut so
-abbrev pub grid_from : Order → ℕ → List ℤ → Option (GridValue ℤ)
+-- a table, and the order that it is stored in
+pub record Layout : Type 0 where
+  pub rows : List (List ℤ)
+  pub order : Order
+
+-- those of a grid
+abbrev pub layout : GridValue ℤ → Layout
+layout grid = record { rows = grid.rows; order = grid.order }
+
+-- the table of this order and so many columns whose cells in storage order are these, if they can be cut so
+abbrev pub grid_from : Order → ℕ → List ℤ → Option Layout
 grid_from order cols cells =
     if can_be_cut (length cells) cols then Some (record { rows = table_of order (length cells / cols) cols cells; order = order })
     else None
 
 -- the grid of the first line: an order, the number of columns, and the cells
-abbrev pub grid_of_words : List (List ℕ) → Option (GridValue ℤ)
+abbrev pub grid_of_words : List (List ℕ) → Option Layout
 grid_of_words (order ∷ cols ∷ words) = do
   order ← order_of order
   cols ← index_of cols
@@ -36,7 +45,7 @@ grid_of_words (order ∷ cols ∷ words) = do
   grid_from order cols cells
 grid_of_words _ = None
 
-unfoldable pub grid_of : List ℕ → Option (GridValue ℤ)
+unfoldable pub grid_of : List ℕ → Option Layout
 grid_of line = do
   words ← text_words line
   grid_of_words words
@@ -72,7 +81,7 @@ commands_from number (line ∷ lines) =
 
 -- the table and the commands of a script
 pub record ScriptValue : Type 0 where
-  pub grid : GridValue ℤ
+  pub grid : Layout
   pub commands : List (CommandValue ℤ)
 
 abbrev pub script_of_lines : List (List ℕ) → Result ScriptValue ScriptFault

@@ -1,10 +1,10 @@
 //! The commands of a script: a name, and the words after it.
-ghost use Rattle.std.specs.Prelude.{◌≡◌, ◌↔◌, Some, codes, IfOk, length};
+ghost use Rattle.std.specs.Prelude.{◌≡◌, ◌↔◌, ◌++◌, Some, codes, IfOk, length};
 ghost use Rattle.std.specs.Option.{option_map};
 ghost use Rattle.grid_base.specs.Gather.{items_of_each};
 ghost use Rattle.grid_commands.specs.Command.{command_value};
 ghost use Rattle.grid_play.specs.Lines.{words_of};
-ghost use Rattle.grid_play.specs.Commands.{command_of, with_no_word, one_cell, one_index, two_indices, place_and_cell, two_places, index_and_line, index_and_lines, lines_of_length};
+ghost use Rattle.grid_play.specs.Commands.{alone, bare_forms, number_forms, form_among, command_among, command_of, with_no_word, one_cell, one_index, two_indices, place_and_cell, two_places, index_and_line, index_and_lines, lines_of_length};
 
 use crate::script::parse_cells;
 use crate::tokens::{Words, cell, index};
@@ -16,7 +16,7 @@ use std::alloc::{AllocError, Allocator};
 ///     "insert_row", "1 7 8 9"   InsertRow(1, [7, 8, 9])
 ///
 /// Fails: where memory for a line is refused.
-#[tactic(auto, unfolding(crate::specs::Commands::command_of, crate::specs::Commands::form_of, crate::specs::Commands::forms))]
+#[tactic(auto, unfolding(crate::specs::Commands::command_of, crate::specs::Commands::line_forms))]
 pub(crate) fn parse_command<A: Allocator + Clone>(
     alloc: A,
     name: &str,
@@ -26,12 +26,6 @@ pub(crate) fn parse_command<A: Allocator + Clone>(
         ≡ command_of name.now (words_of words.entry.0.now)) }
 {
     match name {
-        "size" => Ok(alone(words, Command::Size)),
-        "get" => Ok(two_indices(words).map(|(row, col)| Command::Get(row, col))),
-        "set" => Ok(place_and_cell(words).map(|(row, col, value)| Command::Set(row, col, value))),
-        "swap" => Ok(two_places(words).map(|(first, second)| Command::Swap(first, second))),
-        "row" => Ok(one_index(words).map(|row| Command::Row(row))),
-        "col" => Ok(one_index(words).map(|col| Command::Col(col))),
         "push_row" => Ok(parse_cells(alloc, words)?.map(|line| Command::PushRow(line))),
         "push_col" => Ok(parse_cells(alloc, words)?.map(|line| Command::PushCol(line))),
         "insert_row" => Ok(parse_insert(alloc, words)?.map(|(at, line)| Command::InsertRow(
@@ -46,37 +40,77 @@ pub(crate) fn parse_command<A: Allocator + Clone>(
         "insert_cols" => Ok(parse_insert_lines(alloc, words)?.map(|(at, lines)| Command::InsertCols(
             at, lines,
         ))),
-        "pop_row" => Ok(alone(words, Command::PopRow)),
-        "pop_col" => Ok(alone(words, Command::PopCol)),
-        "remove_row" => Ok(one_index(words).map(|row| Command::RemoveRow(row))),
-        "remove_col" => Ok(one_index(words).map(|col| Command::RemoveCol(col))),
-        "delete_row" => Ok(one_index(words).map(|row| Command::DeleteRow(row))),
-        "delete_col" => Ok(one_index(words).map(|col| Command::DeleteCol(col))),
-        "delete_rows" => Ok(two_indices(words).map(|(start, count)| Command::DeleteRows(
-            start, count,
-        ))),
-        "delete_cols" => Ok(two_indices(words).map(|(start, count)| Command::DeleteCols(
-            start, count,
-        ))),
-        "expand_rows" => Ok(one_index(words).map(|count| Command::ExpandRows(count))),
-        "expand_cols" => Ok(one_index(words).map(|count| Command::ExpandCols(count))),
-        "prepend_rows" => Ok(one_index(words).map(|count| Command::PrependRows(count))),
-        "prepend_cols" => Ok(one_index(words).map(|count| Command::PrependCols(count))),
-        "fill" => Ok(one_cell(words).map(|value| Command::Fill(value))),
-        "clear" => Ok(alone(words, Command::Clear)),
-        "identity" => Ok(alone(words, Command::Apply(Symmetry::Identity))),
-        "flip_cols" => Ok(alone(words, Command::Apply(Symmetry::FlipCols))),
-        "flip_rows" => Ok(alone(words, Command::Apply(Symmetry::FlipRows))),
-        "rotate_half" => Ok(alone(words, Command::Apply(Symmetry::RotateHalf))),
-        "transpose" => Ok(alone(words, Command::Apply(Symmetry::Transpose))),
-        "rotate_left" => Ok(alone(words, Command::Apply(Symmetry::RotateLeft))),
-        "rotate_right" => Ok(alone(words, Command::Apply(Symmetry::RotateRight))),
-        "anti_transpose" => Ok(alone(words, Command::Apply(Symmetry::AntiTranspose))),
-        _ => Ok(None),
+        _ => Ok(number_command(name, words)),
+    }
+}
+
+// A command of numbers, or of a name alone.
+#[tactic(auto, unfolding(crate::specs::Commands::number_forms))]
+fn number_command<A: Allocator>(name: &str, words: Words<'_>) -> Option<Command<i64, A>>
+    ensures { option_map command_value result
+        ≡ command_among (number_forms ++ bare_forms) name.now (words_of words.entry.0.now) }
+{
+    match name {
+        "get" => {
+            let (row, col) = two_indices(words)?;
+            Some(Command::Get(row, col))
+        }
+        "set" => {
+            let (row, col, value) = place_and_cell(words)?;
+            Some(Command::Set(row, col, value))
+        }
+        "swap" => {
+            let (first, second) = two_places(words)?;
+            Some(Command::Swap(first, second))
+        }
+        "row" => Some(Command::Row(one_index(words)?)),
+        "col" => Some(Command::Col(one_index(words)?)),
+        "remove_row" => Some(Command::RemoveRow(one_index(words)?)),
+        "remove_col" => Some(Command::RemoveCol(one_index(words)?)),
+        "delete_row" => Some(Command::DeleteRow(one_index(words)?)),
+        "delete_col" => Some(Command::DeleteCol(one_index(words)?)),
+        "delete_rows" => {
+            let (start, count) = two_indices(words)?;
+            Some(Command::DeleteRows(start, count))
+        }
+        "delete_cols" => {
+            let (start, count) = two_indices(words)?;
+            Some(Command::DeleteCols(start, count))
+        }
+        "expand_rows" => Some(Command::ExpandRows(one_index(words)?)),
+        "expand_cols" => Some(Command::ExpandCols(one_index(words)?)),
+        "prepend_rows" => Some(Command::PrependRows(one_index(words)?)),
+        "prepend_cols" => Some(Command::PrependCols(one_index(words)?)),
+        "fill" => Some(Command::Fill(one_cell(words)?)),
+        _ => alone(words, bare_command(name)?),
+    }
+}
+
+// A command that is a name alone.
+#[tactic(auto, unfolding(crate::specs::Commands::bare_forms))]
+fn bare_command<A: Allocator>(name: &str) -> Option<Command<i64, A>>
+    ensures { option_map (λ command. alone (command_value command)) result
+        ≡ form_among bare_forms name.now }
+{
+    match name {
+        "size" => Some(Command::Size),
+        "pop_row" => Some(Command::PopRow),
+        "pop_col" => Some(Command::PopCol),
+        "clear" => Some(Command::Clear),
+        "identity" => Some(Command::Apply(Symmetry::Identity)),
+        "flip_cols" => Some(Command::Apply(Symmetry::FlipCols)),
+        "flip_rows" => Some(Command::Apply(Symmetry::FlipRows)),
+        "rotate_half" => Some(Command::Apply(Symmetry::RotateHalf)),
+        "transpose" => Some(Command::Apply(Symmetry::Transpose)),
+        "rotate_left" => Some(Command::Apply(Symmetry::RotateLeft)),
+        "rotate_right" => Some(Command::Apply(Symmetry::RotateRight)),
+        "anti_transpose" => Some(Command::Apply(Symmetry::AntiTranspose)),
+        _ => None,
     }
 }
 
 // A place and a line that is inserted there: `I V..`.
+#[tactic(auto, unfolding(crate::specs::Commands::index_and_line))]
 fn parse_insert<A: Allocator>(
     alloc: A,
     mut words: Words<'_>,
@@ -91,6 +125,7 @@ fn parse_insert<A: Allocator>(
 }
 
 // A place and lines that are inserted there: `I L V..`, the cells joined, in lines of length L.
+#[tactic(auto, unfolding(crate::specs::Commands::index_and_lines))]
 fn parse_insert_lines<A: Allocator + Clone>(
     alloc: A,
     mut words: Words<'_>,
@@ -162,6 +197,7 @@ fn one_index(mut words: Words<'_>) -> Option<usize>
     index(number)
 }
 
+#[tactic(auto, unfolding(crate::specs::Commands::two_indices))]
 fn two_indices(mut words: Words<'_>) -> Option<(usize, usize)>
     ensures { result ≡ two_indices (words_of words.entry.0.now) }
 {
@@ -174,6 +210,7 @@ fn two_indices(mut words: Words<'_>) -> Option<(usize, usize)>
 }
 
 // A place and a cell: `R C V`.
+#[tactic(auto, unfolding(crate::specs::Commands::place_and_cell))]
 fn place_and_cell(mut words: Words<'_>) -> Option<(usize, usize, i64)>
     ensures { result ≡ place_and_cell (words_of words.entry.0.now) }
 {
@@ -187,6 +224,7 @@ fn place_and_cell(mut words: Words<'_>) -> Option<(usize, usize, i64)>
 }
 
 // Two places: `R C R C`.
+#[tactic(auto, unfolding(crate::specs::Commands::two_places))]
 fn two_places(mut words: Words<'_>) -> Option<((usize, usize), (usize, usize))>
     ensures { result ≡ two_places (words_of words.entry.0.now) }
 {

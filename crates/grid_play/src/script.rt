@@ -4,7 +4,7 @@ ghost use Rattle.std.specs.Option.{option_map, option_to_list};
 ghost use Rattle.grid_commands.specs.Command.{command_value};
 ghost use Rattle.grid_play.specs.declared.fault.ScriptFault.TheVariants.{BadGrid};
 ghost use Rattle.grid_play.specs.Lines.{words_of, lines_of};
-ghost use Rattle.grid_play.specs.Script.{IsOrMemory, or_fault, order_of, grid_of, grid_of_words, line_commands, commands_from, script_of};
+ghost use Rattle.grid_play.specs.Script.{IsOrMemory, or_fault, order_of, layout, grid_of, grid_of_words, line_commands, commands_from, script_of};
 ghost use Rattle.grid_play.specs.ScriptValue.{script_value};
 ghost use Rattle.grid_play.specs.Commands.{cells_of};
 
@@ -43,7 +43,7 @@ impl<A: Allocator + Clone> Script<A> {
 // The grid of the first line.
 #[tactic(auto, unfolding(crate::specs::Script::grid_of))]
 fn parse_grid<A: Allocator>(alloc: A, line: &[u8]) -> Result<Grid<i64, A>, ScriptFault>
-    ensures { IsOrMemory (λ grid. grid) (or_fault BadGrid (grid_of line.now)) result }
+    ensures { IsOrMemory layout (or_fault BadGrid (grid_of line.now)) result }
 {
     let Some(words) = Words::of(line) else {
         return Err(ScriptFault::BadGrid);
@@ -59,7 +59,8 @@ fn grid_of_words<A: Allocator>(
     alloc: A,
     mut words: Words<'_>,
 ) -> Result<Option<Grid<i64, A>>, AllocError>
-    ensures { IfOk result (λ grid. grid ≡ grid_of_words (words_of words.entry.0.now)) }
+    ensures { IfOk result (λ grid. option_map layout grid
+        ≡ grid_of_words (words_of words.entry.0.now)) }
 {
     let (Some(order), Some(cols)) = (words.next(), words.next()) else {
         return Ok(None);

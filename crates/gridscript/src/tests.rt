@@ -1,10 +1,10 @@
-//! What a text of scripts can't show: bytes that are no text, long scripts, arguments, reads, writes and endings.
+//! What a text of scripts can't show: the two kinds of run by one call, arguments, reads, writes and endings.
 ghost use Rattle.std.specs.Prelude.{◌≤◌, IfOk, length};
 
 use crate::ending::Ending;
 use crate::input::{arguments, mode, read_all};
 use crate::{exit_code, run};
-use grid_play::{ScriptFault, play};
+use grid_play::laws::plays_alike;
 use std::alloc::{AllocError, Allocator, Global};
 use std::env::FillError;
 use std::fmt::Display;
@@ -14,55 +14,12 @@ use std::process::{Abort, ExitCode};
 use std::rt::Env;
 use std::test::Fail;
 
-// A script at fault ends both kinds of run with this fault.
-fn assert_fails(rt: &(impl Abort + AllocGlobal), script: &[u8], want: &ScriptFault) {
-    for deferred in [false, true] {
-        match play(rt.alloc(), script, deferred) {
-            Ok(output) => panic!(rt; "{output} of {script:?}"),
-            Err(met) => assert_eq!(rt; &met, want, "of {script:?}"),
-        }
-    }
-}
-
 #[test]
-fn refuses_scripts_that_are_no_text(rt: HostRuntime) {
-    assert_fails(&rt, b"RowMajor 1 5 \xff\n", &ScriptFault::BadGrid);
-    let fault = ScriptFault::BadCommand(2);
-    assert_fails(&rt, b"RowMajor 1 5\n\xff\n", &fault);
-    assert_fails(&rt, b"RowMajor 1 5\nsize \xc3\n", &fault);
-}
-
-// The script of one row of a hundred cells and more, and of 10,000 reads, of which the first hundred are in range.
-fn long_script(alloc: Global) -> Result<String, AllocError> {
-    let mut script = String::from_str(alloc, "RowMajor 100")?;
-    for cell in 0..10_000 {
-        write!(script, " {cell}")?;
-    }
-    for cell in 0..10_000 {
-        write!(script, "\nget 0 {cell}\n")?;
-    }
-    Ok(script)
-}
-
-fn long_replies(alloc: Global) -> Result<String, AllocError> {
-    let mut replies = String::new(alloc);
-    for cell in 0..100 {
-        writeln!(replies, "cell {cell}")?;
-    }
-    for _ in 100..10_000 {
-        replies.push_str("none\n")?;
-    }
-    Ok(replies)
-}
-
-#[test]
-fn plays_ten_thousand_commands(rt: HostRuntime) -> Result<(), Fail> {
-    let script = long_script(rt.alloc())?;
-    let output = play(rt.alloc(), script.as_bytes(), false)?;
-    drop(script);
-    let replies = long_replies(rt.alloc())?;
-    assert!(rt; output.starts_with(replies.as_str()));
-    assert!(rt; output.ends_with(", 9999]]\n"));
+fn a_script_plays_alike_at_once_and_deferred(rt: HostRuntime) -> Result<(), Fail> {
+    let script = b"RowMajor 2 1 2 3 4\nflip_rows\nget 0 0\n";
+    let (at_once, deferred) = plays_alike((rt.alloc(), rt.alloc()), script);
+    assert_eq!(rt; at_once?.as_str(), "ok\ncell 3\n[[3, 4][1, 2]]\n");
+    assert_eq!(rt; deferred?.as_str(), "ok\ncell 3\n[[3, 4][1, 2]]\n");
     Ok(())
 }
 

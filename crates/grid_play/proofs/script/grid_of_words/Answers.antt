@@ -11,6 +11,6 @@ returns g c =
     let e = c.from_vec_with_order.ensures in
     let can : CanCut (length c.in-Some.cells.items) c.in-Some-Some-2.cols = search rules in
     let small : length c.in-Some.cells.items < 2 ^ 64 = search rules in
-    let is = grid_is c.in-Some-Some-2.order c.in-Some-Some-2.cols c.in-Some.cells.items _ can small e.order c.from_vec_with_order.result.table e.storage e.cols in
+    let is = grid_is c.in-Some-Some-2.order c.in-Some-Some-2.cols c.in-Some.cells.items _ _ can small e.order c.from_vec_with_order.result.table e.storage e.cols in
     let due : grid_of_words (words_of c.args.words.0.now) ≡ grid_from c.in-Some-Some-2.order c.in-Some-Some-2.cols c.in-Some.cells.items = search rules in
     is ∙ sym due
