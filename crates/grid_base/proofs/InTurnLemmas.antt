@@ -17,8 +17,9 @@ pub record Weaving {T : Type 0} (p q i k g x : ℕ) (old now : List T) : Type 0 
   pub waiting : (y : ℕ) → y < g * k → slice_get now (x + y) ≡ slice_get old (p * q + y)
   pub woven : (l j : ℕ) → g ≤ l → l < p → j < k → slice_get now (l * (q + k) + (i + j)) ≡ slice_get old (p * q + (l * k + j))
 
-weaving_one : {T : Type 0} (p q i k h z m x : ℕ) (old now new : List T) → i ≤ q → h < p → z ≡ i + h * q → z ≤ p * q → x ≡ min (z + q) (p * q) → m ≡ x - z → Weaving p q i k (h + 1) x old now → BlocksExchanged z m ((h + 1) * k) now new → Weaving p q i k h z old new
-weaving_one p q i k h z m x old now new le lh ez lz ex em w moved =
+pub weaving_run : {T : Type 0} (p q i k g h z m x : ℕ) (old now new : List T) → g ≡ h + 1 → i ≤ q → h < p → z ≡ i + h * q → z ≤ p * q → x ≡ min (z + q) (p * q) → m ≡ x - z → Weaving p q i k g x old now → BlocksExchanged z m ((h + 1) * k) now new → Weaving p q i k h z old new
+weaving_run p q i k g h z m x old now new same le lh ez lz ex em before moved =
+    let w = rw same at before in
     let e : z + (q - i) ≡ (h + 1) * q = omega arith in
     record {
       length_stays = moved.length_stays ∙ w.length_stays;
@@ -41,11 +42,6 @@ weaving_one p q i k h z m x old now new le lh ez lz ex em w moved =
           let above : h + 1 ≤ l = omega arith in
           moved.behind (l * (q + k) + (i + j)) (omega (arith, mul-le-mul_right (q + k) above)) ∙ w.woven l j above hi lj) (cases_eq l h);
     }
-
--- the same, in the forms of the goals
-pub weaving_run : {T : Type 0} (p q i k g h z m x : ℕ) (old now new : List T) → g ≡ h + 1 → i ≤ q → h < p → z ≡ i + h * q → z ≤ p * q → x ≡ min (z + q) (p * q) → m ≡ x - z → Weaving p q i k g x old now → BlocksExchanged z m ((h + 1) * k) now new → Weaving p q i k h z old new
-weaving_run p q i k g h z m x old now new e le lh ez lz ex em w moved =
-    weaving_one p q i k h z m x old now new le lh ez lz ex em (rw e at w) moved
 
 pub weaving_end : {T : Type 0} (p q i k g x : ℕ) (old now : List T) → i ≤ q → g ≡ 0 → (0 < p → x ≡ i) → Weaving p q i k g x old now → Woven p q i k old now
 weaving_end p q i k g x old now le none some w =

@@ -121,8 +121,9 @@ opening_run p q i k g z m x old now new le some size lg e lz ex em h mv =
           (u.0, u.1, u.2, mv.behind w (omega arith) ∙ u.3)) (cases_lt w (x + g * k))) (cases_lt w (z + g * k));
     }
 
-pub opened_at : {T : Type 0} (p q i k : ℕ) (old now : List T) → 0 < p → 0 < q → i ≤ q → length old ≡ p * (q + k) → Opening (spread q i k) (p * q) i old now → Opened p q i k old now
-opened_at p q i k old now lines wide le size h =
+pub opening_end : {T : Type 0} (p q i k x : ℕ) (old now : List T) → 0 < p → 0 < q → i ≤ q → length old ≡ p * (q + k) → Opening (spread q i k) (p * q) x old now → x ≡ i → Opened p q i k old now
+opening_end p q i k x old now lines wide le size last e =
+    let h = rw e at last in
     let reach : q ≤ p * q = omega (arith, mul-le-mul_right q lines) in
     let at : (y : ℕ) → y < p * q → slice_get now (spread q i k y) ≡ slice_get old y =
     λ (y : ℕ) (lt : y < p * q). ⊎_elim (λ low. ap (slice_get now) (spread_start q i k y le low) ∙ h.kept y low) (λ high. h.placed y high lt) (cases_lt y i) in
@@ -133,10 +134,6 @@ opened_at p q i k old now lines wide le size h =
           h.fresh (l * (q + k) + (i + j)) (omega arith) (omega (arith, place_below l (q + k) (i + j) p a (omega arith)))
           (λ y c d. spread_misses q i k le l j y wide b);
     }
-
--- the same, in the forms of the goals
-pub opening_end : {T : Type 0} (p q i k x : ℕ) (old now : List T) → 0 < p → 0 < q → i ≤ q → length old ≡ p * (q + k) → Opening (spread q i k) (p * q) x old now → x ≡ i → Opened p q i k old now
-opening_end p q i k x old now lines wide le size h e = opened_at p q i k old now lines wide le size (rw e at h)
 
 -- the first line ends within the lines
 pub first_line : (p q : ℕ) → 0 < p → q ≤ p * q

@@ -20,6 +20,7 @@ fn reverse_part<T>(cells: &mut [T], start: usize, n: usize)
     }
 }
 
+#[tactic(auto, using(crate::proofs::PartLemmas::turning_none, crate::proofs::PartLemmas::turning_more, crate::proofs::PartLemmas::turning_all))]
 fn reverse_in_turn<T>(cells: &mut [T], start: usize, n: usize)
     requires within { start + n ≤ length cells.old }
     requires fits { start + n < 2 ^ 64 }

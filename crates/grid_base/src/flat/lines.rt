@@ -122,7 +122,12 @@ fn weave_cells<T>(cells: &mut [T], groups: Groups)
     }
     let half = groups.lines / 2;
     let rest = groups.lines - half;
-    exchange_blocks(cells, half * groups.width, rest * groups.width, half * groups.count);
+    exchange_blocks(
+        cells,
+        half * groups.width,
+        rest * groups.width,
+        half * groups.count,
+    );
     let (front, back) = cells.split_at_mut(half * (groups.width + groups.count));
     weave_cells(front, groups.in_lines(half));
     weave_cells(back, groups.in_lines(rest));
@@ -158,7 +163,12 @@ fn unweave_cells<T>(cells: &mut [T], groups: Groups)
     let (front, back) = cells.split_at_mut(half * (groups.width + groups.count));
     unweave_cells(front, groups.in_lines(half));
     unweave_cells(back, groups.in_lines(rest));
-    exchange_blocks(cells, half * groups.width, half * groups.count, rest * groups.width);
+    exchange_blocks(
+        cells,
+        half * groups.width,
+        half * groups.count,
+        rest * groups.width,
+    );
 }
 
 // The run of cells behind each group, from the first on, changes places with that group and all before it.

@@ -49,6 +49,7 @@ impl<T, A: Allocator> Flat<T, A> {
     }
 }
 
+#[tactic(auto, using(crate::proofs::ShiftLemmas::forward_start, crate::proofs::ShiftLemmas::forward_swap))]
 fn swap_forward<T>(cells: &mut [T], start: usize, shift: usize, n: usize) -> Swaps
     requires within { start + n + shift ≤ length cells.old }
     requires fits { start + n + shift < 2 ^ 64 }
@@ -70,6 +71,7 @@ fn swap_forward<T>(cells: &mut [T], start: usize, shift: usize, n: usize) -> Swa
     swaps
 }
 
+#[tactic(auto, using(crate::proofs::ShiftLemmas::back_end, crate::proofs::ShiftLemmas::back_swap))]
 fn swap_back<T>(cells: &mut [T], start: usize, shift: usize, n: usize) -> Swaps
     requires within { start + n + shift ≤ length cells.old }
     requires fits { start + n + shift < 2 ^ 64 }

@@ -94,6 +94,7 @@ impl Swaps {
 }
 
 // Exchanges cell `i` of the front part of a slice with cell `j` of the rest, and counts one swap for a symmetry.
+#[tactic(auto, using(crate::proofs::SwapLemmas::swap_parts))]
 pub(super) fn swap_for_symmetry<T>(
     front: &mut [T],
     i: usize,
@@ -116,6 +117,7 @@ pub(super) fn swap_for_symmetry<T>(
 }
 
 // Exchanges cell `i` with the later cell `j`, and counts one swap for a shift.
+#[tactic(auto, using(crate::proofs::SwapLemmas::swap_parts))]
 pub(super) fn swap_for_shift<T>(cells: &mut [T], i: usize, j: usize, swaps: &mut Swaps)
     requires apart { i < j }
     requires j_in { j < length cells.old }
