@@ -86,6 +86,7 @@ fn reverse_from<T>(cells: &mut [T], start: usize)
 
 // The vector with `count` default cells at its end, for which it has room. By value, so that its length stays in a
 // register, and the loop becomes vector code.
+#[tactic(auto, using(crate::proofs::AppendLemmas::fresh_none, crate::proofs::AppendLemmas::fresh_more))]
 fn with_defaults<T: Default, A: Allocator>(mut cells: Vec<T, A>, count: usize) -> Vec<T, A>
     requires room { vec_len cells + count ≤ vec_capacity cells }
     ensures { AppendsEach T.is_default count cells.items result.items }

@@ -27,7 +27,12 @@ impl<T, A: Allocator> Flat<T, A> {
         ensures symmetry { tally.new.symmetry ≡ tally.old.symmetry }
         ensures shift { tally.new.shift ≡ saturating_count tally.old.shift n }
     {
-        let swaps = swap_forward(self.cells.as_mut_slice(), start, shift, n);
+        let cells = self.cells.as_mut_slice();
+        let swaps = match shift {
+            1 => swap_forward_by::<1, T>(cells, start, n),
+            2 => swap_forward_by::<2, T>(cells, start, n),
+            _ => swap_forward(cells, start, shift, n),
+        };
         tally.take(swaps);
     }
 
@@ -47,6 +52,23 @@ impl<T, A: Allocator> Flat<T, A> {
         let swaps = swap_back(self.cells.as_mut_slice(), start, shift, n);
         tally.take(swaps);
     }
+}
+
+// As `swap_forward`. The distance is a number in the code, so that a cell goes from swap to swap in a register.
+#[tactic(auto, using(crate::proofs::ShiftLemmas::forward_start, crate::proofs::ShiftLemmas::forward_swap))]
+fn swap_forward_by<const SHIFT: usize, T>(cells: &mut [T], start: usize, n: usize) -> Swaps
+    requires within { start + n + SHIFT ≤ length cells.old }
+    requires fits { start + n + SHIFT < 2 ^ 64 }
+    requires moves { 0 < SHIFT }
+    ensures cells { cells.new ≡ swapped_forward start SHIFT n cells.old }
+    ensures symmetry { result.for_symmetry ≡ 0 }
+    ensures shift { result.for_shift ≡ n }
+{
+    let mut swaps = Swaps::none();
+    for k in 0..n {
+        swap_for_shift(cells, start + k, start + k + SHIFT, &mut swaps);
+    }
+    swaps
 }
 
 #[tactic(auto, using(crate::proofs::ShiftLemmas::forward_start, crate::proofs::ShiftLemmas::forward_swap))]

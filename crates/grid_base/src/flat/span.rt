@@ -28,6 +28,7 @@ pub(super) fn row_span(order: Order, rows: usize, cols: usize, r: usize) -> Span
 }
 
 // Returns where line `i` stands, of `lines` lines of `len` cells that stand one after another.
+#[tactic(auto, using(crate::proofs::SpanLemmas::together_is))]
 fn together(lines: usize, len: usize, i: usize) -> Span
     requires fits { lines * len < 2 ^ 64 }
     requires line_in { i < lines }
@@ -43,6 +44,7 @@ fn together(lines: usize, len: usize, i: usize) -> Span
 }
 
 // Returns where cell `i` of each line stands, of `lines` lines of `len` cells that stand one after another.
+#[tactic(auto, using(crate::proofs::SpanLemmas::across_is))]
 fn across(lines: usize, len: usize, i: usize) -> Span
     requires fits { lines * len < 2 ^ 64 }
     requires some { 0 < lines }

@@ -48,6 +48,7 @@ impl<T, A: Allocator> Flat<T, A> {
 // the last `n / 2` of them stand at the start of the back part. Out of line the parts are two slices to the compiler,
 // which then makes vector code of the loop.
 #[inline(never)]
+#[tactic(auto, using(crate::proofs::PartLemmas::turning_none, crate::proofs::PartLemmas::turning_all))]
 fn swap_mirrored<T>(front: &mut [T], start: usize, back: &mut [T], n: usize) -> Swaps
     requires parts { length front.old + n / 2 ≡ start + n }
     requires within { n / 2 ≤ length back.old }
@@ -66,6 +67,7 @@ fn swap_mirrored<T>(front: &mut [T], start: usize, back: &mut [T], n: usize) -> 
 
 // Exchanges the `n` cells from `i` on with the first ones of the back part. Out of line for the same reason.
 #[inline(never)]
+#[tactic(auto, using(crate::proofs::PartLemmas::blocks_none))]
 fn swap_blocks<T>(front: &mut [T], i: usize, back: &mut [T], n: usize) -> Swaps
     requires i_in { i + n ≤ length front.old }
     requires within { n ≤ length back.old }

@@ -1,10 +1,6 @@
-use Rattle.std.proofs.Common.{◌≡◌, ◌+◌, ◌∙◌, ◌++◌, length, swap, refl, ap, arith, length-append}
-use Rattle.grid_base.proofs.PartLemmas.{blocks_none, blocks_more}
+use Rattle.std.proofs.Common.{◌≡◌, ◌+◌, ◌∙◌, ◌++◌, length, swap, ap, arith, length-append}
+use Rattle.grid_base.proofs.PartLemmas.{blocks_more}
 use Rattle.grid_base.proofs.flat.turn.swap_blocks.Goals as goal
-
-pub loop-k-init : goal.loop-k-init
-loop-k-init g c =
-    record { run = blocks_none _ _ _; front_len = refl; back_len = refl; symmetry = c.none-swaps.ensures.symmetry; shift = c.none-swaps.ensures.shift }
 
 pub loop-k-preserved : goal.loop-k-preserved
 loop-k-preserved g c =

@@ -1,10 +1,6 @@
-use Rattle.std.proofs.Common.{◌≡◌, ◌+◌, ◌-◌, ◌/◌, ◌∙◌, ◌++◌, length, swap, refl, ap, arith, length-append}
-use Rattle.grid_base.proofs.PartLemmas.{turning_none, turning_more, turning_all}
+use Rattle.std.proofs.Common.{◌≡◌, ◌+◌, ◌-◌, ◌/◌, ◌∙◌, ◌++◌, length, swap, ap, arith, length-append}
+use Rattle.grid_base.proofs.PartLemmas.{turning_more}
 use Rattle.grid_base.proofs.flat.turn.swap_mirrored.Goals as goal
-
-pub loop-k-init : goal.loop-k-init
-loop-k-init g c =
-    record { run = turning_none _ _ _; front_len = refl; back_len = refl; symmetry = c.none-swaps.ensures.symmetry; shift = c.none-swaps.ensures.shift }
 
 pub loop-k-preserved : goal.loop-k-preserved
 loop-k-preserved g c =
@@ -19,6 +15,3 @@ loop-k-preserved g c =
       symmetry = omega arith;
       shift = omega arith;
     }
-
-pub returns-clause-cells : goal.returns-clause-cells
-returns-clause-cells g c = turning_all _ _ _ _ _ (omega arith) c.loop-k.invariant.run
