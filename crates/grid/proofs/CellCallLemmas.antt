@@ -1,12 +1,12 @@
 -- Calls of a closure at each place of a grid and the cell there.
-use Rattle.std.proofs.Common.{◌≡◌, ℕ, zero, suc, ◌*◌, ◌^◌, ◌<◌, ◌≤◌, List, [], ◌∷◌, Option, Some, length, zip, refl, sym, subst, ◌∙◌, ap, arith, is_some, ◌∷◌}
+use Rattle.std.proofs.Common.{◌≡◌, ℕ, zero, suc, ◌*◌, ◌^◌, ◌<◌, ◌≤◌, List, [], ◌∷◌, Some, length, zip, refl, sym, subst, ◌∙◌, ap, arith, is_some, ◌∷◌}
 use Rattle.std.specs.List.{slice_get, AllZip}
 use Rattle.std.specs.Option.{unwrap_or}
 use Rattle.std.proofs.lemmas.Option.{unwrap_or-slice_get}
 use Rattle.std.proofs.Math.Nat.{mul_comm}
 use denote.Ref.{Bor}
 use Rattle.grid_base.specs.declared.flat.order.Order.{Order}
-use Rattle.grid_base.specs.Table.{row_count, col_count, cell, InRange, IsSize, IsTable, tabulate}
+use Rattle.grid_base.specs.Table.{row_count, col_count, cell, InRange, IsSize, tabulate}
 use Rattle.grid_base.specs.Order.{table_of, place}
 use Rattle.grid_base.specs.Places.{places}
 use Rattle.grid_base.specs.ClosureCalls.{PairsUp, CallableAtCells, CallableAtItems, ReturnsAtCell}
@@ -17,7 +17,7 @@ use Rattle.grid_base.proofs.PlaceLemmas.{get-places, length-places}
 use Rattle.grid_base.proofs.WalkLemmas.{zip_within}
 use Rattle.grid_base.proofs.ViewLemmas.{view-rows, view-cols, view-table, view-cell}
 use Rattle.grid.specs.AllCells.{CallableAtPlaces, TabulatedBy}
-use Rattle.grid.specs.Make.{HasSize, IsMade, CallableOver, TabulatedOver}
+use Rattle.grid.specs.Make.{IsMade, CallableOver, TabulatedOver}
 use Rattle.grid_base.proofs.ViewLemmas.{grid_value}
 use Rattle.grid.proofs.SeenLemmas.{seen_rows, seen_cols}
 

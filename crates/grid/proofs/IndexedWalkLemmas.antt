@@ -1,14 +1,13 @@
 -- What walks over cells with their places give.
-use Rattle.std.proofs.Common.{◌≡◌, [], ◌∷◌, ◌++◌, map, length-append, ℕ, ◌*◌, ◌^◌, ◌<◌, List, Option, Some, None, length, zip, refl, sym, subst, ◌∙◌, ap, arith}
+use Rattle.std.proofs.Common.{◌≡◌, ℕ, ◌^◌, ◌<◌, List, Option, Some, length, zip, sym, subst, ◌∙◌, ap, arith}
 use Rattle.std.specs.List.{slice_get, slice_index_or}
 use Rattle.std.specs.Option.{unwrap_or}
 use Rattle.std.specs.Borrow.{Bor, MutBor}
-use Rattle.std.specs.Iterator.{YieldsFirst, YieldsFirstBy, Yields}
-use Rattle.std.specs.Iterator.Runs.{Run, EveryRun, EachRunFrom, AllItems, ItemsMapTo}
+use Rattle.std.specs.Iterator.{YieldsFirst, YieldsFirstBy}
+use Rattle.std.specs.Iterator.Runs.{EveryRun, EachRunFrom, AllItems, ItemsMapTo}
 use Rattle.std.proofs.iter.runs.Sources.{from_front}
 use Rattle.std.proofs.iter.runs.Lists.{at_some, slice_get_within}
 use Rattle.std.proofs.iter.runs.Made.{at-is}
-use Rattle.std.proofs.Math.Seq.{get_or-append_seam}
 use Rattle.std.proofs.lemmas.Option.{unwrap_or-slice_get}
 use Rattle.std.specs.Option.{MatchOption}
 use Rattle.grid_base.specs.declared.flat.order.Order.{Order}

@@ -100,7 +100,9 @@ fn live_around(grid: &Grid<bool>, row: usize, col: usize) -> usize
 {
     let rows = grid.rows();
     let (above, below) = (place_before(row, rows), place_after(row, rows));
-    live_in_three(grid, above, col) + live_in_three(grid, row, col) + live_in_three(grid, below, col)
+    live_in_three(grid, above, col)
+        + live_in_three(grid, row, col)
+        + live_in_three(grid, below, col)
 }
 
 // Whether a cell is live in the next generation.

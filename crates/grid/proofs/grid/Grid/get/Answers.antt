@@ -23,10 +23,10 @@ pub returns-else-row-self : goal.returns-else-row-self
 returns-else-row-self g c =
     record {
       cell =
-    rw (← c.self.view_is)
-    (elim c.else-row-self.branch [
-      | else-row-self-via-then-row-self+else-col-self w ↦ sym (view-past_cols _ _ _ _ c.self.inside.fits _ _ w.if-row-self.true w.if-col-self.false)
-      | else-row-self-via-else-row-self w ↦ sym (view-past_rows _ _ _ _ c.self.inside.fits _ _ w.if-row-self.false)
-    ]);
+          rw (← c.self.view_is)
+          (elim c.else-row-self.branch [
+            | else-row-self-via-then-row-self+else-col-self w ↦ sym (view-past_cols _ _ _ _ c.self.inside.fits _ _ w.if-row-self.true w.if-col-self.false)
+            | else-row-self-via-else-row-self w ↦ sym (view-past_rows _ _ _ _ c.self.inside.fits _ _ w.if-row-self.false)
+          ]);
       in_range = tt;
     }
