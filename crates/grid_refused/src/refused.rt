@@ -1,7 +1,8 @@
 //! Memory that is refused: request by request, or each request from the first on.
 use crate::asserts::assert_shows;
 use grid::{
-    Command, Grid, GridError, GridLineIter, Move, Order, Reply, RunStopped, Symmetry, Tally, reduce, run,
+    Command, Grid, GridError, GridLineIter, Move, Order, Reply, RunStopped, Symmetry, Tally,
+    reduce, run,
 };
 use grid_reference::fuse::Fuse;
 use grid_reference::plain;

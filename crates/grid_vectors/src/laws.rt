@@ -79,7 +79,10 @@ fn writes_rows_out(rt: HostRuntime) -> Result<(), Fail> {
 fn writes_columns_out(rt: HostRuntime) -> Result<(), Fail> {
     let by_columns = written_by_columns(rt.alloc())?;
     assert_eq!(rt; by_columns.order(), Order::ColumnMajor);
-    assert_eq!(rt; by_columns.flatten().as_slice(), [1, 4, 2, 5, 3, 6].as_slice());
+    assert_eq!(rt;
+        by_columns.flatten().as_slice(),
+        [1, 4, 2, 5, 3, 6].as_slice()
+    );
     Ok(())
 }
 

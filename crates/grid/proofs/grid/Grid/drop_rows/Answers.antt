@@ -24,7 +24,7 @@ close_rows-requires-clause-wide g c = taken_wide _ _ _ _ _ c.self.inside.fits c.
 pub invariant_of-self-inside : goal.invariant_of-self-inside
 invariant_of-self-inside g c = (
   rw c.cols_if_rows-self-inside.ensures
-    (taken_fits _ _ _ _ _ c.self.inside.fits c.self.view_is _ _ c.requires.within c.requires.some _ c.close_rows.ensures.taken),
+      (taken_fits _ _ _ _ _ c.self.inside.fits c.self.view_is _ _ c.requires.within c.requires.some _ c.close_rows.ensures.taken),
   tt,
 )
 

@@ -34,7 +34,7 @@ move_tail-requires-clause-room g c =
 pub invariant_of-self-inside : goal.invariant_of-self-inside
 invariant_of-self-inside g c = (
   rw (c.cols_if_rows-self-inside.ensures, c.move_tail.ensures.cells)
-    (removed_fits _ _ _ _ _ c.self.inside.fits c.self.view_is _ c.requires.within _ c.unweave_row.ensures),
+      (removed_fits _ _ _ _ _ c.self.inside.fits c.self.view_is _ c.requires.within _ c.unweave_row.ensures),
   tt,
 )
 
