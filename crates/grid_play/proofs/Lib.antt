@@ -1,3 +1,4 @@
+mod SplitLemmas
 mod TokenLemmas
 mod NumberLemmas
 mod CutLemmas
