@@ -1,30 +1,41 @@
-//! A first hour with the library: makes a grid, edits a row, turns the grid, runs commands, and reads a refusal.
+//! A first hour with the library: fills a board, looks round its cells, edits and turns it, and runs commands.
 #![tactic(auto)]
 
 use anyhow::{Result, bail};
-use grid::{Command, Grid, Move, Tally, grid, reduce, run};
+use grid::{Command, Grid, Move, Tally, reduce, run};
 use std::alloc::{AllocError, Global};
 
-// Edits of one table as data. The last one is refused: there is no row 9 to insert before.
+// Edits as data. The last one is refused: there is no row 9 to insert before.
 fn edits(alloc: Global) -> Result<Vec<Command<u32>>, AllocError> {
     Ok(vec![in alloc;
-        Command::PushRow(vec![in alloc; 10, 11, 12]?),
+        Command::PushRow(vec![in alloc; 4, 5, 6]?),
         Command::RemoveRow(0),
-        Command::Get(0, 1),
-        Command::InsertRow(9, vec![in alloc; 13, 14, 15]?),
+        Command::InsertRow(9, vec![in alloc; 7, 7, 7]?),
     ]?)
 }
 
 fn show<R: Print + AllocGlobal>(rt: &R) -> Result<()> {
     let alloc = rt.alloc();
-    let mut board: Grid<u32> = grid!(alloc; [1, 2, 3] [4, 5, 6])?;
 
-    // A line that is inserted must fit, and comes back where there is no memory.
-    let line = vec![in alloc; 7, 8, 9]?;
-    if let Err(refused) = board.insert_row(1, line) {
-        bail!("no memory for {:?}", refused.line);
+    // Two rows of three cells, written in a loop.
+    let mut board: Grid<u32> = Grid::new(alloc, 2, 3)?;
+    for ((row, col), cell) in board.indexed_iter_mut() {
+        *cell = if row % 2 == col % 2 { 1 } else { 0 };
     }
     println!(rt; "{board:?}")?;
+
+    // How many ones each one touches.
+    for ((row, col), cell) in board.indexed_iter() {
+        if *cell == 1 {
+            let ones = board.neighbors8(row, col).filter(|(_, near)| **near == 1);
+            println!(rt; "({row}, {col}) touches {}", ones.count())?;
+        }
+    }
+
+    // A line that is inserted must fit, and comes back if there is no memory.
+    if let Err(refused) = board.insert_row(1, vec![in alloc; 7, 8, 9]?) {
+        bail!("no memory for {:?}", refused.line);
+    }
 
     // Moves are joined to one symmetry before a cell is moved.
     let turn = reduce(&[Move::RotateLeft, Move::FlipCols]);

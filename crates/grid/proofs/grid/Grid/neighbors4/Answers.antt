@@ -1,0 +1,14 @@
+use Rattle.std.proofs.Common.{◌∙◌, ap}
+use Rattle.grid_near.specs.Neighbors.{neighbors4}
+use Rattle.grid.proofs.SeenLemmas.{seen_row_in, seen_col_in}
+use Rattle.grid.proofs.grid.Grid.neighbors4.Goals as goal
+
+pub neighbors4-requires : goal.neighbors4-requires
+neighbors4-requires g c = record {
+  size = rw c.as_slice.ensures c.self.inside.fits;
+  row_in = seen_row_in _ _ _ _ _ c.self.inside.fits _ _ c.self.view_is c.requires;
+  col_in = seen_col_in _ _ _ _ _ c.self.inside.fits _ _ c.self.view_is c.requires;
+}
+
+pub returns-clause-rest : goal.returns-clause-rest
+returns-clause-rest g c = (rw c.as_slice.ensures at c.neighbors4.ensures.rest) ∙ ap (λ x. neighbors4 x.rows c.args.row c.args.col) c.self.view_is

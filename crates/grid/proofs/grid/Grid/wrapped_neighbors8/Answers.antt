@@ -1,0 +1,14 @@
+use Rattle.std.proofs.Common.{◌∙◌, ap}
+use Rattle.grid_near.specs.Neighbors.{wrapped_neighbors8}
+use Rattle.grid.proofs.SeenLemmas.{seen_row_in, seen_col_in}
+use Rattle.grid.proofs.grid.Grid.wrapped_neighbors8.Goals as goal
+
+pub wrapped_neighbors8-requires : goal.wrapped_neighbors8-requires
+wrapped_neighbors8-requires g c = record {
+  size = rw c.as_slice.ensures c.self.inside.fits;
+  row_in = seen_row_in _ _ _ _ _ c.self.inside.fits _ _ c.self.view_is c.requires;
+  col_in = seen_col_in _ _ _ _ _ c.self.inside.fits _ _ c.self.view_is c.requires;
+}
+
+pub returns-clause-rest : goal.returns-clause-rest
+returns-clause-rest g c = (rw c.as_slice.ensures at c.wrapped_neighbors8.ensures.rest) ∙ ap (λ x. wrapped_neighbors8 x.rows c.args.row c.args.col) c.self.view_is

@@ -1,0 +1,363 @@
+-- The steps round a cell, one by one.
+use Rattle.std.proofs.Common.{◌≡◌, ℕ, zero, suc, ◌+◌, ◌-◌, ◌*◌, ◌/◌, ◌%◌, ◌<◌, ◌≤◌, inl, inr, Bool, true, false, cond, Option, Some, None, List, [], ◌∷◌, drop, length, refl, ◌&&◌, nat_lt, sym, ◌∙◌, ap, arith, slice_index_or, lit<, subst, IsSome}
+use Rattle.std.specs.List.{filter_map, slice_get, cons_option}
+use Rattle.std.specs.Option.{option_map, option_and_then}
+use Rattle.std.proofs.lemmas.List.{drop_all}
+use Rattle.std.proofs.lemmas.Nat.{mod_below}
+use Rattle.std.proofs.lemmas.Bool.{cases_lt, lt-ltb, le-ltb, ltb-true}
+use Rattle.std.proofs.lemmas.Option.{slice_get_past, slice_get_read}
+use Rattle.grid_base.specs.declared.flat.order.Order.{Order}
+use Rattle.grid_base.specs.declared.flat.order.Order.TheVariants.{RowMajor, ColumnMajor}
+use Rattle.grid_base.specs.Table.{row, row_count, col_count, cell, IsTable}
+use Rattle.grid_base.specs.Order.{storage, place}
+use Rattle.grid_base.proofs.TableLemmas.{cell_past_rows, IsSome_within}
+use Rattle.grid_base.proofs.StorageLemmas.{get-storage, length-storage, place_within}
+use Rattle.grid_near.specs.Neighbors.{both, cell_at}
+use Rattle.grid_near.specs.Around.{strided_cell, HoldsCells, step_count, box, beside, positions, position_of, cells_from, if_within, strides_of, IsThere, IsRound, positions_from}
+
+-- the position of a step is the first of those that are left
+pub positions_from_step : (sides : Bool) (at : ℕ × ℕ) (k : ℕ) → k < step_count sides → drop k (positions sides at) ≡ position_of sides at k ∷ drop (k + 1) (positions sides at)
+positions_from_step true at zero lt = refl
+positions_from_step true at (suc zero) lt = refl
+positions_from_step true at (suc (suc zero)) lt = refl
+positions_from_step true at (suc (suc (suc zero))) lt = refl
+positions_from_step true at (suc (suc (suc (suc k)))) lt = absurd (omega arith)
+positions_from_step false at zero lt = refl
+positions_from_step false at (suc zero) lt = refl
+positions_from_step false at (suc (suc zero)) lt = refl
+positions_from_step false at (suc (suc (suc zero))) lt = refl
+positions_from_step false at (suc (suc (suc (suc zero)))) lt = refl
+positions_from_step false at (suc (suc (suc (suc (suc zero))))) lt = refl
+positions_from_step false at (suc (suc (suc (suc (suc (suc zero)))))) lt = refl
+positions_from_step false at (suc (suc (suc (suc (suc (suc (suc zero))))))) lt = refl
+positions_from_step false at (suc (suc (suc (suc (suc (suc (suc (suc k)))))))) lt = absurd (omega arith)
+
+-- no positions are left
+pub none_left : (sides : Bool) (at : ℕ × ℕ) (k : ℕ) → step_count sides ≤ k → drop k (positions sides at) ≡ []
+none_left true at k le = drop_all k _ le
+none_left false at k le = drop_all k _ le
+
+module _ {T : Type 0} (cells : List T) (size strides : ℕ × ℕ) where
+  abbrev f : ℕ → ℕ → Option T
+  f = strided_cell cells size strides
+
+  -- the cell of a position that is in the grid, or not
+  none_at : (q : ℕ × ℕ) → cond (nat_lt q.0 size.0 && nat_lt q.1 size.1) (Some q) None ≡ None → f q.0 q.1 ≡ None
+  none_at q e = cases (nat_lt q.0 size.0 && nat_lt q.1 size.1) e
+    where
+      cases : (b : Bool) → cond b (Some q) None ≡ None → cond b (slice_get cells (q.0 * strides.0 + q.1 * strides.1)) None ≡ None
+      cases true e = absurd (cc e)
+      cases false e = refl
+
+  some_at : (q p : ℕ × ℕ) (x : T) → cond (nat_lt q.0 size.0 && nat_lt q.1 size.1) (Some q) None ≡ Some p → slice_get cells (p.0 * strides.0 + p.1 * strides.1) ≡ Some x → option_map {U = (ℕ × ℕ) × T} (λ x. (q, x)) (f q.0 q.1) ≡ Some (p, x)
+  some_at q p x e h = cases (nat_lt q.0 size.0 && nat_lt q.1 size.1) e
+    where
+      cases : (b : Bool) → cond b (Some q) None ≡ Some p → option_map {U = (ℕ × ℕ) × T} (λ x. (q, x)) (cond b (slice_get cells (q.0 * strides.0 + q.1 * strides.1)) None) ≡ Some (p, x)
+      cases true e =
+          let same : q ≡ p = cc in
+          ap (λ (r : ℕ × ℕ). option_map {U = (ℕ × ℕ) × T} (λ x. (r, x)) (slice_get cells (r.0 * strides.0 + r.1 * strides.1))) same ∙ ap (option_map {U = (ℕ × ℕ) × T} (λ x. (p, x))) h
+      cases false e = absurd (cc e)
+
+  pub cell_none : (p : Option ℕ × Option ℕ) → None ≡ if_within size (both p) → cell_at f p ≡ None
+  cell_none p e = cases (both p) e
+    where
+      cases : (o : Option (ℕ × ℕ)) → None ≡ if_within size o → option_and_then {U = (ℕ × ℕ) × T} (λ q. option_map (λ x. (q, x)) (f q.0 q.1)) o ≡ None
+      cases None e = refl
+      cases (Some q) e = ap (option_map {U = (ℕ × ℕ) × T} (λ x. (q, x))) (none_at q (sym e))
+
+  pub cell_some : (p : Option ℕ × Option ℕ) (q : ℕ × ℕ) (x : T) → Some q ≡ if_within size (both p) → slice_get cells (q.0 * strides.0 + q.1 * strides.1) ≡ Some x → cell_at f p ≡ Some (q, x)
+  cell_some p q x e h = cases (both p) e
+    where
+      cases : (o : Option (ℕ × ℕ)) → Some q ≡ if_within size o → option_and_then {U = (ℕ × ℕ) × T} (λ q. option_map (λ x. (q, x)) (f q.0 q.1)) o ≡ Some (q, x)
+      cases None e = absurd (cc e)
+      cases (Some r) e = some_at r q x (sym e) h
+
+module _ {T : Type 0} (f : ℕ → ℕ → Option T) (sides : Bool) (at : ℕ × ℕ) where
+  pub cells_left : (k : ℕ) → k < step_count sides → cells_from f sides at k ≡ cons_option (cell_at f (position_of sides at k)) (cells_from f sides at (k + 1))
+  cells_left k lt = ap (filter_map (cell_at f)) (positions_from_step sides at k lt)
+
+  pub no_cell : (k : ℕ) → k < step_count sides → cell_at f (position_of sides at k) ≡ None → cells_from f sides at k ≡ cells_from f sides at (k + 1)
+  no_cell k lt e = cells_left k lt ∙ ap (λ o. cons_option o (cells_from f sides at (k + 1))) e
+
+  pub first_cell : (k : ℕ) (x : (ℕ × ℕ) × T) → k < step_count sides → cell_at f (position_of sides at k) ≡ Some x → cells_from f sides at k ≡ x ∷ cells_from f sides at (k + 1)
+  first_cell k x lt e = cells_left k lt ∙ ap (λ o. cons_option o (cells_from f sides at (k + 1))) e
+
+  pub no_cells : (k : ℕ) → step_count sides ≤ k → cells_from f sides at k ≡ []
+  no_cells k le = ap (filter_map (cell_at f)) (none_left sides at k le)
+
+-- steps whose positions aren't in the grid
+pub position_skipped : (size : ℕ × ℕ) (sides : Bool) (at : ℕ × ℕ) (k : ℕ) → k < step_count sides → if_within size (both (position_of sides at k)) ≡ None → positions_from size sides at k ≡ positions_from size sides at (k + 1)
+position_skipped size sides at k lt e =
+    ap (filter_map (λ p. if_within size (both p))) (positions_from_step sides at k lt) ∙ ap (λ o. cons_option o (positions_from size sides at (k + 1))) e
+
+module _ {T : Type 0} (cells : List T) (size strides : ℕ × ℕ) where
+  abbrev position_cell : ℕ × ℕ → Option ((ℕ × ℕ) × T)
+  position_cell q = option_map (λ x. (q, x)) (slice_get cells (q.0 * strides.0 + q.1 * strides.1))
+
+  step_split : (q : ℕ × ℕ) (b : Bool) (xs : List ((ℕ × ℕ) × T)) (qs : List (ℕ × ℕ)) → xs ≡ filter_map position_cell qs → cons_option (option_map {U = (ℕ × ℕ) × T} (λ x. (q, x)) (cond b (slice_get cells (q.0 * strides.0 + q.1 * strides.1)) None)) xs ≡ filter_map position_cell (cons_option (cond b (Some q) None) qs)
+  step_split q true xs qs same = ap (cons_option (position_cell q)) same
+  step_split q false xs qs same = same
+
+  step_position : (o : Option (ℕ × ℕ)) (xs : List ((ℕ × ℕ) × T)) (qs : List (ℕ × ℕ)) → xs ≡ filter_map position_cell qs → cons_option (option_and_then {U = (ℕ × ℕ) × T} (λ q. option_map (λ x. (q, x)) (strided_cell cells size strides q.0 q.1)) o) xs ≡ filter_map position_cell (cons_option (if_within size o) qs)
+  step_position None xs qs same = same
+  step_position (Some q) xs qs same = step_split q (nat_lt q.0 size.0 && nat_lt q.1 size.1) xs qs same
+
+  cells_of_positions : (ps : List (Option ℕ × Option ℕ)) → filter_map (cell_at (strided_cell cells size strides)) ps ≡ filter_map position_cell (filter_map (λ p. if_within size (both p)) ps)
+  cells_of_positions [] = refl
+  cells_of_positions (p ∷ ps) = step_position (both p) _ _ (cells_of_positions ps)
+
+  pub cells_skipped : (sides : Bool) (at : ℕ × ℕ) (k l : ℕ) → positions_from size sides at k ≡ positions_from size sides at l → cells_from (strided_cell cells size strides) sides at k ≡ cells_from (strided_cell cells size strides) sides at l
+  cells_skipped sides at k l e =
+      cells_of_positions (drop k (positions sides at)) ∙ (ap (filter_map position_cell) e ∙ sym (cells_of_positions (drop l (positions sides at))))
+
+-- one cell for each position
+pub one_more : {X : Type 0} (o : Option X) (xs : List X) → IsSome o → length (cons_option o xs) ≡ suc (length xs)
+one_more None xs e = absurd (cc e)
+one_more (Some x) xs e = refl
+
+pub mapped_there : {X Y : Type 0} (f : X → Y) (o : Option X) → IsSome o → IsSome (option_map f o)
+mapped_there f None e = absurd (cc e)
+mapped_there f (Some x) e = refl
+
+and_left : (a b : Bool) → a && b ≡ true → a ≡ true
+and_left true b e = refl
+and_left false b e = e
+
+and_right : (a b : Bool) → a && b ≡ true → b ≡ true
+and_right true b e = e
+and_right false b e = absurd (cc e)
+
+module _ {T : Type 0} (cells : List T) (size strides : ℕ × ℕ) (h : HoldsCells cells size strides) where
+  length_split : (q : ℕ × ℕ) (b : Bool) → (b ≡ true → IsSome (slice_get cells (q.0 * strides.0 + q.1 * strides.1))) → (xs : List ((ℕ × ℕ) × T)) (qs : List (ℕ × ℕ)) → length xs ≡ length qs → length (cons_option (option_map {U = (ℕ × ℕ) × T} (λ x. (q, x)) (cond b (slice_get cells (q.0 * strides.0 + q.1 * strides.1)) None)) xs) ≡ length (cons_option (cond b (Some q) None) qs)
+  length_split q true some xs qs same = one_more _ xs (mapped_there (λ x. (q, x)) _ (some refl)) ∙ ap suc same
+  length_split q false some xs qs same = same
+
+  read_within : (q : ℕ × ℕ) → nat_lt q.0 size.0 && nat_lt q.1 size.1 ≡ true → IsSome (slice_get cells (q.0 * strides.0 + q.1 * strides.1))
+  read_within q e =
+      IsSome_within cells _ (h q.0 q.1 (ltb-true _ _ (and_left (nat_lt q.0 size.0) (nat_lt q.1 size.1) e)) (ltb-true _ _ (and_right (nat_lt q.0 size.0) (nat_lt q.1 size.1) e)))
+
+  length_step : (o : Option (ℕ × ℕ)) (xs : List ((ℕ × ℕ) × T)) (qs : List (ℕ × ℕ)) → length xs ≡ length qs → length (cons_option (option_and_then {U = (ℕ × ℕ) × T} (λ q. option_map (λ x. (q, x)) (strided_cell cells size strides q.0 q.1)) o) xs) ≡ length (cons_option (if_within size o) qs)
+  length_step None xs qs same = same
+  length_step (Some q) xs qs same = length_split q (nat_lt q.0 size.0 && nat_lt q.1 size.1) (read_within q) xs qs same
+
+  length_cells : (ps : List (Option ℕ × Option ℕ)) → length (filter_map (cell_at (strided_cell cells size strides)) ps) ≡ length (filter_map (λ p. if_within size (both p)) ps)
+  length_cells [] = refl
+  length_cells (p ∷ ps) = length_step (both p) _ _ (length_cells ps)
+
+  pub length-cells_from : (sides : Bool) (at : ℕ × ℕ) (k : ℕ) → length (cells_from (strided_cell cells size strides) sides at k) ≡ length (positions_from size sides at k)
+  length-cells_from sides at k = length_cells (drop k (positions sides at))
+
+  pub strided_there : (r c : ℕ) → r < size.0 → c < size.1 → IsSome (strided_cell cells size strides r c)
+  strided_there r c lr lc = there (nat_lt r size.0) (nat_lt c size.1) (lt-ltb _ _ lr) (lt-ltb _ _ lc)
+    where
+      there : (a b : Bool) → a ≡ true → b ≡ true → IsSome (cond (a && b) (slice_get cells (r * strides.0 + c * strides.1)) None)
+      there true true ea eb = IsSome_within cells _ (h r c lr lc)
+      there true false ea eb = absurd (cc eb)
+      there false b ea eb = absurd (cc ea)
+
+beside_there : (k i : ℕ) → 0 < k + i → i < 3 → beside k i ≡ Some (k + i - 1)
+beside_there zero zero lk li = absurd (omega arith)
+beside_there (suc k) zero lk li = ap Some (omega arith)
+beside_there k (suc zero) lk li = ap Some (omega arith)
+beside_there k (suc (suc zero)) lk li = ap Some (omega arith)
+beside_there k (suc (suc (suc i))) lk li = absurd (omega arith)
+
+beside_none : (k i : ℕ) → k + i ≤ 0 → beside k i ≡ None
+beside_none zero zero le = refl
+beside_none (suc k) i le = absurd (omega arith)
+beside_none k (suc i) le = absurd (omega arith)
+
+module _ (size at : ℕ × ℕ) (i j : ℕ) (li : i < 3) (lj : j < 3) where
+  abbrev position : ℕ × ℕ
+  position = (at.0 + i - 1, at.1 + j - 1)
+
+  position_is : 0 < at.0 + i → 0 < at.1 + j → if_within size (both (beside at.0 i, beside at.1 j)) ≡ cond (nat_lt (at.0 + i - 1) size.0 && nat_lt (at.1 + j - 1) size.1) (Some position) None
+  position_is lr lc =
+      ap (λ (o : Option ℕ). if_within size (both (o, beside at.1 j))) (beside_there at.0 i lr li)
+      ∙ ap (λ (o : Option ℕ). if_within size (both (Some (at.0 + i - 1), o))) (beside_there at.1 j lc lj)
+
+  pub position_there : IsThere size at i j → Some position ≡ if_within size (both (beside at.0 i, beside at.1 j))
+  position_there h =
+      sym (position_is h.above h.before
+      ∙ (ap (λ b. cond (b && nat_lt (at.1 + j - 1) size.1) (Some position) None) (lt-ltb _ _ (omega (arith, h.above, h.below)))
+      ∙ ap (λ b. cond b (Some position) None) (lt-ltb _ _ (omega (arith, h.before, h.after)))))
+
+  past_col : (b : Bool) → size.1 ≤ at.1 + j - 1 → cond (b && nat_lt (at.1 + j - 1) size.1) (Some position) None ≡ None
+  past_col true le = ap (λ b. cond b (Some position) None) (le-ltb _ _ le)
+  past_col false le = refl
+
+  pub position_missing : (IsThere size at i j → ⊥) → if_within size (both (beside at.0 i, beside at.1 j)) ≡ None
+  position_missing none = elim (cases_lt 0 (at.0 + i)) [
+    | inl lr ↦ elim (cases_lt 0 (at.1 + j)) [
+      | inl lc ↦ elim (cases_lt (at.0 + i - 1) size.0) [
+        | inl wr ↦ elim (cases_lt (at.1 + j - 1) size.1) [
+          | inl wc ↦ absurd (none (record { above = lr; below = omega arith; before = lc; after = omega arith }))
+          | inr gc ↦ position_is lr lc ∙ past_col (nat_lt (at.0 + i - 1) size.0) gc
+        ]
+        | inr gr ↦ position_is lr lc ∙ ap (λ b. cond (b && nat_lt (at.1 + j - 1) size.1) (Some position) None) (le-ltb _ _ gr)
+      ]
+      | inr gc ↦
+          ap (λ (o : Option ℕ). if_within size (both (o, beside at.1 j))) (beside_there at.0 i lr li)
+          ∙ ap (λ (o : Option ℕ). if_within size (both (Some (at.0 + i - 1), o))) (beside_none at.1 j gc)
+    ]
+    | inr gr ↦ ap (λ (o : Option ℕ). if_within size (both (o, beside at.1 j))) (beside_none at.0 i gr)
+  ]
+
+-- a grid's cells, by their strides
+at_strides : (o : Order) (m n r c : ℕ) → r * (strides_of o (m, n)).0 + c * (strides_of o (m, n)).1 ≡ place o m n r c
+at_strides RowMajor m n r c = omega arith
+at_strides ColumnMajor m n r c = omega arith
+
+module _ {T : Type 0} (o : Order) (t : List (List T)) (h : IsTable t) where
+  abbrev size_of : ℕ × ℕ
+  size_of = (row_count t, col_count t)
+
+  pub holds_cells : HoldsCells (storage o t) (row_count t, col_count t) (strides_of o (row_count t, col_count t))
+  holds_cells r c lr lc = omega (arith, at_strides o (row_count t) (col_count t) r c, place_within o (row_count t) (col_count t) r c lr lc, length-storage o t h)
+
+  cell_past_cols : (r c : ℕ) → col_count t ≤ c → cell t r c ≡ None
+  cell_past_cols r c le = elim (cases_lt r (length t)) [ inl lt ↦ slice_get_past (row t r) c (omega (arith, h.even r lt)) | inr ge ↦ cell_past_rows t r c ge ]
+
+  shown : (r c : ℕ) → strided_cell (storage o t) (row_count t, col_count t) (strides_of o (row_count t, col_count t)) r c ≡ cell t r c
+  shown r c = elim (cases_lt r (row_count t)) [
+    | inl lr ↦ elim (cases_lt c (col_count t)) [
+      | inl lc ↦
+          ap (λ b. cond (b && nat_lt c (col_count t)) (slice_get (storage o t) (r * (strides_of o (row_count t, col_count t)).0 + c * (strides_of o (row_count t, col_count t)).1)) None) (lt-ltb r (row_count t) lr)
+          ∙ (ap (λ b. cond b (slice_get (storage o t) (r * (strides_of o (row_count t, col_count t)).0 + c * (strides_of o (row_count t, col_count t)).1)) None) (lt-ltb c (col_count t) lc)
+          ∙ (ap (slice_get (storage o t)) (at_strides o (row_count t) (col_count t) r c) ∙ get-storage o t r c h lr lc))
+      | inr gc ↦ past r c (nat_lt r (row_count t)) (nat_lt c (col_count t)) (le-ltb c (col_count t) gc) ∙ sym (cell_past_cols r c gc)
+    ]
+    | inr gr ↦
+        ap (λ b. cond (b && nat_lt c (col_count t)) (slice_get (storage o t) (r * (strides_of o (row_count t, col_count t)).0 + c * (strides_of o (row_count t, col_count t)).1)) None) (le-ltb r (row_count t) gr) ∙ sym (cell_past_rows t r c gr)
+  ]
+    where
+      past : (r c : ℕ) (a b : Bool) → b ≡ false → cond (a && b) (slice_get (storage o t) (r * (strides_of o (row_count t, col_count t)).0 + c * (strides_of o (row_count t, col_count t)).1)) None ≡ None
+      past r c true b e = ap (λ b. cond b (slice_get (storage o t) (r * (strides_of o (row_count t, col_count t)).0 + c * (strides_of o (row_count t, col_count t)).1)) None) e
+      past r c false b e = refl
+
+  pub cells_shown : (sides : Bool) (at : ℕ × ℕ) (k : ℕ) → cells_from (strided_cell (storage o t) (row_count t, col_count t) (strides_of o (row_count t, col_count t))) sides at k ≡ cells_from (cell t) sides at k
+  cells_shown sides at k = let same : strided_cell (storage o t) (row_count t, col_count t) (strides_of o (row_count t, col_count t)) ≡ cell t = λ i r c. shown r c i in ap (λ f. cells_from f sides at k) same
+
+-- what an iterator starts from, by what its constructor reads of a grid
+module _ {T : Type 0} (o : Order) (t : List (List T)) (h : IsTable t) (cells : List T) (size strides : ℕ × ℕ) (ec : cells ≡ storage o t) (er : size.0 ≡ row_count t) (el : size.1 ≡ col_count t) (es : strides ≡ strides_of o size) where
+  whole_size : size ≡ (row_count t, col_count t)
+  whole_size = λ i. (er i, el i)
+
+  whole_strides : strides ≡ strides_of o (row_count t, col_count t)
+  whole_strides = es ∙ ap (strides_of o) whole_size
+
+  pub start_holds : HoldsCells cells size strides
+  start_holds =
+      let P : List T → Type 0 = λ x. HoldsCells x size strides in
+      let Q : ℕ × ℕ → Type 0 = λ x. HoldsCells (storage o t) x strides in
+      let R : ℕ × ℕ → Type 0 = λ x. HoldsCells (storage o t) (row_count t, col_count t) x in
+      subst P (sym ec) (subst Q (sym whole_size) (subst R (sym whole_strides) (holds_cells o t h)))
+
+  same_start : (inner : Bool) → ◌≡◌ {A = ℕ} (cond inner 0 0) 0
+  same_start true = refl
+  same_start false = refl
+
+  pub same_cells : strided_cell cells size strides ≡ cell t
+  same_cells =
+      let shows : strided_cell (storage o t) (row_count t, col_count t) (strides_of o (row_count t, col_count t)) ≡ cell t = λ i r c. shown o t h r c i in
+      ap (λ x. strided_cell x size strides) ec
+      ∙ (ap (λ x. strided_cell (storage o t) x strides) whole_size
+      ∙ (ap (strided_cell (storage o t) (row_count t, col_count t)) whole_strides
+      ∙ shows))
+
+  pub start_shown : (sides inner : Bool) (at : ℕ × ℕ) → cells_from (strided_cell cells size strides) sides at (cond inner 0 0) ≡ cells_from (cell t) sides at 0
+  start_shown sides inner at =
+      ap (cells_from (strided_cell cells size strides) sides at) (same_start inner)
+      ∙ (ap (λ x. cells_from (strided_cell x size strides) sides at 0) ec
+      ∙ (ap (λ x. cells_from (strided_cell (storage o t) x strides) sides at 0) whole_size
+      ∙ (ap (λ x. cells_from (strided_cell (storage o t) (row_count t, col_count t) x) sides at 0) whole_strides
+      ∙ cells_shown o t h sides at 0)))
+
+-- an item of an iterator whose cells are all there
+beside_inner : (k i : ℕ) → 0 < k → i < 3 → beside k i ≡ Some (k + i - 1)
+beside_inner zero i lk li = absurd (omega arith)
+beside_inner (suc k) zero lk li = ap Some (omega arith)
+beside_inner (suc k) (suc zero) lk li = ap Some (omega arith)
+beside_inner (suc k) (suc (suc zero)) lk li = ap Some (omega arith)
+beside_inner (suc k) (suc (suc (suc i))) lk li = absurd (omega arith)
+
+pub box_row : (sides : Bool) (k : ℕ) → k < step_count sides → box sides k / 3 < 3
+box_row true k lt = omega arith
+box_row false k lt = omega arith
+
+pub box_col : (sides : Bool) (k : ℕ) → box sides k % 3 < 3
+box_col sides k = mod_below (box sides k) 3 (lit< tt)
+
+-- how many positions are left
+pub there_at : (size at : ℕ × ℕ) (i j k l : ℕ) → i ≡ k → j ≡ l → IsThere size at i j → IsThere size at k l
+there_at size at i j k l ei ej t = record {
+  above = omega (arith, t.above, ei);
+  below = omega (arith, t.below, ei);
+  before = omega (arith, t.before, ej);
+  after = omega (arith, t.after, ej);
+}
+
+pub position_counted : (size at : ℕ × ℕ) (sides : Bool) (k : ℕ) → k < step_count sides → IsThere size at (box sides k / 3) (box sides k % 3) → length (positions_from size sides at k) ≡ suc (length (positions_from size sides at (k + 1)))
+position_counted size at sides k lt t =
+    ap (λ ps. length (filter_map (λ p. if_within size (both p)) ps)) (positions_from_step sides at k lt)
+    ∙ ap (λ o. length (cons_option o (positions_from size sides at (k + 1)))) (sym (position_there size at (box sides k / 3) (box sides k % 3) (box_row sides k lt) (box_col sides k) t))
+
+pub no_position : (size at : ℕ × ℕ) (sides : Bool) (k : ℕ) → k < step_count sides → (IsThere size at (box sides k / 3) (box sides k % 3) → ⊥) → positions_from size sides at k ≡ positions_from size sides at (k + 1)
+no_position size at sides k lt none =
+    position_skipped size sides at k lt (position_missing size at (box sides k / 3) (box sides k % 3) (box_row sides k lt) (box_col sides k) none)
+
+pub no_positions : (size at : ℕ × ℕ) (sides : Bool) (k : ℕ) → step_count sides ≤ k → length (positions_from size sides at k) ≡ 0
+no_positions size at sides k le = ap (λ ps. length (filter_map (λ p. if_within size (both p)) ps)) (none_left sides at k le)
+
+dist : (a b s : ℕ) → (a + b) * s ≡ a * s + b * s
+dist a b s = grind arith
+
+moved : (r i s : ℕ) → 0 < r → (r - 1) * s + i * s ≡ (r + i - 1) * s
+moved r i s lt = let same : r + i - 1 ≡ r - 1 + i = omega arith in sym (ap (λ k. k * s) same ∙ dist (r - 1) i s)
+
+-- the position of a step whose cell is in the grid
+module _ {T : Type 0} (cells : List T) (size strides at : ℕ × ℕ) (sides : Bool) (k i j : ℕ) (lt : k < step_count sides) (h : HoldsCells cells size strides) (t : IsThere size at (box sides k / 3) (box sides k % 3)) (ei : i ≡ box sides k / 3) (ej : j ≡ box sides k % 3) where
+  there : IsThere size at i j
+  there = record {
+    above = omega (arith, t.above, ei);
+    below = omega (arith, t.below, ei);
+    before = omega (arith, t.before, ej);
+    after = omega (arith, t.after, ej);
+  }
+
+  pub position_within : (at.0 + i - 1) * strides.0 + (at.1 + j - 1) * strides.1 < length cells
+  position_within = h (at.0 + i - 1) (at.1 + j - 1) (omega (arith, there.above, there.below)) (omega (arith, there.before, there.after))
+
+  pub position_in_size : Some (at.0 + i - 1, at.1 + j - 1) ≡ if_within size (both (position_of sides at k))
+  position_in_size =
+      position_there size at i j (omega (arith, box_row sides k lt, ei)) (omega (arith, box_col sides k, ej)) there
+      ∙ (ap (λ (n : ℕ). if_within size (both (beside at.0 n, beside at.1 j))) ei
+      ∙ ap (λ (n : ℕ). if_within size (both (beside at.0 (box sides k / 3), beside at.1 n))) ej)
+
+module _ {T : Type 0} (cells : List T) (size strides at : ℕ × ℕ) (first passed tried : ℕ) (inner : Bool) (w : IsRound cells size strides at first inner passed tried) (e : inner ≡ true) (sides : Bool) (k : ℕ) (lt : k < step_count sides) (i j : ℕ) (ei : i ≡ box sides k / 3) (ej : j ≡ box sides k % 3) where
+  pub within_row : at.0 + i - 1 < size.0
+  within_row = omega (arith, box_row sides k lt, (w.inside e).below, (w.inside e).above)
+
+  pub within_col : at.1 + j - 1 < size.1
+  within_col = omega (arith, box_col sides k, (w.inside e).after, (w.inside e).before)
+
+  pub box_place : first + i * strides.0 + j * strides.1 ≡ (at.0 + i - 1) * strides.0 + (at.1 + j - 1) * strides.1
+  box_place = omega (arith, w.first_is e, moved at.0 i strides.0 (w.inside e).above, moved at.1 j strides.1 (w.inside e).before)
+
+  pub box_within : first + i * strides.0 + j * strides.1 < length cells
+  box_within = omega (arith, box_place, w.holds (at.0 + i - 1) (at.1 + j - 1) within_row within_col)
+
+  in_size : Some (at.0 + i - 1, at.1 + j - 1) ≡ if_within size (both (position_of sides at k))
+  in_size =
+      sym (ap (λ (n : ℕ). if_within size (both (beside at.0 n, beside at.1 (box sides k % 3)))) (sym ei)
+      ∙ (ap (λ (n : ℕ). if_within size (both (beside at.0 i, beside at.1 n))) (sym ej)
+      ∙ (ap (λ (o : Option ℕ). if_within size (both (o, beside at.1 j))) (beside_inner at.0 i (w.inside e).above (omega (arith, box_row sides k lt)))
+      ∙ (ap (λ (o : Option ℕ). if_within size (both (Some (at.0 + i - 1), o))) (beside_inner at.1 j (w.inside e).before (omega (arith, box_col sides k)))
+      ∙ (ap (λ b. cond (b && nat_lt (at.1 + j - 1) size.1) (Some (at.0 + i - 1, at.1 + j - 1)) None) (lt-ltb _ _ within_row)
+      ∙ ap (λ b. cond b (Some (at.0 + i - 1, at.1 + j - 1)) None) (lt-ltb _ _ within_col))))))
+
+  pub inner_item : (x : T) → x ≡ slice_index_or cells (first + i * strides.0 + j * strides.1) x → cells_from (strided_cell cells size strides) sides at k ≡ ((at.0 + i - 1, at.1 + j - 1), x) ∷ cells_from (strided_cell cells size strides) sides at (k + 1)
+  inner_item x read =
+      first_cell (strided_cell cells size strides) sides at k ((at.0 + i - 1, at.1 + j - 1), x) lt
+      (cell_some cells size strides (position_of sides at k) (at.0 + i - 1, at.1 + j - 1) x in_size
+      (ap (slice_get cells) (sym box_place) ∙ slice_get_read cells _ _ x refl box_within read))

@@ -1,0 +1,3 @@
+pub mod AroundLemmas
+pub mod NeighborLemmas
+pub mod WrappedLemmas

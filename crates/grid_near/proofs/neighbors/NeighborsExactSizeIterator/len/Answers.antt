@@ -1,0 +1,17 @@
+use Rattle.std.proofs.Common.{◌≡◌, ◌∙◌, sym, ap, length, cond}
+use Rattle.grid_near.specs.Around.{positions_from}
+use Rattle.grid_near.proofs.AroundLemmas.{length-cells_from}
+use Rattle.grid_near.proofs.neighbors.NeighborsExactSizeIterator.len.Goals as goal
+use Rattle.grid_near.proofs.neighbors.NeighborsExactSizeIterator.len.Goals.{then-self, else-self}
+
+pub returns-clause-value : goal.returns-clause-value
+returns-clause-value g c =
+    let s = c.self.inside in
+    let from : c.if-self.from ≡ cond s.inner s.passed s.tried = elim c.if-self.branch [
+      | then-self w ↦ w.from-is ∙ ap (λ b. cond b s.passed s.tried) (sym w.if-self.true)
+      | else-self w ↦ w.from-is ∙ ap (λ b. cond b s.passed s.tried) (sym w.if-self.false)
+    ] in
+    c.count_from.ensures
+    ∙ (ap (λ k. length (positions_from s.size s.sides s.at k)) from
+    ∙ (sym (length-cells_from s.cells.now s.size s.strides c.self.invariant.holds s.sides s.at (cond s.inner s.passed s.tried))
+    ∙ ap length c.self.view_is))

@@ -1,0 +1,43 @@
+use Rattle.std.proofs.Common.{◌∙◌, ap, sym, length, arith}
+use Rattle.grid_base.specs.Order.{table_of}
+use Rattle.grid_base.specs.Table.{InRange}
+use Rattle.grid_base.proofs.ViewLemmas.{view-rows, view-cols, view-table, view-storage}
+use Rattle.grid_near.proofs.AroundLemmas.{start_holds}
+use Rattle.grid_near.proofs.WrappedLemmas.{wrapped_start, length-wrapped}
+use Rattle.grid_near.proofs.wrapped.wrapped_round.Goals as goal
+use Rattle.grid_near.proofs.wrapped.wrapped_round.Goals.{then-inner, else-inner}
+
+pub invariant_of-result : goal.invariant_of-result
+invariant_of-result g c =
+    let o = c.args.order in
+    let m = c.args.size.0 in
+    let n = c.args.size.1 in
+    let cells = c.args.cells.now in
+    let h = c.requires.size in
+    record {
+      holds = start_holds o (table_of o m n cells) (view-table o m n cells h) cells c.args.size c.strides_of-strides.result (sym (view-storage o m n cells h)) (sym (view-rows o m n cells h)) (sym (view-cols o m n cells h)) c.strides_of-strides.ensures;
+      row_in = c.requires.row_in;
+      col_in = c.requires.col_in;
+      inside = λ e. c.is_inner-inner.ensures.0 e;
+      first_is = λ e. elim c.if-inner.branch [ then-inner w ↦ w.first-is | else-inner w ↦ absurd (cc (w.if-inner.false, e)) ];
+      behind = λ e. omega arith;
+    }
+
+pub returns-clause-rest : goal.returns-clause-rest
+returns-clause-rest g c =
+    let o = c.args.order in
+    let m = c.args.size.0 in
+    let n = c.args.size.1 in
+    let cells = c.args.cells.now in
+    let h = c.requires.size in
+    wrapped_start o (table_of o m n cells) (view-table o m n cells h) cells c.args.size c.strides_of-strides.result (sym (view-storage o m n cells h)) (sym (view-rows o m n cells h)) (sym (view-cols o m n cells h)) c.strides_of-strides.ensures c.args.sides c.args.at
+
+pub returns-clause-len : goal.returns-clause-len
+returns-clause-len g c =
+    let o = c.args.order in
+    let m = c.args.size.0 in
+    let n = c.args.size.1 in
+    let cells = c.args.cells.now in
+    let h = c.requires.size in
+    let in_range : InRange (table_of o m n cells) c.args.at.0 c.args.at.1 = (omega (arith, view-rows o m n cells h, c.requires.row_in), omega (arith, view-cols o m n cells h, c.requires.col_in)) in
+    ap length (returns-clause-rest g c) ∙ length-wrapped (table_of o m n cells) (view-table o m n cells h) c.args.at in_range c.args.sides

@@ -1,0 +1,93 @@
+-- How the iterators round a cell count their steps.
+use Rattle.std.specs.Prelude.{◌≡◌, ℕ, zero, suc, ◌+◌, ◌-◌, ◌*◌, ◌/◌, ◌%◌, ◌<◌, ◌≤◌, ◌&&◌, Bool, true, false, cond, nat_lt, Option, None, Some, List, [], ◌∷◌, drop, length, slice_get, MatchOption}
+use Rattle.std.specs.List.{filter_map}
+use Rattle.std.specs.Option.{option_and_then}
+use Rattle.std.specs.Borrow.{Bor}
+use Rattle.grid_base.specs.declared.flat.order.Order.{Order}
+use Rattle.grid_base.specs.declared.flat.order.Order.TheVariants.{RowMajor, ColumnMajor}
+use Rattle.grid_near.specs.Neighbors.{around8, around4, before, both, cell_at, placed}
+
+-- the cell in row r and column c of m rows and n columns whose cells stand `down` and `right` apart
+abbrev pub strided_cell : {T : Type 0} → List T → ℕ × ℕ → ℕ × ℕ → ℕ → ℕ → Option T
+strided_cell cells size strides r c =
+    cond (nat_lt r size.0 && nat_lt c size.1) (slice_get cells (r * strides.0 + c * strides.1)) None
+
+-- the strides of a grid in an order
+abbrev pub strides_of : Order → ℕ × ℕ → ℕ × ℕ
+strides_of RowMajor size = (size.1, 1)
+strides_of ColumnMajor size = (1, size.0)
+
+-- each of them is there
+abbrev pub HoldsCells : {T : Type 0} → List T → ℕ × ℕ → ℕ × ℕ → Type 0
+HoldsCells cells size strides =
+    (r c : ℕ) → r < size.0 → c < size.1 → r * strides.0 + c * strides.1 < length cells
+
+-- how many steps round a cell: to the four that share a side with it, or to all eight
+abbrev pub step_count : Bool → ℕ
+step_count true = 4
+step_count false = 8
+
+-- the number of the cell of step k, of the nine cells of three rows, row by row
+abbrev pub box : Bool → ℕ → ℕ
+box true k = 2 * k + 1
+box false k = k + k / 4
+
+-- the number before k, k, or the number after it
+abbrev pub beside : ℕ → ℕ → Option ℕ
+beside k zero = before k
+beside k (suc zero) = Some k
+beside k (suc (suc _)) = Some (k + 1)
+
+-- the positions of the steps round (r, c)
+abbrev pub positions : Bool → ℕ × ℕ → List (Option ℕ × Option ℕ)
+positions true at = around4 (before at.0) (Some at.0) (Some (at.0 + 1)) (before at.1) (Some at.1) (Some (at.1 + 1))
+positions false at = around8 (before at.0) (Some at.0) (Some (at.0 + 1)) (before at.1) (Some at.1) (Some (at.1 + 1))
+
+-- the position of step k
+abbrev pub position_of : Bool → ℕ × ℕ → ℕ → Option ℕ × Option ℕ
+position_of sides at k = (beside at.0 (box sides k / 3), beside at.1 (box sides k % 3))
+
+-- the position, if it is within a size
+abbrev pub if_within : ℕ × ℕ → Option (ℕ × ℕ) → Option (ℕ × ℕ)
+if_within size p =
+    option_and_then (λ q. cond (nat_lt q.0 size.0 && nat_lt q.1 size.1) (Some q) None) p
+
+-- the cells from step k on
+abbrev pub cells_from : {T : Type 0} → (ℕ → ℕ → Option T) → Bool → ℕ × ℕ → ℕ → List ((ℕ × ℕ) × T)
+cells_from f sides at k = filter_map (cell_at f) (drop k (positions sides at))
+
+-- the positions from step k on that are within a size
+abbrev pub positions_from : ℕ × ℕ → Bool → ℕ × ℕ → ℕ → List (ℕ × ℕ)
+positions_from size sides at k = filter_map (λ p. if_within size (both p)) (drop k (positions sides at))
+
+-- the cell in row i and column j of the nine cells round a position is within the size
+pub record IsThere (size at : ℕ × ℕ) (i j : ℕ) : Type 0 where
+  pub above : 0 < at.0 + i
+  pub below : at.0 + i ≤ size.0
+  pub before : 0 < at.1 + j
+  pub after : at.1 + j ≤ size.1
+
+-- a search from step k on found the first of the cells, or that there is none, and went on to a later step
+abbrev pub FindsFirst : {T : Type 0} → (ℕ → ℕ → Option T) → Bool → ℕ × ℕ → ℕ → ℕ × Option ((ℕ × ℕ) × Bor T) → Type 0
+FindsFirst f sides at k found =
+    MatchOption found.1 ((cells_from f sides at k ≡ []) × (cells_from f sides at found.0 ≡ [])) (λ x. cells_from f sides at k ≡ placed x ∷ cells_from f sides at found.0)
+
+-- all cells round a position are within the size
+pub record IsInner (size at : ℕ × ℕ) : Type 0 where
+  pub above : 0 < at.0
+  pub before : 0 < at.1
+  pub below : at.0 + 1 < size.0
+  pub after : at.1 + 1 < size.1
+
+-- where the first of the nine cells round a position stands
+abbrev pub box_start : ℕ × ℕ → ℕ × ℕ → ℕ
+box_start strides at = (at.0 - 1) * strides.0 + (at.1 - 1) * strides.1
+
+-- what holds of an iterator round the cell at a position, of which `passed` steps are done, and, at the edge, `tried`
+pub record IsRound {T : Type 0} (cells : List T) (size strides at : ℕ × ℕ) (first : ℕ) (inner : Bool) (passed tried : ℕ) : Type 0 where
+  pub holds : HoldsCells cells size strides
+  pub row_in : at.0 < size.0
+  pub col_in : at.1 < size.1
+  pub inside : inner ≡ true → IsInner size at
+  pub first_is : inner ≡ true → first ≡ box_start strides at
+  pub behind : inner ≡ false → passed ≤ tried

@@ -1,0 +1,3 @@
+pub mod Around
+pub mod Neighbors
+pub mod Wrapped

@@ -1,0 +1,72 @@
+-- The cells round a cell.
+use Rattle.std.specs.Prelude.{◌≡◌, ℕ, zero, suc, ◌+◌, ◌-◌, ◌%◌, true, Option, None, Some, List, [], ◌∷◌, map}
+use Rattle.std.specs.List.{filter_map}
+use Rattle.std.specs.Option.{option_map, option_and_then}
+use Rattle.std.specs.Iterator.{YieldsFirstBy}
+use Rattle.std.specs.Iterator.Runs.{EveryRun, ItemsMapTo}
+use Rattle.std.specs.Borrow.{Bor}
+use Rattle.grid_base.specs.Table.{row_count, col_count, cell}
+
+-- the eight round the middle of three rows and three columns, row by row
+abbrev pub around8 : {X : Type 0} → X → X → X → X → X → X → List (X × X)
+around8 up row down left col right =
+    (up, left) ∷ (up, col) ∷ (up, right) ∷ (row, left) ∷ (row, right) ∷ (down, left) ∷ (down, col) ∷ (down, right) ∷ []
+
+-- the four of them that share a side with the middle
+abbrev pub around4 : {X : Type 0} → X → X → X → X → X → X → List (X × X)
+around4 up row down left col right = (up, col) ∷ (row, left) ∷ (row, right) ∷ (down, col) ∷ []
+
+-- the number before k, which 0 doesn't have
+abbrev pub before : ℕ → Option ℕ
+before zero = None
+before (suc k) = Some k
+
+-- the numbers before and after k, round n numbers: the last comes before 0, and 0 after the last
+abbrev pub round_before : ℕ → ℕ → ℕ
+round_before n k = (k + n - 1) % n
+
+abbrev pub round_after : ℕ → ℕ → ℕ
+round_after n k = (k + 1) % n
+
+-- both numbers, if both are there
+abbrev pub both : Option ℕ × Option ℕ → Option (ℕ × ℕ)
+both p = option_and_then (λ r. option_map (λ c. (r, c)) p.1) p.0
+
+module _ {T : Type 0} where
+  -- the cell at a position, with the position, where f says which cell is in a row and a column
+  abbrev pub cell_at : (ℕ → ℕ → Option T) → Option ℕ × Option ℕ → Option ((ℕ × ℕ) × T)
+  cell_at f p = option_and_then (λ q. option_map (λ x. (q, x)) (f q.0 q.1)) (both p)
+
+  -- the cells round (r, c) that the table has, row by row, with their positions
+  unfoldable pub neighbors8 : List (List T) → ℕ → ℕ → List ((ℕ × ℕ) × T)
+  neighbors8 t r c =
+      filter_map (cell_at (cell t)) (around8 (before r) (Some r) (Some (r + 1)) (before c) (Some c) (Some (c + 1)))
+
+  unfoldable pub neighbors4 : List (List T) → ℕ → ℕ → List ((ℕ × ℕ) × T)
+  neighbors4 t r c =
+      filter_map (cell_at (cell t)) (around4 (before r) (Some r) (Some (r + 1)) (before c) (Some c) (Some (c + 1)))
+
+  -- the same on a table whose edges meet
+  unfoldable pub wrapped_neighbors8 : List (List T) → ℕ → ℕ → List ((ℕ × ℕ) × T)
+  wrapped_neighbors8 t r c =
+      let m = row_count t in
+      let n = col_count t in
+      filter_map (cell_at (cell t)) (around8 (Some (round_before m r)) (Some r) (Some (round_after m r)) (Some (round_before n c)) (Some c) (Some (round_after n c)))
+
+  unfoldable pub wrapped_neighbors4 : List (List T) → ℕ → ℕ → List ((ℕ × ℕ) × T)
+  wrapped_neighbors4 t r c =
+      let m = row_count t in
+      let n = col_count t in
+      filter_map (cell_at (cell t)) (around4 (Some (round_before m r)) (Some r) (Some (round_after m r)) (Some (round_before n c)) (Some c) (Some (round_after n c)))
+
+-- the item that an iterator gives, with the cell in place of the reference to it
+abbrev pub placed : {T : Type 0} → (ℕ × ℕ) × Bor T → (ℕ × ℕ) × T
+placed item = (item.0, item.1.now)
+
+-- each run of an iterator over cells with their positions gives those that it had left, in order
+abbrev pub CellsInOrder : Type 0 → Type 0
+CellsInOrder T = EveryRun (YieldsFirstBy placed (λ (rest : List ((ℕ × ℕ) × T)). rest)) (λ p. ItemsMapTo p placed p.from)
+
+-- the same of the positions alone
+abbrev pub PositionsInOrder : Type 0 → Type 0
+PositionsInOrder T = EveryRun (YieldsFirstBy placed (λ (rest : List ((ℕ × ℕ) × T)). rest)) (λ p. p.whole ≡ true → map (λ item. item.0) p.items ≡ map (λ n. n.0) p.from)

@@ -1,0 +1,231 @@
+//! Iterators over the cells round a cell.
+ghost use Rattle.std.specs.Prelude.{◌≡◌, ◌<◌, ◌≤◌, ⊤, length, IfSome, Some};
+ghost use Rattle.std.specs.Iterator.{YieldsFirstBy, item_count, UpTo, at_most};
+ghost use Rattle.std.specs.Iterator.SizeHint.{IsWithinCount};
+ghost use Rattle.grid_base.specs.GridValue.{HoldsSize};
+ghost use Rattle.grid_base.specs.Order.{table_of};
+ghost use Rattle.grid_base.specs.Table.{cell};
+ghost use Rattle.grid_near.specs.Neighbors.{placed, neighbors4, neighbors8, CellsInOrder, PositionsInOrder};
+ghost use Rattle.grid_near.specs.Around.{HoldsCells, FindsFirst, strided_cell, step_count, cells_from};
+
+use crate::steps::{count_from, first_from, is_inner, offset, step_count, strides_of};
+use grid_base::Order;
+use std::alloc::AllocError;
+use std::iter::FusedIterator;
+use std::marker::Model;
+
+/// An iterator over the cells round a cell, each with its row and its column, seen as the list of those that remain.
+///
+/// Away from the edges all of them are there, and each step is one read; at an edge, a step looks for the next that is
+/// in the table. A loop over it ends at a fixed number of steps, so that a short one is unrolled.
+#[derive(Drop)]
+pub struct Neighbors<'a, T> {
+    cells: &'a [T],
+    // The numbers of rows and columns, and how far apart the cells of a column and of a row stand.
+    size: (usize, usize),
+    strides: (usize, usize),
+    at: (usize, usize),
+    // Only the cells that share a side.
+    sides: bool,
+    // All cells round this one are there, and the place of the first of its box of nine.
+    inner: bool,
+    first: usize,
+    // The number of steps that are done, and, at an edge, of the positions that are passed.
+    passed: usize,
+    tried: usize,
+}
+
+impl<'a, T> Model for Neighbors<'a, T> {
+    ghost use Rattle.std.specs.Prelude.{◌≡◌, ℕ, List, cond};
+    ghost use Rattle.grid_near.specs.Around.{strided_cell, cells_from, IsRound};
+
+    ghost Value = { List ((ℕ × ℕ) × T) };
+
+    ghost view = { λ a. cells_from (strided_cell a.cells.now a.size a.strides) a.sides a.at
+        (cond a.inner a.passed a.tried) };
+
+    ghost invariant = { λ a. IsRound a.cells.now a.size a.strides a.at a.first a.inner
+        a.passed a.tried };
+}
+
+/// Returns an iterator over the cells that touch cell `at` of the table of `size.0` rows and `size.1` columns that a
+/// slice stores in an order, row by row, each with its row and its column.
+///
+///     [1, 2, 3, 4, 5, 6]   neighbors8(RowMajor, (2, 3), (0, 2))   ((0, 1), 2), ((1, 1), 5), ((1, 2), 6)
+///
+/// Requires: the slice has as many cells, there are rows exactly if there are columns, and `at` is in range.
+/// Cost: each step takes the same time, in either order; no memory.
+pub fn neighbors8<T>(
+    cells: &[T],
+    order: Order,
+    size: (usize, usize),
+    at: (usize, usize),
+) -> Neighbors<'_, T>
+    requires size { HoldsSize size.0 size.1 (length cells.now) }
+    requires row_in { at.0 < size.0 }
+    requires col_in { at.1 < size.1 }
+    ensures rest { result ≡ neighbors8 (table_of order size.0 size.1 cells.now) at.0 at.1 }
+    ensures count { length result ≤ 8 }
+    ensures runs { CellsInOrder T }
+    ensures positions { PositionsInOrder T }
+{
+    round(cells, order, size, at, false)
+}
+
+/// Returns an iterator over the cells that share a side with cell `at`, as [`neighbors8`] does over all that touch it.
+///
+///     [1, 2, 3, 4, 5, 6]   neighbors4(RowMajor, (2, 3), (0, 2))   ((0, 1), 2), ((1, 2), 6)
+///
+/// Requires: the slice has as many cells, there are rows exactly if there are columns, and `at` is in range.
+/// Cost: each step takes the same time, in either order; no memory.
+pub fn neighbors4<T>(
+    cells: &[T],
+    order: Order,
+    size: (usize, usize),
+    at: (usize, usize),
+) -> Neighbors<'_, T>
+    requires size { HoldsSize size.0 size.1 (length cells.now) }
+    requires row_in { at.0 < size.0 }
+    requires col_in { at.1 < size.1 }
+    ensures rest { result ≡ neighbors4 (table_of order size.0 size.1 cells.now) at.0 at.1 }
+    ensures count { length result ≤ 4 }
+    ensures runs { CellsInOrder T }
+    ensures positions { PositionsInOrder T }
+{
+    round(cells, order, size, at, true)
+}
+
+// Returns an iterator over the cells round a cell, or over the four that share a side with it.
+fn round<T>(
+    cells: &[T],
+    order: Order,
+    size: (usize, usize),
+    at: (usize, usize),
+    sides: bool,
+) -> Neighbors<'_, T>
+    requires size { HoldsSize size.0 size.1 (length cells.now) }
+    requires row_in { at.0 < size.0 }
+    requires col_in { at.1 < size.1 }
+    ensures { result ≡ cells_from (cell (table_of order size.0 size.1 cells.now)) sides at 0 }
+{
+    let strides = strides_of(order, size);
+    let inner = is_inner(size, at);
+    let first = if inner {
+        (at.0 - 1) * strides.0 + (at.1 - 1) * strides.1
+    } else {
+        0
+    };
+    Neighbors {
+        cells,
+        size,
+        strides,
+        at,
+        sides,
+        inner,
+        first,
+        passed: 0,
+        tried: 0,
+    }
+}
+
+impl<'a, T> Iterator for Neighbors<'a, T> {
+    type Item = ((usize, usize), &'a T);
+
+    ghost next_gives = { YieldsFirstBy placed (λ rest. rest) };
+
+    ghost remaining = { item_count (λ rest. rest) };
+
+    fn next(&mut self) -> Option<((usize, usize), &'a T)> {
+        let k = self.passed;
+        if k >= step_count(self.sides) {
+            return None;
+        }
+        self.passed = k + 1;
+        if self.inner {
+            let (i, j) = offset(self.sides, k);
+            let at = (self.at.0 + i - 1, self.at.1 + j - 1);
+            let place = self.first + i * self.strides.0 + j * self.strides.1;
+            Some((at, &self.cells[place]))
+        } else {
+            let (tried, found) = find_from(
+                self.cells,
+                self.size,
+                self.strides,
+                self.at,
+                self.sides,
+                self.tried,
+            );
+            self.tried = tried;
+            found
+        }
+    }
+
+    fn size_hint(&self) -> (usize, Option<usize>)
+        ensures lower { IsWithinCount result.0 (at_most (length self.now)) }
+        ensures upper { IfSome result.1 (UpTo (at_most (length self.now))) }
+        ensures exact { result ≡ (length self.now, Some (length self.now)) }
+    {
+        let len = self.len();
+        (len, Some(len))
+    }
+}
+
+impl<'a, T> ExactSizeIterator for Neighbors<'a, T> {
+    fn len(&self) -> usize {
+        let from = if self.inner { self.passed } else { self.tried };
+        count_from(self.size, self.at, self.sides, from)
+    }
+}
+
+impl<'a, T> FusedIterator for Neighbors<'a, T> {}
+
+/// Returns an iterator that stands at the same cells.
+///
+/// Cost: constant; it is always `Ok`, and takes no memory.
+impl<'a, T> Clone for Neighbors<'a, T> {
+    ghost is_clone = { λ it copy. copy ≡ it };
+
+    ghost is_infallible = { λ _. ⊤ };
+
+    fn clone(&self) -> Result<Self, AllocError> {
+        Ok(Neighbors {
+            cells: self.cells,
+            size: self.size,
+            strides: self.strides,
+            at: self.at,
+            sides: self.sides,
+            inner: self.inner,
+            first: self.first,
+            passed: self.passed,
+            tried: self.tried,
+        })
+    }
+}
+
+// Finds the first cell that is in the table at step `from` or later, and the number of the step after it.
+#[inline(always)]
+fn find_from<T>(
+    cells: &[T],
+    size: (usize, usize),
+    strides: (usize, usize),
+    at: (usize, usize),
+    sides: bool,
+    from: usize,
+) -> (usize, Option<((usize, usize), &T)>)
+    requires holds { HoldsCells cells.now size strides }
+    requires row_in { at.0 < size.0 }
+    requires col_in { at.1 < size.1 }
+    ensures found { FindsFirst (strided_cell cells.now size strides) sides at from result }
+    ensures keeps { from ≤ result.0 }
+    ensures on { from < step_count sides → from < result.0 }
+{
+    let k = first_from(size, at, sides, from);
+    if k >= step_count(sides) {
+        return (k, None);
+    }
+    let (i, j) = offset(sides, k);
+    let row = at.0 + i - 1;
+    let col = at.1 + j - 1;
+    let cell = &cells[row * strides.0 + col * strides.1];
+    (k + 1, Some(((row, col), cell)))
+}

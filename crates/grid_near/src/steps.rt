@@ -1,0 +1,96 @@
+//! The steps round a cell: where each of them leads, and which of them are within the size.
+ghost use Rattle.std.specs.Prelude.{◌≡◌, ◌<◌, ◌≤◌, ◌/◌, ◌%◌, IsTrue, ◌↔◌, length};
+ghost use Rattle.grid_near.specs.Around.{step_count, box, positions_from, strides_of, IsInner, IsThere};
+
+use grid_base::Order;
+
+// How far apart the cells of a column and of a row stand.
+pub(crate) fn strides_of(order: Order, size: (usize, usize)) -> (usize, usize)
+    ensures { result ≡ strides_of order size }
+{
+    match order {
+        Order::RowMajor => (size.1, 1),
+        Order::ColumnMajor => (1, size.0),
+    }
+}
+
+// Whether all cells round a position are within the size.
+pub(crate) fn is_inner(size: (usize, usize), at: (usize, usize)) -> bool
+    requires row_in { at.0 < size.0 }
+    requires col_in { at.1 < size.1 }
+    ensures { IsTrue result ↔ IsInner size at }
+{
+    at.0 > 0 && at.1 > 0 && at.0 + 1 < size.0 && at.1 + 1 < size.1
+}
+
+// The number of steps round a cell.
+pub(crate) fn step_count(sides: bool) -> usize
+    ensures { result ≡ step_count sides }
+{
+    if sides { 4 } else { 8 }
+}
+
+// The row and the column of step `k` in the box of nine cells.
+pub(crate) fn offset(sides: bool, k: usize) -> (usize, usize)
+    requires { k < step_count sides }
+    ensures row { result.0 ≡ box sides k / 3 }
+    ensures col { result.1 ≡ box sides k % 3 }
+{
+    let cell = if sides { 2 * k + 1 } else { k + k / 4 };
+    (cell / 3, cell % 3)
+}
+
+// Whether the cell in row `i` and column `j` of the box of nine cells round a position is within the size.
+pub(crate) fn is_there(size: (usize, usize), at: (usize, usize), i: usize, j: usize) -> bool
+    requires row_in { at.0 < size.0 }
+    requires col_in { at.1 < size.1 }
+    ensures { IsTrue result ↔ IsThere size at i j }
+{
+    (i > 0 || at.0 > 0) && i <= size.0 - at.0 && (j > 0 || at.1 > 0) && j <= size.1 - at.1
+}
+
+// Returns the first step, this one or a later, whose cell is within the size, or the number of steps.
+// It reads no memory and writes none, so that what a caller read before it need not be read again.
+#[inline(never)]
+pub(crate) fn first_from(
+    size: (usize, usize),
+    at: (usize, usize),
+    sides: bool,
+    from: usize,
+) -> usize
+    requires row_in { at.0 < size.0 }
+    requires col_in { at.1 < size.1 }
+    ensures keeps { from ≤ result }
+    ensures skips { positions_from size sides at from ≡ positions_from size sides at result }
+    ensures there { result < step_count sides
+        → IsThere size at (box sides result / 3) (box sides result % 3) }
+{
+    for k in from..step_count(sides) {
+        let (i, j) = offset(sides, k);
+        if is_there(size, at, i, j) {
+            return k;
+        }
+    }
+    step_count(sides).max(from)
+}
+
+// Counts the steps, from this one on, whose cells are within the size.
+pub(crate) fn count_from(
+    size: (usize, usize),
+    at: (usize, usize),
+    sides: bool,
+    from: usize,
+) -> usize
+    requires row_in { at.0 < size.0 }
+    requires col_in { at.1 < size.1 }
+    ensures { result ≡ length (positions_from size sides at from) }
+{
+    let mut count = 0;
+    for k in from..step_count(sides) {
+        let (i, j) = offset(sides, k);
+        if is_there(size, at, i, j) {
+            count += 1;
+        }
+    }
+    count
+}

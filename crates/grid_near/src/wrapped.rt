@@ -1,0 +1,226 @@
+//! Iterators over the cells round a cell of a table whose edges meet.
+ghost use Rattle.std.specs.Prelude.{◌≡◌, ◌<◌, ⊤, length, IfSome, Some};
+ghost use Rattle.std.specs.Iterator.{YieldsFirstBy, item_count, UpTo, at_most};
+ghost use Rattle.std.specs.Iterator.SizeHint.{IsWithinCount};
+ghost use Rattle.grid_base.specs.GridValue.{HoldsSize};
+ghost use Rattle.grid_base.specs.Order.{table_of};
+ghost use Rattle.grid_base.specs.Table.{cell, row_count, col_count};
+ghost use Rattle.grid_near.specs.Neighbors.{placed, round_before, round_after, wrapped_neighbors4, wrapped_neighbors8, CellsInOrder, PositionsInOrder};
+ghost use Rattle.grid_near.specs.Around.{step_count};
+ghost use Rattle.grid_near.specs.Wrapped.{around, wrapped_from};
+
+use crate::steps::{is_inner, offset, step_count, strides_of};
+use grid_base::Order;
+use std::alloc::AllocError;
+use std::iter::FusedIterator;
+use std::marker::Model;
+
+/// An iterator over the cells round a cell of a table whose edges meet, each with its row and its column, seen as the
+/// list of those that remain.
+#[derive(Drop)]
+pub struct WrappedNeighbors<'a, T> {
+    cells: &'a [T],
+    // The numbers of rows and columns, and how far apart the cells of a column and of a row stand.
+    size: (usize, usize),
+    strides: (usize, usize),
+    at: (usize, usize),
+    // Only the cells that share a side.
+    sides: bool,
+    // None of them is past an edge, and the place of the first of its box of nine.
+    inner: bool,
+    first: usize,
+    // The number of steps that are done.
+    passed: usize,
+}
+
+impl<'a, T> Model for WrappedNeighbors<'a, T> {
+    ghost use Rattle.std.specs.Prelude.{◌≡◌, ◌≤◌, ℕ, List};
+    ghost use Rattle.grid_near.specs.Around.{strided_cell, IsRound};
+    ghost use Rattle.grid_near.specs.Wrapped.{wrapped_from};
+
+    ghost Value = { List ((ℕ × ℕ) × T) };
+
+    ghost view = { λ a. wrapped_from (strided_cell a.cells.now a.size a.strides) a.size a.sides a.at
+        a.passed };
+
+    ghost invariant = { λ a. IsRound a.cells.now a.size a.strides a.at a.first a.inner 0 0 };
+}
+
+/// Returns an iterator over the cells that touch cell `at` of the table of `size.0` rows and `size.1` columns that a
+/// slice stores in an order, row by row, each with its row and its column, where the edges of the table meet: eight
+/// cells, some of them more than once in a table of one or two rows or columns.
+///
+///     [1, 2, 3, 4]   wrapped_neighbors8(RowMajor, (1, 4), (0, 0))   4, 1, 2, 4, 2, 4, 1, 2, with their positions
+///
+/// Requires: the slice has as many cells, there are rows exactly if there are columns, and `at` is in range.
+/// Cost: each step takes the same time, in either order; no memory.
+pub fn wrapped_neighbors8<T>(
+    cells: &[T],
+    order: Order,
+    size: (usize, usize),
+    at: (usize, usize),
+) -> WrappedNeighbors<'_, T>
+    requires size { HoldsSize size.0 size.1 (length cells.now) }
+    requires row_in { at.0 < size.0 }
+    requires col_in { at.1 < size.1 }
+    ensures rest { result ≡ wrapped_neighbors8 (table_of order size.0 size.1 cells.now) at.0 at.1 }
+    ensures count { length result ≡ 8 }
+    ensures runs { CellsInOrder T }
+    ensures positions { PositionsInOrder T }
+{
+    wrapped_round(cells, order, size, at, false)
+}
+
+/// Returns an iterator over the cells that share a side with cell `at`, as [`wrapped_neighbors8`] does over all that
+/// touch it: four cells.
+///
+///     [1, 2, 3, 4]   wrapped_neighbors4(RowMajor, (1, 4), (0, 0))   1, 4, 2, 1, with their positions
+///
+/// Requires: the slice has as many cells, there are rows exactly if there are columns, and `at` is in range.
+/// Cost: each step takes the same time, in either order; no memory.
+pub fn wrapped_neighbors4<T>(
+    cells: &[T],
+    order: Order,
+    size: (usize, usize),
+    at: (usize, usize),
+) -> WrappedNeighbors<'_, T>
+    requires size { HoldsSize size.0 size.1 (length cells.now) }
+    requires row_in { at.0 < size.0 }
+    requires col_in { at.1 < size.1 }
+    ensures rest { result ≡ wrapped_neighbors4 (table_of order size.0 size.1 cells.now) at.0 at.1 }
+    ensures count { length result ≡ 4 }
+    ensures runs { CellsInOrder T }
+    ensures positions { PositionsInOrder T }
+{
+    wrapped_round(cells, order, size, at, true)
+}
+
+// Returns an iterator over the cells round a cell, or over the four that share a side with it.
+fn wrapped_round<T>(
+    cells: &[T],
+    order: Order,
+    size: (usize, usize),
+    at: (usize, usize),
+    sides: bool,
+) -> WrappedNeighbors<'_, T>
+    requires size { HoldsSize size.0 size.1 (length cells.now) }
+    requires row_in { at.0 < size.0 }
+    requires col_in { at.1 < size.1 }
+    ensures rest { let t = table_of order size.0 size.1 cells.now in
+        result ≡ wrapped_from (cell t) (row_count t, col_count t) sides at 0 }
+    ensures len { length result ≡ step_count sides }
+{
+    let strides = strides_of(order, size);
+    let inner = is_inner(size, at);
+    let first = if inner {
+        (at.0 - 1) * strides.0 + (at.1 - 1) * strides.1
+    } else {
+        0
+    };
+    WrappedNeighbors {
+        cells,
+        size,
+        strides,
+        at,
+        sides,
+        inner,
+        first,
+        passed: 0,
+    }
+}
+
+impl<'a, T> Iterator for WrappedNeighbors<'a, T> {
+    type Item = ((usize, usize), &'a T);
+
+    ghost next_gives = { YieldsFirstBy placed (λ rest. rest) };
+
+    ghost remaining = { item_count (λ rest. rest) };
+
+    fn next(&mut self) -> Option<((usize, usize), &'a T)> {
+        let k = self.passed;
+        if k >= step_count(self.sides) {
+            return None;
+        }
+        self.passed = k + 1;
+        let (i, j) = offset(self.sides, k);
+        if self.inner {
+            let at = (self.at.0 + i - 1, self.at.1 + j - 1);
+            let place = self.first + i * self.strides.0 + j * self.strides.1;
+            return Some((at, &self.cells[place]));
+        }
+        let row = around(self.size.0, self.at.0, i);
+        let col = around(self.size.1, self.at.1, j);
+        let cell = &self.cells[row * self.strides.0 + col * self.strides.1];
+        Some(((row, col), cell))
+    }
+
+    fn size_hint(&self) -> (usize, Option<usize>)
+        ensures lower { IsWithinCount result.0 (at_most (length self.now)) }
+        ensures upper { IfSome result.1 (UpTo (at_most (length self.now))) }
+        ensures exact { result ≡ (length self.now, Some (length self.now)) }
+    {
+        let len = self.len();
+        (len, Some(len))
+    }
+}
+
+impl<'a, T> ExactSizeIterator for WrappedNeighbors<'a, T> {
+    fn len(&self) -> usize {
+        step_count(self.sides).saturating_sub(self.passed)
+    }
+}
+
+impl<'a, T> FusedIterator for WrappedNeighbors<'a, T> {}
+
+/// Returns an iterator that stands at the same cells.
+///
+/// Cost: constant; it is always `Ok`, and takes no memory.
+impl<'a, T> Clone for WrappedNeighbors<'a, T> {
+    ghost is_clone = { λ it copy. copy ≡ it };
+
+    ghost is_infallible = { λ _. ⊤ };
+
+    fn clone(&self) -> Result<Self, AllocError> {
+        Ok(WrappedNeighbors {
+            cells: self.cells,
+            size: self.size,
+            strides: self.strides,
+            at: self.at,
+            sides: self.sides,
+            inner: self.inner,
+            first: self.first,
+            passed: self.passed,
+        })
+    }
+}
+
+// The number before `at` round `len` numbers.
+fn round_before(len: usize, at: usize) -> usize
+    requires { at < len }
+    ensures is { result ≡ round_before len at }
+    ensures within { result < len }
+{
+    if at == 0 { len - 1 } else { at - 1 }
+}
+
+// The number after `at` round `len` numbers.
+fn round_after(len: usize, at: usize) -> usize
+    requires { at < len }
+    ensures is { result ≡ round_after len at }
+    ensures within { result < len }
+{
+    if at + 1 == len { 0 } else { at + 1 }
+}
+
+// The number before `at`, `at`, or the number after it, for `i` 0, 1 or 2, round `len` numbers.
+fn around(len: usize, at: usize, i: usize) -> usize
+    requires { at < len }
+    ensures is { result ≡ around len at i }
+    ensures within { result < len }
+{
+    match i {
+        0 => round_before(len, at),
+        1 => at,
+        _ => round_after(len, at),
+    }
+}
