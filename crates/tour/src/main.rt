@@ -27,8 +27,8 @@ fn show<R: Print + AllocGlobal>(rt: &R) -> Result<()> {
     // How many ones each one touches.
     for ((row, col), cell) in board.indexed_iter() {
         if *cell == 1 {
-            let ones = board.neighbors8(row, col).filter(|(_, near)| **near == 1);
-            println!(rt; "({row}, {col}) touches {}", ones.count())?;
+            let ones = board.count_neighbors8(row, col, |near| *near == 1);
+            println!(rt; "({row}, {col}) touches {ones}")?;
         }
     }
 
