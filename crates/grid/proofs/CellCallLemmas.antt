@@ -15,10 +15,10 @@ use Rattle.grid_base.proofs.TableLemmas.{IsFull, tabulate-same}
 use Rattle.grid_base.proofs.StorageLemmas.{place_within, has_place}
 use Rattle.grid_base.proofs.PlaceLemmas.{get-places, length-places}
 use Rattle.grid_base.proofs.WalkLemmas.{zip_within}
-use Rattle.grid_base.proofs.ViewLemmas.{view-rows, view-cols, view-table, view-cell}
+use Rattle.grid_base.proofs.ViewLemmas.{view-rows, view-cols, view-cell}
 use Rattle.grid.specs.AllCells.{CallableAtPlaces, TabulatedBy}
 use Rattle.grid.specs.Make.{IsMade, CallableOver, TabulatedOver}
-use Rattle.grid_base.proofs.ViewLemmas.{grid_value}
+use Rattle.grid.specs.View.{grid_value}
 use Rattle.grid.proofs.SeenLemmas.{seen_rows, seen_cols}
 
 pub get-zip : {A B : Type 0} (xs : List A) (ys : List B) (k : ℕ) (a : A) (b : B) → slice_get xs k ≡ Some a → slice_get ys k ≡ Some b → slice_get (zip xs ys) k ≡ Some (a, b)
@@ -142,7 +142,6 @@ module _ (o : Order) (m n : ℕ) (z : IsSize m n) where
 pub seen_made : {T : Type 0} (o : Order) (m n : ℕ) (cells : List T) (h : HoldsSize m n (length cells)) → 0 < m → 0 < n → IsMade o m n (grid_value o m n cells h)
 seen_made o m n cells h some_rows some_cols = record {
   order = refl;
-  table = view-table o m n cells h;
   size = record {
     none = λ e. absurd (omega (arith, mul_grows m n some_cols));
     rows = λ _. view-rows o m n cells h;

@@ -4,10 +4,10 @@ use Rattle.std.specs.List.{swap}
 use Rattle.grid_base.specs.declared.flat.order.Order.{Order}
 use Rattle.grid_base.specs.Table.{exchanged, with_cell}
 use Rattle.grid_base.specs.Order.{place, table_of}
-use Rattle.grid_base.proofs.ViewLemmas.{grid_value, same_grid_value}
+use Rattle.grid_base.proofs.ViewLemmas.{same_grid_value}
 use Rattle.grid_base.specs.GridValue.{HoldsSize, GridValue}
 use Rattle.grid_base.proofs.WriteLemmas.{view-write, view-swap}
-use Rattle.grid.specs.Grid.{with_grid_cell}
+use Rattle.grid.specs.View.{grid_value, with_grid_cell}
 
 -- what a write to a cell's place makes of the value that a contract sees
 pub grid_value_written : {T : Type 0} (o : Order) (m n : ℕ) (cells : List T) (s : GridValue T) (r c : ℕ) (w : T) (h : HoldsSize m n (length cells)) (k : HoldsSize m n (length (set cells (place o m n r c) w))) → grid_value o m n cells h ≡ s → r < m → c < n → grid_value o m n (set cells (place o m n r c) w) k ≡ with_grid_cell s r c w

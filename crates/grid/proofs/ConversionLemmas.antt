@@ -34,10 +34,9 @@ cut_memory memory cells n P (Ok x) h e = absurd e
 cut_memory memory cells n P (Err x) h e = rw e h
 
 -- cells that were cut have the shape
-pub cut_shape : {T : Type 0} (cells : List T) (len n : ℕ) (g : GridValue T) → g.order ≡ RowMajor → IsTable g.rows → storage RowMajor g.rows ≡ cells → (length cells ≢ 0 → col_count g.rows ≡ n) → length cells ≡ len → HasShape len n g
-cut_shape cells len n g order table stored cols count = record {
+pub cut_shape : {T : Type 0} (cells : List T) (len n : ℕ) (g : GridValue T) → g.order ≡ RowMajor → storage RowMajor g.rows ≡ cells → (length cells ≢ 0 → col_count g.rows ≡ n) → length cells ≡ len → HasShape len n g
+cut_shape cells len n g order stored cols count = record {
   order = order;
-  table = table;
   count = ap length stored ∙ count;
   cols = λ some. cols (λ none. some (sym count ∙ none));
 }
@@ -93,10 +92,10 @@ CanCut-rows rows len n join width count =
     CanCut-cells len (row_count rows) n (count ∙ (length-even rows join.even ∙ ap (λ x. row_count rows * x) (sym width)))
 
 -- a grid that is cut from such cells
-module _ {T : Type 0} (rows : List (List T)) (cells : List T) (n : ℕ) (g : GridValue T) (join : CanJoin rows) (width : n ≡ col_count rows) (table : IsTable g.rows) (stored : storage RowMajor g.rows ≡ cells) (cols : length cells ≢ 0 → col_count g.rows ≡ n) where
+module _ {T : Type 0} (rows : List (List T)) (cells : List T) (n : ℕ) (g : GridValue T) (join : CanJoin rows) (width : n ≡ col_count rows) (stored : storage RowMajor g.rows ≡ cells) (cols : length cells ≢ 0 → col_count g.rows ≡ n) where
   pub rows_shape : g.order ≡ RowMajor → length cells ≡ length (concat_rows rows) → HasShape (length (concat_rows rows)) (col_count rows) g
-  rows_shape order count = cut_shape cells (length (concat_rows rows)) (col_count rows) g order table stored (λ some. cols some ∙ width) count
+  rows_shape order count = cut_shape cells (length (concat_rows rows)) (col_count rows) g order stored (λ some. cols some ∙ width) count
 
   pub rows_equal : cells ≡ concat_rows rows → g.rows ≡ equal_rows rows
   rows_equal same =
-      equal_rows_are rows g.rows join.even table (stored ∙ same) (λ some. cols (λ none. some (sym (ap length same) ∙ none)) ∙ width)
+      equal_rows_are rows g.rows join.even g.table (stored ∙ same) (λ some. cols (λ none. some (sym (ap length same) ∙ none)) ∙ width)

@@ -19,7 +19,7 @@ use Rattle.grid_base.proofs.StorageLemmas.{has_place}
 use Rattle.grid_base.proofs.PlaceLemmas.{get-places}
 use Rattle.grid_base.proofs.WalkLemmas.{zip_within}
 use Rattle.grid.specs.IndexedWalks.{IsCellAt, GivesCells, GivesOwnedCells, GivesMutCells}
-use Rattle.grid_base.proofs.ViewLemmas.{grid_value}
+use Rattle.grid.specs.View.{grid_value}
 use Rattle.grid.proofs.CellCallLemmas.{get-zip, item_at, seen_cell, seen_in}
 
 module _ {A : Type 0} (o : Order) (m n : ℕ) (cells : List A) (v : GridValue A) (h : HoldsSize m n (length cells)) (e : grid_value o m n cells h ≡ v) where

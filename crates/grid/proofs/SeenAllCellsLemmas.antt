@@ -8,7 +8,8 @@ use Rattle.grid_base.specs.Order.{table_of, storage, place}
 use Rattle.grid_base.specs.GridValue.{GridValue, HoldsSize}
 use Rattle.grid_base.proofs.TableLemmas.{same_tables, width-tabulate}
 use Rattle.grid_base.proofs.StorageLemmas.{IsFull-table_of, place_within}
-use Rattle.grid_base.proofs.ViewLemmas.{grid_value, view-rows, view-cols, view-storage, view-cell}
+use Rattle.grid_base.proofs.ViewLemmas.{view-rows, view-cols, view-storage, view-cell}
+use Rattle.grid.specs.View.{grid_value}
 use Rattle.grid.specs.AllCells.{filled}
 use Rattle.grid.proofs.SeenLemmas.{seen_rows, seen_cols}
 

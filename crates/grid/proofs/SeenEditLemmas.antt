@@ -15,7 +15,8 @@ use Rattle.grid_base.specs.Groups.{Woven, Closed}
 use Rattle.grid.specs.Edits.{FitsRow, insert_rows, without_rows}
 use Rattle.grid.specs.RowGroups.{RowGroups, RowsInserted, RowsTaken, RowMovedToEnd, cols_if_rows}
 use Rattle.grid.proofs.SeenLemmas.{seen_rows, seen_cols}
-use Rattle.grid_base.proofs.ViewLemmas.{grid_value, HoldsSize-none, view-rows, view-cols}
+use Rattle.grid_base.proofs.ViewLemmas.{HoldsSize-none, view-rows, view-cols}
+use Rattle.grid.specs.View.{grid_value}
 use Rattle.grid.specs.Shift.{rows_taken_shift}
 use Rattle.grid.proofs.EditViewLemmas.{view-remove_row, view-removed_row, view-close_rows, cells-closed, view-insert_rows, table_of-no_rows, storage-line, IsTable-line, put_line}
 use Rattle.grid.proofs.EditSizeLemmas.{HoldsSize-fewer}

@@ -5,7 +5,8 @@ use Rattle.grid_base.specs.declared.flat.order.Order.{Order}
 use Rattle.grid_base.specs.Table.{row_count, col_count, IsTable, InRange}
 use Rattle.grid_base.specs.Order.{table_of, storage}
 use Rattle.grid_base.specs.GridValue.{GridValue, HoldsSize}
-use Rattle.grid_base.proofs.ViewLemmas.{grid_value, same_grid_value, view-rows, view-cols, view-table, view-storage}
+use Rattle.grid_base.proofs.ViewLemmas.{same_grid_value, view-rows, view-cols, view-table, view-storage}
+use Rattle.grid.specs.View.{grid_value}
 
 no_rows : {X : Type 0} (xs : List X) → length xs ≡ 0 → xs ≡ []
 no_rows [] e = refl

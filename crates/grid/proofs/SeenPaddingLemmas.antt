@@ -8,7 +8,7 @@ use Rattle.grid_base.specs.declared.flat.order.Order.{Order}
 use Rattle.grid_base.specs.declared.words.Symmetry.TheVariants.{Transpose}
 use Rattle.grid_base.specs.Table.{row, row_count, col_count, IsTable}
 use Rattle.grid_base.specs.Order.{table_of, flipped}
-use Rattle.grid_base.proofs.ViewLemmas.{grid_value}
+use Rattle.grid.specs.View.{grid_value}
 use Rattle.grid_base.specs.GridValue.{GridValue, HoldsSize}
 use Rattle.grid_base.specs.Append.{AppendsEach}
 use Rattle.grid_base.specs.Symmetry.{act}

@@ -10,8 +10,9 @@ use Rattle.grid_base.specs.Symmetry.{act}
 use Rattle.grid_base.specs.Places.{places}
 use Rattle.grid_base.specs.GridValue.{GridValue, HoldsSize}
 use Rattle.grid_base.specs.FlatLends.{written_from}
-use Rattle.grid_base.proofs.ViewLemmas.{grid_value, same_grid_value, view-transpose}
-use Rattle.grid.specs.Walks.{stored, with_cells, refilled, refilled_from, IsSameSize, KeepsSize, KeepsSizeFrom}
+use Rattle.grid_base.proofs.ViewLemmas.{same_grid_value, view-transpose}
+use Rattle.grid.specs.View.{grid_value, with_cells}
+use Rattle.grid.specs.Walks.{stored, refilled, refilled_from, IsSameSize, KeepsSize, KeepsSizeFrom}
 use Rattle.grid.proofs.SeenLemmas.{seen_rows, seen_cols, seen_storage}
 
 -- the storage of a table is that of the transposed table in the other order
@@ -75,7 +76,7 @@ module _ {T : Type 0} (o : Order) (m n : ℕ) (cells : List T) (v : GridValue T)
   size_kept : (news : List T) (u : GridValue T) (same : length news ≡ length cells) → grid_value o m n news (fits_of news same) ≡ u → IsSameSize v u.rows
   size_kept news u same f =
       let fits = fits_of news same in
-      (seen_rows o m n news u fits f ∙ sym rows_are, seen_cols o m n news u fits f ∙ sym cols_are, u.table)
+      (seen_rows o m n news u fits f ∙ sym rows_are, seen_cols o m n news u fits f ∙ sym cols_are)
 
   pub seen_keeps : KeepsSize v
   seen_keeps ws = size_kept (refill (length cells) cells ws) (refilled v ws) (sym (length_refill (length cells) cells ws refl)) (seen_refilled ws _)

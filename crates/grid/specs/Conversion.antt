@@ -2,7 +2,7 @@
 use Rattle.std.specs.Prelude.{◌≡◌, ◌≢◌, ◌==◌, if◌then◌else◌, ℕ, ◌^◌, ◌<◌, ◌≤◌, List, [], length, Result, MatchResult}
 use Rattle.std.specs.List.{AllZip}
 use Rattle.grid_base.specs.declared.flat.order.Order.TheVariants.{RowMajor}
-use Rattle.grid_base.specs.Table.{row, row_count, col_count, concat_rows, IsTable}
+use Rattle.grid_base.specs.Table.{row, row_count, col_count, concat_rows}
 use Rattle.grid_base.specs.Order.{CanCut}
 use Rattle.grid_base.specs.GridValue.{GridValue}
 use Rattle.grid_base.specs.Clones.{ClonesAreEqual}
@@ -21,7 +21,6 @@ module _ {T : Type 0} where
   -- a row-major grid of so many cells in rows of n
   pub record HasShape (len n : ℕ) (g : GridValue T) : Type 0 where
     pub order : g.order ≡ RowMajor
-    pub table : IsTable g.rows
     pub count : length (concat_rows g.rows) ≡ len
     pub cols : len ≢ 0 → col_count g.rows ≡ n
 

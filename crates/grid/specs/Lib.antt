@@ -1,3 +1,4 @@
+pub mod View
 pub mod Grid
 pub mod Make
 pub mod Slots

@@ -1,7 +1,7 @@
 -- What the constructors of a grid say of its table.
 use Rattle.std.specs.Prelude.{◌≡◌, ◌≢◌, ◌↔◌, ◌<◌, ◌≤◌, ◌^◌, ℕ, ◌*◌, List, [], Option, Some, Result, IsOk, IsErrOf}
 use Rattle.grid_base.specs.declared.flat.order.Order.{Order}
-use Rattle.grid_base.specs.Table.{row_count, col_count, cell, InRange, IsTable, tabulate}
+use Rattle.grid_base.specs.Table.{row_count, col_count, cell, InRange, tabulate}
 use Rattle.grid_base.specs.GridValue.{GridValue}
 use Rattle.grid_commands.specs.declared.error.GridError.{GridError}
 use Rattle.grid_commands.specs.declared.error.GridError.TheVariants.{TooLarge}
@@ -19,7 +19,6 @@ pub record HasSize {T : Type 0} (m n : ℕ) (t : List (List T)) : Type 0 where
 -- a grid of this order, of m rows and n columns
 pub record IsMade {T : Type 0} (o : Order) (m n : ℕ) (g : GridValue T) : Type 0 where
   pub order : g.order ≡ o
-  pub table : IsTable g.rows
   pub size : HasSize m n g.rows
 
 -- it fails as too large exactly where m rows of n cells are too many, and never where they are no cells

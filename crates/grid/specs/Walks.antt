@@ -8,13 +8,13 @@ use Rattle.std.specs.declared.slice.IterMut.{IterMut}
 use Rattle.std.specs.declared.alloc.Allocator.{Ghosts}
 use Rattle.grid_base.specs.declared.flat.strides.GridLineIterMut.{GridLineIterMut}
 use Rattle.grid_base.specs.declared.flat.indexed.IndexedIterMut.{IndexedIterMut}
-use Rattle.grid_base.specs.Table.{row_count, col_count, IsTable}
-use Rattle.grid_base.specs.Order.{storage, place, table_of}
+use Rattle.grid_base.specs.Table.{row_count, col_count}
+use Rattle.grid_base.specs.Order.{storage, place}
 use Rattle.grid_base.specs.GridValue.{GridValue}
-use Rattle.grid_base.proofs.ViewLemmas.{IsTable-recut}
 use Rattle.grid_base.specs.FlatLends.{written_from}
 use Rattle.grid_base.specs.GridLineIterMut.{line_mut_name}
 use Rattle.grid_base.specs.IndexedIterMut.{indexed_mut_name}
+use Rattle.grid.specs.View.{with_cells}
 use Rattle.grid.specs.contracts.grid.Grid.{the_row}
 
 module _ {T : Type 0} (s : GridValue T) where
@@ -22,25 +22,20 @@ module _ {T : Type 0} (s : GridValue T) where
   abbrev pub stored : List T
   stored = storage s.order s.rows
 
-  -- the grid of the same size and order with these cells in storage order
-  abbrev pub with_cells : (cells : List T) → length cells ≡ length stored → GridValue T
-  with_cells cells e =
-      record { rows = table_of s.order (row_count s.rows) (col_count s.rows) cells; order = s.order; table = IsTable-recut s.order s.rows cells s.table e }
-
-  -- the same with ws written over its own cells from the first on
+  -- the grid of the same size and order with ws written over its own cells from the first on
   abbrev pub refilled : List T → GridValue T
-  refilled ws = with_cells (refill (length stored) stored ws) (sym (length_refill (length stored) stored ws refl))
+  refilled ws = with_cells s (refill (length stored) stored ws) (sym (length_refill (length stored) stored ws refl))
 
   -- or from the place of cell (r, c) on
   abbrev pub refilled_from : ℕ → ℕ → List T → GridValue T
   refilled_from r c ws =
       let start = place s.order (row_count s.rows) (col_count s.rows) r c in
-      with_cells (written_from start stored ws)
+      with_cells s (written_from start stored ws)
       (sym (length_refill (length stored) stored (take start stored ++ (ws ++ drop (length ws) (drop start stored))) refl))
 
   -- a table of the same size
   abbrev pub IsSameSize : List (List T) → Type 0
-  IsSameSize t = (row_count t ≡ row_count s.rows) × (col_count t ≡ col_count s.rows) × IsTable t
+  IsSameSize t = (row_count t ≡ row_count s.rows) × (col_count t ≡ col_count s.rows)
 
   -- whatever is written, the size stays
   abbrev pub KeepsSize : Type 0

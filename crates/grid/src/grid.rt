@@ -29,7 +29,7 @@ pub struct Grid<T, A: Allocator = Global> {
 
 impl<T, A: Allocator> Model for Grid<T, A> {
     ghost use Rattle.grid_base.specs.GridValue.{GridValue};
-    ghost use Rattle.grid_base.proofs.ViewLemmas.{grid_value};
+    ghost use Rattle.grid.specs.View.{grid_value};
 
     ghost Value = { GridValue T };
 

@@ -72,6 +72,7 @@ impl<T, A: Allocator> Grid<T, A> {
             ≡ zip (places self.old.order (row_count self.old.rows) (col_count self.old.rows))
             (storage self.old.order self.old.rows) }
         ensures cells { GivesMutCells self.old.rows result }
+        ensures fits { length (indexed_mut_rest result) < 2 ^ 64 }
     {
         let (order, rows, cols) = (self.order, self.row_count, self.col_count);
         self.flat.indexed_iter_mut(order, rows, cols)

@@ -138,10 +138,6 @@ same_grid_value s u rows order =
     let table : PathP (λ i. IsTable (rows i)) s.table u.table = is_prop→PathP (λ i. IsTable (rows i)) (λ i. IsTable-prop (rows i)) s.table u.table in
     λ i. record { rows = rows i; order = order i; table = table i }
 
--- what a contract sees of a grid's fields
-abbrev pub grid_value : {T : Type 0} (o : Order) (m n : ℕ) (cells : List T) → HoldsSize m n (length cells) → GridValue T
-grid_value o m n cells h = record { rows = table_of o m n cells; order = o; table = view-table o m n cells h }
-
 -- a table's size holds another table of as many cells
 pub IsTable-recut : {T : Type 0} (o : Order) (t : List (List T)) (cells : List T) → IsTable t → length cells ≡ length (storage o t) → IsTable (table_of o (row_count t) (col_count t) cells)
 IsTable-recut o t cells h e =

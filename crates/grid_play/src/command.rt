@@ -26,20 +26,30 @@ pub(crate) fn parse_command<A: Allocator + Clone>(
         ≡ command_of name.now (words_of words.entry.0.now)) }
 {
     match name {
-        "push_row" => Ok(parse_cells(alloc, words)?.map(|line| Command::PushRow(line))),
-        "push_col" => Ok(parse_cells(alloc, words)?.map(|line| Command::PushCol(line))),
-        "insert_row" => Ok(parse_insert(alloc, words)?.map(|(at, line)| Command::InsertRow(
-            at, line,
-        ))),
-        "insert_col" => Ok(parse_insert(alloc, words)?.map(|(at, line)| Command::InsertCol(
-            at, line,
-        ))),
-        "insert_rows" => Ok(parse_insert_lines(alloc, words)?.map(|(at, lines)| Command::InsertRows(
-            at, lines,
-        ))),
-        "insert_cols" => Ok(parse_insert_lines(alloc, words)?.map(|(at, lines)| Command::InsertCols(
-            at, lines,
-        ))),
+        "push_row" => match parse_cells(alloc, words)? {
+            Some(line) => Ok(Some(Command::PushRow(line))),
+            None => Ok(None),
+        },
+        "push_col" => match parse_cells(alloc, words)? {
+            Some(line) => Ok(Some(Command::PushCol(line))),
+            None => Ok(None),
+        },
+        "insert_row" => match parse_insert(alloc, words)? {
+            Some(put) => Ok(Some(Command::InsertRow(put.0, put.1))),
+            None => Ok(None),
+        },
+        "insert_col" => match parse_insert(alloc, words)? {
+            Some(put) => Ok(Some(Command::InsertCol(put.0, put.1))),
+            None => Ok(None),
+        },
+        "insert_rows" => match parse_insert_lines(alloc, words)? {
+            Some(put) => Ok(Some(Command::InsertRows(put.0, put.1))),
+            None => Ok(None),
+        },
+        "insert_cols" => match parse_insert_lines(alloc, words)? {
+            Some(put) => Ok(Some(Command::InsertCols(put.0, put.1))),
+            None => Ok(None),
+        },
         _ => Ok(number_command(name, words)),
     }
 }
@@ -52,16 +62,16 @@ fn number_command<A: Allocator>(name: &str, words: Words<'_>) -> Option<Command<
 {
     match name {
         "get" => {
-            let (row, col) = two_indices(words)?;
-            Some(Command::Get(row, col))
+            let at = two_indices(words)?;
+            Some(Command::Get(at.0, at.1))
         }
         "set" => {
-            let (row, col, value) = place_and_cell(words)?;
-            Some(Command::Set(row, col, value))
+            let cell = place_and_cell(words)?;
+            Some(Command::Set(cell.0, cell.1, cell.2))
         }
         "swap" => {
-            let (first, second) = two_places(words)?;
-            Some(Command::Swap(first, second))
+            let places = two_places(words)?;
+            Some(Command::Swap(places.0, places.1))
         }
         "row" => Some(Command::Row(one_index(words)?)),
         "col" => Some(Command::Col(one_index(words)?)),
@@ -70,12 +80,12 @@ fn number_command<A: Allocator>(name: &str, words: Words<'_>) -> Option<Command<
         "delete_row" => Some(Command::DeleteRow(one_index(words)?)),
         "delete_col" => Some(Command::DeleteCol(one_index(words)?)),
         "delete_rows" => {
-            let (start, count) = two_indices(words)?;
-            Some(Command::DeleteRows(start, count))
+            let range = two_indices(words)?;
+            Some(Command::DeleteRows(range.0, range.1))
         }
         "delete_cols" => {
-            let (start, count) = two_indices(words)?;
-            Some(Command::DeleteCols(start, count))
+            let range = two_indices(words)?;
+            Some(Command::DeleteCols(range.0, range.1))
         }
         "expand_rows" => Some(Command::ExpandRows(one_index(words)?)),
         "expand_cols" => Some(Command::ExpandCols(one_index(words)?)),

@@ -2,7 +2,7 @@
 //!
 //! A refusal is decided before memory is asked for.
 ghost use Rattle.std.specs.Prelude.{◌≡◌, ◌<◌, nat_lt, OnOk, OnErr, IfOk, IsTrue};
-ghost use Rattle.grid_base.specs.Table.{row, row_count, col_count, IsTable};
+ghost use Rattle.grid_base.specs.Table.{row, row_count, col_count};
 ghost use Rattle.grid_base.specs.Gather.{items_of_each};
 ghost use Rattle.grid_base.specs.Tally.{saturating_count};
 ghost use Rattle.grid_base.specs.Clones.{ClonesAreEqual};
@@ -65,7 +65,6 @@ fn insert_line<T, A: Allocator>(
 ) -> Result<Reply<T, A>, AllocError>
 where
     T: Drop,
-    ensures table { IsTable grid.new.rows }
     ensures rows { OnOk result ((d : T)
         → grid.new.rows ≡ step_rows d (lines Row (insert_at at line.items)) grid.old.rows) }
     ensures reply { IfOk result (λ reply.
@@ -94,7 +93,6 @@ fn insert_lines<T, A: Allocator>(
 ) -> Result<Reply<T, A>, AllocError>
 where
     T: Drop,
-    ensures table { IsTable grid.new.rows }
     ensures rows { OnOk result ((d : T) → grid.new.rows
         ≡ step_rows d (lines Row (insert_all at (items_of_each several.items))) grid.old.rows) }
     ensures reply { IfOk result (λ reply. reply_value reply
@@ -119,7 +117,6 @@ where
 fn remove_line<T, A: Allocator>(grid: &mut Grid<T, A>, at: usize) -> Result<Reply<T, A>, AllocError>
 where
     A: Clone,
-    ensures table { IsTable grid.new.rows }
     ensures rows { OnOk result ((d : T)
         → grid.new.rows ≡ step_rows d (lines Row (remove_at at)) grid.old.rows) }
     ensures reply { IfOk result (λ reply.
@@ -143,7 +140,6 @@ fn delete_lines<T, A: Allocator>(
 ) -> Reply<T, A>
 where
     T: Drop,
-    ensures table { IsTable grid.new.rows }
     ensures rows { (d : T)
         → grid.new.rows ≡ step_rows d (lines Row (delete_range start count)) grid.old.rows }
     ensures reply { reply_value result
@@ -168,7 +164,6 @@ fn pad_lines<T, A: Allocator>(
 where
     T: Default,
     A: Clone,
-    ensures table { IsTable grid.new.rows }
     ensures rows { OnOk result ((d : T) → IsOnlyDefault T.is_default d
         → grid.new.rows ≡ step_rows d (lines Row (pad_edit at_end count)) grid.old.rows) }
     ensures reply { IfOk result (λ reply.
@@ -205,7 +200,6 @@ pub(crate) fn edit_rows<T, A: Allocator>(
 where
     T: Clone + Default + Drop,
     A: Clone,
-    ensures table { IsTable grid.new.rows }
     ensures rows { OnOk result ((d : T) → EditIsKnown T.is_default d (edit_value edit)
         → grid.new.rows ≡ step_rows d (lines Row (edit_value edit)) grid.old.rows) }
     ensures reply { IfOk result (λ reply. ClonesAreEqual T.is_clone
@@ -245,7 +239,6 @@ pub(crate) fn edit_cols<T, A: Allocator>(
 where
     T: Clone + Default + Drop,
     A: Clone,
-    ensures table { IsTable grid.new.rows }
     ensures rows { OnOk result ((d : T) → EditIsKnown T.is_default d (edit_value edit)
         → grid.new.rows ≡ step_rows d (lines Col (edit_value edit)) grid.old.rows) }
     ensures reply { IfOk result (λ reply. ClonesAreEqual T.is_clone

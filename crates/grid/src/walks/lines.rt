@@ -28,6 +28,7 @@ impl<T, A: Allocator> Grid<T, A> {
         ensures rest { result ≡ row self.now.rows r }
         ensures runs { LinesInOrder T }
         ensures runs_back { LinesInReverse T }
+        ensures fits { length result < 2 ^ 64 }
     {
         self.flat.row(self.order, self.row_count, self.col_count, r)
     }
@@ -43,6 +44,7 @@ impl<T, A: Allocator> Grid<T, A> {
         ensures rest { result ≡ row (transposed self.now.rows) c }
         ensures runs { LinesInOrder T }
         ensures runs_back { LinesInReverse T }
+        ensures fits { length result < 2 ^ 64 }
     {
         let order = flipped(self.order);
         self.flat.row(order, self.col_count, self.row_count, c)

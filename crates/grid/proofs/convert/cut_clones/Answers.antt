@@ -16,7 +16,7 @@ returns-in_ok-copies g c =
     let made = c.from_vec.ensures in
     let zip = c.in_ok-copies.ensures.cases.0 in (
       CanCut-same _ _ c.args.cols len (c.can_cut.ensures.0 c.if-can_cut.true),
-      cut_shape _ _ _ _ made.order c.from_vec.result.table made.storage made.cols (sym (length_all_zip g.T.Clone.is_clone c.args.cells.now.items c.in_ok-copies.copies.items zip)),
+      cut_shape _ _ _ _ made.order made.storage made.cols (sym (length_all_zip g.T.Clone.is_clone c.args.cells.now.items c.in_ok-copies.copies.items zip)),
       subst (AreClones g.T.Clone.is_clone c.args.cells.now.items) (sym made.storage)
           (record { each = zip; same = λ equal. same_from_all_zip g.T.Clone.is_clone c.args.cells.now.items c.in_ok-copies.copies.items zip equal }),
     )

@@ -34,11 +34,11 @@ returns g c =
     subst (λ rows. AllZip g.T.Clone.is_clone (concat_rows (map g.L.AsSlice.items rows)) c.loop-row.cells.items) (take_all c.loop-row.row-index c.args.rows.now (omega arith)) c.loop-row.invariant in
     let len = sym (length_all_zip g.T.Clone.is_clone (concat_rows lists) c.loop-row.cells.items zip) in (
       measured.0,
-      rows_shape lists c.loop-row.cells.items c.in_ok-count.cols c.from_vec.result measured.0 measured.2 c.from_vec.result.table made.storage made.cols made.order len,
+      rows_shape lists c.loop-row.cells.items c.in_ok-count.cols c.from_vec.result measured.0 measured.2 made.storage made.cols made.order len,
       record {
         each = subst (AllZip g.T.Clone.is_clone (concat_rows lists)) (sym made.storage) zip;
         same = λ equal.
-            rows_equal lists c.loop-row.cells.items c.in_ok-count.cols c.from_vec.result measured.0 measured.2 c.from_vec.result.table made.storage made.cols
+            rows_equal lists c.loop-row.cells.items c.in_ok-count.cols c.from_vec.result measured.0 measured.2 made.storage made.cols
             (same_from_all_zip g.T.Clone.is_clone (concat_rows lists) c.loop-row.cells.items zip equal);
       },
     )

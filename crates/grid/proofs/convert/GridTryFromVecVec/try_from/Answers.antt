@@ -14,6 +14,6 @@ returns g c =
     let measured = rw c.as_slice.ensures.value at c.in_ok-count.ensures in
     let made = c.from_vec.ensures in (
       measured.0,
-      rows_shape lists c.in_ok-cells.cells.items c.in_ok-count.cols c.from_vec.result measured.0 measured.2 c.from_vec.result.table made.storage made.cols made.order (ap length c.in_ok-cells.ensures),
-      rows_equal lists c.in_ok-cells.cells.items c.in_ok-count.cols c.from_vec.result measured.0 measured.2 c.from_vec.result.table made.storage made.cols c.in_ok-cells.ensures,
+      rows_shape lists c.in_ok-cells.cells.items c.in_ok-count.cols c.from_vec.result measured.0 measured.2 made.storage made.cols made.order (ap length c.in_ok-cells.ensures),
+      rows_equal lists c.in_ok-cells.cells.items c.in_ok-count.cols c.from_vec.result measured.0 measured.2 made.storage made.cols c.in_ok-cells.ensures,
     )

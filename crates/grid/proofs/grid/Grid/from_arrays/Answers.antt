@@ -59,7 +59,7 @@ returns-clause-made g c =
     let count : length c.loop-i.taken.items ≡ g.row.R * g.row.C =
     c.loop-i.invariant.slots.count ∙ (ap (λ x. x * c.by_order-lines.result.1) all ∙ product_by_order c.args.order g.row.R g.row.C _ c.by_order-lines.ensures) in
     let made = c.from_vec_with_order.ensures in
-    record { order = made.order; table = c.from_vec_with_order.result.table; size = made_size c.args.order _ _ _ _ c.from_vec_with_order.result.table made.storage made.cols count }
+    record { order = made.order; size = made_size c.args.order _ _ _ _ c.from_vec_with_order.result.table made.storage made.cols count }
 
 pub returns-clause-cells : goal.returns-clause-cells
 returns-clause-cells g c =

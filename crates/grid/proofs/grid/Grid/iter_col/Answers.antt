@@ -1,7 +1,7 @@
-use Rattle.std.proofs.Common.{◌∙◌, ap, arith}
-use Rattle.grid_base.specs.Table.{row}
+use Rattle.std.proofs.Common.{◌<◌, ◌∙◌, ap, length, arith}
+use Rattle.grid_base.specs.Table.{row, row_count}
 use Rattle.grid_base.specs.Order.{table_of}
-use Rattle.grid_base.proofs.ViewLemmas.{HoldsSize-transposed}
+use Rattle.grid_base.proofs.ViewLemmas.{view-rows, view-cols, view-table, HoldsSize-transposed}
 use Rattle.grid.proofs.SeenLemmas.{seen_cols}
 use Rattle.grid.proofs.SeenWalkLemmas.{seen_transposed}
 use Rattle.grid.proofs.grid.Grid.iter_col.Goals as goal
@@ -18,3 +18,11 @@ returns-clause-rest g c =
     c.row.ensures.rest
     ∙ (ap (λ o. row (table_of o s.col_count s.row_count s.flat) c.args.c) c.flipped-order.ensures
     ∙ ap (λ t. row t c.args.c) (seen_transposed _ _ _ _ _ c.self.inside.fits c.self.view_is))
+
+pub returns-clause-fits : goal.returns-clause-fits
+returns-clause-fits g c =
+    let s = c.self.inside in
+    let fits = HoldsSize-transposed _ _ _ s.fits in
+    let o = c.flipped-order.result in
+    let within : c.args.c < row_count (table_of o s.col_count s.row_count s.flat) = omega (arith, seen_cols _ _ _ _ _ s.fits c.self.view_is, c.requires, view-rows o s.col_count s.row_count s.flat fits) in
+    omega (arith, ap length c.row.ensures.rest, (view-table o s.col_count s.row_count s.flat fits).even c.args.c within, view-cols o s.col_count s.row_count s.flat fits)
