@@ -16,3 +16,5 @@ pub mod Same
 pub mod Texts
 pub mod EditFails
 pub mod IndexedWalks
+pub mod Parts
+pub mod NearCounts

@@ -35,6 +35,7 @@ mod edits;
 mod grid;
 mod macros;
 mod neighbors;
+mod parts;
 mod pretty;
 mod symmetry;
 mod traits;
