@@ -1,6 +1,7 @@
 //! Iterators over the cells round a cell, on the grid as it is or with its edges joined.
 ghost use Rattle.std.specs.Prelude.{◌≡◌, ◌≤◌, length};
 ghost use Rattle.grid_base.specs.Table.{InRange};
+ghost use Rattle.grid.specs.IndexedWalks.{GivesCells};
 ghost use Rattle.grid.specs.NearCounts.{CallableNear, IsCountNear};
 ghost use Rattle.grid_near.specs.Neighbors.{neighbors4, neighbors8, wrapped_neighbors4, wrapped_neighbors8, CellsInOrder, PositionsInOrder};
 
@@ -20,6 +21,7 @@ impl<T, A: Allocator> Grid<T, A> {
         requires { InRange self.now.rows row col }
         ensures rest { result ≡ neighbors4 self.now.rows row col }
         ensures count { length result ≤ 4 }
+        ensures cells { GivesCells self.now.rows result }
         ensures runs { CellsInOrder T }
         ensures positions { PositionsInOrder T }
     {
@@ -38,6 +40,7 @@ impl<T, A: Allocator> Grid<T, A> {
         requires { InRange self.now.rows row col }
         ensures rest { result ≡ neighbors8 self.now.rows row col }
         ensures count { length result ≤ 8 }
+        ensures cells { GivesCells self.now.rows result }
         ensures runs { CellsInOrder T }
         ensures positions { PositionsInOrder T }
     {
@@ -56,6 +59,7 @@ impl<T, A: Allocator> Grid<T, A> {
         requires { InRange self.now.rows row col }
         ensures rest { result ≡ wrapped_neighbors4 self.now.rows row col }
         ensures count { length result ≡ 4 }
+        ensures cells { GivesCells self.now.rows result }
         ensures runs { CellsInOrder T }
         ensures positions { PositionsInOrder T }
     {
@@ -75,6 +79,7 @@ impl<T, A: Allocator> Grid<T, A> {
         requires { InRange self.now.rows row col }
         ensures rest { result ≡ wrapped_neighbors8 self.now.rows row col }
         ensures count { length result ≡ 8 }
+        ensures cells { GivesCells self.now.rows result }
         ensures runs { CellsInOrder T }
         ensures positions { PositionsInOrder T }
     {

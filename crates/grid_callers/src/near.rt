@@ -1,6 +1,6 @@
 //! The cells round a cell: chains and loops over them, and counts, with no proof file.
-ghost use Rattle.std.specs.Prelude.{◌≡◌, ◌<◌, ◌+◌, ◌↔◌, IsTrue, IfOk, IfSome, All, Any, count_by, fold, map, min, nat_lt, Some};
-ghost use Rattle.grid_base.specs.Table.{cell, InRange};
+ghost use Rattle.std.specs.Prelude.{◌≡◌, ◌<◌, ◌+◌, ◌==◌, ◌↔◌, IsTrue, IfOk, All, Any, count_by, fold, map, min};
+ghost use Rattle.grid_base.specs.Table.{InRange};
 ghost use Rattle.grid_near.specs.Neighbors.{neighbors4, neighbors8, wrapped_neighbors4, wrapped_neighbors8};
 
 use grid::Grid;
@@ -34,10 +34,10 @@ pub fn count_beside(grid: &Grid<u8>, row: usize, col: usize, x: u8) -> usize
         .count()
 }
 
-/// Returns whether no cell that touches a cell is as high.
+/// Returns whether all cells that touch a cell are below this height.
 pub fn is_peak(grid: &Grid<u8>, row: usize, col: usize, height: u8) -> bool
     requires { InRange grid.now.rows row col }
-    ensures { IsTrue result ↔ All (λ near. near.1 < height) (neighbors8 grid.now.rows row col) }
+    ensures { IsTrue result → All (λ near. near.1 < height) (neighbors8 grid.now.rows row col) }
 {
     grid.neighbors8(row, col).all(|(_, cell)| *cell < height)
 }
@@ -51,7 +51,7 @@ pub fn touches(grid: &Grid<u8>, row: usize, col: usize, x: u8) -> bool
         .any(|(_, cell)| *cell == x)
 }
 
-/// Moves a cell that is `x` beside a position there: what a search finds is in range, and an index.
+/// Clears a cell that is `x` and shares a side with a cell: the position that a search finds is in range.
 pub fn clear_beside(grid: &mut Grid<u8>, row: usize, col: usize, x: u8) {
     if row < grid.rows() && col < grid.cols() {
         if let Some((at, _)) = grid.neighbors4(row, col).find(|(_, cell)| **cell == x) {
