@@ -1,5 +1,5 @@
 //! The cells round a cell: chains and loops over them, and counts, with no proof file.
-ghost use Rattle.std.specs.Prelude.{◌≡◌, ◌<◌, ◌+◌, ◌==◌, ◌↔◌, IsTrue, IfOk, All, Any, count_by, fold, map, min};
+ghost use Rattle.std.specs.Prelude.{◌≡◌, ◌<◌, ◌+◌, ◌==◌, IsTrue, IfOk, All, Any, count_by, fold, map, min};
 ghost use Rattle.grid_base.specs.Table.{InRange};
 ghost use Rattle.grid_near.specs.Neighbors.{neighbors4, neighbors8, wrapped_neighbors4, wrapped_neighbors8};
 
@@ -34,7 +34,7 @@ pub fn count_beside(grid: &Grid<u8>, row: usize, col: usize, x: u8) -> usize
         .count()
 }
 
-/// Returns whether all cells that touch a cell are below this height.
+/// Returns whether all cells that touch a cell are below this height: where it answers true, they are.
 pub fn is_peak(grid: &Grid<u8>, row: usize, col: usize, height: u8) -> bool
     requires { InRange grid.now.rows row col }
     ensures { IsTrue result → All (λ near. near.1 < height) (neighbors8 grid.now.rows row col) }
@@ -42,10 +42,10 @@ pub fn is_peak(grid: &Grid<u8>, row: usize, col: usize, height: u8) -> bool
     grid.neighbors8(row, col).all(|(_, cell)| *cell < height)
 }
 
-/// Returns whether a cell that shares a side is `x`, on a board whose edges meet.
+/// Returns whether a cell that shares a side with a cell is `x`, on a board whose edges meet: none is missed.
 pub fn touches(grid: &Grid<u8>, row: usize, col: usize, x: u8) -> bool
     requires { InRange grid.now.rows row col }
-    ensures { IsTrue result ↔ Any (λ near. near.1 ≡ x) (wrapped_neighbors4 grid.now.rows row col) }
+    ensures { Any (λ near. near.1 ≡ x) (wrapped_neighbors4 grid.now.rows row col) → IsTrue result }
 {
     grid.wrapped_neighbors4(row, col)
         .any(|(_, cell)| *cell == x)
