@@ -1,9 +1,8 @@
 -- A loop that counts the cells round a cell at which a closure answers true.
-use Rattle.std.proofs.Common.{◌≡◌, ℕ, suc, ◌+◌, ◌<◌, ◌≤◌, Bool, true, false, cond, List, [], ◌∷◌, length, map, refl, subst, sym, ◌∙◌, ap, arith}
+use Rattle.std.proofs.Common.{◌≡◌, ℕ, suc, ◌+◌, ◌≤◌, Bool, true, false, cond, List, [], ◌∷◌, length, refl, subst, sym, ◌∙◌, ap, arith}
 use Rattle.std.specs.List.{count_by}
 use Rattle.std.proofs.lemmas.List.Sums.{sum_by-cons}
 use denote.Ref.{Bor}
-use Rattle.grid_base.specs.ClosureCalls.{CallableAtRefs}
 use Rattle.grid.specs.NearCounts.{CallableNear, IsCountNear}
 
 abbrev weight : Bool → ℕ

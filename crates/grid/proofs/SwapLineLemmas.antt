@@ -1,5 +1,5 @@
 -- Two lines of a table that change places, cell by cell.
-use Rattle.std.proofs.Common.{◌≡◌, ◌≢◌, ℕ, ◌+◌, ◌<◌, ◌≤◌, Option, Some, None, List, [], ◌∷◌, length, map, set, get_or, IsSome, refl, subst, sym, ◌∙◌, ap, arith, ⊎_elim}
+use Rattle.std.proofs.Common.{◌≡◌, ◌≢◌, ℕ, ◌+◌, ◌<◌, Option, Some, None, List, [], ◌∷◌, length, set, get_or, IsSome, refl, subst, sym, ◌∙◌, ap, arith, ⊎_elim}
 use Rattle.std.specs.List.{slice_get, swap}
 use Rattle.std.specs.Option.{unwrap_or}
 use Rattle.std.proofs.lemmas.List.{length-set, length-map}

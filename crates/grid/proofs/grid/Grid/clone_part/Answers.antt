@@ -1,4 +1,4 @@
-use Rattle.std.proofs.Common.{◌≡◌, length, ◌∙◌, ap, arith}
+use Rattle.std.proofs.Common.{length, ◌∙◌, ap, arith}
 use Rattle.std.proofs.lemmas.Result.{IfOk-weaker}
 use Rattle.grid.specs.Parts.{IsBlock, IsStoredPart}
 use Rattle.grid.proofs.SeenLemmas.{seen_rows, seen_cols}
