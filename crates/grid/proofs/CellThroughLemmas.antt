@@ -113,11 +113,11 @@ module _ {T : Type 0} where
         (λ none. ap length (get_or_past (with_cell t r c w) 0 [] (omega (arith, rows-with))) ∙ sym (ap length (get_or_past t 0 [] none)))
         (cases_lt 0 (row_count t))
 
-    cell-with_same : r < row_count t → c < col_count t → cell (with_cell t r c w) r c ≡ Some w
+    pub cell-with_same : r < row_count t → c < col_count t → cell (with_cell t r c w) r c ≡ Some w
     cell-with_same lr lc =
         ap (λ v. slice_get v c) (get_or-set_same t r (set (row t r) c w) [] lr) ∙ get-set_same (row t r) c w (omega (arith, h.even r lr))
 
-    cell-with_other : (i j : ℕ) → (i ≡ r → j ≢ c) → cell (with_cell t r c w) i j ≡ cell t i j
+    pub cell-with_other : (i j : ℕ) → (i ≡ r → j ≢ c) → cell (with_cell t r c w) i j ≡ cell t i j
     cell-with_other i j ne =
         ⊎_elim (λ e.
         ⊎_elim (λ lt.
@@ -168,15 +168,15 @@ module _ {T : Type 0} where
   of-cross t h r c None lr lc = refl
   of-cross t h r c (Some w) lr lc = set-cross t h r c w lr lc
 
-  IsTable-of : (t : List (List T)) → IsTable t → (r c : ℕ) (o : Option T) → IsTable (with_cell_of t r c o)
+  pub IsTable-of : (t : List (List T)) → IsTable t → (r c : ℕ) (o : Option T) → IsTable (with_cell_of t r c o)
   IsTable-of t h r c None = h
   IsTable-of t h r c (Some w) = IsTable-with t h r c w
 
-  rows-of : (t : List (List T)) → IsTable t → (r c : ℕ) (o : Option T) → row_count (with_cell_of t r c o) ≡ row_count t
+  pub rows-of : (t : List (List T)) → IsTable t → (r c : ℕ) (o : Option T) → row_count (with_cell_of t r c o) ≡ row_count t
   rows-of t h r c None = refl
   rows-of t h r c (Some w) = rows-with t h r c w
 
-  cols-of : (t : List (List T)) → IsTable t → (r c : ℕ) (o : Option T) → col_count (with_cell_of t r c o) ≡ col_count t
+  pub cols-of : (t : List (List T)) → IsTable t → (r c : ℕ) (o : Option T) → col_count (with_cell_of t r c o) ≡ col_count t
   cols-of t h r c None = refl
   cols-of t h r c (Some w) = cols-with t h r c w
 

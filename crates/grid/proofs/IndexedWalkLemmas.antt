@@ -22,6 +22,22 @@ use Rattle.grid.specs.IndexedWalks.{IsCellAt, GivesCells, GivesOwnedCells, Gives
 use Rattle.grid.specs.View.{grid_value}
 use Rattle.grid.proofs.CellCallLemmas.{get-zip, item_at, seen_cell, seen_in}
 
+module _ {A : Type 0} (t : List (List A)) (whole : List ((ℕ × ℕ) × A)) (each : (k : ℕ) (x : (ℕ × ℕ) × A) → k < length whole → x ≡ slice_index_or whole k x → IsCellAt t x.0 x.1) where
+  module _ {S B : Type 0} (steps : S → Option B → S → Type 0) (view : B → (ℕ × ℕ) × A) (shown : S → List ((ℕ × ℕ) × A)) (all : EveryRun steps (λ p. ItemsMapTo p view (shown p.from))) where
+    -- each item of a run from all of them
+    pub gives : (s : S) → shown s ≡ whole → EachRunFrom steps s (λ p. AllItems p (λ x. IsCellAt t (view x).0 (view x).1))
+    gives s is p t from k =
+        let maps = all p t in
+        let cut : shown p.from ≡ whole = ap shown from ∙ is in
+        at_some (p.at k) _ (λ x there.
+        let inside : k < p.len = omega (arith, p.long, slice_get_within p.items k x (sym (at-is p k) ∙ there)) in
+        let at : view x ≡ slice_index_or (shown p.from) k (view x) = subst (λ z. MatchOption z (Unit {0}) (λ y. view y ≡ slice_index_or (shown p.from) k (view y))) there (maps.8 k) in
+        each k (view x) (omega (arith, maps.0, ap length cut)) (at ∙ ap (λ l. slice_index_or l k (view x)) cut))
+
+  pub gives_cells_of : (s : List ((ℕ × ℕ) × A)) → s ≡ whole → GivesCells t s
+  gives_cells_of s is = gives (YieldsFirstBy (λ (item : (ℕ × ℕ) × Bor A). (item.0, item.1.now)) (λ rest. rest)) (λ item. (item.0, item.1.now)) (λ rest. rest)
+      (from_front (YieldsFirstBy (λ (item : (ℕ × ℕ) × Bor A). (item.0, item.1.now)) (λ rest. rest)) (λ item. (item.0, item.1.now)) (λ rest. rest) (λ s t h. ap length h.0) (λ s x t h. h)) s is
+
 module _ {A : Type 0} (o : Order) (m n : ℕ) (cells : List A) (v : GridValue A) (h : HoldsSize m n (length cells)) (e : grid_value o m n cells h ≡ v) where
   -- an item of the list of the cells with their places
   pub item_is : (k : ℕ) (x : (ℕ × ℕ) × A) → k < length (zip (places o m n) cells) → x ≡ slice_index_or (zip (places o m n) cells) k x → IsCellAt v.rows x.0 x.1
@@ -37,27 +53,15 @@ module _ {A : Type 0} (o : Order) (m n : ℕ) (cells : List A) (v : GridValue A)
       (seen_in o m n cells v h e w.r w.c w.lr w.lc, seen_cell o m n cells v h e w.r w.c w.lr w.lc ∙ (ap (slice_get cells) w.is ∙ i.is)) in
       subst (λ (z : (ℕ × ℕ) × A). IsCellAt v.rows z.0 z.1) (sym same) whole
 
-  module _ {S B : Type 0} (steps : S → Option B → S → Type 0) (view : B → (ℕ × ℕ) × A) (shown : S → List ((ℕ × ℕ) × A)) (all : EveryRun steps (λ p. ItemsMapTo p view (shown p.from))) where
-    -- each item of a run from all of them
-    gives : (s : S) → shown s ≡ zip (places o m n) cells → EachRunFrom steps s (λ p. AllItems p (λ x. IsCellAt v.rows (view x).0 (view x).1))
-    gives s is p t from k =
-        let maps = all p t in
-        let cut : shown p.from ≡ zip (places o m n) cells = ap shown from ∙ is in
-        at_some (p.at k) _ (λ x there.
-        let inside : k < p.len = omega (arith, p.long, slice_get_within p.items k x (sym (at-is p k) ∙ there)) in
-        let at : view x ≡ slice_index_or (shown p.from) k (view x) = subst (λ z. MatchOption z (Unit {0}) (λ y. view y ≡ slice_index_or (shown p.from) k (view y))) there (maps.8 k) in
-        item_is k (view x) (omega (arith, maps.0, ap length cut)) (at ∙ ap (λ l. slice_index_or l k (view x)) cut))
-
   pub gives_cells : (s : List ((ℕ × ℕ) × A)) → s ≡ zip (places o m n) cells → GivesCells v.rows s
-  gives_cells s is = gives (YieldsFirstBy (λ (item : (ℕ × ℕ) × Bor A). (item.0, item.1.now)) (λ rest. rest)) (λ item. (item.0, item.1.now)) (λ rest. rest)
-      (from_front (YieldsFirstBy (λ (item : (ℕ × ℕ) × Bor A). (item.0, item.1.now)) (λ rest. rest)) (λ item. (item.0, item.1.now)) (λ rest. rest) (λ s t h. ap length h.0) (λ s x t h. h)) s is
+  gives_cells s is = gives_cells_of v.rows (zip (places o m n) cells) item_is s is
 
   pub gives_owned_cells : (s : List ((ℕ × ℕ) × A)) → s ≡ zip (places o m n) cells → GivesOwnedCells v.rows s
-  gives_owned_cells s is = gives (YieldsFirst (λ (rest : List ((ℕ × ℕ) × A)). rest)) (λ item. item) (λ rest. rest)
+  gives_owned_cells s is = gives v.rows (zip (places o m n) cells) item_is (YieldsFirst (λ (rest : List ((ℕ × ℕ) × A)). rest)) (λ item. item) (λ rest. rest)
       (from_front (YieldsFirst (λ (rest : List ((ℕ × ℕ) × A)). rest)) (λ item. item) (λ rest. rest) (λ s t h. ap length h.0) (λ s x t h. h)) s is
 
   pub gives_mut_cells : (s : IndexedIterMut A) → indexed_mut_rest s ≡ zip (places o m n) cells → GivesMutCells v.rows s
-  gives_mut_cells s is = gives (YieldsFirstBy (λ (item : (ℕ × ℕ) × MutBor A). (item.0, item.1.now)) indexed_mut_rest) (λ item. (item.0, item.1.now)) indexed_mut_rest
+  gives_mut_cells s is = gives v.rows (zip (places o m n) cells) item_is (YieldsFirstBy (λ (item : (ℕ × ℕ) × MutBor A). (item.0, item.1.now)) indexed_mut_rest) (λ item. (item.0, item.1.now)) indexed_mut_rest
       (from_front (YieldsFirstBy (λ (item : (ℕ × ℕ) × MutBor A). (item.0, item.1.now)) indexed_mut_rest) (λ item. (item.0, item.1.now)) indexed_mut_rest (λ s t h. ap length h.0) (λ s x t h. h)) s is
 
   pub walk_fits : (s : List ((ℕ × ℕ) × A)) → s ≡ zip (places o m n) cells → length s < 2 ^ 64

@@ -17,3 +17,5 @@ pub mod Same
 pub mod Texts
 pub mod EditFails
 pub mod IndexedWalks
+pub mod Parts
+pub mod NearCounts

@@ -22,7 +22,9 @@
 //! - rows and columns: `push_*`, `insert_*`, `pop_*`, `remove_*`, `delete_*`, `expand_*`, `prepend_*`
 //! - iterate: `iter`, `iter_row`, `iter_col` and their forms for writing, `iter_rows`, `iter_cols`, `indexed_iter`,
 //!   `indexed_iter_mut`, `indexed_into_iter`, and a `for` over a grid
-//! - the cells round a cell: `neighbors4`, `neighbors8`, `wrapped_neighbors4`, `wrapped_neighbors8`
+//! - the cells round a cell: `neighbors4`, `neighbors8`, `wrapped_neighbors4`, `wrapped_neighbors8`, and how many pass a
+//!   test: `count_neighbors8`, `count_wrapped_neighbors8`
+//! - parts: `sub_grid`, `swap_rows`, `swap_cols`
 //! - the whole grid: `map`, `map_ref`, `map_indexed`, `update`, `clone`, `==`, `Hash`, `Debug`, `pretty`
 //! - turn: `transpose`, `flip_rows`, `flip_cols`, `rotate_left`, `rotate_right`, `rotate_half`, and `apply` of a
 //!   [`Symmetry`], one of [`Symmetry::ALL`], to which [`reduce`] brings a list of [`Move`]s
@@ -35,6 +37,7 @@ mod edits;
 mod grid;
 mod macros;
 mod neighbors;
+mod parts;
 mod pretty;
 mod symmetry;
 mod traits;

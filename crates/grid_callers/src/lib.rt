@@ -5,6 +5,8 @@
 pub mod boards;
 pub mod chains;
 pub mod loops;
+pub mod near;
+pub mod parts;
 pub mod shown;
 pub mod updates;
 pub mod whole;

@@ -292,6 +292,26 @@ fn maps_by_place_with_one_request(rt: HostRuntime) -> Result<(), Fail> {
     Ok(())
 }
 
+// The part from the second column on, with one request for its cells.
+fn check_sub_grid(rt: &impl Abort, alloc: Global, order: Order, granted: u64) -> Result<(), Fail> {
+    let heap = Fuse::new(alloc, 0);
+    let grid = starved_grid_of(alloc, &heap, &numbered(alloc, 2, 3)?, order)?;
+    heap.grant(granted);
+    let part = grid.sub_grid((0, 1), (2, 2));
+    assert_eq!(rt; part.is_ok(), granted != 0);
+    Ok(())
+}
+
+#[test]
+fn parts_with_one_request(rt: HostRuntime) -> Result<(), Fail> {
+    for order in ORDERS {
+        for granted in 0..2u64 {
+            check_sub_grid(&rt, rt.alloc(), order, granted)?;
+        }
+    }
+    Ok(())
+}
+
 // Nines of this size, and how often the closure was called.
 fn nines<'a>(
     heap: &'a Heap,

@@ -6,6 +6,7 @@ mod conversions;
 mod edits;
 mod makers;
 mod moves;
+mod near;
 mod texts;
 mod traits;
 mod walks;

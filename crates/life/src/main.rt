@@ -4,9 +4,13 @@
 //! columns.
 #![tactic(auto)]
 
+ghost use Rattle.std.specs.Prelude.{◌≡◌, IfOk};
+ghost use Rattle.grid_base.specs.Table.{InRange};
+ghost use Rattle.life.specs.Rule.{rule, live_neighbors, next_table};
+
 use anyhow::Result;
 use grid::Grid;
-use std::alloc::Global;
+use std::alloc::{AllocError, Global};
 
 const SIDE: usize = 8;
 
@@ -24,40 +28,20 @@ fn glider(alloc: Global) -> Result<Grid<bool>> {
     Ok(board)
 }
 
-// A place with the one before it and the one after it, where the last of `len` places comes before the first.
-fn around(at: usize, len: usize) -> [usize; 3] {
-    let before = if at == 0 { len } else { at };
-    let after = at.wrapping_add(1);
-    [
-        before.wrapping_sub(1),
-        at,
-        if after == len { 0 } else { after },
-    ]
+// Whether a cell is live in the next generation: with three live neighbours, or with two if it is live.
+fn lives(board: &Grid<bool>, row: usize, col: usize, live: bool) -> bool
+    requires { InRange board.now.rows row col }
+    ensures { result ≡ rule live (live_neighbors board.now.rows row col) }
+{
+    let near = board.count_wrapped_neighbors8(row, col, |near| *near);
+    near == 3 || (live && near == 2)
 }
 
-// The number of live cells among a cell and its eight neighbours.
-fn crowd(board: &Grid<bool>, row: usize, col: usize) -> usize {
-    let (rows, cols) = board.size();
-    let cols = around(col, cols);
-    let mut crowd = 0usize;
-    for r in around(row, rows) {
-        let live = cols.iter().filter(|c| board.get(r, **c) == Some(&true));
-        crowd = crowd.saturating_add(live.count());
-    }
-    crowd
-}
-
-// The board of the next generation. A cell is live in it with two live neighbours if it was live, and with three.
-fn next_generation(board: &Grid<bool>) -> Result<Grid<bool>> {
-    let mut next = board.clone()?;
-    for ((row, col), cell) in next.indexed_iter_mut() {
-        *cell = match crowd(board, row, col) {
-            3 => true,
-            4 => *cell,
-            _ => false,
-        };
-    }
-    Ok(next)
+// The board of the next generation.
+fn next_generation(board: &Grid<bool>) -> Result<Grid<bool>, AllocError>
+    ensures { IfOk result (λ next. next.rows ≡ next_table board.now.rows) }
+{
+    board.map_indexed(|(row, col), live| lives(board, row, col, *live))
 }
 
 fn print_board<R: Print + AllocGlobal>(rt: &R, generation: u32, board: &Grid<bool>) -> Result<()> {

@@ -46,19 +46,11 @@ fn trim(shape: &mut Shape) {
     }
 }
 
-// Whether a cell above, below, left or right of a place is filled. What lies before the first place is out of range.
-fn touches(shape: &Shape, row: usize, col: usize) -> bool {
-    let (above, below) = (row.wrapping_sub(1), row.wrapping_add(1));
-    let (left, right) = (col.wrapping_sub(1), col.wrapping_add(1));
-    let beside = [(above, col), (below, col), (row, left), (row, right)];
-    beside.iter().any(|(r, c)| shape.get(*r, *c) == Some(&true))
-}
-
 // Adds the shapes with one cell more than a shape.
 fn grow(shape: &Shape, grown: &mut Vec<Shape>) -> Result<()> {
     let padded = padded(shape)?;
     for ((row, col), filled) in padded.indexed_iter() {
-        if !*filled && touches(&padded, row, col) {
+        if !*filled && padded.neighbors4(row, col).any(|(_, near)| *near) {
             let mut larger = padded.clone()?;
             if let Some(cell) = larger.get_mut(row, col) {
                 *cell = true;

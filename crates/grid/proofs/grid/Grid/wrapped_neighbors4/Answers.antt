@@ -1,5 +1,6 @@
 use Rattle.std.proofs.Common.{◌∙◌, ap}
 use Rattle.grid_near.specs.Neighbors.{wrapped_neighbors4}
+use Rattle.grid.proofs.NearLemmas.{gives_wrapped_neighbors4}
 use Rattle.grid.proofs.SeenLemmas.{seen_row_in, seen_col_in}
 use Rattle.grid.proofs.grid.Grid.wrapped_neighbors4.Goals as goal
 
@@ -12,3 +13,6 @@ wrapped_neighbors4-requires g c = record {
 
 pub returns-clause-rest : goal.returns-clause-rest
 returns-clause-rest g c = (rw c.as_slice.ensures at c.wrapped_neighbors4.ensures.rest) ∙ ap (λ x. wrapped_neighbors4 x.rows c.args.row c.args.col) c.self.view_is
+
+pub returns-clause-cells : goal.returns-clause-cells
+returns-clause-cells g c = gives_wrapped_neighbors4 c.args.self.now.rows c.args.self.now.table c.args.row c.args.col c.wrapped_neighbors4.result (returns-clause-rest g c)

@@ -1,0 +1,58 @@
+-- A loop that counts the cells round a cell at which a closure answers true.
+use Rattle.std.proofs.Common.{◌≡◌, ℕ, suc, ◌+◌, ◌≤◌, Bool, true, false, cond, List, [], ◌∷◌, length, refl, subst, sym, ◌∙◌, ap, arith}
+use Rattle.std.specs.List.{count_by}
+use Rattle.std.proofs.lemmas.List.Sums.{sum_by-cons}
+use denote.Ref.{Bor}
+use Rattle.grid.specs.NearCounts.{CallableNear, IsCountNear}
+
+abbrev weight : Bool → ℕ
+weight b = cond b 1 0
+
+module _ {F T : Type 0} (takes : F → Bor T → Type 0) (returns : F → Bor T → Bool → Type 0) (f : F) (near : List ((ℕ × ℕ) × T)) where
+  -- `count` of the cells that were passed answer true, and `rest` are left
+  pub record Counting (rest : List ((ℕ × ℕ) × T)) (count : ℕ) : Type 0 where
+    pub short : count + length rest ≤ 8
+    pub callable : CallableNear takes f rest
+    pub counts : (p : (ℕ × ℕ) × T → Bool) → ((at : ℕ × ℕ) (x : Bor T) (b : Bool) → returns f x b → p (at, x.now) ≡ b) → count + count_by p rest ≡ count_by p near
+
+  pub counting_none : length near ≤ 8 → CallableNear takes f near → Counting near 0
+  counting_none short can = record { short = omega arith; callable = can; counts = λ p says. omega arith }
+
+  module _ (rest left : List ((ℕ × ℕ) × T)) (count : ℕ) (at : ℕ × ℕ) (x : Bor T) (e : rest ≡ (at, x.now) ∷ left) (h : Counting rest count) where
+    pub counting_takes : takes f x
+    counting_takes =
+        let Can : List ((ℕ × ℕ) × T) → Type 0 = λ r. CallableNear takes f r in
+        let can : Can ((at, x.now) ∷ left) = subst Can e h.callable in
+        can.at 0 x (omega arith) refl
+
+    callable_left : CallableNear takes f left
+    callable_left =
+        let Can : List ((ℕ × ℕ) × T) → Type 0 = λ r. CallableNear takes f r in
+        let can : Can ((at, x.now) ∷ left) = subst Can e h.callable in
+        record { at = λ k p lt is. can.at (suc k) p (omega arith) is }
+
+    short_left : suc (count + length left) ≤ 8
+    short_left = omega (arith, h.short, ap length e)
+
+    pub counting_yes : returns f x true → Counting left (count + 1)
+    counting_yes said = record {
+      short = omega (arith, short_left);
+      callable = callable_left;
+      counts = λ p says.
+          let one : weight (p (at, x.now)) ≡ 1 = ap weight (says at x true said) in
+          let all : count + (weight (p (at, x.now)) + count_by p left) ≡ count_by p near = ap (λ n. count + n) (sym (sum_by-cons (λ i. weight (p i)) (at, x.now) left)) ∙ (ap (λ r. count + count_by p r) (sym e) ∙ h.counts p says) in
+          omega (arith, one, all);
+    }
+
+    pub counting_no : returns f x false → Counting left count
+    counting_no said = record {
+      short = omega (arith, short_left);
+      callable = callable_left;
+      counts = λ p says.
+          let one : weight (p (at, x.now)) ≡ 0 = ap weight (says at x false said) in
+          let all : count + (weight (p (at, x.now)) + count_by p left) ≡ count_by p near = ap (λ n. count + n) (sym (sum_by-cons (λ i. weight (p i)) (at, x.now) left)) ∙ (ap (λ r. count + count_by p r) (sym e) ∙ h.counts p says) in
+          omega (arith, one, all);
+    }
+
+  pub counting_end : (rest : List ((ℕ × ℕ) × T)) (count : ℕ) → rest ≡ [] → Counting rest count → IsCountNear returns f near count
+  counting_end rest count e h p says = omega (arith, ap (count_by p) e, h.counts p says)

@@ -1,0 +1,74 @@
+-- The cells round a cell are cells of the table, at their positions.
+use Rattle.std.proofs.Common.{◌≡◌, ℕ, zero, suc, ◌+◌, ◌<◌, Option, Some, None, List, [], ◌∷◌, length, refl, subst, sym, ◌∙◌, arith, ⊎_elim}
+use Rattle.std.specs.List.{filter_map, cons_option, slice_index_or}
+use Rattle.std.specs.Option.{option_map, option_and_then}
+use Rattle.std.proofs.lemmas.Bool.{cases_lt}
+use Rattle.grid_base.specs.Table.{row_count, col_count, cell, InRange, IsTable}
+use Rattle.grid_near.specs.Neighbors.{around4, around8, before, both, round_before, round_after, cell_at, neighbors4, neighbors8, wrapped_neighbors4, wrapped_neighbors8}
+use Rattle.grid.specs.IndexedWalks.{IsCellAt, GivesCells}
+use Rattle.grid.proofs.CellThroughLemmas.{past_rows, past_cols}
+use Rattle.grid.proofs.IndexedWalkLemmas.{gives_cells_of}
+
+module _ {X Y : Type 0} (P : Y → Type 0) (f : X → Option Y) (found : (x : X) (y : Y) → f x ≡ Some y → P y) where
+  one_more : (o : Option Y) (rest : List Y) → ((y : Y) → o ≡ Some y → P y) → ((k : ℕ) (y : Y) → k < length rest → y ≡ slice_index_or rest k y → P y) → (k : ℕ) (y : Y) → k < length (cons_option o rest) → y ≡ slice_index_or (cons_option o rest) k y → P y
+  one_more None rest h all k y lt is = all k y lt is
+  one_more (Some z) rest h all zero y lt is = subst P (sym is) (h z refl)
+  one_more (Some z) rest h all (suc k) y lt is = all k y (omega arith) is
+
+  -- each item that f finds
+  each_found : (xs : List X) (k : ℕ) (y : Y) → k < length (filter_map f xs) → y ≡ slice_index_or (filter_map f xs) k y → P y
+  each_found [] k y lt is = absurd (omega arith)
+  each_found (x ∷ xs) k y lt is = one_more (f x) (filter_map f xs) (found x) (each_found xs) k y lt is
+
+module _ {T : Type 0} (t : List (List T)) (h : IsTable t) where
+  in_range : (r c : ℕ) (x : T) → cell t r c ≡ Some x → InRange t r c
+  in_range r c x e = (
+    ⊎_elim (λ lt. lt) (λ ge. absurd (some_none (sym (past_rows t r c ge) ∙ e))) (cases_lt r (row_count t)),
+    ⊎_elim (λ lt. lt) (λ ge. absurd (some_none (sym (past_cols t h r c ge) ∙ e))) (cases_lt c (col_count t)),
+  )
+    where
+      some_none : None ≡ Some x → ⊥
+      some_none e = cc
+
+  cell_there : (p : Option ℕ × Option ℕ) (x : (ℕ × ℕ) × T) → cell_at (cell t) p ≡ Some x → IsCellAt t x.0 x.1
+  cell_there p x e = by_position (both p) e
+    where
+      by_cell : (q : ℕ × ℕ) (o : Option T) → cell t q.0 q.1 ≡ o → option_map {U = (ℕ × ℕ) × T} (λ y. (q, y)) o ≡ Some x → IsCellAt t x.0 x.1
+      by_cell q None k e = absurd (cc)
+      by_cell q (Some y) k e =
+          let same : ◌≡◌ {A = (ℕ × ℕ) × T} (q, y) x = cc in
+          let here : IsCellAt t q y = (in_range q.0 q.1 y k, k) in
+          subst (λ (z : (ℕ × ℕ) × T). IsCellAt t z.0 z.1) same here
+
+      by_position : (o : Option (ℕ × ℕ)) → option_and_then {U = (ℕ × ℕ) × T} (λ q. option_map (λ y. (q, y)) (cell t q.0 q.1)) o ≡ Some x → IsCellAt t x.0 x.1
+      by_position None e = absurd (cc)
+      by_position (Some q) e = by_cell q (cell t q.0 q.1) refl e
+
+  each_there : (ps : List (Option ℕ × Option ℕ)) (k : ℕ) (x : (ℕ × ℕ) × T) → k < length (filter_map (cell_at (cell t)) ps) → x ≡ slice_index_or (filter_map (cell_at (cell t)) ps) k x → IsCellAt t x.0 x.1
+  each_there ps = each_found (λ x. IsCellAt t x.0 x.1) (cell_at (cell t)) cell_there ps
+
+  gives_from : (ps : List (Option ℕ × Option ℕ)) (s : List ((ℕ × ℕ) × T)) → s ≡ filter_map (cell_at (cell t)) ps → GivesCells t s
+  gives_from ps s is = gives_cells_of t (filter_map (cell_at (cell t)) ps) (each_there ps) s is
+
+  module _ (r c : ℕ) (s : List ((ℕ × ℕ) × T)) where
+    pub gives_neighbors4 : s ≡ neighbors4 t r c → GivesCells t s
+    unfolding neighbors4
+    gives_neighbors4 is = gives_from (around4 (before r) (Some r) (Some (r + 1)) (before c) (Some c) (Some (c + 1))) s is
+
+    pub gives_neighbors8 : s ≡ neighbors8 t r c → GivesCells t s
+    unfolding neighbors8
+    gives_neighbors8 is = gives_from (around8 (before r) (Some r) (Some (r + 1)) (before c) (Some c) (Some (c + 1))) s is
+
+    pub gives_wrapped_neighbors4 : s ≡ wrapped_neighbors4 t r c → GivesCells t s
+    unfolding wrapped_neighbors4
+    gives_wrapped_neighbors4 is =
+        let m = row_count t in
+        let n = col_count t in
+        gives_from (around4 (Some (round_before m r)) (Some r) (Some (round_after m r)) (Some (round_before n c)) (Some c) (Some (round_after n c))) s is
+
+    pub gives_wrapped_neighbors8 : s ≡ wrapped_neighbors8 t r c → GivesCells t s
+    unfolding wrapped_neighbors8
+    gives_wrapped_neighbors8 is =
+        let m = row_count t in
+        let n = col_count t in
+        gives_from (around8 (Some (round_before m r)) (Some r) (Some (round_after m r)) (Some (round_before n c)) (Some c) (Some (round_after n c))) s is

@@ -1,0 +1,11 @@
+use Rattle.std.proofs.Common.{arith}
+use Rattle.grid.proofs.SwapLineLemmas.{rows_next, rows_done}
+use Rattle.grid.proofs.grid.Grid.swap_rows.Goals as goal
+
+pub loop-col-preserved : goal.loop-col-preserved
+loop-col-preserved g c =
+    rows_next c.args.a c.args.b c.loop-col.col c.args.self.now c.loop-col.self c.swap.new.self c.loop-col.invariant c.requires.a_in c.requires.b_in (omega arith)
+    c.swap.ensures.rows c.swap.ensures.row_count c.swap.ensures.col_count c.swap.ensures.order
+
+pub returns-clause-rows : goal.returns-clause-rows
+returns-clause-rows g c = rows_done c.args.a c.args.b c.loop-col.col c.args.self.now c.loop-col.self c.loop-col.invariant c.requires.a_in c.requires.b_in (omega arith)

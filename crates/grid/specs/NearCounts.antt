@@ -1,0 +1,13 @@
+-- How many of the cells round a cell pass a test.
+use Rattle.std.specs.Prelude.{◌≡◌, ℕ, Bool, List, map, count_by}
+use denote.Ref.{Bor}
+use Rattle.grid_base.specs.ClosureCalls.{CallableAtRefs}
+
+-- the closure f can be called at a reference to each of these cells
+abbrev pub CallableNear : {F T : Type 0} → (F → Bor T → Type 0) → F → List ((ℕ × ℕ) × T) → Type 0
+CallableNear takes f near = CallableAtRefs takes f (map (λ n. n.1) near)
+
+-- where p says of each cell what the closure f may answer at it, `count` of these cells pass p
+abbrev pub IsCountNear : {F T : Type 0} → (F → Bor T → Bool → Type 0) → F → List ((ℕ × ℕ) × T) → ℕ → Type 0
+IsCountNear {T = T} returns f near count =
+    (p : (ℕ × ℕ) × T → Bool) → ((at : ℕ × ℕ) (x : Bor T) (b : Bool) → returns f x b → p (at, x.now) ≡ b) → count ≡ count_by p near

@@ -1,0 +1,102 @@
+//! The cells round a cell: chains and loops over them, and counts, with no proof file.
+ghost use Rattle.std.specs.Prelude.{◌≡◌, ◌<◌, ◌+◌, ◌==◌, IsTrue, IfOk, All, Any, count_by, fold, map, min};
+ghost use Rattle.grid_base.specs.Table.{InRange};
+ghost use Rattle.grid_near.specs.Neighbors.{neighbors4, neighbors8, wrapped_neighbors4, wrapped_neighbors8};
+
+use grid::Grid;
+use std::alloc::{AllocError, Global};
+
+/// Returns how many of the cells that touch a cell are `x`.
+///
+///     [[1, 2, 1], [1, 1, 2]]   count_round(1, 1, 1)   3
+pub fn count_round(grid: &Grid<u8>, row: usize, col: usize, x: u8) -> usize
+    requires { InRange grid.now.rows row col }
+    ensures { result ≡ count_by (λ near. near.1 == x) (neighbors8 grid.now.rows row col) }
+{
+    grid.count_neighbors8(row, col, |cell| *cell == x)
+}
+
+/// Same as [`count_round`], on a board whose edges meet.
+pub fn count_round_wrapped(grid: &Grid<u8>, row: usize, col: usize, x: u8) -> usize
+    requires { InRange grid.now.rows row col }
+    ensures { result ≡ count_by (λ near. near.1 == x) (wrapped_neighbors8 grid.now.rows row col) }
+{
+    grid.count_wrapped_neighbors8(row, col, |cell| *cell == x)
+}
+
+/// Same as [`count_round`], of the cells that share a side, by a chain.
+pub fn count_beside(grid: &Grid<u8>, row: usize, col: usize, x: u8) -> usize
+    requires { InRange grid.now.rows row col }
+    ensures { result ≡ count_by (λ near. near.1 == x) (neighbors4 grid.now.rows row col) }
+{
+    grid.neighbors4(row, col)
+        .filter(|(_, cell)| **cell == x)
+        .count()
+}
+
+/// Returns whether all cells that touch a cell are below this height: where it answers true, they are.
+pub fn is_peak(grid: &Grid<u8>, row: usize, col: usize, height: u8) -> bool
+    requires { InRange grid.now.rows row col }
+    ensures { IsTrue result → All (λ near. near.1 < height) (neighbors8 grid.now.rows row col) }
+{
+    grid.neighbors8(row, col).all(|(_, cell)| *cell < height)
+}
+
+/// Returns whether a cell that shares a side with a cell is `x`, on a board whose edges meet: none is missed.
+pub fn touches(grid: &Grid<u8>, row: usize, col: usize, x: u8) -> bool
+    requires { InRange grid.now.rows row col }
+    ensures { Any (λ near. near.1 ≡ x) (wrapped_neighbors4 grid.now.rows row col) → IsTrue result }
+{
+    grid.wrapped_neighbors4(row, col)
+        .any(|(_, cell)| *cell == x)
+}
+
+/// Clears a cell that is `x` and shares a side with a cell: the position that a search finds is in range.
+pub fn clear_beside(grid: &mut Grid<u8>, row: usize, col: usize, x: u8) {
+    if row < grid.rows() && col < grid.cols() {
+        if let Some((at, _)) = grid.neighbors4(row, col).find(|(_, cell)| **cell == x) {
+            grid[at] = 0;
+        }
+    }
+}
+
+/// Returns the positions round a position.
+///
+///     [[1, 2, 3], [4, 5, 6]]   positions_round(0, 0)   [(0, 1), (1, 0), (1, 1)]
+pub fn positions_round(
+    alloc: Global,
+    grid: &Grid<u8>,
+    row: usize,
+    col: usize,
+) -> Result<Vec<(usize, usize)>, AllocError>
+    requires { InRange grid.now.rows row col }
+    ensures { IfOk result (λ around.
+        around.items ≡ map (λ near. near.0) (neighbors8 grid.now.rows row col)) }
+{
+    grid.neighbors8(row, col).map(|(at, _)| at).collect(alloc)
+}
+
+/// Returns the sum of the cells round a cell.
+pub fn sum_round(grid: &Grid<u32>, row: usize, col: usize) -> u32
+    requires { InRange grid.now.rows row col }
+    ensures { result ≡ fold (λ total near. min (total + near.1) u32.MAX) 0
+        (wrapped_neighbors8 grid.now.rows row col) }
+{
+    grid.wrapped_neighbors8(row, col)
+        .fold(0, |total: u32, (_, cell)| total.saturating_add(*cell))
+}
+
+/// Returns how many cells of the board are peaks, by loops alone.
+pub fn count_peaks(grid: &Grid<u8>) -> usize {
+    let mut peaks = 0usize;
+    for ((row, col), cell) in grid.indexed_iter() {
+        let mut highest = 0;
+        for (_, near) in grid.neighbors8(row, col) {
+            highest = highest.max(*near);
+        }
+        if highest < *cell {
+            peaks = peaks.saturating_add(1);
+        }
+    }
+    peaks
+}

@@ -1,0 +1,44 @@
+//! Parts of a board, and lines that change places, with no proof file.
+ghost use Rattle.std.specs.Prelude.{◌≡◌, ◌-◌, IfSome};
+ghost use Rattle.std.specs.List.{swap};
+ghost use Rattle.grid_base.specs.Table.{row_count, InRange};
+ghost use Rattle.grid.specs.Parts.{sub_table};
+
+use grid::Grid;
+
+/// Returns the upper left corner of two rows and three columns, or `None` where the board is smaller, and where there is
+/// no memory.
+///
+///     [[1, 2, 3, 4], [5, 6, 7, 8]]   corner()   Some([[1, 2, 3], [5, 6, 7]])
+pub fn corner(grid: &Grid<u8>) -> Option<Grid<u8>>
+    ensures rows { IfSome result (λ part. part.rows ≡ sub_table grid.now.rows (0, 0) (2, 3)) }
+    ensures last { IfSome result (λ part. InRange part.rows 1 2) }
+    ensures order { IfSome result (λ part. part.order ≡ grid.now.order) }
+{
+    if grid.rows() < 2 || grid.cols() < 3 {
+        return None;
+    }
+    grid.sub_grid((0, 0), (2, 3)).ok()
+}
+
+/// Exchanges the first row with another, and then the first two columns, and returns the first cell. Where a line isn't
+/// there, nothing changes.
+pub fn bring_up(grid: &mut Grid<u8>, row: usize) -> Option<u8> {
+    if row < grid.rows() && 1 < grid.cols() {
+        grid.swap_rows(0, row);
+        grid.swap_cols(0, 1);
+        return Some(grid[(0, 0)]);
+    }
+    None
+}
+
+/// Moves the last row to the top and the first to the end, if there are rows.
+///
+///     [[1, 2], [3, 4], [5, 6]]   swap_ends()   [[5, 6], [3, 4], [1, 2]]
+pub fn swap_ends(grid: &mut Grid<u8>)
+    ensures { grid.new.rows ≡ swap grid.old.rows 0 (row_count grid.old.rows - 1) }
+{
+    if !grid.is_empty() {
+        grid.swap_rows(0, grid.rows() - 1);
+    }
+}

@@ -1,0 +1,80 @@
+//! The cells round a cell, a part of a grid, and lines that change places.
+use crate::asserts::{Rows, assert_rows, grid_with};
+use grid_support::fixtures::ORDERS;
+use std::process::Abort;
+use std::test::Fail;
+
+const TABLE: Rows = &[&[1, 2, 3], &[4, 5, 6]];
+
+// A position, and the cell there.
+type Near = ((usize, usize), u32);
+
+// The cells round (0, 2), those that share a side first, and the same where the edges meet.
+const FOUR: &[Near] = &[((0, 1), 2), ((1, 2), 6)];
+
+const EIGHT: &[Near] = &[((0, 1), 2), ((1, 1), 5), ((1, 2), 6)];
+
+const WRAPPED_FOUR: &[Near] = &[((1, 2), 6), ((0, 1), 2), ((0, 0), 1), ((1, 2), 6)];
+
+const WRAPPED_EIGHT: &[Near] = &[
+    ((1, 1), 5),
+    ((1, 2), 6),
+    ((1, 0), 4),
+    ((0, 1), 2),
+    ((0, 0), 1),
+    ((1, 1), 5),
+    ((1, 2), 6),
+    ((1, 0), 4),
+];
+
+fn assert_near<'a>(
+    rt: &impl Abort,
+    found: impl Iterator<Item = ((usize, usize), &'a u32)> + Drop,
+    cells: &[Near],
+) {
+    let mut count = 0usize;
+    for (at, cell) in found {
+        assert_eq!(rt; Some(&(at, *cell)), cells.get(count));
+        count = count.wrapping_add(1);
+    }
+    assert_eq!(rt; count, cells.len());
+}
+
+#[test]
+fn neighbors_of_a_corner(rt: HostRuntime) -> Result<(), Fail> {
+    for order in ORDERS {
+        let grid = grid_with(rt.alloc(), TABLE, order)?;
+        assert_near(&rt, grid.neighbors4(0, 2), FOUR);
+        assert_near(&rt, grid.neighbors8(0, 2), EIGHT);
+        assert_near(&rt, grid.wrapped_neighbors4(0, 2), WRAPPED_FOUR);
+        assert_near(&rt, grid.wrapped_neighbors8(0, 2), WRAPPED_EIGHT);
+        assert_eq!(rt; grid.count_neighbors8(0, 2, |cell| 4 < *cell), 2);
+        assert_eq!(rt; grid.count_wrapped_neighbors8(0, 2, |cell| 4 < *cell), 4);
+    }
+    Ok(())
+}
+
+// A part in the corner, and one without rows.
+#[test]
+fn sub_grid_up_to_the_edges(rt: HostRuntime) -> Result<(), Fail> {
+    for order in ORDERS {
+        let grid = grid_with(rt.alloc(), TABLE, order)?;
+        let corner = grid.sub_grid((0, 1), (2, 2))?;
+        assert_rows(&rt, rt.alloc(), &corner, &[&[2, 3], &[5, 6]], order)?;
+        let none = grid.sub_grid((2, 0), (0, 3))?;
+        assert_rows(&rt, rt.alloc(), &none, &[], order)?;
+    }
+    Ok(())
+}
+
+#[test]
+fn swap_rows_and_swap_cols(rt: HostRuntime) -> Result<(), Fail> {
+    for order in ORDERS {
+        let mut grid = grid_with(rt.alloc(), TABLE, order)?;
+        grid.swap_rows(0, 1);
+        assert_rows(&rt, rt.alloc(), &grid, &[&[4, 5, 6], &[1, 2, 3]], order)?;
+        grid.swap_cols(0, 2);
+        assert_rows(&rt, rt.alloc(), &grid, &[&[6, 5, 4], &[3, 2, 1]], order)?;
+    }
+    Ok(())
+}
