@@ -34,9 +34,9 @@ fn next_layer(alloc: Global, layer: &Vec<Cells>) -> Result<Vec<Cells>, AllocErro
 // The least number of swaps after which the cells begin with these. Five bring any six to their places.
 fn least_swaps(alloc: Global, before: Cells, after: &[u32]) -> Result<Option<u128>, AllocError> {
     let mut layer = vec![in alloc; before]?;
-    for swaps in 0..6u128 {
+    for swaps in 0..6u64 {
         if layer.iter().any(|cells| cells.starts_with(after)) {
-            return Ok(Some(swaps));
+            return Ok(Some(u128::from(swaps)));
         }
         layer = next_layer(alloc, &layer)?;
     }
