@@ -17,7 +17,7 @@ use Rattle.grid.proofs.EditSizeLemmas.{cols-take, IsTable-take}
 use Rattle.grid_least.specs.Least.{HasDifferentCells, IsLeast}
 use Rattle.grid_least.proofs.OriginLemmas.{origin, makes}
 use Rattle.grid_least.proofs.PigeonLemmas.{IsAlone}
-use Rattle.grid_least.proofs.PassLemmas.{cut, line_before}
+use Rattle.grid_least.proofs.PassLemmas.{IsCut, cut, line_before}
 use Rattle.grid_least.proofs.ChainLemmas.{least_by_chain}
 
 -- the row that row r of the table after comes from
@@ -99,6 +99,28 @@ from_within n i k rest y lt =
     let before = line_before (rest + k) c.i (skip i k c.j) n 0 c.li (skip_below i k rest c.j c.lj) in
     omega arith
 
+-- p lines of rest + k items each lose k of them, those from i on
+module _ {T : Type 0} (xs ys : List T) (p i k rest : ℕ) (some : 0 < k) (le : i ≤ rest) (lines : 0 < p) (lx : length xs ≡ p * (rest + k)) (ly : length ys ≡ p * rest) (left : (c r : ℕ) → c < p → r < rest → slice_get ys (c * rest + r) ≡ slice_get xs (c * (rest + k) + skip i k r)) (alone : (c r : ℕ) → c < p → r < rest → IsAlone xs (c * (rest + k) + skip i k r)) where
+  came : (y c r : ℕ) → y ≡ c * rest + r → r < rest → c * (rest + k) + skip i k r ≡ from i k rest y
+  came y c r is lt = sym (from_at i k rest c r lt) ∙ ap (from i k rest) (sym is)
+
+  lines_are_least : IsLeast (p * rest - i) xs ys
+  lines_are_least =
+      let one : 1 * rest ≤ p * rest = mul-le-mul_right rest lines in
+      least_by_chain i (p * rest - i) (λ x. from i k rest (i + x))
+      (record {
+        later = λ x lt. from_later p i k rest (i + x) some (omega arith) (omega arith);
+        rising = λ x y lt in_all. from_rising p i k rest (i + x) (i + y) (omega arith) (omega arith);
+      })
+      xs ys (omega arith) (omega arith) (λ x lt. let w = from_within p i k rest (i + x) (omega arith) in omega arith)
+      (λ y lt.
+      ap (slice_get ys) (omega arith)
+      ∙ (left 0 y lines (omega arith) ∙ ap (slice_get xs) (ap (λ r. 0 * (rest + k) + r) (skip_before i k y lt) ∙ omega arith)))
+      (λ x lt.
+      let c = cut p rest (i + x) (omega arith) in
+      ap (slice_get ys) c.is ∙ (left c.i c.j c.li c.lj ∙ ap (slice_get xs) (came (i + x) c.i c.j c.is c.lj)))
+      (λ x lt. let c = cut p rest (i + x) (omega arith) in subst (IsAlone xs) (came (i + x) c.i c.j c.is c.lj) (alone c.i c.j c.li c.lj))
+
 -- the cells of all rows but those from i on, k of them, rest rows, are like no other cell
 pub record AreAlone {T : Type 0} (t : List (List T)) (i k rest : ℕ) : Type 0 where
   pub alone : (r c x y : ℕ) → r < rest → c < col_count t → InRange t x y → cell t x y ≡ cell t (skip i k r) c → (x ≡ skip i k r) × (y ≡ c)
@@ -136,92 +158,63 @@ module _ {T : Type 0} (t : List (List T)) (h : IsTable t) (i k rest : ℕ) (d : 
       (λ more. len ∙ (ap (λ x. x * col_count (without_rows i k t)) rows_left ∙ ap (λ x. rest * x) (cols_left (omega arith))))
       (cases_lt rest 1)
 
-  -- the place of a cell that stays
-  pub alone_at : (o : Order) (r c x : ℕ) → r < rest → c < col_count t → place o (row_count t) (col_count t) (skip i k r) c ≡ x → IsAlone (storage o t) x
-  alone_at o r c x lr lc at j lj e =
+  -- a cell that stays
+  pub alone_at : (o : Order) (r c : ℕ) → r < rest → c < col_count t → IsAlone (storage o t) (place o (row_count t) (col_count t) (skip i k r) c)
+  alone_at o r c lr lc j lj e =
       let below = skip_below i k rest r lr in
       let p = has_place o (row_count t) (col_count t) j (omega (arith, length-storage o t h)) in
       let same = d.alone r c p.r p.c lr lc (p.lr, p.lc)
       (sym (get-storage o t p.r p.c h p.lr p.lc)
-      ∙ (ap (slice_get (storage o t)) p.is ∙ (e ∙ (ap (slice_get (storage o t)) (sym at) ∙ get-storage o t (skip i k r) c h (omega arith) lc)))) in
+      ∙ (ap (slice_get (storage o t)) p.is ∙ (e ∙ get-storage o t (skip i k r) c h (omega arith) lc))) in
       sym p.is
-      ∙ (ap (λ y. place o (row_count t) (col_count t) y p.c) same.0
-      ∙ (ap (place o (row_count t) (col_count t) (skip i k r)) same.1 ∙ at))
+      ∙ (ap (λ y. place o (row_count t) (col_count t) y p.c) same.0 ∙ ap (place o (row_count t) (col_count t) (skip i k r)) same.1)
+
+  -- the rows of a row-major storage are one line of it, which loses k rows of n cells
+  in_line : (n r c : ℕ) → c < n → skip (i * n) (k * n) (r * n + c) ≡ skip i k r * n + c
+  in_line n r c lt =
+      ⊎_elim (λ low.
+      let before = line_before n r c i 0 low lt in
+      skip_before (i * n) (k * n) (r * n + c) (omega arith) ∙ ap (λ x. x * n + c) (sym (skip_before i k r low)))
+      (λ high.
+      let after = mul-le-mul_right n high in
+      skip_after (i * n) (k * n) (r * n + c) (omega arith) ∙ (omega arith ∙ ap (λ x. x * n + c) (sym (skip_after i k r high))))
+      (cases_lt r i)
+
+  -- the place of a cell in that one line, before and after
+  there : (n z y : ℕ) → z < 1 → (c : IsCut rest n y) → skip i k c.i * n + c.j ≡ z * (rest * n + k * n) + skip (i * n) (k * n) y
+  there n z y lz c =
+      let none : z ≡ 0 = omega arith in
+      sym (ap (λ x. x * (rest * n + k * n) + skip (i * n) (k * n) y) none
+      ∙ (omega arith ∙ (ap (skip (i * n) (k * n)) c.is ∙ in_line n c.i c.j c.lj)))
+
+  here : (n z y : ℕ) → z < 1 → (c : IsCut rest n y) → z * (rest * n) + y ≡ c.i * n + c.j
+  here n z y lz c = let none : z ≡ 0 = omega arith in ap (λ x. x * (rest * n) + y) none ∙ (omega arith ∙ c.is)
 
   pub taken_is_least : (o : Order) → IsLeast (rows_taken_shift o (row_count t) (col_count t) i k) (storage o t) (storage o (without_rows i k t))
   taken_is_least RowMajor =
       let n = col_count t in
-      let gone : row_count t - i - k ≡ rest - i = omega arith in
-      let parts : i * n + (rest - i) * n ≡ rest * n =
-      let e : i + (rest - i) ≡ rest = omega arith in
-      let f : (i + (rest - i)) * n ≡ rest * n = ap (λ x. x * n) e in omega arith in
-      let all : length (storage RowMajor t) ≡ (rest + k) * n = length-storage RowMajor t h ∙ ap (λ x. x * n) whole in
-      subst (λ x. IsLeast (x * n) (storage RowMajor t) (storage RowMajor (without_rows i k t))) (sym gone)
-      (least_by_chain (i * n) ((rest - i) * n) (λ x. (k + i) * n + x)
-      (record {
-        later = λ x lt.
-            let c = cut (rest - i) n x lt in
-            let lj = c.lj in
-            let wide : 1 ≤ n = omega arith in
-            let more = mul-le-mul_right n some in
-            omega arith;
-        rising = λ x y lt in_all. omega arith;
-      })
-      (storage RowMajor t) (storage RowMajor (without_rows i k t)) (length_left RowMajor ∙ sym parts) (omega arith)
-      (λ x lt. omega arith)
-      (λ y lt.
-      let c = cut i n y lt in
-      let li = c.li in
-      ap (slice_get (storage RowMajor (without_rows i k t))) c.is
-      ∙ (cell_left RowMajor c.i c.j (omega arith) c.lj
-      ∙ ap (slice_get (storage RowMajor t)) (ap (λ r. r * n + c.j) (skip_before i k c.i c.li) ∙ sym c.is)))
-      (λ x lt.
-      let c = cut (rest - i) n x lt in
-      let li = c.li in
-      let is = c.is in
-      let here : i * n + x ≡ (i + c.i) * n + c.j = omega arith in
-      let there : (k + (i + c.i)) * n + c.j ≡ (k + i) * n + x = omega arith in
-      ap (slice_get (storage RowMajor (without_rows i k t))) here
-      ∙ (cell_left RowMajor (i + c.i) c.j (omega arith) c.lj
-      ∙ ap (slice_get (storage RowMajor t)) (ap (λ r. r * n + c.j) (skip_after i k (i + c.i) (omega arith)) ∙ there)))
-      (λ x lt.
-      let c = cut (rest - i) n x lt in
-      let li = c.li in
-      let is = c.is in
-      let there : (k + (i + c.i)) * n + c.j ≡ (k + i) * n + x = omega arith in
-      alone_at RowMajor (i + c.i) c.j ((k + i) * n + x) (omega arith) c.lj
-      (ap (λ r. r * n + c.j) (skip_after i k (i + c.i) (omega arith)) ∙ there)))
+      let wide : 1 ≤ n = h.nonempty 0 (omega arith) in
+      let e : (row_count t - i - k) + i ≡ rest = omega arith in
+      let f : ((row_count t - i - k) + i) * n ≡ rest * n = ap (λ x. x * n) e in
+      let cost : 1 * (rest * n) - i * n ≡ (row_count t - i - k) * n = omega arith in
+      subst (λ x. IsLeast x (storage RowMajor t) (storage RowMajor (without_rows i k t))) cost
+      (lines_are_least (storage RowMajor t) (storage RowMajor (without_rows i k t)) 1 (i * n) (k * n) (rest * n)
+      (omega (arith, mul-le-mul_right n some)) (mul-le-mul_right n le) (omega arith)
+      (length-storage RowMajor t h ∙ (ap (λ x. x * n) whole ∙ omega arith)) (length_left RowMajor ∙ omega arith)
+      (λ z y lz ly.
+      let c = cut rest n y ly in
+      ap (slice_get (storage RowMajor (without_rows i k t))) (here n z y lz c)
+      ∙ (cell_left RowMajor c.i c.j c.li c.lj ∙ ap (slice_get (storage RowMajor t)) (there n z y lz c)))
+      (λ z y lz ly. let c = cut rest n y ly in subst (IsAlone (storage RowMajor t)) (there n z y lz c) (alone_at RowMajor c.i c.j c.li c.lj)))
   taken_is_least ColumnMajor =
       let n = col_count t in
-      let less : row_count t - k ≡ rest = omega arith in
+      let less : rest ≡ row_count t - k = omega arith in
       let wide : 1 ≤ n = h.nonempty 0 (omega arith) in
-      let rest_in : 1 * rest ≤ n * rest = mul-le-mul_right rest wide in
-      let parts : i + (n * rest - i) ≡ rest * n = omega (arith, mul_comm n rest) in
-      let all : length (storage ColumnMajor t) ≡ n * (rest + k) = length-storage ColumnMajor t h ∙ (ap (λ x. x * n) whole ∙ mul_comm (rest + k) n) in
-      subst (λ x. IsLeast (n * x - i) (storage ColumnMajor t) (storage ColumnMajor (without_rows i k t))) (sym less)
-      (least_by_chain i (n * rest - i) (λ x. from i k rest (i + x))
-      (record {
-        later = λ x lt. from_later n i k rest (i + x) some (omega arith) (omega arith);
-        rising = λ x y lt in_all. from_rising n i k rest (i + x) (i + y) (omega arith) (omega arith);
-      })
-      (storage ColumnMajor t) (storage ColumnMajor (without_rows i k t)) (length_left ColumnMajor ∙ sym parts) (omega arith)
-      (λ x lt. let w = from_within n i k rest (i + x) (omega arith) in omega arith)
-      (λ y lt.
-      let here : y ≡ 0 * rest + y = omega arith in
-      let there : 0 * row_count t + y ≡ y = omega arith in
-      ap (slice_get (storage ColumnMajor (without_rows i k t))) here
-      ∙ (cell_left ColumnMajor y 0 (omega arith) (omega arith)
-      ∙ ap (slice_get (storage ColumnMajor t)) (ap (λ r. 0 * row_count t + r) (skip_before i k y lt) ∙ there)))
-      (λ x lt.
-      let c = cut n rest (i + x) (omega arith) in
-      ap (slice_get (storage ColumnMajor (without_rows i k t))) c.is
-      ∙ (cell_left ColumnMajor c.j c.i c.lj c.li
-      ∙ ap (slice_get (storage ColumnMajor t))
-      (ap (λ m. c.i * m + skip i k c.j) whole ∙ (sym (from_at i k rest c.i c.j c.lj) ∙ ap (from i k rest) (sym c.is)))))
-      (λ x lt.
-      let c = cut n rest (i + x) (omega arith) in
-      alone_at ColumnMajor c.j c.i (from i k rest (i + x)) c.lj c.li
-      (ap (λ m. c.i * m + skip i k c.j) whole ∙ (sym (from_at i k rest c.i c.j c.lj) ∙ ap (from i k rest) (sym c.is)))))
+      subst (λ x. IsLeast (n * x - i) (storage ColumnMajor t) (storage ColumnMajor (without_rows i k t))) less
+      (lines_are_least (storage ColumnMajor t) (storage ColumnMajor (without_rows i k t)) n i k rest some le wide
+      (length-storage ColumnMajor t h ∙ (ap (λ x. x * n) whole ∙ mul_comm (rest + k) n)) (length_left ColumnMajor ∙ mul_comm rest n)
+      (λ c r lc lr. cell_left ColumnMajor r c lr lc ∙ ap (λ m. slice_get (storage ColumnMajor t) (c * m + skip i k r)) whole)
+      (λ c r lc lr. subst (λ m. IsAlone (storage ColumnMajor t) (c * m + skip i k r)) whole (alone_at ColumnMajor r c lr lc)))
 
 -- nothing is done
 pub none_is_least : {T : Type 0} (xs ys : List T) → ys ≡ xs → IsLeast 0 xs ys

@@ -1,5 +1,5 @@
 -- Padding is a delete backwards: the swaps that take the new rows out again, in opposite order, put them in.
-use Rattle.std.proofs.Common.{◌≡◌, ℕ, ◌+◌, ◌-◌, ◌*◌, ◌<◌, ◌≤◌, ◌⊎◌, inl, inr, ⊎_elim, Some, List, length, replicate, refl, sym, ◌∙◌, ap, subst, arith}
+use Rattle.std.proofs.Common.{◌≡◌, ℕ, ◌+◌, ◌-◌, ◌*◌, ◌<◌, ◌≤◌, ◌⊎◌, inl, inr, ⊎_elim, Some, List, length, replicate, sym, ◌∙◌, ap, subst, arith}
 use Rattle.std.specs.List.{slice_get}
 use Rattle.std.proofs.lemmas.List.{length-append, length-replicate, get_or-replicate}
 use Rattle.std.proofs.lemmas.Option.{slice_get-get_or}
@@ -178,7 +178,7 @@ module _ {T : Type 0} (t : List (List T)) (h : IsTable t) (u : HasDifferentCells
       let lc : p.c < col_count padded = omega (arith, p.lc, cols_padded) in
       let below = skip_below i k (row_count t) p.r p.lr in (
         place o (row_count padded) (col_count padded) (skip i k p.r) p.c,
-        alone_at padded table_padded i k (row_count t) alone_padded some le rows_padded o p.r p.c _ p.lr lc refl,
+        alone_at padded table_padded i k (row_count t) alone_padded some le rows_padded o p.r p.c p.lr lc,
         get-storage o padded (skip i k p.r) p.c table_padded (omega (arith, rows_padded)) lc
             ∙ (ap (λ v. slice_get v p.c) (row_old p.r)
             ∙ (sym (get-storage o t p.r p.c h p.lr p.lc) ∙ ap (slice_get (storage o t)) p.is)),
