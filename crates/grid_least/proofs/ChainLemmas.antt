@@ -1,14 +1,11 @@
 -- Lists whose items from a place on come from later places, in their order: as many swaps as such items bring them
 -- there, and no fewer do.
-use Rattle.std.proofs.Common.{◌≡◌, ℕ, zero, suc, ◌+◌, ◌-◌, ◌<◌, ◌≤◌, List, [], ◌∷◌, length, take, refl, sym, ◌∙◌, ap, arith, ⊎_elim}
+use Rattle.std.proofs.Common.{◌≡◌, ℕ, zero, suc, ◌+◌, ◌-◌, ◌<◌, ◌≤◌, List, [], ◌∷◌, length, refl, sym, ◌∙◌, ap, arith, ⊎_elim}
 use Rattle.std.specs.List.{slice_get}
 use Rattle.std.proofs.lemmas.Bool.{cases_lt}
-use Rattle.std.proofs.lemmas.List.{length-take-le}
-use Rattle.grid_base.proofs.TableLemmas.{same_cells}
-use Rattle.grid_base.proofs.StorageLemmas.{get-take}
-use Rattle.grid_least.specs.Least.{AreWithin, swapped_all, IsLeastToBring}
-use Rattle.grid_least.proofs.OriginLemmas.{turned, turned_first, turned_other, origin, length-swapped_all, get-swapped_all}
-use Rattle.grid_least.proofs.MirrorLemmas.{HasUnlikeItems, at_least}
+use Rattle.grid_least.specs.Least.{AreWithin, IsLeast}
+use Rattle.grid_least.proofs.OriginLemmas.{turned, turned_first, turned_other, origin, makes}
+use Rattle.grid_least.proofs.PigeonLemmas.{IsAlone, at_least}
 
 -- n items come to the places from a on, from later places in their order
 pub record IsChain (a n : ℕ) (g : ℕ → ℕ) : Type 0 where
@@ -57,34 +54,23 @@ module _ (a n : ℕ) (g : ℕ → ℕ) (h : IsChain a n g) where
       ∙ (turned_first (a + s) (g s) (a + x) (omega arith) ∙ ap g (sym is)))
       (cases_lt s x)
 
-  pub least_by_chain : {T : Type 0} (xs ys : List T) → length ys ≡ a + n → a + n ≤ length xs → ((x : ℕ) → x < n → g x < length xs) → ((k : ℕ) → k < a → slice_get ys k ≡ slice_get xs k) → ((x : ℕ) → x < n → slice_get ys (a + x) ≡ slice_get xs (g x)) → HasUnlikeItems xs → IsLeastToBring n xs ys
-  least_by_chain xs ys ly lx within front back d =
+  pub least_by_chain : {T : Type 0} (xs ys : List T) → length ys ≡ a + n → a + n ≤ length xs → ((x : ℕ) → x < n → g x < length xs) → ((k : ℕ) → k < a → slice_get ys k ≡ slice_get xs k) → ((x : ℕ) → x < n → slice_get ys (a + x) ≡ slice_get xs (g x)) → ((x : ℕ) → x < n → IsAlone xs (g x)) → IsLeast n xs ys
+  least_by_chain xs ys ly lx within front behind alone =
       let ps = chain a g 0 n in
-      let inside : AreWithin (length xs) ps = chain_within a g 0 n (length xs) (λ x p q. omega arith) (λ x p q. within x (omega arith)) in
-      let long = length-swapped_all ps xs in
       record {
         reached = (
           ps,
           length-chain a g 0 n,
-          record {
-            within = inside;
-            front = same_cells (take (length ys) (swapped_all ps xs)) ys (length-take-le (length ys) (swapped_all ps xs) (omega arith))
-                (λ k lt.
-                let short = length-take-le (length ys) (swapped_all ps xs) (omega arith) in
-                get-take (length ys) (swapped_all ps xs) k (omega arith)
-                ∙ (get-swapped_all ps xs k inside
-                ∙ ⊎_elim (λ low. ap (slice_get xs) (chain_before 0 n k (omega arith) (omega arith)) ∙ sym (front k low))
-                (λ high.
-                let is : a + (k - a) ≡ k = omega arith in
-                ap (λ v. slice_get xs (origin ps v)) (sym is)
-                ∙ (ap (slice_get xs) (chain_at 0 n (k - a) (omega arith) (omega arith) (omega arith))
-                ∙ (sym (back (k - a) (omega arith)) ∙ ap (slice_get ys) is)))
-                (cases_lt k a)));
-          },
+          makes ps xs ys (chain_within a g 0 n (length xs) (λ x p q. omega arith) (λ x p q. within x (omega arith))) (omega arith)
+              (λ k lt.
+              ⊎_elim (λ low. ap (slice_get xs) (chain_before 0 n k (omega arith) (omega arith)) ∙ sym (front k low))
+              (λ high.
+              let is : a + (k - a) ≡ k = omega arith in
+              ap (λ v. slice_get xs (origin ps v)) (sym is)
+              ∙ (ap (slice_get xs) (chain_at 0 n (k - a) (omega arith) (omega arith) (omega arith))
+              ∙ (sym (behind (k - a) (omega arith)) ∙ ap (slice_get ys) is)))
+              (cases_lt k a)),
         );
-        least = λ qs b.
-            at_least xs (swapped_all qs xs) qs n (λ x. a + x) g d (record { within = b.within; swapped = refl })
-            (record { unlike = λ x y p q e. omega arith }) (λ x lt. h.later x lt) within
-            (λ x lt.
-            sym (get-take (length ys) (swapped_all qs xs) (a + x) (omega arith)) ∙ (ap (λ v. slice_get v (a + x)) b.front ∙ back x lt));
+        least = λ qs m. at_least xs ys qs n (λ x. a + x) g alone m (record { different = λ x y p q e. omega arith }) (λ x lt. h.later x lt)
+            within (λ x lt. omega arith) behind;
       }

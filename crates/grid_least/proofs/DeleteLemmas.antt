@@ -1,35 +1,34 @@
--- The cells that stay and move at a delete of rows or columns are the least number of swaps that bring all cells that
--- stay to their places.
-use Rattle.std.proofs.Common.{Result, Ok, Err, OnOk, ◌++◌, ◌≡◌, ℕ, ◌+◌, ◌-◌, ◌*◌, ◌/◌, ◌%◌, ◌<◌, ◌≤◌, cond, ltb, eqb, List, [], length, take, drop, refl, sym, ◌∙◌, ap, subst, arith, ⊎_elim}
+-- The cells that stay and move at a delete of rows are the least number of swaps that bring all that stay to their places.
+use Rattle.std.proofs.Common.{◌++◌, ◌≡◌, ℕ, ◌+◌, ◌-◌, ◌*◌, ◌/◌, ◌%◌, ◌<◌, ◌≤◌, cond, ltb, eqb, List, [], length, take, drop, refl, sym, ◌∙◌, ap, subst, arith, ⊎_elim}
 use Rattle.std.specs.List.{slice_get}
-use Rattle.std.proofs.lemmas.List.{take-append-drop, take_all}
+use Rattle.std.proofs.lemmas.List.{take-append-drop}
 use Rattle.std.proofs.lemmas.Nat.{div-mul-add, mod-mul-add}
 use Rattle.std.proofs.lemmas.Bool.{cases_lt, cases_eq, cond-true, cond-false, lt-ltb, le-ltb, eq-eqb, ne_eqb}
 use Rattle.std.proofs.Math.Nat.{mul_comm, mul-le-mul_right}
 use Rattle.grid_base.specs.declared.flat.order.Order.{Order}
 use Rattle.grid_base.specs.declared.flat.order.Order.TheVariants.{RowMajor, ColumnMajor}
-use Rattle.grid_base.specs.Table.{row, row_count, col_count, IsTable}
+use Rattle.grid_base.specs.Table.{row, row_count, col_count, cell, InRange, IsTable}
 use Rattle.grid_base.specs.Order.{storage, place}
-use Rattle.grid_base.proofs.StorageLemmas.{length-storage, get-storage}
+use Rattle.grid_base.proofs.StorageLemmas.{length-storage, get-storage, has_place}
 use Rattle.grid.specs.Edits.{without_rows}
 use Rattle.grid.specs.Shift.{rows_taken_shift, delete_rows_shift}
 use Rattle.grid.proofs.RowEditLemmas.{row-take_before, row-take_after, rows-take}
 use Rattle.grid.proofs.EditSizeLemmas.{cols-take, IsTable-take}
-use Rattle.grid_base.specs.Tally.{saturating_count}
-use Rattle.grid_least.specs.Least.{HasUnlikeCells, IsLeastToBring, GrewByLeastToBring}
-use Rattle.grid_least.proofs.PassLemmas.{cut, line_before}
+use Rattle.grid_least.specs.Least.{HasDifferentCells, IsLeast}
+use Rattle.grid_least.proofs.OriginLemmas.{origin, makes}
+use Rattle.grid_least.proofs.PigeonLemmas.{IsAlone}
+use Rattle.grid_least.proofs.PassLemmas.{IsCut, cut, line_before}
 use Rattle.grid_least.proofs.ChainLemmas.{least_by_chain}
-use Rattle.grid_least.proofs.ImageLemmas.{unlike_storage}
 
 -- the row that row r of the table after comes from
-skip : ℕ → ℕ → ℕ → ℕ
+pub skip : ℕ → ℕ → ℕ → ℕ
 skip i k r = cond (ltb r i) r (k + r)
 
-skip_before : (i k r : ℕ) → r < i → skip i k r ≡ r
+pub skip_before : (i k r : ℕ) → r < i → skip i k r ≡ r
 unfolding skip
 skip_before i k r lt = cond-true (ltb r i) r (k + r) (lt-ltb r i lt)
 
-skip_after : (i k r : ℕ) → i ≤ r → skip i k r ≡ k + r
+pub skip_after : (i k r : ℕ) → i ≤ r → skip i k r ≡ k + r
 unfolding skip
 skip_after i k r le = cond-false (ltb r i) r (k + r) (le-ltb r i le)
 
@@ -43,7 +42,7 @@ from_at i k rest c r lt =
     ap (λ x. x * (rest + k) + skip i k ((c * rest + r) % rest)) (div-mul-add c rest r lt)
     ∙ ap (λ x. c * (rest + k) + skip i k x) (mod-mul-add c rest r lt)
 
-skip_below : (i k rest r : ℕ) → r < rest → skip i k r < rest + k
+pub skip_below : (i k rest r : ℕ) → r < rest → skip i k r < rest + k
 skip_below i k rest r lt =
     ⊎_elim (λ low. let e = skip_before i k r low in omega arith) (λ high. let e = skip_after i k r high in omega arith) (cases_lt r i)
 
@@ -100,10 +99,33 @@ from_within n i k rest y lt =
     let before = line_before (rest + k) c.i (skip i k c.j) n 0 c.li (skip_below i k rest c.j c.lj) in
     omega arith
 
-module _ {T : Type 0} (t : List (List T)) (h : IsTable t) (d : HasUnlikeCells t) (i k rest : ℕ) (some : 0 < k) (le : i ≤ rest) (whole : row_count t ≡ rest + k) where
-  left : List (List T)
-  left = without_rows i k t
+-- p lines of rest + k items each lose k of them, those from i on
+module _ {T : Type 0} (xs ys : List T) (p i k rest : ℕ) (some : 0 < k) (le : i ≤ rest) (lines : 0 < p) (lx : length xs ≡ p * (rest + k)) (ly : length ys ≡ p * rest) (left : (c r : ℕ) → c < p → r < rest → slice_get ys (c * rest + r) ≡ slice_get xs (c * (rest + k) + skip i k r)) (alone : (c r : ℕ) → c < p → r < rest → IsAlone xs (c * (rest + k) + skip i k r)) where
+  came : (y c r : ℕ) → y ≡ c * rest + r → r < rest → c * (rest + k) + skip i k r ≡ from i k rest y
+  came y c r is lt = sym (from_at i k rest c r lt) ∙ ap (from i k rest) (sym is)
 
+  lines_are_least : IsLeast (p * rest - i) xs ys
+  lines_are_least =
+      let one : 1 * rest ≤ p * rest = mul-le-mul_right rest lines in
+      least_by_chain i (p * rest - i) (λ x. from i k rest (i + x))
+      (record {
+        later = λ x lt. from_later p i k rest (i + x) some (omega arith) (omega arith);
+        rising = λ x y lt in_all. from_rising p i k rest (i + x) (i + y) (omega arith) (omega arith);
+      })
+      xs ys (omega arith) (omega arith) (λ x lt. let w = from_within p i k rest (i + x) (omega arith) in omega arith)
+      (λ y lt.
+      ap (slice_get ys) (omega arith)
+      ∙ (left 0 y lines (omega arith) ∙ ap (slice_get xs) (ap (λ r. 0 * (rest + k) + r) (skip_before i k y lt) ∙ omega arith)))
+      (λ x lt.
+      let c = cut p rest (i + x) (omega arith) in
+      ap (slice_get ys) c.is ∙ (left c.i c.j c.li c.lj ∙ ap (slice_get xs) (came (i + x) c.i c.j c.is c.lj)))
+      (λ x lt. let c = cut p rest (i + x) (omega arith) in subst (IsAlone xs) (came (i + x) c.i c.j c.is c.lj) (alone c.i c.j c.li c.lj))
+
+-- the cells of all rows but those from i on, k of them, rest rows, are like no other cell
+pub record AreAlone {T : Type 0} (t : List (List T)) (i k rest : ℕ) : Type 0 where
+  pub alone : (r c x y : ℕ) → r < rest → c < col_count t → InRange t x y → cell t x y ≡ cell t (skip i k r) c → (x ≡ skip i k r) × (y ≡ c)
+
+module _ {T : Type 0} (t : List (List T)) (h : IsTable t) (i k rest : ℕ) (d : AreAlone t i k rest) (some : 0 < k) (le : i ≤ rest) (whole : row_count t ≡ rest + k) where
   in_rows : i + k ≤ row_count t
   in_rows = omega arith
 
@@ -136,113 +158,92 @@ module _ {T : Type 0} (t : List (List T)) (h : IsTable t) (d : HasUnlikeCells t)
       (λ more. len ∙ (ap (λ x. x * col_count (without_rows i k t)) rows_left ∙ ap (λ x. rest * x) (cols_left (omega arith))))
       (cases_lt rest 1)
 
-  pub taken_is_least : (o : Order) → IsLeastToBring (rows_taken_shift o (row_count t) (col_count t) i k) (storage o t) (storage o (without_rows i k t))
+  -- a cell that stays
+  pub alone_at : (o : Order) (r c : ℕ) → r < rest → c < col_count t → IsAlone (storage o t) (place o (row_count t) (col_count t) (skip i k r) c)
+  alone_at o r c lr lc j lj e =
+      let below = skip_below i k rest r lr in
+      let p = has_place o (row_count t) (col_count t) j (omega (arith, length-storage o t h)) in
+      let same = d.alone r c p.r p.c lr lc (p.lr, p.lc)
+      (sym (get-storage o t p.r p.c h p.lr p.lc)
+      ∙ (ap (slice_get (storage o t)) p.is ∙ (e ∙ get-storage o t (skip i k r) c h (omega arith) lc))) in
+      sym p.is
+      ∙ (ap (λ y. place o (row_count t) (col_count t) y p.c) same.0 ∙ ap (place o (row_count t) (col_count t) (skip i k r)) same.1)
+
+  -- the rows of a row-major storage are one line of it, which loses k rows of n cells
+  in_line : (n r c : ℕ) → c < n → skip (i * n) (k * n) (r * n + c) ≡ skip i k r * n + c
+  in_line n r c lt =
+      ⊎_elim (λ low.
+      let before = line_before n r c i 0 low lt in
+      skip_before (i * n) (k * n) (r * n + c) (omega arith) ∙ ap (λ x. x * n + c) (sym (skip_before i k r low)))
+      (λ high.
+      let after = mul-le-mul_right n high in
+      skip_after (i * n) (k * n) (r * n + c) (omega arith) ∙ (omega arith ∙ ap (λ x. x * n + c) (sym (skip_after i k r high))))
+      (cases_lt r i)
+
+  -- the place of a cell in that one line, before and after
+  there : (n z y : ℕ) → z < 1 → (c : IsCut rest n y) → skip i k c.i * n + c.j ≡ z * (rest * n + k * n) + skip (i * n) (k * n) y
+  there n z y lz c =
+      let none : z ≡ 0 = omega arith in
+      sym (ap (λ x. x * (rest * n + k * n) + skip (i * n) (k * n) y) none
+      ∙ (omega arith ∙ (ap (skip (i * n) (k * n)) c.is ∙ in_line n c.i c.j c.lj)))
+
+  here : (n z y : ℕ) → z < 1 → (c : IsCut rest n y) → z * (rest * n) + y ≡ c.i * n + c.j
+  here n z y lz c = let none : z ≡ 0 = omega arith in ap (λ x. x * (rest * n) + y) none ∙ (omega arith ∙ c.is)
+
+  pub taken_is_least : (o : Order) → IsLeast (rows_taken_shift o (row_count t) (col_count t) i k) (storage o t) (storage o (without_rows i k t))
   taken_is_least RowMajor =
       let n = col_count t in
-      let gone : row_count t - i - k ≡ rest - i = omega arith in
-      let parts : i * n + (rest - i) * n ≡ rest * n =
-      let e : i + (rest - i) ≡ rest = omega arith in
-      let f : (i + (rest - i)) * n ≡ rest * n = ap (λ x. x * n) e in omega arith in
-      let all : length (storage RowMajor t) ≡ (rest + k) * n = length-storage RowMajor t h ∙ ap (λ x. x * n) whole in
-      subst (λ x. IsLeastToBring (x * n) (storage RowMajor t) (storage RowMajor (without_rows i k t))) (sym gone)
-      (least_by_chain (i * n) ((rest - i) * n) (λ x. (k + i) * n + x)
-      (record {
-        later = λ x lt.
-            let c = cut (rest - i) n x lt in
-            let lj = c.lj in
-            let wide : 1 ≤ n = omega arith in
-            let more = mul-le-mul_right n some in
-            omega arith;
-        rising = λ x y lt in_all. omega arith;
-      })
-      (storage RowMajor t) (storage RowMajor (without_rows i k t)) (length_left RowMajor ∙ sym parts) (omega arith)
-      (λ x lt. omega arith)
-      (λ y lt.
-      let c = cut i n y lt in
-      let li = c.li in
-      ap (slice_get (storage RowMajor (without_rows i k t))) c.is
-      ∙ (cell_left RowMajor c.i c.j (omega arith) c.lj
-      ∙ ap (slice_get (storage RowMajor t)) (ap (λ r. r * n + c.j) (skip_before i k c.i c.li) ∙ sym c.is)))
-      (λ x lt.
-      let c = cut (rest - i) n x lt in
-      let li = c.li in
-      let is = c.is in
-      let here : i * n + x ≡ (i + c.i) * n + c.j = omega arith in
-      let there : (k + (i + c.i)) * n + c.j ≡ (k + i) * n + x = omega arith in
-      ap (slice_get (storage RowMajor (without_rows i k t))) here
-      ∙ (cell_left RowMajor (i + c.i) c.j (omega arith) c.lj
-      ∙ ap (slice_get (storage RowMajor t)) (ap (λ r. r * n + c.j) (skip_after i k (i + c.i) (omega arith)) ∙ there)))
-      (unlike_storage RowMajor t h d))
+      let wide : 1 ≤ n = h.nonempty 0 (omega arith) in
+      let e : (row_count t - i - k) + i ≡ rest = omega arith in
+      let f : ((row_count t - i - k) + i) * n ≡ rest * n = ap (λ x. x * n) e in
+      let cost : 1 * (rest * n) - i * n ≡ (row_count t - i - k) * n = omega arith in
+      subst (λ x. IsLeast x (storage RowMajor t) (storage RowMajor (without_rows i k t))) cost
+      (lines_are_least (storage RowMajor t) (storage RowMajor (without_rows i k t)) 1 (i * n) (k * n) (rest * n)
+      (omega (arith, mul-le-mul_right n some)) (mul-le-mul_right n le) (omega arith)
+      (length-storage RowMajor t h ∙ (ap (λ x. x * n) whole ∙ omega arith)) (length_left RowMajor ∙ omega arith)
+      (λ z y lz ly.
+      let c = cut rest n y ly in
+      ap (slice_get (storage RowMajor (without_rows i k t))) (here n z y lz c)
+      ∙ (cell_left RowMajor c.i c.j c.li c.lj ∙ ap (slice_get (storage RowMajor t)) (there n z y lz c)))
+      (λ z y lz ly. let c = cut rest n y ly in subst (IsAlone (storage RowMajor t)) (there n z y lz c) (alone_at RowMajor c.i c.j c.li c.lj)))
   taken_is_least ColumnMajor =
       let n = col_count t in
-      let less : row_count t - k ≡ rest = omega arith in
+      let less : rest ≡ row_count t - k = omega arith in
       let wide : 1 ≤ n = h.nonempty 0 (omega arith) in
-      let rest_in : 1 * rest ≤ n * rest = mul-le-mul_right rest wide in
-      let parts : i + (n * rest - i) ≡ rest * n = omega (arith, mul_comm n rest) in
-      let all : length (storage ColumnMajor t) ≡ n * (rest + k) = length-storage ColumnMajor t h ∙ (ap (λ x. x * n) whole ∙ mul_comm (rest + k) n) in
-      subst (λ x. IsLeastToBring (n * x - i) (storage ColumnMajor t) (storage ColumnMajor (without_rows i k t))) (sym less)
-      (least_by_chain i (n * rest - i) (λ x. from i k rest (i + x))
-      (record {
-        later = λ x lt. from_later n i k rest (i + x) some (omega arith) (omega arith);
-        rising = λ x y lt in_all. from_rising n i k rest (i + x) (i + y) (omega arith) (omega arith);
-      })
-      (storage ColumnMajor t) (storage ColumnMajor (without_rows i k t)) (length_left ColumnMajor ∙ sym parts) (omega arith)
-      (λ x lt. let w = from_within n i k rest (i + x) (omega arith) in omega arith)
-      (λ y lt.
-      let here : y ≡ 0 * rest + y = omega arith in
-      let there : 0 * row_count t + y ≡ y = omega arith in
-      ap (slice_get (storage ColumnMajor (without_rows i k t))) here
-      ∙ (cell_left ColumnMajor y 0 (omega arith) (omega arith)
-      ∙ ap (slice_get (storage ColumnMajor t)) (ap (λ r. 0 * row_count t + r) (skip_before i k y lt) ∙ there)))
-      (λ x lt.
-      let c = cut n rest (i + x) (omega arith) in
-      ap (slice_get (storage ColumnMajor (without_rows i k t))) c.is
-      ∙ (cell_left ColumnMajor c.j c.i c.lj c.li
-      ∙ ap (slice_get (storage ColumnMajor t))
-      (ap (λ m. c.i * m + skip i k c.j) whole ∙ (sym (from_at i k rest c.i c.j c.lj) ∙ ap (from i k rest) (sym c.is)))))
-      (unlike_storage ColumnMajor t h d))
+      subst (λ x. IsLeast (n * x - i) (storage ColumnMajor t) (storage ColumnMajor (without_rows i k t))) less
+      (lines_are_least (storage ColumnMajor t) (storage ColumnMajor (without_rows i k t)) n i k rest some le wide
+      (length-storage ColumnMajor t h ∙ (ap (λ x. x * n) whole ∙ mul_comm (rest + k) n)) (length_left ColumnMajor ∙ mul_comm rest n)
+      (λ c r lc lr. cell_left ColumnMajor r c lr lc ∙ ap (λ m. slice_get (storage ColumnMajor t) (c * m + skip i k r)) whole)
+      (λ c r lc lr. subst (λ m. IsAlone (storage ColumnMajor t) (c * m + skip i k r)) whole (alone_at ColumnMajor r c lr lc)))
 
--- nothing is taken
-none_is_least : {T : Type 0} (xs ys : List T) → ys ≡ xs → IsLeastToBring 0 xs ys
+-- nothing is done
+pub none_is_least : {T : Type 0} (xs ys : List T) → ys ≡ xs → IsLeast 0 xs ys
+unfolding origin
 none_is_least xs ys e =
+    let len = ap length e in
     record {
-      reached = (
-        [],
-        refl,
-        record {
-          within = tt;
-          front = ap (λ v. take (length v) xs) e ∙ (take_all (length xs) xs (omega arith) ∙ sym e);
-        },
-      );
+      reached = ([], refl, makes [] xs ys tt (omega arith) (λ k lt. ap (λ v. slice_get v k) (sym e)));
       least = λ qs b. omega arith;
     }
 
+pub alone_by : {T : Type 0} (t : List (List T)) (i k rest : ℕ) → HasDifferentCells t → row_count t ≡ rest + k → AreAlone t i k rest
+alone_by t i k rest d whole = record {
+  alone = λ r c x y lr lc there e.
+      let below = skip_below i k rest r lr in
+      d.different x y (skip i k r) c there (omega arith, lc) e;
+}
+
 -- rows that are deleted
-pub delete_is_least : {T : Type 0} (o : Order) (t : List (List T)) (i k : ℕ) → IsTable t → HasUnlikeCells t → i + k ≤ row_count t → IsLeastToBring (delete_rows_shift o (row_count t) (col_count t) i k) (storage o t) (storage o (without_rows i k t))
+pub delete_is_least : {T : Type 0} (o : Order) (t : List (List T)) (i k : ℕ) → IsTable t → HasDifferentCells t → i + k ≤ row_count t → IsLeast (delete_rows_shift o (row_count t) (col_count t) i k) (storage o t) (storage o (without_rows i k t))
 delete_is_least o t i k h d within =
     ⊎_elim (λ none.
     let same : i + k ≡ i = omega arith in
     let cost : delete_rows_shift o (row_count t) (col_count t) i k ≡ 0 = cond-true (eqb k 0) 0 _ (eq-eqb k 0 none) in
-    subst (λ x. IsLeastToBring x (storage o t) (storage o (without_rows i k t))) (sym cost)
+    subst (λ x. IsLeast x (storage o t) (storage o (without_rows i k t))) (sym cost)
     (none_is_least (storage o t) (storage o (without_rows i k t)) (ap (storage o) (ap (λ j. take i t ++ drop j t) same ∙ take-append-drop i t))))
     (λ some.
     let cost : delete_rows_shift o (row_count t) (col_count t) i k ≡ rows_taken_shift o (row_count t) (col_count t) i k =
     cond-false (eqb k 0) 0 _ (ne_eqb k 0 some) ∙ cond-false (ltb (row_count t) (i + k)) 0 _ (le-ltb (row_count t) (i + k) within) in
-    subst (λ x. IsLeastToBring x (storage o t) (storage o (without_rows i k t))) (sym cost)
-    (taken_is_least t h d i k (row_count t - k) (omega arith) (omega arith) (omega arith) o))
+    subst (λ x. IsLeast x (storage o t) (storage o (without_rows i k t))) (sym cost)
+    (taken_is_least t h i k (row_count t - k) (alone_by t i k (row_count t - k) d (omega arith)) (omega arith) (omega arith) (omega arith) o))
     (cases_eq k 0)
-
--- the count of a delete of rows
-pub grew_by_delete : {T : Type 0} (o after_o : Order) (t new : List (List T)) (i k before after : ℕ) → IsTable t → HasUnlikeCells t → i + k ≤ row_count t → new ≡ without_rows i k t → after_o ≡ o → after ≡ saturating_count before (delete_rows_shift o (row_count t) (col_count t) i k) → GrewByLeastToBring before after (storage o t) (storage after_o new)
-grew_by_delete o after_o t new i k before after h d within rows order grew =
-    record {
-      count = delete_rows_shift o (row_count t) (col_count t) i k;
-      least = subst (λ ys. IsLeastToBring (delete_rows_shift o (row_count t) (col_count t) i k) (storage o t) ys)
-          (sym (ap (λ x. storage x new) order ∙ ap (storage o) rows)) (delete_is_least o t i k h d within);
-      grew = grew;
-    }
-
--- three facts of a result that is Ok give a fourth
-pub on_ok3 : {V E : Type 0} (r : Result V E) {P Q R S : Type 0} → (P → Q → R → S) → OnOk r P → OnOk r Q → OnOk r R → OnOk r S
-on_ok3 (Ok v) f p q r = f p q r
-on_ok3 (Err e) f p q r = p

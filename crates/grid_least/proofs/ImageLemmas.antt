@@ -10,27 +10,27 @@ use Rattle.grid_base.specs.Table.{row_count, col_count, cell, IsTable}
 use Rattle.grid_base.specs.Order.{storage, place, flipped}
 use Rattle.grid_base.specs.Symmetry.{act, order_after, price, image_rows, image_cols, source_row, source_col}
 use Rattle.grid_base.proofs.StorageLemmas.{length-storage, get-storage, has_place}
-use Rattle.grid_base.proofs.ActLemmas.{rows-act, cols-act, cell-act, IsTable-act}
+use Rattle.grid_base.proofs.ActLemmas.{source_within, rows-act, cols-act, cell-act, IsTable-act}
 use Rattle.grid_base.proofs.TableLemmas.{same_cells}
-use Rattle.grid_least.specs.Least.{HasUnlikeCells, IsLeast}
-use Rattle.grid_least.proofs.MirrorLemmas.{HasUnlikeItems, least_by_mirror}
+use Rattle.grid_least.specs.Least.{HasDifferentCells, IsLeast}
+use Rattle.grid_least.proofs.MirrorLemmas.{HasDifferentItems, least_by_mirror}
 use Rattle.grid_least.proofs.PassLemmas.{cut, across, across_at, along, along_at, halves, mirror_across, mirror_along, mirror_whole, mirror_none}
 
--- the items of the storage of a table of unlike cells
-pub unlike_storage : {T : Type 0} (o : Order) (t : List (List T)) → IsTable t → HasUnlikeCells t → HasUnlikeItems (storage o t)
-unlike_storage o t h d =
+-- the items of the storage of a table of different cells
+pub different_storage : {T : Type 0} (o : Order) (t : List (List T)) → IsTable t → HasDifferentCells t → HasDifferentItems (storage o t)
+different_storage o t h d =
     let len = length-storage o t h in
     record {
-      unlike = λ i j p q e.
+      different = λ i j p q e.
           let a = has_place o (row_count t) (col_count t) i (omega arith) in
           let b = has_place o (row_count t) (col_count t) j (omega arith) in
-          let same = d.unlike a.r a.c b.r b.c (a.lr, a.lc) (b.lr, b.lc)
+          let same = d.different a.r a.c b.r b.c (a.lr, a.lc) (b.lr, b.lc)
           (sym (get-storage o t a.r a.c h a.lr a.lc)
           ∙ (ap (slice_get (storage o t)) a.is ∙ (e ∙ (ap (slice_get (storage o t)) (sym b.is) ∙ get-storage o t b.r b.c h b.lr b.lc)))) in
           sym a.is ∙ (ap (λ r. place o (row_count t) (col_count t) r a.c) same.0 ∙ (ap (place o (row_count t) (col_count t) b.r) same.1 ∙ b.is));
     }
 
-module _ {T : Type 0} (xs ys : List T) (d : HasUnlikeItems xs) where
+module _ {T : Type 0} (xs ys : List T) (d : HasDifferentItems xs) where
   lines_flipped : (p q : ℕ) → length xs ≡ p * q → length ys ≡ p * q → ((i j : ℕ) → i < p → j < q → slice_get ys (i * q + j) ≡ slice_get xs ((p - 1 - i) * q + j)) → IsLeast (p / 2 * q) xs ys
   lines_flipped p q lx ly same =
       least_by_mirror (p * q) (p / 2 * q) (across p q) (λ x. x) (mirror_across p q) xs ys lx ly
@@ -65,7 +65,7 @@ opposite_place : (o : Order) (m n r c : ℕ) → r < m → c < n → m * n - 1 -
 opposite_place RowMajor m n r c a b = opposite m n r c a b
 opposite_place ColumnMajor m n r c a b = let e = opposite n m c r b a in omega arith
 
-module _ {T : Type 0} (t : List (List T)) (h : IsTable t) (d : HasUnlikeCells t) (ys : List T) (ly : length ys ≡ row_count t * col_count t) where
+module _ {T : Type 0} (t : List (List T)) (h : IsTable t) (d : HasDifferentCells t) (ys : List T) (ly : length ys ≡ row_count t * col_count t) where
   -- a storage whose cell at each place is that of another place
   abbrev Shows : Order → (ℕ → ℕ) → (ℕ → ℕ) → Type 0
   Shows o f g =
@@ -73,27 +73,27 @@ module _ {T : Type 0} (t : List (List T)) (h : IsTable t) (d : HasUnlikeCells t)
 
   rows_flipped : (o : Order) → Shows o (λ r. row_count t - 1 - r) (λ c. c) → IsLeast (row_count t / 2 * col_count t) (storage o t) ys
   rows_flipped RowMajor same =
-      lines_flipped (storage RowMajor t) ys (unlike_storage RowMajor t h d) (row_count t) (col_count t) (length-storage RowMajor t h) ly
+      lines_flipped (storage RowMajor t) ys (different_storage RowMajor t h d) (row_count t) (col_count t) (length-storage RowMajor t h) ly
       (λ i j p q. same i j p q ∙ sym (get-storage RowMajor t (row_count t - 1 - i) j h (omega arith) q))
   rows_flipped ColumnMajor same =
       subst (λ k. IsLeast k (storage ColumnMajor t) ys) (mul_comm (col_count t) (row_count t / 2))
-      (each_flipped (storage ColumnMajor t) ys (unlike_storage ColumnMajor t h d) (col_count t) (row_count t)
+      (each_flipped (storage ColumnMajor t) ys (different_storage ColumnMajor t h d) (col_count t) (row_count t)
       (length-storage ColumnMajor t h ∙ mul_comm (row_count t) (col_count t)) (ly ∙ mul_comm (row_count t) (col_count t))
       (λ i j p q. same j i q p ∙ sym (get-storage ColumnMajor t (row_count t - 1 - j) i h (omega arith) p)))
 
   cols_flipped : (o : Order) → Shows o (λ r. r) (λ c. col_count t - 1 - c) → IsLeast (row_count t * (col_count t / 2)) (storage o t) ys
   cols_flipped RowMajor same =
-      each_flipped (storage RowMajor t) ys (unlike_storage RowMajor t h d) (row_count t) (col_count t) (length-storage RowMajor t h) ly
+      each_flipped (storage RowMajor t) ys (different_storage RowMajor t h d) (row_count t) (col_count t) (length-storage RowMajor t h) ly
       (λ i j p q. same i j p q ∙ sym (get-storage RowMajor t i (col_count t - 1 - j) h p (omega arith)))
   cols_flipped ColumnMajor same =
       subst (λ k. IsLeast k (storage ColumnMajor t) ys) (mul_comm (col_count t / 2) (row_count t))
-      (lines_flipped (storage ColumnMajor t) ys (unlike_storage ColumnMajor t h d) (col_count t) (row_count t)
+      (lines_flipped (storage ColumnMajor t) ys (different_storage ColumnMajor t h d) (col_count t) (row_count t)
       (length-storage ColumnMajor t h ∙ mul_comm (row_count t) (col_count t)) (ly ∙ mul_comm (row_count t) (col_count t))
       (λ i j p q. same j i q p ∙ sym (get-storage ColumnMajor t j (col_count t - 1 - i) h q (omega arith))))
 
   both_flipped : (o : Order) → Shows o (λ r. row_count t - 1 - r) (λ c. col_count t - 1 - c) → IsLeast (row_count t * col_count t / 2) (storage o t) ys
   both_flipped o same =
-      all_flipped (storage o t) ys (unlike_storage o t h d) (row_count t * col_count t) (length-storage o t h) ly
+      all_flipped (storage o t) ys (different_storage o t h d) (row_count t * col_count t) (length-storage o t h) ly
       (λ k lt.
       let p = has_place o (row_count t) (col_count t) k lt in
       let lr = p.lr in
@@ -105,7 +105,7 @@ module _ {T : Type 0} (t : List (List T)) (h : IsTable t) (d : HasUnlikeCells t)
 
   not_flipped : (o : Order) → Shows o (λ r. r) (λ c. c) → IsLeast 0 (storage o t) ys
   not_flipped o same =
-      none_flipped (storage o t) ys (unlike_storage o t h d) (row_count t * col_count t) (length-storage o t h) ly
+      none_flipped (storage o t) ys (different_storage o t h d) (row_count t * col_count t) (length-storage o t h) ly
       (λ k lt.
       let p = has_place o (row_count t) (col_count t) k lt in
       ap (slice_get ys) (sym p.is) ∙ (same p.r p.c p.lr p.lc ∙ (sym (get-storage o t p.r p.c h p.lr p.lc) ∙ ap (slice_get (storage o t)) p.is)))
@@ -130,7 +130,7 @@ place_across : (o : Order) (m n r c : ℕ) → place (flipped o) n m c r ≡ pla
 place_across RowMajor m n r c = refl
 place_across ColumnMajor m n r c = refl
 
-module _ {T : Type 0} (o : Order) (t : List (List T)) (h : IsTable t) (d : HasUnlikeCells t) where
+module _ {T : Type 0} (o : Order) (t : List (List T)) (h : IsTable t) (d : HasDifferentCells t) where
   abbrev stored : Symmetry → List T
   stored s = storage (order_after s o) (act s t)
 
@@ -169,17 +169,31 @@ storage_across o t h =
     ∙ (image_at Transpose o t p.c p.r h p.lc p.lr
     ∙ (sym (get-storage o t p.r p.c h p.lr p.lc) ∙ ap (slice_get (storage o t)) p.is)))
 
--- and unlike cells
-pub unlike_across : {T : Type 0} (t : List (List T)) → IsTable t → HasUnlikeCells t → HasUnlikeCells (act Transpose t)
-unlike_across t h d =
-    let er = rows-act Transpose t in
-    let ec = cols-act Transpose t h in
+-- different cells of the image come from different cells
+source_different : (s : Symmetry) (m n r c i j : ℕ) → r < image_rows s m n → c < image_cols s m n → i < image_rows s m n → j < image_cols s m n → source_row s m n r c ≡ source_row s m n i j → source_col s m n r c ≡ source_col s m n i j → (r ≡ i) × (c ≡ j)
+source_different Identity m n r c i j a b u v e f = (e, f)
+source_different FlipCols m n r c i j a b u v e f = (e, omega arith)
+source_different FlipRows m n r c i j a b u v e f = (omega arith, f)
+source_different RotateHalf m n r c i j a b u v e f = (omega arith, omega arith)
+source_different Transpose m n r c i j a b u v e f = (f, e)
+source_different RotateLeft m n r c i j a b u v e f = (omega arith, e)
+source_different RotateRight m n r c i j a b u v e f = (f, omega arith)
+source_different AntiTranspose m n r c i j a b u v e f = (omega arith, omega arith)
+
+pub different_image : {T : Type 0} (s : Symmetry) (t : List (List T)) → IsTable t → HasDifferentCells t → HasDifferentCells (act s t)
+different_image s t h d =
+    let m = row_count t in
+    let n = col_count t in
+    let er = rows-act s t in
+    let ec = cols-act s t h in
     record {
-      unlike = λ r c i j p q e.
-          let a : r < col_count t = subst (λ x. r < x) er p.0 in
-          let b : c < row_count t = subst (λ x. c < x) ec p.1 in
-          let u : i < col_count t = subst (λ x. i < x) er q.0 in
-          let v : j < row_count t = subst (λ x. j < x) ec q.1 in
-          let same = d.unlike c r j i (b, a) (v, u) (sym (cell-act Transpose t r c h a b) ∙ (e ∙ cell-act Transpose t i j h u v)) in
-          (same.1, same.0);
+      different = λ r c i j p q e.
+          let a = subst (λ x. r < x) er p.0 in
+          let b = subst (λ x. c < x) ec p.1 in
+          let u = subst (λ x. i < x) er q.0 in
+          let v = subst (λ x. j < x) ec q.1 in
+          let same = d.different (source_row s m n r c) (source_col s m n r c) (source_row s m n i j) (source_col s m n i j)
+          (source_within s m n r c a b) (source_within s m n i j u v)
+          (sym (cell-act s t r c h a b) ∙ (e ∙ cell-act s t i j h u v)) in
+          source_different s m n r c i j a b u v same.0 same.1;
     }

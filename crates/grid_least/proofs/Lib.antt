@@ -3,7 +3,8 @@ pub mod PigeonLemmas
 pub mod MirrorLemmas
 pub mod PassLemmas
 pub mod ImageLemmas
-pub mod CountLemmas
 pub mod ChainLemmas
 pub mod DeleteLemmas
-pub mod ColLemmas
+pub mod PaddingLemmas
+pub mod EditLemmas
+pub mod CountLemmas

@@ -1,30 +1,14 @@
 -- Lists whose items are exchanged in pairs: as many swaps as pairs make the one of the other, and no fewer do.
-use Rattle.std.proofs.Common.{◌≡◌, ◌≢◌, ℕ, zero, suc, ◌<◌, ◌≤◌, List, [], ◌∷◌, length, refl, sym, ◌∙◌, ap, subst, arith, inl, inr, ⊎_elim, ◌⊎◌}
+use Rattle.std.proofs.Common.{◌≡◌, ◌≢◌, ℕ, zero, suc, ◌<◌, List, [], ◌∷◌, length, refl, sym, ◌∙◌, ap, subst, arith, inl, inr, ⊎_elim, ◌⊎◌}
 use Rattle.std.specs.List.{slice_get}
 use Rattle.std.proofs.lemmas.Bool.{cases_lt, cases_eq}
-use Rattle.grid_base.proofs.TableLemmas.{same_cells}
-use Rattle.grid_least.specs.Least.{AreWithin, swapped_all, Makes, IsLeast}
-use Rattle.grid_least.proofs.OriginLemmas.{turned, turned_first, turned_second, turned_other, origin, origin_within, length-swapped_all, get-swapped_all, length-lowered, in_lowered}
-use Rattle.grid_least.proofs.PigeonLemmas.{AreUnlike, at_least_so_many}
+use Rattle.grid_least.specs.Least.{AreWithin, IsLeast}
+use Rattle.grid_least.proofs.OriginLemmas.{turned, turned_first, turned_second, turned_other, origin, makes}
+use Rattle.grid_least.proofs.PigeonLemmas.{AreDifferent, at_least}
 
 -- no two places of a list have the same item
-pub record HasUnlikeItems {T : Type 0} (xs : List T) : Type 0 where
-  pub unlike : (i j : ℕ) → i < length xs → j < length xs → slice_get xs i ≡ slice_get xs j → i ≡ j
-
--- n items that come from later places take n swaps
-pub at_least : {T : Type 0} (xs ys : List T) (ps : List (ℕ × ℕ)) (n : ℕ) (f g : ℕ → ℕ) → HasUnlikeItems xs → Makes ps xs ys → AreUnlike n f → ((x : ℕ) → x < n → f x < g x) → ((x : ℕ) → x < n → g x < length xs) → ((x : ℕ) → x < n → slice_get ys (f x) ≡ slice_get xs (g x)) → n ≤ length ps
-at_least xs ys ps n f g d m u later inside from =
-    omega (
-      arith,
-      length-lowered ps,
-      at_least_so_many n f _ u
-          (λ x lt.
-          let before = later x lt in
-          let low = inside x lt in
-          let is : origin ps (f x) ≡ g x = d.unlike (origin ps (f x)) (g x) (origin_within (length xs) ps (f x) m.within (omega arith)) low
-          (sym (get-swapped_all ps xs (f x) m.within) ∙ (ap (λ v. slice_get v (f x)) m.swapped ∙ from x lt)) in
-          in_lowered ps (f x) (omega arith)),
-    )
+pub record HasDifferentItems {T : Type 0} (xs : List T) : Type 0 where
+  pub different : (i j : ℕ) → i < length xs → j < length xs → slice_get xs i ≡ slice_get xs j → i ≡ j
 
 -- the pairs f 0, g 0 to f (n - 1), g (n - 1)
 pairs : (ℕ → ℕ) → (ℕ → ℕ) → ℕ → List (ℕ × ℕ)
@@ -43,18 +27,18 @@ pairs_within f g (suc n) len a b =
     ((a n (omega arith), b n (omega arith)), pairs_within f g n len (λ x lt. a x (omega arith)) (λ x lt. b x (omega arith)))
 
 record AreApart (n : ℕ) (f g : ℕ → ℕ) : Type 0 where
-  pub first : AreUnlike n f
-  pub second : AreUnlike n g
+  pub first : AreDifferent n f
+  pub second : AreDifferent n g
   pub apart : (x y : ℕ) → x < n → y < n → f x ≢ g y
 
-fewer_unlike : (n : ℕ) (f : ℕ → ℕ) → AreUnlike (suc n) f → AreUnlike n f
-fewer_unlike n f d = record { unlike = λ x y p q. d.unlike x y (omega arith) (omega arith) }
+fewer_different : (n : ℕ) (f : ℕ → ℕ) → AreDifferent (suc n) f → AreDifferent n f
+fewer_different n f d = record { different = λ x y p q. d.different x y (omega arith) (omega arith) }
 
 fewer : (n : ℕ) (f g : ℕ → ℕ) → AreApart (suc n) f g → AreApart n f g
 fewer n f g d =
     record {
-      first = fewer_unlike n f d.first;
-      second = fewer_unlike n g d.second;
+      first = fewer_different n f d.first;
+      second = fewer_different n g d.second;
       apart = λ x y p q. d.apart x y (omega arith) (omega arith);
     }
 
@@ -73,12 +57,12 @@ module _ (f g : ℕ → ℕ) where
       ⊎_elim (λ low.
       ap (turned (f n) (g n)) (origin_first n x (fewer n f g d) low)
       ∙ turned_other (f n) (g n) (g x) (λ e. d.apart n x (omega arith) lt (sym e))
-      (λ e. let same = d.second.unlike x n lt (omega arith) e in absurd (omega arith)))
+      (λ e. let same = d.second.different x n lt (omega arith) e in absurd (omega arith)))
       (λ high.
       let same : x ≡ n = omega arith in
       ap (λ y. turned (f n) (g n) (origin (pairs f g n) (f y))) same
       ∙ (ap (turned (f n) (g n))
-      (origin_other n (f n) (λ y p e. let is = d.first.unlike n y (omega arith) (omega arith) e in absurd (omega arith)) (λ y p. d.apart n y (omega arith) (omega arith)))
+      (origin_other n (f n) (λ y p e. let is = d.first.different n y (omega arith) (omega arith) e in absurd (omega arith)) (λ y p. d.apart n y (omega arith) (omega arith)))
       ∙ (turned_first (f n) (g n) (f n) refl ∙ ap g (sym same))))
       (cases_lt x n)
 
@@ -89,12 +73,12 @@ module _ (f g : ℕ → ℕ) where
       ⊎_elim (λ low.
       ap (turned (f n) (g n)) (origin_second n x (fewer n f g d) low)
       ∙ turned_other (f n) (g n) (f x)
-      (λ e. let same = d.first.unlike x n lt (omega arith) e in absurd (omega arith)) (d.apart x n lt (omega arith)))
+      (λ e. let same = d.first.different x n lt (omega arith) e in absurd (omega arith)) (d.apart x n lt (omega arith)))
       (λ high.
       let same : x ≡ n = omega arith in
       ap (λ y. turned (f n) (g n) (origin (pairs f g n) (g y))) same
       ∙ (ap (turned (f n) (g n))
-      (origin_other n (g n) (λ y p e. d.apart y n (omega arith) (omega arith) (sym e)) (λ y p e. let is = d.second.unlike n y (omega arith) (omega arith) e in absurd (omega arith)))
+      (origin_other n (g n) (λ y p e. d.apart y n (omega arith) (omega arith) (sym e)) (λ y p e. let is = d.second.different n y (omega arith) (omega arith) e in absurd (omega arith)))
       ∙ (turned_second (f n) (g n) (g n) (λ e. d.apart n n (omega arith) (omega arith) (sym e)) refl ∙ ap f (sym same))))
       (cases_lt x n)
 
@@ -114,7 +98,7 @@ look (suc n) f k =
 pub record IsMirror (len n : ℕ) (turn f : ℕ → ℕ) : Type 0 where
   pub inside : (k : ℕ) → k < len → turn k < len
   pub back : (k : ℕ) → k < len → turn (turn k) ≡ k
-  pub unlike : AreUnlike n f
+  pub different : AreDifferent n f
   pub earlier : (x : ℕ) → x < n → f x < turn (f x)
   pub below : (x : ℕ) → x < n → f x < len
   pub all : (k : ℕ) → k < len → k < turn k → (x : ℕ) × (x < n) × (k ≡ f x)
@@ -122,10 +106,10 @@ pub record IsMirror (len n : ℕ) (turn f : ℕ → ℕ) : Type 0 where
 module _ (len n : ℕ) (turn f : ℕ → ℕ) (m : IsMirror len n turn f) where
   apart : AreApart n f (λ x. turn (f x))
   apart = record {
-    first = m.unlike;
+    first = m.different;
     second = record {
-      unlike = λ x y p q e.
-          m.unlike.unlike x y p q (sym (m.back (f x) (m.below x p)) ∙ (ap turn e ∙ m.back (f y) (m.below y q)));
+      different = λ x y p q e.
+          m.different.different x y p q (sym (m.back (f x) (m.below x p)) ∙ (ap turn e ∙ m.back (f y) (m.below y q)));
     };
     apart = λ x y p q e.
         let one = m.earlier x p in
@@ -155,23 +139,18 @@ module _ (len n : ℕ) (turn f : ℕ → ℕ) (m : IsMirror len n turn f) where
       (look n (λ x. turn (f x)) k))
       (look n f k)
 
-  pub least_by_mirror : {T : Type 0} (xs ys : List T) → length xs ≡ len → length ys ≡ len → ((k : ℕ) → k < len → slice_get ys k ≡ slice_get xs (turn k)) → HasUnlikeItems xs → IsLeast n xs ys
+  pub least_by_mirror : {T : Type 0} (xs ys : List T) → length xs ≡ len → length ys ≡ len → ((k : ℕ) → k < len → slice_get ys k ≡ slice_get xs (turn k)) → HasDifferentItems xs → IsLeast n xs ys
   least_by_mirror xs ys lx ly same d =
       let ps = pairs f (λ x. turn (f x)) n in
       let within : AreWithin (length xs) ps = subst (λ l. AreWithin l ps) (sym lx) (pairs_within f (λ x. turn (f x)) n len m.below (λ x lt. m.inside (f x) (m.below x lt))) in
-      let long = length-swapped_all ps xs in
       record {
         reached = (
           ps,
           length-pairs f (λ x. turn (f x)) n,
-          record {
-            within = within;
-            swapped = same_cells (swapped_all ps xs) ys (omega arith)
-                (λ k lt.
-                get-swapped_all ps xs k within
-                ∙ (ap (slice_get xs) (origin_is k (omega arith)) ∙ sym (same k (omega arith))));
-          },
+          makes ps xs ys within (omega arith) (λ k lt. ap (slice_get xs) (origin_is k (omega arith)) ∙ sym (same k (omega arith))),
         );
-        least = λ qs makes. at_least xs ys qs n f (λ x. turn (f x)) d makes m.unlike m.earlier
-            (λ x lt. let in_len = m.inside (f x) (m.below x lt) in omega arith) (λ x lt. same (f x) (m.below x lt));
+        least = λ qs b. at_least xs ys qs n f (λ x. turn (f x))
+            (λ x lt j p e. let in_len = m.inside (f x) (m.below x lt) in d.different j (turn (f x)) p (omega arith) e) b m.different m.earlier
+            (λ x lt. let in_len = m.inside (f x) (m.below x lt) in omega arith)
+            (λ x lt. let low = m.below x lt in omega arith) (λ x lt. same (f x) (m.below x lt));
       }

@@ -1,10 +1,13 @@
 -- Where swaps one after another bring the items of a list from.
-use Rattle.std.proofs.Common.{◌≡◌, ◌≢◌, ℕ, suc, ◌<◌, ◌≤◌, min, cond, eqb, Option, List, [], ◌∷◌, length, refl, sym, ◌∙◌, ap, subst, arith, inl, inr, ⊎_elim, ◌⊎◌}
+use Rattle.std.proofs.Common.{◌≡◌, ◌≢◌, ℕ, suc, ◌<◌, ◌≤◌, min, cond, eqb, Option, List, [], ◌∷◌, ◌++◌, length, take, refl, sym, ◌∙◌, ap, subst, arith, inl, inr, ⊎_elim, ◌⊎◌}
 use Rattle.std.specs.List.{slice_get, swap}
+use Rattle.std.proofs.lemmas.List.{length-take-le, length-append}
 use Rattle.std.proofs.lemmas.List.Edits.{swapped_from_swap, length-swap}
 use Rattle.std.proofs.lemmas.Option.{slice_get-get_or, slice_get_past}
 use Rattle.std.proofs.lemmas.Bool.{cases_lt, cases_eq, cond-true, cond-false, eq-eqb, ne_eqb}
-use Rattle.grid_least.specs.Least.{AreWithin, swapped_all}
+use Rattle.grid_base.proofs.TableLemmas.{same_cells}
+use Rattle.grid_base.proofs.StorageLemmas.{get-take}
+use Rattle.grid_least.specs.Least.{AreWithin, swapped_all, Makes}
 
 -- the place that a swap of the items at i and j brings the item at place k from
 pub turned : ℕ → ℕ → ℕ → ℕ
@@ -97,6 +100,56 @@ get-swapped_all [] xs k w = refl
 get-swapped_all (p ∷ ps) xs k w =
     get-swapped_all ps (swap xs p.0 p.1) k (subst (λ n. AreWithin n ps) (sym (length-swap xs p.0 p.1)) w.1)
     ∙ get-swap xs p.0 p.1 (origin ps k) w.0.0 w.0.1
+
+-- swaps make a list where each of its items comes from its place in the old one, and only there
+pub makes : {T : Type 0} (ps : List (ℕ × ℕ)) (xs ys : List T) → AreWithin (length xs) ps → length ys ≤ length xs → ((k : ℕ) → k < length ys → slice_get xs (origin ps k) ≡ slice_get ys k) → Makes ps xs ys
+makes ps xs ys w le same =
+    let long = length-swapped_all ps xs in
+    let short = length-take-le (length ys) (swapped_all ps xs) (omega arith) in
+    record {
+      within = w;
+      front = same_cells (take (length ys) (swapped_all ps xs)) ys short
+          (λ k lt. get-take (length ys) (swapped_all ps xs) k (omega arith) ∙ (get-swapped_all ps xs k w ∙ same k (omega arith)));
+    }
+
+pub made : {T : Type 0} (ps : List (ℕ × ℕ)) (xs ys : List T) → Makes ps xs ys → (k : ℕ) → k < length ys → slice_get xs (origin ps k) ≡ slice_get ys k
+made ps xs ys m k lt =
+    sym (get-swapped_all ps xs k m.within) ∙ (sym (get-take (length ys) (swapped_all ps xs) k lt) ∙ ap (λ v. slice_get v k) m.front)
+
+-- items come to different places from different places
+pub origin_different : (ps : List (ℕ × ℕ)) (j k : ℕ) → origin ps j ≡ origin ps k → j ≡ k
+origin_different ps j k e = sym (target-origin ps j) ∙ (ap (target ps) e ∙ target-origin ps k)
+
+-- the same swaps in opposite order, which undo them
+pub undoing : List (ℕ × ℕ) → List (ℕ × ℕ)
+undoing [] = []
+undoing (p ∷ ps) = undoing ps ++ p ∷ []
+
+pub length-undoing : (ps : List (ℕ × ℕ)) → length (undoing ps) ≡ length ps
+unfolding undoing
+length-undoing [] = refl
+length-undoing (p ∷ ps) = omega (arith, length-append (undoing ps) (p ∷ []), length-undoing ps)
+
+within-append : (n : ℕ) (ps qs : List (ℕ × ℕ)) → AreWithin n ps → AreWithin n qs → AreWithin n (ps ++ qs)
+within-append n [] qs v w = w
+within-append n (p ∷ ps) qs v w = (v.0, within-append n ps qs v.1 w)
+
+pub undoing_within : (n : ℕ) (ps : List (ℕ × ℕ)) → AreWithin n ps → AreWithin n (undoing ps)
+unfolding undoing
+undoing_within n [] w = tt
+undoing_within n (p ∷ ps) w = within-append n (undoing ps) (p ∷ []) (undoing_within n ps w.1) (w.0, tt)
+
+origin-append : (ps qs : List (ℕ × ℕ)) (k : ℕ) → origin (ps ++ qs) k ≡ origin ps (origin qs k)
+unfolding origin
+origin-append [] qs k = refl
+origin-append (p ∷ ps) qs k = ap (turned p.0 p.1) (origin-append ps qs k)
+
+pub origin_undone : (ps : List (ℕ × ℕ)) (k : ℕ) → origin ps (origin (undoing ps) k) ≡ k
+unfolding origin undoing
+origin_undone [] k = refl
+origin_undone (p ∷ ps) k =
+    ap (λ j. turned p.0 p.1 (origin ps j)) (origin-append (undoing ps) (p ∷ []) k)
+    ∙ (ap (turned p.0 p.1) (origin_undone ps (turned p.0 p.1 k)) ∙ turned_twice p.0 p.1 k)
 
 -- x is in the list
 abbrev pub In : ℕ → List ℕ → Type 0

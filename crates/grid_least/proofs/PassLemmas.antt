@@ -3,7 +3,7 @@ use Rattle.std.proofs.Common.{◌≡◌, ℕ, zero, suc, ◌+◌, ◌-◌, ◌*�
 use Rattle.std.proofs.lemmas.Nat.{mul-add-lt, div_below, mod_below, div-add-mod', div-mul-add, mod-mul-add, same_from_place}
 use Rattle.std.proofs.lemmas.Bool.{cases_lt}
 use Rattle.std.proofs.Math.Nat.{mul-le-mul_right}
-use Rattle.grid_least.proofs.PigeonLemmas.{AreUnlike}
+use Rattle.grid_least.proofs.PigeonLemmas.{AreDifferent}
 use Rattle.grid_least.proofs.MirrorLemmas.{IsMirror}
 
 -- place k is item j of line i
@@ -41,8 +41,8 @@ pub along_at : (p q i j : ℕ) → j < q → along p q (i * q + j) ≡ i * q + (
 unfolding along
 along_at p q i j lt = ap (λ x. x * q + (q - 1 - (i * q + j) % q)) (div-mul-add i q j lt) ∙ ap (λ x. i * q + (q - 1 - x)) (mod-mul-add i q j lt)
 
-identity_unlike : (n : ℕ) → AreUnlike n (λ x. x)
-identity_unlike n = record { unlike = λ x y a b e. e }
+identity_different : (n : ℕ) → AreDifferent n (λ x. x)
+identity_different n = record { different = λ x y a b e. e }
 
 -- an earlier line has earlier places
 pub line_before : (q i j x y : ℕ) → i < x → j < q → i * q + j < x * q + y
@@ -63,7 +63,7 @@ mirror_across p q = record {
       ap (λ x. across p q (across p q x)) c.is
       ∙ (ap (across p q) (across_at p q c.i c.j c.lj)
       ∙ (across_at p q (p - 1 - c.i) c.j c.lj ∙ (ap (λ x. x * q + c.j) turn ∙ sym c.is)));
-  unlike = identity_unlike (p / 2 * q);
+  different = identity_different (p / 2 * q);
   earlier = λ x lt.
       let c = cut (p / 2) q x lt in
       let low = c.li in
@@ -114,8 +114,8 @@ mirror_along p q = record {
       ap (λ x. along p q (along p q x)) c.is
       ∙ (ap (along p q) (along_at p q c.i c.j c.lj)
       ∙ (along_at p q c.i (q - 1 - c.j) (omega arith) ∙ (ap (λ x. c.i * q + x) turn ∙ sym c.is)));
-  unlike = record {
-    unlike = λ x y a b e.
+  different = record {
+    different = λ x y a b e.
         let c = cut p (q / 2) x a in
         let d = cut p (q / 2) y b in
         let lc = c.lj in
@@ -151,7 +151,7 @@ pub mirror_whole : (n : ℕ) → IsMirror n (n / 2) (λ k. n - 1 - k) (λ x. x)
 mirror_whole n = record {
   inside = λ k lt. omega arith;
   back = λ k lt. omega arith;
-  unlike = identity_unlike (n / 2);
+  different = identity_different (n / 2);
   earlier = λ x lt. omega arith;
   below = λ x lt. omega arith;
   all = λ k lt up. (k, omega arith, refl);
@@ -162,7 +162,7 @@ pub mirror_none : (n : ℕ) → IsMirror n 0 (λ k. k) (λ x. x)
 mirror_none n = record {
   inside = λ k lt. lt;
   back = λ k lt. refl;
-  unlike = identity_unlike 0;
+  different = identity_different 0;
   earlier = λ x lt. absurd (omega arith);
   below = λ x lt. absurd (omega arith);
   all = λ k lt up. absurd (omega arith);

@@ -1,7 +1,8 @@
 -- Swaps of the items at two places, one after another, and the least number of them that makes one list of another.
-use Rattle.std.specs.Prelude.{◌≡◌, ℕ, ◌<◌, ◌≤◌, List, [], ◌∷◌, length, take, swap}
+use Rattle.std.specs.Prelude.{◌≡◌, ◌≢◌, ℕ, ◌-◌, ◌<◌, ◌≤◌, ⊤, Some, List, [], ◌∷◌, ◌++◌, length, take, replicate, swap}
 use Rattle.grid_base.specs.Table.{cell, InRange}
 use Rattle.grid_base.specs.Tally.{saturating_count}
+use Rattle.grid_commands.specs.Command.{Edit, read, push, insert_at, insert_all, pop, remove_at, delete_at, delete_range, expand, prepend, CommandValue, size, get, set_cell, swap_cells, lines, fill, clear, apply}
 
 -- both places of each pair are below n
 abbrev pub AreWithin : ℕ → List (ℕ × ℕ) → Type 0
@@ -14,19 +15,15 @@ module _ {T : Type 0} where
   swapped_all [] xs = xs
   swapped_all (p ∷ ps) xs = swapped_all ps (swap xs p.0 p.1)
 
-  -- these swaps make the new list of the old one
+  -- these swaps bring the items of the new list to its places; what a longer old list has besides stands behind them
   pub record Makes (swaps : List (ℕ × ℕ)) (old new : List T) : Type 0 where
     pub within : AreWithin (length old) swaps
-    pub swapped : swapped_all swaps old ≡ new
+    pub front : take (length new) (swapped_all swaps old) ≡ new
 
   -- some k swaps make the new list of the old one, and all swaps that do are at least k
   pub record IsLeast (k : ℕ) (old new : List T) : Type 0 where
     pub reached : (swaps : List (ℕ × ℕ)) × (length swaps ≡ k) × Makes swaps old new
     pub least : (swaps : List (ℕ × ℕ)) → Makes swaps old new → k ≤ length swaps
-
-  -- no two places of a table have the same cell
-  pub record HasUnlikeCells (t : List (List T)) : Type 0 where
-    pub unlike : (r c i j : ℕ) → InRange t r c → InRange t i j → cell t r c ≡ cell t i j → (r ≡ i) × (c ≡ j)
 
   -- a count grew by the least number of swaps that make the new list of the old one
   pub record GrewByLeast (before after : ℕ) (old new : List T) : Type 0 where
@@ -34,18 +31,38 @@ module _ {T : Type 0} where
     pub least : IsLeast count old new
     pub grew : after ≡ saturating_count before count
 
-  -- these swaps bring the items of the new list to its places, and whatever else there is behind them
-  pub record Brings (swaps : List (ℕ × ℕ)) (old new : List T) : Type 0 where
-    pub within : AreWithin (length old) swaps
-    pub front : take (length new) (swapped_all swaps old) ≡ new
+  -- no two positions of a table have the same cell
+  pub record HasDifferentCells (t : List (List T)) : Type 0 where
+    pub different : (r c i j : ℕ) → InRange t r c → InRange t i j → cell t r c ≡ cell t i j → (r ≡ i) × (c ≡ j)
 
-  -- some k swaps bring the items of the new list to its places, and all swaps that do are at least k
-  pub record IsLeastToBring (k : ℕ) (old new : List T) : Type 0 where
-    pub reached : (swaps : List (ℕ × ℕ)) × (length swaps ≡ k) × Brings swaps old new
-    pub least : (swaps : List (ℕ × ℕ)) → Brings swaps old new → k ≤ length swaps
+  -- no cell of a table is d
+  pub record Lacks (d : T) (t : List (List T)) : Type 0 where
+    pub lacks : (r c : ℕ) → InRange t r c → cell t r c ≢ Some d
 
-  -- a count grew by that number
-  pub record GrewByLeastToBring (before after : ℕ) (old new : List T) : Type 0 where
-    pub count : ℕ
-    pub least : IsLeastToBring count old new
-    pub grew : after ≡ saturating_count before count
+  -- a list and, behind it, as many items d as it has fewer than n
+  abbrev pub filled_up : T → ℕ → List T → List T
+  filled_up d n xs = xs ++ replicate (n - length xs) d
+
+  -- an edit is a delete, or a padding whose cell d no cell of the table is
+  abbrev pub EditShifts : T → List (List T) → Edit T → Type 0
+  EditShifts d t (delete_at i) = ⊤
+  EditShifts d t (delete_range i k) = ⊤
+  EditShifts d t (expand k) = Lacks d t
+  EditShifts d t (prepend k) = Lacks d t
+  EditShifts d t (read i) = ⊥
+  EditShifts d t (push line) = ⊥
+  EditShifts d t (insert_at i line) = ⊥
+  EditShifts d t (insert_all i ls) = ⊥
+  EditShifts d t pop = ⊥
+  EditShifts d t (remove_at i) = ⊥
+
+  -- a command is such an edit, of rows or of columns
+  abbrev pub Shifts : T → List (List T) → CommandValue T → Type 0
+  Shifts d t (lines a e) = EditShifts d t e
+  Shifts d t size = ⊥
+  Shifts d t (get r c) = ⊥
+  Shifts d t (set_cell r c v) = ⊥
+  Shifts d t (swap_cells p q) = ⊥
+  Shifts d t (fill v) = ⊥
+  Shifts d t clear = ⊥
+  Shifts d t (apply s) = ⊥

@@ -1,47 +1,89 @@
-//! The swaps that are counted for symmetries are the least: no fewer bring the image about, where the cells are unlike.
+//! The swaps that are counted are the least: no fewer do what a command does to the storage, where the cells differ.
 //!
-//! Each law makes the call that its name says. A clause `least` says of that call that the count grew by the least
-//! number of swaps; a clause `law` says it of every table, and speaks of no call.
+//! Each law makes the call that its name says. Its clauses `symmetry`, `shift` and `least` say of that call that a
+//! count grew by the least number of swaps of two places.
 #![tactic(auto)]
 
-ghost use Rattle.std.specs.Prelude.{◌≡◌, ◌+◌, ◌≤◌, ℕ, List, IfOk, IfErr, OnOk, map, take};
-ghost use Rattle.grid_base.specs.Table.{row_count, col_count, IsTable};
+ghost use Rattle.std.specs.Prelude.{◌≡◌, List, IfOk, IfErr, OnOk, OnErr, IsTrue, length, map, take};
+ghost use Rattle.grid_base.specs.Table.{row_count, col_count};
 ghost use Rattle.grid_base.specs.Order.{storage};
-ghost use Rattle.grid_base.specs.Symmetry.{act, order_after, price};
-ghost use Rattle.grid_base.specs.declared.flat.order.Order.{Order};
-ghost use Rattle.grid_commands.specs.Command.{command_value};
+ghost use Rattle.grid_base.specs.Symmetry.{act, order_after, IsInverse};
+ghost use Rattle.grid_base.specs.Clones.{ClonesAreEqual};
+ghost use Rattle.grid_base.specs.declared.words.Symmetry.{Symmetry};
+ghost use Rattle.grid_commands.specs.Command.{command_value, apply};
 ghost use Rattle.grid_commands.specs.Reply.{reply_value};
-ghost use Rattle.grid.specs.Cost.{list_symmetry};
-ghost use Rattle.grid.specs.Edits.{without_rows, without_cols};
-ghost use Rattle.grid.specs.Shift.{delete_rows_shift, delete_cols_shift};
+ghost use Rattle.grid.specs.Cost.{command_symmetry, list_symmetry};
+ghost use Rattle.grid.specs.Step.{RowsAreKnown, step_rows, step_reply, takes_memory};
 ghost use Rattle.grid_deferred.specs.Run.{RanDeferred};
-ghost use Rattle.grid_least.specs.Least.{HasUnlikeCells, IsLeast, GrewByLeast, IsLeastToBring, GrewByLeastToBring};
+ghost use Rattle.grid_least.specs.Least.{HasDifferentCells, Shifts, filled_up, GrewByLeast};
 
 use grid::{Command, Grid, Reply, RunStopped};
-use grid_base::{Symmetry, Tally};
+use grid_base::Tally;
 use grid_deferred::run_deferred;
 use std::alloc::{AllocError, Allocator};
 
-/// Applies a symmetry, and adds the swaps that it makes to the symmetry count of the tally. Where no two cells are
-/// alike, these are the least that make the storage after of the storage before.
+/// Does a command, as [`Grid::step`] does. Where no two cells are the same, what it adds to the two counts is the least
+/// number of swaps of two places of the storage that do as much.
 ///
-///     [[1, 2, 3], [4, 5, 6]]   apply_by_least(FlipCols, tally)   [[3, 2, 1], [6, 5, 4]], and 2 swaps counted
-pub fn apply_by_least<T, A: Allocator>(grid: &mut Grid<T, A>, symmetry: Symmetry, tally: &mut Tally)
-    ensures rows { grid.new.rows ≡ act symmetry grid.old.rows }
-    ensures order { grid.new.order ≡ order_after symmetry grid.old.order }
-    ensures shift { tally.new.shift ≡ tally.old.shift }
-    ensures least { HasUnlikeCells grid.old.rows
+///     [[1, 2, 3], [4, 5, 6]]   step_by_least(Apply(FlipCols))   [[3, 2, 1], [6, 5, 4]]         2 for the symmetry
+///     [[1, 2, 3], [4, 5, 6]]   step_by_least(DeleteCols(0, 1))  [[2, 3], [5, 6]]               4 shifted
+///     [[1, 2], [3, 4]]         step_by_least(PrependCols(1))    [[0, 1, 2], [0, 3, 4]]         4 shifted
+///
+/// The symmetry count grows by the least that make the storage of the image of that of the table; a command that
+/// applies no symmetry takes none. At a delete the shift count grows by the least that bring every cell that stays to
+/// its place. At an expand or a prepend the swaps begin with the new cells behind the old ones, and bring each to its
+/// place; the new cells may be the same, but none of the old ones.
+///
+/// Fails: where memory is refused, as `step` does. The grid and the tally are unchanged.
+/// Cost: that of `step`.
+pub fn step_by_least<T, A: Allocator>(
+    grid: &mut Grid<T, A>,
+    command: Command<T, A>,
+    tally: &mut Tally,
+) -> Result<Reply<T, A>, AllocError>
+where
+    T: Clone + Default + Drop,
+    A: Clone,
+    ensures rows { OnOk result ((d : T)
+        → RowsAreKnown T.is_default T.is_clone d (command_value command)
+        → grid.new.rows ≡ step_rows d (command_value command) grid.old.rows) }
+    ensures applied { OnOk result ((s : Symmetry)
+        → command_value command ≡ apply s → grid.new.rows ≡ act s grid.old.rows) }
+    ensures reply { IfOk result (λ reply. ClonesAreEqual T.is_clone
+        → reply_value reply ≡ step_reply (command_value command) grid.old.rows) }
+    ensures order { OnOk result (grid.new.order
+        ≡ order_after (command_symmetry (command_value command)) grid.old.order) }
+    ensures symmetry { OnOk result (HasDifferentCells grid.old.rows
         → GrewByLeast tally.old.symmetry tally.new.symmetry
-        (storage grid.old.order grid.old.rows) (storage grid.new.order grid.new.rows) }
-    ensures law { (t : List (List T)) (o : Order) → IsTable t → HasUnlikeCells t
-        → IsLeast (price symmetry (row_count t) (col_count t))
-        (storage o t) (storage (order_after symmetry o) (act symmetry t)) }
+        (storage grid.old.order grid.old.rows)
+        (storage grid.new.order
+        (act (command_symmetry (command_value command)) grid.old.rows))) }
+    ensures shift { OnOk result ((d : T)
+        → RowsAreKnown T.is_default T.is_clone d (command_value command)
+        → HasDifferentCells grid.old.rows
+        → Shifts d grid.old.rows (command_value command)
+        → GrewByLeast tally.old.shift tally.new.shift
+        (filled_up d (length (storage grid.new.order grid.new.rows))
+        (storage grid.old.order grid.old.rows))
+        (storage grid.new.order grid.new.rows)) }
+    ensures err_grid { OnErr result (grid.new ≡ grid.old) }
+    ensures err_symmetry { OnErr result (tally.new.symmetry ≡ tally.old.symmetry) }
+    ensures err_shift { OnErr result (tally.new.shift ≡ tally.old.shift) }
+    ensures err_memory { OnErr result (IsTrue (takes_memory (command_value command)
+        (row_count grid.old.rows) (col_count grid.old.rows))) }
 {
-    grid.apply_counted(symmetry, tally);
+    grid.step(command, tally)
 }
 
-/// Runs a list of commands deferred, as [`run_deferred`] does. Whatever table of unlike cells the symmetry of the list
-/// makes the final rows of, the swaps counted are the least that make the final storage of the storage of that table.
+/// Runs a list of commands deferred, as [`run_deferred`] does. Where no two cells of the rows after are the same, the
+/// swaps counted for symmetries are the least that make the storage after of that of the base: of the rows after,
+/// turned back by the inverse of the symmetry of the list, in the order before.
+///
+///     [[1, 2, 3], [4, 5, 6]]   run_deferred_by_least([Apply(FlipCols), Apply(FlipRows)])
+///                              [[6, 5, 4], [3, 2, 1]]   3 for the symmetry
+///
+/// Fails: as `run_deferred` does, and says the same of the commands that were done.
+/// Cost: that of `run_deferred`.
 pub fn run_deferred_by_least<T, A: Allocator>(
     alloc: A,
     grid: &mut Grid<T, A>,
@@ -57,69 +99,16 @@ where
     ensures stopped { IfErr result (λ stop. RanDeferred T.is_clone T.is_default
         (take stop.done (map command_value commands.items))
         grid.old grid.new tally.old tally.new (map reply_value stop.replies.items)) }
-    ensures least { IfOk result (λ _. (t : List (List T)) → IsTable t → HasUnlikeCells t
-        → grid.new.rows ≡ act (list_symmetry (map command_value commands.items)) t
+    ensures least { IfOk result (λ _. (v : Symmetry)
+        → IsInverse (list_symmetry (map command_value commands.items)) v
+        → HasDifferentCells grid.new.rows
         → GrewByLeast tally.old.symmetry tally.new.symmetry
-        (storage grid.old.order t) (storage grid.new.order grid.new.rows)) }
-    ensures stopped_least { IfErr result (λ stop.
-        (t : List (List T)) → IsTable t → HasUnlikeCells t
-        → grid.new.rows ≡ act (list_symmetry (take stop.done (map command_value commands.items))) t
+        (storage grid.old.order (act v grid.new.rows)) (storage grid.new.order grid.new.rows)) }
+    ensures stopped_least { IfErr result (λ stop. (v : Symmetry)
+        → IsInverse (list_symmetry (take stop.done (map command_value commands.items))) v
+        → HasDifferentCells grid.new.rows
         → GrewByLeast tally.old.symmetry tally.new.symmetry
-        (storage grid.old.order t) (storage grid.new.order grid.new.rows)) }
+        (storage grid.old.order (act v grid.new.rows)) (storage grid.new.order grid.new.rows)) }
 {
     run_deferred(alloc, grid, commands, tally)
-}
-
-/// Deletes rows by the command that says so. Where no two cells are alike, what the shift count grows by is the least
-/// number of swaps that bring every cell that stays to its place in the storage after.
-///
-/// Requires: the rows are there.
-pub fn delete_rows_by_least<T, A: Allocator>(
-    grid: &mut Grid<T, A>,
-    start: usize,
-    count: usize,
-    tally: &mut Tally,
-) -> Result<Reply<T, A>, AllocError>
-where
-    T: Clone + Default + Drop,
-    A: Clone,
-    requires within { start + count ≤ row_count grid.old.rows }
-    ensures rows { OnOk result ((d : T) → grid.new.rows ≡ without_rows start count grid.old.rows) }
-    ensures order { OnOk result (grid.new.order ≡ grid.old.order) }
-    ensures least { OnOk result ((d : T) → HasUnlikeCells grid.old.rows
-        → GrewByLeastToBring tally.old.shift tally.new.shift
-        (storage grid.old.order grid.old.rows) (storage grid.new.order grid.new.rows)) }
-    ensures law { (t : List (List T)) (o : Order) (i k : ℕ)
-        → IsTable t → HasUnlikeCells t → i + k ≤ row_count t
-        → IsLeastToBring (delete_rows_shift o (row_count t) (col_count t) i k)
-        (storage o t) (storage o (without_rows i k t)) }
-{
-    grid.step(Command::DeleteRows(start, count), tally)
-}
-
-/// Deletes columns by the command that says so. Where no two cells are alike, what the shift count grows by is the least
-/// number of swaps that bring every cell that stays to its place in the storage after.
-///
-/// Requires: the columns are there.
-pub fn delete_cols_by_least<T, A: Allocator>(
-    grid: &mut Grid<T, A>,
-    start: usize,
-    count: usize,
-    tally: &mut Tally,
-) -> Result<Reply<T, A>, AllocError>
-where
-    T: Clone + Default + Drop,
-    A: Clone,
-    requires within { start + count ≤ col_count grid.old.rows }
-    ensures rows { OnOk result ((d : T) → grid.new.rows ≡ without_cols start count grid.old.rows) }
-    ensures order { OnOk result (grid.new.order ≡ grid.old.order) }
-    ensures least { OnOk result ((d : T) → HasUnlikeCells grid.old.rows
-        → GrewByLeastToBring tally.old.shift tally.new.shift
-        (storage grid.old.order grid.old.rows) (storage grid.new.order grid.new.rows)) }
-    ensures law { (t : List (List T)) (o : Order) (i k : ℕ)
-        → IsTable t → HasUnlikeCells t → i + k ≤ col_count t
-        → IsLeastToBring (delete_cols_shift o (row_count t) (col_count t) i k)
-        (storage o t) (storage o (without_cols i k t)) }
-{
-    grid.step(Command::DeleteCols(start, count), tally)
 }

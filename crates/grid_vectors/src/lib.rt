@@ -18,6 +18,8 @@ mod json;
 #[cfg(test)]
 mod laws;
 #[cfg(test)]
+mod least;
+#[cfg(test)]
 mod run_laws;
 #[cfg(test)]
 mod worked;
