@@ -1,22 +1,22 @@
--- Calls of a closure at each place of a grid and the cell there.
+-- Calls of a closure at each position of a grid and the cell there.
 use Rattle.std.proofs.Common.{◌≡◌, ℕ, zero, suc, ◌*◌, ◌^◌, ◌<◌, ◌≤◌, List, [], ◌∷◌, Some, length, zip, refl, sym, subst, ◌∙◌, ap, arith, is_some, ◌∷◌}
 use Rattle.std.specs.List.{slice_get, AllZip}
 use Rattle.std.specs.Option.{unwrap_or}
 use Rattle.std.proofs.lemmas.Option.{unwrap_or-slice_get}
 use Rattle.std.proofs.Math.Nat.{mul_comm}
 use denote.Ref.{Bor}
-use Rattle.grid_base.specs.declared.flat.order.Order.{Order}
+use Rattle.grid_base.specs.declared.order.Order.{Order}
 use Rattle.grid_base.specs.Table.{row_count, col_count, cell, InRange, IsSize, tabulate}
 use Rattle.grid_base.specs.Order.{table_of, place}
-use Rattle.grid_base.specs.Places.{places}
+use Rattle.grid_base.specs.Positions.{positions}
 use Rattle.grid_base.specs.ClosureCalls.{PairsUp, CallableAtCells, CallableAtItems, ReturnsAtCell}
 use Rattle.grid_base.specs.GridValue.{GridValue, HoldsSize}
 use Rattle.grid_base.proofs.TableLemmas.{IsFull, tabulate-same}
 use Rattle.grid_base.proofs.StorageLemmas.{place_within, has_place}
 use Rattle.grid_base.proofs.PlaceLemmas.{get-places, length-places}
-use Rattle.grid_base.proofs.WalkLemmas.{zip_within}
+use Rattle.grid_base.proofs.PlacedCellLemmas.{zip_within}
 use Rattle.grid_base.proofs.ViewLemmas.{view-rows, view-cols, view-cell}
-use Rattle.grid.specs.AllCells.{CallableAtPlaces, TabulatedBy}
+use Rattle.grid.specs.AllCells.{CallableAtPositions, TabulatedBy}
 use Rattle.grid.specs.Make.{IsMade, CallableOver, TabulatedOver}
 use Rattle.grid.specs.View.{grid_value}
 use Rattle.grid.proofs.SeenLemmas.{seen_rows, seen_cols}
@@ -56,7 +56,7 @@ answer_at R (c ∷ xs) (b ∷ ys) zero x a e = let same : c ≡ x = cc in record
 answer_at R (c ∷ xs) (b ∷ ys) (suc k) x a e = let i = answer_at R xs ys k x a.1 e in record { y = i.y; is = i.is; by = i.by }
 
 module _ {A : Type 0} (o : Order) (m n : ℕ) (cells : List A) (v : GridValue A) (h : HoldsSize m n (length cells)) (e : grid_value o m n cells h ≡ v) where
-  -- the cell of the value at a place
+  -- the cell of the value at a position
   pub seen_cell : (r c : ℕ) → r < m → c < n → cell v.rows r c ≡ slice_get cells (place o m n r c)
   seen_cell r c lr lc = sym (ap (λ x. cell x.rows r c) e) ∙ view-cell o m n cells h r c lr lc
 
@@ -69,17 +69,17 @@ module _ {A : Type 0} (o : Order) (m n : ℕ) (cells : List A) (v : GridValue A)
   cols_fit : (r : ℕ) → r < m → col_count v.rows < 2 ^ 64
   cols_fit r lr = omega (arith, seen_cols o m n cells v h e, mul_grows n m (omega arith), mul_comm m n, h.below)
 
-  -- a closure that can be called at each place of the table can be called along the vector
-  pub seen_callable : {F : Type 0} (takes : F → ℕ × ℕ → Bor A → Type 0) (f : F) → CallableAtPlaces takes f v.rows → CallableAtCells takes f (zip (places o m n) cells)
+  -- a closure that can be called at each position of the table can be called along the vector
+  pub seen_callable : {F : Type 0} (takes : F → ℕ × ℕ → Bor A → Type 0) (f : F) → CallableAtPositions takes f v.rows → CallableAtCells takes f (zip (positions o m n) cells)
   seen_callable {F} takes f can = record {
     at = λ k at p lt is.
-        let below : k < length cells = omega (arith, zip_within (places o m n) cells) in
+        let below : k < length cells = omega (arith, zip_within (positions o m n) cells) in
         let w = has_place o m n k (omega (arith, h.cells)) in
         let i = item_at cells k below in
-        let there : slice_get (places o m n) k ≡ Some (w.r, w.c) = ap (slice_get (places o m n)) (sym w.is) ∙ get-places o m n w.r w.c h.size w.lr w.lc in
-        let pair : slice_get (zip (places o m n) cells) k ≡ Some ((w.r, w.c), i.x) = get-zip (places o m n) cells k (w.r, w.c) i.x there i.is in
+        let there : slice_get (positions o m n) k ≡ Some (w.r, w.c) = ap (slice_get (positions o m n)) (sym w.is) ∙ get-places o m n w.r w.c h.size w.lr w.lc in
+        let pair : slice_get (zip (positions o m n) cells) k ≡ Some ((w.r, w.c), i.x) = get-zip (positions o m n) cells k (w.r, w.c) i.x there i.is in
         let same : ◌≡◌ {A = (ℕ × ℕ) × A} (at, p.now) ((w.r, w.c), i.x) =
-        is ∙ (sym (unwrap_or-slice_get (zip (places o m n) cells) k (at, p.now)) ∙ ap (λ z. unwrap_or z (at, p.now)) pair) in
+        is ∙ (sym (unwrap_or-slice_get (zip (positions o m n) cells) k (at, p.now)) ∙ ap (λ z. unwrap_or z (at, p.now)) pair) in
         let same_cell : p.now ≡ i.x = ap (λ z. z.1) same in
         let same_at : at ≡ (w.r, w.c) = ap (λ z. z.0) same in
         let old : cell v.rows w.r w.c ≡ Some p.now =
@@ -87,7 +87,7 @@ module _ {A : Type 0} (o : Order) (m n : ℕ) (cells : List A) (v : GridValue A)
         subst (λ z. takes f z p) (sym same_at) (can w.r w.c p (seen_in w.r w.c w.lr w.lc) (rows_fit w.c w.lc) (cols_fit w.r w.lr) old);
   }
 
-  module _ {F B : Type 0} (returns : F → ℕ × ℕ → Bor A → B → Type 0) (f : F) (news : List B) (len : length news ≡ length cells) (a : PairsUp (ReturnsAtCell returns f) (zip (places o m n) cells) news) where
+  module _ {F B : Type 0} (returns : F → ℕ × ℕ → Bor A → B → Type 0) (f : F) (news : List B) (len : length news ≡ length cells) (a : PairsUp (ReturnsAtCell returns f) (zip (positions o m n) cells) news) where
     record Called (r c : ℕ) : Type 0 where
       pub y : B
       pub p : Bor A
@@ -99,8 +99,8 @@ module _ {A : Type 0} (o : Order) (m n : ℕ) (cells : List A) (v : GridValue A)
     called r c lr lc =
         let k = place o m n r c in
         let i = item_at cells k (omega (arith, place_within o m n r c lr lc, h.cells)) in
-        let pair = get-zip (places o m n) cells k (r, c) i.x (get-places o m n r c h.size lr lc) i.is in
-        let w = answer_at (ReturnsAtCell returns f) (zip (places o m n) cells) news k ((r, c), i.x) a.places pair in
+        let pair = get-zip (positions o m n) cells k (r, c) i.x (get-places o m n r c h.size lr lc) i.is in
+        let w = answer_at (ReturnsAtCell returns f) (zip (positions o m n) cells) news k ((r, c), i.x) a.places pair in
         record {
           y = w.y;
           p = w.by.shown;
@@ -119,21 +119,21 @@ module _ {A : Type 0} (o : Order) (m n : ℕ) (cells : List A) (v : GridValue A)
         made ∙ (ap (λ x. tabulate x n g) (sym (seen_rows o m n cells v h e)) ∙ ap (λ x. tabulate (row_count v.rows) x g) (sym (seen_cols o m n cells v h e)))
 
 module _ (o : Order) (m n : ℕ) (z : IsSize m n) where
-  -- a closure that can be called at each place can be called along the places
-  pub callable_places : {F : Type 0} (takes : F → ℕ × ℕ → Type 0) (f : F) → m < 2 ^ 64 → n < 2 ^ 64 → m * n < 2 ^ 64 → CallableOver takes f m n → CallableAtItems takes f (places o m n)
-  callable_places {F} takes f rows cols below can = record {
+  -- a closure that can be called at each position can be called along the positions
+  pub callable_positions : {F : Type 0} (takes : F → ℕ × ℕ → Type 0) (f : F) → m < 2 ^ 64 → n < 2 ^ 64 → m * n < 2 ^ 64 → CallableOver takes f m n → CallableAtItems takes f (positions o m n)
+  callable_positions {F} takes f rows cols below can = record {
     at = λ k at lt is.
         let w = has_place o m n k (omega (arith, length-places o m n z)) in
-        let there : slice_get (places o m n) k ≡ Some (w.r, w.c) = ap (slice_get (places o m n)) (sym w.is) ∙ get-places o m n w.r w.c z w.lr w.lc in
-        let same : at ≡ (w.r, w.c) = is ∙ (sym (unwrap_or-slice_get (places o m n) k at) ∙ ap (λ x. unwrap_or x at) there) in
+        let there : slice_get (positions o m n) k ≡ Some (w.r, w.c) = ap (slice_get (positions o m n)) (sym w.is) ∙ get-places o m n w.r w.c z w.lr w.lc in
+        let same : at ≡ (w.r, w.c) = is ∙ (sym (unwrap_or-slice_get (positions o m n) k at) ∙ ap (λ x. unwrap_or x at) there) in
         subst (takes f) (sym same) (can w.r w.c w.lr w.lc rows cols below);
   }
 
-  -- the table of answers along the places is what they determine
-  pub answers_tabulated : {F T : Type 0} (returns : F → ℕ × ℕ → T → Type 0) (f : F) (cells : List T) → PairsUp (returns f) (places o m n) cells → TabulatedOver returns f m n (table_of o m n cells)
+  -- the table of answers along the positions is what they determine
+  pub answers_tabulated : {F T : Type 0} (returns : F → ℕ × ℕ → T → Type 0) (f : F) (cells : List T) → PairsUp (returns f) (positions o m n) cells → TabulatedOver returns f m n (table_of o m n cells)
   answers_tabulated {T = T} returns f cells a h by _ _ =
       let called : (r c : ℕ) → r < m → c < n → AnswerAt (returns f) (r, c) cells (place o m n r c) =
-      λ r c lr lc. answer_at (returns f) (places o m n) cells (place o m n r c) (r, c) a.places (get-places o m n r c z lr lc) in
+      λ r c lr lc. answer_at (returns f) (positions o m n) cells (place o m n r c) (r, c) a.places (get-places o m n r c z lr lc) in
       let given : (r c : ℕ) (lr : r < m) (lc : c < n) → h r c ≡ Some (called r c lr lc).y = λ r c lr lc. by r c (called r c lr lc).y lr lc (called r c lr lc).by in
       let full : IsFull m n h = record { full = λ r c lr lc. ap is_some (given r c lr lc) } in
       tabulate-same m n (λ r c. slice_get cells (place o m n r c)) h (λ r c lr lc. (called r c lr lc).is ∙ sym (given r c lr lc)) full

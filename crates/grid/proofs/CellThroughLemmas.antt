@@ -63,7 +63,7 @@ module _ {T : Type 0} where
   past_cols t h r c le =
       ⊎_elim (λ lt. slice_get_past (row t r) c (omega (arith, h.even r lt))) (λ ge. past_rows t r c ge) (cases_lt r (row_count t))
 
-  -- a place that isn't in range has no cell
+  -- a position that isn't in range has no cell
   pub cell_past : (t : List (List T)) → IsTable t → (r c : ℕ) → in_range (row_count t) (col_count t) (r, c) ≡ false → cell t r c ≡ None
   cell_past t h r c e =
       ⊎_elim (λ lr.

@@ -1,7 +1,7 @@
 -- A grid of which one cell is written.
 use Rattle.std.proofs.Common.{◌≡◌, ℕ, ◌<◌, List, length, set, ◌∙◌, ap}
 use Rattle.std.specs.List.{swap}
-use Rattle.grid_base.specs.declared.flat.order.Order.{Order}
+use Rattle.grid_base.specs.declared.order.Order.{Order}
 use Rattle.grid_base.specs.Table.{exchanged, with_cell}
 use Rattle.grid_base.specs.Order.{place, table_of}
 use Rattle.grid_base.proofs.ViewLemmas.{same_grid_value}
@@ -9,20 +9,20 @@ use Rattle.grid_base.specs.GridValue.{HoldsSize, GridValue}
 use Rattle.grid_base.proofs.WriteLemmas.{view-write, view-swap}
 use Rattle.grid.specs.View.{grid_value, with_grid_cell}
 
--- what a write to a cell's place makes of the value that a contract sees
+-- what a write to a cell's position makes of the value that a contract sees
 pub grid_value_written : {T : Type 0} (o : Order) (m n : ℕ) (cells : List T) (s : GridValue T) (r c : ℕ) (w : T) (h : HoldsSize m n (length cells)) (k : HoldsSize m n (length (set cells (place o m n r c) w))) → grid_value o m n cells h ≡ s → r < m → c < n → grid_value o m n (set cells (place o m n r c) w) k ≡ with_grid_cell s r c w
 grid_value_written o m n cells s r c w h k e lr lc =
     same_grid_value _ _
     (view-write o m n cells h r c lr lc w ∙ ap (λ x. with_cell x.rows r c w) e)
     (ap (λ x. x.order) e)
 
--- the same at a place that is known by an equation
+-- the same at a position that is known by an equation
 pub seen_written_cell : {T : Type 0} (o : Order) (m n : ℕ) (cells : List T) (s : GridValue T) (r c : ℕ) (w : T) (p : ℕ) → p ≡ place o m n r c → (h : HoldsSize m n (length cells)) (k : HoldsSize m n (length (set cells p w))) → grid_value o m n cells h ≡ s → r < m → c < n → grid_value o m n (set cells p w) k ≡ with_grid_cell s r c w
 seen_written_cell o m n cells s r c w p at h k e lr lc =
     same_grid_value _ _
     (ap (λ x. table_of o m n (set cells x w)) at ∙ (view-write o m n cells h r c lr lc w ∙ ap (λ x. with_cell x.rows r c w) e))
     (ap (λ x. x.order) e)
 
--- what a swap of two cells' places makes of the rows
+-- what a swap of two cells' positions makes of the rows
 pub rows_swapped : {T : Type 0} (o : Order) (m n : ℕ) (cells : List T) (s : GridValue T) (a b : ℕ × ℕ) (h : HoldsSize m n (length cells)) → grid_value o m n cells h ≡ s → a.0 < m → a.1 < n → b.0 < m → b.1 < n → table_of o m n (swap cells (place o m n a.0 a.1) (place o m n b.0 b.1)) ≡ exchanged s.rows a b
 rows_swapped o m n cells s a b h e ra ca rb cb = view-swap o m n cells h a b ra ca rb cb ∙ ap (λ x. exchanged x.rows a b) e

@@ -6,7 +6,7 @@ use Rattle.std.proofs.lemmas.List.{take_more, append-nil, map-append, get_or-map
 use Rattle.std.proofs.lemmas.Grind.{flat_map-append}
 use Rattle.std.proofs.lemmas.Bool.{cases_eq}
 use borrow.Author.Tests.{eqb-true}
-use Rattle.grid_base.specs.declared.flat.order.Order.TheVariants.{RowMajor}
+use Rattle.grid_base.specs.declared.order.Order.TheVariants.{RowMajor}
 use Rattle.grid_base.specs.Table.{row, row_count, col_count, concat_rows, IsTable}
 use Rattle.grid_base.specs.Order.{storage, CanCut}
 use Rattle.grid_base.specs.GridValue.{GridValue}

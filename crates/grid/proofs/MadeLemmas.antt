@@ -6,7 +6,7 @@ use Rattle.std.proofs.lemmas.List.{get_or-replicate, length-replicate}
 use Rattle.std.proofs.lemmas.Option.{slice_get-get_or}
 use Rattle.std.proofs.Common.{inl, inr, ⊎_elim}
 use Rattle.std.proofs.lemmas.Bool.{cases_eq}
-use Rattle.grid_base.specs.declared.flat.order.Order.{Order}
+use Rattle.grid_base.specs.declared.order.Order.{Order}
 use Rattle.grid_base.specs.Table.{row_count, col_count, cell, InRange, IsTable}
 use Rattle.grid_base.specs.Order.{storage, place, CanCut}
 use Rattle.grid_base.proofs.StorageLemmas.{length-storage, get-storage, place_within}

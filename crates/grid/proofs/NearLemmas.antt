@@ -5,9 +5,9 @@ use Rattle.std.specs.Option.{option_map, option_and_then}
 use Rattle.std.proofs.lemmas.Bool.{cases_lt}
 use Rattle.grid_base.specs.Table.{row_count, col_count, cell, InRange, IsTable}
 use Rattle.grid_near.specs.Neighbors.{around4, around8, before, both, round_before, round_after, cell_at, neighbors4, neighbors8, wrapped_neighbors4, wrapped_neighbors8}
-use Rattle.grid.specs.IndexedWalks.{IsCellAt, GivesCells}
+use Rattle.grid.specs.IndexedIterators.{IsCellAt, GivesCells}
 use Rattle.grid.proofs.CellThroughLemmas.{past_rows, past_cols}
-use Rattle.grid.proofs.IndexedWalkLemmas.{gives_cells_of}
+use Rattle.grid.proofs.IndexedIteratorLemmas.{gives_cells_of}
 
 module _ {X Y : Type 0} (P : Y → Type 0) (f : X → Option Y) (found : (x : X) (y : Y) → f x ≡ Some y → P y) where
   one_more : (o : Option Y) (rest : List Y) → ((y : Y) → o ≡ Some y → P y) → ((k : ℕ) (y : Y) → k < length rest → y ≡ slice_index_or rest k y → P y) → (k : ℕ) (y : Y) → k < length (cons_option o rest) → y ≡ slice_index_or (cons_option o rest) k y → P y

@@ -4,7 +4,7 @@ use Rattle.std.specs.List.{slice_get, All}
 use Rattle.std.proofs.lemmas.List.{length-take-le}
 use Rattle.std.proofs.lemmas.List.Elements.{All-nil, All-cons, All-head, All-tail, All-get_or, All-from_get_or}
 use Rattle.std.proofs.lemmas.Option.{get_or_from_slice_get}
-use Rattle.grid_base.specs.declared.flat.order.Order.{Order}
+use Rattle.grid_base.specs.declared.order.Order.{Order}
 use Rattle.grid_base.specs.Table.{row, row_count, tabulate}
 use Rattle.grid_base.specs.Order.{place, table_of}
 use Rattle.grid_base.specs.Groups.{Opened}
@@ -23,8 +23,8 @@ module _ {T : Type 0} where
   All-from_gets P (x ∷ xs) h = All-cons P x xs (h 0 x (omega arith) refl) (All-from_gets P xs (λ c y lt e. h (suc c) y (omega arith) e))
 
   -- a list whose elements are all elements of ys
-  pub All-from_places : (P : T → Type 0) (xs ys : List T) → All P ys → ((c : ℕ) → c < length xs → (y : ℕ) × (y < length ys) × (slice_get xs c ≡ slice_get ys y)) → All P xs
-  All-from_places P xs ys all h = All-from_gets P xs (λ c x lt e. let f = h c lt in holds_at P ys f.0 x all f.1 (sym f.2 ∙ e))
+  pub All-from_positions : (P : T → Type 0) (xs ys : List T) → All P ys → ((c : ℕ) → c < length xs → (y : ℕ) × (y < length ys) × (slice_get xs c ≡ slice_get ys y)) → All P xs
+  All-from_positions P xs ys all h = All-from_gets P xs (λ c x lt e. let f = h c lt in holds_at P ys f.0 x all f.1 (sym f.2 ∙ e))
 
   pub replicate_from_all : (d : T) (xs : List T) (n : ℕ) → All (λ x. x ≡ d) xs → length xs ≡ n → xs ≡ replicate n d
   replicate_from_all d [] zero all e = refl
@@ -69,7 +69,7 @@ module _ {T : Type 0} where
     pub All-fresh : (P : T → Type 0) → All P (drop (m * n) before) → (j : ℕ) → j < k → All P (row h.fresh j)
     All-fresh P all j lj =
         let wide : length (row h.fresh j) ≡ n = h.widths j (omega (arith, h.rows)) in
-        All-from_places P (row h.fresh j) (drop (m * n) before) all
+        All-from_positions P (row h.fresh j) (drop (m * n) before) all
         (λ c lc.
         let x = h.from j c lj (omega arith) in
         let at_least = x.1 in

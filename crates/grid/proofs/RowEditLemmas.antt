@@ -4,8 +4,8 @@ use Rattle.std.specs.List.{slice_get}
 use Rattle.std.proofs.lemmas.Nat.{mul-add-lt}
 use Rattle.std.proofs.lemmas.Bool.{cases_lt, ne_eqb}
 use Rattle.std.proofs.Math.Nat.{mul-le-mul_right}
-use Rattle.grid_base.specs.declared.flat.order.Order.{Order}
-use Rattle.grid_base.specs.declared.flat.order.Order.TheVariants.{RowMajor, ColumnMajor}
+use Rattle.grid_base.specs.declared.order.Order.{Order}
+use Rattle.grid_base.specs.declared.order.Order.TheVariants.{RowMajor, ColumnMajor}
 use Rattle.grid_base.specs.Table.{row, row_count, cell, tabulate}
 use Rattle.grid_base.specs.Order.{place, table_of}
 use Rattle.grid_base.specs.Groups.{Widened, Woven, Opened}

@@ -6,7 +6,7 @@ use Rattle.std.proofs.lemmas.List.{map-append, take-map, length-map}
 use Rattle.std.proofs.lemmas.List.Elements.{All-pop, All-from_get_or}
 use Rattle.std.proofs.lemmas.Option.{slice_get-map}
 use Rattle.std.proofs.Math.Seq.{take-append_seam}
-use Rattle.grid_base.specs.declared.flat.order.Order.{Order}
+use Rattle.grid_base.specs.declared.order.Order.{Order}
 use Rattle.grid_base.specs.declared.words.Symmetry.TheVariants.{Identity}
 use Rattle.grid_base.specs.GridValue.{GridValue}
 use Rattle.grid_base.specs.Table.{row_count, col_count}
@@ -77,7 +77,7 @@ count_more n j k before between after first more sum =
 -- what a run so far made, with the order as it went
 pub record Running {T : Type 0} (is_clone : T → T → Type 0) (is_default : T → Type 0) (xs : List (CommandValue T)) (old new : GridValue T) (before after : Counts) (answers : List (ReplyValue T)) : Type 0 where
   pub ran : Ran is_clone is_default xs old new before after answers
-  pub walked : new.order ≡ run_order xs old.order
+  pub ordered : new.order ≡ run_order xs old.order
 
 module _ {T : Type 0} (is_clone : T → T → Type 0) (is_default : T → Type 0) where
   pub running_none : (s : GridValue T) (t : Counts) → Running is_clone is_default [] s s t t []
@@ -88,7 +88,7 @@ module _ {T : Type 0} (is_clone : T → T → Type 0) (is_default : T → Type 0
       left = λ d known. record { rows = refl; symmetry = saturating_count-none t.symmetry; shift = saturating_count-none t.shift };
       replies = λ d known same. refl;
     };
-    walked = refl;
+    ordered = refl;
   }
 
   known_edit : (d : T) → IsOnlyDefault is_default d → (e : Edit T) → EditIsKnown is_default d e
@@ -120,7 +120,7 @@ module _ {T : Type 0} (is_clone : T → T → Type 0) (is_default : T → Type 0
             ∙ (ap (λ rs. rs ++ step_reply x mid.rows ∷ []) (r.ran.replies d before same)
             ∙ (ap (λ t. run_replies d xs old.rows ++ step_reply x t ∷ []) l.rows ∙ sym (run_replies-more d xs x old.rows)));
       };
-      walked = order ∙ (ap (order_after (command_symmetry x)) r.walked ∙ sym (run_order-more xs x old.order));
+      ordered = order ∙ (ap (order_after (command_symmetry x)) r.ordered ∙ sym (run_order-more xs x old.order));
     }
       where
         all_left : (d : T) → All (RowsAreKnown is_default is_clone d) xs × RowsAreKnown is_default is_clone d x → LeftByRun d (xs ++ x ∷ []) old new first last
@@ -129,7 +129,7 @@ module _ {T : Type 0} (is_clone : T → T → Type 0) (is_default : T → Type 0
             record {
               rows = rows d known.1 ∙ (ap (step_rows d x) l.rows ∙ sym (run_rows-more d xs x old.rows));
               symmetry = count_more _ _ _ _ _ _ l.symmetry (symmetry ∙ ap (λ t. saturating_count between.symmetry (price_at x t)) l.rows) (run_price-more d xs x old.rows);
-              shift = count_more _ _ _ _ _ _ l.shift (shift ∙ (ap (λ t. saturating_count between.shift (shift_at x mid.order t)) l.rows ∙ ap (λ o. saturating_count between.shift (shift_at x o (run_rows d xs old.rows))) r.walked)) (run_shift-more d xs x old.order old.rows);
+              shift = count_more _ _ _ _ _ _ l.shift (shift ∙ (ap (λ t. saturating_count between.shift (shift_at x mid.order t)) l.rows ∙ ap (λ o. saturating_count between.shift (shift_at x o (run_rows d xs old.rows))) r.ordered)) (run_shift-more d xs x old.order old.rows);
             }
 
   -- a command that changed nothing leaves what the run so far made

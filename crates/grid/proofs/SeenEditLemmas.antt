@@ -5,8 +5,8 @@ use Rattle.std.specs.List.{insert, remove, slice_get}
 use Rattle.std.proofs.lemmas.List.{length-take-le}
 use Rattle.std.proofs.lemmas.Option.{slice_get-get_or}
 use Rattle.std.proofs.Math.Dec.{eqb-suc-zero}
-use Rattle.grid_base.specs.declared.flat.order.Order.{Order}
-use Rattle.grid_base.specs.declared.flat.order.Order.TheVariants.{RowMajor}
+use Rattle.grid_base.specs.declared.order.Order.{Order}
+use Rattle.grid_base.specs.declared.order.Order.TheVariants.{RowMajor}
 use Rattle.grid_base.specs.Table.{row, row_count, col_count, IsTable}
 use Rattle.grid_base.specs.Order.{storage, table_of}
 use Rattle.grid_base.specs.GridValue.{GridValue, HoldsSize}

@@ -1,7 +1,7 @@
 -- What a grid's fields say of the value that a contract sees.
 use Rattle.std.proofs.Common.{◌≡◌, ◌<◌, ◌*◌, ◌^◌, ℕ, List, [], ◌∷◌, length, refl, sym, ◌∙◌, ap, arith, ◌↔◌, IsTrue, nat_eq}
 use borrow.Author.Tests.{eqb-true, eq-eqb}
-use Rattle.grid_base.specs.declared.flat.order.Order.{Order}
+use Rattle.grid_base.specs.declared.order.Order.{Order}
 use Rattle.grid_base.specs.Table.{row_count, col_count, IsTable, InRange}
 use Rattle.grid_base.specs.Order.{table_of, storage}
 use Rattle.grid_base.specs.GridValue.{GridValue, HoldsSize}
@@ -34,7 +34,7 @@ module _ {T : Type 0} (o : Order) (m n : ℕ) (cells : List T) (s : GridValue T)
     λ none. eq-eqb m 0 (sym (seen_rows e) ∙ ap length none),
   )
 
-  -- a place in range of the value is in range of the fields
+  -- a position in range of the value is in range of the fields
   pub seen_row_in : (r c : ℕ) → grid_value o m n cells h ≡ s → InRange s.rows r c → r < m
   seen_row_in r c e p = rw (seen_rows e) at p.0
 

@@ -7,11 +7,17 @@ use Rattle.grid_base.specs.Table.{row_count, col_count, cell, InRange, tabulate}
 abbrev pub filled : {T : Type 0} → T → List (List T) → List (List T)
 filled w t = map (λ row. map (λ _. w) row) t
 
--- the closure f can be called at each place of the table t and a reference to the cell there
-abbrev pub CallableAtPlaces : {F A : Type 0} → (F → ℕ × ℕ → Bor A → Type 0) → F → List (List A) → Type 0
-CallableAtPlaces {A = A} takes f t = (r c : ℕ) (p : Bor A) → InRange t r c → row_count t < 2 ^ 64 → col_count t < 2 ^ 64 → cell t r c ≡ Some p.now → takes f (r, c) p
+-- the closure f can be called at each position of the table t and a reference to the cell there
+abbrev pub CallableAtPositions : {F A : Type 0} → (F → ℕ × ℕ → Bor A → Type 0) → F → List (List A)
+    → Type 0
+CallableAtPositions {A = A} takes f t = (r c : ℕ) (p : Bor A) → InRange t r c → row_count t < 2 ^ 64
+    → col_count t < 2 ^ 64 → cell t r c ≡ Some p.now → takes f (r, c) p
 
-module _ {F A B : Type 0} (returns : F → ℕ × ℕ → Bor A → B → Type 0) (f : F) (t : List (List A)) where
-  -- where h gives whatever f may return at each place and the cell of t there, u is the table of what h gives
-  abbrev pub TabulatedBy : List (List B) → Type 0
-  TabulatedBy u = (h : ℕ → ℕ → Option B) → ((r c : ℕ) (p : Bor A) (y : B) → InRange t r c → cell t r c ≡ Some p.now → returns f (r, c) p y → h r c ≡ Some y) → u ≡ tabulate (row_count t) (col_count t) h
+module _ {F A B : Type 0} (returns : F → ℕ × ℕ → Bor A → B → Type 0) (f : F) (t : List (List A))
+  where
+    -- where h gives whatever f may return at each position and the cell of t there, u is the table of
+    -- what h gives
+    abbrev pub TabulatedBy : List (List B) → Type 0
+    TabulatedBy u = (h : ℕ → ℕ → Option B) →
+        ((r c : ℕ) (p : Bor A) (y : B) → InRange t r c → cell t r c ≡ Some p.now
+        → returns f (r, c) p y → h r c ≡ Some y) → u ≡ tabulate (row_count t) (col_count t) h

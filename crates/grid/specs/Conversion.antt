@@ -1,16 +1,35 @@
 -- Cells joined and cut into rows, and rows of one length as a table.
-use Rattle.std.specs.Prelude.{◌≡◌, ◌≢◌, ◌==◌, if◌then◌else◌, ℕ, ◌^◌, ◌<◌, ◌≤◌, List, [], length, Result, MatchResult}
+use Rattle.std.specs.Prelude.{
+  ◌≡◌,
+  ◌≢◌,
+  ◌==◌,
+  if◌then◌else◌,
+  ℕ,
+  ◌^◌,
+  ◌<◌,
+  ◌≤◌,
+  List,
+  [],
+  length,
+  Result,
+  MatchResult,
+}
 use Rattle.std.specs.List.{AllZip}
-use Rattle.grid_base.specs.declared.flat.order.Order.TheVariants.{RowMajor}
+use Rattle.grid_base.specs.declared.order.Order.TheVariants.{RowMajor}
 use Rattle.grid_base.specs.Table.{row, row_count, col_count, concat_rows}
 use Rattle.grid_base.specs.Order.{CanCut}
 use Rattle.grid_base.specs.GridValue.{GridValue}
 use Rattle.grid_base.specs.Clones.{ClonesAreEqual}
 use Rattle.grid_commands.specs.declared.error.ShapeError.{ShapeError}
-use Rattle.grid_commands.specs.declared.error.ShapeError.TheVariants.{TooLarge, Shape, Ragged, Memory}
+use Rattle.grid_commands.specs.declared.error.ShapeError.TheVariants.{
+  TooLarge,
+  Shape,
+  Ragged,
+  Memory,
+}
 
--- why so many cells could not be cut into rows of n: the cells of one vector are never too many, and rows that are cut
--- are never ragged; memory says when want of memory may come
+-- why so many cells could not be cut into rows of n: the cells of one vector are never too many,
+-- and rows that are cut are never ragged; memory says when want of memory may come
 abbrev pub CutFault : Type 0 → ℕ → ℕ → ShapeError → Type 0
 CutFault memory len n TooLarge = ⊥
 CutFault memory len n (Shape l cols) = (¬ CanCut len n) × (l ≡ len) × (cols ≡ n)
@@ -53,17 +72,26 @@ module _ {T : Type 0} where
     pub even : AreEven rows
     pub below : length (concat_rows rows) < 2 ^ 64
 
-  -- why rows could not be made a grid: the lengths are tested first, then the number of cells, and memory comes last
+  -- why rows could not be made a grid: the lengths are tested first, then the number of cells, and
+  -- memory comes last
   abbrev pub RowsFault : List (List T) → ShapeError → Type 0
   RowsFault rows TooLarge = AreEven rows × (2 ^ 64 ≤ length (concat_rows rows))
   RowsFault rows (Shape len cols) = ⊥
-  RowsFault rows (Ragged r len cols) = IsFirstRagged rows r × (len ≡ length (row rows r)) × (cols ≡ col_count rows)
+  RowsFault rows (Ragged r len cols) = IsFirstRagged rows r × (len ≡ length (row rows r))
+      × (cols ≡ col_count rows)
   RowsFault rows Memory = CanJoin rows
 
-  -- what a conversion of rows answers: equal rows, of which the grid has those that P says, or why not
-  abbrev pub RowsAnswer : List (List T) → (List (List T) → Type 0) → Result (GridValue T) ShapeError → Type 0
-  RowsAnswer rows P r = MatchResult r (λ g. CanJoin rows × HasShape (length (concat_rows rows)) (col_count rows) g × P g.rows) (RowsFault rows)
+  -- what a conversion of rows answers: equal rows, of which the grid has those that P says, or why
+  -- not
+  abbrev pub RowsAnswer : List (List T) → (List (List T) → Type 0) → Result (GridValue T) ShapeError
+      → Type 0
+  RowsAnswer rows P r = MatchResult r (λ g. CanJoin rows
+      × HasShape (length (concat_rows rows)) (col_count rows) g × P g.rows) (RowsFault rows)
 
-  -- what a conversion of cells answers: the cut, of which the grid has those cells that P says, or why not
-  abbrev pub CutAnswer : Type 0 → List T → ℕ → (List T → Type 0) → Result (GridValue T) ShapeError → Type 0
-  CutAnswer memory cells n P r = MatchResult r (λ g. CanCut (length cells) n × HasShape (length cells) n g × P (concat_rows g.rows)) (CutFault memory (length cells) n)
+  -- what a conversion of cells answers: the cut, of which the grid has those cells that P says, or
+  -- why not
+  abbrev pub CutAnswer : Type 0 → List T → ℕ → (List T → Type 0) → Result (GridValue T) ShapeError
+      → Type 0
+  CutAnswer memory cells n P r = MatchResult r
+      (λ g. CanCut (length cells) n × HasShape (length cells) n g × P (concat_rows g.rows))
+      (CutFault memory (length cells) n)

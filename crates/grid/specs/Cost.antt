@@ -1,14 +1,37 @@
 -- What commands cost in counted swaps, and the symmetries that they apply.
 use Rattle.std.specs.Prelude.{ℕ, List, map, nat_eq, if◌then◌else◌}
 use Rattle.std.specs.Option.{is_none}
-use Rattle.grid_base.specs.declared.flat.order.Order.{Order}
+use Rattle.grid_base.specs.declared.order.Order.{Order}
 use Rattle.grid_base.specs.declared.words.Symmetry.{Symmetry}
 use Rattle.grid_base.specs.declared.words.Symmetry.TheVariants.{Identity}
 use Rattle.grid_base.specs.Order.{flipped}
 use Rattle.grid_base.specs.Symmetry.{price, symmetry_of}
 use Rattle.grid_commands.specs.declared.command.Axis.{Axis}
 use Rattle.grid_commands.specs.declared.command.Axis.TheVariants.{Row, Col}
-use Rattle.grid_commands.specs.Command.{Edit, read, push, insert_at, insert_all, pop, remove_at, delete_at, delete_range, expand, prepend, CommandValue, size, get, set_cell, swap_cells, lines, fill, clear, apply, line_count, line_width}
+use Rattle.grid_commands.specs.Command.{
+  Edit,
+  read,
+  push,
+  insert_at,
+  insert_all,
+  pop,
+  remove_at,
+  delete_at,
+  delete_range,
+  expand,
+  prepend,
+  CommandValue,
+  size,
+  get,
+  set_cell,
+  swap_cells,
+  lines,
+  fill,
+  clear,
+  apply,
+  line_count,
+  line_width,
+}
 use Rattle.grid_commands.specs.Refusal.{pad_refusal}
 use Rattle.grid.specs.Shift.{rows_added_shift, delete_rows_shift}
 
@@ -37,10 +60,13 @@ module _ {T : Type 0} where
   abbrev pub step_price : CommandValue T → ℕ → ℕ → ℕ
   step_price x m n = price (command_symmetry x) m n
 
-  -- how many cells stay at an edit of so many lines of this width and change their place in the storage
+  -- how many cells stay at an edit of so many lines of this width and change their place in the
+  -- storage
   abbrev pub edit_shift : Order → ℕ → ℕ → Edit T → ℕ
-  edit_shift o count width (expand k) = if is_none (pad_refusal count width k) then (if nat_eq count 0 then 0 else rows_added_shift o count width count k) else 0
-  edit_shift o count width (prepend k) = if is_none (pad_refusal count width k) then (if nat_eq count 0 then 0 else rows_added_shift o count width 0 k) else 0
+  edit_shift o count width (expand k) = if is_none (pad_refusal count width k)
+      then (if nat_eq count 0 then 0 else rows_added_shift o count width count k) else 0
+  edit_shift o count width (prepend k) = if is_none (pad_refusal count width k)
+      then (if nat_eq count 0 then 0 else rows_added_shift o count width 0 k) else 0
   edit_shift o count width (delete_at i) = delete_rows_shift o count width i 1
   edit_shift o count width (delete_range i k) = delete_rows_shift o count width i k
   edit_shift o count width (read i) = 0

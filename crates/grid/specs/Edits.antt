@@ -1,5 +1,26 @@
 -- Edits of tables: lines put and taken, and padding.
-use Rattle.std.specs.Prelude.{◌≡◌, ◌⊎◌, ℕ, ◌+◌, Bool, true, false, List, [], ◌∷◌, ◌++◌, length, All, ◌<◌, map, filter, take, drop, insert, replicate}
+use Rattle.std.specs.Prelude.{
+  ◌≡◌,
+  ◌⊎◌,
+  ℕ,
+  ◌+◌,
+  Bool,
+  true,
+  false,
+  List,
+  [],
+  ◌∷◌,
+  ◌++◌,
+  length,
+  All,
+  ◌<◌,
+  map,
+  filter,
+  take,
+  drop,
+  insert,
+  replicate,
+}
 use Rattle.grid_base.specs.Table.{row, row_count, col_count}
 
 module _ {T : Type 0} where
@@ -24,7 +45,8 @@ module _ {T : Type 0} where
   insert_into_rows i (x ∷ xs) [] = []
   insert_into_rows i (x ∷ xs) (r ∷ t) = insert r i x ∷ insert_into_rows i xs t
 
-  -- a line put as a column before column i; into the empty table, each cell becomes a row of its own
+  -- a line put as a column before column i; into the empty table, each cell becomes a row of its
+  -- own
   abbrev pub insert_col : ℕ → List T → List (List T) → List (List T)
   insert_col i line [] = map (λ x. x ∷ []) line
   insert_col i line (r ∷ t) = insert_into_rows i line (r ∷ t)
@@ -41,7 +63,8 @@ module _ {T : Type 0} where
 
   -- the columns from start on, count of them, taken out; rows that become empty leave
   abbrev pub without_cols : ℕ → ℕ → List (List T) → List (List T)
-  without_cols start count t = filter has_cells (map (λ r. take start r ++ drop (start + count) r) t)
+  without_cols start count t = filter has_cells
+      (map (λ r. take start r ++ drop (start + count) r) t)
 
   -- k rows of d at the end or at the beginning of a nonempty table
   abbrev pub expanded_rows : ℕ → T → List (List T) → List (List T)

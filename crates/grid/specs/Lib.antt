@@ -11,11 +11,11 @@ pub mod Run
 pub mod Edits
 pub mod RowGroups
 pub mod Shift
-pub mod Walks
+pub mod Iterators
 pub mod AllCells
 pub mod Same
 pub mod Texts
 pub mod EditFails
-pub mod IndexedWalks
+pub mod IndexedIterators
 pub mod Parts
 pub mod NearCounts

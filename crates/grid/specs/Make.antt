@@ -1,6 +1,22 @@
 -- What the constructors of a grid say of its table.
-use Rattle.std.specs.Prelude.{◌≡◌, ◌≢◌, ◌↔◌, ◌<◌, ◌≤◌, ◌^◌, ℕ, ◌*◌, List, [], Option, Some, Result, IsOk, IsErrOf}
-use Rattle.grid_base.specs.declared.flat.order.Order.{Order}
+use Rattle.std.specs.Prelude.{
+  ◌≡◌,
+  ◌≢◌,
+  ◌↔◌,
+  ◌<◌,
+  ◌≤◌,
+  ◌^◌,
+  ℕ,
+  ◌*◌,
+  List,
+  [],
+  Option,
+  Some,
+  Result,
+  IsOk,
+  IsErrOf,
+}
+use Rattle.grid_base.specs.declared.order.Order.{Order}
 use Rattle.grid_base.specs.Table.{row_count, col_count, cell, InRange, tabulate}
 use Rattle.grid_base.specs.GridValue.{GridValue}
 use Rattle.grid_commands.specs.declared.error.GridError.{GridError}
@@ -21,7 +37,8 @@ pub record IsMade {T : Type 0} (o : Order) (m n : ℕ) (g : GridValue T) : Type 
   pub order : g.order ≡ o
   pub size : HasSize m n g.rows
 
--- it fails as too large exactly where m rows of n cells are too many, and never where they are no cells
+-- it fails as too large exactly where m rows of n cells are too many, and never where they are no
+-- cells
 pub record FailsBySize {X : Type 0} (m n : ℕ) (made : Result X GridError) : Type 0 where
   pub too_large : IsErrOf made TooLarge ↔ ExceedsMax m n
   pub no_cells : m * n ≡ 0 → IsOk made
@@ -34,11 +51,16 @@ EachCellIs d t = (r c : ℕ) → InRange t r c → cell t r c ≡ Some d
 abbrev pub IsOnlyDefault : {T : Type 0} → (T → Type 0) → T → Type 0
 IsOnlyDefault {T} is_default d = (x : T) → is_default x → x ≡ d
 
--- the closure f can be called at each place of m rows and n columns, where a vector can hold their cells
+-- the closure f can be called at each position of m rows and n columns, where a vector can hold
+-- their cells
 abbrev pub CallableOver : {F : Type 0} → (F → ℕ × ℕ → Type 0) → F → ℕ → ℕ → Type 0
-CallableOver takes f m n = (r c : ℕ) → r < m → c < n → m < 2 ^ 64 → n < 2 ^ 64 → m * n < 2 ^ 64 → takes f (r, c)
+CallableOver takes f m n = (r c : ℕ) → r < m → c < n → m < 2 ^ 64 → n < 2 ^ 64 → m * n < 2 ^ 64
+    → takes f (r, c)
 
 module _ {F T : Type 0} (returns : F → ℕ × ℕ → T → Type 0) (f : F) (m n : ℕ) where
-  -- where there are m rows and n columns, and h gives whatever f may return at each place, u is the table of what h gives
+  -- where there are m rows and n columns, and h gives whatever f may return at each position, u is
+  -- the table of what h gives
   abbrev pub TabulatedOver : List (List T) → Type 0
-  TabulatedOver u = (h : ℕ → ℕ → Option T) → ((r c : ℕ) (y : T) → r < m → c < n → returns f (r, c) y → h r c ≡ Some y) → 0 < m → 0 < n → u ≡ tabulate m n h
+  TabulatedOver u = (h : ℕ → ℕ → Option T)
+      → ((r c : ℕ) (y : T) → r < m → c < n → returns f (r, c) y → h r c ≡ Some y) → 0 < m → 0 < n
+      → u ≡ tabulate m n h

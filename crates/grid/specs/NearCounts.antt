@@ -8,6 +8,8 @@ abbrev pub CallableNear : {F T : Type 0} → (F → Bor T → Type 0) → F → 
 CallableNear takes f near = CallableAtRefs takes f (map (λ n. n.1) near)
 
 -- where p says of each cell what the closure f may answer at it, `count` of these cells pass p
-abbrev pub IsCountNear : {F T : Type 0} → (F → Bor T → Bool → Type 0) → F → List ((ℕ × ℕ) × T) → ℕ → Type 0
+abbrev pub IsCountNear : {F T : Type 0} → (F → Bor T → Bool → Type 0) → F → List ((ℕ × ℕ) × T) → ℕ
+    → Type 0
 IsCountNear {T = T} returns f near count =
-    (p : (ℕ × ℕ) × T → Bool) → ((at : ℕ × ℕ) (x : Bor T) (b : Bool) → returns f x b → p (at, x.now) ≡ b) → count ≡ count_by p near
+    (p : (ℕ × ℕ) × T → Bool) → ((at : ℕ × ℕ) (x : Bor T) (b : Bool) → returns f x b
+    → p (at, x.now) ≡ b) → count ≡ count_by p near

@@ -1,6 +1,20 @@
 -- What a list of commands does to a table and replies: the plain run. And what it costs.
-use Rattle.std.specs.Prelude.{◌≡◌, ◌⊎◌, ℕ, ◌+◌, ◌<◌, List, [], ◌∷◌, length, slice_get, All, IsSomeAnd, IsTrue}
-use Rattle.grid_base.specs.declared.flat.order.Order.{Order}
+use Rattle.std.specs.Prelude.{
+  ◌≡◌,
+  ◌⊎◌,
+  ℕ,
+  ◌+◌,
+  ◌<◌,
+  List,
+  [],
+  ◌∷◌,
+  length,
+  slice_get,
+  All,
+  IsSomeAnd,
+  IsTrue,
+}
+use Rattle.grid_base.specs.declared.order.Order.{Order}
 use Rattle.grid_base.specs.Table.{row_count, col_count}
 use Rattle.grid_base.specs.GridValue.{GridValue}
 use Rattle.grid_base.specs.Symmetry.{order_after}
@@ -25,30 +39,40 @@ module _ {T : Type 0} where
   -- how many swaps for symmetries they cost, each at the table before it
   abbrev pub run_price : T → List (CommandValue T) → List (List T) → ℕ
   run_price d [] t = 0
-  run_price d (x ∷ xs) t = step_price x (row_count t) (col_count t) + run_price d xs (step_rows d x t)
+  run_price d (x ∷ xs) t = step_price x (row_count t) (col_count t)
+      + run_price d xs (step_rows d x t)
 
   -- how many shifts, each at the table and the order before it
   abbrev pub run_shift : T → List (CommandValue T) → Order → List (List T) → ℕ
   run_shift d [] o t = 0
   run_shift d (x ∷ xs) o t =
-      step_shift x o (row_count t) (col_count t) + run_shift d xs (order_after (command_symmetry x) o) (step_rows d x t)
+      step_shift x o (row_count t) (col_count t)
+      + run_shift d xs (order_after (command_symmetry x) o) (step_rows d x t)
 
   -- the rows and the counts that a run of these commands leaves, where d is the cells' default
-  pub record LeftByRun (d : T) (commands : List (CommandValue T)) (old new : GridValue T) (before after : Counts) : Type 0 where
+  pub record LeftByRun (d : T) (commands : List (CommandValue T)) (old new : GridValue T)
+      (before after : Counts) : Type 0 where
     pub rows : new.rows ≡ run_rows d commands old.rows
     pub symmetry : after.symmetry ≡ saturating_count before.symmetry (run_price d commands old.rows)
-    pub shift : after.shift ≡ saturating_count before.shift (run_shift d commands old.order old.rows)
+    pub shift : after.shift ≡ saturating_count before.shift
+        (run_shift d commands old.order old.rows)
 
-  -- what a run of these commands makes of a grid and a tally, and what it replies: a reply a command, and where the
-  -- rows are known and clones equal their source, what is due
-  pub record Ran (is_clone : T → T → Type 0) (is_default : T → Type 0) (commands : List (CommandValue T)) (old new : GridValue T) (before after : Counts) (answers : List (ReplyValue T)) : Type 0 where
+  -- what a run of these commands makes of a grid and a tally, and what it replies: a reply a
+  -- command, and where the rows are known and clones equal their source, what is due
+  pub record Ran (is_clone : T → T → Type 0) (is_default : T → Type 0)
+      (commands : List (CommandValue T)) (old new : GridValue T) (before after : Counts)
+      (answers : List (ReplyValue T)) : Type 0 where
     pub count : length answers ≡ length commands
     pub order : new.order ≡ order_after (list_symmetry commands) old.order
-    pub left : (d : T) → All (RowsAreKnown is_default is_clone d) commands → LeftByRun d commands old new before after
-    pub replies : (d : T) → All (RowsAreKnown is_default is_clone d) commands → ClonesAreEqual is_clone → answers ≡ run_replies d commands old.rows
+    pub left : (d : T) → All (RowsAreKnown is_default is_clone d) commands
+        → LeftByRun d commands old new before after
+    pub replies : (d : T) → All (RowsAreKnown is_default is_clone d) commands
+        → ClonesAreEqual is_clone → answers ≡ run_replies d commands old.rows
 
-  -- a run may stop for memory after so many commands, at this table: the next command takes memory, or none was
-  -- done of a list that isn't empty
+  -- a run may stop for memory after so many commands, at this table: the next command takes memory,
+  -- or none was done of a list that isn't empty
   abbrev pub MayStop : List (CommandValue T) → ℕ → List (List T) → Type 0
   MayStop commands finished t =
-      ((finished ≡ 0) × (0 < length commands)) ⊎ IsSomeAnd (slice_get commands finished) (λ x. IsTrue (takes_memory x (row_count t) (col_count t)))
+      ((finished ≡ 0) × (0 < length commands))
+      ⊎ IsSomeAnd (slice_get commands finished)
+      (λ x. IsTrue (takes_memory x (row_count t) (col_count t)))

@@ -1,17 +1,72 @@
 -- What a command does to a table and replies: the plain step. And when it takes memory.
-use Rattle.std.specs.Prelude.{ℕ, ◌+◌, ◌-◌, ⊤, Bool, true, false, not, ◌&&◌, Option, List, [], ◌∷◌, slice_get, nat_lt, if◌then◌else◌}
+use Rattle.std.specs.Prelude.{
+  ℕ,
+  ◌+◌,
+  ◌-◌,
+  ⊤,
+  Bool,
+  true,
+  false,
+  not,
+  ◌&&◌,
+  Option,
+  List,
+  [],
+  ◌∷◌,
+  slice_get,
+  nat_lt,
+  if◌then◌else◌,
+}
 use Rattle.std.specs.Option.{is_none}
 use Rattle.grid_base.specs.Table.{row_count, col_count, cell, transposed, with_cell, exchanged}
 use Rattle.grid_base.specs.Symmetry.{act}
 use Rattle.grid_base.specs.Clones.{ClonesAreEqual}
 use Rattle.grid_commands.specs.declared.command.Axis.{Axis}
 use Rattle.grid_commands.specs.declared.command.Axis.TheVariants.{Row, Col}
-use Rattle.grid_commands.specs.Command.{Edit, read, push, insert_at, insert_all, pop, remove_at, delete_at, delete_range, expand, prepend, CommandValue, size, get, set_cell, swap_cells, lines, fill, clear, apply, line_count, line_width}
+use Rattle.grid_commands.specs.Command.{
+  Edit,
+  read,
+  push,
+  insert_at,
+  insert_all,
+  pop,
+  remove_at,
+  delete_at,
+  delete_range,
+  expand,
+  prepend,
+  CommandValue,
+  size,
+  get,
+  set_cell,
+  swap_cells,
+  lines,
+  fill,
+  clear,
+  apply,
+  line_count,
+  line_width,
+}
 use Rattle.grid_commands.specs.Reply.{ReplyValue, done, size_is, cell_is, line_is, flag_is, refused}
-use Rattle.grid_commands.specs.Refusal.{in_range, unless_refused, pad_refusal, edit_refusal, command_refusal}
+use Rattle.grid_commands.specs.Refusal.{
+  in_range,
+  unless_refused,
+  pad_refusal,
+  edit_refusal,
+  command_refusal,
+}
 use Rattle.grid.specs.Make.{IsOnlyDefault}
 use Rattle.grid.specs.AllCells.{filled}
-use Rattle.grid.specs.Edits.{insert_rows, insert_cols, without_rows, without_cols, expanded_rows, expanded_cols, prepended_rows, prepended_cols}
+use Rattle.grid.specs.Edits.{
+  insert_rows,
+  insert_cols,
+  without_rows,
+  without_cols,
+  expanded_rows,
+  expanded_cols,
+  prepended_rows,
+  prepended_cols,
+}
 
 -- what an edit that isn't refused comes to
 pub data Effect (T : Type 0) : Type 0 where
@@ -74,7 +129,8 @@ module _ {T : Type 0} where
   rows_after d (get r c) t = t
   rows_after d (set_cell r c v) t = with_cell t r c v
   rows_after d (swap_cells p q) t = exchanged t p q
-  rows_after d (lines a e) t = after_effect d a (effect (line_count a (row_count t) (col_count t)) e) t
+  rows_after d (lines a e) t = after_effect d a
+      (effect (line_count a (row_count t) (col_count t)) e) t
   rows_after d (fill v) t = filled v t
   rows_after d clear t = []
   rows_after d (apply s) t = act s t
@@ -92,10 +148,12 @@ module _ {T : Type 0} where
 
   -- the plain step: the table after a command, where d is the cells' default, and its reply
   unfoldable pub step_rows : T → CommandValue T → List (List T) → List (List T)
-  step_rows d x t = unless_refused (command_refusal x (row_count t) (col_count t)) (λ r. t) (rows_after d x t)
+  step_rows d x t = unless_refused (command_refusal x (row_count t) (col_count t)) (λ r. t)
+      (rows_after d x t)
 
   unfoldable pub step_reply : CommandValue T → List (List T) → ReplyValue T
-  step_reply x t = unless_refused (command_refusal x (row_count t) (col_count t)) (λ r. refused r) (reply_to x t)
+  step_reply x t = unless_refused (command_refusal x (row_count t) (col_count t)) (λ r. refused r)
+      (reply_to x t)
 
   abbrev pub has_lines : List (List T) → Bool
   has_lines [] = false
@@ -105,14 +163,18 @@ module _ {T : Type 0} where
   abbrev pub edit_takes_memory : ℕ → ℕ → Edit T → Bool
   edit_takes_memory count width (read i) = nat_lt i count
   edit_takes_memory count width (push line) = is_none (edit_refusal count width (push line))
-  edit_takes_memory count width (insert_at i line) = is_none (edit_refusal count width (insert_at i line))
-  edit_takes_memory count width (insert_all i ls) = has_lines ls && is_none (edit_refusal count width (insert_all i ls))
+  edit_takes_memory count width (insert_at i line) = is_none
+      (edit_refusal count width (insert_at i line))
+  edit_takes_memory count width (insert_all i ls) = has_lines ls
+      && is_none (edit_refusal count width (insert_all i ls))
   edit_takes_memory count width pop = nat_lt 0 count
   edit_takes_memory count width (remove_at i) = nat_lt i count
   edit_takes_memory count width (delete_at i) = false
   edit_takes_memory count width (delete_range i k) = false
-  edit_takes_memory count width (expand k) = nat_lt 0 count && (nat_lt 0 k && is_none (pad_refusal count width k))
-  edit_takes_memory count width (prepend k) = nat_lt 0 count && (nat_lt 0 k && is_none (pad_refusal count width k))
+  edit_takes_memory count width (expand k) = nat_lt 0 count
+      && (nat_lt 0 k && is_none (pad_refusal count width k))
+  edit_takes_memory count width (prepend k) = nat_lt 0 count
+      && (nat_lt 0 k && is_none (pad_refusal count width k))
 
   -- whether a command takes memory at a table of m rows and n columns
   abbrev pub takes_memory : CommandValue T → ℕ → ℕ → Bool
@@ -138,7 +200,8 @@ module _ {T : Type 0} where
   EditIsKnown is_default d (delete_at i) = ⊤
   EditIsKnown is_default d (delete_range i k) = ⊤
 
-  -- what the rows after a command rest on: besides, those after a fill, that clones equal their source
+  -- what the rows after a command rest on: besides, those after a fill, that clones equal their
+  -- source
   abbrev pub RowsAreKnown : (T → Type 0) → (T → T → Type 0) → T → CommandValue T → Type 0
   RowsAreKnown is_default is_clone d (lines a e) = EditIsKnown is_default d e
   RowsAreKnown is_default is_clone d (fill v) = ClonesAreEqual is_clone

@@ -1,5 +1,20 @@
 -- A command and its reply as read through a flip of the rows and through the transpose.
-use Rattle.std.specs.Prelude.{ℕ, ◌+◌, ◌-◌, Bool, true, false, Option, List, [], ◌∷◌, map, reverse, nat_lt, if◌then◌else◌}
+use Rattle.std.specs.Prelude.{
+  ℕ,
+  ◌+◌,
+  ◌-◌,
+  Bool,
+  true,
+  false,
+  Option,
+  List,
+  [],
+  ◌∷◌,
+  map,
+  reverse,
+  nat_lt,
+  if◌then◌else◌,
+}
 use Rattle.std.specs.Option.{option_map}
 use Rattle.grid_base.specs.declared.words.Symmetry.{Symmetry}
 use Rattle.grid_base.specs.declared.words.Symmetry.TheVariants.{FlipRows, Transpose}
@@ -7,7 +22,28 @@ use Rattle.grid_base.specs.Flags.{flags_of}
 use Rattle.grid_base.specs.Symmetry.{transposes, image_rows, image_cols, symmetry_of}
 use Rattle.grid_commands.specs.declared.command.Axis.{Axis}
 use Rattle.grid_commands.specs.declared.command.Axis.TheVariants.{Row, Col}
-use Rattle.grid_commands.specs.Command.{Edit, read, push, insert_at, insert_all, pop, remove_at, delete_at, delete_range, expand, prepend, CommandValue, size, get, set_cell, swap_cells, lines, fill, clear, apply}
+use Rattle.grid_commands.specs.Command.{
+  Edit,
+  read,
+  push,
+  insert_at,
+  insert_all,
+  pop,
+  remove_at,
+  delete_at,
+  delete_range,
+  expand,
+  prepend,
+  CommandValue,
+  size,
+  get,
+  set_cell,
+  swap_cells,
+  lines,
+  fill,
+  clear,
+  apply,
+}
 use Rattle.grid_commands.specs.Reply.{ReplyValue, done, size_is, cell_is, line_is, flag_is, refused}
 
 abbrev pub other_axis : Axis → Axis
@@ -36,7 +72,8 @@ turned_reply s a (cell_is x) = cell_is x
 turned_reply s a (flag_is b) = flag_is b
 turned_reply s a (refused r) = refused r
 
--- line i of so many in the reversed order, the gap before it, and the first of k lines; past the end all stay
+-- line i of so many in the reversed order, the gap before it, and the first of k lines; past the
+-- end all stay
 abbrev pub mirror_place : ℕ → ℕ → ℕ
 mirror_place count i = if nat_lt i count then count - 1 - i else i
 
@@ -89,7 +126,8 @@ module _ {T : Type 0} where
   command_of_flipped m size = size
   command_of_flipped m (get r c) = get (mirror_place m r) c
   command_of_flipped m (set_cell r c v) = set_cell (mirror_place m r) c v
-  command_of_flipped m (swap_cells p q) = swap_cells (mirror_place m p.0, p.1) (mirror_place m q.0, q.1)
+  command_of_flipped m (swap_cells p q) = swap_cells (mirror_place m p.0, p.1)
+      (mirror_place m q.0, q.1)
   command_of_flipped m (lines Row e) = lines Row (edit_of_flipped m e)
   command_of_flipped m (lines Col e) = lines Col (edit_of_reversed e)
   command_of_flipped m (fill v) = fill v

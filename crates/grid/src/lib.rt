@@ -35,13 +35,13 @@ mod command;
 mod convert;
 mod edits;
 mod grid;
+mod iterators;
 mod macros;
 mod neighbors;
 mod parts;
 mod pretty;
 mod symmetry;
 mod traits;
-mod walks;
 
 pub use command::run;
 pub use convert::can_cut;
@@ -54,4 +54,4 @@ pub use grid_commands::{
     Axis, Command, GridError, LineRefused, LinesRefused, Refusal, Reply, RunStopped, ShapeError,
 };
 pub use grid_near::{Neighbors, WrappedNeighbors};
-pub use walks::GridColIter;
+pub use iterators::GridColIter;

@@ -1,7 +1,7 @@
 //! Iterators over the cells round a cell, on the grid as it is or with its edges joined.
 ghost use Rattle.std.specs.Prelude.{◌≡◌, ◌≤◌, length};
 ghost use Rattle.grid_base.specs.Table.{InRange};
-ghost use Rattle.grid.specs.IndexedWalks.{GivesCells};
+ghost use Rattle.grid.specs.IndexedIterators.{GivesCells};
 ghost use Rattle.grid.specs.NearCounts.{CallableNear, IsCountNear};
 ghost use Rattle.grid_near.specs.Neighbors.{neighbors4, neighbors8, wrapped_neighbors4, wrapped_neighbors8, CellsInOrder, PositionsInOrder};
 

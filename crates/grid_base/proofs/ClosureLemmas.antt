@@ -75,7 +75,7 @@ callable_item takes f xs done rest x h is =
     let whole : CallableAtItems takes f (done ++ x ∷ rest) = subst (CallableAtItems takes f) (sym is) h in
     whole.at (length done) x (omega (arith, length-append done (x ∷ rest))) (sym (get_or-append_seam done x rest x))
 
--- the closure can be called at the place and the cell after those that it answered
+-- the closure can be called at the position and the cell after those that it answered
 pub callable_cell : {F P A : Type 0} (takes : F → P → Bor A → Type 0) (f : F) (xs done rest : List (P × A)) (at : P) (p : Bor A) → CallableAtCells takes f xs → done ++ (at, p.now) ∷ rest ≡ xs → takes f at p
 callable_cell {P = P} {A} takes f xs done rest at p h is =
     let x : P × A = (at, p.now) in

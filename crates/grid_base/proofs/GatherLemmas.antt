@@ -6,7 +6,7 @@ use Rattle.std.proofs.lemmas.List.{reverse-append, length-map, map-set, get_or-m
 use Rattle.std.proofs.lemmas.Grind.{flat_map-append}
 use Rattle.grid_base.specs.Table.{row, row_count, col_count, cell, concat_rows, transposed, IsTable}
 use Rattle.grid_base.specs.Order.{storage}
-use Rattle.grid_base.specs.declared.flat.order.Order.TheVariants.{ColumnMajor}
+use Rattle.grid_base.specs.declared.order.Order.TheVariants.{ColumnMajor}
 use Rattle.grid_base.specs.Gather.{items_of_each, last_of, before_last}
 use Rattle.grid_base.proofs.TableLemmas.{IsFull, IsFull-cells, rows-tabulate, width-tabulate, cell-tabulate, same_cells}
 

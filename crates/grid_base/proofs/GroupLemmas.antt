@@ -7,8 +7,8 @@ use lib.Pointwise.{pointwise}
 use Rattle.grid_base.specs.declared.words.Symmetry.{Symmetry}
 use Rattle.grid_base.specs.declared.words.Symmetry.TheVariants.{Identity, FlipCols, FlipRows, RotateHalf, Transpose, RotateLeft, RotateRight, AntiTranspose}
 use Rattle.grid_base.specs.declared.words.Move.{Move}
-use Rattle.grid_base.specs.declared.flat.order.Order.{Order}
-use Rattle.grid_base.specs.declared.flat.order.Order.TheVariants.{RowMajor, ColumnMajor}
+use Rattle.grid_base.specs.declared.order.Order.{Order}
+use Rattle.grid_base.specs.declared.order.Order.TheVariants.{RowMajor, ColumnMajor}
 use Rattle.grid_base.specs.Table.{row, row_count, col_count, cell, IsTable, IsSize, cells_by, tabulate}
 use Rattle.grid_base.specs.Order.{flipped}
 use Rattle.grid_base.specs.Symmetry.{transposes, source_row, source_col, image_rows, image_cols, act, act_all, test_table, symmetries, symmetry_of, order_after, IsThen, IsInverse}

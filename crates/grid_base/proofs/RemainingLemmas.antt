@@ -1,4 +1,4 @@
--- A walk from both ends of a list.
+-- An iterator from both ends of a list.
 use Rattle.std.proofs.Common.{◌≡◌, ℕ, ◌+◌, ◌-◌, ◌<◌, ◌≤◌, List, [], ◌∷◌, ◌++◌, take, drop, length, get_or, sym, ◌∙◌, ap, arith, suc, add-one, length-take, length-drop, min}
 use Rattle.std.proofs.lemmas.List.{take_all, take_more, get_or-drop, drop-take, drop-drop, drop_min}
 use Rattle.std.proofs.Math.Seq.{drop-cons}

@@ -4,7 +4,7 @@ use Rattle.std.proofs.Math.Nat.{mul-le-mul_right}
 use Rattle.std.proofs.lemmas.Nat.{div-mul-add}
 use Rattle.std.specs.List.{slice_get}
 use Rattle.std.specs.Int.{div_ceil}
-use Rattle.grid_base.specs.declared.flat.order.Order.{Order}
+use Rattle.grid_base.specs.declared.order.Order.{Order}
 use Rattle.grid_base.specs.declared.flat.span.Span.{Span}
 use Rattle.grid_base.specs.Table.{row}
 use Rattle.grid_base.specs.Order.{place, table_of}

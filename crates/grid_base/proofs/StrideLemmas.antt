@@ -1,4 +1,4 @@
--- The cells of a list at a stride, and the walks over them.
+-- The cells of a list at a stride, and the iterators over them.
 use Rattle.std.proofs.Common.{◌≡◌, ℕ, zero, suc, ◌+◌, ◌-◌, ◌*◌, ◌/◌, ◌%◌, ◌<◌, ◌≤◌, List, [], ◌∷◌, ◌++◌, Some, None, take, drop, length, refl, ap, sym, ◌∙◌, arith, get_or, length-drop, length-take, ⊎_elim}
 use Rattle.std.proofs.Math.Nat.{add-div_right, div-eq_of_lt}
 use Rattle.std.specs.Int.{div_ceil}
@@ -15,7 +15,7 @@ use Rattle.std.proofs.lemmas.Option.{unwrap_or-slice_get}
 use Rattle.grid_base.specs.Strides.{every, strided, strided_remaining, IsLine, LinesInOrder, LinesInReverse, EachLineInOrder, EachLineInReverse}
 use Rattle.grid_base.proofs.RemainingLemmas.{remaining_all, remaining_next, remaining_next_back}
 
--- ---- a walk for writing
+-- ---- an iterator for writing
 
 module _ {X : Type 0} where
   -- to skip some items is to drop them
@@ -107,7 +107,7 @@ module _ {X : Type 0} where
       let cut : length (take (end - start) (drop start xs)) ≡ end - start = omega (arith, length-take (end - start) (drop start xs), length-drop start xs) in
       length-strided stride (take (end - start) (drop start xs)) p ∙ ap (λ n. div_ceil n stride) cut
 
--- ---- a walk along a line
+-- ---- an iterator along a line
 
 module _ (X : Type 0) where
   -- it gives what it has left
@@ -117,7 +117,7 @@ module _ (X : Type 0) where
   pub lines_in_reverse : LinesInReverse X
   lines_in_reverse = from_back (YieldsLastRef (λ (rest : List X). rest)) (λ y. y.now) (λ rest. rest) (λ s t h. ap length h.0) (λ s x t h. h)
 
-  -- a walk over lines gives the lines that it has left
+  -- an iterator over lines gives the lines that it has left
   pub each_line_in_order : EachLineInOrder X
   each_line_in_order p s = as_is p p.from (from_front (YieldsFirst (λ (rest : List (List X)). rest)) (λ y. y) (λ rest. rest) (λ s t h. ap length h.0) (λ s x t h. h) p s)
 
@@ -155,7 +155,7 @@ module _ {X : Type 0} (stride first past : ℕ) (xs : List X) (h : IsLine stride
   pub line_last : (j u v : ℕ) (d : X) → first < past → j ≡ past - 1 → u ≡ first → v ≡ past - 1 → strided_remaining stride first past xs ≡ strided_remaining stride u v xs ++ get_or xs (j * stride) d ∷ []
   line_last j u v d lt ej eu ev = remaining_next_back first past _ j u v line (get_or xs (j * stride) d) d h.remaining refl lt ej eu ev (sym (get-line j d))
 
--- a walk along all of them
+-- an iterator along all of them
 module _ {X : Type 0} (stride n : ℕ) (xs : List X) (p : 0 < stride) (e : n ≡ div_ceil (length xs) stride) where
   pub line_all : IsLine stride 0 n xs
   line_all = record { steps = p; remaining = record { ordered = omega arith; within = omega (arith, length-strided stride xs p) } }

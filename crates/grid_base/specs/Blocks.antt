@@ -1,5 +1,5 @@
--- Two blocks of cells that change places, swaps at one distance one after another, and a part of the cells that is
--- reversed. Only contracts of `Flat` cite this module.
+-- Two blocks of cells that change places, swaps at one distance one after another, and a part of
+-- the cells that is reversed. Only contracts of `Flat` cite this module.
 use Rattle.std.specs.Prelude.{◌≡◌, ℕ, zero, suc, ◌+◌, ◌-◌, ◌<◌, ◌≤◌, List, length, slice_get, swap}
 
 -- the m cells from place a on, and the n cells behind them
@@ -10,22 +10,27 @@ pub record BlocksExchanged {T : Type 0} (a m n : ℕ) (old new : List T) : Type 
   pub first : (x : ℕ) → x < m → slice_get new (a + (n + x)) ≡ slice_get old (a + x)
   pub behind : (x : ℕ) → a + (m + n) ≤ x → slice_get new x ≡ slice_get old x
 
--- the n cells from place i on, and the n cells from place j on, each of the first with its like of the second
+-- the n cells from place i on, and the n cells from place j on, each of the first with its like of
+-- the second
 pub record BlocksSwapped {T : Type 0} (i j n : ℕ) (old new : List T) : Type 0 where
   pub length_stays : length new ≡ length old
   pub first : (x : ℕ) → x < n → slice_get new (i + x) ≡ slice_get old (j + x)
   pub second : (x : ℕ) → x < n → slice_get new (j + x) ≡ slice_get old (i + x)
-  pub others : (k : ℕ) → (i ≤ k → i + n ≤ k) → (j ≤ k → j + n ≤ k) → slice_get new k ≡ slice_get old k
+  pub others : (k : ℕ) → (i ≤ k → i + n ≤ k) → (j ≤ k → j + n ≤ k)
+      → slice_get new k ≡ slice_get old k
 
--- the list after n swaps one after another, of the cells at start + k and start + k + shift, from k = 0 up
+-- the list after n swaps one after another, of the cells at start + k and start + k + shift, from k
+-- = 0 up
 unfoldable pub swapped_forward : {T : Type 0} → ℕ → ℕ → ℕ → List T → List T
 swapped_forward start shift zero cells = cells
-swapped_forward start shift (suc n) cells = swap (swapped_forward start shift n cells) (start + n) (start + n + shift)
+swapped_forward start shift (suc n) cells = swap (swapped_forward start shift n cells) (start + n)
+    (start + n + shift)
 
 -- the list after the same swaps, from k = n - 1 down
 unfoldable pub swapped_back : {T : Type 0} → ℕ → ℕ → ℕ → List T → List T
 swapped_back start shift zero cells = cells
-swapped_back start shift (suc n) cells = swapped_back start shift n (swap cells (start + n) (start + n + shift))
+swapped_back start shift (suc n) cells = swapped_back start shift n
+    (swap cells (start + n) (start + n + shift))
 
 -- n cells from a on are reversed
 pub record PartReversed {T : Type 0} (a n : ℕ) (old new : List T) : Type 0 where

@@ -4,14 +4,17 @@ use Rattle.std.specs.List.{FoldsTo, AllZip}
 use denote.Ref.{Bor}
 
 -- calls took the closure from f to g, one for each item of xs, and answered ys
-abbrev pub MapsThrough : {F A B : Type 0} → (F → A → B → F → Type 0) → F → List A → List B → F → Type 0
+abbrev pub MapsThrough : {F A B : Type 0} → (F → A → B → F → Type 0) → F → List A → List B → F
+    → Type 0
 MapsThrough step f [] [] g = f ≡ g
 MapsThrough step f [] (y ∷ ys) g = ⊥
 MapsThrough step f (x ∷ xs) [] g = ⊥
 MapsThrough {F} step f (x ∷ xs) (y ∷ ys) g = (h : F) × step f x y h × MapsThrough step h xs ys g
 
--- the closure f answered ys at the items xs, in order, each call going on from the state that the last one left
-pub record MapsTo {F A B : Type 0} (step : F → A → B → F → Type 0) (f : F) (xs : List A) (ys : List B) : Type 0 where
+-- the closure f answered ys at the items xs, in order, each call going on from the state that the
+-- last one left
+pub record MapsTo {F A B : Type 0} (step : F → A → B → F → Type 0) (f : F) (xs : List A)
+    (ys : List B) : Type 0 where
   pub last : F
   pub calls : MapsThrough step f xs ys last
 
@@ -24,28 +27,38 @@ pub record Generates {F B : Type 0} (step : F → B → F → Type 0) (f : F) (y
 pub record PairsUp {A B : Type 0} (R : A → B → Type 0) (xs : List A) (ys : List B) : Type 0 where
   pub places : AllZip R xs ys
 
--- the closure f can be called at each item of xs in turn: at item k, in any state that the calls at the items before it may leave
-pub record CallableAtEach {F A B : Type 0} (takes : F → A → Type 0) (step : F → A → B → F → Type 0) (f : F) (xs : List A) : Type 0 where
-  pub at : (k : ℕ) (x : A) (ys : List B) (g : F) → k < length xs → x ≡ slice_index_or xs k x → MapsThrough step f (take k xs) ys g → takes g x
+-- the closure f can be called at each item of xs in turn: at item k, in any state that the calls at
+-- the items before it may leave
+pub record CallableAtEach {F A B : Type 0} (takes : F → A → Type 0) (step : F → A → B → F → Type 0)
+    (f : F) (xs : List A) : Type 0 where
+  pub at : (k : ℕ) (x : A) (ys : List B) (g : F) → k < length xs → x ≡ slice_index_or xs k x
+      → MapsThrough step f (take k xs) ys g → takes g x
 
--- the closure f, which takes nothing, can be called n times in turn: in any state that fewer calls may leave
-pub record CallableTimes {F B : Type 0} (takes : F → Type 0) (step : F → B → F → Type 0) (f : F) (n : ℕ) : Type 0 where
+-- the closure f, which takes nothing, can be called n times in turn: in any state that fewer calls
+-- may leave
+pub record CallableTimes {F B : Type 0} (takes : F → Type 0) (step : F → B → F → Type 0) (f : F)
+    (n : ℕ) : Type 0 where
   pub at : (ys : List B) (g : F) → length ys < n → FoldsTo step f ys g → takes g
 
 -- the closure f can be called at a reference to each item of xs
-pub record CallableAtRefs {F A : Type 0} (takes : F → Bor A → Type 0) (f : F) (xs : List A) : Type 0 where
-  pub at : (k : ℕ) (p : Bor A) → k < length xs → p.now ≡ slice_index_or xs k p.now → takes f p
+pub record CallableAtRefs {F A : Type 0} (takes : F → Bor A → Type 0) (f : F) (xs : List A) : Type 0
+  where
+    pub at : (k : ℕ) (p : Bor A) → k < length xs → p.now ≡ slice_index_or xs k p.now → takes f p
 
 -- the closure f can be called at each item of xs
-pub record CallableAtItems {F A : Type 0} (takes : F → A → Type 0) (f : F) (xs : List A) : Type 0 where
-  pub at : (k : ℕ) (x : A) → k < length xs → x ≡ slice_index_or xs k x → takes f x
+pub record CallableAtItems {F A : Type 0} (takes : F → A → Type 0) (f : F) (xs : List A) : Type 0
+  where
+    pub at : (k : ℕ) (x : A) → k < length xs → x ≡ slice_index_or xs k x → takes f x
 
--- the closure f can be called at each item of xs: a place, and a reference to the cell there
-pub record CallableAtCells {F P A : Type 0} (takes : F → P → Bor A → Type 0) (f : F) (xs : List (P × A)) : Type 0 where
-  pub at : (k : ℕ) (at : P) (p : Bor A) → k < length xs → ◌≡◌ {A = P × A} (at, p.now) (slice_index_or xs k (at, p.now)) → takes f at p
+-- the closure f can be called at each item of xs: a position, and a reference to the cell there
+pub record CallableAtCells {F P A : Type 0} (takes : F → P → Bor A → Type 0) (f : F)
+    (xs : List (P × A)) : Type 0 where
+  pub at : (k : ℕ) (at : P) (p : Bor A) → k < length xs
+      → ◌≡◌ {A = P × A} (at, p.now) (slice_index_or xs k (at, p.now)) → takes f at p
 
--- the closure f may answer y at a place and a reference to the cell there
-pub record ReturnsAtCell {F P A B : Type 0} (returns : F → P → Bor A → B → Type 0) (f : F) (item : P × A) (y : B) : Type 0 where
+-- the closure f may answer y at a position and a reference to the cell there
+pub record ReturnsAtCell {F P A B : Type 0} (returns : F → P → Bor A → B → Type 0) (f : F)
+    (item : P × A) (y : B) : Type 0 where
   pub shown : Bor A
   pub shows : shown.now ≡ item.1
   pub says : returns f item.0 shown y

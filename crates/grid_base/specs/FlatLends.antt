@@ -1,4 +1,4 @@
--- What a `Flat` ends as, once a walk for writing has ended.
+-- What a `Flat` ends as, once an iterator for writing has ended.
 use Rattle.std.specs.Prelude.{ℕ, List, ◌++◌, take, drop, length}
 use Rattle.std.specs.List.{refill}
 use Rattle.std.specs.Borrow.{follows, Fml, RattleType, MutBor, Array}
@@ -13,16 +13,20 @@ use Rattle.grid_base.specs.IndexedIterMut.{indexed_mut_name}
 
 -- cells with ws written over them from start on, as far as there are cells
 abbrev pub written_from : {X : Type 0} → ℕ → List X → List X → List X
-written_from start xs ws = refill (length xs) xs (take start xs ++ (ws ++ drop (length ws) (drop start xs)))
+written_from start xs ws = refill (length xs) xs
+    (take start xs ++ (ws ++ drop (length ws) (drop start xs)))
 
 module _ (T A : RattleType) (alloc : Ghosts A.Denot) (v : MutBor (List T.Denot)) where
-  -- once the walk has ended, there are as many cells; what they are is left to the walk
+  -- once the iterator has ended, there are as many cells; what they are is left to the iterator
   abbrev pub lends_cells : IterMut T.Denot → Fml
-  lends_cells it = follows (the_row T A alloc) (Array T 0) v.ghost_name (iter_mut_name it) (refill (length v.now) v.now)
+  lends_cells it = follows (the_row T A alloc) (Array T 0) v.ghost_name (iter_mut_name it)
+      (refill (length v.now) v.now)
 
   abbrev pub lends_indexed : IndexedIterMut T.Denot → Fml
-  lends_indexed it = follows (the_row T A alloc) (Array T 0) v.ghost_name (indexed_mut_name it) (refill (length v.now) v.now)
+  lends_indexed it = follows (the_row T A alloc) (Array T 0) v.ghost_name (indexed_mut_name it)
+      (refill (length v.now) v.now)
 
   -- the same, where the cells before start are as they were
   abbrev pub lends_line : ℕ → GridLineIterMut T.Denot → Fml
-  lends_line start it = follows (the_row T A alloc) (Array T 0) v.ghost_name (line_mut_name it) (written_from start v.now)
+  lends_line start it = follows (the_row T A alloc) (Array T 0) v.ghost_name (line_mut_name it)
+      (written_from start v.now)

@@ -1,4 +1,4 @@
--- What a walk along a line for writing has left.
+-- What an iterator along a line for writing has left.
 use Rattle.std.specs.Prelude.{◌≡◌, ◌-◌, ⊤, Option, MatchOption, List, drop}
 use Rattle.std.specs.Borrow.{GName, MutBor}
 use Rattle.std.specs.Iterator.{YieldsFirstMut}
@@ -18,6 +18,8 @@ module _ {X : Type 0} where
   abbrev pub line_mut_name : GridLineIterMut X → GName
   line_mut_name it = it.rest.ghost_name
 
-  -- a step hands out the first cell of the line and changes none of those that it passes over or leaves
+  -- a step hands out the first cell of the line and changes none of those that it passes over or
+  -- leaves
   abbrev pub steps_along : GridLineIterMut X → Option (MutBor X) → GridLineIterMut X → Type 0
-  steps_along s r t = YieldsFirstMut line_mut_rest s r t × MatchOption r ⊤ (λ _. line_mut_cells t ≡ drop s.stride (line_mut_cells s))
+  steps_along s r t = YieldsFirstMut line_mut_rest s r t
+      × MatchOption r ⊤ (λ _. line_mut_cells t ≡ drop s.stride (line_mut_cells s))

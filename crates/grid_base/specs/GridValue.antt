@@ -1,6 +1,6 @@
 -- What a contract sees of a grid.
 use Rattle.std.specs.Prelude.{◌≡◌, ℕ, ◌*◌, ◌^◌, ◌<◌, List}
-use Rattle.grid_base.specs.declared.flat.order.Order.{Order}
+use Rattle.grid_base.specs.declared.order.Order.{Order}
 use Rattle.grid_base.specs.Table.{IsSize, IsTable}
 
 -- a table of rows, the order in which it is stored, and that it is a table

@@ -10,7 +10,7 @@ pub mod LineStep
 pub mod Groups
 pub mod Blocks
 pub mod Append
-pub mod Places
+pub mod Positions
 pub mod Remaining
 pub mod Strides
 pub mod LineCells

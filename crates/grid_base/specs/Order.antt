@@ -1,7 +1,7 @@
 -- The two orders in which a table is stored.
 use Rattle.std.specs.Prelude.{◌≡◌, ◌≢◌, ◌⊎◌, ℕ, ◌+◌, ◌*◌, ◌%◌, List, slice_get}
-use Rattle.grid_base.specs.declared.flat.order.Order.{Order}
-use Rattle.grid_base.specs.declared.flat.order.Order.TheVariants.{RowMajor, ColumnMajor}
+use Rattle.grid_base.specs.declared.order.Order.{Order}
+use Rattle.grid_base.specs.declared.order.Order.TheVariants.{RowMajor, ColumnMajor}
 use Rattle.grid_base.specs.Table.{concat_rows, transposed, tabulate}
 
 -- the other order
@@ -23,6 +23,7 @@ place ColumnMajor m n r c = c * m + r
 abbrev pub table_of : {T : Type 0} → Order → ℕ → ℕ → List T → List (List T)
 table_of o m n cells = tabulate m n (λ r c. slice_get cells (place o m n r c))
 
--- so many cells can be cut into lines of one length: there are none, or the length divides their number
+-- so many cells can be cut into lines of one length: there are none, or the length divides their
+-- number
 abbrev pub CanCut : ℕ → ℕ → Type 0
 CanCut len width = (len ≡ 0) ⊎ ((width ≢ 0) × (len % width ≡ 0))

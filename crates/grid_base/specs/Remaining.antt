@@ -1,4 +1,4 @@
--- What a walk from both ends has left of a list.
+-- What an iterator from both ends has left of a list.
 use Rattle.std.specs.Prelude.{ℕ, ◌-◌, ◌≤◌, List, take, drop}
 
 -- the items from place `first` on and before place `past`

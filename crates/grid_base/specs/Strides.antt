@@ -1,7 +1,12 @@
 -- The cells of a list at a stride, and those that remain of them.
 use Rattle.std.specs.Prelude.{ℕ, zero, suc, ◌-◌, ◌<◌, List, [], ◌∷◌, take, drop, length}
 use Rattle.std.specs.Iterator.{YieldsFirst, YieldsLast, YieldsFirstRef, YieldsLastRef}
-use Rattle.std.specs.Iterator.Runs.{YieldsInOrder, YieldsInReverse, YieldsRefsInOrder, YieldsRefsInReverse}
+use Rattle.std.specs.Iterator.Runs.{
+  YieldsInOrder,
+  YieldsInReverse,
+  YieldsRefsInOrder,
+  YieldsRefsInReverse,
+}
 use Rattle.grid_base.specs.Remaining.{IsRemaining, remaining}
 
 module _ {X : Type 0} where
@@ -25,7 +30,7 @@ pub record IsLine {X : Type 0} (stride first past : ℕ) (xs : List X) : Type 0 
   pub remaining : IsRemaining first past (length (every 0 (stride - 1) xs))
 
 module _ (X : Type 0) where
-  -- each run of a walk along a line gives the cells that it had left, in order
+  -- each run of an iterator along a line gives the cells that it had left, in order
   abbrev pub LinesInOrder : Type 0
   LinesInOrder = YieldsRefsInOrder (YieldsFirstRef (λ (rest : List X). rest)) (λ rest. rest)
 
@@ -33,7 +38,7 @@ module _ (X : Type 0) where
   abbrev pub LinesInReverse : Type 0
   LinesInReverse = YieldsRefsInReverse (YieldsLastRef (λ (rest : List X). rest)) (λ rest. rest)
 
-  -- each run of a walk over lines gives the lines that it had left, in order
+  -- each run of an iterator over lines gives the lines that it had left, in order
   abbrev pub EachLineInOrder : Type 0
   EachLineInOrder = YieldsInOrder (YieldsFirst (λ (rest : List (List X)). rest)) (λ rest. rest)
 

@@ -1,9 +1,35 @@
 -- The eight symmetries, as formulas on cells.
-use Rattle.std.specs.Prelude.{◌≡◌, ℕ, ◌-◌, ◌*◌, ◌/◌, Bool, true, false, List, [], ◌∷◌, fold, find, nat_eq, unwrap_or, if◌then◌else◌}
+use Rattle.std.specs.Prelude.{
+  ◌≡◌,
+  ℕ,
+  ◌-◌,
+  ◌*◌,
+  ◌/◌,
+  Bool,
+  true,
+  false,
+  List,
+  [],
+  ◌∷◌,
+  fold,
+  find,
+  nat_eq,
+  unwrap_or,
+  if◌then◌else◌,
+}
 use lib.Pointwise.{pointwise}
-use Rattle.grid_base.specs.declared.flat.order.Order.{Order}
+use Rattle.grid_base.specs.declared.order.Order.{Order}
 use Rattle.grid_base.specs.declared.words.Symmetry.{Symmetry}
-use Rattle.grid_base.specs.declared.words.Symmetry.TheVariants.{Identity, FlipCols, FlipRows, RotateHalf, Transpose, RotateLeft, RotateRight, AntiTranspose}
+use Rattle.grid_base.specs.declared.words.Symmetry.TheVariants.{
+  Identity,
+  FlipCols,
+  FlipRows,
+  RotateHalf,
+  Transpose,
+  RotateLeft,
+  RotateRight,
+  AntiTranspose,
+}
 use Rattle.grid_base.specs.Table.{row_count, col_count, cell, IsTable, tabulate}
 use Rattle.grid_base.specs.Order.{flipped}
 
@@ -51,7 +77,8 @@ image_cols s m n = if transposes s then m else n
 unfoldable pub act : {T : Type 0} → Symmetry → List (List T) → List (List T)
 act s t =
     tabulate (image_rows s (row_count t) (col_count t)) (image_cols s (row_count t) (col_count t))
-    (λ i j. cell t (source_row s (row_count t) (col_count t) i j) (source_col s (row_count t) (col_count t) i j))
+    (λ i j. cell t (source_row s (row_count t) (col_count t) i j)
+    (source_col s (row_count t) (col_count t) i j))
 
 -- the image under symmetries that act one after another
 abbrev pub act_all : {T : Type 0} → List Symmetry → List (List T) → List (List T)
@@ -67,7 +94,8 @@ pub record IsInverse (s v : Symmetry) : Type 0 where
 
 -- however three symmetries are joined, the result is one
 abbrev pub IsAssociativeAt : Symmetry → Symmetry → Symmetry → Type 0
-IsAssociativeAt s t u = (a b v w : Symmetry) → IsThen s t a → IsThen a u v → IsThen t u b → IsThen s b w → v ≡ w
+IsAssociativeAt s t u = (a b v w : Symmetry) → IsThen s t a → IsThen a u v → IsThen t u b
+    → IsThen s b w → v ≡ w
 
 -- joining Identity on either side changes nothing
 abbrev pub IsNeutralAt : Symmetry → Type 0
@@ -83,12 +111,15 @@ test_table = (1 ∷ 2 ∷ 3 ∷ []) ∷ (4 ∷ 5 ∷ 6 ∷ []) ∷ []
 
 -- the eight symmetries
 abbrev pub symmetries : List Symmetry
-symmetries = Identity ∷ FlipCols ∷ FlipRows ∷ RotateHalf ∷ Transpose ∷ RotateLeft ∷ RotateRight ∷ AntiTranspose ∷ []
+symmetries = Identity ∷ FlipCols ∷ FlipRows ∷ RotateHalf ∷ Transpose ∷ RotateLeft ∷ RotateRight
+    ∷ AntiTranspose ∷ []
 
--- the one symmetry that acts on the test table, and so on every table, as these do one after another
+-- the one symmetry that acts on the test table, and so on every table, as these do one after
+-- another
 unfoldable pub symmetry_of : List Symmetry → Symmetry
 symmetry_of ss =
-    unwrap_or (find (λ s. pointwise (pointwise nat_eq) (act s test_table) (act_all ss test_table)) symmetries) Identity
+    unwrap_or (find (λ s. pointwise (pointwise nat_eq) (act s test_table) (act_all ss test_table))
+    symmetries) Identity
 
 -- the order of a grid on which s has acted
 abbrev pub order_after : Symmetry → Order → Order

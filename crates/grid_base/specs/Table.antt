@@ -1,5 +1,19 @@
 -- Tables: lists of nonempty rows of one length.
-use Rattle.std.specs.Prelude.{◌≡◌, ℕ, ◌<◌, Option, None, Some, List, [], length, map, slice_get, slice_index_or, slice_set}
+use Rattle.std.specs.Prelude.{
+  ◌≡◌,
+  ℕ,
+  ◌<◌,
+  Option,
+  None,
+  Some,
+  List,
+  [],
+  length,
+  map,
+  slice_get,
+  slice_index_or,
+  slice_set,
+}
 use Rattle.std.specs.List.{filter_map, range_with_len, flat_map}
 
 -- no rows exactly if no columns

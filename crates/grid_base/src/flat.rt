@@ -1,4 +1,4 @@
-//! The vector of a grid's cells, and the counts of its swaps.
+//! The vector of a grid's cells.
 ghost use Rattle.std.specs.Prelude.{◌≡◌, ◌<◌, [], length, swap, slice_get, Some};
 ghost use Rattle.std.specs.Borrow.{sem};
 
@@ -11,27 +11,21 @@ mod groups;
 mod indexed;
 mod line_iter;
 mod lines;
-mod order;
-mod places;
+mod positions;
 mod row_iter;
 mod shift;
 mod span;
 mod strided_iter;
 mod strides;
-mod tally;
 mod turn;
-mod whole;
 
 pub use groups::Groups;
 pub use indexed::{IndexedIntoIter, IndexedIter, IndexedIterMut};
 pub use line_iter::GridLineIter;
-pub use order::Order;
 pub use row_iter::GridRowIter;
 use std::alloc::{Allocator, Global};
 use std::marker::Model;
 pub use strides::GridLineIterMut;
-pub use tally::Tally;
-pub use whole::Whole;
 
 /// The only holder of a grid's vector, seen as the list of its cells.
 #[derive(Drop)]

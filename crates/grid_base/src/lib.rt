@@ -4,10 +4,16 @@
 
 mod flat;
 pub mod laws;
+mod order;
+mod tally;
+mod whole;
 mod words;
 
 pub use flat::{
     Flat, GridLineIter, GridLineIterMut, GridRowIter, Groups, IndexedIntoIter, IndexedIter,
-    IndexedIterMut, Order, Tally, Whole,
+    IndexedIterMut,
 };
+pub use order::Order;
+pub use tally::Tally;
+pub use whole::Whole;
 pub use words::{Move, Symmetry, reduce};

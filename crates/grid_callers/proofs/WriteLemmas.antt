@@ -5,7 +5,7 @@ use Rattle.std.specs.Option.{option_map}
 use Rattle.grid_base.specs.Table.{row, row_count, col_count, cell, IsTable}
 use Rattle.grid_base.proofs.TableLemmas.{same_tables}
 use Rattle.grid_base.specs.GridValue.{GridValue}
-use Rattle.grid_base.specs.declared.flat.order.Order.{Order}
+use Rattle.grid_base.specs.declared.order.Order.{Order}
 use Rattle.grid.specs.Make.{HasSize, IsMade}
 use Rattle.grid.specs.Slots.{HoldCells}
 

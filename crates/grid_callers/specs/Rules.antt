@@ -1,5 +1,22 @@
 -- What the callers compute of a cell and its neighbours.
-use Rattle.std.specs.Prelude.{ℕ, zero, suc, ◌+◌, ◌-◌, Bool, true, false, cond, ◌&&◌, ◌||◌, ◌==◌, Option, Some, None, List}
+use Rattle.std.specs.Prelude.{
+  ℕ,
+  zero,
+  suc,
+  ◌+◌,
+  ◌-◌,
+  Bool,
+  true,
+  false,
+  cond,
+  ◌&&◌,
+  ◌||◌,
+  ◌==◌,
+  Option,
+  Some,
+  None,
+  List,
+}
 use Rattle.grid_base.specs.Table.{row_count, col_count, cell}
 
 -- a cell as a number, 0 where there is none
@@ -24,11 +41,13 @@ weight (Some true) = 1
 module _ (t : List (List Bool)) where
   -- how many of a cell and the two beside it are live
   abbrev pub live_in_three : ℕ → ℕ → ℕ
-  live_in_three r c = weight (cell t r (before (col_count t) c)) + weight (cell t r c) + weight (cell t r (after (col_count t) c))
+  live_in_three r c = weight (cell t r (before (col_count t) c)) + weight (cell t r c)
+      + weight (cell t r (after (col_count t) c))
 
   -- how many of a cell and its eight neighbours are live
   abbrev pub live_around : ℕ → ℕ → ℕ
-  live_around r c = live_in_three (before (row_count t) r) c + live_in_three r c + live_in_three (after (row_count t) r) c
+  live_around r c = live_in_three (before (row_count t) r) c + live_in_three r c
+      + live_in_three (after (row_count t) r) c
 
   -- whether a cell is live in the next generation
   abbrev pub lives : ℕ → ℕ → Bool

@@ -7,7 +7,7 @@ ghost use Rattle.std.specs.List.{range_with_len};
 ghost use Rattle.grid_base.specs.Table.{row, row_count, col_count, transposed};
 ghost use Rattle.grid_base.specs.Order.{storage};
 ghost use Rattle.grid_base.specs.Symmetry.{act};
-ghost use Rattle.grid_base.specs.declared.flat.order.Order.TheVariants.{RowMajor, ColumnMajor};
+ghost use Rattle.grid_base.specs.declared.order.Order.TheVariants.{RowMajor, ColumnMajor};
 
 use grid::{Command, Grid, GridError, Symmetry, Tally, grid, grid_cm};
 use grid_base::laws as symmetry_laws;

@@ -12,14 +12,14 @@ pub fn mark_first(grid: &mut Grid<u8>) {
     }
 }
 
-/// Replaces a cell that is `old`: where `get` finds a cell, its place is in range.
+/// Replaces a cell that is `old`: where `get` finds a cell, its position is in range.
 pub fn replace(grid: &mut Grid<u8>, row: usize, col: usize, old: u8, new: u8) {
     if grid.get(row, col) == Some(&old) {
         grid[(row, col)] = new;
     }
 }
 
-/// Returns how many cells equal the other board's cell of the same place, or 0 where the sizes differ: the places of
+/// Returns how many cells equal the other board's cell of the same position, or 0 where the sizes differ: the positions of
 /// one board index another of its size.
 pub fn count_alike(grid: &Grid<u8>, other: &Grid<u8>) -> usize {
     let mut count = 0usize;
@@ -42,8 +42,8 @@ pub fn copy_over(from: &Grid<u8>, to: &mut Grid<u8>) {
     }
 }
 
-/// Returns the place of a cell that is `x`, found by a loop.
-pub fn place_of(grid: &Grid<u8>, x: u8) -> Option<(usize, usize)>
+/// Returns the position of a cell that is `x`, found by a loop.
+pub fn position_of(grid: &Grid<u8>, x: u8) -> Option<(usize, usize)>
     ensures { IfSome result (λ at. cell grid.now.rows at.0 at.1 ≡ Some x) }
 {
     for (at, cell) in grid.indexed_iter() {
@@ -54,7 +54,7 @@ pub fn place_of(grid: &Grid<u8>, x: u8) -> Option<(usize, usize)>
     None
 }
 
-/// Clears a cell that is `x`, and returns whether there is one: a place that a chain found is in range.
+/// Clears a cell that is `x`, and returns whether there is one: a position that a chain found is in range.
 pub fn clear_one(grid: &mut Grid<u8>, x: u8) -> bool {
     match grid.indexed_iter().find(|(_, cell)| **cell == x) {
         Some((at, _)) => {
@@ -65,7 +65,7 @@ pub fn clear_one(grid: &mut Grid<u8>, x: u8) -> bool {
     }
 }
 
-/// Returns how many cells of the first row are `x`, by a chain that tests places.
+/// Returns how many cells of the first row are `x`, by a chain that tests positions.
 pub fn count_in_row_zero(grid: &Grid<u8>, x: u8) -> usize {
     grid.indexed_iter()
         .filter(|((row, _), cell)| *row == 0 && **cell == x)

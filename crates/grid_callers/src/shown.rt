@@ -8,7 +8,7 @@ use grid::{Command, Grid, Symmetry, Tally};
 use grid_deferred::Deferred;
 use std::alloc::Allocator;
 
-/// Returns the cell that a symmetry brings to a place, and leaves the grid as it was. No cell moves.
+/// Returns the cell that a symmetry brings to a position, and leaves the grid as it was. No cell moves.
 ///
 ///     [[1, 2]]   cell_through(FlipCols, 0, 0)   Some(2)
 pub fn cell_through<A: Allocator + Clone>(

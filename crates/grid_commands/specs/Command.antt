@@ -1,4 +1,5 @@
--- What commands say: an edit of lines is said of either axis, and a line of cells is the list of them.
+-- What commands say: an edit of lines is said of either axis, and a line of cells is the list of
+-- them.
 use Rattle.std.specs.Prelude.{ℕ, List}
 use Rattle.grid_base.specs.declared.words.Symmetry.{Symmetry}
 use Rattle.grid_base.specs.Gather.{items_of_each}

@@ -1,9 +1,55 @@
 -- Which commands are refused: a function of the command and the size of the table.
-use Rattle.std.specs.Prelude.{ℕ, ◌+◌, ◌*◌, Bool, not, ◌&&◌, Option, None, Some, List, [], ◌∷◌, length, slice_index_or, nat_eq, nat_lt, if◌then◌else◌}
+use Rattle.std.specs.Prelude.{
+  ℕ,
+  ◌+◌,
+  ◌*◌,
+  Bool,
+  not,
+  ◌&&◌,
+  Option,
+  None,
+  Some,
+  List,
+  [],
+  ◌∷◌,
+  length,
+  slice_index_or,
+  nat_eq,
+  nat_lt,
+  if◌then◌else◌,
+}
 use Rattle.std.specs.List.{list_any, list_all}
 use Rattle.grid_commands.specs.declared.command.Refusal.{Refusal}
-use Rattle.grid_commands.specs.declared.command.Refusal.TheVariants.{EmptyLine, Length, Index, TooLarge}
-use Rattle.grid_commands.specs.Command.{Edit, read, push, insert_at, insert_all, pop, remove_at, delete_at, delete_range, expand, prepend, CommandValue, size, get, set_cell, swap_cells, lines, fill, clear, apply, line_count, line_width}
+use Rattle.grid_commands.specs.declared.command.Refusal.TheVariants.{
+  EmptyLine,
+  Length,
+  Index,
+  TooLarge,
+}
+use Rattle.grid_commands.specs.Command.{
+  Edit,
+  read,
+  push,
+  insert_at,
+  insert_all,
+  pop,
+  remove_at,
+  delete_at,
+  delete_range,
+  expand,
+  prepend,
+  CommandValue,
+  size,
+  get,
+  set_cell,
+  swap_cells,
+  lines,
+  fill,
+  clear,
+  apply,
+  line_count,
+  line_width,
+}
 
 -- whether so many cells are more than a grid can have, `usize::MAX`
 abbrev pub too_many : ℕ → Bool
@@ -28,7 +74,8 @@ module _ {T : Type 0} where
   abbrev pub first_width : List (List T) → ℕ
   first_width ls = length (slice_index_or ls 0 [])
 
-  -- the width that lines must have among so many of this width: any where there are none, but one for all
+  -- the width that lines must have among so many of this width: any where there are none, but one
+  -- for all
   abbrev pub fitting_width : ℕ → ℕ → List (List T) → ℕ
   fitting_width count width ls = if nat_eq count 0 then first_width ls else width
 
@@ -36,9 +83,11 @@ module _ {T : Type 0} where
   abbrev pub insert_refusal : ℕ → ℕ → ℕ → List (List T) → Option Refusal
   insert_refusal count width i ls =
       if list_any (λ l. nat_eq (length l) 0) ls then Some EmptyLine
-      else (if not (list_all (λ l. nat_eq (length l) (fitting_width count width ls)) ls) then Some Length
+      else (if not (list_all (λ l. nat_eq (length l) (fitting_width count width ls)) ls)
+      then Some Length
       else (if nat_lt count i then Some Index
-      else (if too_many ((count + length ls) * fitting_width count width ls) then Some TooLarge else None)))
+      else (if too_many ((count + length ls) * fitting_width count width ls) then Some TooLarge
+      else None)))
 
   abbrev pub edit_refusal : ℕ → ℕ → Edit T → Option Refusal
   edit_refusal count width (push line) = insert_refusal count width count (line ∷ [])
@@ -55,7 +104,8 @@ module _ {T : Type 0} where
   -- why a command is refused at a table of m rows and n columns
   abbrev pub command_refusal : CommandValue T → ℕ → ℕ → Option Refusal
   command_refusal (set_cell r c v) m n = if in_range m n (r, c) then None else Some Index
-  command_refusal (swap_cells p q) m n = if in_range m n p && in_range m n q then None else Some Index
+  command_refusal (swap_cells p q) m n = if in_range m n p && in_range m n q then None
+      else Some Index
   command_refusal (lines a e) m n = edit_refusal (line_count a m n) (line_width a m n) e
   command_refusal size m n = None
   command_refusal (get r c) m n = None

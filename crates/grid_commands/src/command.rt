@@ -28,7 +28,7 @@ pub enum Command<T, A: Allocator = Global> {
     Set(usize, usize, T),
     /// Exchanges two cells. Replies `Done`.
     ///
-    /// Refused: `Index` where there is no cell in one of the places.
+    /// Refused: `Index` where there is no cell at one of the positions.
     Swap((usize, usize), (usize, usize)),
     /// Adds a row at the end. Replies `Done`; takes memory unless it is refused.
     ///
@@ -41,7 +41,7 @@ pub enum Command<T, A: Allocator = Global> {
     PushCol(Vec<T, A>),
     /// Inserts a row before a row, or at the end. Replies `Done`; takes memory unless it is refused.
     ///
-    /// Refused: as [`PushRow`](Command::PushRow), and before `TooLarge` by `Index` where the place is past the end.
+    /// Refused: as [`PushRow`](Command::PushRow), and before `TooLarge` by `Index` where the insertion point is past the end.
     InsertRow(usize, Vec<T, A>),
     /// Inserts a column before a column, or at the end. Replies `Done`; takes memory unless it is refused.
     ///
@@ -51,7 +51,7 @@ pub enum Command<T, A: Allocator = Global> {
     /// has no lines.
     ///
     /// Refused: `EmptyLine` where one has no cells; `Length` where one is not as long as the rows of the grid, or, into
-    /// an empty grid, where two have unlike lengths; `Index` where the place is past the end, also without lines;
+    /// an empty grid, where two have different lengths; `Index` where the insertion point is past the end, also without lines;
     /// `TooLarge`.
     InsertRows(usize, Vec<Vec<T, A>, A>),
     /// Inserts columns before a column, or at the end, in their order. Replies `Done`; takes memory unless it is
@@ -108,9 +108,9 @@ pub enum Command<T, A: Allocator = Global> {
 pub enum Refusal {
     /// A line has no cells.
     EmptyLine,
-    /// A line is not as long as those of the grid; or, into an empty grid, two lines have unlike lengths.
+    /// A line is not as long as those of the grid; or, into an empty grid, two lines have different lengths.
     Length,
-    /// A place is out of range.
+    /// A row, a column or an insertion point is out of range.
     Index,
     /// The number of cells would pass `usize::MAX`.
     TooLarge,

@@ -7,7 +7,7 @@ use Rattle.grid_base.specs.Symmetry.{act, image_rows, image_cols}
 use Rattle.grid_base.proofs.ActLemmas.{rows-act, cols-act, IsTable-act}
 use Rattle.grid_base.proofs.GroupLemmas.{product, act-act, act-identity}
 use Rattle.grid.specs.Through.{mirror_place}
-use Rattle.grid_deferred.specs.Carried.{base_place}
+use Rattle.grid_deferred.specs.Carried.{base_position}
 use Rattle.grid.proofs.CellThroughLemmas.{cell-flip, cell-cross}
 
 module _ {T : Type 0} where
@@ -20,7 +20,7 @@ module _ {T : Type 0} where
   at_rows : (s : Symmetry) (t : List (List T)) (m r c : ℕ) → row_count (act s t) ≡ m → cell (act s t) (mirror_place (row_count (act s t)) r) c ≡ cell (act s t) (mirror_place m r) c
   at_rows s t m r c e = ap (λ k. cell (act s t) (mirror_place k r) c) e
 
-  pub cell_base : (s : Symmetry) (t : List (List T)) → IsTable t → (r c : ℕ) → cell (act s t) r c ≡ cell t (base_place s (row_count t) (col_count t) r c).0 (base_place s (row_count t) (col_count t) r c).1
+  pub cell_base : (s : Symmetry) (t : List (List T)) → IsTable t → (r c : ℕ) → cell (act s t) r c ≡ cell t (base_position s (row_count t) (col_count t) r c).0 (base_position s (row_count t) (col_count t) r c).1
   cell_base Identity t h r c = ap (λ v. cell v r c) (act-identity t h)
   cell_base Transpose t h r c = cell-cross t h r c
   cell_base FlipRows t h r c = cell-flip t h r c

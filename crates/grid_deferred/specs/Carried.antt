@@ -1,8 +1,17 @@
--- How `carry` rewrites a command, by the two symmetries of which the others are words; and where a cell comes from. No
--- public clause cites this module.
+-- How `carry` rewrites a command, by the two symmetries of which the others are words; and where a
+-- cell comes from. No public clause cites this module.
 use Rattle.std.specs.Prelude.{ℕ}
 use Rattle.grid_base.specs.declared.words.Symmetry.{Symmetry}
-use Rattle.grid_base.specs.declared.words.Symmetry.TheVariants.{Identity, FlipCols, FlipRows, RotateHalf, Transpose, RotateLeft, RotateRight, AntiTranspose}
+use Rattle.grid_base.specs.declared.words.Symmetry.TheVariants.{
+  Identity,
+  FlipCols,
+  FlipRows,
+  RotateHalf,
+  Transpose,
+  RotateLeft,
+  RotateRight,
+  AntiTranspose,
+}
 use Rattle.grid_commands.specs.Command.{CommandValue}
 use Rattle.grid.specs.Through.{mirror_place, command_of_transposed, command_of_flipped}
 
@@ -15,15 +24,17 @@ carried RotateLeft m n y = command_of_transposed (command_of_flipped n y)
 carried RotateRight m n y = command_of_flipped m (command_of_transposed y)
 carried FlipCols m n y = command_of_transposed (command_of_flipped n (command_of_transposed y))
 carried AntiTranspose m n y = command_of_flipped m (command_of_transposed (command_of_flipped n y))
-carried RotateHalf m n y = command_of_transposed (command_of_flipped n (command_of_transposed (command_of_flipped m y)))
+carried RotateHalf m n y = command_of_transposed
+    (command_of_flipped n (command_of_transposed (command_of_flipped m y)))
 
--- where a cell of the image comes from in a base of m rows and n columns; past the end it stays past the end
-abbrev pub base_place : Symmetry → ℕ → ℕ → ℕ → ℕ → ℕ × ℕ
-base_place Identity m n r c = (r, c)
-base_place FlipCols m n r c = (r, mirror_place n c)
-base_place FlipRows m n r c = (mirror_place m r, c)
-base_place RotateHalf m n r c = (mirror_place m r, mirror_place n c)
-base_place Transpose m n r c = (c, r)
-base_place RotateLeft m n r c = (c, mirror_place n r)
-base_place RotateRight m n r c = (mirror_place m c, r)
-base_place AntiTranspose m n r c = (mirror_place m c, mirror_place n r)
+-- where a cell of the image comes from in a base of m rows and n columns; past the end it stays
+-- past the end
+abbrev pub base_position : Symmetry → ℕ → ℕ → ℕ → ℕ → ℕ × ℕ
+base_position Identity m n r c = (r, c)
+base_position FlipCols m n r c = (r, mirror_place n c)
+base_position FlipRows m n r c = (mirror_place m r, c)
+base_position RotateHalf m n r c = (mirror_place m r, mirror_place n c)
+base_position Transpose m n r c = (c, r)
+base_position RotateLeft m n r c = (c, mirror_place n r)
+base_position RotateRight m n r c = (mirror_place m c, r)
+base_position AntiTranspose m n r c = (mirror_place m c, mirror_place n r)

@@ -1,13 +1,36 @@
 -- What it is for a command to do, on a table, what another does on the table's image.
 use Rattle.std.specs.Prelude.{◌≡◌, ℕ, Bool, true, false, List}
 use Rattle.grid_base.specs.declared.words.Symmetry.{Symmetry}
-use Rattle.grid_base.specs.declared.flat.order.Order.{Order}
+use Rattle.grid_base.specs.declared.order.Order.{Order}
 use Rattle.grid_base.specs.Flags.{flags_of}
 use Rattle.grid_base.specs.Table.{row_count, col_count, IsTable}
 use Rattle.grid_base.specs.Symmetry.{act}
 use Rattle.grid_commands.specs.declared.command.Axis.{Axis}
 use Rattle.grid_commands.specs.declared.command.Axis.TheVariants.{Row, Col}
-use Rattle.grid_commands.specs.Command.{Edit, read, push, insert_at, insert_all, pop, remove_at, delete_at, delete_range, expand, prepend, CommandValue, size, get, set_cell, swap_cells, lines, fill, clear, apply, axis_of, line_count}
+use Rattle.grid_commands.specs.Command.{
+  Edit,
+  read,
+  push,
+  insert_at,
+  insert_all,
+  pop,
+  remove_at,
+  delete_at,
+  delete_range,
+  expand,
+  prepend,
+  CommandValue,
+  size,
+  get,
+  set_cell,
+  swap_cells,
+  lines,
+  fill,
+  clear,
+  apply,
+  axis_of,
+  line_count,
+}
 use Rattle.grid.specs.Step.{step_rows, step_reply, takes_memory}
 use Rattle.grid.specs.Cost.{step_shift}
 use Rattle.grid.specs.Through.{turned_reply, base_axis, mirror_place, mirror_start}
@@ -18,7 +41,8 @@ reverses_lines s Row = (flags_of s).1
 reverses_lines s Col = (flags_of s).2
 
 module _ {T : Type 0} where
-  -- an edit that moves counted cells, where its lines are in the reversed order; the others move none
+  -- an edit that moves counted cells, where its lines are in the reversed order; the others move
+  -- none
   abbrev pub mirrored : ℕ → Edit T → Edit T
   mirrored count (expand k) = prepend k
   mirrored count (prepend k) = expand k
@@ -38,7 +62,8 @@ module _ {T : Type 0} where
   -- the shift of a command through a symmetry, at a base of m rows and n columns in this order
   abbrev pub shift_through : Symmetry → CommandValue T → Order → ℕ → ℕ → ℕ
   shift_through s (lines a e) o m n =
-      step_shift (lines (base_axis s a) (mirrored_if (reverses_lines s a) (line_count (base_axis s a) m n) e)) o m n
+      step_shift (lines (base_axis s a) (mirrored_if (reverses_lines s a)
+      (line_count (base_axis s a) m n) e)) o m n
   shift_through s size o m n = 0
   shift_through s (get r c) o m n = 0
   shift_through s (set_cell r c v) o m n = 0
@@ -51,7 +76,8 @@ module _ {T : Type 0} where
   pub record CarriesAt (s : Symmetry) (x y : CommandValue T) (t : List (List T)) : Type 0 where
     pub rows : (d : T) → step_rows d y (act s t) ≡ act s (step_rows d x t)
     pub reply : step_reply y (act s t) ≡ turned_reply s (axis_of y) (step_reply x t)
-    pub memory : takes_memory y (row_count (act s t)) (col_count (act s t)) ≡ takes_memory x (row_count t) (col_count t)
+    pub memory : takes_memory y (row_count (act s t)) (col_count (act s t))
+        ≡ takes_memory x (row_count t) (col_count t)
 
   -- at each table of m rows and n columns, with the exact shift in either order
   pub record Carries (s : Symmetry) (m n : ℕ) (x y : CommandValue T) : Type 0 where

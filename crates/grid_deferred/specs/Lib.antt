@@ -2,4 +2,4 @@ pub mod Carry
 pub mod Carried
 pub mod Deferred
 pub mod Run
-pub mod Walk
+pub mod LineIter

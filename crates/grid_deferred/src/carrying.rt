@@ -8,7 +8,7 @@ ghost use Rattle.grid_commands.specs.Command.{command_value};
 ghost use Rattle.grid_commands.specs.Reply.{reply_value};
 ghost use Rattle.grid.specs.Through.{turned_reply, reverses_cells, mirror_place, mirror_gap, mirror_start, command_of_transposed, command_of_flipped};
 ghost use Rattle.grid_deferred.specs.Carry.{Carries, is_apply};
-ghost use Rattle.grid_deferred.specs.Carried.{carried, base_place};
+ghost use Rattle.grid_deferred.specs.Carried.{carried, base_position};
 
 use grid::{Axis, Command, Reply};
 use grid_base::Symmetry;
@@ -48,18 +48,27 @@ pub(crate) fn carried<T, A: Allocator>(
 {
     match symmetry {
         Symmetry::Identity => command,
-        Symmetry::Transpose => exchange(command),
-        Symmetry::FlipRows => flip(rows, command),
-        Symmetry::RotateLeft => exchange(flip(cols, command)),
-        Symmetry::RotateRight => flip(rows, exchange(command)),
-        Symmetry::FlipCols => exchange(flip(cols, exchange(command))),
-        Symmetry::AntiTranspose => flip(rows, exchange(flip(cols, command))),
-        Symmetry::RotateHalf => exchange(flip(cols, exchange(flip(rows, command)))),
+        Symmetry::Transpose => transposed_command(command),
+        Symmetry::FlipRows => flipped_command(rows, command),
+        Symmetry::RotateLeft => transposed_command(flipped_command(cols, command)),
+        Symmetry::RotateRight => flipped_command(rows, transposed_command(command)),
+        Symmetry::FlipCols => transposed_command(flipped_command(
+            cols,
+            transposed_command(command),
+        )),
+        Symmetry::AntiTranspose => flipped_command(
+            rows,
+            transposed_command(flipped_command(cols, command)),
+        ),
+        Symmetry::RotateHalf => transposed_command(flipped_command(
+            cols,
+            transposed_command(flipped_command(rows, command)),
+        )),
     }
 }
 
 // The same command on the transposed table.
-fn exchange<T, A: Allocator>(command: Command<T, A>) -> Command<T, A>
+fn transposed_command<T, A: Allocator>(command: Command<T, A>) -> Command<T, A>
     ensures { command_value result ≡ command_of_transposed (command_value command) }
 {
     match command {
@@ -96,29 +105,38 @@ fn exchange<T, A: Allocator>(command: Command<T, A>) -> Command<T, A>
 }
 
 // The same command on a table of so many rows in the reversed order.
-fn flip<T, A: Allocator>(rows: usize, command: Command<T, A>) -> Command<T, A>
+fn flipped_command<T, A: Allocator>(rows: usize, command: Command<T, A>) -> Command<T, A>
     ensures { command_value result ≡ command_of_flipped rows (command_value command) }
 {
     match command {
         Command::Size => Command::Size,
-        Command::Get(row, col) => Command::Get(place(rows, row), col),
-        Command::Row(at) => Command::Row(place(rows, at)),
+        Command::Get(row, col) => Command::Get(mirrored_line(rows, row), col),
+        Command::Row(at) => Command::Row(mirrored_line(rows, at)),
         Command::Col(at) => Command::Col(at),
-        Command::Set(row, col, cell) => Command::Set(place(rows, row), col, cell),
-        Command::Swap(a, b) => Command::Swap((place(rows, a.0), a.1), (place(rows, b.0), b.1)),
+        Command::Set(row, col, cell) => Command::Set(mirrored_line(rows, row), col, cell),
+        Command::Swap(a, b) => Command::Swap(
+            (mirrored_line(rows, a.0), a.1),
+            (mirrored_line(rows, b.0), b.1),
+        ),
         Command::PushRow(line) => Command::InsertRow(0, line),
         Command::PushCol(line) => Command::PushCol(reversed(line)),
-        Command::InsertRow(at, line) => Command::InsertRow(gap(rows, at), line),
+        Command::InsertRow(at, line) => Command::InsertRow(mirrored_insertion(rows, at), line),
         Command::InsertCol(at, line) => Command::InsertCol(at, reversed(line)),
-        Command::InsertRows(at, lines) => Command::InsertRows(gap(rows, at), reordered(lines)),
+        Command::InsertRows(at, lines) => Command::InsertRows(
+            mirrored_insertion(rows, at),
+            reordered(lines),
+        ),
         Command::InsertCols(at, lines) => Command::InsertCols(at, each_reversed(lines)),
         Command::PopRow => Command::RemoveRow(0),
         Command::PopCol => Command::PopCol,
-        Command::RemoveRow(at) => Command::RemoveRow(place(rows, at)),
+        Command::RemoveRow(at) => Command::RemoveRow(mirrored_line(rows, at)),
         Command::RemoveCol(at) => Command::RemoveCol(at),
-        Command::DeleteRow(at) => Command::DeleteRow(place(rows, at)),
+        Command::DeleteRow(at) => Command::DeleteRow(mirrored_line(rows, at)),
         Command::DeleteCol(at) => Command::DeleteCol(at),
-        Command::DeleteRows(from, count) => Command::DeleteRows(start(rows, from, count), count),
+        Command::DeleteRows(from, count) => Command::DeleteRows(
+            mirrored_start(rows, from, count),
+            count,
+        ),
         Command::DeleteCols(from, count) => Command::DeleteCols(from, count),
         Command::ExpandRows(count) => Command::PrependRows(count),
         Command::ExpandCols(count) => Command::ExpandCols(count),
@@ -133,21 +151,21 @@ fn flip<T, A: Allocator>(rows: usize, command: Command<T, A>) -> Command<T, A>
 }
 
 // Where a line stands, counted from the other end; past the end it stays.
-pub(crate) fn place(count: usize, at: usize) -> usize
+pub(crate) fn mirrored_line(count: usize, at: usize) -> usize
     ensures { result ≡ mirror_place count at }
 {
     if at < count { count - 1 - at } else { at }
 }
 
 // Where a line is put, counted from the other end; past the end it stays.
-fn gap(count: usize, at: usize) -> usize
+fn mirrored_insertion(count: usize, at: usize) -> usize
     ensures { result ≡ mirror_gap count at }
 {
     if count < at { at } else { count - at }
 }
 
 // Where a range of lines starts, counted from the other end; past the end it stays.
-fn start(count: usize, from: usize, len: usize) -> usize
+fn mirrored_start(count: usize, from: usize, len: usize) -> usize
     ensures { result ≡ mirror_start count from len }
 {
     if from > count || len > count - from {
@@ -237,23 +255,23 @@ fn reverses_cells(symmetry: Symmetry, axis: Axis) -> bool
 }
 
 // Where a cell of the image comes from; past the end it stays past the end.
-pub(crate) fn base_place(
+pub(crate) fn base_position(
     symmetry: Symmetry,
     rows: usize,
     cols: usize,
     row: usize,
     col: usize,
 ) -> (usize, usize)
-    ensures { result ≡ base_place symmetry rows cols row col }
+    ensures { result ≡ base_position symmetry rows cols row col }
 {
     match symmetry {
         Symmetry::Identity => (row, col),
-        Symmetry::FlipCols => (row, place(cols, col)),
-        Symmetry::FlipRows => (place(rows, row), col),
-        Symmetry::RotateHalf => (place(rows, row), place(cols, col)),
+        Symmetry::FlipCols => (row, mirrored_line(cols, col)),
+        Symmetry::FlipRows => (mirrored_line(rows, row), col),
+        Symmetry::RotateHalf => (mirrored_line(rows, row), mirrored_line(cols, col)),
         Symmetry::Transpose => (col, row),
-        Symmetry::RotateLeft => (col, place(cols, row)),
-        Symmetry::RotateRight => (place(rows, col), row),
-        Symmetry::AntiTranspose => (place(rows, col), place(cols, row)),
+        Symmetry::RotateLeft => (col, mirrored_line(cols, row)),
+        Symmetry::RotateRight => (mirrored_line(rows, col), row),
+        Symmetry::AntiTranspose => (mirrored_line(rows, col), mirrored_line(cols, row)),
     }
 }

@@ -15,13 +15,13 @@ ghost use Rattle.grid.specs.Step.{step_rows, step_reply, takes_memory, RowsAreKn
 ghost use Rattle.grid_deferred.specs.Carry.{shift_through, is_apply};
 ghost use Rattle.grid_deferred.specs.Deferred.{pending_after};
 
-mod walk;
+mod line_iter;
 
-use crate::carrying::{base_place, carried, carry_reply, transposes};
+use crate::carrying::{base_position, carried, carry_reply, transposes};
 use grid::{Command, Grid, Reply, Tally};
 use grid_base::Symmetry;
+pub use line_iter::DeferredLineIter;
 use std::alloc::{AllocError, Allocator, Global};
-pub use walk::DeferredLineIter;
 
 // Does on a base what a command, which is no Apply, does on the base's image.
 #[tactic(auto, using(crate::proofs::PendingLemmas::carried_known, crate::proofs::PendingLemmas::carried_still))]
@@ -139,7 +139,7 @@ impl<'a, T, A: Allocator> Deferred<'a, T, A> {
         ensures { option_copied result ≡ cell (shown self.now) row col }
     {
         let (rows, cols) = self.base.size();
-        let (base_row, base_col) = base_place(self.pending, rows, cols, row, col);
+        let (base_row, base_col) = base_position(self.pending, rows, cols, row, col);
         self.base.get(base_row, base_col)
     }
 

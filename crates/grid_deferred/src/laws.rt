@@ -14,7 +14,7 @@ use grid::{Command, Grid, Reply, Tally, run};
 use std::alloc::Allocator;
 
 /// Runs a list of commands at once on one grid and deferred on another, and returns the replies of both, or `None`
-/// where one of them stops for want of memory. The grids may be stored in unlike orders.
+/// where one of them stops for want of memory. The grids may be stored in different orders.
 ///
 ///     [[1, 2]], [[1, 2]]   run_at_once_and_deferred([Apply(FlipCols), Get(0, 0)], the same)   [Done, Cell(2)] twice
 ///

@@ -4,7 +4,7 @@ use Rattle.grid_base.specs.declared.words.Symmetry.{Symmetry}
 use Rattle.grid_base.specs.declared.words.Symmetry.TheVariants.{Identity, RotateLeft}
 use Rattle.grid_base.specs.Table.{IsTable}
 use Rattle.grid_base.specs.Symmetry.{act, order_after}
-use Rattle.grid_base.specs.declared.flat.order.Order.{Order}
+use Rattle.grid_base.specs.declared.order.Order.{Order}
 use Rattle.grid_base.proofs.GroupLemmas.{product, act-act, act-identity, order_after-order_after}
 
 -- the symmetry of k quarter turns to the left

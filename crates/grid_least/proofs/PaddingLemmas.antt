@@ -4,7 +4,7 @@ use Rattle.std.specs.List.{slice_get}
 use Rattle.std.proofs.lemmas.List.{length-append, length-replicate, get_or-replicate}
 use Rattle.std.proofs.lemmas.Option.{slice_get-get_or}
 use Rattle.std.proofs.lemmas.Bool.{cases_lt}
-use Rattle.grid_base.specs.declared.flat.order.Order.{Order}
+use Rattle.grid_base.specs.declared.order.Order.{Order}
 use Rattle.grid_base.specs.Table.{row, row_count, col_count, cell, IsTable}
 use Rattle.grid_base.specs.Order.{storage, place}
 use Rattle.grid_base.proofs.TableLemmas.{same_tables}

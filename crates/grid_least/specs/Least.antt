@@ -1,8 +1,47 @@
--- Swaps of the items at two places, one after another, and the least number of them that makes one list of another.
-use Rattle.std.specs.Prelude.{◌≡◌, ◌≢◌, ℕ, ◌-◌, ◌<◌, ◌≤◌, ⊤, Some, List, [], ◌∷◌, ◌++◌, length, take, replicate, swap}
+-- Swaps of the items at two places, one after another, and the least number of them that makes one
+-- list of another.
+use Rattle.std.specs.Prelude.{
+  ◌≡◌,
+  ◌≢◌,
+  ℕ,
+  ◌-◌,
+  ◌<◌,
+  ◌≤◌,
+  ⊤,
+  Some,
+  List,
+  [],
+  ◌∷◌,
+  ◌++◌,
+  length,
+  take,
+  replicate,
+  swap,
+}
 use Rattle.grid_base.specs.Table.{cell, InRange}
 use Rattle.grid_base.specs.Tally.{saturating_count}
-use Rattle.grid_commands.specs.Command.{Edit, read, push, insert_at, insert_all, pop, remove_at, delete_at, delete_range, expand, prepend, CommandValue, size, get, set_cell, swap_cells, lines, fill, clear, apply}
+use Rattle.grid_commands.specs.Command.{
+  Edit,
+  read,
+  push,
+  insert_at,
+  insert_all,
+  pop,
+  remove_at,
+  delete_at,
+  delete_range,
+  expand,
+  prepend,
+  CommandValue,
+  size,
+  get,
+  set_cell,
+  swap_cells,
+  lines,
+  fill,
+  clear,
+  apply,
+}
 
 -- both places of each pair are below n
 abbrev pub AreWithin : ℕ → List (ℕ × ℕ) → Type 0
@@ -15,7 +54,8 @@ module _ {T : Type 0} where
   swapped_all [] xs = xs
   swapped_all (p ∷ ps) xs = swapped_all ps (swap xs p.0 p.1)
 
-  -- these swaps bring the items of the new list to its places; what a longer old list has besides stands behind them
+  -- these swaps bring the items of the new list to its places; what a longer old list has besides
+  -- stands behind them
   pub record Makes (swaps : List (ℕ × ℕ)) (old new : List T) : Type 0 where
     pub within : AreWithin (length old) swaps
     pub front : take (length new) (swapped_all swaps old) ≡ new
@@ -33,7 +73,8 @@ module _ {T : Type 0} where
 
   -- no two positions of a table have the same cell
   pub record HasDifferentCells (t : List (List T)) : Type 0 where
-    pub different : (r c i j : ℕ) → InRange t r c → InRange t i j → cell t r c ≡ cell t i j → (r ≡ i) × (c ≡ j)
+    pub different : (r c i j : ℕ) → InRange t r c → InRange t i j → cell t r c ≡ cell t i j
+        → (r ≡ i) × (c ≡ j)
 
   -- no cell of a table is d
   pub record Lacks (d : T) (t : List (List T)) : Type 0 where

@@ -1,4 +1,4 @@
--- Walks over cells with their positions give what they have left.
+-- Iterators over cells with their positions give what they have left.
 use Rattle.std.proofs.Common.{◌≤◌, ℕ, suc, Option, None, Some, List, [], ◌∷◌, true, false, length, map, sym, ◌∙◌, ap, arith}
 use Rattle.std.specs.List.{filter_map, cons_option}
 use Rattle.std.specs.Iterator.{YieldsFirstBy}

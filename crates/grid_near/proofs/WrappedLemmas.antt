@@ -6,7 +6,7 @@ use Rattle.std.proofs.lemmas.Nat.{mod_below, mod-mul-add}
 use Rattle.std.proofs.lemmas.Bool.{lt-ltb, cases_lt}
 use Rattle.std.proofs.lemmas.Option.{slice_get_read}
 use Rattle.std.proofs.Math.Nat.{add-mod_right}
-use Rattle.grid_base.specs.declared.flat.order.Order.{Order}
+use Rattle.grid_base.specs.declared.order.Order.{Order}
 use Rattle.grid_base.specs.Table.{row, row_count, col_count, cell, InRange, IsTable}
 use Rattle.grid_base.proofs.TableLemmas.{IsSome_within}
 use Rattle.grid_base.specs.Order.{storage}

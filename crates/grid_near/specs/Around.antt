@@ -1,10 +1,38 @@
 -- How the iterators round a cell count their steps.
-use Rattle.std.specs.Prelude.{◌≡◌, ℕ, zero, suc, ◌+◌, ◌-◌, ◌*◌, ◌/◌, ◌%◌, ◌<◌, ◌≤◌, ◌&&◌, Bool, true, false, cond, nat_lt, Option, None, Some, List, [], ◌∷◌, drop, length, slice_get, MatchOption}
+use Rattle.std.specs.Prelude.{
+  ◌≡◌,
+  ℕ,
+  zero,
+  suc,
+  ◌+◌,
+  ◌-◌,
+  ◌*◌,
+  ◌/◌,
+  ◌%◌,
+  ◌<◌,
+  ◌≤◌,
+  ◌&&◌,
+  Bool,
+  true,
+  false,
+  cond,
+  nat_lt,
+  Option,
+  None,
+  Some,
+  List,
+  [],
+  ◌∷◌,
+  drop,
+  length,
+  slice_get,
+  MatchOption,
+}
 use Rattle.std.specs.List.{filter_map}
 use Rattle.std.specs.Option.{option_and_then}
 use Rattle.std.specs.Borrow.{Bor}
-use Rattle.grid_base.specs.declared.flat.order.Order.{Order}
-use Rattle.grid_base.specs.declared.flat.order.Order.TheVariants.{RowMajor, ColumnMajor}
+use Rattle.grid_base.specs.declared.order.Order.{Order}
+use Rattle.grid_base.specs.declared.order.Order.TheVariants.{RowMajor, ColumnMajor}
 use Rattle.grid_near.specs.Neighbors.{around8, around4, before, both, cell_at, placed}
 
 -- the cell in row r and column c of m rows and n columns whose cells stand `down` and `right` apart
@@ -40,8 +68,10 @@ beside k (suc (suc _)) = Some (k + 1)
 
 -- the positions of the steps round (r, c)
 abbrev pub positions : Bool → ℕ × ℕ → List (Option ℕ × Option ℕ)
-positions true at = around4 (before at.0) (Some at.0) (Some (at.0 + 1)) (before at.1) (Some at.1) (Some (at.1 + 1))
-positions false at = around8 (before at.0) (Some at.0) (Some (at.0 + 1)) (before at.1) (Some at.1) (Some (at.1 + 1))
+positions true at = around4 (before at.0) (Some at.0) (Some (at.0 + 1)) (before at.1) (Some at.1)
+    (Some (at.1 + 1))
+positions false at = around8 (before at.0) (Some at.0) (Some (at.0 + 1)) (before at.1) (Some at.1)
+    (Some (at.1 + 1))
 
 -- the position of step k
 abbrev pub position_of : Bool → ℕ × ℕ → ℕ → Option ℕ × Option ℕ
@@ -58,7 +88,8 @@ cells_from f sides at k = filter_map (cell_at f) (drop k (positions sides at))
 
 -- the positions from step k on that are within a size
 abbrev pub positions_from : ℕ × ℕ → Bool → ℕ × ℕ → ℕ → List (ℕ × ℕ)
-positions_from size sides at k = filter_map (λ p. if_within size (both p)) (drop k (positions sides at))
+positions_from size sides at k = filter_map (λ p. if_within size (both p))
+    (drop k (positions sides at))
 
 -- the cell in row i and column j of the nine cells round a position is within the size
 pub record IsThere (size at : ℕ × ℕ) (i j : ℕ) : Type 0 where
@@ -67,10 +98,13 @@ pub record IsThere (size at : ℕ × ℕ) (i j : ℕ) : Type 0 where
   pub before : 0 < at.1 + j
   pub after : at.1 + j ≤ size.1
 
--- a search from step k on found the first of the cells, or that there is none, and went on to a later step
-abbrev pub FindsFirst : {T : Type 0} → (ℕ → ℕ → Option T) → Bool → ℕ × ℕ → ℕ → ℕ × Option ((ℕ × ℕ) × Bor T) → Type 0
+-- a search from step k on found the first of the cells, or that there is none, and went on to a
+-- later step
+abbrev pub FindsFirst : {T : Type 0} → (ℕ → ℕ → Option T) → Bool → ℕ × ℕ → ℕ
+    → ℕ × Option ((ℕ × ℕ) × Bor T) → Type 0
 FindsFirst f sides at k found =
-    MatchOption found.1 ((cells_from f sides at k ≡ []) × (cells_from f sides at found.0 ≡ [])) (λ x. cells_from f sides at k ≡ placed x ∷ cells_from f sides at found.0)
+    MatchOption found.1 ((cells_from f sides at k ≡ []) × (cells_from f sides at found.0 ≡ []))
+    (λ x. cells_from f sides at k ≡ placed x ∷ cells_from f sides at found.0)
 
 -- all cells round a position are within the size
 pub record IsInner (size at : ℕ × ℕ) : Type 0 where
@@ -83,8 +117,10 @@ pub record IsInner (size at : ℕ × ℕ) : Type 0 where
 abbrev pub box_start : ℕ × ℕ → ℕ × ℕ → ℕ
 box_start strides at = (at.0 - 1) * strides.0 + (at.1 - 1) * strides.1
 
--- what holds of an iterator round the cell at a position, of which `passed` steps are done, and, at the edge, `tried`
-pub record IsRound {T : Type 0} (cells : List T) (size strides at : ℕ × ℕ) (first : ℕ) (inner : Bool) (passed tried : ℕ) : Type 0 where
+-- what holds of an iterator round the cell at a position, of which `passed` steps are done, and, at
+-- the edge, `tried`
+pub record IsRound {T : Type 0} (cells : List T) (size strides at : ℕ × ℕ) (first : ℕ)
+    (inner : Bool) (passed tried : ℕ) : Type 0 where
   pub holds : HoldsCells cells size strides
   pub row_in : at.0 < size.0
   pub col_in : at.1 < size.1

@@ -1,5 +1,21 @@
 -- The cells round a cell.
-use Rattle.std.specs.Prelude.{◌≡◌, ℕ, zero, suc, ◌+◌, ◌-◌, ◌%◌, true, Option, None, Some, List, [], ◌∷◌, map}
+use Rattle.std.specs.Prelude.{
+  ◌≡◌,
+  ℕ,
+  zero,
+  suc,
+  ◌+◌,
+  ◌-◌,
+  ◌%◌,
+  true,
+  Option,
+  None,
+  Some,
+  List,
+  [],
+  ◌∷◌,
+  map,
+}
 use Rattle.std.specs.List.{filter_map}
 use Rattle.std.specs.Option.{option_map, option_and_then}
 use Rattle.std.specs.Iterator.{YieldsFirstBy}
@@ -10,7 +26,8 @@ use Rattle.grid_base.specs.Table.{row_count, col_count, cell}
 -- the eight round the middle of three rows and three columns, row by row
 abbrev pub around8 : {X : Type 0} → X → X → X → X → X → X → List (X × X)
 around8 up row down left col right =
-    (up, left) ∷ (up, col) ∷ (up, right) ∷ (row, left) ∷ (row, right) ∷ (down, left) ∷ (down, col) ∷ (down, right) ∷ []
+    (up, left) ∷ (up, col) ∷ (up, right) ∷ (row, left) ∷ (row, right) ∷ (down, left) ∷ (down, col)
+    ∷ (down, right) ∷ []
 
 -- the four of them that share a side with the middle
 abbrev pub around4 : {X : Type 0} → X → X → X → X → X → X → List (X × X)
@@ -40,24 +57,28 @@ module _ {T : Type 0} where
   -- the cells round (r, c) that the table has, row by row, with their positions
   unfoldable pub neighbors8 : List (List T) → ℕ → ℕ → List ((ℕ × ℕ) × T)
   neighbors8 t r c =
-      filter_map (cell_at (cell t)) (around8 (before r) (Some r) (Some (r + 1)) (before c) (Some c) (Some (c + 1)))
+      filter_map (cell_at (cell t)) (around8 (before r) (Some r) (Some (r + 1)) (before c) (Some c)
+      (Some (c + 1)))
 
   unfoldable pub neighbors4 : List (List T) → ℕ → ℕ → List ((ℕ × ℕ) × T)
   neighbors4 t r c =
-      filter_map (cell_at (cell t)) (around4 (before r) (Some r) (Some (r + 1)) (before c) (Some c) (Some (c + 1)))
+      filter_map (cell_at (cell t)) (around4 (before r) (Some r) (Some (r + 1)) (before c) (Some c)
+      (Some (c + 1)))
 
   -- the same on a table whose edges meet
   unfoldable pub wrapped_neighbors8 : List (List T) → ℕ → ℕ → List ((ℕ × ℕ) × T)
   wrapped_neighbors8 t r c =
       let m = row_count t in
       let n = col_count t in
-      filter_map (cell_at (cell t)) (around8 (Some (round_before m r)) (Some r) (Some (round_after m r)) (Some (round_before n c)) (Some c) (Some (round_after n c)))
+      filter_map (cell_at (cell t)) (around8 (Some (round_before m r)) (Some r)
+      (Some (round_after m r)) (Some (round_before n c)) (Some c) (Some (round_after n c)))
 
   unfoldable pub wrapped_neighbors4 : List (List T) → ℕ → ℕ → List ((ℕ × ℕ) × T)
   wrapped_neighbors4 t r c =
       let m = row_count t in
       let n = col_count t in
-      filter_map (cell_at (cell t)) (around4 (Some (round_before m r)) (Some r) (Some (round_after m r)) (Some (round_before n c)) (Some c) (Some (round_after n c)))
+      filter_map (cell_at (cell t)) (around4 (Some (round_before m r)) (Some r)
+      (Some (round_after m r)) (Some (round_before n c)) (Some c) (Some (round_after n c)))
 
 -- the item that an iterator gives, with the cell in place of the reference to it
 abbrev pub placed : {T : Type 0} → (ℕ × ℕ) × Bor T → (ℕ × ℕ) × T
@@ -65,8 +86,10 @@ placed item = (item.0, item.1.now)
 
 -- each run of an iterator over cells with their positions gives those that it had left, in order
 abbrev pub CellsInOrder : Type 0 → Type 0
-CellsInOrder T = EveryRun (YieldsFirstBy placed (λ (rest : List ((ℕ × ℕ) × T)). rest)) (λ p. ItemsMapTo p placed p.from)
+CellsInOrder T = EveryRun (YieldsFirstBy placed (λ (rest : List ((ℕ × ℕ) × T)). rest))
+    (λ p. ItemsMapTo p placed p.from)
 
 -- the same of the positions alone
 abbrev pub PositionsInOrder : Type 0 → Type 0
-PositionsInOrder T = EveryRun (YieldsFirstBy placed (λ (rest : List ((ℕ × ℕ) × T)). rest)) (λ p. p.whole ≡ true → map (λ item. item.0) p.items ≡ map (λ n. n.0) p.from)
+PositionsInOrder T = EveryRun (YieldsFirstBy placed (λ (rest : List ((ℕ × ℕ) × T)). rest))
+    (λ p. p.whole ≡ true → map (λ item. item.0) p.items ≡ map (λ n. n.0) p.from)

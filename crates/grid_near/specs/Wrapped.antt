@@ -12,13 +12,22 @@ around n k (suc (suc _)) = round_after n k
 
 -- the positions of the steps round (r, c)
 abbrev pub wrapped_positions : ℕ × ℕ → Bool → ℕ × ℕ → List (Option ℕ × Option ℕ)
-wrapped_positions size true at = around4 (Some (round_before size.0 at.0)) (Some at.0) (Some (round_after size.0 at.0)) (Some (round_before size.1 at.1)) (Some at.1) (Some (round_after size.1 at.1))
-wrapped_positions size false at = around8 (Some (round_before size.0 at.0)) (Some at.0) (Some (round_after size.0 at.0)) (Some (round_before size.1 at.1)) (Some at.1) (Some (round_after size.1 at.1))
+wrapped_positions size true at = around4 (Some (round_before size.0 at.0)) (Some at.0)
+    (Some (round_after size.0 at.0)) (Some (round_before size.1 at.1)) (Some at.1)
+    (Some (round_after size.1 at.1))
+wrapped_positions size false at = around8 (Some (round_before size.0 at.0)) (Some at.0)
+    (Some (round_after size.0 at.0)) (Some (round_before size.1 at.1)) (Some at.1)
+    (Some (round_after size.1 at.1))
 
 -- the position of step k
 abbrev pub around_of : ℕ × ℕ → Bool → ℕ × ℕ → ℕ → ℕ × ℕ
-around_of size sides at k = (around size.0 at.0 (box sides k / 3), around size.1 at.1 (box sides k % 3))
+around_of size sides at k = (
+  around size.0 at.0 (box sides k / 3),
+  around size.1 at.1
+      (box sides k % 3),
+)
 
 -- the cells from step k on
-abbrev pub wrapped_from : {T : Type 0} → (ℕ → ℕ → Option T) → ℕ × ℕ → Bool → ℕ × ℕ → ℕ → List ((ℕ × ℕ) × T)
+abbrev pub wrapped_from : {T : Type 0} → (ℕ → ℕ → Option T) → ℕ × ℕ → Bool → ℕ × ℕ → ℕ
+    → List ((ℕ × ℕ) × T)
 wrapped_from f size sides at k = filter_map (cell_at f) (drop k (wrapped_positions size sides at))

@@ -1,9 +1,64 @@
 -- The commands of a script: a name, and what the words behind it say.
-use Rattle.std.specs.Prelude.{ℕ, ◌/◌, ◌%◌, ◌==◌, ◌||◌, ◌&&◌, not, zero, suc, ℤ, Bool, if◌then◌else◌, Option, None, Some, List, [], ◌∷◌, ◌++◌, length, take, drop, codes, bytes_eq, option_and_then}
+use Rattle.std.specs.Prelude.{
+  ℕ,
+  ◌/◌,
+  ◌%◌,
+  ◌==◌,
+  ◌||◌,
+  ◌&&◌,
+  not,
+  zero,
+  suc,
+  ℤ,
+  Bool,
+  if◌then◌else◌,
+  Option,
+  None,
+  Some,
+  List,
+  [],
+  ◌∷◌,
+  ◌++◌,
+  length,
+  take,
+  drop,
+  codes,
+  bytes_eq,
+  option_and_then,
+}
 use Rattle.std.specs.Option.{option_map}
-use Rattle.grid_base.specs.declared.words.Symmetry.TheVariants.{Identity, FlipCols, FlipRows, RotateHalf, Transpose, RotateLeft, RotateRight, AntiTranspose}
+use Rattle.grid_base.specs.declared.words.Symmetry.TheVariants.{
+  Identity,
+  FlipCols,
+  FlipRows,
+  RotateHalf,
+  Transpose,
+  RotateLeft,
+  RotateRight,
+  AntiTranspose,
+}
 use Rattle.grid_commands.specs.declared.command.Axis.TheVariants.{Row, Col}
-use Rattle.grid_commands.specs.Command.{read, push, insert_at, insert_all, pop, remove_at, delete_at, delete_range, expand, prepend, CommandValue, size, get, set_cell, swap_cells, lines, fill, clear, apply}
+use Rattle.grid_commands.specs.Command.{
+  read,
+  push,
+  insert_at,
+  insert_all,
+  pop,
+  remove_at,
+  delete_at,
+  delete_range,
+  expand,
+  prepend,
+  CommandValue,
+  size,
+  get,
+  set_cell,
+  swap_cells,
+  lines,
+  fill,
+  clear,
+  apply,
+}
 use Rattle.grid_play.specs.Numbers.{index_of, cell_of}
 
 -- a step that may fail, and the next, which has its value
@@ -24,12 +79,14 @@ abbrev pub cut : ℕ → ℕ → List ℤ → List (List ℤ)
 cut zero len cells = []
 cut (suc n) len cells = take len cells ∷ cut n len (drop len cells)
 
--- whether so many cells can be cut into lines of this length: there are none, or the length divides their number
+-- whether so many cells can be cut into lines of this length: there are none, or the length divides
+-- their number
 abbrev pub can_be_cut : ℕ → ℕ → Bool
 can_be_cut count len = count == 0 || (not (len == 0) && count % len == 0)
 
 abbrev pub lines_of_length : ℕ → List ℤ → Option (List (List ℤ))
-lines_of_length len cells = if can_be_cut (length cells) len then Some (cut (length cells / len) len cells) else None
+lines_of_length len cells = if can_be_cut (length cells) len
+    then Some (cut (length cells / len) len cells) else None
 
 -- what the words behind a name say, and the command that comes of it
 pub data Form : Type 0 where
@@ -99,7 +156,8 @@ forms = line_forms ++ (number_forms ++ bare_forms)
 -- the form of the first entry of this name
 abbrev pub form_among : List (List ℕ × Form) → List ℕ → Option Form
 form_among [] name = None
-form_among (entry ∷ entries) name = if bytes_eq name entry.0 then Some entry.1 else form_among entries name
+form_among (entry ∷ entries) name = if bytes_eq name entry.0 then Some entry.1
+    else form_among entries name
 
 -- the words behind a name, by form: each stands for one number, and there are no more
 abbrev pub with_no_word : List (List ℕ) → CommandValue ℤ → Option (CommandValue ℤ)

@@ -1,9 +1,28 @@
 -- What the run of a script writes.
-use Rattle.std.specs.Prelude.{ℕ, ℤ, pos, true, false, None, Some, Result, Ok, List, ◌++◌, codes, decimal}
+use Rattle.std.specs.Prelude.{
+  ℕ,
+  ℤ,
+  pos,
+  true,
+  false,
+  None,
+  Some,
+  Result,
+  Ok,
+  List,
+  ◌++◌,
+  codes,
+  decimal,
+}
 use Rattle.std.specs.List.{flat_map, join_by}
 use Rattle.std.specs.Fmt.{signed_decimal}
 use Rattle.grid_commands.specs.declared.command.Refusal.{Refusal}
-use Rattle.grid_commands.specs.declared.command.Refusal.TheVariants.{EmptyLine, Length, Index, TooLarge}
+use Rattle.grid_commands.specs.declared.command.Refusal.TheVariants.{
+  EmptyLine,
+  Length,
+  Index,
+  TooLarge,
+}
 use Rattle.grid_commands.specs.Reply.{ReplyValue, done, size_is, cell_is, line_is, flag_is, refused}
 use Rattle.grid.specs.Run.{run_rows, run_replies}
 use Rattle.grid_play.specs.declared.fault.ScriptFault.{ScriptFault}
@@ -42,7 +61,8 @@ row_text row = codes "[" ++ join_by signed_decimal (codes ", ") row ++ codes "]"
 abbrev pub rows_line : List (List ℤ) → List ℕ
 rows_line table = codes "[" ++ flat_map row_text table ++ codes "]\n"
 
--- the plain run of the commands on the table, where 0 is the cells' default: a line for each reply, and last the rows
+-- the plain run of the commands on the table, where 0 is the cells' default: a line for each reply,
+-- and last the rows
 unfoldable pub output_of : ScriptValue → List ℕ
 output_of script =
     flat_map reply_line (run_replies (pos 0) script.commands script.grid.rows)

@@ -1,8 +1,29 @@
 -- What a script says: a table in an order, and commands; or what is wrong with it.
-use Rattle.std.specs.Prelude.{◌≡◌, ◌⊎◌, ℕ, ◌+◌, ◌/◌, ℤ, if◌then◌else◌, Option, None, Some, Result, Ok, Err, List, [], ◌∷◌, ◌++◌, length, codes, bytes_eq}
+use Rattle.std.specs.Prelude.{
+  ◌≡◌,
+  ◌⊎◌,
+  ℕ,
+  ◌+◌,
+  ◌/◌,
+  ℤ,
+  if◌then◌else◌,
+  Option,
+  None,
+  Some,
+  Result,
+  Ok,
+  Err,
+  List,
+  [],
+  ◌∷◌,
+  ◌++◌,
+  length,
+  codes,
+  bytes_eq,
+}
 use Rattle.std.specs.Str.{is_utf8}
-use Rattle.grid_base.specs.declared.flat.order.Order.{Order}
-use Rattle.grid_base.specs.declared.flat.order.Order.TheVariants.{RowMajor, ColumnMajor}
+use Rattle.grid_base.specs.declared.order.Order.{Order}
+use Rattle.grid_base.specs.declared.order.Order.TheVariants.{RowMajor, ColumnMajor}
 use Rattle.grid_base.specs.Order.{table_of}
 use Rattle.grid_base.specs.GridValue.{GridValue}
 use Rattle.grid_commands.specs.Command.{CommandValue}
@@ -30,10 +51,12 @@ pub record Layout : Type 0 where
 abbrev pub layout : GridValue ℤ → Layout
 layout grid = record { rows = grid.rows; order = grid.order }
 
--- the table of this order and so many columns whose cells in storage order are these, if they can be cut so
+-- the table of this order and so many columns whose cells in storage order are these, if they can
+-- be cut so
 abbrev pub grid_from : Order → ℕ → List ℤ → Option Layout
 grid_from order cols cells =
-    if can_be_cut (length cells) cols then Some (record { rows = table_of order (length cells / cols) cols cells; order = order })
+    if can_be_cut (length cells) cols then Some
+    (record { rows = table_of order (length cells / cols) cols cells; order = order })
     else None
 
 -- the grid of the first line: an order, the number of columns, and the cells
@@ -68,7 +91,8 @@ or_fault fault None = Err fault
 or_fault fault (Some x) = Ok x
 
 infixl 10 ◌>>◌
-abbrev pub ◌>>◌ : {X Y : Type 0} → Result X ScriptFault → (X → Result Y ScriptFault) → Result Y ScriptFault
+abbrev pub ◌>>◌ : {X Y : Type 0} → Result X ScriptFault → (X → Result Y ScriptFault)
+    → Result Y ScriptFault
 Ok x >> next = next x
 Err fault >> next = Err fault
 
@@ -94,6 +118,7 @@ unfoldable pub script_of : List ℕ → Result ScriptValue ScriptFault
 script_of input = script_of_lines (lines_of input)
 
 -- what is due comes, as it is seen, or else memory was refused
-abbrev pub IsOrMemory : {X Y : Type 0} → (Y → X) → Result X ScriptFault → Result Y ScriptFault → Type 0
+abbrev pub IsOrMemory : {X Y : Type 0} → (Y → X) → Result X ScriptFault → Result Y ScriptFault
+    → Type 0
 IsOrMemory seen due (Ok y) = due ≡ Ok (seen y)
 IsOrMemory seen due (Err fault) = (fault ≡ Memory) ⊎ (due ≡ Err fault)

@@ -119,7 +119,7 @@ fn bare_command<A: Allocator>(name: &str) -> Option<Command<i64, A>>
     }
 }
 
-// A place and a line that is inserted there: `I V..`.
+// An insertion point and a line that is inserted there: `I V..`.
 #[tactic(auto, unfolding(crate::specs::Commands::index_and_line))]
 fn parse_insert<A: Allocator>(
     alloc: A,
@@ -134,7 +134,7 @@ fn parse_insert<A: Allocator>(
     Ok(parse_cells(alloc, words)?.map(|line| (at, line)))
 }
 
-// A place and lines that are inserted there: `I L V..`, the cells joined, in lines of length L.
+// An insertion point and lines that are inserted there: `I L V..`, the cells joined, in lines of length L.
 #[tactic(auto, unfolding(crate::specs::Commands::index_and_lines))]
 fn parse_insert_lines<A: Allocator + Clone>(
     alloc: A,
@@ -219,7 +219,7 @@ fn two_indices(mut words: Words<'_>) -> Option<(usize, usize)>
     Some((index(first)?, index(second)?))
 }
 
-// A place and a cell: `R C V`.
+// A position and a cell: `R C V`.
 #[tactic(auto, unfolding(crate::specs::Commands::place_and_cell))]
 fn place_and_cell(mut words: Words<'_>) -> Option<(usize, usize, i64)>
     ensures { result ≡ place_and_cell (words_of words.entry.0.now) }
@@ -233,7 +233,7 @@ fn place_and_cell(mut words: Words<'_>) -> Option<(usize, usize, i64)>
     Some((index(row)?, index(col)?, cell(value)?))
 }
 
-// Two places: `R C R C`.
+// Two positions: `R C R C`.
 #[tactic(auto, unfolding(crate::specs::Commands::two_places))]
 fn two_places(mut words: Words<'_>) -> Option<((usize, usize), (usize, usize))>
     ensures { result ≡ two_places (words_of words.entry.0.now) }

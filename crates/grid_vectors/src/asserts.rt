@@ -1,10 +1,10 @@
 //! Comparisons that end a test.
 use grid::{Grid, Order, ShapeError};
-use grid_support::fixtures::{grid_of, is_stored, shows, table_of};
 use std::alloc::{AllocError, Allocator, Global};
 use std::fmt::{Debug, Display};
 use std::process::Abort;
 use std::test::Fail;
+use test_support::fixtures::{grid_of, is_stored, shows, table_of};
 
 /// Rows that are written out.
 pub type Rows = &'static [&'static [u32]];

@@ -1,10 +1,10 @@
-//! Callers' chains over walks, each run once.
+//! Callers' chains over iterators, each run once.
 use grid::{Grid, Order, ShapeError};
 use grid_callers::chains::*;
-use grid_support::fixtures::{ORDERS, stored};
 use std::alloc::{AllocError, Global};
 use std::process::Abort;
 use std::test::Fail;
+use test_support::fixtures::{ORDERS, stored};
 
 // [[1, 2, 3], [4, 5, 6]], stored in an order.
 fn board_in(rt: &impl Abort, alloc: Global, order: Order) -> Result<Grid<u32>, ShapeError> {
@@ -158,7 +158,7 @@ fn lists_rows_and_columns(rt: HostRuntime) -> Result<(), Fail> {
 }
 
 #[test]
-fn walks_back(rt: HostRuntime) -> Result<(), Fail> {
+fn iterates_back(rt: HostRuntime) -> Result<(), Fail> {
     for (order, want) in [
         (Order::RowMajor, [3u32, 2, 2, 1, 1, 0]),
         (Order::ColumnMajor, [3, 1, 2, 1, 2, 0]),
@@ -193,7 +193,7 @@ fn check_columns(rt: &impl Abort, alloc: Global, board: &Grid<u32>) -> Result<()
 }
 
 #[test]
-fn walks_lines_both_ways(rt: HostRuntime) -> Result<(), Fail> {
+fn iterates_lines_both_ways(rt: HostRuntime) -> Result<(), Fail> {
     for order in ORDERS {
         let board = board_in(&rt, rt.alloc(), order)?;
         check_lines(&rt, &board);

@@ -2,10 +2,10 @@
 use crate::asserts::{Rows, assert_rows, grid_with};
 use grid::{Axis, Command, Grid, Order, Reply, ShapeError, Symmetry, Tally};
 use grid_deferred::{Deferred, carry_reply};
-use grid_support::fixtures::{ORDERS, cut};
 use std::alloc::{AllocError, Global};
 use std::process::Abort;
 use std::test::Fail;
+use test_support::fixtures::{ORDERS, cut};
 
 const BOARD: Rows = &[&[1, 2], &[3, 4]];
 
@@ -149,8 +149,8 @@ fn is_text(cell: Option<&String>, want: &str) -> bool {
     }
 }
 
-// Each walk is dropped after its first cell.
-fn begins_walks(deferred: &Deferred<'_, String>) -> bool {
+// Each iterator is dropped after its first cell.
+fn begins_iterators(deferred: &Deferred<'_, String>) -> bool {
     if deferred.size() != (2, 2) {
         return false;
     }
@@ -177,14 +177,14 @@ fn texts(alloc: Global, order: Order, letters: [&str; 4]) -> Result<Grid<String>
 }
 
 #[test]
-fn walks_over_texts_are_dropped_early(rt: HostRuntime) -> Result<(), Fail> {
+fn iterators_over_texts_are_dropped_early(rt: HostRuntime) -> Result<(), Fail> {
     for (order, letters) in LETTERS {
         let same = texts(rt.alloc(), order, letters)?;
         let mut grid = texts(rt.alloc(), order, letters)?;
         let deferred = Deferred::over(&mut grid);
-        let walked = begins_walks(&deferred);
+        let begun = begins_iterators(&deferred);
         let released = deferred.release();
-        assert!(rt; walked && grid == same);
+        assert!(rt; begun && grid == same);
         assert_eq!(rt; (released, grid.order()), (Symmetry::Identity, order));
     }
     Ok(())
@@ -214,8 +214,8 @@ fn is_kept(cell: Option<&Option<String>>, want: &str) -> bool {
     }
 }
 
-// Each walk of the turned texts is dropped after its first cell.
-fn begins_turned_walks(deferred: &Deferred<'_, Option<String>>) -> bool {
+// Each iterator of the turned texts is dropped after its first cell.
+fn begins_turned_iterators(deferred: &Deferred<'_, Option<String>>) -> bool {
     if deferred.size() != (2, 2) {
         return false;
     }
@@ -224,7 +224,7 @@ fn begins_turned_walks(deferred: &Deferred<'_, Option<String>>) -> bool {
 }
 
 #[test]
-fn walks_over_turned_texts_are_dropped_early(rt: HostRuntime) -> Result<(), Fail> {
+fn iterators_over_turned_texts_are_dropped_early(rt: HostRuntime) -> Result<(), Fail> {
     for (order, letters) in LETTERS {
         let same = kept_texts(rt.alloc(), order, letters)?;
         let mut grid = kept_texts(rt.alloc(), order, letters)?;
@@ -233,9 +233,9 @@ fn walks_over_turned_texts_are_dropped_early(rt: HostRuntime) -> Result<(), Fail
         let turned = deferred
             .step(Command::Apply(Symmetry::RotateLeft), &mut tally)
             .is_ok();
-        let walked = begins_turned_walks(&deferred);
+        let begun = begins_turned_iterators(&deferred);
         let released = deferred.release();
-        assert!(rt; turned && walked && grid == same);
+        assert!(rt; turned && begun && grid == same);
         assert_eq!(rt; (released, grid.order()), (Symmetry::RotateLeft, order));
     }
     Ok(())

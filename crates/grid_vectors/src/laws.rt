@@ -3,9 +3,9 @@ use crate::asserts::{Rows, assert_rows, grid_with};
 use grid::{Grid, Order, Symmetry, Tally};
 use grid_base::laws as symmetry_laws;
 use grid_callers::chains::*;
-use grid_support::fixtures::ORDERS;
 use std::process::Abort;
 use std::test::Fail;
+use test_support::fixtures::ORDERS;
 
 // [[1, 2, 3], [4, 5, 6]] rotated counterclockwise and then flipped top to bottom is [[1, 4], [2, 5], [3, 6]].
 const TURNED: Symmetry = Symmetry::RotateLeft;

@@ -4,6 +4,8 @@
 #[cfg(test)]
 mod asserts;
 #[cfg(test)]
+mod base;
+#[cfg(test)]
 mod callers;
 #[cfg(test)]
 mod chains;
@@ -11,8 +13,6 @@ mod chains;
 mod deferred;
 #[cfg(test)]
 mod flat;
-#[cfg(test)]
-mod ground;
 #[cfg(test)]
 mod json;
 #[cfg(test)]

@@ -1,4 +1,4 @@
-//! The laws of runs: the same list on grids of the same rows, in unlike orders and in both kinds of run.
+//! The laws of runs: the same list on grids of the same rows, in different orders and in both kinds of run.
 ghost use Rattle.std.specs.Prelude.{◌≡◌, [], ◌∷◌, map, IfOk};
 ghost use Rattle.grid_base.specs.declared.words.Symmetry.TheVariants.{RotateLeft};
 ghost use Rattle.grid_commands.specs.Command.{command_value, lines, push, size, apply};

@@ -3,7 +3,8 @@ use Rattle.std.specs.Prelude.{ℕ, Bool, ◌&&◌, ◌||◌, ◌==◌, Option, L
 use Rattle.grid_base.specs.Table.{row_count, col_count, cell, tabulate}
 use Rattle.grid_near.specs.Neighbors.{wrapped_neighbors8}
 
--- whether a cell is live in the next generation: with three live neighbours, or with two if it is live
+-- whether a cell is live in the next generation: with three live neighbours, or with two if it is
+-- live
 abbrev pub rule : Bool → ℕ → Bool
 rule live near = (near == 3) || (live && (near == 2))
 
@@ -13,4 +14,5 @@ live_neighbors t r c = count_by (λ near. near.1) (wrapped_neighbors8 t r c)
 
 -- the table of the next generation
 abbrev pub next_table : List (List Bool) → List (List Bool)
-next_table t = tabulate (row_count t) (col_count t) (λ r c. option_map (λ live. rule live (live_neighbors t r c)) (cell t r c))
+next_table t = tabulate (row_count t) (col_count t)
+    (λ r c. option_map (λ live. rule live (live_neighbors t r c)) (cell t r c))

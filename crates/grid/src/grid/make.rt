@@ -112,12 +112,12 @@ impl<T, A: Allocator> Grid<T, A> {
         Ok(Grid::from_vec_with_order(cells, cols, order))
     }
 
-    /// Returns the row-major grid of this size whose cells are what the closure returns at each place, called in
+    /// Returns the row-major grid of this size whose cells are what the closure returns at each position, called in
     /// storage order. Without rows or without columns it is the empty grid.
     ///
     ///     from_fn(alloc, 2, 3, |(row, col)| 10 * row + col)   [[0, 1, 2], [10, 11, 12]]
     ///
-    /// Requires: the closure can be called at each place, where `rows * cols` doesn't pass `usize::MAX`.
+    /// Requires: the closure can be called at each position, where `rows * cols` doesn't pass `usize::MAX`.
     /// Fails: `TooLarge` where `rows * cols` passes `usize::MAX`, else `Memory`; the closure wasn't called. Without
     /// rows or without columns it takes no memory and never fails.
     /// Cost: one call for each cell; one allocation, before the first call.

@@ -4,18 +4,19 @@ ghost use Rattle.std.specs.Fn.{FnReturnsAt};
 ghost use Rattle.grid_base.specs.ClosureCalls.{MapsTo, CallableAtEach, CallableAtRefs, CallableTimes, CallableAtCells, CallableAtItems, ReturnsAtCell, Generates, PairsUp};
 ghost use Rattle.grid_base.specs.GridValue.{HoldsSize};
 ghost use Rattle.grid_base.specs.Table.{IsSize};
-ghost use Rattle.grid_base.specs.Places.{places};
+ghost use Rattle.grid_base.specs.Positions.{positions};
 ghost use Rattle.grid_base.specs.Clones.{ClonesAreEqual};
 
-use super::places::Places;
-use super::{Flat, Order};
+use super::Flat;
+use super::positions::Positions;
+use crate::Order;
 use std::alloc::{AllocError, Allocator};
 
 impl<T, A: Allocator> Flat<T, A> {
-    /// Returns what the closure returns at each place of a table of `rows` rows and `cols` columns, in storage order.
+    /// Returns what the closure returns at each position of a table of `rows` rows and `cols` columns, in storage order.
     ///
     /// Requires: there are rows exactly if there are columns, a vector can hold their cells, and the closure can be
-    /// called at each place.
+    /// called at each position.
     /// Fails: where memory is refused; the closure wasn't called.
     /// Cost: one call for each cell; one allocation, before the first call.
     pub fn from_fn<F: Fn((usize, usize)) -> T>(
@@ -27,12 +28,12 @@ impl<T, A: Allocator> Flat<T, A> {
     ) -> Result<Flat<T, A>, AllocError>
         requires below { rows * cols < 2 ^ 64 }
         requires size { IsSize rows cols }
-        requires calls { CallableAtItems F.pre f (places order rows cols) }
+        requires calls { CallableAtItems F.pre f (positions order rows cols) }
         ensures len { IfOk result (λ g. length g ≡ rows * cols) }
-        ensures cells { IfOk result (λ g. PairsUp (F.post f) (places order rows cols) g) }
+        ensures cells { IfOk result (λ g. PairsUp (F.post f) (positions order rows cols) g) }
     {
         let mut cells = Vec::with_capacity(alloc, rows * cols)?;
-        for at in Places::new(order, rows, cols) {
+        for at in Positions::new(order, rows, cols) {
             cells.push_reserved(f(at));
         }
         Ok(Flat { cells })
@@ -130,11 +131,11 @@ impl<T, A: Allocator> Flat<T, A> {
         Ok(Flat { cells: mapped })
     }
 
-    /// Returns what the closure returns at each place of a table of `rows` rows and `cols` columns, and a reference to
+    /// Returns what the closure returns at each position of a table of `rows` rows and `cols` columns, and a reference to
     /// the cell there.
     ///
     /// Requires: the vector has `rows * cols` cells, there are rows exactly if there are columns, and the closure can be
-    /// called at each place and its cell.
+    /// called at each position and its cell.
     /// Fails: where memory is refused; the closure wasn't called.
     /// Cost: one call for each cell; one allocation, before the first call.
     pub fn map_indexed<U, F: Fn((usize, usize), &T) -> U>(
@@ -147,10 +148,10 @@ impl<T, A: Allocator> Flat<T, A> {
     where
         A: Clone,
         requires size { HoldsSize rows cols (length self.now) }
-        requires calls { CallableAtCells F.pre f (zip (places order rows cols) self.now) }
+        requires calls { CallableAtCells F.pre f (zip (positions order rows cols) self.now) }
         ensures len { IfOk result (λ g. length g ≡ length self.now) }
         ensures cells { IfOk result (λ g.
-            PairsUp (ReturnsAtCell F.post f) (zip (places order rows cols) self.now) g) }
+            PairsUp (ReturnsAtCell F.post f) (zip (positions order rows cols) self.now) g) }
     {
         let alloc = self.cells.allocator().clone()?;
         let mut mapped = Vec::with_capacity(alloc, self.cells.len())?;
@@ -160,11 +161,11 @@ impl<T, A: Allocator> Flat<T, A> {
         Ok(Flat { cells: mapped })
     }
 
-    /// Replaces each cell of a table of `rows` rows and `cols` columns by what the closure returns at its place and a
+    /// Replaces each cell of a table of `rows` rows and `cols` columns by what the closure returns at its position and a
     /// reference to it, in order.
     ///
     /// Requires: the vector has `rows * cols` cells, there are rows exactly if there are columns, and the closure can be
-    /// called at each place and its cell.
+    /// called at each position and its cell.
     /// Cost: one call for each cell; no memory.
     pub fn update<F: Fn((usize, usize), &T) -> T>(
         &mut self,
@@ -176,11 +177,12 @@ impl<T, A: Allocator> Flat<T, A> {
     where
         T: Drop,
         requires size { HoldsSize rows cols (length self.old) }
-        requires calls { CallableAtCells F.pre f (zip (places order rows cols) self.old) }
+        requires calls { CallableAtCells F.pre f (zip (positions order rows cols) self.old) }
         ensures len { length self.new ≡ length self.old }
-        ensures cells { PairsUp (ReturnsAtCell F.post f) (zip (places order rows cols) self.old) self.new }
+        ensures cells { PairsUp (ReturnsAtCell F.post f) (zip (positions order rows cols) self.old)
+            self.new }
     {
-        let mut left = Places::new(order, rows, cols);
+        let mut left = Positions::new(order, rows, cols);
         let cells = self.cells.as_mut_slice();
         for cell in cells.iter_mut() {
             if let Some(at) = left.next() {

@@ -4,7 +4,8 @@ ghost use Rattle.grid_base.specs.Table.{row_count, col_count, concat_rows, IsTab
 ghost use Rattle.grid_base.specs.Order.{storage};
 ghost use Rattle.grid_base.specs.Gather.{items_of_each, last_of, before_last};
 
-use super::{Flat, Order};
+use super::Flat;
+use crate::Order;
 use std::alloc::{AllocError, Allocator};
 
 impl<T, A: Allocator> Flat<T, A> {

@@ -4,11 +4,12 @@ ghost use Rattle.std.specs.Borrow.{sem};
 ghost use Rattle.std.specs.Iterator.{YieldsFirst, YieldsFirstBy, item_count, UpTo, at_most};
 ghost use Rattle.std.specs.Iterator.SizeHint.{IsWithinCount};
 ghost use Rattle.grid_base.specs.GridValue.{HoldsSize};
-ghost use Rattle.grid_base.specs.Places.{places};
+ghost use Rattle.grid_base.specs.Positions.{positions};
 ghost use Rattle.grid_base.specs.IndexedIterMut.{indexed_mut_rest};
 
-use super::places::Places;
-use super::{Flat, Order};
+use super::Flat;
+use super::positions::Positions;
+use crate::Order;
 use std::alloc::{Allocator, Global};
 use std::marker::Model;
 use std::{slice, vec};
@@ -22,10 +23,10 @@ impl<T, A: Allocator> Flat<T, A> {
     /// Requires: the vector has `rows * cols` cells, and there are rows exactly if there are columns.
     pub fn indexed_iter(&self, order: Order, rows: usize, cols: usize) -> IndexedIter<'_, T>
         requires { HoldsSize rows cols (length self.now) }
-        ensures { result ≡ zip (places order rows cols) self.now }
+        ensures { result ≡ zip (positions order rows cols) self.now }
     {
         IndexedIter {
-            places: Places::new(order, rows, cols),
+            positions: Positions::new(order, rows, cols),
             cells: self.cells.as_slice().iter(),
         }
     }
@@ -42,10 +43,10 @@ impl<T, A: Allocator> Flat<T, A> {
     ) -> IndexedIterMut<'_, T>
         requires { HoldsSize rows cols (length self.old) }
         ensures* writes_back { sem 𝓛 (lends_indexed T.row A.row A.Allocator self.entry result) }
-        ensures rest { indexed_mut_rest result ≡ zip (places order rows cols) self.old }
+        ensures rest { indexed_mut_rest result ≡ zip (positions order rows cols) self.old }
     {
         IndexedIterMut {
-            places: Places::new(order, rows, cols),
+            positions: Positions::new(order, rows, cols),
             lent: self.cells.as_mut_slice().iter_mut(),
         }
     }
@@ -56,11 +57,11 @@ impl<T, A: Allocator> Flat<T, A> {
     /// Requires: the vector has `rows * cols` cells, and there are rows exactly if there are columns.
     pub fn indexed_into_iter(self, order: Order, rows: usize, cols: usize) -> IndexedIntoIter<T, A>
         requires { HoldsSize rows cols (length self) }
-        ensures { result ≡ zip (places order rows cols) self }
+        ensures { result ≡ zip (positions order rows cols) self }
     {
         let Flat { cells } = self;
         IndexedIntoIter {
-            places: Places::new(order, rows, cols),
+            positions: Positions::new(order, rows, cols),
             owned: cells.into_iter(),
         }
     }
@@ -69,7 +70,7 @@ impl<T, A: Allocator> Flat<T, A> {
 /// An iterator over cells, each with its row and its column.
 #[derive(Drop)]
 pub struct IndexedIter<'a, T> {
-    places: Places,
+    positions: Positions,
     cells: slice::Iter<'a, T>,
 }
 
@@ -79,10 +80,10 @@ impl<'a, T> Model for IndexedIter<'a, T> {
 
     ghost Value = { List ((ℕ × ℕ) × T) };
 
-    ghost view = { λ a. zip a.places (iter_rest a.cells) };
+    ghost view = { λ a. zip a.positions (iter_rest a.cells) };
 }
 
-#[tactic(auto, using(crate::proofs::WalkLemmas::walks))]
+#[tactic(auto, using(crate::proofs::PlacedCellLemmas::placed_cells))]
 impl<'a, T> Iterator for IndexedIter<'a, T> {
     type Item = ((usize, usize), &'a T);
 
@@ -91,7 +92,7 @@ impl<'a, T> Iterator for IndexedIter<'a, T> {
     ghost remaining = { item_count (λ rest. rest) };
 
     fn next(&mut self) -> Option<((usize, usize), &'a T)> {
-        let at = self.places.next()?;
+        let at = self.positions.next()?;
         let cell = self.cells.next()?;
         Some((at, cell))
     }
@@ -101,7 +102,7 @@ impl<'a, T> Iterator for IndexedIter<'a, T> {
         ensures upper { IfSome result.1 (UpTo (at_most (length self.now))) }
         ensures exact { result ≡ (length self.now, Some (length self.now)) }
     {
-        self.places.hint(self.cells.len())
+        self.positions.hint(self.cells.len())
     }
 }
 
@@ -109,11 +110,11 @@ impl<'a, T> Iterator for IndexedIter<'a, T> {
 // It has no model, so that a contract can follow the loan.
 #[derive(Drop)]
 pub struct IndexedIterMut<'a, T> {
-    places: Places,
+    positions: Positions,
     lent: slice::IterMut<'a, T>,
 }
 
-#[tactic(auto, using(crate::proofs::WalkLemmas::walks))]
+#[tactic(auto, using(crate::proofs::PlacedCellLemmas::placed_cells))]
 impl<'a, T> Iterator for IndexedIterMut<'a, T> {
     type Item = ((usize, usize), &'a mut T);
 
@@ -122,7 +123,7 @@ impl<'a, T> Iterator for IndexedIterMut<'a, T> {
     ghost remaining = { item_count indexed_mut_rest };
 
     fn next(&mut self) -> Option<((usize, usize), &'a mut T)> {
-        let at = self.places.next()?;
+        let at = self.positions.next()?;
         let cell = self.lent.next()?;
         Some((at, cell))
     }
@@ -133,14 +134,14 @@ impl<'a, T> Iterator for IndexedIterMut<'a, T> {
         ensures exact { result
             ≡ (length (indexed_mut_rest self.now), Some (length (indexed_mut_rest self.now))) }
     {
-        self.places.hint(self.lent.len())
+        self.positions.hint(self.lent.len())
     }
 }
 
 /// An iterator over cells, by value, each with its row and its column.
 #[derive(Drop)]
 pub struct IndexedIntoIter<T, A: Allocator = Global> {
-    places: Places,
+    positions: Positions,
     owned: vec::IntoIter<T, A>,
 }
 
@@ -150,10 +151,10 @@ impl<T, A: Allocator> Model for IndexedIntoIter<T, A> {
 
     ghost Value = { List ((ℕ × ℕ) × T) };
 
-    ghost view = { λ a. zip a.places (into_iter_items a.owned) };
+    ghost view = { λ a. zip a.positions (into_iter_items a.owned) };
 }
 
-#[tactic(auto, using(crate::proofs::WalkLemmas::walks))]
+#[tactic(auto, using(crate::proofs::PlacedCellLemmas::placed_cells))]
 impl<T: Drop, A: Allocator> Iterator for IndexedIntoIter<T, A> {
     type Item = ((usize, usize), T);
 
@@ -162,7 +163,7 @@ impl<T: Drop, A: Allocator> Iterator for IndexedIntoIter<T, A> {
     ghost remaining = { item_count (λ rest. rest) };
 
     fn next(&mut self) -> Option<((usize, usize), T)> {
-        let at = self.places.next()?;
+        let at = self.positions.next()?;
         let cell = self.owned.next()?;
         Some((at, cell))
     }
@@ -172,6 +173,6 @@ impl<T: Drop, A: Allocator> Iterator for IndexedIntoIter<T, A> {
         ensures upper { IfSome result.1 (UpTo (at_most (length self.now))) }
         ensures exact { result ≡ (length self.now, Some (length self.now)) }
     {
-        self.places.hint(self.owned.len())
+        self.positions.hint(self.owned.len())
     }
 }

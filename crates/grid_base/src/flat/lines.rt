@@ -13,7 +13,8 @@ ghost use Rattle.grid_base.specs.Groups.{Widened, Woven, Opened, Closed};
 ghost use Rattle.grid_base.specs.Tally.{saturating_count};
 
 use super::blocks::exchange_blocks;
-use super::{Flat, Groups, Tally};
+use super::{Flat, Groups};
+use crate::Tally;
 use std::alloc::Allocator;
 
 impl<T, A: Allocator> Flat<T, A> {

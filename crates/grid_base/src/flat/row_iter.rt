@@ -11,7 +11,8 @@ ghost use Rattle.grid_base.specs.GridLineIterMut.{line_mut_rest};
 
 use super::line_iter::line_of;
 use super::span::row_span;
-use super::{Flat, GridLineIter, GridLineIterMut, Order};
+use super::{Flat, GridLineIter, GridLineIterMut};
+use crate::Order;
 use std::alloc::{AllocError, Allocator};
 use std::iter::FusedIterator;
 use std::marker::Model;

@@ -3,8 +3,9 @@ ghost use Rattle.std.specs.Prelude.{◌≡◌, ◌<◌, ◌≤◌, ◌+◌, ◌^
 ghost use Rattle.grid_base.specs.Blocks.{swapped_back, swapped_forward};
 ghost use Rattle.grid_base.specs.Tally.{saturating_count};
 
-use super::tally::{Swaps, swap_for_shift};
-use super::{Flat, Tally};
+use super::Flat;
+use crate::Tally;
+use crate::tally::{Swaps, swap_for_shift};
 use std::alloc::Allocator;
 
 // Shorter blocks cost more to begin than vector code saves.

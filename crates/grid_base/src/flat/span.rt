@@ -3,7 +3,7 @@ ghost use Rattle.std.specs.Prelude.{◌+◌, ◌*◌, ◌^◌, ◌<◌};
 ghost use Rattle.grid_base.specs.Order.{place};
 ghost use Rattle.grid_base.specs.Span.{IsSpan};
 
-use super::Order;
+use crate::Order;
 
 // The `count` places from `start` on and before `end`, each `stride` after the last.
 #[derive(Drop)]

@@ -3,8 +3,9 @@ ghost use Rattle.std.specs.Prelude.{◌≡◌, ◌<◌, ◌≤◌, ◌+◌, ◌/
 ghost use Rattle.grid_base.specs.Blocks.{BlocksSwapped, PartReversed};
 ghost use Rattle.grid_base.specs.Tally.{saturating_count};
 
-use super::tally::{Swaps, swap_for_symmetry};
-use super::{Flat, Tally};
+use super::Flat;
+use crate::Tally;
+use crate::tally::{Swaps, swap_for_symmetry};
 use std::alloc::Allocator;
 
 impl<T, A: Allocator> Flat<T, A> {

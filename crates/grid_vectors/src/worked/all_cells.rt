@@ -1,11 +1,11 @@
-//! A write of one cell, and calls on all cells by closures: with a state, or by place.
+//! A write of one cell, and calls on all cells by closures: with a state, or by position.
 use crate::asserts::{Rows, assert_rows, assert_stored, grid_with};
 use grid::Order::{ColumnMajor, RowMajor};
 use grid::{Grid, Order};
-use grid_support::fixtures::{Fragile, ORDERS};
 use std::alloc::AllocError;
 use std::cell::Cell;
 use std::test::Fail;
+use test_support::fixtures::{Fragile, ORDERS};
 
 const SQUARE: Rows = &[&[1, 2], &[3, 4]];
 

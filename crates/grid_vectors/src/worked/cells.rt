@@ -2,11 +2,11 @@
 use crate::asserts::assert_stored;
 use grid::Order::{ColumnMajor, RowMajor};
 use grid::{Grid, GridError, Order};
-use grid_support::fitting::{LineAt, insert, insert_several, push_row};
-use grid_support::fixtures::{ORDERS, joined_texts};
 use std::alloc::{AllocError, Global};
 use std::process::Abort;
 use std::test::Fail;
+use test_support::fixtures::{ORDERS, joined_texts};
+use test_support::line_edits::{LineAt, insert, insert_several, push_row};
 
 // Padding by its four calls.
 #[derive(Clone, Copy, Debug)]

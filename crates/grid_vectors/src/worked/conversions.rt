@@ -2,11 +2,11 @@
 use crate::asserts::{Rows, assert_stored};
 use grid::Order::RowMajor;
 use grid::{Grid, ShapeError, can_cut};
-use grid_support::fixtures::table_of;
 use std::alloc::{AllocError, Global};
 use std::convert::TryFrom;
 use std::process::Abort;
 use std::test::Fail;
+use test_support::fixtures::table_of;
 
 // What a conversion is to make: a grid of this size with these cells, or nothing, for this reason.
 type Made = Result<((usize, usize), &'static [u32]), ShapeError>;

@@ -2,11 +2,11 @@
 use crate::asserts::{Rows, assert_rows, assert_stored, grid_with};
 use grid::Order::{ColumnMajor, RowMajor};
 use grid::{Grid, GridError, LineRefused, LinesRefused, Order};
-use grid_support::fitting::{LineAt, insert, insert_several, push_col, push_row};
-use grid_support::fixtures::{ORDERS, stored, table_of};
 use std::alloc::{AllocError, Global};
 use std::process::Abort;
 use std::test::Fail;
+use test_support::fixtures::{ORDERS, stored, table_of};
+use test_support::line_edits::{LineAt, insert, insert_several, push_col, push_row};
 
 type Line = &'static [u32];
 

@@ -2,10 +2,10 @@
 use crate::asserts::{Rows, assert_rows, grid_with};
 use grid::Order::{ColumnMajor, RowMajor};
 use grid::{Command, Grid, Move, Order, Reply, Symmetry, Tally, reduce, run};
-use grid_support::fixtures::{ORDERS, call, order_after, stored};
 use std::alloc::{AllocError, Global};
 use std::process::Abort;
 use std::test::Fail;
+use test_support::fixtures::{ORDERS, call, order_after, stored};
 
 // The example that the README begins with.
 #[test]

@@ -1,8 +1,8 @@
 //! The cells round a cell, a part of a grid, and lines that change places.
 use crate::asserts::{Rows, assert_rows, grid_with};
-use grid_support::fixtures::ORDERS;
 use std::process::Abort;
 use std::test::Fail;
+use test_support::fixtures::ORDERS;
 
 const TABLE: Rows = &[&[1, 2, 3], &[4, 5, 6]];
 

@@ -4,10 +4,10 @@ use grid::{
     Command, GridError, LineRefused, LinesRefused, Move, Order, Reply, RunStopped, ShapeError,
     Symmetry,
 };
-use grid_support::fixtures::line_from;
 use std::alloc::{AllocError, Global};
 use std::hash::{DefaultHasher, Hash, Hasher};
 use std::test::Fail;
+use test_support::fixtures::line_from;
 
 fn hash_of(order: Order) -> u64 {
     let mut hasher = DefaultHasher::new();

@@ -2,12 +2,12 @@
 use crate::asserts::assert_stored;
 use grid::Order::{ColumnMajor, RowMajor};
 use grid::{Grid, Order, Whole};
-use grid_support::fixtures::{ORDERS, cut, stored};
 use std::alloc::Global;
 use std::collections::HashSet;
 use std::hash::{DefaultHasher, Hash, Hasher};
 use std::process::Abort;
 use std::test::Fail;
+use test_support::fixtures::{ORDERS, cut, stored};
 
 // Cells in storage order, in rows of some length.
 type Stored = (&'static [u32], usize, Order);

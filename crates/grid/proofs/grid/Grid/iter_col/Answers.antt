@@ -3,7 +3,7 @@ use Rattle.grid_base.specs.Table.{row, row_count}
 use Rattle.grid_base.specs.Order.{table_of}
 use Rattle.grid_base.proofs.ViewLemmas.{view-rows, view-cols, view-table, HoldsSize-transposed}
 use Rattle.grid.proofs.SeenLemmas.{seen_cols}
-use Rattle.grid.proofs.SeenWalkLemmas.{seen_transposed}
+use Rattle.grid.proofs.SeenIteratorLemmas.{seen_transposed}
 use Rattle.grid.proofs.grid.Grid.iter_col.Goals as goal
 
 pub row-requires-clause-size : goal.row-requires-clause-size

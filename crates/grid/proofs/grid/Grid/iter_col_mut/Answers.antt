@@ -3,7 +3,7 @@ use Rattle.grid_base.specs.Table.{row}
 use Rattle.grid_base.specs.Order.{place, table_of}
 use Rattle.grid_base.proofs.ViewLemmas.{HoldsSize-transposed}
 use Rattle.grid.proofs.SeenLemmas.{seen_cols}
-use Rattle.grid.proofs.SeenWalkLemmas.{seen_written, seen_keeps_from, seen_transposed, place_flipped}
+use Rattle.grid.proofs.SeenIteratorLemmas.{seen_written, seen_keeps_from, seen_transposed, place_flipped}
 use Rattle.grid.proofs.grid.Grid.iter_col_mut.Goals as goal
 
 pub row_mut-requires-clause-size : goal.row_mut-requires-clause-size

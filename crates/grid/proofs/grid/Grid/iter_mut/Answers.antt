@@ -1,6 +1,6 @@
 use Rattle.std.proofs.Common.{◌∙◌, sym, refl}
 use Rattle.grid.proofs.SeenLemmas.{seen_storage}
-use Rattle.grid.proofs.SeenWalkLemmas.{seen_refilled, seen_keeps}
+use Rattle.grid.proofs.SeenIteratorLemmas.{seen_refilled, seen_keeps}
 use Rattle.grid.proofs.grid.Grid.iter_mut.Goals as goal
 
 pub returns : goal.returns

@@ -1,12 +1,12 @@
 use Rattle.std.proofs.Common.{◌≡◌, arith, sym, ap, ◌∙◌, ◌++◌, ◌∷◌, [], length, append_assoc, append-nil}
-use Rattle.grid_base.specs.Places.{places}
+use Rattle.grid_base.specs.Positions.{positions}
 use Rattle.grid_base.proofs.ClosureLemmas.{AllZip-append, AllZip-length, callable_item}
 use Rattle.grid_base.proofs.PlaceLemmas.{length-places}
 use Rattle.grid_base.proofs.flat.Flat.from_fn.Goals as goal
 
 pub loop-at-init : goal.loop-at-init
 loop-at-init g c =
-    let from : c.into_iter-at-iterator.result ≡ places c.args.order c.args.rows c.args.cols = c.into_iter-at-iterator.ensures.into_iter_gives ∙ c.new-at-items.ensures in
+    let from : c.into_iter-at-iterator.result ≡ positions c.args.order c.args.rows c.args.cols = c.into_iter-at-iterator.ensures.into_iter_gives ∙ c.new-at-items.ensures in
     let count = length-places c.args.order c.args.rows c.args.cols c.requires.size in
     record {
       can = tt;

@@ -1,21 +1,21 @@
 use Rattle.std.proofs.Common.{◌≡◌, arith, refl, sym, ap, subst, ◌∙◌, ◌++◌, ◌*◌, ◌∷◌, [], zip, length, append_assoc, append-nil}
-use Rattle.grid_base.specs.Places.{places}
+use Rattle.grid_base.specs.Positions.{positions}
 use Rattle.grid_base.specs.ClosureCalls.{PairsUp}
 use Rattle.grid_base.proofs.ClosureLemmas.{AllZip-append, AllZip-length, callable_cell}
 use Rattle.grid_base.proofs.PlaceLemmas.{length-places}
-use Rattle.grid_base.proofs.WalkLemmas.{zip_within, zip_even}
+use Rattle.grid_base.proofs.PlacedCellLemmas.{zip_within, zip_even}
 use Rattle.grid_base.proofs.flat.Flat.map_indexed.Goals as goal
 
 pub loop-at-init : goal.loop-at-init
 loop-at-init g c =
-    let all = zip (places c.args.order c.args.rows c.args.cols) c.args.self.now in
+    let all = zip (positions c.args.order c.args.rows c.args.cols) c.args.self.now in
     let from : c.into_iter-at-iterator.result ≡ all = c.into_iter-at-iterator.ensures.into_iter_gives ∙ c.indexed_iter-at-items.ensures in
     record {
       can = tt;
       finite = tt;
       done = [];
       split = from;
-      room = rw from (grind (arith, zip_within (places c.args.order c.args.rows c.args.cols) c.args.self.now, c.with_capacity.ensures.capacity, c.len.ensures, c.with_capacity.ensures.len));
+      room = rw from (grind (arith, zip_within (positions c.args.order c.args.rows c.args.cols) c.args.self.now, c.with_capacity.ensures.capacity, c.len.ensures, c.with_capacity.ensures.len));
       answers = rw c.in_ok-mapped.ensures.items tt;
     }
 
@@ -49,8 +49,8 @@ returns-clause-len g c =
     let i = c.loop-at.invariant in
     let s = c.in-None.ensures.steps in
     let whole = rw (s.0, append-nil) at i.split in
-    let places_len = length-places c.args.order c.args.rows c.args.cols c.requires.size.size in
-    AllZip-length _ _ _ i.answers ∙ (ap length whole ∙ zip_even _ _ (omega (arith, places_len, c.requires.size.cells)))
+    let positions_len = length-places c.args.order c.args.rows c.args.cols c.requires.size.size in
+    AllZip-length _ _ _ i.answers ∙ (ap length whole ∙ zip_even _ _ (omega (arith, positions_len, c.requires.size.cells)))
 
 pub returns-clause-cells : goal.returns-clause-cells
 returns-clause-cells g c =

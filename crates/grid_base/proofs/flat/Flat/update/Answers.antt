@@ -1,10 +1,10 @@
 use Rattle.std.proofs.Common.{rules, get_or, ◌≡◌, ◌<◌, ◌+◌, arith, refl, sym, ap, subst, ◌∙◌, ◌++◌, ◌∷◌, [], zip, length, take, drop, append_assoc, append-nil}
 use Rattle.std.proofs.lemmas.List.{take_more_set, drop_all}
-use Rattle.grid_base.specs.Places.{places}
+use Rattle.grid_base.specs.Positions.{positions}
 use Rattle.grid_base.specs.ClosureCalls.{CallableAtCells}
 use Rattle.grid_base.proofs.ClosureLemmas.{AllZip-append, callable_cell, take_front, take_whole}
 use Rattle.grid_base.proofs.PlaceLemmas.{length-places}
-use Rattle.grid_base.proofs.WalkLemmas.{drop_item, drop_past_set, zip_nothing}
+use Rattle.grid_base.proofs.PlacedCellLemmas.{drop_item, drop_past_set, zip_nothing}
 use Rattle.grid_base.proofs.flat.Flat.update.Goals as goal
 use Rattle.grid_base.proofs.flat.Flat.update.Goals.{in-Some, in_default}
 
@@ -14,7 +14,7 @@ loop-cell-init g c =
     record {
       done = [];
       split = ap (λ l. zip l c.as_mut_slice-cells.result.now) c.new-left.ensures;
-      places_left = omega (arith, ap length c.new-left.ensures, length-places c.args.order c.args.rows c.args.cols c.requires.size.size, c.requires.size.cells, ap length seen);
+      positions_left = omega (arith, ap length c.new-left.ensures, length-places c.args.order c.args.rows c.args.cols c.requires.size.size, c.requires.size.cells, ap length seen);
       answers = tt;
     }
 
@@ -29,10 +29,10 @@ loop-cell-preserved g c =
           record {
             done = i.done ++ (w.in-Some.at, c.cell-item.result) ∷ [];
             split = rw (w.cells-is, drop_past_set c.loop-cell.cells c.loop-cell.cell-index w.f.result, append_assoc) (rw (s, cut) at i.split);
-            places_left = omega (arith, i.places_left, ap length s);
+            positions_left = omega (arith, i.positions_left, ap length s);
             answers = rw (w.cells-is, take_more_set c.loop-cell.cells c.loop-cell.cell-index w.f.result lt) (AllZip-append _ _ _ (w.in-Some.at, c.cell-item.result) w.f.result i.answers (record { shown = _; shows = sym c.cell-item.is; says = w.f.ensures }));
           }
-      | in_default w ↦ absurd (omega (arith, lt, i.places_left, c.loop-cell.auto.cells, ap length w.in_default.ensures.steps.0))
+      | in_default w ↦ absurd (omega (arith, lt, i.positions_left, c.loop-cell.auto.cells, ap length w.in_default.ensures.steps.0))
     ]
 
 pub f-requires : goal.f-requires
@@ -45,8 +45,8 @@ f-requires g c =
     let cut : drop k cells ≡ get_or cells k c.cell-item.result ∷ drop (k + 1) cells =
     drop_item cells k c.cell-item.result lt c.cell-item.is ∙ ap (λ z. z ∷ drop (k + 1) cells) c.cell-item.is in
     let seen = c.as_mut_slice-cells.ensures.value ∙ c.self.view_is in
-    let all = zip (places c.args.order c.args.rows c.args.cols) c.as_mut_slice-cells.result.now in
-    let whole : CallableAtCells (λ h at p. goal.F-pre g h at p) c.args.f all = subst (λ l. CallableAtCells (λ h at p. goal.F-pre g h at p) c.args.f (zip (places c.args.order c.args.rows c.args.cols) l)) (sym seen) c.requires.calls in
+    let all = zip (positions c.args.order c.args.rows c.args.cols) c.as_mut_slice-cells.result.now in
+    let whole : CallableAtCells (λ h at p. goal.F-pre g h at p) c.args.f all = subst (λ l. CallableAtCells (λ h at p. goal.F-pre g h at p) c.args.f (zip (positions c.args.order c.args.rows c.args.cols) l)) (sym seen) c.requires.calls in
     callable_cell (λ h at p. goal.F-pre g h at p) c.args.f all i.done _ c.in-Some.at _ whole (rw (s, cut) at i.split)
 
 pub returns-clause-cells : goal.returns-clause-cells
@@ -56,8 +56,8 @@ returns-clause-cells g c =
     let k = c.loop-cell.cell-index in
     let items = c.self.inside.cells.items in
     let seen = c.as_mut_slice-cells.ensures.value ∙ c.self.view_is in
-    let all : i.done ≡ zip (places c.args.order c.args.rows c.args.cols) c.args.self.now =
-    rw (drop_all k cells (omega (arith, c.loop-cell-test.false, c.loop-cell.auto.cells)), zip_nothing c.loop-cell.left [] refl, append-nil) at i.split ∙ ap (zip (places c.args.order c.args.rows c.args.cols)) seen in
+    let all : i.done ≡ zip (positions c.args.order c.args.rows c.args.cols) c.args.self.now =
+    rw (drop_all k cells (omega (arith, c.loop-cell-test.false, c.loop-cell.auto.cells)), zip_nothing c.loop-cell.left [] refl, append-nil) at i.split ∙ ap (zip (positions c.args.order c.args.rows c.args.cols)) seen in
     let same : take c.self.inside.cells.len (cells ++ drop (length cells) items) ≡ take k cells =
     take_front c.self.inside.cells.len cells _ (omega (arith, c.loop-cell.auto.cells, c.as_mut_slice-cells.ensures.len)) ∙ sym (take_whole k cells (omega (arith, c.loop-cell-test.false, c.loop-cell.auto.cells, c.loop-cell.auto.cell-index-end))) in
     record { places = rw (same, ← all) i.answers }

@@ -1,0 +1,89 @@
+-- What iterators over a grid's fields say of the value that a contract sees.
+use Rattle.std.proofs.Common.{◌≡◌, ℕ, List, ◌++◌, length, take, drop, zip, refl, sym, ◌∙◌, ap}
+use Rattle.std.specs.List.{refill, length_refill}
+use Rattle.grid_base.specs.declared.order.Order.{Order}
+use Rattle.grid_base.specs.declared.order.Order.TheVariants.{RowMajor, ColumnMajor}
+use Rattle.grid_base.specs.declared.words.Symmetry.TheVariants.{Transpose}
+use Rattle.grid_base.specs.Table.{row_count, col_count, transposed}
+use Rattle.grid_base.specs.Order.{place, flipped, table_of}
+use Rattle.grid_base.specs.Symmetry.{act}
+use Rattle.grid_base.specs.Positions.{positions}
+use Rattle.grid_base.specs.GridValue.{GridValue, HoldsSize}
+use Rattle.grid_base.specs.FlatLends.{written_from}
+use Rattle.grid_base.proofs.ViewLemmas.{same_grid_value, view-transpose}
+use Rattle.grid.specs.View.{grid_value, with_cells}
+use Rattle.grid.specs.Iterators.{stored, refilled, refilled_from, IsSameSize, KeepsSize, KeepsSizeFrom}
+use Rattle.grid.proofs.SeenLemmas.{seen_rows, seen_cols, seen_storage}
+
+-- the storage of a table is that of the transposed table in the other order
+pub place_flipped : (o : Order) (m n r c : ℕ) → place (flipped o) n m c r ≡ place o m n r c
+place_flipped RowMajor m n r c = refl
+place_flipped ColumnMajor m n r c = refl
+
+act_is_transposed : {T : Type 0} (t : List (List T)) → act Transpose t ≡ transposed t
+unfolding act
+act_is_transposed t = refl
+
+module _ {T : Type 0} (o : Order) (m n : ℕ) (cells : List T) (v : GridValue T) (h : HoldsSize m n (length cells)) (e : grid_value o m n cells h ≡ v) where
+  order_is : v.order ≡ o
+  order_is = sym (ap (λ x. x.order) e)
+
+  rows_are : row_count v.rows ≡ m
+  rows_are = seen_rows o m n cells v h e
+
+  cols_are : col_count v.rows ≡ n
+  cols_are = seen_cols o m n cells v h e
+
+  cells_are : stored v ≡ cells
+  cells_are = seen_storage o m n cells v h e
+
+  pub seen_transposed : table_of (flipped o) n m cells ≡ transposed v.rows
+  seen_transposed = view-transpose o m n cells h ∙ (act_is_transposed _ ∙ ap (λ x. transposed x.rows) e)
+
+  -- the cells with their positions
+  pub seen_indexed : zip (positions o m n) cells ≡ zip (positions v.order (row_count v.rows) (col_count v.rows)) (stored v)
+  seen_indexed = sym (
+      ap (λ x. zip (positions x (row_count v.rows) (col_count v.rows)) (stored v)) order_is
+      ∙ (ap (λ x. zip (positions o x (col_count v.rows)) (stored v)) rows_are
+      ∙ (ap (λ x. zip (positions o m x) (stored v)) cols_are ∙ ap (zip (positions o m n)) cells_are))
+      )
+
+  -- the grid with other cells
+  pub seen_with : (xs ys : List T) (k : HoldsSize m n (length xs)) (l : length ys ≡ length (stored v)) → xs ≡ ys → grid_value o m n xs k ≡ with_cells v ys l
+  seen_with xs ys k l same =
+      same_grid_value _ _
+      (ap (table_of o m n) same
+      ∙ sym (ap (λ x. table_of x (row_count v.rows) (col_count v.rows) ys) order_is
+      ∙ (ap (λ x. table_of o x (col_count v.rows) ys) rows_are ∙ ap (λ x. table_of o m x ys) cols_are)))
+      (sym order_is)
+
+  pub seen_refilled : (ws : List T) (k : HoldsSize m n (length (refill (length cells) cells ws))) → grid_value o m n (refill (length cells) cells ws) k ≡ refilled v ws
+  seen_refilled ws k = seen_with _ _ k _ (ap (λ c. refill (length c) c ws) (sym cells_are))
+
+  place_is : (r c : ℕ) → place v.order (row_count v.rows) (col_count v.rows) r c ≡ place o m n r c
+  place_is r c =
+      ap (λ x. place x (row_count v.rows) (col_count v.rows) r c) order_is
+      ∙ (ap (λ x. place o x (col_count v.rows) r c) rows_are ∙ ap (λ x. place o m x r c) cols_are)
+
+  pub seen_written : (start r c : ℕ) (ws : List T) (k : HoldsSize m n (length (written_from start cells ws))) → start ≡ place o m n r c → grid_value o m n (written_from start cells ws) k ≡ refilled_from v r c ws
+  seen_written start r c ws k s =
+      seen_with _ _ k _ (ap (λ x. written_from x cells ws) (s ∙ sym (place_is r c)) ∙ ap (λ x. written_from (place v.order (row_count v.rows) (col_count v.rows) r c) x ws) (sym cells_are))
+
+  -- the size stays where as many cells are written
+  fits_of : (news : List T) → length news ≡ length cells → HoldsSize m n (length news)
+  fits_of news same = rw same h
+
+  size_kept : (news : List T) (u : GridValue T) (same : length news ≡ length cells) → grid_value o m n news (fits_of news same) ≡ u → IsSameSize v u.rows
+  size_kept news u same f =
+      let fits = fits_of news same in
+      (seen_rows o m n news u fits f ∙ sym rows_are, seen_cols o m n news u fits f ∙ sym cols_are)
+
+  pub seen_keeps : KeepsSize v
+  seen_keeps ws = size_kept (refill (length cells) cells ws) (refilled v ws) (sym (length_refill (length cells) cells ws refl)) (seen_refilled ws _)
+
+  pub seen_keeps_from : (r c : ℕ) → KeepsSizeFrom v r c
+  seen_keeps_from r c ws =
+      let start = place o m n r c in
+      size_kept (written_from start cells ws) (refilled_from v r c ws)
+      (sym (length_refill (length cells) cells (take start cells ++ (ws ++ drop (length ws) (drop start cells))) refl))
+      (seen_written start r c ws _ refl)

@@ -1,0 +1,113 @@
+//! Iterators over one row or column, and over the rows and the columns. The columns of a grid are the rows of the table
+//! that the same vector stores in the other order.
+ghost use Rattle.std.specs.Prelude.{◌≡◌, ◌^◌, ◌<◌, length};
+ghost use Rattle.std.specs.Borrow.{sem};
+ghost use Rattle.grid_base.specs.Table.{row, row_count, col_count, transposed};
+ghost use Rattle.grid_base.specs.Strides.{LinesInOrder, LinesInReverse, EachLineInOrder, EachLineInReverse};
+ghost use Rattle.grid_base.specs.GridLineIterMut.{line_mut_rest};
+
+use crate::Grid;
+use crate::symmetry::flipped;
+use grid_base::{GridLineIter, GridLineIterMut, GridRowIter};
+use std::alloc::Allocator;
+
+/// An iterator over the columns of a grid, from both ends, seen as the list of the columns that remain.
+pub type GridColIter<'a, T> = GridRowIter<'a, T>;
+
+impl<T, A: Allocator> Grid<T, A> {
+    ghost use Rattle.grid.specs.Iterators.{lends_row, lends_col, KeepsSizeFrom};
+
+    /// Returns an iterator over the cells of row `r`, from both ends.
+    ///
+    ///     [[1, 2], [3, 4]]   iter_row(1)   3, 4
+    ///
+    /// Requires: `r` is in range.
+    /// Cost: each step takes the same time, in either order.
+    pub fn iter_row(&self, r: usize) -> GridLineIter<'_, T>
+        requires { r < row_count self.now.rows }
+        ensures rest { result ≡ row self.now.rows r }
+        ensures runs { LinesInOrder T }
+        ensures runs_back { LinesInReverse T }
+        ensures fits { length result < 2 ^ 64 }
+    {
+        self.flat.row(self.order, self.row_count, self.col_count, r)
+    }
+
+    /// Returns an iterator over the cells of column `c`, from both ends.
+    ///
+    ///     [[1, 2], [3, 4]]   iter_col(1)   2, 4
+    ///
+    /// Requires: `c` is in range.
+    /// Cost: each step takes the same time, in either order.
+    pub fn iter_col(&self, c: usize) -> GridLineIter<'_, T>
+        requires { c < col_count self.now.rows }
+        ensures rest { result ≡ row (transposed self.now.rows) c }
+        ensures runs { LinesInOrder T }
+        ensures runs_back { LinesInReverse T }
+        ensures fits { length result < 2 ^ 64 }
+    {
+        let order = flipped(self.order);
+        self.flat.row(order, self.col_count, self.row_count, c)
+    }
+
+    /// Returns an iterator over the cells of row `r`, for writing. The size and the order stay.
+    ///
+    ///     [[1, 2], [3, 4]]   for cell in iter_row_mut(1) { *cell = 0 }   [[1, 2], [0, 0]]
+    ///
+    /// Requires: `r` is in range.
+    /// Cost: each step takes the same time, in either order.
+    pub fn iter_row_mut(&mut self, r: usize) -> GridLineIterMut<'_, T>
+        requires { r < row_count self.old.rows }
+        ensures* writes_back { sem 𝓛 (lends_row T.row A.row A.Allocator self.entry r result) }
+        ensures keeps { KeepsSizeFrom self.old r 0 }
+        ensures rest { line_mut_rest result ≡ row self.old.rows r }
+    {
+        let (order, rows, cols) = (self.order, self.row_count, self.col_count);
+        self.flat.row_mut(order, rows, cols, r)
+    }
+
+    /// Returns an iterator over the cells of column `c`, for writing. The size and the order stay.
+    ///
+    ///     [[1, 2], [3, 4]]   for cell in iter_col_mut(1) { *cell = 0 }   [[1, 0], [3, 0]]
+    ///
+    /// Requires: `c` is in range.
+    /// Cost: each step takes the same time, in either order.
+    pub fn iter_col_mut(&mut self, c: usize) -> GridLineIterMut<'_, T>
+        requires { c < col_count self.old.rows }
+        ensures* writes_back { sem 𝓛 (lends_col T.row A.row A.Allocator self.entry c result) }
+        ensures keeps { KeepsSizeFrom self.old 0 c }
+        ensures rest { line_mut_rest result ≡ row (transposed self.old.rows) c }
+    {
+        let (order, rows, cols) = (flipped(self.order), self.row_count, self.col_count);
+        self.flat.row_mut(order, cols, rows, c)
+    }
+
+    /// Returns an iterator over the rows, from both ends, each as [`iter_row`](Grid::iter_row) gives it.
+    ///
+    ///     [[1, 2], [3, 4]]   iter_rows()   1, 2; then 3, 4
+    pub fn iter_rows(&self) -> GridRowIter<'_, T>
+        ensures rest { result ≡ self.now.rows }
+        ensures runs { EachLineInOrder T }
+        ensures runs_back { EachLineInReverse T }
+        ensures along { LinesInOrder T }
+        ensures along_back { LinesInReverse T }
+        ensures fits { length result < 2 ^ 64 }
+    {
+        self.flat.rows(self.order, self.row_count, self.col_count)
+    }
+
+    /// Returns an iterator over the columns, from both ends, each as [`iter_col`](Grid::iter_col) gives it.
+    ///
+    ///     [[1, 2], [3, 4]]   iter_cols()   1, 3; then 2, 4
+    pub fn iter_cols(&self) -> GridColIter<'_, T>
+        ensures rest { result ≡ transposed self.now.rows }
+        ensures runs { EachLineInOrder T }
+        ensures runs_back { EachLineInReverse T }
+        ensures along { LinesInOrder T }
+        ensures along_back { LinesInReverse T }
+        ensures fits { length result < 2 ^ 64 }
+    {
+        let order = flipped(self.order);
+        self.flat.rows(order, self.col_count, self.row_count)
+    }
+}

@@ -1,0 +1,115 @@
+//! Runs every list of up to two commands after each of the eight symmetries, over small tables in both orders, at once,
+//! deferred and step by step, beside the plain program. Counts the lists on which all agree, and names the others.
+//!
+//! With 172 commands there are 1 + 172 + 172 * 172 lists after a symmetry, 476112 at a size with its two orders.
+#![tactic(auto)]
+
+mod agreement;
+mod commands;
+mod costs;
+
+use agreement::{Start, differing_way};
+use commands::{all_commands, list_of};
+use grid::{Command, Order, Symmetry};
+use std::io;
+use std::process::ExitCode;
+use test_support::fixtures::{ORDERS, SIZES, SYMMETRIES};
+
+// How many lists agreed, and how many did not.
+#[derive(Drop)]
+struct Counts {
+    agreed: u64,
+    differed: u64,
+}
+
+// Checks one list: a symmetry, and the commands after it. Where a way to run it differs, writes the list and the way.
+fn check_list<R: Print + AllocGlobal>(
+    rt: &R,
+    start: Start,
+    symmetry: Symmetry,
+    after: &[&Command<u32>],
+    counts: &mut Counts,
+) -> io::Result<()> {
+    let list = list_of(rt.alloc(), symmetry, after)?;
+    match differing_way(rt.alloc(), start, list.as_slice())? {
+        None => counts.agreed = counts.agreed.saturating_add(1),
+        Some(way) => {
+            counts.differed = counts.differed.saturating_add(1);
+            let (rows, cols) = start.size;
+            println!(rt;
+                "{rows} x {cols}, {:?}, {way:?} differs: {list:?}",
+                start.order
+            )?;
+        }
+    }
+    Ok(())
+}
+
+// Checks the lists of a symmetry and a command, alone and before each command.
+fn check_lists_from<R: Print + AllocGlobal>(
+    rt: &R,
+    start: Start,
+    symmetry: Symmetry,
+    first: &Command<u32>,
+    commands: &[Command<u32>],
+    counts: &mut Counts,
+) -> io::Result<()> {
+    check_list(rt, start, symmetry, [first].as_slice(), counts)?;
+    for second in commands {
+        check_list(rt, start, symmetry, [first, second].as_slice(), counts)?;
+    }
+    Ok(())
+}
+
+// Checks all lists that begin with a symmetry.
+fn check_symmetry<R: Print + AllocGlobal>(
+    rt: &R,
+    start: Start,
+    symmetry: Symmetry,
+    commands: &[Command<u32>],
+    counts: &mut Counts,
+) -> io::Result<()> {
+    check_list(rt, start, symmetry, [].as_slice(), counts)?;
+    for first in commands {
+        check_lists_from(rt, start, symmetry, first, commands, counts)?;
+    }
+    Ok(())
+}
+
+// Checks all lists at the tables of a size, and writes how many agree.
+fn check_size<R: Print + AllocGlobal>(
+    rt: &R,
+    size: (usize, usize),
+    commands: &[Command<u32>],
+    counts: &mut Counts,
+) -> io::Result<()> {
+    for order in ORDERS {
+        for symmetry in SYMMETRIES {
+            check_symmetry(rt, Start { size, order }, symmetry, commands, counts)?;
+        }
+    }
+    Ok(())
+}
+
+// Checks all lists, and returns how many differ.
+fn run<R: Print + AllocGlobal>(rt: &R) -> io::Result<u64> {
+    let commands = all_commands(rt.alloc())?;
+    let mut differed = 0u64;
+    for (rows, cols) in SIZES {
+        let mut counts = Counts {
+            agreed: 0,
+            differed: 0,
+        };
+        check_size(rt, (rows, cols), commands.as_slice(), &mut counts)?;
+        println!(rt; "{rows} x {cols}: {} lists agree", counts.agreed)?;
+        differed = differed.saturating_add(counts.differed);
+    }
+    Ok(differed)
+}
+
+fn main(rt: HostRuntime) -> ExitCode {
+    match run(&rt) {
+        Ok(0) => ExitCode::SUCCESS,
+        _ => ExitCode::FAILURE,
+    }
+}

@@ -1,0 +1,448 @@
+//! What the tests share: all small tables, whether a grid shows one, and cells and memory that are refused.
+ghost use Rattle.std.specs.Prelude.{◌≡◌};
+
+use grid::{Grid, Move, Order, ShapeError, Symmetry, can_cut};
+use std::alloc::{AllocError, Allocator, Global};
+use std::cell::Cell;
+use test_reference::fuse::Fuse;
+use test_reference::plain;
+
+// Memory that a test can refuse.
+pub type Heap = Fuse<Global>;
+
+pub const SIZES: [(usize, usize); 10] = [
+    (0, 0),
+    (1, 1),
+    (1, 2),
+    (1, 3),
+    (2, 1),
+    (2, 2),
+    (2, 3),
+    (3, 1),
+    (3, 2),
+    (3, 3),
+];
+
+pub const ORDERS: [Order; 2] = [Order::RowMajor, Order::ColumnMajor];
+
+pub const SYMMETRIES: [Symmetry; 8] = [
+    Symmetry::Identity,
+    Symmetry::FlipCols,
+    Symmetry::FlipRows,
+    Symmetry::RotateHalf,
+    Symmetry::Transpose,
+    Symmetry::RotateLeft,
+    Symmetry::RotateRight,
+    Symmetry::AntiTranspose,
+];
+
+pub const MOVES: [Move; 6] = [
+    Move::Transpose,
+    Move::FlipCols,
+    Move::FlipRows,
+    Move::RotateLeft,
+    Move::RotateRight,
+    Move::RotateHalf,
+];
+
+// Rows and columns in range of a table, and some past its end.
+pub const INDICES: [usize; 6] = [0, 1, 2, 3, 4, usize::MAX];
+
+// A line of `len` numbers, each one more than the one before it.
+fn next_line<A: Allocator>(
+    alloc: A,
+    next: &mut u32,
+    len: usize,
+) -> Result<Vec<u32, A>, AllocError> {
+    let mut line = Vec::with_capacity(alloc, len)?;
+    for _ in 0..len {
+        line.push(*next)?;
+        *next = next.wrapping_add(1);
+    }
+    Ok(line)
+}
+
+// A line of `len` numbers, from the first on.
+pub fn line_from<A: Allocator>(
+    alloc: A,
+    first: u32,
+    len: usize,
+) -> Result<Vec<u32, A>, AllocError> {
+    let mut next = first;
+    next_line(alloc, &mut next, len)
+}
+
+// `count` lines of `len` numbers, which go on from line to line.
+pub fn lines_from<A: Allocator + Copy>(
+    alloc: A,
+    first: u32,
+    count: usize,
+    len: usize,
+) -> Result<Vec<Vec<u32, A>, A>, AllocError> {
+    let mut lines = Vec::with_capacity(alloc, count)?;
+    let mut next = first;
+    for _ in 0..count {
+        lines.push(next_line(alloc, &mut next, len)?)?;
+    }
+    Ok(lines)
+}
+
+// The table of this size with the cells 1, 2, 3, ..
+pub fn numbered(alloc: Global, rows: usize, cols: usize) -> Result<Vec<Vec<u32>>, AllocError> {
+    lines_from(alloc, 1, rows, cols)
+}
+
+// A table of rows that are written out.
+pub fn table_of(alloc: Global, rows: &[&[u32]]) -> Result<Vec<Vec<u32>>, AllocError> {
+    let mut table = Vec::new(alloc);
+    for row in rows {
+        table.push(Vec::from_slice(alloc, *row)?)?;
+    }
+    Ok(table)
+}
+
+// A grid of cells in storage order, in rows of `cols`.
+pub fn cut<T: Drop, A: Allocator>(
+    cells: Vec<T, A>,
+    cols: usize,
+    order: Order,
+) -> Result<Grid<T, A>, ShapeError> {
+    let len = cells.len();
+    if can_cut(len, cols) {
+        Ok(Grid::from_vec_with_order(cells, cols, order))
+    } else {
+        Err(ShapeError::Shape { len, cols })
+    }
+}
+
+// A grid of written cells in storage order, in rows of `cols`.
+pub fn stored(
+    alloc: Global,
+    cells: &[u32],
+    cols: usize,
+    order: Order,
+) -> Result<Grid<u32>, ShapeError> {
+    cut(Vec::from_slice(alloc, cells)?, cols, order)
+}
+
+// The grid of a table, stored in an order.
+pub fn grid_of(
+    alloc: Global,
+    table: &Vec<Vec<u32>>,
+    order: Order,
+) -> Result<Grid<u32>, ShapeError> {
+    let (_, cols) = plain::size(table);
+    cut(plain::storage(alloc, order, table)?, cols, order)
+}
+
+// The grid of a table, whose heap refuses each request from before the grid is made.
+pub fn starved_grid_of<'a>(
+    alloc: Global,
+    heap: &'a Heap,
+    table: &Vec<Vec<u32>>,
+    order: Order,
+) -> Result<Grid<u32, &'a Heap>, ShapeError> {
+    let cells = plain::storage(alloc, order, table)?;
+    heap.grant(1);
+    let cells = Vec::from_slice(heap, cells.as_slice())?;
+    heap.grant(0);
+    let (_, cols) = plain::size(table);
+    cut(cells, cols, order)
+}
+
+// The grid of this size and order that has stored 1, 2, 3, .., whose heap refuses each request from before the grid is
+// made.
+pub fn counted<'a>(
+    heap: &'a Heap,
+    (rows, cols): (usize, usize),
+    order: Order,
+) -> Result<Grid<u32, &'a Heap>, ShapeError> {
+    heap.grant(1);
+    let cells = line_from(heap, 1, rows.wrapping_mul(cols))?;
+    heap.grant(0);
+    cut(cells, cols, order)
+}
+
+// Whether a grid has the cells of a table, in range and past its ends.
+fn has_cells<A: Allocator>(grid: &Grid<u32, A>, table: &Vec<Vec<u32>>) -> bool {
+    for row in INDICES {
+        for col in INDICES {
+            if grid.get(row, col).copied() != plain::get(table, row, col) {
+                return false;
+            }
+        }
+    }
+    true
+}
+
+// Whether these are the cells of a table, row by row.
+fn is_joined(cells: &[u32], table: &Vec<Vec<u32>>) -> bool {
+    let mut left = cells.iter();
+    for row in table {
+        for cell in row {
+            if left.next() != Some(cell) {
+                return false;
+            }
+        }
+    }
+    left.next().is_none()
+}
+
+// Whether these are the cells of a table, column by column.
+fn is_joined_across(cells: &[u32], table: &Vec<Vec<u32>>) -> bool {
+    let (_, cols) = plain::size(table);
+    let mut left = cells.iter();
+    for col in 0..cols {
+        for row in table {
+            if left.next() != row.get(col) {
+                return false;
+            }
+        }
+    }
+    left.next().is_none()
+}
+
+// Whether each call that tells of its size or its order says that a grid has these.
+fn has_size<A: Allocator>(grid: &Grid<u32, A>, (rows, cols): (usize, usize), order: Order) -> bool {
+    let by_each = grid.size() == (rows, cols) && grid.rows() == rows && grid.cols() == cols;
+    by_each && grid.order() == order && grid.is_empty() == (rows == 0)
+}
+
+// Whether a grid shows this table, by its size and each cell, and has stored it in this order.
+pub fn shows<A: Allocator>(grid: &Grid<u32, A>, table: &Vec<Vec<u32>>, order: Order) -> bool {
+    let (rows, cols) = plain::size(table);
+    let stored = match order {
+        Order::RowMajor => is_joined(grid.flatten(), table),
+        Order::ColumnMajor => is_joined_across(grid.flatten(), table),
+    };
+    stored && has_size(grid, (rows, cols), order) && has_cells(grid, table)
+}
+
+// Whether these are `len` numbers: the first, and each later one larger by `step`.
+pub fn is_count(cells: &[u32], len: usize, first: u32, step: u32) -> bool {
+    let mut next = first;
+    for cell in cells {
+        if *cell != next {
+            return false;
+        }
+        next = next.wrapping_add(step);
+    }
+    cells.len() == len
+}
+
+// The number at a position of a table whose cells, in storage order, are the first, and each later one by so much more.
+fn count_at(
+    (rows, cols): (usize, usize),
+    order: Order,
+    (first, step): (u32, u32),
+    (row, col): (usize, usize),
+) -> Option<u32> {
+    if row >= rows || col >= cols {
+        return None;
+    }
+    let number = match order {
+        Order::RowMajor => row.wrapping_mul(cols).wrapping_add(col),
+        Order::ColumnMajor => col.wrapping_mul(rows).wrapping_add(row),
+    };
+    Some(first.wrapping_add(step.wrapping_mul((number % 1000) as u32)))
+}
+
+// Whether the cells of a small grid of this size and order are those numbers, in range, and none past its ends.
+fn has_count<A: Allocator>(
+    grid: &Grid<u32, A>,
+    size: (usize, usize),
+    order: Order,
+    count: (u32, u32),
+) -> bool {
+    for row in INDICES {
+        for col in INDICES {
+            if grid.get(row, col).copied() != count_at(size, order, count, (row, col)) {
+                return false;
+            }
+        }
+    }
+    true
+}
+
+// Whether a small grid shows this size and order, and has stored the first number, and each later one by so much more.
+pub fn shows_count<A: Allocator>(
+    grid: &Grid<u32, A>,
+    size: (usize, usize),
+    order: Order,
+    (first, step): (u32, u32),
+) -> bool {
+    let stored = is_count(grid.flatten(), size.0.wrapping_mul(size.1), first, step);
+    stored && has_size(grid, size, order) && has_count(grid, size, order, (first, step))
+}
+
+// Whether a grid has this size, and has stored these cells in this order.
+pub fn is_stored<T: PartialEq, A: Allocator>(
+    grid: &Grid<T, A>,
+    size: (usize, usize),
+    order: Order,
+    cells: &[T],
+) -> bool {
+    grid.size() == size && grid.order() == order && grid.flatten().as_slice() == cells
+}
+
+// Where the cells of a table of this size stand, in storage order.
+pub fn positions_of(
+    alloc: Global,
+    (rows, cols): (usize, usize),
+    order: Order,
+) -> Result<Vec<(usize, usize)>, AllocError> {
+    let mut places = Vec::new(alloc);
+    match order {
+        Order::RowMajor => {
+            for row in 0..rows {
+                for col in 0..cols {
+                    places.push((row, col))?;
+                }
+            }
+        }
+        Order::ColumnMajor => {
+            for col in 0..cols {
+                for row in 0..rows {
+                    places.push((row, col))?;
+                }
+            }
+        }
+    }
+    Ok(places)
+}
+
+// Writes a cell of a table, if it is there.
+pub fn put_cell(table: &mut Vec<Vec<u32>>, row: usize, col: usize, value: u32) {
+    if let Some(cells) = table.get_mut(row) {
+        if let Some(cell) = cells.get_mut(col) {
+            *cell = value;
+        }
+    }
+}
+
+// Does a move by the call of its name.
+pub fn call<A: Allocator>(grid: &mut Grid<u32, A>, step: Move) {
+    match step {
+        Move::Transpose => grid.transpose(),
+        Move::FlipCols => grid.flip_cols(),
+        Move::FlipRows => grid.flip_rows(),
+        Move::RotateLeft => grid.rotate_left(),
+        Move::RotateRight => grid.rotate_right(),
+        Move::RotateHalf => grid.rotate_half(),
+    }
+}
+
+// The order of a grid on which a symmetry has acted.
+pub fn order_after(symmetry: Symmetry, order: Order) -> Order {
+    let transposes = match symmetry {
+        Symmetry::Transpose
+        | Symmetry::RotateLeft
+        | Symmetry::RotateRight
+        | Symmetry::AntiTranspose => true,
+        Symmetry::Identity | Symmetry::FlipCols | Symmetry::FlipRows | Symmetry::RotateHalf => {
+            false
+        }
+    };
+    match (transposes, order) {
+        (false, same) => same,
+        (true, Order::RowMajor) => Order::ColumnMajor,
+        (true, Order::ColumnMajor) => Order::RowMajor,
+    }
+}
+
+fn letters_in(alloc: Global, stored: [&str; 6]) -> Result<Vec<String>, AllocError> {
+    let mut cells = Vec::new(alloc);
+    for letter in stored {
+        cells.push(String::from_str(alloc, letter)?)?;
+    }
+    Ok(cells)
+}
+
+// The grid of the rows a b c and d e f, stored in an order.
+pub fn letters(alloc: Global, order: Order) -> Result<Grid<String>, ShapeError> {
+    let stored = match order {
+        Order::RowMajor => ["a", "b", "c", "d", "e", "f"],
+        Order::ColumnMajor => ["a", "d", "b", "e", "c", "f"],
+    };
+    cut(letters_in(alloc, stored)?, 3, order)
+}
+
+// The texts of a grid's vector, joined.
+pub fn joined_texts(alloc: Global, grid: &Grid<String>) -> Result<String, AllocError> {
+    let mut text = String::new(alloc);
+    for cell in grid.flatten() {
+        text.push_str(cell.as_str())?;
+    }
+    Ok(text)
+}
+
+// Whether a grid has stored these texts in this order.
+pub fn has_texts(grid: &Grid<String>, order: Order, texts: &[&str]) -> bool {
+    let mut left = texts.iter();
+    for cell in grid.flatten() {
+        match left.next() {
+            Some(text) if cell.as_str() == *text => {}
+            _ => return false,
+        }
+    }
+    grid.order() == order && left.next().is_none()
+}
+
+// A cell whose clone is refused once none of the granted ones is left.
+#[derive(Default, Drop)]
+pub struct Fragile<'a> {
+    pub value: u32,
+    pub granted: Option<&'a Cell<u64>>,
+}
+
+impl Clone for Fragile<'_> {
+    ghost is_clone = { λ x y. y ≡ x };
+
+    fn clone(&self) -> Result<Self, AllocError> {
+        if let Some(granted) = self.granted {
+            match granted.get().checked_sub(1) {
+                Some(left) => granted.set(left),
+                None => return Err(AllocError),
+            }
+        }
+        Ok(Fragile {
+            value: self.value,
+            granted: self.granted,
+        })
+    }
+}
+
+fn fragile_from_one<'a, A: Allocator>(
+    alloc: A,
+    granted: &'a Cell<u64>,
+    len: u32,
+) -> Result<Vec<Fragile<'a>, A>, AllocError> {
+    let mut cells = Vec::new(alloc);
+    for value in 1..=len {
+        cells.push(Fragile {
+            value,
+            granted: Some(granted),
+        })?;
+    }
+    Ok(cells)
+}
+
+// Two rows and two columns, which have stored 1, 2, 3 and 4 in an order.
+pub fn fragile_cells<'a, A: Allocator>(
+    alloc: A,
+    granted: &'a Cell<u64>,
+    order: Order,
+) -> Result<Grid<Fragile<'a>, A>, ShapeError> {
+    cut(fragile_from_one(alloc, granted, 4)?, 2, order)
+}
+
+// Whether a grid of two rows and two columns has stored cells of these values in this order.
+pub fn has_values<A: Allocator>(grid: &Grid<Fragile, A>, order: Order, values: &[u32]) -> bool {
+    let mut left = values.iter();
+    for cell in grid.flatten() {
+        if left.next() != Some(&cell.value) {
+            return false;
+        }
+    }
+    grid.size() == (2, 2) && grid.order() == order && left.next().is_none()
+}
