@@ -3,7 +3,7 @@ ghost use Rattle.std.specs.Prelude.{◌≡◌, IfSome, Some};
 ghost use Rattle.grid_base.specs.Table.{row_count, col_count, cell, InRange};
 
 use grid::Grid;
-use std::alloc::Global;
+use std::alloc::{AllocError, Global};
 
 /// Writes the first cell, if there is one: a board that isn't empty has cell (0, 0).
 pub fn mark_first(grid: &mut Grid<u8>) {
@@ -115,4 +115,37 @@ pub fn stacked(alloc: Global, lines: Vec<Vec<u8>>) -> Option<Grid<u8>> {
         }
     }
     Some(grid)
+}
+
+/// Fills the cells that are the same as a cell and joined to it by sides with `x`. The positions to visit are a stack;
+/// each cell is filled once and puts at most four on it, so a bound ends the loop.
+///
+///     [[1, 1, 2], [2, 1, 1]]   flood((0, 0), 7)   [[7, 7, 2], [2, 7, 7]]
+pub fn flood(
+    alloc: Global,
+    grid: &mut Grid<u8>,
+    at: (usize, usize),
+    x: u8,
+) -> Result<(), AllocError> {
+    let old = match grid.get(at.0, at.1) {
+        Some(old) if *old != x => *old,
+        _ => return Ok(()),
+    };
+    let mut stack = vec![in alloc; at]?;
+    for _ in 0..grid
+        .rows()
+        .saturating_mul(grid.cols())
+        .saturating_mul(4)
+        .saturating_add(1)
+    {
+        if let Some((row, col)) = stack.pop() {
+            if grid.get(row, col) == Some(&old) {
+                for (near, _) in grid.neighbors4(row, col) {
+                    stack.push(near)?;
+                }
+                grid.set(row, col, x);
+            }
+        }
+    }
+    Ok(())
 }

@@ -1,6 +1,7 @@
 //! Each caller on its happy path, and where it says no.
 use grid::{Grid, Move, Refusal, Symmetry, Tally};
 use grid_callers::boards::{cut, exchange, push, push_by_command, take_first, why_not_inserted};
+use grid_callers::loops::flood;
 use grid_callers::shown::cell_through;
 use grid_callers::whole::{add_blank_row, of_rows};
 use grid_callers::words::apply_word;
@@ -110,5 +111,13 @@ fn looks_through_a_symmetry(rt: HostRuntime) -> Result<(), Fail> {
     );
     assert_eq!(rt; cell_through(&mut grid, Symmetry::RotateLeft, 2, 0), None);
     assert_eq!(rt; grid.flatten().as_slice(), [1, 2, 3, 4].as_slice());
+    Ok(())
+}
+
+#[test]
+fn floods_what_is_joined_by_sides(rt: HostRuntime) -> Result<(), Fail> {
+    let mut grid = Grid::from_vec(vec![in rt.alloc(); 1u8, 1, 2, 2, 1, 1]?, 3);
+    flood(rt.alloc(), &mut grid, (0, 0), 7)?;
+    assert_eq!(rt; grid.flatten().as_slice(), [7, 7, 2, 2, 7, 7].as_slice());
     Ok(())
 }
