@@ -132,12 +132,8 @@ pub fn flood(
         _ => return Ok(()),
     };
     let mut stack = vec![in alloc; at]?;
-    for _ in 0..grid
-        .rows()
-        .saturating_mul(grid.cols())
-        .saturating_mul(4)
-        .saturating_add(1)
-    {
+    let bound = grid.rows().saturating_mul(grid.cols()).saturating_mul(4);
+    for _ in 0..bound.saturating_add(1) {
         if let Some((row, col)) = stack.pop() {
             if grid.get(row, col) == Some(&old) {
                 for (near, _) in grid.neighbors4(row, col) {
