@@ -12,7 +12,7 @@ use Rattle.grid_base.specs.Order.{storage, place}
 use Rattle.grid_base.specs.GridValue.{GridValue, HoldsSize}
 use Rattle.grid_base.proofs.TableLemmas.{IsFull, IsSome_within, tabulate-cells, tabulate-same}
 use Rattle.grid_base.proofs.StorageLemmas.{get_append_left, get_append_right, get-take, get-drop}
-use Rattle.grid_base.proofs.ViewLemmas.{grid_value}
+use Rattle.grid.specs.View.{grid_value}
 use Rattle.grid.specs.Make.{HasSize}
 use Rattle.grid.specs.Parts.{sub_table, IsBlock, IsStoredPart}
 use Rattle.grid.proofs.CellCallLemmas.{seen_cell}

@@ -13,7 +13,6 @@ returns-clause-made g c =
     let order = ap (λ x. x.order) c.self.view_is in
     record {
       order = made.order ∙ order;
-      table = c.from_vec_with_order.result.table;
       size = part_size c.args.self.now.order c.args.at c.args.size c.args.self.now.rows c.from_vec_with_order.result.rows _ c.from_vec_with_order.result.table
           (ap (λ x. storage x c.from_vec_with_order.result.rows) (sym order) ∙ made.storage) made.cols c.in_ok-cells.ensures;
     }
