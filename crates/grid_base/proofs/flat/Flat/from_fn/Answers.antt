@@ -1,4 +1,4 @@
-use Rattle.std.proofs.Common.{◌≡◌, arith, sym, ap, ◌∙◌, ◌++◌, ◌∷◌, [], length, append_assoc, append-nil}
+use Rattle.std.proofs.Common.{◌≡◌, arith, ap, ◌∙◌, ◌++◌, ◌∷◌, [], length, append_assoc, append-nil}
 use Rattle.grid_base.specs.Positions.{positions}
 use Rattle.grid_base.proofs.ClosureLemmas.{AllZip-append, AllZip-length, callable_item}
 use Rattle.grid_base.proofs.PlaceLemmas.{length-places}

@@ -1,6 +1,5 @@
-use Rattle.std.proofs.Common.{◌≡◌, arith, refl, sym, ap, subst, ◌∙◌, ◌++◌, ◌*◌, ◌∷◌, [], zip, length, append_assoc, append-nil}
+use Rattle.std.proofs.Common.{◌≡◌, arith, refl, ap, ◌∙◌, ◌++◌, ◌∷◌, [], zip, length, append_assoc, append-nil}
 use Rattle.grid_base.specs.Positions.{positions}
-use Rattle.grid_base.specs.ClosureCalls.{PairsUp}
 use Rattle.grid_base.proofs.ClosureLemmas.{AllZip-append, AllZip-length, callable_cell}
 use Rattle.grid_base.proofs.PlaceLemmas.{length-places}
 use Rattle.grid_base.proofs.PlacedCellLemmas.{zip_within, zip_even}

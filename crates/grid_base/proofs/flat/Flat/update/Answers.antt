@@ -1,4 +1,4 @@
-use Rattle.std.proofs.Common.{rules, get_or, ◌≡◌, ◌<◌, ◌+◌, arith, refl, sym, ap, subst, ◌∙◌, ◌++◌, ◌∷◌, [], zip, length, take, drop, append_assoc, append-nil}
+use Rattle.std.proofs.Common.{get_or, ◌≡◌, ◌<◌, ◌+◌, arith, refl, sym, ap, subst, ◌∙◌, ◌++◌, ◌∷◌, [], zip, length, take, drop, append_assoc, append-nil}
 use Rattle.std.proofs.lemmas.List.{take_more_set, drop_all}
 use Rattle.grid_base.specs.Positions.{positions}
 use Rattle.grid_base.specs.ClosureCalls.{CallableAtCells}

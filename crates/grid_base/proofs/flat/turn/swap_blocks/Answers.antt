@@ -1,4 +1,4 @@
-use Rattle.std.proofs.Common.{◌≡◌, ◌+◌, ◌∙◌, ◌++◌, length, swap, ap, arith, length-append}
+use Rattle.std.proofs.Common.{◌+◌, ◌∙◌, ◌++◌, swap, ap, arith, length-append}
 use Rattle.grid_base.proofs.PartLemmas.{blocks_more}
 use Rattle.grid_base.proofs.flat.turn.swap_blocks.Goals as goal
 
