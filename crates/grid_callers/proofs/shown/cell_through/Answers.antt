@@ -1,4 +1,4 @@
-use Rattle.std.proofs.Common.{◌≡◌, ◌∙◌, ap, Bool, true, false, IsTrue, Result, Ok, Err, OnOk, OnErr}
+use Rattle.std.proofs.Common.{◌≡◌, ◌∙◌, ap, false, IsTrue, Result, Ok, Err, OnOk, OnErr}
 use Rattle.grid_base.specs.Table.{cell}
 use Rattle.grid_base.specs.Symmetry.{act}
 use Rattle.grid.specs.Step as steps
