@@ -5,7 +5,7 @@ use anyhow::{Result, bail};
 use grid::{Command, Grid, Move, Tally, reduce, run};
 use std::alloc::{AllocError, Global};
 
-// Edits as data. The last one is refused: there is no row 9 to insert before.
+// Edits as data. The last one is refused: there is no row 9.
 fn edits(alloc: Global) -> Result<Vec<Command<u32>>, AllocError> {
     Ok(vec![in alloc;
         Command::PushRow(vec![in alloc; 4, 5, 6]?),
@@ -17,7 +17,7 @@ fn edits(alloc: Global) -> Result<Vec<Command<u32>>, AllocError> {
 fn show<R: Print + AllocGlobal>(rt: &R) -> Result<()> {
     let alloc = rt.alloc();
 
-    // Two rows of three cells, written in a loop.
+    // Two rows of three cells.
     let mut board: Grid<u32> = Grid::new(alloc, 2, 3)?;
     for ((row, col), cell) in board.indexed_iter_mut() {
         *cell = if row % 2 == col % 2 { 1 } else { 0 };
@@ -32,17 +32,17 @@ fn show<R: Print + AllocGlobal>(rt: &R) -> Result<()> {
         }
     }
 
-    // A line that is inserted must fit, and comes back if there is no memory.
+    // The line comes back if there is no memory.
     if let Err(refused) = board.insert_row(1, vec![in alloc; 7, 8, 9]?) {
         bail!("no memory for {:?}", refused.line);
     }
 
-    // Moves are joined to one symmetry before a cell is moved.
+    // Moves are joined to one symmetry.
     let turn = reduce(&[Move::RotateLeft, Move::FlipCols]);
     board.apply(turn);
     println!(rt; "{board:?} after {turn:?}")?;
 
-    // Commands reply. A refused one says why, and changes nothing.
+    // Each command has a reply.
     match run(alloc, &mut board, edits(alloc)?, &mut Tally::new()) {
         Ok(replies) => println!(rt; "{board:?} after {replies:?}")?,
         Err(stopped) => bail!("no memory after {} commands", stopped.done),
