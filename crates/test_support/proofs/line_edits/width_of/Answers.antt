@@ -4,7 +4,7 @@ use Rattle.grid_base.specs.Gather.{items_of_each}
 use Rattle.grid_base.proofs.GatherLemmas.{rows-vecs}
 use Rattle.grid.proofs.RowEditLemmas.{HasWidth}
 use Rattle.grid.proofs.EditSizeLemmas.{IsTable-width}
-use Rattle.test_support.proofs.fitting.width_of.Goals as goal
+use Rattle.test_support.proofs.line_edits.width_of.Goals as goal
 
 pub returns-then-all_of_length : goal.returns-then-all_of_length
 returns-then-all_of_length g c =
