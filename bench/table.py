@@ -39,7 +39,7 @@ def time(ns):
 
 
 def short(ratio):
-    return f"{ratio:.2f}" if ratio >= 0.1 else f"{ratio:.2g}"
+    return f"{ratio:.2f}" if ratio >= 0.0995 else f"{ratio:.2g}"
 
 
 sizes = list(dict.fromkeys(key[3] for key in order))
