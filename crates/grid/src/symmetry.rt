@@ -3,7 +3,7 @@ ghost use Rattle.std.specs.Prelude.{◌≡◌, List, false, length};
 ghost use Rattle.grid_base.specs.Table.{row_count, col_count};
 ghost use Rattle.grid_base.specs.Order.{flipped, storage, table_of};
 ghost use Rattle.grid_base.specs.GridValue.{HoldsSize};
-ghost use Rattle.grid_base.specs.Symmetry.{act, order_after, price};
+ghost use Rattle.grid_base.specs.Symmetry.{act, order_after, price, image_rows, image_cols};
 ghost use Rattle.grid_base.specs.Move.{word_image, IsNormalForm};
 ghost use Rattle.grid_base.specs.Flags.{from_flags};
 ghost use Rattle.grid_base.specs.Tally.{saturating_count};
@@ -26,6 +26,8 @@ impl<T, A: Allocator> Grid<T, A> {
     /// Cost: constant; no cell moves.
     pub fn transpose(&mut self)
         ensures rows { self.new.rows ≡ act Transpose self.old.rows }
+        ensures row_count { row_count self.new.rows ≡ col_count self.old.rows }
+        ensures col_count { col_count self.new.rows ≡ row_count self.old.rows }
         ensures order { self.new.order ≡ flipped self.old.order }
         ensures storage { storage self.new.order self.new.rows
             ≡ storage self.old.order self.old.rows }
@@ -41,6 +43,8 @@ impl<T, A: Allocator> Grid<T, A> {
     /// Cost: `(rows / 2) * cols` swaps.
     pub fn flip_rows(&mut self)
         ensures rows { self.new.rows ≡ act FlipRows self.old.rows }
+        ensures row_count { row_count self.new.rows ≡ row_count self.old.rows }
+        ensures col_count { col_count self.new.rows ≡ col_count self.old.rows }
         ensures order { self.new.order ≡ self.old.order }
     {
         self.apply(Symmetry::FlipRows);
@@ -53,6 +57,8 @@ impl<T, A: Allocator> Grid<T, A> {
     /// Cost: `rows * (cols / 2)` swaps.
     pub fn flip_cols(&mut self)
         ensures rows { self.new.rows ≡ act FlipCols self.old.rows }
+        ensures row_count { row_count self.new.rows ≡ row_count self.old.rows }
+        ensures col_count { col_count self.new.rows ≡ col_count self.old.rows }
         ensures order { self.new.order ≡ self.old.order }
     {
         self.apply(Symmetry::FlipCols);
@@ -65,6 +71,8 @@ impl<T, A: Allocator> Grid<T, A> {
     /// Cost: `rows * (cols / 2)` swaps.
     pub fn rotate_left(&mut self)
         ensures rows { self.new.rows ≡ act RotateLeft self.old.rows }
+        ensures row_count { row_count self.new.rows ≡ col_count self.old.rows }
+        ensures col_count { col_count self.new.rows ≡ row_count self.old.rows }
         ensures order { self.new.order ≡ flipped self.old.order }
     {
         self.apply(Symmetry::RotateLeft);
@@ -77,6 +85,8 @@ impl<T, A: Allocator> Grid<T, A> {
     /// Cost: `cols * (rows / 2)` swaps.
     pub fn rotate_right(&mut self)
         ensures rows { self.new.rows ≡ act RotateRight self.old.rows }
+        ensures row_count { row_count self.new.rows ≡ col_count self.old.rows }
+        ensures col_count { col_count self.new.rows ≡ row_count self.old.rows }
         ensures order { self.new.order ≡ flipped self.old.order }
     {
         self.apply(Symmetry::RotateRight);
@@ -89,6 +99,8 @@ impl<T, A: Allocator> Grid<T, A> {
     /// Cost: `(rows * cols) / 2` swaps.
     pub fn rotate_half(&mut self)
         ensures rows { self.new.rows ≡ act RotateHalf self.old.rows }
+        ensures row_count { row_count self.new.rows ≡ row_count self.old.rows }
+        ensures col_count { col_count self.new.rows ≡ col_count self.old.rows }
         ensures order { self.new.order ≡ self.old.order }
     {
         self.apply(Symmetry::RotateHalf);
@@ -104,6 +116,10 @@ impl<T, A: Allocator> Grid<T, A> {
         ensures rows { self.new.rows ≡ act symmetry self.old.rows }
         ensures words { (w : List Move)
             → IsNormalForm w symmetry → self.new.rows ≡ word_image w self.old.rows }
+        ensures row_count { row_count self.new.rows
+            ≡ image_rows symmetry (row_count self.old.rows) (col_count self.old.rows) }
+        ensures col_count { col_count self.new.rows
+            ≡ image_cols symmetry (row_count self.old.rows) (col_count self.old.rows) }
         ensures order { self.new.order ≡ order_after symmetry self.old.order }
     {
         let mut tally = Tally::new();
@@ -117,6 +133,10 @@ impl<T, A: Allocator> Grid<T, A> {
     /// Cost: the swaps of its flips, each counted once.
     pub fn apply_counted(&mut self, symmetry: Symmetry, tally: &mut Tally)
         ensures rows { self.new.rows ≡ act symmetry self.old.rows }
+        ensures row_count { row_count self.new.rows
+            ≡ image_rows symmetry (row_count self.old.rows) (col_count self.old.rows) }
+        ensures col_count { col_count self.new.rows
+            ≡ image_cols symmetry (row_count self.old.rows) (col_count self.old.rows) }
         ensures order { self.new.order ≡ order_after symmetry self.old.order }
         ensures symmetry { tally.new.symmetry ≡ saturating_count tally.old.symmetry
             (price symmetry (row_count self.old.rows) (col_count self.old.rows)) }

@@ -1,21 +1,22 @@
 //! The swaps that are counted are the least: no fewer do what a command does to the storage, where the cells differ.
 //!
 //! Each law makes the call that its name says. Its clauses `symmetry`, `shift` and `least` say of that call that a
-//! count grew by the least number of swaps of two places.
+//! count grew by the least number of swaps of two places. Those called `_law` say it of every table.
 #![tactic(auto)]
 
 ghost use Rattle.std.specs.Prelude.{◌≡◌, List, IfOk, IfErr, OnOk, OnErr, IsTrue, length, map, take};
-ghost use Rattle.grid_base.specs.Table.{row_count, col_count};
+ghost use Rattle.grid_base.specs.Table.{row_count, col_count, IsTable};
 ghost use Rattle.grid_base.specs.Order.{storage};
 ghost use Rattle.grid_base.specs.Symmetry.{act, order_after, IsInverse};
 ghost use Rattle.grid_base.specs.Clones.{ClonesAreEqual};
+ghost use Rattle.grid_base.specs.declared.order.Order.{Order};
 ghost use Rattle.grid_base.specs.declared.words.Symmetry.{Symmetry};
 ghost use Rattle.grid_commands.specs.Command.{command_value, apply};
 ghost use Rattle.grid_commands.specs.Reply.{reply_value};
-ghost use Rattle.grid.specs.Cost.{command_symmetry, list_symmetry};
+ghost use Rattle.grid.specs.Cost.{command_symmetry, list_symmetry, step_price, step_shift};
 ghost use Rattle.grid.specs.Step.{RowsAreKnown, step_rows, step_reply, takes_memory};
 ghost use Rattle.grid_deferred.specs.Run.{RanDeferred};
-ghost use Rattle.grid_least.specs.Least.{HasDifferentCells, Shifts, filled_up, GrewByLeast};
+ghost use Rattle.grid_least.specs.Least.{HasDifferentCells, IsLeast, Shifts, filled_up, GrewByLeast};
 
 use grid::{Command, Grid, Reply, RunStopped};
 use grid_base::Tally;
@@ -33,6 +34,9 @@ use std::alloc::{AllocError, Allocator};
 /// applies no symmetry takes none. At a delete the shift count grows by the least that bring every cell that stays to
 /// its place. At an expand or a prepend the swaps begin with the new cells behind the old ones, and bring each to its
 /// place; the new cells may be the same, but none of the old ones.
+///
+/// The clauses `price_law` and `shift_law` say it of every table with different cells, in both orders: what the command
+/// would count there is the least.
 ///
 /// Fails: where memory is refused, as `step` does. The grid and the tally are unchanged.
 /// Cost: that of `step`.
@@ -66,6 +70,15 @@ where
         (filled_up d (length (storage grid.new.order grid.new.rows))
         (storage grid.old.order grid.old.rows))
         (storage grid.new.order grid.new.rows)) }
+    ensures price_law { (t : List (List T)) (o : Order) → IsTable t → HasDifferentCells t
+        → IsLeast (step_price (command_value command) (row_count t) (col_count t)) (storage o t)
+        (storage (order_after (command_symmetry (command_value command)) o)
+        (act (command_symmetry (command_value command)) t)) }
+    ensures shift_law { (d : T) (t : List (List T)) (o : Order) → IsTable t → HasDifferentCells t
+        → Shifts d t (command_value command)
+        → IsLeast (step_shift (command_value command) o (row_count t) (col_count t))
+        (filled_up d (length (storage o (step_rows d (command_value command) t))) (storage o t))
+        (storage o (step_rows d (command_value command) t)) }
     ensures err_grid { OnErr result (grid.new ≡ grid.old) }
     ensures err_symmetry { OnErr result (tally.new.symmetry ≡ tally.old.symmetry) }
     ensures err_shift { OnErr result (tally.new.shift ≡ tally.old.shift) }

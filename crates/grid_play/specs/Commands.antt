@@ -179,22 +179,22 @@ two_indices (i ∷ j ∷ []) = do
   Some (i, j)
 two_indices _ = None
 
-unfoldable pub place_and_cell : List (List ℕ) → Option (ℕ × ℕ × ℤ)
-place_and_cell (r ∷ c ∷ v ∷ []) = do
+unfoldable pub position_and_cell : List (List ℕ) → Option (ℕ × ℕ × ℤ)
+position_and_cell (r ∷ c ∷ v ∷ []) = do
   r ← index_of r
   c ← index_of c
   v ← cell_of v
   Some (r, c, v)
-place_and_cell _ = None
+position_and_cell _ = None
 
-unfoldable pub two_places : List (List ℕ) → Option ((ℕ × ℕ) × (ℕ × ℕ))
-two_places (r ∷ c ∷ s ∷ d ∷ []) = do
+unfoldable pub two_positions : List (List ℕ) → Option ((ℕ × ℕ) × (ℕ × ℕ))
+two_positions (r ∷ c ∷ s ∷ d ∷ []) = do
   r ← index_of r
   c ← index_of c
   s ← index_of s
   d ← index_of d
   Some ((r, c), (s, d))
-two_places _ = None
+two_positions _ = None
 
 -- an index, and the cells of a line
 unfoldable pub index_and_line : List (List ℕ) → Option (ℕ × List ℤ)
@@ -219,8 +219,8 @@ read_form (alone command) words = with_no_word words command
 read_form (with_cell f) words = option_map f (one_cell words)
 read_form (with_index f) words = option_map f (one_index words)
 read_form (with_two f) words = option_map (λ p. f p.0 p.1) (two_indices words)
-read_form (with_two_and_cell f) words = option_map (λ p. f p.0 p.1 p.2) (place_and_cell words)
-read_form (with_two_pairs f) words = option_map (λ p. f p.0 p.1) (two_places words)
+read_form (with_two_and_cell f) words = option_map (λ p. f p.0 p.1 p.2) (position_and_cell words)
+read_form (with_two_pairs f) words = option_map (λ p. f p.0 p.1) (two_positions words)
 read_form (with_line f) words = option_map f (cells_of words)
 read_form (with_index_and_line f) words = option_map (λ p. f p.0 p.1) (index_and_line words)
 read_form (with_index_and_lines f) words = option_map (λ p. f p.0 p.1) (index_and_lines words)

@@ -4,7 +4,7 @@ ghost use Rattle.std.specs.Option.{option_map};
 ghost use Rattle.grid_base.specs.Gather.{items_of_each};
 ghost use Rattle.grid_commands.specs.Command.{command_value};
 ghost use Rattle.grid_play.specs.Lines.{words_of};
-ghost use Rattle.grid_play.specs.Commands.{alone, bare_forms, number_forms, form_among, command_among, command_of, with_no_word, one_cell, one_index, two_indices, place_and_cell, two_places, index_and_line, index_and_lines, lines_of_length};
+ghost use Rattle.grid_play.specs.Commands.{alone, bare_forms, number_forms, form_among, command_among, command_of, with_no_word, one_cell, one_index, two_indices, position_and_cell, two_positions, index_and_line, index_and_lines, lines_of_length};
 
 use crate::script::parse_cells;
 use crate::tokens::{Words, cell, index};
@@ -66,12 +66,12 @@ fn number_command<A: Allocator>(name: &str, words: Words<'_>) -> Option<Command<
             Some(Command::Get(at.0, at.1))
         }
         "set" => {
-            let cell = place_and_cell(words)?;
+            let cell = position_and_cell(words)?;
             Some(Command::Set(cell.0, cell.1, cell.2))
         }
         "swap" => {
-            let places = two_places(words)?;
-            Some(Command::Swap(places.0, places.1))
+            let positions = two_positions(words)?;
+            Some(Command::Swap(positions.0, positions.1))
         }
         "row" => Some(Command::Row(one_index(words)?)),
         "col" => Some(Command::Col(one_index(words)?)),
@@ -220,9 +220,9 @@ fn two_indices(mut words: Words<'_>) -> Option<(usize, usize)>
 }
 
 // A position and a cell: `R C V`.
-#[tactic(auto, unfolding(crate::specs::Commands::place_and_cell))]
-fn place_and_cell(mut words: Words<'_>) -> Option<(usize, usize, i64)>
-    ensures { result ≡ place_and_cell (words_of words.entry.0.now) }
+#[tactic(auto, unfolding(crate::specs::Commands::position_and_cell))]
+fn position_and_cell(mut words: Words<'_>) -> Option<(usize, usize, i64)>
+    ensures { result ≡ position_and_cell (words_of words.entry.0.now) }
 {
     let row = words.next()?;
     let col = words.next()?;
@@ -234,9 +234,9 @@ fn place_and_cell(mut words: Words<'_>) -> Option<(usize, usize, i64)>
 }
 
 // Two positions: `R C R C`.
-#[tactic(auto, unfolding(crate::specs::Commands::two_places))]
-fn two_places(mut words: Words<'_>) -> Option<((usize, usize), (usize, usize))>
-    ensures { result ≡ two_places (words_of words.entry.0.now) }
+#[tactic(auto, unfolding(crate::specs::Commands::two_positions))]
+fn two_positions(mut words: Words<'_>) -> Option<((usize, usize), (usize, usize))>
+    ensures { result ≡ two_positions (words_of words.entry.0.now) }
 {
     let first_row = words.next()?;
     let first_col = words.next()?;

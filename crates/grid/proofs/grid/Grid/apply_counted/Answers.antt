@@ -1,4 +1,6 @@
 use Rattle.std.proofs.Common.{◌∙◌, ap}
+use Rattle.grid_base.specs.Table.{row_count, col_count}
+use Rattle.grid_base.proofs.ActLemmas.{rows-act, cols-act}
 use Rattle.grid.proofs.FlipLemmas.{after_transpose, from_its_flags, transpose_then_flips, price_of_flips, transposed_rows, transposed_cols}
 use Rattle.grid.proofs.grid.Grid.apply_counted.Goals.{then-transposes, else-transposes}
 use Rattle.grid.proofs.grid.Grid.apply_counted.Goals as goal
@@ -25,3 +27,9 @@ returns-clause-symmetry g c =
       | else-transposes w ↦
           rw (from_its_flags c.args.symmetry _ _ c.flags-transposes.ensures w.if-transposes.false, w.self-is) at c.flip_counted.ensures.symmetry
     ]
+
+pub returns-clause-row_count : goal.returns-clause-row_count
+returns-clause-row_count g c = ap row_count (returns-clause-rows g c) ∙ rows-act _ _
+
+pub returns-clause-col_count : goal.returns-clause-col_count
+returns-clause-col_count g c = ap col_count (returns-clause-rows g c) ∙ cols-act _ _ c.args.self.now.table

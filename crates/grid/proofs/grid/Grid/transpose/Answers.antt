@@ -1,4 +1,6 @@
-use Rattle.std.proofs.Common.{sym, ◌∙◌}
+use Rattle.std.proofs.Common.{sym, ◌∙◌, ap}
+use Rattle.grid_base.specs.Table.{row_count, col_count}
+use Rattle.grid_base.proofs.ActLemmas.{rows-act, cols-act}
 use Rattle.grid_base.proofs.ViewLemmas.{view-transpose, view-storage, HoldsSize-transposed}
 use Rattle.grid.proofs.grid.Grid.transpose.Goals as goal
 
@@ -10,3 +12,9 @@ pub returns-clause-storage : goal.returns-clause-storage
 returns-clause-storage g c =
     rw (c.flipped-self-inside.ensures, c.swap.ensures.x_after, c.swap.ensures.y_after, ← c.self.view_is)
     (view-storage _ _ _ _ (HoldsSize-transposed _ _ _ c.self.inside.fits) ∙ sym (view-storage _ _ _ _ c.self.inside.fits))
+
+pub returns-clause-row_count : goal.returns-clause-row_count
+returns-clause-row_count g c = ap row_count (returns-clause-rows g c) ∙ rows-act _ _
+
+pub returns-clause-col_count : goal.returns-clause-col_count
+returns-clause-col_count g c = ap col_count (returns-clause-rows g c) ∙ cols-act _ _ c.args.self.now.table
