@@ -8,6 +8,7 @@ pub mod loops;
 pub mod near;
 pub mod parts;
 pub mod shown;
+pub mod sizes;
 pub mod updates;
 pub mod whole;
 pub mod words;

@@ -81,6 +81,8 @@ impl<T, A: Allocator> Grid<T, A> {
         requires fits { FitsCol self.old.rows (length line.items) }
         ensures rows { OnOk result
             (self.new.rows ≡ insert_col (col_count self.old.rows) line.items self.old.rows) }
+        ensures row_count { OnOk result (row_count self.new.rows ≡ length line.items) }
+        ensures col_count { OnOk result (col_count self.new.rows ≡ col_count self.old.rows + 1) }
         ensures order { self.new.order ≡ self.old.order }
         ensures fails { LineFails (col_count self.old.rows + 1) (length line.items)
             line.items self.old self.new result }
@@ -144,6 +146,8 @@ impl<T, A: Allocator> Grid<T, A> {
         requires fits { FitsCol self.old.rows (length line.items) }
         requires place { at ≤ col_count self.old.rows }
         ensures rows { OnOk result (self.new.rows ≡ insert_col at line.items self.old.rows) }
+        ensures row_count { OnOk result (row_count self.new.rows ≡ length line.items) }
+        ensures col_count { OnOk result (col_count self.new.rows ≡ col_count self.old.rows + 1) }
         ensures order { self.new.order ≡ self.old.order }
         ensures fails { LineFails (col_count self.old.rows + 1) (length line.items)
             line.items self.old self.new result }
@@ -235,6 +239,10 @@ impl<T, A: Allocator> Grid<T, A> {
         requires place { at ≤ col_count self.old.rows }
         ensures rows { OnOk result
             (self.new.rows ≡ insert_cols at (items_of_each lines.items) self.old.rows) }
+        ensures row_count { OnOk result
+            (0 < row_count self.old.rows → row_count self.new.rows ≡ row_count self.old.rows) }
+        ensures col_count { OnOk result
+            (col_count self.new.rows ≡ col_count self.old.rows + length lines.items) }
         ensures order { self.new.order ≡ self.old.order }
         ensures fails { LinesFail (col_count self.old.rows + length lines.items)
             (col_count (items_of_each lines.items)) lines.items self.old self.new result }

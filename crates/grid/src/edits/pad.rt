@@ -80,6 +80,9 @@ impl<T, A: Allocator> Grid<T, A> {
             (padding_count count self.old.rows) self.old.rows self.new.rows) }
         ensures one_default { OnOk result ((d : T)
             → IsOnlyDefault T.is_default d → self.new.rows ≡ expanded_cols count d self.old.rows) }
+        ensures row_count { OnOk result (row_count self.new.rows ≡ row_count self.old.rows) }
+        ensures col_count { OnOk result (col_count self.new.rows
+            ≡ col_count self.old.rows + padding_count count self.old.rows) }
         ensures order { self.new.order ≡ self.old.order }
         ensures fails { PaddingFails (col_count self.old.rows + padding_count count self.old.rows)
             (row_count self.old.rows) (padding_count count self.old.rows) self.old self.new result }
@@ -125,6 +128,9 @@ impl<T, A: Allocator> Grid<T, A> {
             (padding_count count self.old.rows) self.old.rows self.new.rows) }
         ensures one_default { OnOk result ((d : T)
             → IsOnlyDefault T.is_default d → self.new.rows ≡ prepended_cols count d self.old.rows) }
+        ensures row_count { OnOk result (row_count self.new.rows ≡ row_count self.old.rows) }
+        ensures col_count { OnOk result (col_count self.new.rows
+            ≡ col_count self.old.rows + padding_count count self.old.rows) }
         ensures order { self.new.order ≡ self.old.order }
         ensures fails { PaddingFails (col_count self.old.rows + padding_count count self.old.rows)
             (row_count self.old.rows) (padding_count count self.old.rows) self.old self.new result }
@@ -185,6 +191,9 @@ impl<T, A: Allocator> Grid<T, A> {
             (padding_count count self.old.rows) self.old.rows self.new.rows) }
         ensures fails { PaddingFails (col_count self.old.rows + padding_count count self.old.rows)
             (row_count self.old.rows) (padding_count count self.old.rows) self.old self.new result }
+        ensures row_count { OnOk result (row_count self.new.rows ≡ row_count self.old.rows) }
+        ensures col_count { OnOk result (col_count self.new.rows
+            ≡ col_count self.old.rows + padding_count count self.old.rows) }
         ensures order { self.new.order ≡ self.old.order }
         ensures shift { OnOk result
             (tally.new.shift ≡ saturating_count tally.old.shift (cols_added_shift self.old.order

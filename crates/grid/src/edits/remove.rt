@@ -1,5 +1,5 @@
 //! Rows and columns that are popped, removed and deleted, one or several.
-ghost use Rattle.std.specs.Prelude.{[], vec_capacity, ◌≡◌, ◌↔◌, ◌+◌, ◌-◌, ◌*◌, ◌^◌, ◌<◌, ◌≤◌, length, remove, slice_get, IsTrue, Some, OnOk, OnErr, IfOk, MatchOption, if◌then◌else◌};
+ghost use Rattle.std.specs.Prelude.{[], vec_capacity, ◌≡◌, ◌↔◌, ◌+◌, ◌-◌, ◌*◌, ◌^◌, ◌<◌, ◌≤◌, length, remove, slice_get, IsTrue, Some, OnOk, OnErr, IfOk, MatchOption, nat_lt, if◌then◌else◌};
 ghost use Rattle.grid_base.specs.Table.{row_count, col_count, transposed};
 ghost use Rattle.grid_base.specs.Tally.{saturating_count};
 ghost use Rattle.grid.specs.Edits.{without_rows, without_cols};
@@ -98,6 +98,9 @@ impl<T, A: Allocator> Grid<T, A> {
             (self.new.rows ≡ without_cols (col_count self.old.rows - 1) 1 self.old.rows) }
         ensures line { IfOk result (λ taken. MatchOption taken (self.old.rows ≡ []) (λ line.
             slice_get (transposed self.old.rows) (col_count self.old.rows - 1) ≡ Some line.items)) }
+        ensures row_count { OnOk result
+            (0 < col_count self.new.rows → row_count self.new.rows ≡ row_count self.old.rows) }
+        ensures col_count { OnOk result (col_count self.new.rows ≡ col_count self.old.rows - 1) }
         ensures order { self.new.order ≡ self.old.order }
         ensures err { OnErr result (self.new ≡ self.old) }
         ensures err_found { OnErr result (0 < col_count self.old.rows) }
@@ -150,6 +153,10 @@ impl<T, A: Allocator> Grid<T, A> {
         ensures rows { OnOk result (self.new.rows ≡ without_cols at 1 self.old.rows) }
         ensures line { IfOk result (λ taken. MatchOption taken (col_count self.old.rows ≤ at)
             (λ line. slice_get (transposed self.old.rows) at ≡ Some line.items)) }
+        ensures row_count { OnOk result
+            (0 < col_count self.new.rows → row_count self.new.rows ≡ row_count self.old.rows) }
+        ensures col_count { OnOk result (col_count self.new.rows ≡ (if nat_lt at
+            (col_count self.old.rows) then col_count self.old.rows - 1 else col_count self.old.rows)) }
         ensures order { self.new.order ≡ self.old.order }
         ensures err { OnErr result (self.new ≡ self.old) }
         ensures err_found { OnErr result (at < col_count self.old.rows) }
@@ -224,6 +231,10 @@ impl<T, A: Allocator> Grid<T, A> {
         ensures found { IsTrue result ↔ (at < col_count self.old.rows) }
         ensures rows { self.new.rows
             ≡ (if result then without_cols at 1 self.old.rows else self.old.rows) }
+        ensures row_count { 0 < col_count self.new.rows
+            → row_count self.new.rows ≡ row_count self.old.rows }
+        ensures col_count { col_count self.new.rows
+            ≡ (if result then col_count self.old.rows - 1 else col_count self.old.rows) }
         ensures order { self.new.order ≡ self.old.order }
     {
         self.delete_cols(at, 1)
@@ -259,6 +270,10 @@ impl<T, A: Allocator> Grid<T, A> {
         ensures found { IsTrue result ↔ (start + count ≤ col_count self.old.rows) }
         ensures rows { self.new.rows
             ≡ (if result then without_cols start count self.old.rows else self.old.rows) }
+        ensures row_count { 0 < col_count self.new.rows
+            → row_count self.new.rows ≡ row_count self.old.rows }
+        ensures col_count { col_count self.new.rows
+            ≡ (if result then col_count self.old.rows - count else col_count self.old.rows) }
         ensures order { self.new.order ≡ self.old.order }
     {
         let mut tally = Tally::new();
@@ -302,6 +317,10 @@ impl<T, A: Allocator> Grid<T, A> {
         ensures found { IsTrue result ↔ (start + count ≤ col_count self.old.rows) }
         ensures rows { self.new.rows
             ≡ (if result then without_cols start count self.old.rows else self.old.rows) }
+        ensures row_count { 0 < col_count self.new.rows
+            → row_count self.new.rows ≡ row_count self.old.rows }
+        ensures col_count { col_count self.new.rows
+            ≡ (if result then col_count self.old.rows - count else col_count self.old.rows) }
         ensures order { self.new.order ≡ self.old.order }
         ensures shift { tally.new.shift ≡ saturating_count tally.old.shift (delete_cols_shift
             self.old.order (row_count self.old.rows) (col_count self.old.rows) start count) }
