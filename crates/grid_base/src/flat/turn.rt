@@ -21,8 +21,9 @@ impl<T, A: Allocator> Flat<T, A> {
         ensures symmetry { tally.new.symmetry ≡ saturating_count tally.old.symmetry (n / 2) }
         ensures shift { tally.new.shift ≡ tally.old.shift }
     {
-        let (front, back) = self.cells.as_mut_slice().split_at_mut(start + (n - n / 2));
-        let swaps = swap_mirrored(front, start, back, n);
+        let (_, rest) = self.cells.as_mut_slice().split_at_mut(start);
+        let (front, back) = rest.split_at_mut(n - n / 2);
+        let swaps = swap_mirrored(front, back, n / 2);
         tally.take(swaps);
     }
 
@@ -39,48 +40,48 @@ impl<T, A: Allocator> Flat<T, A> {
         ensures symmetry { tally.new.symmetry ≡ saturating_count tally.old.symmetry n }
         ensures shift { tally.new.shift ≡ tally.old.shift }
     {
-        let (front, back) = self.cells.as_mut_slice().split_at_mut(j);
-        let swaps = swap_blocks(front, i, back, n);
+        let (_, rest) = self.cells.as_mut_slice().split_at_mut(i);
+        let (front, back) = rest.split_at_mut(j - i);
+        let swaps = swap_blocks(front, back, n);
         tally.take(swaps);
     }
 }
 
-// Exchanges the first of the `n` cells from `start` on with the last, the second with the last but one, and so on, where
-// the last `n / 2` of them stand at the start of the back part. Out of line the parts are two slices to the compiler,
-// which then makes vector code of the loop.
-#[inline(never)]
-#[tactic(auto, using(crate::proofs::PartLemmas::turning_none, crate::proofs::PartLemmas::turning_all))]
-fn swap_mirrored<T>(front: &mut [T], start: usize, back: &mut [T], n: usize) -> Swaps
-    requires parts { length front.old + n / 2 ≡ start + n }
-    requires within { n / 2 ≤ length back.old }
-    requires fits { start + n < 2 ^ 64 }
-    ensures cells { PartReversed start n (front.old ++ back.old) (front.new ++ back.new) }
-    ensures symmetry { result.for_symmetry ≡ n / 2 }
-    ensures shift { result.for_shift ≡ 0 }
-{
-    let mut swaps = Swaps::none();
-    let half = n / 2;
-    for k in 0..half {
-        swap_for_symmetry(front, start + k, back, half - 1 - k, &mut swaps);
-    }
-    swaps
-}
-
-// Exchanges the `n` cells from `i` on with the first ones of the back part. Out of line for the same reason.
+// Exchanges the first `n` cells of two parts. Out of line they are two slices to the compiler, which then makes vector
+// code of the loop. Each part begins with its first cell to exchange, so that few checks come before that code.
 #[inline(never)]
 #[tactic(auto, using(crate::proofs::PartLemmas::blocks_none))]
-fn swap_blocks<T>(front: &mut [T], i: usize, back: &mut [T], n: usize) -> Swaps
-    requires i_in { i + n ≤ length front.old }
+fn swap_blocks<T>(front: &mut [T], back: &mut [T], n: usize) -> Swaps
+    requires front_in { n ≤ length front.old }
     requires within { n ≤ length back.old }
-    requires fits { i + n < 2 ^ 64 }
-    ensures cells { BlocksSwapped i (length front.old) n (front.old ++ back.old)
+    ensures cells { BlocksSwapped 0 (length front.old) n (front.old ++ back.old)
         (front.new ++ back.new) }
     ensures symmetry { result.for_symmetry ≡ n }
     ensures shift { result.for_shift ≡ 0 }
 {
     let mut swaps = Swaps::none();
     for k in 0..n {
-        swap_for_symmetry(front, i + k, back, k, &mut swaps);
+        swap_for_symmetry(front, k, back, k, &mut swaps);
+    }
+    swaps
+}
+
+// Exchanges the first cell with the last, the second with the last but one, and so on, where the last `half` of these
+// cells stand at the start of the back part. Out of line for the same reason.
+#[inline(never)]
+#[tactic(auto, using(crate::proofs::PartLemmas::turning_none, crate::proofs::PartLemmas::turning_all))]
+fn swap_mirrored<T>(front: &mut [T], back: &mut [T], half: usize) -> Swaps
+    requires parts { half ≤ length front.old }
+    requires middle { length front.old ≤ half + 1 }
+    requires within { half ≤ length back.old }
+    ensures cells { PartReversed 0 (length front.old + half) (front.old ++ back.old)
+        (front.new ++ back.new) }
+    ensures symmetry { result.for_symmetry ≡ half }
+    ensures shift { result.for_shift ≡ 0 }
+{
+    let mut swaps = Swaps::none();
+    for k in 0..half {
+        swap_for_symmetry(front, k, back, half - 1 - k, &mut swaps);
     }
     swaps
 }

@@ -4,7 +4,7 @@ use Rattle.grid_base.proofs.flat.turn.swap_blocks.Given as goal
 
 abbrev pub invariant-loop-k : goal.invariant-loop-k
 invariant-loop-k g l = record {
-  run : BlocksSwapped l.i (length l.fn.front) l.k (l.fn.front ++ l.fn.back) (l.front ++ l.back);
+  run : BlocksSwapped 0 (length l.fn.front) l.k (l.fn.front ++ l.fn.back) (l.front ++ l.back);
   front_len : length l.front ≡ length l.fn.front;
   back_len : length l.back ≡ length l.fn.back;
   symmetry : l.swaps.for_symmetry ≡ l.k;

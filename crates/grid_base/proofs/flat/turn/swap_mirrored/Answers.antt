@@ -1,17 +1,9 @@
-use Rattle.std.proofs.Common.{◌≡◌, ◌+◌, ◌-◌, ◌/◌, ◌∙◌, ◌++◌, length, swap, ap, arith, length-append}
+use Rattle.std.proofs.Common.{◌++◌, arith, length-append}
 use Rattle.grid_base.proofs.PartLemmas.{turning_more}
 use Rattle.grid_base.proofs.flat.turn.swap_mirrored.Goals as goal
 
 pub loop-k-preserved : goal.loop-k-preserved
 loop-k-preserved g c =
-    let i = c.loop-k.invariant in
-    let now = c.loop-k.front ++ c.loop-k.back in
     let len = length-append c.args.front.now c.args.back.now in
-    let there : length c.loop-k.front + (c.args.n / 2 - 1 - c.loop-k.k) ≡ c.args.start + (c.args.n - 1 - c.loop-k.k) = omega arith in
-    record {
-      run = turning_more _ _ _ _ _ _ (omega arith) (omega arith) i.run (c.swap_for_symmetry.ensures.cells ∙ ap (swap now (c.args.start + c.loop-k.k)) there);
-      front_len = c.swap_for_symmetry.ensures.front_len ∙ i.front_len;
-      back_len = c.swap_for_symmetry.ensures.back_len ∙ i.back_len;
-      symmetry = omega arith;
-      shift = omega arith;
-    }
+    let more = turning_more _ _ _ _ _ (c.swap_for_symmetry.new.front ++ c.swap_for_symmetry.new.back) (omega arith) (omega arith) c.loop-k.invariant.run (grind arith) in
+    grind (arith, more)

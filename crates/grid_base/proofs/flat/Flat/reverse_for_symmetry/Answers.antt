@@ -1,0 +1,9 @@
+use Rattle.std.proofs.Common.{sym, arith}
+use Rattle.std.proofs.lemmas.Grind.{common_steps}
+use Rattle.grid_base.proofs.PartLemmas.{part_behind}
+use Rattle.grid_base.proofs.flat.Flat.reverse_for_symmetry.Goals as goal
+
+pub returns-clause-cells : goal.returns-clause-cells
+returns-clause-cells g c =
+    let h = part_behind c.args.start _ _ _ _ (sym c.split_at_mut-rest.ensures.front_len) c.swap_mirrored-swaps.ensures.cells in
+    grind (arith, common_steps, h)
