@@ -1,6 +1,6 @@
 //! The cells round a cell: chains and loops over them, and counts, with no proof file.
-ghost use Rattle.std.specs.Prelude.{◌≡◌, ◌<◌, ◌+◌, ◌==◌, IsTrue, IfOk, All, Any, count_by, fold, map, min};
-ghost use Rattle.grid_base.specs.Table.{InRange};
+ghost use Rattle.std.specs.Prelude.{◌≡◌, ◌<◌, ◌+◌, ◌==◌, ◌&&◌, ◌||◌, IsTrue, IfOk, All, Any, count_by, fold, map, min, option_map};
+ghost use Rattle.grid_base.specs.Table.{row_count, col_count, cell, tabulate, InRange};
 ghost use Rattle.grid_near.specs.Neighbors.{neighbors4, neighbors8, wrapped_neighbors4, wrapped_neighbors8};
 
 use grid::Grid;
@@ -99,4 +99,44 @@ pub fn count_peaks(grid: &Grid<u8>) -> usize {
         }
     }
     peaks
+}
+
+/// Returns the board in which each cell is the mean of the cell and those that touch it, rounded down.
+///
+///     [[0, 9], [0, 9]]   blur()   [[4, 4], [4, 4]]
+pub fn blur(grid: &Grid<u8>) -> Result<Grid<u8>, AllocError> {
+    grid.map_indexed(
+        |(row, col), cell|
+            requires { InRange grid.now.rows row col }
+        {
+            let mut sum = u32::from(*cell);
+            let mut count = 1u32;
+            for (_, near) in grid.neighbors8(row, col) {
+                sum = sum.saturating_add(u32::from(*near));
+                count = count.saturating_add(1);
+            }
+            u8::try_from(sum / count.max(1)).unwrap_or(255)
+        },
+    )
+}
+
+/// Returns the next generation of Life: a cell lives with three live cells round it, or with two if it lives now.
+///
+///     [[true, true], [true, false]]   next_life()   [[true, true], [true, true]]
+pub fn next_life(grid: &Grid<bool>) -> Result<Grid<bool>, AllocError>
+    ensures { IfOk result (λ new. new.rows
+        ≡ tabulate (row_count grid.now.rows) (col_count grid.now.rows)
+        (λ r c. option_map (λ live.
+        (count_by (λ near. near.1) (neighbors8 grid.now.rows r c) == 3)
+        || (live && (count_by (λ near. near.1) (neighbors8 grid.now.rows r c) == 2)))
+        (cell grid.now.rows r c))) }
+{
+    grid.map_indexed(
+        |(row, col), live|
+            requires { InRange grid.now.rows row col }
+        {
+            let near = grid.count_neighbors8(row, col, |cell| *cell);
+            near == 3 || (*live && near == 2)
+        },
+    )
 }
