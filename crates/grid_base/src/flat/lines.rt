@@ -15,6 +15,7 @@ ghost use Rattle.grid_base.specs.Tally.{saturating_count};
 use super::blocks::exchange_blocks;
 use super::{Flat, Groups};
 use crate::Tally;
+use crate::tally::Swaps;
 use std::alloc::Allocator;
 
 impl<T, A: Allocator> Flat<T, A> {
@@ -68,14 +69,16 @@ impl<T, A: Allocator> Flat<T, A> {
             ≡ saturating_count tally.old.shift (groups.lines * groups.width - groups.at) }
     {
         // the run of cells behind each group, the last first, moves back by that group and those before it
+        let mut swaps = Swaps::none();
         let mut end = groups.lines * groups.width;
         let mut line = groups.lines;
         while 0 < line {
             line -= 1;
             let start = groups.at + line * groups.width;
-            self.move_back(start, (line + 1) * groups.count, end - start, tally);
+            swaps = self.move_back(start, (line + 1) * groups.count, end - start, swaps);
             end = start;
         }
+        tally.take(swaps);
     }
 
     /// Closes up the lines without their groups, and drops those.
@@ -197,11 +200,13 @@ fn close_lines<T, A: Allocator>(flat: &mut Flat<T, A>, groups: Groups, tally: &m
     ensures shift { tally.new.shift
         ≡ saturating_count tally.old.shift (groups.lines * groups.width - groups.at) }
 {
+    let mut swaps = Swaps::none();
     let kept = groups.lines * groups.width;
     let mut start = groups.at;
     for line in 0..groups.lines {
         let run = groups.width.min(kept - start);
-        flat.move_forward(start, (line + 1) * groups.count, run, tally);
+        swaps = flat.move_forward(start, (line + 1) * groups.count, run, swaps);
         start += run;
     }
+    tally.take(swaps);
 }

@@ -1,10 +1,8 @@
 //! Cells that come some places forward or back, by counted swaps.
 ghost use Rattle.std.specs.Prelude.{◌≡◌, ◌<◌, ◌≤◌, ◌+◌, ◌^◌, length};
 ghost use Rattle.grid_base.specs.Blocks.{swapped_back, swapped_forward};
-ghost use Rattle.grid_base.specs.Tally.{saturating_count};
 
 use super::Flat;
-use crate::Tally;
 use crate::tally::{Swaps, swap_for_shift};
 use std::alloc::Allocator;
 
@@ -15,57 +13,71 @@ const SHORT_BLOCK: usize = 8;
 const VECTOR: usize = 16;
 
 impl<T, A: Allocator> Flat<T, A> {
-    // Moves the `n` cells that stand `shift` places behind `start` there, the first first, by `n` swaps for a shift.
+    // Moves the `n` cells that stand `shift` places behind `start` there, the first first, by `n` swaps for a shift, which
+    // the run goes on with.
     //
     //     [1, 2, 3, 4, 5]   move_forward(0, 2, 3)   [3, 4, 5, 2, 1]   3 swaps
     //
-    // Requires: these cells are in range, and `shift` is not 0.
-    pub(super) fn move_forward(&mut self, start: usize, shift: usize, n: usize, tally: &mut Tally)
+    // Requires: these cells are in range, `shift` is not 0, and the run has fewer than 2^64 swaps then.
+    pub(super) fn move_forward(
+        &mut self,
+        start: usize,
+        shift: usize,
+        n: usize,
+        swaps: Swaps,
+    ) -> Swaps
         requires within { start + n + shift ≤ length self.old }
         requires fits { start + n + shift < 2 ^ 64 }
         requires moves { 0 < shift }
+        requires room { swaps.for_shift + n < 2 ^ 64 }
         ensures moved { self.new ≡ swapped_forward start shift n self.old }
-        ensures symmetry { tally.new.symmetry ≡ tally.old.symmetry }
-        ensures shift { tally.new.shift ≡ saturating_count tally.old.shift n }
+        ensures symmetry { result.for_symmetry ≡ swaps.for_symmetry }
+        ensures shift { result.for_shift ≡ swaps.for_shift + n }
     {
         let cells = self.cells.as_mut_slice();
-        let swaps = match shift {
-            1 => swap_forward_by::<1, T>(cells, start, n),
-            2 => swap_forward_by::<2, T>(cells, start, n),
-            _ => swap_forward(cells, start, shift, n),
-        };
-        tally.take(swaps);
+        match shift {
+            1 => swap_forward_by::<1, T>(cells, start, n, swaps),
+            2 => swap_forward_by::<2, T>(cells, start, n, swaps),
+            _ => swap_forward(cells, start, shift, n, swaps),
+        }
     }
 
-    // Moves the `n` cells from `start` on by `shift` places to the back, the last first, by `n` swaps for a shift.
+    // Moves the `n` cells from `start` on by `shift` places to the back, the last first, by `n` swaps for a shift, which
+    // the run goes on with.
     //
     //     [1, 2, 3, 4, 5]   move_back(0, 2, 3)   [5, 4, 1, 2, 3]   3 swaps
     //
-    // Requires: the places that these cells come to are in range, and `shift` is not 0.
-    pub(super) fn move_back(&mut self, start: usize, shift: usize, n: usize, tally: &mut Tally)
+    // Requires: the places that these cells come to are in range, `shift` is not 0, and the run has fewer than 2^64 swaps
+    // then.
+    pub(super) fn move_back(&mut self, start: usize, shift: usize, n: usize, swaps: Swaps) -> Swaps
         requires within { start + n + shift ≤ length self.old }
         requires fits { start + n + shift < 2 ^ 64 }
         requires moves { 0 < shift }
+        requires room { swaps.for_shift + n < 2 ^ 64 }
         ensures moved { self.new ≡ swapped_back start shift n self.old }
-        ensures symmetry { tally.new.symmetry ≡ tally.old.symmetry }
-        ensures shift { tally.new.shift ≡ saturating_count tally.old.shift n }
+        ensures symmetry { result.for_symmetry ≡ swaps.for_symmetry }
+        ensures shift { result.for_shift ≡ swaps.for_shift + n }
     {
-        let swaps = swap_back(self.cells.as_mut_slice(), start, shift, n);
-        tally.take(swaps);
+        swap_back(self.cells.as_mut_slice(), start, shift, n, swaps)
     }
 }
 
 // As `swap_forward`. The distance is a number in the code, so that a cell goes from swap to swap in a register.
 #[tactic(auto, using(crate::proofs::ShiftLemmas::forward_start, crate::proofs::ShiftLemmas::forward_swap))]
-fn swap_forward_by<const SHIFT: usize, T>(cells: &mut [T], start: usize, n: usize) -> Swaps
+fn swap_forward_by<const SHIFT: usize, T>(
+    cells: &mut [T],
+    start: usize,
+    n: usize,
+    mut swaps: Swaps,
+) -> Swaps
     requires within { start + n + SHIFT ≤ length cells.old }
     requires fits { start + n + SHIFT < 2 ^ 64 }
     requires moves { 0 < SHIFT }
+    requires room { swaps.for_shift + n < 2 ^ 64 }
     ensures cells { cells.new ≡ swapped_forward start SHIFT n cells.old }
-    ensures symmetry { result.for_symmetry ≡ 0 }
-    ensures shift { result.for_shift ≡ n }
+    ensures symmetry { result.for_symmetry ≡ swaps.for_symmetry }
+    ensures shift { result.for_shift ≡ swaps.for_shift + n }
 {
-    let mut swaps = Swaps::none();
     for k in 0..n {
         swap_for_shift(cells, start + k, start + k + SHIFT, &mut swaps);
     }
@@ -73,15 +85,15 @@ fn swap_forward_by<const SHIFT: usize, T>(cells: &mut [T], start: usize, n: usiz
 }
 
 #[tactic(auto, using(crate::proofs::ShiftLemmas::forward_start, crate::proofs::ShiftLemmas::forward_swap))]
-fn swap_forward<T>(cells: &mut [T], start: usize, shift: usize, n: usize) -> Swaps
+fn swap_forward<T>(cells: &mut [T], start: usize, shift: usize, n: usize, mut swaps: Swaps) -> Swaps
     requires within { start + n + shift ≤ length cells.old }
     requires fits { start + n + shift < 2 ^ 64 }
     requires moves { 0 < shift }
+    requires room { swaps.for_shift + n < 2 ^ 64 }
     ensures cells { cells.new ≡ swapped_forward start shift n cells.old }
-    ensures symmetry { result.for_symmetry ≡ 0 }
-    ensures shift { result.for_shift ≡ n }
+    ensures symmetry { result.for_symmetry ≡ swaps.for_symmetry }
+    ensures shift { result.for_shift ≡ swaps.for_shift + n }
 {
-    let mut swaps = Swaps::none();
     let block = block_of(shift, n);
     let mut done = 0;
     while done < n {
@@ -94,16 +106,18 @@ fn swap_forward<T>(cells: &mut [T], start: usize, shift: usize, n: usize) -> Swa
     swaps
 }
 
+// Out of line, since the loop over the lines would keep its many running numbers in memory otherwise.
+#[inline(never)]
 #[tactic(auto, using(crate::proofs::ShiftLemmas::back_end, crate::proofs::ShiftLemmas::back_swap))]
-fn swap_back<T>(cells: &mut [T], start: usize, shift: usize, n: usize) -> Swaps
+fn swap_back<T>(cells: &mut [T], start: usize, shift: usize, n: usize, mut swaps: Swaps) -> Swaps
     requires within { start + n + shift ≤ length cells.old }
     requires fits { start + n + shift < 2 ^ 64 }
     requires moves { 0 < shift }
+    requires room { swaps.for_shift + n < 2 ^ 64 }
     ensures cells { cells.new ≡ swapped_back start shift n cells.old }
-    ensures symmetry { result.for_symmetry ≡ 0 }
-    ensures shift { result.for_shift ≡ n }
+    ensures symmetry { result.for_symmetry ≡ swaps.for_symmetry }
+    ensures shift { result.for_shift ≡ swaps.for_shift + n }
 {
-    let mut swaps = Swaps::none();
     let block = block_of(shift, n);
     let mut left = n;
     while 0 < left {

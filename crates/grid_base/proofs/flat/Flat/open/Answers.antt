@@ -6,10 +6,10 @@ use Rattle.grid_base.proofs.flat.Flat.open.Goals as goal
 
 pub loop-line-init : goal.loop-line-init
 loop-line-init g c =
-    record { run = opening_none _ _ _ _ refl; within = omega arith; place = omega arith; symmetry = refl; shift = omega arith }
+    record { run = opening_none _ _ _ _ refl; within = omega arith; place = omega arith; symmetry = c.none-swaps.ensures.symmetry; shift = omega (arith, c.none-swaps.ensures.shift) }
 
-pub move_back-requires-clause-fits : goal.move_back-requires-clause-fits
-move_back-requires-clause-fits g c =
+pub move_back-swaps-requires-clause-fits : goal.move_back-swaps-requires-clause-fits
+move_back-swaps-requires-clause-fits g c =
     let line : c.loop-line.line - 1 + 1 ≤ c.args.groups.lines = omega arith in
     omega (arith, mul-le-mul_right c.args.groups.width line, mul-le-mul_right c.args.groups.count line)
 
@@ -21,7 +21,7 @@ loop-line-preserved g c =
     omega (arith, mul-le-mul_right c.args.groups.width line) in
     let grows = first_line (c.loop-line.line - 1 + 1) c.args.groups.count (omega arith) in
     let groups = mul-le-mul_right c.args.groups.count line in
-    let moved = moved_back _ _ _ _ _ (omega arith) (omega (arith, c.loop-line.invariant.run.length_stays)) c.move_back.ensures.moved in
+    let moved = moved_back _ _ _ _ _ (omega arith) (omega (arith, c.loop-line.invariant.run.length_stays)) c.move_back-swaps.ensures.moved in
     record {
       run = opening_run _ _ _ _ (c.loop-line.line - 1 + 1) _ _ _ _ _ _ c.args.groups.within c.requires.has_count c.requires.cells line (omega arith) (omega arith) (omega arith) refl c.loop-line.invariant.run moved;
       within = omega arith;

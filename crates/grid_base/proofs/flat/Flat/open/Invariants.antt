@@ -1,5 +1,4 @@
 use Rattle.std.proofs.Common.{◌≡◌, ◌+◌, ◌-◌, ◌*◌, ◌≤◌, min}
-use Rattle.grid_base.specs.Tally.{saturating_count}
 use Rattle.grid_base.proofs.SpreadLemmas.{spread, Opening}
 use Rattle.grid_base.proofs.flat.Flat.open.Given as goal
 
@@ -8,8 +7,8 @@ invariant-loop-line g l = record {
   run : Opening (spread l.groups.width l.groups.at l.groups.count) (l.groups.lines * l.groups.width) l.end l.fn.self l.self;
   within : l.line ≤ l.groups.lines;
   place : l.end ≡ min (l.groups.at + l.line * l.groups.width) (l.groups.lines * l.groups.width);
-  symmetry : l.tally.symmetry ≡ l.fn.tally.symmetry;
-  shift : l.tally.shift ≡ saturating_count l.fn.tally.shift (l.groups.lines * l.groups.width - l.end);
+  symmetry : l.swaps.for_symmetry ≡ 0;
+  shift : l.swaps.for_shift + l.end ≡ l.groups.lines * l.groups.width;
 }
 
 abbrev pub decreases-loop-line : goal.decreases-loop-line

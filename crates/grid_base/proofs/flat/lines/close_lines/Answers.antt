@@ -11,8 +11,8 @@ loop-line-init g c =
       run = closing_none _ _ _ _ _ c.args.groups.within;
       place = λ some. omega (arith, first_line c.args.groups.lines c.args.groups.width some);
       none = λ _. refl;
-      symmetry = refl;
-      shift = omega arith;
+      symmetry = c.none-swaps.ensures.symmetry;
+      shift = omega (arith, c.none-swaps.ensures.shift);
     }
 
 pub loop-line-preserved : goal.loop-line-preserved
@@ -23,7 +23,7 @@ loop-line-preserved g c =
     let here : c.loop-line.start ≡ c.args.groups.at + c.loop-line.line * c.args.groups.width = omega arith in
     let some = first_line (c.loop-line.line + 1) c.args.groups.count (omega arith) in
     let groups = mul-le-mul_right c.args.groups.count line in
-    let moved = moved_forward _ _ _ _ _ (omega arith) (omega (arith, c.loop-line.invariant.run.length_stays)) c.move_forward.ensures.moved in
+    let moved = moved_forward _ _ _ _ _ (omega arith) (omega (arith, c.loop-line.invariant.run.length_stays)) c.move_forward-swaps.ensures.moved in
     record {
       run = closing_run _ _ _ _ (c.loop-line.line + 1) _ _ _ _ _ _ c.args.groups.within (omega arith) (omega arith) c.min-run.ensures c.loop-line.invariant.run moved refl;
       place = λ _. omega arith;

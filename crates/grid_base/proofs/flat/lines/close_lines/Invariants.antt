@@ -1,5 +1,4 @@
 use Rattle.std.proofs.Common.{◌≡◌, ◌+◌, ◌-◌, ◌*◌, ◌<◌, min}
-use Rattle.grid_base.specs.Tally.{saturating_count}
 use Rattle.grid_base.proofs.SpreadLemmas.{spread, Closing}
 use Rattle.grid_base.proofs.flat.lines.close_lines.Given as goal
 
@@ -8,6 +7,6 @@ invariant-loop-line g l = record {
   run : Closing (spread l.groups.width l.groups.at l.groups.count) (l.groups.lines * l.groups.width) l.start l.fn.flat l.flat;
   place : (0 < l.groups.lines → l.start ≡ min (l.groups.at + l.line * l.groups.width) (l.groups.lines * l.groups.width));
   none : (l.line ≡ 0 → l.start ≡ l.groups.at);
-  symmetry : l.tally.symmetry ≡ l.fn.tally.symmetry;
-  shift : l.tally.shift ≡ saturating_count l.fn.tally.shift (l.start - l.groups.at);
+  symmetry : l.swaps.for_symmetry ≡ 0;
+  shift : l.groups.at + l.swaps.for_shift ≡ l.start;
 }
