@@ -1,6 +1,18 @@
-use Rattle.std.proofs.Common.{◌∙◌, sym}
+use Rattle.std.proofs.Common.{rules, ◌∙◌, sym}
 use Rattle.grid_base.proofs.GroupLemmas.{normal-acts}
 use Rattle.grid.proofs.grid.Grid.apply.Goals as goal
 
 pub returns-clause-words : goal.returns-clause-words
 returns-clause-words g c = λ w n. c.apply_counted.ensures.rows ∙ sym (normal-acts w _ _ c.args.self.now.table n)
+
+pub returns-clause-rows : goal.returns-clause-rows
+returns-clause-rows g c = search rules
+
+pub returns-clause-row_count : goal.returns-clause-row_count
+returns-clause-row_count g c = search rules
+
+pub returns-clause-col_count : goal.returns-clause-col_count
+returns-clause-col_count g c = search rules
+
+pub returns-clause-order : goal.returns-clause-order
+returns-clause-order g c = search rules

@@ -1,4 +1,4 @@
-use Rattle.std.proofs.Common.{◌∙◌, ap}
+use Rattle.std.proofs.Common.{rules, ◌∙◌, ap}
 use Rattle.grid_base.specs.Table.{row_count, col_count}
 use Rattle.grid_base.proofs.ActLemmas.{rows-act, cols-act}
 use Rattle.grid.proofs.FlipLemmas.{after_transpose, from_its_flags, transpose_then_flips, price_of_flips, transposed_rows, transposed_cols}
@@ -33,3 +33,9 @@ returns-clause-row_count g c = ap row_count (returns-clause-rows g c) ∙ rows-a
 
 pub returns-clause-col_count : goal.returns-clause-col_count
 returns-clause-col_count g c = ap col_count (returns-clause-rows g c) ∙ cols-act _ _ c.args.self.now.table
+
+pub returns-clause-order : goal.returns-clause-order
+returns-clause-order g c = search rules
+
+pub returns-clause-shift : goal.returns-clause-shift
+returns-clause-shift g c = search rules

@@ -1,4 +1,4 @@
-use Rattle.std.proofs.Common.{◌≡◌, replicate, length}
+use Rattle.std.proofs.Common.{rules, ◌≡◌, replicate, length}
 use Rattle.std.proofs.lemmas.Result.{on_ok_weaker}
 use Rattle.grid_base.specs.Clones.{ClonesAreEqual}
 use Rattle.grid_base.specs.Order.{table_of}
@@ -22,3 +22,6 @@ returns-clause-empty g c = λ e. c.fill.ensures.none (seen_none _ _ _ _ _ c.self
 
 pub returns-clause-err : goal.returns-clause-err
 returns-clause-err g c = on_err c.fill.result (λ same. seen_same _ _ _ _ _ c.self.inside.fits c.self.view_is _ _ same) c.fill.ensures.err
+
+pub returns-clause-order : goal.returns-clause-order
+returns-clause-order g c = search rules

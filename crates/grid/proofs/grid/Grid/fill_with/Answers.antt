@@ -1,4 +1,4 @@
-use Rattle.std.proofs.Common.{length, subst, ap}
+use Rattle.std.proofs.Common.{rules, length, subst, ap}
 use Rattle.grid_base.specs.ClosureCalls.{CallableTimes}
 use Rattle.grid.proofs.SeenLemmas.{seen_storage}
 use Rattle.grid.proofs.SeenAllCellsLemmas.{whole_rows, whole_cols, whole_cells}
@@ -15,3 +15,6 @@ returns-clause-cells g c = rw (whole_cells _ _ _ _ _ _ c.self.inside.fits c.self
 
 pub fill_with-requires : goal.fill_with-requires
 fill_with-requires g c = subst (CallableTimes _ _ _) (ap length (seen_storage _ _ _ _ _ c.self.inside.fits c.self.view_is)) c.requires
+
+pub returns-clause-order : goal.returns-clause-order
+returns-clause-order g c = search rules

@@ -1,4 +1,4 @@
-use Rattle.std.proofs.Common.{◌≡◌, ◌∙◌, ap, length, arith}
+use Rattle.std.proofs.Common.{rules, ◌≡◌, ◌∙◌, ap, length, arith}
 use Rattle.grid_base.specs.GridValue.{HoldsSize}
 use Rattle.grid_base.proofs.ViewLemmas.{view-cols, view-storage}
 use Rattle.grid.proofs.grid.Grid.from_vec_with_order.Goals as goal
@@ -14,3 +14,6 @@ returns-clause-storage g c = view-storage _ _ _ _ (holds g c) ∙ c.from_vec.ens
 
 pub returns-clause-cols : goal.returns-clause-cols
 returns-clause-cols g c = λ some. view-cols _ _ _ _ (holds g c) ∙ c.size_of_cut-row_count.ensures.cols (omega (arith, some))
+
+pub returns-clause-order : goal.returns-clause-order
+returns-clause-order g c = search rules

@@ -1,4 +1,4 @@
-use Rattle.std.proofs.Common.{◌≡◌, sym, ap, inr, is_some, None, arith}
+use Rattle.std.proofs.Common.{rules, ◌≡◌, sym, ap, inr, is_some, None, arith}
 use Rattle.grid_base.specs.Table.{cell}
 use Rattle.grid.proofs.CellThroughLemmas.{past_rows, past_cols}
 use Rattle.grid.proofs.grid.Grid.get_mut.Goals as goal
@@ -17,3 +17,6 @@ returns-else-row-rows g c =
       | else-row-rows-via-else-row-rows w ↦ ap (λ x. x.0) w.self-is
     ] in
     (ap inr same, record { writes_back = tt; variant = sym (ap is_some none); item = tt; in_range = tt })
+
+pub returns-then-col-cols : goal.returns-then-col-cols
+returns-then-col-cols g c = search rules

@@ -1,4 +1,4 @@
-use Rattle.std.proofs.Common.{◌<◌, ◌∙◌, ap, length, arith}
+use Rattle.std.proofs.Common.{rules, ◌<◌, ◌∙◌, ap, length, arith}
 use Rattle.grid_base.specs.Table.{row, row_count}
 use Rattle.grid_base.specs.Order.{table_of}
 use Rattle.grid_base.proofs.ViewLemmas.{view-rows, view-cols, view-table, HoldsSize-transposed}
@@ -26,3 +26,9 @@ returns-clause-fits g c =
     let o = c.flipped-order.result in
     let within : c.args.c < row_count (table_of o s.col_count s.row_count s.flat) = omega (arith, seen_cols _ _ _ _ _ s.fits c.self.view_is, c.requires, view-rows o s.col_count s.row_count s.flat fits) in
     omega (arith, ap length c.row.ensures.rest, (view-table o s.col_count s.row_count s.flat fits).even c.args.c within, view-cols o s.col_count s.row_count s.flat fits)
+
+pub returns-clause-runs : goal.returns-clause-runs
+returns-clause-runs g c = search rules
+
+pub returns-clause-runs_back : goal.returns-clause-runs_back
+returns-clause-runs_back g c = search rules

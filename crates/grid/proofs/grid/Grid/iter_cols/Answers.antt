@@ -1,4 +1,4 @@
-use Rattle.std.proofs.Common.{◌∙◌, ap, length, arith}
+use Rattle.std.proofs.Common.{rules, ◌∙◌, ap, length, arith}
 use Rattle.grid_base.specs.Order.{table_of}
 use Rattle.grid_base.proofs.ViewLemmas.{view-rows, HoldsSize-transposed}
 use Rattle.grid.proofs.SeenIteratorLemmas.{seen_transposed}
@@ -18,3 +18,15 @@ returns-clause-fits g c =
     let s = c.self.inside in
     let rows = view-rows c.flipped-order.result s.col_count s.row_count s.flat (HoldsSize-transposed _ _ _ c.self.inside.fits) in
     omega (arith, ap length c.rows.ensures.rest, rows)
+
+pub returns-clause-runs : goal.returns-clause-runs
+returns-clause-runs g c = search rules
+
+pub returns-clause-runs_back : goal.returns-clause-runs_back
+returns-clause-runs_back g c = search rules
+
+pub returns-clause-along : goal.returns-clause-along
+returns-clause-along g c = search rules
+
+pub returns-clause-along_back : goal.returns-clause-along_back
+returns-clause-along_back g c = search rules

@@ -1,4 +1,4 @@
-use Rattle.std.proofs.Common.{◌∙◌, ap}
+use Rattle.std.proofs.Common.{rules, ◌∙◌, ap}
 use Rattle.grid_near.specs.Neighbors.{neighbors4}
 use Rattle.grid.proofs.NearLemmas.{gives_neighbors4}
 use Rattle.grid.proofs.SeenLemmas.{seen_row_in, seen_col_in}
@@ -16,3 +16,12 @@ returns-clause-rest g c = (rw c.as_slice.ensures at c.neighbors4.ensures.rest) �
 
 pub returns-clause-cells : goal.returns-clause-cells
 returns-clause-cells g c = gives_neighbors4 c.args.self.now.rows c.args.self.now.table c.args.row c.args.col c.neighbors4.result (returns-clause-rest g c)
+
+pub returns-clause-count : goal.returns-clause-count
+returns-clause-count g c = search rules
+
+pub returns-clause-runs : goal.returns-clause-runs
+returns-clause-runs g c = search rules
+
+pub returns-clause-positions : goal.returns-clause-positions
+returns-clause-positions g c = search rules

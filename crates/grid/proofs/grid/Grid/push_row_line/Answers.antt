@@ -1,4 +1,4 @@
-use Rattle.std.proofs.Common.{◌≡◌, ◌++◌, [], ◌∷◌, ℤ, map, take, codes, sym, ap, ◌∙◌, arith, string_bytes, to_z, of_z, append_assoc, cond, ltb, ◌^◌, ◌-◌}
+use Rattle.std.proofs.Common.{rules, ◌≡◌, ◌++◌, [], ◌∷◌, ℤ, map, take, codes, sym, ap, ◌∙◌, arith, string_bytes, to_z, of_z, append_assoc, cond, ltb, ◌^◌, ◌-◌}
 use Rattle.std.specs.Int.{w128}
 use Rattle.std.specs.List.{join_by}
 use Rattle.std.specs.Fmt.{styled_signed_decimal, format_spec}
@@ -43,3 +43,9 @@ returns g c =
     let all : take c.loop-col.col line ≡ line = whole_row t c.args.r c.loop-col.col c.args.self.now.table c.requires (omega arith) in
     let before = c.loop-col.invariant ∙ ap (λ l. string_bytes c.args.text.now ++ (codes "    [" ++ join_by item (codes ",") (map w l))) all in
     ended c.push_str-2.result _ _ _ _ _ c.push_str-2.ensures.bytes before
+
+pub returns-in_err-push_str : goal.returns-in_err-push_str
+returns-in_err-push_str g c = search rules
+
+pub returns-in_err-write : goal.returns-in_err-write
+returns-in_err-write g c = search rules

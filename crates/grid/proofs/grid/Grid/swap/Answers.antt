@@ -1,4 +1,4 @@
-use Rattle.std.proofs.Common.{arith, ap, ◌∙◌}
+use Rattle.std.proofs.Common.{rules, arith, ap, ◌∙◌}
 use Rattle.grid_base.specs.Table.{row_count, col_count}
 use Rattle.grid_base.proofs.StorageLemmas.{place_within}
 use Rattle.grid_base.proofs.WriteLemmas.{rows-exchanged, cols-exchanged}
@@ -44,3 +44,6 @@ returns-clause-row_count g c = ap row_count (returns-clause-rows g c) ∙ rows-e
 
 pub returns-clause-col_count : goal.returns-clause-col_count
 returns-clause-col_count g c = ap col_count (returns-clause-rows g c) ∙ cols-exchanged c.args.self.now.rows c.args.self.now.table c.args.a c.args.b
+
+pub returns-clause-order : goal.returns-clause-order
+returns-clause-order g c = search rules

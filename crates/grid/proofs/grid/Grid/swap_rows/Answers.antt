@@ -1,4 +1,4 @@
-use Rattle.std.proofs.Common.{arith}
+use Rattle.std.proofs.Common.{rules, arith}
 use Rattle.grid.proofs.SwapLineLemmas.{rows_next, rows_done}
 use Rattle.grid.proofs.grid.Grid.swap_rows.Goals as goal
 
@@ -9,3 +9,12 @@ loop-col-preserved g c =
 
 pub returns-clause-rows : goal.returns-clause-rows
 returns-clause-rows g c = rows_done c.args.a c.args.b c.loop-col.col c.args.self.now c.loop-col.self c.loop-col.invariant c.requires.a_in c.requires.b_in (omega arith)
+
+pub returns-clause-row_count : goal.returns-clause-row_count
+returns-clause-row_count g c = search rules
+
+pub returns-clause-col_count : goal.returns-clause-col_count
+returns-clause-col_count g c = search rules
+
+pub returns-clause-order : goal.returns-clause-order
+returns-clause-order g c = search rules

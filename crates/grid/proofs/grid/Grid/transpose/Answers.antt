@@ -1,4 +1,4 @@
-use Rattle.std.proofs.Common.{sym, ◌∙◌, ap}
+use Rattle.std.proofs.Common.{rules, sym, ◌∙◌, ap}
 use Rattle.grid_base.specs.Table.{row_count, col_count}
 use Rattle.grid_base.proofs.ActLemmas.{rows-act, cols-act}
 use Rattle.grid_base.proofs.ViewLemmas.{view-transpose, view-storage, HoldsSize-transposed}
@@ -18,3 +18,6 @@ returns-clause-row_count g c = ap row_count (returns-clause-rows g c) ∙ rows-a
 
 pub returns-clause-col_count : goal.returns-clause-col_count
 returns-clause-col_count g c = ap col_count (returns-clause-rows g c) ∙ cols-act _ _ c.args.self.now.table
+
+pub returns-clause-order : goal.returns-clause-order
+returns-clause-order g c = search rules

@@ -1,3 +1,4 @@
+use Rattle.std.proofs.Common.{rules}
 use Rattle.grid.proofs.CellCallLemmas.{seen_callable, seen_tabulated}
 use Rattle.grid.proofs.SeenAllCellsLemmas.{whole_rows, whole_cols}
 use Rattle.grid.proofs.grid.Grid.update.Goals as goal
@@ -13,3 +14,6 @@ returns-clause-cells g c = seen_tabulated _ _ _ _ _ c.self.inside.fits c.self.vi
 
 pub update-requires-clause-calls : goal.update-requires-clause-calls
 update-requires-clause-calls g c = seen_callable _ _ _ _ _ c.self.inside.fits c.self.view_is _ _ c.requires
+
+pub returns-clause-order : goal.returns-clause-order
+returns-clause-order g c = search rules
