@@ -190,57 +190,6 @@ fn iterators_over_texts_are_dropped_early(rt: HostRuntime) -> Result<(), Fail> {
     Ok(())
 }
 
-// The same as cells that have a default.
-fn kept_texts_of(alloc: Global, letters: [&str; 4]) -> Result<Vec<Option<String>>, AllocError> {
-    let mut cells = Vec::new(alloc);
-    for letter in letters {
-        cells.push(Some(String::from_str(alloc, letter)?))?;
-    }
-    Ok(cells)
-}
-
-fn kept_texts(
-    alloc: Global,
-    order: Order,
-    letters: [&str; 4],
-) -> Result<Grid<Option<String>>, ShapeError> {
-    cut(kept_texts_of(alloc, letters)?, 2, order)
-}
-
-fn is_kept(cell: Option<&Option<String>>, want: &str) -> bool {
-    match cell {
-        Some(kept) => is_text(kept.as_ref(), want),
-        None => false,
-    }
-}
-
-// Each iterator of the turned texts is dropped after its first cell.
-fn begins_turned_iterators(deferred: &Deferred<'_, Option<String>>) -> bool {
-    if deferred.size() != (2, 2) {
-        return false;
-    }
-    let row = is_kept(deferred.iter_row(1).next(), "a");
-    row && is_kept(deferred.iter_col(1).next(), "d")
-}
-
-#[test]
-fn iterators_over_turned_texts_are_dropped_early(rt: HostRuntime) -> Result<(), Fail> {
-    for (order, letters) in LETTERS {
-        let same = kept_texts(rt.alloc(), order, letters)?;
-        let mut grid = kept_texts(rt.alloc(), order, letters)?;
-        let mut tally = Tally::new();
-        let mut deferred = Deferred::over(&mut grid);
-        let turned = deferred
-            .step(Command::Apply(Symmetry::RotateLeft), &mut tally)
-            .is_ok();
-        let begun = begins_turned_iterators(&deferred);
-        let released = deferred.release();
-        assert!(rt; turned && begun && grid == same);
-        assert_eq!(rt; (released, grid.order()), (Symmetry::RotateLeft, order));
-    }
-    Ok(())
-}
-
 fn check_reply(
     rt: &impl Abort,
     symmetry: Symmetry,

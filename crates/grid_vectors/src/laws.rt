@@ -1,9 +1,8 @@
 //! Laws, and callers whose contracts rest on them, each run once.
 use crate::asserts::{Rows, assert_rows, grid_with};
-use grid::{Grid, Order, Symmetry, Tally};
+use grid::{Grid, Order, Symmetry};
 use grid_base::laws as symmetry_laws;
 use grid_callers::chains::*;
-use std::process::Abort;
 use std::test::Fail;
 use test_support::fixtures::ORDERS;
 
@@ -31,58 +30,6 @@ fn applies_what_is_joined(rt: HostRuntime) -> Result<(), Fail> {
     assert_eq!(rt; grid.get(0, 1), Some(&4));
     grid_laws::apply_then_inverse(&mut grid, TURNED);
     assert_eq!(rt; grid.get(0, 1), Some(&4));
-    Ok(())
-}
-
-#[test]
-fn turns_texts(rt: HostRuntime) -> Result<(), Fail> {
-    let alloc = rt.alloc();
-    let cells = vec![in alloc;
-        String::from_str(alloc, "a")?,
-        String::from_str(alloc, "b")?,
-    ]?;
-    let mut texts = Grid::from_vec(cells, 2);
-    apply_to_texts(&mut texts, TURNED, FLIPPED);
-    assert_eq!(rt; texts.size(), (2, 1));
-    turn_texts_back(&mut texts, TURNED);
-    assert_eq!(rt; texts.size(), (2, 1));
-    Ok(())
-}
-
-#[test]
-fn runs_on_texts(rt: HostRuntime) -> Result<(), Fail> {
-    let mut texts: Grid<Option<String>> = Grid::from_vec(vec![in rt.alloc(); None, None]?, 2);
-    let mut tally = Tally::new();
-    run_on_texts(&mut texts, Symmetry::FlipCols, &mut tally);
-    assert_eq!(rt; texts.size(), (1, 2));
-    assert_eq!(rt; tally.symmetry(), 1);
-    Ok(())
-}
-
-#[test]
-fn numbers_cells(rt: HostRuntime) -> Result<(), Fail> {
-    let mut grid = Grid::from_vec(vec![in rt.alloc(); 0u8, 0, 0, 0]?, 2);
-    assert!(rt; grid.flatten().len() < 256);
-    number_cells(&mut grid);
-    assert_eq!(rt; grid.flatten().as_slice(), [1, 2, 3, 4].as_slice());
-    Ok(())
-}
-
-#[test]
-fn writes_rows_out(rt: HostRuntime) -> Result<(), Fail> {
-    let by_rows = written_by_rows(rt.alloc())?;
-    assert_eq!(rt; by_rows.flatten().as_slice(), [1, 2, 3, 4, 5, 6].as_slice());
-    Ok(())
-}
-
-#[test]
-fn writes_columns_out(rt: HostRuntime) -> Result<(), Fail> {
-    let by_columns = written_by_columns(rt.alloc())?;
-    assert_eq!(rt; by_columns.order(), Order::ColumnMajor);
-    assert_eq!(rt;
-        by_columns.flatten().as_slice(),
-        [1, 4, 2, 5, 3, 6].as_slice()
-    );
     Ok(())
 }
 

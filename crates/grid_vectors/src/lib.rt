@@ -8,11 +8,7 @@ mod base;
 #[cfg(test)]
 mod callers;
 #[cfg(test)]
-mod chains;
-#[cfg(test)]
 mod deferred;
-#[cfg(test)]
-mod flat;
 #[cfg(test)]
 mod json;
 #[cfg(test)]

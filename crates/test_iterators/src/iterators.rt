@@ -1,6 +1,6 @@
 //! Iterators over all small tables and both orders, beside plain loops over the plain program's rows.
 use crate::asserts::assert_shows;
-use grid::{Grid, GridRowIter, Order, Symmetry};
+use grid::{Grid, Order};
 use std::alloc::{AllocError, Global};
 use std::process::Abort;
 use std::test::Fail;
@@ -8,45 +8,8 @@ use test_reference::plain;
 use test_support::fixtures::{
     ORDERS, SIZES, grid_of, numbered, positions_of, put_cell, shows_count,
 };
-use test_support::iterators::{
-    gives, gives_at, gives_back, lends_at, line_reads, lines_read, reads, reads_at, reads_back,
-    write_along,
-};
+use test_support::iterators::{gives_at, lends_at, reads_at, write_along};
 use test_support::line_edits::LineAt;
-
-// Iterators over all cells, by the call and by reference, from the front and from the back.
-fn check_reads(rt: &impl Abort, grid: &Grid<u32>, cells: &[u32]) -> Result<(), Fail> {
-    assert!(rt; reads(grid.iter(), cells)? && reads(grid.into_iter(), cells)?);
-    assert!(rt; reads_back(grid.iter(), cells) && reads_back(grid.into_iter(), cells));
-    Ok(())
-}
-
-// A grid is read, and given by value; and once more, the last cell first.
-fn check_cells(
-    rt: &impl Abort,
-    alloc: Global,
-    table: &Vec<Vec<u32>>,
-    order: Order,
-) -> Result<(), Fail> {
-    let cells = plain::storage(alloc, order, table)?;
-    let grid = grid_of(alloc, table, order)?;
-    check_reads(rt, &grid, cells.as_slice())?;
-    assert!(rt; gives(grid.into_iter(), cells.as_slice()));
-    let grid = grid_of(alloc, table, order)?;
-    assert!(rt; gives_back(grid.into_iter(), cells.as_slice()));
-    Ok(())
-}
-
-#[test]
-fn reads_cells(rt: HostRuntime) -> Result<(), Fail> {
-    for (rows, cols) in SIZES {
-        let table = numbered(rt.alloc(), rows, cols)?;
-        for order in ORDERS {
-            check_cells(&rt, rt.alloc(), &table, order)?;
-        }
-    }
-    Ok(())
-}
 
 fn check_positions(
     rt: &impl Abort,
@@ -68,109 +31,6 @@ fn reads_cells_with_places(rt: HostRuntime) -> Result<(), Fail> {
         let table = numbered(rt.alloc(), rows, cols)?;
         for order in ORDERS {
             check_positions(&rt, rt.alloc(), &table, order)?;
-        }
-    }
-    Ok(())
-}
-
-fn check_row(rt: &impl Abort, grid: &Grid<u32>, row: usize, want: &[u32]) -> Result<(), Fail> {
-    assert!(rt; row < grid.rows());
-    assert!(rt; line_reads(grid.iter_row(row), want)?);
-    Ok(())
-}
-
-fn check_col(rt: &impl Abort, grid: &Grid<u32>, col: usize, want: &[u32]) -> Result<(), Fail> {
-    assert!(rt; col < grid.cols());
-    assert!(rt; line_reads(grid.iter_col(col), want)?);
-    Ok(())
-}
-
-// Rows and columns one by one.
-fn check_lines(
-    rt: &impl Abort,
-    alloc: Global,
-    table: &Vec<Vec<u32>>,
-    order: Order,
-) -> Result<(), Fail> {
-    let turned = plain::act(alloc, Symmetry::Transpose, table)?;
-    let grid = grid_of(alloc, table, order)?;
-    for (r, row) in table.iter().enumerate() {
-        check_row(rt, &grid, r, row.as_slice())?;
-    }
-    for (c, col) in turned.iter().enumerate() {
-        check_col(rt, &grid, c, col.as_slice())?;
-    }
-    Ok(())
-}
-
-#[test]
-fn reads_lines(rt: HostRuntime) -> Result<(), Fail> {
-    for (rows, cols) in SIZES {
-        let table = numbered(rt.alloc(), rows, cols)?;
-        for order in ORDERS {
-            check_lines(&rt, rt.alloc(), &table, order)?;
-        }
-    }
-    Ok(())
-}
-
-// A row and a column of 1, 2, 3, 4 and 5, of which the first and the last are taken. A clone has the rest.
-fn check_moved_line(rt: &impl Abort, grid: &Grid<u32>) -> Result<(), Fail> {
-    let (rows, cols) = grid.size();
-    assert!(rt; 0 < rows && 0 < cols);
-    let mut line = if rows == 1 {
-        grid.iter_row(0)
-    } else {
-        grid.iter_col(0)
-    };
-    let ends = (line.next().copied(), line.next_back().copied());
-    assert!(rt; ends == (Some(1), Some(5)) && line.size_hint() == (3, Some(3)));
-    assert!(rt; line_reads(line.clone()?, &[2, 3, 4])? && line_reads(line, &[2, 3, 4])?);
-    Ok(())
-}
-
-#[test]
-fn clones_lines_that_have_moved(rt: HostRuntime) -> Result<(), Fail> {
-    for order in ORDERS {
-        for (rows, cols) in [(1, 5), (5, 1)] {
-            let table = numbered(rt.alloc(), rows, cols)?;
-            check_moved_line(&rt, &grid_of(rt.alloc(), &table, order)?)?;
-        }
-    }
-    Ok(())
-}
-
-// All rows or all columns, taken from the two ends in every way, also by a clone.
-fn check_both_ends(
-    rt: &impl Abort,
-    iter: GridRowIter<'_, u32>,
-    lines: &[Vec<u32>],
-) -> Result<(), Fail> {
-    for pattern in 0..8u32 {
-        assert!(rt; lines_read(iter.clone()?, lines, pattern)?);
-        assert!(rt; lines_read(iter.clone()?, lines, !pattern)?);
-    }
-    Ok(())
-}
-
-fn check_all_lines(
-    rt: &impl Abort,
-    alloc: Global,
-    table: &Vec<Vec<u32>>,
-    order: Order,
-) -> Result<(), Fail> {
-    let turned = plain::act(alloc, Symmetry::Transpose, table)?;
-    let grid = grid_of(alloc, table, order)?;
-    check_both_ends(rt, grid.iter_rows(), table.as_slice())?;
-    check_both_ends(rt, grid.iter_cols(), turned.as_slice())
-}
-
-#[test]
-fn reads_all_lines_from_both_ends(rt: HostRuntime) -> Result<(), Fail> {
-    for (rows, cols) in SIZES {
-        let table = numbered(rt.alloc(), rows, cols)?;
-        for order in ORDERS {
-            check_all_lines(&rt, rt.alloc(), &table, order)?;
         }
     }
     Ok(())

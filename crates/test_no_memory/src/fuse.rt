@@ -28,19 +28,3 @@ fn grants_a_box(fuse: &Fuse<Global>) -> bool {
 fn refuses(fuse: &Fuse<Global>) -> bool {
     Box::new(fuse, 7u32).is_err() && Vec::<u32, &Fuse<Global>>::with_capacity(fuse, 1).is_err()
 }
-
-// A vector under it keeps what it has when it can't grow.
-#[test]
-fn a_vector_keeps_what_it_has(rt: HostRuntime) -> Result<(), Fail> {
-    let fuse = Fuse::new(rt.alloc(), 1);
-    let mut cells = Vec::new(&fuse);
-    cells.reserve_exact(2)?;
-    cells.push(1u32)?;
-    cells.push(2)?;
-    match cells.push(3) {
-        Ok(()) => panic!(rt; "the second request is refused"),
-        Err(refused) => assert_eq!(rt; refused.value, 3),
-    }
-    assert_eq!(rt; cells.as_slice(), [1, 2].as_slice());
-    Ok(())
-}

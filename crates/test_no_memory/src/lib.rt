@@ -6,8 +6,6 @@ mod asserts;
 #[cfg(test)]
 mod carried;
 #[cfg(test)]
-mod clones;
-#[cfg(test)]
 mod commands;
 #[cfg(test)]
 mod dropped;

@@ -1,7 +1,6 @@
 //! What the tests share: tables and grids to start from, comparisons, and calls that test their own conditions.
 #![tactic(auto)]
 
-pub mod cell_access;
 pub mod fixtures;
 pub mod iterators;
 pub mod line_edits;

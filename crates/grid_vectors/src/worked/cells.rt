@@ -1,4 +1,4 @@
-//! Edits of cells that are bytes, have no size, or own memory.
+//! Cells that are reached in range, and edits of cells that are bytes, have no size, or own memory.
 use crate::asserts::assert_stored;
 use grid::Order::{ColumnMajor, RowMajor};
 use grid::{Grid, GridError, Order};
@@ -6,7 +6,19 @@ use std::alloc::{AllocError, Global};
 use std::process::Abort;
 use std::test::Fail;
 use test_support::fixtures::{ORDERS, joined_texts};
-use test_support::line_edits::{LineAt, insert, insert_several, push_row};
+use test_support::line_edits::{LineAt, insert, push_row};
+
+// The calls that want a position in range.
+#[test]
+fn reaches_cells_in_range(rt: HostRuntime) -> Result<(), Fail> {
+    let mut board = Grid::from_vec(vec![in rt.alloc(); 1u32, 2, 3, 4]?, 2);
+    let (rows, cols) = board.size();
+    assert!(rt; 1 < rows && 1 < cols);
+    assert_eq!(rt; (*board.get_unchecked(1, 0), board[(0, 1)]), (3, 2));
+    *board.get_unchecked_mut(1, 0) = 8;
+    assert_eq!(rt; board.get(1, 0), Some(&8));
+    Ok(())
+}
 
 // Padding by its four calls.
 #[derive(Clone, Copy, Debug)]
@@ -69,26 +81,6 @@ fn expand_to_more_bytes_than_a_vector_has(rt: HostRuntime) -> Result<(), Fail> {
     Ok(())
 }
 
-// So many cells are not too large, but more than a vector of bytes may have.
-#[test]
-fn pads_to_the_largest_number_of_cells(rt: HostRuntime) -> Result<(), Fail> {
-    const MOST: usize = usize::MAX - 1;
-    const PADS: [Pad; 4] = [
-        Pad::ExpandRows(MOST),
-        Pad::ExpandCols(MOST),
-        Pad::PrependRows(MOST),
-        Pad::PrependCols(MOST),
-    ];
-    for order in ORDERS {
-        let mut grid = Grid::<u8>::new_with_order(rt.alloc(), 1, 1, order)?;
-        for step in PADS {
-            assert_eq!(rt; do_pad(&mut grid, step), Err(GridError::Memory), "{step:?}");
-        }
-        assert_stored(&rt, &grid, (1, 1), order, &[0u8]);
-    }
-    Ok(())
-}
-
 // A line of cells that have no size.
 fn units(alloc: Global, len: usize) -> Result<Vec<()>, AllocError> {
     let mut line = Vec::new(alloc);
@@ -113,17 +105,6 @@ fn check_cells_of_no_size(rt: &impl Abort, alloc: Global, order: Order) -> Resul
 fn puts_takes_and_turns_cells_of_no_size(rt: HostRuntime) -> Result<(), Fail> {
     for order in ORDERS {
         check_cells_of_no_size(&rt, rt.alloc(), order)?;
-    }
-    Ok(())
-}
-
-#[test]
-fn puts_several_lines_of_no_size(rt: HostRuntime) -> Result<(), Fail> {
-    for order in ORDERS {
-        let mut grid = Grid::<()>::new_with_order(rt.alloc(), 3, 2, order)?;
-        let lines = vec![in rt.alloc(); units(rt.alloc(), 2)?, units(rt.alloc(), 2)?]?;
-        insert_several(&mut grid, LineAt::Row(3), lines)?;
-        assert_stored(&rt, &grid, (5, 2), order, &[(); 10]);
     }
     Ok(())
 }

@@ -1,8 +1,7 @@
 //! Iterators over cells, rows and columns.
-use crate::asserts::{Rows, assert_stored, grid_with};
-use grid::Order::{ColumnMajor, RowMajor};
-use grid::{Grid, GridColIter, GridLineIter, GridRowIter};
-use std::alloc::{AllocError, Global};
+use crate::asserts::{Rows, grid_with};
+use grid::Order::ColumnMajor;
+use grid::{GridColIter, GridLineIter, GridRowIter};
 use std::process::Abort;
 use std::test::Fail;
 use test_support::fixtures::{ORDERS, stored};
@@ -80,74 +79,6 @@ fn cols_from_both_ends(rt: HostRuntime) -> Result<(), Fail> {
     Ok(())
 }
 
-fn push_line(cells: &mut Vec<u32>, line: GridLineIter<'_, u32>) -> Result<(), AllocError> {
-    for cell in line {
-        cells.push(*cell)?;
-    }
-    Ok(())
-}
-
-// The cells of the lines, the last line first.
-fn cells_back(alloc: Global, lines: GridRowIter<'_, u32>) -> Result<Vec<u32>, AllocError> {
-    let mut cells = Vec::new(alloc);
-    for line in lines.rev() {
-        push_line(&mut cells, line)?;
-    }
-    Ok(cells)
-}
-
-fn check_back(
-    rt: &impl Abort,
-    alloc: Global,
-    lines: GridRowIter<'_, u32>,
-    want: &[u32],
-) -> Result<(), AllocError> {
-    let cells = cells_back(alloc, lines)?;
-    assert_eq!(rt; cells.as_slice(), want);
-    Ok(())
-}
-
-#[test]
-fn lines_last_first(rt: HostRuntime) -> Result<(), Fail> {
-    for order in ORDERS {
-        let grid = grid_with(rt.alloc(), TALL, order)?;
-        check_back(&rt, rt.alloc(), grid.iter_rows(), &[5, 6, 3, 4, 1, 2])?;
-        check_back(&rt, rt.alloc(), grid.iter_cols(), &[2, 4, 6, 1, 3, 5])?;
-    }
-    Ok(())
-}
-
-// The length of each row.
-fn row_lengths(alloc: Global, grid: &Grid<u32>) -> Result<Vec<usize>, AllocError> {
-    grid.iter_rows().map(|line| line.len()).collect(alloc)
-}
-
-// How many cells of each column, the last column first, are above 3.
-fn large_in_columns(alloc: Global, grid: &Grid<u32>) -> Result<Vec<usize>, AllocError> {
-    grid.iter_cols()
-        .rev()
-        .map(|line| line.filter(|cell| **cell > 3).count())
-        .collect(alloc)
-}
-
-fn check_mapped(rt: &impl Abort, alloc: Global, grid: &Grid<u32>) -> Result<(), AllocError> {
-    let lengths = row_lengths(alloc, grid)?;
-    assert_eq!(rt; lengths.as_slice(), [2, 2, 2].as_slice());
-    drop(lengths);
-    let large = large_in_columns(alloc, grid)?;
-    assert_eq!(rt; large.as_slice(), [2, 1].as_slice());
-    Ok(())
-}
-
-#[test]
-fn lines_mapped(rt: HostRuntime) -> Result<(), Fail> {
-    for order in ORDERS {
-        let grid = grid_with(rt.alloc(), TALL, order)?;
-        check_mapped(&rt, rt.alloc(), &grid)?;
-    }
-    Ok(())
-}
-
 #[test]
 fn indexed_column_major(rt: HostRuntime) -> Result<(), Fail> {
     const HANDED: [Option<((usize, usize), u32)>; 5] = [
@@ -161,54 +92,6 @@ fn indexed_column_major(rt: HostRuntime) -> Result<(), Fail> {
     let mut iter = grid.indexed_iter();
     for want in HANDED {
         assert_eq!(rt; iter.next().map(|(place, cell)| (place, *cell)), want);
-    }
-    Ok(())
-}
-
-// Writes 0, 1, 2, .. along a row.
-fn number_row(rt: &impl Abort, grid: &mut Grid<u32>, at: usize) {
-    assert!(rt; at < grid.rows());
-    let mut next = 0u32;
-    for cell in grid.iter_row_mut(at) {
-        *cell = next;
-        next = next.wrapping_add(1);
-    }
-}
-
-// Writes 0, 1, 2, .. along a column.
-fn number_col(rt: &impl Abort, grid: &mut Grid<u32>, at: usize) {
-    assert!(rt; at < grid.cols());
-    let mut next = 0u32;
-    for cell in grid.iter_col_mut(at) {
-        *cell = next;
-        next = next.wrapping_add(1);
-    }
-}
-
-const SQUARE: Rows = &[&[1, 2, 3], &[4, 5, 6], &[7, 8, 9]];
-
-#[test]
-fn writes_a_row(rt: HostRuntime) -> Result<(), Fail> {
-    for (order, want) in [
-        (RowMajor, [1, 2, 3, 0, 1, 2, 7, 8, 9]),
-        (ColumnMajor, [1, 0, 7, 2, 1, 8, 3, 2, 9]),
-    ] {
-        let mut grid = grid_with(rt.alloc(), SQUARE, order)?;
-        number_row(&rt, &mut grid, 1);
-        assert_stored(&rt, &grid, (3, 3), order, &want);
-    }
-    Ok(())
-}
-
-#[test]
-fn writes_a_column(rt: HostRuntime) -> Result<(), Fail> {
-    for (order, want) in [
-        (RowMajor, [1, 2, 0, 4, 5, 1, 7, 8, 2]),
-        (ColumnMajor, [1, 4, 7, 2, 5, 8, 0, 1, 2]),
-    ] {
-        let mut grid = grid_with(rt.alloc(), SQUARE, order)?;
-        number_col(&rt, &mut grid, 2);
-        assert_stored(&rt, &grid, (3, 3), order, &want);
     }
     Ok(())
 }

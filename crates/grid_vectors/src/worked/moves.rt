@@ -1,8 +1,8 @@
 //! Words of moves, the moves, and runs of them.
 use crate::asserts::{Rows, assert_rows, grid_with};
 use grid::Order::{ColumnMajor, RowMajor};
-use grid::{Command, Grid, Move, Order, Reply, Symmetry, Tally, reduce, run};
-use std::alloc::{AllocError, Global};
+use grid::{Grid, Move, Order, Symmetry, Tally, reduce};
+use std::alloc::Global;
 use std::process::Abort;
 use std::test::Fail;
 use test_support::fixtures::{ORDERS, call, order_after, stored};
@@ -107,43 +107,6 @@ fn flip_rows_column_major(rt: HostRuntime) -> Result<(), Fail> {
     grid.flip_rows();
     assert_rows(&rt, rt.alloc(), &grid, &[&[3, 4], &[1, 2]], ColumnMajor)?;
     assert_eq!(rt; grid.into_vec().as_slice(), [3, 1, 4, 2].as_slice());
-    Ok(())
-}
-
-fn turns<T: Drop>(alloc: Global, count: usize) -> Result<Vec<Command<T>>, AllocError> {
-    let mut commands = Vec::new(alloc);
-    for _ in 0..count {
-        commands.push(Command::Apply(Symmetry::RotateLeft))?;
-    }
-    Ok(commands)
-}
-
-const ALL_DONE: [Reply<u32>; 4] = [Reply::Done, Reply::Done, Reply::Done, Reply::Done];
-
-fn do_four_turns(
-    rt: &impl Abort,
-    alloc: Global,
-    grid: &mut Grid<u32>,
-    tally: &mut Tally,
-) -> Result<(), Fail> {
-    let replies = run(alloc, grid, turns(alloc, 4)?, tally)?;
-    assert_eq!(rt; replies.as_slice(), ALL_DONE.as_slice());
-    Ok(())
-}
-
-fn check_four_turns(rt: &impl Abort, alloc: Global, order: Order) -> Result<(), Fail> {
-    let mut grid = grid_with(alloc, WIDE, order)?;
-    let mut tally = Tally::new();
-    do_four_turns(rt, alloc, &mut grid, &mut tally)?;
-    assert_eq!(rt; (tally.symmetry(), tally.shift()), (10, 0));
-    assert_rows(rt, alloc, &grid, WIDE, order)
-}
-
-#[test]
-fn four_quarter_turns(rt: HostRuntime) -> Result<(), Fail> {
-    for order in ORDERS {
-        check_four_turns(&rt, rt.alloc(), order)?;
-    }
     Ok(())
 }
 
