@@ -8,6 +8,7 @@ use grid::{Command, Grid, Order, Reply, RunStopped, Symmetry, Tally};
 use grid_deferred::laws::run_at_once_and_deferred;
 use grid_laws::run_in_either_order;
 use std::alloc::{AllocError, Global};
+use std::process::Abort;
 use std::test::Fail;
 
 // A row is pushed, the grid is turned, and its size is asked for.
@@ -39,15 +40,51 @@ fn is_turned(grid: &Grid<u32>) -> bool {
     grid.size() == (2, 1) && grid.flatten().as_slice() == [2, 1].as_slice()
 }
 
+// Both grids are turned, and stored in different orders.
+fn are_turned(grid: &Grid<u32>, other: &Grid<u32>) -> bool {
+    is_turned(grid) && is_turned(other) && grid.order() != other.order()
+}
+
+fn check_in_either_order(
+    rt: &impl Abort,
+    alloc: Global,
+    grid: &mut Grid<u32>,
+    other: &mut Grid<u32>,
+) -> Result<(), AllocError>
+    requires { other.old.rows ≡ grid.old.rows }
+{
+    let first = push_and_turn(alloc)?;
+    let second = push_and_turn(alloc)?;
+    let (ran, other_ran) = run_in_either_order(alloc, grid, first, alloc, other, second);
+    assert!(rt; went(&ran) && went(&other_ran));
+    Ok(())
+}
+
 #[test]
 fn runs_in_either_order(rt: HostRuntime) -> Result<(), Fail> {
     let alloc = rt.alloc();
     let mut grid = Grid::empty(alloc);
     let mut other = Grid::with_capacity_and_order(alloc, 0, 0, Order::ColumnMajor)?;
-    let (first, second) = (push_and_turn(alloc)?, push_and_turn(alloc)?);
-    let (ran, other_ran) = run_in_either_order(alloc, &mut grid, first, alloc, &mut other, second);
-    assert!(rt; went(&ran) && went(&other_ran));
-    assert!(rt; is_turned(&grid) && is_turned(&other) && grid.order() != other.order());
+    check_in_either_order(&rt, alloc, &mut grid, &mut other)?;
+    assert!(rt; are_turned(&grid, &other));
+    Ok(())
+}
+
+fn check_at_once_and_deferred(
+    rt: &impl Abort,
+    alloc: Global,
+    grid: &mut Grid<u32>,
+    other: &mut Grid<u32>,
+) -> Result<(), AllocError>
+    requires { grid.old.rows ≡ other.old.rows }
+{
+    let first = push_and_turn(alloc)?;
+    let second = push_and_turn(alloc)?;
+    let mut tally = Tally::new();
+    match run_at_once_and_deferred((alloc, alloc), grid, other, first, second, &mut tally) {
+        Some((replies, others)) => assert!(rt; is_due(&replies) && is_due(&others)),
+        None => panic!(rt; "there is memory"),
+    }
     Ok(())
 }
 
@@ -56,13 +93,7 @@ fn runs_at_once_and_deferred(rt: HostRuntime) -> Result<(), Fail> {
     let alloc = rt.alloc();
     let mut grid = Grid::empty(alloc);
     let mut other = Grid::with_capacity_and_order(alloc, 0, 0, Order::ColumnMajor)?;
-    let (first, second) = (push_and_turn(alloc)?, push_and_turn(alloc)?);
-    let mut tally = Tally::new();
-    let allocs = (alloc, alloc);
-    match run_at_once_and_deferred(allocs, &mut grid, &mut other, first, second, &mut tally) {
-        Some((replies, others)) => assert!(rt; is_due(&replies) && is_due(&others)),
-        None => panic!(rt; "there is memory"),
-    }
-    assert!(rt; is_turned(&grid) && is_turned(&other) && grid.order() != other.order());
+    check_at_once_and_deferred(&rt, alloc, &mut grid, &mut other)?;
+    assert!(rt; are_turned(&grid, &other));
     Ok(())
 }

@@ -1,4 +1,4 @@
-//! Iterators over all small tables, in both orders, beside the plain program.
+//! Iterators for writing, and those with positions, over all small tables, in both orders, beside the plain program.
 #![tactic(auto)]
 
 #[cfg(test)]

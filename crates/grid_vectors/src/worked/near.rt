@@ -1,6 +1,7 @@
 //! The cells round a cell, a part of a grid, and lines that change places.
 use crate::asserts::{Rows, assert_rows, grid_with};
-use grid::Grid;
+use grid::{Grid, Neighbors, WrappedNeighbors};
+use std::process::Abort;
 use std::test::Fail;
 use test_support::fixtures::ORDERS;
 
@@ -27,48 +28,41 @@ const WRAPPED_EIGHT: &[Near] = &[
     ((1, 0), 4),
 ];
 
-#[test]
-fn neighbors_of_a_corner(rt: HostRuntime) -> Result<(), Fail> {
-    let alloc = rt.alloc();
-    for order in ORDERS {
-        let grid = grid_with(alloc, TABLE, order)?;
-        let sized = grid.rows() == 2 && grid.cols() == 3;
-        assert!(rt; sized);
-        if sized {
-            let found: Vec<Near> = grid
-                .neighbors4(0, 2)
-                .map(|(at, cell)| (at, *cell))
-                .collect(alloc)?;
-            assert_eq!(rt; found.as_slice(), FOUR);
-            let found: Vec<Near> = grid
-                .neighbors8(0, 2)
-                .map(|(at, cell)| (at, *cell))
-                .collect(alloc)?;
-            assert_eq!(rt; found.as_slice(), EIGHT);
+// Whether an iterator gives these, and then ends.
+fn gives(found: Neighbors<'_, u32>, want: &[Near]) -> bool {
+    let mut left = want.iter();
+    for (at, cell) in found {
+        if left.next() != Some(&(at, *cell)) {
+            return false;
         }
     }
-    Ok(())
+    left.next().is_none()
+}
+
+// The same where the edges meet.
+fn gives_wrapped(found: WrappedNeighbors<'_, u32>, want: &[Near]) -> bool {
+    let mut left = want.iter();
+    for (at, cell) in found {
+        if left.next() != Some(&(at, *cell)) {
+            return false;
+        }
+    }
+    left.next().is_none()
+}
+
+fn check_corner(rt: &impl Abort, grid: &Grid<u32>) {
+    let (rows, cols) = grid.size();
+    assert!(rt; 0 < rows && 2 < cols);
+    assert!(rt; gives(grid.neighbors4(0, 2), FOUR) && gives(grid.neighbors8(0, 2), EIGHT));
+    assert!(rt; gives_wrapped(grid.wrapped_neighbors4(0, 2), WRAPPED_FOUR));
+    assert!(rt; gives_wrapped(grid.wrapped_neighbors8(0, 2), WRAPPED_EIGHT));
 }
 
 #[test]
-fn wrapped_neighbors_of_a_corner(rt: HostRuntime) -> Result<(), Fail> {
-    let alloc = rt.alloc();
+fn neighbors_of_a_corner(rt: HostRuntime) -> Result<(), Fail> {
     for order in ORDERS {
-        let grid = grid_with(alloc, TABLE, order)?;
-        let sized = grid.rows() == 2 && grid.cols() == 3;
-        assert!(rt; sized);
-        if sized {
-            let found: Vec<Near> = grid
-                .wrapped_neighbors4(0, 2)
-                .map(|(at, cell)| (at, *cell))
-                .collect(alloc)?;
-            assert_eq!(rt; found.as_slice(), WRAPPED_FOUR);
-            let found: Vec<Near> = grid
-                .wrapped_neighbors8(0, 2)
-                .map(|(at, cell)| (at, *cell))
-                .collect(alloc)?;
-            assert_eq!(rt; found.as_slice(), WRAPPED_EIGHT);
-        }
+        let grid = grid_with(rt.alloc(), TABLE, order)?;
+        check_corner(&rt, &grid);
     }
     Ok(())
 }

@@ -1,4 +1,4 @@
-use Rattle.std.proofs.Common.{◌≡◌, ◌+◌, ◌-◌, ◌*◌, ◌≤◌, min}
+use Rattle.std.proofs.Common.{◌≡◌, ◌+◌, ◌*◌, ◌≤◌, min}
 use Rattle.grid_base.proofs.SpreadLemmas.{spread, Opening}
 use Rattle.grid_base.proofs.flat.Flat.open.Given as goal
 

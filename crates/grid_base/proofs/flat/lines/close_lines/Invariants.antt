@@ -1,4 +1,4 @@
-use Rattle.std.proofs.Common.{◌≡◌, ◌+◌, ◌-◌, ◌*◌, ◌<◌, min}
+use Rattle.std.proofs.Common.{◌≡◌, ◌+◌, ◌*◌, ◌<◌, min}
 use Rattle.grid_base.proofs.SpreadLemmas.{spread, Closing}
 use Rattle.grid_base.proofs.flat.lines.close_lines.Given as goal
 
