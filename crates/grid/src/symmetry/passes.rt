@@ -6,7 +6,7 @@ ghost use Rattle.grid.specs.Passes.{LinesReversed, EachLineReversed};
 use grid_base::{Flat, Tally};
 use std::alloc::Allocator;
 
-// Reverses the order of the lines.
+// Reverses the order of the lines. Lines of one cell are reversed as one part.
 pub(super) fn reverse_lines<T, A: Allocator>(
     flat: &mut Flat<T, A>,
     lines: usize,
@@ -20,12 +20,16 @@ pub(super) fn reverse_lines<T, A: Allocator>(
         ≡ saturating_count tally.old.symmetry (lines / 2 * width) }
     ensures shift { tally.new.shift ≡ tally.old.shift }
 {
+    if width == 1 {
+        flat.reverse_for_symmetry(0, lines, tally);
+        return;
+    }
     for line in 0..lines / 2 {
         flat.swap_blocks_for_symmetry(line * width, (lines - 1 - line) * width, width, tally);
     }
 }
 
-// Reverses each line.
+// Reverses each line. A line of one cell stays.
 pub(super) fn reverse_each_line<T, A: Allocator>(
     flat: &mut Flat<T, A>,
     lines: usize,
@@ -39,6 +43,9 @@ pub(super) fn reverse_each_line<T, A: Allocator>(
         ≡ saturating_count tally.old.symmetry (lines * (width / 2)) }
     ensures shift { tally.new.shift ≡ tally.old.shift }
 {
+    if width < 2 {
+        return;
+    }
     for line in 0..lines {
         flat.reverse_for_symmetry(line * width, width, tally);
     }
