@@ -1,11 +1,11 @@
 //! A grid seen through what is pending, and replies carried back.
 use crate::asserts::{Rows, assert_rows, grid_with};
-use grid::{Axis, Command, Grid, Order, Reply, ShapeError, Symmetry, Tally};
+use grid::{Axis, Command, Grid, Order, Reply, Symmetry, Tally};
 use grid_deferred::{Deferred, carry_reply};
 use std::alloc::{AllocError, Global};
 use std::process::Abort;
 use std::test::Fail;
-use test_support::fixtures::{ORDERS, cut};
+use test_support::fixtures::ORDERS;
 
 const BOARD: Rows = &[&[1, 2], &[3, 4]];
 
@@ -139,54 +139,6 @@ fn settles_at_the_price_of_what_is_pending(rt: HostRuntime) -> Result<(), Fail> 
         (tally.symmetry(), tally.shift(), grid.order()),
         (2, 0, Order::RowMajor)
     );
-    Ok(())
-}
-
-fn is_text(cell: Option<&String>, want: &str) -> bool {
-    match cell {
-        Some(text) => text.as_str() == want,
-        None => false,
-    }
-}
-
-// Each iterator is dropped after its first cell.
-fn begins_iterators(deferred: &Deferred<'_, String>) -> bool {
-    if deferred.size() != (2, 2) {
-        return false;
-    }
-    let row = is_text(deferred.iter_row(1).next(), "c");
-    row && is_text(deferred.iter_col(1).next(), "b")
-}
-
-// The rows "a", "b" and "c", "d", in each order.
-const LETTERS: [(Order, [&'static str; 4]); 2] = [
-    (Order::RowMajor, ["a", "b", "c", "d"]),
-    (Order::ColumnMajor, ["a", "c", "b", "d"]),
-];
-
-fn texts_of(alloc: Global, letters: [&str; 4]) -> Result<Vec<String>, AllocError> {
-    let mut cells = Vec::new(alloc);
-    for letter in letters {
-        cells.push(String::from_str(alloc, letter)?)?;
-    }
-    Ok(cells)
-}
-
-fn texts(alloc: Global, order: Order, letters: [&str; 4]) -> Result<Grid<String>, ShapeError> {
-    cut(texts_of(alloc, letters)?, 2, order)
-}
-
-#[test]
-fn iterators_over_texts_are_dropped_early(rt: HostRuntime) -> Result<(), Fail> {
-    for (order, letters) in LETTERS {
-        let same = texts(rt.alloc(), order, letters)?;
-        let mut grid = texts(rt.alloc(), order, letters)?;
-        let deferred = Deferred::over(&mut grid);
-        let begun = begins_iterators(&deferred);
-        let released = deferred.release();
-        assert!(rt; begun && grid == same);
-        assert_eq!(rt; (released, grid.order()), (Symmetry::Identity, order));
-    }
     Ok(())
 }
 

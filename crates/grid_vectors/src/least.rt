@@ -1,9 +1,10 @@
 //! The counts of a step and of a deferred run, and a breadth-first search that finds the same numbers.
-use grid::{Command, Grid, Reply, Symmetry, Tally};
+use grid::{Command, Grid, Order, Reply, Symmetry, Tally};
 use grid_least::{run_deferred_by_least, step_by_least};
 use std::alloc::{AllocError, Global};
 use std::process::Abort;
 use std::test::Fail;
+use test_support::fixtures::stored;
 
 // The cells at the six places of a storage.
 type Cells = [u32; 6];
@@ -61,45 +62,39 @@ fn counts(
     )
 }
 
+// From the cells that a board of two rows has stored, a command counts the least swaps.
+fn check_step(
+    rt: &impl Abort,
+    alloc: Global,
+    cells: &[u32],
+    command: Command<u32>,
+    swaps: (u128, u128),
+) -> Result<(), Fail> {
+    let mut before = [0; 6];
+    for (place, cell) in before.iter_mut().zip(cells) {
+        *place = *cell;
+    }
+    let mut grid = stored(alloc, cells, cells.len() / 2, Order::RowMajor)?;
+    assert!(rt;
+        counts(alloc, &mut grid, command, swaps, before)?,
+        "{cells:?}"
+    );
+    Ok(())
+}
+
 #[test]
-fn flips_by_the_least_swaps(rt: HostRuntime) -> Result<(), Fail> {
-    let cells = vec![in rt.alloc(); 1, 2, 3, 4, 5, 6]?;
-    let mut grid = Grid::from_vec(cells, 3);
+fn steps_by_the_least_swaps(rt: HostRuntime) -> Result<(), Fail> {
+    let six = [1, 2, 3, 4, 5, 6];
     let flip = Command::Apply(Symmetry::FlipCols);
-    assert!(rt; counts(rt.alloc(), &mut grid, flip, (2, 0), [1, 2, 3, 4, 5, 6])?);
-    Ok(())
-}
-
-#[test]
-fn deletes_by_the_least_swaps(rt: HostRuntime) -> Result<(), Fail> {
-    let cells = vec![in rt.alloc(); 1, 2, 3, 4, 5, 6]?;
-    let mut grid = Grid::from_vec(cells, 3);
-    assert!(rt;
-        counts(
-            rt.alloc(),
-            &mut grid,
-            Command::DeleteCols(0, 1),
-            (0, 4),
-            [1, 2, 3, 4, 5, 6]
-        )?
-    );
-    Ok(())
-}
-
-#[test]
-fn pads_by_the_least_swaps(rt: HostRuntime) -> Result<(), Fail> {
-    let cells = vec![in rt.alloc(); 1, 2, 3, 4]?;
-    let mut grid = Grid::from_vec(cells, 2);
-    assert!(rt;
-        counts(
-            rt.alloc(),
-            &mut grid,
-            Command::PrependCols(1),
-            (0, 4),
-            [1, 2, 3, 4, 0, 0]
-        )?
-    );
-    Ok(())
+    check_step(&rt, rt.alloc(), &six, flip, (2, 0))?;
+    check_step(&rt, rt.alloc(), &six, Command::DeleteCols(0, 1), (0, 4))?;
+    check_step(
+        &rt,
+        rt.alloc(),
+        &[1, 2, 3, 4],
+        Command::PrependCols(1),
+        (0, 4),
+    )
 }
 
 #[test]

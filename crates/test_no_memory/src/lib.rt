@@ -6,6 +6,8 @@ mod asserts;
 #[cfg(test)]
 mod carried;
 #[cfg(test)]
+mod cloning;
+#[cfg(test)]
 mod commands;
 #[cfg(test)]
 mod dropped;
@@ -19,7 +21,5 @@ mod memory;
 mod play;
 #[cfg(test)]
 mod refused;
-#[cfg(test)]
-mod stops;
 #[cfg(test)]
 mod texts;

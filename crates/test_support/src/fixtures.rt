@@ -36,15 +36,6 @@ pub const SYMMETRIES: [Symmetry; 8] = [
     Symmetry::AntiTranspose,
 ];
 
-pub const MOVES: [Move; 6] = [
-    Move::Transpose,
-    Move::FlipCols,
-    Move::FlipRows,
-    Move::RotateLeft,
-    Move::RotateRight,
-    Move::RotateHalf,
-];
-
 // Rows and columns in range of a table, and some past its end.
 pub const INDICES: [usize; 6] = [0, 1, 2, 3, 4, usize::MAX];
 
