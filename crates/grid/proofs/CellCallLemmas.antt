@@ -1,23 +1,24 @@
 -- Calls of a closure at each position of a grid and the cell there.
-use Rattle.std.proofs.Common.{◌≡◌, ℕ, zero, suc, ◌*◌, ◌^◌, ◌<◌, ◌≤◌, List, [], ◌∷◌, Some, length, zip, refl, sym, subst, ◌∙◌, ap, arith, is_some, ◌∷◌}
+use Rattle.std.proofs.Common.{◌≡◌, ℕ, zero, suc, ◌*◌, ◌^◌, ◌<◌, ◌≤◌, List, [], ◌∷◌, ◌++◌, Some, Result, Ok, Err, length, zip, refl, sym, subst, ◌∙◌, ap, arith, is_some, IsSomeAnd, Option, None, IfOk}
 use Rattle.std.specs.List.{slice_get, AllZip}
 use Rattle.std.specs.Option.{unwrap_or}
 use Rattle.std.proofs.lemmas.Option.{unwrap_or-slice_get}
 use Rattle.std.proofs.Math.Nat.{mul_comm}
+use Rattle.std.proofs.lemmas.List.{length-append}
 use denote.Ref.{Bor}
 use Rattle.grid_base.specs.declared.order.Order.{Order}
 use Rattle.grid_base.specs.Table.{row_count, col_count, cell, InRange, IsSize, tabulate}
 use Rattle.grid_base.specs.Order.{table_of, place}
 use Rattle.grid_base.specs.Positions.{positions}
-use Rattle.grid_base.specs.ClosureCalls.{PairsUp, CallableAtCells, CallableAtItems, ReturnsAtCell}
+use Rattle.grid_base.specs.ClosureCalls.{PairsUp, CallableAtCells, CallableAtItems, ReturnsAtCell, FailsFirst}
 use Rattle.grid_base.specs.GridValue.{GridValue, HoldsSize}
-use Rattle.grid_base.proofs.TableLemmas.{IsFull, tabulate-same}
+use Rattle.grid_base.proofs.TableLemmas.{IsFull, tabulate-same, cell-tabulate}
 use Rattle.grid_base.proofs.StorageLemmas.{place_within, has_place}
 use Rattle.grid_base.proofs.PlaceLemmas.{get-places, length-places}
 use Rattle.grid_base.proofs.PlacedCellLemmas.{zip_within}
 use Rattle.grid_base.proofs.ViewLemmas.{view-rows, view-cols, view-cell}
-use Rattle.grid.specs.AllCells.{CallableAtPositions, TabulatedBy}
-use Rattle.grid.specs.Make.{IsMade, CallableOver, TabulatedOver}
+use Rattle.grid.specs.AllCells.{CallableAtPositions, TabulatedBy, AnsweredBy}
+use Rattle.grid.specs.Make.{IsMade, CallableOver, TabulatedOver, AnsweredOver, FailsAt}
 use Rattle.grid.specs.View.{grid_value}
 use Rattle.grid.proofs.SeenLemmas.{seen_rows, seen_cols}
 
@@ -118,6 +119,24 @@ module _ {A : Type 0} (o : Order) (m n : ℕ) (cells : List A) (v : GridValue A)
         let made : table_of o m n news ≡ tabulate m n g = tabulate-same m n (λ r c. slice_get news (place o m n r c)) g (λ r c lr lc. sym (same r c lr lc)) full in
         made ∙ (ap (λ x. tabulate x n g) (sym (seen_rows o m n cells v h e)) ∙ ap (λ x. tabulate (row_count v.rows) x g) (sym (seen_cols o m n cells v h e)))
 
+    -- each of its cells is an answer
+    pub seen_answered : AnsweredBy returns f v.rows (table_of o m n news)
+    seen_answered r c within =
+        let w = called r c (omega (arith, within.0, seen_rows o m n cells v h e)) (omega (arith, within.1, seen_cols o m n cells v h e)) in
+        let fits : HoldsSize m n (length news) = subst (HoldsSize m n) (sym len) h in
+        let is : cell (table_of o m n news) r c ≡ Some w.y =
+        view-cell o m n news fits r c (omega (arith, within.0, seen_rows o m n cells v h e)) (omega (arith, within.1, seen_cols o m n cells v h e)) ∙ w.is in
+        subst (λ z. IsSomeAnd z (λ y. (p : Bor A) × (cell v.rows r c ≡ Some p.now) × returns f (r, c) p y)) (sym is) (w.p, w.old, w.says)
+
+at_seam : {X : Type 0} (xs : List X) (x : X) (ys : List X) → slice_get (xs ++ x ∷ ys) (length xs) ≡ Some x
+at_seam [] x ys = refl
+at_seam (y ∷ xs) x ys = at_seam xs x ys
+
+before_seam : {X : Type 0} (xs ys : List X) (k : ℕ) → k < length xs → slice_get (xs ++ ys) k ≡ slice_get xs k
+before_seam [] ys k lt = absurd (omega arith)
+before_seam (x ∷ xs) ys zero lt = refl
+before_seam (x ∷ xs) ys (suc k) lt = before_seam xs ys k (omega arith)
+
 module _ (o : Order) (m n : ℕ) (z : IsSize m n) where
   -- a closure that can be called at each position can be called along the positions
   pub callable_positions : {F : Type 0} (takes : F → ℕ × ℕ → Type 0) (f : F) → m < 2 ^ 64 → n < 2 ^ 64 → m * n < 2 ^ 64 → CallableOver takes f m n → CallableAtItems takes f (positions o m n)
@@ -137,6 +156,48 @@ module _ (o : Order) (m n : ℕ) (z : IsSize m n) where
       let given : (r c : ℕ) (lr : r < m) (lc : c < n) → h r c ≡ Some (called r c lr lc).y = λ r c lr lc. by r c (called r c lr lc).y lr lc (called r c lr lc).by in
       let full : IsFull m n h = record { full = λ r c lr lc. ap is_some (given r c lr lc) } in
       tabulate-same m n (λ r c. slice_get cells (place o m n r c)) h (λ r c lr lc. (called r c lr lc).is ∙ sym (given r c lr lc)) full
+
+  -- each of its cells is an answer
+  pub answers_over : {F T : Type 0} (returns : F → ℕ × ℕ → T → Type 0) (f : F) (cells : List T) → PairsUp (returns f) (positions o m n) cells → AnsweredOver returns f m n (table_of o m n cells)
+  answers_over {T = T} returns f cells a r c lr lc =
+      let called : (r c : ℕ) → r < m → c < n → AnswerAt (returns f) (r, c) cells (place o m n r c) =
+      λ r c lr lc. answer_at (returns f) (positions o m n) cells (place o m n r c) (r, c) a.places (get-places o m n r c z lr lc) in
+      let full : IsFull m n (λ r c. slice_get cells (place o m n r c)) = record { full = λ r c lr lc. ap is_some (called r c lr lc).is } in
+      let w = called r c lr lc in
+      let is : cell (table_of o m n cells) r c ≡ Some w.y = cell-tabulate m n _ r c full lr lc ∙ w.is in
+      subst (λ x. IsSomeAnd x (λ y. returns f (r, c) y)) (sym is) w.by
+
+  -- what failed first along the positions failed first in storage order
+  pub fails_at : {B E : Type 0} (returns : ℕ × ℕ → Result B E → Type 0) (e : E) → FailsFirst returns (positions o m n) e → FailsAt returns o m n e
+  fails_at {B} returns e h =
+      let k = length h.done in
+      let below : k < length (positions o m n) = omega (arith, ap length h.split, length-append h.done (h.at ∷ h.rest)) in
+      let w = has_place o m n k (omega (arith, length-places o m n z)) in
+      let there : slice_get (positions o m n) k ≡ Some (w.r, w.c) = ap (slice_get (positions o m n)) (sym w.is) ∙ get-places o m n w.r w.c z w.lr w.lc in
+      let here : slice_get (positions o m n) k ≡ Some h.at = ap (λ l. slice_get l k) (sym h.split) ∙ at_seam h.done h.at h.rest in
+      let same : h.at ≡ (w.r, w.c) = cc in
+      record {
+        r = w.r;
+        c = w.c;
+        row_in = w.lr;
+        col_in = w.lc;
+        fails = subst (λ p. returns p (Err e)) same h.fails;
+        before = λ i j li lj lt.
+            let p = place o m n i j in
+            let early : slice_get h.done p ≡ Some (i, j) =
+            sym (before_seam h.done (h.at ∷ h.rest) p (omega (arith, w.is))) ∙ (ap (λ l. slice_get l p) h.split ∙ get-places o m n i j z li lj) in
+            let a = answer_at (λ x y. returns x (Ok y)) h.done h.answers p (i, j) h.before early in
+            (a.y, a.by);
+      }
+
+some_and_map : {B : Type 0} (o : Option B) {P Q : B → Type 0} → ((y : B) → P y → Q y) → IsSomeAnd o P → IsSomeAnd o Q
+some_and_map None f h = h
+some_and_map (Some y) f h = f y h
+
+-- what holds of each answer of a closure, said of each answer of another that passes its answers on
+pub answered_as : {A B V E : Type 0} (t : List (List A)) (rows : V → List (List B)) (P Q : ℕ → ℕ → Bor A → B → Type 0) (made : Result V E) → IfOk made (λ v. (r c : ℕ) → InRange t r c → IsSomeAnd (cell (rows v) r c) (λ y. (p : Bor A) × (cell t r c ≡ Some p.now) × P r c p y)) → ((r c : ℕ) (p : Bor A) (y : B) → InRange t r c → cell t r c ≡ Some p.now → P r c p y → Q r c p y) → IfOk made (λ v. (r c : ℕ) → InRange t r c → IsSomeAnd (cell (rows v) r c) (λ y. (p : Bor A) × (cell t r c ≡ Some p.now) × Q r c p y))
+answered_as t rows P Q (Ok v) h says = λ r c within. some_and_map (cell (rows v) r c) (λ y w. (w.0, w.1, says r c w.0 y within w.1 w.2)) (h r c within)
+answered_as t rows P Q (Err e) h says = tt
 
 -- a grid of the size that was asked for
 pub seen_made : {T : Type 0} (o : Order) (m n : ℕ) (cells : List T) (h : HoldsSize m n (length cells)) → 0 < m → 0 < n → IsMade o m n (grid_value o m n cells h)

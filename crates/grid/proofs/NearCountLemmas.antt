@@ -1,9 +1,9 @@
 -- A loop that counts the cells round a cell at which a closure answers true.
-use Rattle.std.proofs.Common.{◌≡◌, ℕ, suc, ◌+◌, ◌≤◌, Bool, true, false, cond, List, [], ◌∷◌, length, refl, subst, sym, ◌∙◌, ap, arith}
+use Rattle.std.proofs.Common.{◌≡◌, ℕ, suc, ◌+◌, ◌≤◌, inl, inr, Bool, true, false, cond, List, [], ◌∷◌, length, refl, subst, sym, ◌∙◌, ap, arith}
 use Rattle.std.specs.List.{count_by}
 use Rattle.std.proofs.lemmas.List.Sums.{sum_by-cons}
 use denote.Ref.{Bor}
-use Rattle.grid.specs.NearCounts.{CallableNear, IsCountNear}
+use Rattle.grid.specs.NearCounts.{CallableNear, IsCountNear, MayCount}
 
 abbrev weight : Bool → ℕ
 weight b = cond b 1 0
@@ -11,12 +11,13 @@ weight b = cond b 1 0
 module _ {F T : Type 0} (takes : F → Bor T → Type 0) (returns : F → Bor T → Bool → Type 0) (f : F) (near : List ((ℕ × ℕ) × T)) where
   -- `count` of the cells that were passed answer true, and `rest` are left
   pub record Counting (rest : List ((ℕ × ℕ) × T)) (count : ℕ) : Type 0 where
-    pub short : count + length rest ≤ 8
+    pub short : count + length rest ≤ length near
     pub callable : CallableNear takes f rest
     pub counts : (p : (ℕ × ℕ) × T → Bool) → ((at : ℕ × ℕ) (x : Bor T) (b : Bool) → returns f x b → p (at, x.now) ≡ b) → count + count_by p rest ≡ count_by p near
+    pub may : (k : ℕ) → MayCount returns f rest k → MayCount returns f near (count + k)
 
-  pub counting_none : length near ≤ 8 → CallableNear takes f near → Counting near 0
-  counting_none short can = record { short = omega arith; callable = can; counts = λ p says. omega arith }
+  pub counting_none : CallableNear takes f near → Counting near 0
+  counting_none can = record { short = omega arith; callable = can; counts = λ p says. omega arith; may = λ k m. subst (MayCount returns f near) (omega arith) m }
 
   module _ (rest left : List ((ℕ × ℕ) × T)) (count : ℕ) (at : ℕ × ℕ) (x : Bor T) (e : rest ≡ (at, x.now) ∷ left) (h : Counting rest count) where
     pub counting_takes : takes f x
@@ -31,7 +32,7 @@ module _ {F T : Type 0} (takes : F → Bor T → Type 0) (returns : F → Bor T 
         let can : Can ((at, x.now) ∷ left) = subst Can e h.callable in
         record { at = λ k p lt is. can.at (suc k) p (omega arith) is }
 
-    short_left : suc (count + length left) ≤ 8
+    short_left : suc (count + length left) ≤ length near
     short_left = omega (arith, h.short, ap length e)
 
     pub counting_yes : returns f x true → Counting left (count + 1)
@@ -42,6 +43,7 @@ module _ {F T : Type 0} (takes : F → Bor T → Type 0) (returns : F → Bor T 
           let one : weight (p (at, x.now)) ≡ 1 = ap weight (says at x true said) in
           let all : count + (weight (p (at, x.now)) + count_by p left) ≡ count_by p near = ap (λ n. count + n) (sym (sum_by-cons (λ i. weight (p i)) (at, x.now) left)) ∙ (ap (λ r. count + count_by p r) (sym e) ∙ h.counts p says) in
           omega (arith, one, all);
+      may = λ k m. subst (MayCount returns f near) (omega arith) (h.may (suc k) (subst (λ r. MayCount returns f r (suc k)) (sym e) (inr (k, refl, (x, refl, said), m))));
     }
 
     pub counting_no : returns f x false → Counting left count
@@ -52,7 +54,11 @@ module _ {F T : Type 0} (takes : F → Bor T → Type 0) (returns : F → Bor T 
           let one : weight (p (at, x.now)) ≡ 0 = ap weight (says at x false said) in
           let all : count + (weight (p (at, x.now)) + count_by p left) ≡ count_by p near = ap (λ n. count + n) (sym (sum_by-cons (λ i. weight (p i)) (at, x.now) left)) ∙ (ap (λ r. count + count_by p r) (sym e) ∙ h.counts p says) in
           omega (arith, one, all);
+      may = λ k m. h.may k (subst (λ r. MayCount returns f r k) (sym e) (inl ((x, refl, said), m)));
     }
 
   pub counting_end : (rest : List ((ℕ × ℕ) × T)) (count : ℕ) → rest ≡ [] → Counting rest count → IsCountNear returns f near count
   counting_end rest count e h p says = omega (arith, ap (count_by p) e, h.counts p says)
+
+  pub counting_ended : (rest : List ((ℕ × ℕ) × T)) (count : ℕ) → rest ≡ [] → Counting rest count → MayCount returns f near count
+  counting_ended rest count e h = subst (MayCount returns f near) (omega arith) (h.may 0 (subst (λ r. MayCount returns f r 0) (sym e) refl))

@@ -1,5 +1,5 @@
 -- What a call on all cells leaves.
-use Rattle.std.specs.Prelude.{◌≡◌, ◌<◌, ◌^◌, ℕ, Option, Some, List, map}
+use Rattle.std.specs.Prelude.{◌≡◌, ◌<◌, ◌^◌, ℕ, Option, Some, IsSomeAnd, List, map}
 use denote.Ref.{Bor}
 use Rattle.grid_base.specs.Table.{row_count, col_count, cell, InRange, tabulate}
 
@@ -21,3 +21,8 @@ module _ {F A B : Type 0} (returns : F → ℕ × ℕ → Bor A → B → Type 0
     TabulatedBy u = (h : ℕ → ℕ → Option B) →
         ((r c : ℕ) (p : Bor A) (y : B) → InRange t r c → cell t r c ≡ Some p.now
         → returns f (r, c) p y → h r c ≡ Some y) → u ≡ tabulate (row_count t) (col_count t) h
+
+    -- each cell of u is something that f may return at its position and the cell of t there
+    abbrev pub AnsweredBy : List (List B) → Type 0
+    AnsweredBy u = (r c : ℕ) → InRange t r c → IsSomeAnd (cell u r c)
+        (λ y. (p : Bor A) × (cell t r c ≡ Some p.now) × returns f (r, c) p y)

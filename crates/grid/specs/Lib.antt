@@ -19,3 +19,9 @@ pub mod EditFails
 pub mod IndexedIterators
 pub mod Parts
 pub mod NearCounts
+pub mod NearMaps
+pub mod Pasted
+pub mod Copies
+pub mod GridFails
+pub mod Resize
+pub mod DisplayText

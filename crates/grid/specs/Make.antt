@@ -13,11 +13,15 @@ use Rattle.std.specs.Prelude.{
   Option,
   Some,
   Result,
+  Ok,
+  Err,
   IsOk,
   IsErrOf,
+  IsSomeAnd,
 }
 use Rattle.grid_base.specs.declared.order.Order.{Order}
 use Rattle.grid_base.specs.Table.{row_count, col_count, cell, InRange, tabulate}
+use Rattle.grid_base.specs.Order.{place}
 use Rattle.grid_base.specs.GridValue.{GridValue}
 use Rattle.grid_commands.specs.declared.error.GridError.{GridError}
 use Rattle.grid_commands.specs.declared.error.GridError.TheVariants.{TooLarge}
@@ -64,3 +68,18 @@ module _ {F T : Type 0} (returns : F → ℕ × ℕ → T → Type 0) (f : F) (m
   TabulatedOver u = (h : ℕ → ℕ → Option T)
       → ((r c : ℕ) (y : T) → r < m → c < n → returns f (r, c) y → h r c ≡ Some y) → 0 < m → 0 < n
       → u ≡ tabulate m n h
+
+  -- each cell of u, a table of m rows and n columns, is something that f may return at its position
+  abbrev pub AnsweredOver : List (List T) → Type 0
+  AnsweredOver u = (r c : ℕ) → r < m → c < n → IsSomeAnd (cell u r c) (λ y. returns f (r, c) y)
+
+-- a call failed with e at some position, and answered at each position that is stored before it
+pub record FailsAt {B E : Type 0} (returns : ℕ × ℕ → Result B E → Type 0) (o : Order) (m n : ℕ)
+    (e : E) : Type 0 where
+  pub r : ℕ
+  pub c : ℕ
+  pub row_in : r < m
+  pub col_in : c < n
+  pub fails : returns (r, c) (Err e)
+  pub before : (i j : ℕ) → i < m → j < n → place o m n i j < place o m n r c
+      → (y : B) × returns (i, j) (Ok y)

@@ -1,5 +1,5 @@
 -- How many of the cells round a cell pass a test.
-use Rattle.std.specs.Prelude.{◌≡◌, ℕ, Bool, List, map, count_by}
+use Rattle.std.specs.Prelude.{◌≡◌, ◌⊎◌, ℕ, suc, Bool, true, false, List, [], ◌∷◌, map, count_by}
 use denote.Ref.{Bor}
 use Rattle.grid_base.specs.ClosureCalls.{CallableAtRefs}
 
@@ -13,3 +13,14 @@ abbrev pub IsCountNear : {F T : Type 0} → (F → Bor T → Bool → Type 0) �
 IsCountNear {T = T} returns f near count =
     (p : (ℕ × ℕ) × T → Bool) → ((at : ℕ × ℕ) (x : Bor T) (b : Bool) → returns f x b
     → p (at, x.now) ≡ b) → count ≡ count_by p near
+
+module _ {F T : Type 0} (returns : F → Bor T → Bool → Type 0) (f : F) where
+  -- the closure f may answer b at the cell x
+  abbrev pub MayAnswer : T → Bool → Type 0
+  MayAnswer x b = (p : Bor T) × (p.now ≡ x) × returns f p b
+
+  -- an answer of f at each of these cells can be chosen so that `count` of them are true
+  abbrev pub MayCount : List ((ℕ × ℕ) × T) → ℕ → Type 0
+  MayCount [] count = count ≡ 0
+  MayCount (n ∷ near) count = (MayAnswer n.1 false × MayCount near count)
+      ⊎ ((k : ℕ) × (count ≡ suc k) × MayAnswer n.1 true × MayCount near k)

@@ -63,3 +63,13 @@ module _ {T : Type 0} (o : Order) (m n i k : ℕ) (old new : List T) where
     pub from : (j c : ℕ) → j < k → c < n → (x : ℕ) × (m * n ≤ x) × (x < length old)
         × (cell fresh j c ≡ slice_get old x)
     pub put : table_of o (m + k) n new ≡ insert_rows i fresh (table_of o m n (take (m * n) old))
+
+module _ {T : Type 0} (o : Order) (n i k rest : ℕ) (old new : List T) where
+  -- k rows from row i on of a table of rest + k rows and n columns stand behind the cells of the
+  -- others
+  pub record RowsMovedToEnd : Type 0 where
+    pub lengths : length new ≡ length old
+    pub kept : table_of o rest n (take (rest * n) new)
+        ≡ without_rows i k (table_of o (rest + k) n old)
+    pub taken : 0 < n → 0 < k
+        → drop (rest * n) new ≡ storage o (take k (drop i (table_of o (rest + k) n old)))

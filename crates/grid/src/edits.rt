@@ -6,10 +6,15 @@ ghost use Rattle.std.specs.Prelude.{◌≡◌, ◌+◌, ◌-◌, ◌*◌, ◌^�
 ghost use Rattle.grid.specs.RowGroups.{RowGroups};
 ghost use Rattle.grid.specs.Shift.{rows_added_shift};
 
+mod append;
 mod insert;
+mod layout;
 mod pad;
 mod remove;
+mod resize;
+mod split;
 
+pub use append::GridRefused;
 use grid_base::{Groups, Order};
 
 // Returns the groups that are `count` rows before row `at` of a table. Row-major the table is one line, column-major

@@ -302,6 +302,17 @@ impl<T, A: Allocator> Grid<T, A> {
         self.flat.as_vec()
     }
 
+    /// Returns the slice of the cells, in storage order.
+    ///
+    ///     [[1, 2, 3], [4, 5, 6]]   as_slice()   row-major [1, 2, 3, 4, 5, 6], column-major [1, 4, 2, 5, 3, 6]
+    ///
+    /// Cost: constant.
+    pub fn as_slice(&self) -> &[T]
+        ensures { result.now ≡ storage self.now.order self.now.rows }
+    {
+        self.flat.as_slice()
+    }
+
     /// Returns the vector of the cells, in storage order.
     ///
     ///     [[1, 2, 3], [4, 5, 6]]   into_vec()   row-major [1, 2, 3, 4, 5, 6], column-major [1, 4, 2, 5, 3, 6]

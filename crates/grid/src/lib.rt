@@ -19,32 +19,38 @@
 //! - read: `size`, `rows`, `cols`, `order`, `is_empty`, `get`, `get_unchecked`, `grid[(row, col)]`, `flatten`,
 //!   `into_vec`
 //! - write: `set`, `get_mut`, `get_unchecked_mut`, `grid[(row, col)] = x`, `swap`, `fill`, `fill_with`, `clear`
-//! - rows and columns: `push_*`, `insert_*`, `pop_*`, `remove_*`, `delete_*`, `expand_*`, `prepend_*`
+//! - rows and columns: `push_*`, `insert_*`, `pop_*`, `remove_*`, `delete_*`, `expand_*`, `prepend_*`, `append_*`,
+//!   `split_off_*`, `resize`
 //! - iterate: `iter`, `iter_row`, `iter_col` and their forms for writing, `iter_rows`, `iter_cols`, `indexed_iter`,
 //!   `indexed_iter_mut`, `indexed_into_iter`, and a `for` over a grid
-//! - the cells round a cell: `neighbors4`, `neighbors8`, `wrapped_neighbors4`, `wrapped_neighbors8`, and how many pass a
-//!   test: `count_neighbors8`, `count_wrapped_neighbors8`
-//! - parts: `sub_grid`, `swap_rows`, `swap_cols`
-//! - the whole grid: `map`, `map_ref`, `map_indexed`, `update`, `clone`, `==`, `Hash`, `Debug`, `pretty`
+//! - the cells round a cell: `neighbors4`, `neighbors8`, `wrapped_neighbors4`, `wrapped_neighbors8`; how many pass a test,
+//!   as `count_neighbors8`; a grid of what a closure makes of them, as `map_neighbors8`
+//! - views, which copy no cell: `view` and `part`, and `turned`, `get`, `iter_row` and more on a [`GridView`]
+//! - parts: `sub_grid`, `from_view`, `paste`, `paste_clipped`, `fill_part`, `update_part`, `swap_rows`, `swap_cols`
+//! - the whole grid: `map`, `map_ref`, `map_indexed`, `update`, `clone`, `==`, `Hash`, `Debug`, `Display`, `pretty`
 //! - turn: `transpose`, `flip_rows`, `flip_cols`, `rotate_left`, `rotate_right`, `rotate_half`, and `apply` of a
-//!   [`Symmetry`], one of [`Symmetry::ALL`], to which [`reduce`] brings a list of [`Move`]s
+//!   [`Symmetry`], one of [`Symmetry::ALL`], to which [`reduce`] brings a list of [`Move`]s; `lay_out` in an order
 //! - commands as data: [`Command`], `step`, [`run`]
 #![tactic(auto)]
 
 mod command;
 mod convert;
+mod display;
 mod edits;
 mod grid;
 mod iterators;
 mod macros;
 mod neighbors;
 mod parts;
+mod paste;
 mod pretty;
 mod symmetry;
 mod traits;
+mod views;
 
 pub use command::run;
 pub use convert::can_cut;
+pub use edits::GridRefused;
 pub use grid::Grid;
 pub use grid_base::{
     GridLineIter, GridLineIterMut, GridRowIter, IndexedIntoIter, IndexedIter, IndexedIterMut, Move,
@@ -54,4 +60,5 @@ pub use grid_commands::{
     Axis, Command, GridError, LineRefused, LinesRefused, Refusal, Reply, RunStopped, ShapeError,
 };
 pub use grid_near::{Neighbors, WrappedNeighbors};
+pub use grid_view::{GridView, ViewIndexedIter, ViewIter, ViewLineIter, ViewRowIter};
 pub use iterators::GridColIter;

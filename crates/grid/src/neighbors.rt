@@ -1,138 +1,294 @@
 //! Iterators over the cells round a cell, on the grid as it is or with its edges joined.
-ghost use Rattle.std.specs.Prelude.{◌≡◌, ◌≤◌, length};
-ghost use Rattle.grid_base.specs.Table.{InRange};
+ghost use Rattle.std.specs.Prelude.{◌≡◌, ◌≤◌, length, IfOk};
+ghost use Rattle.grid_base.specs.Table.{row_count, col_count, InRange};
+ghost use Rattle.grid.specs.AllCells.{TabulatedBy, AnsweredBy};
+ghost use Rattle.grid.specs.NearMaps.{CallableRound, ReturnsRound, ReachesRound};
 ghost use Rattle.grid.specs.IndexedIterators.{GivesCells};
-ghost use Rattle.grid.specs.NearCounts.{CallableNear, IsCountNear};
+ghost use Rattle.grid.specs.NearCounts.{CallableNear, IsCountNear, MayCount};
 ghost use Rattle.grid_near.specs.Neighbors.{neighbors4, neighbors8, wrapped_neighbors4, wrapped_neighbors8, CellsInOrder, PositionsInOrder};
 
 use crate::Grid;
 use grid_near::{Neighbors, WrappedNeighbors};
-use std::alloc::Allocator;
+use std::alloc::{AllocError, Allocator};
 
 impl<T, A: Allocator> Grid<T, A> {
-    /// Returns an iterator over the cells that share a side with cell (`row`, `col`), row by row, each with its row and its
-    /// column.
+    /// Returns an iterator over the cells that share a side with the cell at this position, row by row, each with its
+    /// own.
     ///
-    ///     [[1, 2, 3], [4, 5, 6]]   neighbors4(0, 2)   ((0, 1), 2), ((1, 2), 6)
+    ///     [[1, 2, 3], [4, 5, 6]]   neighbors4((0, 2))   ((0, 1), 2), ((1, 2), 6)
     ///
-    /// Requires: both are in range.
+    /// Requires: the position is in range.
     /// Cost: each step takes the same time, in either order; no memory.
-    pub fn neighbors4(&self, row: usize, col: usize) -> Neighbors<'_, T>
-        requires { InRange self.now.rows row col }
-        ensures rest { result ≡ neighbors4 self.now.rows row col }
+    pub fn neighbors4(&self, at: (usize, usize)) -> Neighbors<'_, T>
+        requires { InRange self.now.rows at.0 at.1 }
+        ensures rest { result ≡ neighbors4 self.now.rows at.0 at.1 }
         ensures count { length result ≤ 4 }
         ensures cells { GivesCells self.now.rows result }
         ensures runs { CellsInOrder T }
         ensures positions { PositionsInOrder T }
     {
         let size = (self.row_count, self.col_count);
-        grid_near::neighbors4(self.flat.as_slice(), self.order, size, (row, col))
+        grid_near::neighbors4(self.flat.as_slice(), self.order, size, at)
     }
 
-    /// Returns an iterator over the cells that touch cell (`row`, `col`), at a side or a corner, row by row, each with its
-    /// row and its column.
+    /// Returns an iterator over the cells that touch the cell at this position, at a side or a corner, row by row, each with
+    /// its own.
     ///
-    ///     [[1, 2, 3], [4, 5, 6]]   neighbors8(0, 2)   ((0, 1), 2), ((1, 1), 5), ((1, 2), 6)
+    ///     [[1, 2, 3], [4, 5, 6]]   neighbors8((0, 2))   ((0, 1), 2), ((1, 1), 5), ((1, 2), 6)
     ///
-    /// Requires: both are in range.
+    /// Requires: the position is in range.
     /// Cost: each step takes the same time, in either order; no memory.
-    pub fn neighbors8(&self, row: usize, col: usize) -> Neighbors<'_, T>
-        requires { InRange self.now.rows row col }
-        ensures rest { result ≡ neighbors8 self.now.rows row col }
+    pub fn neighbors8(&self, at: (usize, usize)) -> Neighbors<'_, T>
+        requires { InRange self.now.rows at.0 at.1 }
+        ensures rest { result ≡ neighbors8 self.now.rows at.0 at.1 }
         ensures count { length result ≤ 8 }
         ensures cells { GivesCells self.now.rows result }
         ensures runs { CellsInOrder T }
         ensures positions { PositionsInOrder T }
     {
         let size = (self.row_count, self.col_count);
-        grid_near::neighbors8(self.flat.as_slice(), self.order, size, (row, col))
+        grid_near::neighbors8(self.flat.as_slice(), self.order, size, at)
     }
 
     /// Same as [`neighbors4`](Grid::neighbors4), on a grid whose edges meet: the last row is above the first, and the last
     /// column left of the first. It gives exactly four cells; with one row or column, or two, some of them come twice.
     ///
-    ///     [[1, 2, 3], [4, 5, 6]]   wrapped_neighbors4(0, 2)   ((1, 2), 6), ((0, 1), 2), ((0, 0), 1), ((1, 2), 6)
+    ///     [[1, 2, 3], [4, 5, 6]]   wrapped_neighbors4((0, 2))   ((1, 2), 6), ((0, 1), 2), ((0, 0), 1), ((1, 2), 6)
     ///
-    /// Requires: both are in range.
+    /// Requires: the position is in range.
     /// Cost: each step takes the same time, in either order; no memory.
-    pub fn wrapped_neighbors4(&self, row: usize, col: usize) -> WrappedNeighbors<'_, T>
-        requires { InRange self.now.rows row col }
-        ensures rest { result ≡ wrapped_neighbors4 self.now.rows row col }
+    pub fn wrapped_neighbors4(&self, at: (usize, usize)) -> WrappedNeighbors<'_, T>
+        requires { InRange self.now.rows at.0 at.1 }
+        ensures rest { result ≡ wrapped_neighbors4 self.now.rows at.0 at.1 }
         ensures count { length result ≡ 4 }
         ensures cells { GivesCells self.now.rows result }
         ensures runs { CellsInOrder T }
         ensures positions { PositionsInOrder T }
     {
         let size = (self.row_count, self.col_count);
-        grid_near::wrapped_neighbors4(self.flat.as_slice(), self.order, size, (row, col))
+        grid_near::wrapped_neighbors4(self.flat.as_slice(), self.order, size, at)
     }
 
     /// Same as [`neighbors8`](Grid::neighbors8), on a grid whose edges meet: the last row is above the first, and the last
     /// column left of the first. It gives exactly eight cells; with one row or column, or two, some of them come more than
     /// once, and the cell itself can be one of them.
     ///
-    ///     [[1, 2, 3], [4, 5, 6], [7, 8, 9]]   wrapped_neighbors8(0, 0)   9, 7, 8, 3, 2, 6, 4, 5, each with its position
+    ///     [[1, 2, 3], [4, 5, 6], [7, 8, 9]]   wrapped_neighbors8((0, 0))   9, 7, 8, 3, 2, 6, 4, 5, each with its position
     ///
-    /// Requires: both are in range.
+    /// Requires: the position is in range.
     /// Cost: each step takes the same time, in either order; no memory.
-    pub fn wrapped_neighbors8(&self, row: usize, col: usize) -> WrappedNeighbors<'_, T>
-        requires { InRange self.now.rows row col }
-        ensures rest { result ≡ wrapped_neighbors8 self.now.rows row col }
+    pub fn wrapped_neighbors8(&self, at: (usize, usize)) -> WrappedNeighbors<'_, T>
+        requires { InRange self.now.rows at.0 at.1 }
+        ensures rest { result ≡ wrapped_neighbors8 self.now.rows at.0 at.1 }
         ensures count { length result ≡ 8 }
         ensures cells { GivesCells self.now.rows result }
         ensures runs { CellsInOrder T }
         ensures positions { PositionsInOrder T }
     {
         let size = (self.row_count, self.col_count);
-        grid_near::wrapped_neighbors8(self.flat.as_slice(), self.order, size, (row, col))
+        grid_near::wrapped_neighbors8(self.flat.as_slice(), self.order, size, at)
     }
 
-    /// Returns how many of the cells that touch cell (`row`, `col`) the closure answers `true` at. It counts as fast as a
-    /// loop over [`neighbors8`](Grid::neighbors8), where `filter` and `count` do not.
+    /// Same as [`map_neighbors8`](Grid::map_neighbors8), with the iterator that [`neighbors4`](Grid::neighbors4) gives.
+    pub fn map_neighbors4<U, F: Fn((usize, usize), &T, Neighbors<'_, T>) -> U>(
+        &self,
+        f: F,
+    ) -> Result<Grid<U, A>, AllocError>
+    where
+        A: Clone,
+        requires { CallableRound neighbors4 F.pre f self.now.rows }
+        ensures order { IfOk result (λ g. g.order ≡ self.now.order) }
+        ensures rows { IfOk result (λ g. row_count g.rows ≡ row_count self.now.rows) }
+        ensures cols { IfOk result (λ g. col_count g.rows ≡ col_count self.now.rows) }
+        ensures cells { IfOk result (λ g. TabulatedBy
+            (ReturnsRound neighbors4 F.post self.now.rows) f self.now.rows g.rows) }
+        ensures answers { IfOk result (λ g. AnsweredBy
+            (ReturnsRound neighbors4 F.post self.now.rows) f self.now.rows g.rows) }
+    {
+        self.map_indexed(
+            |at, cell|
+                requires { ReachesRound neighbors4 F.pre f self.now.rows at cell }
+            { f(at, cell, self.neighbors4(at)) },
+        )
+    }
+
+    /// Returns the grid of what the closure returns at each position, a reference to the cell there, and the iterator that
+    /// [`neighbors8`](Grid::neighbors8) gives, called in storage order. The size and the order are the same.
     ///
-    ///     [[1, 2, 3], [4, 5, 6]]   count_neighbors8(0, 2, |cell| 4 < *cell)   2: the cells 5 and 6
+    ///     [[1, 2, 3], [4, 5, 6]]   map_neighbors8(|_, x, near| near.fold(*x, |sum, (_, y)| sum + *y))
+    ///                              [[12, 21, 16], [12, 21, 16]]
     ///
-    /// Requires: both are in range, and the closure can be called at a reference to each of these cells.
+    /// Requires: the closure can be called at each position, a reference to the cell there, and the cells round it.
+    /// Fails: where memory is refused; the closure wasn't called.
+    /// Cost: one call for each cell; one allocation, before the first call.
+    pub fn map_neighbors8<U, F: Fn((usize, usize), &T, Neighbors<'_, T>) -> U>(
+        &self,
+        f: F,
+    ) -> Result<Grid<U, A>, AllocError>
+    where
+        A: Clone,
+        requires { CallableRound neighbors8 F.pre f self.now.rows }
+        ensures order { IfOk result (λ g. g.order ≡ self.now.order) }
+        ensures rows { IfOk result (λ g. row_count g.rows ≡ row_count self.now.rows) }
+        ensures cols { IfOk result (λ g. col_count g.rows ≡ col_count self.now.rows) }
+        ensures cells { IfOk result (λ g. TabulatedBy
+            (ReturnsRound neighbors8 F.post self.now.rows) f self.now.rows g.rows) }
+        ensures answers { IfOk result (λ g. AnsweredBy
+            (ReturnsRound neighbors8 F.post self.now.rows) f self.now.rows g.rows) }
+    {
+        self.map_indexed(
+            |at, cell|
+                requires { ReachesRound neighbors8 F.pre f self.now.rows at cell }
+            { f(at, cell, self.neighbors8(at)) },
+        )
+    }
+
+    /// Same as [`map_neighbors8`](Grid::map_neighbors8), with the iterator that
+    /// [`wrapped_neighbors4`](Grid::wrapped_neighbors4) gives.
+    pub fn map_wrapped_neighbors4<U, F: Fn((usize, usize), &T, WrappedNeighbors<'_, T>) -> U>(
+        &self,
+        f: F,
+    ) -> Result<Grid<U, A>, AllocError>
+    where
+        A: Clone,
+        requires { CallableRound wrapped_neighbors4 F.pre f self.now.rows }
+        ensures order { IfOk result (λ g. g.order ≡ self.now.order) }
+        ensures rows { IfOk result (λ g. row_count g.rows ≡ row_count self.now.rows) }
+        ensures cols { IfOk result (λ g. col_count g.rows ≡ col_count self.now.rows) }
+        ensures cells { IfOk result (λ g. TabulatedBy
+            (ReturnsRound wrapped_neighbors4 F.post self.now.rows) f self.now.rows g.rows) }
+        ensures answers { IfOk result (λ g. AnsweredBy
+            (ReturnsRound wrapped_neighbors4 F.post self.now.rows) f self.now.rows g.rows) }
+    {
+        self.map_indexed(
+            |at, cell|
+                requires { ReachesRound wrapped_neighbors4 F.pre f self.now.rows at cell }
+            { f(at, cell, self.wrapped_neighbors4(at)) },
+        )
+    }
+
+    /// Same as [`map_neighbors8`](Grid::map_neighbors8), with the iterator that
+    /// [`wrapped_neighbors8`](Grid::wrapped_neighbors8) gives.
+    pub fn map_wrapped_neighbors8<U, F: Fn((usize, usize), &T, WrappedNeighbors<'_, T>) -> U>(
+        &self,
+        f: F,
+    ) -> Result<Grid<U, A>, AllocError>
+    where
+        A: Clone,
+        requires { CallableRound wrapped_neighbors8 F.pre f self.now.rows }
+        ensures order { IfOk result (λ g. g.order ≡ self.now.order) }
+        ensures rows { IfOk result (λ g. row_count g.rows ≡ row_count self.now.rows) }
+        ensures cols { IfOk result (λ g. col_count g.rows ≡ col_count self.now.rows) }
+        ensures cells { IfOk result (λ g. TabulatedBy
+            (ReturnsRound wrapped_neighbors8 F.post self.now.rows) f self.now.rows g.rows) }
+        ensures answers { IfOk result (λ g. AnsweredBy
+            (ReturnsRound wrapped_neighbors8 F.post self.now.rows) f self.now.rows g.rows) }
+    {
+        self.map_indexed(
+            |at, cell|
+                requires { ReachesRound wrapped_neighbors8 F.pre f self.now.rows at cell }
+            { f(at, cell, self.wrapped_neighbors8(at)) },
+        )
+    }
+
+    /// Same as [`count_neighbors8`](Grid::count_neighbors8), of the cells of [`neighbors4`](Grid::neighbors4).
+    ///
+    ///     [[1, 2, 3], [4, 5, 6]]   count_neighbors4((0, 2), |cell| 4 < *cell)   1: the cell 6
+    ///
+    /// Requires: the position is in range, and the closure can be called at a reference to each of these cells.
+    /// Cost: one call for each of the cells, at most four; no memory.
+    pub fn count_neighbors4<F: Fn(&T) -> bool>(&self, at: (usize, usize), test: F) -> usize
+        requires in_range { InRange self.now.rows at.0 at.1 }
+        requires callable { CallableNear F.pre test (neighbors4 self.now.rows at.0 at.1) }
+        ensures count { IsCountNear F.post test (neighbors4 self.now.rows at.0 at.1) result }
+        ensures answers { MayCount F.post test (neighbors4 self.now.rows at.0 at.1) result }
+        ensures at_most { result ≤ 4 }
+    {
+        count_near(self.neighbors4(at), test)
+    }
+
+    /// Returns how many of the cells that touch the cell at this position the closure answers `true` at. It counts as fast
+    /// as a loop over [`neighbors8`](Grid::neighbors8), where `filter` and `count` do not.
+    ///
+    ///     [[1, 2, 3], [4, 5, 6]]   count_neighbors8((0, 2), |cell| 4 < *cell)   2: the cells 5 and 6
+    ///
+    /// Requires: the position is in range, and the closure can be called at a reference to each of these cells.
     /// Cost: one call for each of the cells, at most eight; no memory.
-    pub fn count_neighbors8<F: Fn(&T) -> bool>(&self, row: usize, col: usize, test: F) -> usize
-        requires in_range { InRange self.now.rows row col }
-        requires callable { CallableNear F.pre test (neighbors8 self.now.rows row col) }
-        ensures count { IsCountNear F.post test (neighbors8 self.now.rows row col) result }
+    pub fn count_neighbors8<F: Fn(&T) -> bool>(&self, at: (usize, usize), test: F) -> usize
+        requires in_range { InRange self.now.rows at.0 at.1 }
+        requires callable { CallableNear F.pre test (neighbors8 self.now.rows at.0 at.1) }
+        ensures count { IsCountNear F.post test (neighbors8 self.now.rows at.0 at.1) result }
+        ensures answers { MayCount F.post test (neighbors8 self.now.rows at.0 at.1) result }
         ensures at_most { result ≤ 8 }
     {
-        let mut count = 0;
-        for (_, cell) in self.neighbors8(row, col) {
-            if test(cell) {
-                count += 1;
-            }
-        }
-        count
+        count_near(self.neighbors8(at), test)
+    }
+
+    /// Same as [`count_neighbors8`](Grid::count_neighbors8), of the four cells of
+    /// [`wrapped_neighbors4`](Grid::wrapped_neighbors4).
+    ///
+    ///     [[1, 2, 3], [4, 5, 6], [7, 8, 9]]   count_wrapped_neighbors4((0, 0), |cell| 3 < *cell)   2: 7, 4
+    ///
+    /// Requires: the position is in range, and the closure can be called at a reference to each of these cells.
+    /// Cost: four calls; no memory.
+    pub fn count_wrapped_neighbors4<F: Fn(&T) -> bool>(&self, at: (usize, usize), test: F) -> usize
+        requires in_range { InRange self.now.rows at.0 at.1 }
+        requires callable { CallableNear F.pre test (wrapped_neighbors4 self.now.rows at.0 at.1) }
+        ensures count { IsCountNear F.post test (wrapped_neighbors4 self.now.rows at.0 at.1) result }
+        ensures answers { MayCount F.post test (wrapped_neighbors4 self.now.rows at.0 at.1) result }
+        ensures at_most { result ≤ 4 }
+    {
+        count_wrapped(self.wrapped_neighbors4(at), test)
     }
 
     /// Same as [`count_neighbors8`](Grid::count_neighbors8), of the eight cells of
     /// [`wrapped_neighbors8`](Grid::wrapped_neighbors8).
     ///
-    ///     [[1, 2, 3], [4, 5, 6], [7, 8, 9]]   count_wrapped_neighbors8(0, 0, |cell| 4 < *cell)   5: 5, 6, 7, 8, 9
+    ///     [[1, 2, 3], [4, 5, 6], [7, 8, 9]]   count_wrapped_neighbors8((0, 0), |cell| 4 < *cell)   5: 5, 6, 7, 8, 9
     ///
-    /// Requires: both are in range, and the closure can be called at a reference to each of these cells.
+    /// Requires: the position is in range, and the closure can be called at a reference to each of these cells.
     /// Cost: eight calls; no memory.
-    pub fn count_wrapped_neighbors8<F: Fn(&T) -> bool>(
-        &self,
-        row: usize,
-        col: usize,
-        test: F,
-    ) -> usize
-        requires in_range { InRange self.now.rows row col }
-        requires callable { CallableNear F.pre test (wrapped_neighbors8 self.now.rows row col) }
-        ensures count { IsCountNear F.post test (wrapped_neighbors8 self.now.rows row col) result }
+    pub fn count_wrapped_neighbors8<F: Fn(&T) -> bool>(&self, at: (usize, usize), test: F) -> usize
+        requires in_range { InRange self.now.rows at.0 at.1 }
+        requires callable { CallableNear F.pre test (wrapped_neighbors8 self.now.rows at.0 at.1) }
+        ensures count { IsCountNear F.post test (wrapped_neighbors8 self.now.rows at.0 at.1) result }
+        ensures answers { MayCount F.post test (wrapped_neighbors8 self.now.rows at.0 at.1) result }
         ensures at_most { result ≤ 8 }
     {
-        let mut count = 0;
-        for (_, near) in self.wrapped_neighbors8(row, col) {
-            if test(near) {
-                count += 1;
-            }
-        }
-        count
+        count_wrapped(self.wrapped_neighbors8(at), test)
     }
+}
+
+// How many of these cells the closure answers `true` at.
+fn count_near<T, F: Fn(&T) -> bool>(near: Neighbors<'_, T>, test: F) -> usize
+    requires most { length near ≤ 8 }
+    requires callable { CallableNear F.pre test near }
+    ensures count { IsCountNear F.post test near.entry result }
+    ensures answers { MayCount F.post test near.entry result }
+    ensures at_most { result ≤ length near.entry }
+{
+    let mut count = 0;
+    for (_, cell) in near {
+        if test(cell) {
+            count += 1;
+        }
+    }
+    count
+}
+
+// How many of these cells the closure answers `true` at.
+fn count_wrapped<T, F: Fn(&T) -> bool>(near: WrappedNeighbors<'_, T>, test: F) -> usize
+    requires most { length near ≤ 8 }
+    requires callable { CallableNear F.pre test near }
+    ensures count { IsCountNear F.post test near.entry result }
+    ensures answers { MayCount F.post test near.entry result }
+    ensures at_most { result ≤ length near.entry }
+{
+    let mut count = 0;
+    for (_, cell) in near {
+        if test(cell) {
+            count += 1;
+        }
+    }
+    count
 }

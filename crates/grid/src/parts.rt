@@ -1,12 +1,12 @@
 //! A part of a grid as a new grid, and rows or columns that change places.
-ghost use Rattle.std.specs.Prelude.{◌≡◌, ◌<◌, ◌≤◌, ◌+◌, ◌*◌, ◌^◌, length, IfOk};
+ghost use Rattle.std.specs.Prelude.{◌≡◌, ◌<◌, ◌≤◌, ◌+◌, IfOk};
 ghost use Rattle.std.specs.List.{swap};
 ghost use Rattle.grid_base.specs.Clones.{ClonesAreEqual};
 ghost use Rattle.grid_base.specs.Table.{row_count, col_count};
 ghost use Rattle.grid.specs.Make.{IsMade};
-ghost use Rattle.grid.specs.Parts.{sub_table, cols_swapped, IsBlock, IsStoredPart};
+ghost use Rattle.grid.specs.Parts.{sub_table, cols_swapped};
 
-use crate::{Grid, Order};
+use crate::Grid;
 use std::alloc::{AllocError, Allocator};
 
 impl<T, A: Allocator> Grid<T, A> {
@@ -34,33 +34,7 @@ impl<T, A: Allocator> Grid<T, A> {
             → part.rows ≡ sub_table self.now.rows at size) }
     {
         let alloc = self.flat.allocator().clone()?;
-        let cells = self.clone_part(alloc, at, size)?;
-        Ok(Grid::from_vec_with_order(cells, size.1, self.order))
-    }
-
-    // Returns clones of the cells of a part, in storage order.
-    fn clone_part(
-        &self,
-        alloc: A,
-        at: (usize, usize),
-        size: (usize, usize),
-    ) -> Result<Vec<T, A>, AllocError>
-    where
-        T: Clone,
-        requires clones { ClonesAreEqual T.is_clone }
-        requires rows_in { at.0 + size.0 ≤ row_count self.now.rows }
-        requires cols_in { at.1 + size.1 ≤ col_count self.now.rows }
-        ensures { IfOk result (λ part.
-            IsStoredPart self.now.order at size self.now.rows part.items) }
-    {
-        let cells = self.flat.as_slice();
-        match self.order {
-            Order::RowMajor => clone_block(alloc, cells, self.col_count, at, size),
-            Order::ColumnMajor => {
-                let (at, size) = ((at.1, at.0), (size.1, size.0));
-                clone_block(alloc, cells, self.row_count, at, size)
-            }
-        }
+        Grid::from_view(alloc, self.order, &self.part(at, size))
     }
 
     /// Exchanges two rows. No tally counts it.
@@ -100,28 +74,4 @@ impl<T, A: Allocator> Grid<T, A> {
             self.swap((row, a), (row, b));
         }
     }
-}
-
-// Returns clones of a block of cells: `size.0` lines of `size.1` cells, from cell `at.1` of line `at.0` on. The lines of
-// the slice have `width` cells.
-fn clone_block<T: Clone, A: Allocator>(
-    alloc: A,
-    cells: &[T],
-    width: usize,
-    at: (usize, usize),
-    size: (usize, usize),
-) -> Result<Vec<T, A>, AllocError>
-    requires clones { ClonesAreEqual T.is_clone }
-    requires lines { at.0 + size.0 < 2 ^ 64 }
-    requires lines_in { (at.0 + size.0) * width ≤ length cells.now }
-    requires line_in { at.1 + size.1 ≤ width }
-    requires fits { length cells.now < 2 ^ 64 }
-    ensures { IfOk result (λ block. IsBlock width at size cells.now block.items) }
-{
-    let mut block = Vec::with_capacity(alloc, size.0 * size.1)?;
-    for line in 0..size.0 {
-        let start = (at.0 + line) * width + at.1;
-        block.extend_with_clones(&cells[start..start + size.1])?;
-    }
-    Ok(block)
 }

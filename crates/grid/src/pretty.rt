@@ -1,12 +1,18 @@
 //! The text of a grid of whole numbers.
-ghost use Rattle.std.specs.Prelude.{◌≡◌, ◌<◌, ◌++◌, [], map, IfOk, OnOk, string_bytes};
+ghost use Rattle.std.specs.Prelude.{◌≡◌, ◌<◌, ◌++◌, [], map, IfOk, OnOk, nat_lt, if◌then◌else◌, string_bytes};
 ghost use Rattle.grid_base.specs.Table.{row, row_count, concat_rows};
 ghost use Rattle.grid.specs.Texts.{numbers, longest, row_line, width_or_longest, pretty_text};
 
 use crate::Grid;
-use crate::traits::separator_before;
 use grid_base::Whole;
 use std::alloc::{AllocError, Allocator};
+
+// Returns what stands before the item at an index: nothing before the first, else the separator.
+pub(crate) fn separator_before(index: usize, separator: &'static str) -> &'static str
+    ensures { result.now ≡ (if nat_lt 0 index then separator.now else []) }
+{
+    if index > 0 { separator } else { "" }
+}
 
 impl<T: Whole, A: Allocator> Grid<T, A> {
     // Returns the length of the longest number of row `r`, which is in range. Each number is written into the text,

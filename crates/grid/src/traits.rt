@@ -1,14 +1,14 @@
 //! Clones of grids; and their equality, hash and debug text, which speak of the rows and not of the order.
-ghost use Rattle.std.specs.Prelude.{◌≡◌, ◌<◌, [], IfOk, nat_lt, if◌then◌else◌};
-ghost use Rattle.std.specs.Fmt.{DisplaysOnOk, debug_list};
+ghost use Rattle.std.specs.Prelude.{◌≡◌, ◌<◌, IfOk};
 ghost use Rattle.std.specs.List.{flat_map, fold};
-ghost use lib.Pointwise.{pointwise};
 ghost use Rattle.grid_base.specs.Clones.{ClonesAreEqual};
-ghost use Rattle.grid_base.specs.Table.{row, row_count, col_count};
+ghost use Rattle.grid_base.specs.Table.{row, row_count};
+ghost use Rattle.grid.specs.Copies.{IsGridClone};
 ghost use Rattle.grid.specs.Same.{same_cells, same_cells_per, same_cells_equiv, table_feed, table_feed_respects};
 ghost use Rattle.grid.specs.Texts.{table_text};
 
 use crate::Grid;
+use grid_base::Flat;
 use std::alloc::{AllocError, Allocator};
 use std::fmt;
 use std::hash::{Hash, Hasher};
@@ -33,36 +33,23 @@ impl<T: Clone, A: Allocator + Clone> Grid<T, A> {
     }
 }
 
-impl<T: PartialEq, A: Allocator> Grid<T, A> {
-    // Whether row `r`, which is in range, is the same in a grid of the same size.
-    fn has_same_row(&self, other: &Grid<T, A>, r: usize) -> bool
-        requires here { r < row_count self.now.rows }
-        requires there { r < row_count other.now.rows }
-        requires cols { col_count self.now.rows ≡ col_count other.now.rows }
-        ensures { result ≡ pointwise T.eq (row self.now.rows r) (row other.now.rows r) }
-    {
-        let (_, cols) = self.size();
-        for col in 0..cols {
-            if self.get_unchecked(r, col) != other.get_unchecked(r, col) {
-                return false;
-            }
-        }
-        true
-    }
+/// Returns a grid of clones of the cells, with the same order. This is what `T: Clone` and `#[derive(Clone)]` call; of a
+/// grid, `grid.clone()` is the inherent [`clone`](Grid::clone), which asks that clones equal their source.
+///
+/// Fails: where memory is refused, for the vector or for a clone.
+/// Cost: one clone for each cell.
+impl<T: Clone, A: Allocator + Clone> Clone for Grid<T, A> {
+    ghost is_clone = { IsGridClone T.is_clone };
 
-    // Whether all rows are the same in a grid of the same size.
-    fn has_same_rows(&self, other: &Grid<T, A>) -> bool
-        requires rows { row_count self.now.rows ≡ row_count other.now.rows }
-        requires cols { col_count self.now.rows ≡ col_count other.now.rows }
-        ensures { result ≡ same_cells T.eq self.now other.now }
-    {
-        let (rows, _) = self.size();
-        for row in 0..rows {
-            if !self.has_same_row(other, row) {
-                return false;
-            }
-        }
-        true
+    fn clone(&self) -> Result<Self, AllocError> {
+        let cells = self.flat.as_vec().clone()?;
+        let order = self.order;
+        Ok(Grid {
+            flat: Flat::from_vec(cells),
+            row_count: self.row_count,
+            col_count: self.col_count,
+            order,
+        })
     }
 }
 
@@ -86,7 +73,7 @@ impl<T: PartialEq, A: Allocator> PartialEq for Grid<T, A> {
         if self.order() == other.order() {
             return self.flatten() == other.flatten();
         }
-        self.has_same_rows(other)
+        self.view() == other.view()
     }
 }
 
@@ -125,31 +112,6 @@ impl<T: Hash, A: Allocator> Hash for Grid<T, A> {
     }
 }
 
-// Returns what stands before the item at an index: nothing before the first, else the separator.
-pub(crate) fn separator_before(index: usize, separator: &'static str) -> &'static str
-    ensures { result.now ≡ (if nat_lt 0 index then separator.now else []) }
-{
-    if index > 0 { separator } else { "" }
-}
-
-impl<T: fmt::Debug, A: Allocator> Grid<T, A> {
-    // Writes row `r`, which is in range, as a debug list.
-    fn write_row<W: fmt::Write>(&self, r: usize, f: &mut fmt::Formatter<W>) -> fmt::Result
-        requires { r < row_count self.now.rows }
-        ensures { DisplaysOnOk W.write_str_gives f.old result
-            (debug_list T.debug_output (row self.now.rows r)) f.new }
-    {
-        let (_, cols) = self.size();
-        write!(f, "[")?;
-        for col in 0..cols {
-            let comma = separator_before(col, ", ");
-            let cell = self.get_unchecked(r, col);
-            write!(f, "{comma}{cell:?}")?;
-        }
-        write!(f, "]")
-    }
-}
-
 /// Writes `[`, each row as a debug list with nothing between two, and `]`. The text is the same in either order.
 ///
 ///     [[1, 2], [3, 4]]   {:?}   "[[1, 2][3, 4]]"
@@ -158,11 +120,6 @@ impl<T: fmt::Debug, A: Allocator> fmt::Debug for Grid<T, A> {
     ghost debug_output = { λ grid. table_text T.debug_output grid.rows };
 
     fn fmt<W: fmt::Write>(&self, f: &mut fmt::Formatter<W>) -> fmt::Result {
-        let (rows, _) = self.size();
-        write!(f, "[")?;
-        for row in 0..rows {
-            self.write_row(row, f)?;
-        }
-        write!(f, "]")
+        self.view().fmt(f)
     }
 }

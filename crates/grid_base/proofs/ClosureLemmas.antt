@@ -1,8 +1,8 @@
 -- Closures, call by call.
-use Rattle.std.proofs.Common.{◌≡◌, ℕ, zero, suc, List, [], ◌∷◌, ◌++◌, map, refl, sym, subst, ◌∙◌, ap, length, take, arith}
+use Rattle.std.proofs.Common.{◌≡◌, ℕ, zero, suc, ◌+◌, Some, List, [], ◌∷◌, ◌++◌, map, refl, sym, subst, ◌∙◌, ap, length, take, arith, add-one}
 use Rattle.std.proofs.lemmas.List.{length-append}
 use Rattle.std.proofs.Math.Seq.{get_or-append_seam}
-use Rattle.std.specs.List.{FoldsTo, AllZip}
+use Rattle.std.specs.List.{FoldsTo, AllZip, slice_get}
 use denote.Param.Members.{Mut, Called}
 use denote.Param.Always.{always_mut, mut_next}
 use denote.Ref.{Bor}
@@ -97,3 +97,14 @@ take_whole (suc n) (x ∷ xs) h = ap (λ l. x ∷ l) (take_whole n xs (omega ari
 
 pub take_front : {A : Type 0} (n : ℕ) (xs ys : List A) → length xs ≡ n → take n (xs ++ ys) ≡ xs
 take_front n xs ys h = ap (λ k. take k (xs ++ ys)) (sym h) ∙ take_seam xs ys
+
+take_at_suc : {X : Type 0} (xs : List X) (k : ℕ) (x : X) → slice_get xs k ≡ Some x → take (suc k) xs ≡ take k xs ++ x ∷ []
+take_at_suc [] k x h = cc
+take_at_suc (y ∷ xs) zero x h = let same : y ≡ x = cc in ap (λ z. z ∷ []) same
+take_at_suc (y ∷ xs) (suc k) x h = ap (λ l. y ∷ l) (take_at_suc xs k x h)
+
+-- one more answer, to the item after those that were answered
+pub answers_more : {A B : Type 0} (R : A → B → Type 0) (xs : List A) (n : ℕ) (ys : List B) (x : A) (y : B) → slice_get xs n ≡ Some x → AllZip R (take n xs) ys → R x y → AllZip R (take (n + 1) xs) (ys ++ y ∷ [])
+answers_more R xs n ys x y h a r =
+    let e : take (n + 1) xs ≡ take n xs ++ x ∷ [] = rw add-one (take_at_suc xs n x h) in
+    rw e (AllZip-append R (take n xs) ys x y a r)

@@ -1,13 +1,16 @@
 -- The positions of a table's cells, one after another.
-use Rattle.std.proofs.Common.{◌≡◌, ℕ, zero, suc, ◌+◌, ◌*◌, ◌-◌, ◌<◌, ◌≤◌, ⊎_elim, Option, Some, List, [], ◌∷◌, length, drop, refl, sym, ◌∙◌, ap, arith, add-one, length-drop}
+use Rattle.std.proofs.Common.{◌≡◌, ℕ, zero, suc, ◌+◌, ◌*◌, ◌-◌, ◌/◌, ◌%◌, ◌<◌, ◌≤◌, ⊎_elim, Option, Some, List, [], ◌∷◌, length, drop, refl, sym, subst, ◌∙◌, ap, arith, add-one, length-drop}
 use Rattle.std.specs.List.{slice_get}
 use Rattle.std.proofs.lemmas.List.{drop_all}
+use Rattle.std.proofs.lemmas.Nat.{div_below, mod_below, div-add-mod'}
+use Rattle.std.proofs.Math.Nat.{mul_comm}
 use Rattle.grid_base.specs.declared.order.Order.{Order}
+use Rattle.grid_base.specs.declared.order.Order.TheVariants.{RowMajor, ColumnMajor}
 use Rattle.grid_base.specs.Table.{row_count, col_count, IsSize, tabulate}
 use Rattle.grid_base.specs.Order.{storage, place}
-use Rattle.grid_base.specs.Positions.{positions, StandsAt}
+use Rattle.grid_base.specs.Positions.{positions, StandsAt, along}
 use Rattle.grid_base.proofs.TableLemmas.{rows-tabulate, cols-tabulate, cell-tabulate, IsFull, IsTable-tabulate}
-use Rattle.grid_base.proofs.StorageLemmas.{length-storage, get-storage, place_within}
+use Rattle.grid_base.proofs.StorageLemmas.{length-storage, get-storage, get-drop, place_within}
 
 abbrev pair_at : ℕ → ℕ → Option (ℕ × ℕ)
 pair_at r c = Some (r, c)
@@ -66,3 +69,55 @@ pub none_left : (o : Order) (m n r c : ℕ) → StandsAt o m n r c → ((r < m �
 none_left o m n r c h past =
     ⊎_elim (λ inside. absurd (past inside))
     (λ last. drop_all (place o m n r c) (positions o m n) (omega (arith, length-places o m n h.size))) h.next
+
+-- where some are left, the next is in range
+pub one_left : (o : Order) (m n r c : ℕ) → StandsAt o m n r c → 0 < length (drop (place o m n r c) (positions o m n)) → (r < m) × (c < n)
+one_left o m n r c h lt =
+    ⊎_elim (λ inside. inside) (λ last. absurd (omega (arith, length-left o m n r c h))) h.next
+
+get_at : (o : Order) (m n l k i : ℕ) (at : ℕ × ℕ) → IsSize m n → l < (along o m n).0 → k < (along o m n).1 → i ≡ l * (along o m n).1 + k → at ≡ along o l k → slice_get (positions o m n) i ≡ Some at
+get_at RowMajor m n l k i at z ll lk e ea =
+    ap (slice_get (positions RowMajor m n)) e ∙ (get-places RowMajor m n l k z ll lk ∙ ap Some (sym ea))
+get_at ColumnMajor m n l k i at z ll lk e ea =
+    ap (slice_get (positions ColumnMajor m n)) e ∙ (get-places ColumnMajor m n k l z lk ll ∙ ap Some (sym ea))
+
+-- the cell in place k of line l along the storage, which starts at cell b
+pub get_along : (o : Order) (m n l k b i : ℕ) (size at : ℕ × ℕ) → IsSize m n → l < (along o m n).0 → size ≡ along o m n → k < size.1 → b ≡ l * (along o m n).1 → i ≡ b + k → at ≡ along o l k → slice_get (positions o m n) i ≡ Some at
+get_along o m n l k b i size at z ll es lk e ei ea =
+    get_at o m n l k i at z ll (subst (λ (p : ℕ × ℕ). k < p.1) es lk) (ei ∙ ap (λ x. x + k) e) ea
+
+-- past the last line all cells are passed
+all_along : (o : Order) (m n : ℕ) → (along o m n).0 * (along o m n).1 ≡ m * n
+all_along RowMajor m n = refl
+all_along ColumnMajor m n = mul_comm n m
+
+pub all_passed : (o : Order) (m n l i : ℕ) (size : ℕ × ℕ) → IsSize m n → size ≡ along o m n → l ≡ size.0 → i ≡ l * (along o m n).1 → length (positions o m n) ≡ i
+all_passed o m n l i size z es el e =
+    let same : l ≡ (along o m n).0 = el ∙ ap (λ (p : ℕ × ℕ). p.0) es in
+    length-places o m n z ∙ (sym (all_along o m n) ∙ (ap (λ x. x * (along o m n).1) (sym same) ∙ sym e))
+
+some_wide : (l w i : ℕ) → i < l * w → 0 < w
+some_wide l zero i lt = absurd (omega (arith, lt))
+some_wide l (suc w) i lt = omega arith
+
+-- the position that comes after the next k, by the number i of its cell
+module _ (o : Order) (m n r c k i : ℕ) (size : ℕ × ℕ) (h : StandsAt o m n r c) (some : k < length (drop (place o m n r c) (positions o m n))) (es : size ≡ along o m n) (ei : i ≡ m * n - (length (drop (place o m n r c) (positions o m n)) - k)) where
+  number : place o m n r c + k ≡ i
+  number = omega (arith, length-left o m n r c h, within-places o m n r c h)
+
+  among : i < (along o m n).0 * (along o m n).1
+  among = omega (arith, number, length-left o m n r c h, all_along o m n)
+
+  wide : 0 < (along o m n).1
+  wide = some_wide (along o m n).0 (along o m n).1 i among
+
+  pub ahead_wide : 0 < size.1
+  ahead_wide = subst (λ (p : ℕ × ℕ). 0 < p.1) (sym es) wide
+
+  pub get_ahead : (at : ℕ × ℕ) → at ≡ along o (i / size.1) (i % size.1) → slice_get (drop (place o m n r c) (positions o m n)) k ≡ Some at
+  get_ahead at ea =
+      let w = (along o m n).1 in
+      let is : at ≡ along o (i / w) (i % w) = subst (λ (p : ℕ × ℕ). at ≡ along o (i / p.1) (i % p.1)) es ea in
+      get-drop (place o m n r c) (positions o m n) (place o m n r c + k) k refl
+      ∙ (ap (slice_get (positions o m n)) number
+      ∙ get_at o m n (i / w) (i % w) i at h.size (div_below i w (along o m n).0 wide among) (mod_below i w wide) (sym (div-add-mod' i w)) is)

@@ -1,8 +1,8 @@
 -- Iterators over cells with their positions.
-use Rattle.std.proofs.Common.{◌≡◌, ◌<◌, ◌≤◌, ◌+◌, ℕ, zero, suc, List, [], ◌∷◌, Some, length, drop, set, get_or, refl, sym, ap, ◌∙◌, arith, add-one}
+use Rattle.std.proofs.Common.{◌≡◌, ◌<◌, ◌≤◌, ◌+◌, ℕ, zero, suc, List, [], ◌∷◌, ◌++◌, Some, length, drop, set, get_or, refl, sym, ap, ◌∙◌, arith, add-one}
 use Rattle.std.proofs.iter.runs.Lists.{nth_read}
 use Rattle.grid_base.proofs.PlaceLemmas.{drop_from}
-use Rattle.std.specs.List.{zip}
+use Rattle.std.specs.List.{zip, slice_get}
 use Rattle.std.proofs.lemmas.Slice.Zip.{length-zip}
 
 -- no pairs without second parts
@@ -22,6 +22,18 @@ zip_even [] [] h = refl
 zip_even [] (y ∷ ys) h = absurd (omega arith)
 zip_even (x ∷ xs) [] h = absurd (omega arith)
 zip_even (x ∷ xs) (y ∷ ys) h = omega (arith, zip_even xs ys (omega arith))
+
+pub get-zip : {A B : Type 0} (xs : List A) (ys : List B) (k : ℕ) (x : A) (y : B) → slice_get xs k ≡ Some x → slice_get ys k ≡ Some y → slice_get (zip xs ys) k ≡ Some (x, y)
+get-zip [] ys k x y hx hy = cc
+get-zip (a ∷ xs) [] k x y hx hy = cc
+get-zip (a ∷ xs) (b ∷ ys) zero x y hx hy = let ex : a ≡ x = cc in let ey : b ≡ y = cc in λ i. Some (ex i, ey i)
+get-zip (a ∷ xs) (b ∷ ys) (suc k) x y hx hy = get-zip xs ys k x y hx hy
+
+-- the last pair
+pub zip_last : {A B : Type 0} (xs : List A) (ys : List B) (x : A) (y : B) → slice_get xs (length ys) ≡ Some x → zip xs (ys ++ y ∷ []) ≡ zip xs ys ++ (x, y) ∷ []
+zip_last [] ys x y h = absurd (cc)
+zip_last (a ∷ xs) [] x y h = let e : a ≡ x = cc in ap (λ l. (a, y) ∷ l) (zip_nothing xs [] refl) ∙ ap (λ z. (z, y) ∷ []) e
+zip_last (a ∷ xs) (b ∷ ys) x y h = ap (λ l. (a, b) ∷ l) (zip_last xs ys x y h)
 
 -- what is left from a position on, and past it after a write
 pub drop_item : {X : Type 0} (xs : List X) (k : ℕ) (x : X) → k < length xs → x ≡ get_or xs k x → drop k xs ≡ x ∷ drop (k + 1) xs

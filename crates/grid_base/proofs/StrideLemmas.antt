@@ -167,9 +167,9 @@ every_all : {X : Type 0} (xs : List X) → every 0 0 xs ≡ xs
 every_all [] = refl
 every_all (x ∷ xs) = ap (λ l. x ∷ l) (every_all xs)
 
--- cells that stand together are all of those between the first and the last
-pub strided_together : {X : Type 0} (start end stride : ℕ) (xs : List X) → stride ≡ 1 → strided start end stride xs ≡ take (end - start) (drop start xs)
-strided_together start end stride xs e = rw e (every_all (take (end - start) (drop start xs)))
+-- cells that stand together are all of them
+pub every_one : {X : Type 0} (stride : ℕ) (xs : List X) → stride ≡ 1 → every 0 (stride - 1) xs ≡ xs
+every_one stride xs e = rw e (every_all xs)
 
 -- the first cell after n others
 pub nth_found : {X : Type 0} (n : ℕ) (xs mid rest : List X) (r : Option (Bor X)) → mid ≡ drop n xs → YieldsFirstRef (λ (l : List X). l) mid r rest → (option_copied r ≡ slice_get xs n) × (rest ≡ drop (n + 1) xs)

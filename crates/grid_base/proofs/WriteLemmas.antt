@@ -5,13 +5,13 @@ use Rattle.std.proofs.lemmas.List.{length-set, get_or-set_same, get_or-set_other
 use Rattle.std.proofs.lemmas.List.Edits.{swap_is}
 use Rattle.std.proofs.lemmas.Option.{slice_get-get_or}
 use Rattle.std.proofs.lemmas.Nat.{same_from_place}
-use Rattle.std.proofs.lemmas.Bool.{cases_eq}
+use Rattle.std.proofs.lemmas.Bool.{cases_eq, cases_lt}
 use Rattle.grid_base.specs.declared.order.Order.{Order}
 use Rattle.grid_base.specs.declared.order.Order.TheVariants.{RowMajor, ColumnMajor}
 use Rattle.grid_base.specs.Table.{row, row_count, col_count, cell, with_cell, with_cell_of, exchanged, IsTable}
 use Rattle.grid_base.specs.Order.{place, table_of}
 use Rattle.grid_base.specs.GridValue.{HoldsSize}
-use Rattle.grid_base.proofs.TableLemmas.{rows-tabulate, width-tabulate, cell-tabulate, same_tables, IsFull}
+use Rattle.grid_base.proofs.TableLemmas.{rows-tabulate, width-tabulate, cell-tabulate, same_tables, IsFull, cell_past_rows}
 use Rattle.grid_base.proofs.StorageLemmas.{IsFull-table_of, place_within}
 use Rattle.grid_base.proofs.ViewLemmas.{view-cell}
 
@@ -29,10 +29,10 @@ get-set_other (x ∷ xs) (suc i) (suc j) w h = get-set_other xs i j w (λ e. h (
 
 -- a table of which a cell is written is a table
 module _ {T : Type 0} (t : List (List T)) (h : IsTable t) (r c : ℕ) (w : T) where
-  rows-written : row_count (with_cell t r c w) ≡ row_count t
+  pub rows-written : row_count (with_cell t r c w) ≡ row_count t
   rows-written = length-set t r (set (row t r) c w)
 
-  widths-written : (i : ℕ) → i < row_count t → length (row (with_cell t r c w) i) ≡ col_count t
+  pub widths-written : (i : ℕ) → i < row_count t → length (row (with_cell t r c w) i) ≡ col_count t
   widths-written i lt =
       ⊎_elim (λ e.
       ap (λ x. length (row (with_cell t r c w) x)) e
@@ -47,21 +47,38 @@ module _ {T : Type 0} (t : List (List T)) (h : IsTable t) (r c : ℕ) (w : T) wh
         even = λ i lt. widths-written i (omega (arith, rows-written)) ∙ sym (widths-written 0 (omega (arith, rows-written)));
       }
 
+  -- its cells
+  pub cell-with_same : r < row_count t → c < col_count t → cell (with_cell t r c w) r c ≡ Some w
+  cell-with_same lr lc =
+      ap (λ v. slice_get v c) (get_or-set_same t r (set (row t r) c w) [] lr) ∙ get-set_same (row t r) c w (omega (arith, h.even r lr))
+
+  pub cell-with_other : (i j : ℕ) → (i ≡ r → j ≢ c) → cell (with_cell t r c w) i j ≡ cell t i j
+  cell-with_other i j ne =
+      ⊎_elim (λ e.
+      ⊎_elim (λ lt.
+      ap (λ x. cell (with_cell t r c w) x j) e
+      ∙ (ap (λ v. slice_get v j) (get_or-set_same t r (set (row t r) c w) [] lt)
+      ∙ (get-set_other (row t r) c j w (ne e) ∙ ap (λ x. cell t x j) (sym e))))
+      (λ past. cell_past_rows (with_cell t r c w) i j (omega (arith, rows-written)) ∙ sym (cell_past_rows t i j (omega arith)))
+      (cases_lt r (row_count t)))
+      (λ n. ap (λ v. slice_get v j) (get_or-set_other t r i (set (row t r) c w) [] n))
+      (cases_eq i r)
+
 -- and its size is the same
 pub cols-with_cell : {T : Type 0} (t : List (List T)) → IsTable t → (r c : ℕ) (w : T) → col_count (with_cell t r c w) ≡ col_count t
 cols-with_cell [] h r c w = refl
 cols-with_cell (x ∷ t) h r c w = widths-written (x ∷ t) h r c w 0 (omega arith)
 
 module _ {T : Type 0} (t : List (List T)) (h : IsTable t) (r c : ℕ) where
-  rows-with_cell_of : (w : Option T) → row_count (with_cell_of t r c w) ≡ row_count t
+  pub rows-with_cell_of : (w : Option T) → row_count (with_cell_of t r c w) ≡ row_count t
   rows-with_cell_of None = refl
   rows-with_cell_of (Some w) = rows-written t h r c w
 
-  cols-with_cell_of : (w : Option T) → col_count (with_cell_of t r c w) ≡ col_count t
+  pub cols-with_cell_of : (w : Option T) → col_count (with_cell_of t r c w) ≡ col_count t
   cols-with_cell_of None = refl
   cols-with_cell_of (Some w) = cols-with_cell t h r c w
 
-  IsTable-with_cell_of : (w : Option T) → IsTable (with_cell_of t r c w)
+  pub IsTable-with_cell_of : (w : Option T) → IsTable (with_cell_of t r c w)
   IsTable-with_cell_of None = h
   IsTable-with_cell_of (Some w) = IsTable-with_cell t h r c w
 

@@ -1,5 +1,19 @@
 -- What a closure returned, call by call.
-use Rattle.std.specs.Prelude.{◌≡◌, ◌<◌, ℕ, List, [], ◌∷◌, length, take, slice_index_or}
+use Rattle.std.specs.Prelude.{
+  ◌≡◌,
+  ◌<◌,
+  ℕ,
+  List,
+  [],
+  ◌∷◌,
+  ◌++◌,
+  length,
+  take,
+  slice_index_or,
+  Result,
+  Ok,
+  Err,
+}
 use Rattle.std.specs.List.{FoldsTo, AllZip}
 use denote.Ref.{Bor}
 
@@ -26,6 +40,17 @@ pub record Generates {F B : Type 0} (step : F → B → F → Type 0) (f : F) (y
 -- R holds of the items of two lists, place by place, and the lists are as long
 pub record PairsUp {A B : Type 0} (R : A → B → Type 0) (xs : List A) (ys : List B) : Type 0 where
   pub places : AllZip R xs ys
+
+-- a call answered each item of xs before one, and failed at that one with e
+pub record FailsFirst {A B E : Type 0} (returns : A → Result B E → Type 0) (xs : List A) (e : E) :
+    Type 0 where
+  pub done : List A
+  pub at : A
+  pub rest : List A
+  pub answers : List B
+  pub split : done ++ at ∷ rest ≡ xs
+  pub before : AllZip (λ x y. returns x (Ok y)) done answers
+  pub fails : returns at (Err e)
 
 -- the closure f can be called at each item of xs in turn: at item k, in any state that the calls at
 -- the items before it may leave

@@ -22,3 +22,4 @@ pub mod FlatLends
 pub mod ClosureCalls
 pub mod Gather
 pub mod Clones
+pub mod Relaid

@@ -11,7 +11,7 @@ mod words;
 
 pub use flat::{
     Flat, GridLineIter, GridLineIterMut, GridRowIter, Groups, IndexedIntoIter, IndexedIter,
-    IndexedIterMut,
+    IndexedIterMut, Positions,
 };
 pub use order::Order;
 pub use tally::Tally;

@@ -1,19 +1,13 @@
-//! The two counts of swaps, and all the code that raises them.
+//! The two counts of swaps.
 //!
-//! The rule: a counted swap exchanges the cells of two different places and adds one. Nothing else adds to a count.
-//!
-//! - `swap_for_symmetry` and `swap_for_shift` are the only counted swaps. Each adds its one to a run, `Swaps`.
-//! - A run starts empty (`Swaps::none`) and can't be dropped. `Tally::take` consumes it and adds its numbers to the
-//!   tally's two counts, which stop at `u128::MAX`.
-//! - The fields of `Swaps` and `Tally` are private to this module, so no other code can write a number.
-//!
-//! Flips, half turns, expand, prepend and delete move cells by these two swaps alone. Push, insert, pop and remove are
-//! not counted, and may move cells in any way.
-ghost use Rattle.std.specs.Prelude.{◌≡◌, ◌<◌, ◌+◌, ◌-◌, ◌^◌, ◌++◌, length, swap};
+//! A count is raised by `Tally::take` alone, which consumes a run of counted swaps, `Swaps`, and adds its numbers. The
+//! two counts stop at `u128::MAX`. The fields of `Tally` are private to this module, so no other code can write a count.
+//! `flat/counted/swaps.rt` has the swaps and says who can call them.
+ghost use Rattle.std.specs.Prelude.{◌≡◌};
 ghost use Rattle.grid_base.specs.Tally.{saturating_count};
 
+use crate::flat::Swaps;
 use std::marker::Model;
-use std::mem;
 
 /// The numbers of swaps that were done: for symmetries, and for shifts in expand, prepend and delete.
 ///
@@ -65,69 +59,8 @@ impl Tally {
             ≡ saturating_count self.old.symmetry swaps.for_symmetry }
         ensures shift { self.new.shift ≡ saturating_count self.old.shift swaps.for_shift }
     {
-        let Swaps {
-            for_symmetry,
-            for_shift,
-        } = swaps;
+        let (for_symmetry, for_shift) = swaps.end();
         self.for_symmetry = self.for_symmetry.saturating_add(for_symmetry as u128);
         self.for_shift = self.for_shift.saturating_add(for_shift as u128);
     }
-}
-
-// The swaps of one run so far. A run has fewer than 2^64 swaps, so its numbers never stop short. They are held by value
-// and not behind the tally's reference, so that the compiler makes vector code of the loop.
-pub(crate) struct Swaps {
-    for_symmetry: usize,
-    for_shift: usize,
-}
-
-impl Swaps {
-    // Starts a run: no swaps yet.
-    pub(crate) fn none() -> Swaps
-        ensures symmetry { result.for_symmetry ≡ 0 }
-        ensures shift { result.for_shift ≡ 0 }
-    {
-        Swaps {
-            for_symmetry: 0,
-            for_shift: 0,
-        }
-    }
-}
-
-// Exchanges cell `i` of the front part of a slice with cell `j` of the rest, and counts one swap for a symmetry.
-#[tactic(auto, using(crate::proofs::SwapLemmas::swap_parts))]
-pub(crate) fn swap_for_symmetry<T>(
-    front: &mut [T],
-    i: usize,
-    back: &mut [T],
-    j: usize,
-    swaps: &mut Swaps,
-)
-    requires i_in { i < length front.old }
-    requires j_in { j < length back.old }
-    requires room { swaps.old.for_symmetry < 2 ^ 64 - 1 }
-    ensures cells { front.new ++ back.new
-        ≡ swap (front.old ++ back.old) i (length front.old + j) }
-    ensures front_len { length front.new ≡ length front.old }
-    ensures back_len { length back.new ≡ length back.old }
-    ensures symmetry { swaps.new.for_symmetry ≡ swaps.old.for_symmetry + 1 }
-    ensures shift { swaps.new.for_shift ≡ swaps.old.for_shift }
-{
-    mem::swap(&mut front[i], &mut back[j]);
-    swaps.for_symmetry += 1;
-}
-
-// Exchanges cell `i` with the later cell `j`, and counts one swap for a shift.
-#[tactic(auto, using(crate::proofs::SwapLemmas::swap_parts))]
-pub(crate) fn swap_for_shift<T>(cells: &mut [T], i: usize, j: usize, swaps: &mut Swaps)
-    requires apart { i < j }
-    requires j_in { j < length cells.old }
-    requires room { swaps.old.for_shift < 2 ^ 64 - 1 }
-    ensures cells { cells.new ≡ swap cells.old i j }
-    ensures symmetry { swaps.new.for_symmetry ≡ swaps.old.for_symmetry }
-    ensures shift { swaps.new.for_shift ≡ swaps.old.for_shift + 1 }
-{
-    let (front, back) = cells.split_at_mut(j);
-    mem::swap(&mut front[i], &mut back[0]);
-    swaps.for_shift += 1;
 }

@@ -4,11 +4,18 @@
 
 pub mod boards;
 pub mod chains;
+pub mod errors;
+pub mod games;
+pub mod joins;
+pub mod lines;
 pub mod loops;
 pub mod near;
 pub mod parts;
+pub mod paths;
 pub mod shown;
 pub mod sizes;
+pub mod texts;
 pub mod updates;
+pub mod views;
 pub mod whole;
 pub mod words;

@@ -136,7 +136,7 @@ pub fn flood(
     for _ in 0..bound.saturating_add(1) {
         if let Some((row, col)) = stack.pop() {
             if grid.get(row, col) == Some(&old) {
-                for (near, _) in grid.neighbors4(row, col) {
+                for (near, _) in grid.neighbors4((row, col)) {
                     stack.push(near)?;
                 }
                 grid.set(row, col, x);

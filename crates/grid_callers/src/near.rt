@@ -13,7 +13,7 @@ pub fn count_round(grid: &Grid<u8>, row: usize, col: usize, x: u8) -> usize
     requires { InRange grid.now.rows row col }
     ensures { result ≡ count_by (λ near. near.1 == x) (neighbors8 grid.now.rows row col) }
 {
-    grid.count_neighbors8(row, col, |cell| *cell == x)
+    grid.count_neighbors8((row, col), |cell| *cell == x)
 }
 
 /// Same as [`count_round`], on a board whose edges meet.
@@ -21,7 +21,7 @@ pub fn count_round_wrapped(grid: &Grid<u8>, row: usize, col: usize, x: u8) -> us
     requires { InRange grid.now.rows row col }
     ensures { result ≡ count_by (λ near. near.1 == x) (wrapped_neighbors8 grid.now.rows row col) }
 {
-    grid.count_wrapped_neighbors8(row, col, |cell| *cell == x)
+    grid.count_wrapped_neighbors8((row, col), |cell| *cell == x)
 }
 
 /// Same as [`count_round`], of the cells that share a side, by a chain.
@@ -29,7 +29,7 @@ pub fn count_beside(grid: &Grid<u8>, row: usize, col: usize, x: u8) -> usize
     requires { InRange grid.now.rows row col }
     ensures { result ≡ count_by (λ near. near.1 == x) (neighbors4 grid.now.rows row col) }
 {
-    grid.neighbors4(row, col)
+    grid.neighbors4((row, col))
         .filter(|(_, cell)| **cell == x)
         .count()
 }
@@ -39,7 +39,7 @@ pub fn is_peak(grid: &Grid<u8>, row: usize, col: usize, height: u8) -> bool
     requires { InRange grid.now.rows row col }
     ensures { IsTrue result → All (λ near. near.1 < height) (neighbors8 grid.now.rows row col) }
 {
-    grid.neighbors8(row, col).all(|(_, cell)| *cell < height)
+    grid.neighbors8((row, col)).all(|(_, cell)| *cell < height)
 }
 
 /// Returns whether a cell that shares a side with a cell is `x`, on a board whose edges meet: none is missed.
@@ -47,14 +47,14 @@ pub fn touches(grid: &Grid<u8>, row: usize, col: usize, x: u8) -> bool
     requires { InRange grid.now.rows row col }
     ensures { Any (λ near. near.1 ≡ x) (wrapped_neighbors4 grid.now.rows row col) → IsTrue result }
 {
-    grid.wrapped_neighbors4(row, col)
+    grid.wrapped_neighbors4((row, col))
         .any(|(_, cell)| *cell == x)
 }
 
 /// Clears a cell that is `x` and shares a side with a cell: the position that a search finds is in range.
 pub fn clear_beside(grid: &mut Grid<u8>, row: usize, col: usize, x: u8) {
     if row < grid.rows() && col < grid.cols() {
-        if let Some((at, _)) = grid.neighbors4(row, col).find(|(_, cell)| **cell == x) {
+        if let Some((at, _)) = grid.neighbors4((row, col)).find(|(_, cell)| **cell == x) {
             grid[at] = 0;
         }
     }
@@ -73,7 +73,7 @@ pub fn positions_round(
     ensures { IfOk result (λ around.
         around.items ≡ map (λ near. near.0) (neighbors8 grid.now.rows row col)) }
 {
-    grid.neighbors8(row, col).map(|(at, _)| at).collect(alloc)
+    grid.neighbors8((row, col)).map(|(at, _)| at).collect(alloc)
 }
 
 /// Returns the sum of the cells round a cell.
@@ -82,7 +82,7 @@ pub fn sum_round(grid: &Grid<u32>, row: usize, col: usize) -> u32
     ensures { result ≡ fold (λ total near. min (total + near.1) u32.MAX) 0
         (wrapped_neighbors8 grid.now.rows row col) }
 {
-    grid.wrapped_neighbors8(row, col)
+    grid.wrapped_neighbors8((row, col))
         .fold(0, |total: u32, (_, cell)| total.saturating_add(*cell))
 }
 
@@ -91,7 +91,7 @@ pub fn count_peaks(grid: &Grid<u8>) -> usize {
     let mut peaks = 0usize;
     for ((row, col), cell) in grid.indexed_iter() {
         let mut highest = 0;
-        for (_, near) in grid.neighbors8(row, col) {
+        for (_, near) in grid.neighbors8((row, col)) {
             highest = highest.max(*near);
         }
         if highest < *cell {
@@ -111,7 +111,7 @@ pub fn blur(grid: &Grid<u8>) -> Result<Grid<u8>, AllocError> {
         {
             let mut sum = u32::from(*cell);
             let mut count = 1u32;
-            for (_, near) in grid.neighbors8(row, col) {
+            for (_, near) in grid.neighbors8((row, col)) {
                 sum = sum.saturating_add(u32::from(*near));
                 count = count.saturating_add(1);
             }
@@ -135,7 +135,7 @@ pub fn next_life(grid: &Grid<bool>) -> Result<Grid<bool>, AllocError>
         |(row, col), live|
             requires { InRange grid.now.rows row col }
         {
-            let near = grid.count_neighbors8(row, col, |cell| *cell);
+            let near = grid.count_neighbors8((row, col), |cell| *cell);
             near == 3 || (*live && near == 2)
         },
     )

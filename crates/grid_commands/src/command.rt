@@ -4,8 +4,10 @@
 ghost use Rattle.std.specs.Prelude.{◌≡◌};
 ghost use Rattle.grid_commands.specs.Command.{command_value, axis_of};
 
+use crate::error::GridError;
 use grid_base::Symmetry;
 use std::alloc::{Allocator, Global};
+use std::fmt;
 
 /// What can be asked of a grid, as data.
 ///
@@ -153,6 +155,31 @@ pub struct RunStopped<T, A: Allocator = Global> {
     pub done: usize,
     /// Their replies.
     pub replies: Vec<Reply<T, A>, A>,
+}
+
+/// Writes `out of memory after 3 commands`, and nothing of the replies.
+impl<T, A: Allocator> fmt::Display for RunStopped<T, A> {
+    ghost use Rattle.std.specs.Prelude.{Some};
+    ghost use Rattle.grid_commands.specs.Errors.{stopped_text};
+
+    ghost output = { λ stopped. Some (stopped_text stopped.done) };
+
+    fn fmt<W: fmt::Write>(&self, f: &mut fmt::Formatter<W>) -> fmt::Result {
+        write!(f, "out of memory after {} commands", self.done)
+    }
+}
+
+impl<T: fmt::Debug + Drop, A: Allocator> std::error::Error for RunStopped<T, A> {}
+
+/// Returns `GridError::Memory`. The replies are dropped.
+impl<T: Drop, A: Allocator> From<RunStopped<T, A>> for GridError {
+    ghost use Rattle.grid_commands.specs.declared.error.GridError.TheVariants.{Memory};
+
+    ghost from_gives = { λ _ e. e ≡ Memory };
+
+    fn from(_stopped: RunStopped<T, A>) -> GridError {
+        GridError::Memory
+    }
 }
 
 impl<T, A: Allocator> Command<T, A> {

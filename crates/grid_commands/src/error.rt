@@ -3,17 +3,16 @@ ghost use Rattle.std.specs.Prelude.{◌≡◌};
 ghost use Rattle.grid_commands.specs.declared.error.GridError.TheVariants.{Memory};
 ghost use Rattle.grid_commands.specs.declared.error.ShapeError.TheVariants.{Memory as OutOfMemory};
 
-use std::alloc::{AllocError, Allocator, Global};
+use std::alloc::{AllocError, AllocFailed, Allocator, Global};
+use std::fmt;
 use thiserror::Error;
 
 /// Why a grid of a size could not be made, or could not grow to it.
-#[derive(Clone, Copy, Debug, PartialEq, Eq, Error)]
+#[derive(Clone, Copy, Debug, PartialEq, Eq)]
 pub enum GridError {
     /// The number of cells would pass `usize::MAX`.
-    #[error("too many cells")]
     TooLarge,
     /// Memory was refused.
-    #[error("out of memory")]
     Memory,
 }
 
@@ -66,11 +65,83 @@ pub struct LinesRefused<T, A: Allocator = Global> {
     pub fault: GridError,
 }
 
+/// Writes `too many cells` or `out of memory`.
+impl fmt::Display for GridError {
+    ghost use Rattle.std.specs.Prelude.{Some};
+    ghost use Rattle.grid_commands.specs.Errors.{fault_text};
+
+    ghost output = { λ fault. Some (fault_text fault) };
+
+    fn fmt<W: fmt::Write>(&self, f: &mut fmt::Formatter<W>) -> fmt::Result {
+        match self {
+            GridError::TooLarge => f.write_str("too many cells"),
+            GridError::Memory => f.write_str("out of memory"),
+        }
+    }
+}
+
+impl std::error::Error for GridError {}
+
+/// Writes the fault, and nothing of the line.
+impl<T, A: Allocator> fmt::Display for LineRefused<T, A> {
+    ghost use Rattle.std.specs.Prelude.{Some};
+    ghost use Rattle.grid_commands.specs.Errors.{fault_text};
+
+    ghost output = { λ refused. Some (fault_text refused.fault) };
+
+    fn fmt<W: fmt::Write>(&self, f: &mut fmt::Formatter<W>) -> fmt::Result {
+        fmt::Display::fmt(&self.fault, f)
+    }
+}
+
+impl<T: fmt::Debug + Drop, A: Allocator> std::error::Error for LineRefused<T, A> {}
+
+/// Writes the fault, and nothing of the lines.
+impl<T, A: Allocator> fmt::Display for LinesRefused<T, A> {
+    ghost use Rattle.std.specs.Prelude.{Some};
+    ghost use Rattle.grid_commands.specs.Errors.{fault_text};
+
+    ghost output = { λ refused. Some (fault_text refused.fault) };
+
+    fn fmt<W: fmt::Write>(&self, f: &mut fmt::Formatter<W>) -> fmt::Result {
+        fmt::Display::fmt(&self.fault, f)
+    }
+}
+
+impl<T: fmt::Debug + Drop, A: Allocator> std::error::Error for LinesRefused<T, A> {}
+
+/// Returns the fault. The line is dropped.
+impl<T: Drop, A: Allocator> From<LineRefused<T, A>> for GridError {
+    ghost from_gives = { λ refused e. e ≡ refused.fault };
+
+    fn from(refused: LineRefused<T, A>) -> GridError {
+        refused.fault
+    }
+}
+
+/// Returns the fault. The lines are dropped.
+impl<T: Drop, A: Allocator> From<LinesRefused<T, A>> for GridError {
+    ghost from_gives = { λ refused e. e ≡ refused.fault };
+
+    fn from(refused: LinesRefused<T, A>) -> GridError {
+        refused.fault
+    }
+}
+
 /// Returns `GridError::Memory`.
 impl From<AllocError> for GridError {
     ghost from_gives = { λ _ e. e ≡ Memory };
 
     fn from(_refused: AllocError) -> GridError {
+        GridError::Memory
+    }
+}
+
+/// Returns `GridError::Memory`. The value that was not stored is dropped.
+impl<T: Drop> From<AllocFailed<T>> for GridError {
+    ghost from_gives = { λ _ e. e ≡ Memory };
+
+    fn from(_refused: AllocFailed<T>) -> GridError {
         GridError::Memory
     }
 }

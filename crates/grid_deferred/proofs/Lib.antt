@@ -4,4 +4,4 @@ mod ShownLemmas
 mod PendingLemmas
 mod AllowanceLemmas
 mod RunLemmas
-mod LineIterLemmas
+mod ReadLemmas

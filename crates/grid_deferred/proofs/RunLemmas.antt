@@ -1,5 +1,5 @@
 -- A deferred run of one more command.
-use Rattle.std.proofs.Common.{◌≡◌, ℕ, suc, ◌+◌, ◌/◌, ◌≤◌, List, [], ◌∷◌, ◌++◌, length, length-append, Some, refl, sym, ◌∙◌, ap, subst, arith}
+use Rattle.std.proofs.Common.{◌≡◌, ℕ, suc, ◌+◌, ◌/◌, ◌≤◌, List, [], ◌∷◌, ◌++◌, length, length-append, Some, Result, Ok, Err, IfOk, OnOk, refl, sym, ◌∙◌, ap, subst, arith}
 use Rattle.std.specs.List.{All}
 use Rattle.std.proofs.lemmas.List.Elements.{All-pop}
 use Rattle.grid_base.specs.declared.words.Symmetry.{Symmetry}
@@ -165,3 +165,15 @@ module _ {T : Type 0} (is_clone : T → T → Type 0) (is_default : T → Type 0
         r.replies d known clones
         ∙ (ap (run_replies d xs) rows
         ∙ (ap (λ zs. run_replies d zs other_old.rows) same ∙ sym (q.replies d (subst (All (RowsAreKnown is_default is_clone d)) same known) clones)))
+
+-- what holds where two results are both Ok
+module _ {V W E F : Type 0} {P : V → Type 0} {Q : W → Type 0} where
+  pub on_both_ok : (r : Result V E) (q : Result W F) {R : Type 0} → ((v : V) (w : W) → P v → Q w → R) → IfOk r P → IfOk q Q → OnOk r (OnOk q R)
+  on_both_ok (Ok v) (Ok w) f h k = f v w h k
+  on_both_ok (Ok v) (Err e) f h k = tt
+  on_both_ok (Err e) q f h k = tt
+
+  pub if_both_ok : (r : Result V E) (q : Result W F) {R : V → W → Type 0} → ((v : V) (w : W) → P v → Q w → R v w) → IfOk r P → IfOk q Q → IfOk r (λ v. IfOk q (λ w. R v w))
+  if_both_ok (Ok v) (Ok w) f h k = f v w h k
+  if_both_ok (Ok v) (Err e) f h k = tt
+  if_both_ok (Err e) q f h k = tt

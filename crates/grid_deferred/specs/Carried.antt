@@ -26,15 +26,3 @@ carried FlipCols m n y = command_of_transposed (command_of_flipped n (command_of
 carried AntiTranspose m n y = command_of_flipped m (command_of_transposed (command_of_flipped n y))
 carried RotateHalf m n y = command_of_transposed
     (command_of_flipped n (command_of_transposed (command_of_flipped m y)))
-
--- where a cell of the image comes from in a base of m rows and n columns; past the end it stays
--- past the end
-abbrev pub base_position : Symmetry → ℕ → ℕ → ℕ → ℕ → ℕ × ℕ
-base_position Identity m n r c = (r, c)
-base_position FlipCols m n r c = (r, mirror_place n c)
-base_position FlipRows m n r c = (mirror_place m r, c)
-base_position RotateHalf m n r c = (mirror_place m r, mirror_place n c)
-base_position Transpose m n r c = (c, r)
-base_position RotateLeft m n r c = (c, mirror_place n r)
-base_position RotateRight m n r c = (mirror_place m c, r)
-base_position AntiTranspose m n r c = (mirror_place m c, mirror_place n r)

@@ -2,4 +2,3 @@ pub mod Carry
 pub mod Carried
 pub mod Deferred
 pub mod Run
-pub mod LineIter

@@ -8,7 +8,7 @@ ghost use Rattle.grid_commands.specs.Command.{command_value};
 ghost use Rattle.grid_commands.specs.Reply.{reply_value};
 ghost use Rattle.grid.specs.Through.{turned_reply, reverses_cells, mirror_place, mirror_gap, mirror_start, command_of_transposed, command_of_flipped};
 ghost use Rattle.grid_deferred.specs.Carry.{Carries, is_apply};
-ghost use Rattle.grid_deferred.specs.Carried.{carried, base_position};
+ghost use Rattle.grid_deferred.specs.Carried.{carried};
 
 use grid::{Axis, Command, Reply};
 use grid_base::Symmetry;
@@ -251,27 +251,5 @@ fn reverses_cells(symmetry: Symmetry, axis: Axis) -> bool
     match axis {
         Axis::Row => flips_cols,
         Axis::Col => flips_rows,
-    }
-}
-
-// Where a cell of the image comes from; past the end it stays past the end.
-pub(crate) fn base_position(
-    symmetry: Symmetry,
-    rows: usize,
-    cols: usize,
-    row: usize,
-    col: usize,
-) -> (usize, usize)
-    ensures { result ≡ base_position symmetry rows cols row col }
-{
-    match symmetry {
-        Symmetry::Identity => (row, col),
-        Symmetry::FlipCols => (row, mirrored_line(cols, col)),
-        Symmetry::FlipRows => (mirrored_line(rows, row), col),
-        Symmetry::RotateHalf => (mirrored_line(rows, row), mirrored_line(cols, col)),
-        Symmetry::Transpose => (col, row),
-        Symmetry::RotateLeft => (col, mirrored_line(cols, row)),
-        Symmetry::RotateRight => (mirrored_line(rows, col), row),
-        Symmetry::AntiTranspose => (mirrored_line(rows, col), mirrored_line(cols, row)),
     }
 }

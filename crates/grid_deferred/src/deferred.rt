@@ -1,7 +1,8 @@
 //! A grid seen through a symmetry that isn't applied yet.
-ghost use Rattle.std.specs.Prelude.{◌≡◌, OnOk, OnErr, IfOk, IsTrue, false, nat_lt};
+ghost use Rattle.std.specs.Prelude.{◌≡◌, ◌<◌, OnOk, OnErr, IfOk, IsTrue, false, nat_lt};
 ghost use Rattle.std.specs.Option.{option_copied};
-ghost use Rattle.grid_base.specs.Table.{row_count, col_count, cell, IsTable};
+ghost use Rattle.grid_base.specs.Table.{row, row_count, col_count, cell, transposed, IsTable};
+ghost use Rattle.grid_base.specs.Strides.{LinesInOrder};
 ghost use Rattle.grid_base.specs.Symmetry.{act, order_after, price};
 ghost use Rattle.grid_base.specs.Tally.{saturating_count};
 ghost use Rattle.grid_base.specs.Clones.{ClonesAreEqual};
@@ -15,13 +16,14 @@ ghost use Rattle.grid.specs.Step.{step_rows, step_reply, takes_memory, RowsAreKn
 ghost use Rattle.grid_deferred.specs.Carry.{shift_through, is_apply};
 ghost use Rattle.grid_deferred.specs.Deferred.{pending_after};
 
-mod line_iter;
-
-use crate::carrying::{base_position, carried, carry_reply, transposes};
+use crate::carrying::{carried, carry_reply};
 use grid::{Command, Grid, Reply, Tally};
 use grid_base::Symmetry;
-pub use line_iter::DeferredLineIter;
+use grid_view::{GridView, ViewLineIter};
 use std::alloc::{AllocError, Allocator, Global};
+
+/// An iterator over a row or a column of a grid as seen through a pending symmetry. Each step takes the same time.
+pub type DeferredLineIter<'a, T> = ViewLineIter<'a, T>;
 
 // Does on a base what a command, which is no Apply, does on the base's image.
 #[tactic(auto, using(crate::proofs::PendingLemmas::carried_known, crate::proofs::PendingLemmas::carried_still))]
@@ -113,20 +115,25 @@ impl<'a, T, A: Allocator> Deferred<'a, T, A> {
         *pending
     }
 
+    /// Returns a view of the grid as seen through the pending symmetry.
+    ///
+    ///     [[1, 2]] with FlipCols pending   view()   [[2, 1]]
+    ///
+    /// Cost: constant; no cell moves or is copied, and no memory is taken.
+    pub fn view(&self) -> GridView<'_, T>
+        ensures { result.rows ≡ shown self.now }
+    {
+        self.base.view().turned(self.pending)
+    }
+
     /// Returns the number of rows and of columns as seen through the pending symmetry.
     ///
     ///     [[1, 2]] with Transpose pending   size()   (2, 1)
-    #[tactic(auto, using(crate::proofs::ShownLemmas::rows_shown, crate::proofs::ShownLemmas::cols_shown, crate::proofs::ShownLemmas::table_shown))]
     pub fn size(&self) -> (usize, usize)
         ensures size { result ≡ (row_count (shown self.now), col_count (shown self.now)) }
         ensures table { IsTable (shown self.now) }
     {
-        let (rows, cols) = self.base.size();
-        if transposes(self.pending) {
-            (cols, rows)
-        } else {
-            (rows, cols)
-        }
+        self.view().size()
     }
 
     /// Returns the cell in a row and a column as seen through the pending symmetry, or `None` where there is none.
@@ -134,13 +141,38 @@ impl<'a, T, A: Allocator> Deferred<'a, T, A> {
     ///     [[1, 2]] with FlipCols pending   get(0, 0)   2
     ///
     /// Cost: constant; no cell moves.
-    #[tactic(auto, using(crate::proofs::ShownLemmas::cell_base))]
     pub fn get(&self, row: usize, col: usize) -> Option<&T>
         ensures { option_copied result ≡ cell (shown self.now) row col }
     {
-        let (rows, cols) = self.base.size();
-        let (base_row, base_col) = base_position(self.pending, rows, cols, row, col);
-        self.base.get(base_row, base_col)
+        self.view().get(row, col)
+    }
+
+    /// Returns an iterator over the cells of row `r` as seen through the pending symmetry.
+    ///
+    ///     [[1, 2], [3, 4]] with FlipCols pending   iter_row(1)   4, 3
+    ///
+    /// Requires: `r` is in the range of [`size`](Deferred::size).
+    /// Cost: each step takes the same time; no cell moves or is copied, and no memory is taken.
+    pub fn iter_row(&self, r: usize) -> DeferredLineIter<'_, T>
+        requires { r < row_count (shown self.now) }
+        ensures rest { result ≡ row (shown self.now) r }
+        ensures runs { LinesInOrder T }
+    {
+        self.view().iter_row(r)
+    }
+
+    /// Returns an iterator over the cells of column `c` as seen through the pending symmetry.
+    ///
+    ///     [[1, 2], [3, 4]] with FlipCols pending   iter_col(1)   1, 3
+    ///
+    /// Requires: `c` is in the range of [`size`](Deferred::size).
+    /// Cost: each step takes the same time; no cell moves or is copied, and no memory is taken.
+    pub fn iter_col(&self, c: usize) -> DeferredLineIter<'_, T>
+        requires { c < col_count (shown self.now) }
+        ensures rest { result ≡ row (transposed (shown self.now)) c }
+        ensures runs { LinesInOrder T }
+    {
+        self.view().iter_col(c)
     }
 
     // Reads a cell.

@@ -1,26 +1,26 @@
 //! Laws of deferred runs as public calls: each makes the calls that its name says, and ensures what they leave.
-ghost use Rattle.std.specs.Prelude.{◌≡◌, All, IfSome, List, length, map};
+ghost use Rattle.std.specs.Prelude.{◌≡◌, All, IfOk, IfErr, OnOk, List, map, take};
 ghost use Rattle.grid_base.specs.Clones.{ClonesAreEqual};
 ghost use Rattle.grid_commands.specs.Command.{CommandValue, command_value};
 ghost use Rattle.grid_commands.specs.Reply.{ReplyValue, reply_value};
 ghost use Rattle.grid.specs.Step.{RowsAreKnown};
-ghost use Rattle.grid.specs.Run.{Ran, run_rows, run_replies};
+ghost use Rattle.grid.specs.Run.{Ran, MayStop};
 ghost use Rattle.grid_deferred.specs.Run.{RanDeferred};
 ghost use Rattle.grid_base.specs.GridValue.{GridValue};
 ghost use Rattle.grid_base.specs.Tally.{Counts};
 
 use crate::run_deferred;
-use grid::{Command, Grid, Reply, Tally, run};
+use grid::{Command, Grid, Reply, RunStopped, Tally, run};
 use std::alloc::Allocator;
 
-/// Runs a list of commands at once on one grid and deferred on another, and returns the replies of both, or `None`
-/// where one of them stops for want of memory. The grids may be stored in different orders.
+/// Runs a list of commands at once on one grid and deferred on another, and returns both results. The grids may be stored
+/// in different orders.
 ///
 ///     [[1, 2]], [[1, 2]]   run_at_once_and_deferred([Apply(FlipCols), Get(0, 0)], the same)   [Done, Cell(2)] twice
 ///
 /// Requires: the grids have the same rows, and the lists the same commands.
+/// Fails: each of the two as its run does, and says the same of the commands that were done.
 /// Cost: that of both runs.
-#[tactic(auto, using(crate::proofs::RunLemmas::agree_order))]
 pub fn run_at_once_and_deferred<T, A: Allocator>(
     allocs: (A, A),
     grid: &mut Grid<T, A>,
@@ -28,30 +28,41 @@ pub fn run_at_once_and_deferred<T, A: Allocator>(
     commands: Vec<Command<T, A>, A>,
     same: Vec<Command<T, A>, A>,
     tally: &mut Tally,
-) -> Option<(Vec<Reply<T, A>, A>, Vec<Reply<T, A>, A>)>
+    other_tally: &mut Tally,
+) -> (
+    Result<Vec<Reply<T, A>, A>, RunStopped<T, A>>,
+    Result<Vec<Reply<T, A>, A>, RunStopped<T, A>>,
+)
 where
     T: Clone + Default + Drop,
     A: Clone,
     requires rows { grid.old.rows ≡ other.old.rows }
     requires commands { map command_value commands.items ≡ map command_value same.items }
-    ensures rows { IfSome result (λ _. (d : T)
+    ensures ran { IfOk result.0 (λ replies. Ran T.is_clone T.is_default
+        (map command_value commands.items)
+        grid.old grid.new tally.old tally.new (map reply_value replies.items)) }
+    ensures stopped { IfErr result.0 (λ stop. Ran T.is_clone T.is_default
+        (take stop.done (map command_value commands.items))
+        grid.old grid.new tally.old tally.new (map reply_value stop.replies.items)) }
+    ensures stop { IfErr result.0
+        (λ stop. MayStop (map command_value commands.items) stop.done grid.new.rows) }
+    ensures deferred_ran { IfOk result.1 (λ replies. RanDeferred T.is_clone T.is_default
+        (map command_value same.items)
+        other.old other.new other_tally.old other_tally.new (map reply_value replies.items)) }
+    ensures deferred_stopped { IfErr result.1 (λ stop. RanDeferred T.is_clone T.is_default
+        (take stop.done (map command_value same.items))
+        other.old other.new other_tally.old other_tally.new (map reply_value stop.replies.items)) }
+    ensures deferred_stop { IfErr result.1
+        (λ stop. MayStop (map command_value same.items) stop.done other.new.rows) }
+    ensures same_rows { OnOk result.0 (OnOk result.1 ((d : T)
         → All (RowsAreKnown T.is_default T.is_clone d) (map command_value commands.items)
-        → grid.new.rows ≡ other.new.rows) }
-    ensures order { IfSome result (λ _.
-        grid.old.order ≡ other.old.order → grid.new.order ≡ other.new.order) }
-    ensures replies { IfSome result (λ both. (d : T)
+        → grid.new.rows ≡ other.new.rows)) }
+    ensures same_order { OnOk result.0 (OnOk result.1
+        (grid.old.order ≡ other.old.order → grid.new.order ≡ other.new.order)) }
+    ensures same_replies { IfOk result.0 (λ replies. IfOk result.1 (λ others. (d : T)
         → All (RowsAreKnown T.is_default T.is_clone d) (map command_value commands.items)
         → ClonesAreEqual T.is_clone
-        → map reply_value both.0.items ≡ map reply_value both.1.items) }
-    ensures count { IfSome result (λ both.
-        length (map reply_value both.0.items) ≡ length (map command_value commands.items)) }
-    ensures ran { IfSome result (λ _. (d : T)
-        → All (RowsAreKnown T.is_default T.is_clone d) (map command_value commands.items)
-        → grid.new.rows ≡ run_rows d (map command_value commands.items) grid.old.rows) }
-    ensures replied { IfSome result (λ both. (d : T)
-        → All (RowsAreKnown T.is_default T.is_clone d) (map command_value commands.items)
-        → ClonesAreEqual T.is_clone → map reply_value both.0.items
-        ≡ run_replies d (map command_value commands.items) grid.old.rows) }
+        → map reply_value replies.items ≡ map reply_value others.items)) }
     ensures law { (d : T) (xs : List (CommandValue T)) (old other_old new other_new : GridValue T)
         (first last other_first other_last : Counts) (answers others : List (ReplyValue T))
         → Ran T.is_clone T.is_default xs old new first last answers
@@ -60,11 +71,7 @@ where
         → old.rows ≡ other_old.rows → All (RowsAreKnown T.is_default T.is_clone d) xs
         → (new.rows ≡ other_new.rows) × (ClonesAreEqual T.is_clone → answers ≡ others) }
 {
-    match run(allocs.0, grid, commands, tally) {
-        Ok(at_once) => match run_deferred(allocs.1, other, same, tally) {
-            Ok(deferred) => Some((at_once, deferred)),
-            Err(_) => None,
-        },
-        Err(_) => None,
-    }
+    let at_once = run(allocs.0, grid, commands, tally);
+    let deferred = run_deferred(allocs.1, other, same, other_tally);
+    (at_once, deferred)
 }

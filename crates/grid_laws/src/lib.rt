@@ -5,18 +5,19 @@
 #![tactic(auto)]
 
 ghost use Rattle.std.specs.Prelude.{◌≡◌, ◌<◌, ◌≤◌, List, length, map, take, insert, All, remove, slice_get, Some, OnOk, OnErr, IfOk, IfErr, MatchOption};
+ghost use Rattle.grid_base.specs.GridValue.{GridValue};
+ghost use Rattle.grid_base.specs.Tally.{Counts};
 ghost use Rattle.grid_base.specs.Table.{row_count, col_count, IsTable};
 ghost use Rattle.grid_base.specs.Order.{storage};
 ghost use Rattle.grid_base.specs.Symmetry.{act, order_after, IsInverse};
 ghost use Rattle.grid_base.specs.declared.words.Symmetry.{Symmetry};
 ghost use Rattle.grid_base.specs.declared.words.Symmetry.TheVariants.{FlipCols, FlipRows, RotateHalf, RotateLeft, RotateRight, Transpose};
 ghost use Rattle.grid_base.specs.Clones.{ClonesAreEqual};
-ghost use Rattle.grid_commands.specs.Command.{command_value};
-ghost use Rattle.grid_commands.specs.Reply.{reply_value};
+ghost use Rattle.grid_commands.specs.Command.{CommandValue, command_value};
+ghost use Rattle.grid_commands.specs.Reply.{ReplyValue, reply_value};
 ghost use Rattle.grid.specs.Edits.{FitsRow, FitsCol, insert_col};
 ghost use Rattle.grid.specs.Step.{RowsAreKnown};
-ghost use Rattle.grid.specs.Cost.{list_symmetry};
-ghost use Rattle.grid.specs.Run.{run_rows, MayStop};
+ghost use Rattle.grid.specs.Run.{Ran, MayStop};
 
 use grid::{Command, Grid, LineRefused, Reply, RunStopped, run};
 use grid_base::{Symmetry, Tally, laws};
@@ -133,6 +134,9 @@ pub fn insert_col_or_row_across<T, A: Allocator>(
     requires place { at ≤ col_count grid.old.rows }
     ensures same { OnOk result.0 (OnOk result.1 (other.new ≡ grid.new)) }
     ensures as_col { OnOk result.0 (grid.new.rows ≡ insert_col at line.items grid.old.rows) }
+    ensures as_row { OnOk result.1 (other.new.rows ≡ insert_col at line.items other.old.rows) }
+    ensures order { grid.new.order ≡ grid.old.order }
+    ensures other_order { other.new.order ≡ other.old.order }
     ensures refused_col { OnErr result.0 (grid.new ≡ grid.old) }
     ensures refused_col_line { IfErr result.0 (λ refused. refused.line.items ≡ line.items) }
     ensures refused_row { OnErr result.1 (other.new ≡ other.old) }
@@ -147,18 +151,24 @@ pub fn insert_col_or_row_across<T, A: Allocator>(
     (as_col, as_row)
 }
 
-/// A list of commands gives the same replies and rows on two grids of the same rows, whatever their orders, where
-/// neither run stops.
+/// Runs a list of commands on two grids of the same rows, which may be stored in different orders, and returns both results.
+/// Where neither run stops, the rows are the same, and so are the replies.
 ///
-/// The two lists say the same commands. Replies and rows are the same where the default is one value and clones equal
-/// their source.
+///     [[1, 2]], [[1, 2]]   run_in_either_order([Apply(FlipCols), Get(0, 0)], the same)   [Done, Cell(2)] twice
+///
+/// The clauses but the last three are those of the two calls of [`run`].
+///
+/// Requires: the grids have the same rows, and the lists say the same commands.
+/// Fails: each of the two as its run does, and says the same of the commands that were done.
+/// Cost: that of both runs.
 pub fn run_in_either_order<T, A: Allocator>(
-    alloc: A,
+    allocs: (A, A),
     grid: &mut Grid<T, A>,
-    commands: Vec<Command<T, A>, A>,
-    other_alloc: A,
     other: &mut Grid<T, A>,
+    commands: Vec<Command<T, A>, A>,
     other_commands: Vec<Command<T, A>, A>,
+    tally: &mut Tally,
+    other_tally: &mut Tally,
 ) -> (
     Result<Vec<Reply<T, A>, A>, RunStopped<T, A>>,
     Result<Vec<Reply<T, A>, A>, RunStopped<T, A>>,
@@ -169,31 +179,38 @@ where
     requires same { other.old.rows ≡ grid.old.rows }
     requires same_commands { map command_value other_commands.items
         ≡ map command_value commands.items }
-    ensures law_rows { OnOk result.0 (OnOk result.1 ((d : T)
+    ensures ran { IfOk result.0 (λ replies. Ran T.is_clone T.is_default
+        (map command_value commands.items)
+        grid.old grid.new tally.old tally.new (map reply_value replies.items)) }
+    ensures stopped { IfErr result.0 (λ stop. Ran T.is_clone T.is_default
+        (take stop.done (map command_value commands.items))
+        grid.old grid.new tally.old tally.new (map reply_value stop.replies.items)) }
+    ensures stop { IfErr result.0
+        (λ stop. MayStop (map command_value commands.items) stop.done grid.new.rows) }
+    ensures other_ran { IfOk result.1 (λ replies. Ran T.is_clone T.is_default
+        (map command_value other_commands.items)
+        other.old other.new other_tally.old other_tally.new (map reply_value replies.items)) }
+    ensures other_stopped { IfErr result.1 (λ stop. Ran T.is_clone T.is_default
+        (take stop.done (map command_value other_commands.items))
+        other.old other.new other_tally.old other_tally.new
+        (map reply_value stop.replies.items)) }
+    ensures other_stop { IfErr result.1
+        (λ stop. MayStop (map command_value other_commands.items) stop.done other.new.rows) }
+    ensures same_rows { OnOk result.0 (OnOk result.1 ((d : T)
         → All (RowsAreKnown T.is_default T.is_clone d) (map command_value commands.items)
         → other.new.rows ≡ grid.new.rows)) }
-    ensures law_replies { IfOk result.0 (λ replies. IfOk result.1 (λ more. (d : T)
+    ensures same_replies { IfOk result.0 (λ replies. IfOk result.1 (λ more. (d : T)
         → All (RowsAreKnown T.is_default T.is_clone d) (map command_value commands.items)
         → ClonesAreEqual T.is_clone
         → map reply_value more.items ≡ map reply_value replies.items)) }
-    ensures order { OnOk result.0 (grid.new.order
-        ≡ order_after (list_symmetry (map command_value commands.items)) grid.old.order) }
-    ensures other_order { OnOk result.1 (other.new.order
-        ≡ order_after (list_symmetry (map command_value commands.items)) other.old.order) }
-    ensures count { IfOk result.0 (λ replies. length replies.items ≡ length commands.items) }
-    ensures stopped { IfErr result.0 (λ stop. (d : T) → All (RowsAreKnown T.is_default T.is_clone d)
-        (take stop.done (map command_value commands.items)) → grid.new.rows
-        ≡ run_rows d (take stop.done (map command_value commands.items)) grid.old.rows) }
-    ensures stop { IfErr result.0 (λ stop.
-        MayStop (map command_value commands.items) stop.done grid.new.rows) }
-    ensures other_stopped { IfErr result.1 (λ stop. (d : T)
-        → All (RowsAreKnown T.is_default T.is_clone d)
-        (take stop.done (map command_value other_commands.items)) → other.new.rows
-        ≡ run_rows d (take stop.done (map command_value other_commands.items)) other.old.rows) }
-    ensures other_stop { IfErr result.1 (λ stop.
-        MayStop (map command_value other_commands.items) stop.done other.new.rows) }
+    ensures law { (d : T) (xs : List (CommandValue T)) (old other_old new other_new : GridValue T)
+        (first last other_first other_last : Counts) (answers others : List (ReplyValue T))
+        → Ran T.is_clone T.is_default xs old new first last answers
+        → Ran T.is_clone T.is_default xs other_old other_new other_first other_last others
+        → other_old.rows ≡ old.rows → All (RowsAreKnown T.is_default T.is_clone d) xs
+        → (other_new.rows ≡ new.rows) × (ClonesAreEqual T.is_clone → others ≡ answers) }
 {
-    let first = run(alloc, grid, commands, &mut Tally::new());
-    let second = run(other_alloc, other, other_commands, &mut Tally::new());
+    let first = run(allocs.0, grid, commands, tally);
+    let second = run(allocs.1, other, other_commands, other_tally);
     (first, second)
 }

@@ -4,7 +4,7 @@
 //! count grew by the least number of swaps of two places. Those called `_law` say it of every table.
 #![tactic(auto)]
 
-ghost use Rattle.std.specs.Prelude.{◌≡◌, List, IfOk, IfErr, OnOk, OnErr, IsTrue, length, map, take};
+ghost use Rattle.std.specs.Prelude.{◌≡◌, ◌≤◌, List, IfOk, IfErr, OnOk, OnErr, IsTrue, length, map, take};
 ghost use Rattle.grid_base.specs.Table.{row_count, col_count, IsTable};
 ghost use Rattle.grid_base.specs.Order.{storage};
 ghost use Rattle.grid_base.specs.Symmetry.{act, order_after, IsInverse};
@@ -15,6 +15,7 @@ ghost use Rattle.grid_commands.specs.Command.{command_value, apply};
 ghost use Rattle.grid_commands.specs.Reply.{reply_value};
 ghost use Rattle.grid.specs.Cost.{command_symmetry, list_symmetry, step_price, step_shift};
 ghost use Rattle.grid.specs.Step.{RowsAreKnown, step_rows, step_reply, takes_memory};
+ghost use Rattle.grid.specs.Run.{MayStop};
 ghost use Rattle.grid_deferred.specs.Run.{RanDeferred};
 ghost use Rattle.grid_least.specs.Least.{HasDifferentCells, IsLeast, Shifts, filled_up, GrewByLeast};
 
@@ -70,6 +71,8 @@ where
         (filled_up d (length (storage grid.new.order grid.new.rows))
         (storage grid.old.order grid.old.rows))
         (storage grid.new.order grid.new.rows)) }
+    ensures symmetry_grows { tally.old.symmetry ≤ tally.new.symmetry }
+    ensures shift_grows { tally.old.shift ≤ tally.new.shift }
     ensures price_law { (t : List (List T)) (o : Order) → IsTable t → HasDifferentCells t
         → IsLeast (step_price (command_value command) (row_count t) (col_count t)) (storage o t)
         (storage (order_after (command_symmetry (command_value command)) o)
@@ -112,6 +115,8 @@ where
     ensures stopped { IfErr result (λ stop. RanDeferred T.is_clone T.is_default
         (take stop.done (map command_value commands.items))
         grid.old grid.new tally.old tally.new (map reply_value stop.replies.items)) }
+    ensures stop { IfErr result
+        (λ stop. MayStop (map command_value commands.items) stop.done grid.new.rows) }
     ensures least { IfOk result (λ _. (v : Symmetry)
         → IsInverse (list_symmetry (map command_value commands.items)) v
         → HasDifferentCells grid.new.rows
@@ -122,6 +127,8 @@ where
         → HasDifferentCells grid.new.rows
         → GrewByLeast tally.old.symmetry tally.new.symmetry
         (storage grid.old.order (act v grid.new.rows)) (storage grid.new.order grid.new.rows)) }
+    ensures symmetry_grows { tally.old.symmetry ≤ tally.new.symmetry }
+    ensures shift_grows { tally.old.shift ≤ tally.new.shift }
 {
     run_deferred(alloc, grid, commands, tally)
 }

@@ -6,9 +6,9 @@ use Rattle.grid_commands.specs.Command.{CommandValue, command_value}
 use Rattle.grid_play.specs.declared.fault.ScriptFault.{ScriptFault}
 use Rattle.grid_play.specs.declared.fault.ScriptFault.TheVariants.{BadCommand}
 use Rattle.std.proofs.Common.{ℤ}
-use Rattle.grid_play.specs.Lines.{first_line, later_lines, lines_of}
+use Rattle.text_lines.specs.Lines.{first_line, later_lines, lines_of}
 use Rattle.grid_play.specs.Script.{◌>>◌, line_commands, commands_from}
-use Rattle.grid_play.proofs.LineLemmas.{lines-first, lines-none}
+use Rattle.text_lines.proofs.LineLemmas.{lines-first, lines-none}
 
 -- the commands so far, and those of the lines that are left
 abbrev pub after_these : List (CommandValue ℤ) → Result (List (CommandValue ℤ)) ScriptFault → Result (List (CommandValue ℤ)) ScriptFault

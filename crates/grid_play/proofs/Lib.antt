@@ -1,8 +1,4 @@
-mod SplitLemmas
-mod TokenLemmas
-mod NumberLemmas
 mod CutLemmas
-mod LineLemmas
 mod GridLemmas
 mod CommandsLemmas
 mod ScriptLemmas

@@ -10,8 +10,8 @@ use Rattle.grid_commands.specs.declared.command.Axis.TheVariants.{Row, Col}
 use Rattle.grid_commands.specs.Command.{insert_at, insert_all, lines}
 use Rattle.grid.specs.Step.{step_rows, step_reply}
 use Rattle.grid_play.specs.declared.fault.ScriptFault.TheVariants.{BadGrid, BadCommand}
-use Rattle.grid_play.specs.Lines.{lines_of}
-use Rattle.grid_play.specs.Numbers.{number_up_to, index_of, cell_of}
+use Rattle.text_lines.specs.Lines.{lines_of}
+use Rattle.text_lines.specs.Numbers.{number_up_to, index_of, cell_of}
 use Rattle.grid_play.specs.Commands.{line_forms, number_forms, bare_forms, two_indices, index_and_line, index_and_lines, command_of}
 use Rattle.grid_play.specs.Script.{grid_of, line_commands, script_of}
 use Rattle.grid_play.specs.Output.{output_of, script_output}

@@ -4,9 +4,9 @@ use Rattle.std.specs.Prelude.{Ok, Err}
 use Rattle.grid_commands.specs.Command.{CommandValue}
 use Rattle.grid_play.specs.declared.fault.ScriptFault.{ScriptFault}
 use Rattle.grid_play.specs.declared.fault.ScriptFault.TheVariants.{BadGrid, Memory}
-use Rattle.grid_play.specs.Lines.{first_line, later_lines, lines_of}
+use Rattle.text_lines.specs.Lines.{first_line, later_lines, lines_of}
 use Rattle.grid_play.specs.Script.{◌>>◌, or_fault, Layout, grid_of, commands_from, script_of}
-use Rattle.grid_play.proofs.LineLemmas.{lines-none}
+use Rattle.text_lines.proofs.LineLemmas.{lines-none}
 use Rattle.grid_play.proofs.CommandsLemmas.{lines_at}
 
 pub no_lines : (input : List ℕ) → input ≡ [] → script_of input ≡ Err BadGrid

@@ -59,7 +59,7 @@ use Rattle.grid_commands.specs.Command.{
   clear,
   apply,
 }
-use Rattle.grid_play.specs.Numbers.{index_of, cell_of}
+use Rattle.text_lines.specs.Numbers.{index_of, cell_of}
 
 -- a step that may fail, and the next, which has its value
 infixl 10 ◌>>=◌

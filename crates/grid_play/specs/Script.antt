@@ -29,8 +29,8 @@ use Rattle.grid_base.specs.GridValue.{GridValue}
 use Rattle.grid_commands.specs.Command.{CommandValue}
 use Rattle.grid_play.specs.declared.fault.ScriptFault.{ScriptFault}
 use Rattle.grid_play.specs.declared.fault.ScriptFault.TheVariants.{BadGrid, BadCommand, Memory}
-use Rattle.grid_play.specs.Lines.{lines_of, words_of}
-use Rattle.grid_play.specs.Numbers.{index_of}
+use Rattle.text_lines.specs.Lines.{lines_of, words_of}
+use Rattle.text_lines.specs.Numbers.{index_of}
 use Rattle.grid_play.specs.Commands.{◌>>=◌, cells_of, can_be_cut, command_of}
 
 -- the words of a line, which is UTF-8

@@ -3,13 +3,13 @@ ghost use Rattle.std.specs.Prelude.{◌≡◌, ◌↔◌, ◌++◌, Some, codes,
 ghost use Rattle.std.specs.Option.{option_map};
 ghost use Rattle.grid_base.specs.Gather.{items_of_each};
 ghost use Rattle.grid_commands.specs.Command.{command_value};
-ghost use Rattle.grid_play.specs.Lines.{words_of};
+ghost use Rattle.text_lines.specs.Lines.{words_of};
 ghost use Rattle.grid_play.specs.Commands.{alone, bare_forms, number_forms, form_among, command_among, command_of, with_no_word, one_cell, one_index, two_indices, position_and_cell, two_positions, index_and_line, index_and_lines, lines_of_length};
 
 use crate::script::parse_cells;
-use crate::tokens::{Words, cell, index};
 use grid::{Command, Symmetry, can_cut};
 use std::alloc::{AllocError, Allocator};
+use text_lines::{Words, cell, index};
 
 /// Returns the command of a name and all words after it, or `None` where they are none.
 ///
@@ -128,7 +128,7 @@ fn parse_insert<A: Allocator>(
     ensures { IfOk result (λ read. option_map (λ p. (p.0, p.1.items)) read
         ≡ index_and_line (words_of words.entry.0.now)) }
 {
-    let Some(at) = words.next().and_then(index) else {
+    let Some(at) = words.next().and_then(|word| index(word)) else {
         return Ok(None);
     };
     Ok(parse_cells(alloc, words)?.map(|line| (at, line)))

@@ -6,7 +6,6 @@ mod fault;
 pub mod laws;
 mod run;
 mod script;
-mod tokens;
 
 pub use fault::ScriptFault;
 pub use run::play;

@@ -3,16 +3,16 @@ ghost use Rattle.std.specs.Prelude.{◌≡◌, ◌+◌, IfOk, map};
 ghost use Rattle.std.specs.Option.{option_map, option_to_list};
 ghost use Rattle.grid_commands.specs.Command.{command_value};
 ghost use Rattle.grid_play.specs.declared.fault.ScriptFault.TheVariants.{BadGrid};
-ghost use Rattle.grid_play.specs.Lines.{words_of, lines_of};
+ghost use Rattle.text_lines.specs.Lines.{words_of, lines_of};
 ghost use Rattle.grid_play.specs.Script.{IsOrMemory, or_fault, order_of, layout, grid_of, grid_of_words, line_commands, commands_from, script_of};
 ghost use Rattle.grid_play.specs.ScriptValue.{script_value};
 ghost use Rattle.grid_play.specs.Commands.{cells_of};
 
 use crate::command::parse_command;
 use crate::fault::ScriptFault;
-use crate::tokens::{Lines, Words, cell, index};
 use grid::{Command, Grid, Order, can_cut};
 use std::alloc::{AllocError, Allocator, Global};
+use text_lines::{Lines, Words, cell, index};
 
 /// A script that was read.
 #[derive(Drop)]

@@ -1,5 +1,5 @@
 //! What a grid stands on: its vector with counted swaps, and the laws of joined symmetries.
-use grid_base::laws::{identity_is_neutral, inverse_undoes, then_is_associative};
+use grid_base::laws::{identity_is_neutral, inverse_undoes, stands_in_all, then_is_associative};
 use grid_base::{Move, Symmetry};
 use test_support::fixtures::SYMMETRIES;
 
@@ -17,6 +17,13 @@ fn joined_symmetries_are_a_group(rt: HostRuntime) {
                 assert_eq!(rt; left, right);
             }
         }
+    }
+}
+
+#[test]
+fn all_symmetries_stand_in_their_order(rt: HostRuntime) {
+    for (place, symmetry) in SYMMETRIES.iter().enumerate() {
+        assert_eq!(rt; stands_in_all(*symmetry), place);
     }
 }
 

@@ -51,7 +51,8 @@ fn is_line(reply: &Result<Reply<u32>, AllocError>, want: &[u32]) -> bool {
 fn shows_a_turn(deferred: &Deferred<'_, u32>) -> bool {
     let cells = deferred.get(0, 1).copied() == Some(6) && deferred.get(3, 0).is_none();
     let lines = row_is(deferred, 0, &[3, 6]) && col_is(deferred, 0, &[3, 2, 1]);
-    deferred.size() == (3, 2) && cells && lines
+    let view = deferred.view().get(2, 1).copied() == Some(4);
+    deferred.size() == (3, 2) && cells && lines && view
 }
 
 fn check_reads(rt: &impl Abort, alloc: Global, order: Order) -> Result<(), Fail> {

@@ -72,3 +72,27 @@ fn puts_a_column_as_a_row_across(rt: HostRuntime) -> Result<(), Fail> {
     assert_eq!(rt; (grid.size(), other.size()), ((3, 1), (3, 1)));
     Ok(())
 }
+
+#[test]
+fn numbers_that_were_written_are_read_back(rt: HostRuntime) -> Result<(), Fail> {
+    let grid = grid_with(rt.alloc(), WIDE, Order::ColumnMajor)?;
+    let read = |word: &str| word.parse::<u32>().ok();
+    match grid_text::laws::numbers_written_and_read(rt.alloc(), &grid, read) {
+        Ok(again) => assert_rows(&rt, rt.alloc(), &again, WIDE, Order::RowMajor),
+        Err(_) => panic!(rt; "there is memory"),
+    }
+}
+
+// Of the cells round (0, 2) the first is (0, 1).
+#[test]
+fn steps_lead_to_neighbors(rt: HostRuntime) -> Result<(), Fail> {
+    let grid = grid_with(rt.alloc(), WIDE, Order::ColumnMajor)?;
+    let sized = 0 < grid.rows() && 2 < grid.cols();
+    assert!(rt; sized);
+    if sized {
+        let sides = grid_paths::laws::sides_are_neighbors4(&grid, (0, 2)).next();
+        let all = grid_paths::laws::all_are_neighbors8(&grid, (0, 2)).next();
+        assert!(rt; sides == Some(((0, 1), &2)) && all == Some(((0, 1), &2)));
+    }
+    Ok(())
+}

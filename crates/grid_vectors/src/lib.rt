@@ -8,7 +8,11 @@ mod base;
 #[cfg(test)]
 mod callers;
 #[cfg(test)]
+mod composed;
+#[cfg(test)]
 mod deferred;
+#[cfg(test)]
+mod joins;
 #[cfg(test)]
 mod json;
 #[cfg(test)]
@@ -17,5 +21,7 @@ mod laws;
 mod least;
 #[cfg(test)]
 mod run_laws;
+#[cfg(test)]
+mod views;
 #[cfg(test)]
 mod worked;

@@ -55,7 +55,16 @@ fn check_in_either_order(
 {
     let first = push_and_turn(alloc)?;
     let second = push_and_turn(alloc)?;
-    let (ran, other_ran) = run_in_either_order(alloc, grid, first, alloc, other, second);
+    let (mut tally, mut other_tally) = (Tally::new(), Tally::new());
+    let (ran, other_ran) = run_in_either_order(
+        (alloc, alloc),
+        grid,
+        other,
+        first,
+        second,
+        &mut tally,
+        &mut other_tally,
+    );
     assert!(rt; went(&ran) && went(&other_ran));
     Ok(())
 }
@@ -80,11 +89,17 @@ fn check_at_once_and_deferred(
 {
     let first = push_and_turn(alloc)?;
     let second = push_and_turn(alloc)?;
-    let mut tally = Tally::new();
-    match run_at_once_and_deferred((alloc, alloc), grid, other, first, second, &mut tally) {
-        Some((replies, others)) => assert!(rt; is_due(&replies) && is_due(&others)),
-        None => panic!(rt; "there is memory"),
-    }
+    let (mut tally, mut other_tally) = (Tally::new(), Tally::new());
+    let (at_once, deferred) = run_at_once_and_deferred(
+        (alloc, alloc),
+        grid,
+        other,
+        first,
+        second,
+        &mut tally,
+        &mut other_tally,
+    );
+    assert!(rt; went(&at_once) && went(&deferred));
     Ok(())
 }
 

@@ -33,7 +33,7 @@ fn lives(board: &Grid<bool>, row: usize, col: usize, live: bool) -> bool
     requires { InRange board.now.rows row col }
     ensures { result ≡ rule live (live_neighbors board.now.rows row col) }
 {
-    let near = board.count_wrapped_neighbors8(row, col, |near| *near);
+    let near = board.count_wrapped_neighbors8((row, col), |near| *near);
     near == 3 || (live && near == 2)
 }
 

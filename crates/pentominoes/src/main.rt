@@ -50,7 +50,7 @@ fn trim(shape: &mut Shape) {
 fn grow(shape: &Shape, grown: &mut Vec<Shape>) -> Result<()> {
     let padded = padded(shape)?;
     for ((row, col), filled) in padded.indexed_iter() {
-        if !*filled && padded.neighbors4(row, col).any(|(_, near)| *near) {
+        if !*filled && padded.neighbors4((row, col)).any(|(_, near)| *near) {
             let mut larger = padded.clone()?;
             if let Some(cell) = larger.get_mut(row, col) {
                 *cell = true;

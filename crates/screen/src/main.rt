@@ -4,7 +4,7 @@
 //! a line, and at last the screen is set on end. Deferred, the turns join to one, and only that one moves cells.
 #![tactic(auto)]
 
-use anyhow::{Result, bail};
+use anyhow::Result;
 use grid::{Command, Grid, Reply, Symmetry, Tally, grid, run};
 use grid_deferred::run_deferred;
 use std::alloc::{AllocError, Global};
@@ -38,19 +38,16 @@ fn run_on_words(alloc: Global, deferred: bool) -> Result<Ran> {
     let mut screen = words(alloc)?;
     let commands = frame_scroll_turn(alloc)?;
     let mut tally = Tally::new();
-    let ran = if deferred {
-        run_deferred(alloc, &mut screen, commands, &mut tally)
+    let replies = if deferred {
+        run_deferred(alloc, &mut screen, commands, &mut tally)?
     } else {
-        run(alloc, &mut screen, commands, &mut tally)
+        run(alloc, &mut screen, commands, &mut tally)?
     };
-    match ran {
-        Ok(replies) => Ok(Ran {
-            screen,
-            replies,
-            tally,
-        }),
-        Err(stopped) => bail!("out of memory after {} commands", stopped.done),
-    }
+    Ok(Ran {
+        screen,
+        replies,
+        tally,
+    })
 }
 
 fn words(alloc: Global) -> Result<Grid<char>> {

@@ -1,5 +1,5 @@
-//! Iterators over strings, for writing and by value, which are dropped after one item from each end that they have.
-use grid::{Grid, Order};
+//! Iterators over strings, each dropped after one item from each end that it has. The grid is read or edited again.
+use grid::{Grid, GridLineIter, GridRowIter, Order};
 use std::alloc::{AllocError, Global};
 use std::process::Abort;
 use std::slice;
@@ -45,6 +45,86 @@ fn write_ends(grid: &mut Grid<String>) -> Result<(), AllocError> {
     mark_ends(grid.iter_mut(), "1", "2")?;
     mark_ends((&mut *grid).into_iter(), "3", "4")?;
     mark_first(grid, "5")
+}
+
+// Adds the text of a cell that was handed out.
+fn add(text: &mut String, cell: Option<&String>) -> Result<(), AllocError> {
+    match cell {
+        Some(cell) => text.push_str(cell.as_str()),
+        None => text.push_str("?"),
+    }
+}
+
+// Adds those of both ends of a line.
+fn add_ends(text: &mut String, line: Option<GridLineIter<'_, String>>) -> Result<(), AllocError> {
+    match line {
+        Some(mut line) => {
+            add(text, line.next())?;
+            add(text, line.next_back())
+        }
+        None => text.push_str("?"),
+    }
+}
+
+// Adds those of the first line and of the last.
+fn add_lines(text: &mut String, mut lines: GridRowIter<'_, String>) -> Result<(), AllocError> {
+    add_ends(text, lines.next())?;
+    add_ends(text, lines.next_back())
+}
+
+// Reads both ends of all cells, by the call and by reference, and the first cell with its position.
+fn read_cells(grid: &Grid<String>, text: &mut String) -> Result<(), AllocError> {
+    let mut cells = grid.iter();
+    add(text, cells.next())?;
+    add(text, cells.next_back())?;
+    let mut cells = grid.into_iter();
+    add(text, cells.next())?;
+    add(text, cells.next_back())?;
+    add(text, grid.indexed_iter().next().map(|(_, cell)| cell))
+}
+
+// Reads the first and the last line, then the second row and the second column.
+fn read_lines(rt: &impl Abort, grid: &Grid<String>, text: &mut String) -> Result<(), AllocError> {
+    add_lines(text, grid.iter_rows())?;
+    add_lines(text, grid.iter_cols())?;
+    assert!(rt; 1 < grid.rows());
+    add_ends(text, Some(grid.iter_row(1)))?;
+    assert!(rt; 1 < grid.cols());
+    add_ends(text, Some(grid.iter_col(1)))
+}
+
+// Reads the first of the cells round the second cell of the first row.
+fn read_near(rt: &impl Abort, grid: &Grid<String>, text: &mut String) -> Result<(), AllocError> {
+    let there = 0 < grid.rows() && 1 < grid.cols();
+    assert!(rt; there);
+    add(text, grid.neighbors4((0, 1)).next().map(|(_, cell)| cell))?;
+    add(text, grid.neighbors8((0, 1)).next().map(|(_, cell)| cell))?;
+    add(
+        text,
+        grid.wrapped_neighbors4((0, 1)).next().map(|(_, cell)| cell),
+    )?;
+    add(
+        text,
+        grid.wrapped_neighbors8((0, 1)).next().map(|(_, cell)| cell),
+    )
+}
+
+fn check_reading(rt: &impl Abort, alloc: Global, order: Order) -> Result<(), Fail> {
+    let grid = letters(alloc, order)?;
+    let mut text = String::new(alloc);
+    read_cells(&grid, &mut text)?;
+    read_lines(rt, &grid, &mut text)?;
+    read_near(rt, &grid, &mut text)?;
+    assert_eq!(rt; text.as_str(), "afafaacdfadcfdfbeaaed");
+    Ok(())
+}
+
+#[test]
+fn reading(rt: HostRuntime) -> Result<(), Fail> {
+    for order in [Order::RowMajor, Order::ColumnMajor] {
+        check_reading(&rt, rt.alloc(), order)?;
+    }
+    Ok(())
 }
 
 // Iterators along the second row and the second column.

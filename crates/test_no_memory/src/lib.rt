@@ -1,4 +1,5 @@
-//! Memory and clones that are refused in turn, and iterators that are dropped early.
+//! What no line of a case tells (`test_refusals` has those): texts and scripts whose memory is refused in turn, carried
+//! lines without memory, cells that can't be cloned, and iterators that are dropped early.
 #![tactic(auto)]
 
 #[cfg(test)]
@@ -6,20 +7,16 @@ mod asserts;
 #[cfg(test)]
 mod carried;
 #[cfg(test)]
-mod cloning;
-#[cfg(test)]
-mod commands;
-#[cfg(test)]
 mod dropped;
 #[cfg(test)]
 mod fuse;
 #[cfg(test)]
-mod maps;
+mod joins;
 #[cfg(test)]
 mod memory;
 #[cfg(test)]
 mod play;
 #[cfg(test)]
-mod refused;
-#[cfg(test)]
 mod texts;
+#[cfg(test)]
+mod views;

@@ -4,6 +4,7 @@ ghost use Rattle.std.specs.Prelude.{◌≡◌};
 use grid::{Grid, Move, Order, ShapeError, Symmetry, can_cut};
 use std::alloc::{AllocError, Allocator, Global};
 use std::cell::Cell;
+use std::fmt;
 use test_reference::fuse::Fuse;
 use test_reference::plain;
 
@@ -124,34 +125,6 @@ pub fn grid_of(
 ) -> Result<Grid<u32>, ShapeError> {
     let (_, cols) = plain::size(table);
     cut(plain::storage(alloc, order, table)?, cols, order)
-}
-
-// The grid of a table, whose heap refuses each request from before the grid is made.
-pub fn starved_grid_of<'a>(
-    alloc: Global,
-    heap: &'a Heap,
-    table: &Vec<Vec<u32>>,
-    order: Order,
-) -> Result<Grid<u32, &'a Heap>, ShapeError> {
-    let cells = plain::storage(alloc, order, table)?;
-    heap.grant(1);
-    let cells = Vec::from_slice(heap, cells.as_slice())?;
-    heap.grant(0);
-    let (_, cols) = plain::size(table);
-    cut(cells, cols, order)
-}
-
-// The grid of this size and order that has stored 1, 2, 3, .., whose heap refuses each request from before the grid is
-// made.
-pub fn counted<'a>(
-    heap: &'a Heap,
-    (rows, cols): (usize, usize),
-    order: Order,
-) -> Result<Grid<u32, &'a Heap>, ShapeError> {
-    heap.grant(1);
-    let cells = line_from(heap, 1, rows.wrapping_mul(cols))?;
-    heap.grant(0);
-    cut(cells, cols, order)
 }
 
 // Whether a grid has the cells of a table, in range and past its ends.
@@ -386,6 +359,12 @@ pub struct Fragile<'a> {
     pub granted: Option<&'a Cell<u64>>,
 }
 
+impl fmt::Debug for Fragile<'_> {
+    fn fmt<W: fmt::Write>(&self, f: &mut fmt::Formatter<W>) -> fmt::Result {
+        write!(f, "{}", self.value)
+    }
+}
+
 impl Clone for Fragile<'_> {
     ghost is_clone = { λ x y. y ≡ x };
 
@@ -401,39 +380,4 @@ impl Clone for Fragile<'_> {
             granted: self.granted,
         })
     }
-}
-
-fn fragile_from_one<'a, A: Allocator>(
-    alloc: A,
-    granted: &'a Cell<u64>,
-    len: u32,
-) -> Result<Vec<Fragile<'a>, A>, AllocError> {
-    let mut cells = Vec::new(alloc);
-    for value in 1..=len {
-        cells.push(Fragile {
-            value,
-            granted: Some(granted),
-        })?;
-    }
-    Ok(cells)
-}
-
-// Two rows and two columns, which have stored 1, 2, 3 and 4 in an order.
-pub fn fragile_cells<'a, A: Allocator>(
-    alloc: A,
-    granted: &'a Cell<u64>,
-    order: Order,
-) -> Result<Grid<Fragile<'a>, A>, ShapeError> {
-    cut(fragile_from_one(alloc, granted, 4)?, 2, order)
-}
-
-// Whether a grid of two rows and two columns has stored cells of these values in this order.
-pub fn has_values<A: Allocator>(grid: &Grid<Fragile, A>, order: Order, values: &[u32]) -> bool {
-    let mut left = values.iter();
-    for cell in grid.flatten() {
-        if left.next() != Some(&cell.value) {
-            return false;
-        }
-    }
-    grid.size() == (2, 2) && grid.order() == order && left.next().is_none()
 }

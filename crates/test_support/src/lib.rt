@@ -4,3 +4,4 @@
 pub mod fixtures;
 pub mod iterators;
 pub mod line_edits;
+pub mod requests;

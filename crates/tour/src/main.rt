@@ -1,7 +1,7 @@
 //! A first hour with the library: fills a board, looks round its cells, edits and turns it, and runs commands.
 #![tactic(auto)]
 
-use anyhow::{Result, bail};
+use anyhow::Result;
 use grid::{Command, Grid, Move, Tally, reduce, run};
 use std::alloc::{AllocError, Global};
 
@@ -27,15 +27,13 @@ fn show<R: Print + AllocGlobal>(rt: &R) -> Result<()> {
     // How many ones each one touches.
     for ((row, col), cell) in board.indexed_iter() {
         if *cell == 1 {
-            let ones = board.count_neighbors8(row, col, |near| *near == 1);
+            let ones = board.count_neighbors8((row, col), |near| *near == 1);
             println!(rt; "({row}, {col}) touches {ones}")?;
         }
     }
 
-    // The line comes back if there is no memory.
-    if let Err(refused) = board.insert_row(1, vec![in alloc; 7, 8, 9]?) {
-        bail!("no memory for {:?}", refused.line);
-    }
+    // If there is no memory, the error has the line, and the board is unchanged.
+    board.insert_row(1, vec![in alloc; 7, 8, 9]?)?;
 
     // Moves are joined to one symmetry.
     let turn = reduce(&[Move::RotateLeft, Move::FlipCols]);
@@ -43,10 +41,8 @@ fn show<R: Print + AllocGlobal>(rt: &R) -> Result<()> {
     println!(rt; "{board:?} after {turn:?}")?;
 
     // Each command has a reply.
-    match run(alloc, &mut board, edits(alloc)?, &mut Tally::new()) {
-        Ok(replies) => println!(rt; "{board:?} after {replies:?}")?,
-        Err(stopped) => bail!("no memory after {} commands", stopped.done),
-    }
+    let replies = run(alloc, &mut board, edits(alloc)?, &mut Tally::new())?;
+    println!(rt; "{board:?} after {replies:?}")?;
     Ok(())
 }
 

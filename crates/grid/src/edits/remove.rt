@@ -12,7 +12,7 @@ use grid_base::{Flat, Order, Tally};
 use std::alloc::{AllocError, Allocator};
 
 // The number of columns of a grid with `rest` rows: 0 where there is no row.
-fn cols_if_rows(rest: usize, cols: usize) -> usize
+pub(super) fn cols_if_rows(rest: usize, cols: usize) -> usize
     ensures { result ≡ cols_if_rows rest cols }
 {
     if rest == 0 { 0 } else { cols }
@@ -135,9 +135,8 @@ impl<T, A: Allocator> Grid<T, A> {
             return Ok(Some(self.cut_last_row()?));
         }
         let alloc = self.flat.allocator().clone()?;
-        let mut line = Vec::with_capacity(alloc, self.cols())?;
-        self.move_row_out(at, &mut line);
-        Ok(Some(line))
+        let line = Vec::with_capacity(alloc, self.cols())?;
+        Ok(Some(self.move_row_out(at, line)))
     }
 
     /// Removes column `at` and returns it, or `None` where there is none. The order stays. Taking the only column
@@ -187,20 +186,21 @@ impl<T, A: Allocator> Grid<T, A> {
         Ok(line)
     }
 
-    // Removes row `at`, which is in range, into a vector that has room for it.
-    fn move_row_out(&mut self, at: usize, line: &mut Vec<T, A>)
+    // Removes row `at`, which is in range, into an empty vector that has room for it, and returns it.
+    fn move_row_out(&mut self, at: usize, line: Vec<T, A>) -> Vec<T, A>
         requires within { at < row_count self.old.rows }
-        requires none { line.old.items ≡ [] }
-        requires room { col_count self.old.rows ≤ vec_capacity line.old }
+        requires none { line.items ≡ [] }
+        requires room { col_count self.old.rows ≤ vec_capacity line }
         ensures rows { self.new.rows ≡ remove self.old.rows at }
-        ensures line { slice_get self.old.rows at ≡ Some line.new.items }
+        ensures line { slice_get self.old.rows at ≡ Some result.items }
         ensures order { self.new.order ≡ self.old.order }
     {
         let rest = self.row_count - 1;
         unweave_row(&mut self.flat, self.order, rest, self.col_count, at);
-        self.flat.move_tail(rest * self.col_count, line);
+        let line = self.flat.move_tail(rest * self.col_count, line);
         self.row_count = rest;
         self.col_count = cols_if_rows(rest, self.col_count);
+        line
     }
 
     /// Drops row `at`, and returns whether there was one; if not, nothing changes. The order stays. Deleting the only

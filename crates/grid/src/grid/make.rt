@@ -1,8 +1,8 @@
 //! Constructors of a grid by its size.
-ghost use Rattle.std.specs.Prelude.{◌≡◌, [], All, IfOk};
+ghost use Rattle.std.specs.Prelude.{◌≡◌, [], All, Ok, IfOk, IfErr};
 ghost use Rattle.grid_base.specs.Order.{storage};
 ghost use Rattle.grid_base.specs.Clones.{ClonesAreEqual};
-ghost use Rattle.grid.specs.Make.{IsMade, FailsBySize, EachCellIs, IsOnlyDefault, CallableOver, TabulatedOver};
+ghost use Rattle.grid.specs.Make.{IsMade, FailsBySize, EachCellIs, IsOnlyDefault, CallableOver, TabulatedOver, AnsweredOver, FailsAt};
 
 use crate::{Grid, GridError};
 use grid_base::{Flat, Order};
@@ -72,7 +72,8 @@ impl<T, A: Allocator> Grid<T, A> {
     ///
     ///     init(alloc, 2, 2, 7)   [[7, 7], [7, 7]]
     ///
-    /// Requires: clones of the cell type equal their source.
+    /// Requires: clones of the cell type equal their source. Where they needn't, as of cells that hold a `String`, call
+    /// [`try_from_fn`](Grid::try_from_fn) with a closure that clones the value.
     /// Fails: `TooLarge` where `rows * cols` passes `usize::MAX`, else `Memory`; the value is dropped. Without rows or
     /// without columns it takes no memory and never fails.
     /// Cost: one clone for each cell but the last; one allocation, and those of the clones.
@@ -130,6 +131,7 @@ impl<T, A: Allocator> Grid<T, A> {
         requires { CallableOver F.pre f rows cols }
         ensures made { IfOk result (IsMade Order.RowMajor rows cols) }
         ensures cells { IfOk result (λ g. TabulatedOver F.post f rows cols g.rows) }
+        ensures answers { IfOk result (λ g. AnsweredOver F.post f rows cols g.rows) }
         ensures fails { FailsBySize rows cols result }
     {
         Grid::from_fn_with_order(alloc, rows, cols, Order::RowMajor, f)
@@ -146,6 +148,7 @@ impl<T, A: Allocator> Grid<T, A> {
         requires { CallableOver F.pre f rows cols }
         ensures made { IfOk result (IsMade order rows cols) }
         ensures cells { IfOk result (λ g. TabulatedOver F.post f rows cols g.rows) }
+        ensures answers { IfOk result (λ g. AnsweredOver F.post f rows cols g.rows) }
         ensures fails { FailsBySize rows cols result }
     {
         if rows == 0 || cols == 0 {
@@ -161,6 +164,73 @@ impl<T, A: Allocator> Grid<T, A> {
             col_count: cols,
             order,
         })
+    }
+
+    /// Same as [`from_fn`](Grid::from_fn) of a closure that may fail. `Ok(Err(error))` is its first error, in storage order;
+    /// the cells that were made are dropped. `??` passes on either error.
+    ///
+    ///     try_from_fn(alloc, 2, 3, |(row, col)| Ok(10 * row + col))   Ok(Ok([[0, 1, 2], [10, 11, 12]]))
+    ///
+    /// Requires: as `from_fn`.
+    /// Fails: as `from_fn`.
+    /// Cost: one call for each cell, up to the first error; one allocation, before the first call.
+    pub fn try_from_fn<E, F: Fn((usize, usize)) -> Result<T, E>>(
+        alloc: A,
+        rows: usize,
+        cols: usize,
+        f: F,
+    ) -> Result<Result<Grid<T, A>, E>, GridError>
+    where
+        T: Drop,
+        requires { CallableOver F.pre f rows cols }
+        ensures made { IfOk result (λ made. IfOk made (IsMade Order.RowMajor rows cols)) }
+        ensures cells { IfOk result (λ made. IfOk made
+            (λ g. TabulatedOver (λ f at y. F.post f at (Ok y)) f rows cols g.rows)) }
+        ensures answers { IfOk result (λ made. IfOk made
+            (λ g. AnsweredOver (λ f at y. F.post f at (Ok y)) f rows cols g.rows)) }
+        ensures failed { IfOk result (λ made. IfErr made
+            (FailsAt (F.post f) Order.RowMajor rows cols)) }
+        ensures fails { FailsBySize rows cols result }
+    {
+        Grid::try_from_fn_with_order(alloc, rows, cols, Order::RowMajor, f)
+    }
+
+    /// Same as [`try_from_fn`](Grid::try_from_fn), in this order.
+    pub fn try_from_fn_with_order<E, F: Fn((usize, usize)) -> Result<T, E>>(
+        alloc: A,
+        rows: usize,
+        cols: usize,
+        order: Order,
+        f: F,
+    ) -> Result<Result<Grid<T, A>, E>, GridError>
+    where
+        T: Drop,
+        requires { CallableOver F.pre f rows cols }
+        ensures made { IfOk result (λ made. IfOk made (IsMade order rows cols)) }
+        ensures cells { IfOk result (λ made. IfOk made
+            (λ g. TabulatedOver (λ f at y. F.post f at (Ok y)) f rows cols g.rows)) }
+        ensures answers { IfOk result (λ made. IfOk made
+            (λ g. AnsweredOver (λ f at y. F.post f at (Ok y)) f rows cols g.rows)) }
+        ensures failed { IfOk result (λ made. IfErr made (FailsAt (F.post f) order rows cols)) }
+        ensures fails { FailsBySize rows cols result }
+    {
+        if rows == 0 || cols == 0 {
+            return Ok(Ok(Grid::empty_with_order(alloc, order)));
+        }
+        let too_large = rows.checked_mul(cols).is_none();
+        if too_large {
+            return Err(GridError::TooLarge);
+        }
+        let made = Flat::try_from_fn(alloc, order, rows, cols, f)?;
+        match made {
+            Ok(flat) => Ok(Ok(Grid {
+                flat,
+                row_count: rows,
+                col_count: cols,
+                order,
+            })),
+            Err(error) => Ok(Err(error)),
+        }
     }
 
     /// Returns an empty row-major grid with room for this many rows and columns.

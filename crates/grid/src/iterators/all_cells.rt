@@ -5,7 +5,7 @@ ghost use Rattle.grid_base.specs.Table.{row_count, col_count};
 ghost use Rattle.grid_base.specs.Order.{storage};
 ghost use Rattle.grid_base.specs.ClosureCalls.{MapsTo, CallableAtEach, CallableAtRefs, CallableTimes, Generates, PairsUp};
 ghost use Rattle.grid_base.specs.Clones.{ClonesAreEqual};
-ghost use Rattle.grid.specs.AllCells.{filled, CallableAtPositions, TabulatedBy};
+ghost use Rattle.grid.specs.AllCells.{filled, CallableAtPositions, TabulatedBy, AnsweredBy};
 
 use crate::Grid;
 use std::alloc::{AllocError, Allocator};
@@ -15,7 +15,11 @@ impl<T, A: Allocator> Grid<T, A> {
     ///
     ///     [[1, 2], [3, 4]]   fill(7)   [[7, 7], [7, 7]]
     ///
-    /// Requires: clones of the cell type equal their source.
+    /// Where the cells are `Copy`, [`fill_with(|| value)`](Grid::fill_with) does the same, is faster, takes no memory and
+    /// never fails.
+    ///
+    /// Requires: clones of the cell type equal their source. Where they needn't, as of cells that hold a `String`, call
+    /// [`step`](Grid::step) with [`Command::Fill`](crate::Command::Fill).
     /// Fails: where memory is refused; the grid is unchanged, and the value is dropped. An empty grid takes no memory
     /// and never fails.
     /// Cost: one clone for each cell but the last, all of them before the first change; one allocation, of a second
@@ -53,7 +57,7 @@ impl<T, A: Allocator> Grid<T, A> {
     ///     [[1, 2], [3, 4]]   fill_with(|| { n += 1; n * 10 })   row-major [[10, 20], [30, 40]], where n was 0
     ///
     /// Requires: the closure can be called once for each cell, in turn.
-    /// Cost: one call for each cell; no memory.
+    /// Cost: one call for each cell; no memory. `fill_with(|| value)` of a `Copy` value is as fast as a slice's `fill`.
     pub fn fill_with<F: FnMut() -> T>(&mut self, f: F)
     where
         T: Drop,
@@ -156,6 +160,7 @@ impl<T, A: Allocator> Grid<T, A> {
         ensures rows { IfOk result (λ g. row_count g.rows ≡ row_count self.now.rows) }
         ensures cols { IfOk result (λ g. col_count g.rows ≡ col_count self.now.rows) }
         ensures cells { IfOk result (λ g. TabulatedBy F.post f self.now.rows g.rows) }
+        ensures answers { IfOk result (λ g. AnsweredBy F.post f self.now.rows g.rows) }
     {
         let order = self.order;
         let flat = self
@@ -184,6 +189,7 @@ impl<T, A: Allocator> Grid<T, A> {
         ensures rows { row_count self.new.rows ≡ row_count self.old.rows }
         ensures cols { col_count self.new.rows ≡ col_count self.old.rows }
         ensures cells { TabulatedBy F.post f self.old.rows self.new.rows }
+        ensures answers { AnsweredBy F.post f self.old.rows self.new.rows }
     {
         self.flat
             .update(self.order, self.row_count, self.col_count, f);

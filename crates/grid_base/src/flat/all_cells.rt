@@ -1,14 +1,14 @@
 //! Calls on all cells of a `Flat`.
-ghost use Rattle.std.specs.Prelude.{◌≡◌, ◌*◌, ◌^◌, ◌<◌, length, replicate, zip, IsOk, IfOk, IfErr, OnOk, OnErr};
+ghost use Rattle.std.specs.Prelude.{◌≡◌, ◌+◌, ◌*◌, ◌^◌, ◌<◌, ◌≤◌, length, replicate, take, zip, vec_len, vec_capacity, Ok, IsOk, IfOk, IfErr, OnOk, OnErr};
 ghost use Rattle.std.specs.Fn.{FnReturnsAt};
-ghost use Rattle.grid_base.specs.ClosureCalls.{MapsTo, CallableAtEach, CallableAtRefs, CallableTimes, CallableAtCells, CallableAtItems, ReturnsAtCell, Generates, PairsUp};
+ghost use Rattle.grid_base.specs.ClosureCalls.{MapsTo, CallableAtEach, CallableAtRefs, CallableTimes, CallableAtCells, CallableAtItems, ReturnsAtCell, Generates, PairsUp, FailsFirst};
 ghost use Rattle.grid_base.specs.GridValue.{HoldsSize};
 ghost use Rattle.grid_base.specs.Table.{IsSize};
-ghost use Rattle.grid_base.specs.Positions.{positions};
+ghost use Rattle.grid_base.specs.Positions.{positions, along};
 ghost use Rattle.grid_base.specs.Clones.{ClonesAreEqual};
 
 use super::Flat;
-use super::positions::Positions;
+use super::positions::{Positions, by_line};
 use crate::Order;
 use std::alloc::{AllocError, Allocator};
 
@@ -32,14 +32,51 @@ impl<T, A: Allocator> Flat<T, A> {
         ensures len { IfOk result (λ g. length g ≡ rows * cols) }
         ensures cells { IfOk result (λ g. PairsUp (F.post f) (positions order rows cols) g) }
     {
+        let (lines, _) = by_line(order, rows, cols);
         let mut cells = Vec::with_capacity(alloc, rows * cols)?;
-        for at in Positions::new(order, rows, cols) {
-            cells.push_reserved(f(at));
+        for line in 0..lines {
+            push_line(&mut cells, order, rows, cols, line, &f);
         }
         Ok(Flat { cells })
     }
 
-    /// Makes every cell a clone of the value, or the value.
+    /// Same as [`from_fn`](Flat::from_fn) of a closure that may fail: its first error comes back, and the cells that were
+    /// made are dropped.
+    ///
+    /// Requires: as `from_fn`.
+    /// Fails: where memory is refused; the closure wasn't called.
+    /// Cost: one call for each cell, up to the first error; one allocation, before the first call.
+    pub fn try_from_fn<E, F: Fn((usize, usize)) -> Result<T, E>>(
+        alloc: A,
+        order: Order,
+        rows: usize,
+        cols: usize,
+        f: F,
+    ) -> Result<Result<Flat<T, A>, E>, AllocError>
+    where
+        T: Drop,
+        requires below { rows * cols < 2 ^ 64 }
+        requires size { IsSize rows cols }
+        requires calls { CallableAtItems F.pre f (positions order rows cols) }
+        ensures len { IfOk result (λ made. IfOk made (λ g. length g ≡ rows * cols)) }
+        ensures cells { IfOk result (λ made. IfOk made
+            (PairsUp (λ at y. F.post f at (Ok y)) (positions order rows cols))) }
+        ensures failed { IfOk result (λ made. IfErr made
+            (FailsFirst (F.post f) (positions order rows cols))) }
+    {
+        let mut cells = Vec::with_capacity(alloc, rows * cols)?;
+        let positions = Positions::new(order, rows, cols);
+        for at in positions {
+            match f(at) {
+                Ok(cell) => cells.push_reserved(cell),
+                Err(error) => return Ok(Err(error)),
+            }
+        }
+        Ok(Ok(Flat { cells }))
+    }
+
+    /// Makes every cell a clone of the value, or the value. Where a cell is `Copy`, [`fill_with`](Flat::fill_with) of a
+    /// closure that returns the value does the same, takes no memory and can't fail.
     ///
     /// Requires: clones of the cell type equal their source.
     /// Fails: where memory is refused; the cells are unchanged, and the value is dropped. Without cells it takes no
@@ -155,8 +192,10 @@ impl<T, A: Allocator> Flat<T, A> {
     {
         let alloc = self.cells.allocator().clone()?;
         let mut mapped = Vec::with_capacity(alloc, self.cells.len())?;
-        for (at, cell) in self.indexed_iter(order, rows, cols) {
-            mapped.push_reserved(f(at, cell));
+        let (lines, _) = by_line(order, rows, cols);
+        let cells = self.cells.as_slice();
+        for line in 0..lines {
+            push_mapped(&mut mapped, cells, order, rows, cols, line, &f);
         }
         Ok(Flat { cells: mapped })
     }
@@ -185,9 +224,68 @@ impl<T, A: Allocator> Flat<T, A> {
         let mut left = Positions::new(order, rows, cols);
         let cells = self.cells.as_mut_slice();
         for cell in cells.iter_mut() {
-            if let Some(at) = left.next() {
-                *cell = f(at, cell);
-            }
+            let at = left.pass();
+            *cell = f(at, cell);
         }
+    }
+}
+
+// Appends what the closure returns at each position of the next line along the storage. Such a loop is vectorised, and
+// one over all positions isn't.
+fn push_line<T, A: Allocator, F: Fn((usize, usize)) -> T>(
+    cells: &mut Vec<T, A>,
+    order: Order,
+    rows: usize,
+    cols: usize,
+    line: usize,
+    f: &F,
+)
+    requires size { IsSize rows cols }
+    requires line { line < (along order rows cols).0 }
+    requires calls { CallableAtItems F.pre f.now (positions order rows cols) }
+    requires room { rows * cols ≤ vec_capacity cells.old }
+    requires passed { vec_len cells.old ≡ line * (along order rows cols).1 }
+    requires answers { PairsUp
+        (F.post f.now) (take (vec_len cells.old) (positions order rows cols)) cells.old.items }
+    ensures room { vec_capacity cells.new ≡ vec_capacity cells.old }
+    ensures passed { vec_len cells.new ≡ vec_len cells.old + (along order rows cols).1 }
+    ensures answers { PairsUp
+        (F.post f.now) (take (vec_len cells.new) (positions order rows cols)) cells.new.items }
+{
+    let (_, width) = by_line(order, rows, cols);
+    for k in 0..width {
+        let at = by_line(order, line, k);
+        cells.push_reserved(f(at));
+    }
+}
+
+// Appends what the closure returns at each position of the next line along the storage, and a reference to the cell
+// there.
+fn push_mapped<T, U, A: Allocator, F: Fn((usize, usize), &T) -> U>(
+    mapped: &mut Vec<U, A>,
+    cells: &[T],
+    order: Order,
+    rows: usize,
+    cols: usize,
+    line: usize,
+    f: &F,
+)
+    requires size { HoldsSize rows cols (length cells.now) }
+    requires line { line < (along order rows cols).0 }
+    requires calls { CallableAtCells F.pre f.now (zip (positions order rows cols) cells.now) }
+    requires room { rows * cols ≤ vec_capacity mapped.old }
+    requires passed { vec_len mapped.old ≡ line * (along order rows cols).1 }
+    requires answers { PairsUp (ReturnsAtCell F.post f.now)
+        (take (vec_len mapped.old) (zip (positions order rows cols) cells.now)) mapped.old.items }
+    ensures room { vec_capacity mapped.new ≡ vec_capacity mapped.old }
+    ensures passed { vec_len mapped.new ≡ vec_len mapped.old + (along order rows cols).1 }
+    ensures answers { PairsUp (ReturnsAtCell F.post f.now)
+        (take (vec_len mapped.new) (zip (positions order rows cols) cells.now)) mapped.new.items }
+{
+    let (_, width) = by_line(order, rows, cols);
+    let start = line * width;
+    for k in 0..width {
+        let at = by_line(order, line, k);
+        mapped.push_reserved(f(at, &cells[start + k]));
     }
 }

@@ -3,6 +3,7 @@ ghost use Rattle.std.specs.Prelude.{◌≡◌, ◌+◌, ◌-◌, ◌≤◌, [], 
 ghost use Rattle.grid_base.specs.Append.{AppendsEach};
 
 use super::Flat;
+use core::mem::replace_with;
 use std::alloc::{AllocError, Allocator};
 use std::mem::replace;
 
@@ -41,23 +42,17 @@ impl<T, A: Allocator> Flat<T, A> {
         Ok(())
     }
 
-    /// Moves the cells from `at` on to the end of `into`.
+    /// Moves the cells from `at` on to the end of `into`, and returns it.
     ///
     /// Requires: `at` is at most the number of cells, and `into` has room for those behind it.
     /// Cost: each of these cells is moved twice; no memory.
-    pub fn move_tail(&mut self, at: usize, into: &mut Vec<T, A>)
+    pub fn move_tail(&mut self, at: usize, into: Vec<T, A>) -> Vec<T, A>
         requires within { at ≤ length self.old }
-        requires room { vec_len into.old + (length self.old - at) ≤ vec_capacity into.old }
+        requires room { vec_len into + (length self.old - at) ≤ vec_capacity into }
         ensures cells { self.new ≡ take at self.old }
-        ensures tail { into.new.items ≡ into.old.items ++ drop at self.old }
+        ensures tail { result.items ≡ into.items ++ drop at self.old }
     {
-        let start = into.len();
-        for _ in at..self.len() {
-            if let Some(cell) = self.cells.pop() {
-                into.push_reserved(cell);
-            }
-        }
-        reverse_from(into.as_mut_slice(), start);
+        replace_with(&mut self.cells, (into, at), without_tail)
     }
 
     /// Cuts off the cells from `at` on, and returns them.
@@ -74,6 +69,25 @@ impl<T, A: Allocator> Flat<T, A> {
     {
         self.cells.split_off(at)
     }
+}
+
+// The cells before `at`, and the vector that takes the others to its end. Both are taken by value, as in `with_defaults`.
+fn without_tail<T, A: Allocator>(
+    mut cells: Vec<T, A>,
+    to: (Vec<T, A>, usize),
+) -> (Vec<T, A>, Vec<T, A>)
+    requires within { to.1 ≤ vec_len cells }
+    requires room { vec_len to.0 + (vec_len cells - to.1) ≤ vec_capacity to.0 }
+    ensures cells { result.0.items ≡ take to.1 cells.items }
+    ensures tail { result.1.items ≡ to.0.items ++ drop to.1 cells.items }
+{
+    let (mut into, at) = to;
+    let start = into.len();
+    for _ in at..cells.len() {
+        into.push_reserved(cells.take_last());
+    }
+    reverse_from(into.as_mut_slice(), start);
+    (cells, into)
 }
 
 // Reverses the cells from `start` on.

@@ -1,7 +1,7 @@
 //! Iterators over all cells with their rows and columns, in storage order: by reference, for writing, and by value.
-ghost use Rattle.std.specs.Prelude.{◌≡◌, length, zip, IfSome, Some};
+ghost use Rattle.std.specs.Prelude.{◌≡◌, ⊤, length, zip, IfSome, Some};
 ghost use Rattle.std.specs.Borrow.{sem};
-ghost use Rattle.std.specs.Iterator.{YieldsFirst, YieldsFirstBy, item_count, UpTo, at_most};
+ghost use Rattle.std.specs.Iterator.{YieldsFirst, YieldsFirstBy, YieldsLastBy, item_count, UpTo, at_most};
 ghost use Rattle.std.specs.Iterator.SizeHint.{IsWithinCount};
 ghost use Rattle.grid_base.specs.GridValue.{HoldsSize};
 ghost use Rattle.grid_base.specs.Positions.{positions};
@@ -10,7 +10,7 @@ ghost use Rattle.grid_base.specs.IndexedIterMut.{indexed_mut_rest};
 use super::Flat;
 use super::positions::Positions;
 use crate::Order;
-use std::alloc::{Allocator, Global};
+use std::alloc::{AllocError, Allocator, Global};
 use std::marker::Model;
 use std::{slice, vec};
 
@@ -67,7 +67,7 @@ impl<T, A: Allocator> Flat<T, A> {
     }
 }
 
-/// An iterator over cells, each with its row and its column.
+/// An iterator over cells, each with its row and its column, from both ends. A step from the back takes a division.
 #[derive(Drop)]
 pub struct IndexedIter<'a, T> {
     positions: Positions,
@@ -75,12 +75,14 @@ pub struct IndexedIter<'a, T> {
 }
 
 impl<'a, T> Model for IndexedIter<'a, T> {
-    ghost use Rattle.std.specs.Prelude.{ℕ, List, zip};
+    ghost use Rattle.std.specs.Prelude.{ℕ, ◌≤◌, List, length, zip};
     ghost use Rattle.std.specs.Slice.Iter.{iter_rest};
 
     ghost Value = { List ((ℕ × ℕ) × T) };
 
     ghost view = { λ a. zip a.positions (iter_rest a.cells) };
+
+    ghost invariant = { λ a. length (iter_rest a.cells) ≤ length a.positions };
 }
 
 #[tactic(auto, using(crate::proofs::PlacedCellLemmas::placed_cells))]
@@ -103,6 +105,37 @@ impl<'a, T> Iterator for IndexedIter<'a, T> {
         ensures exact { result ≡ (length self.now, Some (length self.now)) }
     {
         self.positions.hint(self.cells.len())
+    }
+}
+
+#[tactic(auto, using(crate::proofs::PlacedCellLemmas::placed_cells, crate::proofs::PlacedCellLemmas::zip_last))]
+impl<'a, T> DoubleEndedIterator for IndexedIter<'a, T> {
+    ghost next_back_gives = { YieldsLastBy (λ item. (item.0, item.1.now)) (λ rest. rest) };
+
+    fn next_back(&mut self) -> Option<((usize, usize), &'a T)> {
+        let cell = self.cells.next_back()?;
+        Some((self.positions.ahead(self.cells.len()), cell))
+    }
+}
+
+#[tactic(auto, using(crate::proofs::PlacedCellLemmas::placed_cells))]
+impl<'a, T> ExactSizeIterator for IndexedIter<'a, T> {
+    fn len(&self) -> usize {
+        self.positions.len().min(self.cells.len())
+    }
+}
+
+// Returns an iterator that stands at the same cell.
+impl<'a, T> Clone for IndexedIter<'a, T> {
+    ghost is_clone = { λ it copy. copy ≡ it };
+
+    ghost is_infallible = { λ _. ⊤ };
+
+    fn clone(&self) -> Result<Self, AllocError> {
+        Ok(IndexedIter {
+            positions: self.positions.again(),
+            cells: self.cells.clone()?,
+        })
     }
 }
 

@@ -4,7 +4,7 @@ ghost use Rattle.std.specs.Int.{div_ceil};
 ghost use Rattle.std.specs.Option.{option_copied};
 ghost use Rattle.std.specs.Iterator.{YieldsFirstRef, YieldsLastRef, item_count, UpTo, at_most};
 ghost use Rattle.std.specs.Iterator.SizeHint.{IsWithinCount};
-ghost use Rattle.grid_base.specs.Strides.{strided, LinesInOrder, LinesInReverse};
+ghost use Rattle.grid_base.specs.Strides.{every, strided, LinesInOrder, LinesInReverse};
 
 use super::span::Span;
 use super::strided_iter::StridedIter;
@@ -23,13 +23,7 @@ pub(super) fn line_of<T>(cells: &[T], span: Span) -> GridLineIter<'_, T>
     ensures runs { LinesInOrder T }
     ensures runs_back { LinesInReverse T }
 {
-    let line = &cells[span.start..span.end];
-    let cells = if span.stride == 1 {
-        Cells::Together(line.iter())
-    } else {
-        Cells::Apart(StridedIter::new(line, span.stride, span.count))
-    };
-    GridLineIter { cells }
+    GridLineIter::over(&cells[span.start..span.end], span.stride, span.count)
 }
 
 /// An iterator over a row or a column, from both ends. Each step takes the same time.
@@ -56,6 +50,27 @@ impl<'a, T> Model for GridLineIter<'a, T> {
 }
 
 impl<'a, T> GridLineIter<'a, T> {
+    /// Returns an iterator over the first cell of a slice and those behind it, each `stride` places after the last,
+    /// `count` in all.
+    ///
+    ///     [1, 2, 3, 4, 5]   over(2, 3)   1, 3, 5
+    ///
+    /// Requires: `stride` is not 0, and there are `count` such cells.
+    pub fn over(cells: &'a [T], stride: usize, count: usize) -> GridLineIter<'a, T>
+        requires steps { 0 < stride }
+        requires counted { count ≡ div_ceil (length cells.now) stride }
+        ensures rest { result ≡ every 0 (stride - 1) cells.now }
+        ensures runs { LinesInOrder T }
+        ensures runs_back { LinesInReverse T }
+    {
+        let cells = if stride == 1 {
+            Cells::Together(cells.iter())
+        } else {
+            Cells::Apart(StridedIter::new(cells, stride, count))
+        };
+        GridLineIter { cells }
+    }
+
     /// Passes over `n` cells and returns the next, or `None` if fewer remain.
     ///
     /// Cost: the same time at every `n`.

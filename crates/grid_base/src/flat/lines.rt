@@ -8,14 +8,14 @@
 //! `weave` brings the cells from the first form to the second, and `unweave` from the second to the first. Both keep the
 //! order of the groups, and no tally counts their moves. `open` goes the first way by counted swaps, which keep the order
 //! of the lines but not of the cells behind them. `close_up` goes the second way by counted swaps, and drops the groups.
-ghost use Rattle.std.specs.Prelude.{◌≡◌, ◌+◌, ◌-◌, ◌*◌, ◌^◌, ◌<◌, ◌≤◌, ◌⊎◌, length, IsFalse};
+ghost use Rattle.std.specs.Prelude.{◌≡◌, ◌+◌, ◌-◌, ◌*◌, ◌^◌, ◌<◌, ◌≤◌, ◌⊎◌, length, IsFalse, IsTrue};
 ghost use Rattle.grid_base.specs.Groups.{Widened, Woven, Opened, Closed};
 ghost use Rattle.grid_base.specs.Tally.{saturating_count};
 
 use super::blocks::exchange_blocks;
-use super::{Flat, Groups};
+use super::room::{fits_room, unweave_through, weave_through};
+use super::{Flat, Groups, Swaps};
 use crate::Tally;
-use crate::tally::Swaps;
 use std::alloc::Allocator;
 
 impl<T, A: Allocator> Flat<T, A> {
@@ -31,7 +31,11 @@ impl<T, A: Allocator> Flat<T, A> {
         ensures { Woven groups.lines groups.width groups.at groups.count self.old self.new }
     {
         if moves_groups(groups) {
-            weave_cells(self.cells.as_mut_slice(), groups);
+            if fits_room(self.cells.as_slice(), groups) {
+                weave_through(self.cells.as_mut_slice(), groups);
+            } else {
+                weave_cells(self.cells.as_mut_slice(), groups);
+            }
         }
     }
 
@@ -46,7 +50,11 @@ impl<T, A: Allocator> Flat<T, A> {
         ensures { Woven groups.lines groups.width groups.at groups.count self.new self.old }
     {
         if moves_groups(groups) {
-            unweave_cells(self.cells.as_mut_slice(), groups);
+            if fits_room(self.cells.as_slice(), groups) {
+                unweave_through(self.cells.as_mut_slice(), groups);
+            } else {
+                unweave_cells(self.cells.as_mut_slice(), groups);
+            }
         }
     }
 
@@ -108,7 +116,8 @@ impl<T, A: Allocator> Flat<T, A> {
 // Whether groups that stand behind their lines have to move to stand in them. Where the lines have no cells, or the group
 // of a single line is at its end, they stand there.
 fn moves_groups(groups: Groups) -> bool
-    ensures { IsFalse result
+    ensures moves { IsTrue result → 0 < groups.width }
+    ensures stays { IsFalse result
         → (groups.width ≡ 0) ⊎ ((groups.lines ≤ 1) × (groups.at ≡ groups.width)) }
 {
     0 < groups.width && (1 < groups.lines || groups.at != groups.width)
@@ -116,7 +125,7 @@ fn moves_groups(groups: Groups) -> bool
 
 // The groups of the first half of the lines come before the lines of the second half; then each half is woven. Lines
 // that are long beside the groups are woven in turn, since then each round moves little more than a line.
-fn weave_cells<T>(cells: &mut [T], groups: Groups)
+pub(super) fn weave_cells<T>(cells: &mut [T], groups: Groups)
     requires { length cells.old ≡ groups.lines * (groups.width + groups.count) }
     ensures { Woven groups.lines groups.width groups.at groups.count cells.old cells.new }
 {

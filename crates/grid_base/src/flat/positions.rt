@@ -1,17 +1,17 @@
 //! The positions of a table's cells, one after another.
-ghost use Rattle.std.specs.Prelude.{◌≡◌, ◌+◌, ◌*◌, ◌^◌, ◌<◌, length, min, IfSome, Some};
+ghost use Rattle.std.specs.Prelude.{◌≡◌, ◌+◌, ◌*◌, ◌^◌, ◌<◌, ◌∷◌, length, min, slice_get, IfSome, Some};
 ghost use Rattle.std.specs.Iterator.{YieldsFirst, item_count, UpTo, at_most};
 ghost use Rattle.std.specs.Iterator.SizeHint.{IsWithinCount};
 ghost use Rattle.grid_base.specs.Table.{IsSize};
 ghost use Rattle.grid_base.specs.Order.{place};
-ghost use Rattle.grid_base.specs.Positions.{positions, StandsAt};
+ghost use Rattle.grid_base.specs.Positions.{positions, StandsAt, along};
 
 use crate::Order;
 use std::marker::Model;
 
-// The rows and columns of the cells that are left, in storage order.
+/// The rows and columns of a table's cells, in storage order, seen as the list of those that remain.
 #[derive(Drop)]
-pub(super) struct Positions {
+pub struct Positions {
     order: Order,
     rows: usize,
     cols: usize,
@@ -51,8 +51,22 @@ fn place_after(order: Order, rows: usize, cols: usize, row: usize, col: usize) -
     }
 }
 
+// Of a number of rows and a number of columns: the number of lines along the storage, and their length. Of a line along
+// the storage and a place in it: the row and the column.
+pub(super) fn by_line(order: Order, a: usize, b: usize) -> (usize, usize)
+    ensures { result ≡ along order a b }
+{
+    match order {
+        Order::RowMajor => (a, b),
+        Order::ColumnMajor => (b, a),
+    }
+}
+
 impl Positions {
-    pub(super) fn new(order: Order, rows: usize, cols: usize) -> Positions
+    /// Returns the positions of a table of `rows` rows and `cols` columns.
+    ///
+    ///     new(RowMajor, 2, 2)   (0, 0), (0, 1), (1, 0), (1, 1)
+    pub fn new(order: Order, rows: usize, cols: usize) -> Positions
         requires below { rows * cols < 2 ^ 64 }
         requires size { IsSize rows cols }
         ensures { result ≡ positions order rows cols }
@@ -66,7 +80,44 @@ impl Positions {
         }
     }
 
-    pub(super) fn len(&self) -> usize
+    // Passes the next position, without a test whether there is one. A loop that asks no more than this is vectorised
+    // where nothing looks at the position.
+    pub(super) fn pass(&mut self) -> (usize, usize)
+        requires { 0 < length self.old }
+        ensures { self.old ≡ result ∷ self.new }
+    {
+        let at = (self.row, self.col);
+        let (row, col) = place_after(self.order, self.rows, self.cols, at.0, at.1);
+        self.row = row;
+        self.col = col;
+        at
+    }
+
+    // Returns the position that comes after the next `n`.
+    pub(super) fn ahead(&self, n: usize) -> (usize, usize)
+        requires { n < length self.now }
+        ensures { slice_get self.now n ≡ Some result }
+    {
+        let (_, width) = by_line(self.order, self.rows, self.cols);
+        let number = self.rows * self.cols - (self.len() - n);
+        by_line(self.order, number / width, number % width)
+    }
+
+    // Returns the positions that remain, once more.
+    pub(super) fn again(&self) -> Positions
+        ensures { result ≡ self.now }
+    {
+        Positions {
+            order: self.order,
+            rows: self.rows,
+            cols: self.cols,
+            row: self.row,
+            col: self.col,
+        }
+    }
+
+    /// Returns how many remain.
+    pub fn len(&self) -> usize
         ensures { result ≡ length self.now }
     {
         let passed = match self.order {
@@ -76,8 +127,8 @@ impl Positions {
         self.rows * self.cols - passed
     }
 
-    // The exact size hint of an iterator over these positions, each with one of `cells` cells.
-    pub(super) fn hint(&self, cells: usize) -> (usize, Option<usize>)
+    /// Returns the exact size hint of an iterator over these positions, each with one of `cells` cells.
+    pub fn hint(&self, cells: usize) -> (usize, Option<usize>)
         ensures { result ≡ (min (length self.now) cells, Some (min (length self.now) cells)) }
     {
         let len = self.len().min(cells);
@@ -94,11 +145,7 @@ impl Iterator for Positions {
 
     fn next(&mut self) -> Option<(usize, usize)> {
         if self.row < self.rows && self.col < self.cols {
-            let at = (self.row, self.col);
-            let (row, col) = place_after(self.order, self.rows, self.cols, at.0, at.1);
-            self.row = row;
-            self.col = col;
-            Some(at)
+            Some(self.pass())
         } else {
             None
         }

@@ -5,6 +5,7 @@ use Rattle.grid_base.specs.Symmetry.{act}
 use Rattle.grid_base.proofs.ActLemmas.{rows-act}
 use Rattle.grid_base.specs.Table.{IsTable}
 use Rattle.grid_base.proofs.ViewLemmas.{same_grid_value, flipped-flipped}
+use Rattle.grid.specs.Edits.{insert_col}
 use Rattle.grid.proofs.TransposedEditLemmas.{on_ok, on_err, fits_across, col_inserted, twice_across}
 use Rattle.grid_laws.proofs.insert_col_or_row_across.Goals as goal
 
@@ -31,6 +32,20 @@ returns-clause-same g c =
     (c.transpose-2.ensures.order ∙ (ap flipped (c.insert_row-as_row.ensures.order ∙ c.transpose.ensures.order) ∙ flipped-flipped c.args.other.now.order) ∙ (ap (λ s. s.order) c.requires.same ∙ sym c.insert_col-as_col.ensures.order)))
     c.insert_row-as_row.ensures.rows)
     c.insert_col-as_col.ensures.rows
+
+pub returns-clause-as_row : goal.returns-clause-as_row
+returns-clause-as_row g c =
+    let old = c.args.grid.now in
+    let line = c.args.line.items in
+    let there = c.transpose.ensures.rows ∙ ap (λ s. act Transpose s.rows) c.requires.same in
+    on_ok c.insert_row-as_row.result
+    (λ as_row. col_inserted c.args.at line old.rows _ _ _ c.args.grid.now.table c.requires.fits c.requires.nonempty c.requires.place there c.transpose-2.ensures.rows (rw c.requires.same_line at as_row)
+    ∙ ap (λ s. insert_col c.args.at line s.rows) (sym c.requires.same))
+    c.insert_row-as_row.ensures.rows
+
+pub returns-clause-other_order : goal.returns-clause-other_order
+returns-clause-other_order g c =
+    c.transpose-2.ensures.order ∙ (ap flipped (c.insert_row-as_row.ensures.order ∙ c.transpose.ensures.order) ∙ flipped-flipped c.args.other.now.order)
 
 pub returns-clause-refused_row : goal.returns-clause-refused_row
 returns-clause-refused_row g c =

@@ -73,6 +73,24 @@ fn pads_and_deletes_by_each_call(rt: HostRuntime) -> Result<(), Fail> {
     Ok(())
 }
 
+// Ranges of rows that are deleted in turn, and whether there are so many rows.
+const DELETED: [(usize, usize, bool); 4] = [
+    (1, 2, true),
+    (1, 2, false),
+    (2, 0, true),
+    (usize::MAX, 2, false),
+];
+
+#[test]
+fn deletes_ranges_in_turn(rt: HostRuntime) -> Result<(), Fail> {
+    let mut grid = stored(rt.alloc(), &[1, 5, 7, 3, 2, 6, 8, 4], 2, ColumnMajor)?;
+    for (start, count, there) in DELETED {
+        assert_eq!(rt; grid.delete_rows(start, count), there);
+    }
+    assert_stored(&rt, &grid, (2, 2), ColumnMajor, &[1, 3, 2, 4]);
+    Ok(())
+}
+
 // The lengths of a row and of a column that fit two rows of three.
 const FITTING: [(usize, bool, bool); 4] = [
     (0, false, false),

@@ -95,3 +95,16 @@ fn indexed_column_major(rt: HostRuntime) -> Result<(), Fail> {
     }
     Ok(())
 }
+
+#[test]
+fn one_row_and_one_column(rt: HostRuntime) -> Result<(), Fail> {
+    for order in ORDERS {
+        let grid = grid_with(rt.alloc(), WIDE, order)?;
+        assert!(rt; 1 < grid.rows() && 2 < grid.cols());
+        if 1 < grid.rows() && 2 < grid.cols() {
+            assert!(rt; is_line(Some(grid.iter_row(1)), Some(&[4, 5, 6])));
+            assert!(rt; is_line(Some(grid.iter_col(2)), Some(&[3, 6])));
+        }
+    }
+    Ok(())
+}

@@ -1,6 +1,7 @@
 //! The cells round a cell, a part of a grid, and lines that change places.
 use crate::asserts::{Rows, assert_rows, grid_with};
-use grid::{Grid, Neighbors, WrappedNeighbors};
+use grid::{Grid, Neighbors, Order, WrappedNeighbors};
+use std::alloc::{AllocError, Global};
 use std::process::Abort;
 use std::test::Fail;
 use test_support::fixtures::ORDERS;
@@ -53,9 +54,9 @@ fn gives_wrapped(found: WrappedNeighbors<'_, u32>, want: &[Near]) -> bool {
 fn check_corner(rt: &impl Abort, grid: &Grid<u32>) {
     let (rows, cols) = grid.size();
     assert!(rt; 0 < rows && 2 < cols);
-    assert!(rt; gives(grid.neighbors4(0, 2), FOUR) && gives(grid.neighbors8(0, 2), EIGHT));
-    assert!(rt; gives_wrapped(grid.wrapped_neighbors4(0, 2), WRAPPED_FOUR));
-    assert!(rt; gives_wrapped(grid.wrapped_neighbors8(0, 2), WRAPPED_EIGHT));
+    assert!(rt; gives(grid.neighbors4((0, 2)), FOUR) && gives(grid.neighbors8((0, 2)), EIGHT));
+    assert!(rt; gives_wrapped(grid.wrapped_neighbors4((0, 2)), WRAPPED_FOUR));
+    assert!(rt; gives_wrapped(grid.wrapped_neighbors8((0, 2)), WRAPPED_EIGHT));
 }
 
 #[test]
@@ -67,13 +68,17 @@ fn neighbors_of_a_corner(rt: HostRuntime) -> Result<(), Fail> {
     Ok(())
 }
 
-// How many cells round (0, 2) are above 4, and where the edges meet.
-fn counts_near(grid: &Grid<u32>) -> (usize, usize) {
+// How many cells round (0, 2) are above 4: of four and of eight, as the grid is and where the edges meet.
+fn counts_near(grid: &Grid<u32>) -> [usize; 4] {
     if grid.rows() == 2 && grid.cols() == 3 {
-        let near = grid.count_neighbors8(0, 2, |cell| 4 < *cell);
-        (near, grid.count_wrapped_neighbors8(0, 2, |cell| 4 < *cell))
+        [
+            grid.count_neighbors4((0, 2), |cell| 4 < *cell),
+            grid.count_neighbors8((0, 2), |cell| 4 < *cell),
+            grid.count_wrapped_neighbors4((0, 2), |cell| 4 < *cell),
+            grid.count_wrapped_neighbors8((0, 2), |cell| 4 < *cell),
+        ]
     } else {
-        (0, 0)
+        [0; 4]
     }
 }
 
@@ -81,7 +86,62 @@ fn counts_near(grid: &Grid<u32>) -> (usize, usize) {
 fn counts_round_a_corner(rt: HostRuntime) -> Result<(), Fail> {
     for order in ORDERS {
         let grid = grid_with(rt.alloc(), TABLE, order)?;
-        assert_eq!(rt; counts_near(&grid), (2, 4));
+        assert!(rt; counts_near(&grid) == [1, 2, 2, 4]);
+    }
+    Ok(())
+}
+
+// The sums of each cell and those round it: four, eight, and where the edges meet.
+const SUMS: [Rows; 4] = [
+    &[&[7, 11, 11], &[10, 17, 14]],
+    &[&[12, 21, 16], &[12, 21, 16]],
+    &[&[14, 16, 18], &[17, 19, 21]],
+    &[&[36, 36, 36], &[27, 27, 27]],
+];
+
+fn sum(near: Neighbors<'_, u32>) -> u32 {
+    let mut sum = 0u32;
+    for (_, cell) in near {
+        sum = sum.wrapping_add(*cell);
+    }
+    sum
+}
+
+fn wrapped_sum(near: WrappedNeighbors<'_, u32>) -> u32 {
+    let mut sum = 0u32;
+    for (_, cell) in near {
+        sum = sum.wrapping_add(*cell);
+    }
+    sum
+}
+
+fn check_sums(
+    rt: &impl Abort,
+    alloc: Global,
+    sums: Result<Grid<u32>, AllocError>,
+    want: Rows,
+    order: Order,
+) -> Result<(), Fail> {
+    assert_rows(rt, alloc, &sums?, want, order)
+}
+
+#[test]
+fn maps_each_cell_and_those_round_it(rt: HostRuntime) -> Result<(), Fail> {
+    let alloc = rt.alloc();
+    for order in ORDERS {
+        let grid = grid_with(alloc, TABLE, order)?;
+        let four = grid.map_neighbors4(|_, cell, near| cell.wrapping_add(sum(near)));
+        check_sums(&rt, alloc, four, SUMS[0], order)?;
+        let eight = grid.map_neighbors8(|_, cell, near| cell.wrapping_add(sum(near)));
+        check_sums(&rt, alloc, eight, SUMS[1], order)?;
+        let four = grid.map_wrapped_neighbors4(|_, cell, near| cell.wrapping_add(wrapped_sum(
+            near,
+        )));
+        check_sums(&rt, alloc, four, SUMS[2], order)?;
+        let eight = grid.map_wrapped_neighbors8(|_, cell, near| cell.wrapping_add(wrapped_sum(
+            near,
+        )));
+        check_sums(&rt, alloc, eight, SUMS[3], order)?;
     }
     Ok(())
 }

@@ -3,7 +3,7 @@ use Rattle.std.proofs.Common.{◌≡◌, ◌<◌, ◌^◌, length, sym, ◌∙�
 use Rattle.grid_play.specs.Script.{grid_of_words, grid_from}
 use Rattle.grid_play.proofs.GridLemmas.{grid_is}
 use Rattle.grid_base.specs.Order.{CanCut}
-use Rattle.grid_play.specs.Lines.{words_of}
+use Rattle.text_lines.specs.Lines.{words_of}
 use Rattle.grid_play.proofs.script.grid_of_words.Goals as goal
 
 pub returns : goal.returns

@@ -1,7 +1,7 @@
 -- The commands so far, before those of the lines that are left.
 use Rattle.std.proofs.Common.{◌≡◌, ◌+◌, map}
 use Rattle.grid_commands.specs.Command.{command_value}
-use Rattle.grid_play.specs.Lines.{lines_of}
+use Rattle.text_lines.specs.Lines.{lines_of}
 use Rattle.grid_play.specs.Script.{commands_from}
 use Rattle.grid_play.proofs.CommandsLemmas.{after_these}
 use Rattle.grid_play.proofs.script.parse_commands.Given as goal

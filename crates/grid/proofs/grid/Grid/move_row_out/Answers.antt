@@ -20,30 +20,30 @@ unweave_row-requires-clause-place g c =
     let within = removed_in _ _ _ _ _ c.self.inside.fits c.self.view_is _ c.requires.within in
     omega (arith, within)
 
-pub move_tail-requires-clause-within : goal.move_tail-requires-clause-within
-move_tail-requires-clause-within g c =
+pub move_tail-line-requires-clause-within : goal.move_tail-line-requires-clause-within
+move_tail-line-requires-clause-within g c =
     let len = removed_length _ _ _ _ _ c.self.inside.fits c.self.view_is _ c.requires.within _ c.unweave_row.ensures in
     omega (arith, len)
 
-pub move_tail-requires-clause-room : goal.move_tail-requires-clause-room
-move_tail-requires-clause-room g c =
+pub move_tail-line-requires-clause-room : goal.move_tail-line-requires-clause-room
+move_tail-line-requires-clause-room g c =
     let len = removed_length _ _ _ _ _ c.self.inside.fits c.self.view_is _ c.requires.within _ c.unweave_row.ensures in
     let cols : col_count c.args.self.now.rows ≡ c.self.inside.col_count = seen_cols _ _ _ _ _ c.self.inside.fits c.self.view_is in
     omega (arith, len, cols, c.requires.room, ap length c.requires.none)
 
 pub invariant_of-self-inside : goal.invariant_of-self-inside
 invariant_of-self-inside g c = (
-  rw (c.cols_if_rows-self-inside.ensures, c.move_tail.ensures.cells)
+  rw (c.cols_if_rows-self-inside.ensures, c.move_tail-line.ensures.cells)
       (removed_fits _ _ _ _ _ c.self.inside.fits c.self.view_is _ c.requires.within _ c.unweave_row.ensures),
   tt,
 )
 
 pub returns-clause-rows : goal.returns-clause-rows
 returns-clause-rows g c =
-    rw (c.cols_if_rows-self-inside.ensures, c.move_tail.ensures.cells)
+    rw (c.cols_if_rows-self-inside.ensures, c.move_tail-line.ensures.cells)
     (row_removed _ _ _ _ _ c.self.inside.fits c.self.view_is _ c.requires.within _ c.unweave_row.ensures)
 
 pub returns-clause-line : goal.returns-clause-line
 returns-clause-line g c =
-    let tail = c.move_tail.ensures.tail ∙ ap (λ x. x ++ drop ((c.self.inside.row_count - 1) * c.self.inside.col_count) c.unweave_row.new.flat) c.requires.none in
+    let tail = c.move_tail-line.ensures.tail ∙ ap (λ x. x ++ drop ((c.self.inside.row_count - 1) * c.self.inside.col_count) c.unweave_row.new.flat) c.requires.none in
     removed_line _ _ _ _ _ c.self.inside.fits c.self.view_is _ c.requires.within _ c.unweave_row.ensures ∙ ap Some (sym tail)

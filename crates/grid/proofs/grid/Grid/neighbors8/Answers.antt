@@ -12,10 +12,10 @@ neighbors8-requires g c = record {
 }
 
 pub returns-clause-rest : goal.returns-clause-rest
-returns-clause-rest g c = (rw c.as_slice.ensures at c.neighbors8.ensures.rest) ∙ ap (λ x. neighbors8 x.rows c.args.row c.args.col) c.self.view_is
+returns-clause-rest g c = (rw c.as_slice.ensures at c.neighbors8.ensures.rest) ∙ ap (λ x. neighbors8 x.rows c.args.at.0 c.args.at.1) c.self.view_is
 
 pub returns-clause-cells : goal.returns-clause-cells
-returns-clause-cells g c = gives_neighbors8 c.args.self.now.rows c.args.self.now.table c.args.row c.args.col c.neighbors8.result (returns-clause-rest g c)
+returns-clause-cells g c = gives_neighbors8 c.args.self.now.rows c.args.self.now.table c.args.at.0 c.args.at.1 c.neighbors8.result (returns-clause-rest g c)
 
 pub returns-clause-count : goal.returns-clause-count
 returns-clause-count g c = search rules

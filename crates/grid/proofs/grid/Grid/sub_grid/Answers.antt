@@ -1,37 +1,17 @@
-use Rattle.std.proofs.Common.{rules, sym, ◌∙◌, ap}
-use Rattle.grid_base.specs.Order.{storage}
-use Rattle.grid.proofs.MadeLemmas.{CanCut-cells}
-use Rattle.grid.proofs.SubGridLemmas.{part_size, part_is}
+use Rattle.std.proofs.Common.{◌≡◌, ◌<◌, ◌∙◌, ap}
+use Rattle.std.proofs.lemmas.Result.{IfOk-weaker}
+use Rattle.grid_view.specs.View.{sub_table}
+use Rattle.grid.proofs.FromViewLemmas.{part_size, made_part}
 use Rattle.grid.proofs.grid.Grid.sub_grid.Goals as goal
-
-pub from_vec_with_order-requires : goal.from_vec_with_order-requires
-from_vec_with_order-requires g c = CanCut-cells _ c.args.size.0 c.args.size.1 c.in_ok-cells.ensures.len
 
 pub returns-clause-made : goal.returns-clause-made
 returns-clause-made g c =
-    let made = c.from_vec_with_order.ensures in
-    let order = ap (λ x. x.order) c.self.view_is in
-    record {
-      order = made.order ∙ order;
-      size = part_size c.args.self.now.order c.args.at c.args.size c.args.self.now.rows c.from_vec_with_order.result.rows _ c.from_vec_with_order.result.table
-          (ap (λ x. storage x c.from_vec_with_order.result.rows) (sym order) ∙ made.storage) made.cols c.in_ok-cells.ensures;
-    }
+    let t = c.args.self.now in
+    let part = c.part.ensures in
+    let size = part_size t.rows c.part.result.rows c.args.at c.args.size t.table c.requires.rows_in c.requires.cols_in part.rows part.none in
+    made_part c.from_view.result _ t.order c.args.size.0 c.args.size.1 c.part.result.rows (ap (λ x. x.order) c.self.view_is) size c.from_view.ensures.rows c.from_view.ensures.order
 
 pub returns-clause-rows : goal.returns-clause-rows
 returns-clause-rows g c =
-    let made = c.from_vec_with_order.ensures in
-    let order = ap (λ x. x.order) c.self.view_is in
-    part_is c.args.self.now.order c.args.at c.args.size c.args.self.now.rows c.from_vec_with_order.result.rows _ c.from_vec_with_order.result.table
-    (ap (λ x. storage x c.from_vec_with_order.result.rows) (sym order) ∙ made.storage) made.cols c.in_ok-cells.ensures
-
-pub returns-in_err-alloc-clause-made : goal.returns-in_err-alloc-clause-made
-returns-in_err-alloc-clause-made g c = search rules
-
-pub returns-in_err-alloc-clause-rows : goal.returns-in_err-alloc-clause-rows
-returns-in_err-alloc-clause-rows g c = search rules
-
-pub returns-in_err-cells-clause-made : goal.returns-in_err-cells-clause-made
-returns-in_err-cells-clause-made g c = search rules
-
-pub returns-in_err-cells-clause-rows : goal.returns-in_err-cells-clause-rows
-returns-in_err-cells-clause-rows g c = search rules
+    IfOk-weaker c.from_view.result (λ x. x.rows ≡ c.part.result.rows) (λ x. 0 < c.args.size.0 → 0 < c.args.size.1 → x.rows ≡ sub_table c.args.self.now.rows c.args.at c.args.size)
+    (λ x is a b. is ∙ c.part.ensures.rows a b) c.from_view.ensures.rows

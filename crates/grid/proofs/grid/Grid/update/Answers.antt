@@ -1,5 +1,5 @@
 use Rattle.std.proofs.Common.{rules}
-use Rattle.grid.proofs.CellCallLemmas.{seen_callable, seen_tabulated}
+use Rattle.grid.proofs.CellCallLemmas.{seen_callable, seen_tabulated, seen_answered}
 use Rattle.grid.proofs.SeenAllCellsLemmas.{whole_rows, whole_cols}
 use Rattle.grid.proofs.grid.Grid.update.Goals as goal
 
@@ -11,6 +11,9 @@ returns-clause-cols g c = whole_cols _ _ _ _ _ _ c.self.inside.fits c.self.view_
 
 pub returns-clause-cells : goal.returns-clause-cells
 returns-clause-cells g c = seen_tabulated _ _ _ _ _ c.self.inside.fits c.self.view_is _ _ _ c.update.ensures.len c.update.ensures.cells
+
+pub returns-clause-answers : goal.returns-clause-answers
+returns-clause-answers g c = seen_answered _ _ _ _ _ c.self.inside.fits c.self.view_is _ _ _ c.update.ensures.len c.update.ensures.cells
 
 pub update-requires-clause-calls : goal.update-requires-clause-calls
 update-requires-clause-calls g c = seen_callable _ _ _ _ _ c.self.inside.fits c.self.view_is _ _ c.requires

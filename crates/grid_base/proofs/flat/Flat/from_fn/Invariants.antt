@@ -1,15 +1,12 @@
-use Rattle.std.proofs.Common.{◌≡◌, ◌≤◌, ◌+◌, ◌++◌, List, length, vec_len, ℕ}
+use Rattle.std.proofs.Common.{◌≡◌, ◌≤◌, ◌*◌, take, vec_len}
 use Rattle.std.specs.Vec.{vec_capacity}
 use Rattle.std.specs.List.{AllZip}
-use Rattle.grid_base.specs.Positions.{positions}
+use Rattle.grid_base.specs.Positions.{positions, along}
 use Rattle.grid_base.proofs.flat.Flat.from_fn.Given as goal
 
-abbrev pub invariant-loop-at : goal.invariant-loop-at
-invariant-loop-at g l = record {
-  can : (goal.iterator-loop-at g).can_next l.at-iterator;
-  finite : (goal.iterator-loop-at g).is_finite l.at-iterator;
-  done : List (ℕ × ℕ);
-  split : done ++ l.at-iterator ≡ positions l.fn.order l.fn.rows l.fn.cols;
-  room : vec_len l.cells + length l.at-iterator ≤ vec_capacity l.cells;
-  answers : AllZip (λ at y. goal.F-post g l.f at y) done l.cells.items;
+abbrev pub invariant-loop-line : goal.invariant-loop-line
+invariant-loop-line g l = record {
+  room : l.fn.rows * l.fn.cols ≤ vec_capacity l.cells;
+  passed : vec_len l.cells ≡ l.line * (along l.fn.order l.fn.rows l.fn.cols).1;
+  answers : AllZip (λ at y. goal.F-post g l.f at y) (take (vec_len l.cells) (positions l.fn.order l.fn.rows l.fn.cols)) l.cells.items;
 }

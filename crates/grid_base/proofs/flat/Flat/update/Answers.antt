@@ -6,7 +6,6 @@ use Rattle.grid_base.proofs.ClosureLemmas.{AllZip-append, callable_cell, take_fr
 use Rattle.grid_base.proofs.PlaceLemmas.{length-places}
 use Rattle.grid_base.proofs.PlacedCellLemmas.{drop_item, drop_past_set, zip_nothing}
 use Rattle.grid_base.proofs.flat.Flat.update.Goals as goal
-use Rattle.grid_base.proofs.flat.Flat.update.Goals.{in-Some, in_default}
 
 pub loop-cell-init : goal.loop-cell-init
 loop-cell-init g c =
@@ -22,23 +21,24 @@ pub loop-cell-preserved : goal.loop-cell-preserved
 loop-cell-preserved g c =
     let i = c.loop-cell.invariant in
     let lt : c.loop-cell.cell-index < length c.loop-cell.cells = omega (arith, c.loop-cell-test.true, c.loop-cell.auto.cells) in
-    elim c.match-next.branch [
-      | in-Some w ↦
-          let s = w.in-Some.ensures.steps in
-          let cut = drop_item c.loop-cell.cells c.loop-cell.cell-index c.cell-item.result lt c.cell-item.is in
-          record {
-            done = i.done ++ (w.in-Some.at, c.cell-item.result) ∷ [];
-            split = rw (w.cells-is, drop_past_set c.loop-cell.cells c.loop-cell.cell-index w.f.result, append_assoc) (rw (s, cut) at i.split);
-            positions_left = omega (arith, i.positions_left, ap length s);
-            answers = rw (w.cells-is, take_more_set c.loop-cell.cells c.loop-cell.cell-index w.f.result lt) (AllZip-append _ _ _ (w.in-Some.at, c.cell-item.result) w.f.result i.answers (record { shown = _; shows = sym c.cell-item.is; says = w.f.ensures }));
-          }
-      | in_default w ↦ absurd (omega (arith, lt, i.positions_left, c.loop-cell.auto.cells, ap length w.in_default.ensures.steps.0))
-    ]
+    let s = c.pass-at.ensures in
+    let cut = drop_item c.loop-cell.cells c.loop-cell.cell-index c.cell-item.result lt c.cell-item.is in
+    record {
+      done = i.done ++ (c.pass-at.result, c.cell-item.result) ∷ [];
+      split = rw (drop_past_set c.loop-cell.cells c.loop-cell.cell-index c.f.result, append_assoc) (rw (s, cut) at i.split);
+      positions_left = omega (arith, i.positions_left, ap length s);
+      answers = rw (take_more_set c.loop-cell.cells c.loop-cell.cell-index c.f.result lt) (AllZip-append _ _ _ (c.pass-at.result, c.cell-item.result) c.f.result i.answers (record { shown = _; shows = sym c.cell-item.is; says = c.f.ensures }));
+    }
+
+pub pass-at-requires : goal.pass-at-requires
+pass-at-requires g c =
+    let i = c.loop-cell.invariant in
+    omega (arith, c.loop-cell-test.true, c.loop-cell.auto.cells, i.positions_left)
 
 pub f-requires : goal.f-requires
 f-requires g c =
     let i = c.loop-cell.invariant in
-    let s = c.in-Some.ensures.steps in
+    let s = c.pass-at.ensures in
     let cells = c.loop-cell.cells in
     let k = c.loop-cell.cell-index in
     let lt : k < length cells = omega (arith, c.loop-cell-test.true, c.loop-cell.auto.cells) in
@@ -47,7 +47,7 @@ f-requires g c =
     let seen = c.as_mut_slice-cells.ensures.value ∙ c.self.view_is in
     let all = zip (positions c.args.order c.args.rows c.args.cols) c.as_mut_slice-cells.result.now in
     let whole : CallableAtCells (λ h at p. goal.F-pre g h at p) c.args.f all = subst (λ l. CallableAtCells (λ h at p. goal.F-pre g h at p) c.args.f (zip (positions c.args.order c.args.rows c.args.cols) l)) (sym seen) c.requires.calls in
-    callable_cell (λ h at p. goal.F-pre g h at p) c.args.f all i.done _ c.in-Some.at _ whole (rw (s, cut) at i.split)
+    callable_cell (λ h at p. goal.F-pre g h at p) c.args.f all i.done _ c.pass-at.result _ whole (rw (s, cut) at i.split)
 
 pub returns-clause-cells : goal.returns-clause-cells
 returns-clause-cells g c =

@@ -1,6 +1,6 @@
 use Rattle.std.proofs.Common.{Some, ap, ◌∙◌, arith}
 use Rattle.grid_commands.specs.Reply.{line_is}
-use Rattle.grid_deferred.proofs.LineIterLemmas.{read_col_some, read_col_none}
+use Rattle.grid_deferred.proofs.ReadLemmas.{read_col_some, read_col_none}
 use Rattle.grid_deferred.specs.Deferred.{shown}
 use Rattle.grid_deferred.proofs.deferred.Deferred.read_col.Goals as goal
 

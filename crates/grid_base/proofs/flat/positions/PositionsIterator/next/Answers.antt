@@ -1,16 +1,19 @@
-use Rattle.std.proofs.Common.{◌<◌, arith, ap, length, sym, ◌∙◌}
+use Rattle.std.proofs.Common.{◌<◌, arith, ap, length, refl, sym, ◌∙◌}
 use Rattle.grid_base.proofs.PlaceLemmas.{place_and_rest, none_left}
 use Rattle.grid_base.proofs.flat.positions.PositionsIterator.next.Goals as goal
 use Rattle.grid_base.proofs.flat.positions.PositionsIterator.next.Goals.{else-self-via-then-self+else-self-2, else-self-via-else-self}
 
-pub returns-then-self-2-clause-steps : goal.returns-then-self-2-clause-steps
-returns-then-self-2-clause-steps c =
+pub pass-requires : goal.pass-requires
+pass-requires c =
     let s = c.self.inside in
-    sym c.self.view_is ∙ place_and_rest s.order s.rows s.cols s.row s.col _ c.self.invariant.size c.if-self.true c.if-self-2.true c.place_after-row.ensures.after
+    omega (arith, ap length c.self.view_is, ap length (place_and_rest s.order s.rows s.cols s.row s.col _ c.self.invariant.size c.if-self.true c.if-self-2.true refl))
+
+pub returns-then-self-2-clause-steps : goal.returns-then-self-2-clause-steps
+returns-then-self-2-clause-steps c = c.pass.ensures
 
 pub returns-then-self-2-clause-goes : goal.returns-then-self-2-clause-goes
 returns-then-self-2-clause-goes c =
-    let e = ap length (returns-then-self-2-clause-steps c) in
+    let e = ap length c.pass.ensures in
     record { on = λ _. (tt, tt, omega (arith, e)); keeps = tt; rests = λ _. tt }
 
 pub returns-else-self-clause-steps : goal.returns-else-self-clause-steps

@@ -1,0 +1,11 @@
+-- What stands before the row, and the cells so far.
+use Rattle.std.proofs.Common.{[], codes, take}
+use Rattle.std.specs.Prelude.{Some, IfSome}
+use Rattle.std.specs.Fmt.{◌++?◌, HasWritten, IsPlainFormatter}
+use Rattle.grid_base.specs.Table.{row}
+use Rattle.grid.specs.DisplayText.{items_text}
+use Rattle.grid.proofs.grid.Grid.display_row.Given as goal
+
+abbrev pub invariant-loop-col : goal.invariant-loop-col
+invariant-loop-col g l =
+    IsPlainFormatter l.fn.f → IfSome (Some l.before ++? items_text g.T.Display.output (codes " ") [] (take l.col (row l.self.rows l.r))) (λ bs. HasWritten g.W.Write.write_str_gives l.fn.f bs l.f)

@@ -1,9 +1,0 @@
-use Rattle.std.proofs.Common.{[], codes, take}
-use Rattle.std.specs.Prelude.{Some, IfSome}
-use Rattle.std.specs.Fmt.{◌++?◌, HasWritten, IsPlainFormatter, debug_items}
-use Rattle.grid_base.specs.Table.{row}
-use Rattle.grid.proofs.grid.Grid.write_row.Given as goal
-
-abbrev pub invariant-loop-col : goal.invariant-loop-col
-invariant-loop-col g l =
-    IsPlainFormatter l.fn.f → IfSome (Some (codes "[") ++? debug_items g.T.Debug.debug_output [] (take l.col (row l.self.rows l.r))) (λ bs. HasWritten g.W.Write.write_str_gives l.fn.f bs l.f)

@@ -1,9 +1,0 @@
-use Rattle.std.proofs.Common.{codes, take}
-use Rattle.std.specs.Prelude.{Some, IfSome}
-use Rattle.std.specs.Fmt.{◌++?◌, HasWritten, IsPlainFormatter}
-use Rattle.grid.specs.Texts.{rows_text}
-use Rattle.grid.proofs.traits.GridDebug.fmt.Given as goal
-
-abbrev pub invariant-loop-row : goal.invariant-loop-row
-invariant-loop-row g l =
-    IsPlainFormatter l.fn.f → IfSome (Some (codes "[") ++? rows_text g.T.Debug.debug_output (take l.row l.self.rows)) (λ bs. HasWritten g.W.Write.write_str_gives l.fn.f bs l.f)

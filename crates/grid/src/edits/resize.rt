@@ -1,0 +1,156 @@
+//! Grids that are brought to another size.
+ghost use Rattle.std.specs.Prelude.{◌≡◌, ◌<◌, ◌≤◌, IsOk, OnOk, OnErr};
+ghost use Rattle.grid_base.specs.Table.{row_count, col_count, tabulate, InRange};
+ghost use Rattle.grid.specs.Make.{FailsBySize, IsOnlyDefault};
+ghost use Rattle.grid.specs.Resize.{IsAt, InRow, InRows, CellsTaken, IsCorner, IsResized, cell_or};
+
+use super::has_room;
+use crate::{Grid, GridError};
+use std::alloc::Allocator;
+use std::mem;
+
+// Exchanges the cells of two grids at a position.
+fn exchange_cell<T, A: Allocator>(
+    to: &mut Grid<T, A>,
+    from: &mut Grid<T, A>,
+    row: usize,
+    col: usize,
+)
+    requires to_in { InRange to.old.rows row col }
+    requires from_in { InRange from.old.rows row col }
+    ensures { CellsTaken (IsAt row col) to.old from.old to.new from.new }
+{
+    mem::swap(
+        to.get_unchecked_mut(row, col),
+        from.get_unchecked_mut(row, col),
+    );
+}
+
+// Exchanges the first `cols` cells of a row of two grids.
+fn exchange_row<T, A: Allocator>(
+    to: &mut Grid<T, A>,
+    from: &mut Grid<T, A>,
+    row: usize,
+    cols: usize,
+)
+    requires to_row { row < row_count to.old.rows }
+    requires to_cols { cols ≤ col_count to.old.rows }
+    requires from_row { row < row_count from.old.rows }
+    requires from_cols { cols ≤ col_count from.old.rows }
+    ensures { CellsTaken (InRow row cols) to.old from.old to.new from.new }
+{
+    for col in 0..cols {
+        exchange_cell(to, from, row, col);
+    }
+}
+
+// Exchanges the first `cols` cells of each of the first `rows` rows of two grids.
+fn exchange_rows<T, A: Allocator>(
+    to: &mut Grid<T, A>,
+    from: &mut Grid<T, A>,
+    rows: usize,
+    cols: usize,
+)
+    requires to_rows { rows ≤ row_count to.old.rows }
+    requires to_cols { cols ≤ col_count to.old.rows }
+    requires from_rows { rows ≤ row_count from.old.rows }
+    requires from_cols { cols ≤ col_count from.old.rows }
+    ensures { CellsTaken (InRows rows cols) to.old from.old to.new from.new }
+{
+    for row in 0..rows {
+        exchange_row(to, from, row, cols);
+    }
+}
+
+impl<T, A: Allocator> Grid<T, A> {
+    /// Brings the grid to `rows` rows and `cols` columns. The cells at positions that stay in range stay there, those that
+    /// are no longer in range are dropped, and new ones are defaults. The order stays. Without rows or without columns it
+    /// becomes the empty grid.
+    ///
+    ///     [[1, 2], [3, 4]]   resize(3, 1)   [[1], [3], [0]]
+    ///
+    /// Fails: `TooLarge` where `rows * cols` passes `usize::MAX`, else `Memory`, before the first change; the grid is
+    /// unchanged. Where neither number grows, and without rows or without columns, it takes no memory and never fails.
+    /// Cost: where neither number grows, that of [`delete_rows`](Grid::delete_rows) and
+    /// [`delete_cols`](Grid::delete_cols). Else one default for each cell, one swap for each cell that stays, and one
+    /// allocation, of a second vector.
+    pub fn resize(&mut self, rows: usize, cols: usize) -> Result<(), GridError>
+    where
+        T: Default + Drop,
+        A: Clone,
+        ensures resized { OnOk result (IsResized T.is_default rows cols self.old.rows self.new.rows) }
+        ensures one_default { OnOk result ((d : T) → IsOnlyDefault T.is_default d → 0 < cols
+            → self.new.rows ≡ tabulate rows cols (cell_or d self.old.rows)) }
+        ensures row_count { OnOk result (0 < cols → row_count self.new.rows ≡ rows) }
+        ensures col_count { OnOk result (0 < rows → col_count self.new.rows ≡ cols) }
+        ensures order { self.new.order ≡ self.old.order }
+        ensures fails { FailsBySize rows cols result }
+        ensures shrinks { rows ≤ row_count self.old.rows → cols ≤ col_count self.old.rows
+            → IsOk result }
+        ensures unchanged { OnErr result (self.new ≡ self.old) }
+    {
+        if rows == 0 || cols == 0 {
+            self.clear();
+            return Ok(());
+        }
+        let (old_rows, old_cols) = self.size();
+        if rows <= old_rows && cols <= old_cols {
+            self.shrink(rows, cols);
+            return Ok(());
+        }
+        self.resize_anew(rows, cols)
+    }
+
+    // As `resize`, into a second vector.
+    fn resize_anew(&mut self, rows: usize, cols: usize) -> Result<(), GridError>
+    where
+        T: Default + Drop,
+        A: Clone,
+        requires some_rows { 0 < rows }
+        requires some_cols { 0 < cols }
+        ensures resized { OnOk result (IsResized T.is_default rows cols self.old.rows self.new.rows) }
+        ensures order { self.new.order ≡ self.old.order }
+        ensures fails { FailsBySize rows cols result }
+        ensures unchanged { OnErr result (self.new ≡ self.old) }
+    {
+        if !has_room(0, rows, cols) {
+            return Err(GridError::TooLarge);
+        }
+        let alloc = self.flat.allocator().clone()?;
+        let mut grid = Grid::new_with_order(alloc, rows, cols, self.order())?;
+        let (old_rows, old_cols) = self.size();
+        exchange_rows(&mut grid, self, rows.min(old_rows), cols.min(old_cols));
+        *self = grid;
+        Ok(())
+    }
+
+    // Keeps the first `rows` rows and `cols` columns.
+    fn shrink(&mut self, rows: usize, cols: usize)
+    where
+        T: Drop,
+        requires some_rows { 0 < rows }
+        requires some_cols { 0 < cols }
+        requires in_rows { rows ≤ row_count self.old.rows }
+        requires in_cols { cols ≤ col_count self.old.rows }
+        ensures corner { IsCorner rows cols self.old.rows self.new.rows }
+        ensures order { self.new.order ≡ self.old.order }
+    {
+        self.keep_rows(rows);
+        self.transpose();
+        self.keep_rows(cols);
+        self.transpose();
+    }
+
+    // Keeps the first `count` rows.
+    fn keep_rows(&mut self, count: usize)
+    where
+        T: Drop,
+        requires some { 0 < count }
+        requires within { count ≤ row_count self.old.rows }
+        ensures corner { IsCorner count (col_count self.old.rows) self.old.rows self.new.rows }
+        ensures order { self.new.order ≡ self.old.order }
+    {
+        let rest = self.rows() - count;
+        self.delete_rows(count, rest);
+    }
+}

@@ -1,0 +1,119 @@
+//! Rows and columns that are split off, as a grid of their own.
+ghost use Rattle.std.specs.Prelude.{[], vec_capacity, ◌≡◌, ◌+◌, ◌-◌, ◌*◌, ◌^◌, ◌<◌, ◌≤◌, length, take, drop, OnOk, OnErr, IfOk};
+ghost use Rattle.grid_base.specs.Table.{row_count, col_count};
+ghost use Rattle.grid_base.specs.Order.{storage};
+ghost use Rattle.grid.specs.Edits.{without_cols};
+ghost use Rattle.grid.specs.RowGroups.{RowsMovedToEnd};
+
+use super::remove::cols_if_rows;
+use super::row_groups;
+use crate::Grid;
+use grid_base::{Flat, Order};
+use std::alloc::{AllocError, Allocator};
+
+// Puts the last `count` rows, of `rest` + `count` rows, behind the cells of the others.
+fn unweave_rows<T, A: Allocator>(
+    flat: &mut Flat<T, A>,
+    order: Order,
+    rest: usize,
+    cols: usize,
+    count: usize,
+)
+    requires cells { length flat.old ≡ (rest + count) * cols }
+    requires fits { (rest + count) * cols < 2 ^ 64 }
+    ensures { RowsMovedToEnd order cols rest count rest flat.old flat.new }
+{
+    let groups = row_groups(order, rest, cols, rest, count);
+    flat.unweave(groups);
+}
+
+impl<T, A: Allocator> Grid<T, A> {
+    /// Takes the rows from row `at` on out, and returns them as a grid of the same order. The order stays. Where `at` is
+    /// the number of rows, that is the empty grid; where it is 0, the empty grid is left.
+    ///
+    ///     [[1, 2], [3, 4], [5, 6]]   split_off_rows(1)   [[3, 4], [5, 6]]   [[1, 2]]
+    ///
+    /// Requires: `at` is at most the number of rows.
+    /// Fails: where memory for the cells is refused, which is asked for first; the grid is unchanged.
+    /// Cost: row-major, time in the cells that are taken; column-major, time in the number of cells times
+    /// log2(columns) + 1 at most.
+    pub fn split_off_rows(&mut self, at: usize) -> Result<Grid<T, A>, AllocError>
+    where
+        A: Clone,
+        requires place { at ≤ row_count self.old.rows }
+        ensures rows { OnOk result (self.new.rows ≡ take at self.old.rows) }
+        ensures row_count { OnOk result (row_count self.new.rows ≡ at) }
+        ensures col_count { OnOk result (0 < at → col_count self.new.rows ≡ col_count self.old.rows) }
+        ensures order { self.new.order ≡ self.old.order }
+        ensures tail { IfOk result (λ tail. tail.rows ≡ drop at self.old.rows) }
+        ensures tail_rows { IfOk result
+            (λ tail. row_count tail.rows ≡ row_count self.old.rows - at) }
+        ensures tail_cols { IfOk result (λ tail. at < row_count self.old.rows
+            → col_count tail.rows ≡ col_count self.old.rows) }
+        ensures tail_order { IfOk result (λ tail. tail.order ≡ self.old.order) }
+        ensures err { OnErr result (self.new ≡ self.old) }
+    {
+        let (rows, cols) = self.size();
+        let alloc = self.flat.allocator().clone()?;
+        let room = Vec::with_capacity(alloc, (rows - at) * cols)?;
+        let cells = self.move_rows_out(at, room);
+        Ok(Grid::from_vec_with_order(cells, cols, self.order))
+    }
+
+    /// Takes the columns from column `at` on out, and returns them as a grid of the same order. The order stays. Where
+    /// `at` is the number of columns, that is the empty grid; where it is 0, the empty grid is left.
+    ///
+    ///     [[1, 2, 3], [4, 5, 6]]   split_off_cols(1)   [[2, 3], [5, 6]]   [[1], [4]]
+    ///
+    /// Requires: `at` is at most the number of columns.
+    /// Fails: where memory for the cells is refused, which is asked for first; the grid is unchanged.
+    /// Cost: column-major, time in the cells that are taken; row-major, time in the number of cells times log2(rows) + 1
+    /// at most.
+    pub fn split_off_cols(&mut self, at: usize) -> Result<Grid<T, A>, AllocError>
+    where
+        A: Clone,
+        requires place { at ≤ col_count self.old.rows }
+        ensures rows { OnOk result
+            (self.new.rows ≡ without_cols at (col_count self.old.rows - at) self.old.rows) }
+        ensures row_count { OnOk result (0 < at → row_count self.new.rows ≡ row_count self.old.rows) }
+        ensures col_count { OnOk result (col_count self.new.rows ≡ at) }
+        ensures order { self.new.order ≡ self.old.order }
+        ensures tail { IfOk result (λ tail. tail.rows ≡ without_cols 0 at self.old.rows) }
+        ensures tail_rows { IfOk result (λ tail. at < col_count self.old.rows
+            → row_count tail.rows ≡ row_count self.old.rows) }
+        ensures tail_cols { IfOk result
+            (λ tail. col_count tail.rows ≡ col_count self.old.rows - at) }
+        ensures tail_order { IfOk result (λ tail. tail.order ≡ self.old.order) }
+        ensures err { OnErr result (self.new ≡ self.old) }
+    {
+        self.transpose();
+        let split = self.split_off_rows(at);
+        self.transpose();
+        match split {
+            Ok(mut tail) => {
+                tail.transpose();
+                Ok(tail)
+            }
+            Err(refused) => Err(refused),
+        }
+    }
+
+    // Moves the cells of the rows from `at` on, in storage order, into an empty vector that has room for them, and returns
+    // it.
+    fn move_rows_out(&mut self, at: usize, room: Vec<T, A>) -> Vec<T, A>
+        requires place { at ≤ row_count self.old.rows }
+        requires none { room.items ≡ [] }
+        requires room { (row_count self.old.rows - at) * col_count self.old.rows
+            ≤ vec_capacity room }
+        ensures rows { self.new.rows ≡ take at self.old.rows }
+        ensures order { self.new.order ≡ self.old.order }
+        ensures cells { result.items ≡ storage self.old.order (drop at self.old.rows) }
+    {
+        let count = self.row_count - at;
+        unweave_rows(&mut self.flat, self.order, at, self.col_count, count);
+        let cells = self.flat.move_tail(at * self.col_count, room);
+        self.row_count = at;
+        self.col_count = cols_if_rows(at, self.col_count);
+        cells
+    }
+}

@@ -1,0 +1,244 @@
+//! Parts of a grid that are written: by the cells of a view, and by a value.
+ghost use Rattle.std.specs.Prelude.{◌≡◌, ◌+◌, ◌<◌, ◌≤◌, pos, OnOk, OnErr};
+ghost use Rattle.grid_base.specs.Clones.{ClonesAreEqual};
+ghost use Rattle.grid_base.specs.Table.{row_count, col_count, InRange};
+ghost use Rattle.grid.specs.Resize.{IsAt, InRow, InRows};
+ghost use Rattle.grid.specs.Pasted.{overlaid, part_filled, PartTaken, IsClipped, IsWithin, CallableInPart, CallableInRow, PartUpdated, CellsUpdated};
+
+use crate::Grid;
+use grid_view::GridView;
+use std::alloc::{AllocError, Allocator};
+use std::mem;
+
+// Exchanges the cell at a position of `from` with that of `to` as far behind position `at`.
+fn exchange_cell<T, A: Allocator>(
+    to: &mut Grid<T, A>,
+    from: &mut Grid<T, A>,
+    at: (usize, usize),
+    row: usize,
+    col: usize,
+)
+    requires to_row { at.0 + row < row_count to.old.rows }
+    requires to_col { at.1 + col < col_count to.old.rows }
+    requires from_row { row < row_count from.old.rows }
+    requires from_col { col < col_count from.old.rows }
+    ensures { PartTaken (IsAt row col) at to.old from.old to.new from.new }
+{
+    let _size = to.size();
+    mem::swap(
+        to.get_unchecked_mut(at.0 + row, at.1 + col),
+        from.get_unchecked_mut(row, col),
+    );
+}
+
+// Exchanges the first `cols` cells of a row of `from`, in the same way.
+fn exchange_row<T, A: Allocator>(
+    to: &mut Grid<T, A>,
+    from: &mut Grid<T, A>,
+    at: (usize, usize),
+    row: usize,
+    cols: usize,
+)
+    requires to_row { at.0 + row < row_count to.old.rows }
+    requires to_cols { at.1 + cols ≤ col_count to.old.rows }
+    requires from_row { row < row_count from.old.rows }
+    requires from_cols { cols ≤ col_count from.old.rows }
+    ensures { PartTaken (InRow row cols) at to.old from.old to.new from.new }
+{
+    for col in 0..cols {
+        exchange_cell(to, from, at, row, col);
+    }
+}
+
+// Exchanges the first `size.0` rows and `size.1` columns of `from`, in the same way.
+fn exchange_part<T, A: Allocator>(
+    to: &mut Grid<T, A>,
+    from: &mut Grid<T, A>,
+    at: (usize, usize),
+    size: (usize, usize),
+)
+    requires to_rows { at.0 + size.0 ≤ row_count to.old.rows }
+    requires to_cols { at.1 + size.1 ≤ col_count to.old.rows }
+    requires from_rows { size.0 ≤ row_count from.old.rows }
+    requires from_cols { size.1 ≤ col_count from.old.rows }
+    ensures { PartTaken (InRows size.0 size.1) at to.old from.old to.new from.new }
+{
+    for row in 0..size.0 {
+        exchange_row(to, from, at, row, size.1);
+    }
+}
+
+// Returns which cells of a line of `len` cells lie over `limit` numbers, where the first lies over a signed number: how many
+// come before them, over which number the first of them lies, and how many there are.
+fn clipped(at: isize, len: usize, limit: usize) -> (usize, usize, usize)
+    ensures { IsClipped at len limit result.0 result.1 result.2 }
+{
+    if at < 0 {
+        let skipped = at.unsigned_abs().min(len);
+        (skipped, 0, limit.min(len - skipped))
+    } else {
+        let start = (at as usize).min(limit);
+        (0, start, len.min(limit - start))
+    }
+}
+
+impl<T, A: Allocator> Grid<T, A> {
+    /// Writes clones of the cells of a view over the cells from position `at` on.
+    ///
+    ///     [[1, 2, 3], [4, 5, 6]]   paste((0, 1), [[7, 8]])   [[1, 7, 8], [4, 5, 6]]
+    ///
+    /// Requires: clones of the cell type equal their source; the cells are within the grid.
+    /// Fails: where memory is refused, for the clones or by a clone; the grid is unchanged.
+    /// Cost: one clone and one swap for each cell of the view, all clones before the first change; one allocation.
+    pub fn paste(&mut self, at: (usize, usize), view: &GridView<'_, T>) -> Result<(), AllocError>
+    where
+        T: Clone,
+        A: Clone,
+        requires clones { ClonesAreEqual T.is_clone }
+        requires rows_in { at.0 + row_count view.now.rows ≤ row_count self.old.rows }
+        requires cols_in { at.1 + col_count view.now.rows ≤ col_count self.old.rows }
+        ensures rows { OnOk result
+            (self.new.rows ≡ overlaid (pos at.0, pos at.1) view.now.rows self.old.rows) }
+        ensures row_count { row_count self.new.rows ≡ row_count self.old.rows }
+        ensures col_count { col_count self.new.rows ≡ col_count self.old.rows }
+        ensures order { self.new.order ≡ self.old.order }
+        ensures err { OnErr result (self.new ≡ self.old) }
+    {
+        let alloc = self.flat.allocator().clone()?;
+        let mut copies = Grid::from_view(alloc, self.order, view)?;
+        let size = copies.size();
+        exchange_part(self, &mut copies, at, size);
+        Ok(())
+    }
+
+    /// Writes clones of the cells of a view over the cells of the grid that it covers, where its first cell lies over the
+    /// signed row and column of `at`. Its cells outside of the grid are left out.
+    ///
+    ///     [[1, 2], [3, 4]]   paste_clipped((-1, 1), [[5, 6], [7, 8]])   [[1, 7], [3, 4]]
+    ///
+    /// Requires: clones of the cell type equal their source.
+    /// Fails: where memory is refused, for the clones or by a clone; the grid is unchanged.
+    /// Cost: one clone and one swap for each cell that is written, all clones before the first change; one allocation.
+    pub fn paste_clipped(
+        &mut self,
+        at: (isize, isize),
+        view: &GridView<'_, T>,
+    ) -> Result<(), AllocError>
+    where
+        T: Clone,
+        A: Clone,
+        requires { ClonesAreEqual T.is_clone }
+        ensures rows { OnOk result
+            (self.new.rows ≡ overlaid at view.now.rows self.old.rows) }
+        ensures row_count { row_count self.new.rows ≡ row_count self.old.rows }
+        ensures col_count { col_count self.new.rows ≡ col_count self.old.rows }
+        ensures order { self.new.order ≡ self.old.order }
+        ensures err { OnErr result (self.new ≡ self.old) }
+    {
+        let (rows, cols) = self.size();
+        let (view_rows, view_cols) = view.size();
+        let (skipped_rows, row, row_count) = clipped(at.0, view_rows, rows);
+        let (skipped_cols, col, col_count) = clipped(at.1, view_cols, cols);
+        let part = view.part((skipped_rows, skipped_cols), (row_count, col_count));
+        self.paste((row, col), &part)
+    }
+
+    /// Makes every cell of a part the value: of the `size.0` rows and `size.1` columns from position `at` on.
+    ///
+    ///     [[1, 2, 3], [4, 5, 6]]   fill_part((0, 1), (2, 1), 7)   [[1, 7, 3], [4, 7, 6]]
+    ///
+    /// Requires: clones of the cell type equal their source; the part is within the grid.
+    /// Fails: where memory is refused, for the clones or by a clone; the grid is unchanged, and the value is dropped.
+    /// Cost: one clone for each cell of the part but the last, all before the first change, and one swap for each; one
+    /// allocation.
+    pub fn fill_part(
+        &mut self,
+        at: (usize, usize),
+        size: (usize, usize),
+        value: T,
+    ) -> Result<(), AllocError>
+    where
+        T: Clone,
+        A: Clone,
+        requires clones { ClonesAreEqual T.is_clone }
+        requires rows_in { at.0 + size.0 ≤ row_count self.old.rows }
+        requires cols_in { at.1 + size.1 ≤ col_count self.old.rows }
+        ensures rows { OnOk result (self.new.rows ≡ part_filled at size value self.old.rows) }
+        ensures row_count { row_count self.new.rows ≡ row_count self.old.rows }
+        ensures col_count { col_count self.new.rows ≡ col_count self.old.rows }
+        ensures order { self.new.order ≡ self.old.order }
+        ensures err { OnErr result (self.new ≡ self.old) }
+    {
+        let alloc = self.flat.allocator().clone()?;
+        let Ok(mut copies) = Grid::init_with_order(alloc, size.0, size.1, self.order, value) else {
+            return Err(AllocError);
+        };
+        let size = copies.size();
+        exchange_part(self, &mut copies, at, size);
+        Ok(())
+    }
+
+    /// Replaces each cell of a part by what the closure returns at its position in the grid and a reference to it, row by
+    /// row: the `size.0` rows and `size.1` columns from position `at` on.
+    ///
+    ///     [[1, 2, 3], [4, 5, 6]]   update_part((0, 1), (2, 1), |_, x| *x * 10)   [[1, 20, 3], [4, 50, 6]]
+    ///
+    /// Requires: the part is within the grid; the closure can be called at each of its positions and a reference to the
+    /// cell there.
+    /// Cost: one call for each cell of the part; no memory.
+    pub fn update_part<F: Fn((usize, usize), &T) -> T>(
+        &mut self,
+        at: (usize, usize),
+        size: (usize, usize),
+        f: F,
+    )
+    where
+        T: Drop,
+        requires rows_in { at.0 + size.0 ≤ row_count self.old.rows }
+        requires cols_in { at.1 + size.1 ≤ col_count self.old.rows }
+        requires calls { CallableInPart f at size self.old.rows F.pre }
+        ensures row_count { row_count self.new.rows ≡ row_count self.old.rows }
+        ensures col_count { col_count self.new.rows ≡ col_count self.old.rows }
+        ensures order { self.new.order ≡ self.old.order }
+        ensures cells { PartUpdated f at size self.old.rows F.post self.new.rows }
+    {
+        let _size = self.size();
+        for row in at.0..at.0 + size.0 {
+            self.update_in_row(row, at.1, at.1 + size.1, &f);
+        }
+    }
+
+    // Replaces the cells of a row from column `from` on and before `end`, in the same way.
+    fn update_in_row<F: Fn((usize, usize), &T) -> T>(
+        &mut self,
+        row: usize,
+        from: usize,
+        end: usize,
+        f: &F,
+    )
+    where
+        T: Drop,
+        requires row_in { row < row_count self.old.rows }
+        requires ordered { from ≤ end }
+        requires cols_in { end ≤ col_count self.old.rows }
+        requires calls { CallableInRow f.now row from end self.old.rows F.pre }
+        ensures { CellsUpdated (IsWithin row (row + 1) from end) (F.post f.now) self.old self.new }
+    {
+        for col in from..end {
+            self.update_cell(row, col, f);
+        }
+    }
+
+    // Replaces a cell in the same way.
+    fn update_cell<F: Fn((usize, usize), &T) -> T>(&mut self, row: usize, col: usize, f: &F)
+    where
+        T: Drop,
+        requires in_range { InRange self.old.rows row col }
+        requires calls { CallableInRow f.now row col (col + 1) self.old.rows F.pre }
+        ensures { CellsUpdated
+            (IsWithin row (row + 1) col (col + 1)) (F.post f.now) self.old self.new }
+    {
+        let new = f((row, col), self.get_unchecked(row, col));
+        let _ = self.set(row, col, new);
+    }
+}

@@ -1,0 +1,53 @@
+-- Cells that are laid out anew half by half.
+use Rattle.std.proofs.Common.{◌≡◌, ℕ, ◌+◌, ◌-◌, ◌*◌, ◌<◌, ◌++◌, List, length, refl, sym, ◌∙◌, ap, arith, ⊎_elim, length-append}
+use Rattle.std.specs.List.{slice_get}
+use Rattle.std.proofs.lemmas.Bool.{cases_lt}
+use Rattle.grid_base.specs.Groups.{Woven}
+use Rattle.grid_base.specs.Relaid.{Relaid}
+use Rattle.grid_base.proofs.StorageLemmas.{get_append_left, get_append_right}
+use Rattle.grid_base.proofs.WeaveLemmas.{place_below}
+
+-- no line, or one
+pub relaid_one : {T : Type 0} (p q : ℕ) (xs : List T) → p < 2 → Relaid p q xs xs
+relaid_one p q xs lt =
+    record {
+      lengths = refl;
+      at = λ l j a b.
+          let first : l ≡ 0 = omega arith in
+          let one : p ≡ 1 = omega arith in
+          ap (slice_get xs) (omega (arith, ap (λ v. j * v) one, ap (λ v. v * q) first));
+    }
+
+module _ {T : Type 0} (h r q : ℕ) (old mid new fo bo fn bn : List T) (wide : length fo ≡ h * q) (tall : length bo ≡ r * q) (cut : old ≡ fo ++ bo) (joined : mid ≡ fn ++ bn) (front : Relaid h q fo fn) (back : Relaid r q bo bn) (woven : Woven q h h r mid new) where
+  low : (l j : ℕ) → l < h → j < q → slice_get new (j * (h + r) + l) ≡ slice_get old (l * q + j)
+  low l j lh lq =
+      woven.lines.before j l lq lh lh
+      ∙ (ap (λ xs. slice_get xs (j * h + l)) joined
+      ∙ (get_append_left fn bn (j * h + l) (omega (arith, front.lengths, wide, place_below j h l q lq lh))
+      ∙ (front.at l j lh lq
+      ∙ sym (ap (λ xs. slice_get xs (l * q + j)) cut ∙ get_append_left fo bo (l * q + j) (omega (arith, wide, place_below l q j h lh lq))))))
+
+  high : (m j : ℕ) → m < r → j < q → slice_get new (j * (h + r) + (h + m)) ≡ slice_get old ((h + m) * q + j)
+  high m j lm lq =
+      woven.groups j m lq lm
+      ∙ (ap (λ xs. slice_get xs (q * h + (j * r + m))) joined
+      ∙ (get_append_right fn bn (q * h + (j * r + m)) (j * r + m) (omega (arith, front.lengths, wide))
+      ∙ (back.at m j lm lq
+      ∙ sym (ap (λ xs. slice_get xs ((h + m) * q + j)) cut ∙ get_append_right fo bo ((h + m) * q + j) (m * q + j) (omega (arith, wide))))))
+
+  pub relaid_halves : Relaid (h + r) q old new
+  relaid_halves =
+      record {
+        lengths = woven.lengths ∙ (ap length joined ∙ (length-append fn bn ∙ omega (arith, front.lengths, back.lengths, ap length cut, length-append fo bo)));
+        at = λ l j a b.
+            ⊎_elim (λ lh. low l j lh b)
+            (λ le.
+            let e : h + (l - h) ≡ l = omega arith in
+            let at : slice_get new (j * (h + r) + (h + (l - h))) ≡ slice_get old ((h + (l - h)) * q + j) = high (l - h) j (omega arith) b in
+            rw e at at) (cases_lt l h);
+      }
+
+-- the same, in the forms of the goal
+pub relaid_by_halves : {T : Type 0} (p h r q : ℕ) (old mid new fo bo fn bn : List T) → h + r ≡ p → length fo ≡ h * q → length bo ≡ r * q → old ≡ fo ++ bo → mid ≡ fn ++ bn → Relaid h q fo fn → Relaid r q bo bn → Woven q h h r mid new → Relaid p q old new
+relaid_by_halves p h r q old mid new fo bo fn bn e wide tall cut joined front back woven =
+    rw (← e) (relaid_halves h r q old mid new fo bo fn bn wide tall cut joined front back woven)

@@ -1,0 +1,21 @@
+use Rattle.std.proofs.Common.{◌≡◌, ◌+◌, ◌*◌, ◌≤◌, min}
+use Rattle.core.specs.Mem.Slots.{SamePlaces}
+use Rattle.core.specs.Mem.Slots.Ownership.{Filled}
+use Rattle.grid_base.proofs.InTurnLemmas.{Weaving}
+use Rattle.grid_base.proofs.RoomLemmas.{with_waiting}
+use Rattle.grid_base.proofs.flat.room.weave_row.Given as goal
+
+abbrev pub invariant-loop-line : goal.invariant-loop-line
+invariant-loop-line g l = record {
+  run : Weaving l.groups.lines l.groups.width l.groups.at l.groups.count l.line l.end l.fn.row.items (with_waiting l.row.items l.room.items l.end (l.line * l.groups.count));
+  front : Filled l.row.filled 0 l.end;
+  back : Filled l.row.filled (l.end + l.line * l.groups.count) l.row.len;
+  waits : Filled l.room.filled 0 (l.line * l.groups.count);
+  row : SamePlaces l.fn.row l.row;
+  room : SamePlaces l.fn.room l.room;
+  within : l.line ≤ l.groups.lines;
+  place : l.end ≡ min (l.groups.at + l.line * l.groups.width) (l.groups.lines * l.groups.width);
+}
+
+abbrev pub decreases-loop-line : goal.decreases-loop-line
+decreases-loop-line g l = l.line

@@ -1,0 +1,161 @@
+//! Groups that wait in a room on the stack while the cells of the lines move, each cell once. No tally counts it.
+ghost use Rattle.std.specs.Prelude.{◌≡◌, ◌+◌, ◌*◌, ◌<◌, ◌≤◌, length, IsTrue};
+ghost use Rattle.core.specs.Mem.Slots.{slots_items, slots_len, SamePlaces, IsFull, Refills, FitsRoom};
+ghost use Rattle.grid_base.specs.Groups.{Woven};
+
+use super::Groups;
+use core::slots::{Slots, has_room, with_room, with_slots};
+
+const FEW_CELLS: usize = 128;
+
+// All groups go to the room. Then the cells behind the place of each group, the last first, move to the back, and the
+// group comes to its place.
+fn weave_row<T>(mut row: Slots<T>, mut room: Slots<T>, groups: Groups) -> (Slots<T>, Slots<T>, ())
+    requires full { IsFull row }
+    requires some { 0 < groups.lines }
+    requires cells { slots_len row ≡ groups.lines * (groups.width + groups.count) }
+    requires room { groups.lines * groups.count ≤ slots_len room }
+    ensures room { SamePlaces room result.1 }
+    ensures row { Refills row result.0 }
+    ensures woven { Woven groups.lines groups.width groups.at groups.count (slots_items row) (slots_items result.0) }
+{
+    let mut end = groups.lines * groups.width;
+    row.move_run(end, &mut room, 0, groups.lines * groups.count);
+    let mut line = groups.lines;
+    while 0 < line {
+        line -= 1;
+        let start = groups.at + line * groups.width;
+        let few = line * groups.count;
+        row.move_within(start, start + (few + groups.count), end - start);
+        room.move_run(few, &mut row, start + few, groups.count);
+        end = start;
+    }
+    (row, room, ())
+}
+
+// Each group goes to the room, from the first on, and the cells behind it move to the front. Then all groups come behind
+// the lines.
+fn unweave_row<T>(mut row: Slots<T>, mut room: Slots<T>, groups: Groups) -> (Slots<T>, Slots<T>, ())
+    requires full { IsFull row }
+    requires some { 0 < groups.lines }
+    requires cells { slots_len row ≡ groups.lines * (groups.width + groups.count) }
+    requires room { groups.lines * groups.count ≤ slots_len room }
+    ensures room { SamePlaces room result.1 }
+    ensures row { Refills row result.0 }
+    ensures woven { Woven groups.lines groups.width groups.at groups.count (slots_items result.0) (slots_items row) }
+{
+    let kept = groups.lines * groups.width;
+    let mut start = groups.at;
+    for line in 0..groups.lines {
+        let few = line * groups.count;
+        let run = groups.width.min(kept - start);
+        row.move_run(start + few, &mut room, few, groups.count);
+        row.move_within(start + (few + groups.count), start, run);
+        start += run;
+    }
+    room.move_run(0, &mut row, kept, groups.lines * groups.count);
+    (row, room, ())
+}
+
+// Whether the groups are in several lines, and fit the room. Few cells are moved faster without it.
+pub(super) fn fits_room<T>(cells: &[T], groups: Groups) -> bool
+    requires { length cells.now ≡ groups.lines * (groups.width + groups.count) }
+    ensures lines { IsTrue result → 0 < groups.lines }
+    ensures room { IsTrue result → FitsRoom T.row (groups.lines * groups.count) }
+{
+    1 < groups.lines && FEW_CELLS < cells.len() && has_room(cells, groups.lines * groups.count)
+}
+
+fn weave_in_room<T>(room: Slots<T>, job: (Slots<T>, Groups)) -> (Slots<T>, Slots<T>)
+    requires full { IsFull job.0 }
+    requires some { 0 < job.1.lines }
+    requires cells { slots_len job.0 ≡ job.1.lines * (job.1.width + job.1.count) }
+    requires room { job.1.lines * job.1.count ≤ slots_len room }
+    ensures room { SamePlaces room result.0 }
+    ensures row { Refills job.0 result.1 }
+    ensures woven { Woven job.1.lines job.1.width job.1.at job.1.count (slots_items job.0)
+        (slots_items result.1) }
+{
+    let (row, groups) = job;
+    let (row, room, ()) = weave_row(row, room, groups);
+    (room, row)
+}
+
+// Out of line, so that the room is no part of a caller's frame.
+#[inline(never)]
+fn weave_on_stack<T>(row: Slots<T>, state: (), groups: Groups) -> (Slots<T>, (), ())
+    requires full { IsFull row }
+    requires some { 0 < groups.lines }
+    requires wide { 0 < groups.width }
+    requires cells { slots_len row ≡ groups.lines * (groups.width + groups.count) }
+    requires fits { FitsRoom T.row (groups.lines * groups.count) }
+    ensures row { Refills row result.0 }
+    ensures woven { Woven groups.lines groups.width groups.at groups.count (slots_items row)
+        (slots_items result.0) }
+{
+    let count = groups.lines * groups.count;
+    (
+        unsafe { with_room(count, (row, groups), weave_in_room) },
+        state,
+        (),
+    )
+}
+
+// Puts the groups behind the lines into their lines, through the room.
+pub(super) fn weave_through<T>(cells: &mut [T], groups: Groups)
+    requires some { 0 < groups.lines }
+    requires wide { 0 < groups.width }
+    requires cells { length cells.old ≡ groups.lines * (groups.width + groups.count) }
+    requires fits { FitsRoom T.row (groups.lines * groups.count) }
+    ensures { Woven groups.lines groups.width groups.at groups.count cells.old cells.new }
+{
+    let mut nothing = ();
+    unsafe { with_slots(cells, &mut nothing, groups, weave_on_stack) }
+}
+
+fn unweave_in_room<T>(room: Slots<T>, job: (Slots<T>, Groups)) -> (Slots<T>, Slots<T>)
+    requires full { IsFull job.0 }
+    requires some { 0 < job.1.lines }
+    requires cells { slots_len job.0 ≡ job.1.lines * (job.1.width + job.1.count) }
+    requires room { job.1.lines * job.1.count ≤ slots_len room }
+    ensures room { SamePlaces room result.0 }
+    ensures row { Refills job.0 result.1 }
+    ensures woven { Woven job.1.lines job.1.width job.1.at job.1.count (slots_items result.1)
+        (slots_items job.0) }
+{
+    let (row, groups) = job;
+    let (row, room, ()) = unweave_row(row, room, groups);
+    (room, row)
+}
+
+// Out of line, so that the room is no part of a caller's frame.
+#[inline(never)]
+fn unweave_on_stack<T>(row: Slots<T>, state: (), groups: Groups) -> (Slots<T>, (), ())
+    requires full { IsFull row }
+    requires some { 0 < groups.lines }
+    requires wide { 0 < groups.width }
+    requires cells { slots_len row ≡ groups.lines * (groups.width + groups.count) }
+    requires fits { FitsRoom T.row (groups.lines * groups.count) }
+    ensures row { Refills row result.0 }
+    ensures woven { Woven groups.lines groups.width groups.at groups.count (slots_items result.0)
+        (slots_items row) }
+{
+    let count = groups.lines * groups.count;
+    (
+        unsafe { with_room(count, (row, groups), unweave_in_room) },
+        state,
+        (),
+    )
+}
+
+// Takes the groups out of their lines, through the room.
+pub(super) fn unweave_through<T>(cells: &mut [T], groups: Groups)
+    requires some { 0 < groups.lines }
+    requires wide { 0 < groups.width }
+    requires cells { length cells.old ≡ groups.lines * (groups.width + groups.count) }
+    requires fits { FitsRoom T.row (groups.lines * groups.count) }
+    ensures { Woven groups.lines groups.width groups.at groups.count cells.new cells.old }
+{
+    let mut nothing = ();
+    unsafe { with_slots(cells, &mut nothing, groups, unweave_on_stack) }
+}

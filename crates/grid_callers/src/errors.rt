@@ -1,0 +1,113 @@
+//! Errors that go up by `?`.
+ghost use Rattle.std.specs.Prelude.{◌≡◌, ◌↔◌, ◌+◌, ◌<◌, IsErrOf, IfErr, OnOk, OnErr, Some, length, codes};
+ghost use Rattle.std.specs.List.{insert};
+ghost use Rattle.grid_base.specs.Table.{row_count};
+ghost use Rattle.grid.specs.Edits.{FitsRow};
+ghost use Rattle.grid.specs.Make.{ExceedsMax};
+ghost use Rattle.grid_commands.specs.Errors.{stopped_text};
+ghost use Rattle.anyhow.specs.Error.{HasMessage};
+
+use grid::{Command, Grid, GridError, Tally, run};
+use std::alloc::{Allocator, Global};
+use std::fmt::Debug;
+
+/// Adds two rows, of any cells and allocator; the error is the library's.
+pub fn push_two<T: Drop, A: Allocator>(
+    board: &mut Grid<T, A>,
+    first: Vec<T, A>,
+    second: Vec<T, A>,
+) -> Result<bool, GridError> {
+    if first.is_empty() || !board.fits_row(first.len()) {
+        return Ok(false);
+    }
+    board.push_row(first)?;
+    if second.is_empty() || !board.fits_row(second.len()) {
+        return Ok(false);
+    }
+    board.push_row(second)?;
+    Ok(true)
+}
+
+/// Adds a row. The contract says which error comes.
+pub fn push<T: Drop, A: Allocator>(board: &mut Grid<T, A>, line: Vec<T, A>) -> Result<(), GridError>
+    requires nonempty { 0 < length line.items }
+    requires fits { FitsRow board.old.rows (length line.items) }
+    ensures rows { OnOk result
+        (board.new.rows ≡ insert board.old.rows (row_count board.old.rows) line.items) }
+    ensures too_large { IsErrOf result GridError.TooLarge
+        ↔ ExceedsMax (row_count board.old.rows + 1) (length line.items) }
+    ensures unchanged { OnErr result (board.new ≡ board.old) }
+{
+    board.push_row(line)?;
+    Ok(())
+}
+
+/// Adds a row; the error is text, which the contract states.
+pub fn push_or_say<T: Debug + Drop, A: Allocator>(
+    board: &mut Grid<T, A>,
+    line: Vec<T, A>,
+) -> anyhow::Result<()>
+    requires nonempty { 0 < length line.items }
+    requires fits { FitsRow board.old.rows (length line.items) }
+    ensures rows { OnOk result
+        (board.new.rows ≡ insert board.old.rows (row_count board.old.rows) line.items) }
+    ensures text { ExceedsMax (row_count board.old.rows + 1) (length line.items)
+        → IfErr result (λ e. HasMessage (Some (codes "too many cells")) e) }
+    ensures unchanged { OnErr result (board.new ≡ board.old) }
+{
+    board.push_row(line)?;
+    Ok(())
+}
+
+/// Makes a board, adds rows to it and runs commands; any error is text.
+pub fn play(
+    alloc: Global,
+    rows: Vec<Vec<u32>>,
+    commands: Vec<Command<u32>>,
+) -> anyhow::Result<usize> {
+    let mut board: Grid<u32> = Grid::new(alloc, 2, 2)?;
+    for row in rows {
+        if !row.is_empty() && board.fits_row(row.len()) {
+            board.push_row(row)?;
+        }
+    }
+    let replies = run(alloc, &mut board, commands, &mut Tally::new())?;
+    Ok(replies.len())
+}
+
+/// The text of a run that stopped.
+pub fn run_or_say<A: Allocator + Clone>(
+    alloc: A,
+    board: &mut Grid<u32, A>,
+    commands: Vec<Command<u32, A>, A>,
+) -> anyhow::Result<()> {
+    run(alloc, board, commands, &mut Tally::new())?;
+    Ok(())
+}
+
+/// Makes a grid of strings, cells that take memory: either want of memory is the library's error.
+pub fn names(alloc: Global, rows: usize, cols: usize) -> Result<Grid<String>, GridError> {
+    let grid = Grid::try_from_fn(alloc, rows, cols, |_at| String::from_str(alloc, "cell"))??;
+    Ok(grid)
+}
+
+/// Makes a table of products; a product that doesn't fit is an error.
+pub fn products(alloc: Global, rows: usize, cols: usize) -> anyhow::Result<Grid<usize>> {
+    let grid = Grid::try_from_fn(alloc, rows, cols, |(row, col)| {
+        row.checked_mul(col).ok_or(GridError::TooLarge)
+    })??;
+    Ok(grid)
+}
+
+/// Makes a line, pushes it and runs commands, all by `?` in one error type of the library.
+pub fn all_in_one(alloc: Global, commands: Vec<Command<u32>>) -> Result<usize, GridError> {
+    let mut board: Grid<u32> = Grid::new(alloc, 2, 2)?;
+    let mut line = Vec::new(alloc);
+    line.push(5)?;
+    line.push(6)?;
+    if board.fits_row(line.len()) {
+        board.push_row(line)?;
+    }
+    let replies = run(alloc, &mut board, commands, &mut Tally::new())?;
+    Ok(replies.len())
+}

@@ -1,0 +1,40 @@
+//! Callers of `grid_text`, with no proof file.
+ghost use Rattle.std.specs.Prelude.{◌≡◌, ◌==◌, Some, None, true, false, IfOk, if◌then◌else◌};
+ghost use Rattle.std.specs.String.{string_bytes};
+ghost use Rattle.text_lines.specs.Lines.{lines_of};
+ghost use Rattle.text_lines.specs.Numbers.{cell_of};
+ghost use Rattle.grid_text.specs.Reading.{IsOrMemory, reading, reading_words};
+ghost use Rattle.grid_text.specs.Writing.{table_text};
+
+use grid::Grid;
+use grid_text::{TextError, from_text, from_words, to_text};
+use std::alloc::{AllocError, Allocator, Global};
+use text_lines::cell;
+
+/// Reads a map of walls, `#`, and free cells, `.`.
+pub fn walls(alloc: Global, text: &str) -> Result<Grid<bool>, TextError>
+    ensures { IsOrMemory (reading
+        (λ c. if c == 35 then Some true else (if c == 46 then Some false else None))
+        (lines_of text.now)) result }
+{
+    from_text(alloc, text, |c| match c {
+        '#' => Some(true),
+        '.' => Some(false),
+        _ => None,
+    })
+}
+
+/// Writes such a map.
+pub fn walls_text<A: Allocator>(alloc: Global, walls: &Grid<bool, A>) -> Result<String, AllocError>
+    ensures { IfOk result (λ text. string_bytes text
+        ≡ table_text (λ wall. if wall then 35 else 46) walls.now.rows) }
+{
+    to_text(alloc, walls, |wall| if *wall { '#' } else { '.' })
+}
+
+/// Reads a sheet of whole numbers.
+pub fn sheet(alloc: Global, text: &str) -> Result<Grid<i64>, TextError>
+    ensures { IsOrMemory (reading_words cell_of (lines_of text.now)) result }
+{
+    from_words(alloc, text, |word| cell(word))
+}

@@ -1,0 +1,132 @@
+//! Views: what a caller's contract says by the rows that are seen, with no proof file.
+ghost use Rattle.std.specs.Prelude.{◌≡◌, ◌+◌, ◌/◌, ◌<◌, ◌≤◌, ◌==◌, ◌↔◌, ◌&&◌, ◌||◌, IsTrue, IfOk, OnOk, OnErr, Any, All, length, map, reverse, sum, count_by, pos};
+ghost use Rattle.grid_base.specs.Table.{row, row_count, col_count, transposed, concat_rows, cell, InRange};
+ghost use Rattle.grid_base.specs.Symmetry.{act};
+ghost use Rattle.grid_view.specs.View.{sub_table};
+ghost use Rattle.grid.specs.Pasted.{overlaid, part_filled};
+
+use grid::{Grid, GridView, Symmetry};
+use std::alloc::{AllocError, Global};
+
+/// Returns the number of cells of row `r` that are `x`.
+pub fn count_in_row(view: &GridView<'_, u32>, r: usize, x: u32) -> usize
+    requires { r < row_count view.now.rows }
+    ensures { result ≡ count_by (λ y. y == x) (row view.now.rows r) }
+{
+    view.iter_row(r).filter(|y| **y == x).count()
+}
+
+/// Returns whether a cell of column `c` is `x`.
+pub fn column_has(view: &GridView<'_, u32>, c: usize, x: u32) -> bool
+    requires { c < col_count view.now.rows }
+    ensures { IsTrue result ↔ Any (λ y. y ≡ x) (row (transposed view.now.rows) c) }
+{
+    view.iter_col(c).any(|y| *y == x)
+}
+
+/// Returns the cells of row `r` from its end.
+pub fn reversed_row(
+    alloc: Global,
+    view: &GridView<'_, u32>,
+    r: usize,
+) -> Result<Vec<u32>, AllocError>
+    requires { r < row_count view.now.rows }
+    ensures { IfOk result (λ cells. cells.items ≡ reverse (row view.now.rows r)) }
+{
+    view.iter_row(r).rev().map(|y| *y).collect(alloc)
+}
+
+/// Returns half of each cell, row by row.
+pub fn halves(alloc: Global, view: &GridView<'_, u32>) -> Result<Vec<u32>, AllocError>
+    ensures { IfOk result (λ halves. halves.items ≡ map (λ y. y / 2) (concat_rows view.now.rows)) }
+{
+    view.iter().map(|y| *y / 2).collect(alloc)
+}
+
+/// Returns the lengths of the rows.
+pub fn widths(alloc: Global, view: &GridView<'_, u32>) -> Result<Vec<usize>, AllocError>
+    ensures { IfOk result (λ widths. widths.items ≡ map (λ line. length line) view.now.rows) }
+{
+    view.iter_rows().map(|line| line.len()).collect(alloc)
+}
+
+/// Returns the part of two rows and two columns, seen with its columns flipped.
+pub fn corner_flipped<'a>(view: &GridView<'a, u32>) -> GridView<'a, u32>
+    requires rows { 2 ≤ row_count view.now.rows }
+    requires cols { 2 ≤ col_count view.now.rows }
+    ensures { result.rows ≡ act Symmetry.FlipCols (sub_table view.now.rows (0, 0) (2, 2)) }
+{
+    view.part((0, 0), (2, 2)).turned(Symmetry::FlipCols)
+}
+
+/// Returns the sum of the cells of a window, or `None` where the window isn't within the board.
+///
+///     [[1, 2, 3], [4, 5, 6]]   window_sum((0, 1), (2, 2))   Some(16)
+pub fn window_sum(grid: &Grid<u8>, at: (usize, usize), size: (usize, usize)) -> Option<u64> {
+    let (rows, cols) = grid.size();
+    if rows < size.0 || rows - size.0 < at.0 || cols < size.1 || cols - size.1 < at.1 {
+        return None;
+    }
+    let mut sum = 0u64;
+    for cell in grid.part(at, size).iter() {
+        sum = sum.saturating_add(u64::from(*cell));
+    }
+    Some(sum)
+}
+
+/// Returns whether a piece fits over a part of a board: where the piece has a cell, the board's is free. Both have one size.
+///
+///     piece [[true, false]]   board [[false, true]]   fits   true
+pub fn fits(piece: &GridView<'_, bool>, board: &GridView<'_, bool>) -> bool {
+    let (rows, cols) = piece.size();
+    if board.size() != (rows, cols) {
+        return false;
+    }
+    for row in 0..rows {
+        for col in 0..cols {
+            if piece[(row, col)] && board[(row, col)] {
+                return false;
+            }
+        }
+    }
+    true
+}
+
+/// Returns whether a piece, turned, fits on a board at a position.
+pub fn fits_at(
+    piece: &GridView<'_, bool>,
+    symmetry: Symmetry,
+    board: &Grid<bool>,
+    at: (usize, usize),
+) -> bool {
+    let turned = piece.turned(symmetry);
+    let size = turned.size();
+    let (rows, cols) = board.size();
+    if rows < size.0 || rows - size.0 < at.0 || cols < size.1 || cols - size.1 < at.1 {
+        return false;
+    }
+    fits(&turned, &board.part(at, size))
+}
+
+/// Returns whether two boards have the same cells where both have one, in the upper left corner.
+pub fn alike_in_corner(a: &Grid<u8>, b: &Grid<u8>) -> bool {
+    let size = (a.rows().min(b.rows()), a.cols().min(b.cols()));
+    a.part((0, 0), size) == b.part((0, 0), size)
+}
+
+/// Lays a board over another, from a signed position on.
+pub fn stamp(board: &mut Grid<u8>, at: (isize, isize), stamp: &Grid<u8>) -> Result<(), AllocError>
+    ensures rows { OnOk result (board.new.rows ≡ overlaid at stamp.now.rows board.old.rows) }
+    ensures err { OnErr result (board.new ≡ board.old) }
+{
+    board.paste_clipped(at, &stamp.view())
+}
+
+/// Clears the first row, if there is one.
+pub fn clear_first_row(board: &mut Grid<u8>) -> Result<(), AllocError> {
+    if board.is_empty() {
+        return Ok(());
+    }
+    let cols = board.cols();
+    board.fill_part((0, 0), (1, cols), 0)
+}

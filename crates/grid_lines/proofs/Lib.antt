@@ -1,0 +1,5 @@
+pub mod RetainLemmas
+pub mod RollLemmas
+pub mod AcrossLemmas
+pub mod PartLemmas
+pub mod SetLemmas

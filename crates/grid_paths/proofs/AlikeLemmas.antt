@@ -1,0 +1,93 @@
+-- Which cells equal one: the size of that table, and its cells.
+use Rattle.std.proofs.Common.{◌≡◌, ℕ, ◌+◌, ◌^◌, ◌%◌, ◌-◌, ◌<◌, Bool, true, Option, None, Some, List, length, refl, sym, ◌∙◌, ap, subst, arith, ⊎_elim, MatchOption}
+use Rattle.std.specs.Option.{IsSome, option_map}
+use Rattle.std.proofs.lemmas.Bool.{cases_lt}
+use Rattle.std.proofs.lemmas.Option.{slice_get_past}
+use Rattle.grid_base.specs.Table.{row, row_count, col_count, cell, IsTable, InRange, tabulate}
+use Rattle.grid_base.proofs.TableLemmas.{IsFull, IsFull-cells, IsSize-table, rows-tabulate, cols-tabulate, cell-tabulate, cell_past_rows, cell_past_cols}
+use Rattle.grid_paths.specs.Walks.{IsOpen, alike}
+use Rattle.grid_paths.proofs.StepLemmas.{AreAround, AreAround-wrapping}
+
+IsSome-option_map : {X Y : Type 0} (f : X → Y) (o : Option X) → IsSome o → IsSome (option_map f o)
+IsSome-option_map f None h = cc
+IsSome-option_map f (Some x) h = refl
+
+module _ {X Y : Type 0} (f : X → Y) (t : List (List X)) (table : IsTable t) where
+  answer : ℕ → ℕ → Option Y
+  answer r c = option_map f (cell t r c)
+
+  full : IsFull (row_count t) (col_count t) answer
+  unfolding answer
+  full = record { full = λ r c lr lc. IsSome-option_map f (cell t r c) ((IsFull-cells t table).full r c lr lc) }
+
+  cols : col_count (tabulate (row_count t) (col_count t) answer) ≡ col_count t
+  cols = cols-tabulate (row_count t) (col_count t) answer (IsSize-table t table) full
+
+  pub mapped-cols : col_count (tabulate (row_count t) (col_count t) (λ r c. option_map f (cell t r c))) ≡ col_count t
+  unfolding answer
+  mapped-cols = cols
+
+  by : (r c : ℕ) → cell (tabulate (row_count t) (col_count t) answer) r c ≡ answer r c
+  unfolding answer
+  by r c =
+      ⊎_elim (λ lr.
+      ⊎_elim (λ lc. cell-tabulate (row_count t) (col_count t) answer r c full lr lc)
+      (λ ge.
+      let even : length (row t r) ≡ length (row t 0) = table.even r lr in
+      let none : cell t r c ≡ None = slice_get_past (row t r) c (omega arith) in
+      cell_past_cols (row_count t) (col_count t) answer r c full lr ge ∙ sym (ap (λ o. option_map f o) none))
+      (cases_lt c (col_count t)))
+      (λ ge.
+      let none : cell t r c ≡ None = cell_past_rows t r c ge in
+      cell_past_rows (tabulate (row_count t) (col_count t) answer) r c (omega (arith, rows-tabulate (row_count t) (col_count t) answer))
+      ∙ sym (ap (λ o. option_map f o) none))
+      (cases_lt r (row_count t))
+
+  pub mapped-cell : (r c : ℕ) → cell (tabulate (row_count t) (col_count t) (λ r c. option_map f (cell t r c))) r c ≡ option_map f (cell t r c)
+  unfolding answer
+  mapped-cell r c = by r c
+
+module _ {X : Type 0} (eq : X → X → Bool) (x : X) (t : List (List X)) (table : IsTable t) where
+  pub alike-rows : row_count (alike eq x t) ≡ row_count t
+  alike-rows = rows-tabulate (row_count t) (col_count t) (λ r c. option_map (λ y. eq y x) (cell t r c))
+
+  pub alike-cols : col_count (alike eq x t) ≡ col_count t
+  alike-cols = mapped-cols (λ y. eq y x) t table
+
+  pub alike-cell : (r c : ℕ) → cell (alike eq x t) r c ≡ option_map (λ y. eq y x) (cell t r c)
+  alike-cell r c = mapped-cell (λ y. eq y x) t table r c
+
+  pub open_alike : (a : ℕ × ℕ) (y : X) → cell t a.0 a.1 ≡ Some y → eq y x ≡ true → IsOpen (alike eq x t) a
+  open_alike a y e f =
+      alike-cell a.0 a.1 ∙ (ap (λ o. option_map (λ y. eq y x) o) e ∙ ap Some f)
+
+  some_true : (o : Option X) → option_map (λ y. eq y x) o ≡ Some true → (y : X) × (o ≡ Some y) × (eq y x ≡ true)
+  some_true None e = absurd (cc)
+  some_true (Some y) e = let f : eq y x ≡ true = cc in (y, refl, f)
+
+  pub alike_open : (a : ℕ × ℕ) → IsOpen (alike eq x t) a → (y : X) × (cell t a.0 a.1 ≡ Some y) × (eq y x ≡ true)
+  alike_open a h = some_true (cell t a.0 a.1) (sym (alike-cell a.0 a.1) ∙ h)
+
+  pub alike-range : (r c : ℕ) → InRange t r c → InRange (alike eq x t) r c
+  alike-range r c i =
+      let lr = i.0 in
+      let lc = i.1 in
+      let er = alike-rows in
+      let ec = alike-cols in
+      let lr1 : r < row_count (alike eq x t) = omega arith in
+      let lc1 : c < col_count (alike eq x t) = omega arith in
+      (lr1, lc1)
+
+  -- the rows and the columns round a position
+  pub rows_around : (r c : ℕ) → InRange t r c → row_count t < 2 ^ 64 → AreAround (row_count (alike eq x t)) r ((r + (2 ^ 64 - 1)) % 2 ^ 64) (r + 1)
+  rows_around r c i lt =
+      subst (λ n. AreAround n r ((r + (2 ^ 64 - 1)) % 2 ^ 64) (r + 1)) (sym alike-rows) (AreAround-wrapping (row_count t) r i.0 lt)
+
+  pub cols_around : (r c : ℕ) → InRange t r c → col_count t < 2 ^ 64 → AreAround (col_count (alike eq x t)) c ((c + (2 ^ 64 - 1)) % 2 ^ 64) (c + 1)
+  cols_around r c i lt =
+      subst (λ n. AreAround n c ((c + (2 ^ 64 - 1)) % 2 ^ 64) (c + 1)) (sym alike-cols) (AreAround-wrapping (col_count t) c i.1 lt)
+
+-- a write in range is made
+pub set_there : {X : Type 0} (r : Option X) (P Q R : Type 0) → P → MatchOption r (P → ⊥) (λ _. P) → MatchOption r Q (λ _. R) → R
+set_there None P Q R p h w = absurd (h p)
+set_there (Some x) P Q R p h w = w

@@ -1,0 +1,85 @@
+-- The open positions that aren't reached yet, as they are reached.
+use Rattle.std.proofs.Common.{◌≡◌, ◌≢◌, ℕ, ◌+◌, ◌-◌, ◌%◌, ◌^◌, ◌<◌, ◌⊎◌, Bool, true, false, Option, None, Some, List, refl, sym, ◌∙◌, subst, arith, inl, inr, ⊎_elim}
+use Rattle.std.proofs.lemmas.Bool.{cases_eq}
+use Rattle.grid_base.specs.Table.{row_count, col_count, cell, with_cell, IsTable, InRange}
+use Rattle.grid.proofs.CellThroughLemmas.{cell-with_same, cell-with_other}
+use Rattle.grid_paths.specs.Walks.{IsOpen}
+use Rattle.grid_paths.specs.Search.{HaveOneSize, IsMarked, IsLeft}
+use Rattle.grid_paths.proofs.StepLemmas.{same_pair, AreAround, AreAround-wrapping}
+use Rattle.grid_paths.proofs.PathLemmas.{in_range}
+
+-- two positions are one, or a write at the one leaves the other
+same_or_other : (a b : ℕ × ℕ) → (a ≡ b) ⊎ (a.0 ≡ b.0 → a.1 ≢ b.1)
+same_or_other a b =
+    ⊎_elim (λ e. ⊎_elim (λ f. inl (same_pair a b e f)) (λ ne. inr (λ _. ne)) (cases_eq a.1 b.1))
+    (λ ne. inr (λ e. absurd (ne e)))
+    (cases_eq a.0 b.0)
+
+module _ (floor : List (List Bool)) (steps : List (List (Option ℕ))) (left : List (List Bool)) (l : IsLeft floor steps left) (steps_table : IsTable steps) (left_table : IsTable left) (b : ℕ × ℕ) (k : ℕ) (is_left : IsOpen left b) where
+  pub free_there : cell steps b.0 b.1 ≡ Some None
+  free_there = (l.unreached_yet b is_left).1
+
+  pub inside_steps : InRange steps b.0 b.1
+  inside_steps = in_range steps steps_table b.0 b.1 None free_there
+
+  pub inside_left : InRange left b.0 b.1
+  inside_left = in_range left left_table b.0 b.1 true is_left
+
+  pub inside_floor : InRange floor b.0 b.1
+  inside_floor =
+      let lr = inside_left.0 in
+      let lc = inside_left.1 in
+      let rows = l.size.rows in
+      let cols = l.size.cols in
+      let lr1 : b.0 < row_count floor = omega arith in
+      let lc1 : b.1 < col_count floor = omega arith in
+      (lr1, lc1)
+
+  -- the tables with the position reached
+  module _ (steps' : List (List (Option ℕ))) (left' : List (List Bool)) (e : steps' ≡ with_cell steps b.0 b.1 (Some k)) (f : left' ≡ with_cell left b.0 b.1 false) (size : HaveOneSize left' left) where
+    unreached_yet' : (a : ℕ × ℕ) → IsOpen (with_cell left b.0 b.1 false) a → IsOpen floor a × (cell (with_cell steps b.0 b.1 (Some k)) a.0 a.1 ≡ Some None)
+    unreached_yet' a h =
+        ⊎_elim (λ same.
+        let here : cell (with_cell left b.0 b.1 false) b.0 b.1 ≡ Some true = subst (λ x. IsOpen (with_cell left b.0 b.1 false) x) same h in
+        let clash : Some false ≡ Some true = sym (cell-with_same left left_table b.0 b.1 false inside_left.0 inside_left.1) ∙ here in
+        absurd (cc))
+        (λ other.
+        let v = l.unreached_yet a (sym (cell-with_other left left_table b.0 b.1 false a.0 a.1 other) ∙ h) in
+        (v.0, cell-with_other steps steps_table b.0 b.1 (Some k) a.0 a.1 other ∙ v.1))
+        (same_or_other a b)
+
+    all' : (a : ℕ × ℕ) → IsOpen floor a → IsOpen (with_cell left b.0 b.1 false) a ⊎ ((m : ℕ) × IsMarked (with_cell steps b.0 b.1 (Some k)) a m)
+    all' a o =
+        ⊎_elim (λ same.
+        let here : IsMarked (with_cell steps b.0 b.1 (Some k)) b k = cell-with_same steps steps_table b.0 b.1 (Some k) inside_steps.0 inside_steps.1 in
+        inr (k, subst (λ x. IsMarked (with_cell steps b.0 b.1 (Some k)) x k) (sym same) here))
+        (λ other.
+        ⊎_elim (λ h. inl (cell-with_other left left_table b.0 b.1 false a.0 a.1 other ∙ h))
+        (λ m. inr (m.0, cell-with_other steps steps_table b.0 b.1 (Some k) a.0 a.1 other ∙ m.1))
+        (l.all a o))
+        (same_or_other a b)
+
+    pub IsLeft-reach : IsLeft floor steps' left'
+    IsLeft-reach =
+        record {
+          size = record { rows = size.rows ∙ l.size.rows; cols = size.cols ∙ l.size.cols };
+          unreached_yet = λ a h.
+              subst (λ x. IsOpen floor a × (cell x a.0 a.1 ≡ Some None)) (sym e) (unreached_yet' a (subst (λ x. IsOpen x a) f h));
+          all = λ a o.
+              subst (λ x. IsOpen left' a ⊎ ((m : ℕ) × IsMarked x a m)) (sym e)
+              (subst (λ x. IsOpen x a ⊎ ((m : ℕ) × IsMarked (with_cell steps b.0 b.1 (Some k)) a m)) (sym f) (all' a o));
+        }
+
+-- before anything is reached all open positions are left
+pub IsLeft-start : (floor : List (List Bool)) (steps : List (List (Option ℕ))) → ((a : ℕ × ℕ) → IsOpen floor a → cell steps a.0 a.1 ≡ Some None) → IsLeft floor steps floor
+IsLeft-start floor steps none =
+    record {
+      size = record { rows = refl; cols = refl };
+      unreached_yet = λ a h. (h, none a h);
+      all = λ a h. inl h;
+    }
+
+-- the numbers round a row or a column of a table of the same size
+pub around_in : (n m at : ℕ) → n ≡ m → at < n → n < 2 ^ 64 → AreAround m at ((at + (2 ^ 64 - 1)) % 2 ^ 64) (at + 1)
+around_in n m at e lt le =
+    subst (λ x. AreAround x at ((at + (2 ^ 64 - 1)) % 2 ^ 64) (at + 1)) e (AreAround-wrapping n at lt le)

@@ -1,0 +1,9 @@
+pub mod AlikeLemmas
+pub mod CountLemmas
+pub mod LeftLemmas
+pub mod NearLemmas
+pub mod NumberLemmas
+pub mod PathLemmas
+pub mod RegionLemmas
+pub mod SearchLemmas
+pub mod StepLemmas

@@ -1,0 +1,171 @@
+-- Walks turned round, paths and walks, and a path that follows the numbers down.
+use Rattle.std.proofs.Common.{◌≡◌, ℕ, zero, suc, ◌+◌, ◌-◌, ◌<◌, ◌≤◌, Bool, Option, None, Some, List, [], ◌∷◌, ◌++◌, length, refl, sym, ◌∙◌, subst, arith, inl, inr, ⊎_elim, add-one, Result, Ok, Err, IfOk}
+use Rattle.std.specs.List.{slice_get}
+use Rattle.std.proofs.lemmas.Bool.{cases_lt}
+use Rattle.std.proofs.lemmas.List.{length-append}
+use Rattle.std.proofs.lemmas.Option.{slice_get_within}
+use Rattle.grid_base.specs.Table.{row, row_count, col_count, cell, IsTable, InRange}
+use Rattle.grid_base.proofs.TableLemmas.{cell_past_rows}
+use Rattle.grid_paths.specs.declared.steps.Steps.{Steps}
+use Rattle.grid_paths.specs.declared.steps.Steps.TheVariants.{Sides, All}
+use Rattle.grid_paths.specs.Walks.{IsOpen, DifferByOne, AreBeside, IsStep, Walk, IsLeastSteps, IsPath, IsShortestPath}
+use Rattle.grid_paths.specs.Search.{IsMarked, IsAt, HasLeastUpTo, IsSettled}
+use Rattle.grid_paths.proofs.SearchLemmas.{one_place}
+use Rattle.grid_paths.proofs.StepLemmas.{at_push, at_end, at_push_fresh}
+
+differ_back : (m n : ℕ) → DifferByOne m n → DifferByOne n m
+differ_back m n h = ⊎_elim (λ e. inr e) (λ e. inl e) h
+
+beside_back : (a b : ℕ × ℕ) → AreBeside a b → AreBeside b a
+beside_back a b h =
+    ⊎_elim (λ w. inl (sym w.0, differ_back a.1 b.1 w.1)) (λ w. inr (sym w.0, differ_back a.0 b.0 w.1)) h
+
+pub step_back : (kind : Steps) (a b : ℕ × ℕ) → IsStep kind a b → IsStep kind b a
+step_back Sides a b h = beside_back a b h
+step_back All a b h =
+    ⊎_elim (λ w. inl (beside_back a b w)) (λ w. inr (differ_back a.0 b.0 w.0, differ_back a.1 b.1 w.1)) h
+
+-- a position with a cell is in range
+pub in_range : {X : Type 0} (t : List (List X)) → IsTable t → (r c : ℕ) (x : X) → cell t r c ≡ Some x → InRange t r c
+in_range {X = X} t h r c x e =
+    ⊎_elim (λ lt.
+    let low : c < length (row t r) = slice_get_within (row t r) c x e in
+    let even : length (row t r) ≡ length (row t 0) = h.even r lt in
+    let ok : c < col_count t = omega arith in
+    (lt, ok))
+    (λ ge. let none : cell t r c ≡ None = cell_past_rows t r c ge in let clash : ◌≡◌ {A = Option X} None (Some x) = sym none ∙ e in absurd (cc))
+    (cases_lt r (row_count t))
+
+module _ (kind : Steps) (floor : List (List Bool)) where
+  -- a step more at the front
+  walk_front : (n : ℕ) (a b c : ℕ × ℕ) → IsStep kind a b → IsOpen floor a → Walk kind floor b c n → Walk kind floor a c (suc n)
+  walk_front zero a b c beside is_open w = (a, (refl, is_open), subst (λ x. IsStep kind a x) w.0 beside, w.1)
+  walk_front (suc n) a b c beside is_open w = (w.0, walk_front n a b w.0 beside is_open w.1, w.2, w.3)
+
+  pub walk_back : (n : ℕ) (a b : ℕ × ℕ) → Walk kind floor a b n → Walk kind floor b a n
+  walk_back zero a b w = (sym w.0, subst (λ x. IsOpen floor x) (sym w.0) w.1)
+  walk_back (suc n) a b w = walk_front n b w.0 a (step_back kind w.0 b w.2) w.3 (walk_back n a w.0 w.1)
+
+  pub least_back : (a b : ℕ × ℕ) (k : ℕ) → IsLeastSteps kind floor a b k → IsLeastSteps kind floor b a k
+  least_back a b k h =
+      record { walk = walk_back k a b h.walk; least = λ n w. h.least n (walk_back n b a w) }
+
+  -- the positions of a path up to place n are a walk of n steps
+  walk_along : (from to : ℕ × ℕ) (path : List (ℕ × ℕ)) → IsPath kind floor from to path → (n : ℕ) (b : ℕ × ℕ) → slice_get path n ≡ Some b → Walk kind floor from b n
+  walk_along from to path h zero b e =
+      (one_place path 0 from b h.first e, h.all_open 0 b e)
+  walk_along from to path h (suc n) b e =
+      let lt : suc n < length path = slice_get_within path (suc n) b e in
+      let before = there path n (omega arith) in
+      let e1 : slice_get path (n + 1) ≡ Some b = subst (λ x. slice_get path x ≡ Some b) (sym (add-one n)) e in
+      (before.0, walk_along from to path h n before.0 before.1, h.each_step n before.0 b before.1 e1, h.all_open (suc n) b e)
+    where
+      there : (xs : List (ℕ × ℕ)) (j : ℕ) → j < length xs → (a : ℕ × ℕ) × (slice_get xs j ≡ Some a)
+      there [] j lt = absurd (omega arith)
+      there (x ∷ xs) zero lt = (x, refl)
+      there (x ∷ xs) (suc j) lt = there xs j (omega arith)
+
+  some_place : (from to : ℕ × ℕ) (path : List (ℕ × ℕ)) → IsPath kind floor from to path → 0 < length path
+  some_place from to path h = slice_get_within path 0 from h.first
+
+  pub walk_of : (from to : ℕ × ℕ) (path : List (ℕ × ℕ)) → IsPath kind floor from to path → Walk kind floor from to (length path - 1)
+  walk_of from to path h = walk_along from to path h (length path - 1) to h.last
+
+  -- a path of one step more than the least is a shortest one
+  pub IsShortestPath-from_least : (from to : ℕ × ℕ) (path : List (ℕ × ℕ)) (k : ℕ) → IsPath kind floor from to path → length path ≡ k + 1 → IsLeastSteps kind floor from to k → IsShortestPath kind floor from to path
+  IsShortestPath-from_least from to path k h len least =
+      record {
+        leads = h;
+        shortest = λ other o.
+            let le = least.least (length other - 1) (walk_of from to other o) in
+            let some = some_place from to other o in
+            omega arith;
+      }
+
+  -- a path of one position
+  pub IsPath-one : (a : ℕ × ℕ) → IsOpen floor a → IsPath kind floor a a (a ∷ [])
+  IsPath-one a is_open =
+      record {
+        first = refl;
+        last = refl;
+        all_open = all_open;
+        each_step = each_step;
+      }
+    where
+      all_open : (j : ℕ) (b : ℕ × ℕ) → slice_get (a ∷ []) j ≡ Some b → IsOpen floor b
+      all_open zero b e = let q : a ≡ b = cc in subst (λ x. IsOpen floor x) q is_open
+      all_open (suc j) b e = absurd (cc)
+
+      each_step : (j : ℕ) (b c : ℕ × ℕ) → slice_get (a ∷ []) j ≡ Some b → slice_get (a ∷ []) (j + 1) ≡ Some c → IsStep kind b c
+      each_step j b c e f = let lt = slice_get_within (a ∷ []) (j + 1) c f in absurd (omega arith)
+
+  -- a path with one position more
+  pub IsPath-push : (from a b : ℕ × ℕ) (path : List (ℕ × ℕ)) → IsPath kind floor from a path → IsStep kind a b → IsOpen floor b → IsPath kind floor from b (path ++ b ∷ [])
+  IsPath-push from a b path h beside is_open =
+      let some = some_place from a path h in
+      let len : length (path ++ b ∷ []) ≡ length path + 1 = length-append path (b ∷ []) in
+      let end : length (path ++ b ∷ []) - 1 ≡ length path = omega arith in
+      record {
+        first = at_push path b 0 from h.first;
+        last = subst (λ x. IsAt (path ++ b ∷ []) x b) (sym end) (at_end path b);
+        all_open = all_open;
+        each_step = each_step some;
+      }
+    where
+      all_open : (j : ℕ) (c : ℕ × ℕ) → IsAt (path ++ b ∷ []) j c → IsOpen floor c
+      all_open j c e =
+          ⊎_elim (λ w. subst (λ x. IsOpen floor x) (sym w.1) is_open) (λ e0. h.all_open j c e0) (at_push_fresh path b j c e)
+
+      each_step : 0 < length path → (j : ℕ) (c d : ℕ × ℕ) → IsAt (path ++ b ∷ []) j c → IsAt (path ++ b ∷ []) (j + 1) d → IsStep kind c d
+      each_step some j c d e f =
+          ⊎_elim (λ w.
+          ⊎_elim (λ v. let clash : j ≡ length path = v.0 in let next : j + 1 ≡ length path = w.0 in absurd (omega arith))
+          (λ e0.
+          let next : j + 1 ≡ length path = w.0 in
+          let place : length path - 1 ≡ j = omega arith in
+          let l : IsAt path j a = subst (λ x. IsAt path x a) place h.last in
+          let c_is : a ≡ c = one_place path j a c l e0 in
+          subst (λ x. IsStep kind x d) c_is (subst (λ x. IsStep kind a x) (sym w.1) beside))
+          (at_push_fresh path b j c e))
+          (λ f0.
+          let lt : j + 1 < length path = slice_get_within path (j + 1) d f0 in
+          ⊎_elim (λ v. let clash : j ≡ length path = v.0 in absurd (omega arith))
+          (λ e0. h.each_step j c d e0 f0)
+          (at_push_fresh path b j c e))
+          (at_push_fresh path b (j + 1) d f)
+
+  -- beside a position whose number isn't 0 there is one whose number is one less
+  pub one_less : (from : ℕ × ℕ) (u : List (List (Option ℕ))) (d : ℕ) → HasLeastUpTo kind floor from u d → (a : ℕ × ℕ) (k : ℕ) → suc k ≤ d → IsMarked u a (suc k) → (b : ℕ × ℕ) × IsStep kind a b × IsMarked u b k
+  one_less from u d h a k le mark =
+      let s = h.least a (suc k) le mark in
+      let w = s.walk in
+      let v = h.found w.0 k (omega arith) w.1 in
+      let low : v.0 ≤ k = v.2 in
+      let t = h.least w.0 v.0 (omega arith) v.1 in
+      let longer : Walk kind floor from a (suc v.0) = (w.0, t.walk, w.2, w.3) in
+      let high : suc k ≤ suc v.0 = s.least (suc v.0) longer in
+      let e : v.0 ≡ k = omega arith in
+      (w.0, step_back kind w.0 a w.2, subst (λ x. IsMarked u w.0 x) e v.1)
+
+  -- the last position of a walk is open
+  pub open_end : (n : ℕ) (a b : ℕ × ℕ) → Walk kind floor a b n → IsOpen floor b
+  open_end zero a b w = w.1
+  open_end (suc n) a b w = w.3
+
+  -- the number 0 stands only at the start
+  pub zero_at : (from : ℕ × ℕ) (u : List (List (Option ℕ))) (d : ℕ) → HasLeastUpTo kind floor from u d → (a : ℕ × ℕ) → IsMarked u a 0 → a ≡ from
+  zero_at from u d h a mark = sym (h.least a 0 (omega arith) mark).walk.0
+
+  -- a path from a position with a number to the one with 0, of that many steps, is a shortest one
+  pub IsShortestPath-from_number : (from to : ℕ × ℕ) (u : List (List (Option ℕ))) (count : ℕ) (path : List (ℕ × ℕ)) → HasLeastUpTo kind floor to u count → IsMarked u from count → IsPath kind floor from to path → length path ≡ count + 1 → IsShortestPath kind floor from to path
+  IsShortestPath-from_number from to u count path h mark leads len =
+      IsShortestPath-from_least from to path count leads len (least_back to from count (h.least from count (omega arith) mark))
+
+  -- from a position without a number no walk leads
+  pub no_walk : (from to : ℕ × ℕ) (u : List (List (Option ℕ))) → IsSettled kind floor to from u → ((k : ℕ) → IsMarked u from k → ⊥) → (n : ℕ) → Walk kind floor from to n → ⊥
+  no_walk from to u h none n w = h.none none n (walk_back n from to w)
+
+-- what holds of the table of open cells holds at every test that says what the closure answers
+pub if_ok_at : {V E B : Type 0} (r : Result V E) (P : List (List Bool) → V → Type 0) (floor : List (List Bool)) (Q : B → Type 0) (f : B → List (List Bool)) → IfOk r (λ v. P floor v) → ((p : B) → Q p → floor ≡ f p) → IfOk r (λ v. (p : B) → Q p → P (f p) v)
+if_ok_at (Ok v) P floor Q f h e = λ p q. subst (λ x. P x v) (e p q) h
+if_ok_at (Err e) P floor Q f h e' = tt

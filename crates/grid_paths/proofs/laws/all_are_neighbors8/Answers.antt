@@ -1,0 +1,13 @@
+use Rattle.std.proofs.Common.{◌↔◌, Contains, sym, subst}
+use Rattle.grid_paths.specs.declared.steps.Steps.TheVariants.{All}
+use Rattle.grid_paths.specs.Walks.{IsStep}
+use Rattle.grid_paths.proofs.NearLemmas.{all-near}
+use Rattle.grid_paths.proofs.laws.all_are_neighbors8.Goals as goal
+
+pub returns : goal.returns
+returns g c =
+    record {
+      law = λ at x e.
+          subst (λ list. IsStep All c.args.from at ↔ Contains list (at, x)) (sym c.neighbors8.ensures.rest)
+          (all-near c.args.grid.now.rows c.args.from.0 c.args.from.1 at x e);
+    }

@@ -1,0 +1,13 @@
+use Rattle.std.proofs.Common.{◌↔◌, Contains, sym, subst}
+use Rattle.grid_paths.specs.declared.steps.Steps.TheVariants.{Sides}
+use Rattle.grid_paths.specs.Walks.{IsStep}
+use Rattle.grid_paths.proofs.NearLemmas.{sides-near}
+use Rattle.grid_paths.proofs.laws.sides_are_neighbors4.Goals as goal
+
+pub returns : goal.returns
+returns g c =
+    record {
+      law = λ at x e.
+          subst (λ list. IsStep Sides c.args.from at ↔ Contains list (at, x)) (sym c.neighbors4.ensures.rest)
+          (sides-near c.args.grid.now.rows c.args.from.0 c.args.from.1 at x e);
+    }

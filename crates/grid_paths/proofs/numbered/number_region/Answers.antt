@@ -1,0 +1,86 @@
+use Rattle.std.proofs.Common.{◌≡◌, ◌<◌, ◌≤◌, [], ◌∷◌, ◌++◌, Some, None, length, refl, sym, ◌∙◌, subst, arith}
+use Rattle.std.proofs.lemmas.Option.{slice_get_read}
+use Rattle.grid_base.specs.Table.{row_count, col_count, with_cell, InRange}
+use Rattle.grid_paths.specs.Walks.{alike}
+use Rattle.grid_paths.specs.Search.{IsAt}
+use Rattle.grid_paths.proofs.StepLemmas.{Grew, grown}
+use Rattle.grid_paths.proofs.PathLemmas.{in_range}
+use Rattle.grid_paths.proofs.AlikeLemmas.{set_there}
+use Rattle.grid_paths.proofs.NumberLemmas.{IsNumbering, IsNumbering-start, IsNumbering-round, IsNumbered-end}
+use Rattle.grid_paths.proofs.numbered.number_region.Goals as goal
+
+pub loop-next-init : goal.loop-next-init
+loop-next-init g c =
+    let floor = alike g.T.PartialEq.eq c.args.first.now c.args.grid.now.rows in
+    let u = c.args.numbers.now.rows in
+    let q = c.args.queue.now.items in
+    let row = c.args.row in
+    let col = c.args.col in
+    let k = c.args.number in
+    let here : InRange u row col = in_range u c.args.numbers.now.table row col None c.requires.at in
+    let u1 = c.set.new.self.rows in
+    let q1 = c.push.new.self.items in
+    let new : u1 ≡ with_cell u row col (Some k) = set_there c.set.result (InRange u row col) _ _ here c.set.ensures.in_range c.set.ensures.rows in
+    let g0 : Grew u q (with_cell u row col (Some k)) (q ++ (row, col) ∷ []) (row, col) k = grown u c.args.numbers.now.table q (row, col) k here c.requires.at in
+    let g1 : Grew u q u1 (q ++ (row, col) ∷ []) (row, col) k = subst (λ x. Grew u q x (q ++ (row, col) ∷ []) (row, col) k) (sym new) g0 in
+    let g2 : Grew u q u1 q1 (row, col) k = subst (λ x. Grew u q u1 x (row, col) k) (sym c.in_ok-push.ensures.items) g1 in
+    let len : length q ≡ c.len-next.result = omega arith in
+    record {
+      size = record { rows = c.set.ensures.row_count ∙ c.requires.size.rows; cols = c.set.ensures.col_count ∙ c.requires.size.cols };
+      order = c.set.ensures.order;
+      numbering = subst (λ n. IsNumbering c.args.kind floor (row, col) k (length q) u u1 q1 n) len (IsNumbering-start c.args.kind floor (row, col) k u q u1 q1 g2);
+    }
+
+pub number_around-requires-clause-at : goal.number_around-requires-clause-at
+number_around-requires-clause-at g c =
+    let queue = c.loop-next.queue in
+    let a = c.index.result.now in
+    let s = c.loop-next.invariant.numbering in
+    let lt : c.loop-next.next < length queue.items = omega (arith, queue.ok.0) in
+    let place : IsAt queue.items c.loop-next.next a = slice_get_read queue.items (length queue.items) c.loop-next.next a refl lt c.index.ensures in
+    let v = s.queued c.loop-next.next a s.begun place in
+    let i = in_range c.loop-next.numbers.rows c.loop-next.numbers.table a.0 a.1 (Some c.args.number) v in
+    let lr0 = i.0 in
+    let lc0 = i.1 in
+    let rows = c.loop-next.invariant.size.rows in
+    let cols = c.loop-next.invariant.size.cols in
+    let lr : a.0 < row_count c.args.grid.now.rows = omega arith in
+    let lc : a.1 < col_count c.args.grid.now.rows = omega arith in
+    (lr, lc)
+
+pub loop-next-preserved : goal.loop-next-preserved
+loop-next-preserved g c =
+    let floor = alike g.T.PartialEq.eq c.args.first.now c.args.grid.now.rows in
+    let queue = c.loop-next.queue in
+    let a = c.index.result.now in
+    let next = c.loop-next.next in
+    let s = c.loop-next.invariant.numbering in
+    let lt : next < length queue.items = omega (arith, queue.ok.0) in
+    let place : IsAt queue.items next a = slice_get_read queue.items (length queue.items) next a refl lt c.index.ensures in
+    record {
+      size = c.in_ok-number_around.ensures.size;
+      order = c.in_ok-number_around.ensures.order ∙ c.loop-next.invariant.order;
+      numbering = IsNumbering-round c.args.kind floor (c.args.row, c.args.col) c.args.number (length c.args.queue.now.items) c.args.numbers.now.rows c.loop-next.numbers.rows queue.items next s c.requires.below
+          a c.number_around.new.numbers.rows c.number_around.new.queue.items place c.in_ok-number_around.ensures.round;
+    }
+
+pub loop-next-smaller : goal.loop-next-smaller
+loop-next-smaller g c =
+    let queue = c.loop-next.queue in
+    let next = c.loop-next.next in
+    let lt : next < length queue.items = omega (arith, queue.ok.0) in
+    let total = c.in_ok-number_around.ensures.round.spread.total in
+    omega arith
+
+pub returns-clause-numbered : goal.returns-clause-numbered
+returns-clause-numbered g c =
+    let floor = alike g.T.PartialEq.eq c.args.first.now c.args.grid.now.rows in
+    let queue = c.loop-next.queue in
+    let all : length queue.items ≤ c.loop-next.next = omega (arith, queue.ok.0) in
+    IsNumbered-end c.args.kind floor (c.args.row, c.args.col) c.args.number (length c.args.queue.now.items) c.args.numbers.now.rows c.loop-next.numbers.rows queue.items c.loop-next.next
+    c.loop-next.invariant.numbering c.requires.below all
+
+pub returns-clause-longer : goal.returns-clause-longer
+returns-clause-longer g c =
+    let some = c.loop-next.invariant.numbering.some in
+    omega arith

@@ -1,0 +1,27 @@
+use Rattle.std.proofs.Common.{◌≡◌, ℕ, ◌+◌, ◌-◌, length, Contains}
+use Rattle.grid_paths.specs.Walks.{IsOpen}
+use Rattle.grid_paths.specs.Search.{IsSearch, IsMarked, IsLeft, HaveOneSize, unreached}
+use Rattle.grid_paths.proofs.StepLemmas.{IsStarted}
+use Rattle.grid_paths.proofs.search.search_from.Given as goal
+
+abbrev pub invariant-loop-start : goal.invariant-loop-start
+invariant-loop-start g l =
+    record {
+      size : HaveOneSize l.steps.rows l.fn.floor.rows;
+      order : l.steps.order ≡ l.fn.floor.order;
+      left : IsLeft l.fn.floor.rows l.steps.rows l.left.rows;
+      started : IsStarted l.kind l.fn.floor.rows l.starts l.steps.rows l.queue.items l.start-index;
+    }
+
+abbrev pub invariant-loop-next : goal.invariant-loop-next
+invariant-loop-next g l =
+    record {
+      size : HaveOneSize l.steps.rows l.fn.floor.rows;
+      order : l.steps.order ≡ l.fn.floor.order;
+      left : IsLeft l.fn.floor.rows l.steps.rows l.left.rows;
+      search : IsSearch l.kind l.fn.floor.rows l.fn.starts l.steps.rows l.queue.items l.next;
+      start : (from : ℕ × ℕ) → Contains l.fn.starts from → IsOpen l.fn.floor.rows from → IsMarked l.steps.rows from 0;
+    }
+
+abbrev pub decreases-loop-next : goal.decreases-loop-next
+decreases-loop-next g l = unreached l.steps.rows + length l.queue.items - l.next

@@ -1,0 +1,4 @@
+pub mod Walks
+pub mod Search
+pub mod Regions
+pub mod Numbers

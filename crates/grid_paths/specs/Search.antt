@@ -1,0 +1,98 @@
+-- What one step of the search in breadth does. Public clauses cite `HaveOneSize` alone.
+use Rattle.std.specs.Prelude.{◌≡◌, ℕ, ◌+◌, ◌<◌, ◌≤◌, ◌⊎◌, Bool, Option, None, Some, List, [], ◌∷◌, ◌++◌, length}
+use Rattle.std.specs.List.{slice_get, sum_by}
+use Rattle.grid_base.specs.Table.{row_count, col_count, cell, with_cell, InRange}
+use Rattle.grid_paths.specs.declared.steps.Steps.{Steps}
+use Rattle.grid_paths.specs.Walks.{IsOpen, IsStep, Walk, WalkFrom, IsLeastSteps}
+
+-- two tables have one size
+pub record HaveOneSize {T U : Type 0} (t : List (List T)) (u : List (List U)) : Type 0 where
+  pub rows : row_count t ≡ row_count u
+  pub cols : col_count t ≡ col_count u
+
+-- an open position that isn't reached yet is reached by k steps, and comes to the end of the queue; at
+-- another nothing changes
+abbrev pub Reaches : List (List Bool) → ℕ × ℕ → ℕ → List (List (Option ℕ)) → List (ℕ × ℕ)
+    → List (List (Option ℕ)) → List (ℕ × ℕ) → Type 0
+Reaches floor at k steps queue steps' queue' =
+    (IsOpen floor at × InRange floor at.0 at.1 × InRange steps at.0 at.1
+    × (cell steps at.0 at.1 ≡ Some None) × (steps' ≡ with_cell steps at.0 at.1 (Some k))
+    × (queue' ≡ queue ++ at ∷ []))
+    ⊎ ((IsOpen floor at → (n : ℕ) × (cell steps at.0 at.1 ≡ Some (Some n)))
+    × (steps' ≡ steps) × (queue' ≡ queue))
+
+-- the position has so many steps
+abbrev pub IsMarked : List (List (Option ℕ)) → ℕ × ℕ → ℕ → Type 0
+IsMarked steps a n = cell steps a.0 a.1 ≡ Some (Some n)
+
+-- item j of the queue
+abbrev pub IsAt : List (ℕ × ℕ) → ℕ → ℕ × ℕ → Type 0
+IsAt queue j a = slice_get queue j ≡ Some a
+
+-- the open positions that aren't reached yet
+pub record IsLeft (floor : List (List Bool)) (steps : List (List (Option ℕ))) (left : List (List Bool)) : Type 0 where
+  pub size : HaveOneSize left floor
+  pub unreached_yet : (a : ℕ × ℕ) → IsOpen left a → IsOpen floor a × (cell steps a.0 a.1 ≡ Some None)
+  pub all : (a : ℕ × ℕ) → IsOpen floor a → IsOpen left a ⊎ ((m : ℕ) × IsMarked steps a m)
+
+-- the search has found these steps, and gone on from the positions of the queue before `next`
+pub record IsSearch (kind : Steps) (floor : List (List Bool)) (starts : List (ℕ × ℕ)) (steps : List (List (Option ℕ)))
+    (queue : List (ℕ × ℕ)) (next : ℕ) : Type 0 where
+  pub marked : (j : ℕ) (a : ℕ × ℕ) → IsAt queue j a → (n : ℕ) × IsMarked steps a n × (n ≤ j)
+  pub listed : (a : ℕ × ℕ) (n : ℕ) → IsMarked steps a n → (j : ℕ) × IsAt queue j a
+  pub sound : (a : ℕ × ℕ) (n : ℕ) → IsMarked steps a n → WalkFrom kind floor starts a n
+  pub ordered : (i j : ℕ) (a b : ℕ × ℕ) (m n : ℕ) → i ≤ j → IsAt queue i a → IsAt queue j b
+      → IsMarked steps a m → IsMarked steps b n → m ≤ n
+  pub close : (a : ℕ × ℕ) (m j : ℕ) (b : ℕ × ℕ) (n : ℕ) → next ≤ j → IsMarked steps a m
+      → IsAt queue j b → IsMarked steps b n → m ≤ n + 1
+  pub done : (j : ℕ) (a : ℕ × ℕ) (n : ℕ) (b : ℕ × ℕ) → j < next → IsAt queue j a
+      → IsMarked steps a n → IsStep kind a b → IsOpen floor b → (m : ℕ) × IsMarked steps b m × (m ≤ n + 1)
+
+-- the numbers up to d are the least numbers of steps, and each position fewer steps away has one
+pub record HasLeastUpTo (kind : Steps) (floor : List (List Bool)) (from : ℕ × ℕ) (u : List (List (Option ℕ))) (d : ℕ) : Type 0 where
+  pub found : (at : ℕ × ℕ) (n : ℕ) → n < d → Walk kind floor from at n → (k : ℕ) × IsMarked u at k × (k ≤ n)
+  pub least : (at : ℕ × ℕ) (k : ℕ) → k ≤ d → IsMarked u at k → IsLeastSteps kind floor from at k
+
+-- the numbers up to that of the goal are known; where it has none, no walk leads to it
+pub record IsSettled (kind : Steps) (floor : List (List Bool)) (from goal : ℕ × ℕ) (u : List (List (Option ℕ))) : Type 0 where
+  pub found : (d : ℕ) → IsMarked u goal d → HasLeastUpTo kind floor from u d
+  pub none : ((d : ℕ) → IsMarked u goal d → ⊥) → (n : ℕ) → Walk kind floor from goal n → ⊥
+
+-- how many cells aren't reached yet
+abbrev pub free : Option ℕ → ℕ
+free None = 1
+free (Some n) = 0
+
+abbrev pub unreached : List (List (Option ℕ)) → ℕ
+unreached steps = sum_by (sum_by free) steps
+
+-- a position that got the number k, and came to the end of the queue
+pub record IsReached (near : ℕ × ℕ → Type 0) (floor : List (List Bool)) (k : ℕ) (queue queue' : List (ℕ × ℕ))
+    (a : ℕ × ℕ) (m : ℕ) : Type 0 where
+  pub is : m ≡ k
+  pub is_open : IsOpen floor a
+  pub is_near : near a
+  pub queued : (j : ℕ) × (length queue ≤ j) × IsAt queue' j a
+
+-- some near positions got the number k, and came to the end of the queue
+pub record Spread (near : ℕ × ℕ → Type 0) (floor : List (List Bool)) (k : ℕ) (u : List (List (Option ℕ)))
+    (queue : List (ℕ × ℕ)) (u' : List (List (Option ℕ))) (queue' : List (ℕ × ℕ)) : Type 0 where
+  pub kept : (a : ℕ × ℕ) (m : ℕ) → IsMarked u a m → IsMarked u' a m
+  pub fresh : (a : ℕ × ℕ) (m : ℕ) → IsMarked u' a m → IsMarked u a m ⊎ IsReached near floor k queue queue' a m
+  pub kept_at : (j : ℕ) (a : ℕ × ℕ) → IsAt queue j a → IsAt queue' j a
+  pub old_at : (j : ℕ) (a : ℕ × ℕ) → j < length queue → IsAt queue' j a → IsAt queue j a
+  pub fresh_at : (j : ℕ) (a : ℕ × ℕ) → length queue ≤ j → IsAt queue' j a → IsMarked u' a k
+  pub longer : length queue ≤ length queue'
+  pub total : unreached u' + length queue' ≡ unreached u + length queue
+
+-- and all open ones that are near have a number
+pub record WentRound (near : ℕ × ℕ → Type 0) (floor : List (List Bool)) (k : ℕ) (u : List (List (Option ℕ)))
+    (queue : List (ℕ × ℕ)) (u' : List (List (Option ℕ))) (queue' : List (ℕ × ℕ)) : Type 0 where
+  pub spread : Spread near floor k u queue u' queue'
+  pub around : (b : ℕ × ℕ) → near b → IsOpen floor b → (m : ℕ) × IsMarked u' b m
+
+-- the cell that a position with this number gets: w where there is one
+abbrev pub filled_cell : {T : Type 0} → T → Option (Option ℕ) → Option T → Option T
+filled_cell w None x = x
+filled_cell w (Some None) x = x
+filled_cell w (Some (Some k)) x = Some w

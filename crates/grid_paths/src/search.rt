@@ -1,0 +1,264 @@
+//! The least number of steps to each cell, by a search in breadth.
+ghost use Rattle.std.specs.Prelude.{◌≡◌, ◌<◌, ◌^◌, ◌↔◌, List, ℕ, [], ◌∷◌, IfOk, IsTrue, OnOk, Bool, Some, None};
+ghost use Rattle.grid_base.specs.Table.{row_count, col_count, InRange};
+ghost use Rattle.grid_paths.specs.Walks.{IsOpen, AreBeside, AreDiagonal, IsStep, HasLeastSteps, HasLeastFrom, IsAnswer, passing};
+ghost use Rattle.grid_paths.specs.Search.{Reaches, WentRound, HaveOneSize, IsLeft, IsSettled};
+
+use super::steps::Steps;
+use grid::Grid;
+use std::alloc::{AllocError, Allocator};
+
+// Whether a cell is there and may still be reached.
+fn is_left<A: Allocator>(left: &Grid<bool, A>, row: usize, col: usize) -> bool
+    ensures { IsTrue result ↔ IsOpen left.now.rows (row, col) }
+{
+    match left.get(row, col) {
+        Some(is_left) => *is_left,
+        None => false,
+    }
+}
+
+// Reaches a position by so many steps, if it is left. `left` are the open positions that aren't reached yet.
+fn reach<A: Allocator>(
+    row: usize,
+    col: usize,
+    count: usize,
+    left: &mut Grid<bool, A>,
+    steps: &mut Grid<Option<usize>, A>,
+    queue: &mut Vec<(usize, usize), A>,
+) -> Result<(), AllocError>
+    ensures order { steps.new.order ≡ steps.old.order }
+    ensures size { HaveOneSize steps.new.rows steps.old.rows }
+    ensures left { HaveOneSize left.new.rows left.old.rows }
+    ensures reaches { OnOk result ((floor : List (List Bool))
+        → IsLeft floor steps.old.rows left.old.rows
+        → Reaches floor (row, col) count steps.old.rows queue.old.items steps.new.rows queue.new.items
+        × IsLeft floor steps.new.rows left.new.rows) }
+{
+    if is_left(left, row, col) {
+        left.set(row, col, false);
+        steps.set(row, col, Some(count));
+        queue.push((row, col))?;
+    }
+    Ok(())
+}
+
+// Reaches the four positions that share a side with this one. Below the first row or column the index wraps to one that
+// no grid has.
+fn reach_sides<A: Allocator>(
+    row: usize,
+    col: usize,
+    count: usize,
+    left: &mut Grid<bool, A>,
+    steps: &mut Grid<Option<usize>, A>,
+    queue: &mut Vec<(usize, usize), A>,
+) -> Result<(), AllocError>
+    requires at { InRange left.old.rows row col }
+    requires rows { row_count left.old.rows < 2 ^ 64 }
+    requires cols { col_count left.old.rows < 2 ^ 64 }
+    ensures order { steps.new.order ≡ steps.old.order }
+    ensures size { HaveOneSize steps.new.rows steps.old.rows }
+    ensures left { HaveOneSize left.new.rows left.old.rows }
+    ensures round { OnOk result ((floor : List (List Bool))
+        → IsLeft floor steps.old.rows left.old.rows
+        → WentRound (AreBeside (row, col)) floor count
+        steps.old.rows queue.old.items steps.new.rows queue.new.items
+        × IsLeft floor steps.new.rows left.new.rows) }
+{
+    let (up, before) = (row.wrapping_sub(1), col.wrapping_sub(1));
+    reach(up, col, count, left, steps, queue)?;
+    reach(row, before, count, left, steps, queue)?;
+    reach(row, col + 1, count, left, steps, queue)?;
+    reach(row + 1, col, count, left, steps, queue)
+}
+
+// Reaches the four positions that share a corner and no side with this one.
+fn reach_diagonals<A: Allocator>(
+    row: usize,
+    col: usize,
+    count: usize,
+    left: &mut Grid<bool, A>,
+    steps: &mut Grid<Option<usize>, A>,
+    queue: &mut Vec<(usize, usize), A>,
+) -> Result<(), AllocError>
+    requires at { InRange left.old.rows row col }
+    requires rows { row_count left.old.rows < 2 ^ 64 }
+    requires cols { col_count left.old.rows < 2 ^ 64 }
+    ensures order { steps.new.order ≡ steps.old.order }
+    ensures size { HaveOneSize steps.new.rows steps.old.rows }
+    ensures left { HaveOneSize left.new.rows left.old.rows }
+    ensures round { OnOk result ((floor : List (List Bool))
+        → IsLeft floor steps.old.rows left.old.rows
+        → WentRound (AreDiagonal (row, col)) floor count
+        steps.old.rows queue.old.items steps.new.rows queue.new.items
+        × IsLeft floor steps.new.rows left.new.rows) }
+{
+    let (up, before) = (row.wrapping_sub(1), col.wrapping_sub(1));
+    reach(up, before, count, left, steps, queue)?;
+    reach(up, col + 1, count, left, steps, queue)?;
+    reach(row + 1, before, count, left, steps, queue)?;
+    reach(row + 1, col + 1, count, left, steps, queue)
+}
+
+// Reaches the positions that a step from this one leads to.
+fn reach_around<A: Allocator>(
+    kind: Steps,
+    row: usize,
+    col: usize,
+    count: usize,
+    left: &mut Grid<bool, A>,
+    steps: &mut Grid<Option<usize>, A>,
+    queue: &mut Vec<(usize, usize), A>,
+) -> Result<(), AllocError>
+    requires at { InRange left.old.rows row col }
+    requires rows { row_count left.old.rows < 2 ^ 64 }
+    requires cols { col_count left.old.rows < 2 ^ 64 }
+    ensures order { steps.new.order ≡ steps.old.order }
+    ensures size { HaveOneSize steps.new.rows steps.old.rows }
+    ensures left { HaveOneSize left.new.rows left.old.rows }
+    ensures round { OnOk result ((floor : List (List Bool))
+        → IsLeft floor steps.old.rows left.old.rows
+        → WentRound (IsStep kind (row, col)) floor count
+        steps.old.rows queue.old.items steps.new.rows queue.new.items
+        × IsLeft floor steps.new.rows left.new.rows) }
+{
+    reach_sides(row, col, count, left, steps, queue)?;
+    match kind {
+        Steps::Sides => Ok(()),
+        Steps::All => reach_diagonals(row, col, count, left, steps, queue),
+    }
+}
+
+// Whether the search is for this position.
+fn is_goal(goal: Option<(usize, usize)>, row: usize, col: usize) -> bool
+    ensures { IsTrue result → goal ≡ Some (row, col) }
+{
+    match goal {
+        Some((goal_row, goal_col)) => goal_row == row && goal_col == col,
+        None => false,
+    }
+}
+
+// The least number of steps to each open position, from the nearest of several; with a goal the search stops once it
+// goes on from it.
+fn search_from<A: Allocator + Clone>(
+    kind: Steps,
+    floor: Grid<bool, A>,
+    starts: &[(usize, usize)],
+    goal: Option<(usize, usize)>,
+) -> Result<Grid<Option<usize>, A>, AllocError>
+    ensures order { IfOk result (λ steps. steps.order ≡ floor.order) }
+    ensures size { IfOk result (λ steps. HaveOneSize steps.rows floor.rows) }
+    ensures least { IfOk result (λ steps. goal ≡ None → HasLeastFrom kind floor.rows starts.now steps.rows) }
+    ensures settled { IfOk result (λ steps. (from to : ℕ × ℕ) → starts.now ≡ from ∷ [] → goal ≡ Some to
+        → IsSettled kind floor.rows from to steps.rows) }
+{
+    let mut steps: Grid<Option<usize>, A> = floor.map_indexed(|_, _| None)?;
+    let cells = floor.rows().saturating_mul(floor.cols());
+    let mut queue = Vec::with_capacity(floor.allocator().clone()?, cells)?;
+    let mut left = floor;
+    for start in starts {
+        reach(start.0, start.1, 0, &mut left, &mut steps, &mut queue)?;
+    }
+    let mut next = 0;
+    while next < queue.len() {
+        let (row, col) = queue[next];
+        if is_goal(goal, row, col) {
+            return Ok(steps);
+        }
+        if let Some(count) = steps[(row, col)] {
+            reach_around(kind, row, col, count + 1, &mut left, &mut steps, &mut queue)?;
+        }
+        next += 1;
+    }
+    Ok(steps)
+}
+
+// The least number of steps to each open position, from the first.
+pub(crate) fn search<A: Allocator + Clone>(
+    kind: Steps,
+    floor: Grid<bool, A>,
+    from: (usize, usize),
+) -> Result<Grid<Option<usize>, A>, AllocError>
+    ensures order { IfOk result (λ steps. steps.order ≡ floor.order) }
+    ensures size { IfOk result (λ steps. HaveOneSize steps.rows floor.rows) }
+    ensures least { IfOk result (λ steps. HasLeastSteps kind floor.rows from steps.rows) }
+{
+    search_from(kind, floor, &[from], None)
+}
+
+// The numbers up to that of a goal.
+pub(crate) fn search_until<A: Allocator + Clone>(
+    kind: Steps,
+    floor: Grid<bool, A>,
+    from: (usize, usize),
+    goal: (usize, usize),
+) -> Result<Grid<Option<usize>, A>, AllocError>
+    ensures { IfOk result (λ steps. IsSettled kind floor.rows from goal steps.rows) }
+{
+    search_from(kind, floor, &[from], Some(goal))
+}
+
+// Which cells pass the test.
+pub(crate) fn floor_of<T, A: Allocator + Clone, F: Fn(&T) -> bool>(
+    grid: &Grid<T, A>,
+    passable: F,
+) -> Result<Grid<bool, A>, AllocError>
+    requires { F.IsAlwaysCallable passable }
+    ensures order { IfOk result (λ floor. floor.order ≡ grid.now.order) }
+    ensures size { IfOk result (λ floor. HaveOneSize floor.rows grid.now.rows) }
+    ensures cells { IfOk result (λ floor. (p : _) → IsAnswer F.post passable p
+        → floor.rows ≡ passing p grid.now.rows) }
+{
+    grid.map_indexed(|_, cell| passable(cell))
+}
+
+/// Returns, for each cell, the least number of steps from a position. Each cell on the way passes the test, the first and
+/// the last too. `None` stands exactly where no way leads.
+///
+///     [[1, 1, 0], [0, 1, 1]]   distances((0, 0), Steps::Sides, |x| *x == 1)   [[Some(0), Some(1), None], [None, Some(2), Some(3)]]
+///     [[1, 1, 0], [0, 1, 1]]   distances((0, 0), Steps::All, |x| *x == 1)     [[Some(0), Some(1), None], [None, Some(1), Some(2)]]
+///
+/// Requires: the test can be called at every cell.
+/// Fails: where memory is refused.
+/// Cost: one call for each cell; a constant number of steps for each cell; three allocations.
+pub fn distances<T, A: Allocator + Clone, F: Fn(&T) -> bool>(
+    grid: &Grid<T, A>,
+    from: (usize, usize),
+    kind: Steps,
+    passable: F,
+) -> Result<Grid<Option<usize>, A>, AllocError>
+    requires { F.IsAlwaysCallable passable }
+    ensures order { IfOk result (λ steps. steps.order ≡ grid.now.order) }
+    ensures size { IfOk result (λ steps. HaveOneSize steps.rows grid.now.rows) }
+    ensures least { IfOk result (λ steps. (p : _) → IsAnswer F.post passable p
+        → HasLeastSteps kind (passing p grid.now.rows) from steps.rows) }
+{
+    let floor = floor_of(grid, passable)?;
+    search(kind, floor, from)
+}
+
+/// Returns, for each cell, the least number of steps from the nearest of several positions, as [`distances`] counts
+/// them. Positions out of range and those whose cell does not pass the test count for nothing; one that stands twice
+/// counts once.
+///
+///     [[1, 1, 0], [1, 1, 1]]   distances_from(&[(0, 0), (1, 2)], Steps::Sides, |x| *x == 1)   [[Some(0), Some(1), None], [Some(1), Some(1), Some(0)]]
+///
+/// Requires: the test can be called at every cell.
+/// Fails: where memory is refused.
+/// Cost: one call for each cell; a constant number of steps for each cell and each of the positions; three allocations.
+pub fn distances_from<T, A: Allocator + Clone, F: Fn(&T) -> bool>(
+    grid: &Grid<T, A>,
+    starts: &[(usize, usize)],
+    kind: Steps,
+    passable: F,
+) -> Result<Grid<Option<usize>, A>, AllocError>
+    requires { F.IsAlwaysCallable passable }
+    ensures order { IfOk result (λ steps. steps.order ≡ grid.now.order) }
+    ensures size { IfOk result (λ steps. HaveOneSize steps.rows grid.now.rows) }
+    ensures least { IfOk result (λ steps. (p : _) → IsAnswer F.post passable p
+        → HasLeastFrom kind (passing p grid.now.rows) starts.now steps.rows) }
+{
+    let floor = floor_of(grid, passable)?;
+    search_from(kind, floor, starts, None)
+}

@@ -1,0 +1,115 @@
+-- The cells of one line, part by part.
+use Rattle.std.proofs.Common.{◌≡◌, ◌⊎◌, inl, inr, ℕ, suc, ◌+◌, ◌<◌, ◌≤◌, Bool, true, ◌&&◌, Option, Some, None, Result, Ok, Err, List, [], ◌∷◌, ◌++◌, length, encode_utf8, encode_utf8_all, IsUtf8, chars, refl, sym, ap, subst, ◌∙◌, arith, append_assoc, append-nil, length-append}
+use lib.Utf8.{scalars}
+use Rattle.std.specs.Char.{IsScalar}
+use Rattle.std.proofs.lemmas.Bool.{and_parts}
+use Rattle.std.proofs.lemmas.List.{nil_from_length}
+use Rattle.std.proofs.lemmas.Str.{chars-nil, chars_past_char, IsUtf8-past_char, cons_from_encodes, length-encode, len_utf8_bounds}
+use Rattle.grid_text.specs.declared.error.TextError.{TextError}
+use Rattle.grid_text.specs.Reading.{ReadsBy, prepend, cell_before, read_line, bad_char, IsRow}
+
+pub prepend-nil : {X E : Type 0} (r : Result (List X) E) → prepend [] r ≡ r
+prepend-nil (Ok ys) = refl
+prepend-nil (Err e) = refl
+
+pub prepend-prepend : {X E : Type 0} (xs ys : List X) (r : Result (List X) E) → prepend xs (prepend ys r) ≡ prepend (xs ++ ys) r
+prepend-prepend xs ys (Ok zs) = ap Ok (sym (append_assoc xs ys zs))
+prepend-prepend xs ys (Err e) = refl
+
+-- a text begins with a character, not with any number
+pub first_scalar : (text rest : List ℕ) (c : ℕ) → IsUtf8 text → text ≡ encode_utf8 c ++ rest → IsScalar c
+first_scalar text rest c utf8 is =
+    let parts = cons_from_encodes utf8.0 rest c (utf8.1.1 ∙ is) in
+    scalar_of utf8.0 parts.0 parts.1 utf8.1.0
+  where
+    scalar_of : (cs es : List ℕ) → cs ≡ c ∷ es → scalars cs ≡ true → IsScalar c
+    scalar_of cs es e all = (and_parts _ _ (rw e at all)).0
+
+-- the cells of the first parts of a line, `count` of them, before those that are left
+pub record LineSoFar {A T : Type 0} (bad : ℕ → ℕ → A → TextError) (By : (A → Option T) → Type 0) (line : ℕ) (all left : List A) (old new : List T) (count : ℕ) : Type 0 where
+  pub row : List T
+  pub put : new ≡ old ++ row
+  pub len : length row ≡ count
+  pub counts : count + length left ≡ length all
+  pub reads : (h : A → Option T) → By h → read_line bad h line 1 all ≡ prepend row (read_line bad h line (count + 1) left)
+
+module _ {A T : Type 0} (bad : ℕ → ℕ → A → TextError) (By : (A → Option T) → Type 0) (line : ℕ) (all : List A) (old : List T) where
+  pub line_start : (left : List A) → left ≡ all → LineSoFar bad By line all left old old 0
+  line_start left is = record {
+    row = [];
+    put = sym (append-nil old);
+    len = refl;
+    counts = omega (arith, ap length is);
+    reads = λ h by. sym (prepend-nil (read_line bad h line 1 all)) ∙ ap (λ xs. prepend [] (read_line bad h line 1 xs)) (sym is);
+  }
+
+  module _ (left later : List A) (new : List T) (count : ℕ) (x : A) (i : LineSoFar bad By line all left old new count) (next : left ≡ x ∷ later) where
+    pub line_room : count + 1 ≤ length all
+    line_room = omega (arith, i.counts, ap length next)
+
+    here : (h : A → Option T) → By h → (cell : Option T) → cell ≡ h x → read_line bad h line 1 all ≡ prepend i.row (cell_before bad line (count + 1) x cell (read_line bad h line (count + 1 + 1) later))
+    here h by cell said =
+        let e : read_line bad h line (count + 1) left ≡ read_line bad h line (count + 1) (x ∷ later) = ap (read_line bad h line (count + 1)) next in
+        let one : cell_before bad line (count + 1) x (h x) (read_line bad h line (count + 1 + 1) later) ≡ cell_before bad line (count + 1) x cell (read_line bad h line (count + 1 + 1) later) =
+        ap (λ o. cell_before bad line (count + 1) x o (read_line bad h line (count + 1 + 1) later)) (sym said) in
+        i.reads h by ∙ ap (prepend i.row) (e ∙ one)
+
+    pub line_more : (cell : T) (added : List T) → ((h : A → Option T) → By h → Some cell ≡ h x) → added ≡ new ++ cell ∷ [] → LineSoFar bad By line all later old added (count + 1)
+    line_more cell added said push = record {
+      row = i.row ++ cell ∷ [];
+      put = push ∙ (ap (λ xs. xs ++ cell ∷ []) i.put ∙ append_assoc old i.row (cell ∷ []));
+      len = length-append i.row (cell ∷ []) ∙ ap (λ n. n + 1) i.len;
+      counts = omega (arith, i.counts, ap length next);
+      reads = λ h by. here h by (Some cell) (said h by) ∙ prepend-prepend i.row (cell ∷ []) (read_line bad h line (count + 1 + 1) later);
+    }
+
+    pub line_bad : ((h : A → Option T) → By h → None ≡ h x) → (h : A → Option T) → By h → read_line bad h line 1 all ≡ Err (bad line (count + 1) x)
+    line_bad said h by = here h by None (said h by)
+
+pub line_end : {A T : Type 0} (parts : List ℕ → List A) (bad : ℕ → ℕ → A → TextError) (By : (A → Option T) → Type 0) (line : ℕ) (text : List ℕ) (left : List A) (old new : List T) (count : ℕ) → LineSoFar bad By line (parts text) left old new count → left ≡ [] → IsRow parts bad By line text old new count
+line_end parts bad By line text left old new count i none =
+    record {
+      row = i.row;
+      put = i.put;
+      counts = i.len ∙ (omega (arith, ap length none, i.counts));
+      is_len = sym i.len;
+      reads = λ h by. i.reads h by ∙ (ap (λ xs. prepend i.row (read_line bad h line (count + 1) xs)) none ∙ ap Ok (append-nil i.row));
+    }
+
+-- the cells of the first characters, `column` of them, of a line of which `rest` is left
+pub record CharsSoFar {F T : Type 0} (returns : F → ℕ → Option T → Type 0) (read : F) (line : ℕ) (text rest : List ℕ) (old new : List T) (column : ℕ) : Type 0 where
+  pub utf8 : IsUtf8 rest
+  pub fits : column + length rest ≤ length text
+  pub cells : LineSoFar bad_char (ReadsBy returns read) line (chars text) (chars rest) old new column
+
+module _ {F T : Type 0} (returns : F → ℕ → Option T → Type 0) (read : F) (line : ℕ) (text : List ℕ) (old : List T) where
+  pub chars_start : (rest : List ℕ) → IsUtf8 text → rest ≡ text → CharsSoFar returns read line text rest old old 0
+  chars_start rest utf8 is = record {
+    utf8 = rw is utf8;
+    fits = rw is (omega arith);
+    cells = line_start bad_char (ReadsBy returns read) line (chars text) old (chars rest) (ap chars is);
+  }
+
+  module _ (rest later : List ℕ) (new : List T) (column c : ℕ) (i : CharsSoFar returns read line text rest old new column) (next : rest ≡ encode_utf8 c ++ later) where
+    chars_are : chars rest ≡ c ∷ chars later
+    chars_are = chars_past_char rest later c i.utf8 next
+
+    said : (cell : Option T) → returns read c cell → (h : ℕ → Option T) → ReadsBy returns read h → cell ≡ h c
+    said cell gave h by = by c cell (first_scalar rest later c i.utf8 next) gave
+
+    pub chars_room : column + 1 ≤ length text
+    chars_room = omega (arith, i.fits, ap length next ∙ length-append (encode_utf8 c) later, length-encode c, (len_utf8_bounds c).0)
+
+    pub chars_more : (cell : T) (added : List T) → returns read c (Some cell) → added ≡ new ++ cell ∷ [] → CharsSoFar returns read line text later old added (column + 1)
+    chars_more cell added gave push = record {
+      utf8 = IsUtf8-past_char rest later c i.utf8 next;
+      fits = omega (arith, i.fits, ap length next ∙ length-append (encode_utf8 c) later, length-encode c, (len_utf8_bounds c).0);
+      cells = line_more bad_char (ReadsBy returns read) line (chars text) old (chars rest) (chars later) new column c i.cells chars_are cell added (said (Some cell) gave) push;
+    }
+
+    pub chars_bad : returns read c None → (h : ℕ → Option T) → ReadsBy returns read h → read_line bad_char h line 1 (chars text) ≡ Err (bad_char line (column + 1) c)
+    chars_bad gave = line_bad bad_char (ReadsBy returns read) line (chars text) old (chars rest) (chars later) new column c i.cells chars_are (said None gave)
+
+  pub chars_end : (rest : List ℕ) (new : List T) (column : ℕ) → CharsSoFar returns read line text rest old new column → length rest ≡ 0 → IsRow chars bad_char (ReadsBy returns read) line text old new column
+  chars_end rest new column i none =
+      line_end chars bad_char (ReadsBy returns read) line text (chars rest) old new column i.cells (ap chars (nil_from_length rest none) ∙ chars-nil)

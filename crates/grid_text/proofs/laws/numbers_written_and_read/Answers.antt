@@ -1,0 +1,25 @@
+-- What is read of the text of a table of numbers is the table.
+use Rattle.std.proofs.Common.{◌≡◌, ◌∙◌, ap, Ok}
+use Rattle.text_lines.specs.Lines.{lines_of}
+use Rattle.grid.specs.Texts.{numbers}
+use Rattle.grid_text.specs.Reading.{reading_words}
+use Rattle.grid_text.specs.Writing.{numbers_text}
+use Rattle.grid_text.proofs.NumberTextLemmas.{numbers_back}
+use Rattle.grid_text.proofs.TableLemmas.{back_ok, back_err}
+use Rattle.grid_text.proofs.laws.numbers_written_and_read.Goals as goal
+
+pub returns-clause-ok : goal.returns-clause-ok
+returns-clause-ok g c = λ h reads all.
+    let w = g.T.Whole.whole in
+    let t = c.args.grid.now.rows in
+    let text_is : c.as_str.result.now ≡ numbers_text (numbers w t) = c.as_str.ensures.value ∙ c.in_ok-text.ensures in
+    let due : reading_words h (lines_of c.as_str.result.now) ≡ Ok t = ap (λ x. reading_words h (lines_of x)) text_is ∙ numbers_back w h t all c.args.grid.now.table in
+    back_ok _ _ due _ (c.from_words.ensures h reads)
+
+pub returns-clause-err : goal.returns-clause-err
+returns-clause-err g c = λ h reads all.
+    let w = g.T.Whole.whole in
+    let t = c.args.grid.now.rows in
+    let text_is : c.as_str.result.now ≡ numbers_text (numbers w t) = c.as_str.ensures.value ∙ c.in_ok-text.ensures in
+    let due : reading_words h (lines_of c.as_str.result.now) ≡ Ok t = ap (λ x. reading_words h (lines_of x)) text_is ∙ numbers_back w h t all c.args.grid.now.table in
+    back_err _ _ due _ (c.from_words.ensures h reads)

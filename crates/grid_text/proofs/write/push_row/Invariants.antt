@@ -1,0 +1,9 @@
+-- The cells so far, before those that are left.
+use Rattle.std.proofs.Common.{◌≡◌, ◌++◌, ℕ}
+use Rattle.std.specs.String.{string_bytes}
+use Rattle.grid_text.specs.Writing.{WritesBy, line_text}
+use Rattle.grid_text.proofs.write.push_row.Given as goal
+
+abbrev pub invariant-loop-cell : goal.invariant-loop-cell
+invariant-loop-cell g l =
+    (h : _ → ℕ) → WritesBy (goal.F-post g) l.write h → string_bytes l.text ++ line_text h l.cell-iterator ≡ string_bytes l.fn.text ++ line_text h l.fn.row

@@ -1,0 +1,10 @@
+-- The rows so far, before those that are left.
+use Rattle.std.proofs.Common.{◌≡◌, ◌++◌}
+use Rattle.std.specs.String.{string_bytes}
+use Rattle.grid.specs.Texts.{numbers}
+use Rattle.grid_text.specs.Writing.{numbers_text}
+use Rattle.grid_text.proofs.write.to_words.Given as goal
+
+abbrev pub invariant-loop-row : goal.invariant-loop-row
+invariant-loop-row g l =
+    string_bytes l.text ++ numbers_text (numbers g.T.Whole.whole l.row-iterator) ≡ numbers_text (numbers g.T.Whole.whole l.fn.grid.rows)

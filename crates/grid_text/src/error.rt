@@ -1,0 +1,61 @@
+//! Why a text is no grid.
+ghost use Rattle.std.specs.Prelude.{◌≡◌};
+ghost use Rattle.grid_text.specs.declared.error.TextError.TheVariants.{Memory};
+
+use std::alloc::{AllocError, AllocFailed};
+use thiserror::Error;
+
+/// Why a text could not be read as a grid: the first line that is no row. In a line the characters or words are tested
+/// first, then their number.
+#[derive(Clone, Copy, Debug, PartialEq, Eq, Error)]
+pub enum TextError {
+    /// A character is no cell.
+    #[error("line {line}, column {column}: {found:?} is no cell")]
+    BadChar {
+        /// The line, counted from 1.
+        line: usize,
+        /// The place of the character in the line, counted from 1 in characters.
+        column: usize,
+        /// The character.
+        found: char,
+    },
+    /// A word is no cell.
+    #[error("line {line}, word {word} is no cell")]
+    BadWord {
+        /// The line, counted from 1.
+        line: usize,
+        /// The place of the word in the line, counted from 1.
+        word: usize,
+    },
+    /// A line is not as long as the first.
+    #[error("line {line} has {len} cells, not {cols}")]
+    Ragged {
+        /// The line, counted from 1.
+        line: usize,
+        /// The number of its characters or words.
+        len: usize,
+        /// The number of those of line 1.
+        cols: usize,
+    },
+    /// Memory was refused.
+    #[error("out of memory")]
+    Memory,
+}
+
+/// Returns `TextError::Memory`.
+impl From<AllocError> for TextError {
+    ghost from_gives = { λ _ e. e ≡ Memory };
+
+    fn from(_refused: AllocError) -> TextError {
+        TextError::Memory
+    }
+}
+
+/// Returns `TextError::Memory`, and drops what was handed over.
+impl<T: Drop> From<AllocFailed<T>> for TextError {
+    ghost from_gives = { λ _ e. e ≡ Memory };
+
+    fn from(_refused: AllocFailed<T>) -> TextError {
+        TextError::Memory
+    }
+}

@@ -1,0 +1,212 @@
+//! Grids read from text.
+ghost use Rattle.std.specs.Prelude.{ℕ, Option, List, MatchResult};
+ghost use Rattle.std.specs.Str.{chars};
+ghost use Rattle.grid_text.specs.Reading.{ReadsBy, ReadsWordsBy, IsOrMemory, IsRow, IsBadRow, bad_char, bad_word, reading, reading_words};
+ghost use Rattle.text_lines.specs.Lines.{lines_of, words_of};
+
+use super::error::TextError;
+use grid::Grid;
+use std::alloc::Allocator;
+use text_lines::{Words, cut_line};
+
+/// Returns the row-major grid of a text: each line is a row, and `read` says which cell a character is, or `None` where
+/// it is none.
+///
+///     from_text(alloc, "#..\n.#.\n", |c| match c { '#' => Some(1), '.' => Some(0), _ => None })
+///     [[1, 0, 0], [0, 1, 0]]
+///
+/// A line ends at a line feed, with or without a carriage return before it, or at the end of the text. A line feed at
+/// the end of the text adds no row. A blank line is a row without cells: beside a row with cells it is ragged, and a
+/// text of blank lines is the empty grid.
+///
+/// Requires: `read` can be called at every character.
+/// Fails: `BadChar` or `Ragged` of the first line that is no row; its characters are tested before their number.
+/// `Memory` where memory is refused.
+/// Cost: one call for each character; the vector of cells grows as it is filled.
+pub fn from_text<T: Drop, A: Allocator, F: Fn(char) -> Option<T>>(
+    alloc: A,
+    text: &str,
+    read: F,
+) -> Result<Grid<T, A>, TextError>
+    requires { F.IsAlwaysCallable read }
+    ensures { (h : ℕ → Option T) → ReadsBy F.post read h
+        → IsOrMemory (reading h (lines_of text.now)) result }
+{
+    let mut cells = Vec::new(alloc);
+    let mut rest = text;
+    let mut line = 0usize;
+    let mut cols = 0usize;
+    while !rest.is_empty() {
+        let (chars, later) = cut_line(rest);
+        line += 1;
+        let len = push_line(&mut cells, line, chars, &read)?;
+        if line > 1 && len != cols {
+            return Err(TextError::Ragged { line, len, cols });
+        }
+        cols = len;
+        rest = later;
+    }
+    Ok(Grid::from_vec(cells, cols))
+}
+
+// Adds the cells of a line, and returns how many they are.
+fn push_line<T: Drop, A: Allocator, F: Fn(char) -> Option<T>>(
+    cells: &mut Vec<T, A>,
+    line: usize,
+    text: &str,
+    read: &F,
+) -> Result<usize, TextError>
+    requires { F.IsAlwaysCallable read.now }
+    ensures { MatchResult result
+        (IsRow chars bad_char (ReadsBy F.post read.now) line text.now
+        cells.old.items cells.new.items)
+        (IsBadRow chars bad_char (ReadsBy F.post read.now) line text.now) }
+{
+    let mut column = 0usize;
+    for found in text.chars() {
+        column += 1;
+        match read(found) {
+            Some(cell) => cells.push(cell)?,
+            None => return Err(TextError::BadChar {
+                line,
+                column,
+                found,
+            }),
+        }
+    }
+    Ok(column)
+}
+
+/// Returns the row-major grid of a text: each line is a row, and `read` says which cell a word is, or `None` where it is
+/// none. Words are separated by spaces and tabs.
+///
+///     from_words(alloc, "1 20\n 3  4\n", |word| word.parse::<i64>().ok())   [[1, 20], [3, 4]]
+///
+/// Lines end as in [`from_text`]. A line without words is a row without cells.
+///
+/// Requires: `read` can be called at every word.
+/// Fails: `BadWord` or `Ragged` of the first line that is no row; its words are tested before their number. `Memory`
+/// where memory is refused.
+/// Cost: one call for each word; the vector of cells grows as it is filled.
+pub fn from_words<T: Drop, A: Allocator, F: Fn(&str) -> Option<T>>(
+    alloc: A,
+    text: &str,
+    read: F,
+) -> Result<Grid<T, A>, TextError>
+    requires { F.IsAlwaysCallable read }
+    ensures { (h : List ℕ → Option T) → ReadsWordsBy F.post read h
+        → IsOrMemory (reading_words h (lines_of text.now)) result }
+{
+    let mut cells = Vec::new(alloc);
+    let mut rest = text;
+    let mut line = 0usize;
+    let mut cols = 0usize;
+    while !rest.is_empty() {
+        let (words, later) = cut_line(rest);
+        line += 1;
+        let len = push_words(&mut cells, line, words, &read)?;
+        if line > 1 && len != cols {
+            return Err(TextError::Ragged { line, len, cols });
+        }
+        cols = len;
+        rest = later;
+    }
+    Ok(Grid::from_vec(cells, cols))
+}
+
+// Adds the cells of the words of a line, and returns how many they are.
+fn push_words<T: Drop, A: Allocator, F: Fn(&str) -> Option<T>>(
+    cells: &mut Vec<T, A>,
+    line: usize,
+    text: &str,
+    read: &F,
+) -> Result<usize, TextError>
+    requires { F.IsAlwaysCallable read.now }
+    ensures { MatchResult result
+        (IsRow words_of bad_word (ReadsWordsBy F.post read.now) line text.now
+        cells.old.items cells.new.items)
+        (IsBadRow words_of bad_word (ReadsWordsBy F.post read.now) line text.now) }
+{
+    let mut word = 0usize;
+    for found in Words(text) {
+        word += 1;
+        match read(found) {
+            Some(cell) => cells.push(cell)?,
+            None => return Err(TextError::BadWord { line, word }),
+        }
+    }
+    Ok(word)
+}
+
+#[cfg(test)]
+mod tests {
+    use super::*;
+    use std::process::Abort;
+    use std::test::Fail;
+
+    fn pixel(c: char) -> Option<u8> {
+        match c {
+            '.' => Some(0),
+            '#' => Some(1),
+            'é' => Some(2),
+            _ => None,
+        }
+    }
+
+    fn assert_said<R: AllocGlobal + Abort>(
+        rt: &R,
+        read: Result<Grid<u8>, TextError>,
+        want: &str,
+    ) -> Result<(), Fail> {
+        let said = match read {
+            Ok(grid) => format!(in rt.alloc(); "{grid:?}")?,
+            Err(e) => format!(in rt.alloc(); "{e}")?,
+        };
+        assert_eq!(rt; said.as_str(), want);
+        Ok(())
+    }
+
+    // A text, and the grid or the fault. Behind a fault stand later ones: in the same line, and in the next.
+    const TEXTS: [(&str, &str); 13] = [
+        ("", "[]"),
+        ("\n\n", "[]"),
+        ("#", "[[1]]"),
+        ("#.\n.é", "[[1, 0][0, 2]]"),
+        ("#.\r\n.#\r\n", "[[1, 0][0, 1]]"),
+        ("#.\n.é#\n", "line 2 has 3 cells, not 2"),
+        ("#.\n\n.#\n", "line 2 has 0 cells, not 2"),
+        ("\n#\n", "line 2 has 1 cells, not 0"),
+        ("#.\né.x.\n", "line 2, column 3: 'x' is no cell"),
+        ("#\r.\n", "line 1, column 2: '\\r' is no cell"),
+        ("#x.y\nxx\n", "line 1, column 2: 'x' is no cell"),
+        ("#.\n#\nx.\n", "line 2 has 1 cells, not 2"),
+        ("#.\n#x\n#\n", "line 2, column 2: 'x' is no cell"),
+    ];
+
+    #[test]
+    fn characters_are_read(rt: HostRuntime) -> Result<(), Fail> {
+        for (text, want) in TEXTS {
+            assert_said(&rt, from_text(rt.alloc(), text, pixel), want)?;
+        }
+        Ok(())
+    }
+
+    const SHEETS: [(&str, &str); 7] = [
+        (" \n\t\n", "[]"),
+        (" 1\t20\r\n3  4 ", "[[1, 20][3, 4]]"),
+        ("1 2\n3\n", "line 2 has 1 cells, not 2"),
+        ("1 2\n\n3 x\n", "line 2 has 0 cells, not 2"),
+        ("1 2\n3 256 y\n", "line 2, word 2 is no cell"),
+        ("1 -2\n3\n", "line 1, word 2 is no cell"),
+        ("1 2\n3\nx\n", "line 2 has 1 cells, not 2"),
+    ];
+
+    #[test]
+    fn words_are_read(rt: HostRuntime) -> Result<(), Fail> {
+        for (text, want) in SHEETS {
+            let read = from_words(rt.alloc(), text, |word| word.parse::<u8>().ok());
+            assert_said(&rt, read, want)?;
+        }
+        Ok(())
+    }
+}

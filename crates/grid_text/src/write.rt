@@ -1,0 +1,115 @@
+//! Grids written as text.
+ghost use Rattle.std.specs.Prelude.{◌≡◌, ◌++◌, ℕ, map, IfOk, OnOk};
+ghost use Rattle.std.specs.String.{string_bytes};
+ghost use Rattle.grid.specs.Texts.{numbers};
+ghost use Rattle.grid_text.specs.Writing.{WritesBy, line_text, table_text, line_of_numbers, numbers_text};
+
+use grid::{Grid, GridLineIter, Whole};
+use std::alloc::{AllocError, Allocator, Global};
+
+/// Returns a text of the grid: a line for each row, and in it the character that `write` says for each cell. Each line
+/// ends in a line feed; the empty grid is the empty text.
+///
+///     [[1, 0], [0, 1]]   to_text(alloc, grid, |x| if *x == 1 { '#' } else { '.' })   "#.\n.#\n"
+///
+/// Requires: `write` can be called at every cell.
+/// Fails: where memory is refused.
+pub fn to_text<T, A: Allocator, F: Fn(&T) -> char>(
+    alloc: Global,
+    grid: &Grid<T, A>,
+    write: F,
+) -> Result<String, AllocError>
+    requires { F.IsAlwaysCallable write }
+    ensures { (h : T → ℕ) → WritesBy F.post write h
+        → IfOk result (λ text. string_bytes text ≡ table_text h grid.now.rows) }
+{
+    let mut text = String::new(alloc);
+    for row in grid.iter_rows() {
+        push_row(&mut text, row, &write)?;
+        text.push('\n')?;
+    }
+    Ok(text)
+}
+
+// Adds the characters of a row.
+fn push_row<T, F: Fn(&T) -> char>(
+    text: &mut String,
+    row: GridLineIter<'_, T>,
+    write: &F,
+) -> Result<(), AllocError>
+    requires { F.IsAlwaysCallable write.now }
+    ensures { (h : T → ℕ) → WritesBy F.post write.now h
+        → OnOk result (string_bytes text.new ≡ string_bytes text.old ++ line_text h row.entry) }
+{
+    for cell in row {
+        text.push(write(cell))?;
+    }
+    Ok(())
+}
+
+/// Returns a text of a grid of whole numbers: a line for each row, and in it the decimals of its cells, with a space
+/// between two. Each line ends in a line feed; the empty grid is the empty text.
+///
+///     [[1, -20], [3, 4]]   to_words(alloc, grid)   "1 -20\n3 4\n"
+///
+/// Fails: where memory is refused.
+pub fn to_words<T: Whole, A: Allocator>(
+    alloc: Global,
+    grid: &Grid<T, A>,
+) -> Result<String, AllocError>
+    ensures { IfOk result
+        (λ text. string_bytes text ≡ numbers_text (numbers T.whole grid.now.rows)) }
+{
+    let mut text = String::new(alloc);
+    for row in grid.iter_rows() {
+        push_numbers(&mut text, row)?;
+        text.push('\n')?;
+    }
+    Ok(text)
+}
+
+// Adds the decimals of the cells of a row, with a space between two.
+fn push_numbers<T: Whole>(text: &mut String, row: GridLineIter<'_, T>) -> Result<(), AllocError>
+    ensures { OnOk result (string_bytes text.new
+        ≡ string_bytes text.old ++ line_of_numbers (map T.whole row.entry)) }
+{
+    let mut row = row;
+    if let Some(first) = row.next() {
+        let number = first.to_whole();
+        write!(text, "{number}")?;
+    }
+    for cell in row {
+        let number = cell.to_whole();
+        write!(text, " {number}")?;
+    }
+    Ok(())
+}
+
+#[cfg(test)]
+mod tests {
+    use super::*;
+    use std::test::Fail;
+
+    #[test]
+    fn writes(rt: HostRuntime) -> Result<(), Fail> {
+        let mut grid: Grid<u8> = Grid::from_vec(vec![in rt.alloc(); 1, 0, 0, 2, 1, 0]?, 3);
+        for _ in 0..2 {
+            let text = to_text(rt.alloc(), &grid, |x| match x {
+                0 => '.',
+                1 => '#',
+                _ => 'é',
+            })?;
+            assert!(rt; text.as_str() == "#..\né#.\n" || text.as_str() == "#é\n.#\n..\n");
+            grid.transpose();
+        }
+        Ok(())
+    }
+
+    #[test]
+    fn numbers_are_written(rt: HostRuntime) -> Result<(), Fail> {
+        let grid: Grid<i64> = Grid::from_vec(vec![in rt.alloc(); 1, -20, 3, i64::MIN]?, 2);
+        let text = to_words(rt.alloc(), &grid)?;
+        assert_eq!(rt; text.as_str(), "1 -20\n3 -9223372036854775808\n");
+        Ok(())
+    }
+}

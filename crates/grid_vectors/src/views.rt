@@ -1,0 +1,243 @@
+//! Views of a board of four rows and five columns: each call beside a plain program, under each symmetry and in either
+//! order; and boards that are made of views and written by them.
+use crate::asserts::{Rows, assert_rows, grid_with};
+use grid::{Grid, GridView, Order, Symmetry};
+use std::alloc::Global;
+use std::process::Abort;
+use std::test::Fail;
+use test_reference::plain;
+use test_support::fixtures::{INDICES, ORDERS, SYMMETRIES, table_of};
+
+const BOARD: Rows = &[
+    &[1, 2, 3, 4, 5],
+    &[6, 7, 8, 9, 10],
+    &[11, 12, 13, 14, 15],
+    &[16, 17, 18, 19, 20],
+];
+
+// The two rows and three columns of it from (1, 2) on.
+const PART: Rows = &[&[8, 9, 10], &[13, 14, 15]];
+
+// Whether a view has the cells of a table, in range and past its ends.
+fn has_cells(view: &GridView<'_, u32>, table: &Vec<Vec<u32>>) -> bool {
+    for row in INDICES {
+        for col in INDICES {
+            if view.get(row, col).copied() != plain::get(table, row, col) {
+                return false;
+            }
+        }
+    }
+    true
+}
+
+// Whether the iterators of a view give the rows of a table, and its cells row by row with their positions.
+fn has_lines(view: &GridView<'_, u32>, table: &Vec<Vec<u32>>) -> bool {
+    let mut lines = view.iter_rows();
+    let mut cells = view.iter();
+    let mut placed = view.indexed_iter();
+    for (r, row) in table.iter().enumerate() {
+        let Some(mut line) = lines.next() else {
+            return false;
+        };
+        for (c, want) in row.iter().enumerate() {
+            let same = line.next() == Some(want) && cells.next() == Some(want);
+            if !same || placed.next() != Some(((r, c), want)) {
+                return false;
+            }
+        }
+        if line.next().is_some() {
+            return false;
+        }
+    }
+    lines.next().is_none() && cells.next().is_none() && placed.next().is_none()
+}
+
+// Whether the rows and columns of a view come from their ends as those of a table do.
+fn has_ends(view: &GridView<'_, u32>, table: &Vec<Vec<u32>>) -> bool {
+    let (rows, cols) = view.size();
+    if rows == 0 || cols == 0 {
+        return table.is_empty();
+    }
+    let last = plain::get(table, rows - 1, cols - 1);
+    let by_rows = view.iter_rows().next_back();
+    let by_cols = view.iter_cols().next_back();
+    let from_row = view.iter_row(rows - 1).next_back().copied() == last;
+    let from_col = view.iter_col(cols - 1).next_back().copied() == last;
+    match (by_rows, by_cols) {
+        (Some(mut row), Some(mut col)) => {
+            let ends = row.next_back().copied() == last && col.next_back().copied() == last;
+            ends && from_row && from_col
+        }
+        _ => false,
+    }
+}
+
+// Under a symmetry a view of a part shows the image of its table.
+fn check_turned(rt: &impl Abort, alloc: Global, order: Order, s: Symmetry) -> Result<(), Fail> {
+    let grid = grid_with(alloc, BOARD, order)?;
+    let image = plain::act(alloc, s, &table_of(alloc, PART)?)?;
+    if grid.rows() < 3 || grid.cols() < 5 {
+        return Ok(());
+    }
+    let view = grid.part((1, 2), (2, 3)).turned(s);
+    assert_eq!(rt; view.size(), plain::size(&image));
+    assert!(rt; has_cells(&view, &image), "{s:?} in {order:?}");
+    assert!(rt; has_lines(&view, &image), "{s:?} in {order:?}");
+    assert!(rt; has_ends(&view, &image), "{s:?} in {order:?}");
+    Ok(())
+}
+
+#[test]
+fn turns_a_part(rt: HostRuntime) -> Result<(), Fail> {
+    for order in ORDERS {
+        for symmetry in SYMMETRIES {
+            check_turned(&rt, rt.alloc(), order, symmetry)?;
+        }
+    }
+    Ok(())
+}
+
+// Each expected board is written out by hand.
+fn check_made(rt: &impl Abort, alloc: Global, order: Order, into: Order) -> Result<(), Fail> {
+    let grid = grid_with(alloc, BOARD, order)?;
+    if grid.rows() < 3 || grid.cols() < 5 {
+        return Ok(());
+    }
+    let view = grid.part((1, 2), (2, 3)).turned(Symmetry::RotateLeft);
+    let made = Grid::from_view(alloc, into, &view)?;
+    assert_rows(rt, alloc, &made, &[&[10, 15], &[9, 14], &[8, 13]], into)
+}
+
+#[test]
+fn makes_a_grid_of_a_view(rt: HostRuntime) -> Result<(), Fail> {
+    for order in ORDERS {
+        for into in ORDERS {
+            check_made(&rt, rt.alloc(), order, into)?;
+        }
+    }
+    Ok(())
+}
+
+// [[10, 15], [9, 14], [8, 13]], a part that is turned.
+fn check_cells(rt: &impl Abort, alloc: Global, order: Order) -> Result<(), Fail> {
+    let grid = grid_with(alloc, BOARD, order)?;
+    if grid.rows() < 3 || grid.cols() < 5 {
+        return Ok(());
+    }
+    let view = grid.part((1, 2), (2, 3)).turned(Symmetry::RotateLeft);
+    let sized = view.rows() == 3 && view.cols() == 2;
+    assert!(rt; sized);
+    if sized {
+        assert_eq!(rt; view.get_unchecked(2, 1), &13);
+    }
+    let by_rows = view.to_vec(alloc, Order::RowMajor)?;
+    assert!(rt; by_rows.as_slice() == [10, 15, 9, 14, 8, 13].as_slice());
+    let by_cols = view.to_vec(alloc, Order::ColumnMajor)?;
+    assert!(rt; by_cols.as_slice() == [10, 9, 8, 15, 14, 13].as_slice());
+    Ok(())
+}
+
+#[test]
+fn clones_the_cells_of_a_view(rt: HostRuntime) -> Result<(), Fail> {
+    for order in ORDERS {
+        check_cells(&rt, rt.alloc(), order)?;
+    }
+    Ok(())
+}
+
+fn check_pasted(rt: &impl Abort, alloc: Global, order: Order, from: Order) -> Result<(), Fail> {
+    let mut grid = grid_with(alloc, &[&[1, 2, 3], &[4, 5, 6]], order)?;
+    let stamp = grid_with(alloc, &[&[70, 80]], from)?;
+    if grid.rows() < 2 || grid.cols() < 3 || stamp.rows() != 1 || stamp.cols() != 2 {
+        return Ok(());
+    }
+    grid.paste((0, 1), &stamp.view())?;
+    assert_rows(rt, alloc, &grid, &[&[1, 70, 80], &[4, 5, 6]], order)?;
+    let turned = stamp.view().transposed();
+    if turned.rows() <= grid.rows() && turned.cols() <= grid.cols() {
+        grid.paste((0, 0), &turned)?;
+    }
+    assert_rows(rt, alloc, &grid, &[&[70, 70, 80], &[80, 5, 6]], order)
+}
+
+#[test]
+fn pastes_a_view(rt: HostRuntime) -> Result<(), Fail> {
+    for order in ORDERS {
+        for from in ORDERS {
+            check_pasted(&rt, rt.alloc(), order, from)?;
+        }
+    }
+    Ok(())
+}
+
+// A stamp of two rows and two columns over a board of two rows and three columns, at each side and past it.
+const CLIPPED: [((isize, isize), Rows); 8] = [
+    ((-1, -1), &[&[80, 2, 3], &[4, 5, 6]]),
+    ((-1, 1), &[&[1, 70, 80], &[4, 5, 6]]),
+    ((0, 2), &[&[1, 2, 50], &[4, 5, 70]]),
+    ((1, 0), &[&[1, 2, 3], &[50, 60, 6]]),
+    ((1, 2), &[&[1, 2, 3], &[4, 5, 50]]),
+    ((-2, 0), &[&[1, 2, 3], &[4, 5, 6]]),
+    ((0, 3), &[&[1, 2, 3], &[4, 5, 6]]),
+    ((isize::MIN, isize::MAX), &[&[1, 2, 3], &[4, 5, 6]]),
+];
+
+fn check_clipped(rt: &impl Abort, alloc: Global, order: Order) -> Result<(), Fail> {
+    let stamp = grid_with(alloc, &[&[50, 60], &[70, 80]], order)?;
+    for (at, want) in CLIPPED {
+        let mut grid = grid_with(alloc, &[&[1, 2, 3], &[4, 5, 6]], order)?;
+        grid.paste_clipped(at, &stamp.view())?;
+        assert_rows(rt, alloc, &grid, want, order)?;
+    }
+    Ok(())
+}
+
+#[test]
+fn pastes_what_is_within(rt: HostRuntime) -> Result<(), Fail> {
+    for order in ORDERS {
+        check_clipped(&rt, rt.alloc(), order)?;
+    }
+    Ok(())
+}
+
+fn check_parts(rt: &impl Abort, alloc: Global, order: Order) -> Result<(), Fail> {
+    let mut grid = grid_with(alloc, &[&[1, 2, 3], &[4, 5, 6]], order)?;
+    if grid.rows() < 2 || grid.cols() < 3 {
+        return Ok(());
+    }
+    grid.fill_part((0, 1), (2, 1), 7)?;
+    assert_rows(rt, alloc, &grid, &[&[1, 7, 3], &[4, 7, 6]], order)?;
+    grid.update_part((1, 0), (1, 3), |(row, col), cell| {
+        cell.wrapping_mul(10)
+            .wrapping_add(if row < col { 1 } else { 0 })
+    });
+    assert_rows(rt, alloc, &grid, &[&[1, 7, 3], &[40, 70, 61]], order)
+}
+
+#[test]
+fn writes_a_part(rt: HostRuntime) -> Result<(), Fail> {
+    for order in ORDERS {
+        check_parts(&rt, rt.alloc(), order)?;
+    }
+    Ok(())
+}
+
+fn check_alike(rt: &impl Abort, alloc: Global, order: Order, other: Order) -> Result<(), Fail> {
+    let grid = grid_with(alloc, PART, order)?;
+    let turned = grid_with(alloc, &[&[8, 13], &[9, 14], &[10, 15]], other)?;
+    assert!(rt; grid.view() == turned.view().transposed());
+    assert!(rt; grid.view() != turned.view());
+    let text = format!(in alloc; "{:?}", turned.view().transposed())?;
+    assert_eq!(rt; text.as_str(), "[[8, 9, 10][13, 14, 15]]");
+    Ok(())
+}
+
+#[test]
+fn compares_and_writes_out(rt: HostRuntime) -> Result<(), Fail> {
+    for order in ORDERS {
+        for other in ORDERS {
+            check_alike(&rt, rt.alloc(), order, other)?;
+        }
+    }
+    Ok(())
+}

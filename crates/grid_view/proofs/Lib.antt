@@ -1,0 +1,6 @@
+pub mod AxisLemmas
+pub mod SeenLemmas
+pub mod LineLemmas
+pub mod CellLemmas
+pub mod SameLemmas
+pub mod DebugLemmas

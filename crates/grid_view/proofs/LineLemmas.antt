@@ -1,0 +1,91 @@
+-- The lines of a view.
+use Rattle.std.proofs.Common.{◌≡◌, ℕ, ◌+◌, ◌-◌, ◌*◌, ◌/◌, ◌<◌, ◌≤◌, Bool, true, false, Option, None, Some, Bor, List, [], ◌∷◌, length, take, drop, reverse, slice_get, refl, sym, ◌∙◌, ap, arith}
+use Rattle.std.specs.Int.{div_ceil}
+use Rattle.std.specs.Iterator.{YieldsFirstRef, YieldsLastRef}
+use Rattle.std.proofs.lemmas.List.{length-reverse, get_or-reverse, reverse-append}
+use Rattle.std.proofs.lemmas.Nat.{div-mul-add, mul-le}
+use Rattle.std.proofs.lemmas.Option.{slice_get-get_or}
+use Rattle.grid_base.specs.Table.{row, row_count}
+use Rattle.grid_base.proofs.TableLemmas.{same_cells}
+use Rattle.grid_base.proofs.StrideLemmas.{get-strided, length-line_of, ceil_is, every_one}
+use Rattle.grid_view.specs.declared.axis.Axis.{Axis}
+use Rattle.grid_view.specs.View.{counted, offset, HoldsView}
+use Rattle.grid_view.specs.Value.{ViewValue, view_value, counted_within}
+use Rattle.grid_view.specs.Lines.{directed, line_cells}
+use Rattle.grid_view.proofs.SeenLemmas.{seen_rows, seen_cols, seen_at}
+
+-- how many steps there are to the last of n cells
+pub ceil_line : (n s : ℕ) → 0 < n → 0 < s → div_ceil ((n - 1) * s + 1) s ≡ n
+ceil_line n s some steps =
+    let one : s - 1 + 1 ≡ s = omega arith in
+    let e : (n - 1) * s + 1 + (s - 1) ≡ n * (s - 1 + 1) + 0 = omega (arith, ap (λ x. n * x) one, next) in
+    sym (ap (div_ceil ((n - 1) * s + 1)) one)
+    ∙ (sym (ceil_is ((n - 1) * s + 1) (s - 1)) ∙ (ap (λ x. x / (s - 1 + 1)) e ∙ div-mul-add n (s - 1 + 1) 0 (omega arith)))
+  where
+    next : n * s ≡ (n - 1) * s + s
+    next = let more : n ≡ n - 1 + 1 = omega arith in ap (λ x. x * s) more ∙ omega arith
+
+module _ {T : Type 0} where
+  get-reverse : (l : List T) (c : ℕ) → c < length l → slice_get (reverse l) c ≡ slice_get l (length l - 1 - c)
+  get-reverse [] c lt = absurd (omega (arith, lt))
+  get-reverse (x ∷ xs) c lt =
+      let l = x ∷ xs in
+      slice_get-get_or (reverse l) c x (omega (arith, length-reverse l, lt))
+      ∙ (ap (λ v. Some v) (get_or-reverse l c x lt) ∙ sym (slice_get-get_or l (length l - 1 - c) x (omega (arith, lt))))
+
+  pub get-directed : (b : Bool) (l : List T) (k c : ℕ) → length l ≡ k → c < k → slice_get (directed b l) c ≡ slice_get l (counted b k c)
+  get-directed true l k c e lt = get-reverse l c (omega (arith, e, lt)) ∙ ap (λ n. slice_get l (n - 1 - c)) e
+  get-directed false l k c e lt = refl
+
+  pub length_directed : (b : Bool) (l : List T) → length (directed b l) ≡ length l
+  length_directed true l = length-reverse l
+  length_directed false l = refl
+
+  -- the last cell of a line is the first backwards, and the first is the last
+  pub backwards_first : (old new : List T) (r : Option (Bor T)) → YieldsLastRef (λ (rest : List T). rest) old r new → YieldsFirstRef (λ (rest : List T). rest) (reverse old) r (reverse new)
+  backwards_first old new None h = (ap reverse h.0, ap reverse h.1)
+  backwards_first old new (Some x) h = ap reverse h ∙ reverse-append new (x.now ∷ [])
+
+  pub backwards_last : (old new : List T) (r : Option (Bor T)) → YieldsFirstRef (λ (rest : List T). rest) old r new → YieldsLastRef (λ (rest : List T). rest) (reverse old) r (reverse new)
+  backwards_last old new None h = (ap reverse h.0, ap reverse h.1)
+  backwards_last old new (Some x) h = ap reverse h ∙ reverse-append (x.now ∷ []) new
+
+  pub length-line_cells : (start count stride : ℕ) (cells : List T) → 0 < count → 0 < stride → start + (count - 1) * stride < length cells → length (line_cells start count stride cells) ≡ count
+  length-line_cells start count stride cells some steps within =
+      let end = start + (count - 1) * stride + 1 in
+      let long : end - start ≡ (count - 1) * stride + 1 = omega arith in
+      length-line_of start end stride cells steps (omega arith) ∙ (ap (λ n. div_ceil n stride) long ∙ ceil_line count stride some steps)
+
+  pub get-line_cells : (start count stride k : ℕ) (cells : List T) → k < count → 0 < stride → slice_get (line_cells start count stride cells) k ≡ slice_get cells (start + k * stride)
+  get-line_cells start count stride k cells lt steps =
+      let below : k * stride ≤ (count - 1) * stride = mul-le k stride (count - 1) stride (omega arith) (omega arith) in
+      get-strided start (start + (count - 1) * stride + 1) stride k cells steps (omega arith)
+
+  -- the cells of a line that stands together
+  pub together : (b : Bool) (start count stride : ℕ) (cells : List T) → b ≡ false → stride ≡ 1 → 0 < count → take (start + count - start) (drop start cells) ≡ directed b (line_cells start count stride cells)
+  together b start count stride cells forwards one some =
+      let end : start + count ≡ start + (count - 1) * stride + 1 = omega (arith, ap (λ x. (count - 1) * x) one) in
+      ap (λ x. take (x - start) (drop start cells)) end ∙ (sym (every_one stride _ one) ∙ ap (λ x. directed x (line_cells start count stride cells)) (sym forwards))
+
+  -- a row of a view
+  module _ (rows cols : Axis) (cells : List T) (h : HoldsView rows cols (length cells)) (v : ViewValue T) (e : view_value rows cols cells h ≡ v) (r : ℕ) (lr : r < rows.count) where
+    pub row_some : 0 < cols.count
+    row_some = h.size.has_cols (omega arith)
+
+    pub row_within : offset rows r + (cols.count - 1) * cols.stride < length cells
+    row_within = h.within (counted rows.backwards rows.count r) (cols.count - 1) (counted_within rows.backwards rows.count r lr) (omega (arith, row_some))
+
+    pub row_is : (start : ℕ) → start ≡ offset rows r → directed cols.backwards (line_cells start cols.count cols.stride cells) ≡ row v.rows r
+    row_is start same =
+        let steps = h.col_steps row_some in
+        let line = line_cells start cols.count cols.stride cells in
+        let len : length line ≡ cols.count = length-line_cells start cols.count cols.stride cells row_some steps (omega (arith, row_within)) in
+        let in_rows : r < row_count v.rows = omega (arith, seen_rows rows cols cells h v e) in
+        let width : length (row v.rows r) ≡ cols.count = v.table.even r in_rows ∙ seen_cols rows cols cells h v e in
+        let long : length (directed cols.backwards line) ≡ cols.count = length_directed cols.backwards line ∙ len in
+        same_cells (directed cols.backwards line) (row v.rows r) (long ∙ sym width)
+        (λ c lt.
+        let lc : c < cols.count = omega (arith, long) in
+        get-directed cols.backwards line cols.count c len lc
+        ∙ (get-line_cells start cols.count cols.stride (counted cols.backwards cols.count c) cells (counted_within cols.backwards cols.count c lc) steps
+        ∙ (ap (λ x. slice_get cells (x + offset cols c)) same ∙ sym (seen_at rows cols cells h v e r c lr lc))))

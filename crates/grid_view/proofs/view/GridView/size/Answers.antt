@@ -1,0 +1,12 @@
+use Rattle.std.proofs.Common.{sym}
+use Rattle.grid_view.proofs.SeenLemmas.{seen_rows, seen_cols}
+use Rattle.grid_view.proofs.view.GridView.size.Goals as goal
+
+pub returns-clause-rows : goal.returns-clause-rows
+returns-clause-rows g c = sym (seen_rows _ _ _ c.self.inside.fits _ c.self.view_is)
+
+pub returns-clause-cols : goal.returns-clause-cols
+returns-clause-cols g c = sym (seen_cols _ _ _ c.self.inside.fits _ c.self.view_is)
+
+pub returns-clause-below : goal.returns-clause-below
+returns-clause-below g c = rw (seen_rows _ _ _ c.self.inside.fits _ c.self.view_is, seen_cols _ _ _ c.self.inside.fits _ c.self.view_is) c.self.inside.fits.below

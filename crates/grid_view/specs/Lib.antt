@@ -1,0 +1,6 @@
+pub mod View
+pub mod Value
+pub mod Lines
+pub mod Cells
+pub mod Same
+pub mod Texts

@@ -1,0 +1,71 @@
+//! One direction of a view: how many lines there are, how far apart they stand, and whether they come from the last.
+ghost use Rattle.std.specs.Prelude.{◌≡◌, ◌+◌, ◌<◌, ◌≤◌};
+ghost use Rattle.grid_view.specs.View.{counted, turned, cut, first_of, crossed};
+
+// The lines of a view in one direction.
+#[derive(Clone, Copy)]
+pub(crate) struct Axis {
+    pub(crate) count: usize,
+    pub(crate) stride: usize,
+    pub(crate) backwards: bool,
+}
+
+impl Axis {
+    // Returns the number of line `k` as the storage has them.
+    pub(crate) fn number(self, k: usize) -> usize
+        requires { k < self.count }
+        ensures number { result ≡ counted self.backwards self.count k }
+        ensures within { result < self.count }
+    {
+        if self.backwards {
+            self.count - 1 - k
+        } else {
+            k
+        }
+    }
+
+    // Returns the number, as the storage has them, of the first of the `count` lines from line `at` on.
+    pub(crate) fn first_of(self, at: usize, count: usize) -> usize
+        requires { at + count ≤ self.count }
+        ensures { result ≡ first_of self.backwards self.count at count }
+    {
+        if self.backwards {
+            self.count - at - count
+        } else {
+            at
+        }
+    }
+
+    // Returns the axis whose lines come in the reversed order, or in the same.
+    pub(crate) fn turned(self, reversed: bool) -> Axis
+        ensures { result ≡ turned self reversed }
+    {
+        Axis {
+            count: self.count,
+            stride: self.stride,
+            backwards: self.backwards ^ reversed,
+        }
+    }
+
+    // Returns the axis with so many lines.
+    pub(crate) fn cut(self, count: usize) -> Axis
+        ensures { result ≡ cut self count }
+    {
+        Axis {
+            count,
+            stride: self.stride,
+            backwards: self.backwards,
+        }
+    }
+}
+
+// Returns the axes of a view whose rows are the columns, or not.
+pub(crate) fn crossed(transposes: bool, rows: Axis, cols: Axis) -> (Axis, Axis)
+    ensures { result ≡ crossed transposes rows cols }
+{
+    if transposes {
+        (cols, rows)
+    } else {
+        (rows, cols)
+    }
+}

@@ -1,0 +1,94 @@
+//! Clones of the cells of a view.
+ghost use Rattle.std.specs.Prelude.{◌≡◌, ◌+◌, ◌*◌, ◌<◌, ◌≤◌, ◌++◌, length, IfOk, IfSome, OnOk, vec_len, vec_capacity};
+ghost use Rattle.grid_base.specs.Clones.{ClonesAreEqual};
+ghost use Rattle.grid_base.specs.Table.{row, row_count, col_count, concat_rows};
+ghost use Rattle.grid_base.specs.Order.{storage};
+
+use crate::lines::ViewLineIter;
+use crate::view::GridView;
+use grid_base::Order;
+use std::alloc::{AllocError, Allocator};
+
+// Adds clones of the cells of a line to a vector that has room for them.
+fn push_line<T: Clone, A: Allocator>(
+    copies: &mut Vec<T, A>,
+    line: ViewLineIter<'_, T>,
+) -> Result<(), AllocError>
+    requires clones { ClonesAreEqual T.is_clone }
+    requires room { vec_len copies.old + length line ≤ vec_capacity copies.old }
+    ensures items { OnOk result (copies.new.items ≡ copies.old.items ++ line.entry) }
+    ensures capacity { vec_capacity copies.new ≡ vec_capacity copies.old }
+{
+    for cell in line {
+        let copy = cell.clone()?;
+        copies.push_reserved(copy);
+    }
+    Ok(())
+}
+
+// Adds clones of the cells of row `r` to a vector that has room for them, at one go where they stand together.
+fn push_row<T: Clone, A: Allocator>(
+    copies: &mut Vec<T, A>,
+    view: &GridView<'_, T>,
+    r: usize,
+) -> Result<(), AllocError>
+    requires clones { ClonesAreEqual T.is_clone }
+    requires row_in { r < row_count view.now.rows }
+    requires room { vec_len copies.old + length (row view.now.rows r) ≤ vec_capacity copies.old }
+    ensures items { OnOk result (copies.new.items ≡ copies.old.items ++ row view.now.rows r) }
+    ensures capacity { vec_capacity copies.old ≤ vec_capacity copies.new }
+{
+    match view.row_slice(r) {
+        Some(line) => copies.extend_with_clones(line),
+        None => push_line(copies, view.iter_row(r)),
+    }
+}
+
+// Returns clones of the cells of a view, row by row.
+fn clones_of<T: Clone, A: Allocator>(
+    alloc: A,
+    view: &GridView<'_, T>,
+) -> Result<Vec<T, A>, AllocError>
+    requires { ClonesAreEqual T.is_clone }
+    ensures { IfOk result (λ copies. copies.items ≡ concat_rows view.now.rows) }
+{
+    let (rows, cols) = view.size();
+    let mut copies = Vec::with_capacity(alloc, rows * cols)?;
+    for r in 0..rows {
+        push_row(&mut copies, view, r)?;
+    }
+    Ok(copies)
+}
+
+impl<'a, T> GridView<'a, T> {
+    // Returns the cells of row `r` as a slice, or `None` where they don't stand side by side, the first first.
+    fn row_slice(&self, r: usize) -> Option<&'a [T]>
+        requires { r < row_count self.now.rows }
+        ensures { IfSome result (λ line. line.now ≡ row self.now.rows r) }
+    {
+        if self.cols.stride != 1 || self.cols.backwards {
+            return None;
+        }
+        let start = self.rows.number(r) * self.rows.stride;
+        Some(&self.cells[start..start + self.cols.count])
+    }
+
+    /// Returns clones of the cells, in the order in which a grid of that order stores them.
+    ///
+    ///     [[1, 2], [3, 4]]   to_vec(ColumnMajor)   [1, 3, 2, 4]
+    ///
+    /// Requires: clones of the cell type equal their source.
+    /// Fails: where memory is refused, for the vector or for a clone.
+    /// Cost: one clone for each cell; one allocation, before the first clone.
+    pub fn to_vec<A: Allocator>(&self, alloc: A, order: Order) -> Result<Vec<T, A>, AllocError>
+    where
+        T: Clone,
+        requires { ClonesAreEqual T.is_clone }
+        ensures { IfOk result (λ cells. cells.items ≡ storage order self.now.rows) }
+    {
+        match order {
+            Order::RowMajor => clones_of(alloc, self),
+            Order::ColumnMajor => clones_of(alloc, &self.transposed()),
+        }
+    }
+}

@@ -1,0 +1,15 @@
+//! Views of a table that a slice stores: a part of it, seen through a symmetry. No cell is copied and no memory taken.
+//! Users make them by a grid's `view` and `part`.
+#![tactic(auto)]
+
+mod axis;
+mod cells;
+mod copy;
+mod lines;
+mod same;
+mod text;
+mod view;
+
+pub use cells::{ViewIndexedIter, ViewIter};
+pub use lines::{ViewLineIter, ViewRowIter};
+pub use view::GridView;

@@ -1,0 +1,262 @@
+//! Iterators over a row or a column of a view, and over its rows and columns.
+ghost use Rattle.std.specs.Prelude.{◌≡◌, ◌+◌, ◌-◌, ◌*◌, ◌^◌, ◌<◌, ◌≤◌, ⊤, [], length, take, drop, IfSome, Some};
+ghost use Rattle.std.specs.Int.{div_ceil};
+ghost use Rattle.std.specs.Iterator.{YieldsFirstRef, YieldsLastRef, YieldsFirst, YieldsLast, item_count, UpTo, at_most};
+ghost use Rattle.std.specs.Iterator.SizeHint.{IsWithinCount};
+ghost use Rattle.grid_base.specs.Table.{row, row_count, col_count, transposed};
+ghost use Rattle.grid_base.specs.Strides.{every, LinesInOrder, LinesInReverse, EachLineInOrder, EachLineInReverse};
+ghost use Rattle.grid_view.specs.View.{counted, HoldsView};
+ghost use Rattle.grid_view.specs.Lines.{directed, line_cells};
+
+use crate::axis::Axis;
+use crate::view::GridView;
+use grid_base::GridLineIter;
+use std::alloc::AllocError;
+use std::iter::FusedIterator;
+use std::marker::Model;
+use std::ops::Range;
+
+// Returns an iterator over the cells of an axis from a place on.
+fn line_of<T>(cells: &[T], start: usize, axis: Axis) -> ViewLineIter<'_, T>
+    requires some { 0 < axis.count }
+    requires steps { 0 < axis.stride }
+    requires within { start + (axis.count - 1) * axis.stride < length cells.now }
+    ensures { result ≡ directed axis.backwards (line_cells start axis.count axis.stride cells.now) }
+{
+    let end = start + (axis.count - 1) * axis.stride + 1;
+    ViewLineIter {
+        line: GridLineIter::over(&cells[start..end], axis.stride, axis.count),
+        backwards: axis.backwards,
+    }
+}
+
+// Returns an iterator over no cells.
+pub(crate) fn no_cells<T>(cells: &[T]) -> ViewLineIter<'_, T>
+    ensures { result ≡ [] }
+{
+    ViewLineIter {
+        line: GridLineIter::over(&cells[..0], 1, 0),
+        backwards: false,
+    }
+}
+
+impl<'a, T> GridView<'a, T> {
+    /// Returns an iterator over the cells of row `r`, from both ends.
+    ///
+    ///     [[1, 2], [3, 4]]   iter_row(1)   3, 4
+    ///
+    /// Requires: `r` is in range.
+    /// Cost: each step takes the same time; no memory.
+    pub fn iter_row(&self, r: usize) -> ViewLineIter<'a, T>
+        requires { r < row_count self.now.rows }
+        ensures rest { result ≡ row self.now.rows r }
+        ensures runs { LinesInOrder T }
+        ensures runs_back { LinesInReverse T }
+        ensures fits { length result < 2 ^ 64 }
+    {
+        let start = self.rows.number(r) * self.rows.stride;
+        line_of(self.cells, start, self.cols)
+    }
+
+    /// Returns an iterator over the cells of column `c`, from both ends.
+    ///
+    ///     [[1, 2], [3, 4]]   iter_col(1)   2, 4
+    ///
+    /// Requires: `c` is in range.
+    /// Cost: each step takes the same time; no memory.
+    pub fn iter_col(&self, c: usize) -> ViewLineIter<'a, T>
+        requires { c < col_count self.now.rows }
+        ensures rest { result ≡ row (transposed self.now.rows) c }
+        ensures runs { LinesInOrder T }
+        ensures runs_back { LinesInReverse T }
+        ensures fits { length result < 2 ^ 64 }
+    {
+        self.transposed().iter_row(c)
+    }
+
+    /// Returns an iterator over the rows, from both ends, each as [`iter_row`](GridView::iter_row) gives it.
+    ///
+    ///     [[1, 2], [3, 4]]   iter_rows()   1, 2; then 3, 4
+    pub fn iter_rows(&self) -> ViewRowIter<'a, T>
+        ensures rest { result ≡ self.now.rows }
+        ensures runs { EachLineInOrder T }
+        ensures runs_back { EachLineInReverse T }
+        ensures along { LinesInOrder T }
+        ensures along_back { LinesInReverse T }
+    {
+        ViewRowIter {
+            view: self.view(),
+            ahead: 0..self.rows.count,
+        }
+    }
+
+    /// Returns an iterator over the columns, from both ends, each as [`iter_col`](GridView::iter_col) gives it.
+    ///
+    ///     [[1, 2], [3, 4]]   iter_cols()   1, 3; then 2, 4
+    pub fn iter_cols(&self) -> ViewRowIter<'a, T>
+        ensures rest { result ≡ transposed self.now.rows }
+        ensures runs { EachLineInOrder T }
+        ensures runs_back { EachLineInReverse T }
+        ensures along { LinesInOrder T }
+        ensures along_back { LinesInReverse T }
+    {
+        self.transposed().iter_rows()
+    }
+}
+
+/// An iterator over a row or a column of a view, from both ends. Each step takes the same time.
+#[derive(Drop)]
+pub struct ViewLineIter<'a, T> {
+    line: GridLineIter<'a, T>,
+    backwards: bool,
+}
+
+impl<'a, T> Model for ViewLineIter<'a, T> {
+    ghost use Rattle.std.specs.Prelude.{List, ⊤};
+    ghost use Rattle.grid_view.specs.Lines.{directed};
+
+    ghost Value = { List T };
+
+    ghost view = { λ a. directed a.backwards a.line };
+
+    ghost invariant = { λ _. ⊤ };
+}
+
+impl<'a, T> Iterator for ViewLineIter<'a, T> {
+    type Item = &'a T;
+
+    ghost next_gives = { YieldsFirstRef (λ rest. rest) };
+
+    ghost remaining = { item_count (λ rest. rest) };
+
+    #[tactic(auto, using(crate::proofs::LineLemmas::backwards_first))]
+    fn next(&mut self) -> Option<&'a T> {
+        if self.backwards {
+            self.line.next_back()
+        } else {
+            self.line.next()
+        }
+    }
+
+    fn size_hint(&self) -> (usize, Option<usize>)
+        ensures lower { IsWithinCount result.0 (at_most (length self.now)) }
+        ensures upper { IfSome result.1 (UpTo (at_most (length self.now))) }
+        ensures exact { result ≡ (length self.now, Some (length self.now)) }
+    {
+        let len = self.len();
+        (len, Some(len))
+    }
+}
+
+impl<'a, T> DoubleEndedIterator for ViewLineIter<'a, T> {
+    ghost next_back_gives = { YieldsLastRef (λ rest. rest) };
+
+    #[tactic(auto, using(crate::proofs::LineLemmas::backwards_last))]
+    fn next_back(&mut self) -> Option<&'a T> {
+        if self.backwards {
+            self.line.next()
+        } else {
+            self.line.next_back()
+        }
+    }
+}
+
+impl<'a, T> ExactSizeIterator for ViewLineIter<'a, T> {
+    #[tactic(auto, using(crate::proofs::LineLemmas::length_directed))]
+    fn len(&self) -> usize {
+        self.line.len()
+    }
+}
+
+impl<'a, T> FusedIterator for ViewLineIter<'a, T> {}
+
+/// Returns an iterator that stands at the same cells.
+///
+/// Cost: constant; it is always `Ok`, and takes no memory.
+impl<'a, T> Clone for ViewLineIter<'a, T> {
+    ghost is_clone = { λ it copy. copy ≡ it };
+
+    ghost is_infallible = { λ _. ⊤ };
+
+    fn clone(&self) -> Result<Self, AllocError> {
+        let line = self.line.clone()?;
+        Ok(ViewLineIter {
+            line,
+            backwards: self.backwards,
+        })
+    }
+}
+
+/// An iterator over the rows of a view, from both ends, seen as the list of the rows that remain.
+#[derive(Drop)]
+pub struct ViewRowIter<'a, T> {
+    view: GridView<'a, T>,
+    // The numbers of the rows that are left.
+    ahead: Range<usize>,
+}
+
+impl<'a, T> Model for ViewRowIter<'a, T> {
+    ghost use Rattle.std.specs.Prelude.{List, length};
+    ghost use Rattle.grid_base.specs.Remaining.{remaining, IsRemaining};
+
+    ghost Value = { List (List T) };
+
+    ghost view = { λ a. remaining a.ahead.start a.ahead.end a.view.rows };
+
+    ghost invariant = { λ a. IsRemaining a.ahead.start a.ahead.end (length a.view.rows) };
+}
+
+impl<'a, T> Iterator for ViewRowIter<'a, T> {
+    type Item = ViewLineIter<'a, T>;
+
+    ghost next_gives = { YieldsFirst (λ rest. rest) };
+
+    ghost remaining = { item_count (λ rest. rest) };
+
+    fn next(&mut self) -> Option<ViewLineIter<'a, T>> {
+        let r = self.ahead.next()?;
+        Some(self.view.iter_row(r))
+    }
+
+    fn size_hint(&self) -> (usize, Option<usize>)
+        ensures lower { IsWithinCount result.0 (at_most (length self.now)) }
+        ensures upper { IfSome result.1 (UpTo (at_most (length self.now))) }
+        ensures exact { result ≡ (length self.now, Some (length self.now)) }
+    {
+        let len = self.len();
+        (len, Some(len))
+    }
+}
+
+impl<'a, T> DoubleEndedIterator for ViewRowIter<'a, T> {
+    ghost next_back_gives = { YieldsLast (λ rest. rest) };
+
+    fn next_back(&mut self) -> Option<ViewLineIter<'a, T>> {
+        let r = self.ahead.next_back()?;
+        Some(self.view.iter_row(r))
+    }
+}
+
+impl<'a, T> ExactSizeIterator for ViewRowIter<'a, T> {
+    fn len(&self) -> usize {
+        self.ahead.len()
+    }
+}
+
+impl<'a, T> FusedIterator for ViewRowIter<'a, T> {}
+
+/// Returns an iterator that stands at the same rows.
+///
+/// Cost: constant; it is always `Ok`, and takes no memory.
+impl<'a, T> Clone for ViewRowIter<'a, T> {
+    ghost is_clone = { λ it copy. copy ≡ it };
+
+    ghost is_infallible = { λ _. ⊤ };
+
+    fn clone(&self) -> Result<Self, AllocError> {
+        Ok(ViewRowIter {
+            view: self.view.view(),
+            ahead: self.ahead.start..self.ahead.end,
+        })
+    }
+}

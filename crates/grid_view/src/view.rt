@@ -1,0 +1,244 @@
+//! A part of a table that a slice stores, seen through a symmetry.
+ghost use Rattle.std.specs.Prelude.{◌≡◌, ◌+◌, ◌*◌, ◌^◌, ◌<◌, ◌≤◌, IsTrue, ⊤, ◌↔◌, ◌⊎◌, IfSome, Some, [], length};
+ghost use Rattle.std.specs.Option.{option_copied};
+ghost use Rattle.grid_base.specs.Table.{row_count, col_count, cell, transposed, InRange};
+ghost use Rattle.grid_base.specs.Order.{table_of};
+ghost use Rattle.grid_base.specs.GridValue.{HoldsSize};
+ghost use Rattle.grid_base.specs.Symmetry.{act};
+ghost use Rattle.grid_view.specs.View.{offset, sub_table, HoldsView};
+
+use crate::axis::{Axis, crossed};
+use grid_base::{Order, Symmetry};
+use std::alloc::AllocError;
+use std::marker::Model;
+use std::ops::Index;
+
+/// A part of a grid, seen through a symmetry, without a copy of its cells. It is seen as its rows.
+#[derive(Drop)]
+pub struct GridView<'a, T> {
+    // From the first cell of the part on, as the storage has them.
+    pub(crate) cells: &'a [T],
+    pub(crate) rows: Axis,
+    pub(crate) cols: Axis,
+    ghost fits: { HoldsView rows cols (length cells.now) },
+}
+
+impl<'a, T> Model for GridView<'a, T> {
+    ghost use Rattle.grid_view.specs.Value.{ViewValue, view_value};
+
+    ghost Value = { ViewValue T };
+
+    ghost view = { λ v. view_value v.rows v.cols v.cells.now v.fits };
+}
+
+// Returns the place of the cell in a row and a column.
+#[inline(always)]
+fn place(rows: Axis, cols: Axis, len: usize, r: usize, c: usize) -> usize
+    requires holds { HoldsView rows cols len }
+    requires row_in { r < rows.count }
+    requires col_in { c < cols.count }
+    ensures place { result ≡ offset rows r + offset cols c }
+    ensures within { result < len }
+{
+    rows.number(r) * rows.stride + cols.number(c) * cols.stride
+}
+
+impl<'a, T> GridView<'a, T> {
+    /// Returns the view of the table of `rows` rows and `cols` columns that a slice stores in an order.
+    ///
+    ///     [1, 2, 3, 4, 5, 6]   over(ColumnMajor, 2, 3)   [[1, 3, 5], [2, 4, 6]]
+    ///
+    /// Requires: the slice has `rows * cols` cells, and there are rows exactly if there are columns.
+    /// Cost: constant; no memory.
+    pub fn over(cells: &'a [T], order: Order, rows: usize, cols: usize) -> GridView<'a, T>
+        requires { HoldsSize rows cols (length cells.now) }
+        ensures { result.rows ≡ table_of order rows cols cells.now }
+    {
+        let strides = match order {
+            Order::RowMajor => (cols, 1),
+            Order::ColumnMajor => (1, rows),
+        };
+        GridView {
+            cells,
+            rows: Axis {
+                count: rows,
+                stride: strides.0,
+                backwards: false,
+            },
+            cols: Axis {
+                count: cols,
+                stride: strides.1,
+                backwards: false,
+            },
+        }
+    }
+
+    /// Returns the number of rows and the number of columns.
+    ///
+    ///     [[1, 2, 3], [4, 5, 6]]   size()   (2, 3)
+    pub fn size(&self) -> (usize, usize)
+        ensures rows { result.0 ≡ row_count self.now.rows }
+        ensures cols { result.1 ≡ col_count self.now.rows }
+        ensures below { row_count self.now.rows * col_count self.now.rows < 2 ^ 64 }
+    {
+        (self.rows.count, self.cols.count)
+    }
+
+    /// Returns the number of rows.
+    ///
+    ///     [[1, 2, 3], [4, 5, 6]]   rows()   2
+    pub fn rows(&self) -> usize
+        ensures { result ≡ row_count self.now.rows }
+    {
+        self.size().0
+    }
+
+    /// Returns the number of columns.
+    ///
+    ///     [[1, 2, 3], [4, 5, 6]]   cols()   3
+    pub fn cols(&self) -> usize
+        ensures { result ≡ col_count self.now.rows }
+    {
+        self.size().1
+    }
+
+    /// Returns whether there are no cells.
+    pub fn is_empty(&self) -> bool
+        ensures { IsTrue result ↔ (self.now.rows ≡ []) }
+    {
+        self.rows.count == 0
+    }
+
+    /// Returns the same view.
+    pub fn view(&self) -> GridView<'a, T>
+        ensures { result ≡ self.now }
+    {
+        GridView {
+            cells: self.cells,
+            rows: self.rows,
+            cols: self.cols,
+        }
+    }
+
+    /// Returns the cell in a row and a column, or `None` out of range.
+    ///
+    ///     [[1, 2], [3, 4]]   get(0, 1)   Some(2)
+    pub fn get(&self, row: usize, col: usize) -> Option<&'a T>
+        ensures cell { option_copied result ≡ cell self.now.rows row col }
+        ensures in_range { IfSome result (λ _. InRange self.now.rows row col) }
+    {
+        if row < self.rows.count && col < self.cols.count {
+            Some(self.get_unchecked(row, col))
+        } else {
+            None
+        }
+    }
+
+    /// Returns the cell in a row and a column.
+    ///
+    ///     [[1, 2], [3, 4]]   get_unchecked(0, 1)   2
+    ///
+    /// Requires: both are in range.
+    /// Cost: constant; the range isn't tested when it runs.
+    pub fn get_unchecked(&self, row: usize, col: usize) -> &'a T
+        requires { InRange self.now.rows row col }
+        ensures { cell self.now.rows row col ≡ Some result.now }
+    {
+        let at = place(self.rows, self.cols, self.cells.len(), row, col);
+        &self.cells[at]
+    }
+
+    /// Returns the view of the `size.0` rows and `size.1` columns from position `at` on. Without rows or without columns
+    /// it is empty.
+    ///
+    ///     [[1, 2, 3], [4, 5, 6]]   part((0, 1), (2, 2))   [[2, 3], [5, 6]]
+    ///
+    /// Requires: the part is within the view.
+    /// Cost: constant; no cell is copied.
+    pub fn part(&self, at: (usize, usize), size: (usize, usize)) -> GridView<'a, T>
+        requires rows_in { at.0 + size.0 ≤ row_count self.now.rows }
+        requires cols_in { at.1 + size.1 ≤ col_count self.now.rows }
+        ensures rows { 0 < size.0 → 0 < size.1 → result.rows ≡ sub_table self.now.rows at size }
+        ensures none { (size.0 ≡ 0) ⊎ (size.1 ≡ 0) → result.rows ≡ [] }
+    {
+        if size.0 == 0 || size.1 == 0 {
+            GridView {
+                cells: self.cells,
+                rows: self.rows.cut(0),
+                cols: self.cols.cut(0),
+            }
+        } else {
+            let row = self.rows.first_of(at.0, size.0);
+            let col = self.cols.first_of(at.1, size.1);
+            let start = row * self.rows.stride + col * self.cols.stride;
+            GridView {
+                cells: &self.cells[start..],
+                rows: self.rows.cut(size.0),
+                cols: self.cols.cut(size.1),
+            }
+        }
+    }
+
+    /// Returns the view through a symmetry.
+    ///
+    ///     [[1, 2], [3, 4]]   turned(RotateLeft)   [[2, 4], [1, 3]]
+    ///
+    /// Cost: constant; no cell moves.
+    pub fn turned(&self, symmetry: Symmetry) -> GridView<'a, T>
+        ensures { result.rows ≡ act symmetry self.now.rows }
+    {
+        let (transposes, flips_rows, flips_cols) = symmetry.flags();
+        let (rows, cols) = crossed(transposes, self.rows, self.cols);
+        GridView {
+            cells: self.cells,
+            rows: rows.turned(flips_rows),
+            cols: cols.turned(flips_cols),
+        }
+    }
+
+    /// Returns the view whose rows are the columns.
+    ///
+    ///     [[1, 2, 3], [4, 5, 6]]   transposed()   [[1, 4], [2, 5], [3, 6]]
+    ///
+    /// Cost: constant; no cell moves.
+    pub fn transposed(&self) -> GridView<'a, T>
+        ensures rows { result.rows ≡ transposed self.now.rows }
+        ensures act { result.rows ≡ act Symmetry.Transpose self.now.rows }
+    {
+        GridView {
+            cells: self.cells,
+            rows: self.cols,
+            cols: self.rows,
+        }
+    }
+}
+
+/// Returns the same view, as [`view`](GridView::view) does.
+///
+/// Cost: constant; it is always `Ok`, and takes no memory.
+impl<'a, T> Clone for GridView<'a, T> {
+    ghost is_clone = { λ view copy. copy ≡ view };
+
+    ghost is_infallible = { λ _. ⊤ };
+
+    fn clone(&self) -> Result<Self, AllocError> {
+        Ok(self.view())
+    }
+}
+
+/// `view[(row, col)]` is the cell in a row and a column.
+///
+///     [[1, 2], [3, 4]]   view[(1, 0)]   3
+///
+/// Requires: both are in range.
+impl<'a, T> Index<(usize, usize)> for GridView<'a, T> {
+    type Output = T;
+
+    ghost can_index = { λ view at. InRange view.rows at.0 at.1 };
+
+    ghost index_gives = { λ view at x. cell view.rows at.0 at.1 ≡ Some x };
+
+    fn index(&self, at: (usize, usize)) -> &T {
+        self.get_unchecked(at.0, at.1)
+    }
+}
