@@ -190,7 +190,7 @@ module _ (o : Order) (m n : ℕ) (z : IsSize m n) where
             (a.y, a.by);
       }
 
-some_and_map : {B : Type 0} (o : Option B) {P Q : B → Type 0} → ((y : B) → P y → Q y) → IsSomeAnd o P → IsSomeAnd o Q
+pub some_and_map : {B : Type 0} (o : Option B) {P Q : B → Type 0} → ((y : B) → P y → Q y) → IsSomeAnd o P → IsSomeAnd o Q
 some_and_map None f h = h
 some_and_map (Some y) f h = f y h
 

@@ -13,6 +13,18 @@ abbrev pub CallableAtPositions : {F A : Type 0} → (F → ℕ × ℕ → Bor A 
 CallableAtPositions {A = A} takes f t = (r c : ℕ) (p : Bor A) → InRange t r c → row_count t < 2 ^ 64
     → col_count t < 2 ^ 64 → cell t r c ≡ Some p.now → takes f (r, c) p
 
+-- the closure f can be called at this position of the table t and a reference to the cell there
+abbrev pub ReachesThere : {F A : Type 0} → (F → ℕ × ℕ → Bor A → Type 0) → F → List (List A) → ℕ × ℕ
+    → Type 0
+ReachesThere {A = A} takes f t at = InRange t at.0 at.1
+    × ((p : Bor A) → cell t at.0 at.1 ≡ Some p.now → takes f at p)
+
+-- y is something that the closure f may return at this position of the table t and the cell there
+abbrev pub ReturnsThere : {F A B : Type 0} → (F → ℕ × ℕ → Bor A → B → Type 0) → F → List (List A)
+    → ℕ × ℕ → B → Type 0
+ReturnsThere {A = A} returns f t at y = (p : Bor A) × (cell t at.0 at.1 ≡ Some p.now)
+    × returns f at p y
+
 module _ {F A B : Type 0} (returns : F → ℕ × ℕ → Bor A → B → Type 0) (f : F) (t : List (List A))
   where
     -- where h gives whatever f may return at each position and the cell of t there, u is the table of

@@ -1,5 +1,4 @@
 pub mod RetainLemmas
 pub mod RollLemmas
 pub mod AcrossLemmas
-pub mod PartLemmas
 pub mod SetLemmas

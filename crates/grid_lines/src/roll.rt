@@ -37,7 +37,7 @@ pub(crate) fn roll_cols<T, A: Allocator>(grid: &mut Grid<T, A>, count: usize)
 }
 
 // Reverses the `n` rows from row `start` on.
-#[tactic(auto, using(crate::proofs::PartLemmas::turning_none, crate::proofs::PartLemmas::turning_more, crate::proofs::PartLemmas::turning_all))]
+#[tactic(auto, using(grid_base::proofs::PartLemmas::turning_none, grid_base::proofs::PartLemmas::turning_more, grid_base::proofs::PartLemmas::turning_all))]
 fn reverse_rows<T, A: Allocator>(grid: &mut Grid<T, A>, start: usize, n: usize)
     requires within { start + n ≤ row_count grid.old.rows }
     requires fits { start + n < 2 ^ 64 }

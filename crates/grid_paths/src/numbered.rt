@@ -69,8 +69,8 @@ fn number_sides<T: PartialEq, A: Allocator>(
     requires cols { col_count grid.now.rows < 2 ^ 64 }
     ensures order { numbers.new.order ≡ numbers.old.order }
     ensures size { HaveOneSize numbers.new.rows grid.now.rows }
-    ensures round { OnOk result (WentRound (AreBeside (row, col)) (alike T.eq first.now grid.now.rows) number
-        numbers.old.rows queue.old.items numbers.new.rows queue.new.items) }
+    ensures round { OnOk result (WentRound (AreBeside (row, col)) (alike T.eq first.now grid.now.rows)
+        number numbers.old.rows queue.old.items numbers.new.rows queue.new.items) }
 {
     let (up, left) = (row.wrapping_sub(1), col.wrapping_sub(1));
     number_at(grid, first, up, col, number, numbers, queue)?;
@@ -95,8 +95,8 @@ fn number_diagonals<T: PartialEq, A: Allocator>(
     requires cols { col_count grid.now.rows < 2 ^ 64 }
     ensures order { numbers.new.order ≡ numbers.old.order }
     ensures size { HaveOneSize numbers.new.rows grid.now.rows }
-    ensures round { OnOk result (WentRound (AreDiagonal (row, col)) (alike T.eq first.now grid.now.rows) number
-        numbers.old.rows queue.old.items numbers.new.rows queue.new.items) }
+    ensures round { OnOk result (WentRound (AreDiagonal (row, col)) (alike T.eq first.now grid.now.rows)
+        number numbers.old.rows queue.old.items numbers.new.rows queue.new.items) }
 {
     let (up, left) = (row.wrapping_sub(1), col.wrapping_sub(1));
     number_at(grid, first, up, left, number, numbers, queue)?;
@@ -122,8 +122,8 @@ fn number_around<T: PartialEq, A: Allocator>(
     requires cols { col_count grid.now.rows < 2 ^ 64 }
     ensures order { numbers.new.order ≡ numbers.old.order }
     ensures size { HaveOneSize numbers.new.rows grid.now.rows }
-    ensures round { OnOk result (WentRound (IsStep kind (row, col)) (alike T.eq first.now grid.now.rows) number
-        numbers.old.rows queue.old.items numbers.new.rows queue.new.items) }
+    ensures round { OnOk result (WentRound (IsStep kind (row, col)) (alike T.eq first.now grid.now.rows)
+        number numbers.old.rows queue.old.items numbers.new.rows queue.new.items) }
 {
     number_sides(grid, first, row, col, number, numbers, queue)?;
     match kind {
@@ -183,7 +183,8 @@ fn number_cell<T: PartialEq, A: Allocator>(
     requires cols { col_count grid.now.rows < 2 ^ 64 }
     ensures order { numbers.new.order ≡ numbers.old.order }
     ensures size { HaveOneSize numbers.new.rows grid.now.rows }
-    ensures scanned { IfOk result (λ n. IsScanned kind T.eq grid.now.rows numbers.new.rows n (row, col + 1)) }
+    ensures scanned { IfOk result (λ n.
+        IsScanned kind T.eq grid.now.rows numbers.new.rows n (row, col + 1)) }
     ensures room { IfOk result (λ n. n ≤ length queue.new.items) }
 {
     match numbers[(row, col)] {
@@ -258,7 +259,8 @@ pub fn regions<T: PartialEq, A: Allocator + Clone>(
     ensures order { IfOk result (λ found. found.0.order ≡ grid.now.order) }
     ensures size { IfOk result (λ found. HaveOneSize found.0.rows grid.now.rows) }
     ensures numbers { IfOk result (λ found. AreNumbers found.0.rows found.1) }
-    ensures regions { IfOk result (λ found. IsEquivalence T.eq → AreRegions kind T.eq grid.now.rows found.0.rows) }
+    ensures regions { IfOk result (λ found.
+        IsEquivalence T.eq → AreRegions kind T.eq grid.now.rows found.0.rows) }
 {
     let (numbers, count) = number_all(kind, grid)?;
     let plain = all_numbers(&numbers)?;

@@ -149,9 +149,10 @@ fn search_from<A: Allocator + Clone>(
 ) -> Result<Grid<Option<usize>, A>, AllocError>
     ensures order { IfOk result (λ steps. steps.order ≡ floor.order) }
     ensures size { IfOk result (λ steps. HaveOneSize steps.rows floor.rows) }
-    ensures least { IfOk result (λ steps. goal ≡ None → HasLeastFrom kind floor.rows starts.now steps.rows) }
-    ensures settled { IfOk result (λ steps. (from to : ℕ × ℕ) → starts.now ≡ from ∷ [] → goal ≡ Some to
-        → IsSettled kind floor.rows from to steps.rows) }
+    ensures least { IfOk result (λ steps.
+        goal ≡ None → HasLeastFrom kind floor.rows starts.now steps.rows) }
+    ensures settled { IfOk result (λ steps. (from to : ℕ × ℕ)
+        → starts.now ≡ from ∷ [] → goal ≡ Some to → IsSettled kind floor.rows from to steps.rows) }
 {
     let mut steps: Grid<Option<usize>, A> = floor.map_indexed(|_, _| None)?;
     let cells = floor.rows().saturating_mul(floor.cols());

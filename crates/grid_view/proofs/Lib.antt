@@ -4,3 +4,4 @@ pub mod LineLemmas
 pub mod CellLemmas
 pub mod SameLemmas
 pub mod DebugLemmas
+pub mod PlacedLemmas

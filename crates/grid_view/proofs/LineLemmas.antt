@@ -1,13 +1,17 @@
 -- The lines of a view.
-use Rattle.std.proofs.Common.{◌≡◌, ℕ, ◌+◌, ◌-◌, ◌*◌, ◌/◌, ◌<◌, ◌≤◌, Bool, true, false, Option, None, Some, Bor, List, [], ◌∷◌, length, take, drop, reverse, slice_get, refl, sym, ◌∙◌, ap, arith}
+use Rattle.std.proofs.Common.{◌≡◌, ℕ, suc, ◌+◌, ◌-◌, ◌*◌, ◌/◌, ◌<◌, ◌≤◌, Bool, true, false, Option, None, Some, Bor, List, [], ◌∷◌, length, take, drop, min, reverse, slice_get, refl, sym, ◌∙◌, ap, arith, length-drop}
 use Rattle.std.specs.Int.{div_ceil}
-use Rattle.std.specs.Iterator.{YieldsFirstRef, YieldsLastRef}
-use Rattle.std.proofs.lemmas.List.{length-reverse, get_or-reverse, reverse-append}
+use Rattle.std.specs.Option.{option_copied}
+use Rattle.std.specs.Iterator.{YieldsFirst, YieldsFirstRef, YieldsLastRef, Yields, SkipsThenYields}
+use Rattle.std.proofs.lemmas.List.{length-reverse, get_or-reverse, reverse-append, drop-drop, drop_all}
 use Rattle.std.proofs.lemmas.Nat.{div-mul-add, mul-le}
 use Rattle.std.proofs.lemmas.Option.{slice_get-get_or}
 use Rattle.grid_base.specs.Table.{row, row_count}
 use Rattle.grid_base.proofs.TableLemmas.{same_cells}
-use Rattle.grid_base.proofs.StrideLemmas.{get-strided, length-line_of, ceil_is, every_one}
+use Rattle.grid_base.proofs.StrideLemmas.{get-strided, length-line_of, ceil_is, every_one, nth_found}
+use Rattle.grid_base.specs.Remaining.{IsRemaining, remaining}
+use Rattle.grid_base.proofs.RemainingLemmas.{remaining_past, past_most, length-left}
+use Rattle.grid_base.proofs.StorageLemmas.{get-drop}
 use Rattle.grid_view.specs.declared.axis.Axis.{Axis}
 use Rattle.grid_view.specs.View.{counted, offset, HoldsView}
 use Rattle.grid_view.specs.Value.{ViewValue, view_value, counted_within}
@@ -49,6 +53,38 @@ module _ {T : Type 0} where
   pub backwards_last : (old new : List T) (r : Option (Bor T)) → YieldsFirstRef (λ (rest : List T). rest) old r new → YieldsLastRef (λ (rest : List T). rest) (reverse old) r (reverse new)
   backwards_last old new None h = (ap reverse h.0, ap reverse h.1)
   backwards_last old new (Some x) h = ap reverse h ∙ reverse-append (x.now ∷ []) new
+
+  -- calls from the end pass over the first cells, backwards
+  back_passed : (xs : List (Bor T)) (old new : List T) → Yields (YieldsLastRef (λ (rest : List T). rest)) old xs new → reverse new ≡ drop (length xs) (reverse old)
+  back_passed [] old new e = ap reverse (sym e)
+  back_passed (x ∷ xs) old new y =
+      back_passed xs y.0 new y.2 ∙ ap (drop (suc (length xs))) (sym (backwards_first old y.0 (Some x) y.1))
+
+  pub nth_back_found : (n : ℕ) (old new : List T) (r : Option (Bor T)) → SkipsThenYields (YieldsLastRef (λ (rest : List T). rest)) old n r new → (option_copied r ≡ slice_get (reverse old) n) × (reverse new ≡ drop (n + 1) (reverse old))
+  nth_back_found n old new None h =
+      let passed : [] ≡ drop (length h.0) (reverse old) = sym (ap reverse h.1.2.0) ∙ back_passed h.0 old h.1.0 h.1.1 in
+      let few : length (reverse old) ≤ n = omega (arith, ap length passed, length-drop (length h.0) (reverse old), h.2) in
+      nth_found n (reverse old) [] (reverse new) None (sym (drop_all n (reverse old) few)) (refl, ap reverse h.1.2.1)
+  nth_back_found n old new (Some x) h =
+      nth_found n (reverse old) (reverse h.1.0) (reverse new) (Some x) (back_passed h.0 old h.1.0 h.1.1 ∙ ap (λ k. drop k (reverse old)) h.2) (backwards_first h.1.0 new (Some x) h.1.2)
+
+  -- what is left of a list's rows past n of them, or past all where fewer are left
+  pub rows_passed : (first past n k : ℕ) (rows left : List (List T)) → IsRemaining first past (length rows) → remaining first past rows ≡ left → k ≡ past - (length left - n) → remaining k past rows ≡ drop n left
+  rows_passed first past n k rows left h e ek =
+      let long : length left ≡ past - first = omega (arith, ap length e, length-left first past rows h) in
+      let m : k - first ≡ min n (length left) = omega (arith, h.ordered) in
+      let there : k ≡ first + (k - first) = omega (arith, h.ordered) in
+      ap (λ i. remaining i past rows) there
+      ∙ (remaining_past first past (k - first) rows (omega (arith, h.ordered)) ∙ past_most n (k - first) left (remaining first past rows) m e)
+
+  -- the first row after n others
+  pub nth_row_found : (n : ℕ) (xs mid rest : List (List T)) (r : Option (List T)) → mid ≡ drop n xs → YieldsFirst (λ (rest : List (List T)). rest) mid r rest → (r ≡ slice_get xs n) × (rest ≡ drop (n + 1) xs)
+  nth_row_found n xs mid rest None e h =
+      let l : [] ≡ drop n xs = sym h.0 ∙ e in
+      (ap (λ l. slice_get l 0) l ∙ get-drop n xs n 0 (omega arith), h.1 ∙ (ap (drop 1) l ∙ drop-drop 1 n xs))
+  nth_row_found n xs mid rest (Some x) e h =
+      let l : x ∷ rest ≡ drop n xs = sym h ∙ e in
+      (ap (λ l. slice_get l 0) l ∙ get-drop n xs n 0 (omega arith), ap (drop 1) l ∙ drop-drop 1 n xs)
 
   pub length-line_cells : (start count stride : ℕ) (cells : List T) → 0 < count → 0 < stride → start + (count - 1) * stride < length cells → length (line_cells start count stride cells) ≡ count
   length-line_cells start count stride cells some steps within =

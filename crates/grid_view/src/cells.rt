@@ -1,57 +1,65 @@
 //! An iterator over all cells of a view, row by row.
-ghost use Rattle.std.specs.Prelude.{◌≡◌, ◌^◌, ◌<◌, ⊤, [], length, zip, IfSome, Some};
-ghost use Rattle.std.specs.Iterator.{YieldsFirstRef, YieldsFirstBy, item_count, UpTo, at_most};
+ghost use Rattle.std.specs.Prelude.{◌≡◌, ◌+◌, ◌*◌, ◌^◌, ◌<◌, ⊤, [], length, zip, IfSome, Some};
+ghost use Rattle.std.specs.Iterator.{YieldsFirstRef, YieldsLastRef, YieldsFirstBy, YieldsLastBy, item_count, UpTo, at_most};
 ghost use Rattle.std.specs.Iterator.SizeHint.{IsWithinCount};
-ghost use Rattle.grid_base.specs.Table.{row_count, col_count, concat_rows};
-ghost use Rattle.grid_base.specs.Strides.{LinesInOrder};
+ghost use Rattle.grid_base.specs.Table.{row_count, col_count, concat_rows, IsSize};
+ghost use Rattle.grid_base.specs.Strides.{LinesInOrder, LinesInReverse};
 ghost use Rattle.grid_base.specs.declared.order.Order.TheVariants.{RowMajor};
-ghost use Rattle.grid_base.specs.Positions.{positions};
+ghost use Rattle.grid_base.specs.Positions.{positions, StandsAt};
+ghost use Rattle.grid_view.specs.IndexedIterators.{GivesCells};
 
 use crate::lines::{ViewLineIter, ViewRowIter, no_cells};
 use crate::view::GridView;
-use grid_base::{Order, Positions};
 use std::alloc::AllocError;
 use std::iter::FusedIterator;
 use std::marker::Model;
 
 impl<'a, T> GridView<'a, T> {
-    /// Returns an iterator over the cells, row by row.
+    /// Returns an iterator over the cells, row by row, from both ends.
     ///
     ///     [[1, 2], [3, 4]]   iter()   1, 2, 3, 4
     pub fn iter(&self) -> ViewIter<'a, T>
         ensures rest { result ≡ concat_rows self.now.rows }
         ensures runs { LinesInOrder T }
+        ensures runs_back { LinesInReverse T }
         ensures fits { length result < 2 ^ 64 }
     {
         ViewIter {
             line: no_cells(self.cells),
             rows: self.iter_rows(),
+            last: no_cells(self.cells),
             width: self.cols.count,
         }
     }
 
-    /// Returns an iterator over the cells, row by row, each with its row and its column.
+    /// Returns an iterator over the cells, row by row, each with its row and its column, from both ends.
     ///
     ///     [[1, 2], [3, 4]]   indexed_iter()   ((0, 0), 1), ((0, 1), 2), ((1, 0), 3), ((1, 1), 4)
     pub fn indexed_iter(&self) -> ViewIndexedIter<'a, T>
         ensures rest { result
             ≡ zip (positions RowMajor (row_count self.now.rows) (col_count self.now.rows))
             (concat_rows self.now.rows) }
+        ensures cells { GivesCells self.now.rows result }
+        ensures fits { length result < 2 ^ 64 }
     {
         let (rows, cols) = self.size();
         ViewIndexedIter {
-            positions: Positions::new(Order::RowMajor, rows, cols),
             cells: self.iter(),
+            rows,
+            cols,
+            row: 0,
+            col: 0,
         }
     }
 }
 
-/// An iterator over all cells of a view, row by row, seen as the list of those that remain.
+/// An iterator over all cells of a view, row by row, from both ends, seen as the list of those that remain.
 #[derive(Drop)]
 pub struct ViewIter<'a, T> {
-    // What is left of the row that is begun, and the rows that aren't.
+    // What is left of the row that is begun, the rows that aren't, and what is left of the row begun from its end.
     line: ViewLineIter<'a, T>,
     rows: ViewRowIter<'a, T>,
+    last: ViewLineIter<'a, T>,
     width: usize,
 }
 
@@ -62,9 +70,9 @@ impl<'a, T> Model for ViewIter<'a, T> {
 
     ghost Value = { List T };
 
-    ghost view = { λ a. a.line ++ concat_rows a.rows };
+    ghost view = { λ a. a.line ++ (concat_rows a.rows ++ a.last) };
 
-    ghost invariant = { λ a. AreCellsLeft a.width a.line a.rows };
+    ghost invariant = { λ a. AreCellsLeft a.width a.line a.rows a.last };
 }
 
 impl<'a, T> Iterator for ViewIter<'a, T> {
@@ -77,10 +85,13 @@ impl<'a, T> Iterator for ViewIter<'a, T> {
     fn next(&mut self) -> Option<&'a T> {
         match self.line.next() {
             Some(cell) => Some(cell),
-            None => {
-                self.line = self.rows.next()?;
-                self.line.next()
-            }
+            None => match self.rows.next() {
+                Some(line) => {
+                    self.line = line;
+                    self.line.next()
+                }
+                None => self.last.next(),
+            },
         }
     }
 
@@ -94,9 +105,26 @@ impl<'a, T> Iterator for ViewIter<'a, T> {
     }
 }
 
+impl<'a, T> DoubleEndedIterator for ViewIter<'a, T> {
+    ghost next_back_gives = { YieldsLastRef (λ rest. rest) };
+
+    fn next_back(&mut self) -> Option<&'a T> {
+        match self.last.next_back() {
+            Some(cell) => Some(cell),
+            None => match self.rows.next_back() {
+                Some(line) => {
+                    self.last = line;
+                    self.last.next_back()
+                }
+                None => self.line.next_back(),
+            },
+        }
+    }
+}
+
 impl<'a, T> ExactSizeIterator for ViewIter<'a, T> {
     fn len(&self) -> usize {
-        self.line.len() + self.rows.len() * self.width
+        self.line.len() + self.rows.len() * self.width + self.last.len()
     }
 }
 
@@ -113,27 +141,53 @@ impl<'a, T> Clone for ViewIter<'a, T> {
     fn clone(&self) -> Result<Self, AllocError> {
         let line = self.line.clone()?;
         let rows = self.rows.clone()?;
+        let last = self.last.clone()?;
         Ok(ViewIter {
             line,
             rows,
+            last,
             width: self.width,
         })
     }
 }
 
-/// An iterator over all cells of a view, row by row, each with its row and its column.
+/// An iterator over all cells of a view, row by row, each with its row and its column, from both ends. A step from the
+/// back takes a division.
 #[derive(Drop)]
 pub struct ViewIndexedIter<'a, T> {
-    positions: Positions,
     cells: ViewIter<'a, T>,
+    rows: usize,
+    cols: usize,
+    // The row and the column of the next cell.
+    row: usize,
+    col: usize,
 }
 
 impl<'a, T> Model for ViewIndexedIter<'a, T> {
-    ghost use Rattle.std.specs.Prelude.{ℕ, List, zip};
+    ghost use Rattle.std.specs.Prelude.{ℕ, List, length, zip};
+    ghost use Rattle.grid_view.specs.Cells.{ArePlaced, positions_from};
 
     ghost Value = { List ((ℕ × ℕ) × T) };
 
-    ghost view = { λ a. zip a.positions a.cells };
+    ghost view = { λ a. zip (positions_from a.rows a.cols a.row a.col) a.cells };
+
+    ghost invariant = { λ a. ArePlaced a.rows a.cols a.row a.col (length a.cells) };
+}
+
+// Returns the row and the column of the cell that comes after cell (row, col), row by row.
+fn place_after(rows: usize, cols: usize, row: usize, col: usize) -> (usize, usize)
+    requires fits { rows * cols < 2 ^ 64 }
+    requires size { IsSize rows cols }
+    requires row_in { row < rows }
+    requires col_in { col < cols }
+    ensures stands { StandsAt RowMajor rows cols result.0 result.1 }
+    ensures after { result.0 * cols + result.1 ≡ row * cols + col + 1 }
+{
+    if col + 1 < cols {
+        (row, col + 1)
+    } else {
+        (row + 1, 0)
+    }
 }
 
 #[tactic(auto, using(grid_base::proofs::PlacedCellLemmas::placed_cells))]
@@ -145,8 +199,11 @@ impl<'a, T> Iterator for ViewIndexedIter<'a, T> {
     ghost remaining = { item_count (λ rest. rest) };
 
     fn next(&mut self) -> Option<((usize, usize), &'a T)> {
-        let at = self.positions.next()?;
         let cell = self.cells.next()?;
+        let at = (self.row, self.col);
+        let (row, col) = place_after(self.rows, self.cols, at.0, at.1);
+        self.row = row;
+        self.col = col;
         Some((at, cell))
     }
 
@@ -155,6 +212,46 @@ impl<'a, T> Iterator for ViewIndexedIter<'a, T> {
         ensures upper { IfSome result.1 (UpTo (at_most (length self.now))) }
         ensures exact { result ≡ (length self.now, Some (length self.now)) }
     {
-        self.positions.hint(self.cells.len())
+        let left = self.len();
+        (left, Some(left))
+    }
+}
+
+#[tactic(auto, using(grid_base::proofs::PlacedCellLemmas::placed_cells))]
+impl<'a, T> DoubleEndedIterator for ViewIndexedIter<'a, T> {
+    ghost next_back_gives = { YieldsLastBy (λ item. (item.0, item.1.now)) (λ rest. rest) };
+
+    fn next_back(&mut self) -> Option<((usize, usize), &'a T)> {
+        let cell = self.cells.next_back()?;
+        let number = self.row * self.cols + self.col + self.cells.len();
+        Some(((number / self.cols, number % self.cols), cell))
+    }
+}
+
+impl<'a, T> ExactSizeIterator for ViewIndexedIter<'a, T> {
+    fn len(&self) -> usize {
+        self.cells.len()
+    }
+}
+
+impl<'a, T> FusedIterator for ViewIndexedIter<'a, T> {}
+
+/// Returns an iterator that stands at the same cells.
+///
+/// Cost: constant; it is always `Ok`, and takes no memory.
+impl<'a, T> Clone for ViewIndexedIter<'a, T> {
+    ghost is_clone = { λ it copy. copy ≡ it };
+
+    ghost is_infallible = { λ _. ⊤ };
+
+    fn clone(&self) -> Result<Self, AllocError> {
+        let cells = self.cells.clone()?;
+        Ok(ViewIndexedIter {
+            cells,
+            rows: self.rows,
+            cols: self.cols,
+            row: self.row,
+            col: self.col,
+        })
     }
 }

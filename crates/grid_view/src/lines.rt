@@ -1,5 +1,6 @@
 //! Iterators over a row or a column of a view, and over its rows and columns.
-ghost use Rattle.std.specs.Prelude.{◌≡◌, ◌+◌, ◌-◌, ◌*◌, ◌^◌, ◌<◌, ◌≤◌, ⊤, [], length, take, drop, IfSome, Some};
+ghost use Rattle.std.specs.Prelude.{◌≡◌, ◌+◌, ◌-◌, ◌*◌, ◌^◌, ◌<◌, ◌≤◌, ⊤, [], length, take, drop, slice_get, IfSome, Some};
+ghost use Rattle.std.specs.Option.{option_copied};
 ghost use Rattle.std.specs.Int.{div_ceil};
 ghost use Rattle.std.specs.Iterator.{YieldsFirstRef, YieldsLastRef, YieldsFirst, YieldsLast, item_count, UpTo, at_most};
 ghost use Rattle.std.specs.Iterator.SizeHint.{IsWithinCount};
@@ -122,6 +123,24 @@ impl<'a, T> Model for ViewLineIter<'a, T> {
     ghost invariant = { λ _. ⊤ };
 }
 
+impl<'a, T> ViewLineIter<'a, T> {
+    /// Passes over `n` cells and returns the next, or `None` if fewer remain.
+    ///
+    ///     [[1, 2, 3, 4]]   iter_row(0), then nth(2)   Some(3), and 4 remains
+    ///
+    /// Cost: the same time at every `n`, but `n` steps along a line whose cells come from the last stored.
+    pub fn nth(&mut self, n: usize) -> Option<&'a T>
+        ensures item { option_copied result ≡ slice_get self.old n }
+        ensures rest { self.new ≡ drop (n + 1) self.old }
+    {
+        if self.backwards {
+            self.line.nth_back(n)
+        } else {
+            self.line.nth(n)
+        }
+    }
+}
+
 impl<'a, T> Iterator for ViewLineIter<'a, T> {
     type Item = &'a T;
 
@@ -206,6 +225,22 @@ impl<'a, T> Model for ViewRowIter<'a, T> {
     ghost invariant = { λ a. IsRemaining a.ahead.start a.ahead.end (length a.view.rows) };
 }
 
+impl<'a, T> ViewRowIter<'a, T> {
+    /// Passes over `n` rows and returns the next, or `None` if fewer remain.
+    ///
+    ///     [[1, 2], [3, 4], [5, 6]]   iter_rows(), then nth(1)   3, 4; and 5, 6 remains
+    ///
+    /// Cost: the same time at every `n`.
+    pub fn nth(&mut self, n: usize) -> Option<ViewLineIter<'a, T>>
+        ensures item { result ≡ slice_get self.old n }
+        ensures rest { self.new ≡ drop (n + 1) self.old }
+    {
+        let left = self.len().saturating_sub(n);
+        self.ahead.start = self.ahead.end - left;
+        self.next()
+    }
+}
+
 impl<'a, T> Iterator for ViewRowIter<'a, T> {
     type Item = ViewLineIter<'a, T>;
 
@@ -223,8 +258,8 @@ impl<'a, T> Iterator for ViewRowIter<'a, T> {
         ensures upper { IfSome result.1 (UpTo (at_most (length self.now))) }
         ensures exact { result ≡ (length self.now, Some (length self.now)) }
     {
-        let len = self.len();
-        (len, Some(len))
+        let rows = self.len();
+        (rows, Some(rows))
     }
 }
 

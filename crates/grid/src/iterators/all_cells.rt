@@ -1,11 +1,12 @@
 //! Calls on all cells of a grid: `fill`, `fill_with`, `map`, `map_ref`.
-ghost use Rattle.std.specs.Prelude.{◌≡◌, [], length, IsOk, IfOk, IfErr, OnOk, OnErr};
+ghost use Rattle.std.specs.Prelude.{◌≡◌, [], length, Ok, IsOk, IfOk, IfErr, OnOk, OnErr};
 ghost use Rattle.std.specs.Fn.{FnReturnsAt};
 ghost use Rattle.grid_base.specs.Table.{row_count, col_count};
 ghost use Rattle.grid_base.specs.Order.{storage};
 ghost use Rattle.grid_base.specs.ClosureCalls.{MapsTo, CallableAtEach, CallableAtRefs, CallableTimes, Generates, PairsUp};
 ghost use Rattle.grid_base.specs.Clones.{ClonesAreEqual};
-ghost use Rattle.grid.specs.AllCells.{filled, CallableAtPositions, TabulatedBy, AnsweredBy};
+ghost use Rattle.grid.specs.AllCells.{filled, CallableAtPositions, TabulatedBy, AnsweredBy, ReachesThere, ReturnsThere};
+ghost use Rattle.grid.specs.Make.{FailsAt};
 
 use crate::Grid;
 use std::alloc::{AllocError, Allocator};
@@ -172,6 +173,53 @@ impl<T, A: Allocator> Grid<T, A> {
             col_count: self.col_count,
             order,
         })
+    }
+
+    /// Same as [`map_indexed`](Grid::map_indexed) of a closure that may fail. `Ok(Err(error))` is its first error, in
+    /// storage order; the cells that were made are dropped. `??` passes on either error.
+    ///
+    ///     [[1, 2], [3, 4]]   try_map_indexed(|_, x| 9u8.checked_sub(*x).ok_or("big"))   Ok(Ok([[8, 7], [6, 5]]))
+    ///
+    /// Requires: as `map_indexed`.
+    /// Fails: where memory is refused; the closure wasn't called.
+    /// Cost: one call for each cell, up to the first error; one allocation, before the first call.
+    pub fn try_map_indexed<U, E, F: Fn((usize, usize), &T) -> Result<U, E>>(
+        &self,
+        f: F,
+    ) -> Result<Result<Grid<U, A>, E>, AllocError>
+    where
+        A: Clone,
+        U: Drop,
+        requires { CallableAtPositions F.pre f self.now.rows }
+        ensures order { IfOk result (λ made. IfOk made (λ g. g.order ≡ self.now.order)) }
+        ensures rows { IfOk result (λ made. IfOk made
+            (λ g. row_count g.rows ≡ row_count self.now.rows)) }
+        ensures cols { IfOk result (λ made. IfOk made
+            (λ g. col_count g.rows ≡ col_count self.now.rows)) }
+        ensures cells { IfOk result (λ made. IfOk made (λ g.
+            TabulatedBy (λ f at p y. F.post f at p (Ok y)) f self.now.rows g.rows)) }
+        ensures answers { IfOk result (λ made. IfOk made (λ g.
+            AnsweredBy (λ f at p y. F.post f at p (Ok y)) f self.now.rows g.rows)) }
+        ensures failed { IfOk result (λ made. IfErr made (FailsAt
+            (ReturnsThere F.post f self.now.rows) self.now.order (row_count self.now.rows)
+            (col_count self.now.rows))) }
+    {
+        let (rows, cols) = self.size();
+        let alloc = self.allocator().clone()?;
+        let made = Grid::try_from_fn_with_order(
+            alloc,
+            rows,
+            cols,
+            self.order(),
+            |at|
+                requires { ReachesThere F.pre f self.now.rows at }
+                ensures { ReturnsThere F.post f self.entry.now.rows at result }
+            { f(at, &self[at]) },
+        );
+        match made {
+            Ok(made) => Ok(made),
+            Err(_) => Err(AllocError),
+        }
     }
 
     /// Replaces each cell by what the closure returns at its position and a reference to it, in storage order. The size and

@@ -17,7 +17,8 @@ fn weave_row<T>(mut row: Slots<T>, mut room: Slots<T>, groups: Groups) -> (Slots
     requires room { groups.lines * groups.count ≤ slots_len room }
     ensures room { SamePlaces room result.1 }
     ensures row { Refills row result.0 }
-    ensures woven { Woven groups.lines groups.width groups.at groups.count (slots_items row) (slots_items result.0) }
+    ensures woven { Woven groups.lines groups.width groups.at groups.count
+        (slots_items row) (slots_items result.0) }
 {
     let mut end = groups.lines * groups.width;
     row.move_run(end, &mut room, 0, groups.lines * groups.count);
@@ -42,7 +43,8 @@ fn unweave_row<T>(mut row: Slots<T>, mut room: Slots<T>, groups: Groups) -> (Slo
     requires room { groups.lines * groups.count ≤ slots_len room }
     ensures room { SamePlaces room result.1 }
     ensures row { Refills row result.0 }
-    ensures woven { Woven groups.lines groups.width groups.at groups.count (slots_items result.0) (slots_items row) }
+    ensures woven { Woven groups.lines groups.width groups.at groups.count
+        (slots_items result.0) (slots_items row) }
 {
     let kept = groups.lines * groups.width;
     let mut start = groups.at;

@@ -1,7 +1,7 @@
 -- The outer rows of the part have changed places.
 use Rattle.std.proofs.Common.{◌≡◌}
 use Rattle.grid_base.specs.Table.{row_count, col_count}
-use Rattle.grid_lines.proofs.PartLemmas.{Turning}
+use Rattle.grid_base.proofs.PartLemmas.{Turning}
 use Rattle.grid_lines.proofs.roll.reverse_rows.Given as goal
 
 abbrev pub invariant-loop-i : goal.invariant-loop-i

@@ -1,7 +1,7 @@
 -- Two parts that are reversed, and then both as one.
 use Rattle.std.proofs.Common.{◌≡◌, ◌+◌, ◌-◌, length, sym, ap, subst, arith}
 use Rattle.grid_base.specs.Blocks.{PartReversed}
-use Rattle.grid_lines.proofs.PartLemmas.{exchanged_by_reversals}
+use Rattle.grid_base.proofs.PartLemmas.{exchanged_by_reversals}
 use Rattle.grid_lines.proofs.RollLemmas.{rolled}
 use Rattle.grid_lines.proofs.roll.roll_rows.Goals as goal
 
