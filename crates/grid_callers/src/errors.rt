@@ -1,7 +1,7 @@
 //! Errors that go up by `?`.
-ghost use Rattle.std.specs.Prelude.{◌≡◌, ◌↔◌, ◌+◌, ◌<◌, IsErrOf, IfErr, OnOk, OnErr, Some, length, codes};
+ghost use Rattle.std.specs.Prelude.{◌≡◌, ◌↔◌, ◌+◌, ◌<◌, IsErrOf, IfErr, IfOk, OnOk, OnErr, Some, length, codes};
 ghost use Rattle.std.specs.List.{insert};
-ghost use Rattle.grid_base.specs.Table.{row_count};
+ghost use Rattle.grid_base.specs.Table.{row_count, col_count};
 ghost use Rattle.grid.specs.Edits.{FitsRow};
 ghost use Rattle.grid.specs.Make.{ExceedsMax};
 ghost use Rattle.grid_commands.specs.Errors.{stopped_text};
@@ -97,6 +97,16 @@ pub fn products(alloc: Global, rows: usize, cols: usize) -> anyhow::Result<Grid<
         row.checked_mul(col).ok_or(GridError::TooLarge)
     })??;
     Ok(grid)
+}
+
+/// Doubles each cell. One whose double doesn't fit is an error, and no grid is made.
+pub fn doubled(board: &Grid<u8>) -> Result<Grid<u8>, GridError>
+    ensures rows { IfOk result (λ made. row_count made.rows ≡ row_count board.now.rows) }
+    ensures cols { IfOk result (λ made. col_count made.rows ≡ col_count board.now.rows) }
+    ensures order { IfOk result (λ made. made.order ≡ board.now.order) }
+{
+    let made = board.try_map_indexed(|_at, x| x.checked_mul(2).ok_or(GridError::TooLarge))??;
+    Ok(made)
 }
 
 /// Makes a line, pushes it and runs commands, all by `?` in one error type of the library.

@@ -1,5 +1,5 @@
 //! Views: what a caller's contract says by the rows that are seen, with no proof file.
-ghost use Rattle.std.specs.Prelude.{◌≡◌, ◌+◌, ◌/◌, ◌<◌, ◌≤◌, ◌==◌, ◌↔◌, ◌&&◌, ◌||◌, IsTrue, IfOk, OnOk, OnErr, Any, All, length, map, reverse, sum, count_by, pos};
+ghost use Rattle.std.specs.Prelude.{◌≡◌, ◌+◌, ◌/◌, ◌<◌, ◌≤◌, ◌==◌, ◌↔◌, ◌&&◌, ◌||◌, IsTrue, IfOk, IfSome, OnOk, OnErr, Some, Any, All, length, map, reverse, sum, count_by, pos};
 ghost use Rattle.grid_base.specs.Table.{row, row_count, col_count, transposed, concat_rows, cell, InRange};
 ghost use Rattle.grid_base.specs.Symmetry.{act};
 ghost use Rattle.grid_view.specs.View.{sub_table};
@@ -41,6 +41,21 @@ pub fn halves(alloc: Global, view: &GridView<'_, u32>) -> Result<Vec<u32>, Alloc
     ensures { IfOk result (λ halves. halves.items ≡ map (λ y. y / 2) (concat_rows view.now.rows)) }
 {
     view.iter().map(|y| *y / 2).collect(alloc)
+}
+
+/// Returns a position of a cell that is `x`, found by a chain.
+pub fn position_of(view: &GridView<'_, u32>, x: u32) -> Option<(usize, usize)>
+    ensures { IfSome result (λ at. cell view.now.rows at.0 at.1 ≡ Some x) }
+{
+    let (at, _) = view.indexed_iter().find(|(_, cell)| **cell == x)?;
+    Some(at)
+}
+
+/// Returns how many cells off the diagonal are `x`.
+pub fn count_off_diagonal(view: &GridView<'_, u32>, x: u32) -> usize {
+    view.indexed_iter()
+        .filter(|((row, col), cell)| row != col && **cell == x)
+        .count()
 }
 
 /// Returns the lengths of the rows.

@@ -11,8 +11,6 @@ mod dropped;
 #[cfg(test)]
 mod fuse;
 #[cfg(test)]
-mod joins;
-#[cfg(test)]
 mod memory;
 #[cfg(test)]
 mod play;

@@ -8,9 +8,12 @@
 mod clones;
 mod commands;
 mod conversions;
+mod joins;
 mod makers;
 mod runs;
+mod sorts;
 mod state;
+mod texts;
 mod whole;
 
 use std::alloc::{AllocError, Global};
@@ -27,6 +30,9 @@ fn told(alloc: Global, kind: &str, name: &str, start: &str) -> Result<String, Al
         "make" => makers::told(alloc, name, start),
         "convert" => conversions::told(alloc, name, start),
         "clones" => clones::told(alloc, name, start),
+        "join" => joins::told(alloc, name, start),
+        "text" => texts::told(alloc, name, start),
+        "sort" => sorts::told(alloc, name, start),
         _ => Err(AllocError),
     }
 }

@@ -57,6 +57,27 @@ fn map_indexed(alloc: Global, grid: &Starved<'_>) -> Result<Told, AllocError> {
     told_of(alloc, mapped, grid, calls.get())
 }
 
+// The same, up to the first cell above a limit.
+fn try_map_indexed(alloc: Global, grid: &Starved<'_>, limit: i64) -> Result<Told, AllocError> {
+    let calls = Cell::new(0usize);
+    let mapped = grid.try_map_indexed(|(row, _), cell| {
+        calls.set(calls.get().wrapping_add(1));
+        if *cell <= limit {
+            Ok(cell.wrapping_mul(3).wrapping_add((row % 1000) as i64))
+        } else {
+            Err(*cell)
+        }
+    });
+    match mapped {
+        Ok(Ok(made)) => told_of::<()>(alloc, Ok(made), grid, calls.get()),
+        Ok(Err(cell)) => {
+            let told = answered::<Result<(), i64>, ()>(alloc, Ok(Err(cell)))?;
+            with_calls(with_grid(told, grid)?, calls.get())
+        }
+        Err(fault) => told_of(alloc, Err(fault), grid, calls.get()),
+    }
+}
+
 // The part of two rows and two columns from the second column on.
 fn sub_grid(alloc: Global, grid: &Starved<'_>) -> Result<Told, AllocError> {
     if grid.rows() < 2 || grid.cols() < 3 {
@@ -79,6 +100,8 @@ impl Attempt for Whole<'_> {
             "map" => map_by_tens(alloc, grid),
             "map_ref" => map_ref(alloc, &grid),
             "map_indexed" => map_indexed(alloc, &grid),
+            "try_map_indexed" => try_map_indexed(alloc, &grid, 6),
+            "try_map_indexed_up_to_4" => try_map_indexed(alloc, &grid, 4),
             "sub_grid" => sub_grid(alloc, &grid),
             _ => Err(AllocError),
         }

@@ -104,6 +104,7 @@ fn one_row_and_one_column(rt: HostRuntime) -> Result<(), Fail> {
         if 1 < grid.rows() && 2 < grid.cols() {
             assert!(rt; is_line(Some(grid.iter_row(1)), Some(&[4, 5, 6])));
             assert!(rt; is_line(Some(grid.iter_col(2)), Some(&[3, 6])));
+            assert_eq!(rt; grid.iter_row(1).nth(2), Some(&6));
         }
     }
     Ok(())

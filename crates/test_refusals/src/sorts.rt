@@ -1,0 +1,28 @@
+//! Sorts of rows and of columns.
+use crate::state::{answered, started, with_grid};
+use grid_sort::GridSort;
+use std::alloc::{AllocError, Global};
+use test_reference::fuse::Fuse;
+use test_support::requests::{Attempt, Told, told_in_turn};
+
+// A sort of the rows or the columns of the grid of a script, by the first cell of each.
+#[derive(Clone, Copy)]
+struct Sort<'s>(&'s str, &'s str);
+
+impl Attempt for Sort<'_> {
+    fn attempt(&self, alloc: Global, granted: u64) -> Result<Told, AllocError> {
+        let heap = Fuse::new(alloc, 0);
+        let mut grid = started(&heap, self.1)?.grid;
+        heap.grant(granted);
+        let sorted = match self.0 {
+            "rows" => grid.sort_rows_by(|mut a, mut b| a.next().cmp(&b.next())),
+            "cols" => grid.sort_cols_by(|mut a, mut b| a.next().cmp(&b.next())),
+            _ => return Err(AllocError),
+        };
+        with_grid(answered(alloc, sorted)?, &grid)
+    }
+}
+
+pub fn told(alloc: Global, name: &str, script: &str) -> Result<String, AllocError> {
+    told_in_turn(alloc, &Sort(name, script))
+}
