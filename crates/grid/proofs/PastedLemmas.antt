@@ -16,8 +16,8 @@ use Rattle.grid_base.proofs.TableLemmas.{IsFull, IsFull-cells, tabulate-cells, t
 use Rattle.grid_base.proofs.WriteLemmas.{get-set_same, get-set_other}
 use Rattle.grid_view.specs.View.{sub_table}
 use Rattle.grid.specs.Make.{HasSize, EachCellIs}
-use Rattle.grid.specs.Resize.{IsAt, InRow, InRows}
-use Rattle.grid.specs.Pasted.{in_part, counted_from, cell_of, overlaid, PartTaken, IsClipped, IsWithin, CellUpdated, CellsUpdated, PartUpdated, part_filled}
+use Rattle.grid.specs.Exchanged.{InRows, PartTaken}
+use Rattle.grid.specs.Pasted.{in_part, counted_from, cell_of, overlaid, IsClipped, IsWithin, CellUpdated, CellsUpdated, PartUpdated, part_filled}
 use Rattle.grid.proofs.FromViewLemmas.{part_size}
 
 -- a cell that a table hasn't
@@ -46,48 +46,6 @@ counted_after a k =
     rw (le-ltb (a + k) a (omega arith)) (ap Some same)
 
 module _ {T : Type 0} (at : ℕ × ℕ) where
-  pub part_none : (P : ℕ → ℕ → Type 0) (to from : GridValue T) → ((i j : ℕ) → P i j → ⊥) → PartTaken P at to from to from
-  part_none P to from none =
-      record {
-        order = refl;
-        rows = refl;
-        cols = refl;
-        left_rows = refl;
-        left_cols = refl;
-        taken = λ i j p. absurd (none i j p);
-        others = λ i j p. refl;
-        before = λ i j p. refl;
-        left_others = λ i j p. refl;
-      }
-
-  -- first the cells where P says, then those where Q says
-  part_both : (P Q R : ℕ → ℕ → Type 0) (to from mid rest new left : GridValue T) → ((i j : ℕ) → R i j → P i j ⊎ Q i j) → ((i j : ℕ) → P i j → R i j) → ((i j : ℕ) → Q i j → R i j) → ((i j : ℕ) → P i j → Q i j → ⊥) → PartTaken P at to from mid rest → PartTaken Q at mid rest new left → PartTaken R at to from new left
-  part_both P Q R to from mid rest new left either first second apart p q =
-      record {
-        order = q.order ∙ p.order;
-        rows = q.rows ∙ p.rows;
-        cols = q.cols ∙ p.cols;
-        left_rows = q.left_rows ∙ p.left_rows;
-        left_cols = q.left_cols ∙ p.left_cols;
-        taken = λ i j r.
-            ⊎_elim (λ a. q.others i j (λ b. apart i j a b) ∙ p.taken i j a) (λ b. q.taken i j b ∙ p.left_others i j (λ a. apart i j a b)) (either i j r);
-        others = λ i j r. q.others i j (λ b. r (second i j b)) ∙ p.others i j (λ a. r (first i j a));
-        before = λ i j b. q.before i j b ∙ p.before i j b;
-        left_others = λ i j r. q.left_others i j (λ b. r (second i j b)) ∙ p.left_others i j (λ a. r (first i j a));
-      }
-
-  pub part_row_next : (r k : ℕ) (to from mid rest new left : GridValue T) → PartTaken (InRow r k) at to from mid rest → PartTaken (IsAt r k) at mid rest new left → PartTaken (InRow r (k + 1)) at to from new left
-  part_row_next r k to from mid rest new left p q =
-      part_both (InRow r k) (IsAt r k) (InRow r (k + 1)) to from mid rest new left
-      (λ i j h. ⊎_elim {C = InRow r k i j ⊎ IsAt r k i j} (λ lt. inl (h.0, lt)) (λ ge. inr (h.0, omega (arith, ge, h.1))) (cases_lt j k))
-      (λ i j h. (h.0, omega (arith, h.1))) (λ i j h. (h.0, omega (arith, h.1))) (λ i j a b. omega (arith, a.1, b.1)) p q
-
-  pub part_rows_next : (k n : ℕ) (to from mid rest new left : GridValue T) → PartTaken (InRows k n) at to from mid rest → PartTaken (InRow k n) at mid rest new left → PartTaken (InRows (k + 1) n) at to from new left
-  part_rows_next k n to from mid rest new left p q =
-      part_both (InRows k n) (InRow k n) (InRows (k + 1) n) to from mid rest new left
-      (λ i j h. ⊎_elim {C = InRows k n i j ⊎ InRow k n i j} (λ lt. inl (lt, h.1)) (λ ge. inr (omega (arith, ge, h.0), h.1)) (cases_lt i k))
-      (λ i j h. (omega (arith, h.0), h.1)) (λ i j h. (omega (arith, h.0), h.1)) (λ i j a b. omega (arith, a.0, b.0)) p q
-
   -- the table that has the cells of a part, given by a formula
   module _ (m n : ℕ) (to from new left : GridValue T) (h : PartTaken (InRows m n) at to from new left) (f : ℕ → ℕ → Option T) (inside : (r c : ℕ) → r < m → c < n → cell from.rows r c ≡ f (at.0 + r) (at.1 + c)) (beyond : (r c : ℕ) → (m ≤ r) ⊎ (n ≤ c) → cell to.rows (at.0 + r) (at.1 + c) ≡ f (at.0 + r) (at.1 + c)) (before : (i j : ℕ) → (i < at.0) ⊎ (j < at.1) → cell to.rows i j ≡ f i j) where
     cell_from : (r c : ℕ) → cell new.rows (at.0 + r) (at.1 + c) ≡ f (at.0 + r) (at.1 + c)

@@ -13,10 +13,12 @@ use Rattle.grid_base.specs.GridValue.{GridValue}
 use Rattle.grid_base.proofs.StorageLemmas.{length-storage, get-storage, place_within}
 use Rattle.grid.specs.Make.{HasSize}
 use Rattle.grid.specs.Edits.{without_rows}
-use Rattle.grid.specs.Resize.{IsAt, InRow, InRows, CellsTaken, IsCorner, IsResized, cell_or}
+use Rattle.grid.specs.Exchanged.{InRows, PartTaken}
+use Rattle.grid.specs.Resize.{IsCorner, IsResized, cell_or}
 use Rattle.grid_base.specs.declared.words.Symmetry.TheVariants.{Transpose}
 use Rattle.grid_base.specs.Symmetry.{act}
 use Rattle.grid_base.proofs.TableLemmas.{IsFull-cells, rows-tabulate, tabulate-cells, tabulate-same, cell_past_rows}
+use Rattle.grid.proofs.ExchangeLemmas.{corner_taken, corner_kept}
 use Rattle.grid.proofs.SplitLemmas.{times_none}
 use Rattle.grid.proofs.ColEditLemmas.{rows-across, cols-across, cell-across}
 
@@ -27,46 +29,6 @@ product_some m n a b =
     omega (arith, product, b)
 
 module _ {T : Type 0} where
-  pub taken_none : (P : ℕ → ℕ → Type 0) (to from : GridValue T) → ((i j : ℕ) → P i j → ⊥) → CellsTaken P to from to from
-  taken_none P to from none =
-      record {
-        order = refl;
-        rows = refl;
-        cols = refl;
-        left_rows = refl;
-        left_cols = refl;
-        taken = λ i j p. absurd (none i j p);
-        others = λ i j p. refl;
-        left_others = λ i j p. refl;
-      }
-
-  -- first the cells where P says, then those where Q says
-  taken_both : (P Q R : ℕ → ℕ → Type 0) (to from mid rest new left : GridValue T) → ((i j : ℕ) → R i j → P i j ⊎ Q i j) → ((i j : ℕ) → P i j → R i j) → ((i j : ℕ) → Q i j → R i j) → ((i j : ℕ) → P i j → Q i j → ⊥) → CellsTaken P to from mid rest → CellsTaken Q mid rest new left → CellsTaken R to from new left
-  taken_both P Q R to from mid rest new left either first second apart p q =
-      record {
-        order = q.order ∙ p.order;
-        rows = q.rows ∙ p.rows;
-        cols = q.cols ∙ p.cols;
-        left_rows = q.left_rows ∙ p.left_rows;
-        left_cols = q.left_cols ∙ p.left_cols;
-        taken = λ i j r.
-            ⊎_elim (λ a. q.others i j (λ b. apart i j a b) ∙ p.taken i j a) (λ b. q.taken i j b ∙ p.left_others i j (λ a. apart i j a b)) (either i j r);
-        others = λ i j r. q.others i j (λ b. r (second i j b)) ∙ p.others i j (λ a. r (first i j a));
-        left_others = λ i j r. q.left_others i j (λ b. r (second i j b)) ∙ p.left_others i j (λ a. r (first i j a));
-      }
-
-  pub row_next : (r k : ℕ) (to from mid rest new left : GridValue T) → CellsTaken (InRow r k) to from mid rest → CellsTaken (IsAt r k) mid rest new left → CellsTaken (InRow r (k + 1)) to from new left
-  row_next r k to from mid rest new left p q =
-      taken_both (InRow r k) (IsAt r k) (InRow r (k + 1)) to from mid rest new left
-      (λ i j h. ⊎_elim {C = InRow r k i j ⊎ IsAt r k i j} (λ lt. inl (h.0, lt)) (λ ge. inr (h.0, omega (arith, ge, h.1))) (cases_lt j k))
-      (λ i j h. (h.0, omega (arith, h.1))) (λ i j h. (h.0, omega (arith, h.1))) (λ i j a b. omega (arith, a.1, b.1)) p q
-
-  pub rows_next : (k n : ℕ) (to from mid rest new left : GridValue T) → CellsTaken (InRows k n) to from mid rest → CellsTaken (InRow k n) mid rest new left → CellsTaken (InRows (k + 1) n) to from new left
-  rows_next k n to from mid rest new left p q =
-      taken_both (InRows k n) (InRow k n) (InRows (k + 1) n) to from mid rest new left
-      (λ i j h. ⊎_elim {C = InRows k n i j ⊎ InRow k n i j} (λ lt. inl (lt, h.1)) (λ ge. inr (omega (arith, ge, h.0), h.1)) (cases_lt i k))
-      (λ i j h. (omega (arith, h.0), h.1)) (λ i j h. (omega (arith, h.0), h.1)) (λ i j a b. omega (arith, a.0, b.0)) p q
-
   -- each cell of a table whose storage is as P says
   stored_cell : (P : T → Type 0) (o : Order) (t : List (List T)) → IsTable t → All P (storage o t) → (r c : ℕ) → InRange t r c → (x : T) × (cell t r c ≡ Some x) × P x
   stored_cell P o t h all r c p =
@@ -84,7 +46,7 @@ module _ {T : Type 0} where
         fresh = λ r c q p. absurd (omega (arith, q.0, ap length e));
       }
 
-  pub resized : (P : T → Type 0) (m n a b : ℕ) (to from new left : GridValue T) → 0 < m * n → HasSize m n to.rows → All P (storage to.order to.rows) → CellsTaken (InRows a b) to from new left → a ≤ m → a ≤ row_count from.rows → (m ≤ a) ⊎ (row_count from.rows ≤ a) → b ≤ n → b ≤ col_count from.rows → (n ≤ b) ⊎ (col_count from.rows ≤ b) → IsResized P m n from.rows new.rows
+  pub resized : (P : T → Type 0) (m n a b : ℕ) (to from new left : GridValue T) → 0 < m * n → HasSize m n to.rows → All P (storage to.order to.rows) → PartTaken (InRows a b) (0, 0) to from new left → a ≤ m → a ≤ row_count from.rows → (m ≤ a) ⊎ (row_count from.rows ≤ a) → b ≤ n → b ≤ col_count from.rows → (n ≤ b) ⊎ (col_count from.rows ≤ b) → IsResized P m n from.rows new.rows
   resized P m n a b to from new left some size all h am ar arest bn bc brest =
       let rows : row_count to.rows ≡ m = size.rows (λ z. omega (arith, some, z)) in
       let cols : col_count to.rows ≡ n = size.cols (λ z. omega (arith, some, z)) in
@@ -94,10 +56,10 @@ module _ {T : Type 0} where
           rows = λ z. h.rows ∙ rows;
           cols = λ z. h.cols ∙ cols;
         };
-        kept = λ r c p q. h.taken r c (within a m (row_count from.rows) r arest (omega (arith, q.0, h.rows, rows)) p.0, within b n (col_count from.rows) c brest (omega (arith, q.1, h.cols, cols)) p.1);
+        kept = λ r c p q. corner_taken (InRows a b) to from new left h r c (within a m (row_count from.rows) r arest (omega (arith, q.0, h.rows, rows)) p.0, within b n (col_count from.rows) c brest (omega (arith, q.1, h.cols, cols)) p.1);
         fresh = λ r c q out.
             let found = stored_cell P to.order to.rows to.table all r c (omega (arith, q.0, h.rows), omega (arith, q.1, h.cols)) in
-            (found.0, h.others r c (λ i. out (omega (arith, i.0, ar), omega (arith, i.1, bc))) ∙ found.1, found.2);
+            (found.0, corner_kept (InRows a b) to from new left h r c (λ i. out (omega (arith, i.0, ar), omega (arith, i.1, bc))) ∙ found.1, found.2);
       }
     where
       within : (a m k r : ℕ) → (m ≤ a) ⊎ (k ≤ a) → r < m → r < k → r < a

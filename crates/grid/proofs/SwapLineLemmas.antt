@@ -1,79 +1,123 @@
--- Two lines of a table that change places, cell by cell.
-use Rattle.std.proofs.Common.{◌≡◌, ◌≢◌, ℕ, ◌+◌, ◌<◌, Option, Some, None, List, [], ◌∷◌, length, set, get_or, IsSome, refl, subst, sym, ◌∙◌, ap, arith, ⊎_elim}
+-- Two rows or two columns of a table that change places, cell by cell.
+use Rattle.std.proofs.Common.{◌≡◌, ◌≢◌, ℕ, ◌+◌, ◌*◌, ◌<◌, ◌≤◌, Bool, true, false, nat_eq, if◌then◌else◌, Option, Some, None, List, [], ◌∷◌, length, set, get_or, IsSome, refl, sym, ◌∙◌, ap, arith, ⊎_elim}
+use Rattle.std.specs.Bool.{Decides}
 use Rattle.std.specs.List.{slice_get, swap}
 use Rattle.std.specs.Option.{unwrap_or}
-use Rattle.std.proofs.lemmas.List.{length-set, length-map}
 use Rattle.std.proofs.Math.ListN.{get_or-map}
+use Rattle.std.proofs.Math.Nat.{mul-le-mul_right}
+use Rattle.std.proofs.lemmas.List.{length-set, length-map}
 use Rattle.std.proofs.lemmas.List.Edits.{swap_is, length-swap}
 use Rattle.std.proofs.lemmas.Option.{slice_get-get_or, unwrap_or-slice_get}
-use Rattle.std.proofs.lemmas.Bool.{cases_eq}
+use Rattle.std.proofs.lemmas.Bool.{cases_lt}
+use Rattle.std.proofs.lemmas.Bool.Decides.{nat_tests}
+use Rattle.grid_base.specs.declared.order.Order.TheVariants.{RowMajor}
 use Rattle.grid_base.specs.Table.{row, row_count, col_count, cell, with_cell_of, exchanged, IsTable}
-use Rattle.grid_base.specs.GridValue.{GridValue}
+use Rattle.grid_base.specs.Order.{table_of}
+use Rattle.grid_base.specs.Blocks.{BlocksSwapped}
+use Rattle.grid_base.specs.GridValue.{GridValue, HoldsSize}
+use Rattle.grid_base.specs.declared.words.Symmetry.TheVariants.{Transpose}
+use Rattle.grid_base.specs.Symmetry.{act}
+use Rattle.grid_base.proofs.ActLemmas.{cell-act, rows-act, cols-act, IsTable-act}
 use Rattle.grid_base.proofs.TableLemmas.{IsSome_within, same_tables}
+use Rattle.grid_base.proofs.ViewLemmas.{view-rows, view-cols, view-table, view-cell}
 use Rattle.grid_base.proofs.WriteLemmas.{get-set_same, get-set_other}
 use Rattle.grid.specs.Parts.{cols_swapped}
 use Rattle.grid.proofs.CellThroughLemmas.{cell-with_same, cell-with_other, IsTable-of, rows-of, cols-of}
 
--- items of a list that change places
+if_cases : {X : Type 0} (P : X → Type 0) (c : Bool) (W : Type 0) (x y : X) → Decides c W → (W → P x) → ((W → ⊥) → P y) → P (if c then x else y)
+if_cases P true W x y d p q = p (d.0 refl)
+if_cases P false W x y d p q = q (λ w. let t = d.1 w in absurd (cc))
+
+-- the number of the item that comes to place k, where items a and b change places
+abbrev pub partner : ℕ → ℕ → ℕ → ℕ
+partner a b k = if nat_eq k b then a else if nat_eq k a then b else k
+
+pub partner_cases : (P : ℕ → Type 0) (a b k : ℕ) → (k ≡ b → P a) → (k ≢ b → k ≡ a → P b) → (k ≢ b → k ≢ a → P k) → P (partner a b k)
+partner_cases P a b k first second other =
+    if_cases P (nat_eq k b) (k ≡ b) a _ (grind (arith, nat_tests)) first
+    (λ nb. if_cases P (nat_eq k a) (k ≡ a) b k (grind (arith, nat_tests)) (second nb) (other nb))
+
+partner_within : (a b k m : ℕ) → a < m → b < m → k < m → partner a b k < m
+partner_within a b k m la lb lk = partner_cases (λ p. p < m) a b k (λ _. la) (λ _ _. lb) (λ _ _. lk)
+
+-- a list of which two items have changed places
 module _ {X : Type 0} where
-  pub get-swap_first : (xs : List X) (i j : ℕ) → i < length xs → j < length xs → slice_get (swap xs i j) i ≡ slice_get xs j
-  get-swap_first [] i j li lj = absurd (omega arith)
-  get-swap_first (d ∷ ys) i j li lj =
+  pub get-swap : (xs : List X) (a b k : ℕ) → a < length xs → b < length xs → slice_get (swap xs a b) k ≡ slice_get xs (partner a b k)
+  get-swap [] a b k la lb = absurd (omega arith)
+  get-swap (d ∷ ys) a b k la lb =
       let xs = d ∷ ys in
-      ap (λ v. slice_get v i) (sym (swap_is xs i j d li lj))
-      ∙ ⊎_elim (λ e.
-      ap (slice_get (set (set xs i (get_or xs j d)) j (get_or xs i d))) e
-      ∙ (get-set_same (set xs i (get_or xs j d)) j (get_or xs i d) (omega (arith, length-set xs i (get_or xs j d)))
-      ∙ (sym (slice_get-get_or xs i d li) ∙ ap (slice_get xs) e)))
-      (λ ne. get-set_other (set xs i (get_or xs j d)) j i (get_or xs i d) ne ∙ (get-set_same xs i (get_or xs j d) li ∙ sym (slice_get-get_or xs j d lj)))
-      (cases_eq i j)
-
-  pub get-swap_second : (xs : List X) (i j : ℕ) → i < length xs → j < length xs → slice_get (swap xs i j) j ≡ slice_get xs i
-  get-swap_second [] i j li lj = absurd (omega arith)
-  get-swap_second (d ∷ ys) i j li lj =
-      let xs = d ∷ ys in
-      ap (λ v. slice_get v j) (sym (swap_is xs i j d li lj))
-      ∙ (get-set_same (set xs i (get_or xs j d)) j (get_or xs i d) (omega (arith, length-set xs i (get_or xs j d))) ∙ sym (slice_get-get_or xs i d li))
-
-  pub get-swap_rest : (xs : List X) (i j k : ℕ) → i < length xs → j < length xs → k ≢ i → k ≢ j → slice_get (swap xs i j) k ≡ slice_get xs k
-  get-swap_rest [] i j k li lj ni nj = absurd (omega arith)
-  get-swap_rest (d ∷ ys) i j k li lj ni nj =
-      let xs = d ∷ ys in
-      ap (λ v. slice_get v k) (sym (swap_is xs i j d li lj))
-      ∙ (get-set_other (set xs i (get_or xs j d)) j k (get_or xs i d) nj ∙ get-set_other xs i k (get_or xs j d) ni)
+      let once = set xs a (get_or xs b d) in
+      ap (λ v. slice_get v k) (sym (swap_is xs a b d la lb))
+      ∙ partner_cases (λ p. slice_get (set once b (get_or xs a d)) k ≡ slice_get xs p) a b k
+      (λ e.
+      ap (slice_get (set once b (get_or xs a d))) e
+      ∙ (get-set_same once b (get_or xs a d) (omega (arith, length-set xs a (get_or xs b d))) ∙ sym (slice_get-get_or xs a d la)))
+      (λ nb e.
+      get-set_other once b k (get_or xs a d) nb
+      ∙ (ap (slice_get once) e ∙ (get-set_same xs a (get_or xs b d) la ∙ sym (slice_get-get_or xs b d lb))))
+      (λ nb na. get-set_other once b k (get_or xs a d) nb ∙ get-set_other xs a k (get_or xs b d) na)
 
   get_or_by : (xs ys : List X) (i j : ℕ) (d : X) → slice_get xs i ≡ slice_get ys j → get_or xs i d ≡ get_or ys j d
   get_or_by xs ys i j d e = sym (unwrap_or-slice_get xs i d) ∙ (ap (λ o. unwrap_or o d) e ∙ unwrap_or-slice_get ys j d)
 
+-- a table by its cells, where two lines of another have changed places
+module _ {T : Type 0} (t u : List (List T)) (h : IsTable t) (k : IsTable u) (rows : row_count u ≡ row_count t) (cols : col_count u ≡ col_count t) (a b : ℕ) where
+  pub swapped_rows : a < row_count t → b < row_count t → ((r c : ℕ) → r < row_count t → c < col_count t → cell u r c ≡ cell t (partner a b r) c) → u ≡ swap t a b
+  swapped_rows la lb cells =
+      let at_row : (r : ℕ) → row (swap t a b) r ≡ row t (partner a b r) = λ r. get_or_by (swap t a b) t r (partner a b r) [] (get-swap t a b r la lb) in
+      same_tables u (swap t a b) (rows ∙ sym (length-swap t a b))
+      (λ r lr. k.even r lr ∙ (cols ∙ sym (ap length (at_row r) ∙ h.even (partner a b r) (partner_within a b r _ la lb (omega arith)))))
+      (λ r c lr lc. cells r c (omega arith) (omega (arith, k.even r lr)) ∙ sym (ap (λ v. slice_get v c) (at_row r)))
+
+  pub swapped_cols : a < col_count t → b < col_count t → ((r c : ℕ) → r < row_count t → c < col_count t → cell u r c ≡ cell t r (partner a b c)) → u ≡ cols_swapped a b t
+  swapped_cols la lb cells =
+      let at_row : (r : ℕ) → row (cols_swapped a b t) r ≡ swap (row t r) a b = λ r. get_or-map (λ (line : List T). swap line a b) t r [] in
+      same_tables u (cols_swapped a b t) (rows ∙ sym (length-map t (λ (line : List T). swap line a b)))
+      (λ r lr. k.even r lr ∙ (cols ∙ sym (ap length (at_row r) ∙ (length-swap (row t r) a b ∙ h.even r (omega arith)))))
+      (λ r c lr lc.
+      let width : length (row t r) ≡ col_count t = h.even r (omega arith) in
+      cells r c (omega arith) (omega (arith, k.even r lr))
+      ∙ sym (ap (λ v. slice_get v c) (at_row r) ∙ get-swap (row t r) a b c (omega arith) (omega arith)))
+
+-- rows that are swapped as blocks of cells
+module _ {T : Type 0} (m n a b : ℕ) (old new : List T) (h : HoldsSize m n (length old)) where
+  apart : (i r c : ℕ) → r ≢ i → c < n → i * n ≤ r * n + c → i * n + n ≤ r * n + c
+  apart i r c ne lc le =
+      ⊎_elim {C = i * n + n ≤ r * n + c} (λ (lt : r < i). let below : r + 1 ≤ i = omega arith in absurd (omega (arith, mul-le-mul_right n below)))
+      (λ ge. let above : i + 1 ≤ r = omega arith in omega (arith, mul-le-mul_right n above)) (cases_lt r i)
+
+  pub rows_by_blocks : a < m → b < m → BlocksSwapped (a * n) (b * n) n old new → table_of RowMajor m n new ≡ swap (table_of RowMajor m n old) a b
+  rows_by_blocks la lb w =
+      let k : HoldsSize m n (length new) = rw w.length_stays h in
+      let rows = view-rows RowMajor m n old h in
+      let cols = view-cols RowMajor m n old h in
+      swapped_rows _ _ (view-table RowMajor m n old h) (view-table RowMajor m n new k) (view-rows RowMajor m n new k ∙ sym rows) (view-cols RowMajor m n new k ∙ sym cols) a b (omega arith) (omega arith)
+      (λ r c lr lc.
+      let r_in : r < m = omega arith in
+      let c_in : c < n = omega arith in
+      view-cell RowMajor m n new k r c r_in c_in
+      ∙ (partner_cases (λ p. slice_get new (r * n + c) ≡ slice_get old (p * n + c)) a b r
+      (λ e. ap (λ x. slice_get new (x * n + c)) e ∙ w.second c c_in)
+      (λ _ e. ap (λ x. slice_get new (x * n + c)) e ∙ w.first c c_in)
+      (λ nb na. w.others (r * n + c) (apart a r c na c_in) (apart b r c nb c_in))
+      ∙ sym (view-cell RowMajor m n old h (partner a b r) c (partner_within a b r m la lb r_in) c_in)))
+
+-- columns that are swapped as rows of the transposed table
+pub cols_by_rows : {T : Type 0} (t : List (List T)) (h : IsTable t) (a b : ℕ) (u v : List (List T)) → IsTable u → IsTable v → a < col_count t → b < col_count t → u ≡ swap (act Transpose t) a b → v ≡ act Transpose u → row_count v ≡ row_count t → col_count v ≡ col_count t → v ≡ cols_swapped a b t
+cols_by_rows t h a b u v hu hv la lb swapped back rows cols =
+    let turned = act Transpose t in
+    let u_rows : row_count u ≡ col_count t = ap row_count swapped ∙ (length-swap turned a b ∙ rows-act Transpose t) in
+    let u_cols : col_count u ≡ row_count t = omega (arith, rows, ap row_count back, rows-act Transpose u) in
+    swapped_cols t v h hv rows cols a b la lb
+    (λ r c lr lc.
+    ap (λ x. cell x r c) back
+    ∙ (cell-act Transpose u r c hu (omega arith) (omega arith)
+    ∙ (ap (λ x. cell x c r) swapped
+    ∙ (ap (λ x. slice_get x r) (get_or_by (swap turned a b) turned c (partner a b c) [] (get-swap turned a b c (omega (arith, rows-act Transpose t)) (omega (arith, rows-act Transpose t))))
+    ∙ cell-act Transpose t (partner a b c) r h (partner_within a b c _ la lb lc) lr))))
+
+-- cells that are exchanged one by one
 module _ {T : Type 0} where
-  -- the first k cells of lines a and b have changed places, where old and now say which cell is in a line and a place of it
-  pub record LinesSwapped (a b k : ℕ) (old now : ℕ → ℕ → Option T) : Type 0 where
-    pub first : (j : ℕ) → j < k → now a j ≡ old b j
-    pub second : (j : ℕ) → j < k → now b j ≡ old a j
-    pub others : (i j : ℕ) → (j < k → (i ≢ a) × (i ≢ b)) → now i j ≡ old i j
-
-  -- cell k of lines a and b have changed places
-  pub record CellsSwapped (a b k : ℕ) (now new : ℕ → ℕ → Option T) : Type 0 where
-    pub first : new a k ≡ now b k
-    pub second : new b k ≡ now a k
-    pub others : (i j : ℕ) → (j ≡ k → (i ≢ a) × (i ≢ b)) → new i j ≡ now i j
-
-  pub lines_none : (a b : ℕ) (old : ℕ → ℕ → Option T) → LinesSwapped a b 0 old old
-  lines_none a b old = record { first = λ j lt. absurd (omega arith); second = λ j lt. absurd (omega arith); others = λ i j h. refl }
-
-  pub lines_more : (a b k : ℕ) (old now new : ℕ → ℕ → Option T) → LinesSwapped a b k old now → CellsSwapped a b k now new → LinesSwapped a b (k + 1) old new
-  lines_more a b k old now new l c = record {
-    first = λ j lt.
-        ⊎_elim (λ e. ap (new a) e ∙ (c.first ∙ (l.others b k (λ below. absurd (omega arith)) ∙ ap (old b) (sym e))))
-        (λ ne. c.others a j (λ e. absurd (ne e)) ∙ l.first j (omega arith))
-        (cases_eq j k);
-    second = λ j lt.
-        ⊎_elim (λ e. ap (new b) e ∙ (c.second ∙ (l.others a k (λ below. absurd (omega arith)) ∙ ap (old a) (sym e))))
-        (λ ne. c.others b j (λ e. absurd (ne e)) ∙ l.second j (omega arith))
-        (cases_eq j k);
-    others = λ i j h. c.others i j (λ e. h (omega arith)) ∙ l.others i j (λ lt. h (omega arith));
-  }
-
   -- a cell that may be missing is written
   of-same : (t : List (List T)) → IsTable t → (r c : ℕ) (o : Option T) → r < row_count t → c < col_count t → IsSome o → cell (with_cell_of t r c o) r c ≡ o
   of-same t h r c None lr lc some = absurd (cc)
@@ -86,133 +130,56 @@ module _ {T : Type 0} where
   some_cell : (t : List (List T)) → IsTable t → (r c : ℕ) → r < row_count t → c < col_count t → IsSome (cell t r c)
   some_cell t h r c lr lc = IsSome_within (row t r) c (omega (arith, h.even r lr))
 
-  -- the cells of a table of which two are exchanged
-  module _ (t : List (List T)) (h : IsTable t) (p q : ℕ × ℕ) (pr : p.0 < row_count t) (pc : p.1 < col_count t) (qr : q.0 < row_count t) (qc : q.1 < col_count t) where
+  -- two rows of which the cells of a column are exchanged
+  module _ (t : List (List T)) (h : IsTable t) (a b k : ℕ) (la : a < row_count t) (lb : b < row_count t) (lk : k < col_count t) where
     once : List (List T)
-    once = with_cell_of t p.0 p.1 (cell t q.0 q.1)
+    once = with_cell_of t a k (cell t b k)
 
-    pub cell-exchanged_second : cell (exchanged t p q) q.0 q.1 ≡ cell t p.0 p.1
+    pub rows_exchanged : (i : ℕ) → cell (exchanged t (a, k) (b, k)) i k ≡ cell t (partner a b i) k
     unfolding once
-    cell-exchanged_second =
-        of-same once (IsTable-of t h p.0 p.1 (cell t q.0 q.1)) q.0 q.1 (cell t p.0 p.1)
-        (omega (arith, rows-of t h p.0 p.1 (cell t q.0 q.1))) (omega (arith, cols-of t h p.0 p.1 (cell t q.0 q.1)))
-        (some_cell t h p.0 p.1 pr pc)
+    rows_exchanged i =
+        let once_table = IsTable-of t h a k (cell t b k) in
+        partner_cases (λ p. cell (exchanged t (a, k) (b, k)) i k ≡ cell t p k) a b i
+        (λ e.
+        ap (λ x. cell (exchanged t (a, k) (b, k)) x k) e
+        ∙ of-same once once_table b k (cell t a k) (omega (arith, rows-of t h a k (cell t b k))) (omega (arith, cols-of t h a k (cell t b k))) (some_cell t h a k la lk))
+        (λ nb e.
+        of-other once once_table b k (cell t a k) i k (λ f. absurd (nb f))
+        ∙ (ap (λ x. cell once x k) e ∙ of-same t h a k (cell t b k) la lk (some_cell t h b k lb lk)))
+        (λ nb na. of-other once once_table b k (cell t a k) i k (λ f. absurd (nb f)) ∙ of-other t h a k (cell t b k) i k (λ f. absurd (na f)))
 
-    pub cell-exchanged_first : (p.0 ≡ q.0 → p.1 ≢ q.1) → cell (exchanged t p q) p.0 p.1 ≡ cell t q.0 q.1
+    pub others_kept : (i j : ℕ) → j ≢ k → cell (exchanged t (a, k) (b, k)) i j ≡ cell t i j
     unfolding once
-    cell-exchanged_first ne =
-        of-other once (IsTable-of t h p.0 p.1 (cell t q.0 q.1)) q.0 q.1 (cell t p.0 p.1) p.0 p.1 ne
-        ∙ of-same t h p.0 p.1 (cell t q.0 q.1) pr pc (some_cell t h q.0 q.1 qr qc)
+    others_kept i j ne = of-other once (IsTable-of t h a k (cell t b k)) b k (cell t a k) i j (λ _. ne) ∙ of-other t h a k (cell t b k) i j (λ _. ne)
 
-    pub cell-exchanged_other : (i j : ℕ) → (i ≡ p.0 → j ≢ p.1) → (i ≡ q.0 → j ≢ q.1) → cell (exchanged t p q) i j ≡ cell t i j
-    unfolding once
-    cell-exchanged_other i j np nq =
-        of-other once (IsTable-of t h p.0 p.1 (cell t q.0 q.1)) q.0 q.1 (cell t p.0 p.1) i j nq
-        ∙ of-other t h p.0 p.1 (cell t q.0 q.1) i j np
-
-  module _ (t : List (List T)) (h : IsTable t) (a b k : ℕ) where
-    -- the cells of two rows in a column
-    pub rows_step : a < row_count t → b < row_count t → k < col_count t → CellsSwapped a b k (cell t) (cell (exchanged t (a, k) (b, k)))
-    rows_step la lb lk = record {
-      first =
-          ⊎_elim (λ e.
-          ap (λ x. cell (exchanged t (a, k) (b, k)) x k) e ∙ (cell-exchanged_second t h (a, k) (b, k) la lk lb lk ∙ ap (λ x. cell t x k) e))
-          (λ ne. cell-exchanged_first t h (a, k) (b, k) la lk lb lk (λ e. absurd (ne e)))
-          (cases_eq a b);
-      second = cell-exchanged_second t h (a, k) (b, k) la lk lb lk;
-      others = λ i j n. cell-exchanged_other t h (a, k) (b, k) la lk lb lk i j (λ e f. (n f).0 e) (λ e f. (n f).1 e);
-    }
-
-    -- the cells of two columns in a row
-    pub cols_step : a < col_count t → b < col_count t → k < row_count t → CellsSwapped a b k (λ c r. cell t r c) (λ c r. cell (exchanged t (k, a) (k, b)) r c)
-    cols_step la lb lk = record {
-      first =
-          ⊎_elim (λ e.
-          ap (cell (exchanged t (k, a) (k, b)) k) e ∙ (cell-exchanged_second t h (k, a) (k, b) lk la lk lb ∙ ap (cell t k) e))
-          (λ ne. cell-exchanged_first t h (k, a) (k, b) lk la lk lb (λ _. ne))
-          (cases_eq a b);
-      second = cell-exchanged_second t h (k, a) (k, b) lk la lk lb;
-      others = λ i j n. cell-exchanged_other t h (k, a) (k, b) lk la lk lb j i (λ e f. (n e).0 f) (λ e f. (n e).1 f);
-    }
-
-  module _ (t u : List (List T)) (h : IsTable t) (k : IsTable u) (rows : row_count u ≡ row_count t) (cols : col_count u ≡ col_count t) (a b : ℕ) where
-    -- all cells of two rows
-    pub rows_end : a < row_count t → b < row_count t → LinesSwapped a b (col_count t) (cell t) (cell u) → u ≡ swap t a b
-    rows_end la lb l =
-        let width : (r : ℕ) → r < row_count t → length (row t r) ≡ col_count t = h.even in
-        same_tables u (swap t a b) (rows ∙ sym (length-swap t a b))
-        (λ r lr.
-        k.even r lr ∙ (cols
-        ∙ ⊎_elim (λ e. sym (ap (λ x. length (row (swap t a b) x)) e ∙ (ap length (get_or_by (swap t a b) t b a [] (get-swap_second t a b la lb)) ∙ h.even a la)))
-        (λ nb.
-        ⊎_elim (λ e. sym (ap (λ x. length (row (swap t a b) x)) e ∙ (ap length (get_or_by (swap t a b) t a b [] (get-swap_first t a b la lb)) ∙ h.even b lb)))
-        (λ na. sym (ap length (get_or_by (swap t a b) t r r [] (get-swap_rest t a b r la lb na nb)) ∙ h.even r (omega arith)))
-        (cases_eq r a))
-        (cases_eq r b)))
-        (λ r c lr lc.
-        let small : c < col_count t = omega (arith, k.even r lr) in
-        ⊎_elim (λ e.
-        ap (λ x. cell u x c) e ∙ (l.second c small
-        ∙ sym (ap (λ x. cell (swap t a b) x c) e ∙ ap (λ v. slice_get v c) (get_or_by (swap t a b) t b a [] (get-swap_second t a b la lb)))))
-        (λ nb.
-        ⊎_elim (λ e.
-        ap (λ x. cell u x c) e ∙ (l.first c small
-        ∙ sym (ap (λ x. cell (swap t a b) x c) e ∙ ap (λ v. slice_get v c) (get_or_by (swap t a b) t a b [] (get-swap_first t a b la lb)))))
-        (λ na. l.others r c (λ _. (na, nb)) ∙ sym (ap (λ v. slice_get v c) (get_or_by (swap t a b) t r r [] (get-swap_rest t a b r la lb na nb))))
-        (cases_eq r a))
-        (cases_eq r b))
-
-    -- all cells of two columns
-    pub cols_end : a < col_count t → b < col_count t → LinesSwapped a b (row_count t) (λ c r. cell t r c) (λ c r. cell u r c) → u ≡ cols_swapped a b t
-    cols_end la lb l =
-        let at_row : (r : ℕ) → row (cols_swapped a b t) r ≡ swap (row t r) a b = λ r. get_or-map (λ (line : List T). swap line a b) t r [] in
-        same_tables u (cols_swapped a b t) (rows ∙ sym (length-map t (λ (line : List T). swap line a b)))
-        (λ r lr. k.even r lr ∙ (cols ∙ sym (ap length (at_row r) ∙ (length-swap (row t r) a b ∙ h.even r (omega arith)))))
-        (λ r c lr lc.
-        let below : r < row_count t = omega arith in
-        let aw : a < length (row t r) = omega (arith, h.even r below) in
-        let bw : b < length (row t r) = omega (arith, h.even r below) in
-        ⊎_elim (λ e.
-        ap (cell u r) e ∙ (l.second r below ∙ sym (ap (cell (cols_swapped a b t) r) e ∙ (ap (λ v. slice_get v b) (at_row r) ∙ get-swap_second (row t r) a b aw bw))))
-        (λ nb.
-        ⊎_elim (λ e.
-        ap (cell u r) e ∙ (l.first r below ∙ sym (ap (cell (cols_swapped a b t) r) e ∙ (ap (λ v. slice_get v a) (at_row r) ∙ get-swap_first (row t r) a b aw bw))))
-        (λ na. l.others c r (λ _. (na, nb)) ∙ sym (ap (λ v. slice_get v c) (at_row r) ∙ get-swap_rest (row t r) a b c aw bw na nb))
-        (cases_eq c a))
-        (cases_eq c b))
-
--- a table in which the first k cells of two rows, or of two columns, have changed places
+-- a table in which the first k cells of two rows have changed places
 pub record RowsSwapping {T : Type 0} (a b k : ℕ) (old now : GridValue T) : Type 0 where
   pub order : now.order ≡ old.order
   pub rows : row_count now.rows ≡ row_count old.rows
   pub cols : col_count now.rows ≡ col_count old.rows
-  pub lines : LinesSwapped a b k (cell old.rows) (cell now.rows)
+  pub swapped : (i j : ℕ) → j < k → cell now.rows i j ≡ cell old.rows (partner a b i) j
+  pub left : (i j : ℕ) → k ≤ j → cell now.rows i j ≡ cell old.rows i j
 
-pub record ColsSwapping {T : Type 0} (a b k : ℕ) (old now : GridValue T) : Type 0 where
-  pub order : now.order ≡ old.order
-  pub rows : row_count now.rows ≡ row_count old.rows
-  pub cols : col_count now.rows ≡ col_count old.rows
-  pub lines : LinesSwapped a b k (λ c r. cell old.rows r c) (λ c r. cell now.rows r c)
+module _ {T : Type 0} (a b k : ℕ) (old now : GridValue T) (h : RowsSwapping a b k old now) (la : a < row_count old.rows) (lb : b < row_count old.rows) where
+  pub rows_next : (new : GridValue T) → k < col_count old.rows → new.rows ≡ exchanged now.rows (a, k) (b, k) → row_count new.rows ≡ row_count now.rows → col_count new.rows ≡ col_count now.rows → new.order ≡ now.order → RowsSwapping a b (k + 1) old new
+  rows_next new lk e rows cols order =
+      let a_in : a < row_count now.rows = omega (arith, h.rows) in
+      let b_in : b < row_count now.rows = omega (arith, h.rows) in
+      let k_in : k < col_count now.rows = omega (arith, h.cols) in
+      let kept : (i j : ℕ) → j ≢ k → cell new.rows i j ≡ cell now.rows i j = λ i j ne. ap (λ x. cell x i j) e ∙ others_kept now.rows now.table a b k a_in b_in k_in i j ne in
+      record {
+        order = order ∙ h.order;
+        rows = rows ∙ h.rows;
+        cols = cols ∙ h.cols;
+        swapped = λ i j lj.
+            ⊎_elim (λ lt. kept i j (omega arith) ∙ h.swapped i j lt)
+            (λ ge.
+            let at : j ≡ k = omega arith in
+            ap (cell new.rows i) at
+            ∙ (ap (λ x. cell x i k) e ∙ (rows_exchanged now.rows now.table a b k a_in b_in k_in i ∙ (h.left (partner a b i) k (omega arith) ∙ ap (cell old.rows (partner a b i)) (sym at)))))
+            (cases_lt j k);
+        left = λ i j le. kept i j (omega arith) ∙ h.left i j (omega arith);
+      }
 
-module _ {T : Type 0} (a b k : ℕ) (old now : GridValue T) where
-  pub rows_next : (new : GridValue T) → RowsSwapping a b k old now → a < row_count old.rows → b < row_count old.rows → k < col_count old.rows → new.rows ≡ exchanged now.rows (a, k) (b, k) → row_count new.rows ≡ row_count now.rows → col_count new.rows ≡ col_count now.rows → new.order ≡ now.order → RowsSwapping a b (k + 1) old new
-  rows_next new h la lb lk e rows cols order =
-      let Step : List (List T) → Type 0 = λ t. CellsSwapped a b k (cell now.rows) (cell t) in
-      let step : Step new.rows = subst Step (sym e) (rows_step now.rows now.table a b k (omega (arith, h.rows)) (omega (arith, h.rows)) (omega (arith, h.cols))) in
-      record { order = order ∙ h.order; rows = rows ∙ h.rows; cols = cols ∙ h.cols; lines = lines_more a b k _ _ _ h.lines step }
-
-  pub rows_done : RowsSwapping a b k old now → a < row_count old.rows → b < row_count old.rows → k ≡ col_count old.rows → now.rows ≡ swap old.rows a b
-  rows_done h la lb e =
-      let Lines : ℕ → Type 0 = λ n. LinesSwapped a b n (cell old.rows) (cell now.rows) in
-      rows_end old.rows now.rows old.table now.table h.rows h.cols a b la lb (subst Lines e h.lines)
-
-  pub cols_next : (new : GridValue T) → ColsSwapping a b k old now → a < col_count old.rows → b < col_count old.rows → k < row_count old.rows → new.rows ≡ exchanged now.rows (k, a) (k, b) → row_count new.rows ≡ row_count now.rows → col_count new.rows ≡ col_count now.rows → new.order ≡ now.order → ColsSwapping a b (k + 1) old new
-  cols_next new h la lb lk e rows cols order =
-      let Step : List (List T) → Type 0 = λ t. CellsSwapped a b k (λ c r. cell now.rows r c) (λ c r. cell t r c) in
-      let step : Step new.rows = subst Step (sym e) (cols_step now.rows now.table a b k (omega (arith, h.cols)) (omega (arith, h.cols)) (omega (arith, h.rows))) in
-      record { order = order ∙ h.order; rows = rows ∙ h.rows; cols = cols ∙ h.cols; lines = lines_more a b k _ _ _ h.lines step }
-
-  pub cols_done : ColsSwapping a b k old now → a < col_count old.rows → b < col_count old.rows → k ≡ row_count old.rows → now.rows ≡ cols_swapped a b old.rows
-  cols_done h la lb e =
-      let Lines : ℕ → Type 0 = λ n. LinesSwapped a b n (λ c r. cell old.rows r c) (λ c r. cell now.rows r c) in
-      cols_end old.rows now.rows old.table now.table h.rows h.cols a b la lb (subst Lines e h.lines)
+  pub rows_done : k ≡ col_count old.rows → now.rows ≡ swap old.rows a b
+  rows_done e = swapped_rows old.rows now.rows old.table now.table h.rows h.cols a b la lb (λ r c lr lc. h.swapped r c (omega arith))

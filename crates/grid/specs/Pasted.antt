@@ -55,21 +55,6 @@ module _ {T : Type 0} where
   part_filled at size w t = tabulate (row_count t) (col_count t)
       (λ i j. if in_part at size i j then Some w else cell t i j)
 
-  -- of two grids, the one from position `at` on has the cells of the other where P says; the sizes
-  -- stay, and all cells elsewhere
-  pub record PartTaken (P : ℕ → ℕ → Type 0) (at : ℕ × ℕ) (to from new left : GridValue T) : Type 0
-    where
-      pub order : new.order ≡ to.order
-      pub rows : row_count new.rows ≡ row_count to.rows
-      pub cols : col_count new.rows ≡ col_count to.rows
-      pub left_rows : row_count left.rows ≡ row_count from.rows
-      pub left_cols : col_count left.rows ≡ col_count from.rows
-      pub taken : (i j : ℕ) → P i j → cell new.rows (at.0 + i) (at.1 + j) ≡ cell from.rows i j
-      pub others : (i j : ℕ) → (P i j → ⊥)
-          → cell new.rows (at.0 + i) (at.1 + j) ≡ cell to.rows (at.0 + i) (at.1 + j)
-      pub before : (i j : ℕ) → (i < at.0) ⊎ (j < at.1) → cell new.rows i j ≡ cell to.rows i j
-      pub left_others : (i j : ℕ) → (P i j → ⊥) → cell left.rows i j ≡ cell from.rows i j
-
 -- a position is in the rows from a on and before b, and in the columns from c on and before d
 pub record IsWithin (a b c d i j : ℕ) : Type 0 where
   pub row_from : a ≤ i

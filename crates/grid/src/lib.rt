@@ -37,6 +37,7 @@ mod command;
 mod convert;
 mod display;
 mod edits;
+mod exchange;
 mod grid;
 mod iterators;
 mod macros;

@@ -1,12 +1,14 @@
 //! A part of a grid as a new grid, and rows or columns that change places.
-ghost use Rattle.std.specs.Prelude.{◌≡◌, ◌<◌, ◌≤◌, ◌+◌, IfOk};
+ghost use Rattle.std.specs.Prelude.{◌≡◌, ◌<◌, ◌≤◌, ◌+◌, ◌*◌, ◌^◌, IfOk, length};
 ghost use Rattle.std.specs.List.{swap};
+ghost use Rattle.grid_base.specs.Blocks.{BlocksSwapped};
 ghost use Rattle.grid_base.specs.Clones.{ClonesAreEqual};
 ghost use Rattle.grid_base.specs.Table.{row_count, col_count};
 ghost use Rattle.grid.specs.Make.{IsMade};
 ghost use Rattle.grid.specs.Parts.{sub_table, cols_swapped};
 
 use crate::Grid;
+use grid_base::{Flat, Order};
 use std::alloc::{AllocError, Allocator};
 
 impl<T, A: Allocator> Grid<T, A> {
@@ -42,8 +44,23 @@ impl<T, A: Allocator> Grid<T, A> {
     ///     [[1, 2], [3, 4], [5, 6]]   swap_rows(0, 2)   [[5, 6], [3, 4], [1, 2]]
     ///
     /// Requires: both are in range.
-    /// Cost: one swap for each column; no memory.
+    /// Cost: one swap for each column, in vector code along the storage; no memory.
     pub fn swap_rows(&mut self, a: usize, b: usize)
+        requires a_in { a < row_count self.old.rows }
+        requires b_in { b < row_count self.old.rows }
+        ensures rows { self.new.rows ≡ swap self.old.rows a b }
+        ensures row_count { row_count self.new.rows ≡ row_count self.old.rows }
+        ensures col_count { col_count self.new.rows ≡ col_count self.old.rows }
+        ensures order { self.new.order ≡ self.old.order }
+    {
+        match self.order {
+            Order::RowMajor => swap_lines(&mut self.flat, self.col_count, a, b),
+            Order::ColumnMajor => self.swap_cells_of_rows(a, b),
+        }
+    }
+
+    // Exchanges two rows cell by cell.
+    fn swap_cells_of_rows(&mut self, a: usize, b: usize)
         requires a_in { a < row_count self.old.rows }
         requires b_in { b < row_count self.old.rows }
         ensures rows { self.new.rows ≡ swap self.old.rows a b }
@@ -61,7 +78,7 @@ impl<T, A: Allocator> Grid<T, A> {
     ///     [[1, 2, 3], [4, 5, 6]]   swap_cols(0, 2)   [[3, 2, 1], [6, 5, 4]]
     ///
     /// Requires: both are in range.
-    /// Cost: one swap for each row; no memory.
+    /// Cost: one swap for each row, in vector code along the storage; no memory.
     pub fn swap_cols(&mut self, a: usize, b: usize)
         requires a_in { a < col_count self.old.rows }
         requires b_in { b < col_count self.old.rows }
@@ -70,8 +87,23 @@ impl<T, A: Allocator> Grid<T, A> {
         ensures col_count { col_count self.new.rows ≡ col_count self.old.rows }
         ensures order { self.new.order ≡ self.old.order }
     {
-        for row in 0..self.rows() {
-            self.swap((row, a), (row, b));
-        }
+        self.transpose();
+        self.swap_rows(a, b);
+        self.transpose();
+    }
+}
+
+// Exchanges two lines of so many cells.
+fn swap_lines<T, A: Allocator>(flat: &mut Flat<T, A>, width: usize, a: usize, b: usize)
+    requires a_in { a * width + width ≤ length flat.old }
+    requires b_in { b * width + width ≤ length flat.old }
+    requires fits { length flat.old < 2 ^ 64 }
+    ensures { BlocksSwapped (a * width) (b * width) width flat.old flat.new }
+{
+    if a < b {
+        flat.swap_blocks(a * width, b * width, width);
+    }
+    if b < a {
+        flat.swap_blocks(b * width, a * width, width);
     }
 }

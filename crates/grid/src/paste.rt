@@ -2,71 +2,13 @@
 ghost use Rattle.std.specs.Prelude.{◌≡◌, ◌+◌, ◌<◌, ◌≤◌, pos, OnOk, OnErr};
 ghost use Rattle.grid_base.specs.Clones.{ClonesAreEqual};
 ghost use Rattle.grid_base.specs.Table.{row_count, col_count, InRange};
-ghost use Rattle.grid.specs.Resize.{IsAt, InRow, InRows};
-ghost use Rattle.grid.specs.Pasted.{overlaid, part_filled, PartTaken, IsClipped, IsWithin, CallableInPart, CallableInRow, PartUpdated, CellsUpdated};
+ghost use Rattle.grid.specs.Pasted.{overlaid, part_filled, IsClipped, IsWithin, CallableInPart, CallableInRow, PartUpdated, CellsUpdated};
 
 use crate::Grid;
+use crate::exchange::exchange_part;
 use grid_view::GridView;
 use std::alloc::{AllocError, Allocator};
 use std::mem;
-
-// Exchanges the cell at a position of `from` with that of `to` as far behind position `at`.
-fn exchange_cell<T, A: Allocator>(
-    to: &mut Grid<T, A>,
-    from: &mut Grid<T, A>,
-    at: (usize, usize),
-    row: usize,
-    col: usize,
-)
-    requires to_row { at.0 + row < row_count to.old.rows }
-    requires to_col { at.1 + col < col_count to.old.rows }
-    requires from_row { row < row_count from.old.rows }
-    requires from_col { col < col_count from.old.rows }
-    ensures { PartTaken (IsAt row col) at to.old from.old to.new from.new }
-{
-    let _size = to.size();
-    mem::swap(
-        to.get_unchecked_mut(at.0 + row, at.1 + col),
-        from.get_unchecked_mut(row, col),
-    );
-}
-
-// Exchanges the first `cols` cells of a row of `from`, in the same way.
-fn exchange_row<T, A: Allocator>(
-    to: &mut Grid<T, A>,
-    from: &mut Grid<T, A>,
-    at: (usize, usize),
-    row: usize,
-    cols: usize,
-)
-    requires to_row { at.0 + row < row_count to.old.rows }
-    requires to_cols { at.1 + cols ≤ col_count to.old.rows }
-    requires from_row { row < row_count from.old.rows }
-    requires from_cols { cols ≤ col_count from.old.rows }
-    ensures { PartTaken (InRow row cols) at to.old from.old to.new from.new }
-{
-    for col in 0..cols {
-        exchange_cell(to, from, at, row, col);
-    }
-}
-
-// Exchanges the first `size.0` rows and `size.1` columns of `from`, in the same way.
-fn exchange_part<T, A: Allocator>(
-    to: &mut Grid<T, A>,
-    from: &mut Grid<T, A>,
-    at: (usize, usize),
-    size: (usize, usize),
-)
-    requires to_rows { at.0 + size.0 ≤ row_count to.old.rows }
-    requires to_cols { at.1 + size.1 ≤ col_count to.old.rows }
-    requires from_rows { size.0 ≤ row_count from.old.rows }
-    requires from_cols { size.1 ≤ col_count from.old.rows }
-    ensures { PartTaken (InRows size.0 size.1) at to.old from.old to.new from.new }
-{
-    for row in 0..size.0 {
-        exchange_row(to, from, at, row, size.1);
-    }
-}
 
 // Returns which cells of a line of `len` cells lie over `limit` numbers, where the first lies over a signed number: how many
 // come before them, over which number the first of them lies, and how many there are.

@@ -19,6 +19,12 @@ pub record BlocksSwapped {T : Type 0} (i j n : ℕ) (old new : List T) : Type 0 
   pub others : (k : ℕ) → (i ≤ k → i + n ≤ k) → (j ≤ k → j + n ≤ k)
       → slice_get new k ≡ slice_get old k
 
+-- the n cells from place i on are those of another list from place j on
+pub record BlockTaken {T : Type 0} (i j n : ℕ) (old from new : List T) : Type 0 where
+  pub length_stays : length new ≡ length old
+  pub taken : (x : ℕ) → x < n → slice_get new (i + x) ≡ slice_get from (j + x)
+  pub others : (k : ℕ) → (i ≤ k → i + n ≤ k) → slice_get new k ≡ slice_get old k
+
 -- the list after n swaps one after another, of the cells at start + k and start + k + shift, from k
 -- = 0 up
 unfoldable pub swapped_forward : {T : Type 0} → ℕ → ℕ → ℕ → List T → List T

@@ -1,6 +1,7 @@
 //! The vector of a grid's cells.
-ghost use Rattle.std.specs.Prelude.{◌≡◌, ◌<◌, [], length, swap, slice_get, Some};
+ghost use Rattle.std.specs.Prelude.{◌≡◌, ◌<◌, ◌≤◌, ◌+◌, [], length, swap, slice_get, Some};
 ghost use Rattle.std.specs.Borrow.{sem};
+ghost use Rattle.grid_base.specs.Blocks.{BlocksSwapped, BlockTaken};
 
 mod all_cells;
 mod blocks;
@@ -113,6 +114,40 @@ impl<T, A: Allocator> Flat<T, A> {
         ensures { self.new ≡ swap self.old i j }
     {
         self.cells.swap(i, j);
+    }
+
+    /// Exchanges the `n` cells from `i` on with those from `j` on, in vector code. No tally counts it.
+    ///
+    ///     [1, 2, 3, 4, 5]   swap_blocks(0, 3, 2)   [4, 5, 3, 1, 2]
+    ///
+    /// Requires: both blocks are in range, and the second begins behind the first.
+    pub fn swap_blocks(&mut self, i: usize, j: usize, n: usize)
+        requires apart { i + n ≤ j }
+        requires within { j + n ≤ length self.old }
+        ensures { BlocksSwapped i j n self.old self.new }
+    {
+        let (front, back) = self.cells.as_mut_slice().split_at_mut(j);
+        front[i..i + n].swap_with_slice(&mut back[..n]);
+    }
+
+    /// Exchanges the `n` cells from `i` on with those of another vector from `j` on, in vector code. No tally counts it.
+    ///
+    ///     [1, 2, 3, 4]   swap_with(1, [5, 6], 0, 2)   [1, 5, 6, 4], and [2, 3]
+    ///
+    /// Requires: both blocks are in range.
+    pub fn swap_with(&mut self, i: usize, other: &mut Flat<T, A>, j: usize, n: usize)
+        requires within { i + n ≤ length self.old }
+        requires within_other { j + n ≤ length other.old }
+        ensures taken { BlockTaken i j n self.old other.old self.new }
+        ensures given { BlockTaken j i n other.old self.old other.new }
+    {
+        blocks::swap_parts(
+            self.cells.as_mut_slice(),
+            i,
+            other.cells.as_mut_slice(),
+            j,
+            n,
+        );
     }
 
     /// Drops all cells.

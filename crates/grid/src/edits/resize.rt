@@ -2,65 +2,13 @@
 ghost use Rattle.std.specs.Prelude.{◌≡◌, ◌<◌, ◌≤◌, IsOk, OnOk, OnErr};
 ghost use Rattle.grid_base.specs.Table.{row_count, col_count, tabulate, InRange};
 ghost use Rattle.grid.specs.Make.{FailsBySize, IsOnlyDefault};
-ghost use Rattle.grid.specs.Resize.{IsAt, InRow, InRows, CellsTaken, IsCorner, IsResized, cell_or};
+ghost use Rattle.grid.specs.Resize.{IsCorner, IsResized, cell_or};
 
 use super::has_room;
+use crate::exchange::exchange_part;
 use crate::{Grid, GridError};
 use std::alloc::Allocator;
 use std::mem;
-
-// Exchanges the cells of two grids at a position.
-fn exchange_cell<T, A: Allocator>(
-    to: &mut Grid<T, A>,
-    from: &mut Grid<T, A>,
-    row: usize,
-    col: usize,
-)
-    requires to_in { InRange to.old.rows row col }
-    requires from_in { InRange from.old.rows row col }
-    ensures { CellsTaken (IsAt row col) to.old from.old to.new from.new }
-{
-    mem::swap(
-        to.get_unchecked_mut(row, col),
-        from.get_unchecked_mut(row, col),
-    );
-}
-
-// Exchanges the first `cols` cells of a row of two grids.
-fn exchange_row<T, A: Allocator>(
-    to: &mut Grid<T, A>,
-    from: &mut Grid<T, A>,
-    row: usize,
-    cols: usize,
-)
-    requires to_row { row < row_count to.old.rows }
-    requires to_cols { cols ≤ col_count to.old.rows }
-    requires from_row { row < row_count from.old.rows }
-    requires from_cols { cols ≤ col_count from.old.rows }
-    ensures { CellsTaken (InRow row cols) to.old from.old to.new from.new }
-{
-    for col in 0..cols {
-        exchange_cell(to, from, row, col);
-    }
-}
-
-// Exchanges the first `cols` cells of each of the first `rows` rows of two grids.
-fn exchange_rows<T, A: Allocator>(
-    to: &mut Grid<T, A>,
-    from: &mut Grid<T, A>,
-    rows: usize,
-    cols: usize,
-)
-    requires to_rows { rows ≤ row_count to.old.rows }
-    requires to_cols { cols ≤ col_count to.old.rows }
-    requires from_rows { rows ≤ row_count from.old.rows }
-    requires from_cols { cols ≤ col_count from.old.rows }
-    ensures { CellsTaken (InRows rows cols) to.old from.old to.new from.new }
-{
-    for row in 0..rows {
-        exchange_row(to, from, row, cols);
-    }
-}
 
 impl<T, A: Allocator> Grid<T, A> {
     /// Brings the grid to `rows` rows and `cols` columns. The cells at positions that stay in range stay there, those that
@@ -119,7 +67,8 @@ impl<T, A: Allocator> Grid<T, A> {
         let alloc = self.flat.allocator().clone()?;
         let mut grid = Grid::new_with_order(alloc, rows, cols, self.order())?;
         let (old_rows, old_cols) = self.size();
-        exchange_rows(&mut grid, self, rows.min(old_rows), cols.min(old_cols));
+        let size = (rows.min(old_rows), cols.min(old_cols));
+        exchange_part(&mut grid, self, (0, 0), size);
         *self = grid;
         Ok(())
     }

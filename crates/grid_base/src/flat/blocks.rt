@@ -1,6 +1,6 @@
 //! Parts of a slice that are reversed, and blocks that stand side by side and change places. No tally counts it.
 ghost use Rattle.std.specs.Prelude.{◌≡◌, ◌<◌, ◌≤◌, ◌+◌, ◌^◌, ◌++◌, length, take, drop, reverse};
-ghost use Rattle.grid_base.specs.Blocks.{BlocksExchanged, PartReversed};
+ghost use Rattle.grid_base.specs.Blocks.{BlocksExchanged, BlockTaken, PartReversed};
 
 // Fewer cells are moved one by one, since a call out of line would cost more.
 const SHORT_PART: usize = 16;
@@ -72,4 +72,14 @@ fn exchange_at_once<T>(cells: &mut [T], start: usize, first: usize, second: usiz
     ensures { BlocksExchanged start first second cells.old cells.new }
 {
     cells[start..start + first + second].rotate_left(first);
+}
+
+// Exchanges the `n` cells from `i` on with those of another slice from `j` on.
+pub(super) fn swap_parts<T>(cells: &mut [T], i: usize, others: &mut [T], j: usize, n: usize)
+    requires within { i + n ≤ length cells.old }
+    requires within_other { j + n ≤ length others.old }
+    ensures taken { BlockTaken i j n cells.old others.old cells.new }
+    ensures given { BlockTaken j i n others.old cells.old others.new }
+{
+    cells[i..i + n].swap_with_slice(&mut others[j..j + n]);
 }

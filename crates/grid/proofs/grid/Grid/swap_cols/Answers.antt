@@ -1,20 +1,9 @@
-use Rattle.std.proofs.Common.{rules, arith}
-use Rattle.grid.proofs.SwapLineLemmas.{cols_next, cols_done}
+use Rattle.std.proofs.Common.{rules}
+use Rattle.grid.proofs.SwapLineLemmas.{cols_by_rows}
 use Rattle.grid.proofs.grid.Grid.swap_cols.Goals as goal
 
-pub loop-row-preserved : goal.loop-row-preserved
-loop-row-preserved g c =
-    cols_next c.args.a c.args.b c.loop-row.row c.args.self.now c.loop-row.self c.swap.new.self c.loop-row.invariant c.requires.a_in c.requires.b_in (omega arith)
-    c.swap.ensures.rows c.swap.ensures.row_count c.swap.ensures.col_count c.swap.ensures.order
-
 pub returns-clause-rows : goal.returns-clause-rows
-returns-clause-rows g c = cols_done c.args.a c.args.b c.loop-row.row c.args.self.now c.loop-row.self c.loop-row.invariant c.requires.a_in c.requires.b_in (omega arith)
-
-pub returns-clause-row_count : goal.returns-clause-row_count
-returns-clause-row_count g c = search rules
-
-pub returns-clause-col_count : goal.returns-clause-col_count
-returns-clause-col_count g c = search rules
-
-pub returns-clause-order : goal.returns-clause-order
-returns-clause-order g c = search rules
+returns-clause-rows g c =
+    let rows = c.transpose.ensures.rows in
+    cols_by_rows c.args.self.now.rows c.args.self.now.table c.args.a c.args.b c.swap_rows.new.self.rows c.transpose-2.new.self.rows c.swap_rows.new.self.table c.transpose-2.new.self.table
+    c.requires.a_in c.requires.b_in (rw (← rows) c.swap_rows.ensures.rows) c.transpose-2.ensures.rows (search rules) (search rules)

@@ -1,20 +1,32 @@
-use Rattle.std.proofs.Common.{rules, arith}
-use Rattle.grid.proofs.SwapLineLemmas.{rows_next, rows_done}
+use Rattle.std.proofs.Common.{rules, ◌≤◌, ◌+◌, ◌*◌, sym, ◌∙◌, ap, arith}
+use Rattle.std.specs.List.{swap}
+use Rattle.std.proofs.Math.Nat.{mul-le-mul_right}
+use Rattle.std.proofs.lemmas.List.Edits.{length-swap}
+use Rattle.grid_base.specs.Table.{row_count, col_count}
+use Rattle.grid_base.proofs.ViewLemmas.{view-cols}
+use Rattle.grid.proofs.SeenLemmas.{seen_rows, seen_cols}
+use Rattle.grid.proofs.SwapLineLemmas.{rows_by_blocks}
 use Rattle.grid.proofs.grid.Grid.swap_rows.Goals as goal
 
-pub loop-col-preserved : goal.loop-col-preserved
-loop-col-preserved g c =
-    rows_next c.args.a c.args.b c.loop-col.col c.args.self.now c.loop-col.self c.swap.new.self c.loop-col.invariant c.requires.a_in c.requires.b_in (omega arith)
-    c.swap.ensures.rows c.swap.ensures.row_count c.swap.ensures.col_count c.swap.ensures.order
+pub swap_lines-requires-clause-a_in : goal.swap_lines-requires-clause-a_in
+swap_lines-requires-clause-a_in g c =
+    let next : c.args.a + 1 ≤ c.self.inside.row_count = omega (arith, c.requires.a_in, seen_rows _ _ _ _ _ c.self.inside.fits c.self.view_is) in
+    omega (arith, c.self.inside.fits.cells, mul-le-mul_right c.self.inside.col_count next)
 
-pub returns-clause-rows : goal.returns-clause-rows
-returns-clause-rows g c = rows_done c.args.a c.args.b c.loop-col.col c.args.self.now c.loop-col.self c.loop-col.invariant c.requires.a_in c.requires.b_in (omega arith)
+pub swap_lines-requires-clause-b_in : goal.swap_lines-requires-clause-b_in
+swap_lines-requires-clause-b_in g c =
+    let next : c.args.b + 1 ≤ c.self.inside.row_count = omega (arith, c.requires.b_in, seen_rows _ _ _ _ _ c.self.inside.fits c.self.view_is) in
+    omega (arith, c.self.inside.fits.cells, mul-le-mul_right c.self.inside.col_count next)
 
-pub returns-clause-row_count : goal.returns-clause-row_count
-returns-clause-row_count g c = search rules
+pub returns-in-RowMajor-clause-rows : goal.returns-in-RowMajor-clause-rows
+returns-in-RowMajor-clause-rows g c =
+    let rows = seen_rows _ _ _ _ _ c.self.inside.fits c.self.view_is in
+    rw (← c.self.view_is, c.in-RowMajor.is)
+    (rows_by_blocks _ _ _ _ _ _ c.self.inside.fits (omega (arith, c.requires.a_in, rows)) (omega (arith, c.requires.b_in, rows)) c.swap_lines.ensures)
 
-pub returns-clause-col_count : goal.returns-clause-col_count
-returns-clause-col_count g c = search rules
+pub returns-in-RowMajor-clause-row_count : goal.returns-in-RowMajor-clause-row_count
+returns-in-RowMajor-clause-row_count g c = ap row_count (returns-in-RowMajor-clause-rows g c) ∙ length-swap _ _ _
 
-pub returns-clause-order : goal.returns-clause-order
-returns-clause-order g c = search rules
+pub returns-in-RowMajor-clause-col_count : goal.returns-in-RowMajor-clause-col_count
+returns-in-RowMajor-clause-col_count g c =
+    view-cols c.self.inside.order _ _ _ (rw c.swap_lines.ensures.length_stays c.self.inside.fits) ∙ sym (seen_cols _ _ _ _ _ c.self.inside.fits c.self.view_is)

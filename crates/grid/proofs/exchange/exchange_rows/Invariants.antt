@@ -1,6 +1,5 @@
-use Rattle.grid.specs.Resize.{InRows}
-use Rattle.grid.specs.Pasted.{PartTaken}
-use Rattle.grid.proofs.paste.exchange_part.Given as goal
+use Rattle.grid.specs.Exchanged.{InRows, PartTaken}
+use Rattle.grid.proofs.exchange.exchange_rows.Given as goal
 
 abbrev pub invariant-loop-row : goal.invariant-loop-row
 invariant-loop-row g l = PartTaken (InRows l.row l.size.1) l.at l.fn.to l.fn.from l.to l.from

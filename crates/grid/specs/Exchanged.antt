@@ -1,0 +1,28 @@
+-- Parts of two grids that change places. Only contracts of private calls cite this module.
+use Rattle.std.specs.Prelude.{◌≡◌, ◌⊎◌, ℕ, ◌+◌, ◌<◌, List}
+use Rattle.grid_base.specs.Table.{row_count, col_count, cell}
+use Rattle.grid_base.specs.GridValue.{GridValue}
+
+-- a position is among the first n of row r; is in the first m rows and n columns
+abbrev pub InRow : (r n i j : ℕ) → Type 0
+InRow r n i j = (i ≡ r) × (j < n)
+
+abbrev pub InRows : (m n i j : ℕ) → Type 0
+InRows m n i j = (i < m) × (j < n)
+
+module _ {T : Type 0} where
+  -- of two grids, the one from position `at` on has the cells of the other where P says; the sizes
+  -- and orders stay, and all cells elsewhere
+  pub record PartTaken (P : ℕ → ℕ → Type 0) (at : ℕ × ℕ) (to from new left : GridValue T) : Type 0
+    where
+      pub order : new.order ≡ to.order
+      pub rows : row_count new.rows ≡ row_count to.rows
+      pub cols : col_count new.rows ≡ col_count to.rows
+      pub left_order : left.order ≡ from.order
+      pub left_rows : row_count left.rows ≡ row_count from.rows
+      pub left_cols : col_count left.rows ≡ col_count from.rows
+      pub taken : (i j : ℕ) → P i j → cell new.rows (at.0 + i) (at.1 + j) ≡ cell from.rows i j
+      pub others : (i j : ℕ) → (P i j → ⊥)
+          → cell new.rows (at.0 + i) (at.1 + j) ≡ cell to.rows (at.0 + i) (at.1 + j)
+      pub before : (i j : ℕ) → (i < at.0) ⊎ (j < at.1) → cell new.rows i j ≡ cell to.rows i j
+      pub left_others : (i j : ℕ) → (P i j → ⊥) → cell left.rows i j ≡ cell from.rows i j

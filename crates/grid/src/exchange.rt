@@ -1,0 +1,77 @@
+//! Parts of two grids of one order that change places.
+ghost use Rattle.std.specs.Prelude.{◌≡◌, ◌+◌, ◌<◌, ◌≤◌};
+ghost use Rattle.grid_base.specs.declared.order.Order.TheVariants.{RowMajor};
+ghost use Rattle.grid_base.specs.Table.{row_count, col_count};
+ghost use Rattle.grid.specs.Exchanged.{InRow, InRows, PartTaken};
+
+use crate::Grid;
+use grid_base::Order;
+use std::alloc::Allocator;
+
+// Exchanges the first `size.0` rows and `size.1` columns of `from` with as many of `to` from position `at` on.
+pub(crate) fn exchange_part<T, A: Allocator>(
+    to: &mut Grid<T, A>,
+    from: &mut Grid<T, A>,
+    at: (usize, usize),
+    size: (usize, usize),
+)
+    requires orders { from.old.order ≡ to.old.order }
+    requires to_rows { at.0 + size.0 ≤ row_count to.old.rows }
+    requires to_cols { at.1 + size.1 ≤ col_count to.old.rows }
+    requires from_rows { size.0 ≤ row_count from.old.rows }
+    requires from_cols { size.1 ≤ col_count from.old.rows }
+    ensures { PartTaken (InRows size.0 size.1) at to.old from.old to.new from.new }
+{
+    match to.order {
+        Order::RowMajor => exchange_rows(to, from, at, size),
+        Order::ColumnMajor => {
+            to.transpose();
+            from.transpose();
+            exchange_rows(to, from, (at.1, at.0), (size.1, size.0));
+            to.transpose();
+            from.transpose();
+        }
+    }
+}
+
+// The same in row-major order.
+fn exchange_rows<T, A: Allocator>(
+    to: &mut Grid<T, A>,
+    from: &mut Grid<T, A>,
+    at: (usize, usize),
+    size: (usize, usize),
+)
+    requires order { to.old.order ≡ RowMajor }
+    requires from_order { from.old.order ≡ RowMajor }
+    requires to_rows { at.0 + size.0 ≤ row_count to.old.rows }
+    requires to_cols { at.1 + size.1 ≤ col_count to.old.rows }
+    requires from_rows { size.0 ≤ row_count from.old.rows }
+    requires from_cols { size.1 ≤ col_count from.old.rows }
+    ensures { PartTaken (InRows size.0 size.1) at to.old from.old to.new from.new }
+{
+    for row in 0..size.0 {
+        exchange_row(to, from, at, row, size.1);
+    }
+}
+
+// Exchanges the first `cols` cells of a row of `from`, which stand together, with as many of `to`.
+fn exchange_row<T, A: Allocator>(
+    to: &mut Grid<T, A>,
+    from: &mut Grid<T, A>,
+    at: (usize, usize),
+    row: usize,
+    cols: usize,
+)
+    requires order { to.old.order ≡ RowMajor }
+    requires from_order { from.old.order ≡ RowMajor }
+    requires to_row { at.0 + row < row_count to.old.rows }
+    requires to_cols { at.1 + cols ≤ col_count to.old.rows }
+    requires from_row { row < row_count from.old.rows }
+    requires from_cols { cols ≤ col_count from.old.rows }
+    ensures { PartTaken (InRow row cols) at to.old from.old to.new from.new }
+{
+    let (width, from_width) = (to.col_count, from.col_count);
+    let start = (at.0 + row) * width + at.1;
+    to.flat
+        .swap_with(start, &mut from.flat, row * from_width, cols);
+}
