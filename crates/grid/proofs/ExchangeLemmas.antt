@@ -1,5 +1,5 @@
 -- A part of a row-major grid that changes places with cells of another, line by line.
-use Rattle.std.proofs.Common.{◌≡◌, ◌≢◌, ◌⊎◌, ℕ, ◌+◌, ◌*◌, ◌^◌, ◌<◌, ◌≤◌, List, length, refl, sym, ◌∙◌, ap, arith, inl, inr, ⊎_elim}
+use Rattle.std.proofs.Common.{◌≡◌, ◌⊎◌, ℕ, ◌+◌, ◌*◌, ◌^◌, ◌<◌, ◌≤◌, List, length, refl, sym, ◌∙◌, ap, arith, inl, inr, ⊎_elim}
 use Rattle.std.proofs.lemmas.Bool.{cases_lt, cases_eq}
 use Rattle.std.proofs.Math.Nat.{mul-le-mul_right}
 use Rattle.std.specs.List.{slice_get}
@@ -8,7 +8,7 @@ use Rattle.grid_base.specs.declared.order.Order.TheVariants.{RowMajor}
 use Rattle.grid_base.specs.declared.words.Symmetry.TheVariants.{Transpose}
 use Rattle.grid_base.specs.Blocks.{BlockTaken}
 use Rattle.grid_base.specs.GridValue.{GridValue, HoldsSize}
-use Rattle.grid_base.specs.Order.{table_of, flipped}
+use Rattle.grid_base.specs.Order.{table_of}
 use Rattle.grid_base.specs.Symmetry.{act}
 use Rattle.grid_base.specs.Table.{row_count, col_count, cell}
 use Rattle.grid_base.proofs.ActLemmas.{rows-act, cols-act}

@@ -1,5 +1,5 @@
 -- A grid that is made at the size of a table by a closure that is called at the cells there.
-use Rattle.std.proofs.Common.{◌≡◌, ℕ, zero, suc, ◌*◌, ◌<◌, List, [], Some, Option, Result, Ok, Err, IfOk, IsSomeAnd, refl, sym, subst, ◌∙◌, ap, arith}
+use Rattle.std.proofs.Common.{◌≡◌, ℕ, zero, suc, ◌<◌, List, Some, Option, Result, Ok, Err, IfOk, IsSomeAnd, sym, subst, ◌∙◌, ap, arith}
 use Rattle.std.specs.Prelude.{IfErr}
 use denote.Ref.{Bor}
 use Rattle.grid_base.specs.declared.order.Order.{Order}

@@ -17,7 +17,7 @@ use Rattle.grid_base.specs.Blocks.{BlocksSwapped}
 use Rattle.grid_base.specs.GridValue.{GridValue, HoldsSize}
 use Rattle.grid_base.specs.declared.words.Symmetry.TheVariants.{Transpose}
 use Rattle.grid_base.specs.Symmetry.{act}
-use Rattle.grid_base.proofs.ActLemmas.{cell-act, rows-act, cols-act, IsTable-act}
+use Rattle.grid_base.proofs.ActLemmas.{cell-act, rows-act}
 use Rattle.grid_base.proofs.TableLemmas.{IsSome_within, same_tables}
 use Rattle.grid_base.proofs.ViewLemmas.{view-rows, view-cols, view-table, view-cell}
 use Rattle.grid_base.proofs.WriteLemmas.{get-set_same, get-set_other}

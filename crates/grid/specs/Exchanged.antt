@@ -1,5 +1,5 @@
 -- Parts of two grids that change places. Only contracts of private calls cite this module.
-use Rattle.std.specs.Prelude.{◌≡◌, ◌⊎◌, ℕ, ◌+◌, ◌<◌, List}
+use Rattle.std.specs.Prelude.{◌≡◌, ◌⊎◌, ℕ, ◌+◌, ◌<◌}
 use Rattle.grid_base.specs.Table.{row_count, col_count, cell}
 use Rattle.grid_base.specs.GridValue.{GridValue}
 

@@ -1,4 +1,4 @@
-use Rattle.std.proofs.Common.{rules, sym, ◌∙◌, ap}
+use Rattle.std.proofs.Common.{◌∙◌, ap}
 use Rattle.grid_base.specs.Order.{flipped}
 use Rattle.grid_base.proofs.ViewLemmas.{flipped-flipped}
 use Rattle.grid.proofs.ExchangeLemmas.{part_across}

@@ -1,4 +1,4 @@
-use Rattle.std.proofs.Common.{rules, arith}
+use Rattle.std.proofs.Common.{arith}
 use Rattle.grid.proofs.ExchangeLemmas.{stretch_row, stretch_cols, stretch_within, stretch_below, row_exchanged}
 use Rattle.grid.proofs.exchange.exchange_row.Goals as goal
 
