@@ -9,13 +9,6 @@ use Rattle.grid_base.specs.GridValue.{HoldsSize, GridValue}
 use Rattle.grid_base.proofs.WriteLemmas.{view-write, view-swap}
 use Rattle.grid.specs.View.{grid_value, with_grid_cell}
 
--- what a write to a cell's position makes of the value that a contract sees
-pub grid_value_written : {T : Type 0} (o : Order) (m n : ℕ) (cells : List T) (s : GridValue T) (r c : ℕ) (w : T) (h : HoldsSize m n (length cells)) (k : HoldsSize m n (length (set cells (place o m n r c) w))) → grid_value o m n cells h ≡ s → r < m → c < n → grid_value o m n (set cells (place o m n r c) w) k ≡ with_grid_cell s r c w
-grid_value_written o m n cells s r c w h k e lr lc =
-    same_grid_value _ _
-    (view-write o m n cells h r c lr lc w ∙ ap (λ x. with_cell x.rows r c w) e)
-    (ap (λ x. x.order) e)
-
 -- the same at a position that is known by an equation
 pub seen_written_cell : {T : Type 0} (o : Order) (m n : ℕ) (cells : List T) (s : GridValue T) (r c : ℕ) (w : T) (p : ℕ) → p ≡ place o m n r c → (h : HoldsSize m n (length cells)) (k : HoldsSize m n (length (set cells p w))) → grid_value o m n cells h ≡ s → r < m → c < n → grid_value o m n (set cells p w) k ≡ with_grid_cell s r c w
 seen_written_cell o m n cells s r c w p at h k e lr lc =

@@ -26,13 +26,6 @@ module _ {T : Type 0} where
   IsApplicable (pads_end k) t = IsTable t
   IsApplicable (pads_front k) t = IsTable t
 
-  pub table-applicable : (x : Effect T) (t : List (List T)) → IsApplicable x t → IsTable t
-  table-applicable nothing t g = g
-  table-applicable (inserts i ls) t g = g.old
-  table-applicable (removes i k) t g = g.is_table
-  table-applicable (pads_end k) t g = g
-  table-applicable (pads_front k) t g = g
-
   abbrev pub flipped_effect : ℕ → Effect T → Effect T
   flipped_effect m nothing = nothing
   flipped_effect m (inserts i ls) = inserts (m - i) (reverse ls)

@@ -17,7 +17,3 @@ module _ {T : Type 0} (m n : ℕ) (old new : List T) (len : length old ≡ m * n
   relaid_cols h =
       table_by_cells RowMajor m n new (table_of ColumnMajor m n old) (rows-cut ColumnMajor m n old len) (λ r lt. width-cut ColumnMajor m n old len r lt)
       (λ r lr c lc. h.at c r lc lr ∙ cell-cut ColumnMajor m n old len r c lr lc)
-
--- the size of as many cells
-pub HoldsSize-as_many : (m n a b : ℕ) → HoldsSize m n a → b ≡ m * n → HoldsSize m n b
-HoldsSize-as_many m n a b h e = record { cells = e; below = h.below; size = h.size }

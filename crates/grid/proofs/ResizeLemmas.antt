@@ -38,14 +38,6 @@ module _ {T : Type 0} where
       let is : slice_get xs k ≡ cell t r c = get-storage o t r c h p.0 p.1 in
       ⊎_elim {C = (x : T) × (cell t r c ≡ Some x) × P x} (λ w. (w.0, sym is ∙ w.2, subst P w.3 (All-get_or P xs k w.0 small all))) (λ past. absurd (omega (arith, small, past.0))) (slice_get_cases xs k).1
 
-  pub resized_none : (P : T → Type 0) (m n : ℕ) (old new : List (List T)) → m * n ≡ 0 → new ≡ [] → IsResized P m n old new
-  resized_none P m n old new none e =
-      record {
-        size = record { none = λ z. e; rows = λ some. absurd (some none); cols = λ some. absurd (some none) };
-        kept = λ r c p q. absurd (omega (arith, q.0, ap length e));
-        fresh = λ r c q p. absurd (omega (arith, q.0, ap length e));
-      }
-
   pub resized : (P : T → Type 0) (m n a b : ℕ) (to from new left : GridValue T) → 0 < m * n → HasSize m n to.rows → All P (storage to.order to.rows) → PartTaken (InRows a b) (0, 0) to from new left → a ≤ m → a ≤ row_count from.rows → (m ≤ a) ⊎ (row_count from.rows ≤ a) → b ≤ n → b ≤ col_count from.rows → (n ≤ b) ⊎ (col_count from.rows ≤ b) → IsResized P m n from.rows new.rows
   resized P m n a b to from new left some size all h am ar arest bn bc brest =
       let rows : row_count to.rows ≡ m = size.rows (λ z. omega (arith, some, z)) in

@@ -103,9 +103,6 @@ module _ {T : Type 0} (is_clone : T → T → Type 0) (is_default : T → Type 0
   known_all d one same size = tt
   known_all d one same x = tt
 
-  pub known_list : (d : T) → IsOnlyDefault is_default d → ClonesAreEqual is_clone → (xs : List (CommandValue T)) → All (RowsAreKnown is_default is_clone d) xs
-  known_list d one same xs = All-from_get_or (RowsAreKnown is_default is_clone d) xs size (λ i lt. known_all d one same (get_or xs i size))
-
   module _ (xs : List (CommandValue T)) (x : CommandValue T) (old mid new : GridValue T) (first between last : Counts) (answers more : List (ReplyValue T)) where
     pub running_more : Running is_clone is_default xs old mid first between answers → ((d : T) → RowsAreKnown is_default is_clone d x → new.rows ≡ step_rows d x mid.rows) → length more ≡ suc (length answers) → (ClonesAreEqual is_clone → more ≡ answers ++ step_reply x mid.rows ∷ []) → new.order ≡ order_after (command_symmetry x) mid.order → last.symmetry ≡ saturating_count between.symmetry (price_at x mid.rows) → last.shift ≡ saturating_count between.shift (shift_at x mid.order mid.rows) → Running is_clone is_default (xs ++ x ∷ []) old new first last more
     running_more r rows count reply order symmetry shift = record {
@@ -158,10 +155,6 @@ module _ {T : Type 0} (is_clone : T → T → Type 0) (is_default : T → Type 0
         ∙ (ap (λ zs. run_replies d zs other.rows) same ∙ (ap (run_replies d xs) rows ∙ sym (h.replies d known equal)))
     same_run_replies (Ok v) (Err e) h k = tt
     same_run_replies (Err e) q h k = tt
-
-pub on_ok_of : {V E : Type 0} (r : Result V E) {P : V → Type 0} {Q : Type 0} → ((v : V) → P v → Q) → IfOk r P → OnOk r Q
-on_ok_of (Ok v) f h = f v h
-on_ok_of (Err e) f h = tt
 
 -- what stands at the length of the first part
 at_seam : {X : Type 0} (xs : List X) (y : X) (ys : List X) → slice_get (xs ++ y ∷ ys) (length xs) ≡ Some y

@@ -19,9 +19,6 @@ module _ {T : Type 0} (o : Order) (m n : ℕ) (cells : List T) (s : GridValue T)
   pub seen_cols : grid_value o m n cells h ≡ s → col_count s.rows ≡ n
   seen_cols e = sym (ap (λ x. col_count x.rows) e) ∙ view-cols o m n cells h
 
-  pub seen_table : grid_value o m n cells h ≡ s → IsTable s.rows
-  seen_table e = rw (← e) (view-table o m n cells h)
-
   pub seen_storage : grid_value o m n cells h ≡ s → storage s.order s.rows ≡ cells
   seen_storage e = rw (← e) (view-storage o m n cells h)
 

@@ -65,10 +65,6 @@ module _ {F A B : Type 0} (m : Mut F (A × Unit {0}) B) where
   always_after f g (x ∷ xs) [] a h = absurd a
   always_after f g (x ∷ xs) (y ∷ ys) a h = always_after a.0 g xs ys a.2 (mut_next m f (x, tt) y a.0 a.0 a.1 refl h)
 
-  -- a closure that can always be called can be called at each item
-  pub callable_always : (f : F) (xs : List A) → always_mut m f → CallableAtEach (λ p x. m.pre p (x, tt)) (λ p x y q. Called m p (x, tt) y q) f xs
-  callable_always f xs h = record { at = λ k x ys g lt is a. ((always_after f g (take k xs) ys a h).at ((x, tt) ∷ [])).0 }
-
 -- the closure can be called at the item after those that it answered, where no call changes it
 pub callable_item : {F A : Type 0} (takes : F → A → Type 0) (f : F) (xs done rest : List A) (x : A) → CallableAtItems takes f xs → done ++ x ∷ rest ≡ xs → takes f x
 callable_item takes f xs done rest x h is =

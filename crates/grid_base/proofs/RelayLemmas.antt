@@ -7,17 +7,6 @@ use Rattle.grid_base.specs.Relaid.{Relaid}
 use Rattle.grid_base.proofs.StorageLemmas.{get_append_left, get_append_right}
 use Rattle.grid_base.proofs.WeaveLemmas.{place_below}
 
--- no line, or one
-pub relaid_one : {T : Type 0} (p q : ℕ) (xs : List T) → p < 2 → Relaid p q xs xs
-relaid_one p q xs lt =
-    record {
-      lengths = refl;
-      at = λ l j a b.
-          let first : l ≡ 0 = omega arith in
-          let one : p ≡ 1 = omega arith in
-          ap (slice_get xs) (omega (arith, ap (λ v. j * v) one, ap (λ v. v * q) first));
-    }
-
 module _ {T : Type 0} (h r q : ℕ) (old mid new fo bo fn bn : List T) (wide : length fo ≡ h * q) (tall : length bo ≡ r * q) (cut : old ≡ fo ++ bo) (joined : mid ≡ fn ++ bn) (front : Relaid h q fo fn) (back : Relaid r q bo bn) (woven : Woven q h h r mid new) where
   low : (l j : ℕ) → l < h → j < q → slice_get new (j * (h + r) + l) ≡ slice_get old (l * q + j)
   low l j lh lq =

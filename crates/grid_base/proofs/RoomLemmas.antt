@@ -82,18 +82,6 @@ none_waits row room at le =
     let long = pasted_length room row v 0 at 0 refl (omega arith) (omega arith) in
     same_lists v row long (λ k d h. ⊎_elim (λ lt. pasted_below room row v 0 at 0 refl (omega arith) (omega arith) k d lt) (λ ge. pasted_above room row v 0 at 0 refl (omega arith) (omega arith) k d (omega arith)) (cases_lt k at))
 
--- cells that came to the room from where they are seen
-pub all_wait : {X : Type 0} (row before room : List X) (at n : ℕ) → at + n ≤ length row → n ≤ length before → room ≡ take 0 before ++ slice_range row at (at + n) ++ drop (0 + n) before → with_waiting row room at n ≡ row
-all_wait row before room at n q p is =
-    let v = with_waiting row room at n in
-    let r = pasted_length row before room at 0 n is (omega arith) (omega arith) in
-    let fits : 0 + n ≤ length room = omega arith in
-    let long = pasted_length room row v 0 at n refl fits q in
-    same_lists v row long (λ k d h. ⊎_elim (λ lt. pasted_below room row v 0 at n refl fits q k d lt)
-    (λ ge. ⊎_elim
-    (λ lt. pasted_at room row v 0 at n refl fits q k d (omega arith) lt ∙ (pasted_at row before room at 0 n is (omega arith) (omega arith) (0 + (k - at)) d (omega arith) (omega arith) ∙ ap (λ j. get_or row j d) (omega arith)))
-    (λ gt. pasted_above room row v 0 at n refl fits q k d (omega arith)) (cases_lt k (at + n))) (cases_lt k at))
-
 -- a run moves behind the groups that wait, and the last of them comes to its place
 weave_step_at : {X : Type 0} (row room row1 row2 : List X) (start run few c end all n : ℕ) → end ≡ start + run → all ≡ few + c → n ≡ few + c → length row1 ≡ length row → few + c ≤ length room → start + run + (few + c) ≤ length row
     → ((k : ℕ) (d : X) → k < run → get_or row1 (start + (few + c) + k) d ≡ get_or row (start + k) d)

@@ -6,11 +6,5 @@ use Rattle.grid_base.specs.Symmetry.{act, image_rows, image_cols}
 use Rattle.grid_base.proofs.ActLemmas.{rows-act, cols-act, IsTable-act}
 
 module _ {T : Type 0} where
-  pub rows_shown : (s : Symmetry) (t : List (List T)) → row_count (act s t) ≡ image_rows s (row_count t) (col_count t)
-  rows_shown s t = rows-act s t
-
-  pub cols_shown : (s : Symmetry) (t : List (List T)) → IsTable t → col_count (act s t) ≡ image_cols s (row_count t) (col_count t)
-  cols_shown s t h = cols-act s t h
-
   pub table_shown : (s : Symmetry) (t : List (List T)) → IsTable t → IsTable (act s t)
   table_shown s t h = IsTable-act s t h

@@ -58,13 +58,6 @@ module _ {T : Type 0} (cells : List T) (size strides : ℕ × ℕ) where
           ap (λ (r : ℕ × ℕ). option_map {U = (ℕ × ℕ) × T} (λ x. (r, x)) (slice_get cells (r.0 * strides.0 + r.1 * strides.1))) same ∙ ap (option_map {U = (ℕ × ℕ) × T} (λ x. (p, x))) h
       cases false e = absurd (cc e)
 
-  pub cell_none : (p : Option ℕ × Option ℕ) → None ≡ if_within size (both p) → cell_at f p ≡ None
-  cell_none p e = cases (both p) e
-    where
-      cases : (o : Option (ℕ × ℕ)) → None ≡ if_within size o → option_and_then {U = (ℕ × ℕ) × T} (λ q. option_map (λ x. (q, x)) (f q.0 q.1)) o ≡ None
-      cases None e = refl
-      cases (Some q) e = ap (option_map {U = (ℕ × ℕ) × T} (λ x. (q, x))) (none_at q (sym e))
-
   pub cell_some : (p : Option ℕ × Option ℕ) (q : ℕ × ℕ) (x : T) → Some q ≡ if_within size (both p) → slice_get cells (q.0 * strides.0 + q.1 * strides.1) ≡ Some x → cell_at f p ≡ Some (q, x)
   cell_some p q x e h = cases (both p) e
     where
@@ -75,9 +68,6 @@ module _ {T : Type 0} (cells : List T) (size strides : ℕ × ℕ) where
 module _ {T : Type 0} (f : ℕ → ℕ → Option T) (sides : Bool) (at : ℕ × ℕ) where
   pub cells_left : (k : ℕ) → k < step_count sides → cells_from f sides at k ≡ cons_option (cell_at f (position_of sides at k)) (cells_from f sides at (k + 1))
   cells_left k lt = ap (filter_map (cell_at f)) (positions_from_step sides at k lt)
-
-  pub no_cell : (k : ℕ) → k < step_count sides → cell_at f (position_of sides at k) ≡ None → cells_from f sides at k ≡ cells_from f sides at (k + 1)
-  no_cell k lt e = cells_left k lt ∙ ap (λ o. cons_option o (cells_from f sides at (k + 1))) e
 
   pub first_cell : (k : ℕ) (x : (ℕ × ℕ) × T) → k < step_count sides → cell_at f (position_of sides at k) ≡ Some x → cells_from f sides at k ≡ x ∷ cells_from f sides at (k + 1)
   first_cell k x lt e = cells_left k lt ∙ ap (λ o. cons_option o (cells_from f sides at (k + 1))) e

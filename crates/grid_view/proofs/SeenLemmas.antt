@@ -153,15 +153,6 @@ module _ (rows cols : Axis) (len : ℕ) (h : HoldsView rows cols len) (at size :
     col_steps = λ _. h.col_steps (omega arith);
   }
 
-pub holds_none : (rows cols : Axis) (len : ℕ) → HoldsView (cut rows 0) (cut cols 0) len
-holds_none rows cols len = record {
-  size = record { has_cols = λ e. e; has_rows = λ e. e };
-  below = lit< tt;
-  within = λ i j li lj. absurd (omega arith);
-  row_steps = λ e. absurd (omega arith);
-  col_steps = λ e. absurd (omega arith);
-}
-
 pub seen_none : {T : Type 0} (rows cols : Axis) (cells : List T) → seen (cut rows 0) (cut cols 0) cells ≡ []
 unfolding tabulate
 seen_none rows cols cells = refl
