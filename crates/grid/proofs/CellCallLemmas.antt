@@ -13,23 +13,14 @@ use Rattle.grid_base.specs.Positions.{positions}
 use Rattle.grid_base.specs.ClosureCalls.{PairsUp, CallableAtCells, CallableAtItems, ReturnsAtCell, FailsFirst}
 use Rattle.grid_base.specs.GridValue.{GridValue, HoldsSize}
 use Rattle.grid_base.proofs.TableLemmas.{IsFull, tabulate-same, cell-tabulate}
-use Rattle.grid_base.proofs.StorageLemmas.{place_within, has_place}
+use Rattle.grid_base.proofs.StorageLemmas.{place_within, has_place, get_append_left}
 use Rattle.grid_base.proofs.PlaceLemmas.{get-places, length-places}
-use Rattle.grid_base.proofs.PlacedCellLemmas.{zip_within}
+use Rattle.grid_base.proofs.PlacedCellLemmas.{zip_within, get-zip}
 use Rattle.grid_base.proofs.ViewLemmas.{view-rows, view-cols, view-cell}
 use Rattle.grid.specs.AllCells.{CallableAtPositions, TabulatedBy, AnsweredBy}
 use Rattle.grid.specs.Make.{IsMade, CallableOver, TabulatedOver, AnsweredOver, FailsAt}
 use Rattle.grid.specs.View.{grid_value}
 use Rattle.grid.proofs.SeenLemmas.{seen_rows, seen_cols}
-
-pub get-zip : {A B : Type 0} (xs : List A) (ys : List B) (k : ℕ) (a : A) (b : B) → slice_get xs k ≡ Some a → slice_get ys k ≡ Some b → slice_get (zip xs ys) k ≡ Some (a, b)
-get-zip [] ys k a b p q = absurd (cc)
-get-zip (x ∷ xs) [] k a b p q = absurd (cc)
-get-zip (x ∷ xs) (y ∷ ys) zero a b p q =
-    let first : x ≡ a = cc in
-    let second : y ≡ b = cc in
-    ap (λ z. Some (z, y)) first ∙ ap (λ z. Some (a, z)) second
-get-zip (x ∷ xs) (y ∷ ys) (suc k) a b p q = get-zip xs ys k a b p q
 
 mul_grows : (m n : ℕ) → 0 < n → m ≤ m * n
 mul_grows zero n h = omega arith
@@ -128,14 +119,10 @@ module _ {A : Type 0} (o : Order) (m n : ℕ) (cells : List A) (v : GridValue A)
         view-cell o m n news fits r c (omega (arith, within.0, seen_rows o m n cells v h e)) (omega (arith, within.1, seen_cols o m n cells v h e)) ∙ w.is in
         subst (λ z. IsSomeAnd z (λ y. (p : Bor A) × (cell v.rows r c ≡ Some p.now) × returns f (r, c) p y)) (sym is) (w.p, w.old, w.says)
 
-at_seam : {X : Type 0} (xs : List X) (x : X) (ys : List X) → slice_get (xs ++ x ∷ ys) (length xs) ≡ Some x
+-- what stands at the length of the first part
+pub at_seam : {X : Type 0} (xs : List X) (x : X) (ys : List X) → slice_get (xs ++ x ∷ ys) (length xs) ≡ Some x
 at_seam [] x ys = refl
 at_seam (y ∷ xs) x ys = at_seam xs x ys
-
-before_seam : {X : Type 0} (xs ys : List X) (k : ℕ) → k < length xs → slice_get (xs ++ ys) k ≡ slice_get xs k
-before_seam [] ys k lt = absurd (omega arith)
-before_seam (x ∷ xs) ys zero lt = refl
-before_seam (x ∷ xs) ys (suc k) lt = before_seam xs ys k (omega arith)
 
 module _ (o : Order) (m n : ℕ) (z : IsSize m n) where
   -- a closure that can be called at each position can be called along the positions
@@ -185,7 +172,7 @@ module _ (o : Order) (m n : ℕ) (z : IsSize m n) where
         before = λ i j li lj lt.
             let p = place o m n i j in
             let early : slice_get h.done p ≡ Some (i, j) =
-            sym (before_seam h.done (h.at ∷ h.rest) p (omega (arith, w.is))) ∙ (ap (λ l. slice_get l p) h.split ∙ get-places o m n i j z li lj) in
+            sym (get_append_left h.done (h.at ∷ h.rest) p (omega (arith, w.is))) ∙ (ap (λ l. slice_get l p) h.split ∙ get-places o m n i j z li lj) in
             let a = answer_at (λ x y. returns x (Ok y)) h.done h.answers p (i, j) h.before early in
             (a.y, a.by);
       }

@@ -8,8 +8,9 @@ use Rattle.grid_base.specs.declared.words.Symmetry.{Symmetry}
 use Rattle.grid_base.specs.declared.words.Symmetry.TheVariants.{Identity, FlipRows, Transpose}
 use Rattle.grid_base.specs.Table.{row, row_count, col_count, cell, IsTable, with_cell, with_cell_of, exchanged, tabulate}
 use Rattle.grid_base.specs.Symmetry.{act, symmetry_of}
+use Rattle.grid_base.proofs.StorageLemmas.{get-replicate}
 use Rattle.grid_base.proofs.ActLemmas.{IsTable-act}
-use Rattle.grid_base.proofs.WriteLemmas.{get-set_same, get-set_other}
+use Rattle.grid_base.proofs.WriteLemmas.{get-set_same, get-set_other, rows-written, widths-written, cols-with_cell, IsTable-with_cell, cell-with_same, cell-with_other, rows-with_cell_of, cols-with_cell_of, IsTable-with_cell_of}
 use Rattle.grid_base.proofs.GroupLemmas.{product, act-act, act-identity, act_all-is, symmetry_of-product_from}
 use Rattle.grid_commands.specs.Refusal.{in_range}
 use Rattle.grid.specs.AllCells.{filled}
@@ -87,48 +88,6 @@ module _ {T : Type 0} where
       (λ ge. past_rows v r c (omega (arith, rows-across t h)) ∙ sym (past_cols t h c r ge))
       (cases_lt r (col_count t))
 
-  -- a table of which a cell is written
-  module _ (t : List (List T)) (h : IsTable t) (r c : ℕ) (w : T) where
-    rows-with : row_count (with_cell t r c w) ≡ row_count t
-    rows-with = length-set t r (set (row t r) c w)
-
-    widths-with : (i : ℕ) → i < row_count t → length (row (with_cell t r c w) i) ≡ col_count t
-    widths-with i lt =
-        ⊎_elim (λ e.
-        ap (λ x. length (row (with_cell t r c w) x)) e
-        ∙ (ap length (get_or-set_same t r (set (row t r) c w) [] (omega arith)) ∙ (length-set (row t r) c w ∙ h.even r (omega arith))))
-        (λ ne. ap length (get_or-set_other t r i (set (row t r) c w) [] ne) ∙ h.even i lt)
-        (cases_eq i r)
-
-    pub IsTable-with : IsTable (with_cell t r c w)
-    IsTable-with =
-        record {
-          nonempty = λ i lt. omega (arith, widths-with i (omega (arith, rows-with)), h.nonempty 0 (omega (arith, rows-with)));
-          even = λ i lt. widths-with i (omega (arith, rows-with)) ∙ sym (widths-with 0 (omega (arith, rows-with)));
-        }
-
-    cols-with : col_count (with_cell t r c w) ≡ col_count t
-    cols-with =
-        ⊎_elim (λ some. widths-with 0 some)
-        (λ none. ap length (get_or_past (with_cell t r c w) 0 [] (omega (arith, rows-with))) ∙ sym (ap length (get_or_past t 0 [] none)))
-        (cases_lt 0 (row_count t))
-
-    pub cell-with_same : r < row_count t → c < col_count t → cell (with_cell t r c w) r c ≡ Some w
-    cell-with_same lr lc =
-        ap (λ v. slice_get v c) (get_or-set_same t r (set (row t r) c w) [] lr) ∙ get-set_same (row t r) c w (omega (arith, h.even r lr))
-
-    pub cell-with_other : (i j : ℕ) → (i ≡ r → j ≢ c) → cell (with_cell t r c w) i j ≡ cell t i j
-    cell-with_other i j ne =
-        ⊎_elim (λ e.
-        ⊎_elim (λ lt.
-        ap (λ x. cell (with_cell t r c w) x j) e
-        ∙ (ap (λ v. slice_get v j) (get_or-set_same t r (set (row t r) c w) [] lt)
-        ∙ (get-set_other (row t r) c j w (ne e) ∙ ap (λ x. cell t x j) (sym e))))
-        (λ past. past_rows (with_cell t r c w) i j (omega (arith, rows-with)) ∙ sym (past_rows t i j (omega arith)))
-        (cases_lt r (row_count t)))
-        (λ n. ap (λ v. slice_get v j) (get_or-set_other t r i (set (row t r) c w) [] n))
-        (cases_eq i r)
-
   pub set-flip : (t : List (List T)) → IsTable t → (r c : ℕ) (w : T) → r < row_count t → with_cell (act FlipRows t) r c w ≡ act FlipRows (with_cell t (mirror_place (row_count t) r) c w)
   set-flip t h r c w lr =
       let p = mirror_place (row_count t) r in
@@ -136,7 +95,7 @@ module _ {T : Type 0} where
       ap (λ v. with_cell v r c w) (flip_rows-is t h)
       ∙ (ap (λ v. set (reverse t) r (set v c w)) (row-mirrored t r)
       ∙ (set-mirrored t r (set (row t p) c w) lr
-      ∙ (ap (λ x. reverse (set t x (set (row t p) c w))) (sym at) ∙ sym (flip_rows-is (with_cell t p c w) (IsTable-with t h p c w)))))
+      ∙ (ap (λ x. reverse (set t x (set (row t p) c w))) (sym at) ∙ sym (flip_rows-is (with_cell t p c w) (IsTable-with_cell t h p c w)))))
 
   pub set-cross : (t : List (List T)) → IsTable t → (r c : ℕ) (w : T) → r < col_count t → c < row_count t → with_cell (act Transpose t) r c w ≡ act Transpose (with_cell t c r w)
   set-cross t h r c w lr lc =
@@ -145,9 +104,9 @@ module _ {T : Type 0} where
       let u = with_cell t c r w in
       let m : row_count v ≡ col_count t = rows-across t h in
       let n : col_count v ≡ row_count t = cols-across t h in
-      across_by_cells (with_cell v r c w) u (IsTable-with t h c r w)
-      (rows-with v hv r c w ∙ (m ∙ sym (cols-with t h c r w)))
-      (λ i lt. widths-with v hv r c w i (omega (arith, rows-with v hv r c w)) ∙ (n ∙ sym (rows-with t h c r w)))
+      across_by_cells (with_cell v r c w) u (IsTable-with_cell t h c r w)
+      (rows-written v hv r c w ∙ (m ∙ sym (cols-with_cell t h c r w)))
+      (λ i lt. widths-written v hv r c w i (omega (arith, rows-written v hv r c w)) ∙ (n ∙ sym (rows-written t h c r w)))
       (λ i li j lj.
       ⊎_elim (λ e.
       ⊎_elim (λ f.
@@ -168,27 +127,15 @@ module _ {T : Type 0} where
   of-cross t h r c None lr lc = refl
   of-cross t h r c (Some w) lr lc = set-cross t h r c w lr lc
 
-  pub IsTable-of : (t : List (List T)) → IsTable t → (r c : ℕ) (o : Option T) → IsTable (with_cell_of t r c o)
-  IsTable-of t h r c None = h
-  IsTable-of t h r c (Some w) = IsTable-with t h r c w
-
-  pub rows-of : (t : List (List T)) → IsTable t → (r c : ℕ) (o : Option T) → row_count (with_cell_of t r c o) ≡ row_count t
-  rows-of t h r c None = refl
-  rows-of t h r c (Some w) = rows-with t h r c w
-
-  pub cols-of : (t : List (List T)) → IsTable t → (r c : ℕ) (o : Option T) → col_count (with_cell_of t r c o) ≡ col_count t
-  cols-of t h r c None = refl
-  cols-of t h r c (Some w) = cols-with t h r c w
-
   pub IsTable-exchanged : (t : List (List T)) → IsTable t → (p q : ℕ × ℕ) → IsTable (exchanged t p q)
-  IsTable-exchanged t h p q = IsTable-of (with_cell_of t p.0 p.1 (cell t q.0 q.1)) (IsTable-of t h p.0 p.1 (cell t q.0 q.1)) q.0 q.1 (cell t p.0 p.1)
+  IsTable-exchanged t h p q = IsTable-with_cell_of (with_cell_of t p.0 p.1 (cell t q.0 q.1)) (IsTable-with_cell_of t h p.0 p.1 (cell t q.0 q.1)) q.0 q.1 (cell t p.0 p.1)
 
   pub swap-flip : (t : List (List T)) → IsTable t → (p q : ℕ × ℕ) → p.0 < row_count t → q.0 < row_count t → exchanged (act FlipRows t) p q ≡ act FlipRows (exchanged t (mirror_place (row_count t) p.0, p.1) (mirror_place (row_count t) q.0, q.1))
   swap-flip t h p q lp lq =
       let m = row_count t in
       let u = with_cell_of t (mirror_place m p.0) p.1 (cell t (mirror_place m q.0) q.1) in
-      let hu = IsTable-of t h (mirror_place m p.0) p.1 (cell t (mirror_place m q.0) q.1) in
-      let len : row_count u ≡ m = rows-of t h (mirror_place m p.0) p.1 (cell t (mirror_place m q.0) q.1) in
+      let hu = IsTable-with_cell_of t h (mirror_place m p.0) p.1 (cell t (mirror_place m q.0) q.1) in
+      let len : row_count u ≡ m = rows-with_cell_of t h (mirror_place m p.0) p.1 (cell t (mirror_place m q.0) q.1) in
       ap (λ o. with_cell_of (with_cell_of (act FlipRows t) p.0 p.1 o) q.0 q.1 (cell (act FlipRows t) p.0 p.1)) (cell-flip t h q.0 q.1)
       ∙ (ap (λ o. with_cell_of (with_cell_of (act FlipRows t) p.0 p.1 (cell t (mirror_place m q.0) q.1)) q.0 q.1 o) (cell-flip t h p.0 p.1)
       ∙ (ap (λ v. with_cell_of v q.0 q.1 (cell t (mirror_place m p.0) p.1)) (of-flip t h p.0 p.1 (cell t (mirror_place m q.0) q.1) lp)
@@ -198,9 +145,9 @@ module _ {T : Type 0} where
   pub swap-cross : (t : List (List T)) → IsTable t → (p q : ℕ × ℕ) → p.0 < col_count t → p.1 < row_count t → q.0 < col_count t → q.1 < row_count t → exchanged (act Transpose t) p q ≡ act Transpose (exchanged t (p.1, p.0) (q.1, q.0))
   swap-cross t h p q lp kp lq kq =
       let u = with_cell_of t p.1 p.0 (cell t q.1 q.0) in
-      let hu = IsTable-of t h p.1 p.0 (cell t q.1 q.0) in
-      let rows : row_count u ≡ row_count t = rows-of t h p.1 p.0 (cell t q.1 q.0) in
-      let cols : col_count u ≡ col_count t = cols-of t h p.1 p.0 (cell t q.1 q.0) in
+      let hu = IsTable-with_cell_of t h p.1 p.0 (cell t q.1 q.0) in
+      let rows : row_count u ≡ row_count t = rows-with_cell_of t h p.1 p.0 (cell t q.1 q.0) in
+      let cols : col_count u ≡ col_count t = cols-with_cell_of t h p.1 p.0 (cell t q.1 q.0) in
       ap (λ o. with_cell_of (with_cell_of (act Transpose t) p.0 p.1 o) q.0 q.1 (cell (act Transpose t) p.0 p.1)) (cell-cross t h q.0 q.1)
       ∙ (ap (λ o. with_cell_of (with_cell_of (act Transpose t) p.0 p.1 (cell t q.1 q.0)) q.0 q.1 o) (cell-cross t h p.0 p.1)
       ∙ (ap (λ v. with_cell_of v q.0 q.1 (cell t p.1 p.0)) (of-cross t h p.0 p.1 (cell t q.1 q.0) lp kp)
@@ -232,11 +179,6 @@ module _ {T : Type 0} where
         ⊎_elim (λ some. width-filled 0 some)
         (λ none. ap length (get_or_past (filled v t) 0 [] (omega (arith, rows-filled))) ∙ sym (ap length (get_or_past t 0 [] none)))
         (cases_lt 0 (row_count t))
-
-  get-replicate : (k : ℕ) (d : T) (j : ℕ) → j < k → slice_get (replicate k d) j ≡ Some d
-  get-replicate zero d j lt = absurd (omega arith)
-  get-replicate (suc k) d zero lt = refl
-  get-replicate (suc k) d (suc j) lt = get-replicate k d j (omega arith)
 
   pub fill-flip : (v : T) (t : List (List T)) → IsTable t → filled v (act FlipRows t) ≡ act FlipRows (filled v t)
   fill-flip v t h =

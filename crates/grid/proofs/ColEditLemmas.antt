@@ -8,8 +8,9 @@ use Rattle.std.proofs.lemmas.Bool.{cases_lt}
 use Rattle.grid_base.specs.declared.words.Symmetry.TheVariants.{Transpose}
 use Rattle.grid_base.specs.Table.{row, row_count, col_count, cell, transposed, IsTable, tabulate}
 use Rattle.grid_base.specs.Symmetry.{act}
+use Rattle.grid_base.proofs.StorageLemmas.{get-replicate}
 use Rattle.grid_base.proofs.TableLemmas.{same_tables, IsSize-table}
-use Rattle.grid_base.proofs.ActLemmas.{rows-act, cols-act, cell-act, IsTable-act}
+use Rattle.grid_base.proofs.ActLemmas.{rows-act, cols-act, cell-act, IsTable-act, act_is_transposed}
 use Rattle.grid.specs.Edits.{insert_rows, without_rows, insert_into_rows, insert_col, insert_cols, has_cells, without_cols, expanded_rows, prepended_rows, expanded_cols, prepended_cols}
 use Rattle.grid.proofs.ListEditLemmas.{get-cut_before, get-cut_after, get-put_before, get-put_new, get-put_after, length-put, length-cut, put_cases}
 use Rattle.grid.proofs.RowEditLemmas.{HasWidth, HasWidth-put, rows-put, rows-take, row-put_before, row-put_new, row-put_after, row-take_before, row-take_after}
@@ -51,9 +52,9 @@ module _ {T : Type 0} where
   unfolding act tabulate
   across-none = refl
 
-  pub across-transposed : (t : List (List T)) → act Transpose t ≡ transposed t
-  unfolding act
-  across-transposed t = refl
+  -- what a row edit left is the transposed table of what comes back
+  pub across-back : (left new : List (List T)) → IsTable left → new ≡ act Transpose left → transposed new ≡ left
+  across-back left new h e = ap transposed e ∙ (sym (act_is_transposed (act Transpose left)) ∙ across-across left h)
 
   -- a cell put into each row of a table
   length-put_into : (i : ℕ) (xs : List T) (t : List (List T)) → length xs ≡ length t → length (insert_into_rows i xs t) ≡ length t
@@ -288,11 +289,6 @@ module _ {T : Type 0} where
     -- columns are taken as rows of the transposed table
     pub without_cols-across : without_cols i k t ≡ act Transpose (without_rows i k (act Transpose t))
     without_cols-across = ⊎_elim (λ lt. some_left lt) (λ ge. none_left (omega arith)) (cases_lt k (col_count t))
-
-  get-replicate : (k : ℕ) (d : T) (j : ℕ) → j < k → slice_get (replicate k d) j ≡ Some d
-  get-replicate zero d j lt = absurd (omega arith)
-  get-replicate (suc k) d zero lt = refl
-  get-replicate (suc k) d (suc j) lt = get-replicate k d j (omega arith)
 
   pub map_same : (f g : List T → List T) (t : List (List T)) → ((r : ℕ) → r < length t → f (row t r) ≡ g (row t r)) → map f t ≡ map g t
   map_same f g [] h = refl

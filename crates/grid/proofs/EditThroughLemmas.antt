@@ -8,17 +8,18 @@ use Rattle.std.proofs.lemmas.Bool.{eqb-true, eqb-false, ltb-false, lt-ltb, le-lt
 use Rattle.grid_base.specs.declared.words.Symmetry.TheVariants.{FlipRows, Transpose}
 use Rattle.grid_base.specs.Table.{row, row_count, col_count, IsTable}
 use Rattle.grid_base.specs.Symmetry.{act}
-use Rattle.grid_base.proofs.ActLemmas.{rows-act, cols-act, IsTable-act}
+use Rattle.grid_base.proofs.PartLemmas.{get-reverse}
+use Rattle.grid_base.proofs.ActLemmas.{rows-act, cols-act, IsTable-act, act_is_transposed}
 use Rattle.grid_commands.specs.declared.command.Axis.TheVariants.{Row, Col}
 use Rattle.grid_commands.specs.declared.command.Refusal.TheVariants.{EmptyLine, Length, Index, TooLarge}
 use Rattle.grid_commands.specs.Command.{Edit, read, push, insert_at, insert_all, pop, remove_at, delete_at, delete_range, expand, prepend}
 use Rattle.grid_commands.specs.Reply.{line_is, flag_is}
 use Rattle.grid_commands.specs.Refusal.{insert_refusal, edit_refusal, fitting_width}
 use Rattle.grid.proofs.EditSizeLemmas.{LinesFit}
-use Rattle.grid.proofs.ColEditLemmas.{across-across, across-transposed, rows-across, cols-across}
+use Rattle.grid.proofs.ColEditLemmas.{across-across, rows-across, cols-across}
 use Rattle.grid.specs.Step.{Effect, nothing, inserts, removes, range_effect, effect, after_effect, edit_takes_memory, has_lines, edit_reply, line_at}
 use Rattle.grid.specs.Through.{turned_reply, mirror_place, mirror_gap, mirror_start, edit_of_flipped, edit_of_reversed}
-use Rattle.grid.proofs.MirrorLemmas.{get-reverse, flip_rows-is, flip_cols-is}
+use Rattle.grid.proofs.MirrorLemmas.{flip_rows-is, flip_cols-is}
 use Rattle.grid.proofs.EffectLemmas.{IsApplicable, flipped_effect, reversed_effect}
 use Rattle.grid.proofs.ThroughLemmas.{rows-flip, cols-flip, rows-transpose, cols-transpose, table-after, table-after_col, flip-across}
 use Rattle.grid.proofs.RefusalLemmas.{all-at, any-at, fitting-some, command_refusal-edit_of_flipped, command_refusal-edit_of_reversed}
@@ -229,14 +230,14 @@ module _ {T : Type 0} where
     line-reversed : (i : ℕ) → line_at Col i (act FlipRows t) ≡ option_map reverse (line_at Col i t)
     line-reversed i =
         let v = act Transpose t in
-        ap (λ u. slice_get u i) (sym (across-transposed (act FlipRows t)) ∙ (flip-across t h ∙ flip_cols-is v (IsTable-act Transpose t h)))
-        ∙ (slice_get-map reverse v i ∙ ap (λ u. option_map reverse (slice_get u i)) (across-transposed t))
+        ap (λ u. slice_get u i) (sym (act_is_transposed (act FlipRows t)) ∙ (flip-across t h ∙ flip_cols-is v (IsTable-act Transpose t h)))
+        ∙ (slice_get-map reverse v i ∙ ap (λ u. option_map reverse (slice_get u i)) (act_is_transposed t))
 
     line-cross_row : (i : ℕ) → line_at Row i (act Transpose t) ≡ line_at Col i t
-    line-cross_row i = ap (λ u. slice_get u i) (across-transposed t)
+    line-cross_row i = ap (λ u. slice_get u i) (act_is_transposed t)
 
     line-cross_col : (i : ℕ) → line_at Col i (act Transpose t) ≡ line_at Row i t
-    line-cross_col i = ap (λ u. slice_get u i) (sym (across-transposed (act Transpose t)) ∙ across-across t h)
+    line-cross_col i = ap (λ u. slice_get u i) (sym (act_is_transposed (act Transpose t)) ∙ across-across t h)
 
     pub reply-rows_flip : (e : Edit T) → edit_reply Row e (row_count t) (act FlipRows t) ≡ turned_reply FlipRows Row (edit_reply Row (edit_of_flipped (row_count t) e) (row_count t) t)
     reply-rows_flip (read i) = ap line_is (line-flip i)

@@ -44,7 +44,7 @@ module _ {T : Type 0} where
   some_rows : (r : List T) (t : List (List T)) → 0 < row_count (r ∷ t)
   some_rows r t = omega arith
 
-  cols-flipped : (t : List (List T)) → IsTable t → col_count (reverse t) ≡ col_count t
+  pub cols-flipped : (t : List (List T)) → IsTable t → col_count (reverse t) ≡ col_count t
   cols-flipped t h = ap col_count (sym (flip_rows-is t h)) ∙ cols-act FlipRows t h
 
   reverse-copies : (k n : ℕ) (d : T) → reverse (copies k n d) ≡ copies k n d

@@ -46,7 +46,7 @@ opposite p q i j a b =
     let all : ((p - 1 - i) + (i + 1)) * q ≡ p * q = ap (λ x. x * q) whole in
     omega arith
 
-opposite_place : (o : Order) (m n i j : ℕ) → i < m → j < n → m * n - 1 - place o m n i j ≡ place o m n (m - 1 - i) (n - 1 - j)
+pub opposite_place : (o : Order) (m n i j : ℕ) → i < m → j < n → m * n - 1 - place o m n i j ≡ place o m n (m - 1 - i) (n - 1 - j)
 opposite_place RowMajor m n i j a b = opposite m n i j a b
 opposite_place ColumnMajor m n i j a b = let e = opposite n m j i b a in omega arith
 

@@ -17,10 +17,10 @@ use Rattle.grid_base.specs.GridValue.{GridValue, HoldsSize}
 use Rattle.grid_base.specs.IndexedIterMut.{indexed_mut_rest}
 use Rattle.grid_base.proofs.StorageLemmas.{has_place}
 use Rattle.grid_base.proofs.PlaceLemmas.{get-places}
-use Rattle.grid_base.proofs.PlacedCellLemmas.{zip_within}
+use Rattle.grid_base.proofs.PlacedCellLemmas.{zip_within, get-zip}
 use Rattle.grid.specs.IndexedIterators.{IsCellAt, GivesCells, GivesOwnedCells, GivesMutCells}
 use Rattle.grid.specs.View.{grid_value}
-use Rattle.grid.proofs.CellCallLemmas.{get-zip, item_at, seen_cell, seen_in}
+use Rattle.grid.proofs.CellCallLemmas.{item_at, seen_cell, seen_in}
 
 module _ {A : Type 0} (t : List (List A)) (whole : List ((ℕ × ℕ) × A)) (each : (k : ℕ) (x : (ℕ × ℕ) × A) → k < length whole → x ≡ slice_index_or whole k x → IsCellAt t x.0 x.1) where
   module _ {S B : Type 0} (steps : S → Option B → S → Type 0) (view : B → (ℕ × ℕ) × A) (shown : S → List ((ℕ × ℕ) × A)) (all : EveryRun steps (λ p. ItemsMapTo p view (shown p.from))) where

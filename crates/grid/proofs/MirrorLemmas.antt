@@ -6,6 +6,7 @@ use Rattle.std.proofs.lemmas.Option.{slice_get-get_or}
 use Rattle.grid_base.specs.declared.words.Symmetry.TheVariants.{FlipRows, FlipCols}
 use Rattle.grid_base.specs.Table.{row, row_count, col_count, IsTable}
 use Rattle.grid_base.specs.Symmetry.{act}
+use Rattle.grid_base.proofs.PartLemmas.{get-reverse}
 use Rattle.grid_base.proofs.TableLemmas.{same_tables}
 use Rattle.grid_base.proofs.ActLemmas.{rows-act, cols-act, cell-act, IsTable-act}
 use Rattle.grid.specs.Edits.{insert_rows, without_rows}
@@ -48,13 +49,6 @@ module _ {X : Type 0} where
       ap (λ v. v ++ drop (k + n) (reverse xs)) (take-reverse k xs (omega arith) ∙ ap (λ x. reverse (drop x xs)) f)
       ∙ (ap (λ v. reverse (drop (length xs - k - n + n) xs) ++ v) (drop-reverse (k + n) xs le ∙ ap (λ x. reverse (take x xs)) e)
       ∙ sym (reverse-append (take (length xs - k - n) xs) (drop (length xs - k - n + n) xs)))
-
-  pub get-reverse : (xs : List X) (k : ℕ) → k < length xs → slice_get (reverse xs) k ≡ slice_get xs (length xs - 1 - k)
-  get-reverse [] k lt = absurd (omega arith)
-  get-reverse (x ∷ xs) k lt =
-      let ys = x ∷ xs in
-      slice_get-get_or (reverse ys) k x (omega (arith, length-reverse ys))
-      ∙ (ap (λ v. Some v) (get_or-reverse ys k x lt) ∙ sym (slice_get-get_or ys (length ys - 1 - k) x (omega arith)))
 
   replicate-more : (k : ℕ) (d : X) → replicate k d ++ d ∷ [] ≡ d ∷ replicate k d
   replicate-more zero d = refl

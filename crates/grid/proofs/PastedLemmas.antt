@@ -13,7 +13,7 @@ use Rattle.std.specs.List.{slice_get}
 use Rattle.grid_base.specs.Table.{row, row_count, col_count, cell, tabulate, with_cell, InRange, IsTable}
 use Rattle.grid_base.specs.GridValue.{GridValue}
 use Rattle.grid_base.proofs.TableLemmas.{IsFull, IsFull-cells, tabulate-cells, tabulate-same, cell-tabulate, cell_past_rows}
-use Rattle.grid_base.proofs.WriteLemmas.{get-set_same, get-set_other}
+use Rattle.grid_base.proofs.WriteLemmas.{get-set_same, get-set_other, cell-with_same, cell-with_other}
 use Rattle.grid_view.specs.View.{sub_table}
 use Rattle.grid.specs.Make.{HasSize, EachCellIs}
 use Rattle.grid.specs.Exchanged.{InRows, PartTaken}
@@ -177,19 +177,6 @@ module _ {T : Type 0} (at : ℤ × ℤ) (u t p : List (List T)) (hu : IsTable u)
   pasted_clipped = tabulate-same (row_count t) (col_count t) _ _ (λ i j li lj. ap (λ o. option_or o (cell t i j)) (same_over i j li lj))
       (record { full = λ i j li lj. or_full (large i j) (cell t i j) ((IsFull-cells t ht).full i j li lj) })
 
--- a cell that is written, and another
-pub written_cell : {T : Type 0} (t : List (List T)) (r c : ℕ) (w : T) → IsTable t → InRange t r c → cell (with_cell t r c w) r c ≡ Some w
-written_cell t r c w h p =
-    ap (λ x. slice_get x c) (get_or-set_same t r (set (row t r) c w) [] p.0) ∙ get-set_same (row t r) c w (omega (arith, h.even r p.0, p.1))
-
-pub other_cell : {T : Type 0} (t : List (List T)) (r c i j : ℕ) (w : T) → r < row_count t → ((i ≡ r) × (j ≡ c) → ⊥) → cell (with_cell t r c w) i j ≡ cell t i j
-other_cell t r c i j w lt ne =
-    ⊎_elim (λ e.
-    ap (λ x. cell (with_cell t r c w) x j) e
-    ∙ (ap (λ x. slice_get x j) (get_or-set_same t r (set (row t r) c w) [] lt)
-    ∙ (get-set_other (row t r) c j w (λ f. ne (e, f)) ∙ ap (λ x. cell t x j) (sym e))))
-    (λ n. ap (λ x. slice_get x j) (get_or-set_other t r i (set (row t r) c w) [] n)) (cases_eq i r)
-
 module _ {T : Type 0} (returns : ℕ × ℕ → Bor T → T → Type 0) where
   pub updated_none : (P : ℕ → ℕ → Type 0) (g : GridValue T) → ((i j : ℕ) → P i j → ⊥) → CellsUpdated P returns g g
   updated_none P g none = record { order = refl; rows = refl; cols = refl; updated = λ i j p. absurd (none i j p); others = λ i j p. refl }
@@ -239,13 +226,13 @@ module _ {T : Type 0} (returns : ℕ × ℕ → Bor T → T → Type 0) where
         cols = cols;
         updated = λ i j h.
             let Made : ℕ → ℕ → Type 0 = λ x z. CellUpdated returns old.rows new.rows x z in
-            let here : Made r c = record { p = p; y = y; was = was; gave = gave; is = ap (λ t. cell t r c) is ∙ written_cell old.rows r c y old.table lt } in
+            let here : Made r c = record { p = p; y = y; was = was; gave = gave; is = ap (λ t. cell t r c) is ∙ cell-with_same old.rows old.table r c y lt.0 lt.1 } in
             let row_is : r ≡ i = omega (arith, h.row_from, h.row_before) in
             let col_is : c ≡ j = omega (arith, h.col_from, h.col_before) in
             subst (λ x. Made x j) row_is (subst (λ z. Made r z) col_is here);
         others = λ i j out.
             ap (λ t. cell t i j) is
-            ∙ other_cell old.rows r c i j y lt.0 (λ e. out (record { row_from = omega (arith, e.0); row_before = omega (arith, e.0); col_from = omega (arith, e.1); col_before = omega (arith, e.1) }));
+            ∙ cell-with_other old.rows old.table r c y i j (λ e f. out (record { row_from = omega (arith, e); row_before = omega (arith, e); col_from = omega (arith, f); col_before = omega (arith, f) }));
       }
 
 -- the test of a part

@@ -1,5 +1,6 @@
 -- Refusals of edits through the flips, and what an edit that isn't refused is.
 use Rattle.std.proofs.Common.{◌≡◌, ℕ, zero, suc, ◌+◌, ◌-◌, ◌*◌, ◌<◌, Bool, true, false, not, ◌&&◌, ◌||◌, Some, None, List, [], ◌∷◌, length, map, reverse, nat_eq, nat_lt, if◌then◌else◌, refl, sym, ◌∙◌, ap, arith, ⊎_elim}
+use Rattle.std.proofs.Math.Bool.{and_comm}
 use Rattle.std.specs.List.{list_any, list_all}
 use Rattle.std.proofs.lemmas.List.{length-reverse, length-map, reverse-append, reverse-reverse, get_or-reverse}
 use Rattle.std.proofs.lemmas.List.Folds.{list_all-append, list_any-append}
@@ -9,12 +10,6 @@ use Rattle.grid_commands.specs.declared.command.Refusal.TheVariants.{EmptyLine, 
 use Rattle.grid_commands.specs.Command.{Edit, read, push, insert_at, insert_all}
 use Rattle.grid_commands.specs.Refusal.{first_width, fitting_width, insert_refusal, edit_refusal}
 use Rattle.grid.specs.Through.{mirror_gap, edit_of_flipped, edit_of_reversed}
-
-and_comm : (x y : Bool) → (x && y) ≡ (y && x)
-and_comm true true = refl
-and_comm true false = refl
-and_comm false true = refl
-and_comm false false = refl
 
 or_comm : (x y : Bool) → (x || y) ≡ (y || x)
 or_comm true true = refl

@@ -20,6 +20,7 @@ use Rattle.grid.specs.Make.{IsOnlyDefault}
 use Rattle.grid.specs.Step.{step_rows, step_reply, takes_memory, RowsAreKnown, EditIsKnown}
 use Rattle.grid.specs.Cost.{command_symmetry, list_symmetry, step_price, step_shift}
 use Rattle.grid.specs.Run.{run_rows, run_replies, run_price, run_shift, LeftByRun, Ran, MayStop}
+use Rattle.grid.proofs.CellCallLemmas.{at_seam}
 
 module _ {T : Type 0} where
   -- what a command costs at a table
@@ -91,18 +92,6 @@ module _ {T : Type 0} (is_clone : T → T → Type 0) (is_default : T → Type 0
     ordered = refl;
   }
 
-  known_edit : (d : T) → IsOnlyDefault is_default d → (e : Edit T) → EditIsKnown is_default d e
-  known_edit d one (expand k) = one
-  known_edit d one (prepend k) = one
-  known_edit d one pop = tt
-  known_edit d one e = tt
-
-  known_all : (d : T) → IsOnlyDefault is_default d → ClonesAreEqual is_clone → (x : CommandValue T) → RowsAreKnown is_default is_clone d x
-  known_all d one same (fill v) = same
-  known_all d one same (lines a e) = known_edit d one e
-  known_all d one same size = tt
-  known_all d one same x = tt
-
   module _ (xs : List (CommandValue T)) (x : CommandValue T) (old mid new : GridValue T) (first between last : Counts) (answers more : List (ReplyValue T)) where
     pub running_more : Running is_clone is_default xs old mid first between answers → ((d : T) → RowsAreKnown is_default is_clone d x → new.rows ≡ step_rows d x mid.rows) → length more ≡ suc (length answers) → (ClonesAreEqual is_clone → more ≡ answers ++ step_reply x mid.rows ∷ []) → new.order ≡ order_after (command_symmetry x) mid.order → last.symmetry ≡ saturating_count between.symmetry (price_at x mid.rows) → last.shift ≡ saturating_count between.shift (shift_at x mid.order mid.rows) → Running is_clone is_default (xs ++ x ∷ []) old new first last more
     running_more r rows count reply order symmetry shift = record {
@@ -155,11 +144,6 @@ module _ {T : Type 0} (is_clone : T → T → Type 0) (is_default : T → Type 0
         ∙ (ap (λ zs. run_replies d zs other.rows) same ∙ (ap (run_replies d xs) rows ∙ sym (h.replies d known equal)))
     same_run_replies (Ok v) (Err e) h k = tt
     same_run_replies (Err e) q h k = tt
-
--- what stands at the length of the first part
-at_seam : {X : Type 0} (xs : List X) (y : X) (ys : List X) → slice_get (xs ++ y ∷ ys) (length xs) ≡ Some y
-at_seam [] y ys = refl
-at_seam (x ∷ xs) y ys = at_seam xs y ys
 
 pub take_at_seam : {X : Type 0} (all xs ys : List X) (n : ℕ) → xs ++ ys ≡ all → n ≡ length xs → take n all ≡ xs
 take_at_seam all xs ys n e h = rw (h, ← e) (take-append_seam xs ys)

@@ -7,7 +7,7 @@ use Rattle.grid_base.specs.Table.{row, row_count, col_count}
 use Rattle.grid_base.specs.Order.{table_of, storage, place}
 use Rattle.grid_base.specs.GridValue.{GridValue, HoldsSize}
 use Rattle.grid_base.proofs.TableLemmas.{same_tables, width-tabulate}
-use Rattle.grid_base.proofs.StorageLemmas.{IsFull-table_of, place_within}
+use Rattle.grid_base.proofs.StorageLemmas.{IsFull-table_of, place_within, get-replicate}
 use Rattle.grid_base.proofs.ViewLemmas.{view-rows, view-cols, view-storage, view-cell}
 use Rattle.grid.specs.View.{grid_value}
 use Rattle.grid.specs.AllCells.{filled}
@@ -31,11 +31,6 @@ module _ {T : Type 0} (w : T) where
   length-same : (n : ℕ) → length (replicate n w) ≡ n
   length-same zero = refl
   length-same (suc n) = ap suc (length-same n)
-
-  get_same : (n k : ℕ) → k < n → slice_get (replicate n w) k ≡ Some w
-  get_same zero k h = absurd (omega arith)
-  get_same (suc n) zero h = refl
-  get_same (suc n) (suc k) h = get_same n k (omega arith)
 
   get_filled : (xs : List T) (k : ℕ) → k < length xs → slice_get (map (λ _. w) xs) k ≡ Some w
   get_filled [] k h = absurd (omega arith)
@@ -69,7 +64,7 @@ module _ {T : Type 0} (w : T) where
         let in_row : c < n = omega (arith, width_new r lr) in
         let in_cells : place o m n r c < length cells = omega (arith, place_within o m n r c lr in_row, h.cells) in
         view-cell o m n (replicate (length cells) w) fit r c lr in_row
-        ∙ (get_same (length cells) (place o m n r c) in_cells
+        ∙ (get-replicate (length cells) w (place o m n r c) in_cells
         ∙ sym (ap (λ x. slice_get x c) (row_filled t r inside) ∙ get_filled (row t r) c (omega (arith, width r lr)))))
 
   pub seen_filled : (o : Order) (m n : ℕ) (cells news : List T) (v : GridValue T) (h : HoldsSize m n (length cells)) → grid_value o m n cells h ≡ v → news ≡ replicate (length cells) w → table_of o m n news ≡ filled w v.rows

@@ -10,6 +10,7 @@ use Rattle.grid_base.specs.Symmetry.{act}
 use Rattle.grid_base.specs.Positions.{positions}
 use Rattle.grid_base.specs.GridValue.{GridValue, HoldsSize}
 use Rattle.grid_base.specs.FlatLends.{written_from}
+use Rattle.grid_base.proofs.ActLemmas.{act_is_transposed}
 use Rattle.grid_base.proofs.ViewLemmas.{same_grid_value, view-transpose}
 use Rattle.grid.specs.View.{grid_value, with_cells}
 use Rattle.grid.specs.Iterators.{stored, refilled, refilled_from, IsSameSize, KeepsSize, KeepsSizeFrom}
@@ -19,10 +20,6 @@ use Rattle.grid.proofs.SeenLemmas.{seen_rows, seen_cols, seen_storage}
 pub place_flipped : (o : Order) (m n r c : ℕ) → place (flipped o) n m c r ≡ place o m n r c
 place_flipped RowMajor m n r c = refl
 place_flipped ColumnMajor m n r c = refl
-
-act_is_transposed : {T : Type 0} (t : List (List T)) → act Transpose t ≡ transposed t
-unfolding act
-act_is_transposed t = refl
 
 module _ {T : Type 0} (o : Order) (m n : ℕ) (cells : List T) (v : GridValue T) (h : HoldsSize m n (length cells)) (e : grid_value o m n cells h ≡ v) where
   order_is : v.order ≡ o

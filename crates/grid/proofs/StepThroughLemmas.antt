@@ -1,9 +1,11 @@
 -- Commands through the flip of the rows and the transpose, and through words of these.
 use Rattle.std.proofs.Common.{◌≡◌, ℕ, zero, suc, ◌<◌, ◌≤◌, Bool, true, false, ◌&&◌, Option, Some, None, List, nat_lt, if◌then◌else◌, refl, sym, ◌∙◌, ap, arith, ⊎_elim}
+use Rattle.std.proofs.Math.Bool.{and_comm}
 use Rattle.std.proofs.lemmas.Bool.{ltb-true, lt-ltb, le-ltb, cases_lt, and_parts}
 use Rattle.grid_base.specs.declared.words.Symmetry.{Symmetry}
 use Rattle.grid_base.specs.declared.words.Symmetry.TheVariants.{FlipRows, Transpose}
 use Rattle.grid_base.specs.Table.{row_count, col_count, IsTable, IsSize}
+use Rattle.grid_base.proofs.WriteLemmas.{IsTable-with_cell}
 use Rattle.grid_base.proofs.TableLemmas.{IsSize-table}
 use Rattle.grid_base.specs.Symmetry.{act}
 use Rattle.grid.specs.Step.{rows_after, reply_to, step_rows, step_reply, takes_memory}
@@ -19,7 +21,7 @@ use Rattle.grid_commands.specs.declared.command.Refusal.TheVariants.{Index}
 use Rattle.grid.proofs.ColEditLemmas.{across-none, rows-across, cols-across}
 use Rattle.grid.proofs.RefusalLemmas.{command_refusal-edit_of_flipped, command_refusal-edit_of_reversed}
 use Rattle.grid.proofs.EditThroughLemmas.{place_past, memory-edit_of_flipped, memory-edit_of_reversed, rows-edit_flipped, cols-edit_flipped, rows-edit_across, cols-edit_across, table-rows_edit, table-cols_edit, reply-rows_flip, reply-cols_flip, reply-rows_cross, reply-cols_cross}
-use Rattle.grid.proofs.CellThroughLemmas.{cell-flip, cell-cross, set-flip, set-cross, swap-flip, swap-cross, fill-flip, fill-cross, none-flip, apply-through, IsTable-with, IsTable-exchanged, IsTable-filled}
+use Rattle.grid.proofs.CellThroughLemmas.{cell-flip, cell-cross, set-flip, set-cross, swap-flip, swap-cross, fill-flip, fill-cross, none-flip, apply-through, IsTable-exchanged, IsTable-filled}
 
 module _ {T : Type 0} where
   -- an axis that a command may be said to be of: any where it speaks of no lines
@@ -67,14 +69,8 @@ in_range-parts m n p e = let b = and_parts (nat_lt p.0 m) (nat_lt p.1 n) e in (l
 in_range-flip : (m n : ℕ) (p : ℕ × ℕ) → in_range m n p ≡ in_range m n (mirror_place m p.0, p.1)
 in_range-flip m n p = ap (λ b. b && nat_lt p.1 n) (sym (place_past m p.0))
 
-and_exchanged : (x y : Bool) → (x && y) ≡ (y && x)
-and_exchanged true true = refl
-and_exchanged true false = refl
-and_exchanged false true = refl
-and_exchanged false false = refl
-
 in_range-cross : (m n : ℕ) (p : ℕ × ℕ) → in_range n m p ≡ in_range m n (p.1, p.0)
-in_range-cross m n p = and_exchanged (nat_lt p.0 n) (nat_lt p.1 m)
+in_range-cross m n p = and_comm (nat_lt p.0 n) (nat_lt p.1 m)
 
 index-none : (b : Bool) → ◌≡◌ {A = Option Refusal} (if b then None else Some Index) None → b ≡ true
 index-none true e = refl
@@ -202,7 +198,7 @@ module _ {T : Type 0} where
   table-rows_after : (d : T) (x : CommandValue T) (t : List (List T)) → IsTable t → command_refusal x (row_count t) (col_count t) ≡ None → IsTable (rows_after d x t)
   table-rows_after d size t h none = h
   table-rows_after d (get r c) t h none = h
-  table-rows_after d (set_cell r c v) t h none = IsTable-with t h r c v
+  table-rows_after d (set_cell r c v) t h none = IsTable-with_cell t h r c v
   table-rows_after d (swap_cells p q) t h none = IsTable-exchanged t h p q
   table-rows_after d (lines Row e) t h none = table-rows_edit d e t h none
   table-rows_after d (lines Col e) t h none = table-cols_edit d e t h none

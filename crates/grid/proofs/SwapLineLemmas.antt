@@ -2,12 +2,11 @@
 use Rattle.std.proofs.Common.{◌≡◌, ◌≢◌, ℕ, ◌+◌, ◌*◌, ◌<◌, ◌≤◌, Bool, true, false, nat_eq, if◌then◌else◌, Option, Some, None, List, [], ◌∷◌, length, set, get_or, IsSome, refl, sym, ◌∙◌, ap, arith, ⊎_elim}
 use Rattle.std.specs.Bool.{Decides}
 use Rattle.std.specs.List.{slice_get, swap}
-use Rattle.std.specs.Option.{unwrap_or}
 use Rattle.std.proofs.Math.ListN.{get_or-map}
 use Rattle.std.proofs.Math.Nat.{mul-le-mul_right}
 use Rattle.std.proofs.lemmas.List.{length-set, length-map}
 use Rattle.std.proofs.lemmas.List.Edits.{swap_is, length-swap}
-use Rattle.std.proofs.lemmas.Option.{slice_get-get_or, unwrap_or-slice_get}
+use Rattle.std.proofs.lemmas.Option.{slice_get-get_or}
 use Rattle.std.proofs.lemmas.Bool.{cases_lt}
 use Rattle.std.proofs.lemmas.Bool.Decides.{nat_tests}
 use Rattle.grid_base.specs.declared.order.Order.TheVariants.{RowMajor}
@@ -20,9 +19,9 @@ use Rattle.grid_base.specs.Symmetry.{act}
 use Rattle.grid_base.proofs.ActLemmas.{cell-act, rows-act}
 use Rattle.grid_base.proofs.TableLemmas.{IsSome_within, same_tables}
 use Rattle.grid_base.proofs.ViewLemmas.{view-rows, view-cols, view-table, view-cell}
-use Rattle.grid_base.proofs.WriteLemmas.{get-set_same, get-set_other}
+use Rattle.grid_base.proofs.WriteLemmas.{get-set_same, get-set_other, cell-with_same, cell-with_other, rows-with_cell_of, cols-with_cell_of, IsTable-with_cell_of}
 use Rattle.grid.specs.Parts.{cols_swapped}
-use Rattle.grid.proofs.CellThroughLemmas.{cell-with_same, cell-with_other, IsTable-of, rows-of, cols-of}
+use Rattle.grid.proofs.ListEditLemmas.{get_or-same}
 
 if_cases : {X : Type 0} (P : X → Type 0) (c : Bool) (W : Type 0) (x y : X) → Decides c W → (W → P x) → ((W → ⊥) → P y) → P (if c then x else y)
 if_cases P true W x y d p q = p (d.0 refl)
@@ -57,14 +56,11 @@ module _ {X : Type 0} where
       ∙ (ap (slice_get once) e ∙ (get-set_same xs a (get_or xs b d) la ∙ sym (slice_get-get_or xs b d lb))))
       (λ nb na. get-set_other once b k (get_or xs a d) nb ∙ get-set_other xs a k (get_or xs b d) na)
 
-  get_or_by : (xs ys : List X) (i j : ℕ) (d : X) → slice_get xs i ≡ slice_get ys j → get_or xs i d ≡ get_or ys j d
-  get_or_by xs ys i j d e = sym (unwrap_or-slice_get xs i d) ∙ (ap (λ o. unwrap_or o d) e ∙ unwrap_or-slice_get ys j d)
-
 -- a table by its cells, where two lines of another have changed places
 module _ {T : Type 0} (t u : List (List T)) (h : IsTable t) (k : IsTable u) (rows : row_count u ≡ row_count t) (cols : col_count u ≡ col_count t) (a b : ℕ) where
   pub swapped_rows : a < row_count t → b < row_count t → ((r c : ℕ) → r < row_count t → c < col_count t → cell u r c ≡ cell t (partner a b r) c) → u ≡ swap t a b
   swapped_rows la lb cells =
-      let at_row : (r : ℕ) → row (swap t a b) r ≡ row t (partner a b r) = λ r. get_or_by (swap t a b) t r (partner a b r) [] (get-swap t a b r la lb) in
+      let at_row : (r : ℕ) → row (swap t a b) r ≡ row t (partner a b r) = λ r. get_or-same (swap t a b) t r (partner a b r) [] (get-swap t a b r la lb) in
       same_tables u (swap t a b) (rows ∙ sym (length-swap t a b))
       (λ r lr. k.even r lr ∙ (cols ∙ sym (ap length (at_row r) ∙ h.even (partner a b r) (partner_within a b r _ la lb (omega arith)))))
       (λ r c lr lc. cells r c (omega arith) (omega (arith, k.even r lr)) ∙ sym (ap (λ v. slice_get v c) (at_row r)))
@@ -113,7 +109,7 @@ cols_by_rows t h a b u v hu hv la lb swapped back rows cols =
     ap (λ x. cell x r c) back
     ∙ (cell-act Transpose u r c hu (omega arith) (omega arith)
     ∙ (ap (λ x. cell x c r) swapped
-    ∙ (ap (λ x. slice_get x r) (get_or_by (swap turned a b) turned c (partner a b c) [] (get-swap turned a b c (omega (arith, rows-act Transpose t)) (omega (arith, rows-act Transpose t))))
+    ∙ (ap (λ x. slice_get x r) (get_or-same (swap turned a b) turned c (partner a b c) [] (get-swap turned a b c (omega (arith, rows-act Transpose t)) (omega (arith, rows-act Transpose t))))
     ∙ cell-act Transpose t (partner a b c) r h (partner_within a b c _ la lb lc) lr))))
 
 -- cells that are exchanged one by one
@@ -138,11 +134,11 @@ module _ {T : Type 0} where
     pub rows_exchanged : (i : ℕ) → cell (exchanged t (a, k) (b, k)) i k ≡ cell t (partner a b i) k
     unfolding once
     rows_exchanged i =
-        let once_table = IsTable-of t h a k (cell t b k) in
+        let once_table = IsTable-with_cell_of t h a k (cell t b k) in
         partner_cases (λ p. cell (exchanged t (a, k) (b, k)) i k ≡ cell t p k) a b i
         (λ e.
         ap (λ x. cell (exchanged t (a, k) (b, k)) x k) e
-        ∙ of-same once once_table b k (cell t a k) (omega (arith, rows-of t h a k (cell t b k))) (omega (arith, cols-of t h a k (cell t b k))) (some_cell t h a k la lk))
+        ∙ of-same once once_table b k (cell t a k) (omega (arith, rows-with_cell_of t h a k (cell t b k))) (omega (arith, cols-with_cell_of t h a k (cell t b k))) (some_cell t h a k la lk))
         (λ nb e.
         of-other once once_table b k (cell t a k) i k (λ f. absurd (nb f))
         ∙ (ap (λ x. cell once x k) e ∙ of-same t h a k (cell t b k) la lk (some_cell t h b k lb lk)))
@@ -150,7 +146,7 @@ module _ {T : Type 0} where
 
     pub others_kept : (i j : ℕ) → j ≢ k → cell (exchanged t (a, k) (b, k)) i j ≡ cell t i j
     unfolding once
-    others_kept i j ne = of-other once (IsTable-of t h a k (cell t b k)) b k (cell t a k) i j (λ _. ne) ∙ of-other t h a k (cell t b k) i j (λ _. ne)
+    others_kept i j ne = of-other once (IsTable-with_cell_of t h a k (cell t b k)) b k (cell t a k) i j (λ _. ne) ∙ of-other t h a k (cell t b k) i j (λ _. ne)
 
 -- a table in which the first k cells of two rows have changed places
 pub record RowsSwapping {T : Type 0} (a b k : ℕ) (old now : GridValue T) : Type 0 where

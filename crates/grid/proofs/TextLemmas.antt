@@ -12,15 +12,11 @@ use borrow.Author.Tests.{lt-ltb, le-ltb, ne_eqb}
 use Rattle.std.specs.Ordering.{ord_max, nat_cmp}
 use Rattle.grid_base.specs.Table.{row, row_count, col_count, IsTable, concat_rows}
 use Rattle.grid.specs.Texts.{numbers, longest, right_aligned, row_line, text_in_width}
-
-take_suc : {X : Type 0} (xs : List X) (i : ℕ) (x : X) → slice_get xs i ≡ Some x → take (suc i) xs ≡ take i xs ++ x ∷ []
-take_suc [] i x e = absurd (cc)
-take_suc (y ∷ ys) zero x e = let same : y ≡ x = cc in ap (λ z. z ∷ []) same
-take_suc (y ∷ ys) (suc i) x e = ap (λ l. y ∷ l) (take_suc ys i x e)
+use Rattle.grid_base.proofs.ClosureLemmas.{take_at_suc}
 
 -- one more item, which is the one at the next place
 pub take_next : {X : Type 0} (xs : List X) (i : ℕ) (x : X) → slice_get xs i ≡ Some x → take (i + 1) xs ≡ take i xs ++ x ∷ []
-take_next xs i x e = rw add-one (take_suc xs i x e)
+take_next xs i x e = rw add-one (take_at_suc xs i x e)
 
 pub length_before : {X : Type 0} (xs : List X) (i : ℕ) (x : X) → slice_get xs i ≡ Some x → length (take i xs) ≡ i
 length_before [] i x e = absurd (cc)

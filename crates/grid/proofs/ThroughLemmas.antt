@@ -11,7 +11,7 @@ use Rattle.grid.proofs.EditSizeLemmas.{LinesFit, IsTable-put, IsTable-take, IsTa
 use Rattle.grid.proofs.ColEditLemmas.{across-across}
 use Rattle.grid.specs.Step.{Effect, nothing, inserts, removes, pads_end, pads_front, after_effect}
 use Rattle.grid.proofs.MirrorLemmas.{flip_rows-is, flip_cols-is}
-use Rattle.grid.proofs.EffectLemmas.{IsApplicable, flipped_effect, reversed_effect, effect-flipped, effect-reversed, effect-across}
+use Rattle.grid.proofs.EffectLemmas.{IsApplicable, flipped_effect, reversed_effect, effect-flipped, effect-reversed, effect-across, cols-flipped}
 
 module _ {T : Type 0} where
   IsTable-reverse : (t : List (List T)) → IsTable t → IsTable (reverse t)
@@ -19,9 +19,6 @@ module _ {T : Type 0} where
 
   IsTable-reversed_rows : (t : List (List T)) → IsTable t → IsTable (map reverse t)
   IsTable-reversed_rows t h = subst IsTable (flip_cols-is t h) (IsTable-act FlipCols t h)
-
-  cols-reverse : (t : List (List T)) → IsTable t → col_count (reverse t) ≡ col_count t
-  cols-reverse t h = ap col_count (sym (flip_rows-is t h)) ∙ cols-act FlipRows t h
 
   cols-reversed_rows : (t : List (List T)) → IsTable t → col_count (map reverse t) ≡ col_count t
   cols-reversed_rows t h = ap col_count (sym (flip_cols-is t h)) ∙ cols-act FlipCols t h
@@ -33,7 +30,7 @@ module _ {T : Type 0} where
         in_rows = omega (arith, g.in_rows, length-reverse t);
         old = h;
         new = IsTable-reverse ls g.new;
-        width = λ some more. cols-reverse ls g.new ∙ (g.width (omega (arith, length-reverse t)) (omega (arith, length-reverse ls)) ∙ cols-reverse t h);
+        width = λ some more. cols-flipped ls g.new ∙ (g.width (omega (arith, length-reverse t)) (omega (arith, length-reverse ls)) ∙ cols-flipped t h);
       }
   applicable-flipped (removes i k) t h g = record { is_table = h; in_rows = omega (arith, g.in_rows, length-reverse t) }
   applicable-flipped (pads_end k) t h g = h

@@ -1,8 +1,8 @@
 -- The image of a table under a symmetry.
-use Rattle.std.proofs.Common.{◌≡◌, ℕ, ◌<◌, Option, List, ◌∙◌, arith}
+use Rattle.std.proofs.Common.{◌≡◌, ℕ, ◌<◌, Option, List, refl, ◌∙◌, arith}
 use Rattle.grid_base.specs.declared.words.Symmetry.{Symmetry}
 use Rattle.grid_base.specs.declared.words.Symmetry.TheVariants.{Identity, FlipCols, FlipRows, RotateHalf, Transpose, RotateLeft, RotateRight, AntiTranspose}
-use Rattle.grid_base.specs.Table.{row_count, col_count, cell, IsTable, IsSize, tabulate}
+use Rattle.grid_base.specs.Table.{row_count, col_count, cell, IsTable, IsSize, tabulate, transposed}
 use Rattle.grid_base.specs.Symmetry.{source_row, source_col, image_rows, image_cols, act}
 use Rattle.grid_base.proofs.TableLemmas.{rows-tabulate, cols-tabulate, cell-tabulate, tabulate-same, IsFull, IsTable-tabulate, IsFull-cells, IsSize-table}
 
@@ -60,3 +60,7 @@ cols-act s t h = cols-tabulate _ _ _ (IsSize-image s _ _ (IsSize-table t h)) (Is
 pub cell-act : {T : Type 0} (s : Symmetry) (t : List (List T)) (i j : ℕ) → IsTable t → i < image_rows s (row_count t) (col_count t) → j < image_cols s (row_count t) (col_count t) → cell (act s t) i j ≡ image_cell s (row_count t) (col_count t) (cell t) i j
 unfolding act
 cell-act s t i j h p q = cell-tabulate _ _ _ i j (IsFull-image s _ _ (cell t) (IsFull-cells t h)) p q
+
+pub act_is_transposed : {T : Type 0} (t : List (List T)) → act Transpose t ≡ transposed t
+unfolding act
+act_is_transposed t = refl

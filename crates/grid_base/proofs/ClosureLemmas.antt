@@ -58,13 +58,6 @@ module _ {F A B : Type 0} (takes : F → A → Type 0) (step : F → A → B →
       whole.at (length done) x ys g (omega (arith, length-append done (x ∷ rest))) (sym (get_or-append_seam done x rest x))
       (subst (λ l. MapsThrough step f l ys g) (sym (take_seam done (x ∷ rest))) a)
 
-module _ {F A B : Type 0} (m : Mut F (A × Unit {0}) B) where
-  always_after : (f g : F) (xs : List A) (ys : List B) → MapsThrough (λ p x y q. Called m p (x, tt) y q) f xs ys g → always_mut m f → always_mut m g
-  always_after f g [] [] a h = subst (always_mut m) a h
-  always_after f g [] (y ∷ ys) a h = absurd a
-  always_after f g (x ∷ xs) [] a h = absurd a
-  always_after f g (x ∷ xs) (y ∷ ys) a h = always_after a.0 g xs ys a.2 (mut_next m f (x, tt) y a.0 a.0 a.1 refl h)
-
 -- the closure can be called at the item after those that it answered, where no call changes it
 pub callable_item : {F A : Type 0} (takes : F → A → Type 0) (f : F) (xs done rest : List A) (x : A) → CallableAtItems takes f xs → done ++ x ∷ rest ≡ xs → takes f x
 callable_item takes f xs done rest x h is =
@@ -94,7 +87,7 @@ take_whole (suc n) (x ∷ xs) h = ap (λ l. x ∷ l) (take_whole n xs (omega ari
 pub take_front : {A : Type 0} (n : ℕ) (xs ys : List A) → length xs ≡ n → take n (xs ++ ys) ≡ xs
 take_front n xs ys h = ap (λ k. take k (xs ++ ys)) (sym h) ∙ take_seam xs ys
 
-take_at_suc : {X : Type 0} (xs : List X) (k : ℕ) (x : X) → slice_get xs k ≡ Some x → take (suc k) xs ≡ take k xs ++ x ∷ []
+pub take_at_suc : {X : Type 0} (xs : List X) (k : ℕ) (x : X) → slice_get xs k ≡ Some x → take (suc k) xs ≡ take k xs ++ x ∷ []
 take_at_suc [] k x h = cc
 take_at_suc (y ∷ xs) zero x h = let same : y ≡ x = cc in ap (λ z. z ∷ []) same
 take_at_suc (y ∷ xs) (suc k) x h = ap (λ l. y ∷ l) (take_at_suc xs k x h)

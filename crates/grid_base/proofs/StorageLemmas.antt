@@ -1,5 +1,5 @@
 -- A table and its cells in storage order.
-use Rattle.std.proofs.Common.{◌≡◌, ℕ, zero, suc, ◌+◌, ◌*◌, ◌/◌, ◌%◌, ◌<◌, List, [], ◌∷◌, ◌++◌, length, take, drop, refl, sym, ◌∙◌, ap, arith, length-append}
+use Rattle.std.proofs.Common.{◌≡◌, ℕ, zero, suc, ◌+◌, ◌*◌, ◌/◌, ◌%◌, ◌<◌, Some, List, [], ◌∷◌, ◌++◌, length, take, drop, replicate, refl, sym, ◌∙◌, ap, arith, length-append}
 use Rattle.std.specs.List.{slice_get}
 use Rattle.std.proofs.lemmas.Nat.{mul-add-lt, div_below, mod_below, div-add-mod'}
 use Rattle.std.proofs.Math.Nat.{mul_comm}
@@ -30,6 +30,11 @@ get-drop zero xs k j e = let same : j ≡ k = omega arith in ap (slice_get xs) s
 get-drop (suc n) [] k j e = refl
 get-drop (suc n) (x ∷ xs) zero j e = absurd (omega arith)
 get-drop (suc n) (x ∷ xs) (suc k) j e = get-drop n xs k j (omega arith)
+
+pub get-replicate : {T : Type 0} (k : ℕ) (d : T) (j : ℕ) → j < k → slice_get (replicate k d) j ≡ Some d
+get-replicate zero d j lt = absurd (omega arith)
+get-replicate (suc k) d zero lt = refl
+get-replicate (suc k) d (suc j) lt = get-replicate k d j (omega arith)
 
 -- lines of one length, joined
 pub length-concat_rows : {T : Type 0} (t : List (List T)) (n : ℕ) → ((r : ℕ) → r < length t → length (row t r) ≡ n) → length (concat_rows t) ≡ length t * n

@@ -6,11 +6,12 @@ use Rattle.grid_commands.specs.declared.command.Axis.TheVariants.{Col}
 use Rattle.grid_commands.specs.Command.{read, lines}
 use Rattle.grid_commands.specs.Reply.{line_is}
 use Rattle.grid.specs.Step.{step_reply}
-use Rattle.grid.proofs.ColEditLemmas.{across-transposed, rows-across}
+use Rattle.grid_base.proofs.ActLemmas.{act_is_transposed}
+use Rattle.grid.proofs.ColEditLemmas.{rows-across}
 
 module _ {T : Type 0} where
   columns : (t : List (List T)) → IsTable t → length (transposed t) ≡ col_count t
-  columns t h = ap row_count (sym (across-transposed t)) ∙ rows-across t h
+  columns t h = ap row_count (sym (act_is_transposed t)) ∙ rows-across t h
 
   pub read_col_some : (at : ℕ) (t : List (List T)) → IsTable t → at < col_count t → line_is (Some (row (transposed t) at)) ≡ step_reply (lines Col (read at)) t
   unfolding step_reply

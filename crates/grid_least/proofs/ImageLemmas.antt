@@ -15,6 +15,8 @@ use Rattle.grid_base.proofs.TableLemmas.{same_cells}
 use Rattle.grid_least.specs.Least.{HasDifferentCells, IsLeast}
 use Rattle.grid_least.proofs.MirrorLemmas.{HasDifferentItems, least_by_mirror}
 use Rattle.grid_least.proofs.PassLemmas.{cut, across, across_at, along, along_at, halves, mirror_across, mirror_along, mirror_whole, mirror_none}
+use Rattle.grid.proofs.SeenIteratorLemmas.{place_flipped}
+use Rattle.grid.proofs.FlipLemmas.{opposite_place}
 
 -- the items of the storage of a table of different cells
 pub different_storage : {T : Type 0} (o : Order) (t : List (List T)) → IsTable t → HasDifferentCells t → HasDifferentItems (storage o t)
@@ -52,18 +54,6 @@ module _ {T : Type 0} (xs ys : List T) (d : HasDifferentItems xs) where
 
   none_flipped : (n : ℕ) → length xs ≡ n → length ys ≡ n → ((k : ℕ) → k < n → slice_get ys k ≡ slice_get xs k) → IsLeast 0 xs ys
   none_flipped n lx ly same = least_by_mirror n 0 (λ k. k) (λ x. x) (mirror_none n) xs ys lx ly same d
-
--- the place of the cell that stands opposite
-opposite : (p q i j : ℕ) → i < p → j < q → p * q - 1 - (i * q + j) ≡ (p - 1 - i) * q + (q - 1 - j)
-opposite p q i j a b =
-    let whole : (p - 1 - i) + (i + 1) ≡ p = omega arith in
-    let rest : (q - 1 - j) + (j + 1) ≡ q = omega arith in
-    let all : ((p - 1 - i) + (i + 1)) * q ≡ p * q = ap (λ x. x * q) whole in
-    omega arith
-
-opposite_place : (o : Order) (m n r c : ℕ) → r < m → c < n → m * n - 1 - place o m n r c ≡ place o m n (m - 1 - r) (n - 1 - c)
-opposite_place RowMajor m n r c a b = opposite m n r c a b
-opposite_place ColumnMajor m n r c a b = let e = opposite n m c r b a in omega arith
 
 module _ {T : Type 0} (t : List (List T)) (h : IsTable t) (d : HasDifferentCells t) (ys : List T) (ly : length ys ≡ row_count t * col_count t) where
   -- a storage whose cell at each place is that of another place
@@ -125,18 +115,13 @@ length-image s o t h =
     length-storage (order_after s o) (act s t) (IsTable-act s t h)
     ∙ (ap (λ x. x * col_count (act s t)) (rows-act s t) ∙ ap (λ x. image_rows s (row_count t) (col_count t) * x) (cols-act s t h))
 
--- a cell's place in the other order of the transposed table
-place_across : (o : Order) (m n r c : ℕ) → place (flipped o) n m c r ≡ place o m n r c
-place_across RowMajor m n r c = refl
-place_across ColumnMajor m n r c = refl
-
 module _ {T : Type 0} (o : Order) (t : List (List T)) (h : IsTable t) (d : HasDifferentCells t) where
   abbrev stored : Symmetry → List T
   stored s = storage (order_after s o) (act s t)
 
   -- from the place in the order of the table to that in the other
   through : (s : Symmetry) (r c : ℕ) → slice_get (stored s) (place o (row_count t) (col_count t) r c) ≡ slice_get (stored s) (place (flipped o) (col_count t) (row_count t) c r)
-  through s r c = ap (slice_get (stored s)) (sym (place_across o (row_count t) (col_count t) r c))
+  through s r c = ap (slice_get (stored s)) (sym (place_flipped o (row_count t) (col_count t) r c))
 
   pub price_is_least : (s : Symmetry) → IsLeast (price s (row_count t) (col_count t)) (storage o t) (stored s)
   price_is_least Identity = not_flipped t h d (stored Identity) (length-image Identity o t h) o (λ r c p q. image_at Identity o t r c h p q)
@@ -165,7 +150,7 @@ storage_across o t h =
     same_cells (storage (flipped o) (act Transpose t)) (storage o t) (omega arith)
     (λ k lt.
     let p = has_place o (row_count t) (col_count t) k (omega arith) in
-    ap (slice_get (storage (flipped o) (act Transpose t))) (sym (place_across o (row_count t) (col_count t) p.r p.c ∙ p.is))
+    ap (slice_get (storage (flipped o) (act Transpose t))) (sym (place_flipped o (row_count t) (col_count t) p.r p.c ∙ p.is))
     ∙ (image_at Transpose o t p.c p.r h p.lc p.lr
     ∙ (sym (get-storage o t p.r p.c h p.lr p.lc) ∙ ap (slice_get (storage o t)) p.is)))
 

@@ -8,7 +8,7 @@ use Rattle.grid_base.specs.declared.order.Order.{Order}
 use Rattle.grid_base.specs.Table.{row, row_count, col_count, cell, IsTable}
 use Rattle.grid_base.specs.Order.{storage, place}
 use Rattle.grid_base.proofs.TableLemmas.{same_tables}
-use Rattle.grid_base.proofs.StorageLemmas.{get_append_left, get_append_right, length-storage, get-storage, has_place, place_within}
+use Rattle.grid_base.proofs.StorageLemmas.{get_append_left, get_append_right, length-storage, get-storage, has_place, place_within, get-replicate}
 use Rattle.grid.specs.Edits.{insert_rows, without_rows}
 use Rattle.grid.specs.Shift.{rows_added_shift, rows_taken_shift}
 use Rattle.grid.proofs.RowEditLemmas.{row-put_before, row-put_new, row-put_after, rows-put, row-take_before, row-take_after, rows-take, shift-taken}
@@ -17,10 +17,6 @@ use Rattle.grid_least.specs.Least.{AreWithin, Makes, IsLeast, HasDifferentCells,
 use Rattle.grid_least.proofs.OriginLemmas.{origin, origin_within, origin_different, makes, made, undoing, length-undoing, undoing_within, origin_undone}
 use Rattle.grid_least.proofs.PigeonLemmas.{IsAlone}
 use Rattle.grid_least.proofs.DeleteLemmas.{skip, skip_before, skip_after, skip_below, AreAlone, alone_at, taken_is_least}
-
-get-replicate : {T : Type 0} (n : ℕ) (d : T) (k : ℕ) → k < n → slice_get (replicate n d) k ≡ Some d
-get-replicate n d k lt =
-    slice_get-get_or (replicate n d) k d (omega (arith, length-replicate n d)) ∙ ap (λ x. Some x) (get_or-replicate n k d d lt)
 
 -- a list of which each item is d, or one of the shorter list and like no other
 module _ {T : Type 0} (d : T) (xs ys : List T) (le : length ys ≤ length xs) (each : (j : ℕ) → j < length xs → (slice_get xs j ≡ Some d) ⊎ ((x : ℕ) × (x < length ys) × (slice_get xs j ≡ slice_get ys x))) (alone : (x : ℕ) → x < length ys → (i : ℕ) × IsAlone xs i × (slice_get xs i ≡ slice_get ys x)) where

@@ -199,9 +199,6 @@ at_strides RowMajor m n r c = omega arith
 at_strides ColumnMajor m n r c = omega arith
 
 module _ {T : Type 0} (o : Order) (t : List (List T)) (h : IsTable t) where
-  abbrev size_of : ℕ × ℕ
-  size_of = (row_count t, col_count t)
-
   pub holds_cells : HoldsCells (storage o t) (row_count t, col_count t) (strides_of o (row_count t, col_count t))
   holds_cells r c lr lc = omega (arith, at_strides o (row_count t) (col_count t) r c, place_within o (row_count t) (col_count t) r c lr lc, length-storage o t h)
 

@@ -2,7 +2,7 @@
 use Rattle.std.proofs.Common.{◌≡◌, ◌≢◌, ℕ, ◌+◌, ◌-◌, ◌%◌, ◌^◌, ◌<◌, ◌⊎◌, Bool, true, false, Option, None, Some, List, refl, sym, ◌∙◌, subst, arith, inl, inr, ⊎_elim}
 use Rattle.std.proofs.lemmas.Bool.{cases_eq}
 use Rattle.grid_base.specs.Table.{row_count, col_count, cell, with_cell, IsTable, InRange}
-use Rattle.grid.proofs.CellThroughLemmas.{cell-with_same, cell-with_other}
+use Rattle.grid_base.proofs.WriteLemmas.{cell-with_same, cell-with_other}
 use Rattle.grid_paths.specs.Walks.{IsOpen}
 use Rattle.grid_paths.specs.Search.{HaveOneSize, IsMarked, IsLeft}
 use Rattle.grid_paths.proofs.StepLemmas.{same_pair, AreAround, AreAround-wrapping}

@@ -7,6 +7,7 @@ use Rattle.std.proofs.lemmas.List.{length-reverse, get_or-reverse, reverse-appen
 use Rattle.std.proofs.lemmas.Nat.{div-mul-add, mul-le}
 use Rattle.std.proofs.lemmas.Option.{slice_get-get_or}
 use Rattle.grid_base.specs.Table.{row, row_count}
+use Rattle.grid_base.proofs.PartLemmas.{get-reverse}
 use Rattle.grid_base.proofs.TableLemmas.{same_cells}
 use Rattle.grid_base.proofs.StrideLemmas.{get-strided, length-line_of, ceil_is, every_one, nth_found}
 use Rattle.grid_base.specs.Remaining.{IsRemaining, remaining}
@@ -30,13 +31,6 @@ ceil_line n s some steps =
     next = let more : n ≡ n - 1 + 1 = omega arith in ap (λ x. x * s) more ∙ omega arith
 
 module _ {T : Type 0} where
-  get-reverse : (l : List T) (c : ℕ) → c < length l → slice_get (reverse l) c ≡ slice_get l (length l - 1 - c)
-  get-reverse [] c lt = absurd (omega (arith, lt))
-  get-reverse (x ∷ xs) c lt =
-      let l = x ∷ xs in
-      slice_get-get_or (reverse l) c x (omega (arith, length-reverse l, lt))
-      ∙ (ap (λ v. Some v) (get_or-reverse l c x lt) ∙ sym (slice_get-get_or l (length l - 1 - c) x (omega (arith, lt))))
-
   pub get-directed : (b : Bool) (l : List T) (k c : ℕ) → length l ≡ k → c < k → slice_get (directed b l) c ≡ slice_get l (counted b k c)
   get-directed true l k c e lt = get-reverse l c (omega (arith, e, lt)) ∙ ap (λ n. slice_get l (n - 1 - c)) e
   get-directed false l k c e lt = refl

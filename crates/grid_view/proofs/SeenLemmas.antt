@@ -118,10 +118,6 @@ module _ {T : Type 0} (rows cols : Axis) (cells : List T) (h : HoldsView rows co
   pub seen_crossed : seen cols rows cells ≡ act Transpose (seen rows cols cells)
   seen_crossed = image Transpose cols rows refl refl (λ i j li lj. let swapped : offset cols i + offset rows j ≡ offset rows j + offset cols i = omega arith in ap (slice_get cells) swapped)
 
-pub act_is_transposed : {T : Type 0} (t : List (List T)) → act Transpose t ≡ transposed t
-unfolding act
-act_is_transposed t = refl
-
 pub holds_turned : (rows cols : Axis) (len : ℕ) (p q : Bool) → HoldsView rows cols len → HoldsView (turned rows p) (turned cols q) len
 holds_turned rows cols len p q h = record { size = h.size; below = h.below; within = h.within; row_steps = h.row_steps; col_steps = h.col_steps }
 

@@ -3,7 +3,8 @@ use Rattle.grid_base.specs.declared.words.Symmetry.TheVariants.{Transpose}
 use Rattle.grid_base.specs.Symmetry.{act}
 use Rattle.grid_base.specs.Table.{row_count, col_count}
 use Rattle.grid.specs.Edits.{insert_cols}
-use Rattle.grid.proofs.ColEditLemmas.{across-none, across-transposed}
+use Rattle.grid_base.proofs.ActLemmas.{act_is_transposed}
+use Rattle.grid.proofs.ColEditLemmas.{across-none}
 use Rattle.grid.proofs.TransposedEditLemmas.{fits_across, cols_inserted, twice_across}
 use Rattle.grid.proofs.AppendLemmas.{put_last}
 use Rattle.grid.proofs.grid.Grid.append_cols.Goals as goal
@@ -23,7 +24,7 @@ returns-in-Ok-clause-rows g c =
     cols_inserted (col_count t.rows) lines.rows t.rows c.transpose.new.self.rows _ _ t.table lines.table
     (λ some. rw c.transpose-2.ensures.col_count (c.requires.fits (omega (arith, some, c.transpose-2.ensures.row_count)))) (omega arith) c.transpose.ensures.rows c.transpose-3.ensures.rows
     (c.in-Ok.ensures.rows ∙ sym (put_last (col_count t.rows) lines.rows c.transpose.new.self.rows end))
-    ∙ ap (λ l. insert_cols (col_count t.rows) l t.rows) (c.transpose-2.ensures.rows ∙ across-transposed c.args.other.rows)
+    ∙ ap (λ l. insert_cols (col_count t.rows) l t.rows) (c.transpose-2.ensures.rows ∙ act_is_transposed c.args.other.rows)
 
 pub returns-in-Ok-clause-fails : goal.returns-in-Ok-clause-fails
 returns-in-Ok-clause-fails g c =

@@ -1,6 +1,5 @@
 use Rattle.grid_base.specs.declared.words.Symmetry.TheVariants.{Transpose}
-use Rattle.grid_base.proofs.ActLemmas.{rows-act}
-use Rattle.grid.proofs.ColEditLemmas.{across-transposed}
+use Rattle.grid_base.proofs.ActLemmas.{rows-act, act_is_transposed}
 use Rattle.grid.proofs.TransposedEditLemmas.{on_ok, on_err, col_removed, twice_across}
 use Rattle.grid.proofs.grid.Grid.remove_col.Goals as goal
 
@@ -11,7 +10,7 @@ returns-clause-rows g c =
 
 pub returns-clause-line : goal.returns-clause-line
 returns-clause-line g c =
-    rw (c.transpose.ensures.rows, rows-act Transpose c.args.self.now.rows, across-transposed c.args.self.now.rows) at c.remove_row-removed.ensures.line
+    rw (c.transpose.ensures.rows, rows-act Transpose c.args.self.now.rows, act_is_transposed c.args.self.now.rows) at c.remove_row-removed.ensures.line
 
 pub returns-clause-err : goal.returns-clause-err
 returns-clause-err g c =

@@ -1,7 +1,8 @@
 use Rattle.std.proofs.Common.{◌∙◌, ap}
 use Rattle.grid_base.specs.declared.words.Symmetry.TheVariants.{Transpose}
 use Rattle.grid_base.specs.Symmetry.{act}
-use Rattle.grid_view.proofs.SeenLemmas.{HoldsView-crossed, seen_crossed, act_is_transposed}
+use Rattle.grid_base.proofs.ActLemmas.{act_is_transposed}
+use Rattle.grid_view.proofs.SeenLemmas.{HoldsView-crossed, seen_crossed}
 use Rattle.grid_view.proofs.view.GridView.transposed.Goals as goal
 
 pub invariant_of-result : goal.invariant_of-result
