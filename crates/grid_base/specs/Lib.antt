@@ -20,6 +20,7 @@ pub mod GridLineIterMut
 pub mod IndexedIterMut
 pub mod FlatLends
 pub mod ClosureCalls
+pub mod Updated
 pub mod Gather
 pub mod Clones
 pub mod Relaid

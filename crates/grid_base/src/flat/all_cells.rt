@@ -2,6 +2,7 @@
 ghost use Rattle.std.specs.Prelude.{◌≡◌, ◌+◌, ◌*◌, ◌^◌, ◌<◌, ◌≤◌, length, replicate, take, zip, vec_len, vec_capacity, Ok, IsOk, IfOk, IfErr, OnOk, OnErr};
 ghost use Rattle.std.specs.Fn.{FnReturnsAt};
 ghost use Rattle.grid_base.specs.ClosureCalls.{MapsTo, CallableAtEach, CallableAtRefs, CallableTimes, CallableAtCells, CallableAtItems, ReturnsAtCell, Generates, PairsUp, FailsFirst};
+ghost use Rattle.grid_base.specs.Updated.{CallableFrom, UpdatedFrom};
 ghost use Rattle.grid_base.specs.GridValue.{HoldsSize};
 ghost use Rattle.grid_base.specs.Table.{IsSize};
 ghost use Rattle.grid_base.specs.Positions.{positions, along};
@@ -11,6 +12,9 @@ use super::Flat;
 use super::positions::{Positions, by_line};
 use crate::Order;
 use std::alloc::{AllocError, Allocator};
+
+// In shorter lines the start of a loop costs more than the steps of a position.
+const LONG_LINE: usize = 32;
 
 impl<T, A: Allocator> Flat<T, A> {
     /// Returns what the closure returns at each position of a table of `rows` rows and `cols` columns, in storage order.
@@ -221,12 +225,80 @@ impl<T, A: Allocator> Flat<T, A> {
         ensures cells { PairsUp (ReturnsAtCell F.post f) (zip (positions order rows cols) self.old)
             self.new }
     {
-        let mut left = Positions::new(order, rows, cols);
+        let (_, width) = by_line(order, rows, cols);
         let cells = self.cells.as_mut_slice();
-        for cell in cells.iter_mut() {
-            let at = left.pass();
-            *cell = f(at, cell);
+        if width < LONG_LINE {
+            update_in_turn(cells, order, rows, cols, &f);
+        } else {
+            update_by_line(cells, order, rows, cols, &f);
         }
+    }
+}
+
+// Replaces each cell of a table by what the closure returns at its position and a reference to it, in one loop. It is
+// vectorised where the closure doesn't look at the position.
+fn update_in_turn<T: Drop, F: Fn((usize, usize), &T) -> T>(
+    cells: &mut [T],
+    order: Order,
+    rows: usize,
+    cols: usize,
+    f: &F,
+)
+    requires size { HoldsSize rows cols (length cells.old) }
+    requires calls { CallableAtCells F.pre f.now (zip (positions order rows cols) cells.old) }
+    ensures len { length cells.new ≡ length cells.old }
+    ensures cells { PairsUp (ReturnsAtCell F.post f.now)
+        (zip (positions order rows cols) cells.old) cells.new }
+{
+    let mut left = Positions::new(order, rows, cols);
+    for cell in cells.iter_mut() {
+        let at = left.pass();
+        *cell = f(at, cell);
+    }
+}
+
+// Does the same, line by line along the storage. Where the closure doesn't look at the position and a cell is a byte,
+// the compiler joins the fills of the lines into one.
+fn update_by_line<T: Drop, F: Fn((usize, usize), &T) -> T>(
+    cells: &mut [T],
+    order: Order,
+    rows: usize,
+    cols: usize,
+    f: &F,
+)
+    requires size { HoldsSize rows cols (length cells.old) }
+    requires calls { CallableAtCells F.pre f.now (zip (positions order rows cols) cells.old) }
+    ensures len { length cells.new ≡ length cells.old }
+    ensures cells { PairsUp (ReturnsAtCell F.post f.now)
+        (zip (positions order rows cols) cells.old) cells.new }
+{
+    let (lines, _) = by_line(order, rows, cols);
+    for line in 0..lines {
+        update_line(cells, order, rows, cols, line, f);
+    }
+}
+
+// Replaces the cells of a line along the storage in the same way.
+fn update_line<T: Drop, F: Fn((usize, usize), &T) -> T>(
+    cells: &mut [T],
+    order: Order,
+    rows: usize,
+    cols: usize,
+    line: usize,
+    f: &F,
+)
+    requires size { HoldsSize rows cols (length cells.old) }
+    requires line { line < (along order rows cols).0 }
+    requires calls { CallableFrom F.pre f.now
+        (positions order rows cols) cells.old (line * (along order rows cols).1) }
+    ensures { UpdatedFrom (ReturnsAtCell F.post f.now) (positions order rows cols) cells.old
+        (line * (along order rows cols).1) ((line + 1) * (along order rows cols).1) cells.new }
+{
+    let (_, width) = by_line(order, rows, cols);
+    let start = line * width;
+    for k in 0..width {
+        let at = by_line(order, line, k);
+        cells[start + k] = f(at, &cells[start + k]);
     }
 }
 

@@ -2,7 +2,7 @@ use Rattle.std.proofs.Common.{◌≡◌, ◌+◌, ◌++◌, ℕ, List, length, z
 use Rattle.std.specs.List.{AllZip}
 use Rattle.grid_base.specs.Positions.{positions}
 use Rattle.grid_base.specs.ClosureCalls.{ReturnsAtCell}
-use Rattle.grid_base.proofs.flat.Flat.update.Given as goal
+use Rattle.grid_base.proofs.flat.all_cells.update_in_turn.Given as goal
 
 abbrev pub invariant-loop-cell : goal.invariant-loop-cell
 invariant-loop-cell g l = record {
