@@ -1,5 +1,5 @@
 -- Cells read, written, exchanged and filled, through the flip of the rows and the transpose.
-use Rattle.std.proofs.Common.{◌≡◌, ◌≢◌, ℕ, zero, suc, ◌-◌, ◌<◌, ◌≤◌, true, false, ◌&&◌, Option, Some, None, List, [], ◌∷◌, ◌++◌, length, map, reverse, replicate, set, get_or, refl, sym, ◌∙◌, ap, arith, ⊎_elim}
+use Rattle.std.proofs.Common.{◌≡◌, ℕ, ◌-◌, ◌<◌, ◌≤◌, true, false, ◌&&◌, Option, Some, None, List, [], ◌∷◌, ◌++◌, length, map, reverse, replicate, set, get_or, refl, sym, ◌∙◌, ap, arith, ⊎_elim}
 use Rattle.std.specs.List.{slice_get}
 use Rattle.std.proofs.lemmas.List.{length-reverse, length-map, length-set, get_or-reverse, get_or-map, get_or-set_same, get_or-set_other, get_or_past, reverse-append, same_lists, length-replicate, map-append}
 use Rattle.std.proofs.lemmas.Option.{slice_get_past}
@@ -10,7 +10,7 @@ use Rattle.grid_base.specs.Table.{row, row_count, col_count, cell, IsTable, with
 use Rattle.grid_base.specs.Symmetry.{act, symmetry_of}
 use Rattle.grid_base.proofs.StorageLemmas.{get-replicate}
 use Rattle.grid_base.proofs.ActLemmas.{IsTable-act}
-use Rattle.grid_base.proofs.WriteLemmas.{get-set_same, get-set_other, rows-written, widths-written, cols-with_cell, IsTable-with_cell, cell-with_same, cell-with_other, rows-with_cell_of, cols-with_cell_of, IsTable-with_cell_of}
+use Rattle.grid_base.proofs.WriteLemmas.{rows-written, widths-written, cols-with_cell, IsTable-with_cell, cell-with_same, cell-with_other, rows-with_cell_of, cols-with_cell_of, IsTable-with_cell_of}
 use Rattle.grid_base.proofs.GroupLemmas.{product, act-act, act-identity, act_all-is, symmetry_of-product_from}
 use Rattle.grid_commands.specs.Refusal.{in_range}
 use Rattle.grid.specs.AllCells.{filled}

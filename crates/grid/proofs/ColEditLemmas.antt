@@ -1,5 +1,5 @@
 -- An edit of columns is the edit of rows of the transposed table.
-use Rattle.std.proofs.Common.{◌≡◌, ℕ, zero, suc, ◌+◌, ◌-◌, ◌<◌, ◌≤◌, Some, List, [], ◌∷◌, ◌++◌, length, get_or, map, take, drop, filter, replicate, refl, sym, ◌∙◌, ap, arith, append_assoc, ⊎_elim}
+use Rattle.std.proofs.Common.{◌≡◌, ℕ, zero, suc, ◌+◌, ◌-◌, ◌<◌, ◌≤◌, List, [], ◌∷◌, ◌++◌, length, get_or, map, take, drop, filter, replicate, refl, sym, ◌∙◌, ap, arith, append_assoc, ⊎_elim}
 use Rattle.std.specs.List.{slice_get, insert}
 use Rattle.std.proofs.lemmas.List.{length-take-le, length-map, get_or-map, length-replicate, append-nil, take_at, drop_at, take_all, drop_all}
 use Rattle.std.proofs.lemmas.List.Edits.{length-insert}

@@ -3,7 +3,6 @@ use Rattle.std.proofs.Common.{◌≡◌, ◌*◌, ℕ, List, length, ◌∙◌}
 use Rattle.grid_base.specs.declared.order.Order.TheVariants.{RowMajor, ColumnMajor}
 use Rattle.grid_base.specs.Order.{table_of}
 use Rattle.grid_base.specs.Relaid.{Relaid}
-use Rattle.grid_base.specs.GridValue.{HoldsSize}
 use Rattle.grid.proofs.RowEditLemmas.{table_by_cells}
 use Rattle.grid.proofs.EditViewLemmas.{rows-cut, width-cut, cell-cut}
 

@@ -1,19 +1,17 @@
 -- A part of a grid that takes the cells of another.
-use Rattle.std.proofs.Common.{set, subst, ◌≡◌, ◌≢◌, ◌⊎◌, ℕ, ℤ, ◌+◌, ◌-◌, ◌*◌, ◌<◌, ◌≤◌, Bool, true, false, Option, Some, None, List, [], if◌then◌else◌, refl, sym, ◌∙◌, ap, arith, inl, inr, ⊎_elim}
+use Rattle.std.proofs.Common.{subst, ◌≡◌, ◌≢◌, ◌⊎◌, ℕ, ℤ, ◌+◌, ◌-◌, ◌*◌, ◌<◌, ◌≤◌, Bool, true, false, Option, Some, None, List, [], if◌then◌else◌, refl, sym, ◌∙◌, ap, arith, inl, inr, ⊎_elim}
 use Rattle.std.specs.Prelude.{pos, IsSome, MatchOption}
 use Rattle.std.specs.Option.{option_or}
 use Rattle.std.specs.Bool.{Decides}
 use denote.Ref.{Bor}
 use Rattle.std.proofs.lemmas.Bool.Decides.{nat_tests}
-use Rattle.std.proofs.lemmas.List.{get_or-set_same, get_or-set_other}
 use Rattle.std.proofs.lemmas.Bool.{cases_lt, cases_eq, lt-ltb, le-ltb}
 use Rattle.std.proofs.lemmas.Nat.{mul-le}
 use Rattle.std.proofs.lemmas.Option.{slice_get_past}
-use Rattle.std.specs.List.{slice_get}
 use Rattle.grid_base.specs.Table.{row, row_count, col_count, cell, tabulate, with_cell, InRange, IsTable}
 use Rattle.grid_base.specs.GridValue.{GridValue}
 use Rattle.grid_base.proofs.TableLemmas.{IsFull, IsFull-cells, tabulate-cells, tabulate-same, cell-tabulate, cell_past_rows}
-use Rattle.grid_base.proofs.WriteLemmas.{get-set_same, get-set_other, cell-with_same, cell-with_other}
+use Rattle.grid_base.proofs.WriteLemmas.{cell-with_same, cell-with_other}
 use Rattle.grid_view.specs.View.{sub_table}
 use Rattle.grid.specs.Make.{HasSize, EachCellIs}
 use Rattle.grid.specs.Exchanged.{InRows, PartTaken}

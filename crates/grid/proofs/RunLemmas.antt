@@ -1,9 +1,9 @@
 -- A run of one more command.
-use Rattle.std.proofs.Common.{◌≡◌, ℕ, ◌+◌, ◌<◌, suc, List, [], ◌∷◌, ◌++◌, map, length, take, slice_get, get_or, length-append, Some, IsTrue, Result, Ok, Err, OnOk, IfOk, inr, refl, sym, ◌∙◌, ap, subst, arith}
+use Rattle.std.proofs.Common.{◌≡◌, ℕ, ◌+◌, ◌<◌, suc, List, [], ◌∷◌, ◌++◌, map, length, take, slice_get, length-append, Some, IsTrue, Result, Ok, Err, OnOk, IfOk, inr, refl, sym, ◌∙◌, ap, subst, arith}
 use Rattle.std.specs.List.{All}
 use Rattle.std.specs.Option.{option_map}
 use Rattle.std.proofs.lemmas.List.{map-append, take-map, length-map}
-use Rattle.std.proofs.lemmas.List.Elements.{All-pop, All-from_get_or}
+use Rattle.std.proofs.lemmas.List.Elements.{All-pop}
 use Rattle.std.proofs.lemmas.Option.{slice_get-map}
 use Rattle.std.proofs.Math.Seq.{take-append_seam}
 use Rattle.grid_base.specs.declared.order.Order.{Order}
@@ -14,10 +14,9 @@ use Rattle.grid_base.specs.Symmetry.{symmetry_of, order_after}
 use Rattle.grid_base.specs.Tally.{Counts, saturating_count}
 use Rattle.grid_base.specs.Clones.{ClonesAreEqual}
 use Rattle.grid_base.proofs.GroupLemmas.{product, symmetry_of-product_from, symmetry_of-more, order_after-order_after}
-use Rattle.grid_commands.specs.Command.{CommandValue, Edit, expand, prepend, pop, size, lines, fill}
+use Rattle.grid_commands.specs.Command.{CommandValue}
 use Rattle.grid_commands.specs.Reply.{ReplyValue}
-use Rattle.grid.specs.Make.{IsOnlyDefault}
-use Rattle.grid.specs.Step.{step_rows, step_reply, takes_memory, RowsAreKnown, EditIsKnown}
+use Rattle.grid.specs.Step.{step_rows, step_reply, takes_memory, RowsAreKnown}
 use Rattle.grid.specs.Cost.{command_symmetry, list_symmetry, step_price, step_shift}
 use Rattle.grid.specs.Run.{run_rows, run_replies, run_price, run_shift, LeftByRun, Ran, MayStop}
 use Rattle.grid.proofs.CellCallLemmas.{at_seam}

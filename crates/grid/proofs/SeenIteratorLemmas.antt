@@ -3,10 +3,8 @@ use Rattle.std.proofs.Common.{◌≡◌, ℕ, List, ◌++◌, length, take, drop
 use Rattle.std.specs.List.{refill, length_refill}
 use Rattle.grid_base.specs.declared.order.Order.{Order}
 use Rattle.grid_base.specs.declared.order.Order.TheVariants.{RowMajor, ColumnMajor}
-use Rattle.grid_base.specs.declared.words.Symmetry.TheVariants.{Transpose}
 use Rattle.grid_base.specs.Table.{row_count, col_count, transposed}
 use Rattle.grid_base.specs.Order.{place, flipped, table_of}
-use Rattle.grid_base.specs.Symmetry.{act}
 use Rattle.grid_base.specs.Positions.{positions}
 use Rattle.grid_base.specs.GridValue.{GridValue, HoldsSize}
 use Rattle.grid_base.specs.FlatLends.{written_from}

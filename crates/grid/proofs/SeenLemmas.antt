@@ -2,10 +2,10 @@
 use Rattle.std.proofs.Common.{◌≡◌, ◌<◌, ◌*◌, ◌^◌, ℕ, List, [], ◌∷◌, length, refl, sym, ◌∙◌, ap, arith, ◌↔◌, IsTrue, nat_eq}
 use borrow.Author.Tests.{eqb-true, eq-eqb}
 use Rattle.grid_base.specs.declared.order.Order.{Order}
-use Rattle.grid_base.specs.Table.{row_count, col_count, IsTable, InRange}
+use Rattle.grid_base.specs.Table.{row_count, col_count, InRange}
 use Rattle.grid_base.specs.Order.{table_of, storage}
 use Rattle.grid_base.specs.GridValue.{GridValue, HoldsSize}
-use Rattle.grid_base.proofs.ViewLemmas.{same_grid_value, view-rows, view-cols, view-table, view-storage}
+use Rattle.grid_base.proofs.ViewLemmas.{same_grid_value, view-rows, view-cols, view-storage}
 use Rattle.grid.specs.View.{grid_value}
 
 no_rows : {X : Type 0} (xs : List X) → length xs ≡ 0 → xs ≡ []

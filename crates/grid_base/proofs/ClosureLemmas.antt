@@ -3,8 +3,6 @@ use Rattle.std.proofs.Common.{◌≡◌, ℕ, zero, suc, ◌+◌, Some, List, []
 use Rattle.std.proofs.lemmas.List.{length-append}
 use Rattle.std.proofs.Math.Seq.{get_or-append_seam}
 use Rattle.std.specs.List.{FoldsTo, AllZip, slice_get}
-use denote.Param.Members.{Mut, Called}
-use denote.Param.Always.{always_mut, mut_next}
 use denote.Ref.{Bor}
 use Rattle.grid_base.specs.ClosureCalls.{MapsThrough, MapsTo, PairsUp, CallableAtEach, CallableAtCells, CallableAtItems}
 

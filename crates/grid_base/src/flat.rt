@@ -141,13 +141,8 @@ impl<T, A: Allocator> Flat<T, A> {
         ensures taken { BlockTaken i j n self.old other.old self.new }
         ensures given { BlockTaken j i n other.old self.old other.new }
     {
-        blocks::swap_parts(
-            self.cells.as_mut_slice(),
-            i,
-            other.cells.as_mut_slice(),
-            j,
-            n,
-        );
+        let (cells, others) = (self.cells.as_mut_slice(), other.cells.as_mut_slice());
+        blocks::swap_parts(cells, i, others, j, n);
     }
 
     /// Drops all cells.

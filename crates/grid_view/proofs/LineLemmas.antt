@@ -3,9 +3,8 @@ use Rattle.std.proofs.Common.{◌≡◌, ℕ, suc, ◌+◌, ◌-◌, ◌*◌, �
 use Rattle.std.specs.Int.{div_ceil}
 use Rattle.std.specs.Option.{option_copied}
 use Rattle.std.specs.Iterator.{YieldsFirst, YieldsFirstRef, YieldsLastRef, Yields, SkipsThenYields}
-use Rattle.std.proofs.lemmas.List.{length-reverse, get_or-reverse, reverse-append, drop-drop, drop_all}
+use Rattle.std.proofs.lemmas.List.{length-reverse, reverse-append, drop-drop, drop_all}
 use Rattle.std.proofs.lemmas.Nat.{div-mul-add, mul-le}
-use Rattle.std.proofs.lemmas.Option.{slice_get-get_or}
 use Rattle.grid_base.specs.Table.{row, row_count}
 use Rattle.grid_base.proofs.PartLemmas.{get-reverse}
 use Rattle.grid_base.proofs.TableLemmas.{same_cells}

@@ -195,13 +195,13 @@ impl<T, A: Allocator> Flat<T, A> {
             PairsUp (ReturnsAtCell F.post f) (zip (positions order rows cols) self.now) g) }
     {
         let alloc = self.cells.allocator().clone()?;
-        let mut mapped = Vec::with_capacity(alloc, self.cells.len())?;
+        let mut made = Vec::with_capacity(alloc, self.cells.len())?;
         let (lines, _) = by_line(order, rows, cols);
         let cells = self.cells.as_slice();
         for line in 0..lines {
-            push_mapped(&mut mapped, cells, order, rows, cols, line, &f);
+            push_mapped(&mut made, cells, order, rows, cols, line, &f);
         }
-        Ok(Flat { cells: mapped })
+        Ok(Flat { cells: made })
     }
 
     /// Replaces each cell of a table of `rows` rows and `cols` columns by what the closure returns at its position and a

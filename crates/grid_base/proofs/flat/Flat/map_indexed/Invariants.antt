@@ -7,7 +7,7 @@ use Rattle.grid_base.proofs.flat.Flat.map_indexed.Given as goal
 
 abbrev pub invariant-loop-line : goal.invariant-loop-line
 invariant-loop-line g l = record {
-  room : l.fn.rows * l.fn.cols ≤ vec_capacity l.mapped;
-  passed : vec_len l.mapped ≡ l.line * (along l.fn.order l.fn.rows l.fn.cols).1;
-  answers : AllZip (ReturnsAtCell (λ h at p y. goal.F-post g h at p y) l.f) (take (vec_len l.mapped) (zip (positions l.fn.order l.fn.rows l.fn.cols) l.fn.self)) l.mapped.items;
+  room : l.fn.rows * l.fn.cols ≤ vec_capacity l.made;
+  passed : vec_len l.made ≡ l.line * (along l.fn.order l.fn.rows l.fn.cols).1;
+  answers : AllZip (ReturnsAtCell (λ h at p y. goal.F-post g h at p y) l.f) (take (vec_len l.made) (zip (positions l.fn.order l.fn.rows l.fn.cols) l.fn.self)) l.made.items;
 }
