@@ -9,7 +9,7 @@ use Rattle.grid_paths.proofs.StepLemmas.{same_pair, AreAround, AreAround-wrappin
 use Rattle.grid_paths.proofs.PathLemmas.{in_range}
 
 -- two positions are one, or a write at the one leaves the other
-same_or_other : (a b : ℕ × ℕ) → (a ≡ b) ⊎ (a.0 ≡ b.0 → a.1 ≢ b.1)
+pub same_or_other : (a b : ℕ × ℕ) → (a ≡ b) ⊎ (a.0 ≡ b.0 → a.1 ≢ b.1)
 same_or_other a b =
     ⊎_elim (λ e. ⊎_elim (λ f. inl (same_pair a b e f)) (λ ne. inr (λ _. ne)) (cases_eq a.1 b.1))
     (λ ne. inr (λ e. absurd (ne e)))

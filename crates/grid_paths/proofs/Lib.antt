@@ -4,6 +4,7 @@ pub mod LeftLemmas
 pub mod NearLemmas
 pub mod NumberLemmas
 pub mod PathLemmas
+pub mod QueueLemmas
 pub mod RegionLemmas
 pub mod SearchLemmas
 pub mod StepLemmas

@@ -260,41 +260,43 @@ one_of n at before after b h d =
     (λ e. let is : before + 1 ≡ at = h.before_is (omega arith) in let same : before ≡ b = omega arith in inl same)
     d
 
--- the positions round (row, col)
-module _ (floor : List (List Bool)) (row col up down left right : ℕ) (rows : AreAround (row_count floor) row up down) (cols : AreAround (col_count floor) col left right) (k : ℕ) (d0 : List (List (Option ℕ))) (q0 : List (ℕ × ℕ)) (d1 : List (List (Option ℕ))) (q1 : List (ℕ × ℕ)) (d2 : List (List (Option ℕ)))
-    (q2 : List (ℕ × ℕ)) (d3 : List (List (Option ℕ))) (q3 : List (ℕ × ℕ)) (d4 : List (List (Option ℕ))) (q4 : List (ℕ × ℕ)) (t0 : IsTable d0) (t1 : IsTable d1) (t2 : IsTable d2) (t3 : IsTable d3) where
-  sides : (b : ℕ × ℕ) → AreBeside (row, col) b → (((up, col) ≡ b) ⊎ ((row, left) ≡ b)) ⊎ (((row, right) ≡ b) ⊎ ((down, col) ≡ b))
-  sides b h =
+-- the four positions that share a side with (row, col), and the four that share a corner
+module _ (m n row col up down left right : ℕ) (rows : AreAround m row up down) (cols : AreAround n col left right) where
+  pub four_beside : (b : ℕ × ℕ) → AreBeside (row, col) b → (((up, col) ≡ b) ⊎ ((row, left) ≡ b)) ⊎ (((row, right) ≡ b) ⊎ ((down, col) ≡ b))
+  four_beside b h =
       ⊎_elim (λ w.
       ⊎_elim (λ e. inl (inr (same_pair (row, left) b w.0 e)))
       (λ e. inr (inl (same_pair (row, right) b w.0 e)))
-      (one_of (col_count floor) col left right b.1 cols w.1))
+      (one_of n col left right b.1 cols w.1))
       (λ w.
       ⊎_elim (λ e. inl (inl (same_pair (up, col) b e w.0)))
       (λ e. inr (inr (same_pair (down, col) b e w.0)))
-      (one_of (row_count floor) row up down b.0 rows w.1))
+      (one_of m row up down b.0 rows w.1))
       h
 
+  pub four_diagonal : (b : ℕ × ℕ) → AreDiagonal (row, col) b → (((up, left) ≡ b) ⊎ ((up, right) ≡ b)) ⊎ (((down, left) ≡ b) ⊎ ((down, right) ≡ b))
+  four_diagonal b h =
+      let beside = one_of n col left right b.1 cols h.1 in
+      ⊎_elim (λ e. ⊎_elim (λ f. inl (inl (same_pair (up, left) b e f))) (λ f. inl (inr (same_pair (up, right) b e f))) beside)
+      (λ e. ⊎_elim (λ f. inr (inl (same_pair (down, left) b e f))) (λ f. inr (inr (same_pair (down, right) b e f))) beside)
+      (one_of m row up down b.0 rows h.0)
+
+-- the positions round (row, col)
+module _ (floor : List (List Bool)) (row col up down left right : ℕ) (rows : AreAround (row_count floor) row up down) (cols : AreAround (col_count floor) col left right) (k : ℕ) (d0 : List (List (Option ℕ))) (q0 : List (ℕ × ℕ)) (d1 : List (List (Option ℕ))) (q1 : List (ℕ × ℕ)) (d2 : List (List (Option ℕ)))
+    (q2 : List (ℕ × ℕ)) (d3 : List (List (Option ℕ))) (q3 : List (ℕ × ℕ)) (d4 : List (List (Option ℕ))) (q4 : List (ℕ × ℕ)) (t0 : IsTable d0) (t1 : IsTable d1) (t2 : IsTable d2) (t3 : IsTable d3) where
   pub WentRound-sides : Reaches floor (up, col) k d0 q0 d1 q1 → Reaches floor (row, left) k d1 q1 d2 q2 → Reaches floor (row, right) k d2 q2 d3 q3 → Reaches floor (down, col) k d3 q3 d4 q4 → WentRound (AreBeside (row, col)) floor k d0 q0 d4 q4
   WentRound-sides r1 r2 r3 r4 =
       WentRound-four (AreBeside (row, col)) floor (up, col) (row, left) (row, right) (down, col) k d0 q0 d1 q1 d2 q2 d3 q3 d4 q4 t0 t1 t2 t3 r1 r2 r3 r4
       (λ i. inr (refl, inr (rows.before_in i.0))) (λ i. inl (refl, inr (cols.before_in i.1)))
       (λ i. inl (refl, inl (sym cols.after_is))) (λ i. inr (refl, inl (sym rows.after_is)))
-      sides
-
-  diagonals : (b : ℕ × ℕ) → AreDiagonal (row, col) b → (((up, left) ≡ b) ⊎ ((up, right) ≡ b)) ⊎ (((down, left) ≡ b) ⊎ ((down, right) ≡ b))
-  diagonals b h =
-      let beside = one_of (col_count floor) col left right b.1 cols h.1 in
-      ⊎_elim (λ e. ⊎_elim (λ f. inl (inl (same_pair (up, left) b e f))) (λ f. inl (inr (same_pair (up, right) b e f))) beside)
-      (λ e. ⊎_elim (λ f. inr (inl (same_pair (down, left) b e f))) (λ f. inr (inr (same_pair (down, right) b e f))) beside)
-      (one_of (row_count floor) row up down b.0 rows h.0)
+      (four_beside (row_count floor) (col_count floor) row col up down left right rows cols)
 
   pub WentRound-diagonals : Reaches floor (up, left) k d0 q0 d1 q1 → Reaches floor (up, right) k d1 q1 d2 q2 → Reaches floor (down, left) k d2 q2 d3 q3 → Reaches floor (down, right) k d3 q3 d4 q4 → WentRound (AreDiagonal (row, col)) floor k d0 q0 d4 q4
   WentRound-diagonals r1 r2 r3 r4 =
       WentRound-four (AreDiagonal (row, col)) floor (up, left) (up, right) (down, left) (down, right) k d0 q0 d1 q1 d2 q2 d3 q3 d4 q4 t0 t1 t2 t3 r1 r2 r3 r4
       (λ i. (inr (rows.before_in i.0), inr (cols.before_in i.1))) (λ i. (inr (rows.before_in i.0), inl (sym cols.after_is)))
       (λ i. (inl (sym rows.after_is), inr (cols.before_in i.1))) (λ i. (inl (sym rows.after_is), inl (sym cols.after_is)))
-      diagonals
+      (four_diagonal (row_count floor) (col_count floor) row col up down left right rows cols)
 
 -- the sides and then the corners
 pub WentRound-all : (at : ℕ × ℕ) (floor : List (List Bool)) (k : ℕ) (d0 : List (List (Option ℕ))) (q0 : List (ℕ × ℕ)) (d1 : List (List (Option ℕ))) (q1 : List (ℕ × ℕ)) (d2 : List (List (Option ℕ))) (q2 : List (ℕ × ℕ)) → WentRound (AreBeside at) floor k d0 q0 d1 q1 → WentRound (AreDiagonal at) floor k d1 q1 d2 q2 → WentRound (IsStep All at) floor k d0 q0 d2 q2
@@ -308,7 +310,7 @@ WentRound-all at floor k d0 q0 d1 q1 d2 q2 v w =
     }
 
 -- what is read is contained
-Contains-from_get : (starts : List (ℕ × ℕ)) (j : ℕ) (a : ℕ × ℕ) → slice_get starts j ≡ Some a → Contains starts a
+pub Contains-from_get : (starts : List (ℕ × ℕ)) (j : ℕ) (a : ℕ × ℕ) → slice_get starts j ≡ Some a → Contains starts a
 Contains-from_get starts j a e =
     let lt = slice_get_within starts j a e in
     subst (λ x. Contains starts x) (get_or_from_slice_get starts j a a e) (Contains-get_or starts j a lt)

@@ -90,9 +90,3 @@ pub record WentRound (near : ℕ × ℕ → Type 0) (floor : List (List Bool)) (
     (queue : List (ℕ × ℕ)) (u' : List (List (Option ℕ))) (queue' : List (ℕ × ℕ)) : Type 0 where
   pub spread : Spread near floor k u queue u' queue'
   pub around : (b : ℕ × ℕ) → near b → IsOpen floor b → (m : ℕ) × IsMarked u' b m
-
--- the cell that a position with this number gets: w where there is one
-abbrev pub filled_cell : {T : Type 0} → T → Option (Option ℕ) → Option T → Option T
-filled_cell w None x = x
-filled_cell w (Some None) x = x
-filled_cell w (Some (Some k)) x = Some w

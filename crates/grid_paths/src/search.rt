@@ -1,5 +1,5 @@
 //! The least number of steps to each cell, by a search in breadth.
-ghost use Rattle.std.specs.Prelude.{◌≡◌, ◌<◌, ◌^◌, ◌↔◌, List, ℕ, [], ◌∷◌, IfOk, IsTrue, OnOk, Bool, Some, None};
+ghost use Rattle.std.specs.Prelude.{◌≡◌, ◌<◌, ◌≤◌, ◌+◌, ◌^◌, ◌↔◌, List, ℕ, [], ◌∷◌, ◌++◌, length, drop, IfOk, IsTrue, OnOk, Bool, Some, None};
 ghost use Rattle.grid_base.specs.Table.{row_count, col_count, InRange};
 ghost use Rattle.grid_paths.specs.Walks.{IsOpen, AreBeside, AreDiagonal, IsStep, HasLeastSteps, HasLeastFrom, IsAnswer, passing};
 ghost use Rattle.grid_paths.specs.Search.{Reaches, WentRound, HaveOneSize, IsLeft, IsSettled};
@@ -8,8 +8,11 @@ use super::steps::Steps;
 use grid::Grid;
 use std::alloc::{AllocError, Allocator};
 
+// How many positions of a queue are gone on from before it lets go of them.
+const MANY: usize = 2048;
+
 // Whether a cell is there and may still be reached.
-fn is_left<A: Allocator>(left: &Grid<bool, A>, row: usize, col: usize) -> bool
+pub(crate) fn is_left<A: Allocator>(left: &Grid<bool, A>, row: usize, col: usize) -> bool
     ensures { IsTrue result ↔ IsOpen left.now.rows (row, col) }
 {
     match left.get(row, col) {
@@ -19,6 +22,7 @@ fn is_left<A: Allocator>(left: &Grid<bool, A>, row: usize, col: usize) -> bool
 }
 
 // Reaches a position by so many steps, if it is left. `left` are the open positions that aren't reached yet.
+#[inline(always)]
 fn reach<A: Allocator>(
     row: usize,
     col: usize,
@@ -45,6 +49,7 @@ fn reach<A: Allocator>(
 
 // Reaches the four positions that share a side with this one. Below the first row or column the index wraps to one that
 // no grid has.
+#[inline(always)]
 fn reach_sides<A: Allocator>(
     row: usize,
     col: usize,
@@ -101,6 +106,7 @@ fn reach_diagonals<A: Allocator>(
 }
 
 // Reaches the positions that a step from this one leads to.
+#[inline(always)]
 fn reach_around<A: Allocator>(
     kind: Steps,
     row: usize,
@@ -139,6 +145,30 @@ fn is_goal(goal: Option<(usize, usize)>, row: usize, col: usize) -> bool
     }
 }
 
+// Lets go of the first positions, and moves the rest to the front.
+fn remove_front<A: Allocator>(queue: &mut Vec<(usize, usize), A>, count: usize)
+    requires { count ≤ length queue.old.items }
+    ensures { queue.new.items ≡ drop count queue.old.items }
+{
+    let len = queue.len();
+    queue.copy_within(count..len, 0);
+    queue.truncate(len - count);
+}
+
+// Lets go of the positions before `next` once they are many, and no fewer than the others; returns the place that `next`
+// has then. So the queue stays short, and there are no more moves than positions.
+fn trim<A: Allocator>(queue: &mut Vec<(usize, usize), A>, next: usize) -> usize
+    requires { next ≤ length queue.old.items }
+    ensures { (front : List (ℕ × ℕ)) × (queue.old.items ≡ front ++ queue.new.items)
+        × (next ≡ length front + result) }
+{
+    if next < MANY || next < queue.len() - next {
+        return next;
+    }
+    remove_front(queue, next);
+    0
+}
+
 // The least number of steps to each open position, from the nearest of several; with a goal the search stops once it
 // goes on from it.
 fn search_from<A: Allocator + Clone>(
@@ -155,8 +185,8 @@ fn search_from<A: Allocator + Clone>(
         → starts.now ≡ from ∷ [] → goal ≡ Some to → IsSettled kind floor.rows from to steps.rows) }
 {
     let mut steps: Grid<Option<usize>, A> = floor.map_indexed(|_, _| None)?;
-    let cells = floor.rows().saturating_mul(floor.cols());
-    let mut queue = Vec::with_capacity(floor.allocator().clone()?, cells)?;
+    let cells = floor.flatten().len();
+    let mut queue = Vec::with_capacity(floor.allocator().clone()?, cells.min(2 * MANY))?;
     let mut left = floor;
     for start in starts {
         reach(start.0, start.1, 0, &mut left, &mut steps, &mut queue)?;
@@ -170,13 +200,13 @@ fn search_from<A: Allocator + Clone>(
         if let Some(count) = steps[(row, col)] {
             reach_around(kind, row, col, count + 1, &mut left, &mut steps, &mut queue)?;
         }
-        next += 1;
+        next = trim(&mut queue, next + 1);
     }
     Ok(steps)
 }
 
 // The least number of steps to each open position, from the first.
-pub(crate) fn search<A: Allocator + Clone>(
+fn search<A: Allocator + Clone>(
     kind: Steps,
     floor: Grid<bool, A>,
     from: (usize, usize),
@@ -222,7 +252,8 @@ pub(crate) fn floor_of<T, A: Allocator + Clone, F: Fn(&T) -> bool>(
 ///
 /// Requires: the test can be called at every cell.
 /// Fails: where memory is refused.
-/// Cost: one call for each cell; a constant number of steps for each cell; three allocations.
+/// Cost: one call for each cell; a constant number of steps for each cell; three allocations, and those of the queue
+/// where more than 4,096 positions wait.
 pub fn distances<T, A: Allocator + Clone, F: Fn(&T) -> bool>(
     grid: &Grid<T, A>,
     from: (usize, usize),
@@ -247,7 +278,8 @@ pub fn distances<T, A: Allocator + Clone, F: Fn(&T) -> bool>(
 ///
 /// Requires: the test can be called at every cell.
 /// Fails: where memory is refused.
-/// Cost: one call for each cell; a constant number of steps for each cell and each of the positions; three allocations.
+/// Cost: one call for each cell; a constant number of steps for each cell and each of the positions; allocations as at
+/// [`distances`].
 pub fn distances_from<T, A: Allocator + Clone, F: Fn(&T) -> bool>(
     grid: &Grid<T, A>,
     starts: &[(usize, usize)],

@@ -1,23 +1,25 @@
 use Rattle.std.proofs.Common.{◌≡◌, Some, sym, ◌∙◌, subst}
-use Rattle.grid_paths.specs.Walks.{HasLeastSteps, IsFilled, alike}
-use Rattle.grid_paths.specs.Search.{HaveOneSize}
-use Rattle.grid_paths.proofs.RegionLemmas.{IsFilled-tabulate}
+use Rattle.grid_paths.specs.Walks.{alike}
+use Rattle.grid_paths.specs.Taken.{IsRegion}
+use Rattle.grid_paths.proofs.AlikeLemmas.{alike_open}
+use Rattle.grid_paths.proofs.PathLemmas.{in_range}
+use Rattle.grid_paths.proofs.RegionLemmas.{IsFilled-region}
 use Rattle.grid_paths.proofs.region.fill_region.Goals as goal
 
 pub returns-clause-filled : goal.returns-clause-filled
 returns-clause-filled g c =
     λ x e.
     let t = c.args.grid.now.rows in
+    let table = c.args.grid.now.table in
     let at = c.args.at in
     let eq = g.T.PartialEq.eq in
-    let steps = c.in_ok-steps.steps.rows in
     let floor = c.in_ok-floor.floor.rows in
+    let region = c.deref.result.now in
     let both : Some c.in-Some.old.now ≡ Some x = c.in-Some.ensures.cell ∙ e in
     let old_is : c.in-Some.old.now ≡ x = cc in
     let floor_is : floor ≡ alike eq x t = subst (λ z. floor ≡ alike eq z t) old_is c.in_ok-floor.ensures.cells in
-    let rows = c.in_ok-steps.ensures.size.rows ∙ c.in_ok-floor.ensures.size.rows in
-    let cols = c.in_ok-steps.ensures.size.cols ∙ c.in_ok-floor.ensures.size.cols in
-    let size : HaveOneSize steps t = record { rows = rows; cols = cols } in
-    let least = subst (λ z. HasLeastSteps c.args.kind z at steps) floor_is c.in_ok-steps.ensures.least in
-    subst (λ u. IsFilled c.args.kind (alike eq x t) at c.args.value t u) (sym c.fill_found.ensures.cells)
-    (IsFilled-tabulate c.args.kind (alike eq x t) at c.args.value t c.args.grid.now.table steps c.in_ok-steps.steps.table size least)
+    let is_region = subst (λ z. IsRegion c.args.kind (alike eq x t) at z) (sym c.deref.ensures.value)
+    (subst (λ z. IsRegion c.args.kind z at c.in_ok-region.region.items) floor_is c.in_ok-region.ensures) in
+    IsFilled-region c.args.kind (alike eq x t) at c.args.value t c.fill_all.new.grid.rows region is_region
+    (λ b o. let v = alike_open eq x t table b o in in_range t table b.0 b.1 v.0 v.1)
+    c.fill_all.ensures.filled c.fill_all.ensures.kept

@@ -1,11 +1,14 @@
-use Rattle.std.proofs.Common.{◌≡◌, true, ℕ, ◌<◌, ◌≤◌, ◌+◌, Option, Some, None, length, get_or, [], ◌∷◌, Contains, refl, sym, ◌∙◌, ap, subst, arith, rules}
+use Rattle.std.proofs.Common.{◌≡◌, true, ℕ, ◌<◌, ◌≤◌, ◌+◌, ◌*◌, Option, Some, None, length, get_or, [], ◌∷◌, ◌++◌, Contains, refl, sym, ◌∙◌, ap, subst, arith, rules}
 use Rattle.std.specs.List.{slice_get}
+use Rattle.std.proofs.lemmas.List.{length-append}
 use Rattle.std.proofs.lemmas.Option.{slice_get_read, slice_get-get_or}
 use Rattle.grid_base.specs.Table.{row_count, col_count, cell}
+use Rattle.grid_base.proofs.StorageLemmas.{length-storage}
 use Rattle.grid_paths.specs.Walks.{IsOpen, HasLeastFrom}
-use Rattle.grid_paths.specs.Search.{IsMarked, IsAt, IsLeft, HaveOneSize, IsSearch}
-use Rattle.grid_paths.proofs.SearchLemmas.{one_mark, IsSearch-round, HasLeastFrom-end, HasLeastSteps-one, IsSettled-end, IsSettled-found}
-use Rattle.grid_paths.proofs.StepLemmas.{none_at, none_marked, IsStarted, IsStarted-empty, IsStarted-reach, started_all}
+use Rattle.grid_paths.specs.Search.{IsMarked, IsAt, IsLeft, HaveOneSize, IsSearch, unreached}
+use Rattle.grid_paths.proofs.SearchLemmas.{one_mark, HasLeastSteps-one, IsSettled-end, IsSettled-found}
+use Rattle.grid_paths.proofs.QueueLemmas.{IsTrimmed, IsTrimmed-start, IsTrimmed-round, IsTrimmed-trim, mark_at, sides_within, HasLeastFrom-trimmed, unreached_cells}
+use Rattle.grid_paths.proofs.StepLemmas.{none_at, none_marked, IsStarted, IsStarted-empty, IsStarted-reach, started_all, Spread-from_reaches}
 use Rattle.grid_paths.proofs.LeftLemmas.{IsLeft-start}
 use Rattle.grid_paths.proofs.PathLemmas.{in_range}
 use Rattle.grid_paths.proofs.search.search_from.Goals as goal
@@ -22,11 +25,19 @@ loop-start-init g c =
     let empty : (a : ℕ × ℕ) → IsOpen floor a → cell d0 a.0 a.1 ≡ Some None = λ a o.
     let i = in_range floor c.args.floor.table a.0 a.1 true o in
     ap (λ x. cell x a.0 a.1) blank ∙ none_at (row_count floor) (col_count floor) a.0 a.1 i.0 i.1 in
+    let few = unreached_cells d0 c.in_ok-steps.steps.table in
+    let size : row_count d0 * col_count d0 ≡ row_count floor * col_count floor = ap (λ x. x * col_count d0) c.in_ok-steps.ensures.rows ∙ ap (λ x. row_count floor * x) c.in_ok-steps.ensures.cols in
+    let all = length-storage c.args.floor.order floor c.args.floor.table in
+    let stored = ap length c.flatten.ensures in
+    let flat = c.flatten.result.now in
+    let bound : unreached d0 + 0 ≤ c.len-cells.result = omega (arith, flat.ok.0) in
     record {
       size = record { rows = c.in_ok-steps.ensures.rows; cols = c.in_ok-steps.ensures.cols };
       order = c.in_ok-steps.ensures.order;
+      cells = omega (arith, flat.ok.0);
       left = IsLeft-start floor d0 (λ a o. empty a o);
       started = subst (λ x. IsStarted c.args.kind floor starts d0 x 0) (sym c.in_ok-queue.ensures.items) (IsStarted-empty c.args.kind floor starts d0 none);
+      bound = subst (λ x. unreached d0 + length x ≤ c.len-cells.result) (sym c.in_ok-queue.ensures.items) bound;
     }
 
 pub loop-start-preserved : goal.loop-start-preserved
@@ -43,9 +54,13 @@ loop-start-preserved g c =
     let place : slice_get starts i ≡ Some from = slice_get-get_or starts i (0, 0) lt in
     let r = c.in_ok-reach.ensures.reaches floor c.loop-start.invariant.left in
     let size = c.in_ok-reach.ensures.size in
+    let total = (Spread-from_reaches (λ a. from ≡ a) floor from 0 d0 q0 d1 q1 c.loop-start.steps.table r.0 (λ o. refl)).total in
+    let le = c.loop-start.invariant.bound in
     record {
+      bound = omega arith;
       size = record { rows = size.rows ∙ c.loop-start.invariant.size.rows; cols = size.cols ∙ c.loop-start.invariant.size.cols };
       left = r.1;
+      cells = c.loop-start.invariant.cells;
       order = c.in_ok-reach.ensures.order ∙ c.loop-start.invariant.order;
       started = IsStarted-reach c.args.kind floor starts d0 q0 i from d1 q1 c.loop-start.steps.table c.loop-start.invariant.started place r.0;
     }
@@ -59,8 +74,9 @@ loop-next-init g c =
     record {
       size = c.loop-start.invariant.size;
       order = c.loop-start.invariant.order;
+      cells = c.loop-start.invariant.cells;
       left = c.loop-start.invariant.left;
-      search = c.loop-start.invariant.started.search;
+      search = IsTrimmed-start c.args.kind floor starts _ c.loop-start.steps.rows c.loop-start.queue.items c.loop-start.invariant.started.search c.loop-start.invariant.bound;
       start = started_all c.args.kind floor starts c.loop-start.steps.rows c.loop-start.queue.items i c.loop-start.invariant.started le;
     }
 
@@ -70,7 +86,7 @@ index-requires-in-loop-next g c =
     let a = c.index.result.now in
     let lt : c.loop-next.next < length queue.items = omega (arith, queue.ok.0) in
     let place : IsAt queue.items c.loop-next.next a = slice_get_read queue.items (length queue.items) c.loop-next.next a refl lt c.index.ensures in
-    let v = c.loop-next.invariant.search.marked c.loop-next.next a place in
+    let v = mark_at c.args.kind c.args.floor.rows c.args.starts.now _ c.loop-next.steps.rows queue.items c.loop-next.next c.loop-next.invariant.search a place in
     in_range c.loop-next.steps.rows c.loop-next.steps.table a.0 a.1 (Some v.0) v.1
 
 pub overflow_add-count : goal.overflow_add-count
@@ -79,10 +95,10 @@ overflow_add-count g c =
     let a = c.index.result.now in
     let lt : c.loop-next.next < length queue.items = omega (arith, queue.ok.0) in
     let place : IsAt queue.items c.loop-next.next a = slice_get_read queue.items (length queue.items) c.loop-next.next a refl lt c.index.ensures in
-    let v = c.loop-next.invariant.search.marked c.loop-next.next a place in
+    let v = mark_at c.args.kind c.args.floor.rows c.args.starts.now _ c.loop-next.steps.rows queue.items c.loop-next.next c.loop-next.invariant.search a place in
     let mark : IsMarked c.loop-next.steps.rows a c.in-Some.count = c.index-in-loop-next.ensures ∙ ap Some c.in-Some.is in
     let e : v.0 ≡ c.in-Some.count = one_mark c.loop-next.steps.rows a v.0 c.in-Some.count v.1 mark in
-    let low : v.0 ≤ c.loop-next.next = v.2 in
+    let low : v.0 < c.len-cells.result = v.2 in
     omega arith
 
 pub reach_around-requires-clause-at : goal.reach_around-requires-clause-at
@@ -91,7 +107,7 @@ reach_around-requires-clause-at g c =
     let a = c.index.result.now in
     let lt : c.loop-next.next < length queue.items = omega (arith, queue.ok.0) in
     let place : IsAt queue.items c.loop-next.next a = slice_get_read queue.items (length queue.items) c.loop-next.next a refl lt c.index.ensures in
-    let v = c.loop-next.invariant.search.marked c.loop-next.next a place in
+    let v = mark_at c.args.kind c.args.floor.rows c.args.starts.now _ c.loop-next.steps.rows queue.items c.loop-next.next c.loop-next.invariant.search a place in
     let i = in_range c.loop-next.steps.rows c.loop-next.steps.table a.0 a.1 (Some v.0) v.1 in
     let rows = c.loop-next.invariant.size.rows in
     let cols = c.loop-next.invariant.size.cols in
@@ -100,6 +116,40 @@ reach_around-requires-clause-at g c =
     let lr : a.0 < row_count c.loop-next.left.rows = omega arith in
     let lc : a.1 < col_count c.loop-next.left.rows = omega arith in
     (lr, lc)
+
+pub reach_around-requires-clause-rows : goal.reach_around-requires-clause-rows
+reach_around-requires-clause-rows g c =
+    let queue = c.loop-next.queue in
+    let a = c.index.result.now in
+    let lt : c.loop-next.next < length queue.items = omega (arith, queue.ok.0) in
+    let place : IsAt queue.items c.loop-next.next a = slice_get_read queue.items (length queue.items) c.loop-next.next a refl lt c.index.ensures in
+    let v = mark_at c.args.kind c.args.floor.rows c.args.starts.now _ c.loop-next.steps.rows queue.items c.loop-next.next c.loop-next.invariant.search a place in
+    let i = in_range c.loop-next.steps.rows c.loop-next.steps.table a.0 a.1 (Some v.0) v.1 in
+    let steps = c.loop-next.steps.rows in
+    let fit = (sides_within steps a.0 a.1 i).0 in
+    let size = c.loop-next.invariant.size in
+    let area : row_count steps * col_count steps ≡ row_count c.args.floor.rows * col_count c.args.floor.rows = ap (λ x. x * col_count steps) size.rows ∙ ap (λ x. row_count c.args.floor.rows * x) size.cols in
+    let cells = c.loop-next.invariant.cells in
+    let same = size.rows in
+    let left = c.loop-next.invariant.left.size.rows in
+    omega arith
+
+pub reach_around-requires-clause-cols : goal.reach_around-requires-clause-cols
+reach_around-requires-clause-cols g c =
+    let queue = c.loop-next.queue in
+    let a = c.index.result.now in
+    let lt : c.loop-next.next < length queue.items = omega (arith, queue.ok.0) in
+    let place : IsAt queue.items c.loop-next.next a = slice_get_read queue.items (length queue.items) c.loop-next.next a refl lt c.index.ensures in
+    let v = mark_at c.args.kind c.args.floor.rows c.args.starts.now _ c.loop-next.steps.rows queue.items c.loop-next.next c.loop-next.invariant.search a place in
+    let i = in_range c.loop-next.steps.rows c.loop-next.steps.table a.0 a.1 (Some v.0) v.1 in
+    let steps = c.loop-next.steps.rows in
+    let fit = (sides_within steps a.0 a.1 i).1 in
+    let size = c.loop-next.invariant.size in
+    let area : row_count steps * col_count steps ≡ row_count c.args.floor.rows * col_count c.args.floor.rows = ap (λ x. x * col_count steps) size.rows ∙ ap (λ x. row_count c.args.floor.rows * x) size.cols in
+    let cells = c.loop-next.invariant.cells in
+    let same = size.cols in
+    let left = c.loop-next.invariant.left.size.cols in
+    omega arith
 
 pub loop-next-preserved : goal.loop-next-preserved
 loop-next-preserved g c =
@@ -111,7 +161,7 @@ loop-next-preserved g c =
     let next = c.loop-next.next in
     let lt : c.loop-next.next < length queue.items = omega (arith, queue.ok.0) in
     let place : IsAt queue.items next a = slice_get_read queue.items (length queue.items) next a refl lt c.index.ensures in
-    let v = c.loop-next.invariant.search.marked next a place in
+    let v = mark_at c.args.kind c.args.floor.rows c.args.starts.now _ c.loop-next.steps.rows queue.items next c.loop-next.invariant.search a place in
     elim c.match-index.branch [
       | in-Some+in_ok-reach_around w ↦
           let n = w.in-Some.count in
@@ -122,13 +172,16 @@ loop-next-preserved g c =
           let sized = w.in_ok-reach_around.ensures.size in
           let size : HaveOneSize new.rows floor = record { rows = sized.rows ∙ c.loop-next.invariant.size.rows; cols = sized.cols ∙ c.loop-next.invariant.size.cols } in
           let items = w.reach_around.new.queue.items in
-          let s = IsSearch-round c.args.kind floor starts d queue.items new.rows items a n next c.loop-next.invariant.search place mark round in
+          let s = IsTrimmed-round c.args.kind floor starts _ d queue.items next c.loop-next.invariant.search new.rows items a n place mark round in
           record {
             size = subst (λ x. HaveOneSize x.rows floor) (sym w.steps-is) size;
             left = subst (λ x. IsLeft floor x.rows c.match-index.left.rows) (sym w.steps-is) (subst (λ x. IsLeft floor new.rows x.rows) (sym w.left-is) both.1);
+            cells = c.loop-next.invariant.cells;
             order = ap (λ x. x.order) w.steps-is ∙ (w.in_ok-reach_around.ensures.order ∙ c.loop-next.invariant.order);
-            search = subst (λ x. IsSearch c.args.kind floor starts x.rows c.match-index.queue.items (next + 1)) (sym w.steps-is)
-                (subst (λ x. IsSearch c.args.kind floor starts new.rows x.items (next + 1)) (sym w.queue-is) s);
+            search = IsTrimmed-trim c.args.kind floor starts _ c.match-index.steps.rows c.match-index.queue.items (next + 1)
+                (subst (λ x. IsTrimmed c.args.kind floor starts x.rows c.match-index.queue.items (next + 1) c.len-cells.result) (sym w.steps-is)
+                (subst (λ x. IsTrimmed c.args.kind floor starts new.rows x.items (next + 1) c.len-cells.result) (sym w.queue-is) s))
+                c.trim-next.new.queue.items c.trim-next.result c.trim-next.ensures;
             start = λ from is is_open. subst (λ x. IsMarked x.rows from 0) (sym w.steps-is) (round.spread.kept from 0 (c.loop-next.invariant.start from is is_open));
           }
       | in_default w ↦
@@ -142,7 +195,7 @@ returns-clause-least g c =
     λ none.
     let queue = c.loop-next.queue in
     let all : length queue.items ≤ c.loop-next.next = omega (arith, queue.ok.0) in
-    HasLeastFrom-end c.args.kind c.args.floor.rows c.args.starts.now c.loop-next.steps.rows queue.items c.loop-next.next c.loop-next.invariant.search c.loop-next.invariant.start all
+    HasLeastFrom-trimmed c.args.kind c.args.floor.rows c.args.starts.now _ c.loop-next.steps.rows queue.items c.loop-next.next c.loop-next.invariant.search c.loop-next.invariant.start all
 
 pub returns-clause-settled : goal.returns-clause-settled
 returns-clause-settled g c =
@@ -150,7 +203,7 @@ returns-clause-settled g c =
     let queue = c.loop-next.queue in
     let floor = c.args.floor.rows in
     let all : length queue.items ≤ c.loop-next.next = omega (arith, queue.ok.0) in
-    let least = HasLeastFrom-end c.args.kind floor c.args.starts.now c.loop-next.steps.rows queue.items c.loop-next.next c.loop-next.invariant.search c.loop-next.invariant.start all in
+    let least = HasLeastFrom-trimmed c.args.kind floor c.args.starts.now _ c.loop-next.steps.rows queue.items c.loop-next.next c.loop-next.invariant.search c.loop-next.invariant.start all in
     IsSettled-end c.args.kind floor from c.loop-next.steps.rows
     (HasLeastSteps-one c.args.kind floor from c.loop-next.steps.rows (subst (λ x. HasLeastFrom c.args.kind floor x c.loop-next.steps.rows) one least)) to
 
@@ -164,11 +217,36 @@ returns-then-is_goal-clause-settled g c =
     let a = c.index.result.now in
     let lt : next < length queue.items = omega (arith, queue.ok.0) in
     let place : IsAt queue.items next a = slice_get_read queue.items (length queue.items) next a refl lt c.index.ensures in
-    let v = c.loop-next.invariant.search.marked next a place in
+    let v = mark_at c.args.kind c.args.floor.rows c.args.starts.now _ c.loop-next.steps.rows queue.items next c.loop-next.invariant.search a place in
     let here : c.args.goal ≡ Some (a.0, a.1) = c.if-is_goal.ensures refl in
     let both : ◌≡◌ {A = Option (ℕ × ℕ)} (Some (a.0, a.1)) (Some to) = sym here ∙ is in
     let same : (a.0, a.1) ≡ to = cc in
     let mark : IsMarked d to v.0 = subst (λ x. IsMarked d x v.0) same v.1 in
-    let search : IsSearch c.args.kind floor (from ∷ []) d queue.items next = subst (λ x. IsSearch c.args.kind floor x d queue.items next) one c.loop-next.invariant.search in
+    let t = c.loop-next.invariant.search in
+    let search : IsSearch c.args.kind floor (from ∷ []) d (t.front ++ queue.items) (length t.front + next) = subst (λ x. IsSearch c.args.kind floor x d (t.front ++ queue.items) (length t.front + next)) one t.search in
     let first : Contains c.args.starts.now from = subst (λ x. Contains x from) (sym one) (0, omega arith, refl) in
-    IsSettled-found c.args.kind floor from d queue.items next search (λ o. c.loop-next.invariant.start from first o) to v.0 mark
+    IsSettled-found c.args.kind floor from d (t.front ++ queue.items) (length t.front + next) search (λ o. c.loop-next.invariant.start from first o) to v.0 mark
+
+pub loop-next-smaller : goal.loop-next-smaller
+loop-next-smaller g c =
+    let queue = c.loop-next.queue in
+    let d = c.loop-next.steps.rows in
+    let a = c.index.result.now in
+    let next = c.loop-next.next in
+    let lt : next < length queue.items = omega (arith, queue.ok.0) in
+    let place : IsAt queue.items next a = slice_get_read queue.items (length queue.items) next a refl lt c.index.ensures in
+    let v = mark_at c.args.kind c.args.floor.rows c.args.starts.now _ d queue.items next c.loop-next.invariant.search a place in
+    let trimmed = c.trim-next.ensures in
+    let long = ap length trimmed.1 ∙ length-append trimmed.0 c.trim-next.new.queue.items in
+    let next_is = trimmed.2 in
+    elim c.match-index.branch [
+      | in-Some+in_ok-reach_around w ↦
+          let total = (w.in_ok-reach_around.ensures.round c.args.floor.rows c.loop-next.invariant.left).0.spread.total in
+          let steps_is = ap (λ x. unreached x.rows) w.steps-is in
+          let queue_is = ap (λ x. length x.items) w.queue-is in
+          omega arith
+      | in_default w ↦
+          let e : ◌≡◌ {A = Option (Option ℕ)} (Some (Some v.0)) (Some c.index-in-loop-next.result.now) = sym v.1 ∙ c.index-in-loop-next.ensures in
+          let f : c.index-in-loop-next.result.now ≡ Some v.0 = cc in
+          absurd (w.in_default.not-Some v.0 f)
+    ]

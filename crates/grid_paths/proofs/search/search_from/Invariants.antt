@@ -1,6 +1,8 @@
-use Rattle.std.proofs.Common.{◌≡◌, ℕ, ◌+◌, ◌-◌, length, Contains}
+use Rattle.std.proofs.Common.{◌≡◌, ℕ, ◌+◌, ◌*◌, ◌-◌, ◌≤◌, length, Contains}
+use Rattle.grid_base.specs.Table.{row_count, col_count}
 use Rattle.grid_paths.specs.Walks.{IsOpen}
-use Rattle.grid_paths.specs.Search.{IsSearch, IsMarked, IsLeft, HaveOneSize, unreached}
+use Rattle.grid_paths.specs.Search.{IsMarked, IsLeft, HaveOneSize, unreached}
+use Rattle.grid_paths.proofs.QueueLemmas.{IsTrimmed}
 use Rattle.grid_paths.proofs.StepLemmas.{IsStarted}
 use Rattle.grid_paths.proofs.search.search_from.Given as goal
 
@@ -9,8 +11,10 @@ invariant-loop-start g l =
     record {
       size : HaveOneSize l.steps.rows l.fn.floor.rows;
       order : l.steps.order ≡ l.fn.floor.order;
+      cells : l.cells ≡ row_count l.fn.floor.rows * col_count l.fn.floor.rows;
       left : IsLeft l.fn.floor.rows l.steps.rows l.left.rows;
       started : IsStarted l.kind l.fn.floor.rows l.starts l.steps.rows l.queue.items l.start-index;
+      bound : unreached l.steps.rows + length l.queue.items ≤ l.cells;
     }
 
 abbrev pub invariant-loop-next : goal.invariant-loop-next
@@ -18,8 +22,9 @@ invariant-loop-next g l =
     record {
       size : HaveOneSize l.steps.rows l.fn.floor.rows;
       order : l.steps.order ≡ l.fn.floor.order;
+      cells : l.cells ≡ row_count l.fn.floor.rows * col_count l.fn.floor.rows;
       left : IsLeft l.fn.floor.rows l.steps.rows l.left.rows;
-      search : IsSearch l.kind l.fn.floor.rows l.fn.starts l.steps.rows l.queue.items l.next;
+      search : IsTrimmed l.kind l.fn.floor.rows l.fn.starts l.steps.rows l.queue.items l.next l.cells;
       start : (from : ℕ × ℕ) → Contains l.fn.starts from → IsOpen l.fn.floor.rows from → IsMarked l.steps.rows from 0;
     }
 
