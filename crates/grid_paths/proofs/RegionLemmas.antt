@@ -6,7 +6,7 @@ use Rattle.std.proofs.lemmas.List.{length-append}
 use Rattle.std.proofs.lemmas.List.Sums.{sum_by-set}
 use Rattle.std.proofs.lemmas.Option.{slice_get_within, slice_get_read, get_or_from_slice_get}
 use Rattle.grid_base.specs.Table.{row, row_count, col_count, cell, with_cell, IsTable, InRange}
-use Rattle.grid.proofs.CellThroughLemmas.{cell-with_same, cell-with_other}
+use Rattle.grid_base.proofs.WriteLemmas.{cell-with_same, cell-with_other}
 use Rattle.grid_paths.specs.declared.steps.Steps.{Steps}
 use Rattle.grid_paths.specs.declared.steps.Steps.TheVariants.{All}
 use Rattle.grid_paths.specs.Walks.{IsOpen, AreBeside, AreDiagonal, IsStep, Walk, IsFilled}
