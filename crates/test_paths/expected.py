@@ -1,4 +1,4 @@
-# Writes the cases of stdin: numbers are lowered over all cells at once until none changes.
+# Writes the cases of stdin: numbers, and sums of costs, are lowered over all cells at once until none changes.
 import random
 
 random.seed(52)
@@ -47,3 +47,25 @@ for k in range(200):
     for call, positions, answer in answers:
         asked = ' '.join(['==', call, kind] + [f'{r} {c}' for r, c in positions])
         print(asked, *board, '--', answer, sep='\n', end='')
+
+# Digits are what it costs to enter a cell.
+for k in range(60):
+    m, n = random.randint(1, 9) if k % 9 else 1, random.randint(1, 9) if k % 9 != 4 else 1
+    letters = ('0123456789##', '0019##', '1', '0', '123456789', '09#')[k % 6]
+    board = [''.join(random.choice(letters) for _ in range(n)) for _ in range(m)]
+    costs = {(r, c): int(board[r][c]) for r in range(m) for c in range(n) if board[r][c] != '#'}
+    start = (random.randrange(m), random.randrange(n)) if k % 20 else (m, 0)
+    kind = ('Sides', 'All', 'Sides')[k % 3]
+    known = {start: 0} if start in costs else {}
+    while True:
+        new = dict(known)
+        for a in costs:
+            for b in near(a, kind):
+                if b in known:
+                    new[a] = min(known[b] + costs[a], new.get(a, known[b] + costs[a]))
+        if new == known:
+            break
+        known = new
+    print(f'== cheapest {kind} {start[0]} {start[1]}', *board, '--', sep='\n')
+    for r in range(m):
+        print(''.join(f'{known.get((r, c), ".")},' for c in range(n)))

@@ -1,5 +1,6 @@
 //! What the calls answer, as text.
 use grid::Grid;
+use grid_cheapest::cheapest;
 use grid_paths::{Steps, distances, distances_from, fill_region, regions, shortest_path};
 use grid_text::to_text;
 use std::alloc::{AllocError, Allocator, Global};
@@ -38,6 +39,16 @@ fn regions_text<A: Allocator + Clone>(
     let (numbers, count) = regions(map, steps)?;
     let text = numbers_text(alloc, &numbers.map_ref(|number| Some(*number))?)?;
     format!(in alloc; "{count}\n{text}")
+}
+
+fn sums_text<A: Allocator + Clone>(
+    alloc: Global,
+    map: &Grid<char, A>,
+    from: (usize, usize),
+    steps: Steps,
+) -> Result<String, AllocError> {
+    let sums = cheapest(map, from, steps, |cell| cell.to_digit(10))?;
+    numbers_text(alloc, &sums.map_ref(|sum| sum.map(|sum| sum as usize))?)
 }
 
 fn path_text<A: Allocator + Clone>(
@@ -81,6 +92,7 @@ pub fn answer<A: Allocator + Clone>(
         "distances_from" => {
             numbers_text(alloc, &distances_from(map, at, steps, |cell| *cell == '.')?)
         }
+        "cheapest" => sums_text(alloc, map, first, steps),
         "shortest_path" => path_text(alloc, map, at, steps),
         "fill_region" => filled_text(alloc, map, first, steps),
         _ => regions_text(alloc, map, steps),

@@ -2,8 +2,9 @@
 //! what stands below them. Each request of a call for memory is refused once: then the map stays as it was.
 //!
 //! A case is a line `== CALL STEPS NUMBERS`, where the numbers are rows and columns of positions; the map, in which `.` may be
-//! walked on; a line `--`; and the answer: a line of numbers for each row (`.` where there is none), or of cells. Below
-//! `regions` the count stands first; below `shortest_path` only the number of steps. `expected.py` made the cases.
+//! walked on, or at `cheapest` a digit is the cost; a line `--`; and the answer: a line of numbers for each row (`.` where
+//! there is none), or of cells. Below `regions` the count stands first; below `shortest_path` only the number of steps.
+//! `expected.py` made the cases.
 #![tactic(auto)]
 
 mod answer;
@@ -53,11 +54,11 @@ fn read_ask<'a>(alloc: Global, head: &'a str) -> Result<Ask<'a>, AllocError> {
 }
 
 // How many requests for memory are made: for which cells may be walked on, for the numbers, except at `fill_region`, and for
-// the queue; for a path, if there is one; and for the text of regions.
+// the queue; for a path, if there is one; and for the text of regions and of sums.
 fn requests(call: &str, wanted: &str) -> u64 {
     match call {
         "shortest_path" if wanted != ".\n" => 4,
-        "regions" => 4,
+        "regions" | "cheapest" => 4,
         "fill_region" => 2,
         _ => 3,
     }

@@ -1,0 +1,3 @@
+pub mod HeapLemmas
+pub mod RelaxLemmas
+pub mod CheapLemmas
