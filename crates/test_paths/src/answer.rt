@@ -41,6 +41,7 @@ fn regions_text<A: Allocator + Clone>(
     format!(in alloc; "{count}\n{text}")
 }
 
+// A line for each row, with its sums.
 fn sums_text<A: Allocator + Clone>(
     alloc: Global,
     map: &Grid<char, A>,
@@ -48,7 +49,17 @@ fn sums_text<A: Allocator + Clone>(
     steps: Steps,
 ) -> Result<String, AllocError> {
     let sums = cheapest(map, from, steps, |cell| cell.to_digit(10))?;
-    numbers_text(alloc, &sums.map_ref(|sum| sum.map(|sum| sum as usize))?)
+    let mut text = String::new(alloc);
+    for row in sums.iter_rows() {
+        for sum in row {
+            match sum {
+                Some(sum) => text.push_str(format!(in alloc; "{sum},")?.as_str())?,
+                None => text.push_str(".,")?,
+            }
+        }
+        text.push('\n')?;
+    }
+    Ok(text)
 }
 
 fn path_text<A: Allocator + Clone>(

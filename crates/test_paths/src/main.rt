@@ -54,11 +54,11 @@ fn read_ask<'a>(alloc: Global, head: &'a str) -> Result<Ask<'a>, AllocError> {
 }
 
 // How many requests for memory are made: for which cells may be walked on, for the numbers, except at `fill_region`, and for
-// the queue; for a path, if there is one; and for the text of regions and of sums.
+// the queue; for a path, if there is one; and for the text of regions.
 fn requests(call: &str, wanted: &str) -> u64 {
     match call {
         "shortest_path" if wanted != ".\n" => 4,
-        "regions" | "cheapest" => 4,
+        "regions" => 4,
         "fill_region" => 2,
         _ => 3,
     }
