@@ -13,7 +13,7 @@ use Rattle.grid_base.specs.Positions.{positions}
 use Rattle.grid_base.specs.ClosureCalls.{PairsUp, CallableAtCells, CallableAtItems, ReturnsAtCell, FailsFirst}
 use Rattle.grid_base.specs.GridValue.{GridValue, HoldsSize}
 use Rattle.grid_base.proofs.TableLemmas.{IsFull, tabulate-same, cell-tabulate}
-use Rattle.grid_base.proofs.StorageLemmas.{place_within, has_place, get_append_left}
+use Rattle.grid_base.proofs.StorageLemmas.{place_within, has_place, get_append_left, get_append_right}
 use Rattle.grid_base.proofs.PlaceLemmas.{get-places, length-places}
 use Rattle.grid_base.proofs.PlacedCellLemmas.{zip_within, get-zip}
 use Rattle.grid_base.proofs.ViewLemmas.{view-rows, view-cols, view-cell}
@@ -121,8 +121,7 @@ module _ {A : Type 0} (o : Order) (m n : ℕ) (cells : List A) (v : GridValue A)
 
 -- what stands at the length of the first part
 pub at_seam : {X : Type 0} (xs : List X) (x : X) (ys : List X) → slice_get (xs ++ x ∷ ys) (length xs) ≡ Some x
-at_seam [] x ys = refl
-at_seam (y ∷ xs) x ys = at_seam xs x ys
+at_seam xs x ys = get_append_right xs (x ∷ ys) (length xs) 0 (omega arith)
 
 module _ (o : Order) (m n : ℕ) (z : IsSize m n) where
   -- a closure that can be called at each position can be called along the positions

@@ -1,8 +1,7 @@
 -- Cells read, written, exchanged and filled, through the flip of the rows and the transpose.
-use Rattle.std.proofs.Common.{◌≡◌, ℕ, ◌-◌, ◌<◌, ◌≤◌, true, false, ◌&&◌, Option, Some, None, List, [], ◌∷◌, ◌++◌, length, map, reverse, replicate, set, get_or, refl, sym, ◌∙◌, ap, arith, ⊎_elim}
+use Rattle.std.proofs.Common.{◌≡◌, ℕ, ◌-◌, ◌<◌, true, false, ◌&&◌, Option, Some, None, List, [], ◌∷◌, ◌++◌, length, map, reverse, replicate, set, get_or, refl, sym, ◌∙◌, ap, arith, ⊎_elim}
 use Rattle.std.specs.List.{slice_get}
 use Rattle.std.proofs.lemmas.List.{length-reverse, length-map, length-set, get_or-reverse, get_or-map, get_or-set_same, get_or-set_other, get_or_past, reverse-append, same_lists, length-replicate, map-append}
-use Rattle.std.proofs.lemmas.Option.{slice_get_past}
 use Rattle.std.proofs.lemmas.Bool.{lt-ltb, le-ltb, cases_lt, cases_eq}
 use Rattle.grid_base.specs.declared.words.Symmetry.{Symmetry}
 use Rattle.grid_base.specs.declared.words.Symmetry.TheVariants.{Identity, FlipRows, Transpose}
@@ -14,9 +13,11 @@ use Rattle.grid_base.proofs.WriteLemmas.{rows-written, widths-written, cols-with
 use Rattle.grid_base.proofs.GroupLemmas.{product, act-act, act-identity, act_all-is, symmetry_of-product_from}
 use Rattle.grid_commands.specs.Refusal.{in_range}
 use Rattle.grid.specs.AllCells.{filled}
-use Rattle.grid.proofs.ColEditLemmas.{rows-across, cols-across, cell-across, across_by_cells}
-use Rattle.grid.specs.Through.{mirror_place}
+use Rattle.grid.proofs.ColEditLemmas.{rows-across, cols-across, cell-cross, across_by_cells}
+use Rattle.grid.specs.Through.{mirrored_line}
 use Rattle.grid.proofs.MirrorLemmas.{flip_rows-is}
+use Rattle.grid_base.proofs.TableLemmas.{past_cols, cell_past_rows}
+use Rattle.std.proofs.lemmas.Simd.{splat_is_map}
 
 -- an element written to a reversed list
 set-mirrored : {X : Type 0} (xs : List X) (k : ℕ) (y : X) → k < length xs → set (reverse xs) k y ≡ reverse (set xs (length xs - 1 - k) y)
@@ -48,21 +49,14 @@ map-reversed f (x ∷ xs) =
 
 module _ {T : Type 0} where
   -- a row of the reversed table
-  pub row-mirrored : (t : List (List T)) (r : ℕ) → row (reverse t) r ≡ row t (mirror_place (row_count t) r)
+  pub row-mirrored : (t : List (List T)) (r : ℕ) → row (reverse t) r ≡ row t (mirrored_line (row_count t) r)
   row-mirrored t r =
       ⊎_elim (λ lt. rw (lt-ltb r (row_count t) lt) (get_or-reverse t r [] lt))
       (λ le. rw (le-ltb r (row_count t) le) (get_or_past (reverse t) r [] (omega (arith, length-reverse t)) ∙ sym (get_or_past t r [] le)))
       (cases_lt r (row_count t))
 
-  pub cell-flip : (t : List (List T)) → IsTable t → (r c : ℕ) → cell (act FlipRows t) r c ≡ cell t (mirror_place (row_count t) r) c
+  pub cell-flip : (t : List (List T)) → IsTable t → (r c : ℕ) → cell (act FlipRows t) r c ≡ cell t (mirrored_line (row_count t) r) c
   cell-flip t h r c = ap (λ v. cell v r c) (flip_rows-is t h) ∙ ap (λ v. slice_get v c) (row-mirrored t r)
-
-  pub past_rows : (t : List (List T)) (r c : ℕ) → row_count t ≤ r → cell t r c ≡ None
-  past_rows t r c le = ap (λ v. slice_get v c) (get_or_past t r [] le)
-
-  pub past_cols : (t : List (List T)) → IsTable t → (r c : ℕ) → col_count t ≤ c → cell t r c ≡ None
-  past_cols t h r c le =
-      ⊎_elim (λ lt. slice_get_past (row t r) c (omega (arith, h.even r lt))) (λ ge. past_rows t r c ge) (cases_lt r (row_count t))
 
   -- a position that isn't in range has no cell
   pub cell_past : (t : List (List T)) → IsTable t → (r c : ℕ) → in_range (row_count t) (col_count t) (r, c) ≡ false → cell t r c ≡ None
@@ -71,26 +65,15 @@ module _ {T : Type 0} where
       ⊎_elim (λ lc. let k : (true && true) ≡ false = rw (lt-ltb r (row_count t) lr, lt-ltb c (col_count t) lc) at e in absurd (both_no k))
       (λ ge. past_cols t h r c ge)
       (cases_lt c (col_count t)))
-      (λ ge. past_rows t r c ge)
+      (λ ge. cell_past_rows t r c ge)
       (cases_lt r (row_count t))
     where
       both_no : (true && true) ≡ false → ⊥
       both_no k = cc k
 
-  pub cell-cross : (t : List (List T)) → IsTable t → (r c : ℕ) → cell (act Transpose t) r c ≡ cell t c r
-  cell-cross t h r c =
-      let v = act Transpose t in
-      let hv = IsTable-act Transpose t h in
-      ⊎_elim (λ lr.
-      ⊎_elim (λ lc. cell-across t h r c lr lc)
-      (λ ge. past_cols v hv r c (omega (arith, cols-across t h)) ∙ sym (past_rows t c r ge))
-      (cases_lt c (row_count t)))
-      (λ ge. past_rows v r c (omega (arith, rows-across t h)) ∙ sym (past_cols t h c r ge))
-      (cases_lt r (col_count t))
-
-  pub set-flip : (t : List (List T)) → IsTable t → (r c : ℕ) (w : T) → r < row_count t → with_cell (act FlipRows t) r c w ≡ act FlipRows (with_cell t (mirror_place (row_count t) r) c w)
+  pub set-flip : (t : List (List T)) → IsTable t → (r c : ℕ) (w : T) → r < row_count t → with_cell (act FlipRows t) r c w ≡ act FlipRows (with_cell t (mirrored_line (row_count t) r) c w)
   set-flip t h r c w lr =
-      let p = mirror_place (row_count t) r in
+      let p = mirrored_line (row_count t) r in
       let at : p ≡ row_count t - 1 - r = rw (lt-ltb r (row_count t) lr) refl in
       ap (λ v. with_cell v r c w) (flip_rows-is t h)
       ∙ (ap (λ v. set (reverse t) r (set v c w)) (row-mirrored t r)
@@ -105,21 +88,21 @@ module _ {T : Type 0} where
       let m : row_count v ≡ col_count t = rows-across t h in
       let n : col_count v ≡ row_count t = cols-across t h in
       across_by_cells (with_cell v r c w) u (IsTable-with_cell t h c r w)
-      (rows-written v hv r c w ∙ (m ∙ sym (cols-with_cell t h c r w)))
-      (λ i lt. widths-written v hv r c w i (omega (arith, rows-written v hv r c w)) ∙ (n ∙ sym (rows-written t h c r w)))
+      (rows-written v r c w ∙ (m ∙ sym (cols-with_cell t h c r w)))
+      (λ i lt. widths-written v hv r c w i (omega (arith, rows-written v r c w)) ∙ (n ∙ sym (rows-written t c r w)))
       (λ i li j lj.
       ⊎_elim (λ e.
       ⊎_elim (λ f.
       ap (λ x. cell (with_cell v r c w) x j) e ∙ (ap (cell (with_cell v r c w) r) f
       ∙ (cell-with_same v hv r c w (omega arith) (omega arith)
       ∙ sym (ap (cell u j) e ∙ (ap (λ x. cell u x r) f ∙ cell-with_same t h c r w lc lr)))))
-      (λ ne. cell-with_other v hv r c w i j (λ _. ne) ∙ (cell-cross t h i j ∙ sym (cell-with_other t h c r w j i (λ k. absurd (ne k)))))
+      (λ ne. cell-with_other v r c w i j (λ _. ne) ∙ (cell-cross t h i j ∙ sym (cell-with_other t c r w j i (λ k. absurd (ne k)))))
       (cases_eq j c))
-      (λ ne. cell-with_other v hv r c w i j (λ k. absurd (ne k)) ∙ (cell-cross t h i j ∙ sym (cell-with_other t h c r w j i (λ _. ne))))
+      (λ ne. cell-with_other v r c w i j (λ k. absurd (ne k)) ∙ (cell-cross t h i j ∙ sym (cell-with_other t c r w j i (λ _. ne))))
       (cases_eq i r))
 
   -- the same with a cell that may be missing
-  of-flip : (t : List (List T)) → IsTable t → (r c : ℕ) (o : Option T) → r < row_count t → with_cell_of (act FlipRows t) r c o ≡ act FlipRows (with_cell_of t (mirror_place (row_count t) r) c o)
+  of-flip : (t : List (List T)) → IsTable t → (r c : ℕ) (o : Option T) → r < row_count t → with_cell_of (act FlipRows t) r c o ≡ act FlipRows (with_cell_of t (mirrored_line (row_count t) r) c o)
   of-flip t h r c None lr = refl
   of-flip t h r c (Some w) lr = set-flip t h r c w lr
 
@@ -130,17 +113,17 @@ module _ {T : Type 0} where
   pub IsTable-exchanged : (t : List (List T)) → IsTable t → (p q : ℕ × ℕ) → IsTable (exchanged t p q)
   IsTable-exchanged t h p q = IsTable-with_cell_of (with_cell_of t p.0 p.1 (cell t q.0 q.1)) (IsTable-with_cell_of t h p.0 p.1 (cell t q.0 q.1)) q.0 q.1 (cell t p.0 p.1)
 
-  pub swap-flip : (t : List (List T)) → IsTable t → (p q : ℕ × ℕ) → p.0 < row_count t → q.0 < row_count t → exchanged (act FlipRows t) p q ≡ act FlipRows (exchanged t (mirror_place (row_count t) p.0, p.1) (mirror_place (row_count t) q.0, q.1))
+  pub swap-flip : (t : List (List T)) → IsTable t → (p q : ℕ × ℕ) → p.0 < row_count t → q.0 < row_count t → exchanged (act FlipRows t) p q ≡ act FlipRows (exchanged t (mirrored_line (row_count t) p.0, p.1) (mirrored_line (row_count t) q.0, q.1))
   swap-flip t h p q lp lq =
       let m = row_count t in
-      let u = with_cell_of t (mirror_place m p.0) p.1 (cell t (mirror_place m q.0) q.1) in
-      let hu = IsTable-with_cell_of t h (mirror_place m p.0) p.1 (cell t (mirror_place m q.0) q.1) in
-      let len : row_count u ≡ m = rows-with_cell_of t h (mirror_place m p.0) p.1 (cell t (mirror_place m q.0) q.1) in
+      let u = with_cell_of t (mirrored_line m p.0) p.1 (cell t (mirrored_line m q.0) q.1) in
+      let hu = IsTable-with_cell_of t h (mirrored_line m p.0) p.1 (cell t (mirrored_line m q.0) q.1) in
+      let len : row_count u ≡ m = rows-with_cell_of t h (mirrored_line m p.0) p.1 (cell t (mirrored_line m q.0) q.1) in
       ap (λ o. with_cell_of (with_cell_of (act FlipRows t) p.0 p.1 o) q.0 q.1 (cell (act FlipRows t) p.0 p.1)) (cell-flip t h q.0 q.1)
-      ∙ (ap (λ o. with_cell_of (with_cell_of (act FlipRows t) p.0 p.1 (cell t (mirror_place m q.0) q.1)) q.0 q.1 o) (cell-flip t h p.0 p.1)
-      ∙ (ap (λ v. with_cell_of v q.0 q.1 (cell t (mirror_place m p.0) p.1)) (of-flip t h p.0 p.1 (cell t (mirror_place m q.0) q.1) lp)
-      ∙ (of-flip u hu q.0 q.1 (cell t (mirror_place m p.0) p.1) (omega arith)
-      ∙ ap (λ k. act FlipRows (with_cell_of u (mirror_place k q.0) q.1 (cell t (mirror_place m p.0) p.1))) len)))
+      ∙ (ap (λ o. with_cell_of (with_cell_of (act FlipRows t) p.0 p.1 (cell t (mirrored_line m q.0) q.1)) q.0 q.1 o) (cell-flip t h p.0 p.1)
+      ∙ (ap (λ v. with_cell_of v q.0 q.1 (cell t (mirrored_line m p.0) p.1)) (of-flip t h p.0 p.1 (cell t (mirrored_line m q.0) q.1) lp)
+      ∙ (of-flip u hu q.0 q.1 (cell t (mirrored_line m p.0) p.1) (omega arith)
+      ∙ ap (λ k. act FlipRows (with_cell_of u (mirrored_line k q.0) q.1 (cell t (mirrored_line m p.0) p.1))) len)))
 
   pub swap-cross : (t : List (List T)) → IsTable t → (p q : ℕ × ℕ) → p.0 < col_count t → p.1 < row_count t → q.0 < col_count t → q.1 < row_count t → exchanged (act Transpose t) p q ≡ act Transpose (exchanged t (p.1, p.0) (q.1, q.0))
   swap-cross t h p q lp kp lq kq =
@@ -153,16 +136,12 @@ module _ {T : Type 0} where
       ∙ (ap (λ v. with_cell_of v q.0 q.1 (cell t p.1 p.0)) (of-cross t h p.0 p.1 (cell t q.1 q.0) lp kp)
       ∙ of-cross u hu q.0 q.1 (cell t p.1 p.0) (omega arith) (omega arith)))
 
-  filled_row : (v : T) (xs : List T) → map (λ _. v) xs ≡ replicate (length xs) v
-  filled_row v [] = refl
-  filled_row v (x ∷ xs) = ap (λ ys. v ∷ ys) (filled_row v xs)
-
   module _ (v : T) (t : List (List T)) (h : IsTable t) where
     rows-filled : row_count (filled v t) ≡ row_count t
     rows-filled = length-map t (λ r. map (λ _. v) r)
 
     row-filled : (r : ℕ) → r < row_count t → row (filled v t) r ≡ replicate (col_count t) v
-    row-filled r lt = get_or-map (λ r. map (λ _. v) r) t r [] [] lt ∙ (filled_row v (row t r) ∙ ap (λ n. replicate n v) (h.even r lt))
+    row-filled r lt = get_or-map (λ r. map (λ _. v) r) t r [] [] lt ∙ (sym (splat_is_map (row t r) (length (row t r)) v refl) ∙ ap (λ n. replicate n v) (h.even r lt))
 
     width-filled : (r : ℕ) → r < row_count t → length (row (filled v t) r) ≡ col_count t
     width-filled r lt = ap length (row-filled r lt) ∙ length-replicate (col_count t) v

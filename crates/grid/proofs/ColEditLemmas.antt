@@ -9,7 +9,7 @@ use Rattle.grid_base.specs.declared.words.Symmetry.TheVariants.{Transpose}
 use Rattle.grid_base.specs.Table.{row, row_count, col_count, cell, transposed, IsTable, tabulate}
 use Rattle.grid_base.specs.Symmetry.{act}
 use Rattle.grid_base.proofs.StorageLemmas.{get-replicate}
-use Rattle.grid_base.proofs.TableLemmas.{same_tables, IsSize-table}
+use Rattle.grid_base.proofs.TableLemmas.{same_tables, IsSize-table, past_cols, cell_past_rows}
 use Rattle.grid_base.proofs.ActLemmas.{rows-act, cols-act, cell-act, IsTable-act, act_is_transposed}
 use Rattle.grid.specs.Edits.{insert_rows, without_rows, insert_into_rows, insert_col, insert_cols, has_cells, without_cols, expanded_rows, prepended_rows, expanded_cols, prepended_cols}
 use Rattle.grid.proofs.ListEditLemmas.{get-cut_before, get-cut_after, get-put_before, get-put_new, get-put_after, length-put, length-cut, put_cases}
@@ -25,8 +25,16 @@ module _ {T : Type 0} where
     pub cols-across : col_count (act Transpose t) ≡ row_count t
     cols-across = cols-act Transpose t h
 
-    pub cell-across : (r c : ℕ) → r < col_count t → c < row_count t → cell (act Transpose t) r c ≡ cell t c r
-    cell-across r c lr lc = cell-act Transpose t r c h lr lc
+    pub cell-cross : (r c : ℕ) → cell (act Transpose t) r c ≡ cell t c r
+    cell-cross r c =
+        let v = act Transpose t in
+        let hv = IsTable-act Transpose t h in
+        ⊎_elim (λ lr.
+        ⊎_elim (λ lc. cell-act Transpose t r c h lr lc)
+        (λ ge. past_cols v hv r c (omega (arith, cols-across)) ∙ sym (cell_past_rows t c r ge))
+        (cases_lt c (row_count t)))
+        (λ ge. cell_past_rows v r c (omega (arith, rows-across)) ∙ sym (past_cols t h c r ge))
+        (cases_lt r (col_count t))
 
     pub HasWidth-across : HasWidth (act Transpose t) (row_count t)
     HasWidth-across r lt = (IsTable-act Transpose t h).even r lt ∙ cols-across
@@ -39,14 +47,14 @@ module _ {T : Type 0} where
       (λ r c lt lc.
       let lr : r < col_count u = omega arith in
       let l : c < row_count u = omega (arith, widths r lt) in
-      cells r lr c l ∙ sym (cell-across u h r c lr l))
+      cells r lr c l ∙ sym (cell-cross u h r c))
 
   pub across-across : (t : List (List T)) → IsTable t → act Transpose (act Transpose t) ≡ t
   across-across t h =
       let v = act Transpose t in
       sym (across_by_cells t v (IsTable-act Transpose t h) (sym (cols-across t h))
       (λ r lt. h.even r lt ∙ sym (rows-across t h))
-      (λ r lr c lc. sym (cell-across t h c r (omega (arith, rows-across t h)) (omega (arith, cols-across t h)))))
+      (λ r lr c lc. sym (cell-cross t h c r)))
 
   pub across-none : ◌≡◌ {A = List (List T)} (act Transpose []) []
   unfolding act tabulate
@@ -109,34 +117,38 @@ module _ {T : Type 0} where
   only_one xs d r zero lr lt = sym (slice_get-get_or xs r d lr)
   only_one xs d r (suc j) lr lt = absurd (omega arith)
 
+  -- row r of a table with x put before place i, where x is column r of some lines
+  put_at : (t : List (List T)) → IsTable t → (i r : ℕ) (x y : List T) (lines : List (List T)) → y ≡ take i (row t r) ++ x ++ drop i (row t r) → length (row t r) ≡ col_count t → i ≤ col_count t → row_count lines ≡ length x → ((j : ℕ) → j < length x → slice_get x j ≡ slice_get (row lines j) r) → (c : ℕ) → c < col_count t + length x → slice_get y c ≡ cell (insert_rows i lines (act Transpose t)) c r
+  put_at t h i r x y lines is wide le count new =
+      let v = act Transpose t in
+      let xs = row t r in
+      let in_row : i ≤ length xs = omega arith in
+      let in_v : i ≤ row_count v = omega (arith, rows-across t h) in
+      put_cases (λ c. slice_get y c ≡ cell (insert_rows i lines v) c r) i (col_count t) (length x)
+      (λ c lt.
+      ap (λ z. slice_get z c) is
+      ∙ (get-put_before xs x i in_row c lt
+      ∙ (sym (cell-cross t h c r) ∙ ap (λ z. slice_get z r) (sym (row-put_before i lines v in_v c lt)))))
+      (λ j lt.
+      ap (λ z. slice_get z (i + j)) is
+      ∙ (get-put_new xs x i in_row j lt ∙ (new j lt ∙ ap (λ z. slice_get z r) (sym (row-put_new i lines v in_v j (omega arith))))))
+      (λ c ge lt.
+      ap (λ z. slice_get z (length x + c)) is
+      ∙ (get-put_after xs x i in_row c ge
+      ∙ (sym (cell-cross t h c r)
+      ∙ (ap (λ z. slice_get z r) (sym (row-put_after i lines v in_v c ge)) ∙ ap (λ k. cell (insert_rows i lines v) (k + c) r) count))))
+
   cell-insert_col : (d : T) (i : ℕ) (xs : List T) (t : List (List T)) → ColumnFits i xs t → (r : ℕ) → r < length xs → (c : ℕ) → c < col_count t + 1 → cell (insert_col i xs t) r c ≡ cell (insert_rows i (xs ∷ []) (act Transpose t)) c r
   cell-insert_col d i xs t h r lr =
-      let v = act Transpose t in
       let x : List T = get_or xs r d ∷ [] in
-      let ys : List T = row t r in
-      let is_row : row (insert_col i xs t) r ≡ take i ys ++ x ++ drop i ys = row-insert_col i xs t d r h lr ∙ sym (append_assoc (take i ys) x (drop i ys)) in
-      let wide : length ys ≡ col_count t = width_at i xs t h r lr in
-      let rows_v : row_count v ≡ col_count t = rows-across t h.is_table in
-      let le : i ≤ length ys = omega (arith, h.in_cols) in
-      let in_v : i ≤ row_count v = omega (arith, h.in_cols) in
-      put_cases (λ c. cell (insert_col i xs t) r c ≡ cell (insert_rows i (xs ∷ []) v) c r) i (col_count t) 1
-      (λ c lt.
-      let some : 0 < row_count t = some_rows t h.is_table (omega (arith, h.in_cols)) in
-      ap (λ y. slice_get y c) is_row
-      ∙ (get-put_before ys x i le c lt
-      ∙ (sym (cell-across t h.is_table c r (omega (arith, h.in_cols)) (omega (arith, h.height some))) ∙ ap (λ y. slice_get y r) (sym (row-put_before i (xs ∷ []) v in_v c lt)))))
-      (λ j lt.
-      ap (λ y. slice_get y (i + j)) is_row
-      ∙ (get-put_new ys x i le j lt
-      ∙ (only_one xs d r j lr lt ∙ ap (λ y. slice_get y r) (sym (row-put_new i (xs ∷ []) v in_v j lt)))))
-      (λ c ge lt.
-      let some : 0 < row_count t = some_rows t h.is_table (omega arith) in
-      ap (λ y. slice_get y (1 + c)) is_row
-      ∙ (get-put_after ys x i le c ge
-      ∙ (sym (cell-across t h.is_table c r lt (omega (arith, h.height some))) ∙ ap (λ y. slice_get y r) (sym (row-put_after i (xs ∷ []) v in_v c ge)))))
+      let is = row-insert_col i xs t d r h lr ∙ sym (append_assoc (take i (row t r)) x (drop i (row t r))) in
+      put_at t h.is_table i r x (row (insert_col i xs t) r) (xs ∷ []) is (width_at i xs t h r lr) h.in_cols refl (λ j lt. only_one xs d r j lr lt)
 
-  insert_col_with : (d : T) (i : ℕ) (xs : List T) (t : List (List T)) → ColumnFits i xs t → insert_col i xs t ≡ act Transpose (insert_rows i (xs ∷ []) (act Transpose t))
-  insert_col_with d i xs t h =
+  -- one column put
+  pub insert_col-across : (i : ℕ) (xs : List T) (t : List (List T)) → ColumnFits i xs t → insert_col i xs t ≡ act Transpose (insert_rows i (xs ∷ []) (act Transpose t))
+  insert_col-across i [] t h = absurd (omega (arith, h.nonempty))
+  insert_col-across i (d ∷ others) t h =
+      let xs = d ∷ others in
       let v = act Transpose t in
       let u = insert_rows i (xs ∷ []) v in
       let fit = put_lines i xs t h in
@@ -150,11 +162,6 @@ module _ {T : Type 0} where
       let wide : length (row t r) ≡ col_count t = width_at i xs t h r l in
       ap length (row-insert_col i xs t d r h l) ∙ (length-insert (row t r) i (get_or xs r d) (omega (arith, h.in_cols)) ∙ omega arith))
       (λ r lr c lc. cell-insert_col d i xs t h r (omega arith) c (omega arith))
-
-  -- one column put
-  pub insert_col-across : (i : ℕ) (xs : List T) (t : List (List T)) → ColumnFits i xs t → insert_col i xs t ≡ act Transpose (insert_rows i (xs ∷ []) (act Transpose t))
-  insert_col-across i [] t h = absurd (omega (arith, h.nonempty))
-  insert_col-across i (d ∷ xs) t h = insert_col_with d i (d ∷ xs) t h
 
   -- lines that fit between the columns of a table
   pub record ColumnsFit (i : ℕ) (lines t : List (List T)) : Type 0 where
@@ -269,12 +276,12 @@ module _ {T : Type 0} where
         ap (λ y. slice_get y c) (row_of_cut r l)
         ∙ ⊎_elim (λ lt.
         get-cut_before (row t r) i (i + k) le c lt
-        ∙ (sym (cell-across t h c r (omega arith) l) ∙ ap (λ y. slice_get y r) (sym (row-take_before i k v in_v c lt))))
+        ∙ (sym (cell-cross t h c r) ∙ ap (λ y. slice_get y r) (sym (row-take_before i k v in_v c lt))))
         (λ ge.
         let e : i + k + (c - i) ≡ k + c = omega arith in
         get-cut_after (row t r) i (i + k) le c (c - i) (omega arith)
         ∙ (ap (slice_get (row t r)) e
-        ∙ (sym (cell-across t h (k + c) r (omega arith) l) ∙ ap (λ y. slice_get y r) (sym (row-take_after i k v in_v c ge)))))
+        ∙ (sym (cell-cross t h (k + c) r) ∙ ap (λ y. slice_get y r) (sym (row-take_after i k v in_v c ge)))))
         (cases_lt c i))
 
     none_left : k ≡ col_count t → without_cols i k t ≡ act Transpose (without_rows i k (act Transpose t))
@@ -322,25 +329,10 @@ module _ {T : Type 0} where
         ap length (at_row r l) ∙ (length-put (row t r) (replicate k d) i (omega (arith, h.even r l)) ∙ omega (arith, h.even r l)))
         (λ r lr c lc.
         let l : r < row_count t = omega arith in
-        let in_row : i ≤ length (row t r) = omega (arith, h.even r l) in
-        put_cases (λ c. cell u r c ≡ cell w c r) i (col_count t) k
-        (λ c lt.
-        ap (λ y. slice_get y c) (at_row r l)
-        ∙ (get-put_before (row t r) (replicate k d) i in_row c lt
-        ∙ (sym (cell-across t h c r (omega arith) l) ∙ ap (λ y. slice_get y r) (sym (row-put_before i lines v in_v c lt)))))
-        (λ j lt.
-        ap (λ y. slice_get y (i + j)) (at_row r l)
-        ∙ (get-put_new (row t r) (replicate k d) i in_row j (omega arith)
-        ∙ (get-replicate k d j lt
-        ∙ (sym (get-replicate (row_count t) d r l)
-        ∙ ap (λ y. slice_get y r) (sym (row-put_new i lines v in_v j (omega arith) ∙ row-copies k (row_count t) d j lt))))))
-        (λ c ge lt.
-        ap (λ y. slice_get y (k + c)) (at_row r l)
-        ∙ (ap (λ x. slice_get (take i (row t r) ++ replicate k d ++ drop i (row t r)) (x + c)) (sym len)
-        ∙ (get-put_after (row t r) (replicate k d) i in_row c ge
-        ∙ (sym (cell-across t h c r lt l)
-        ∙ (ap (λ y. slice_get y r) (sym (row-put_after i lines v in_v c ge)) ∙ ap (λ x. cell w (x + c) r) rows_lines)))))
-        c (omega arith))
+        let new : (j : ℕ) → j < length (replicate k d) → slice_get (replicate k d) j ≡ slice_get (row lines j) r =
+        λ j lt. let le : j < k = omega arith in
+        get-replicate k d j le ∙ (sym (get-replicate (row_count t) d r l) ∙ ap (λ z. slice_get z r) (sym (row-copies k (row_count t) d j le))) in
+        put_at t h i r (replicate k d) (row u r) lines (at_row r l) (h.even r l) le (rows_lines ∙ sym len) new c (omega arith))
 
     -- the transposed table with copies put as rows
     copies_across : (i : ℕ) → insert_rows i (copies k (col_count (act Transpose t)) d) (act Transpose t) ≡ insert_rows i (copies k (row_count t) d) (act Transpose t)

@@ -14,23 +14,23 @@ use Rattle.grid_commands.specs.declared.command.Axis.TheVariants.{Row, Col}
 use Rattle.grid_commands.specs.declared.command.Refusal.TheVariants.{EmptyLine, Length, Index, TooLarge}
 use Rattle.grid_commands.specs.Command.{Edit, read, push, insert_at, insert_all, pop, remove_at, delete_at, delete_range, expand, prepend}
 use Rattle.grid_commands.specs.Reply.{line_is, flag_is}
-use Rattle.grid_commands.specs.Refusal.{insert_refusal, edit_refusal, fitting_width}
+use Rattle.grid_commands.specs.Refusal.{lines_refusal, edit_refusal, fitting_width}
 use Rattle.grid.proofs.EditSizeLemmas.{LinesFit}
 use Rattle.grid.proofs.ColEditLemmas.{across-across, rows-across, cols-across}
 use Rattle.grid.specs.Step.{Effect, nothing, inserts, removes, range_effect, effect, after_effect, edit_takes_memory, has_lines, edit_reply, line_at}
-use Rattle.grid.specs.Through.{turned_reply, mirror_place, mirror_gap, mirror_start, edit_of_flipped, edit_of_reversed}
+use Rattle.grid.specs.Through.{turned_reply, mirrored_line, mirrored_insertion, mirrored_start, edit_of_flipped, edit_of_reversed}
 use Rattle.grid.proofs.MirrorLemmas.{flip_rows-is, flip_cols-is}
 use Rattle.grid.proofs.EffectLemmas.{IsApplicable, flipped_effect, reversed_effect}
 use Rattle.grid.proofs.ThroughLemmas.{rows-flip, cols-flip, rows-transpose, cols-transpose, table-after, table-after_col, flip-across}
 use Rattle.grid.proofs.RefusalLemmas.{all-at, any-at, fitting-some, command_refusal-edit_of_flipped, command_refusal-edit_of_reversed}
 
-pub place_past : (count i : ℕ) → nat_lt (mirror_place count i) count ≡ nat_lt i count
+pub place_past : (count i : ℕ) → nat_lt (mirrored_line count i) count ≡ nat_lt i count
 place_past count i =
     ⊎_elim (λ lt. rw (lt-ltb i count lt) (lt-ltb (count - 1 - i) count (omega arith)))
     (λ le. rw (le-ltb i count le) (le-ltb i count le))
     (cases_lt i count)
 
-start_past : (count i k : ℕ) → nat_lt count (mirror_start count i k + k) ≡ nat_lt count (i + k)
+start_past : (count i k : ℕ) → nat_lt count (mirrored_start count i k + k) ≡ nat_lt count (i + k)
 start_past count i k =
     ⊎_elim (λ lt. rw (lt-ltb count (i + k) lt) (lt-ltb count (i + k) lt))
     (λ le. rw (le-ltb count (i + k) le) (le-ltb count (count - i - k + k) (omega arith)))
@@ -75,28 +75,28 @@ passed false false x z h = cc h
 passed false true true z h = cc h
 passed false true false z h = record { empty = refl; even = refl; past = refl }
 
-one-start : (count i : ℕ) → mirror_place count i ≡ mirror_start count i 1
+one-start : (count i : ℕ) → mirrored_line count i ≡ mirrored_start count i 1
 one-start count i =
     ⊎_elim (λ lt. rw (lt-ltb i count lt, le-ltb count (i + 1) (omega arith)) (omega arith))
     (λ le. rw (le-ltb i count le, lt-ltb count (i + 1) (omega arith)) refl)
     (cases_lt i count)
 
-gap-within : (count i : ℕ) → i ≤ count → mirror_gap count i ≡ count - i
+gap-within : (count i : ℕ) → i ≤ count → mirrored_insertion count i ≡ count - i
 gap-within count i le = rw (le-ltb count i le) refl
 
 -- a line of the flipped table
-pub get-mirrored : {X : Type 0} (xs : List X) (i : ℕ) → slice_get (reverse xs) i ≡ slice_get xs (mirror_place (length xs) i)
+pub get-mirrored : {X : Type 0} (xs : List X) (i : ℕ) → slice_get (reverse xs) i ≡ slice_get xs (mirrored_line (length xs) i)
 get-mirrored xs i =
     ⊎_elim (λ lt. rw (lt-ltb i (length xs) lt) (get-reverse xs i lt))
     (λ le. rw (le-ltb i (length xs) le) (slice_get_past (reverse xs) i (omega (arith, length-reverse xs)) ∙ sym (slice_get_past xs i le)))
     (cases_lt i (length xs))
 
-last-mirrored : (count : ℕ) → 0 < count → mirror_place count (count - 1) ≡ 0
+last-mirrored : (count : ℕ) → 0 < count → mirrored_line count (count - 1) ≡ 0
 last-mirrored count some = rw (lt-ltb (count - 1) count (omega arith)) (omega arith)
 
 module _ {T : Type 0} where
   -- lines that aren't refused fit
-  pub lines-fit : (i : ℕ) (ls t : List (List T)) → IsTable t → insert_refusal (row_count t) (col_count t) i ls ≡ None → LinesFit i ls t
+  pub lines-fit : (i : ℕ) (ls t : List (List T)) → IsTable t → lines_refusal (row_count t) (col_count t) i ls ≡ None → LinesFit i ls t
   lines-fit i ls t h none =
       let w = fitting_width (row_count t) (col_count t) ls in
       let p = passed (list_any (λ l. nat_eq (length l) 0) ls) (list_all (λ l. nat_eq (length l) w) ls) (nat_lt (row_count t) i) _ none in
@@ -129,19 +129,19 @@ module _ {T : Type 0} where
   applicable-edit (expand k) t h none = h
   applicable-edit (prepend k) t h none = h
 
-  range_effect-flipped : (count i k : ℕ) → range_effect {T = T} count (mirror_start count i k) k ≡ flipped_effect count (range_effect count i k)
+  range_effect-flipped : (count i k : ℕ) → range_effect {T = T} count (mirrored_start count i k) k ≡ flipped_effect count (range_effect count i k)
   range_effect-flipped count i k =
       ⊎_elim (λ lt. rw (lt-ltb count (i + k) lt, lt-ltb count (i + k) lt) refl)
       (λ le. rw (le-ltb count (i + k) le, le-ltb count (count - i - k + k) (omega arith)) refl)
       (cases_lt count (i + k))
 
-  last-start : (count : ℕ) → range_effect {T = T} count 0 1 ≡ range_effect count (mirror_start count (count - 1) 1) 1
+  last-start : (count : ℕ) → range_effect {T = T} count 0 1 ≡ range_effect count (mirrored_start count (count - 1) 1) 1
   last-start zero = refl
   last-start (suc count) =
-      let e : mirror_start (suc count) (suc count - 1) 1 ≡ 0 = rw (le-ltb (suc count) (suc count - 1 + 1) (omega arith)) (omega arith) in
+      let e : mirrored_start (suc count) (suc count - 1) 1 ≡ 0 = rw (le-ltb (suc count) (suc count - 1 + 1) (omega arith)) (omega arith) in
       ap (λ x. range_effect (suc count) x 1) (sym e)
 
-  not-past : (count width i : ℕ) (ls : List (List T)) → insert_refusal count width i ls ≡ None → i ≤ count
+  not-past : (count width i : ℕ) (ls : List (List T)) → lines_refusal count width i ls ≡ None → i ≤ count
   not-past count width i ls none =
       let w = fitting_width count width ls in
       ltb-false count i (passed (list_any (λ l. nat_eq (length l) 0) ls) (list_all (λ l. nat_eq (length l) w) ls) (nat_lt count i) _ none).past
@@ -217,13 +217,13 @@ module _ {T : Type 0} where
         table-after_col d (effect (col_count t) e) t h (subst (λ k. IsApplicable (effect k e) v) (rows-across t h) g)
 
   module _ (t : List (List T)) (h : IsTable t) where
-    line-flip : (i : ℕ) → line_at Row i (act FlipRows t) ≡ line_at Row (mirror_place (row_count t) i) t
+    line-flip : (i : ℕ) → line_at Row i (act FlipRows t) ≡ line_at Row (mirrored_line (row_count t) i) t
     line-flip i = ap (λ v. slice_get v i) (flip_rows-is t h) ∙ get-mirrored t i
 
     last-flip : line_at Row (row_count t - 1) (act FlipRows t) ≡ line_at Row 0 t
     last-flip = line-flip (row_count t - 1) ∙ by t
       where
-        by : (t : List (List T)) → slice_get t (mirror_place (length t) (length t - 1)) ≡ slice_get t 0
+        by : (t : List (List T)) → slice_get t (mirrored_line (length t) (length t - 1)) ≡ slice_get t 0
         by [] = refl
         by (r ∷ t) = ap (slice_get (r ∷ t)) (last-mirrored (length (r ∷ t)) (omega arith))
 

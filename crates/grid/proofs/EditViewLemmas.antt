@@ -7,8 +7,8 @@ use Rattle.grid_base.specs.declared.order.Order.TheVariants.{RowMajor, ColumnMaj
 use Rattle.grid_base.specs.Table.{row, row_count, col_count, cell, IsTable, tabulate}
 use Rattle.grid_base.specs.Order.{storage, place, table_of}
 use Rattle.grid_base.specs.Groups.{Woven, Closed}
-use Rattle.grid_base.proofs.TableLemmas.{rows-tabulate, cell-tabulate, width-tabulate, same_cells}
-use Rattle.grid_base.proofs.StorageLemmas.{length-storage, get-storage, IsFull-table_of, place_within, has_place, get_append_left, get_append_right, get-take, get-drop}
+use Rattle.grid_base.proofs.TableLemmas.{rows-tabulate, same_cells}
+use Rattle.grid_base.proofs.StorageLemmas.{length-storage, get-storage, place_within, has_place, get_append_left, get_append_right, get-take, get-drop, width-table_of, cell-table_of}
 use Rattle.grid.specs.Edits.{insert_rows, without_rows}
 use Rattle.grid.proofs.ListEditLemmas.{get_or-same}
 use Rattle.grid.specs.RowGroups.{RowGroups}
@@ -53,43 +53,34 @@ module _ {T : Type 0} where
 
   -- the table that is cut from m * n cells
   module _ (o : Order) (m n : ℕ) (cells : List T) (len : length cells ≡ m * n) where
-    pub rows-cut : row_count (table_of o m n cells) ≡ m
-    rows-cut = rows-tabulate m n (λ r c. slice_get cells (place o m n r c))
-
-    pub width-cut : (r : ℕ) → r < m → length (row (table_of o m n cells) r) ≡ n
-    width-cut r lt = width-tabulate m n (λ r c. slice_get cells (place o m n r c)) r (IsFull-table_of o m n cells len) lt
-
-    pub cell-cut : (r c : ℕ) → r < m → c < n → slice_get cells (place o m n r c) ≡ cell (table_of o m n cells) r c
-    cell-cut r c lr lc = sym (cell-tabulate m n (λ r c. slice_get cells (place o m n r c)) r c (IsFull-table_of o m n cells len) lr lc)
-
     -- lines that stood behind the cells and are woven into them are rows
     pub view-insert_rows : (i k p q a g : ℕ) (lines : List (List T)) (new : List T) → RowGroups o m n i k p q a g → IsTable lines → row_count lines ≡ k → col_count lines ≡ n → i ≤ m → Woven p q a g (cells ++ storage o lines) new → table_of o (m + k) n new ≡ insert_rows i lines (table_of o m n cells)
     view-insert_rows i k p q a g lines new e h em en le w =
         let behind = storage o lines in
         let wide = rows_widened o m n i k p q a g (cells ++ behind) new e w.lines in
-        table-put o m n i k (table_of o m n cells) lines new rows-cut width-cut em (λ j lt. h.even j (omega arith) ∙ en) le
+        table-put o m n i k (table_of o m n cells) lines new (rows-tabulate m n _) (width-table_of o m n cells len) em (λ j lt. h.even j (omega arith) ∙ en) le
         (λ r c lr lm lc. wide.before r c lr lm lc
-        ∙ (get_append_left cells behind (place o m n r c) (omega (arith, len, place_within o m n r c lm lc)) ∙ cell-cut r c lm lc))
+        ∙ (get_append_left cells behind (place o m n r c) (omega (arith, len, place_within o m n r c lm lc)) ∙ sym (cell-table_of o m n cells len r c lm lc)))
         (λ j c lj lc. rows_woven o m n i k p q a g (cells ++ behind) new e w j c lj lc
         ∙ (get_append_right cells behind (m * n + place o k n j c) (place o k n j c) (omega (arith, len)) ∙ get-storage_at o k n lines j c h em en lj lc))
         (λ r c ge lm lc. wide.after r c ge lm lc
-        ∙ (get_append_left cells behind (place o m n r c) (omega (arith, len, place_within o m n r c lm lc)) ∙ cell-cut r c lm lc))
+        ∙ (get_append_left cells behind (place o m n r c) (omega (arith, len, place_within o m n r c lm lc)) ∙ sym (cell-table_of o m n cells len r c lm lc)))
 
   -- the table of rest + k rows that is cut from old, of which k rows from i on are taken
   module _ (o : Order) (n i k rest : ℕ) (old : List T) (len : length old ≡ (rest + k) * n) (le : i ≤ rest) where
     cut_from : (new : List T) → RowsWidened o rest n i k new old → (kept : List T) → ((x : ℕ) → x < rest * n → slice_get kept x ≡ slice_get new x) → table_of o rest n kept ≡ without_rows i k (table_of o (rest + k) n old)
     cut_from new wide kept same =
-        table-take o (rest + k) n i k rest (table_of o (rest + k) n old) kept refl (rows-cut o (rest + k) n old len) (width-cut o (rest + k) n old len) (omega arith)
+        table-take o (rest + k) n i k rest (table_of o (rest + k) n old) kept refl (rows-tabulate (rest + k) n _) (width-table_of o (rest + k) n old len) (omega arith)
         (λ r c lr lt lc. same (place o rest n r c) (place_within o rest n r c lt lc)
-        ∙ (sym (wide.before r c lr lt lc) ∙ cell-cut o (rest + k) n old len r c (omega arith) lc))
+        ∙ (sym (wide.before r c lr lt lc) ∙ sym (cell-table_of o (rest + k) n old len r c (omega arith) lc)))
         (λ r c ge lt lc. same (place o rest n r c) (place_within o rest n r c lt lc)
-        ∙ (sym (wide.after r c ge lt lc) ∙ cell-cut o (rest + k) n old len (k + r) c (omega arith) lc))
+        ∙ (sym (wide.after r c ge lt lc) ∙ sym (cell-table_of o (rest + k) n old len (k + r) c (omega arith) lc)))
 
     -- the rows that are taken
     rows-part : row_count (take k (drop i (table_of o (rest + k) n old))) ≡ k
     rows-part =
         length-take-le k (drop i (table_of o (rest + k) n old))
-        (omega (arith, length-drop i (table_of o (rest + k) n old), rows-cut o (rest + k) n old len))
+        (omega (arith, length-drop i (table_of o (rest + k) n old), rows-tabulate (rest + k) n (λ r c. slice_get old (place o (rest + k) n r c))))
 
     row-part : (j : ℕ) → j < k → row (take k (drop i (table_of o (rest + k) n old))) j ≡ row (table_of o (rest + k) n old) (i + j)
     row-part j lt =
@@ -97,7 +88,7 @@ module _ {T : Type 0} where
         get_or-same (take k (drop i t)) t j (i + j) [] (get-take k (drop i t) j lt ∙ get-drop i t (i + j) j refl)
 
     width-part : (j : ℕ) → j < k → length (row (take k (drop i (table_of o (rest + k) n old))) j) ≡ n
-    width-part j lt = ap length (row-part j lt) ∙ width-cut o (rest + k) n old len (i + j) (omega arith)
+    width-part j lt = ap length (row-part j lt) ∙ width-table_of o (rest + k) n old len (i + j) (omega arith)
 
     table-part : 0 < n → IsTable (take k (drop i (table_of o (rest + k) n old)))
     table-part some =
@@ -123,7 +114,7 @@ module _ {T : Type 0} where
         get-drop (rest * n) after (rest * n + x) x refl
         ∙ (ap (λ y. slice_get after (rest * n + y)) (sym f.is)
         ∙ (sym (rows_woven o rest n i k p q a g after old e w f.r f.c f.lr f.lc)
-        ∙ (cell-cut o (rest + k) n old len (i + f.r) f.c (omega (arith, f.lr)) f.lc
+        ∙ (sym (cell-table_of o (rest + k) n old len (i + f.r) f.c (omega (arith, f.lr)) f.lc)
         ∙ (ap (λ v. slice_get v f.c) (sym (row-part f.r f.lr))
         ∙ (sym (get-storage_at o k n lines f.r f.c h rows-part (cols-part some) f.lr f.lc) ∙ ap (slice_get (storage o lines)) f.is))))))
 
@@ -162,8 +153,8 @@ module _ {T : Type 0} where
     view-removed_row after w some =
         let t = table_of o m n old in
         view-taken_rows o m n i 1 rest old size len (omega arith) p q a g after e w some (omega arith)
-        ∙ (ap (storage o) (take-one t i (omega (arith, rows-cut o m n old len)))
-        ∙ storage-line o (row t i) (omega (arith, width-cut o m n old len i lt)))
+        ∙ (ap (storage o) (take-one t i (omega (arith, rows-tabulate m n (λ r c. slice_get old (place o m n r c)))))
+        ∙ storage-line o (row t i) (omega (arith, width-table_of o m n old len i lt)))
 
   -- how many cells are left
   pub cells-closed : (o : Order) (m n i k p q a g : ℕ) (short long : List T) → RowGroups o m n i k p q a g → Closed p q a g short long → length short ≡ m * n

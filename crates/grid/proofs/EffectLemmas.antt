@@ -81,9 +81,6 @@ module _ {T : Type 0} where
       ap (λ n. replicate k (replicate n d)) (length-reverse r)
       ∙ sym (map-replicate reverse k (replicate (length r) d) ∙ ap (replicate k) (reverse-replicate (length r) d))
 
-  pub map-cat : (xs ys : List (List T)) → map reverse (xs ++ ys) ≡ map reverse xs ++ map reverse ys
-  map-cat xs ys = map-append reverse xs ys
-
   -- a deed on rows, through a flip of the rows
   pub effect-flipped : (d : T) (x : Effect T) (t : List (List T)) → IsApplicable x (reverse t) → IsTable t → after_effect d Row x (reverse t) ≡ reverse (after_effect d Row (flipped_effect (row_count t) x) t)
   effect-flipped d nothing t g h = refl
@@ -98,9 +95,9 @@ module _ {T : Type 0} where
   effect-reversed d (inserts i ls) t = ap (λ v. insert_rows i v (map reverse t)) (sym (map-reverse-reverse ls)) ∙ put-mapped reverse i (map reverse ls) t
   effect-reversed d (removes i k) t = take-mapped reverse i k t
   effect-reversed d (pads_end k) [] = refl
-  effect-reversed d (pads_end k) (r ∷ t) = ap (λ v. map reverse (r ∷ t) ++ v) (copies-reversed r k d) ∙ sym (map-cat (r ∷ t) (replicate k (replicate (length r) d)))
+  effect-reversed d (pads_end k) (r ∷ t) = ap (λ v. map reverse (r ∷ t) ++ v) (copies-reversed r k d) ∙ sym (map-append reverse (r ∷ t) (replicate k (replicate (length r) d)))
   effect-reversed d (pads_front k) [] = refl
-  effect-reversed d (pads_front k) (r ∷ t) = ap (λ v. v ++ map reverse (r ∷ t)) (copies-reversed r k d) ∙ sym (map-cat (replicate k (replicate (length r) d)) (r ∷ t))
+  effect-reversed d (pads_front k) (r ∷ t) = ap (λ v. v ++ map reverse (r ∷ t)) (copies-reversed r k d) ∙ sym (map-append reverse (replicate k (replicate (length r) d)) (r ∷ t))
 
   columns-fit : (i : ℕ) (ls t : List (List T)) → IsTable t → LinesFit i ls (act Transpose t) → ColumnsFit i ls t
   columns-fit i ls t h g =

@@ -1,8 +1,8 @@
 -- The slots of an array of rows are emptied one by one, in the order of a storage.
-use Rattle.std.proofs.Common.{◌≡◌, ◌≢◌, ℕ, zero, suc, ◌+◌, ◌*◌, ◌<◌, ◌≤◌, Option, Some, None, List, [], ◌∷◌, ◌++◌, length, get_or, set, is_some, true, false, refl, sym, ◌∙◌, ap, arith, ⊎_elim, length-append, subst}
+use Rattle.std.proofs.Common.{◌≡◌, ◌≢◌, ℕ, ◌+◌, ◌*◌, ◌<◌, ◌≤◌, Option, Some, None, List, [], ◌∷◌, ◌++◌, length, get_or, is_some, true, false, refl, sym, ◌∙◌, ap, arith, ⊎_elim, length-append, subst}
 use Rattle.std.specs.List.{slice_get, list_all}
 use Rattle.std.specs.Option.{option_map}
-use Rattle.std.proofs.lemmas.List.{length-set, get_or-set_same, get_or-set_other, get_or_past}
+use Rattle.std.proofs.lemmas.List.{length-set, get_or_past}
 use Rattle.std.proofs.lemmas.List.Folds.{list_all_at}
 use Rattle.std.proofs.lemmas.Option.{get_or_from_slice_get, slice_get_within}
 use Rattle.std.proofs.lemmas.Bool.{cases_eq, cases_lt}
@@ -11,8 +11,8 @@ use Rattle.grid_base.specs.declared.order.Order.{Order}
 use Rattle.grid_base.specs.declared.order.Order.TheVariants.{RowMajor, ColumnMajor}
 use Rattle.grid_base.specs.Table.{row, cell, with_cell, IsTable}
 use Rattle.grid_base.specs.Order.{place, storage}
-use Rattle.grid_base.proofs.StorageLemmas.{get-storage, place_within}
-use Rattle.grid_base.proofs.WriteLemmas.{get-set_same, get-set_other, same_place}
+use Rattle.grid_base.proofs.StorageLemmas.{get-storage, place_within, get_append_left, get_append_right}
+use Rattle.grid_base.proofs.WriteLemmas.{same_place, cell-written, cell-with_other}
 use Rattle.grid.specs.Make.{HasSize}
 use Rattle.grid.specs.Slots.{by_order, are_full, HoldCells}
 
@@ -23,30 +23,6 @@ pub record Emptying {T : Type 0} (o : Order) (m n k : ℕ) (old now : List (List
   pub gone : (r c : ℕ) → r < m → c < n → place o m n r c < k → cell now r c ≡ Some None
   pub stays : (r c : ℕ) → r < m → c < n → k ≤ place o m n r c → cell now r c ≡ cell old r c
   pub held : (r c : ℕ) → r < m → c < n → place o m n r c < k → cell old r c ≡ option_map Some (slice_get taken (place o m n r c))
-
-module _ {X : Type 0} (t : List (List X)) (r c : ℕ) (w : X) (lr : r < length t) where
-  at_row : row (with_cell t r c w) r ≡ set (row t r) c w
-  at_row = get_or-set_same t r (set (row t r) c w) [] lr
-
-  cell_written : c < length (row t r) → cell (with_cell t r c w) r c ≡ Some w
-  cell_written lc = ap (λ x. slice_get x c) at_row ∙ get-set_same (row t r) c w lc
-
-  cell_beside : (i j : ℕ) → (i ≡ r → j ≢ c) → cell (with_cell t r c w) i j ≡ cell t i j
-  cell_beside i j far =
-      ⊎_elim (λ e.
-      ap (λ x. cell (with_cell t r c w) x j) e
-      ∙ (ap (λ x. slice_get x j) at_row ∙ (get-set_other (row t r) c j w (far e) ∙ sym (ap (λ x. cell t x j) e))))
-      (λ ne. ap (λ x. slice_get x j) (get_or-set_other t r i _ [] ne))
-      (cases_eq i r)
-
-get_last : {X : Type 0} (xs : List X) (x : X) → slice_get (xs ++ x ∷ []) (length xs) ≡ Some x
-get_last [] x = refl
-get_last (y ∷ xs) x = get_last xs x
-
-get_front : {X : Type 0} (xs : List X) (x : X) (k : ℕ) → k < length xs → slice_get (xs ++ x ∷ []) k ≡ slice_get xs k
-get_front [] x k lt = absurd (omega arith)
-get_front (y ∷ xs) x zero lt = refl
-get_front (y ∷ xs) x (suc k) lt = get_front xs x k (omega arith)
 
 -- one more slot is emptied
 pub emptying_more : {T : Type 0} (o : Order) (m n k r c : ℕ) (old now : List (List (Option T))) (taken : List T) (x : T) → r < m → c < n → place o m n r c ≡ k → cell now r c ≡ Some (Some x) → Emptying o m n k old now taken → Emptying o m n (k + 1) old (with_cell now r c None) (taken ++ x ∷ [])
@@ -61,21 +37,21 @@ emptying_more {T} o m n k r c old now taken x lr lc at there h =
       gone = λ i j li lj lt.
           ⊎_elim (λ e.
           let s = same_place o m n i j r c li lj lr lc (e ∙ sym at) in
-          ap (λ y. cell (with_cell now r c None) y j) s.0 ∙ (ap (λ y. cell (with_cell now r c None) r y) s.1 ∙ cell_written now r c None in_rows in_row))
-          (λ ne. cell_beside now r c None in_rows i j (one i j li lj ne) ∙ h.gone i j li lj (omega arith))
+          ap (λ y. cell (with_cell now r c None) y j) s.0 ∙ (ap (λ y. cell (with_cell now r c None) r y) s.1 ∙ cell-written now r c None in_rows in_row))
+          (λ ne. cell-with_other now r c None i j (one i j li lj ne) ∙ h.gone i j li lj (omega arith))
           (cases_eq (place o m n i j) k);
-      stays = λ i j li lj ge. cell_beside now r c None in_rows i j (one i j li lj (λ e. omega arith)) ∙ h.stays i j li lj (omega arith);
+      stays = λ i j li lj ge. cell-with_other now r c None i j (one i j li lj (λ e. omega arith)) ∙ h.stays i j li lj (omega arith);
       held = λ i j li lj lt.
           ⊎_elim (λ e.
           let s = same_place o m n i j r c li lj lr lc (e ∙ sym at) in
           let before : cell old i j ≡ Some (Some x) =
           sym (h.stays i j li lj (omega arith)) ∙ (ap (λ y. cell now y j) s.0 ∙ (ap (λ y. cell now r y) s.1 ∙ there)) in
           let last : slice_get (taken ++ x ∷ []) (place o m n i j) ≡ Some x =
-          ap (slice_get (taken ++ x ∷ [])) (e ∙ sym h.count) ∙ get_last taken x in
+          ap (slice_get (taken ++ x ∷ [])) (e ∙ sym h.count) ∙ get_append_right taken (x ∷ []) (length taken) 0 (omega arith) in
           before ∙ sym (ap (option_map Some) last))
           (λ ne.
           let small : place o m n i j < length taken = omega (arith, h.count) in
-          h.held i j li lj (omega arith) ∙ sym (ap (option_map Some) (get_front taken x (place o m n i j) small)))
+          h.held i j li lj (omega arith) ∙ sym (ap (option_map Some) (get_append_left taken (x ∷ []) (place o m n i j) small)))
           (cases_eq (place o m n i j) k);
     }
 

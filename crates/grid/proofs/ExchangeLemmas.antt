@@ -16,8 +16,8 @@ use Rattle.grid_base.proofs.ViewLemmas.{view-rows, view-cols, view-cell, view-pa
 use Rattle.grid.specs.View.{grid_value}
 use Rattle.grid.specs.Exchanged.{InRow, InRows, PartTaken}
 use Rattle.grid_commands.proofs.FactorLemmas.{factor_small}
-use Rattle.grid.proofs.CellThroughLemmas.{cell-cross}
 use Rattle.grid.proofs.SeenLemmas.{seen_rows, seen_cols}
+use Rattle.grid.proofs.ColEditLemmas.{cell-cross}
 
 -- of the rows of n cells, the cells behind a stretch of row s
 behind : (n s c cols i j : ℕ) → c + cols ≤ n → j < n → (i ≡ s → c ≤ j → c + cols ≤ j) → s * n + c ≤ i * n + j → s * n + c + cols ≤ i * n + j
@@ -90,39 +90,6 @@ row_exchanged o u m n p q old new other left h k f l to from seen from_seen orde
     rw (← seen, ← from_seen, o_is, u_is) (row_taken m n p q old new other left h k f l at row cols ls lr fits from_fits w v)
 
 module _ {T : Type 0} (at : ℕ × ℕ) where
-  pub part_none : (n : ℕ) (to from : GridValue T) → PartTaken (InRows 0 n) at to from to from
-  part_none n to from =
-      record {
-        order = refl;
-        rows = refl;
-        cols = refl;
-        left_order = refl;
-        left_rows = refl;
-        left_cols = refl;
-        taken = λ i j p. absurd (omega (arith, p.0));
-        others = λ i j p. refl;
-        before = λ i j b. refl;
-        left_others = λ i j p. refl;
-      }
-
-  -- one more row
-  pub part_next : (k n : ℕ) (to from mid rest new left : GridValue T) → PartTaken (InRows k n) at to from mid rest → PartTaken (InRow k n) at mid rest new left → PartTaken (InRows (k + 1) n) at to from new left
-  part_next k n to from mid rest new left p q =
-      record {
-        order = q.order ∙ p.order;
-        rows = q.rows ∙ p.rows;
-        cols = q.cols ∙ p.cols;
-        left_order = q.left_order ∙ p.left_order;
-        left_rows = q.left_rows ∙ p.left_rows;
-        left_cols = q.left_cols ∙ p.left_cols;
-        taken = λ i j r.
-            ⊎_elim (λ lt. q.others i j (λ b. omega (arith, b.0, lt)) ∙ p.taken i j (lt, r.1))
-            (λ ge. q.taken i j (omega (arith, ge, r.0), r.1) ∙ p.left_others i j (λ a. omega (arith, a.0, ge))) (cases_lt i k);
-        others = λ i j r. q.others i j (λ b. r (omega (arith, b.0), b.1)) ∙ p.others i j (λ a. r (omega (arith, a.0), a.1));
-        before = λ i j b. q.before i j b ∙ p.before i j b;
-        left_others = λ i j r. q.left_others i j (λ b. r (omega (arith, b.0), b.1)) ∙ p.left_others i j (λ a. r (omega (arith, a.0), a.1));
-      }
-
   -- the same between transposes
   pub part_across : (m n : ℕ) (to from new left to' from' new' left' : GridValue T) → to'.rows ≡ act Transpose to.rows → from'.rows ≡ act Transpose from.rows → new.rows ≡ act Transpose new'.rows → left.rows ≡ act Transpose left'.rows → new.order ≡ to.order → left.order ≡ from.order → PartTaken (InRows n m) (at.1, at.0) to' from' new' left' → PartTaken (InRows m n) at to from new left
   part_across m n to from new left to' from' new' left' e f g l order left_order p =

@@ -18,7 +18,7 @@ use Rattle.grid_base.specs.IndexedIterMut.{indexed_mut_rest}
 use Rattle.grid_base.proofs.StorageLemmas.{has_place}
 use Rattle.grid_base.proofs.PlaceLemmas.{get-places}
 use Rattle.grid_base.proofs.PlacedCellLemmas.{zip_within, get-zip}
-use Rattle.grid.specs.IndexedIterators.{IsCellAt, GivesCells, GivesOwnedCells, GivesMutCells}
+use Rattle.grid_base.specs.IndexedIterators.{IsCellAt, GivesCells, GivesOwnedCells, GivesMutCells}
 use Rattle.grid.specs.View.{grid_value}
 use Rattle.grid.proofs.CellCallLemmas.{item_at, seen_cell, seen_in}
 

@@ -1,5 +1,5 @@
 -- Edits of rows as the code of a grid does them, and of columns as those of rows between two transposes.
-use Rattle.std.proofs.Common.{◌≡◌, ℕ, ◌+◌, ◌-◌, ◌<◌, ◌≤◌, Bool, true, false, not, Option, Some, None, List, [], ◌∷◌, Vec, nat_lt, if◌then◌else◌, IsTrue, MatchOption, Result, Ok, Err, OnOk, IfOk, ◌↔◌, refl, sym, ◌∙◌, ap, arith, ⊎_elim}
+use Rattle.std.proofs.Common.{◌≡◌, ℕ, ◌+◌, ◌-◌, ◌<◌, ◌≤◌, Bool, true, false, not, Option, Some, None, List, [], ◌∷◌, Vec, nat_lt, if◌then◌else◌, IsTrue, MatchOption, Result, Ok, Err, OnOk, ◌↔◌, refl, sym, ◌∙◌, ap, arith, ⊎_elim}
 use Rattle.std.specs.List.{insert, remove, slice_get}
 use Rattle.std.specs.Option.{option_map}
 use Rattle.std.proofs.lemmas.Bool.{lt-ltb, le-ltb, cases_lt}
@@ -12,7 +12,7 @@ use Rattle.grid_commands.specs.declared.command.Axis.TheVariants.{Row, Col}
 use Rattle.grid_commands.specs.declared.command.Refusal.{Refusal}
 use Rattle.grid_commands.specs.Command.{Edit, read, push, insert_at, insert_all, pop, remove_at, delete_at, delete_range, expand, prepend, get, lines}
 use Rattle.grid_commands.specs.Reply.{ReplyValue, done, cell_is, line_is, flag_is, refused}
-use Rattle.grid_commands.specs.Refusal.{in_range, insert_refusal, pad_refusal, edit_refusal, unless_refused}
+use Rattle.grid_commands.specs.Refusal.{in_range, lines_refusal, pad_refusal, edit_refusal, unless_refused}
 use Rattle.grid_commands.specs.LineEdit.{pad_edit}
 use Rattle.grid.specs.Edits.{insert_rows, without_rows, PadsRows, padding_count}
 use Rattle.grid.specs.Step.{nothing, removes, range_effect, effect, after_effect, edit_reply, step_rows, step_reply}
@@ -28,10 +28,6 @@ use Rattle.grid.proofs.StepThroughLemmas.{through_cross, table-step}
 pub always_ok : {V E : Type 0} (r : Result V E) {P : Type 0} → P → OnOk r P
 always_ok (Ok v) p = p
 always_ok (Err e) p = tt
-
-pub map_ok : {V E : Type 0} (r : Result V E) {P Q : V → Type 0} → ((v : V) → P v → Q v) → IfOk r P → IfOk r Q
-map_ok (Ok v) f h = f v h
-map_ok (Err e) f h = h
 
 found_is : (found : Bool) (a b : ℕ) → IsTrue found ↔ (a ≤ b) → found ≡ not (nat_lt b a)
 found_is true a b h = sym (ap not (le-ltb b a (h.0 refl)))
@@ -85,23 +81,23 @@ module _ {T : Type 0} where
   read_rows d at t = done_rows d (read at) t refl
 
   -- a line that is inserted
-  pub insert_done : (d : T) (at : ℕ) (line : List T) (t : List (List T)) → insert_refusal (row_count t) (col_count t) at (line ∷ []) ≡ None → insert t at line ≡ step_rows d (lines Row (insert_at at line)) t
+  pub insert_done : (d : T) (at : ℕ) (line : List T) (t : List (List T)) → lines_refusal (row_count t) (col_count t) at (line ∷ []) ≡ None → insert t at line ≡ step_rows d (lines Row (insert_at at line)) t
   insert_done d at line t none = sym (put_line at line t) ∙ done_rows d (insert_at at line) t none
 
-  pub insert_replied : (at : ℕ) (line : List T) (t : List (List T)) → insert_refusal (row_count t) (col_count t) at (line ∷ []) ≡ None → ◌≡◌ {A = ReplyValue T} done (step_reply (lines Row (insert_at at line)) t)
+  pub insert_replied : (at : ℕ) (line : List T) (t : List (List T)) → lines_refusal (row_count t) (col_count t) at (line ∷ []) ≡ None → ◌≡◌ {A = ReplyValue T} done (step_reply (lines Row (insert_at at line)) t)
   insert_replied at line t none = done_reply (insert_at at line) t none
 
-  pub insert_refused : (d : T) (at : ℕ) (line : List T) (t : List (List T)) (r : Refusal) → insert_refusal (row_count t) (col_count t) at (line ∷ []) ≡ Some r → t ≡ step_rows d (lines Row (insert_at at line)) t
+  pub insert_refused : (d : T) (at : ℕ) (line : List T) (t : List (List T)) (r : Refusal) → lines_refusal (row_count t) (col_count t) at (line ∷ []) ≡ Some r → t ≡ step_rows d (lines Row (insert_at at line)) t
   insert_refused d at line t r some = refused_rows d (insert_at at line) t r some
 
   -- several lines
-  pub insert_all_done : (d : T) (at : ℕ) (ls t : List (List T)) → insert_refusal (row_count t) (col_count t) at ls ≡ None → insert_rows at ls t ≡ step_rows d (lines Row (insert_all at ls)) t
+  pub insert_all_done : (d : T) (at : ℕ) (ls t : List (List T)) → lines_refusal (row_count t) (col_count t) at ls ≡ None → insert_rows at ls t ≡ step_rows d (lines Row (insert_all at ls)) t
   insert_all_done d at ls t none = done_rows d (insert_all at ls) t none
 
-  pub insert_all_replied : (at : ℕ) (ls t : List (List T)) → insert_refusal (row_count t) (col_count t) at ls ≡ None → ◌≡◌ {A = ReplyValue T} done (step_reply (lines Row (insert_all at ls)) t)
+  pub insert_all_replied : (at : ℕ) (ls t : List (List T)) → lines_refusal (row_count t) (col_count t) at ls ≡ None → ◌≡◌ {A = ReplyValue T} done (step_reply (lines Row (insert_all at ls)) t)
   insert_all_replied at ls t none = done_reply (insert_all at ls) t none
 
-  pub insert_all_refused : (d : T) (at : ℕ) (ls t : List (List T)) (r : Refusal) → insert_refusal (row_count t) (col_count t) at ls ≡ Some r → t ≡ step_rows d (lines Row (insert_all at ls)) t
+  pub insert_all_refused : (d : T) (at : ℕ) (ls t : List (List T)) (r : Refusal) → lines_refusal (row_count t) (col_count t) at ls ≡ Some r → t ≡ step_rows d (lines Row (insert_all at ls)) t
   insert_all_refused d at ls t r some = refused_rows d (insert_all at ls) t r some
 
   -- a push is an insert at the end

@@ -3,7 +3,7 @@ use Rattle.std.proofs.Common.{◌≡◌, ℕ, suc, ◌+◌, ◌≤◌, inl, inr,
 use Rattle.std.specs.List.{count_by}
 use Rattle.std.proofs.lemmas.List.Sums.{sum_by-cons}
 use denote.Ref.{Bor}
-use Rattle.grid.specs.NearCounts.{CallableNear, IsCountNear, MayCount}
+use Rattle.grid.specs.NearCounts.{CallableNear, MayCount}
 
 abbrev weight : Bool → ℕ
 weight b = cond b 1 0
@@ -15,9 +15,6 @@ module _ {F T : Type 0} (takes : F → Bor T → Type 0) (returns : F → Bor T 
     pub callable : CallableNear takes f rest
     pub counts : (p : (ℕ × ℕ) × T → Bool) → ((at : ℕ × ℕ) (x : Bor T) (b : Bool) → returns f x b → p (at, x.now) ≡ b) → count + count_by p rest ≡ count_by p near
     pub may : (k : ℕ) → MayCount returns f rest k → MayCount returns f near (count + k)
-
-  pub counting_none : CallableNear takes f near → Counting near 0
-  counting_none can = record { short = omega arith; callable = can; counts = λ p says. omega arith; may = λ k m. subst (MayCount returns f near) (omega arith) m }
 
   module _ (rest left : List ((ℕ × ℕ) × T)) (count : ℕ) (at : ℕ × ℕ) (x : Bor T) (e : rest ≡ (at, x.now) ∷ left) (h : Counting rest count) where
     pub counting_takes : takes f x
@@ -56,9 +53,6 @@ module _ {F T : Type 0} (takes : F → Bor T → Type 0) (returns : F → Bor T 
           omega (arith, one, all);
       may = λ k m. h.may k (subst (λ r. MayCount returns f r k) (sym e) (inl ((x, refl, said), m)));
     }
-
-  pub counting_end : (rest : List ((ℕ × ℕ) × T)) (count : ℕ) → rest ≡ [] → Counting rest count → IsCountNear returns f near count
-  counting_end rest count e h p says = omega (arith, ap (count_by p) e, h.counts p says)
 
   pub counting_ended : (rest : List ((ℕ × ℕ) × T)) (count : ℕ) → rest ≡ [] → Counting rest count → MayCount returns f near count
   counting_ended rest count e h = subst (MayCount returns f near) (omega arith) (h.may 0 (subst (λ r. MayCount returns f r 0) (sym e) refl))

@@ -1,13 +1,12 @@
 -- The cells round a cell are cells of the table, at their positions.
-use Rattle.std.proofs.Common.{◌≡◌, ℕ, zero, suc, ◌+◌, ◌<◌, Option, Some, None, List, [], ◌∷◌, length, refl, subst, sym, ◌∙◌, arith, ⊎_elim}
+use Rattle.std.proofs.Common.{◌≡◌, ℕ, zero, suc, ◌+◌, ◌<◌, Option, Some, None, List, [], ◌∷◌, length, refl, subst, sym, arith}
 use Rattle.std.specs.List.{filter_map, cons_option, slice_index_or}
 use Rattle.std.specs.Option.{option_map, option_and_then}
-use Rattle.std.proofs.lemmas.Bool.{cases_lt}
-use Rattle.grid_base.specs.Table.{row_count, col_count, cell, InRange, IsTable}
+use Rattle.grid_base.specs.Table.{row_count, col_count, cell, IsTable}
 use Rattle.grid_near.specs.Neighbors.{around4, around8, before, both, round_before, round_after, cell_at, neighbors4, neighbors8, wrapped_neighbors4, wrapped_neighbors8}
-use Rattle.grid.specs.IndexedIterators.{IsCellAt, GivesCells}
-use Rattle.grid.proofs.CellThroughLemmas.{past_rows, past_cols}
+use Rattle.grid_base.specs.IndexedIterators.{IsCellAt, GivesCells}
 use Rattle.grid.proofs.IndexedIteratorLemmas.{gives_cells_of}
+use Rattle.grid_base.proofs.TableLemmas.{cell_in_range}
 
 module _ {X Y : Type 0} (P : Y → Type 0) (f : X → Option Y) (found : (x : X) (y : Y) → f x ≡ Some y → P y) where
   one_more : (o : Option Y) (rest : List Y) → ((y : Y) → o ≡ Some y → P y) → ((k : ℕ) (y : Y) → k < length rest → y ≡ slice_index_or rest k y → P y) → (k : ℕ) (y : Y) → k < length (cons_option o rest) → y ≡ slice_index_or (cons_option o rest) k y → P y
@@ -21,15 +20,6 @@ module _ {X Y : Type 0} (P : Y → Type 0) (f : X → Option Y) (found : (x : X)
   each_found (x ∷ xs) k y lt is = one_more (f x) (filter_map f xs) (found x) (each_found xs) k y lt is
 
 module _ {T : Type 0} (t : List (List T)) (h : IsTable t) where
-  in_range : (r c : ℕ) (x : T) → cell t r c ≡ Some x → InRange t r c
-  in_range r c x e = (
-    ⊎_elim (λ lt. lt) (λ ge. absurd (some_none (sym (past_rows t r c ge) ∙ e))) (cases_lt r (row_count t)),
-    ⊎_elim (λ lt. lt) (λ ge. absurd (some_none (sym (past_cols t h r c ge) ∙ e))) (cases_lt c (col_count t)),
-  )
-    where
-      some_none : None ≡ Some x → ⊥
-      some_none e = cc
-
   cell_there : (p : Option ℕ × Option ℕ) (x : (ℕ × ℕ) × T) → cell_at (cell t) p ≡ Some x → IsCellAt t x.0 x.1
   cell_there p x e = by_position (both p) e
     where
@@ -37,7 +27,7 @@ module _ {T : Type 0} (t : List (List T)) (h : IsTable t) where
       by_cell q None k e = absurd (cc)
       by_cell q (Some y) k e =
           let same : ◌≡◌ {A = (ℕ × ℕ) × T} (q, y) x = cc in
-          let here : IsCellAt t q y = (in_range q.0 q.1 y k, k) in
+          let here : IsCellAt t q y = (cell_in_range t h q.0 q.1 y k, k) in
           subst (λ (z : (ℕ × ℕ) × T). IsCellAt t z.0 z.1) same here
 
       by_position : (o : Option (ℕ × ℕ)) → option_and_then {U = (ℕ × ℕ) × T} (λ q. option_map (λ y. (q, y)) (cell t q.0 q.1)) o ≡ Some x → IsCellAt t x.0 x.1

@@ -9,10 +9,9 @@ use Rattle.grid_base.specs.Table.{row, row_count, tabulate}
 use Rattle.grid_base.specs.Order.{place, table_of}
 use Rattle.grid_base.specs.Groups.{Opened}
 use Rattle.grid_base.proofs.TableLemmas.{rows-tabulate, cell-tabulate, width-tabulate, IsFull, IsSome_within}
-use Rattle.grid_base.proofs.StorageLemmas.{place_within, get-take, get-drop}
+use Rattle.grid_base.proofs.StorageLemmas.{place_within, get-take, get-drop, width-table_of, cell-table_of}
 use Rattle.grid.specs.RowGroups.{RowGroups, RowsOpened}
 use Rattle.grid.proofs.RowEditLemmas.{rows_widened, rows_opened, table-put}
-use Rattle.grid.proofs.EditViewLemmas.{rows-cut, width-cut, cell-cut}
 
 module _ {T : Type 0} where
   pub holds_at : (P : T → Type 0) (ys : List T) (y : ℕ) (x : T) → All P ys → y < length ys → slice_get ys y ≡ Some x → P x
@@ -56,12 +55,12 @@ module _ {T : Type 0} where
               let x = rows_opened o m n i k p q a g before new e h j c lj lc in
               (x.0, x.1, x.2, cell-tabulate k n f j c full lj lc ∙ x.3);
           put =
-              table-put o m n i k (table_of o m n kept) fresh new (rows-cut o m n kept size) (width-cut o m n kept size) rows widths le
+              table-put o m n i k (table_of o m n kept) fresh new (rows-tabulate m n _) (width-table_of o m n kept size) rows widths le
               (λ r c lr lm lc. wide.before r c lr lm lc
-              ∙ (sym (get-take (m * n) before (place o m n r c) (place_within o m n r c lm lc)) ∙ cell-cut o m n kept size r c lm lc))
+              ∙ (sym (get-take (m * n) before (place o m n r c) (place_within o m n r c lm lc)) ∙ sym (cell-table_of o m n kept size r c lm lc)))
               (λ j c lj lc. sym (cell-tabulate k n f j c full lj lc))
               (λ r c ge lm lc. wide.after r c ge lm lc
-              ∙ (sym (get-take (m * n) before (place o m n r c) (place_within o m n r c lm lc)) ∙ cell-cut o m n kept size r c lm lc));
+              ∙ (sym (get-take (m * n) before (place o m n r c) (place_within o m n r c lm lc)) ∙ sym (cell-table_of o m n kept size r c lm lc)));
         }
 
   module _ (o : Order) (m n i k : ℕ) (before new : List T) (h : RowsOpened o m n i k before new) where

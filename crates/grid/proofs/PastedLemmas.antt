@@ -7,10 +7,9 @@ use denote.Ref.{Bor}
 use Rattle.std.proofs.lemmas.Bool.Decides.{nat_tests}
 use Rattle.std.proofs.lemmas.Bool.{cases_lt, cases_eq, lt-ltb, le-ltb}
 use Rattle.std.proofs.lemmas.Nat.{mul-le}
-use Rattle.std.proofs.lemmas.Option.{slice_get_past}
-use Rattle.grid_base.specs.Table.{row, row_count, col_count, cell, tabulate, with_cell, InRange, IsTable}
+use Rattle.grid_base.specs.Table.{row_count, col_count, cell, tabulate, with_cell, InRange, IsTable}
 use Rattle.grid_base.specs.GridValue.{GridValue}
-use Rattle.grid_base.proofs.TableLemmas.{IsFull, IsFull-cells, tabulate-cells, tabulate-same, cell-tabulate, cell_past_rows}
+use Rattle.grid_base.proofs.TableLemmas.{IsFull, IsFull-cells, tabulate-cells, tabulate-same, cell-tabulate, cell_past_rows, past_cols}
 use Rattle.grid_base.proofs.WriteLemmas.{cell-with_same, cell-with_other}
 use Rattle.grid_view.specs.View.{sub_table}
 use Rattle.grid.specs.Make.{HasSize, EachCellIs}
@@ -21,8 +20,7 @@ use Rattle.grid.proofs.FromViewLemmas.{part_size}
 -- a cell that a table hasn't
 pub cell_outside : {T : Type 0} (u : List (List T)) → IsTable u → (r c : ℕ) → (row_count u ≤ r) ⊎ (col_count u ≤ c) → cell u r c ≡ None
 cell_outside u h r c out =
-    ⊎_elim (λ lt. slice_get_past (row u r) c (omega (arith, h.even r lt, ⊎_elim {C = col_count u ≤ c} (λ past. absurd (omega (arith, past, lt))) (λ past. past) out)))
-    (λ ge. cell_past_rows u r c ge) (cases_lt r (row_count u))
+    ⊎_elim (λ ge. cell_past_rows u r c ge) (λ ge. past_cols u h r c ge) out
 
 or_some : {T : Type 0} (o p : Option T) → IsSome o → option_or o p ≡ o
 or_some None p h = absurd (cc)
@@ -230,7 +228,7 @@ module _ {T : Type 0} (returns : ℕ × ℕ → Bor T → T → Type 0) where
             subst (λ x. Made x j) row_is (subst (λ z. Made r z) col_is here);
         others = λ i j out.
             ap (λ t. cell t i j) is
-            ∙ cell-with_other old.rows old.table r c y i j (λ e f. out (record { row_from = omega (arith, e); row_before = omega (arith, e); col_from = omega (arith, f); col_before = omega (arith, f) }));
+            ∙ cell-with_other old.rows r c y i j (λ e f. out (record { row_from = omega (arith, e); row_before = omega (arith, e); col_from = omega (arith, f); col_before = omega (arith, f) }));
       }
 
 -- the test of a part

@@ -1,6 +1,6 @@
 -- Refusals of edits through the flips, and what an edit that isn't refused is.
 use Rattle.std.proofs.Common.{◌≡◌, ℕ, zero, suc, ◌+◌, ◌-◌, ◌*◌, ◌<◌, Bool, true, false, not, ◌&&◌, ◌||◌, Some, None, List, [], ◌∷◌, length, map, reverse, nat_eq, nat_lt, if◌then◌else◌, refl, sym, ◌∙◌, ap, arith, ⊎_elim}
-use Rattle.std.proofs.Math.Bool.{and_comm}
+use Rattle.std.proofs.Math.Bool.{and_comm, or_comm, and-true, or-false}
 use Rattle.std.specs.List.{list_any, list_all}
 use Rattle.std.proofs.lemmas.List.{length-reverse, length-map, reverse-append, reverse-reverse, get_or-reverse}
 use Rattle.std.proofs.lemmas.List.Folds.{list_all-append, list_any-append}
@@ -8,36 +8,16 @@ use Rattle.std.proofs.lemmas.Bool.{eqb-true, ne_eqb, lt-ltb, le-ltb, cases_Bool,
 use Rattle.grid_base.specs.Table.{row}
 use Rattle.grid_commands.specs.declared.command.Refusal.TheVariants.{EmptyLine, Length, Index, TooLarge}
 use Rattle.grid_commands.specs.Command.{Edit, read, push, insert_at, insert_all}
-use Rattle.grid_commands.specs.Refusal.{first_width, fitting_width, insert_refusal, edit_refusal}
-use Rattle.grid.specs.Through.{mirror_gap, edit_of_flipped, edit_of_reversed}
-
-or_comm : (x y : Bool) → (x || y) ≡ (y || x)
-or_comm true true = refl
-or_comm true false = refl
-or_comm false true = refl
-or_comm false false = refl
+use Rattle.grid_commands.specs.Refusal.{first_width, fitting_width, lines_refusal, edit_refusal}
+use Rattle.grid.specs.Through.{mirrored_insertion, edit_of_flipped, edit_of_reversed}
 
 module _ {X : Type 0} (p : X → Bool) where
-  and_one : (x : X) → list_all p (x ∷ []) ≡ p x
-  and_one x = by (p x)
-    where
-      by : (b : Bool) → (b && true) ≡ b
-      by true = refl
-      by false = refl
-
-  or_one : (x : X) → list_any p (x ∷ []) ≡ p x
-  or_one x = by (p x)
-    where
-      by : (b : Bool) → (b || false) ≡ b
-      by true = refl
-      by false = refl
-
   pub list_all-reverse : (xs : List X) → list_all p (reverse xs) ≡ list_all p xs
   list_all-reverse [] = refl
   list_all-reverse (x ∷ xs) =
       ap (list_all p) (reverse-append (x ∷ []) xs)
       ∙ (list_all-append p (reverse xs) (x ∷ [])
-      ∙ (ap (λ b. list_all p (reverse xs) && b) (and_one x)
+      ∙ (ap (λ b. list_all p (reverse xs) && b) (and-true (p x))
       ∙ (ap (λ b. b && p x) (list_all-reverse xs) ∙ and_comm (list_all p xs) (p x))))
 
   pub list_any-reverse : (xs : List X) → list_any p (reverse xs) ≡ list_any p xs
@@ -45,20 +25,20 @@ module _ {X : Type 0} (p : X → Bool) where
   list_any-reverse (x ∷ xs) =
       ap (list_any p) (reverse-append (x ∷ []) xs)
       ∙ (list_any-append p (reverse xs) (x ∷ [])
-      ∙ (ap (λ b. list_any p (reverse xs) || b) (or_one x)
+      ∙ (ap (λ b. list_any p (reverse xs) || b) (or-false (p x))
       ∙ (ap (λ b. b || p x) (list_any-reverse xs) ∙ or_comm (list_any p xs) (p x))))
 
 same_tests : (a b e f x y z w : Bool) → a ≡ b → e ≡ f → x ≡ y → (f ≡ true → z ≡ w) → (if a then Some EmptyLine else (if not e then Some Length else (if x then Some Index else (if z then Some TooLarge else None)))) ≡ (if b then Some EmptyLine else (if not f then Some Length else (if y then Some Index else (if w then Some TooLarge else None))))
 same_tests a b e true x y z w p q r s = rw (p, q, r, s refl) refl
 same_tests a b e false x y z w p q r s = rw (p, q) refl
 
-gap_past : (count i : ℕ) → nat_lt count (mirror_gap count i) ≡ nat_lt count i
+gap_past : (count i : ℕ) → nat_lt count (mirrored_insertion count i) ≡ nat_lt count i
 gap_past count i =
     ⊎_elim (λ lt. rw (lt-ltb count i lt) (lt-ltb count i lt))
     (λ le. rw (le-ltb count i le) (le-ltb count (count - i) (omega arith)))
     (cases_lt count i)
 
-gap_end : (count : ℕ) → mirror_gap count count ≡ 0
+gap_end : (count : ℕ) → mirrored_insertion count count ≡ 0
 gap_end count = rw (le-ltb count count (omega arith)) (omega arith)
 
 module _ {T : Type 0} where
@@ -106,8 +86,8 @@ module _ {T : Type 0} where
       ∙ sym e)
       (cases_Bool (list_all (is_wide (fitting_width count width ls)) ls))
 
-  pub insert_refusal-flipped : (count width i : ℕ) (ls : List (List T)) → insert_refusal count width (mirror_gap count i) (reverse ls) ≡ insert_refusal count width i ls
-  insert_refusal-flipped count width i ls =
+  pub lines_refusal-flipped : (count width i : ℕ) (ls : List (List T)) → lines_refusal count width (mirrored_insertion count i) (reverse ls) ≡ lines_refusal count width i ls
+  lines_refusal-flipped count width i ls =
       same_tests _ _ _ _ _ _ _ _
       (list_any-reverse (λ l. nat_eq (length l) 0) ls)
       (even-reverse count width ls)
@@ -128,8 +108,8 @@ module _ {T : Type 0} where
   fitting-reversed_lines zero width (l ∷ ls) = length-reverse l
   fitting-reversed_lines (suc count) width ls = fitting-some (suc count) width (map reverse ls) (omega arith) ∙ sym (fitting-some (suc count) width ls (omega arith))
 
-  pub insert_refusal-reversed_lines : (count width i : ℕ) (ls : List (List T)) → insert_refusal count width i (map reverse ls) ≡ insert_refusal count width i ls
-  insert_refusal-reversed_lines count width i ls =
+  pub lines_refusal-reversed_lines : (count width i : ℕ) (ls : List (List T)) → lines_refusal count width i (map reverse ls) ≡ lines_refusal count width i ls
+  lines_refusal-reversed_lines count width i ls =
       same_tests _ _ _ _ _ _ _ _
       (any-reversed_lines 0 ls)
       (ap (λ w. list_all (is_wide w) (map reverse ls)) (fitting-reversed_lines count width ls) ∙ all-reversed_lines (fitting_width count width ls) ls)
@@ -139,15 +119,15 @@ module _ {T : Type 0} where
 
   -- an edit of flipped lines is refused where the edit is
   pub command_refusal-edit_of_flipped : (count width : ℕ) (e : Edit T) → edit_refusal count width (edit_of_flipped count e) ≡ edit_refusal count width e
-  command_refusal-edit_of_flipped count width (push line) = ap (λ i. insert_refusal count width i (line ∷ [])) (sym (gap_end count)) ∙ insert_refusal-flipped count width count (line ∷ [])
-  command_refusal-edit_of_flipped count width (insert_at i line) = insert_refusal-flipped count width i (line ∷ [])
-  command_refusal-edit_of_flipped count width (insert_all i ls) = insert_refusal-flipped count width i ls
+  command_refusal-edit_of_flipped count width (push line) = ap (λ i. lines_refusal count width i (line ∷ [])) (sym (gap_end count)) ∙ lines_refusal-flipped count width count (line ∷ [])
+  command_refusal-edit_of_flipped count width (insert_at i line) = lines_refusal-flipped count width i (line ∷ [])
+  command_refusal-edit_of_flipped count width (insert_all i ls) = lines_refusal-flipped count width i ls
   command_refusal-edit_of_flipped count width (read i) = refl
   command_refusal-edit_of_flipped count width e = refl
 
   pub command_refusal-edit_of_reversed : (count width : ℕ) (e : Edit T) → edit_refusal count width (edit_of_reversed e) ≡ edit_refusal count width e
-  command_refusal-edit_of_reversed count width (push line) = insert_refusal-reversed_lines count width count (line ∷ [])
-  command_refusal-edit_of_reversed count width (insert_at i line) = insert_refusal-reversed_lines count width i (line ∷ [])
-  command_refusal-edit_of_reversed count width (insert_all i ls) = insert_refusal-reversed_lines count width i ls
+  command_refusal-edit_of_reversed count width (push line) = lines_refusal-reversed_lines count width count (line ∷ [])
+  command_refusal-edit_of_reversed count width (insert_at i line) = lines_refusal-reversed_lines count width i (line ∷ [])
+  command_refusal-edit_of_reversed count width (insert_all i ls) = lines_refusal-reversed_lines count width i ls
   command_refusal-edit_of_reversed count width (read i) = refl
   command_refusal-edit_of_reversed count width e = refl

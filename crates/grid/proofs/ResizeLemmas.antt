@@ -20,7 +20,7 @@ use Rattle.grid_base.specs.Symmetry.{act}
 use Rattle.grid_base.proofs.TableLemmas.{IsFull-cells, rows-tabulate, tabulate-cells, tabulate-same, cell_past_rows}
 use Rattle.grid.proofs.ExchangeLemmas.{corner_taken, corner_kept}
 use Rattle.grid.proofs.SplitLemmas.{times_none}
-use Rattle.grid.proofs.ColEditLemmas.{rows-across, cols-across, cell-across}
+use Rattle.grid.proofs.ColEditLemmas.{rows-across, cols-across, cell-cross}
 
 pub product_some : (m n : ℕ) → 0 < m → 0 < n → 0 < m * n
 product_some m n a b =
@@ -79,10 +79,10 @@ module _ {T : Type 0} where
         cols = ap col_count back ∙ (cols-across less k ∙ second.rows);
         cells = λ r c lr lc.
             ap (λ x. cell x r c) back
-            ∙ (cell-across less k r c (omega (arith, second.cols, tall)) (omega (arith, second.rows))
+            ∙ (cell-cross less k r c
             ∙ (second.cells c r lc (omega (arith, tall))
             ∙ (ap (λ x. cell x c r) turned
-            ∙ (cell-across one h c r (omega (arith, first.cols, le)) (omega (arith, first.rows)) ∙ first.cells r c lr (omega (arith, le))))));
+            ∙ (cell-cross one h c r ∙ first.cells r c lr (omega (arith, le))))));
       }
 
   pub corner_resized : (P : T → Type 0) (m n : ℕ) (t new : List (List T)) → 0 < m → 0 < n → m ≤ row_count t → n ≤ col_count t → IsCorner m n t new → IsResized P m n t new
@@ -135,13 +135,3 @@ module _ {T : Type 0} where
         ⊎_elim {C = new ≡ tabulate m n (cell_or d old)}
         (λ none. i.size.none (times_none m n none) ∙ sym (nil_from_length (tabulate m n (cell_or d old)) (rows-tabulate m n (cell_or d old) ∙ none)))
         (λ more. resized_some (omega arith) some) (cases_eq m 0)
-
-  -- the size of a table that was resized
-  module _ (P : T → Type 0) (m n : ℕ) (old new : List (List T)) (i : IsResized P m n old new) where
-    pub resized_rows : 0 < n → row_count new ≡ m
-    resized_rows some =
-        ⊎_elim {C = row_count new ≡ m} (λ none. ap length (i.size.none (times_none m n none)) ∙ sym none) (λ more. let all = product_some m n (omega arith) some in i.size.rows (λ z. omega (arith, all, z))) (cases_eq m 0)
-
-    pub resized_cols : 0 < m → col_count new ≡ n
-    resized_cols some =
-        ⊎_elim {C = col_count new ≡ n} (λ none. ap col_count (i.size.none (ap (λ x. m * x) none ∙ omega arith)) ∙ sym none) (λ more. let all = product_some m n some (omega arith) in i.size.cols (λ z. omega (arith, all, z))) (cases_eq n 0)

@@ -14,6 +14,7 @@ use Rattle.grid.specs.Edits.{insert_rows, without_rows}
 use Rattle.grid.specs.RowGroups.{RowGroups}
 use Rattle.grid.specs.Shift.{rows_added_shift, rows_taken_shift}
 use Rattle.grid.proofs.ListEditLemmas.{get-cut_before, get-cut_after, get-put_before, get-put_new, get-put_after, length-put, length-cut, get_or-same, put_cases}
+use Rattle.grid_base.proofs.WeaveLemmas.{at_equal}
 
 -- the lines have the cells of the other rows
 pub cells-groups : (o : Order) (m n i k p q a g : ℕ) → RowGroups o m n i k p q a g → p * q ≡ m * n
@@ -34,19 +35,15 @@ at_groups : (F : ℕ → ℕ → ℕ → ℕ → Type 0) (p q a g p' q' a' g' : 
 at_groups F p q a g p' q' a' g' e1 e2 e3 e4 h =
     subst (λ x. F p' q' a' x) e4 (subst (λ x. F p' q' x g) e3 (subst (λ x. F p' x a g) e2 (subst (λ x. F x q a g) e1 h)))
 
--- the same look-up at indices that are equal
-moved : {T : Type 0} (xs ys : List T) (a b c d : ℕ) → a ≡ c → b ≡ d → slice_get xs a ≡ slice_get ys b → slice_get xs c ≡ slice_get ys d
-moved xs ys a b c d e f h = sym (ap (slice_get xs) e) ∙ (h ∙ ap (slice_get ys) f)
-
 module _ {T : Type 0} where
   widened_by_rows : (m n i k : ℕ) (short long : List T) → Widened 1 (m * n) (i * n) (k * n) short long → RowsWidened RowMajor m n i k short long
   widened_by_rows m n i k short long h =
       record {
         before = λ r c lr lm lc.
-            moved long short (0 * (m * n + k * n) + (r * n + c)) (0 * (m * n) + (r * n + c)) (r * n + c) (r * n + c) (omega arith) (omega arith)
+            at_equal long short (r * n + c) (0 * (m * n + k * n) + (r * n + c)) (r * n + c) (0 * (m * n) + (r * n + c)) (omega arith) (omega arith)
             (h.before 0 (r * n + c) (omega arith) (omega (arith, mul-add-lt r n c m lm lc)) (omega (arith, mul-add-lt r n c i lr lc)));
         after = λ r c le lm lc.
-            moved long short (0 * (m * n + k * n) + (k * n + (r * n + c))) (0 * (m * n) + (r * n + c)) ((k + r) * n + c) (r * n + c) (omega arith) (omega arith)
+            at_equal long short ((k + r) * n + c) (0 * (m * n + k * n) + (k * n + (r * n + c))) (r * n + c) (0 * (m * n) + (r * n + c)) (omega arith) (omega arith)
             (h.after 0 (r * n + c) (omega arith) (omega (arith, mul-add-lt r n c m lm lc)) (omega (arith, mul-le-mul_right n le)));
       }
 
@@ -67,11 +64,11 @@ module _ {T : Type 0} where
   pub rows_woven : (o : Order) (m n i k p q a g : ℕ) (short long : List T) → RowGroups o m n i k p q a g → Woven p q a g short long → (j c : ℕ) → j < k → c < n → slice_get long (place o (m + k) n (i + j) c) ≡ slice_get short (m * n + place o k n j c)
   rows_woven RowMajor m n i k p q a g short long e h j c lj lc =
       let w : Woven 1 (m * n) (i * n) (k * n) short long = at_groups (λ p q a g. Woven p q a g short long) p q a g 1 (m * n) (i * n) (k * n) e.0 e.1 e.2 e.3 h in
-      moved long short (0 * (m * n + k * n) + (i * n + (j * n + c))) (1 * (m * n) + (0 * (k * n) + (j * n + c))) ((i + j) * n + c) (m * n + (j * n + c)) (omega arith) (omega arith)
+      at_equal long short ((i + j) * n + c) (0 * (m * n + k * n) + (i * n + (j * n + c))) (m * n + (j * n + c)) (1 * (m * n) + (0 * (k * n) + (j * n + c))) (omega arith) (omega arith)
       (w.groups 0 (j * n + c) (omega arith) (omega (arith, mul-add-lt j n c k lj lc)))
   rows_woven ColumnMajor m n i k p q a g short long e h j c lj lc =
       let w : Woven n m i k short long = at_groups (λ p q a g. Woven p q a g short long) p q a g n m i k e.0 e.1 e.2 e.3 h in
-      moved long short (c * (m + k) + (i + j)) (n * m + (c * k + j)) (c * (m + k) + (i + j)) (m * n + (c * k + j)) refl (omega arith)
+      at_equal long short (c * (m + k) + (i + j)) (c * (m + k) + (i + j)) (m * n + (c * k + j)) (n * m + (c * k + j)) refl (omega arith)
       (w.groups c j lc lj)
 
   -- each place of a group has a cell from behind the lines
@@ -79,7 +76,7 @@ module _ {T : Type 0} where
   rows_opened RowMajor m n i k p q a g short long e h j c lj lc =
       let w : Opened 1 (m * n) (i * n) (k * n) short long = at_groups (λ p q a g. Opened p q a g short long) p q a g 1 (m * n) (i * n) (k * n) e.0 e.1 e.2 e.3 h in
       let found = w.groups 0 (j * n + c) (omega arith) (omega (arith, mul-add-lt j n c k lj lc)) in
-      (found.0, omega (arith, found.1), found.2, moved long short (0 * (m * n + k * n) + (i * n + (j * n + c))) found.0 ((i + j) * n + c) found.0 (omega arith) refl found.3)
+      (found.0, omega (arith, found.1), found.2, at_equal long short ((i + j) * n + c) (0 * (m * n + k * n) + (i * n + (j * n + c))) found.0 found.0 (omega arith) refl found.3)
   rows_opened ColumnMajor m n i k p q a g short long e h j c lj lc =
       let w : Opened n m i k short long = at_groups (λ p q a g. Opened p q a g short long) p q a g n m i k e.0 e.1 e.2 e.3 h in
       let found = w.groups c j lc lj in

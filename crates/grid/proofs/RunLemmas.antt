@@ -17,18 +17,11 @@ use Rattle.grid_base.proofs.GroupLemmas.{product, symmetry_of-product_from, symm
 use Rattle.grid_commands.specs.Command.{CommandValue}
 use Rattle.grid_commands.specs.Reply.{ReplyValue}
 use Rattle.grid.specs.Step.{step_rows, step_reply, takes_memory, RowsAreKnown}
-use Rattle.grid.specs.Cost.{command_symmetry, list_symmetry, step_price, step_shift}
+use Rattle.grid.specs.Cost.{command_symmetry, list_symmetry, price_at, shift_at}
 use Rattle.grid.specs.Run.{run_rows, run_replies, run_price, run_shift, LeftByRun, Ran, MayStop}
 use Rattle.grid.proofs.CellCallLemmas.{at_seam}
 
 module _ {T : Type 0} where
-  -- what a command costs at a table
-  abbrev pub price_at : CommandValue T → List (List T) → ℕ
-  price_at x t = step_price x (row_count t) (col_count t)
-
-  abbrev pub shift_at : CommandValue T → Order → List (List T) → ℕ
-  shift_at x o t = step_shift x o (row_count t) (col_count t)
-
   -- the order after a list of commands, one after another
   abbrev pub run_order : List (CommandValue T) → Order → Order
   run_order [] o = o

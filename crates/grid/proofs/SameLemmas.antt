@@ -9,6 +9,7 @@ use Rattle.grid_base.specs.Table.{row, row_count, col_count, cell, IsTable}
 use Rattle.grid_base.specs.Order.{storage, place}
 use Rattle.grid_base.proofs.StorageLemmas.{length-storage, get-storage, has_place}
 use Rattle.grid_view.proofs.SameLemmas.{row_at}
+use Rattle.std.proofs.lemmas.Option.{slice_get_within}
 
 bool_iff : (a b : Bool) → (a ≡ true → b ≡ true) → (b ≡ true → a ≡ true) → a ≡ b
 bool_iff true b f g = sym (f refl)
@@ -30,12 +31,6 @@ module _ {X : Type 0} (E : X → X → Bool) where
   same_by (a ∷ xs) [] len each = absurd (omega (arith, len))
   same_by (a ∷ xs) (b ∷ ys) len each = rw (each 0 a b refl refl) (same_by xs ys (omega (arith, len)) (λ i x y e f. each (suc i) x y e f))
 
--- an item stands in range
-within : {X : Type 0} (xs : List X) (i : ℕ) (x : X) → slice_get xs i ≡ Some x → i < length xs
-within [] i x e = absurd (cc)
-within (a ∷ xs) zero x e = omega arith
-within (a ∷ xs) (suc i) x e = let h = within xs i x e in omega (arith, h)
-
 -- an item of a table is its row
 row_is : {X : Type 0} (t : List (List X)) (r : ℕ) (x : List X) → slice_get t r ≡ Some x → row t r ≡ x
 row_is [] r x e = absurd (cc)
@@ -45,13 +40,13 @@ row_is (y ∷ t) (suc r) x e = row_is t r x e
 module _ {X : Type 0} (E : X → X → Bool) (o : Order) (t u : List (List X)) (T : IsTable t) (U : IsTable u) (rows : row_count t ≡ row_count u) (cols : col_count t ≡ col_count u) where
   rows_same : pointwise E (storage o t) (storage o u) ≡ true → pointwise (pointwise E) t u ≡ true
   rows_same h = same_by (pointwise E) t u rows (λ r x y e f.
-      let lr : r < row_count t = within t r x e in
+      let lr : r < row_count t = slice_get_within t r x e in
       let x_is : row t r ≡ x = row_is t r x e in
       let y_is : row u r ≡ y = row_is u r y f in
       let x_len : length x ≡ col_count t = ap length (sym x_is) ∙ T.even r lr in
       let y_len : length y ≡ col_count u = ap length (sym y_is) ∙ U.even r (omega (arith, rows, lr)) in
       same_by E x y (x_len ∙ (cols ∙ sym y_len)) (λ c a b p q.
-      let lc : c < col_count t = omega (arith, x_len, within x c a p) in
+      let lc : c < col_count t = omega (arith, x_len, slice_get_within x c a p) in
       let here : slice_get (storage o t) (place o (row_count t) (col_count t) r c) ≡ Some a =
       get-storage o t r c T lr lc ∙ (ap (λ l. slice_get l c) x_is ∙ p) in
       let there : slice_get (storage o u) (place o (row_count t) (col_count t) r c) ≡ Some b =
@@ -63,7 +58,7 @@ module _ {X : Type 0} (E : X → X → Bool) (o : Order) (t u : List (List X)) (
       let size : length (storage o t) ≡ row_count t * col_count t = length-storage o t T in
       let long : length (storage o t) ≡ length (storage o u) = size ∙ ((λ k. rows k * cols k) ∙ sym (length-storage o u U)) in
       same_by E (storage o t) (storage o u) long (λ k a b p q.
-      let at = has_place o (row_count t) (col_count t) k (omega (arith, size, within (storage o t) k a p)) in
+      let at = has_place o (row_count t) (col_count t) k (omega (arith, size, slice_get_within (storage o t) k a p)) in
       let r = at.r in
       let c = at.c in
       let ur : r < row_count u = omega (arith, rows, at.lr) in

@@ -1,7 +1,7 @@
 -- What calls on all cells of a grid's vector say of the value that a contract sees.
 use Rattle.std.proofs.Common.{◌≡◌, ℕ, zero, suc, ◌*◌, ◌<◌, List, [], ◌∷◌, Some, length, map, replicate, refl, sym, ◌∙◌, ap, arith}
 use Rattle.std.specs.List.{slice_get}
-use Rattle.std.proofs.lemmas.List.{get_or-map, length-map}
+use Rattle.std.proofs.lemmas.List.{get_or-map, length-map, length-replicate}
 use Rattle.grid_base.specs.declared.order.Order.{Order}
 use Rattle.grid_base.specs.Table.{row, row_count, col_count}
 use Rattle.grid_base.specs.Order.{table_of, storage, place}
@@ -28,10 +28,6 @@ module _ {T U : Type 0} (o : Order) (m n : ℕ) (cells : List T) (news : List U)
   whole_cells = view-storage o m n news fits
 
 module _ {T : Type 0} (w : T) where
-  length-same : (n : ℕ) → length (replicate n w) ≡ n
-  length-same zero = refl
-  length-same (suc n) = ap suc (length-same n)
-
   get_filled : (xs : List T) (k : ℕ) → k < length xs → slice_get (map (λ _. w) xs) k ≡ Some w
   get_filled [] k h = absurd (omega arith)
   get_filled (x ∷ xs) zero h = refl
@@ -45,7 +41,7 @@ module _ {T : Type 0} (w : T) where
     filled_at =
         let t = table_of o m n cells in
         let u = table_of o m n (replicate (length cells) w) in
-        let len = length-same (length cells) in
+        let len = length-replicate (length cells) w in
         let full : length (replicate (length cells) w) ≡ m * n = len ∙ h.cells in
         let fit : HoldsSize m n (length (replicate (length cells) w)) = rw len h in
         let m_new = view-rows o m n (replicate (length cells) w) fit in

@@ -23,15 +23,6 @@ module _ {T : Type 0} (o : Order) (m n : ℕ) (cells : List T) (v : GridValue T)
   order_is : v.order ≡ o
   order_is = sym (ap (λ x. x.order) e)
 
-  rows_are : row_count v.rows ≡ m
-  rows_are = seen_rows o m n cells v h e
-
-  cols_are : col_count v.rows ≡ n
-  cols_are = seen_cols o m n cells v h e
-
-  cells_are : stored v ≡ cells
-  cells_are = seen_storage o m n cells v h e
-
   pub seen_transposed : table_of (flipped o) n m cells ≡ transposed v.rows
   seen_transposed = view-transpose o m n cells h ∙ (act_is_transposed _ ∙ ap (λ x. transposed x.rows) e)
 
@@ -39,8 +30,8 @@ module _ {T : Type 0} (o : Order) (m n : ℕ) (cells : List T) (v : GridValue T)
   pub seen_indexed : zip (positions o m n) cells ≡ zip (positions v.order (row_count v.rows) (col_count v.rows)) (stored v)
   seen_indexed = sym (
       ap (λ x. zip (positions x (row_count v.rows) (col_count v.rows)) (stored v)) order_is
-      ∙ (ap (λ x. zip (positions o x (col_count v.rows)) (stored v)) rows_are
-      ∙ (ap (λ x. zip (positions o m x) (stored v)) cols_are ∙ ap (zip (positions o m n)) cells_are))
+      ∙ (ap (λ x. zip (positions o x (col_count v.rows)) (stored v)) (seen_rows o m n cells v h e)
+      ∙ (ap (λ x. zip (positions o m x) (stored v)) (seen_cols o m n cells v h e) ∙ ap (zip (positions o m n)) (seen_storage o m n cells v h e)))
       )
 
   -- the grid with other cells
@@ -49,20 +40,20 @@ module _ {T : Type 0} (o : Order) (m n : ℕ) (cells : List T) (v : GridValue T)
       same_grid_value _ _
       (ap (table_of o m n) same
       ∙ sym (ap (λ x. table_of x (row_count v.rows) (col_count v.rows) ys) order_is
-      ∙ (ap (λ x. table_of o x (col_count v.rows) ys) rows_are ∙ ap (λ x. table_of o m x ys) cols_are)))
+      ∙ (ap (λ x. table_of o x (col_count v.rows) ys) (seen_rows o m n cells v h e) ∙ ap (λ x. table_of o m x ys) (seen_cols o m n cells v h e))))
       (sym order_is)
 
   pub seen_refilled : (ws : List T) (k : HoldsSize m n (length (refill (length cells) cells ws))) → grid_value o m n (refill (length cells) cells ws) k ≡ refilled v ws
-  seen_refilled ws k = seen_with _ _ k _ (ap (λ c. refill (length c) c ws) (sym cells_are))
+  seen_refilled ws k = seen_with _ _ k _ (ap (λ c. refill (length c) c ws) (sym (seen_storage o m n cells v h e)))
 
   place_is : (r c : ℕ) → place v.order (row_count v.rows) (col_count v.rows) r c ≡ place o m n r c
   place_is r c =
       ap (λ x. place x (row_count v.rows) (col_count v.rows) r c) order_is
-      ∙ (ap (λ x. place o x (col_count v.rows) r c) rows_are ∙ ap (λ x. place o m x r c) cols_are)
+      ∙ (ap (λ x. place o x (col_count v.rows) r c) (seen_rows o m n cells v h e) ∙ ap (λ x. place o m x r c) (seen_cols o m n cells v h e))
 
   pub seen_written : (start r c : ℕ) (ws : List T) (k : HoldsSize m n (length (written_from start cells ws))) → start ≡ place o m n r c → grid_value o m n (written_from start cells ws) k ≡ refilled_from v r c ws
   seen_written start r c ws k s =
-      seen_with _ _ k _ (ap (λ x. written_from x cells ws) (s ∙ sym (place_is r c)) ∙ ap (λ x. written_from (place v.order (row_count v.rows) (col_count v.rows) r c) x ws) (sym cells_are))
+      seen_with _ _ k _ (ap (λ x. written_from x cells ws) (s ∙ sym (place_is r c)) ∙ ap (λ x. written_from (place v.order (row_count v.rows) (col_count v.rows) r c) x ws) (sym (seen_storage o m n cells v h e)))
 
   -- the size stays where as many cells are written
   fits_of : (news : List T) → length news ≡ length cells → HoldsSize m n (length news)
@@ -71,7 +62,7 @@ module _ {T : Type 0} (o : Order) (m n : ℕ) (cells : List T) (v : GridValue T)
   size_kept : (news : List T) (u : GridValue T) (same : length news ≡ length cells) → grid_value o m n news (fits_of news same) ≡ u → IsSameSize v u.rows
   size_kept news u same f =
       let fits = fits_of news same in
-      (seen_rows o m n news u fits f ∙ sym rows_are, seen_cols o m n news u fits f ∙ sym cols_are)
+      (seen_rows o m n news u fits f ∙ sym (seen_rows o m n cells v h e), seen_cols o m n news u fits f ∙ sym (seen_cols o m n cells v h e))
 
   pub seen_keeps : KeepsSize v
   seen_keeps ws = size_kept (refill (length cells) cells ws) (refilled v ws) (sym (length_refill (length cells) cells ws refl)) (seen_refilled ws _)

@@ -1,5 +1,5 @@
 -- What a grid's fields say of the value that a contract sees.
-use Rattle.std.proofs.Common.{◌≡◌, ◌<◌, ◌*◌, ◌^◌, ℕ, List, [], ◌∷◌, length, refl, sym, ◌∙◌, ap, arith, ◌↔◌, IsTrue, nat_eq}
+use Rattle.std.proofs.Common.{◌≡◌, ◌<◌, ◌*◌, ◌^◌, ℕ, List, [], length, sym, ◌∙◌, ap, arith, ◌↔◌, IsTrue, nat_eq}
 use borrow.Author.Tests.{eqb-true, eq-eqb}
 use Rattle.grid_base.specs.declared.order.Order.{Order}
 use Rattle.grid_base.specs.Table.{row_count, col_count, InRange}
@@ -7,10 +7,7 @@ use Rattle.grid_base.specs.Order.{table_of, storage}
 use Rattle.grid_base.specs.GridValue.{GridValue, HoldsSize}
 use Rattle.grid_base.proofs.ViewLemmas.{same_grid_value, view-rows, view-cols, view-storage}
 use Rattle.grid.specs.View.{grid_value}
-
-no_rows : {X : Type 0} (xs : List X) → length xs ≡ 0 → xs ≡ []
-no_rows [] e = refl
-no_rows (x ∷ xs) e = absurd (omega arith)
+use Rattle.std.proofs.lemmas.List.{nil_from_length}
 
 module _ {T : Type 0} (o : Order) (m n : ℕ) (cells : List T) (s : GridValue T) (h : HoldsSize m n (length cells)) where
   pub seen_rows : grid_value o m n cells h ≡ s → row_count s.rows ≡ m
@@ -27,7 +24,7 @@ module _ {T : Type 0} (o : Order) (m n : ℕ) (cells : List T) (s : GridValue T)
 
   pub seen_empty : grid_value o m n cells h ≡ s → IsTrue (nat_eq m 0) ↔ (s.rows ≡ [])
   seen_empty e = (
-    λ none. no_rows s.rows (omega (arith, seen_rows e, eqb-true m 0 none)),
+    λ none. nil_from_length s.rows (omega (arith, seen_rows e, eqb-true m 0 none)),
     λ none. eq-eqb m 0 (sym (seen_rows e) ∙ ap length none),
   )
 

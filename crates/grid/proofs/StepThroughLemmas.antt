@@ -9,7 +9,7 @@ use Rattle.grid_base.proofs.WriteLemmas.{IsTable-with_cell}
 use Rattle.grid_base.proofs.TableLemmas.{IsSize-table}
 use Rattle.grid_base.specs.Symmetry.{act}
 use Rattle.grid.specs.Step.{rows_after, reply_to, step_rows, step_reply, takes_memory}
-use Rattle.grid.specs.Through.{turned_reply, mirror_place, command_of_transposed, command_of_flipped}
+use Rattle.grid.specs.Through.{turned_reply, mirrored_line, transposed_command, flipped_command}
 use Rattle.grid_base.proofs.ActLemmas.{rows-act, cols-act, IsTable-act}
 use Rattle.grid_commands.specs.Command.{CommandValue, size, get, set_cell, swap_cells, lines, fill, clear, apply, axis_of}
 use Rattle.grid_commands.specs.Reply.{ReplyValue, cell_is, refused}
@@ -18,10 +18,10 @@ use Rattle.grid_commands.specs.declared.command.Axis.{Axis}
 use Rattle.grid_commands.specs.declared.command.Axis.TheVariants.{Row, Col}
 use Rattle.grid_commands.specs.declared.command.Refusal.{Refusal}
 use Rattle.grid_commands.specs.declared.command.Refusal.TheVariants.{Index}
-use Rattle.grid.proofs.ColEditLemmas.{across-none, rows-across, cols-across}
+use Rattle.grid.proofs.ColEditLemmas.{across-none, rows-across, cols-across, cell-cross}
 use Rattle.grid.proofs.RefusalLemmas.{command_refusal-edit_of_flipped, command_refusal-edit_of_reversed}
 use Rattle.grid.proofs.EditThroughLemmas.{place_past, memory-edit_of_flipped, memory-edit_of_reversed, rows-edit_flipped, cols-edit_flipped, rows-edit_across, cols-edit_across, table-rows_edit, table-cols_edit, reply-rows_flip, reply-cols_flip, reply-rows_cross, reply-cols_cross}
-use Rattle.grid.proofs.CellThroughLemmas.{cell-flip, cell-cross, set-flip, set-cross, swap-flip, swap-cross, fill-flip, fill-cross, none-flip, apply-through, IsTable-exchanged, IsTable-filled}
+use Rattle.grid.proofs.CellThroughLemmas.{cell-flip, set-flip, set-cross, swap-flip, swap-cross, fill-flip, fill-cross, none-flip, apply-through, IsTable-exchanged, IsTable-filled}
 
 module _ {T : Type 0} where
   -- an axis that a command may be said to be of: any where it speaks of no lines
@@ -66,7 +66,7 @@ module _ {T : Type 0} where
 in_range-parts : (m n : ℕ) (p : ℕ × ℕ) → in_range m n p ≡ true → (p.0 < m) × (p.1 < n)
 in_range-parts m n p e = let b = and_parts (nat_lt p.0 m) (nat_lt p.1 n) e in (ltb-true p.0 m b.0, ltb-true p.1 n b.1)
 
-in_range-flip : (m n : ℕ) (p : ℕ × ℕ) → in_range m n p ≡ in_range m n (mirror_place m p.0, p.1)
+in_range-flip : (m n : ℕ) (p : ℕ × ℕ) → in_range m n p ≡ in_range m n (mirrored_line m p.0, p.1)
 in_range-flip m n p = ap (λ b. b && nat_lt p.1 n) (sym (place_past m p.0))
 
 in_range-cross : (m n : ℕ) (p : ℕ × ℕ) → in_range n m p ≡ in_range m n (p.1, p.0)
@@ -84,24 +84,24 @@ module _ {T : Type 0} where
   at_cross : (t : List (List T)) → IsTable t → (F : ℕ → ℕ → Type 0) → F (col_count t) (row_count t) → F (row_count (act Transpose t)) (col_count (act Transpose t))
   at_cross t h F p = rw (rows-across t h, cols-across t h) p
 
-  command_refusal-flipped : (m n : ℕ) (y : CommandValue T) → command_refusal y m n ≡ command_refusal (command_of_flipped m y) m n
+  command_refusal-flipped : (m n : ℕ) (y : CommandValue T) → command_refusal y m n ≡ command_refusal (flipped_command m y) m n
   command_refusal-flipped m n (set_cell r c v) = ap (λ b. if b then None else Some Index) (in_range-flip m n (r, c))
   command_refusal-flipped m n (swap_cells p q) =
       ap (λ b. if b && in_range m n q then None else Some Index) (in_range-flip m n p)
-      ∙ ap (λ b. if in_range m n (mirror_place m p.0, p.1) && b then None else Some Index) (in_range-flip m n q)
+      ∙ ap (λ b. if in_range m n (mirrored_line m p.0, p.1) && b then None else Some Index) (in_range-flip m n q)
   command_refusal-flipped m n (lines Row e) = sym (command_refusal-edit_of_flipped m n e)
   command_refusal-flipped m n (lines Col e) = sym (command_refusal-edit_of_reversed n m e)
   command_refusal-flipped m n size = refl
   command_refusal-flipped m n y = refl
 
-  memory-flipped : (m n : ℕ) (y : CommandValue T) → takes_memory y m n ≡ takes_memory (command_of_flipped m y) m n
+  memory-flipped : (m n : ℕ) (y : CommandValue T) → takes_memory y m n ≡ takes_memory (flipped_command m y) m n
   memory-flipped m n (get r c) = in_range-flip m n (r, c)
   memory-flipped m n (lines Row e) = sym (memory-edit_of_flipped m n e)
   memory-flipped m n (lines Col e) = sym (memory-edit_of_reversed n m e)
   memory-flipped m n size = refl
   memory-flipped m n y = refl
 
-  command_refusal-transposed : (m n : ℕ) (y : CommandValue T) → command_refusal y n m ≡ command_refusal (command_of_transposed y) m n
+  command_refusal-transposed : (m n : ℕ) (y : CommandValue T) → command_refusal y n m ≡ command_refusal (transposed_command y) m n
   command_refusal-transposed m n (set_cell r c v) = ap (λ b. if b then None else Some Index) (in_range-cross m n (r, c))
   command_refusal-transposed m n (swap_cells p q) =
       ap (λ b. if b && in_range n m q then None else Some Index) (in_range-cross m n p)
@@ -111,7 +111,7 @@ module _ {T : Type 0} where
   command_refusal-transposed m n size = refl
   command_refusal-transposed m n y = refl
 
-  rows_after-flipped : (d : T) (y : CommandValue T) (t : List (List T)) → IsTable t → command_refusal y (row_count t) (col_count t) ≡ None → rows_after d y (act FlipRows t) ≡ act FlipRows (rows_after d (command_of_flipped (row_count t) y) t)
+  rows_after-flipped : (d : T) (y : CommandValue T) (t : List (List T)) → IsTable t → command_refusal y (row_count t) (col_count t) ≡ None → rows_after d y (act FlipRows t) ≡ act FlipRows (rows_after d (flipped_command (row_count t) y) t)
   rows_after-flipped d (set_cell r c v) t h none =
       let p = in_range-parts (row_count t) (col_count t) (r, c) (index-none _ none) in set-flip t h r c v p.0
   rows_after-flipped d (swap_cells p q) t h none =
@@ -125,7 +125,7 @@ module _ {T : Type 0} where
   rows_after-flipped d size t h none = refl
   rows_after-flipped d (get r c) t h none = refl
 
-  rows_after-transposed : (d : T) (y : CommandValue T) (t : List (List T)) → IsTable t → command_refusal y (col_count t) (row_count t) ≡ None → rows_after d y (act Transpose t) ≡ act Transpose (rows_after d (command_of_transposed y) t)
+  rows_after-transposed : (d : T) (y : CommandValue T) (t : List (List T)) → IsTable t → command_refusal y (col_count t) (row_count t) ≡ None → rows_after d y (act Transpose t) ≡ act Transpose (rows_after d (transposed_command y) t)
   rows_after-transposed d (set_cell r c v) t h none =
       let p = in_range-parts (col_count t) (row_count t) (r, c) (index-none _ none) in set-cross t h r c v p.0 p.1
   rows_after-transposed d (swap_cells p q) t h none =
@@ -141,7 +141,7 @@ module _ {T : Type 0} where
   rows_after-transposed d size t h none = refl
   rows_after-transposed d (get r c) t h none = refl
 
-  reply_to-flipped : (y : CommandValue T) (t : List (List T)) → IsTable t → (a : Axis) → IsAxis y a → reply_to y (act FlipRows t) ≡ turned_reply FlipRows a (reply_to (command_of_flipped (row_count t) y) t)
+  reply_to-flipped : (y : CommandValue T) (t : List (List T)) → IsTable t → (a : Axis) → IsAxis y a → reply_to y (act FlipRows t) ≡ turned_reply FlipRows a (reply_to (flipped_command (row_count t) y) t)
   reply_to-flipped size t h a k = rw (rows-act FlipRows t, cols-act FlipRows t h) refl
   reply_to-flipped (get r c) t h a k = ap cell_is (cell-flip t h r c)
   reply_to-flipped (lines Row e) t h a k = rw (k, rows-act FlipRows t) (reply-rows_flip t h e)
@@ -152,7 +152,7 @@ module _ {T : Type 0} where
   reply_to-flipped clear t h a k = refl
   reply_to-flipped (apply u) t h a k = refl
 
-  reply_to-transposed : (y : CommandValue T) (t : List (List T)) → IsTable t → (a : Axis) → IsAxis y a → reply_to y (act Transpose t) ≡ turned_reply Transpose a (reply_to (command_of_transposed y) t)
+  reply_to-transposed : (y : CommandValue T) (t : List (List T)) → IsTable t → (a : Axis) → IsAxis y a → reply_to y (act Transpose t) ≡ turned_reply Transpose a (reply_to (transposed_command y) t)
   reply_to-transposed size t h a k = rw (rows-across t h, cols-across t h) refl
   reply_to-transposed (get r c) t h a k = ap cell_is (cell-cross t h r c)
   reply_to-transposed (lines Row e) t h a k = rw (k, rows-across t h) (reply-rows_cross t h e)
@@ -163,7 +163,7 @@ module _ {T : Type 0} where
   reply_to-transposed clear t h a k = refl
   reply_to-transposed (apply u) t h a k = refl
 
-  memory-transposed : (m n : ℕ) (y : CommandValue T) → IsSize m n → takes_memory y n m ≡ takes_memory (command_of_transposed y) m n
+  memory-transposed : (m n : ℕ) (y : CommandValue T) → IsSize m n → takes_memory y n m ≡ takes_memory (transposed_command y) m n
   memory-transposed m n (get r c) h = in_range-cross m n (r, c)
   memory-transposed m n (lines Row e) h = refl
   memory-transposed m n (lines Col e) h = refl
@@ -178,21 +178,21 @@ module _ {T : Type 0} where
   memory-transposed m n size h = refl
   memory-transposed m n y h = refl
 
-  pub through_flip : (y : CommandValue T) (t : List (List T)) → IsTable t → Through FlipRows (command_of_flipped (row_count t) y) y t
+  pub through_flip : (y : CommandValue T) (t : List (List T)) → IsTable t → Through FlipRows (flipped_command (row_count t) y) y t
   through_flip y t h =
-      through_by FlipRows (command_of_flipped (row_count t) y) y t
-      (at_flip t h (λ m n. command_refusal y m n ≡ command_refusal (command_of_flipped (row_count t) y) (row_count t) (col_count t)) (command_refusal-flipped (row_count t) (col_count t) y))
+      through_by FlipRows (flipped_command (row_count t) y) y t
+      (at_flip t h (λ m n. command_refusal y m n ≡ command_refusal (flipped_command (row_count t) y) (row_count t) (col_count t)) (command_refusal-flipped (row_count t) (col_count t) y))
       (λ d none. rows_after-flipped d y t h (command_refusal-flipped (row_count t) (col_count t) y ∙ none))
       (reply_to-flipped y t h)
-      (at_flip t h (λ m n. takes_memory y m n ≡ takes_memory (command_of_flipped (row_count t) y) (row_count t) (col_count t)) (memory-flipped (row_count t) (col_count t) y))
+      (at_flip t h (λ m n. takes_memory y m n ≡ takes_memory (flipped_command (row_count t) y) (row_count t) (col_count t)) (memory-flipped (row_count t) (col_count t) y))
 
-  pub through_cross : (y : CommandValue T) (t : List (List T)) → IsTable t → Through Transpose (command_of_transposed y) y t
+  pub through_cross : (y : CommandValue T) (t : List (List T)) → IsTable t → Through Transpose (transposed_command y) y t
   through_cross y t h =
-      through_by Transpose (command_of_transposed y) y t
-      (at_cross t h (λ m n. command_refusal y m n ≡ command_refusal (command_of_transposed y) (row_count t) (col_count t)) (command_refusal-transposed (row_count t) (col_count t) y))
+      through_by Transpose (transposed_command y) y t
+      (at_cross t h (λ m n. command_refusal y m n ≡ command_refusal (transposed_command y) (row_count t) (col_count t)) (command_refusal-transposed (row_count t) (col_count t) y))
       (λ d none. rows_after-transposed d y t h (command_refusal-transposed (row_count t) (col_count t) y ∙ none))
       (reply_to-transposed y t h)
-      (at_cross t h (λ m n. takes_memory y m n ≡ takes_memory (command_of_transposed y) (row_count t) (col_count t)) (memory-transposed (row_count t) (col_count t) y (IsSize-table t h)))
+      (at_cross t h (λ m n. takes_memory y m n ≡ takes_memory (transposed_command y) (row_count t) (col_count t)) (memory-transposed (row_count t) (col_count t) y (IsSize-table t h)))
 
   -- a table stays one
   table-rows_after : (d : T) (x : CommandValue T) (t : List (List T)) → IsTable t → command_refusal x (row_count t) (col_count t) ≡ None → IsTable (rows_after d x t)

@@ -121,7 +121,7 @@ module _ {T : Type 0} where
 
   of-other : (t : List (List T)) → IsTable t → (r c : ℕ) (o : Option T) (i j : ℕ) → (i ≡ r → j ≢ c) → cell (with_cell_of t r c o) i j ≡ cell t i j
   of-other t h r c None i j ne = refl
-  of-other t h r c (Some w) i j ne = cell-with_other t h r c w i j ne
+  of-other t h r c (Some w) i j ne = cell-with_other t r c w i j ne
 
   some_cell : (t : List (List T)) → IsTable t → (r c : ℕ) → r < row_count t → c < col_count t → IsSome (cell t r c)
   some_cell t h r c lr lc = IsSome_within (row t r) c (omega (arith, h.even r lr))

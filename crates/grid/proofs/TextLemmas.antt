@@ -1,5 +1,5 @@
 -- Texts item by item and row by row.
-use Rattle.std.proofs.Common.{◌≡◌, ℕ, zero, suc, ◌+◌, ◌-◌, ◌^◌, ◌<◌, ◌≤◌, ℤ, pos, negsuc, List, [], ◌∷◌, ◌++◌, length, take, map, replicate, codes, refl, sym, ap, ◌∙◌, arith, add-one, append_assoc, append-nil, cond, ltb, max, true, false, ◌≢◌}
+use Rattle.std.proofs.Common.{◌≡◌, ℕ, zero, suc, ◌+◌, ◌-◌, ◌^◌, ◌<◌, ◌≤◌, ℤ, pos, negsuc, List, [], ◌∷◌, ◌++◌, length, take, map, replicate, codes, refl, sym, ap, ◌∙◌, arith, append_assoc, append-nil, cond, ltb, max, true, false, ◌≢◌}
 use Rattle.std.specs.Prelude.{Some, OnOk, is_ok, if◌then◌else◌}
 use Rattle.std.specs.declared.result.Result.{Result}
 use Rattle.std.specs.declared.result.Result.TheVariants.{Ok, Err}
@@ -12,11 +12,7 @@ use borrow.Author.Tests.{lt-ltb, le-ltb, ne_eqb}
 use Rattle.std.specs.Ordering.{ord_max, nat_cmp}
 use Rattle.grid_base.specs.Table.{row, row_count, col_count, IsTable, concat_rows}
 use Rattle.grid.specs.Texts.{numbers, longest, right_aligned, row_line, text_in_width}
-use Rattle.grid_base.proofs.ClosureLemmas.{take_at_suc}
-
--- one more item, which is the one at the next place
-pub take_next : {X : Type 0} (xs : List X) (i : ℕ) (x : X) → slice_get xs i ≡ Some x → take (i + 1) xs ≡ take i xs ++ x ∷ []
-take_next xs i x e = rw add-one (take_at_suc xs i x e)
+use Rattle.grid_base.proofs.ClosureLemmas.{take_next}
 
 pub length_before : {X : Type 0} (xs : List X) (i : ℕ) (x : X) → slice_get xs i ≡ Some x → length (take i xs) ≡ i
 length_before [] i x e = absurd (cc)

@@ -1,5 +1,5 @@
 -- A column edit as the row edit between two transposes.
-use Rattle.std.proofs.Common.{◌≡◌, ◌<◌, ◌≤◌, ℕ, List, length, refl, sym, ◌∙◌, ap, arith, inl, inr, ⊎_elim, Bool, true, false, IsTrue, ◌↔◌, ◌+◌, if◌then◌else◌, Result, Ok, Err, OnOk, OnErr}
+use Rattle.std.proofs.Common.{◌≡◌, ◌<◌, ◌≤◌, ℕ, List, length, refl, sym, ◌∙◌, ap, arith, inl, inr, ⊎_elim, Bool, true, false, IsTrue, ◌↔◌, ◌+◌, if◌then◌else◌, Result, Ok, Err, OnErr}
 use Rattle.std.specs.List.{insert, remove}
 use Rattle.std.proofs.lemmas.Bool.{cases_lt}
 use Rattle.grid.proofs.NoneTakenLemmas.{remove-past, without_cols-past}
@@ -15,15 +15,7 @@ use Rattle.grid.specs.Shift.{delete_rows_shift, delete_cols_shift}
 use Rattle.grid.proofs.EditViewLemmas.{put_line, take_line}
 use Rattle.grid.proofs.ColEditLemmas.{across-none, across-across, cols-across, insert_col-across, insert_cols-across, without_cols-across, ColumnFits, ColumnsFit}
 
--- a fact for each outcome follows from another
-pub on_ok : {V E : Type 0} (r : Result V E) {P Q : Type 0} → (P → Q) → OnOk r P → OnOk r Q
-on_ok (Ok v) f h = f h
-on_ok (Err e) f h = h
-
-pub on_err : {V E : Type 0} (r : Result V E) {P Q : Type 0} → (P → Q) → OnErr r P → OnErr r Q
-on_err (Ok v) f h = h
-on_err (Err e) f h = f h
-
+-- a fact that holds anyway holds for the outcome
 pub either_way : {V E : Type 0} (r : Result V E) {P : Type 0} → P → OnErr r P
 either_way (Ok v) h = tt
 either_way (Err e) h = h

@@ -5,33 +5,11 @@ use Rattle.grid_base.specs.declared.order.Order.{Order}
 use Rattle.grid_base.specs.declared.words.Symmetry.{Symmetry}
 use Rattle.grid_base.specs.declared.words.Symmetry.TheVariants.{Identity}
 use Rattle.grid_base.specs.Order.{flipped}
+use Rattle.grid_base.specs.Table.{row_count, col_count}
 use Rattle.grid_base.specs.Symmetry.{price, symmetry_of}
 use Rattle.grid_commands.specs.declared.command.Axis.{Axis}
 use Rattle.grid_commands.specs.declared.command.Axis.TheVariants.{Row, Col}
-use Rattle.grid_commands.specs.Command.{
-  Edit,
-  read,
-  push,
-  insert_at,
-  insert_all,
-  pop,
-  remove_at,
-  delete_at,
-  delete_range,
-  expand,
-  prepend,
-  CommandValue,
-  size,
-  get,
-  set_cell,
-  swap_cells,
-  lines,
-  fill,
-  clear,
-  apply,
-  line_count,
-  line_width,
-}
+use Rattle.grid_commands.specs.Command.{Edit, delete_at, delete_range, expand, prepend, CommandValue, lines, apply, line_count, line_width}
 use Rattle.grid_commands.specs.Refusal.{pad_refusal}
 use Rattle.grid.specs.Shift.{rows_added_shift, delete_rows_shift}
 
@@ -44,13 +22,8 @@ module _ {T : Type 0} where
   -- the symmetry that a command applies
   abbrev pub command_symmetry : CommandValue T → Symmetry
   command_symmetry (apply s) = s
-  command_symmetry size = Identity
-  command_symmetry (get r c) = Identity
-  command_symmetry (set_cell r c v) = Identity
-  command_symmetry (swap_cells p q) = Identity
-  command_symmetry (lines a e) = Identity
-  command_symmetry (fill v) = Identity
-  command_symmetry clear = Identity
+  -- every command but an apply
+  command_symmetry x = Identity
 
   -- the symmetry of a command list
   abbrev pub list_symmetry : List (CommandValue T) → Symmetry
@@ -69,20 +42,18 @@ module _ {T : Type 0} where
       then (if nat_eq count 0 then 0 else rows_added_shift o count width 0 k) else 0
   edit_shift o count width (delete_at i) = delete_rows_shift o count width i 1
   edit_shift o count width (delete_range i k) = delete_rows_shift o count width i k
-  edit_shift o count width (read i) = 0
-  edit_shift o count width (push line) = 0
-  edit_shift o count width (insert_at i line) = 0
-  edit_shift o count width (insert_all i ls) = 0
-  edit_shift o count width pop = 0
-  edit_shift o count width (remove_at i) = 0
+  -- a read, a push, an insert, a pop and a remove
+  edit_shift o count width e = 0
 
   -- of a command at a table of m rows and n columns
   abbrev pub step_shift : CommandValue T → Order → ℕ → ℕ → ℕ
   step_shift (lines a e) o m n = edit_shift (axis_order a o) (line_count a m n) (line_width a m n) e
-  step_shift size o m n = 0
-  step_shift (get r c) o m n = 0
-  step_shift (set_cell r c v) o m n = 0
-  step_shift (swap_cells p q) o m n = 0
-  step_shift (fill v) o m n = 0
-  step_shift clear o m n = 0
-  step_shift (apply s) o m n = 0
+  -- every command that is no edit of lines
+  step_shift x o m n = 0
+
+  -- what a command costs at a table, and how many cells it shifts there
+  abbrev pub price_at : CommandValue T → List (List T) → ℕ
+  price_at x t = step_price x (row_count t) (col_count t)
+
+  abbrev pub shift_at : CommandValue T → Order → List (List T) → ℕ
+  shift_at x o t = step_shift x o (row_count t) (col_count t)

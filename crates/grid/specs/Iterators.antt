@@ -6,7 +6,7 @@ use Rattle.std.specs.Borrow.{follows, Fml, RattleType, MutBor, Array}
 use Rattle.std.specs.Slice.Iter.{iter_mut_name}
 use Rattle.std.specs.declared.slice.IterMut.{IterMut}
 use Rattle.std.specs.declared.alloc.Allocator.{Ghosts}
-use Rattle.grid_base.specs.declared.flat.strides.GridLineIterMut.{GridLineIterMut}
+use Rattle.grid_base.specs.declared.flat.line_iter_mut.GridLineIterMut.{GridLineIterMut}
 use Rattle.grid_base.specs.declared.flat.indexed.IndexedIterMut.{IndexedIterMut}
 use Rattle.grid_base.specs.Table.{row_count, col_count}
 use Rattle.grid_base.specs.Order.{storage, place}

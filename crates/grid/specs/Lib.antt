@@ -16,7 +16,6 @@ pub mod AllCells
 pub mod Same
 pub mod Texts
 pub mod EditFails
-pub mod IndexedIterators
 pub mod Parts
 pub mod NearCounts
 pub mod NearMaps

@@ -15,15 +15,14 @@ use Rattle.std.specs.Prelude.{
   IsTrue,
 }
 use Rattle.grid_base.specs.declared.order.Order.{Order}
-use Rattle.grid_base.specs.Table.{row_count, col_count}
 use Rattle.grid_base.specs.GridValue.{GridValue}
 use Rattle.grid_base.specs.Symmetry.{order_after}
 use Rattle.grid_base.specs.Tally.{Counts, saturating_count}
 use Rattle.grid_base.specs.Clones.{ClonesAreEqual}
 use Rattle.grid_commands.specs.Command.{CommandValue}
 use Rattle.grid_commands.specs.Reply.{ReplyValue}
-use Rattle.grid.specs.Step.{step_rows, step_reply, takes_memory, RowsAreKnown}
-use Rattle.grid.specs.Cost.{command_symmetry, list_symmetry, step_price, step_shift}
+use Rattle.grid.specs.Step.{step_rows, step_reply, memory_at, RowsAreKnown}
+use Rattle.grid.specs.Cost.{command_symmetry, list_symmetry, price_at, shift_at}
 
 module _ {T : Type 0} where
   -- the table after a list of commands, where d is the cells' default
@@ -39,14 +38,14 @@ module _ {T : Type 0} where
   -- how many swaps for symmetries they cost, each at the table before it
   abbrev pub run_price : T → List (CommandValue T) → List (List T) → ℕ
   run_price d [] t = 0
-  run_price d (x ∷ xs) t = step_price x (row_count t) (col_count t)
+  run_price d (x ∷ xs) t = price_at x t
       + run_price d xs (step_rows d x t)
 
   -- how many shifts, each at the table and the order before it
   abbrev pub run_shift : T → List (CommandValue T) → Order → List (List T) → ℕ
   run_shift d [] o t = 0
   run_shift d (x ∷ xs) o t =
-      step_shift x o (row_count t) (col_count t)
+      shift_at x o t
       + run_shift d xs (order_after (command_symmetry x) o) (step_rows d x t)
 
   -- the rows and the counts that a run of these commands leaves, where d is the cells' default
@@ -75,4 +74,4 @@ module _ {T : Type 0} where
   MayStop commands finished t =
       ((finished ≡ 0) × (0 < length commands))
       ⊎ IsSomeAnd (slice_get commands finished)
-      (λ x. IsTrue (takes_memory x (row_count t) (col_count t)))
+      (λ x. IsTrue (memory_at x t))

@@ -117,11 +117,8 @@ module _ {T : Type 0} where
   edit_reply a (remove_at i) count t = line_is (line_at a i t)
   edit_reply a (delete_at i) count t = flag_is (nat_lt i count)
   edit_reply a (delete_range i k) count t = flag_is (not (nat_lt count (i + k)))
-  edit_reply a (push line) count t = done
-  edit_reply a (insert_at i line) count t = done
-  edit_reply a (insert_all i ls) count t = done
-  edit_reply a (expand k) count t = done
-  edit_reply a (prepend k) count t = done
+  -- a push, an insert and padding
+  edit_reply a e count t = done
 
   -- the table after a command that isn't refused
   abbrev pub rows_after : T → CommandValue T → List (List T) → List (List T)
@@ -139,12 +136,9 @@ module _ {T : Type 0} where
   abbrev pub reply_to : CommandValue T → List (List T) → ReplyValue T
   reply_to size t = size_is (row_count t) (col_count t)
   reply_to (get r c) t = cell_is (cell t r c)
-  reply_to (set_cell r c v) t = done
-  reply_to (swap_cells p q) t = done
   reply_to (lines a e) t = edit_reply a e (line_count a (row_count t) (col_count t)) t
-  reply_to (fill v) t = done
-  reply_to clear t = done
-  reply_to (apply s) t = done
+  -- a set, a swap, a fill, a clear and an apply
+  reply_to x t = done
 
   -- the plain step: the table after a command, where d is the cells' default, and its reply
   unfoldable pub step_rows : T → CommandValue T → List (List T) → List (List T)
@@ -178,36 +172,27 @@ module _ {T : Type 0} where
 
   -- whether a command takes memory at a table of m rows and n columns
   abbrev pub takes_memory : CommandValue T → ℕ → ℕ → Bool
-  takes_memory size m n = false
   takes_memory (get r c) m n = in_range m n (r, c)
-  takes_memory (set_cell r c v) m n = false
-  takes_memory (swap_cells p q) m n = false
   takes_memory (lines a e) m n = edit_takes_memory (line_count a m n) (line_width a m n) e
   takes_memory (fill v) m n = nat_lt 0 m
-  takes_memory clear m n = false
-  takes_memory (apply s) m n = false
+  -- a size, a set, a swap, a clear and an apply
+  takes_memory x m n = false
+
+  -- whether it does at a table
+  abbrev pub memory_at : CommandValue T → List (List T) → Bool
+  memory_at x t = takes_memory x (row_count t) (col_count t)
 
   -- what the rows after an edit of lines rest on: those after padding, that d is the one default
   abbrev pub EditIsKnown : (T → Type 0) → T → Edit T → Type 0
   EditIsKnown is_default d (expand k) = IsOnlyDefault is_default d
   EditIsKnown is_default d (prepend k) = IsOnlyDefault is_default d
-  EditIsKnown is_default d (read i) = ⊤
-  EditIsKnown is_default d (push line) = ⊤
-  EditIsKnown is_default d (insert_at i line) = ⊤
-  EditIsKnown is_default d (insert_all i ls) = ⊤
-  EditIsKnown is_default d pop = ⊤
-  EditIsKnown is_default d (remove_at i) = ⊤
-  EditIsKnown is_default d (delete_at i) = ⊤
-  EditIsKnown is_default d (delete_range i k) = ⊤
+  -- every edit but padding
+  EditIsKnown is_default d e = ⊤
 
   -- what the rows after a command rest on: besides, those after a fill, that clones equal their
   -- source
   abbrev pub RowsAreKnown : (T → Type 0) → (T → T → Type 0) → T → CommandValue T → Type 0
   RowsAreKnown is_default is_clone d (lines a e) = EditIsKnown is_default d e
   RowsAreKnown is_default is_clone d (fill v) = ClonesAreEqual is_clone
-  RowsAreKnown is_default is_clone d size = ⊤
-  RowsAreKnown is_default is_clone d (get r c) = ⊤
-  RowsAreKnown is_default is_clone d (set_cell r c v) = ⊤
-  RowsAreKnown is_default is_clone d (swap_cells p q) = ⊤
-  RowsAreKnown is_default is_clone d clear = ⊤
-  RowsAreKnown is_default is_clone d (apply s) = ⊤
+  -- every command but an edit of lines and a fill
+  RowsAreKnown is_default is_clone d x = ⊤

@@ -3,10 +3,11 @@
 //! A row edit sees the vector as lines of cells. A column edit is the row edit between two transposes, which move no
 //! cell.
 ghost use Rattle.std.specs.Prelude.{◌≡◌, ◌+◌, ◌-◌, ◌*◌, ◌^◌, ◌<◌, ◌≤◌, ◌↔◌, IsTrue};
-ghost use Rattle.grid.specs.RowGroups.{RowGroups};
+ghost use Rattle.grid.specs.RowGroups.{RowGroups, cols_if_rows};
 ghost use Rattle.grid.specs.Shift.{rows_added_shift};
 
 mod append;
+mod delete;
 mod insert;
 mod layout;
 mod pad;
@@ -24,7 +25,7 @@ use grid_base::{Groups, Order};
 //                                                column-major  [1 | 5 | 3] [2 | 6 | 4]
 fn row_groups(order: Order, rows: usize, cols: usize, at: usize, count: usize) -> Groups
     requires fits { (rows + count) * cols < 2 ^ 64 }
-    requires place { at ≤ rows }
+    requires point { at ≤ rows }
     ensures groups { RowGroups
         order rows cols at count result.lines result.width result.at result.count }
     ensures cells { result.lines * (result.width + result.count) ≡ (rows + count) * cols }
@@ -59,4 +60,11 @@ fn has_room(rows: usize, count: usize, width: usize) -> bool
         Some(more) => more.checked_mul(width).is_some(),
         None => false,
     }
+}
+
+// The number of columns of a grid with `rest` rows: 0 where there is no row.
+fn cols_if_rows(rest: usize, cols: usize) -> usize
+    ensures { result ≡ cols_if_rows rest cols }
+{
+    if rest == 0 { 0 } else { cols }
 }

@@ -36,19 +36,6 @@ impl<T, A: Allocator> Model for Grid<T, A> {
     ghost view = { λ g. grid_value g.order g.row_count g.col_count g.flat g.fits };
 }
 
-// Returns the place in the storage of the cell in a row and a column.
-fn place(order: Order, rows: usize, cols: usize, row: usize, col: usize) -> usize
-    requires fits { rows * cols < 2 ^ 64 }
-    requires row_in { row < rows }
-    requires col_in { col < cols }
-    ensures { result ≡ place order rows cols row col }
-{
-    match order {
-        Order::RowMajor => row * cols + col,
-        Order::ColumnMajor => col * rows + row,
-    }
-}
-
 // The numbers of rows and columns of `len` cells that are cut into rows of `cols`.
 fn size_of_cut(len: usize, cols: usize) -> (usize, usize)
     requires { CanCut len cols }
@@ -177,8 +164,9 @@ impl<T, A: Allocator> Grid<T, A> {
         ensures cell { option_copied result ≡ cell self.now.rows row col }
         ensures in_range { IfSome result (λ _. InRange self.now.rows row col) }
     {
-        if row < self.row_count && col < self.col_count {
-            Some(self.flat.at(place(self.order, self.row_count, self.col_count, row, col)))
+        let (rows, cols) = self.size();
+        if row < rows && col < cols {
+            Some(self.get_unchecked(row, col))
         } else {
             None
         }
@@ -212,7 +200,8 @@ impl<T, A: Allocator> Grid<T, A> {
         requires { InRange self.now.rows row col }
         ensures { cell self.now.rows row col ≡ Some result.now }
     {
-        self.flat.at(place(self.order, self.row_count, self.col_count, row, col))
+        let place = self.order.place(self.row_count, self.col_count, row, col);
+        self.flat.at(place)
     }
 
     /// Returns the cell in a row and a column, for writing. The other cells stay.
@@ -227,7 +216,7 @@ impl<T, A: Allocator> Grid<T, A> {
             (lends_cell T.row A.row A.Allocator self.entry row col result) }
         ensures item { cell self.old.rows row col ≡ Some result.now }
     {
-        let place = place(self.order, self.row_count, self.col_count, row, col);
+        let place = self.order.place(self.row_count, self.col_count, row, col);
         self.flat.at_mut(place)
     }
 
@@ -272,8 +261,8 @@ impl<T, A: Allocator> Grid<T, A> {
         ensures col_count { col_count self.new.rows ≡ col_count self.old.rows }
         ensures order { self.new.order ≡ self.old.order }
     {
-        let i = place(self.order, self.row_count, self.col_count, a.0, a.1);
-        let j = place(self.order, self.row_count, self.col_count, b.0, b.1);
+        let i = self.order.place(self.row_count, self.col_count, a.0, a.1);
+        let j = self.order.place(self.row_count, self.col_count, b.0, b.1);
         self.flat.swap(i, j);
     }
 

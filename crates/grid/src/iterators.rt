@@ -1,5 +1,5 @@
-//! Iterators over the cells of a grid, over one row or column, and over the rows and the columns. An iterator is
-//! called an iterator here. No iterator takes memory, and each may be dropped early.
+//! Iterators over the cells of a grid, over one row or column, and over the rows and the columns. No iterator takes
+//! memory, and each may be dropped early.
 ghost use Rattle.std.specs.Prelude.{◌≡◌, ◌^◌, ◌<◌, length, zip};
 ghost use Rattle.std.specs.Borrow.{sem};
 ghost use Rattle.std.specs.Iterator.Runs.{YieldsInOrder, YieldsInReverse, YieldsRefsInOrder, YieldsRefsInReverse, YieldsMutRefsInOrder, YieldsMutRefsInReverse};
@@ -9,9 +9,8 @@ ghost use Rattle.grid_base.specs.Table.{row_count, col_count};
 ghost use Rattle.grid_base.specs.Order.{storage};
 ghost use Rattle.grid_base.specs.Positions.{positions};
 ghost use Rattle.grid_base.specs.IndexedIterMut.{indexed_mut_rest};
-ghost use Rattle.grid.specs.IndexedIterators.{GivesCells, GivesOwnedCells, GivesMutCells};
+ghost use Rattle.grid_base.specs.IndexedIterators.{GivesCells, GivesOwnedCells, GivesMutCells};
 
-mod all_cells;
 mod lines;
 
 use crate::Grid;

@@ -33,6 +33,7 @@
 //! - commands as data: [`Command`], `step`, [`run`]
 #![tactic(auto)]
 
+mod all_cells;
 mod command;
 mod convert;
 mod display;

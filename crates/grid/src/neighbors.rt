@@ -3,12 +3,12 @@ ghost use Rattle.std.specs.Prelude.{◌≡◌, ◌≤◌, length, IfOk};
 ghost use Rattle.grid_base.specs.Table.{row_count, col_count, InRange};
 ghost use Rattle.grid.specs.AllCells.{TabulatedBy, AnsweredBy};
 ghost use Rattle.grid.specs.NearMaps.{CallableRound, ReturnsRound, ReachesRound};
-ghost use Rattle.grid.specs.IndexedIterators.{GivesCells};
+ghost use Rattle.grid_base.specs.IndexedIterators.{GivesCells};
 ghost use Rattle.grid.specs.NearCounts.{CallableNear, IsCountNear, MayCount};
 ghost use Rattle.grid_near.specs.Neighbors.{neighbors4, neighbors8, wrapped_neighbors4, wrapped_neighbors8, CellsInOrder, PositionsInOrder};
 
 use crate::Grid;
-use grid_near::{Neighbors, WrappedNeighbors};
+use grid_near::{Neighbors, Steps, WrappedNeighbors};
 use std::alloc::{AllocError, Allocator};
 
 impl<T, A: Allocator> Grid<T, A> {
@@ -28,7 +28,7 @@ impl<T, A: Allocator> Grid<T, A> {
         ensures positions { PositionsInOrder T }
     {
         let size = (self.row_count, self.col_count);
-        grid_near::neighbors4(self.flat.as_slice(), self.order, size, at)
+        grid_near::neighbors_of(self.flat.as_slice(), self.order, size, at, Steps::Sides)
     }
 
     /// Returns an iterator over the cells that touch the cell at this position, at a side or a corner, row by row, each with
@@ -47,7 +47,7 @@ impl<T, A: Allocator> Grid<T, A> {
         ensures positions { PositionsInOrder T }
     {
         let size = (self.row_count, self.col_count);
-        grid_near::neighbors8(self.flat.as_slice(), self.order, size, at)
+        grid_near::neighbors_of(self.flat.as_slice(), self.order, size, at, Steps::All)
     }
 
     /// Same as [`neighbors4`](Grid::neighbors4), on a grid whose edges meet: the last row is above the first, and the last
@@ -66,7 +66,7 @@ impl<T, A: Allocator> Grid<T, A> {
         ensures positions { PositionsInOrder T }
     {
         let size = (self.row_count, self.col_count);
-        grid_near::wrapped_neighbors4(self.flat.as_slice(), self.order, size, at)
+        grid_near::wrapped_neighbors_of(self.flat.as_slice(), self.order, size, at, Steps::Sides)
     }
 
     /// Same as [`neighbors8`](Grid::neighbors8), on a grid whose edges meet: the last row is above the first, and the last
@@ -86,7 +86,7 @@ impl<T, A: Allocator> Grid<T, A> {
         ensures positions { PositionsInOrder T }
     {
         let size = (self.row_count, self.col_count);
-        grid_near::wrapped_neighbors8(self.flat.as_slice(), self.order, size, at)
+        grid_near::wrapped_neighbors_of(self.flat.as_slice(), self.order, size, at, Steps::All)
     }
 
     /// Same as [`map_neighbors8`](Grid::map_neighbors8), with the iterator that [`neighbors4`](Grid::neighbors4) gives.

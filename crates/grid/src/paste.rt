@@ -8,7 +8,6 @@ use crate::Grid;
 use crate::exchange::exchange_part;
 use grid_view::GridView;
 use std::alloc::{AllocError, Allocator};
-use std::mem;
 
 // Returns which cells of a line of `len` cells lie over `limit` numbers, where the first lies over a signed number: how many
 // come before them, over which number the first of them lies, and how many there are.

@@ -33,7 +33,7 @@ impl<T, A: Allocator> Grid<T, A> {
             ≡ storage self.old.order self.old.rows }
     {
         mem::swap(&mut self.row_count, &mut self.col_count);
-        self.order = flipped(self.order);
+        self.order = self.order.flipped();
     }
 
     /// Reverses the order of the rows. The order of the storage stays.
@@ -149,7 +149,8 @@ impl<T, A: Allocator> Grid<T, A> {
         self.flip_counted(rows, cols, tally);
     }
 
-    // Flips the rows, the columns, or both in one pass.
+    // Flips the rows, the columns, or both in one pass. Columns are the rows of the transposed table, which the same vector
+    // stores in the other order.
     fn flip_counted(&mut self, rows: bool, cols: bool, tally: &mut Tally)
         ensures rows { self.new.rows ≡ act (from_flags false rows cols) self.old.rows }
         ensures order { self.new.order ≡ self.old.order }
@@ -159,61 +160,19 @@ impl<T, A: Allocator> Grid<T, A> {
     {
         match (rows, cols) {
             (false, false) => {}
-            (true, false) => self.flip_rows_counted(tally),
-            (false, true) => self.flip_cols_counted(tally),
-            (true, true) => self.rotate_half_counted(tally),
+            (true, false) => {
+                let (order, rows, cols) = (self.order, self.row_count, self.col_count);
+                flip_stored(&mut self.flat, order, rows, cols, tally);
+            }
+            (false, true) => {
+                let (order, rows, cols) = (self.order.flipped(), self.col_count, self.row_count);
+                flip_stored(&mut self.flat, order, rows, cols, tally);
+            }
+            (true, true) => {
+                let len = self.row_count * self.col_count;
+                self.flat.reverse_for_symmetry(0, len, tally);
+            }
         }
-    }
-
-    // As `flip_rows`, and adds the swaps to the symmetry count of the tally.
-    fn flip_rows_counted(&mut self, tally: &mut Tally)
-        ensures rows { self.new.rows ≡ act FlipRows self.old.rows }
-        ensures order { self.new.order ≡ self.old.order }
-        ensures symmetry { tally.new.symmetry ≡ saturating_count tally.old.symmetry
-            (price FlipRows (row_count self.old.rows) (col_count self.old.rows)) }
-        ensures shift { tally.new.shift ≡ tally.old.shift }
-    {
-        flip_stored(
-            &mut self.flat,
-            self.order,
-            self.row_count,
-            self.col_count,
-            tally,
-        );
-    }
-
-    // As `flip_cols`, and adds the swaps to the symmetry count of the tally.
-    fn flip_cols_counted(&mut self, tally: &mut Tally)
-        ensures rows { self.new.rows ≡ act FlipCols self.old.rows }
-        ensures order { self.new.order ≡ self.old.order }
-        ensures symmetry { tally.new.symmetry ≡ saturating_count tally.old.symmetry
-            (price FlipCols (row_count self.old.rows) (col_count self.old.rows)) }
-        ensures shift { tally.new.shift ≡ tally.old.shift }
-    {
-        let order = flipped(self.order);
-        flip_stored(&mut self.flat, order, self.col_count, self.row_count, tally);
-    }
-
-    // As `rotate_half`, and adds the swaps to the symmetry count of the tally.
-    fn rotate_half_counted(&mut self, tally: &mut Tally)
-        ensures rows { self.new.rows ≡ act RotateHalf self.old.rows }
-        ensures order { self.new.order ≡ self.old.order }
-        ensures symmetry { tally.new.symmetry ≡ saturating_count tally.old.symmetry
-            (price RotateHalf (row_count self.old.rows) (col_count self.old.rows)) }
-        ensures shift { tally.new.shift ≡ tally.old.shift }
-    {
-        let len = self.row_count * self.col_count;
-        self.flat.reverse_for_symmetry(0, len, tally);
-    }
-}
-
-// Returns the other order. In it the same vector stores the transposed table.
-pub(crate) fn flipped(order: Order) -> Order
-    ensures { result ≡ flipped order }
-{
-    match order {
-        Order::RowMajor => Order::ColumnMajor,
-        Order::ColumnMajor => Order::RowMajor,
     }
 }
 

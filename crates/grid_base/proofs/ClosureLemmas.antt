@@ -1,7 +1,8 @@
 -- Closures, call by call.
-use Rattle.std.proofs.Common.{◌≡◌, ℕ, zero, suc, ◌+◌, Some, List, [], ◌∷◌, ◌++◌, map, refl, sym, subst, ◌∙◌, ap, length, take, arith, add-one}
-use Rattle.std.proofs.lemmas.List.{length-append}
-use Rattle.std.proofs.Math.Seq.{get_or-append_seam}
+use Rattle.std.proofs.Common.{◌≡◌, ℕ, ◌+◌, Some, List, [], ◌∷◌, ◌++◌, map, refl, sym, subst, ◌∙◌, ap, length, take, arith}
+use Rattle.std.proofs.lemmas.List.{length-append, take_more}
+use Rattle.std.proofs.Math.Seq.{get_or-append_seam, take-append_seam}
+use Rattle.std.proofs.lemmas.Option.{slice_get_within, get_or_from_slice_get}
 use Rattle.std.specs.List.{FoldsTo, AllZip, slice_get}
 use denote.Ref.{Bor}
 use Rattle.grid_base.specs.ClosureCalls.{MapsThrough, MapsTo, PairsUp, CallableAtEach, CallableAtCells, CallableAtItems}
@@ -44,17 +45,13 @@ answers_pure {step = step} {f} {xs} {ys} r h k = answers_map step h k f r.last x
 pub pairs_pure : {A B : Type 0} {R : A → B → Type 0} {xs : List A} {ys : List B} → PairsUp R xs ys → (h : A → B) → ((x : A) (y : B) → R x y → y ≡ h x) → ys ≡ map h xs
 pairs_pure {R = R} {xs} {ys} r h k = zips_map R h k xs ys r.places
 
-take_seam : {A : Type 0} (xs ys : List A) → take (length xs) (xs ++ ys) ≡ xs
-take_seam [] ys = refl
-take_seam (x ∷ xs) ys = ap (λ l. x ∷ l) (take_seam xs ys)
-
 module _ {F A B : Type 0} (takes : F → A → Type 0) (step : F → A → B → F → Type 0) (f : F) where
   -- the closure can be called at the item after those that it answered
   pub callable_next : (g : F) (xs done rest : List A) (x : A) (ys : List B) → CallableAtEach takes step f xs → done ++ x ∷ rest ≡ xs → MapsThrough step f done ys g → takes g x
   callable_next g xs done rest x ys h is a =
       let whole : CallableAtEach takes step f (done ++ x ∷ rest) = subst (CallableAtEach takes step f) (sym is) h in
       whole.at (length done) x ys g (omega (arith, length-append done (x ∷ rest))) (sym (get_or-append_seam done x rest x))
-      (subst (λ l. MapsThrough step f l ys g) (sym (take_seam done (x ∷ rest))) a)
+      (subst (λ l. MapsThrough step f l ys g) (sym (take-append_seam done (x ∷ rest))) a)
 
 -- the closure can be called at the item after those that it answered, where no call changes it
 pub callable_item : {F A : Type 0} (takes : F → A → Type 0) (f : F) (xs done rest : List A) (x : A) → CallableAtItems takes f xs → done ++ x ∷ rest ≡ xs → takes f x
@@ -75,23 +72,12 @@ AllZip-length R [] (b ∷ ys) a = absurd a
 AllZip-length R (c ∷ xs) [] a = absurd a
 AllZip-length R (c ∷ xs) (b ∷ ys) a = omega (arith, AllZip-length R xs ys a.1)
 
--- a whole list, cut where it ends
-pub take_whole : {A : Type 0} (n : ℕ) (xs : List A) → length xs ≡ n → take n xs ≡ xs
-take_whole zero [] h = refl
-take_whole zero (x ∷ xs) h = absurd (omega arith)
-take_whole (suc n) [] h = absurd (omega arith)
-take_whole (suc n) (x ∷ xs) h = ap (λ l. x ∷ l) (take_whole n xs (omega arith))
-
-pub take_front : {A : Type 0} (n : ℕ) (xs ys : List A) → length xs ≡ n → take n (xs ++ ys) ≡ xs
-take_front n xs ys h = ap (λ k. take k (xs ++ ys)) (sym h) ∙ take_seam xs ys
-
-pub take_at_suc : {X : Type 0} (xs : List X) (k : ℕ) (x : X) → slice_get xs k ≡ Some x → take (suc k) xs ≡ take k xs ++ x ∷ []
-take_at_suc [] k x h = cc
-take_at_suc (y ∷ xs) zero x h = let same : y ≡ x = cc in ap (λ z. z ∷ []) same
-take_at_suc (y ∷ xs) (suc k) x h = ap (λ l. y ∷ l) (take_at_suc xs k x h)
+-- one more item, by its number
+pub take_next : {X : Type 0} (xs : List X) (k : ℕ) (x : X) → slice_get xs k ≡ Some x → take (k + 1) xs ≡ take k xs ++ x ∷ []
+take_next xs k x h =
+    take_more xs k x (slice_get_within xs k x h) ∙ ap (λ z. take k xs ++ z ∷ []) (get_or_from_slice_get xs k x x h)
 
 -- one more answer, to the item after those that were answered
 pub answers_more : {A B : Type 0} (R : A → B → Type 0) (xs : List A) (n : ℕ) (ys : List B) (x : A) (y : B) → slice_get xs n ≡ Some x → AllZip R (take n xs) ys → R x y → AllZip R (take (n + 1) xs) (ys ++ y ∷ [])
 answers_more R xs n ys x y h a r =
-    let e : take (n + 1) xs ≡ take n xs ++ x ∷ [] = rw add-one (take_at_suc xs n x h) in
-    rw e (AllZip-append R (take n xs) ys x y a r)
+    rw (take_next xs n x h) (AllZip-append R (take n xs) ys x y a r)

@@ -8,7 +8,7 @@ use Rattle.grid_base.specs.Table.{row, row_count, col_count, cell, concat_rows, 
 use Rattle.grid_base.specs.Order.{storage}
 use Rattle.grid_base.specs.declared.order.Order.TheVariants.{ColumnMajor}
 use Rattle.grid_base.specs.Gather.{items_of_each, last_of, before_last}
-use Rattle.grid_base.proofs.TableLemmas.{IsFull, IsFull-cells, rows-tabulate, width-tabulate, cell-tabulate, same_cells}
+use Rattle.grid_base.proofs.TableLemmas.{IsFull, IsFull-cells, width-tabulate, cell-tabulate, same_cells, rows-transposed}
 
 module _ {T : Type 0} where
   -- the first i lines have each given its part f, and are left as g says
@@ -188,9 +188,6 @@ module _ {T : Type 0} where
     longer : (c : ℕ) → c < col_count t → Longer c t
     longer c lt r lr = omega (arith, h.even r lr)
 
-    pub columns : length (transposed t) ≡ col_count t
-    columns = rows-tabulate (col_count t) (row_count t) (λ c r. cell t r c)
-
     pub column_length : (c : ℕ) → c < col_count t → length (flat_map last_of (left_over c t)) ≡ row_count t
     column_length c lt = length-lasts c t (longer c lt)
 
@@ -207,7 +204,7 @@ module _ {T : Type 0} where
 
     pub columns_given : (c : ℕ) (start cells more : List T) → c < col_count t → cells ≡ start ++ concat_rows (take c (transposed t)) → more ≡ cells ++ flat_map last_of (left_over c t) → more ≡ start ++ concat_rows (take (c + 1) (transposed t))
     columns_given c start cells more lt e k =
-        let next : take (c + 1) (transposed t) ≡ take c (transposed t) ++ row (transposed t) c ∷ [] = take_more (transposed t) c [] (omega (arith, columns)) in
+        let next : take (c + 1) (transposed t) ≡ take c (transposed t) ++ row (transposed t) c ∷ [] = take_more (transposed t) c [] (omega (arith, rows-transposed t)) in
         k
         ∙ (ap (λ xs. xs ++ flat_map last_of (left_over c t)) e
         ∙ (append_assoc start (concat_rows (take c (transposed t))) (flat_map last_of (left_over c t))
@@ -217,7 +214,7 @@ module _ {T : Type 0} where
         ∙ (flat_map-append (λ r. r) (take c (transposed t)) (row (transposed t) c ∷ []) ∙ ap (λ xs. concat_rows (take c (transposed t)) ++ xs) (append-nil (row (transposed t) c)))))))
 
     pub columns_done : (c : ℕ) (start cells : List T) → col_count t ≤ c → cells ≡ start ++ concat_rows (take c (transposed t)) → cells ≡ start ++ storage ColumnMajor t
-    columns_done c start cells le e = e ∙ ap (λ u. start ++ concat_rows u) (take_all c (transposed t) (omega (arith, columns)))
+    columns_done c start cells le e = e ∙ ap (λ u. start ++ concat_rows u) (take_all c (transposed t) (omega (arith, rows-transposed t)))
 
     pub lines_done : (c : ℕ) → col_count t ≤ c → left_over c t ≡ map (λ r. []) t
     lines_done c le = all_gone c t (λ r lt. omega (arith, h.even r lt))

@@ -1,7 +1,8 @@
 -- The positions of a table's cells, one after another.
-use Rattle.std.proofs.Common.{◌≡◌, ℕ, zero, suc, ◌+◌, ◌*◌, ◌-◌, ◌/◌, ◌%◌, ◌<◌, ◌≤◌, ⊎_elim, Option, Some, List, [], ◌∷◌, length, drop, refl, sym, subst, ◌∙◌, ap, arith, add-one, length-drop}
+use Rattle.std.proofs.Common.{◌≡◌, ℕ, zero, suc, ◌+◌, ◌*◌, ◌-◌, ◌/◌, ◌%◌, ◌<◌, ◌≤◌, ⊎_elim, Option, Some, List, [], ◌∷◌, length, drop, refl, sym, subst, ◌∙◌, ap, arith, length-drop}
 use Rattle.std.specs.List.{slice_get}
-use Rattle.std.proofs.lemmas.List.{drop_all}
+use Rattle.std.proofs.lemmas.List.{drop_all, drop_more}
+use Rattle.std.proofs.lemmas.Option.{slice_get_within, get_or_from_slice_get}
 use Rattle.std.proofs.lemmas.Nat.{div_below, mod_below, div-add-mod'}
 use Rattle.std.proofs.Math.Nat.{mul_comm}
 use Rattle.grid_base.specs.declared.order.Order.{Order}
@@ -41,14 +42,10 @@ get-places o m n r c z lr lc =
     ∙ (get-storage o t r c (IsTable-tabulate m n _ z (all_there m n)) (omega arith) (omega arith)
     ∙ cell-tabulate m n pair_at r c (all_there m n) lr lc)
 
-drop_at_suc : {X : Type 0} (xs : List X) (k : ℕ) (x : X) → slice_get xs k ≡ Some x → drop k xs ≡ x ∷ drop (suc k) xs
-drop_at_suc [] k x h = cc
-drop_at_suc (y ∷ xs) zero x h = let same : y ≡ x = cc in ap (λ z. z ∷ xs) same
-drop_at_suc (y ∷ xs) (suc k) x h = drop_at_suc xs k x h
-
 -- what is left from a position on that holds x
-pub drop_from : {X : Type 0} (xs : List X) (k : ℕ) (x : X) → slice_get xs k ≡ Some x → drop k xs ≡ x ∷ drop (k + 1) xs
-drop_from xs k x h = rw add-one (drop_at_suc xs k x h)
+drop_from : {X : Type 0} (xs : List X) (k : ℕ) (x : X) → slice_get xs k ≡ Some x → drop k xs ≡ x ∷ drop (k + 1) xs
+drop_from xs k x h =
+    drop_more xs k x (slice_get_within xs k x h) ∙ ap (λ z. z ∷ drop (k + 1) xs) (get_or_from_slice_get xs k x x h)
 
 -- no position lies past the last
 pub within-places : (o : Order) (m n r c : ℕ) → StandsAt o m n r c → place o m n r c ≤ m * n

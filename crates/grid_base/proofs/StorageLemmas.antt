@@ -78,8 +78,15 @@ place_within RowMajor m n r c lr lc = omega (arith, mul-add-lt r n c m lr lc)
 place_within ColumnMajor m n r c lr lc = omega (arith, mul-add-lt c m r n lc lr)
 
 -- a table of m rows and n columns that is cut from its cells
-pub IsFull-table_of : {T : Type 0} (o : Order) (m n : ℕ) (cells : List T) → length cells ≡ m * n → IsFull m n (λ r c. slice_get cells (place o m n r c))
-IsFull-table_of o m n cells e = record { full = λ r c lr lc. IsSome_within cells _ (omega (arith, place_within o m n r c lr lc)) }
+module _ {T : Type 0} (o : Order) (m n : ℕ) (cells : List T) (e : length cells ≡ m * n) where
+  pub IsFull-table_of : IsFull m n (λ r c. slice_get cells (place o m n r c))
+  IsFull-table_of = record { full = λ r c lr lc. IsSome_within cells _ (omega (arith, place_within o m n r c lr lc)) }
+
+  pub width-table_of : (r : ℕ) → r < m → length (row (table_of o m n cells) r) ≡ n
+  width-table_of r lr = width-tabulate m n _ r IsFull-table_of lr
+
+  pub cell-table_of : (r c : ℕ) → r < m → c < n → cell (table_of o m n cells) r c ≡ slice_get cells (place o m n r c)
+  cell-table_of r c lr lc = cell-tabulate m n _ r c IsFull-table_of lr lc
 
 -- each place below m * n is the place of one cell
 pub record HasPlace (o : Order) (m n k : ℕ) : Type 0 where

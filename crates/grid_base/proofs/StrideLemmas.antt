@@ -13,6 +13,7 @@ use Rattle.std.specs.declared.option.Option.{Option}
 use Rattle.std.specs.Borrow.{Bor}
 use Rattle.std.proofs.lemmas.Option.{unwrap_or-slice_get}
 use Rattle.grid_base.specs.Strides.{every, strided, strided_remaining, IsLine, LinesInOrder, LinesInReverse, EachLineInOrder, EachLineInReverse}
+use Rattle.grid_base.proofs.StorageLemmas.{get-take, get-drop}
 use Rattle.grid_base.proofs.RemainingLemmas.{remaining_all, remaining_next, remaining_next_back}
 
 -- ---- an iterator for writing
@@ -75,18 +76,6 @@ line_step n (y ∷ ys) x p e =
 -- ---- where the cells of a line come from
 
 module _ {X : Type 0} where
-  get-take : (m i : ℕ) (xs : List X) → i < m → slice_get (take m xs) i ≡ slice_get xs i
-  get-take zero i xs h = absurd (omega arith)
-  get-take (suc m) i [] h = refl
-  get-take (suc m) zero (x ∷ xs) h = refl
-  get-take (suc m) (suc i) (x ∷ xs) h = get-take m i xs (omega arith)
-
-  get-drop : (s i j : ℕ) (xs : List X) → j ≡ s + i → slice_get (drop s xs) i ≡ slice_get xs j
-  get-drop zero i j xs e = let same : i ≡ j = omega arith in ap (slice_get xs) same
-  get-drop (suc s) i j [] e = refl
-  get-drop (suc s) i zero (x ∷ xs) e = absurd (omega arith)
-  get-drop (suc s) i (suc j) (x ∷ xs) e = get-drop s i j xs (omega arith)
-
   get-every : (xs : List X) (k g j i : ℕ) → i ≡ k + j * (g + 1) → slice_get (every k g xs) j ≡ slice_get xs i
   get-every [] k g j i e = refl
   get-every (x ∷ xs) zero g zero zero e = refl
@@ -100,7 +89,7 @@ module _ {X : Type 0} where
   get-strided start end stride k xs p h =
       let one : stride ≡ stride - 1 + 1 = omega arith in
       get-every (take (end - start) (drop start xs)) 0 (stride - 1) k (k * stride) (omega (arith, ap (λ x. k * x) one))
-      ∙ (get-take (end - start) (k * stride) (drop start xs) (omega arith) ∙ get-drop start (k * stride) (start + k * stride) xs refl)
+      ∙ (get-take (end - start) (drop start xs) (k * stride) (omega arith) ∙ get-drop start xs (start + k * stride) (k * stride) refl)
 
   pub length-line_of : (start end stride : ℕ) (xs : List X) → 0 < stride → end ≤ length xs → length (strided start end stride xs) ≡ div_ceil (end - start) stride
   length-line_of start end stride xs p h =
@@ -175,7 +164,7 @@ every_one stride xs e = rw e (every_all xs)
 pub nth_found : {X : Type 0} (n : ℕ) (xs mid rest : List X) (r : Option (Bor X)) → mid ≡ drop n xs → YieldsFirstRef (λ (l : List X). l) mid r rest → (option_copied r ≡ slice_get xs n) × (rest ≡ drop (n + 1) xs)
 nth_found n xs mid rest None e h =
     let l : [] ≡ drop n xs = sym h.0 ∙ e in
-    (ap (λ l. slice_get l 0) l ∙ get-drop n 0 n xs (omega arith), h.1 ∙ (ap (drop 1) l ∙ drop-drop 1 n xs))
+    (ap (λ l. slice_get l 0) l ∙ get-drop n xs n 0 (omega arith), h.1 ∙ (ap (drop 1) l ∙ drop-drop 1 n xs))
 nth_found n xs mid rest (Some x) e h =
     let l : x.now ∷ rest ≡ drop n xs = sym h ∙ e in
-    (ap (λ l. slice_get l 0) l ∙ get-drop n 0 n xs (omega arith), ap (drop 1) l ∙ drop-drop 1 n xs)
+    (ap (λ l. slice_get l 0) l ∙ get-drop n xs n 0 (omega arith), ap (drop 1) l ∙ drop-drop 1 n xs)

@@ -1,12 +1,13 @@
 -- Lemmas on tables that are given by their cells.
-use Rattle.std.proofs.Common.{◌≡◌, ℕ, zero, suc, ◌+◌, ◌<◌, ◌≤◌, Option, Some, None, List, [], ◌∷◌, length, refl, sym, ◌∙◌, ap, arith, IsSome, is_some}
+use Rattle.std.proofs.Common.{◌≡◌, ℕ, zero, suc, ◌+◌, ◌<◌, ◌≤◌, Option, Some, None, List, [], ◌∷◌, length, refl, sym, ◌∙◌, ap, arith, ⊎_elim, IsSome, is_some}
 use Rattle.std.specs.List.{filter_map, range_with_len, slice_get, cons_option}
 use Rattle.std.proofs.lemmas.List.{get_or_past, ext_get_or}
 use Rattle.std.proofs.lemmas.List.FromFn.{length-map-range_with_len, get_or-map-range_with_len}
-use Rattle.std.proofs.lemmas.Option.{slice_get_past}
-use Rattle.grid_base.specs.Table.{row, row_count, col_count, cell, IsTable, IsSize, cells_by, tabulate}
+use Rattle.std.proofs.lemmas.Option.{slice_get_past, slice_get_within}
+use Rattle.std.proofs.lemmas.Bool.{cases_lt}
+use Rattle.grid_base.specs.Table.{row, row_count, col_count, cell, IsTable, IsSize, cells_by, tabulate, transposed, InRange}
 
-length_cons : {T : Type 0} (o : Option T) (xs : List T) → IsSome o → length (cons_option o xs) ≡ suc (length xs)
+pub length_cons : {T : Type 0} (o : Option T) (xs : List T) → IsSome o → length (cons_option o xs) ≡ suc (length xs)
 length_cons None xs h = cc
 length_cons (Some x) xs h = refl
 
@@ -59,6 +60,9 @@ pub rows-tabulate : {T : Type 0} (m n : ℕ) (f : ℕ → ℕ → Option T) → 
 unfolding tabulate
 rows-tabulate m n f = length-map-range_with_len _ 0 m
 
+pub rows-transposed : {T : Type 0} (t : List (List T)) → row_count (transposed t) ≡ col_count t
+rows-transposed t = rows-tabulate (col_count t) (row_count t) (λ c r. cell t r c)
+
 pub row-tabulate : {T : Type 0} (m n : ℕ) (f : ℕ → ℕ → Option T) (r : ℕ) → r < m → row (tabulate m n f) r ≡ cells_by n (f r)
 unfolding tabulate
 row-tabulate m n f r lt = get_or-map-range_with_len (λ r. cells_by n (f r)) 0 m r r [] lt (omega arith)
@@ -88,13 +92,10 @@ pub zero_by : (n : ℕ) → (0 < n → 0 < 0) → 0 ≡ n
 zero_by zero h = refl
 zero_by (suc n) h = absurd (omega (arith, h (omega arith)))
 
-cols_by_rows : {T : Type 0} (m n : ℕ) (f : ℕ → ℕ → Option T) → IsSize m n → IsFull m n f → col_count (tabulate m n f) ≡ n
-unfolding tabulate
-cols_by_rows zero n f s h = zero_by n s.has_rows
-cols_by_rows (suc m) n f s h = width-tabulate (suc m) n f 0 h (omega arith)
-
 pub cols-tabulate : {T : Type 0} (m n : ℕ) (f : ℕ → ℕ → Option T) → IsSize m n → IsFull m n f → col_count (tabulate m n f) ≡ n
-cols-tabulate m n f s h = cols_by_rows m n f s h
+unfolding tabulate
+cols-tabulate zero n f s h = zero_by n s.has_rows
+cols-tabulate (suc m) n f s h = width-tabulate (suc m) n f 0 h (omega arith)
 
 pub IsTable-tabulate : {T : Type 0} (m n : ℕ) (f : ℕ → ℕ → Option T) → IsSize m n → IsFull m n f → IsTable (tabulate m n f)
 IsTable-tabulate m n f s h =
@@ -133,3 +134,18 @@ cell_past_cols m n f r c h lr lc = slice_get_past (row (tabulate m n f) r) c (om
 
 pub cell_past_rows : {T : Type 0} (t : List (List T)) (r c : ℕ) → length t ≤ r → cell t r c ≡ None
 cell_past_rows t r c h = ap (λ x. slice_get x c) (get_or_past t r [] h)
+
+-- a table has no cell past its columns, and a position with a cell is in range
+pub past_cols : {T : Type 0} (t : List (List T)) → IsTable t → (r c : ℕ) → col_count t ≤ c → cell t r c ≡ None
+past_cols t h r c le =
+    ⊎_elim (λ lt. slice_get_past (row t r) c (omega (arith, h.even r lt))) (λ ge. cell_past_rows t r c ge) (cases_lt r (row_count t))
+
+pub cell_in_range : {T : Type 0} (t : List (List T)) → IsTable t → (r c : ℕ) (x : T) → cell t r c ≡ Some x → InRange t r c
+cell_in_range {T} t h r c x e =
+    ⊎_elim (λ lt.
+    let low : c < length (row t r) = slice_get_within (row t r) c x e in
+    let even : length (row t r) ≡ length (row t 0) = h.even r lt in
+    let ok : c < col_count t = omega arith in
+    (lt, ok))
+    (λ ge. let none : cell t r c ≡ None = cell_past_rows t r c ge in let clash : ◌≡◌ {A = Option T} None (Some x) = sym none ∙ e in absurd (cc))
+    (cases_lt r (row_count t))

@@ -16,13 +16,9 @@ use Rattle.grid_base.specs.Table.{row_count, col_count, cell, IsTable, tabulate}
 use Rattle.grid_base.specs.Order.{storage, place, flipped, table_of, CanCut}
 use Rattle.grid_base.specs.GridValue.{GridValue, HoldsSize}
 use Rattle.grid_base.specs.Symmetry.{act, image_rows, image_cols, source_row, source_col}
-use Rattle.grid_base.proofs.TableLemmas.{zero_by, tabulate-cells, IsSize-table, rows-tabulate, cols-tabulate, cell-tabulate, tabulate-same, IsFull, IsTable-tabulate, cell_past_rows, cell_past_cols}
+use Rattle.grid_base.proofs.TableLemmas.{zero_by, tabulate-cells, IsSize-table, rows-tabulate, cols-tabulate, tabulate-same, IsFull, IsTable-tabulate, cell_past_rows, cell_past_cols}
 use Rattle.grid_base.proofs.ActLemmas.{act-tabulate, IsFull-image}
-use Rattle.grid_base.proofs.StorageLemmas.{length-storage, get-storage, IsFull-table_of, storage-table_of}
-
-pos_of : (k : ℕ) → k ≢ 0 → 0 < k
-pos_of zero h = absurd (h refl)
-pos_of (suc k) h = omega arith
+use Rattle.grid_base.proofs.StorageLemmas.{length-storage, get-storage, IsFull-table_of, cell-table_of, storage-table_of}
 
 module _ {T : Type 0} (o : Order) (m n : ℕ) (cells : List T) (h : HoldsSize m n (length cells)) where
   full : IsFull m n (λ r c. slice_get cells (place o m n r c))
@@ -38,7 +34,7 @@ module _ {T : Type 0} (o : Order) (m n : ℕ) (cells : List T) (h : HoldsSize m 
   view-table = IsTable-tabulate m n _ h.size full
 
   pub view-cell : (r c : ℕ) → r < m → c < n → cell (table_of o m n cells) r c ≡ slice_get cells (place o m n r c)
-  view-cell r c lr lc = cell-tabulate m n _ r c full lr lc
+  view-cell r c lr lc = cell-table_of o m n cells h.cells r c lr lc
 
   pub view-past_cols : (r c : ℕ) → r < m → n ≤ c → cell (table_of o m n cells) r c ≡ None
   view-past_cols r c lr lc = cell_past_cols m n _ r c full lr lc
@@ -73,10 +69,11 @@ HoldsSize-none len e = record { cells = omega arith; below = lit< tt; size = rec
 pub HoldsSize-cut : (len cols : ℕ) → len ≢ 0 → cols ≢ 0 → len % cols ≡ 0 → len < 2 ^ 64 → HoldsSize (len / cols) cols len
 HoldsSize-cut len cols some wide even small =
     let whole = div-add-mod' len cols in
+    let there : len / cols ≢ 0 = λ e. some (omega (arith, ap (λ x. x * cols) e)) in
     record {
       cells = omega arith;
       below = omega arith;
-      size = record { has_cols = λ _. omega arith; has_rows = λ _. pos_of (len / cols) (λ e. some (omega (arith, ap (λ x. x * cols) e))) };
+      size = record { has_cols = λ _. omega arith; has_rows = λ _. omega (arith, there) };
     }
 
 -- the size of the transposed table
@@ -130,7 +127,7 @@ pub flipped-flipped : (o : Order) → flipped (flipped o) ≡ o
 flipped-flipped RowMajor = refl
 flipped-flipped ColumnMajor = refl
 
-IsTable-prop : {T : Type 0} (t : List (List T)) → IsProp (IsTable t)
+pub IsTable-prop : {T : Type 0} (t : List (List T)) → IsProp (IsTable t)
 IsTable-prop t = hlevel (le_prop, ℕ_set)
 
 pub same_grid_value : {T : Type 0} (s u : GridValue T) → s.rows ≡ u.rows → s.order ≡ u.order → s ≡ u

@@ -21,7 +21,8 @@ exchanged_back a m n old new h =
       behind = λ x le. sym (h.behind x (omega arith));
     }
 
-at_equal : {T : Type 0} (xs ys : List T) (a b c d : ℕ) → a ≡ b → c ≡ d → slice_get xs b ≡ slice_get ys d → slice_get xs a ≡ slice_get ys c
+-- the same look-up at indices that are equal
+pub at_equal : {T : Type 0} (xs ys : List T) (a b c d : ℕ) → a ≡ b → c ≡ d → slice_get xs b ≡ slice_get ys d → slice_get xs a ≡ slice_get ys c
 at_equal xs ys a b c d e f h = ap (slice_get xs) e ∙ (h ∙ sym (ap (slice_get ys) f))
 
 module _ {T : Type 0} (h r q i k : ℕ) (short mid long fs fl bs bl : List T) (le : i ≤ q) (wide : length fs ≡ h * (q + k)) (cut : mid ≡ fs ++ bs) (concat_rows : long ≡ fl ++ bl) (moved : BlocksExchanged (h * q) (r * q) (h * k) short mid) (front : Woven h q i k fs fl) (back : Woven r q i k bs bl) where

@@ -6,7 +6,7 @@ use Rattle.std.specs.Slice.Iter.{iter_mut_name}
 use Rattle.std.specs.declared.slice.IterMut.{IterMut}
 use Rattle.std.specs.declared.alloc.Allocator.{Ghosts}
 use Rattle.grid_base.specs.contracts.flat.Flat.{the_row}
-use Rattle.grid_base.specs.declared.flat.strides.GridLineIterMut.{GridLineIterMut}
+use Rattle.grid_base.specs.declared.flat.line_iter_mut.GridLineIterMut.{GridLineIterMut}
 use Rattle.grid_base.specs.declared.flat.indexed.IndexedIterMut.{IndexedIterMut}
 use Rattle.grid_base.specs.GridLineIterMut.{line_mut_name}
 use Rattle.grid_base.specs.IndexedIterMut.{indexed_mut_name}

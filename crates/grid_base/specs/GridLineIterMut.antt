@@ -2,7 +2,7 @@
 use Rattle.std.specs.Prelude.{◌≡◌, ◌-◌, ⊤, Option, MatchOption, List, drop}
 use Rattle.std.specs.Borrow.{GName, MutBor}
 use Rattle.std.specs.Iterator.{YieldsFirstMut}
-use Rattle.grid_base.specs.declared.flat.strides.GridLineIterMut.{GridLineIterMut}
+use Rattle.grid_base.specs.declared.flat.line_iter_mut.GridLineIterMut.{GridLineIterMut}
 use Rattle.grid_base.specs.Strides.{every}
 
 module _ {X : Type 0} where

@@ -24,3 +24,4 @@ pub mod Updated
 pub mod Gather
 pub mod Clones
 pub mod Relaid
+pub mod IndexedIterators

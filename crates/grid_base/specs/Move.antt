@@ -31,6 +31,6 @@ word_image w t = act_all (map of_move w) t
 abbrev pub IsNormalForm : List Move → Symmetry → Type 0
 IsNormalForm w s = word_image w test_table ≡ act s test_table
 
--- two words give the same image of every table of whole numbers
+-- two words give the same image of every table of integers
 pub record ActAlike (w v : List Move) : Type 0 where
   pub same : (t : List (List ℕ)) → IsTable t → word_image w t ≡ word_image v t

@@ -84,11 +84,11 @@ act s t =
 abbrev pub act_all : {T : Type 0} → List Symmetry → List (List T) → List (List T)
 act_all ss t = fold (λ u s. act s u) t ss
 
--- v acts on each table of whole numbers as s followed by u
+-- v acts on each table of integers as s followed by u
 pub record IsThen (s u v : Symmetry) : Type 0 where
   pub acts : (t : List (List ℕ)) → IsTable t → act v t ≡ act u (act s t)
 
--- v undoes s on each table of whole numbers
+-- v undoes s on each table of integers
 pub record IsInverse (s v : Symmetry) : Type 0 where
   pub undoes : (t : List (List ℕ)) → IsTable t → act v (act s t) ≡ t
 

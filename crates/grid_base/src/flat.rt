@@ -1,35 +1,37 @@
 //! The vector of a grid's cells.
-ghost use Rattle.std.specs.Prelude.{◌≡◌, ◌<◌, ◌≤◌, ◌+◌, [], length, swap, slice_get, Some};
+ghost use Rattle.std.specs.Prelude.{◌≡◌, ◌<◌, ◌≤◌, ◌+◌, [], length, swap, slice_get, Some, IfOk};
 ghost use Rattle.std.specs.Borrow.{sem};
+ghost use Rattle.std.specs.Iterator.Runs.{YieldsMutRefsInOrder, YieldsMutRefsInReverse};
+ghost use Rattle.std.specs.Slice.Iter.{iter_mut_rest, iter_mut_steps, iter_mut_steps_back};
 ghost use Rattle.grid_base.specs.Blocks.{BlocksSwapped, BlockTaken};
+ghost use Rattle.grid_base.specs.Clones.{ClonesAreEqual};
 
 mod all_cells;
-mod blocks;
-mod clone;
 mod counted;
 mod ends;
 mod gather;
 mod groups;
 mod indexed;
 mod line_iter;
-mod lines;
+mod line_iter_mut;
 mod positions;
 mod relay;
 mod room;
+mod rotations;
 mod row_iter;
 mod span;
 mod strided_iter;
-mod strides;
 
 pub(crate) use counted::Swaps;
 pub use groups::Groups;
 pub use indexed::{IndexedIntoIter, IndexedIter, IndexedIterMut};
 pub use line_iter::GridLineIter;
+pub use line_iter_mut::GridLineIterMut;
 pub use positions::Positions;
 pub use row_iter::GridRowIter;
-use std::alloc::{Allocator, Global};
+use std::alloc::{AllocError, Allocator, Global};
 use std::marker::Model;
-pub use strides::GridLineIterMut;
+use std::slice;
 
 /// The only holder of a grid's vector, seen as the list of its cells.
 #[derive(Drop)]
@@ -47,6 +49,7 @@ impl<T, A: Allocator> Model for Flat<T, A> {
 
 impl<T, A: Allocator> Flat<T, A> {
     ghost use Rattle.grid_base.specs.Flat.{lends_place};
+    ghost use Rattle.grid_base.specs.FlatLends.{lends_cells};
 
     /// Returns the `Flat` of the cells of a vector.
     pub fn from_vec(cells: Vec<T, A>) -> Flat<T, A>
@@ -82,6 +85,16 @@ impl<T, A: Allocator> Flat<T, A> {
         ensures { result.now ≡ self.now }
     {
         self.cells.as_slice()
+    }
+
+    /// Returns an iterator over the cells in order, for writing.
+    pub fn iter_mut(&mut self) -> slice::IterMut<'_, T>
+        ensures* writes_back { sem 𝓛 (lends_cells T.row A.row A.Allocator self.entry result) }
+        ensures rest { iter_mut_rest result ≡ self.old }
+        ensures runs { YieldsMutRefsInOrder (iter_mut_steps {A = T}) iter_mut_rest }
+        ensures runs_back { YieldsMutRefsInReverse (iter_mut_steps_back {A = T}) iter_mut_rest }
+    {
+        self.cells.as_mut_slice().iter_mut()
     }
 
     /// Returns the cell at a place.
@@ -142,7 +155,7 @@ impl<T, A: Allocator> Flat<T, A> {
         ensures given { BlockTaken j i n other.old self.old other.new }
     {
         let (cells, others) = (self.cells.as_mut_slice(), other.cells.as_mut_slice());
-        blocks::swap_parts(cells, i, others, j, n);
+        rotations::swap_parts(cells, i, others, j, n);
     }
 
     /// Drops all cells.
@@ -152,5 +165,20 @@ impl<T, A: Allocator> Flat<T, A> {
         ensures { self.new ≡ [] }
     {
         self.cells.clear();
+    }
+}
+
+impl<T: Clone, A: Allocator + Clone> Flat<T, A> {
+    /// Returns clones of the cells, in a vector of their own.
+    ///
+    /// Requires: clones of the cell type equal their source.
+    /// Fails: where memory is refused, for the vector or for a clone.
+    /// Cost: one clone for each cell.
+    pub fn clone(&self) -> Result<Flat<T, A>, AllocError>
+        requires clones { ClonesAreEqual T.is_clone }
+        ensures { IfOk result (λ copy. copy ≡ self.now) }
+    {
+        let cells = self.cells.clone()?;
+        Ok(Flat { cells })
     }
 }

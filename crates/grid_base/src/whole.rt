@@ -1,7 +1,7 @@
-//! Cells that are whole numbers.
+//! Cells that are integers.
 ghost use Rattle.std.specs.Prelude.{◌≡◌, ℤ, pos};
 
-/// A cell that is a whole number.
+/// A cell that is an integer.
 ///
 /// Implemented for `u8`, `u16`, `u32`, `u64`, `usize`, `i8`, `i16`, `i32`, `i64` and `isize`.
 pub trait Whole {

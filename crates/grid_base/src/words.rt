@@ -135,7 +135,7 @@ impl Symmetry {
 
 /// Returns the normal form of a word: the one symmetry that acts on every table as its moves from left to right.
 ///
-/// Two words have one normal form exactly if they act alike on all tables of whole numbers.
+/// Two words have one normal form exactly if they act alike on all tables of integers.
 pub fn reduce(word: &[Move]) -> Symmetry
     ensures normal { IsNormalForm word.now result }
     ensures acts { (t : List (List ℕ)) → IsTable t → word_image word.now t ≡ act result t }

@@ -32,7 +32,7 @@ pub fn walls_text<A: Allocator>(alloc: Global, walls: &Grid<bool, A>) -> Result<
     to_text(alloc, walls, |wall| if *wall { '#' } else { '.' })
 }
 
-/// Reads a sheet of whole numbers.
+/// Reads a sheet of integers.
 pub fn sheet(alloc: Global, text: &str) -> Result<Grid<i64>, TextError>
     ensures { IsOrMemory (reading_words cell_of (lines_of text.now)) result }
 {

@@ -5,19 +5,17 @@ use Rattle.std.specs.BinaryHeap.{IsUpperBound}
 use Rattle.std.proofs.lemmas.List.Sums.{sum_by-set}
 use Rattle.std.proofs.lemmas.List.Sorted.{IsPermutation-sym, length_permutation}
 use Rattle.std.proofs.lemmas.Option.{slice_get_within, get_or_from_slice_get}
-use Rattle.grid_base.specs.Table.{row, row_count, col_count, cell, with_cell, tabulate, IsTable, InRange}
-use Rattle.grid_base.proofs.WriteLemmas.{cell-with_same, cell-with_other}
-use Rattle.grid_paths.specs.declared.steps.Steps.{Steps}
+use Rattle.grid_base.specs.Table.{row, cell, with_cell, tabulate, IsTable, InRange}
+use Rattle.grid_base.proofs.WriteLemmas.{cell-with_same, cell-with_other, same_or_other}
+use Rattle.grid_near.specs.declared.steps.Steps.{Steps}
 use Rattle.grid_paths.specs.Search.{free, unreached}
 use Rattle.grid_paths.specs.Walks.{IsStep}
 use Rattle.grid_paths.proofs.SearchLemmas.{one_mark}
-use Rattle.grid_paths.proofs.LeftLemmas.{same_or_other}
-use Rattle.grid_paths.proofs.PathLemmas.{in_range}
-use Rattle.grid_paths.proofs.QueueLemmas.{sides_within}
 use Rattle.grid_paths.proofs.StepLemmas.{none_marked}
 use Rattle.grid_cheapest.specs.Cheapest.{Holds, CostWalk, HasLeastCosts}
 use Rattle.grid_cheapest.specs.Relaxing.{Entry, by_sum, IsWaiting, HoldsUpTo, IsClosed, Relaxes, Settles, IsCostSearch}
 use Rattle.grid_cheapest.proofs.HeapLemmas as heaps
+use Rattle.grid_cheapest.proofs.RelaxLemmas.{left_inside}
 
 -- a number stands at a position, or none
 pub left_or_closed : (t : List (List (Option ℕ))) (a : ℕ × ℕ) → ((k : ℕ) × Holds t a k) ⊎ IsClosed t a
@@ -34,27 +32,21 @@ no_number m n u e a k h = none_marked m n a k (subst (λ x. Holds x a k) e h)
 
 -- the position p is closed in the table
 module _ (left : List (List (Option ℕ))) (table : IsTable left) (p : ℕ × ℕ) (k : ℕ) (is_left : Holds left p k) where
-  closing : List (List (Option ℕ))
-  closing = with_cell left p.0 p.1 None
-
-  inside : InRange left p.0 p.1
-  inside = in_range left table p.0 p.1 (Some k) is_left
-
   pub closed_there : IsClosed (with_cell left p.0 p.1 None) p
   closed_there j h =
-      let clash : ◌≡◌ {A = Option (Option ℕ)} (Some None) (Some (Some j)) = sym (cell-with_same left table p.0 p.1 None inside.0 inside.1) ∙ h in
+      let clash : ◌≡◌ {A = Option (Option ℕ)} (Some None) (Some (Some j)) = sym (cell-with_same left table p.0 p.1 None (left_inside left table p k is_left).0 (left_inside left table p k is_left).1) ∙ h in
       cc
 
   pub closed_fewer : (a : ℕ × ℕ) (j : ℕ) → Holds (with_cell left p.0 p.1 None) a j → Holds left a j
   closed_fewer a j h =
       ⊎_elim (λ e. absurd (closed_there j (subst (λ x. Holds (with_cell left p.0 p.1 None) x j) e h)))
-      (λ other. sym (cell-with_other left table p.0 p.1 None a.0 a.1 other) ∙ h)
+      (λ other. sym (cell-with_other left p.0 p.1 None a.0 a.1 other) ∙ h)
       (same_or_other a p)
 
   -- a position that was left is p, or still is
   pub closed_or_left : (a : ℕ × ℕ) (j : ℕ) → Holds left a j → (a ≡ p) ⊎ Holds (with_cell left p.0 p.1 None) a j
   closed_or_left a j h =
-      ⊎_elim (λ e. inl e) (λ other. inr (cell-with_other left table p.0 p.1 None a.0 a.1 other ∙ h)) (same_or_other a p)
+      ⊎_elim (λ e. inl e) (λ other. inr (cell-with_other left p.0 p.1 None a.0 a.1 other ∙ h)) (same_or_other a p)
 
   pub unreached-closed : unreached (with_cell left p.0 p.1 None) ≡ unreached left + 1
   unreached-closed =
@@ -63,7 +55,7 @@ module _ (left : List (List (Option ℕ))) (table : IsTable left) (p : ℕ × �
       let was : get_or xs p.1 None ≡ Some k = get_or_from_slice_get xs p.1 (Some k) None is_left in
       let one : free (get_or xs p.1 None) ≡ 0 = ap free was in
       let cells = sum_by-set free xs p.1 None None lt in
-      let rows = sum_by-set (sum_by free) left p.0 (set xs p.1 None) [] inside.0 in
+      let rows = sum_by-set (sum_by free) left p.0 (set xs p.1 None) [] (left_inside left table p k is_left).0 in
       omega arith
 
 -- the entry x is taken from the heap
@@ -262,11 +254,6 @@ module _ (kind : Steps) (left : List (List (Option ℕ))) (table : IsTable left)
       omega arith)
       step
 
--- the sides of a table are no longer than the number of its cells
-pub few_sides : (t : List (List (Option ℕ))) → IsTable t → (row_count t ≤ row_count t * col_count t) × (col_count t ≤ row_count t * col_count t)
-few_sides [] h = (omega arith, omega arith)
-few_sides (r ∷ t) h = sides_within (r ∷ t) 0 0 (omega arith, h.nonempty 0 (omega arith))
-
 -- at the end nothing waits
 module _ (kind : Steps) (costs : List (List (Option ℕ))) (from : ℕ × ℕ) (u left : List (List (Option ℕ))) (heap : List Entry) (s : IsCostSearch kind costs from u left heap) (none : length heap ≡ 0) where
   nothing : (n : ℕ) (a : ℕ × ℕ) → IsWaiting heap n a → ⊥
@@ -333,7 +320,7 @@ module _ (kind : Steps) (costs : List (List (Option ℕ))) (from : ℕ × ℕ) (
     unfolding t
     only a m h =
         ⊎_elim (λ e. (e, one_mark t from m 0 (subst (λ y. Holds t y m) e h) there))
-        (λ other. absurd (empty a m (sym (cell-with_other u table from.0 from.1 (Some 0) a.0 a.1 other) ∙ h)))
+        (λ other. absurd (empty a m (sym (cell-with_other u from.0 from.1 (Some 0) a.0 a.1 other) ∙ h)))
         (same_or_other a from)
 
     begun : IsWaiting heap 0 from

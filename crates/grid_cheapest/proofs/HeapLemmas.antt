@@ -1,19 +1,13 @@
 -- What waits in the heap, after a push and after a pop.
-use Rattle.std.proofs.Common.{◌≡◌, ℕ, zero, suc, ◌<◌, ◌≤◌, ◌⊎◌, false, List, [], ◌∷◌, length, Contains, refl, ◌∙◌, ap, subst, arith, inl, inr, ⊎_elim, IsPermutation}
+use Rattle.std.proofs.Common.{◌≡◌, ℕ, ◌<◌, ◌≤◌, ◌⊎◌, false, List, [], ◌∷◌, Contains, refl, ◌∙◌, ap, subst, arith, inl, inr, ⊎_elim, IsPermutation, Some}
 use Rattle.std.specs.BinaryHeap.{IsUpperBound}
 use Rattle.std.specs.declared.cmp.Ordering.{Ordering}
 use Rattle.std.specs.declared.cmp.Ordering.TheVariants.{Less, Equal, Greater}
-use Rattle.std.specs.Ordering.{is_lt, nat_cmp, ordering_then}
-use Rattle.std.proofs.lemmas.List.Sorted.{Contains-permutation, IsPermutation-sym, le_from_greatest}
-use Rattle.std.proofs.lemmas.List.Elements.{All-contains}
+use Rattle.std.specs.Ordering.{is_lt, ordering_then}
+use Rattle.std.proofs.lemmas.List.Sorted.{Contains-permutation, IsPermutation-sym}
 use Rattle.grid_cheapest.specs.Relaxing.{Entry, by_sum, IsWaiting}
-
-member_cases : (x z : Entry) (xs : List Entry) → Contains (x ∷ xs) z → (x ≡ z) ⊎ Contains xs z
-member_cases x z xs (zero, l, e) = inl e
-member_cases x z xs (suc k, l, e) = inr (k, omega arith, e)
-
-member_more : (x z : Entry) (xs : List Entry) → Contains xs z → Contains (x ∷ xs) z
-member_more x z xs c = let lt : c.0 < length xs = c.1 in (suc c.0, omega arith, c.2)
+use Rattle.grid_paths.proofs.NearLemmas.{Contains-cases, Contains-more}
+use Rattle.std.proofs.lemmas.Map.Keys.{ge_from_not_lt}
 
 -- a heap, and the same with x
 module _ (x : Entry) (heap heap' : List Entry) (p : IsPermutation (x ∷ heap) heap') where
@@ -21,27 +15,24 @@ module _ (x : Entry) (heap heap' : List Entry) (p : IsPermutation (x ∷ heap) h
   here = (x, Contains-permutation (x ∷ heap) heap' x p (0, omega arith, refl), refl, refl)
 
   pub kept : (s : ℕ) (a : ℕ × ℕ) → IsWaiting heap s a → IsWaiting heap' s a
-  kept s a w = (w.0, Contains-permutation (x ∷ heap) heap' w.0 p (member_more x w.0 heap w.1), w.2, w.3)
+  kept s a w = (w.0, Contains-permutation (x ∷ heap) heap' w.0 p (Contains-more (Some x) heap w.0 w.1), w.2, w.3)
 
   pub added : (s : ℕ) (a : ℕ × ℕ) → IsWaiting heap' s a → ((x.0.0 ≡ s) × (x.0.1 ≡ a)) ⊎ IsWaiting heap s a
   added s a w =
       ⊎_elim (λ e. inl (ap (λ y. y.0.0) e ∙ w.2, ap (λ y. y.0.1) e ∙ w.3)) (λ c. inr (w.0, c, w.2, w.3))
-      (member_cases x w.0 heap (Contains-permutation heap' (x ∷ heap) w.0 (IsPermutation-sym (x ∷ heap) heap' p) w.1))
+      (Contains-cases x w.0 heap (Contains-permutation heap' (x ∷ heap) w.0 (IsPermutation-sym (x ∷ heap) heap' p) w.1))
 
 first_not_less : (a b : Ordering) → is_lt (ordering_then a b) ≡ false → is_lt a ≡ false
 first_not_less Less b e = e
 first_not_less Equal b e = refl
 first_not_less Greater b e = e
 
-not_less : (m n : ℕ) → is_lt (nat_cmp m n) ≡ false → n ≤ m
-not_less m n e = All-contains (λ k. k ≤ m) (n ∷ []) n (le_from_greatest m (n ∷ []) (e, tt)) (0, omega arith, refl)
-
 bound : (x : Entry) (heap : List Entry) → IsUpperBound by_sum x heap → (w : Entry) → Contains heap w → x.0.0 ≤ w.0.0
 bound x [] h w c = absurd (let lt : c.0 < 0 = c.1 in omega arith)
 bound x (y ∷ ys) h w c =
-    ⊎_elim (λ e. subst (λ z. x.0.0 ≤ z.0.0) e (not_less y.0.0 x.0.0 (first_not_less _ _ h.0)))
+    ⊎_elim (λ e. subst (λ z. x.0.0 ≤ z.0.0) e (ge_from_not_lt y.0.0 x.0.0 (first_not_less _ _ h.0)))
     (λ later. bound x ys h.1 w later)
-    (member_cases y w ys c)
+    (Contains-cases y w ys c)
 
 -- what comes first has the least sum
 pub least_first : (x : Entry) (heap : List Entry) → IsUpperBound by_sum x heap → (s : ℕ) (a : ℕ × ℕ) → IsWaiting heap s a → x.0.0 ≤ s

@@ -3,19 +3,18 @@ use Rattle.std.proofs.Common.{◌≡◌, ℕ, ◌+◌, ◌^◌, ◌<◌, ◌≤�
 use Rattle.std.proofs.lemmas.Bool.{cases_lt}
 use Rattle.std.proofs.lemmas.List.Sorted.{length_permutation}
 use Rattle.grid_base.specs.Table.{row_count, col_count, cell, with_cell, IsTable, InRange}
-use Rattle.grid_base.proofs.WriteLemmas.{cell-with_same, cell-with_other}
-use Rattle.grid_paths.specs.declared.steps.Steps.TheVariants.{All}
+use Rattle.grid_base.proofs.WriteLemmas.{cell-with_same, cell-with_other, same_or_other}
+use Rattle.grid_near.specs.declared.steps.Steps.TheVariants.{All}
 use Rattle.grid_paths.specs.Walks.{AreBeside, AreDiagonal, IsStep}
 use Rattle.grid_paths.proofs.SearchLemmas.{one_mark}
 use Rattle.grid_paths.proofs.StepLemmas.{AreAround, four_beside, four_diagonal}
-use Rattle.grid_paths.proofs.LeftLemmas.{same_or_other}
-use Rattle.grid_paths.proofs.PathLemmas.{in_range}
 use Rattle.grid_cheapest.specs.Cheapest.{Holds}
 use Rattle.grid_cheapest.specs.Relaxing.{Entry, IsWaiting, HoldsUpTo, IsClosed, IsEntered, Relaxes}
 use Rattle.grid_cheapest.proofs.HeapLemmas as heaps
+use Rattle.grid_base.proofs.TableLemmas.{cell_in_range}
 
 pub left_inside : (t : List (List (Option ℕ))) → IsTable t → (a : ℕ × ℕ) (k : ℕ) → Holds t a k → InRange t a.0 a.1
-left_inside t table a k h = in_range t table a.0 a.1 (Some k) h
+left_inside t table a k h = cell_in_range t table a.0 a.1 (Some k) h
 
 -- a position of one table is in range of another of its size
 pub same_size : (t u : List (List (Option ℕ))) → IsTable t → row_count u ≡ row_count t → col_count u ≡ col_count t → (a : ℕ × ℕ) (k : ℕ) → Holds t a k → InRange u a.0 a.1
@@ -93,7 +92,7 @@ module _ (left u : List (List (Option ℕ))) (b : ℕ × ℕ) (sum : ℕ) (heap 
       unfolding t
       lower a m h =
           ⊎_elim (λ e. let lt = less m (subst (λ x. Holds u x m) e h) in (sum + k, there_for a e, omega arith))
-          (λ other. (m, cell-with_other u table b.0 b.1 (Some (sum + k)) a.0 a.1 other ∙ h, omega arith))
+          (λ other. (m, cell-with_other u b.0 b.1 (Some (sum + k)) a.0 a.1 other ∙ h, omega arith))
           (same_or_other a b)
 
       waits : IsWaiting heap' (sum + k) b
@@ -113,7 +112,7 @@ module _ (left u : List (List (Option ℕ))) (b : ℕ × ℕ) (sum : ℕ) (heap 
             few = small;
             waits = subst (λ s. IsWaiting heap' s a) (sym is) (subst (λ y. IsWaiting heap' (sum + k) y) (sym e) waits);
           }))
-          (λ other. inl (sym (cell-with_other u table b.0 b.1 (Some (sum + k)) a.0 a.1 other) ∙ h))
+          (λ other. inl (sym (cell-with_other u b.0 b.1 (Some (sum + k)) a.0 a.1 other) ∙ h))
           (same_or_other a b)
 
       added : (s : ℕ) (a : ℕ × ℕ) → IsWaiting heap' s a → IsWaiting heap s a ⊎ (HoldsUpTo t a s × (sum ≤ s))
@@ -199,7 +198,7 @@ Relaxes-as left sum near wide up back u h u' h' m n le r =
 module _ (left : List (List (Option ℕ))) (table : IsTable left) (sum row col up down before after : ℕ) (rows : AreAround (row_count left) row up down) (cols : AreAround (col_count left) col before after)
     (u0 : List (List (Option ℕ))) (h0 : List Entry) (u1 : List (List (Option ℕ))) (h1 : List Entry) (u2 : List (List (Option ℕ))) (h2 : List Entry) (u3 : List (List (Option ℕ))) (h3 : List Entry) (u4 : List (List (Option ℕ))) (h4 : List Entry) where
   at : (a b : ℕ × ℕ) (k : ℕ) → Holds left b k → a ≡ b → InRange left a.0 a.1
-  at a b k h e = in_range left table a.0 a.1 (Some k) (subst (λ x. Holds left x k) (sym e) h)
+  at a b k h e = cell_in_range left table a.0 a.1 (Some k) (subst (λ x. Holds left x k) (sym e) h)
 
   module _ (b1 b2 b3 b4 : ℕ × ℕ) (wide : ℕ × ℕ → Type 0) (n1 : InRange left b1.0 b1.1 → wide b1) (n2 : InRange left b2.0 b2.1 → wide b2) (n3 : InRange left b3.0 b3.1 → wide b3) (n4 : InRange left b4.0 b4.1 → wide b4)
       (covers : (b : ℕ × ℕ) → wide b → ((b1 ≡ b) ⊎ (b2 ≡ b)) ⊎ ((b3 ≡ b) ⊎ (b4 ≡ b))) where

@@ -66,13 +66,8 @@ module _ {T : Type 0} where
   -- the axis of a command; Row where it speaks of no lines
   abbrev pub axis_of : CommandValue T → Axis
   axis_of (lines a e) = a
-  axis_of size = Row
-  axis_of (get r c) = Row
-  axis_of (set_cell r c v) = Row
-  axis_of (swap_cells p q) = Row
-  axis_of (fill v) = Row
-  axis_of clear = Row
-  axis_of (apply s) = Row
+  -- every command that is no edit of lines
+  axis_of x = Row
 
 -- the number of lines of an axis of a table of m rows and n columns, and the length of each
 abbrev pub line_count : Axis → ℕ → ℕ → ℕ

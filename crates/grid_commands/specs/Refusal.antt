@@ -26,41 +26,18 @@ use Rattle.grid_commands.specs.declared.command.Refusal.TheVariants.{
   Index,
   TooLarge,
 }
-use Rattle.grid_commands.specs.Command.{
-  Edit,
-  read,
-  push,
-  insert_at,
-  insert_all,
-  pop,
-  remove_at,
-  delete_at,
-  delete_range,
-  expand,
-  prepend,
-  CommandValue,
-  size,
-  get,
-  set_cell,
-  swap_cells,
-  lines,
-  fill,
-  clear,
-  apply,
-  line_count,
-  line_width,
-}
+use Rattle.grid_commands.specs.Command.{Edit, push, insert_at, insert_all, expand, prepend, CommandValue, set_cell, swap_cells, lines, line_count, line_width}
 
 -- whether so many cells are more than a grid can have, `usize::MAX`
-abbrev pub too_many : ℕ → Bool
-too_many cells = nat_lt 18446744073709551615 cells
+abbrev pub exceeds : ℕ → Bool
+exceeds cells = nat_lt 18446744073709551615 cells
 
 -- why k lines of this width can't be added as padding to so many; none are added to no lines
 abbrev pub pad_refusal : ℕ → ℕ → ℕ → Option Refusal
 pad_refusal count width k =
     if nat_eq count 0 then None
     else (if nat_eq k 0 then None
-    else (if too_many ((count + k) * width) then Some TooLarge else None))
+    else (if exceeds ((count + k) * width) then Some TooLarge else None))
 
 abbrev pub in_range : ℕ → ℕ → ℕ × ℕ → Bool
 in_range m n p = nat_lt p.0 m && nat_lt p.1 n
@@ -80,26 +57,23 @@ module _ {T : Type 0} where
   fitting_width count width ls = if nat_eq count 0 then first_width ls else width
 
   -- why lines can't be put before place i of so many lines of this width
-  abbrev pub insert_refusal : ℕ → ℕ → ℕ → List (List T) → Option Refusal
-  insert_refusal count width i ls =
+  abbrev pub lines_refusal : ℕ → ℕ → ℕ → List (List T) → Option Refusal
+  lines_refusal count width i ls =
       if list_any (λ l. nat_eq (length l) 0) ls then Some EmptyLine
       else (if not (list_all (λ l. nat_eq (length l) (fitting_width count width ls)) ls)
       then Some Length
       else (if nat_lt count i then Some Index
-      else (if too_many ((count + length ls) * fitting_width count width ls) then Some TooLarge
+      else (if exceeds ((count + length ls) * fitting_width count width ls) then Some TooLarge
       else None)))
 
   abbrev pub edit_refusal : ℕ → ℕ → Edit T → Option Refusal
-  edit_refusal count width (push line) = insert_refusal count width count (line ∷ [])
-  edit_refusal count width (insert_at i line) = insert_refusal count width i (line ∷ [])
-  edit_refusal count width (insert_all i ls) = insert_refusal count width i ls
+  edit_refusal count width (push line) = lines_refusal count width count (line ∷ [])
+  edit_refusal count width (insert_at i line) = lines_refusal count width i (line ∷ [])
+  edit_refusal count width (insert_all i ls) = lines_refusal count width i ls
   edit_refusal count width (expand k) = pad_refusal count width k
   edit_refusal count width (prepend k) = pad_refusal count width k
-  edit_refusal count width (read i) = None
-  edit_refusal count width pop = None
-  edit_refusal count width (remove_at i) = None
-  edit_refusal count width (delete_at i) = None
-  edit_refusal count width (delete_range i k) = None
+  -- a read, a pop, a remove and a delete
+  edit_refusal count width e = None
 
   -- why a command is refused at a table of m rows and n columns
   abbrev pub command_refusal : CommandValue T → ℕ → ℕ → Option Refusal
@@ -107,8 +81,5 @@ module _ {T : Type 0} where
   command_refusal (swap_cells p q) m n = if in_range m n p && in_range m n q then None
       else Some Index
   command_refusal (lines a e) m n = edit_refusal (line_count a m n) (line_width a m n) e
-  command_refusal size m n = None
-  command_refusal (get r c) m n = None
-  command_refusal (fill v) m n = None
-  command_refusal clear m n = None
-  command_refusal (apply s) m n = None
+  -- a size, a get, a fill, a clear and an apply
+  command_refusal x m n = None

@@ -3,7 +3,7 @@ ghost use Rattle.std.specs.Prelude.{◌≡◌, ◌+◌, ◌*◌, length, map, na
 ghost use Rattle.std.specs.List.{list_any, list_all};
 ghost use Rattle.grid_base.specs.Table.{col_count};
 ghost use Rattle.grid_base.specs.Gather.{items_of_each};
-ghost use Rattle.grid_commands.specs.Refusal.{too_many, insert_refusal, pad_refusal};
+ghost use Rattle.grid_commands.specs.Refusal.{exceeds, lines_refusal, pad_refusal};
 
 use crate::command::Refusal;
 use std::alloc::Allocator;
@@ -25,7 +25,7 @@ pub fn first_len<T, L: AsSlice<T>>(rows: &[L]) -> usize
 
 // Whether so many lines of this width, and more of them, have too many cells for a grid.
 fn exceeds(count: usize, more: usize, width: usize) -> bool
-    ensures { result ≡ too_many ((count + more) * width) }
+    ensures { result ≡ exceeds ((count + more) * width) }
 {
     match count.checked_add(more) {
         Some(total) => total.checked_mul(width).is_none(),
@@ -44,7 +44,7 @@ pub fn line_refusal<T, A: Allocator>(
     at: usize,
     line: &Vec<T, A>,
 ) -> Option<Refusal>
-    ensures { result ≡ insert_refusal count width at (line.now.items ∷ []) }
+    ensures { result ≡ lines_refusal count width at (line.now.items ∷ []) }
 {
     let len = line.len();
     if len == 0 {
@@ -83,7 +83,7 @@ pub fn lines_refusal<T, A: Allocator>(
     at: usize,
     lines: &[Vec<T, A>],
 ) -> Option<Refusal>
-    ensures { result ≡ insert_refusal count width at (items_of_each lines.now) }
+    ensures { result ≡ lines_refusal count width at (items_of_each lines.now) }
 {
     let fitting = if count == 0 { first_len(lines) } else { width };
     if any_of_length(lines, 0) {

@@ -1,6 +1,6 @@
 -- No command shifts more cells than there are.
 use Rattle.std.proofs.Common.{◌≡◌, ℕ, ◌+◌, ◌-◌, ◌*◌, ◌≤◌, Bool, true, false, List, [], ◌∷◌, if◌then◌else◌, nat_lt, nat_eq, refl, ◌∙◌, ap, arith}
-use Rattle.std.proofs.Math.Nat.{mul_comm, mul-le-mul_left}
+use Rattle.std.proofs.Math.Nat.{mul_comm, mul-le-mul_left, mul-le-mul_right}
 use Rattle.std.specs.Option.{is_none}
 use Rattle.grid_base.specs.declared.words.Symmetry.{Symmetry}
 use Rattle.grid_base.specs.declared.words.Symmetry.TheVariants.{Identity, FlipCols, FlipRows, RotateHalf, Transpose, RotateLeft, RotateRight, AntiTranspose}
@@ -28,17 +28,12 @@ if_none : (b : Bool) (k c : ℕ) → k ≤ c → (if b then 0 else k) ≤ c
 if_none true k c h = omega arith
 if_none false k c h = h
 
-fewer_lines : (m n k : ℕ) → k ≤ m → k * n ≤ m * n
-fewer_lines m n k h =
-    let a : n * k ≤ n * m = mul-le-mul_left n h in
-    omega (arith, a, mul_comm n k, mul_comm n m)
-
 added_within : (o : Order) (m n i k : ℕ) → rows_added_shift o m n i k ≤ m * n
-added_within RowMajor m n i k = if_none (nat_eq k 0) _ _ (fewer_lines m n (m - i) (omega arith))
+added_within RowMajor m n i k = let a : (m - i) * n ≤ m * n = mul-le-mul_right n (omega arith) in if_none (nat_eq k 0) _ _ a
 added_within ColumnMajor m n i k = if_none (nat_eq k 0) _ _ (omega (arith, mul_comm n m))
 
 taken_within : (o : Order) (m n i k : ℕ) → rows_taken_shift o m n i k ≤ m * n
-taken_within RowMajor m n i k = fewer_lines m n (m - i - k) (omega arith)
+taken_within RowMajor m n i k = mul-le-mul_right n (omega arith)
 taken_within ColumnMajor m n i k =
     let a : n * (m - k) ≤ n * m = mul-le-mul_left n (omega arith) in
     omega (arith, a, mul_comm n m)

@@ -16,7 +16,7 @@ use Rattle.grid_commands.specs.Command.{CommandValue, size, lines, read, push, a
 use Rattle.grid_commands.specs.Reply.{ReplyValue, done, size_is, cell_is, line_is, flag_is, refused}
 use Rattle.grid.specs.Step.{step_rows, step_reply, takes_memory}
 use Rattle.grid.specs.Cost.{step_shift}
-use Rattle.grid.specs.Through.{other_axis, reverses_cells, base_axis, reversed_if, turned_reply, command_of_transposed, command_of_flipped}
+use Rattle.grid.specs.Through.{other_axis, reverses_cells, base_axis, reversed_if, turned_reply, transposed_command, flipped_command}
 use Rattle.grid.proofs.StepThroughLemmas.{IsAxis, IsAxis-axis_of, Through, through_flip, through_cross, table-step}
 use Rattle.grid_deferred.specs.Carry.{shift_through, Carries, is_apply}
 use Rattle.grid_deferred.specs.Carried.{carried}
@@ -85,26 +85,26 @@ module _ {T : Type 0} where
         memory = ap (λ v. takes_memory y (row_count v) (col_count v)) e ∙ (q.memory ∙ p.memory);
       }
 
-  axis-flipped : (m : ℕ) (y : CommandValue T) (a : Axis) → IsAxis y a → IsAxis (command_of_flipped m y) a
+  axis-flipped : (m : ℕ) (y : CommandValue T) (a : Axis) → IsAxis y a → IsAxis (flipped_command m y) a
   axis-flipped m (lines Row e) a k = k
   axis-flipped m (lines Col e) a k = k
   axis-flipped m size a k = tt
   axis-flipped m y a k = tt
 
-  axis-exchanged : (y : CommandValue T) (a : Axis) → IsAxis y a → IsAxis (command_of_transposed y) (other_axis a)
+  axis-exchanged : (y : CommandValue T) (a : Axis) → IsAxis y a → IsAxis (transposed_command y) (other_axis a)
   axis-exchanged (lines b e) a k = ap other_axis k
   axis-exchanged size a k = tt
   axis-exchanged y a k = tt
 
   -- by one generator more
-  then_flip : (s : Symmetry) (m : ℕ) (x y : CommandValue T) (t : List (List T)) → IsTable t → row_count (act s t) ≡ m → Through s x (command_of_flipped m y) t → Through (product s FlipRows) x y t
+  then_flip : (s : Symmetry) (m : ℕ) (x y : CommandValue T) (t : List (List T)) → IsTable t → row_count (act s t) ≡ m → Through s x (flipped_command m y) t → Through (product s FlipRows) x y t
   then_flip s m x y t h e p =
-      through_both s FlipRows x (command_of_flipped m y) y t h (axis-flipped m y) p
-      (subst (λ k. Through FlipRows (command_of_flipped k y) y (act s t)) e (through_flip y (act s t) (IsTable-act s t h)))
+      through_both s FlipRows x (flipped_command m y) y t h (axis-flipped m y) p
+      (subst (λ k. Through FlipRows (flipped_command k y) y (act s t)) e (through_flip y (act s t) (IsTable-act s t h)))
 
-  then_cross : (s : Symmetry) (x y : CommandValue T) (t : List (List T)) → IsTable t → Through s x (command_of_transposed y) t → Through (product s Transpose) x y t
+  then_cross : (s : Symmetry) (x y : CommandValue T) (t : List (List T)) → IsTable t → Through s x (transposed_command y) t → Through (product s Transpose) x y t
   then_cross s x y t h p =
-      through_both s Transpose x (command_of_transposed y) y t h (axis-exchanged y) p (through_cross y (act s t) (IsTable-act s t h))
+      through_both s Transpose x (transposed_command y) y t h (axis-exchanged y) p (through_cross y (act s t) (IsTable-act s t h))
 
   reply-none : (a : Axis) (q : ReplyValue T) → turned_reply Identity a q ≡ q
   reply-none Row (size_is m n) = refl
@@ -127,21 +127,21 @@ module _ {T : Type 0} where
   through Identity y t h = through_none y t h
   through Transpose y t h = through_cross y t h
   through FlipRows y t h = through_flip y t h
-  through RotateLeft y t h = then_flip Transpose (col_count t) _ y t h (rows-act Transpose t) (through_cross (command_of_flipped (col_count t) y) t h)
-  through RotateRight y t h = then_cross FlipRows _ y t h (through_flip (command_of_transposed y) t h)
+  through RotateLeft y t h = then_flip Transpose (col_count t) _ y t h (rows-act Transpose t) (through_cross (flipped_command (col_count t) y) t h)
+  through RotateRight y t h = then_cross FlipRows _ y t h (through_flip (transposed_command y) t h)
   through FlipCols y t h =
       then_cross RotateLeft _ y t h
-      (then_flip Transpose (col_count t) _ (command_of_transposed y) t h (rows-act Transpose t)
-      (through_cross (command_of_flipped (col_count t) (command_of_transposed y)) t h))
+      (then_flip Transpose (col_count t) _ (transposed_command y) t h (rows-act Transpose t)
+      (through_cross (flipped_command (col_count t) (transposed_command y)) t h))
   through AntiTranspose y t h =
       then_flip RotateRight (col_count t) _ y t h (rows-act RotateRight t)
-      (then_cross FlipRows _ (command_of_flipped (col_count t) y) t h (through_flip (command_of_transposed (command_of_flipped (col_count t) y)) t h))
+      (then_cross FlipRows _ (flipped_command (col_count t) y) t h (through_flip (transposed_command (flipped_command (col_count t) y)) t h))
   through RotateHalf y t h =
-      let z = command_of_flipped (row_count t) y in
+      let z = flipped_command (row_count t) y in
       then_flip FlipCols (row_count t) _ y t h (rows-act FlipCols t)
       (then_cross RotateLeft _ z t h
-      (then_flip Transpose (col_count t) _ (command_of_transposed z) t h (rows-act Transpose t)
-      (through_cross (command_of_flipped (col_count t) (command_of_transposed z)) t h)))
+      (then_flip Transpose (col_count t) _ (transposed_command z) t h (rows-act Transpose t)
+      (through_cross (flipped_command (col_count t) (transposed_command z)) t h)))
 
   -- the step_shift
   pub shift-carried : (s : Symmetry) (y : CommandValue T) (o : Order) (m n : ℕ) → step_shift (carried s m n y) o m n ≡ shift_through s y o m n
@@ -165,13 +165,13 @@ module _ {T : Type 0} where
         shifts = λ o. shift-carried s y o m n;
       }
 
-  applies-flipped : (m : ℕ) (y : CommandValue T) → is_apply (command_of_flipped m y) ≡ is_apply y
+  applies-flipped : (m : ℕ) (y : CommandValue T) → is_apply (flipped_command m y) ≡ is_apply y
   applies-flipped m (lines Row e) = refl
   applies-flipped m (lines Col e) = refl
   applies-flipped m size = refl
   applies-flipped m y = refl
 
-  applies-exchanged : (y : CommandValue T) → is_apply (command_of_transposed y) ≡ is_apply y
+  applies-exchanged : (y : CommandValue T) → is_apply (transposed_command y) ≡ is_apply y
   applies-exchanged size = refl
   applies-exchanged y = refl
 

@@ -1,6 +1,5 @@
 mod CarryLemmas
 mod LineLemmas
-mod ShownLemmas
 mod PendingLemmas
 mod AllowanceLemmas
 mod RunLemmas

@@ -1,5 +1,5 @@
 -- What is pending after a command, and what a carried command rests on.
-use Rattle.std.proofs.Common.{◌≡◌, List, [], ◌∷◌, Bool, true, false, refl, sym, ◌∙◌, ap, Result, Ok, Err, OnOk, OnErr, Some, IsTrue, ℕ}
+use Rattle.std.proofs.Common.{◌≡◌, List, [], ◌∷◌, Bool, true, false, refl, sym, ◌∙◌, ap, Some, IsTrue, ℕ}
 use Rattle.grid_base.specs.declared.words.Symmetry.{Symmetry}
 use Rattle.grid_base.specs.declared.words.Symmetry.TheVariants.{Identity, FlipCols, FlipRows, RotateHalf, Transpose, RotateLeft, RotateRight, AntiTranspose}
 use Rattle.grid_base.specs.Table.{row_count, col_count, cell, IsTable}
@@ -17,7 +17,7 @@ use Rattle.grid_commands.specs.Refusal.{in_range}
 use Rattle.grid.specs.Step.{step_rows, step_reply, takes_memory, RowsAreKnown, EditIsKnown}
 use Rattle.grid.specs.Cost.{command_symmetry, step_shift}
 use Rattle.grid.proofs.CellThroughLemmas.{cell_past}
-use Rattle.grid.specs.Through.{turned_reply, edit_of_flipped, edit_of_reversed, command_of_transposed, command_of_flipped}
+use Rattle.grid.specs.Through.{turned_reply, edit_of_flipped, edit_of_reversed, transposed_command, flipped_command}
 use Rattle.grid_deferred.specs.Carry.{shift_through, CarriesAt, is_apply}
 use Rattle.grid_deferred.specs.Carried.{carried}
 use Rattle.grid_deferred.specs.Deferred.{pending_after}
@@ -79,7 +79,7 @@ applies-none x h = refl
 
 -- the same premises are enough for the carried command
 module _ {T : Type 0} (is_default : T → Type 0) (is_clone : T → T → Type 0) (d : T) where
-  known-transposed : (y : CommandValue T) → RowsAreKnown is_default is_clone d y → RowsAreKnown is_default is_clone d (command_of_transposed y)
+  known-transposed : (y : CommandValue T) → RowsAreKnown is_default is_clone d y → RowsAreKnown is_default is_clone d (transposed_command y)
   known-transposed size h = h
   known-transposed y h = h
 
@@ -91,7 +91,7 @@ module _ {T : Type 0} (is_default : T → Type 0) (is_clone : T → T → Type 0
   edit-reversed pop h = h
   edit-reversed e h = h
 
-  known-flipped : (m : ℕ) (y : CommandValue T) → RowsAreKnown is_default is_clone d y → RowsAreKnown is_default is_clone d (command_of_flipped m y)
+  known-flipped : (m : ℕ) (y : CommandValue T) → RowsAreKnown is_default is_clone d y → RowsAreKnown is_default is_clone d (flipped_command m y)
   known-flipped m (lines Row e) h = edit-flipped m e h
   known-flipped m (lines Col e) h = edit-reversed e h
   known-flipped m size h = h
@@ -109,14 +109,6 @@ module _ {T : Type 0} (is_default : T → Type 0) (is_clone : T → T → Type 0
 
   pub carried_known : (s : Symmetry) (m n : ℕ) (x y : CommandValue T) → x ≡ carried s m n y → RowsAreKnown is_default is_clone d y → RowsAreKnown is_default is_clone d x
   carried_known s m n x y e h = rw e (known-carried s m n y h)
-
-pub ok_any : {V E : Type 0} (r : Result V E) {P : Type 0} → P → OnOk r P
-ok_any (Ok v) p = p
-ok_any (Err e) p = tt
-
-pub err_any : {V E : Type 0} (r : Result V E) {P : Type 0} → P → OnErr r P
-err_any (Ok v) p = tt
-err_any (Err e) p = p
 
 -- what a carried command does, at a base of m rows and n columns
 module _ {T : Type 0} (s : Symmetry) (m n : ℕ) (x y : CommandValue T) (t : List (List T)) (h : IsTable t) (rows : m ≡ row_count t) (cols : n ≡ col_count t) (is : x ≡ carried s m n y) where

@@ -1,22 +1,36 @@
--- What a read of a column replies.
-use Rattle.std.proofs.Common.{◌≡◌, ℕ, ◌<◌, ◌≤◌, None, Some, List, [], length, sym, ◌∙◌, ap, arith}
+-- What a read of a line replies.
+use Rattle.std.proofs.Common.{◌≡◌, ℕ, ◌<◌, ◌≤◌, None, Some, List, [], IsTrue, nat_lt, refl, sym, ◌∙◌, ap, arith, slice_get}
+use Rattle.std.proofs.lemmas.Bool.{lt-ltb}
 use Rattle.std.proofs.lemmas.Option.{slice_get-get_or, slice_get_past}
-use Rattle.grid_base.specs.Table.{row, row_count, col_count, transposed, IsTable}
-use Rattle.grid_commands.specs.declared.command.Axis.TheVariants.{Col}
-use Rattle.grid_commands.specs.Command.{read, lines}
+use Rattle.grid_base.specs.declared.words.Symmetry.TheVariants.{Transpose}
+use Rattle.grid_base.specs.Table.{row, row_count, col_count}
+use Rattle.grid_base.specs.Symmetry.{act}
+use Rattle.grid_commands.specs.declared.command.Axis.{Axis}
+use Rattle.grid_commands.specs.declared.command.Axis.TheVariants.{Row, Col}
+use Rattle.grid_commands.specs.Command.{read, lines, line_count}
 use Rattle.grid_commands.specs.Reply.{line_is}
-use Rattle.grid.specs.Step.{step_reply}
-use Rattle.grid_base.proofs.ActLemmas.{act_is_transposed}
-use Rattle.grid.proofs.ColEditLemmas.{rows-across}
+use Rattle.grid.specs.Step.{step_reply, line_at}
+use Rattle.grid_deferred.specs.Deferred.{along}
+use Rattle.grid_base.proofs.ActLemmas.{rows-act}
 
-module _ {T : Type 0} where
-  columns : (t : List (List T)) → IsTable t → length (transposed t) ≡ col_count t
-  columns t h = ap row_count (sym (act_is_transposed t)) ∙ rows-across t h
+module _ {T : Type 0} (t : List (List T)) where
+  line-along : (a : Axis) (at : ℕ) → slice_get (along a t) at ≡ line_at a at t
+  unfolding act
+  line-along Row at = refl
+  line-along Col at = refl
 
-  pub read_col_some : (at : ℕ) (t : List (List T)) → IsTable t → at < col_count t → line_is (Some (row (transposed t) at)) ≡ step_reply (lines Col (read at)) t
-  unfolding step_reply
-  read_col_some at t h lt = ap line_is (sym (slice_get-get_or (transposed t) at [] (omega (arith, lt, columns t h))))
+  rows-along : (a : Axis) → row_count (along a t) ≡ line_count a (row_count t) (col_count t)
+  rows-along Row = refl
+  rows-along Col = rows-act Transpose t
 
-  pub read_col_none : (at : ℕ) (t : List (List T)) → IsTable t → col_count t ≤ at → line_is None ≡ step_reply (lines Col (read at)) t
-  unfolding step_reply
-  read_col_none at t h le = ap line_is (sym (slice_get_past (transposed t) at (omega (arith, le, columns t h))))
+  module _ (a : Axis) (at : ℕ) (v : List (List T)) (seen : v ≡ along a t) where
+    pub read_some : at < row_count v → line_is (Some (row v at)) ≡ step_reply (lines a (read at)) t
+    unfolding step_reply
+    read_some lt = ap line_is (sym (slice_get-get_or v at [] lt) ∙ (ap (λ u. slice_get u at) seen ∙ line-along a at))
+
+    pub read_none : row_count v ≤ at → line_is None ≡ step_reply (lines a (read at)) t
+    unfolding step_reply
+    read_none le = ap line_is (sym (slice_get_past v at le) ∙ (ap (λ u. slice_get u at) seen ∙ line-along a at))
+
+    pub read_takes : at < row_count v → IsTrue (nat_lt at (line_count a (row_count t) (col_count t)))
+    read_takes lt = lt-ltb _ _ (omega (arith, lt, ap row_count seen, rows-along a))

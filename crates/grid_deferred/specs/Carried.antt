@@ -13,16 +13,16 @@ use Rattle.grid_base.specs.declared.words.Symmetry.TheVariants.{
   AntiTranspose,
 }
 use Rattle.grid_commands.specs.Command.{CommandValue}
-use Rattle.grid.specs.Through.{mirror_place, command_of_transposed, command_of_flipped}
+use Rattle.grid.specs.Through.{transposed_command, flipped_command}
 
 -- the command on a base of m rows and n columns that does what this one does on its image
 abbrev pub carried : {T : Type 0} → Symmetry → ℕ → ℕ → CommandValue T → CommandValue T
 carried Identity m n y = y
-carried Transpose m n y = command_of_transposed y
-carried FlipRows m n y = command_of_flipped m y
-carried RotateLeft m n y = command_of_transposed (command_of_flipped n y)
-carried RotateRight m n y = command_of_flipped m (command_of_transposed y)
-carried FlipCols m n y = command_of_transposed (command_of_flipped n (command_of_transposed y))
-carried AntiTranspose m n y = command_of_flipped m (command_of_transposed (command_of_flipped n y))
-carried RotateHalf m n y = command_of_transposed
-    (command_of_flipped n (command_of_transposed (command_of_flipped m y)))
+carried Transpose m n y = transposed_command y
+carried FlipRows m n y = flipped_command m y
+carried RotateLeft m n y = transposed_command (flipped_command n y)
+carried RotateRight m n y = flipped_command m (transposed_command y)
+carried FlipCols m n y = transposed_command (flipped_command n (transposed_command y))
+carried AntiTranspose m n y = flipped_command m (transposed_command (flipped_command n y))
+carried RotateHalf m n y = transposed_command
+    (flipped_command n (transposed_command (flipped_command m y)))

@@ -7,33 +7,10 @@ use Rattle.grid_base.specs.Table.{row_count, col_count, IsTable}
 use Rattle.grid_base.specs.Symmetry.{act}
 use Rattle.grid_commands.specs.declared.command.Axis.{Axis}
 use Rattle.grid_commands.specs.declared.command.Axis.TheVariants.{Row, Col}
-use Rattle.grid_commands.specs.Command.{
-  Edit,
-  read,
-  push,
-  insert_at,
-  insert_all,
-  pop,
-  remove_at,
-  delete_at,
-  delete_range,
-  expand,
-  prepend,
-  CommandValue,
-  size,
-  get,
-  set_cell,
-  swap_cells,
-  lines,
-  fill,
-  clear,
-  apply,
-  axis_of,
-  line_count,
-}
+use Rattle.grid_commands.specs.Command.{Edit, delete_at, delete_range, expand, prepend, CommandValue, lines, apply, axis_of, line_count}
 use Rattle.grid.specs.Step.{step_rows, step_reply, takes_memory}
 use Rattle.grid.specs.Cost.{step_shift}
-use Rattle.grid.specs.Through.{turned_reply, base_axis, mirror_place, mirror_start}
+use Rattle.grid.specs.Through.{turned_reply, base_axis, mirrored_line, mirrored_start}
 
 -- whether the image under a symmetry has the lines of an axis in the reversed order
 abbrev pub reverses_lines : Symmetry → Axis → Bool
@@ -46,14 +23,10 @@ module _ {T : Type 0} where
   abbrev pub mirrored : ℕ → Edit T → Edit T
   mirrored count (expand k) = prepend k
   mirrored count (prepend k) = expand k
-  mirrored count (delete_at i) = delete_at (mirror_place count i)
-  mirrored count (delete_range i k) = delete_range (mirror_start count i k) k
-  mirrored count (read i) = read i
-  mirrored count (push line) = push line
-  mirrored count (insert_at i line) = insert_at i line
-  mirrored count (insert_all i ls) = insert_all i ls
-  mirrored count pop = pop
-  mirrored count (remove_at i) = remove_at i
+  mirrored count (delete_at i) = delete_at (mirrored_line count i)
+  mirrored count (delete_range i k) = delete_range (mirrored_start count i k) k
+  -- every edit but padding and a delete
+  mirrored count e = e
 
   abbrev pub mirrored_if : Bool → ℕ → Edit T → Edit T
   mirrored_if true count e = mirrored count e
@@ -64,13 +37,12 @@ module _ {T : Type 0} where
   shift_through s (lines a e) o m n =
       step_shift (lines (base_axis s a) (mirrored_if (reverses_lines s a)
       (line_count (base_axis s a) m n) e)) o m n
-  shift_through s size o m n = 0
-  shift_through s (get r c) o m n = 0
-  shift_through s (set_cell r c v) o m n = 0
-  shift_through s (swap_cells p q) o m n = 0
-  shift_through s (fill v) o m n = 0
-  shift_through s clear o m n = 0
-  shift_through s (apply u) o m n = 0
+  -- every command that is no edit of lines
+  shift_through s x o m n = 0
+
+  -- at a base of these rows
+  abbrev pub shift_through_at : Symmetry → CommandValue T → Order → List (List T) → ℕ
+  shift_through_at s x o t = shift_through s x o (row_count t) (col_count t)
 
   -- x on a table does what y does on the table's image, whatever the cells' default
   pub record CarriesAt (s : Symmetry) (x y : CommandValue T) (t : List (List T)) : Type 0 where
@@ -86,10 +58,5 @@ module _ {T : Type 0} where
 
   abbrev pub is_apply : CommandValue T → Bool
   is_apply (apply s) = true
-  is_apply size = false
-  is_apply (get r c) = false
-  is_apply (set_cell r c v) = false
-  is_apply (swap_cells p q) = false
-  is_apply (lines a e) = false
-  is_apply (fill v) = false
-  is_apply clear = false
+  -- every other command
+  is_apply x = false

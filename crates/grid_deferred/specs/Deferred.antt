@@ -2,8 +2,11 @@
 use Rattle.std.specs.Prelude.{List, [], ◌∷◌}
 use Rattle.std.specs.Borrow.{GName}
 use Rattle.grid_base.specs.declared.words.Symmetry.{Symmetry}
+use Rattle.grid_base.specs.declared.words.Symmetry.TheVariants.{Transpose}
 use Rattle.grid_base.specs.GridValue.{GridValue}
 use Rattle.grid_base.specs.Symmetry.{act, symmetry_of}
+use Rattle.grid_commands.specs.declared.command.Axis.{Axis}
+use Rattle.grid_commands.specs.declared.command.Axis.TheVariants.{Row, Col}
 use Rattle.grid_commands.specs.Command.{CommandValue}
 use Rattle.grid_deferred.specs.declared.deferred.Deferred.{Deferred}
 use Rattle.grid.specs.Cost.{command_symmetry}
@@ -28,3 +31,8 @@ module _ {T A : Type 0} where
 -- what is pending after a command, where s was
 abbrev pub pending_after : {T : Type 0} → CommandValue T → Symmetry → Symmetry
 pending_after x s = symmetry_of (s ∷ command_symmetry x ∷ [])
+
+-- the table whose rows are the lines of an axis
+abbrev pub along : {T : Type 0} → Axis → List (List T) → List (List T)
+along Row t = t
+along Col t = act Transpose t

@@ -8,28 +8,7 @@ use Rattle.grid_base.specs.Table.{row_count, col_count}
 use Rattle.grid_base.specs.Tally.{Counts, saturating_count}
 use Rattle.grid_base.specs.Clones.{ClonesAreEqual}
 use Rattle.grid_base.specs.Symmetry.{order_after, price, half, image_rows, image_cols}
-use Rattle.grid_commands.specs.Command.{
-  Edit,
-  read,
-  push,
-  insert_at,
-  insert_all,
-  pop,
-  remove_at,
-  delete_at,
-  delete_range,
-  expand,
-  prepend,
-  CommandValue,
-  size,
-  get,
-  set_cell,
-  swap_cells,
-  lines,
-  fill,
-  clear,
-  apply,
-}
+use Rattle.grid_commands.specs.Command.{Edit, delete_at, delete_range, expand, prepend, CommandValue, lines}
 use Rattle.grid_commands.specs.Reply.{ReplyValue}
 use Rattle.grid.specs.Step.{step_rows, RowsAreKnown}
 use Rattle.grid.specs.Cost.{list_symmetry}
@@ -62,22 +41,13 @@ module _ {T : Type 0} where
   edit_allowance (prepend k) cells = cells
   edit_allowance (delete_at i) cells = cells
   edit_allowance (delete_range i k) cells = cells
-  edit_allowance (read i) cells = 0
-  edit_allowance (push line) cells = 0
-  edit_allowance (insert_at i line) cells = 0
-  edit_allowance (insert_all i ls) cells = 0
-  edit_allowance pop cells = 0
-  edit_allowance (remove_at i) cells = 0
+  -- every edit but padding and a delete
+  edit_allowance e cells = 0
 
   abbrev pub step_allowance : CommandValue T → ℕ → ℕ
   step_allowance (lines a e) cells = edit_allowance e cells
-  step_allowance size cells = 0
-  step_allowance (get r c) cells = 0
-  step_allowance (set_cell r c v) cells = 0
-  step_allowance (swap_cells p q) cells = 0
-  step_allowance (fill v) cells = 0
-  step_allowance clear cells = 0
-  step_allowance (apply s) cells = 0
+  -- every command that is no edit of lines
+  step_allowance x cells = 0
 
   -- the shift allowance of a list of commands: for each that may shift, the cells that stood before
   -- it

@@ -3,10 +3,9 @@
 //! Each symmetry is a word of transposes and flips of the rows, so a command is carried by these two.
 ghost use Rattle.std.specs.Prelude.{◌≡◌, map, reverse};
 ghost use Rattle.grid_base.specs.Gather.{items_of_each};
-ghost use Rattle.grid_base.specs.Symmetry.{transposes};
 ghost use Rattle.grid_commands.specs.Command.{command_value};
 ghost use Rattle.grid_commands.specs.Reply.{reply_value};
-ghost use Rattle.grid.specs.Through.{turned_reply, reverses_cells, mirror_place, mirror_gap, mirror_start, command_of_transposed, command_of_flipped};
+ghost use Rattle.grid.specs.Through.{turned_reply, reverses_cells, mirrored_line, mirrored_insertion, mirrored_start, transposed_command, flipped_command};
 ghost use Rattle.grid_deferred.specs.Carry.{Carries, is_apply};
 ghost use Rattle.grid_deferred.specs.Carried.{carried};
 
@@ -69,7 +68,7 @@ pub(crate) fn carried<T, A: Allocator>(
 
 // The same command on the transposed table.
 fn transposed_command<T, A: Allocator>(command: Command<T, A>) -> Command<T, A>
-    ensures { command_value result ≡ command_of_transposed (command_value command) }
+    ensures { command_value result ≡ transposed_command (command_value command) }
 {
     match command {
         Command::Size => Command::Size,
@@ -106,7 +105,7 @@ fn transposed_command<T, A: Allocator>(command: Command<T, A>) -> Command<T, A>
 
 // The same command on a table of so many rows in the reversed order.
 fn flipped_command<T, A: Allocator>(rows: usize, command: Command<T, A>) -> Command<T, A>
-    ensures { command_value result ≡ command_of_flipped rows (command_value command) }
+    ensures { command_value result ≡ flipped_command rows (command_value command) }
 {
     match command {
         Command::Size => Command::Size,
@@ -152,21 +151,21 @@ fn flipped_command<T, A: Allocator>(rows: usize, command: Command<T, A>) -> Comm
 
 // Where a line stands, counted from the other end; past the end it stays.
 pub(crate) fn mirrored_line(count: usize, at: usize) -> usize
-    ensures { result ≡ mirror_place count at }
+    ensures { result ≡ mirrored_line count at }
 {
     if at < count { count - 1 - at } else { at }
 }
 
 // Where a line is put, counted from the other end; past the end it stays.
 fn mirrored_insertion(count: usize, at: usize) -> usize
-    ensures { result ≡ mirror_gap count at }
+    ensures { result ≡ mirrored_insertion count at }
 {
     if count < at { at } else { count - at }
 }
 
 // Where a range of lines starts, counted from the other end; past the end it stays.
 fn mirrored_start(count: usize, from: usize, len: usize) -> usize
-    ensures { result ≡ mirror_start count from len }
+    ensures { result ≡ mirrored_start count from len }
 {
     if from > count || len > count - from {
         from
@@ -217,7 +216,7 @@ pub fn carry_reply<T, A: Allocator>(
 {
     match reply {
         Reply::Size(rows, cols) => {
-            if transposes(symmetry) {
+            if symmetry.flags().0 {
                 Reply::Size(cols, rows)
             } else {
                 Reply::Size(rows, cols)
@@ -232,15 +231,6 @@ pub fn carry_reply<T, A: Allocator>(
         }
         other => other,
     }
-}
-
-pub(crate) fn transposes(symmetry: Symmetry) -> bool
-    ensures { result ≡ transposes symmetry }
-{
-    matches!(
-        symmetry,
-        Symmetry::Transpose | Symmetry::RotateLeft | Symmetry::RotateRight | Symmetry::AntiTranspose
-    )
 }
 
 // Whether each line of an axis of the image is reversed.

@@ -9,15 +9,15 @@ ghost use Rattle.grid_base.specs.Clones.{ClonesAreEqual};
 ghost use Rattle.grid_base.specs.declared.words.Symmetry.{Symmetry};
 ghost use Rattle.grid_base.specs.declared.words.Symmetry.TheVariants.{Identity};
 ghost use Rattle.grid_commands.specs.declared.command.Axis.TheVariants.{Row, Col};
-ghost use Rattle.grid_commands.specs.Command.{command_value, get, lines, read, apply};
+ghost use Rattle.grid_commands.specs.Command.{command_value, get, lines, read, apply, line_count};
 ghost use Rattle.grid_commands.specs.Reply.{reply_value};
 ghost use Rattle.grid_commands.specs.Refusal.{in_range};
-ghost use Rattle.grid.specs.Step.{step_rows, step_reply, takes_memory, RowsAreKnown};
-ghost use Rattle.grid_deferred.specs.Carry.{shift_through, is_apply};
-ghost use Rattle.grid_deferred.specs.Deferred.{pending_after};
+ghost use Rattle.grid.specs.Step.{step_rows, step_reply, memory_at, RowsAreKnown};
+ghost use Rattle.grid_deferred.specs.Carry.{shift_through_at, is_apply};
+ghost use Rattle.grid_deferred.specs.Deferred.{pending_after, along};
 
 use crate::carrying::{carried, carry_reply};
-use grid::{Command, Grid, Reply, Tally};
+use grid::{Axis, Command, Grid, Reply, Tally};
 use grid_base::Symmetry;
 use grid_view::{GridView, ViewLineIter};
 use std::alloc::{AllocError, Allocator, Global};
@@ -49,12 +49,11 @@ where
     ensures order { base.new.order ≡ base.old.order }
     ensures symmetry { tally.new.symmetry ≡ tally.old.symmetry }
     ensures shift { OnOk result (tally.new.shift ≡ saturating_count tally.old.shift
-        (shift_through symmetry (command_value command) base.old.order
-        (row_count base.old.rows) (col_count base.old.rows))) }
+        (shift_through_at symmetry (command_value command) base.old.order base.old.rows)) }
     ensures err_shift { OnErr result (tally.new.shift ≡ tally.old.shift) }
     ensures err_base { OnErr result (base.new ≡ base.old) }
-    ensures err_memory { OnErr result (IsTrue (takes_memory (command_value command)
-        (row_count (act symmetry base.old.rows)) (col_count (act symmetry base.old.rows)))) }
+    ensures err_memory { OnErr result
+        (IsTrue (memory_at (command_value command) (act symmetry base.old.rows))) }
 {
     let axis = command.axis();
     let carried = carried(symmetry, size.0, size.1, command);
@@ -194,39 +193,32 @@ impl<'a, T, A: Allocator> Deferred<'a, T, A> {
         }
     }
 
-    // Reads a row.
-    fn read_row(&self, at: usize) -> Result<Reply<T, A>, AllocError>
-    where
-        T: Clone + Drop,
-        A: Clone,
-        ensures reply { IfOk result (λ reply. ClonesAreEqual T.is_clone
-            → reply_value reply ≡ step_reply (lines Row (read at)) (shown self.now)) }
-        ensures err_memory { OnErr result (IsTrue (nat_lt at (row_count (shown self.now)))) }
+    // The view whose rows are the lines of an axis.
+    fn along(&self, axis: Axis) -> GridView<'_, T>
+        ensures { result.rows ≡ along axis (shown self.now) }
     {
-        let (rows, _) = self.size();
-        if at >= rows {
-            return Ok(Reply::Line(None));
+        match axis {
+            Axis::Row => self.view(),
+            Axis::Col => self.view().turned(Symmetry::Transpose),
         }
-        let alloc = self.base.allocator().clone()?;
-        let line = clone_cells(alloc, self.iter_row(at))?;
-        Ok(Reply::Line(Some(line)))
     }
 
-    // Reads a column.
-    fn read_col(&self, at: usize) -> Result<Reply<T, A>, AllocError>
+    // Reads a row or a column.
+    fn read_line(&self, axis: Axis, at: usize) -> Result<Reply<T, A>, AllocError>
     where
         T: Clone + Drop,
         A: Clone,
         ensures reply { IfOk result (λ reply. ClonesAreEqual T.is_clone
-            → reply_value reply ≡ step_reply (lines Col (read at)) (shown self.now)) }
-        ensures err_memory { OnErr result (IsTrue (nat_lt at (col_count (shown self.now)))) }
+            → reply_value reply ≡ step_reply (lines axis (read at)) (shown self.now)) }
+        ensures err_memory { OnErr result (IsTrue (nat_lt at
+            (line_count axis (row_count (shown self.now)) (col_count (shown self.now))))) }
     {
-        let (_, cols) = self.size();
-        if at >= cols {
+        let view = self.along(axis);
+        if at >= view.size().0 {
             return Ok(Reply::Line(None));
         }
         let alloc = self.base.allocator().clone()?;
-        let line = clone_cells(alloc, self.iter_col(at))?;
+        let line = clone_cells(alloc, view.iter_row(at))?;
         Ok(Reply::Line(Some(line)))
     }
 
@@ -263,15 +255,15 @@ impl<'a, T, A: Allocator> Deferred<'a, T, A> {
         ensures order { (base self.new).order ≡ (base self.old).order }
         ensures symmetry { tally.new.symmetry ≡ tally.old.symmetry }
         ensures shift { OnOk result (tally.new.shift ≡ saturating_count tally.old.shift
-            (shift_through (pending self.old) (command_value command) (base self.old).order
-            (row_count (base self.old).rows) (col_count (base self.old).rows))) }
+            (shift_through_at (pending self.old) (command_value command)
+            (base self.old).order (base self.old).rows)) }
 
         // An error comes at a command that takes memory, and changes nothing.
         ensures err_shift { OnErr result (tally.new.shift ≡ tally.old.shift) }
         ensures err_base { OnErr result (base self.new ≡ base self.old) }
         ensures err_pending { OnErr result (pending self.new ≡ pending self.old) }
-        ensures err_memory { OnErr result (IsTrue (takes_memory (command_value command)
-            (row_count (shown self.old)) (col_count (shown self.old)))) }
+        ensures err_memory { OnErr result
+            (IsTrue (memory_at (command_value command) (shown self.old))) }
     {
         let size = self.base.size();
         match command {
@@ -280,8 +272,8 @@ impl<'a, T, A: Allocator> Deferred<'a, T, A> {
                 Ok(Reply::Done)
             }
             Command::Get(row, col) => self.read_cell(row, col),
-            Command::Row(at) => self.read_row(at),
-            Command::Col(at) => self.read_col(at),
+            Command::Row(at) => self.read_line(Axis::Row, at),
+            Command::Col(at) => self.read_line(Axis::Col, at),
             other => step_through(self.base, self.pending, size, other, tally),
         }
     }

@@ -11,8 +11,10 @@ use Rattle.grid_json.specs.declared.error.Field.TheVariants as fields
 use Rattle.grid_json.specs.declared.error.ReadError.TheVariants.{MissingField}
 use Rattle.grid_json.specs.Content.{Content, written, contents}
 use Rattle.grid_json.specs.Reading.{Parts, or_refuse, parts_of, cols_in, items_in, cells_from, order_in, order_name, cut, reading, value_of}
-use Rattle.grid_json.proofs.TableLemmas.{table_map, storage_map, col_count_map, map_twice, length_map, cut_of_table}
+use Rattle.grid_json.proofs.TableLemmas.{table_map, storage_map, cut_of_table, cols_map}
 use Rattle.grid_json.proofs.ReadLemmas.{read_back, order_back}
+use Rattle.std.proofs.lemmas.List.{length-map}
+use Rattle.std.proofs.lemmas.Simd.{map-map}
 
 pub all_tests : (read : Data → Option Content) (d : Data) (p : Parts) (c v : Data) (cols : ℕ) (items : Items) (cells : List Content) (o : Order)
     → parts_of d ≡ Ok p → or_refuse (MissingField fields.Cols) p.cols ≡ Ok c → or_refuse (MissingField fields.Data) p.data_part ≡ Ok v
@@ -22,13 +24,13 @@ all_tests read d p c v cols items cells o parts has_cols has_data is_cols is_ite
 
 module _ {T : Type 0} (content : T → Content) (g : GridValue T) where
   written_cells : map written (storage g.order (contents content g).rows) ≡ map (λ x. written (content x)) (storage g.order g.rows)
-  written_cells = ap (map written) (storage_map content g.order g.rows) ∙ map_twice written content (storage g.order g.rows)
+  written_cells = ap (map written) (storage_map content g.order g.rows) ∙ map-map written content (storage g.order g.rows)
 
   -- the parts of which the code makes the value
   pub value_is : (cols : ℕ) (v : Data) (name : List ℕ) → cols ≡ col_count g.rows → v ≡ array (items_of (map (λ x. written (content x)) (storage g.order g.rows))) → name ≡ order_name g.order
       → object (member (codes "cols") (number (unsigned cols)) (member (codes "data") v (member (codes "order") (string name) no_members))) ≡ value_of (contents content g)
   value_is cols v name width cells order =
-      let cols_is = width ∙ sym (col_count_map content g.rows) in
+      let cols_is = width ∙ sym (cols_map content g.rows) in
       let cells_are = cells ∙ ap (λ l. array (items_of l)) (sym written_cells) in
       λ i. object (member (codes "cols") (number (unsigned (cols_is i))) (member (codes "data") (cells_are i) (member (codes "order") (string (order i)) no_members)))
 
@@ -45,4 +47,4 @@ module _ {T : Type 0} (content : T → Content) (g : GridValue T) where
       ap (λ l. cells_from read 0 (items_of l)) written_cells ∙ read_back read content (storage g.order g.rows) 0 law in
       all_tests read (value_of s) parts (number (unsigned (col_count s.rows))) data_is (col_count s.rows) (items_of (map written (storage g.order s.rows))) cells g.order
       refl refl refl refl refl read_cells (order_back g.order)
-      ∙ cut_of_table g.order (col_count s.rows) cells s.rows (table_map content g.rows table) stored (λ some. refl) (rw (length_map content (storage g.order g.rows)) small)
+      ∙ cut_of_table g.order (col_count s.rows) cells s.rows (table_map content g.rows table) stored (λ some. refl) (rw (length-map (storage g.order g.rows) content) small)

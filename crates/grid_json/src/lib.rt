@@ -1,6 +1,6 @@
 //! Grids as JSON values: a grid is written as an object of `cols`, `data` and `order`, and read from one.
 //!
-//! A contract sees the content of each cell: a whole number, a truth value, or the bytes of a text.
+//! A contract sees the content of each cell: an integer, a truth value, or the bytes of a text.
 #![tactic(auto)]
 
 mod cell;

@@ -162,7 +162,7 @@ fn cut<T: Drop>(cells: Vec<T>, cols: usize, order: Order) -> Result<Grid<T>, Rea
 ///     2. UnknownField    an object has another key than the three
 ///        TooLong         an array has more than three items
 ///     3. MissingField    cols isn't there, then data
-///     4. BadCols         cols isn't a whole number from 0 to usize::MAX
+///     4. BadCols         cols isn't an integer from 0 to usize::MAX
 ///     5. BadData         data isn't an array
 ///     6. BadCell         an item of data is no cell; the index is that of the first such item
 ///     7. BadOrder        order is there, and is neither the text RowMajor nor ColumnMajor

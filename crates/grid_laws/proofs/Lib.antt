@@ -1,1 +1,11 @@
 pub mod RotationLemmas
+pub mod OriginLemmas
+pub mod PigeonLemmas
+pub mod MirrorLemmas
+pub mod PassLemmas
+pub mod ImageLemmas
+pub mod ChainLemmas
+pub mod DeleteLemmas
+pub mod PaddingLemmas
+pub mod EditLemmas
+pub mod CountLemmas

@@ -3,7 +3,7 @@ use Rattle.std.proofs.Common.{◌≡◌, ◌≢◌, ℕ, suc, ◌+◌, ◌-◌, 
 use Rattle.std.specs.List.{swap, filter, items_where_true}
 use Rattle.std.specs.List.Retain.{ReturnsInTurn, IsFiltered}
 use Rattle.std.proofs.lemmas.List.{take_more, take_more_set, take-set-le, drop-set-lt, drop_all, length-set}
-use Rattle.std.proofs.lemmas.List.Edits.{swap_is, length-swap}
+use Rattle.std.proofs.lemmas.List.Edits.{swap_is}
 
 module _ {X P : Type 0} (R : P → X → Bool → P → Type 0) where
   pub filtered_none : (p : P) → IsFiltered R p [] []
@@ -40,9 +40,6 @@ module _ {X P : Type 0} (R : P → X → Bool → P → Type 0) where
     pub count : length now ≡ length old
     pub ahead : drop row now ≡ drop row old
     pub goes : (ys : List X) → IsFiltered R q (drop row old) ys → IsFiltered R p old (take kept now ++ ys)
-
-  pub retaining_none : (p : P) (old : List X) → Retaining p old 0 0 p old
-  retaining_none p old = record { behind = omega arith; count = refl; ahead = refl; goes = λ ys f. f }
 
   module _ (p q r : P) (old : List X) (kept row : ℕ) (now : List X) (x : X) (i : Retaining p old kept row q now) (lt : row < length now) (is : x ≡ get_or now row x) where
     -- the rows ahead begin with x

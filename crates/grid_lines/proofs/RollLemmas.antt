@@ -1,8 +1,8 @@
 -- Two blocks that are a whole list and change places.
-use Rattle.std.proofs.Common.{◌≡◌, ◌⊎◌, inl, inr, ℕ, ◌+◌, ◌-◌, ◌<◌, ◌≤◌, List, ◌++◌, length, take, drop, refl, sym, ap, ◌∙◌, arith, ⊎_elim, length-append, length-drop, take-append-drop, append-nil}
+use Rattle.std.proofs.Common.{◌≡◌, ℕ, ◌+◌, ◌-◌, ◌<◌, ◌≤◌, List, ◌++◌, length, take, drop, sym, ap, ◌∙◌, arith, ⊎_elim, length-append, length-drop, take-append-drop}
 use Rattle.std.specs.List.{slice_get}
 use Rattle.std.proofs.lemmas.Bool.{cases_lt}
-use Rattle.std.proofs.lemmas.List.{length-take, drop_all, take_all}
+use Rattle.std.proofs.lemmas.List.{length-take}
 use Rattle.grid_base.specs.Blocks.{BlocksExchanged}
 use Rattle.grid_base.proofs.TableLemmas.{same_cells}
 use Rattle.grid_base.proofs.StorageLemmas.{get_append_left, get_append_right}
@@ -34,9 +34,3 @@ rolled {X} m n old new count e =
         ap (slice_get new) (omega arith)
         ∙ (e.first (k - n) (omega arith)
         ∙ (ap (slice_get old) (omega arith) ∙ (before (k - n) (omega arith) ∙ sym (get_append_right (drop m old) (take m old) k (k - n) (omega (arith, length-drop m old))))))
-
-pub rolled_none : {X : Type 0} (m : ℕ) (old : List X) → m ≤ length old → (m ≡ 0) ⊎ (m ≡ length old) → old ≡ drop m old ++ take m old
-rolled_none m old le either = elim either [
-  | inl none ↦ rw none (sym (append-nil old))
-  | inr all ↦ rw (drop_all m old (omega arith), take_all m old (omega arith)) refl
-]

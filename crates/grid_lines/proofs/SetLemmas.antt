@@ -9,11 +9,6 @@ set_set [] i a b = refl
 set_set (x ∷ xs) zero a b = refl
 set_set (x ∷ xs) (suc i) a b = ap (λ ys. x ∷ ys) (set_set xs i a b)
 
-pub set_here : {X : Type 0} (xs : List X) (i : ℕ) (d : X) → i < length xs → set xs i (get_or xs i d) ≡ xs
-set_here [] i d lt = absurd (omega arith)
-set_here (x ∷ xs) zero d lt = refl
-set_here (x ∷ xs) (suc i) d lt = ap (λ ys. x ∷ ys) (set_here xs i d (omega arith))
-
 -- the first cells are the new ones, and one more is written
 put_next : {X : Type 0} (cells old : List X) (i : ℕ) (x : X) → i < length cells → length cells ≡ length old → x ≡ get_or cells i x → set (take i cells ++ drop i old) i x ≡ take (suc i) cells ++ drop (suc i) old
 put_next [] old i x lt e is = absurd (omega arith)

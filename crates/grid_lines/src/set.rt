@@ -12,7 +12,7 @@ use std::alloc::Allocator;
 /// Requires: there is such a row, and there are as many cells as columns.
 /// Cost: one write for each cell of the row; no memory.
 pub fn set_row<T: Copy + Drop, A: Allocator>(grid: &mut Grid<T, A>, r: usize, cells: &[T])
-    requires place { r < row_count grid.old.rows }
+    requires row_in { r < row_count grid.old.rows }
     requires fits { length cells.now ≡ col_count grid.old.rows }
     ensures rows { grid.new.rows ≡ slice_set grid.old.rows r cells.now }
     ensures row_count { row_count grid.new.rows ≡ row_count grid.old.rows }
@@ -32,7 +32,7 @@ pub fn set_row<T: Copy + Drop, A: Allocator>(grid: &mut Grid<T, A>, r: usize, ce
 /// Requires: there is such a column, and there are as many cells as rows.
 /// Cost: one write for each cell of the column; no memory.
 pub fn set_col<T: Copy + Drop, A: Allocator>(grid: &mut Grid<T, A>, c: usize, cells: &[T])
-    requires place { c < col_count grid.old.rows }
+    requires col_in { c < col_count grid.old.rows }
     requires fits { length cells.now ≡ row_count grid.old.rows }
     ensures cols { transposed grid.new.rows ≡ slice_set (transposed grid.old.rows) c cells.now }
     ensures row_count { row_count grid.new.rows ≡ row_count grid.old.rows }

@@ -5,50 +5,47 @@ use Rattle.std.specs.Option.{option_map, option_and_then}
 use Rattle.std.proofs.lemmas.List.{drop_all}
 use Rattle.std.proofs.lemmas.Nat.{mod_below}
 use Rattle.std.proofs.lemmas.Bool.{cases_lt, lt-ltb, le-ltb, ltb-true}
-use Rattle.std.proofs.lemmas.Option.{slice_get_past, slice_get_read}
+use Rattle.std.proofs.lemmas.Option.{slice_get_read}
 use Rattle.grid_base.specs.declared.order.Order.{Order}
 use Rattle.grid_base.specs.declared.order.Order.TheVariants.{RowMajor, ColumnMajor}
-use Rattle.grid_base.specs.Table.{row, row_count, col_count, cell, IsTable}
-use Rattle.grid_base.specs.Order.{storage, place}
-use Rattle.grid_base.proofs.TableLemmas.{cell_past_rows, IsSome_within}
+use Rattle.grid_base.specs.Table.{row_count, col_count, cell, IsTable}
+use Rattle.grid_base.specs.Order.{storage, place, table_of}
+use Rattle.grid_base.specs.GridValue.{HoldsSize}
+use Rattle.grid_base.proofs.ViewLemmas.{view-rows, view-cols, view-table, view-storage}
+use Rattle.grid_base.proofs.TableLemmas.{cell_past_rows, IsSome_within, length_cons, past_cols}
 use Rattle.grid_base.proofs.StorageLemmas.{get-storage, length-storage, place_within}
-use Rattle.grid_near.specs.Neighbors.{both, cell_at}
-use Rattle.grid_near.specs.Around.{strided_cell, HoldsCells, step_count, box, beside, positions, position_of, cells_from, if_within, strides_of, IsThere, IsRound, positions_from}
+use Rattle.grid_near.specs.declared.steps.Steps.{Steps}
+use Rattle.grid_near.specs.declared.steps.Steps.TheVariants.{Sides, All}
+use Rattle.grid_near.specs.Neighbors.{step_count, both, cell_at, neighbors4, neighbors8, neighbors_of}
+use Rattle.grid_near.specs.Around.{strided_cell, HoldsCells, box, beside, positions, position_of, cells_from, if_within, strides_of, box_start, IsInner, IsThere, IsRound, positions_from}
 
 -- the position of a step is the first of those that are left
-pub positions_from_step : (sides : Bool) (at : ℕ × ℕ) (k : ℕ) → k < step_count sides → drop k (positions sides at) ≡ position_of sides at k ∷ drop (k + 1) (positions sides at)
-positions_from_step true at zero lt = refl
-positions_from_step true at (suc zero) lt = refl
-positions_from_step true at (suc (suc zero)) lt = refl
-positions_from_step true at (suc (suc (suc zero))) lt = refl
-positions_from_step true at (suc (suc (suc (suc k)))) lt = absurd (omega arith)
-positions_from_step false at zero lt = refl
-positions_from_step false at (suc zero) lt = refl
-positions_from_step false at (suc (suc zero)) lt = refl
-positions_from_step false at (suc (suc (suc zero))) lt = refl
-positions_from_step false at (suc (suc (suc (suc zero)))) lt = refl
-positions_from_step false at (suc (suc (suc (suc (suc zero))))) lt = refl
-positions_from_step false at (suc (suc (suc (suc (suc (suc zero)))))) lt = refl
-positions_from_step false at (suc (suc (suc (suc (suc (suc (suc zero))))))) lt = refl
-positions_from_step false at (suc (suc (suc (suc (suc (suc (suc (suc k)))))))) lt = absurd (omega arith)
+pub positions_from_step : (kind : Steps) (at : ℕ × ℕ) (k : ℕ) → k < step_count kind → drop k (positions kind at) ≡ position_of kind at k ∷ drop (k + 1) (positions kind at)
+positions_from_step Sides at zero lt = refl
+positions_from_step Sides at (suc zero) lt = refl
+positions_from_step Sides at (suc (suc zero)) lt = refl
+positions_from_step Sides at (suc (suc (suc zero))) lt = refl
+positions_from_step Sides at (suc (suc (suc (suc k)))) lt = absurd (omega arith)
+positions_from_step All at zero lt = refl
+positions_from_step All at (suc zero) lt = refl
+positions_from_step All at (suc (suc zero)) lt = refl
+positions_from_step All at (suc (suc (suc zero))) lt = refl
+positions_from_step All at (suc (suc (suc (suc zero)))) lt = refl
+positions_from_step All at (suc (suc (suc (suc (suc zero))))) lt = refl
+positions_from_step All at (suc (suc (suc (suc (suc (suc zero)))))) lt = refl
+positions_from_step All at (suc (suc (suc (suc (suc (suc (suc zero))))))) lt = refl
+positions_from_step All at (suc (suc (suc (suc (suc (suc (suc (suc k)))))))) lt = absurd (omega arith)
 
 -- no positions are left
-pub none_left : (sides : Bool) (at : ℕ × ℕ) (k : ℕ) → step_count sides ≤ k → drop k (positions sides at) ≡ []
-none_left true at k le = drop_all k _ le
-none_left false at k le = drop_all k _ le
+pub none_left : (kind : Steps) (at : ℕ × ℕ) (k : ℕ) → step_count kind ≤ k → drop k (positions kind at) ≡ []
+none_left Sides at k le = drop_all k _ le
+none_left All at k le = drop_all k _ le
 
 module _ {T : Type 0} (cells : List T) (size strides : ℕ × ℕ) where
   abbrev f : ℕ → ℕ → Option T
   f = strided_cell cells size strides
 
-  -- the cell of a position that is in the grid, or not
-  none_at : (q : ℕ × ℕ) → cond (nat_lt q.0 size.0 && nat_lt q.1 size.1) (Some q) None ≡ None → f q.0 q.1 ≡ None
-  none_at q e = cases (nat_lt q.0 size.0 && nat_lt q.1 size.1) e
-    where
-      cases : (b : Bool) → cond b (Some q) None ≡ None → cond b (slice_get cells (q.0 * strides.0 + q.1 * strides.1)) None ≡ None
-      cases true e = absurd (cc e)
-      cases false e = refl
-
+  -- the cell of a position that is in the grid
   some_at : (q p : ℕ × ℕ) (x : T) → cond (nat_lt q.0 size.0 && nat_lt q.1 size.1) (Some q) None ≡ Some p → slice_get cells (p.0 * strides.0 + p.1 * strides.1) ≡ Some x → option_map {U = (ℕ × ℕ) × T} (λ x. (q, x)) (f q.0 q.1) ≡ Some (p, x)
   some_at q p x e h = cases (nat_lt q.0 size.0 && nat_lt q.1 size.1) e
     where
@@ -65,20 +62,20 @@ module _ {T : Type 0} (cells : List T) (size strides : ℕ × ℕ) where
       cases None e = absurd (cc e)
       cases (Some r) e = some_at r q x (sym e) h
 
-module _ {T : Type 0} (f : ℕ → ℕ → Option T) (sides : Bool) (at : ℕ × ℕ) where
-  pub cells_left : (k : ℕ) → k < step_count sides → cells_from f sides at k ≡ cons_option (cell_at f (position_of sides at k)) (cells_from f sides at (k + 1))
-  cells_left k lt = ap (filter_map (cell_at f)) (positions_from_step sides at k lt)
+module _ {T : Type 0} (f : ℕ → ℕ → Option T) (kind : Steps) (at : ℕ × ℕ) where
+  pub cells_left : (k : ℕ) → k < step_count kind → cells_from f kind at k ≡ cons_option (cell_at f (position_of kind at k)) (cells_from f kind at (k + 1))
+  cells_left k lt = ap (filter_map (cell_at f)) (positions_from_step kind at k lt)
 
-  pub first_cell : (k : ℕ) (x : (ℕ × ℕ) × T) → k < step_count sides → cell_at f (position_of sides at k) ≡ Some x → cells_from f sides at k ≡ x ∷ cells_from f sides at (k + 1)
-  first_cell k x lt e = cells_left k lt ∙ ap (λ o. cons_option o (cells_from f sides at (k + 1))) e
+  pub first_cell : (k : ℕ) (x : (ℕ × ℕ) × T) → k < step_count kind → cell_at f (position_of kind at k) ≡ Some x → cells_from f kind at k ≡ x ∷ cells_from f kind at (k + 1)
+  first_cell k x lt e = cells_left k lt ∙ ap (λ o. cons_option o (cells_from f kind at (k + 1))) e
 
-  pub no_cells : (k : ℕ) → step_count sides ≤ k → cells_from f sides at k ≡ []
-  no_cells k le = ap (filter_map (cell_at f)) (none_left sides at k le)
+  pub no_cells : (k : ℕ) → step_count kind ≤ k → cells_from f kind at k ≡ []
+  no_cells k le = ap (filter_map (cell_at f)) (none_left kind at k le)
 
 -- steps whose positions aren't in the grid
-pub position_skipped : (size : ℕ × ℕ) (sides : Bool) (at : ℕ × ℕ) (k : ℕ) → k < step_count sides → if_within size (both (position_of sides at k)) ≡ None → positions_from size sides at k ≡ positions_from size sides at (k + 1)
-position_skipped size sides at k lt e =
-    ap (filter_map (λ p. if_within size (both p))) (positions_from_step sides at k lt) ∙ ap (λ o. cons_option o (positions_from size sides at (k + 1))) e
+pub position_skipped : (size : ℕ × ℕ) (kind : Steps) (at : ℕ × ℕ) (k : ℕ) → k < step_count kind → if_within size (both (position_of kind at k)) ≡ None → positions_from size kind at k ≡ positions_from size kind at (k + 1)
+position_skipped size kind at k lt e =
+    ap (filter_map (λ p. if_within size (both p))) (positions_from_step kind at k lt) ∙ ap (λ o. cons_option o (positions_from size kind at (k + 1))) e
 
 module _ {T : Type 0} (cells : List T) (size strides : ℕ × ℕ) where
   abbrev position_cell : ℕ × ℕ → Option ((ℕ × ℕ) × T)
@@ -96,15 +93,11 @@ module _ {T : Type 0} (cells : List T) (size strides : ℕ × ℕ) where
   cells_of_positions [] = refl
   cells_of_positions (p ∷ ps) = step_position (both p) _ _ (cells_of_positions ps)
 
-  pub cells_skipped : (sides : Bool) (at : ℕ × ℕ) (k l : ℕ) → positions_from size sides at k ≡ positions_from size sides at l → cells_from (strided_cell cells size strides) sides at k ≡ cells_from (strided_cell cells size strides) sides at l
-  cells_skipped sides at k l e =
-      cells_of_positions (drop k (positions sides at)) ∙ (ap (filter_map position_cell) e ∙ sym (cells_of_positions (drop l (positions sides at))))
+  pub cells_skipped : (kind : Steps) (at : ℕ × ℕ) (k l : ℕ) → positions_from size kind at k ≡ positions_from size kind at l → cells_from (strided_cell cells size strides) kind at k ≡ cells_from (strided_cell cells size strides) kind at l
+  cells_skipped kind at k l e =
+      cells_of_positions (drop k (positions kind at)) ∙ (ap (filter_map position_cell) e ∙ sym (cells_of_positions (drop l (positions kind at))))
 
 -- one cell for each position
-pub one_more : {X : Type 0} (o : Option X) (xs : List X) → IsSome o → length (cons_option o xs) ≡ suc (length xs)
-one_more None xs e = absurd (cc e)
-one_more (Some x) xs e = refl
-
 pub mapped_there : {X Y : Type 0} (f : X → Y) (o : Option X) → IsSome o → IsSome (option_map f o)
 mapped_there f None e = absurd (cc e)
 mapped_there f (Some x) e = refl
@@ -119,7 +112,7 @@ and_right false b e = absurd (cc e)
 
 module _ {T : Type 0} (cells : List T) (size strides : ℕ × ℕ) (h : HoldsCells cells size strides) where
   length_split : (q : ℕ × ℕ) (b : Bool) → (b ≡ true → IsSome (slice_get cells (q.0 * strides.0 + q.1 * strides.1))) → (xs : List ((ℕ × ℕ) × T)) (qs : List (ℕ × ℕ)) → length xs ≡ length qs → length (cons_option (option_map {U = (ℕ × ℕ) × T} (λ x. (q, x)) (cond b (slice_get cells (q.0 * strides.0 + q.1 * strides.1)) None)) xs) ≡ length (cons_option (cond b (Some q) None) qs)
-  length_split q true some xs qs same = one_more _ xs (mapped_there (λ x. (q, x)) _ (some refl)) ∙ ap suc same
+  length_split q true some xs qs same = length_cons _ xs (mapped_there (λ x. (q, x)) _ (some refl)) ∙ ap suc same
   length_split q false some xs qs same = same
 
   read_within : (q : ℕ × ℕ) → nat_lt q.0 size.0 && nat_lt q.1 size.1 ≡ true → IsSome (slice_get cells (q.0 * strides.0 + q.1 * strides.1))
@@ -134,8 +127,8 @@ module _ {T : Type 0} (cells : List T) (size strides : ℕ × ℕ) (h : HoldsCel
   length_cells [] = refl
   length_cells (p ∷ ps) = length_step (both p) _ _ (length_cells ps)
 
-  pub length-cells_from : (sides : Bool) (at : ℕ × ℕ) (k : ℕ) → length (cells_from (strided_cell cells size strides) sides at k) ≡ length (positions_from size sides at k)
-  length-cells_from sides at k = length_cells (drop k (positions sides at))
+  pub length-cells_from : (kind : Steps) (at : ℕ × ℕ) (k : ℕ) → length (cells_from (strided_cell cells size strides) kind at k) ≡ length (positions_from size kind at k)
+  length-cells_from kind at k = length_cells (drop k (positions kind at))
 
   pub strided_there : (r c : ℕ) → r < size.0 → c < size.1 → IsSome (strided_cell cells size strides r c)
   strided_there r c lr lc = there (nat_lt r size.0) (nat_lt c size.1) (lt-ltb _ _ lr) (lt-ltb _ _ lc)
@@ -202,9 +195,6 @@ module _ {T : Type 0} (o : Order) (t : List (List T)) (h : IsTable t) where
   pub holds_cells : HoldsCells (storage o t) (row_count t, col_count t) (strides_of o (row_count t, col_count t))
   holds_cells r c lr lc = omega (arith, at_strides o (row_count t) (col_count t) r c, place_within o (row_count t) (col_count t) r c lr lc, length-storage o t h)
 
-  cell_past_cols : (r c : ℕ) → col_count t ≤ c → cell t r c ≡ None
-  cell_past_cols r c le = elim (cases_lt r (length t)) [ inl lt ↦ slice_get_past (row t r) c (omega (arith, h.even r lt)) | inr ge ↦ cell_past_rows t r c ge ]
-
   shown : (r c : ℕ) → strided_cell (storage o t) (row_count t, col_count t) (strides_of o (row_count t, col_count t)) r c ≡ cell t r c
   shown r c = elim (cases_lt r (row_count t)) [
     | inl lr ↦ elim (cases_lt c (col_count t)) [
@@ -212,7 +202,7 @@ module _ {T : Type 0} (o : Order) (t : List (List T)) (h : IsTable t) where
           ap (λ b. cond (b && nat_lt c (col_count t)) (slice_get (storage o t) (r * (strides_of o (row_count t, col_count t)).0 + c * (strides_of o (row_count t, col_count t)).1)) None) (lt-ltb r (row_count t) lr)
           ∙ (ap (λ b. cond b (slice_get (storage o t) (r * (strides_of o (row_count t, col_count t)).0 + c * (strides_of o (row_count t, col_count t)).1)) None) (lt-ltb c (col_count t) lc)
           ∙ (ap (slice_get (storage o t)) (at_strides o (row_count t) (col_count t) r c) ∙ get-storage o t r c h lr lc))
-      | inr gc ↦ past r c (nat_lt r (row_count t)) (nat_lt c (col_count t)) (le-ltb c (col_count t) gc) ∙ sym (cell_past_cols r c gc)
+      | inr gc ↦ past r c (nat_lt r (row_count t)) (nat_lt c (col_count t)) (le-ltb c (col_count t) gc) ∙ sym (past_cols t h r c gc)
     ]
     | inr gr ↦
         ap (λ b. cond (b && nat_lt c (col_count t)) (slice_get (storage o t) (r * (strides_of o (row_count t, col_count t)).0 + c * (strides_of o (row_count t, col_count t)).1)) None) (le-ltb r (row_count t) gr) ∙ sym (cell_past_rows t r c gr)
@@ -222,43 +212,50 @@ module _ {T : Type 0} (o : Order) (t : List (List T)) (h : IsTable t) where
       past r c true b e = ap (λ b. cond b (slice_get (storage o t) (r * (strides_of o (row_count t, col_count t)).0 + c * (strides_of o (row_count t, col_count t)).1)) None) e
       past r c false b e = refl
 
-  pub cells_shown : (sides : Bool) (at : ℕ × ℕ) (k : ℕ) → cells_from (strided_cell (storage o t) (row_count t, col_count t) (strides_of o (row_count t, col_count t))) sides at k ≡ cells_from (cell t) sides at k
-  cells_shown sides at k = let same : strided_cell (storage o t) (row_count t, col_count t) (strides_of o (row_count t, col_count t)) ≡ cell t = λ i r c. shown r c i in ap (λ f. cells_from f sides at k) same
+pub neighbors_start : {T : Type 0} (t : List (List T)) (kind : Steps) (at : ℕ × ℕ) → cells_from (cell t) kind at 0 ≡ neighbors_of kind t at.0 at.1
+unfolding neighbors4 neighbors8
+neighbors_start t Sides at = refl
+neighbors_start t All at = refl
 
 -- what an iterator starts from, by what its constructor reads of a grid
-module _ {T : Type 0} (o : Order) (t : List (List T)) (h : IsTable t) (cells : List T) (size strides : ℕ × ℕ) (ec : cells ≡ storage o t) (er : size.0 ≡ row_count t) (el : size.1 ≡ col_count t) (es : strides ≡ strides_of o size) where
-  whole_size : size ≡ (row_count t, col_count t)
-  whole_size = λ i. (er i, el i)
+module _ {T : Type 0} (o : Order) (cells : List T) (size strides : ℕ × ℕ) (h : HoldsSize size.0 size.1 (length cells)) (es : strides ≡ strides_of o size) where
+  abbrev table : List (List T)
+  table = table_of o size.0 size.1 cells
 
-  whole_strides : strides ≡ strides_of o (row_count t, col_count t)
+  pub whole_size : size ≡ (row_count table, col_count table)
+  whole_size = λ i. (sym (view-rows o size.0 size.1 cells h) i, sym (view-cols o size.0 size.1 cells h) i)
+
+  whole_strides : strides ≡ strides_of o (row_count table, col_count table)
   whole_strides = es ∙ ap (strides_of o) whole_size
 
-  pub start_holds : HoldsCells cells size strides
+  whole_cells : cells ≡ storage o table
+  whole_cells = sym (view-storage o size.0 size.1 cells h)
+
+  start_holds : HoldsCells cells size strides
   start_holds =
       let P : List T → Type 0 = λ x. HoldsCells x size strides in
-      let Q : ℕ × ℕ → Type 0 = λ x. HoldsCells (storage o t) x strides in
-      let R : ℕ × ℕ → Type 0 = λ x. HoldsCells (storage o t) (row_count t, col_count t) x in
-      subst P (sym ec) (subst Q (sym whole_size) (subst R (sym whole_strides) (holds_cells o t h)))
+      let Q : ℕ × ℕ → Type 0 = λ x. HoldsCells (storage o table) x strides in
+      let R : ℕ × ℕ → Type 0 = λ x. HoldsCells (storage o table) (row_count table, col_count table) x in
+      subst P (sym whole_cells) (subst Q (sym whole_size) (subst R (sym whole_strides) (holds_cells o table (view-table o size.0 size.1 cells h))))
+
+  pub start_round : (at : ℕ × ℕ) (first : ℕ) (inner : Bool) → at.0 < size.0 → at.1 < size.1 → (inner ≡ true → IsInner size at) → (inner ≡ true → first ≡ box_start strides at) → IsRound cells size strides at first inner 0 0
+  start_round at first inner lr lc inside place = record { holds = start_holds; row_in = lr; col_in = lc; inside = inside; first_is = place; behind = λ e. omega arith }
+
+  pub same_cells : strided_cell cells size strides ≡ cell table
+  same_cells =
+      let shows : strided_cell (storage o table) (row_count table, col_count table) (strides_of o (row_count table, col_count table)) ≡ cell table = λ i r c. shown o table (view-table o size.0 size.1 cells h) r c i in
+      ap (λ x. strided_cell x size strides) whole_cells
+      ∙ (ap (λ x. strided_cell (storage o table) x strides) whole_size
+      ∙ (ap (strided_cell (storage o table) (row_count table, col_count table)) whole_strides
+      ∙ shows))
 
   same_start : (inner : Bool) → ◌≡◌ {A = ℕ} (cond inner 0 0) 0
   same_start true = refl
   same_start false = refl
 
-  pub same_cells : strided_cell cells size strides ≡ cell t
-  same_cells =
-      let shows : strided_cell (storage o t) (row_count t, col_count t) (strides_of o (row_count t, col_count t)) ≡ cell t = λ i r c. shown o t h r c i in
-      ap (λ x. strided_cell x size strides) ec
-      ∙ (ap (λ x. strided_cell (storage o t) x strides) whole_size
-      ∙ (ap (strided_cell (storage o t) (row_count t, col_count t)) whole_strides
-      ∙ shows))
-
-  pub start_shown : (sides inner : Bool) (at : ℕ × ℕ) → cells_from (strided_cell cells size strides) sides at (cond inner 0 0) ≡ cells_from (cell t) sides at 0
-  start_shown sides inner at =
-      ap (cells_from (strided_cell cells size strides) sides at) (same_start inner)
-      ∙ (ap (λ x. cells_from (strided_cell x size strides) sides at 0) ec
-      ∙ (ap (λ x. cells_from (strided_cell (storage o t) x strides) sides at 0) whole_size
-      ∙ (ap (λ x. cells_from (strided_cell (storage o t) (row_count t, col_count t) x) sides at 0) whole_strides
-      ∙ cells_shown o t h sides at 0)))
+  pub start_shown : (kind : Steps) (inner : Bool) (at : ℕ × ℕ) → cells_from (strided_cell cells size strides) kind at (cond inner 0 0) ≡ neighbors_of kind table at.0 at.1
+  start_shown kind inner at =
+      ap (cells_from (strided_cell cells size strides) kind at) (same_start inner) ∙ (ap (λ f. cells_from f kind at 0) same_cells ∙ neighbors_start table kind at)
 
 -- an item of an iterator whose cells are all there
 beside_inner : (k i : ℕ) → 0 < k → i < 3 → beside k i ≡ Some (k + i - 1)
@@ -268,12 +265,12 @@ beside_inner (suc k) (suc zero) lk li = ap Some (omega arith)
 beside_inner (suc k) (suc (suc zero)) lk li = ap Some (omega arith)
 beside_inner (suc k) (suc (suc (suc i))) lk li = absurd (omega arith)
 
-pub box_row : (sides : Bool) (k : ℕ) → k < step_count sides → box sides k / 3 < 3
-box_row true k lt = omega arith
-box_row false k lt = omega arith
+pub box_row : (kind : Steps) (k : ℕ) → k < step_count kind → box kind k / 3 < 3
+box_row Sides k lt = omega arith
+box_row All k lt = omega arith
 
-pub box_col : (sides : Bool) (k : ℕ) → box sides k % 3 < 3
-box_col sides k = mod_below (box sides k) 3 (lit< tt)
+pub box_col : (kind : Steps) (k : ℕ) → box kind k % 3 < 3
+box_col kind k = mod_below (box kind k) 3 (lit< tt)
 
 -- how many positions are left
 pub there_at : (size at : ℕ × ℕ) (i j k l : ℕ) → i ≡ k → j ≡ l → IsThere size at i j → IsThere size at k l
@@ -284,17 +281,17 @@ there_at size at i j k l ei ej t = record {
   after = omega (arith, t.after, ej);
 }
 
-pub position_counted : (size at : ℕ × ℕ) (sides : Bool) (k : ℕ) → k < step_count sides → IsThere size at (box sides k / 3) (box sides k % 3) → length (positions_from size sides at k) ≡ suc (length (positions_from size sides at (k + 1)))
-position_counted size at sides k lt t =
-    ap (λ ps. length (filter_map (λ p. if_within size (both p)) ps)) (positions_from_step sides at k lt)
-    ∙ ap (λ o. length (cons_option o (positions_from size sides at (k + 1)))) (sym (position_there size at (box sides k / 3) (box sides k % 3) (box_row sides k lt) (box_col sides k) t))
+pub position_counted : (size at : ℕ × ℕ) (kind : Steps) (k : ℕ) → k < step_count kind → IsThere size at (box kind k / 3) (box kind k % 3) → length (positions_from size kind at k) ≡ suc (length (positions_from size kind at (k + 1)))
+position_counted size at kind k lt t =
+    ap (λ ps. length (filter_map (λ p. if_within size (both p)) ps)) (positions_from_step kind at k lt)
+    ∙ ap (λ o. length (cons_option o (positions_from size kind at (k + 1)))) (sym (position_there size at (box kind k / 3) (box kind k % 3) (box_row kind k lt) (box_col kind k) t))
 
-pub no_position : (size at : ℕ × ℕ) (sides : Bool) (k : ℕ) → k < step_count sides → (IsThere size at (box sides k / 3) (box sides k % 3) → ⊥) → positions_from size sides at k ≡ positions_from size sides at (k + 1)
-no_position size at sides k lt none =
-    position_skipped size sides at k lt (position_missing size at (box sides k / 3) (box sides k % 3) (box_row sides k lt) (box_col sides k) none)
+pub no_position : (size at : ℕ × ℕ) (kind : Steps) (k : ℕ) → k < step_count kind → (IsThere size at (box kind k / 3) (box kind k % 3) → ⊥) → positions_from size kind at k ≡ positions_from size kind at (k + 1)
+no_position size at kind k lt none =
+    position_skipped size kind at k lt (position_missing size at (box kind k / 3) (box kind k % 3) (box_row kind k lt) (box_col kind k) none)
 
-pub no_positions : (size at : ℕ × ℕ) (sides : Bool) (k : ℕ) → step_count sides ≤ k → length (positions_from size sides at k) ≡ 0
-no_positions size at sides k le = ap (λ ps. length (filter_map (λ p. if_within size (both p)) ps)) (none_left sides at k le)
+pub no_positions : (size at : ℕ × ℕ) (kind : Steps) (k : ℕ) → step_count kind ≤ k → length (positions_from size kind at k) ≡ 0
+no_positions size at kind k le = ap (λ ps. length (filter_map (λ p. if_within size (both p)) ps)) (none_left kind at k le)
 
 dist : (a b s : ℕ) → (a + b) * s ≡ a * s + b * s
 dist a b s = grind arith
@@ -303,7 +300,7 @@ moved : (r i s : ℕ) → 0 < r → (r - 1) * s + i * s ≡ (r + i - 1) * s
 moved r i s lt = let same : r + i - 1 ≡ r - 1 + i = omega arith in sym (ap (λ k. k * s) same ∙ dist (r - 1) i s)
 
 -- the position of a step whose cell is in the grid
-module _ {T : Type 0} (cells : List T) (size strides at : ℕ × ℕ) (sides : Bool) (k i j : ℕ) (lt : k < step_count sides) (h : HoldsCells cells size strides) (t : IsThere size at (box sides k / 3) (box sides k % 3)) (ei : i ≡ box sides k / 3) (ej : j ≡ box sides k % 3) where
+module _ {T : Type 0} (cells : List T) (size strides at : ℕ × ℕ) (kind : Steps) (k i j : ℕ) (lt : k < step_count kind) (h : HoldsCells cells size strides) (t : IsThere size at (box kind k / 3) (box kind k % 3)) (ei : i ≡ box kind k / 3) (ej : j ≡ box kind k % 3) where
   there : IsThere size at i j
   there = record {
     above = omega (arith, t.above, ei);
@@ -315,18 +312,18 @@ module _ {T : Type 0} (cells : List T) (size strides at : ℕ × ℕ) (sides : B
   pub position_within : (at.0 + i - 1) * strides.0 + (at.1 + j - 1) * strides.1 < length cells
   position_within = h (at.0 + i - 1) (at.1 + j - 1) (omega (arith, there.above, there.below)) (omega (arith, there.before, there.after))
 
-  pub position_in_size : Some (at.0 + i - 1, at.1 + j - 1) ≡ if_within size (both (position_of sides at k))
+  pub position_in_size : Some (at.0 + i - 1, at.1 + j - 1) ≡ if_within size (both (position_of kind at k))
   position_in_size =
-      position_there size at i j (omega (arith, box_row sides k lt, ei)) (omega (arith, box_col sides k, ej)) there
+      position_there size at i j (omega (arith, box_row kind k lt, ei)) (omega (arith, box_col kind k, ej)) there
       ∙ (ap (λ (n : ℕ). if_within size (both (beside at.0 n, beside at.1 j))) ei
-      ∙ ap (λ (n : ℕ). if_within size (both (beside at.0 (box sides k / 3), beside at.1 n))) ej)
+      ∙ ap (λ (n : ℕ). if_within size (both (beside at.0 (box kind k / 3), beside at.1 n))) ej)
 
-module _ {T : Type 0} (cells : List T) (size strides at : ℕ × ℕ) (first passed tried : ℕ) (inner : Bool) (w : IsRound cells size strides at first inner passed tried) (e : inner ≡ true) (sides : Bool) (k : ℕ) (lt : k < step_count sides) (i j : ℕ) (ei : i ≡ box sides k / 3) (ej : j ≡ box sides k % 3) where
+module _ {T : Type 0} (cells : List T) (size strides at : ℕ × ℕ) (first passed tried : ℕ) (inner : Bool) (w : IsRound cells size strides at first inner passed tried) (e : inner ≡ true) (kind : Steps) (k : ℕ) (lt : k < step_count kind) (i j : ℕ) (ei : i ≡ box kind k / 3) (ej : j ≡ box kind k % 3) where
   pub within_row : at.0 + i - 1 < size.0
-  within_row = omega (arith, box_row sides k lt, (w.inside e).below, (w.inside e).above)
+  within_row = omega (arith, box_row kind k lt, (w.inside e).below, (w.inside e).above)
 
   pub within_col : at.1 + j - 1 < size.1
-  within_col = omega (arith, box_col sides k, (w.inside e).after, (w.inside e).before)
+  within_col = omega (arith, box_col kind k, (w.inside e).after, (w.inside e).before)
 
   pub box_place : first + i * strides.0 + j * strides.1 ≡ (at.0 + i - 1) * strides.0 + (at.1 + j - 1) * strides.1
   box_place = omega (arith, w.first_is e, moved at.0 i strides.0 (w.inside e).above, moved at.1 j strides.1 (w.inside e).before)
@@ -334,17 +331,17 @@ module _ {T : Type 0} (cells : List T) (size strides at : ℕ × ℕ) (first pas
   pub box_within : first + i * strides.0 + j * strides.1 < length cells
   box_within = omega (arith, box_place, w.holds (at.0 + i - 1) (at.1 + j - 1) within_row within_col)
 
-  in_size : Some (at.0 + i - 1, at.1 + j - 1) ≡ if_within size (both (position_of sides at k))
+  in_size : Some (at.0 + i - 1, at.1 + j - 1) ≡ if_within size (both (position_of kind at k))
   in_size =
-      sym (ap (λ (n : ℕ). if_within size (both (beside at.0 n, beside at.1 (box sides k % 3)))) (sym ei)
+      sym (ap (λ (n : ℕ). if_within size (both (beside at.0 n, beside at.1 (box kind k % 3)))) (sym ei)
       ∙ (ap (λ (n : ℕ). if_within size (both (beside at.0 i, beside at.1 n))) (sym ej)
-      ∙ (ap (λ (o : Option ℕ). if_within size (both (o, beside at.1 j))) (beside_inner at.0 i (w.inside e).above (omega (arith, box_row sides k lt)))
-      ∙ (ap (λ (o : Option ℕ). if_within size (both (Some (at.0 + i - 1), o))) (beside_inner at.1 j (w.inside e).before (omega (arith, box_col sides k)))
+      ∙ (ap (λ (o : Option ℕ). if_within size (both (o, beside at.1 j))) (beside_inner at.0 i (w.inside e).above (omega (arith, box_row kind k lt)))
+      ∙ (ap (λ (o : Option ℕ). if_within size (both (Some (at.0 + i - 1), o))) (beside_inner at.1 j (w.inside e).before (omega (arith, box_col kind k)))
       ∙ (ap (λ b. cond (b && nat_lt (at.1 + j - 1) size.1) (Some (at.0 + i - 1, at.1 + j - 1)) None) (lt-ltb _ _ within_row)
       ∙ ap (λ b. cond b (Some (at.0 + i - 1, at.1 + j - 1)) None) (lt-ltb _ _ within_col))))))
 
-  pub inner_item : (x : T) → x ≡ slice_index_or cells (first + i * strides.0 + j * strides.1) x → cells_from (strided_cell cells size strides) sides at k ≡ ((at.0 + i - 1, at.1 + j - 1), x) ∷ cells_from (strided_cell cells size strides) sides at (k + 1)
+  pub inner_item : (x : T) → x ≡ slice_index_or cells (first + i * strides.0 + j * strides.1) x → cells_from (strided_cell cells size strides) kind at k ≡ ((at.0 + i - 1, at.1 + j - 1), x) ∷ cells_from (strided_cell cells size strides) kind at (k + 1)
   inner_item x read =
-      first_cell (strided_cell cells size strides) sides at k ((at.0 + i - 1, at.1 + j - 1), x) lt
-      (cell_some cells size strides (position_of sides at k) (at.0 + i - 1, at.1 + j - 1) x in_size
+      first_cell (strided_cell cells size strides) kind at k ((at.0 + i - 1, at.1 + j - 1), x) lt
+      (cell_some cells size strides (position_of kind at k) (at.0 + i - 1, at.1 + j - 1) x in_size
       (ap (slice_get cells) (sym box_place) ∙ slice_get_read cells _ _ x refl box_within read))

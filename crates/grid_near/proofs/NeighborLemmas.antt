@@ -1,11 +1,14 @@
 -- Iterators over cells with their positions give what they have left.
-use Rattle.std.proofs.Common.{◌≤◌, ℕ, suc, Option, None, Some, List, [], ◌∷◌, true, false, length, map, sym, ◌∙◌, ap, arith}
+use Rattle.std.proofs.Common.{◌≤◌, ℕ, suc, Option, None, Some, List, [], ◌∷◌, length, map, sym, ◌∙◌, ap, arith}
 use Rattle.std.specs.List.{filter_map, cons_option}
 use Rattle.std.specs.Iterator.{YieldsFirstBy}
 use Rattle.std.proofs.iter.runs.Sources.{from_front}
 use Rattle.std.proofs.lemmas.Simd.{map-map}
-use Rattle.grid_near.specs.Neighbors.{placed, cell_at, CellsInOrder, PositionsInOrder}
-use Rattle.grid_near.specs.Around.{cells_from, positions}
+use Rattle.grid_base.specs.Table.{cell}
+use Rattle.grid_near.specs.declared.steps.Steps.{Steps}
+use Rattle.grid_near.specs.declared.steps.Steps.TheVariants.{Sides, All}
+use Rattle.grid_near.specs.Neighbors.{step_count, placed, cell_at, neighbors4, neighbors8, neighbors_of, CellsInOrder, PositionsInOrder}
+use Rattle.grid_near.specs.Around.{positions}
 
 pub cells_in_order : (T : Type 0) → CellsInOrder T
 cells_in_order T = from_front (YieldsFirstBy placed (λ (rest : List ((ℕ × ℕ) × T)). rest)) placed (λ rest. rest) (λ s t h. ap length h.0) (λ s x t h. h)
@@ -22,8 +25,7 @@ module _ {X Y : Type 0} where
   length-filter_map f [] = omega arith
   length-filter_map f (x ∷ xs) = omega (arith, length-cons (f x) (filter_map f xs), length-filter_map f xs)
 
-pub at_most8 : {T : Type 0} (f : ℕ → ℕ → Option T) (at : ℕ × ℕ) → length (cells_from f false at 0) ≤ 8
-at_most8 f at = length-filter_map (cell_at f) (positions false at)
-
-pub at_most4 : {T : Type 0} (f : ℕ → ℕ → Option T) (at : ℕ × ℕ) → length (cells_from f true at 0) ≤ 4
-at_most4 f at = length-filter_map (cell_at f) (positions true at)
+pub at_most : {T : Type 0} (t : List (List T)) (kind : Steps) (at : ℕ × ℕ) → length (neighbors_of kind t at.0 at.1) ≤ step_count kind
+unfolding neighbors4 neighbors8
+at_most t Sides at = length-filter_map (cell_at (cell t)) (positions Sides at)
+at_most t All at = length-filter_map (cell_at (cell t)) (positions All at)

@@ -33,6 +33,8 @@ use Rattle.std.specs.Option.{option_and_then}
 use Rattle.std.specs.Borrow.{Bor}
 use Rattle.grid_base.specs.declared.order.Order.{Order}
 use Rattle.grid_base.specs.declared.order.Order.TheVariants.{RowMajor, ColumnMajor}
+use Rattle.grid_near.specs.declared.steps.Steps.{Steps}
+use Rattle.grid_near.specs.declared.steps.Steps.TheVariants.{Sides, All}
 use Rattle.grid_near.specs.Neighbors.{around8, around4, before, both, cell_at, placed}
 
 -- the cell in row r and column c of m rows and n columns whose cells stand `down` and `right` apart
@@ -50,15 +52,10 @@ abbrev pub HoldsCells : {T : Type 0} → List T → ℕ × ℕ → ℕ × ℕ �
 HoldsCells cells size strides =
     (r c : ℕ) → r < size.0 → c < size.1 → r * strides.0 + c * strides.1 < length cells
 
--- how many steps round a cell: to the four that share a side with it, or to all eight
-abbrev pub step_count : Bool → ℕ
-step_count true = 4
-step_count false = 8
-
 -- the number of the cell of step k, of the nine cells of three rows, row by row
-abbrev pub box : Bool → ℕ → ℕ
-box true k = 2 * k + 1
-box false k = k + k / 4
+abbrev pub box : Steps → ℕ → ℕ
+box Sides k = 2 * k + 1
+box All k = k + k / 4
 
 -- the number before k, k, or the number after it
 abbrev pub beside : ℕ → ℕ → Option ℕ
@@ -67,15 +64,15 @@ beside k (suc zero) = Some k
 beside k (suc (suc _)) = Some (k + 1)
 
 -- the positions of the steps round (r, c)
-abbrev pub positions : Bool → ℕ × ℕ → List (Option ℕ × Option ℕ)
-positions true at = around4 (before at.0) (Some at.0) (Some (at.0 + 1)) (before at.1) (Some at.1)
+abbrev pub positions : Steps → ℕ × ℕ → List (Option ℕ × Option ℕ)
+positions Sides at = around4 (before at.0) (Some at.0) (Some (at.0 + 1)) (before at.1) (Some at.1)
     (Some (at.1 + 1))
-positions false at = around8 (before at.0) (Some at.0) (Some (at.0 + 1)) (before at.1) (Some at.1)
+positions All at = around8 (before at.0) (Some at.0) (Some (at.0 + 1)) (before at.1) (Some at.1)
     (Some (at.1 + 1))
 
 -- the position of step k
-abbrev pub position_of : Bool → ℕ × ℕ → ℕ → Option ℕ × Option ℕ
-position_of sides at k = (beside at.0 (box sides k / 3), beside at.1 (box sides k % 3))
+abbrev pub position_of : Steps → ℕ × ℕ → ℕ → Option ℕ × Option ℕ
+position_of kind at k = (beside at.0 (box kind k / 3), beside at.1 (box kind k % 3))
 
 -- the position, if it is within a size
 abbrev pub if_within : ℕ × ℕ → Option (ℕ × ℕ) → Option (ℕ × ℕ)
@@ -83,13 +80,13 @@ if_within size p =
     option_and_then (λ q. cond (nat_lt q.0 size.0 && nat_lt q.1 size.1) (Some q) None) p
 
 -- the cells from step k on
-abbrev pub cells_from : {T : Type 0} → (ℕ → ℕ → Option T) → Bool → ℕ × ℕ → ℕ → List ((ℕ × ℕ) × T)
-cells_from f sides at k = filter_map (cell_at f) (drop k (positions sides at))
+abbrev pub cells_from : {T : Type 0} → (ℕ → ℕ → Option T) → Steps → ℕ × ℕ → ℕ → List ((ℕ × ℕ) × T)
+cells_from f kind at k = filter_map (cell_at f) (drop k (positions kind at))
 
 -- the positions from step k on that are within a size
-abbrev pub positions_from : ℕ × ℕ → Bool → ℕ × ℕ → ℕ → List (ℕ × ℕ)
-positions_from size sides at k = filter_map (λ p. if_within size (both p))
-    (drop k (positions sides at))
+abbrev pub positions_from : ℕ × ℕ → Steps → ℕ × ℕ → ℕ → List (ℕ × ℕ)
+positions_from size kind at k = filter_map (λ p. if_within size (both p))
+    (drop k (positions kind at))
 
 -- the cell in row i and column j of the nine cells round a position is within the size
 pub record IsThere (size at : ℕ × ℕ) (i j : ℕ) : Type 0 where
@@ -100,11 +97,11 @@ pub record IsThere (size at : ℕ × ℕ) (i j : ℕ) : Type 0 where
 
 -- a search from step k on found the first of the cells, or that there is none, and went on to a
 -- later step
-abbrev pub FindsFirst : {T : Type 0} → (ℕ → ℕ → Option T) → Bool → ℕ × ℕ → ℕ
+abbrev pub FindsFirst : {T : Type 0} → (ℕ → ℕ → Option T) → Steps → ℕ × ℕ → ℕ
     → ℕ × Option ((ℕ × ℕ) × Bor T) → Type 0
-FindsFirst f sides at k found =
-    MatchOption found.1 ((cells_from f sides at k ≡ []) × (cells_from f sides at found.0 ≡ []))
-    (λ x. cells_from f sides at k ≡ placed x ∷ cells_from f sides at found.0)
+FindsFirst f kind at k found =
+    MatchOption found.1 ((cells_from f kind at k ≡ []) × (cells_from f kind at found.0 ≡ []))
+    (λ x. cells_from f kind at k ≡ placed x ∷ cells_from f kind at found.0)
 
 -- all cells round a position are within the size
 pub record IsInner (size at : ℕ × ℕ) : Type 0 where

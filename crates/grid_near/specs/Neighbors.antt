@@ -21,7 +21,14 @@ use Rattle.std.specs.Option.{option_map, option_and_then}
 use Rattle.std.specs.Iterator.{YieldsFirstBy}
 use Rattle.std.specs.Iterator.Runs.{EveryRun, ItemsMapTo}
 use Rattle.std.specs.Borrow.{Bor}
+use Rattle.grid_near.specs.declared.steps.Steps.{Steps}
+use Rattle.grid_near.specs.declared.steps.Steps.TheVariants.{Sides, All}
 use Rattle.grid_base.specs.Table.{row_count, col_count, cell}
+
+-- how many cells there are round a cell at most: the four that share a side with it, or all eight
+abbrev pub step_count : Steps → ℕ
+step_count Sides = 4
+step_count All = 8
 
 -- the eight round the middle of three rows and three columns, row by row
 abbrev pub around8 : {X : Type 0} → X → X → X → X → X → X → List (X × X)
@@ -79,6 +86,15 @@ module _ {T : Type 0} where
       let n = col_count t in
       filter_map (cell_at (cell t)) (around4 (Some (round_before m r)) (Some r)
       (Some (round_after m r)) (Some (round_before n c)) (Some c) (Some (round_after n c)))
+
+  -- by the kind of steps
+  abbrev pub neighbors_of : Steps → List (List T) → ℕ → ℕ → List ((ℕ × ℕ) × T)
+  neighbors_of Sides = neighbors4
+  neighbors_of All = neighbors8
+
+  abbrev pub wrapped_neighbors_of : Steps → List (List T) → ℕ → ℕ → List ((ℕ × ℕ) × T)
+  wrapped_neighbors_of Sides = wrapped_neighbors4
+  wrapped_neighbors_of All = wrapped_neighbors8
 
 -- the item that an iterator gives, with the cell in place of the reference to it
 abbrev pub placed : {T : Type 0} → (ℕ × ℕ) × Bor T → (ℕ × ℕ) × T

@@ -1,6 +1,8 @@
 -- How the iterators round a cell count their steps on a table whose edges meet.
-use Rattle.std.specs.Prelude.{ℕ, zero, suc, ◌/◌, ◌%◌, Bool, true, false, Option, Some, List, drop}
+use Rattle.std.specs.Prelude.{ℕ, zero, suc, ◌/◌, ◌%◌, Option, Some, List, drop}
 use Rattle.std.specs.List.{filter_map}
+use Rattle.grid_near.specs.declared.steps.Steps.{Steps}
+use Rattle.grid_near.specs.declared.steps.Steps.TheVariants.{Sides, All}
 use Rattle.grid_near.specs.Neighbors.{around8, around4, cell_at, round_before, round_after}
 use Rattle.grid_near.specs.Around.{box}
 
@@ -11,23 +13,23 @@ around n k (suc zero) = k
 around n k (suc (suc _)) = round_after n k
 
 -- the positions of the steps round (r, c)
-abbrev pub wrapped_positions : ℕ × ℕ → Bool → ℕ × ℕ → List (Option ℕ × Option ℕ)
-wrapped_positions size true at = around4 (Some (round_before size.0 at.0)) (Some at.0)
+abbrev pub wrapped_positions : ℕ × ℕ → Steps → ℕ × ℕ → List (Option ℕ × Option ℕ)
+wrapped_positions size Sides at = around4 (Some (round_before size.0 at.0)) (Some at.0)
     (Some (round_after size.0 at.0)) (Some (round_before size.1 at.1)) (Some at.1)
     (Some (round_after size.1 at.1))
-wrapped_positions size false at = around8 (Some (round_before size.0 at.0)) (Some at.0)
+wrapped_positions size All at = around8 (Some (round_before size.0 at.0)) (Some at.0)
     (Some (round_after size.0 at.0)) (Some (round_before size.1 at.1)) (Some at.1)
     (Some (round_after size.1 at.1))
 
 -- the position of step k
-abbrev pub around_of : ℕ × ℕ → Bool → ℕ × ℕ → ℕ → ℕ × ℕ
-around_of size sides at k = (
-  around size.0 at.0 (box sides k / 3),
+abbrev pub around_of : ℕ × ℕ → Steps → ℕ × ℕ → ℕ → ℕ × ℕ
+around_of size kind at k = (
+  around size.0 at.0 (box kind k / 3),
   around size.1 at.1
-      (box sides k % 3),
+      (box kind k % 3),
 )
 
 -- the cells from step k on
-abbrev pub wrapped_from : {T : Type 0} → (ℕ → ℕ → Option T) → ℕ × ℕ → Bool → ℕ × ℕ → ℕ
+abbrev pub wrapped_from : {T : Type 0} → (ℕ → ℕ → Option T) → ℕ × ℕ → Steps → ℕ × ℕ → ℕ
     → List ((ℕ × ℕ) × T)
-wrapped_from f size sides at k = filter_map (cell_at f) (drop k (wrapped_positions size sides at))
+wrapped_from f size kind at k = filter_map (cell_at f) (drop k (wrapped_positions size kind at))

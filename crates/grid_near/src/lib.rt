@@ -6,5 +6,6 @@ mod neighbors;
 mod steps;
 mod wrapped;
 
-pub use neighbors::{Neighbors, neighbors4, neighbors8};
-pub use wrapped::{WrappedNeighbors, wrapped_neighbors4, wrapped_neighbors8};
+pub use neighbors::{Neighbors, neighbors_of};
+pub use steps::Steps;
+pub use wrapped::{WrappedNeighbors, wrapped_neighbors_of};

@@ -4,11 +4,10 @@ ghost use Rattle.std.specs.Iterator.{YieldsFirstBy, item_count, UpTo, at_most};
 ghost use Rattle.std.specs.Iterator.SizeHint.{IsWithinCount};
 ghost use Rattle.grid_base.specs.GridValue.{HoldsSize};
 ghost use Rattle.grid_base.specs.Order.{table_of};
-ghost use Rattle.grid_base.specs.Table.{cell};
-ghost use Rattle.grid_near.specs.Neighbors.{placed, neighbors4, neighbors8, CellsInOrder, PositionsInOrder};
-ghost use Rattle.grid_near.specs.Around.{HoldsCells, FindsFirst, strided_cell, step_count, cells_from};
+ghost use Rattle.grid_near.specs.Neighbors.{step_count, placed, neighbors_of, CellsInOrder, PositionsInOrder};
+ghost use Rattle.grid_near.specs.Around.{HoldsCells, FindsFirst, strided_cell};
 
-use crate::steps::{count_from, first_from, is_inner, offset, step_count, strides_of};
+use crate::steps::{Steps, count_from, first_from, is_inner, offset, step_count, strides_of};
 use grid_base::Order;
 use std::alloc::AllocError;
 use std::iter::FusedIterator;
@@ -25,8 +24,7 @@ pub struct Neighbors<'a, T> {
     size: (usize, usize),
     strides: (usize, usize),
     at: (usize, usize),
-    // Only the cells that share a side.
-    sides: bool,
+    kind: Steps,
     // All cells round this one are there, and the place of the first of its box of nine.
     inner: bool,
     first: usize,
@@ -41,72 +39,35 @@ impl<'a, T> Model for Neighbors<'a, T> {
 
     ghost Value = { List ((ℕ × ℕ) × T) };
 
-    ghost view = { λ a. cells_from (strided_cell a.cells.now a.size a.strides) a.sides a.at
+    ghost view = { λ a. cells_from (strided_cell a.cells.now a.size a.strides) a.kind a.at
         (cond a.inner a.passed a.tried) };
 
     ghost invariant = { λ a. IsRound a.cells.now a.size a.strides a.at a.first a.inner
         a.passed a.tried };
 }
 
-/// Returns an iterator over the cells that touch cell `at` of the table of `size.0` rows and `size.1` columns that a
-/// slice stores in an order, row by row, each with its row and its column.
+/// Returns an iterator over the cells round cell `at` of the table of `size.0` rows and `size.1` columns that a slice
+/// stores in an order, row by row, each with its row and its column.
 ///
-///     [1, 2, 3, 4, 5, 6]   neighbors8(RowMajor, (2, 3), (0, 2))   ((0, 1), 2), ((1, 1), 5), ((1, 2), 6)
-///
-/// Requires: the slice has as many cells, there are rows exactly if there are columns, and `at` is in range.
-/// Cost: each step takes the same time, in either order; no memory.
-pub fn neighbors8<T>(
-    cells: &[T],
-    order: Order,
-    size: (usize, usize),
-    at: (usize, usize),
-) -> Neighbors<'_, T>
-    requires size { HoldsSize size.0 size.1 (length cells.now) }
-    requires row_in { at.0 < size.0 }
-    requires col_in { at.1 < size.1 }
-    ensures rest { result ≡ neighbors8 (table_of order size.0 size.1 cells.now) at.0 at.1 }
-    ensures count { length result ≤ 8 }
-    ensures runs { CellsInOrder T }
-    ensures positions { PositionsInOrder T }
-{
-    round(cells, order, size, at, false)
-}
-
-/// Returns an iterator over the cells that share a side with cell `at`, as [`neighbors8`] does over all that touch it.
-///
-///     [1, 2, 3, 4, 5, 6]   neighbors4(RowMajor, (2, 3), (0, 2))   ((0, 1), 2), ((1, 2), 6)
+///     [1, 2, 3, 4, 5, 6]   neighbors_of(RowMajor, (2, 3), (0, 2), Sides)   ((0, 1), 2), ((1, 2), 6)
+///     [1, 2, 3, 4, 5, 6]   neighbors_of(RowMajor, (2, 3), (0, 2), All)     ((0, 1), 2), ((1, 1), 5), ((1, 2), 6)
 ///
 /// Requires: the slice has as many cells, there are rows exactly if there are columns, and `at` is in range.
 /// Cost: each step takes the same time, in either order; no memory.
-pub fn neighbors4<T>(
+pub fn neighbors_of<T>(
     cells: &[T],
     order: Order,
     size: (usize, usize),
     at: (usize, usize),
+    kind: Steps,
 ) -> Neighbors<'_, T>
     requires size { HoldsSize size.0 size.1 (length cells.now) }
     requires row_in { at.0 < size.0 }
     requires col_in { at.1 < size.1 }
-    ensures rest { result ≡ neighbors4 (table_of order size.0 size.1 cells.now) at.0 at.1 }
-    ensures count { length result ≤ 4 }
+    ensures rest { result ≡ neighbors_of kind (table_of order size.0 size.1 cells.now) at.0 at.1 }
+    ensures count { length result ≤ step_count kind }
     ensures runs { CellsInOrder T }
     ensures positions { PositionsInOrder T }
-{
-    round(cells, order, size, at, true)
-}
-
-// Returns an iterator over the cells round a cell, or over the four that share a side with it.
-fn round<T>(
-    cells: &[T],
-    order: Order,
-    size: (usize, usize),
-    at: (usize, usize),
-    sides: bool,
-) -> Neighbors<'_, T>
-    requires size { HoldsSize size.0 size.1 (length cells.now) }
-    requires row_in { at.0 < size.0 }
-    requires col_in { at.1 < size.1 }
-    ensures { result ≡ cells_from (cell (table_of order size.0 size.1 cells.now)) sides at 0 }
 {
     let strides = strides_of(order, size);
     let inner = is_inner(size, at);
@@ -120,7 +81,7 @@ fn round<T>(
         size,
         strides,
         at,
-        sides,
+        kind,
         inner,
         first,
         passed: 0,
@@ -137,12 +98,12 @@ impl<'a, T> Iterator for Neighbors<'a, T> {
 
     fn next(&mut self) -> Option<((usize, usize), &'a T)> {
         let k = self.passed;
-        if k >= step_count(self.sides) {
+        if k >= step_count(self.kind) {
             return None;
         }
         self.passed = k + 1;
         if self.inner {
-            let (i, j) = offset(self.sides, k);
+            let (i, j) = offset(self.kind, k);
             let at = (self.at.0 + i - 1, self.at.1 + j - 1);
             let place = self.first + i * self.strides.0 + j * self.strides.1;
             Some((at, &self.cells[place]))
@@ -152,7 +113,7 @@ impl<'a, T> Iterator for Neighbors<'a, T> {
                 self.size,
                 self.strides,
                 self.at,
-                self.sides,
+                self.kind,
                 self.tried,
             );
             self.tried = tried;
@@ -173,7 +134,7 @@ impl<'a, T> Iterator for Neighbors<'a, T> {
 impl<'a, T> ExactSizeIterator for Neighbors<'a, T> {
     fn len(&self) -> usize {
         let from = if self.inner { self.passed } else { self.tried };
-        count_from(self.size, self.at, self.sides, from)
+        count_from(self.size, self.at, self.kind, from)
     }
 }
 
@@ -188,17 +149,7 @@ impl<'a, T> Clone for Neighbors<'a, T> {
     ghost is_infallible = { λ _. ⊤ };
 
     fn clone(&self) -> Result<Self, AllocError> {
-        Ok(Neighbors {
-            cells: self.cells,
-            size: self.size,
-            strides: self.strides,
-            at: self.at,
-            sides: self.sides,
-            inner: self.inner,
-            first: self.first,
-            passed: self.passed,
-            tried: self.tried,
-        })
+        Ok(Neighbors { ..*self })
     }
 }
 
@@ -209,21 +160,21 @@ fn find_from<T>(
     size: (usize, usize),
     strides: (usize, usize),
     at: (usize, usize),
-    sides: bool,
+    kind: Steps,
     from: usize,
 ) -> (usize, Option<((usize, usize), &T)>)
     requires holds { HoldsCells cells.now size strides }
     requires row_in { at.0 < size.0 }
     requires col_in { at.1 < size.1 }
-    ensures found { FindsFirst (strided_cell cells.now size strides) sides at from result }
+    ensures found { FindsFirst (strided_cell cells.now size strides) kind at from result }
     ensures keeps { from ≤ result.0 }
-    ensures on { from < step_count sides → from < result.0 }
+    ensures on { from < step_count kind → from < result.0 }
 {
-    let k = first_from(size, at, sides, from);
-    if k >= step_count(sides) {
+    let k = first_from(size, at, kind, from);
+    if k >= step_count(kind) {
         return (k, None);
     }
-    let (i, j) = offset(sides, k);
+    let (i, j) = offset(kind, k);
     let row = at.0 + i - 1;
     let col = at.1 + j - 1;
     let cell = &cells[row * strides.0 + col * strides.1];

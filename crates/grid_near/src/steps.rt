@@ -1,8 +1,18 @@
 //! The steps round a cell: where each of them leads, and which of them are within the size.
 ghost use Rattle.std.specs.Prelude.{◌≡◌, ◌<◌, ◌≤◌, ◌/◌, ◌%◌, IsTrue, ◌↔◌, length};
-ghost use Rattle.grid_near.specs.Around.{step_count, box, positions_from, strides_of, IsInner, IsThere};
+ghost use Rattle.grid_near.specs.Neighbors.{step_count};
+ghost use Rattle.grid_near.specs.Around.{box, positions_from, strides_of, IsInner, IsThere};
 
 use grid_base::Order;
+
+/// Which steps there are from a cell.
+#[derive(Clone, Copy, Debug, PartialEq, Eq)]
+pub enum Steps {
+    /// To the cells that share a side with it: at most four.
+    Sides,
+    /// To the cells that share a side or a corner with it: at most eight.
+    All,
+}
 
 // How far apart the cells of a column and of a row stand.
 pub(crate) fn strides_of(order: Order, size: (usize, usize)) -> (usize, usize)
@@ -24,19 +34,25 @@ pub(crate) fn is_inner(size: (usize, usize), at: (usize, usize)) -> bool
 }
 
 // The number of steps round a cell.
-pub(crate) fn step_count(sides: bool) -> usize
-    ensures { result ≡ step_count sides }
+pub(crate) fn step_count(kind: Steps) -> usize
+    ensures { result ≡ step_count kind }
 {
-    if sides { 4 } else { 8 }
+    match kind {
+        Steps::Sides => 4,
+        Steps::All => 8,
+    }
 }
 
 // The row and the column of step `k` in the box of nine cells.
-pub(crate) fn offset(sides: bool, k: usize) -> (usize, usize)
-    requires { k < step_count sides }
-    ensures row { result.0 ≡ box sides k / 3 }
-    ensures col { result.1 ≡ box sides k % 3 }
+pub(crate) fn offset(kind: Steps, k: usize) -> (usize, usize)
+    requires { k < step_count kind }
+    ensures row { result.0 ≡ box kind k / 3 }
+    ensures col { result.1 ≡ box kind k % 3 }
 {
-    let cell = if sides { 2 * k + 1 } else { k + k / 4 };
+    let cell = match kind {
+        Steps::Sides => 2 * k + 1,
+        Steps::All => k + k / 4,
+    };
     (cell / 3, cell % 3)
 }
 
@@ -55,39 +71,39 @@ pub(crate) fn is_there(size: (usize, usize), at: (usize, usize), i: usize, j: us
 pub(crate) fn first_from(
     size: (usize, usize),
     at: (usize, usize),
-    sides: bool,
+    kind: Steps,
     from: usize,
 ) -> usize
     requires row_in { at.0 < size.0 }
     requires col_in { at.1 < size.1 }
     ensures keeps { from ≤ result }
-    ensures skips { positions_from size sides at from ≡ positions_from size sides at result }
-    ensures there { result < step_count sides
-        → IsThere size at (box sides result / 3) (box sides result % 3) }
+    ensures skips { positions_from size kind at from ≡ positions_from size kind at result }
+    ensures there { result < step_count kind
+        → IsThere size at (box kind result / 3) (box kind result % 3) }
 {
-    for k in from..step_count(sides) {
-        let (i, j) = offset(sides, k);
+    for k in from..step_count(kind) {
+        let (i, j) = offset(kind, k);
         if is_there(size, at, i, j) {
             return k;
         }
     }
-    step_count(sides).max(from)
+    step_count(kind).max(from)
 }
 
 // Counts the steps, from this one on, whose cells are within the size.
 pub(crate) fn count_from(
     size: (usize, usize),
     at: (usize, usize),
-    sides: bool,
+    kind: Steps,
     from: usize,
 ) -> usize
     requires row_in { at.0 < size.0 }
     requires col_in { at.1 < size.1 }
-    ensures { result ≡ length (positions_from size sides at from) }
+    ensures { result ≡ length (positions_from size kind at from) }
 {
     let mut count = 0;
-    for k in from..step_count(sides) {
-        let (i, j) = offset(sides, k);
+    for k in from..step_count(kind) {
+        let (i, j) = offset(kind, k);
         if is_there(size, at, i, j) {
             count += 1;
         }

@@ -4,12 +4,10 @@ ghost use Rattle.std.specs.Iterator.{YieldsFirstBy, item_count, UpTo, at_most};
 ghost use Rattle.std.specs.Iterator.SizeHint.{IsWithinCount};
 ghost use Rattle.grid_base.specs.GridValue.{HoldsSize};
 ghost use Rattle.grid_base.specs.Order.{table_of};
-ghost use Rattle.grid_base.specs.Table.{cell, row_count, col_count};
-ghost use Rattle.grid_near.specs.Neighbors.{placed, round_before, round_after, wrapped_neighbors4, wrapped_neighbors8, CellsInOrder, PositionsInOrder};
-ghost use Rattle.grid_near.specs.Around.{step_count};
-ghost use Rattle.grid_near.specs.Wrapped.{around, wrapped_from};
+ghost use Rattle.grid_near.specs.Neighbors.{step_count, placed, wrapped_neighbors_of, CellsInOrder, PositionsInOrder};
+ghost use Rattle.grid_near.specs.Wrapped.{around};
 
-use crate::steps::{is_inner, offset, step_count, strides_of};
+use crate::steps::{Steps, is_inner, offset, step_count, strides_of};
 use grid_base::Order;
 use std::alloc::AllocError;
 use std::iter::FusedIterator;
@@ -24,8 +22,7 @@ pub struct WrappedNeighbors<'a, T> {
     size: (usize, usize),
     strides: (usize, usize),
     at: (usize, usize),
-    // Only the cells that share a side.
-    sides: bool,
+    kind: Steps,
     // None of them is past an edge, and the place of the first of its box of nine.
     inner: bool,
     first: usize,
@@ -40,75 +37,35 @@ impl<'a, T> Model for WrappedNeighbors<'a, T> {
 
     ghost Value = { List ((ℕ × ℕ) × T) };
 
-    ghost view = { λ a. wrapped_from (strided_cell a.cells.now a.size a.strides) a.size a.sides a.at
+    ghost view = { λ a. wrapped_from (strided_cell a.cells.now a.size a.strides) a.size a.kind a.at
         a.passed };
 
     ghost invariant = { λ a. IsRound a.cells.now a.size a.strides a.at a.first a.inner 0 0 };
 }
 
-/// Returns an iterator over the cells that touch cell `at` of the table of `size.0` rows and `size.1` columns that a
-/// slice stores in an order, row by row, each with its row and its column, where the edges of the table meet: eight
-/// cells, some of them more than once in a table of one or two rows or columns.
+/// Returns an iterator over the cells round cell `at`, as [`neighbors_of`](super::neighbors_of) does, where the edges of the
+/// table meet: four cells or eight, some of them more than once in a table of one or two rows or columns.
 ///
-///     [1, 2, 3, 4]   wrapped_neighbors8(RowMajor, (1, 4), (0, 0))   4, 1, 2, 4, 2, 4, 1, 2, with their positions
-///
-/// Requires: the slice has as many cells, there are rows exactly if there are columns, and `at` is in range.
-/// Cost: each step takes the same time, in either order; no memory.
-pub fn wrapped_neighbors8<T>(
-    cells: &[T],
-    order: Order,
-    size: (usize, usize),
-    at: (usize, usize),
-) -> WrappedNeighbors<'_, T>
-    requires size { HoldsSize size.0 size.1 (length cells.now) }
-    requires row_in { at.0 < size.0 }
-    requires col_in { at.1 < size.1 }
-    ensures rest { result ≡ wrapped_neighbors8 (table_of order size.0 size.1 cells.now) at.0 at.1 }
-    ensures count { length result ≡ 8 }
-    ensures runs { CellsInOrder T }
-    ensures positions { PositionsInOrder T }
-{
-    wrapped_round(cells, order, size, at, false)
-}
-
-/// Returns an iterator over the cells that share a side with cell `at`, as [`wrapped_neighbors8`] does over all that
-/// touch it: four cells.
-///
-///     [1, 2, 3, 4]   wrapped_neighbors4(RowMajor, (1, 4), (0, 0))   1, 4, 2, 1, with their positions
+///     [1, 2, 3, 4]   wrapped_neighbors_of(RowMajor, (1, 4), (0, 0), Sides)   1, 4, 2, 1, with their positions
+///     [1, 2, 3, 4]   wrapped_neighbors_of(RowMajor, (1, 4), (0, 0), All)     4, 1, 2, 4, 2, 4, 1, 2, with their positions
 ///
 /// Requires: the slice has as many cells, there are rows exactly if there are columns, and `at` is in range.
 /// Cost: each step takes the same time, in either order; no memory.
-pub fn wrapped_neighbors4<T>(
+pub fn wrapped_neighbors_of<T>(
     cells: &[T],
     order: Order,
     size: (usize, usize),
     at: (usize, usize),
+    kind: Steps,
 ) -> WrappedNeighbors<'_, T>
     requires size { HoldsSize size.0 size.1 (length cells.now) }
     requires row_in { at.0 < size.0 }
     requires col_in { at.1 < size.1 }
-    ensures rest { result ≡ wrapped_neighbors4 (table_of order size.0 size.1 cells.now) at.0 at.1 }
-    ensures count { length result ≡ 4 }
+    ensures rest { result
+        ≡ wrapped_neighbors_of kind (table_of order size.0 size.1 cells.now) at.0 at.1 }
+    ensures count { length result ≡ step_count kind }
     ensures runs { CellsInOrder T }
     ensures positions { PositionsInOrder T }
-{
-    wrapped_round(cells, order, size, at, true)
-}
-
-// Returns an iterator over the cells round a cell, or over the four that share a side with it.
-fn wrapped_round<T>(
-    cells: &[T],
-    order: Order,
-    size: (usize, usize),
-    at: (usize, usize),
-    sides: bool,
-) -> WrappedNeighbors<'_, T>
-    requires size { HoldsSize size.0 size.1 (length cells.now) }
-    requires row_in { at.0 < size.0 }
-    requires col_in { at.1 < size.1 }
-    ensures rest { let t = table_of order size.0 size.1 cells.now in
-        result ≡ wrapped_from (cell t) (row_count t, col_count t) sides at 0 }
-    ensures len { length result ≡ step_count sides }
 {
     let strides = strides_of(order, size);
     let inner = is_inner(size, at);
@@ -122,7 +79,7 @@ fn wrapped_round<T>(
         size,
         strides,
         at,
-        sides,
+        kind,
         inner,
         first,
         passed: 0,
@@ -138,11 +95,11 @@ impl<'a, T> Iterator for WrappedNeighbors<'a, T> {
 
     fn next(&mut self) -> Option<((usize, usize), &'a T)> {
         let k = self.passed;
-        if k >= step_count(self.sides) {
+        if k >= step_count(self.kind) {
             return None;
         }
         self.passed = k + 1;
-        let (i, j) = offset(self.sides, k);
+        let (i, j) = offset(self.kind, k);
         if self.inner {
             let at = (self.at.0 + i - 1, self.at.1 + j - 1);
             let place = self.first + i * self.strides.0 + j * self.strides.1;
@@ -166,7 +123,7 @@ impl<'a, T> Iterator for WrappedNeighbors<'a, T> {
 
 impl<'a, T> ExactSizeIterator for WrappedNeighbors<'a, T> {
     fn len(&self) -> usize {
-        step_count(self.sides).saturating_sub(self.passed)
+        step_count(self.kind).saturating_sub(self.passed)
     }
 }
 
@@ -181,35 +138,8 @@ impl<'a, T> Clone for WrappedNeighbors<'a, T> {
     ghost is_infallible = { λ _. ⊤ };
 
     fn clone(&self) -> Result<Self, AllocError> {
-        Ok(WrappedNeighbors {
-            cells: self.cells,
-            size: self.size,
-            strides: self.strides,
-            at: self.at,
-            sides: self.sides,
-            inner: self.inner,
-            first: self.first,
-            passed: self.passed,
-        })
+        Ok(WrappedNeighbors { ..*self })
     }
-}
-
-// The number before `at` round `len` numbers.
-fn round_before(len: usize, at: usize) -> usize
-    requires { at < len }
-    ensures is { result ≡ round_before len at }
-    ensures within { result < len }
-{
-    if at == 0 { len - 1 } else { at - 1 }
-}
-
-// The number after `at` round `len` numbers.
-fn round_after(len: usize, at: usize) -> usize
-    requires { at < len }
-    ensures is { result ≡ round_after len at }
-    ensures within { result < len }
-{
-    if at + 1 == len { 0 } else { at + 1 }
 }
 
 // The number before `at`, `at`, or the number after it, for `i` 0, 1 or 2, round `len` numbers.
@@ -219,8 +149,8 @@ fn around(len: usize, at: usize, i: usize) -> usize
     ensures within { result < len }
 {
     match i {
-        0 => round_before(len, at),
+        0 => { if at == 0 { len - 1 } else { at - 1 } }
         1 => at,
-        _ => round_after(len, at),
+        _ => { if at + 1 == len { 0 } else { at + 1 } }
     }
 }

@@ -1,16 +1,13 @@
 -- Which cells equal one: the size of that table, and its cells.
 use Rattle.std.proofs.Common.{◌≡◌, ℕ, ◌+◌, ◌^◌, ◌%◌, ◌-◌, ◌<◌, Bool, true, Option, None, Some, List, length, refl, sym, ◌∙◌, ap, subst, arith, ⊎_elim, MatchOption}
-use Rattle.std.specs.Option.{IsSome, option_map}
+use Rattle.std.specs.Option.{option_map}
 use Rattle.std.proofs.lemmas.Bool.{cases_lt}
 use Rattle.std.proofs.lemmas.Option.{slice_get_past}
 use Rattle.grid_base.specs.Table.{row, row_count, col_count, cell, IsTable, InRange, tabulate}
 use Rattle.grid_base.proofs.TableLemmas.{IsFull, IsFull-cells, IsSize-table, rows-tabulate, cols-tabulate, cell-tabulate, cell_past_rows, cell_past_cols}
 use Rattle.grid_paths.specs.Walks.{IsOpen, alike}
 use Rattle.grid_paths.proofs.StepLemmas.{AreAround, AreAround-wrapping}
-
-IsSome-option_map : {X Y : Type 0} (f : X → Y) (o : Option X) → IsSome o → IsSome (option_map f o)
-IsSome-option_map f None h = cc
-IsSome-option_map f (Some x) h = refl
+use Rattle.grid_near.proofs.AroundLemmas.{mapped_there}
 
 module _ {X Y : Type 0} (f : X → Y) (t : List (List X)) (table : IsTable t) where
   answer : ℕ → ℕ → Option Y
@@ -18,7 +15,7 @@ module _ {X Y : Type 0} (f : X → Y) (t : List (List X)) (table : IsTable t) wh
 
   full : IsFull (row_count t) (col_count t) answer
   unfolding answer
-  full = record { full = λ r c lr lc. IsSome-option_map f (cell t r c) ((IsFull-cells t table).full r c lr lc) }
+  full = record { full = λ r c lr lc. mapped_there f (cell t r c) ((IsFull-cells t table).full r c lr lc) }
 
   cols : col_count (tabulate (row_count t) (col_count t) answer) ≡ col_count t
   cols = cols-tabulate (row_count t) (col_count t) answer (IsSize-table t table) full

@@ -4,15 +4,16 @@ use Rattle.std.specs.Option.{option_map, unwrap_or}
 use Rattle.std.specs.Cmp.{IsEquivalence}
 use Rattle.std.proofs.lemmas.Bool.{cases_lt}
 use Rattle.grid_base.specs.Table.{row_count, col_count, cell, tabulate, IsTable, InRange}
-use Rattle.grid_paths.specs.declared.steps.Steps.{Steps}
+use Rattle.grid_near.specs.declared.steps.Steps.{Steps}
 use Rattle.grid_paths.specs.Walks.{IsOpen, IsStep, Walk, alike}
 use Rattle.grid_paths.specs.Search.{IsMarked, HaveOneSize}
 use Rattle.grid_paths.specs.Regions.{AreJoined, AreRegions, ComesBefore, AreNumbers}
 use Rattle.grid_paths.specs.Numbers.{IsNumbered, AreEqual, AreParts, IsScanned}
 use Rattle.grid_paths.proofs.SearchLemmas.{one_mark}
 use Rattle.grid_paths.proofs.StepLemmas.{same_pair}
-use Rattle.grid_paths.proofs.PathLemmas.{step_back, in_range, walk_back, open_end}
+use Rattle.grid_paths.proofs.PathLemmas.{step_back, walk_back, open_end}
 use Rattle.grid_paths.proofs.AlikeLemmas.{open_alike, alike_open, mapped-cell}
+use Rattle.grid_base.proofs.TableLemmas.{cell_in_range}
 
 -- open positions of one table that are open in another
 walk_map : (kind : Steps) (F G : List (List Bool)) → ((a : ℕ × ℕ) → IsOpen F a → IsOpen G a) → (n : ℕ) (a b : ℕ × ℕ) → Walk kind F a b n → Walk kind G a b n
@@ -220,7 +221,7 @@ module _ (kind : Steps) {X : Type 0} (eq : X → X → Bool) (t : List (List X))
         let e : m ≡ k = is in
         let v = s.used j (omega arith) in
         ⊎_elim (λ h0.
-        let i = in_range u' table' a.0 a.1 (Some m) h in
+        let i = cell_in_range u' table' a.0 a.1 (Some m) h in
         let l0 = i.0 in
         let l1 = i.1 in
         let rows = size.rows in
@@ -263,7 +264,7 @@ module _ (kind : Steps) {X : Type 0} (eq : X → X → Bool) (t : List (List X))
     unfolding plain
     back a k h =
         let y = some_of (cell u a.0 a.1) k (sym (mapped-cell (λ number. unwrap_or number 0) u u_table a.0 a.1) ∙ h) in
-        let i = in_range u u_table a.0 a.1 y.0 y.1 in
+        let i = cell_in_range u u_table a.0 a.1 y.0 y.1 in
         let l0 = i.0 in
         let l1 = i.1 in
         let rows = size.rows in

@@ -1,29 +1,21 @@
 -- The open positions that aren't reached yet, as they are reached.
-use Rattle.std.proofs.Common.{◌≡◌, ◌≢◌, ℕ, ◌+◌, ◌-◌, ◌%◌, ◌^◌, ◌<◌, ◌⊎◌, Bool, true, false, Option, None, Some, List, refl, sym, ◌∙◌, subst, arith, inl, inr, ⊎_elim}
-use Rattle.std.proofs.lemmas.Bool.{cases_eq}
+use Rattle.std.proofs.Common.{◌≡◌, ℕ, ◌+◌, ◌-◌, ◌%◌, ◌^◌, ◌<◌, ◌⊎◌, Bool, true, false, Option, None, Some, List, refl, sym, ◌∙◌, subst, arith, inl, inr, ⊎_elim}
 use Rattle.grid_base.specs.Table.{row_count, col_count, cell, with_cell, IsTable, InRange}
-use Rattle.grid_base.proofs.WriteLemmas.{cell-with_same, cell-with_other}
+use Rattle.grid_base.proofs.WriteLemmas.{cell-with_same, cell-with_other, same_or_other}
 use Rattle.grid_paths.specs.Walks.{IsOpen}
 use Rattle.grid_paths.specs.Search.{HaveOneSize, IsMarked, IsLeft}
-use Rattle.grid_paths.proofs.StepLemmas.{same_pair, AreAround, AreAround-wrapping}
-use Rattle.grid_paths.proofs.PathLemmas.{in_range}
-
--- two positions are one, or a write at the one leaves the other
-pub same_or_other : (a b : ℕ × ℕ) → (a ≡ b) ⊎ (a.0 ≡ b.0 → a.1 ≢ b.1)
-same_or_other a b =
-    ⊎_elim (λ e. ⊎_elim (λ f. inl (same_pair a b e f)) (λ ne. inr (λ _. ne)) (cases_eq a.1 b.1))
-    (λ ne. inr (λ e. absurd (ne e)))
-    (cases_eq a.0 b.0)
+use Rattle.grid_paths.proofs.StepLemmas.{AreAround, AreAround-wrapping}
+use Rattle.grid_base.proofs.TableLemmas.{cell_in_range}
 
 module _ (floor : List (List Bool)) (steps : List (List (Option ℕ))) (left : List (List Bool)) (l : IsLeft floor steps left) (steps_table : IsTable steps) (left_table : IsTable left) (b : ℕ × ℕ) (k : ℕ) (is_left : IsOpen left b) where
   pub free_there : cell steps b.0 b.1 ≡ Some None
   free_there = (l.unreached_yet b is_left).1
 
   pub inside_steps : InRange steps b.0 b.1
-  inside_steps = in_range steps steps_table b.0 b.1 None free_there
+  inside_steps = cell_in_range steps steps_table b.0 b.1 None free_there
 
   pub inside_left : InRange left b.0 b.1
-  inside_left = in_range left left_table b.0 b.1 true is_left
+  inside_left = cell_in_range left left_table b.0 b.1 true is_left
 
   pub inside_floor : InRange floor b.0 b.1
   inside_floor =
@@ -44,8 +36,8 @@ module _ (floor : List (List Bool)) (steps : List (List (Option ℕ))) (left : L
         let clash : Some false ≡ Some true = sym (cell-with_same left left_table b.0 b.1 false inside_left.0 inside_left.1) ∙ here in
         absurd (cc))
         (λ other.
-        let v = l.unreached_yet a (sym (cell-with_other left left_table b.0 b.1 false a.0 a.1 other) ∙ h) in
-        (v.0, cell-with_other steps steps_table b.0 b.1 (Some k) a.0 a.1 other ∙ v.1))
+        let v = l.unreached_yet a (sym (cell-with_other left b.0 b.1 false a.0 a.1 other) ∙ h) in
+        (v.0, cell-with_other steps b.0 b.1 (Some k) a.0 a.1 other ∙ v.1))
         (same_or_other a b)
 
     all' : (a : ℕ × ℕ) → IsOpen floor a → IsOpen (with_cell left b.0 b.1 false) a ⊎ ((m : ℕ) × IsMarked (with_cell steps b.0 b.1 (Some k)) a m)
@@ -54,8 +46,8 @@ module _ (floor : List (List Bool)) (steps : List (List (Option ℕ))) (left : L
         let here : IsMarked (with_cell steps b.0 b.1 (Some k)) b k = cell-with_same steps steps_table b.0 b.1 (Some k) inside_steps.0 inside_steps.1 in
         inr (k, subst (λ x. IsMarked (with_cell steps b.0 b.1 (Some k)) x k) (sym same) here))
         (λ other.
-        ⊎_elim (λ h. inl (cell-with_other left left_table b.0 b.1 false a.0 a.1 other ∙ h))
-        (λ m. inr (m.0, cell-with_other steps steps_table b.0 b.1 (Some k) a.0 a.1 other ∙ m.1))
+        ⊎_elim (λ h. inl (cell-with_other left b.0 b.1 false a.0 a.1 other ∙ h))
+        (λ m. inr (m.0, cell-with_other steps b.0 b.1 (Some k) a.0 a.1 other ∙ m.1))
         (l.all a o))
         (same_or_other a b)
 

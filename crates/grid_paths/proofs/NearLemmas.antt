@@ -4,14 +4,14 @@ use Rattle.std.specs.List.{filter_map, cons_option}
 use Rattle.std.specs.Option.{option_map}
 use Rattle.grid_base.specs.Table.{cell}
 use Rattle.grid_near.specs.Neighbors.{around4, around8, before, cell_at, neighbors4, neighbors8}
-use Rattle.grid_paths.specs.declared.steps.Steps.TheVariants.{Sides, All}
+use Rattle.grid_near.specs.declared.steps.Steps.TheVariants.{Sides, All}
 use Rattle.grid_paths.specs.Walks.{DifferByOne, IsStep}
 
-Contains-cases : {X : Type 0} (x z : X) (xs : List X) → Contains (x ∷ xs) z → (x ≡ z) ⊎ Contains xs z
+pub Contains-cases : {X : Type 0} (x z : X) (xs : List X) → Contains (x ∷ xs) z → (x ≡ z) ⊎ Contains xs z
 Contains-cases x z xs (zero, l, e) = inl e
 Contains-cases x z xs (suc k, l, e) = inr (k, omega arith, e)
 
-Contains-more : {X : Type 0} (o : Option X) (xs : List X) (x : X) → Contains xs x → Contains (cons_option o xs) x
+pub Contains-more : {X : Type 0} (o : Option X) (xs : List X) (x : X) → Contains xs x → Contains (cons_option o xs) x
 Contains-more None xs x c = c
 Contains-more (Some y) xs x c = let lt : c.0 < length xs = c.1 in (suc c.0, omega arith, c.2)
 
@@ -36,10 +36,7 @@ module _ {X Y : Type 0} (f : X → Option Y) where
           ⊎_elim (λ is. (z, (0, omega arith, refl), e ∙ ap Some is)) (λ h0. later (rest h0)) (Contains-cases w y (filter_map f xs) h)
 
 same_options : (p q : Option ℕ × Option ℕ) → p.0 ≡ q.0 → p.1 ≡ q.1 → p ≡ q
-same_options p q e f =
-    let a : ◌≡◌ {A = Option ℕ × Option ℕ} (p.0, p.1) (q.0, p.1) = ap (λ x. (x, p.1)) e in
-    let b : ◌≡◌ {A = Option ℕ × Option ℕ} (q.0, p.1) (q.0, q.1) = ap (λ y. (q.0, y)) f in
-    a ∙ b
+same_options p q e f = λ i. (e i, f i)
 
 near_number : (k j : ℕ) → DifferByOne k j → (before k ≡ Some j) ⊎ (Some (k + 1) ≡ Some j)
 near_number k j d = ⊎_elim (λ e. inr (ap Some e)) (λ e. inl (last k e)) d

@@ -1,13 +1,10 @@
 -- Walks turned round, paths and walks, and a path that follows the numbers down.
-use Rattle.std.proofs.Common.{◌≡◌, ℕ, zero, suc, ◌+◌, ◌-◌, ◌<◌, ◌≤◌, Bool, Option, None, Some, List, [], ◌∷◌, ◌++◌, length, refl, sym, ◌∙◌, subst, arith, inl, inr, ⊎_elim, add-one, Result, Ok, Err, IfOk}
+use Rattle.std.proofs.Common.{◌≡◌, ℕ, zero, suc, ◌+◌, ◌-◌, ◌<◌, ◌≤◌, Bool, Option, Some, List, [], ◌∷◌, ◌++◌, length, refl, sym, subst, arith, inl, inr, ⊎_elim, add-one, Result, Ok, Err, IfOk}
 use Rattle.std.specs.List.{slice_get}
-use Rattle.std.proofs.lemmas.Bool.{cases_lt}
 use Rattle.std.proofs.lemmas.List.{length-append}
 use Rattle.std.proofs.lemmas.Option.{slice_get_within}
-use Rattle.grid_base.specs.Table.{row, row_count, col_count, cell, IsTable, InRange}
-use Rattle.grid_base.proofs.TableLemmas.{cell_past_rows}
-use Rattle.grid_paths.specs.declared.steps.Steps.{Steps}
-use Rattle.grid_paths.specs.declared.steps.Steps.TheVariants.{Sides, All}
+use Rattle.grid_near.specs.declared.steps.Steps.{Steps}
+use Rattle.grid_near.specs.declared.steps.Steps.TheVariants.{Sides, All}
 use Rattle.grid_paths.specs.Walks.{IsOpen, DifferByOne, AreBeside, IsStep, Walk, IsLeastSteps, IsPath, IsShortestPath}
 use Rattle.grid_paths.specs.Search.{IsMarked, IsAt, HasLeastUpTo, IsSettled}
 use Rattle.grid_paths.proofs.SearchLemmas.{one_place}
@@ -24,17 +21,6 @@ pub step_back : (kind : Steps) (a b : ℕ × ℕ) → IsStep kind a b → IsStep
 step_back Sides a b h = beside_back a b h
 step_back All a b h =
     ⊎_elim (λ w. inl (beside_back a b w)) (λ w. inr (differ_back a.0 b.0 w.0, differ_back a.1 b.1 w.1)) h
-
--- a position with a cell is in range
-pub in_range : {X : Type 0} (t : List (List X)) → IsTable t → (r c : ℕ) (x : X) → cell t r c ≡ Some x → InRange t r c
-in_range {X = X} t h r c x e =
-    ⊎_elim (λ lt.
-    let low : c < length (row t r) = slice_get_within (row t r) c x e in
-    let even : length (row t r) ≡ length (row t 0) = h.even r lt in
-    let ok : c < col_count t = omega arith in
-    (lt, ok))
-    (λ ge. let none : cell t r c ≡ None = cell_past_rows t r c ge in let clash : ◌≡◌ {A = Option X} None (Some x) = sym none ∙ e in absurd (cc))
-    (cases_lt r (row_count t))
 
 module _ (kind : Steps) (floor : List (List Bool)) where
   -- a step more at the front

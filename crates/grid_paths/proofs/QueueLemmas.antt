@@ -3,12 +3,12 @@ use Rattle.std.proofs.Common.{◌≡◌, ℕ, zero, suc, ◌+◌, ◌*◌, ◌<�
 use Rattle.std.specs.List.{sum_by}
 use Rattle.std.proofs.Math.Nat.{le-mul_of_pos_right, mul_comm}
 use Rattle.std.proofs.lemmas.List.{length-append, append_assoc}
-use Rattle.grid_base.specs.Table.{row_count, col_count, IsTable, InRange, concat_rows}
+use Rattle.grid_base.specs.Table.{row_count, col_count, IsTable, concat_rows}
 use Rattle.grid_base.specs.declared.order.Order.TheVariants.{RowMajor}
 use Rattle.grid_base.proofs.StorageLemmas.{length-storage}
 use Rattle.std.proofs.lemmas.List.Sums.{sum_by-cons}
 use Rattle.std.proofs.lemmas.Option.{slice_get_within}
-use Rattle.grid_paths.specs.declared.steps.Steps.{Steps}
+use Rattle.grid_near.specs.declared.steps.Steps.{Steps}
 use Rattle.grid_paths.specs.Walks.{IsOpen, IsStep, HasLeastFrom}
 use Rattle.grid_paths.specs.Search.{IsMarked, IsAt, IsSearch, IsReached, Spread, WentRound, free, unreached}
 use Rattle.grid_paths.proofs.SearchLemmas.{IsSearch-round, HasLeastFrom-end}
@@ -165,13 +165,11 @@ pub unreached_cells : (t : List (List (Option ℕ))) → IsTable t → unreached
 unreached_cells t h =
     let joined = unreached_joined t in let size = length-storage RowMajor t h in omega arith
 
--- each side of a table with a cell is no longer than the number of its cells
-pub sides_within : {X : Type 0} (t : List (List X)) (r c : ℕ) → InRange t r c → (row_count t ≤ row_count t * col_count t) × (col_count t ≤ row_count t * col_count t)
-sides_within t r c i =
-    let lr = i.0 in
-    let lc = i.1 in
-    let some_row : 0 < row_count t = omega arith in
-    let some_col : 0 < col_count t = omega arith in
-    let rows = le-mul_of_pos_right (row_count t) some_col in
-    let cols : col_count t ≤ row_count t * col_count t = subst (λ x. col_count t ≤ x) (mul_comm (col_count t) (row_count t)) (le-mul_of_pos_right (col_count t) some_row) in
-    (rows, cols)
+-- the sides of a table are no longer than the number of its cells
+pub sides_within : {X : Type 0} (t : List (List X)) → IsTable t → (row_count t ≤ row_count t * col_count t) × (col_count t ≤ row_count t * col_count t)
+sides_within [] h = (omega arith, omega arith)
+sides_within (x ∷ t) h =
+    let some_row : 0 < row_count (x ∷ t) = omega arith in
+    let rows = le-mul_of_pos_right (row_count (x ∷ t)) (h.nonempty 0 some_row) in
+    let cols = le-mul_of_pos_right (col_count (x ∷ t)) some_row in
+    (rows, omega (arith, cols, mul_comm (col_count (x ∷ t)) (row_count (x ∷ t))))

@@ -6,21 +6,21 @@ use Rattle.std.proofs.lemmas.List.{length-append}
 use Rattle.std.proofs.lemmas.List.Sums.{sum_by-set}
 use Rattle.std.proofs.lemmas.Option.{slice_get_within, slice_get_read, get_or_from_slice_get}
 use Rattle.grid_base.specs.Table.{row, row_count, col_count, cell, with_cell, IsTable, InRange}
-use Rattle.grid_base.proofs.WriteLemmas.{cell-with_same, cell-with_other}
-use Rattle.grid_paths.specs.declared.steps.Steps.{Steps}
-use Rattle.grid_paths.specs.declared.steps.Steps.TheVariants.{All}
+use Rattle.grid_base.proofs.WriteLemmas.{cell-with_same, cell-with_other, same_or_other}
+use Rattle.grid_near.specs.declared.steps.Steps.{Steps}
+use Rattle.grid_near.specs.declared.steps.Steps.TheVariants.{All}
 use Rattle.grid_paths.specs.Walks.{IsOpen, AreBeside, AreDiagonal, IsStep, Walk, IsFilled}
 use Rattle.grid_paths.specs.Search.{HaveOneSize, IsAt}
 use Rattle.grid_paths.specs.Taken.{Takes, TakesNear, TakesAll, IsRegion, flag, count_left}
 use Rattle.grid_paths.proofs.SearchLemmas.{one_place}
 use Rattle.grid_paths.proofs.StepLemmas.{at_push, at_end, at_push_fresh, AreAround, four_beside, four_diagonal, Contains-from_get}
-use Rattle.grid_paths.proofs.PathLemmas.{in_range, open_end}
-use Rattle.grid_paths.proofs.LeftLemmas.{same_or_other}
+use Rattle.grid_paths.proofs.PathLemmas.{open_end}
+use Rattle.grid_base.proofs.TableLemmas.{cell_in_range}
 
 -- a position taken
 module _ (near : ℕ × ℕ → Type 0) (l : List (List Bool)) (table : IsTable l) (q : List (ℕ × ℕ)) (b : ℕ × ℕ) (is_left : IsOpen l b) where
   inside : InRange l b.0 b.1
-  inside = in_range l table b.0 b.1 true is_left
+  inside = cell_in_range l table b.0 b.1 true is_left
 
   gone : IsOpen (with_cell l b.0 b.1 false) b → ⊥
   gone h =
@@ -29,13 +29,13 @@ module _ (near : ℕ × ℕ → Type 0) (l : List (List Bool)) (table : IsTable 
   fewer' : (a : ℕ × ℕ) → IsOpen (with_cell l b.0 b.1 false) a → IsOpen l a
   fewer' a h =
       ⊎_elim (λ same. subst (λ x. IsOpen l x) (sym same) is_left)
-      (λ other. sym (cell-with_other l table b.0 b.1 false a.0 a.1 other) ∙ h)
+      (λ other. sym (cell-with_other l b.0 b.1 false a.0 a.1 other) ∙ h)
       (same_or_other a b)
 
   taken' : (a : ℕ × ℕ) → IsOpen l a → IsOpen (with_cell l b.0 b.1 false) a ⊎ ((j : ℕ) × IsAt (q ++ b ∷ []) j a)
   taken' a h =
       ⊎_elim (λ same. inr (length q, subst (λ x. IsAt (q ++ b ∷ []) (length q) x) (sym same) (at_end q b)))
-      (λ other. inl (cell-with_other l table b.0 b.1 false a.0 a.1 other ∙ h))
+      (λ other. inl (cell-with_other l b.0 b.1 false a.0 a.1 other ∙ h))
       (same_or_other a b)
 
   count_left-with_cell : count_left (with_cell l b.0 b.1 false) + 1 ≡ count_left l
@@ -125,7 +125,7 @@ module _ (near : ℕ × ℕ → Type 0) (b1 b2 b3 b4 : ℕ × ℕ) (l0 : List (L
     (n1 : InRange l0 b1.0 b1.1 → near b1) (n2 : InRange l0 b2.0 b2.1 → near b2) (n3 : InRange l0 b3.0 b3.1 → near b3) (n4 : InRange l0 b4.0 b4.1 → near b4)
     (covers : (b : ℕ × ℕ) → near b → ((b1 ≡ b) ⊎ (b2 ≡ b)) ⊎ ((b3 ≡ b) ⊎ (b4 ≡ b))) where
   there : (b : ℕ × ℕ) → IsOpen l0 b → InRange l0 b.0 b.1
-  there b o = in_range l0 t0 b.0 b.1 true o
+  there b o = cell_in_range l0 t0 b.0 b.1 true o
 
   s1 : TakesNear near l0 q0 l1 q1
   s1 = TakesNear-from_takes near b1 l0 q0 l1 q1 t0 r1 (λ o. n1 (there b1 o))
@@ -309,12 +309,12 @@ module _ {X : Type 0} (region : List (ℕ × ℕ)) (w : X) (t : List (List X)) w
           filled = λ j b lt h there_b.
               ⊎_elim (λ same. subst (λ x. cell (with_cell u a.0 a.1 w) x.0 x.1 ≡ Some w) (sym same) (cell-with_same u table a.0 a.1 w here.0 here.1))
               (λ other.
-              cell-with_other u table a.0 a.1 w b.0 b.1 other
+              cell-with_other u a.0 a.1 w b.0 b.1 other
               ∙ ⊎_elim (λ less. s.filled j b less h there_b) (λ e. absurd (other (ap (λ x. x.0) e) (ap (λ x. x.1) e))) (last j b lt h))
               (same_or_other b a);
           kept = λ b none.
               ⊎_elim (λ same. absurd (none i (omega arith) (subst (λ x. IsAt region i x) (sym same) place)))
-              (λ other. cell-with_other u table a.0 a.1 w b.0 b.1 other ∙ s.kept b (λ j lt. none j (omega (arith, lt))))
+              (λ other. cell-with_other u a.0 a.1 w b.0 b.1 other ∙ s.kept b (λ j lt. none j (omega (arith, lt))))
               (same_or_other b a);
         }
 

@@ -1,8 +1,8 @@
 -- The search in breadth: what holds after each step, and what that says at the end.
-use Rattle.std.proofs.Common.{◌≡◌, ℕ, zero, suc, ◌+◌, ◌<◌, ◌≤◌, Bool, Option, Some, List, [], ◌∷◌, length, Contains, refl, sym, ◌∙◌, subst, arith, ⊎_elim, Result, Ok, Err, IfOk}
+use Rattle.std.proofs.Common.{◌≡◌, ℕ, zero, suc, ◌+◌, ◌<◌, ◌≤◌, Bool, Option, Some, List, [], ◌∷◌, length, Contains, refl, sym, ◌∙◌, subst, arith, ⊎_elim}
 use Rattle.std.proofs.lemmas.Bool.{cases_lt}
 use Rattle.std.proofs.lemmas.Option.{slice_get_within}
-use Rattle.grid_paths.specs.declared.steps.Steps.{Steps}
+use Rattle.grid_near.specs.declared.steps.Steps.{Steps}
 use Rattle.grid_paths.specs.Walks.{IsOpen, IsStep, Walk, WalkFrom, IsLeastSteps, HasLeastSteps, IsLeastFrom, HasLeastFrom}
 use Rattle.grid_paths.specs.Search.{IsMarked, IsAt, IsSearch, Spread, WentRound, HasLeastUpTo, IsSettled}
 
@@ -167,10 +167,6 @@ HasLeastSteps-one kind floor from u h =
             least = λ n w. v.least n (from, (0, omega arith, refl), w);
           };
     }
-
-pub if_ok : {V E : Type 0} (r : Result V E) (P Q : V → Type 0) → ((v : V) → P v → Q v) → IfOk r P → IfOk r Q
-if_ok (Ok v) P Q f h = f v h
-if_ok (Err e) P Q f h = tt
 
 -- once a position has the number d, each one fewer steps away has its least number
 module _ (kind : Steps) (floor : List (List Bool)) (from : ℕ × ℕ) (steps : List (List (Option ℕ))) (queue : List (ℕ × ℕ)) (next : ℕ) (s : IsSearch kind floor (from ∷ []) steps queue next)

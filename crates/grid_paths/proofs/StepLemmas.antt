@@ -1,5 +1,5 @@
 -- One position reached, the four round a position reached, and the start.
-use Rattle.std.proofs.Common.{◌≡◌, ◌≢◌, ℕ, zero, suc, ◌+◌, ◌-◌, ◌%◌, ◌^◌, ◌<◌, ◌≤◌, ◌⊎◌, Bool, Option, None, Some, List, [], ◌∷◌, ◌++◌, length, Contains, set, get_or, refl, sym, ◌∙◌, ap, subst, arith, rules, inl, inr, ⊎_elim, Result, Ok, Err, OnOk}
+use Rattle.std.proofs.Common.{◌≡◌, ◌≢◌, ℕ, zero, suc, ◌+◌, ◌-◌, ◌%◌, ◌^◌, ◌<◌, ◌≤◌, ◌⊎◌, Bool, Option, None, Some, List, [], ◌∷◌, ◌++◌, length, Contains, set, get_or, refl, sym, ◌∙◌, ap, subst, arith, rules, inl, inr, ⊎_elim}
 use Rattle.std.specs.List.{sum_by, slice_get}
 use Rattle.std.proofs.lemmas.Bool.{cases_eq, cases_lt}
 use Rattle.std.proofs.lemmas.List.{length-append}
@@ -9,17 +9,14 @@ use Rattle.std.proofs.lemmas.Option.{slice_get_within, slice_get_read, get_or_fr
 use Rattle.grid_base.specs.Table.{row, row_count, col_count, cell, with_cell, tabulate, IsTable, InRange}
 use Rattle.grid_base.proofs.TableLemmas.{IsFull, cell-tabulate, rows-tabulate, cell_past_rows, cell_past_cols}
 use Rattle.grid_base.proofs.WriteLemmas.{cell-with_same, cell-with_other}
-use Rattle.grid_paths.specs.declared.steps.Steps.{Steps}
-use Rattle.grid_paths.specs.declared.steps.Steps.TheVariants.{All}
+use Rattle.grid_near.specs.declared.steps.Steps.{Steps}
+use Rattle.grid_near.specs.declared.steps.Steps.TheVariants.{All}
 use Rattle.grid_paths.specs.Walks.{IsOpen, DifferByOne, AreBeside, AreDiagonal, IsStep, WalkFrom}
 use Rattle.grid_paths.specs.Search.{Reaches, IsMarked, IsAt, IsSearch, IsReached, Spread, WentRound, free, unreached}
 use Rattle.grid_paths.proofs.SearchLemmas.{one_mark, one_place, IsSearch-spread}
 
 pub same_pair : (a b : ℕ × ℕ) → a.0 ≡ b.0 → a.1 ≡ b.1 → a ≡ b
-same_pair a b p q =
-    let e : ◌≡◌ {A = ℕ × ℕ} (a.0, a.1) (b.0, a.1) = ap (λ x. (x, a.1)) p in
-    let f : ◌≡◌ {A = ℕ × ℕ} (b.0, a.1) (b.0, b.1) = ap (λ y. (b.0, y)) q in
-    e ∙ f
+same_pair a b p q = λ i. (p i, q i)
 
 -- a queue with one item more
 pub at_push : (queue : List (ℕ × ℕ)) (b : ℕ × ℕ) (j : ℕ) (a : ℕ × ℕ) → IsAt queue j a → IsAt (queue ++ b ∷ []) j a
@@ -64,15 +61,15 @@ module _ (steps : List (List (Option ℕ))) (h : IsTable steps) (queue : List (�
       ⊎_elim (λ f.
       let is : a ≡ b = same_pair a b e f in
       inl (is, one_mark (with_cell steps b.0 b.1 (Some k)) b m k (subst (λ x. IsMarked (with_cell steps b.0 b.1 (Some k)) x m) is w) there))
-      (λ ne. inr (sym (cell-with_other steps h b.0 b.1 (Some k) a.0 a.1 (λ _. ne)) ∙ w))
+      (λ ne. inr (sym (cell-with_other steps b.0 b.1 (Some k) a.0 a.1 (λ _. ne)) ∙ w))
       (cases_eq a.1 b.1))
-      (λ ne. inr (sym (cell-with_other steps h b.0 b.1 (Some k) a.0 a.1 (λ e. absurd (ne e))) ∙ w))
+      (λ ne. inr (sym (cell-with_other steps b.0 b.1 (Some k) a.0 a.1 (λ e. absurd (ne e))) ∙ w))
       (cases_eq a.0 b.0)
 
   pub grown : Grew steps queue (with_cell steps b.0 b.1 (Some k)) (queue ++ b ∷ []) b k
   grown =
       record {
-        kept = λ a m w. cell-with_other steps h b.0 b.1 (Some k) a.0 a.1 (not_marked a m w) ∙ w;
+        kept = λ a m w. cell-with_other steps b.0 b.1 (Some k) a.0 a.1 (not_marked a m w) ∙ w;
         fresh = fresh_mark;
         here = there;
         kept_at = λ j a w. at_push queue b j a w;
@@ -411,7 +408,3 @@ none_at m n r c lr lc = cell-tabulate {T = Option ℕ} m n (λ r c. Some None) r
   where
     full : IsFull {T = Option ℕ} m n (λ r c. Some None)
     full = record { full = λ r c lr lc. search rules }
-
-pub on_ok : {A E : Type 0} {P Q : Type 0} (r : Result A E) → (P → Q) → OnOk r P → OnOk r Q
-on_ok (Ok x) f h = f h
-on_ok (Err e) f h = tt

@@ -2,7 +2,7 @@
 use Rattle.std.specs.Prelude.{◌≡◌, ℕ, ◌+◌, ◌<◌, ◌≤◌, ◌⊎◌, Bool, Option, None, Some, List, [], ◌∷◌, ◌++◌, length}
 use Rattle.std.specs.List.{slice_get, sum_by}
 use Rattle.grid_base.specs.Table.{row_count, col_count, cell, with_cell, InRange}
-use Rattle.grid_paths.specs.declared.steps.Steps.{Steps}
+use Rattle.grid_near.specs.declared.steps.Steps.{Steps}
 use Rattle.grid_paths.specs.Walks.{IsOpen, IsStep, Walk, WalkFrom, IsLeastSteps}
 
 -- two tables have one size
@@ -10,8 +10,8 @@ pub record HaveOneSize {T U : Type 0} (t : List (List T)) (u : List (List U)) : 
   pub rows : row_count t ≡ row_count u
   pub cols : col_count t ≡ col_count u
 
--- an open position that isn't reached yet is reached by k steps, and comes to the end of the queue; at
--- another nothing changes
+-- an open position that isn't reached yet is reached by k steps, and comes to the end of the queue;
+-- at another nothing changes
 abbrev pub Reaches : List (List Bool) → ℕ × ℕ → ℕ → List (List (Option ℕ)) → List (ℕ × ℕ)
     → List (List (Option ℕ)) → List (ℕ × ℕ) → Type 0
 Reaches floor at k steps queue steps' queue' =
@@ -30,13 +30,16 @@ abbrev pub IsAt : List (ℕ × ℕ) → ℕ → ℕ × ℕ → Type 0
 IsAt queue j a = slice_get queue j ≡ Some a
 
 -- the open positions that aren't reached yet
-pub record IsLeft (floor : List (List Bool)) (steps : List (List (Option ℕ))) (left : List (List Bool)) : Type 0 where
+pub record IsLeft (floor : List (List Bool)) (steps : List (List (Option ℕ)))
+    (left : List (List Bool)) : Type 0 where
   pub size : HaveOneSize left floor
-  pub unreached_yet : (a : ℕ × ℕ) → IsOpen left a → IsOpen floor a × (cell steps a.0 a.1 ≡ Some None)
+  pub unreached_yet : (a : ℕ × ℕ) → IsOpen left a
+      → IsOpen floor a × (cell steps a.0 a.1 ≡ Some None)
   pub all : (a : ℕ × ℕ) → IsOpen floor a → IsOpen left a ⊎ ((m : ℕ) × IsMarked steps a m)
 
 -- the search has found these steps, and gone on from the positions of the queue before `next`
-pub record IsSearch (kind : Steps) (floor : List (List Bool)) (starts : List (ℕ × ℕ)) (steps : List (List (Option ℕ)))
+pub record IsSearch (kind : Steps) (floor : List (List Bool)) (starts : List (ℕ × ℕ))
+    (steps : List (List (Option ℕ)))
     (queue : List (ℕ × ℕ)) (next : ℕ) : Type 0 where
   pub marked : (j : ℕ) (a : ℕ × ℕ) → IsAt queue j a → (n : ℕ) × IsMarked steps a n × (n ≤ j)
   pub listed : (a : ℕ × ℕ) (n : ℕ) → IsMarked steps a n → (j : ℕ) × IsAt queue j a
@@ -46,15 +49,19 @@ pub record IsSearch (kind : Steps) (floor : List (List Bool)) (starts : List (�
   pub close : (a : ℕ × ℕ) (m j : ℕ) (b : ℕ × ℕ) (n : ℕ) → next ≤ j → IsMarked steps a m
       → IsAt queue j b → IsMarked steps b n → m ≤ n + 1
   pub done : (j : ℕ) (a : ℕ × ℕ) (n : ℕ) (b : ℕ × ℕ) → j < next → IsAt queue j a
-      → IsMarked steps a n → IsStep kind a b → IsOpen floor b → (m : ℕ) × IsMarked steps b m × (m ≤ n + 1)
+      → IsMarked steps a n → IsStep kind a b → IsOpen floor b
+      → (m : ℕ) × IsMarked steps b m × (m ≤ n + 1)
 
 -- the numbers up to d are the least numbers of steps, and each position fewer steps away has one
-pub record HasLeastUpTo (kind : Steps) (floor : List (List Bool)) (from : ℕ × ℕ) (u : List (List (Option ℕ))) (d : ℕ) : Type 0 where
-  pub found : (at : ℕ × ℕ) (n : ℕ) → n < d → Walk kind floor from at n → (k : ℕ) × IsMarked u at k × (k ≤ n)
+pub record HasLeastUpTo (kind : Steps) (floor : List (List Bool)) (from : ℕ × ℕ)
+    (u : List (List (Option ℕ))) (d : ℕ) : Type 0 where
+  pub found : (at : ℕ × ℕ) (n : ℕ) → n < d → Walk kind floor from at n
+      → (k : ℕ) × IsMarked u at k × (k ≤ n)
   pub least : (at : ℕ × ℕ) (k : ℕ) → k ≤ d → IsMarked u at k → IsLeastSteps kind floor from at k
 
 -- the numbers up to that of the goal are known; where it has none, no walk leads to it
-pub record IsSettled (kind : Steps) (floor : List (List Bool)) (from goal : ℕ × ℕ) (u : List (List (Option ℕ))) : Type 0 where
+pub record IsSettled (kind : Steps) (floor : List (List Bool)) (from goal : ℕ × ℕ)
+    (u : List (List (Option ℕ))) : Type 0 where
   pub found : (d : ℕ) → IsMarked u goal d → HasLeastUpTo kind floor from u d
   pub none : ((d : ℕ) → IsMarked u goal d → ⊥) → (n : ℕ) → Walk kind floor from goal n → ⊥
 
@@ -67,7 +74,8 @@ abbrev pub unreached : List (List (Option ℕ)) → ℕ
 unreached steps = sum_by (sum_by free) steps
 
 -- a position that got the number k, and came to the end of the queue
-pub record IsReached (near : ℕ × ℕ → Type 0) (floor : List (List Bool)) (k : ℕ) (queue queue' : List (ℕ × ℕ))
+pub record IsReached (near : ℕ × ℕ → Type 0) (floor : List (List Bool)) (k : ℕ)
+    (queue queue' : List (ℕ × ℕ))
     (a : ℕ × ℕ) (m : ℕ) : Type 0 where
   pub is : m ≡ k
   pub is_open : IsOpen floor a
@@ -75,10 +83,12 @@ pub record IsReached (near : ℕ × ℕ → Type 0) (floor : List (List Bool)) (
   pub queued : (j : ℕ) × (length queue ≤ j) × IsAt queue' j a
 
 -- some near positions got the number k, and came to the end of the queue
-pub record Spread (near : ℕ × ℕ → Type 0) (floor : List (List Bool)) (k : ℕ) (u : List (List (Option ℕ)))
+pub record Spread (near : ℕ × ℕ → Type 0) (floor : List (List Bool)) (k : ℕ)
+    (u : List (List (Option ℕ)))
     (queue : List (ℕ × ℕ)) (u' : List (List (Option ℕ))) (queue' : List (ℕ × ℕ)) : Type 0 where
   pub kept : (a : ℕ × ℕ) (m : ℕ) → IsMarked u a m → IsMarked u' a m
-  pub fresh : (a : ℕ × ℕ) (m : ℕ) → IsMarked u' a m → IsMarked u a m ⊎ IsReached near floor k queue queue' a m
+  pub fresh : (a : ℕ × ℕ) (m : ℕ) → IsMarked u' a m
+      → IsMarked u a m ⊎ IsReached near floor k queue queue' a m
   pub kept_at : (j : ℕ) (a : ℕ × ℕ) → IsAt queue j a → IsAt queue' j a
   pub old_at : (j : ℕ) (a : ℕ × ℕ) → j < length queue → IsAt queue' j a → IsAt queue j a
   pub fresh_at : (j : ℕ) (a : ℕ × ℕ) → length queue ≤ j → IsAt queue' j a → IsMarked u' a k
@@ -86,7 +96,8 @@ pub record Spread (near : ℕ × ℕ → Type 0) (floor : List (List Bool)) (k :
   pub total : unreached u' + length queue' ≡ unreached u + length queue
 
 -- and all open ones that are near have a number
-pub record WentRound (near : ℕ × ℕ → Type 0) (floor : List (List Bool)) (k : ℕ) (u : List (List (Option ℕ)))
+pub record WentRound (near : ℕ × ℕ → Type 0) (floor : List (List Bool)) (k : ℕ)
+    (u : List (List (Option ℕ)))
     (queue : List (ℕ × ℕ)) (u' : List (List (Option ℕ))) (queue' : List (ℕ × ℕ)) : Type 0 where
   pub spread : Spread near floor k u queue u' queue'
   pub around : (b : ℕ × ℕ) → near b → IsOpen floor b → (m : ℕ) × IsMarked u' b m

@@ -2,12 +2,13 @@
 use Rattle.std.specs.Prelude.{◌≡◌, ℕ, ◌+◌, ◌≤◌, ◌⊎◌, Bool, true, false, List, [], ◌∷◌, ◌++◌, length}
 use Rattle.std.specs.List.{sum_by}
 use Rattle.grid_base.specs.Table.{with_cell}
-use Rattle.grid_paths.specs.declared.steps.Steps.{Steps}
+use Rattle.grid_near.specs.declared.steps.Steps.{Steps}
 use Rattle.grid_paths.specs.Walks.{IsOpen, Walk}
 use Rattle.grid_paths.specs.Search.{IsAt}
 
 -- a position that is left comes to the end of the region; at another nothing changes
-abbrev pub Takes : ℕ × ℕ → List (List Bool) → List (ℕ × ℕ) → List (List Bool) → List (ℕ × ℕ) → Type 0
+abbrev pub Takes : ℕ × ℕ → List (List Bool) → List (ℕ × ℕ) → List (List Bool) → List (ℕ × ℕ)
+    → Type 0
 Takes at left region left' region' =
     (IsOpen left at × (left' ≡ with_cell left at.0 at.1 false) × (region' ≡ region ++ at ∷ []))
     ⊎ ((IsOpen left at → ⊥) × (left' ≡ left) × (region' ≡ region))
@@ -38,6 +39,7 @@ pub record TakesAll (near : ℕ × ℕ → Type 0) (left : List (List Bool)) (re
   pub around : (b : ℕ × ℕ) → near b → IsOpen left' b → ⊥
 
 -- the positions that a walk from `at` leads to
-pub record IsRegion (kind : Steps) (floor : List (List Bool)) (at : ℕ × ℕ) (region : List (ℕ × ℕ)) : Type 0 where
+pub record IsRegion (kind : Steps) (floor : List (List Bool)) (at : ℕ × ℕ) (region : List (ℕ × ℕ))
+    : Type 0 where
   pub walk : (j : ℕ) (a : ℕ × ℕ) → IsAt region j a → (n : ℕ) × Walk kind floor at a n
   pub whole : (b : ℕ × ℕ) (n : ℕ) → Walk kind floor at b n → (j : ℕ) × IsAt region j b

@@ -1,11 +1,12 @@
--- Walks over the open cells of a table: a step goes to a cell that shares a side, or to any that touches.
+-- Walks over the open cells of a table: a step goes to a cell that shares a side, or to any that
+-- touches.
 use Rattle.std.specs.Prelude.{◌≡◌, ℕ, zero, suc, ◌+◌, ◌-◌, ◌≤◌, ◌⊎◌, Bool, true, Option, Some, List, length, Contains}
 use Rattle.std.specs.List.{slice_get}
 use Rattle.std.specs.Option.{option_map}
 use denote.Ref.{Bor}
 use Rattle.grid_base.specs.Table.{row_count, col_count, cell, tabulate}
-use Rattle.grid_paths.specs.declared.steps.Steps.{Steps}
-use Rattle.grid_paths.specs.declared.steps.Steps.TheVariants.{Sides, All}
+use Rattle.grid_near.specs.declared.steps.Steps.{Steps}
+use Rattle.grid_near.specs.declared.steps.Steps.TheVariants.{Sides, All}
 
 -- two numbers differ by one
 abbrev pub DifferByOne : ℕ → ℕ → Type 0
@@ -57,7 +58,8 @@ module _ (kind : Steps) (floor : List (List Bool)) where
   -- a number stands in u at each position that a walk from one of them leads to, and is the least
   -- number of steps from any of them; None stands at the others
   pub record HasLeastFrom (starts : List (ℕ × ℕ)) (u : List (List (Option ℕ))) : Type 0 where
-    pub found : (at : ℕ × ℕ) (n : ℕ) → WalkFrom starts at n → (k : ℕ) × (cell u at.0 at.1 ≡ Some (Some k))
+    pub found : (at : ℕ × ℕ) (n : ℕ) → WalkFrom starts at n
+        → (k : ℕ) × (cell u at.0 at.1 ≡ Some (Some k))
     pub least : (at : ℕ × ℕ) (k : ℕ) → cell u at.0 at.1 ≡ Some (Some k) → IsLeastFrom starts at k
 
 -- which cells of a table pass the test p
@@ -69,25 +71,31 @@ abbrev pub IsAnswer : {F T : Type 0} → (F → Bor T → Bool → Type 0) → F
 IsAnswer {T = T} returns f p = (x : Bor T) (b : Bool) → returns f x b → p x.now ≡ b
 
 -- a list of positions from one to another: each is open, and a step leads to it from the one before
-pub record IsPath (kind : Steps) (floor : List (List Bool)) (from to : ℕ × ℕ) (path : List (ℕ × ℕ)) : Type 0 where
+pub record IsPath (kind : Steps) (floor : List (List Bool)) (from to : ℕ × ℕ) (path : List (ℕ × ℕ))
+    : Type 0 where
   pub first : slice_get path 0 ≡ Some from
   pub last : slice_get path (length path - 1) ≡ Some to
   pub all_open : (j : ℕ) (a : ℕ × ℕ) → slice_get path j ≡ Some a → IsOpen floor a
-  pub each_step : (j : ℕ) (a b : ℕ × ℕ) → slice_get path j ≡ Some a → slice_get path (j + 1) ≡ Some b
+  pub each_step : (j : ℕ) (a b : ℕ × ℕ) → slice_get path j ≡ Some a
+      → slice_get path (j + 1) ≡ Some b
       → IsStep kind a b
 
 -- and none is shorter
-pub record IsShortestPath (kind : Steps) (floor : List (List Bool)) (from to : ℕ × ℕ) (path : List (ℕ × ℕ)) : Type 0
+pub record IsShortestPath (kind : Steps) (floor : List (List Bool)) (from to : ℕ × ℕ)
+    (path : List (ℕ × ℕ)) : Type 0
   where
     pub leads : IsPath kind floor from to path
-    pub shortest : (other : List (ℕ × ℕ)) → IsPath kind floor from to other → length path ≤ length other
+    pub shortest : (other : List (ℕ × ℕ)) → IsPath kind floor from to other
+        → length path ≤ length other
 
 -- which cells equal x
 abbrev pub alike : {T : Type 0} → (T → T → Bool) → T → List (List T) → List (List Bool)
 alike eq x t = passing (λ y. eq y x) t
 
 -- u is t with w at each position that a walk from `at` leads to
-pub record IsFilled {T : Type 0} (kind : Steps) (floor : List (List Bool)) (at : ℕ × ℕ) (w : T) (t u : List (List T)) : Type 0
+pub record IsFilled {T : Type 0} (kind : Steps) (floor : List (List Bool)) (at : ℕ × ℕ) (w : T)
+    (t u : List (List T)) : Type 0
   where
     pub filled : (b : ℕ × ℕ) (n : ℕ) → Walk kind floor at b n → cell u b.0 b.1 ≡ Some w
-    pub kept : (b : ℕ × ℕ) → ((n : ℕ) → Walk kind floor at b n → ⊥) → cell u b.0 b.1 ≡ cell t b.0 b.1
+    pub kept : (b : ℕ × ℕ) → ((n : ℕ) → Walk kind floor at b n → ⊥)
+        → cell u b.0 b.1 ≡ cell t b.0 b.1

@@ -1,7 +1,7 @@
 //! Laws of steps, as calls.
 ghost use Rattle.std.specs.Prelude.{◌≡◌, ◌↔◌, ℕ, Some, Contains};
 ghost use Rattle.grid_base.specs.Table.{cell, InRange};
-ghost use Rattle.grid_paths.specs.declared.steps.Steps.TheVariants.{Sides, All};
+ghost use Rattle.grid_near.specs.declared.steps.Steps.TheVariants.{Sides, All};
 ghost use Rattle.grid_paths.specs.Walks.{IsStep};
 
 use grid::Grid;

@@ -13,10 +13,9 @@ mod numbered;
 mod path;
 mod region;
 mod search;
-mod steps;
 
+pub use grid_near::Steps;
 pub use numbered::regions;
 pub use path::shortest_path;
 pub use region::fill_region;
 pub use search::{distances, distances_from};
-pub use steps::Steps;

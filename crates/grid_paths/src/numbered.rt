@@ -8,8 +8,8 @@ ghost use Rattle.grid_paths.specs.Search.{HaveOneSize, IsMarked, Reaches, WentRo
 ghost use Rattle.grid_paths.specs.Regions.{AreRegions, AreNumbers};
 ghost use Rattle.grid_paths.specs.Numbers.{IsNumbered, IsScanned};
 
-use super::steps::Steps;
 use grid::Grid;
+use grid_near::Steps;
 use std::alloc::{AllocError, Allocator};
 
 // Whether there is a cell at a position that equals this one.

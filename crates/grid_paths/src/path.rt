@@ -1,13 +1,13 @@
 //! A shortest path between two cells.
 ghost use Rattle.std.specs.Prelude.{◌≡◌, ◌<◌, Bool, List, ◌+◌, ◌^◌, ◌↔◌, ℕ, IfOk, IsTrue, MatchOption, length};
 ghost use Rattle.grid_base.specs.Table.{row_count, col_count, InRange};
-ghost use Rattle.grid_paths.specs.declared.steps.Steps.{Steps};
+ghost use Rattle.grid_near.specs.declared.steps.Steps.{Steps};
 ghost use Rattle.grid_paths.specs.Walks.{AreBeside, AreDiagonal, IsStep, IsPath, Walk, IsShortestPath, IsAnswer, passing};
 ghost use Rattle.grid_paths.specs.Search.{IsMarked, HasLeastUpTo};
 
 use super::search::{floor_of, search_until};
-use super::steps::Steps;
 use grid::Grid;
+use grid_near::Steps;
 use std::alloc::{AllocError, Allocator};
 
 // Whether a cell has this number of steps.

@@ -6,8 +6,8 @@ ghost use Rattle.grid_paths.specs.Search.{HaveOneSize};
 ghost use Rattle.grid_paths.specs.Taken.{Takes, TakesAll, IsRegion};
 
 use super::search::is_left;
-use super::steps::Steps;
 use grid::Grid;
+use grid_near::Steps;
 use std::alloc::{AllocError, Allocator};
 
 // Which cells equal a value.

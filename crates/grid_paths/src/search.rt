@@ -4,8 +4,8 @@ ghost use Rattle.grid_base.specs.Table.{row_count, col_count, InRange};
 ghost use Rattle.grid_paths.specs.Walks.{IsOpen, AreBeside, AreDiagonal, IsStep, HasLeastSteps, HasLeastFrom, IsAnswer, passing};
 ghost use Rattle.grid_paths.specs.Search.{Reaches, WentRound, HaveOneSize, IsLeft, IsSettled};
 
-use super::steps::Steps;
 use grid::Grid;
+use grid_near::Steps;
 use std::alloc::{AllocError, Allocator};
 
 // How many positions of a queue are gone on from before it lets go of them.

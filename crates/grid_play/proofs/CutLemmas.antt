@@ -1,7 +1,7 @@
 -- Lines that are cut off a list one after another.
 use Rattle.std.proofs.Common.{◌≡◌, ℕ, suc, ◌+◌, ◌/◌, ◌%◌, ◌<◌, ◌≤◌, min, List, [], ◌∷◌, ◌++◌, length, refl, ap, sym, ◌∙◌, arith, ℤ, length-append}
 use Rattle.std.proofs.Math.Seq.{take-append_seam, drop-append_seam}
-use Rattle.std.proofs.Math.Nat.{add-mod_left, add-div_left, zero-div, mod-eq_of_lt}
+use Rattle.std.proofs.Math.Nat.{add-mod_left, add-div_left, mod-eq_of_lt}
 use Rattle.std.specs.Prelude.{Vec}
 use Rattle.grid_base.specs.Gather.{items_of_each}
 use Rattle.grid_play.specs.Commands.{cut}

@@ -1,4 +1,4 @@
--- What a run of commands rests on holds of whole numbers.
+-- What a run of commands rests on holds of integers.
 use Rattle.grid_base.specs.Clones.{ClonesAreEqual}
 use Rattle.grid_commands.specs.Command.{Edit, read, push, insert_at, insert_all, pop, remove_at, delete_at, delete_range, expand, prepend, CommandValue, size, get, set_cell, swap_cells, lines, fill, clear, apply}
 use Rattle.grid.specs.Make.{IsOnlyDefault}

@@ -1,5 +1,5 @@
 -- A text of lines is read as the rows that the lines write.
-use Rattle.std.proofs.Common.{◌≡◌, ◌≢◌, ℕ, suc, ◌+◌, ◌-◌, ◌<◌, ◌==◌, if◌then◌else◌, Bool, true, false, Option, Some, Result, Ok, List, [], ◌∷◌, ◌++◌, length, map, take, drop, get_or, All, bytes_eq, refl, sym, ap, ◌∙◌, arith, append_assoc, length-drop}
+use Rattle.std.proofs.Common.{◌≡◌, ◌≢◌, ℕ, suc, ◌+◌, ◌-◌, ◌<◌, ◌==◌, false, Option, Some, Ok, List, [], ◌∷◌, ◌++◌, length, map, drop, get_or, All, bytes_eq, refl, sym, ap, ◌∙◌, arith, append_assoc, length-drop}
 use Rattle.std.specs.List.{flat_map, slice_split}
 use Rattle.std.proofs.lemmas.Bool.{ne_eqb, eqb-false, false_from_ne_true}
 use Rattle.std.proofs.lemmas.List.{get_or_default, get_or-drop, length-map}

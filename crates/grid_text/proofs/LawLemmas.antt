@@ -1,5 +1,5 @@
 -- A text that was written of a table is read as the table.
-use Rattle.std.proofs.Common.{◌≡◌, ◌≢◌, ℕ, suc, ◌+◌, ◌<◌, ◌≤◌, ◌==◌, Bool, true, false, Option, Ok, List, [], ◌∷◌, length, map, get_or, All, chars, encode_utf8_all, refl, arith, ⊎_elim}
+use Rattle.std.proofs.Common.{◌≡◌, ◌≢◌, ℕ, suc, ◌<◌, ◌≤◌, ◌==◌, true, false, Option, Ok, List, [], ◌∷◌, map, get_or, All, chars, encode_utf8_all, refl, arith, ⊎_elim}
 use lib.Utf8.{scalars}
 use Rattle.std.specs.Str.{NonePass, NoCharPasses}
 use Rattle.std.proofs.lemmas.Bool.{ne_eqb, cases_lt}

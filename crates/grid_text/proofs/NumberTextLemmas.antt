@@ -1,5 +1,5 @@
 -- The words of a line of numbers are their decimals.
-use Rattle.std.proofs.Common.{◌≡◌, ℕ, ℤ, pos, negsuc, suc, ◌+◌, ◌%◌, ◌<◌, ◌≤◌, ◌^◌, ◌==◌, ◌||◌, zero, Bool, true, false, Option, Ok, List, [], ◌∷◌, ◌++◌, length, map, get_or, All, refl, ap, ◌∙◌, arith, append-nil}
+use Rattle.std.proofs.Common.{◌≡◌, ℕ, ℤ, pos, negsuc, suc, ◌+◌, ◌%◌, ◌<◌, ◌≤◌, ◌^◌, ◌==◌, zero, true, false, Option, Ok, List, [], ◌∷◌, ◌++◌, length, map, get_or, All, refl, ap, ◌∙◌, arith, append-nil}
 use lib.Signed.{mag}
 use Rattle.std.specs.List.{flat_map, filter, slice_split}
 use Rattle.std.specs.Fmt.{decimal, signed_decimal}

@@ -1,5 +1,5 @@
 -- The rows of the lines of a text, line by line.
-use Rattle.std.proofs.Common.{◌≡◌, ◌≢◌, ◌⊎◌, inl, inr, ℕ, zero, suc, ◌+◌, ◌<◌, ◌≤◌, ◌==◌, if◌then◌else◌, Bool, true, false, Option, Result, Ok, Err, List, [], ◌∷◌, ◌++◌, length, All, refl, sym, ap, subst, ◌∙◌, arith, append-nil, length-append}
+use Rattle.std.proofs.Common.{◌≡◌, ◌≢◌, ◌⊎◌, inl, inr, ℕ, zero, suc, ◌+◌, ◌<◌, ◌≤◌, ◌==◌, true, false, Option, Result, Ok, Err, List, [], ◌∷◌, ◌++◌, length, All, refl, sym, ap, ◌∙◌, arith, append-nil, length-append}
 use Rattle.std.specs.List.{position_or_len}
 use Rattle.std.proofs.lemmas.List.{nil_from_length, length-drop}
 use Rattle.std.proofs.lemmas.List.Elements.{All-push}
@@ -99,9 +99,6 @@ module _ {A T : Type 0} (parts : List ℕ → List A) (bad : ℕ → ℕ → A �
 
   module _ (rest : List ℕ) (cells : List T) (line cols : ℕ) (i : LinesSoFar parts bad By text rest cells line cols) where
     module _ (some : 0 < length rest) where
-      pub line_fits : line + 1 ≤ length text
-      line_fits = omega (arith, i.fits)
-
       here : (h : A → Option T) → By h → rows_of parts bad h (lines_of text) ≡ prepend i.rows (rows_on parts bad h line cols (first_line rest ∷ lines_of (later_lines rest)))
       here h by = i.reads h by ∙ ap (λ lines. prepend i.rows (rows_on parts bad h line cols lines)) (lines-next rest some)
 

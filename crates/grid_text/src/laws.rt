@@ -37,7 +37,7 @@ where
     from_text(alloc, text.as_str(), read)
 }
 
-/// Writes a grid of whole numbers as a text of words, and returns the grid that is read from it: one of the same rows,
+/// Writes a grid of integers as a text of words, and returns the grid that is read from it: one of the same rows,
 /// where `read` gives each cell back from its decimals.
 ///
 /// Requires: `read` can always be called.

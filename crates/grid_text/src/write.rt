@@ -47,7 +47,7 @@ fn push_row<T, F: Fn(&T) -> char>(
     Ok(())
 }
 
-/// Returns a text of a grid of whole numbers: a line for each row, and in it the decimals of its cells, with a space
+/// Returns a text of a grid of integers: a line for each row, and in it the decimals of its cells, with a space
 /// between two. Each line ends in a line feed; the empty grid is the empty text.
 ///
 ///     [[1, -20], [3, 4]]   to_words(alloc, grid)   "1 -20\n3 4\n"

@@ -1,6 +1,6 @@
 //! The counts of a step and of a deferred run, and a breadth-first search that finds the same numbers.
 use grid::{Command, Grid, Order, Reply, Symmetry, Tally};
-use grid_least::{run_deferred_by_least, step_by_least};
+use grid_laws::{run_deferred_by_least, step_by_least};
 use std::alloc::{AllocError, Global};
 use std::process::Abort;
 use std::test::Fail;

@@ -17,7 +17,7 @@ use Rattle.grid_base.proofs.StorageLemmas.{has_place, length-storage, get-storag
 use Rattle.grid_base.proofs.PlaceLemmas.{get-places, length-left, one_left, place_and_rest, get_ahead}
 use Rattle.grid_base.proofs.PlacedCellLemmas.{get-zip, zip_last, zip_within}
 use Rattle.grid_view.specs.Cells.{ArePlaced, positions_from}
-use Rattle.grid_view.specs.IndexedIterators.{IsCellAt, GivesCells}
+use Rattle.grid_base.specs.IndexedIterators.{IsCellAt, GivesCells}
 
 -- the cells that are left, and the positions from the next on
 module _ {T : Type 0} (m n r c : ℕ) (old : List T) (h : ArePlaced m n r c (length old)) where

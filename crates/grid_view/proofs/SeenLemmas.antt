@@ -1,15 +1,13 @@
 -- What the fields of a view say of the rows that a contract sees.
-use Rattle.std.proofs.Common.{◌≡◌, ⊎_elim, IsTrue, ◌↔◌, nat_eq, ◌∷◌, ℕ, ◌+◌, ◌-◌, ◌*◌, ◌^◌, ◌<◌, ◌≤◌, Bool, true, false, None, List, [], length, drop, slice_get, is_some, refl, sym, ◌∙◌, ap, arith}
+use Rattle.std.proofs.Common.{◌≡◌, ⊎_elim, IsTrue, ◌↔◌, nat_eq, ℕ, ◌+◌, ◌-◌, ◌*◌, ◌^◌, ◌<◌, ◌≤◌, Bool, true, false, None, List, [], length, drop, slice_get, is_some, refl, sym, ◌∙◌, ap, arith}
 use Rattle.std.proofs.lemmas.Bool.{eqb-true, eq-eqb, cases_lt}
-use Rattle.std.specs.Coded.{le_prop}
-use native.Mathlib.Nat.{ℕ_set}
 use mathlib.Core.Path.{PathP}
 use mathlib.Core.HLevel.{is_prop→PathP}
 use Rattle.std.proofs.lemmas.Nat.{mul-le}
 use Rattle.grid_base.specs.declared.order.Order.TheVariants.{RowMajor, ColumnMajor}
 use Rattle.grid_base.specs.declared.words.Symmetry.{Symmetry}
 use Rattle.grid_base.specs.declared.words.Symmetry.TheVariants.{Identity, FlipCols, FlipRows, RotateHalf, Transpose, RotateLeft, RotateRight, AntiTranspose}
-use Rattle.grid_base.specs.Table.{row_count, col_count, cell, transposed, tabulate, IsTable}
+use Rattle.grid_base.specs.Table.{row_count, col_count, cell, tabulate, IsTable}
 use Rattle.grid_base.specs.Order.{table_of}
 use Rattle.grid_base.specs.GridValue.{HoldsSize}
 use Rattle.grid_base.specs.Symmetry.{act, source_row, source_col, image_rows, image_cols}
@@ -21,6 +19,8 @@ use Rattle.grid_view.specs.declared.axis.Axis.{Axis}
 use Rattle.grid_view.specs.View.{counted, offset, turned, cut, crossed, first_of, seen, seen_cell, sub_table, HoldsView}
 use Rattle.grid_view.specs.Value.{ViewValue, view_value, IsFull-seen}
 use Rattle.grid_view.proofs.AxisLemmas as axis
+use Rattle.grid_base.proofs.ViewLemmas.{IsTable-prop}
+use Rattle.std.proofs.lemmas.List.{nil_from_length}
 
 module _ {T : Type 0} (rows cols : Axis) (cells : List T) (h : HoldsView rows cols (length cells)) (v : ViewValue T) (e : view_value rows cols cells h ≡ v) where
   pub seen_rows : row_count v.rows ≡ rows.count
@@ -167,24 +167,14 @@ seen_part rows cols cells h at size rows_in cols_in rest e =
     (record { full = λ r c lr lc. ap is_some (there rows cols cells h (at.0 + r) (at.1 + c) (omega arith) (omega arith)) ∙ (IsFull-seen rows cols cells h).full (at.0 + r) (at.1 + c) (omega arith) (omega arith) })
 
 -- no rows, by their number
-no_rows : {T : Type 0} (t : List (List T)) → row_count t ≡ 0 → t ≡ []
-no_rows [] e = refl
-no_rows (r ∷ t) e = absurd (omega arith)
-
 pub empty_by_test : {T : Type 0} (t : List (List T)) → IsTrue (nat_eq (row_count t) 0) ↔ (t ≡ [])
-empty_by_test t = (λ h. no_rows t (eqb-true (row_count t) 0 h), λ e. eq-eqb (row_count t) 0 (ap length e))
+empty_by_test t = (λ h. nil_from_length t (eqb-true (row_count t) 0 h), λ e. eq-eqb (row_count t) 0 (ap length e))
 
 -- two values with the same rows are one
-IsTable-prop : {T : Type 0} (t : List (List T)) → IsProp (IsTable t)
-IsTable-prop t = hlevel (le_prop, ℕ_set)
-
 pub same_view_value : {T : Type 0} (s u : ViewValue T) → s.rows ≡ u.rows → s ≡ u
 same_view_value s u rows =
     let table : PathP (λ i. IsTable (rows i)) s.table u.table = is_prop→PathP (λ i. IsTable (rows i)) (λ i. IsTable-prop (rows i)) s.table u.table in
     λ i. record { rows = rows i; table = table i }
-
-pub rows_transposed : {T : Type 0} (t : List (List T)) → row_count (transposed t) ≡ col_count t
-rows_transposed t = rows-tabulate (col_count t) (row_count t) (λ c r. cell t r c)
 
 -- a row is no longer than all cells
 pub cols_small : (rows cols : Axis) (len : ℕ) → HoldsView rows cols len → cols.count < 2 ^ 64

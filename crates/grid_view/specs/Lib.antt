@@ -4,4 +4,3 @@ pub mod Lines
 pub mod Cells
 pub mod Same
 pub mod Texts
-pub mod IndexedIterators

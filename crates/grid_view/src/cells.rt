@@ -6,7 +6,7 @@ ghost use Rattle.grid_base.specs.Table.{row_count, col_count, concat_rows, IsSiz
 ghost use Rattle.grid_base.specs.Strides.{LinesInOrder, LinesInReverse};
 ghost use Rattle.grid_base.specs.declared.order.Order.TheVariants.{RowMajor};
 ghost use Rattle.grid_base.specs.Positions.{positions, StandsAt};
-ghost use Rattle.grid_view.specs.IndexedIterators.{GivesCells};
+ghost use Rattle.grid_base.specs.IndexedIterators.{GivesCells};
 
 use crate::lines::{ViewLineIter, ViewRowIter, no_cells};
 use crate::view::GridView;

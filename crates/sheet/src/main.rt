@@ -1,4 +1,4 @@
-//! A sheet of whole numbers: reads its rows from standard input, sorts them by their last number, the largest first, and
+//! A sheet of integers: reads its rows from standard input, sorts them by their last number, the largest first, and
 //! prints it with a total under each column and behind each row. A sheet that can't be read ends it with status 2.
 #![tactic(auto)]
 

@@ -4,6 +4,7 @@ use Rattle.std.proofs.lemmas.List.{take-map, drop-map, map-append, map-set, get_
 use Rattle.grid_base.specs.Table.{with_cell}
 use Rattle.grid.specs.AllCells.{filled}
 use Rattle.grid.specs.Edits.{insert_rows, insert_into_rows}
+use Rattle.std.proofs.lemmas.Simd.{splat_is_map}
 
 module _ {T : Type 0} where
   -- one more cell of a line put into its row
@@ -21,11 +22,6 @@ module _ {T : Type 0} where
   past-suc at (x ∷ xs) [] (suc i) h = refl
   past-suc at (x ∷ xs) (v ∷ t) zero h = absurd (omega arith)
   past-suc at (x ∷ xs) (v ∷ t) (suc i) h = ap (λ u. insert v at x ∷ u) (past-suc at xs t i (omega arith))
-
-  -- a line of one value
-  line_of_one : (xs : List T) (w : T) → replicate (length xs) w ≡ map (λ _. w) xs
-  line_of_one [] w = refl
-  line_of_one (x ∷ xs) w = ap (λ u. w ∷ u) (line_of_one xs w)
 
   module _ {V : Type 0} (f : V → List T) where
     at-place : (vs : List V) (i : ℕ) (v : V) (d : List T) → i < length vs → v ≡ get_or vs i v → get_or (map f vs) i d ≡ f v
@@ -68,5 +64,5 @@ module _ {T : Type 0} where
         let line = map {A = T} {B = T} (λ _. w) in
         ap (map f) grown ∙ (map-append f us (u ∷ [])
         ∙ (ap (λ a. a ++ f u ∷ []) so_far
-        ∙ (ap (λ a. filled w (map f (take i vs)) ++ a ∷ []) (made ∙ (line_of_one (f v) w ∙ ap (λ a. line (f a)) e))
+        ∙ (ap (λ a. filled w (map f (take i vs)) ++ a ∷ []) (made ∙ (splat_is_map (f v) (length (f v)) w refl ∙ ap (λ a. line (f a)) e))
         ∙ sym (ap (filled w) (map_more f vs i v h) ∙ map-append line (map f (take i vs)) (f (get_or vs i v) ∷ [])))))

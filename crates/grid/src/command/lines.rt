@@ -11,8 +11,8 @@ ghost use Rattle.grid_commands.specs.Reply.{reply_value};
 ghost use Rattle.grid_commands.specs.LineEdit.{edit_value, pad_edit};
 ghost use Rattle.grid_commands.specs.declared.command.Axis.TheVariants.{Row, Col};
 ghost use Rattle.grid.specs.Make.{IsOnlyDefault};
-ghost use Rattle.grid.specs.Step.{step_rows, step_reply, takes_memory, EditIsKnown};
-ghost use Rattle.grid.specs.Cost.{step_shift};
+ghost use Rattle.grid.specs.Step.{step_rows, step_reply, memory_at, EditIsKnown};
+ghost use Rattle.grid.specs.Cost.{shift_at};
 ghost use Rattle.grid.specs.Shift.{delete_rows_shift};
 
 use crate::Grid;
@@ -71,8 +71,8 @@ where
         reply_value reply ≡ step_reply (lines Row (insert_at at line.items)) grid.old.rows) }
     ensures order { grid.new.order ≡ grid.old.order }
     ensures err_grid { OnErr result (grid.new ≡ grid.old) }
-    ensures err_memory { OnErr result (IsTrue (takes_memory (lines Row (insert_at at line.items))
-        (row_count grid.old.rows) (col_count grid.old.rows))) }
+    ensures err_memory { OnErr result
+        (IsTrue (memory_at (lines Row (insert_at at line.items)) grid.old.rows)) }
 {
     let (rows, cols) = grid.size();
     if let Some(refusal) = line_refusal(rows, cols, at, &line) {
@@ -99,9 +99,8 @@ where
         ≡ step_reply (lines Row (insert_all at (items_of_each several.items))) grid.old.rows) }
     ensures order { grid.new.order ≡ grid.old.order }
     ensures err_grid { OnErr result (grid.new ≡ grid.old) }
-    ensures err_memory { OnErr result (IsTrue (takes_memory
-        (lines Row (insert_all at (items_of_each several.items)))
-        (row_count grid.old.rows) (col_count grid.old.rows))) }
+    ensures err_memory { OnErr result (IsTrue (memory_at
+        (lines Row (insert_all at (items_of_each several.items))) grid.old.rows)) }
 {
     let (rows, cols) = grid.size();
     if let Some(refusal) = lines_refusal(rows, cols, at, several.as_slice()) {
@@ -171,13 +170,11 @@ where
     ensures order { grid.new.order ≡ grid.old.order }
     ensures symmetry { tally.new.symmetry ≡ tally.old.symmetry }
     ensures shift { OnOk result (tally.new.shift ≡ saturating_count tally.old.shift
-        (step_shift {T = T} (lines Row (pad_edit at_end count)) grid.old.order
-        (row_count grid.old.rows) (col_count grid.old.rows))) }
+        (shift_at {T = T} (lines Row (pad_edit at_end count)) grid.old.order grid.old.rows)) }
     ensures err_shift { OnErr result (tally.new.shift ≡ tally.old.shift) }
     ensures err_grid { OnErr result (grid.new ≡ grid.old) }
     ensures err_memory { OnErr result (IsTrue
-        (takes_memory {T = T} (lines Row (pad_edit at_end count))
-        (row_count grid.old.rows) (col_count grid.old.rows))) }
+        (memory_at {T = T} (lines Row (pad_edit at_end count)) grid.old.rows)) }
 {
     let (rows, cols) = grid.size();
     if let Some(refusal) = pad_refusal(rows, cols, count) {
@@ -207,12 +204,11 @@ where
     ensures order { grid.new.order ≡ grid.old.order }
     ensures symmetry { tally.new.symmetry ≡ tally.old.symmetry }
     ensures shift { OnOk result (tally.new.shift ≡ saturating_count tally.old.shift
-        (step_shift (lines Row (edit_value edit)) grid.old.order
-        (row_count grid.old.rows) (col_count grid.old.rows))) }
+        (shift_at (lines Row (edit_value edit)) grid.old.order grid.old.rows)) }
     ensures err_shift { OnErr result (tally.new.shift ≡ tally.old.shift) }
     ensures err_grid { OnErr result (grid.new ≡ grid.old) }
-    ensures err_memory { OnErr result (IsTrue (takes_memory (lines Row (edit_value edit))
-        (row_count grid.old.rows) (col_count grid.old.rows))) }
+    ensures err_memory { OnErr result
+        (IsTrue (memory_at (lines Row (edit_value edit)) grid.old.rows)) }
 {
     let (rows, _) = grid.size();
     match edit {
@@ -246,12 +242,11 @@ where
     ensures order { grid.new.order ≡ grid.old.order }
     ensures symmetry { tally.new.symmetry ≡ tally.old.symmetry }
     ensures shift { OnOk result (tally.new.shift ≡ saturating_count tally.old.shift
-        (step_shift (lines Col (edit_value edit)) grid.old.order
-        (row_count grid.old.rows) (col_count grid.old.rows))) }
+        (shift_at (lines Col (edit_value edit)) grid.old.order grid.old.rows)) }
     ensures err_shift { OnErr result (tally.new.shift ≡ tally.old.shift) }
     ensures err_grid { OnErr result (grid.new ≡ grid.old) }
-    ensures err_memory { OnErr result (IsTrue (takes_memory (lines Col (edit_value edit))
-        (row_count grid.old.rows) (col_count grid.old.rows))) }
+    ensures err_memory { OnErr result
+        (IsTrue (memory_at (lines Col (edit_value edit)) grid.old.rows)) }
 {
     grid.transpose();
     let edited = edit_rows(grid, edit, tally);

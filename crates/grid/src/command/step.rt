@@ -8,8 +8,8 @@ ghost use Rattle.grid_base.specs.declared.words.Symmetry.{Symmetry};
 ghost use Rattle.grid_commands.specs.Command.{command_value, get, set_cell, swap_cells, lines, fill, apply};
 ghost use Rattle.grid_commands.specs.Reply.{reply_value};
 ghost use Rattle.grid_commands.specs.Refusal.{in_range};
-ghost use Rattle.grid.specs.Step.{step_rows, step_reply, takes_memory, RowsAreKnown};
-ghost use Rattle.grid.specs.Cost.{command_symmetry, step_price, step_shift};
+ghost use Rattle.grid.specs.Step.{step_rows, step_reply, memory_at, RowsAreKnown};
+ghost use Rattle.grid.specs.Cost.{command_symmetry, price_at, shift_at};
 
 use super::lines::{edit_cols, edit_rows};
 use crate::Grid;
@@ -139,11 +139,10 @@ impl<T, A: Allocator> Grid<T, A> {
         ensures order { OnOk result (self.new.order
             ≡ order_after (command_symmetry (command_value command)) self.old.order) }
         ensures symmetry { OnOk result (tally.new.symmetry ≡ saturating_count tally.old.symmetry
-            (step_price (command_value command)
-            (row_count self.old.rows) (col_count self.old.rows))) }
+            (price_at (command_value command) self.old.rows)) }
         ensures shift { OnOk result (tally.new.shift
-            ≡ saturating_count tally.old.shift (step_shift (command_value command)
-            self.old.order (row_count self.old.rows) (col_count self.old.rows))) }
+            ≡ saturating_count tally.old.shift
+            (shift_at (command_value command) self.old.order self.old.rows)) }
 
         // No command costs more swaps for symmetries than half of the cells.
         ensures half { tally.new.symmetry
@@ -153,8 +152,8 @@ impl<T, A: Allocator> Grid<T, A> {
         ensures err_grid { OnErr result (self.new ≡ self.old) }
         ensures err_symmetry { OnErr result (tally.new.symmetry ≡ tally.old.symmetry) }
         ensures err_shift { OnErr result (tally.new.shift ≡ tally.old.shift) }
-        ensures err_memory { OnErr result (IsTrue (takes_memory (command_value command)
-            (row_count self.old.rows) (col_count self.old.rows))) }
+        ensures err_memory { OnErr result
+            (IsTrue (memory_at (command_value command) self.old.rows)) }
     {
         match request_of(command) {
             Request::Size => {

@@ -24,7 +24,7 @@ pub(super) fn weave_rows<T, A: Allocator>(
 )
     requires cells { length flat.old ≡ rows * cols + count * cols }
     requires fits { rows * cols + count * cols < 2 ^ 64 }
-    requires place { at ≤ rows }
+    requires point { at ≤ rows }
     ensures { RowsInserted order rows cols at count flat.old flat.new }
 {
     let groups = row_groups(order, rows, cols, at, count);
@@ -103,7 +103,7 @@ impl<T, A: Allocator> Grid<T, A> {
     pub fn insert_row(&mut self, at: usize, line: Vec<T, A>) -> Result<(), LineRefused<T, A>>
         requires nonempty { 0 < length line.items }
         requires fits { FitsRow self.old.rows (length line.items) }
-        requires place { at ≤ row_count self.old.rows }
+        requires point { at ≤ row_count self.old.rows }
         ensures rows { OnOk result (self.new.rows ≡ insert self.old.rows at line.items) }
         ensures order { self.new.order ≡ self.old.order }
         ensures fails { LineFails (row_count self.old.rows + 1) (length line.items)
@@ -144,7 +144,7 @@ impl<T, A: Allocator> Grid<T, A> {
     pub fn insert_col(&mut self, at: usize, line: Vec<T, A>) -> Result<(), LineRefused<T, A>>
         requires nonempty { 0 < length line.items }
         requires fits { FitsCol self.old.rows (length line.items) }
-        requires place { at ≤ col_count self.old.rows }
+        requires point { at ≤ col_count self.old.rows }
         ensures rows { OnOk result (self.new.rows ≡ insert_col at line.items self.old.rows) }
         ensures row_count { OnOk result (row_count self.new.rows ≡ length line.items) }
         ensures col_count { OnOk result (col_count self.new.rows ≡ col_count self.old.rows + 1) }
@@ -178,7 +178,7 @@ impl<T, A: Allocator> Grid<T, A> {
         requires table { IsTable (items_of_each lines.items) }
         requires fits { 0 < length lines.items
             → FitsRow self.old.rows (col_count (items_of_each lines.items)) }
-        requires place { at ≤ row_count self.old.rows }
+        requires point { at ≤ row_count self.old.rows }
         ensures rows { OnOk result
             (self.new.rows ≡ insert_rows at (items_of_each lines.items) self.old.rows) }
         ensures order { self.new.order ≡ self.old.order }
@@ -236,7 +236,7 @@ impl<T, A: Allocator> Grid<T, A> {
         requires table { IsTable (items_of_each lines.items) }
         requires fits { 0 < length lines.items
             → FitsCol self.old.rows (col_count (items_of_each lines.items)) }
-        requires place { at ≤ col_count self.old.rows }
+        requires point { at ≤ col_count self.old.rows }
         ensures rows { OnOk result
             (self.new.rows ≡ insert_cols at (items_of_each lines.items) self.old.rows) }
         ensures row_count { OnOk result

@@ -3,7 +3,6 @@ ghost use Rattle.std.specs.Prelude.{◌≡◌, ◌*◌, ◌^◌, ◌<◌, length
 ghost use Rattle.grid_base.specs.Order.{flipped, table_of};
 
 use crate::Grid;
-use crate::symmetry::flipped;
 use grid_base::{Flat, Order};
 use std::alloc::Allocator;
 
@@ -44,6 +43,6 @@ impl<T, A: Allocator> Grid<T, A> {
         ensures order { self.new.order ≡ flipped self.old.order }
     {
         relay(&mut self.flat, self.order, self.row_count, self.col_count);
-        self.order = flipped(self.order);
+        self.order = self.order.flipped();
     }
 }

@@ -27,7 +27,7 @@ fn open_rows<T, A: Allocator>(
     requires fits { (rows + count) * cols < 2 ^ 64 }
     requires has_rows { 0 < rows }
     requires has_cols { 0 < cols }
-    requires place { at ≤ rows }
+    requires point { at ≤ rows }
     requires some { 0 < count }
     ensures opened { RowsOpened order rows cols at count flat.old flat.new }
     ensures symmetry { tally.new.symmetry ≡ tally.old.symmetry }
@@ -150,7 +150,7 @@ impl<T, A: Allocator> Grid<T, A> {
     where
         T: Default,
         A: Clone,
-        requires place { at ≤ row_count self.old.rows }
+        requires point { at ≤ row_count self.old.rows }
         ensures padded { OnOk result (PadsRows T.is_default at
             (padding_count count self.old.rows) self.old.rows self.new.rows) }
         ensures fails { PaddingFails (row_count self.old.rows + padding_count count self.old.rows)
@@ -186,7 +186,7 @@ impl<T, A: Allocator> Grid<T, A> {
     where
         T: Default,
         A: Clone,
-        requires place { at ≤ col_count self.old.rows }
+        requires point { at ≤ col_count self.old.rows }
         ensures padded { OnOk result (PadsCols T.is_default at
             (padding_count count self.old.rows) self.old.rows self.new.rows) }
         ensures fails { PaddingFails (col_count self.old.rows + padding_count count self.old.rows)

@@ -1,6 +1,6 @@
 //! Grids that are brought to another size.
 ghost use Rattle.std.specs.Prelude.{◌≡◌, ◌<◌, ◌≤◌, IsOk, OnOk, OnErr};
-ghost use Rattle.grid_base.specs.Table.{row_count, col_count, tabulate, InRange};
+ghost use Rattle.grid_base.specs.Table.{row_count, col_count, tabulate};
 ghost use Rattle.grid.specs.Make.{FailsBySize, IsOnlyDefault};
 ghost use Rattle.grid.specs.Resize.{IsCorner, IsResized, cell_or};
 
@@ -8,7 +8,6 @@ use super::has_room;
 use crate::exchange::exchange_part;
 use crate::{Grid, GridError};
 use std::alloc::Allocator;
-use std::mem;
 
 impl<T, A: Allocator> Grid<T, A> {
     /// Brings the grid to `rows` rows and `cols` columns. The cells at positions that stay in range stay there, those that

@@ -5,8 +5,7 @@ ghost use Rattle.grid_base.specs.Order.{storage};
 ghost use Rattle.grid.specs.Edits.{without_cols};
 ghost use Rattle.grid.specs.RowGroups.{RowsMovedToEnd};
 
-use super::remove::cols_if_rows;
-use super::row_groups;
+use super::{cols_if_rows, row_groups};
 use crate::Grid;
 use grid_base::{Flat, Order};
 use std::alloc::{AllocError, Allocator};
@@ -40,7 +39,7 @@ impl<T, A: Allocator> Grid<T, A> {
     pub fn split_off_rows(&mut self, at: usize) -> Result<Grid<T, A>, AllocError>
     where
         A: Clone,
-        requires place { at ≤ row_count self.old.rows }
+        requires point { at ≤ row_count self.old.rows }
         ensures rows { OnOk result (self.new.rows ≡ take at self.old.rows) }
         ensures row_count { OnOk result (row_count self.new.rows ≡ at) }
         ensures col_count { OnOk result (0 < at → col_count self.new.rows ≡ col_count self.old.rows) }
@@ -72,7 +71,7 @@ impl<T, A: Allocator> Grid<T, A> {
     pub fn split_off_cols(&mut self, at: usize) -> Result<Grid<T, A>, AllocError>
     where
         A: Clone,
-        requires place { at ≤ col_count self.old.rows }
+        requires point { at ≤ col_count self.old.rows }
         ensures rows { OnOk result
             (self.new.rows ≡ without_cols at (col_count self.old.rows - at) self.old.rows) }
         ensures row_count { OnOk result (0 < at → row_count self.new.rows ≡ row_count self.old.rows) }
@@ -101,7 +100,7 @@ impl<T, A: Allocator> Grid<T, A> {
     // Moves the cells of the rows from `at` on, in storage order, into an empty vector that has room for them, and returns
     // it.
     fn move_rows_out(&mut self, at: usize, room: Vec<T, A>) -> Vec<T, A>
-        requires place { at ≤ row_count self.old.rows }
+        requires point { at ≤ row_count self.old.rows }
         requires none { room.items ≡ [] }
         requires room { (row_count self.old.rows - at) * col_count self.old.rows
             ≤ vec_capacity room }

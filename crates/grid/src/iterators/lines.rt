@@ -7,7 +7,6 @@ ghost use Rattle.grid_base.specs.Strides.{LinesInOrder, LinesInReverse, EachLine
 ghost use Rattle.grid_base.specs.GridLineIterMut.{line_mut_rest};
 
 use crate::Grid;
-use crate::symmetry::flipped;
 use grid_base::{GridLineIter, GridLineIterMut, GridRowIter};
 use std::alloc::Allocator;
 
@@ -46,7 +45,7 @@ impl<T, A: Allocator> Grid<T, A> {
         ensures runs_back { LinesInReverse T }
         ensures fits { length result < 2 ^ 64 }
     {
-        let order = flipped(self.order);
+        let order = self.order.flipped();
         self.flat.row(order, self.col_count, self.row_count, c)
     }
 
@@ -78,7 +77,7 @@ impl<T, A: Allocator> Grid<T, A> {
         ensures keeps { KeepsSizeFrom self.old 0 c }
         ensures rest { line_mut_rest result ≡ row (transposed self.old.rows) c }
     {
-        let (order, rows, cols) = (flipped(self.order), self.row_count, self.col_count);
+        let (order, rows, cols) = (self.order.flipped(), self.row_count, self.col_count);
         self.flat.row_mut(order, cols, rows, c)
     }
 
@@ -107,7 +106,7 @@ impl<T, A: Allocator> Grid<T, A> {
         ensures along_back { LinesInReverse T }
         ensures fits { length result < 2 ^ 64 }
     {
-        let order = flipped(self.order);
+        let order = self.order.flipped();
         self.flat.rows(order, self.col_count, self.row_count)
     }
 }

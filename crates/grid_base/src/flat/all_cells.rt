@@ -1,5 +1,5 @@
 //! Calls on all cells of a `Flat`.
-ghost use Rattle.std.specs.Prelude.{◌≡◌, ◌+◌, ◌*◌, ◌^◌, ◌<◌, ◌≤◌, length, replicate, take, zip, vec_len, vec_capacity, Ok, IsOk, IfOk, IfErr, OnOk, OnErr};
+ghost use Rattle.std.specs.Prelude.{[], ◌≡◌, ◌+◌, ◌*◌, ◌^◌, ◌<◌, ◌≤◌, length, replicate, take, zip, vec_len, vec_capacity, Ok, IsOk, IfOk, IfErr, OnOk, OnErr};
 ghost use Rattle.std.specs.Fn.{FnReturnsAt};
 ghost use Rattle.grid_base.specs.ClosureCalls.{MapsTo, CallableAtEach, CallableAtRefs, CallableTimes, CallableAtCells, CallableAtItems, ReturnsAtCell, Generates, PairsUp, FailsFirst};
 ghost use Rattle.grid_base.specs.Updated.{CallableFrom, UpdatedFrom};
@@ -39,7 +39,7 @@ impl<T, A: Allocator> Flat<T, A> {
         let (lines, _) = by_line(order, rows, cols);
         let mut cells = Vec::with_capacity(alloc, rows * cols)?;
         for line in 0..lines {
-            push_line(&mut cells, order, rows, cols, line, &f);
+            cells = push_line(cells, order, rows, cols, line, &f);
         }
         Ok(Flat { cells })
     }
@@ -195,12 +195,8 @@ impl<T, A: Allocator> Flat<T, A> {
             PairsUp (ReturnsAtCell F.post f) (zip (positions order rows cols) self.now) g) }
     {
         let alloc = self.cells.allocator().clone()?;
-        let mut made = Vec::with_capacity(alloc, self.cells.len())?;
-        let (lines, _) = by_line(order, rows, cols);
-        let cells = self.cells.as_slice();
-        for line in 0..lines {
-            push_mapped(&mut made, cells, order, rows, cols, line, &f);
-        }
+        let room = Vec::with_capacity(alloc, self.cells.len())?;
+        let made = mapped(room, self.cells.as_slice(), order, rows, cols, &f);
         Ok(Flat { cells: made })
     }
 
@@ -305,30 +301,105 @@ fn update_line<T: Drop, F: Fn((usize, usize), &T) -> T>(
 // Appends what the closure returns at each position of the next line along the storage. Such a loop is vectorised, and
 // one over all positions isn't.
 fn push_line<T, A: Allocator, F: Fn((usize, usize)) -> T>(
-    cells: &mut Vec<T, A>,
+    mut cells: Vec<T, A>,
     order: Order,
     rows: usize,
     cols: usize,
     line: usize,
     f: &F,
-)
+) -> Vec<T, A>
     requires size { IsSize rows cols }
     requires line { line < (along order rows cols).0 }
     requires calls { CallableAtItems F.pre f.now (positions order rows cols) }
-    requires room { rows * cols ≤ vec_capacity cells.old }
-    requires passed { vec_len cells.old ≡ line * (along order rows cols).1 }
+    requires room { rows * cols ≤ vec_capacity cells }
+    requires passed { vec_len cells ≡ line * (along order rows cols).1 }
     requires answers { PairsUp
-        (F.post f.now) (take (vec_len cells.old) (positions order rows cols)) cells.old.items }
-    ensures room { vec_capacity cells.new ≡ vec_capacity cells.old }
-    ensures passed { vec_len cells.new ≡ vec_len cells.old + (along order rows cols).1 }
+        (F.post f.now) (take (vec_len cells) (positions order rows cols)) cells.items }
+    ensures room { vec_capacity result ≡ vec_capacity cells }
+    ensures passed { vec_len result ≡ vec_len cells + (along order rows cols).1 }
     ensures answers { PairsUp
-        (F.post f.now) (take (vec_len cells.new) (positions order rows cols)) cells.new.items }
+        (F.post f.now) (take (vec_len result) (positions order rows cols)) result.items }
 {
     let (_, width) = by_line(order, rows, cols);
     for k in 0..width {
         let at = by_line(order, line, k);
         cells.push_reserved(f(at));
     }
+    cells
+}
+
+// Appends what the closure returns at each position and a reference to its cell.
+fn mapped<T, U, A: Allocator, F: Fn((usize, usize), &T) -> U>(
+    made: Vec<U, A>,
+    cells: &[T],
+    order: Order,
+    rows: usize,
+    cols: usize,
+    f: &F,
+) -> Vec<U, A>
+    requires size { HoldsSize rows cols (length cells.now) }
+    requires calls { CallableAtCells F.pre f.now (zip (positions order rows cols) cells.now) }
+    requires none { made.items ≡ [] }
+    requires room { length cells.now ≤ vec_capacity made }
+    ensures len { length result.items ≡ length cells.now }
+    ensures cells { PairsUp (ReturnsAtCell F.post f.now)
+        (zip (positions order rows cols) cells.now) result.items }
+{
+    let (_, width) = by_line(order, rows, cols);
+    if width < LONG_LINE {
+        map_in_turn(made, cells, order, rows, cols, f)
+    } else {
+        map_by_line(made, cells, order, rows, cols, f)
+    }
+}
+
+// Does so in one loop, which is vectorised where the closure doesn't look at the position. By value, as in `with_defaults`.
+fn map_in_turn<T, U, A: Allocator, F: Fn((usize, usize), &T) -> U>(
+    mut made: Vec<U, A>,
+    cells: &[T],
+    order: Order,
+    rows: usize,
+    cols: usize,
+    f: &F,
+) -> Vec<U, A>
+    requires size { HoldsSize rows cols (length cells.now) }
+    requires calls { CallableAtCells F.pre f.now (zip (positions order rows cols) cells.now) }
+    requires none { made.items ≡ [] }
+    requires room { length cells.now ≤ vec_capacity made }
+    ensures len { length result.items ≡ length cells.now }
+    ensures cells { PairsUp (ReturnsAtCell F.post f.now)
+        (zip (positions order rows cols) cells.now) result.items }
+{
+    let mut left = Positions::new(order, rows, cols);
+    for cell in cells {
+        let at = left.pass();
+        made.push_reserved(f(at, cell));
+    }
+    made
+}
+
+// Does the same, line by line along the storage.
+fn map_by_line<T, U, A: Allocator, F: Fn((usize, usize), &T) -> U>(
+    mut made: Vec<U, A>,
+    cells: &[T],
+    order: Order,
+    rows: usize,
+    cols: usize,
+    f: &F,
+) -> Vec<U, A>
+    requires size { HoldsSize rows cols (length cells.now) }
+    requires calls { CallableAtCells F.pre f.now (zip (positions order rows cols) cells.now) }
+    requires none { made.items ≡ [] }
+    requires room { length cells.now ≤ vec_capacity made }
+    ensures len { length result.items ≡ length cells.now }
+    ensures cells { PairsUp (ReturnsAtCell F.post f.now)
+        (zip (positions order rows cols) cells.now) result.items }
+{
+    let (lines, _) = by_line(order, rows, cols);
+    for line in 0..lines {
+        push_mapped(&mut made, cells, order, rows, cols, line, f);
+    }
+    made
 }
 
 // Appends what the closure returns at each position of the next line along the storage, and a reference to the cell

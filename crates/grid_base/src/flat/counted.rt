@@ -1,6 +1,6 @@
 //! Passes over the cells by counted swaps.
-mod shift;
+mod flips;
+mod shifts;
 mod swaps;
-mod turn;
 
 pub(crate) use swaps::Swaps;

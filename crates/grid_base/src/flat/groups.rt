@@ -1,5 +1,22 @@
-//! Where groups of cells stand among the lines of a vector.
-ghost use Rattle.std.specs.Prelude.{◌≡◌, ◌+◌, ◌*◌, ◌^◌, ◌<◌, ◌≤◌};
+//! Groups of cells that stand among the lines of a vector, and how they are put there or taken out.
+//!
+//! All four calls see the cells as lines, here 2 of 3 cells, and each line's group, here 2 cells before place 1:
+//!
+//!     groups behind the lines   [a b c | d e f | 1 2 | 3 4]
+//!     groups in the lines       [a 1 2 b c | d 3 4 e f]
+//!
+//! `weave` brings the cells from the first form to the second, and `unweave` from the second to the first. Both keep the
+//! order of the groups, and no tally counts their moves. `open` goes the first way by counted swaps, which keep the order
+//! of the lines but not of the cells behind them. `close_up` goes the second way by counted swaps, and drops the groups.
+ghost use Rattle.std.specs.Prelude.{◌≡◌, ◌+◌, ◌-◌, ◌*◌, ◌^◌, ◌<◌, ◌≤◌, ◌⊎◌, length, IsFalse, IsTrue};
+ghost use Rattle.grid_base.specs.Groups.{Widened, Woven, Opened, Closed};
+ghost use Rattle.grid_base.specs.Tally.{saturating_count};
+
+use super::room::{fits_room, unweave_through, weave_through};
+use super::rotations::exchange_blocks;
+use super::{Flat, Swaps};
+use crate::Tally;
+use std::alloc::Allocator;
 
 /// A vector's cells as lines with a group in each: `lines` lines of `width` cells, and in each line `count` more cells,
 /// its group, before place `at`.
@@ -17,7 +34,7 @@ pub struct Groups {
 
 impl Groups {
     // Returns the same groups in fewer lines.
-    pub(super) fn in_lines(self, lines: usize) -> Groups
+    fn in_lines(self, lines: usize) -> Groups
         requires { lines ≤ self.lines }
         ensures lines { result.lines ≡ lines }
         ensures width { result.width ≡ self.width }
@@ -31,4 +48,206 @@ impl Groups {
             count: self.count,
         }
     }
+}
+
+impl<T, A: Allocator> Flat<T, A> {
+    /// Puts the groups that stand behind the lines into their lines.
+    ///
+    ///     [1, 2, 3, 4, 5, 6]   weave(1 line of 4, 2 cells before place 2)    [1, 2, 5, 6, 3, 4]
+    ///     [1, 3, 2, 4, 5, 6]   weave(2 lines of 2, 1 cell before place 1)   [1, 5, 3, 2, 6, 4]
+    ///
+    /// Requires: the vector has the cells of these lines and groups.
+    /// Cost: time in the number of cells times log2(lines) + 1 at most, by rotations; no memory.
+    pub fn weave(&mut self, groups: Groups)
+        requires { length self.old ≡ groups.lines * (groups.width + groups.count) }
+        ensures { Woven groups.lines groups.width groups.at groups.count self.old self.new }
+    {
+        if moves_groups(groups) {
+            if fits_room(self.cells.as_slice(), groups) {
+                weave_through(self.cells.as_mut_slice(), groups);
+            } else {
+                weave_cells(self.cells.as_mut_slice(), groups);
+            }
+        }
+    }
+
+    /// Takes the groups out of the lines, and puts them behind the lines.
+    ///
+    ///     [1, 5, 3, 2, 6, 4]   unweave(2 lines of 2, 1 cell before place 1)   [1, 3, 2, 4, 5, 6]
+    ///
+    /// Requires: the vector has the cells of these lines and groups.
+    /// Cost: that of [`weave`](Flat::weave).
+    pub fn unweave(&mut self, groups: Groups)
+        requires { length self.old ≡ groups.lines * (groups.width + groups.count) }
+        ensures { Woven groups.lines groups.width groups.at groups.count self.new self.old }
+    {
+        if moves_groups(groups) {
+            if fits_room(self.cells.as_slice(), groups) {
+                unweave_through(self.cells.as_mut_slice(), groups);
+            } else {
+                unweave_cells(self.cells.as_mut_slice(), groups);
+            }
+        }
+    }
+
+    /// Spreads the lines that stand first, so that each has room for its group. What stood behind the lines comes to the
+    /// room, in any order.
+    ///
+    ///     [1, 3, 2, 4, 0, 0]   open(2 lines of 2, 1 cell before place 1)   [1, 0, 3, 2, 0, 4]
+    ///
+    /// Requires: the vector has the cells of these lines and groups; there is a line, and neither lines nor groups are
+    /// empty.
+    /// Cost: each cell whose place changes is swapped once, for a shift; no memory.
+    pub fn open(&mut self, groups: Groups, tally: &mut Tally)
+        requires cells { length self.old ≡ groups.lines * (groups.width + groups.count) }
+        requires has_lines { 0 < groups.lines }
+        requires has_width { 0 < groups.width }
+        requires has_count { 0 < groups.count }
+        ensures opened { Opened groups.lines groups.width groups.at groups.count self.old self.new }
+        ensures symmetry { tally.new.symmetry ≡ tally.old.symmetry }
+        ensures shift { tally.new.shift
+            ≡ saturating_count tally.old.shift (groups.lines * groups.width - groups.at) }
+    {
+        // the stretch of cells behind each group, the last first, moves back by that group and those before it
+        let mut swaps = Swaps::none();
+        let mut end = groups.lines * groups.width;
+        let mut line = groups.lines;
+        while 0 < line {
+            line -= 1;
+            let start = groups.at + line * groups.width;
+            swaps = self.move_back(start, (line + 1) * groups.count, end - start, swaps);
+            end = start;
+        }
+        tally.take(swaps);
+    }
+
+    /// Closes up the lines without their groups, and drops those.
+    ///
+    ///     [1, 5, 3, 2, 6, 4]   close_up(2 lines of 2, 1 cell before place 1)   [1, 3, 2, 4]
+    ///
+    /// Requires: the vector has the cells of these lines and groups, and the groups are not empty.
+    /// Cost: each kept cell whose place changes is swapped once, for a shift; no memory.
+    pub fn close_up(&mut self, groups: Groups, tally: &mut Tally)
+    where
+        T: Drop,
+        requires cells { length self.old ≡ groups.lines * (groups.width + groups.count) }
+        requires has_count { 0 < groups.count }
+        ensures closed { Closed groups.lines groups.width groups.at groups.count self.new self.old }
+        ensures symmetry { tally.new.symmetry ≡ tally.old.symmetry }
+        ensures shift { tally.new.shift
+            ≡ saturating_count tally.old.shift (groups.lines * groups.width - groups.at) }
+    {
+        // lines of no cells leave nothing to move
+        if groups.width != 0 {
+            close_lines(self, groups, tally);
+        }
+        self.cells.truncate(groups.lines * groups.width);
+    }
+}
+
+// Whether groups that stand behind their lines have to move to stand in them. Where the lines have no cells, or the group
+// of a single line is at its end, they stand there.
+fn moves_groups(groups: Groups) -> bool
+    ensures moves { IsTrue result → 0 < groups.width }
+    ensures stays { IsFalse result
+        → (groups.width ≡ 0) ⊎ ((groups.lines ≤ 1) × (groups.at ≡ groups.width)) }
+{
+    0 < groups.width && (1 < groups.lines || groups.at != groups.width)
+}
+
+// The groups of the first half of the lines come before the lines of the second half; then each half is woven. Lines
+// that are long beside the groups are woven in turn, since then each round moves little more than a line.
+pub(super) fn weave_cells<T>(cells: &mut [T], groups: Groups)
+    requires { length cells.old ≡ groups.lines * (groups.width + groups.count) }
+    ensures { Woven groups.lines groups.width groups.at groups.count cells.old cells.new }
+{
+    if groups.lines < 2 || groups.lines * groups.count <= groups.width {
+        weave_in_turn(cells, groups);
+        return;
+    }
+    let half = groups.lines / 2;
+    let rest = groups.lines - half;
+    exchange_blocks(
+        cells,
+        half * groups.width,
+        rest * groups.width,
+        half * groups.count,
+    );
+    let (front, back) = cells.split_at_mut(half * (groups.width + groups.count));
+    weave_cells(front, groups.in_lines(half));
+    weave_cells(back, groups.in_lines(rest));
+}
+
+// The cells behind the place of each group, the last first, change places with that group and all before it.
+fn weave_in_turn<T>(cells: &mut [T], groups: Groups)
+    requires { length cells.old ≡ groups.lines * (groups.width + groups.count) }
+    ensures { Woven groups.lines groups.width groups.at groups.count cells.old cells.new }
+{
+    let mut end = groups.lines * groups.width;
+    let mut line = groups.lines;
+    while 0 < line {
+        line -= 1;
+        let start = groups.at + line * groups.width;
+        exchange_blocks(cells, start, end - start, (line + 1) * groups.count);
+        end = start;
+    }
+}
+
+// Each half is unwoven; then the lines of the second half come before the groups of the first. Lines that are long
+// beside the groups are unwoven in turn.
+fn unweave_cells<T>(cells: &mut [T], groups: Groups)
+    requires { length cells.old ≡ groups.lines * (groups.width + groups.count) }
+    ensures { Woven groups.lines groups.width groups.at groups.count cells.new cells.old }
+{
+    if groups.lines < 2 || groups.lines * groups.count <= groups.width {
+        unweave_in_turn(cells, groups);
+        return;
+    }
+    let half = groups.lines / 2;
+    let rest = groups.lines - half;
+    let (front, back) = cells.split_at_mut(half * (groups.width + groups.count));
+    unweave_cells(front, groups.in_lines(half));
+    unweave_cells(back, groups.in_lines(rest));
+    exchange_blocks(
+        cells,
+        half * groups.width,
+        half * groups.count,
+        rest * groups.width,
+    );
+}
+
+// The stretch of cells behind each group, from the first on, changes places with that group and all before it.
+fn unweave_in_turn<T>(cells: &mut [T], groups: Groups)
+    requires { length cells.old ≡ groups.lines * (groups.width + groups.count) }
+    ensures { Woven groups.lines groups.width groups.at groups.count cells.new cells.old }
+{
+    let kept = groups.lines * groups.width;
+    let mut start = groups.at;
+    for line in 0..groups.lines {
+        let stretch = groups.width.min(kept - start);
+        exchange_blocks(cells, start, (line + 1) * groups.count, stretch);
+        start += stretch;
+    }
+}
+
+// Takes the stretch of kept cells behind each group, from the first on, to its place in the closed lines. It moves
+// forward by the groups before it.
+fn close_lines<T, A: Allocator>(flat: &mut Flat<T, A>, groups: Groups, tally: &mut Tally)
+    requires cells { length flat.old ≡ groups.lines * (groups.width + groups.count) }
+    requires has_count { 0 < groups.count }
+    ensures cells { length flat.new ≡ length flat.old }
+    ensures lines { Widened groups.lines groups.width groups.at groups.count flat.new flat.old }
+    ensures symmetry { tally.new.symmetry ≡ tally.old.symmetry }
+    ensures shift { tally.new.shift
+        ≡ saturating_count tally.old.shift (groups.lines * groups.width - groups.at) }
+{
+    let mut swaps = Swaps::none();
+    let kept = groups.lines * groups.width;
+    let mut start = groups.at;
+    for line in 0..groups.lines {
+        let stretch = groups.width.min(kept - start);
+        swaps = flat.move_forward(start, (line + 1) * groups.count, stretch, swaps);
+        start += stretch;
+    }
+    tally.take(swaps);
 }

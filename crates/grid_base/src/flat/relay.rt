@@ -2,7 +2,7 @@
 ghost use Rattle.std.specs.Prelude.{◌≡◌, ◌*◌, ◌^◌, ◌<◌, length};
 ghost use Rattle.grid_base.specs.Relaid.{Relaid};
 
-use super::lines::weave_cells;
+use super::groups::weave_cells;
 use super::{Flat, Groups};
 use std::alloc::Allocator;
 

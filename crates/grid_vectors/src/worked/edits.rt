@@ -1,5 +1,4 @@
-//! Each edit of rows and columns by its own call. What it does to many tables, scripts show (`test_counts`,
-//! `test_scripts`).
+//! Each edit of rows and columns by its own call. What it does to many tables, scripts show (`test_cases`).
 use crate::asserts::assert_stored;
 use grid::Order::{ColumnMajor, RowMajor};
 use std::process::Abort;

@@ -3,13 +3,13 @@ ghost use Rattle.std.specs.Prelude.{◌≡◌, ◌+◌, ◌*◌, length, nat_eq,
 ghost use Rattle.std.specs.List.{list_any, list_all};
 ghost use Rattle.grid_base.specs.Gather.{items_of_each};
 ghost use Rattle.grid_commands.specs.Command.{command_value};
-ghost use Rattle.grid_commands.specs.Refusal.{too_many, in_range, fitting_width, insert_refusal, pad_refusal, command_refusal};
+ghost use Rattle.grid_commands.specs.Refusal.{exceeds, in_range, fitting_width, lines_refusal, pad_refusal, command_refusal};
 
 use grid::{Command, Refusal};
 
 // Whether so many lines of this width, and more of them, have more cells than a grid can have.
-fn too_many(count: usize, more: usize, width: usize) -> bool
-    ensures { result ≡ too_many ((count + more) * width) }
+fn exceeds(count: usize, more: usize, width: usize) -> bool
+    ensures { result ≡ exceeds ((count + more) * width) }
 {
     match (count as u128 + more as u128).checked_mul(width as u128) {
         Some(cells) => cells > usize::MAX as u128,
@@ -45,8 +45,8 @@ fn fitting_width<T>(count: usize, width: usize, lines: &[Vec<T>]) -> usize
 }
 
 // Why lines can't be put before one of so many lines of this width.
-fn insert_refusal<T>(count: usize, width: usize, at: usize, lines: &[Vec<T>]) -> Option<Refusal>
-    ensures { result ≡ insert_refusal count width at (items_of_each lines.now) }
+fn lines_refusal<T>(count: usize, width: usize, at: usize, lines: &[Vec<T>]) -> Option<Refusal>
+    ensures { result ≡ lines_refusal count width at (items_of_each lines.now) }
 {
     let fitting = fitting_width(count, width, lines);
     if any_of_length(lines, 0) {
@@ -55,7 +55,7 @@ fn insert_refusal<T>(count: usize, width: usize, at: usize, lines: &[Vec<T>]) ->
         Some(Refusal::Length)
     } else if at > count {
         Some(Refusal::Index)
-    } else if too_many(count, lines.len(), fitting) {
+    } else if exceeds(count, lines.len(), fitting) {
         Some(Refusal::TooLarge)
     } else {
         None
@@ -64,7 +64,7 @@ fn insert_refusal<T>(count: usize, width: usize, at: usize, lines: &[Vec<T>]) ->
 
 // Why a line can't be put before one of so many lines of this width.
 fn line_refusal<T>(count: usize, width: usize, at: usize, line: &[T]) -> Option<Refusal>
-    ensures { result ≡ insert_refusal count width at (line.now ∷ []) }
+    ensures { result ≡ lines_refusal count width at (line.now ∷ []) }
 {
     if line.is_empty() {
         Some(Refusal::EmptyLine)
@@ -72,7 +72,7 @@ fn line_refusal<T>(count: usize, width: usize, at: usize, line: &[T]) -> Option<
         Some(Refusal::Length)
     } else if at > count {
         Some(Refusal::Index)
-    } else if too_many(count, 1, line.len()) {
+    } else if exceeds(count, 1, line.len()) {
         Some(Refusal::TooLarge)
     } else {
         None
@@ -83,7 +83,7 @@ fn line_refusal<T>(count: usize, width: usize, at: usize, line: &[T]) -> Option<
 pub(crate) fn pad_refusal(count: usize, width: usize, more: usize) -> Option<Refusal>
     ensures { result ≡ pad_refusal count width more }
 {
-    if count != 0 && more != 0 && too_many(count, more, width) {
+    if count != 0 && more != 0 && exceeds(count, more, width) {
         Some(Refusal::TooLarge)
     } else {
         None
@@ -119,8 +119,8 @@ pub fn refusal<T>(command: &Command<T>, rows: usize, cols: usize) -> Option<Refu
         Command::PushCol(line) => line_refusal(cols, rows, cols, line.as_slice()),
         Command::InsertRow(at, line) => line_refusal(rows, cols, *at, line.as_slice()),
         Command::InsertCol(at, line) => line_refusal(cols, rows, *at, line.as_slice()),
-        Command::InsertRows(at, lines) => insert_refusal(rows, cols, *at, lines.as_slice()),
-        Command::InsertCols(at, lines) => insert_refusal(cols, rows, *at, lines.as_slice()),
+        Command::InsertRows(at, lines) => lines_refusal(rows, cols, *at, lines.as_slice()),
+        Command::InsertCols(at, lines) => lines_refusal(cols, rows, *at, lines.as_slice()),
         Command::ExpandRows(count) | Command::PrependRows(count) => {
             pad_refusal(rows, cols, *count)
         }

@@ -7,8 +7,8 @@ use Rattle.grid.proofs.edits.row_groups.Goals as goal
 pub invariant_of-result-clause-within : goal.invariant_of-result-clause-within
 invariant_of-result-clause-within c =
     elim c.match-order.branch [
-      | in-RowMajor w ↦ rw w.result-is (mul-le-mul_right c.args.cols c.requires.place)
-      | in-ColumnMajor w ↦ rw w.result-is c.requires.place
+      | in-RowMajor w ↦ rw w.result-is (mul-le-mul_right c.args.cols c.requires.point)
+      | in-ColumnMajor w ↦ rw w.result-is c.requires.point
     ]
 
 pub returns-clause-shift : goal.returns-clause-shift

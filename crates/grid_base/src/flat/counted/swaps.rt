@@ -3,7 +3,7 @@
 //! The rule: a counted swap exchanges the cells of two different places and adds one. Nothing else adds to a count.
 //!
 //! - `swap_for_symmetry` and `swap_for_shift` are the only counted swaps. Each adds its one to a run, `Swaps`. They can be
-//!   called in this module's parent alone, by the passes of `turn.rt` and `shift.rt`, which call them on cells of a `Flat`.
+//!   called in this module's parent alone, by the passes of `flips.rt` and `shifts.rt`, which call them on cells of a `Flat`.
 //! - A run starts empty (`Swaps::none`) and can't be dropped. `Tally::take` ends it (`Swaps::end`) and adds its numbers to
 //!   the tally's two counts.
 //! - The fields of `Swaps` are private to this module, so no other code can write a number.

@@ -1,12 +1,13 @@
 use Rattle.grid_base.specs.Table.{row_count, col_count}
 use Rattle.std.specs.BinaryHeap.{heap_items}
-use Rattle.grid_paths.proofs.StepLemmas.{AreAround-wrapping, on_ok}
+use Rattle.grid_paths.proofs.StepLemmas.{AreAround-wrapping}
 use Rattle.grid_cheapest.proofs.RelaxLemmas.{Relaxes-diagonals}
 use Rattle.grid_cheapest.proofs.search.relax_diagonals.Goals as goal
+use Rattle.std.proofs.lemmas.Result.{on_ok_weaker}
 
 pub returns-clause-relaxes : goal.returns-clause-relaxes
 returns-clause-relaxes g c =
-    on_ok c.relax-4.result
+    on_ok_weaker c.relax-4.result
     (λ r4.
     let left = c.args.left.now.rows in
     let rows = AreAround-wrapping (row_count left) c.args.row c.requires.at.0 c.requires.few_rows in

@@ -3,8 +3,8 @@ use Rattle.std.specs.BinaryHeap.{heap_items}
 use Rattle.grid_base.specs.Table.{row_count, col_count}
 use Rattle.grid_base.proofs.StorageLemmas.{length-storage}
 use Rattle.grid_paths.specs.Search.{unreached}
-use Rattle.grid_paths.proofs.QueueLemmas.{unreached_cells}
-use Rattle.grid_cheapest.proofs.CheapLemmas.{IsCostSearch-settle, its_bound, smaller, few_sides, no_number, HasLeastCosts-end}
+use Rattle.grid_paths.proofs.QueueLemmas.{unreached_cells, sides_within}
+use Rattle.grid_cheapest.proofs.CheapLemmas.{IsCostSearch-settle, its_bound, smaller, no_number, HasLeastCosts-end}
 use Rattle.grid_cheapest.proofs.search.search.Goals as goal
 
 pub start-requires-clause-no_number : goal.start-requires-clause-no_number
@@ -30,14 +30,14 @@ loop-next-init g c =
 
 pub settle-requires-clause-few_rows : goal.settle-requires-clause-few_rows
 settle-requires-clause-few_rows g c =
-    let few = (few_sides c.args.costs.rows c.args.costs.table).0 in
+    let few = (sides_within c.args.costs.rows c.args.costs.table).0 in
     let cells = c.loop-next.invariant.cells in
     let same = c.loop-next.invariant.left.rows in
     omega arith
 
 pub settle-requires-clause-few_cols : goal.settle-requires-clause-few_cols
 settle-requires-clause-few_cols g c =
-    let few = (few_sides c.args.costs.rows c.args.costs.table).1 in
+    let few = (sides_within c.args.costs.rows c.args.costs.table).1 in
     let cells = c.loop-next.invariant.cells in
     let same = c.loop-next.invariant.left.cols in
     omega arith

@@ -1,6 +1,5 @@
 -- The rows of the transposed table.
-use Rattle.std.proofs.Common.{◌≡◌, ◌∙◌, sym, ap}
-use Rattle.grid_base.specs.Table.{transposed}
+use Rattle.std.proofs.Common.{sym}
 use Rattle.grid_lines.proofs.AcrossLemmas.{across}
 use Rattle.grid_lines.proofs.retain.retain_cols.Goals as goal
 use Rattle.grid.proofs.ColEditLemmas.{across-back}

@@ -1,5 +1,5 @@
 -- The rows of the transposed table.
-use Rattle.std.proofs.Common.{◌≡◌, sym}
+use Rattle.std.proofs.Common.{sym}
 use Rattle.grid_lines.proofs.AcrossLemmas.{across}
 use Rattle.grid_lines.proofs.roll.roll_cols.Goals as goal
 use Rattle.grid.proofs.ColEditLemmas.{across-back}

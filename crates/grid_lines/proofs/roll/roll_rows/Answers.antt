@@ -1,5 +1,5 @@
 -- Two parts that are reversed, and then both as one.
-use Rattle.std.proofs.Common.{◌≡◌, ◌+◌, ◌-◌, length, sym, ap, subst, arith}
+use Rattle.std.proofs.Common.{◌≡◌, ◌+◌, ◌-◌, length, subst, arith}
 use Rattle.grid_base.specs.Blocks.{PartReversed}
 use Rattle.grid_base.proofs.PartLemmas.{exchanged_by_reversals}
 use Rattle.grid_lines.proofs.RollLemmas.{rolled}

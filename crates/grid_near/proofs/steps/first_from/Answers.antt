@@ -1,10 +1,10 @@
 use Rattle.std.proofs.Common.{◌∙◌, ◌<◌, sym, arith}
-use Rattle.grid_near.specs.Around.{step_count}
+use Rattle.grid_near.specs.Neighbors.{step_count}
 use Rattle.grid_near.proofs.AroundLemmas.{there_at, no_position}
 use Rattle.grid_near.proofs.steps.first_from.Goals as goal
 
 pub loop-k-preserved : goal.loop-k-preserved
 loop-k-preserved c =
     let a = c.args in
-    let lt : c.loop-k.k < step_count a.sides = omega arith in
-    c.loop-k.invariant ∙ no_position a.size a.at a.sides c.loop-k.k lt (λ h. cc (c.if-is_there.false, c.is_there.ensures.1 (there_at a.size a.at _ _ _ _ (sym c.offset-i.ensures.row) (sym c.offset-i.ensures.col) h)))
+    let lt : c.loop-k.k < step_count a.kind = omega arith in
+    c.loop-k.invariant ∙ no_position a.size a.at a.kind c.loop-k.k lt (λ h. cc (c.if-is_there.false, c.is_there.ensures.1 (there_at a.size a.at _ _ _ _ (sym c.offset-i.ensures.row) (sym c.offset-i.ensures.col) h)))

@@ -1,5 +1,5 @@
 use Rattle.std.proofs.Common.{◌↔◌, Contains, sym, subst}
-use Rattle.grid_paths.specs.declared.steps.Steps.TheVariants.{All}
+use Rattle.grid_near.specs.declared.steps.Steps.TheVariants.{All}
 use Rattle.grid_paths.specs.Walks.{IsStep}
 use Rattle.grid_paths.proofs.NearLemmas.{all-near}
 use Rattle.grid_paths.proofs.laws.all_are_neighbors8.Goals as goal

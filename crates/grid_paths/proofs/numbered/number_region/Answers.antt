@@ -4,10 +4,10 @@ use Rattle.grid_base.specs.Table.{row_count, col_count, with_cell, InRange}
 use Rattle.grid_paths.specs.Walks.{alike}
 use Rattle.grid_paths.specs.Search.{IsAt}
 use Rattle.grid_paths.proofs.StepLemmas.{Grew, grown}
-use Rattle.grid_paths.proofs.PathLemmas.{in_range}
 use Rattle.grid_paths.proofs.AlikeLemmas.{set_there}
 use Rattle.grid_paths.proofs.NumberLemmas.{IsNumbering, IsNumbering-start, IsNumbering-round, IsNumbered-end}
 use Rattle.grid_paths.proofs.numbered.number_region.Goals as goal
+use Rattle.grid_base.proofs.TableLemmas.{cell_in_range}
 
 pub loop-next-init : goal.loop-next-init
 loop-next-init g c =
@@ -17,7 +17,7 @@ loop-next-init g c =
     let row = c.args.row in
     let col = c.args.col in
     let k = c.args.number in
-    let here : InRange u row col = in_range u c.args.numbers.now.table row col None c.requires.at in
+    let here : InRange u row col = cell_in_range u c.args.numbers.now.table row col None c.requires.at in
     let u1 = c.set.new.self.rows in
     let q1 = c.push.new.self.items in
     let new : u1 ≡ with_cell u row col (Some k) = set_there c.set.result (InRange u row col) _ _ here c.set.ensures.in_range c.set.ensures.rows in
@@ -39,7 +39,7 @@ number_around-requires-clause-at g c =
     let lt : c.loop-next.next < length queue.items = omega (arith, queue.ok.0) in
     let place : IsAt queue.items c.loop-next.next a = slice_get_read queue.items (length queue.items) c.loop-next.next a refl lt c.index.ensures in
     let v = s.queued c.loop-next.next a s.begun place in
-    let i = in_range c.loop-next.numbers.rows c.loop-next.numbers.table a.0 a.1 (Some c.args.number) v in
+    let i = cell_in_range c.loop-next.numbers.rows c.loop-next.numbers.table a.0 a.1 (Some c.args.number) v in
     let lr0 = i.0 in
     let lc0 = i.1 in
     let rows = c.loop-next.invariant.size.rows in

@@ -1,7 +1,8 @@
-use Rattle.grid_paths.proofs.StepLemmas.{WentRound-sides, on_ok}
+use Rattle.grid_paths.proofs.StepLemmas.{WentRound-sides}
 use Rattle.grid_paths.proofs.AlikeLemmas.{rows_around, cols_around}
 use Rattle.grid_paths.specs.Walks.{alike}
 use Rattle.grid_paths.proofs.numbered.number_sides.Goals as goal
+use Rattle.std.proofs.lemmas.Result.{on_ok_weaker}
 
 pub returns-clause-round : goal.returns-clause-round
 returns-clause-round g c =
@@ -11,7 +12,7 @@ returns-clause-round g c =
     let table = c.args.grid.now.table in
     let rows = rows_around eq x t table c.args.row c.args.col c.requires.at c.requires.rows in
     let cols = cols_around eq x t table c.args.row c.args.col c.requires.at c.requires.cols in
-    on_ok c.number_at-4.result
+    on_ok_weaker c.number_at-4.result
     (λ r4.
     WentRound-sides (alike eq x t) c.args.row c.args.col _ _ _ _ rows cols c.args.number
     c.args.numbers.now.rows c.args.queue.now.items c.number_at.new.numbers.rows c.number_at.new.queue.items

@@ -2,8 +2,9 @@ use Rattle.std.proofs.Common.{◌≡◌, suc, ◌+◌, ◌-◌, [], ◌∷◌, �
 use Rattle.std.proofs.lemmas.List.{length-append}
 use Rattle.grid_paths.specs.Walks.{IsPath}
 use Rattle.grid_paths.specs.Search.{IsMarked}
-use Rattle.grid_paths.proofs.PathLemmas.{in_range, one_less, open_end, zero_at, IsPath-one, IsPath-push}
+use Rattle.grid_paths.proofs.PathLemmas.{one_less, open_end, zero_at, IsPath-one, IsPath-push}
 use Rattle.grid_paths.proofs.path.follow.Goals as goal
+use Rattle.grid_base.proofs.TableLemmas.{cell_in_range}
 
 pub loop-left-init : goal.loop-left-init
 loop-left-init g c =
@@ -21,7 +22,7 @@ loop-left-init g c =
 
 pub next_with-at-requires-clause-at : goal.next_with-at-requires-clause-at
 next_with-at-requires-clause-at g c =
-    in_range c.args.steps.now.rows c.args.steps.now.table c.loop-left.at.0 c.loop-left.at.1 (Some c.loop-left.left) c.loop-left.invariant.mark
+    cell_in_range c.args.steps.now.rows c.args.steps.now.table c.loop-left.at.0 c.loop-left.at.1 (Some c.loop-left.left) c.loop-left.invariant.mark
 
 pub loop-left-preserved : goal.loop-left-preserved
 loop-left-preserved g c =

@@ -1,5 +1,5 @@
 use Rattle.std.proofs.Common.{◌≡◌, ℕ, Bool, List, ◌≤◌, ◌+◌, length}
-use Rattle.grid_paths.specs.declared.steps.Steps.{Steps}
+use Rattle.grid_near.specs.declared.steps.Steps.{Steps}
 use Rattle.grid_paths.specs.Walks.{IsPath}
 use Rattle.grid_paths.specs.Search.{IsMarked, HasLeastUpTo}
 use Rattle.grid_paths.proofs.path.follow.Given as goal

@@ -2,9 +2,9 @@ use Rattle.std.proofs.Common.{◌≡◌, Some, sym, ◌∙◌, subst}
 use Rattle.grid_paths.specs.Walks.{alike}
 use Rattle.grid_paths.specs.Taken.{IsRegion}
 use Rattle.grid_paths.proofs.AlikeLemmas.{alike_open}
-use Rattle.grid_paths.proofs.PathLemmas.{in_range}
 use Rattle.grid_paths.proofs.RegionLemmas.{IsFilled-region}
 use Rattle.grid_paths.proofs.region.fill_region.Goals as goal
+use Rattle.grid_base.proofs.TableLemmas.{cell_in_range}
 
 pub returns-clause-filled : goal.returns-clause-filled
 returns-clause-filled g c =
@@ -21,5 +21,5 @@ returns-clause-filled g c =
     let is_region = subst (λ z. IsRegion c.args.kind (alike eq x t) at z) (sym c.deref.ensures.value)
     (subst (λ z. IsRegion c.args.kind z at c.in_ok-region.region.items) floor_is c.in_ok-region.ensures) in
     IsFilled-region c.args.kind (alike eq x t) at c.args.value t c.fill_all.new.grid.rows region is_region
-    (λ b o. let v = alike_open eq x t table b o in in_range t table b.0 b.1 v.0 v.1)
+    (λ b o. let v = alike_open eq x t table b o in cell_in_range t table b.0 b.1 v.0 v.1)
     c.fill_all.ensures.filled c.fill_all.ensures.kept

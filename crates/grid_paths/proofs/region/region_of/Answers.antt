@@ -3,9 +3,9 @@ use Rattle.std.proofs.lemmas.Option.{slice_get_read}
 use Rattle.grid_base.specs.Table.{row_count, col_count}
 use Rattle.grid_paths.specs.Search.{IsAt}
 use Rattle.grid_paths.specs.Taken.{Takes}
-use Rattle.grid_paths.proofs.PathLemmas.{in_range}
 use Rattle.grid_paths.proofs.RegionLemmas.{IsTaking-start, IsTaking-round, IsRegion-end, open_at}
 use Rattle.grid_paths.proofs.region.region_of.Goals as goal
+use Rattle.grid_base.proofs.TableLemmas.{cell_in_range}
 
 pub loop-next-init : goal.loop-next-init
 loop-next-init g c =
@@ -28,7 +28,7 @@ take_around-requires-clause-at g c =
     let lt : next < length region.items = omega (arith, region.ok.0) in
     let place : IsAt region.items next a = slice_get_read region.items (length region.items) next a refl lt c.index.ensures in
     let o = open_at c.args.kind floor c.args.at c.loop-next.left.rows region.items next c.loop-next.invariant.taking next a place in
-    let i = in_range floor c.args.floor.table a.0 a.1 true o in
+    let i = cell_in_range floor c.args.floor.table a.0 a.1 true o in
     let lr0 = i.0 in
     let lc0 = i.1 in
     let rows = c.loop-next.invariant.size.rows in

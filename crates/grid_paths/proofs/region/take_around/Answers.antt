@@ -1,9 +1,9 @@
 use Rattle.std.proofs.Common.{ℕ, sym, subst}
 use Rattle.grid_paths.specs.Walks.{IsStep}
 use Rattle.grid_paths.specs.Taken.{TakesAll}
-use Rattle.grid_paths.proofs.StepLemmas.{on_ok}
 use Rattle.grid_paths.proofs.RegionLemmas.{TakesAll-all}
 use Rattle.grid_paths.proofs.region.take_around.Goals as goal
+use Rattle.std.proofs.lemmas.Result.{on_ok_weaker}
 
 pub returns-in-Sides-clause-takes : goal.returns-in-Sides-clause-takes
 returns-in-Sides-clause-takes g c =
@@ -18,7 +18,7 @@ returns-in-All-clause-takes g c =
     let q = c.args.region.now.items in
     let mid = c.take_sides.new in
     let new = c.take_diagonals.new in
-    on_ok c.take_diagonals.result
+    on_ok_weaker c.take_diagonals.result
     (λ w.
     subst (λ kind. TakesAll (IsStep kind at) l q new.left.rows new.region.items) (sym c.in-All.is)
     (TakesAll-all at l q mid.left.rows mid.region.items new.left.rows new.region.items c.in_ok-take_sides.ensures.takes w))

@@ -1,8 +1,9 @@
 use Rattle.std.proofs.Common.{ℕ, sym, subst}
 use Rattle.grid_paths.specs.Walks.{IsStep}
 use Rattle.grid_paths.specs.Search.{WentRound}
-use Rattle.grid_paths.proofs.StepLemmas.{WentRound-all, on_ok}
+use Rattle.grid_paths.proofs.StepLemmas.{WentRound-all}
 use Rattle.grid_paths.proofs.search.reach_around.Goals as goal
+use Rattle.std.proofs.lemmas.Result.{on_ok_weaker}
 
 pub returns-in-Sides-clause-round : goal.returns-in-Sides-clause-round
 returns-in-Sides-clause-round g c =
@@ -20,7 +21,7 @@ returns-in-All-clause-round g c =
     let q = c.args.queue.now.items in
     let mid = c.reach_sides.new in
     let new = c.reach_diagonals.new in
-    on_ok c.reach_diagonals.result
+    on_ok_weaker c.reach_diagonals.result
     (λ last floor l.
     let v = c.in_ok-reach_sides.ensures.round floor l in
     let w = last floor v.1 in

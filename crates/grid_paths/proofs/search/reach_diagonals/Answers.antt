@@ -1,11 +1,12 @@
 use Rattle.grid_base.specs.Table.{row_count, col_count}
-use Rattle.grid_paths.proofs.StepLemmas.{WentRound-diagonals, on_ok}
+use Rattle.grid_paths.proofs.StepLemmas.{WentRound-diagonals}
 use Rattle.grid_paths.proofs.LeftLemmas.{around_in}
 use Rattle.grid_paths.proofs.search.reach_diagonals.Goals as goal
+use Rattle.std.proofs.lemmas.Result.{on_ok_weaker}
 
 pub returns-clause-round : goal.returns-clause-round
 returns-clause-round g c =
-    on_ok c.reach-4.result
+    on_ok_weaker c.reach-4.result
     (λ last floor l.
     let left = c.args.left.now.rows in
     let rows = around_in (row_count left) (row_count floor) c.args.row l.size.rows c.requires.at.0 c.requires.rows in

@@ -10,9 +10,9 @@ use Rattle.grid_paths.proofs.SearchLemmas.{one_mark, HasLeastSteps-one, IsSettle
 use Rattle.grid_paths.proofs.QueueLemmas.{IsTrimmed, IsTrimmed-start, IsTrimmed-round, IsTrimmed-trim, mark_at, sides_within, HasLeastFrom-trimmed, unreached_cells}
 use Rattle.grid_paths.proofs.StepLemmas.{none_at, none_marked, IsStarted, IsStarted-empty, IsStarted-reach, started_all, Spread-from_reaches}
 use Rattle.grid_paths.proofs.LeftLemmas.{IsLeft-start}
-use Rattle.grid_paths.proofs.PathLemmas.{in_range}
 use Rattle.grid_paths.proofs.search.search_from.Goals as goal
 use Rattle.grid_paths.proofs.search.search_from.Goals.{in-Some+in_ok-reach_around, in_default}
+use Rattle.grid_base.proofs.TableLemmas.{cell_in_range}
 
 pub loop-start-init : goal.loop-start-init
 loop-start-init g c =
@@ -23,7 +23,7 @@ loop-start-init g c =
     let none : (a : ℕ × ℕ) (m : ℕ) → IsMarked d0 a m → ⊥ = λ a m w.
     none_marked (row_count floor) (col_count floor) a m (subst (λ x. IsMarked x a m) blank w) in
     let empty : (a : ℕ × ℕ) → IsOpen floor a → cell d0 a.0 a.1 ≡ Some None = λ a o.
-    let i = in_range floor c.args.floor.table a.0 a.1 true o in
+    let i = cell_in_range floor c.args.floor.table a.0 a.1 true o in
     ap (λ x. cell x a.0 a.1) blank ∙ none_at (row_count floor) (col_count floor) a.0 a.1 i.0 i.1 in
     let few = unreached_cells d0 c.in_ok-steps.steps.table in
     let size : row_count d0 * col_count d0 ≡ row_count floor * col_count floor = ap (λ x. x * col_count d0) c.in_ok-steps.ensures.rows ∙ ap (λ x. row_count floor * x) c.in_ok-steps.ensures.cols in
@@ -87,7 +87,7 @@ index-requires-in-loop-next g c =
     let lt : c.loop-next.next < length queue.items = omega (arith, queue.ok.0) in
     let place : IsAt queue.items c.loop-next.next a = slice_get_read queue.items (length queue.items) c.loop-next.next a refl lt c.index.ensures in
     let v = mark_at c.args.kind c.args.floor.rows c.args.starts.now _ c.loop-next.steps.rows queue.items c.loop-next.next c.loop-next.invariant.search a place in
-    in_range c.loop-next.steps.rows c.loop-next.steps.table a.0 a.1 (Some v.0) v.1
+    cell_in_range c.loop-next.steps.rows c.loop-next.steps.table a.0 a.1 (Some v.0) v.1
 
 pub overflow_add-count : goal.overflow_add-count
 overflow_add-count g c =
@@ -108,7 +108,7 @@ reach_around-requires-clause-at g c =
     let lt : c.loop-next.next < length queue.items = omega (arith, queue.ok.0) in
     let place : IsAt queue.items c.loop-next.next a = slice_get_read queue.items (length queue.items) c.loop-next.next a refl lt c.index.ensures in
     let v = mark_at c.args.kind c.args.floor.rows c.args.starts.now _ c.loop-next.steps.rows queue.items c.loop-next.next c.loop-next.invariant.search a place in
-    let i = in_range c.loop-next.steps.rows c.loop-next.steps.table a.0 a.1 (Some v.0) v.1 in
+    let i = cell_in_range c.loop-next.steps.rows c.loop-next.steps.table a.0 a.1 (Some v.0) v.1 in
     let rows = c.loop-next.invariant.size.rows in
     let cols = c.loop-next.invariant.size.cols in
     let rows2 = c.loop-next.invariant.left.size.rows in
@@ -124,9 +124,9 @@ reach_around-requires-clause-rows g c =
     let lt : c.loop-next.next < length queue.items = omega (arith, queue.ok.0) in
     let place : IsAt queue.items c.loop-next.next a = slice_get_read queue.items (length queue.items) c.loop-next.next a refl lt c.index.ensures in
     let v = mark_at c.args.kind c.args.floor.rows c.args.starts.now _ c.loop-next.steps.rows queue.items c.loop-next.next c.loop-next.invariant.search a place in
-    let i = in_range c.loop-next.steps.rows c.loop-next.steps.table a.0 a.1 (Some v.0) v.1 in
+    let i = cell_in_range c.loop-next.steps.rows c.loop-next.steps.table a.0 a.1 (Some v.0) v.1 in
     let steps = c.loop-next.steps.rows in
-    let fit = (sides_within steps a.0 a.1 i).0 in
+    let fit = (sides_within steps c.loop-next.steps.table).0 in
     let size = c.loop-next.invariant.size in
     let area : row_count steps * col_count steps ≡ row_count c.args.floor.rows * col_count c.args.floor.rows = ap (λ x. x * col_count steps) size.rows ∙ ap (λ x. row_count c.args.floor.rows * x) size.cols in
     let cells = c.loop-next.invariant.cells in
@@ -141,9 +141,9 @@ reach_around-requires-clause-cols g c =
     let lt : c.loop-next.next < length queue.items = omega (arith, queue.ok.0) in
     let place : IsAt queue.items c.loop-next.next a = slice_get_read queue.items (length queue.items) c.loop-next.next a refl lt c.index.ensures in
     let v = mark_at c.args.kind c.args.floor.rows c.args.starts.now _ c.loop-next.steps.rows queue.items c.loop-next.next c.loop-next.invariant.search a place in
-    let i = in_range c.loop-next.steps.rows c.loop-next.steps.table a.0 a.1 (Some v.0) v.1 in
+    let i = cell_in_range c.loop-next.steps.rows c.loop-next.steps.table a.0 a.1 (Some v.0) v.1 in
     let steps = c.loop-next.steps.rows in
-    let fit = (sides_within steps a.0 a.1 i).1 in
+    let fit = (sides_within steps c.loop-next.steps.table).1 in
     let size = c.loop-next.invariant.size in
     let area : row_count steps * col_count steps ≡ row_count c.args.floor.rows * col_count c.args.floor.rows = ap (λ x. x * col_count steps) size.rows ∙ ap (λ x. row_count c.args.floor.rows * x) size.cols in
     let cells = c.loop-next.invariant.cells in

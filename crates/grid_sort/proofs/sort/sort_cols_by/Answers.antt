@@ -1,12 +1,10 @@
 -- The rows of the transposed table.
-use Rattle.std.proofs.Common.{◌≡◌, ◌∙◌, List, sym, ap}
-use Rattle.grid_base.specs.declared.words.Symmetry.TheVariants.{Transpose}
-use Rattle.grid_base.specs.Table.{transposed, IsTable}
-use Rattle.grid_base.specs.Symmetry.{act}
+use Rattle.std.proofs.Common.{◌∙◌, sym}
 use Rattle.grid_base.proofs.ActLemmas.{act_is_transposed}
 use Rattle.grid.proofs.ColEditLemmas.{across-back}
-use Rattle.grid.proofs.TransposedEditLemmas.{on_err, twice_across}
+use Rattle.grid.proofs.TransposedEditLemmas.{twice_across}
 use Rattle.grid_sort.proofs.sort.sort_cols_by.Goals as goal
+use Rattle.std.proofs.lemmas.Result.{on_err_weaker}
 
 pub returns-clause-permutation : goal.returns-clause-permutation
 returns-clause-permutation g c =
@@ -26,6 +24,6 @@ returns-clause-stable g c =
 
 pub returns-clause-err : goal.returns-clause-err
 returns-clause-err g c =
-    on_err c.sort_rows_by-sorted.result
+    on_err_weaker c.sort_rows_by-sorted.result
     (λ same. twice_across _ _ _ _ c.args.grid.now.table c.transpose.ensures.rows c.transpose.ensures.order same c.transpose-2.ensures.rows c.transpose-2.ensures.order)
     c.sort_rows_by-sorted.ensures.err

@@ -1,7 +1,8 @@
 use Rattle.std.proofs.Common.{◌≡◌, ◌++◌, [], ◌∷◌, take, sym, ap, ◌∙◌, arith}
 use Rattle.grid_base.specs.Table.{row}
-use Rattle.grid.proofs.TextLemmas.{take_next, whole_row}
+use Rattle.grid.proofs.TextLemmas.{whole_row}
 use Rattle.grid.proofs.command.lines.clone_row.Goals as goal
+use Rattle.grid_base.proofs.ClosureLemmas.{take_next}
 
 pub loop-col-preserved : goal.loop-col-preserved
 loop-col-preserved g c = record {

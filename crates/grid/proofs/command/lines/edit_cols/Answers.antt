@@ -1,17 +1,18 @@
-use Rattle.grid.proofs.TransposedEditLemmas.{on_ok, on_err, twice_across}
+use Rattle.grid.proofs.TransposedEditLemmas.{twice_across}
 use Rattle.grid.proofs.ColEditLemmas.{rows-across, cols-across}
-use Rattle.grid.proofs.LineEditLemmas.{map_ok, crossed_rows, crossed_reply}
+use Rattle.grid.proofs.LineEditLemmas.{crossed_rows, crossed_reply}
 use Rattle.grid.proofs.command.lines.edit_cols.Goals as goal
+use Rattle.std.proofs.lemmas.Result.{on_ok_weaker, on_err_weaker, IfOk-weaker}
 
 pub returns-clause-rows : goal.returns-clause-rows
 returns-clause-rows g c =
-    on_ok c.edit_rows-edited.result
+    on_ok_weaker c.edit_rows-edited.result
     (λ h d one. crossed_rows d _ c.args.grid.now.rows _ _ _ c.args.grid.now.table c.transpose.ensures.rows (h d one) c.transpose-2.ensures.rows)
     c.edit_rows-edited.ensures.rows
 
 pub returns-clause-reply : goal.returns-clause-reply
 returns-clause-reply g c =
-    map_ok c.edit_rows-edited.result
+    IfOk-weaker c.edit_rows-edited.result _ _
     (λ reply h same. crossed_reply _ c.args.grid.now.rows _ _ c.args.grid.now.table c.transpose.ensures.rows (h same))
     c.edit_rows-edited.ensures.reply
 
@@ -22,7 +23,7 @@ returns-clause-shift g c =
 
 pub returns-clause-err_grid : goal.returns-clause-err_grid
 returns-clause-err_grid g c =
-    on_err c.edit_rows-edited.result (λ h. twice_across c.args.grid.now c.transpose.new.self c.edit_rows-edited.new.grid c.transpose-2.new.self c.args.grid.now.table c.transpose.ensures.rows c.transpose.ensures.order h c.transpose-2.ensures.rows c.transpose-2.ensures.order) c.edit_rows-edited.ensures.err_grid
+    on_err_weaker c.edit_rows-edited.result (λ h. twice_across c.args.grid.now c.transpose.new.self c.edit_rows-edited.new.grid c.transpose-2.new.self c.args.grid.now.table c.transpose.ensures.rows c.transpose.ensures.order h c.transpose-2.ensures.rows c.transpose-2.ensures.order) c.edit_rows-edited.ensures.err_grid
 
 pub returns-clause-err_memory : goal.returns-clause-err_memory
 returns-clause-err_memory g c =

@@ -5,7 +5,7 @@ use Rattle.grid.proofs.edits.pad.open_rows.Goals as goal
 
 pub returns-clause-opened : goal.returns-clause-opened
 returns-clause-opened g c =
-    view-open_rows _ _ _ _ _ _ _ _ _ _ _ c.row_groups-groups.ensures.groups (omega (arith, c.requires.cells)) c.requires.place c.open.ensures.opened
+    view-open_rows _ _ _ _ _ _ _ _ _ _ _ c.row_groups-groups.ensures.groups (omega (arith, c.requires.cells)) c.requires.point c.open.ensures.opened
 
 pub returns-clause-shift : goal.returns-clause-shift
 returns-clause-shift g c =

@@ -13,8 +13,8 @@ close_rows-requires-clause-cells g c = taken_cells _ _ _ _ _ c.self.inside.fits 
 pub close_rows-requires-clause-fits : goal.close_rows-requires-clause-fits
 close_rows-requires-clause-fits g c = taken_small _ _ _ _ _ c.self.inside.fits c.self.view_is _ _ c.requires.within c.requires.some
 
-pub close_rows-requires-clause-place : goal.close_rows-requires-clause-place
-close_rows-requires-clause-place g c =
+pub close_rows-requires-clause-point : goal.close_rows-requires-clause-point
+close_rows-requires-clause-point g c =
     let within = taken_in _ _ _ _ _ c.self.inside.fits c.self.view_is _ _ c.requires.within c.requires.some in
     omega (arith, within)
 

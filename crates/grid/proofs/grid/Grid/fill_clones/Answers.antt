@@ -1,11 +1,10 @@
 use Rattle.std.proofs.Common.{rules, ◌≡◌, replicate, length}
-use Rattle.std.proofs.lemmas.Result.{on_ok_weaker}
+use Rattle.std.proofs.lemmas.Result.{on_ok_weaker, on_err_weaker}
 use Rattle.grid_base.specs.Clones.{ClonesAreEqual}
 use Rattle.grid_base.specs.Order.{table_of}
 use Rattle.grid.specs.AllCells.{filled}
 use Rattle.grid.proofs.SeenAllCellsLemmas.{seen_filled, seen_none}
 use Rattle.grid.proofs.SeenLemmas.{seen_same}
-use Rattle.grid.proofs.TransposedEditLemmas.{on_err}
 use Rattle.grid.proofs.grid.Grid.fill_clones.Goals as goal
 
 pub returns-clause-ok : goal.returns-clause-ok
@@ -21,7 +20,7 @@ pub returns-clause-empty : goal.returns-clause-empty
 returns-clause-empty g c = λ e. c.fill.ensures.none (seen_none _ _ _ _ _ c.self.inside.fits c.self.view_is e)
 
 pub returns-clause-err : goal.returns-clause-err
-returns-clause-err g c = on_err c.fill.result (λ same. seen_same _ _ _ _ _ c.self.inside.fits c.self.view_is _ _ same) c.fill.ensures.err
+returns-clause-err g c = on_err_weaker c.fill.result (λ same. seen_same _ _ _ _ _ c.self.inside.fits c.self.view_is _ _ same) c.fill.ensures.err
 
 pub returns-clause-order : goal.returns-clause-order
 returns-clause-order g c = search rules

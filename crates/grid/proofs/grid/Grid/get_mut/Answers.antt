@@ -1,15 +1,15 @@
 use Rattle.std.proofs.Common.{rules, ◌≡◌, sym, ap, inr, is_some, None, arith}
 use Rattle.grid_base.specs.Table.{cell}
-use Rattle.grid.proofs.CellThroughLemmas.{past_rows, past_cols}
 use Rattle.grid.proofs.grid.Grid.get_mut.Goals as goal
 use Rattle.grid.proofs.grid.Grid.get_mut.Goals.{else-row-rows-via-then-row-rows+else-col-cols, else-row-rows-via-else-row-rows}
+use Rattle.grid_base.proofs.TableLemmas.{past_cols, cell_past_rows}
 
 pub returns-else-row-rows : goal.returns-else-row-rows
 returns-else-row-rows g c =
     let none : cell c.args.self.now.rows c.args.row c.args.col ≡ None =
     elim c.else-row-rows.branch [
       | else-row-rows-via-then-row-rows+else-col-cols w ↦ past_cols c.args.self.now.rows c.args.self.now.table c.args.row _ (omega (arith, w.if-col-cols.false, c.size-rows.ensures.cols))
-      | else-row-rows-via-else-row-rows w ↦ past_rows c.args.self.now.rows _ c.args.col (omega (arith, w.if-row-rows.false, c.size-rows.ensures.rows))
+      | else-row-rows-via-else-row-rows w ↦ cell_past_rows c.args.self.now.rows _ c.args.col (omega (arith, w.if-row-rows.false, c.size-rows.ensures.rows))
     ] in
     let same : c.else-row-rows.self.0 ≡ c.args.self.now =
     elim c.else-row-rows.branch [

@@ -5,21 +5,21 @@ use Rattle.grid_base.proofs.ViewLemmas.{view-cell}
 use Rattle.grid.proofs.SeenLemmas.{seen_row_in, seen_col_in}
 use Rattle.grid.proofs.grid.Grid.get_unchecked.Goals as goal
 
-pub place-requires-clause-row_in : goal.place-requires-clause-row_in
-place-requires-clause-row_in g c = seen_row_in _ _ _ _ _ c.self.inside.fits _ _ c.self.view_is c.requires
+pub place-place-requires-clause-row_in : goal.place-place-requires-clause-row_in
+place-place-requires-clause-row_in g c = seen_row_in _ _ _ _ _ c.self.inside.fits _ _ c.self.view_is c.requires
 
-pub place-requires-clause-col_in : goal.place-requires-clause-col_in
-place-requires-clause-col_in g c = seen_col_in _ _ _ _ _ c.self.inside.fits _ _ c.self.view_is c.requires
+pub place-place-requires-clause-col_in : goal.place-place-requires-clause-col_in
+place-place-requires-clause-col_in g c = seen_col_in _ _ _ _ _ c.self.inside.fits _ _ c.self.view_is c.requires
 
 pub at-requires : goal.at-requires
 at-requires g c =
     let row_in = seen_row_in _ _ _ _ _ c.self.inside.fits _ _ c.self.view_is c.requires in
     let col_in = seen_col_in _ _ _ _ _ c.self.inside.fits _ _ c.self.view_is c.requires in
-    omega (arith, c.place.ensures, c.self.inside.fits.cells, place_within c.self.inside.order _ _ _ _ row_in col_in)
+    omega (arith, c.place-place.ensures, c.self.inside.fits.cells, place_within c.self.inside.order _ _ _ _ row_in col_in)
 
 pub returns : goal.returns
 returns g c =
     let row_in = seen_row_in _ _ _ _ _ c.self.inside.fits _ _ c.self.view_is c.requires in
     let col_in = seen_col_in _ _ _ _ _ c.self.inside.fits _ _ c.self.view_is c.requires in
     rw (← c.self.view_is)
-    (view-cell _ _ _ _ c.self.inside.fits _ _ row_in col_in ∙ (ap (slice_get c.self.inside.flat) (sym c.place.ensures) ∙ c.at.ensures))
+    (view-cell _ _ _ _ c.self.inside.fits _ _ row_in col_in ∙ (ap (slice_get c.self.inside.flat) (sym c.place-place.ensures) ∙ c.at.ensures))

@@ -20,10 +20,10 @@ weave_rows-requires-clause-cells g c =
     let fit = cells_fit _ _ _ _ _ c.self.inside.fits c.self.view_is _ c.requires.fits in
     rw (c.in-Ok.ensures.ok, width) (omega (arith, length-append c.self.inside.flat c.args.line.items, fit))
 
-pub weave_rows-requires-clause-place : goal.weave_rows-requires-clause-place
-weave_rows-requires-clause-place g c =
+pub weave_rows-requires-clause-point : goal.weave_rows-requires-clause-point
+weave_rows-requires-clause-point g c =
     let rows : row_count c.args.self.now.rows ≡ c.self.inside.row_count = seen_rows _ _ _ _ _ c.self.inside.fits c.self.view_is in
-    omega (arith, rows, c.requires.place)
+    omega (arith, rows, c.requires.point)
 
 pub invariant_of-self-inside : goal.invariant_of-self-inside
 invariant_of-self-inside g c =

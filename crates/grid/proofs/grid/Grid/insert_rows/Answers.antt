@@ -28,10 +28,10 @@ weave_rows-requires-clause-cells g c =
     range_cells _ _ _ _ _ c.self.inside.fits c.self.view_is _ (rw width (c.requires.fits (omega arith))) _ _ _ c.requires.table count (sym width)
     (c.in-Ok.ensures.ok ∙ ap (λ xs. c.self.inside.flat ++ storage c.self.inside.order (items_of_each xs)) c.as_mut_slice.ensures.value)
 
-pub weave_rows-requires-clause-place : goal.weave_rows-requires-clause-place
-weave_rows-requires-clause-place g c =
+pub weave_rows-requires-clause-point : goal.weave_rows-requires-clause-point
+weave_rows-requires-clause-point g c =
     let rows : row_count c.args.self.now.rows ≡ c.self.inside.row_count = seen_rows _ _ _ _ _ c.self.inside.fits c.self.view_is in
-    omega (arith, rows, c.requires.place)
+    omega (arith, rows, c.requires.point)
 
 pub overflow_add-self : goal.overflow_add-self
 overflow_add-self g c =

@@ -15,8 +15,8 @@ unweave_row-requires-clause-cells g c = removed_cells _ _ _ _ _ c.self.inside.fi
 pub unweave_row-requires-clause-fits : goal.unweave_row-requires-clause-fits
 unweave_row-requires-clause-fits g c = removed_small _ _ _ _ _ c.self.inside.fits c.self.view_is _ c.requires.within
 
-pub unweave_row-requires-clause-place : goal.unweave_row-requires-clause-place
-unweave_row-requires-clause-place g c =
+pub unweave_row-requires-clause-point : goal.unweave_row-requires-clause-point
+unweave_row-requires-clause-point g c =
     let within = removed_in _ _ _ _ _ c.self.inside.fits c.self.view_is _ c.requires.within in
     omega (arith, within)
 

@@ -4,18 +4,18 @@ use Rattle.grid.proofs.NearLemmas.{gives_neighbors4}
 use Rattle.grid.proofs.SeenLemmas.{seen_row_in, seen_col_in}
 use Rattle.grid.proofs.grid.Grid.neighbors4.Goals as goal
 
-pub neighbors4-requires : goal.neighbors4-requires
-neighbors4-requires g c = record {
+pub neighbors_of-requires : goal.neighbors_of-requires
+neighbors_of-requires g c = record {
   size = rw c.as_slice.ensures c.self.inside.fits;
   row_in = seen_row_in _ _ _ _ _ c.self.inside.fits _ _ c.self.view_is c.requires;
   col_in = seen_col_in _ _ _ _ _ c.self.inside.fits _ _ c.self.view_is c.requires;
 }
 
 pub returns-clause-rest : goal.returns-clause-rest
-returns-clause-rest g c = (rw c.as_slice.ensures at c.neighbors4.ensures.rest) ∙ ap (λ x. neighbors4 x.rows c.args.at.0 c.args.at.1) c.self.view_is
+returns-clause-rest g c = (rw c.as_slice.ensures at c.neighbors_of.ensures.rest) ∙ ap (λ x. neighbors4 x.rows c.args.at.0 c.args.at.1) c.self.view_is
 
 pub returns-clause-cells : goal.returns-clause-cells
-returns-clause-cells g c = gives_neighbors4 c.args.self.now.rows c.args.self.now.table c.args.at.0 c.args.at.1 c.neighbors4.result (returns-clause-rest g c)
+returns-clause-cells g c = gives_neighbors4 c.args.self.now.rows c.args.self.now.table c.args.at.0 c.args.at.1 c.neighbors_of.result (returns-clause-rest g c)
 
 pub returns-clause-count : goal.returns-clause-count
 returns-clause-count g c = search rules

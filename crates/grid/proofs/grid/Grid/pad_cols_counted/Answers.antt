@@ -3,9 +3,10 @@ use Rattle.grid_base.specs.declared.words.Symmetry.TheVariants.{Transpose}
 use Rattle.grid_base.specs.Table.{row_count}
 use Rattle.grid_base.proofs.ActLemmas.{rows-act}
 use Rattle.grid.specs.Shift.{rows_added_shift}
-use Rattle.grid.proofs.TransposedEditLemmas.{on_ok, on_err, twice_across}
+use Rattle.grid.proofs.TransposedEditLemmas.{twice_across}
 use Rattle.grid.proofs.SeenPaddingLemmas.{pads_cols, size_across, none_added, shift_across}
 use Rattle.grid.proofs.grid.Grid.pad_cols_counted.Goals as goal
+use Rattle.std.proofs.lemmas.Result.{on_ok_weaker, on_err_weaker}
 
 pub pad_rows_counted-padded-requires : goal.pad_rows_counted-padded-requires
 pad_rows_counted-padded-requires g c = omega (arith, ap row_count c.transpose.ensures.rows, rows-act Transpose c.args.self.now.rows)
@@ -13,8 +14,8 @@ pad_rows_counted-padded-requires g c = omega (arith, ap row_count c.transpose.en
 pub returns-clause-padded : goal.returns-clause-padded
 returns-clause-padded g c =
     let t = c.args.self.now.table in
-    on_ok c.pad_rows_counted-padded.result
-    (pads_cols c.args.self.now.rows t _ _ c.args.count _ _ _ c.transpose.ensures.rows c.transpose-2.ensures.rows c.requires.place)
+    on_ok_weaker c.pad_rows_counted-padded.result
+    (pads_cols c.args.self.now.rows t _ _ c.args.count _ _ _ c.transpose.ensures.rows c.transpose-2.ensures.rows c.requires.point)
     c.pad_rows_counted-padded.ensures.padded
 
 pub returns-clause-fails : goal.returns-clause-fails
@@ -25,7 +26,7 @@ returns-clause-fails g c =
       too_large = rw (size_across c.args.self.now.rows t c.args.count _ c.transpose.ensures.rows) at fails.too_large;
       none = λ e. fails.none (none_added c.args.self.now.rows t c.args.count _ c.transpose.ensures.rows e);
       unchanged =
-          on_err c.pad_rows_counted-padded.result
+          on_err_weaker c.pad_rows_counted-padded.result
           (λ same. twice_across _ _ _ _ t c.transpose.ensures.rows c.transpose.ensures.order same c.transpose-2.ensures.rows c.transpose-2.ensures.order)
           fails.unchanged;
     }

@@ -1,11 +1,12 @@
 use Rattle.grid_base.specs.declared.words.Symmetry.TheVariants.{Transpose}
 use Rattle.grid_base.proofs.ActLemmas.{rows-act, act_is_transposed}
-use Rattle.grid.proofs.TransposedEditLemmas.{on_ok, on_err, col_removed, twice_across}
+use Rattle.grid.proofs.TransposedEditLemmas.{col_removed, twice_across}
 use Rattle.grid.proofs.grid.Grid.remove_col.Goals as goal
+use Rattle.std.proofs.lemmas.Result.{on_ok_weaker, on_err_weaker}
 
 pub returns-clause-rows : goal.returns-clause-rows
 returns-clause-rows g c =
-    on_ok c.remove_row-removed.result (col_removed c.args.at _ _ _ _ c.args.self.now.table c.transpose.ensures.rows c.transpose-2.ensures.rows)
+    on_ok_weaker c.remove_row-removed.result (col_removed c.args.at _ _ _ _ c.args.self.now.table c.transpose.ensures.rows c.transpose-2.ensures.rows)
     c.remove_row-removed.ensures.rows
 
 pub returns-clause-line : goal.returns-clause-line
@@ -14,7 +15,7 @@ returns-clause-line g c =
 
 pub returns-clause-err : goal.returns-clause-err
 returns-clause-err g c =
-    on_err c.remove_row-removed.result
+    on_err_weaker c.remove_row-removed.result
     (λ same. twice_across _ _ _ _ c.args.self.now.table c.transpose.ensures.rows c.transpose.ensures.order same c.transpose-2.ensures.rows c.transpose-2.ensures.order)
     c.remove_row-removed.ensures.err
 

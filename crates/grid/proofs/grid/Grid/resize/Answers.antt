@@ -2,8 +2,8 @@
 use Rattle.std.proofs.Common.{arith, rules}
 use Rattle.grid.specs.Resize.{IsResized}
 use Rattle.grid.proofs.ResizeLemmas.{corner_resized, resized_tabulated}
-use Rattle.grid.proofs.TransposedEditLemmas.{on_ok}
 use Rattle.grid.proofs.grid.Grid.resize.Goals as goal
+use Rattle.std.proofs.lemmas.Result.{on_ok_weaker}
 
 pub returns-then-rows-eq0-clause-one_default : goal.returns-then-rows-eq0-clause-one_default
 returns-then-rows-eq0-clause-one_default g c = λ d only some.
@@ -17,4 +17,4 @@ returns-then-cols-old_cols-clause-one_default g c = λ d only some.
 
 pub returns-clause-one_default : goal.returns-clause-one_default
 returns-clause-one_default g c =
-    on_ok c.resize_anew.result (λ resized d only some. resized_tabulated _ _ _ _ _ d c.args.self.now.table c.resize_anew.new.self.table only resized some) c.resize_anew.ensures.resized
+    on_ok_weaker c.resize_anew.result (λ resized d only some. resized_tabulated _ _ _ _ _ d c.args.self.now.table c.resize_anew.new.self.table only resized some) c.resize_anew.ensures.resized

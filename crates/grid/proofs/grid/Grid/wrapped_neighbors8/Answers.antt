@@ -4,18 +4,18 @@ use Rattle.grid.proofs.NearLemmas.{gives_wrapped_neighbors8}
 use Rattle.grid.proofs.SeenLemmas.{seen_row_in, seen_col_in}
 use Rattle.grid.proofs.grid.Grid.wrapped_neighbors8.Goals as goal
 
-pub wrapped_neighbors8-requires : goal.wrapped_neighbors8-requires
-wrapped_neighbors8-requires g c = record {
+pub wrapped_neighbors_of-requires : goal.wrapped_neighbors_of-requires
+wrapped_neighbors_of-requires g c = record {
   size = rw c.as_slice.ensures c.self.inside.fits;
   row_in = seen_row_in _ _ _ _ _ c.self.inside.fits _ _ c.self.view_is c.requires;
   col_in = seen_col_in _ _ _ _ _ c.self.inside.fits _ _ c.self.view_is c.requires;
 }
 
 pub returns-clause-rest : goal.returns-clause-rest
-returns-clause-rest g c = (rw c.as_slice.ensures at c.wrapped_neighbors8.ensures.rest) ∙ ap (λ x. wrapped_neighbors8 x.rows c.args.at.0 c.args.at.1) c.self.view_is
+returns-clause-rest g c = (rw c.as_slice.ensures at c.wrapped_neighbors_of.ensures.rest) ∙ ap (λ x. wrapped_neighbors8 x.rows c.args.at.0 c.args.at.1) c.self.view_is
 
 pub returns-clause-cells : goal.returns-clause-cells
-returns-clause-cells g c = gives_wrapped_neighbors8 c.args.self.now.rows c.args.self.now.table c.args.at.0 c.args.at.1 c.wrapped_neighbors8.result (returns-clause-rest g c)
+returns-clause-cells g c = gives_wrapped_neighbors8 c.args.self.now.rows c.args.self.now.table c.args.at.0 c.args.at.1 c.wrapped_neighbors_of.result (returns-clause-rest g c)
 
 pub returns-clause-count : goal.returns-clause-count
 returns-clause-count g c = search rules

@@ -1,9 +1,9 @@
 use Rattle.std.proofs.Common.{get_or, ◌≡◌, ◌<◌, ◌+◌, arith, refl, sym, ap, ◌∙◌, ◌++◌, ◌∷◌, [], zip, length, take, drop, append_assoc, append-nil}
-use Rattle.std.proofs.lemmas.List.{take_more_set, drop_all}
+use Rattle.std.proofs.lemmas.List.{take_more_set, take_all, drop_all, drop_more, drop-set-lt}
 use Rattle.grid_base.specs.Positions.{positions}
-use Rattle.grid_base.proofs.ClosureLemmas.{AllZip-append, callable_cell, take_whole}
+use Rattle.grid_base.proofs.ClosureLemmas.{AllZip-append, callable_cell}
 use Rattle.grid_base.proofs.PlaceLemmas.{length-places}
-use Rattle.grid_base.proofs.PlacedCellLemmas.{drop_item, drop_past_set, zip_nothing}
+use Rattle.grid_base.proofs.PlacedCellLemmas.{zip_nothing}
 use Rattle.grid_base.proofs.flat.all_cells.update_in_turn.Goals as goal
 
 pub loop-cell-init : goal.loop-cell-init
@@ -20,10 +20,10 @@ loop-cell-preserved g c =
     let i = c.loop-cell.invariant in
     let lt : c.loop-cell.cell-index < length c.loop-cell.cells = omega (arith, c.loop-cell-test.true, c.loop-cell.auto.cells) in
     let s = c.pass-at.ensures in
-    let cut = drop_item c.loop-cell.cells c.loop-cell.cell-index c.cell-item.result lt c.cell-item.is in
+    let cut = drop_more c.loop-cell.cells c.loop-cell.cell-index c.cell-item.result lt ∙ ap (λ z. z ∷ drop (c.loop-cell.cell-index + 1) c.loop-cell.cells) (sym c.cell-item.is) in
     record {
       done = i.done ++ (c.pass-at.result, c.cell-item.result) ∷ [];
-      split = rw (drop_past_set c.loop-cell.cells c.loop-cell.cell-index c.f.result, append_assoc) (rw (s, cut) at i.split);
+      split = rw (drop-set-lt (c.loop-cell.cell-index + 1) c.loop-cell.cells c.loop-cell.cell-index c.f.result (omega arith), append_assoc) (rw (s, cut) at i.split);
       positions_left = omega (arith, i.positions_left, ap length s);
       answers = rw (take_more_set c.loop-cell.cells c.loop-cell.cell-index c.f.result lt) (AllZip-append _ _ _ (c.pass-at.result, c.cell-item.result) c.f.result i.answers (record { shown = _; shows = sym c.cell-item.is; says = c.f.ensures }));
     }
@@ -41,7 +41,7 @@ f-requires g c =
     let k = c.loop-cell.cell-index in
     let lt : k < length cells = omega (arith, c.loop-cell-test.true, c.loop-cell.auto.cells) in
     let cut : drop k cells ≡ get_or cells k c.cell-item.result ∷ drop (k + 1) cells =
-    drop_item cells k c.cell-item.result lt c.cell-item.is ∙ ap (λ z. z ∷ drop (k + 1) cells) c.cell-item.is in
+    drop_more cells k c.cell-item.result lt in
     let all = zip (positions c.args.order c.args.rows c.args.cols) c.args.cells.now in
     callable_cell _ c.args.f.now all i.done _ c.pass-at.result _ c.requires.calls (rw (s, cut) at i.split)
 
@@ -52,5 +52,5 @@ returns-clause-cells g c =
     let k = c.loop-cell.cell-index in
     let all : i.done ≡ zip (positions c.args.order c.args.rows c.args.cols) c.args.cells.now =
     rw (drop_all k cells (omega (arith, c.loop-cell-test.false, c.loop-cell.auto.cells)), zip_nothing c.loop-cell.left [] refl, append-nil) at i.split in
-    let whole : take k cells ≡ cells = take_whole k cells (omega (arith, c.loop-cell-test.false, c.loop-cell.auto.cells, c.loop-cell.auto.cell-index-end)) in
+    let whole : take k cells ≡ cells = take_all k cells (omega (arith, c.loop-cell-test.false, c.loop-cell.auto.cells, c.loop-cell.auto.cell-index-end)) in
     record { places = rw (← all) (rw whole at i.answers) }

@@ -1,12 +1,13 @@
 use Rattle.std.proofs.Common.{sym, ◌∙◌, ap}
 use Rattle.std.specs.Option.{option_copied}
 use Rattle.grid_deferred.specs.Deferred.{shown}
-use Rattle.grid_deferred.proofs.PendingLemmas.{in_range_some, err_any}
-use Rattle.grid_deferred.proofs.ShownLemmas.{table_shown}
+use Rattle.grid_deferred.proofs.PendingLemmas.{in_range_some}
 use Rattle.grid_deferred.proofs.deferred.Deferred.read_cell.Goals as goal
+use Rattle.grid.proofs.TransposedEditLemmas.{either_way}
+use Rattle.grid_base.proofs.ActLemmas.{IsTable-act}
 
 pub returns-in_err-copy-in-Some-clause-err_memory : goal.returns-in_err-copy-in-Some-clause-err_memory
 returns-in_err-copy-in-Some-clause-err_memory g c =
-    err_any _
-    (in_range_some (shown c.args.self.now) (table_shown _ _ c.args.self.now.base.now.table) c.args.row c.args.col c.in-Some.cell.now
+    either_way _
+    (in_range_some (shown c.args.self.now) (IsTable-act _ _ c.args.self.now.base.now.table) c.args.row c.args.col c.in-Some.cell.now
     (sym c.get.ensures ∙ ap option_copied c.in-Some.is))

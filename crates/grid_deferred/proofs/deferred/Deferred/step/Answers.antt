@@ -4,8 +4,10 @@ use Rattle.grid_commands.specs.declared.command.Axis.TheVariants.{Row, Col}
 use Rattle.grid_commands.specs.Command.{command_value, apply}
 use Rattle.grid.specs.Step.{step_rows, RowsAreKnown}
 use Rattle.grid_deferred.specs.Deferred.{base, shown}
-use Rattle.grid_deferred.proofs.PendingLemmas.{pending-then, shown-then, reply-then, pending-still, applies-none, none_applied, get-rows, line-rows, ok_any, err_any}
+use Rattle.grid_deferred.proofs.PendingLemmas.{pending-then, shown-then, reply-then, pending-still, applies-none, none_applied, get-rows, line-rows}
 use Rattle.grid_deferred.proofs.deferred.Deferred.step.Goals as goal
+use Rattle.grid.proofs.LineEditLemmas.{always_ok}
+use Rattle.grid.proofs.TransposedEditLemmas.{either_way}
 
 pub returns-in-Apply-clause-rows : goal.returns-in-Apply-clause-rows
 returns-in-Apply-clause-rows g c = λ d h. rw c.in-Apply.is (shown-then d _ _ _ _ c.then-self.ensures c.args.self.now.base.now.table)
@@ -20,28 +22,28 @@ pub returns-in-Get-clause-rows : goal.returns-in-Get-clause-rows
 returns-in-Get-clause-rows g c =
     let p : (d : g.row.T.Denot) → RowsAreKnown g.T.Default.is_default g.T.Clone.is_clone d (command_value c.args.command) → shown c.args.self.now ≡ step_rows d (command_value c.args.command) (shown c.args.self.now) =
     λ d h. rw c.in-Get.is (get-rows d _ _ _) in
-    ok_any _ p
+    always_ok _ p
 
 pub returns-in-Get-clause-pending : goal.returns-in-Get-clause-pending
-returns-in-Get-clause-pending g c = ok_any _ (pending-still (command_value c.args.command) _ (rw c.in-Get.is refl))
+returns-in-Get-clause-pending g c = always_ok _ (pending-still (command_value c.args.command) _ (rw c.in-Get.is refl))
 
 pub returns-in-Row-clause-rows : goal.returns-in-Row-clause-rows
 returns-in-Row-clause-rows g c =
     let p : (d : g.row.T.Denot) → RowsAreKnown g.T.Default.is_default g.T.Clone.is_clone d (command_value c.args.command) → shown c.args.self.now ≡ step_rows d (command_value c.args.command) (shown c.args.self.now) =
     λ d h. rw c.in-Row.is (line-rows d Row _ _) in
-    ok_any _ p
+    always_ok _ p
 
 pub returns-in-Row-clause-pending : goal.returns-in-Row-clause-pending
-returns-in-Row-clause-pending g c = ok_any _ (pending-still (command_value c.args.command) _ (rw c.in-Row.is refl))
+returns-in-Row-clause-pending g c = always_ok _ (pending-still (command_value c.args.command) _ (rw c.in-Row.is refl))
 
 pub returns-in-Col-clause-rows : goal.returns-in-Col-clause-rows
 returns-in-Col-clause-rows g c =
     let p : (d : g.row.T.Denot) → RowsAreKnown g.T.Default.is_default g.T.Clone.is_clone d (command_value c.args.command) → shown c.args.self.now ≡ step_rows d (command_value c.args.command) (shown c.args.self.now) =
     λ d h. rw c.in-Col.is (line-rows d Col _ _) in
-    ok_any _ p
+    always_ok _ p
 
 pub returns-in-Col-clause-pending : goal.returns-in-Col-clause-pending
-returns-in-Col-clause-pending g c = ok_any _ (pending-still (command_value c.args.command) _ (rw c.in-Col.is refl))
+returns-in-Col-clause-pending g c = always_ok _ (pending-still (command_value c.args.command) _ (rw c.in-Col.is refl))
 
 pub returns-in_default : goal.returns-in_default
 returns-in_default g c =
@@ -52,14 +54,14 @@ returns-in_default g c =
     record {
       same_reference = refl;
       rows = e.rows;
-      applied = ok_any _ none;
+      applied = always_ok _ none;
       reply = e.reply;
-      pending = ok_any _ (pending-still (command_value c.args.command) _ still);
+      pending = always_ok _ (pending-still (command_value c.args.command) _ still);
       order = e.order;
       symmetry = e.symmetry;
       shift = e.shift;
       err_shift = e.err_shift;
       err_base = e.err_base;
-      err_pending = err_any _ refl;
+      err_pending = either_way _ refl;
       err_memory = e.err_memory;
     }

@@ -12,6 +12,6 @@ returns-clause-value g c =
       | else-self w ↦ w.from-is ∙ ap (λ b. cond b s.passed s.tried) (sym w.if-self.false)
     ] in
     c.count_from.ensures
-    ∙ (ap (λ k. length (positions_from s.size s.sides s.at k)) from
-    ∙ (sym (length-cells_from s.cells.now s.size s.strides c.self.invariant.holds s.sides s.at (cond s.inner s.passed s.tried))
+    ∙ (ap (λ k. length (positions_from s.size s.kind s.at k)) from
+    ∙ (sym (length-cells_from s.cells.now s.size s.strides c.self.invariant.holds s.kind s.at (cond s.inner s.passed s.tried))
     ∙ ap length c.self.view_is))

@@ -1,6 +1,7 @@
 use Rattle.std.proofs.Common.{ℕ, inl, inr, ◌+◌, ◌-◌, ◌*◌, ◌<◌, ◌≤◌, ◌∙◌, ◌∷◌, length, cond, ap, sym, slice_index_or, arith, rules}
 use Rattle.std.proofs.lemmas.Bool.{cases_lt}
-use Rattle.grid_near.specs.Around.{strided_cell, step_count, cells_from}
+use Rattle.grid_near.specs.Neighbors.{step_count}
+use Rattle.grid_near.specs.Around.{strided_cell, cells_from}
 use Rattle.grid_near.proofs.AroundLemmas.{box_within, inner_item}
 use Rattle.grid_near.proofs.neighbors.NeighborsIterator.next.Goals as goal
 
@@ -10,7 +11,7 @@ later passed tried n next lt le keeps on = elim (cases_lt tried n) [ inl more �
 within : (g : _) (c : goal.After-offset-i g) → c.self.inside.first + c.offset-i.result.0 * c.self.inside.strides.0 + c.offset-i.result.1 * c.self.inside.strides.1 < length c.self.inside.cells.now
 within g c =
     let s = c.self.inside in
-    box_within s.cells.now s.size s.strides s.at s.first s.passed s.tried s.inner c.self.invariant c.if-self.true s.sides s.passed (omega arith) c.offset-i.result.0 c.offset-i.result.1 c.offset-i.ensures.row c.offset-i.ensures.col
+    box_within s.cells.now s.size s.strides s.at s.first s.passed s.tried s.inner c.self.invariant c.if-self.true s.kind s.passed (omega arith) c.offset-i.result.0 c.offset-i.result.1 c.offset-i.ensures.row c.offset-i.ensures.col
 
 pub overflow_add-place : goal.overflow_add-place
 overflow_add-place g c = let h = within g c in omega arith
@@ -31,7 +32,7 @@ invariant_of-self-else-self g c = record {
   col_in = c.self.invariant.col_in;
   inside = c.self.invariant.inside;
   first_is = c.self.invariant.first_is;
-  behind = λ e. later c.self.inside.passed c.self.inside.tried (step_count c.self.inside.sides) c.find_from-tried.result.0 (omega arith) (c.self.invariant.behind e) c.find_from-tried.ensures.keeps c.find_from-tried.ensures.on;
+  behind = λ e. later c.self.inside.passed c.self.inside.tried (step_count c.self.inside.kind) c.find_from-tried.result.0 (omega arith) (c.self.invariant.behind e) c.find_from-tried.ensures.keeps c.find_from-tried.ensures.on;
 }
 
 pub returns-then-self-clause-steps : goal.returns-then-self-clause-steps
@@ -40,12 +41,12 @@ returns-then-self-clause-steps g c =
     let f = strided_cell s.cells.now s.size s.strides in
     let i = c.offset-i.result.0 in
     let j = c.offset-i.result.1 in
-    let item = inner_item s.cells.now s.size s.strides s.at s.first s.passed s.tried s.inner c.self.invariant c.if-self.true s.sides s.passed (omega arith) i j c.offset-i.ensures.row c.offset-i.ensures.col c.index-self-place.result c.index-self-place.is in
+    let item = inner_item s.cells.now s.size s.strides s.at s.first s.passed s.tried s.inner c.self.invariant c.if-self.true s.kind s.passed (omega arith) i j c.offset-i.ensures.row c.offset-i.ensures.col c.index-self-place.result c.index-self-place.is in
     sym c.self.view_is
-    ∙ (ap (λ b. cells_from f s.sides s.at (cond b s.passed s.tried)) c.if-self.true
+    ∙ (ap (λ b. cells_from f s.kind s.at (cond b s.passed s.tried)) c.if-self.true
     ∙ (item
-    ∙ (ap (λ x. ((s.at.0 + i - 1, s.at.1 + j - 1), x) ∷ cells_from f s.sides s.at (s.passed + 1)) c.index-self-place.is
-    ∙ ap (λ b. ((s.at.0 + i - 1, s.at.1 + j - 1), slice_index_or s.cells.now (s.first + i * s.strides.0 + j * s.strides.1) c.index-self-place.result) ∷ cells_from f s.sides s.at (cond b (s.passed + 1) s.tried)) (sym c.if-self.true))))
+    ∙ (ap (λ x. ((s.at.0 + i - 1, s.at.1 + j - 1), x) ∷ cells_from f s.kind s.at (s.passed + 1)) c.index-self-place.is
+    ∙ ap (λ b. ((s.at.0 + i - 1, s.at.1 + j - 1), slice_index_or s.cells.now (s.first + i * s.strides.0 + j * s.strides.1) c.index-self-place.result) ∷ cells_from f s.kind s.at (cond b (s.passed + 1) s.tried)) (sym c.if-self.true))))
 
 pub returns-then-self-clause-goes : goal.returns-then-self-clause-goes
 returns-then-self-clause-goes g c = let h = returns-then-self-clause-steps g c in search rules

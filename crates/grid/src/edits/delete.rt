@@ -1,0 +1,193 @@
+//! Rows and columns that are deleted, one or several: the lines are dropped, and a command counts the moves.
+ghost use Rattle.std.specs.Prelude.{[], vec_capacity, ◌≡◌, ◌↔◌, ◌+◌, ◌-◌, ◌*◌, ◌^◌, ◌<◌, ◌≤◌, length, remove, slice_get, IsTrue, Some, OnOk, OnErr, IfOk, MatchOption, nat_lt, if◌then◌else◌};
+ghost use Rattle.grid_base.specs.Table.{row_count, col_count, transposed};
+ghost use Rattle.grid_base.specs.Tally.{saturating_count};
+ghost use Rattle.grid.specs.Edits.{without_rows, without_cols};
+ghost use Rattle.grid.specs.RowGroups.{RowsTaken, RowMovedToEnd, cols_if_rows};
+ghost use Rattle.grid.specs.Shift.{rows_taken_shift, delete_rows_shift, delete_cols_shift};
+
+use super::{cols_if_rows, row_groups};
+use crate::Grid;
+use grid_base::{Flat, Order, Tally};
+use std::alloc::Allocator;
+
+// Drops `count` rows from row `at` on; `rest` rows stay.
+fn close_rows<T: Drop, A: Allocator>(
+    flat: &mut Flat<T, A>,
+    order: Order,
+    rest: usize,
+    cols: usize,
+    at: usize,
+    count: usize,
+    tally: &mut Tally,
+)
+    requires cells { length flat.old ≡ (rest + count) * cols }
+    requires fits { (rest + count) * cols < 2 ^ 64 }
+    requires point { at ≤ rest }
+    requires some { 0 < count }
+    requires wide { 0 < cols }
+    ensures taken { RowsTaken order cols at count rest flat.old flat.new }
+    ensures symmetry { tally.new.symmetry ≡ tally.old.symmetry }
+    ensures shift { tally.new.shift
+        ≡ saturating_count tally.old.shift (rows_taken_shift order (rest + count) cols at count) }
+{
+    let groups = row_groups(order, rest, cols, at, count);
+    flat.close_up(groups, tally);
+}
+
+impl<T, A: Allocator> Grid<T, A> {
+    /// Drops row `at`, and returns whether there was one; if not, nothing changes. The order stays. Deleting the only
+    /// row leaves the size (0, 0).
+    ///
+    ///     [[1, 2], [3, 4]]   delete_row(0)   true   [[3, 4]]
+    ///
+    /// Cost: one pass over the cells that move; no memory.
+    pub fn delete_row(&mut self, at: usize) -> bool
+    where
+        T: Drop,
+        ensures found { IsTrue result ↔ (at < row_count self.old.rows) }
+        ensures rows { self.new.rows ≡ (if result then remove self.old.rows at else self.old.rows) }
+        ensures order { self.new.order ≡ self.old.order }
+    {
+        self.delete_rows(at, 1)
+    }
+
+    /// Drops column `at`, and returns whether there was one; if not, nothing changes. The order stays. Deleting the
+    /// only column leaves the size (0, 0).
+    ///
+    ///     [[1, 2], [3, 4]]   delete_col(0)   true   [[2], [4]]
+    ///
+    /// Cost: one pass over the cells that move; no memory.
+    pub fn delete_col(&mut self, at: usize) -> bool
+    where
+        T: Drop,
+        ensures found { IsTrue result ↔ (at < col_count self.old.rows) }
+        ensures rows { self.new.rows
+            ≡ (if result then without_cols at 1 self.old.rows else self.old.rows) }
+        ensures row_count { 0 < col_count self.new.rows
+            → row_count self.new.rows ≡ row_count self.old.rows }
+        ensures col_count { col_count self.new.rows
+            ≡ (if result then col_count self.old.rows - 1 else col_count self.old.rows) }
+        ensures order { self.new.order ≡ self.old.order }
+    {
+        self.delete_cols(at, 1)
+    }
+
+    /// Drops `count` rows from row `start` on, and returns whether they were all there; if not, nothing changes. The
+    /// order stays. Deleting all rows leaves the size (0, 0).
+    ///
+    ///     [[1, 2], [3, 4], [5, 6]]   delete_rows(0, 2)   true   [[5, 6]]
+    ///
+    /// Cost: one pass over the cells that move; no memory.
+    pub fn delete_rows(&mut self, start: usize, count: usize) -> bool
+    where
+        T: Drop,
+        ensures found { IsTrue result ↔ (start + count ≤ row_count self.old.rows) }
+        ensures rows { self.new.rows
+            ≡ (if result then without_rows start count self.old.rows else self.old.rows) }
+        ensures order { self.new.order ≡ self.old.order }
+    {
+        let mut tally = Tally::new();
+        self.delete_rows_counted(start, count, &mut tally)
+    }
+
+    /// Drops `count` columns from column `start` on, and returns whether they were all there; if not, nothing changes.
+    /// The order stays. Deleting all columns leaves the size (0, 0).
+    ///
+    ///     [[1, 2, 3], [4, 5, 6]]   delete_cols(0, 2)   true   [[3], [6]]
+    ///
+    /// Cost: one pass over the cells that move; no memory.
+    pub fn delete_cols(&mut self, start: usize, count: usize) -> bool
+    where
+        T: Drop,
+        ensures found { IsTrue result ↔ (start + count ≤ col_count self.old.rows) }
+        ensures rows { self.new.rows
+            ≡ (if result then without_cols start count self.old.rows else self.old.rows) }
+        ensures row_count { 0 < col_count self.new.rows
+            → row_count self.new.rows ≡ row_count self.old.rows }
+        ensures col_count { col_count self.new.rows
+            ≡ (if result then col_count self.old.rows - count else col_count self.old.rows) }
+        ensures order { self.new.order ≡ self.old.order }
+    {
+        let mut tally = Tally::new();
+        self.delete_cols_counted(start, count, &mut tally)
+    }
+
+    // As `delete_rows`, and adds the cells that stay and move to the shift count of the tally.
+    pub(crate) fn delete_rows_counted(
+        &mut self,
+        start: usize,
+        count: usize,
+        tally: &mut Tally,
+    ) -> bool
+    where
+        T: Drop,
+        ensures found { IsTrue result ↔ (start + count ≤ row_count self.old.rows) }
+        ensures rows { self.new.rows
+            ≡ (if result then without_rows start count self.old.rows else self.old.rows) }
+        ensures order { self.new.order ≡ self.old.order }
+        ensures shift { tally.new.shift ≡ saturating_count tally.old.shift (delete_rows_shift
+            self.old.order (row_count self.old.rows) (col_count self.old.rows) start count) }
+        ensures symmetry { tally.new.symmetry ≡ tally.old.symmetry }
+    {
+        let rows = self.rows();
+        let found = count <= rows && start <= rows - count;
+        if found && count != 0 {
+            self.drop_rows(start, count, tally);
+        }
+        found
+    }
+
+    // As `delete_cols`, and adds the cells that stay and move to the shift count of the tally.
+    pub(crate) fn delete_cols_counted(
+        &mut self,
+        start: usize,
+        count: usize,
+        tally: &mut Tally,
+    ) -> bool
+    where
+        T: Drop,
+        ensures found { IsTrue result ↔ (start + count ≤ col_count self.old.rows) }
+        ensures rows { self.new.rows
+            ≡ (if result then without_cols start count self.old.rows else self.old.rows) }
+        ensures row_count { 0 < col_count self.new.rows
+            → row_count self.new.rows ≡ row_count self.old.rows }
+        ensures col_count { col_count self.new.rows
+            ≡ (if result then col_count self.old.rows - count else col_count self.old.rows) }
+        ensures order { self.new.order ≡ self.old.order }
+        ensures shift { tally.new.shift ≡ saturating_count tally.old.shift (delete_cols_shift
+            self.old.order (row_count self.old.rows) (col_count self.old.rows) start count) }
+        ensures symmetry { tally.new.symmetry ≡ tally.old.symmetry }
+    {
+        self.transpose();
+        let found = self.delete_rows_counted(start, count, tally);
+        self.transpose();
+        found
+    }
+
+    // Drops `count` rows, at least one, from row `start` on; all are in range.
+    fn drop_rows(&mut self, start: usize, count: usize, tally: &mut Tally)
+    where
+        T: Drop,
+        requires within { start + count ≤ row_count self.old.rows }
+        requires some { 0 < count }
+        ensures rows { self.new.rows ≡ without_rows start count self.old.rows }
+        ensures order { self.new.order ≡ self.old.order }
+        ensures shift { tally.new.shift ≡ saturating_count tally.old.shift (rows_taken_shift
+            self.old.order (row_count self.old.rows) (col_count self.old.rows) start count) }
+        ensures symmetry { tally.new.symmetry ≡ tally.old.symmetry }
+    {
+        let rest = self.row_count - count;
+        close_rows(
+            &mut self.flat,
+            self.order,
+            rest,
+            self.col_count,
+            start,
+            count,
+            tally,
+        );
+        self.row_count = rest;
+        self.col_count = cols_if_rows(rest, self.col_count);
+    }
+}

@@ -1,0 +1,16 @@
+use Rattle.std.proofs.Common.{◌≡◌, ◌≤◌, ◌+◌, ◌++◌, ℕ, List, length, vec_len, zip, drop}
+use Rattle.std.specs.Vec.{vec_capacity}
+use Rattle.std.specs.List.{AllZip}
+use Rattle.grid_base.specs.Positions.{positions}
+use Rattle.grid_base.specs.ClosureCalls.{ReturnsAtCell}
+use Rattle.grid_base.proofs.flat.all_cells.map_in_turn.Given as goal
+
+abbrev pub invariant-loop-cell : goal.invariant-loop-cell
+invariant-loop-cell g l = record {
+  done : List ((ℕ × ℕ) × _);
+  split : done ++ zip l.left (drop l.cell-index l.fn.cells) ≡ zip (positions l.fn.order l.fn.rows l.fn.cols) l.fn.cells;
+  positions_left : l.cell-index + length l.left ≡ length l.fn.cells;
+  count : vec_len l.made ≡ l.cell-index;
+  room : length l.fn.cells ≤ vec_capacity l.made;
+  answers : AllZip (ReturnsAtCell (λ h at p y. goal.F-post g h at p y) l.f) done l.made.items;
+}

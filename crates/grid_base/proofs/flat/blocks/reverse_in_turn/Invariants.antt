@@ -1,5 +1,0 @@
-use Rattle.grid_base.proofs.PartLemmas.{Turning}
-use Rattle.grid_base.proofs.flat.blocks.reverse_in_turn.Given as goal
-
-abbrev pub invariant-loop-i : goal.invariant-loop-i
-invariant-loop-i g l = Turning l.start l.n l.i l.fn.cells l.cells

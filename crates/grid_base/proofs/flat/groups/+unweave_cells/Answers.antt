@@ -1,0 +1,37 @@
+use Rattle.std.proofs.Common.{rules, ◌≡◌, ◌+◌, ◌*◌, ◌<◌, length, ◌++◌, ◌-◌, ◌/◌, refl, arith, length-append}
+use Rattle.grid_base.proofs.WeaveLemmas.{woven_by_halves, exchanged_back, whole_of_halves}
+use Rattle.grid_base.proofs.flat.groups.+unweave_cells.Goals as goal
+
+pub unweave_cells-requires-2 : goal.unweave_cells-requires-2
+unweave_cells-requires-2 g t c κs within =
+    let e = c.in_lines-2.ensures in
+    let whole = whole_of_halves c.args.groups.lines (c.args.groups.width + c.args.groups.count) in
+    let rest : c.in_lines-2.result.lines < t = omega arith in
+    let cells : length c.split_at_mut-front.result.1.now ≡ c.in_lines-2.result.lines * (c.in_lines-2.result.width + c.in_lines-2.result.count) =
+    rw (e.lines, e.width, e.count) (omega (arith, c.split_at_mut-front.ensures.back_len)) in
+    search rules
+
+pub exchange_blocks-requires-clause-within : goal.exchange_blocks-requires-clause-within
+exchange_blocks-requires-clause-within g t c =
+    omega (
+      arith,
+      length-append c.unweave_cells.new.cells c.unweave_cells-2.new.cells,
+      c.unweave_cells.ensures.lengths,
+      c.unweave_cells-2.ensures.lengths,
+      c.split_at_mut-front.ensures.front_len,
+      c.split_at_mut-front.ensures.back_len,
+      whole_of_halves c.args.groups.lines c.args.groups.width,
+      whole_of_halves c.args.groups.lines c.args.groups.count,
+    )
+
+pub exchange_blocks-requires-clause-fits : goal.exchange_blocks-requires-clause-fits
+exchange_blocks-requires-clause-fits g t c =
+    omega (arith, c.args.groups.fits, whole_of_halves c.args.groups.lines c.args.groups.width, whole_of_halves c.args.groups.lines c.args.groups.count)
+
+pub returns : goal.returns
+returns g t c =
+    let front = c.in_lines.ensures in
+    let back = c.in_lines-2.ensures in
+    woven_by_halves _ (c.args.groups.lines / 2) (c.args.groups.lines - c.args.groups.lines / 2) _ _ _ _ (c.unweave_cells.new.cells ++ c.unweave_cells-2.new.cells) _ _ _ _ _ (omega arith) c.args.groups.within
+    (omega (arith, c.split_at_mut-front.ensures.front_len, c.unweave_cells.ensures.lengths)) refl c.split_at_mut-front.ensures.value (exchanged_back _ _ _ _ _ c.exchange_blocks.ensures)
+    (rw (front.lines, front.width, front.at, front.count) at c.unweave_cells.ensures) (rw (back.lines, back.width, back.at, back.count) at c.unweave_cells-2.ensures)

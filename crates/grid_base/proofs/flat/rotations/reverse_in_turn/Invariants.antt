@@ -1,0 +1,5 @@
+use Rattle.grid_base.proofs.PartLemmas.{Turning}
+use Rattle.grid_base.proofs.flat.rotations.reverse_in_turn.Given as goal
+
+abbrev pub invariant-loop-i : goal.invariant-loop-i
+invariant-loop-i g l = Turning l.start l.n l.i l.fn.cells l.cells

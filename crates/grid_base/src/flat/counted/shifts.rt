@@ -1,0 +1,169 @@
+//! Cells that come some places forward or back, by counted swaps.
+ghost use Rattle.std.specs.Prelude.{◌≡◌, ◌<◌, ◌≤◌, ◌+◌, ◌^◌, length};
+ghost use Rattle.grid_base.specs.Blocks.{swapped_back, swapped_forward};
+
+use super::swaps::{Swaps, swap_for_shift};
+use crate::Flat;
+use std::alloc::Allocator;
+
+// Shorter blocks cost more to begin than vector code saves.
+const SHORT_BLOCK: usize = 8;
+
+// So many swaps at a distance of one or two are code without a loop.
+const SWAPS_AT_ONCE: usize = 32;
+
+// As many bytes as one vector of the processor holds.
+const VECTOR: usize = 16;
+
+impl<T, A: Allocator> Flat<T, A> {
+    // Moves the `n` cells that stand `shift` places behind `start` there, the first first, by `n` swaps for a shift, which
+    // the run goes on with.
+    //
+    //     [1, 2, 3, 4, 5]   move_forward(0, 2, 3)   [3, 4, 5, 2, 1]   3 swaps
+    //
+    // Requires: these cells are in range, `shift` is not 0, and the run has fewer than 2^64 swaps then.
+    pub(in crate::flat) fn move_forward(
+        &mut self,
+        start: usize,
+        shift: usize,
+        n: usize,
+        swaps: Swaps,
+    ) -> Swaps
+        requires within { start + n + shift ≤ length self.old }
+        requires fits { start + n + shift < 2 ^ 64 }
+        requires moves { 0 < shift }
+        requires room { swaps.for_shift + n < 2 ^ 64 }
+        ensures moved { self.new ≡ swapped_forward start shift n self.old }
+        ensures symmetry { result.for_symmetry ≡ swaps.for_symmetry }
+        ensures shift { result.for_shift ≡ swaps.for_shift + n }
+    {
+        let cells = self.cells.as_mut_slice();
+        match shift {
+            1 => swap_forward_by::<1, T>(cells, start, n, swaps),
+            2 => swap_forward_by::<2, T>(cells, start, n, swaps),
+            _ => swap_forward(cells, start, shift, n, swaps),
+        }
+    }
+
+    // Moves the `n` cells from `start` on by `shift` places to the back, the last first, by `n` swaps for a shift, which
+    // the run goes on with.
+    //
+    //     [1, 2, 3, 4, 5]   move_back(0, 2, 3)   [5, 4, 1, 2, 3]   3 swaps
+    //
+    // Requires: the places that these cells come to are in range, `shift` is not 0, and the run has fewer than 2^64 swaps
+    // then.
+    pub(in crate::flat) fn move_back(
+        &mut self,
+        start: usize,
+        shift: usize,
+        n: usize,
+        swaps: Swaps,
+    ) -> Swaps
+        requires within { start + n + shift ≤ length self.old }
+        requires fits { start + n + shift < 2 ^ 64 }
+        requires moves { 0 < shift }
+        requires room { swaps.for_shift + n < 2 ^ 64 }
+        ensures moved { self.new ≡ swapped_back start shift n self.old }
+        ensures symmetry { result.for_symmetry ≡ swaps.for_symmetry }
+        ensures shift { result.for_shift ≡ swaps.for_shift + n }
+    {
+        swap_back(self.cells.as_mut_slice(), start, shift, n, swaps)
+    }
+}
+
+// As `swap_forward`. The distance and how many swaps are done at once are numbers in the code, so that a cell goes from
+// swap to swap in a register, and the cells between are read and written as vectors.
+#[tactic(auto, using(crate::proofs::ShiftLemmas::forward_start, crate::proofs::ShiftLemmas::forward_swap))]
+fn swap_forward_by<const SHIFT: usize, T>(
+    cells: &mut [T],
+    start: usize,
+    n: usize,
+    mut swaps: Swaps,
+) -> Swaps
+    requires within { start + n + SHIFT ≤ length cells.old }
+    requires fits { start + n + SHIFT < 2 ^ 64 }
+    requires moves { 0 < SHIFT }
+    requires room { swaps.for_shift + n < 2 ^ 64 }
+    ensures cells { cells.new ≡ swapped_forward start SHIFT n cells.old }
+    ensures symmetry { result.for_symmetry ≡ swaps.for_symmetry }
+    ensures shift { result.for_shift ≡ swaps.for_shift + n }
+{
+    let mut done = 0;
+    while SWAPS_AT_ONCE <= n - done {
+        for k in 0..SWAPS_AT_ONCE {
+            let at = start + (done + k);
+            swap_for_shift(cells, at, at + SHIFT, &mut swaps);
+        }
+        done += SWAPS_AT_ONCE;
+    }
+    for k in done..n {
+        swap_for_shift(cells, start + k, start + k + SHIFT, &mut swaps);
+    }
+    swaps
+}
+
+#[tactic(auto, using(crate::proofs::ShiftLemmas::forward_start, crate::proofs::ShiftLemmas::forward_swap))]
+fn swap_forward<T>(cells: &mut [T], start: usize, shift: usize, n: usize, mut swaps: Swaps) -> Swaps
+    requires within { start + n + shift ≤ length cells.old }
+    requires fits { start + n + shift < 2 ^ 64 }
+    requires moves { 0 < shift }
+    requires room { swaps.for_shift + n < 2 ^ 64 }
+    ensures cells { cells.new ≡ swapped_forward start shift n cells.old }
+    ensures symmetry { result.for_symmetry ≡ swaps.for_symmetry }
+    ensures shift { result.for_shift ≡ swaps.for_shift + n }
+{
+    let block = block_of(shift, n);
+    let mut done = 0;
+    while done < n {
+        let end = done + block.min(n - done);
+        for k in done..end {
+            swap_for_shift(cells, start + k, start + k + shift, &mut swaps);
+        }
+        done = end;
+    }
+    swaps
+}
+
+// Out of line, since the loop over the lines would keep its many running numbers in memory otherwise.
+#[inline(never)]
+#[tactic(auto, using(crate::proofs::ShiftLemmas::back_end, crate::proofs::ShiftLemmas::back_swap))]
+fn swap_back<T>(cells: &mut [T], start: usize, shift: usize, n: usize, mut swaps: Swaps) -> Swaps
+    requires within { start + n + shift ≤ length cells.old }
+    requires fits { start + n + shift < 2 ^ 64 }
+    requires moves { 0 < shift }
+    requires room { swaps.for_shift + n < 2 ^ 64 }
+    ensures cells { cells.new ≡ swapped_back start shift n cells.old }
+    ensures symmetry { result.for_symmetry ≡ swaps.for_symmetry }
+    ensures shift { result.for_shift ≡ swaps.for_shift + n }
+{
+    let block = block_of(shift, n);
+    let mut left = n;
+    while 0 < left {
+        let stretch = block.min(left);
+        for k in 0..stretch {
+            swap_for_shift(
+                cells,
+                start + (left - 1 - k),
+                start + (left - 1 - k) + shift,
+                &mut swaps,
+            );
+        }
+        left -= stretch;
+    }
+    swaps
+}
+
+// How many cells are swapped as one block: no more than come to places where none of them stands, so that the block is
+// vector code, and whole vectors where cells are bytes and it is longer than one.
+fn block_of(shift: usize, n: usize) -> usize
+    requires moves { 0 < shift }
+    ensures some { 0 < n → 0 < result }
+{
+    if shift < SHORT_BLOCK {
+        n
+    } else if shift < VECTOR {
+        shift
+    } else {
+        shift - shift % VECTOR
+    }
+}

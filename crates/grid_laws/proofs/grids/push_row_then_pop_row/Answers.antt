@@ -1,0 +1,9 @@
+use Rattle.std.proofs.Common.{rules, arith}
+use Rattle.std.proofs.lemmas.Grind.{common_steps}
+use Rattle.std.proofs.lemmas.Result.{on_ok_weaker}
+use Rattle.grid_base.proofs.ViewLemmas.{same_grid_value}
+use Rattle.grid_laws.proofs.grids.push_row_then_pop_row.Goals as goal
+
+pub returns-clause-grid : goal.returns-clause-grid
+returns-clause-grid g c =
+    on_ok_weaker c.pop_row.result (λ rows. same_grid_value _ _ (grind (arith, common_steps)) (search rules)) c.pop_row.ensures.rows

@@ -1,0 +1,56 @@
+//! Reads cases from standard input, and counts those that hold: scripts with what they write, scripts with the swaps that
+//! they count, and JSON with the grid that it is. A case that doesn't hold is printed.
+//!
+//! A section is a line `#### NAME`, some words, and its cases. Each case begins with `== `. The head of each module has the form of its cases.
+#![tactic(auto)]
+
+mod counts;
+mod json;
+mod scripts;
+
+use std::alloc::{AllocError, Global};
+use std::io;
+use std::io::Read;
+use std::process::ExitCode;
+
+// Whether a case of a section holds.
+fn holds(alloc: Global, section: &str, case: &str) -> Result<bool, AllocError> {
+    match section {
+        "scripts" => scripts::holds(alloc, case),
+        "counts" => counts::holds(alloc, case),
+        "json" => json::holds(alloc, case),
+        _ => Ok(false),
+    }
+}
+
+// Counts the cases of a section that hold, and prints the others.
+fn held<R: Print + AllocGlobal>(rt: &R, section: &str, cases: &str) -> io::Result<u64> {
+    let mut held = 0u64;
+    for case in cases.split("== ").skip(1) {
+        if holds(rt.alloc(), section, case)? {
+            held = held.saturating_add(1);
+        } else {
+            println!(rt; "FAILED {case}")?;
+        }
+    }
+    Ok(held)
+}
+
+fn run<R: Input + Print + AllocGlobal>(rt: &R) -> io::Result<()> {
+    let mut text = String::new(rt.alloc());
+    rt.reader().read_to_string(&mut text)?;
+    for part in text.split("#### ").skip(1) {
+        if let Some((section, cases)) = part.split_once("\n") {
+            let held = held(rt, section, cases)?;
+            println!(rt; "{section}: {held} cases hold")?;
+        }
+    }
+    Ok(())
+}
+
+fn main(rt: HostRuntime) -> ExitCode {
+    match run(&rt) {
+        Ok(()) => ExitCode::SUCCESS,
+        Err(_) => ExitCode::FAILURE,
+    }
+}
