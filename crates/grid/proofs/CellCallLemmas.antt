@@ -17,8 +17,8 @@ use Rattle.grid_base.proofs.StorageLemmas.{place_within, has_place, get_append_l
 use Rattle.grid_base.proofs.PlaceLemmas.{get-places, length-places}
 use Rattle.grid_base.proofs.PlacedCellLemmas.{zip_within, get-zip}
 use Rattle.grid_base.proofs.ViewLemmas.{view-rows, view-cols, view-cell}
-use Rattle.grid.specs.AllCells.{CallableAtPositions, TabulatedBy, AnsweredBy}
-use Rattle.grid.specs.Make.{IsMade, CallableOver, TabulatedOver, AnsweredOver, FailsAt}
+use Rattle.grid.specs.AllCells.{CallableAtPositions, MappedBy}
+use Rattle.grid.specs.Make.{IsMade, CallableOver, MadeBy, FailsAt}
 use Rattle.grid.specs.View.{grid_value}
 use Rattle.grid.proofs.SeenLemmas.{seen_rows, seen_cols}
 
@@ -102,7 +102,7 @@ module _ {A : Type 0} (o : Order) (m n : ℕ) (cells : List A) (v : GridValue A)
         }
 
     -- the new table is what the answers determine
-    pub seen_tabulated : TabulatedBy returns f v.rows (table_of o m n news)
+    seen_tabulated : (g : ℕ → ℕ → Option B) → ((r c : ℕ) (p : Bor A) (y : B) → InRange v.rows r c → cell v.rows r c ≡ Some p.now → returns f (r, c) p y → g r c ≡ Some y) → table_of o m n news ≡ tabulate (row_count v.rows) (col_count v.rows) g
     seen_tabulated g by =
         let same : (r c : ℕ) → r < m → c < n → g r c ≡ slice_get news (place o m n r c) =
         λ r c lr lc. let w = called r c lr lc in by r c w.p w.y (seen_in r c lr lc) w.old w.says ∙ sym w.is in
@@ -111,13 +111,16 @@ module _ {A : Type 0} (o : Order) (m n : ℕ) (cells : List A) (v : GridValue A)
         made ∙ (ap (λ x. tabulate x n g) (sym (seen_rows o m n cells v h e)) ∙ ap (λ x. tabulate (row_count v.rows) x g) (sym (seen_cols o m n cells v h e)))
 
     -- each of its cells is an answer
-    pub seen_answered : AnsweredBy returns f v.rows (table_of o m n news)
+    seen_answered : (r c : ℕ) → InRange v.rows r c → IsSomeAnd (cell (table_of o m n news) r c) (λ y. (p : Bor A) × (cell v.rows r c ≡ Some p.now) × returns f (r, c) p y)
     seen_answered r c within =
         let w = called r c (omega (arith, within.0, seen_rows o m n cells v h e)) (omega (arith, within.1, seen_cols o m n cells v h e)) in
         let fits : HoldsSize m n (length news) = subst (HoldsSize m n) (sym len) h in
         let is : cell (table_of o m n news) r c ≡ Some w.y =
         view-cell o m n news fits r c (omega (arith, within.0, seen_rows o m n cells v h e)) (omega (arith, within.1, seen_cols o m n cells v h e)) ∙ w.is in
         subst (λ z. IsSomeAnd z (λ y. (p : Bor A) × (cell v.rows r c ≡ Some p.now) × returns f (r, c) p y)) (sym is) (w.p, w.old, w.says)
+
+    pub seen_mapped : MappedBy returns f v.rows (table_of o m n news)
+    seen_mapped = record { tabulated = seen_tabulated; answers = seen_answered }
 
 -- what stands at the length of the first part
 pub at_seam : {X : Type 0} (xs : List X) (x : X) (ys : List X) → slice_get (xs ++ x ∷ ys) (length xs) ≡ Some x
@@ -135,7 +138,7 @@ module _ (o : Order) (m n : ℕ) (z : IsSize m n) where
   }
 
   -- the table of answers along the positions is what they determine
-  pub answers_tabulated : {F T : Type 0} (returns : F → ℕ × ℕ → T → Type 0) (f : F) (cells : List T) → PairsUp (returns f) (positions o m n) cells → TabulatedOver returns f m n (table_of o m n cells)
+  answers_tabulated : {F T : Type 0} (returns : F → ℕ × ℕ → T → Type 0) (f : F) (cells : List T) → PairsUp (returns f) (positions o m n) cells → (h : ℕ → ℕ → Option T) → ((r c : ℕ) (y : T) → r < m → c < n → returns f (r, c) y → h r c ≡ Some y) → 0 < m → 0 < n → table_of o m n cells ≡ tabulate m n h
   answers_tabulated {T = T} returns f cells a h by _ _ =
       let called : (r c : ℕ) → r < m → c < n → AnswerAt (returns f) (r, c) cells (place o m n r c) =
       λ r c lr lc. answer_at (returns f) (positions o m n) cells (place o m n r c) (r, c) a.places (get-places o m n r c z lr lc) in
@@ -144,7 +147,7 @@ module _ (o : Order) (m n : ℕ) (z : IsSize m n) where
       tabulate-same m n (λ r c. slice_get cells (place o m n r c)) h (λ r c lr lc. (called r c lr lc).is ∙ sym (given r c lr lc)) full
 
   -- each of its cells is an answer
-  pub answers_over : {F T : Type 0} (returns : F → ℕ × ℕ → T → Type 0) (f : F) (cells : List T) → PairsUp (returns f) (positions o m n) cells → AnsweredOver returns f m n (table_of o m n cells)
+  answers_over : {F T : Type 0} (returns : F → ℕ × ℕ → T → Type 0) (f : F) (cells : List T) → PairsUp (returns f) (positions o m n) cells → (r c : ℕ) → r < m → c < n → IsSomeAnd (cell (table_of o m n cells) r c) (λ y. returns f (r, c) y)
   answers_over {T = T} returns f cells a r c lr lc =
       let called : (r c : ℕ) → r < m → c < n → AnswerAt (returns f) (r, c) cells (place o m n r c) =
       λ r c lr lc. answer_at (returns f) (positions o m n) cells (place o m n r c) (r, c) a.places (get-places o m n r c z lr lc) in
@@ -152,6 +155,9 @@ module _ (o : Order) (m n : ℕ) (z : IsSize m n) where
       let w = called r c lr lc in
       let is : cell (table_of o m n cells) r c ≡ Some w.y = cell-tabulate m n _ r c full lr lc ∙ w.is in
       subst (λ x. IsSomeAnd x (λ y. returns f (r, c) y)) (sym is) w.by
+
+  pub answers_made : {F T : Type 0} (returns : F → ℕ × ℕ → T → Type 0) (f : F) (cells : List T) → PairsUp (returns f) (positions o m n) cells → MadeBy returns f m n (table_of o m n cells)
+  answers_made returns f cells a = record { tabulated = answers_tabulated returns f cells a; answers = answers_over returns f cells a }
 
   -- what failed first along the positions failed first in storage order
   pub fails_at : {B E : Type 0} (returns : ℕ × ℕ → Result B E → Type 0) (e : E) → FailsFirst returns (positions o m n) e → FailsAt returns o m n e
@@ -180,10 +186,13 @@ pub some_and_map : {B : Type 0} (o : Option B) {P Q : B → Type 0} → ((y : B)
 some_and_map None f h = h
 some_and_map (Some y) f h = f y h
 
--- what holds of each answer of a closure, said of each answer of another that passes its answers on
-pub answered_as : {A B V E : Type 0} (t : List (List A)) (rows : V → List (List B)) (P Q : ℕ → ℕ → Bor A → B → Type 0) (made : Result V E) → IfOk made (λ v. (r c : ℕ) → InRange t r c → IsSomeAnd (cell (rows v) r c) (λ y. (p : Bor A) × (cell t r c ≡ Some p.now) × P r c p y)) → ((r c : ℕ) (p : Bor A) (y : B) → InRange t r c → cell t r c ≡ Some p.now → P r c p y → Q r c p y) → IfOk made (λ v. (r c : ℕ) → InRange t r c → IsSomeAnd (cell (rows v) r c) (λ y. (p : Bor A) × (cell t r c ≡ Some p.now) × Q r c p y))
-answered_as t rows P Q (Ok v) h says = λ r c within. some_and_map (cell (rows v) r c) (λ y w. (w.0, w.1, says r c w.0 y within w.1 w.2)) (h r c within)
-answered_as t rows P Q (Err e) h says = tt
+-- a table of what a closure returns is one of what another returns that passes its answers on
+pub mapped_as : {F G A B V E : Type 0} (t : List (List A)) (rows : V → List (List B)) (P : F → ℕ × ℕ → Bor A → B → Type 0) (f : F) (Q : G → ℕ × ℕ → Bor A → B → Type 0) (g : G) (made : Result V E) → IfOk made (λ v. MappedBy P f t (rows v)) → ((r c : ℕ) (p : Bor A) (y : B) → InRange t r c → cell t r c ≡ Some p.now → P f (r, c) p y → Q g (r, c) p y) → IfOk made (λ v. MappedBy Q g t (rows v))
+mapped_as t rows P f Q g (Ok v) h says = record {
+  tabulated = λ k by. h.tabulated k (λ r c p y within is said. by r c p y within is (says r c p y within is said));
+  answers = λ r c within. some_and_map (cell (rows v) r c) (λ y w. (w.0, w.1, says r c w.0 y within w.1 w.2)) (h.answers r c within);
+}
+mapped_as t rows P f Q g (Err e) h says = tt
 
 -- a grid of the size that was asked for
 pub seen_made : {T : Type 0} (o : Order) (m n : ℕ) (cells : List T) (h : HoldsSize m n (length cells)) → 0 < m → 0 < n → IsMade o m n (grid_value o m n cells h)

@@ -1,26 +1,35 @@
 -- Edits of rows as the code of a grid does them, and of columns as those of rows between two transposes.
-use Rattle.std.proofs.Common.{◌≡◌, ℕ, ◌+◌, ◌-◌, ◌<◌, ◌≤◌, Bool, true, false, not, Option, Some, None, List, [], ◌∷◌, Vec, nat_lt, if◌then◌else◌, IsTrue, MatchOption, Result, Ok, Err, OnOk, ◌↔◌, refl, sym, ◌∙◌, ap, arith, ⊎_elim}
+use Rattle.std.proofs.Common.{◌≡◌, ℕ, ◌+◌, ◌-◌, ◌<◌, ◌≤◌, Bool, true, false, not, Option, Some, None, List, [], ◌∷◌, Vec, nat_lt, if◌then◌else◌, IsTrue, MatchOption, Result, Ok, Err, OnOk, ◌↔◌, refl, sym, ◌∙◌, ap, subst, arith, ⊎_elim}
 use Rattle.std.specs.List.{insert, remove, slice_get}
-use Rattle.std.specs.Option.{option_map}
+use Rattle.std.specs.Option.{option_map, is_none}
 use Rattle.std.proofs.lemmas.Bool.{lt-ltb, le-ltb, cases_lt}
+use Rattle.std.proofs.lemmas.Result.{on_ok_weaker, on_err_weaker, IfOk-weaker}
 use Rattle.std.proofs.lemmas.Option.{slice_get_past, slice_get-get_or}
 use Rattle.grid_base.specs.declared.words.Symmetry.TheVariants.{Transpose}
 use Rattle.grid_base.specs.Table.{row, row_count, col_count, IsTable}
+use Rattle.grid_base.specs.GridValue.{GridValue}
+use Rattle.grid_base.specs.Gather.{items_of_each}
+use Rattle.grid_base.specs.Order.{flipped}
 use Rattle.grid_base.specs.Symmetry.{act}
+use Rattle.grid_base.proofs.ViewLemmas.{flipped-flipped}
 use Rattle.grid_commands.specs.declared.command.Axis.{Axis}
 use Rattle.grid_commands.specs.declared.command.Axis.TheVariants.{Row, Col}
 use Rattle.grid_commands.specs.declared.command.Refusal.{Refusal}
+use Rattle.grid_commands.specs.declared.command.Reply.{Reply}
+use Rattle.grid_commands.specs.declared.command.Reply.TheVariants as the
 use Rattle.grid_commands.specs.Command.{Edit, read, push, insert_at, insert_all, pop, remove_at, delete_at, delete_range, expand, prepend, get, lines}
-use Rattle.grid_commands.specs.Reply.{ReplyValue, done, cell_is, line_is, flag_is, refused}
+use Rattle.grid_commands.specs.Reply.{ReplyValue, reply_value, done, cell_is, line_is, flag_is, refused}
 use Rattle.grid_commands.specs.Refusal.{in_range, lines_refusal, pad_refusal, edit_refusal, unless_refused}
 use Rattle.grid_commands.specs.LineEdit.{pad_edit}
-use Rattle.grid.specs.Edits.{insert_rows, without_rows, PadsRows, padding_count}
-use Rattle.grid.specs.Step.{nothing, removes, range_effect, effect, after_effect, edit_reply, step_rows, step_reply}
+use Rattle.grid.specs.Edits.{without_rows, PadsRows}
+use Rattle.grid.specs.Step.{EditIsKnown, nothing, removes, range_effect, effect, after_effect, edit_reply, step_rows, step_reply, memory_at}
+use Rattle.grid.specs.Edited.{Edited}
+use Rattle.grid.specs.Stepped.{Stepped}
 use Rattle.grid.specs.Through.{turned_reply}
 use Rattle.grid.proofs.EditViewLemmas.{put_line, take_line}
 use Rattle.grid.proofs.NoneTakenLemmas.{remove-past}
-use Rattle.grid.proofs.SeenPaddingLemmas.{pads_expanded, pads_prepended}
-use Rattle.grid.proofs.ColEditLemmas.{across-across}
+use Rattle.grid.proofs.ColEditLemmas.{across-across, rows-across, cols-across}
+use Rattle.grid.proofs.TransposedEditLemmas.{twice_across}
 use Rattle.grid.proofs.CellThroughLemmas.{cell_past}
 use Rattle.grid.proofs.StepThroughLemmas.{through_cross, table-step}
 
@@ -43,7 +52,7 @@ one_past at n =
     (λ le. rw (le-ltb n (at + 1) le, lt-ltb at n (omega arith)) refl)
     (cases_lt n (at + 1))
 
-pad_none : (T : Type 0) (b : Bool) (m n k : ℕ) → edit_refusal m n (pad_edit {T = T} b k) ≡ pad_refusal m n k
+pub pad_none : (T : Type 0) (b : Bool) (m n k : ℕ) → edit_refusal m n (pad_edit {T = T} b k) ≡ pad_refusal m n k
 pad_none T true m n k = refl
 pad_none T false m n k = refl
 
@@ -61,9 +70,18 @@ module _ {T : Type 0} where
   unfolding step_rows
   refused_rows d e t r some = rw some refl
 
-  pub refused_reply : (e : Edit T) (t : List (List T)) (r : Refusal) → edit_refusal (row_count t) (col_count t) e ≡ Some r → refused r ≡ step_reply (lines Row e) t
+  refused_reply : (e : Edit T) (t : List (List T)) (r : Refusal) → edit_refusal (row_count t) (col_count t) e ≡ Some r → refused r ≡ step_reply (lines Row e) t
   unfolding step_reply
   refused_reply e t r some = rw some refl
+
+  -- what is said of an edit of rows, from its rows and its reply
+  pub done_edit : {A E : Type 0} (P : T → Type 0) (C : T → T → Type 0) (e : Edit T) (old new : GridValue T) (reply : Reply T A) → ((d : T) → EditIsKnown P d e → new.rows ≡ step_rows d (lines Row e) old.rows) → reply_value reply ≡ step_reply (lines Row e) old.rows → new.order ≡ old.order → Edited {T = T} {A = A} {E = E} P C Row e old new (Ok reply)
+  done_edit P C e old new reply rows replied order =
+      record { rows = rows; reply = λ same. replied; order = order; err_grid = tt; err_memory = tt }
+
+  pub refused_edit : {A E : Type 0} (P : T → Type 0) (C : T → T → Type 0) (e : Edit T) (s : GridValue T) (r : Refusal) → edit_refusal (row_count s.rows) (col_count s.rows) e ≡ Some r → Edited {T = T} {A = A} {E = E} P C Row e s s (Ok (the.Refused r))
+  refused_edit P C e s r some =
+      done_edit P C e s s (the.Refused r) (λ d known. refused_rows d e s.rows r some) (refused_reply e s.rows r some) refl
 
   -- a cell that isn't there
   pub get_past : (t : List (List T)) → IsTable t → (r c : ℕ) → in_range (row_count t) (col_count t) (r, c) ≡ false → cell_is None ≡ step_reply (get r c) t
@@ -87,27 +105,17 @@ module _ {T : Type 0} where
   pub insert_replied : (at : ℕ) (line : List T) (t : List (List T)) → lines_refusal (row_count t) (col_count t) at (line ∷ []) ≡ None → ◌≡◌ {A = ReplyValue T} done (step_reply (lines Row (insert_at at line)) t)
   insert_replied at line t none = done_reply (insert_at at line) t none
 
-  pub insert_refused : (d : T) (at : ℕ) (line : List T) (t : List (List T)) (r : Refusal) → lines_refusal (row_count t) (col_count t) at (line ∷ []) ≡ Some r → t ≡ step_rows d (lines Row (insert_at at line)) t
-  insert_refused d at line t r some = refused_rows d (insert_at at line) t r some
-
   -- several lines
-  pub insert_all_done : (d : T) (at : ℕ) (ls t : List (List T)) → lines_refusal (row_count t) (col_count t) at ls ≡ None → insert_rows at ls t ≡ step_rows d (lines Row (insert_all at ls)) t
-  insert_all_done d at ls t none = done_rows d (insert_all at ls) t none
-
-  pub insert_all_replied : (at : ℕ) (ls t : List (List T)) → lines_refusal (row_count t) (col_count t) at ls ≡ None → ◌≡◌ {A = ReplyValue T} done (step_reply (lines Row (insert_all at ls)) t)
-  insert_all_replied at ls t none = done_reply (insert_all at ls) t none
-
-  pub insert_all_refused : (d : T) (at : ℕ) (ls t : List (List T)) (r : Refusal) → lines_refusal (row_count t) (col_count t) at ls ≡ Some r → t ≡ step_rows d (lines Row (insert_all at ls)) t
-  insert_all_refused d at ls t r some = refused_rows d (insert_all at ls) t r some
+  pub insert_all_memory : {A : Type 0} (at : ℕ) (several : List (Vec T A)) (t : List (List T)) → (several ≡ [] → ⊥) → lines_refusal (row_count t) (col_count t) at (items_of_each several) ≡ None → IsTrue (memory_at (lines Row (insert_all at (items_of_each several))) t)
+  insert_all_memory at [] t some none = absurd (some refl)
+  insert_all_memory at (line ∷ several) t some none = ap is_none none
 
   -- a push is an insert at the end
-  pub push_rows : (d : T) (at : ℕ) (line : List T) (t : List (List T)) → at ≡ row_count t → step_rows d (lines Row (insert_at at line)) t ≡ step_rows d (lines Row (push line)) t
-  unfolding step_rows
-  push_rows d at line t e = rw e refl
-
-  pub push_reply : (at : ℕ) (line : List T) (t : List (List T)) → at ≡ row_count t → step_reply (lines Row (insert_at at line)) t ≡ step_reply (lines Row (push line)) t
-  unfolding step_reply
-  push_reply at line t e = rw e refl
+  pub pushed_edit : {A E : Type 0} (P : T → Type 0) (C : T → T → Type 0) (at : ℕ) (line : List T) (old new : GridValue T) (r : Result (Reply T A) E) → at ≡ row_count old.rows → Edited P C Row (insert_at at line) old new r → Edited P C Row (push line) old new r
+  unfolding step_rows step_reply
+  pushed_edit P C at line old new r e h =
+      let h : Edited P C Row (insert_at (row_count old.rows) line) old new r = subst (λ i. Edited P C Row (insert_at i line) old new r) e h in
+      record { rows = h.rows; reply = h.reply; order = h.order; err_grid = h.err_grid; err_memory = h.err_memory }
 
   -- a row that is removed
   range_is : (d : T) (i k : ℕ) (t : List (List T)) (b : Bool) → after_effect d Row (if b then nothing else removes i k) t ≡ (if b then t else without_rows i k t)
@@ -127,13 +135,13 @@ module _ {T : Type 0} where
   removed_reply at t (Some line) h = ap line_is (sym h) ∙ done_reply (remove_at at) t refl
 
   -- popping is removing the last
-  pub pop_rows : (d : T) (at : ℕ) (t : List (List T)) → at ≡ row_count t - 1 → step_rows d (lines Row (remove_at at)) t ≡ step_rows d (lines Row pop) t
+  pub popped_rows : (d : T) (t : List (List T)) → remove t (row_count t - 1) ≡ step_rows d (lines Row pop) t
   unfolding step_rows
-  pop_rows d at t e = rw e refl
+  popped_rows d t = removed_rows d (row_count t - 1) t
 
-  pub pop_reply : (at : ℕ) (t : List (List T)) → at ≡ row_count t - 1 → step_reply (lines Row (remove_at at)) t ≡ step_reply (lines Row pop) t
-  unfolding step_reply
-  pop_reply at t e = rw e refl
+  pub popped_reply : {A : Type 0} (t : List (List T)) (taken : Option (Vec T A)) → MatchOption taken (t ≡ []) (λ line. slice_get t (row_count t - 1) ≡ Some line.items) → ◌≡◌ {A = ReplyValue T} (line_is (option_map (λ l. l.items) taken)) (step_reply (lines Row pop) t)
+  popped_reply t None h = ap line_is (sym (slice_get_past t (row_count t - 1) (omega (arith, ap row_count h)))) ∙ done_reply pop t refl
+  popped_reply t (Some line) h = ap line_is (sym h) ∙ done_reply pop t refl
 
   -- rows that are deleted
   pub range_rows : (d : T) (found : Bool) (start count : ℕ) (t : List (List T)) → IsTrue found ↔ (start + count ≤ row_count t) → (if found then without_rows start count t else t) ≡ step_rows d (lines Row (delete_range start count)) t
@@ -158,19 +166,13 @@ module _ {T : Type 0} where
       sym (done_reply (delete_range at 1) t refl) ∙ (ap flag_is (one_past at (row_count t)) ∙ done_reply (delete_at at) t refl)
 
   -- padding
-  pub padded_rows : (d : T) (P : T → Type 0) (b : Bool) (at k : ℕ) (t new : List (List T)) → at ≡ (if b then row_count t else 0) → PadsRows P at (padding_count k t) t new → ((x : T) → P x → x ≡ d) → pad_refusal (row_count t) (col_count t) k ≡ None → new ≡ step_rows d (lines Row (pad_edit b k)) t
-  padded_rows d P true at k t new e p one none = pads_expanded P k d t new (rw e at p) one ∙ done_rows d (expand k) t none
-  padded_rows d P false at k t new e p one none = pads_prepended P k d t new (rw e at p) one ∙ done_rows d (prepend k) t none
+  pub padded_rows : (d : T) (P : T → Type 0) (b : Bool) (at k : ℕ) (t new : List (List T)) → at ≡ (if b then row_count t else 0) → PadsRows P at k t new → EditIsKnown P d (pad_edit b k) → pad_refusal (row_count t) (col_count t) k ≡ None → new ≡ step_rows d (lines Row (pad_edit b k)) t
+  padded_rows d P true at k t new e p one none = p.at_end e d one ∙ done_rows d (expand k) t none
+  padded_rows d P false at k t new e p one none = p.at_start e d one ∙ done_rows d (prepend k) t none
 
   pub padded_reply : (b : Bool) (k : ℕ) (t : List (List T)) → pad_refusal (row_count t) (col_count t) k ≡ None → ◌≡◌ {A = ReplyValue T} done (step_reply (lines Row (pad_edit b k)) t)
   padded_reply true k t none = done_reply (expand k) t none
   padded_reply false k t none = done_reply (prepend k) t none
-
-  pub pad_refused_rows : (d : T) (b : Bool) (k : ℕ) (t : List (List T)) (r : Refusal) → pad_refusal (row_count t) (col_count t) k ≡ Some r → t ≡ step_rows d (lines Row (pad_edit b k)) t
-  pad_refused_rows d b k t r some = refused_rows d (pad_edit b k) t r (pad_none T b (row_count t) (col_count t) k ∙ some)
-
-  pub pad_refused_reply : (b : Bool) (k : ℕ) (t : List (List T)) (r : Refusal) → pad_refusal (row_count t) (col_count t) k ≡ Some r → refused r ≡ step_reply (lines Row (pad_edit b k)) t
-  pad_refused_reply b k t r some = refused_reply (pad_edit b k) t r (pad_none T b (row_count t) (col_count t) k ∙ some)
 
   -- an edit of rows between two transposes
   pub crossed_rows : (d : T) (e : Edit T) (t mid grown new : List (List T)) → IsTable t → mid ≡ act Transpose t → grown ≡ step_rows d (lines Row e) mid → new ≡ act Transpose grown → new ≡ step_rows d (lines Col e) t
@@ -194,3 +196,18 @@ module _ {T : Type 0} where
   pub crossed_reply : (e : Edit T) (t mid : List (List T)) (q : ReplyValue T) → IsTable t → mid ≡ act Transpose t → q ≡ step_reply (lines Row e) mid → q ≡ step_reply (lines Col e) t
   crossed_reply e t mid q h transposed step =
       step ∙ (ap (step_reply (lines Row e)) transposed ∙ ((through_cross (lines Row e) t h).reply Row refl ∙ transposed_plain e t))
+
+  pub crossed_edit : {A E : Type 0} (P : T → Type 0) (C : T → T → Type 0) (e : Edit T) (old mid late new : GridValue T) (r : Result (Reply T A) E) → mid.rows ≡ act Transpose old.rows → mid.order ≡ flipped old.order → Edited P C Row e mid late r → new.rows ≡ act Transpose late.rows → new.order ≡ flipped late.order → Edited P C Col e old new r
+  crossed_edit P C e old mid late new r there turned h back turned_back =
+      record {
+        rows = on_ok_weaker r (λ same d known. crossed_rows d e old.rows mid.rows late.rows new.rows old.table there (same d known) back) h.rows;
+        reply = IfOk-weaker r _ _ (λ reply same equal. crossed_reply e old.rows mid.rows (reply_value reply) old.table there (same equal)) h.reply;
+        order = turned_back ∙ (ap flipped (h.order ∙ turned) ∙ flipped-flipped old.order);
+        err_grid =
+            on_err_weaker r (λ same. twice_across old mid late new old.table there turned same back turned_back) h.err_grid;
+        err_memory = rw (there, rows-across old.rows old.table, cols-across old.rows old.table) at h.err_memory;
+      }
+
+-- an edit of lines is a step of its command
+pub stepped_edit : {T A E : Type 0} {P : T → Type 0} {C : T → T → Type 0} {a : Axis} {e : Edit T} {old new : GridValue T} {r : Result (Reply T A) E} → Edited P C a e old new r → Stepped P C (lines a e) old.rows new.rows r
+stepped_edit h = record { rows = h.rows; reply = h.reply; err_memory = h.err_memory }

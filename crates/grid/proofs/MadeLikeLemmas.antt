@@ -4,9 +4,10 @@ use Rattle.std.specs.Prelude.{IfErr}
 use denote.Ref.{Bor}
 use Rattle.grid_base.specs.declared.order.Order.{Order}
 use Rattle.grid_base.specs.Table.{row_count, col_count, cell, InRange, IsTable, IsSize, tabulate}
-use Rattle.grid_base.specs.GridValue.{GridValue}
+use Rattle.grid_base.specs.GridValue.{GridValue, SameSizeAndOrder}
 use Rattle.grid_base.proofs.TableLemmas.{IsSize-table}
-use Rattle.grid.specs.Make.{HasSize, IsMade, FailsAt}
+use Rattle.grid.specs.AllCells.{MappedBy}
+use Rattle.grid.specs.Make.{HasSize, IsMade, MadeBy, FailsAt}
 use Rattle.grid.proofs.CellCallLemmas.{some_and_map}
 
 module _ {B : Type 0} where
@@ -27,51 +28,38 @@ module _ {B : Type 0} where
 moved : (H : ℕ → ℕ → Type 0) {m n a b : ℕ} → m ≡ a → n ≡ b → H m n → H a b
 moved H {m} {n} {a} {b} e f h = subst (λ y. H a y) f (subst (λ x. H x n) e h)
 
-module _ {A B E : Type 0} (t : List (List A)) (table : IsTable t) (o : Order) (m n : ℕ) (m_is : m ≡ row_count t) (n_is : n ≡ col_count t) (made : Result (GridValue B) E) where
+module _ {A B E : Type 0} (v : GridValue A) (o : Order) (m n : ℕ) (m_is : m ≡ row_count v.rows) (n_is : n ≡ col_count v.rows) (o_is : o ≡ v.order) (made : Result (GridValue B) E) where
+  abbrev t : List (List A)
+  t = v.rows
+
   size_is : IsSize m n
-  size_is = moved (λ x y. IsSize x y) (sym m_is) (sym n_is) (IsSize-table t table)
+  size_is = moved (λ x y. IsSize x y) (sym m_is) (sym n_is) (IsSize-table t v.table)
 
   within : (r c : ℕ) → r < m → c < n → InRange t r c
   within r c row_in col_in = (omega (arith, row_in, m_is), omega (arith, col_in, n_is))
 
-  pub like_rows : IfOk made (IsMade o m n) → IfOk made (λ g. row_count g.rows ≡ row_count t)
-  like_rows = at made
+  pub like_same : IfOk made (IsMade o m n) → IfOk made (SameSizeAndOrder v)
+  like_same = at made
     where
-      at : (v : Result (GridValue B) E) → IfOk v (IsMade o m n) → IfOk v (λ g. row_count g.rows ≡ row_count t)
+      at : (x : Result (GridValue B) E) → IfOk x (IsMade o m n) → IfOk x (SameSizeAndOrder v)
       at (Err e) h = tt
-      at (Ok g) h = sized_rows m n g.rows size_is h.size ∙ m_is
-
-  pub like_cols : IfOk made (IsMade o m n) → IfOk made (λ g. col_count g.rows ≡ col_count t)
-  like_cols = at made
-    where
-      at : (v : Result (GridValue B) E) → IfOk v (IsMade o m n) → IfOk v (λ g. col_count g.rows ≡ col_count t)
-      at (Err e) h = tt
-      at (Ok g) h = sized_cols m n g.rows size_is h.size ∙ n_is
+      at (Ok g) h = record { rows = sized_rows m n g.rows size_is h.size ∙ m_is; cols = sized_cols m n g.rows size_is h.size ∙ n_is; order = h.order ∙ o_is }
 
   -- where what a closure answers at each position, P, is what one answers at the cell there, Q
-  module _ (P : ℕ → ℕ → B → Type 0) (Q : ℕ → ℕ → Bor A → B → Type 0) where
+  module _ {F G : Type 0} (P : F → ℕ × ℕ → B → Type 0) (f : F) (Q : G → ℕ × ℕ → Bor A → B → Type 0) (q : G) where
     abbrev Says : Type 0
-    Says = (r c : ℕ) (y : B) → InRange t r c → P r c y → (p : Bor A) × (cell t r c ≡ Some p.now) × Q r c p y
+    Says = (r c : ℕ) (y : B) → InRange t r c → P f (r, c) y → (p : Bor A) × (cell t r c ≡ Some p.now) × Q q (r, c) p y
 
-    abbrev Tabulated : GridValue B → Type 0
-    Tabulated g = (h : ℕ → ℕ → Option B) → ((r c : ℕ) (y : B) → r < m → c < n → P r c y → h r c ≡ Some y) → 0 < m → 0 < n → g.rows ≡ tabulate m n h
-
-    abbrev TabulatedHere : GridValue B → Type 0
-    TabulatedHere g = (h : ℕ → ℕ → Option B) → ((r c : ℕ) (p : Bor A) (y : B) → InRange t r c → cell t r c ≡ Some p.now → Q r c p y → h r c ≡ Some y) → g.rows ≡ tabulate (row_count t) (col_count t) h
-
-    pub like_cells : IfOk made (IsMade o m n) → IfOk made Tabulated → Says → IfOk made TabulatedHere
-    like_cells = at made
+    pub like_mapped : IfOk made (IsMade o m n) → IfOk made (λ g. MadeBy P f m n g.rows) → Says → IfOk made (λ g. MappedBy Q q t g.rows)
+    like_mapped = at made
       where
-        at : (v : Result (GridValue B) E) → IfOk v (IsMade o m n) → IfOk v Tabulated → Says → IfOk v TabulatedHere
+        at : (x : Result (GridValue B) E) → IfOk x (IsMade o m n) → IfOk x (λ g. MadeBy P f m n g.rows) → Says → IfOk x (λ g. MappedBy Q q t g.rows)
         at (Err e) s cells says = tt
-        at (Ok g) s cells says = λ h given. moved (λ x y. g.rows ≡ tabulate x y h) m_is n_is (sized_none m n g.rows h size_is s.size (cells h (λ r c y row_in col_in said. let w = says r c y (within r c row_in col_in) said in given r c w.0 y (within r c row_in col_in) w.1 w.2)))
-
-    pub like_answers : IfOk made (λ g. (r c : ℕ) → r < m → c < n → IsSomeAnd (cell g.rows r c) (P r c)) → Says → IfOk made (λ g. (r c : ℕ) → InRange t r c → IsSomeAnd (cell g.rows r c) (λ y. (p : Bor A) × (cell t r c ≡ Some p.now) × Q r c p y))
-    like_answers = at made
-      where
-        at : (v : Result (GridValue B) E) → IfOk v (λ g. (r c : ℕ) → r < m → c < n → IsSomeAnd (cell g.rows r c) (P r c)) → Says → IfOk v (λ g. (r c : ℕ) → InRange t r c → IsSomeAnd (cell g.rows r c) (λ y. (p : Bor A) × (cell t r c ≡ Some p.now) × Q r c p y))
-        at (Err e) a says = tt
-        at (Ok g) a says = λ r c inside. some_and_map (cell g.rows r c) (λ y said. says r c y inside said) (a r c (omega (arith, inside.0, m_is)) (omega (arith, inside.1, n_is)))
+        at (Ok g) s cells says = record {
+          tabulated = λ h given. moved (λ x y. g.rows ≡ tabulate x y h) m_is n_is
+              (sized_none m n g.rows h size_is s.size (cells.tabulated h (λ r c y row_in col_in said. let w = says r c y (within r c row_in col_in) said in given r c w.0 y (within r c row_in col_in) w.1 w.2)));
+          answers = λ r c inside. some_and_map (cell g.rows r c) (λ y said. says r c y inside said) (cells.answers r c (omega (arith, inside.0, m_is)) (omega (arith, inside.1, n_is)));
+        }
 
   -- where what a closure answers at each position, P, is what one answers at the cell there, Q
   module _ (P : ℕ × ℕ → Result B E → Type 0) (Q : ℕ × ℕ → Bor A → Result B E → Type 0) where
@@ -81,8 +69,8 @@ module _ {A B E : Type 0} (t : List (List A)) (table : IsTable t) (o : Order) (m
     abbrev SaysHere : Type 0
     SaysHere = (at : ℕ × ℕ) (y : Result B E) → InRange t at.0 at.1 → P at y → Here at y
 
-    pub like_fault : (k : Order) → o ≡ k → IfErr made (FailsAt P o m n) → SaysHere → IfErr made (FailsAt Here k (row_count t) (col_count t))
-    like_fault k o_is = at made
+    pub like_fault : IfErr made (FailsAt P o m n) → SaysHere → IfErr made (FailsAt Here v.order (row_count t) (col_count t))
+    like_fault = at made
       where
         here : (e : E) → FailsAt P o m n e → SaysHere → FailsAt Here o m n e
         here e a says = record {
@@ -94,6 +82,6 @@ module _ {A B E : Type 0} (t : List (List A)) (table : IsTable t) (o : Order) (m
           before = λ i j row_in col_in first. let b = a.before i j row_in col_in first in (b.0, says (i, j) (Ok b.0) (within i j row_in col_in) b.1);
         }
 
-        at : (v : Result (GridValue B) E) → IfErr v (FailsAt P o m n) → SaysHere → IfErr v (FailsAt Here k (row_count t) (col_count t))
+        at : (x : Result (GridValue B) E) → IfErr x (FailsAt P o m n) → SaysHere → IfErr x (FailsAt Here v.order (row_count t) (col_count t))
         at (Ok g) a says = tt
         at (Err e) a says = subst (λ x. FailsAt Here x (row_count t) (col_count t) e) o_is (moved (λ x y. FailsAt Here o x y e) m_is n_is (here e a says))

@@ -3,7 +3,7 @@ use Rattle.std.proofs.Common.{◌≡◌, ℕ, suc, ◌+◌, ◌≤◌, inl, inr,
 use Rattle.std.specs.List.{count_by}
 use Rattle.std.proofs.lemmas.List.Sums.{sum_by-cons}
 use denote.Ref.{Bor}
-use Rattle.grid.specs.NearCounts.{CallableNear, MayCount}
+use Rattle.grid.specs.NearCounts.{CallableNear, MayCount, CountsNear}
 
 abbrev weight : Bool → ℕ
 weight b = cond b 1 0
@@ -54,5 +54,8 @@ module _ {F T : Type 0} (takes : F → Bor T → Type 0) (returns : F → Bor T 
       may = λ k m. h.may k (subst (λ r. MayCount returns f r k) (sym e) (inl ((x, refl, said), m)));
     }
 
-  pub counting_ended : (rest : List ((ℕ × ℕ) × T)) (count : ℕ) → rest ≡ [] → Counting rest count → MayCount returns f near count
-  counting_ended rest count e h = subst (MayCount returns f near) (omega arith) (h.may 0 (subst (λ r. MayCount returns f r 0) (sym e) refl))
+  pub counting_ended : (rest : List ((ℕ × ℕ) × T)) (count : ℕ) → rest ≡ [] → Counting rest count → CountsNear returns f near count
+  counting_ended rest count e h = record {
+    tested = λ p says. omega (arith, subst (λ r. count + count_by p r ≡ count_by p near) e (h.counts p says));
+    answers = subst (MayCount returns f near) (omega arith) (h.may 0 (subst (λ r. MayCount returns f r 0) (sym e) refl));
+  }

@@ -14,7 +14,7 @@ use Rattle.grid_base.proofs.StorageLemmas.{length-storage, get-storage, place_wi
 use Rattle.grid.specs.Make.{HasSize}
 use Rattle.grid.specs.Edits.{without_rows}
 use Rattle.grid.specs.Exchanged.{InRows, PartTaken}
-use Rattle.grid.specs.Resize.{IsCorner, IsResized, cell_or}
+use Rattle.grid.specs.Resize.{IsCorner, IsResized, ResizesTo, cell_or}
 use Rattle.grid_base.specs.declared.words.Symmetry.TheVariants.{Transpose}
 use Rattle.grid_base.specs.Symmetry.{act}
 use Rattle.grid_base.proofs.TableLemmas.{IsFull-cells, rows-tabulate, tabulate-cells, tabulate-same, cell_past_rows}
@@ -130,8 +130,28 @@ module _ {T : Type 0} where
         ∙ (ap (λ x. tabulate m x (cell new)) cols
         ∙ tabulate-same m n (cell new) (cell_or d old) (λ r c lr lc. resized_cell r c (omega (arith, rows), omega (arith, cols))) (record { full = λ r c lr lc. refl })))
 
-    pub resized_tabulated : 0 < n → new ≡ tabulate m n (cell_or d old)
+    resized_tabulated : 0 < n → new ≡ tabulate m n (cell_or d old)
     resized_tabulated some =
         ⊎_elim {C = new ≡ tabulate m n (cell_or d old)}
         (λ none. i.size.none (times_none m n none) ∙ sym (nil_from_length (tabulate m n (cell_or d old)) (rows-tabulate m n (cell_or d old) ∙ none)))
         (λ more. resized_some (omega arith) some) (cases_eq m 0)
+
+  pub resizes_to : (P : T → Type 0) (m n : ℕ) (old new : List (List T)) → IsTable old → IsTable new → IsResized P m n old new → ResizesTo P m n old new
+  resizes_to P m n old new h k i = record {
+    cells = i;
+    one_default = λ d only some. resized_tabulated P m n old new d h k only i some;
+    rows = λ some. rows some;
+    cols = λ some. cols some;
+  }
+    where
+      rows : 0 < n → row_count new ≡ m
+      rows some =
+          ⊎_elim {C = row_count new ≡ m}
+          (λ none. ap row_count (i.size.none (times_none m n none)) ∙ sym none)
+          (λ more. let all = product_some m n (omega arith) some in i.size.rows (λ z. omega (arith, all, z))) (cases_eq m 0)
+
+      cols : 0 < m → col_count new ≡ n
+      cols some =
+          ⊎_elim {C = col_count new ≡ n}
+          (λ none. ap col_count (i.size.none (ap (λ x. m * x) none ∙ omega arith)) ∙ sym none)
+          (λ more. let all = product_some m n some (omega arith) in i.size.cols (λ z. omega (arith, all, z))) (cases_eq n 0)

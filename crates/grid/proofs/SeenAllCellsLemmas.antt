@@ -5,7 +5,7 @@ use Rattle.std.proofs.lemmas.List.{get_or-map, length-map, length-replicate}
 use Rattle.grid_base.specs.declared.order.Order.{Order}
 use Rattle.grid_base.specs.Table.{row, row_count, col_count}
 use Rattle.grid_base.specs.Order.{table_of, storage, place}
-use Rattle.grid_base.specs.GridValue.{GridValue, HoldsSize}
+use Rattle.grid_base.specs.GridValue.{GridValue, HoldsSize, SameSizeAndOrder}
 use Rattle.grid_base.proofs.TableLemmas.{same_tables, width-tabulate}
 use Rattle.grid_base.proofs.StorageLemmas.{IsFull-table_of, place_within, get-replicate}
 use Rattle.grid_base.proofs.ViewLemmas.{view-rows, view-cols, view-storage, view-cell}
@@ -18,11 +18,12 @@ module _ {T U : Type 0} (o : Order) (m n : ℕ) (cells : List T) (news : List U)
   fits : HoldsSize m n (length news)
   fits = rw same h
 
-  pub whole_rows : row_count (table_of o m n news) ≡ row_count v.rows
-  whole_rows = view-rows o m n news fits ∙ sym (seen_rows o m n cells v h e)
-
-  pub whole_cols : col_count (table_of o m n news) ≡ col_count v.rows
-  whole_cols = view-cols o m n news fits ∙ sym (seen_cols o m n cells v h e)
+  pub whole_same : (k : HoldsSize m n (length news)) → SameSizeAndOrder v (grid_value o m n news k)
+  whole_same k = record {
+    rows = view-rows o m n news k ∙ sym (seen_rows o m n cells v h e);
+    cols = view-cols o m n news k ∙ sym (seen_cols o m n cells v h e);
+    order = ap (λ x. x.order) e;
+  }
 
   pub whole_cells : storage o (table_of o m n news) ≡ news
   whole_cells = view-storage o m n news fits

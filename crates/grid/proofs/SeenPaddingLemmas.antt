@@ -13,12 +13,14 @@ use Rattle.grid_base.specs.GridValue.{GridValue, HoldsSize}
 use Rattle.grid_base.specs.Append.{AppendsEach}
 use Rattle.grid_base.specs.Symmetry.{act}
 use Rattle.grid_commands.proofs.FactorLemmas.{factor_small}
-use Rattle.grid.specs.Edits.{PadsRows, PadsCols, padding_count, insert_rows, insert_cols, expanded_rows, prepended_rows, expanded_cols, prepended_cols}
+use Rattle.grid.specs.Edits.{PadsRows, PadsCols, padding_count, insert_rows, expanded_rows, prepended_rows}
+use Rattle.grid.specs.Make.{IsOnlyDefault}
 use Rattle.grid.specs.RowGroups.{RowsOpened}
 use Rattle.grid.proofs.SeenLemmas.{seen_rows, seen_cols}
 use Rattle.grid.proofs.PaddingLemmas.{All-all_fresh, replicate_from_all, All-from_gets, holds_at}
-use Rattle.grid.proofs.EditSizeLemmas.{HoldsSize-filled, IsTable-width, put-no_lines, copies, row-copies, HasWidth-copies, expanded-put, prepended-put}
-use Rattle.grid.proofs.ColEditLemmas.{rows-across, cols-across, across-none, ColumnsFit, insert_cols-across, expanded_cols-across, prepended_cols-across}
+use Rattle.grid.proofs.EditSizeLemmas.{HoldsSize-filled, IsTable-width, put-no_lines, copies, row-copies, expanded-put, prepended-put}
+use Rattle.grid.proofs.RowEditLemmas.{HasWidth, HasWidth-put, rows-put}
+use Rattle.grid.proofs.ColEditLemmas.{rows-across, cols-across, HasWidth-across, across-none, ColumnsFit, insert_cols-across, expanded_cols-across, prepended_cols-across}
 
 module _ {T : Type 0} where
   pub padding_some : (k : ℕ) (t : List (List T)) → 0 < row_count t → padding_count k t ≡ k
@@ -29,17 +31,6 @@ module _ {T : Type 0} where
   padding_none k [] none = refl
   padding_none k (r ∷ t) none = ⊎_elim {C = k ≡ 0} (λ e. e) (λ e. absurd (omega arith)) none
 
-  -- padding by no rows
-  pub pads_none : (P : T → Type 0) (i k : ℕ) (t : List (List T)) → k ≡ 0 → PadsRows P i k t t
-  pads_none P i k t none =
-      record {
-        fresh = [];
-        number = sym none;
-        widths = λ j lt. absurd (omega arith);
-        each = All-nil (All P);
-        put = sym (put-no_lines i [] t refl);
-      }
-
   -- the fresh rows where there is one default
   fresh_copies : (P : T → Type 0) (n : ℕ) (d : T) (fresh : List (List T)) → ((x : T) → P x → x ≡ d) → ((j : ℕ) → j < row_count fresh → length (row fresh j) ≡ n) → All (All P) fresh → fresh ≡ copies (row_count fresh) n d
   fresh_copies P n d fresh one wide all =
@@ -49,20 +40,37 @@ module _ {T : Type 0} where
       let same : All (λ x. x ≡ d) (row fresh j) = All-from_gets (λ x. x ≡ d) (row fresh j) (λ c x lc e. one x (holds_at P (row fresh j) c x each lc e)) in
       replicate_from_all d (row fresh j) n same (wide j lt) ∙ sym (row-copies (row_count fresh) n d j lt))
 
-  pads_copies : (P : T → Type 0) (i k : ℕ) (d : T) (t new : List (List T)) → ((x : T) → P x → x ≡ d) → PadsRows P i k t new → new ≡ insert_rows i (copies k (col_count t) d) t
-  pads_copies P i k d t new one p =
-      p.put
-      ∙ (ap (λ v. insert_rows i v t) (fresh_copies P (col_count t) d p.fresh one p.widths p.each)
-      ∙ ap (λ x. insert_rows i (copies x (col_count t) d) t) p.number)
+  expanded_copies : (k : ℕ) (d : T) (t : List (List T)) → insert_rows (row_count t) (copies (padding_count k t) (col_count t) d) t ≡ expanded_rows k d t
+  expanded_copies k d [] = refl
+  expanded_copies k d (r ∷ t) = sym (expanded-put k d (r ∷ t) (omega arith))
 
-  -- rows of the one default
-  pub pads_expanded : (P : T → Type 0) (k : ℕ) (d : T) (t new : List (List T)) → PadsRows P (row_count t) (padding_count k t) t new → ((x : T) → P x → x ≡ d) → new ≡ expanded_rows k d t
-  pads_expanded P k d [] new p one = pads_copies P 0 0 d [] new one p
-  pads_expanded P k d (r ∷ t) new p one = pads_copies P (row_count (r ∷ t)) k d (r ∷ t) new one p ∙ sym (expanded-put k d (r ∷ t) (omega arith))
+  prepended_copies : (k : ℕ) (d : T) (t : List (List T)) → insert_rows 0 (copies (padding_count k t) (col_count t) d) t ≡ prepended_rows k d t
+  prepended_copies k d [] = refl
+  prepended_copies k d (r ∷ t) = sym (prepended-put k d (r ∷ t) (omega arith))
 
-  pub pads_prepended : (P : T → Type 0) (k : ℕ) (d : T) (t new : List (List T)) → PadsRows P 0 (padding_count k t) t new → ((x : T) → P x → x ≡ d) → new ≡ prepended_rows k d t
-  pads_prepended P k d [] new p one = pads_copies P 0 0 d [] new one p
-  pads_prepended P k d (r ∷ t) new p one = pads_copies P 0 k d (r ∷ t) new one p ∙ sym (prepended-put k d (r ∷ t) (omega arith))
+  -- rows that are put are padding
+  pub pads_put : (P : T → Type 0) (i k : ℕ) (t new fresh : List (List T)) → row_count fresh ≡ padding_count k t → ((j : ℕ) → j < row_count fresh → length (row fresh j) ≡ col_count t) → All (All P) fresh → new ≡ insert_rows i fresh t → PadsRows P i k t new
+  pads_put P i k t new fresh number widths each put =
+      let copied : (d : T) → IsOnlyDefault P d → new ≡ insert_rows i (copies (padding_count k t) (col_count t) d) t = λ d one.
+      put
+      ∙ (ap (λ v. insert_rows i v t) (fresh_copies P (col_count t) d fresh one widths each)
+      ∙ ap (λ x. insert_rows i (copies x (col_count t) d) t) number) in
+      record {
+        fresh = fresh;
+        number = number;
+        widths = widths;
+        each = each;
+        put = put;
+        at_end = λ e d one.
+            copied d one ∙ (ap (λ x. insert_rows x (copies (padding_count k t) (col_count t) d) t) e ∙ expanded_copies k d t);
+        at_start = λ e d one.
+            copied d one ∙ (ap (λ x. insert_rows x (copies (padding_count k t) (col_count t) d) t) e ∙ prepended_copies k d t);
+      }
+
+  -- padding by no rows
+  pub pads_none : (P : T → Type 0) (i k : ℕ) (t : List (List T)) → padding_count k t ≡ 0 → PadsRows P i k t t
+  pads_none P i k t none =
+      pads_put P i k t t [] (sym none) (λ j lt. absurd (omega arith)) (All-nil (All P)) (sym (put-no_lines i [] t refl))
 
 -- padding some rows of a grid
 module _ {T : Type 0} (o : Order) (m n : ℕ) (cells : List T) (s : GridValue T) (h : HoldsSize m n (length cells)) (e : grid_value o m n cells h ≡ s) (k a b : ℕ) (rows : a ≡ row_count s.rows) (cols : b ≡ col_count s.rows) (some : a ≡ 0 → ⊥) (room : (a + k) * b < 2 ^ 64) where
@@ -108,16 +116,13 @@ module _ {T : Type 0} (o : Order) (m n : ℕ) (cells : List T) (s : GridValue T)
       abbrev p : RowsOpened o m n i k grown new
       p = subst (λ x. RowsOpened o x n i k grown new) as_rows (subst (λ x. RowsOpened o a x i k grown new) as_cols opened)
 
-      pub pads_rows : PadsRows P i (padding_count k s.rows) s.rows (table_of o (m + k) n new)
+      pub pads_rows : PadsRows P i k s.rows (table_of o (m + k) n new)
       pads_rows =
-          record {
-            fresh = p.fresh;
-            number = p.rows ∙ sym (padding_some k s.rows (omega (arith, rows, some)));
-            widths = λ r lt. p.widths r lt ∙ sym (seen_cols o m n cells s h e);
-            each = All-all_fresh o m n i k grown new p P back;
-            put =
-                p.put ∙ (ap (λ v. insert_rows i p.fresh (table_of o m n v)) front ∙ ap (λ v. insert_rows i p.fresh v.rows) e);
-          }
+          pads_put P i k s.rows (table_of o (m + k) n new) p.fresh
+          (p.rows ∙ sym (padding_some k s.rows (omega (arith, rows, some))))
+          (λ r lt. p.widths r lt ∙ sym (seen_cols o m n cells s h e))
+          (All-all_fresh o m n i k grown new p P back)
+          (p.put ∙ (ap (λ v. insert_rows i p.fresh (table_of o m n v)) front ∙ ap (λ v. insert_rows i p.fresh v.rows) e))
 
       pub pad_fits : HoldsSize (m + k) n (length new)
       pad_fits =
@@ -136,8 +141,24 @@ module _ {T : Type 0} (t : List (List T)) (h : IsTable t) where
       padding_some k (act Transpose t) (omega (arith, rows-across t h, wide)) ∙ sym (padding_some k t some))
       (cases_eq (row_count t) 0)
 
-  pub pads_cols : (P : T → Type 0) (i k : ℕ) (mid late new : List (List T)) → mid ≡ act Transpose t → new ≡ act Transpose late → i ≤ col_count t → PadsRows P i (padding_count k mid) mid late → PadsCols P i (padding_count k t) t new
-  pads_cols P i k mid late new there back le p =
+  -- the width of the transposed table after that
+  late_width : (i : ℕ) (fresh mid late : List (List T)) → mid ≡ act Transpose t → i ≤ row_count mid → ((r : ℕ) → r < row_count fresh → length (row fresh r) ≡ row_count t) → late ≡ insert_rows i fresh mid → col_count late ≡ row_count t
+  late_width i fresh mid late there le heights put =
+      let n = row_count t in
+      let count : row_count late ≡ row_count mid + row_count fresh = ap row_count put ∙ rows-put i fresh mid le in
+      let olds : HasWidth mid n = subst (λ v. HasWidth v n) (sym there) (HasWidth-across t h) in
+      let wide : HasWidth late n = subst (λ v. HasWidth v n) (sym put) (HasWidth-put i fresh mid le n olds heights) in
+      ⊎_elim {C = col_count late ≡ n}
+      (λ none.
+      let no_cols : col_count t ≡ 0 = omega (arith, count, none, ap row_count there, rows-across t h) in
+      ap col_count (nil_from_length late none)
+      ∙ ⊎_elim {C = 0 ≡ n} (λ e. sym e) (λ more. absurd (omega (arith, no_cols, h.nonempty 0 (omega arith)))) (cases_eq n 0))
+      (λ more. wide 0 (omega arith))
+      (cases_eq (row_count late) 0)
+
+  pub pads_cols : (P : T → Type 0) (i k : ℕ) (mid late new : List (List T)) → IsTable late → mid ≡ act Transpose t → new ≡ act Transpose late → i ≤ col_count t → PadsRows P i k mid late → PadsCols P i k t new
+  pads_cols P i k mid late new whole there back le p =
+      let across : row_count mid ≡ col_count t = ap row_count there ∙ rows-across t h in
       let number : row_count p.fresh ≡ padding_count k t = p.number ∙ (ap (padding_count k) there ∙ padding_count-across k) in
       let heights : (r : ℕ) → r < row_count p.fresh → length (row p.fresh r) ≡ row_count t = λ r lt. p.widths r lt ∙ (ap col_count there ∙ cols-across t h) in
       let table : IsTable p.fresh =
@@ -158,22 +179,15 @@ module _ {T : Type 0} (t : List (List T)) (h : IsTable t) where
         each = p.each;
         put =
             back ∙ (ap (act Transpose) (p.put ∙ ap (insert_rows i p.fresh) there) ∙ sym (insert_cols-across i p.fresh t fit));
+        rows = ap row_count back ∙ (rows-across late whole ∙ late_width i p.fresh mid late there (omega (arith, across, le)) heights p.put);
+        cols =
+            ap col_count back
+            ∙ (cols-across late whole ∙ (ap row_count p.put ∙ (rows-put i p.fresh mid (omega (arith, across, le)) ∙ omega (arith, across, number))));
+        at_end = λ e d one.
+            back ∙ (ap (act Transpose) (p.at_end (e ∙ sym across) d one ∙ ap (expanded_rows k d) there) ∙ sym (expanded_cols-across k d t h));
+        at_start = λ e d one.
+            back ∙ (ap (act Transpose) (p.at_start e d one ∙ ap (prepended_rows k d) there) ∙ sym (prepended_cols-across k d t h));
       }
-
-  -- columns of copies are rows of the transposed table
-  pads_copied : (P : T → Type 0) (i k : ℕ) (d : T) (new : List (List T)) → 0 < row_count t → i ≤ col_count t → ((x : T) → P x → x ≡ d) → PadsCols P i k t new → new ≡ act Transpose (insert_rows i (copies k (col_count (act Transpose t)) d) (act Transpose t))
-  pads_copied P i k d new some le one p =
-      let lines = copies k (row_count t) d in
-      let fit : ColumnsFit i lines t =
-      record {
-        in_cols = le;
-        old = h;
-        new = IsTable-width lines (row_count t) some (HasWidth-copies k (row_count t) d);
-        height = λ _ lt. HasWidth-copies k (row_count t) d 0 lt;
-      } in
-      p.put
-      ∙ (ap (λ v. insert_cols i v t) (fresh_copies P (row_count t) d p.fresh one p.heights p.each ∙ ap (λ x. copies x (row_count t) d) p.number)
-      ∙ (insert_cols-across i lines t fit ∙ ap (λ x. act Transpose (insert_rows i (copies k x d) (act Transpose t))) (sym (cols-across t h))))
 
   -- where no columns are added, no rows are added to the transposed table
   pub none_added : (k : ℕ) (mid : List (List T)) → mid ≡ act Transpose t → padding_count k t ≡ 0 → padding_count k mid ≡ 0
@@ -185,27 +199,6 @@ module _ {T : Type 0} (t : List (List T)) (h : IsTable t) where
       ap (λ v. (row_count v + padding_count k v) * col_count v) there
       ∙ (ap (λ x. (x + padding_count k (act Transpose t)) * col_count (act Transpose t)) (rows-across t h)
       ∙ (ap (λ x. (col_count t + x) * col_count (act Transpose t)) (padding_count-across k) ∙ ap (λ x. (col_count t + padding_count k t) * x) (cols-across t h)))
-
--- columns of the one default, at the end and at the beginning
-module _ {T : Type 0} where
-  pub cols_expanded : (P : T → Type 0) (k : ℕ) (d : T) (t new : List (List T)) → IsTable t → PadsCols P (col_count t) (padding_count k t) t new → ((x : T) → P x → x ≡ d) → new ≡ expanded_cols k d t
-  cols_expanded P k d [] new h p one = p.put ∙ ap (λ v. insert_cols 0 v []) (nil_from_length p.fresh p.number)
-  cols_expanded P k d (r ∷ t) new h p one =
-      let u = r ∷ t in
-      let v = act Transpose u in
-      let some : 0 < row_count v = omega (arith, rows-across u h, h.nonempty 0 (omega arith)) in
-      pads_copied u h P (col_count u) k d new (omega arith) (omega arith) one p
-      ∙ (ap (act Transpose) (ap (λ x. insert_rows x (copies k (col_count v) d) v) (sym (rows-across u h)) ∙ sym (expanded-put k d v some))
-      ∙ sym (expanded_cols-across k d u h))
-
-  pub cols_prepended : (P : T → Type 0) (k : ℕ) (d : T) (t new : List (List T)) → IsTable t → PadsCols P 0 (padding_count k t) t new → ((x : T) → P x → x ≡ d) → new ≡ prepended_cols k d t
-  cols_prepended P k d [] new h p one = p.put ∙ ap (λ v. insert_cols 0 v []) (nil_from_length p.fresh p.number)
-  cols_prepended P k d (r ∷ t) new h p one =
-      let u = r ∷ t in
-      let v = act Transpose u in
-      let some : 0 < row_count v = omega (arith, rows-across u h, h.nonempty 0 (omega arith)) in
-      pads_copied u h P 0 k d new (omega arith) (omega arith) one p
-      ∙ (ap (act Transpose) (sym (prepended-put k d v some)) ∙ sym (prepended_cols-across k d u h))
 
 pub shift_across : {T : Type 0} (F : Order → ℕ → ℕ → ℕ → ℕ) (k : ℕ) (old mid : GridValue T) → IsTable old.rows → mid.rows ≡ act Transpose old.rows → mid.order ≡ flipped old.order → F mid.order (row_count mid.rows) (col_count mid.rows) k ≡ F (flipped old.order) (col_count old.rows) (row_count old.rows) k
 shift_across F k old mid h rows order =

@@ -27,14 +27,11 @@ ReturnsThere {A = A} returns f t at y = (p : Bor A) × (cell t at.0 at.1 ≡ Som
 
 module _ {F A B : Type 0} (returns : F → ℕ × ℕ → Bor A → B → Type 0) (f : F) (t : List (List A))
   where
-    -- where h gives whatever f may return at each position and the cell of t there, u is the table of
-    -- what h gives
-    abbrev pub TabulatedBy : List (List B) → Type 0
-    TabulatedBy u = (h : ℕ → ℕ → Option B) →
-        ((r c : ℕ) (p : Bor A) (y : B) → InRange t r c → cell t r c ≡ Some p.now
-        → returns f (r, c) p y → h r c ≡ Some y) → u ≡ tabulate (row_count t) (col_count t) h
-
-    -- each cell of u is something that f may return at its position and the cell of t there
-    abbrev pub AnsweredBy : List (List B) → Type 0
-    AnsweredBy u = (r c : ℕ) → InRange t r c → IsSomeAnd (cell u r c)
-        (λ y. (p : Bor A) × (cell t r c ≡ Some p.now) × returns f (r, c) p y)
+    -- u is the table of what f returns at each position and the cell of t there: that of any h
+    -- which gives whatever f may return; and each cell is something that it may
+    pub record MappedBy (u : List (List B)) : Type 0 where
+      pub tabulated : (h : ℕ → ℕ → Option B)
+          → ((r c : ℕ) (p : Bor A) (y : B) → InRange t r c → cell t r c ≡ Some p.now
+          → returns f (r, c) p y → h r c ≡ Some y) → u ≡ tabulate (row_count t) (col_count t) h
+      pub answers : (r c : ℕ) → InRange t r c → IsSomeAnd (cell u r c)
+          (λ y. (p : Bor A) × (cell t r c ≡ Some p.now) × returns f (r, c) p y)

@@ -29,10 +29,6 @@ module _ {T : Type 0} where
   abbrev pub list_symmetry : List (CommandValue T) → Symmetry
   list_symmetry xs = symmetry_of (map command_symmetry xs)
 
-  -- how many swaps for symmetries a command costs at a table of m rows and n columns
-  abbrev pub step_price : CommandValue T → ℕ → ℕ → ℕ
-  step_price x m n = price (command_symmetry x) m n
-
   -- how many cells stay at an edit of so many lines of this width and change their place in the
   -- storage
   abbrev pub edit_shift : Order → ℕ → ℕ → Edit T → ℕ
@@ -53,7 +49,7 @@ module _ {T : Type 0} where
 
   -- what a command costs at a table, and how many cells it shifts there
   abbrev pub price_at : CommandValue T → List (List T) → ℕ
-  price_at x t = step_price x (row_count t) (col_count t)
+  price_at x t = price (command_symmetry x) (row_count t) (col_count t)
 
   abbrev pub shift_at : CommandValue T → Order → List (List T) → ℕ
   shift_at x o t = step_shift x o (row_count t) (col_count t)

@@ -22,6 +22,7 @@ use Rattle.std.specs.Prelude.{
   replicate,
 }
 use Rattle.grid_base.specs.Table.{row, row_count, col_count}
+use Rattle.grid.specs.Make.{IsOnlyDefault}
 
 module _ {T : Type 0} where
   -- a row, or a column, of so many cells fits a table: any fits the empty one
@@ -87,18 +88,25 @@ module _ {T : Type 0} where
   padding_count k [] = 0
   padding_count k (r ∷ t) = k
 
-  -- k rows of cells of which each is as P says are put before row i
-  pub record PadsRows (P : T → Type 0) (i k : ℕ) (old new : List (List T)) : Type 0 where
+  -- rows of cells of which each is as P says are put before row i: count of them, and none into the
+  -- empty table. Where P holds of d alone, at the end or at the beginning, they are rows of d
+  pub record PadsRows (P : T → Type 0) (i count : ℕ) (old new : List (List T)) : Type 0 where
     pub fresh : List (List T)
-    pub number : row_count fresh ≡ k
+    pub number : row_count fresh ≡ padding_count count old
     pub widths : (j : ℕ) → j < row_count fresh → length (row fresh j) ≡ col_count old
     pub each : All (All P) fresh
     pub put : new ≡ insert_rows i fresh old
+    pub at_end : i ≡ row_count old → (d : T) → IsOnlyDefault P d → new ≡ expanded_rows count d old
+    pub at_start : i ≡ 0 → (d : T) → IsOnlyDefault P d → new ≡ prepended_rows count d old
 
-  -- k columns of cells of which each is as P says are put before column i
-  pub record PadsCols (P : T → Type 0) (i k : ℕ) (old new : List (List T)) : Type 0 where
+  -- the same of columns before column i
+  pub record PadsCols (P : T → Type 0) (i count : ℕ) (old new : List (List T)) : Type 0 where
     pub fresh : List (List T)
-    pub number : row_count fresh ≡ k
+    pub number : row_count fresh ≡ padding_count count old
     pub heights : (j : ℕ) → j < row_count fresh → length (row fresh j) ≡ row_count old
     pub each : All (All P) fresh
     pub put : new ≡ insert_cols i fresh old
+    pub rows : row_count new ≡ row_count old
+    pub cols : col_count new ≡ col_count old + padding_count count old
+    pub at_end : i ≡ col_count old → (d : T) → IsOnlyDefault P d → new ≡ expanded_cols count d old
+    pub at_start : i ≡ 0 → (d : T) → IsOnlyDefault P d → new ≡ prepended_cols count d old

@@ -5,9 +5,11 @@ pub mod Slots
 pub mod Conversion
 pub mod Passes
 pub mod Step
+pub mod Stepped
 pub mod Cost
 pub mod Through
 pub mod Run
+pub mod Edited
 pub mod Edits
 pub mod RowGroups
 pub mod Shift

@@ -18,10 +18,11 @@ use Rattle.std.specs.Prelude.{
   IsOk,
   IsErrOf,
   IsSomeAnd,
+  All,
 }
 use Rattle.grid_base.specs.declared.order.Order.{Order}
 use Rattle.grid_base.specs.Table.{row_count, col_count, cell, InRange, tabulate}
-use Rattle.grid_base.specs.Order.{place}
+use Rattle.grid_base.specs.Order.{place, storage}
 use Rattle.grid_base.specs.GridValue.{GridValue}
 use Rattle.grid_commands.specs.declared.error.GridError.{GridError}
 use Rattle.grid_commands.specs.declared.error.GridError.TheVariants.{TooLarge}
@@ -55,6 +56,11 @@ EachCellIs d t = (r c : ℕ) → InRange t r c → cell t r c ≡ Some d
 abbrev pub IsOnlyDefault : {T : Type 0} → (T → Type 0) → T → Type 0
 IsOnlyDefault {T} is_default d = (x : T) → is_default x → x ≡ d
 
+-- each cell of a grid is a default; it is d where the type has one default, d
+pub record HoldsDefaults {T : Type 0} (is_default : T → Type 0) (g : GridValue T) : Type 0 where
+  pub each : All is_default (storage g.order g.rows)
+  pub one_default : (d : T) → IsOnlyDefault is_default d → EachCellIs d g.rows
+
 -- the closure f can be called at each position of m rows and n columns, where a vector can hold
 -- their cells
 abbrev pub CallableOver : {F : Type 0} → (F → ℕ × ℕ → Type 0) → F → ℕ → ℕ → Type 0
@@ -62,16 +68,13 @@ CallableOver takes f m n = (r c : ℕ) → r < m → c < n → m < 2 ^ 64 → n 
     → takes f (r, c)
 
 module _ {F T : Type 0} (returns : F → ℕ × ℕ → T → Type 0) (f : F) (m n : ℕ) where
-  -- where there are m rows and n columns, and h gives whatever f may return at each position, u is
-  -- the table of what h gives
-  abbrev pub TabulatedOver : List (List T) → Type 0
-  TabulatedOver u = (h : ℕ → ℕ → Option T)
-      → ((r c : ℕ) (y : T) → r < m → c < n → returns f (r, c) y → h r c ≡ Some y) → 0 < m → 0 < n
-      → u ≡ tabulate m n h
-
-  -- each cell of u, a table of m rows and n columns, is something that f may return at its position
-  abbrev pub AnsweredOver : List (List T) → Type 0
-  AnsweredOver u = (r c : ℕ) → r < m → c < n → IsSomeAnd (cell u r c) (λ y. returns f (r, c) y)
+  -- u is the table of what f returns at each position of m rows and n columns: where there are
+  -- cells, that of any h which gives whatever f may return; and each cell is something that it may
+  pub record MadeBy (u : List (List T)) : Type 0 where
+    pub tabulated : (h : ℕ → ℕ → Option T)
+        → ((r c : ℕ) (y : T) → r < m → c < n → returns f (r, c) y → h r c ≡ Some y) → 0 < m → 0 < n
+        → u ≡ tabulate m n h
+    pub answers : (r c : ℕ) → r < m → c < n → IsSomeAnd (cell u r c) (λ y. returns f (r, c) y)
 
 -- a call failed with e at some position, and answered at each position that is stored before it
 pub record FailsAt {B E : Type 0} (returns : ℕ × ℕ → Result B E → Type 0) (o : Order) (m n : ℕ)

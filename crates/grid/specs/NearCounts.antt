@@ -7,13 +7,6 @@ use Rattle.grid_base.specs.ClosureCalls.{CallableAtRefs}
 abbrev pub CallableNear : {F T : Type 0} → (F → Bor T → Type 0) → F → List ((ℕ × ℕ) × T) → Type 0
 CallableNear takes f near = CallableAtRefs takes f (map (λ n. n.1) near)
 
--- where p says of each cell what the closure f may answer at it, `count` of these cells pass p
-abbrev pub IsCountNear : {F T : Type 0} → (F → Bor T → Bool → Type 0) → F → List ((ℕ × ℕ) × T) → ℕ
-    → Type 0
-IsCountNear {T = T} returns f near count =
-    (p : (ℕ × ℕ) × T → Bool) → ((at : ℕ × ℕ) (x : Bor T) (b : Bool) → returns f x b
-    → p (at, x.now) ≡ b) → count ≡ count_by p near
-
 module _ {F T : Type 0} (returns : F → Bor T → Bool → Type 0) (f : F) where
   -- the closure f may answer b at the cell x
   abbrev pub MayAnswer : T → Bool → Type 0
@@ -24,3 +17,12 @@ module _ {F T : Type 0} (returns : F → Bor T → Bool → Type 0) (f : F) wher
   MayCount [] count = count ≡ 0
   MayCount (n ∷ near) count = (MayAnswer n.1 false × MayCount near count)
       ⊎ ((k : ℕ) × (count ≡ suc k) × MayAnswer n.1 true × MayCount near k)
+
+-- `count` is how many of these cells the closure f answers true at: where p says of each cell what
+-- f may answer, so many pass p; and an answer at each can be chosen so
+pub record CountsNear {F T : Type 0} (returns : F → Bor T → Bool → Type 0) (f : F)
+    (near : List ((ℕ × ℕ) × T)) (count : ℕ) : Type 0 where
+  pub tested : (p : (ℕ × ℕ) × T → Bool)
+      → ((at : ℕ × ℕ) (x : Bor T) (b : Bool) → returns f x b → p (at, x.now) ≡ b)
+      → count ≡ count_by p near
+  pub answers : MayCount returns f near count

@@ -10,21 +10,33 @@ use Rattle.std.specs.Prelude.{
   ◌∷◌,
   length,
   slice_get,
+  take,
+  map,
   All,
   IsSomeAnd,
   IsTrue,
+  Result,
+  IfOk,
+  IfErr,
+  Vec,
 }
 use Rattle.grid_base.specs.declared.order.Order.{Order}
 use Rattle.grid_base.specs.GridValue.{GridValue}
 use Rattle.grid_base.specs.Symmetry.{order_after}
 use Rattle.grid_base.specs.Tally.{Counts, saturating_count}
 use Rattle.grid_base.specs.Clones.{ClonesAreEqual}
+use Rattle.grid_commands.specs.declared.command.Reply.{Reply}
+use Rattle.grid_commands.specs.declared.command.RunStopped.{RunStopped}
 use Rattle.grid_commands.specs.Command.{CommandValue}
-use Rattle.grid_commands.specs.Reply.{ReplyValue}
+use Rattle.grid_commands.specs.Reply.{ReplyValue, reply_value}
 use Rattle.grid.specs.Step.{step_rows, step_reply, memory_at, RowsAreKnown}
 use Rattle.grid.specs.Cost.{command_symmetry, list_symmetry, price_at, shift_at}
 
 module _ {T : Type 0} where
+  -- what the rows after each of these commands rest on
+  abbrev pub AreKnown : (T → Type 0) → (T → T → Type 0) → T → List (CommandValue T) → Type 0
+  AreKnown is_default is_clone d commands = All (RowsAreKnown is_default is_clone d) commands
+
   -- the table after a list of commands, where d is the cells' default
   abbrev pub run_rows : T → List (CommandValue T) → List (List T) → List (List T)
   run_rows d [] t = t
@@ -63,9 +75,9 @@ module _ {T : Type 0} where
       (answers : List (ReplyValue T)) : Type 0 where
     pub count : length answers ≡ length commands
     pub order : new.order ≡ order_after (list_symmetry commands) old.order
-    pub left : (d : T) → All (RowsAreKnown is_default is_clone d) commands
+    pub left : (d : T) → AreKnown is_default is_clone d commands
         → LeftByRun d commands old new before after
-    pub replies : (d : T) → All (RowsAreKnown is_default is_clone d) commands
+    pub replies : (d : T) → AreKnown is_default is_clone d commands
         → ClonesAreEqual is_clone → answers ≡ run_replies d commands old.rows
 
   -- a run may stop for memory after so many commands, at this table: the next command takes memory,
@@ -75,3 +87,15 @@ module _ {T : Type 0} where
       ((finished ≡ 0) × (0 < length commands))
       ⊎ IsSomeAnd (slice_get commands finished)
       (λ x. IsTrue (memory_at x t))
+
+module _ {T A : Type 0} where
+  -- what a run of these commands makes of a grid and a tally, and what it returns: the replies, or,
+  -- where it stops, what the commands done replied; then it says the same of those
+  pub record RunGives (is_clone : T → T → Type 0) (is_default : T → Type 0)
+      (commands : List (CommandValue T)) (old new : GridValue T) (before after : Counts)
+      (result : Result (Vec (Reply T A) A) (RunStopped T A)) : Type 0 where
+    pub ran : IfOk result (λ replies. Ran is_clone is_default
+        commands old new before after (map reply_value replies.items))
+    pub stopped : IfErr result (λ stop. Ran is_clone is_default
+        (take stop.done commands) old new before after (map reply_value stop.replies.items))
+    pub stop : IfErr result (λ stop. MayStop commands stop.done new.rows)

@@ -23,3 +23,8 @@ module _ {T : Type 0} where
   -- each slot of m rows of n slots holds the cell of the table
   abbrev pub HoldCells : ℕ → ℕ → List (List (Option T)) → List (List T) → Type 0
   HoldCells m n slots t = (r c : ℕ) → r < m → c < n → cell slots r c ≡ option_map Some (cell t r c)
+
+  -- the cells of the table were taken out of m rows of n slots
+  pub record AreTaken (m n : ℕ) (old new : List (List (Option T))) (t : List (List T)) : Type 0 where
+    pub held : HoldCells m n old t
+    pub emptied : AreEmpty m n new

@@ -2,10 +2,11 @@
 ghost use Rattle.std.specs.Prelude.{◌≡◌, [], length, Ok, IsOk, IfOk, IfErr, OnOk, OnErr};
 ghost use Rattle.std.specs.Fn.{FnReturnsAt};
 ghost use Rattle.grid_base.specs.Table.{row_count, col_count};
+ghost use Rattle.grid_base.specs.GridValue.{SameSizeAndOrder};
 ghost use Rattle.grid_base.specs.Order.{storage};
 ghost use Rattle.grid_base.specs.ClosureCalls.{MapsTo, CallableAtEach, CallableAtRefs, CallableTimes, Generates, PairsUp};
 ghost use Rattle.grid_base.specs.Clones.{ClonesAreEqual};
-ghost use Rattle.grid.specs.AllCells.{filled, CallableAtPositions, TabulatedBy, AnsweredBy, ReachesThere, ReturnsThere};
+ghost use Rattle.grid.specs.AllCells.{filled, CallableAtPositions, MappedBy, ReachesThere, ReturnsThere};
 ghost use Rattle.grid.specs.Make.{FailsAt};
 
 use crate::Grid;
@@ -64,9 +65,7 @@ impl<T, A: Allocator> Grid<T, A> {
         T: Drop,
         requires { CallableTimes F.pre
             (λ p x q. F.step p x q) f (length (storage self.old.order self.old.rows)) }
-        ensures order { self.new.order ≡ self.old.order }
-        ensures rows { row_count self.new.rows ≡ row_count self.old.rows }
-        ensures cols { col_count self.new.rows ≡ col_count self.old.rows }
+        ensures same { SameSizeAndOrder self.old self.new }
         ensures cells { Generates (λ p x q. F.step p x q) f (storage self.new.order self.new.rows) }
     {
         self.flat.fill_with(f);
@@ -86,9 +85,7 @@ impl<T, A: Allocator> Grid<T, A> {
         A: Clone,
         requires { CallableAtEach F.pre
             (λ p x y q. F.step p x y q) f (storage self.order self.rows) }
-        ensures order { IfOk result (λ g. g.order ≡ self.order) }
-        ensures rows { IfOk result (λ g. row_count g.rows ≡ row_count self.rows) }
-        ensures cols { IfOk result (λ g. col_count g.rows ≡ col_count self.rows) }
+        ensures same { IfOk result (SameSizeAndOrder self) }
         ensures cells { IfOk result (λ g. MapsTo
             (λ p x y q. F.step p x y q) f (storage self.order self.rows) (storage g.order g.rows)) }
         ensures refused { IfErr result (λ g. g ≡ self) }
@@ -127,9 +124,7 @@ impl<T, A: Allocator> Grid<T, A> {
     where
         A: Clone,
         requires { CallableAtRefs F.pre f (storage self.now.order self.now.rows) }
-        ensures order { IfOk result (λ g. g.order ≡ self.now.order) }
-        ensures rows { IfOk result (λ g. row_count g.rows ≡ row_count self.now.rows) }
-        ensures cols { IfOk result (λ g. col_count g.rows ≡ col_count self.now.rows) }
+        ensures same { IfOk result (SameSizeAndOrder self.now) }
         ensures cells { IfOk result (λ g. PairsUp
             (FnReturnsAt F.Fn f) (storage self.now.order self.now.rows) (storage g.order g.rows)) }
     {
@@ -157,11 +152,8 @@ impl<T, A: Allocator> Grid<T, A> {
     where
         A: Clone,
         requires { CallableAtPositions F.pre f self.now.rows }
-        ensures order { IfOk result (λ g. g.order ≡ self.now.order) }
-        ensures rows { IfOk result (λ g. row_count g.rows ≡ row_count self.now.rows) }
-        ensures cols { IfOk result (λ g. col_count g.rows ≡ col_count self.now.rows) }
-        ensures cells { IfOk result (λ g. TabulatedBy F.post f self.now.rows g.rows) }
-        ensures answers { IfOk result (λ g. AnsweredBy F.post f self.now.rows g.rows) }
+        ensures same { IfOk result (SameSizeAndOrder self.now) }
+        ensures cells { IfOk result (λ g. MappedBy F.post f self.now.rows g.rows) }
     {
         let order = self.order;
         let flat = self
@@ -191,15 +183,9 @@ impl<T, A: Allocator> Grid<T, A> {
         A: Clone,
         U: Drop,
         requires { CallableAtPositions F.pre f self.now.rows }
-        ensures order { IfOk result (λ made. IfOk made (λ g. g.order ≡ self.now.order)) }
-        ensures rows { IfOk result (λ made. IfOk made
-            (λ g. row_count g.rows ≡ row_count self.now.rows)) }
-        ensures cols { IfOk result (λ made. IfOk made
-            (λ g. col_count g.rows ≡ col_count self.now.rows)) }
+        ensures same { IfOk result (λ made. IfOk made (SameSizeAndOrder self.now)) }
         ensures cells { IfOk result (λ made. IfOk made (λ g.
-            TabulatedBy (λ f at p y. F.post f at p (Ok y)) f self.now.rows g.rows)) }
-        ensures answers { IfOk result (λ made. IfOk made (λ g.
-            AnsweredBy (λ f at p y. F.post f at p (Ok y)) f self.now.rows g.rows)) }
+            MappedBy (λ f at p y. F.post f at p (Ok y)) f self.now.rows g.rows)) }
         ensures failed { IfOk result (λ made. IfErr made (FailsAt
             (ReturnsThere F.post f self.now.rows) self.now.order (row_count self.now.rows)
             (col_count self.now.rows))) }
@@ -233,11 +219,8 @@ impl<T, A: Allocator> Grid<T, A> {
     where
         T: Drop,
         requires { CallableAtPositions F.pre f self.old.rows }
-        ensures order { self.new.order ≡ self.old.order }
-        ensures rows { row_count self.new.rows ≡ row_count self.old.rows }
-        ensures cols { col_count self.new.rows ≡ col_count self.old.rows }
-        ensures cells { TabulatedBy F.post f self.old.rows self.new.rows }
-        ensures answers { AnsweredBy F.post f self.old.rows self.new.rows }
+        ensures same { SameSizeAndOrder self.old self.new }
+        ensures cells { MappedBy F.post f self.old.rows self.new.rows }
     {
         self.flat
             .update(self.order, self.row_count, self.col_count, f);

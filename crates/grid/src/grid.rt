@@ -4,7 +4,7 @@ ghost use Rattle.std.specs.Borrow.{sem};
 ghost use Rattle.std.specs.Option.{option_copied};
 ghost use Rattle.grid_base.specs.Table.{row_count, col_count, cell, with_cell, exchanged, InRange};
 ghost use Rattle.grid.specs.Edits.{FitsRow, FitsCol};
-ghost use Rattle.grid_base.specs.GridValue.{HoldsSize};
+ghost use Rattle.grid_base.specs.GridValue.{HoldsSize, SameSizeAndOrder};
 ghost use Rattle.grid_base.specs.Order.{storage, place, CanCut};
 
 mod make;
@@ -235,9 +235,7 @@ impl<T, A: Allocator> Grid<T, A> {
             (InRange self.old.rows row col → ⊥) (λ _. InRange self.old.rows row col) }
         ensures rows { MatchOption result (self.new.rows ≡ self.old.rows)
             (λ _. self.new.rows ≡ with_cell self.old.rows row col value) }
-        ensures row_count { row_count self.new.rows ≡ row_count self.old.rows }
-        ensures col_count { col_count self.new.rows ≡ col_count self.old.rows }
-        ensures order { self.new.order ≡ self.old.order }
+        ensures same { SameSizeAndOrder self.old self.new }
     {
         let (rows, cols) = self.size();
         if row < rows && col < cols {
@@ -257,9 +255,7 @@ impl<T, A: Allocator> Grid<T, A> {
         requires a_in { InRange self.old.rows a.0 a.1 }
         requires b_in { InRange self.old.rows b.0 b.1 }
         ensures rows { self.new.rows ≡ exchanged self.old.rows a b }
-        ensures row_count { row_count self.new.rows ≡ row_count self.old.rows }
-        ensures col_count { col_count self.new.rows ≡ col_count self.old.rows }
-        ensures order { self.new.order ≡ self.old.order }
+        ensures same { SameSizeAndOrder self.old self.new }
     {
         let i = self.order.place(self.row_count, self.col_count, a.0, a.1);
         let j = self.order.place(self.row_count, self.col_count, b.0, b.1);

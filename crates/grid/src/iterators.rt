@@ -1,15 +1,8 @@
 //! Iterators over the cells of a grid, over one row or column, and over the rows and the columns. No iterator takes
 //! memory, and each may be dropped early.
-ghost use Rattle.std.specs.Prelude.{◌≡◌, ◌^◌, ◌<◌, length, zip};
 ghost use Rattle.std.specs.Borrow.{sem};
-ghost use Rattle.std.specs.Iterator.Runs.{YieldsInOrder, YieldsInReverse, YieldsRefsInOrder, YieldsRefsInReverse, YieldsMutRefsInOrder, YieldsMutRefsInReverse};
-ghost use Rattle.std.specs.Slice.Iter.{iter_rest, iter_steps, iter_steps_back, iter_mut_rest, iter_mut_steps, iter_mut_steps_back};
-ghost use Rattle.std.specs.Vec.Iter.{into_iter_items, into_iter_steps, into_iter_steps_back};
-ghost use Rattle.grid_base.specs.Table.{row_count, col_count};
 ghost use Rattle.grid_base.specs.Order.{storage};
-ghost use Rattle.grid_base.specs.Positions.{positions};
-ghost use Rattle.grid_base.specs.IndexedIterMut.{indexed_mut_rest};
-ghost use Rattle.grid_base.specs.IndexedIterators.{GivesCells, GivesOwnedCells, GivesMutCells};
+ghost use Rattle.grid_base.specs.Iterators.{GivesRefs, GivesMutRefs, GivesOwned, GivesIndexed, GivesMutIndexed, GivesOwnedIndexed};
 
 mod lines;
 
@@ -26,9 +19,7 @@ impl<T, A: Allocator> Grid<T, A> {
     ///
     ///     [[1, 2], [3, 4]]   iter()   row-major 1, 2, 3, 4, column-major 1, 3, 2, 4
     pub fn iter(&self) -> slice::Iter<'_, T>
-        ensures rest { iter_rest result ≡ storage self.now.order self.now.rows }
-        ensures runs { YieldsRefsInOrder (iter_steps {A = T}) iter_rest }
-        ensures runs_back { YieldsRefsInReverse (iter_steps_back {A = T}) iter_rest }
+        ensures gives { GivesRefs (storage self.now.order self.now.rows) result }
     {
         self.flat.as_slice().iter()
     }
@@ -39,9 +30,7 @@ impl<T, A: Allocator> Grid<T, A> {
     pub fn iter_mut(&mut self) -> slice::IterMut<'_, T>
         ensures* writes_back { sem 𝓛 (lends_cells T.row A.row A.Allocator self.entry result) }
         ensures keeps { KeepsSize self.old }
-        ensures rest { iter_mut_rest result ≡ storage self.old.order self.old.rows }
-        ensures runs { YieldsMutRefsInOrder (iter_mut_steps {A = T}) iter_mut_rest }
-        ensures runs_back { YieldsMutRefsInReverse (iter_mut_steps_back {A = T}) iter_mut_rest }
+        ensures gives { GivesMutRefs (storage self.old.order self.old.rows) result }
     {
         self.flat.iter_mut()
     }
@@ -50,11 +39,7 @@ impl<T, A: Allocator> Grid<T, A> {
     ///
     ///     [[1, 2], [3, 4]]   indexed_iter()   row-major ((0, 0), 1), ((0, 1), 2), ((1, 0), 3), ((1, 1), 4)
     pub fn indexed_iter(&self) -> IndexedIter<'_, T>
-        ensures rest { result
-            ≡ zip (positions self.now.order (row_count self.now.rows) (col_count self.now.rows))
-            (storage self.now.order self.now.rows) }
-        ensures cells { GivesCells self.now.rows result }
-        ensures fits { length result < 2 ^ 64 }
+        ensures gives { GivesIndexed self.now.order self.now.rows result }
     {
         self.flat
             .indexed_iter(self.order, self.row_count, self.col_count)
@@ -67,11 +52,7 @@ impl<T, A: Allocator> Grid<T, A> {
     pub fn indexed_iter_mut(&mut self) -> IndexedIterMut<'_, T>
         ensures* writes_back { sem 𝓛 (lends_indexed T.row A.row A.Allocator self.entry result) }
         ensures keeps { KeepsSize self.old }
-        ensures rest { indexed_mut_rest result
-            ≡ zip (positions self.old.order (row_count self.old.rows) (col_count self.old.rows))
-            (storage self.old.order self.old.rows) }
-        ensures cells { GivesMutCells self.old.rows result }
-        ensures fits { length (indexed_mut_rest result) < 2 ^ 64 }
+        ensures gives { GivesMutIndexed self.old.order self.old.rows result }
     {
         let (order, rows, cols) = (self.order, self.row_count, self.col_count);
         self.flat.indexed_iter_mut(order, rows, cols)
@@ -81,11 +62,7 @@ impl<T, A: Allocator> Grid<T, A> {
     ///
     ///     [[1, 2], [3, 4]]   indexed_into_iter()   row-major ((0, 0), 1), ((0, 1), 2), ((1, 0), 3), ((1, 1), 4)
     pub fn indexed_into_iter(self) -> IndexedIntoIter<T, A>
-        ensures rest { result ≡ zip (positions self.order (row_count self.rows)
-            (col_count self.rows))
-            (storage self.order self.rows) }
-        ensures cells { GivesOwnedCells self.rows result }
-        ensures fits { length result < 2 ^ 64 }
+        ensures gives { GivesOwnedIndexed self.order self.rows result }
     {
         let Grid {
             flat,
@@ -105,9 +82,7 @@ impl<T: Drop, A: Allocator> IntoIterator for Grid<T, A> {
 
     type IntoIter = vec::IntoIter<T, A>;
 
-    ghost into_iter_gives = { λ grid it. (into_iter_items it ≡ storage grid.order grid.rows)
-        × YieldsInOrder (into_iter_steps {X = T} {Z = A}) into_iter_items
-        × YieldsInReverse (into_iter_steps_back {X = T} {Z = A}) into_iter_items };
+    ghost into_iter_gives = { λ grid it. GivesOwned (storage grid.order grid.rows) it };
 
     fn into_iter(self) -> vec::IntoIter<T, A> {
         self.into_vec().into_iter()
@@ -120,9 +95,7 @@ impl<'a, T, A: Allocator> IntoIterator for &'a Grid<T, A> {
 
     type IntoIter = slice::Iter<'a, T>;
 
-    ghost into_iter_gives = { λ grid it. (iter_rest it ≡ storage grid.now.order grid.now.rows)
-        × YieldsRefsInOrder (iter_steps {A = T}) iter_rest
-        × YieldsRefsInReverse (iter_steps_back {A = T}) iter_rest };
+    ghost into_iter_gives = { λ grid it. GivesRefs (storage grid.now.order grid.now.rows) it };
 
     fn into_iter(self) -> slice::Iter<'a, T> {
         self.iter()
@@ -137,16 +110,12 @@ impl<'a, T, A: Allocator> IntoIterator for &'a mut Grid<T, A> {
 
     type IntoIter = slice::IterMut<'a, T>;
 
-    ghost into_iter_gives = { λ grid it. (iter_mut_rest it ≡ storage grid.now.order grid.now.rows)
-        × YieldsMutRefsInOrder (iter_mut_steps {A = T}) iter_mut_rest
-        × YieldsMutRefsInReverse (iter_mut_steps_back {A = T}) iter_mut_rest };
+    ghost into_iter_gives = { λ grid it. GivesMutRefs (storage grid.now.order grid.now.rows) it };
 
     fn into_iter(self) -> slice::IterMut<'a, T>
         ensures* writes_back { sem 𝓛 (lends_cells T.row A.row A.Allocator self.entry result) }
         ensures keeps { KeepsSize self.old }
-        ensures into_iter_gives { (iter_mut_rest result ≡ storage self.old.order self.old.rows)
-            × YieldsMutRefsInOrder (iter_mut_steps {A = T}) iter_mut_rest
-            × YieldsMutRefsInReverse (iter_mut_steps_back {A = T}) iter_mut_rest }
+        ensures into_iter_gives { GivesMutRefs (storage self.old.order self.old.rows) result }
     {
         self.iter_mut()
     }

@@ -1,11 +1,12 @@
 //! Iterators over the cells round a cell, on the grid as it is or with its edges joined.
 ghost use Rattle.std.specs.Prelude.{◌≡◌, ◌≤◌, length, IfOk};
-ghost use Rattle.grid_base.specs.Table.{row_count, col_count, InRange};
-ghost use Rattle.grid.specs.AllCells.{TabulatedBy, AnsweredBy};
+ghost use Rattle.grid_base.specs.Table.{InRange};
+ghost use Rattle.grid_base.specs.GridValue.{SameSizeAndOrder};
+ghost use Rattle.grid.specs.AllCells.{MappedBy};
 ghost use Rattle.grid.specs.NearMaps.{CallableRound, ReturnsRound, ReachesRound};
 ghost use Rattle.grid_base.specs.IndexedIterators.{GivesCells};
-ghost use Rattle.grid.specs.NearCounts.{CallableNear, IsCountNear, MayCount};
-ghost use Rattle.grid_near.specs.Neighbors.{neighbors4, neighbors8, wrapped_neighbors4, wrapped_neighbors8, CellsInOrder, PositionsInOrder};
+ghost use Rattle.grid.specs.NearCounts.{CallableNear, CountsNear};
+ghost use Rattle.grid_near.specs.Neighbors.{neighbors4, neighbors8, wrapped_neighbors4, wrapped_neighbors8, GivesNear};
 
 use crate::Grid;
 use grid_near::{Neighbors, Steps, WrappedNeighbors};
@@ -21,11 +22,9 @@ impl<T, A: Allocator> Grid<T, A> {
     /// Cost: each step takes the same time, in either order; no memory.
     pub fn neighbors4(&self, at: (usize, usize)) -> Neighbors<'_, T>
         requires { InRange self.now.rows at.0 at.1 }
-        ensures rest { result ≡ neighbors4 self.now.rows at.0 at.1 }
+        ensures gives { GivesNear (neighbors4 self.now.rows at.0 at.1) result }
         ensures count { length result ≤ 4 }
         ensures cells { GivesCells self.now.rows result }
-        ensures runs { CellsInOrder T }
-        ensures positions { PositionsInOrder T }
     {
         let size = (self.row_count, self.col_count);
         grid_near::neighbors_of(self.flat.as_slice(), self.order, size, at, Steps::Sides)
@@ -40,11 +39,9 @@ impl<T, A: Allocator> Grid<T, A> {
     /// Cost: each step takes the same time, in either order; no memory.
     pub fn neighbors8(&self, at: (usize, usize)) -> Neighbors<'_, T>
         requires { InRange self.now.rows at.0 at.1 }
-        ensures rest { result ≡ neighbors8 self.now.rows at.0 at.1 }
+        ensures gives { GivesNear (neighbors8 self.now.rows at.0 at.1) result }
         ensures count { length result ≤ 8 }
         ensures cells { GivesCells self.now.rows result }
-        ensures runs { CellsInOrder T }
-        ensures positions { PositionsInOrder T }
     {
         let size = (self.row_count, self.col_count);
         grid_near::neighbors_of(self.flat.as_slice(), self.order, size, at, Steps::All)
@@ -59,11 +56,9 @@ impl<T, A: Allocator> Grid<T, A> {
     /// Cost: each step takes the same time, in either order; no memory.
     pub fn wrapped_neighbors4(&self, at: (usize, usize)) -> WrappedNeighbors<'_, T>
         requires { InRange self.now.rows at.0 at.1 }
-        ensures rest { result ≡ wrapped_neighbors4 self.now.rows at.0 at.1 }
+        ensures gives { GivesNear (wrapped_neighbors4 self.now.rows at.0 at.1) result }
         ensures count { length result ≡ 4 }
         ensures cells { GivesCells self.now.rows result }
-        ensures runs { CellsInOrder T }
-        ensures positions { PositionsInOrder T }
     {
         let size = (self.row_count, self.col_count);
         grid_near::wrapped_neighbors_of(self.flat.as_slice(), self.order, size, at, Steps::Sides)
@@ -79,11 +74,9 @@ impl<T, A: Allocator> Grid<T, A> {
     /// Cost: each step takes the same time, in either order; no memory.
     pub fn wrapped_neighbors8(&self, at: (usize, usize)) -> WrappedNeighbors<'_, T>
         requires { InRange self.now.rows at.0 at.1 }
-        ensures rest { result ≡ wrapped_neighbors8 self.now.rows at.0 at.1 }
+        ensures gives { GivesNear (wrapped_neighbors8 self.now.rows at.0 at.1) result }
         ensures count { length result ≡ 8 }
         ensures cells { GivesCells self.now.rows result }
-        ensures runs { CellsInOrder T }
-        ensures positions { PositionsInOrder T }
     {
         let size = (self.row_count, self.col_count);
         grid_near::wrapped_neighbors_of(self.flat.as_slice(), self.order, size, at, Steps::All)
@@ -97,12 +90,8 @@ impl<T, A: Allocator> Grid<T, A> {
     where
         A: Clone,
         requires { CallableRound neighbors4 F.pre f self.now.rows }
-        ensures order { IfOk result (λ g. g.order ≡ self.now.order) }
-        ensures rows { IfOk result (λ g. row_count g.rows ≡ row_count self.now.rows) }
-        ensures cols { IfOk result (λ g. col_count g.rows ≡ col_count self.now.rows) }
-        ensures cells { IfOk result (λ g. TabulatedBy
-            (ReturnsRound neighbors4 F.post self.now.rows) f self.now.rows g.rows) }
-        ensures answers { IfOk result (λ g. AnsweredBy
+        ensures same { IfOk result (SameSizeAndOrder self.now) }
+        ensures cells { IfOk result (λ g. MappedBy
             (ReturnsRound neighbors4 F.post self.now.rows) f self.now.rows g.rows) }
     {
         self.map_indexed(
@@ -128,12 +117,8 @@ impl<T, A: Allocator> Grid<T, A> {
     where
         A: Clone,
         requires { CallableRound neighbors8 F.pre f self.now.rows }
-        ensures order { IfOk result (λ g. g.order ≡ self.now.order) }
-        ensures rows { IfOk result (λ g. row_count g.rows ≡ row_count self.now.rows) }
-        ensures cols { IfOk result (λ g. col_count g.rows ≡ col_count self.now.rows) }
-        ensures cells { IfOk result (λ g. TabulatedBy
-            (ReturnsRound neighbors8 F.post self.now.rows) f self.now.rows g.rows) }
-        ensures answers { IfOk result (λ g. AnsweredBy
+        ensures same { IfOk result (SameSizeAndOrder self.now) }
+        ensures cells { IfOk result (λ g. MappedBy
             (ReturnsRound neighbors8 F.post self.now.rows) f self.now.rows g.rows) }
     {
         self.map_indexed(
@@ -152,12 +137,8 @@ impl<T, A: Allocator> Grid<T, A> {
     where
         A: Clone,
         requires { CallableRound wrapped_neighbors4 F.pre f self.now.rows }
-        ensures order { IfOk result (λ g. g.order ≡ self.now.order) }
-        ensures rows { IfOk result (λ g. row_count g.rows ≡ row_count self.now.rows) }
-        ensures cols { IfOk result (λ g. col_count g.rows ≡ col_count self.now.rows) }
-        ensures cells { IfOk result (λ g. TabulatedBy
-            (ReturnsRound wrapped_neighbors4 F.post self.now.rows) f self.now.rows g.rows) }
-        ensures answers { IfOk result (λ g. AnsweredBy
+        ensures same { IfOk result (SameSizeAndOrder self.now) }
+        ensures cells { IfOk result (λ g. MappedBy
             (ReturnsRound wrapped_neighbors4 F.post self.now.rows) f self.now.rows g.rows) }
     {
         self.map_indexed(
@@ -176,12 +157,8 @@ impl<T, A: Allocator> Grid<T, A> {
     where
         A: Clone,
         requires { CallableRound wrapped_neighbors8 F.pre f self.now.rows }
-        ensures order { IfOk result (λ g. g.order ≡ self.now.order) }
-        ensures rows { IfOk result (λ g. row_count g.rows ≡ row_count self.now.rows) }
-        ensures cols { IfOk result (λ g. col_count g.rows ≡ col_count self.now.rows) }
-        ensures cells { IfOk result (λ g. TabulatedBy
-            (ReturnsRound wrapped_neighbors8 F.post self.now.rows) f self.now.rows g.rows) }
-        ensures answers { IfOk result (λ g. AnsweredBy
+        ensures same { IfOk result (SameSizeAndOrder self.now) }
+        ensures cells { IfOk result (λ g. MappedBy
             (ReturnsRound wrapped_neighbors8 F.post self.now.rows) f self.now.rows g.rows) }
     {
         self.map_indexed(
@@ -200,8 +177,7 @@ impl<T, A: Allocator> Grid<T, A> {
     pub fn count_neighbors4<F: Fn(&T) -> bool>(&self, at: (usize, usize), test: F) -> usize
         requires in_range { InRange self.now.rows at.0 at.1 }
         requires callable { CallableNear F.pre test (neighbors4 self.now.rows at.0 at.1) }
-        ensures count { IsCountNear F.post test (neighbors4 self.now.rows at.0 at.1) result }
-        ensures answers { MayCount F.post test (neighbors4 self.now.rows at.0 at.1) result }
+        ensures count { CountsNear F.post test (neighbors4 self.now.rows at.0 at.1) result }
         ensures at_most { result ≤ 4 }
     {
         count_near(self.neighbors4(at), test)
@@ -217,8 +193,7 @@ impl<T, A: Allocator> Grid<T, A> {
     pub fn count_neighbors8<F: Fn(&T) -> bool>(&self, at: (usize, usize), test: F) -> usize
         requires in_range { InRange self.now.rows at.0 at.1 }
         requires callable { CallableNear F.pre test (neighbors8 self.now.rows at.0 at.1) }
-        ensures count { IsCountNear F.post test (neighbors8 self.now.rows at.0 at.1) result }
-        ensures answers { MayCount F.post test (neighbors8 self.now.rows at.0 at.1) result }
+        ensures count { CountsNear F.post test (neighbors8 self.now.rows at.0 at.1) result }
         ensures at_most { result ≤ 8 }
     {
         count_near(self.neighbors8(at), test)
@@ -234,8 +209,7 @@ impl<T, A: Allocator> Grid<T, A> {
     pub fn count_wrapped_neighbors4<F: Fn(&T) -> bool>(&self, at: (usize, usize), test: F) -> usize
         requires in_range { InRange self.now.rows at.0 at.1 }
         requires callable { CallableNear F.pre test (wrapped_neighbors4 self.now.rows at.0 at.1) }
-        ensures count { IsCountNear F.post test (wrapped_neighbors4 self.now.rows at.0 at.1) result }
-        ensures answers { MayCount F.post test (wrapped_neighbors4 self.now.rows at.0 at.1) result }
+        ensures count { CountsNear F.post test (wrapped_neighbors4 self.now.rows at.0 at.1) result }
         ensures at_most { result ≤ 4 }
     {
         count_wrapped(self.wrapped_neighbors4(at), test)
@@ -251,8 +225,7 @@ impl<T, A: Allocator> Grid<T, A> {
     pub fn count_wrapped_neighbors8<F: Fn(&T) -> bool>(&self, at: (usize, usize), test: F) -> usize
         requires in_range { InRange self.now.rows at.0 at.1 }
         requires callable { CallableNear F.pre test (wrapped_neighbors8 self.now.rows at.0 at.1) }
-        ensures count { IsCountNear F.post test (wrapped_neighbors8 self.now.rows at.0 at.1) result }
-        ensures answers { MayCount F.post test (wrapped_neighbors8 self.now.rows at.0 at.1) result }
+        ensures count { CountsNear F.post test (wrapped_neighbors8 self.now.rows at.0 at.1) result }
         ensures at_most { result ≤ 8 }
     {
         count_wrapped(self.wrapped_neighbors8(at), test)
@@ -263,8 +236,7 @@ impl<T, A: Allocator> Grid<T, A> {
 fn count_near<T, F: Fn(&T) -> bool>(near: Neighbors<'_, T>, test: F) -> usize
     requires most { length near ≤ 8 }
     requires callable { CallableNear F.pre test near }
-    ensures count { IsCountNear F.post test near.entry result }
-    ensures answers { MayCount F.post test near.entry result }
+    ensures count { CountsNear F.post test near.entry result }
     ensures at_most { result ≤ length near.entry }
 {
     let mut count = 0;
@@ -280,8 +252,7 @@ fn count_near<T, F: Fn(&T) -> bool>(near: Neighbors<'_, T>, test: F) -> usize
 fn count_wrapped<T, F: Fn(&T) -> bool>(near: WrappedNeighbors<'_, T>, test: F) -> usize
     requires most { length near ≤ 8 }
     requires callable { CallableNear F.pre test near }
-    ensures count { IsCountNear F.post test near.entry result }
-    ensures answers { MayCount F.post test near.entry result }
+    ensures count { CountsNear F.post test near.entry result }
     ensures at_most { result ≤ length near.entry }
 {
     let mut count = 0;

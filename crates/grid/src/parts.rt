@@ -3,6 +3,7 @@ ghost use Rattle.std.specs.Prelude.{◌≡◌, ◌<◌, ◌≤◌, ◌+◌, ◌*
 ghost use Rattle.std.specs.List.{swap};
 ghost use Rattle.grid_base.specs.Blocks.{BlocksSwapped};
 ghost use Rattle.grid_base.specs.Clones.{ClonesAreEqual};
+ghost use Rattle.grid_base.specs.GridValue.{SameSizeAndOrder};
 ghost use Rattle.grid_base.specs.Table.{row_count, col_count};
 ghost use Rattle.grid.specs.Make.{IsMade};
 ghost use Rattle.grid.specs.Parts.{sub_table, cols_swapped};
@@ -49,9 +50,7 @@ impl<T, A: Allocator> Grid<T, A> {
         requires a_in { a < row_count self.old.rows }
         requires b_in { b < row_count self.old.rows }
         ensures rows { self.new.rows ≡ swap self.old.rows a b }
-        ensures row_count { row_count self.new.rows ≡ row_count self.old.rows }
-        ensures col_count { col_count self.new.rows ≡ col_count self.old.rows }
-        ensures order { self.new.order ≡ self.old.order }
+        ensures same { SameSizeAndOrder self.old self.new }
     {
         match self.order {
             Order::RowMajor => swap_lines(&mut self.flat, self.col_count, a, b),
@@ -64,9 +63,7 @@ impl<T, A: Allocator> Grid<T, A> {
         requires a_in { a < row_count self.old.rows }
         requires b_in { b < row_count self.old.rows }
         ensures rows { self.new.rows ≡ swap self.old.rows a b }
-        ensures row_count { row_count self.new.rows ≡ row_count self.old.rows }
-        ensures col_count { col_count self.new.rows ≡ col_count self.old.rows }
-        ensures order { self.new.order ≡ self.old.order }
+        ensures same { SameSizeAndOrder self.old self.new }
     {
         for col in 0..self.cols() {
             self.swap((a, col), (b, col));
@@ -83,9 +80,7 @@ impl<T, A: Allocator> Grid<T, A> {
         requires a_in { a < col_count self.old.rows }
         requires b_in { b < col_count self.old.rows }
         ensures rows { self.new.rows ≡ cols_swapped a b self.old.rows }
-        ensures row_count { row_count self.new.rows ≡ row_count self.old.rows }
-        ensures col_count { col_count self.new.rows ≡ col_count self.old.rows }
-        ensures order { self.new.order ≡ self.old.order }
+        ensures same { SameSizeAndOrder self.old self.new }
     {
         self.transpose();
         self.swap_rows(a, b);

@@ -2,6 +2,7 @@
 ghost use Rattle.std.specs.Prelude.{◌≡◌, ◌+◌, ◌<◌, ◌≤◌, pos, OnOk, OnErr};
 ghost use Rattle.grid_base.specs.Clones.{ClonesAreEqual};
 ghost use Rattle.grid_base.specs.Table.{row_count, col_count, InRange};
+ghost use Rattle.grid_base.specs.GridValue.{SameSizeAndOrder};
 ghost use Rattle.grid.specs.Pasted.{overlaid, part_filled, IsClipped, IsWithin, CallableInPart, CallableInRow, PartUpdated, CellsUpdated};
 
 use crate::Grid;
@@ -40,9 +41,7 @@ impl<T, A: Allocator> Grid<T, A> {
         requires cols_in { at.1 + col_count view.now.rows ≤ col_count self.old.rows }
         ensures rows { OnOk result
             (self.new.rows ≡ overlaid (pos at.0, pos at.1) view.now.rows self.old.rows) }
-        ensures row_count { row_count self.new.rows ≡ row_count self.old.rows }
-        ensures col_count { col_count self.new.rows ≡ col_count self.old.rows }
-        ensures order { self.new.order ≡ self.old.order }
+        ensures same { SameSizeAndOrder self.old self.new }
         ensures err { OnErr result (self.new ≡ self.old) }
     {
         let alloc = self.flat.allocator().clone()?;
@@ -71,9 +70,7 @@ impl<T, A: Allocator> Grid<T, A> {
         requires { ClonesAreEqual T.is_clone }
         ensures rows { OnOk result
             (self.new.rows ≡ overlaid at view.now.rows self.old.rows) }
-        ensures row_count { row_count self.new.rows ≡ row_count self.old.rows }
-        ensures col_count { col_count self.new.rows ≡ col_count self.old.rows }
-        ensures order { self.new.order ≡ self.old.order }
+        ensures same { SameSizeAndOrder self.old self.new }
         ensures err { OnErr result (self.new ≡ self.old) }
     {
         let (rows, cols) = self.size();
@@ -105,9 +102,7 @@ impl<T, A: Allocator> Grid<T, A> {
         requires rows_in { at.0 + size.0 ≤ row_count self.old.rows }
         requires cols_in { at.1 + size.1 ≤ col_count self.old.rows }
         ensures rows { OnOk result (self.new.rows ≡ part_filled at size value self.old.rows) }
-        ensures row_count { row_count self.new.rows ≡ row_count self.old.rows }
-        ensures col_count { col_count self.new.rows ≡ col_count self.old.rows }
-        ensures order { self.new.order ≡ self.old.order }
+        ensures same { SameSizeAndOrder self.old self.new }
         ensures err { OnErr result (self.new ≡ self.old) }
     {
         let alloc = self.flat.allocator().clone()?;
@@ -138,9 +133,7 @@ impl<T, A: Allocator> Grid<T, A> {
         requires rows_in { at.0 + size.0 ≤ row_count self.old.rows }
         requires cols_in { at.1 + size.1 ≤ col_count self.old.rows }
         requires calls { CallableInPart f at size self.old.rows F.pre }
-        ensures row_count { row_count self.new.rows ≡ row_count self.old.rows }
-        ensures col_count { col_count self.new.rows ≡ col_count self.old.rows }
-        ensures order { self.new.order ≡ self.old.order }
+        ensures same { SameSizeAndOrder self.old self.new }
         ensures cells { PartUpdated f at size self.old.rows F.post self.new.rows }
     {
         let _size = self.size();

@@ -1,13 +1,12 @@
 //! The six moves of a grid, and the eight symmetries.
-ghost use Rattle.std.specs.Prelude.{◌≡◌, List, false, length};
+ghost use Rattle.std.specs.Prelude.{◌≡◌, false, length};
 ghost use Rattle.grid_base.specs.Table.{row_count, col_count};
 ghost use Rattle.grid_base.specs.Order.{flipped, storage, table_of};
-ghost use Rattle.grid_base.specs.GridValue.{HoldsSize};
-ghost use Rattle.grid_base.specs.Symmetry.{act, order_after, price, image_rows, image_cols};
-ghost use Rattle.grid_base.specs.Move.{word_image, IsNormalForm};
+ghost use Rattle.grid_base.specs.GridValue.{HoldsSize, SameSizeAndOrder};
+ghost use Rattle.grid_base.specs.Symmetry.{act, order_after, price, HasImageSize};
+ghost use Rattle.grid_base.specs.Move.{IsImageByWords};
 ghost use Rattle.grid_base.specs.Flags.{from_flags};
 ghost use Rattle.grid_base.specs.Tally.{saturating_count};
-ghost use Rattle.grid_base.specs.declared.words.Move.{Move};
 ghost use Rattle.grid_base.specs.declared.words.Symmetry.TheVariants.{FlipRows, FlipCols, RotateHalf, Transpose, RotateLeft, RotateRight};
 
 mod passes;
@@ -43,9 +42,7 @@ impl<T, A: Allocator> Grid<T, A> {
     /// Cost: `(rows / 2) * cols` swaps.
     pub fn flip_rows(&mut self)
         ensures rows { self.new.rows ≡ act FlipRows self.old.rows }
-        ensures row_count { row_count self.new.rows ≡ row_count self.old.rows }
-        ensures col_count { col_count self.new.rows ≡ col_count self.old.rows }
-        ensures order { self.new.order ≡ self.old.order }
+        ensures same { SameSizeAndOrder self.old self.new }
     {
         self.apply(Symmetry::FlipRows);
     }
@@ -57,9 +54,7 @@ impl<T, A: Allocator> Grid<T, A> {
     /// Cost: `rows * (cols / 2)` swaps.
     pub fn flip_cols(&mut self)
         ensures rows { self.new.rows ≡ act FlipCols self.old.rows }
-        ensures row_count { row_count self.new.rows ≡ row_count self.old.rows }
-        ensures col_count { col_count self.new.rows ≡ col_count self.old.rows }
-        ensures order { self.new.order ≡ self.old.order }
+        ensures same { SameSizeAndOrder self.old self.new }
     {
         self.apply(Symmetry::FlipCols);
     }
@@ -99,9 +94,7 @@ impl<T, A: Allocator> Grid<T, A> {
     /// Cost: `(rows * cols) / 2` swaps.
     pub fn rotate_half(&mut self)
         ensures rows { self.new.rows ≡ act RotateHalf self.old.rows }
-        ensures row_count { row_count self.new.rows ≡ row_count self.old.rows }
-        ensures col_count { col_count self.new.rows ≡ col_count self.old.rows }
-        ensures order { self.new.order ≡ self.old.order }
+        ensures same { SameSizeAndOrder self.old self.new }
     {
         self.apply(Symmetry::RotateHalf);
     }
@@ -114,12 +107,8 @@ impl<T, A: Allocator> Grid<T, A> {
     /// Cost: the swaps of its flips, at most half as many as there are cells, however long the word was.
     pub fn apply(&mut self, symmetry: Symmetry)
         ensures rows { self.new.rows ≡ act symmetry self.old.rows }
-        ensures words { (w : List Move)
-            → IsNormalForm w symmetry → self.new.rows ≡ word_image w self.old.rows }
-        ensures row_count { row_count self.new.rows
-            ≡ image_rows symmetry (row_count self.old.rows) (col_count self.old.rows) }
-        ensures col_count { col_count self.new.rows
-            ≡ image_cols symmetry (row_count self.old.rows) (col_count self.old.rows) }
+        ensures words { IsImageByWords symmetry self.old.rows self.new.rows }
+        ensures size { HasImageSize symmetry self.old.rows self.new.rows }
         ensures order { self.new.order ≡ order_after symmetry self.old.order }
     {
         let mut tally = Tally::new();
@@ -133,10 +122,7 @@ impl<T, A: Allocator> Grid<T, A> {
     /// Cost: the swaps of its flips, each counted once.
     pub fn apply_counted(&mut self, symmetry: Symmetry, tally: &mut Tally)
         ensures rows { self.new.rows ≡ act symmetry self.old.rows }
-        ensures row_count { row_count self.new.rows
-            ≡ image_rows symmetry (row_count self.old.rows) (col_count self.old.rows) }
-        ensures col_count { col_count self.new.rows
-            ≡ image_cols symmetry (row_count self.old.rows) (col_count self.old.rows) }
+        ensures size { HasImageSize symmetry self.old.rows self.new.rows }
         ensures order { self.new.order ≡ order_after symmetry self.old.order }
         ensures symmetry { tally.new.symmetry ≡ saturating_count tally.old.symmetry
             (price symmetry (row_count self.old.rows) (col_count self.old.rows)) }

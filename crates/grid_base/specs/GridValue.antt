@@ -1,13 +1,19 @@
 -- What a contract sees of a grid.
 use Rattle.std.specs.Prelude.{◌≡◌, ℕ, ◌*◌, ◌^◌, ◌<◌, List}
 use Rattle.grid_base.specs.declared.order.Order.{Order}
-use Rattle.grid_base.specs.Table.{IsSize, IsTable}
+use Rattle.grid_base.specs.Table.{IsSize, IsTable, row_count, col_count}
 
 -- a table of rows, the order in which it is stored, and that it is a table
 pub record GridValue (T : Type 0) : Type 0 where
   pub rows : List (List T)
   pub order : Order
   pub table : IsTable rows
+
+-- a grid of the size and the order of another
+pub record SameSizeAndOrder {T U : Type 0} (old : GridValue T) (new : GridValue U) : Type 0 where
+  pub rows : row_count new.rows ≡ row_count old.rows
+  pub cols : col_count new.rows ≡ col_count old.rows
+  pub order : new.order ≡ old.order
 
 -- so many cells fill m rows and n columns, and a vector can hold them
 pub record HoldsSize (m n len : ℕ) : Type 0 where

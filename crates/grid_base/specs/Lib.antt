@@ -25,3 +25,4 @@ pub mod Gather
 pub mod Clones
 pub mod Relaid
 pub mod IndexedIterators
+pub mod Iterators

@@ -31,6 +31,10 @@ word_image w t = act_all (map of_move w) t
 abbrev pub IsNormalForm : List Move → Symmetry → Type 0
 IsNormalForm w s = word_image w test_table ≡ act s test_table
 
+-- u is the image of t under every word of moves whose normal form is s
+abbrev pub IsImageByWords : {T : Type 0} → Symmetry → List (List T) → List (List T) → Type 0
+IsImageByWords s t u = (w : List Move) → IsNormalForm w s → u ≡ word_image w t
+
 -- two words give the same image of every table of integers
 pub record ActAlike (w v : List Move) : Type 0 where
   pub same : (t : List (List ℕ)) → IsTable t → word_image w t ≡ word_image v t

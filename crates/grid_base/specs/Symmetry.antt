@@ -73,6 +73,11 @@ image_rows s m n = if transposes s then n else m
 abbrev pub image_cols : Symmetry → ℕ → ℕ → ℕ
 image_cols s m n = if transposes s then m else n
 
+-- u has the size of the image of t
+pub record HasImageSize {T : Type 0} (s : Symmetry) (t u : List (List T)) : Type 0 where
+  pub rows : row_count u ≡ image_rows s (row_count t) (col_count t)
+  pub cols : col_count u ≡ image_cols s (row_count t) (col_count t)
+
 -- the image of a table
 unfoldable pub act : {T : Type 0} → Symmetry → List (List T) → List (List T)
 act s t =

@@ -7,7 +7,7 @@ use Rattle.grid_base.proofs.TableLemmas.{same_tables}
 use Rattle.grid_base.specs.GridValue.{GridValue}
 use Rattle.grid_base.specs.declared.order.Order.{Order}
 use Rattle.grid.specs.Make.{HasSize, IsMade}
-use Rattle.grid.specs.Slots.{HoldCells}
+use Rattle.grid.specs.Slots.{HoldCells, AreTaken}
 
 module _ {T : Type 0} where
   -- rows of slots that hold the cells of a table
@@ -40,9 +40,9 @@ module _ {T : Type 0} where
       let in_cols : c < n = omega (arith, table.even r lt, size.cols some) in
       same_cell (cell t r c) (cell u r c) (sym (held r c in_rows in_cols) ∙ (ap (λ xs. slice_get xs c) (row-slots u r) ∙ get-slots (row u r) c)))
 
-  pub if_written : {E : Type 0} (o : Order) (m n : ℕ) (u : List (List T)) (r : Result (GridValue T) E) → m * n ≢ 0 → IsTable u → row_count u ≡ m → col_count u ≡ n → IfOk r (IsMade o m n) → IfOk r (λ g. HoldCells m n (slots u) g.rows) → IfOk r (λ g. g.rows ≡ u)
-  if_written o m n u (Ok g) some whole rows cols made held = as_written m n g.rows u some made.size g.table held whole rows cols
-  if_written o m n u (Err e) some whole rows cols made held = tt
+  pub if_written : {E : Type 0} (o : Order) (m n : ℕ) (u : List (List T)) (left : List (List (Option T))) (r : Result (GridValue T) E) → m * n ≢ 0 → IsTable u → row_count u ≡ m → col_count u ≡ n → IfOk r (IsMade o m n) → IfOk r (λ g. AreTaken m n (slots u) left g.rows) → IfOk r (λ g. g.rows ≡ u)
+  if_written o m n u left (Ok g) some whole rows cols made taken = as_written m n g.rows u some made.size g.table taken.held whole rows cols
+  if_written o m n u left (Err e) some whole rows cols made taken = tt
 
   pub IsTable-two : (x y : List T) → length y ≡ length x → 0 < length x → IsTable (x ∷ y ∷ [])
   IsTable-two x y same some = record { nonempty = nonempty; even = even }

@@ -4,7 +4,6 @@ ghost use Rattle.std.specs.List.{insert};
 ghost use Rattle.grid_base.specs.Table.{row_count, col_count};
 ghost use Rattle.grid.specs.Edits.{FitsRow};
 ghost use Rattle.grid.specs.Make.{ExceedsMax};
-ghost use Rattle.grid_commands.specs.Errors.{stopped_text};
 ghost use Rattle.anyhow.specs.Error.{HasMessage};
 
 use grid::{Command, Grid, GridError, Tally, run};

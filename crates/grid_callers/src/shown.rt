@@ -1,6 +1,5 @@
 //! A caller of `grid_deferred`.
 ghost use Rattle.std.specs.Prelude.{◌≡◌};
-ghost use Rattle.std.specs.Option.{option_copied};
 ghost use Rattle.grid_base.specs.Table.{cell};
 ghost use Rattle.grid_base.specs.Symmetry.{act};
 

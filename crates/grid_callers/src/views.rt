@@ -1,9 +1,9 @@
 //! Views: what a caller's contract says by the rows that are seen, with no proof file.
-ghost use Rattle.std.specs.Prelude.{◌≡◌, ◌+◌, ◌/◌, ◌<◌, ◌≤◌, ◌==◌, ◌↔◌, ◌&&◌, ◌||◌, IsTrue, IfOk, IfSome, OnOk, OnErr, Some, Any, All, length, map, reverse, sum, count_by, pos};
-ghost use Rattle.grid_base.specs.Table.{row, row_count, col_count, transposed, concat_rows, cell, InRange};
+ghost use Rattle.std.specs.Prelude.{◌≡◌, ◌/◌, ◌<◌, ◌≤◌, ◌==◌, ◌↔◌, ◌&&◌, ◌||◌, IsTrue, IfOk, IfSome, OnOk, OnErr, Some, Any, length, map, reverse, sum, count_by};
+ghost use Rattle.grid_base.specs.Table.{row, row_count, col_count, transposed, concat_rows, cell};
 ghost use Rattle.grid_base.specs.Symmetry.{act};
 ghost use Rattle.grid_view.specs.View.{sub_table};
-ghost use Rattle.grid.specs.Pasted.{overlaid, part_filled};
+ghost use Rattle.grid.specs.Pasted.{overlaid};
 
 use grid::{Grid, GridView, Symmetry};
 use std::alloc::{AllocError, Global};

@@ -1,5 +1,21 @@
 -- What a deferred run of a list of commands leaves and costs.
-use Rattle.std.specs.Prelude.{◌≡◌, ℕ, ◌+◌, ◌*◌, ◌≤◌, List, [], ◌∷◌, length, All}
+use Rattle.std.specs.Prelude.{
+  ◌≡◌,
+  ℕ,
+  ◌+◌,
+  ◌*◌,
+  ◌≤◌,
+  List,
+  [],
+  ◌∷◌,
+  length,
+  map,
+  take,
+  Vec,
+  Result,
+  IfOk,
+  IfErr,
+}
 use Rattle.grid_base.specs.declared.words.Symmetry.{Symmetry}
 use Rattle.grid_base.specs.declared.words.Symmetry.TheVariants.{Identity}
 use Rattle.grid_base.specs.declared.order.Order.{Order}
@@ -8,11 +24,13 @@ use Rattle.grid_base.specs.Table.{row_count, col_count}
 use Rattle.grid_base.specs.Tally.{Counts, saturating_count}
 use Rattle.grid_base.specs.Clones.{ClonesAreEqual}
 use Rattle.grid_base.specs.Symmetry.{order_after, price, half, image_rows, image_cols}
+use Rattle.grid_commands.specs.declared.command.Reply.{Reply}
+use Rattle.grid_commands.specs.declared.command.RunStopped.{RunStopped}
 use Rattle.grid_commands.specs.Command.{Edit, delete_at, delete_range, expand, prepend, CommandValue, lines}
-use Rattle.grid_commands.specs.Reply.{ReplyValue}
-use Rattle.grid.specs.Step.{step_rows, RowsAreKnown}
+use Rattle.grid_commands.specs.Reply.{ReplyValue, reply_value}
+use Rattle.grid.specs.Step.{step_rows}
 use Rattle.grid.specs.Cost.{list_symmetry}
-use Rattle.grid.specs.Run.{run_rows, run_replies}
+use Rattle.grid.specs.Run.{run_rows, run_replies, AreKnown, MayStop}
 use Rattle.grid_deferred.specs.Carry.{shift_through}
 use Rattle.grid_deferred.specs.Deferred.{pending_after}
 
@@ -75,7 +93,19 @@ module _ {T : Type 0} where
     pub symmetry : after.symmetry ≡ saturating_count before.symmetry
         (settling_price (list_symmetry commands) new.rows)
     pub half : after.symmetry ≤ before.symmetry + half (row_count new.rows) (col_count new.rows)
-    pub left : (d : T) → All (RowsAreKnown is_default is_clone d) commands
+    pub left : (d : T) → AreKnown is_default is_clone d commands
         → LeftByDeferred d commands old new before.shift after.shift
-    pub replies : (d : T) → All (RowsAreKnown is_default is_clone d) commands
+    pub replies : (d : T) → AreKnown is_default is_clone d commands
         → ClonesAreEqual is_clone → answers ≡ run_replies d commands old.rows
+
+module _ {T A : Type 0} where
+  -- what a deferred run of these commands makes of a grid and a tally, and what it returns, as
+  -- `RunGives` has it
+  pub record DeferredRunGives (is_clone : T → T → Type 0) (is_default : T → Type 0)
+      (commands : List (CommandValue T)) (old new : GridValue T) (before after : Counts)
+      (result : Result (Vec (Reply T A) A) (RunStopped T A)) : Type 0 where
+    pub ran : IfOk result (λ replies. RanDeferred is_clone is_default
+        commands old new before after (map reply_value replies.items))
+    pub stopped : IfErr result (λ stop. RanDeferred is_clone is_default
+        (take stop.done commands) old new before after (map reply_value stop.replies.items))
+    pub stop : IfErr result (λ stop. MayStop commands stop.done new.rows)

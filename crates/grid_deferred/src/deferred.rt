@@ -12,7 +12,8 @@ ghost use Rattle.grid_commands.specs.declared.command.Axis.TheVariants.{Row, Col
 ghost use Rattle.grid_commands.specs.Command.{command_value, get, lines, read, apply, line_count};
 ghost use Rattle.grid_commands.specs.Reply.{reply_value};
 ghost use Rattle.grid_commands.specs.Refusal.{in_range};
-ghost use Rattle.grid.specs.Step.{step_rows, step_reply, memory_at, RowsAreKnown};
+ghost use Rattle.grid.specs.Step.{step_reply};
+ghost use Rattle.grid.specs.Stepped.{Stepped};
 ghost use Rattle.grid_deferred.specs.Carry.{shift_through_at, is_apply};
 ghost use Rattle.grid_deferred.specs.Deferred.{pending_after, along};
 
@@ -40,20 +41,14 @@ where
     requires rows { size.0 ≡ row_count base.old.rows }
     requires cols { size.1 ≡ col_count base.old.rows }
     requires still { is_apply (command_value command) ≡ false }
-    ensures rows { OnOk result ((d : T)
-        → RowsAreKnown T.is_default T.is_clone d (command_value command)
-        → act symmetry base.new.rows
-        ≡ step_rows d (command_value command) (act symmetry base.old.rows)) }
-    ensures reply { IfOk result (λ reply. ClonesAreEqual T.is_clone → reply_value reply
-        ≡ step_reply (command_value command) (act symmetry base.old.rows)) }
+    ensures stepped { Stepped T.is_default T.is_clone (command_value command)
+        (act symmetry base.old.rows) (act symmetry base.new.rows) result }
     ensures order { base.new.order ≡ base.old.order }
     ensures symmetry { tally.new.symmetry ≡ tally.old.symmetry }
     ensures shift { OnOk result (tally.new.shift ≡ saturating_count tally.old.shift
         (shift_through_at symmetry (command_value command) base.old.order base.old.rows)) }
     ensures err_shift { OnErr result (tally.new.shift ≡ tally.old.shift) }
     ensures err_base { OnErr result (base.new ≡ base.old) }
-    ensures err_memory { OnErr result
-        (IsTrue (memory_at (command_value command) (act symmetry base.old.rows))) }
 {
     let axis = command.axis();
     let carried = carried(symmetry, size.0, size.1, command);
@@ -243,13 +238,10 @@ impl<'a, T, A: Allocator> Deferred<'a, T, A> {
         T: Clone + Default + Drop,
         A: Clone,
         ensures same_reference { lender self.new ≡ lender self.old }
-        ensures rows { OnOk result ((d : T)
-            → RowsAreKnown T.is_default T.is_clone d (command_value command)
-            → shown self.new ≡ step_rows d (command_value command) (shown self.old)) }
+        ensures stepped { Stepped T.is_default T.is_clone
+            (command_value command) (shown self.old) (shown self.new) result }
         ensures applied { OnOk result ((s : Symmetry)
             → command_value command ≡ apply s → base self.new ≡ base self.old) }
-        ensures reply { IfOk result (λ reply. ClonesAreEqual T.is_clone
-            → reply_value reply ≡ step_reply (command_value command) (shown self.old)) }
         ensures pending { OnOk result
             (pending self.new ≡ pending_after (command_value command) (pending self.old)) }
         ensures order { (base self.new).order ≡ (base self.old).order }
@@ -258,12 +250,10 @@ impl<'a, T, A: Allocator> Deferred<'a, T, A> {
             (shift_through_at (pending self.old) (command_value command)
             (base self.old).order (base self.old).rows)) }
 
-        // An error comes at a command that takes memory, and changes nothing.
+        // An error changes nothing.
         ensures err_shift { OnErr result (tally.new.shift ≡ tally.old.shift) }
         ensures err_base { OnErr result (base self.new ≡ base self.old) }
         ensures err_pending { OnErr result (pending self.new ≡ pending self.old) }
-        ensures err_memory { OnErr result
-            (IsTrue (memory_at (command_value command) (shown self.old))) }
     {
         let size = self.base.size();
         match command {

@@ -1,11 +1,10 @@
 //! Laws of deferred runs as public calls: each makes the calls that its name says, and ensures what they leave.
-ghost use Rattle.std.specs.Prelude.{◌≡◌, All, IfOk, IfErr, OnOk, List, map, take};
+ghost use Rattle.std.specs.Prelude.{◌≡◌, IfOk, OnOk, List, map};
 ghost use Rattle.grid_base.specs.Clones.{ClonesAreEqual};
 ghost use Rattle.grid_commands.specs.Command.{CommandValue, command_value};
 ghost use Rattle.grid_commands.specs.Reply.{ReplyValue, reply_value};
-ghost use Rattle.grid.specs.Step.{RowsAreKnown};
-ghost use Rattle.grid.specs.Run.{Ran, MayStop};
-ghost use Rattle.grid_deferred.specs.Run.{RanDeferred};
+ghost use Rattle.grid.specs.Run.{Ran, RunGives, AreKnown};
+ghost use Rattle.grid_deferred.specs.Run.{RanDeferred, DeferredRunGives};
 ghost use Rattle.grid_base.specs.GridValue.{GridValue};
 ghost use Rattle.grid_base.specs.Tally.{Counts};
 
@@ -38,29 +37,17 @@ where
     A: Clone,
     requires rows { grid.old.rows ≡ other.old.rows }
     requires commands { map command_value commands.items ≡ map command_value same.items }
-    ensures ran { IfOk result.0 (λ replies. Ran T.is_clone T.is_default
-        (map command_value commands.items)
-        grid.old grid.new tally.old tally.new (map reply_value replies.items)) }
-    ensures stopped { IfErr result.0 (λ stop. Ran T.is_clone T.is_default
-        (take stop.done (map command_value commands.items))
-        grid.old grid.new tally.old tally.new (map reply_value stop.replies.items)) }
-    ensures stop { IfErr result.0
-        (λ stop. MayStop (map command_value commands.items) stop.done grid.new.rows) }
-    ensures deferred_ran { IfOk result.1 (λ replies. RanDeferred T.is_clone T.is_default
-        (map command_value same.items)
-        other.old other.new other_tally.old other_tally.new (map reply_value replies.items)) }
-    ensures deferred_stopped { IfErr result.1 (λ stop. RanDeferred T.is_clone T.is_default
-        (take stop.done (map command_value same.items))
-        other.old other.new other_tally.old other_tally.new (map reply_value stop.replies.items)) }
-    ensures deferred_stop { IfErr result.1
-        (λ stop. MayStop (map command_value same.items) stop.done other.new.rows) }
+    ensures gives { RunGives T.is_clone T.is_default
+        (map command_value commands.items) grid.old grid.new tally.old tally.new result.0 }
+    ensures deferred_gives { DeferredRunGives T.is_clone T.is_default
+        (map command_value same.items) other.old other.new other_tally.old other_tally.new result.1 }
     ensures same_rows { OnOk result.0 (OnOk result.1 ((d : T)
-        → All (RowsAreKnown T.is_default T.is_clone d) (map command_value commands.items)
+        → AreKnown T.is_default T.is_clone d (map command_value commands.items)
         → grid.new.rows ≡ other.new.rows)) }
     ensures same_order { OnOk result.0 (OnOk result.1
         (grid.old.order ≡ other.old.order → grid.new.order ≡ other.new.order)) }
     ensures same_replies { IfOk result.0 (λ replies. IfOk result.1 (λ others. (d : T)
-        → All (RowsAreKnown T.is_default T.is_clone d) (map command_value commands.items)
+        → AreKnown T.is_default T.is_clone d (map command_value commands.items)
         → ClonesAreEqual T.is_clone
         → map reply_value replies.items ≡ map reply_value others.items)) }
     ensures law { (d : T) (xs : List (CommandValue T)) (old other_old new other_new : GridValue T)
@@ -68,7 +55,7 @@ where
         → Ran T.is_clone T.is_default xs old new first last answers
         → RanDeferred T.is_clone T.is_default
         xs other_old other_new other_first other_last others
-        → old.rows ≡ other_old.rows → All (RowsAreKnown T.is_default T.is_clone d) xs
+        → old.rows ≡ other_old.rows → AreKnown T.is_default T.is_clone d xs
         → (new.rows ≡ other_new.rows) × (ClonesAreEqual T.is_clone → answers ≡ others) }
 {
     let at_once = run(allocs.0, grid, commands, tally);

@@ -2,7 +2,7 @@
 //!
 //! A clause `law`, `law_rows` or `law_line` states the law itself. It speaks of tables and says nothing of the calls;
 //! what those leave is in the other clauses.
-ghost use Rattle.std.specs.Prelude.{◌≡◌, ◌<◌, ◌≤◌, List, length, map, take, insert, All, remove, slice_get, Some, OnOk, OnErr, IfOk, IfErr, MatchOption};
+ghost use Rattle.std.specs.Prelude.{◌≡◌, ◌<◌, ◌≤◌, List, length, map, insert, remove, slice_get, Some, OnOk, OnErr, IfOk, IfErr, MatchOption};
 ghost use Rattle.grid_base.specs.GridValue.{GridValue};
 ghost use Rattle.grid_base.specs.Tally.{Counts};
 ghost use Rattle.grid_base.specs.Table.{row_count, col_count, IsTable};
@@ -14,8 +14,7 @@ ghost use Rattle.grid_base.specs.Clones.{ClonesAreEqual};
 ghost use Rattle.grid_commands.specs.Command.{CommandValue, command_value};
 ghost use Rattle.grid_commands.specs.Reply.{ReplyValue, reply_value};
 ghost use Rattle.grid.specs.Edits.{FitsRow, FitsCol, insert_col};
-ghost use Rattle.grid.specs.Step.{RowsAreKnown};
-ghost use Rattle.grid.specs.Run.{Ran, MayStop};
+ghost use Rattle.grid.specs.Run.{Ran, RunGives, AreKnown};
 
 use grid::{Command, Grid, LineRefused, Reply, RunStopped, run};
 use grid_base::{Symmetry, Tally, laws};
@@ -177,35 +176,22 @@ where
     requires same { other.old.rows ≡ grid.old.rows }
     requires same_commands { map command_value other_commands.items
         ≡ map command_value commands.items }
-    ensures ran { IfOk result.0 (λ replies. Ran T.is_clone T.is_default
-        (map command_value commands.items)
-        grid.old grid.new tally.old tally.new (map reply_value replies.items)) }
-    ensures stopped { IfErr result.0 (λ stop. Ran T.is_clone T.is_default
-        (take stop.done (map command_value commands.items))
-        grid.old grid.new tally.old tally.new (map reply_value stop.replies.items)) }
-    ensures stop { IfErr result.0
-        (λ stop. MayStop (map command_value commands.items) stop.done grid.new.rows) }
-    ensures other_ran { IfOk result.1 (λ replies. Ran T.is_clone T.is_default
-        (map command_value other_commands.items)
-        other.old other.new other_tally.old other_tally.new (map reply_value replies.items)) }
-    ensures other_stopped { IfErr result.1 (λ stop. Ran T.is_clone T.is_default
-        (take stop.done (map command_value other_commands.items))
-        other.old other.new other_tally.old other_tally.new
-        (map reply_value stop.replies.items)) }
-    ensures other_stop { IfErr result.1
-        (λ stop. MayStop (map command_value other_commands.items) stop.done other.new.rows) }
+    ensures gives { RunGives T.is_clone T.is_default
+        (map command_value commands.items) grid.old grid.new tally.old tally.new result.0 }
+    ensures other_gives { RunGives T.is_clone T.is_default
+        (map command_value other_commands.items) other.old other.new other_tally.old other_tally.new result.1 }
     ensures same_rows { OnOk result.0 (OnOk result.1 ((d : T)
-        → All (RowsAreKnown T.is_default T.is_clone d) (map command_value commands.items)
+        → AreKnown T.is_default T.is_clone d (map command_value commands.items)
         → other.new.rows ≡ grid.new.rows)) }
     ensures same_replies { IfOk result.0 (λ replies. IfOk result.1 (λ more. (d : T)
-        → All (RowsAreKnown T.is_default T.is_clone d) (map command_value commands.items)
+        → AreKnown T.is_default T.is_clone d (map command_value commands.items)
         → ClonesAreEqual T.is_clone
         → map reply_value more.items ≡ map reply_value replies.items)) }
     ensures law { (d : T) (xs : List (CommandValue T)) (old other_old new other_new : GridValue T)
         (first last other_first other_last : Counts) (answers others : List (ReplyValue T))
         → Ran T.is_clone T.is_default xs old new first last answers
         → Ran T.is_clone T.is_default xs other_old other_new other_first other_last others
-        → other_old.rows ≡ old.rows → All (RowsAreKnown T.is_default T.is_clone d) xs
+        → other_old.rows ≡ old.rows → AreKnown T.is_default T.is_clone d xs
         → (other_new.rows ≡ new.rows) × (ClonesAreEqual T.is_clone → others ≡ answers) }
 {
     let first = run(allocs.0, grid, commands, tally);

@@ -2,19 +2,17 @@
 //!
 //! Each law makes the call that its name says. Its clauses `symmetry`, `shift` and `least` say of that call that a
 //! count grew by the least number of swaps of two places. Those called `_law` say it of every table.
-ghost use Rattle.std.specs.Prelude.{◌≡◌, ◌≤◌, List, IfOk, IfErr, OnOk, OnErr, IsTrue, length, map, take};
+ghost use Rattle.std.specs.Prelude.{◌≡◌, ◌≤◌, List, IfOk, IfErr, OnOk, OnErr, length, map, take};
 ghost use Rattle.grid_base.specs.Table.{IsTable};
 ghost use Rattle.grid_base.specs.Order.{storage};
 ghost use Rattle.grid_base.specs.Symmetry.{act, order_after, IsInverse};
-ghost use Rattle.grid_base.specs.Clones.{ClonesAreEqual};
 ghost use Rattle.grid_base.specs.declared.order.Order.{Order};
 ghost use Rattle.grid_base.specs.declared.words.Symmetry.{Symmetry};
 ghost use Rattle.grid_commands.specs.Command.{command_value, apply};
-ghost use Rattle.grid_commands.specs.Reply.{reply_value};
 ghost use Rattle.grid.specs.Cost.{command_symmetry, list_symmetry, price_at, shift_at};
-ghost use Rattle.grid.specs.Step.{RowsAreKnown, step_rows, step_reply, memory_at};
-ghost use Rattle.grid.specs.Run.{MayStop};
-ghost use Rattle.grid_deferred.specs.Run.{RanDeferred};
+ghost use Rattle.grid.specs.Step.{RowsAreKnown, step_rows};
+ghost use Rattle.grid.specs.Stepped.{Stepped, StepCounted};
+ghost use Rattle.grid_deferred.specs.Run.{DeferredRunGives};
 ghost use Rattle.grid_laws.specs.Least.{HasDifferentCells, IsLeast, Shifts, filled_up, GrewByLeast};
 
 use grid::{Command, Grid, Reply, RunStopped};
@@ -47,15 +45,14 @@ pub fn step_by_least<T, A: Allocator>(
 where
     T: Clone + Default + Drop,
     A: Clone,
-    ensures rows { OnOk result ((d : T)
-        → RowsAreKnown T.is_default T.is_clone d (command_value command)
-        → grid.new.rows ≡ step_rows d (command_value command) grid.old.rows) }
+    ensures stepped { Stepped
+        T.is_default T.is_clone (command_value command) grid.old.rows grid.new.rows result }
     ensures applied { OnOk result ((s : Symmetry)
         → command_value command ≡ apply s → grid.new.rows ≡ act s grid.old.rows) }
-    ensures reply { IfOk result (λ reply. ClonesAreEqual T.is_clone
-        → reply_value reply ≡ step_reply (command_value command) grid.old.rows) }
     ensures order { OnOk result (grid.new.order
         ≡ order_after (command_symmetry (command_value command)) grid.old.order) }
+    ensures counted { StepCounted
+        (command_value command) grid.old tally.old tally.new result }
     ensures symmetry { OnOk result (HasDifferentCells grid.old.rows
         → GrewByLeast tally.old.symmetry tally.new.symmetry
         (storage grid.old.order grid.old.rows)
@@ -80,10 +77,7 @@ where
         → IsLeast (shift_at (command_value command) o t)
         (filled_up d (length (storage o (step_rows d (command_value command) t))) (storage o t))
         (storage o (step_rows d (command_value command) t)) }
-    ensures err_grid { OnErr result (grid.new ≡ grid.old) }
-    ensures err_symmetry { OnErr result (tally.new.symmetry ≡ tally.old.symmetry) }
-    ensures err_shift { OnErr result (tally.new.shift ≡ tally.old.shift) }
-    ensures err_memory { OnErr result (IsTrue (memory_at (command_value command) grid.old.rows)) }
+    ensures err { OnErr result (grid.new ≡ grid.old) }
 {
     grid.step(command, tally)
 }
@@ -106,14 +100,8 @@ pub fn run_deferred_by_least<T, A: Allocator>(
 where
     T: Clone + Default + Drop,
     A: Clone,
-    ensures ran { IfOk result (λ replies. RanDeferred T.is_clone T.is_default
-        (map command_value commands.items)
-        grid.old grid.new tally.old tally.new (map reply_value replies.items)) }
-    ensures stopped { IfErr result (λ stop. RanDeferred T.is_clone T.is_default
-        (take stop.done (map command_value commands.items))
-        grid.old grid.new tally.old tally.new (map reply_value stop.replies.items)) }
-    ensures stop { IfErr result
-        (λ stop. MayStop (map command_value commands.items) stop.done grid.new.rows) }
+    ensures gives { DeferredRunGives T.is_clone T.is_default
+        (map command_value commands.items) grid.old grid.new tally.old tally.new result }
     ensures least { IfOk result (λ _. (v : Symmetry)
         → IsInverse (list_symmetry (map command_value commands.items)) v
         → HasDifferentCells grid.new.rows

@@ -15,8 +15,16 @@ use Rattle.grid_near.specs.declared.steps.Steps.{Steps}
 use Rattle.grid_near.specs.declared.steps.Steps.TheVariants.{Sides, All}
 use Rattle.grid_near.specs.Neighbors.{step_count, both, cell_at, wrapped_neighbors4, wrapped_neighbors8, wrapped_neighbors_of, round_before, round_after}
 use Rattle.grid_near.specs.Around.{strided_cell, box, if_within, strides_of, IsRound}
-use Rattle.grid_near.specs.Wrapped.{around, around_of, wrapped_positions, wrapped_from}
+use Rattle.grid_near.specs.Wrapped.{around, wrapped_positions, wrapped_from}
 use Rattle.grid_near.proofs.AroundLemmas.{cell_some, box_row, box_col, within_row, within_col, box_place, box_within, whole_size, same_cells, mapped_there}
+
+-- the position of step k
+abbrev pub around_of : ℕ × ℕ → Steps → ℕ × ℕ → ℕ → ℕ × ℕ
+around_of size kind at k = (
+  around size.0 at.0 (box kind k / 3),
+  around size.1 at.1
+      (box kind k % 3),
+)
 
 pub wrapped_left : (size : ℕ × ℕ) (kind : Steps) (at : ℕ × ℕ) (k : ℕ) → k < step_count kind → drop k (wrapped_positions size kind at) ≡ (Some (around_of size kind at k).0, Some (around_of size kind at k).1) ∷ drop (k + 1) (wrapped_positions size kind at)
 wrapped_left size Sides at zero lt = refl

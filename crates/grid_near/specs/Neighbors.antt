@@ -109,3 +109,7 @@ CellsInOrder T = EveryRun (YieldsFirstBy placed (λ (rest : List ((ℕ × ℕ) �
 abbrev pub PositionsInOrder : Type 0 → Type 0
 PositionsInOrder T = EveryRun (YieldsFirstBy placed (λ (rest : List ((ℕ × ℕ) × T)). rest))
     (λ p. p.whole ≡ true → map (λ item. item.0) p.items ≡ map (λ n. n.0) p.from)
+
+-- an iterator round a cell gives these cells, each with its position
+abbrev pub GivesNear : {T : Type 0} → List ((ℕ × ℕ) × T) → List ((ℕ × ℕ) × T) → Type 0
+GivesNear {T} xs it = (it ≡ xs) × CellsInOrder T × PositionsInOrder T

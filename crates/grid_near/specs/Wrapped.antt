@@ -1,10 +1,9 @@
 -- How the iterators round a cell count their steps on a table whose edges meet.
-use Rattle.std.specs.Prelude.{ℕ, zero, suc, ◌/◌, ◌%◌, Option, Some, List, drop}
+use Rattle.std.specs.Prelude.{ℕ, zero, suc, Option, Some, List, drop}
 use Rattle.std.specs.List.{filter_map}
 use Rattle.grid_near.specs.declared.steps.Steps.{Steps}
 use Rattle.grid_near.specs.declared.steps.Steps.TheVariants.{Sides, All}
 use Rattle.grid_near.specs.Neighbors.{around8, around4, cell_at, round_before, round_after}
-use Rattle.grid_near.specs.Around.{box}
 
 -- the number before k, k, or the number after it, round n numbers
 abbrev pub around : ℕ → ℕ → ℕ → ℕ
@@ -20,14 +19,6 @@ wrapped_positions size Sides at = around4 (Some (round_before size.0 at.0)) (Som
 wrapped_positions size All at = around8 (Some (round_before size.0 at.0)) (Some at.0)
     (Some (round_after size.0 at.0)) (Some (round_before size.1 at.1)) (Some at.1)
     (Some (round_after size.1 at.1))
-
--- the position of step k
-abbrev pub around_of : ℕ × ℕ → Steps → ℕ × ℕ → ℕ → ℕ × ℕ
-around_of size kind at k = (
-  around size.0 at.0 (box kind k / 3),
-  around size.1 at.1
-      (box kind k % 3),
-)
 
 -- the cells from step k on
 abbrev pub wrapped_from : {T : Type 0} → (ℕ → ℕ → Option T) → ℕ × ℕ → Steps → ℕ × ℕ → ℕ

@@ -4,7 +4,7 @@ ghost use Rattle.std.specs.Iterator.{YieldsFirstBy, item_count, UpTo, at_most};
 ghost use Rattle.std.specs.Iterator.SizeHint.{IsWithinCount};
 ghost use Rattle.grid_base.specs.GridValue.{HoldsSize};
 ghost use Rattle.grid_base.specs.Order.{table_of};
-ghost use Rattle.grid_near.specs.Neighbors.{step_count, placed, neighbors_of, CellsInOrder, PositionsInOrder};
+ghost use Rattle.grid_near.specs.Neighbors.{step_count, placed, neighbors_of, GivesNear};
 ghost use Rattle.grid_near.specs.Around.{HoldsCells, FindsFirst, strided_cell};
 
 use crate::steps::{Steps, count_from, first_from, is_inner, offset, step_count, strides_of};
@@ -64,10 +64,9 @@ pub fn neighbors_of<T>(
     requires size { HoldsSize size.0 size.1 (length cells.now) }
     requires row_in { at.0 < size.0 }
     requires col_in { at.1 < size.1 }
-    ensures rest { result ≡ neighbors_of kind (table_of order size.0 size.1 cells.now) at.0 at.1 }
+    ensures gives { GivesNear
+        (neighbors_of kind (table_of order size.0 size.1 cells.now) at.0 at.1) result }
     ensures count { length result ≤ step_count kind }
-    ensures runs { CellsInOrder T }
-    ensures positions { PositionsInOrder T }
 {
     let strides = strides_of(order, size);
     let inner = is_inner(size, at);

@@ -4,7 +4,7 @@ ghost use Rattle.std.specs.Iterator.{YieldsFirstBy, item_count, UpTo, at_most};
 ghost use Rattle.std.specs.Iterator.SizeHint.{IsWithinCount};
 ghost use Rattle.grid_base.specs.GridValue.{HoldsSize};
 ghost use Rattle.grid_base.specs.Order.{table_of};
-ghost use Rattle.grid_near.specs.Neighbors.{step_count, placed, wrapped_neighbors_of, CellsInOrder, PositionsInOrder};
+ghost use Rattle.grid_near.specs.Neighbors.{step_count, placed, wrapped_neighbors_of, GivesNear};
 ghost use Rattle.grid_near.specs.Wrapped.{around};
 
 use crate::steps::{Steps, is_inner, offset, step_count, strides_of};
@@ -31,7 +31,7 @@ pub struct WrappedNeighbors<'a, T> {
 }
 
 impl<'a, T> Model for WrappedNeighbors<'a, T> {
-    ghost use Rattle.std.specs.Prelude.{◌≡◌, ◌≤◌, ℕ, List};
+    ghost use Rattle.std.specs.Prelude.{◌≡◌, ℕ, List};
     ghost use Rattle.grid_near.specs.Around.{strided_cell, IsRound};
     ghost use Rattle.grid_near.specs.Wrapped.{wrapped_from};
 
@@ -61,11 +61,9 @@ pub fn wrapped_neighbors_of<T>(
     requires size { HoldsSize size.0 size.1 (length cells.now) }
     requires row_in { at.0 < size.0 }
     requires col_in { at.1 < size.1 }
-    ensures rest { result
-        ≡ wrapped_neighbors_of kind (table_of order size.0 size.1 cells.now) at.0 at.1 }
+    ensures gives { GivesNear
+        (wrapped_neighbors_of kind (table_of order size.0 size.1 cells.now) at.0 at.1) result }
     ensures count { length result ≡ step_count kind }
-    ensures runs { CellsInOrder T }
-    ensures positions { PositionsInOrder T }
 {
     let strides = strides_of(order, size);
     let inner = is_inner(size, at);

@@ -10,8 +10,8 @@ use Rattle.std.proofs.lemmas.List.Sums.{sum_by-cons}
 use Rattle.std.proofs.lemmas.Option.{slice_get_within}
 use Rattle.grid_near.specs.declared.steps.Steps.{Steps}
 use Rattle.grid_paths.specs.Walks.{IsOpen, IsStep, HasLeastFrom}
-use Rattle.grid_paths.specs.Search.{IsMarked, IsAt, IsSearch, IsReached, Spread, WentRound, free, unreached}
-use Rattle.grid_paths.proofs.SearchLemmas.{IsSearch-round, HasLeastFrom-end}
+use Rattle.grid_paths.specs.Search.{IsMarked, IsAt, IsReached, Spread, WentRound, free, unreached}
+use Rattle.grid_paths.proofs.SearchLemmas.{IsSearch, IsSearch-round, HasLeastFrom-end}
 
 -- places of one list after another
 pub at_right : (g q : List (ℕ × ℕ)) (i : ℕ) (a : ℕ × ℕ) → IsAt q i a → IsAt (g ++ q) (length g + i) a

@@ -4,7 +4,22 @@ use Rattle.std.proofs.lemmas.Bool.{cases_lt}
 use Rattle.std.proofs.lemmas.Option.{slice_get_within}
 use Rattle.grid_near.specs.declared.steps.Steps.{Steps}
 use Rattle.grid_paths.specs.Walks.{IsOpen, IsStep, Walk, WalkFrom, IsLeastSteps, HasLeastSteps, IsLeastFrom, HasLeastFrom}
-use Rattle.grid_paths.specs.Search.{IsMarked, IsAt, IsSearch, Spread, WentRound, HasLeastUpTo, IsSettled}
+use Rattle.grid_paths.specs.Search.{IsMarked, IsAt, Spread, WentRound, HasLeastUpTo, IsSettled}
+
+-- the search has found these steps, and gone on from the positions of the queue before `next`
+pub record IsSearch (kind : Steps) (floor : List (List Bool)) (starts : List (ℕ × ℕ))
+    (steps : List (List (Option ℕ)))
+    (queue : List (ℕ × ℕ)) (next : ℕ) : Type 0 where
+  pub marked : (j : ℕ) (a : ℕ × ℕ) → IsAt queue j a → (n : ℕ) × IsMarked steps a n × (n ≤ j)
+  pub listed : (a : ℕ × ℕ) (n : ℕ) → IsMarked steps a n → (j : ℕ) × IsAt queue j a
+  pub sound : (a : ℕ × ℕ) (n : ℕ) → IsMarked steps a n → WalkFrom kind floor starts a n
+  pub ordered : (i j : ℕ) (a b : ℕ × ℕ) (m n : ℕ) → i ≤ j → IsAt queue i a → IsAt queue j b
+      → IsMarked steps a m → IsMarked steps b n → m ≤ n
+  pub close : (a : ℕ × ℕ) (m j : ℕ) (b : ℕ × ℕ) (n : ℕ) → next ≤ j → IsMarked steps a m
+      → IsAt queue j b → IsMarked steps b n → m ≤ n + 1
+  pub done : (j : ℕ) (a : ℕ × ℕ) (n : ℕ) (b : ℕ × ℕ) → j < next → IsAt queue j a
+      → IsMarked steps a n → IsStep kind a b → IsOpen floor b
+      → (m : ℕ) × IsMarked steps b m × (m ≤ n + 1)
 
 pub one_mark : (steps : List (List (Option ℕ))) (a : ℕ × ℕ) (m n : ℕ) → IsMarked steps a m → IsMarked steps a n → m ≡ n
 one_mark steps a m n h k = let e : ◌≡◌ {A = Option (Option ℕ)} (Some (Some m)) (Some (Some n)) = sym h ∙ k in cc

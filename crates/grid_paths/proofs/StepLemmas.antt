@@ -12,8 +12,8 @@ use Rattle.grid_base.proofs.WriteLemmas.{cell-with_same, cell-with_other}
 use Rattle.grid_near.specs.declared.steps.Steps.{Steps}
 use Rattle.grid_near.specs.declared.steps.Steps.TheVariants.{All}
 use Rattle.grid_paths.specs.Walks.{IsOpen, DifferByOne, AreBeside, AreDiagonal, IsStep, WalkFrom}
-use Rattle.grid_paths.specs.Search.{Reaches, IsMarked, IsAt, IsSearch, IsReached, Spread, WentRound, free, unreached}
-use Rattle.grid_paths.proofs.SearchLemmas.{one_mark, one_place, IsSearch-spread}
+use Rattle.grid_paths.specs.Search.{Reaches, IsMarked, IsAt, IsReached, Spread, WentRound, free, unreached}
+use Rattle.grid_paths.proofs.SearchLemmas.{IsSearch, one_mark, one_place, IsSearch-spread}
 
 pub same_pair : (a b : ℕ × ℕ) → a.0 ≡ b.0 → a.1 ≡ b.1 → a ≡ b
 same_pair a b p q = λ i. (p i, q i)

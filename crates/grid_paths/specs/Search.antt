@@ -3,7 +3,7 @@ use Rattle.std.specs.Prelude.{◌≡◌, ℕ, ◌+◌, ◌<◌, ◌≤◌, ◌�
 use Rattle.std.specs.List.{slice_get, sum_by}
 use Rattle.grid_base.specs.Table.{row_count, col_count, cell, with_cell, InRange}
 use Rattle.grid_near.specs.declared.steps.Steps.{Steps}
-use Rattle.grid_paths.specs.Walks.{IsOpen, IsStep, Walk, WalkFrom, IsLeastSteps}
+use Rattle.grid_paths.specs.Walks.{IsOpen, Walk, IsLeastSteps}
 
 -- two tables have one size
 pub record HaveOneSize {T U : Type 0} (t : List (List T)) (u : List (List U)) : Type 0 where
@@ -36,21 +36,6 @@ pub record IsLeft (floor : List (List Bool)) (steps : List (List (Option ℕ)))
   pub unreached_yet : (a : ℕ × ℕ) → IsOpen left a
       → IsOpen floor a × (cell steps a.0 a.1 ≡ Some None)
   pub all : (a : ℕ × ℕ) → IsOpen floor a → IsOpen left a ⊎ ((m : ℕ) × IsMarked steps a m)
-
--- the search has found these steps, and gone on from the positions of the queue before `next`
-pub record IsSearch (kind : Steps) (floor : List (List Bool)) (starts : List (ℕ × ℕ))
-    (steps : List (List (Option ℕ)))
-    (queue : List (ℕ × ℕ)) (next : ℕ) : Type 0 where
-  pub marked : (j : ℕ) (a : ℕ × ℕ) → IsAt queue j a → (n : ℕ) × IsMarked steps a n × (n ≤ j)
-  pub listed : (a : ℕ × ℕ) (n : ℕ) → IsMarked steps a n → (j : ℕ) × IsAt queue j a
-  pub sound : (a : ℕ × ℕ) (n : ℕ) → IsMarked steps a n → WalkFrom kind floor starts a n
-  pub ordered : (i j : ℕ) (a b : ℕ × ℕ) (m n : ℕ) → i ≤ j → IsAt queue i a → IsAt queue j b
-      → IsMarked steps a m → IsMarked steps b n → m ≤ n
-  pub close : (a : ℕ × ℕ) (m j : ℕ) (b : ℕ × ℕ) (n : ℕ) → next ≤ j → IsMarked steps a m
-      → IsAt queue j b → IsMarked steps b n → m ≤ n + 1
-  pub done : (j : ℕ) (a : ℕ × ℕ) (n : ℕ) (b : ℕ × ℕ) → j < next → IsAt queue j a
-      → IsMarked steps a n → IsStep kind a b → IsOpen floor b
-      → (m : ℕ) × IsMarked steps b m × (m ≤ n + 1)
 
 -- the numbers up to d are the least numbers of steps, and each position fewer steps away has one
 pub record HasLeastUpTo (kind : Steps) (floor : List (List Bool)) (from : ℕ × ℕ)

@@ -91,3 +91,9 @@ module _ {T : Type 0} (rows cols : Axis) (cells : List T) (h : HoldsView rows co
 
   pub cells_fit : length (line ++ (concat_rows all ++ last)) < 2 ^ 64
   cells_fit = omega (arith, length_cells cols.count line all last cells_start, cells_start.below)
+
+  -- they are the cells of the view
+  pub cells_all : line ++ (concat_rows all ++ last) ≡ concat_rows v.rows
+  cells_all =
+      ap (λ k. k ++ (concat_rows all ++ last)) none
+      ∙ (ap (λ k. concat_rows all ++ k) none_back ∙ (append-nil (concat_rows all) ∙ ap concat_rows same))

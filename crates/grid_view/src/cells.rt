@@ -1,12 +1,11 @@
 //! An iterator over all cells of a view, row by row.
-ghost use Rattle.std.specs.Prelude.{◌≡◌, ◌+◌, ◌*◌, ◌^◌, ◌<◌, ⊤, [], length, zip, IfSome, Some};
+ghost use Rattle.std.specs.Prelude.{◌≡◌, ◌+◌, ◌*◌, ◌^◌, ◌<◌, ⊤, length, IfSome, Some};
 ghost use Rattle.std.specs.Iterator.{YieldsFirstRef, YieldsLastRef, YieldsFirstBy, YieldsLastBy, item_count, UpTo, at_most};
 ghost use Rattle.std.specs.Iterator.SizeHint.{IsWithinCount};
-ghost use Rattle.grid_base.specs.Table.{row_count, col_count, concat_rows, IsSize};
-ghost use Rattle.grid_base.specs.Strides.{LinesInOrder, LinesInReverse};
+ghost use Rattle.grid_base.specs.Table.{concat_rows, IsSize};
 ghost use Rattle.grid_base.specs.declared.order.Order.TheVariants.{RowMajor};
-ghost use Rattle.grid_base.specs.Positions.{positions, StandsAt};
-ghost use Rattle.grid_base.specs.IndexedIterators.{GivesCells};
+ghost use Rattle.grid_base.specs.Positions.{StandsAt};
+ghost use Rattle.grid_base.specs.Iterators.{GivesLine, GivesIndexed};
 
 use crate::lines::{ViewLineIter, ViewRowIter, no_cells};
 use crate::view::GridView;
@@ -19,10 +18,7 @@ impl<'a, T> GridView<'a, T> {
     ///
     ///     [[1, 2], [3, 4]]   iter()   1, 2, 3, 4
     pub fn iter(&self) -> ViewIter<'a, T>
-        ensures rest { result ≡ concat_rows self.now.rows }
-        ensures runs { LinesInOrder T }
-        ensures runs_back { LinesInReverse T }
-        ensures fits { length result < 2 ^ 64 }
+        ensures gives { GivesLine (concat_rows self.now.rows) result }
     {
         ViewIter {
             line: no_cells(self.cells),
@@ -36,11 +32,7 @@ impl<'a, T> GridView<'a, T> {
     ///
     ///     [[1, 2], [3, 4]]   indexed_iter()   ((0, 0), 1), ((0, 1), 2), ((1, 0), 3), ((1, 1), 4)
     pub fn indexed_iter(&self) -> ViewIndexedIter<'a, T>
-        ensures rest { result
-            ≡ zip (positions RowMajor (row_count self.now.rows) (col_count self.now.rows))
-            (concat_rows self.now.rows) }
-        ensures cells { GivesCells self.now.rows result }
-        ensures fits { length result < 2 ^ 64 }
+        ensures gives { GivesIndexed RowMajor self.now.rows result }
     {
         let (rows, cols) = self.size();
         ViewIndexedIter {

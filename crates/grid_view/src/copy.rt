@@ -1,7 +1,7 @@
 //! Clones of the cells of a view.
 ghost use Rattle.std.specs.Prelude.{◌≡◌, ◌+◌, ◌*◌, ◌<◌, ◌≤◌, ◌++◌, length, IfOk, IfSome, OnOk, vec_len, vec_capacity};
 ghost use Rattle.grid_base.specs.Clones.{ClonesAreEqual};
-ghost use Rattle.grid_base.specs.Table.{row, row_count, col_count, concat_rows};
+ghost use Rattle.grid_base.specs.Table.{row, row_count, concat_rows};
 ghost use Rattle.grid_base.specs.Order.{storage};
 
 use crate::lines::ViewLineIter;

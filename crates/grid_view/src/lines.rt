@@ -1,12 +1,10 @@
 //! Iterators over a row or a column of a view, and over its rows and columns.
-ghost use Rattle.std.specs.Prelude.{◌≡◌, ◌+◌, ◌-◌, ◌*◌, ◌^◌, ◌<◌, ◌≤◌, ⊤, [], length, take, drop, slice_get, IfSome, Some};
+ghost use Rattle.std.specs.Prelude.{◌≡◌, ◌+◌, ◌-◌, ◌*◌, ◌<◌, ⊤, [], length, drop, slice_get, IfSome, Some};
 ghost use Rattle.std.specs.Option.{option_copied};
-ghost use Rattle.std.specs.Int.{div_ceil};
 ghost use Rattle.std.specs.Iterator.{YieldsFirstRef, YieldsLastRef, YieldsFirst, YieldsLast, item_count, UpTo, at_most};
 ghost use Rattle.std.specs.Iterator.SizeHint.{IsWithinCount};
 ghost use Rattle.grid_base.specs.Table.{row, row_count, col_count, transposed};
-ghost use Rattle.grid_base.specs.Strides.{every, LinesInOrder, LinesInReverse, EachLineInOrder, EachLineInReverse};
-ghost use Rattle.grid_view.specs.View.{counted, HoldsView};
+ghost use Rattle.grid_base.specs.Iterators.{GivesLine, GivesLines};
 ghost use Rattle.grid_view.specs.Lines.{directed, line_cells};
 
 use crate::axis::Axis;
@@ -50,10 +48,7 @@ impl<'a, T> GridView<'a, T> {
     /// Cost: each step takes the same time; no memory.
     pub fn iter_row(&self, r: usize) -> ViewLineIter<'a, T>
         requires { r < row_count self.now.rows }
-        ensures rest { result ≡ row self.now.rows r }
-        ensures runs { LinesInOrder T }
-        ensures runs_back { LinesInReverse T }
-        ensures fits { length result < 2 ^ 64 }
+        ensures gives { GivesLine (row self.now.rows r) result }
     {
         let start = self.rows.number(r) * self.rows.stride;
         line_of(self.cells, start, self.cols)
@@ -67,10 +62,7 @@ impl<'a, T> GridView<'a, T> {
     /// Cost: each step takes the same time; no memory.
     pub fn iter_col(&self, c: usize) -> ViewLineIter<'a, T>
         requires { c < col_count self.now.rows }
-        ensures rest { result ≡ row (transposed self.now.rows) c }
-        ensures runs { LinesInOrder T }
-        ensures runs_back { LinesInReverse T }
-        ensures fits { length result < 2 ^ 64 }
+        ensures gives { GivesLine (row (transposed self.now.rows) c) result }
     {
         self.transposed().iter_row(c)
     }
@@ -79,11 +71,7 @@ impl<'a, T> GridView<'a, T> {
     ///
     ///     [[1, 2], [3, 4]]   iter_rows()   1, 2; then 3, 4
     pub fn iter_rows(&self) -> ViewRowIter<'a, T>
-        ensures rest { result ≡ self.now.rows }
-        ensures runs { EachLineInOrder T }
-        ensures runs_back { EachLineInReverse T }
-        ensures along { LinesInOrder T }
-        ensures along_back { LinesInReverse T }
+        ensures gives { GivesLines self.now.rows result }
     {
         ViewRowIter {
             view: self.view(),
@@ -95,11 +83,7 @@ impl<'a, T> GridView<'a, T> {
     ///
     ///     [[1, 2], [3, 4]]   iter_cols()   1, 3; then 2, 4
     pub fn iter_cols(&self) -> ViewRowIter<'a, T>
-        ensures rest { result ≡ transposed self.now.rows }
-        ensures runs { EachLineInOrder T }
-        ensures runs_back { EachLineInReverse T }
-        ensures along { LinesInOrder T }
-        ensures along_back { LinesInReverse T }
+        ensures gives { GivesLines (transposed self.now.rows) result }
     {
         self.transposed().iter_rows()
     }

@@ -1,8 +1,7 @@
 //! Runs of commands.
-ghost use Rattle.std.specs.Prelude.{◌≤◌, IfOk, IfErr, map, take};
+ghost use Rattle.std.specs.Prelude.{◌≤◌, map};
 ghost use Rattle.grid_commands.specs.Command.{command_value};
-ghost use Rattle.grid_commands.specs.Reply.{reply_value};
-ghost use Rattle.grid.specs.Run.{Ran, MayStop};
+ghost use Rattle.grid.specs.Run.{RunGives};
 
 use crate::Grid;
 use grid_base::Tally;
@@ -28,14 +27,8 @@ pub fn run<T, A: Allocator>(
 where
     T: Clone + Default + Drop,
     A: Clone,
-    ensures ran { IfOk result (λ replies. Ran T.is_clone T.is_default
-        (map command_value commands.items)
-        grid.old grid.new tally.old tally.new (map reply_value replies.items)) }
-    ensures stopped { IfErr result (λ stop. Ran T.is_clone T.is_default
-        (take stop.done (map command_value commands.items))
-        grid.old grid.new tally.old tally.new (map reply_value stop.replies.items)) }
-    ensures stop { IfErr result
-        (λ stop. MayStop (map command_value commands.items) stop.done grid.new.rows) }
+    ensures gives { RunGives T.is_clone T.is_default
+        (map command_value commands.items) grid.old grid.new tally.old tally.new result }
     ensures symmetry_grows { tally.old.symmetry ≤ tally.new.symmetry }
     ensures shift_grows { tally.old.shift ≤ tally.new.shift }
 {

@@ -2,14 +2,14 @@
 ghost use Rattle.std.specs.Prelude.{◌≡◌, ◌+◌, ◌≤◌, OnOk, OnErr, IfOk, IsTrue, nat_lt};
 ghost use Rattle.grid_base.specs.Table.{row_count, col_count};
 ghost use Rattle.grid_base.specs.Symmetry.{act, order_after, half};
-ghost use Rattle.grid_base.specs.Tally.{saturating_count};
 ghost use Rattle.grid_base.specs.Clones.{ClonesAreEqual};
 ghost use Rattle.grid_base.specs.declared.words.Symmetry.{Symmetry};
-ghost use Rattle.grid_commands.specs.Command.{command_value, get, set_cell, swap_cells, lines, fill, apply};
+ghost use Rattle.grid_commands.specs.Command.{command_value, get, set_cell, swap_cells, fill, apply};
 ghost use Rattle.grid_commands.specs.Reply.{reply_value};
 ghost use Rattle.grid_commands.specs.Refusal.{in_range};
-ghost use Rattle.grid.specs.Step.{step_rows, step_reply, memory_at, RowsAreKnown};
-ghost use Rattle.grid.specs.Cost.{command_symmetry, price_at, shift_at};
+ghost use Rattle.grid.specs.Step.{step_rows, step_reply};
+ghost use Rattle.grid.specs.Stepped.{Stepped, StepCounted};
+ghost use Rattle.grid.specs.Cost.{command_symmetry};
 
 use super::lines::{edit_cols, edit_rows};
 use crate::Grid;
@@ -129,31 +129,19 @@ impl<T, A: Allocator> Grid<T, A> {
     where
         T: Clone + Default + Drop,
         A: Clone,
-        ensures rows { OnOk result ((d : T)
-            → RowsAreKnown T.is_default T.is_clone d (command_value command)
-            → self.new.rows ≡ step_rows d (command_value command) self.old.rows) }
+        ensures stepped { Stepped T.is_default T.is_clone
+            (command_value command) self.old.rows self.new.rows result }
         ensures applied { OnOk result ((s : Symmetry)
             → command_value command ≡ apply s → self.new.rows ≡ act s self.old.rows) }
-        ensures reply { IfOk result (λ reply. ClonesAreEqual T.is_clone
-            → reply_value reply ≡ step_reply (command_value command) self.old.rows) }
         ensures order { OnOk result (self.new.order
             ≡ order_after (command_symmetry (command_value command)) self.old.order) }
-        ensures symmetry { OnOk result (tally.new.symmetry ≡ saturating_count tally.old.symmetry
-            (price_at (command_value command) self.old.rows)) }
-        ensures shift { OnOk result (tally.new.shift
-            ≡ saturating_count tally.old.shift
-            (shift_at (command_value command) self.old.order self.old.rows)) }
+        ensures counted { StepCounted
+            (command_value command) self.old tally.old tally.new result }
 
         // No command costs more swaps for symmetries than half of the cells.
         ensures half { tally.new.symmetry
             ≤ tally.old.symmetry + half (row_count self.old.rows) (col_count self.old.rows) }
-
-        // An error comes at a command that takes memory, and changes nothing.
-        ensures err_grid { OnErr result (self.new ≡ self.old) }
-        ensures err_symmetry { OnErr result (tally.new.symmetry ≡ tally.old.symmetry) }
-        ensures err_shift { OnErr result (tally.new.shift ≡ tally.old.shift) }
-        ensures err_memory { OnErr result
-            (IsTrue (memory_at (command_value command) self.old.rows)) }
+        ensures err { OnErr result (self.new ≡ self.old) }
     {
         match request_of(command) {
             Request::Size => {

@@ -1,9 +1,9 @@
 //! Rows and columns that are deleted, one or several: the lines are dropped, and a command counts the moves.
-ghost use Rattle.std.specs.Prelude.{[], vec_capacity, ◌≡◌, ◌↔◌, ◌+◌, ◌-◌, ◌*◌, ◌^◌, ◌<◌, ◌≤◌, length, remove, slice_get, IsTrue, Some, OnOk, OnErr, IfOk, MatchOption, nat_lt, if◌then◌else◌};
-ghost use Rattle.grid_base.specs.Table.{row_count, col_count, transposed};
+ghost use Rattle.std.specs.Prelude.{◌≡◌, ◌↔◌, ◌+◌, ◌-◌, ◌*◌, ◌^◌, ◌<◌, ◌≤◌, length, remove, IsTrue, if◌then◌else◌};
+ghost use Rattle.grid_base.specs.Table.{row_count, col_count};
 ghost use Rattle.grid_base.specs.Tally.{saturating_count};
 ghost use Rattle.grid.specs.Edits.{without_rows, without_cols};
-ghost use Rattle.grid.specs.RowGroups.{RowsTaken, RowMovedToEnd, cols_if_rows};
+ghost use Rattle.grid.specs.RowGroups.{RowsTaken};
 ghost use Rattle.grid.specs.Shift.{rows_taken_shift, delete_rows_shift, delete_cols_shift};
 
 use super::{cols_if_rows, row_groups};

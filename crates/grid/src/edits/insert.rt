@@ -2,7 +2,6 @@
 ghost use Rattle.std.specs.Prelude.{◌≡◌, ◌+◌, ◌*◌, ◌^◌, ◌<◌, ◌≤◌, [], length, insert, All, OnOk};
 ghost use Rattle.grid_base.specs.Table.{row_count, col_count, IsTable};
 ghost use Rattle.grid_base.specs.Gather.{items_of_each};
-ghost use Rattle.grid_commands.specs.declared.error.GridError.TheVariants.{TooLarge};
 ghost use Rattle.grid.specs.Edits.{FitsRow, FitsCol, insert_col, insert_rows, insert_cols};
 ghost use Rattle.grid.specs.EditFails.{LineFails, LinesFail};
 ghost use Rattle.grid.specs.RowGroups.{RowsInserted};
@@ -60,8 +59,7 @@ impl<T, A: Allocator> Grid<T, A> {
         ensures rows { OnOk result
             (self.new.rows ≡ insert self.old.rows (row_count self.old.rows) line.items) }
         ensures order { self.new.order ≡ self.old.order }
-        ensures fails { LineFails (row_count self.old.rows + 1) (length line.items)
-            line.items self.old self.new result }
+        ensures fails { LineFails (row_count self.old.rows) line.items self.old self.new result }
     {
         let at = self.rows();
         self.insert_row(at, line)
@@ -84,8 +82,7 @@ impl<T, A: Allocator> Grid<T, A> {
         ensures row_count { OnOk result (row_count self.new.rows ≡ length line.items) }
         ensures col_count { OnOk result (col_count self.new.rows ≡ col_count self.old.rows + 1) }
         ensures order { self.new.order ≡ self.old.order }
-        ensures fails { LineFails (col_count self.old.rows + 1) (length line.items)
-            line.items self.old self.new result }
+        ensures fails { LineFails (col_count self.old.rows) line.items self.old self.new result }
     {
         let at = self.cols();
         self.insert_col(at, line)
@@ -106,8 +103,7 @@ impl<T, A: Allocator> Grid<T, A> {
         requires point { at ≤ row_count self.old.rows }
         ensures rows { OnOk result (self.new.rows ≡ insert self.old.rows at line.items) }
         ensures order { self.new.order ≡ self.old.order }
-        ensures fails { LineFails (row_count self.old.rows + 1) (length line.items)
-            line.items self.old self.new result }
+        ensures fails { LineFails (row_count self.old.rows) line.items self.old self.new result }
     {
         let mut line = line;
         let width = line.len();
@@ -149,8 +145,7 @@ impl<T, A: Allocator> Grid<T, A> {
         ensures row_count { OnOk result (row_count self.new.rows ≡ length line.items) }
         ensures col_count { OnOk result (col_count self.new.rows ≡ col_count self.old.rows + 1) }
         ensures order { self.new.order ≡ self.old.order }
-        ensures fails { LineFails (col_count self.old.rows + 1) (length line.items)
-            line.items self.old self.new result }
+        ensures fails { LineFails (col_count self.old.rows) line.items self.old self.new result }
     {
         self.transpose();
         let inserted = self.insert_row(at, line);
@@ -182,8 +177,7 @@ impl<T, A: Allocator> Grid<T, A> {
         ensures rows { OnOk result
             (self.new.rows ≡ insert_rows at (items_of_each lines.items) self.old.rows) }
         ensures order { self.new.order ≡ self.old.order }
-        ensures fails { LinesFail (row_count self.old.rows + length lines.items)
-            (col_count (items_of_each lines.items)) lines.items self.old self.new result }
+        ensures fails { LinesFail (row_count self.old.rows) lines.items self.old self.new result }
     {
         let mut lines = lines;
         let count = lines.len();
@@ -244,8 +238,7 @@ impl<T, A: Allocator> Grid<T, A> {
         ensures col_count { OnOk result
             (col_count self.new.rows ≡ col_count self.old.rows + length lines.items) }
         ensures order { self.new.order ≡ self.old.order }
-        ensures fails { LinesFail (col_count self.old.rows + length lines.items)
-            (col_count (items_of_each lines.items)) lines.items self.old self.new result }
+        ensures fails { LinesFail (col_count self.old.rows) lines.items self.old self.new result }
     {
         self.transpose();
         let inserted = self.insert_rows(at, lines);

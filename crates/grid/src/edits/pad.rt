@@ -2,9 +2,8 @@
 ghost use Rattle.std.specs.Prelude.{◌≡◌, ◌+◌, ◌*◌, ◌^◌, ◌<◌, ◌≤◌, length, OnOk, OnErr};
 ghost use Rattle.grid_base.specs.Table.{row_count, col_count};
 ghost use Rattle.grid_base.specs.Tally.{saturating_count};
-ghost use Rattle.grid.specs.Edits.{PadsRows, PadsCols, padding_count, expanded_rows, expanded_cols, prepended_rows, prepended_cols};
+ghost use Rattle.grid.specs.Edits.{PadsRows, PadsCols};
 ghost use Rattle.grid.specs.EditFails.{PaddingFails};
-ghost use Rattle.grid.specs.Make.{IsOnlyDefault};
 ghost use Rattle.grid.specs.RowGroups.{RowsOpened};
 ghost use Rattle.grid.specs.Shift.{rows_added_shift, cols_added_shift};
 
@@ -51,13 +50,11 @@ impl<T, A: Allocator> Grid<T, A> {
     where
         T: Default,
         A: Clone,
-        ensures padded { OnOk result (PadsRows T.is_default (row_count self.old.rows)
-            (padding_count count self.old.rows) self.old.rows self.new.rows) }
-        ensures one_default { OnOk result ((d : T)
-            → IsOnlyDefault T.is_default d → self.new.rows ≡ expanded_rows count d self.old.rows) }
+        ensures padded { OnOk result (PadsRows T.is_default (row_count self.old.rows) count
+            self.old.rows self.new.rows) }
         ensures order { self.new.order ≡ self.old.order }
-        ensures fails { PaddingFails (row_count self.old.rows + padding_count count self.old.rows)
-            (col_count self.old.rows) (padding_count count self.old.rows) self.old self.new result }
+        ensures fails { PaddingFails (row_count self.old.rows) (col_count self.old.rows) count
+            self.old self.new result }
     {
         let mut tally = Tally::new();
         let end = self.rows();
@@ -76,16 +73,11 @@ impl<T, A: Allocator> Grid<T, A> {
     where
         T: Default,
         A: Clone,
-        ensures padded { OnOk result (PadsCols T.is_default (col_count self.old.rows)
-            (padding_count count self.old.rows) self.old.rows self.new.rows) }
-        ensures one_default { OnOk result ((d : T)
-            → IsOnlyDefault T.is_default d → self.new.rows ≡ expanded_cols count d self.old.rows) }
-        ensures row_count { OnOk result (row_count self.new.rows ≡ row_count self.old.rows) }
-        ensures col_count { OnOk result (col_count self.new.rows
-            ≡ col_count self.old.rows + padding_count count self.old.rows) }
+        ensures padded { OnOk result (PadsCols T.is_default (col_count self.old.rows) count
+            self.old.rows self.new.rows) }
         ensures order { self.new.order ≡ self.old.order }
-        ensures fails { PaddingFails (col_count self.old.rows + padding_count count self.old.rows)
-            (row_count self.old.rows) (padding_count count self.old.rows) self.old self.new result }
+        ensures fails { PaddingFails (col_count self.old.rows) (row_count self.old.rows) count
+            self.old self.new result }
     {
         let mut tally = Tally::new();
         let end = self.cols();
@@ -102,13 +94,10 @@ impl<T, A: Allocator> Grid<T, A> {
     where
         T: Default,
         A: Clone,
-        ensures padded { OnOk result (PadsRows T.is_default 0
-            (padding_count count self.old.rows) self.old.rows self.new.rows) }
-        ensures one_default { OnOk result ((d : T)
-            → IsOnlyDefault T.is_default d → self.new.rows ≡ prepended_rows count d self.old.rows) }
+        ensures padded { OnOk result (PadsRows T.is_default 0 count self.old.rows self.new.rows) }
         ensures order { self.new.order ≡ self.old.order }
-        ensures fails { PaddingFails (row_count self.old.rows + padding_count count self.old.rows)
-            (col_count self.old.rows) (padding_count count self.old.rows) self.old self.new result }
+        ensures fails { PaddingFails (row_count self.old.rows) (col_count self.old.rows) count
+            self.old self.new result }
     {
         let mut tally = Tally::new();
         self.pad_rows_counted(0, count, &mut tally)
@@ -124,16 +113,10 @@ impl<T, A: Allocator> Grid<T, A> {
     where
         T: Default,
         A: Clone,
-        ensures padded { OnOk result (PadsCols T.is_default 0
-            (padding_count count self.old.rows) self.old.rows self.new.rows) }
-        ensures one_default { OnOk result ((d : T)
-            → IsOnlyDefault T.is_default d → self.new.rows ≡ prepended_cols count d self.old.rows) }
-        ensures row_count { OnOk result (row_count self.new.rows ≡ row_count self.old.rows) }
-        ensures col_count { OnOk result (col_count self.new.rows
-            ≡ col_count self.old.rows + padding_count count self.old.rows) }
+        ensures padded { OnOk result (PadsCols T.is_default 0 count self.old.rows self.new.rows) }
         ensures order { self.new.order ≡ self.old.order }
-        ensures fails { PaddingFails (col_count self.old.rows + padding_count count self.old.rows)
-            (row_count self.old.rows) (padding_count count self.old.rows) self.old self.new result }
+        ensures fails { PaddingFails (col_count self.old.rows) (row_count self.old.rows) count
+            self.old self.new result }
     {
         let mut tally = Tally::new();
         self.pad_cols_counted(0, count, &mut tally)
@@ -151,10 +134,9 @@ impl<T, A: Allocator> Grid<T, A> {
         T: Default,
         A: Clone,
         requires point { at ≤ row_count self.old.rows }
-        ensures padded { OnOk result (PadsRows T.is_default at
-            (padding_count count self.old.rows) self.old.rows self.new.rows) }
-        ensures fails { PaddingFails (row_count self.old.rows + padding_count count self.old.rows)
-            (col_count self.old.rows) (padding_count count self.old.rows) self.old self.new result }
+        ensures padded { OnOk result (PadsRows T.is_default at count self.old.rows self.new.rows) }
+        ensures fails { PaddingFails (row_count self.old.rows) (col_count self.old.rows) count
+            self.old self.new result }
         ensures order { self.new.order ≡ self.old.order }
         ensures shift { OnOk result
             (tally.new.shift ≡ saturating_count tally.old.shift (rows_added_shift self.old.order
@@ -187,13 +169,9 @@ impl<T, A: Allocator> Grid<T, A> {
         T: Default,
         A: Clone,
         requires point { at ≤ col_count self.old.rows }
-        ensures padded { OnOk result (PadsCols T.is_default at
-            (padding_count count self.old.rows) self.old.rows self.new.rows) }
-        ensures fails { PaddingFails (col_count self.old.rows + padding_count count self.old.rows)
-            (row_count self.old.rows) (padding_count count self.old.rows) self.old self.new result }
-        ensures row_count { OnOk result (row_count self.new.rows ≡ row_count self.old.rows) }
-        ensures col_count { OnOk result (col_count self.new.rows
-            ≡ col_count self.old.rows + padding_count count self.old.rows) }
+        ensures padded { OnOk result (PadsCols T.is_default at count self.old.rows self.new.rows) }
+        ensures fails { PaddingFails (col_count self.old.rows) (row_count self.old.rows) count
+            self.old self.new result }
         ensures order { self.new.order ≡ self.old.order }
         ensures shift { OnOk result
             (tally.new.shift ≡ saturating_count tally.old.shift (cols_added_shift self.old.order

@@ -1,10 +1,8 @@
 //! Rows and columns that are popped and removed: the call returns the line, and no tally counts its moves.
-ghost use Rattle.std.specs.Prelude.{[], vec_capacity, ◌≡◌, ◌↔◌, ◌+◌, ◌-◌, ◌*◌, ◌^◌, ◌<◌, ◌≤◌, length, remove, slice_get, IsTrue, Some, OnOk, OnErr, IfOk, MatchOption, nat_lt, if◌then◌else◌};
+ghost use Rattle.std.specs.Prelude.{[], vec_capacity, ◌≡◌, ◌+◌, ◌-◌, ◌*◌, ◌^◌, ◌<◌, ◌≤◌, length, remove, slice_get, Some, OnOk, OnErr, IfOk, MatchOption};
 ghost use Rattle.grid_base.specs.Table.{row_count, col_count, transposed};
-ghost use Rattle.grid_base.specs.Tally.{saturating_count};
-ghost use Rattle.grid.specs.Edits.{without_rows, without_cols};
-ghost use Rattle.grid.specs.RowGroups.{RowsTaken, RowMovedToEnd, cols_if_rows};
-ghost use Rattle.grid.specs.Shift.{rows_taken_shift, delete_rows_shift, delete_cols_shift};
+ghost use Rattle.grid.specs.Edits.{without_cols};
+ghost use Rattle.grid.specs.RowGroups.{RowMovedToEnd};
 
 use super::{cols_if_rows, row_groups};
 use crate::Grid;
@@ -123,8 +121,9 @@ impl<T, A: Allocator> Grid<T, A> {
             (λ line. slice_get (transposed self.old.rows) at ≡ Some line.items)) }
         ensures row_count { OnOk result
             (0 < col_count self.new.rows → row_count self.new.rows ≡ row_count self.old.rows) }
-        ensures col_count { OnOk result (col_count self.new.rows ≡ (if nat_lt at
-            (col_count self.old.rows) then col_count self.old.rows - 1 else col_count self.old.rows)) }
+        ensures col_count { IfOk result (λ taken. MatchOption taken
+            (col_count self.new.rows ≡ col_count self.old.rows)
+            (λ _. col_count self.new.rows ≡ col_count self.old.rows - 1)) }
         ensures order { self.new.order ≡ self.old.order }
         ensures err { OnErr result (self.new ≡ self.old) }
         ensures err_found { OnErr result (at < col_count self.old.rows) }

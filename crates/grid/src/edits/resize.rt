@@ -1,8 +1,8 @@
 //! Grids that are brought to another size.
 ghost use Rattle.std.specs.Prelude.{◌≡◌, ◌<◌, ◌≤◌, IsOk, OnOk, OnErr};
-ghost use Rattle.grid_base.specs.Table.{row_count, col_count, tabulate};
-ghost use Rattle.grid.specs.Make.{FailsBySize, IsOnlyDefault};
-ghost use Rattle.grid.specs.Resize.{IsCorner, IsResized, cell_or};
+ghost use Rattle.grid_base.specs.Table.{row_count, col_count};
+ghost use Rattle.grid.specs.Make.{FailsBySize};
+ghost use Rattle.grid.specs.Resize.{IsCorner, IsResized, ResizesTo};
 
 use super::has_room;
 use crate::exchange::exchange_part;
@@ -25,11 +25,7 @@ impl<T, A: Allocator> Grid<T, A> {
     where
         T: Default + Drop,
         A: Clone,
-        ensures resized { OnOk result (IsResized T.is_default rows cols self.old.rows self.new.rows) }
-        ensures one_default { OnOk result ((d : T) → IsOnlyDefault T.is_default d → 0 < cols
-            → self.new.rows ≡ tabulate rows cols (cell_or d self.old.rows)) }
-        ensures row_count { OnOk result (0 < cols → row_count self.new.rows ≡ rows) }
-        ensures col_count { OnOk result (0 < rows → col_count self.new.rows ≡ cols) }
+        ensures resized { OnOk result (ResizesTo T.is_default rows cols self.old.rows self.new.rows) }
         ensures order { self.new.order ≡ self.old.order }
         ensures fails { FailsBySize rows cols result }
         ensures shrinks { rows ≤ row_count self.old.rows → cols ≤ col_count self.old.rows

@@ -1,8 +1,7 @@
 //! Constructors of a grid by its size.
-ghost use Rattle.std.specs.Prelude.{◌≡◌, [], All, Ok, IfOk, IfErr};
-ghost use Rattle.grid_base.specs.Order.{storage};
+ghost use Rattle.std.specs.Prelude.{◌≡◌, [], Ok, IfOk, IfErr};
 ghost use Rattle.grid_base.specs.Clones.{ClonesAreEqual};
-ghost use Rattle.grid.specs.Make.{IsMade, FailsBySize, EachCellIs, IsOnlyDefault, CallableOver, TabulatedOver, AnsweredOver, FailsAt};
+ghost use Rattle.grid.specs.Make.{IsMade, FailsBySize, EachCellIs, HoldsDefaults, CallableOver, MadeBy, FailsAt};
 
 use crate::{Grid, GridError};
 use grid_base::{Flat, Order};
@@ -31,9 +30,7 @@ impl<T, A: Allocator> Grid<T, A> {
     where
         T: Default,
         ensures made { IfOk result (IsMade Order.RowMajor rows cols) }
-        ensures defaults { IfOk result (λ g. All T.is_default (storage g.order g.rows)) }
-        ensures one_default { IfOk result
-            (λ g. (d : T) → IsOnlyDefault T.is_default d → EachCellIs d g.rows) }
+        ensures defaults { IfOk result (HoldsDefaults T.is_default) }
         ensures fails { FailsBySize rows cols result }
     {
         Grid::new_with_order(alloc, rows, cols, Order::RowMajor)
@@ -49,9 +46,7 @@ impl<T, A: Allocator> Grid<T, A> {
     where
         T: Default,
         ensures made { IfOk result (IsMade order rows cols) }
-        ensures defaults { IfOk result (λ g. All T.is_default (storage g.order g.rows)) }
-        ensures one_default { IfOk result
-            (λ g. (d : T) → IsOnlyDefault T.is_default d → EachCellIs d g.rows) }
+        ensures defaults { IfOk result (HoldsDefaults T.is_default) }
         ensures fails { FailsBySize rows cols result }
     {
         if rows == 0 || cols == 0 {
@@ -130,8 +125,7 @@ impl<T, A: Allocator> Grid<T, A> {
     ) -> Result<Grid<T, A>, GridError>
         requires { CallableOver F.pre f rows cols }
         ensures made { IfOk result (IsMade Order.RowMajor rows cols) }
-        ensures cells { IfOk result (λ g. TabulatedOver F.post f rows cols g.rows) }
-        ensures answers { IfOk result (λ g. AnsweredOver F.post f rows cols g.rows) }
+        ensures cells { IfOk result (λ g. MadeBy F.post f rows cols g.rows) }
         ensures fails { FailsBySize rows cols result }
     {
         Grid::from_fn_with_order(alloc, rows, cols, Order::RowMajor, f)
@@ -147,8 +141,7 @@ impl<T, A: Allocator> Grid<T, A> {
     ) -> Result<Grid<T, A>, GridError>
         requires { CallableOver F.pre f rows cols }
         ensures made { IfOk result (IsMade order rows cols) }
-        ensures cells { IfOk result (λ g. TabulatedOver F.post f rows cols g.rows) }
-        ensures answers { IfOk result (λ g. AnsweredOver F.post f rows cols g.rows) }
+        ensures cells { IfOk result (λ g. MadeBy F.post f rows cols g.rows) }
         ensures fails { FailsBySize rows cols result }
     {
         if rows == 0 || cols == 0 {
@@ -185,9 +178,7 @@ impl<T, A: Allocator> Grid<T, A> {
         requires { CallableOver F.pre f rows cols }
         ensures made { IfOk result (λ made. IfOk made (IsMade Order.RowMajor rows cols)) }
         ensures cells { IfOk result (λ made. IfOk made
-            (λ g. TabulatedOver (λ f at y. F.post f at (Ok y)) f rows cols g.rows)) }
-        ensures answers { IfOk result (λ made. IfOk made
-            (λ g. AnsweredOver (λ f at y. F.post f at (Ok y)) f rows cols g.rows)) }
+            (λ g. MadeBy (λ f at y. F.post f at (Ok y)) f rows cols g.rows)) }
         ensures failed { IfOk result (λ made. IfErr made
             (FailsAt (F.post f) Order.RowMajor rows cols)) }
         ensures fails { FailsBySize rows cols result }
@@ -208,9 +199,7 @@ impl<T, A: Allocator> Grid<T, A> {
         requires { CallableOver F.pre f rows cols }
         ensures made { IfOk result (λ made. IfOk made (IsMade order rows cols)) }
         ensures cells { IfOk result (λ made. IfOk made
-            (λ g. TabulatedOver (λ f at y. F.post f at (Ok y)) f rows cols g.rows)) }
-        ensures answers { IfOk result (λ made. IfOk made
-            (λ g. AnsweredOver (λ f at y. F.post f at (Ok y)) f rows cols g.rows)) }
+            (λ g. MadeBy (λ f at y. F.post f at (Ok y)) f rows cols g.rows)) }
         ensures failed { IfOk result (λ made. IfErr made (FailsAt (F.post f) order rows cols)) }
         ensures fails { FailsBySize rows cols result }
     {

@@ -1,9 +1,9 @@
 //! Iterators over one row or column, and over the rows and the columns. The columns of a grid are the rows of the table
 //! that the same vector stores in the other order.
-ghost use Rattle.std.specs.Prelude.{◌≡◌, ◌^◌, ◌<◌, length};
+ghost use Rattle.std.specs.Prelude.{◌≡◌, ◌<◌};
 ghost use Rattle.std.specs.Borrow.{sem};
 ghost use Rattle.grid_base.specs.Table.{row, row_count, col_count, transposed};
-ghost use Rattle.grid_base.specs.Strides.{LinesInOrder, LinesInReverse, EachLineInOrder, EachLineInReverse};
+ghost use Rattle.grid_base.specs.Iterators.{GivesLine, GivesLines};
 ghost use Rattle.grid_base.specs.GridLineIterMut.{line_mut_rest};
 
 use crate::Grid;
@@ -24,10 +24,7 @@ impl<T, A: Allocator> Grid<T, A> {
     /// Cost: each step takes the same time, in either order.
     pub fn iter_row(&self, r: usize) -> GridLineIter<'_, T>
         requires { r < row_count self.now.rows }
-        ensures rest { result ≡ row self.now.rows r }
-        ensures runs { LinesInOrder T }
-        ensures runs_back { LinesInReverse T }
-        ensures fits { length result < 2 ^ 64 }
+        ensures gives { GivesLine (row self.now.rows r) result }
     {
         self.flat.row(self.order, self.row_count, self.col_count, r)
     }
@@ -40,10 +37,7 @@ impl<T, A: Allocator> Grid<T, A> {
     /// Cost: each step takes the same time, in either order.
     pub fn iter_col(&self, c: usize) -> GridLineIter<'_, T>
         requires { c < col_count self.now.rows }
-        ensures rest { result ≡ row (transposed self.now.rows) c }
-        ensures runs { LinesInOrder T }
-        ensures runs_back { LinesInReverse T }
-        ensures fits { length result < 2 ^ 64 }
+        ensures gives { GivesLine (row (transposed self.now.rows) c) result }
     {
         let order = self.order.flipped();
         self.flat.row(order, self.col_count, self.row_count, c)
@@ -85,12 +79,7 @@ impl<T, A: Allocator> Grid<T, A> {
     ///
     ///     [[1, 2], [3, 4]]   iter_rows()   1, 2; then 3, 4
     pub fn iter_rows(&self) -> GridRowIter<'_, T>
-        ensures rest { result ≡ self.now.rows }
-        ensures runs { EachLineInOrder T }
-        ensures runs_back { EachLineInReverse T }
-        ensures along { LinesInOrder T }
-        ensures along_back { LinesInReverse T }
-        ensures fits { length result < 2 ^ 64 }
+        ensures gives { GivesLines self.now.rows result }
     {
         self.flat.rows(self.order, self.row_count, self.col_count)
     }
@@ -99,12 +88,7 @@ impl<T, A: Allocator> Grid<T, A> {
     ///
     ///     [[1, 2], [3, 4]]   iter_cols()   1, 3; then 2, 4
     pub fn iter_cols(&self) -> GridColIter<'_, T>
-        ensures rest { result ≡ transposed self.now.rows }
-        ensures runs { EachLineInOrder T }
-        ensures runs_back { EachLineInReverse T }
-        ensures along { LinesInOrder T }
-        ensures along_back { LinesInReverse T }
-        ensures fits { length result < 2 ^ 64 }
+        ensures gives { GivesLines (transposed self.now.rows) result }
     {
         let order = self.order.flipped();
         self.flat.rows(order, self.col_count, self.row_count)

@@ -2,9 +2,7 @@
 ghost use Rattle.std.specs.Prelude.{◌≡◌, ◌-◌, ◌<◌, ◌≤◌, length, take, drop, slice_get, IfSome, Some};
 ghost use Rattle.std.specs.Borrow.{sem};
 ghost use Rattle.std.specs.Iterator.{item_count, UpTo, at_most};
-ghost use Rattle.std.specs.Iterator.Runs.{YieldsMutRefsInOrder, YieldsMutRefsInReverse};
 ghost use Rattle.std.specs.Iterator.SizeHint.{IsWithinCount};
-ghost use Rattle.std.specs.Slice.Iter.{iter_mut_rest, iter_mut_steps, iter_mut_steps_back};
 ghost use Rattle.grid_base.specs.Strides.{strided};
 ghost use Rattle.grid_base.specs.LineStep.{lends_step};
 

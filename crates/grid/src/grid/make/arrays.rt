@@ -1,8 +1,8 @@
 //! The constructor from an array of rows.
-ghost use Rattle.std.specs.Prelude.{◌≡◌, ◌≢◌, ◌<◌, Some, None, IsTrue, IfOk, OnOk, OnErr, slice_get, slice_set};
+ghost use Rattle.std.specs.Prelude.{◌≡◌, ◌≢◌, ◌<◌, Some, None, IsTrue, IfOk, OnErr, slice_get, slice_set};
 ghost use Rattle.grid_base.specs.Table.{cell, with_cell};
 ghost use Rattle.grid.specs.Make.{IsMade, FailsBySize};
-ghost use Rattle.grid.specs.Slots.{by_order, are_full, AreEmpty, HoldCells};
+ghost use Rattle.grid.specs.Slots.{by_order, are_full, AreTaken};
 
 use crate::{Grid, GridError};
 use grid_base::Order;
@@ -64,8 +64,7 @@ impl<T, A: Allocator> Grid<T, A> {
     ) -> Result<Grid<T, A>, GridError>
         requires { IsTrue (are_full cells.old) }
         ensures made { IfOk result (IsMade order R C) }
-        ensures cells { IfOk result (λ g. HoldCells R C cells.old g.rows) }
-        ensures emptied { OnOk result (AreEmpty R C cells.new) }
+        ensures cells { IfOk result (λ g. AreTaken R C cells.old cells.new g.rows) }
         ensures kept { OnErr result (cells.new ≡ cells.old) }
         ensures fails { FailsBySize R C result }
     {

@@ -1,5 +1,5 @@
 //! Cells that are reversed, and blocks that change places, by counted swaps.
-ghost use Rattle.std.specs.Prelude.{◌≡◌, ◌<◌, ◌≤◌, ◌+◌, ◌/◌, ◌*◌, ◌^◌, ◌++◌, length};
+ghost use Rattle.std.specs.Prelude.{◌≡◌, ◌<◌, ◌≤◌, ◌+◌, ◌/◌, ◌^◌, ◌++◌, length};
 ghost use Rattle.grid_base.specs.Blocks.{BlocksSwapped, PartReversed};
 ghost use Rattle.grid_base.specs.Tally.{saturating_count};
 

@@ -1,16 +1,20 @@
 //! Cells that come some places forward or back, by counted swaps.
-ghost use Rattle.std.specs.Prelude.{◌≡◌, ◌<◌, ◌≤◌, ◌+◌, ◌^◌, length};
+ghost use Rattle.std.specs.Prelude.{◌≡◌, ◌<◌, ◌≤◌, ◌+◌, ◌*◌, ◌^◌, length};
 ghost use Rattle.grid_base.specs.Blocks.{swapped_back, swapped_forward};
 
 use super::swaps::{Swaps, swap_for_shift};
 use crate::Flat;
 use std::alloc::Allocator;
+use std::mem;
 
 // Shorter blocks cost more to begin than vector code saves.
 const SHORT_BLOCK: usize = 8;
 
 // So many swaps at a distance of one or two are code without a loop.
 const SWAPS_AT_ONCE: usize = 32;
+
+// At shorter distances nothing is gained by three blocks at once.
+const LONG_SHIFT: usize = 16;
 
 // As many bytes as one vector of the processor holds.
 const VECTOR: usize = 16;
@@ -41,6 +45,7 @@ impl<T, A: Allocator> Flat<T, A> {
         match shift {
             1 => swap_forward_by::<1, T>(cells, start, n, swaps),
             2 => swap_forward_by::<2, T>(cells, start, n, swaps),
+            _ if shift < LONG_SHIFT => swap_forward_by_block(cells, start, shift, n, swaps),
             _ => swap_forward(cells, start, shift, n, swaps),
         }
     }
@@ -102,8 +107,63 @@ fn swap_forward_by<const SHIFT: usize, T>(
     swaps
 }
 
-#[tactic(auto, using(crate::proofs::ShiftLemmas::forward_start, crate::proofs::ShiftLemmas::forward_swap))]
+// Swaps three blocks of `shift` cells at once while there are as many, and the rest block by block. Only bytes gain: the
+// compiler can't tell for wider cells that their places differ. Out of line, so that short shifts stay as fast.
+#[inline(never)]
+#[tactic(auto, using(crate::proofs::ShiftLemmas::forward_start, crate::proofs::ShiftLemmas::forward_after))]
 fn swap_forward<T>(cells: &mut [T], start: usize, shift: usize, n: usize, mut swaps: Swaps) -> Swaps
+    requires within { start + n + shift ≤ length cells.old }
+    requires fits { start + n + shift < 2 ^ 64 }
+    requires moves { 0 < shift }
+    requires room { swaps.for_shift + n < 2 ^ 64 }
+    ensures cells { cells.new ≡ swapped_forward start shift n cells.old }
+    ensures symmetry { result.for_symmetry ≡ swaps.for_symmetry }
+    ensures shift { result.for_shift ≡ swaps.for_shift + n }
+{
+    let mut done = 0;
+    // as many as cells, where a cell is one byte
+    let bytes = shift * mem::size_of::<T>();
+    while bytes == shift && shift <= (n - done) / 3 {
+        swaps = swap_three_blocks(cells, start + done, shift, swaps);
+        done += 3 * shift;
+    }
+    swap_forward_by_block(cells, start + done, shift, n - done, swaps)
+}
+
+// As `swap_forward` with `3 * shift` swaps: three blocks of `shift` cells come before the one at `start`. Each place takes
+// three swaps, one after another, so that a cell of the middle blocks is read and written once. Each place is reckoned
+// from the one before it, so that the compiler sees that they differ.
+#[inline(never)]
+#[tactic(auto, using(crate::proofs::ShiftLemmas::three_none, crate::proofs::ShiftLemmas::three_all))]
+fn swap_three_blocks<T>(cells: &mut [T], start: usize, shift: usize, mut swaps: Swaps) -> Swaps
+    requires within { start + 4 * shift ≤ length cells.old }
+    requires fits { start + 4 * shift < 2 ^ 64 }
+    requires moves { 0 < shift }
+    requires room { swaps.for_shift + 3 * shift < 2 ^ 64 }
+    ensures cells { cells.new ≡ swapped_forward start shift (3 * shift) cells.old }
+    ensures symmetry { result.for_symmetry ≡ swaps.for_symmetry }
+    ensures shift { result.for_shift ≡ swaps.for_shift + 3 * shift }
+{
+    for k in 0..shift {
+        let first = start + k;
+        let second = first + shift;
+        let third = second + shift;
+        swap_for_shift(cells, first, second, &mut swaps);
+        swap_for_shift(cells, second, third, &mut swaps);
+        swap_for_shift(cells, third, third + shift, &mut swaps);
+    }
+    swaps
+}
+
+// As `swap_forward`, one block after another.
+#[tactic(auto, using(crate::proofs::ShiftLemmas::forward_start, crate::proofs::ShiftLemmas::forward_swap))]
+fn swap_forward_by_block<T>(
+    cells: &mut [T],
+    start: usize,
+    shift: usize,
+    n: usize,
+    mut swaps: Swaps,
+) -> Swaps
     requires within { start + n + shift ≤ length cells.old }
     requires fits { start + n + shift < 2 ^ 64 }
     requires moves { 0 < shift }

@@ -19,5 +19,5 @@ returns-clause-cells g c =
     let new = c.fill_with.new.self in
     let old = c.args.grid.now.rows in
     let number : length (storage new.order new.rows) ≡ row_count old * col_count old =
-    length-storage new.order new.rows new.table ∙ (ap (λ m. m * col_count new.rows) filled.rows ∙ ap (λ n. row_count old * n) filled.cols) in
+    length-storage new.order new.rows new.table ∙ (ap (λ m. m * col_count new.rows) filled.same.rows ∙ ap (λ n. row_count old * n) filled.same.cols) in
     numbers_from _ (λ f. f.0.now) (λ p y q s. search rules) (λ p y q s. search rules) _ _ filled.cells ∙ ap (range_with_len 1) number

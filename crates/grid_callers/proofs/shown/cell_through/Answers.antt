@@ -16,5 +16,5 @@ unfolding steps.step_rows act
 returns-clause-cell g c =
     let old = c.over-deferred.ensures in
     let start : shown c.over-deferred.result ≡ c.args.grid.now.rows = rw (old.base, old.pending) (act-identity c.args.grid.now.rows c.args.grid.now.table) in
-    let stepped = done c.step.result _ c.step.ensures.rows c.step.ensures.err_memory 0 tt in
+    let stepped = done c.step.result _ c.step.ensures.stepped.rows c.step.ensures.stepped.err_memory 0 tt in
     c.copied-found.ensures ∙ (c.get.ensures ∙ (ap (λ t. cell t c.args.row c.args.col) stepped ∙ ap (λ t. cell (act c.args.symmetry t) c.args.row c.args.col) start))

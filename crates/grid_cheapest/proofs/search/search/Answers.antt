@@ -11,7 +11,7 @@ pub start-requires-clause-no_number : goal.start-requires-clause-no_number
 start-requires-clause-no_number g c =
     let costs = c.args.costs.rows in
     no_number (row_count costs) (col_count costs) c.in_ok-sums.sums.rows
-    (c.in_ok-sums.ensures.cells (λ r k. Some None) (λ r k p y inside at h. search rules))
+    (c.in_ok-sums.ensures.cells.tabulated (λ r k. Some None) (λ r k p y inside at h. search rules))
 
 pub loop-next-init : goal.loop-next-init
 loop-next-init g c =
@@ -20,7 +20,7 @@ loop-next-init g c =
     let stored = ap length c.flatten.ensures in
     let flat = c.flatten.result.now in
     record {
-      order = c.in_ok-start.ensures.order ∙ c.in_ok-sums.ensures.order;
+      order = c.in_ok-start.ensures.order ∙ c.in_ok-sums.ensures.same.order;
       size = record { rows = c.in_ok-start.ensures.rows; cols = c.in_ok-start.ensures.cols };
       left = record { rows = refl; cols = refl };
       cells = omega (arith, flat.ok.0);

@@ -14,8 +14,8 @@ relax_around-requires-clause-at g c =
     let i = left_inside left c.args.left.now.table (c.args.row, c.args.col) v.0 v.1 in
     let lr = i.0 in
     let lc = i.1 in
-    let rows = c.set.ensures.row_count in
-    let cols = c.set.ensures.col_count in
+    let rows = c.set.ensures.same.rows in
+    let cols = c.set.ensures.same.cols in
     let lr1 : c.args.row < row_count c.set.new.self.rows = omega arith in
     let lc1 : c.args.col < col_count c.set.new.self.rows = omega arith in
     (lr1, lc1)

@@ -9,12 +9,12 @@ use Rattle.grid_laws.proofs.least.step_by_least.Goals as goal
 pub returns-clause-symmetry : goal.returns-clause-symmetry
 returns-clause-symmetry g c =
     on_ok3 c.step.result (λ r o s u. grew_by_price _ _ _ _ _ _ _ c.args.grid.now.table u refl o s)
-    c.step.ensures.rows c.step.ensures.order c.step.ensures.symmetry
+    c.step.ensures.stepped.rows c.step.ensures.order c.step.ensures.counted.symmetry
 
 pub returns-clause-shift : goal.returns-clause-shift
 returns-clause-shift g c =
     on_ok3 c.step.result (λ r o s d known u shifts. grew_by_shift d _ _ _ _ _ _ _ c.args.grid.now.table u shifts (r d known) o s)
-    c.step.ensures.rows c.step.ensures.order c.step.ensures.shift
+    c.step.ensures.stepped.rows c.step.ensures.order c.step.ensures.counted.shift
 
 pub returns-clause-price_law : goal.returns-clause-price_law
 returns-clause-price_law g c = λ t o h u. price_is_least o t h u (command_symmetry (command_value c.args.command))

@@ -13,7 +13,7 @@ loop-row-preserved g c =
     let now = c.loop-row.grid.rows in
     let x = c.iter_row.result in
     let lt : c.loop-row.row < length now = omega (arith, i.count) in
-    let is : x ≡ get_or now c.loop-row.row x = c.iter_row.ensures.rest ∙ get_or_default now c.loop-row.row [] x lt in
+    let is : x ≡ get_or now c.loop-row.row x = c.iter_row.ensures.gives.0 ∙ get_or_default now c.loop-row.row [] x lt in
     let said : F-step g c.loop-row.f x c.f.result c.f.new.self = search rules in
     record {
       callable = record { at = λ xs. (c.loop-row.invariant.callable.at ((x, tt) ∷ xs)).1 c.f.result c.f.new.self c.f.ensures };
@@ -26,7 +26,7 @@ loop-row-preserved g c =
       ];
       order = elim c.if-f.branch [
         | then-f w ↦ elim w.if-kept-row.branch [
-          | then-kept-row v ↦ rw (w.grid-is, v.grid-is) (v.swap_rows.ensures.order ∙ c.loop-row.invariant.order)
+          | then-kept-row v ↦ rw (w.grid-is, v.grid-is) (v.swap_rows.ensures.same.order ∙ c.loop-row.invariant.order)
           | else-kept-row v ↦ rw (w.grid-is, v.grid-is) c.loop-row.invariant.order
         ]
         | else-f w ↦ rw w.grid-is c.loop-row.invariant.order

@@ -20,9 +20,9 @@ loop-col-preserved g c =
     let fits : length c.args.cells.now ≡ length (row t.rows c.args.r) = c.requires.fits ∙ sym (t.table.even c.args.r c.requires.row_in) in
     record {
       rows = row_written t.rows _ _ c.args.r c.loop-col.col c.args.cells.now _ c.requires.row_in (omega arith) fits i.rows c.index-cells-col.is c.set.result (omega (arith, i.row_count, c.requires.row_in), omega (arith, i.col_count, c.requires.fits)) c.set.ensures.in_range c.set.ensures.rows;
-      row_count = c.set.ensures.row_count ∙ i.row_count;
-      col_count = c.set.ensures.col_count ∙ i.col_count;
-      order = c.set.ensures.order ∙ i.order;
+      row_count = c.set.ensures.same.rows ∙ i.row_count;
+      col_count = c.set.ensures.same.cols ∙ i.col_count;
+      order = c.set.ensures.same.order ∙ i.order;
     }
 
 pub returns-clause-rows : goal.returns-clause-rows

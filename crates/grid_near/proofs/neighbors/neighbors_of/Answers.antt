@@ -9,14 +9,12 @@ invariant_of-result g c =
     start_round c.args.order c.args.cells.now c.args.size c.strides_of-strides.result c.requires.size c.strides_of-strides.ensures c.args.at c.if-inner.first c.is_inner-inner.result c.requires.row_in c.requires.col_in c.is_inner-inner.ensures.0
     (λ e. elim c.if-inner.branch [ then-inner w ↦ w.first-is | else-inner w ↦ absurd (cc (w.if-inner.false, e)) ])
 
-pub returns-clause-rest : goal.returns-clause-rest
-returns-clause-rest g c = start_shown c.args.order c.args.cells.now c.args.size c.strides_of-strides.result c.requires.size c.strides_of-strides.ensures c.args.kind c.is_inner-inner.result c.args.at
+pub returns-clause-gives : goal.returns-clause-gives
+returns-clause-gives g c = (
+  start_shown c.args.order c.args.cells.now c.args.size c.strides_of-strides.result c.requires.size c.strides_of-strides.ensures c.args.kind c.is_inner-inner.result c.args.at,
+  cells_in_order _,
+  positions_in_order _,
+)
 
 pub returns-clause-count : goal.returns-clause-count
-returns-clause-count g c = rw (returns-clause-rest g c) (at_most (table_of c.args.order c.args.size.0 c.args.size.1 c.args.cells.now) c.args.kind c.args.at)
-
-pub returns-clause-runs : goal.returns-clause-runs
-returns-clause-runs g c = cells_in_order _
-
-pub returns-clause-positions : goal.returns-clause-positions
-returns-clause-positions g c = positions_in_order _
+returns-clause-count g c = rw ((returns-clause-gives g c).0) (at_most (table_of c.args.order c.args.size.0 c.args.size.1 c.args.cells.now) c.args.kind c.args.at)

@@ -8,6 +8,6 @@ pub returns : goal.returns
 returns g c =
     record {
       law = λ at x e.
-          subst (λ list. IsStep All c.args.from at ↔ Contains list (at, x)) (sym c.neighbors8.ensures.rest)
+          subst (λ list. IsStep All c.args.from at ↔ Contains list (at, x)) (sym c.neighbors8.ensures.gives.0)
           (all-near c.args.grid.now.rows c.args.from.0 c.args.from.1 at x e);
     }

@@ -8,6 +8,6 @@ pub returns : goal.returns
 returns g c =
     record {
       law = λ at x e.
-          subst (λ list. IsStep Sides c.args.from at ↔ Contains list (at, x)) (sym c.neighbors4.ensures.rest)
+          subst (λ list. IsStep Sides c.args.from at ↔ Contains list (at, x)) (sym c.neighbors4.ensures.gives.0)
           (sides-near c.args.grid.now.rows c.args.from.0 c.args.from.1 at x e);
     }

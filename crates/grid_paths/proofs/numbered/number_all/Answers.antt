@@ -10,12 +10,12 @@ pub loop-row-init : goal.loop-row-init
 loop-row-init g c =
     let t = c.args.grid.now.rows in
     let u = c.in_ok-numbers.numbers.rows in
-    let blank = c.in_ok-numbers.ensures.cells (λ r k. Some None) (λ r k p y inside at h. search rules) in
+    let blank = c.in_ok-numbers.ensures.cells.tabulated (λ r k. Some None) (λ r k p y inside at h. search rules) in
     let none : (a : ℕ × ℕ) (m : ℕ) → IsMarked u a m → ⊥ = λ a m w.
     none_marked (row_count t) (col_count t) a m (subst (λ x. IsMarked x a m) blank w) in
     record {
-      size = record { rows = c.in_ok-numbers.ensures.rows; cols = c.in_ok-numbers.ensures.cols };
-      order = c.in_ok-numbers.ensures.order;
+      size = record { rows = c.in_ok-numbers.ensures.same.rows; cols = c.in_ok-numbers.ensures.same.cols };
+      order = c.in_ok-numbers.ensures.same.order;
       scanned = IsScanned-start c.args.kind g.T.PartialEq.eq t u none;
       room = omega arith;
       end = c.rows-row-end.ensures.rows;

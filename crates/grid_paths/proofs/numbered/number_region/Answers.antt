@@ -26,8 +26,8 @@ loop-next-init g c =
     let g2 : Grew u q u1 q1 (row, col) k = subst (λ x. Grew u q u1 x (row, col) k) (sym c.in_ok-push.ensures.items) g1 in
     let len : length q ≡ c.len-next.result = omega arith in
     record {
-      size = record { rows = c.set.ensures.row_count ∙ c.requires.size.rows; cols = c.set.ensures.col_count ∙ c.requires.size.cols };
-      order = c.set.ensures.order;
+      size = record { rows = c.set.ensures.same.rows ∙ c.requires.size.rows; cols = c.set.ensures.same.cols ∙ c.requires.size.cols };
+      order = c.set.ensures.same.order;
       numbering = subst (λ n. IsNumbering c.args.kind floor (row, col) k (length q) u u1 q1 n) len (IsNumbering-start c.args.kind floor (row, col) k u q u1 q1 g2);
     }
 

@@ -21,8 +21,8 @@ loop-at-preserved g c =
     let place : slice_get region i ≡ Some a = slice_get-get_or region i (0, 0) lt in
     let size = c.loop-at.invariant.size in
     record {
-      order = c.set.ensures.order ∙ c.loop-at.invariant.order;
-      size = record { rows = c.set.ensures.row_count ∙ size.rows; cols = c.set.ensures.col_count ∙ size.cols };
+      order = c.set.ensures.same.order ∙ c.loop-at.invariant.order;
+      size = record { rows = c.set.ensures.same.rows ∙ size.rows; cols = c.set.ensures.same.cols ∙ size.cols };
       filling = IsFilling-set region c.args.value c.args.grid.now.rows c.loop-at.grid.rows c.loop-at.grid.table size i c.loop-at.invariant.filling a place
           c.set.new.self.rows c.set.result c.set.ensures.in_range c.set.ensures.rows;
     }

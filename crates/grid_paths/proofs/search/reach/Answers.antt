@@ -23,7 +23,7 @@ returns-in_ok-push-clause-reaches g c =
     let before = l.unreached_yet (row, col) is_left in (
       inl (before.0, inside_floor floor u w l table left_table (row, col) k is_left, here, before.1, new, c.in_ok-push.ensures.items),
       IsLeft-reach floor u w l table left_table (row, col) k is_left c.set-then-is_left.new.self.rows c.set.new.self.rows new closed
-          (record { rows = c.set.ensures.row_count; cols = c.set.ensures.col_count }),
+          (record { rows = c.set.ensures.same.rows; cols = c.set.ensures.same.cols }),
     )
 
 pub returns-else-is_left-clause-reaches : goal.returns-else-is_left-clause-reaches

@@ -35,8 +35,8 @@ loop-i-preserved g c =
     record {
       numbering = i.numbering;
       placing = rw (c.swap-in-loop-i.ensures.after, c.swap.ensures.after) (placing_more _ [] _ _ _ _ _ _ _ _ _ i.numbering (place_fits _ [] _ _ _ _ _ i.numbering i.placing c.loop-i-test.true) i.placing refl refl refl c.swap_rows.ensures.rows);
-      col_count = c.swap_rows.ensures.col_count ∙ i.col_count;
-      order = c.swap_rows.ensures.order ∙ i.order;
+      col_count = c.swap_rows.ensures.same.cols ∙ i.col_count;
+      order = c.swap_rows.ensures.same.order ∙ i.order;
     }
 
 pub returns-clause-rows : goal.returns-clause-rows

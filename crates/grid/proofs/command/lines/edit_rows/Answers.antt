@@ -1,18 +1,31 @@
-use Rattle.std.proofs.Common.{◌∙◌, arith}
-use Rattle.grid.proofs.LineEditLemmas.{always_ok, read_rows, push_rows, pop_rows, delete_rows_one}
+use Rattle.std.proofs.Common.{◌∙◌}
+use Rattle.grid.proofs.LineEditLemmas.{done_edit, pushed_edit, removed_rows, removed_reply, popped_rows, popped_reply, range_rows, range_reply, delete_rows_one, delete_reply_one}
 use Rattle.grid.proofs.command.lines.edit_rows.Goals as goal
-use Rattle.std.proofs.lemmas.Result.{on_ok_weaker}
 
-pub returns-in-Read-clause-rows : goal.returns-in-Read-clause-rows
-returns-in-Read-clause-rows g c = always_ok c.read_row.result (λ d one. rw c.in-Read.is (read_rows d c.in-Read.at c.args.grid.now.rows))
+pub returns-in-Push-clause-edited : goal.returns-in-Push-clause-edited
+returns-in-Push-clause-edited g c =
+    rw c.in-Push.is (pushed_edit _ _ _ c.in-Push.line.items _ _ _ c.size-rows.ensures.rows c.insert_line.ensures)
 
-pub returns-in-Push-clause-rows : goal.returns-in-Push-clause-rows
-returns-in-Push-clause-rows g c =
-    on_ok_weaker c.insert_line.result (λ h d one. rw c.in-Push.is (h d ∙ push_rows d _ c.in-Push.line.items c.args.grid.now.rows c.size-rows.ensures.rows)) c.insert_line.ensures.rows
+pub returns-in_ok-pop_row-in-Pop-clause-edited : goal.returns-in_ok-pop_row-in-Pop-clause-edited
+returns-in_ok-pop_row-in-Pop-clause-edited g c =
+    let w = c.in_ok-pop_row-in-Pop in
+    rw c.in-Pop.is (done_edit _ _ _ _ _ _ (λ d known. w.ensures.rows ∙ popped_rows d _) (popped_reply _ w.field-0 w.ensures.line) c.pop_row.ensures.order)
 
-pub returns-in-Pop-clause-rows : goal.returns-in-Pop-clause-rows
-returns-in-Pop-clause-rows g c =
-    on_ok_weaker c.remove_line.result (λ h d one. rw c.in-Pop.is (h d ∙ pop_rows d _ c.args.grid.now.rows (omega (arith, c.saturating_sub.ensures, c.size-rows.ensures.rows)))) c.remove_line.ensures.rows
+pub returns-in_ok-remove_row-in-Remove-clause-edited : goal.returns-in_ok-remove_row-in-Remove-clause-edited
+returns-in_ok-remove_row-in-Remove-clause-edited g c =
+    let w = c.in_ok-remove_row-in-Remove in
+    rw c.in-Remove.is (done_edit _ _ _ _ _ _ (λ d known. w.ensures.rows ∙ removed_rows d c.in-Remove.at _) (removed_reply c.in-Remove.at _ w.field-0 w.ensures.line) c.remove_row.ensures.order)
 
-pub returns-in-Delete-clause-rows : goal.returns-in-Delete-clause-rows
-returns-in-Delete-clause-rows g c = λ d one. rw c.in-Delete.is (c.delete_lines.ensures.rows d ∙ delete_rows_one d c.in-Delete.at c.args.grid.now.rows)
+pub returns-in-Delete-clause-edited : goal.returns-in-Delete-clause-edited
+returns-in-Delete-clause-edited g c =
+    let w = c.delete_rows_counted.ensures in
+    rw c.in-Delete.is
+    (done_edit _ _ _ _ _ _
+    (λ d known. w.rows ∙ (range_rows d _ _ _ _ w.found ∙ delete_rows_one d c.in-Delete.at _))
+    (range_reply _ _ _ _ w.found ∙ delete_reply_one c.in-Delete.at _) w.order)
+
+pub returns-in-DeleteRange-clause-edited : goal.returns-in-DeleteRange-clause-edited
+returns-in-DeleteRange-clause-edited g c =
+    let w = c.delete_rows_counted-in-DeleteRange.ensures in
+    rw c.in-DeleteRange.is
+    (done_edit _ _ _ _ _ _ (λ d known. w.rows ∙ range_rows d _ _ _ _ w.found) (range_reply _ _ _ _ w.found) w.order)

@@ -1,13 +1,26 @@
-use Rattle.std.proofs.Common.{Some, ap, ◌∙◌, arith}
+use Rattle.std.proofs.Common.{Some, ap, ◌∙◌, refl, arith}
 use Rattle.grid_commands.specs.Reply.{line_is}
-use Rattle.grid.proofs.LineEditLemmas.{read_some, read_none}
+use Rattle.grid.proofs.LineEditLemmas.{read_rows, read_some, read_none}
 use Rattle.grid.proofs.command.lines.read_row.Goals as goal
 
-pub returns-then-at-rows-clause-reply : goal.returns-then-at-rows-clause-reply
-returns-then-at-rows-clause-reply g c = λ _. read_none c.args.at c.args.grid.now.rows (omega (arith, c.if-at-rows.true, c.rows.ensures.rows))
+pub returns-then-at-rows : goal.returns-then-at-rows
+returns-then-at-rows g c =
+    record {
+      rows = λ d known. read_rows d c.args.at c.args.grid.now.rows;
+      reply = λ same. read_none c.args.at c.args.grid.now.rows (omega (arith, c.if-at-rows.true, c.rows.ensures.rows));
+      order = refl;
+      err_grid = tt;
+      err_memory = tt;
+    }
 
-pub returns-clause-reply : goal.returns-clause-reply
-returns-clause-reply g c =
-    λ same.
-    ap (λ l. line_is (Some l)) (c.in_ok-line.ensures same)
-    ∙ read_some c.args.at c.args.grid.now.rows (omega (arith, c.if-at-rows.false, c.rows.ensures.rows))
+pub returns : goal.returns
+returns g c =
+    record {
+      rows = λ d known. read_rows d c.args.at c.args.grid.now.rows;
+      reply = λ same.
+          ap (λ l. line_is (Some l)) (c.in_ok-line.ensures same)
+          ∙ read_some c.args.at c.args.grid.now.rows (omega (arith, c.if-at-rows.false, c.rows.ensures.rows));
+      order = refl;
+      err_grid = tt;
+      err_memory = tt;
+    }

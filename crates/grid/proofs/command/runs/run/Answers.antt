@@ -18,9 +18,6 @@ on_err (Err e) P h p = p
 one_more : {X Y : Type 0} (f : X → Y) (xs all : List X) (x : X) → all ≡ xs ++ x ∷ [] → length (map f all) ≡ suc (length (map f xs))
 one_more f xs all x e = rw e (omega (arith, ap length (map-append f xs (x ∷ [])), length-append (map f xs) (f x ∷ [])))
 
-pub returns-then-is_err-clause-stopped : goal.returns-then-is_err-clause-stopped
-returns-then-is_err-clause-stopped g c = rw (c.reserve_exact.ensures.items, c.new-replies.ensures.items) (running_none _ _ _ _).ran
-
 pub loop-command-init : goal.loop-command-init
 loop-command-init g c = record {
   can = tt;
@@ -53,42 +50,46 @@ loop-command-preserved g c =
       rest = rw append_assoc (rw s.0 at i.rest);
       running =
           rw (map-append command_value c.loop-command.yielded (c.in-Some.command ∷ []))
-          (running_more _ _ _ (command_value c.in-Some.command) _ _ _ _ _ _ _ _ i.running e.rows
+          (running_more _ _ _ (command_value c.in-Some.command) _ _ _ _ _ _ _ _ i.running e.stepped.rows
           (one_more reply_value _ _ _ p.items)
-          (λ same. ap (map reply_value) p.items ∙ (map-append reply_value _ _ ∙ ap (λ x. map reply_value c.loop-command.replies.items ++ x ∷ []) (e.reply same)))
-          e.order e.symmetry e.shift);
-      symmetry_grows = omega (arith, e.symmetry, i.symmetry_grows);
-      shift_grows = omega (arith, e.shift, i.shift_grows);
+          (λ same. ap (map reply_value) p.items ∙ (map-append reply_value _ _ ∙ ap (λ x. map reply_value c.loop-command.replies.items ++ x ∷ []) (e.stepped.reply same)))
+          e.order e.counted.symmetry e.counted.shift);
+      symmetry_grows = omega (arith, e.counted.symmetry, i.symmetry_grows);
+      shift_grows = omega (arith, e.counted.shift, i.shift_grows);
       count = grind (arith, p.len, i.count, length-append);
       room = grind (arith, p.capacity, i.room);
     }
 
-pub returns-in-Err-clause-stopped : goal.returns-in-Err-clause-stopped
-returns-in-Err-clause-stopped g c =
-    let i = c.loop-command.invariant in
-    let e = c.in-Err.ensures in
-    rw (take_values command_value c.args.commands.items c.loop-command.yielded _ c.len-done.result i.rest (c.len-done.ensures ∙ i.count))
-    (ran_still _ _ _ _ _ _ _ _ _ _ i.running.ran e.err_grid e.err_symmetry e.err_shift)
+pub returns-then-is_err-clause-gives : goal.returns-then-is_err-clause-gives
+returns-then-is_err-clause-gives g c =
+    let full = on_err _ _ (sym c.is_err.ensures.value ∙ c.if-is_err.true) c.reserve_exact.ensures.full in
+    let some : 0 < length c.args.commands.items = omega (arith, full, c.new-replies.ensures.len, c.len.ensures) in
+    record {
+      ran = tt;
+      stopped = rw (c.reserve_exact.ensures.items, c.new-replies.ensures.items) (running_none _ _ _ _).ran;
+      stop = inl (refl, some_values command_value c.args.commands.items some);
+    }
 
-pub returns-in-Err-clause-stop : goal.returns-in-Err-clause-stop
-returns-in-Err-clause-stop g c =
+pub returns-in-Err-clause-gives : goal.returns-in-Err-clause-gives
+returns-in-Err-clause-gives g c =
     let i = c.loop-command.invariant in
     let s = c.in-Some.ensures.steps in
     let e = c.in-Err.ensures in
-    may_stop _ _ (command_value c.in-Some.command) _ _
-    (get_value command_value _ _ _ _ _ (rw s.0 at i.rest) (c.len-done.ensures ∙ i.count))
-    (ap (λ s. s.rows) e.err_grid) e.err_memory
+    record {
+      ran = tt;
+      stopped =
+          rw (take_values command_value c.args.commands.items c.loop-command.yielded _ c.len-done.result i.rest (c.len-done.ensures ∙ i.count))
+          (ran_still _ _ _ _ _ _ _ _ _ _ i.running.ran e.err e.counted.err_symmetry e.counted.err_shift);
+      stop =
+          may_stop _ _ (command_value c.in-Some.command) _ _
+          (get_value command_value _ _ _ _ _ (rw s.0 at i.rest) (c.len-done.ensures ∙ i.count))
+          (ap (λ s. s.rows) e.err) e.stepped.err_memory;
+    }
 
-pub returns-clause-ran : goal.returns-clause-ran
-returns-clause-ran g c =
+pub returns-clause-gives : goal.returns-clause-gives
+returns-clause-gives g c =
     let i = c.loop-command.invariant in
     let s = c.in-None.ensures.steps in
     let none : into_iter_items c.loop-command.command-iterator ≡ [] = nil_from_length _ (grind (arith, s.0)) in
     let all : c.loop-command.yielded ≡ c.args.commands.items = sym (append-nil c.loop-command.yielded) ∙ (ap (λ v. c.loop-command.yielded ++ v) (sym none) ∙ i.rest) in
-    rw (← all) i.running.ran
-
-pub returns-then-is_err-clause-stop : goal.returns-then-is_err-clause-stop
-returns-then-is_err-clause-stop g c =
-    let full = on_err _ _ (sym c.is_err.ensures.value ∙ c.if-is_err.true) c.reserve_exact.ensures.full in
-    let some : 0 < length c.args.commands.items = omega (arith, full, c.new-replies.ensures.len, c.len.ensures) in
-    inl (refl, some_values command_value c.args.commands.items some)
+    record { ran = rw (← all) i.running.ran; stopped = tt; stop = tt }

@@ -8,11 +8,8 @@ returns-clause-words g c = λ w n. c.apply_counted.ensures.rows ∙ sym (normal-
 pub returns-clause-rows : goal.returns-clause-rows
 returns-clause-rows g c = search rules
 
-pub returns-clause-row_count : goal.returns-clause-row_count
-returns-clause-row_count g c = search rules
-
-pub returns-clause-col_count : goal.returns-clause-col_count
-returns-clause-col_count g c = search rules
+pub returns-clause-size : goal.returns-clause-size
+returns-clause-size g c = search rules
 
 pub returns-clause-order : goal.returns-clause-order
 returns-clause-order g c = search rules

@@ -28,11 +28,11 @@ returns-clause-symmetry g c =
           rw (from_its_flags c.args.symmetry _ _ c.flags-transposes.ensures w.if-transposes.false, w.self-is) at c.flip_counted.ensures.symmetry
     ]
 
-pub returns-clause-row_count : goal.returns-clause-row_count
-returns-clause-row_count g c = ap row_count (returns-clause-rows g c) ∙ rows-act _ _
-
-pub returns-clause-col_count : goal.returns-clause-col_count
-returns-clause-col_count g c = ap col_count (returns-clause-rows g c) ∙ cols-act _ _ c.args.self.now.table
+pub returns-clause-size : goal.returns-clause-size
+returns-clause-size g c = record {
+  rows = ap row_count (returns-clause-rows g c) ∙ rows-act _ _;
+  cols = ap col_count (returns-clause-rows g c) ∙ cols-act _ _ c.args.self.now.table;
+}
 
 pub returns-clause-order : goal.returns-clause-order
 returns-clause-order g c = search rules

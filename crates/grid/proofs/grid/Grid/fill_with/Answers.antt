@@ -1,14 +1,8 @@
 use Rattle.std.proofs.Common.{rules, length, subst, ap}
 use Rattle.grid_base.specs.ClosureCalls.{CallableTimes}
 use Rattle.grid.proofs.SeenLemmas.{seen_storage}
-use Rattle.grid.proofs.SeenAllCellsLemmas.{whole_rows, whole_cols, whole_cells}
+use Rattle.grid.proofs.SeenAllCellsLemmas.{whole_same, whole_cells}
 use Rattle.grid.proofs.grid.Grid.fill_with.Goals as goal
-
-pub returns-clause-rows : goal.returns-clause-rows
-returns-clause-rows g c = whole_rows _ _ _ _ _ _ c.self.inside.fits c.self.view_is c.fill_with.ensures.len
-
-pub returns-clause-cols : goal.returns-clause-cols
-returns-clause-cols g c = whole_cols _ _ _ _ _ _ c.self.inside.fits c.self.view_is c.fill_with.ensures.len
 
 pub returns-clause-cells : goal.returns-clause-cells
 returns-clause-cells g c = rw (whole_cells _ _ _ _ _ _ c.self.inside.fits c.self.view_is c.fill_with.ensures.len) c.fill_with.ensures.cells
@@ -16,5 +10,5 @@ returns-clause-cells g c = rw (whole_cells _ _ _ _ _ _ c.self.inside.fits c.self
 pub fill_with-requires : goal.fill_with-requires
 fill_with-requires g c = subst (CallableTimes _ _ _) (ap length (seen_storage _ _ _ _ _ c.self.inside.fits c.self.view_is)) c.requires
 
-pub returns-clause-order : goal.returns-clause-order
-returns-clause-order g c = search rules
+pub returns-clause-same : goal.returns-clause-same
+returns-clause-same g c = whole_same _ _ _ _ _ _ c.self.inside.fits c.self.view_is c.fill_with.ensures.len _

@@ -68,13 +68,9 @@ returns-clause-cells g c =
     ap (λ x. x * c.by_order-lines.result.1) all ∙ product_by_order c.args.order g.row.R g.row.C _ c.by_order-lines.ensures in
     let count : length c.loop-i.taken.items ≡ g.row.R * g.row.C = c.loop-i.invariant.slots.count ∙ whole in
     let made = c.from_vec_with_order.ensures in
-    held_all c.args.order g.row.R g.row.C _ c.args.cells.now _ _ _ c.loop-i.invariant.slots
-    (λ r k lr lk. omega (arith, whole, place_within c.args.order g.row.R g.row.C r k lr lk))
-    c.from_vec_with_order.result.table made.storage (made_size c.args.order _ _ _ _ c.from_vec_with_order.result.table made.storage made.cols count)
-
-pub returns-clause-emptied : goal.returns-clause-emptied
-returns-clause-emptied g c =
-    let all : c.loop-i.i ≡ c.by_order-lines.result.0 = omega arith in
-    let whole : c.loop-i.i * c.by_order-lines.result.1 ≡ g.row.R * g.row.C =
-    ap (λ x. x * c.by_order-lines.result.1) all ∙ product_by_order c.args.order g.row.R g.row.C _ c.by_order-lines.ensures in
-    λ r k lr lk. c.loop-i.invariant.slots.gone r k lr lk (omega (arith, whole, place_within c.args.order g.row.R g.row.C r k lr lk))
+    record {
+      held = held_all c.args.order g.row.R g.row.C _ c.args.cells.now _ _ _ c.loop-i.invariant.slots
+          (λ r k lr lk. omega (arith, whole, place_within c.args.order g.row.R g.row.C r k lr lk))
+          c.from_vec_with_order.result.table made.storage (made_size c.args.order _ _ _ _ c.from_vec_with_order.result.table made.storage made.cols count);
+      emptied = λ r k lr lk. c.loop-i.invariant.slots.gone r k lr lk (omega (arith, whole, place_within c.args.order g.row.R g.row.C r k lr lk));
+    }

@@ -1,6 +1,6 @@
 use Rattle.std.proofs.Common.{◌<◌, ◌*◌, ◌^◌, arith, rules}
 use Rattle.grid_base.specs.Table.{IsSize}
-use Rattle.grid.proofs.CellCallLemmas.{callable_positions, answers_tabulated, answers_over, seen_made}
+use Rattle.grid.proofs.CellCallLemmas.{callable_positions, answers_made, seen_made}
 use Rattle.grid.proofs.grid.Grid.from_fn_with_order.Goals as goal
 
 pub from_fn-requires-clause-calls : goal.from_fn-requires-clause-calls
@@ -15,9 +15,4 @@ returns-clause-made g c = seen_made c.args.order c.args.rows c.args.cols _ _ (om
 pub returns-clause-cells : goal.returns-clause-cells
 returns-clause-cells g c =
     let size : IsSize c.args.rows c.args.cols = record { has_cols = λ _. omega arith; has_rows = λ _. omega arith } in
-    answers_tabulated c.args.order c.args.rows c.args.cols size (λ f at y. goal.F-post g f at y) c.args.f _ c.in_ok-flat.ensures.cells
-
-pub returns-clause-answers : goal.returns-clause-answers
-returns-clause-answers g c =
-    let size : IsSize c.args.rows c.args.cols = record { has_cols = λ _. omega arith; has_rows = λ _. omega arith } in
-    answers_over c.args.order c.args.rows c.args.cols size (λ f at y. goal.F-post g f at y) c.args.f _ c.in_ok-flat.ensures.cells
+    answers_made c.args.order c.args.rows c.args.cols size (λ f at y. goal.F-post g f at y) c.args.f _ c.in_ok-flat.ensures.cells

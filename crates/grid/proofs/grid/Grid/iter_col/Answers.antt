@@ -1,4 +1,4 @@
-use Rattle.std.proofs.Common.{rules, ◌<◌, ◌∙◌, ap, length, arith}
+use Rattle.std.proofs.Common.{◌<◌, ◌∙◌, ap, length, arith}
 use Rattle.grid_base.specs.Table.{row, row_count}
 use Rattle.grid_base.specs.Order.{table_of}
 use Rattle.grid_base.proofs.ViewLemmas.{view-rows, view-cols, view-table, HoldsSize-transposed}
@@ -12,23 +12,19 @@ row-requires-clause-size g c = HoldsSize-transposed _ _ _ c.self.inside.fits
 pub row-requires-clause-row_in : goal.row-requires-clause-row_in
 row-requires-clause-row_in g c = omega (arith, seen_cols _ _ _ _ _ c.self.inside.fits c.self.view_is, c.requires)
 
-pub returns-clause-rest : goal.returns-clause-rest
-returns-clause-rest g c =
-    let s = c.self.inside in
-    c.row.ensures.rest
-    ∙ (ap (λ o. row (table_of o s.col_count s.row_count s.flat) c.args.c) c.flipped-order.ensures
-    ∙ ap (λ t. row t c.args.c) (seen_transposed _ _ _ _ _ c.self.inside.fits c.self.view_is))
-
-pub returns-clause-fits : goal.returns-clause-fits
-returns-clause-fits g c =
+pub returns : goal.returns
+returns g c =
     let s = c.self.inside in
     let fits = HoldsSize-transposed _ _ _ s.fits in
     let o = c.flipped-order.result in
     let within : c.args.c < row_count (table_of o s.col_count s.row_count s.flat) = omega (arith, seen_cols _ _ _ _ _ s.fits c.self.view_is, c.requires, view-rows o s.col_count s.row_count s.flat fits) in
-    omega (arith, ap length c.row.ensures.rest, (view-table o s.col_count s.row_count s.flat fits).even c.args.c within, view-cols o s.col_count s.row_count s.flat fits)
-
-pub returns-clause-runs : goal.returns-clause-runs
-returns-clause-runs g c = search rules
-
-pub returns-clause-runs_back : goal.returns-clause-runs_back
-returns-clause-runs_back g c = search rules
+    record {
+      gives = (
+        c.row.ensures.rest
+            ∙ (ap (λ o. row (table_of o s.col_count s.row_count s.flat) c.args.c) c.flipped-order.ensures
+            ∙ ap (λ t. row t c.args.c) (seen_transposed _ _ _ _ _ s.fits c.self.view_is)),
+        c.row.ensures.runs,
+        c.row.ensures.runs_back,
+        omega (arith, ap length c.row.ensures.rest, (view-table o s.col_count s.row_count s.flat fits).even c.args.c within, view-cols o s.col_count s.row_count s.flat fits),
+      );
+    }

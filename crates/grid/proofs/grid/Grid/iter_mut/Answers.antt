@@ -6,5 +6,5 @@ use Rattle.grid.proofs.grid.Grid.iter_mut.Goals as goal
 pub returns : goal.returns
 returns g c = (
   (refl, λ w. seen_refilled _ _ _ _ _ c.self.inside.fits c.self.view_is w _),
-  record { writes_back = tt; keeps = seen_keeps _ _ _ _ _ c.self.inside.fits c.self.view_is; rest = c.iter_mut.ensures.rest ∙ sym (seen_storage _ _ _ _ _ c.self.inside.fits c.self.view_is); runs = c.iter_mut.ensures.runs; runs_back = c.iter_mut.ensures.runs_back },
+  record { writes_back = tt; keeps = seen_keeps _ _ _ _ _ c.self.inside.fits c.self.view_is; gives = (c.iter_mut.ensures.rest ∙ sym (seen_storage _ _ _ _ _ c.self.inside.fits c.self.view_is), c.iter_mut.ensures.runs, c.iter_mut.ensures.runs_back) },
 )

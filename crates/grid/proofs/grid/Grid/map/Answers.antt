@@ -1,14 +1,8 @@
 use Rattle.std.proofs.Common.{subst}
 use Rattle.grid_base.specs.ClosureCalls.{CallableAtEach}
 use Rattle.grid.proofs.SeenLemmas.{seen_storage, seen_same}
-use Rattle.grid.proofs.SeenAllCellsLemmas.{whole_rows, whole_cols, whole_cells}
+use Rattle.grid.proofs.SeenAllCellsLemmas.{whole_same, whole_cells}
 use Rattle.grid.proofs.grid.Grid.map.Goals as goal
-
-pub returns-in-Ok-clause-rows : goal.returns-in-Ok-clause-rows
-returns-in-Ok-clause-rows g c = whole_rows _ _ _ _ _ _ c.self.inside.fits c.self.view_is c.in-Ok.ensures.len
-
-pub returns-in-Ok-clause-cols : goal.returns-in-Ok-clause-cols
-returns-in-Ok-clause-cols g c = whole_cols _ _ _ _ _ _ c.self.inside.fits c.self.view_is c.in-Ok.ensures.len
 
 pub returns-in-Ok-clause-cells : goal.returns-in-Ok-clause-cells
 returns-in-Ok-clause-cells g c = rw (whole_cells _ _ _ _ _ _ c.self.inside.fits c.self.view_is c.in-Ok.ensures.len, seen_storage _ _ _ _ _ c.self.inside.fits c.self.view_is) c.in-Ok.ensures.cells
@@ -18,3 +12,6 @@ map-requires g c = subst (CallableAtEach _ _ _) (seen_storage _ _ _ _ _ c.self.i
 
 pub returns-in-Err-clause-refused : goal.returns-in-Err-clause-refused
 returns-in-Err-clause-refused g c = seen_same _ _ _ _ _ c.self.inside.fits c.self.view_is _ _ c.in-Err.ensures.refused
+
+pub returns-in-Ok-clause-same : goal.returns-in-Ok-clause-same
+returns-in-Ok-clause-same g c = whole_same _ _ _ _ _ _ c.self.inside.fits c.self.view_is c.in-Ok.ensures.len _

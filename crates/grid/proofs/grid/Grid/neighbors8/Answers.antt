@@ -11,17 +11,15 @@ neighbors_of-requires g c = record {
   col_in = seen_col_in _ _ _ _ _ c.self.inside.fits _ _ c.self.view_is c.requires;
 }
 
-pub returns-clause-rest : goal.returns-clause-rest
-returns-clause-rest g c = (rw c.as_slice.ensures at c.neighbors_of.ensures.rest) ∙ ap (λ x. neighbors8 x.rows c.args.at.0 c.args.at.1) c.self.view_is
+pub returns-clause-gives : goal.returns-clause-gives
+returns-clause-gives g c = (
+  (rw c.as_slice.ensures at c.neighbors_of.ensures.gives.0) ∙ ap (λ x. neighbors8 x.rows c.args.at.0 c.args.at.1) c.self.view_is,
+  c.neighbors_of.ensures.gives.1,
+  c.neighbors_of.ensures.gives.2,
+)
 
 pub returns-clause-cells : goal.returns-clause-cells
-returns-clause-cells g c = gives_neighbors8 c.args.self.now.rows c.args.self.now.table c.args.at.0 c.args.at.1 c.neighbors_of.result (returns-clause-rest g c)
+returns-clause-cells g c = gives_neighbors8 c.args.self.now.rows c.args.self.now.table c.args.at.0 c.args.at.1 c.neighbors_of.result (returns-clause-gives g c).0
 
 pub returns-clause-count : goal.returns-clause-count
 returns-clause-count g c = search rules
-
-pub returns-clause-runs : goal.returns-clause-runs
-returns-clause-runs g c = search rules
-
-pub returns-clause-positions : goal.returns-clause-positions
-returns-clause-positions g c = search rules

@@ -7,8 +7,5 @@ returns-clause-made g c = search rules
 pub returns-clause-defaults : goal.returns-clause-defaults
 returns-clause-defaults g c = search rules
 
-pub returns-clause-one_default : goal.returns-clause-one_default
-returns-clause-one_default g c = search rules
-
 pub returns-clause-fails : goal.returns-clause-fails
 returns-clause-fails g c = search rules

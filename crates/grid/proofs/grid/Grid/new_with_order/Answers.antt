@@ -1,11 +1,15 @@
-use Rattle.std.proofs.Common.{◌≡◌, ◌*◌, All, length, arith}
+use Rattle.std.proofs.Common.{◌≡◌, ◌*◌, All, length, ap, arith}
 use Rattle.std.proofs.lemmas.List.Elements.{All-append}
 use Rattle.std.proofs.lemmas.Grind.{common_steps}
+use Rattle.grid_base.specs.Table.{row_count}
 use Rattle.grid.proofs.MadeLemmas.{All-none, length-storage_none, made_size, made_fill}
 use Rattle.grid.proofs.grid.Grid.new_with_order.Goals as goal
 
 pub returns-then-rows-eq0-clause-defaults : goal.returns-then-rows-eq0-clause-defaults
-returns-then-rows-eq0-clause-defaults g c = All-none g.T.Default.is_default _ (length-storage_none _ _ c.empty_with_order.ensures.rows)
+returns-then-rows-eq0-clause-defaults g c = record {
+  each = All-none g.T.Default.is_default _ (length-storage_none _ _ c.empty_with_order.ensures.rows);
+  one_default = λ d only r k within. absurd (omega (arith, within.0, ap row_count c.empty_with_order.ensures.rows));
+}
 
 pub loop-preserved : goal.loop-preserved
 loop-preserved g c = record {
@@ -22,12 +26,11 @@ returns-clause-made g c =
 
 pub returns-clause-defaults : goal.returns-clause-defaults
 returns-clause-defaults g c =
-    let made = c.from_vec_with_order.ensures in
-    rw (made.order, made.storage) c.loop.invariant.defaults
-
-pub returns-clause-one_default : goal.returns-clause-one_default
-returns-clause-one_default g c = λ d only.
     let count : length c.loop.cells.items ≡ c.args.rows * c.args.cols = omega (arith, c.loop.invariant.len) in
     let made = c.from_vec_with_order.ensures in
-    let same : All (λ x. x ≡ d) c.loop.cells.items = λ k e lt. only _ (c.loop.invariant.defaults k e lt) in
-    made_fill c.args.order _ _ _ _ c.from_vec_with_order.result.table made.storage made.cols count d same
+    record {
+      each = rw (made.order, made.storage) c.loop.invariant.defaults;
+      one_default = λ d only.
+          let same : All (λ x. x ≡ d) c.loop.cells.items = λ k e lt. only _ (c.loop.invariant.defaults k e lt) in
+          made_fill c.args.order _ _ _ _ c.from_vec_with_order.result.table made.storage made.cols count d same;
+    }

@@ -15,7 +15,7 @@ pub returns-clause-padded : goal.returns-clause-padded
 returns-clause-padded g c =
     let t = c.args.self.now.table in
     on_ok_weaker c.pad_rows_counted-padded.result
-    (pads_cols c.args.self.now.rows t _ _ c.args.count _ _ _ c.transpose.ensures.rows c.transpose-2.ensures.rows c.requires.point)
+    (pads_cols c.args.self.now.rows t _ _ c.args.count _ _ _ c.pad_rows_counted-padded.new.self.table c.transpose.ensures.rows c.transpose-2.ensures.rows c.requires.point)
     c.pad_rows_counted-padded.ensures.padded
 
 pub returns-clause-fails : goal.returns-clause-fails

@@ -22,5 +22,5 @@ returns-clause-resized g c =
     let cols : (c.args.cols ≤ c.min-2.result) ⊎ (col_count c.args.self.now.rows ≤ c.min-2.result) =
     ⊎_elim (λ lt. inl (omega (arith, c.min-2.ensures, c.size-old_rows.ensures.cols, lt))) (λ ge. inr (omega (arith, c.min-2.ensures, c.size-old_rows.ensures.cols, ge))) (cases_lt c.args.cols (col_count c.args.self.now.rows)) in
     rw (ap (λ x. x.rows) c.drop.view_is)
-    (resized _ c.args.rows c.args.cols c.min.result c.min-2.result c.in_ok-grid.grid c.args.self.now c.exchange_part.new.to c.exchange_part.new.from some c.in_ok-grid.ensures.made.size c.in_ok-grid.ensures.defaults c.exchange_part.ensures
+    (resized _ c.args.rows c.args.cols c.min.result c.min-2.result c.in_ok-grid.grid c.args.self.now c.exchange_part.new.to c.exchange_part.new.from some c.in_ok-grid.ensures.made.size c.in_ok-grid.ensures.defaults.each c.exchange_part.ensures
     (omega (arith, c.min.ensures)) (omega (arith, c.min.ensures, c.size-old_rows.ensures.rows)) rows (omega (arith, c.min-2.ensures)) (omega (arith, c.min-2.ensures, c.size-old_rows.ensures.cols)) cols)

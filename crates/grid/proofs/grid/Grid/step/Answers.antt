@@ -5,6 +5,7 @@ use Rattle.grid_base.proofs.PriceLemmas.{price_within_half}
 use Rattle.grid_commands.specs.declared.command.Axis.TheVariants.{Row, Col}
 use Rattle.grid_commands.specs.Command.{command_value, lines}
 use Rattle.grid_commands.specs.LineEdit.{edit_value, request_value}
+use Rattle.grid.proofs.LineEditLemmas.{stepped_edit}
 use Rattle.grid.proofs.grid.Grid.step.Goals as goal
 
 pub returns-in-Apply-clause-half : goal.returns-in-Apply-clause-half
@@ -14,16 +15,16 @@ returns-in-Apply-clause-half g c =
     let within : price c.in-Apply.symmetry rows cols ≤ half rows cols = price_within_half c.in-Apply.symmetry rows cols in
     omega (arith, c.apply_counted.ensures.symmetry, within)
 
-pub returns-in-Lines-Row-default-clause-rows : goal.returns-in-Lines-Row-default-clause-rows
-returns-in-Lines-Row-default-clause-rows g c =
+pub returns-in-Lines-Row-default-clause-stepped : goal.returns-in-Lines-Row-default-clause-stepped
+returns-in-Lines-Row-default-clause-stepped g c =
     let w = c.in-Lines-Row-default in
     let says : command_value c.args.command ≡ lines Row (edit_value w.edit) =
     sym c.request_of.ensures ∙ (ap request_value w.is ∙ ap (λ a. lines a (edit_value w.edit)) w.field-0-is) in
-    rw says c.edit_rows.ensures.rows
+    rw says (stepped_edit c.edit_rows.ensures.edited)
 
-pub returns-in-Lines-Col-default-clause-rows : goal.returns-in-Lines-Col-default-clause-rows
-returns-in-Lines-Col-default-clause-rows g c =
+pub returns-in-Lines-Col-default-clause-stepped : goal.returns-in-Lines-Col-default-clause-stepped
+returns-in-Lines-Col-default-clause-stepped g c =
     let w = c.in-Lines-Col-default in
     let says : command_value c.args.command ≡ lines Col (edit_value w.edit) =
     sym c.request_of.ensures ∙ (ap request_value w.is ∙ ap (λ a. lines a (edit_value w.edit)) w.field-0-is) in
-    rw says c.edit_cols.ensures.rows
+    rw says (stepped_edit c.edit_cols.ensures.edited)

@@ -39,11 +39,9 @@ returns-clause-rows g c =
     rw (c.swap.ensures, c.place-i.ensures, c.place-j.ensures)
     (rows_swapped _ _ _ _ _ c.args.a c.args.b c.self.inside.fits c.self.view_is a_row a_col b_row b_col)
 
-pub returns-clause-row_count : goal.returns-clause-row_count
-returns-clause-row_count g c = ap row_count (returns-clause-rows g c) ∙ rows-exchanged c.args.self.now.rows c.args.self.now.table c.args.a c.args.b
-
-pub returns-clause-col_count : goal.returns-clause-col_count
-returns-clause-col_count g c = ap col_count (returns-clause-rows g c) ∙ cols-exchanged c.args.self.now.rows c.args.self.now.table c.args.a c.args.b
-
-pub returns-clause-order : goal.returns-clause-order
-returns-clause-order g c = search rules
+pub returns-clause-same : goal.returns-clause-same
+returns-clause-same g c = record {
+  rows = ap row_count (returns-clause-rows g c) ∙ rows-exchanged c.args.self.now.rows c.args.self.now.table c.args.a c.args.b;
+  cols = ap col_count (returns-clause-rows g c) ∙ cols-exchanged c.args.self.now.rows c.args.self.now.table c.args.a c.args.b;
+  order = search rules;
+}

@@ -1,4 +1,4 @@
-use Rattle.std.proofs.Common.{◌≤◌, ◌+◌, sym, ◌∙◌, ap, arith}
+use Rattle.std.proofs.Common.{rules, ◌≤◌, ◌+◌, sym, ◌∙◌, ap, arith}
 use Rattle.std.proofs.Math.Nat.{mul-le-mul_right}
 use Rattle.std.proofs.lemmas.List.Edits.{length-swap}
 use Rattle.grid_base.specs.Table.{row_count}
@@ -23,9 +23,9 @@ returns-in-RowMajor-clause-rows g c =
     rw (← c.self.view_is, c.in-RowMajor.is)
     (rows_by_blocks _ _ _ _ _ _ c.self.inside.fits (omega (arith, c.requires.a_in, rows)) (omega (arith, c.requires.b_in, rows)) c.swap_lines.ensures)
 
-pub returns-in-RowMajor-clause-row_count : goal.returns-in-RowMajor-clause-row_count
-returns-in-RowMajor-clause-row_count g c = ap row_count (returns-in-RowMajor-clause-rows g c) ∙ length-swap _ _ _
-
-pub returns-in-RowMajor-clause-col_count : goal.returns-in-RowMajor-clause-col_count
-returns-in-RowMajor-clause-col_count g c =
-    view-cols c.self.inside.order _ _ _ (rw c.swap_lines.ensures.length_stays c.self.inside.fits) ∙ sym (seen_cols _ _ _ _ _ c.self.inside.fits c.self.view_is)
+pub returns-in-RowMajor-clause-same : goal.returns-in-RowMajor-clause-same
+returns-in-RowMajor-clause-same g c = record {
+  rows = ap row_count (returns-in-RowMajor-clause-rows g c) ∙ length-swap _ _ _;
+  cols = view-cols c.self.inside.order _ _ _ (rw c.swap_lines.ensures.length_stays c.self.inside.fits) ∙ sym (seen_cols _ _ _ _ _ c.self.inside.fits c.self.view_is);
+  order = search rules;
+}

@@ -12,6 +12,3 @@ returns-clause-failed g c = search rules
 
 pub returns-clause-fails : goal.returns-clause-fails
 returns-clause-fails g c = search rules
-
-pub returns-clause-answers : goal.returns-clause-answers
-returns-clause-answers g c = search rules

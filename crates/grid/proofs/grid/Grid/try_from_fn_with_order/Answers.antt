@@ -2,7 +2,7 @@ use Rattle.std.proofs.Common.{◌<◌, ◌*◌, ◌^◌, Ok, arith, rules}
 use Rattle.grid_base.specs.Table.{IsSize}
 use Rattle.grid_base.specs.Positions.{positions}
 use Rattle.grid_base.specs.ClosureCalls.{PairsUp, FailsFirst}
-use Rattle.grid.proofs.CellCallLemmas.{callable_positions, answers_tabulated, answers_over, seen_made, fails_at}
+use Rattle.grid.proofs.CellCallLemmas.{callable_positions, answers_made, seen_made, fails_at}
 use Rattle.grid.proofs.grid.Grid.try_from_fn_with_order.Goals as goal
 
 pub try_from_fn-requires-clause-calls : goal.try_from_fn-requires-clause-calls
@@ -19,14 +19,7 @@ returns-in-Ok-clause-cells g c =
     let size : IsSize c.args.rows c.args.cols = record { has_cols = λ _. omega arith; has_rows = λ _. omega arith } in
     let pairs : PairsUp (λ at y. goal.F-post g c.args.f at (Ok y)) (positions c.args.order c.args.rows c.args.cols) c.in-Ok.flat =
     rw c.in-Ok.is at c.in_ok-made.ensures.cells in
-    answers_tabulated c.args.order c.args.rows c.args.cols size (λ f at y. goal.F-post g f at (Ok y)) c.args.f _ pairs
-
-pub returns-in-Ok-clause-answers : goal.returns-in-Ok-clause-answers
-returns-in-Ok-clause-answers g c =
-    let size : IsSize c.args.rows c.args.cols = record { has_cols = λ _. omega arith; has_rows = λ _. omega arith } in
-    let pairs : PairsUp (λ at y. goal.F-post g c.args.f at (Ok y)) (positions c.args.order c.args.rows c.args.cols) c.in-Ok.flat =
-    rw c.in-Ok.is at c.in_ok-made.ensures.cells in
-    answers_over c.args.order c.args.rows c.args.cols size (λ f at y. goal.F-post g f at (Ok y)) c.args.f _ pairs
+    answers_made c.args.order c.args.rows c.args.cols size (λ f at y. goal.F-post g f at (Ok y)) c.args.f _ pairs
 
 pub returns-in-Err-clause-failed : goal.returns-in-Err-clause-failed
 returns-in-Err-clause-failed g c =

@@ -9,4 +9,4 @@ pub returns : goal.returns
 returns g c =
     let set = c.set.ensures in
     updated_cell _ c.args.row c.args.col c.get_unchecked.result c.f-new.result c.args.self.now c.set.new.self c.requires.in_range c.get_unchecked.ensures c.f-new.ensures
-    (set_wrote c.set.result _ _ _ c.requires.in_range set.in_range set.rows) set.order set.row_count set.col_count
+    (set_wrote c.set.result _ _ _ c.requires.in_range set.in_range set.rows) set.same.order set.same.rows set.same.cols

@@ -1,4 +1,4 @@
-use Rattle.std.proofs.Common.{◌≡◌, refl}
+use Rattle.std.proofs.Common.{◌≡◌, refl, rules}
 use Rattle.grid_base.specs.declared.words.Symmetry.{Symmetry}
 use Rattle.grid_commands.specs.declared.command.Axis.TheVariants.{Row, Col}
 use Rattle.grid_commands.specs.Command.{command_value, apply}
@@ -9,38 +9,39 @@ use Rattle.grid_deferred.proofs.deferred.Deferred.step.Goals as goal
 use Rattle.grid.proofs.LineEditLemmas.{always_ok}
 use Rattle.grid.proofs.TransposedEditLemmas.{either_way}
 
-pub returns-in-Apply-clause-rows : goal.returns-in-Apply-clause-rows
-returns-in-Apply-clause-rows g c = λ d h. rw c.in-Apply.is (shown-then d _ _ _ _ c.then-self.ensures c.args.self.now.base.now.table)
-
-pub returns-in-Apply-clause-reply : goal.returns-in-Apply-clause-reply
-returns-in-Apply-clause-reply g c = λ h. rw c.in-Apply.is (reply-then _ _)
+pub returns-in-Apply-clause-stepped : goal.returns-in-Apply-clause-stepped
+returns-in-Apply-clause-stepped g c = record {
+  rows = λ d h. rw c.in-Apply.is (shown-then d _ _ _ _ c.then-self.ensures c.args.self.now.base.now.table);
+  reply = λ h. rw c.in-Apply.is (reply-then _ _);
+  err_memory = tt;
+}
 
 pub returns-in-Apply-clause-pending : goal.returns-in-Apply-clause-pending
 returns-in-Apply-clause-pending g c = rw c.in-Apply.is (pending-then g.row.T.Denot _ _ _ c.then-self.ensures)
 
-pub returns-in-Get-clause-rows : goal.returns-in-Get-clause-rows
-returns-in-Get-clause-rows g c =
+pub returns-in-Get-clause-stepped : goal.returns-in-Get-clause-stepped
+returns-in-Get-clause-stepped g c =
     let p : (d : g.row.T.Denot) → RowsAreKnown g.T.Default.is_default g.T.Clone.is_clone d (command_value c.args.command) → shown c.args.self.now ≡ step_rows d (command_value c.args.command) (shown c.args.self.now) =
     λ d h. rw c.in-Get.is (get-rows d _ _ _) in
-    always_ok _ p
+    record { rows = always_ok _ p; reply = search rules; err_memory = search rules }
 
 pub returns-in-Get-clause-pending : goal.returns-in-Get-clause-pending
 returns-in-Get-clause-pending g c = always_ok _ (pending-still (command_value c.args.command) _ (rw c.in-Get.is refl))
 
-pub returns-in-Row-clause-rows : goal.returns-in-Row-clause-rows
-returns-in-Row-clause-rows g c =
+pub returns-in-Row-clause-stepped : goal.returns-in-Row-clause-stepped
+returns-in-Row-clause-stepped g c =
     let p : (d : g.row.T.Denot) → RowsAreKnown g.T.Default.is_default g.T.Clone.is_clone d (command_value c.args.command) → shown c.args.self.now ≡ step_rows d (command_value c.args.command) (shown c.args.self.now) =
     λ d h. rw c.in-Row.is (line-rows d Row _ _) in
-    always_ok _ p
+    record { rows = always_ok _ p; reply = search rules; err_memory = search rules }
 
 pub returns-in-Row-clause-pending : goal.returns-in-Row-clause-pending
 returns-in-Row-clause-pending g c = always_ok _ (pending-still (command_value c.args.command) _ (rw c.in-Row.is refl))
 
-pub returns-in-Col-clause-rows : goal.returns-in-Col-clause-rows
-returns-in-Col-clause-rows g c =
+pub returns-in-Col-clause-stepped : goal.returns-in-Col-clause-stepped
+returns-in-Col-clause-stepped g c =
     let p : (d : g.row.T.Denot) → RowsAreKnown g.T.Default.is_default g.T.Clone.is_clone d (command_value c.args.command) → shown c.args.self.now ≡ step_rows d (command_value c.args.command) (shown c.args.self.now) =
     λ d h. rw c.in-Col.is (line-rows d Col _ _) in
-    always_ok _ p
+    record { rows = always_ok _ p; reply = search rules; err_memory = search rules }
 
 pub returns-in-Col-clause-pending : goal.returns-in-Col-clause-pending
 returns-in-Col-clause-pending g c = always_ok _ (pending-still (command_value c.args.command) _ (rw c.in-Col.is refl))
@@ -53,9 +54,8 @@ returns-in_default g c =
     λ u is. absurd (none_applied (command_value c.args.command) still u is) in
     record {
       same_reference = refl;
-      rows = e.rows;
+      stepped = e.stepped;
       applied = always_ok _ none;
-      reply = e.reply;
       pending = always_ok _ (pending-still (command_value c.args.command) _ still);
       order = e.order;
       symmetry = e.symmetry;
@@ -63,5 +63,4 @@ returns-in_default g c =
       err_shift = e.err_shift;
       err_base = e.err_base;
       err_pending = either_way _ refl;
-      err_memory = e.err_memory;
     }

@@ -6,4 +6,4 @@ pub returns-clause-steps : goal.returns-clause-steps
 returns-clause-steps g c =
     let s = c.in_ok-r.ensures.steps in
     sym c.self.view_is
-    ∙ remaining_next_back _ _ _ _ _ _ _ _ [] c.self.invariant refl (omega (arith, s)) (omega (arith, s)) (omega (arith, s)) (omega (arith, s)) c.iter_row.ensures.rest
+    ∙ remaining_next_back _ _ _ _ _ _ _ _ [] c.self.invariant refl (omega (arith, s)) (omega (arith, s)) (omega (arith, s)) (omega (arith, s)) c.iter_row.ensures.gives.0

@@ -22,17 +22,14 @@ line_of-requires g c =
     let some = row_some _ _ _ c.self.inside.fits _ c.self.view_is c.args.r row_in in
     record { some = some; steps = c.self.inside.fits.col_steps some; within = omega arith }
 
-pub returns-clause-rest : goal.returns-clause-rest
-returns-clause-rest g c =
+pub returns : goal.returns
+returns g c =
     let row_in : c.args.r < c.self.inside.rows.count = omega (arith, seen_rows _ _ _ c.self.inside.fits _ c.self.view_is, c.requires) in
-    c.line_of.ensures ∙ row_is _ _ _ c.self.inside.fits _ c.self.view_is c.args.r row_in _ (ap (λ x. x * c.self.inside.rows.stride) c.number.ensures.number)
-
-pub returns-clause-fits : goal.returns-clause-fits
-returns-clause-fits g c =
-    omega (arith, ap length (returns-clause-rest g c), c.args.self.now.table.even c.args.r c.requires, seen_cols _ _ _ c.self.inside.fits _ c.self.view_is, cols_small _ _ _ c.self.inside.fits)
-
-pub returns-clause-runs : goal.returns-clause-runs
-returns-clause-runs g c = lines_in_order _
-
-pub returns-clause-runs_back : goal.returns-clause-runs_back
-returns-clause-runs_back g c = lines_in_reverse _
+    let rest = c.line_of.ensures ∙ row_is _ _ _ c.self.inside.fits _ c.self.view_is c.args.r row_in _ (ap (λ x. x * c.self.inside.rows.stride) c.number.ensures.number) in record {
+      gives = (
+        rest,
+        lines_in_order _,
+        lines_in_reverse _,
+        omega (arith, ap length rest, c.args.self.now.table.even c.args.r c.requires, seen_cols _ _ _ c.self.inside.fits _ c.self.view_is, cols_small _ _ _ c.self.inside.fits),
+      );
+    }
