@@ -1,9 +1,8 @@
 -- Calls of a closure at each position of a grid and the cell there.
-use Rattle.std.proofs.Common.{◌≡◌, ℕ, zero, suc, ◌*◌, ◌^◌, ◌<◌, ◌≤◌, List, [], ◌∷◌, ◌++◌, Some, Result, Ok, Err, length, zip, refl, sym, subst, ◌∙◌, ap, arith, is_some, IsSomeAnd, Option, None, IfOk}
+use Rattle.std.proofs.Common.{◌≡◌, ℕ, zero, suc, ◌*◌, ◌<◌, ◌≤◌, List, [], ◌∷◌, ◌++◌, Some, Result, Ok, Err, length, zip, refl, sym, subst, ◌∙◌, ap, arith, is_some, IsSomeAnd, Option, None, IfOk}
 use Rattle.std.specs.List.{slice_get, AllZip}
 use Rattle.std.specs.Option.{unwrap_or}
 use Rattle.std.proofs.lemmas.Option.{unwrap_or-slice_get}
-use Rattle.std.proofs.Math.Nat.{mul_comm}
 use Rattle.std.proofs.lemmas.List.{length-append}
 use denote.Ref.{Bor}
 use Rattle.grid_base.specs.declared.order.Order.{Order}
@@ -11,7 +10,7 @@ use Rattle.grid_base.specs.Table.{row_count, col_count, cell, InRange, IsSize, t
 use Rattle.grid_base.specs.Order.{table_of, place}
 use Rattle.grid_base.specs.Positions.{positions}
 use Rattle.grid_base.specs.ClosureCalls.{PairsUp, CallableAtCells, CallableAtItems, ReturnsAtCell, FailsFirst}
-use Rattle.grid_base.specs.GridValue.{GridValue, HoldsSize}
+use Rattle.grid_base.specs.GridValue.{GridValue, HoldsSize, FitsUsize}
 use Rattle.grid_base.proofs.TableLemmas.{IsFull, tabulate-same, cell-tabulate}
 use Rattle.grid_base.proofs.StorageLemmas.{place_within, has_place, get_append_left, get_append_right}
 use Rattle.grid_base.proofs.PlaceLemmas.{get-places, length-places}
@@ -55,12 +54,6 @@ module _ {A : Type 0} (o : Order) (m n : ℕ) (cells : List A) (v : GridValue A)
   pub seen_in : (r c : ℕ) → r < m → c < n → InRange v.rows r c
   seen_in r c lr lc = (omega (arith, seen_rows o m n cells v h e), omega (arith, seen_cols o m n cells v h e))
 
-  rows_fit : (c : ℕ) → c < n → row_count v.rows < 2 ^ 64
-  rows_fit c lc = omega (arith, seen_rows o m n cells v h e, mul_grows m n (omega arith), h.below)
-
-  cols_fit : (r : ℕ) → r < m → col_count v.rows < 2 ^ 64
-  cols_fit r lr = omega (arith, seen_cols o m n cells v h e, mul_grows n m (omega arith), mul_comm m n, h.below)
-
   -- a closure that can be called at each position of the table can be called along the vector
   pub seen_callable : {F : Type 0} (takes : F → ℕ × ℕ → Bor A → Type 0) (f : F) → CallableAtPositions takes f v.rows → CallableAtCells takes f (zip (positions o m n) cells)
   seen_callable {F} takes f can = record {
@@ -76,7 +69,7 @@ module _ {A : Type 0} (o : Order) (m n : ℕ) (cells : List A) (v : GridValue A)
         let same_at : at ≡ (w.r, w.c) = ap (λ z. z.0) same in
         let old : cell v.rows w.r w.c ≡ Some p.now =
         seen_cell w.r w.c w.lr w.lc ∙ (ap (slice_get cells) w.is ∙ (i.is ∙ ap Some (sym same_cell))) in
-        subst (λ z. takes f z p) (sym same_at) (can w.r w.c p (seen_in w.r w.c w.lr w.lc) (rows_fit w.c w.lc) (cols_fit w.r w.lr) old);
+        subst (λ z. takes f z p) (sym same_at) (can w.r w.c p (seen_in w.r w.c w.lr w.lc) old);
   }
 
   module _ {F B : Type 0} (returns : F → ℕ × ℕ → Bor A → B → Type 0) (f : F) (news : List B) (len : length news ≡ length cells) (a : PairsUp (ReturnsAtCell returns f) (zip (positions o m n) cells) news) where
@@ -128,13 +121,13 @@ at_seam xs x ys = get_append_right xs (x ∷ ys) (length xs) 0 (omega arith)
 
 module _ (o : Order) (m n : ℕ) (z : IsSize m n) where
   -- a closure that can be called at each position can be called along the positions
-  pub callable_positions : {F : Type 0} (takes : F → ℕ × ℕ → Type 0) (f : F) → m < 2 ^ 64 → n < 2 ^ 64 → m * n < 2 ^ 64 → CallableOver takes f m n → CallableAtItems takes f (positions o m n)
-  callable_positions {F} takes f rows cols below can = record {
+  pub callable_positions : {F : Type 0} (takes : F → ℕ × ℕ → Type 0) (f : F) → FitsUsize m n → CallableOver takes f m n → CallableAtItems takes f (positions o m n)
+  callable_positions {F} takes f fits can = record {
     at = λ k at lt is.
         let w = has_place o m n k (omega (arith, length-places o m n z)) in
         let there : slice_get (positions o m n) k ≡ Some (w.r, w.c) = ap (slice_get (positions o m n)) (sym w.is) ∙ get-places o m n w.r w.c z w.lr w.lc in
         let same : at ≡ (w.r, w.c) = is ∙ (sym (unwrap_or-slice_get (positions o m n) k at) ∙ ap (λ x. unwrap_or x at) there) in
-        subst (takes f) (sym same) (can w.r w.c w.lr w.lc rows cols below);
+        subst (takes f) (sym same) (can w.r w.c w.lr w.lc fits);
   }
 
   -- the table of answers along the positions is what they determine

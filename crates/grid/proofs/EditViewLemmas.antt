@@ -144,17 +144,9 @@ module _ {T : Type 0} where
   take-one : (v : List (List T)) (i : ℕ) → i < length v → take 1 (drop i v) ≡ row v i ∷ []
   take-one v i lt = ap (take 1) (drop_more v i [] lt)
 
-  -- taking row i of a table of m rows
-  module _ (o : Order) (m n i rest : ℕ) (old : List T) (size : rest + 1 ≡ m) (len : length old ≡ m * n) (lt : i < m) (p q a g : ℕ) (e : RowGroups o rest n i 1 p q a g) where
-    pub view-remove_row : (after : List T) → Woven p q a g after old → table_of o rest n (take (rest * n) after) ≡ remove (table_of o m n old) i
-    view-remove_row after w = view-without_rows o m n i 1 rest old size len (omega arith) p q a g after e w ∙ take_line i (table_of o m n old)
-
-    pub view-removed_row : (after : List T) → Woven p q a g after old → 0 < n → drop (rest * n) after ≡ row (table_of o m n old) i
-    view-removed_row after w some =
-        let t = table_of o m n old in
-        view-taken_rows o m n i 1 rest old size len (omega arith) p q a g after e w some (omega arith)
-        ∙ (ap (storage o) (take-one t i (omega (arith, rows-tabulate m n (λ r c. slice_get old (place o m n r c)))))
-        ∙ storage-line o (row t i) (omega (arith, width-table_of o m n old len i lt)))
+  -- one row that is taken, in either order
+  pub storage-one : (o : Order) (t : List (List T)) (i : ℕ) → IsTable t → i < row_count t → storage o (take 1 (drop i t)) ≡ row t i
+  storage-one o t i h lt = ap (storage o) (take-one t i lt) ∙ storage-line o (row t i) (h.nonempty i lt)
 
   -- how many cells are left
   pub cells-closed : (o : Order) (m n i k p q a g : ℕ) (short long : List T) → RowGroups o m n i k p q a g → Closed p q a g short long → length short ≡ m * n

@@ -1,16 +1,17 @@
 -- Edits of rows as the code of a grid does them, and of columns as those of rows between two transposes.
-use Rattle.std.proofs.Common.{◌≡◌, ℕ, ◌+◌, ◌-◌, ◌<◌, ◌≤◌, Bool, true, false, not, Option, Some, None, List, [], ◌∷◌, Vec, nat_lt, if◌then◌else◌, IsTrue, MatchOption, Result, Ok, Err, OnOk, ◌↔◌, refl, sym, ◌∙◌, ap, subst, arith, ⊎_elim}
+use Rattle.std.proofs.Common.{◌≡◌, ℕ, ◌+◌, ◌-◌, ◌<◌, ◌≤◌, Bool, true, false, not, ◌&&◌, Option, Some, None, List, [], ◌∷◌, Vec, nat_lt, if◌then◌else◌, IsTrue, MatchOption, Result, Ok, ◌↔◌, refl, sym, ◌∙◌, ap, subst, arith, ⊎_elim}
 use Rattle.std.specs.List.{insert, remove, slice_get}
 use Rattle.std.specs.Option.{option_map, is_none}
 use Rattle.std.proofs.lemmas.Bool.{lt-ltb, le-ltb, cases_lt}
 use Rattle.std.proofs.lemmas.Result.{on_ok_weaker, on_err_weaker, IfOk-weaker}
 use Rattle.std.proofs.lemmas.Option.{slice_get_past, slice_get-get_or}
 use Rattle.grid_base.specs.declared.words.Symmetry.TheVariants.{Transpose}
-use Rattle.grid_base.specs.Table.{row, row_count, col_count, IsTable}
+use Rattle.grid_base.specs.Table.{row, row_count, col_count, cell, IsTable}
 use Rattle.grid_base.specs.GridValue.{GridValue}
 use Rattle.grid_base.specs.Gather.{items_of_each}
 use Rattle.grid_base.specs.Order.{flipped}
 use Rattle.grid_base.specs.Symmetry.{act}
+use Rattle.grid_base.proofs.TableLemmas.{past_cols, cell_past_rows}
 use Rattle.grid_base.proofs.ViewLemmas.{flipped-flipped}
 use Rattle.grid_commands.specs.declared.command.Axis.{Axis}
 use Rattle.grid_commands.specs.declared.command.Axis.TheVariants.{Row, Col}
@@ -19,24 +20,17 @@ use Rattle.grid_commands.specs.declared.command.Reply.{Reply}
 use Rattle.grid_commands.specs.declared.command.Reply.TheVariants as the
 use Rattle.grid_commands.specs.Command.{Edit, read, push, insert_at, insert_all, pop, remove_at, delete_at, delete_range, expand, prepend, get, lines}
 use Rattle.grid_commands.specs.Reply.{ReplyValue, reply_value, done, cell_is, line_is, flag_is, refused}
-use Rattle.grid_commands.specs.Refusal.{in_range, lines_refusal, pad_refusal, edit_refusal, unless_refused}
+use Rattle.grid_commands.specs.Refusal.{in_range, lines_refusal, pad_refusal, edit_refusal}
 use Rattle.grid_commands.specs.LineEdit.{pad_edit}
 use Rattle.grid.specs.Edits.{without_rows, PadsRows}
 use Rattle.grid.specs.Step.{EditIsKnown, nothing, removes, range_effect, effect, after_effect, edit_reply, step_rows, step_reply, memory_at}
 use Rattle.grid.specs.Edited.{Edited}
 use Rattle.grid.specs.Stepped.{Stepped}
-use Rattle.grid.specs.Through.{turned_reply}
 use Rattle.grid.proofs.EditViewLemmas.{put_line, take_line}
 use Rattle.grid.proofs.NoneTakenLemmas.{remove-past}
 use Rattle.grid.proofs.ColEditLemmas.{across-across, rows-across, cols-across}
 use Rattle.grid.proofs.TransposedEditLemmas.{twice_across}
-use Rattle.grid.proofs.CellThroughLemmas.{cell_past}
-use Rattle.grid.proofs.StepThroughLemmas.{through_cross, table-step}
-
--- facts for each outcome, from others
-pub always_ok : {V E : Type 0} (r : Result V E) {P : Type 0} → P → OnOk r P
-always_ok (Ok v) p = p
-always_ok (Err e) p = tt
+use Rattle.grid.proofs.EditAcrossLemmas.{step_rows-across, step_reply-across, table-step_cols}
 
 found_is : (found : Bool) (a b : ℕ) → IsTrue found ↔ (a ≤ b) → found ≡ not (nat_lt b a)
 found_is true a b h = sym (ap not (le-ltb b a (h.0 refl)))
@@ -83,7 +77,19 @@ module _ {T : Type 0} where
   refused_edit P C e s r some =
       done_edit P C e s s (the.Refused r) (λ d known. refused_rows d e s.rows r some) (refused_reply e s.rows r some) refl
 
-  -- a cell that isn't there
+  -- a position that isn't in range has no cell
+  pub cell_past : (t : List (List T)) → IsTable t → (r c : ℕ) → in_range (row_count t) (col_count t) (r, c) ≡ false → cell t r c ≡ None
+  cell_past t h r c e =
+      ⊎_elim (λ lr.
+      ⊎_elim (λ lc. let k : (true && true) ≡ false = rw (lt-ltb r (row_count t) lr, lt-ltb c (col_count t) lc) at e in absurd (both_no k))
+      (λ ge. past_cols t h r c ge)
+      (cases_lt c (col_count t)))
+      (λ ge. cell_past_rows t r c ge)
+      (cases_lt r (row_count t))
+    where
+      both_no : (true && true) ≡ false → ⊥
+      both_no k = cc k
+
   pub get_past : (t : List (List T)) → IsTable t → (r c : ℕ) → in_range (row_count t) (col_count t) (r, c) ≡ false → cell_is None ≡ step_reply (get r c) t
   unfolding step_reply
   get_past t h r c e = ap cell_is (sym (cell_past t h r c e))
@@ -178,24 +184,12 @@ module _ {T : Type 0} where
   pub crossed_rows : (d : T) (e : Edit T) (t mid grown new : List (List T)) → IsTable t → mid ≡ act Transpose t → grown ≡ step_rows d (lines Row e) mid → new ≡ act Transpose grown → new ≡ step_rows d (lines Col e) t
   crossed_rows d e t mid grown new h transposed step back =
       back
-      ∙ (ap (act Transpose) (step ∙ (ap (step_rows d (lines Row e)) transposed ∙ (through_cross (lines Row e) t h).rows d))
-      ∙ across-across (step_rows d (lines Col e) t) (table-step d (lines Col e) t h))
-
-  plain_edit : (a : Axis) (e : Edit T) (count : ℕ) (t : List (List T)) → turned_reply Transpose Row (edit_reply a e count t) ≡ edit_reply a e count t
-  plain_edit a (read i) count t = refl
-  plain_edit a e count t = refl
-
-  plain_unless : (p : Option Refusal) (a : Axis) (e : Edit T) (count : ℕ) (t : List (List T)) → turned_reply Transpose Row (unless_refused p (λ r. refused r) (edit_reply a e count t)) ≡ unless_refused p (λ r. refused r) (edit_reply a e count t)
-  plain_unless None a e count t = plain_edit a e count t
-  plain_unless (Some r) a e count t = refl
-
-  transposed_plain : (e : Edit T) (t : List (List T)) → turned_reply Transpose Row (step_reply (lines Col e) t) ≡ step_reply (lines Col e) t
-  unfolding step_reply
-  transposed_plain e t = plain_unless _ Col e (col_count t) t
+      ∙ (ap (act Transpose) (step ∙ (ap (step_rows d (lines Row e)) transposed ∙ step_rows-across d e t h))
+      ∙ across-across (step_rows d (lines Col e) t) (table-step_cols d e t h))
 
   pub crossed_reply : (e : Edit T) (t mid : List (List T)) (q : ReplyValue T) → IsTable t → mid ≡ act Transpose t → q ≡ step_reply (lines Row e) mid → q ≡ step_reply (lines Col e) t
   crossed_reply e t mid q h transposed step =
-      step ∙ (ap (step_reply (lines Row e)) transposed ∙ ((through_cross (lines Row e) t h).reply Row refl ∙ transposed_plain e t))
+      step ∙ (ap (step_reply (lines Row e)) transposed ∙ step_reply-across e t h)
 
   pub crossed_edit : {A E : Type 0} (P : T → Type 0) (C : T → T → Type 0) (e : Edit T) (old mid late new : GridValue T) (r : Result (Reply T A) E) → mid.rows ≡ act Transpose old.rows → mid.order ≡ flipped old.order → Edited P C Row e mid late r → new.rows ≡ act Transpose late.rows → new.order ≡ flipped late.order → Edited P C Col e old new r
   crossed_edit P C e old mid late new r there turned h back turned_back =

@@ -3,7 +3,7 @@ use Rattle.std.proofs.Common.{◌≡◌, ℕ, suc, ◌+◌, ◌≤◌, inl, inr,
 use Rattle.std.specs.List.{count_by}
 use Rattle.std.proofs.lemmas.List.Sums.{sum_by-cons}
 use denote.Ref.{Bor}
-use Rattle.grid.specs.NearCounts.{CallableNear, MayCount, CountsNear}
+use Rattle.grid_near.specs.NearCounts.{CallableNear, MayCount, CountsNear}
 
 abbrev weight : Bool → ℕ
 weight b = cond b 1 0

@@ -1,5 +1,5 @@
 -- The cells round a cell are cells of the table, at their positions.
-use Rattle.std.proofs.Common.{◌≡◌, ℕ, zero, suc, ◌+◌, ◌<◌, Option, Some, None, List, [], ◌∷◌, length, refl, subst, sym, arith}
+use Rattle.std.proofs.Common.{◌≡◌, ℕ, zero, suc, ◌+◌, ◌<◌, ◌&&◌, Bool, true, false, cond, nat_lt, Option, Some, None, List, [], ◌∷◌, length, refl, subst, sym, arith}
 use Rattle.std.specs.List.{filter_map, cons_option, slice_index_or}
 use Rattle.std.specs.Option.{option_map, option_and_then}
 use Rattle.grid_base.specs.Table.{row_count, col_count, cell, IsTable}
@@ -40,6 +40,10 @@ module _ {T : Type 0} (t : List (List T)) (h : IsTable t) where
   gives_from : (ps : List (Option ℕ × Option ℕ)) (s : List ((ℕ × ℕ) × T)) → s ≡ filter_map (cell_at (cell t)) ps → GivesCells t s
   gives_from ps s is = gives_cells_of t (filter_map (cell_at (cell t)) ps) (each_there ps) s is
 
+  gives_if : (b : Bool) (ps : List (Option ℕ × Option ℕ)) (s : List ((ℕ × ℕ) × T)) → s ≡ cond b (filter_map (cell_at (cell t)) ps) [] → GivesCells t s
+  gives_if true ps s is = gives_from ps s is
+  gives_if false ps s is = gives_from [] s is
+
   module _ (r c : ℕ) (s : List ((ℕ × ℕ) × T)) where
     pub gives_neighbors4 : s ≡ neighbors4 t r c → GivesCells t s
     unfolding neighbors4
@@ -54,11 +58,11 @@ module _ {T : Type 0} (t : List (List T)) (h : IsTable t) where
     gives_wrapped_neighbors4 is =
         let m = row_count t in
         let n = col_count t in
-        gives_from (around4 (Some (round_before m r)) (Some r) (Some (round_after m r)) (Some (round_before n c)) (Some c) (Some (round_after n c))) s is
+        gives_if (nat_lt r m && nat_lt c n) (around4 (Some (round_before m r)) (Some r) (Some (round_after m r)) (Some (round_before n c)) (Some c) (Some (round_after n c))) s is
 
     pub gives_wrapped_neighbors8 : s ≡ wrapped_neighbors8 t r c → GivesCells t s
     unfolding wrapped_neighbors8
     gives_wrapped_neighbors8 is =
         let m = row_count t in
         let n = col_count t in
-        gives_from (around8 (Some (round_before m r)) (Some r) (Some (round_after m r)) (Some (round_before n c)) (Some c) (Some (round_after n c))) s is
+        gives_if (nat_lt r m && nat_lt c n) (around8 (Some (round_before m r)) (Some r) (Some (round_after m r)) (Some (round_before n c)) (Some c) (Some (round_after n c))) s is

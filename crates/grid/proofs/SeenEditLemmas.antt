@@ -1,24 +1,24 @@
 -- What a line edit starts from and leaves, by a grid's fields.
-use Rattle.std.proofs.Common.{◌≡◌, ◌<◌, ◌≤◌, ◌+◌, ◌-◌, ◌*◌, ◌^◌, ◌++◌, ◌∷◌, [], ℕ, zero, suc, List, take, drop, Some, length, length-append, refl, sym, ◌∙◌, ap, arith, ⊎_elim, subst, Bool, true, false, IsTrue, ◌↔◌}
-use Rattle.std.proofs.lemmas.Bool.{cases_lt}
-use Rattle.std.specs.List.{insert, remove, slice_get}
-use Rattle.std.proofs.lemmas.List.{length-take-le}
-use Rattle.std.proofs.lemmas.Option.{slice_get-get_or}
+use Rattle.std.proofs.Common.{◌≡◌, ◌<◌, ◌≤◌, ◌+◌, ◌-◌, ◌*◌, ◌^◌, ◌++◌, ◌∷◌, [], ℕ, zero, suc, List, take, drop, length, length-append, refl, sym, ◌∙◌, ap, arith, ⊎_elim, subst, Bool, true, false, IsTrue, ◌↔◌}
+use Rattle.std.proofs.lemmas.Bool.{cases_lt, cases_eq}
+use Rattle.std.specs.List.{insert}
+use Rattle.std.proofs.lemmas.List.{nil_from_length}
+use Rattle.std.proofs.Math.Seq.{take-append_seam, drop-append_seam}
 use Rattle.std.proofs.Math.Dec.{eqb-suc-zero}
 use Rattle.grid_base.specs.declared.order.Order.{Order}
-use Rattle.grid_base.specs.declared.order.Order.TheVariants.{RowMajor}
-use Rattle.grid_base.specs.Table.{row, row_count, col_count, IsTable}
+use Rattle.grid_base.specs.Table.{row_count, col_count, IsTable}
 use Rattle.grid_base.specs.Order.{storage, table_of}
 use Rattle.grid_base.specs.GridValue.{GridValue, HoldsSize}
 use Rattle.grid_base.proofs.StorageLemmas.{length-storage}
-use Rattle.grid_base.specs.Groups.{Woven, Closed}
+use Rattle.grid_base.specs.Groups.{Woven, Closed, TakenOut}
 use Rattle.grid.specs.Edits.{FitsRow, insert_rows, without_rows}
-use Rattle.grid.specs.RowGroups.{RowGroups, RowsInserted, RowsTaken, RowMovedToEnd, cols_if_rows}
+use Rattle.grid.specs.RowGroups.{RowGroups, RowsInserted, RowsTaken, RowsTakenOut, cols_if_rows}
 use Rattle.grid.proofs.SeenLemmas.{seen_rows, seen_cols}
 use Rattle.grid_base.proofs.ViewLemmas.{HoldsSize-none, view-rows, view-cols}
 use Rattle.grid.specs.View.{grid_value}
 use Rattle.grid.specs.Shift.{rows_taken_shift}
-use Rattle.grid.proofs.EditViewLemmas.{view-remove_row, view-removed_row, view-close_rows, cells-closed, view-insert_rows, table_of-no_rows, storage-line, IsTable-line, put_line}
+use Rattle.grid.proofs.RowEditLemmas.{cells-groups}
+use Rattle.grid.proofs.EditViewLemmas.{view-without_rows, view-taken_rows, view-close_rows, cells-closed, view-insert_rows, table_of-no_rows, storage-line, IsTable-line, put_line}
 use Rattle.grid.proofs.EditSizeLemmas.{HoldsSize-fewer}
 
 -- groups woven into the lines are rows put
@@ -85,6 +85,27 @@ rows_taken {T} o n i k rest p q a g old new groups len le w =
       table = view-close_rows o (rest + k) n i k rest old refl len (omega arith) p q a g new groups w;
     }
 
+-- groups taken out are rows taken out
+pub rows_out : {T : Type 0} (o : Order) (n i k rest p q a g : ℕ) (old new taken : List T) → RowGroups o rest n i k p q a g → length old ≡ (rest + k) * n → i ≤ rest → TakenOut p q a g new taken old → RowsTakenOut o n i k rest old new taken
+rows_out o n i k rest p q a g old new taken groups len le out =
+    let w = out.woven in
+    let size : length new ≡ rest * n = out.lengths ∙ cells-groups o rest n i k p q a g groups in
+    let front : take (rest * n) (new ++ taken) ≡ new = ap (λ x. take x (new ++ taken)) (sym size) ∙ take-append_seam new taken in
+    let behind : drop (rest * n) (new ++ taken) ≡ taken = ap (λ x. drop x (new ++ taken)) (sym size) ∙ drop-append_seam new taken in
+    record {
+      kept = record {
+        lengths = size;
+        table = ap (table_of o rest n) (sym front) ∙ view-without_rows o (rest + k) n i k rest old refl len (omega arith) p q a g (new ++ taken) groups w;
+      };
+      lengths = omega (arith, w.lengths, length-append new taken, size, len);
+      cells = λ wide some. sym behind ∙ view-taken_rows o (rest + k) n i k rest old refl len (omega arith) p q a g (new ++ taken) groups w wide some;
+    }
+
+storage-none : {T : Type 0} (o : Order) (t : List (List T)) → row_count t ≡ 0 → storage o t ≡ []
+storage-none o t none =
+    let h : IsTable t = record { nonempty = λ r lt. absurd (omega (arith, none)); even = λ r lt. absurd (omega (arith, none)) } in
+    nil_from_length (storage o t) (length-storage o t h ∙ (ap (λ x. x * col_count t) none ∙ omega arith))
+
 -- the table and the size where so many rows are left
 pub table_left : {T : Type 0} (o : Order) (rest n : ℕ) (cells : List T) → table_of o rest (cols_if_rows rest n) cells ≡ table_of o rest n cells
 table_left o zero n cells = table_of-no_rows o 0 cells ∙ sym (table_of-no_rows o n cells)
@@ -95,15 +116,15 @@ HoldsSize-left m n zero len part h le e = HoldsSize-none part (e ∙ omega arith
 HoldsSize-left m n (suc rest) len part h le e = rw (eqb-suc-zero rest) (HoldsSize-fewer m n (suc rest) len part h (omega arith) le e)
 
 -- taking some rows of a grid
-module _ {T : Type 0} (o : Order) (m n : ℕ) (cells : List T) (s : GridValue T) (h : HoldsSize m n (length cells)) (e : grid_value o m n cells h ≡ s) (i k : ℕ) (within : i + k ≤ row_count s.rows) (some : 0 < k) where
+module _ {T : Type 0} (o : Order) (m n : ℕ) (cells : List T) (s : GridValue T) (h : HoldsSize m n (length cells)) (e : grid_value o m n cells h ≡ s) (i k : ℕ) (within : i + k ≤ row_count s.rows) where
   pub taken_in : i + k ≤ m
   taken_in = rw (seen_rows o m n cells s h e) at within
 
   pub taken_whole : m - k + k ≡ m
   taken_whole = omega (arith, taken_in)
 
-  pub taken_wide : 0 < n
-  taken_wide = h.size.has_cols (omega (arith, taken_in, some))
+  pub taken_wide : 0 < k → 0 < n
+  taken_wide some = h.size.has_cols (omega (arith, taken_in, some))
 
   pub taken_cells : length cells ≡ (m - k + k) * n
   taken_cells = h.cells ∙ ap (λ x. x * n) (sym taken_whole)
@@ -124,82 +145,19 @@ module _ {T : Type 0} (o : Order) (m n : ℕ) (cells : List T) (s : GridValue T)
       ∙ (ap (λ x. rows_taken_shift o x (col_count (table_of o m n cells)) i k) (view-rows o m n cells h ∙ sym taken_whole)
       ∙ ap (λ x. rows_taken_shift o (m - k + k) x i k) (view-cols o m n cells h))
 
--- groups unwoven are a row behind the others
-pub row_behind : {T : Type 0} (o : Order) (n i rest p q a g : ℕ) (old new : List T) → RowGroups o rest n i 1 p q a g → length old ≡ (rest + 1) * n → i ≤ rest → Woven p q a g new old → RowMovedToEnd o n i rest old new
-row_behind o n i rest p q a g old new groups len le w =
-    record {
-      lengths = sym w.lengths;
-      kept = view-remove_row o (rest + 1) n i rest old refl len (omega arith) p q a g groups new w;
-      taken = view-removed_row o (rest + 1) n i rest old refl len (omega arith) p q a g groups new w;
-    }
+  module _ (new taken : List T) (p : RowsTakenOut o n i k (m - k) cells new taken) where
+    whole : table_of o (m - k + k) n cells ≡ s.rows
+    whole = ap (λ x. table_of o x n cells) taken_whole ∙ ap (λ x. x.rows) e
 
-first_only : (l u v : ℕ) → l < 1 → (j : ℕ) → l * u + j ≡ l * v + j
-first_only l u v lt j =
-    let none : l ≡ 0 = omega arith in
-    let low = ap (λ x. x * u) none in
-    let high = ap (λ x. x * v) none in
-    omega arith
+    some_taken : 0 < k → taken ≡ storage s.order (take k (drop i s.rows))
+    some_taken some =
+        p.cells (taken_wide some) some
+        ∙ (ap (λ x. storage o (take k (drop i x))) whole ∙ ap (λ x. storage x.order (take k (drop i s.rows))) e)
 
--- the last row of the rows in their order stands behind the others
-woven_last : {T : Type 0} (q k : ℕ) (xs : List T) → Woven 1 q q k xs xs
-woven_last q k xs =
-    record {
-      lengths = refl;
-      lines = record {
-        before = λ l j a b c. let here : l * (q + k) + j ≡ l * q + j = first_only l (q + k) q a j in ap (slice_get xs) here;
-        after = λ l j a b c. absurd (omega arith);
-      };
-      groups = λ l j a b.
-          let none : l ≡ 0 = omega arith in
-          let low = ap (λ v. v * (q + k)) none in
-          let high = ap (λ v. v * k) none in
-          let here : l * (q + k) + (q + j) ≡ 1 * q + (l * k + j) = omega arith in
-          ap (slice_get xs) here;
-    }
+    none_taken : k ≡ 0 → taken ≡ storage s.order (take k (drop i s.rows))
+    none_taken none =
+        nil_from_length taken (omega (arith, p.lengths, ap (λ x. x * n) none))
+        ∙ sym (storage-none s.order (take k (drop i s.rows)) (ap (λ x. length (take x (drop i s.rows))) none))
 
-pub row_last : {T : Type 0} (n rest : ℕ) (cells : List T) → length cells ≡ (rest + 1) * n → RowMovedToEnd RowMajor n rest rest cells cells
-row_last n rest cells len =
-    row_behind RowMajor n rest rest 1 (rest * n) (rest * n) n cells cells (refl, refl, refl, omega arith) len (omega arith) (woven_last (rest * n) n cells)
-
--- taking a row of a grid
-module _ {T : Type 0} (o : Order) (m n : ℕ) (cells : List T) (s : GridValue T) (h : HoldsSize m n (length cells)) (e : grid_value o m n cells h ≡ s) (i : ℕ) (within : i < row_count s.rows) where
-  pub removed_in : i < m
-  removed_in = rw (seen_rows o m n cells s h e) at within
-
-  pub removed_whole : m - 1 + 1 ≡ m
-  removed_whole = omega (arith, removed_in)
-
-  pub removed_wide : 0 < n
-  removed_wide = h.size.has_cols (omega (arith, removed_in))
-
-  pub removed_cells : length cells ≡ (m - 1 + 1) * n
-  removed_cells = h.cells ∙ ap (λ x. x * n) (sym removed_whole)
-
-  pub removed_small : (m - 1 + 1) * n < 2 ^ 64
-  removed_small = rw removed_whole h.below
-
-  module _ (new : List T) (p : RowMovedToEnd o n i (m - 1) cells new) where
-    pub removed_length : length new ≡ (m - 1) * n + n
-    removed_length = p.lengths ∙ (removed_cells ∙ omega arith)
-
-    pub row_removed : table_of o (m - 1) (cols_if_rows (m - 1) n) (take ((m - 1) * n) new) ≡ remove s.rows i
-    row_removed =
-        table_left o (m - 1) n (take ((m - 1) * n) new)
-        ∙ (p.kept ∙ (ap (λ x. remove (table_of o x n cells) i) removed_whole ∙ ap (λ x. remove x.rows i) e))
-
-    pub removed_fits : HoldsSize (m - 1) (cols_if_rows (m - 1) n) (length (take ((m - 1) * n) new))
-    removed_fits = HoldsSize-left m n (m - 1) (length cells) _ h (omega arith) (length-take-le ((m - 1) * n) new (omega (arith, removed_length)))
-
-    pub removed_line : slice_get s.rows i ≡ Some (drop ((m - 1) * n) new)
-    removed_line =
-        slice_get-get_or s.rows i [] within
-        ∙ ap Some (sym (p.taken removed_wide ∙ (ap (λ x. row (table_of o x n cells) i) removed_whole ∙ ap (λ x. row x.rows i) e)))
-
--- the last row of a grid whose rows stand in their order
-pub last_row : {T : Type 0} (o : Order) (m n : ℕ) (cells : List T) (s : GridValue T) (h : HoldsSize m n (length cells)) (e : grid_value o m n cells h ≡ s) → s.order ≡ RowMajor → 0 < row_count s.rows → RowMovedToEnd o n (row_count s.rows - 1) (m - 1) cells cells
-last_row o m n cells s h e major some =
-    let rows : row_count s.rows ≡ m = seen_rows o m n cells s h e in
-    let is : o ≡ RowMajor = ap (λ x. x.order) e ∙ major in
-    let last : row_count s.rows - 1 ≡ m - 1 = omega (arith, rows) in
-    let len : length cells ≡ (m - 1 + 1) * n = removed_cells o m n cells s h e (row_count s.rows - 1) (omega arith) in
-    rw (is, last) (row_last n (m - 1) cells len)
+    pub taken_storage : taken ≡ storage s.order (take k (drop i s.rows))
+    taken_storage = ⊎_elim none_taken (λ some. some_taken (omega arith)) (cases_eq k 0)

@@ -1,5 +1,5 @@
 -- What a grid's fields say of the value that a contract sees.
-use Rattle.std.proofs.Common.{◌≡◌, ◌<◌, ◌*◌, ◌^◌, ℕ, List, [], length, sym, ◌∙◌, ap, arith, ◌↔◌, IsTrue, nat_eq}
+use Rattle.std.proofs.Common.{◌≡◌, ◌<◌, ℕ, List, [], length, sym, ◌∙◌, ap, arith, ◌↔◌, IsTrue, nat_eq}
 use borrow.Author.Tests.{eqb-true, eq-eqb}
 use Rattle.grid_base.specs.declared.order.Order.{Order}
 use Rattle.grid_base.specs.Table.{row_count, col_count, InRange}
@@ -18,9 +18,6 @@ module _ {T : Type 0} (o : Order) (m n : ℕ) (cells : List T) (s : GridValue T)
 
   pub seen_storage : grid_value o m n cells h ≡ s → storage s.order s.rows ≡ cells
   seen_storage e = rw (← e) (view-storage o m n cells h)
-
-  pub seen_below : grid_value o m n cells h ≡ s → row_count s.rows * col_count s.rows < 2 ^ 64
-  seen_below e = rw (seen_rows e, seen_cols e) h.below
 
   pub seen_empty : grid_value o m n cells h ≡ s → IsTrue (nat_eq m 0) ↔ (s.rows ≡ [])
   seen_empty e = (

@@ -1,34 +1,18 @@
 -- Rows that are split off a grid, and cells that are cut into the rows that they had.
-use Rattle.std.proofs.Common.{◌≡◌, ◌≢◌, ◌<◌, ◌≤◌, ◌+◌, ◌-◌, ◌*◌, ◌^◌, ◌++◌, [], ℕ, List, take, drop, length, length-drop, refl, sym, ◌∙◌, ap, arith, ⊎_elim, inl, subst}
-use Rattle.std.proofs.lemmas.List.{length-take-le, nil_from_length, take_all, drop_all, append-nil}
+use Rattle.std.proofs.Common.{◌≡◌, ◌≢◌, ◌<◌, ◌≤◌, ◌+◌, ◌-◌, ◌*◌, ◌++◌, [], ℕ, List, take, drop, length, length-drop, sym, ◌∙◌, ap, arith, ⊎_elim, inl, subst}
+use Rattle.std.proofs.lemmas.List.{take_all, drop_all, append-nil}
 use Rattle.std.proofs.lemmas.Bool.{cases_eq}
 use Rattle.grid_base.specs.declared.order.Order.{Order}
 use Rattle.grid_base.specs.Table.{row_count, col_count, IsTable}
-use Rattle.grid_base.specs.Order.{storage, table_of, CanCut}
-use Rattle.grid_base.specs.GridValue.{GridValue, HoldsSize}
-use Rattle.grid_base.specs.Groups.{Woven}
+use Rattle.grid_base.specs.Order.{storage, CanCut}
 use Rattle.grid_base.proofs.StorageLemmas.{length-storage}
 use Rattle.grid_base.proofs.ViewLemmas.{same_by_storage, none_by_storage, CanCut-storage}
 use Rattle.grid.specs.Edits.{without_rows, without_cols}
-use Rattle.grid.specs.RowGroups.{RowGroups, RowsMovedToEnd, cols_if_rows}
-use Rattle.grid.specs.View.{grid_value}
 use Rattle.grid_base.specs.declared.words.Symmetry.TheVariants.{Transpose}
 use Rattle.grid_base.specs.Symmetry.{act}
 use Rattle.grid_base.proofs.ActLemmas.{rows-act}
 use Rattle.grid.proofs.ColEditLemmas.{without_cols-across}
-use Rattle.grid.proofs.SeenLemmas.{seen_rows}
-use Rattle.grid.proofs.EditViewLemmas.{view-without_rows, view-taken_rows}
 use Rattle.grid.proofs.EditSizeLemmas.{IsTable-take, cols-take}
-use Rattle.grid.proofs.SeenEditLemmas.{table_left, HoldsSize-left}
-
--- groups unwoven are rows behind the others
-pub rows_behind : {T : Type 0} (o : Order) (n i k rest p q a g : ℕ) (old new : List T) → RowGroups o rest n i k p q a g → length old ≡ (rest + k) * n → i ≤ rest → Woven p q a g new old → RowsMovedToEnd o n i k rest old new
-rows_behind o n i k rest p q a g old new groups len le w =
-    record {
-      lengths = sym w.lengths;
-      kept = view-without_rows o (rest + k) n i k rest old refl len (omega arith) p q a g new groups w;
-      taken = view-taken_rows o (rest + k) n i k rest old refl len (omega arith) p q a g new groups w;
-    }
 
 pub times_none : (k c : ℕ) → k ≡ 0 → k * c ≡ 0
 times_none k c none = ap (λ x. x * c) none ∙ omega arith
@@ -85,53 +69,5 @@ module _ {T : Type 0} (t : List (List T)) (h : IsTable t) (at : ℕ) (le : at �
   pub cols-tail : 0 < row_count (drop at t) → col_count (drop at t) ≡ col_count t
   cols-tail some = ap col_count (drop_without at t) ∙ cols-take 0 at t h (omega (arith, le)) (omega (arith, some, length-drop at t))
 
--- splitting the rows of a grid
-module _ {T : Type 0} (o : Order) (m n : ℕ) (cells : List T) (s : GridValue T) (h : HoldsSize m n (length cells)) (e : grid_value o m n cells h ≡ s) (at : ℕ) (le : at ≤ row_count s.rows) where
-  pub split_in : at ≤ m
-  split_in = rw (seen_rows o m n cells s h e) at le
-
-  split_whole : at + (m - at) ≡ m
-  split_whole = omega (arith, split_in)
-
-  pub split_cells : length cells ≡ (at + (m - at)) * n
-  split_cells = h.cells ∙ ap (λ x. x * n) (sym split_whole)
-
-  pub split_small : (at + (m - at)) * n < 2 ^ 64
-  split_small = rw split_whole h.below
-
-  module _ (new : List T) (p : RowsMovedToEnd o n at (m - at) at cells new) where
-    pub split_length : length new ≡ at * n + (m - at) * n
-    split_length = p.lengths ∙ (split_cells ∙ omega arith)
-
-    whole : table_of o (at + (m - at)) n cells ≡ s.rows
-    whole = ap (λ x. table_of o x n cells) split_whole ∙ ap (λ x. x.rows) e
-
-    pub rows_kept : table_of o at (cols_if_rows at n) (take (at * n) new) ≡ take at s.rows
-    rows_kept =
-        let rows : row_count s.rows ≡ m = seen_rows o m n cells s h e in
-        let none : drop (at + (m - at)) s.rows ≡ [] = drop_all (at + (m - at)) s.rows (omega (arith, rows, split_in)) in
-        table_left o at n (take (at * n) new)
-        ∙ (p.kept
-        ∙ (ap (without_rows at (m - at)) whole ∙ (ap (λ x. take at s.rows ++ x) none ∙ append-nil (take at s.rows))))
-
-    pub split_fits : HoldsSize at (cols_if_rows at n) (length (take (at * n) new))
-    split_fits = HoldsSize-left m n at (length cells) _ h split_in (length-take-le (at * n) new (omega (arith, split_length)))
-
-    some_behind : 0 < m - at → drop (at * n) new ≡ storage s.order (drop at s.rows)
-    some_behind some =
-        let rows : row_count s.rows ≡ m = seen_rows o m n cells s h e in
-        let all : take (m - at) (drop at s.rows) ≡ drop at s.rows = take_all (m - at) (drop at s.rows) (omega (arith, rows, length-drop at s.rows)) in
-        p.taken (h.size.has_cols (omega (arith, some))) some
-        ∙ (ap (λ x. storage o (take (m - at) (drop at x))) whole ∙ (ap (storage o) all ∙ ap (λ x. storage x.order (drop at s.rows)) e))
-
-    none_behind : m - at ≡ 0 → drop (at * n) new ≡ storage s.order (drop at s.rows)
-    none_behind none =
-        let rows : row_count s.rows ≡ m = seen_rows o m n cells s h e in
-        let left : row_count (drop at s.rows) ≡ 0 = omega (arith, rows, length-drop at s.rows, none) in
-        let product : (m - at) * n ≡ 0 = times_none (m - at) n none in
-        let size = length-storage s.order (drop at s.rows) (IsTable-tail s.rows s.table at le) in
-        nil_from_length (drop (at * n) new) (omega (arith, split_length, length-drop (at * n) new, product))
-        ∙ sym (nil_from_length (storage s.order (drop at s.rows)) (size ∙ times_none (row_count (drop at s.rows)) (col_count (drop at s.rows)) left))
-
-    pub split_tail : drop (at * n) new ≡ storage s.order (drop at s.rows)
-    split_tail = ⊎_elim none_behind (λ some. some_behind (omega arith)) (cases_eq (m - at) 0)
+  pub all_taken : take (row_count t - at) (drop at t) ≡ drop at t
+  all_taken = take_all (row_count t - at) (drop at t) (omega (arith, length-drop at t))

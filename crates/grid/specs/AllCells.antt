@@ -1,5 +1,5 @@
 -- What a call on all cells leaves.
-use Rattle.std.specs.Prelude.{◌≡◌, ◌<◌, ◌^◌, ℕ, Option, Some, IsSomeAnd, List, map}
+use Rattle.std.specs.Prelude.{◌≡◌, ℕ, Option, Some, IsSomeAnd, List, map}
 use denote.Ref.{Bor}
 use Rattle.grid_base.specs.Table.{row_count, col_count, cell, InRange, tabulate}
 
@@ -10,8 +10,8 @@ filled w t = map (λ row. map (λ _. w) row) t
 -- the closure f can be called at each position of the table t and a reference to the cell there
 abbrev pub CallableAtPositions : {F A : Type 0} → (F → ℕ × ℕ → Bor A → Type 0) → F → List (List A)
     → Type 0
-CallableAtPositions {A = A} takes f t = (r c : ℕ) (p : Bor A) → InRange t r c → row_count t < 2 ^ 64
-    → col_count t < 2 ^ 64 → cell t r c ≡ Some p.now → takes f (r, c) p
+CallableAtPositions {A = A} takes f t = (r c : ℕ) (p : Bor A) → InRange t r c
+    → cell t r c ≡ Some p.now → takes f (r, c) p
 
 -- the closure f can be called at this position of the table t and a reference to the cell there
 abbrev pub ReachesThere : {F A : Type 0} → (F → ℕ × ℕ → Bor A → Type 0) → F → List (List A) → ℕ × ℕ

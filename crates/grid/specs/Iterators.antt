@@ -1,8 +1,8 @@
--- What a grid ends as, once an iterator for writing has ended.
+-- What a grid ends as, once a slice or an iterator for writing has ended.
 use Rattle.std.specs.Prelude.{◌≡◌, ℕ, List, ◌++◌, length, take, drop}
 use Rattle.std.proofs.Common.{sym, refl}
 use Rattle.std.specs.List.{refill, length_refill}
-use Rattle.std.specs.Borrow.{follows, Fml, RattleType, MutBor, Array}
+use Rattle.std.specs.Borrow.{follows, Lends, Fml, RattleType, MutBor, Array}
 use Rattle.std.specs.Slice.Iter.{iter_mut_name}
 use Rattle.std.specs.declared.slice.IterMut.{IterMut}
 use Rattle.std.specs.declared.alloc.Allocator.{Ghosts}
@@ -47,6 +47,11 @@ module _ {T : Type 0} (s : GridValue T) where
   KeepsSizeFrom r c = (ws : List T) → IsSameSize (refilled_from r c ws).rows
 
 module _ (T A : RattleType) (alloc : Ghosts A.Denot) (v : MutBor (GridValue T.Denot)) where
+  -- once the slice has ended, the cells in storage order are those that it was left with; the size
+  -- and the order are as they were
+  abbrev pub lends_slice : MutBor (List T.Denot) → Fml
+  lends_slice s = Lends (the_row T A alloc) (Array T 0) v s (refilled v.now)
+
   -- once the iterator has ended, the size and the order are as they were; what the cells are is
   -- left to the iterator
   abbrev pub lends_cells : IterMut T.Denot → Fml

@@ -1,4 +1,5 @@
 pub mod View
+pub mod Found
 pub mod Grid
 pub mod Make
 pub mod Slots
@@ -7,7 +8,6 @@ pub mod Passes
 pub mod Step
 pub mod Stepped
 pub mod Cost
-pub mod Through
 pub mod Run
 pub mod Edited
 pub mod Edits
@@ -19,7 +19,6 @@ pub mod Same
 pub mod Texts
 pub mod EditFails
 pub mod Parts
-pub mod NearCounts
 pub mod NearMaps
 pub mod Pasted
 pub mod Copies

@@ -23,7 +23,7 @@ use Rattle.std.specs.Prelude.{
 use Rattle.grid_base.specs.declared.order.Order.{Order}
 use Rattle.grid_base.specs.Table.{row_count, col_count, cell, InRange, tabulate}
 use Rattle.grid_base.specs.Order.{place, storage}
-use Rattle.grid_base.specs.GridValue.{GridValue}
+use Rattle.grid_base.specs.GridValue.{GridValue, FitsUsize}
 use Rattle.grid_commands.specs.declared.error.GridError.{GridError}
 use Rattle.grid_commands.specs.declared.error.GridError.TheVariants.{TooLarge}
 
@@ -64,8 +64,7 @@ pub record HoldsDefaults {T : Type 0} (is_default : T → Type 0) (g : GridValue
 -- the closure f can be called at each position of m rows and n columns, where a vector can hold
 -- their cells
 abbrev pub CallableOver : {F : Type 0} → (F → ℕ × ℕ → Type 0) → F → ℕ → ℕ → Type 0
-CallableOver takes f m n = (r c : ℕ) → r < m → c < n → m < 2 ^ 64 → n < 2 ^ 64 → m * n < 2 ^ 64
-    → takes f (r, c)
+CallableOver takes f m n = (r c : ℕ) → r < m → c < n → FitsUsize m n → takes f (r, c)
 
 module _ {F T : Type 0} (returns : F → ℕ × ℕ → T → Type 0) (f : F) (m n : ℕ) where
   -- u is the table of what f returns at each position of m rows and n columns: where there are

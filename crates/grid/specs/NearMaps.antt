@@ -1,7 +1,7 @@
 -- What a closure answers at a cell and the cells round it.
-use Rattle.std.specs.Prelude.{◌≡◌, ◌<◌, ◌^◌, ℕ, Some, List}
+use Rattle.std.specs.Prelude.{◌≡◌, ℕ, Some, List}
 use denote.Ref.{Bor}
-use Rattle.grid_base.specs.Table.{row_count, col_count, cell, InRange}
+use Rattle.grid_base.specs.Table.{cell, InRange}
 
 module _ {F T : Type 0} (near : List (List T) → ℕ → ℕ → List ((ℕ × ℕ) × T)) where
   -- the closure f can be called at this position of the table t, a reference to the cell there, and
@@ -13,8 +13,8 @@ module _ {F T : Type 0} (near : List (List T) → ℕ → ℕ → List ((ℕ × 
   -- it can be called so at each position
   abbrev pub CallableRound : (F → ℕ × ℕ → Bor T → List ((ℕ × ℕ) × T) → Type 0) → F → List (List T)
       → Type 0
-  CallableRound takes f t = (r c : ℕ) (p : Bor T) → InRange t r c → row_count t < 2 ^ 64
-      → col_count t < 2 ^ 64 → cell t r c ≡ Some p.now → takes f (r, c) p (near t r c)
+  CallableRound takes f t = (r c : ℕ) (p : Bor T) → InRange t r c → cell t r c ≡ Some p.now
+      → takes f (r, c) p (near t r c)
 
   -- y is something that the closure f may return at a position of the table t, a reference to the
   -- cell there, and the cells near it

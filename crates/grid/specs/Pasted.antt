@@ -7,7 +7,6 @@ use Rattle.std.specs.Prelude.{
   negsuc,
   ◌+◌,
   ◌-◌,
-  ◌^◌,
   ◌<◌,
   ◌≤◌,
   ◌⊎◌,
@@ -66,7 +65,7 @@ module _ {F A : Type 0} (f : F) (at size : ℕ × ℕ) (t : List (List A)) where
   -- the closure f can be called at each position of a part and a reference to the cell there
   abbrev pub CallableInPart : (F → ℕ × ℕ → Bor A → Type 0) → Type 0
   CallableInPart takes = (r c : ℕ) (p : Bor A) → IsTrue (in_part at size r c) → InRange t r c
-      → row_count t < 2 ^ 64 → col_count t < 2 ^ 64 → cell t r c ≡ Some p.now → takes f (r, c) p
+      → cell t r c ≡ Some p.now → takes f (r, c) p
 
   -- where h gives whatever f may return at each position of the part and the cell there, u is the
   -- table with what h gives in the part

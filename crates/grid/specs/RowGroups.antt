@@ -9,7 +9,6 @@ use Rattle.std.specs.Prelude.{
   length,
   take,
   drop,
-  remove,
   nat_eq,
   ◌<◌,
   ◌≤◌,
@@ -46,12 +45,12 @@ module _ {T : Type 0} (o : Order) (n i k rest : ℕ) (old new : List T) where
     pub lengths : length new ≡ rest * n
     pub table : table_of o rest n new ≡ without_rows i k (table_of o (rest + k) n old)
 
-module _ {T : Type 0} (o : Order) (n i rest : ℕ) (old new : List T) where
-  -- row i of a table of rest + 1 rows and n columns stands behind the cells of the others
-  pub record RowMovedToEnd : Type 0 where
-    pub lengths : length new ≡ length old
-    pub kept : table_of o rest n (take (rest * n) new) ≡ remove (table_of o (rest + 1) n old) i
-    pub taken : 0 < n → drop (rest * n) new ≡ row (table_of o (rest + 1) n old) i
+module _ {T : Type 0} (o : Order) (n i k rest : ℕ) (old new taken : List T) where
+  -- and these are their cells in storage order
+  pub record RowsTakenOut : Type 0 where
+    pub kept : RowsTaken o n i k rest old new
+    pub lengths : length taken ≡ k * n
+    pub cells : 0 < n → 0 < k → taken ≡ storage o (take k (drop i (table_of o (rest + k) n old)))
 
 module _ {T : Type 0} (o : Order) (m n i k : ℕ) (old new : List T) where
   -- k rows of cells that stood behind a table of m rows and n columns are put before its row i
@@ -63,13 +62,3 @@ module _ {T : Type 0} (o : Order) (m n i k : ℕ) (old new : List T) where
     pub from : (j c : ℕ) → j < k → c < n → (x : ℕ) × (m * n ≤ x) × (x < length old)
         × (cell fresh j c ≡ slice_get old x)
     pub put : table_of o (m + k) n new ≡ insert_rows i fresh (table_of o m n (take (m * n) old))
-
-module _ {T : Type 0} (o : Order) (n i k rest : ℕ) (old new : List T) where
-  -- k rows from row i on of a table of rest + k rows and n columns stand behind the cells of the
-  -- others
-  pub record RowsMovedToEnd : Type 0 where
-    pub lengths : length new ≡ length old
-    pub kept : table_of o rest n (take (rest * n) new)
-        ≡ without_rows i k (table_of o (rest + k) n old)
-    pub taken : 0 < n → 0 < k
-        → drop (rest * n) new ≡ storage o (take k (drop i (table_of o (rest + k) n old)))

@@ -1,13 +1,13 @@
 -- What a contract sees of a grid: its value by its parts, with one cell written, and with other
--- cells. That the rows are a table is proved in grid_base; no other module of specs/ names a lemma
--- of a crate.
+-- cells. That the rows are a table whose size fits is proved in grid_base; no other module of
+-- specs/ names a lemma of a crate.
 use Rattle.std.specs.Prelude.{◌≡◌, ℕ, List, length}
 use Rattle.grid_base.specs.declared.order.Order.{Order}
 use Rattle.grid_base.specs.Table.{row_count, col_count, with_cell}
 use Rattle.grid_base.specs.Order.{storage, table_of}
 use Rattle.grid_base.specs.GridValue.{GridValue, HoldsSize}
-use Rattle.grid_base.proofs.ViewLemmas.{view-table, IsTable-recut}
-use Rattle.grid_base.proofs.WriteLemmas.{IsTable-with_cell}
+use Rattle.grid_base.proofs.ViewLemmas.{view-table, view-fits, IsTable-recut, FitsUsize-recut}
+use Rattle.grid_base.proofs.WriteLemmas.{IsTable-with_cell, FitsUsize-with_cell}
 
 module _ {T : Type 0} where
   -- the grid of m rows and n columns with these cells in storage order
@@ -17,6 +17,7 @@ module _ {T : Type 0} where
     rows = table_of o m n cells;
     order = o;
     table = view-table o m n cells h;
+    fits = view-fits o m n cells h;
   }
 
   -- a grid with w in row r and column c; past its end nothing changes
@@ -24,6 +25,7 @@ module _ {T : Type 0} where
   with_grid_cell s r c w = record s {
     rows = with_cell s.rows r c w;
     table = IsTable-with_cell s.rows s.table r c w;
+    fits = FitsUsize-with_cell s.rows s.table r c w s.fits;
   }
 
   -- the grid of the same size and order with these cells in storage order
@@ -34,4 +36,5 @@ module _ {T : Type 0} where
         rows = table_of s.order (row_count s.rows) (col_count s.rows) cells;
         order = s.order;
         table = IsTable-recut s.order s.rows cells s.table e;
+        fits = FitsUsize-recut s.order s.rows cells s.table s.fits e;
       }

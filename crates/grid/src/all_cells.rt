@@ -1,5 +1,5 @@
 //! Calls on all cells of a grid: `fill` and `fill_with`, `map`, `map_ref`, `map_indexed` and `try_map_indexed`, `update`.
-ghost use Rattle.std.specs.Prelude.{◌≡◌, [], length, Ok, IsOk, IfOk, IfErr, OnOk, OnErr};
+ghost use Rattle.std.specs.Prelude.{◌≡◌, [], ⊤, length, Ok, IsOk, IfOk, IfErr, OnOk, OnErr};
 ghost use Rattle.std.specs.Fn.{FnReturnsAt};
 ghost use Rattle.grid_base.specs.Table.{row_count, col_count};
 ghost use Rattle.grid_base.specs.GridValue.{SameSizeAndOrder};
@@ -8,8 +8,9 @@ ghost use Rattle.grid_base.specs.ClosureCalls.{MapsTo, CallableAtEach, CallableA
 ghost use Rattle.grid_base.specs.Clones.{ClonesAreEqual};
 ghost use Rattle.grid.specs.AllCells.{filled, CallableAtPositions, MappedBy, ReachesThere, ReturnsThere};
 ghost use Rattle.grid.specs.Make.{FailsAt};
+ghost use Rattle.grid_commands.specs.declared.error.GridError.TheVariants.{Memory};
 
-use crate::Grid;
+use crate::{Grid, GridError};
 use std::alloc::{AllocError, Allocator};
 
 impl<T, A: Allocator> Grid<T, A> {
@@ -224,5 +225,23 @@ impl<T, A: Allocator> Grid<T, A> {
     {
         self.flat
             .update(self.order, self.row_count, self.col_count, f);
+    }
+}
+
+/// Returns `GridError::Memory`, so that `?` passes on what [`map`](Grid::map) refused. The grid is dropped.
+impl<T: Drop, A: Allocator> From<Grid<T, A>> for GridError {
+    ghost from_gives = { λ _ e. e ≡ Memory };
+
+    fn from(_refused: Grid<T, A>) -> GridError {
+        GridError::Memory
+    }
+}
+
+/// Returns the error, so that `?` passes on what [`map`](Grid::map) refused. The grid is dropped.
+impl<T: Drop, A: Allocator> From<Grid<T, A>> for AllocError {
+    ghost from_gives = { λ _ _. ⊤ };
+
+    fn from(_refused: Grid<T, A>) -> AllocError {
+        AllocError
     }
 }

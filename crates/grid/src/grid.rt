@@ -1,5 +1,5 @@
 //! A grid, its constructors from a vector, and access to its cells.
-ghost use Rattle.std.specs.Prelude.{◌≡◌, ◌≢◌, ◌*◌, ◌^◌, ◌<◌, ◌↔◌, [], length, IsTrue, IfSome, MatchOption, Some, is_some};
+ghost use Rattle.std.specs.Prelude.{◌≡◌, ◌≢◌, ◌↔◌, [], length, IsTrue, IfSome, MatchOption, Some, is_some};
 ghost use Rattle.std.specs.Borrow.{sem};
 ghost use Rattle.std.specs.Option.{option_copied};
 ghost use Rattle.grid_base.specs.Table.{row_count, col_count, cell, with_cell, exchanged, InRange};
@@ -47,6 +47,7 @@ fn size_of_cut(len: usize, cols: usize) -> (usize, usize)
 
 impl<T, A: Allocator> Grid<T, A> {
     ghost use Rattle.grid.specs.Grid.{lends_cell, lends_cell_if};
+    ghost use Rattle.grid.specs.Iterators.{lends_slice, KeepsSize};
 
     /// Returns the empty grid, row-major.
     ///
@@ -97,7 +98,6 @@ impl<T, A: Allocator> Grid<T, A> {
     pub fn size(&self) -> (usize, usize)
         ensures rows { result.0 ≡ row_count self.now.rows }
         ensures cols { result.1 ≡ col_count self.now.rows }
-        ensures below { row_count self.now.rows * col_count self.now.rows < 2 ^ 64 }
     {
         (self.row_count, self.col_count)
     }
@@ -296,6 +296,19 @@ impl<T, A: Allocator> Grid<T, A> {
         ensures { result.now ≡ storage self.now.order self.now.rows }
     {
         self.flat.as_slice()
+    }
+
+    /// Returns the slice of the cells, in storage order, for writing. The size and the order stay.
+    ///
+    ///     [[1, 2], [3, 4]]   as_mut_slice()[1] = 9   row-major [[1, 9], [3, 4]], column-major [[1, 2], [9, 4]]
+    ///
+    /// Cost: constant.
+    pub fn as_mut_slice(&mut self) -> &mut [T]
+        ensures* writes_back { sem 𝓛 (lends_slice T.row A.row A.Allocator self.entry result) }
+        ensures keeps { KeepsSize self.old }
+        ensures cells { result.now ≡ storage self.old.order self.old.rows }
+    {
+        self.flat.as_mut_slice()
     }
 
     /// Returns the vector of the cells, in storage order.

@@ -24,7 +24,8 @@
 //! - iterate: `iter`, `iter_row`, `iter_col` and their forms for writing, `iter_rows`, `iter_cols`, `indexed_iter`,
 //!   `indexed_iter_mut`, `indexed_into_iter`, and a `for` over a grid
 //! - the cells round a cell: `neighbors4`, `neighbors8`, `wrapped_neighbors4`, `wrapped_neighbors8`; how many pass a test,
-//!   as `count_neighbors8`; a grid of what a closure makes of them, as `map_neighbors8`
+//!   as `count_neighbors8`; a grid of what a closure makes of them, as `map_neighbors8`, or, many times faster, of their
+//!   counts and sums, as `map_counts8` and `map_sums8`
 //! - views, which copy no cell: `view` and `part`, and `turned`, `get`, `iter_row` and more on a [`GridView`]
 //! - parts: `sub_grid`, `from_view`, `paste`, `paste_clipped`, `fill_part`, `update_part`, `swap_rows`, `swap_cols`
 //! - the whole grid: `map`, `map_ref`, `map_indexed`, `update`, `clone`, `==`, `Hash`, `Debug`, `Display`, `pretty`
@@ -45,6 +46,7 @@ mod macros;
 mod neighbors;
 mod parts;
 mod paste;
+mod positions;
 mod pretty;
 mod symmetry;
 mod traits;
@@ -61,6 +63,6 @@ pub use grid_base::{
 pub use grid_commands::{
     Axis, Command, GridError, LineRefused, LinesRefused, Refusal, Reply, RunStopped, ShapeError,
 };
-pub use grid_near::{Neighbors, WrappedNeighbors};
+pub use grid_near::{Direction, Neighbors, WrappedNeighbors};
 pub use grid_view::{GridView, ViewIndexedIter, ViewIter, ViewLineIter, ViewRowIter};
 pub use iterators::GridColIter;

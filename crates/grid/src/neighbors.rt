@@ -2,14 +2,18 @@
 ghost use Rattle.std.specs.Prelude.{◌≡◌, ◌≤◌, length, IfOk};
 ghost use Rattle.grid_base.specs.Table.{InRange};
 ghost use Rattle.grid_base.specs.GridValue.{SameSizeAndOrder};
-ghost use Rattle.grid.specs.AllCells.{MappedBy};
+ghost use Rattle.grid.specs.AllCells.{MappedBy, CallableAtPositions};
+ghost use Rattle.grid_base.specs.Order.{storage};
+ghost use Rattle.grid_base.specs.ClosureCalls.{CallableAtRefs};
+ghost use Rattle.grid_near.specs.Marks.{round_of, TakesCounted, AnswersCounted, TakesSummed, AnswersSummed};
 ghost use Rattle.grid.specs.NearMaps.{CallableRound, ReturnsRound, ReachesRound};
 ghost use Rattle.grid_base.specs.IndexedIterators.{GivesCells};
-ghost use Rattle.grid.specs.NearCounts.{CallableNear, CountsNear};
+ghost use Rattle.grid_near.specs.NearCounts.{CallableNear, CountsNear};
 ghost use Rattle.grid_near.specs.Neighbors.{neighbors4, neighbors8, wrapped_neighbors4, wrapped_neighbors8, GivesNear};
 
 use crate::Grid;
-use grid_near::{Neighbors, Steps, WrappedNeighbors};
+use grid_base::Flat;
+use grid_near::{Edges, Neighbors, Steps, WrappedNeighbors};
 use std::alloc::{AllocError, Allocator};
 
 impl<T, A: Allocator> Grid<T, A> {
@@ -18,10 +22,8 @@ impl<T, A: Allocator> Grid<T, A> {
     ///
     ///     [[1, 2, 3], [4, 5, 6]]   neighbors4((0, 2))   ((0, 1), 2), ((1, 2), 6)
     ///
-    /// Requires: the position is in range.
     /// Cost: each step takes the same time, in either order; no memory.
     pub fn neighbors4(&self, at: (usize, usize)) -> Neighbors<'_, T>
-        requires { InRange self.now.rows at.0 at.1 }
         ensures gives { GivesNear (neighbors4 self.now.rows at.0 at.1) result }
         ensures count { length result ≤ 4 }
         ensures cells { GivesCells self.now.rows result }
@@ -35,10 +37,8 @@ impl<T, A: Allocator> Grid<T, A> {
     ///
     ///     [[1, 2, 3], [4, 5, 6]]   neighbors8((0, 2))   ((0, 1), 2), ((1, 1), 5), ((1, 2), 6)
     ///
-    /// Requires: the position is in range.
     /// Cost: each step takes the same time, in either order; no memory.
     pub fn neighbors8(&self, at: (usize, usize)) -> Neighbors<'_, T>
-        requires { InRange self.now.rows at.0 at.1 }
         ensures gives { GivesNear (neighbors8 self.now.rows at.0 at.1) result }
         ensures count { length result ≤ 8 }
         ensures cells { GivesCells self.now.rows result }
@@ -48,16 +48,16 @@ impl<T, A: Allocator> Grid<T, A> {
     }
 
     /// Same as [`neighbors4`](Grid::neighbors4), on a grid whose edges meet: the last row is above the first, and the last
-    /// column left of the first. It gives exactly four cells; with one row or column, or two, some of them come twice.
+    /// column left of the first. It gives exactly four cells; with one row or column, or two, some of them come twice. Out of
+    /// range it gives none.
     ///
     ///     [[1, 2, 3], [4, 5, 6]]   wrapped_neighbors4((0, 2))   ((1, 2), 6), ((0, 1), 2), ((0, 0), 1), ((1, 2), 6)
     ///
-    /// Requires: the position is in range.
     /// Cost: each step takes the same time, in either order; no memory.
     pub fn wrapped_neighbors4(&self, at: (usize, usize)) -> WrappedNeighbors<'_, T>
-        requires { InRange self.now.rows at.0 at.1 }
         ensures gives { GivesNear (wrapped_neighbors4 self.now.rows at.0 at.1) result }
-        ensures count { length result ≡ 4 }
+        ensures count { InRange self.now.rows at.0 at.1 → length result ≡ 4 }
+        ensures at_most { length result ≤ 4 }
         ensures cells { GivesCells self.now.rows result }
     {
         let size = (self.row_count, self.col_count);
@@ -66,16 +66,15 @@ impl<T, A: Allocator> Grid<T, A> {
 
     /// Same as [`neighbors8`](Grid::neighbors8), on a grid whose edges meet: the last row is above the first, and the last
     /// column left of the first. It gives exactly eight cells; with one row or column, or two, some of them come more than
-    /// once, and the cell itself can be one of them.
+    /// once, and the cell itself can be one of them. Out of range it gives none.
     ///
     ///     [[1, 2, 3], [4, 5, 6], [7, 8, 9]]   wrapped_neighbors8((0, 0))   9, 7, 8, 3, 2, 6, 4, 5, each with its position
     ///
-    /// Requires: the position is in range.
     /// Cost: each step takes the same time, in either order; no memory.
     pub fn wrapped_neighbors8(&self, at: (usize, usize)) -> WrappedNeighbors<'_, T>
-        requires { InRange self.now.rows at.0 at.1 }
         ensures gives { GivesNear (wrapped_neighbors8 self.now.rows at.0 at.1) result }
-        ensures count { length result ≡ 8 }
+        ensures count { InRange self.now.rows at.0 at.1 → length result ≡ 8 }
+        ensures at_most { length result ≤ 8 }
         ensures cells { GivesCells self.now.rows result }
     {
         let size = (self.row_count, self.col_count);
@@ -172,10 +171,9 @@ impl<T, A: Allocator> Grid<T, A> {
     ///
     ///     [[1, 2, 3], [4, 5, 6]]   count_neighbors4((0, 2), |cell| 4 < *cell)   1: the cell 6
     ///
-    /// Requires: the position is in range, and the closure can be called at a reference to each of these cells.
+    /// Requires: the closure can be called at a reference to each of these cells.
     /// Cost: one call for each of the cells, at most four; no memory.
     pub fn count_neighbors4<F: Fn(&T) -> bool>(&self, at: (usize, usize), test: F) -> usize
-        requires in_range { InRange self.now.rows at.0 at.1 }
         requires callable { CallableNear F.pre test (neighbors4 self.now.rows at.0 at.1) }
         ensures count { CountsNear F.post test (neighbors4 self.now.rows at.0 at.1) result }
         ensures at_most { result ≤ 4 }
@@ -188,10 +186,9 @@ impl<T, A: Allocator> Grid<T, A> {
     ///
     ///     [[1, 2, 3], [4, 5, 6]]   count_neighbors8((0, 2), |cell| 4 < *cell)   2: the cells 5 and 6
     ///
-    /// Requires: the position is in range, and the closure can be called at a reference to each of these cells.
+    /// Requires: the closure can be called at a reference to each of these cells.
     /// Cost: one call for each of the cells, at most eight; no memory.
     pub fn count_neighbors8<F: Fn(&T) -> bool>(&self, at: (usize, usize), test: F) -> usize
-        requires in_range { InRange self.now.rows at.0 at.1 }
         requires callable { CallableNear F.pre test (neighbors8 self.now.rows at.0 at.1) }
         ensures count { CountsNear F.post test (neighbors8 self.now.rows at.0 at.1) result }
         ensures at_most { result ≤ 8 }
@@ -204,10 +201,9 @@ impl<T, A: Allocator> Grid<T, A> {
     ///
     ///     [[1, 2, 3], [4, 5, 6], [7, 8, 9]]   count_wrapped_neighbors4((0, 0), |cell| 3 < *cell)   2: 7, 4
     ///
-    /// Requires: the position is in range, and the closure can be called at a reference to each of these cells.
+    /// Requires: the closure can be called at a reference to each of these cells.
     /// Cost: four calls; no memory.
     pub fn count_wrapped_neighbors4<F: Fn(&T) -> bool>(&self, at: (usize, usize), test: F) -> usize
-        requires in_range { InRange self.now.rows at.0 at.1 }
         requires callable { CallableNear F.pre test (wrapped_neighbors4 self.now.rows at.0 at.1) }
         ensures count { CountsNear F.post test (wrapped_neighbors4 self.now.rows at.0 at.1) result }
         ensures at_most { result ≤ 4 }
@@ -220,15 +216,254 @@ impl<T, A: Allocator> Grid<T, A> {
     ///
     ///     [[1, 2, 3], [4, 5, 6], [7, 8, 9]]   count_wrapped_neighbors8((0, 0), |cell| 4 < *cell)   5: 5, 6, 7, 8, 9
     ///
-    /// Requires: the position is in range, and the closure can be called at a reference to each of these cells.
+    /// Requires: the closure can be called at a reference to each of these cells.
     /// Cost: eight calls; no memory.
     pub fn count_wrapped_neighbors8<F: Fn(&T) -> bool>(&self, at: (usize, usize), test: F) -> usize
-        requires in_range { InRange self.now.rows at.0 at.1 }
         requires callable { CallableNear F.pre test (wrapped_neighbors8 self.now.rows at.0 at.1) }
         ensures count { CountsNear F.post test (wrapped_neighbors8 self.now.rows at.0 at.1) result }
         ensures at_most { result ≤ 8 }
     {
         count_wrapped(self.wrapped_neighbors8(at), test)
+    }
+
+    /// Returns the grid of what the closure `rule` returns at a reference to each cell, and at how many of the cells that
+    /// touch it, at a side or a corner, the closure `test` answers `true`. The size and the order are the same.
+    ///
+    ///     [[1, 2, 3], [4, 5, 6]]   map_counts8(|x| 4 < *x, |_, n| n)   [[1, 2, 2], [1, 1, 1]]
+    ///
+    /// It takes a tenth of the time of [`map_indexed`](Grid::map_indexed) with [`count_neighbors8`](Grid::count_neighbors8),
+    /// or less, where `rule` has no branch: write `|` and `&` in it, and not `||` and `&&`.
+    ///
+    /// Requires: the closures can be called so.
+    /// Fails: where memory is refused; neither closure was called.
+    /// Cost: one call of each closure for each cell; one allocation, and three of a line of `bool`s, before the first call.
+    pub fn map_counts8<U, F: Fn(&T) -> bool, G: Fn(&T, u8) -> U>(
+        &self,
+        test: F,
+        rule: G,
+    ) -> Result<Grid<U, A>, AllocError>
+    where
+        A: Clone,
+        requires tests { CallableAtRefs F.pre test (storage self.now.order self.now.rows) }
+        requires calls { CallableAtPositions (TakesCounted neighbors8 F.post test self.now.rows G.pre)
+            rule self.now.rows }
+        ensures same { IfOk result (SameSizeAndOrder self.now) }
+        ensures cells { IfOk result (λ g. MappedBy
+            (AnswersCounted neighbors8 F.post test self.now.rows G.post) rule self.now.rows g.rows) }
+    {
+        self.counts_round(Steps::All, Edges::Open, test, rule)
+    }
+
+    /// Same as [`map_counts8`](Grid::map_counts8), on a grid whose edges meet, as
+    /// [`count_wrapped_neighbors8`](Grid::count_wrapped_neighbors8) counts.
+    ///
+    ///     [[1, 2, 3], [4, 5, 6], [7, 8, 9]]   map_wrapped_counts8(|x| 4 < *x, |_, n| n)   [[5, 5, 5], [5, 4, 4], [4, 4, 4]]
+    ///
+    /// Requires: the closures can be called so.
+    /// Fails: where memory is refused; neither closure was called.
+    /// Cost: one call of each closure for each cell, and one more of `test` for each cell of two lines; one allocation, and
+    /// three of a line of `bool`s, before the first call.
+    pub fn map_wrapped_counts8<U, F: Fn(&T) -> bool, G: Fn(&T, u8) -> U>(
+        &self,
+        test: F,
+        rule: G,
+    ) -> Result<Grid<U, A>, AllocError>
+    where
+        A: Clone,
+        requires tests { CallableAtRefs F.pre test (storage self.now.order self.now.rows) }
+        requires calls { CallableAtPositions
+            (TakesCounted wrapped_neighbors8 F.post test self.now.rows G.pre) rule self.now.rows }
+        ensures same { IfOk result (SameSizeAndOrder self.now) }
+        ensures cells { IfOk result (λ g. MappedBy
+            (AnswersCounted wrapped_neighbors8 F.post test self.now.rows G.post) rule self.now.rows
+            g.rows) }
+    {
+        self.counts_round(Steps::All, Edges::Joined, test, rule)
+    }
+
+    /// Same as [`map_counts8`](Grid::map_counts8), with the sum of what the closure `weight` answers at the cells that touch
+    /// a cell in place of the number of those that pass, as for a blur.
+    ///
+    ///     [[1, 2, 3], [4, 5, 6]]   map_sums8(|x| *x, |x, sum| sum + u16::from(*x))   [[12, 21, 16], [12, 21, 16]]
+    ///
+    /// Requires: the closures can be called so.
+    /// Fails: where memory is refused; neither closure was called.
+    /// Cost: one call of each closure for each cell; one allocation, and three of a line of `u8`s, before the first call.
+    pub fn map_sums8<U, F: Fn(&T) -> u8, G: Fn(&T, u16) -> U>(
+        &self,
+        weight: F,
+        rule: G,
+    ) -> Result<Grid<U, A>, AllocError>
+    where
+        A: Clone,
+        requires weights { CallableAtRefs F.pre weight (storage self.now.order self.now.rows) }
+        requires calls { CallableAtPositions (TakesSummed neighbors8 F.post weight self.now.rows G.pre)
+            rule self.now.rows }
+        ensures same { IfOk result (SameSizeAndOrder self.now) }
+        ensures cells { IfOk result (λ g. MappedBy
+            (AnswersSummed neighbors8 F.post weight self.now.rows G.post) rule self.now.rows g.rows) }
+    {
+        self.sums_round(Steps::All, Edges::Open, weight, rule)
+    }
+
+    /// Same as [`map_sums8`](Grid::map_sums8), on a grid whose edges meet.
+    ///
+    ///     [[1, 2, 3], [4, 5, 6], [7, 8, 9]]   map_wrapped_sums8(|x| *x, |_, sum| sum)   [[44, 43, 42], [41, 40, 39], [38, 37, 36]]
+    ///
+    /// Requires: the closures can be called so.
+    /// Fails: where memory is refused; neither closure was called.
+    /// Cost: one call of each closure for each cell, and one more of `weight` for each cell of two lines; one allocation, and
+    /// three of a line of `u8`s, before the first call.
+    pub fn map_wrapped_sums8<U, F: Fn(&T) -> u8, G: Fn(&T, u16) -> U>(
+        &self,
+        weight: F,
+        rule: G,
+    ) -> Result<Grid<U, A>, AllocError>
+    where
+        A: Clone,
+        requires weights { CallableAtRefs F.pre weight (storage self.now.order self.now.rows) }
+        requires calls { CallableAtPositions
+            (TakesSummed wrapped_neighbors8 F.post weight self.now.rows G.pre) rule self.now.rows }
+        ensures same { IfOk result (SameSizeAndOrder self.now) }
+        ensures cells { IfOk result (λ g. MappedBy
+            (AnswersSummed wrapped_neighbors8 F.post weight self.now.rows G.post) rule self.now.rows
+            g.rows) }
+    {
+        self.sums_round(Steps::All, Edges::Joined, weight, rule)
+    }
+
+    /// Same as [`map_counts8`](Grid::map_counts8), of the four cells that share a side with a cell.
+    pub fn map_counts4<U, F: Fn(&T) -> bool, G: Fn(&T, u8) -> U>(
+        &self,
+        test: F,
+        rule: G,
+    ) -> Result<Grid<U, A>, AllocError>
+    where
+        A: Clone,
+        requires tests { CallableAtRefs F.pre test (storage self.now.order self.now.rows) }
+        requires calls { CallableAtPositions (TakesCounted neighbors4 F.post test self.now.rows G.pre)
+            rule self.now.rows }
+        ensures same { IfOk result (SameSizeAndOrder self.now) }
+        ensures cells { IfOk result (λ g. MappedBy
+            (AnswersCounted neighbors4 F.post test self.now.rows G.post) rule self.now.rows g.rows) }
+    {
+        self.counts_round(Steps::Sides, Edges::Open, test, rule)
+    }
+
+    /// Same as [`map_wrapped_counts8`](Grid::map_wrapped_counts8), of the four cells that share a side with a cell.
+    pub fn map_wrapped_counts4<U, F: Fn(&T) -> bool, G: Fn(&T, u8) -> U>(
+        &self,
+        test: F,
+        rule: G,
+    ) -> Result<Grid<U, A>, AllocError>
+    where
+        A: Clone,
+        requires tests { CallableAtRefs F.pre test (storage self.now.order self.now.rows) }
+        requires calls { CallableAtPositions
+            (TakesCounted wrapped_neighbors4 F.post test self.now.rows G.pre) rule self.now.rows }
+        ensures same { IfOk result (SameSizeAndOrder self.now) }
+        ensures cells { IfOk result (λ g. MappedBy
+            (AnswersCounted wrapped_neighbors4 F.post test self.now.rows G.post) rule self.now.rows
+            g.rows) }
+    {
+        self.counts_round(Steps::Sides, Edges::Joined, test, rule)
+    }
+
+    /// Same as [`map_sums8`](Grid::map_sums8), of the four cells that share a side with a cell.
+    pub fn map_sums4<U, F: Fn(&T) -> u8, G: Fn(&T, u16) -> U>(
+        &self,
+        weight: F,
+        rule: G,
+    ) -> Result<Grid<U, A>, AllocError>
+    where
+        A: Clone,
+        requires weights { CallableAtRefs F.pre weight (storage self.now.order self.now.rows) }
+        requires calls { CallableAtPositions (TakesSummed neighbors4 F.post weight self.now.rows G.pre)
+            rule self.now.rows }
+        ensures same { IfOk result (SameSizeAndOrder self.now) }
+        ensures cells { IfOk result (λ g. MappedBy
+            (AnswersSummed neighbors4 F.post weight self.now.rows G.post) rule self.now.rows g.rows) }
+    {
+        self.sums_round(Steps::Sides, Edges::Open, weight, rule)
+    }
+
+    /// Same as [`map_wrapped_sums8`](Grid::map_wrapped_sums8), of the four cells that share a side with a cell.
+    pub fn map_wrapped_sums4<U, F: Fn(&T) -> u8, G: Fn(&T, u16) -> U>(
+        &self,
+        weight: F,
+        rule: G,
+    ) -> Result<Grid<U, A>, AllocError>
+    where
+        A: Clone,
+        requires weights { CallableAtRefs F.pre weight (storage self.now.order self.now.rows) }
+        requires calls { CallableAtPositions
+            (TakesSummed wrapped_neighbors4 F.post weight self.now.rows G.pre) rule self.now.rows }
+        ensures same { IfOk result (SameSizeAndOrder self.now) }
+        ensures cells { IfOk result (λ g. MappedBy
+            (AnswersSummed wrapped_neighbors4 F.post weight self.now.rows G.post) rule self.now.rows
+            g.rows) }
+    {
+        self.sums_round(Steps::Sides, Edges::Joined, weight, rule)
+    }
+
+    // What the closure returns at each cell and how many of the cells round it pass.
+    fn counts_round<U, F: Fn(&T) -> bool, G: Fn(&T, u8) -> U>(
+        &self,
+        kind: Steps,
+        edges: Edges,
+        test: F,
+        rule: G,
+    ) -> Result<Grid<U, A>, AllocError>
+    where
+        A: Clone,
+        requires tests { CallableAtRefs F.pre test (storage self.now.order self.now.rows) }
+        requires calls { CallableAtPositions
+            (TakesCounted (round_of kind edges) F.post test self.now.rows G.pre) rule self.now.rows }
+        ensures same { IfOk result (SameSizeAndOrder self.now) }
+        ensures cells { IfOk result (λ g. MappedBy
+            (AnswersCounted (round_of kind edges) F.post test self.now.rows G.post) rule self.now.rows g.rows) }
+    {
+        let size = (self.row_count, self.col_count);
+        let order = self.order;
+        let alloc = self.allocator().clone()?;
+        let cells = self.flat.as_slice();
+        let made = grid_near::map_counts(alloc, cells, order, size, edges, kind, test, rule)?;
+        Ok(Grid {
+            flat: Flat::from_vec(made),
+            row_count: self.row_count,
+            col_count: self.col_count,
+            order,
+        })
+    }
+
+    // What the closure returns at each cell and the sum of those round it.
+    fn sums_round<U, F: Fn(&T) -> u8, G: Fn(&T, u16) -> U>(
+        &self,
+        kind: Steps,
+        edges: Edges,
+        weight: F,
+        rule: G,
+    ) -> Result<Grid<U, A>, AllocError>
+    where
+        A: Clone,
+        requires weights { CallableAtRefs F.pre weight (storage self.now.order self.now.rows) }
+        requires calls { CallableAtPositions
+            (TakesSummed (round_of kind edges) F.post weight self.now.rows G.pre) rule self.now.rows }
+        ensures same { IfOk result (SameSizeAndOrder self.now) }
+        ensures cells { IfOk result (λ g. MappedBy
+            (AnswersSummed (round_of kind edges) F.post weight self.now.rows G.post) rule self.now.rows g.rows) }
+    {
+        let size = (self.row_count, self.col_count);
+        let order = self.order;
+        let alloc = self.allocator().clone()?;
+        let cells = self.flat.as_slice();
+        let made = grid_near::map_sums(alloc, cells, order, size, edges, kind, weight, rule)?;
+        Ok(Grid {
+            flat: Flat::from_vec(made),
+            row_count: self.row_count,
+            col_count: self.col_count,
+            order,
+        })
     }
 }
 

@@ -135,8 +135,9 @@ impl<T, A: Allocator> Grid<T, A> {
         requires calls { CallableInPart f at size self.old.rows F.pre }
         ensures same { SameSizeAndOrder self.old self.new }
         ensures cells { PartUpdated f at size self.old.rows F.post self.new.rows }
+        ensures answers { CellsUpdated (IsWithin at.0 (at.0 + size.0) at.1 (at.1 + size.1))
+            (F.post f) self.old self.new }
     {
-        let _size = self.size();
         for row in at.0..at.0 + size.0 {
             self.update_in_row(row, at.1, at.1 + size.1, &f);
         }

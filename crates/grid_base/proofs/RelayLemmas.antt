@@ -4,7 +4,11 @@ use Rattle.std.specs.List.{slice_get}
 use Rattle.std.proofs.lemmas.Bool.{cases_lt}
 use Rattle.grid_base.specs.Groups.{Woven}
 use Rattle.grid_base.specs.Relaid.{Relaid}
-use Rattle.grid_base.proofs.StorageLemmas.{get_append_left, get_append_right}
+use Rattle.grid_base.specs.declared.order.Order.TheVariants.{RowMajor, ColumnMajor}
+use Rattle.grid_base.specs.Table.{IsTable, row_count, col_count}
+use Rattle.grid_base.specs.Order.{storage}
+use Rattle.grid_base.proofs.StorageLemmas.{get_append_left, get_append_right, get-storage, length-storage, has_place}
+use Rattle.grid_base.proofs.TableLemmas.{same_cells}
 use Rattle.grid_base.proofs.WeaveLemmas.{place_below}
 
 module _ {T : Type 0} (h r q : ℕ) (old mid new fo bo fn bn : List T) (wide : length fo ≡ h * q) (tall : length bo ≡ r * q) (cut : old ≡ fo ++ bo) (joined : mid ≡ fn ++ bn) (front : Relaid h q fo fn) (back : Relaid r q bo bn) (woven : Woven q h h r mid new) where
@@ -40,3 +44,24 @@ module _ {T : Type 0} (h r q : ℕ) (old mid new fo bo fn bn : List T) (wide : l
 pub relaid_by_halves : {T : Type 0} (p h r q : ℕ) (old mid new fo bo fn bn : List T) → h + r ≡ p → length fo ≡ h * q → length bo ≡ r * q → old ≡ fo ++ bo → mid ≡ fn ++ bn → Relaid h q fo fn → Relaid r q bo bn → Woven q h h r mid new → Relaid p q old new
 relaid_by_halves p h r q old mid new fo bo fn bn e wide tall cut joined front back woven =
     rw (← e) (relaid_halves h r q old mid new fo bo fn bn wide tall cut joined front back woven)
+
+-- what is laid out anew comes back the other way
+pub relaid_back : {T : Type 0} (p q : ℕ) (old new : List T) → Relaid p q old new → Relaid q p new old
+relaid_back p q old new h = record {
+  lengths = sym h.lengths;
+  at = λ l j a b. sym (h.at j l b a);
+}
+
+-- the storage of a table's columns that is laid out anew is that of its rows
+pub relaid_storage : {T : Type 0} (t : List (List T)) (new : List T) → IsTable t → Relaid (col_count t) (row_count t) (storage ColumnMajor t) new → new ≡ storage RowMajor t
+relaid_storage t new h relaid =
+    let m = row_count t in
+    let n = col_count t in
+    let cells : length new ≡ m * n = omega (arith, relaid.lengths, length-storage ColumnMajor t h) in
+    same_cells new (storage RowMajor t) (omega (arith, cells, length-storage RowMajor t h))
+    (λ k lt.
+    let p = has_place RowMajor m n k (omega arith) in
+    ap (slice_get new) (sym p.is)
+    ∙ (relaid.at p.c p.r p.lc p.lr
+    ∙ (get-storage ColumnMajor t p.r p.c h p.lr p.lc
+    ∙ (sym (get-storage RowMajor t p.r p.c h p.lr p.lc) ∙ ap (slice_get (storage RowMajor t)) p.is))))

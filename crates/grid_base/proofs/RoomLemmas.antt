@@ -3,14 +3,15 @@ use mathlib.Core.Path.{◌≡◌, refl, ap, sym, subst, ◌∙◌}
 use mathlib.Core.Logic.{inl, inr}
 use mathlib.Core.Bool.{Bool, false}
 use mathlib.Core.List.{List, [], ◌∷◌, ◌++◌}
-use Prim.Native.Nat.{ℕ, ◌+◌, ◌-◌, ◌≤◌, ◌<◌}
+use Prim.Native.Nat.{ℕ, suc, ◌+◌, ◌-◌, ◌≤◌, ◌<◌}
 use native.Mathlib.Omega.{arith}
-use lib.ListN.{length, get_or, take, drop, length-append, length-drop, get_or-append}
+use lib.ListN.{length, get_or, set, take, drop, length-append, length-drop, get_or-append}
 use lib.Seq.{get_or-take, get_or-drop, get_or-append_right, length-take-le}
-use Rattle.std.proofs.Common.{Some, ⊎_elim}
+use Rattle.std.proofs.Common.{Some, append_assoc, ⊎_elim}
 use Rattle.std.specs.List.{slice_get}
 use Rattle.std.proofs.lemmas.Option.{slice_get-get_or, slice_get_past}
 use Rattle.std.proofs.lemmas.Bool.{cases_lt}
+use Rattle.std.proofs.lemmas.List.{set_split, drop_more}
 use Rattle.core.specs.List.{slice_range}
 use Rattle.core.specs.Mem.Slots.{SamePlaces}
 use Rattle.core.specs.Mem.Slots.Ownership.{Filled, SameOutside}
@@ -175,3 +176,13 @@ unweave_step row rowm room room1 row2 start run few c n same en l2 p q is moved 
     unweave_step_at row room room1 row2 start run few c n en l2 p q is
     (λ k d lt. moved k d lt ∙ ap (λ l. get_or l (start + (few + c) + k) d) same)
     (λ d k out. stays d k out ∙ ap (λ l. get_or l k d) same)
+
+-- one cell that is moved, in the words of a run
+pub one_pasted : {X : Type 0} (xs ys zs : List X) (a at n : ℕ) (d : X) → n ≡ 1 → zs ≡ set ys at (get_or xs a d) → a < length xs → at < length ys → zs ≡ take at ys ++ slice_range xs a (a + n) ++ drop (at + n) ys
+one_pasted xs ys zs a at n d single e la lat =
+    let long : a + n - a ≡ 1 = omega arith in
+    let one : slice_range xs a (a + n) ≡ get_or xs a d ∷ [] = ap (λ m. take m (drop a xs)) long ∙ ap (take 1) (drop_more xs a d la) in
+    let next : suc at ≡ at + n = omega arith in
+    e ∙ (set_split ys at (get_or xs a d) lat
+    ∙ (ap (λ m. take at ys ++ get_or xs a d ∷ drop m ys) next
+    ∙ (sym (append_assoc (take at ys) (get_or xs a d ∷ []) (drop (at + n) ys)) ∙ ap (λ r. take at ys ++ r ++ drop (at + n) ys) (sym one))))

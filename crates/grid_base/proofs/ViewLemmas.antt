@@ -1,5 +1,5 @@
 -- What a grid's parts say of its table.
-use Rattle.std.proofs.Common.{◌≡◌, ◌≢◌, ℕ, zero, suc, ◌*◌, ◌/◌, ◌%◌, ◌^◌, ◌<◌, ◌≤◌, None, List, [], ◌∷◌, length, refl, sym, ◌∙◌, ap, arith, lit<, inl, inr, ⊎_elim}
+use Rattle.std.proofs.Common.{◌≡◌, ◌≢◌, ℕ, zero, suc, ◌+◌, ◌*◌, ◌/◌, ◌%◌, ◌^◌, ◌<◌, ◌≤◌, Option, None, List, [], ◌∷◌, length, refl, sym, ◌∙◌, ap, arith, lit<, lit≤, inl, inr, ⊎_elim}
 use Rattle.std.specs.List.{slice_get}
 use Rattle.std.specs.Coded.{le_prop}
 use native.Mathlib.Nat.{ℕ_set}
@@ -12,13 +12,32 @@ use Rattle.grid_base.specs.declared.order.Order.{Order}
 use Rattle.grid_base.specs.declared.order.Order.TheVariants.{RowMajor, ColumnMajor}
 use Rattle.grid_base.specs.declared.words.Symmetry.{Symmetry}
 use Rattle.grid_base.specs.declared.words.Symmetry.TheVariants.{Transpose}
-use Rattle.grid_base.specs.Table.{row_count, col_count, cell, IsTable, tabulate}
+use Rattle.grid_base.specs.Table.{row_count, col_count, cell, IsSize, IsTable, tabulate}
 use Rattle.grid_base.specs.Order.{storage, place, flipped, table_of, CanCut}
-use Rattle.grid_base.specs.GridValue.{GridValue, HoldsSize}
+use Rattle.grid_base.specs.GridValue.{GridValue, HoldsSize, FitsUsize}
 use Rattle.grid_base.specs.Symmetry.{act, image_rows, image_cols, source_row, source_col}
 use Rattle.grid_base.proofs.TableLemmas.{zero_by, tabulate-cells, IsSize-table, rows-tabulate, cols-tabulate, tabulate-same, IsFull, IsTable-tabulate, cell_past_rows, cell_past_cols}
 use Rattle.grid_base.proofs.ActLemmas.{act-tabulate, IsFull-image}
 use Rattle.grid_base.proofs.StorageLemmas.{length-storage, get-storage, IsFull-table_of, cell-table_of, storage-table_of}
+
+-- the sides of a size are no more than its cells, and together one more at most
+sides_within : (m n : ℕ) → 0 < m → 0 < n → m + n ≤ m * n + 1
+sides_within zero n some wide = omega arith
+sides_within (suc zero) n some wide = omega arith
+sides_within (suc (suc m)) n some wide = omega (arith, sides_within (suc m) n (omega arith) wide)
+
+-- so a `usize` counts them where it counts the cells
+pub FitsUsize-size : (m n : ℕ) → IsSize m n → m * n < 2 ^ 64 → FitsUsize m n
+FitsUsize-size zero zero size below = record { rows = lit< tt; cols = lit< tt; cells = below; sides = lit≤ tt }
+FitsUsize-size zero (suc n) size below = absurd (omega (arith, size.has_rows (omega arith)))
+FitsUsize-size (suc m) zero size below = absurd (omega (arith, size.has_cols (omega arith)))
+FitsUsize-size (suc m) (suc n) size below =
+    let within = sides_within (suc m) (suc n) (omega arith) (omega arith) in
+    record { rows = omega arith; cols = omega arith; cells = below; sides = omega arith }
+
+pub FitsUsize-tabulate : {T : Type 0} (m n : ℕ) (f : ℕ → ℕ → Option T) → IsSize m n → m * n < 2 ^ 64 → IsFull m n f → FitsUsize (row_count (tabulate m n f)) (col_count (tabulate m n f))
+FitsUsize-tabulate m n f size below full =
+    rw (rows-tabulate m n f, cols-tabulate m n f size full) (FitsUsize-size m n size below)
 
 module _ {T : Type 0} (o : Order) (m n : ℕ) (cells : List T) (h : HoldsSize m n (length cells)) where
   full : IsFull m n (λ r c. slice_get cells (place o m n r c))
@@ -32,6 +51,9 @@ module _ {T : Type 0} (o : Order) (m n : ℕ) (cells : List T) (h : HoldsSize m 
 
   pub view-table : IsTable (table_of o m n cells)
   view-table = IsTable-tabulate m n _ h.size full
+
+  pub view-fits : FitsUsize (row_count (table_of o m n cells)) (col_count (table_of o m n cells))
+  view-fits = FitsUsize-tabulate m n _ h.size h.below full
 
   pub view-cell : (r c : ℕ) → r < m → c < n → cell (table_of o m n cells) r c ≡ slice_get cells (place o m n r c)
   view-cell r c lr lc = cell-table_of o m n cells h.cells r c lr lc
@@ -130,12 +152,21 @@ flipped-flipped ColumnMajor = refl
 pub IsTable-prop : {T : Type 0} (t : List (List T)) → IsProp (IsTable t)
 IsTable-prop t = hlevel (le_prop, ℕ_set)
 
+pub FitsUsize-prop : (m n : ℕ) → IsProp (FitsUsize m n)
+FitsUsize-prop m n = hlevel (le_prop, ℕ_set)
+
 pub same_grid_value : {T : Type 0} (s u : GridValue T) → s.rows ≡ u.rows → s.order ≡ u.order → s ≡ u
 same_grid_value s u rows order =
     let table : PathP (λ i. IsTable (rows i)) s.table u.table = is_prop→PathP (λ i. IsTable (rows i)) (λ i. IsTable-prop (rows i)) s.table u.table in
-    λ i. record { rows = rows i; order = order i; table = table i }
+    let fits : PathP (λ i. FitsUsize (row_count (rows i)) (col_count (rows i))) s.fits u.fits =
+    is_prop→PathP (λ i. FitsUsize (row_count (rows i)) (col_count (rows i))) (λ i. FitsUsize-prop (row_count (rows i)) (col_count (rows i))) s.fits u.fits in
+    λ i. record { rows = rows i; order = order i; table = table i; fits = fits i }
 
 -- a table's size holds another table of as many cells
 pub IsTable-recut : {T : Type 0} (o : Order) (t : List (List T)) (cells : List T) → IsTable t → length cells ≡ length (storage o t) → IsTable (table_of o (row_count t) (col_count t) cells)
 IsTable-recut o t cells h e =
     IsTable-tabulate _ _ _ (IsSize-table t h) (IsFull-table_of o (row_count t) (col_count t) cells (e ∙ length-storage o t h))
+
+pub FitsUsize-recut : {T : Type 0} (o : Order) (t : List (List T)) (cells : List T) → IsTable t → FitsUsize (row_count t) (col_count t) → length cells ≡ length (storage o t) → FitsUsize (row_count (table_of o (row_count t) (col_count t) cells)) (col_count (table_of o (row_count t) (col_count t) cells))
+FitsUsize-recut o t cells h fits e =
+    view-fits o (row_count t) (col_count t) cells (record { cells = e ∙ length-storage o t h; below = fits.cells; size = IsSize-table t h })

@@ -1,10 +1,11 @@
 -- Lines and groups that are woven half by half.
-use Rattle.std.proofs.Common.{◌≡◌, ℕ, ◌+◌, ◌-◌, ◌*◌, ◌/◌, ◌<◌, ◌≤◌, ◌++◌, List, length, refl, sym, ◌∙◌, ap, arith, ◌⊎◌, ⊎_elim, length-append}
+use Rattle.std.proofs.Common.{◌≡◌, ℕ, ◌+◌, ◌-◌, ◌*◌, ◌/◌, ◌<◌, ◌≤◌, ◌++◌, List, length, take, drop, refl, sym, ◌∙◌, ap, arith, ◌⊎◌, ⊎_elim, length-append}
 use Rattle.std.specs.List.{slice_get}
 use Rattle.std.proofs.lemmas.Nat.{mul-add-lt}
+use Rattle.std.proofs.lemmas.List.{take-append-drop, length-take}
 use Rattle.std.proofs.lemmas.Bool.{cases_lt}
 use Rattle.grid_base.specs.Blocks.{BlocksExchanged}
-use Rattle.grid_base.specs.Groups.{Woven}
+use Rattle.grid_base.specs.Groups.{Woven, TakenOut}
 use Rattle.grid_base.proofs.StorageLemmas.{get_append_left, get_append_right}
 
 -- the place b of line a of n lines of w cells
@@ -130,3 +131,12 @@ woven_in_place p q i k xs le stand =
           let one : p ≡ 1 = omega (arith, s.0) in
           ap (slice_get xs) (omega (arith, s.1, ap (λ v. v * q) one, ap (λ v. v * (q + k)) first, ap (λ v. v * k) first));
     }) stand
+
+-- groups that stand behind their lines are the rest
+pub taken_in_place : {T : Type 0} (p q i k : ℕ) (xs short taken : List T) → i ≤ q → (q ≡ 0) ⊎ ((p ≤ 1) × (i ≡ q)) → length xs ≡ p * (q + k) → short ≡ take (p * q) xs → taken ≡ drop (p * q) xs → TakenOut p q i k short taken xs
+taken_in_place p q i k xs short taken le stand len front back =
+    let whole : short ++ taken ≡ xs = ap (λ v. v ++ taken) front ∙ (ap (λ v. take (p * q) xs ++ v) back ∙ take-append-drop (p * q) xs) in
+    record {
+      lengths = ap length front ∙ omega (arith, len, length-take (p * q) xs);
+      woven = rw whole (woven_in_place p q i k xs le stand);
+    }

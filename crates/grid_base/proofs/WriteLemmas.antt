@@ -10,7 +10,7 @@ use Rattle.grid_base.specs.declared.order.Order.{Order}
 use Rattle.grid_base.specs.declared.order.Order.TheVariants.{RowMajor, ColumnMajor}
 use Rattle.grid_base.specs.Table.{row, row_count, col_count, cell, with_cell, with_cell_of, exchanged, IsTable}
 use Rattle.grid_base.specs.Order.{place, table_of}
-use Rattle.grid_base.specs.GridValue.{HoldsSize}
+use Rattle.grid_base.specs.GridValue.{HoldsSize, FitsUsize}
 use Rattle.grid_base.proofs.TableLemmas.{rows-tabulate, same_tables, cell_past_rows}
 use Rattle.grid_base.proofs.StorageLemmas.{width-table_of, cell-table_of, place_within}
 use Rattle.grid_base.proofs.ViewLemmas.{view-rows, view-cols, view-table, view-cell}
@@ -79,6 +79,9 @@ module _ {T : Type 0} (t : List (List T)) (h : IsTable t) (r c : ℕ) (w : T) wh
 pub cols-with_cell : {T : Type 0} (t : List (List T)) → IsTable t → (r c : ℕ) (w : T) → col_count (with_cell t r c w) ≡ col_count t
 cols-with_cell [] h r c w = refl
 cols-with_cell (x ∷ t) h r c w = widths-written (x ∷ t) h r c w 0 (omega arith)
+
+pub FitsUsize-with_cell : {T : Type 0} (t : List (List T)) → IsTable t → (r c : ℕ) (w : T) → FitsUsize (row_count t) (col_count t) → FitsUsize (row_count (with_cell t r c w)) (col_count (with_cell t r c w))
+FitsUsize-with_cell t h r c w fits = rw (rows-written t r c w, cols-with_cell t h r c w) fits
 
 module _ {T : Type 0} (t : List (List T)) (h : IsTable t) (r c : ℕ) where
   pub rows-with_cell_of : (w : Option T) → row_count (with_cell_of t r c w) ≡ row_count t

@@ -1,7 +1,7 @@
--- What a `Flat` ends as, once an iterator for writing has ended.
+-- What a `Flat` ends as, once a slice or an iterator for writing has ended.
 use Rattle.std.specs.Prelude.{ℕ, List, ◌++◌, take, drop, length}
 use Rattle.std.specs.List.{refill}
-use Rattle.std.specs.Borrow.{follows, Fml, RattleType, MutBor, Array}
+use Rattle.std.specs.Borrow.{follows, Lends, Fml, RattleType, MutBor, Array}
 use Rattle.std.specs.Slice.Iter.{iter_mut_name}
 use Rattle.std.specs.declared.slice.IterMut.{IterMut}
 use Rattle.std.specs.declared.alloc.Allocator.{Ghosts}
@@ -17,6 +17,10 @@ written_from start xs ws = refill (length xs) xs
     (take start xs ++ (ws ++ drop (length ws) (drop start xs)))
 
 module _ (T A : RattleType) (alloc : Ghosts A.Denot) (v : MutBor (List T.Denot)) where
+  -- once the slice has ended, the cells are those that it was left with
+  abbrev pub lends_slice : MutBor (List T.Denot) → Fml
+  lends_slice s = Lends (the_row T A alloc) (Array T 0) v s (refill (length v.now) v.now)
+
   -- once the iterator has ended, there are as many cells; what they are is left to the iterator
   abbrev pub lends_cells : IterMut T.Denot → Fml
   lends_cells it = follows (the_row T A alloc) (Array T 0) v.ghost_name (iter_mut_name it)

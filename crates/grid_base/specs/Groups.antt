@@ -1,7 +1,7 @@
 -- Groups of cells that are put into lines, or taken out of them. A vector is seen as p lines of q
 -- cells, and each line has room for a group of k cells before its place i. Only contracts of `Flat`
 -- cite this module.
-use Rattle.std.specs.Prelude.{◌≡◌, ℕ, ◌+◌, ◌*◌, ◌<◌, ◌≤◌, List, length, slice_get}
+use Rattle.std.specs.Prelude.{◌≡◌, ℕ, ◌+◌, ◌*◌, ◌<◌, ◌≤◌, List, ◌++◌, length, slice_get}
 
 module _ {T : Type 0} (p q i k : ℕ) (short long : List T) where
   -- p lines of q cells in the one vector are, with a group in each, p lines of q + k cells in the
@@ -31,3 +31,9 @@ module _ {T : Type 0} (p q i k : ℕ) (short long : List T) where
   pub record Closed : Type 0 where
     pub lengths : length short ≡ p * q
     pub lines : Widened
+
+module _ {T : Type 0} (p q i k : ℕ) (short taken long : List T) where
+  -- the groups are taken out, joined, and the lines are left
+  pub record TakenOut : Type 0 where
+    pub lengths : length short ≡ p * q
+    pub woven : Woven p q i k (short ++ taken) long

@@ -8,6 +8,7 @@ pub mod GridValue
 pub mod Flat
 pub mod LineStep
 pub mod Groups
+pub mod Room
 pub mod Blocks
 pub mod Append
 pub mod Positions

@@ -20,6 +20,7 @@ mod room;
 mod rotations;
 mod row_iter;
 mod span;
+mod square;
 mod strided_iter;
 
 pub(crate) use counted::Swaps;
@@ -49,7 +50,7 @@ impl<T, A: Allocator> Model for Flat<T, A> {
 
 impl<T, A: Allocator> Flat<T, A> {
     ghost use Rattle.grid_base.specs.Flat.{lends_place};
-    ghost use Rattle.grid_base.specs.FlatLends.{lends_cells};
+    ghost use Rattle.grid_base.specs.FlatLends.{lends_cells, lends_slice};
 
     /// Returns the `Flat` of the cells of a vector.
     pub fn from_vec(cells: Vec<T, A>) -> Flat<T, A>
@@ -85,6 +86,14 @@ impl<T, A: Allocator> Flat<T, A> {
         ensures { result.now ≡ self.now }
     {
         self.cells.as_slice()
+    }
+
+    /// Returns the cells, for writing.
+    pub fn as_mut_slice(&mut self) -> &mut [T]
+        ensures* writes_back { sem 𝓛 (lends_slice T.row A.row A.Allocator self.entry result) }
+        ensures cells { result.now ≡ self.old }
+    {
+        self.cells.as_mut()
     }
 
     /// Returns an iterator over the cells in order, for writing.

@@ -5,6 +5,7 @@
 pub mod boards;
 pub mod chains;
 pub mod errors;
+pub mod everyday;
 pub mod games;
 pub mod joins;
 pub mod lines;
@@ -12,6 +13,7 @@ pub mod loops;
 pub mod near;
 pub mod parts;
 pub mod paths;
+pub mod pictures;
 pub mod shown;
 pub mod sizes;
 pub mod texts;

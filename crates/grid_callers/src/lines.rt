@@ -1,18 +1,28 @@
-//! Callers of `grid_lines` and `grid_sort`, with no proof file.
-ghost use Rattle.std.specs.Prelude.{◌≡◌, nat_lt, not, count_by, filter, slice_index_or, OnOk, OnErr, IsPermutation};
+//! Callers of `grid_lines`, of which only `sort_cells` has a proof file.
+ghost use Rattle.std.specs.Prelude.{◌≡◌, ◌==◌, ◌<◌, ℕ, nat_lt, not, count_by, filter, map, reverse, slice_index_or, OnOk, OnErr, IfOk, IsPermutation};
+ghost use Rattle.std.specs.Ordering.{nat_cmp};
+ghost use Rattle.grid_base.specs.Table.{row, row_count};
 ghost use Rattle.grid_callers.specs.Score.{full_rows};
-ghost use Rattle.grid_sort.specs.SortedLines.{AscendBy};
+ghost use Rattle.grid_lines.specs.SortedLines.{AscendBy, AscendByKey};
 
 use grid::Grid;
-use grid_lines::GridLines;
-use grid_sort::GridSort;
+use grid_lines::{
+    into_rows, retain_rows, rewrite_rows, sort_cols_by, sort_rows_by, sort_rows_by_key, to_rows,
+};
 use std::alloc::{AllocError, Allocator};
 
 /// Drops the rows that are full, as a board game does: keeps those that have a free cell.
 pub fn clear_full_rows<A: Allocator>(grid: &mut Grid<bool, A>)
     ensures { grid.new.rows ≡ filter (λ row. nat_lt 0 (count_by (λ x. not x) row)) grid.old.rows }
 {
-    grid.retain_rows(|row| 0 < row.filter(|cell| !**cell).count());
+    retain_rows(grid, |row| 0 < row.filter(|cell| !**cell).count());
+}
+
+/// Keeps the rows of a sheet that begin with this number.
+pub fn keep_group<A: Allocator>(sheet: &mut Grid<u32, A>, group: u32)
+    ensures { sheet.new.rows ≡ filter (λ row. slice_index_or row 0 0 == group) sheet.old.rows }
+{
+    retain_rows(sheet, |mut row| row.next().copied().unwrap_or(0) == group);
 }
 
 /// Returns how many rows are full.
@@ -32,10 +42,19 @@ pub fn count_full(grid: &Grid<u8>) -> usize
 /// Fails: where memory is refused; the sheet is unchanged.
 pub fn sort_by_second<A: Allocator + Clone>(sheet: &mut Grid<u32, A>) -> Result<(), AllocError>
     ensures permutation { IsPermutation sheet.old.rows sheet.new.rows }
+    ensures sorted { OnOk result
+        (AscendByKey nat_cmp (λ row. slice_index_or row 1 0) sheet.new.rows) }
+    ensures err { OnErr result (sheet.new ≡ sheet.old) }
+{
+    sort_rows_by_key(sheet, |mut row| row.nth(1).copied().unwrap_or(0))
+}
+
+/// The same by a comparison.
+pub fn compare_by_second<A: Allocator + Clone>(sheet: &mut Grid<u32, A>) -> Result<(), AllocError>
     ensures sorted { OnOk result (AscendBy (λ row. slice_index_or row 1 0) sheet.new.rows) }
     ensures err { OnErr result (sheet.new ≡ sheet.old) }
 {
-    sheet.sort_rows_by(|mut a, mut b| {
+    sort_rows_by(sheet, |mut a, mut b| {
         let x = a.nth(1).copied().unwrap_or(0);
         let y = b.nth(1).copied().unwrap_or(0);
         x.cmp(&y)
@@ -49,8 +68,37 @@ pub fn sort_by_second<A: Allocator + Clone>(sheet: &mut Grid<u32, A>) -> Result<
 /// Fails: where memory is refused; the board is unchanged.
 pub fn sort_and_mark<A: Allocator + Clone>(board: &mut Grid<u8, A>) -> Result<(), AllocError> {
     if !board.is_empty() {
-        board.sort_cols_by(|mut a, mut b| a.next().cmp(&b.next()))?;
+        sort_cols_by(board, |mut a, mut b| a.next().cmp(&b.next()))?;
         board[(0, 0)] = 9;
     }
     Ok(())
+}
+
+/// Turns each row round.
+pub fn mirror<T, A: Allocator>(board: &mut Grid<T, A>)
+    ensures { board.new.rows ≡ map reverse board.old.rows }
+{
+    rewrite_rows(board, |row| row.reverse());
+}
+
+/// Sorts within each row.
+pub fn sort_cells<A: Allocator>(board: &mut Grid<u32, A>)
+    ensures { (r : ℕ) → r < row_count board.old.rows
+        → IsPermutation (row board.old.rows r) (row board.new.rows r) }
+{
+    rewrite_rows(board, |row| row.sort_unstable());
+}
+
+/// Returns the rows as vectors, or the board where memory is refused.
+pub fn unpack<A: Allocator + Clone>(board: Grid<u8, A>) -> Result<Vec<Vec<u8, A>, A>, Grid<u8, A>>
+    ensures { IfOk result (λ rows. map (λ row. row.items) rows.items ≡ board.rows) }
+{
+    into_rows(board)
+}
+
+/// Returns a copy of the rows as vectors.
+pub fn rows_of<A: Allocator + Clone>(board: &Grid<u8, A>) -> Result<Vec<Vec<u8, A>, A>, AllocError>
+    ensures { IfOk result (λ rows. map (λ row. row.items) rows.items ≡ board.now.rows) }
+{
+    to_rows(board)
 }

@@ -1,16 +1,15 @@
 //! The cells round a cell: chains and loops over them, and counts, with no proof file.
-ghost use Rattle.std.specs.Prelude.{◌≡◌, ◌<◌, ◌+◌, ◌==◌, ◌&&◌, ◌||◌, IsTrue, IfOk, All, Any, count_by, fold, map, min, option_map};
-ghost use Rattle.grid_base.specs.Table.{row_count, col_count, cell, tabulate, InRange};
+ghost use Rattle.std.specs.Prelude.{◌≡◌, ◌<◌, ◌≤◌, ◌+◌, ◌==◌, ◌&&◌, ◌||◌, IsTrue, IfOk, All, Any, count_by, fold, map, min, option_map};
+ghost use Rattle.grid_base.specs.Table.{row_count, col_count, cell, tabulate};
 ghost use Rattle.grid_near.specs.Neighbors.{neighbors4, neighbors8, wrapped_neighbors4, wrapped_neighbors8};
 
-use grid::Grid;
+use grid::{Direction, Grid};
 use std::alloc::{AllocError, Global};
 
 /// Returns how many of the cells that touch a cell are `x`.
 ///
 ///     [[1, 2, 1], [1, 1, 2]]   count_round(1, 1, 1)   3
 pub fn count_round(grid: &Grid<u8>, row: usize, col: usize, x: u8) -> usize
-    requires { InRange grid.now.rows row col }
     ensures { result ≡ count_by (λ near. near.1 == x) (neighbors8 grid.now.rows row col) }
 {
     grid.count_neighbors8((row, col), |cell| *cell == x)
@@ -18,7 +17,6 @@ pub fn count_round(grid: &Grid<u8>, row: usize, col: usize, x: u8) -> usize
 
 /// Same as [`count_round`], on a board whose edges meet.
 pub fn count_round_wrapped(grid: &Grid<u8>, row: usize, col: usize, x: u8) -> usize
-    requires { InRange grid.now.rows row col }
     ensures { result ≡ count_by (λ near. near.1 == x) (wrapped_neighbors8 grid.now.rows row col) }
 {
     grid.count_wrapped_neighbors8((row, col), |cell| *cell == x)
@@ -26,7 +24,6 @@ pub fn count_round_wrapped(grid: &Grid<u8>, row: usize, col: usize, x: u8) -> us
 
 /// Same as [`count_round`], of the cells that share a side, by a chain.
 pub fn count_beside(grid: &Grid<u8>, row: usize, col: usize, x: u8) -> usize
-    requires { InRange grid.now.rows row col }
     ensures { result ≡ count_by (λ near. near.1 == x) (neighbors4 grid.now.rows row col) }
 {
     grid.neighbors4((row, col))
@@ -36,7 +33,6 @@ pub fn count_beside(grid: &Grid<u8>, row: usize, col: usize, x: u8) -> usize
 
 /// Returns whether all cells that touch a cell are below this height: where it answers true, they are.
 pub fn is_peak(grid: &Grid<u8>, row: usize, col: usize, height: u8) -> bool
-    requires { InRange grid.now.rows row col }
     ensures { IsTrue result → All (λ near. near.1 < height) (neighbors8 grid.now.rows row col) }
 {
     grid.neighbors8((row, col)).all(|(_, cell)| *cell < height)
@@ -44,7 +40,6 @@ pub fn is_peak(grid: &Grid<u8>, row: usize, col: usize, height: u8) -> bool
 
 /// Returns whether a cell that shares a side with a cell is `x`, on a board whose edges meet: none is missed.
 pub fn touches(grid: &Grid<u8>, row: usize, col: usize, x: u8) -> bool
-    requires { InRange grid.now.rows row col }
     ensures { Any (λ near. near.1 ≡ x) (wrapped_neighbors4 grid.now.rows row col) → IsTrue result }
 {
     grid.wrapped_neighbors4((row, col))
@@ -53,10 +48,8 @@ pub fn touches(grid: &Grid<u8>, row: usize, col: usize, x: u8) -> bool
 
 /// Clears a cell that is `x` and shares a side with a cell: the position that a search finds is in range.
 pub fn clear_beside(grid: &mut Grid<u8>, row: usize, col: usize, x: u8) {
-    if row < grid.rows() && col < grid.cols() {
-        if let Some((at, _)) = grid.neighbors4((row, col)).find(|(_, cell)| **cell == x) {
-            grid[at] = 0;
-        }
+    if let Some((at, _)) = grid.neighbors4((row, col)).find(|(_, cell)| **cell == x) {
+        grid[at] = 0;
     }
 }
 
@@ -69,7 +62,6 @@ pub fn positions_round(
     row: usize,
     col: usize,
 ) -> Result<Vec<(usize, usize)>, AllocError>
-    requires { InRange grid.now.rows row col }
     ensures { IfOk result (λ around.
         around.items ≡ map (λ near. near.0) (neighbors8 grid.now.rows row col)) }
 {
@@ -78,7 +70,6 @@ pub fn positions_round(
 
 /// Returns the sum of the cells round a cell.
 pub fn sum_round(grid: &Grid<u32>, row: usize, col: usize) -> u32
-    requires { InRange grid.now.rows row col }
     ensures { result ≡ fold (λ total near. min (total + near.1) u32.MAX) 0
         (wrapped_neighbors8 grid.now.rows row col) }
 {
@@ -105,19 +96,15 @@ pub fn count_peaks(grid: &Grid<u8>) -> usize {
 ///
 ///     [[0, 9], [0, 9]]   blur()   [[4, 4], [4, 4]]
 pub fn blur(grid: &Grid<u8>) -> Result<Grid<u8>, AllocError> {
-    grid.map_indexed(
-        |(row, col), cell|
-            requires { InRange grid.now.rows row col }
-        {
-            let mut sum = u32::from(*cell);
-            let mut count = 1u32;
-            for (_, near) in grid.neighbors8((row, col)) {
-                sum = sum.saturating_add(u32::from(*near));
-                count = count.saturating_add(1);
-            }
-            u8::try_from(sum / count.max(1)).unwrap_or(255)
-        },
-    )
+    grid.map_indexed(|at, cell| {
+        let mut sum = u32::from(*cell);
+        let mut count = 1u32;
+        for (_, near) in grid.neighbors8(at) {
+            sum = sum.saturating_add(u32::from(*near));
+            count = count.saturating_add(1);
+        }
+        u8::try_from(sum / count.max(1)).unwrap_or(255)
+    })
 }
 
 /// Returns the next generation of Life: a cell lives with three live cells round it, or with two if it lives now.
@@ -131,12 +118,57 @@ pub fn next_life(grid: &Grid<bool>) -> Result<Grid<bool>, AllocError>
         || (live && (count_by (λ near. near.1) (neighbors8 grid.now.rows r c) == 2)))
         (cell grid.now.rows r c))) }
 {
-    grid.map_indexed(
-        |(row, col), live|
-            requires { InRange grid.now.rows row col }
-        {
-            let near = grid.count_neighbors8((row, col), |cell| *cell);
-            near == 3 || (*live && near == 2)
-        },
+    grid.map_indexed(|at, live| {
+        let near = grid.count_neighbors8(at, |cell| *cell);
+        near == 3 || (*live && near == 2)
+    })
+}
+
+/// Returns the board in which each cell is the ninth part of the cell and those that touch it, rounded down.
+///
+///     [[0, 9], [0, 9]]   mean_of_nine()   [[2, 2], [2, 2]]
+pub fn mean_of_nine(grid: &Grid<u8>) -> Result<Grid<u8>, AllocError> {
+    grid.map_sums8(
+        |cell| *cell,
+        |cell, sum|
+            requires { sum ≤ 2040 }
+        { ((u16::from(*cell) + sum) / 9) as u8 },
     )
+}
+
+/// Same as [`mean_of_nine`], on a board whose edges meet.
+///
+///     [[0, 9, 0], [0, 0, 0], [0, 0, 9]]   mean_on_a_torus()   [[2, 2, 2], [2, 2, 2], [2, 2, 2]]
+pub fn mean_on_a_torus(grid: &Grid<u8>) -> Result<Grid<u8>, AllocError> {
+    grid.map_wrapped_sums8(
+        |cell| *cell,
+        |cell, sum|
+            requires { sum ≤ 2040 }
+        { ((u16::from(*cell) + sum) / 9) as u8 },
+    )
+}
+
+/// Returns what the cells that share a side with each cell come to, and the same on a board whose edges meet.
+///
+///     [[1, 2, 3]]   sums_beside()   [[2, 4, 2]]   [[7, 8, 9]]
+pub fn sums_beside(grid: &Grid<u8>) -> Result<(Grid<u16>, Grid<u16>), AllocError> {
+    let open = grid.map_sums4(|cell| *cell, |_, sum| sum)?;
+    let joined = grid.map_wrapped_sums4(|cell| *cell, |_, sum| sum)?;
+    Ok((open, joined))
+}
+
+/// Returns how many walls share a side with each cell, and the same on a board whose edges meet.
+///
+///     [[true, false, false]]   walls_beside()   [[0, 1, 0]]   [[2, 1, 1]]
+pub fn walls_beside(walls: &Grid<bool>) -> Result<(Grid<u8>, Grid<u8>), AllocError> {
+    let open = walls.map_counts4(|wall| *wall, |_, count| count)?;
+    let joined = walls.map_wrapped_counts4(|wall| *wall, |_, count| count)?;
+    Ok((open, joined))
+}
+
+/// Returns the position beside one on a board of this size, to be had without the board.
+///
+///     ahead((2, 3), (0, 1), Down)   Some((1, 1))
+pub fn ahead(size: (usize, usize), at: (usize, usize), way: Direction) -> Option<(usize, usize)> {
+    way.step(size, at)
 }

@@ -6,8 +6,10 @@ ghost use Rattle.grid_paths.specs.Walks.{HasLeastSteps, HasLeastFrom, IsFilled, 
 ghost use Rattle.grid_paths.specs.Regions.{AreNumbers};
 
 use grid::Grid;
-use grid_paths::{Steps, distances, distances_from, fill_region, regions};
-use std::alloc::AllocError;
+use grid_paths::{
+    Steps, cheapest_path, distances, distances_from, fill_region, regions, shortest_path,
+};
+use std::alloc::{AllocError, Global};
 
 /// Returns the least number of steps from a position to each free cell, `.`, of a maze.
 pub fn steps_from(maze: &Grid<u8>, from: (usize, usize)) -> Result<Grid<Option<usize>>, AllocError>
@@ -58,4 +60,65 @@ pub fn region_of(picture: &Grid<u8>, at: (usize, usize)) -> Result<(Grid<usize>,
     let (numbers, _) = regions(picture, Steps::Sides)?;
     let number = numbers[at];
     Ok((numbers, number))
+}
+
+/// Draws a shortest way through a maze, whose walls are `#`, and returns the number of its steps, or `None` where there is
+/// no way.
+///
+///     ["..#", "#..", "#.."]   draw_way((0, 0), (2, 2))   Some(4)   ["oo#", "#oo", "#.o"]
+pub fn draw_way(
+    maze: &mut Grid<char>,
+    from: (usize, usize),
+    to: (usize, usize),
+) -> Result<Option<usize>, AllocError> {
+    let Some(path) = shortest_path(maze, from, to, Steps::Sides, |cell| *cell != '#')? else {
+        return Ok(None);
+    };
+    for at in path.as_slice() {
+        maze.set_at(*at, 'o');
+    }
+    Ok(Some(path.len().saturating_sub(1)))
+}
+
+/// Returns what the cheapest way over a map of heights costs, and where it goes. A step costs the height that it leads to; 9
+/// can't be climbed.
+///
+///     [[1, 8, 1], [1, 1, 1]]   cheapest_way((0, 0), (0, 2))   Some(([(0, 0), (1, 0), (1, 1), (1, 2), (0, 2)], 4))
+pub fn cheapest_way(
+    map: &Grid<u8>,
+    from: (usize, usize),
+    to: (usize, usize),
+) -> Result<Option<(Vec<(usize, usize)>, u128)>, AllocError> {
+    cheapest_path(map, from, to, Steps::Sides, |height| {
+        if *height == 9 {
+            None
+        } else {
+            Some(u32::from(*height))
+        }
+    })
+}
+
+/// Returns how many cells each region of equal cells has, in the order of the regions' numbers.
+///
+///     [[7, 7, 8], [8, 7, 7]]   sizes_of_regions()   [4, 1, 1]
+pub fn sizes_of_regions(alloc: Global, picture: &Grid<u8>) -> Result<Vec<usize>, AllocError> {
+    let (numbers, count) = regions(picture, Steps::Sides)?;
+    let mut sizes = vec![in alloc; 0usize; count]?;
+    for number in numbers.iter() {
+        if let Some(size) = sizes.get_mut(*number) {
+            *size = size.saturating_add(1);
+        }
+    }
+    Ok(sizes)
+}
+
+/// Returns how far the farthest free cell is from the nearest of several wells, if one can be reached.
+///
+///     ["..#.", "...."]   farthest_from([(0, 0)])   Some(5)
+pub fn farthest_from(
+    map: &Grid<char>,
+    wells: &[(usize, usize)],
+) -> Result<Option<usize>, AllocError> {
+    let steps = distances_from(map, wells, Steps::Sides, |cell| *cell == '.')?;
+    Ok(steps.iter().filter_map(|count| *count).max())
 }

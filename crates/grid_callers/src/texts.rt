@@ -7,7 +7,7 @@ ghost use Rattle.grid_text.specs.Reading.{IsOrMemory, reading, reading_words};
 ghost use Rattle.grid_text.specs.Writing.{table_text};
 
 use grid::Grid;
-use grid_text::{TextError, from_text, from_words, to_text};
+use grid_text::{TextError, from_text, from_words, to_text, try_from_words};
 use std::alloc::{AllocError, Allocator, Global};
 use text_lines::cell;
 
@@ -37,4 +37,11 @@ pub fn sheet(alloc: Global, text: &str) -> Result<Grid<i64>, TextError>
     ensures { IsOrMemory (reading_words cell_of (lines_of text.now)) result }
 {
     from_words(alloc, text, |word| cell(word))
+}
+
+/// Reads a sheet of names: cells that take memory.
+///
+///     names("ann bob\ncat dan\n")   [["ann", "bob"], ["cat", "dan"]]
+pub fn names(alloc: Global, text: &str) -> Result<Grid<String>, TextError> {
+    try_from_words(alloc, text, |word| Ok(Some(String::from_str(alloc, word)?)))
 }

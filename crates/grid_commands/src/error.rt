@@ -1,5 +1,6 @@
 //! Why a grid could not be made or edited: the errors of the calls.
 ghost use Rattle.std.specs.Prelude.{◌≡◌};
+ghost use Rattle.grid_commands.specs.Errors.{as_shape_error};
 ghost use Rattle.grid_commands.specs.declared.error.GridError.TheVariants.{Memory};
 ghost use Rattle.grid_commands.specs.declared.error.ShapeError.TheVariants.{Memory as OutOfMemory};
 
@@ -152,5 +153,17 @@ impl From<AllocError> for ShapeError {
 
     fn from(_refused: AllocError) -> ShapeError {
         ShapeError::Memory
+    }
+}
+
+/// Returns the same fault.
+impl From<GridError> for ShapeError {
+    ghost from_gives = { λ fault e. e ≡ as_shape_error fault };
+
+    fn from(fault: GridError) -> ShapeError {
+        match fault {
+            GridError::TooLarge => ShapeError::TooLarge,
+            GridError::Memory => ShapeError::Memory,
+        }
     }
 }

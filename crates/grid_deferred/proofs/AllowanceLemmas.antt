@@ -15,7 +15,7 @@ use Rattle.grid_commands.specs.Refusal.{pad_refusal}
 use Rattle.grid.specs.Step.{step_rows}
 use Rattle.grid.specs.Shift.{rows_added_shift, rows_taken_shift, delete_rows_shift}
 use Rattle.grid.specs.Cost.{axis_order, edit_shift}
-use Rattle.grid.specs.Through.{base_axis}
+use Rattle.grid_deferred.specs.Through.{base_axis}
 use Rattle.grid_deferred.specs.Carry.{reverses_lines, mirrored_if, shift_through}
 use Rattle.grid_deferred.specs.Deferred.{pending_after}
 use Rattle.grid_deferred.specs.Run.{shown_shift, deferred_shift, edit_allowance, step_allowance, run_allowance}

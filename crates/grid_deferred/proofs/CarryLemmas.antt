@@ -16,8 +16,8 @@ use Rattle.grid_commands.specs.Command.{CommandValue, size, lines, read, push, a
 use Rattle.grid_commands.specs.Reply.{ReplyValue, done, size_is, cell_is, line_is, flag_is, refused}
 use Rattle.grid.specs.Step.{step_rows, step_reply, takes_memory}
 use Rattle.grid.specs.Cost.{step_shift}
-use Rattle.grid.specs.Through.{other_axis, reverses_cells, base_axis, reversed_if, turned_reply, transposed_command, flipped_command}
-use Rattle.grid.proofs.StepThroughLemmas.{IsAxis, IsAxis-axis_of, Through, through_flip, through_cross, table-step}
+use Rattle.grid_deferred.specs.Through.{other_axis, reverses_cells, base_axis, reversed_if, turned_reply, transposed_command, flipped_command}
+use Rattle.grid_deferred.proofs.StepThroughLemmas.{IsAxis, IsAxis-axis_of, Through, through_flip, through_cross, table-step}
 use Rattle.grid_deferred.specs.Carry.{shift_through, Carries, is_apply}
 use Rattle.grid_deferred.specs.Carried.{carried}
 

@@ -1,3 +1,10 @@
+mod MirrorLemmas
+mod EffectLemmas
+mod ThroughLemmas
+mod RefusalLemmas
+mod EditThroughLemmas
+mod CellThroughLemmas
+pub mod StepThroughLemmas
 mod CarryLemmas
 mod LineLemmas
 mod PendingLemmas

@@ -1,5 +1,5 @@
 -- What is pending after a command, and what a carried command rests on.
-use Rattle.std.proofs.Common.{◌≡◌, List, [], ◌∷◌, Bool, true, false, refl, sym, ◌∙◌, ap, Some, IsTrue, ℕ}
+use Rattle.std.proofs.Common.{◌≡◌, List, [], ◌∷◌, Bool, true, false, refl, sym, ◌∙◌, ap, Some, IsTrue, ℕ, Result, Ok, Err, OnOk}
 use Rattle.grid_base.specs.declared.words.Symmetry.{Symmetry}
 use Rattle.grid_base.specs.declared.words.Symmetry.TheVariants.{Identity, FlipCols, FlipRows, RotateHalf, Transpose, RotateLeft, RotateRight, AntiTranspose}
 use Rattle.grid_base.specs.Table.{row_count, col_count, cell, IsTable}
@@ -16,12 +16,17 @@ use Rattle.grid_commands.specs.declared.command.Command.TheVariants.{Apply, Size
 use Rattle.grid_commands.specs.Refusal.{in_range}
 use Rattle.grid.specs.Step.{step_rows, step_reply, takes_memory, RowsAreKnown, EditIsKnown}
 use Rattle.grid.specs.Cost.{command_symmetry, step_shift}
-use Rattle.grid.proofs.CellThroughLemmas.{cell_past}
-use Rattle.grid.specs.Through.{turned_reply, edit_of_flipped, edit_of_reversed, transposed_command, flipped_command}
+use Rattle.grid.proofs.LineEditLemmas.{cell_past}
+use Rattle.grid_deferred.specs.Through.{turned_reply, edit_of_flipped, edit_of_reversed, transposed_command, flipped_command}
 use Rattle.grid_deferred.specs.Carry.{shift_through, CarriesAt, is_apply}
 use Rattle.grid_deferred.specs.Carried.{carried}
 use Rattle.grid_deferred.specs.Deferred.{pending_after}
 use Rattle.grid_deferred.proofs.CarryLemmas.{carries, applies}
+
+-- a fact that holds anyway, where there is an outcome
+pub always_ok : {V E : Type 0} (r : Result V E) {P : Type 0} → P → OnOk r P
+always_ok (Ok v) p = p
+always_ok (Err e) p = tt
 
 module _ {T : Type 0} where
   pub pending-product : (y : CommandValue T) (s : Symmetry) → pending_after y s ≡ product s (command_symmetry y)

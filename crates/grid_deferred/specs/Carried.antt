@@ -13,7 +13,7 @@ use Rattle.grid_base.specs.declared.words.Symmetry.TheVariants.{
   AntiTranspose,
 }
 use Rattle.grid_commands.specs.Command.{CommandValue}
-use Rattle.grid.specs.Through.{transposed_command, flipped_command}
+use Rattle.grid_deferred.specs.Through.{transposed_command, flipped_command}
 
 -- the command on a base of m rows and n columns that does what this one does on its image
 abbrev pub carried : {T : Type 0} → Symmetry → ℕ → ℕ → CommandValue T → CommandValue T

@@ -10,7 +10,7 @@ use Rattle.grid_commands.specs.declared.command.Axis.TheVariants.{Row, Col}
 use Rattle.grid_commands.specs.Command.{Edit, delete_at, delete_range, expand, prepend, CommandValue, lines, apply, axis_of, line_count}
 use Rattle.grid.specs.Step.{step_rows, step_reply, takes_memory}
 use Rattle.grid.specs.Cost.{step_shift}
-use Rattle.grid.specs.Through.{turned_reply, base_axis, mirrored_line, mirrored_start}
+use Rattle.grid_deferred.specs.Through.{turned_reply, base_axis, mirrored_line, mirrored_start}
 
 -- whether the image under a symmetry has the lines of an axis in the reversed order
 abbrev pub reverses_lines : Symmetry → Axis → Bool

@@ -1,3 +1,4 @@
+pub mod Through
 pub mod Carry
 pub mod Carried
 pub mod Deferred

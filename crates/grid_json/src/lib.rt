@@ -7,9 +7,11 @@ mod cell;
 mod error;
 pub mod laws;
 mod read;
+mod rows;
 mod write;
 
 pub use cell::Cell;
-pub use error::{Field, ReadError};
+pub use error::{Field, ReadError, RowsError};
 pub use read::from_value;
+pub use rows::{rows_from_value, rows_to_value};
 pub use write::to_value;

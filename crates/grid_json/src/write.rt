@@ -19,7 +19,7 @@ fn order_name(order: Order) -> &'static str
     }
 }
 
-fn array_of(list: Vec<Value>) -> Value
+pub(crate) fn array_of(list: Vec<Value>) -> Value
     ensures { view result ≡ array (items_view list.items) }
 {
     Value::Array(list)

@@ -25,7 +25,7 @@ use Rattle.grid.specs.Step.{effect, after_effect, step_rows}
 use Rattle.grid.proofs.EditSizeLemmas.{copies, expanded-put, prepended-put, put-no_lines, IsTable-take, cols-take}
 use Rattle.grid.proofs.RowEditLemmas.{rows-take}
 use Rattle.grid.proofs.LineEditLemmas.{range_rows, delete_rows_one, done_rows, refused_rows, crossed_rows}
-use Rattle.grid.proofs.StepThroughLemmas.{table-step}
+use Rattle.grid_deferred.proofs.StepThroughLemmas.{table-step}
 use Rattle.grid_laws.specs.Least.{IsLeast, HasDifferentCells, Lacks, EditShifts, Shifts, filled_up}
 use Rattle.grid_laws.proofs.ImageLemmas.{storage_across, different_image}
 use Rattle.grid_laws.proofs.DeleteLemmas.{none_is_least, delete_is_least}

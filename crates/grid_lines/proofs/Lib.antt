@@ -2,3 +2,9 @@ pub mod RetainLemmas
 pub mod RollLemmas
 pub mod AcrossLemmas
 pub mod SetLemmas
+pub mod OrderLemmas
+pub mod PlacingLemmas
+pub mod NumberLemmas
+pub mod RewriteLemmas
+pub mod BroughtLemmas
+pub mod CopyLemmas

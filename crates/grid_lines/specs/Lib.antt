@@ -1,1 +1,5 @@
-pub mod Retain
+pub mod Brought
+pub mod Copied
+pub mod LineAnswers
+pub mod Rewritten
+pub mod SortedLines

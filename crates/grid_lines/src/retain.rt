@@ -3,19 +3,25 @@ ghost use Rattle.std.specs.Prelude.{◌≡◌, Bool, List, filter};
 ghost use Rattle.std.specs.List.Retain.{IsFiltered};
 ghost use Rattle.grid_base.specs.Table.{transposed};
 ghost use Rattle.grid_base.specs.Strides.{LinesInOrder};
-ghost use Rattle.grid_lines.specs.Retain.{AnswersBy};
+ghost use Rattle.grid_lines.specs.LineAnswers.{AnswersBy};
 
 use grid::{Grid, GridLineIter};
 use std::alloc::Allocator;
 
-// As `GridLines::retain_rows`.
-pub(crate) fn retain_rows<T: Drop, A: Allocator, F: FnMut(GridLineIter<'_, T>) -> bool>(
+/// Keeps the rows at which the closure returns true, in their order, and drops the others. It is called once at each
+/// row, from the first on. With no row left the size is (0, 0). The order stays.
+///
+///     [[1, 1], [1, 0], [0, 0]]   retain_rows(grid, |mut row| row.any(|x| *x == 0))   [[1, 0], [0, 0]]
+///
+/// Requires: the closure can always be called.
+/// Cost: one call for each row, one swap for each cell of a row that is kept behind one that isn't; no memory.
+pub fn retain_rows<T: Drop, A: Allocator, F: FnMut(GridLineIter<'_, T>) -> bool>(
     grid: &mut Grid<T, A>,
     mut f: F,
 )
     requires { F.IsAlwaysCallable f }
     ensures rows { IsFiltered F.step f grid.old.rows grid.new.rows }
-    ensures pure { (test : List T → Bool) → AnswersBy F.step test
+    ensures pure { (test : List T → Bool) → AnswersBy F.step f test
         → grid.new.rows ≡ filter test grid.old.rows }
     ensures along { LinesInOrder T }
     ensures order { grid.new.order ≡ grid.old.order }
@@ -33,14 +39,20 @@ pub(crate) fn retain_rows<T: Drop, A: Allocator, F: FnMut(GridLineIter<'_, T>) -
     grid.delete_rows(kept, rows - kept);
 }
 
-// As `GridLines::retain_cols`.
-pub(crate) fn retain_cols<T: Drop, A: Allocator, F: FnMut(GridLineIter<'_, T>) -> bool>(
+/// Keeps the columns at which the closure returns true, in their order, and drops the others. It is called once at each
+/// column, from the first on. With no column left the size is (0, 0). The order stays.
+///
+///     [[1, 2, 3], [4, 5, 6]]   retain_cols(grid, |mut col| col.all(|x| *x != 5))   [[1, 3], [4, 6]]
+///
+/// Requires: the closure can always be called.
+/// Cost: one call for each column, one swap for each cell of a column that is kept behind one that isn't; no memory.
+pub fn retain_cols<T: Drop, A: Allocator, F: FnMut(GridLineIter<'_, T>) -> bool>(
     grid: &mut Grid<T, A>,
     f: F,
 )
     requires { F.IsAlwaysCallable f }
     ensures cols { IsFiltered F.step f (transposed grid.old.rows) (transposed grid.new.rows) }
-    ensures pure { (test : List T → Bool) → AnswersBy F.step test
+    ensures pure { (test : List T → Bool) → AnswersBy F.step f test
         → transposed grid.new.rows ≡ filter test (transposed grid.old.rows) }
     ensures along { LinesInOrder T }
     ensures order { grid.new.order ≡ grid.old.order }

@@ -6,8 +6,15 @@ ghost use Rattle.grid_base.specs.Blocks.{PartReversed};
 use grid::Grid;
 use std::alloc::Allocator;
 
-// As `GridLines::roll_rows`.
-pub(crate) fn roll_rows<T, A: Allocator>(grid: &mut Grid<T, A>, count: usize)
+/// Moves each row up by `count`, and the first `count` rows to the end. The order stays.
+///
+///     [[1, 2], [3, 4], [5, 6]]   roll_rows(grid, 1)   [[3, 4], [5, 6], [1, 2]]
+///
+/// To move the rows down by `count`, roll them by the number of rows less `count`.
+///
+/// Requires: `count` is at most the number of rows.
+/// Cost: at most two swaps for each cell; no memory.
+pub fn roll_rows<T, A: Allocator>(grid: &mut Grid<T, A>, count: usize)
     requires { count ≤ row_count grid.old.rows }
     ensures rows { grid.new.rows ≡ drop count grid.old.rows ++ take count grid.old.rows }
     ensures row_count { row_count grid.new.rows ≡ row_count grid.old.rows }
@@ -22,8 +29,13 @@ pub(crate) fn roll_rows<T, A: Allocator>(grid: &mut Grid<T, A>, count: usize)
     }
 }
 
-// As `GridLines::roll_cols`.
-pub(crate) fn roll_cols<T, A: Allocator>(grid: &mut Grid<T, A>, count: usize)
+/// Moves each column left by `count`, and the first `count` columns to the end. The order stays.
+///
+///     [[1, 2, 3], [4, 5, 6]]   roll_cols(grid, 1)   [[2, 3, 1], [5, 6, 4]]
+///
+/// Requires: `count` is at most the number of columns.
+/// Cost: at most two swaps for each cell; no memory.
+pub fn roll_cols<T, A: Allocator>(grid: &mut Grid<T, A>, count: usize)
     requires { count ≤ col_count grid.old.rows }
     ensures cols { transposed grid.new.rows
         ≡ drop count (transposed grid.old.rows) ++ take count (transposed grid.old.rows) }

@@ -238,8 +238,8 @@ module _ {T : Type 0} (o : Order) (cells : List T) (size strides : ℕ × ℕ) (
       let R : ℕ × ℕ → Type 0 = λ x. HoldsCells (storage o table) (row_count table, col_count table) x in
       subst P (sym whole_cells) (subst Q (sym whole_size) (subst R (sym whole_strides) (holds_cells o table (view-table o size.0 size.1 cells h))))
 
-  pub start_round : (at : ℕ × ℕ) (first : ℕ) (inner : Bool) → at.0 < size.0 → at.1 < size.1 → (inner ≡ true → IsInner size at) → (inner ≡ true → first ≡ box_start strides at) → IsRound cells size strides at first inner 0 0
-  start_round at first inner lr lc inside place = record { holds = start_holds; row_in = lr; col_in = lc; inside = inside; first_is = place; behind = λ e. omega arith }
+  pub start_round : (at : ℕ × ℕ) (first : ℕ) (inner : Bool) → (inner ≡ true → IsInner size at) → (inner ≡ true → first ≡ box_start strides at) → IsRound cells size strides at first inner 0 0
+  start_round at first inner inside place = record { holds = start_holds; inside = inside; first_is = place; behind = λ e. omega arith }
 
   pub same_cells : strided_cell cells size strides ≡ cell table
   same_cells =

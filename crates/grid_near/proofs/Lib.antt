@@ -1,3 +1,4 @@
 pub mod AroundLemmas
 pub mod NeighborLemmas
 pub mod WrappedLemmas
+pub mod MarkLemmas

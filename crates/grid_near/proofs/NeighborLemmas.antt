@@ -1,14 +1,18 @@
 -- Iterators over cells with their positions give what they have left.
-use Rattle.std.proofs.Common.{◌≤◌, ℕ, suc, Option, None, Some, List, [], ◌∷◌, length, map, sym, ◌∙◌, ap, arith}
+use Rattle.std.proofs.Common.{◌≡◌, ◌≤◌, ◌<◌, ℕ, suc, min, drop, Option, None, Some, List, [], ◌∷◌, length, length-drop, map, sym, ◌∙◌, ap, arith}
+use Rattle.std.specs.Bool.{⊤}
 use Rattle.std.specs.List.{filter_map, cons_option}
-use Rattle.std.specs.Iterator.{YieldsFirstBy}
+use Rattle.std.specs.Iterator.{YieldsFirstBy, MakesProgress, at_most}
+use denote.Ref.{Bor}
+use Rattle.std.proofs.Math.Nat.{min-eq_left, min-le_left}
 use Rattle.std.proofs.iter.runs.Sources.{from_front}
 use Rattle.std.proofs.lemmas.Simd.{map-map}
 use Rattle.grid_base.specs.Table.{cell}
 use Rattle.grid_near.specs.declared.steps.Steps.{Steps}
 use Rattle.grid_near.specs.declared.steps.Steps.TheVariants.{Sides, All}
 use Rattle.grid_near.specs.Neighbors.{step_count, placed, cell_at, neighbors4, neighbors8, neighbors_of, CellsInOrder, PositionsInOrder}
-use Rattle.grid_near.specs.Around.{positions}
+use Rattle.grid_near.specs.Around.{positions, cells_from}
+use Rattle.grid_near.specs.Wrapped.{wrapped_positions, wrapped_from}
 
 pub cells_in_order : (T : Type 0) → CellsInOrder T
 cells_in_order T = from_front (YieldsFirstBy placed (λ (rest : List ((ℕ × ℕ) × T)). rest)) placed (λ rest. rest) (λ s t h. ap length h.0) (λ s x t h. h)
@@ -25,7 +29,23 @@ module _ {X Y : Type 0} where
   length-filter_map f [] = omega arith
   length-filter_map f (x ∷ xs) = omega (arith, length-cons (f x) (filter_map f xs), length-filter_map f xs)
 
-pub at_most : {T : Type 0} (t : List (List T)) (kind : Steps) (at : ℕ × ℕ) → length (neighbors_of kind t at.0 at.1) ≤ step_count kind
+pub few_round : {T : Type 0} (t : List (List T)) (kind : Steps) (at : ℕ × ℕ) → length (neighbors_of kind t at.0 at.1) ≤ step_count kind
 unfolding neighbors4 neighbors8
-at_most t Sides at = length-filter_map (cell_at (cell t)) (positions Sides at)
-at_most t All at = length-filter_map (cell_at (cell t)) (positions All at)
+few_round t Sides at = length-filter_map (cell_at (cell t)) (positions Sides at)
+few_round t All at = length-filter_map (cell_at (cell t)) (positions All at)
+
+-- what is left of an iterator: at most eight cells, one fewer after each
+pub few_left : {T : Type 0} (f : ℕ → ℕ → Option T) (kind : Steps) (at : ℕ × ℕ) (k : ℕ) → length (cells_from f kind at k) ≤ 8
+few_left f Sides at k = omega (arith, length-filter_map (cell_at f) (drop k (positions Sides at)), length-drop k (positions Sides at))
+few_left f All at k = omega (arith, length-filter_map (cell_at f) (drop k (positions All at)), length-drop k (positions All at))
+
+pub wrapped_few_left : {T : Type 0} (f : ℕ → ℕ → Option T) (size : ℕ × ℕ) (kind : Steps) (at : ℕ × ℕ) (k : ℕ) → length (wrapped_from f size kind at k) ≤ 8
+wrapped_few_left f size Sides at k = omega (arith, length-filter_map (cell_at f) (drop k (wrapped_positions size Sides at)), length-drop k (wrapped_positions size Sides at))
+wrapped_few_left f size All at k = omega (arith, length-filter_map (cell_at f) (drop k (wrapped_positions size All at)), length-drop k (wrapped_positions size All at))
+
+pub goes_on : {T : Type 0} (s t : List ((ℕ × ℕ) × T)) (r : Option ((ℕ × ℕ) × Bor T)) → length s ≤ 8 → YieldsFirstBy placed (λ (rest : List ((ℕ × ℕ) × T)). rest) s r t → MakesProgress (λ _. ⊤) (λ (rest : List ((ℕ × ℕ) × T)). at_most (min (length rest) 8)) s r t
+goes_on s t None few gave = record { on = λ _. tt; keeps = tt; rests = λ _. tt }
+goes_on s t (Some x) few gave = record { on = λ _. (tt, tt, less); keeps = tt; rests = λ _. tt }
+  where
+    less : min (length t) 8 < min (length s) 8
+    less = let one : length s ≡ suc (length t) = ap length gave in omega (arith, one, few, min-eq_left {n = length s} few, min-le_left (length t) 8)

@@ -1,9 +1,9 @@
 -- The steps round a cell on a table whose edges meet.
-use Rattle.std.proofs.Common.{◌≡◌, ℕ, zero, suc, ◌+◌, ◌-◌, ◌*◌, ◌/◌, ◌%◌, ◌<◌, ◌≤◌, Bool, true, Option, Some, None, List, [], ◌∷◌, cond, nat_lt, ◌&&◌, drop, length, inl, inr, IsSome, refl, sym, ◌∙◌, ap, arith, slice_index_or}
+use Rattle.std.proofs.Common.{◌≡◌, ℕ, zero, suc, ◌+◌, ◌-◌, ◌*◌, ◌/◌, ◌%◌, ◌<◌, ◌≤◌, Bool, true, false, Option, Some, None, List, [], ◌∷◌, cond, nat_lt, ◌&&◌, drop, length, inl, inr, IsSome, refl, sym, ◌∙◌, ap, arith, slice_index_or}
 use Rattle.std.specs.List.{filter_map, slice_get, cons_option}
 use Rattle.std.proofs.lemmas.List.{drop_all}
 use Rattle.std.proofs.lemmas.Nat.{mod_below, mod-mul-add}
-use Rattle.std.proofs.lemmas.Bool.{lt-ltb, cases_lt}
+use Rattle.std.proofs.lemmas.Bool.{lt-ltb, ltb-true, cases_lt}
 use Rattle.std.proofs.lemmas.Option.{slice_get_read}
 use Rattle.std.proofs.Math.Nat.{add-mod_right}
 use Rattle.grid_base.specs.declared.order.Order.{Order}
@@ -47,7 +47,7 @@ wrapped_end f size Sides at k le = ap (filter_map (cell_at f)) (drop_all k _ le)
 wrapped_end f size All at k le = ap (filter_map (cell_at f)) (drop_all k _ le)
 
 -- away from the edges
-below_mod : (n k : ℕ) → k < n → k % n ≡ k
+pub below_mod : (n k : ℕ) → k < n → k % n ≡ k
 below_mod n k lt = let same : k ≡ 0 * n + k = omega arith in ap (λ x. x % n) same ∙ mod-mul-add 0 n k lt
 
 before_inner : (n k : ℕ) → 0 < k → k < n → round_before n k ≡ k - 1
@@ -88,37 +88,62 @@ module _ {T : Type 0} (cells : List T) (size strides at : ℕ × ℕ) (first : �
       (ap (slice_get cells) (sym (box_place cells size strides at first 0 0 inner w e kind k lt i j ei ej)) ∙ slice_get_read cells _ _ x refl (box_within cells size strides at first 0 0 inner w e kind k lt i j ei ej) read)
 
 -- what an iterator starts from
-wrapped_round : {T : Type 0} (t : List (List T)) (kind : Steps) (at : ℕ × ℕ) → wrapped_from (cell t) (row_count t, col_count t) kind at 0 ≡ wrapped_neighbors_of kind t at.0 at.1
+wrapped_round : {T : Type 0} (t : List (List T)) (kind : Steps) (at : ℕ × ℕ) → cond (nat_lt at.0 (row_count t) && nat_lt at.1 (col_count t)) (wrapped_from (cell t) (row_count t, col_count t) kind at 0) [] ≡ wrapped_neighbors_of kind t at.0 at.1
 unfolding wrapped_neighbors4 wrapped_neighbors8
 wrapped_round t Sides at = refl
 wrapped_round t All at = refl
 
-pub wrapped_start : {T : Type 0} (o : Order) (cells : List T) (size strides : ℕ × ℕ) (h : HoldsSize size.0 size.1 (length cells)) (es : strides ≡ strides_of o size) (kind : Steps) (at : ℕ × ℕ) → wrapped_from (strided_cell cells size strides) size kind at 0 ≡ wrapped_neighbors_of kind (table_of o size.0 size.1 cells) at.0 at.1
-wrapped_start o cells size strides h es kind at =
-    let t = table_of o size.0 size.1 cells in
-    ap (λ f. wrapped_from f size kind at 0) (same_cells o cells size strides h es)
-    ∙ (ap (λ s. wrapped_from (cell t) s kind at 0) (whole_size o cells size strides h es)
-    ∙ wrapped_round t kind at)
+module _ {T : Type 0} (o : Order) (cells : List T) (size strides : ℕ × ℕ) (h : HoldsSize size.0 size.1 (length cells)) (es : strides ≡ strides_of o size) (kind : Steps) (at : ℕ × ℕ) where
+  abbrev f : ℕ → ℕ → Option T
+  f = strided_cell cells size strides
+
+  wrapped_all : cond (nat_lt at.0 size.0 && nat_lt at.1 size.1) (wrapped_from f size kind at 0) [] ≡ wrapped_neighbors_of kind (table_of o size.0 size.1 cells) at.0 at.1
+  wrapped_all =
+      let t = table_of o size.0 size.1 cells in
+      ap (λ f. cond (nat_lt at.0 size.0 && nat_lt at.1 size.1) (wrapped_from f size kind at 0) []) (same_cells o cells size strides h es)
+      ∙ (ap (λ s. cond (nat_lt at.0 s.0 && nat_lt at.1 s.1) (wrapped_from (cell t) s kind at 0) []) (whole_size o cells size strides h es)
+      ∙ wrapped_round t kind at)
+
+  -- by how many steps are done
+  pub wrapped_start : (passed : ℕ) → passed ≡ cond (nat_lt at.0 size.0 && nat_lt at.1 size.1) 0 (step_count kind) → wrapped_from f size kind at passed ≡ wrapped_neighbors_of kind (table_of o size.0 size.1 cells) at.0 at.1
+  wrapped_start passed e = ap (wrapped_from f size kind at) e ∙ (cases (nat_lt at.0 size.0 && nat_lt at.1 size.1) ∙ wrapped_all)
+    where
+      cases : (b : Bool) → wrapped_from f size kind at (cond b 0 (step_count kind)) ≡ cond b (wrapped_from f size kind at 0) []
+      cases true = refl
+      cases false = wrapped_end f size kind at (step_count kind) (omega arith)
+
+-- where a position is in range, and where not, by how many steps are done
+module _ (size at : ℕ × ℕ) (passed count : ℕ) (e : passed ≡ cond (nat_lt at.0 size.0 && nat_lt at.1 size.1) 0 count) where
+  pub not_done : passed < count → (at.0 < size.0) × (at.1 < size.1)
+  not_done lt = cases (nat_lt at.0 size.0) (nat_lt at.1 size.1) refl refl e
+    where
+      cases : (a b : Bool) → nat_lt at.0 size.0 ≡ a → nat_lt at.1 size.1 ≡ b → passed ≡ cond (a && b) 0 count → (at.0 < size.0) × (at.1 < size.1)
+      cases true true ea eb e = (ltb-true _ _ ea, ltb-true _ _ eb)
+      cases true false ea eb e = absurd (omega (arith, lt, e))
+      cases false b ea eb e = absurd (omega (arith, lt, e))
+
+  pub none_done : at.0 < size.0 → at.1 < size.1 → passed ≡ 0
+  none_done lr lc = e ∙ (ap (λ b. cond (b && nat_lt at.1 size.1) 0 count) (lt-ltb _ _ lr) ∙ ap (λ b. cond b 0 count) (lt-ltb _ _ lc))
 
 -- as many cells as positions, where there is a cell at each
-around_within : (n k i : ℕ) → k < n → around n k i < n
+pub around_within : (n k i : ℕ) → k < n → around n k i < n
 around_within n k zero lt = mod_below (k + n - 1) n (omega arith)
 around_within n k (suc zero) lt = lt
 around_within n k (suc (suc i)) lt = mod_below (k + 1) n (omega arith)
 
-module _ {T : Type 0} (f : ℕ → ℕ → Option T) (size at : ℕ × ℕ) (there : (r c : ℕ) → r < size.0 → c < size.1 → IsSome (f r c)) (lr : at.0 < size.0) (lc : at.1 < size.1) (kind : Steps) where
-  one_left : (k : ℕ) → k < step_count kind → length (wrapped_from f size kind at k) ≡ suc (length (wrapped_from f size kind at (k + 1)))
-  one_left k lt =
+module _ {T : Type 0} (f : ℕ → ℕ → Option T) (size at : ℕ × ℕ) (there : (r c : ℕ) → r < size.0 → c < size.1 → IsSome (f r c)) (kind : Steps) where
+  one_left : at.0 < size.0 → at.1 < size.1 → (k : ℕ) → k < step_count kind → length (wrapped_from f size kind at k) ≡ suc (length (wrapped_from f size kind at (k + 1)))
+  one_left lr lc k lt =
       let p = around_of size kind at k in
       ap (λ ps. length (filter_map (cell_at f) ps)) (wrapped_left size kind at k lt)
       ∙ length_cons _ (wrapped_from f size kind at (k + 1)) (mapped_there (λ x. (p, x)) (f p.0 p.1) (there p.0 p.1 (around_within size.0 at.0 (box kind k / 3) lr) (around_within size.1 at.1 (box kind k % 3) lc)))
 
-  left_by : (d k : ℕ) → k + d ≡ step_count kind → length (wrapped_from f size kind at k) ≡ d
-  left_by zero k e = ap length (wrapped_end f size kind at k (omega arith))
-  left_by (suc d) k e = one_left k (omega arith) ∙ ap suc (left_by d (k + 1) (omega arith))
+  left_by : at.0 < size.0 → at.1 < size.1 → (d k : ℕ) → k + d ≡ step_count kind → length (wrapped_from f size kind at k) ≡ d
+  left_by lr lc zero k e = ap length (wrapped_end f size kind at k (omega arith))
+  left_by lr lc (suc d) k e = one_left lr lc k (omega arith) ∙ ap suc (left_by lr lc d (k + 1) (omega arith))
 
-  pub length-wrapped_from : (k : ℕ) → length (wrapped_from f size kind at k) ≡ step_count kind - k
-  length-wrapped_from k = elim (cases_lt k (step_count kind)) [
-    | inl lt ↦ left_by (step_count kind - k) k (omega arith)
+  pub length-wrapped_from : (k : ℕ) → (k < step_count kind → at.0 < size.0) → (k < step_count kind → at.1 < size.1) → length (wrapped_from f size kind at k) ≡ step_count kind - k
+  length-wrapped_from k lr lc = elim (cases_lt k (step_count kind)) [
+    | inl lt ↦ left_by (lr lt) (lc lt) (step_count kind - k) k (omega arith)
     | inr ge ↦ ap length (wrapped_end f size kind at k ge) ∙ omega arith
   ]

@@ -119,8 +119,6 @@ box_start strides at = (at.0 - 1) * strides.0 + (at.1 - 1) * strides.1
 pub record IsRound {T : Type 0} (cells : List T) (size strides at : ℕ × ℕ) (first : ℕ)
     (inner : Bool) (passed tried : ℕ) : Type 0 where
   pub holds : HoldsCells cells size strides
-  pub row_in : at.0 < size.0
-  pub col_in : at.1 < size.1
   pub inside : inner ≡ true → IsInner size at
   pub first_is : inner ≡ true → first ≡ box_start strides at
   pub behind : inner ≡ false → passed ≤ tried

@@ -1,3 +1,6 @@
 pub mod Around
+pub mod Directions
+pub mod Marks
+pub mod NearCounts
 pub mod Neighbors
 pub mod Wrapped

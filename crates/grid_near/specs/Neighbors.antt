@@ -7,7 +7,10 @@ use Rattle.std.specs.Prelude.{
   ◌+◌,
   ◌-◌,
   ◌%◌,
+  ◌&&◌,
   true,
+  cond,
+  nat_lt,
   Option,
   None,
   Some,
@@ -72,20 +75,22 @@ module _ {T : Type 0} where
       filter_map (cell_at (cell t)) (around4 (before r) (Some r) (Some (r + 1)) (before c) (Some c)
       (Some (c + 1)))
 
-  -- the same on a table whose edges meet
+  -- the same on a table whose edges meet, and none where (r, c) is out of range
   unfoldable pub wrapped_neighbors8 : List (List T) → ℕ → ℕ → List ((ℕ × ℕ) × T)
   wrapped_neighbors8 t r c =
       let m = row_count t in
       let n = col_count t in
-      filter_map (cell_at (cell t)) (around8 (Some (round_before m r)) (Some r)
-      (Some (round_after m r)) (Some (round_before n c)) (Some c) (Some (round_after n c)))
+      cond (nat_lt r m && nat_lt c n) (filter_map (cell_at (cell t)) (around8 (Some (round_before m r))
+      (Some r) (Some (round_after m r)) (Some (round_before n c)) (Some c)
+      (Some (round_after n c)))) []
 
   unfoldable pub wrapped_neighbors4 : List (List T) → ℕ → ℕ → List ((ℕ × ℕ) × T)
   wrapped_neighbors4 t r c =
       let m = row_count t in
       let n = col_count t in
-      filter_map (cell_at (cell t)) (around4 (Some (round_before m r)) (Some r)
-      (Some (round_after m r)) (Some (round_before n c)) (Some c) (Some (round_after n c)))
+      cond (nat_lt r m && nat_lt c n) (filter_map (cell_at (cell t)) (around4 (Some (round_before m r))
+      (Some r) (Some (round_after m r)) (Some (round_before n c)) (Some c)
+      (Some (round_after n c)))) []
 
   -- by the kind of steps
   abbrev pub neighbors_of : Steps → List (List T) → ℕ → ℕ → List ((ℕ × ℕ) × T)

@@ -2,10 +2,14 @@
 //! Users call them as methods of a grid.
 #![tactic(auto)]
 
+mod counts;
+mod direction;
 mod neighbors;
 mod steps;
 mod wrapped;
 
+pub use counts::{Edges, map_counts, map_sums};
+pub use direction::Direction;
 pub use neighbors::{Neighbors, neighbors_of};
 pub use steps::Steps;
 pub use wrapped::{WrappedNeighbors, wrapped_neighbors_of};

@@ -1,6 +1,6 @@
 //! Iterators over the cells round a cell.
-ghost use Rattle.std.specs.Prelude.{◌≡◌, ◌<◌, ◌≤◌, ⊤, length, IfSome, Some};
-ghost use Rattle.std.specs.Iterator.{YieldsFirstBy, item_count, UpTo, at_most};
+ghost use Rattle.std.specs.Prelude.{◌≡◌, ◌<◌, ◌≤◌, ⊤, length, min, IfSome, Some};
+ghost use Rattle.std.specs.Iterator.{YieldsFirstBy, UpTo, at_most};
 ghost use Rattle.std.specs.Iterator.SizeHint.{IsWithinCount};
 ghost use Rattle.grid_base.specs.GridValue.{HoldsSize};
 ghost use Rattle.grid_base.specs.Order.{table_of};
@@ -62,8 +62,6 @@ pub fn neighbors_of<T>(
     kind: Steps,
 ) -> Neighbors<'_, T>
     requires size { HoldsSize size.0 size.1 (length cells.now) }
-    requires row_in { at.0 < size.0 }
-    requires col_in { at.1 < size.1 }
     ensures gives { GivesNear
         (neighbors_of kind (table_of order size.0 size.1 cells.now) at.0 at.1) result }
     ensures count { length result ≤ step_count kind }
@@ -93,7 +91,7 @@ impl<'a, T> Iterator for Neighbors<'a, T> {
 
     ghost next_gives = { YieldsFirstBy placed (λ rest. rest) };
 
-    ghost remaining = { item_count (λ rest. rest) };
+    ghost remaining = { λ rest. at_most (min (length rest) 8) };
 
     fn next(&mut self) -> Option<((usize, usize), &'a T)> {
         let k = self.passed;
@@ -121,8 +119,8 @@ impl<'a, T> Iterator for Neighbors<'a, T> {
     }
 
     fn size_hint(&self) -> (usize, Option<usize>)
-        ensures lower { IsWithinCount result.0 (at_most (length self.now)) }
-        ensures upper { IfSome result.1 (UpTo (at_most (length self.now))) }
+        ensures lower { IsWithinCount result.0 (at_most (min (length self.now) 8)) }
+        ensures upper { IfSome result.1 (UpTo (at_most (min (length self.now) 8))) }
         ensures exact { result ≡ (length self.now, Some (length self.now)) }
     {
         let len = self.len();
@@ -131,7 +129,10 @@ impl<'a, T> Iterator for Neighbors<'a, T> {
 }
 
 impl<'a, T> ExactSizeIterator for Neighbors<'a, T> {
-    fn len(&self) -> usize {
+    fn len(&self) -> usize
+        ensures value { result ≡ min (length self.now) 8 }
+        ensures exact { result ≡ length self.now }
+    {
         let from = if self.inner { self.passed } else { self.tried };
         count_from(self.size, self.at, self.kind, from)
     }
@@ -163,8 +164,6 @@ fn find_from<T>(
     from: usize,
 ) -> (usize, Option<((usize, usize), &T)>)
     requires holds { HoldsCells cells.now size strides }
-    requires row_in { at.0 < size.0 }
-    requires col_in { at.1 < size.1 }
     ensures found { FindsFirst (strided_cell cells.now size strides) kind at from result }
     ensures keeps { from ≤ result.0 }
     ensures on { from < step_count kind → from < result.0 }

@@ -26,11 +26,9 @@ pub(crate) fn strides_of(order: Order, size: (usize, usize)) -> (usize, usize)
 
 // Whether all cells round a position are within the size.
 pub(crate) fn is_inner(size: (usize, usize), at: (usize, usize)) -> bool
-    requires row_in { at.0 < size.0 }
-    requires col_in { at.1 < size.1 }
     ensures { IsTrue result ↔ IsInner size at }
 {
-    at.0 > 0 && at.1 > 0 && at.0 + 1 < size.0 && at.1 + 1 < size.1
+    at.0 > 0 && at.1 > 0 && at.0 < size.0.saturating_sub(1) && at.1 < size.1.saturating_sub(1)
 }
 
 // The number of steps round a cell.
@@ -58,11 +56,14 @@ pub(crate) fn offset(kind: Steps, k: usize) -> (usize, usize)
 
 // Whether the cell in row `i` and column `j` of the box of nine cells round a position is within the size.
 pub(crate) fn is_there(size: (usize, usize), at: (usize, usize), i: usize, j: usize) -> bool
-    requires row_in { at.0 < size.0 }
-    requires col_in { at.1 < size.1 }
     ensures { IsTrue result ↔ IsThere size at i j }
 {
-    (i > 0 || at.0 > 0) && i <= size.0 - at.0 && (j > 0 || at.1 > 0) && j <= size.1 - at.1
+    at.0 <= size.0
+        && at.1 <= size.1
+        && (i > 0 || at.0 > 0)
+        && i <= size.0 - at.0
+        && (j > 0 || at.1 > 0)
+        && j <= size.1 - at.1
 }
 
 // Returns the first step, this one or a later, whose cell is within the size, or the number of steps.
@@ -74,8 +75,6 @@ pub(crate) fn first_from(
     kind: Steps,
     from: usize,
 ) -> usize
-    requires row_in { at.0 < size.0 }
-    requires col_in { at.1 < size.1 }
     ensures keeps { from ≤ result }
     ensures skips { positions_from size kind at from ≡ positions_from size kind at result }
     ensures there { result < step_count kind
@@ -97,8 +96,6 @@ pub(crate) fn count_from(
     kind: Steps,
     from: usize,
 ) -> usize
-    requires row_in { at.0 < size.0 }
-    requires col_in { at.1 < size.1 }
     ensures { result ≡ length (positions_from size kind at from) }
 {
     let mut count = 0;

@@ -1,6 +1,6 @@
 //! Iterators over the cells round a cell of a table whose edges meet.
-ghost use Rattle.std.specs.Prelude.{◌≡◌, ◌<◌, ⊤, length, IfSome, Some};
-ghost use Rattle.std.specs.Iterator.{YieldsFirstBy, item_count, UpTo, at_most};
+ghost use Rattle.std.specs.Prelude.{◌≡◌, ◌<◌, ◌≤◌, ◌&&◌, ⊤, cond, nat_lt, length, min, IfSome, Some};
+ghost use Rattle.std.specs.Iterator.{YieldsFirstBy, UpTo, at_most};
 ghost use Rattle.std.specs.Iterator.SizeHint.{IsWithinCount};
 ghost use Rattle.grid_base.specs.GridValue.{HoldsSize};
 ghost use Rattle.grid_base.specs.Order.{table_of};
@@ -32,15 +32,16 @@ pub struct WrappedNeighbors<'a, T> {
 
 impl<'a, T> Model for WrappedNeighbors<'a, T> {
     ghost use Rattle.std.specs.Prelude.{◌≡◌, ℕ, List};
-    ghost use Rattle.grid_near.specs.Around.{strided_cell, IsRound};
-    ghost use Rattle.grid_near.specs.Wrapped.{wrapped_from};
+    ghost use Rattle.grid_near.specs.Around.{strided_cell};
+    ghost use Rattle.grid_near.specs.Wrapped.{wrapped_from, IsWrapped};
 
     ghost Value = { List ((ℕ × ℕ) × T) };
 
     ghost view = { λ a. wrapped_from (strided_cell a.cells.now a.size a.strides) a.size a.kind a.at
         a.passed };
 
-    ghost invariant = { λ a. IsRound a.cells.now a.size a.strides a.at a.first a.inner 0 0 };
+    ghost invariant = { λ a. IsWrapped a.cells.now a.size a.strides a.at a.kind a.first a.inner
+        a.passed };
 }
 
 /// Returns an iterator over the cells round cell `at`, as [`neighbors_of`](super::neighbors_of) does, where the edges of the
@@ -59,11 +60,10 @@ pub fn wrapped_neighbors_of<T>(
     kind: Steps,
 ) -> WrappedNeighbors<'_, T>
     requires size { HoldsSize size.0 size.1 (length cells.now) }
-    requires row_in { at.0 < size.0 }
-    requires col_in { at.1 < size.1 }
     ensures gives { GivesNear
         (wrapped_neighbors_of kind (table_of order size.0 size.1 cells.now) at.0 at.1) result }
-    ensures count { length result ≡ step_count kind }
+    ensures count { at.0 < size.0 → at.1 < size.1 → length result ≡ step_count kind }
+    ensures at_most { length result ≤ step_count kind }
 {
     let strides = strides_of(order, size);
     let inner = is_inner(size, at);
@@ -72,6 +72,7 @@ pub fn wrapped_neighbors_of<T>(
     } else {
         0
     };
+    let passed = done_at_start(size, at, kind);
     WrappedNeighbors {
         cells,
         size,
@@ -80,7 +81,7 @@ pub fn wrapped_neighbors_of<T>(
         kind,
         inner,
         first,
-        passed: 0,
+        passed,
     }
 }
 
@@ -89,7 +90,7 @@ impl<'a, T> Iterator for WrappedNeighbors<'a, T> {
 
     ghost next_gives = { YieldsFirstBy placed (λ rest. rest) };
 
-    ghost remaining = { item_count (λ rest. rest) };
+    ghost remaining = { λ rest. at_most (min (length rest) 8) };
 
     fn next(&mut self) -> Option<((usize, usize), &'a T)> {
         let k = self.passed;
@@ -110,8 +111,8 @@ impl<'a, T> Iterator for WrappedNeighbors<'a, T> {
     }
 
     fn size_hint(&self) -> (usize, Option<usize>)
-        ensures lower { IsWithinCount result.0 (at_most (length self.now)) }
-        ensures upper { IfSome result.1 (UpTo (at_most (length self.now))) }
+        ensures lower { IsWithinCount result.0 (at_most (min (length self.now) 8)) }
+        ensures upper { IfSome result.1 (UpTo (at_most (min (length self.now) 8))) }
         ensures exact { result ≡ (length self.now, Some (length self.now)) }
     {
         let len = self.len();
@@ -120,7 +121,10 @@ impl<'a, T> Iterator for WrappedNeighbors<'a, T> {
 }
 
 impl<'a, T> ExactSizeIterator for WrappedNeighbors<'a, T> {
-    fn len(&self) -> usize {
+    fn len(&self) -> usize
+        ensures value { result ≡ min (length self.now) 8 }
+        ensures exact { result ≡ length self.now }
+    {
         step_count(self.kind).saturating_sub(self.passed)
     }
 }
@@ -140,8 +144,19 @@ impl<'a, T> Clone for WrappedNeighbors<'a, T> {
     }
 }
 
+// How many steps are done at the start: all of them, round a position out of range.
+fn done_at_start(size: (usize, usize), at: (usize, usize), kind: Steps) -> usize
+    ensures { result ≡ cond (nat_lt at.0 size.0 && nat_lt at.1 size.1) 0 (step_count kind) }
+{
+    if at.0 < size.0 && at.1 < size.1 {
+        0
+    } else {
+        step_count(kind)
+    }
+}
+
 // The number before `at`, `at`, or the number after it, for `i` 0, 1 or 2, round `len` numbers.
-fn around(len: usize, at: usize, i: usize) -> usize
+pub(crate) fn around(len: usize, at: usize, i: usize) -> usize
     requires { at < len }
     ensures is { result ≡ around len at i }
     ensures within { result < len }

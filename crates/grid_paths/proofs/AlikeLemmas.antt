@@ -1,12 +1,12 @@
 -- Which cells equal one: the size of that table, and its cells.
-use Rattle.std.proofs.Common.{◌≡◌, ℕ, ◌+◌, ◌^◌, ◌%◌, ◌-◌, ◌<◌, Bool, true, Option, None, Some, List, length, refl, sym, ◌∙◌, ap, subst, arith, ⊎_elim, MatchOption}
+use Rattle.std.proofs.Common.{◌≡◌, ℕ, ◌+◌, ◌^◌, ◌<◌, Bool, true, Option, None, Some, List, length, refl, sym, ◌∙◌, ap, arith, ⊎_elim, MatchOption}
 use Rattle.std.specs.Option.{option_map}
 use Rattle.std.proofs.lemmas.Bool.{cases_lt}
 use Rattle.std.proofs.lemmas.Option.{slice_get_past}
 use Rattle.grid_base.specs.Table.{row, row_count, col_count, cell, IsTable, InRange, tabulate}
 use Rattle.grid_base.proofs.TableLemmas.{IsFull, IsFull-cells, IsSize-table, rows-tabulate, cols-tabulate, cell-tabulate, cell_past_rows, cell_past_cols}
+use Rattle.grid_base.proofs.TableLemmas.{cell_in_range}
 use Rattle.grid_paths.specs.Walks.{IsOpen, alike}
-use Rattle.grid_paths.proofs.StepLemmas.{AreAround, AreAround-wrapping}
 use Rattle.grid_near.proofs.AroundLemmas.{mapped_there}
 
 module _ {X Y : Type 0} (f : X → Y) (t : List (List X)) (table : IsTable t) where
@@ -75,14 +75,14 @@ module _ {X : Type 0} (eq : X → X → Bool) (x : X) (t : List (List X)) (table
       let lc1 : c < col_count (alike eq x t) = omega arith in
       (lr1, lc1)
 
-  -- the rows and the columns round a position
-  pub rows_around : (r c : ℕ) → InRange t r c → row_count t < 2 ^ 64 → AreAround (row_count (alike eq x t)) r ((r + (2 ^ 64 - 1)) % 2 ^ 64) (r + 1)
-  rows_around r c i lt =
-      subst (λ n. AreAround n r ((r + (2 ^ 64 - 1)) % 2 ^ 64) (r + 1)) (sym alike-rows) (AreAround-wrapping (row_count t) r i.0 lt)
-
-  pub cols_around : (r c : ℕ) → InRange t r c → col_count t < 2 ^ 64 → AreAround (col_count (alike eq x t)) c ((c + (2 ^ 64 - 1)) % 2 ^ 64) (c + 1)
-  cols_around r c i lt =
-      subst (λ n. AreAround n c ((c + (2 ^ 64 - 1)) % 2 ^ 64) (c + 1)) (sym alike-cols) (AreAround-wrapping (col_count t) c i.1 lt)
+  -- an open position is one that a grid can have
+  pub alike_fits : row_count t < 2 ^ 64 → col_count t < 2 ^ 64 → (b : ℕ × ℕ) → IsOpen (alike eq x t) b → (b.0 + 1 < 2 ^ 64) × (b.1 + 1 < 2 ^ 64)
+  alike_fits rows cols b o =
+      let v = alike_open b o in
+      let i = cell_in_range t table b.0 b.1 v.0 v.1 in
+      let lr = i.0 in
+      let lc = i.1 in
+      (omega arith, omega arith)
 
 -- a write in range is made
 pub set_there : {X : Type 0} (r : Option X) (P Q R : Type 0) → P → MatchOption r (P → ⊥) (λ _. P) → MatchOption r Q (λ _. R) → R

@@ -10,7 +10,7 @@ use Rattle.grid_paths.specs.Search.{IsMarked, HaveOneSize}
 use Rattle.grid_paths.specs.Regions.{AreJoined, AreRegions, ComesBefore, AreNumbers}
 use Rattle.grid_paths.specs.Numbers.{IsNumbered, AreEqual, AreParts, IsScanned}
 use Rattle.grid_paths.proofs.SearchLemmas.{one_mark}
-use Rattle.grid_paths.proofs.StepLemmas.{same_pair}
+use Rattle.grid_paths.proofs.AroundLemmas.{same_pair}
 use Rattle.grid_paths.proofs.PathLemmas.{step_back, walk_back, open_end}
 use Rattle.grid_paths.proofs.AlikeLemmas.{open_alike, alike_open, mapped-cell}
 use Rattle.grid_base.proofs.TableLemmas.{cell_in_range}
@@ -21,7 +21,7 @@ walk_map kind F G h zero a b w = (w.0, h b w.1)
 walk_map kind F G h (suc n) a b w = (w.0, walk_map kind F G h n a w.0 w.1, w.2, h b w.3)
 
 -- one walk and then another
-walk_append : (kind : Steps) (F : List (List Bool)) (m n : ℕ) (a b c : ℕ × ℕ) → Walk kind F a b m → Walk kind F b c n → (k : ℕ) × Walk kind F a c k
+pub walk_append : (kind : Steps) (F : List (List Bool)) (m n : ℕ) (a b c : ℕ × ℕ) → Walk kind F a b m → Walk kind F b c n → (k : ℕ) × Walk kind F a c k
 walk_append kind F m zero a b c v w = (m, subst (λ x. Walk kind F a x m) w.0 v)
 walk_append kind F m (suc n) a b c v w = let y = walk_append kind F m n a b w.0 v w.1 in (suc y.0, (w.0, y.1, w.2, w.3))
 

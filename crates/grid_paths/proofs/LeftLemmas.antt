@@ -1,10 +1,9 @@
 -- The open positions that aren't reached yet, as they are reached.
-use Rattle.std.proofs.Common.{◌≡◌, ℕ, ◌+◌, ◌-◌, ◌%◌, ◌^◌, ◌<◌, ◌⊎◌, Bool, true, false, Option, None, Some, List, refl, sym, ◌∙◌, subst, arith, inl, inr, ⊎_elim}
+use Rattle.std.proofs.Common.{◌≡◌, ℕ, ◌+◌, ◌^◌, ◌<◌, ◌⊎◌, Bool, true, false, Option, None, Some, List, refl, sym, ◌∙◌, subst, arith, inl, inr, ⊎_elim}
 use Rattle.grid_base.specs.Table.{row_count, col_count, cell, with_cell, IsTable, InRange}
 use Rattle.grid_base.proofs.WriteLemmas.{cell-with_same, cell-with_other, same_or_other}
 use Rattle.grid_paths.specs.Walks.{IsOpen}
 use Rattle.grid_paths.specs.Search.{HaveOneSize, IsMarked, IsLeft}
-use Rattle.grid_paths.proofs.StepLemmas.{AreAround, AreAround-wrapping}
 use Rattle.grid_base.proofs.TableLemmas.{cell_in_range}
 
 module _ (floor : List (List Bool)) (steps : List (List (Option ℕ))) (left : List (List Bool)) (l : IsLeft floor steps left) (steps_table : IsTable steps) (left_table : IsTable left) (b : ℕ × ℕ) (k : ℕ) (is_left : IsOpen left b) where
@@ -71,7 +70,13 @@ IsLeft-start floor steps none =
       all = λ a h. inl h;
     }
 
--- the numbers round a row or a column of a table of the same size
-pub around_in : (n m at : ℕ) → n ≡ m → at < n → n < 2 ^ 64 → AreAround m at ((at + (2 ^ 64 - 1)) % 2 ^ 64) (at + 1)
-around_in n m at e lt le =
-    subst (λ x. AreAround x at ((at + (2 ^ 64 - 1)) % 2 ^ 64) (at + 1)) e (AreAround-wrapping n at lt le)
+-- an open position is one that a grid can have, or is reached
+pub left_fits : (floor : List (List Bool)) (steps : List (List (Option ℕ))) (left : List (List Bool)) → IsLeft floor steps left → IsTable left → row_count left < 2 ^ 64 → col_count left < 2 ^ 64 → (b : ℕ × ℕ) → IsOpen floor b → ((b.0 + 1 < 2 ^ 64) × (b.1 + 1 < 2 ^ 64)) ⊎ ((m : ℕ) × IsMarked steps b m)
+left_fits floor steps left l table rows cols b o =
+    ⊎_elim (λ h.
+    let i = cell_in_range left table b.0 b.1 true h in
+    let lr = i.0 in
+    let lc = i.1 in
+    inl (omega arith, omega arith))
+    (λ m. inr m)
+    (l.all b o)

@@ -8,3 +8,11 @@ pub mod QueueLemmas
 pub mod RegionLemmas
 pub mod SearchLemmas
 pub mod StepLemmas
+pub mod ClosureLemmas
+pub mod AroundLemmas
+pub mod HeapLemmas
+pub mod RelaxLemmas
+pub mod CheapLemmas
+pub mod TrailLemmas
+pub mod TakenLemmas
+pub mod FloodLemmas

@@ -6,10 +6,7 @@ use Rattle.grid_base.specs.Table.{cell}
 use Rattle.grid_near.specs.Neighbors.{around4, around8, before, cell_at, neighbors4, neighbors8}
 use Rattle.grid_near.specs.declared.steps.Steps.TheVariants.{Sides, All}
 use Rattle.grid_paths.specs.Walks.{DifferByOne, IsStep}
-
-pub Contains-cases : {X : Type 0} (x z : X) (xs : List X) → Contains (x ∷ xs) z → (x ≡ z) ⊎ Contains xs z
-Contains-cases x z xs (zero, l, e) = inl e
-Contains-cases x z xs (suc k, l, e) = inr (k, omega arith, e)
+use Rattle.grid_paths.proofs.AroundLemmas.{Contains-cases}
 
 pub Contains-more : {X : Type 0} (o : Option X) (xs : List X) (x : X) → Contains xs x → Contains (cons_option o xs) x
 Contains-more None xs x c = c

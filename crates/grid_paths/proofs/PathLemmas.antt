@@ -1,8 +1,12 @@
 -- Walks turned round, paths and walks, and a path that follows the numbers down.
-use Rattle.std.proofs.Common.{◌≡◌, ℕ, zero, suc, ◌+◌, ◌-◌, ◌<◌, ◌≤◌, Bool, Option, Some, List, [], ◌∷◌, ◌++◌, length, refl, sym, subst, arith, inl, inr, ⊎_elim, add-one, Result, Ok, Err, IfOk}
+use Rattle.std.proofs.Common.{◌≡◌, ℕ, zero, suc, ◌+◌, ◌-◌, ◌<◌, ◌≤◌, Bool, Option, Some, List, [], ◌∷◌, ◌++◌, length, refl, sym, subst, arith, inl, inr, ⊎_elim, add-one, ◌^◌, take, Contains, MatchOption, None}
 use Rattle.std.specs.List.{slice_get}
 use Rattle.std.proofs.lemmas.List.{length-append}
 use Rattle.std.proofs.lemmas.Option.{slice_get_within}
+use Rattle.std.specs.Option.{unwrap_or}
+use Rattle.grid_base.specs.Table.{row_count, col_count, IsTable}
+use Rattle.grid_base.proofs.TableLemmas.{cell_in_range}
+use Rattle.grid_paths.specs.Around.{AreSteps}
 use Rattle.grid_near.specs.declared.steps.Steps.{Steps}
 use Rattle.grid_near.specs.declared.steps.Steps.TheVariants.{Sides, All}
 use Rattle.grid_paths.specs.Walks.{IsOpen, DifferByOne, AreBeside, IsStep, Walk, IsLeastSteps, IsPath, IsShortestPath}
@@ -151,7 +155,22 @@ module _ (kind : Steps) (floor : List (List Bool)) where
   pub no_walk : (from to : ℕ × ℕ) (u : List (List (Option ℕ))) → IsSettled kind floor to from u → ((k : ℕ) → IsMarked u from k → ⊥) → (n : ℕ) → Walk kind floor from to n → ⊥
   no_walk from to u h none n w = h.none none n (walk_back n from to w)
 
--- what holds of the table of open cells holds at every test that says what the closure answers
-pub if_ok_at : {V E B : Type 0} (r : Result V E) (P : List (List Bool) → V → Type 0) (floor : List (List Bool)) (Q : B → Type 0) (f : B → List (List Bool)) → IfOk r (λ v. P floor v) → ((p : B) → Q p → floor ≡ f p) → IfOk r (λ v. (p : B) → Q p → P (f p) v)
-if_ok_at (Ok v) P floor Q f h e = λ p q. subst (λ x. P x v) (e p q) h
-if_ok_at (Err e) P floor Q f h e' = tt
+-- a position with a number is one that a grid can have
+module _ (u : List (List (Option ℕ))) (table : IsTable u) (rows : row_count u < 2 ^ 64) (cols : col_count u < 2 ^ 64) (at : ℕ × ℕ) (xs : List (ℕ × ℕ)) (k : ℕ) where
+  fits : (b : ℕ × ℕ) → IsMarked u b k → (b.0 + 1 < 2 ^ 64) × (b.1 + 1 < 2 ^ 64)
+  fits b m =
+      let i = cell_in_range u table b.0 b.1 (Some k) m in
+      let lr = i.0 in
+      let lc = i.1 in
+      (omega arith, omega arith)
+
+  -- one that shares a side is a step away of either kind
+  pub step_side : AreSteps Sides at (take 4 xs) → (b : ℕ × ℕ) → Contains (take 4 xs) b → IsMarked u b k → (kind : Steps) → IsStep kind at b
+  step_side sides b c m Sides = let f = fits b m in (sides b f.0 f.1).0 c
+  step_side sides b c m All = let f = fits b m in inl ((sides b f.0 f.1).0 c)
+
+  -- where none of those has the number, a step to it is one to a corner
+  pub step_any : AreSteps Sides at (take 4 xs) → AreSteps All at xs → ((b : ℕ × ℕ) → Contains (take 4 xs) b → IsMarked u b k → ⊥) → (found : Option (ℕ × ℕ)) → MatchOption found ((b : ℕ × ℕ) → Contains xs b → IsMarked u b k → ⊥) (λ b. Contains xs b × IsMarked u b k) → (kind : Steps) (b : ℕ × ℕ) → IsStep kind at b → IsMarked u b k → IsStep kind at (unwrap_or found at) × IsMarked u (unwrap_or found at) k
+  step_any sides all none found h Sides b s m = let f = fits b m in absurd (none b ((sides b f.0 f.1).1 s) m)
+  step_any sides all none None h All b s m = let f = fits b m in absurd (h b ((all b f.0 f.1).1 s) m)
+  step_any sides all none (Some a) h All b s m = let f = fits a h.1 in ((all a f.0 f.1).0 h.0, h.1)

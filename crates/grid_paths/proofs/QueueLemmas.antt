@@ -1,7 +1,6 @@
--- The queue of a search in breadth, where the first positions were let go; and that numbers stay below the cells.
+-- The queue of a breadth-first search, where the first positions were let go; and that numbers stay below the cells.
 use Rattle.std.proofs.Common.{◌≡◌, ℕ, zero, suc, ◌+◌, ◌*◌, ◌<◌, ◌≤◌, ◌⊎◌, Bool, Option, None, Some, List, [], ◌∷◌, ◌++◌, length, Contains, sym, ◌∙◌, ap, subst, arith, inl, inr, ⊎_elim}
 use Rattle.std.specs.List.{sum_by}
-use Rattle.std.proofs.Math.Nat.{le-mul_of_pos_right, mul_comm}
 use Rattle.std.proofs.lemmas.List.{length-append, append_assoc}
 use Rattle.grid_base.specs.Table.{row_count, col_count, IsTable, concat_rows}
 use Rattle.grid_base.specs.declared.order.Order.TheVariants.{RowMajor}
@@ -164,12 +163,3 @@ unreached_joined (x ∷ t) =
 pub unreached_cells : (t : List (List (Option ℕ))) → IsTable t → unreached t ≤ row_count t * col_count t
 unreached_cells t h =
     let joined = unreached_joined t in let size = length-storage RowMajor t h in omega arith
-
--- the sides of a table are no longer than the number of its cells
-pub sides_within : {X : Type 0} (t : List (List X)) → IsTable t → (row_count t ≤ row_count t * col_count t) × (col_count t ≤ row_count t * col_count t)
-sides_within [] h = (omega arith, omega arith)
-sides_within (x ∷ t) h =
-    let some_row : 0 < row_count (x ∷ t) = omega arith in
-    let rows = le-mul_of_pos_right (row_count (x ∷ t)) (h.nonempty 0 some_row) in
-    let cols = le-mul_of_pos_right (col_count (x ∷ t)) some_row in
-    (rows, omega (arith, cols, mul_comm (col_count (x ∷ t)) (row_count (x ∷ t))))

@@ -1,34 +1,31 @@
 -- One position reached, the four round a position reached, and the start.
-use Rattle.std.proofs.Common.{◌≡◌, ◌≢◌, ℕ, zero, suc, ◌+◌, ◌-◌, ◌%◌, ◌^◌, ◌<◌, ◌≤◌, ◌⊎◌, Bool, Option, None, Some, List, [], ◌∷◌, ◌++◌, length, Contains, set, get_or, refl, sym, ◌∙◌, ap, subst, arith, rules, inl, inr, ⊎_elim}
+use Rattle.std.proofs.Common.{◌≡◌, ◌≢◌, ℕ, zero, suc, ◌+◌, ◌^◌, ◌<◌, ◌≤◌, ◌⊎◌, Bool, Option, None, Some, List, [], ◌∷◌, ◌++◌, length, Contains, set, get_or, refl, sym, ◌∙◌, ap, subst, arith, rules, inl, inr, ⊎_elim, ◌↔◌}
 use Rattle.std.specs.List.{sum_by, slice_get}
 use Rattle.std.proofs.lemmas.Bool.{cases_eq, cases_lt}
 use Rattle.std.proofs.lemmas.List.{length-append}
 use Rattle.std.proofs.lemmas.List.Sums.{sum_by-set}
-use Rattle.std.proofs.lemmas.List.Elements.{Contains-get_or}
 use Rattle.std.proofs.lemmas.Option.{slice_get_within, slice_get_read, get_or_from_slice_get}
-use Rattle.grid_base.specs.Table.{row, row_count, col_count, cell, with_cell, tabulate, IsTable, InRange}
+use Rattle.grid_base.specs.Table.{row, cell, with_cell, tabulate, IsTable, InRange}
 use Rattle.grid_base.proofs.TableLemmas.{IsFull, cell-tabulate, rows-tabulate, cell_past_rows, cell_past_cols}
 use Rattle.grid_base.proofs.WriteLemmas.{cell-with_same, cell-with_other}
 use Rattle.grid_near.specs.declared.steps.Steps.{Steps}
-use Rattle.grid_near.specs.declared.steps.Steps.TheVariants.{All}
-use Rattle.grid_paths.specs.Walks.{IsOpen, DifferByOne, AreBeside, AreDiagonal, IsStep, WalkFrom}
+use Rattle.grid_paths.specs.Walks.{IsOpen, IsStep, WalkFrom}
 use Rattle.grid_paths.specs.Search.{Reaches, IsMarked, IsAt, IsReached, Spread, WentRound, free, unreached}
+use Rattle.grid_paths.specs.Around.{AreSteps}
+use Rattle.grid_paths.proofs.AroundLemmas.{same_pair, Before, before_more, before_last, before_cases, before_all, Contains-from_get}
 use Rattle.grid_paths.proofs.SearchLemmas.{IsSearch, one_mark, one_place, IsSearch-spread}
 
-pub same_pair : (a b : ℕ × ℕ) → a.0 ≡ b.0 → a.1 ≡ b.1 → a ≡ b
-same_pair a b p q = λ i. (p i, q i)
-
 -- a queue with one item more
-pub at_push : (queue : List (ℕ × ℕ)) (b : ℕ × ℕ) (j : ℕ) (a : ℕ × ℕ) → IsAt queue j a → IsAt (queue ++ b ∷ []) j a
+pub at_push : {X : Type 0} (queue : List X) (b : X) (j : ℕ) (a : X) → slice_get queue j ≡ Some a → slice_get (queue ++ b ∷ []) j ≡ Some a
 at_push [] b j a h = absurd (cc)
 at_push (x ∷ queue) b zero a h = h
 at_push (x ∷ queue) b (suc j) a h = at_push queue b j a h
 
-pub at_end : (queue : List (ℕ × ℕ)) (b : ℕ × ℕ) → IsAt (queue ++ b ∷ []) (length queue) b
+pub at_end : {X : Type 0} (queue : List X) (b : X) → slice_get (queue ++ b ∷ []) (length queue) ≡ Some b
 at_end [] b = refl
 at_end (x ∷ queue) b = at_end queue b
 
-pub at_push_fresh : (queue : List (ℕ × ℕ)) (b : ℕ × ℕ) (j : ℕ) (a : ℕ × ℕ) → IsAt (queue ++ b ∷ []) j a → ((j ≡ length queue) × (a ≡ b)) ⊎ IsAt queue j a
+pub at_push_fresh : {X : Type 0} (queue : List X) (b : X) (j : ℕ) (a : X) → slice_get (queue ++ b ∷ []) j ≡ Some a → ((j ≡ length queue) × (a ≡ b)) ⊎ (slice_get queue j ≡ Some a)
 at_push_fresh [] b zero a h = let e : a ≡ b = cc in inl (refl, e)
 at_push_fresh [] b (suc j) a h = absurd (cc)
 at_push_fresh (x ∷ queue) b zero a h = inr h
@@ -189,128 +186,68 @@ module _ (near : ℕ × ℕ → Type 0) (floor : List (List Bool)) (k : ℕ) (u0
         total = t.total ∙ s.total;
       }
 
--- four positions reached
-module _ (near : ℕ × ℕ → Type 0) (floor : List (List Bool)) (b1 b2 b3 b4 : ℕ × ℕ) (k : ℕ) (d0 : List (List (Option ℕ))) (q0 : List (ℕ × ℕ)) (d1 : List (List (Option ℕ))) (q1 : List (ℕ × ℕ)) (d2 : List (List (Option ℕ)))
-    (q2 : List (ℕ × ℕ)) (d3 : List (List (Option ℕ))) (q3 : List (ℕ × ℕ)) (d4 : List (List (Option ℕ))) (q4 : List (ℕ × ℕ)) (t0 : IsTable d0) (t1 : IsTable d1) (t2 : IsTable d2) (t3 : IsTable d3)
-    (r1 : Reaches floor b1 k d0 q0 d1 q1) (r2 : Reaches floor b2 k d1 q1 d2 q2) (r3 : Reaches floor b3 k d2 q2 d3 q3) (r4 : Reaches floor b4 k d3 q3 d4 q4)
-    (n1 : InRange floor b1.0 b1.1 → near b1) (n2 : InRange floor b2.0 b2.1 → near b2) (n3 : InRange floor b3.0 b3.1 → near b3) (n4 : InRange floor b4.0 b4.1 → near b4)
-    (covers : (b : ℕ × ℕ) → near b → ((b1 ≡ b) ⊎ (b2 ≡ b)) ⊎ ((b3 ≡ b) ⊎ (b4 ≡ b))) where
-  s1 : Spread near floor k d0 q0 d1 q1
-  s1 = Spread-from_reaches near floor b1 k d0 q0 d1 q1 t0 r1 n1
+-- no position
+pub WentRound-none : (near : ℕ × ℕ → Type 0) (floor : List (List Bool)) (k : ℕ) (u : List (List (Option ℕ))) (q : List (ℕ × ℕ)) → ((b : ℕ × ℕ) → near b → ⊥) → WentRound near floor k u q u q
+WentRound-none near floor k u q none =
+    record { spread = Spread-same near floor k u q; around = λ b h. absurd (none b h) }
 
-  s2 : Spread near floor k d1 q1 d2 q2
-  s2 = Spread-from_reaches near floor b2 k d1 q1 d2 q2 t1 r2 n2
+-- the positions that came first, and one more
+module _ (near wide : ℕ × ℕ → Type 0) (b : ℕ × ℕ) (up : (a : ℕ × ℕ) → near a → wide a) (here : wide b) (cases : (a : ℕ × ℕ) → wide a → near a ⊎ (a ≡ b)) (floor : List (List Bool)) (k : ℕ) (u0 : List (List (Option ℕ))) (q0 : List (ℕ × ℕ)) (u1 : List (List (Option ℕ))) (q1 : List (ℕ × ℕ)) (u2 : List (List (Option ℕ))) (q2 : List (ℕ × ℕ)) where
+  WentRound-next : IsTable u1 → WentRound near floor k u0 q0 u1 q1 → Reaches floor b k u1 q1 u2 q2 → WentRound wide floor k u0 q0 u2 q2
+  WentRound-next table t r =
+      let s = Spread-from_reaches wide floor b k u1 q1 u2 q2 table r (λ _. here) in
+      record {
+        spread = Spread-trans wide floor k u0 q0 u1 q1 u2 q2 (Spread-wider near wide up floor k u0 q0 u1 q1 t.spread) s;
+        around = λ a h o.
+            ⊎_elim (λ n. let v = t.around a n o in (v.0, s.kept a v.0 v.1))
+            (λ e.
+            let v = here_by wide floor b k u1 q1 u2 q2 table r (subst (λ x. IsOpen floor x) e o) in
+            (v.0, subst (λ x. IsMarked u2 x v.0) (sym e) v.1))
+            (cases a h);
+      }
 
-  s3 : Spread near floor k d2 q2 d3 q3
-  s3 = Spread-from_reaches near floor b3 k d2 q2 d3 q3 t2 r3 n3
-
-  s4 : Spread near floor k d3 q3 d4 q4
-  s4 = Spread-from_reaches near floor b4 k d3 q3 d4 q4 t3 r4 n4
-
-  s34 : Spread near floor k d2 q2 d4 q4
-  s34 = Spread-trans near floor k d2 q2 d3 q3 d4 q4 s3 s4
-
-  s234 : Spread near floor k d1 q1 d4 q4
-  s234 = Spread-trans near floor k d1 q1 d2 q2 d4 q4 s2 s34
-
-  -- an open position that is one of the four is marked
-  marked_at : (a b : ℕ × ℕ) → a ≡ b → (IsOpen floor a → (m : ℕ) × IsMarked d4 a m) → IsOpen floor b → (m : ℕ) × IsMarked d4 b m
-  marked_at a b e f is_open =
-      let v = f (subst (λ x. IsOpen floor x) (sym e) is_open) in
-      (v.0, subst (λ x. IsMarked d4 x v.0) e v.1)
-
-  here1 : IsOpen floor b1 → (m : ℕ) × IsMarked d4 b1 m
-  here1 o = let v = here_by near floor b1 k d0 q0 d1 q1 t0 r1 o in (v.0, s234.kept b1 v.0 v.1)
-
-  here2 : IsOpen floor b2 → (m : ℕ) × IsMarked d4 b2 m
-  here2 o = let v = here_by near floor b2 k d1 q1 d2 q2 t1 r2 o in (v.0, s34.kept b2 v.0 v.1)
-
-  here3 : IsOpen floor b3 → (m : ℕ) × IsMarked d4 b3 m
-  here3 o = let v = here_by near floor b3 k d2 q2 d3 q3 t2 r3 o in (v.0, s4.kept b3 v.0 v.1)
-
-  here4 : IsOpen floor b4 → (m : ℕ) × IsMarked d4 b4 m
-  here4 o = here_by near floor b4 k d3 q3 d4 q4 t3 r4 o
-
-  around : (b : ℕ × ℕ) → near b → IsOpen floor b → (m : ℕ) × IsMarked d4 b m
-  around b is_near =
-      ⊎_elim (λ l. ⊎_elim (λ e. marked_at b1 b e here1) (λ e. marked_at b2 b e here2) l)
-      (λ l. ⊎_elim (λ e. marked_at b3 b e here3) (λ e. marked_at b4 b e here4) l)
-      (covers b is_near)
-
-  WentRound-four : WentRound near floor k d0 q0 d4 q4
-  WentRound-four = record { spread = Spread-trans near floor k d0 q0 d1 q1 d4 q4 s1 s234; around = around }
-
--- the numbers before and after one of n; the one before the first is none of them
-pub record AreAround (n at before after : ℕ) : Type 0 where
-  pub before_is : 0 < at → before + 1 ≡ at
-  pub before_in : before < n → before + 1 ≡ at
-  pub after_is : after ≡ at + 1
-
--- the number before the first wraps to one that is none of them
-pub AreAround-wrapping : (n at : ℕ) → at < n → n < 2 ^ 64 → AreAround n at ((at + (2 ^ 64 - 1)) % 2 ^ 64) (at + 1)
-AreAround-wrapping n at lt le =
-    record { before_is = λ h. omega arith; before_in = λ h. omega arith; after_is = refl }
-
-one_of : (n at before after b : ℕ) → AreAround n at before after → DifferByOne at b → (before ≡ b) ⊎ (after ≡ b)
-one_of n at before after b h d =
-    ⊎_elim (λ e. inr (h.after_is ∙ e))
-    (λ e. let is : before + 1 ≡ at = h.before_is (omega arith) in let same : before ≡ b = omega arith in inl same)
-    d
-
--- the four positions that share a side with (row, col), and the four that share a corner
-module _ (m n row col up down left right : ℕ) (rows : AreAround m row up down) (cols : AreAround n col left right) where
-  pub four_beside : (b : ℕ × ℕ) → AreBeside (row, col) b → (((up, col) ≡ b) ⊎ ((row, left) ≡ b)) ⊎ (((row, right) ≡ b) ⊎ ((down, col) ≡ b))
-  four_beside b h =
-      ⊎_elim (λ w.
-      ⊎_elim (λ e. inl (inr (same_pair (row, left) b w.0 e)))
-      (λ e. inr (inl (same_pair (row, right) b w.0 e)))
-      (one_of n col left right b.1 cols w.1))
-      (λ w.
-      ⊎_elim (λ e. inl (inl (same_pair (up, col) b e w.0)))
-      (λ e. inr (inr (same_pair (down, col) b e w.0)))
-      (one_of m row up down b.0 rows w.1))
-      h
-
-  pub four_diagonal : (b : ℕ × ℕ) → AreDiagonal (row, col) b → (((up, left) ≡ b) ⊎ ((up, right) ≡ b)) ⊎ (((down, left) ≡ b) ⊎ ((down, right) ≡ b))
-  four_diagonal b h =
-      let beside = one_of n col left right b.1 cols h.1 in
-      ⊎_elim (λ e. ⊎_elim (λ f. inl (inl (same_pair (up, left) b e f))) (λ f. inl (inr (same_pair (up, right) b e f))) beside)
-      (λ e. ⊎_elim (λ f. inr (inl (same_pair (down, left) b e f))) (λ f. inr (inr (same_pair (down, right) b e f))) beside)
-      (one_of m row up down b.0 rows h.0)
-
--- the positions round (row, col)
-module _ (floor : List (List Bool)) (row col up down left right : ℕ) (rows : AreAround (row_count floor) row up down) (cols : AreAround (col_count floor) col left right) (k : ℕ) (d0 : List (List (Option ℕ))) (q0 : List (ℕ × ℕ)) (d1 : List (List (Option ℕ))) (q1 : List (ℕ × ℕ)) (d2 : List (List (Option ℕ)))
-    (q2 : List (ℕ × ℕ)) (d3 : List (List (Option ℕ))) (q3 : List (ℕ × ℕ)) (d4 : List (List (Option ℕ))) (q4 : List (ℕ × ℕ)) (t0 : IsTable d0) (t1 : IsTable d1) (t2 : IsTable d2) (t3 : IsTable d3) where
-  pub WentRound-sides : Reaches floor (up, col) k d0 q0 d1 q1 → Reaches floor (row, left) k d1 q1 d2 q2 → Reaches floor (row, right) k d2 q2 d3 q3 → Reaches floor (down, col) k d3 q3 d4 q4 → WentRound (AreBeside (row, col)) floor k d0 q0 d4 q4
-  WentRound-sides r1 r2 r3 r4 =
-      WentRound-four (AreBeside (row, col)) floor (up, col) (row, left) (row, right) (down, col) k d0 q0 d1 q1 d2 q2 d3 q3 d4 q4 t0 t1 t2 t3 r1 r2 r3 r4
-      (λ i. inr (refl, inr (rows.before_in i.0))) (λ i. inl (refl, inr (cols.before_in i.1)))
-      (λ i. inl (refl, inl (sym cols.after_is))) (λ i. inr (refl, inl (sym rows.after_is)))
-      (four_beside (row_count floor) (col_count floor) row col up down left right rows cols)
-
-  pub WentRound-diagonals : Reaches floor (up, left) k d0 q0 d1 q1 → Reaches floor (up, right) k d1 q1 d2 q2 → Reaches floor (down, left) k d2 q2 d3 q3 → Reaches floor (down, right) k d3 q3 d4 q4 → WentRound (AreDiagonal (row, col)) floor k d0 q0 d4 q4
-  WentRound-diagonals r1 r2 r3 r4 =
-      WentRound-four (AreDiagonal (row, col)) floor (up, left) (up, right) (down, left) (down, right) k d0 q0 d1 q1 d2 q2 d3 q3 d4 q4 t0 t1 t2 t3 r1 r2 r3 r4
-      (λ i. (inr (rows.before_in i.0), inr (cols.before_in i.1))) (λ i. (inr (rows.before_in i.0), inl (sym cols.after_is)))
-      (λ i. (inl (sym rows.after_is), inr (cols.before_in i.1))) (λ i. (inl (sym rows.after_is), inl (sym cols.after_is)))
-      (four_diagonal (row_count floor) (col_count floor) row col up down left right rows cols)
-
--- the sides and then the corners
-pub WentRound-all : (at : ℕ × ℕ) (floor : List (List Bool)) (k : ℕ) (d0 : List (List (Option ℕ))) (q0 : List (ℕ × ℕ)) (d1 : List (List (Option ℕ))) (q1 : List (ℕ × ℕ)) (d2 : List (List (Option ℕ))) (q2 : List (ℕ × ℕ)) → WentRound (AreBeside at) floor k d0 q0 d1 q1 → WentRound (AreDiagonal at) floor k d1 q1 d2 q2 → WentRound (IsStep All at) floor k d0 q0 d2 q2
-WentRound-all at floor k d0 q0 d1 q1 d2 q2 v w =
+-- the same seen as positions that are near in another sense, where they are open and not reached before
+pub WentRound-as : (near wide : ℕ × ℕ → Type 0) (floor : List (List Bool)) (k : ℕ) (u : List (List (Option ℕ))) (q : List (ℕ × ℕ)) (u' : List (List (Option ℕ))) (q' : List (ℕ × ℕ)) → ((b : ℕ × ℕ) → IsOpen floor b → (near b ↔ wide b) ⊎ ((m : ℕ) × IsMarked u b m)) → WentRound near floor k u q u' q' → WentRound wide floor k u q u' q'
+WentRound-as near wide floor k u q u' q' same t =
+    let s = t.spread in
     record {
-      spread = Spread-trans (IsStep All at) floor k d0 q0 d1 q1 d2 q2
-          (Spread-wider (AreBeside at) (IsStep All at) (λ b h. inl h) floor k d0 q0 d1 q1 v.spread)
-          (Spread-wider (AreDiagonal at) (IsStep All at) (λ b h. inr h) floor k d1 q1 d2 q2 w.spread);
-      around = λ b step is_open.
-          ⊎_elim (λ h. let y = v.around b h is_open in (y.0, w.spread.kept b y.0 y.1)) (λ h. w.around b h is_open) step;
+      spread = record {
+        kept = s.kept;
+        fresh = λ a m h.
+            ⊎_elim (λ h0. inl h0)
+            (λ f.
+            ⊎_elim (λ e. inr (record { is = f.is; is_open = f.is_open; is_near = e.0 f.is_near; queued = f.queued }))
+            (λ old. inl (subst (λ x. IsMarked u a x) (one_mark u' a old.0 m (s.kept a old.0 old.1) h) old.1))
+            (same a f.is_open))
+            (s.fresh a m h);
+        kept_at = s.kept_at;
+        old_at = s.old_at;
+        fresh_at = s.fresh_at;
+        longer = s.longer;
+        total = s.total;
+      };
+      around = λ b h o.
+          ⊎_elim (λ e. t.around b (e.1 h) o) (λ old. (old.0, s.kept b old.0 old.1)) (same b o);
     }
 
--- what is read is contained
-pub Contains-from_get : (starts : List (ℕ × ℕ)) (j : ℕ) (a : ℕ × ℕ) → slice_get starts j ≡ Some a → Contains starts a
-Contains-from_get starts j a e =
-    let lt = slice_get_within starts j a e in
-    subst (λ x. Contains starts x) (get_or_from_slice_get starts j a a e) (Contains-get_or starts j a lt)
+module _ (xs : List (ℕ × ℕ)) (floor : List (List Bool)) (k : ℕ) (u0 : List (List (Option ℕ))) (q0 : List (ℕ × ℕ)) where
+  pub RoundEach-start : WentRound (Before xs 0) floor k u0 q0 u0 q0
+  RoundEach-start = WentRound-none (Before xs 0) floor k u0 q0 (λ b h. omega (arith, h.early))
+
+  module _ (i : ℕ) (u1 : List (List (Option ℕ))) (q1 : List (ℕ × ℕ)) (t : WentRound (Before xs i) floor k u0 q0 u1 q1) where
+    pub RoundEach-next : (b : ℕ × ℕ) (u2 : List (List (Option ℕ))) (q2 : List (ℕ × ℕ)) → IsAt xs i b → IsTable u1 → Reaches floor b k u1 q1 u2 q2 → WentRound (Before xs (i + 1)) floor k u0 q0 u2 q2
+    RoundEach-next b u2 q2 place table r =
+        WentRound-next (Before xs i) (Before xs (i + 1)) b (before_more xs i) (before_last xs i b place) (before_cases xs i b place)
+        floor k u0 q0 u1 q1 u2 q2 table t r
+
+    pub RoundEach-end : length xs ≤ i → WentRound (λ b. Contains xs b) floor k u0 q0 u1 q1
+    RoundEach-end all = WentRound-as (Before xs i) (λ b. Contains xs b) floor k u0 q0 u1 q1 (λ b o. inl (before_all xs i all b)) t
+
+-- the positions that a grid can have
+pub WentRound-steps : (kind : Steps) (at : ℕ × ℕ) (xs : List (ℕ × ℕ)) (floor : List (List Bool)) (k : ℕ) (u : List (List (Option ℕ))) (q : List (ℕ × ℕ)) (u' : List (List (Option ℕ))) (q' : List (ℕ × ℕ)) → AreSteps kind at xs → ((b : ℕ × ℕ) → IsOpen floor b → ((b.0 + 1 < 2 ^ 64) × (b.1 + 1 < 2 ^ 64)) ⊎ ((m : ℕ) × IsMarked u b m)) → WentRound (λ b. Contains xs b) floor k u q u' q' → WentRound (IsStep kind at) floor k u q u' q'
+WentRound-steps kind at xs floor k u q u' q' steps fits t =
+    WentRound-as (λ b. Contains xs b) (IsStep kind at) floor k u q u' q'
+    (λ b o. ⊎_elim (λ f. inl (steps b f.0 f.1)) (λ old. inr old) (fits b o)) t
 
 -- the start: the first positions reached by no step, those that are open
 pub record IsStarted (kind : Steps) (floor : List (List Bool)) (starts : List (ℕ × ℕ)) (steps : List (List (Option ℕ))) (queue : List (ℕ × ℕ)) (done : ℕ) : Type 0 where

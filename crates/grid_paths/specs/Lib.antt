@@ -1,5 +1,11 @@
+pub mod Closures
 pub mod Walks
 pub mod Search
 pub mod Regions
 pub mod Numbers
+pub mod Flood
 pub mod Taken
+pub mod Around
+pub mod Cheapest
+pub mod Relaxing
+pub mod Trail

@@ -1,4 +1,4 @@
--- What one step of the search in breadth does. Public clauses cite `HaveOneSize` alone.
+-- What one step of the breadth-first search does. Public clauses cite `HaveOneSize` alone.
 use Rattle.std.specs.Prelude.{◌≡◌, ℕ, ◌+◌, ◌<◌, ◌≤◌, ◌⊎◌, Bool, Option, None, Some, List, [], ◌∷◌, ◌++◌, length}
 use Rattle.std.specs.List.{slice_get, sum_by}
 use Rattle.grid_base.specs.Table.{row_count, col_count, cell, with_cell, InRange}

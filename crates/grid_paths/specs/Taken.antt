@@ -1,45 +1,75 @@
--- What one step of the search for a region does. No public clause cites this module.
-use Rattle.std.specs.Prelude.{◌≡◌, ℕ, ◌+◌, ◌≤◌, ◌⊎◌, Bool, true, false, List, [], ◌∷◌, ◌++◌, length}
-use Rattle.std.specs.List.{sum_by}
-use Rattle.grid_base.specs.Table.{with_cell}
-use Rattle.grid_near.specs.declared.steps.Steps.{Steps}
-use Rattle.grid_paths.specs.Walks.{IsOpen, Walk}
-use Rattle.grid_paths.specs.Search.{IsAt}
+-- What one step of a search does that marks the cells which it takes. No public clause cites this
+-- module.
+use Rattle.std.specs.Prelude.{◌≡◌, ◌≢◌, ℕ, ◌+◌, ◌≤◌, ◌⊎◌, Some, List, [], ◌∷◌, ◌++◌, length, map}
+use Rattle.std.specs.List.{slice_get, sum_by}
+use Rattle.grid_base.specs.Table.{cell, with_cell}
+use Rattle.grid_paths.specs.declared.taken.Enter.{Enter}
+use Rattle.grid_paths.specs.declared.taken.Enter.TheVariants.{No, Stop, On}
 
--- a position that is left comes to the end of the region; at another nothing changes
-abbrev pub Takes : ℕ × ℕ → List (List Bool) → List (ℕ × ℕ) → List (List Bool) → List (ℕ × ℕ)
-    → Type 0
-Takes at left region left' region' =
-    (IsOpen left at × (left' ≡ with_cell left at.0 at.1 false) × (region' ≡ region ++ at ∷ []))
-    ⊎ ((IsOpen left at → ⊥) × (left' ≡ left) × (region' ≡ region))
+module _ {T : Type 0} where
+  -- the positions of some cells
+  abbrev pub places : List ((ℕ × ℕ) × T) → List (ℕ × ℕ)
+  places taken = map (λ x. x.0) taken
 
--- how many positions are left
-abbrev pub flag : Bool → ℕ
-flag true = 1
-flag false = 0
+  -- a table with these cells put back, the last of them first
+  abbrev pub undone : List ((ℕ × ℕ) × T) → List (List T) → List (List T)
+  undone [] t = t
+  undone (x ∷ taken) t = with_cell (undone taken t) (x.0).0 (x.0).1 x.1
 
-abbrev pub count_left : List (List Bool) → ℕ
-count_left left = sum_by (sum_by flag) left
+-- u is t with w at some positions
+pub record IsWritten {T : Type 0} (w : T) (near : ℕ × ℕ → Type 0) (t u : List (List T)) : Type 0
+  where
+    pub written : (a : ℕ × ℕ) → near a → cell u a.0 a.1 ≡ Some w
+    pub kept : (a : ℕ × ℕ) → (near a → ⊥) → cell u a.0 a.1 ≡ cell t a.0 a.1
 
--- some near positions that were left came to the end of the region
-pub record TakesNear (near : ℕ × ℕ → Type 0) (left : List (List Bool)) (region : List (ℕ × ℕ))
-    (left' : List (List Bool)) (region' : List (ℕ × ℕ)) : Type 0 where
-  pub fewer : (a : ℕ × ℕ) → IsOpen left' a → IsOpen left a
-  pub taken : (a : ℕ × ℕ) → IsOpen left a → IsOpen left' a ⊎ ((j : ℕ) × IsAt region' j a)
-  pub kept_at : (j : ℕ) (a : ℕ × ℕ) → IsAt region j a → IsAt region' j a
-  pub fresh_at : (j : ℕ) (a : ℕ × ℕ) → IsAt region' j a
-      → IsAt region j a ⊎ ((length region ≤ j) × near a × IsOpen left a)
-  pub longer : length region ≤ length region'
-  pub total : count_left left' + length region' ≡ count_left left + length region
+-- what counts as entered
+abbrev pub flag : Enter → ℕ
+flag No = 0
+flag Stop = 1
+flag On = 1
 
--- and no near position is left
-pub record TakesAll (near : ℕ × ℕ → Type 0) (left : List (List Bool)) (region : List (ℕ × ℕ))
-    (left' : List (List Bool)) (region' : List (ℕ × ℕ)) : Type 0 where
-  pub takes : TakesNear near left region left' region'
-  pub around : (b : ℕ × ℕ) → near b → IsOpen left' b → ⊥
+module _ {T : Type 0} (way : T → Enter) where
+  -- a cell that may be taken
+  abbrev pub IsLeft : List (List T) → ℕ × ℕ → T → Type 0
+  IsLeft t at x = (cell t at.0 at.1 ≡ Some x) × (way x ≢ No)
 
--- the positions that a walk from `at` leads to
-pub record IsRegion (kind : Steps) (floor : List (List Bool)) (at : ℕ × ℕ) (region : List (ℕ × ℕ))
-    : Type 0 where
-  pub walk : (j : ℕ) (a : ℕ × ℕ) → IsAt region j a → (n : ℕ) × Walk kind floor at a n
-  pub whole : (b : ℕ × ℕ) (n : ℕ) → Walk kind floor at b n → (j : ℕ) × IsAt region j b
+  -- how many there are
+  abbrev pub count_left : List (List T) → ℕ
+  count_left t = sum_by (sum_by (λ x. flag (way x))) t
+
+  module _ (mark : T) where
+    -- a cell that is left is marked, and comes to the end of those taken; at another nothing
+    -- changes
+    abbrev pub Takes : ℕ × ℕ → List (List T) → List ((ℕ × ℕ) × T) → List (List T)
+        → List ((ℕ × ℕ) × T) → Type 0
+    Takes at t taken t' taken' =
+        ((x : T) × IsLeft t at x × (t' ≡ with_cell t at.0 at.1 mark)
+        × (taken' ≡ taken ++ (at, x) ∷ []))
+        ⊎ (((x : T) → IsLeft t at x → ⊥) × (t' ≡ t) × (taken' ≡ taken))
+
+    -- each position was taken once, and is marked
+    pub record AreMarked (t : List (List T)) (taken : List ((ℕ × ℕ) × T)) : Type 0 where
+      pub marked : (j : ℕ) (x : (ℕ × ℕ) × T) → slice_get taken j ≡ Some x
+          → cell t (x.0).0 (x.0).1 ≡ Some mark
+      pub once : (i j : ℕ) (x y : (ℕ × ℕ) × T) → slice_get taken i ≡ Some x
+          → slice_get taken j ≡ Some y → x.0 ≡ y.0 → i ≡ j
+
+    -- some near cells that were left came to the end of those taken
+    pub record TakesNear (near : ℕ × ℕ → Type 0) (t : List (List T)) (taken : List ((ℕ × ℕ) × T))
+        (t' : List (List T)) (taken' : List ((ℕ × ℕ) × T)) : Type 0 where
+      pub fewer : (a : ℕ × ℕ) (x : T) → IsLeft t' a x → IsLeft t a x
+      pub all : (a : ℕ × ℕ) (x : T) → IsLeft t a x
+          → IsLeft t' a x ⊎ ((j : ℕ) × (y : T) × (slice_get taken' j ≡ Some (a, y)))
+      pub kept_at : (j : ℕ) (x : (ℕ × ℕ) × T) → slice_get taken j ≡ Some x
+          → slice_get taken' j ≡ Some x
+      pub fresh_at : (j : ℕ) (x : (ℕ × ℕ) × T) → slice_get taken' j ≡ Some x
+          → (slice_get taken j ≡ Some x) ⊎ ((length taken ≤ j) × near x.0 × IsLeft t x.0 x.1)
+      pub longer : length taken ≤ length taken'
+      pub total : count_left t' + length taken' ≡ count_left t + length taken
+      pub marked : AreMarked t taken → AreMarked t' taken'
+
+    -- and no near one is left
+    pub record TakesAll (near : ℕ × ℕ → Type 0) (t : List (List T)) (taken : List ((ℕ × ℕ) × T))
+        (t' : List (List T)) (taken' : List ((ℕ × ℕ) × T)) : Type 0 where
+      pub takes : TakesNear near t taken t' taken'
+      pub around : (a : ℕ × ℕ) (x : T) → near a → IsLeft t' a x → ⊥

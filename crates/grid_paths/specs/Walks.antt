@@ -2,11 +2,10 @@
 -- touches.
 use Rattle.std.specs.Prelude.{◌≡◌, ℕ, zero, suc, ◌+◌, ◌-◌, ◌≤◌, ◌⊎◌, Bool, true, Option, Some, List, length, Contains}
 use Rattle.std.specs.List.{slice_get}
-use Rattle.std.specs.Option.{option_map}
-use denote.Ref.{Bor}
-use Rattle.grid_base.specs.Table.{row_count, col_count, cell, tabulate}
+use Rattle.grid_base.specs.Table.{cell}
 use Rattle.grid_near.specs.declared.steps.Steps.{Steps}
 use Rattle.grid_near.specs.declared.steps.Steps.TheVariants.{Sides, All}
+use Rattle.grid_paths.specs.Closures.{answers_by}
 
 -- two numbers differ by one
 abbrev pub DifferByOne : ℕ → ℕ → Type 0
@@ -64,11 +63,7 @@ module _ (kind : Steps) (floor : List (List Bool)) where
 
 -- which cells of a table pass the test p
 abbrev pub passing : {T : Type 0} → (T → Bool) → List (List T) → List (List Bool)
-passing p t = tabulate (row_count t) (col_count t) (λ r c. option_map p (cell t r c))
-
--- p says of each cell what the closure f may answer at it
-abbrev pub IsAnswer : {F T : Type 0} → (F → Bor T → Bool → Type 0) → F → (T → Bool) → Type 0
-IsAnswer {T = T} returns f p = (x : Bor T) (b : Bool) → returns f x b → p x.now ≡ b
+passing p t = answers_by p t
 
 -- a list of positions from one to another: each is open, and a step leads to it from the one before
 pub record IsPath (kind : Steps) (floor : List (List Bool)) (from to : ℕ × ℕ) (path : List (ℕ × ℕ))

@@ -2,20 +2,28 @@
 //!
 //! - How far: [`distances`] from a position, [`distances_from`] the nearest of several.
 //! - Which way: [`shortest_path`].
-//! - What hangs together: [`regions`], [`fill_region`].
+//! - Where each cell has a cost: [`cheapest`], [`cheapest_path`].
+//! - What hangs together: [`regions`], [`fill_region`]; with a border, [`flood`].
 //!
 //! [`Steps`] says which steps there are: to the cells that share a side, or to all that touch. [`laws`] ties them to
 //! `neighbors4` and `neighbors8`.
 #![tactic(auto)]
 
+mod around;
+mod cheap_path;
+mod costs;
 pub mod laws;
 mod numbered;
 mod path;
 mod region;
 mod search;
+mod taken;
 
+pub use cheap_path::cheapest_path;
+pub use costs::cheapest;
 pub use grid_near::Steps;
 pub use numbered::regions;
 pub use path::shortest_path;
 pub use region::fill_region;
 pub use search::{distances, distances_from};
+pub use taken::{Enter, flood};

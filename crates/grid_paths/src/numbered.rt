@@ -1,13 +1,15 @@
 //! The regions of equal cells, numbered.
-ghost use Rattle.std.specs.Prelude.{◌≡◌, ◌<◌, ◌≤◌, ◌+◌, ◌^◌, ◌↔◌, ℕ, IfOk, OnOk, IsTrue, None, Some, length};
+ghost use Rattle.std.specs.Prelude.{◌≡◌, ◌<◌, ◌≤◌, ◌+◌, ◌^◌, ◌↔◌, ℕ, IfOk, OnOk, IsTrue, None, Some, Contains};
 ghost use Rattle.std.specs.Option.{option_map, unwrap_or};
 ghost use Rattle.std.specs.Cmp.{IsEquivalence};
 ghost use Rattle.grid_base.specs.Table.{row_count, col_count, cell, tabulate, InRange};
-ghost use Rattle.grid_paths.specs.Walks.{AreBeside, AreDiagonal, IsStep, IsOpen, alike};
-ghost use Rattle.grid_paths.specs.Search.{HaveOneSize, IsMarked, Reaches, WentRound};
+ghost use Rattle.grid_paths.specs.Walks.{IsStep, IsOpen, alike};
+ghost use Rattle.grid_paths.specs.Search.{HaveOneSize, IsMarked, Reaches, WentRound, unreached};
 ghost use Rattle.grid_paths.specs.Regions.{AreRegions, AreNumbers};
 ghost use Rattle.grid_paths.specs.Numbers.{IsNumbered, IsScanned};
 
+use super::around::around;
+use super::search::ROOM;
 use grid::Grid;
 use grid_near::Steps;
 use std::alloc::{AllocError, Allocator};
@@ -53,56 +55,25 @@ fn number_at<T: PartialEq, A: Allocator>(
     Ok(())
 }
 
-// Gives a number to the four positions that share a side with this one, as far as their cells equal a cell.
-fn number_sides<T: PartialEq, A: Allocator>(
+// Gives a number to each of these positions, as far as their cells equal a cell.
+fn number_each<T: PartialEq, A: Allocator>(
     grid: &Grid<T, A>,
     first: &T,
-    row: usize,
-    col: usize,
+    at: &[(usize, usize)],
     number: usize,
     numbers: &mut Grid<Option<usize>, A>,
     queue: &mut Vec<(usize, usize), A>,
 ) -> Result<(), AllocError>
-    requires size { HaveOneSize numbers.old.rows grid.now.rows }
-    requires at { InRange grid.now.rows row col }
-    requires rows { row_count grid.now.rows < 2 ^ 64 }
-    requires cols { col_count grid.now.rows < 2 ^ 64 }
+    requires { HaveOneSize numbers.old.rows grid.now.rows }
     ensures order { numbers.new.order ≡ numbers.old.order }
     ensures size { HaveOneSize numbers.new.rows grid.now.rows }
-    ensures round { OnOk result (WentRound (AreBeside (row, col)) (alike T.eq first.now grid.now.rows)
+    ensures round { OnOk result (WentRound (λ b. Contains at.now b) (alike T.eq first.now grid.now.rows)
         number numbers.old.rows queue.old.items numbers.new.rows queue.new.items) }
 {
-    let (up, left) = (row.wrapping_sub(1), col.wrapping_sub(1));
-    number_at(grid, first, up, col, number, numbers, queue)?;
-    number_at(grid, first, row, left, number, numbers, queue)?;
-    number_at(grid, first, row, col + 1, number, numbers, queue)?;
-    number_at(grid, first, row + 1, col, number, numbers, queue)
-}
-
-// Gives a number to the four positions that share only a corner with this one, as far as their cells equal a cell.
-fn number_diagonals<T: PartialEq, A: Allocator>(
-    grid: &Grid<T, A>,
-    first: &T,
-    row: usize,
-    col: usize,
-    number: usize,
-    numbers: &mut Grid<Option<usize>, A>,
-    queue: &mut Vec<(usize, usize), A>,
-) -> Result<(), AllocError>
-    requires size { HaveOneSize numbers.old.rows grid.now.rows }
-    requires at { InRange grid.now.rows row col }
-    requires rows { row_count grid.now.rows < 2 ^ 64 }
-    requires cols { col_count grid.now.rows < 2 ^ 64 }
-    ensures order { numbers.new.order ≡ numbers.old.order }
-    ensures size { HaveOneSize numbers.new.rows grid.now.rows }
-    ensures round { OnOk result (WentRound (AreDiagonal (row, col)) (alike T.eq first.now grid.now.rows)
-        number numbers.old.rows queue.old.items numbers.new.rows queue.new.items) }
-{
-    let (up, left) = (row.wrapping_sub(1), col.wrapping_sub(1));
-    number_at(grid, first, up, left, number, numbers, queue)?;
-    number_at(grid, first, up, col + 1, number, numbers, queue)?;
-    number_at(grid, first, row + 1, left, number, numbers, queue)?;
-    number_at(grid, first, row + 1, col + 1, number, numbers, queue)
+    for near in at {
+        number_at(grid, first, near.0, near.1, number, numbers, queue)?;
+    }
+    Ok(())
 }
 
 // Gives a number to the positions that a step from this one leads to, as far as their cells equal a cell.
@@ -125,14 +96,14 @@ fn number_around<T: PartialEq, A: Allocator>(
     ensures round { OnOk result (WentRound (IsStep kind (row, col)) (alike T.eq first.now grid.now.rows)
         number numbers.old.rows queue.old.items numbers.new.rows queue.new.items) }
 {
-    number_sides(grid, first, row, col, number, numbers, queue)?;
+    let at = around(row, col);
     match kind {
-        Steps::Sides => Ok(()),
-        Steps::All => number_diagonals(grid, first, row, col, number, numbers, queue),
+        Steps::Sides => number_each(grid, first, &at[..4], number, numbers, queue),
+        Steps::All => number_each(grid, first, &at, number, numbers, queue),
     }
 }
 
-// Gives a number to the region of a position that has none.
+// Gives a number to the region of a position that has none. The queue is that of this region alone.
 fn number_region<T: PartialEq, A: Allocator>(
     kind: Steps,
     grid: &Grid<T, A>,
@@ -152,9 +123,10 @@ fn number_region<T: PartialEq, A: Allocator>(
     ensures size { HaveOneSize numbers.new.rows grid.now.rows }
     ensures numbered { OnOk result (IsNumbered kind (alike T.eq first.now grid.now.rows) (row, col) number
         numbers.old.rows numbers.new.rows) }
-    ensures longer { OnOk result (length queue.old.items + 1 ≤ length queue.new.items) }
+    ensures fewer { OnOk result (unreached numbers.new.rows + 1 ≤ unreached numbers.old.rows) }
 {
-    let mut next = queue.len();
+    let mut next = 0;
+    queue.clear();
     numbers.set(row, col, Some(number));
     queue.push((row, col))?;
     while next < queue.len() {
@@ -178,14 +150,14 @@ fn number_cell<T: PartialEq, A: Allocator>(
     requires size { HaveOneSize numbers.old.rows grid.now.rows }
     requires at { InRange grid.now.rows row col }
     requires scanned { IsScanned kind T.eq grid.now.rows numbers.old.rows count (row, col) }
-    requires room { count ≤ length queue.old.items }
+    requires room { count + unreached numbers.old.rows < 2 ^ 64 }
     requires rows { row_count grid.now.rows < 2 ^ 64 }
     requires cols { col_count grid.now.rows < 2 ^ 64 }
     ensures order { numbers.new.order ≡ numbers.old.order }
     ensures size { HaveOneSize numbers.new.rows grid.now.rows }
     ensures scanned { IfOk result (λ n.
         IsScanned kind T.eq grid.now.rows numbers.new.rows n (row, col + 1)) }
-    ensures room { IfOk result (λ n. n ≤ length queue.new.items) }
+    ensures room { IfOk result (λ n. n + unreached numbers.new.rows < 2 ^ 64) }
 {
     match numbers[(row, col)] {
         Some(_) => Ok(count),
@@ -216,8 +188,8 @@ fn number_all<T: PartialEq, A: Allocator + Clone>(
         (row_count grid.now.rows, 0)) }
 {
     let mut numbers: Grid<Option<usize>, A> = grid.map_indexed(|_, _| None)?;
-    let cells = grid.rows().saturating_mul(grid.cols());
-    let mut queue = Vec::with_capacity(grid.allocator().clone()?, cells)?;
+    let cells = grid.flatten().len();
+    let mut queue = Vec::with_capacity(grid.allocator().clone()?, cells.min(ROOM))?;
     let mut count = 0;
     for row in 0..grid.rows() {
         for col in 0..grid.cols() {

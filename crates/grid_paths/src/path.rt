@@ -1,10 +1,12 @@
 //! A shortest path between two cells.
-ghost use Rattle.std.specs.Prelude.{◌≡◌, ◌<◌, Bool, List, ◌+◌, ◌^◌, ◌↔◌, ℕ, IfOk, IsTrue, MatchOption, length};
-ghost use Rattle.grid_base.specs.Table.{row_count, col_count, InRange};
+ghost use Rattle.std.specs.Prelude.{◌≡◌, Bool, List, ◌+◌, ◌↔◌, ℕ, IfOk, IsTrue, MatchOption, Contains, length};
+ghost use Rattle.grid_base.specs.Table.{InRange};
 ghost use Rattle.grid_near.specs.declared.steps.Steps.{Steps};
-ghost use Rattle.grid_paths.specs.Walks.{AreBeside, AreDiagonal, IsStep, IsPath, Walk, IsShortestPath, IsAnswer, passing};
+ghost use Rattle.grid_paths.specs.Walks.{IsStep, IsPath, Walk, IsShortestPath};
+ghost use Rattle.grid_paths.specs.Closures.{HoldsOfAnswers};
 ghost use Rattle.grid_paths.specs.Search.{IsMarked, HasLeastUpTo};
 
+use super::around::around;
 use super::search::{floor_of, search_until};
 use grid::Grid;
 use grid_near::Steps;
@@ -36,60 +38,22 @@ fn steps_at<A: Allocator>(steps: &Grid<Option<usize>, A>, row: usize, col: usize
     }
 }
 
-// A position that shares a side with this one and has this number of steps.
-fn side_with<A: Allocator>(
+// The first of these positions that has this number of steps.
+fn first_with<A: Allocator>(
     steps: &Grid<Option<usize>, A>,
-    row: usize,
-    col: usize,
+    at: &[(usize, usize)],
     count: usize,
 ) -> Option<(usize, usize)>
-    requires at { InRange steps.now.rows row col }
-    requires rows { row_count steps.now.rows < 2 ^ 64 }
-    requires cols { col_count steps.now.rows < 2 ^ 64 }
     ensures { MatchOption result
-        ((b : ℕ × ℕ) → AreBeside (row, col) b → IsMarked steps.now.rows b count → ⊥)
-        (λ b. AreBeside (row, col) b × IsMarked steps.now.rows b count) }
+        ((b : ℕ × ℕ) → Contains at.now b → IsMarked steps.now.rows b count → ⊥)
+        (λ b. Contains at.now b × IsMarked steps.now.rows b count) }
 {
-    let (up, left) = (row.wrapping_sub(1), col.wrapping_sub(1));
-    if has_steps(steps, up, col, count) {
-        return Some((up, col));
-    }
-    if has_steps(steps, row, left, count) {
-        return Some((row, left));
-    }
-    if has_steps(steps, row, col + 1, count) {
-        return Some((row, col + 1));
-    }
-    if has_steps(steps, row + 1, col, count) {
-        return Some((row + 1, col));
+    for near in at {
+        if has_steps(steps, near.0, near.1, count) {
+            return Some(*near);
+        }
     }
     None
-}
-
-// A position that shares only a corner with this one and has this number of steps, if there is one.
-fn diagonal_with<A: Allocator>(
-    steps: &Grid<Option<usize>, A>,
-    row: usize,
-    col: usize,
-    count: usize,
-) -> (usize, usize)
-    requires at { InRange steps.now.rows row col }
-    requires rows { row_count steps.now.rows < 2 ^ 64 }
-    requires cols { col_count steps.now.rows < 2 ^ 64 }
-    ensures { (b : ℕ × ℕ) → AreDiagonal (row, col) b → IsMarked steps.now.rows b count
-        → AreDiagonal (row, col) result × IsMarked steps.now.rows result count }
-{
-    let (up, left) = (row.wrapping_sub(1), col.wrapping_sub(1));
-    if has_steps(steps, up, left, count) {
-        return (up, left);
-    }
-    if has_steps(steps, up, col + 1, count) {
-        return (up, col + 1);
-    }
-    if has_steps(steps, row + 1, left, count) {
-        return (row + 1, left);
-    }
-    (row + 1, col + 1)
 }
 
 // A position that a step from this one leads to and that has this number of steps, if there is one.
@@ -98,16 +62,15 @@ fn next_with<A: Allocator>(
     at: (usize, usize),
     count: usize,
 ) -> (usize, usize)
-    requires at { InRange steps.now.rows at.0 at.1 }
-    requires rows { row_count steps.now.rows < 2 ^ 64 }
-    requires cols { col_count steps.now.rows < 2 ^ 64 }
+    requires { InRange steps.now.rows at.0 at.1 }
     ensures { (kind : Steps) (b : ℕ × ℕ) → IsStep kind at b → IsMarked steps.now.rows b count
         → IsStep kind at result × IsMarked steps.now.rows result count }
 {
-    match side_with(steps, at.0, at.1, count) {
-        Some(side) => side,
-        None => diagonal_with(steps, at.0, at.1, count),
+    let near = around(at.0, at.1);
+    if let Some(side) = first_with(steps, &near[..4], count) {
+        return side;
     }
+    first_with(steps, &near, count).unwrap_or(at)
 }
 
 // The path from a position down the numbers to the one with 0, each with the number one less a step away.
@@ -173,9 +136,11 @@ pub fn shortest_path<T, A: Allocator + Clone, F: Fn(&T) -> bool>(
     passable: F,
 ) -> Result<Option<Vec<(usize, usize), A>>, AllocError>
     requires { F.IsAlwaysCallable passable }
-    ensures { IfOk result (λ found. (p : _) → IsAnswer F.post passable p → MatchOption found
-        ((n : ℕ) → Walk kind (passing p grid.now.rows) from to n → ⊥)
-        (λ path. IsShortestPath kind (passing p grid.now.rows) from to path.items)) }
+    ensures { IfOk result (λ found. MatchOption found
+        (HoldsOfAnswers F.post passable grid.now.rows (λ floor.
+        (n : ℕ) → Walk kind floor from to n → ⊥))
+        (λ path. HoldsOfAnswers F.post passable grid.now.rows (λ floor.
+        IsShortestPath kind floor from to path.items))) }
 {
     let floor = floor_of(grid, passable)?;
     path_over(kind, floor, from, to)

@@ -1,148 +1,152 @@
-//! A region of equal cells.
-ghost use Rattle.std.specs.Prelude.{◌≡◌, ◌<◌, ◌^◌, ℕ, IfOk, OnOk, OnErr, Some, Contains};
+//! A region of equal cells, filled.
+ghost use Rattle.std.specs.Prelude.{◌≡◌, ◌<◌, ◌≤◌, ◌+◌, ℕ, [], ◌∷◌, false, IfOk, OnOk, OnErr, None, Some, MatchOption, Contains};
 ghost use Rattle.grid_base.specs.Table.{row_count, col_count, cell, InRange};
-ghost use Rattle.grid_paths.specs.Walks.{AreBeside, AreDiagonal, IsStep, IsFilled, alike};
-ghost use Rattle.grid_paths.specs.Search.{HaveOneSize};
-ghost use Rattle.grid_paths.specs.Taken.{Takes, TakesAll, IsRegion};
+ghost use Rattle.grid_base.specs.GridValue.{SameSizeAndOrder};
+ghost use Rattle.grid_paths.specs.Walks.{IsOpen, IsFilled, alike};
+ghost use Rattle.grid_paths.specs.Closures.{answers_by};
+ghost use Rattle.grid_paths.specs.Flood.{IsFlood, way_of};
+ghost use Rattle.grid_paths.specs.Taken.{places, undone, IsWritten};
 
-use super::search::is_left;
+use super::taken::{Cells, take_region};
 use grid::Grid;
 use grid_near::Steps;
 use std::alloc::{AllocError, Allocator};
 
-// Which cells equal a value.
-fn alike_cells<T: Copy + PartialEq, A: Allocator + Clone>(
+// The index of a line that comes at place `i` where one begins at `from`, goes down to 0, and then on from there up.
+fn outward(from: usize, i: usize) -> usize
+    ensures down { i ≤ from → result + i ≡ from }
+    ensures up { from < i → result ≡ i }
+{
+    if i <= from { from - i } else { i }
+}
+
+// The first cell of a row that doesn't equal this one, from a column outward.
+fn other_in_row<T: Copy + PartialEq, A: Allocator>(
     grid: &Grid<T, A>,
-    old: T,
-) -> Result<Grid<bool, A>, AllocError>
-    ensures size { IfOk result (λ floor. HaveOneSize floor.rows grid.now.rows) }
-    ensures cells { IfOk result (λ floor. floor.rows ≡ alike T.eq old grid.now.rows) }
-{
-    grid.map_indexed(|_, cell| *cell == old)
-}
-
-// Takes a position into the region, if it is left. `left` are the open positions that aren't in the region yet.
-#[inline(always)]
-fn take<A: Allocator>(
+    first: T,
     row: usize,
-    col: usize,
-    left: &mut Grid<bool, A>,
-    region: &mut Vec<(usize, usize), A>,
-) -> Result<(), AllocError>
-    ensures size { HaveOneSize left.new.rows left.old.rows }
-    ensures takes { OnOk result (Takes (row, col)
-        left.old.rows region.old.items left.new.rows region.new.items) }
+    from: usize,
+) -> Option<T>
+    requires { InRange grid.now.rows row from }
+    ensures { MatchOption result
+        ((col : ℕ) → col < col_count grid.now.rows
+        → IsOpen (alike T.eq first grid.now.rows) (row, col))
+        (λ x. T.eq x first ≡ false) }
 {
-    if is_left(left, row, col) {
-        left.set(row, col, false);
-        region.push((row, col))?;
+    for i in 0..grid.cols() {
+        let cell = grid[(row, outward(from, i))];
+        if !(cell == first) {
+            return Some(cell);
+        }
     }
-    Ok(())
+    None
 }
 
-// Takes the four positions that share a side with this one. Below the first row or column the index wraps to one that
-// no grid has.
-#[inline(always)]
-fn take_sides<A: Allocator>(
-    row: usize,
-    col: usize,
-    left: &mut Grid<bool, A>,
-    region: &mut Vec<(usize, usize), A>,
-) -> Result<(), AllocError>
-    requires at { InRange left.old.rows row col }
-    requires rows { row_count left.old.rows < 2 ^ 64 }
-    requires cols { col_count left.old.rows < 2 ^ 64 }
-    ensures size { HaveOneSize left.new.rows left.old.rows }
-    ensures takes { OnOk result (TakesAll (AreBeside (row, col))
-        left.old.rows region.old.items left.new.rows region.new.items) }
-{
-    let (up, before) = (row.wrapping_sub(1), col.wrapping_sub(1));
-    take(up, col, left, region)?;
-    take(row, before, left, region)?;
-    take(row, col + 1, left, region)?;
-    take(row + 1, col, left, region)
-}
-
-// Takes the four positions that share a corner and no side with this one.
-fn take_diagonals<A: Allocator>(
-    row: usize,
-    col: usize,
-    left: &mut Grid<bool, A>,
-    region: &mut Vec<(usize, usize), A>,
-) -> Result<(), AllocError>
-    requires at { InRange left.old.rows row col }
-    requires rows { row_count left.old.rows < 2 ^ 64 }
-    requires cols { col_count left.old.rows < 2 ^ 64 }
-    ensures size { HaveOneSize left.new.rows left.old.rows }
-    ensures takes { OnOk result (TakesAll (AreDiagonal (row, col))
-        left.old.rows region.old.items left.new.rows region.new.items) }
-{
-    let (up, before) = (row.wrapping_sub(1), col.wrapping_sub(1));
-    take(up, before, left, region)?;
-    take(up, col + 1, left, region)?;
-    take(row + 1, before, left, region)?;
-    take(row + 1, col + 1, left, region)
-}
-
-// Takes the positions that a step from this one leads to.
-#[inline(always)]
-fn take_around<A: Allocator>(
-    kind: Steps,
-    row: usize,
-    col: usize,
-    left: &mut Grid<bool, A>,
-    region: &mut Vec<(usize, usize), A>,
-) -> Result<(), AllocError>
-    requires at { InRange left.old.rows row col }
-    requires rows { row_count left.old.rows < 2 ^ 64 }
-    requires cols { col_count left.old.rows < 2 ^ 64 }
-    ensures size { HaveOneSize left.new.rows left.old.rows }
-    ensures takes { OnOk result (TakesAll (IsStep kind (row, col))
-        left.old.rows region.old.items left.new.rows region.new.items) }
-{
-    take_sides(row, col, left, region)?;
-    match kind {
-        Steps::Sides => Ok(()),
-        Steps::All => take_diagonals(row, col, left, region),
-    }
-}
-
-// The positions that a walk over open cells leads to.
-fn region_of<A: Allocator + Clone>(
-    kind: Steps,
-    floor: Grid<bool, A>,
+// A cell of the board that doesn't equal the one at a position. All that are looked at before it hang together with the
+// position, so it is found in no more steps than there are cells in the region.
+fn other_than<T: Copy + PartialEq, A: Allocator>(
+    grid: &Grid<T, A>,
     at: (usize, usize),
-) -> Result<Vec<(usize, usize), A>, AllocError>
-    ensures { IfOk result (λ region. IsRegion kind floor.rows at region.items) }
+    first: T,
+) -> Option<T>
+    requires { InRange grid.now.rows at.0 at.1 }
+    ensures { MatchOption result
+        ((a : ℕ × ℕ) → InRange grid.now.rows a.0 a.1 → IsOpen (alike T.eq first grid.now.rows) a)
+        (λ x. T.eq x first ≡ false) }
 {
-    let cells = floor.rows().saturating_mul(floor.cols());
-    let mut region = Vec::with_capacity(floor.allocator().clone()?, cells)?;
-    let mut left = floor;
-    take(at.0, at.1, &mut left, &mut region)?;
-    let mut next = 0;
-    while next < region.len() {
-        let (row, col) = region[next];
-        take_around(kind, row, col, &mut left, &mut region)?;
-        next += 1;
+    for i in 0..grid.rows() {
+        if let Some(other) = other_in_row(grid, first, outward(at.0, i), at.1) {
+            return Some(other);
+        }
     }
-    Ok(region)
+    None
 }
 
-// Replaces the cells at some positions.
+// Puts the cells back where they were taken, the last first.
+fn put_back<T: Copy + Drop, A: Allocator>(
+    grid: &mut Grid<T, A>,
+    mut taken: Vec<((usize, usize), T), A>,
+)
+    ensures same { SameSizeAndOrder grid.old grid.new }
+    ensures rows { grid.new.rows ≡ undone taken.items grid.old.rows }
+{
+    while let Some(x) = taken.pop() {
+        grid.set(x.0.0, x.0.1, x.1);
+    }
+}
+
+// Replaces the cells that were taken.
 fn fill_all<T: Copy + Drop, A: Allocator>(
     grid: &mut Grid<T, A>,
-    region: &[(usize, usize)],
+    taken: &[((usize, usize), T)],
     value: T,
 )
-    ensures order { grid.new.order ≡ grid.old.order }
-    ensures size { HaveOneSize grid.new.rows grid.old.rows }
-    ensures filled { (b : ℕ × ℕ) → Contains region.now b → InRange grid.old.rows b.0 b.1
-        → cell grid.new.rows b.0 b.1 ≡ Some value }
-    ensures kept { (b : ℕ × ℕ) → (Contains region.now b → ⊥)
-        → cell grid.new.rows b.0 b.1 ≡ cell grid.old.rows b.0 b.1 }
+    requires { (a : ℕ × ℕ) → Contains (places taken.now) a → InRange grid.old.rows a.0 a.1 }
+    ensures same { SameSizeAndOrder grid.old grid.new }
+    ensures written { IsWritten value (λ a. Contains (places taken.now) a)
+        grid.old.rows grid.new.rows }
 {
-    for at in region {
-        grid.set(at.0, at.1, value);
+    for x in taken {
+        grid.set(x.0.0, x.0.1, value);
+    }
+}
+
+// Writes a mark, which doesn't equal the first cell of a region, to all its cells, and returns these.
+fn mark_region<T: Copy + PartialEq + Drop, A: Allocator + Clone>(
+    grid: &mut Grid<T, A>,
+    at: (usize, usize),
+    kind: Steps,
+    first: T,
+    mark: T,
+) -> Result<Vec<((usize, usize), T), A>, AllocError>
+    requires { T.eq mark first ≡ false }
+    ensures same { SameSizeAndOrder grid.old grid.new }
+    ensures flood { IfOk result (λ taken. IsFlood kind
+        (answers_by (way_of T.eq first None) grid.old.rows) (at ∷ []) (places taken.items)) }
+    ensures written { IfOk result (λ taken. IsWritten mark (λ a. Contains (places taken.items) a)
+        grid.old.rows grid.new.rows) }
+    ensures err { OnErr result (grid.new ≡ grid.old) }
+{
+    let cells = Cells {
+        on: first,
+        stop: None,
+        mark,
+    };
+    let mut taken = Vec::new(grid.allocator().clone()?);
+    match take_region(kind, &[at], &cells, grid, &mut taken) {
+        Ok(()) => Ok(taken),
+        Err(refused) => {
+            put_back(grid, taken);
+            Err(refused)
+        }
+    }
+}
+
+// Replaces the cells of a region by a value that equals them. Another cell of the board marks them meanwhile; where there
+// is none, the region is the board.
+fn fill_equal<T: Copy + PartialEq + Drop, A: Allocator + Clone>(
+    grid: &mut Grid<T, A>,
+    at: (usize, usize),
+    kind: Steps,
+    first: T,
+    value: T,
+) -> Result<(), AllocError>
+    requires { InRange grid.old.rows at.0 at.1 }
+    ensures same { SameSizeAndOrder grid.old grid.new }
+    ensures filled { OnOk result
+        (IsFilled kind (alike T.eq first grid.old.rows) at value grid.old.rows grid.new.rows) }
+    ensures err { OnErr result (grid.new ≡ grid.old) }
+{
+    match other_than(grid, at, first) {
+        Some(mark) => {
+            let taken = mark_region(grid, at, kind, first, mark)?;
+            fill_all(grid, &taken, value);
+            Ok(())
+        }
+        None => {
+            grid.update(|_, _| value);
+            Ok(())
+        }
     }
 }
 
@@ -152,7 +156,8 @@ fn fill_all<T: Copy + Drop, A: Allocator>(
 ///     [[1, 1, 2], [2, 1, 1]]   fill_region((0, 0), Steps::Sides, 7)   [[7, 7, 2], [2, 7, 7]]
 ///
 /// Fails: where memory is refused; the grid is unchanged.
-/// Cost: one comparison for each cell; a constant number of steps for each cell; two allocations.
+/// Cost: at most six comparisons for each cell of the region, or ten, and a constant number of steps; memory for these
+/// cells and their positions. The rest of the board costs nothing.
 pub fn fill_region<T: Copy + PartialEq + Drop, A: Allocator + Clone>(
     grid: &mut Grid<T, A>,
     at: (usize, usize),
@@ -167,12 +172,50 @@ pub fn fill_region<T: Copy + PartialEq + Drop, A: Allocator + Clone>(
     ensures outside { (InRange grid.old.rows at.0 at.1 → ⊥) → grid.new ≡ grid.old }
     ensures err { OnErr result (grid.new ≡ grid.old) }
 {
-    let old = match grid.get(at.0, at.1) {
-        Some(old) => *old,
+    let first = match grid.get(at.0, at.1) {
+        Some(first) => *first,
         None => return Ok(()),
     };
-    let floor = alike_cells(grid, old)?;
-    let region = region_of(kind, floor, at)?;
-    fill_all(grid, &region, value);
+    if value == first {
+        return fill_equal(grid, at, kind, first, value);
+    }
+    let _taken = mark_region(grid, at, kind, first, value)?;
     Ok(())
+}
+
+#[cfg(test)]
+mod tests {
+    use super::*;
+    use grid::Order;
+    use std::process::Abort;
+    use std::test::Fail;
+
+    // A region filled by -0, which equals 0.
+    fn assert_filled<R: AllocGlobal + Abort>(
+        rt: &R,
+        cells: [f64; 6],
+        at: (usize, usize),
+        want: &str,
+    ) -> Result<(), Fail> {
+        for order in [Order::RowMajor, Order::ColumnMajor] {
+            let mut grid = Grid::from_vec(Vec::from_array(rt.alloc(), cells)?, 3);
+            grid.lay_out(order);
+            fill_region(&mut grid, at, Steps::Sides, -0.0)?;
+            assert_eq!(rt; format!(in rt.alloc(); "{grid:?}")?.as_str(), want);
+        }
+        Ok(())
+    }
+
+    #[test]
+    fn equal_cells_are_replaced(rt: HostRuntime) -> Result<(), Fail> {
+        let right = "[[-0.0, 1.0, 0.0][1.0, 0.0, 0.0]]";
+        assert_filled(&rt, [0.0, 1.0, 0.0, 1.0, 0.0, 0.0], (0, 0), right)?;
+        let below = "[[-0.0, -0.0, -0.0][-0.0, -0.0, 1.0]]";
+        assert_filled(&rt, [0.0, 0.0, 0.0, 0.0, 0.0, 1.0], (0, 1), below)?;
+        let above = "[[1.0, -0.0, -0.0][-0.0, -0.0, -0.0]]";
+        assert_filled(&rt, [1.0, 0.0, 0.0, 0.0, 0.0, 0.0], (1, 1), above)?;
+        let all = "[[-0.0, -0.0, -0.0][-0.0, -0.0, -0.0]]";
+        assert_filled(&rt, [0.0, 0.0, 0.0, 0.0, 0.0, 0.0], (1, 2), all)?;
+        Ok(())
+    }
 }

@@ -1,15 +1,20 @@
-//! The least number of steps to each cell, by a search in breadth.
-ghost use Rattle.std.specs.Prelude.{◌≡◌, ◌<◌, ◌≤◌, ◌+◌, ◌^◌, ◌↔◌, List, ℕ, [], ◌∷◌, ◌++◌, length, drop, IfOk, IsTrue, OnOk, Bool, Some, None};
-ghost use Rattle.grid_base.specs.Table.{row_count, col_count, InRange};
-ghost use Rattle.grid_paths.specs.Walks.{IsOpen, AreBeside, AreDiagonal, IsStep, HasLeastSteps, HasLeastFrom, IsAnswer, passing};
+//! The least number of steps to each cell, by a breadth-first search.
+ghost use Rattle.std.specs.Prelude.{◌≡◌, ◌≤◌, ◌+◌, ◌↔◌, List, ℕ, [], ◌∷◌, ◌++◌, length, drop, IfOk, IsTrue, OnOk, Bool, Some, None, Contains};
+ghost use Rattle.grid_base.specs.Table.{InRange};
+ghost use Rattle.grid_paths.specs.Walks.{IsOpen, IsStep, HasLeastSteps, HasLeastFrom, passing};
+ghost use Rattle.grid_paths.specs.Closures.{IsAnswer, AreAnswers, HoldsOfAnswers};
 ghost use Rattle.grid_paths.specs.Search.{Reaches, WentRound, HaveOneSize, IsLeft, IsSettled};
 
+use super::around::around;
 use grid::Grid;
 use grid_near::Steps;
 use std::alloc::{AllocError, Allocator};
 
 // How many positions of a queue are gone on from before it lets go of them.
 const MANY: usize = 2048;
+
+// For how many positions a queue has room from the start.
+pub(crate) const ROOM: usize = 4096;
 
 // Whether a cell is there and may still be reached.
 pub(crate) fn is_left<A: Allocator>(left: &Grid<bool, A>, row: usize, col: usize) -> bool
@@ -47,62 +52,28 @@ fn reach<A: Allocator>(
     Ok(())
 }
 
-// Reaches the four positions that share a side with this one. Below the first row or column the index wraps to one that
-// no grid has.
+// Reaches each of these positions.
 #[inline(always)]
-fn reach_sides<A: Allocator>(
-    row: usize,
-    col: usize,
+fn reach_each<A: Allocator>(
+    at: &[(usize, usize)],
     count: usize,
     left: &mut Grid<bool, A>,
     steps: &mut Grid<Option<usize>, A>,
     queue: &mut Vec<(usize, usize), A>,
 ) -> Result<(), AllocError>
-    requires at { InRange left.old.rows row col }
-    requires rows { row_count left.old.rows < 2 ^ 64 }
-    requires cols { col_count left.old.rows < 2 ^ 64 }
     ensures order { steps.new.order ≡ steps.old.order }
     ensures size { HaveOneSize steps.new.rows steps.old.rows }
     ensures left { HaveOneSize left.new.rows left.old.rows }
     ensures round { OnOk result ((floor : List (List Bool))
         → IsLeft floor steps.old.rows left.old.rows
-        → WentRound (AreBeside (row, col)) floor count
+        → WentRound (λ b. Contains at.now b) floor count
         steps.old.rows queue.old.items steps.new.rows queue.new.items
         × IsLeft floor steps.new.rows left.new.rows) }
 {
-    let (up, before) = (row.wrapping_sub(1), col.wrapping_sub(1));
-    reach(up, col, count, left, steps, queue)?;
-    reach(row, before, count, left, steps, queue)?;
-    reach(row, col + 1, count, left, steps, queue)?;
-    reach(row + 1, col, count, left, steps, queue)
-}
-
-// Reaches the four positions that share a corner and no side with this one.
-fn reach_diagonals<A: Allocator>(
-    row: usize,
-    col: usize,
-    count: usize,
-    left: &mut Grid<bool, A>,
-    steps: &mut Grid<Option<usize>, A>,
-    queue: &mut Vec<(usize, usize), A>,
-) -> Result<(), AllocError>
-    requires at { InRange left.old.rows row col }
-    requires rows { row_count left.old.rows < 2 ^ 64 }
-    requires cols { col_count left.old.rows < 2 ^ 64 }
-    ensures order { steps.new.order ≡ steps.old.order }
-    ensures size { HaveOneSize steps.new.rows steps.old.rows }
-    ensures left { HaveOneSize left.new.rows left.old.rows }
-    ensures round { OnOk result ((floor : List (List Bool))
-        → IsLeft floor steps.old.rows left.old.rows
-        → WentRound (AreDiagonal (row, col)) floor count
-        steps.old.rows queue.old.items steps.new.rows queue.new.items
-        × IsLeft floor steps.new.rows left.new.rows) }
-{
-    let (up, before) = (row.wrapping_sub(1), col.wrapping_sub(1));
-    reach(up, before, count, left, steps, queue)?;
-    reach(up, col + 1, count, left, steps, queue)?;
-    reach(row + 1, before, count, left, steps, queue)?;
-    reach(row + 1, col + 1, count, left, steps, queue)
+    for near in at {
+        reach(near.0, near.1, count, left, steps, queue)?;
+    }
+    Ok(())
 }
 
 // Reaches the positions that a step from this one leads to.
@@ -116,9 +87,7 @@ fn reach_around<A: Allocator>(
     steps: &mut Grid<Option<usize>, A>,
     queue: &mut Vec<(usize, usize), A>,
 ) -> Result<(), AllocError>
-    requires at { InRange left.old.rows row col }
-    requires rows { row_count left.old.rows < 2 ^ 64 }
-    requires cols { col_count left.old.rows < 2 ^ 64 }
+    requires { InRange left.old.rows row col }
     ensures order { steps.new.order ≡ steps.old.order }
     ensures size { HaveOneSize steps.new.rows steps.old.rows }
     ensures left { HaveOneSize left.new.rows left.old.rows }
@@ -128,10 +97,10 @@ fn reach_around<A: Allocator>(
         steps.old.rows queue.old.items steps.new.rows queue.new.items
         × IsLeft floor steps.new.rows left.new.rows) }
 {
-    reach_sides(row, col, count, left, steps, queue)?;
+    let at = around(row, col);
     match kind {
-        Steps::Sides => Ok(()),
-        Steps::All => reach_diagonals(row, col, count, left, steps, queue),
+        Steps::Sides => reach_each(&at[..4], count, left, steps, queue),
+        Steps::All => reach_each(&at, count, left, steps, queue),
     }
 }
 
@@ -186,7 +155,7 @@ fn search_from<A: Allocator + Clone>(
 {
     let mut steps: Grid<Option<usize>, A> = floor.map_indexed(|_, _| None)?;
     let cells = floor.flatten().len();
-    let mut queue = Vec::with_capacity(floor.allocator().clone()?, cells.min(2 * MANY))?;
+    let mut queue = Vec::with_capacity(floor.allocator().clone()?, cells.min(ROOM))?;
     let mut left = floor;
     for start in starts {
         reach(start.0, start.1, 0, &mut left, &mut steps, &mut queue)?;
@@ -238,6 +207,7 @@ pub(crate) fn floor_of<T, A: Allocator + Clone, F: Fn(&T) -> bool>(
     requires { F.IsAlwaysCallable passable }
     ensures order { IfOk result (λ floor. floor.order ≡ grid.now.order) }
     ensures size { IfOk result (λ floor. HaveOneSize floor.rows grid.now.rows) }
+    ensures answers { IfOk result (λ floor. AreAnswers F.post passable grid.now.rows floor.rows) }
     ensures cells { IfOk result (λ floor. (p : _) → IsAnswer F.post passable p
         → floor.rows ≡ passing p grid.now.rows) }
 {
@@ -263,8 +233,8 @@ pub fn distances<T, A: Allocator + Clone, F: Fn(&T) -> bool>(
     requires { F.IsAlwaysCallable passable }
     ensures order { IfOk result (λ steps. steps.order ≡ grid.now.order) }
     ensures size { IfOk result (λ steps. HaveOneSize steps.rows grid.now.rows) }
-    ensures least { IfOk result (λ steps. (p : _) → IsAnswer F.post passable p
-        → HasLeastSteps kind (passing p grid.now.rows) from steps.rows) }
+    ensures least { IfOk result (λ steps. HoldsOfAnswers F.post passable grid.now.rows (λ floor.
+        HasLeastSteps kind floor from steps.rows)) }
 {
     let floor = floor_of(grid, passable)?;
     search(kind, floor, from)
@@ -289,8 +259,8 @@ pub fn distances_from<T, A: Allocator + Clone, F: Fn(&T) -> bool>(
     requires { F.IsAlwaysCallable passable }
     ensures order { IfOk result (λ steps. steps.order ≡ grid.now.order) }
     ensures size { IfOk result (λ steps. HaveOneSize steps.rows grid.now.rows) }
-    ensures least { IfOk result (λ steps. (p : _) → IsAnswer F.post passable p
-        → HasLeastFrom kind (passing p grid.now.rows) starts.now steps.rows) }
+    ensures least { IfOk result (λ steps. HoldsOfAnswers F.post passable grid.now.rows (λ floor.
+        HasLeastFrom kind floor starts.now steps.rows)) }
 {
     let floor = floor_of(grid, passable)?;
     search_from(kind, floor, starts, None)

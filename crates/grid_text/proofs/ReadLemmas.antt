@@ -1,5 +1,5 @@
 -- The rows of the lines of a text, line by line.
-use Rattle.std.proofs.Common.{◌≡◌, ◌≢◌, ◌⊎◌, inl, inr, ℕ, zero, suc, ◌+◌, ◌<◌, ◌≤◌, ◌==◌, true, false, Option, Result, Ok, Err, List, [], ◌∷◌, ◌++◌, length, All, refl, sym, ap, ◌∙◌, arith, append-nil, length-append}
+use Rattle.std.proofs.Common.{◌≡◌, ◌≢◌, ◌⊎◌, inl, inr, ℕ, zero, suc, ◌+◌, ◌<◌, ◌≤◌, ◌==◌, true, false, Option, Result, Ok, Err, List, [], ◌∷◌, ◌++◌, length, All, refl, subst, sym, ap, ◌∙◌, arith, append-nil, length-append}
 use Rattle.std.specs.List.{position_or_len}
 use Rattle.std.proofs.lemmas.List.{nil_from_length, length-drop}
 use Rattle.std.proofs.lemmas.List.Elements.{All-push}
@@ -9,7 +9,7 @@ use Rattle.grid_base.specs.Table.{concat_rows}
 use Rattle.grid_text.specs.declared.error.TextError.{TextError}
 use Rattle.grid_text.specs.declared.error.TextError.TheVariants.{Ragged, Memory}
 use Rattle.text_lines.specs.Lines.{first_line, later_lines, lines_of}
-use Rattle.grid_text.specs.Reading.{prepend, row_before, read_line, read_lines, rows_of, IsRow, IsBadRow}
+use Rattle.grid_text.specs.Reading.{prepend, row_before, read_line, read_lines, rows_of, IsRow, IsBadRow, MayReadLine, MayReadLines, MayReadRows}
 use Rattle.text_lines.proofs.LineLemmas.{lines-first, lines-none}
 use Rattle.grid_text.proofs.LineLemmas.{prepend-nil, prepend-prepend}
 
@@ -77,17 +77,52 @@ module _ {A T : Type 0} (parts : List ℕ → List A) (bad : ℕ → ℕ → A �
       ap (λ r. row_before (suc (suc line)) cols r (read_lines parts bad h (suc (suc line) + 1) cols texts)) read
       ∙ (ragged_row (suc (suc line)) cols row (read_lines parts bad h (suc (suc line) + 1) cols texts) ne ∙ ap (λ n. Err (Ragged n (length row) cols)) (sym e))
 
+module _ {A T : Type 0} (parts : List ℕ → List A) (bad : ℕ → ℕ → A → TextError) (R : A → Option T → Type 0) where
+  -- the rows that may be read of the lines that are left, after so many
+  abbrev pub MayRowsOn : ℕ → ℕ → List (List ℕ) → Result (List (List T)) TextError → Type 0
+  MayRowsOn zero cols lines = MayReadRows parts bad R lines
+  MayRowsOn (suc line) cols lines = MayReadLines parts bad R (suc (suc line)) cols lines
+
+  may_rows_on-none : (line cols : ℕ) → MayRowsOn line cols [] (Ok [])
+  may_rows_on-none zero cols = refl
+  may_rows_on-none (suc line) cols = refl
+
+  may_rows_on-next : (line cols width : ℕ) (text : List ℕ) (texts : List (List ℕ)) (row : List T) → MayReadLine bad R (line + 1) 1 (parts text) (Ok row) → length row ≡ length (parts text) → length row ≡ width → (0 < line → width ≡ cols) → (later : Result (List (List T)) TextError) → MayRowsOn (line + 1) width texts later → MayRowsOn line cols (text ∷ texts) (prepend (row ∷ []) later)
+  may_rows_on-next zero cols width text texts row m counts wide same later on =
+      (Ok row, m, inl (counts, (later, subst (λ k. MayReadLines parts bad R 2 k texts later) (sym wide ∙ counts) on, refl)))
+  may_rows_on-next (suc line) cols width text texts row m counts wide same later on =
+      let e : suc line + 1 ≡ suc (suc line) = omega arith in
+      let e2 : suc (suc (suc line)) ≡ suc (suc line) + 1 = omega arith in
+      let is : width ≡ cols = same (omega arith) in
+      let now : MayReadLine bad R (suc (suc line)) 1 (parts text) (Ok row) = subst (λ n. MayReadLine bad R n 1 (parts text) (Ok row)) e m in
+      let next : MayReadLines parts bad R (suc (suc (suc line))) width texts later = subst (λ n. MayRowsOn n width texts later) e on in
+      (Ok row, now, inl (wide ∙ is, (later, subst (λ n. MayReadLines parts bad R n cols texts later) e2 (subst (λ k. MayReadLines parts bad R (suc (suc (suc line))) k texts later) is next), refl)))
+
+  may_rows_on-bad : (line cols : ℕ) (text : List ℕ) (texts : List (List ℕ)) (fault : TextError) → MayReadLine bad R (line + 1) 1 (parts text) (Err fault) → MayRowsOn line cols (text ∷ texts) (Err fault)
+  may_rows_on-bad zero cols text texts fault m = (Err fault, m, refl)
+  may_rows_on-bad (suc line) cols text texts fault m =
+      let e : suc line + 1 ≡ suc (suc line) = omega arith in
+      (Err fault, subst (λ n. MayReadLine bad R n 1 (parts text) (Err fault)) e m, refl)
+
+  may_rows_on-ragged : (line cols : ℕ) (text : List ℕ) (texts : List (List ℕ)) (row : List T) → MayReadLine bad R (line + 1) 1 (parts text) (Ok row) → 0 < line → length row ≢ cols → MayRowsOn line cols (text ∷ texts) (Err (Ragged (line + 1) (length row) cols))
+  may_rows_on-ragged zero cols text texts row m some ne = absurd (omega arith)
+  may_rows_on-ragged (suc line) cols text texts row m some ne =
+      let e : suc line + 1 ≡ suc (suc line) = omega arith in
+      let now : MayReadLine bad R (suc (suc line)) 1 (parts text) (Ok row) = subst (λ n. MayReadLine bad R n 1 (parts text) (Ok row)) e m in
+      (Ok row, now, inr (ne, ap (λ n. Err (Ragged n (length row) cols)) e))
+
 -- the rows of the first lines, `line` of them, of a text of which `rest` is left
-pub record LinesSoFar {A T : Type 0} (parts : List ℕ → List A) (bad : ℕ → ℕ → A → TextError) (By : (A → Option T) → Type 0) (text rest : List ℕ) (cells : List T) (line cols : ℕ) : Type 0 where
+pub record LinesSoFar {A T : Type 0} (parts : List ℕ → List A) (bad : ℕ → ℕ → A → TextError) (By : (A → Option T) → Type 0) (R : A → Option T → Type 0) (text rest : List ℕ) (cells : List T) (line cols : ℕ) : Type 0 where
   pub rows : List (List T)
   pub stored : cells ≡ concat_rows rows
   pub number : length rows ≡ line
   pub even : All (λ row. length row ≡ cols) rows
   pub fits : line + length rest ≤ length text
   pub reads : (h : A → Option T) → By h → rows_of parts bad h (lines_of text) ≡ prepend rows (rows_on parts bad h line cols (lines_of rest))
+  pub may : (later : Result (List (List T)) TextError) → MayRowsOn parts bad R line cols (lines_of rest) later → MayReadRows parts bad R (lines_of text) (prepend rows later)
 
-module _ {A T : Type 0} (parts : List ℕ → List A) (bad : ℕ → ℕ → A → TextError) (By : (A → Option T) → Type 0) (text : List ℕ) where
-  pub lines_start : (cols : ℕ) (cells : List T) → cells ≡ [] → LinesSoFar parts bad By text text cells 0 cols
+module _ {A T : Type 0} (parts : List ℕ → List A) (bad : ℕ → ℕ → A → TextError) (By : (A → Option T) → Type 0) (R : A → Option T → Type 0) (text : List ℕ) where
+  pub lines_start : (cols : ℕ) (cells : List T) → cells ≡ [] → LinesSoFar parts bad By R text text cells 0 cols
   lines_start cols cells none = record {
     rows = [];
     stored = none;
@@ -95,15 +130,19 @@ module _ {A T : Type 0} (parts : List ℕ → List A) (bad : ℕ → ℕ → A �
     even = λ k d lt. absurd (omega arith);
     fits = omega arith;
     reads = λ h by. sym (prepend-nil (rows_of parts bad h (lines_of text)));
+    may = λ later m. subst (MayReadRows parts bad R (lines_of text)) (sym (prepend-nil later)) m;
   }
 
-  module _ (rest : List ℕ) (cells : List T) (line cols : ℕ) (i : LinesSoFar parts bad By text rest cells line cols) where
+  module _ (rest : List ℕ) (cells : List T) (line cols : ℕ) (i : LinesSoFar parts bad By R text rest cells line cols) where
     module _ (some : 0 < length rest) where
       here : (h : A → Option T) → By h → rows_of parts bad h (lines_of text) ≡ prepend i.rows (rows_on parts bad h line cols (first_line rest ∷ lines_of (later_lines rest)))
       here h by = i.reads h by ∙ ap (λ lines. prepend i.rows (rows_on parts bad h line cols lines)) (lines-next rest some)
 
+      may_here : (read : Result (List (List T)) TextError) → MayRowsOn parts bad R line cols (first_line rest ∷ lines_of (later_lines rest)) read → MayReadRows parts bad R (lines_of text) (prepend i.rows read)
+      may_here read m = i.may read (subst (λ lines. MayRowsOn parts bad R line cols lines read) (sym (lines-next rest some)) m)
+
       -- the next line is a row
-      pub lines_more : (line_text later : List ℕ) (added : List T) (width len : ℕ) → line_text ≡ first_line rest → later ≡ later_lines rest → IsRow parts bad By (line + 1) line_text cells added len → width ≡ len → (0 < line → width ≡ cols) → LinesSoFar parts bad By text later added (line + 1) width
+      pub lines_more : (line_text later : List ℕ) (added : List T) (width len : ℕ) → line_text ≡ first_line rest → later ≡ later_lines rest → IsRow parts bad By R (line + 1) line_text cells added len → width ≡ len → (0 < line → width ≡ cols) → LinesSoFar parts bad By R text later added (line + 1) width
       lines_more text_of later added width len is follows row wide same =
           let r : List T = row.row in
           let lens : length r ≡ width = sym row.is_len ∙ sym wide in
@@ -120,6 +159,12 @@ module _ {A T : Type 0} (parts : List ℕ → List A) (bad : ℕ → ℕ → A �
                 ∙ (ap (prepend i.rows) (rows_on-next parts bad h line cols width (first_line rest) (lines_of (later_lines rest)) r reads counts lens same)
                 ∙ (prepend-prepend i.rows (r ∷ []) (rows_on parts bad h (line + 1) width (lines_of (later_lines rest)))
                 ∙ ap (λ x. prepend (i.rows ++ r ∷ []) (rows_on parts bad h (line + 1) width (lines_of x))) (sym follows)));
+            may = λ read m.
+                let now : MayReadLine bad R (line + 1) 1 (parts (first_line rest)) (Ok r) = subst (λ x. MayReadLine bad R (line + 1) 1 (parts x) (Ok r)) is row.may in
+                let counts : length r ≡ length (parts (first_line rest)) = row.counts ∙ ap (λ x. length (parts x)) is in
+                let on : MayRowsOn parts bad R (line + 1) width (lines_of (later_lines rest)) read = subst (λ x. MayRowsOn parts bad R (line + 1) width (lines_of x) read) follows m in
+                subst (MayReadRows parts bad R (lines_of text)) (prepend-prepend i.rows (r ∷ []) read)
+                (may_here (prepend (r ∷ []) read) (may_rows_on-next parts bad R line cols width (first_line rest) (lines_of (later_lines rest)) r now counts lens same read on));
           }
         where
           by_line : (n : ℕ) → length i.rows ≡ n → (0 < n → width ≡ cols) → All (λ row. length row ≡ cols) i.rows → length row.row ≡ width → All (λ row. length row ≡ width) (i.rows ++ row.row ∷ [])
@@ -129,18 +174,35 @@ module _ {A T : Type 0} (parts : List ℕ → List A) (bad : ℕ → ℕ → A �
               All-push (λ row. length row ≡ width) i.rows row.row (λ k d lt. even k d lt ∙ sym e) lens
 
       -- the next line is none
-      pub lines_bad : (line_text : List ℕ) (fault : TextError) → line_text ≡ first_line rest → IsBadRow parts bad By (line + 1) line_text fault → (h : A → Option T) → By h → (fault ≡ Memory) ⊎ (rows_of parts bad h (lines_of text) ≡ Err fault)
+      pub lines_bad : (line_text : List ℕ) (fault : TextError) → line_text ≡ first_line rest → IsBadRow parts bad By R (line + 1) line_text fault → (h : A → Option T) → By h → (fault ≡ Memory) ⊎ (rows_of parts bad h (lines_of text) ≡ Err fault)
       lines_bad text_of fault is no_row h by = elim no_row [
         | inl e ↦ inl e
-        | inr f ↦ inr (here h by ∙ ap (prepend i.rows) (rows_on-bad parts bad h line cols (first_line rest) (lines_of (later_lines rest)) fault (ap (λ x. read_line bad h (line + 1) 1 (parts x)) (sym is) ∙ f h by)))
+        | inr f ↦ inr (here h by ∙ ap (prepend i.rows) (rows_on-bad parts bad h line cols (first_line rest) (lines_of (later_lines rest)) fault (ap (λ x. read_line bad h (line + 1) 1 (parts x)) (sym is) ∙ f.0 h by)))
       ]
 
-      pub lines_ragged : (line_text : List ℕ) (added : List T) (len : ℕ) → line_text ≡ first_line rest → IsRow parts bad By (line + 1) line_text cells added len → 0 < line → len ≢ cols → (h : A → Option T) → By h → rows_of parts bad h (lines_of text) ≡ Err (Ragged (line + 1) len cols)
+      pub lines_may_be_bad : (line_text : List ℕ) (fault : TextError) → line_text ≡ first_line rest → IsBadRow parts bad By R (line + 1) line_text fault → (fault ≡ Memory) ⊎ MayReadRows parts bad R (lines_of text) (Err fault)
+      lines_may_be_bad text_of fault is no_row = elim no_row [
+        | inl e ↦ inl e
+        | inr f ↦ inr (may_here (Err fault) (may_rows_on-bad parts bad R line cols (first_line rest) (lines_of (later_lines rest)) fault (subst (λ x. MayReadLine bad R (line + 1) 1 (parts x) (Err fault)) is f.1)))
+      ]
+
+      pub lines_ragged : (line_text : List ℕ) (added : List T) (len : ℕ) → line_text ≡ first_line rest → IsRow parts bad By R (line + 1) line_text cells added len → 0 < line → len ≢ cols → (h : A → Option T) → By h → rows_of parts bad h (lines_of text) ≡ Err (Ragged (line + 1) len cols)
       lines_ragged text_of added len is row others ne h by =
           let reads : read_line bad h (line + 1) 1 (parts (first_line rest)) ≡ Ok row.row = ap (λ x. read_line bad h (line + 1) 1 (parts x)) (sym is) ∙ row.reads h by in
           here h by
           ∙ (ap (prepend i.rows) (rows_on-ragged parts bad h line cols (first_line rest) (lines_of (later_lines rest)) row.row reads others (λ e. ne (row.is_len ∙ e)))
           ∙ ap (λ n. Err (Ragged (line + 1) n cols)) (sym row.is_len))
+
+      pub lines_may_be_ragged : (line_text : List ℕ) (added : List T) (len : ℕ) → line_text ≡ first_line rest → IsRow parts bad By R (line + 1) line_text cells added len → 0 < line → len ≢ cols → MayReadRows parts bad R (lines_of text) (Err (Ragged (line + 1) len cols))
+      lines_may_be_ragged text_of added len is row others ne =
+          let now : MayReadLine bad R (line + 1) 1 (parts (first_line rest)) (Ok row.row) = subst (λ x. MayReadLine bad R (line + 1) 1 (parts x) (Ok row.row)) is row.may in
+          subst (λ n. MayReadRows parts bad R (lines_of text) (Err (Ragged (line + 1) n cols))) (sym row.is_len)
+          (may_here (Err (Ragged (line + 1) (length row.row) cols)) (may_rows_on-ragged parts bad R line cols (first_line rest) (lines_of (later_lines rest)) row.row now others (λ e. ne (row.is_len ∙ e))))
+
+    pub lines_may_end : length rest ≡ 0 → MayReadRows parts bad R (lines_of text) (Ok i.rows)
+    lines_may_end none =
+        let no_lines : lines_of rest ≡ [] = ap lines_of (nil_from_length rest none) ∙ lines-none in
+        subst (MayReadRows parts bad R (lines_of text)) (ap Ok (append-nil i.rows)) (i.may (Ok []) (subst (λ lines. MayRowsOn parts bad R line cols lines (Ok [])) (sym no_lines) (may_rows_on-none parts bad R line cols)))
 
     pub lines_end : length rest ≡ 0 → (h : A → Option T) → By h → rows_of parts bad h (lines_of text) ≡ Ok i.rows
     lines_end none h by =

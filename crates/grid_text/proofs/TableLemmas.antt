@@ -1,5 +1,5 @@
 -- The table that is cut from the rows of a text.
-use Rattle.std.proofs.Common.{◌≡◌, ◌≢◌, ◌⊎◌, inl, inr, ℕ, ◌<◌, Result, Ok, Err, Option, List, [], ◌∷◌, length, All, IfOk, IfErr, refl, sym, ap, ◌∙◌, arith}
+use Rattle.std.proofs.Common.{◌≡◌, ◌≢◌, ◌⊎◌, inl, inr, ℕ, ◌+◌, ◌<◌, Result, Ok, Err, Option, Some, None, List, [], ◌∷◌, length, All, IfOk, IfErr, refl, sym, ap, ◌∙◌, arith}
 use Rattle.grid_base.specs.declared.order.Order.TheVariants.{RowMajor}
 use Rattle.grid_base.specs.Table.{row, row_count, col_count, concat_rows}
 use Rattle.grid_base.specs.Order.{storage, CanCut}
@@ -7,7 +7,7 @@ use Rattle.grid_base.specs.GridValue.{GridValue}
 use Rattle.grid_base.proofs.StorageLemmas.{length-concat_rows}
 use Rattle.grid_text.specs.declared.error.TextError.{TextError}
 use Rattle.grid_text.specs.declared.error.TextError.TheVariants.{Memory}
-use Rattle.grid_text.specs.Reading.{rows_of, table_read, as_table, IsOrMemory}
+use Rattle.grid_text.specs.Reading.{rows_of, table_read, as_table, IsOrMemory, MayReadLine, MayReadRow, MayReadLines, MayReadRows, MayReadOrMemory, MayReadAs}
 use Rattle.grid.specs.Conversion.{equal_rows}
 use Rattle.grid.proofs.MadeLemmas.{CanCut-cells}
 use Rattle.grid.proofs.ConversionLemmas.{equal_rows_are}
@@ -38,6 +38,35 @@ module _ {A T : Type 0} (parts : List ℕ → List A) (bad : ℕ → ℕ → A �
 
   pub table_is : (rows t : List (List T)) → rows_of parts bad h lines ≡ Ok rows → t ≡ equal_rows rows → table_read parts bad h lines ≡ Ok t
   table_is rows t is cut = ap as_table is ∙ ap Ok (sym cut)
+
+-- what may be read by fewer answers may be read by more
+module _ {A T : Type 0} (parts : List ℕ → List A) (bad : ℕ → ℕ → A → TextError) (R S : A → Option T → Type 0) (more : (x : A) (cell : Option T) → R x cell → S x cell) where
+  more_line : (line place : ℕ) (xs : List A) (read : Result (List T) TextError) → MayReadLine bad R line place xs read → MayReadLine bad S line place xs read
+  more_line line place [] read m = m
+  more_line line place (x ∷ xs) read (inl m) = inl (more x None m.0, m.1)
+  more_line line place (x ∷ xs) read (inr m) = inr (m.0, m.1, more x (Some m.0) m.2, more_line line (place + 1) xs m.1 m.3, m.4)
+
+  more_row : (line cols : ℕ) (row : Result (List T) TextError) (P Q : Result (List (List T)) TextError → Type 0) → ((later : Result (List (List T)) TextError) → P later → Q later) → (read : Result (List (List T)) TextError) → MayReadRow line cols row P read → MayReadRow line cols row Q read
+  more_row line cols (Err e) P Q f read m = m
+  more_row line cols (Ok row) P Q f read (inl m) = inl (m.0, (m.1.0, f m.1.0 m.1.1, m.1.2))
+  more_row line cols (Ok row) P Q f read (inr m) = inr m
+
+  more_lines : (line cols : ℕ) (texts : List (List ℕ)) (read : Result (List (List T)) TextError) → MayReadLines parts bad R line cols texts read → MayReadLines parts bad S line cols texts read
+  more_lines line cols [] read m = m
+  more_lines line cols (text ∷ texts) read m =
+      (m.0, more_line line 1 (parts text) m.0 m.1, more_row line cols m.0 (MayReadLines parts bad R (line + 1) cols texts) (MayReadLines parts bad S (line + 1) cols texts) (more_lines (line + 1) cols texts) read m.2)
+
+  more_rows : (texts : List (List ℕ)) (read : Result (List (List T)) TextError) → MayReadRows parts bad R texts read → MayReadRows parts bad S texts read
+  more_rows [] read m = m
+  more_rows (text ∷ texts) read m = more_lines 1 (length (parts text)) (text ∷ texts) read m
+
+  more_or_memory : (texts : List (List ℕ)) (answer : Result (GridValue T) TextError) → MayReadOrMemory parts bad R texts answer → MayReadOrMemory parts bad S texts answer
+  more_or_memory texts (Ok g) m = (m.0, (m.1.0, more_rows texts (Ok m.1.0) m.1.1, m.1.2))
+  more_or_memory texts (Err e) (inl none) = inl none
+  more_or_memory texts (Err e) (inr m) = inr (more_rows texts (Err e) m)
+
+pub fewer_read : {A T : Type 0} (parts : List ℕ → List A) (bad : ℕ → ℕ → A → TextError) (R S : A → Option T → Type 0) (texts : List (List ℕ)) (answer : Result (GridValue T) TextError) → MayReadAs parts bad R texts answer → ((x : A) (cell : Option T) → R x cell → S x cell) → MayReadAs parts bad S texts answer
+fewer_read parts bad R S texts answer m more = record { read = more_or_memory parts bad R S more texts answer m.read }
 
 -- what is read of the text of a table is the table, unless memory was refused
 module _ {T : Type 0} (rows : List (List T)) (read : Result (List (List T)) TextError) (due : read ≡ Ok rows) where

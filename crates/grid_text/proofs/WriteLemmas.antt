@@ -1,6 +1,7 @@
 -- The text of rows, line by line.
-use Rattle.std.proofs.Common.{◌≡◌, ℕ, List, [], ◌∷◌, ◌++◌, encode_utf8, sym, ap, ◌∙◌, arith, append_assoc}
+use Rattle.std.proofs.Common.{◌≡◌, ℕ, List, [], ◌∷◌, ◌++◌, encode_utf8, refl, subst, sym, ap, ◌∙◌, arith, append_assoc}
 use Rattle.std.specs.List.{flat_map}
+use Rattle.grid_text.specs.Writing.{MayWriteLine, MayWriteRows, line_text}
 use Rattle.std.proofs.lemmas.Str.{encode_ascii}
 
 -- a row more, and its line feed
@@ -12,3 +13,25 @@ row_more line before mid added out left later r so_far next row feed =
     feed ∙ (ap (λ x. x ++ encode_utf8 10) row ∙ (append_assoc before text (encode_utf8 10) ∙ ap (λ x. before ++ (text ++ x)) (encode_ascii 10 (omega arith)))) in
     ap (λ x. x ++ rest) e
     ∙ (append_assoc before (text ++ 10 ∷ []) rest ∙ (ap (λ l. before ++ flat_map (λ row. line row ++ 10 ∷ []) l) (sym next) ∙ so_far))
+
+-- a cell more of a row
+pub cell_put : {T : Type 0} (h : T → ℕ) (mid added out : List ℕ) (left later : List T) (x : T) (c : ℕ) → mid ++ line_text h left ≡ out → left ≡ x ∷ later → c ≡ h x → added ≡ mid ++ encode_utf8 c → added ++ line_text h later ≡ out
+cell_put h mid added out left later x c so_far next said push =
+    ap (λ y. y ++ line_text h later) (push ∙ ap (λ k. mid ++ encode_utf8 k) said)
+    ∙ (append_assoc mid (encode_utf8 (h x)) (line_text h later) ∙ (ap (λ l. mid ++ line_text h l) (sym next) ∙ so_far))
+
+-- where R says which characters a cell may be written as
+module _ {T : Type 0} (R : T → ℕ → Type 0) where
+  -- a cell more of a row
+  pub cell_more : (all left later : List T) (x : T) (c : ℕ) (old mid added : List ℕ) → ((rest : List ℕ) → MayWriteLine R left rest → (line : List ℕ) × MayWriteLine R all line × (mid ++ rest ≡ old ++ line)) → left ≡ x ∷ later → R x c → added ≡ mid ++ encode_utf8 c → (rest : List ℕ) → MayWriteLine R later rest → (line : List ℕ) × MayWriteLine R all line × (added ++ rest ≡ old ++ line)
+  cell_more all left later x c old mid added so_far next gave push rest m =
+      let h = so_far (encode_utf8 c ++ rest) (subst (λ xs. MayWriteLine R xs (encode_utf8 c ++ rest)) (sym next) (c, rest, gave, m, refl)) in
+      (h.0, h.1, ap (λ x. x ++ rest) push ∙ (append_assoc mid (encode_utf8 c) rest ∙ h.2))
+
+  -- a row more, and its line feed
+  pub row_may : (all left later : List (List T)) (row : List T) (before mid added line : List ℕ) → ((rest : List ℕ) → MayWriteRows R left rest → MayWriteRows R all (before ++ rest)) → left ≡ row ∷ later → MayWriteLine R row line → mid ≡ before ++ line → added ≡ mid ++ encode_utf8 10 → (rest : List ℕ) → MayWriteRows R later rest → MayWriteRows R all (added ++ rest)
+  row_may all left later row before mid added line so_far next may put feed rest m =
+      let e : before ++ (line ++ 10 ∷ rest) ≡ added ++ rest =
+      sym (ap (λ x. x ++ rest) (feed ∙ (ap (λ x. x ++ encode_utf8 10) put ∙ ap (λ x. (before ++ line) ++ x) (encode_ascii 10 (omega arith))))
+      ∙ (append_assoc (before ++ line) (10 ∷ []) rest ∙ append_assoc before line (10 ∷ rest))) in
+      subst (MayWriteRows R all) e (so_far (line ++ 10 ∷ rest) (subst (λ xs. MayWriteRows R xs (line ++ 10 ∷ rest)) (sym next) (line, rest, may, m, refl)))

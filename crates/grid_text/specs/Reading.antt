@@ -1,6 +1,7 @@
 -- Which rows a text says, or why it says none.
 use Rattle.std.specs.Prelude.{
   ◌≡◌,
+  ◌≢◌,
   ◌⊎◌,
   ◌+◌,
   ◌==◌,
@@ -22,6 +23,7 @@ use Rattle.std.specs.Prelude.{
 use denote.Ref.{Bor}
 use Rattle.std.specs.Char.{IsScalar}
 use Rattle.std.specs.Str.{chars}
+use Rattle.std.specs.declared.alloc.AllocError.{AllocError}
 use Rattle.text_lines.specs.Lines.{words_of}
 use Rattle.grid_base.specs.declared.order.Order.TheVariants.{RowMajor}
 use Rattle.grid_base.specs.GridValue.{GridValue}
@@ -39,6 +41,20 @@ abbrev pub ReadsWordsBy : {F T : Type 0} → (F → Bor (List ℕ) → Option T 
     → (List ℕ → Option T) → Type 0
 ReadsWordsBy {F} {T} returns read h = (word : Bor (List ℕ)) (cell : Option T)
     → returns read word cell → cell ≡ h word.now
+
+-- the closure may answer so at a word
+abbrev pub AnswersWord : {F T : Type 0} → (F → Bor (List ℕ) → Option T → Type 0) → F → List ℕ
+    → Option T → Type 0
+AnswersWord returns read word cell = (p : Bor (List ℕ)) × (p.now ≡ word) × returns read p cell
+
+-- the same of a closure that may fail for memory
+abbrev pub TriesWordsBy : {F T : Type 0}
+    → (F → Bor (List ℕ) → Result (Option T) AllocError → Type 0) → F → (List ℕ → Option T) → Type 0
+TriesWordsBy returns = ReadsWordsBy (λ f word cell. returns f word (Ok cell))
+
+abbrev pub TriesWord : {F T : Type 0}
+    → (F → Bor (List ℕ) → Result (Option T) AllocError → Type 0) → F → List ℕ → Option T → Type 0
+TriesWord returns = AnswersWord (λ f word cell. returns f word (Ok cell))
 
 -- what was found before, in front of what is found after it
 abbrev pub prepend : {X E : Type 0} → List X → Result (List X) E → Result (List X) E
@@ -111,17 +127,63 @@ abbrev pub IsOrMemory : {T : Type 0} → Result (List (List T)) TextError
 IsOrMemory read answer = (answer ≡ Err Memory)
     ⊎ MatchResult answer (λ g. (read ≡ Ok g.rows) × (g.order ≡ RowMajor)) (λ e. read ≡ Err e)
 
--- what came of the cells of one line, behind the cells before it: as many as its parts, those that
--- every h gives of which By holds; or the fault that every such h gives; or memory was refused
+-- where R says which answers a part may have: what may be read of the parts of a line from this place
+-- on, up to the first that may be no cell
+module _ {A T : Type 0} (bad : ℕ → ℕ → A → TextError) (R : A → Option T → Type 0) where
+  abbrev pub MayReadLine : ℕ → ℕ → List A → Result (List T) TextError → Type 0
+  MayReadLine line place [] read = read ≡ Ok []
+  MayReadLine line place (x ∷ xs) read = (R x None × (read ≡ Err (bad line place x)))
+      ⊎ ((cell : T) × (later : Result (List T) TextError) × R x (Some cell)
+      × MayReadLine line (place + 1) xs later × (read ≡ prepend (cell ∷ []) later))
+
+-- what may be read of a row and of the later lines, of which Later says what may be read
+abbrev pub MayReadRow : {T : Type 0} → ℕ → ℕ → Result (List T) TextError
+    → (Result (List (List T)) TextError → Type 0) → Result (List (List T)) TextError → Type 0
+MayReadRow line cols (Err e) Later read = read ≡ Err e
+MayReadRow {T} line cols (Ok row) Later read =
+    ((length row ≡ cols) × ((later : Result (List (List T)) TextError) × Later later
+    × (read ≡ prepend (row ∷ []) later)))
+    ⊎ ((length row ≢ cols) × (read ≡ Err (Ragged line (length row) cols)))
+
 module _ {A T : Type 0} (parts : List ℕ → List A) (bad : ℕ → ℕ → A → TextError)
-    (By : (A → Option T) → Type 0) where
+    (R : A → Option T → Type 0) where
+  -- of the lines from this number on, each of cols cells
+  abbrev pub MayReadLines : ℕ → ℕ → List (List ℕ) → Result (List (List T)) TextError → Type 0
+  MayReadLines line cols [] read = read ≡ Ok []
+  MayReadLines line cols (text ∷ texts) read = (row : Result (List T) TextError)
+      × MayReadLine bad R line 1 (parts text) row
+      × MayReadRow line cols row (MayReadLines (line + 1) cols texts) read
+
+  -- of these lines: each has as many cells as the first line has parts
+  abbrev pub MayReadRows : List (List ℕ) → Result (List (List T)) TextError → Type 0
+  MayReadRows [] read = read ≡ Ok []
+  MayReadRows (text ∷ texts) read = MayReadLines 1 (length (parts text)) (text ∷ texts) read
+
+  -- the answer is the row-major grid that may be read of these lines, or the fault; or memory was
+  -- refused
+  abbrev pub MayReadOrMemory : List (List ℕ) → Result (GridValue T) TextError → Type 0
+  MayReadOrMemory lines answer = MatchResult answer
+      (λ g. (g.order ≡ RowMajor) × ((rows : List (List T)) × MayReadRows lines (Ok rows)
+      × (g.rows ≡ equal_rows rows)))
+      (λ e. (e ≡ Memory) ⊎ MayReadRows lines (Err e))
+
+  pub record MayReadAs (lines : List (List ℕ)) (answer : Result (GridValue T) TextError) : Type 0 where
+    pub read : MayReadOrMemory lines answer
+
+-- what came of the cells of one line, behind the cells before it: as many as its parts, those that
+-- every h gives of which By holds, and that R lets them be; or the fault that every such h gives; or
+-- memory was refused
+module _ {A T : Type 0} (parts : List ℕ → List A) (bad : ℕ → ℕ → A → TextError)
+    (By : (A → Option T) → Type 0) (R : A → Option T → Type 0) where
   pub record IsRow (line : ℕ) (text : List ℕ) (old new : List T) (len : ℕ) : Type 0 where
     pub row : List T
     pub put : new ≡ old ++ row
     pub counts : length row ≡ length (parts text)
     pub is_len : len ≡ length row
     pub reads : (h : A → Option T) → By h → read_line bad h line 1 (parts text) ≡ Ok row
+    pub may : MayReadLine bad R line 1 (parts text) (Ok row)
 
   abbrev pub IsBadRow : ℕ → List ℕ → TextError → Type 0
   IsBadRow line text e = (e ≡ Memory)
-      ⊎ ((h : A → Option T) → By h → read_line bad h line 1 (parts text) ≡ Err e)
+      ⊎ (((h : A → Option T) → By h → read_line bad h line 1 (parts text) ≡ Err e)
+      × MayReadLine bad R line 1 (parts text) (Err e))

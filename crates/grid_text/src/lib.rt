@@ -11,5 +11,5 @@ mod read;
 mod write;
 
 pub use error::TextError;
-pub use read::{from_text, from_words};
+pub use read::{from_text, from_words, try_from_words};
 pub use write::{to_text, to_words};

@@ -1,12 +1,12 @@
 //! Grids read from text.
 ghost use Rattle.std.specs.Prelude.{ℕ, Option, List, MatchResult};
 ghost use Rattle.std.specs.Str.{chars};
-ghost use Rattle.grid_text.specs.Reading.{ReadsBy, ReadsWordsBy, IsOrMemory, IsRow, IsBadRow, bad_char, bad_word, reading, reading_words};
+ghost use Rattle.grid_text.specs.Reading.{ReadsBy, ReadsWordsBy, AnswersWord, TriesWordsBy, TriesWord, MayReadAs, IsOrMemory, IsRow, IsBadRow, bad_char, bad_word, reading, reading_words};
 ghost use Rattle.text_lines.specs.Lines.{lines_of, words_of};
 
 use super::error::TextError;
 use grid::Grid;
-use std::alloc::Allocator;
+use std::alloc::{AllocError, Allocator};
 use text_lines::{Words, cut_line};
 
 /// Returns the row-major grid of a text: each line is a row, and `read` says which cell a character is, or `None` where
@@ -29,8 +29,9 @@ pub fn from_text<T: Drop, A: Allocator, F: Fn(char) -> Option<T>>(
     read: F,
 ) -> Result<Grid<T, A>, TextError>
     requires { F.IsAlwaysCallable read }
-    ensures { (h : ℕ → Option T) → ReadsBy F.post read h
+    ensures reads { (h : ℕ → Option T) → ReadsBy F.post read h
         → IsOrMemory (reading h (lines_of text.now)) result }
+    ensures answers { MayReadAs chars bad_char (F.post read) (lines_of text.now) result }
 {
     let mut cells = Vec::new(alloc);
     let mut rest = text;
@@ -58,9 +59,9 @@ fn push_line<T: Drop, A: Allocator, F: Fn(char) -> Option<T>>(
 ) -> Result<usize, TextError>
     requires { F.IsAlwaysCallable read.now }
     ensures { MatchResult result
-        (IsRow chars bad_char (ReadsBy F.post read.now) line text.now
+        (IsRow chars bad_char (ReadsBy F.post read.now) (F.post read.now) line text.now
         cells.old.items cells.new.items)
-        (IsBadRow chars bad_char (ReadsBy F.post read.now) line text.now) }
+        (IsBadRow chars bad_char (ReadsBy F.post read.now) (F.post read.now) line text.now) }
 {
     let mut column = 0usize;
     for found in text.chars() {
@@ -94,8 +95,30 @@ pub fn from_words<T: Drop, A: Allocator, F: Fn(&str) -> Option<T>>(
     read: F,
 ) -> Result<Grid<T, A>, TextError>
     requires { F.IsAlwaysCallable read }
-    ensures { (h : List ℕ → Option T) → ReadsWordsBy F.post read h
+    ensures reads { (h : List ℕ → Option T) → ReadsWordsBy F.post read h
         → IsOrMemory (reading_words h (lines_of text.now)) result }
+    ensures answers { MayReadAs words_of bad_word
+        (AnswersWord F.post read) (lines_of text.now) result }
+{
+    try_from_words(alloc, text, |word| Ok(read(word)))
+}
+
+/// Same as [`from_words`], of a closure that may find no memory, as one that makes a `String` of a word: `Err` of it is
+/// `Memory` here.
+///
+///     try_from_words(alloc, "ab c\n", |word| Ok(Some(String::from_str(alloc, word)?)))   [["ab", "c"]]
+pub fn try_from_words<T: Drop, A: Allocator, F>(
+    alloc: A,
+    text: &str,
+    read: F,
+) -> Result<Grid<T, A>, TextError>
+where
+    F: Fn(&str) -> Result<Option<T>, AllocError>,
+    requires { F.IsAlwaysCallable read }
+    ensures reads { (h : List ℕ → Option T) → TriesWordsBy F.post read h
+        → IsOrMemory (reading_words h (lines_of text.now)) result }
+    ensures answers { MayReadAs words_of bad_word
+        (TriesWord F.post read) (lines_of text.now) result }
 {
     let mut cells = Vec::new(alloc);
     let mut rest = text;
@@ -115,22 +138,24 @@ pub fn from_words<T: Drop, A: Allocator, F: Fn(&str) -> Option<T>>(
 }
 
 // Adds the cells of the words of a line, and returns how many they are.
-fn push_words<T: Drop, A: Allocator, F: Fn(&str) -> Option<T>>(
+fn push_words<T: Drop, A: Allocator, F>(
     cells: &mut Vec<T, A>,
     line: usize,
     text: &str,
     read: &F,
 ) -> Result<usize, TextError>
+where
+    F: Fn(&str) -> Result<Option<T>, AllocError>,
     requires { F.IsAlwaysCallable read.now }
     ensures { MatchResult result
-        (IsRow words_of bad_word (ReadsWordsBy F.post read.now) line text.now
+        (IsRow words_of bad_word (TriesWordsBy F.post read.now) (TriesWord F.post read.now) line text.now
         cells.old.items cells.new.items)
-        (IsBadRow words_of bad_word (ReadsWordsBy F.post read.now) line text.now) }
+        (IsBadRow words_of bad_word (TriesWordsBy F.post read.now) (TriesWord F.post read.now) line text.now) }
 {
     let mut word = 0usize;
     for found in Words(text) {
         word += 1;
-        match read(found) {
+        match read(found)? {
             Some(cell) => cells.push(cell)?,
             None => return Err(TextError::BadWord { line, word }),
         }

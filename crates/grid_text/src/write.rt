@@ -2,7 +2,7 @@
 ghost use Rattle.std.specs.Prelude.{◌≡◌, ◌++◌, ℕ, map, IfOk, OnOk};
 ghost use Rattle.std.specs.String.{string_bytes};
 ghost use Rattle.grid.specs.Texts.{numbers};
-ghost use Rattle.grid_text.specs.Writing.{WritesBy, line_text, table_text, line_of_numbers, numbers_text};
+ghost use Rattle.grid_text.specs.Writing.{WritesBy, AnswersCell, MayWriteLine, MayWriteRows, line_text, table_text, line_of_numbers, numbers_text};
 
 use grid::{Grid, GridLineIter, Whole};
 use std::alloc::{AllocError, Allocator, Global};
@@ -20,8 +20,10 @@ pub fn to_text<T, A: Allocator, F: Fn(&T) -> char>(
     write: F,
 ) -> Result<String, AllocError>
     requires { F.IsAlwaysCallable write }
-    ensures { (h : T → ℕ) → WritesBy F.post write h
+    ensures text { (h : T → ℕ) → WritesBy F.post write h
         → IfOk result (λ text. string_bytes text ≡ table_text h grid.now.rows) }
+    ensures answers { IfOk result (λ text.
+        MayWriteRows (AnswersCell F.post write) grid.now.rows (string_bytes text)) }
 {
     let mut text = String::new(alloc);
     for row in grid.iter_rows() {
@@ -38,8 +40,11 @@ fn push_row<T, F: Fn(&T) -> char>(
     write: &F,
 ) -> Result<(), AllocError>
     requires { F.IsAlwaysCallable write.now }
-    ensures { (h : T → ℕ) → WritesBy F.post write.now h
+    ensures text { (h : T → ℕ) → WritesBy F.post write.now h
         → OnOk result (string_bytes text.new ≡ string_bytes text.old ++ line_text h row.entry) }
+    ensures answers { OnOk result ((line : _) × MayWriteLine
+        (AnswersCell F.post write.now) row.entry line
+        × (string_bytes text.new ≡ string_bytes text.old ++ line)) }
 {
     for cell in row {
         text.push(write(cell))?;

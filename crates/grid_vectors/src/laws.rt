@@ -74,6 +74,16 @@ fn puts_a_column_as_a_row_across(rt: HostRuntime) -> Result<(), Fail> {
 }
 
 #[test]
+fn characters_that_were_written_are_read_back(rt: HostRuntime) -> Result<(), Fail> {
+    let grid = grid_with(rt.alloc(), WIDE, Order::ColumnMajor)?;
+    let write = |cell: &u32| char::from_digit(*cell, 10).unwrap_or('?');
+    match grid_text::laws::written_and_read(rt.alloc(), &grid, write, |found| found.to_digit(10)) {
+        Ok(again) => assert_rows(&rt, rt.alloc(), &again, WIDE, Order::RowMajor),
+        Err(_) => panic!(rt; "there is memory"),
+    }
+}
+
+#[test]
 fn numbers_that_were_written_are_read_back(rt: HostRuntime) -> Result<(), Fail> {
     let grid = grid_with(rt.alloc(), WIDE, Order::ColumnMajor)?;
     let read = |word: &str| word.parse::<u32>().ok();

@@ -5,8 +5,8 @@ use grid::{Grid, GridView, Order, Symmetry, ViewLineIter, ViewRowIter};
 use std::alloc::Global;
 use std::process::Abort;
 use std::test::Fail;
-use test_reference::plain;
 use test_support::fixtures::{INDICES, ORDERS, SYMMETRIES, table_of};
+use test_support::plain;
 
 const BOARD: Rows = &[
     &[1, 2, 3, 4, 5],

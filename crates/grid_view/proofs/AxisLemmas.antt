@@ -1,7 +1,7 @@
 -- The numbers along an axis.
 use Rattle.std.proofs.Common.{◌≡◌, ℕ, ◌+◌, ◌*◌, ◌<◌, ◌≤◌, Bool, true, false, refl, ap, arith}
 use Rattle.std.proofs.Math.Nat.{mul_comm, mul-le-mul_right}
-use Rattle.grid_view.specs.declared.axis.Axis.{Axis}
+use Rattle.grid_view.specs.declared.axis.ViewAxis.{ViewAxis}
 use Rattle.grid_view.specs.View.{counted, offset, other, turned, first_of}
 
 -- counted from the other end
@@ -11,7 +11,7 @@ counted_other true false n k lt = refl
 counted_other false true n k lt = refl
 counted_other false false n k lt = refl
 
-pub offset_turned : (a : Axis) (b : Bool) (k : ℕ) → k < a.count → offset (turned a b) k ≡ offset a (counted b a.count k)
+pub offset_turned : (a : ViewAxis) (b : Bool) (k : ℕ) → k < a.count → offset (turned a b) k ≡ offset a (counted b a.count k)
 offset_turned a b k lt = ap (λ x. x * a.stride) (counted_other a.backwards b a.count k lt)
 
 -- counted from the first of some of them

@@ -7,7 +7,7 @@ use Rattle.std.proofs.lemmas.List.{get_or_append_left, append-nil}
 use Rattle.std.proofs.Math.Seq.{get_or-append_seam}
 use Rattle.grid_base.specs.Table.{row, concat_rows}
 use Rattle.grid_base.proofs.StorageLemmas.{length-concat_rows}
-use Rattle.grid_view.specs.declared.axis.Axis.{Axis}
+use Rattle.grid_view.specs.declared.axis.ViewAxis.{ViewAxis}
 use Rattle.grid_view.specs.View.{HoldsView}
 use Rattle.grid_view.specs.Value.{ViewValue, view_value}
 use Rattle.grid_view.specs.Cells.{AreCellsLeft}
@@ -77,7 +77,7 @@ module _ {T : Type 0} where
         ∙ (ap (λ k. line ++ k) (sym (append_assoc (concat_rows others) rest (x.now ∷ []))) ∙ sym (append_assoc line (concat_rows others ++ rest) (x.now ∷ []))))
 
 -- none is begun
-module _ {T : Type 0} (rows cols : Axis) (cells : List T) (h : HoldsView rows cols (length cells)) (v : ViewValue T) (e : view_value rows cols cells h ≡ v) (line last : List T) (all : List (List T)) (none : line ≡ []) (same : all ≡ v.rows) (none_back : last ≡ []) where
+module _ {T : Type 0} (rows cols : ViewAxis) (cells : List T) (h : HoldsView rows cols (length cells)) (v : ViewValue T) (e : view_value rows cols cells h ≡ v) (line last : List T) (all : List (List T)) (none : line ≡ []) (same : all ≡ v.rows) (none_back : last ≡ []) where
   pub cells_start : AreCellsLeft cols.count line all last
   cells_start =
       let rs = seen_rows rows cols cells h v e in

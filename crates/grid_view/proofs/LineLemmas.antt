@@ -12,7 +12,7 @@ use Rattle.grid_base.proofs.StrideLemmas.{get-strided, length-line_of, ceil_is, 
 use Rattle.grid_base.specs.Remaining.{IsRemaining, remaining}
 use Rattle.grid_base.proofs.RemainingLemmas.{remaining_past, past_most, length-left}
 use Rattle.grid_base.proofs.StorageLemmas.{get-drop}
-use Rattle.grid_view.specs.declared.axis.Axis.{Axis}
+use Rattle.grid_view.specs.declared.axis.ViewAxis.{ViewAxis}
 use Rattle.grid_view.specs.View.{counted, offset, HoldsView}
 use Rattle.grid_view.specs.Value.{ViewValue, view_value, counted_within}
 use Rattle.grid_view.specs.Lines.{directed, line_cells}
@@ -97,7 +97,7 @@ module _ {T : Type 0} where
       ap (λ x. take (x - start) (drop start cells)) end ∙ (sym (every_one stride _ one) ∙ ap (λ x. directed x (line_cells start count stride cells)) (sym forwards))
 
   -- a row of a view
-  module _ (rows cols : Axis) (cells : List T) (h : HoldsView rows cols (length cells)) (v : ViewValue T) (e : view_value rows cols cells h ≡ v) (r : ℕ) (lr : r < rows.count) where
+  module _ (rows cols : ViewAxis) (cells : List T) (h : HoldsView rows cols (length cells)) (v : ViewValue T) (e : view_value rows cols cells h ≡ v) (r : ℕ) (lr : r < rows.count) where
     pub row_some : 0 < cols.count
     row_some = h.size.has_cols (omega arith)
 

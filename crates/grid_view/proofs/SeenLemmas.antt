@@ -1,6 +1,6 @@
 -- What the fields of a view say of the rows that a contract sees.
-use Rattle.std.proofs.Common.{◌≡◌, ⊎_elim, IsTrue, ◌↔◌, nat_eq, ℕ, ◌+◌, ◌-◌, ◌*◌, ◌^◌, ◌<◌, ◌≤◌, Bool, true, false, None, List, [], length, drop, slice_get, is_some, refl, sym, ◌∙◌, ap, arith}
-use Rattle.std.proofs.lemmas.Bool.{eqb-true, eq-eqb, cases_lt}
+use Rattle.std.proofs.Common.{◌≡◌, IsTrue, ◌↔◌, nat_eq, ℕ, ◌+◌, ◌-◌, ◌*◌, ◌<◌, ◌≤◌, Bool, true, false, None, List, [], length, drop, slice_get, is_some, refl, sym, ◌∙◌, ap, arith}
+use Rattle.std.proofs.lemmas.Bool.{eqb-true, eq-eqb}
 use mathlib.Core.Path.{PathP}
 use mathlib.Core.HLevel.{is_prop→PathP}
 use Rattle.std.proofs.lemmas.Nat.{mul-le}
@@ -9,20 +9,20 @@ use Rattle.grid_base.specs.declared.words.Symmetry.{Symmetry}
 use Rattle.grid_base.specs.declared.words.Symmetry.TheVariants.{Identity, FlipCols, FlipRows, RotateHalf, Transpose, RotateLeft, RotateRight, AntiTranspose}
 use Rattle.grid_base.specs.Table.{row_count, col_count, cell, tabulate, IsTable}
 use Rattle.grid_base.specs.Order.{table_of}
-use Rattle.grid_base.specs.GridValue.{HoldsSize}
+use Rattle.grid_base.specs.GridValue.{HoldsSize, FitsUsize}
 use Rattle.grid_base.specs.Symmetry.{act, source_row, source_col, image_rows, image_cols}
 use Rattle.grid_base.specs.Flags.{flags_of}
 use Rattle.grid_base.proofs.TableLemmas.{rows-tabulate, cols-tabulate, cell-tabulate, tabulate-same, cell_past_rows, cell_past_cols}
 use Rattle.grid_base.proofs.ActLemmas.{act-tabulate, IsFull-image}
 use Rattle.grid_base.proofs.StorageLemmas.{IsFull-table_of, get-drop}
-use Rattle.grid_view.specs.declared.axis.Axis.{Axis}
+use Rattle.grid_view.specs.declared.axis.ViewAxis.{ViewAxis}
 use Rattle.grid_view.specs.View.{counted, offset, turned, cut, crossed, first_of, seen, seen_cell, sub_table, HoldsView}
 use Rattle.grid_view.specs.Value.{ViewValue, view_value, IsFull-seen}
 use Rattle.grid_view.proofs.AxisLemmas as axis
-use Rattle.grid_base.proofs.ViewLemmas.{IsTable-prop}
+use Rattle.grid_base.proofs.ViewLemmas.{IsTable-prop, FitsUsize-prop}
 use Rattle.std.proofs.lemmas.List.{nil_from_length}
 
-module _ {T : Type 0} (rows cols : Axis) (cells : List T) (h : HoldsView rows cols (length cells)) (v : ViewValue T) (e : view_value rows cols cells h ≡ v) where
+module _ {T : Type 0} (rows cols : ViewAxis) (cells : List T) (h : HoldsView rows cols (length cells)) (v : ViewValue T) (e : view_value rows cols cells h ≡ v) where
   pub seen_rows : row_count v.rows ≡ rows.count
   seen_rows = ap (λ x. row_count x.rows) (sym e) ∙ rows-tabulate rows.count cols.count (seen_cell rows cols cells)
 
@@ -34,7 +34,7 @@ module _ {T : Type 0} (rows cols : Axis) (cells : List T) (h : HoldsView rows co
 
 -- a slice that stores a table
 module _ {T : Type 0} (m n : ℕ) (cells : List T) (h : HoldsSize m n (length cells)) where
-  abbrev lines : ℕ → ℕ → Axis
+  abbrev lines : ℕ → ℕ → ViewAxis
   lines count stride = record { count = count; stride = stride; backwards = false }
 
   pub by_rows : HoldsView (lines m n) (lines n 1) (length cells)
@@ -62,7 +62,7 @@ module _ {T : Type 0} (m n : ℕ) (cells : List T) (h : HoldsSize m n (length ce
   seen_by_cols = tabulate-same m n _ _ (λ r c lr lc. ap (slice_get cells) (omega arith)) (IsFull-table_of ColumnMajor m n cells h.cells)
 
 -- a view that is turned
-pub HoldsView-crossed : (rows cols : Axis) (len : ℕ) → HoldsView rows cols len → HoldsView cols rows len
+pub HoldsView-crossed : (rows cols : ViewAxis) (len : ℕ) → HoldsView rows cols len → HoldsView cols rows len
 HoldsView-crossed rows cols len h = record {
   size = record { has_cols = h.size.has_rows; has_rows = h.size.has_cols };
   below = omega (arith, h.below, axis.mul-comm cols.count rows.count);
@@ -72,7 +72,7 @@ HoldsView-crossed rows cols len h = record {
 }
 
 -- a cell past the end
-module _ {T : Type 0} (rows cols : Axis) (cells : List T) (h : HoldsView rows cols (length cells)) where
+module _ {T : Type 0} (rows cols : ViewAxis) (cells : List T) (h : HoldsView rows cols (length cells)) where
   pub past_cols : (r c : ℕ) → r < rows.count → cols.count ≤ c → cell (seen rows cols cells) r c ≡ None
   past_cols r c lr lc = cell_past_cols rows.count cols.count _ r c (IsFull-seen rows cols cells h) lr lc
 
@@ -99,7 +99,7 @@ module _ {T : Type 0} (rows cols : Axis) (cells : List T) (h : HoldsView rows co
   abbrev n : ℕ
   n = cols.count
 
-  image : (s : Symmetry) (a b : Axis) → a.count ≡ image_rows s m n → b.count ≡ image_cols s m n → ((i j : ℕ) → i < image_rows s m n → j < image_cols s m n → slice_get cells (offset a i + offset b j) ≡ slice_get cells (offset rows (source_row s m n i j) + offset cols (source_col s m n i j))) → seen a b cells ≡ act s (seen rows cols cells)
+  image : (s : Symmetry) (a b : ViewAxis) → a.count ≡ image_rows s m n → b.count ≡ image_cols s m n → ((i j : ℕ) → i < image_rows s m n → j < image_cols s m n → slice_get cells (offset a i + offset b j) ≡ slice_get cells (offset rows (source_row s m n i j) + offset cols (source_col s m n i j))) → seen a b cells ≡ act s (seen rows cols cells)
   image s a b ea eb same =
       ap (λ x. tabulate x b.count (seen_cell a b cells)) ea
       ∙ (ap (λ x. tabulate (image_rows s m n) x (seen_cell a b cells)) eb
@@ -118,21 +118,21 @@ module _ {T : Type 0} (rows cols : Axis) (cells : List T) (h : HoldsView rows co
   pub seen_crossed : seen cols rows cells ≡ act Transpose (seen rows cols cells)
   seen_crossed = image Transpose cols rows refl refl (λ i j li lj. let swapped : offset cols i + offset rows j ≡ offset rows j + offset cols i = omega arith in ap (slice_get cells) swapped)
 
-pub holds_turned : (rows cols : Axis) (len : ℕ) (p q : Bool) → HoldsView rows cols len → HoldsView (turned rows p) (turned cols q) len
+pub holds_turned : (rows cols : ViewAxis) (len : ℕ) (p q : Bool) → HoldsView rows cols len → HoldsView (turned rows p) (turned cols q) len
 holds_turned rows cols len p q h = record { size = h.size; below = h.below; within = h.within; row_steps = h.row_steps; col_steps = h.col_steps }
 
-pub holds_act : (rows cols : Axis) (len : ℕ) (t p q : Bool) → HoldsView rows cols len → HoldsView (turned (crossed t rows cols).0 p) (turned (crossed t rows cols).1 q) len
+pub holds_act : (rows cols : ViewAxis) (len : ℕ) (t p q : Bool) → HoldsView rows cols len → HoldsView (turned (crossed t rows cols).0 p) (turned (crossed t rows cols).1 q) len
 holds_act rows cols len true p q h = holds_turned cols rows len p q (HoldsView-crossed rows cols len h)
 holds_act rows cols len false p q h = holds_turned rows cols len p q h
 
 -- a part of a view
-abbrev pub start_of_row : Axis → ℕ × ℕ → ℕ × ℕ → ℕ
+abbrev pub start_of_row : ViewAxis → ℕ × ℕ → ℕ × ℕ → ℕ
 start_of_row rows at size = first_of rows.backwards rows.count at.0 size.0 * rows.stride
 
-abbrev pub start_of : Axis → Axis → ℕ × ℕ → ℕ × ℕ → ℕ
+abbrev pub start_of : ViewAxis → ViewAxis → ℕ × ℕ → ℕ × ℕ → ℕ
 start_of rows cols at size = first_of rows.backwards rows.count at.0 size.0 * rows.stride + first_of cols.backwards cols.count at.1 size.1 * cols.stride
 
-module _ (rows cols : Axis) (len : ℕ) (h : HoldsView rows cols len) (at size : ℕ × ℕ) (rows_in : at.0 + size.0 ≤ rows.count) (cols_in : at.1 + size.1 ≤ cols.count) where
+module _ (rows cols : ViewAxis) (len : ℕ) (h : HoldsView rows cols len) (at size : ℕ × ℕ) (rows_in : at.0 + size.0 ≤ rows.count) (cols_in : at.1 + size.1 ≤ cols.count) where
   abbrev start : ℕ
   start = start_of rows cols at size
 
@@ -149,11 +149,11 @@ module _ (rows cols : Axis) (len : ℕ) (h : HoldsView rows cols len) (at size :
     col_steps = λ _. h.col_steps (omega arith);
   }
 
-pub seen_none : {T : Type 0} (rows cols : Axis) (cells : List T) → seen (cut rows 0) (cut cols 0) cells ≡ []
+pub seen_none : {T : Type 0} (rows cols : ViewAxis) (cells : List T) → seen (cut rows 0) (cut cols 0) cells ≡ []
 unfolding tabulate
 seen_none rows cols cells = refl
 
-pub seen_part : {T : Type 0} (rows cols : Axis) (cells : List T) (h : HoldsView rows cols (length cells)) (at size : ℕ × ℕ) → at.0 + size.0 ≤ rows.count → at.1 + size.1 ≤ cols.count → (rest : List T) → rest ≡ drop (start_of rows cols at size) cells → seen (cut rows size.0) (cut cols size.1) rest ≡ sub_table (seen rows cols cells) at size
+pub seen_part : {T : Type 0} (rows cols : ViewAxis) (cells : List T) (h : HoldsView rows cols (length cells)) (at size : ℕ × ℕ) → at.0 + size.0 ≤ rows.count → at.1 + size.1 ≤ cols.count → (rest : List T) → rest ≡ drop (start_of rows cols at size) cells → seen (cut rows size.0) (cut cols size.1) rest ≡ sub_table (seen rows cols cells) at size
 seen_part rows cols cells h at size rows_in cols_in rest e =
     tabulate-same size.0 size.1 _ _
     (λ r c lr lc.
@@ -174,10 +174,6 @@ empty_by_test t = (λ h. nil_from_length t (eqb-true (row_count t) 0 h), λ e. e
 pub same_view_value : {T : Type 0} (s u : ViewValue T) → s.rows ≡ u.rows → s ≡ u
 same_view_value s u rows =
     let table : PathP (λ i. IsTable (rows i)) s.table u.table = is_prop→PathP (λ i. IsTable (rows i)) (λ i. IsTable-prop (rows i)) s.table u.table in
-    λ i. record { rows = rows i; table = table i }
-
--- a row is no longer than all cells
-pub cols_small : (rows cols : Axis) (len : ℕ) → HoldsView rows cols len → cols.count < 2 ^ 64
-cols_small rows cols len h =
-    ⊎_elim (λ some. omega (arith, h.below, mul-le 1 cols.count rows.count cols.count (h.size.has_rows some) (omega arith))) (λ none. omega arith)
-    (cases_lt 0 cols.count)
+    let fits : PathP (λ i. FitsUsize (row_count (rows i)) (col_count (rows i))) s.fits u.fits =
+    is_prop→PathP (λ i. FitsUsize (row_count (rows i)) (col_count (rows i))) (λ i. FitsUsize-prop (row_count (rows i)) (col_count (rows i))) s.fits u.fits in
+    λ i. record { rows = rows i; table = table i; fits = fits i }

@@ -1,7 +1,7 @@
 -- A part of a stored table, seen through a symmetry: two axes over the cells.
 use Rattle.std.specs.Prelude.{ℕ, ◌+◌, ◌-◌, ◌*◌, ◌^◌, ◌<◌, Bool, true, false, Option, List, slice_get}
 use Rattle.grid_base.specs.Table.{IsSize, cell, tabulate}
-use Rattle.grid_view.specs.declared.axis.Axis.{Axis}
+use Rattle.grid_view.specs.declared.axis.ViewAxis.{ViewAxis}
 
 -- number k of n, counted from the end or not
 abbrev pub counted : Bool → ℕ → ℕ → ℕ
@@ -9,7 +9,7 @@ counted true n k = n - 1 - k
 counted false n k = k
 
 -- how far line k of an axis stands from the first cell
-abbrev pub offset : Axis → ℕ → ℕ
+abbrev pub offset : ViewAxis → ℕ → ℕ
 offset a k = counted a.backwards a.count k * a.stride
 
 -- one of two flags, and not both
@@ -20,14 +20,14 @@ other false true = true
 other false false = false
 
 -- an axis whose lines come in the reversed order, or not, and one of fewer lines
-abbrev pub turned : Axis → Bool → Axis
+abbrev pub turned : ViewAxis → Bool → ViewAxis
 turned a reversed = record {
   count = a.count;
   stride = a.stride;
   backwards = other a.backwards reversed;
 }
 
-abbrev pub cut : Axis → ℕ → Axis
+abbrev pub cut : ViewAxis → ℕ → ViewAxis
 cut a count = record { count = count; stride = a.stride; backwards = a.backwards }
 
 -- the first, as the storage has them, of the `count` lines from number `at` on of n
@@ -36,11 +36,11 @@ first_of true n at count = n - at - count
 first_of false n at count = at
 
 -- the axes of a view whose rows are the columns, or not
-abbrev pub crossed : Bool → Axis → Axis → Axis × Axis
+abbrev pub crossed : Bool → ViewAxis → ViewAxis → ViewAxis × ViewAxis
 crossed true rows cols = (cols, rows)
 crossed false rows cols = (rows, cols)
 
-module _ {T : Type 0} (rows cols : Axis) (cells : List T) where
+module _ {T : Type 0} (rows cols : ViewAxis) (cells : List T) where
   -- the cell in a row and a column
   abbrev pub seen_cell : ℕ → ℕ → Option T
   seen_cell r c = slice_get cells (offset rows r + offset cols c)
@@ -50,7 +50,7 @@ module _ {T : Type 0} (rows cols : Axis) (cells : List T) where
   seen = tabulate rows.count cols.count seen_cell
 
 -- the cells of two axes are within a slice of so many cells
-pub record HoldsView (rows cols : Axis) (len : ℕ) : Type 0 where
+pub record HoldsView (rows cols : ViewAxis) (len : ℕ) : Type 0 where
   pub size : IsSize rows.count cols.count
   pub below : rows.count * cols.count < 2 ^ 64
   pub within : (i j : ℕ) → i < rows.count → j < cols.count

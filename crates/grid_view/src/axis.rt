@@ -4,13 +4,13 @@ ghost use Rattle.grid_view.specs.View.{counted, turned, cut, first_of, crossed};
 
 // The lines of a view in one direction.
 #[derive(Clone, Copy)]
-pub(crate) struct Axis {
+pub(crate) struct ViewAxis {
     pub(crate) count: usize,
     pub(crate) stride: usize,
     pub(crate) backwards: bool,
 }
 
-impl Axis {
+impl ViewAxis {
     // Returns the number of line `k` as the storage has them.
     pub(crate) fn number(self, k: usize) -> usize
         requires { k < self.count }
@@ -37,10 +37,10 @@ impl Axis {
     }
 
     // Returns the axis whose lines come in the reversed order, or in the same.
-    pub(crate) fn turned(self, reversed: bool) -> Axis
+    pub(crate) fn turned(self, reversed: bool) -> ViewAxis
         ensures { result ≡ turned self reversed }
     {
-        Axis {
+        ViewAxis {
             count: self.count,
             stride: self.stride,
             backwards: self.backwards ^ reversed,
@@ -48,10 +48,10 @@ impl Axis {
     }
 
     // Returns the axis with so many lines.
-    pub(crate) fn cut(self, count: usize) -> Axis
+    pub(crate) fn cut(self, count: usize) -> ViewAxis
         ensures { result ≡ cut self count }
     {
-        Axis {
+        ViewAxis {
             count,
             stride: self.stride,
             backwards: self.backwards,
@@ -60,7 +60,7 @@ impl Axis {
 }
 
 // Returns the axes of a view whose rows are the columns, or not.
-pub(crate) fn crossed(transposes: bool, rows: Axis, cols: Axis) -> (Axis, Axis)
+pub(crate) fn crossed(transposes: bool, rows: ViewAxis, cols: ViewAxis) -> (ViewAxis, ViewAxis)
     ensures { result ≡ crossed transposes rows cols }
 {
     if transposes {

@@ -6,7 +6,7 @@ ghost use Rattle.grid_base.specs.Order.{storage};
 
 use crate::lines::ViewLineIter;
 use crate::view::GridView;
-use grid_base::Order;
+use grid_base::{Flat, Order};
 use std::alloc::{AllocError, Allocator};
 
 // Adds clones of the cells of a line to a vector that has room for them.
@@ -44,8 +44,11 @@ fn push_row<T: Clone, A: Allocator>(
     }
 }
 
-// Returns clones of the cells of a view, row by row.
-fn clones_of<T: Clone, A: Allocator>(
+// A row of fewer cells stays in the cache with those beside it, also where it runs across the storage.
+const LONG: usize = 1024;
+
+// Returns clones of the cells of a view, row by row, and goes over it so.
+fn clones_in_turn<T: Clone, A: Allocator>(
     alloc: A,
     view: &GridView<'_, T>,
 ) -> Result<Vec<T, A>, AllocError>
@@ -60,7 +63,33 @@ fn clones_of<T: Clone, A: Allocator>(
     Ok(copies)
 }
 
+// Returns clones of the cells of a view, row by row. Where long rows run across the storage, each cell of them would be
+// fetched from memory by itself; so the cells are cloned along the storage, and laid out anew.
+fn clones_of<T: Clone, A: Allocator>(
+    alloc: A,
+    view: &GridView<'_, T>,
+) -> Result<Vec<T, A>, AllocError>
+    requires { ClonesAreEqual T.is_clone }
+    ensures { IfOk result (λ copies. copies.items ≡ concat_rows view.now.rows) }
+{
+    if !view.runs_across() {
+        return clones_in_turn(alloc, view);
+    }
+    let (rows, cols) = view.size();
+    let mut flat = Flat::from_vec(clones_in_turn(alloc, &view.transposed())?);
+    flat.relay(cols, rows);
+    Ok(flat.into_vec())
+}
+
 impl<'a, T> GridView<'a, T> {
+    // Whether long rows run across the storage, and the columns are long too.
+    fn runs_across(&self) -> bool {
+        self.rows.stride == 1
+            && self.cols.stride != 1
+            && LONG <= self.rows.count
+            && LONG <= self.cols.count
+    }
+
     // Returns the cells of row `r` as a slice, or `None` where they don't stand side by side, the first first.
     fn row_slice(&self, r: usize) -> Option<&'a [T]>
         requires { r < row_count self.now.rows }

@@ -7,7 +7,7 @@ ghost use Rattle.grid_base.specs.Table.{row, row_count, col_count, transposed};
 ghost use Rattle.grid_base.specs.Iterators.{GivesLine, GivesLines};
 ghost use Rattle.grid_view.specs.Lines.{directed, line_cells};
 
-use crate::axis::Axis;
+use crate::axis::ViewAxis;
 use crate::view::GridView;
 use grid_base::GridLineIter;
 use std::alloc::AllocError;
@@ -16,7 +16,7 @@ use std::marker::Model;
 use std::ops::Range;
 
 // Returns an iterator over the cells of an axis from a place on.
-fn line_of<T>(cells: &[T], start: usize, axis: Axis) -> ViewLineIter<'_, T>
+fn line_of<T>(cells: &[T], start: usize, axis: ViewAxis) -> ViewLineIter<'_, T>
     requires some { 0 < axis.count }
     requires steps { 0 < axis.stride }
     requires within { start + (axis.count - 1) * axis.stride < length cells.now }

@@ -1,5 +1,5 @@
 //! A part of a table that a slice stores, seen through a symmetry.
-ghost use Rattle.std.specs.Prelude.{◌≡◌, ◌+◌, ◌*◌, ◌^◌, ◌<◌, ◌≤◌, IsTrue, ⊤, ◌↔◌, ◌⊎◌, IfSome, Some, [], length};
+ghost use Rattle.std.specs.Prelude.{◌≡◌, ◌+◌, ◌<◌, ◌≤◌, IsTrue, ⊤, ◌↔◌, ◌⊎◌, IfSome, Some, [], length};
 ghost use Rattle.std.specs.Option.{option_copied};
 ghost use Rattle.grid_base.specs.Table.{row_count, col_count, cell, transposed, InRange};
 ghost use Rattle.grid_base.specs.Order.{table_of};
@@ -7,7 +7,7 @@ ghost use Rattle.grid_base.specs.GridValue.{HoldsSize};
 ghost use Rattle.grid_base.specs.Symmetry.{act};
 ghost use Rattle.grid_view.specs.View.{offset, sub_table, HoldsView};
 
-use crate::axis::{Axis, crossed};
+use crate::axis::{ViewAxis, crossed};
 use grid_base::{Order, Symmetry};
 use std::alloc::AllocError;
 use std::marker::Model;
@@ -18,8 +18,8 @@ use std::ops::Index;
 pub struct GridView<'a, T> {
     // From the first cell of the part on, as the storage has them.
     pub(crate) cells: &'a [T],
-    pub(crate) rows: Axis,
-    pub(crate) cols: Axis,
+    pub(crate) rows: ViewAxis,
+    pub(crate) cols: ViewAxis,
     ghost fits: { HoldsView rows cols (length cells.now) },
 }
 
@@ -33,7 +33,7 @@ impl<'a, T> Model for GridView<'a, T> {
 
 // Returns the place of the cell in a row and a column.
 #[inline(always)]
-fn place(rows: Axis, cols: Axis, len: usize, r: usize, c: usize) -> usize
+fn place(rows: ViewAxis, cols: ViewAxis, len: usize, r: usize, c: usize) -> usize
     requires holds { HoldsView rows cols len }
     requires row_in { r < rows.count }
     requires col_in { c < cols.count }
@@ -60,12 +60,12 @@ impl<'a, T> GridView<'a, T> {
         };
         GridView {
             cells,
-            rows: Axis {
+            rows: ViewAxis {
                 count: rows,
                 stride: strides.0,
                 backwards: false,
             },
-            cols: Axis {
+            cols: ViewAxis {
                 count: cols,
                 stride: strides.1,
                 backwards: false,
@@ -79,7 +79,6 @@ impl<'a, T> GridView<'a, T> {
     pub fn size(&self) -> (usize, usize)
         ensures rows { result.0 ≡ row_count self.now.rows }
         ensures cols { result.1 ≡ col_count self.now.rows }
-        ensures below { row_count self.now.rows * col_count self.now.rows < 2 ^ 64 }
     {
         (self.rows.count, self.cols.count)
     }

@@ -1,11 +1,13 @@
 //! Reads cases from standard input, and counts those that hold: scripts with what they write, scripts with the swaps that
-//! they count, and JSON with the grid that it is. A case that doesn't hold is printed.
+//! they count, JSON with the grid that it is, and maps with what calls of `grid_paths` answer. A case that doesn't hold is
+//! printed.
 //!
 //! A section is a line `#### NAME`, some words, and its cases. Each case begins with `== `. The head of each module has the form of its cases.
 #![tactic(auto)]
 
 mod counts;
 mod json;
+mod paths;
 mod scripts;
 
 use std::alloc::{AllocError, Global};
@@ -19,6 +21,7 @@ fn holds(alloc: Global, section: &str, case: &str) -> Result<bool, AllocError> {
         "scripts" => scripts::holds(alloc, case),
         "counts" => counts::holds(alloc, case),
         "json" => json::holds(alloc, case),
+        "paths" => paths::holds(alloc, case),
         _ => Ok(false),
     }
 }

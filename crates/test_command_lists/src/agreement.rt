@@ -4,8 +4,8 @@ use crate::costs::{Costs, Tallied};
 use grid::{Command, Grid, Order, Reply, RunStopped, Tally, run};
 use grid_deferred::run_deferred;
 use std::alloc::{AllocError, Global};
-use test_reference::plain;
 use test_support::fixtures::{grid_of, numbered, shows};
+use test_support::plain;
 
 /// The size and the order of a grid before a list, whose rows have the cells 1, 2, 3, ..
 #[derive(Clone, Copy)]

@@ -1,7 +1,7 @@
 //! What lists of commands cost, at once and deferred, worked out from the definitions.
 use grid::{Axis, Command, Order, Symmetry};
-use test_reference::plain;
 use test_support::fixtures::order_after;
+use test_support::plain;
 
 /// The symmetry count and the shift count.
 pub type Tallied = (u128, u128);

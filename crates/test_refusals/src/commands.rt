@@ -3,8 +3,8 @@ use crate::state::{Starved, answered, started_with_one, with_grid};
 use grid::{Command, Symmetry, Tally};
 use grid_deferred::Deferred;
 use std::alloc::{AllocError, Global};
-use test_reference::fuse::Fuse;
 use test_support::fixtures::{Heap, SYMMETRIES};
+use test_support::fuse::Fuse;
 use test_support::line_edits::{LineAt, insert, insert_several, push_col, push_row};
 use test_support::requests::{Attempt, Told, told_in_turn};
 

@@ -3,8 +3,8 @@ use crate::state::{Starved, started, told_made};
 use grid::{Grid, ShapeError};
 use std::alloc::{AllocError, Global};
 use std::convert::TryFrom;
-use test_reference::fuse::Fuse;
 use test_support::fixtures::Heap;
+use test_support::fuse::Fuse;
 use test_support::requests::{Attempt, Told, told_in_turn};
 
 type Line<'a> = Vec<i64, &'a Heap>;

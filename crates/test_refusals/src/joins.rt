@@ -2,7 +2,7 @@
 use crate::state::{Starved, answered, started, told_made, with_grid};
 use grid::{Grid, GridError, GridRefused, Order};
 use std::alloc::{AllocError, Global};
-use test_reference::fuse::Fuse;
+use test_support::fuse::Fuse;
 use test_support::requests::{Attempt, Told, told_in_turn};
 
 // The other order.

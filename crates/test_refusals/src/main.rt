@@ -10,6 +10,7 @@ mod commands;
 mod conversions;
 mod joins;
 mod makers;
+mod pictures;
 mod runs;
 mod sorts;
 mod state;
@@ -32,7 +33,9 @@ fn told(alloc: Global, kind: &str, name: &str, start: &str) -> Result<String, Al
         "clones" => clones::told(alloc, name, start),
         "join" => joins::told(alloc, name, start),
         "text" => texts::told(alloc, name, start),
+        "picture" => pictures::told(alloc, name, start),
         "sort" => sorts::told(alloc, name, start),
+        "rows" => sorts::told_rows(alloc, name, start),
         _ => Err(AllocError),
     }
 }

@@ -3,8 +3,8 @@ use crate::state::{Starved, parsed, told_made};
 use grid::{Grid, GridError, Order};
 use std::alloc::{AllocError, Global};
 use std::cell::Cell;
-use test_reference::fuse::Fuse;
 use test_support::fixtures::Heap;
+use test_support::fuse::Fuse;
 use test_support::requests::{Attempt, Told, told_in_turn};
 
 type Made<'a> = Result<Starved<'a>, GridError>;

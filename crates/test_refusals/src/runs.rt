@@ -4,8 +4,8 @@ use grid::{Command, Tally, run};
 use grid_deferred::run_deferred;
 use grid_play::Script;
 use std::alloc::{AllocError, Global};
-use test_reference::fuse::Fuse;
 use test_support::fixtures::Heap;
+use test_support::fuse::Fuse;
 use test_support::requests::{Attempt, Told, told_in_turn};
 
 // Runs commands, and tells what they replied, the swaps for symmetries and for shifts, and the grid.

@@ -1,8 +1,8 @@
 //! Boards that are read from text.
 use crate::state::told_made;
-use grid_text::{from_text, from_words};
+use grid_text::{from_text, from_words, try_from_words};
 use std::alloc::{AllocError, Global};
-use test_reference::fuse::Fuse;
+use test_support::fuse::Fuse;
 use test_support::requests::{Attempt, Told, told_in_turn};
 
 // A call of this name on a text.
@@ -17,6 +17,14 @@ impl Attempt for Read<'_> {
             "from_words" => told_made(
                 alloc,
                 from_words(&heap, self.1, |word| word.parse::<i64>().ok()),
+            ),
+            "try_from_words" => told_made(
+                alloc,
+                try_from_words(
+                    &heap,
+                    self.1,
+                    |word| Ok(Some(String::from_str(&heap, word)?)),
+                ),
             ),
             _ => Err(AllocError),
         }

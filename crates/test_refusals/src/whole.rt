@@ -3,8 +3,8 @@ use crate::state::{Starved, answered, started, told_made, with_grid};
 use std::alloc::{AllocError, Global};
 use std::cell::Cell;
 use std::fmt::Debug;
-use test_reference::fuse::Fuse;
 use test_support::fixtures::Heap;
+use test_support::fuse::Fuse;
 use test_support::requests::{Attempt, Told, told_in_turn};
 
 // The grid that a call made, or why there is none; the grid that it was called on; and how often it called its closure.

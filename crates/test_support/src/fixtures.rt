@@ -1,12 +1,12 @@
 //! What the tests share: all small tables, whether a grid shows one, and cells and memory that are refused.
 ghost use Rattle.std.specs.Prelude.{◌≡◌};
 
+use crate::fuse::Fuse;
+use crate::plain;
 use grid::{Grid, Move, Order, ShapeError, Symmetry, can_cut};
 use std::alloc::{AllocError, Allocator, Global};
 use std::cell::Cell;
 use std::fmt;
-use test_reference::fuse::Fuse;
-use test_reference::plain;
 
 // Memory that a test can refuse.
 pub type Heap = Fuse<Global>;

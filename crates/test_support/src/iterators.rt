@@ -1,8 +1,8 @@
 //! Whether an iterator hands out what it should. Each goes through an iterator to its end, and compares each step.
 use crate::line_edits::LineAt;
+use crate::plain;
 use grid::{Grid, IndexedIntoIter, IndexedIter};
 use std::alloc::Allocator;
-use test_reference::plain;
 
 // Whether an iterator handed out the cell of a table at this position.
 fn is_at((at, cell): ((usize, usize), u32), place: (usize, usize), table: &Vec<Vec<u32>>) -> bool {

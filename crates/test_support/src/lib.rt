@@ -1,7 +1,11 @@
-//! What the tests share: tables and grids to start from, comparisons, and calls that test their own conditions.
+//! What the tests share: a plain program over tables, which the library is tested against; an allocator that grants a
+//! stated number of requests for memory; tables and grids to start from, comparisons, and calls that test their own
+//! conditions.
 #![tactic(auto)]
 
 pub mod fixtures;
+pub mod fuse;
 pub mod iterators;
 pub mod line_edits;
+pub mod plain;
 pub mod requests;

@@ -24,7 +24,8 @@ impl<T, A: Allocator> Grid<T, A> {
     ///
     ///     [[1, 2, 3], [4, 5, 6]]   lay_out(ColumnMajor)   the vector is [1, 4, 2, 5, 3, 6]
     ///
-    /// Cost: time in the number of cells times (log2(rows) + 1) * (log2(columns) + 1) at most; no memory.
+    /// Cost: each cell of a square board is swapped once at most; else time in the number of cells times
+    /// (log2(rows) + 1) * (log2(columns) + 1) at most. No memory.
     pub fn lay_out(&mut self, order: Order)
         ensures rows { self.new.rows ≡ self.old.rows }
         ensures order { self.new.order ≡ order }

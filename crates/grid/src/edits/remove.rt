@@ -1,29 +1,33 @@
 //! Rows and columns that are popped and removed: the call returns the line, and no tally counts its moves.
-ghost use Rattle.std.specs.Prelude.{[], vec_capacity, ◌≡◌, ◌+◌, ◌-◌, ◌*◌, ◌^◌, ◌<◌, ◌≤◌, length, remove, slice_get, Some, OnOk, OnErr, IfOk, MatchOption};
+ghost use Rattle.std.specs.Prelude.{[], ◌≡◌, ◌+◌, ◌-◌, ◌*◌, ◌^◌, ◌<◌, ◌≤◌, length, take, drop, remove, slice_get, Some, OnOk, OnErr, IfOk, MatchOption};
 ghost use Rattle.grid_base.specs.Table.{row_count, col_count, transposed};
-ghost use Rattle.grid.specs.Edits.{without_cols};
-ghost use Rattle.grid.specs.RowGroups.{RowMovedToEnd};
+ghost use Rattle.grid_base.specs.Order.{storage};
+ghost use Rattle.grid.specs.Edits.{without_rows, without_cols};
+ghost use Rattle.grid.specs.RowGroups.{RowsTakenOut};
 
 use super::{cols_if_rows, row_groups};
 use crate::Grid;
 use grid_base::{Flat, Order};
 use std::alloc::{AllocError, Allocator};
 
-// Puts row `at`, of `rest` + 1 rows, behind the cells of the others.
-fn unweave_row<T, A: Allocator>(
+// Takes `count` rows from row `at` on out, and returns their cells in storage order; `rest` rows stay.
+fn take_out_rows<T, A: Allocator + Clone>(
     flat: &mut Flat<T, A>,
     order: Order,
     rest: usize,
     cols: usize,
     at: usize,
-)
-    requires cells { length flat.old ≡ (rest + 1) * cols }
-    requires fits { (rest + 1) * cols < 2 ^ 64 }
+    count: usize,
+) -> Result<Vec<T, A>, AllocError>
+    requires cells { length flat.old ≡ (rest + count) * cols }
+    requires fits { (rest + count) * cols < 2 ^ 64 }
     requires point { at ≤ rest }
-    ensures { RowMovedToEnd order cols at rest flat.old flat.new }
+    ensures taken { IfOk result
+        (λ taken. RowsTakenOut order cols at count rest flat.old flat.new taken.items) }
+    ensures err { OnErr result (flat.new ≡ flat.old) }
 {
-    let groups = row_groups(order, rest, cols, at, 1);
-    flat.unweave(groups);
+    let groups = row_groups(order, rest, cols, at, count);
+    flat.take_out(groups)
 }
 
 impl<T, A: Allocator> Grid<T, A> {
@@ -98,12 +102,8 @@ impl<T, A: Allocator> Grid<T, A> {
         if at >= self.rows() {
             return Ok(None);
         }
-        if at + 1 == self.rows() && matches!(self.order, Order::RowMajor) {
-            return Ok(Some(self.cut_last_row()?));
-        }
-        let alloc = self.flat.allocator().clone()?;
-        let line = Vec::with_capacity(alloc, self.cols())?;
-        Ok(Some(self.move_row_out(at, line)))
+        let line = self.take_rows(at, 1)?;
+        Ok(Some(line))
     }
 
     /// Removes column `at` and returns it, or `None` where there is none. The order stays. Taking the only column
@@ -134,40 +134,21 @@ impl<T, A: Allocator> Grid<T, A> {
         removed
     }
 
-    // Cuts the last row off the storage.
-    fn cut_last_row(&mut self) -> Result<Vec<T, A>, AllocError>
+    // Takes `count` rows from row `at` on out, all in range, and returns their cells in storage order.
+    pub(super) fn take_rows(&mut self, at: usize, count: usize) -> Result<Vec<T, A>, AllocError>
     where
         A: Clone,
-        requires order { self.old.order ≡ Order.RowMajor }
-        requires some { 0 < row_count self.old.rows }
-        ensures rows { OnOk result
-            (self.new.rows ≡ remove self.old.rows (row_count self.old.rows - 1)) }
-        ensures line { IfOk result
-            (λ line. slice_get self.old.rows (row_count self.old.rows - 1) ≡ Some line.items) }
+        requires within { at + count ≤ row_count self.old.rows }
+        ensures rows { OnOk result (self.new.rows ≡ without_rows at count self.old.rows) }
+        ensures cells { IfOk result (λ cells.
+            cells.items ≡ storage self.old.order (take count (drop at self.old.rows))) }
         ensures order { self.new.order ≡ self.old.order }
         ensures err { OnErr result (self.new ≡ self.old) }
     {
-        let rest = self.row_count - 1;
-        let line = self.flat.split_off(rest * self.col_count)?;
+        let rest = self.row_count - count;
+        let cells = take_out_rows(&mut self.flat, self.order, rest, self.col_count, at, count)?;
         self.row_count = rest;
         self.col_count = cols_if_rows(rest, self.col_count);
-        Ok(line)
-    }
-
-    // Removes row `at`, which is in range, into an empty vector that has room for it, and returns it.
-    fn move_row_out(&mut self, at: usize, line: Vec<T, A>) -> Vec<T, A>
-        requires within { at < row_count self.old.rows }
-        requires none { line.items ≡ [] }
-        requires room { col_count self.old.rows ≤ vec_capacity line }
-        ensures rows { self.new.rows ≡ remove self.old.rows at }
-        ensures line { slice_get self.old.rows at ≡ Some result.items }
-        ensures order { self.new.order ≡ self.old.order }
-    {
-        let rest = self.row_count - 1;
-        unweave_row(&mut self.flat, self.order, rest, self.col_count, at);
-        let line = self.flat.move_tail(rest * self.col_count, line);
-        self.row_count = rest;
-        self.col_count = cols_if_rows(rest, self.col_count);
-        line
+        Ok(cells)
     }
 }

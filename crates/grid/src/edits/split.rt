@@ -1,30 +1,10 @@
 //! Rows and columns that are split off, as a grid of their own.
-ghost use Rattle.std.specs.Prelude.{[], vec_capacity, ◌≡◌, ◌+◌, ◌-◌, ◌*◌, ◌^◌, ◌<◌, ◌≤◌, length, take, drop, OnOk, OnErr, IfOk};
+ghost use Rattle.std.specs.Prelude.{◌≡◌, ◌-◌, ◌<◌, ◌≤◌, take, drop, OnOk, OnErr, IfOk};
 ghost use Rattle.grid_base.specs.Table.{row_count, col_count};
-ghost use Rattle.grid_base.specs.Order.{storage};
 ghost use Rattle.grid.specs.Edits.{without_cols};
-ghost use Rattle.grid.specs.RowGroups.{RowsMovedToEnd};
 
-use super::{cols_if_rows, row_groups};
 use crate::Grid;
-use grid_base::{Flat, Order};
 use std::alloc::{AllocError, Allocator};
-
-// Puts the last `count` rows, of `rest` + `count` rows, behind the cells of the others.
-fn unweave_rows<T, A: Allocator>(
-    flat: &mut Flat<T, A>,
-    order: Order,
-    rest: usize,
-    cols: usize,
-    count: usize,
-)
-    requires cells { length flat.old ≡ (rest + count) * cols }
-    requires fits { (rest + count) * cols < 2 ^ 64 }
-    ensures { RowsMovedToEnd order cols rest count rest flat.old flat.new }
-{
-    let groups = row_groups(order, rest, cols, rest, count);
-    flat.unweave(groups);
-}
 
 impl<T, A: Allocator> Grid<T, A> {
     /// Takes the rows from row `at` on out, and returns them as a grid of the same order. The order stays. Where `at` is
@@ -53,9 +33,7 @@ impl<T, A: Allocator> Grid<T, A> {
         ensures err { OnErr result (self.new ≡ self.old) }
     {
         let (rows, cols) = self.size();
-        let alloc = self.flat.allocator().clone()?;
-        let room = Vec::with_capacity(alloc, (rows - at) * cols)?;
-        let cells = self.move_rows_out(at, room);
+        let cells = self.take_rows(at, rows - at)?;
         Ok(Grid::from_vec_with_order(cells, cols, self.order))
     }
 
@@ -95,24 +73,5 @@ impl<T, A: Allocator> Grid<T, A> {
             }
             Err(refused) => Err(refused),
         }
-    }
-
-    // Moves the cells of the rows from `at` on, in storage order, into an empty vector that has room for them, and returns
-    // it.
-    fn move_rows_out(&mut self, at: usize, room: Vec<T, A>) -> Vec<T, A>
-        requires point { at ≤ row_count self.old.rows }
-        requires none { room.items ≡ [] }
-        requires room { (row_count self.old.rows - at) * col_count self.old.rows
-            ≤ vec_capacity room }
-        ensures rows { self.new.rows ≡ take at self.old.rows }
-        ensures order { self.new.order ≡ self.old.order }
-        ensures cells { result.items ≡ storage self.old.order (drop at self.old.rows) }
-    {
-        let count = self.row_count - at;
-        unweave_rows(&mut self.flat, self.order, at, self.col_count, count);
-        let cells = self.flat.move_tail(at * self.col_count, room);
-        self.row_count = at;
-        self.col_count = cols_if_rows(at, self.col_count);
-        cells
     }
 }

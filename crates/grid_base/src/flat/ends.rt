@@ -42,32 +42,14 @@ impl<T, A: Allocator> Flat<T, A> {
         Ok(())
     }
 
-    /// Moves the cells from `at` on to the end of `into`, and returns it.
-    ///
-    /// Requires: `at` is at most the number of cells, and `into` has room for those behind it.
-    /// Cost: each of these cells is moved twice; no memory.
-    pub fn move_tail(&mut self, at: usize, into: Vec<T, A>) -> Vec<T, A>
+    // Moves the cells from `at` on to the end of `into`, which has room for them, and returns it. Each is moved twice.
+    pub(super) fn move_tail(&mut self, at: usize, into: Vec<T, A>) -> Vec<T, A>
         requires within { at ≤ length self.old }
         requires room { vec_len into + (length self.old - at) ≤ vec_capacity into }
         ensures cells { self.new ≡ take at self.old }
         ensures tail { result.items ≡ into.items ++ drop at self.old }
     {
         replace_with(&mut self.cells, (into, at), without_tail)
-    }
-
-    /// Cuts off the cells from `at` on, and returns them.
-    ///
-    /// Requires: `at` is at most the number of cells.
-    /// Fails: where memory for them is refused, which is asked for first; the cells are unchanged.
-    pub fn split_off(&mut self, at: usize) -> Result<Vec<T, A>, AllocError>
-    where
-        A: Clone,
-        requires within { at ≤ length self.old }
-        ensures cells { OnOk result (self.new ≡ take at self.old) }
-        ensures tail { IfOk result (λ line. line.items ≡ drop at self.old) }
-        ensures err { OnErr result (self.new ≡ self.old) }
-    {
-        self.cells.split_off(at)
     }
 }
 

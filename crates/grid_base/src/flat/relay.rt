@@ -2,7 +2,8 @@
 ghost use Rattle.std.specs.Prelude.{◌≡◌, ◌*◌, ◌^◌, ◌<◌, length};
 ghost use Rattle.grid_base.specs.Relaid.{Relaid};
 
-use super::groups::weave_cells;
+use super::groups::{unweave_cells, weave_cells};
+use super::square::transpose_square;
 use super::{Flat, Groups};
 use std::alloc::Allocator;
 
@@ -13,7 +14,8 @@ impl<T, A: Allocator> Flat<T, A> {
     ///     [1, 2, 3, 4, 5, 6]   relay(2, 3)   [1, 4, 2, 5, 3, 6]
     ///
     /// Requires: the vector has the cells of these lines.
-    /// Cost: time in the number of cells times (log2(lines) + 1) * (log2(width) + 1) at most, by rotations; no memory.
+    /// Cost: each cell of a square is swapped once at most; else time in the number of cells times
+    /// (log2(lines) + 1) * (log2(width) + 1) at most, by rotations. No memory.
     pub fn relay(&mut self, lines: usize, width: usize)
         requires cells { length self.old ≡ lines * width }
         requires fits { lines * width < 2 ^ 64 }
@@ -23,25 +25,53 @@ impl<T, A: Allocator> Flat<T, A> {
     }
 }
 
-// Each half of the lines is laid out anew; then the lines of the second half go behind those of the first.
+// How many lines to lay out first: a square where it is more than half of them, else half.
+fn first_part(lines: usize, width: usize) -> usize
+    requires more { width < lines }
+    requires some { 1 < width }
+    ensures some { 0 < result }
+    ensures less { result < lines }
+{
+    if lines / 2 < width { width } else { lines / 2 }
+}
+
+// A square is transposed. Of more lines, the first part and the rest are laid out anew, and then the lines of the rest go
+// behind those of the first part. Fewer lines go the other way.
 fn relay_cells<T>(cells: &mut [T], lines: usize, width: usize)
     requires cells { length cells.old ≡ lines * width }
     requires fits { lines * width < 2 ^ 64 }
     ensures { Relaid lines width cells.old cells.new }
 {
-    if lines < 2 {
+    if lines < 2 || width < 2 {
         return;
     }
-    let half = lines / 2;
-    let rest = lines - half;
-    let (front, back) = cells.split_at_mut(half * width);
-    relay_cells(front, half, width);
-    relay_cells(back, rest, width);
-    let groups = Groups {
-        lines: width,
-        width: half,
-        at: half,
-        count: rest,
-    };
-    weave_cells(cells, groups);
+    if lines == width {
+        transpose_square(cells, lines);
+    } else if width < lines {
+        let part = first_part(lines, width);
+        let rest = lines - part;
+        let (front, back) = cells.split_at_mut(part * width);
+        relay_cells(front, part, width);
+        relay_cells(back, rest, width);
+        let groups = Groups {
+            lines: width,
+            width: part,
+            at: part,
+            count: rest,
+        };
+        weave_cells(cells, groups);
+    } else {
+        let part = first_part(width, lines);
+        let rest = width - part;
+        let groups = Groups {
+            lines,
+            width: part,
+            at: part,
+            count: rest,
+        };
+        unweave_cells(cells, groups);
+        let (front, back) = cells.split_at_mut(lines * part);
+        relay_cells(front, lines, part);
+        relay_cells(back, lines, rest);
+    }
 }

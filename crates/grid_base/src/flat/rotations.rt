@@ -2,10 +2,14 @@
 ghost use Rattle.std.specs.Prelude.{◌≡◌, ◌<◌, ◌≤◌, ◌+◌, ◌^◌, ◌++◌, length, take, drop, reverse};
 ghost use Rattle.grid_base.specs.Blocks.{BlocksExchanged, BlockTaken, PartReversed};
 
+use std::mem;
+
 // Fewer cells are moved one by one, since a call out of line would cost more.
 const SHORT_PART: usize = 16;
 
-const SHORT_ROTATION: usize = 128;
+// `rotate_left` and `with_room` clear 4096 bytes on the stack first: a rotation takes 48 ns at least, three reversals 12.
+// At about so many bytes both take 64 to 75 ns, at cells of 8 bytes and of one.
+const FEW_BYTES: usize = 1024;
 
 // Reverses the `n` cells from `start` on.
 fn reverse_part<T>(cells: &mut [T], start: usize, n: usize)
@@ -40,7 +44,8 @@ fn reverse_at_once<T>(cells: &mut [T], start: usize, n: usize)
     cells[start..start + n].reverse();
 }
 
-// Exchanges the `first` cells from `start` on with the `second` cells behind them.
+// Exchanges the `first` cells from `start` on with the `second` cells behind them. `rotate_left` needs no room for a single
+// cell.
 pub(super) fn exchange_blocks<T>(cells: &mut [T], start: usize, first: usize, second: usize)
     requires within { start + first + second ≤ length cells.old }
     requires fits { start + first + second < 2 ^ 64 }
@@ -49,11 +54,18 @@ pub(super) fn exchange_blocks<T>(cells: &mut [T], start: usize, first: usize, se
     if first == 0 || second == 0 {
         return;
     }
-    if first + second < SHORT_ROTATION {
+    if first != 1 && second != 1 && are_few(cells, first + second) {
         exchange_by_reversals(cells, start, first, second);
     } else {
         exchange_at_once(cells, start, first, second);
     }
+}
+
+// Whether so many of the cells are moved faster without a room on the stack.
+pub(super) fn are_few<T>(cells: &[T], n: usize) -> bool
+    requires { n ≤ length cells.now }
+{
+    mem::size_of_val(&cells[..n]) < FEW_BYTES
 }
 
 fn exchange_by_reversals<T>(cells: &mut [T], start: usize, first: usize, second: usize)
@@ -66,7 +78,8 @@ fn exchange_by_reversals<T>(cells: &mut [T], start: usize, first: usize, second:
     reverse_part(cells, start, first + second);
 }
 
-fn exchange_at_once<T>(cells: &mut [T], start: usize, first: usize, second: usize)
+// In vector code. Where the one block is known to be a single cell, it is one move of the other.
+pub(super) fn exchange_at_once<T>(cells: &mut [T], start: usize, first: usize, second: usize)
     requires within { start + first + second ≤ length cells.old }
     requires fits { start + first + second < 2 ^ 64 }
     ensures { BlocksExchanged start first second cells.old cells.new }

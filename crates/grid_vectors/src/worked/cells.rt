@@ -1,7 +1,7 @@
 //! Cells that are reached in range, and edits of cells that are bytes, have no size, or own memory.
 use crate::asserts::assert_stored;
 use grid::Order::{ColumnMajor, RowMajor};
-use grid::{Grid, GridError, Order};
+use grid::{Direction, Grid, GridError, Order};
 use std::alloc::{AllocError, Global};
 use std::process::Abort;
 use std::test::Fail;
@@ -17,6 +17,28 @@ fn reaches_cells_in_range(rt: HostRuntime) -> Result<(), Fail> {
     assert_eq!(rt; (*board.get_unchecked(1, 0), board[(0, 1)]), (3, 2));
     *board.get_unchecked_mut(1, 0) = 8;
     assert_eq!(rt; board.get(1, 0), Some(&8));
+    Ok(())
+}
+
+// The calls that take a position as a pair, and the position beside one.
+#[test]
+fn reaches_cells_at_positions(rt: HostRuntime) -> Result<(), Fail> {
+    let mut board = Grid::from_vec(vec![in rt.alloc(); 1u32, 2, 3, 4]?, 2);
+    assert_eq!(rt;
+        (board.get_at((1, 0)), board.get_at((2, 0))),
+        (Some(&3), None)
+    );
+    assert_eq!(rt;
+        (board.set_at((1, 0), 9), board.set_at((2, 0), 9)),
+        (Some(3), None)
+    );
+    if let Some(cell) = board.get_mut_at((0, 1)) {
+        *cell = 8;
+    }
+    assert_eq!(rt; (board.get(1, 0), board.get(0, 1)), (Some(&9), Some(&8)));
+    assert_eq!(rt; board.beside((0, 1), Direction::Down), Some((1, 1)));
+    assert_eq!(rt; board.beside((0, 1), Direction::Up), None);
+    assert_eq!(rt; Direction::Right.step((2, 3), (0, 1)), Some((0, 2)));
     Ok(())
 }
 

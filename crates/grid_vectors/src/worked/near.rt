@@ -146,6 +146,57 @@ fn maps_each_cell_and_those_round_it(rt: HostRuntime) -> Result<(), Fail> {
     Ok(())
 }
 
+// How many of the cells round each one are above 4: of four and of eight, as the grid is and where the edges meet.
+const COUNTS: [Rows; 4] = [
+    &[&[0, 1, 1], &[1, 1, 1]],
+    &[&[1, 2, 2], &[1, 1, 1]],
+    &[&[0, 2, 2], &[2, 1, 1]],
+    &[&[4, 4, 4], &[2, 1, 1]],
+];
+
+#[test]
+fn maps_counts_round_each_cell(rt: HostRuntime) -> Result<(), Fail> {
+    let alloc = rt.alloc();
+    for order in ORDERS {
+        let grid = grid_with(alloc, TABLE, order)?;
+        let four = grid.map_counts4(|cell| 4 < *cell, |_, count| u32::from(count));
+        check_sums(&rt, alloc, four, COUNTS[0], order)?;
+        let eight = grid.map_counts8(|cell| 4 < *cell, |_, count| u32::from(count));
+        check_sums(&rt, alloc, eight, COUNTS[1], order)?;
+        let four = grid.map_wrapped_counts4(|cell| 4 < *cell, |_, count| u32::from(count));
+        check_sums(&rt, alloc, four, COUNTS[2], order)?;
+        let eight = grid.map_wrapped_counts8(|cell| 4 < *cell, |_, count| u32::from(count));
+        check_sums(&rt, alloc, eight, COUNTS[3], order)?;
+    }
+    Ok(())
+}
+
+fn low_byte(cell: &u32) -> u8 {
+    (*cell & 0xff) as u8
+}
+
+// A cell and the sum of those round it.
+fn added(cell: &u32, sum: u16) -> u32 {
+    cell.wrapping_add(u32::from(sum))
+}
+
+#[test]
+fn maps_sums_round_each_cell(rt: HostRuntime) -> Result<(), Fail> {
+    let alloc = rt.alloc();
+    for order in ORDERS {
+        let grid = grid_with(alloc, TABLE, order)?;
+        let four = grid.map_sums4(|cell| low_byte(cell), |cell, sum| added(cell, sum));
+        check_sums(&rt, alloc, four, SUMS[0], order)?;
+        let eight = grid.map_sums8(|cell| low_byte(cell), |cell, sum| added(cell, sum));
+        check_sums(&rt, alloc, eight, SUMS[1], order)?;
+        let four = grid.map_wrapped_sums4(|cell| low_byte(cell), |cell, sum| added(cell, sum));
+        check_sums(&rt, alloc, four, SUMS[2], order)?;
+        let eight = grid.map_wrapped_sums8(|cell| low_byte(cell), |cell, sum| added(cell, sum));
+        check_sums(&rt, alloc, eight, SUMS[3], order)?;
+    }
+    Ok(())
+}
+
 // A part in the corner, and one without rows.
 #[test]
 fn sub_grid_up_to_the_edges(rt: HostRuntime) -> Result<(), Fail> {

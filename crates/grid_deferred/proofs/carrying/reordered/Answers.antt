@@ -1,4 +1,4 @@
-use Rattle.grid.proofs.CellThroughLemmas.{map-reversed}
+use Rattle.grid_deferred.proofs.CellThroughLemmas.{map-reversed}
 use Rattle.grid_deferred.proofs.carrying.reordered.Goals as goal
 
 pub returns : goal.returns

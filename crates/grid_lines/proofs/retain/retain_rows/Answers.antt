@@ -2,7 +2,8 @@
 use Rattle.std.proofs.Common.{◌≡◌, ◌<◌, ◌≤◌, [], ◌∷◌, ◌∙◌, length, take, get_or, arith, rules}
 use Rattle.std.proofs.lemmas.List.{get_or_default}
 use Rattle.grid_base.proofs.StrideLemmas.{lines_in_order}
-use Rattle.grid_lines.proofs.RetainLemmas.{filtered_by, retaining_no, retaining_here, retaining_swap, retaining_all, kept_only}
+use Rattle.std.proofs.lemmas.Fn.{filter_same}
+use Rattle.grid_lines.proofs.RetainLemmas.{retaining_no, retaining_here, retaining_swap, retaining_all, kept_only}
 use Rattle.grid_lines.proofs.retain.retain_rows.Given.{F-step}
 use Rattle.grid_lines.proofs.retain.retain_rows.Goals as goal
 use Rattle.grid_lines.proofs.retain.retain_rows.Goals.{then-f, then-kept-row, else-kept-row, else-f}
@@ -42,7 +43,7 @@ returns-clause-rows g c =
     rw left (retaining_all _ _ _ _ _ _ _ i all)
 
 pub returns-clause-pure : goal.returns-clause-pure
-returns-clause-pure g c = λ test says. filtered_by _ test says _ _ _ (returns-clause-rows g c)
+returns-clause-pure g c = λ test says. filter_same _ test _ says _ _ (returns-clause-rows g c)
 
 pub returns-clause-along : goal.returns-clause-along
 returns-clause-along g c = lines_in_order _

@@ -1,7 +1,9 @@
-use Rattle.std.proofs.Common.{◌≡◌, ℕ, ◌≤◌, Some, None, ◌∙◌, subst, arith, rules}
+use Rattle.std.proofs.Common.{◌≡◌, ℕ, ◌*◌, ◌≤◌, length, ap, Some, None, ◌∙◌, subst, arith, rules}
 use Rattle.grid_base.specs.Table.{row_count, col_count}
+use Rattle.grid_base.proofs.StorageLemmas.{length-storage}
 use Rattle.grid_paths.specs.Search.{IsMarked}
 use Rattle.grid_paths.specs.Numbers.{IsScanned}
+use Rattle.grid_paths.proofs.QueueLemmas.{unreached_cells}
 use Rattle.grid_paths.proofs.StepLemmas.{none_marked}
 use Rattle.grid_paths.proofs.CountLemmas.{IsScanned-start, IsScanned-row}
 use Rattle.grid_paths.proofs.numbered.number_all.Goals as goal
@@ -13,11 +15,16 @@ loop-row-init g c =
     let blank = c.in_ok-numbers.ensures.cells.tabulated (λ r k. Some None) (λ r k p y inside at h. search rules) in
     let none : (a : ℕ × ℕ) (m : ℕ) → IsMarked u a m → ⊥ = λ a m w.
     none_marked (row_count t) (col_count t) a m (subst (λ x. IsMarked x a m) blank w) in
+    let all = length-storage c.args.grid.now.order t c.args.grid.now.table in
+    let stored = ap length c.flatten.ensures in
+    let flat = c.flatten.result.now in
+    let blanks = unreached_cells u c.in_ok-numbers.numbers.table in
+    let size : row_count u * col_count u ≡ row_count t * col_count t = ap (λ n. n * col_count u) c.in_ok-numbers.ensures.same.rows ∙ ap (λ n. row_count t * n) c.in_ok-numbers.ensures.same.cols in
     record {
       size = record { rows = c.in_ok-numbers.ensures.same.rows; cols = c.in_ok-numbers.ensures.same.cols };
       order = c.in_ok-numbers.ensures.same.order;
       scanned = IsScanned-start c.args.kind g.T.PartialEq.eq t u none;
-      room = omega arith;
+      room = omega (arith, flat.ok.0);
       end = c.rows-row-end.ensures.rows;
     }
 

@@ -1,6 +1,6 @@
-use Rattle.std.proofs.Common.{◌≡◌, ◌≤◌, length}
+use Rattle.std.proofs.Common.{◌≡◌, ◌+◌, ◌<◌, ◌^◌}
 use Rattle.grid_base.specs.Table.{row_count, col_count}
-use Rattle.grid_paths.specs.Search.{HaveOneSize}
+use Rattle.grid_paths.specs.Search.{HaveOneSize, unreached}
 use Rattle.grid_paths.specs.Numbers.{IsScanned}
 use Rattle.grid_paths.proofs.numbered.number_all.Given as goal
 
@@ -10,7 +10,7 @@ invariant-loop-row g l =
       size : HaveOneSize l.numbers.rows l.grid.rows;
       order : l.numbers.order ≡ l.grid.order;
       scanned : IsScanned l.kind g.T.PartialEq.eq l.grid.rows l.numbers.rows l.count (l.row, 0);
-      room : l.count ≤ length l.queue.items;
+      room : l.count + unreached l.numbers.rows < 2 ^ 64;
       end : l.row-end ≡ row_count l.grid.rows;
     }
 
@@ -20,6 +20,6 @@ invariant-loop-col g l =
       size : HaveOneSize l.numbers.rows l.grid.rows;
       order : l.numbers.order ≡ l.grid.order;
       scanned : IsScanned l.kind g.T.PartialEq.eq l.grid.rows l.numbers.rows l.count (l.row, l.col);
-      room : l.count ≤ length l.queue.items;
+      room : l.count + unreached l.numbers.rows < 2 ^ 64;
       end : l.col-end ≡ col_count l.grid.rows;
     }

@@ -1,27 +1,40 @@
-use Rattle.std.proofs.Common.{ℕ, sym, subst}
+use Rattle.std.proofs.Common.{ℕ, take, sym, subst, inl}
+use Rattle.std.proofs.lemmas.Result.{on_ok_weaker}
+use Rattle.grid_near.specs.declared.steps.Steps.TheVariants.{Sides, All}
 use Rattle.grid_paths.specs.Walks.{IsStep, alike}
 use Rattle.grid_paths.specs.Search.{WentRound}
-use Rattle.grid_paths.proofs.StepLemmas.{WentRound-all}
+use Rattle.grid_paths.proofs.StepLemmas.{WentRound-steps}
+use Rattle.grid_paths.proofs.AlikeLemmas.{alike_fits}
 use Rattle.grid_paths.proofs.numbered.number_around.Goals as goal
-use Rattle.std.proofs.lemmas.Result.{on_ok_weaker}
 
 pub returns-in-Sides-clause-round : goal.returns-in-Sides-clause-round
 returns-in-Sides-clause-round g c =
-    let floor = alike g.T.PartialEq.eq c.args.first.now c.args.grid.now.rows in
-    let new = c.number_sides.new in
-    subst (λ kind. WentRound (IsStep kind (c.args.row, c.args.col)) floor c.args.number c.args.numbers.now.rows c.args.queue.now.items new.numbers.rows new.queue.items) (sym c.in-Sides.is)
-    c.in_ok-number_sides.ensures.round
+    let t = c.args.grid.now.rows in
+    let eq = g.T.PartialEq.eq in
+    let floor = alike eq c.args.first.now t in
+    let at : ℕ × ℕ = (c.args.row, c.args.col) in
+    let k = c.args.number in
+    let u = c.args.numbers.now.rows in
+    let q = c.args.queue.now.items in
+    let new = c.number_each.new in
+    on_ok_weaker c.number_each.result
+    (λ w. subst (λ kind. WentRound (IsStep kind at) floor k u q new.numbers.rows new.queue.items) (sym c.in-Sides.is)
+    (WentRound-steps Sides at (take 4 c.around-at.result) floor k u q new.numbers.rows new.queue.items c.around-at.ensures.sides
+    (λ b o. inl (alike_fits eq c.args.first.now t c.args.grid.now.table c.requires.rows c.requires.cols b o)) w))
+    c.number_each.ensures.round
 
 pub returns-in-All-clause-round : goal.returns-in-All-clause-round
 returns-in-All-clause-round g c =
-    let floor = alike g.T.PartialEq.eq c.args.first.now c.args.grid.now.rows in
+    let t = c.args.grid.now.rows in
+    let eq = g.T.PartialEq.eq in
+    let floor = alike eq c.args.first.now t in
     let at : ℕ × ℕ = (c.args.row, c.args.col) in
+    let k = c.args.number in
     let u = c.args.numbers.now.rows in
     let q = c.args.queue.now.items in
-    let mid = c.number_sides.new in
-    let new = c.number_diagonals.new in
-    on_ok_weaker c.number_diagonals.result
-    (λ w.
-    subst (λ kind. WentRound (IsStep kind at) floor c.args.number u q new.numbers.rows new.queue.items) (sym c.in-All.is)
-    (WentRound-all at floor c.args.number u q mid.numbers.rows mid.queue.items new.numbers.rows new.queue.items c.in_ok-number_sides.ensures.round w))
-    c.number_diagonals.ensures.round
+    let new = c.number_each-in-All.new in
+    on_ok_weaker c.number_each-in-All.result
+    (λ w. subst (λ kind. WentRound (IsStep kind at) floor k u q new.numbers.rows new.queue.items) (sym c.in-All.is)
+    (WentRound-steps All at c.around-at.result floor k u q new.numbers.rows new.queue.items c.around-at.ensures.all
+    (λ b o. inl (alike_fits eq c.args.first.now t c.args.grid.now.table c.requires.rows c.requires.cols b o)) w))
+    c.number_each-in-All.ensures.round

@@ -1,9 +1,9 @@
-use Rattle.std.proofs.Common.{◌≡◌, ◌<◌, ◌≤◌, [], ◌∷◌, ◌++◌, Some, None, length, refl, sym, ◌∙◌, subst, arith}
+use Rattle.std.proofs.Common.{◌≡◌, ℕ, List, ap, ◌<◌, ◌≤◌, [], ◌∷◌, ◌++◌, Some, None, length, refl, sym, ◌∙◌, subst, arith}
 use Rattle.std.proofs.lemmas.Option.{slice_get_read}
 use Rattle.grid_base.specs.Table.{row_count, col_count, with_cell, InRange}
 use Rattle.grid_paths.specs.Walks.{alike}
-use Rattle.grid_paths.specs.Search.{IsAt}
-use Rattle.grid_paths.proofs.StepLemmas.{Grew, grown}
+use Rattle.grid_paths.specs.Search.{IsAt, unreached}
+use Rattle.grid_paths.proofs.StepLemmas.{Grew, grown, unreached-with_cell}
 use Rattle.grid_paths.proofs.AlikeLemmas.{set_there}
 use Rattle.grid_paths.proofs.NumberLemmas.{IsNumbering, IsNumbering-start, IsNumbering-round, IsNumbered-end}
 use Rattle.grid_paths.proofs.numbered.number_region.Goals as goal
@@ -13,7 +13,7 @@ pub loop-next-init : goal.loop-next-init
 loop-next-init g c =
     let floor = alike g.T.PartialEq.eq c.args.first.now c.args.grid.now.rows in
     let u = c.args.numbers.now.rows in
-    let q = c.args.queue.now.items in
+    let q : List (ℕ × ℕ) = [] in
     let row = c.args.row in
     let col = c.args.col in
     let k = c.args.number in
@@ -23,12 +23,16 @@ loop-next-init g c =
     let new : u1 ≡ with_cell u row col (Some k) = set_there c.set.result (InRange u row col) _ _ here c.set.ensures.in_range c.set.ensures.rows in
     let g0 : Grew u q (with_cell u row col (Some k)) (q ++ (row, col) ∷ []) (row, col) k = grown u c.args.numbers.now.table q (row, col) k here c.requires.at in
     let g1 : Grew u q u1 (q ++ (row, col) ∷ []) (row, col) k = subst (λ x. Grew u q x (q ++ (row, col) ∷ []) (row, col) k) (sym new) g0 in
-    let g2 : Grew u q u1 q1 (row, col) k = subst (λ x. Grew u q u1 x (row, col) k) (sym c.in_ok-push.ensures.items) g1 in
-    let len : length q ≡ c.len-next.result = omega arith in
+    let items : q1 ≡ (row, col) ∷ [] = c.in_ok-push.ensures.items ∙ ap (λ x. x ++ (row, col) ∷ []) c.clear.ensures.items in
+    let g2 : Grew u q u1 q1 (row, col) k = subst (λ x. Grew u q u1 x (row, col) k) (sym items) g1 in
+    let one : length q1 ≡ 1 = ap length items in
+    let fewer = unreached-with_cell u c.args.numbers.now.table q (row, col) k here c.requires.at in
+    let same = ap unreached new in
     record {
       size = record { rows = c.set.ensures.same.rows ∙ c.requires.size.rows; cols = c.set.ensures.same.cols ∙ c.requires.size.cols };
       order = c.set.ensures.same.order;
-      numbering = subst (λ n. IsNumbering c.args.kind floor (row, col) k (length q) u u1 q1 n) len (IsNumbering-start c.args.kind floor (row, col) k u q u1 q1 g2);
+      numbering = IsNumbering-start c.args.kind floor (row, col) k u q u1 q1 g2;
+      fewer = omega arith;
     }
 
 pub number_around-requires-clause-at : goal.number_around-requires-clause-at
@@ -60,8 +64,9 @@ loop-next-preserved g c =
     record {
       size = c.in_ok-number_around.ensures.size;
       order = c.in_ok-number_around.ensures.order ∙ c.loop-next.invariant.order;
-      numbering = IsNumbering-round c.args.kind floor (c.args.row, c.args.col) c.args.number (length c.args.queue.now.items) c.args.numbers.now.rows c.loop-next.numbers.rows queue.items next s c.requires.below
+      numbering = IsNumbering-round c.args.kind floor (c.args.row, c.args.col) c.args.number 0 c.args.numbers.now.rows c.loop-next.numbers.rows queue.items next s c.requires.below
           a c.number_around.new.numbers.rows c.number_around.new.queue.items place c.in_ok-number_around.ensures.round;
+      fewer = c.in_ok-number_around.ensures.round.spread.total ∙ c.loop-next.invariant.fewer;
     }
 
 pub loop-next-smaller : goal.loop-next-smaller
@@ -77,10 +82,11 @@ returns-clause-numbered g c =
     let floor = alike g.T.PartialEq.eq c.args.first.now c.args.grid.now.rows in
     let queue = c.loop-next.queue in
     let all : length queue.items ≤ c.loop-next.next = omega (arith, queue.ok.0) in
-    IsNumbered-end c.args.kind floor (c.args.row, c.args.col) c.args.number (length c.args.queue.now.items) c.args.numbers.now.rows c.loop-next.numbers.rows queue.items c.loop-next.next
+    IsNumbered-end c.args.kind floor (c.args.row, c.args.col) c.args.number 0 c.args.numbers.now.rows c.loop-next.numbers.rows queue.items c.loop-next.next
     c.loop-next.invariant.numbering c.requires.below all
 
-pub returns-clause-longer : goal.returns-clause-longer
-returns-clause-longer g c =
+pub returns-clause-fewer : goal.returns-clause-fewer
+returns-clause-fewer g c =
     let some = c.loop-next.invariant.numbering.some in
+    let fewer = c.loop-next.invariant.fewer in
     omega arith

@@ -9,7 +9,8 @@ invariant-loop-next g l =
     record {
       size : HaveOneSize l.numbers.rows l.grid.rows;
       order : l.numbers.order ≡ l.fn.numbers.order;
-      numbering : IsNumbering l.kind (alike g.T.PartialEq.eq l.first l.grid.rows) (l.fn.row, l.fn.col) l.number (length l.fn.queue.items) l.fn.numbers.rows l.numbers.rows l.queue.items l.next;
+      numbering : IsNumbering l.kind (alike g.T.PartialEq.eq l.first l.grid.rows) (l.fn.row, l.fn.col) l.number 0 l.fn.numbers.rows l.numbers.rows l.queue.items l.next;
+      fewer : unreached l.numbers.rows + length l.queue.items ≡ unreached l.fn.numbers.rows;
     }
 
 abbrev pub decreases-loop-next : goal.decreases-loop-next

@@ -20,8 +20,8 @@ loop-left-init g c =
       len = omega arith;
     }
 
-pub next_with-at-requires-clause-at : goal.next_with-at-requires-clause-at
-next_with-at-requires-clause-at g c =
+pub next_with-at-requires : goal.next_with-at-requires
+next_with-at-requires g c =
     cell_in_range c.args.steps.now.rows c.args.steps.now.table c.loop-left.at.0 c.loop-left.at.1 (Some c.loop-left.left) c.loop-left.invariant.mark
 
 pub loop-left-preserved : goal.loop-left-preserved

@@ -1,42 +1,48 @@
-use Rattle.std.proofs.Common.{◌≡◌, ℕ, ◌<◌, ◌≤◌, Some, length, get_or, refl, ◌∙◌, arith}
-use Rattle.std.specs.List.{slice_get}
-use Rattle.std.proofs.lemmas.Option.{slice_get-get_or}
-use Rattle.grid_paths.proofs.RegionLemmas.{IsFilling-start, IsFilling-set, filled-end, kept-end}
+use Rattle.std.proofs.Common.{◌≡◌, ◌<◌, ◌≤◌, length, refl, ◌∙◌, arith}
+use Rattle.std.proofs.lemmas.List.{length-map}
+use Rattle.std.proofs.lemmas.Option.{slice_get_read}
+use Rattle.grid_base.specs.Table.{row_count, col_count}
+use Rattle.grid_paths.specs.Taken.{places}
+use Rattle.grid_paths.proofs.AroundLemmas.{Contains-from_get}
+use Rattle.grid_paths.proofs.TakenLemmas.{set_is}
+use Rattle.grid_paths.proofs.FloodLemmas.{places_at}
+use Rattle.grid_paths.proofs.RegionLemmas.{IsWritten-start, IsWritten-next, IsWritten-all}
 use Rattle.grid_paths.proofs.region.fill_all.Goals as goal
 
-pub loop-at-init : goal.loop-at-init
-loop-at-init g c =
+pub loop-x-init : goal.loop-x-init
+loop-x-init g c =
     record {
-      order = refl;
-      size = record { rows = refl; cols = refl };
-      filling = IsFilling-start c.args.region.now c.args.value c.args.grid.now.rows;
+      same = record { rows = refl; cols = refl; order = refl };
+      written = IsWritten-start c.args.value (places c.args.taken.now) c.args.grid.now.rows;
     }
 
-pub loop-at-preserved : goal.loop-at-preserved
-loop-at-preserved g c =
-    let region = c.args.region.now in
-    let i = c.loop-at.at-index in
-    let lt : i < length region = c.loop-at-test.true in
-    let a : ℕ × ℕ = get_or region i (0, 0) in
-    let place : slice_get region i ≡ Some a = slice_get-get_or region i (0, 0) lt in
-    let size = c.loop-at.invariant.size in
+pub loop-x-preserved : goal.loop-x-preserved
+loop-x-preserved g c =
+    let taken = c.args.taken.now in
+    let i = c.loop-x.x-index in
+    let x = c.x-item.result in
+    let u = c.loop-x.grid in
+    let lt : i < length taken = c.loop-x-test.true in
+    let place = places_at taken i x (slice_get_read taken (length taken) i x refl lt c.x-item.is) in
+    let same = c.set.ensures.same in
+    let before = c.loop-x.invariant.same in
+    let here = c.requires x.0 (Contains-from_get (places taken) i x.0 place) in
+    let lr0 = here.0 in
+    let lc0 = here.1 in
+    let rows = before.rows in
+    let cols = before.cols in
+    let lr : (x.0).0 < row_count u.rows = omega arith in
+    let lc : (x.0).1 < col_count u.rows = omega arith in
     record {
-      order = c.set.ensures.same.order ∙ c.loop-at.invariant.order;
-      size = record { rows = c.set.ensures.same.rows ∙ size.rows; cols = c.set.ensures.same.cols ∙ size.cols };
-      filling = IsFilling-set region c.args.value c.args.grid.now.rows c.loop-at.grid.rows c.loop-at.grid.table size i c.loop-at.invariant.filling a place
-          c.set.new.self.rows c.set.result c.set.ensures.in_range c.set.ensures.rows;
+      same = record { rows = same.rows ∙ before.rows; cols = same.cols ∙ before.cols; order = same.order ∙ before.order };
+      written = IsWritten-next c.args.value (places taken) c.args.grid.now.rows u.rows u.table i c.loop-x.invariant.written x.0 place (lr, lc)
+          c.set.new.self.rows (set_is u.rows u.table (x.0).0 (x.0).1 c.args.value c.set.new.self.rows c.set.result c.set.ensures.in_range c.set.ensures.rows);
     }
 
-pub returns-clause-filled : goal.returns-clause-filled
-returns-clause-filled g c =
-    let region = c.args.region.now in
-    let i = c.loop-at.at-index in
-    let end : length region ≤ i = omega arith in
-    filled-end region c.args.value c.args.grid.now.rows c.loop-at.grid.rows i c.loop-at.invariant.filling end
-
-pub returns-clause-kept : goal.returns-clause-kept
-returns-clause-kept g c =
-    let region = c.args.region.now in
-    let i = c.loop-at.at-index in
-    let end : length region ≤ i = omega arith in
-    kept-end region c.args.value c.args.grid.now.rows c.loop-at.grid.rows i c.loop-at.invariant.filling end
+pub returns-clause-written : goal.returns-clause-written
+returns-clause-written g c =
+    let taken = c.args.taken.now in
+    let i = c.loop-x.x-index in
+    let long : length (places taken) ≡ length taken = length-map taken (λ y. y.0) in
+    let end : length (places taken) ≤ i = omega arith in
+    IsWritten-all c.args.value (places taken) c.args.grid.now.rows c.loop-x.grid.rows c.loop-x.grid.table i c.loop-x.invariant.written end

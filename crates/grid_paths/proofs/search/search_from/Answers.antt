@@ -7,7 +7,7 @@ use Rattle.grid_base.proofs.StorageLemmas.{length-storage}
 use Rattle.grid_paths.specs.Walks.{IsOpen, HasLeastFrom}
 use Rattle.grid_paths.specs.Search.{IsMarked, IsAt, IsLeft, HaveOneSize, unreached}
 use Rattle.grid_paths.proofs.SearchLemmas.{IsSearch, one_mark, HasLeastSteps-one, IsSettled-end, IsSettled-found}
-use Rattle.grid_paths.proofs.QueueLemmas.{IsTrimmed, IsTrimmed-start, IsTrimmed-round, IsTrimmed-trim, mark_at, sides_within, HasLeastFrom-trimmed, unreached_cells}
+use Rattle.grid_paths.proofs.QueueLemmas.{IsTrimmed, IsTrimmed-start, IsTrimmed-round, IsTrimmed-trim, mark_at, HasLeastFrom-trimmed, unreached_cells}
 use Rattle.grid_paths.proofs.StepLemmas.{none_at, none_marked, IsStarted, IsStarted-empty, IsStarted-reach, started_all, Spread-from_reaches}
 use Rattle.grid_paths.proofs.LeftLemmas.{IsLeft-start}
 use Rattle.grid_paths.proofs.search.search_from.Goals as goal
@@ -101,8 +101,8 @@ overflow_add-count g c =
     let low : v.0 < c.len-cells.result = v.2 in
     omega arith
 
-pub reach_around-requires-clause-at : goal.reach_around-requires-clause-at
-reach_around-requires-clause-at g c =
+pub reach_around-requires : goal.reach_around-requires
+reach_around-requires g c =
     let queue = c.loop-next.queue in
     let a = c.index.result.now in
     let lt : c.loop-next.next < length queue.items = omega (arith, queue.ok.0) in
@@ -116,40 +116,6 @@ reach_around-requires-clause-at g c =
     let lr : a.0 < row_count c.loop-next.left.rows = omega arith in
     let lc : a.1 < col_count c.loop-next.left.rows = omega arith in
     (lr, lc)
-
-pub reach_around-requires-clause-rows : goal.reach_around-requires-clause-rows
-reach_around-requires-clause-rows g c =
-    let queue = c.loop-next.queue in
-    let a = c.index.result.now in
-    let lt : c.loop-next.next < length queue.items = omega (arith, queue.ok.0) in
-    let place : IsAt queue.items c.loop-next.next a = slice_get_read queue.items (length queue.items) c.loop-next.next a refl lt c.index.ensures in
-    let v = mark_at c.args.kind c.args.floor.rows c.args.starts.now _ c.loop-next.steps.rows queue.items c.loop-next.next c.loop-next.invariant.search a place in
-    let i = cell_in_range c.loop-next.steps.rows c.loop-next.steps.table a.0 a.1 (Some v.0) v.1 in
-    let steps = c.loop-next.steps.rows in
-    let fit = (sides_within steps c.loop-next.steps.table).0 in
-    let size = c.loop-next.invariant.size in
-    let area : row_count steps * col_count steps ≡ row_count c.args.floor.rows * col_count c.args.floor.rows = ap (λ x. x * col_count steps) size.rows ∙ ap (λ x. row_count c.args.floor.rows * x) size.cols in
-    let cells = c.loop-next.invariant.cells in
-    let same = size.rows in
-    let left = c.loop-next.invariant.left.size.rows in
-    omega arith
-
-pub reach_around-requires-clause-cols : goal.reach_around-requires-clause-cols
-reach_around-requires-clause-cols g c =
-    let queue = c.loop-next.queue in
-    let a = c.index.result.now in
-    let lt : c.loop-next.next < length queue.items = omega (arith, queue.ok.0) in
-    let place : IsAt queue.items c.loop-next.next a = slice_get_read queue.items (length queue.items) c.loop-next.next a refl lt c.index.ensures in
-    let v = mark_at c.args.kind c.args.floor.rows c.args.starts.now _ c.loop-next.steps.rows queue.items c.loop-next.next c.loop-next.invariant.search a place in
-    let i = cell_in_range c.loop-next.steps.rows c.loop-next.steps.table a.0 a.1 (Some v.0) v.1 in
-    let steps = c.loop-next.steps.rows in
-    let fit = (sides_within steps c.loop-next.steps.table).1 in
-    let size = c.loop-next.invariant.size in
-    let area : row_count steps * col_count steps ≡ row_count c.args.floor.rows * col_count c.args.floor.rows = ap (λ x. x * col_count steps) size.rows ∙ ap (λ x. row_count c.args.floor.rows * x) size.cols in
-    let cells = c.loop-next.invariant.cells in
-    let same = size.cols in
-    let left = c.loop-next.invariant.left.size.cols in
-    omega arith
 
 pub loop-next-preserved : goal.loop-next-preserved
 loop-next-preserved g c =

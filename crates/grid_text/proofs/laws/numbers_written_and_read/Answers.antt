@@ -14,7 +14,7 @@ returns-clause-ok g c = λ h reads all.
     let t = c.args.grid.now.rows in
     let text_is : c.as_str.result.now ≡ numbers_text (numbers w t) = c.as_str.ensures.value ∙ c.in_ok-text.ensures in
     let due : reading_words h (lines_of c.as_str.result.now) ≡ Ok t = ap (λ x. reading_words h (lines_of x)) text_is ∙ numbers_back w h t all c.args.grid.now.table in
-    back_ok _ _ due _ (c.from_words.ensures h reads)
+    back_ok _ _ due _ (c.from_words.ensures.reads h reads)
 
 pub returns-clause-err : goal.returns-clause-err
 returns-clause-err g c = λ h reads all.
@@ -22,4 +22,4 @@ returns-clause-err g c = λ h reads all.
     let t = c.args.grid.now.rows in
     let text_is : c.as_str.result.now ≡ numbers_text (numbers w t) = c.as_str.ensures.value ∙ c.in_ok-text.ensures in
     let due : reading_words h (lines_of c.as_str.result.now) ≡ Ok t = ap (λ x. reading_words h (lines_of x)) text_is ∙ numbers_back w h t all c.args.grid.now.table in
-    back_err _ _ due _ (c.from_words.ensures h reads)
+    back_err _ _ due _ (c.from_words.ensures.reads h reads)

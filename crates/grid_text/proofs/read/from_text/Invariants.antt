@@ -7,7 +7,7 @@ use Rattle.grid_text.proofs.read.from_text.Given as goal
 abbrev pub invariant-loop-rest : goal.invariant-loop-rest
 invariant-loop-rest g l = record {
   utf8 : IsUtf8 l.rest;
-  lines : LinesSoFar chars bad_char (ReadsBy (goal.F-post g) l.read) l.fn.text l.rest l.cells.items l.line l.cols;
+  lines : LinesSoFar chars bad_char (ReadsBy (goal.F-post g) l.read) (goal.F-post g l.read) l.fn.text l.rest l.cells.items l.line l.cols;
 }
 
 abbrev pub decreases-loop-rest : goal.decreases-loop-rest

@@ -1,20 +1,24 @@
-use Rattle.std.proofs.Common.{◌*◌, [], length, ap, arith}
-use Rattle.std.proofs.lemmas.List.Folds.{length-flat_map-take}
-use Rattle.grid_base.specs.declared.order.Order.TheVariants.{RowMajor}
+use Rattle.std.proofs.Common.{◌≡◌, ◌*◌, length, sym, ◌∙◌, ap, arith}
+use Rattle.std.proofs.Math.Nat.{mul_comm}
+use Rattle.grid_base.specs.declared.order.Order.TheVariants.{ColumnMajor}
+use Rattle.grid_base.specs.Table.{row_count, col_count, concat_rows}
+use Rattle.grid_base.specs.Order.{storage}
+use Rattle.grid_base.specs.Relaid.{Relaid}
 use Rattle.grid_base.proofs.StorageLemmas.{length-storage}
+use Rattle.grid_base.proofs.RelayLemmas.{relaid_storage}
 use Rattle.grid_view.proofs.copy.clones_of.Goals as goal
 
-pub loop-r-init : goal.loop-r-init
-loop-r-init g c =
-    let view = c.args.view.now in
-    let rows = ap (λ x. x * c.size-rows.result.1) c.size-rows.ensures.rows in
-    let cols = ap (λ x. length view.rows * x) c.size-rows.ensures.cols in
-    record {
-      cells = c.in_ok-copies.ensures.items;
-      room = omega (arith, length-storage RowMajor view.rows view.table, rows, cols, c.in_ok-copies.ensures.exact);
-    }
+pub relay-requires-clause-cells : goal.relay-requires-clause-cells
+relay-requires-clause-cells g c =
+    let t = c.args.view.now.rows in
+    let is : c.from_vec-flat.result ≡ storage ColumnMajor t = c.from_vec-flat.ensures ∙ (c.in_ok-clones_in_turn.ensures ∙ ap concat_rows c.transposed.ensures.rows) in
+    let sides : c.size-rows.result.1 * c.size-rows.result.0 ≡ col_count t * row_count t = ap (λ x. x * c.size-rows.result.0) c.size-rows.ensures.cols ∙ ap (λ x. col_count t * x) c.size-rows.ensures.rows in
+    omega (arith, ap length is, length-storage ColumnMajor t c.args.view.now.table, sides, mul_comm (row_count t) (col_count t))
 
-pub push_row-requires-clause-room : goal.push_row-requires-clause-room
-push_row-requires-clause-room g c =
-    let h = c.loop-r.invariant in
-    omega (arith, ap length h.cells, length-flat_map-take (λ line. line) c.args.view.now.rows c.loop-r.r [] (omega (arith, c.size-rows.ensures.rows)), h.room)
+pub returns : goal.returns
+returns g c =
+    let t = c.args.view.now.rows in
+    let is : c.from_vec-flat.result ≡ storage ColumnMajor t = c.from_vec-flat.ensures ∙ (c.in_ok-clones_in_turn.ensures ∙ ap concat_rows c.transposed.ensures.rows) in
+    let relaid : Relaid (col_count t) (row_count t) (storage ColumnMajor t) c.relay.new.self =
+    rw (sym is) (rw (sym c.size-rows.ensures.cols) (rw (sym c.size-rows.ensures.rows) c.relay.ensures)) in
+    c.into_vec.ensures ∙ relaid_storage t c.relay.new.self c.args.view.now.table relaid

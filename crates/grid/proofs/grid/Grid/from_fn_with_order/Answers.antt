@@ -1,13 +1,13 @@
-use Rattle.std.proofs.Common.{◌<◌, ◌*◌, ◌^◌, arith, rules}
+use Rattle.std.proofs.Common.{arith, rules}
 use Rattle.grid_base.specs.Table.{IsSize}
+use Rattle.grid_base.proofs.ViewLemmas.{FitsUsize-size}
 use Rattle.grid.proofs.CellCallLemmas.{callable_positions, answers_made, seen_made}
 use Rattle.grid.proofs.grid.Grid.from_fn_with_order.Goals as goal
 
 pub from_fn-requires-clause-calls : goal.from_fn-requires-clause-calls
 from_fn-requires-clause-calls g c =
     let size : IsSize c.args.rows c.args.cols = record { has_cols = λ _. omega arith; has_rows = λ _. omega arith } in
-    let below : c.args.rows * c.args.cols < 2 ^ 64 = search rules in
-    callable_positions c.args.order c.args.rows c.args.cols size _ _ (omega arith) (omega arith) below c.requires
+    callable_positions c.args.order c.args.rows c.args.cols size _ _ (FitsUsize-size _ _ size (search rules)) c.requires
 
 pub returns-clause-made : goal.returns-clause-made
 returns-clause-made g c = seen_made c.args.order c.args.rows c.args.cols _ _ (omega arith) (omega arith)

@@ -1,15 +1,10 @@
 use Rattle.std.proofs.Common.{rules, ◌∙◌, ap}
 use Rattle.grid_near.specs.Neighbors.{neighbors4}
 use Rattle.grid.proofs.NearLemmas.{gives_neighbors4}
-use Rattle.grid.proofs.SeenLemmas.{seen_row_in, seen_col_in}
 use Rattle.grid.proofs.grid.Grid.neighbors4.Goals as goal
 
 pub neighbors_of-requires : goal.neighbors_of-requires
-neighbors_of-requires g c = record {
-  size = rw c.as_slice.ensures c.self.inside.fits;
-  row_in = seen_row_in _ _ _ _ _ c.self.inside.fits _ _ c.self.view_is c.requires;
-  col_in = seen_col_in _ _ _ _ _ c.self.inside.fits _ _ c.self.view_is c.requires;
-}
+neighbors_of-requires g c = record { size = rw c.as_slice.ensures c.self.inside.fits }
 
 pub returns-clause-gives : goal.returns-clause-gives
 returns-clause-gives g c = (

@@ -21,7 +21,7 @@ returns-then-count-eq0-clause-fails g c =
     let same : (row_count c.args.self.now.rows + padding_count c.args.count c.args.self.now.rows) * col_count c.args.self.now.rows ≡ (row_count c.args.self.now.rows + 0) * col_count c.args.self.now.rows =
     ap (λ x. (row_count c.args.self.now.rows + x) * col_count c.args.self.now.rows) (padding_none c.args.count c.args.self.now.rows none) in
     record {
-      too_large = (λ h. absurd (cc h), λ large. absurd (omega (arith, large, same, c.size-rows.ensures.below)));
+      too_large = (λ h. absurd (cc h), λ large. absurd (omega (arith, large, same, c.args.self.now.fits.cells)));
       none = λ e. (search rules);
       unchanged = (search rules);
     }

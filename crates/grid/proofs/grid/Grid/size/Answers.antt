@@ -1,5 +1,5 @@
 use Rattle.std.proofs.Common.{sym}
-use Rattle.grid.proofs.SeenLemmas.{seen_rows, seen_cols, seen_below}
+use Rattle.grid.proofs.SeenLemmas.{seen_rows, seen_cols}
 use Rattle.grid.proofs.grid.Grid.size.Goals as goal
 
 pub returns-clause-rows : goal.returns-clause-rows
@@ -7,6 +7,3 @@ returns-clause-rows g c = sym (seen_rows _ _ _ _ _ c.self.inside.fits c.self.vie
 
 pub returns-clause-cols : goal.returns-clause-cols
 returns-clause-cols g c = sym (seen_cols _ _ _ _ _ c.self.inside.fits c.self.view_is)
-
-pub returns-clause-below : goal.returns-clause-below
-returns-clause-below g c = seen_below _ _ _ _ _ c.self.inside.fits c.self.view_is

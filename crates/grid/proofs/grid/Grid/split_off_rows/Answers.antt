@@ -1,23 +1,33 @@
-use Rattle.std.proofs.Common.{◌≡◌, ◌<◌, ◌∙◌, sym, ap, arith, length, drop, length-drop}
+use Rattle.std.proofs.Common.{◌≡◌, ◌<◌, ◌-◌, ◌∙◌, sym, ap, arith, length, take, drop, length-drop}
 use Rattle.grid_base.specs.Table.{row_count, col_count}
 use Rattle.grid_base.specs.Order.{storage}
-use Rattle.grid.proofs.SplitLemmas.{can_cut_again, same_cut, IsTable-tail, cols-tail}
+use Rattle.grid.specs.Edits.{without_rows}
+use Rattle.grid.proofs.SplitLemmas.{can_cut_again, same_cut, IsTable-tail, cols-tail, all_taken, take_without}
 use Rattle.grid.proofs.grid.Grid.split_off_rows.Goals as goal
 
 pub from_vec_with_order-requires : goal.from_vec_with_order-requires
 from_vec_with_order-requires g c =
     let old = c.args.self.now in
-    can_cut_again old.order (drop c.args.at old.rows) _ _ (IsTable-tail old.rows old.table c.args.at c.requires.point) (ap length c.move_rows_out-cells.ensures.cells)
+    let cells = c.in_ok-cells.ensures.cells ∙ ap (λ x. storage old.order (take (x - c.args.at) (drop c.args.at old.rows))) c.size-rows.ensures.rows in
+    let tail = cells ∙ ap (storage old.order) (all_taken old.rows old.table c.args.at c.requires.point) in
+    can_cut_again old.order (drop c.args.at old.rows) _ _ (IsTable-tail old.rows old.table c.args.at c.requires.point) (ap length tail)
     (λ some. cols-tail old.rows old.table c.args.at c.requires.point some ∙ sym c.size-rows.ensures.cols)
+
+pub returns-clause-rows : goal.returns-clause-rows
+returns-clause-rows g c =
+    let old = c.args.self.now in
+    c.in_ok-cells.ensures.rows ∙ (ap (λ x. without_rows c.args.at (x - c.args.at) old.rows) c.size-rows.ensures.rows ∙ sym (take_without c.args.at old.rows c.requires.point))
 
 pub returns-clause-tail : goal.returns-clause-tail
 returns-clause-tail g c =
     let old = c.args.self.now in
-    let order : c.self-2.inside.order ≡ old.order = ap (λ x. x.order) c.self-2.view_is ∙ c.move_rows_out-cells.ensures.order in
+    let behind = c.in_ok-cells.ensures.cells ∙ ap (λ x. storage old.order (take (x - c.args.at) (drop c.args.at old.rows))) c.size-rows.ensures.rows in
+    let tail = behind ∙ ap (storage old.order) (all_taken old.rows old.table c.args.at c.requires.point) in
+    let order : c.self.inside.order ≡ old.order = ap (λ x. x.order) c.self.view_is ∙ c.in_ok-cells.ensures.order in
     let cells : storage old.order c.from_vec_with_order.result.rows ≡ storage old.order (drop c.args.at old.rows) =
-    ap (λ o. storage o c.from_vec_with_order.result.rows) (sym order) ∙ (c.from_vec_with_order.ensures.storage ∙ c.move_rows_out-cells.ensures.cells) in
+    ap (λ o. storage o c.from_vec_with_order.result.rows) (sym order) ∙ (c.from_vec_with_order.ensures.storage ∙ tail) in
     same_cut old.order (drop c.args.at old.rows) c.from_vec_with_order.result.rows _ (IsTable-tail old.rows old.table c.args.at c.requires.point) c.from_vec_with_order.result.table cells
-    (λ some. c.from_vec_with_order.ensures.cols (λ none. some (sym (ap length c.move_rows_out-cells.ensures.cells) ∙ none)))
+    (λ some. c.from_vec_with_order.ensures.cols (λ none. some (sym (ap length tail) ∙ none)))
     (λ some. cols-tail old.rows old.table c.args.at c.requires.point some ∙ sym c.size-rows.ensures.cols)
 
 pub returns-clause-tail_rows : goal.returns-clause-tail_rows

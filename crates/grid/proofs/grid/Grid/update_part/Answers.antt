@@ -20,14 +20,15 @@ update_in_row-requires-clause-calls g c =
     c.requires.calls row k p
     ((in_part_within c.args.at c.args.size row k).1 (record { row_from = omega (arith, c.loop-row.auto.row); row_before = omega (arith, c.loop-row-test.true); col_from = ge; col_before = lt }))
     (omega (arith, c.requires.rows_in, c.loop-row-test.true), omega (arith, c.requires.cols_in, lt))
-    (omega (arith, c.size-size.ensures.rows)) (omega (arith, c.size-size.ensures.cols))
     (sym (h.others row k (λ w. omega (arith, w.row_before))) ∙ is)
 
 pub loop-row-preserved : goal.loop-row-preserved
 loop-row-preserved g c = updated_row _ c.args.at.0 c.loop-row.row c.args.at.1 (c.args.at.1 + c.args.size.1) c.args.self.now c.loop-row.self c.update_in_row.new.self (omega (arith, c.loop-row.auto.row)) c.loop-row.invariant c.update_in_row.ensures
 
-pub returns-clause-cells : goal.returns-clause-cells
-returns-clause-cells g c =
+pub returns-clause-answers : goal.returns-clause-answers
+returns-clause-answers g c =
     let end : c.loop-row.row ≡ c.args.at.0 + c.args.size.0 = omega (arith, c.loop-row-test.false, c.loop-row.auto.row, c.loop-row.auto.row-end) in
-    updated_part (λ f at p y. goal.F-post g f at p y) c.args.f c.args.at c.args.size c.args.self.now c.loop-row.self
-    (subst (λ x. CellsUpdated (IsWithin c.args.at.0 x c.args.at.1 (c.args.at.1 + c.args.size.1)) (λ at p y. goal.F-post g c.args.f at p y) c.args.self.now c.loop-row.self) end c.loop-row.invariant)
+    subst (λ x. CellsUpdated (IsWithin c.args.at.0 x c.args.at.1 (c.args.at.1 + c.args.size.1)) (λ at p y. goal.F-post g c.args.f at p y) c.args.self.now c.loop-row.self) end c.loop-row.invariant
+
+pub returns-clause-cells : goal.returns-clause-cells
+returns-clause-cells g c = updated_part (λ f at p y. goal.F-post g f at p y) c.args.f c.args.at c.args.size c.args.self.now c.loop-row.self (returns-clause-answers g c)

@@ -1,18 +1,24 @@
-use Rattle.std.proofs.Common.{rules, ◌≡◌, ◌*◌, ◌<◌, ◌-◌, ◌/◌, ◌^◌, length, refl, arith}
-use Rattle.grid_base.proofs.WeaveLemmas.{whole_of_halves}
-use Rattle.grid_base.proofs.RelayLemmas.{relaid_by_halves}
+use Rattle.std.proofs.Common.{◌≡◌, ◌*◌, ◌+◌, ◌-◌, length, refl, sym, ap, arith}
+use Rattle.std.proofs.Math.Nat.{add-mul}
+use Rattle.grid_base.proofs.RelayLemmas.{relaid_by_halves, relaid_back}
 use Rattle.grid_base.proofs.flat.relay.+relay_cells.Goals as goal
 
-pub relay_cells-requires-2 : goal.relay_cells-requires-2
-relay_cells-requires-2 g t c κs within =
-    let whole = whole_of_halves c.args.lines c.args.width in
-    let rest : c.args.lines - c.args.lines / 2 < t = omega arith in
-    let cells : length c.split_at_mut-front.result.1.now ≡ (c.args.lines - c.args.lines / 2) * c.args.width = omega (arith, whole, c.split_at_mut-front.ensures.back_len, c.requires.cells) in
-    let small : (c.args.lines - c.args.lines / 2) * c.args.width < 2 ^ 64 = omega (arith, whole, c.requires.fits) in
-    search rules
+pub returns-then-width-lines : goal.returns-then-width-lines
+returns-then-width-lines g t c =
+    let part = c.first_part-part.result in
+    let all : part + (c.args.lines - part) ≡ c.args.lines = omega (arith, c.first_part-part.ensures.less) in
+    let split : part * c.args.width + (c.args.lines - part) * c.args.width ≡ c.args.lines * c.args.width = omega (arith, add-mul part (c.args.lines - part) c.args.width, ap (λ x. x * c.args.width) all) in
+    relaid_by_halves _ part (c.args.lines - part) _ _ _ _ _ _ _ _ all (omega (arith, c.split_at_mut-front.ensures.front_len))
+    (omega (arith, split, c.split_at_mut-front.ensures.back_len, c.requires.cells)) c.split_at_mut-front.ensures.value refl c.relay_cells.ensures c.relay_cells-then-width-lines.ensures c.weave_cells.ensures
 
-pub returns : goal.returns
-returns g t c =
-    let whole = whole_of_halves c.args.lines c.args.width in
-    relaid_by_halves _ (c.args.lines / 2) (c.args.lines - c.args.lines / 2) _ _ _ _ _ _ _ _ (omega arith) (omega (arith, c.split_at_mut-front.ensures.front_len))
-    (omega (arith, whole, c.split_at_mut-front.ensures.back_len, c.requires.cells)) c.split_at_mut-front.ensures.value refl c.relay_cells.ensures c.relay_cells-2.ensures c.weave_cells.ensures
+pub returns-else-width-lines : goal.returns-else-width-lines
+returns-else-width-lines g t c =
+    let part = c.first_part-part-else-width-lines.result in
+    let all : part + (c.args.width - part) ≡ c.args.width = omega (arith, c.first_part-part-else-width-lines.ensures.less) in
+    let split : part * c.args.lines + (c.args.width - part) * c.args.lines ≡ c.args.width * c.args.lines = omega (arith, add-mul part (c.args.width - part) c.args.lines, ap (λ x. x * c.args.lines) all) in
+    let first = relaid_back _ _ _ _ c.relay_cells-else-width-lines.ensures in
+    let second = relaid_back _ _ _ _ c.relay_cells-else-width-lines-2.ensures in
+    relaid_back _ _ _ _ (relaid_by_halves _ part (c.args.width - part) _ _ _ _ _ _ _ _ all
+    (omega (arith, c.split_at_mut-front-else-width-lines.ensures.front_len, c.relay_cells-else-width-lines.ensures.lengths))
+    (omega (arith, split, c.split_at_mut-front-else-width-lines.ensures.back_len, c.relay_cells-else-width-lines-2.ensures.lengths, c.requires.cells, c.unweave_cells.ensures.lengths))
+    refl c.split_at_mut-front-else-width-lines.ensures.value first second c.unweave_cells.ensures)

@@ -13,9 +13,9 @@ loop-line-init g c =
     let groups = c.args.groups in
     let row = c.args.row in
     let room = c.args.room in
-    let reach = first_line groups.lines groups.width c.requires.some in
+    let reach = first_line groups.lines groups.width c.requires.row.lines in
     let within = groups.within in
-    let cells = c.requires.cells in
+    let cells = c.requires.row.cells in
     let count_0 = row.ok.0 in
     let none : 0 * groups.count ≡ 0 = omega arith in
     let fits : groups.at ≤ length row.items = omega arith in
@@ -23,8 +23,8 @@ loop-line-init g c =
     ap (λ n. with_waiting row.items room.items groups.at n) none ∙ none_waits row.items room.items groups.at fits in
     record {
       run = subst (λ xs. Unweaving groups.lines groups.width groups.at groups.count 0 groups.at row.items xs) (sym now) (unweaving_none _ _ _ _ _ within);
-      front = filled_part row.filled 0 row.len _ _ (omega arith) (omega arith) c.requires.full;
-      back = filled_part row.filled 0 row.len _ _ (omega arith) (omega arith) c.requires.full;
+      front = filled_part row.filled 0 row.len _ _ (omega arith) (omega arith) c.requires.row.full;
+      back = filled_part row.filled 0 row.len _ _ (omega arith) (omega arith) c.requires.row.full;
       waits = λ k p q. absurd (omega arith);
       row = same_places row;
       room = same_places room;
@@ -38,15 +38,15 @@ move_within-requires g c =
     let few = c.loop-line.line * groups.count in
     let start = c.loop-line.start in
     let row0 = c.loop-line.row in
-    let rowm = c.move_run.new.self in
+    let rowm = c.move_group.new.from in
     let line : c.loop-line.line + 1 ≤ groups.lines = omega arith in
     let most : few + groups.count ≤ groups.lines * groups.count = omega (arith, mul-le-mul_right groups.count line) in
-    let cells = c.requires.cells in
+    let cells = c.requires.row.cells in
     let least = c.min-stretch.ensures in
     let long_0 = inv.row.count in
-    let long_1 = c.move_run.ensures.places.0.count in
+    let long_1 = c.move_group.ensures.places.0.count in
     let place = inv.place (omega arith) in
-    (omega arith, omega arith, filled_above row0.filled rowm.filled _ _ _ _ (omega arith) c.move_run.ensures.left.1 (filled_part row0.filled (start + few) row0.len _ _ (omega arith) (omega arith) inv.back))
+    (omega arith, omega arith, filled_above row0.filled rowm.filled _ _ _ _ (omega arith) c.move_group.ensures.left.1 (filled_part row0.filled (start + few) row0.len _ _ (omega arith) (omega arith) inv.back))
 
 pub loop-line-preserved : goal.loop-line-preserved
 loop-line-preserved g c =
@@ -62,15 +62,15 @@ loop-line-preserved g c =
     let place = inv.place (omega arith) in
     let here : start ≡ groups.at + c.loop-line.line * groups.width = omega arith in
     let least = c.min-stretch.ensures in
-    let cells = c.requires.cells in
+    let cells = c.requires.row.cells in
     let room_fits = c.requires.room in
-    let took = c.move_run.ensures in
+    let took = c.move_group.ensures in
     let moved = c.move_within.ensures in
     let row0 = c.loop-line.row in
-    let rowm = c.move_run.new.self in
+    let rowm = c.move_group.new.from in
     let row2 = c.move_within.new.self in
     let room0 = c.loop-line.room in
-    let room1 = c.move_run.new.other in
+    let room1 = c.move_group.new.other in
     let count_0 = row0.ok.0 in
     let count_1 = row2.ok.0 in
     let count_2 = room0.ok.0 in
@@ -100,14 +100,14 @@ returns-clause-row g c =
     let groups = c.args.groups in
     let all : c.loop-line.line ≡ groups.lines = omega arith in
     let same = ap (λ v. v * groups.width) all in
-    let place = inv.place c.requires.some in
+    let place = inv.place c.requires.row.lines in
     let end : c.loop-line.start ≡ groups.lines * groups.width = omega arith in
-    let put = c.move_run-2.ensures in
-    let cells = c.requires.cells in
+    let put = c.move_run.ensures in
+    let cells = c.requires.row.cells in
     let long_0 = inv.row.count in
     let long_1 = put.places.1.count in
     let row0 = c.loop-line.row in
-    let row3 = c.move_run-2.new.other in
+    let row3 = c.move_run.new.other in
     record {
       places = places_then inv.row put.places.1;
       full = filled_join row3.filled _ (groups.lines * groups.width) _ (filled_below row0.filled row3.filled _ _ _ _ (omega arith) put.filled.1 (filled_part row0.filled 0 c.loop-line.start _ _ (omega arith) (omega arith) inv.front))
@@ -120,12 +120,12 @@ returns-clause-woven g c =
     let groups = c.args.groups in
     let all : c.loop-line.line ≡ groups.lines = omega arith in
     let same = ap (λ v. v * groups.width) all in
-    let place = inv.place c.requires.some in
+    let place = inv.place c.requires.row.lines in
     let end : c.loop-line.start ≡ groups.lines * groups.width = omega arith in
-    let put = c.move_run-2.ensures in
+    let put = c.move_run.ensures in
     let row = c.loop-line.row.items in
     let room = c.loop-line.room.items in
-    let now : with_waiting row room c.loop-line.start (c.loop-line.line * groups.count) ≡ c.move_run-2.new.other.items =
+    let now : with_waiting row room c.loop-line.start (c.loop-line.line * groups.count) ≡ c.move_run.new.other.items =
     ap (λ s. with_waiting row room s (c.loop-line.line * groups.count)) end
     ∙ (ap (λ v. with_waiting row room (groups.lines * groups.width) (v * groups.count)) all ∙ sym put.items) in
     subst (λ xs. Woven groups.lines groups.width groups.at groups.count xs c.args.row.items) now

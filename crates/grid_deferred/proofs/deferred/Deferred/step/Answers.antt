@@ -4,9 +4,8 @@ use Rattle.grid_commands.specs.declared.command.Axis.TheVariants.{Row, Col}
 use Rattle.grid_commands.specs.Command.{command_value, apply}
 use Rattle.grid.specs.Step.{step_rows, RowsAreKnown}
 use Rattle.grid_deferred.specs.Deferred.{base, shown}
-use Rattle.grid_deferred.proofs.PendingLemmas.{pending-then, shown-then, reply-then, pending-still, applies-none, none_applied, get-rows, line-rows}
+use Rattle.grid_deferred.proofs.PendingLemmas.{always_ok, pending-then, shown-then, reply-then, pending-still, applies-none, none_applied, get-rows, line-rows}
 use Rattle.grid_deferred.proofs.deferred.Deferred.step.Goals as goal
-use Rattle.grid.proofs.LineEditLemmas.{always_ok}
 use Rattle.grid.proofs.TransposedEditLemmas.{either_way}
 
 pub returns-in-Apply-clause-stepped : goal.returns-in-Apply-clause-stepped

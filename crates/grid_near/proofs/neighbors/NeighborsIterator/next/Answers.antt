@@ -3,6 +3,7 @@ use Rattle.std.proofs.lemmas.Bool.{cases_lt}
 use Rattle.grid_near.specs.Neighbors.{step_count}
 use Rattle.grid_near.specs.Around.{strided_cell, cells_from}
 use Rattle.grid_near.proofs.AroundLemmas.{box_within, inner_item}
+use Rattle.grid_near.proofs.NeighborLemmas.{few_left, goes_on}
 use Rattle.grid_near.proofs.neighbors.NeighborsIterator.next.Goals as goal
 
 later : (passed tried n next : ℕ) → passed < n → passed ≤ tried → tried ≤ next → (tried < n → tried < next) → passed + 1 ≤ next
@@ -28,8 +29,6 @@ bounds-self-inside-place g c = within g c
 pub invariant_of-self-else-self : goal.invariant_of-self-else-self
 invariant_of-self-else-self g c = record {
   holds = c.self.invariant.holds;
-  row_in = c.self.invariant.row_in;
-  col_in = c.self.invariant.col_in;
   inside = c.self.invariant.inside;
   first_is = c.self.invariant.first_is;
   behind = λ e. later c.self.inside.passed c.self.inside.tried (step_count c.self.inside.kind) c.find_from-tried.result.0 (omega arith) (c.self.invariant.behind e) c.find_from-tried.ensures.keeps c.find_from-tried.ensures.on;
@@ -49,4 +48,16 @@ returns-then-self-clause-steps g c =
     ∙ ap (λ b. ((s.at.0 + i - 1, s.at.1 + j - 1), slice_index_or s.cells.now (s.first + i * s.strides.0 + j * s.strides.1) c.index-self-place.result) ∷ cells_from f s.kind s.at (cond b (s.passed + 1) s.tried)) (sym c.if-self.true))))
 
 pub returns-then-self-clause-goes : goal.returns-then-self-clause-goes
-returns-then-self-clause-goes g c = let h = returns-then-self-clause-steps g c in search rules
+returns-then-self-clause-goes g c =
+    let s = c.self.inside in
+    let few : length c.args.self.now ≤ 8 = omega (arith, few_left (strided_cell s.cells.now s.size s.strides) s.kind s.at (cond s.inner s.passed s.tried), ap length c.self.view_is) in
+    goes_on _ _ _ few (returns-then-self-clause-steps g c)
+
+pub returns-else-self-clause-steps : goal.returns-else-self-clause-steps
+returns-else-self-clause-steps g c = search rules
+
+pub returns-else-self-clause-goes : goal.returns-else-self-clause-goes
+returns-else-self-clause-goes g c =
+    let s = c.self.inside in
+    let few : length c.args.self.now ≤ 8 = omega (arith, few_left (strided_cell s.cells.now s.size s.strides) s.kind s.at (cond s.inner s.passed s.tried), ap length c.self.view_is) in
+    goes_on _ _ _ few (returns-else-self-clause-steps g c)

@@ -1,7 +1,7 @@
 use Rattle.std.proofs.Common.{◌<◌, ◌*◌, ◌∙◌, ap, arith, length}
 use Rattle.grid_base.proofs.StrideLemmas.{lines_in_order, lines_in_reverse}
 use Rattle.grid_view.proofs.LineLemmas.{row_is, row_within, row_some}
-use Rattle.grid_view.proofs.SeenLemmas.{seen_rows, seen_cols, cols_small}
+use Rattle.grid_view.proofs.SeenLemmas.{seen_rows}
 use Rattle.grid_view.proofs.view.GridView.iter_row.Goals as goal
 
 pub number-requires : goal.number-requires
@@ -30,6 +30,6 @@ returns g c =
         rest,
         lines_in_order _,
         lines_in_reverse _,
-        omega (arith, ap length rest, c.args.self.now.table.even c.args.r c.requires, seen_cols _ _ _ c.self.inside.fits _ c.self.view_is, cols_small _ _ _ c.self.inside.fits),
+        omega (arith, ap length rest, c.args.self.now.table.even c.args.r c.requires, c.args.self.now.fits.cols),
       );
     }

@@ -7,6 +7,3 @@ returns-clause-rows g c = sym (seen_rows _ _ _ c.self.inside.fits _ c.self.view_
 
 pub returns-clause-cols : goal.returns-clause-cols
 returns-clause-cols g c = sym (seen_cols _ _ _ c.self.inside.fits _ c.self.view_is)
-
-pub returns-clause-below : goal.returns-clause-below
-returns-clause-below g c = rw (seen_rows _ _ _ c.self.inside.fits _ c.self.view_is, seen_cols _ _ _ c.self.inside.fits _ c.self.view_is) c.self.inside.fits.below

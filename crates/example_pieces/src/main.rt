@@ -1,0 +1,68 @@
+//! Falling pieces: reads a board of `#` and `.` from standard input, takes its full rows out, and prints it with as many
+//! free rows on top. A board that can't be read ends it with status 2, and says the line and column.
+#![tactic(auto)]
+
+use grid::Grid;
+use grid_lines::retain_rows;
+use grid_text::{from_text, to_text};
+use std::alloc::Global;
+use std::io;
+use std::process::ExitCode;
+
+// Reads a board: true where there is a piece.
+fn board(alloc: Global, text: &str) -> anyhow::Result<Grid<bool>> {
+    let board = from_text(alloc, text, |c| match c {
+        '#' => Some(true),
+        '.' => Some(false),
+        _ => None,
+    })?;
+    Ok(board)
+}
+
+// Takes the full rows out, and returns the board with as many free rows on top.
+fn settled(alloc: Global, mut board: Grid<bool>) -> anyhow::Result<Grid<bool>> {
+    let (rows, cols) = board.size();
+    retain_rows(&mut board, |row| 0 < row.filter(|cell| !**cell).count());
+    let mut settled: Grid<bool> = Grid::new(alloc, rows.saturating_sub(board.rows()), cols)?;
+    if board.is_empty() || settled.fits_row(board.cols()) {
+        settled.append_rows(board)?;
+    }
+    Ok(settled)
+}
+
+fn run<R: Input + Print + AllocGlobal>(rt: &R) -> anyhow::Result<()> {
+    let text = io::read_to_string(rt.alloc(), rt.reader())?;
+    let board = settled(rt.alloc(), board(rt.alloc(), text.as_str())?)?;
+    let text = to_text(rt.alloc(), &board, |cell| if *cell { '#' } else { '.' })?;
+    print!(rt; "{text}")?;
+    Ok(())
+}
+
+fn main(rt: HostRuntime) -> ExitCode {
+    match run(&rt) {
+        Ok(()) => ExitCode::from(0),
+        Err(error) => {
+            let _ = eprintln!(rt; "{error}");
+            ExitCode::from(2)
+        }
+    }
+}
+
+#[cfg(test)]
+mod tests {
+    use super::*;
+    use std::process::Abort;
+    use std::test::Fail;
+
+    #[test]
+    fn bad_input_tells_its_line_and_column(rt: HostRuntime) -> Result<(), Fail> {
+        match board(rt.alloc(), "#.\n#x\n") {
+            Ok(_) => assert!(rt; false),
+            Err(error) => {
+                let text = format!(in rt.alloc(); "{error}")?;
+                assert_eq!(rt; text.as_str(), "line 2, column 2: 'x' is no cell");
+            }
+        }
+        Ok(())
+    }
+}

@@ -1,0 +1,55 @@
+//! A sheet of integers: reads its rows from standard input, sorts them by their last number, the largest first, and
+//! prints it with a total under each column and behind each row. A sheet that can't be read ends it with status 2.
+#![tactic(auto)]
+
+use anyhow::Result;
+use grid::{Grid, GridLineIter};
+use grid_lines::sort_rows_by_key;
+use grid_text::from_words;
+use std::alloc::Global;
+use std::cmp::Reverse;
+use std::io;
+use std::process::ExitCode;
+
+// Adds a row of the totals of the columns, and then a column of those of the rows.
+fn with_totals(alloc: Global, mut sheet: Grid<i64>) -> Result<Grid<i64>> {
+    let below: Vec<i64> = sheet
+        .iter_cols()
+        .map(|line| line.fold(0i64, |sum, x| sum.wrapping_add(*x)))
+        .collect(alloc)?;
+    if !below.is_empty() && sheet.fits_row(below.len()) {
+        sheet.push_row(below)?;
+    }
+    let behind: Vec<i64> = sheet
+        .iter_rows()
+        .map(|line| line.fold(0i64, |sum, x| sum.wrapping_add(*x)))
+        .collect(alloc)?;
+    if !behind.is_empty() && sheet.fits_col(behind.len()) {
+        sheet.push_col(behind)?;
+    }
+    Ok(sheet)
+}
+
+// The last number of a row, or 0 where there is none.
+fn last(mut row: GridLineIter<'_, i64>) -> i64 {
+    row.next_back().copied().unwrap_or(0)
+}
+
+fn run<R: Input + Print + AllocGlobal>(rt: &R) -> Result<()> {
+    let text = io::read_to_string(rt.alloc(), rt.reader())?;
+    let mut sheet = from_words(rt.alloc(), text.as_str(), |word| word.parse::<i64>().ok())?;
+    sort_rows_by_key(&mut sheet, |row| Reverse(last(row)))?;
+    let sheet = with_totals(rt.alloc(), sheet)?;
+    println!(rt; "{}", sheet.pretty(rt.alloc(), None)?)?;
+    Ok(())
+}
+
+fn main(rt: HostRuntime) -> ExitCode {
+    match run(&rt) {
+        Ok(()) => ExitCode::from(0),
+        Err(error) => {
+            let _ = eprintln!(rt; "{error}");
+            ExitCode::from(2)
+        }
+    }
+}

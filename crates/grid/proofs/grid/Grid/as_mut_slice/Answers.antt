@@ -1,0 +1,10 @@
+use Rattle.std.proofs.Common.{◌∙◌, sym, refl}
+use Rattle.grid.proofs.SeenLemmas.{seen_storage}
+use Rattle.grid.proofs.SeenIteratorLemmas.{seen_refilled, seen_keeps}
+use Rattle.grid.proofs.grid.Grid.as_mut_slice.Goals as goal
+
+pub returns : goal.returns
+returns g c = (
+  (refl, λ w. seen_refilled _ _ _ _ _ c.self.inside.fits c.self.view_is w _),
+  record { writes_back = tt; keeps = seen_keeps _ _ _ _ _ c.self.inside.fits c.self.view_is; cells = c.as_mut_slice.ensures.cells ∙ sym (seen_storage _ _ _ _ _ c.self.inside.fits c.self.view_is) },
+)

@@ -1,0 +1,12 @@
+use Rattle.std.proofs.Common.{◌<◌, [], Some, sym, ◌∙◌, ap, arith}
+use Rattle.std.proofs.lemmas.Option.{slice_get-get_or}
+use Rattle.grid_base.specs.Table.{row_count}
+use Rattle.grid.proofs.EditViewLemmas.{storage-one}
+use Rattle.grid.proofs.grid.Grid.remove_row.Goals as goal
+
+pub returns-clause-line : goal.returns-clause-line
+returns-clause-line g c =
+    let old = c.args.self.now in
+    let within : c.args.at < row_count old.rows = omega (arith, c.rows.ensures.rows, c.if-at-rows.false) in
+    slice_get-get_or old.rows c.args.at [] within
+    ∙ ap Some (sym (c.in_ok-line.ensures.cells ∙ storage-one old.order old.rows c.args.at old.table within))

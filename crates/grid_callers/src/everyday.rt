@@ -1,0 +1,186 @@
+//! What an application writes first: code without contracts, with no proof file.
+ghost use Rattle.grid_base.specs.Table.{InRange};
+
+use grid::{Direction, Grid, GridError, GridLineIter};
+use std::alloc::{AllocError, Global};
+
+/// Returns the sum of all cells, read by index in nested loops.
+pub fn total(board: &Grid<u32>) -> u64 {
+    let mut sum = 0u64;
+    for row in 0..board.rows() {
+        for col in 0..board.cols() {
+            sum = sum.saturating_add(u64::from(board[(row, col)]));
+        }
+    }
+    sum
+}
+
+/// Sets every cell above a limit to it.
+pub fn clip(board: &mut Grid<u8>, limit: u8) {
+    for cell in board.iter_mut() {
+        *cell = limit.min(*cell);
+    }
+}
+
+/// Puts a piece on a free cell of the board; returns whether there is one at this position.
+pub fn put(board: &mut Grid<Piece>, at: (usize, usize), piece: Piece) -> bool {
+    if board.contains(at) && board[at] == Piece::Free {
+        board[at] = piece;
+        return true;
+    }
+    false
+}
+
+/// Adds 1 to the counter at a position, if there is one.
+pub fn count_up(counters: &mut Grid<u32>, at: (usize, usize)) {
+    if let Some(counter) = counters.get_mut_at(at) {
+        *counter = counter.saturating_add(1);
+    }
+}
+
+/// Moves the player, `@`, by one step, if the cell there is free; returns whether it was.
+pub fn walk(level: &mut Grid<char>, way: Direction) -> bool {
+    let Some(at) = level.position(|cell| *cell == '@') else {
+        return false;
+    };
+    match level.beside(at, way) {
+        Some(to) if level[to] == '.' => {
+            level[at] = '.';
+            level[to] = '@';
+            true
+        }
+        _ => false,
+    }
+}
+
+/// Draws a line from a position in one direction, up to the edge or to a cell that isn't free.
+pub fn shoot(board: &mut Grid<char>, from: (usize, usize), way: Direction) {
+    let mut at = from;
+    for _ in 0..board.rows().max(board.cols()) {
+        match board.beside(at, way) {
+            Some(next) if board.get_at(next) == Some(&'.') => {
+                board.set_at(next, '*');
+                at = next;
+            }
+            _ => return,
+        }
+    }
+}
+
+/// Returns the next generation of Life.
+pub fn life(board: &Grid<bool>) -> Result<Grid<bool>, AllocError> {
+    board.map_counts8(
+        |cell| *cell,
+        |live, near| (near == 3) | (*live & (near == 2)),
+    )
+}
+
+/// Returns the map of Minesweeper: a mine, or how many mines touch the cell.
+pub fn mine_map(mines: &Grid<bool>) -> Result<Grid<char>, AllocError> {
+    mines.map_counts8(
+        |mine| *mine,
+        |mine, near| if *mine { '*' } else { char::from(b'0' + near) },
+    )
+}
+
+/// Returns the largest cell of each cell's surroundings.
+pub fn highest_round(board: &Grid<u8>) -> Result<Grid<u8>, AllocError> {
+    board.map_neighbors8(|_, cell, near| near.fold(*cell, |most, (_, x)| most.max(*x)))
+}
+
+/// Returns the board in which each row is written backwards.
+pub fn backwards(board: &Grid<u8>) -> Result<Grid<u8>, AllocError> {
+    board.map_indexed(|(row, col), _| board[(row, board.cols() - 1 - col)])
+}
+
+/// Returns the board at half the size, each cell one of four.
+pub fn halved(alloc: Global, board: &Grid<u8>) -> Result<Grid<u8>, GridError> {
+    let (rows, cols) = board.size();
+    Grid::from_fn(
+        alloc,
+        rows / 2,
+        cols / 2,
+        |(row, col)| board[(2 * row, 2 * col)],
+    )
+}
+
+/// Returns how many free cells touch each cell, as a closure counts them.
+pub fn free_round(board: &Grid<Piece>) -> Result<Grid<usize>, AllocError> {
+    board.map_indexed(|at, _| board.count_neighbors8(at, |cell| *cell == Piece::Free))
+}
+
+/// Returns for each cell the sum of those before it in its row.
+pub fn running_sums(board: &Grid<u32>) -> Result<Grid<u32>, AllocError> {
+    board.map_indexed(
+        |(row, col), _|
+            requires { InRange board.now.rows row col }
+        {
+            let mut sum = 0u32;
+            for at in 0..col {
+                sum = sum.saturating_add(board[(row, at)]);
+            }
+            sum
+        },
+    )
+}
+
+/// Same as [`running_sums`], of a table of products, which is a local variable.
+pub fn sums_of_products(alloc: Global, rows: usize, cols: usize) -> Result<Grid<usize>, GridError> {
+    let table: Grid<usize> = Grid::from_fn(
+        alloc,
+        rows,
+        cols,
+        |(row, col)| row.saturating_mul(col),
+    )?;
+    let sums = table.map_indexed(
+        |(row, col), _|
+            requires { InRange table.rows row col }
+        {
+            let mut sum = 0usize;
+            for at in 0..col {
+                sum = sum.saturating_add(table[(row, at)]);
+            }
+            sum
+        },
+    )?;
+    Ok(sums)
+}
+
+/// Returns the product of the cells of a line that aren't 0.
+pub fn product(line: GridLineIter<'_, u32>) -> u32 {
+    line.filter(|x| **x != 0)
+        .fold(1u32, |product, x| product.saturating_mul(*x))
+}
+
+/// Returns the largest product of a row.
+pub fn best_row(board: &Grid<u32>) -> Option<u32> {
+    board.iter_rows().map(|row| product(row)).max()
+}
+
+/// A cell of an own type.
+#[derive(Clone, Copy, Debug, Default, PartialEq)]
+pub enum Piece {
+    #[default]
+    Free,
+    Man(u8),
+    King(u8),
+}
+
+/// A cell that owns memory.
+#[derive(Clone, Debug, Drop)]
+pub struct Field {
+    pub name: String,
+    pub price: Option<u32>,
+}
+
+/// Returns a row of fields of these names.
+pub fn fields(alloc: Global, names: &[&str]) -> Result<Grid<Field>, GridError> {
+    let made = Grid::try_from_fn(alloc, 1, names.len(), |(_, col)| match names.get(col) {
+        Some(name) => Ok(Field {
+            name: String::from_str(alloc, *name)?,
+            price: None,
+        }),
+        None => Err(AllocError),
+    })??;
+    Ok(made)
+}

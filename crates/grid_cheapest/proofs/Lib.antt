@@ -1,3 +1,0 @@
-pub mod HeapLemmas
-pub mod RelaxLemmas
-pub mod CheapLemmas

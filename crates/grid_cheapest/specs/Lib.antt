@@ -1,2 +1,0 @@
-pub mod Cheapest
-pub mod Relaxing

@@ -1,0 +1,11 @@
+pub mod ZipLemmas
+pub mod RecordLemmas
+pub mod CellLemmas
+pub mod RowLemmas
+pub mod TableLemmas
+pub mod ReadLemmas
+pub mod HeaderLemmas
+pub mod TextLemmas
+pub mod WriteLemmas
+pub mod BackLemmas
+pub mod LawLemmas

@@ -1,0 +1,13 @@
+-- The cells of the fields so far.
+use Rattle.std.proofs.Common.{◌≡◌}
+use Rattle.csv.specs.Records.{fields_of}
+use Rattle.grid_csv.specs.Reading.{AnswersField}
+use Rattle.grid_csv.proofs.CellLemmas.{CellsSoFar}
+use Rattle.grid_csv.proofs.read.push_fields.Given as goal
+
+abbrev pub invariant-loop-index : goal.invariant-loop-index
+invariant-loop-index g l = record {
+  same : l.index-iterator.iter.row.now ≡ l.fn.row;
+  count : l.index-iterator.count ≡ l.index-iterator.iter.at;
+  cells : CellsSoFar (AnswersField (goal.F-post g) l.read) (fields_of l.fn.row) l.fn.cells.items l.cells.items l.index-iterator.iter.at;
+}

@@ -1,0 +1,11 @@
+-- The rows of the records so far.
+use Rattle.std.proofs.Common.{ℕ, List}
+use Rattle.grid_csv.specs.Left.{HasLeft}
+use Rattle.grid_csv.specs.Reading.{AnswersField}
+use Rattle.grid_csv.proofs.RowLemmas.{RowsSoFar}
+use Rattle.grid_csv.proofs.read.push_records.Given as goal
+
+abbrev pub invariant-loop-number : goal.invariant-loop-number
+invariant-loop-number g l = (all : List (List (List ℕ))) → HasLeft l.fn.reader all
+    → (left : List (List (List ℕ))) × HasLeft l.reader left
+    × RowsSoFar (AnswersField (goal.F-post g) l.read) 2 l.cols all l.fn.cells.items left l.cells.items l.number

@@ -1,0 +1,10 @@
+-- The records so far, of the rows before those that are left.
+use Rattle.std.proofs.Common.{ℕ, List}
+use Rattle.std.specs.List.{AllZip}
+use Rattle.grid_csv.specs.Left.{HasWritten}
+use Rattle.grid_csv.specs.Writing.{AnswersCell, sheet_text}
+use Rattle.grid_csv.proofs.ZipLemmas.{ZipSoFar}
+use Rattle.grid_csv.proofs.write.to_csv.Given as goal
+
+abbrev pub invariant-loop-row : goal.invariant-loop-row
+invariant-loop-row g l = (records : List (List (List ℕ))) × ZipSoFar (AllZip (AnswersCell (goal.F-post g) l.write)) l.fn.grid.rows l.row-iterator records × HasWritten l.writer (sheet_text records)

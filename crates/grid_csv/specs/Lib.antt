@@ -1,0 +1,4 @@
+pub mod Reading
+pub mod Left
+pub mod Writing
+pub mod Law

@@ -1,0 +1,264 @@
+//! Grids read from CSV.
+ghost use Rattle.std.specs.Prelude.{◌≡◌, ◌⊎◌, [], ℕ, List, Option, IfOk, IfErr, Ok, Err, MatchResult, Some, length, map};
+ghost use Rattle.std.specs.Bool.{MatchBool};
+ghost use Rattle.std.specs.String.{string_bytes};
+ghost use Rattle.csv.specs.Records.{fields_of};
+ghost use Rattle.grid_csv.specs.Left.{HasLeft, Took, AddsCells, AddsRows, IsMemoryOrBad};
+ghost use Rattle.grid_csv.specs.Reading.{AnswersField, IsFault, IsOrMemory, MayRead, MayReadBelow, ReadsBy, first_of, read_header, reading, reading_below, records_of, without_header};
+ghost use Rattle.grid_csv.specs.declared.error.CsvError.TheVariants.{Memory};
+
+use super::error::CsvError;
+use csv::{ByteRecord, Reader, ReaderBuilder};
+use grid::Grid;
+use std::alloc::{AllocError, Global};
+use std::str;
+
+/// Returns the row-major grid of the records: each record is a row, and `read` says which cell a field is, or `None`
+/// where it is none. A field that is no UTF-8 is no cell.
+///
+///     from_csv(alloc, b"1,\"2\"\n3,4\n", |field| Ok(field.parse::<i64>().ok()))   [[1, 2], [3, 4]]
+///
+/// Without records it is the empty grid.
+///
+/// Requires: `read` can be called at every field.
+/// Fails: `BadField` or `Ragged` of the first record that is no row; its fields are tested before their number.
+/// `Memory` where memory is refused, also to `read`.
+/// Cost: one call for each field; the vector of cells grows as it is filled.
+pub fn from_csv<T: Drop, F>(alloc: Global, bytes: &[u8], read: F) -> Result<Grid<T>, CsvError>
+where
+    F: Fn(&str) -> Result<Option<T>, AllocError>,
+    requires { F.IsAlwaysCallable read }
+    ensures reads { (h : List ℕ → Option T) → ReadsBy F.post read h
+        → IsOrMemory (reading h (records_of bytes.now)) result }
+    ensures answers { MayRead (AnswersField F.post read) 1
+        (length (first_of (records_of bytes.now))) (records_of bytes.now) result }
+{
+    let mut reader = reader_of(alloc, bytes);
+    let mut row = ByteRecord::new(alloc);
+    let mut cells = Vec::new(alloc);
+    if !next_row(&mut reader, &mut row)? {
+        return Ok(Grid::empty(alloc));
+    }
+    let cols = row.len();
+    push_fields(&mut cells, 1, &row, &read)?;
+    push_records(&mut cells, &mut reader, cols, &read)?;
+    Ok(Grid::from_vec(cells, cols))
+}
+
+/// Same as [`from_csv`], of records below a header: also returns the fields of the first record, each as a string.
+///
+///     from_csv_with_header(alloc, b"x,y\n1,2\n", |field| Ok(field.parse::<i64>().ok()))   ["x", "y"], [[1, 2]]
+///
+/// A header without records gives the empty grid. Errors count the header as record 1; each record is as long as it is.
+pub fn from_csv_with_header<T: Drop, F>(
+    alloc: Global,
+    bytes: &[u8],
+    read: F,
+) -> Result<(Vec<String>, Grid<T>), CsvError>
+where
+    F: Fn(&str) -> Result<Option<T>, AllocError>,
+    requires { F.IsAlwaysCallable read }
+    ensures header { IfOk result
+        (λ sheet. map string_bytes sheet.0.items ≡ first_of (records_of bytes.now)) }
+    ensures reads { (h : List ℕ → Option T) → ReadsBy F.post read h
+        → IsOrMemory (reading_below h (records_of bytes.now)) (without_header result) }
+    ensures answers { MayReadBelow (AnswersField F.post read)
+        (records_of bytes.now) (without_header result) }
+{
+    let mut reader = reader_of(alloc, bytes);
+    let mut row = ByteRecord::new(alloc);
+    if !next_row(&mut reader, &mut row)? {
+        return Ok((Vec::new(alloc), Grid::empty(alloc)));
+    }
+    let cols = row.len();
+    let header = header_of(alloc, &row)?;
+    let mut cells = Vec::new(alloc);
+    push_records(&mut cells, &mut reader, cols, &read)?;
+    Ok((header, Grid::from_vec(cells, cols)))
+}
+
+// A reader of all records of these bytes, of any lengths.
+fn reader_of(alloc: Global, bytes: &[u8]) -> Reader<&[u8]>
+    ensures { HasLeft result (records_of bytes.now) }
+{
+    ReaderBuilder::new()
+        .has_headers(false)
+        .flexible(true)
+        .from_reader(alloc, bytes)
+}
+
+// Reads the next record, and returns whether there was one.
+fn next_row(reader: &mut Reader<&[u8]>, row: &mut ByteRecord) -> Result<bool, CsvError>
+    ensures ok { (left : List (List (List ℕ))) → HasLeft reader.old left
+        → IfOk result (λ found. MatchBool found
+        (Took left (fields_of row.new) reader.new) (left ≡ [])) }
+    ensures err { IfErr result (λ e. e ≡ Memory) }
+{
+    Ok(reader.read_byte_record(row)?)
+}
+
+// The cell of a field.
+fn cell_of<T, F>(field: &[u8], read: &F) -> Result<Option<T>, AllocError>
+where
+    F: Fn(&str) -> Result<Option<T>, AllocError>,
+    requires { F.IsAlwaysCallable read.now }
+    ensures { IfOk result (λ cell. AnswersField F.post read.now field.now cell) }
+{
+    match str::from_utf8(field) {
+        Ok(text) => read(text),
+        Err(_) => Ok(None),
+    }
+}
+
+// The fields of a record as strings.
+fn header_of(alloc: Global, row: &ByteRecord) -> Result<Vec<String>, CsvError>
+    ensures { MatchResult result
+        (λ header. read_header (fields_of row.now) ≡ Ok (map string_bytes header.items))
+        (λ e. (e ≡ Memory) ⊎ (read_header (fields_of row.now) ≡ Err e)) }
+{
+    let mut header = Vec::new(alloc);
+    push_fields(
+        &mut header,
+        1,
+        row,
+        &|name: &str| -> Result<Option<String>, AllocError>
+            ensures { IfOk result
+                (λ cell. (text : _) × (cell ≡ Some text) × (string_bytes text ≡ name.now)) }
+        { Ok(Some(String::from_str(alloc, name)?)) },
+    )?;
+    Ok(header)
+}
+
+// Adds the cells of the fields of a record.
+fn push_fields<T: Drop, F>(
+    cells: &mut Vec<T>,
+    number: usize,
+    row: &ByteRecord,
+    read: &F,
+) -> Result<(), CsvError>
+where
+    F: Fn(&str) -> Result<Option<T>, AllocError>,
+    requires { F.IsAlwaysCallable read.now }
+    ensures { MatchResult result
+        (λ _. AddsCells (AnswersField F.post read.now)
+        (fields_of row.now) cells.old.items cells.new.items)
+        (λ e. IsMemoryOrBad (AnswersField F.post read.now) number (fields_of row.now) e) }
+{
+    for (index, field) in row.into_iter().enumerate() {
+        match cell_of(field, read)? {
+            Some(cell) => cells.push(cell)?,
+            None => return Err(CsvError::BadField {
+                record: number,
+                field: index + 1,
+            }),
+        }
+    }
+    Ok(())
+}
+
+// Adds the rows of the records that are left, behind the first; each has as many cells.
+fn push_records<T: Drop, F>(
+    cells: &mut Vec<T>,
+    reader: &mut Reader<&[u8]>,
+    cols: usize,
+    read: &F,
+) -> Result<(), CsvError>
+where
+    F: Fn(&str) -> Result<Option<T>, AllocError>,
+    requires { F.IsAlwaysCallable read.now }
+    ensures { (left : List (List (List ℕ))) → HasLeft reader.old left → MatchResult result
+        (λ _. AddsRows (AnswersField F.post read.now) cols left cells.old.items cells.new.items)
+        (λ e. (e ≡ Memory) ⊎ IsFault (AnswersField F.post read.now) 2 cols left e) }
+{
+    let mut row = ByteRecord::new(*cells.allocator());
+    for number in 2..usize::MAX {
+        if !next_row(reader, &mut row)? {
+            return Ok(());
+        }
+        push_fields(cells, number, &row, read)?;
+        let len = row.len();
+        if len != cols {
+            return Err(CsvError::Ragged {
+                record: number,
+                len,
+                cols,
+            });
+        }
+    }
+    Err(CsvError::Memory)
+}
+
+#[cfg(test)]
+mod tests {
+    use super::*;
+    use std::fmt::Debug;
+    use std::process::Abort;
+    use std::test::Fail;
+
+    fn assert_said<T: Debug + Drop, R: AllocGlobal + Abort>(
+        rt: &R,
+        read: Result<T, CsvError>,
+        want: &str,
+    ) -> Result<(), Fail> {
+        let said = match read {
+            Ok(sheet) => format!(in rt.alloc(); "{sheet:?}")?,
+            Err(e) => format!(in rt.alloc(); "{e}")?,
+        };
+        assert_eq!(rt; said.as_str(), want);
+        Ok(())
+    }
+
+    // A sheet, and the grid or the fault. Behind a fault stand later ones: in the same record, and in the next.
+    const SHEETS: [(&[u8], &str); 16] = [
+        (b"", "[]"),
+        (b"\n\r\n\n", "[]"),
+        (b"1", "[[1]]"),
+        (b"1,20\n3,4\n", "[[1, 20][3, 4]]"),
+        (b"1,\"20\"\r\n\"3\",4", "[[1, 20][3, 4]]"),
+        (b"1,2\n\n3,4\n\n", "[[1, 2][3, 4]]"),
+        (b"1,2\r3,4\r", "[[1, 2][3, 4]]"),
+        (b"\xEF\xBB\xBF1,2\n", "[[1, 2]]"),
+        (b"\"1\",2,\"3", "[[1, 2, 3]]"),
+        (b"1,2\n3\nx\n", "record 2 has 1 fields, not 2"),
+        (b"1,2\n3,4,5\n", "record 2 has 3 fields, not 2"),
+        (b"1,2\n3,x,y,4\n", "record 2, field 2 is no cell"),
+        (b"x,y\n1\n", "record 1, field 1 is no cell"),
+        (b"1,\n", "record 1, field 2 is no cell"),
+        (b"1, 2\n", "record 1, field 2 is no cell"),
+        (b"1,\xFF\n", "record 1, field 2 is no cell"),
+    ];
+
+    #[test]
+    fn numbers_are_read(rt: HostRuntime) -> Result<(), Fail> {
+        for (bytes, want) in SHEETS {
+            let read = from_csv(rt.alloc(), bytes, |field| Ok(field.parse::<u8>().ok()));
+            assert_said(&rt, read, want)?;
+        }
+        Ok(())
+    }
+
+    const HEADED: [(&[u8], &str); 6] = [
+        (b"", "([], [])"),
+        (b"a\n", "([\"a\"], [])"),
+        (
+            b"a,\"b \"\"c\"\"\"\n1,2\n3,4\n",
+            "([\"a\", \"b \\\"c\\\"\"], [[1, 2][3, 4]])",
+        ),
+        (b"a,b\n1,2,3\n", "record 2 has 3 fields, not 2"),
+        (b"a,b\n1,2\n3,x\n", "record 3, field 2 is no cell"),
+        (b"a,\xFF\n1\n", "record 1, field 2 is no cell"),
+    ];
+
+    #[test]
+    fn a_header_is_read(rt: HostRuntime) -> Result<(), Fail> {
+        for (bytes, want) in HEADED {
+            let read = from_csv_with_header(
+                rt.alloc(),
+                bytes,
+                |field| Ok(field.parse::<u8>().ok()),
+            );
+            assert_said(&rt, read, want)?;
+        }
+        Ok(())
+    }
+}

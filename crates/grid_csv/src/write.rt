@@ -1,0 +1,190 @@
+//! Grids written as CSV.
+ghost use Rattle.std.specs.Prelude.{◌≡◌, ◌++◌, [], ◌∷◌, ℕ, List, map, IfOk, OnOk, IsUtf8};
+ghost use Rattle.std.specs.List.{AllZip};
+ghost use Rattle.std.specs.String.{string_bytes};
+ghost use Rattle.csv.specs.Records.{fields_of};
+ghost use Rattle.csv.specs.Writing.{default_writer, row_text};
+ghost use Rattle.grid_csv.specs.Left.{HasWritten};
+ghost use Rattle.grid_csv.specs.Writing.{AnswersCell, IsCsv, MayWrite, MayWriteBelow, WritesBy, below_names, sheet_text};
+
+use csv::{ByteRecord, Writer};
+use grid::{Grid, GridLineIter};
+use std::alloc::{AllocError, Allocator, Global};
+
+/// Returns the CSV of the grid: a record for each row, and in it a field for each cell, the text that `write` appends.
+/// Fields are in quotes where they have to be, with commas between them, and each record ends in a line feed. The empty
+/// grid is the empty text.
+///
+///     [[1, 2], [3, 4]]   to_csv(alloc, grid, |cell, text| write!(text, "{cell}"))   "1,2\n3,4\n"
+///
+/// Requires: `write` can be called at every cell.
+/// Fails: where memory is refused, also to `write`.
+/// Cost: one call for each cell.
+pub fn to_csv<T, A: Allocator, F>(
+    alloc: Global,
+    grid: &Grid<T, A>,
+    write: F,
+) -> Result<String, AllocError>
+where
+    F: Fn(&T, &mut String) -> Result<(), AllocError>,
+    requires { F.IsAlwaysCallable write }
+    ensures text { (h : T → List ℕ) → WritesBy F.post write h
+        → IfOk result (λ text. IsCsv h [] grid.now.rows (string_bytes text)) }
+    ensures answers { IfOk result (λ text.
+        MayWrite (AnswersCell F.post write) grid.now.rows (string_bytes text)) }
+{
+    let mut writer = Writer::from_writer(Vec::new(alloc));
+    let mut fields = ByteRecord::new(alloc);
+    let mut text = String::new(alloc);
+    for row in grid.iter_rows() {
+        fill_record(&mut fields, &mut text, row, &write)?;
+        write_record(&mut writer, &fields)?;
+    }
+    text_of(writer)
+}
+
+/// Same as [`to_csv`], below a record of these names.
+///
+///     [[1, 2]]   to_csv_with_header(alloc, ["x", "y"], grid, |cell, text| write!(text, "{cell}"))   "x,y\n1,2\n"
+///
+/// Without names it is the CSV of the grid. More or fewer names than columns make records of different lengths.
+pub fn to_csv_with_header<T, A: Allocator, F>(
+    alloc: Global,
+    header: &[String],
+    grid: &Grid<T, A>,
+    write: F,
+) -> Result<String, AllocError>
+where
+    F: Fn(&T, &mut String) -> Result<(), AllocError>,
+    requires { F.IsAlwaysCallable write }
+    ensures text { (h : T → List ℕ) → WritesBy F.post write h → IfOk result
+        (λ text. IsCsv h (map string_bytes header.now) grid.now.rows (string_bytes text)) }
+    ensures answers { IfOk result (λ text. MayWriteBelow (AnswersCell F.post write)
+        (map string_bytes header.now) grid.now.rows (string_bytes text)) }
+{
+    let mut text = header_text(alloc, header)?;
+    text.push_str(to_csv(alloc, grid, write)?.as_str())?;
+    Ok(text)
+}
+
+// The text of a record of names, if there are some.
+fn header_text(alloc: Global, header: &[String]) -> Result<String, AllocError>
+    ensures { IfOk result
+        (λ text. string_bytes text ≡ sheet_text (below_names (map string_bytes header.now) [])) }
+{
+    if header.is_empty() {
+        return Ok(String::new(alloc));
+    }
+    let mut fields = ByteRecord::new(alloc);
+    for name in header {
+        fields.push_field(name.as_bytes())?;
+    }
+    let mut writer = Writer::from_writer(Vec::new(alloc));
+    write_record(&mut writer, &fields)?;
+    text_of(writer)
+}
+
+// Makes the record of the texts of a row's cells.
+fn fill_record<T, F>(
+    fields: &mut ByteRecord,
+    text: &mut String,
+    row: GridLineIter<'_, T>,
+    write: &F,
+) -> Result<(), AllocError>
+where
+    F: Fn(&T, &mut String) -> Result<(), AllocError>,
+    requires { F.IsAlwaysCallable write.now }
+    ensures { OnOk result
+        (AllZip (AnswersCell F.post write.now) row.entry (fields_of fields.new)) }
+{
+    fields.clear();
+    for cell in row {
+        text.clear();
+        write(cell, text)?;
+        fields.push_field(text.as_bytes())?;
+    }
+    Ok(())
+}
+
+// Writes a record.
+fn write_record(writer: &mut Writer<Vec<u8>>, fields: &ByteRecord) -> Result<(), AllocError>
+    ensures { OnOk result ((bytes : List ℕ) → HasWritten writer.old bytes
+        → HasWritten writer.new (bytes ++ row_text default_writer (fields_of fields.now))) }
+{
+    match writer.write_byte_record(fields) {
+        Ok(()) => Ok(()),
+        Err(_) => Err(AllocError),
+    }
+}
+
+// Returns what was written, which is text.
+fn text_of(writer: Writer<Vec<u8>>) -> Result<String, AllocError>
+    requires { (bytes : List ℕ) × HasWritten writer bytes × IsUtf8 bytes }
+    ensures { IfOk result (λ text. HasWritten writer (string_bytes text)) }
+{
+    let Ok(bytes) = writer.into_inner() else {
+        return Err(AllocError);
+    };
+    match String::from_utf8(bytes) {
+        Ok(text) => Ok(text),
+        Err(_) => unreachable!(),
+    }
+}
+
+#[cfg(test)]
+mod tests {
+    use super::*;
+    use std::test::Fail;
+
+    #[test]
+    fn numbers_are_written(rt: HostRuntime) -> Result<(), Fail> {
+        let mut grid: Grid<i64> = Grid::from_vec(vec![in rt.alloc(); 1, -20, 3, 4, 5, 6]?, 3);
+        for _ in 0..2 {
+            let text = to_csv(rt.alloc(), &grid, |cell, text| write!(text, "{cell}"))?;
+            assert!(rt;
+                text.as_str() == "1,-20,3\n4,5,6\n" || text.as_str() == "1,4\n-20,5\n3,6\n"
+            );
+            grid.transpose();
+        }
+        Ok(())
+    }
+
+    // A cell, and its record.
+    const CELLS: [(&str, &str); 8] = [
+        ("", "\"\"\n"),
+        ("a b", "a b\n"),
+        ("a,b", "\"a,b\"\n"),
+        ("a \"b\"", "\"a \"\"b\"\"\"\n"),
+        ("a\nb", "\"a\nb\"\n"),
+        ("a\rb", "\"a\rb\"\n"),
+        ("é", "é\n"),
+        (" ", " \n"),
+    ];
+
+    #[test]
+    fn cells_are_quoted(rt: HostRuntime) -> Result<(), Fail> {
+        for (cell, want) in CELLS {
+            let grid: Grid<&str> = Grid::from_vec(vec![in rt.alloc(); cell]?, 1);
+            let text = to_csv(rt.alloc(), &grid, |cell, text| text.push_str(*cell))?;
+            assert_eq!(rt; text.as_str(), want);
+        }
+        Ok(())
+    }
+
+    #[test]
+    fn a_header_is_written(rt: HostRuntime) -> Result<(), Fail> {
+        let header = vec![in rt.alloc();
+            String::from_str(rt.alloc(), "x")?,
+            String::from_str(rt.alloc(), "a,b")?,
+        ]?;
+        let grid: Grid<u8> = Grid::from_vec(vec![in rt.alloc(); 1, 2]?, 2);
+        let text = to_csv_with_header(
+            rt.alloc(),
+            &header,
+            &grid,
+            |cell, text| write!(text, "{cell}"),
+        )?;
+        assert_eq!(rt; text.as_str(), "x,\"a,b\"\n1,2\n");
+        Ok(())
+    }
+}

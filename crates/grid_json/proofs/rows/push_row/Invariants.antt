@@ -1,0 +1,7 @@
+-- The cells so far.
+use Rattle.grid_json.specs.Rows.{AnswersItem}
+use Rattle.grid_json.proofs.RowsReadLemmas.{CellsSoFar}
+use Rattle.grid_json.proofs.rows.push_row.Given as goal
+
+abbrev pub invariant-loop-col : goal.invariant-loop-col
+invariant-loop-col g l = CellsSoFar (AnswersItem (goal.F-post g) l.read) l.list.items l.fn.cells.items l.cells.items l.col

@@ -1,0 +1,7 @@
+-- The values of the rows so far.
+use Rattle.grid_json.specs.Rows.{AnswersCell, MayBeRow}
+use Rattle.grid_json.proofs.RowsLemmas.{ValuesSoFar}
+use Rattle.grid_json.proofs.rows.rows_to_value.Given as goal
+
+abbrev pub invariant-loop-row : goal.invariant-loop-row
+invariant-loop-row g l = ValuesSoFar (MayBeRow (AnswersCell (goal.F-post g) l.write)) l.fn.grid.rows l.row-iterator l.list.items

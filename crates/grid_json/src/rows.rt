@@ -1,0 +1,164 @@
+//! Rows as JSON that other programs read: an array of arrays.
+ghost use Rattle.std.specs.Prelude.{List, IfOk, MatchResult};
+ghost use Rattle.serde_json.specs.Data.{Data};
+ghost use Rattle.serde_json.specs.View.{view};
+ghost use Rattle.grid_json.specs.Rows.{AddsRow, AnswersCell, AnswersItem, IsMemoryOrBad, IsRows, MayBeRow, MayBeRows, MayRead, WritesBy};
+
+use crate::RowsError;
+use crate::write::array_of;
+use grid::{Grid, GridLineIter};
+use serde_json::Value;
+use std::alloc::{AllocError, Allocator, Global};
+
+/// Returns an array of an array for each row, of the values that `write` answers at its cells. The empty grid is `[]`.
+///
+///     [[1, 2], [3, 4]]   rows_to_value(alloc, grid, |cell| Ok(Value::from(*cell)))   [[1,2],[3,4]]
+///
+/// Requires: `write` can be called at every cell.
+/// Fails: where memory is refused, also to `write`.
+/// Cost: one call for each cell.
+pub fn rows_to_value<T, A: Allocator, F>(
+    alloc: Global,
+    grid: &Grid<T, A>,
+    write: F,
+) -> Result<Value, AllocError>
+where
+    F: Fn(&T) -> Result<Value, AllocError>,
+    requires { F.IsAlwaysCallable write }
+    ensures value { (h : T → Data) → WritesBy F.post write h
+        → IfOk result (λ value. IsRows h grid.now.rows (view value)) }
+    ensures answers { IfOk result (λ value.
+        MayBeRows (AnswersCell F.post write) grid.now.rows (view value)) }
+{
+    let mut list = Vec::new(alloc);
+    for row in grid.iter_rows() {
+        list.push(row_to_value(alloc, row, &write)?)?;
+    }
+    Ok(array_of(list))
+}
+
+// An array of the values of the cells of a row.
+fn row_to_value<T, F>(
+    alloc: Global,
+    row: GridLineIter<'_, T>,
+    write: &F,
+) -> Result<Value, AllocError>
+where
+    F: Fn(&T) -> Result<Value, AllocError>,
+    requires { F.IsAlwaysCallable write.now }
+    ensures { IfOk result
+        (λ value. MayBeRow (AnswersCell F.post write.now) row.entry (view value)) }
+{
+    let mut list = Vec::new(alloc);
+    for cell in row {
+        list.push(write(cell)?)?;
+    }
+    Ok(array_of(list))
+}
+
+/// Returns the row-major grid of an array of arrays: each is a row, and `read` says which cell a value is, or `None`
+/// where it is none. Rows without cells give the empty grid.
+///
+///     [[1,2],[3,4]]   rows_from_value(alloc, value, |item| Ok(item.as_i64()))   [[1, 2], [3, 4]]
+///
+/// Requires: `read` can be called at every value.
+/// Fails: `NotRows`, or `NotRow`, `BadCell` or `Ragged` of the first item that is no row. `Memory` where memory is
+/// refused, also to `read`.
+/// Cost: one call for each item of a row.
+pub fn rows_from_value<T: Drop, F>(
+    alloc: Global,
+    value: &Value,
+    read: F,
+) -> Result<Grid<T>, RowsError>
+where
+    F: Fn(&Value) -> Result<Option<T>, AllocError>,
+    requires { F.IsAlwaysCallable read }
+    ensures { MayRead (AnswersItem F.post read) (view value.now) result }
+{
+    let Some(items) = value.as_array() else {
+        return Err(RowsError::NotRows);
+    };
+    let mut cells = Vec::new(alloc);
+    let mut cols = 0usize;
+    for (row, item) in items.iter().enumerate() {
+        let len = push_row(&mut cells, row, item, &read)?;
+        if row > 0 && len != cols {
+            return Err(RowsError::Ragged { row, len, cols });
+        }
+        cols = len;
+    }
+    Ok(Grid::from_vec(cells, cols))
+}
+
+// Adds the cells of a row, and returns how many they are.
+fn push_row<T: Drop, F>(
+    cells: &mut Vec<T>,
+    row: usize,
+    item: &Value,
+    read: &F,
+) -> Result<usize, RowsError>
+where
+    F: Fn(&Value) -> Result<Option<T>, AllocError>,
+    requires { F.IsAlwaysCallable read.now }
+    ensures { MatchResult result
+        (λ len. AddsRow (AnswersItem F.post read.now)
+        (view item.now) cells.old.items cells.new.items len)
+        (λ e. IsMemoryOrBad (AnswersItem F.post read.now) row (view item.now) e) }
+{
+    let Some(list) = item.as_array() else {
+        return Err(RowsError::NotRow { row });
+    };
+    for (col, value) in list.iter().enumerate() {
+        match read(value)? {
+            Some(cell) => cells.push(cell)?,
+            None => return Err(RowsError::BadCell { row, col }),
+        }
+    }
+    Ok(list.len())
+}
+
+#[cfg(test)]
+mod tests {
+    use super::*;
+    use std::test::Fail;
+
+    // A text, and the grid or the fault. Behind a fault stand later ones: in the same row, and in the next.
+    const ROWS: [(&str, &str); 9] = [
+        ("[]", "[]"),
+        ("[[],[]]", "[]"),
+        ("[[1,2],[3,4]]", "[[1, 2][3, 4]]"),
+        ("{\"cols\":1}", "not an array of rows"),
+        ("[[1],2,3]", "row 1 is no array"),
+        ("[[1,2],[3,null,\"x\"]]", "row 1, column 1 is no cell"),
+        ("[[1,2],[3],[4]]", "row 1 has 1 cells, not 2"),
+        ("[[],[1]]", "row 1 has 1 cells, not 0"),
+        ("[[256]]", "row 0, column 0 is no cell"),
+    ];
+
+    #[test]
+    fn rows_are_read(rt: HostRuntime) -> Result<(), Fail> {
+        for (text, want) in ROWS {
+            let value = Value::from_str(rt.alloc(), text)?;
+            let read = rows_from_value(rt.alloc(), &value, |item| match item.as_u64() {
+                Some(number) if number < 256 => Ok(Some(number as u8)),
+                _ => Ok(None),
+            });
+            let said = match read {
+                Ok(grid) => format!(in rt.alloc(); "{grid:?}")?,
+                Err(e) => format!(in rt.alloc(); "{e}")?,
+            };
+            assert_eq!(rt; said.as_str(), want);
+        }
+        Ok(())
+    }
+
+    #[test]
+    fn rows_are_written(rt: HostRuntime) -> Result<(), Fail> {
+        let mut grid: Grid<u8> = Grid::from_vec(vec![in rt.alloc(); 1, 2, 3, 4]?, 2);
+        grid.transpose();
+        let value = rows_to_value(rt.alloc(), &grid, |cell| Ok(Value::from(*cell)))?;
+        let text = value.to_string(rt.alloc())?;
+        assert_eq!(rt; text.as_str(), "[[1,3],[2,4]]");
+        Ok(())
+    }
+}

@@ -1,0 +1,24 @@
+-- The rows of the sorted numbers.
+use Rattle.std.proofs.Common.{[], refl}
+use Rattle.grid_base.proofs.StrideLemmas.{lines_in_order}
+use Rattle.grid_lines.proofs.OrderLemmas.{shuffled}
+use Rattle.grid_lines.proofs.NumberLemmas.{rising}
+use Rattle.grid_lines.proofs.sort.sort_rows_by.Goals as goal
+
+pub returns-clause-permutation : goal.returns-clause-permutation
+returns-clause-permutation g c = shuffled _ _ _ [] c.in_ok-wanted.wanted.items refl c.in_ok-wanted.ensures.permutation (rw (← c.deref.ensures.value) c.in_ok-put_in_order.ensures.rows)
+
+pub returns-clause-sorted : goal.returns-clause-sorted
+returns-clause-sorted g c = λ lt o h. rw (c.in_ok-put_in_order.ensures.rows, c.deref.ensures.value) (c.in_ok-wanted.ensures.ordered lt o h).0
+
+pub returns-clause-by_number : goal.returns-clause-by_number
+returns-clause-by_number g c = λ n says. rising g.F.FnMut c.args.compare _ (returns-clause-sorted g c) n says
+
+pub returns-clause-along : goal.returns-clause-along
+returns-clause-along g c = lines_in_order _
+
+pub returns-in_err-wanted-clause-along : goal.returns-in_err-wanted-clause-along
+returns-in_err-wanted-clause-along g c = lines_in_order _
+
+pub returns-in_err-put_in_order-clause-along : goal.returns-in_err-put_in_order-clause-along
+returns-in_err-put_in_order-clause-along g c = lines_in_order _

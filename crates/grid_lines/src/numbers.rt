@@ -1,0 +1,83 @@
+//! The numbers of the rows, in the order in which the rows are wanted.
+ghost use Rattle.std.specs.Prelude.{◌≡◌, Bool, List, IfOk, IsPermutation, IsSortedBy, map};
+ghost use Rattle.std.specs.Cmp.{IsStrictWeakOrder};
+ghost use Rattle.std.specs.List.{range_with_len};
+ghost use Rattle.std.specs.List.Sorted.{IsStableBy, IsSortedByKey, IsStableByKey};
+ghost use Rattle.grid_base.specs.Table.{row, row_count};
+ghost use Rattle.grid_lines.specs.SortedLines.{ComparesLinesAs, GivesLineKey};
+
+use grid::{Grid, GridLineIter};
+use std::alloc::{AllocError, Allocator};
+use std::cmp::Ordering;
+
+// Returns the numbers of the rows, from 0 on.
+pub(crate) fn row_numbers<T, A: Allocator + Clone>(
+    grid: &Grid<T, A>,
+) -> Result<Vec<usize, A>, AllocError>
+    ensures { IfOk result (λ numbers.
+        numbers.items ≡ range_with_len 0 (row_count grid.now.rows)) }
+{
+    (0..grid.rows()).collect(grid.allocator().clone()?)
+}
+
+// Returns an iterator over row `r`, and over no cells where there is no such row.
+fn line<T, A: Allocator>(grid: &Grid<T, A>, r: usize) -> GridLineIter<'_, T>
+    ensures { result ≡ row grid.now.rows r }
+{
+    if r < grid.rows() {
+        grid.iter_row(r)
+    } else {
+        GridLineIter::over(&[], 1, 0)
+    }
+}
+
+// Returns the numbers of the rows, sorted by what `compare` answers of the rows.
+pub(crate) fn numbers_by<T, A: Allocator + Clone, F>(
+    grid: &Grid<T, A>,
+    mut compare: F,
+) -> Result<Vec<usize, A>, AllocError>
+where
+    F: FnMut(GridLineIter<'_, T>, GridLineIter<'_, T>) -> Ordering,
+    requires { F.IsAlwaysCallable compare }
+    ensures permutation { IfOk result (λ numbers.
+        IsPermutation (range_with_len 0 (row_count grid.now.rows)) numbers.items) }
+    ensures ordered { IfOk result (λ numbers. (lt : List T → List T → Bool)
+        → IsStrictWeakOrder lt → ComparesLinesAs F.FnMut lt compare
+        → IsSortedBy lt (map (row grid.now.rows) numbers.items)
+        × IsStableBy lt grid.now.rows (map (row grid.now.rows) numbers.items)) }
+{
+    let mut numbers = row_numbers(grid)?;
+    numbers.sort_by(
+        |a: &usize, b: &usize| -> Ordering
+            requires { F.IsAlwaysCallable compare }
+            ensures { F.step compare.entry (row grid.entry.now.rows a.now)
+                (row grid.entry.now.rows b.now) result compare.exit }
+        { compare(line(grid, *a), line(grid, *b)) },
+    )?;
+    Ok(numbers)
+}
+
+// Returns the numbers of the rows, sorted by the keys that `key` gives of the rows, each of which it is asked once.
+pub(crate) fn numbers_by_key<T, K: Ord + Drop, A: Allocator + Clone, F>(
+    grid: &Grid<T, A>,
+    mut key: F,
+) -> Result<Vec<usize, A>, AllocError>
+where
+    F: FnMut(GridLineIter<'_, T>) -> K,
+    requires { F.IsAlwaysCallable key }
+    ensures permutation { IfOk result (λ numbers.
+        IsPermutation (range_with_len 0 (row_count grid.now.rows)) numbers.items) }
+    ensures ordered { IfOk result (λ numbers. (given : List T → K)
+        → GivesLineKey F.FnMut given key
+        → IsSortedByKey given K.cmp (map (row grid.now.rows) numbers.items)
+        × IsStableByKey given K.cmp grid.now.rows (map (row grid.now.rows) numbers.items)) }
+{
+    let mut numbers = row_numbers(grid)?;
+    numbers.sort_by_cached_key(
+        |a: &usize| -> K
+            requires { F.IsAlwaysCallable key }
+            ensures { F.step key.entry (row grid.entry.now.rows a.now) result key.exit }
+        { key(line(grid, *a)) },
+    )?;
+    Ok(numbers)
+}

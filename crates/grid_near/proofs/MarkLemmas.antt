@@ -1,0 +1,319 @@
+-- Marks of cells.
+use Rattle.std.proofs.Common.{◌≡◌, ℕ, zero, suc, ◌+◌, ◌-◌, ◌*◌, ◌%◌, ◌<◌, ◌&&◌, inl, inr, Bool, true, false, cond, nat_lt, List, [], ◌∷◌, Option, Some, None, length, refl, sym, subst, ◌∙◌, ap, arith, get_or, set}
+use Rattle.std.specs.List.{slice_get, filter_map, cons_option, AllZip}
+use Rattle.std.specs.Int.{from_bool}
+use Rattle.std.specs.Option.{option_map, MatchOption}
+use Rattle.std.proofs.lemmas.List.{get_or-set_other}
+use Rattle.std.proofs.lemmas.List.Sums.{sum_by-cons}
+use Rattle.std.proofs.lemmas.Grind.{get_or-set_at}
+use Rattle.std.proofs.lemmas.Bool.{cases_lt, lt-ltb, le-ltb}
+use Rattle.std.proofs.Math.Nat.{add-mod_right}
+use denote.Ref.{Bor}
+use Rattle.grid_base.specs.declared.order.Order.{Order}
+use Rattle.grid_base.specs.declared.order.Order.TheVariants.{RowMajor, ColumnMajor}
+use Rattle.grid_base.specs.Positions.{along}
+use Rattle.grid_base.specs.Order.{table_of}
+use Rattle.grid_base.specs.GridValue.{HoldsSize}
+use Rattle.grid_base.proofs.StorageLemmas.{place_within}
+use Rattle.grid_near.specs.declared.steps.Steps.{Steps}
+use Rattle.grid_near.specs.declared.steps.Steps.TheVariants.{Sides, All}
+use Rattle.grid_near.specs.declared.counts.Edges.{Edges}
+use Rattle.grid_near.specs.declared.counts.Edges.TheVariants.{Open, Joined}
+use Rattle.grid_near.specs.Neighbors.{around8, around4, both, cell_at, before, step_count}
+use Rattle.grid_near.specs.Around.{strided_cell, strides_of, beside, if_within}
+use Rattle.grid_near.specs.Wrapped.{around}
+use Rattle.grid_near.specs.NearCounts.{MayAnswer, MayCount, CountsNear, SumsNear}
+use Rattle.grid_near.specs.Marks.{MarkAt, MarksCells, MarksLine, WithEnds, IsBeyond, side, spot, round_of, count_round, sum_round}
+use Rattle.grid_near.proofs.AroundLemmas.{cell_some, start_shown}
+use Rattle.grid_near.proofs.WrappedLemmas.{wrapped_start, below_mod, around_within}
+
+module _ {F T B : Type 0} (blank : B) (returns : F → Bor T → B → Type 0) (f : F) (cells : List T) (start : ℕ) where
+  -- one more mark
+  pub marked_more : (k : ℕ) (marks : List B) (x : T) (p : Bor T) (b : B) → MarksCells blank returns f cells start k marks → k + 1 < length marks → slice_get cells (start + k) ≡ Some x → p.now ≡ x → returns f p b → MarksCells blank returns f cells start (k + 1) (set marks (k + 1) b)
+  marked_more k marks x p b h lt is shows said = record {
+    at = λ j y lj e.
+        elim (cases_lt j k) [
+          | inl old ↦ subst (MayAnswer returns f y) (sym (get_or-set_other marks (k + 1) (j + 1) b blank (λ s. omega arith))) (h.at j y old e)
+          | inr new ↦
+              let same : j ≡ k = omega arith in
+              let there : slice_get cells (start + j) ≡ Some x = subst (λ i. slice_get cells (start + i) ≡ Some x) (sym same) is in
+              let x_is : x ≡ y = cc in
+              subst (MayAnswer returns f y) (sym (get_or-set_at marks (k + 1) (j + 1) b blank (omega arith) lt)) (p, shows ∙ x_is, said)
+        ];
+  }
+
+-- cells that a table hasn't
+module _ {T : Type 0} (cells : List T) (size strides : ℕ × ℕ) where
+  abbrev g : ℕ → ℕ → Option T
+  g = strided_cell cells size strides
+
+  missing_row : (r c : Option ℕ) → IsBeyond size.0 r → cell_at g (r, c) ≡ None
+  missing_row None c h = refl
+  missing_row (Some r) None h = refl
+  missing_row (Some r) (Some c) h =
+      ap (λ b. option_map {U = (ℕ × ℕ) × T} (λ x. ((r, c), x)) (cond (b && nat_lt c size.1) (slice_get cells (r * strides.0 + c * strides.1)) None)) (le-ltb r size.0 h)
+
+  none_past : (b : Bool) (o : Option T) → cond (b && false) o None ≡ None
+  none_past true o = refl
+  none_past false o = refl
+
+  missing_col : (r c : Option ℕ) → IsBeyond size.1 c → cell_at g (r, c) ≡ None
+  missing_col None c h = refl
+  missing_col (Some r) None h = refl
+  missing_col (Some r) (Some c) h =
+      ap (λ b. option_map {U = (ℕ × ℕ) × T} (λ x. ((r, c), x)) (cond (nat_lt r size.0 && b) (slice_get cells (r * strides.0 + c * strides.1)) None)) (le-ltb c size.1 h)
+      ∙ ap (option_map {U = (ℕ × ℕ) × T} (λ x. ((r, c), x))) (none_past (nat_lt r size.0) (slice_get cells (r * strides.0 + c * strides.1)))
+
+  found : (r c : ℕ) (x : T) → r < size.0 → c < size.1 → slice_get cells (r * strides.0 + c * strides.1) ≡ Some x → cell_at g (Some r, Some c) ≡ Some ((r, c), x)
+  found r c x lr lc read =
+      let in_size : Some (r, c) ≡ if_within size (both (Some r, Some c)) = sym (ap (λ b. cond (b && nat_lt c size.1) (Some (r, c)) None) (lt-ltb _ _ lr) ∙ ap (λ b. cond b (Some (r, c)) None) (lt-ltb _ _ lc)) in
+      cell_some cells size strides (Some r, Some c) (r, c) x in_size read
+
+spot_place_missing : {T : Type 0} (cells : List T) (o : Order) (size : ℕ × ℕ) (l c : Option ℕ) → IsBeyond (along o size.0 size.1).1 c → cell_at (strided_cell cells size (strides_of o size)) (spot o l c) ≡ None
+spot_place_missing cells RowMajor size l c h = missing_col cells size (size.1, 1) l c h
+spot_place_missing cells ColumnMajor size l c h = missing_row cells size (1, size.0) c l h
+
+spot_found : {T : Type 0} (cells : List T) (o : Order) (size : ℕ × ℕ) (l c : ℕ) (x : T) → l < (along o size.0 size.1).0 → c < (along o size.0 size.1).1 → slice_get cells (l * (along o size.0 size.1).1 + c) ≡ Some x → cell_at (strided_cell cells size (strides_of o size)) (spot o (Some l) (Some c)) ≡ Some (along o l c, x)
+spot_found cells RowMajor size l c x ll lc is =
+    found cells size (size.1, 1) l c x ll lc (ap (slice_get cells) (omega arith) ∙ is)
+spot_found cells ColumnMajor size l c x ll lc is =
+    found cells size (1, size.0) c l x lc ll (ap (slice_get cells) (omega arith) ∙ is)
+
+-- a place in a line is within the cells
+pub line_within : (o : Order) (m n len l c : ℕ) → HoldsSize m n len → l < (along o m n).0 → c < (along o m n).1 → l * (along o m n).1 + c < len
+line_within RowMajor m n len l c h ll lc = omega (arith, place_within RowMajor m n l c ll lc, h.cells)
+line_within ColumnMajor m n len l c h ll lc = omega (arith, place_within ColumnMajor m n c l lc ll, h.cells)
+
+record ItemAt {T : Type 0} (xs : List T) (k : ℕ) : Type 0 where
+  pub x : T
+  pub is : slice_get xs k ≡ Some x
+
+item_at : {T : Type 0} (xs : List T) (k : ℕ) → k < length xs → ItemAt xs k
+item_at [] k lt = absurd (omega arith)
+item_at (x ∷ xs) zero lt = record { x = x; is = refl }
+item_at (x ∷ xs) (suc k) lt = let i = item_at xs k (omega arith) in record { x = i.x; is = i.is }
+
+-- the mark at a number that is another
+same_mark : {B : Type 0} (blank : B) (marks : List B) (j k : ℕ) → j ≡ k → get_or marks j blank ≡ get_or marks k blank
+same_mark blank marks j k e = ap (λ n. get_or marks n blank) e
+
+module _ {F T B : Type 0} (blank : B) (returns : F → Bor T → B → Type 0) (f : F) where
+  module _ (g : ℕ → ℕ → Option T) where
+    mark_none : (p : Option ℕ × Option ℕ) (b : B) → cell_at g p ≡ None → b ≡ blank → MarkAt blank returns f g p b
+    mark_none p b e is = subst (λ z. MatchOption z (b ≡ blank) (λ n. MayAnswer returns f n.1 b)) (sym e) is
+
+    mark_some : (p : Option ℕ × Option ℕ) (q : ℕ × ℕ) (x : T) (b : B) → cell_at g p ≡ Some (q, x) → MayAnswer returns f x b → MarkAt blank returns f g p b
+    mark_some p q x b e m = subst (λ z. MatchOption z (b ≡ blank) (λ n. MayAnswer returns f n.1 b)) (sym e) m
+
+  module _ (cells : List T) (o : Order) (size : ℕ × ℕ) (h : HoldsSize size.0 size.1 (length cells)) where
+    abbrev lines : ℕ
+    lines = (along o size.0 size.1).0
+
+    abbrev w : ℕ
+    w = (along o size.0 size.1).1
+
+    abbrev there : ℕ → ℕ → Option T
+    there = strided_cell cells size (strides_of o size)
+
+    module _ (l : ℕ) (old new : List B) (ll : l < lines) (m : MarksCells blank returns f cells (l * w) w old) where
+      inside : (c : ℕ) (b : B) → c < w → b ≡ get_or old (c + 1) blank → MarkAt blank returns f there (spot o (Some l) (Some c)) b
+      inside c b lc eb =
+          let i = item_at cells (l * w + c) (line_within o size.0 size.1 (length cells) l c h ll lc) in
+          mark_some there _ (along o l c) i.x b (spot_found cells o size l c i.x ll lc i.is) (subst (MayAnswer returns f i.x) (sym eb) (m.at c i.x lc i.is))
+
+      outside : (c : Option ℕ) (b : B) → IsBeyond w c → b ≡ blank → MarkAt blank returns f there (spot o (Some l) c) b
+      outside c b past eb = mark_none there _ b (spot_place_missing cells o size (Some l) c past) eb
+
+      open_mark : WithEnds blank Open w old new → (k i j : ℕ) → k < w → i < 3 → j ≡ k + i → MarkAt blank returns f there (spot o (Some l) (beside k i)) (get_or new j blank)
+      open_mark ends zero zero j lk li ej = outside None _ tt (same_mark blank new j 0 (omega arith) ∙ ends.first)
+      open_mark ends (suc k) zero j lk li ej = inside k _ (omega arith) (same_mark blank new j (k + 1) (omega arith) ∙ ends.keeps k (omega arith))
+      open_mark ends k (suc zero) j lk li ej = inside k _ lk (same_mark blank new j (k + 1) (omega arith) ∙ ends.keeps k lk)
+      open_mark ends k (suc (suc zero)) j lk li ej = elim (cases_lt (k + 1) w) [
+        | inl lt ↦ inside (k + 1) _ lt (same_mark blank new j (k + 1 + 1) (omega arith) ∙ ends.keeps (k + 1) lt)
+        | inr ge ↦ outside (Some (k + 1)) _ ge (same_mark blank new j (w + 1) (omega arith) ∙ ends.last)
+      ]
+      open_mark ends k (suc (suc (suc i))) j lk li ej = absurd (omega arith)
+
+      joined_mark : WithEnds blank Joined w old new → (k i j : ℕ) → k < w → i < 3 → j ≡ k + i → MarkAt blank returns f there (spot o (Some l) (Some (around w k i))) (get_or new j blank)
+      joined_mark ends zero zero j lk li ej =
+          let c : around w 0 0 ≡ w - 1 = below_mod w (0 + w - 1) (omega arith) ∙ omega arith in
+          inside (around w 0 0) _ (around_within w 0 0 lk) (same_mark blank new j 0 (omega arith) ∙ (ends.first ∙ same_mark blank old w (around w 0 0 + 1) (omega (arith, c))))
+      joined_mark ends (suc k) zero j lk li ej =
+          let c : around w (suc k) 0 ≡ k = ap (λ x. x % w) (omega arith) ∙ (add-mod_right k w ∙ below_mod w k (omega arith)) in
+          inside (around w (suc k) 0) _ (around_within w (suc k) 0 lk) (same_mark blank new j (k + 1) (omega arith) ∙ (ends.keeps k (omega arith) ∙ same_mark blank old (k + 1) (around w (suc k) 0 + 1) (omega (arith, c))))
+      joined_mark ends k (suc zero) j lk li ej = inside k _ lk (same_mark blank new j (k + 1) (omega arith) ∙ ends.keeps k lk)
+      joined_mark ends k (suc (suc zero)) j lk li ej = elim (cases_lt (k + 1) w) [
+        | inl lt ↦
+            let c : around w k 2 ≡ k + 1 = below_mod w (k + 1) lt in
+            inside (around w k 2) _ (around_within w k 2 lk) (same_mark blank new j (k + 1 + 1) (omega arith) ∙ (ends.keeps (k + 1) lt ∙ same_mark blank old (k + 1 + 1) (around w k 2 + 1) (omega (arith, c))))
+        | inr ge ↦
+            let c : around w k 2 ≡ 0 = ap (λ x. x % w) (omega arith) ∙ add-mod_right 0 w ∙ below_mod w 0 (omega arith) in
+            inside (around w k 2) _ (around_within w k 2 lk) (same_mark blank new j (w + 1) (omega arith) ∙ (ends.last ∙ same_mark blank old 1 (around w k 2 + 1) (omega (arith, c))))
+      ]
+      joined_mark ends k (suc (suc (suc i))) j lk li ej = absurd (omega arith)
+
+      -- a line that the table has
+      pub line_marked : (e : Edges) (line : Option ℕ) → line ≡ Some l → WithEnds blank e w old new → MarksLine blank returns f there o e w line new
+      line_marked Open line is ends = subst (λ z. MarksLine blank returns f there o Open w z new) (sym is) (record { at = open_mark ends })
+      line_marked Joined line is ends = subst (λ z. MarksLine blank returns f there o Joined w z new) (sym is) (record { at = joined_mark ends })
+
+abbrev near_spots : Steps → Edges → ℕ × ℕ → ℕ × ℕ → List (Option ℕ × Option ℕ)
+near_spots Sides e size at = around4 (side e size.0 at.0 0) (side e size.0 at.0 1) (side e size.0 at.0 2) (side e size.1 at.1 0) (side e size.1 at.1 1) (side e size.1 at.1 2)
+near_spots All e size at = around8 (side e size.0 at.0 0) (side e size.0 at.0 1) (side e size.0 at.0 2) (side e size.1 at.1 0) (side e size.1 at.1 1) (side e size.1 at.1 2)
+
+round_shown : {T : Type 0} (cells : List T) (o : Order) (size : ℕ × ℕ) → HoldsSize size.0 size.1 (length cells) → (e : Edges) (kind : Steps) (at : ℕ × ℕ) → at.0 < size.0 → at.1 < size.1 → filter_map (cell_at (strided_cell cells size (strides_of o size))) (near_spots kind e size at) ≡ round_of kind e (table_of o size.0 size.1 cells) at.0 at.1
+round_shown cells o size h Open Sides at lr lc = start_shown o cells size (strides_of o size) h refl Sides true at
+round_shown cells o size h Open All at lr lc = start_shown o cells size (strides_of o size) h refl All true at
+round_shown cells o size h Joined Sides at lr lc = wrapped_start o cells size (strides_of o size) h refl Sides at 0 (sym (ap (λ b. cond (b && nat_lt at.1 size.1) 0 (step_count Sides)) (lt-ltb _ _ lr) ∙ ap (λ b. cond b 0 (step_count Sides)) (lt-ltb _ _ lc)))
+round_shown cells o size h Joined All at lr lc = wrapped_start o cells size (strides_of o size) h refl All at 0 (sym (ap (λ b. cond (b && nat_lt at.1 size.1) 0 (step_count All)) (lt-ltb _ _ lr) ∙ ap (λ b. cond b 0 (step_count All)) (lt-ltb _ _ lc)))
+
+-- how many are true
+abbrev trues : List Bool → ℕ
+trues [] = 0
+trues (b ∷ bs) = from_bool b + trues bs
+
+module _ {F T : Type 0} (returns : F → Bor T → Bool → Type 0) (f : F) where
+  counted_step : (o : Option ((ℕ × ℕ) × T)) (b : Bool) (near : List ((ℕ × ℕ) × T)) (n : ℕ) → MatchOption o (b ≡ false) (λ x. MayAnswer returns f x.1 b) → CountsNear returns f near n → CountsNear returns f (cons_option o near) (from_bool b + n)
+  counted_step None true near n m h = absurd (cc m)
+  counted_step None false near n m h = subst (CountsNear returns f near) (omega arith) h
+  counted_step (Some x) true near n m h = record {
+    tested = λ p says.
+        let one : ◌≡◌ {A = ℕ} (cond (p x) 1 0) 1 = ap (λ b. cond {A = ℕ} b 1 0) (ap (λ y. p (x.0, y)) (sym m.1) ∙ says x.0 m.0 true m.2) in
+        omega (arith, one, h.tested p says, sum_by-cons (λ i. cond {A = ℕ} (p i) 1 0) x near);
+    answers = inr (n, omega arith, m, h.answers);
+  }
+  counted_step (Some x) false near n m h = record {
+    tested = λ p says.
+        let none : ◌≡◌ {A = ℕ} (cond (p x) 1 0) 0 = ap (λ b. cond {A = ℕ} b 1 0) (ap (λ y. p (x.0, y)) (sym m.1) ∙ says x.0 m.0 false m.2) in
+        omega (arith, none, h.tested p says, sum_by-cons (λ i. cond {A = ℕ} (p i) 1 0) x near);
+    answers = inl (m, subst (MayCount returns f near) (omega arith) h.answers);
+  }
+
+  module _ (g : ℕ → ℕ → Option T) where
+    counted : (ps : List (Option ℕ × Option ℕ)) (bs : List Bool) → AllZip (MarkAt false returns f g) ps bs → CountsNear returns f (filter_map (cell_at g) ps) (trues bs)
+    counted [] [] a = record { tested = λ p says. refl; answers = refl }
+    counted [] (b ∷ bs) a = absurd a
+    counted (p ∷ ps) [] a = absurd a
+    counted (p ∷ ps) (b ∷ bs) a = counted_step (cell_at g p) b (filter_map (cell_at g) ps) (trues bs) a.0 (counted ps bs a.1)
+
+  -- the marks round a place say how many of the cells round it pass
+  pub round_counted : (cells : List T) (o : Order) (size : ℕ × ℕ) → HoldsSize size.0 size.1 (length cells) → (e : Edges) (kind : Steps) (l k : ℕ) (up mid down : List Bool) → l < (along o size.0 size.1).0 → k < (along o size.0 size.1).1 → MarksLine false returns f (strided_cell cells size (strides_of o size)) o e (along o size.0 size.1).1 (side e (along o size.0 size.1).0 l 0) up → MarksLine false returns f (strided_cell cells size (strides_of o size)) o e (along o size.0 size.1).1 (side e (along o size.0 size.1).0 l 1) mid → MarksLine false returns f (strided_cell cells size (strides_of o size)) o e (along o size.0 size.1).1 (side e (along o size.0 size.1).0 l 2) down → CountsNear returns f (round_of kind e (table_of o size.0 size.1 cells) (along o l k).0 (along o l k).1) (count_round kind up mid down k)
+  round_counted cells RowMajor size h e Sides l k up mid down ll lk hu hm hd =
+      let g = strided_cell cells size (size.1, 1) in
+      let u : (i j : ℕ) → i < 3 → j ≡ k + i → MarkAt false returns f g (side e size.0 l 0, side e size.1 k i) (get_or up j false) = λ i j li ej. hu.at k i j lk li ej in
+      let m : (i j : ℕ) → i < 3 → j ≡ k + i → MarkAt false returns f g (side e size.0 l 1, side e size.1 k i) (get_or mid j false) = λ i j li ej. hm.at k i j lk li ej in
+      let d : (i j : ℕ) → i < 3 → j ≡ k + i → MarkAt false returns f g (side e size.0 l 2, side e size.1 k i) (get_or down j false) = λ i j li ej. hd.at k i j lk li ej in
+      let bs : List Bool = get_or up (k + 1) false ∷ get_or mid k false ∷ get_or mid (k + 2) false ∷ get_or down (k + 1) false ∷ [] in
+      let all = counted g (near_spots Sides e size (l, k)) bs (u 1 (k + 1) (omega arith) (omega arith), (m 0 k (omega arith) (omega arith), (m 2 (k + 2) (omega arith) (omega arith), (d 1 (k + 1) (omega arith) (omega arith), tt)))) in
+      let same : trues bs ≡ count_round Sides up mid down k = omega arith in
+      subst (λ near. CountsNear returns f near (count_round Sides up mid down k)) (round_shown cells RowMajor size h e Sides (l, k) ll lk) (subst (CountsNear returns f (filter_map (cell_at g) (near_spots Sides e size (l, k)))) same all)
+  round_counted cells RowMajor size h e All l k up mid down ll lk hu hm hd =
+      let g = strided_cell cells size (size.1, 1) in
+      let u : (i j : ℕ) → i < 3 → j ≡ k + i → MarkAt false returns f g (side e size.0 l 0, side e size.1 k i) (get_or up j false) = λ i j li ej. hu.at k i j lk li ej in
+      let m : (i j : ℕ) → i < 3 → j ≡ k + i → MarkAt false returns f g (side e size.0 l 1, side e size.1 k i) (get_or mid j false) = λ i j li ej. hm.at k i j lk li ej in
+      let d : (i j : ℕ) → i < 3 → j ≡ k + i → MarkAt false returns f g (side e size.0 l 2, side e size.1 k i) (get_or down j false) = λ i j li ej. hd.at k i j lk li ej in
+      let bs : List Bool = get_or up k false ∷ get_or up (k + 1) false ∷ get_or up (k + 2) false ∷ get_or mid k false ∷ get_or mid (k + 2) false ∷ get_or down k false ∷ get_or down (k + 1) false ∷ get_or down (k + 2) false ∷ [] in
+      let all = counted g (near_spots All e size (l, k)) bs (u 0 k (omega arith) (omega arith), (u 1 (k + 1) (omega arith) (omega arith), (u 2 (k + 2) (omega arith) (omega arith), (m 0 k (omega arith) (omega arith), (m 2 (k + 2) (omega arith) (omega arith), (d 0 k (omega arith) (omega arith), (d 1 (k + 1) (omega arith) (omega arith), (d 2 (k + 2) (omega arith) (omega arith), tt)))))))) in
+      let same : trues bs ≡ count_round All up mid down k = omega arith in
+      subst (λ near. CountsNear returns f near (count_round All up mid down k)) (round_shown cells RowMajor size h e All (l, k) ll lk) (subst (CountsNear returns f (filter_map (cell_at g) (near_spots All e size (l, k)))) same all)
+  round_counted cells ColumnMajor size h e Sides l k up mid down ll lk hu hm hd =
+      let g = strided_cell cells size (1, size.0) in
+      let u : (i j : ℕ) → i < 3 → j ≡ k + i → MarkAt false returns f g (side e size.0 k i, side e size.1 l 0) (get_or up j false) = λ i j li ej. hu.at k i j lk li ej in
+      let m : (i j : ℕ) → i < 3 → j ≡ k + i → MarkAt false returns f g (side e size.0 k i, side e size.1 l 1) (get_or mid j false) = λ i j li ej. hm.at k i j lk li ej in
+      let d : (i j : ℕ) → i < 3 → j ≡ k + i → MarkAt false returns f g (side e size.0 k i, side e size.1 l 2) (get_or down j false) = λ i j li ej. hd.at k i j lk li ej in
+      let bs : List Bool = get_or mid k false ∷ get_or up (k + 1) false ∷ get_or down (k + 1) false ∷ get_or mid (k + 2) false ∷ [] in
+      let all = counted g (near_spots Sides e size (k, l)) bs (m 0 k (omega arith) (omega arith), (u 1 (k + 1) (omega arith) (omega arith), (d 1 (k + 1) (omega arith) (omega arith), (m 2 (k + 2) (omega arith) (omega arith), tt)))) in
+      let same : trues bs ≡ count_round Sides up mid down k = omega arith in
+      subst (λ near. CountsNear returns f near (count_round Sides up mid down k)) (round_shown cells ColumnMajor size h e Sides (k, l) lk ll) (subst (CountsNear returns f (filter_map (cell_at g) (near_spots Sides e size (k, l)))) same all)
+  round_counted cells ColumnMajor size h e All l k up mid down ll lk hu hm hd =
+      let g = strided_cell cells size (1, size.0) in
+      let u : (i j : ℕ) → i < 3 → j ≡ k + i → MarkAt false returns f g (side e size.0 k i, side e size.1 l 0) (get_or up j false) = λ i j li ej. hu.at k i j lk li ej in
+      let m : (i j : ℕ) → i < 3 → j ≡ k + i → MarkAt false returns f g (side e size.0 k i, side e size.1 l 1) (get_or mid j false) = λ i j li ej. hm.at k i j lk li ej in
+      let d : (i j : ℕ) → i < 3 → j ≡ k + i → MarkAt false returns f g (side e size.0 k i, side e size.1 l 2) (get_or down j false) = λ i j li ej. hd.at k i j lk li ej in
+      let bs : List Bool = get_or up k false ∷ get_or mid k false ∷ get_or down k false ∷ get_or up (k + 1) false ∷ get_or down (k + 1) false ∷ get_or up (k + 2) false ∷ get_or mid (k + 2) false ∷ get_or down (k + 2) false ∷ [] in
+      let all = counted g (near_spots All e size (k, l)) bs (u 0 k (omega arith) (omega arith), (m 0 k (omega arith) (omega arith), (d 0 k (omega arith) (omega arith), (u 1 (k + 1) (omega arith) (omega arith), (d 1 (k + 1) (omega arith) (omega arith), (u 2 (k + 2) (omega arith) (omega arith), (m 2 (k + 2) (omega arith) (omega arith), (d 2 (k + 2) (omega arith) (omega arith), tt)))))))) in
+      let same : trues bs ≡ count_round All up mid down k = omega arith in
+      subst (λ near. CountsNear returns f near (count_round All up mid down k)) (round_shown cells ColumnMajor size h e All (k, l) lk ll) (subst (CountsNear returns f (filter_map (cell_at g) (near_spots All e size (k, l)))) same all)
+
+-- the sum of numbers
+abbrev total : List ℕ → ℕ
+total [] = 0
+total (b ∷ bs) = b + total bs
+
+module _ {F T : Type 0} (returns : F → Bor T → ℕ → Type 0) (f : F) where
+  summed_step : (o : Option ((ℕ × ℕ) × T)) (b : ℕ) (near : List ((ℕ × ℕ) × T)) (n : ℕ) → MatchOption o (b ≡ 0) (λ x. MayAnswer returns f x.1 b) → SumsNear returns f near n → SumsNear returns f (cons_option o near) (b + n)
+  summed_step None b near n m h = subst (SumsNear returns f near) (omega (arith, m)) h
+  summed_step (Some x) b near n m h = record {
+    tested = λ p says.
+        let one : p x ≡ b = ap (λ y. p (x.0, y)) (sym m.1) ∙ says x.0 m.0 b m.2 in
+        omega (arith, one, h.tested p says, sum_by-cons p x near);
+    answers = (b, n, refl, m, h.answers);
+  }
+
+  module _ (g : ℕ → ℕ → Option T) where
+    summed : (ps : List (Option ℕ × Option ℕ)) (bs : List ℕ) → AllZip (MarkAt 0 returns f g) ps bs → SumsNear returns f (filter_map (cell_at g) ps) (total bs)
+    summed [] [] a = record { tested = λ p says. refl; answers = refl }
+    summed [] (b ∷ bs) a = absurd a
+    summed (p ∷ ps) [] a = absurd a
+    summed (p ∷ ps) (b ∷ bs) a = summed_step (cell_at g p) b (filter_map (cell_at g) ps) (total bs) a.0 (summed ps bs a.1)
+
+  -- the marks round a place have the sum of the cells round it
+  pub round_summed : (cells : List T) (o : Order) (size : ℕ × ℕ) → HoldsSize size.0 size.1 (length cells) → (e : Edges) (kind : Steps) (l k : ℕ) (up mid down : List ℕ) → l < (along o size.0 size.1).0 → k < (along o size.0 size.1).1 → MarksLine 0 returns f (strided_cell cells size (strides_of o size)) o e (along o size.0 size.1).1 (side e (along o size.0 size.1).0 l 0) up → MarksLine 0 returns f (strided_cell cells size (strides_of o size)) o e (along o size.0 size.1).1 (side e (along o size.0 size.1).0 l 1) mid → MarksLine 0 returns f (strided_cell cells size (strides_of o size)) o e (along o size.0 size.1).1 (side e (along o size.0 size.1).0 l 2) down → SumsNear returns f (round_of kind e (table_of o size.0 size.1 cells) (along o l k).0 (along o l k).1) (sum_round kind up mid down k)
+  round_summed cells RowMajor size h e Sides l k up mid down ll lk hu hm hd =
+      let g = strided_cell cells size (size.1, 1) in
+      let u : (i j : ℕ) → i < 3 → j ≡ k + i → MarkAt 0 returns f g (side e size.0 l 0, side e size.1 k i) (get_or up j 0) = λ i j li ej. hu.at k i j lk li ej in
+      let m : (i j : ℕ) → i < 3 → j ≡ k + i → MarkAt 0 returns f g (side e size.0 l 1, side e size.1 k i) (get_or mid j 0) = λ i j li ej. hm.at k i j lk li ej in
+      let d : (i j : ℕ) → i < 3 → j ≡ k + i → MarkAt 0 returns f g (side e size.0 l 2, side e size.1 k i) (get_or down j 0) = λ i j li ej. hd.at k i j lk li ej in
+      let bs : List ℕ = get_or up (k + 1) 0 ∷ get_or mid k 0 ∷ get_or mid (k + 2) 0 ∷ get_or down (k + 1) 0 ∷ [] in
+      let all = summed g (near_spots Sides e size (l, k)) bs (u 1 (k + 1) (omega arith) (omega arith), (m 0 k (omega arith) (omega arith), (m 2 (k + 2) (omega arith) (omega arith), (d 1 (k + 1) (omega arith) (omega arith), tt)))) in
+      let same : total bs ≡ sum_round Sides up mid down k = omega arith in
+      subst (λ near. SumsNear returns f near (sum_round Sides up mid down k)) (round_shown cells RowMajor size h e Sides (l, k) ll lk) (subst (SumsNear returns f (filter_map (cell_at g) (near_spots Sides e size (l, k)))) same all)
+  round_summed cells RowMajor size h e All l k up mid down ll lk hu hm hd =
+      let g = strided_cell cells size (size.1, 1) in
+      let u : (i j : ℕ) → i < 3 → j ≡ k + i → MarkAt 0 returns f g (side e size.0 l 0, side e size.1 k i) (get_or up j 0) = λ i j li ej. hu.at k i j lk li ej in
+      let m : (i j : ℕ) → i < 3 → j ≡ k + i → MarkAt 0 returns f g (side e size.0 l 1, side e size.1 k i) (get_or mid j 0) = λ i j li ej. hm.at k i j lk li ej in
+      let d : (i j : ℕ) → i < 3 → j ≡ k + i → MarkAt 0 returns f g (side e size.0 l 2, side e size.1 k i) (get_or down j 0) = λ i j li ej. hd.at k i j lk li ej in
+      let bs : List ℕ = get_or up k 0 ∷ get_or up (k + 1) 0 ∷ get_or up (k + 2) 0 ∷ get_or mid k 0 ∷ get_or mid (k + 2) 0 ∷ get_or down k 0 ∷ get_or down (k + 1) 0 ∷ get_or down (k + 2) 0 ∷ [] in
+      let all = summed g (near_spots All e size (l, k)) bs (u 0 k (omega arith) (omega arith), (u 1 (k + 1) (omega arith) (omega arith), (u 2 (k + 2) (omega arith) (omega arith), (m 0 k (omega arith) (omega arith), (m 2 (k + 2) (omega arith) (omega arith), (d 0 k (omega arith) (omega arith), (d 1 (k + 1) (omega arith) (omega arith), (d 2 (k + 2) (omega arith) (omega arith), tt)))))))) in
+      let same : total bs ≡ sum_round All up mid down k = omega arith in
+      subst (λ near. SumsNear returns f near (sum_round All up mid down k)) (round_shown cells RowMajor size h e All (l, k) ll lk) (subst (SumsNear returns f (filter_map (cell_at g) (near_spots All e size (l, k)))) same all)
+  round_summed cells ColumnMajor size h e Sides l k up mid down ll lk hu hm hd =
+      let g = strided_cell cells size (1, size.0) in
+      let u : (i j : ℕ) → i < 3 → j ≡ k + i → MarkAt 0 returns f g (side e size.0 k i, side e size.1 l 0) (get_or up j 0) = λ i j li ej. hu.at k i j lk li ej in
+      let m : (i j : ℕ) → i < 3 → j ≡ k + i → MarkAt 0 returns f g (side e size.0 k i, side e size.1 l 1) (get_or mid j 0) = λ i j li ej. hm.at k i j lk li ej in
+      let d : (i j : ℕ) → i < 3 → j ≡ k + i → MarkAt 0 returns f g (side e size.0 k i, side e size.1 l 2) (get_or down j 0) = λ i j li ej. hd.at k i j lk li ej in
+      let bs : List ℕ = get_or mid k 0 ∷ get_or up (k + 1) 0 ∷ get_or down (k + 1) 0 ∷ get_or mid (k + 2) 0 ∷ [] in
+      let all = summed g (near_spots Sides e size (k, l)) bs (m 0 k (omega arith) (omega arith), (u 1 (k + 1) (omega arith) (omega arith), (d 1 (k + 1) (omega arith) (omega arith), (m 2 (k + 2) (omega arith) (omega arith), tt)))) in
+      let same : total bs ≡ sum_round Sides up mid down k = omega arith in
+      subst (λ near. SumsNear returns f near (sum_round Sides up mid down k)) (round_shown cells ColumnMajor size h e Sides (k, l) lk ll) (subst (SumsNear returns f (filter_map (cell_at g) (near_spots Sides e size (k, l)))) same all)
+  round_summed cells ColumnMajor size h e All l k up mid down ll lk hu hm hd =
+      let g = strided_cell cells size (1, size.0) in
+      let u : (i j : ℕ) → i < 3 → j ≡ k + i → MarkAt 0 returns f g (side e size.0 k i, side e size.1 l 0) (get_or up j 0) = λ i j li ej. hu.at k i j lk li ej in
+      let m : (i j : ℕ) → i < 3 → j ≡ k + i → MarkAt 0 returns f g (side e size.0 k i, side e size.1 l 1) (get_or mid j 0) = λ i j li ej. hm.at k i j lk li ej in
+      let d : (i j : ℕ) → i < 3 → j ≡ k + i → MarkAt 0 returns f g (side e size.0 k i, side e size.1 l 2) (get_or down j 0) = λ i j li ej. hd.at k i j lk li ej in
+      let bs : List ℕ = get_or up k 0 ∷ get_or mid k 0 ∷ get_or down k 0 ∷ get_or up (k + 1) 0 ∷ get_or down (k + 1) 0 ∷ get_or up (k + 2) 0 ∷ get_or mid (k + 2) 0 ∷ get_or down (k + 2) 0 ∷ [] in
+      let all = summed g (near_spots All e size (k, l)) bs (u 0 k (omega arith) (omega arith), (m 0 k (omega arith) (omega arith), (d 0 k (omega arith) (omega arith), (u 1 (k + 1) (omega arith) (omega arith), (d 1 (k + 1) (omega arith) (omega arith), (u 2 (k + 2) (omega arith) (omega arith), (m 2 (k + 2) (omega arith) (omega arith), (d 2 (k + 2) (omega arith) (omega arith), tt)))))))) in
+      let same : total bs ≡ sum_round All up mid down k = omega arith in
+      subst (λ near. SumsNear returns f near (sum_round All up mid down k)) (round_shown cells ColumnMajor size h e All (k, l) lk ll) (subst (SumsNear returns f (filter_map (cell_at g) (near_spots All e size (k, l)))) same all)
+
+before-next : (k : ℕ) → before (k + 1) ≡ Some k
+before-next k =
+    let P : ℕ → Type 0 = λ n. before n ≡ Some k in
+    let same : suc k ≡ k + 1 = omega arith in
+    subst P same refl
+
+-- the line after the first of three is the middle one
+pub side_first : (e : Edges) (n k : ℕ) → k + 1 < n → side e n k 1 ≡ side e n (k + 1) 0
+side_first Open n k lt = sym (before-next k)
+side_first Joined n k lt =
+    let same : k + 1 + n - 1 ≡ k + n = omega arith in
+    ap Some (sym (ap (λ x. x % n) same ∙ (add-mod_right k n ∙ below_mod n k (omega arith))))
+
+pub side_second : (e : Edges) (n k : ℕ) → k + 1 < n → side e n k 2 ≡ side e n (k + 1) 1
+side_second Open n k lt = refl
+side_second Joined n k lt = ap Some (below_mod n (k + 1) lt)
+
+-- no lines hold no cells
+pub no_lines : (o : Order) (m n len : ℕ) → HoldsSize m n len → (along o m n).0 ≡ 0 → len ≡ 0
+no_lines RowMajor m n len h e = h.cells ∙ (ap (λ x. x * n) e ∙ omega arith)
+no_lines ColumnMajor m n len h e = h.cells ∙ (ap (λ x. m * x) e ∙ omega arith)

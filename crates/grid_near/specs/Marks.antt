@@ -1,0 +1,112 @@
+-- Marks of the cells of a line, and of its two neighbours, with a border: what a closure answered at each of them.
+use Rattle.std.specs.Prelude.{◌≡◌, ⊤, ℕ, ◌+◌, ◌<◌, ◌≤◌, Bool, false, List, Option, Some, MatchOption, slice_get, slice_index_or}
+use Rattle.std.specs.Int.{from_bool}
+use denote.Ref.{Bor}
+use Rattle.grid_base.specs.declared.order.Order.{Order}
+use Rattle.grid_base.specs.declared.order.Order.TheVariants.{RowMajor, ColumnMajor}
+use Rattle.grid_near.specs.declared.steps.Steps.{Steps}
+use Rattle.grid_near.specs.declared.steps.Steps.TheVariants.{Sides, All}
+use Rattle.grid_near.specs.declared.counts.Edges.{Edges}
+use Rattle.grid_near.specs.declared.counts.Edges.TheVariants.{Open, Joined}
+use Rattle.grid_near.specs.Neighbors.{cell_at, neighbors_of, wrapped_neighbors_of}
+use Rattle.grid_near.specs.Around.{beside}
+use Rattle.grid_near.specs.Wrapped.{around}
+use Rattle.grid_near.specs.NearCounts.{MayAnswer, CountsNear, SumsNear}
+
+-- the cells round a cell, by the kind of steps and by what the edges do
+abbrev pub round_of : {T : Type 0} → Steps → Edges → List (List T) → ℕ → ℕ → List ((ℕ × ℕ) × T)
+round_of kind Open = neighbors_of kind
+round_of kind Joined = wrapped_neighbors_of kind
+
+-- the number before k, k, or the number after it, of n numbers, if there may be one
+abbrev pub side : Edges → ℕ → ℕ → ℕ → Option ℕ
+side Open n k i = beside k i
+side Joined n k i = Some (around n k i)
+
+-- the row and the column of a place in a line along the storage
+abbrev pub spot : Order → Option ℕ → Option ℕ → Option ℕ × Option ℕ
+spot RowMajor line k = (line, k)
+spot ColumnMajor line k = (k, line)
+
+-- a line is out of a table of n lines
+abbrev pub IsBeyond : ℕ → Option ℕ → Type 0
+IsBeyond n line = MatchOption line ⊤ (λ l. n ≤ l)
+
+-- the mark at an end of a line, of the mark of the cell at its other end
+abbrev pub end_mark : {B : Type 0} → B → Edges → B → B
+end_mark blank Open b = blank
+end_mark blank Joined b = b
+
+-- the marks of w cells with those at the ends
+pub record WithEnds {B : Type 0} (blank : B) (e : Edges) (w : ℕ) (old new : List B) : Type 0 where
+  pub keeps : (k : ℕ) → k < w
+      → slice_index_or new (k + 1) blank ≡ slice_index_or old (k + 1) blank
+  pub first : slice_index_or new 0 blank ≡ end_mark blank e (slice_index_or old w blank)
+  pub last : slice_index_or new (w + 1) blank ≡ end_mark blank e (slice_index_or old 1 blank)
+
+-- how many of the marks round place k of the middle one of three lines are true
+abbrev pub count_round : Steps → List Bool → List Bool → List Bool → ℕ → ℕ
+count_round Sides up mid down k =
+    from_bool (slice_index_or up (k + 1) false) + from_bool (slice_index_or mid k false)
+    + from_bool (slice_index_or mid (k + 2) false)
+    + from_bool (slice_index_or down (k + 1) false)
+count_round All up mid down k =
+    from_bool (slice_index_or up k false) + from_bool (slice_index_or up (k + 1) false)
+    + from_bool (slice_index_or up (k + 2) false) + (from_bool (slice_index_or mid k false)
+    + from_bool (slice_index_or mid (k + 2) false)) + (from_bool (slice_index_or down k false)
+    + from_bool (slice_index_or down (k + 1) false)
+    + from_bool (slice_index_or down (k + 2) false))
+
+-- the sum of the marks round place k
+abbrev pub sum_round : Steps → List ℕ → List ℕ → List ℕ → ℕ → ℕ
+sum_round Sides up mid down k =
+    slice_index_or up (k + 1) 0 + slice_index_or mid k 0 + slice_index_or mid (k + 2) 0
+    + slice_index_or down (k + 1) 0
+sum_round All up mid down k =
+    slice_index_or up k 0 + slice_index_or up (k + 1) 0 + slice_index_or up (k + 2) 0
+    + (slice_index_or mid k 0 + slice_index_or mid (k + 2) 0)
+    + (slice_index_or down k 0 + slice_index_or down (k + 1) 0 + slice_index_or down (k + 2) 0)
+
+module _ {F T B : Type 0} (blank : B) (returns : F → Bor T → B → Type 0) (f : F) where
+  -- b is an answer of f at the cell of a position, or blank where there is no cell
+  abbrev pub MarkAt : (ℕ → ℕ → Option T) → Option ℕ × Option ℕ → B → Type 0
+  MarkAt g p b = MatchOption (cell_at g p) (b ≡ blank) (λ n. MayAnswer returns f n.1 b)
+
+  -- the marks of a line of w cells: those beside place k are at k, k + 1 and k + 2
+  pub record MarksLine (g : ℕ → ℕ → Option T) (o : Order) (e : Edges) (w : ℕ) (line : Option ℕ)
+      (marks : List B) : Type 0 where
+    pub at : (k i l : ℕ) → k < w → i < 3 → l ≡ k + i
+        → MarkAt g (spot o line (side e w k i)) (slice_index_or marks l blank)
+
+  -- the cells from `start` on have these answers, from the second mark on
+  pub record MarksCells (cells : List T) (start w : ℕ) (marks : List B) : Type 0 where
+    pub at : (k : ℕ) (x : T) → k < w → slice_get cells (start + k) ≡ Some x
+        → MayAnswer returns f x (slice_index_or marks (k + 1) blank)
+
+module _ {F G T : Type 0} (near : List (List T) → ℕ → ℕ → List ((ℕ × ℕ) × T))
+    (returns : F → Bor T → Bool → Type 0) (f : F) (t : List (List T)) where
+  -- the closure g can be called at a cell of the table t and any number, at most 8, that says how
+  -- many of the cells near it the closure f answers true at
+  abbrev pub TakesCounted : (G → Bor T → ℕ → Type 0) → G → ℕ × ℕ → Bor T → Type 0
+  TakesCounted takes g at p =
+      (n : ℕ) → n ≤ 8 → CountsNear returns f (near t at.0 at.1) n → takes g p n
+
+  -- y is something that g may return at a cell and such a number
+  abbrev pub AnswersCounted : {U : Type 0} → (G → Bor T → ℕ → U → Type 0) → G → ℕ × ℕ → Bor T → U
+      → Type 0
+  AnswersCounted answers g at p y =
+      (n : ℕ) × CountsNear returns f (near t at.0 at.1) n × answers g p n y
+
+module _ {F G T : Type 0} (near : List (List T) → ℕ → ℕ → List ((ℕ × ℕ) × T))
+    (returns : F → Bor T → ℕ → Type 0) (f : F) (t : List (List T)) where
+  -- the closure g can be called at a cell of the table t and any number, at most 2040, that is the
+  -- sum of what the closure f answers at the cells near it
+  abbrev pub TakesSummed : (G → Bor T → ℕ → Type 0) → G → ℕ × ℕ → Bor T → Type 0
+  TakesSummed takes g at p =
+      (n : ℕ) → n ≤ 2040 → SumsNear returns f (near t at.0 at.1) n → takes g p n
+
+  -- y is something that g may return at a cell and such a number
+  abbrev pub AnswersSummed : {U : Type 0} → (G → Bor T → ℕ → U → Type 0) → G → ℕ × ℕ → Bor T → U
+      → Type 0
+  AnswersSummed answers g at p y =
+      (n : ℕ) × SumsNear returns f (near t at.0 at.1) n × answers g p n y

@@ -1,0 +1,77 @@
+//! Directions, and the positions beside a position.
+ghost use Rattle.std.specs.Prelude.{◌≡◌, ◌≤◌, MatchOption};
+ghost use Rattle.grid_near.specs.Directions.{box_of, IsBeside, IsWithin};
+
+use crate::steps::is_there;
+
+/// A direction from a cell to one that touches it. The first row is up, and the first column left.
+#[derive(Clone, Copy, Debug, PartialEq, Eq)]
+pub enum Direction {
+    Up,
+    UpRight,
+    Right,
+    DownRight,
+    Down,
+    DownLeft,
+    Left,
+    UpLeft,
+}
+
+impl Direction {
+    /// The directions to the cells that share a side with a cell.
+    pub const SIDES: [Direction; 4] = [
+        Direction::Up,
+        Direction::Right,
+        Direction::Down,
+        Direction::Left,
+    ];
+
+    /// All eight.
+    pub const ALL: [Direction; 8] = [
+        Direction::Up,
+        Direction::UpRight,
+        Direction::Right,
+        Direction::DownRight,
+        Direction::Down,
+        Direction::DownLeft,
+        Direction::Left,
+        Direction::UpLeft,
+    ];
+
+    /// Returns the position that is one step from `at`, if it is within `size.0` rows and `size.1` columns.
+    ///
+    ///     Right.step((2, 3), (0, 1))   Some((0, 2))
+    ///     Right.step((2, 3), (0, 2))   None
+    ///
+    /// Cost: constant.
+    pub fn step(self, size: (usize, usize), at: (usize, usize)) -> Option<(usize, usize)>
+        ensures { MatchOption result
+            ((to : _) → IsBeside self at to → IsWithin size to → ⊥)
+            (λ to. IsBeside self at to × IsWithin size to) }
+    {
+        let (i, j) = self.in_box();
+        if is_there(size, at, i, j) {
+            Some((at.0 + i - 1, at.1 + j - 1))
+        } else {
+            None
+        }
+    }
+
+    // The row and the column of the cell in this direction, of three rows and columns.
+    fn in_box(self) -> (usize, usize)
+        ensures is { result ≡ box_of self }
+        ensures row { result.0 ≤ 2 }
+        ensures col { result.1 ≤ 2 }
+    {
+        match self {
+            Direction::Up => (0, 1),
+            Direction::UpRight => (0, 2),
+            Direction::Right => (1, 2),
+            Direction::DownRight => (2, 2),
+            Direction::Down => (2, 1),
+            Direction::DownLeft => (2, 0),
+            Direction::Left => (1, 0),
+            Direction::UpLeft => (0, 0),
+        }
+    }
+}

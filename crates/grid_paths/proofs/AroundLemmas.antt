@@ -1,0 +1,169 @@
+-- The list of the eight positions round one.
+use Rattle.std.proofs.Common.{◌≡◌, ℕ, zero, suc, ◌+◌, ◌-◌, ◌%◌, ◌^◌, ◌<◌, ◌⊎◌, ◌↔◌, List, [], ◌∷◌, Contains, length, Some, ◌≤◌, refl, sym, ◌∙◌, ap, subst, arith, inl, inr, ⊎_elim}
+use Rattle.std.specs.List.{slice_get}
+use Rattle.std.proofs.lemmas.Bool.{cases_lt}
+use Rattle.std.proofs.lemmas.List.Elements.{Contains-get_or}
+use Rattle.std.proofs.lemmas.Option.{slice_get_within, slice_get_read, get_or_from_slice_get}
+use Rattle.grid_paths.specs.Search.{IsAt}
+use Rattle.grid_near.specs.declared.steps.Steps.TheVariants.{Sides, All}
+use Rattle.grid_paths.specs.Walks.{DifferByOne, AreBeside, AreDiagonal}
+use Rattle.grid_paths.specs.Around.{AreSteps}
+
+pub same_pair : (a b : ℕ × ℕ) → a.0 ≡ b.0 → a.1 ≡ b.1 → a ≡ b
+same_pair a b p q = λ i. (p i, q i)
+
+pub Contains-cases : {X : Type 0} (x z : X) (xs : List X) → Contains (x ∷ xs) z → (x ≡ z) ⊎ Contains xs z
+Contains-cases x z xs (zero, l, e) = inl e
+Contains-cases x z xs (suc k, l, e) = inr (k, omega arith, e)
+
+pub Contains-first : {X : Type 0} (x z : X) (xs : List X) → x ≡ z → Contains (x ∷ xs) z
+Contains-first x z xs e = (0, omega arith, e)
+
+pub Contains-later : {X : Type 0} (x z : X) (xs : List X) → Contains xs z → Contains (x ∷ xs) z
+Contains-later x z xs c = let lt = c.1 in (suc c.0, omega (arith, lt), c.2)
+
+-- one number of a row or a column, the one before it, which wraps below 0, and the one after it
+module _ (at b : ℕ) (small : at + 1 < 2 ^ 64) (fits : b + 1 < 2 ^ 64) where
+  abbrev before : ℕ
+  before = (at + (2 ^ 64 - 1)) % 2 ^ 64
+
+  near : DifferByOne at b → (before ≡ b) ⊎ (at + 1 ≡ b)
+  near d = ⊎_elim (λ e. inr e) (λ e. let is : (at + (2 ^ 64 - 1)) % 2 ^ 64 ≡ b = omega arith in inl is) d
+
+  from_before : before ≡ b → DifferByOne at b
+  from_before e = let is : b + 1 ≡ at = omega arith in inr is
+
+  from_after : at + 1 ≡ b → DifferByOne at b
+  from_after e = inl e
+
+-- what stands in four and in eight
+module _ {X : Type 0} (x1 x2 x3 x4 z : X) (xs : List X) where
+  abbrev pub Four : Type 0
+  Four = ((x1 ≡ z) ⊎ (x2 ≡ z)) ⊎ ((x3 ≡ z) ⊎ (x4 ≡ z))
+
+  pub four_of : Contains (x1 ∷ x2 ∷ x3 ∷ x4 ∷ xs) z → Four ⊎ Contains xs z
+  four_of c =
+      ⊎_elim (λ e. inl (inl (inl e)))
+      (λ c1. ⊎_elim (λ e. inl (inl (inr e)))
+      (λ c2. ⊎_elim (λ e. inl (inr (inl e)))
+      (λ c3. ⊎_elim (λ e. inl (inr (inr e))) (λ c4. inr c4) (Contains-cases x4 z xs c3))
+      (Contains-cases x3 z (x4 ∷ xs) c2))
+      (Contains-cases x2 z (x3 ∷ x4 ∷ xs) c1))
+      (Contains-cases x1 z (x2 ∷ x3 ∷ x4 ∷ xs) c)
+
+  pub later_four : Contains xs z → Contains (x1 ∷ x2 ∷ x3 ∷ x4 ∷ xs) z
+  later_four c =
+      Contains-later x1 z (x2 ∷ x3 ∷ x4 ∷ xs) (Contains-later x2 z (x3 ∷ x4 ∷ xs) (Contains-later x3 z (x4 ∷ xs) (Contains-later x4 z xs c)))
+
+  pub of_four : Four → Contains (x1 ∷ x2 ∷ x3 ∷ x4 ∷ xs) z
+  of_four h =
+      let a1 : Contains (x2 ∷ x3 ∷ x4 ∷ xs) z → Contains (x1 ∷ x2 ∷ x3 ∷ x4 ∷ xs) z = Contains-later x1 z (x2 ∷ x3 ∷ x4 ∷ xs) in
+      let a2 : Contains (x3 ∷ x4 ∷ xs) z → Contains (x2 ∷ x3 ∷ x4 ∷ xs) z = Contains-later x2 z (x3 ∷ x4 ∷ xs) in
+      let a3 : Contains (x4 ∷ xs) z → Contains (x3 ∷ x4 ∷ xs) z = Contains-later x3 z (x4 ∷ xs) in
+      ⊎_elim (λ l. ⊎_elim (λ e. Contains-first x1 z (x2 ∷ x3 ∷ x4 ∷ xs) e) (λ e. a1 (Contains-first x2 z (x3 ∷ x4 ∷ xs) e)) l)
+      (λ l. ⊎_elim (λ e. a1 (a2 (Contains-first x3 z (x4 ∷ xs) e))) (λ e. a1 (a2 (a3 (Contains-first x4 z xs e)))) l)
+      h
+
+module _ (row col : ℕ) (row_in : row + 1 < 2 ^ 64) (col_in : col + 1 < 2 ^ 64) where
+  abbrev pub up : ℕ
+  up = (row + (2 ^ 64 - 1)) % 2 ^ 64
+
+  abbrev pub left : ℕ
+  left = (col + (2 ^ 64 - 1)) % 2 ^ 64
+
+  module _ (b : ℕ × ℕ) (fits0 : b.0 + 1 < 2 ^ 64) (fits1 : b.1 + 1 < 2 ^ 64) where
+    sides_of : AreBeside (row, col) b → Four (up, col) (row, left) (row, col + 1) (row + 1, col) b []
+    sides_of h =
+        ⊎_elim (λ w.
+        ⊎_elim (λ e. inl (inr (same_pair (row, left) b w.0 e))) (λ e. inr (inl (same_pair (row, col + 1) b w.0 e)))
+        (near col b.1 col_in fits1 w.1))
+        (λ w.
+        ⊎_elim (λ e. inl (inl (same_pair (up, col) b e w.0))) (λ e. inr (inr (same_pair (row + 1, col) b e w.0)))
+        (near row b.0 row_in fits0 w.1))
+        h
+
+    of_sides : Four (up, col) (row, left) (row, col + 1) (row + 1, col) b [] → AreBeside (row, col) b
+    of_sides h =
+        ⊎_elim (λ l. ⊎_elim (λ e. inr (ap (λ x. x.1) e, from_before row b.0 row_in fits0 (ap (λ x. x.0) e)))
+        (λ e. inl (ap (λ x. x.0) e, from_before col b.1 col_in fits1 (ap (λ x. x.1) e))) l)
+        (λ l. ⊎_elim (λ e. inl (ap (λ x. x.0) e, from_after col b.1 col_in fits1 (ap (λ x. x.1) e)))
+        (λ e. inr (ap (λ x. x.1) e, from_after row b.0 row_in fits0 (ap (λ x. x.0) e))) l)
+        h
+
+    corners_of : AreDiagonal (row, col) b → Four (up, left) (up, col + 1) (row + 1, left) (row + 1, col + 1) b []
+    corners_of h =
+        let beside = near col b.1 col_in fits1 h.1 in
+        ⊎_elim (λ e. ⊎_elim (λ f. inl (inl (same_pair (up, left) b e f))) (λ f. inl (inr (same_pair (up, col + 1) b e f))) beside)
+        (λ e. ⊎_elim (λ f. inr (inl (same_pair (row + 1, left) b e f))) (λ f. inr (inr (same_pair (row + 1, col + 1) b e f))) beside)
+        (near row b.0 row_in fits0 h.0)
+
+    of_corners : Four (up, left) (up, col + 1) (row + 1, left) (row + 1, col + 1) b [] → AreDiagonal (row, col) b
+    of_corners h =
+        ⊎_elim (λ l. ⊎_elim (λ e. (from_before row b.0 row_in fits0 (ap (λ x. x.0) e), from_before col b.1 col_in fits1 (ap (λ x. x.1) e)))
+        (λ e. (from_before row b.0 row_in fits0 (ap (λ x. x.0) e), from_after col b.1 col_in fits1 (ap (λ x. x.1) e))) l)
+        (λ l. ⊎_elim (λ e. (from_after row b.0 row_in fits0 (ap (λ x. x.0) e), from_before col b.1 col_in fits1 (ap (λ x. x.1) e)))
+        (λ e. (from_after row b.0 row_in fits0 (ap (λ x. x.0) e), from_after col b.1 col_in fits1 (ap (λ x. x.1) e))) l)
+        h
+
+  none_in : {X : Type 0} (z : X) → Contains [] z → ⊥
+  none_in z c = omega (arith, c.1)
+
+  pub AreSteps-sides : AreSteps Sides (row, col) ((up, col) ∷ (row, left) ∷ (row, col + 1) ∷ (row + 1, col) ∷ [])
+  AreSteps-sides b fits0 fits1 = (
+    λ c. ⊎_elim (λ h. of_sides b fits0 fits1 h) (λ none. absurd (none_in b none)) (four_of _ _ _ _ b [] c),
+    λ s. of_four _ _ _ _ b [] (sides_of b fits0 fits1 s),
+  )
+
+  pub AreSteps-all : AreSteps All (row, col) ((up, col) ∷ (row, left) ∷ (row, col + 1) ∷ (row + 1, col) ∷ (up, left) ∷ (up, col + 1) ∷ (row + 1, left) ∷ (row + 1, col + 1) ∷ [])
+  AreSteps-all b fits0 fits1 = (
+    λ c. ⊎_elim (λ h. inl (of_sides b fits0 fits1 h))
+        (λ more. ⊎_elim (λ h. inr (of_corners b fits0 fits1 h)) (λ none. absurd (none_in b none)) (four_of _ _ _ _ b [] more))
+        (four_of _ _ _ _ b ((up, left) ∷ (up, col + 1) ∷ (row + 1, left) ∷ (row + 1, col + 1) ∷ []) c),
+    λ s. ⊎_elim (λ h. of_four _ _ _ _ b ((up, left) ∷ (up, col + 1) ∷ (row + 1, left) ∷ (row + 1, col + 1) ∷ []) (sides_of b fits0 fits1 h))
+        (λ h. later_four _ _ _ _ b ((up, left) ∷ (up, col + 1) ∷ (row + 1, left) ∷ (row + 1, col + 1) ∷ []) (of_four _ _ _ _ b [] (corners_of b fits0 fits1 h))) s,
+  )
+
+-- what is read is contained
+pub Contains-from_get : (starts : List (ℕ × ℕ)) (j : ℕ) (a : ℕ × ℕ) → slice_get starts j ≡ Some a → Contains starts a
+Contains-from_get starts j a e =
+    let lt = slice_get_within starts j a e in
+    subst (λ x. Contains starts x) (get_or_from_slice_get starts j a a e) (Contains-get_or starts j a lt)
+
+-- what a list contains is read at some place
+pub place_of : (region : List (ℕ × ℕ)) (b : ℕ × ℕ) → Contains region b → (j : ℕ) × IsAt region j b
+place_of region b is =
+    let lt : is.0 < length region = is.1 in
+    (is.0, slice_get_read region (length region) is.0 b refl lt (sym is.2))
+
+-- what stands in a list before place i
+pub record Before (xs : List (ℕ × ℕ)) (i : ℕ) (b : ℕ × ℕ) : Type 0 where
+  pub place : ℕ
+  pub early : place < i
+  pub at : IsAt xs place b
+
+module _ (xs : List (ℕ × ℕ)) (i : ℕ) where
+  pub before_more : (a : ℕ × ℕ) → Before xs i a → Before xs (i + 1) a
+  before_more a h = record { place = h.place; early = omega (arith, h.early); at = h.at }
+
+  pub before_last : (b : ℕ × ℕ) → IsAt xs i b → Before xs (i + 1) b
+  before_last b place = record { place = i; early = omega arith; at = place }
+
+  pub before_cases : (b : ℕ × ℕ) → IsAt xs i b → (a : ℕ × ℕ) → Before xs (i + 1) a → Before xs i a ⊎ (a ≡ b)
+  before_cases b place a h =
+      ⊎_elim (λ less. inl (record { place = h.place; early = less; at = h.at }))
+      (λ ge.
+      let lt = h.early in
+      let is : h.place ≡ i = omega arith in
+      let here : IsAt xs i a = subst (λ x. IsAt xs x a) is h.at in
+      let both : Some a ≡ Some b = sym here ∙ place in
+      let same : a ≡ b = cc in
+      inr same)
+      (cases_lt h.place i)
+
+  pub before_all : length xs ≤ i → (b : ℕ × ℕ) → Before xs i b ↔ Contains xs b
+  before_all all b = (
+    λ h. Contains-from_get xs h.place b h.at,
+    λ c. let v = place_of xs b c in
+        let lt = slice_get_within xs v.0 b v.1 in
+        record { place = v.0; early = omega arith; at = v.1 },
+  )

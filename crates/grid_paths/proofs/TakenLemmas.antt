@@ -1,0 +1,260 @@
+-- Cells taken: one, those at the positions of a list, those that steps lead to; and put back.
+use Rattle.std.proofs.Common.{◌≡◌, ◌≢◌, ℕ, zero, suc, ◌+◌, ◌<◌, ◌≤◌, ◌⊎◌, ◌↔◌, ◌^◌, Option, None, Some, List, [], ◌∷◌, ◌++◌, length, set, get_or, Contains, MatchOption, refl, sym, ◌∙◌, ap, subst, arith, inl, inr, ⊎_elim}
+use Rattle.std.specs.List.{slice_get, sum_by}
+use Rattle.std.proofs.lemmas.Bool.{cases_lt}
+use Rattle.std.proofs.lemmas.List.{length-append, get_or-set_same, set_past, set-get_or}
+use Rattle.std.proofs.lemmas.List.Sums.{sum_by-set}
+use Rattle.std.proofs.lemmas.Option.{slice_get_within, slice_get-get_or, get_or_from_slice_get}
+use Rattle.grid_base.specs.Table.{row, row_count, col_count, cell, with_cell, IsTable, InRange}
+use Rattle.grid_base.proofs.TableLemmas.{cell_in_range}
+use Rattle.grid_base.proofs.WriteLemmas.{cell-with_same, cell-with_other, same_or_other}
+use Rattle.grid_near.specs.declared.steps.Steps.{Steps}
+use Rattle.grid_paths.specs.declared.taken.Enter.{Enter}
+use Rattle.grid_paths.specs.declared.taken.Enter.TheVariants.{No, Stop, On}
+use Rattle.grid_paths.specs.Walks.{IsStep}
+use Rattle.grid_paths.specs.Search.{IsAt}
+use Rattle.grid_paths.specs.Taken.{undone, flag, IsLeft, count_left, AreMarked, Takes, TakesNear, TakesAll}
+use Rattle.grid_paths.specs.Around.{AreSteps}
+use Rattle.grid_paths.proofs.StepLemmas.{at_push, at_end, at_push_fresh}
+use Rattle.grid_paths.proofs.AroundLemmas.{Before, before_more, before_last, before_cases, before_all}
+
+flag_one : (e : Enter) → e ≢ No → flag e ≡ 1
+flag_one No h = absurd (h refl)
+flag_one Stop h = refl
+flag_one On h = refl
+
+-- a cell taken
+module _ {T : Type 0} (way : T → Enter) (mark : T) (mark_no : way mark ≡ No) (t : List (List T)) (table : IsTable t) (q : List ((ℕ × ℕ) × T)) (b : ℕ × ℕ) (x : T) (is_left : IsLeft way t b x) where
+  inside : InRange t b.0 b.1
+  inside = cell_in_range t table b.0 b.1 x is_left.0
+
+  gone_one : (y : T) → IsLeft way (with_cell t b.0 b.1 mark) b y → ⊥
+  gone_one y h =
+      let e : Some mark ≡ Some y = sym (cell-with_same t table b.0 b.1 mark inside.0 inside.1) ∙ h.0 in
+      let is : mark ≡ y = cc in
+      h.1 (subst (λ z. way z ≡ No) is mark_no)
+
+  fewer_one : (a : ℕ × ℕ) (y : T) → IsLeft way (with_cell t b.0 b.1 mark) a y → IsLeft way t a y
+  fewer_one a y h =
+      ⊎_elim (λ same. absurd (gone_one y (subst (λ z. IsLeft way (with_cell t b.0 b.1 mark) z y) same h)))
+      (λ other. (sym (cell-with_other t b.0 b.1 mark a.0 a.1 other) ∙ h.0, h.1))
+      (same_or_other a b)
+
+  all_one : (a : ℕ × ℕ) (y : T) → IsLeft way t a y → IsLeft way (with_cell t b.0 b.1 mark) a y ⊎ ((j : ℕ) × (z : T) × (slice_get (q ++ (b, x) ∷ []) j ≡ Some (a, z)))
+  all_one a y h =
+      ⊎_elim (λ same. inr (length q, x, subst (λ z. slice_get (q ++ (b, x) ∷ []) (length q) ≡ Some (z, x)) (sym same) (at_end q (b, x))))
+      (λ other. inl (cell-with_other t b.0 b.1 mark a.0 a.1 other ∙ h.0, h.1))
+      (same_or_other a b)
+
+  count_left-one : count_left way (with_cell t b.0 b.1 mark) + 1 ≡ count_left way t
+  count_left-one =
+      let xs = row t b.0 in
+      let lt : b.1 < length xs = slice_get_within xs b.1 x is_left.0 in
+      let was : get_or xs b.1 x ≡ x = get_or_from_slice_get xs b.1 x x is_left.0 in
+      let one : flag (way (get_or xs b.1 x)) ≡ 1 = ap (λ y. flag (way y)) was ∙ flag_one (way x) is_left.1 in
+      let none : flag (way mark) ≡ 0 = ap flag mark_no in
+      let cells = sum_by-set (λ y. flag (way y)) xs b.1 mark x lt in
+      let rows = sum_by-set (sum_by (λ y. flag (way y))) t b.0 (set xs b.1 mark) [] inside.0 in
+      omega arith
+
+  stays : (a : ℕ × ℕ) → cell t a.0 a.1 ≡ Some mark → cell (with_cell t b.0 b.1 mark) a.0 a.1 ≡ Some mark
+  stays a h =
+      ⊎_elim (λ same. subst (λ v. cell (with_cell t b.0 b.1 mark) v.0 v.1 ≡ Some mark) (sym same) (cell-with_same t table b.0 b.1 mark inside.0 inside.1))
+      (λ other. cell-with_other t b.0 b.1 mark a.0 a.1 other ∙ h)
+      (same_or_other a b)
+
+  not_marked : (a : ℕ × ℕ) → a ≡ b → cell t a.0 a.1 ≡ Some mark → ⊥
+  not_marked a same h =
+      let e : Some mark ≡ Some x = sym h ∙ subst (λ v. cell t v.0 v.1 ≡ Some x) (sym same) is_left.0 in
+      let is : mark ≡ x = cc in
+      is_left.1 (subst (λ z. way z ≡ No) is mark_no)
+
+  marked_one : AreMarked way mark t q → AreMarked way mark (with_cell t b.0 b.1 mark) (q ++ (b, x) ∷ [])
+  marked_one o =
+      record {
+        marked = λ j y h.
+            ⊎_elim (λ e. subst (λ v. cell (with_cell t b.0 b.1 mark) (v.0).0 (v.0).1 ≡ Some mark) (sym e.1) (cell-with_same t table b.0 b.1 mark inside.0 inside.1))
+            (λ h0. stays y.0 (o.marked j y h0))
+            (at_push_fresh q (b, x) j y h);
+        once = λ i j y z h k same.
+            ⊎_elim (λ e.
+            ⊎_elim (λ f. e.0 ∙ sym f.0)
+            (λ k0. absurd (not_marked z.0 (sym same ∙ ap (λ v. v.0) e.1) (o.marked j z k0)))
+            (at_push_fresh q (b, x) j z k))
+            (λ h0.
+            ⊎_elim (λ f. absurd (not_marked y.0 (same ∙ ap (λ v. v.0) f.1) (o.marked i y h0)))
+            (λ k0. o.once i j y z h0 k0 same)
+            (at_push_fresh q (b, x) j z k))
+            (at_push_fresh q (b, x) i y h);
+      }
+
+  TakesNear-one : (near : ℕ × ℕ → Type 0) → near b → TakesNear way mark near t q (with_cell t b.0 b.1 mark) (q ++ (b, x) ∷ [])
+  TakesNear-one near is_near =
+      let long : length (q ++ (b, x) ∷ []) ≡ length q + 1 = length-append q ((b, x) ∷ []) in
+      let count = count_left-one in
+      record {
+        fewer = fewer_one;
+        all = all_one;
+        kept_at = λ j y h. at_push q (b, x) j y h;
+        fresh_at = λ j y h.
+            ⊎_elim (λ e.
+            let low : length q ≤ j = omega (arith, e.0) in
+            let is = sym e.1 in
+            inr (low, subst (λ v. near v.0) is is_near, subst (λ v. IsLeft way t v.0 v.1) is is_left))
+            (λ h0. inl h0)
+            (at_push_fresh q (b, x) j y h);
+        longer = omega arith;
+        total = omega arith;
+        marked = marked_one;
+      }
+
+module _ {T : Type 0} (way : T → Enter) (mark : T) where
+  TakesNear-same : (near : ℕ × ℕ → Type 0) (t : List (List T)) (q : List ((ℕ × ℕ) × T)) → TakesNear way mark near t q t q
+  TakesNear-same near t q =
+      record {
+        fewer = λ a x h. h;
+        all = λ a x h. inl h;
+        kept_at = λ j x h. h;
+        fresh_at = λ j x h. inl h;
+        longer = omega arith;
+        total = refl;
+        marked = λ o. o;
+      }
+
+  -- the same seen as positions that are near in another sense, where they are left
+  TakesNear-as : (near wide : ℕ × ℕ → Type 0) (t : List (List T)) (q : List ((ℕ × ℕ) × T)) (t' : List (List T)) (q' : List ((ℕ × ℕ) × T)) → ((a : ℕ × ℕ) (x : T) → IsLeft way t a x → near a → wide a) → TakesNear way mark near t q t' q' → TakesNear way mark wide t q t' q'
+  TakesNear-as near wide t q t' q' up s =
+      record {
+        fewer = s.fewer;
+        all = s.all;
+        kept_at = s.kept_at;
+        fresh_at = λ j x h. ⊎_elim (λ h0. inl h0) (λ w. inr (w.0, up x.0 x.1 w.2 w.1, w.2)) (s.fresh_at j x h);
+        longer = s.longer;
+        total = s.total;
+        marked = s.marked;
+      }
+
+  TakesNear-trans : (near : ℕ × ℕ → Type 0) (t0 : List (List T)) (q0 : List ((ℕ × ℕ) × T)) (t1 : List (List T)) (q1 : List ((ℕ × ℕ) × T)) (t2 : List (List T)) (q2 : List ((ℕ × ℕ) × T)) → TakesNear way mark near t0 q0 t1 q1 → TakesNear way mark near t1 q1 t2 q2 → TakesNear way mark near t0 q0 t2 q2
+  TakesNear-trans near t0 q0 t1 q1 t2 q2 s r =
+      let le = s.longer in
+      let le2 = r.longer in
+      record {
+        fewer = λ a x h. s.fewer a x (r.fewer a x h);
+        all = λ a x h. ⊎_elim (λ h1. r.all a x h1) (λ v. inr (v.0, v.1, r.kept_at v.0 (a, v.1) v.2)) (s.all a x h);
+        kept_at = λ j x h. r.kept_at j x (s.kept_at j x h);
+        fresh_at = λ j x h.
+            ⊎_elim (λ h1. s.fresh_at j x h1)
+            (λ w. let low : length q1 ≤ j = w.0 in let up : length q0 ≤ j = omega arith in inr (up, w.1, s.fewer x.0 x.1 w.2))
+            (r.fresh_at j x h);
+        longer = omega arith;
+        total = r.total ∙ s.total;
+        marked = λ o. r.marked (s.marked o);
+      }
+
+  pub TakesAll-none : (near : ℕ × ℕ → Type 0) (t : List (List T)) (q : List ((ℕ × ℕ) × T)) → ((a : ℕ × ℕ) → near a → ⊥) → TakesAll way mark near t q t q
+  TakesAll-none near t q none = record { takes = TakesNear-same near t q; around = λ a x h. absurd (none a h) }
+
+  pub TakesAll-as : (near wide : ℕ × ℕ → Type 0) (t : List (List T)) (q : List ((ℕ × ℕ) × T)) (t' : List (List T)) (q' : List ((ℕ × ℕ) × T)) → ((a : ℕ × ℕ) (x : T) → IsLeft way t a x → near a ↔ wide a) → TakesAll way mark near t q t' q' → TakesAll way mark wide t q t' q'
+  TakesAll-as near wide t q t' q' same s =
+      record {
+        takes = TakesNear-as near wide t q t' q' (λ a x l. (same a x l).0) s.takes;
+        around = λ a x h l. s.around a x ((same a x (s.takes.fewer a x l)).1 h) l;
+      }
+
+  -- the positions that a step leads to, if the search goes on: those in range are such as a grid can have
+  pub TakesAll-steps : (kind : Steps) (from : (ℕ × ℕ) × T) (xs : List (ℕ × ℕ)) (t : List (List T)) (q : List ((ℕ × ℕ) × T)) (t' : List (List T)) (q' : List ((ℕ × ℕ) × T)) → IsTable t → row_count t < 2 ^ 64 → col_count t < 2 ^ 64 → AreSteps kind from.0 xs → way from.1 ≡ On → TakesAll way mark (λ a. Contains xs a) t q t' q' → TakesAll way mark (λ a. (way from.1 ≡ On) × IsStep kind from.0 a) t q t' q'
+  TakesAll-steps kind from xs t q t' q' table rows cols steps on s =
+      TakesAll-as (λ a. Contains xs a) (λ a. (way from.1 ≡ On) × IsStep kind from.0 a) t q t' q'
+      (λ a x l.
+      let i = cell_in_range t table a.0 a.1 x l.0 in
+      let lr = i.0 in
+      let lc = i.1 in
+      let same : Contains xs a ↔ IsStep kind from.0 a = steps a (omega arith) (omega arith) in
+      (λ h. (on, same.0 h), λ h. same.1 h.1))
+      s
+
+  -- one position, and those of a list before place i
+  module _ (mark_no : way mark ≡ No) where
+    module _ (near : ℕ × ℕ → Type 0) (b : ℕ × ℕ) (t : List (List T)) (q : List ((ℕ × ℕ) × T)) (t' : List (List T)) (q' : List ((ℕ × ℕ) × T)) (table : IsTable t) (r : Takes way mark b t q t' q') where
+      gone_by : (x : T) → IsLeft way t' b x → ⊥
+      gone_by x h =
+          ⊎_elim (λ w. gone_one way mark mark_no t table q b w.0 w.1 x (subst (λ v. IsLeft way v b x) w.2 h))
+          (λ w. w.0 x (subst (λ v. IsLeft way v b x) w.1 h))
+          r
+
+      TakesNear-from_takes : near b → TakesNear way mark near t q t' q'
+      TakesNear-from_takes is_near =
+          ⊎_elim (λ w.
+          subst (λ v. TakesNear way mark near t q t' v) (sym w.3)
+          (subst (λ v. TakesNear way mark near t q v (q ++ (b, w.0) ∷ [])) (sym w.2) (TakesNear-one way mark mark_no t table q b w.0 w.1 near is_near)))
+          (λ w. subst (λ v. TakesNear way mark near t q t' v) (sym w.2) (subst (λ v. TakesNear way mark near t q v q) (sym w.1) (TakesNear-same near t q)))
+          r
+
+    module _ (xs : List (ℕ × ℕ)) (t0 : List (List T)) (q0 : List ((ℕ × ℕ) × T)) where
+      pub TakesEach-start : TakesAll way mark (Before xs 0) t0 q0 t0 q0
+      TakesEach-start = TakesAll-none (Before xs 0) t0 q0 (λ b h. omega (arith, h.early))
+
+      module _ (i : ℕ) (t1 : List (List T)) (q1 : List ((ℕ × ℕ) × T)) (s : TakesAll way mark (Before xs i) t0 q0 t1 q1) where
+        pub TakesEach-next : (b : ℕ × ℕ) (t2 : List (List T)) (q2 : List ((ℕ × ℕ) × T)) → IsAt xs i b → IsTable t1 → Takes way mark b t1 q1 t2 q2 → TakesAll way mark (Before xs (i + 1)) t0 q0 t2 q2
+        TakesEach-next b t2 q2 place table r =
+            let wide = Before xs (i + 1) in
+            let one : TakesNear way mark wide t1 q1 t2 q2 = TakesNear-from_takes wide b t1 q1 t2 q2 table r (before_last xs i b place) in
+            record {
+              takes = TakesNear-trans wide t0 q0 t1 q1 t2 q2 (TakesNear-as (Before xs i) wide t0 q0 t1 q1 (λ a x l h. before_more xs i a h) s.takes) one;
+              around = λ a x h l.
+                  ⊎_elim (λ n. s.around a x n (one.fewer a x l))
+                  (λ e. gone_by wide b t1 q1 t2 q2 table r x (subst (λ v. IsLeft way t2 v x) e l))
+                  (before_cases xs i b place a h);
+            }
+
+        pub TakesEach-end : length xs ≤ i → TakesAll way mark (λ b. Contains xs b) t0 q0 t1 q1
+        TakesEach-end all =
+            TakesAll-as (Before xs i) (λ b. Contains xs b) t0 q0 t1 q1 (λ b x l. before_all xs i all b) s
+
+-- a write in range is made, and one out of range changes nothing
+module _ {T : Type 0} (t : List (List T)) (table : IsTable t) (r c : ℕ) (w : T) where
+  with_cell_past : (InRange t r c → ⊥) → with_cell t r c w ≡ t
+  with_cell_past past =
+      ⊎_elim (λ lr.
+      ⊎_elim (λ lc. absurd (past (lr, lc)))
+      (λ ge.
+      let even : length (row t r) ≡ col_count t = table.even r lr in
+      ap (λ v. set t r v) (set_past (row t r) c w (omega arith)) ∙ set-get_or t r [])
+      (cases_lt c (col_count t)))
+      (λ ge. set_past t r (set (row t r) c w) ge)
+      (cases_lt r (row_count t))
+
+  pub set_is : (u : List (List T)) (result : Option T) → MatchOption result (InRange t r c → ⊥) (λ _. InRange t r c) → MatchOption result (u ≡ t) (λ _. u ≡ with_cell t r c w) → u ≡ with_cell t r c w
+  set_is u None past same = same ∙ sym (with_cell_past past)
+  set_is u (Some x) there e = e
+
+-- a list of which an item was replaced and put back
+set_back : {X : Type 0} (xs : List X) (i : ℕ) (w x : X) → slice_get xs i ≡ Some x → set (set xs i w) i x ≡ xs
+set_back [] i w x h = refl
+set_back (y ∷ xs) zero w x h = let e : x ≡ y = cc in ap (λ v. v ∷ xs) e
+set_back (y ∷ xs) (suc i) w x h = ap (λ v. y ∷ v) (set_back xs i w x h)
+
+module _ {T : Type 0} where
+  pub undone-push : (q : List ((ℕ × ℕ) × T)) (x : (ℕ × ℕ) × T) (t : List (List T)) → undone (q ++ x ∷ []) t ≡ undone q (with_cell t (x.0).0 (x.0).1 x.1)
+  undone-push [] x t = refl
+  undone-push (y ∷ q) x t = ap (λ v. with_cell v (y.0).0 (y.0).1 y.1) (undone-push q x t)
+
+  -- a cell marked and put back
+  with_cell_back : (t : List (List T)) (r c : ℕ) (w x : T) → r < row_count t → cell t r c ≡ Some x → with_cell (with_cell t r c w) r c x ≡ t
+  with_cell_back t r c w x lr h =
+      ap (λ v. set (with_cell t r c w) r (set v c x)) (get_or-set_same t r (set (row t r) c w) [] lr)
+      ∙ (ap (λ v. set (with_cell t r c w) r v) (set_back (row t r) c w x h)
+      ∙ set_back t r (set (row t r) c w) (row t r) (slice_get-get_or t r [] lr))
+
+  pub undone-taken : (q : List ((ℕ × ℕ) × T)) (t : List (List T)) → IsTable t → (b : ℕ × ℕ) (w x : T) → cell t b.0 b.1 ≡ Some x → undone (q ++ (b, x) ∷ []) (with_cell t b.0 b.1 w) ≡ undone q t
+  undone-taken q t table b w x h =
+      undone-push q (b, x) (with_cell t b.0 b.1 w)
+      ∙ ap (λ v. undone q v) (with_cell_back t b.0 b.1 w x (cell_in_range t table b.0 b.1 x h).0 h)
+
+  -- no other cell is put back
+  pub cell-undone_other : (q : List ((ℕ × ℕ) × T)) (t : List (List T)) (b : ℕ × ℕ) → ((j : ℕ) (x : T) → slice_get q j ≡ Some (b, x) → ⊥) → cell (undone q t) b.0 b.1 ≡ cell t b.0 b.1
+  cell-undone_other [] t b none = refl
+  cell-undone_other (y ∷ q) t b none =
+      cell-with_other (undone q t) (y.0).0 (y.0).1 y.1 b.0 b.1
+      (λ e f. none 0 y.1 (let same : ◌≡◌ {A = (ℕ × ℕ) × T} y (b, y.1) = λ i. ((sym e i, sym f i), y.1) in ap Some same))
+      ∙ cell-undone_other q t b (λ j x h. none (suc j) x h)

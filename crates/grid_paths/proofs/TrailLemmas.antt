@@ -1,0 +1,195 @@
+-- The trail of the settled positions, and the path that follows it back.
+use Rattle.std.proofs.Common.{◌≡◌, ℕ, zero, suc, ◌+◌, ◌-◌, ◌<◌, ◌⊎◌, Option, None, Some, List, [], ◌∷◌, ◌++◌, length, reverse, refl, sym, ◌∙◌, ap, subst, arith, inl, inr, ⊎_elim}
+use Rattle.std.specs.List.{slice_get, sum_by}
+use Rattle.std.specs.Option.{unwrap_or}
+use Rattle.std.proofs.lemmas.Bool.{cases_eq}
+use Rattle.std.proofs.lemmas.List.{reverse-append}
+use Rattle.std.proofs.lemmas.List.Sums.{sum_by-cons}
+use Rattle.std.proofs.lemmas.Option.{slice_get_within}
+use Rattle.grid_near.specs.declared.steps.Steps.{Steps}
+use Rattle.grid_paths.specs.Walks.{IsStep}
+use Rattle.grid_paths.proofs.SearchLemmas.{one_mark}
+use Rattle.grid_paths.proofs.StepLemmas.{at_push, at_end, at_push_fresh}
+use Rattle.grid_paths.specs.declared.cheap_path.Settled.{Settled}
+use Rattle.grid_paths.specs.Cheapest.{Holds, CostWalk, IsCostPath, cost_at}
+use Rattle.grid_paths.specs.Relaxing.{Entry, IsClosed, Comes, IsCostSearch}
+use Rattle.grid_paths.specs.Trail.{ComesBefore, IsTrail, IsTrailOf}
+
+one_item : (trail : List Settled) (j : ℕ) (x y : Settled) → slice_get trail j ≡ Some x → slice_get trail j ≡ Some y → x ≡ y
+one_item trail j x y e f = let q : ◌≡◌ {A = Option Settled} (Some x) (Some y) = sym e ∙ f in ap (λ o. unwrap_or o x) q
+
+module _ (kind : Steps) (costs : List (List (Option ℕ))) where
+  cost_is : (a : ℕ × ℕ) (k : ℕ) → Holds costs a k → cost_at costs a ≡ k
+  cost_is a k h = ap (λ o. unwrap_or (unwrap_or o None) 0) h
+
+  IsCostPath-one : (a : ℕ × ℕ) (k : ℕ) → Holds costs a k → IsCostPath kind costs a a (a ∷ []) 0
+  IsCostPath-one a k h =
+      record {
+        first = refl;
+        last = refl;
+        each_cost = each_cost;
+        each_step = each_step;
+        sum_is = refl;
+      }
+    where
+      each_cost : (j : ℕ) (c : ℕ × ℕ) → slice_get (a ∷ []) j ≡ Some c → (k : ℕ) × Holds costs c k
+      each_cost zero c e = let q : a ≡ c = cc in (k, subst (λ x. Holds costs x k) q h)
+      each_cost (suc j) c e = absurd (cc)
+
+      each_step : (j : ℕ) (b c : ℕ × ℕ) → slice_get (a ∷ []) j ≡ Some b → slice_get (a ∷ []) (j + 1) ≡ Some c → IsStep kind b c
+      each_step j b c e f = let lt = slice_get_within (a ∷ []) (j + 1) c f in absurd (omega arith)
+
+  -- a path with one position more at its front
+  IsCostPath-cons : (c a b : ℕ × ℕ) (path : List (ℕ × ℕ)) (sum j k : ℕ) → Holds costs c j → IsStep kind c a → Holds costs a k → IsCostPath kind costs a b path sum → IsCostPath kind costs c b (c ∷ path) (sum + k)
+  IsCostPath-cons c a b [] sum j k h step cost p = absurd (let e = p.first in cc)
+  IsCostPath-cons c a b (x ∷ path) sum j k h step cost p =
+      record {
+        first = refl;
+        last = subst (λ n. slice_get (c ∷ x ∷ path) n ≡ Some b) next p.last;
+        each_cost = each_cost;
+        each_step = each_step;
+        sum_is = total;
+      }
+    where
+      is : x ≡ a
+      is = let e = p.first in cc
+
+      next : suc (length (x ∷ path) - 1) ≡ length (c ∷ x ∷ path) - 1
+      next = omega arith
+
+      total : sum + k ≡ sum_by (cost_at costs) (x ∷ path)
+      total =
+          let old : sum ≡ sum_by (cost_at costs) path = p.sum_is in
+          let here = cost_is x k (subst (λ y. Holds costs y k) (sym is) cost) in
+          omega (arith, sum_by-cons (cost_at costs) x path)
+
+      each_cost : (i : ℕ) (d : ℕ × ℕ) → slice_get (c ∷ x ∷ path) i ≡ Some d → (k : ℕ) × Holds costs d k
+      each_cost zero d e = let q : c ≡ d = cc in (j, subst (λ y. Holds costs y j) q h)
+      each_cost (suc i) d e = p.each_cost i d e
+
+      each_step : (i : ℕ) (d e : ℕ × ℕ) → slice_get (c ∷ x ∷ path) i ≡ Some d → slice_get (c ∷ x ∷ path) (i + 1) ≡ Some e → IsStep kind d e
+      each_step zero d e f g =
+          let q : c ≡ d = cc in
+          let r : x ≡ e = cc in
+          subst (λ y. IsStep kind y e) q (subst (λ y. IsStep kind c y) (sym is ∙ r) step)
+      each_step (suc i) d e f g =
+          let n : suc i + 1 ≡ suc (i + 1) = omega arith in
+          p.each_step i d e f (subst (λ n. slice_get (c ∷ x ∷ path) n ≡ Some e) n g)
+
+-- the walk back has come to the position `here`: what is left of it ends before place n
+pub record IsFollowed (kind : Steps) (from : ℕ × ℕ) (costs : List (List (Option ℕ))) (trail : List Settled) (last here : Settled) (n : ℕ) (path : List (ℕ × ℕ)) : Type 0 where
+  pub before : ComesBefore kind from trail n here
+  pub cost : Holds costs here.at here.cost
+  pub sum : ℕ
+  pub leads : IsCostPath kind costs here.at last.at (reverse path) sum
+  pub total : last.sum ≡ here.sum + sum
+
+module _ (kind : Steps) (from : ℕ × ℕ) (costs : List (List (Option ℕ))) (trail : List Settled) (is_trail : IsTrail kind from costs trail) (last : Settled) where
+  pub IsFollowed-start : slice_get trail (length trail - 1) ≡ Some last → 0 < length trail → IsFollowed kind from costs trail last last (length trail) (last.at ∷ [])
+  IsFollowed-start e some =
+      let cost = is_trail.cost (length trail - 1) last e in
+      record {
+        before = ⊎_elim (λ w. inl w) (λ w. let lt = w.2 in inr (w.0, w.1, omega arith, w.3, w.4, w.5)) (is_trail.before (length trail - 1) last e);
+        cost = cost;
+        sum = 0;
+        leads = IsCostPath-one kind costs last.at last.cost cost;
+        total = omega arith;
+      }
+
+  module _ (here : Settled) (n : ℕ) (path : List (ℕ × ℕ)) (f : IsFollowed kind from costs trail last here (suc n) path) (y : Settled) (at : slice_get trail n ≡ Some y) where
+    pub IsFollowed-found : IsStep kind y.at here.at → here.sum ≡ y.sum + here.cost → IsFollowed kind from costs trail last y n (path ++ y.at ∷ [])
+    IsFollowed-found step is =
+        let cost = is_trail.cost n y at in
+        let total = f.total in
+        record {
+          before = is_trail.before n y at;
+          cost = cost;
+          sum = f.sum + here.cost;
+          leads = subst (λ p. IsCostPath kind costs y.at last.at p (f.sum + here.cost)) (sym (reverse-append path (y.at ∷ [])))
+              (IsCostPath-cons kind costs y.at here.at last.at (reverse path) f.sum y.cost here.cost cost step f.cost f.leads);
+          total = omega arith;
+        }
+
+    pub IsFollowed-past : ((IsStep kind y.at here.at × (here.sum ≡ y.sum + here.cost)) → ⊥) → IsFollowed kind from costs trail last here n path
+    IsFollowed-past other =
+        record {
+          before = ⊎_elim (λ w. inl w)
+              (λ w.
+              ⊎_elim (λ e.
+              let same : w.1 ≡ y = one_item trail n w.1 y (subst (λ i. slice_get trail i ≡ Some w.1) e w.3) at in
+              absurd (other (subst (λ x. IsStep kind x.at here.at) same w.4, subst (λ x. here.sum ≡ x.sum + here.cost) same w.5)))
+              (λ ne. let lt = w.2 in inr (w.0, w.1, omega arith, w.3, w.4, w.5))
+              (cases_eq w.0 n))
+              f.before;
+          cost = f.cost;
+          sum = f.sum;
+          leads = f.leads;
+          total = f.total;
+        }
+
+-- at the start nothing is settled
+module _ (kind : Steps) (from : ℕ × ℕ) (costs : List (List (Option ℕ))) where
+  pub IsTrail-start : IsTrail kind from costs []
+  IsTrail-start = record { cost = λ j x e. absurd (cc); before = λ j x e. absurd (cc) }
+
+  end_cost : (n sum : ℕ) (a b : ℕ × ℕ) → CostWalk kind costs a b n sum → (k : ℕ) × Holds costs b k
+  end_cost zero sum a b w = w.2
+  end_cost (suc n) sum a b w = (w.2, w.5)
+
+  pub none_settled : (u : List (List (Option ℕ))) (heap : List Entry) → IsCostSearch kind costs from u costs heap → (a : ℕ × ℕ) (m : ℕ) → Holds u a m → IsClosed costs a → ⊥
+  none_settled u heap s a m h closed =
+      let w = s.sound a m h in
+      let k = end_cost w.0 m from a w.1 in
+      closed k.0 k.1
+
+-- the position x comes to the trail
+module _ (kind : Steps) (from : ℕ × ℕ) (costs u left : List (List (Option ℕ))) (trail : List Settled) (is_trail : IsTrail kind from costs trail) (all : IsTrailOf u left trail) (x : Settled) (cost : Holds costs x.at x.cost) (comes : Comes kind costs from u left x.at x.sum) where
+  pub IsTrail-push : IsTrail kind from costs (trail ++ x ∷ [])
+  IsTrail-push =
+      record {
+        cost = λ j y e.
+            ⊎_elim (λ w. subst (λ z. Holds costs z.at z.cost) (sym w.1) cost) (λ e0. is_trail.cost j y e0) (at_push_fresh trail x j y e);
+        before = λ j y e.
+            ⊎_elim (λ w. subst (λ z. ComesBefore kind from (trail ++ x ∷ []) j z) (sym w.1) (subst (λ n. ComesBefore kind from (trail ++ x ∷ []) n x) (sym w.0) here))
+            (λ e0. ⊎_elim (λ w. inl w) (λ w. inr (w.0, w.1, w.2, at_push trail x w.0 w.1 w.3, w.4, w.5)) (is_trail.before j y e0))
+            (at_push_fresh trail x j y e);
+      }
+    where
+      here : ComesBefore kind from (trail ++ x ∷ []) (length trail) x
+      here =
+          ⊎_elim (λ w. inl w)
+          (λ w.
+          let v = all w.0 w.1 w.3 w.4 in
+          let k : w.2 ≡ x.cost = one_mark costs x.at w.2 x.cost w.6 cost in
+          let sum : v.1.sum ≡ w.1 = v.4 in
+          let is : x.sum ≡ w.1 + w.2 = w.7 in
+          inr (v.0, v.1, slice_get_within trail v.0 v.1 v.2, at_push trail x v.0 v.1 v.2, subst (λ a. IsStep kind a x.at) (sym v.3) w.5, omega arith))
+          comes
+
+-- what is kept of the trail while the search hasn't settled the goal
+pub record IsKept (kind : Steps) (from : ℕ × ℕ) (costs u left : List (List (Option ℕ))) (goal : ℕ × ℕ) (trail : List Settled) : Type 0 where
+  pub is_trail : IsTrail kind from costs trail
+  pub all : IsTrailOf u left trail
+  pub not_yet : (m : ℕ) → Holds u goal m → IsClosed left goal → ⊥
+
+-- a step of the search: what is settled was settled before, or is the position p with the number n
+module _ (kind : Steps) (from : ℕ × ℕ) (costs u left u' left' : List (List (Option ℕ))) (p : ℕ × ℕ) (n : ℕ) (before : (a : ℕ × ℕ) (m : ℕ) → Holds u' a m → IsClosed left' a → (((k : ℕ) × Holds left p k) × (a ≡ p) × (m ≡ n)) ⊎ (Holds u a m × IsClosed left a)) (goal : ℕ × ℕ) (trail : List Settled) (kept : IsKept kind from costs u left goal trail) where
+  pub IsKept-stale : IsClosed left p → IsKept kind from costs u' left' goal trail
+  IsKept-stale closed =
+      record {
+        is_trail = kept.is_trail;
+        all = λ a m h c. ⊎_elim (λ e. absurd (closed e.0.0 e.0.1)) (λ w. kept.all a m w.0 w.1) (before a m h c);
+        not_yet = λ m h c. ⊎_elim (λ e. closed e.0.0 e.0.1) (λ w. kept.not_yet m w.0 w.1) (before goal m h c);
+      }
+
+  pub IsKept-push : (k : ℕ) → Holds costs p k → Comes kind costs from u left p n → (goal ≡ p → ⊥) → IsKept kind from costs u' left' goal (trail ++ record { at = p; cost = k; sum = n } ∷ [])
+  IsKept-push k cost comes other =
+      let x : Settled = record { at = p; cost = k; sum = n } in
+      record {
+        is_trail = IsTrail-push kind from costs u left trail kept.is_trail kept.all x cost comes;
+        all = λ a m h c.
+            ⊎_elim (λ e. (length trail, x, at_end trail x, sym e.1, sym e.2))
+            (λ w. let v = kept.all a m w.0 w.1 in (v.0, v.1, at_push trail x v.0 v.1 v.2, v.3, v.4))
+            (before a m h c);
+        not_yet = λ m h c. ⊎_elim (λ e. other e.1) (λ w. kept.not_yet m w.0 w.1) (before goal m h c);
+      }

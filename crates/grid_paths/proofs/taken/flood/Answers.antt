@@ -1,0 +1,20 @@
+use Rattle.std.proofs.Common.{refl, sym, ◌∙◌, ap, subst}
+use Rattle.std.proofs.lemmas.Result.{IfOk-weaker}
+use Rattle.grid_paths.specs.Flood.{IsFlood}
+use Rattle.grid_paths.specs.Taken.{places}
+use Rattle.grid_paths.specs.contracts.taken.EnterPartialEq.TheImpl.{ghosts}
+use Rattle.grid_paths.proofs.ClosureLemmas.{HoldsOfAnswers-if_ok}
+use Rattle.grid_paths.proofs.FloodLemmas.{answers-same, way-same}
+use Rattle.grid_paths.proofs.taken.flood.Goals as goal
+
+pub returns : goal.returns
+returns g c =
+    let flood = c.in_ok-take_region.ensures.flood in
+    let ways = c.in_ok-ways.ways in
+    let q = c.take_region.new.taken.items in
+    let same : IsFlood c.args.kind ways.rows c.args.starts.now (places q) = subst (λ u. IsFlood c.args.kind u c.args.starts.now (places q)) (answers-same _ (way-same ghosts.eq refl refl refl refl refl) ways.rows ways.table) flood in
+    HoldsOfAnswers-if_ok _ _ _ c.places_of.result (λ u found. IsFlood c.args.kind u c.args.starts.now found.items)
+    ways.rows c.in_ok-ways.ensures.answers c.in_ok-ways.ensures.cells
+    (IfOk-weaker c.places_of.result _ _
+    (λ found e. subst (λ xs. IsFlood c.args.kind ways.rows c.args.starts.now xs) (sym (e ∙ ap places c.deref.ensures.value)) same)
+    c.places_of.ensures)

@@ -1,0 +1,93 @@
+-- What one step of the search for the least costs does. No public clause cites this module.
+use Rattle.std.specs.Prelude.{◌≡◌, ℕ, ◌+◌, ◌*◌, ◌^◌, ◌<◌, ◌≤◌, ◌⊎◌, Option, None, List, length, Contains}
+use Rattle.std.specs.declared.cmp.Ordering.{Ordering}
+use Rattle.std.specs.declared.cmp.Reverse.{Reverse}
+use Rattle.std.specs.Ordering.{nat_cmp, ordering_then}
+use Rattle.grid_base.specs.Table.{with_cell}
+use Rattle.grid_near.specs.declared.steps.Steps.{Steps}
+use Rattle.grid_paths.specs.Search.{unreached}
+use Rattle.grid_paths.specs.Walks.{IsStep}
+use Rattle.grid_paths.specs.Cheapest.{Holds, CostWalk}
+
+-- an item of the heap: a sum and a position
+abbrev pub Entry : Type 0
+Entry = Reverse (ℕ × (ℕ × ℕ))
+
+-- the order of the items: of the least sum first
+abbrev pub by_sum : Entry → Entry → Ordering
+by_sum x y =
+    ordering_then (nat_cmp y.0.0 x.0.0)
+    (ordering_then (nat_cmp y.0.1.0 x.0.1.0) (nat_cmp y.0.1.1 x.0.1.1))
+
+-- the position a waits in the heap with the sum s
+abbrev pub IsWaiting : List Entry → ℕ → ℕ × ℕ → Type 0
+IsWaiting heap s a = (w : Entry) × Contains heap w × (w.0.0 ≡ s) × (w.0.1 ≡ a)
+
+-- the number at a is at most m
+abbrev pub HoldsUpTo : List (List (Option ℕ)) → ℕ × ℕ → ℕ → Type 0
+HoldsUpTo u a m = (k : ℕ) × Holds u a k × (k ≤ m)
+
+-- no number stands at a
+abbrev pub IsClosed : List (List (Option ℕ)) → ℕ × ℕ → Type 0
+IsClosed t a = (k : ℕ) → Holds t a k → ⊥
+
+-- a near position that was left got the number m, from a sum, and waits with it
+pub record IsEntered (near : ℕ × ℕ → Type 0) (left : List (List (Option ℕ))) (sum : ℕ)
+    (heap : List Entry)
+    (a : ℕ × ℕ) (m : ℕ) : Type 0 where
+  pub is_near : near a
+  pub cost : ℕ
+  pub is_left : Holds left a cost
+  pub is : m ≡ sum + cost
+  pub few : cost < 2 ^ 32
+  pub waits : IsWaiting heap m a
+
+-- the near positions that are left have a number no greater than the sum and their cost, and at
+-- most `most` items were added
+pub record Relaxes (near : ℕ × ℕ → Type 0) (left : List (List (Option ℕ))) (sum : ℕ)
+    (u : List (List (Option ℕ)))
+    (heap : List Entry) (u' : List (List (Option ℕ))) (heap' : List Entry) (most : ℕ) : Type 0 where
+  pub lower : (a : ℕ × ℕ) (m : ℕ) → Holds u a m → HoldsUpTo u' a m
+  pub fresh : (a : ℕ × ℕ) (m : ℕ) → Holds u' a m → Holds u a m ⊎ IsEntered near left sum heap' a m
+  pub kept : (s : ℕ) (a : ℕ × ℕ) → IsWaiting heap s a → IsWaiting heap' s a
+  pub added : (s : ℕ) (a : ℕ × ℕ) → IsWaiting heap' s a
+      → IsWaiting heap s a ⊎ (HoldsUpTo u' a s × (sum ≤ s))
+  pub few : length heap' ≤ length heap + most
+  pub around : (b : ℕ × ℕ) (k : ℕ) → near b → Holds left b k → HoldsUpTo u' b (sum + k)
+
+-- a position that is left is closed, and those that a step from it leads to are entered; at another
+-- nothing changes
+abbrev pub Settles : Steps → ℕ × ℕ → ℕ → List (List (Option ℕ)) → List (List (Option ℕ))
+    → List Entry
+    → List (List (Option ℕ)) → List (List (Option ℕ)) → List Entry → Type 0
+Settles kind at sum left u heap left' u' heap' =
+    (IsClosed left at × (left' ≡ left) × (u' ≡ u) × (heap' ≡ heap))
+    ⊎ ((k : ℕ) × Holds left at k × (left' ≡ with_cell left at.0 at.1 None)
+    × Relaxes (IsStep kind at) (with_cell left at.0 at.1 None) sum u heap u' heap' 8)
+
+-- the first position, or one whose number comes from that of a settled one
+abbrev pub Comes : Steps → List (List (Option ℕ)) → ℕ × ℕ → List (List (Option ℕ))
+    → List (List (Option ℕ)) → ℕ × ℕ → ℕ → Type 0
+Comes kind costs from u left a m =
+    ((a ≡ from) × (m ≡ 0))
+    ⊎ ((c : ℕ × ℕ) × (s : ℕ) × (k : ℕ) × Holds u c s × IsClosed left c × IsStep kind c a
+    × Holds costs a k × (m ≡ s + k))
+
+-- the search has found these numbers; those of the positions that aren't left are settled
+pub record IsCostSearch (kind : Steps) (costs : List (List (Option ℕ))) (from : ℕ × ℕ)
+    (u left : List (List (Option ℕ)))
+    (heap : List Entry) : Type 0 where
+  pub among : (a : ℕ × ℕ) (k : ℕ) → Holds left a k → Holds costs a k
+  pub all : (a : ℕ × ℕ) (k : ℕ) → Holds costs a k
+      → Holds left a k ⊎ ((m : ℕ) × Holds u a m × IsClosed left a)
+  pub sound : (a : ℕ × ℕ) (m : ℕ) → Holds u a m → (n : ℕ) × CostWalk kind costs from a n m
+  pub comes : (a : ℕ × ℕ) (m : ℕ) → Holds u a m → Comes kind costs from u left a m
+  pub waits : (a : ℕ × ℕ) (k m : ℕ) → Holds left a k → Holds u a m → IsWaiting heap m a
+  pub numbered : (s : ℕ) (a : ℕ × ℕ) → IsWaiting heap s a → HoldsUpTo u a s
+  pub ordered : (a : ℕ × ℕ) (m s : ℕ) (b : ℕ × ℕ) → Holds u a m → IsClosed left a
+      → IsWaiting heap s b → m ≤ s
+  pub relaxed : (a : ℕ × ℕ) (m : ℕ) (b : ℕ × ℕ) (k : ℕ) → Holds u a m → IsClosed left a
+      → IsStep kind a b
+      → Holds costs b k → HoldsUpTo u b (m + k)
+  pub start : (k : ℕ) → Holds costs from k → HoldsUpTo u from 0
+  pub bound : (a : ℕ × ℕ) (m : ℕ) → Holds u a m → m ≤ 2 ^ 32 * unreached left

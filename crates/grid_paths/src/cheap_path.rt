@@ -1,0 +1,165 @@
+//! A cheapest path between two cells.
+ghost use Rattle.std.specs.Prelude.{◌≡◌, ◌+◌, ◌-◌, ◌↔◌, ℕ, IfOk, IsTrue, MatchOption, Some, length};
+ghost use Rattle.std.specs.List.{slice_get};
+ghost use Rattle.grid_paths.specs.Closures.{HoldsOfAnswers};
+ghost use Rattle.grid_paths.specs.Walks.{IsStep};
+ghost use Rattle.grid_paths.specs.Cheapest.{CostWalk, IsCheapestPath, IsCostPath};
+ghost use Rattle.grid_paths.specs.Trail.{IsTrail};
+
+use super::costs::{begun, cost_of, costs_of, settle};
+use grid::Grid;
+use grid_near::Steps;
+use std::alloc::{AllocError, Allocator};
+use std::cmp::Reverse;
+
+// A position whose number is settled, what it costs to enter it, and its number.
+#[derive(Clone, Copy)]
+pub(crate) struct Settled {
+    at: (usize, usize),
+    cost: u32,
+    sum: u128,
+}
+
+// Whether a step leads from one position to another.
+fn is_step(kind: Steps, from: (usize, usize), to: (usize, usize)) -> bool
+    ensures { IsTrue result ↔ IsStep kind from to }
+{
+    let rows = from.0.abs_diff(to.0);
+    let cols = from.1.abs_diff(to.1);
+    match kind {
+        Steps::Sides => (rows == 0 && cols == 1) || (rows == 1 && cols == 0),
+        Steps::All => rows <= 1 && cols <= 1 && (rows == 1 || cols == 1),
+    }
+}
+
+// Whether the number of a position can come from that of another.
+fn comes_from(kind: Steps, here: Settled, before: Settled) -> bool
+    ensures { IsTrue result ↔ (IsStep kind before.at here.at × (here.sum ≡ before.sum + here.cost)) }
+{
+    is_step(kind, before.at, here.at)
+        && before.sum <= here.sum
+        && here.sum - before.sum == here.cost as u128
+}
+
+// The path to the last of the settled positions, found from its end: each number comes from that of a position which was
+// settled before.
+fn follow<A: Allocator + Clone>(
+    kind: Steps,
+    trail: &Vec<Settled, A>,
+    last: Settled,
+) -> Result<Vec<(usize, usize), A>, AllocError>
+    requires { slice_get trail.now.items (length trail.now.items - 1) ≡ Some last }
+    ensures { IfOk result (λ path. (costs : _) (from : ℕ × ℕ) → IsTrail kind from costs trail.now.items
+        → IsCostPath kind costs from last.at path.items last.sum) }
+{
+    let mut path = Vec::new(trail.allocator().clone()?);
+    path.push(last.at)?;
+    let mut here = last;
+    let mut left = trail.len();
+    while left > 0 {
+        left -= 1;
+        let before = trail[left];
+        if comes_from(kind, here, before) {
+            path.push(before.at)?;
+            here = before;
+        }
+    }
+    path.reverse();
+    Ok(path)
+}
+
+// A cheapest path over positions with a cost, and its sum. The search stops once it settles the end.
+fn path_over<A: Allocator + Clone>(
+    kind: Steps,
+    costs: Grid<Option<u32>, A>,
+    from: (usize, usize),
+    to: (usize, usize),
+) -> Result<Option<(Vec<(usize, usize), A>, u128)>, AllocError>
+    ensures { IfOk result (λ found. MatchOption found
+        ((n sum : ℕ) → CostWalk kind costs.rows from to n sum → ⊥)
+        (λ path. IsCheapestPath kind costs.rows from to path.0.items path.1)) }
+{
+    let mut trail: Vec<Settled, A> = Vec::new(costs.allocator().clone()?);
+    let (mut sums, mut heap) = begun(&costs, from)?;
+    let mut left = costs;
+    while let Some(next) = heap.pop() {
+        let Reverse((sum, at)) = next;
+        if let Some(cost) = cost_of(&left, at.0, at.1) {
+            let here = Settled { at, cost, sum };
+            trail.push(here)?;
+            if at == to {
+                return Ok(Some((follow(kind, &trail, here)?, sum)));
+            }
+        }
+        settle(kind, at.0, at.1, sum, &mut left, &mut sums, &mut heap)?;
+    }
+    Ok(None)
+}
+
+/// Returns a cheapest path from one position to another, and the sum of its costs: of the cells that it enters, as
+/// [`cheapest`](super::cheapest) counts them. Returns `None` exactly where no path leads.
+///
+///     [[1, 9, 1], [1, 1, 1]]   cheapest_path((0, 0), (0, 2), Steps::Sides, |x| Some(*x))   ([(0, 0), (1, 0), (1, 1), (1, 2), (0, 2)], 4)
+///
+/// Requires: the closure can be called at every cell.
+/// Fails: where memory is refused.
+/// Cost: at most that of `cheapest`, whose search stops here once it settles the end; then a constant number of steps for
+/// each settled cell.
+pub fn cheapest_path<T, A: Allocator + Clone, F: Fn(&T) -> Option<u32>>(
+    grid: &Grid<T, A>,
+    from: (usize, usize),
+    to: (usize, usize),
+    kind: Steps,
+    cost: F,
+) -> Result<Option<(Vec<(usize, usize), A>, u128)>, AllocError>
+    requires { F.IsAlwaysCallable cost }
+    ensures { IfOk result (λ found. MatchOption found
+        (HoldsOfAnswers F.post cost grid.now.rows (λ costs.
+        (n sum : ℕ) → CostWalk kind costs from to n sum → ⊥))
+        (λ path. HoldsOfAnswers F.post cost grid.now.rows (λ costs.
+        IsCheapestPath kind costs from to path.0.items path.1))) }
+{
+    let costs = costs_of(grid, cost)?;
+    path_over(kind, costs, from, to)
+}
+
+#[cfg(test)]
+mod tests {
+    use super::*;
+    use grid::Order;
+    use std::process::Abort;
+    use std::test::Fail;
+
+    // A cheapest path over rows of digits, where a point can't be entered.
+    fn assert_path<R: AllocGlobal + Abort>(
+        rt: &R,
+        rows: [u8; 12],
+        from: (usize, usize),
+        to: (usize, usize),
+        kind: Steps,
+        want: &str,
+    ) -> Result<(), Fail> {
+        for order in [Order::RowMajor, Order::ColumnMajor] {
+            let mut grid = Grid::from_vec(Vec::from_array(rt.alloc(), rows)?, 4);
+            grid.lay_out(order);
+            let found = cheapest_path(&grid, from, to, kind, |cell| (*cell as char).to_digit(10))?;
+            assert_eq!(rt; format!(in rt.alloc(); "{found:?}")?.as_str(), want);
+        }
+        Ok(())
+    }
+
+    #[test]
+    fn paths_are_cheapest(rt: HostRuntime) -> Result<(), Fail> {
+        let rows = *b"19111.911111";
+        let round = "Some(([(0, 0), (1, 0), (2, 0), (2, 1), (2, 2), (2, 3), (1, 3), (0, 3)], 7))";
+        assert_path(&rt, rows, (0, 0), (0, 3), Steps::Sides, round)?;
+        let here = "Some(([(1, 2)], 0))";
+        assert_path(&rt, rows, (1, 2), (1, 2), Steps::Sides, here)?;
+        assert_path(&rt, rows, (1, 1), (1, 1), Steps::Sides, "None")?;
+        assert_path(&rt, rows, (0, 0), (3, 0), Steps::All, "None")?;
+        let free = *b"00000..91091";
+        let corner = "Some(([(0, 0), (0, 1), (0, 2), (0, 3), (1, 3), (2, 3)], 10))";
+        assert_path(&rt, free, (0, 0), (2, 3), Steps::Sides, corner)?;
+        Ok(())
+    }
+}

@@ -1,0 +1,316 @@
+//! The least sum of costs to each cell, by Dijkstra's search.
+ghost use Rattle.std.specs.Prelude.{◌≡◌, ◌<◌, ◌≤◌, ◌+◌, ◌^◌, ◌↔◌, ℕ, [], Contains, IfOk, IsTrue, OnOk, Some, length};
+ghost use Rattle.std.specs.BinaryHeap.{IsHeap, heap_items};
+ghost use Rattle.grid_base.specs.Table.{InRange};
+ghost use Rattle.grid_paths.specs.Closures.{answers_by, IsAnswer, AreAnswers, HoldsOfAnswers};
+ghost use Rattle.grid_paths.specs.Walks.{IsStep};
+ghost use Rattle.grid_paths.specs.Search.{HaveOneSize};
+ghost use Rattle.grid_paths.specs.Cheapest.{Holds, HasLeastCosts};
+ghost use Rattle.grid_paths.specs.Relaxing.{Relaxes, Settles, IsCostSearch, by_sum};
+
+use super::around::around;
+use grid::Grid;
+use grid_near::Steps;
+use std::alloc::{AllocError, Allocator};
+use std::cmp::Reverse;
+use std::collections::BinaryHeap;
+
+// For how many waiting positions there is room from the start.
+const MANY: usize = 1024;
+
+// Whether a sum is less than the number at a position, or none stands there.
+fn is_less<A: Allocator>(sums: &Grid<Option<u128>, A>, row: usize, col: usize, sum: u128) -> bool
+    requires { InRange sums.now.rows row col }
+    ensures { IsTrue result ↔ ((m : ℕ) → Holds sums.now.rows (row, col) m → sum < m) }
+{
+    match sums[(row, col)] {
+        Some(old) => sum < old,
+        None => true,
+    }
+}
+
+// What it costs to enter a position, if it is left.
+pub(crate) fn cost_of<A: Allocator>(
+    left: &Grid<Option<u32>, A>,
+    row: usize,
+    col: usize,
+) -> Option<u32>
+    ensures { (k : ℕ) → (result ≡ Some k) ↔ Holds left.now.rows (row, col) k }
+{
+    match left.get(row, col) {
+        Some(cost) => *cost,
+        None => None,
+    }
+}
+
+// Whether a position is left.
+fn is_left<A: Allocator>(left: &Grid<Option<u32>, A>, row: usize, col: usize) -> bool
+    ensures { IsTrue result ↔ ((k : ℕ) × Holds left.now.rows (row, col) k) }
+{
+    cost_of(left, row, col).is_some()
+}
+
+// Enters a position, if it is left, from another of this sum: a lesser number than before is written, and the position
+// waits with it. `left` has the costs of the positions whose number isn't settled yet.
+#[inline(always)]
+fn relax<A: Allocator>(
+    row: usize,
+    col: usize,
+    sum: u128,
+    left: &Grid<Option<u32>, A>,
+    sums: &mut Grid<Option<u128>, A>,
+    heap: &mut BinaryHeap<Reverse<(u128, (usize, usize))>, A>,
+) -> Result<(), AllocError>
+    requires small { sum + 2 ^ 32 ≤ 2 ^ 128 }
+    requires size { HaveOneSize sums.old.rows left.now.rows }
+    requires heap_order { IsHeap by_sum (heap_items heap.old) }
+    ensures order { sums.new.order ≡ sums.old.order }
+    ensures size { HaveOneSize sums.new.rows left.now.rows }
+    ensures heap_order { OnOk result (IsHeap by_sum (heap_items heap.new)) }
+    ensures relaxes { OnOk result (Relaxes (λ b. (row, col) ≡ b) left.now.rows sum
+        sums.old.rows (heap_items heap.old) sums.new.rows (heap_items heap.new) 1) }
+{
+    if let Some(cost) = cost_of(left, row, col) {
+        let next = sum + cost as u128;
+        if is_less(sums, row, col, next) {
+            sums.set(row, col, Some(next));
+            heap.push(Reverse((next, (row, col))))?;
+        }
+    }
+    Ok(())
+}
+
+// Enters each of these positions, as far as it is left.
+fn relax_each<A: Allocator>(
+    at: &[(usize, usize)],
+    sum: u128,
+    left: &Grid<Option<u32>, A>,
+    sums: &mut Grid<Option<u128>, A>,
+    heap: &mut BinaryHeap<Reverse<(u128, (usize, usize))>, A>,
+) -> Result<(), AllocError>
+    requires small { sum + 2 ^ 32 ≤ 2 ^ 128 }
+    requires size { HaveOneSize sums.old.rows left.now.rows }
+    requires heap_order { IsHeap by_sum (heap_items heap.old) }
+    ensures order { sums.new.order ≡ sums.old.order }
+    ensures size { HaveOneSize sums.new.rows left.now.rows }
+    ensures heap_order { OnOk result (IsHeap by_sum (heap_items heap.new)) }
+    ensures relaxes { OnOk result (Relaxes (λ b. Contains at.now b) left.now.rows sum
+        sums.old.rows (heap_items heap.old) sums.new.rows (heap_items heap.new) (length at.now)) }
+{
+    for near in at {
+        relax(near.0, near.1, sum, left, sums, heap)?;
+    }
+    Ok(())
+}
+
+// Enters the positions that a step from this one leads to.
+fn relax_around<A: Allocator>(
+    kind: Steps,
+    row: usize,
+    col: usize,
+    sum: u128,
+    left: &Grid<Option<u32>, A>,
+    sums: &mut Grid<Option<u128>, A>,
+    heap: &mut BinaryHeap<Reverse<(u128, (usize, usize))>, A>,
+) -> Result<(), AllocError>
+    requires at { InRange left.now.rows row col }
+    requires small { sum + 2 ^ 32 ≤ 2 ^ 128 }
+    requires size { HaveOneSize sums.old.rows left.now.rows }
+    requires heap_order { IsHeap by_sum (heap_items heap.old) }
+    ensures order { sums.new.order ≡ sums.old.order }
+    ensures size { HaveOneSize sums.new.rows left.now.rows }
+    ensures heap_order { OnOk result (IsHeap by_sum (heap_items heap.new)) }
+    ensures relaxes { OnOk result (Relaxes (IsStep kind (row, col)) left.now.rows sum
+        sums.old.rows (heap_items heap.old) sums.new.rows (heap_items heap.new) 8) }
+{
+    let at = around(row, col);
+    match kind {
+        Steps::Sides => relax_each(&at[..4], sum, left, sums, heap),
+        Steps::All => relax_each(&at, sum, left, sums, heap),
+    }
+}
+
+// Settles a position, if it is left, and enters those that a step from it leads to.
+pub(crate) fn settle<A: Allocator>(
+    kind: Steps,
+    row: usize,
+    col: usize,
+    sum: u128,
+    left: &mut Grid<Option<u32>, A>,
+    sums: &mut Grid<Option<u128>, A>,
+    heap: &mut BinaryHeap<Reverse<(u128, (usize, usize))>, A>,
+) -> Result<(), AllocError>
+    requires small { (k : ℕ) → Holds left.old.rows (row, col) k → sum + 2 ^ 32 ≤ 2 ^ 128 }
+    requires size { HaveOneSize sums.old.rows left.old.rows }
+    requires heap_order { IsHeap by_sum (heap_items heap.old) }
+    ensures order { sums.new.order ≡ sums.old.order }
+    ensures size { HaveOneSize sums.new.rows left.old.rows }
+    ensures left { HaveOneSize left.new.rows left.old.rows }
+    ensures heap_order { OnOk result (IsHeap by_sum (heap_items heap.new)) }
+    ensures settles { OnOk result (Settles kind (row, col) sum
+        left.old.rows sums.old.rows (heap_items heap.old)
+        left.new.rows sums.new.rows (heap_items heap.new)) }
+{
+    if is_left(left, row, col) {
+        left.set(row, col, None);
+        relax_around(kind, row, col, sum, left, sums, heap)?;
+    }
+    Ok(())
+}
+
+// The first position has the number 0, and waits, if it can be entered.
+fn start<A: Allocator>(
+    from: (usize, usize),
+    costs: &Grid<Option<u32>, A>,
+    sums: &mut Grid<Option<u128>, A>,
+    heap: &mut BinaryHeap<Reverse<(u128, (usize, usize))>, A>,
+) -> Result<(), AllocError>
+    requires size { HaveOneSize sums.old.rows costs.now.rows }
+    requires no_number { (a : ℕ × ℕ) (m : ℕ) → Holds sums.old.rows a m → ⊥ }
+    requires nothing_waits { heap_items heap.old ≡ [] }
+    requires heap_order { IsHeap by_sum (heap_items heap.old) }
+    ensures order { sums.new.order ≡ sums.old.order }
+    ensures size { HaveOneSize sums.new.rows costs.now.rows }
+    ensures heap_order { OnOk result (IsHeap by_sum (heap_items heap.new)) }
+    ensures search { OnOk result ((kind : Steps) → IsCostSearch kind costs.now.rows from
+        sums.new.rows costs.now.rows (heap_items heap.new)) }
+{
+    if is_left(costs, from.0, from.1) {
+        sums.set(from.0, from.1, Some(0));
+        heap.push(Reverse((0, from)))?;
+    }
+    Ok(())
+}
+
+// The numbers and the heap at the start.
+pub(crate) fn begun<A: Allocator + Clone>(
+    costs: &Grid<Option<u32>, A>,
+    from: (usize, usize),
+) -> Result<
+    (
+        Grid<Option<u128>, A>,
+        BinaryHeap<Reverse<(u128, (usize, usize))>, A>,
+    ),
+    AllocError,
+>
+    ensures order { IfOk result (λ both. both.0.order ≡ costs.now.order) }
+    ensures size { IfOk result (λ both. HaveOneSize both.0.rows costs.now.rows) }
+    ensures heap_order { IfOk result (λ both. IsHeap by_sum (heap_items both.1)) }
+    ensures search { IfOk result (λ both. (kind : Steps) → IsCostSearch kind costs.now.rows from
+        both.0.rows costs.now.rows (heap_items both.1)) }
+{
+    let mut sums: Grid<Option<u128>, A> = costs.map_indexed(|_, _| None)?;
+    let cells = costs.flatten().len();
+    let mut heap = BinaryHeap::with_capacity(costs.allocator().clone()?, cells.min(MANY))?;
+    start(from, costs, &mut sums, &mut heap)?;
+    Ok((sums, heap))
+}
+
+// The least sum of costs to each position. A position may wait several times; it is settled when it comes first, with
+// the least number of all that wait.
+fn search<A: Allocator + Clone>(
+    kind: Steps,
+    costs: Grid<Option<u32>, A>,
+    from: (usize, usize),
+) -> Result<Grid<Option<u128>, A>, AllocError>
+    ensures order { IfOk result (λ sums. sums.order ≡ costs.order) }
+    ensures size { IfOk result (λ sums. HaveOneSize sums.rows costs.rows) }
+    ensures least { IfOk result (λ sums. HasLeastCosts kind costs.rows from sums.rows) }
+{
+    let (mut sums, mut heap) = begun(&costs, from)?;
+    let mut left = costs;
+    while let Some(next) = heap.pop() {
+        let Reverse((sum, (row, col))) = next;
+        settle(kind, row, col, sum, &mut left, &mut sums, &mut heap)?;
+    }
+    Ok(sums)
+}
+
+// What it costs to enter each cell.
+pub(crate) fn costs_of<T, A: Allocator + Clone, F: Fn(&T) -> Option<u32>>(
+    grid: &Grid<T, A>,
+    cost: F,
+) -> Result<Grid<Option<u32>, A>, AllocError>
+    requires { F.IsAlwaysCallable cost }
+    ensures order { IfOk result (λ costs. costs.order ≡ grid.now.order) }
+    ensures size { IfOk result (λ costs. HaveOneSize costs.rows grid.now.rows) }
+    ensures answers { IfOk result (λ costs. AreAnswers F.post cost grid.now.rows costs.rows) }
+    ensures cells { IfOk result (λ costs. (p : _) → IsAnswer F.post cost p
+        → costs.rows ≡ answers_by p grid.now.rows) }
+{
+    grid.map_indexed(|_, cell| cost(cell))
+}
+
+/// Returns, for each cell, the least sum of costs of a way from a position. `cost` says what it costs to enter a cell, 0
+/// too, or `None` for a cell that can't be entered. The first cell's own cost doesn't count, but it has to have one.
+/// `None` stands exactly where no way leads.
+///
+///     [[1, 9, 1], [1, 1, 1]]   cheapest((0, 0), Steps::Sides, |x| Some(*x))   [[Some(0), Some(9), Some(4)], [Some(1), Some(2), Some(3)]]
+///     [[1, 9, 1], [1, 1, 1]]   cheapest((0, 0), Steps::All, |x| Some(*x))     [[Some(0), Some(9), Some(2)], [Some(1), Some(1), Some(2)]]
+///
+/// Requires: the closure can be called at every cell.
+/// Fails: where memory is refused.
+/// Cost: one call for each cell; a number of steps for each cell that grows as the logarithm of the number of cells; three
+/// allocations, and those of the heap where more than 1,024 positions wait, each at most once for each step to it.
+pub fn cheapest<T, A: Allocator + Clone, F: Fn(&T) -> Option<u32>>(
+    grid: &Grid<T, A>,
+    from: (usize, usize),
+    kind: Steps,
+    cost: F,
+) -> Result<Grid<Option<u128>, A>, AllocError>
+    requires { F.IsAlwaysCallable cost }
+    ensures order { IfOk result (λ sums. sums.order ≡ grid.now.order) }
+    ensures size { IfOk result (λ sums. HaveOneSize sums.rows grid.now.rows) }
+    ensures least { IfOk result (λ sums. HoldsOfAnswers F.post cost grid.now.rows (λ costs.
+        HasLeastCosts kind costs from sums.rows)) }
+{
+    let costs = costs_of(grid, cost)?;
+    search(kind, costs, from)
+}
+
+#[cfg(test)]
+mod tests {
+    use super::*;
+    use grid::Order;
+    use std::process::Abort;
+    use std::test::Fail;
+
+    // What the ways from a position cost over the rows 1 7 0, 1 255 2, 0 1 1, where 255 can't be entered.
+    fn assert_costs<R: AllocGlobal + Abort>(
+        rt: &R,
+        order: Order,
+        from: (usize, usize),
+        kind: Steps,
+        want: &str,
+    ) -> Result<(), Fail> {
+        let mut grid: Grid<u8> = Grid::from_vec(
+            vec![in rt.alloc(); 1, 7, 0, 1, 255, 2, 0, 1, 1]?,
+            3,
+        );
+        grid.lay_out(order);
+        let sums = cheapest(&grid, from, kind, |cell| {
+            if *cell == 255 {
+                None
+            } else {
+                Some(*cell as u32)
+            }
+        })?;
+        assert_eq!(rt; format!(in rt.alloc(); "{sums:?}")?.as_str(), want);
+        Ok(())
+    }
+
+    #[test]
+    fn sums_are_least(rt: HostRuntime) -> Result<(), Fail> {
+        for order in [Order::RowMajor, Order::ColumnMajor] {
+            let sides =
+                "[[Some(0), Some(7), Some(5)][Some(1), None, Some(5)][Some(1), Some(2), Some(3)]]";
+            assert_costs(&rt, order, (0, 0), Steps::Sides, sides)?;
+            let all =
+                "[[Some(0), Some(7), Some(4)][Some(1), None, Some(4)][Some(1), Some(2), Some(3)]]";
+            assert_costs(&rt, order, (0, 0), Steps::All, all)?;
+            let closed = "[[None, None, None][None, None, None][None, None, None]]";
+            assert_costs(&rt, order, (1, 1), Steps::All, closed)?;
+        }
+        Ok(())
+    }
+}

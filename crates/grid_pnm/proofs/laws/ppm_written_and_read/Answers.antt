@@ -1,0 +1,14 @@
+-- What is read of a picture that was written is the board of its samples.
+use Rattle.std.proofs.Common.{◌≡◌, ◌<◌, ◌^◌, ◌∙◌, Ok, ap, length, rules}
+use Rattle.grid_pnm.specs.Reading.{ppm_of}
+use Rattle.grid_pnm.specs.Writing.{ppm_bytes, table_map}
+use Rattle.grid_pnm.proofs.PictureLemmas.{back}
+use Rattle.grid_pnm.proofs.LawLemmas.{ppm_back}
+use Rattle.grid_pnm.proofs.laws.ppm_written_and_read.Goals as goal
+
+pub returns : goal.returns
+returns g c = λ h writes all.
+    let bytes : c.as_slice.result.now ≡ ppm_bytes h c.args.grid.now.rows = c.as_slice.ensures.value ∙ c.in_ok-bytes.ensures h writes in
+    let small : length c.as_slice.result.now < 2 ^ 64 = search rules in
+    let due : ppm_of c.as_slice.result.now ≡ Ok (table_map h c.args.grid.now.rows) = ap ppm_of bytes ∙ ppm_back c.args.grid.now.rows c.args.grid.now.table h all (rw bytes at small) in
+    back _ _ _ _ due _ c.from_ppm.ensures

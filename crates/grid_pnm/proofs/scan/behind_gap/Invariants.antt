@@ -1,0 +1,10 @@
+-- What stands behind the gap stands behind the rest of it.
+use Rattle.std.proofs.Common.{◌≡◌, ◌≤◌, false, length}
+use Rattle.grid_pnm.specs.Scan.{behind_gap}
+use Rattle.grid_pnm.proofs.scan.behind_gap.Given as goal
+
+abbrev pub invariant-loop-byte : goal.invariant-loop-byte
+invariant-loop-byte l = (behind_gap l.comment l.rest ≡ behind_gap false l.fn.bytes) × (length l.rest ≤ length l.fn.bytes)
+
+abbrev pub decreases-loop-byte : goal.decreases-loop-byte
+decreases-loop-byte l = length l.rest

@@ -1,0 +1,8 @@
+-- The samples so far, before those of the cells that are left.
+use Rattle.std.proofs.Common.{◌≡◌, ◌++◌, ℕ, map}
+use Rattle.grid_pnm.specs.Writing.{WritesBy}
+use Rattle.grid_pnm.proofs.write.push_grays.Given as goal
+
+abbrev pub invariant-loop-cell : goal.invariant-loop-cell
+invariant-loop-cell g l =
+    (h : _ → ℕ) → WritesBy (goal.F-post g) l.write h → l.bytes.items ++ map h l.cell-iterator ≡ l.fn.bytes.items ++ map h l.fn.row

@@ -1,0 +1,9 @@
+-- The samples so far, before those of the rows that are left.
+use Rattle.std.proofs.Common.{◌≡◌, ◌++◌, ℕ, List}
+use Rattle.std.specs.List.{flat_map}
+use Rattle.grid_pnm.specs.Writing.{WritesBy, ppm_bytes}
+use Rattle.grid_pnm.proofs.write.to_ppm.Given as goal
+
+abbrev pub invariant-loop-row : goal.invariant-loop-row
+invariant-loop-row g l =
+    (h : _ → List ℕ) → WritesBy (goal.F-post g) l.write h → l.bytes.items ++ flat_map (λ row. flat_map h row) l.row-iterator ≡ ppm_bytes h l.fn.grid.rows

@@ -1,0 +1,59 @@
+//! Small boards made large, to be seen.
+ghost use Rattle.std.specs.Prelude.{◌≡◌, ◌*◌, IfOk};
+ghost use Rattle.grid_base.specs.Table.{row_count, col_count};
+ghost use Rattle.grid.specs.Make.{FailsBySize};
+ghost use Rattle.grid_pnm.specs.Enlarging.{enlarged};
+
+use grid::{Grid, GridError, Order};
+use std::alloc::Allocator;
+
+/// Returns the row-major grid in which each cell fills a square of so many rows and columns.
+///
+///     [[1, 2]]   enlarged(alloc, grid, 2)   [[1, 1, 2, 2], [1, 1, 2, 2]]
+///
+/// Fails: `TooLarge` where the cells pass `usize::MAX`, else `Memory`.
+/// Cost: one copy for each cell of the new grid; one allocation.
+pub fn enlarged<T: Copy, A: Allocator, B: Allocator>(
+    alloc: B,
+    grid: &Grid<T, A>,
+    scale: usize,
+) -> Result<Grid<T, B>, GridError>
+    ensures rows { IfOk result (λ g. g.rows ≡ enlarged scale grid.now.rows) }
+    ensures order { IfOk result (λ g. g.order ≡ Order.RowMajor) }
+    ensures fails { FailsBySize (row_count grid.now.rows * scale)
+        (col_count grid.now.rows * scale) result }
+{
+    let (rows, cols) = grid.size();
+    let (Some(rows), Some(cols)) = (rows.checked_mul(scale), cols.checked_mul(scale)) else {
+        return Err(GridError::TooLarge);
+    };
+    Grid::from_fn(
+        alloc,
+        rows,
+        cols,
+        |(row, col)| *grid.get_unchecked(row / scale, col / scale),
+    )
+}
+
+#[cfg(test)]
+mod tests {
+    use super::*;
+    use std::test::Fail;
+
+    #[test]
+    fn cells_fill_squares(rt: HostRuntime) -> Result<(), Fail> {
+        let mut grid: Grid<u8> = Grid::from_vec(vec![in rt.alloc(); 1, 2, 3, 4]?, 2);
+        grid.transpose();
+        for (scale, want) in [
+            (0, "[]"),
+            (1, "[[1, 3][2, 4]]"),
+            (2, "[[1, 1, 3, 3][1, 1, 3, 3][2, 2, 4, 4][2, 2, 4, 4]]"),
+        ] {
+            let large = enlarged(rt.alloc(), &grid, scale)?;
+            assert_eq!(rt; format!(in rt.alloc(); "{large:?}")?.as_str(), want);
+        }
+        let larger: Result<Grid<u8>, GridError> = enlarged(rt.alloc(), &grid, usize::MAX);
+        assert!(rt; larger.is_err());
+        Ok(())
+    }
+}

@@ -1,0 +1,75 @@
+//! Why bytes are no picture.
+ghost use Rattle.std.specs.Prelude.{◌≡◌};
+ghost use Rattle.grid_pnm.specs.declared.error.PnmError.TheVariants.{Memory};
+
+use std::alloc::{AllocError, AllocFailed};
+use thiserror::Error;
+
+/// Why bytes could not be read as a picture: the first fault from the front. Offsets are counted from 0, in bytes.
+#[derive(Clone, Copy, Debug, PartialEq, Eq, Error)]
+pub enum PnmError {
+    /// The bytes begin with none of the magic numbers that the call reads.
+    #[error("no magic number of such a picture at byte 0")]
+    BadMagic,
+    /// No number stands here, or one above `usize::MAX`.
+    #[error("no number at byte {at}")]
+    BadNumber {
+        /// The first byte that is neither white space nor in a comment.
+        at: usize,
+    },
+    /// The greatest sample is not from 1 to 255.
+    #[error("the greatest sample is {max}, not 1 to 255, before byte {at}")]
+    BadMax {
+        /// The greatest sample that the header says.
+        max: usize,
+        /// The byte behind it.
+        at: usize,
+    },
+    /// Behind the greatest sample stands no white space.
+    #[error("no white space at byte {at}")]
+    NoSpace {
+        /// The byte behind the greatest sample.
+        at: usize,
+    },
+    /// The raster has less bytes than the size says samples.
+    #[error("too few bytes from byte {at} on for {rows} rows of {cols} cells")]
+    Short {
+        /// Where the raster begins.
+        at: usize,
+        /// The number of rows that the header says.
+        rows: usize,
+        /// The number of columns that it says.
+        cols: usize,
+    },
+    /// A sample is above the greatest.
+    #[error("the sample {sample} at byte {at} is above {max}")]
+    AboveMax {
+        /// The sample.
+        sample: usize,
+        /// Where it stands.
+        at: usize,
+        /// The greatest sample that the header says.
+        max: u8,
+    },
+    /// Memory was refused.
+    #[error("out of memory")]
+    Memory,
+}
+
+/// Returns `PnmError::Memory`.
+impl From<AllocError> for PnmError {
+    ghost from_gives = { λ _ e. e ≡ Memory };
+
+    fn from(_refused: AllocError) -> PnmError {
+        PnmError::Memory
+    }
+}
+
+/// Returns `PnmError::Memory`, and drops what was handed over.
+impl<T: Drop> From<AllocFailed<T>> for PnmError {
+    ghost from_gives = { λ _ e. e ≡ Memory };
+
+    fn from(_refused: AllocFailed<T>) -> PnmError {
+        PnmError::Memory
+    }
+}

@@ -1,0 +1,96 @@
+//! The header of a picture.
+ghost use Rattle.std.specs.Prelude.{◌≡◌, ◌+◌, ◌-◌, ◌≤◌, ◌<◌, length, IfOk, IfSome};
+ghost use Rattle.grid_pnm.specs.Header.{magic_of, header_by, header_of};
+
+use crate::PnmError;
+use crate::scan::{is_white, next_number};
+
+/// What a picture says of itself before its samples.
+#[derive(Clone, Copy, Debug, PartialEq, Eq, Drop)]
+pub struct Header {
+    /// Whether a cell has three samples, for red, green and blue, and not one.
+    pub color: bool,
+    /// Whether the samples are written as decimals, and not as bytes.
+    pub plain: bool,
+    /// The number of rows.
+    pub rows: usize,
+    /// The number of columns.
+    pub cols: usize,
+    /// The greatest sample, which is white: 1 to 255.
+    pub max: u8,
+    /// The offset of the samples, in bytes.
+    pub raster: usize,
+}
+
+/// Returns the header of a picture: a magic number, the numbers of columns and rows, and the greatest sample. White
+/// space and comments may stand before each number; behind the last stands one byte of white space, and then the samples.
+///
+///     read_header(b"P5 # a comment\n640 480\n255\n..")   { color: false, plain: false, rows: 480, cols: 640, max: 255, .. }
+///
+/// Fails: `BadMagic`, `BadNumber`, `BadMax` or `NoSpace`, whichever comes first.
+/// Cost: the samples aren't read, and no memory is taken.
+#[tactic(auto, unfolding(crate::specs::Header::header_after))]
+pub fn read_header(bytes: &[u8]) -> Result<Header, PnmError>
+    ensures header { result ≡ header_of bytes.now }
+    ensures raster { IfOk result (λ header. header.raster ≤ length bytes.now) }
+    ensures max { IfOk result (λ header. 0 < header.max) }
+{
+    let len = bytes.len();
+    let Some(kind) = magic(bytes) else {
+        return Err(PnmError::BadMagic);
+    };
+    let (cols, rest) = next_number(len, &bytes[2..])?;
+    let (rows, rest) = next_number(len, rest)?;
+    let (max, rest) = next_number(len, rest)?;
+    header_by(len, kind, cols, rows, max, rest)
+}
+
+// Whether the magic number at the front is that of colored pictures, and that of plain ones.
+fn magic(bytes: &[u8]) -> Option<(bool, bool)>
+    ensures kind { result ≡ magic_of bytes.now }
+    ensures len { IfSome result (λ _. 2 ≤ length bytes.now) }
+{
+    if bytes.starts_with(b"P2") {
+        Some((false, true))
+    } else if bytes.starts_with(b"P3") {
+        Some((true, true))
+    } else if bytes.starts_with(b"P5") {
+        Some((false, false))
+    } else if bytes.starts_with(b"P6") {
+        Some((true, false))
+    } else {
+        None
+    }
+}
+
+// The header of these numbers.
+#[tactic(auto, unfolding(crate::specs::Header::header_by))]
+fn header_by(
+    len: usize,
+    kind: (bool, bool),
+    cols: usize,
+    rows: usize,
+    max: usize,
+    rest: &[u8],
+) -> Result<Header, PnmError>
+    requires { length rest.now ≤ len }
+    ensures header { result ≡ header_by len kind cols rows max rest.now }
+    ensures raster { IfOk result (λ header. header.raster ≤ len) }
+    ensures max { IfOk result (λ header. 0 < header.max) }
+{
+    let at = len - rest.len();
+    if max == 0 || max > 255 {
+        return Err(PnmError::BadMax { max, at });
+    }
+    match rest.first() {
+        Some(byte) if is_white(*byte) => Ok(Header {
+            color: kind.0,
+            plain: kind.1,
+            rows,
+            cols,
+            max: max as u8,
+            raster: at + 1,
+        }),
+        _ => Err(PnmError::NoSpace { at }),
+    }
+}

@@ -1,0 +1,80 @@
+//! Numbers between white space and comments.
+ghost use Rattle.std.specs.Prelude.{◌≡◌, ◌≤◌, false, None, Some, Ok, Err, length, IfSome, IfOk, MatchOption, MatchResult};
+ghost use Rattle.grid_pnm.specs.Scan.{is_white, ends_comment, behind_gap, digit_count, number_at, next_number};
+
+use crate::PnmError;
+use text_lines::index;
+
+// White space: a space, a tab, a line feed or a carriage return.
+pub(crate) fn is_white(byte: u8) -> bool
+    ensures { result ≡ is_white byte }
+{
+    byte == b' ' || byte == b'\t' || byte == b'\n' || byte == b'\r'
+}
+
+// Whether a comment ends with this byte.
+fn ends_comment(byte: u8) -> bool
+    ensures { result ≡ ends_comment byte }
+{
+    byte == b'\n' || byte == b'\r'
+}
+
+// What stands behind the white space and the comments at the front.
+pub(crate) fn behind_gap(bytes: &[u8]) -> &[u8]
+    ensures rest { result.now ≡ behind_gap false bytes.now }
+    ensures shorter { length result.now ≤ length bytes.now }
+{
+    let mut rest = bytes;
+    let mut comment = false;
+    while let Some((byte, later)) = rest.split_first() {
+        if comment {
+            comment = !ends_comment(*byte);
+        } else if *byte == b'#' {
+            comment = true;
+        } else if !is_white(*byte) {
+            return rest;
+        }
+        rest = later;
+    }
+    rest
+}
+
+// How many digits stand at the front.
+#[tactic(auto, using(crate::proofs::ScanLemmas::front_count))]
+fn digit_count(bytes: &[u8]) -> usize
+    ensures count { result ≡ digit_count bytes.now }
+    ensures within { result ≤ length bytes.now }
+{
+    bytes
+        .iter()
+        .take_while(|byte| byte.is_ascii_digit())
+        .count()
+}
+
+// The number that the digits at the front write, and what stands behind them.
+pub(crate) fn number_at(bytes: &[u8]) -> Option<(usize, &[u8])>
+    ensures number { MatchOption result (number_at bytes.now ≡ None)
+        (λ number. number_at bytes.now ≡ Some (number.0, number.1.now)) }
+    ensures shorter { IfSome result (λ number. length number.1.now ≤ length bytes.now) }
+{
+    let (digits, rest) = bytes.split_at(digit_count(bytes));
+    let word = str::from_utf8(digits).ok()?;
+    Some((index(word)?, rest))
+}
+
+// The number behind white space and comments, and what stands behind it, in a picture of so many bytes.
+#[tactic(auto, unfolding(crate::specs::Scan::next_number))]
+pub(crate) fn next_number(len: usize, bytes: &[u8]) -> Result<(usize, &[u8]), PnmError>
+    ensures number { MatchResult result
+        (λ number. next_number len bytes.now ≡ Ok (number.0, number.1.now))
+        (λ e. next_number len bytes.now ≡ Err e) }
+    ensures shorter { IfOk result (λ number. length number.1.now ≤ length bytes.now) }
+{
+    let here = behind_gap(bytes);
+    match number_at(here) {
+        Some(number) => Ok(number),
+        None => Err(PnmError::BadNumber {
+            at: len.saturating_sub(here.len()),
+        }),
+    }
+}

@@ -1,0 +1,147 @@
+//! Grids written as pictures.
+ghost use Rattle.std.specs.Prelude.{◌≡◌, ◌++◌, ℕ, List, map, IfOk, OnOk};
+ghost use Rattle.std.specs.List.{flat_map};
+ghost use Rattle.grid_pnm.specs.Writing.{WritesBy, raw_picture, pgm_bytes, ppm_bytes};
+
+use grid::{Grid, GridLineIter, Order};
+use std::alloc::{AllocError, Allocator};
+
+/// Returns the bytes of a gray picture (raw PGM, `P5`) of the grid: for each cell the sample that `write` says, 0 for
+/// black and 255 for white.
+///
+///     [[0, 65], [66, 67]]   to_pgm(alloc, grid, |x| *x)   "P5\n2 2\n255\n\0ABC"
+///
+/// Requires: `write` can be called at every cell.
+/// Fails: where memory is refused.
+/// Cost: one call for each cell; the vector grows as it is filled, and of a row-major grid to its end at once.
+pub fn to_pgm<T, A: Allocator, B: Allocator, F: Fn(&T) -> u8>(
+    alloc: B,
+    grid: &Grid<T, A>,
+    write: F,
+) -> Result<Vec<u8, B>, AllocError>
+    requires { F.IsAlwaysCallable write }
+    ensures { (h : T → ℕ) → WritesBy F.post write h
+        → IfOk result (λ bytes. bytes.items ≡ pgm_bytes h grid.now.rows) }
+{
+    let mut bytes = head(alloc, "P5", grid.size())?;
+    if grid.order() == Order::RowMajor {
+        push_all(&mut bytes, grid.as_slice(), &write)?;
+        return Ok(bytes);
+    }
+    for row in grid.iter_rows() {
+        push_grays(&mut bytes, row, &write)?;
+    }
+    Ok(bytes)
+}
+
+/// Returns the bytes of a colored picture (raw PPM, `P6`) of the grid: for each cell the red, green and blue sample that
+/// `write` says, each up to 255.
+///
+///     [[1], [0]]   to_ppm(alloc, grid, |x| [*x, 65, 66])   "P6\n1 2\n255\n\x01AB\0AB"
+///
+/// Requires: `write` can be called at every cell.
+/// Fails: where memory is refused.
+/// Cost: one call for each cell; the vector grows as it is filled.
+pub fn to_ppm<T, A: Allocator, B: Allocator, F: Fn(&T) -> [u8; 3]>(
+    alloc: B,
+    grid: &Grid<T, A>,
+    write: F,
+) -> Result<Vec<u8, B>, AllocError>
+    requires { F.IsAlwaysCallable write }
+    ensures { (h : T → List ℕ) → WritesBy F.post write h
+        → IfOk result (λ bytes. bytes.items ≡ ppm_bytes h grid.now.rows) }
+{
+    let mut bytes = head(alloc, "P6", grid.size())?;
+    for row in grid.iter_rows() {
+        push_colors(&mut bytes, row, &write)?;
+    }
+    Ok(bytes)
+}
+
+// What stands before the samples of a raw picture with this magic number, of so many rows and columns.
+fn head<B: Allocator>(alloc: B, magic: &str, size: (usize, usize)) -> Result<Vec<u8, B>, AllocError>
+    ensures { IfOk result (λ bytes. (samples : List ℕ)
+        → bytes.items ++ samples ≡ raw_picture magic.now size.0 size.1 samples) }
+{
+    let (rows, cols) = size;
+    let mut text = String::new(alloc);
+    write!(text, "{magic}\n{cols} {rows}\n{}\n", u8::MAX)?;
+    Ok(text.into_bytes())
+}
+
+// Adds the sample of each of these cells, with room for all from the first on.
+fn push_all<T, B: Allocator, F: Fn(&T) -> u8>(
+    bytes: &mut Vec<u8, B>,
+    cells: &[T],
+    write: &F,
+) -> Result<(), AllocError>
+    requires { F.IsAlwaysCallable write.now }
+    ensures { (h : T → ℕ) → WritesBy F.post write.now h
+        → OnOk result (bytes.new.items ≡ bytes.old.items ++ map h cells.now) }
+{
+    bytes.reserve(cells.len())?;
+    for cell in cells {
+        bytes.push_reserved(write(cell));
+    }
+    Ok(())
+}
+
+// Adds the sample of each cell of a row.
+fn push_grays<T, B: Allocator, F: Fn(&T) -> u8>(
+    bytes: &mut Vec<u8, B>,
+    row: GridLineIter<'_, T>,
+    write: &F,
+) -> Result<(), AllocError>
+    requires { F.IsAlwaysCallable write.now }
+    ensures { (h : T → ℕ) → WritesBy F.post write.now h
+        → OnOk result (bytes.new.items ≡ bytes.old.items ++ map h row.entry) }
+{
+    for cell in row {
+        bytes.push(write(cell))?;
+    }
+    Ok(())
+}
+
+// Adds the samples of each cell of a row.
+fn push_colors<T, B: Allocator, F: Fn(&T) -> [u8; 3]>(
+    bytes: &mut Vec<u8, B>,
+    row: GridLineIter<'_, T>,
+    write: &F,
+) -> Result<(), AllocError>
+    requires { F.IsAlwaysCallable write.now }
+    ensures { (h : T → List ℕ) → WritesBy F.post write.now h
+        → OnOk result (bytes.new.items ≡ bytes.old.items ++ flat_map h row.entry) }
+{
+    for cell in row {
+        bytes.extend_from_slice(&write(cell))?;
+    }
+    Ok(())
+}
+
+#[cfg(test)]
+mod tests {
+    use super::*;
+    use std::test::Fail;
+
+    #[test]
+    fn written(rt: HostRuntime) -> Result<(), Fail> {
+        let mut grid: Grid<u8> = Grid::from_vec(vec![in rt.alloc(); 65, 66, 67, 68, 69, 255]?, 3);
+        let bytes = to_pgm(rt.alloc(), &grid, |cell| *cell)?;
+        assert_eq!(rt; bytes.as_slice(), b"P5\n3 2\n255\nABCDE\xff".as_slice());
+        grid.transpose();
+        let bytes = to_ppm(rt.alloc(), &grid, |cell| [*cell, 46, 10])?;
+        assert_eq!(rt;
+            bytes.as_slice(),
+            b"P6\n2 3\n255\nA.\nD.\nB.\nE.\nC.\n\xff.\n".as_slice()
+        );
+        Ok(())
+    }
+
+    #[test]
+    fn nothing_is_written(rt: HostRuntime) -> Result<(), Fail> {
+        let none: Grid<u8> = Grid::empty(rt.alloc());
+        let bytes = to_pgm(rt.alloc(), &none, |cell| *cell)?;
+        assert_eq!(rt; bytes.as_slice(), b"P5\n0 0\n255\n".as_slice());
+        Ok(())
+    }
+}

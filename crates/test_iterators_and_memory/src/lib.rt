@@ -1,0 +1,23 @@
+//! What no line of a case tells. Iterators for writing, and those with positions, over all small tables, in both orders,
+//! beside the plain program; iterators that are dropped early. Where memory is refused (`test_refusals` has the calls that a
+//! case tells): texts and scripts, request by request, carried lines, and cells that can't be cloned.
+#![tactic(auto)]
+
+#[cfg(test)]
+mod asserts;
+#[cfg(test)]
+mod carried;
+#[cfg(test)]
+mod dropped;
+#[cfg(test)]
+mod fuse;
+#[cfg(test)]
+mod iterators;
+#[cfg(test)]
+mod memory;
+#[cfg(test)]
+mod play;
+#[cfg(test)]
+mod texts;
+#[cfg(test)]
+mod views;

@@ -1,6 +1,0 @@
-use Rattle.grid_base.specs.Symmetry.{act}
-use Rattle.test_reference.proofs.plain.col_at.Goals as goal
-
-pub returns : goal.returns
-unfolding act
-returns g c = rw c.in_ok-turned.ensures at c.line_at.ensures

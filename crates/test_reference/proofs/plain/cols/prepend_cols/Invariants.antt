@@ -1,7 +1,0 @@
-use Rattle.std.proofs.Common.{◌≡◌, take}
-use Rattle.grid_base.specs.Gather.{items_of_each}
-use Rattle.grid.specs.Edits.{prepended_cols}
-use Rattle.test_reference.proofs.plain.cols.prepend_cols.Given as goal
-
-abbrev pub invariant-loop-row : goal.invariant-loop-row
-invariant-loop-row g l = items_of_each l.padded.items ≡ prepended_cols l.count l.default (items_of_each (take l.row-index l.table.items))

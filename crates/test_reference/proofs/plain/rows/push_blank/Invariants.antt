@@ -1,6 +1,0 @@
-use Rattle.std.proofs.Common.{◌≡◌, ◌++◌, replicate}
-use Rattle.grid_base.specs.Gather.{items_of_each}
-use Rattle.test_reference.proofs.plain.rows.push_blank.Given as goal
-
-abbrev pub invariant-loop : goal.invariant-loop
-invariant-loop g l = items_of_each l.table.items ≡ items_of_each l.initial.table.items ++ replicate l.counter (replicate l.width l.default)

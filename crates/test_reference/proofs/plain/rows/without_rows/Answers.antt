@@ -1,6 +1,0 @@
-use Rattle.std.proofs.Common.{arith}
-use Rattle.std.proofs.lemmas.List.{take-map, drop-map, append-nil}
-use Rattle.test_reference.proofs.plain.rows.without_rows.Goals as goal
-
-pub returns : goal.returns
-returns g c = grind (arith, take-map, drop-map, append-nil)
