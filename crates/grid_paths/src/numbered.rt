@@ -89,8 +89,6 @@ fn number_around<T: PartialEq, A: Allocator>(
 ) -> Result<(), AllocError>
     requires size { HaveOneSize numbers.old.rows grid.now.rows }
     requires at { InRange grid.now.rows row col }
-    requires rows { row_count grid.now.rows < 2 ^ 64 }
-    requires cols { col_count grid.now.rows < 2 ^ 64 }
     ensures order { numbers.new.order ≡ numbers.old.order }
     ensures size { HaveOneSize numbers.new.rows grid.now.rows }
     ensures round { OnOk result (WentRound (IsStep kind (row, col)) (alike T.eq first.now grid.now.rows)
@@ -117,8 +115,6 @@ fn number_region<T: PartialEq, A: Allocator>(
     requires size { HaveOneSize numbers.old.rows grid.now.rows }
     requires at { cell numbers.old.rows row col ≡ Some None }
     requires below { (a : ℕ × ℕ) (m : ℕ) → IsMarked numbers.old.rows a m → m < number }
-    requires rows { row_count grid.now.rows < 2 ^ 64 }
-    requires cols { col_count grid.now.rows < 2 ^ 64 }
     ensures order { numbers.new.order ≡ numbers.old.order }
     ensures size { HaveOneSize numbers.new.rows grid.now.rows }
     ensures numbered { OnOk result (IsNumbered kind (alike T.eq first.now grid.now.rows) (row, col) number
@@ -151,8 +147,6 @@ fn number_cell<T: PartialEq, A: Allocator>(
     requires at { InRange grid.now.rows row col }
     requires scanned { IsScanned kind T.eq grid.now.rows numbers.old.rows count (row, col) }
     requires room { count + unreached numbers.old.rows < 2 ^ 64 }
-    requires rows { row_count grid.now.rows < 2 ^ 64 }
-    requires cols { col_count grid.now.rows < 2 ^ 64 }
     ensures order { numbers.new.order ≡ numbers.old.order }
     ensures size { HaveOneSize numbers.new.rows grid.now.rows }
     ensures scanned { IfOk result (λ n.

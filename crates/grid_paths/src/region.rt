@@ -164,9 +164,7 @@ pub fn fill_region<T: Copy + PartialEq + Drop, A: Allocator + Clone>(
     kind: Steps,
     value: T,
 ) -> Result<(), AllocError>
-    ensures order { grid.new.order ≡ grid.old.order }
-    ensures rows { row_count grid.new.rows ≡ row_count grid.old.rows }
-    ensures cols { col_count grid.new.rows ≡ col_count grid.old.rows }
+    ensures same { SameSizeAndOrder grid.old grid.new }
     ensures filled { OnOk result ((x : T) → cell grid.old.rows at.0 at.1 ≡ Some x
         → IsFilled kind (alike T.eq x grid.old.rows) at value grid.old.rows grid.new.rows) }
     ensures outside { (InRange grid.old.rows at.0 at.1 → ⊥) → grid.new ≡ grid.old }

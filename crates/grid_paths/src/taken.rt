@@ -1,6 +1,6 @@
 //! A search that marks the cells which it takes, and floods.
-ghost use Rattle.std.specs.Prelude.{◌≡◌, ◌<◌, ◌^◌, [], IfOk, OnOk, Contains};
-ghost use Rattle.grid_base.specs.Table.{row_count, col_count, InRange};
+ghost use Rattle.std.specs.Prelude.{◌≡◌, [], IfOk, OnOk, Contains};
+ghost use Rattle.grid_base.specs.Table.{InRange};
 ghost use Rattle.grid_base.specs.GridValue.{SameSizeAndOrder};
 ghost use Rattle.grid_paths.specs.Walks.{IsStep};
 ghost use Rattle.grid_paths.specs.Closures.{answers_by, IsAnswer, AreAnswers, HoldsOfAnswers};
@@ -110,8 +110,6 @@ fn take_around<T: Copy + PartialEq + Drop, A: Allocator>(
 ) -> Result<(), AllocError>
     requires at { InRange grid.old.rows (from.0).0 (from.0).1 }
     requires mark { way_of T.eq cells.now.on cells.now.stop cells.now.mark ≡ Enter.No }
-    requires rows { row_count grid.old.rows < 2 ^ 64 }
-    requires cols { col_count grid.old.rows < 2 ^ 64 }
     ensures same { SameSizeAndOrder grid.old grid.new }
     ensures saves { undone taken.new.items grid.new.rows ≡ undone taken.old.items grid.old.rows }
     ensures takes { OnOk result (TakesAll (way_of T.eq cells.now.on cells.now.stop) cells.now.mark

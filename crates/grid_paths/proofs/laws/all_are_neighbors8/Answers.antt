@@ -7,6 +7,7 @@ use Rattle.grid_paths.proofs.laws.all_are_neighbors8.Goals as goal
 pub returns : goal.returns
 returns g c =
     record {
+      gives = c.neighbors8.ensures.gives;
       law = λ at x e.
           subst (λ list. IsStep All c.args.from at ↔ Contains list (at, x)) (sym c.neighbors8.ensures.gives.0)
           (all-near c.args.grid.now.rows c.args.from.0 c.args.from.1 at x e);

@@ -20,7 +20,7 @@ returns-in-Sides-clause-round g c =
     on_ok_weaker c.number_each.result
     (λ w. subst (λ kind. WentRound (IsStep kind at) floor k u q new.numbers.rows new.queue.items) (sym c.in-Sides.is)
     (WentRound-steps Sides at (take 4 c.around-at.result) floor k u q new.numbers.rows new.queue.items c.around-at.ensures.sides
-    (λ b o. inl (alike_fits eq c.args.first.now t c.args.grid.now.table c.requires.rows c.requires.cols b o)) w))
+    (λ b o. inl (alike_fits eq c.args.first.now t c.args.grid.now.table c.args.grid.now.fits.rows c.args.grid.now.fits.cols b o)) w))
     c.number_each.ensures.round
 
 pub returns-in-All-clause-round : goal.returns-in-All-clause-round
@@ -36,5 +36,5 @@ returns-in-All-clause-round g c =
     on_ok_weaker c.number_each-in-All.result
     (λ w. subst (λ kind. WentRound (IsStep kind at) floor k u q new.numbers.rows new.queue.items) (sym c.in-All.is)
     (WentRound-steps All at c.around-at.result floor k u q new.numbers.rows new.queue.items c.around-at.ensures.all
-    (λ b o. inl (alike_fits eq c.args.first.now t c.args.grid.now.table c.requires.rows c.requires.cols b o)) w))
+    (λ b o. inl (alike_fits eq c.args.first.now t c.args.grid.now.table c.args.grid.now.fits.rows c.args.grid.now.fits.cols b o)) w))
     c.number_each-in-All.ensures.round

@@ -20,7 +20,7 @@ returns-in-Sides-clause-takes g c =
     on_ok_weaker c.take_each.result
     (λ w.
     subst (λ kind. TakesAll way cells.mark (λ b. (way from.1 ≡ On) × IsStep kind from.0 b) t q new.grid.rows new.taken.items) (sym c.in-Sides.is)
-    (TakesAll-steps way cells.mark Sides from (take 4 c.around-near.result) t q new.grid.rows new.taken.items c.args.grid.now.table c.requires.rows c.requires.cols c.around-near.ensures.sides on w))
+    (TakesAll-steps way cells.mark Sides from (take 4 c.around-near.result) t q new.grid.rows new.taken.items c.args.grid.now.table c.args.grid.now.fits.rows c.args.grid.now.fits.cols c.around-near.ensures.sides on w))
     c.take_each.ensures.takes
 
 pub returns-in-All-clause-takes : goal.returns-in-All-clause-takes
@@ -35,5 +35,5 @@ returns-in-All-clause-takes g c =
     on_ok_weaker c.take_each-in-All.result
     (λ w.
     subst (λ kind. TakesAll way cells.mark (λ b. (way from.1 ≡ On) × IsStep kind from.0 b) t q new.grid.rows new.taken.items) (sym c.in-All.is)
-    (TakesAll-steps way cells.mark All from c.around-near.result t q new.grid.rows new.taken.items c.args.grid.now.table c.requires.rows c.requires.cols c.around-near.ensures.all on w))
+    (TakesAll-steps way cells.mark All from c.around-near.result t q new.grid.rows new.taken.items c.args.grid.now.table c.args.grid.now.fits.rows c.args.grid.now.fits.cols c.around-near.ensures.all on w))
     c.take_each-in-All.ensures.takes
