@@ -4,8 +4,8 @@
     fixtures.py           in the folder of the crate
 
 A picture's rows are what netpbm writes of it as plain text; a turned or cut picture is netpbm's. A sheet's rows are what
-Python's csv reads, and its text again is what that writes. Only the texts of faults are given here, with what netpbm or
-Python says of the file.
+Python's csv reads, and its text again is what that writes. The texts of faults are given here, and what is made of the
+short texts at the end, which were found by hand: for each call, the text and the answer.
 """
 import csv
 import io
@@ -75,6 +75,7 @@ def pictures():
     # netpbm writes no comments, but reads them
     picture("comments.pgm", b"P5\n# CREATOR: some program\n#\n7 # columns\n5\n255\n" + noise[11:])
     picture("comments_plain.pgm", b"P2 # 9 9\n3 1\n15 # white\n1 # one\n2\n#3\n4\n")
+    picture("tall_plain.pgm", run("pnmtoplainpnm", run("pgmnoise -randomseed=4 1 6")))
     # two pictures in one file: the first is read
     picture("two.pgm", noise + run("pgmmake 0.5 1 1"))
     for name, seed in ("red", 1), ("green", 2), ("blue", 3):
@@ -96,10 +97,14 @@ def pictures():
         ("flip_cols", "pamflip -leftright"),
         ("transpose", "pamflip -transpose"),
         ("cut", "pamcut -left 2 -top 1 -width 4 -height 3"),
-        ("enlarged", "pamenlarge 3"),
+        ("enlarged_3", "pamenlarge 3"),
     ]:
         turned(call, "noise.pgm", noise, run(words, noise))
     turned("rotate_right", "colors.ppm", colors, run("pamflip -cw", colors))
+    keep("none.pgm", b"P5\n0 0\n255\n")
+    say("copied none.pgm none.pgm", "the same bytes")
+    say("enlarged_0 noise.pgm none.pgm", "the same bytes")
+    say("too_large noise.pgm", "too many cells")
     # netpbm reads the first three of these, and says of the last that it ends early
     keep("deep.pgm", run("pamdepth 65535", run("pgmmake 0.5 1 1")))
     say("gray deep.pgm", "the greatest sample is 65535, not 1 to 255, before byte 12")
@@ -196,6 +201,9 @@ def sheets():
     headed("excel.csv", excel)
     again("sheet_again", "excel.csv", excel)
     again("headed_again", "excel.csv", excel)
+    keep("excel_transposed.csv", written(zip(*read(excel)), lineterminator="\n"))
+    say("sheet_transposed excel.csv excel_transposed.csv", "the same bytes")
+    say("transposed excel.csv", as_json(list(zip(*read(excel)))))
     sheet("excel.csv", excel)
     sheet("no_header.csv", written(ROWS))
     # the first name is in quotes behind the mark
@@ -216,9 +224,117 @@ def sheets():
     say("headed latin.csv", "record 2, field 1 is no cell")
 
 
+# ---- short texts. Behind a fault stand later ones: in the same row, and in the next.
+
+GRAY = [
+    # comments and white space, as in what GIMP writes, and wherever they may stand
+    (b"P5\n1 1\n1\n\x01", 1, ["1"]),
+    (b"P5\n# CREATOR: GIMP\n2 1\n255\n##", 255, ["35,35"]),
+    (b"P5#1\r#2 2\n\t 2# 9\n#\r\n1\r\n255\rAB", 255, ["65,66"]),
+    (b"P2 2 1 9 1# 5\n#\n7", 9, ["1,7"]),
+    (b"P2 2 1 9 001\t09", 9, ["1,9"]),
+    # a raster starts behind one byte of white space, and what stands behind it isn't read
+    (b"P5 2 1 255 \n ", 255, ["10,32"]),
+    (b"P5 1 2 255 ABP5 9", 255, ["65", "66"]),
+    (b"P2 1 1 9 5 x", 9, ["5"]),
+    # no cells
+    (b"P5\n0 0\n255\n", 255, []),
+    (b"P2 0 7 255 ", 255, []),
+    (b"P5 18446744073709551615 0 255 ", 255, []),
+    # faults
+    (b"", "no magic number of such a picture at byte 0"),
+    (b"P", "no magic number of such a picture at byte 0"),
+    (b"P6 1 1 255 ABC", "no magic number of such a picture at byte 0"),
+    (b"P5 2 x", "no number at byte 5"),
+    (b"P5 # 2 2 255", "no number at byte 12"),
+    (b"P5 18446744073709551616 1 255 A", "no number at byte 3"),
+    (b"P5 1 1 256 A", "the greatest sample is 256, not 1 to 255, before byte 10"),
+    (b"P5 1 1 0 A", "the greatest sample is 0, not 1 to 255, before byte 8"),
+    (b"P5 1 1 255#\nA", "no white space at byte 10"),
+    (b"P5 2 3 255 ABCDE", "too few bytes from byte 11 on for 3 rows of 2 cells"),
+    (b"P5 4294967296 4294967296 255 A", "too few bytes from byte 29 on for 4294967296 rows of 4294967296 cells"),
+    (b"P5 3 1 66 ABC", "the sample 67 at byte 12 is above 66"),
+    (b"P2 3 1 66 1 # 9\n67 68", "the sample 67 at byte 16 is above 66"),
+]
+COLORED = [
+    (b"P6 0 0 255 ", 255, []),
+    (b"P5 1 1 255 A", "no magic number of such a picture at byte 0"),
+    (b"P6 1 2 255 ABCDE", "too few bytes from byte 11 on for 2 rows of 1 cells"),
+    (b"P3 1 1 255 12", "too few bytes from byte 11 on for 1 rows of 1 cells"),
+    (b"P3 1 1 9 1 2  ", "no number at byte 14"),
+]
+NUMBERS = [
+    (b"", "[]"),
+    (b"\n\r\n\n", "[]"),
+    (b"1", "[[1]]"),
+    (b"1,20\n3,4\n", "[[1, 20][3, 4]]"),
+    (b'1,"20"\r\n"3",4', "[[1, 20][3, 4]]"),
+    (b"1,2\n\n3,4\n\n", "[[1, 2][3, 4]]"),
+    (b"1,2\r3,4\r", "[[1, 2][3, 4]]"),
+    (b"\xEF\xBB\xBF1,2\n", "[[1, 2]]"),
+    (b"\xEF\xBB1,2\n", "record 1, field 1 is no cell"),
+    (b'"1",2,"3', "[[1, 2, 3]]"),
+    (b"1,2\n3\nx\n", "record 2 has 1 fields, not 2"),
+    (b"1,2\n3,4,5\n", "record 2 has 3 fields, not 2"),
+    (b"1,2\n3,x,y,4\n", "record 2, field 2 is no cell"),
+    (b"x,y\n1\n", "record 1, field 1 is no cell"),
+    (b"1,\n", "record 1, field 2 is no cell"),
+    (b"1, 2\n", "record 1, field 2 is no cell"),
+    (b"1,\xFF\n", "record 1, field 2 is no cell"),
+]
+HEADED = [
+    (b"", "[] []"),
+    (b"a\n", '["a"] []'),
+    (b'a,"b ""c"""\n1,2\n3,4\n', '["a", "b \\"c\\""] [[1, 2][3, 4]]'),
+    (b"a,b\n1,2,3\n", "record 2 has 3 fields, not 2"),
+    (b"a,b\n1,2\n3,x\n", "record 3, field 2 is no cell"),
+    (b"a,\xFF\n1\n", "record 1, field 2 is no cell"),
+]
+FIELDS = [
+    (b"", '""\n'),
+    (b"a b", "a b\n"),
+    (b"a,b", '"a,b"\n'),
+    (b'a "b"', '"a ""b"""\n'),
+    (b"a\nb", '"a\nb"\n'),
+    (b"a\rb", '"a\rb"\n'),
+    (b" ", " \n"),
+]
+VALUES = [
+    (b"[]", "[]"),
+    (b"[[],[]]", "[]"),
+    (b"[[1,2],[3,4]]", "[[1, 2][3, 4]]"),
+    (b'{"cols":1}', "not an array of rows"),
+    (b"[[1],2,3]", "row 1 is no array"),
+    (b'[[1,2],[3,null,"x"]]', "row 1, column 1 is no cell"),
+    (b"[[1,2],[3],[4]]", "row 1 has 1 cells, not 2"),
+    (b"[[],[1]]", "row 1 has 1 cells, not 0"),
+    (b"[[256]]", "row 0, column 0 is no cell"),
+]
+
+
+def short(call, text, *said):
+    say(f"{call} {json.dumps(text.decode('latin-1'))}", *said)
+
+
+def texts():
+    for call, cases in ("gray", GRAY), ("colored", COLORED):
+        for text, *said in cases:
+            if len(said) == 2:
+                white, rows = said
+                cols = rows[0].count(",") + 1 if rows else 0
+                said = [f"{len(rows)} rows, {cols} columns, white is {white}", *rows]
+            short(call, text, *said)
+    for call, cases in ("numbers", NUMBERS), ("headed_numbers", HEADED), ("values", VALUES):
+        for text, said in cases:
+            short(call, text, said)
+    for text, said in FIELDS:
+        short("field", text, json.dumps(said))
+
+
 os.makedirs("data", exist_ok=True)
 pictures()
 sheets()
+texts()
 for name, lines in ("stdin", LINES), ("stdout", OUT):
     with open(name, "w", encoding="utf-8", newline="") as file:
         file.write("".join(line + "\n" for line in lines))

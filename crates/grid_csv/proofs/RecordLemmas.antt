@@ -2,7 +2,7 @@
 use Rattle.std.proofs.Common.{◌≡◌, ◌⊎◌, inl, inr, if◌then◌else◌, add-one, length-append, ◌<◌, ◌+◌, ℕ, zero, suc, Bool, true, false, Option, Some, None, List, [], ◌∷◌, ◌++◌, length, refl, sym, ap, ◌∙◌, arith}
 use denote.Ref.{Bor}
 use Rattle.csv.specs.Machine.{Read, next_record, step, is_end, ends_at_end, fields_after, field_after}
-use Rattle.csv.specs.Reading.{ReadRecord, Reached, default_config, took_first, records_from, records_next}
+use Rattle.csv.specs.Reading.{ReadRecord, Reached, default_config, is_flexible, took_first, records_from, records_next}
 use Rattle.csv.specs.declared.parser.Config.{Config}
 use Rattle.csv.specs.declared.parser.State.{State}
 use Rattle.csv.specs.declared.parser.Action.{Action}
@@ -99,7 +99,7 @@ some_fields cfg s fields field (x ∷ xs) p e =
         omega arith
 
 -- a read that found a record gave the first of those that were left
-module _ (old new : Reader (Bor (List ℕ))) (fields : List (List ℕ)) (left : List (List (List ℕ))) (has : HasLeft old left) where
+module _ (old new : Reader (Bor (List ℕ))) (fields : List (List ℕ)) (left : List (List (List ℕ))) (has : HasLeft old left) (flexible : is_flexible new ≡ is_flexible old) where
   pub found_one : ReadRecord (λ s. Some s.now) old new true fields → took_first new ≡ true → Took left fields new
   unfolding Reached
   found_one r first =
@@ -114,6 +114,7 @@ module _ (old new : Reader (Bor (List ℕ))) (fields : List (List ℕ)) (left : 
           trims = r.3 ∙ has.trims;
           ready = inl first;
           config = r.2 ∙ has.config;
+          flexible = flexible ∙ has.flexible;
           rest = z;
           source = source;
           is_left = rw (state, rest) refl;

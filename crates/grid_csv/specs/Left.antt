@@ -1,10 +1,10 @@
 -- What is left to read, what was read, and what was written. No public clause cites this module.
-use Rattle.std.specs.Prelude.{◌≡◌, ◌⊎◌, ◌+◌, ◌<◌, ℕ, false, Option, Vec, List, ◌∷◌, ◌++◌, length, Some}
+use Rattle.std.specs.Prelude.{◌≡◌, ◌⊎◌, ◌+◌, ◌<◌, ℕ, true, false, Option, Vec, List, ◌∷◌, ◌++◌, length, Some}
 use denote.Ref.{Bor}
 use Rattle.csv.specs.declared.parser.State.{State}
 use Rattle.csv.specs.declared.reader.Reader.{Reader}
 use Rattle.csv.specs.declared.reader.Trim.TheVariants as trim
-use Rattle.csv.specs.Reading.{Ready, default_config, reader_config, reader_state, reader_trim, records_from, source_of}
+use Rattle.csv.specs.Reading.{Ready, default_config, is_flexible, reader_config, reader_state, reader_trim, records_from, source_of}
 use Rattle.csv.specs.declared.writer.Writer.{Writer}
 use Rattle.csv.specs.Writing.{default_writer, fields_written, has_written, writer_pending, writer_setup, writer_under}
 use Rattle.std.specs.declared.alloc.Global.{Global}
@@ -17,11 +17,12 @@ use Rattle.grid_csv.specs.declared.error.CsvError.TheVariants.{BadField, Memory}
 abbrev pub records_at : State → List ℕ → List (List (List ℕ))
 records_at state bytes = records_from default_config (length bytes + 1) state bytes
 
--- a reader of records, none of which is a header, has these left
+-- a reader of records of any lengths, none of which is a header, has these left
 pub record HasLeft (reader : Reader (Bor (List ℕ))) (left : List (List (List ℕ))) : Type 0 where
   pub trims : reader_trim reader ≡ trim.None
   pub ready : Ready reader
   pub config : reader_config reader ≡ default_config
+  pub flexible : is_flexible reader ≡ true
   pub rest : List ℕ
   pub source : source_of (λ s. Some s.now) reader ≡ Some rest
   pub is_left : left ≡ records_at (reader_state reader) rest

@@ -49,12 +49,3 @@ impl<T: Drop> From<AllocFailed<T>> for CsvError {
         CsvError::Memory
     }
 }
-
-/// Returns `CsvError::Memory`: of bytes in memory, the reader of the crate `csv` fails in no other way.
-impl From<csv::Error> for CsvError {
-    ghost from_gives = { λ _ e. e ≡ Memory };
-
-    fn from(_failed: csv::Error) -> CsvError {
-        CsvError::Memory
-    }
-}

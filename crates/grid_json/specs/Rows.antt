@@ -59,6 +59,16 @@ pub record AnswersItem {F T : Type 0}
   pub is_data : view value.now ≡ d
   pub answers : returns read value (Ok cell)
 
+-- whatever the closure answers at a value, h gives of its data
+abbrev pub ReadsBy : {F T : Type 0} → (F → Bor Value → Result (Option T) AllocError → Type 0) → F
+    → (Data → Option T) → Type 0
+ReadsBy {F} {T} returns read h = (value : Bor Value) (cell : Option T)
+    → returns read value (Ok cell) → cell ≡ h (view value.now)
+
+-- the answer that h gives of this data
+abbrev pub Gives : {T : Type 0} → (Data → Option T) → Data → Option T → Type 0
+Gives h d cell = cell ≡ h d
+
 -- the data is no array
 abbrev pub NoArray : Data → Type 0
 NoArray d = (items : List Data) → d ≡ array_of items → ⊥

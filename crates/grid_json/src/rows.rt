@@ -1,8 +1,8 @@
 //! Rows as JSON that other programs read: an array of arrays.
-ghost use Rattle.std.specs.Prelude.{List, IfOk, MatchResult};
+ghost use Rattle.std.specs.Prelude.{List, Option, IfOk, MatchResult};
 ghost use Rattle.serde_json.specs.Data.{Data};
 ghost use Rattle.serde_json.specs.View.{view};
-ghost use Rattle.grid_json.specs.Rows.{AddsRow, AnswersCell, AnswersItem, IsMemoryOrBad, IsRows, MayBeRow, MayBeRows, MayRead, WritesBy};
+ghost use Rattle.grid_json.specs.Rows.{AddsRow, AnswersCell, AnswersItem, Gives, IsMemoryOrBad, IsRows, MayBeRow, MayBeRows, MayRead, ReadsBy, WritesBy};
 
 use crate::RowsError;
 use crate::write::array_of;
@@ -73,7 +73,19 @@ pub fn rows_from_value<T: Drop, F>(
 where
     F: Fn(&Value) -> Result<Option<T>, AllocError>,
     requires { F.IsAlwaysCallable read }
-    ensures { MayRead (AnswersItem F.post read) (view value.now) result }
+    ensures reads { (h : Data → Option T) → ReadsBy F.post read h
+        → MayRead (Gives h) (view value.now) result }
+    ensures answers { MayRead (AnswersItem F.post read) (view value.now) result }
+{
+    read_rows(alloc, value, &read)
+}
+
+// The grid of an array of arrays.
+fn read_rows<T: Drop, F>(alloc: Global, value: &Value, read: &F) -> Result<Grid<T>, RowsError>
+where
+    F: Fn(&Value) -> Result<Option<T>, AllocError>,
+    requires { F.IsAlwaysCallable read.now }
+    ensures { MayRead (AnswersItem F.post read.now) (view value.now) result }
 {
     let Some(items) = value.as_array() else {
         return Err(RowsError::NotRows);
@@ -81,7 +93,7 @@ where
     let mut cells = Vec::new(alloc);
     let mut cols = 0usize;
     for (row, item) in items.iter().enumerate() {
-        let len = push_row(&mut cells, row, item, &read)?;
+        let len = push_row(&mut cells, row, item, read)?;
         if row > 0 && len != cols {
             return Err(RowsError::Ragged { row, len, cols });
         }
@@ -115,50 +127,4 @@ where
         }
     }
     Ok(list.len())
-}
-
-#[cfg(test)]
-mod tests {
-    use super::*;
-    use std::test::Fail;
-
-    // A text, and the grid or the fault. Behind a fault stand later ones: in the same row, and in the next.
-    const ROWS: [(&str, &str); 9] = [
-        ("[]", "[]"),
-        ("[[],[]]", "[]"),
-        ("[[1,2],[3,4]]", "[[1, 2][3, 4]]"),
-        ("{\"cols\":1}", "not an array of rows"),
-        ("[[1],2,3]", "row 1 is no array"),
-        ("[[1,2],[3,null,\"x\"]]", "row 1, column 1 is no cell"),
-        ("[[1,2],[3],[4]]", "row 1 has 1 cells, not 2"),
-        ("[[],[1]]", "row 1 has 1 cells, not 0"),
-        ("[[256]]", "row 0, column 0 is no cell"),
-    ];
-
-    #[test]
-    fn rows_are_read(rt: HostRuntime) -> Result<(), Fail> {
-        for (text, want) in ROWS {
-            let value = Value::from_str(rt.alloc(), text)?;
-            let read = rows_from_value(rt.alloc(), &value, |item| match item.as_u64() {
-                Some(number) if number < 256 => Ok(Some(number as u8)),
-                _ => Ok(None),
-            });
-            let said = match read {
-                Ok(grid) => format!(in rt.alloc(); "{grid:?}")?,
-                Err(e) => format!(in rt.alloc(); "{e}")?,
-            };
-            assert_eq!(rt; said.as_str(), want);
-        }
-        Ok(())
-    }
-
-    #[test]
-    fn rows_are_written(rt: HostRuntime) -> Result<(), Fail> {
-        let mut grid: Grid<u8> = Grid::from_vec(vec![in rt.alloc(); 1, 2, 3, 4]?, 2);
-        grid.transpose();
-        let value = rows_to_value(rt.alloc(), &grid, |cell| Ok(Value::from(*cell)))?;
-        let text = value.to_string(rt.alloc())?;
-        assert_eq!(rt; text.as_str(), "[[1,3],[2,4]]");
-        Ok(())
-    }
 }

@@ -34,26 +34,3 @@ pub fn enlarged<T: Copy, A: Allocator, B: Allocator>(
         |(row, col)| *grid.get_unchecked(row / scale, col / scale),
     )
 }
-
-#[cfg(test)]
-mod tests {
-    use super::*;
-    use std::test::Fail;
-
-    #[test]
-    fn cells_fill_squares(rt: HostRuntime) -> Result<(), Fail> {
-        let mut grid: Grid<u8> = Grid::from_vec(vec![in rt.alloc(); 1, 2, 3, 4]?, 2);
-        grid.transpose();
-        for (scale, want) in [
-            (0, "[]"),
-            (1, "[[1, 3][2, 4]]"),
-            (2, "[[1, 1, 3, 3][1, 1, 3, 3][2, 2, 4, 4][2, 2, 4, 4]]"),
-        ] {
-            let large = enlarged(rt.alloc(), &grid, scale)?;
-            assert_eq!(rt; format!(in rt.alloc(); "{large:?}")?.as_str(), want);
-        }
-        let larger: Result<Grid<u8>, GridError> = enlarged(rt.alloc(), &grid, usize::MAX);
-        assert!(rt; larger.is_err());
-        Ok(())
-    }
-}

@@ -117,31 +117,3 @@ fn push_colors<T, B: Allocator, F: Fn(&T) -> [u8; 3]>(
     }
     Ok(())
 }
-
-#[cfg(test)]
-mod tests {
-    use super::*;
-    use std::test::Fail;
-
-    #[test]
-    fn written(rt: HostRuntime) -> Result<(), Fail> {
-        let mut grid: Grid<u8> = Grid::from_vec(vec![in rt.alloc(); 65, 66, 67, 68, 69, 255]?, 3);
-        let bytes = to_pgm(rt.alloc(), &grid, |cell| *cell)?;
-        assert_eq!(rt; bytes.as_slice(), b"P5\n3 2\n255\nABCDE\xff".as_slice());
-        grid.transpose();
-        let bytes = to_ppm(rt.alloc(), &grid, |cell| [*cell, 46, 10])?;
-        assert_eq!(rt;
-            bytes.as_slice(),
-            b"P6\n2 3\n255\nA.\nD.\nB.\nE.\nC.\n\xff.\n".as_slice()
-        );
-        Ok(())
-    }
-
-    #[test]
-    fn nothing_is_written(rt: HostRuntime) -> Result<(), Fail> {
-        let none: Grid<u8> = Grid::empty(rt.alloc());
-        let bytes = to_pgm(rt.alloc(), &none, |cell| *cell)?;
-        assert_eq!(rt; bytes.as_slice(), b"P5\n0 0\n255\n".as_slice());
-        Ok(())
-    }
-}

@@ -1,14 +1,17 @@
 //! Reads pictures and sheets that other programs wrote, and prints what they are: the rows, or what is wrong. Or makes what
 //! another program made of the same file, and says whether the bytes are the same.
 //!
-//! A line of standard input is a call and the name of a file, or of two, of which the call makes the second of the first.
-//! `fixtures.py` makes the files, the lines and what is to be printed by netpbm, Python and LibreOffice Calc.
+//! A line of standard input is a call and the name of a file, or of two, of which the call makes the second of the first, or
+//! a short text as a string of JSON, each character a byte. `fixtures.py` makes the files, the lines and what is to be
+//! printed by netpbm, Python and LibreOffice Calc; what the short texts are was found by hand.
 #![tactic(auto)]
 
+mod numbers;
 mod pictures;
 mod sheets;
 
 use anyhow::Result;
+use serde_json::Value;
 use std::alloc::Global;
 use std::process::ExitCode;
 use std::rt::Files;
@@ -17,10 +20,16 @@ use std::{fs, io};
 // What a file is.
 fn told(alloc: Global, call: &str, bytes: &[u8]) -> Result<String> {
     match call {
-        "gray" => Ok(pictures::gray(alloc, bytes)?),
-        "colored" => Ok(pictures::colored(alloc, bytes)?),
+        "gray" => pictures::gray(alloc, bytes),
+        "colored" => pictures::colored(alloc, bytes),
+        "too_large" => pictures::too_large(alloc, bytes),
         "sheet" => sheets::sheet(alloc, bytes),
         "headed" => sheets::headed(alloc, bytes),
+        "transposed" => sheets::transposed(alloc, bytes),
+        "numbers" => numbers::numbers(alloc, bytes),
+        "headed_numbers" => numbers::headed_numbers(alloc, bytes),
+        "field" => numbers::field(alloc, bytes),
+        "values" => numbers::values(alloc, bytes),
         _ => Ok(String::from_str(alloc, "no such call\n")?),
     }
 }
@@ -29,6 +38,7 @@ fn told(alloc: Global, call: &str, bytes: &[u8]) -> Result<String> {
 fn made(alloc: Global, call: &str, name: &str, bytes: &[u8]) -> Result<Vec<u8>> {
     match call {
         "sheet_again" => sheets::sheet_again(alloc, bytes),
+        "sheet_transposed" => sheets::sheet_transposed(alloc, bytes),
         "headed_again" => sheets::headed_again(alloc, bytes),
         _ => if name.ends_with(".ppm") {
             pictures::colored_turned(alloc, call, bytes)
@@ -38,9 +48,22 @@ fn made(alloc: Global, call: &str, name: &str, bytes: &[u8]) -> Result<Vec<u8>> 
     }
 }
 
+// The bytes that a string of JSON says, each character one.
+fn bytes_of(alloc: Global, text: &str) -> Result<Vec<u8>> {
+    let value = Value::from_str(alloc, text)?;
+    let mut bytes = Vec::new(alloc);
+    for c in value.as_str().unwrap_or("").chars() {
+        bytes.push(u32::from(c).min(255) as u8)?;
+    }
+    Ok(bytes)
+}
+
 fn answer<R: Files + AllocGlobal>(rt: &R, line: &str) -> Result<String> {
     let alloc = rt.alloc();
     let (call, names) = line.split_once(" ").unwrap_or((line, ""));
+    if names.starts_with("\"") {
+        return told(alloc, call, bytes_of(alloc, names)?.as_slice());
+    }
     let Some((name, other)) = names.split_once(" ") else {
         let bytes = fs::read(rt, names)?;
         return told(alloc, call, bytes.as_slice());

@@ -2,54 +2,46 @@
 use anyhow::{Result, bail};
 use grid::{Grid, GridError};
 use grid_csv::to_csv;
-use grid_pnm::{PnmError, enlarged, from_pgm, from_ppm, read_header, to_pgm, to_ppm};
-use std::alloc::{AllocError, Global};
+use grid_pnm::laws::{pgm_written_and_read, ppm_written_and_read};
+use grid_pnm::{enlarged, from_pgm, from_ppm, read_header, to_pgm, to_ppm};
+use std::alloc::Global;
 
 // The size and the white of a picture, and its rows.
-fn told(
-    alloc: Global,
-    bytes: &[u8],
-    rows: String,
-    size: (usize, usize),
-) -> Result<String, AllocError> {
-    let white = read_header(bytes).map_or(0, |header| header.max);
-    format!(in alloc;
+fn told(alloc: Global, bytes: &[u8], size: (usize, usize), rows: String) -> Result<String> {
+    let white = read_header(bytes)?.max;
+    Ok(format!(in alloc;
         "{} rows, {} columns, white is {white}\n{rows}",
         size.0, size.1
-    )
+    )?)
 }
 
-// What is wrong with a picture.
-fn fault(alloc: Global, fault: PnmError) -> Result<String, AllocError> {
-    match fault {
-        PnmError::Memory => Err(AllocError),
-        _ => format!(in alloc; "{fault}\n"),
+/// Returns the rows of a gray picture, or what is wrong with it. The rows are read back from the picture of them.
+pub fn gray(alloc: Global, bytes: &[u8]) -> Result<String> {
+    let grid = match from_pgm(alloc, bytes) {
+        Ok(grid) => grid,
+        Err(fault) => return Ok(format!(in alloc; "{fault}\n")?),
+    };
+    if pgm_written_and_read(alloc, &grid, |cell| *cell)? != grid {
+        bail!("the rows are not read back");
     }
+    let rows = to_csv(alloc, &grid, |cell, text| write!(text, "{cell}"))?;
+    told(alloc, bytes, grid.size(), rows)
 }
 
-/// Returns the rows of a gray picture, or what is wrong with it.
-pub fn gray(alloc: Global, bytes: &[u8]) -> Result<String, AllocError> {
-    match from_pgm(alloc, bytes) {
-        Ok(grid) => {
-            let rows = to_csv(alloc, &grid, |cell, text| write!(text, "{cell}"))?;
-            told(alloc, bytes, rows, grid.size())
-        }
-        Err(e) => fault(alloc, e),
+/// Returns the rows of a colored picture, or what is wrong with it. The rows are read back from the picture of them.
+pub fn colored(alloc: Global, bytes: &[u8]) -> Result<String> {
+    let grid = match from_ppm(alloc, bytes) {
+        Ok(grid) => grid,
+        Err(fault) => return Ok(format!(in alloc; "{fault}\n")?),
+    };
+    if ppm_written_and_read(alloc, &grid, |cell| *cell)? != grid {
+        bail!("the rows are not read back");
     }
-}
-
-/// Returns the rows of a colored picture, or what is wrong with it.
-pub fn colored(alloc: Global, bytes: &[u8]) -> Result<String, AllocError> {
-    match from_ppm(alloc, bytes) {
-        Ok(grid) => {
-            let rows = to_csv(alloc, &grid, |cell, text| {
-                let [red, green, blue] = *cell;
-                write!(text, "{red} {green} {blue}")
-            })?;
-            told(alloc, bytes, rows, grid.size())
-        }
-        Err(e) => fault(alloc, e),
-    }
+    let rows = to_csv(alloc, &grid, |cell, text| {
+        let [red, green, blue] = *cell;
+        write!(text, "{red} {green} {blue}")
+    })?;
+    told(alloc, bytes, grid.size(), rows)
 }
 
 // The part of 3 rows and 4 columns from row 1 and column 2 on, or the whole of a smaller board.
@@ -73,7 +65,8 @@ fn turned<T: Copy>(alloc: Global, call: &str, mut grid: Grid<T>) -> Result<Grid<
         "flip_cols" => grid.flip_cols(),
         "transpose" => grid.transpose(),
         "cut" => return Ok(cut(grid)?),
-        "enlarged" => return Ok(enlarged(alloc, &grid, 3)?),
+        "enlarged_0" => return Ok(enlarged(alloc, &grid, 0)?),
+        "enlarged_3" => return Ok(enlarged(alloc, &grid, 3)?),
         _ => bail!("no such call"),
     }
     Ok(grid)
@@ -89,4 +82,12 @@ pub fn gray_turned(alloc: Global, call: &str, bytes: &[u8]) -> Result<Vec<u8>> {
 pub fn colored_turned(alloc: Global, call: &str, bytes: &[u8]) -> Result<Vec<u8>> {
     let grid = turned(alloc, call, from_ppm(alloc, bytes)?)?;
     Ok(to_ppm(alloc, &grid, |cell| *cell)?)
+}
+
+/// Returns what is wrong with a gray picture enlarged past what a board can be.
+pub fn too_large(alloc: Global, bytes: &[u8]) -> Result<String> {
+    match enlarged(alloc, &from_pgm(alloc, bytes)?, usize::MAX) {
+        Ok(grid) => Ok(format!(in alloc; "{:?}\n", grid.size())?),
+        Err(fault) => Ok(format!(in alloc; "{fault}\n")?),
+    }
 }

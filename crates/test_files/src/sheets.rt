@@ -79,3 +79,18 @@ pub fn headed_again(alloc: Global, bytes: &[u8]) -> Result<Vec<u8>> {
     )?;
     Ok(text.into_bytes())
 }
+
+/// Returns the sheet of the columns of a sheet.
+pub fn sheet_transposed(alloc: Global, bytes: &[u8]) -> Result<Vec<u8>> {
+    let mut grid = from_csv(alloc, bytes, |field| cell(alloc, field))?;
+    grid.transpose();
+    let text = to_csv(alloc, &grid, |cell, text| text.push_str(cell.as_str()))?;
+    Ok(text.into_bytes())
+}
+
+/// Returns the columns of a sheet.
+pub fn transposed(alloc: Global, bytes: &[u8]) -> Result<String> {
+    let mut grid = from_csv(alloc, bytes, |field| cell(alloc, field))?;
+    grid.transpose();
+    told(alloc, &grid)
+}

@@ -6,8 +6,8 @@ use Rattle.grid_pnm.proofs.PictureLemmas.{back}
 use Rattle.grid_pnm.proofs.LawLemmas.{ppm_back}
 use Rattle.grid_pnm.proofs.laws.ppm_written_and_read.Goals as goal
 
-pub returns : goal.returns
-returns g c = λ h writes all.
+pub returns-clause-rows : goal.returns-clause-rows
+returns-clause-rows g c = λ h writes all.
     let bytes : c.as_slice.result.now ≡ ppm_bytes h c.args.grid.now.rows = c.as_slice.ensures.value ∙ c.in_ok-bytes.ensures h writes in
     let small : length c.as_slice.result.now < 2 ^ 64 = search rules in
     let due : ppm_of c.as_slice.result.now ≡ Ok (table_map h c.args.grid.now.rows) = ap ppm_of bytes ∙ ppm_back c.args.grid.now.rows c.args.grid.now.table h all (rw bytes at small) in

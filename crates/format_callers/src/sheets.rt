@@ -1,0 +1,79 @@
+//! Callers of `grid_csv`.
+ghost use Rattle.std.specs.Prelude.{◌≡◌, [], All, IfOk, map};
+ghost use Rattle.std.specs.Fmt.{signed_decimal};
+ghost use Rattle.std.specs.String.{string_bytes};
+ghost use Rattle.csv.specs.Reading.{strip_bom};
+ghost use Rattle.text_lines.specs.Numbers.{cell_of};
+ghost use Rattle.grid_csv.specs.Reading.{IsOrMemory, reading, reading_below, records_of, without_header};
+ghost use Rattle.grid_csv.specs.Writing.{IsCsv};
+
+use grid::Grid;
+use grid_csv::laws::written_and_read;
+use grid_csv::{CsvError, from_csv, from_csv_with_header, to_csv, to_csv_with_header};
+use std::alloc::{AllocError, Allocator, Global};
+use text_lines::cell;
+
+/// Reads a sheet of numbers.
+pub fn numbers(alloc: Global, bytes: &[u8]) -> Result<Grid<i64>, CsvError>
+    ensures { IsOrMemory (reading cell_of (records_of bytes.now)) result }
+{
+    from_csv(alloc, bytes, |field| Ok(cell(field)))
+}
+
+/// Writes a sheet of strings.
+pub fn strings_text<A: Allocator>(
+    alloc: Global,
+    sheet: &Grid<String, A>,
+) -> Result<String, AllocError>
+    ensures { IfOk result
+        (λ text. IsCsv string_bytes [] sheet.now.rows (string_bytes text)) }
+{
+    to_csv(alloc, sheet, |cell, text| text.push_str(cell.as_str()))
+}
+
+/// Reads a sheet of numbers below a header.
+pub fn headed_numbers(alloc: Global, bytes: &[u8]) -> Result<(Vec<String>, Grid<i64>), CsvError>
+    ensures { IsOrMemory (reading_below cell_of (records_of bytes.now)) (without_header result) }
+{
+    from_csv_with_header(alloc, bytes, |field| Ok(cell(field)))
+}
+
+/// Returns the sheet that is read from the CSV of one.
+///
+/// Requires: no string begins with a byte order mark.
+pub fn strings_again<A: Allocator>(
+    alloc: Global,
+    sheet: &Grid<String, A>,
+) -> Result<Grid<String>, CsvError>
+    requires { All (λ row. All (λ x. strip_bom (string_bytes x) ≡ string_bytes x) row)
+        sheet.now.rows }
+    ensures { IfOk result
+        (λ again. map (map string_bytes) again.rows ≡ map (map string_bytes) sheet.now.rows) }
+{
+    written_and_read(
+        alloc,
+        sheet,
+        |cell, text| text.push_str(cell.as_str()),
+        |field| Ok(Some(String::from_str(alloc, field)?)),
+    )
+}
+
+/// Writes a sheet of numbers.
+pub fn numbers_text<A: Allocator>(alloc: Global, sheet: &Grid<i64, A>) -> Result<String, AllocError>
+    ensures { IfOk result
+        (λ text. IsCsv signed_decimal [] sheet.now.rows (string_bytes text)) }
+{
+    to_csv(alloc, sheet, |cell, text| write!(text, "{cell}"))
+}
+
+/// Writes a sheet of numbers below a header.
+pub fn headed_text<A: Allocator>(
+    alloc: Global,
+    header: &[String],
+    sheet: &Grid<i64, A>,
+) -> Result<String, AllocError>
+    ensures { IfOk result (λ text.
+        IsCsv signed_decimal (map string_bytes header.now) sheet.now.rows (string_bytes text)) }
+{
+    to_csv_with_header(alloc, header, sheet, |cell, text| write!(text, "{cell}"))
+}
