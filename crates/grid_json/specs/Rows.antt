@@ -66,8 +66,8 @@ ReadsBy {F} {T} returns read h = (value : Bor Value) (cell : Option T)
     → returns read value (Ok cell) → cell ≡ h (view value.now)
 
 -- the answer that h gives of this data
-abbrev pub Gives : {T : Type 0} → (Data → Option T) → Data → Option T → Type 0
-Gives h d cell = cell ≡ h d
+abbrev pub GivenBy : {T : Type 0} → (Data → Option T) → Data → Option T → Type 0
+GivenBy h d cell = cell ≡ h d
 
 -- the data is no array
 abbrev pub NoArray : Data → Type 0

@@ -1,9 +1,9 @@
 -- What the closure answers is what the function gives.
 use Rattle.std.proofs.Common.{◌∙◌, ap}
-use Rattle.grid_json.specs.Rows.{AnswersItem, Gives}
+use Rattle.grid_json.specs.Rows.{AnswersItem, GivenBy}
 use Rattle.grid_json.proofs.MayReadLemmas.{may_more}
 use Rattle.grid_json.proofs.rows.rows_from_value.Goals as goal
 
 pub returns-clause-reads : goal.returns-clause-reads
 returns-clause-reads g c = λ h by.
-    may_more (AnswersItem (goal.F-post g) c.args.read) (Gives h) (λ d cell a. by a.value cell a.answers ∙ ap h a.is_data) _ _ c.read_rows.ensures
+    may_more (AnswersItem (goal.F-post g) c.args.read) (GivenBy h) (λ d cell a. by a.value cell a.answers ∙ ap h a.is_data) _ _ c.read_rows.ensures
