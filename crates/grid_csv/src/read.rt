@@ -95,10 +95,10 @@ fn next_row(reader: &mut Reader<&[u8]>, row: &mut ByteRecord) -> Result<bool, Cs
         (Took left (fields_of row.new) reader.new) (left ≡ [])) }
     ensures err { IfErr result (λ e. e ≡ Memory) }
 {
-    match reader.read_byte_record(row) {
-        Ok(found) => Ok(found),
-        Err(_) => Err(CsvError::Memory),
-    }
+    let Ok(found) = reader.read_byte_record(row) else {
+        return Err(CsvError::Memory);
+    };
+    Ok(found)
 }
 
 // The cell of a field.

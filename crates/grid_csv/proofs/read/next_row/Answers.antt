@@ -14,5 +14,5 @@ by_found old new fields left false has flexible r first = found_none old new fie
 
 pub returns-clause-ok : goal.returns-clause-ok
 returns-clause-ok c = λ left has.
-    let e = c.in_ok-read_byte_record.ensures in
+    let e = c.in-Ok.ensures in
     by_found _ _ _ left _ has e.flexible (e.reads has.trims has.ready) (e.ready has.trims)
