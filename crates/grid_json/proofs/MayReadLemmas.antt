@@ -1,5 +1,5 @@
 -- What may be read by one relation may be read by one that allows more.
-use Rattle.std.proofs.Common.{◌≡◌, inl, inr, ℕ, Option, Some, Result, Ok, Err, List, [], ◌∷◌, length, None}
+use Rattle.std.proofs.Common.{inl, inr, ℕ, Option, Some, Result, Ok, Err, List, [], ◌∷◌, length, None}
 use Rattle.std.specs.List.{AllZip}
 use Rattle.serde_json.specs.Data.{Data}
 use Rattle.grid_base.specs.GridValue.{GridValue}
