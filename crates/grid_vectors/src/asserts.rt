@@ -1,7 +1,7 @@
 //! Comparisons that end a test.
 use grid::{Grid, Order, ShapeError};
-use std::alloc::{AllocError, Allocator, Global};
-use std::fmt::{Debug, Display};
+use std::alloc::{Allocator, Global};
+use std::fmt::Debug;
 use std::process::Abort;
 use std::test::Fail;
 use test_support::fixtures::{grid_of, is_stored, shows, table_of};
@@ -69,28 +69,4 @@ pub fn assert_refused<T: Drop, E: Debug + PartialEq + Drop>(
         Ok(grid) => panic!(rt; "a grid of {:?} in place of {want:?}", grid.size()),
         Err(met) => assert_eq!(rt; met, want),
     }
-}
-
-// The debug text of a value.
-pub fn assert_debug<T: Debug>(
-    rt: &impl Abort,
-    alloc: Global,
-    value: &T,
-    want: &str,
-) -> Result<(), AllocError> {
-    let text = format!(in alloc; "{value:?}")?;
-    assert_eq!(rt; text.as_str(), want);
-    Ok(())
-}
-
-// The text of a value.
-pub fn assert_text<T: Display>(
-    rt: &impl Abort,
-    alloc: Global,
-    value: &T,
-    want: &str,
-) -> Result<(), AllocError> {
-    let text = format!(in alloc; "{value}")?;
-    assert_eq!(rt; text.as_str(), want);
-    Ok(())
 }

@@ -1,4 +1,4 @@
-//! Worked examples: each call with its result, found by hand or by the Rust crate.
+//! Worked examples that are no lines of text, found by hand or by the Rust crate. The others are cases of `test_calls`.
 #![tactic(auto)]
 
 #[cfg(test)]

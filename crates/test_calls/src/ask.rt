@@ -1,0 +1,115 @@
+//! How a call of a case is read.
+//!
+//! A line has the name of a call, words or numbers, and behind a colon lines of cells between slashes, as
+//! `insert_rows 1: 5 6 / 7 8`. A number is written out, or `max`, which is the largest.
+use grid::{Grid, Move, Order, Symmetry};
+use grid_play::Script;
+use std::alloc::{AllocError, Global};
+
+/// A call, what stands behind its name, and the text of its lines of cells.
+#[derive(Clone, Copy)]
+pub struct Ask<'a> {
+    pub call: &'a str,
+    pub rest: &'a str,
+    cells: Option<&'a str>,
+}
+
+// The cells of a line. A word that is no number ends it.
+fn cells_of(alloc: Global, text: &str) -> Result<Vec<i64>, AllocError> {
+    let mut cells = Vec::new(alloc);
+    for word in text.split_whitespace() {
+        match word.parse::<i64>() {
+            Ok(cell) => cells.push(cell)?,
+            Err(_) => return Ok(cells),
+        }
+    }
+    Ok(cells)
+}
+
+impl<'a> Ask<'a> {
+    /// Reads a line.
+    pub fn of(line: &'a str) -> Ask<'a> {
+        let (head, cells) = match line.split_once(":") {
+            Some((head, cells)) => (head, Some(cells)),
+            None => (line, None),
+        };
+        let (call, rest) = head.split_once(" ").unwrap_or((head, ""));
+        Ask { call, rest, cells }
+    }
+
+    /// Returns a word behind the name, or an empty one.
+    pub fn word(&self, at: usize) -> &'a str {
+        self.rest.split_whitespace().nth(at).unwrap_or("")
+    }
+
+    /// Returns a word as a number.
+    pub fn number(&self, at: usize) -> usize {
+        self.word(at).parse::<usize>().unwrap_or(usize::MAX)
+    }
+
+    /// Returns two words as a position, or as a size.
+    pub fn position(&self, at: usize) -> (usize, usize) {
+        (self.number(at), self.number(at.saturating_add(1)))
+    }
+
+    /// Returns a word as a cell.
+    pub fn cell(&self, at: usize) -> i64 {
+        self.word(at).parse::<i64>().unwrap_or(0)
+    }
+
+    /// Returns the cells of the one line.
+    pub fn line(&self, alloc: Global) -> Result<Vec<i64>, AllocError> {
+        cells_of(alloc, self.cells.unwrap_or(""))
+    }
+
+    /// Returns the lines of cells.
+    pub fn lines(&self, alloc: Global) -> Result<Vec<Vec<i64>>, AllocError> {
+        let mut lines = Vec::new(alloc);
+        if let Some(cells) = self.cells {
+            for line in cells.split('/') {
+                lines.push(cells_of(alloc, line)?)?;
+            }
+        }
+        Ok(lines)
+    }
+
+    /// Returns a word as an order.
+    pub fn order(&self, at: usize) -> Order {
+        match self.word(at) {
+            "ColumnMajor" => Order::ColumnMajor,
+            _ => Order::RowMajor,
+        }
+    }
+
+    /// Returns a word as a symmetry.
+    pub fn symmetry(&self, at: usize) -> Symmetry {
+        match self.word(at) {
+            "Identity" => Symmetry::Identity,
+            word => match move_of(word) {
+                Some(step) => Symmetry::of(step),
+                None => Symmetry::AntiTranspose,
+            },
+        }
+    }
+}
+
+/// Returns the move of this name.
+pub fn move_of(word: &str) -> Option<Move> {
+    match word {
+        "Transpose" => Some(Move::Transpose),
+        "FlipCols" => Some(Move::FlipCols),
+        "FlipRows" => Some(Move::FlipRows),
+        "RotateLeft" => Some(Move::RotateLeft),
+        "RotateRight" => Some(Move::RotateRight),
+        "RotateHalf" => Some(Move::RotateHalf),
+        _ => None,
+    }
+}
+
+/// Reads a board, as the first line of a script.
+pub fn board_of(alloc: Global, line: &str) -> Result<Grid<i64>, AllocError> {
+    match Script::parse(alloc, line.as_bytes()) {
+        Ok(script) => Ok(script.grid),
+        Err(_) => Err(AllocError),
+    }
+}

@@ -1,0 +1,41 @@
+//! Conversions of vectors and of lists of rows.
+use crate::ask::Ask;
+use crate::told::{shown, told_made};
+use grid::{Grid, can_cut};
+use std::alloc::{AllocError, Global};
+use std::convert::TryFrom;
+
+// The cells, moved or lent, in rows of some length.
+fn pair(alloc: Global, ask: Ask<'_>) -> Result<String, AllocError> {
+    let flat = ask.line(alloc)?;
+    let cols = ask.number(0);
+    match ask.call {
+        "cells" => told_made(alloc, Grid::try_from((flat, cols))),
+        "cells_lent" => told_made(alloc, Grid::try_from((&flat, cols))),
+        "cells_and_length_lent" => told_made(alloc, Grid::try_from((&flat, &cols))),
+        _ => Err(AllocError),
+    }
+}
+
+// The rows, each lent, in this order or last first.
+fn rows_lent(alloc: Global, rows: &Vec<Vec<i64>>, last_first: bool) -> Result<String, AllocError> {
+    let lent: Vec<&Vec<i64>> = if last_first {
+        rows.iter().rev().collect(alloc)?
+    } else {
+        rows.iter().collect(alloc)?
+    };
+    told_made(alloc, Grid::try_from(&lent))
+}
+
+/// What a conversion made.
+pub fn told(alloc: Global, ask: Ask<'_>) -> Result<String, AllocError> {
+    match ask.call {
+        "rows" => told_made(alloc, Grid::try_from(ask.lines(alloc)?)),
+        "rows_into" => told_made::<i64, _>(alloc, ask.lines(alloc)?.try_into()),
+        "list_lent" => told_made(alloc, Grid::try_from(&ask.lines(alloc)?)),
+        "rows_lent" => rows_lent(alloc, &ask.lines(alloc)?, false),
+        "rows_lent_last_first" => rows_lent(alloc, &ask.lines(alloc)?, true),
+        "can_cut" => shown(alloc, can_cut(ask.number(0), ask.number(1))),
+        _ => pair(alloc, ask),
+    }
+}

@@ -1,0 +1,92 @@
+//! Iterators over cells, rows and columns.
+use crate::ask::Ask;
+use crate::told::shown;
+use grid::{Grid, GridColIter, GridLineIter, GridRowIter};
+use std::alloc::{AllocError, Global};
+
+// Adds a line that was handed out, or that there was none, and how many are left.
+fn add_line(
+    alloc: Global,
+    told: &mut String,
+    line: Option<GridLineIter<'_, i64>>,
+    left: usize,
+) -> Result<(), AllocError> {
+    if !told.is_empty() {
+        told.push_str("; ")?;
+    }
+    match line {
+        Some(line) => {
+            let cells = line.collect::<Vec<&i64>>(alloc)?;
+            write!(told, "{cells:?} {left} left")
+        }
+        None => write!(told, "none {left} left"),
+    }
+}
+
+// The lines that an iterator hands out at these ends, and how many are left each time.
+fn handed(
+    alloc: Global,
+    mut lines: GridRowIter<'_, i64>,
+    ends: &str,
+) -> Result<String, AllocError> {
+    let mut told = String::new(alloc);
+    for end in ends.split_whitespace() {
+        let line = match end {
+            "front" => lines.next(),
+            _ => lines.next_back(),
+        };
+        add_line(alloc, &mut told, line, lines.len())?;
+    }
+    Ok(told)
+}
+
+// The cells in storage order, each with its position.
+fn indexed(alloc: Global, board: &Grid<i64>) -> Result<String, AllocError> {
+    shown(
+        alloc,
+        board
+            .indexed_iter()
+            .collect::<Vec<((usize, usize), &i64)>>(alloc)?,
+    )
+}
+
+fn row(alloc: Global, board: &Grid<i64>, at: usize) -> Result<String, AllocError> {
+    if at < board.rows() {
+        shown(alloc, board.iter_row(at).collect::<Vec<&i64>>(alloc)?)
+    } else {
+        String::from_str(alloc, "no such row")
+    }
+}
+
+fn col(alloc: Global, board: &Grid<i64>, at: usize) -> Result<String, AllocError> {
+    if at < board.cols() {
+        shown(alloc, board.iter_col(at).collect::<Vec<&i64>>(alloc)?)
+    } else {
+        String::from_str(alloc, "no such column")
+    }
+}
+
+// The cell that an iterator over a row hands out after some others.
+fn nth_in_row(board: &Grid<i64>, (at, skipped): (usize, usize)) -> Option<i64> {
+    if at < board.rows() {
+        board.iter_row(at).nth(skipped).copied()
+    } else {
+        None
+    }
+}
+
+/// What an iterator hands out.
+pub fn told(alloc: Global, board: &mut Grid<i64>, ask: Ask<'_>) -> Result<String, AllocError> {
+    match ask.call {
+        "iter_rows" => handed(alloc, board.iter_rows(), ask.rest),
+        "iter_cols" => {
+            let cols: GridColIter<'_, i64> = board.iter_cols();
+            handed(alloc, cols, ask.rest)
+        }
+        "indexed_iter" => indexed(alloc, board),
+        "iter_row" => row(alloc, board, ask.number(0)),
+        "iter_col" => col(alloc, board, ask.number(0)),
+        "iter_row_nth" => shown(alloc, nth_in_row(board, ask.position(0))),
+        _ => Err(AllocError),
+    }
+}

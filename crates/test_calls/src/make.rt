@@ -1,0 +1,52 @@
+//! Constructors.
+use crate::ask::Ask;
+use crate::told::{told_board, told_made};
+use grid::{Grid, GridError, can_cut};
+use std::alloc::{AllocError, Global};
+use test_support::fixtures::cut;
+
+fn from_vec(alloc: Global, cells: Vec<i64>, cols: usize) -> Result<String, AllocError> {
+    if can_cut(cells.len(), cols) {
+        told_board(alloc, &Grid::from_vec(cells, cols))
+    } else {
+        String::from_str(alloc, "no rows of this length")
+    }
+}
+
+// Those in row-major order.
+fn by_rows(alloc: Global, ask: Ask<'_>) -> Result<String, AllocError> {
+    let (rows, cols) = ask.position(0);
+    match ask.call {
+        "new" => told_made(alloc, Grid::<i64>::new(alloc, rows, cols)),
+        "init" => told_made(alloc, Grid::init(alloc, rows, cols, 7i64)),
+        "from_fn" => told_made(alloc, Grid::from_fn(alloc, rows, cols, |at| at)),
+        "with_capacity" => told_made(alloc, Grid::<i64>::with_capacity(alloc, rows, cols)),
+        "from_vec" => from_vec(alloc, ask.line(alloc)?, rows),
+        "empty" => told_made::<_, GridError>(alloc, Ok(Grid::<i64>::empty(alloc))),
+        _ => Err(AllocError),
+    }
+}
+
+/// What a constructor made.
+pub fn told(alloc: Global, ask: Ask<'_>) -> Result<String, AllocError> {
+    let (rows, cols) = ask.position(0);
+    let order = ask.order(2);
+    match ask.call {
+        "new_with_order" => {
+            told_made(alloc, Grid::<i64>::new_with_order(alloc, rows, cols, order))
+        }
+        "init_with_order" => {
+            told_made(alloc, Grid::init_with_order(alloc, rows, cols, order, 7i64))
+        }
+        "from_fn_with_order" => told_made(
+            alloc,
+            Grid::from_fn_with_order(alloc, rows, cols, order, |at| at),
+        ),
+        "with_capacity_and_order" => told_made(
+            alloc,
+            Grid::<i64>::with_capacity_and_order(alloc, rows, cols, order),
+        ),
+        "from_vec_with_order" => told_made(alloc, cut(ask.line(alloc)?, rows, ask.order(1))),
+        _ => by_rows(alloc, ask),
+    }
+}

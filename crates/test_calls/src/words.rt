@@ -1,0 +1,29 @@
+//! Words of moves, symmetries and directions.
+use crate::ask::{Ask, move_of};
+use crate::told::shown;
+use grid::{Direction, reduce};
+use std::alloc::{AllocError, Global};
+
+// The symmetry of a word of moves.
+fn reduced(alloc: Global, words: &str) -> Result<String, AllocError> {
+    let mut moves = Vec::new(alloc);
+    for word in words.split_whitespace() {
+        moves.push(move_of(word).ok_or(AllocError)?)?;
+    }
+    shown(alloc, reduce(moves.as_slice()))
+}
+
+/// What a call on moves returned.
+pub fn told(alloc: Global, ask: Ask<'_>) -> Result<String, AllocError> {
+    match ask.call {
+        "reduce" => reduced(alloc, ask.rest),
+        "then" => shown(alloc, ask.symmetry(0).then(ask.symmetry(1))),
+        "inverse" => shown(alloc, ask.symmetry(0).inverse()),
+        "flags" => shown(alloc, ask.symmetry(0).flags()),
+        "right_in" => shown(
+            alloc,
+            Direction::Right.step(ask.position(0), ask.position(2)),
+        ),
+        _ => Err(AllocError),
+    }
+}

@@ -1,0 +1,48 @@
+//! Boards that are written out by the macros.
+use crate::ask::Ask;
+use crate::told::told_made;
+use grid::{grid, grid_cm};
+use std::alloc::{AllocError, Global};
+
+// Row-major boards.
+fn by_rows(alloc: Global, written: &str) -> Result<String, AllocError> {
+    match written {
+        "[1, 2] [3, 4]" => told_made(alloc, grid!(alloc; [1u8, 2] [3, 4])),
+        "[1, 2, 3]" => told_made(alloc, grid!(alloc; [1u8, 2, 3])),
+        "[]" => told_made::<u8, _>(alloc, grid!(alloc; [])),
+        "[] []" => told_made::<u8, _>(alloc, grid!(alloc; [] [])),
+        "" => told_made::<u8, _>(alloc, grid!(alloc;)),
+        _ => Err(AllocError),
+    }
+}
+
+// Column-major boards.
+fn by_cols(alloc: Global, written: &str) -> Result<String, AllocError> {
+    match written {
+        "[1, 2, 3] [4, 5, 6]" => told_made(alloc, grid_cm!(alloc; [1u8, 2, 3] [4, 5, 6])),
+        "[1, 2, 3]" => told_made(alloc, grid_cm!(alloc; [1u8, 2, 3])),
+        "[]" => told_made::<u8, _>(alloc, grid_cm!(alloc; [])),
+        "[] []" => told_made::<u8, _>(alloc, grid_cm!(alloc; [] [])),
+        "" => told_made::<u8, _>(alloc, grid_cm!(alloc;)),
+        _ => texts(alloc, written),
+    }
+}
+
+fn texts(alloc: Global, written: &str) -> Result<String, AllocError> {
+    if written != "[\"a\", \"\"]" {
+        return Err(AllocError);
+    }
+    told_made(
+        alloc,
+        grid_cm!(alloc; [String::from_str(alloc, "a")?, String::new(alloc)]),
+    )
+}
+
+/// The board of rows that are written out: the text of a case must be that of a macro call here.
+pub fn told(alloc: Global, ask: Ask<'_>) -> Result<String, AllocError> {
+    match ask.call {
+        "grid!" => by_rows(alloc, ask.rest),
+        "grid_cm!" => by_cols(alloc, ask.rest),
+        _ => Err(AllocError),
+    }
+}
