@@ -3,8 +3,8 @@
 //! A line has the name of a call, words or numbers, and behind a colon lines of cells between slashes, as
 //! `insert_rows 1: 5 6 / 7 8`. A number is written out, or `max`, which is the largest.
 use grid::{Grid, Move, Order, Symmetry};
-use grid_play::Script;
 use std::alloc::{AllocError, Global};
+use test_support::fixtures::cut;
 
 /// A call, what stands behind its name, and the text of its lines of cells.
 #[derive(Clone, Copy)]
@@ -45,6 +45,14 @@ impl<'a> Ask<'a> {
     /// Returns a word as a number.
     pub fn number(&self, at: usize) -> usize {
         self.word(at).parse::<usize>().unwrap_or(usize::MAX)
+    }
+
+    /// Returns a word as a signed number, of which `min` is the least.
+    pub fn signed(&self, at: usize) -> isize {
+        match self.word(at) {
+            "min" => isize::MIN,
+            word => word.parse::<isize>().unwrap_or(isize::MAX),
+        }
     }
 
     /// Returns two words as a position, or as a size.
@@ -106,10 +114,17 @@ pub fn move_of(word: &str) -> Option<Move> {
     }
 }
 
-/// Reads a board, as the first line of a script.
+/// Reads a board, as the first line of a script has it: the order, the number of columns and the cells in storage order.
 pub fn board_of(alloc: Global, line: &str) -> Result<Grid<i64>, AllocError> {
-    match Script::parse(alloc, line.as_bytes()) {
-        Ok(script) => Ok(script.grid),
+    let (order, rest) = line.split_once(" ").unwrap_or((line, ""));
+    let (cols, cells) = rest.split_once(" ").unwrap_or((rest, ""));
+    let order = match order {
+        "ColumnMajor" => Order::ColumnMajor,
+        _ => Order::RowMajor,
+    };
+    let cols = cols.parse::<usize>().unwrap_or(0);
+    match cut(cells_of(alloc, cells)?, cols, order) {
+        Ok(board) => Ok(board),
         Err(_) => Err(AllocError),
     }
 }

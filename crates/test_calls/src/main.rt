@@ -17,6 +17,7 @@ mod moves;
 mod near;
 mod texts;
 mod told;
+mod views;
 mod whole;
 mod whole_numbers;
 mod words;
@@ -43,8 +44,9 @@ fn answer(
         "whole" => whole::told(alloc, board, ask),
         "near" => near::told(alloc, board, ask),
         "lines" => lines::told(alloc, board, ask),
-        "moves" => moves::told(alloc, board, ask),
         "commands" => commands::told(alloc, board, ask),
+        "views" => views::told(alloc, board, ask),
+        "moves" => moves::told(alloc, board, ask),
         _ => Err(AllocError),
     }
 }
@@ -57,8 +59,8 @@ fn answer_alone(alloc: Global, section: &str, ask: Ask<'_>) -> Result<String, Al
         "words" => words::told(alloc, ask),
         "texts" => texts::told(alloc, ask),
         "integers" => whole_numbers::told(alloc, ask),
-        "macros" => written::told(alloc, ask),
         "counted" => commands::told_counted(alloc, ask),
+        "macros" => written::told(alloc, ask),
         _ => Err(AllocError),
     }
 }

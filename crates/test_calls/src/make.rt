@@ -1,9 +1,34 @@
 //! Constructors.
 use crate::ask::Ask;
-use crate::told::{told_board, told_made};
-use grid::{Grid, GridError, can_cut};
+use crate::told::{shown, told_board, told_made};
+use grid::{Grid, GridError, Order, can_cut};
 use std::alloc::{AllocError, Global};
 use test_support::fixtures::cut;
+
+// A board of a closure that fails at (0, 2) and at (1, 1), or the first of these.
+fn try_from_fn(
+    alloc: Global,
+    (rows, cols): (usize, usize),
+    order: Order,
+) -> Result<String, AllocError> {
+    let made: Result<Result<Grid<u32>, (usize, usize)>, GridError> = Grid::try_from_fn_with_order(
+        alloc,
+        rows,
+        cols,
+        order,
+        |at| {
+            if at == (0, 2) || at == (1, 1) {
+                Err(at)
+            } else {
+                Ok(7)
+            }
+        },
+    );
+    match made {
+        Ok(made) => told_made(alloc, made),
+        Err(fault) => shown(alloc, fault),
+    }
+}
 
 fn from_vec(alloc: Global, cells: Vec<i64>, cols: usize) -> Result<String, AllocError> {
     if can_cut(cells.len(), cols) {
@@ -42,6 +67,7 @@ pub fn told(alloc: Global, ask: Ask<'_>) -> Result<String, AllocError> {
             alloc,
             Grid::from_fn_with_order(alloc, rows, cols, order, |at| at),
         ),
+        "try_from_fn_with_order" => try_from_fn(alloc, (rows, cols), order),
         "with_capacity_and_order" => told_made(
             alloc,
             Grid::<i64>::with_capacity_and_order(alloc, rows, cols, order),

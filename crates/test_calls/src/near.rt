@@ -1,4 +1,4 @@
-//! The cells round a cell, a part of a board, and lines that change places.
+//! The cells round a cell, and lines that change places.
 use crate::ask::Ask;
 use crate::told::{shown, told_made};
 use grid::{Grid, Neighbors, WrappedNeighbors};
@@ -89,8 +89,9 @@ fn map_counts(alloc: Global, board: &Grid<i64>, ask: Ask<'_>) -> Result<String, 
     told_made(alloc, made)
 }
 
-fn low_byte(cell: &i64) -> u8 {
-    (*cell & 0xff) as u8
+// A cell as a byte, or the largest.
+fn weight(cell: &i64) -> u8 {
+    u8::try_from(*cell).unwrap_or(u8::MAX)
 }
 
 // A cell and the sum of those round it.
@@ -98,34 +99,20 @@ fn added(cell: &i64, sum: u16) -> i64 {
     cell.wrapping_add(i64::from(sum))
 }
 
-// The sums of each cell and of the low bytes of those round it.
+// The sums of each cell and of those round it, as bytes.
 fn map_sums(alloc: Global, board: &Grid<i64>, ask: Ask<'_>) -> Result<String, AllocError> {
     let made = match ask.call {
-        "map_sums4" => board.map_sums4(|cell| low_byte(cell), |cell, sum| added(cell, sum)),
-        "map_sums8" => board.map_sums8(|cell| low_byte(cell), |cell, sum| added(cell, sum)),
+        "map_sums4" => board.map_sums4(|cell| weight(cell), |cell, sum| added(cell, sum)),
+        "map_sums8" => board.map_sums8(|cell| weight(cell), |cell, sum| added(cell, sum)),
         "map_wrapped_sums4" => {
-            board.map_wrapped_sums4(|cell| low_byte(cell), |cell, sum| added(cell, sum))
+            board.map_wrapped_sums4(|cell| weight(cell), |cell, sum| added(cell, sum))
         }
         "map_wrapped_sums8" => {
-            board.map_wrapped_sums8(|cell| low_byte(cell), |cell, sum| added(cell, sum))
+            board.map_wrapped_sums8(|cell| weight(cell), |cell, sum| added(cell, sum))
         }
         _ => return map_counts(alloc, board, ask),
     };
     told_made(alloc, made)
-}
-
-fn sub_grid(
-    alloc: Global,
-    board: &Grid<i64>,
-    at: (usize, usize),
-    size: (usize, usize),
-) -> Result<String, AllocError> {
-    let (rows, cols) = board.size();
-    if at.0 <= rows && size.0 <= rows - at.0 && at.1 <= cols && size.1 <= cols - at.1 {
-        told_made(alloc, board.sub_grid(at, size))
-    } else {
-        String::from_str(alloc, "out of range")
-    }
 }
 
 fn swap_lines(board: &mut Grid<i64>, call: &str, (a, b): (usize, usize)) -> bool {
@@ -141,10 +128,9 @@ fn swap_lines(board: &mut Grid<i64>, call: &str, (a, b): (usize, usize)) -> bool
     false
 }
 
-/// What a call on cells round others, on a part or on two lines returned.
+/// What a call on cells round others or on two lines returned.
 pub fn told(alloc: Global, board: &mut Grid<i64>, ask: Ask<'_>) -> Result<String, AllocError> {
     match ask.call {
-        "sub_grid" => sub_grid(alloc, board, ask.position(0), ask.position(2)),
         "swap_rows" | "swap_cols" => shown(alloc, swap_lines(board, ask.call, ask.position(0))),
         _ => map_sums(alloc, board, ask),
     }

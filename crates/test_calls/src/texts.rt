@@ -57,12 +57,23 @@ fn stopped(alloc: Global, (rows, cols): (usize, usize)) -> Result<RunStopped<i64
     })
 }
 
+// A run that stopped after so many commands, whose replies are left out.
+fn stopped_after(alloc: Global, done: usize) -> RunStopped<i64> {
+    RunStopped {
+        done,
+        replies: Vec::new(alloc),
+    }
+}
+
 // The texts of values that own memory.
 fn shown_owner(alloc: Global, ask: Ask<'_>) -> Result<String, AllocError> {
     match ask.call {
         "line_refused" => shown(alloc, line_refused(alloc, ask)?),
         "lines_refused" => shown(alloc, lines_refused(alloc, ask)?),
         "run_stopped" => shown(alloc, stopped(alloc, ask.position(0))?),
+        "line_refused_text" => printed(alloc, line_refused(alloc, ask)?),
+        "lines_refused_text" => printed(alloc, lines_refused(alloc, ask)?),
+        "run_stopped_text" => printed(alloc, stopped_after(alloc, ask.number(0))),
         "command_get" => {
             let (row, col) = ask.position(0);
             shown(alloc, Command::<i64>::Get(row, col))

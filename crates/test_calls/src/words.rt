@@ -1,7 +1,7 @@
 //! Words of moves, symmetries and directions.
 use crate::ask::{Ask, move_of};
 use crate::told::shown;
-use grid::{Direction, reduce};
+use grid::{Direction, Order, reduce};
 use std::alloc::{AllocError, Global};
 
 // The symmetry of a word of moves.
@@ -13,10 +13,23 @@ fn reduced(alloc: Global, words: &str) -> Result<String, AllocError> {
     shown(alloc, reduce(moves.as_slice()))
 }
 
+// Where an order stores a cell of a small table.
+fn placed(order: Order, ask: Ask<'_>) -> Option<usize> {
+    let ((rows, cols), (row, col)) = (ask.position(1), ask.position(3));
+    if rows < 1000 && cols < 1000 && row < rows && col < cols {
+        Some(order.place(rows, cols, row, col))
+    } else {
+        None
+    }
+}
+
 /// What a call on moves returned.
 pub fn told(alloc: Global, ask: Ask<'_>) -> Result<String, AllocError> {
     match ask.call {
         "reduce" => reduced(alloc, ask.rest),
+        "of" => shown(alloc, ask.symmetry(0)),
+        "place" => shown(alloc, placed(ask.order(0), ask)),
+        "place_flipped" => shown(alloc, placed(ask.order(0).flipped(), ask)),
         "then" => shown(alloc, ask.symmetry(0).then(ask.symmetry(1))),
         "inverse" => shown(alloc, ask.symmetry(0).inverse()),
         "flags" => shown(alloc, ask.symmetry(0).flags()),
