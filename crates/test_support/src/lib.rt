@@ -3,6 +3,7 @@
 //! conditions.
 #![tactic(auto)]
 
+pub mod counted;
 pub mod fixtures;
 pub mod fuse;
 pub mod iterators;

@@ -1,0 +1,202 @@
+//! A call on all small boards, with all memory and with each request refused in turn.
+use crate::state::{Answer, Call, Start, is_board};
+use crate::{commands, copies, edits, json, lines, makers, maps, paths, pictures, texts};
+use grid::Order;
+use std::alloc::{AllocError, Global};
+use std::cell::Cell;
+use std::io;
+use test_support::fixtures::{ORDERS, SIZES};
+use test_support::fuse::Fuse;
+
+// The modules that make the calls.
+#[derive(Clone, Copy)]
+pub enum Group {
+    Commands,
+    Copies,
+    Edits,
+    Json,
+    Lines,
+    Makers,
+    Maps,
+    Paths,
+    Pictures,
+    Texts,
+}
+
+// A call on a board: its group, its name, which of its cases; the size and the order of the board.
+#[derive(Clone, Copy)]
+struct Trial {
+    group: Group,
+    call: Call,
+    case: usize,
+    size: (usize, usize),
+    order: Order,
+}
+
+// What an attempt came to: how many requests it took, clones among them, how many were for memory, how often it called its
+// closure, and how many blocks and cells were held in the end.
+#[derive(Clone, Copy)]
+struct Seen {
+    came: Answer,
+    taken: u64,
+    blocks: u64,
+    calls: u64,
+    held: u64,
+}
+
+// Makes the call on a new board, which is then dropped.
+fn made(start: Start<'_>, group: Group, name: &str) -> Result<Answer, AllocError> {
+    start.prepare();
+    let mut board = start.board(start.size, start.order)?;
+    let came = match group {
+        Group::Commands => commands::call(start, &mut board, name)?,
+        Group::Copies => copies::call(start, &mut board, name)?,
+        Group::Edits => edits::call(start, &mut board, name)?,
+        Group::Json => json::call(start, name)?,
+        Group::Lines => lines::call(start, &mut board, name)?,
+        Group::Makers => makers::call(start, &mut board, name)?,
+        Group::Maps => maps::call(start, &mut board, name)?,
+        Group::Paths => paths::call(start, name)?,
+        Group::Pictures => pictures::call(start, name)?,
+        Group::Texts => texts::call(start, &mut board, name)?,
+    };
+    if came == Answer::Refused && !is_board(&board, start.size, start.order) {
+        return Ok(Answer::Wrong);
+    }
+    Ok(came)
+}
+
+fn attempt(alloc: Global, trial: Trial, granted: u64) -> Result<Seen, AllocError> {
+    let heap = Fuse::new(alloc, 0);
+    let calls = Cell::new(0u64);
+    let came = made(
+        Start {
+            alloc,
+            heap: &heap,
+            size: trial.size,
+            order: trial.order,
+            case: trial.case,
+            granted,
+            calls: &calls,
+        },
+        trial.group,
+        trial.call.0,
+    )?;
+    Ok(Seen {
+        came,
+        taken: granted.wrapping_sub(heap.left()),
+        blocks: heap.granted(),
+        calls: calls.get(),
+        held: heap.held(),
+    })
+}
+
+// Whether a number is the promised one for each of so many.
+fn keeps(promise: Option<u64>, found: u64, each: usize) -> bool {
+    match promise {
+        Some(promised) => found == promised.wrapping_mul(each as u64),
+        None => true,
+    }
+}
+
+// What is wrong with an attempt that has memory for all, or nothing.
+fn fault_with_all(trial: Trial, seen: Seen) -> Option<&'static str> {
+    let cells = trial.size.0.wrapping_mul(trial.size.1);
+    match seen.came {
+        Answer::Skipped => None,
+        Answer::Refused | Answer::Stopped => Some("is refused with memory for all"),
+        Answer::Wrong => Some("answers something else"),
+        Answer::Done if !keeps(trial.call.2, seen.blocks, cells.min(1)) => {
+            Some("makes another number of requests")
+        }
+        Answer::Done if !keeps(trial.call.3, seen.calls, cells) => {
+            Some("calls its closure another number of times")
+        }
+        Answer::Done if seen.held != 0 => Some("leaks"),
+        Answer::Done => None,
+    }
+}
+
+// What is wrong with an attempt that has some requests, or nothing.
+fn fault_with_some(seen: Seen) -> Option<&'static str> {
+    match seen.came {
+        Answer::Wrong => Some("answers something else, or leaves the board changed"),
+        _ if seen.held != 0 => Some("leaks"),
+        _ => None,
+    }
+}
+
+// Prints a fault, if there is one, and returns how many there are.
+fn printed<R: Print>(
+    rt: &R,
+    trial: Trial,
+    granted: u64,
+    fault: Option<&'static str>,
+) -> io::Result<u64> {
+    let Some(fault) = fault else {
+        return Ok(0);
+    };
+    let Trial {
+        call,
+        case,
+        size,
+        order,
+        ..
+    } = trial;
+    println!(rt;
+        "FAILED {} case {case} on {size:?} {order:?}, {granted} granted: it {fault}",
+        call.0
+    )?;
+    Ok(1)
+}
+
+// Whether requests are refused on a board of this size: one of at most four cells. Larger boards have memory for all.
+fn is_refused_on((rows, cols): (usize, usize)) -> bool {
+    rows.saturating_mul(cols) <= 4
+}
+
+// Makes a call with memory for all, and on a small board with each smaller number of requests. Returns how often it was
+// made.
+fn try_case<R: Print + AllocGlobal>(rt: &R, trial: Trial) -> io::Result<u64> {
+    let all = attempt(rt.alloc(), trial, u64::MAX)?;
+    if all.came == Answer::Skipped {
+        return Ok(0);
+    }
+    printed(rt, trial, u64::MAX, fault_with_all(trial, all))?;
+    if !is_refused_on(trial.size) {
+        return Ok(1);
+    }
+    for granted in 0..all.taken {
+        let seen = attempt(rt.alloc(), trial, granted)?;
+        printed(rt, trial, granted, fault_with_some(seen))?;
+    }
+    Ok(all.taken.saturating_add(1))
+}
+
+// Tries a call on all boards, and prints how many attempts there were.
+fn try_call<R: Print + AllocGlobal>(rt: &R, group: Group, call: Call) -> io::Result<()> {
+    let mut attempts = 0u64;
+    for size in SIZES {
+        for order in ORDERS {
+            for case in 0..call.1 {
+                let trial = Trial {
+                    group,
+                    call,
+                    case,
+                    size,
+                    order,
+                };
+                attempts = attempts.saturating_add(try_case(rt, trial)?);
+            }
+        }
+    }
+    println!(rt; "{}: {attempts} attempts", call.0)
+}
+
+// Tries all calls of a group.
+pub fn try_all<R: Print + AllocGlobal>(rt: &R, group: Group, calls: &[Call]) -> io::Result<()> {
+    for call in calls {
+        try_call(rt, group, *call)?;
+    }
+    Ok(())
+}

@@ -1,0 +1,133 @@
+//! Commands, one by one and in runs, at once and deferred, and scripts.
+use crate::state::{Answer, Board, Call, Start, came};
+use grid::{Command, Order, Symmetry, Tally, run};
+use grid_deferred::{Deferred, run_deferred};
+use grid_laws::{run_deferred_by_least, step_by_least};
+use grid_play::{Script, play};
+use std::alloc::AllocError;
+use test_support::counted::Counted;
+use test_support::fixtures::Heap;
+
+pub const CALLS: [Call; 8] = [
+    Call("Grid::step", 13, None, None),
+    Call("Deferred::step", 13, None, None),
+    Call("grid_laws::step_by_least", 2, None, None),
+    Call("grid::run", 1, None, None),
+    Call("grid_deferred::run_deferred", 1, None, None),
+    Call("grid_laws::run_deferred_by_least", 1, None, None),
+    Call("Script::parse", 1, None, None),
+    Call("grid_play::play", 2, None, None),
+];
+
+type Given<'a> = Command<Counted<'a>, &'a Heap>;
+
+// A line that fits this number of cells, or two cells.
+fn fitting(len: usize) -> usize {
+    if len == 0 { 2 } else { len }
+}
+
+// A command that puts or fills.
+fn putting<'a>(start: Start<'a>, (rows, cols): (usize, usize)) -> Result<Given<'a>, AllocError> {
+    Ok(match start.case {
+        0 => Command::Fill(start.given(7)),
+        1 => Command::PushRow(start.line(fitting(cols))?),
+        2 => Command::PushCol(start.line(fitting(rows))?),
+        3 => Command::InsertRow(0, start.line(fitting(cols))?),
+        4 => Command::InsertCols(0, start.lines(2, fitting(rows))?),
+        _ => Command::InsertRows(0, start.lines(2, fitting(cols))?),
+    })
+}
+
+// A command of a case, for a board of this size.
+fn command<'a>(start: Start<'a>, size: (usize, usize)) -> Result<Given<'a>, AllocError> {
+    Ok(match start.case {
+        6 => Command::Get(0, 0),
+        7 => Command::Row(0),
+        8 => Command::Col(0),
+        9 => Command::PopRow,
+        10 => Command::RemoveCol(0),
+        11 => Command::ExpandRows(2),
+        12 => Command::PrependCols(1),
+        _ => putting(start, size)?,
+    })
+}
+
+fn stepped<'a>(start: Start<'a>, board: &mut Board<'a>, name: &str) -> Result<Answer, AllocError> {
+    let command = command(start, start.size)?;
+    start.ready();
+    let mut tally = Tally::new();
+    Ok(if name == "Grid::step" {
+        came(board.step(command, &mut tally))
+    } else {
+        came(step_by_least(board, command, &mut tally))
+    })
+}
+
+// On the board transposed, which is transposed back in the end.
+fn stepped_deferred<'a>(start: Start<'a>, board: &mut Board<'a>) -> Result<Answer, AllocError> {
+    let command = command(start, (start.size.1, start.size.0))?;
+    start.ready();
+    let mut tally = Tally::new();
+    let mut deferred = Deferred::over(board);
+    let transposed = came(deferred.step(Command::Apply(Symmetry::Transpose), &mut tally));
+    let answer = came(deferred.step(command, &mut tally));
+    let pending = deferred.release();
+    if transposed != Answer::Done || pending != Symmetry::Transpose {
+        return Ok(Answer::Wrong);
+    }
+    Ok(answer)
+}
+
+fn commands<'a>(start: Start<'a>) -> Result<Vec<Given<'a>, &'a Heap>, AllocError> {
+    let (rows, cols) = start.size;
+    let mut list = Vec::new(start.heap);
+    list.push(Command::PushRow(start.line(fitting(cols))?))?;
+    list.push(Command::Apply(Symmetry::RotateLeft))?;
+    list.push(Command::Row(0))?;
+    list.push(Command::PushRow(start.line(rows.saturating_add(1))?))?;
+    list.push(Command::Fill(start.given(7)))?;
+    list.push(Command::PopCol)?;
+    Ok(list)
+}
+
+// A run that is refused has done some commands.
+fn ran<'a>(start: Start<'a>, board: &mut Board<'a>, name: &str) -> Result<Answer, AllocError> {
+    let list = commands(start)?;
+    start.ready();
+    let mut tally = Tally::new();
+    let answer = came(match name {
+        "grid::run" => run(start.heap, board, list, &mut tally),
+        "grid_deferred::run_deferred" => run_deferred(start.heap, board, list, &mut tally),
+        _ => run_deferred_by_least(start.heap, board, list, &mut tally),
+    });
+    Ok(if answer == Answer::Refused {
+        Answer::Stopped
+    } else {
+        answer
+    })
+}
+
+const SCRIPT: &[u8] = b"ColumnMajor 2 1 3 2 4\npush_row 5 6\nrotate_left\nrow 0\nfill 7\npop_col\n";
+
+fn played(start: Start<'_>, name: &str) -> Answer {
+    if start.size != (1, 1) || start.order == Order::ColumnMajor {
+        return Answer::Skipped;
+    }
+    if name == "Script::parse" {
+        came(Script::parse(start.heap, SCRIPT))
+    } else {
+        came(play(start.heap, SCRIPT, start.case == 1))
+    }
+}
+
+pub fn call<'a>(start: Start<'a>, board: &mut Board<'a>, name: &str) -> Result<Answer, AllocError> {
+    match name {
+        "Grid::step" | "grid_laws::step_by_least" => stepped(start, board, name),
+        "Deferred::step" => stepped_deferred(start, board),
+        "Script::parse" | "grid_play::play" => {
+            start.ready();
+            Ok(played(start, name))
+        }
+        name => ran(start, board, name),
+    }
+}

@@ -1,0 +1,71 @@
+//! Boards as JSON values.
+use crate::state::{Answer, Call, Start, came};
+use grid::Grid;
+use grid_json::laws::written_and_read;
+use grid_json::{Cell, from_value, rows_from_value, rows_to_value, to_value};
+use serde_json::Value;
+use std::alloc::AllocError;
+
+pub const CALLS: [Call; 7] = [
+    Call("Cell::to_cell", 1, None, None),
+    Call("Cell::from_cell", 1, None, None),
+    Call("grid_json::to_value", 1, None, None),
+    Call("grid_json::from_value", 1, None, None),
+    Call("grid_json::rows_to_value", 1, None, Some(1)),
+    Call("grid_json::rows_from_value", 1, None, Some(1)),
+    Call("grid_json::written_and_read", 1, None, None),
+];
+
+// Each cell of the board as a value, and back.
+fn cells(start: Start<'_>, name: &str) -> Result<Answer, AllocError> {
+    for cell in start.numbers()?.iter() {
+        let value = cell.to_cell(start.alloc);
+        let answer = match value {
+            Ok(value) if name == "Cell::from_cell" => came(u32::from_cell(start.alloc, &value)),
+            value => came(value),
+        };
+        if answer != Answer::Done {
+            return Ok(answer);
+        }
+    }
+    Ok(Answer::Done)
+}
+
+fn read(start: Start<'_>) -> Result<Answer, AllocError> {
+    let value = to_value(start.alloc, &start.numbers()?)?;
+    let read: Result<Grid<u32>, _> = from_value(start.alloc, &value);
+    Ok(came(read))
+}
+
+fn rows_read(start: Start<'_>) -> Result<Answer, AllocError> {
+    let value = rows_to_value(
+        start.alloc,
+        &start.numbers()?,
+        |cell| Ok(Value::from(*cell)),
+    )?;
+    start.ready();
+    Ok(came(rows_from_value(start.alloc, &value, |_| { Ok(Some(start.try_cell(1)?)) })))
+}
+
+fn written(start: Start<'_>, name: &str) -> Result<Answer, AllocError> {
+    let board = start.numbers()?;
+    start.ready();
+    Ok(match name {
+        "grid_json::to_value" => came(to_value(start.alloc, &board)),
+        "grid_json::rows_to_value" => came(rows_to_value(start.alloc, &board, |cell| {
+            start.called();
+            Ok(Value::from(*cell))
+        })),
+        "grid_json::written_and_read" => came(written_and_read(start.alloc, &board)),
+        _ => Answer::Wrong,
+    })
+}
+
+pub fn call(start: Start<'_>, name: &str) -> Result<Answer, AllocError> {
+    match name {
+        "Cell::to_cell" | "Cell::from_cell" => cells(start, name),
+        "grid_json::from_value" => read(start),
+        "grid_json::rows_from_value" => rows_read(start),
+        name => written(start, name),
+    }
+}

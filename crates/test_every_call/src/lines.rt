@@ -1,0 +1,74 @@
+//! Sorts of lines, and the rows of a board as vectors.
+use crate::state::{Answer, Board, Call, Start, came};
+use grid::{Grid, GridLineIter};
+use grid_lines::{
+    into_rows, sort_cols_by, sort_cols_by_key, sort_rows_by, sort_rows_by_key, to_rows,
+};
+use std::alloc::AllocError;
+use test_support::counted::Counted;
+
+pub const CALLS: [Call; 6] = [
+    Call("grid_lines::sort_rows_by", 2, None, None),
+    Call("grid_lines::sort_cols_by", 2, None, None),
+    Call("grid_lines::sort_rows_by_key", 1, None, None),
+    Call("grid_lines::sort_cols_by_key", 1, None, None),
+    Call("grid_lines::into_rows", 1, None, None),
+    Call("grid_lines::to_rows", 1, None, None),
+];
+
+// The number of the first cell of a line.
+fn first(mut line: GridLineIter<'_, Counted<'_>>) -> Option<u32> {
+    line.next().map(|cell| cell.value())
+}
+
+// Sorts as it is sorted, or backwards.
+fn sort_by<'a>(start: Start<'a>, board: &mut Board<'a>, by_rows: bool) -> Answer {
+    match (by_rows, start.case) {
+        (true, 0) => came(sort_rows_by(board, |a, b| first(a).cmp(&first(b)))),
+        (true, _) => came(sort_rows_by(board, |a, b| first(b).cmp(&first(a)))),
+        (false, 0) => came(sort_cols_by(board, |a, b| first(a).cmp(&first(b)))),
+        (false, _) => came(sort_cols_by(board, |a, b| first(b).cmp(&first(a)))),
+    }
+}
+
+// Sorts backwards by a key, which is asked once of each line.
+fn sort_by_key<'a>(start: Start<'a>, board: &mut Board<'a>, by_rows: bool) -> Answer {
+    let key = |line: GridLineIter<'_, Counted<'_>>| {
+        start.called();
+        first(line).map(|number| 100u32.saturating_sub(number))
+    };
+    let (sorted, lines) = if by_rows {
+        (sort_rows_by_key(board, key), start.size.0)
+    } else {
+        (sort_cols_by_key(board, key), start.size.1)
+    };
+    let answer = came(sorted);
+    if answer == Answer::Done && lines != 1 && start.calls.get() != lines as u64 {
+        return Answer::Wrong;
+    }
+    answer
+}
+
+// The rows by value. Where the call is refused, the board comes back.
+fn moved<'a>(start: Start<'a>, board: &mut Board<'a>) -> Answer {
+    match into_rows(std::mem::replace(board, Grid::empty(start.heap))) {
+        Ok(_) => Answer::Done,
+        Err(back) => {
+            *board = back;
+            Answer::Refused
+        }
+    }
+}
+
+pub fn call<'a>(start: Start<'a>, board: &mut Board<'a>, name: &str) -> Result<Answer, AllocError> {
+    start.ready();
+    Ok(match name {
+        "grid_lines::sort_rows_by" => sort_by(start, board, true),
+        "grid_lines::sort_cols_by" => sort_by(start, board, false),
+        "grid_lines::sort_rows_by_key" => sort_by_key(start, board, true),
+        "grid_lines::sort_cols_by_key" => sort_by_key(start, board, false),
+        "grid_lines::into_rows" => moved(start, board),
+        "grid_lines::to_rows" => came(to_rows(board)),
+        _ => Answer::Wrong,
+    })
+}

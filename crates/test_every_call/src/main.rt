@@ -1,0 +1,42 @@
+//! Makes each call that can refuse on all boards of up to three rows and columns, in both orders: with memory for all, and
+//! with no request granted, with one, with two, and so on up to what it took. The call must be done where there is memory
+//! for all; where it is refused, the board is as it was, and what was handed over comes back; and each block and each cell
+//! is given back in the end. A call that doesn't hold is printed, and each call with the number of its attempts.
+#![tactic(auto)]
+
+mod attempts;
+mod commands;
+mod copies;
+mod edits;
+mod json;
+mod lines;
+mod makers;
+mod maps;
+mod paths;
+mod pictures;
+mod state;
+mod texts;
+
+use attempts::Group;
+use std::io;
+use std::process::ExitCode;
+
+fn run<R: Print + AllocGlobal>(rt: &R) -> io::Result<()> {
+    attempts::try_all(rt, Group::Commands, commands::CALLS.as_slice())?;
+    attempts::try_all(rt, Group::Copies, copies::CALLS.as_slice())?;
+    attempts::try_all(rt, Group::Edits, edits::CALLS.as_slice())?;
+    attempts::try_all(rt, Group::Json, json::CALLS.as_slice())?;
+    attempts::try_all(rt, Group::Lines, lines::CALLS.as_slice())?;
+    attempts::try_all(rt, Group::Makers, makers::CALLS.as_slice())?;
+    attempts::try_all(rt, Group::Maps, maps::CALLS.as_slice())?;
+    attempts::try_all(rt, Group::Paths, paths::CALLS.as_slice())?;
+    attempts::try_all(rt, Group::Pictures, pictures::CALLS.as_slice())?;
+    attempts::try_all(rt, Group::Texts, texts::CALLS.as_slice())
+}
+
+fn main(rt: HostRuntime) -> ExitCode {
+    match run(&rt) {
+        Ok(()) => ExitCode::SUCCESS,
+        Err(_) => ExitCode::FAILURE,
+    }
+}

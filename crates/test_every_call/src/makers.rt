@@ -1,0 +1,174 @@
+//! Calls that make a board of a size and an order: of defaults, clones, what a closure makes, a vector, rows or a view.
+use crate::state::{Answer, Board, Call, Line, Start, both_came, came};
+use grid::{Grid, GridError, GridView};
+use std::alloc::AllocError;
+use std::convert::TryFrom;
+use test_support::counted::Counted;
+use test_support::fixtures::Heap;
+
+pub const CALLS: [Call; 17] = [
+    Call("Grid::new", 1, Some(1), None),
+    Call("Grid::new_with_order", 1, Some(1), None),
+    Call("Grid::init", 1, Some(1), None),
+    Call("Grid::init_with_order", 1, Some(1), None),
+    Call("Grid::from_fn", 1, Some(1), Some(1)),
+    Call("Grid::from_fn_with_order", 1, Some(1), Some(1)),
+    Call("Grid::try_from_fn", 1, Some(1), Some(1)),
+    Call("Grid::try_from_fn_with_order", 1, Some(1), Some(1)),
+    Call("Grid::with_capacity", 1, Some(1), None),
+    Call("Grid::with_capacity_and_order", 1, Some(1), None),
+    Call("Grid::from_arrays", 1, None, None),
+    Call("Grid::from_view", 2, Some(1), None),
+    Call("Grid::try_from of a vector lent", 2, Some(1), None),
+    Call("Grid::try_from of rows", 1, Some(1), None),
+    Call("Grid::try_from of a list lent", 1, Some(1), None),
+    Call("Grid::try_from of rows lent", 1, Some(1), None),
+    Call("Grid::new of too many cells", 4, None, None),
+];
+
+// A board of what a closure makes.
+fn from_fn<'a>(start: Start<'a>, name: &str) -> Answer {
+    let Start { heap, order, .. } = start;
+    let (rows, cols) = start.size;
+    match name {
+        "Grid::from_fn" => came(Board::from_fn(heap, rows, cols, |_| start.cell(1))),
+        "Grid::from_fn_with_order" => came(Board::from_fn_with_order(
+            heap,
+            rows,
+            cols,
+            order,
+            |_| start.cell(1),
+        )),
+        "Grid::try_from_fn" => both_came(Board::try_from_fn(
+            heap,
+            rows,
+            cols,
+            |_| start.try_cell(1),
+        )),
+        _ => both_came(Board::try_from_fn_with_order(
+            heap,
+            rows,
+            cols,
+            order,
+            |_| start.try_cell(1),
+        )),
+    }
+}
+
+fn sized<'a>(start: Start<'a>, name: &str) -> Answer {
+    let Start { heap, order, .. } = start;
+    let (rows, cols) = start.size;
+    match name {
+        "Grid::new" => came(Board::new(heap, rows, cols)),
+        "Grid::new_with_order" => came(Board::new_with_order(heap, rows, cols, order)),
+        "Grid::init" => came(Board::init(heap, rows, cols, start.given(1))),
+        "Grid::init_with_order" => {
+            came(Board::init_with_order(heap, rows, cols, order, start.given(1)))
+        }
+        "Grid::with_capacity" => came(Board::with_capacity(heap, rows, cols)),
+        "Grid::with_capacity_and_order" => {
+            came(Board::with_capacity_and_order(heap, rows, cols, order))
+        }
+        name => from_fn(start, name),
+    }
+}
+
+// Two rows of three slots. Where the call is refused, every slot keeps its cell.
+fn from_arrays(start: Start<'_>) -> Answer {
+    let mut slots = [
+        [
+            Some(start.given(1)),
+            Some(start.given(2)),
+            Some(start.given(3)),
+        ],
+        [
+            Some(start.given(4)),
+            Some(start.given(5)),
+            Some(start.given(6)),
+        ],
+    ];
+    let answer = came(Grid::from_arrays(start.heap, start.order, &mut slots));
+    let kept = slots
+        .iter()
+        .all(|row| row.iter().all(|slot| slot.is_some()));
+    if kept == (answer == Answer::Refused) {
+        answer
+    } else {
+        Answer::Wrong
+    }
+}
+
+// Of a view of the board, as it is or turned.
+fn from_view(start: Start<'_>, view: &GridView<'_, Counted<'_>>) -> Answer {
+    if start.case == 0 {
+        came(Grid::from_view(start.heap, start.order, view))
+    } else {
+        came(Grid::from_view(start.heap, start.order, &view.transposed()))
+    }
+}
+
+// Of the vector of a board, lent.
+fn of_vector(start: Start<'_>, board: &Board<'_>) -> Answer {
+    let cols = board.cols();
+    if start.case == 0 {
+        came(Board::try_from((board.flatten(), cols)))
+    } else {
+        came(Board::try_from((board.flatten(), &cols)))
+    }
+}
+
+// Of the rows of a board of this size.
+fn of_rows<'a>(start: Start<'a>, name: &str) -> Result<Answer, AllocError> {
+    let rows = start.lines(start.size.0, start.size.1)?;
+    if name == "Grid::try_from of rows" {
+        start.ready();
+        return Ok(came(Board::try_from(rows)));
+    }
+    of_list(start, name, &rows)
+}
+
+fn of_list<'a>(
+    start: Start<'a>,
+    name: &str,
+    rows: &Vec<Line<'a>, &'a Heap>,
+) -> Result<Answer, AllocError> {
+    if name == "Grid::try_from of a list lent" {
+        start.ready();
+        return Ok(came(Board::try_from(rows)));
+    }
+    let lent: Vec<&Line<'a>, &'a Heap> = rows.iter().collect(start.heap)?;
+    start.ready();
+    Ok(came(Board::try_from(&lent)))
+}
+
+// Sizes whose number of cells passes `usize::MAX`.
+fn too_many(start: Start<'_>) -> Answer {
+    let Start { heap, order, .. } = start;
+    let made = match start.case {
+        0 => Board::new(heap, usize::MAX, 2),
+        1 => Board::init_with_order(heap, 2, usize::MAX, order, start.given(1)),
+        2 => Board::from_fn(heap, usize::MAX, usize::MAX, |_| start.cell(1)),
+        _ => Board::with_capacity(heap, usize::MAX, 3),
+    };
+    match made {
+        Err(GridError::TooLarge) => Answer::Done,
+        _ => Answer::Wrong,
+    }
+}
+
+pub fn call<'a>(start: Start<'a>, board: &mut Board<'a>, name: &str) -> Result<Answer, AllocError> {
+    start.ready();
+    match name {
+        "Grid::from_arrays" => Ok(from_arrays(start)),
+        "Grid::from_view" => Ok(from_view(start, &board.view())),
+        "Grid::try_from of a vector lent" => Ok(of_vector(start, board)),
+        "Grid::new of too many cells" => Ok(too_many(start)),
+        "Grid::try_from of rows"
+        | "Grid::try_from of a list lent"
+        | "Grid::try_from of rows lent" => {
+            start.prepare();
+            of_rows(start, name)
+        }
+        name => Ok(sized(start, name)),
+    }
+}

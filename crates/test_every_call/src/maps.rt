@@ -1,0 +1,88 @@
+//! Maps of a whole board, with what is round each cell, and the positions of cells.
+use crate::state::{Answer, Board, Call, Start, both_came, came};
+use std::alloc::AllocError;
+use test_support::counted::Counted;
+
+pub const CALLS: [Call; 16] = [
+    Call("Grid::map_ref", 1, Some(1), Some(1)),
+    Call("Grid::map_indexed", 1, Some(1), Some(1)),
+    Call("Grid::try_map_indexed", 1, Some(1), Some(1)),
+    Call("Grid::map_neighbors4", 1, Some(1), Some(1)),
+    Call("Grid::map_neighbors8", 1, Some(1), Some(1)),
+    Call("Grid::map_wrapped_neighbors4", 1, Some(1), Some(1)),
+    Call("Grid::map_wrapped_neighbors8", 1, Some(1), Some(1)),
+    Call("Grid::map_counts4", 1, Some(4), Some(1)),
+    Call("Grid::map_counts8", 1, Some(4), Some(1)),
+    Call("Grid::map_sums4", 1, Some(4), Some(1)),
+    Call("Grid::map_sums8", 1, Some(4), Some(1)),
+    Call("Grid::map_wrapped_counts4", 1, None, Some(1)),
+    Call("Grid::map_wrapped_counts8", 1, None, Some(1)),
+    Call("Grid::map_wrapped_sums4", 1, None, Some(1)),
+    Call("Grid::map_wrapped_sums8", 1, None, Some(1)),
+    Call("Grid::positions", 2, None, Some(1)),
+];
+
+fn is_odd(cell: &Counted<'_>) -> bool {
+    cell.value() % 2 == 1
+}
+
+fn low(cell: &Counted<'_>) -> u8 {
+    (cell.value() % 200) as u8
+}
+
+fn counted<'a>(start: Start<'a>, board: &Board<'a>, name: &str) -> Answer {
+    match name {
+        "Grid::map_counts4" => came(board.map_counts4(is_odd, |_, count| start.cell(count.into()))),
+        "Grid::map_counts8" => came(board.map_counts8(is_odd, |_, count| start.cell(count.into()))),
+        "Grid::map_wrapped_counts4" => {
+            came(board.map_wrapped_counts4(is_odd, |_, count| start.cell(count.into())))
+        }
+        "Grid::map_wrapped_counts8" => {
+            came(board.map_wrapped_counts8(is_odd, |_, count| start.cell(count.into())))
+        }
+        "Grid::map_sums4" => came(board.map_sums4(low, |_, sum| start.cell(sum.into()))),
+        "Grid::map_sums8" => came(board.map_sums8(low, |_, sum| start.cell(sum.into()))),
+        "Grid::map_wrapped_sums4" => {
+            came(board.map_wrapped_sums4(low, |_, sum| start.cell(sum.into())))
+        }
+        "Grid::map_wrapped_sums8" => {
+            came(board.map_wrapped_sums8(low, |_, sum| start.cell(sum.into())))
+        }
+        _ => Answer::Wrong,
+    }
+}
+
+// The positions of the cells that are all or none of the board, by the case.
+fn positions<'a>(start: Start<'a>, board: &Board<'a>) -> Answer {
+    came(board.positions(start.heap, |_| {
+        start.called();
+        start.case == 0
+    }))
+}
+
+fn round<'a>(start: Start<'a>, board: &Board<'a>, name: &str) -> Answer {
+    match name {
+        "Grid::map_neighbors4" => came(board.map_neighbors4(|_, cell, _| start.cell(cell.value()))),
+        "Grid::map_neighbors8" => came(board.map_neighbors8(|_, cell, _| start.cell(cell.value()))),
+        "Grid::map_wrapped_neighbors4" => {
+            came(board.map_wrapped_neighbors4(|_, cell, _| start.cell(cell.value())))
+        }
+        "Grid::map_wrapped_neighbors8" => {
+            came(board.map_wrapped_neighbors8(|_, cell, _| start.cell(cell.value())))
+        }
+        name => counted(start, board, name),
+    }
+}
+
+pub fn call<'a>(start: Start<'a>, board: &mut Board<'a>, name: &str) -> Result<Answer, AllocError> {
+    start.ready();
+    Ok(match name {
+        "Grid::map_ref" => came(board.map_ref(|cell| start.cell(cell.value()))),
+        "Grid::map_indexed" => came(board.map_indexed(|_, cell| start.cell(cell.value()))),
+        "Grid::try_map_indexed" => {
+            both_came(board.try_map_indexed(|_, cell| start.try_cell(cell.value())))
+        }
+        "Grid::positions" => positions(start, board),
+        name => round(start, board, name),
+    })
+}

@@ -1,0 +1,96 @@
+//! Paths and regions, on boards of numbers that are copied.
+use crate::state::{Answer, Call, Numbers, Start, are_numbers, came};
+use grid_paths::{
+    Enter, Steps, cheapest, cheapest_path, distances, distances_from, fill_region, flood, regions,
+    shortest_path,
+};
+use std::alloc::AllocError;
+
+pub const CALLS: [Call; 8] = [
+    Call("grid_paths::distances", 2, None, Some(1)),
+    Call("grid_paths::distances_from", 3, None, Some(1)),
+    Call("grid_paths::shortest_path", 4, None, None),
+    Call("grid_paths::cheapest", 2, None, Some(1)),
+    Call("grid_paths::cheapest_path", 4, None, None),
+    Call("grid_paths::regions", 2, None, None),
+    Call("grid_paths::flood", 3, None, Some(1)),
+    Call("grid_paths::fill_region", 3, None, None),
+];
+
+// The steps of a case: to the sides, or to the corners too.
+fn steps(start: Start<'_>) -> Steps {
+    if start.case % 2 == 0 {
+        Steps::Sides
+    } else {
+        Steps::All
+    }
+}
+
+// No position; the first cell; the first and the last cell, and one that is out of range.
+const STARTS: [&[(usize, usize)]; 3] = [&[], &[(0, 0)], &[(0, 0), (2, 2), (9, 9)]];
+
+fn starts(start: Start<'_>) -> &'static [(usize, usize)] {
+    STARTS.get(start.case).copied().unwrap_or(&[])
+}
+
+// From the first cell to the last one, where all is free; or where nothing is.
+fn path(start: Start<'_>, board: &Numbers<'_>) -> Answer {
+    let (rows, cols) = start.size;
+    let end = (rows.saturating_sub(1), cols.saturating_sub(1));
+    let found = shortest_path(board, (0, 0), end, steps(start), |_| start.case < 2);
+    came(found)
+}
+
+fn cheap_path(start: Start<'_>, board: &Numbers<'_>) -> Answer {
+    let (rows, cols) = start.size;
+    let end = (rows.saturating_sub(1), cols.saturating_sub(1));
+    let cost = |cell: &u32| if start.case < 2 { Some(*cell) } else { None };
+    came(cheapest_path(board, (0, 0), end, steps(start), cost))
+}
+
+fn flooded(start: Start<'_>, board: &Numbers<'_>) -> Answer {
+    came(flood(board, starts(start), Steps::Sides, |_| {
+        start.called();
+        Enter::On
+    }))
+}
+
+fn searched(start: Start<'_>, board: &Numbers<'_>, name: &str) -> Answer {
+    let free = |_: &u32| {
+        start.called();
+        true
+    };
+    match name {
+        "grid_paths::distances" => came(distances(board, (0, 0), steps(start), free)),
+        "grid_paths::distances_from" => {
+            came(distances_from(board, starts(start), Steps::All, free))
+        }
+        _ => came(cheapest(board, (0, 0), steps(start), |cell| {
+            start.called();
+            Some(*cell)
+        })),
+    }
+}
+
+// Fills the region of the first cell with another number, or with its own.
+fn filled(start: Start<'_>, board: &mut Numbers<'_>) -> Answer {
+    let value = if start.case == 2 { 1 } else { 99 };
+    let answer = came(fill_region(board, (0, 0), steps(start), value));
+    if answer == Answer::Refused && !are_numbers(board, start.size, start.order) {
+        return Answer::Wrong;
+    }
+    answer
+}
+
+pub fn call(start: Start<'_>, name: &str) -> Result<Answer, AllocError> {
+    let mut board = start.numbers()?;
+    start.ready();
+    Ok(match name {
+        "grid_paths::shortest_path" => path(start, &board),
+        "grid_paths::cheapest_path" => cheap_path(start, &board),
+        "grid_paths::regions" => came(regions(&board, steps(start))),
+        "grid_paths::flood" => flooded(start, &board),
+        "grid_paths::fill_region" => filled(start, &mut board),
+        name => searched(start, &board, name),
+    })
+}

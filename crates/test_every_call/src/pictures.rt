@@ -1,0 +1,73 @@
+//! Boards as pictures, and boards made larger.
+use crate::state::{Answer, Call, Numbers, Start, came};
+use grid_pnm::laws::{pgm_written_and_read, ppm_written_and_read};
+use grid_pnm::{enlarged, from_pgm, from_ppm, read_header, to_pgm, to_ppm};
+use std::alloc::AllocError;
+
+pub const CALLS: [Call; 8] = [
+    Call("grid_pnm::read_header", 1, None, None),
+    Call("grid_pnm::from_pgm", 1, None, None),
+    Call("grid_pnm::from_ppm", 1, None, None),
+    Call("grid_pnm::to_pgm", 1, None, Some(1)),
+    Call("grid_pnm::to_ppm", 1, None, Some(1)),
+    Call("grid_pnm::pgm_written_and_read", 1, None, None),
+    Call("grid_pnm::ppm_written_and_read", 1, None, None),
+    Call("grid_pnm::enlarged", 3, None, None),
+];
+
+fn sample(cell: &u32) -> u8 {
+    (cell % 200) as u8
+}
+
+fn read(start: Start<'_>, name: &str) -> Result<Answer, AllocError> {
+    let picture = to_pgm(start.alloc, &start.numbers()?, sample)?;
+    start.ready();
+    Ok(if name == "grid_pnm::from_pgm" {
+        came(from_pgm(start.heap, picture.as_slice()))
+    } else {
+        came(read_header(picture.as_slice()))
+    })
+}
+
+fn color_read(start: Start<'_>) -> Result<Answer, AllocError> {
+    let picture = to_ppm(start.alloc, &start.numbers()?, |cell| [sample(cell); 3])?;
+    start.ready();
+    Ok(came(from_ppm(start.heap, picture.as_slice())))
+}
+
+// Of many cells or few, each as often as the case says.
+fn large(start: Start<'_>, board: &Numbers<'_>) -> Answer {
+    let answer = came(enlarged(start.heap, board, start.case));
+    let cells = start.case.min(start.size.0).min(1) as u64;
+    if answer == Answer::Done && start.heap.granted() != cells {
+        return Answer::Wrong;
+    }
+    answer
+}
+
+fn written(start: Start<'_>, name: &str) -> Result<Answer, AllocError> {
+    let board = start.numbers()?;
+    start.ready();
+    let gray = |cell: &u32| {
+        start.called();
+        sample(cell)
+    };
+    Ok(match name {
+        "grid_pnm::to_pgm" => came(to_pgm(start.heap, &board, gray)),
+        "grid_pnm::to_ppm" => came(to_ppm(start.heap, &board, |cell| [gray(cell); 3])),
+        "grid_pnm::pgm_written_and_read" => came(pgm_written_and_read(start.alloc, &board, gray)),
+        "grid_pnm::ppm_written_and_read" => {
+            came(ppm_written_and_read(start.alloc, &board, |cell| [gray(cell); 3]))
+        }
+        "grid_pnm::enlarged" => large(start, &board),
+        _ => Answer::Wrong,
+    })
+}
+
+pub fn call(start: Start<'_>, name: &str) -> Result<Answer, AllocError> {
+    match name {
+        "grid_pnm::read_header" | "grid_pnm::from_pgm" => read(start, name),
+        "grid_pnm::from_ppm" => color_read(start),
+        name => written(start, name),
+    }
+}
