@@ -1,6 +1,6 @@
 //! A call on all small boards, with all memory and with each request refused in turn.
 use crate::state::{Answer, Call, Start, is_board};
-use crate::{commands, copies, edits, json, lines, makers, maps, paths, pictures, texts};
+use crate::{commands, copies, csv, edits, json, lines, makers, maps, paths, pictures, texts};
 use grid::Order;
 use std::alloc::{AllocError, Global};
 use std::cell::Cell;
@@ -13,6 +13,7 @@ use test_support::fuse::Fuse;
 pub enum Group {
     Commands,
     Copies,
+    Csv,
     Edits,
     Json,
     Lines,
@@ -51,6 +52,7 @@ fn made(start: Start<'_>, group: Group, name: &str) -> Result<Answer, AllocError
     let came = match group {
         Group::Commands => commands::call(start, &mut board, name)?,
         Group::Copies => copies::call(start, &mut board, name)?,
+        Group::Csv => csv::call(start, name)?,
         Group::Edits => edits::call(start, &mut board, name)?,
         Group::Json => json::call(start, name)?,
         Group::Lines => lines::call(start, &mut board, name)?,
@@ -150,9 +152,10 @@ fn printed<R: Print>(
     Ok(1)
 }
 
-// Whether requests are refused on a board of this size: one of at most four cells. Larger boards have memory for all.
+// Whether requests are refused on a board of this size: one of at most two rows and columns. Larger boards have memory
+// for all.
 fn is_refused_on((rows, cols): (usize, usize)) -> bool {
-    rows.saturating_mul(cols) <= 4
+    rows <= 2 && cols <= 2
 }
 
 // Makes a call with memory for all, and on a small board with each smaller number of requests. Returns how often it was

@@ -1,22 +1,25 @@
 //! Commands, one by one and in runs, at once and deferred, and scripts.
-use crate::state::{Answer, Board, Call, Start, came};
+use crate::state::{Answer, Board, Call, Start, came, line_came};
 use grid::{Command, Order, Symmetry, Tally, run};
 use grid_deferred::{Deferred, run_deferred};
-use grid_laws::{run_deferred_by_least, step_by_least};
+use grid_laws::{push_row_then_pop_row, run_deferred_by_least, step_by_least};
+use grid_play::laws::plays_alike;
 use grid_play::{Script, play};
 use std::alloc::AllocError;
 use test_support::counted::Counted;
 use test_support::fixtures::Heap;
 
-pub const CALLS: [Call; 8] = [
-    Call("Grid::step", 13, None, None),
-    Call("Deferred::step", 13, None, None),
+pub const CALLS: [Call; 10] = [
+    Call("Grid::step", 6, None, None),
+    Call("Deferred::step", 6, None, None),
     Call("grid_laws::step_by_least", 2, None, None),
     Call("grid::run", 1, None, None),
     Call("grid_deferred::run_deferred", 1, None, None),
     Call("grid_laws::run_deferred_by_least", 1, None, None),
+    Call("grid_laws::push_row_then_pop_row", 1, None, None),
     Call("Script::parse", 1, None, None),
     Call("grid_play::play", 2, None, None),
+    Call("grid_play::plays_alike", 1, None, None),
 ];
 
 type Given<'a> = Command<Counted<'a>, &'a Heap>;
@@ -26,29 +29,15 @@ fn fitting(len: usize) -> usize {
     if len == 0 { 2 } else { len }
 }
 
-// A command that puts or fills.
-fn putting<'a>(start: Start<'a>, (rows, cols): (usize, usize)) -> Result<Given<'a>, AllocError> {
+// The command of a case, for a board of this size. `test_command_lists` has all commands, with memory for all.
+fn command<'a>(start: Start<'a>, (rows, cols): (usize, usize)) -> Result<Given<'a>, AllocError> {
     Ok(match start.case {
         0 => Command::Fill(start.given(7)),
         1 => Command::PushRow(start.line(fitting(cols))?),
-        2 => Command::PushCol(start.line(fitting(rows))?),
-        3 => Command::InsertRow(0, start.line(fitting(cols))?),
-        4 => Command::InsertCols(0, start.lines(2, fitting(rows))?),
-        _ => Command::InsertRows(0, start.lines(2, fitting(cols))?),
-    })
-}
-
-// A command of a case, for a board of this size.
-fn command<'a>(start: Start<'a>, size: (usize, usize)) -> Result<Given<'a>, AllocError> {
-    Ok(match start.case {
-        6 => Command::Get(0, 0),
-        7 => Command::Row(0),
-        8 => Command::Col(0),
-        9 => Command::PopRow,
-        10 => Command::RemoveCol(0),
-        11 => Command::ExpandRows(2),
-        12 => Command::PrependCols(1),
-        _ => putting(start, size)?,
+        2 => Command::InsertCols(0, start.lines(2, fitting(rows))?),
+        3 => Command::Row(0),
+        4 => Command::RemoveCol(0),
+        _ => Command::ExpandRows(2),
     })
 }
 
@@ -113,18 +102,42 @@ fn played(start: Start<'_>, name: &str) -> Answer {
     if start.size != (1, 1) || start.order == Order::ColumnMajor {
         return Answer::Skipped;
     }
-    if name == "Script::parse" {
-        came(Script::parse(start.heap, SCRIPT))
-    } else {
-        came(play(start.heap, SCRIPT, start.case == 1))
+    match name {
+        "Script::parse" => came(Script::parse(start.heap, SCRIPT)),
+        "grid_play::play" => came(play(start.heap, SCRIPT, start.case == 1)),
+        _ => played_alike(start),
     }
+}
+
+fn played_alike(start: Start<'_>) -> Answer {
+    let (at_once, deferred) = plays_alike((start.heap, start.heap), SCRIPT);
+    match came(at_once) {
+        Answer::Done => came(deferred),
+        answer => answer,
+    }
+}
+
+// A row is pushed and popped. Where the push is refused, the line comes back; where the pop is, the row stays.
+fn pushed_and_popped<'a>(start: Start<'a>, board: &mut Board<'a>) -> Result<Answer, AllocError> {
+    let len = fitting(start.size.1);
+    let line = start.line(len)?;
+    if line.is_empty() || !board.fits_row(line.len()) {
+        return Ok(Answer::Wrong);
+    }
+    start.ready();
+    Ok(match push_row_then_pop_row(board, line) {
+        Ok(Ok(_)) => Answer::Done,
+        Ok(Err(_)) => Answer::Stopped,
+        Err(refused) => line_came(Err(refused), len),
+    })
 }
 
 pub fn call<'a>(start: Start<'a>, board: &mut Board<'a>, name: &str) -> Result<Answer, AllocError> {
     match name {
         "Grid::step" | "grid_laws::step_by_least" => stepped(start, board, name),
         "Deferred::step" => stepped_deferred(start, board),
-        "Script::parse" | "grid_play::play" => {
+        "grid_laws::push_row_then_pop_row" => pushed_and_popped(start, board),
+        "Script::parse" | "grid_play::play" | "grid_play::plays_alike" => {
             start.ready();
             Ok(played(start, name))
         }

@@ -7,8 +7,10 @@
 mod attempts;
 mod commands;
 mod copies;
+mod csv;
 mod edits;
 mod json;
+mod large;
 mod lines;
 mod makers;
 mod maps;
@@ -24,6 +26,7 @@ use std::process::ExitCode;
 fn run<R: Print + AllocGlobal>(rt: &R) -> io::Result<()> {
     attempts::try_all(rt, Group::Commands, commands::CALLS.as_slice())?;
     attempts::try_all(rt, Group::Copies, copies::CALLS.as_slice())?;
+    attempts::try_all(rt, Group::Csv, csv::CALLS.as_slice())?;
     attempts::try_all(rt, Group::Edits, edits::CALLS.as_slice())?;
     attempts::try_all(rt, Group::Json, json::CALLS.as_slice())?;
     attempts::try_all(rt, Group::Lines, lines::CALLS.as_slice())?;
@@ -31,7 +34,8 @@ fn run<R: Print + AllocGlobal>(rt: &R) -> io::Result<()> {
     attempts::try_all(rt, Group::Maps, maps::CALLS.as_slice())?;
     attempts::try_all(rt, Group::Paths, paths::CALLS.as_slice())?;
     attempts::try_all(rt, Group::Pictures, pictures::CALLS.as_slice())?;
-    attempts::try_all(rt, Group::Texts, texts::CALLS.as_slice())
+    attempts::try_all(rt, Group::Texts, texts::CALLS.as_slice())?;
+    large::try_all(rt)
 }
 
 fn main(rt: HostRuntime) -> ExitCode {

@@ -1,0 +1,82 @@
+//! Boards as CSV. A reader of CSV takes long, so few boards are enough.
+use crate::state::{Answer, Call, Start, came};
+use grid::Order;
+use grid_csv::laws::written_and_read;
+use grid_csv::{from_csv, from_csv_with_header, to_csv, to_csv_with_header};
+use std::alloc::AllocError;
+use test_support::counted::Counted;
+
+pub const CALLS: [Call; 5] = [
+    Call("grid_csv::to_csv", 1, None, None),
+    Call("grid_csv::to_csv_with_header", 1, None, None),
+    Call("grid_csv::from_csv", 1, None, Some(1)),
+    Call("grid_csv::from_csv_with_header", 1, None, Some(1)),
+    Call("grid_csv::written_and_read", 1, None, None),
+];
+
+fn number_of(field: &str) -> Option<u32> {
+    field.parse::<u32>().ok()
+}
+
+// Writes a number as a field.
+fn put(cell: &u32, field: &mut String) -> Result<(), AllocError> {
+    write!(field, "{cell}")
+}
+
+fn try_read<'a>(start: Start<'a>, field: &str) -> Result<Option<Counted<'a>>, AllocError> {
+    Ok(Some(start.try_cell(number_of(field).unwrap_or(0))?))
+}
+
+// A name for each column, or none.
+fn header(start: Start<'_>) -> Result<Vec<String>, AllocError> {
+    let mut names = Vec::new(start.alloc);
+    for _ in 0..start.size.1 {
+        names.push(String::from_str(start.alloc, "name")?)?;
+    }
+    Ok(names)
+}
+
+fn csv_written<'a>(start: Start<'a>, name: &str) -> Result<Answer, AllocError> {
+    let board = start.numbers()?;
+    start.ready();
+    if name == "grid_csv::to_csv" {
+        return Ok(came(to_csv(start.alloc, &board, put)));
+    }
+    let names = header(start)?;
+    Ok(came(to_csv_with_header(start.alloc, names.as_slice(), &board, put)))
+}
+
+fn csv_read<'a>(start: Start<'a>) -> Result<Answer, AllocError> {
+    let text = to_csv(start.alloc, &start.numbers()?, put)?;
+    start.ready();
+    Ok(came(from_csv(start.alloc, text.as_str().as_bytes(), |field| {
+        try_read(start, field)
+    })))
+}
+
+fn csv_with_header_read<'a>(start: Start<'a>) -> Result<Answer, AllocError> {
+    let names = header(start)?;
+    let text = to_csv_with_header(start.alloc, names.as_slice(), &start.numbers()?, put)?;
+    start.ready();
+    Ok(came(from_csv_with_header(start.alloc, text.as_str().as_bytes(), |field| {
+        try_read(start, field)
+    })))
+}
+
+fn csv_written_and_read<'a>(start: Start<'a>) -> Result<Answer, AllocError> {
+    let board = start.numbers()?;
+    start.ready();
+    Ok(came(written_and_read(start.alloc, &board, put, |field| Ok(number_of(field)))))
+}
+
+pub fn call(start: Start<'_>, name: &str) -> Result<Answer, AllocError> {
+    if start.order == Order::ColumnMajor || start.size.0 != start.size.1 || start.size.0 > 2 {
+        return Ok(Answer::Skipped);
+    }
+    match name {
+        "grid_csv::from_csv" => csv_read(start),
+        "grid_csv::from_csv_with_header" => csv_with_header_read(start),
+        "grid_csv::written_and_read" => csv_written_and_read(start),
+        name => csv_written(start, name),
+    }
+}

@@ -1,0 +1,293 @@
+//! Larger inputs: texts with a fault at each line and word, a way of 77 steps, and the words of want of memory.
+use crate::state::{Answer, came};
+use grid::{Grid, GridError, Order, ShapeError};
+use grid_csv::CsvError;
+use grid_json::{ReadError, RowsError};
+use grid_paths::{Steps, cheapest, cheapest_path, distances, shortest_path};
+use grid_pnm::PnmError;
+use grid_text::{TextError, from_text, from_words, try_from_words};
+use std::alloc::{AllocError, Global};
+use std::cell::Cell;
+use std::fmt::Display;
+use std::io;
+use test_support::fixtures::{Heap, ORDERS};
+use test_support::fuse::Fuse;
+
+// How many lines a text has, and how many words each of them.
+const LINES: usize = 4;
+
+const WORDS: usize = 4;
+
+// What is wrong in one line of a text: a word is no number, or the last word is missing.
+#[derive(Clone, Copy, PartialEq, Eq)]
+enum Flaw {
+    Bad(usize),
+    Short,
+}
+
+// Adds a line of words that are numbers, but for the flaw.
+fn add_line(text: &mut String, between: &str, flaw: Option<Flaw>) -> Result<(), AllocError> {
+    let words = if flaw == Some(Flaw::Short) {
+        WORDS - 1
+    } else {
+        WORDS
+    };
+    for word in 0..words {
+        if word > 0 {
+            text.push_str(between)?;
+        }
+        text.push_str(if flaw == Some(Flaw::Bad(word)) {
+            "x"
+        } else {
+            "7"
+        })?;
+    }
+    text.push('\n')
+}
+
+// The text whose line of this number, counted from 0, has a flaw.
+fn flawed(alloc: Global, between: &str, line: usize, flaw: Flaw) -> Result<String, AllocError> {
+    let mut text = String::new(alloc);
+    for number in 0..LINES {
+        add_line(
+            &mut text,
+            between,
+            if number == line { Some(flaw) } else { None },
+        )?;
+    }
+    Ok(text)
+}
+
+// The fault of words with a flaw.
+fn word_fault(line: usize, flaw: Flaw) -> TextError {
+    let line = line.saturating_add(1);
+    match flaw {
+        Flaw::Bad(word) => TextError::BadWord {
+            line,
+            word: word.saturating_add(1),
+        },
+        Flaw::Short => TextError::Ragged {
+            line,
+            len: WORDS - 1,
+            cols: WORDS,
+        },
+    }
+}
+
+// The fault of characters with a flaw.
+fn char_fault(line: usize, flaw: Flaw) -> TextError {
+    match flaw {
+        Flaw::Bad(column) => TextError::BadChar {
+            line: line.saturating_add(1),
+            column: column.saturating_add(1),
+            found: 'x',
+        },
+        Flaw::Short => word_fault(line, flaw),
+    }
+}
+
+fn is_fault(read: Result<Grid<u32>, TextError>, wanted: TextError) -> bool {
+    match read {
+        Ok(_) => false,
+        Err(fault) => fault == wanted,
+    }
+}
+
+fn number(word: &str) -> Option<u32> {
+    word.parse::<u32>().ok()
+}
+
+// Whether the calls that read a text tell of this flaw.
+fn is_told(alloc: Global, line: usize, flaw: Flaw) -> Result<bool, AllocError> {
+    let words = flawed(alloc, " ", line, flaw)?;
+    let read = from_words(alloc, words.as_str(), number);
+    let tried = try_from_words(alloc, words.as_str(), |word| Ok(number(word)));
+    if !is_fault(read, word_fault(line, flaw)) || !is_fault(tried, word_fault(line, flaw)) {
+        return Ok(false);
+    }
+    let letters = flawed(alloc, "", line, flaw)?;
+    let read = from_text(alloc, letters.as_str(), |letter| letter.to_digit(10));
+    Ok(is_fault(read, char_fault(line, flaw)))
+}
+
+fn try_flaw<R: Print + AllocGlobal>(rt: &R, line: usize, flaw: Flaw) -> io::Result<u64> {
+    if is_told(rt.alloc(), line, flaw)? {
+        return Ok(1);
+    }
+    println!(rt; "FAILED a flaw in line {line}")?;
+    Ok(0)
+}
+
+fn try_flaws<R: Print + AllocGlobal>(rt: &R) -> io::Result<()> {
+    let mut told = 0u64;
+    for line in 0..LINES {
+        for word in 0..WORDS {
+            told = told.saturating_add(try_flaw(rt, line, Flaw::Bad(word))?);
+        }
+        if line > 0 {
+            told = told.saturating_add(try_flaw(rt, line, Flaw::Short)?);
+        }
+    }
+    println!(rt; "flaws of texts: {told} are told")
+}
+
+// The side of the board of the long way, and where the way ends.
+const SIDE: usize = 12;
+
+const END: (usize, usize) = (11, 0);
+
+// A way that goes along every second row, to the right and to the left in turn: 78 cells.
+fn is_free((row, col): (usize, usize)) -> bool {
+    row % 2 == 0 || (row % 4 == 1 && col == SIDE - 1) || (row % 4 == 3 && col == 0)
+}
+
+type Maze<'a> = Grid<bool, &'a Heap>;
+
+fn maze<'a>(heap: &'a Heap, order: Order) -> Result<Maze<'a>, AllocError> {
+    heap.grant(1);
+    let made = Grid::from_fn_with_order(heap, SIDE, SIDE, order, is_free);
+    made.map_err(|_| AllocError)
+}
+
+const SEARCHES: [&str; 4] = ["distances", "cheapest", "shortest_path", "cheapest_path"];
+
+fn is_walked(answer: Answer, right: bool) -> Answer {
+    if answer == Answer::Done && !right {
+        Answer::Wrong
+    } else {
+        answer
+    }
+}
+
+// How far the end is from the first cell, by the call of this name that numbers all cells.
+fn numbered(maze: &Maze<'_>, name: &str, calls: &Cell<u64>) -> Answer {
+    let count = || calls.set(calls.get().wrapping_add(1));
+    if name == "distances" {
+        let steps = distances(maze, (0, 0), Steps::Sides, |free| {
+            count();
+            *free
+        });
+        let right = match &steps {
+            Ok(steps) => steps.get_at(END) == Some(&Some(77)) && calls.get() == 144,
+            Err(_) => true,
+        };
+        return is_walked(came(steps), right);
+    }
+    let sums = cheapest(maze, (0, 0), Steps::Sides, |free| {
+        count();
+        if *free { Some(2) } else { None }
+    });
+    let right = match &sums {
+        Ok(sums) => sums.get_at(END) == Some(&Some(154)) && calls.get() == 144,
+        Err(_) => true,
+    };
+    is_walked(came(sums), right)
+}
+
+// The way from the first cell to the end, by the call of this name.
+fn walked(maze: &Maze<'_>, name: &str, calls: &Cell<u64>) -> Answer {
+    let count = || calls.set(calls.get().wrapping_add(1));
+    if name == "shortest_path" {
+        let path = shortest_path(maze, (0, 0), END, Steps::Sides, |free| {
+            count();
+            *free
+        });
+        let right = match &path {
+            Ok(Some(path)) => path.len() == 78 && calls.get() <= 144,
+            Ok(None) => false,
+            Err(_) => true,
+        };
+        return is_walked(came(path), right);
+    }
+    let path = cheapest_path(maze, (0, 0), END, Steps::Sides, |free| {
+        count();
+        if *free { Some(2) } else { None }
+    });
+    let right = match &path {
+        Ok(Some((path, sum))) => path.len() == 78 && *sum == 154 && calls.get() <= 144,
+        Ok(None) => false,
+        Err(_) => true,
+    };
+    is_walked(came(path), right)
+}
+
+// Searches with so many requests. Whatever came of it, nothing is held in the end.
+fn searched(alloc: Global, order: Order, name: &str, granted: u64) -> Result<Answer, AllocError> {
+    let heap = Fuse::new(alloc, 0);
+    let calls = Cell::new(0u64);
+    let answer = search(&heap, order, name, granted, &calls)?;
+    Ok(if heap.held() == 0 {
+        answer
+    } else {
+        Answer::Wrong
+    })
+}
+
+fn search(
+    heap: &Heap,
+    order: Order,
+    name: &str,
+    granted: u64,
+    calls: &Cell<u64>,
+) -> Result<Answer, AllocError> {
+    let maze = maze(heap, order)?;
+    heap.grant(granted);
+    Ok(match name {
+        "distances" | "cheapest" => numbered(&maze, name, calls),
+        _ => walked(&maze, name, calls),
+    })
+}
+
+// Searches with memory for all, and with each number of requests up to the first that is enough.
+fn try_search<R: Print + AllocGlobal>(rt: &R, order: Order, name: &str) -> io::Result<u64> {
+    if searched(rt.alloc(), order, name, u64::MAX)? != Answer::Done {
+        println!(rt; "FAILED {name} of a long way, {order:?}, with memory for all")?;
+    }
+    for granted in 0..32u64 {
+        match searched(rt.alloc(), order, name, granted)? {
+            Answer::Refused => {}
+            Answer::Done => return Ok(granted),
+            _ => println!(rt; "FAILED {name} of a long way, {order:?}, {granted} granted")?,
+        }
+    }
+    Ok(32)
+}
+
+fn try_searches<R: Print + AllocGlobal>(rt: &R) -> io::Result<()> {
+    for name in SEARCHES {
+        for order in ORDERS {
+            let requests = try_search(rt, order, name)?;
+            println!(rt; "{name} of a long way, {order:?}: {requests} requests")?;
+        }
+    }
+    Ok(())
+}
+
+// Whether a fault is told by the words of want of memory.
+fn is_out_of_memory<T: Display + Drop>(alloc: Global, fault: T) -> Result<bool, AllocError> {
+    let mut text = String::new(alloc);
+    write!(&mut text, "{fault}")?;
+    Ok(text.as_str() == "out of memory")
+}
+
+fn are_out_of_memory(alloc: Global) -> Result<bool, AllocError> {
+    Ok(
+        is_out_of_memory(alloc, GridError::Memory)?
+            && is_out_of_memory(alloc, ShapeError::Memory)?
+            && is_out_of_memory(alloc, TextError::Memory)?
+            && is_out_of_memory(alloc, CsvError::Memory)?
+            && is_out_of_memory(alloc, PnmError::Memory)?
+            && is_out_of_memory(alloc, ReadError::Memory)?
+            && is_out_of_memory(alloc, RowsError::Memory)?,
+    )
+}
+
+pub fn try_all<R: Print + AllocGlobal>(rt: &R) -> io::Result<()> {
+    try_flaws(rt)?;
+    try_searches(rt)?;
+    if are_out_of_memory(rt.alloc())? {
+        println!(rt; "want of memory: 7 faults say so")
+    } else {
+        println!(rt; "FAILED a fault tells want of memory by other words")
+    }
+}
