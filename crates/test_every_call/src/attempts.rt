@@ -38,7 +38,7 @@ struct Trial {
 // closure, and how many blocks and cells were held in the end.
 #[derive(Clone, Copy)]
 struct Seen {
-    came: Answer,
+    answer: Answer,
     taken: u64,
     blocks: u64,
     calls: u64,
@@ -49,7 +49,7 @@ struct Seen {
 fn made(start: Start<'_>, group: Group, name: &str) -> Result<Answer, AllocError> {
     start.prepare();
     let mut board = start.board(start.size, start.order)?;
-    let came = match group {
+    let answer = match group {
         Group::Commands => commands::call(start, &mut board, name)?,
         Group::Copies => copies::call(start, &mut board, name)?,
         Group::Csv => csv::call(start, name)?,
@@ -62,16 +62,17 @@ fn made(start: Start<'_>, group: Group, name: &str) -> Result<Answer, AllocError
         Group::Pictures => pictures::call(start, name)?,
         Group::Texts => texts::call(start, &mut board, name)?,
     };
-    if came == Answer::Refused && !is_board(&board, start.size, start.order) {
+    if answer == Answer::Refused && !is_board(&board, start.size, start.order) {
         return Ok(Answer::Wrong);
     }
-    Ok(came)
+    Ok(answer)
 }
 
-fn attempt(alloc: Global, trial: Trial, granted: u64) -> Result<Seen, AllocError> {
+// An attempt whose preparation finds no memory is wrong too.
+fn attempt(alloc: Global, trial: Trial, granted: u64) -> Seen {
     let heap = Fuse::new(alloc, 0);
     let calls = Cell::new(0u64);
-    let came = made(
+    let answer = made(
         Start {
             alloc,
             heap: &heap,
@@ -83,14 +84,14 @@ fn attempt(alloc: Global, trial: Trial, granted: u64) -> Result<Seen, AllocError
         },
         trial.group,
         trial.call.0,
-    )?;
-    Ok(Seen {
-        came,
+    );
+    Seen {
+        answer: answer.unwrap_or(Answer::Wrong),
         taken: granted.wrapping_sub(heap.left()),
         blocks: heap.granted(),
         calls: calls.get(),
         held: heap.held(),
-    })
+    }
 }
 
 // Whether a number is the promised one for each of so many.
@@ -104,7 +105,7 @@ fn keeps(promise: Option<u64>, found: u64, each: usize) -> bool {
 // What is wrong with an attempt that has memory for all, or nothing.
 fn fault_with_all(trial: Trial, seen: Seen) -> Option<&'static str> {
     let cells = trial.size.0.wrapping_mul(trial.size.1);
-    match seen.came {
+    match seen.answer {
         Answer::Skipped => None,
         Answer::Refused | Answer::Stopped => Some("is refused with memory for all"),
         Answer::Wrong => Some("answers something else"),
@@ -119,10 +120,18 @@ fn fault_with_all(trial: Trial, seen: Seen) -> Option<&'static str> {
     }
 }
 
+// Whether a call asks for all its memory before it calls its closure.
+fn asks_first(call: Call) -> bool {
+    call.2.is_some() && call.3.is_some()
+}
+
 // What is wrong with an attempt that has some requests, or nothing.
-fn fault_with_some(seen: Seen) -> Option<&'static str> {
-    match seen.came {
+fn fault_with_some(trial: Trial, granted: u64, seen: Seen) -> Option<&'static str> {
+    match seen.answer {
         Answer::Wrong => Some("answers something else, or leaves the board changed"),
+        Answer::Refused if granted == 0 && seen.calls != 0 && asks_first(trial.call) => {
+            Some("calls its closure before it asks for memory")
+        }
         _ if seen.held != 0 => Some("leaks"),
         _ => None,
     }
@@ -161,8 +170,8 @@ fn is_refused_on((rows, cols): (usize, usize)) -> bool {
 // Makes a call with memory for all, and on a small board with each smaller number of requests. Returns how often it was
 // made.
 fn try_case<R: Print + AllocGlobal>(rt: &R, trial: Trial) -> io::Result<u64> {
-    let all = attempt(rt.alloc(), trial, u64::MAX)?;
-    if all.came == Answer::Skipped {
+    let all = attempt(rt.alloc(), trial, u64::MAX);
+    if all.answer == Answer::Skipped {
         return Ok(0);
     }
     printed(rt, trial, u64::MAX, fault_with_all(trial, all))?;
@@ -170,8 +179,8 @@ fn try_case<R: Print + AllocGlobal>(rt: &R, trial: Trial) -> io::Result<u64> {
         return Ok(1);
     }
     for granted in 0..all.taken {
-        let seen = attempt(rt.alloc(), trial, granted)?;
-        printed(rt, trial, granted, fault_with_some(seen))?;
+        let seen = attempt(rt.alloc(), trial, granted);
+        printed(rt, trial, granted, fault_with_some(trial, granted, seen))?;
     }
     Ok(all.taken.saturating_add(1))
 }
