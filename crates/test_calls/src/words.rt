@@ -13,13 +13,12 @@ fn reduced(alloc: Global, words: &str) -> Result<String, AllocError> {
     shown(alloc, reduce(moves.as_slice()))
 }
 
-// Where an order stores a cell of a small table.
+// Where an order stores a cell.
 fn placed(order: Order, ask: Ask<'_>) -> Option<usize> {
     let ((rows, cols), (row, col)) = (ask.position(1), ask.position(3));
-    if rows < 1000 && cols < 1000 && row < rows && col < cols {
-        Some(order.place(rows, cols, row, col))
-    } else {
-        None
+    match rows.checked_mul(cols) {
+        Some(_) if row < rows && col < cols => Some(order.place(rows, cols, row, col)),
+        _ => None,
     }
 }
 
