@@ -290,6 +290,15 @@ module _ (kind : Steps) (left : List (List (Option ℕ))) (table : IsTable left)
       (settled_was kind costs from u left heap s x rest taken least w.0 w.1 table u' heap' w.3 a m h (subst (λ t. IsClosed t a) w.2 c)))
       step
 
+  -- what is left was left, and the position taken is not
+  pub settled_fewer : (a : ℕ × ℕ) (k : ℕ) → Holds left' a k → Holds left a k
+  settled_fewer a k h =
+      ⊎_elim (λ w. subst (λ t. Holds t a k) w.1 h) (λ w. closed_fewer left table x.0.1 w.0 w.1 a k (subst (λ t. Holds t a k) w.2 h)) step
+
+  pub settled_there : IsClosed left' x.0.1
+  settled_there =
+      ⊎_elim (λ w. subst (λ t. IsClosed t x.0.1) (sym w.1) w.0) (λ w. subst (λ t. IsClosed t x.0.1) (sym w.2) (closed_there left table x.0.1 w.0 w.1)) step
+
   pub smaller : (cells : ℕ) → unreached left' ≤ cells → length heap' + 9 * (cells - unreached left') < length heap + 9 * (cells - unreached left)
   smaller cells le =
       let long = length_permutation heap (x ∷ rest) taken in

@@ -1,5 +1,5 @@
 -- The trail of the settled positions, and the path that follows it back.
-use Rattle.std.proofs.Common.{◌≡◌, ℕ, zero, suc, ◌+◌, ◌-◌, ◌<◌, ◌⊎◌, Option, None, Some, List, [], ◌∷◌, ◌++◌, length, reverse, refl, sym, ◌∙◌, ap, subst, arith, inl, inr, ⊎_elim}
+use Rattle.std.proofs.Common.{◌≡◌, ℕ, zero, suc, ◌+◌, ◌-◌, ◌<◌, ◌≤◌, ◌⊎◌, Option, None, Some, List, [], ◌∷◌, ◌++◌, length, reverse, refl, sym, ◌∙◌, ap, subst, arith, inl, inr, ⊎_elim}
 use Rattle.std.specs.List.{slice_get, sum_by}
 use Rattle.std.specs.Option.{unwrap_or}
 use Rattle.std.proofs.lemmas.Bool.{cases_eq}
@@ -7,7 +7,8 @@ use Rattle.std.proofs.lemmas.List.{reverse-append}
 use Rattle.std.proofs.lemmas.List.Sums.{sum_by-cons}
 use Rattle.std.proofs.lemmas.Option.{slice_get_within}
 use Rattle.grid_near.specs.declared.steps.Steps.{Steps}
-use Rattle.grid_paths.specs.Walks.{IsStep}
+use Rattle.grid_near.specs.declared.steps.Steps.TheVariants.{Sides, All}
+use Rattle.grid_paths.specs.Walks.{DifferByOne, AreBeside, IsStep}
 use Rattle.grid_paths.proofs.SearchLemmas.{one_mark}
 use Rattle.grid_paths.proofs.StepLemmas.{at_push, at_end, at_push_fresh}
 use Rattle.grid_paths.specs.declared.cheap_path.Settled.{Settled}
@@ -17,6 +18,17 @@ use Rattle.grid_paths.specs.Trail.{ComesBefore, IsTrail, IsTrailOf}
 
 one_item : (trail : List Settled) (j : ℕ) (x y : Settled) → slice_get trail j ≡ Some x → slice_get trail j ≡ Some y → x ≡ y
 one_item trail j x y e f = let q : ◌≡◌ {A = Option Settled} (Some x) (Some y) = sym e ∙ f in ap (λ o. unwrap_or o x) q
+
+differs : (n : ℕ) → DifferByOne n n → ⊥
+differs n d = ⊎_elim (λ e. absurd (omega arith)) (λ e. absurd (omega arith)) d
+
+-- no step stays
+not_beside : (a : ℕ × ℕ) → AreBeside a a → ⊥
+not_beside a s = ⊎_elim (λ w. differs a.1 w.1) (λ w. differs a.0 w.1) s
+
+no_step : (kind : Steps) (a : ℕ × ℕ) → IsStep kind a a → ⊥
+no_step Sides a s = not_beside a s
+no_step All a s = ⊎_elim (λ w. not_beside a w) (λ w. differs a.0 w.0) s
 
 module _ (kind : Steps) (costs : List (List (Option ℕ))) where
   cost_is : (a : ℕ × ℕ) (k : ℕ) → Holds costs a k → cost_at costs a ≡ k
@@ -29,6 +41,7 @@ module _ (kind : Steps) (costs : List (List (Option ℕ))) where
         last = refl;
         each_cost = each_cost;
         each_step = each_step;
+        once = once;
         sum_is = refl;
       }
     where
@@ -39,15 +52,19 @@ module _ (kind : Steps) (costs : List (List (Option ℕ))) where
       each_step : (j : ℕ) (b c : ℕ × ℕ) → slice_get (a ∷ []) j ≡ Some b → slice_get (a ∷ []) (j + 1) ≡ Some c → IsStep kind b c
       each_step j b c e f = let lt = slice_get_within (a ∷ []) (j + 1) c f in absurd (omega arith)
 
+      once : (i j : ℕ) (c : ℕ × ℕ) → slice_get (a ∷ []) i ≡ Some c → slice_get (a ∷ []) j ≡ Some c → i ≡ j
+      once i j c e f = let li = slice_get_within (a ∷ []) i c e in let lj = slice_get_within (a ∷ []) j c f in omega arith
+
   -- a path with one position more at its front
-  IsCostPath-cons : (c a b : ℕ × ℕ) (path : List (ℕ × ℕ)) (sum j k : ℕ) → Holds costs c j → IsStep kind c a → Holds costs a k → IsCostPath kind costs a b path sum → IsCostPath kind costs c b (c ∷ path) (sum + k)
-  IsCostPath-cons c a b [] sum j k h step cost p = absurd (let e = p.first in cc)
-  IsCostPath-cons c a b (x ∷ path) sum j k h step cost p =
+  IsCostPath-cons : (c a b : ℕ × ℕ) (path : List (ℕ × ℕ)) (sum j k : ℕ) → Holds costs c j → IsStep kind c a → Holds costs a k → ((i : ℕ) → slice_get path i ≡ Some c → ⊥) → IsCostPath kind costs a b path sum → IsCostPath kind costs c b (c ∷ path) (sum + k)
+  IsCostPath-cons c a b [] sum j k h step cost fresh p = absurd (let e = p.first in cc)
+  IsCostPath-cons c a b (x ∷ path) sum j k h step cost fresh p =
       record {
         first = refl;
         last = subst (λ n. slice_get (c ∷ x ∷ path) n ≡ Some b) next p.last;
         each_cost = each_cost;
         each_step = each_step;
+        once = once;
         sum_is = total;
       }
     where
@@ -76,6 +93,17 @@ module _ (kind : Steps) (costs : List (List (Option ℕ))) where
           let n : suc i + 1 ≡ suc (i + 1) = omega arith in
           p.each_step i d e f (subst (λ n. slice_get (c ∷ x ∷ path) n ≡ Some e) n g)
 
+      once : (i n : ℕ) (d : ℕ × ℕ) → slice_get (c ∷ x ∷ path) i ≡ Some d → slice_get (c ∷ x ∷ path) n ≡ Some d → i ≡ n
+      once zero zero d e f = refl
+      once zero (suc n) d e f = let q : c ≡ d = cc in absurd (fresh n (subst (λ y. slice_get (x ∷ path) n ≡ Some y) (sym q) f))
+      once (suc i) zero d e f = let q : c ≡ d = cc in absurd (fresh i (subst (λ y. slice_get (x ∷ path) i ≡ Some y) (sym q) e))
+      once (suc i) (suc n) d e f = ap suc (p.once i n d e f)
+
+-- a position of the path stands on the trail: at place n or behind it, or it is `here`, just before
+-- that place
+abbrev pub IsPassed : List Settled → Settled → ℕ → ℕ × ℕ → Type 0
+IsPassed trail here n c = (j : ℕ) × (x : Settled) × (slice_get trail j ≡ Some x) × (x.at ≡ c) × ((n ≤ j) ⊎ ((c ≡ here.at) × (n ≤ j + 1)))
+
 -- the walk back has come to the position `here`: what is left of it ends before place n
 pub record IsFollowed (kind : Steps) (from : ℕ × ℕ) (costs : List (List (Option ℕ))) (trail : List Settled) (last here : Settled) (n : ℕ) (path : List (ℕ × ℕ)) : Type 0 where
   pub before : ComesBefore kind from trail n here
@@ -83,6 +111,7 @@ pub record IsFollowed (kind : Steps) (from : ℕ × ℕ) (costs : List (List (Op
   pub sum : ℕ
   pub leads : IsCostPath kind costs here.at last.at (reverse path) sum
   pub total : last.sum ≡ here.sum + sum
+  pub passed : (i : ℕ) (c : ℕ × ℕ) → slice_get (reverse path) i ≡ Some c → IsPassed trail here n c
 
 module _ (kind : Steps) (from : ℕ × ℕ) (costs : List (List (Option ℕ))) (trail : List Settled) (is_trail : IsTrail kind from costs trail) (last : Settled) where
   pub IsFollowed-start : slice_get trail (length trail - 1) ≡ Some last → 0 < length trail → IsFollowed kind from costs trail last last (length trail) (last.at ∷ [])
@@ -94,9 +123,30 @@ module _ (kind : Steps) (from : ℕ × ℕ) (costs : List (List (Option ℕ))) (
         sum = 0;
         leads = IsCostPath-one kind costs last.at last.cost cost;
         total = omega arith;
+        passed = passed;
       }
+    where
+      passed : (i : ℕ) (c : ℕ × ℕ) → slice_get (last.at ∷ []) i ≡ Some c → IsPassed trail last (length trail) c
+      passed zero c h = let q : last.at ≡ c = cc in (length trail - 1, last, e, q, inr (sym q, omega arith))
+      passed (suc i) c h = absurd (cc)
 
   module _ (here : Settled) (n : ℕ) (path : List (ℕ × ℕ)) (f : IsFollowed kind from costs trail last here (suc n) path) (y : Settled) (at : slice_get trail n ≡ Some y) where
+    -- of the path, all stands behind y, or is `here`
+    behind : (i : ℕ) (c : ℕ × ℕ) → slice_get (reverse path) i ≡ Some c → (j : ℕ) × (x : Settled) × (slice_get trail j ≡ Some x) × (x.at ≡ c) × (n ≤ j) × ((suc n ≤ j) ⊎ (c ≡ here.at))
+    behind i c h =
+        let w = f.passed i c h in
+        ⊎_elim (λ le. (w.0, w.1, w.2, w.3, omega arith, inl le)) (λ v. let le = v.1 in (w.0, w.1, w.2, w.3, omega arith, inr v.0)) w.4
+
+    unseen : IsStep kind y.at here.at → (i : ℕ) → slice_get (reverse path) i ≡ Some y.at → ⊥
+    unseen step i h =
+        let w = behind i y.at h in
+        ⊎_elim (λ le. let e : w.0 ≡ n = is_trail.once w.0 n w.1 y w.2 at w.3 in absurd (omega arith))
+        (λ same. no_step kind here.at (subst (λ a. IsStep kind a here.at) same step)) w.5
+
+    passed_found : (i : ℕ) (c : ℕ × ℕ) → slice_get (y.at ∷ reverse path) i ≡ Some c → IsPassed trail y n c
+    passed_found zero c h = let q : y.at ≡ c = cc in (n, y, at, q, inl (omega arith))
+    passed_found (suc i) c h = let w = behind i c h in (w.0, w.1, w.2, w.3, inl w.4)
+
     pub IsFollowed-found : IsStep kind y.at here.at → here.sum ≡ y.sum + here.cost → IsFollowed kind from costs trail last y n (path ++ y.at ∷ [])
     IsFollowed-found step is =
         let cost = is_trail.cost n y at in
@@ -106,8 +156,9 @@ module _ (kind : Steps) (from : ℕ × ℕ) (costs : List (List (Option ℕ))) (
           cost = cost;
           sum = f.sum + here.cost;
           leads = subst (λ p. IsCostPath kind costs y.at last.at p (f.sum + here.cost)) (sym (reverse-append path (y.at ∷ [])))
-              (IsCostPath-cons kind costs y.at here.at last.at (reverse path) f.sum y.cost here.cost cost step f.cost f.leads);
+              (IsCostPath-cons kind costs y.at here.at last.at (reverse path) f.sum y.cost here.cost cost step f.cost (unseen step) f.leads);
           total = omega arith;
+          passed = subst (λ p. (i : ℕ) (c : ℕ × ℕ) → slice_get p i ≡ Some c → IsPassed trail y n c) (sym (reverse-append path (y.at ∷ []))) passed_found;
         }
 
     pub IsFollowed-past : ((IsStep kind y.at here.at × (here.sum ≡ y.sum + here.cost)) → ⊥) → IsFollowed kind from costs trail last here n path
@@ -125,12 +176,13 @@ module _ (kind : Steps) (from : ℕ × ℕ) (costs : List (List (Option ℕ))) (
           sum = f.sum;
           leads = f.leads;
           total = f.total;
+          passed = λ i c h. let w = behind i c h in (w.0, w.1, w.2, w.3, inl w.4);
         }
 
 -- at the start nothing is settled
 module _ (kind : Steps) (from : ℕ × ℕ) (costs : List (List (Option ℕ))) where
   pub IsTrail-start : IsTrail kind from costs []
-  IsTrail-start = record { cost = λ j x e. absurd (cc); before = λ j x e. absurd (cc) }
+  IsTrail-start = record { cost = λ j x e. absurd (cc); before = λ j x e. absurd (cc); once = λ i j x y e f q. absurd (cc) }
 
   end_cost : (n sum : ℕ) (a b : ℕ × ℕ) → CostWalk kind costs a b n sum → (k : ℕ) × Holds costs b k
   end_cost zero sum a b w = w.2
@@ -142,8 +194,8 @@ module _ (kind : Steps) (from : ℕ × ℕ) (costs : List (List (Option ℕ))) w
       let k = end_cost w.0 m from a w.1 in
       closed k.0 k.1
 
--- the position x comes to the trail
-module _ (kind : Steps) (from : ℕ × ℕ) (costs u left : List (List (Option ℕ))) (trail : List Settled) (is_trail : IsTrail kind from costs trail) (all : IsTrailOf u left trail) (x : Settled) (cost : Holds costs x.at x.cost) (comes : Comes kind costs from u left x.at x.sum) where
+-- the position x, which isn't there, comes to the trail
+module _ (kind : Steps) (from : ℕ × ℕ) (costs u left : List (List (Option ℕ))) (trail : List Settled) (is_trail : IsTrail kind from costs trail) (all : IsTrailOf u left trail) (x : Settled) (cost : Holds costs x.at x.cost) (comes : Comes kind costs from u left x.at x.sum) (fresh : (j : ℕ) (y : Settled) → slice_get trail j ≡ Some y → y.at ≡ x.at → ⊥) where
   pub IsTrail-push : IsTrail kind from costs (trail ++ x ∷ [])
   IsTrail-push =
       record {
@@ -153,6 +205,10 @@ module _ (kind : Steps) (from : ℕ × ℕ) (costs u left : List (List (Option �
             ⊎_elim (λ w. subst (λ z. ComesBefore kind from (trail ++ x ∷ []) j z) (sym w.1) (subst (λ n. ComesBefore kind from (trail ++ x ∷ []) n x) (sym w.0) here))
             (λ e0. ⊎_elim (λ w. inl w) (λ w. inr (w.0, w.1, w.2, at_push trail x w.0 w.1 w.3, w.4, w.5)) (is_trail.before j y e0))
             (at_push_fresh trail x j y e);
+        once = λ i j y z e f q.
+            ⊎_elim (λ v. ⊎_elim (λ w. v.0 ∙ sym w.0) (λ f0. absurd (fresh j z f0 (sym q ∙ ap (λ s. s.at) v.1))) (at_push_fresh trail x j z f))
+            (λ e0. ⊎_elim (λ w. absurd (fresh i y e0 (q ∙ ap (λ s. s.at) w.1))) (λ f0. is_trail.once i j y z e0 f0 q) (at_push_fresh trail x j z f))
+            (at_push_fresh trail x i y e);
       }
     where
       here : ComesBefore kind from (trail ++ x ∷ []) (length trail) x
@@ -170,26 +226,33 @@ module _ (kind : Steps) (from : ℕ × ℕ) (costs u left : List (List (Option �
 pub record IsKept (kind : Steps) (from : ℕ × ℕ) (costs u left : List (List (Option ℕ))) (goal : ℕ × ℕ) (trail : List Settled) : Type 0 where
   pub is_trail : IsTrail kind from costs trail
   pub all : IsTrailOf u left trail
+  pub closed : (j : ℕ) (x : Settled) → slice_get trail j ≡ Some x → IsClosed left x.at
   pub not_yet : (m : ℕ) → Holds u goal m → IsClosed left goal → ⊥
 
--- a step of the search: what is settled was settled before, or is the position p with the number n
-module _ (kind : Steps) (from : ℕ × ℕ) (costs u left u' left' : List (List (Option ℕ))) (p : ℕ × ℕ) (n : ℕ) (before : (a : ℕ × ℕ) (m : ℕ) → Holds u' a m → IsClosed left' a → (((k : ℕ) × Holds left p k) × (a ≡ p) × (m ≡ n)) ⊎ (Holds u a m × IsClosed left a)) (goal : ℕ × ℕ) (trail : List Settled) (kept : IsKept kind from costs u left goal trail) where
+-- what is on the trail isn't left
+pub unlike : (left : List (List (Option ℕ))) (trail : List Settled) (p : ℕ × ℕ) (k : ℕ) → ((j : ℕ) (x : Settled) → slice_get trail j ≡ Some x → IsClosed left x.at) → Holds left p k → (j : ℕ) (y : Settled) → slice_get trail j ≡ Some y → y.at ≡ p → ⊥
+unlike left trail p k closed is_left j y e q = closed j y e k (subst (λ a. Holds left a k) (sym q) is_left)
+
+-- a step of the search: what is settled was settled before, or is the position p with the number n; what is left was left
+module _ (kind : Steps) (from : ℕ × ℕ) (costs u left u' left' : List (List (Option ℕ))) (p : ℕ × ℕ) (n : ℕ) (before : (a : ℕ × ℕ) (m : ℕ) → Holds u' a m → IsClosed left' a → (((k : ℕ) × Holds left p k) × (a ≡ p) × (m ≡ n)) ⊎ (Holds u a m × IsClosed left a)) (fewer : (a : ℕ × ℕ) (k : ℕ) → Holds left' a k → Holds left a k) (goal : ℕ × ℕ) (trail : List Settled) (kept : IsKept kind from costs u left goal trail) where
   pub IsKept-stale : IsClosed left p → IsKept kind from costs u' left' goal trail
   IsKept-stale closed =
       record {
         is_trail = kept.is_trail;
         all = λ a m h c. ⊎_elim (λ e. absurd (closed e.0.0 e.0.1)) (λ w. kept.all a m w.0 w.1) (before a m h c);
+        closed = λ j x e k h. kept.closed j x e k (fewer x.at k h);
         not_yet = λ m h c. ⊎_elim (λ e. closed e.0.0 e.0.1) (λ w. kept.not_yet m w.0 w.1) (before goal m h c);
       }
 
-  pub IsKept-push : (k : ℕ) → Holds costs p k → Comes kind costs from u left p n → (goal ≡ p → ⊥) → IsKept kind from costs u' left' goal (trail ++ record { at = p; cost = k; sum = n } ∷ [])
-  IsKept-push k cost comes other =
+  pub IsKept-push : (k : ℕ) → Holds costs p k → Holds left p k → IsClosed left' p → Comes kind costs from u left p n → (goal ≡ p → ⊥) → IsKept kind from costs u' left' goal (trail ++ record { at = p; cost = k; sum = n } ∷ [])
+  IsKept-push k cost is_left gone comes other =
       let x : Settled = record { at = p; cost = k; sum = n } in
       record {
-        is_trail = IsTrail-push kind from costs u left trail kept.is_trail kept.all x cost comes;
+        is_trail = IsTrail-push kind from costs u left trail kept.is_trail kept.all x cost comes (unlike left trail p k kept.closed is_left);
         all = λ a m h c.
             ⊎_elim (λ e. (length trail, x, at_end trail x, sym e.1, sym e.2))
             (λ w. let v = kept.all a m w.0 w.1 in (v.0, v.1, at_push trail x v.0 v.1 v.2, v.3, v.4))
             (before a m h c);
+        closed = λ j y e. ⊎_elim (λ v. subst (λ z. IsClosed left' z.at) (sym v.1) gone) (λ e0. λ i h. kept.closed j y e0 i (fewer y.at i h)) (at_push_fresh trail x j y e);
         not_yet = λ m h c. ⊎_elim (λ e. other e.1) (λ w. kept.not_yet m w.0 w.1) (before goal m h c);
       }

@@ -33,8 +33,8 @@ module _ (kind : Steps) (costs : List (List (Option ℕ))) where
     pub found : (at : ℕ × ℕ) (n sum : ℕ) → CostWalk from at n sum → (k : ℕ) × Holds u at k
     pub least : (at : ℕ × ℕ) (k : ℕ) → Holds u at k → IsLeastCost from at k
 
-  -- a path from a to b over positions with a cost, by steps; the costs of the cells entered, the
-  -- first not, come to `sum`
+  -- a path from a to b over positions with a cost, by steps, none of them twice; the costs of the
+  -- cells entered, the first not, come to `sum`
   pub record IsCostPath (a b : ℕ × ℕ) (path : List (ℕ × ℕ)) (sum : ℕ) : Type 0 where
     pub first : slice_get path 0 ≡ Some a
     pub last : slice_get path (length path - 1) ≡ Some b
@@ -42,6 +42,7 @@ module _ (kind : Steps) (costs : List (List (Option ℕ))) where
     pub each_step : (j : ℕ) (c d : ℕ × ℕ) → slice_get path j ≡ Some c
         → slice_get path (j + 1) ≡ Some d
         → IsStep kind c d
+    pub once : (i j : ℕ) (c : ℕ × ℕ) → slice_get path i ≡ Some c → slice_get path j ≡ Some c → i ≡ j
     pub sum_is : sum ≡ sum_by (cost_at costs) (drop 1 path)
 
   -- and no walk costs less

@@ -16,10 +16,12 @@ module _ (kind : Steps) (from : ℕ × ℕ) where
       × (x.sum ≡ y.sum + x.cost))
 
   module _ (costs : List (List (Option ℕ))) where
-    -- each number comes from that of a position before it
+    -- each number comes from that of a position before it, and no position stands there twice
     pub record IsTrail (trail : List Settled) : Type 0 where
       pub cost : (j : ℕ) (x : Settled) → slice_get trail j ≡ Some x → Holds costs x.at x.cost
       pub before : (j : ℕ) (x : Settled) → slice_get trail j ≡ Some x → ComesBefore trail j x
+      pub once : (i j : ℕ) (x y : Settled) → slice_get trail i ≡ Some x → slice_get trail j ≡ Some y
+          → x.at ≡ y.at → i ≡ j
 
 -- the settled positions are on the trail
 abbrev pub IsTrailOf : List (List (Option ℕ)) → List (List (Option ℕ)) → List Settled → Type 0

@@ -97,7 +97,7 @@ fn path_over<A: Allocator + Clone>(
 }
 
 /// Returns a cheapest path from one position to another, and the sum of its costs: of the cells that it enters, as
-/// [`cheapest`](super::cheapest) counts them. Returns `None` exactly where no path leads.
+/// [`cheapest`](super::cheapest) counts them. No position stands there twice. Returns `None` exactly where no path leads.
 ///
 ///     [[1, 9, 1], [1, 1, 1]]   cheapest_path((0, 0), (0, 2), Steps::Sides, |x| Some(*x))   ([(0, 0), (1, 0), (1, 1), (1, 2), (0, 2)], 4)
 ///

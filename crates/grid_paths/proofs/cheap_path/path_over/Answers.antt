@@ -7,8 +7,8 @@ use Rattle.grid_paths.proofs.StepLemmas.{at_end}
 use Rattle.grid_paths.specs.declared.cheap_path.Settled.{Settled}
 use Rattle.grid_paths.specs.Cheapest.{Holds, IsCheapestPath}
 use Rattle.grid_paths.specs.Trail.{IsTrail}
-use Rattle.grid_paths.proofs.CheapLemmas.{IsCostSearch-settle, its_bound, its_number, few_left, smaller, settled_before, IsLeastCost-first, no_way}
-use Rattle.grid_paths.proofs.TrailLemmas.{IsTrail-start, none_settled, IsTrail-push, IsKept, IsKept-stale, IsKept-push}
+use Rattle.grid_paths.proofs.CheapLemmas.{IsCostSearch-settle, its_bound, its_number, few_left, smaller, settled_before, settled_fewer, settled_there, IsLeastCost-first, no_way}
+use Rattle.grid_paths.proofs.TrailLemmas.{IsTrail-start, none_settled, IsTrail-push, IsKept, IsKept-stale, IsKept-push, unlike}
 use Rattle.grid_paths.proofs.cheap_path.path_over.Goals as goal
 use Rattle.grid_paths.proofs.cheap_path.path_over.Goals.{in-Some-cost_of+in_ok-push+else-eq, in_default-cost_of}
 
@@ -43,6 +43,7 @@ loop-next-init g c =
       search = search;
       trail = subst (λ x. IsTrail c.args.kind c.args.from costs x) (sym items) (IsTrail-start c.args.kind c.args.from costs);
       all = λ a m h closed. absurd (none_settled c.args.kind c.args.from costs c.in_ok-sums.sums.rows (heap_items c.in_ok-sums.heap) search a m h closed);
+      closed = λ j x e. let none = subst (λ l. slice_get l j ≡ Some x) items e in absurd (cc);
       not_yet = λ m h closed. none_settled c.args.kind c.args.from costs c.in_ok-sums.sums.rows (heap_items c.in_ok-sums.heap) search c.args.to m h closed;
     }
 
@@ -69,7 +70,7 @@ returns-then-eq g c =
     let least = c.in-Some.ensures.below_top l.invariant.heap_order in
     let is_left : Holds l.left.rows next.0.1 k = (c.cost_of.ensures k).0 c.in-Some-cost_of.is in
     let its = its_number c.args.kind costs c.args.from l.sums.rows l.left.rows (heap_items l.heap) s next rest c.in-Some.ensures.permutation least k is_left in
-    let trail = IsTrail-push c.args.kind c.args.from costs l.sums.rows l.left.rows old l.invariant.trail l.invariant.all here (s.among next.0.1 k is_left) (s.comes next.0.1 next.0.0 its) in
+    let trail = IsTrail-push c.args.kind c.args.from costs l.sums.rows l.left.rows old l.invariant.trail l.invariant.all here (s.among next.0.1 k is_left) (s.comes next.0.1 next.0.0 its) (unlike l.left.rows old next.0.1 k l.invariant.closed is_left) in
     let to : next.0.1 ≡ c.args.to = search rules in
     subst (λ b. IsCheapestPath c.args.kind costs c.args.from b c.in_ok-follow.field-0.items next.0.0) to
     (record {
@@ -90,6 +91,8 @@ loop-next-preserved g c =
     let least = c.in-Some.ensures.below_top l.invariant.heap_order in
     let settles = c.in_ok-settle.ensures.settles in
     let before = settled_before c.args.kind left l.left.table u (heap_items l.heap) next rest c.in-Some.ensures.permutation new.left.rows new.sums.rows (heap_items new.heap) settles costs c.args.from s least in
+    let fewer = settled_fewer c.args.kind left l.left.table u (heap_items l.heap) next rest c.in-Some.ensures.permutation new.left.rows new.sums.rows (heap_items new.heap) settles in
+    let gone = settled_there c.args.kind left l.left.table u (heap_items l.heap) next rest c.in-Some.ensures.permutation new.left.rows new.sums.rows (heap_items new.heap) settles in
     let kept : IsKept c.args.kind c.args.from costs new.sums.rows new.left.rows c.args.to c.match-cost_of.trail.items =
     elim c.match-cost_of.branch [
       | in-Some-cost_of+in_ok-push+else-eq w ↦
@@ -98,10 +101,10 @@ loop-next-preserved g c =
           let its = its_number c.args.kind costs c.args.from u left (heap_items l.heap) s next rest c.in-Some.ensures.permutation least k is_left in
           let other : c.args.to ≡ next.0.1 → ⊥ = λ e. search rules in
           subst (λ x. IsKept c.args.kind c.args.from costs new.sums.rows new.left.rows c.args.to x) (sym (ap (λ v. v.items) w.trail-is ∙ w.in_ok-push.ensures.items))
-          (IsKept-push c.args.kind c.args.from costs u left new.sums.rows new.left.rows next.0.1 next.0.0 before c.args.to l.trail.items (record { is_trail = l.invariant.trail; all = l.invariant.all; not_yet = l.invariant.not_yet }) k (s.among next.0.1 k is_left) (s.comes next.0.1 next.0.0 its) other)
+          (IsKept-push c.args.kind c.args.from costs u left new.sums.rows new.left.rows next.0.1 next.0.0 before fewer c.args.to l.trail.items (record { is_trail = l.invariant.trail; all = l.invariant.all; closed = l.invariant.closed; not_yet = l.invariant.not_yet }) k (s.among next.0.1 k is_left) is_left gone (s.comes next.0.1 next.0.0 its) other)
       | in_default-cost_of w ↦
           subst (λ x. IsKept c.args.kind c.args.from costs new.sums.rows new.left.rows c.args.to x) (sym (ap (λ v. v.items) w.trail-is))
-          (IsKept-stale c.args.kind c.args.from costs u left new.sums.rows new.left.rows next.0.1 next.0.0 before c.args.to l.trail.items (record { is_trail = l.invariant.trail; all = l.invariant.all; not_yet = l.invariant.not_yet })
+          (IsKept-stale c.args.kind c.args.from costs u left new.sums.rows new.left.rows next.0.1 next.0.0 before fewer c.args.to l.trail.items (record { is_trail = l.invariant.trail; all = l.invariant.all; closed = l.invariant.closed; not_yet = l.invariant.not_yet })
           (λ k h. w.in_default-cost_of.not-Some k ((c.cost_of.ensures k).1 h)))
     ] in
     record {
@@ -111,6 +114,7 @@ loop-next-preserved g c =
       search = IsCostSearch-settle c.args.kind left l.left.table u (heap_items l.heap) next rest c.in-Some.ensures.permutation new.left.rows new.sums.rows (heap_items new.heap) settles costs c.args.from s least;
       trail = kept.is_trail;
       all = kept.all;
+      closed = kept.closed;
       not_yet = kept.not_yet;
     }
 

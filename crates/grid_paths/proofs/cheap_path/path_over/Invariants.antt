@@ -1,9 +1,11 @@
-use Rattle.std.proofs.Common.{◌≡◌, ℕ, ◌+◌, ◌*◌, ◌-◌, ◌≤◌, length}
+use Rattle.std.proofs.Common.{◌≡◌, ℕ, ◌+◌, ◌*◌, ◌-◌, ◌≤◌, Some, length}
+use Rattle.std.specs.List.{slice_get}
 use Rattle.std.specs.BinaryHeap.{IsHeap, heap_items}
 use Rattle.grid_base.specs.Table.{row_count, col_count}
 use Rattle.grid_paths.specs.Search.{HaveOneSize, unreached}
 use Rattle.grid_paths.specs.Cheapest.{Holds}
 use Rattle.grid_paths.specs.Relaxing.{IsClosed, IsCostSearch, by_sum}
+use Rattle.grid_paths.specs.declared.cheap_path.Settled.{Settled}
 use Rattle.grid_paths.specs.Trail.{IsTrail, IsTrailOf}
 use Rattle.grid_paths.proofs.cheap_path.path_over.Given as goal
 
@@ -16,6 +18,7 @@ invariant-loop-next g l =
       search : IsCostSearch l.kind l.fn.costs.rows l.fn.from l.sums.rows l.left.rows (heap_items l.heap);
       trail : IsTrail l.kind l.fn.from l.fn.costs.rows l.trail.items;
       all : IsTrailOf l.sums.rows l.left.rows l.trail.items;
+      closed : (j : ℕ) (x : Settled) → slice_get l.trail.items j ≡ Some x → IsClosed l.left.rows x.at;
       not_yet : (m : ℕ) → Holds l.sums.rows l.to m → IsClosed l.left.rows l.to → ⊥;
     }
 
