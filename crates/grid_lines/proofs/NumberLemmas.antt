@@ -2,7 +2,7 @@
 use Rattle.std.proofs.Common.{◌≡◌, ℕ, List, ap}
 use Rattle.std.proofs.lemmas.Cmp.{nat_cmp_total}
 use Rattle.std.proofs.lemmas.Fn.{always_returns_same}
-use Rattle.std.proofs.lemmas.List.Sorted.{IsNonDecreasingBy-from_sort, ranks_by}
+use Rattle.std.proofs.lemmas.List.Sorted.{IsNonDecreasingBy-from_sort, answers_always, ranks_by}
 use Rattle.std.specs.Fn.{Mut, Called}
 use Rattle.std.specs.Ordering.{is_lt, nat_cmp}
 use Rattle.std.specs.declared.cmp.Ordering.{Ordering}
@@ -14,6 +14,14 @@ rising g f lines sorted n says =
     record {
       at = IsNonDecreasingBy-from_sort n lines (sorted (λ a b. is_lt (nat_cmp (n a) (n b))) (ranks_by nat_cmp_total n)
           (always_returns_same g (λ a r. is_lt r ≡ is_lt (nat_cmp (n a.0) (n a.1.0))) f (λ a r h k. let one = says a.0 a.1.0 r h k in (ap is_lt one.0, one.1))));
+    }
+
+-- the same where it does so whatever its state
+pub rising_always : {F T : Type 0} (g : Mut F (List T × (List T × Unit {0})) Ordering) (f : F) (lines : List (List T)) → AreSortedLines g f lines → (n : List T → ℕ) → ((q : F) (a b : List T) (r : Ordering) (h : F) → Called g q (a, (b, tt)) r h → r ≡ nat_cmp (n a) (n b)) → AscendBy n lines
+rising_always g f lines sorted n says =
+    record {
+      at = IsNonDecreasingBy-from_sort n lines (sorted (λ a b. is_lt (nat_cmp (n a) (n b))) (ranks_by nat_cmp_total n)
+          (answers_always g (λ a r. is_lt r ≡ is_lt (nat_cmp (n a.0) (n a.1.0))) f (λ q a r h k. ap is_lt (says q a.0 a.1.0 r h k))));
     }
 
 -- where each call gives a key of its line

@@ -1,7 +1,7 @@
 -- Rows that are kept one after another, in place.
 use Rattle.std.proofs.Common.{◌≡◌, ◌≢◌, ℕ, suc, ◌+◌, ◌-◌, ◌<◌, ◌≤◌, Bool, true, false, cond, IsTrue, ◌↔◌, if◌then◌else◌, List, [], ◌∷◌, ◌++◌, length, take, drop, get_or, set, refl, sym, ap, ◌∙◌, subst, arith, append_assoc, append-nil, drop-cons, add-one}
-use Rattle.std.specs.List.{swap, items_where_true}
-use Rattle.std.specs.List.Retain.{IsFiltered}
+use Rattle.std.specs.List.{swap, filter, items_where_true}
+use Rattle.std.specs.List.Retain.{ReturnsInTurn, IsFiltered}
 use Rattle.std.proofs.lemmas.List.{take_more, take_more_set, take-set-le, drop-set-lt, drop_all, length-set}
 use Rattle.std.proofs.lemmas.List.Edits.{swap_is}
 
@@ -16,6 +16,22 @@ module _ {X P : Type 0} (R : P → X → Bool → P → Type 0) where
       chosen : (b : Bool) → cond b (x ∷ ys) ys ≡ items_where_true (b ∷ rest.0) (x ∷ xs)
       chosen true = ap (λ zs. x ∷ zs) rest.4
       chosen false = rest.4
+
+  -- what was kept is what the test passes, where each answer is the test's
+  pub filtered_by : (test : X → Bool) → ((p : P) (x : X) (b : Bool) (q : P) → R p x b q → b ≡ test x) → (p : P) (xs ys : List X) → IsFiltered R p xs ys → ys ≡ filter test xs
+  filtered_by test says p xs ys f = f.4 ∙ by_answers p f.0 xs f.1 f.2 f.3
+    where
+      one : (x : X) (b t : Bool) (xs : List X) (bs : List Bool) → b ≡ t → test x ≡ t → items_where_true bs xs ≡ filter test xs → items_where_true (b ∷ bs) (x ∷ xs) ≡ filter test (x ∷ xs)
+      one x b true xs bs e is h = rw (e, is) (ap (λ zs. x ∷ zs) h)
+      one x b false xs bs e is h = rw (e, is) h
+
+      by_answers : (p : P) (bs : List Bool) (xs : List X) (q : P) → length bs ≡ length xs → ReturnsInTurn R p bs xs q → items_where_true bs xs ≡ filter test xs
+      by_answers p [] [] q e r = refl
+      by_answers p [] (x ∷ xs) q e r = absurd (omega arith)
+      by_answers p (b ∷ bs) [] q e r = absurd (omega arith)
+      by_answers p (b ∷ bs) (x ∷ xs) q e r =
+          let counts : length bs ≡ length xs = omega arith in
+          one x b (test x) xs bs (says p x b r.0 r.1) refl (by_answers r.0 bs xs q counts r.2)
 
   -- calls at the first rows took the test from p to q; `kept` of them, which it passed, stand in
   -- front, and those ahead are as they were

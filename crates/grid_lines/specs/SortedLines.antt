@@ -42,6 +42,13 @@ abbrev pub ComparesNumbers : {F T : Type 0} → (F → List T → List T → Ord
 ComparesNumbers {F} {T} step f n = (a b : List T) (r : Ordering) (g : F) → step f a b r g
     → (r ≡ nat_cmp (n a) (n b)) × (g ≡ f)
 
+-- whatever its state, the closure compares a number of the one line with that of the other
+abbrev pub AlwaysComparesNumbers : {F T : Type 0} → (F → List T → List T → Ordering → F → Type 0)
+    → (List T → ℕ) → Type 0
+AlwaysComparesNumbers {F} {T} step n = (f : F) (a b : List T) (r : Ordering) (g : F)
+    → step f a b r g
+    → r ≡ nat_cmp (n a) (n b)
+
 -- the number does not fall from line to line
 pub record AscendBy {T : Type 0} (n : List T → ℕ) (lines : List (List T)) : Type 0 where
   pub at : IsNonDecreasingBy n lines

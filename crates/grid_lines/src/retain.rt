@@ -3,7 +3,7 @@ ghost use Rattle.std.specs.Prelude.{◌≡◌, Bool, List, filter};
 ghost use Rattle.std.specs.List.Retain.{IsFiltered};
 ghost use Rattle.grid_base.specs.Table.{transposed};
 ghost use Rattle.grid_base.specs.Strides.{LinesInOrder};
-ghost use Rattle.grid_lines.specs.LineAnswers.{AnswersBy};
+ghost use Rattle.grid_lines.specs.LineAnswers.{AnswersAlways, AnswersBy};
 
 use grid::{Grid, GridLineIter};
 use std::alloc::Allocator;
@@ -22,6 +22,8 @@ pub fn retain_rows<T: Drop, A: Allocator, F: FnMut(GridLineIter<'_, T>) -> bool>
     requires { F.IsAlwaysCallable f }
     ensures rows { IsFiltered F.step f grid.old.rows grid.new.rows }
     ensures pure { (test : List T → Bool) → AnswersBy F.step f test
+        → grid.new.rows ≡ filter test grid.old.rows }
+    ensures always { (test : List T → Bool) → AnswersAlways F.step test
         → grid.new.rows ≡ filter test grid.old.rows }
     ensures along { LinesInOrder T }
     ensures order { grid.new.order ≡ grid.old.order }
@@ -53,6 +55,8 @@ pub fn retain_cols<T: Drop, A: Allocator, F: FnMut(GridLineIter<'_, T>) -> bool>
     requires { F.IsAlwaysCallable f }
     ensures cols { IsFiltered F.step f (transposed grid.old.rows) (transposed grid.new.rows) }
     ensures pure { (test : List T → Bool) → AnswersBy F.step f test
+        → transposed grid.new.rows ≡ filter test (transposed grid.old.rows) }
+    ensures always { (test : List T → Bool) → AnswersAlways F.step test
         → transposed grid.new.rows ≡ filter test (transposed grid.old.rows) }
     ensures along { LinesInOrder T }
     ensures order { grid.new.order ≡ grid.old.order }

@@ -4,7 +4,7 @@ ghost use Rattle.std.specs.List.{range_with_len};
 ghost use Rattle.grid_base.specs.Strides.{LinesInOrder};
 ghost use Rattle.grid_base.specs.Table.{row, row_count, col_count, transposed};
 ghost use Rattle.grid_lines.specs.LineAnswers.{AnswersBy};
-ghost use Rattle.grid_lines.specs.SortedLines.{AreSortedLines, AreStableLines, AscendBy, ComparesNumbers, AreSortedByKey, AreStableByKey, AscendByKey};
+ghost use Rattle.grid_lines.specs.SortedLines.{AlwaysComparesNumbers, AreSortedLines, AreStableLines, AscendBy, ComparesNumbers, AreSortedByKey, AreStableByKey, AscendByKey};
 
 use crate::numbers::{numbers_by, numbers_by_key, row_numbers};
 use grid::{Grid, GridLineIter};
@@ -31,6 +31,8 @@ where
     ensures permutation { IsPermutation grid.old.rows grid.new.rows }
     ensures sorted { OnOk result (AreSortedLines F.FnMut compare grid.new.rows) }
     ensures by_number { (n : List T → ℕ) → ComparesNumbers F.step compare n
+        → OnOk result (AscendBy n grid.new.rows) }
+    ensures always { (n : List T → ℕ) → AlwaysComparesNumbers F.step n
         → OnOk result (AscendBy n grid.new.rows) }
     ensures stable { AreStableLines F.FnMut compare grid.old.rows grid.new.rows }
     ensures err { OnErr result (grid.new ≡ grid.old) }
@@ -65,6 +67,8 @@ where
     ensures sorted { OnOk result (AreSortedLines F.FnMut compare (transposed grid.new.rows)) }
     ensures by_number { (n : List T → ℕ) → ComparesNumbers F.step compare n
         → OnOk result (AscendBy n (transposed grid.new.rows)) }
+    ensures always { (n : List T → ℕ) → AlwaysComparesNumbers F.step n
+        → OnOk result (AscendBy n (transposed grid.new.rows)) }
     ensures stable { AreStableLines F.FnMut compare
         (transposed grid.old.rows) (transposed grid.new.rows) }
     ensures err { OnErr result (grid.new ≡ grid.old) }
@@ -79,8 +83,8 @@ where
     sorted
 }
 
-/// Sorts the rows by the key that the closure gives of each. It is called once at each row. Rows whose keys tie stay in
-/// their order. The order of the storage stays.
+/// Sorts the rows by the key that the closure gives of each. It is called once at each row, if there are two or more. Rows
+/// whose keys tie stay in their order. The order of the storage stays.
 ///
 ///     [[3, 1], [2, 2], [3, 0]]   sort_rows_by_key(grid, |row| row.copied().sum::<u32>())   [[3, 0], [3, 1], [2, 2]]
 ///
@@ -113,8 +117,8 @@ where
     Ok(())
 }
 
-/// Sorts the columns by the key that the closure gives of each. It is called once at each column. Columns whose keys tie
-/// stay in their order. The order of the storage stays.
+/// Sorts the columns by the key that the closure gives of each. It is called once at each column, if there are two or more.
+/// Columns whose keys tie stay in their order. The order of the storage stays.
 ///
 ///     [[3, 2, 3], [1, 2, 0]]   sort_cols_by_key(grid, |col| col.copied().sum::<u32>())   [[3, 3, 2], [0, 1, 2]]
 ///

@@ -11,3 +11,7 @@ returns-clause-cols g c =
 pub returns-clause-pure : goal.returns-clause-pure
 returns-clause-pure g c = λ test says.
     rw (sym (across _ _ c.transpose.ensures.rows), across-back _ _ c.retain_rows.new.grid.table c.transpose-2.ensures.rows) (c.retain_rows.ensures.pure test says)
+
+pub returns-clause-always : goal.returns-clause-always
+returns-clause-always g c = λ test says.
+    rw (sym (across _ _ c.transpose.ensures.rows), across-back _ _ c.retain_rows.new.grid.table c.transpose-2.ensures.rows) (c.retain_rows.ensures.always test says)

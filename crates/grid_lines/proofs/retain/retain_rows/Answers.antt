@@ -3,7 +3,7 @@ use Rattle.std.proofs.Common.{◌≡◌, ◌<◌, ◌≤◌, [], ◌∷◌, ◌�
 use Rattle.std.proofs.lemmas.List.{get_or_default}
 use Rattle.grid_base.proofs.StrideLemmas.{lines_in_order}
 use Rattle.std.proofs.lemmas.Fn.{filter_same}
-use Rattle.grid_lines.proofs.RetainLemmas.{retaining_no, retaining_here, retaining_swap, retaining_all, kept_only}
+use Rattle.grid_lines.proofs.RetainLemmas.{filtered_by, retaining_no, retaining_here, retaining_swap, retaining_all, kept_only}
 use Rattle.grid_lines.proofs.retain.retain_rows.Given.{F-step}
 use Rattle.grid_lines.proofs.retain.retain_rows.Goals as goal
 use Rattle.grid_lines.proofs.retain.retain_rows.Goals.{then-f, then-kept-row, else-kept-row, else-f}
@@ -44,6 +44,9 @@ returns-clause-rows g c =
 
 pub returns-clause-pure : goal.returns-clause-pure
 returns-clause-pure g c = λ test says. filter_same _ test _ says _ _ (returns-clause-rows g c)
+
+pub returns-clause-always : goal.returns-clause-always
+returns-clause-always g c = λ test says. filtered_by _ test says _ _ _ (returns-clause-rows g c)
 
 pub returns-clause-along : goal.returns-clause-along
 returns-clause-along g c = lines_in_order _

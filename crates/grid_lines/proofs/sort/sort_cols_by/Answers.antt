@@ -18,6 +18,10 @@ pub returns-clause-by_number : goal.returns-clause-by_number
 returns-clause-by_number g c = λ n says.
     rw (across-back _ _ c.sort_rows_by-sorted.new.grid.table c.transpose-2.ensures.rows) (c.sort_rows_by-sorted.ensures.by_number n says)
 
+pub returns-clause-always : goal.returns-clause-always
+returns-clause-always g c = λ n says.
+    rw (across-back _ _ c.sort_rows_by-sorted.new.grid.table c.transpose-2.ensures.rows) (c.sort_rows_by-sorted.ensures.always n says)
+
 pub returns-clause-stable : goal.returns-clause-stable
 returns-clause-stable g c =
     rw (sym (c.transpose.ensures.rows ∙ act_is_transposed _), across-back _ _ c.sort_rows_by-sorted.new.grid.table c.transpose-2.ensures.rows) c.sort_rows_by-sorted.ensures.stable

@@ -2,7 +2,7 @@
 use Rattle.std.proofs.Common.{[], refl}
 use Rattle.grid_base.proofs.StrideLemmas.{lines_in_order}
 use Rattle.grid_lines.proofs.OrderLemmas.{shuffled}
-use Rattle.grid_lines.proofs.NumberLemmas.{rising}
+use Rattle.grid_lines.proofs.NumberLemmas.{rising, rising_always}
 use Rattle.grid_lines.proofs.sort.sort_rows_by.Goals as goal
 
 pub returns-clause-permutation : goal.returns-clause-permutation
@@ -13,6 +13,9 @@ returns-clause-sorted g c = λ lt o h. rw (c.in_ok-put_in_order.ensures.rows, c.
 
 pub returns-clause-by_number : goal.returns-clause-by_number
 returns-clause-by_number g c = λ n says. rising g.F.FnMut c.args.compare _ (returns-clause-sorted g c) n says
+
+pub returns-clause-always : goal.returns-clause-always
+returns-clause-always g c = λ n says. rising_always g.F.FnMut c.args.compare _ (returns-clause-sorted g c) n says
 
 pub returns-clause-along : goal.returns-clause-along
 returns-clause-along g c = lines_in_order _
