@@ -1,8 +1,7 @@
 //! Callers of `grid_csv`.
-ghost use Rattle.std.specs.Prelude.{◌≡◌, [], All, IfOk, map};
+ghost use Rattle.std.specs.Prelude.{◌≡◌, [], IfOk, map};
 ghost use Rattle.std.specs.Fmt.{signed_decimal};
 ghost use Rattle.std.specs.String.{string_bytes};
-ghost use Rattle.csv.specs.Reading.{strip_bom};
 ghost use Rattle.text_lines.specs.Numbers.{cell_of};
 ghost use Rattle.grid_csv.specs.Reading.{IsOrMemory, reading, reading_below, records_of, without_header};
 ghost use Rattle.grid_csv.specs.Writing.{IsCsv};
@@ -39,17 +38,10 @@ pub fn headed_numbers(alloc: Global, bytes: &[u8]) -> Result<(Vec<String>, Grid<
 }
 
 /// Returns the sheet that is read from the CSV of one.
-///
-/// Requires: no string begins with a byte order mark.
 pub fn strings_again<A: Allocator>(
     alloc: Global,
     sheet: &Grid<String, A>,
-) -> Result<Grid<String>, CsvError>
-    requires { All (λ row. All (λ x. strip_bom (string_bytes x) ≡ string_bytes x) row)
-        sheet.now.rows }
-    ensures { IfOk result
-        (λ again. map (map string_bytes) again.rows ≡ map (map string_bytes) sheet.now.rows) }
-{
+) -> Result<Grid<String>, CsvError> {
     written_and_read(
         alloc,
         sheet,

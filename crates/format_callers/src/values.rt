@@ -1,9 +1,9 @@
 //! Callers of `grid_json`.
-ghost use Rattle.std.specs.Prelude.{IfOk, option_and_then};
+ghost use Rattle.std.specs.Prelude.{IfOk};
 ghost use Rattle.serde_json.specs.Data.{number};
-ghost use Rattle.serde_json.specs.Find.{as_i64, as_number, of_integer};
+ghost use Rattle.serde_json.specs.Find.{of_integer};
 ghost use Rattle.serde_json.specs.View.{view};
-ghost use Rattle.grid_json.specs.Rows.{GivenBy, IsRows, MayRead};
+ghost use Rattle.grid_json.specs.Rows.{IsRows};
 
 use grid::Grid;
 use grid_json::{RowsError, rows_from_value, rows_to_value};
@@ -11,9 +11,7 @@ use serde_json::Value;
 use std::alloc::{AllocError, Allocator, Global};
 
 /// Reads an array of arrays of integers.
-pub fn numbers(alloc: Global, value: &Value) -> Result<Grid<i64>, RowsError>
-    ensures { MayRead (GivenBy (λ d. option_and_then as_i64 (as_number d))) (view value.now) result }
-{
+pub fn numbers(alloc: Global, value: &Value) -> Result<Grid<i64>, RowsError> {
     rows_from_value(alloc, value, |item| Ok(item.as_i64()))
 }
 

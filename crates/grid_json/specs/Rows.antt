@@ -143,3 +143,8 @@ module _ {T : Type 0} (R : Data → Option T → Type 0) where
   -- memory was refused, or the data of this index may be no row whatever the others are
   abbrev pub IsMemoryOrBad : ℕ → Data → RowsError → Type 0
   IsMemoryOrBad index d e = (e ≡ Memory) ⊎ ((cols : ℕ) → IsBadRow index cols d e)
+
+-- the answer is what is read of this data, where h says which cell an item is
+pub record IsRead {T : Type 0} (h : Data → Option T) (d : Data)
+    (answer : Result (GridValue T) RowsError) : Type 0 where
+  pub is : MayRead (GivenBy h) d answer

@@ -2,7 +2,7 @@
 ghost use Rattle.std.specs.Prelude.{List, Option, IfOk, MatchResult};
 ghost use Rattle.serde_json.specs.Data.{Data};
 ghost use Rattle.serde_json.specs.View.{view};
-ghost use Rattle.grid_json.specs.Rows.{AddsRow, AnswersCell, AnswersItem, GivenBy, IsMemoryOrBad, IsRows, MayBeRow, MayBeRows, MayRead, ReadsBy, WritesBy};
+ghost use Rattle.grid_json.specs.Rows.{AddsRow, AnswersCell, AnswersItem, IsMemoryOrBad, IsRead, IsRows, MayBeRow, MayBeRows, MayRead, ReadsBy, WritesBy};
 
 use crate::RowsError;
 use crate::write::array_of;
@@ -74,7 +74,7 @@ where
     F: Fn(&Value) -> Result<Option<T>, AllocError>,
     requires { F.IsAlwaysCallable read }
     ensures reads { (h : Data → Option T) → ReadsBy F.post read h
-        → MayRead (GivenBy h) (view value.now) result }
+        → IsRead h (view value.now) result }
     ensures answers { MayRead (AnswersItem F.post read) (view value.now) result }
 {
     read_rows(alloc, value, &read)

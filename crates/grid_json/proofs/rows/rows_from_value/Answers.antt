@@ -6,4 +6,4 @@ use Rattle.grid_json.proofs.rows.rows_from_value.Goals as goal
 
 pub returns-clause-reads : goal.returns-clause-reads
 returns-clause-reads g c = λ h by.
-    may_more (AnswersItem (goal.F-post g) c.args.read) (GivenBy h) (λ d cell a. by a.value cell a.answers ∙ ap h a.is_data) _ _ c.read_rows.ensures
+    record { is = may_more (AnswersItem (goal.F-post g) c.args.read) (GivenBy h) (λ d cell a. by a.value cell a.answers ∙ ap h a.is_data) _ _ c.read_rows.ensures }
