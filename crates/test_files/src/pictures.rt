@@ -45,7 +45,7 @@ pub fn colored(alloc: Global, bytes: &[u8]) -> Result<String> {
 }
 
 // The part of 3 rows and 4 columns from row 1 and column 2 on, or the whole of a smaller board.
-fn cut<T: Copy>(grid: Grid<T>) -> Result<Grid<T>, GridError> {
+fn cut(grid: Grid<u8>) -> Result<Grid<u8>, GridError> {
     let (rows, cols) = grid.size();
     if rows < 4 || cols < 6 {
         return Ok(grid);
@@ -64,7 +64,6 @@ fn turned<T: Copy>(alloc: Global, call: &str, mut grid: Grid<T>) -> Result<Grid<
         "flip_rows" => grid.flip_rows(),
         "flip_cols" => grid.flip_cols(),
         "transpose" => grid.transpose(),
-        "cut" => return Ok(cut(grid)?),
         "enlarged_0" => return Ok(enlarged(alloc, &grid, 0)?),
         "enlarged_3" => return Ok(enlarged(alloc, &grid, 3)?),
         _ => bail!("no such call"),
@@ -74,7 +73,11 @@ fn turned<T: Copy>(alloc: Global, call: &str, mut grid: Grid<T>) -> Result<Grid<
 
 /// Returns the gray picture that a call makes of one.
 pub fn gray_turned(alloc: Global, call: &str, bytes: &[u8]) -> Result<Vec<u8>> {
-    let grid = turned(alloc, call, from_pgm(alloc, bytes)?)?;
+    let board = from_pgm(alloc, bytes)?;
+    let grid = match call {
+        "cut" => cut(board)?,
+        _ => turned(alloc, call, board)?,
+    };
     Ok(to_pgm(alloc, &grid, |cell| *cell)?)
 }
 
