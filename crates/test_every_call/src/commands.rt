@@ -125,10 +125,13 @@ fn pushed_and_popped<'a>(start: Start<'a>, board: &mut Board<'a>) -> Result<Answ
         return Ok(Answer::Wrong);
     }
     start.ready();
-    Ok(match push_row_then_pop_row(board, line) {
-        Ok(Ok(_)) => Answer::Done,
-        Ok(Err(_)) => Answer::Stopped,
-        Err(refused) => line_came(Err(refused), len),
+    let popped = match push_row_then_pop_row(board, line) {
+        Ok(popped) => popped,
+        Err(refused) => return Ok(line_came(Err(refused), len)),
+    };
+    Ok(match popped {
+        Ok(_) => Answer::Done,
+        Err(_) => Answer::Stopped,
     })
 }
 
