@@ -1,7 +1,8 @@
 //! Grids written as pictures.
 ghost use Rattle.std.specs.Prelude.{◌≡◌, ◌++◌, ℕ, List, map, IfOk, OnOk};
-ghost use Rattle.std.specs.List.{flat_map};
-ghost use Rattle.grid_pnm.specs.Writing.{WritesBy, raw_picture, pgm_bytes, ppm_bytes};
+ghost use Rattle.std.specs.List.{AllZip, flat_map};
+ghost use Rattle.grid_base.specs.Table.{concat_rows};
+ghost use Rattle.grid_pnm.specs.Writing.{WritesBy, AnswersCell, AnswersColor, MayDrawGrays, MayDrawColors, raw_picture, pgm_bytes, ppm_bytes};
 
 use grid::{Grid, GridLineIter, Order};
 use std::alloc::{AllocError, Allocator};
@@ -20,8 +21,10 @@ pub fn to_pgm<T, A: Allocator, B: Allocator, F: Fn(&T) -> u8>(
     write: F,
 ) -> Result<Vec<u8, B>, AllocError>
     requires { F.IsAlwaysCallable write }
-    ensures { (h : T → ℕ) → WritesBy F.post write h
+    ensures picture { (h : T → ℕ) → WritesBy F.post write h
         → IfOk result (λ bytes. bytes.items ≡ pgm_bytes h grid.now.rows) }
+    ensures answers { IfOk result (λ bytes.
+        MayDrawGrays (AnswersCell F.post write) grid.now.rows bytes.items) }
 {
     let mut bytes = head(alloc, "P5", grid.size())?;
     if grid.order() == Order::RowMajor {
@@ -48,8 +51,10 @@ pub fn to_ppm<T, A: Allocator, B: Allocator, F: Fn(&T) -> [u8; 3]>(
     write: F,
 ) -> Result<Vec<u8, B>, AllocError>
     requires { F.IsAlwaysCallable write }
-    ensures { (h : T → List ℕ) → WritesBy F.post write h
+    ensures picture { (h : T → List ℕ) → WritesBy F.post write h
         → IfOk result (λ bytes. bytes.items ≡ ppm_bytes h grid.now.rows) }
+    ensures answers { IfOk result (λ bytes.
+        MayDrawColors (AnswersColor F.post write) grid.now.rows bytes.items) }
 {
     let mut bytes = head(alloc, "P6", grid.size())?;
     for row in grid.iter_rows() {
@@ -76,8 +81,11 @@ fn push_all<T, B: Allocator, F: Fn(&T) -> u8>(
     write: &F,
 ) -> Result<(), AllocError>
     requires { F.IsAlwaysCallable write.now }
-    ensures { (h : T → ℕ) → WritesBy F.post write.now h
+    ensures samples { (h : T → ℕ) → WritesBy F.post write.now h
         → OnOk result (bytes.new.items ≡ bytes.old.items ++ map h cells.now) }
+    ensures answers { OnOk result ((samples : _)
+        × AllZip (AnswersCell F.post write.now) cells.now samples
+        × (bytes.new.items ≡ bytes.old.items ++ samples)) }
 {
     bytes.reserve(cells.len())?;
     for cell in cells {
@@ -93,8 +101,11 @@ fn push_grays<T, B: Allocator, F: Fn(&T) -> u8>(
     write: &F,
 ) -> Result<(), AllocError>
     requires { F.IsAlwaysCallable write.now }
-    ensures { (h : T → ℕ) → WritesBy F.post write.now h
+    ensures samples { (h : T → ℕ) → WritesBy F.post write.now h
         → OnOk result (bytes.new.items ≡ bytes.old.items ++ map h row.entry) }
+    ensures answers { OnOk result ((samples : _)
+        × AllZip (AnswersCell F.post write.now) row.entry samples
+        × (bytes.new.items ≡ bytes.old.items ++ samples)) }
 {
     for cell in row {
         bytes.push(write(cell))?;
@@ -109,8 +120,11 @@ fn push_colors<T, B: Allocator, F: Fn(&T) -> [u8; 3]>(
     write: &F,
 ) -> Result<(), AllocError>
     requires { F.IsAlwaysCallable write.now }
-    ensures { (h : T → List ℕ) → WritesBy F.post write.now h
+    ensures samples { (h : T → List ℕ) → WritesBy F.post write.now h
         → OnOk result (bytes.new.items ≡ bytes.old.items ++ flat_map h row.entry) }
+    ensures answers { OnOk result ((colors : _)
+        × AllZip (AnswersColor F.post write.now) row.entry colors
+        × (bytes.new.items ≡ bytes.old.items ++ concat_rows colors)) }
 {
     for cell in row {
         bytes.extend_from_slice(&write(cell))?;

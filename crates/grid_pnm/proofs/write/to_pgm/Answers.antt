@@ -1,22 +1,43 @@
--- The storage by rows is the rows joined.
-use Rattle.std.proofs.Common.{◌≡◌, ◌∙◌, ◌++◌, ℕ, List, ap, sym, map, codes, rules}
-use Rattle.std.specs.List.{flat_map}
+-- One row more; the storage by rows is the rows joined.
+use Rattle.std.proofs.Common.{◌≡◌, ◌∙◌, ◌++◌, [], ℕ, List, ap, sym, subst, refl, map, codes, append-nil, rules}
+use Rattle.std.specs.List.{AllZip, flat_map}
 use Rattle.grid_base.specs.declared.order.Order.TheVariants.{RowMajor}
 use Rattle.grid_base.specs.Table.{row_count, col_count, concat_rows}
 use Rattle.grid_base.specs.Order.{storage}
-use Rattle.grid_pnm.specs.Writing.{raw_picture}
+use Rattle.grid_pnm.specs.Writing.{AnswersCell, MayDrawGrays, raw_picture}
 use Rattle.grid_pnm.proofs.LawLemmas.{flat-mapped}
+use Rattle.grid_pnm.proofs.WriteLemmas.{part_put, part_may}
 use Rattle.grid_pnm.proofs.write.to_pgm.Goals as goal
 
+pub loop-row-preserved : goal.loop-row-preserved
+loop-row-preserved g c =
+    let R = AnswersCell (goal.F-post g) c.args.write in
+    let (samples, answered, put) = c.in_ok-push_grays.ensures.answers in
+    record {
+      by = λ h by. part_put _ _ _ _ _ _ (c.loop-row.invariant.by h by) (ap (flat_map (λ row. map h row)) c.in-Some.ensures.steps) (c.in_ok-push_grays.ensures.samples h by);
+      may = part_may R (λ samples. samples) (MayDrawGrays R c.args.grid.now.rows) (λ xs ys. refl) _ _ _ samples _ _ c.loop-row.invariant.may (ap concat_rows c.in-Some.ensures.steps) answered put;
+    }
+
+pub returns-clause-answers : goal.returns-clause-answers
+returns-clause-answers g c =
+    let R = AnswersCell (goal.F-post g) c.args.write in
+    let all = c.loop-row.invariant.may [] (subst (λ rows. AllZip R (concat_rows rows) []) (sym c.in-None.ensures.steps.0) tt) in
+    subst (MayDrawGrays R c.args.grid.now.rows) (append-nil c.loop-row.bytes.items) all
+
 pub returns-then-eq : goal.returns-then-eq
-returns-then-eq g c = λ h writes.
-    let samples : List ℕ = flat_map (λ row. map h row) c.args.grid.now.rows in
+returns-then-eq g c =
+    let R = AnswersCell (goal.F-post g) c.args.write in
+    let rows = c.args.grid.now.rows in
     let order : c.args.grid.now.order ≡ RowMajor = search rules in
-    let cells : c.as_slice.result.now ≡ concat_rows c.args.grid.now.rows = c.as_slice.ensures ∙ ap (λ o. storage o c.args.grid.now.rows) order in
-    let all : map h c.as_slice.result.now ≡ samples = ap (map h) cells ∙ sym (flat-mapped h c.args.grid.now.rows) in
-    let put : c.push_all.new.bytes.items ≡ c.in_ok-bytes.bytes.items ++ map h c.as_slice.result.now = c.in_ok-push_all.ensures h writes in
-    let front : c.in_ok-bytes.bytes.items ++ samples ≡ raw_picture (codes "P5") c.size.result.0 c.size.result.1 samples = c.in_ok-bytes.ensures samples in
-    let sized : raw_picture (codes "P5") c.size.result.0 c.size.result.1 samples ≡ raw_picture (codes "P5") (row_count c.args.grid.now.rows) (col_count c.args.grid.now.rows) samples =
-    ap (λ m. raw_picture (codes "P5") m c.size.result.1 samples) c.size.ensures.rows
-    ∙ ap (λ n. raw_picture (codes "P5") (row_count c.args.grid.now.rows) n samples) c.size.ensures.cols in
-    put ∙ (ap (λ xs. c.in_ok-bytes.bytes.items ++ xs) all ∙ (front ∙ sized))
+    let cells : c.as_slice.result.now ≡ concat_rows rows = c.as_slice.ensures ∙ ap (λ o. storage o rows) order in
+    let drawn : (samples : List ℕ) → c.in_ok-bytes.bytes.items ++ samples ≡ raw_picture (codes "P5") (row_count rows) (col_count rows) samples =
+    λ samples. c.in_ok-bytes.ensures samples
+    ∙ (ap (λ m. raw_picture (codes "P5") m c.size.result.1 samples) c.size.ensures.rows
+    ∙ ap (λ n. raw_picture (codes "P5") (row_count rows) n samples) c.size.ensures.cols) in
+    let (samples, answered, put) = c.in_ok-push_all.ensures.answers in
+    record {
+      picture = λ h writes.
+          let all : map h c.as_slice.result.now ≡ flat_map (λ row. map h row) rows = ap (map h) cells ∙ sym (flat-mapped h rows) in
+          c.in_ok-push_all.ensures.samples h writes ∙ (ap (λ xs. c.in_ok-bytes.bytes.items ++ xs) all ∙ drawn (flat_map (λ row. map h row) rows));
+      answers = record { samples = samples; are_samples = subst (λ xs. AllZip R xs samples) cells answered; is_picture = put ∙ drawn samples };
+    }

@@ -1,9 +1,12 @@
 -- The samples so far, before those of the rows that are left.
 use Rattle.std.proofs.Common.{◌≡◌, ◌++◌, ℕ, List}
-use Rattle.std.specs.List.{flat_map}
-use Rattle.grid_pnm.specs.Writing.{WritesBy, ppm_bytes}
+use Rattle.std.specs.List.{AllZip, flat_map}
+use Rattle.grid_base.specs.Table.{concat_rows}
+use Rattle.grid_pnm.specs.Writing.{WritesBy, AnswersColor, MayDrawColors, ppm_bytes}
 use Rattle.grid_pnm.proofs.write.to_ppm.Given as goal
 
 abbrev pub invariant-loop-row : goal.invariant-loop-row
-invariant-loop-row g l =
-    (h : _ → List ℕ) → WritesBy (goal.F-post g) l.write h → l.bytes.items ++ flat_map (λ row. flat_map h row) l.row-iterator ≡ ppm_bytes h l.fn.grid.rows
+invariant-loop-row g l = record {
+  by : (h : _ → List ℕ) → WritesBy (goal.F-post g) l.write h → l.bytes.items ++ flat_map (λ row. flat_map h row) l.row-iterator ≡ ppm_bytes h l.fn.grid.rows;
+  may : (later : List (List ℕ)) → AllZip (AnswersColor (goal.F-post g) l.write) (concat_rows l.row-iterator) later → MayDrawColors (AnswersColor (goal.F-post g) l.write) l.fn.grid.rows (l.bytes.items ++ concat_rows later);
+}
