@@ -52,7 +52,9 @@ impl<'a, T> Model for Neighbors<'a, T> {
 ///     [1, 2, 3, 4, 5, 6]   neighbors_of(RowMajor, (2, 3), (0, 2), Sides)   ((0, 1), 2), ((1, 2), 6)
 ///     [1, 2, 3, 4, 5, 6]   neighbors_of(RowMajor, (2, 3), (0, 2), All)     ((0, 1), 2), ((1, 1), 5), ((1, 2), 6)
 ///
-/// Requires: the slice has as many cells, there are rows exactly if there are columns, and `at` is in range.
+/// Round a position out of range it gives the cells of the table that touch it.
+///
+/// Requires: the slice has as many cells, and there are rows exactly if there are columns.
 /// Cost: each step takes the same time, in either order; no memory.
 pub fn neighbors_of<T>(
     cells: &[T],

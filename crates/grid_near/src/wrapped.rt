@@ -50,7 +50,9 @@ impl<'a, T> Model for WrappedNeighbors<'a, T> {
 ///     [1, 2, 3, 4]   wrapped_neighbors_of(RowMajor, (1, 4), (0, 0), Sides)   1, 4, 2, 1, with their positions
 ///     [1, 2, 3, 4]   wrapped_neighbors_of(RowMajor, (1, 4), (0, 0), All)     4, 1, 2, 4, 2, 4, 1, 2, with their positions
 ///
-/// Requires: the slice has as many cells, there are rows exactly if there are columns, and `at` is in range.
+/// Round a position out of range it gives none.
+///
+/// Requires: the slice has as many cells, and there are rows exactly if there are columns.
 /// Cost: each step takes the same time, in either order; no memory.
 pub fn wrapped_neighbors_of<T>(
     cells: &[T],
