@@ -1,8 +1,9 @@
 -- A part of a row-major grid that changes places with cells of another, line by line.
-use Rattle.std.proofs.Common.{◌≡◌, ◌⊎◌, ℕ, ◌+◌, ◌*◌, ◌^◌, ◌<◌, ◌≤◌, List, length, refl, sym, ◌∙◌, ap, arith, inl, inr, ⊎_elim}
+use Rattle.std.proofs.Common.{◌≡◌, ◌⊎◌, ℕ, ◌+◌, ◌*◌, ◌^◌, ◌<◌, ◌≤◌, List, ◌++◌, take, drop, length, refl, sym, ◌∙◌, ap, subst, arith, inl, inr, ⊎_elim}
 use Rattle.std.proofs.lemmas.Bool.{cases_lt, cases_eq}
 use Rattle.std.proofs.Math.Nat.{mul-le-mul_right}
-use Rattle.std.specs.List.{slice_get}
+use Rattle.std.proofs.Math.Seq.{take-append_seam}
+use Rattle.std.specs.List.{slice_get, refill}
 use Rattle.grid_base.specs.declared.order.Order.{Order}
 use Rattle.grid_base.specs.declared.order.Order.TheVariants.{RowMajor}
 use Rattle.grid_base.specs.declared.words.Symmetry.TheVariants.{Transpose}
@@ -10,11 +11,13 @@ use Rattle.grid_base.specs.Blocks.{BlockTaken}
 use Rattle.grid_base.specs.GridValue.{GridValue, HoldsSize}
 use Rattle.grid_base.specs.Order.{table_of}
 use Rattle.grid_base.specs.Symmetry.{act}
+use Rattle.grid_base.specs.Table as table
 use Rattle.grid_base.specs.Table.{row_count, col_count, cell}
 use Rattle.grid_base.proofs.ActLemmas.{rows-act, cols-act}
 use Rattle.grid_base.proofs.ViewLemmas.{view-rows, view-cols, view-cell, view-past_cols, view-past_rows}
 use Rattle.grid.specs.View.{grid_value}
-use Rattle.grid.specs.Exchanged.{InRow, InRows, PartTaken}
+use Rattle.grid_view.specs.Value.{ViewValue}
+use Rattle.grid.specs.Exchanged.{InRow, InRows, PartTaken, held}
 use Rattle.grid_commands.proofs.FactorLemmas.{factor_small}
 use Rattle.grid.proofs.SeenLemmas.{seen_rows, seen_cols}
 use Rattle.grid.proofs.ColEditLemmas.{cell-cross}
@@ -43,6 +46,29 @@ module _ {T : Type 0} (m n : ℕ) (old new from : List T) (h : HoldsSize m n (le
       view-cell RowMajor m n new k s (c + x) ls (omega arith)
       ∙ (ap (slice_get new) (omega (arith, at)) ∙ w.taken x lx)
 
+-- past the first cells of a row
+not_first : (row cols i j : ℕ) → (InRow row cols i j → ⊥) → i ≡ row → cols ≤ j
+not_first row cols i j out e = ⊎_elim {C = cols ≤ j} (λ lt. absurd (out (e, lt))) (λ ge. ge) (cases_lt j cols)
+
+-- a row of a view, copied into a row of a grid
+row_written : {T : Type 0} (m n : ℕ) (old new : List T) (h : HoldsSize m n (length old)) (k : HoldsSize m n (length new)) (u : ViewValue T) (at : ℕ × ℕ) (row : ℕ) → at.0 + row < m → at.1 + col_count u.rows ≤ n → BlockTaken ((at.0 + row) * n + at.1) 0 (col_count u.rows) old (table.row u.rows row) new → PartTaken (InRow row (col_count u.rows)) at (grid_value RowMajor m n old h) (held u) (grid_value RowMajor m n new k) (held u)
+row_written m n old new h k u at row ls fits w =
+    record {
+      order = refl;
+      rows = view-rows RowMajor m n new k ∙ sym (view-rows RowMajor m n old h);
+      cols = view-cols RowMajor m n new k ∙ sym (view-cols RowMajor m n old h);
+      left_order = refl;
+      left_rows = refl;
+      left_cols = refl;
+      taken = λ i j is.
+          ap (λ x. cell (table_of RowMajor m n new) (at.0 + x) (at.1 + j)) is.0
+          ∙ (stretch_taken m n old new (table.row u.rows row) h k (at.0 + row) at.1 (col_count u.rows) 0 _ refl fits w j ls is.1
+          ∙ (ap (slice_get (table.row u.rows row)) (omega arith) ∙ ap (λ x. cell u.rows x j) (sym is.0)));
+      others = λ i j out. stretch_kept m n old new (table.row u.rows row) h k (at.0 + row) at.1 (col_count u.rows) 0 _ refl fits w (at.0 + i) (at.1 + j) (λ e le. omega (arith, not_first row (col_count u.rows) i j out (omega (arith, e))));
+      before = λ i j b. stretch_kept m n old new (table.row u.rows row) h k (at.0 + row) at.1 (col_count u.rows) 0 _ refl fits w i j (λ e le. absurd (⊎_elim {C = ⊥} (λ x. omega (arith, x, e)) (λ x. omega (arith, x, le)) b));
+      left_others = λ i j out. refl;
+    }
+
 -- the first cells of a row of a grid that are exchanged with those of a row of another
 pub row_taken : {T : Type 0} (m n p q : ℕ) (old new from left : List T) (h : HoldsSize m n (length old)) (k : HoldsSize m n (length new)) (f : HoldsSize p q (length from)) (l : HoldsSize p q (length left)) (at : ℕ × ℕ) (row cols : ℕ) → at.0 + row < m → row < p → at.1 + cols ≤ n → cols ≤ q → BlockTaken ((at.0 + row) * n + at.1) (row * q) cols old from new → BlockTaken (row * q) ((at.0 + row) * n + at.1) cols from old left → PartTaken (InRow row cols) at (grid_value RowMajor m n old h) (grid_value RowMajor p q from f) (grid_value RowMajor m n new k) (grid_value RowMajor p q left l)
 row_taken m n p q old new from left h k f l at row cols ls lr fits from_fits w v =
@@ -57,13 +83,10 @@ row_taken m n p q old new from left h k f l at row cols ls lr fits from_fits w v
           ap (λ x. cell (table_of RowMajor m n new) (at.0 + x) (at.1 + j)) is.0
           ∙ (stretch_taken m n old new from h k (at.0 + row) at.1 cols (row * q) _ refl fits w j ls is.1
           ∙ (sym (view-cell RowMajor p q from f row j lr (omega (arith, is.1))) ∙ ap (λ x. cell (table_of RowMajor p q from) x j) (sym is.0)));
-      others = λ i j out. stretch_kept m n old new from h k (at.0 + row) at.1 cols (row * q) _ refl fits w (at.0 + i) (at.1 + j) (λ e le. omega (arith, not_in i j out (omega (arith, e))));
+      others = λ i j out. stretch_kept m n old new from h k (at.0 + row) at.1 cols (row * q) _ refl fits w (at.0 + i) (at.1 + j) (λ e le. omega (arith, not_first row cols i j out (omega (arith, e))));
       before = λ i j b. stretch_kept m n old new from h k (at.0 + row) at.1 cols (row * q) _ refl fits w i j (λ e le. absurd (⊎_elim {C = ⊥} (λ x. omega (arith, x, e)) (λ x. omega (arith, x, le)) b));
-      left_others = λ i j out. stretch_kept p q from left old f l row 0 cols _ (row * q) (omega arith) (omega arith) v i j (λ e le. omega (arith, not_in i j out e));
+      left_others = λ i j out. stretch_kept p q from left old f l row 0 cols _ (row * q) (omega arith) (omega arith) v i j (λ e le. omega (arith, not_first row cols i j out e));
     }
-  where
-    not_in : (i j : ℕ) → (InRow row cols i j → ⊥) → i ≡ row → cols ≤ j
-    not_in i j out e = ⊎_elim {C = cols ≤ j} (λ lt. absurd (out (e, lt))) (λ ge. ge) (cases_lt j cols)
 
 -- the same, of grids that a contract sees, and that the stretches are within their cells
 module _ {T : Type 0} (o : Order) (m n : ℕ) (cells : List T) (h : HoldsSize m n (length cells)) (to : GridValue T) (seen : grid_value o m n cells h ≡ to) (s c cols : ℕ) (row_in : s < row_count to.rows) (col_in : c + cols ≤ col_count to.rows) where
@@ -88,6 +111,20 @@ row_exchanged o u m n p q old new other left h k f l to from seen from_seen orde
     let o_is : o ≡ RowMajor = ap (λ x. x.order) seen ∙ order in
     let u_is : u ≡ RowMajor = ap (λ x. x.order) from_seen ∙ from_order in
     rw (← seen, ← from_seen, o_is, u_is) (row_taken m n p q old new other left h k f l at row cols ls lr fits from_fits w v)
+
+-- a vector whose cells were all written anew through a slice
+refilled : {T : Type 0} (xs ws : List T) → length ws ≡ length xs → refill (length xs) xs ws ≡ ws
+refilled xs ws e = ap (λ k. take k (ws ++ drop (length ws) xs)) (sym e) ∙ take-append_seam ws (drop (length ws) xs)
+
+pub row_copied : {T : Type 0} (o : Order) (m n : ℕ) (old cells written : List T) (h : HoldsSize m n (length old)) (k : HoldsSize m n (length (refill (length old) old written))) (to : GridValue T) (u : ViewValue T) → grid_value o m n old h ≡ to → to.order ≡ RowMajor → (at : ℕ × ℕ) (row : ℕ) → at.0 + row < m → at.1 + col_count u.rows ≤ n → cells ≡ old → BlockTaken ((at.0 + row) * n + at.1) 0 (col_count u.rows) cells (table.row u.rows row) written → PartTaken (InRow row (col_count u.rows)) at to (held u) (grid_value o m n (refill (length old) old written) k) (held u)
+row_copied o m n old cells written h k to u seen order at row ls fits same w =
+    let o_is : o ≡ RowMajor = ap (λ x. x.order) seen ∙ order in
+    let cols = col_count u.rows in
+    let line = table.row u.rows row in
+    let start = (at.0 + row) * n + at.1 in
+    let all : written ≡ refill (length old) old written = sym (refilled old written (w.length_stays ∙ ap length same)) in
+    let taken = subst (λ x. BlockTaken start 0 cols x line (refill (length old) old written)) same (subst (λ x. BlockTaken start 0 cols cells line x) all w) in
+    rw (← seen, o_is) (row_written m n old (refill (length old) old written) h k u at row ls fits taken)
 
 module _ {T : Type 0} (at : ℕ × ℕ) where
   -- the same between transposes

@@ -2,6 +2,8 @@
 use Rattle.std.specs.Prelude.{◌≡◌, ◌⊎◌, ℕ, ◌+◌, ◌<◌}
 use Rattle.grid_base.specs.Table.{row_count, col_count, cell}
 use Rattle.grid_base.specs.GridValue.{GridValue}
+use Rattle.grid_base.specs.declared.order.Order.TheVariants.{RowMajor}
+use Rattle.grid_view.specs.Value.{ViewValue}
 
 -- a position is among the first n of row r; is in the first m rows and n columns
 abbrev pub InRow : (r n i j : ℕ) → Type 0
@@ -26,3 +28,7 @@ module _ {T : Type 0} where
           → cell new.rows (at.0 + i) (at.1 + j) ≡ cell to.rows (at.0 + i) (at.1 + j)
       pub before : (i j : ℕ) → (i < at.0) ⊎ (j < at.1) → cell new.rows i j ≡ cell to.rows i j
       pub left_others : (i j : ℕ) → (P i j → ⊥) → cell left.rows i j ≡ cell from.rows i j
+
+-- a row-major grid of the rows that a view shows
+abbrev pub held : {T : Type 0} → ViewValue T → GridValue T
+held v = record { rows = v.rows; order = RowMajor; table = v.table; fits = v.fits }

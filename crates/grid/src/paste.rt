@@ -6,7 +6,7 @@ ghost use Rattle.grid_base.specs.GridValue.{SameSizeAndOrder};
 ghost use Rattle.grid.specs.Pasted.{overlaid, part_filled, IsClipped, IsWithin, CallableInPart, CallableInRow, PartUpdated, CellsUpdated};
 
 use crate::Grid;
-use crate::exchange::exchange_part;
+use crate::exchange::{copy_part, exchange_part};
 use grid_view::GridView;
 use std::alloc::{AllocError, Allocator};
 
@@ -49,6 +49,24 @@ impl<T, A: Allocator> Grid<T, A> {
         let size = copies.size();
         exchange_part(self, &mut copies, at, size);
         Ok(())
+    }
+
+    /// Writes copies of the cells of a view over the cells from position `at` on, of cells that are `Copy`. The call can't
+    /// fail: [`paste`](Grid::paste) makes all clones before its first change.
+    ///
+    ///     [[1, 2, 3], [4, 5, 6]]   paste_copied((0, 1), [[7, 8]])   [[1, 7, 8], [4, 5, 6]]
+    ///
+    /// Requires: the cells are within the grid.
+    /// Cost: one copy for each cell of the view, a line at once where its cells stand side by side in both; no memory.
+    pub fn paste_copied(&mut self, at: (usize, usize), view: &GridView<'_, T>)
+    where
+        T: Copy,
+        requires rows_in { at.0 + row_count view.now.rows ≤ row_count self.old.rows }
+        requires cols_in { at.1 + col_count view.now.rows ≤ col_count self.old.rows }
+        ensures rows { self.new.rows ≡ overlaid (pos at.0, pos at.1) view.now.rows self.old.rows }
+        ensures same { SameSizeAndOrder self.old self.new }
+    {
+        copy_part(self, at, view);
     }
 
     /// Writes clones of the cells of a view over the cells of the grid that it covers, where its first cell lies over the

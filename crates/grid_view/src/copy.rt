@@ -1,7 +1,7 @@
 //! Clones of the cells of a view.
 ghost use Rattle.std.specs.Prelude.{◌≡◌, ◌+◌, ◌*◌, ◌<◌, ◌≤◌, ◌++◌, length, IfOk, IfSome, OnOk, vec_len, vec_capacity};
 ghost use Rattle.grid_base.specs.Clones.{ClonesAreEqual};
-ghost use Rattle.grid_base.specs.Table.{row, row_count, concat_rows};
+ghost use Rattle.grid_base.specs.Table.{row, row_count, col_count, concat_rows};
 ghost use Rattle.grid_base.specs.Order.{storage};
 
 use crate::lines::ViewLineIter;
@@ -41,6 +41,17 @@ fn push_row<T: Clone, A: Allocator>(
     match view.row_slice(r) {
         Some(line) => copies.extend_with_clones(line),
         None => push_line(copies, view.iter_row(r)),
+    }
+}
+
+// Writes copies of the cells of row `r` over those of a slice, one after another.
+fn copy_cells<T: Copy>(view: &GridView<'_, T>, r: usize, to: &mut [T])
+    requires row_in { r < row_count view.now.rows }
+    requires len { length to.old ≡ col_count view.now.rows }
+    ensures { to.new ≡ row view.now.rows r }
+{
+    for col in 0..to.len() {
+        to[col] = *view.get_unchecked(r, col);
     }
 }
 
@@ -118,6 +129,25 @@ impl<'a, T> GridView<'a, T> {
         match order {
             Order::RowMajor => clones_of(alloc, self),
             Order::ColumnMajor => clones_of(alloc, &self.transposed()),
+        }
+    }
+
+    /// Writes copies of the cells of row `r` over those of a slice.
+    ///
+    ///     [[1, 2], [3, 4]]   copy_row(1, [0, 0])   [3, 4]
+    ///
+    /// Requires: there is such a row, and the slice has a cell for each column.
+    /// Cost: one copy for each cell, all at once where they stand side by side in the storage; no memory.
+    pub fn copy_row(&self, r: usize, to: &mut [T])
+    where
+        T: Copy,
+        requires row_in { r < row_count self.now.rows }
+        requires len { length to.old ≡ col_count self.now.rows }
+        ensures { to.new ≡ row self.now.rows r }
+    {
+        match self.row_slice(r) {
+            Some(line) => to.copy_from_slice(line),
+            None => copy_cells(self, r, to),
         }
     }
 }

@@ -1,20 +1,28 @@
 //! Equality of views.
-ghost use Rattle.std.specs.Prelude.{◌≡◌, ◌<◌};
-ghost use lib.Pointwise.{pointwise};
-ghost use Rattle.grid_base.specs.Table.{row, row_count, col_count};
-ghost use Rattle.grid_view.specs.Same.{same_view, same_view_per, same_view_equiv};
+ghost use Rattle.std.specs.Prelude.{◌≡◌, ◌+◌, ◌<◌, ◌≤◌, ◌↔◌, IsTrue};
+ghost use Rattle.grid_base.specs.Table.{row_count, col_count};
+ghost use Rattle.grid_view.specs.Same.{AreSame, same_view, same_view_per, same_view_equiv};
 
 use crate::view::GridView;
 
-// Whether row `r`, which is in range, is the same in two views of one size.
-fn has_same_row<T: PartialEq>(view: &GridView<'_, T>, other: &GridView<'_, T>, r: usize) -> bool
+// A part of at most so many rows and columns is compared cell by cell. Where one view runs along the storage and the other
+// across it, the cells of a small part stay in the cache until the lines beside them are read.
+const SMALL: usize = 8;
+
+// Whether the cells of row `r` are the same in two views, in the columns from the first number to before the second.
+fn has_same_cells<T: PartialEq>(
+    view: &GridView<'_, T>,
+    other: &GridView<'_, T>,
+    r: usize,
+    cols: (usize, usize),
+) -> bool
     requires here { r < row_count view.now.rows }
     requires there { r < row_count other.now.rows }
-    requires cols { col_count view.now.rows ≡ col_count other.now.rows }
-    ensures { result ≡ pointwise T.eq (row view.now.rows r) (row other.now.rows r) }
+    requires cols_here { cols.1 ≤ col_count view.now.rows }
+    requires cols_there { cols.1 ≤ col_count other.now.rows }
+    ensures { IsTrue result ↔ AreSame T.eq view.now.rows other.now.rows (r, r + 1) cols }
 {
-    let (_, cols) = view.size();
-    for col in 0..cols {
+    for col in cols.0..cols.1 {
         if view.get_unchecked(r, col) != other.get_unchecked(r, col) {
             return false;
         }
@@ -22,19 +30,75 @@ fn has_same_row<T: PartialEq>(view: &GridView<'_, T>, other: &GridView<'_, T>, r
     true
 }
 
-// Whether all rows are the same in two views of one size.
-fn has_same_rows<T: PartialEq>(view: &GridView<'_, T>, other: &GridView<'_, T>) -> bool
-    requires rows { row_count view.now.rows ≡ row_count other.now.rows }
-    requires cols { col_count view.now.rows ≡ col_count other.now.rows }
-    ensures { result ≡ same_view T.eq view.now other.now }
+// Whether the cells of a part are the same in two views. The part has the rows from the first number to before the second,
+// and such columns.
+fn has_same_rows<T: PartialEq>(
+    view: &GridView<'_, T>,
+    other: &GridView<'_, T>,
+    rows: (usize, usize),
+    cols: (usize, usize),
+) -> bool
+    requires here { rows.1 ≤ row_count view.now.rows }
+    requires there { rows.1 ≤ row_count other.now.rows }
+    requires cols_here { cols.1 ≤ col_count view.now.rows }
+    requires cols_there { cols.1 ≤ col_count other.now.rows }
+    ensures { IsTrue result ↔ AreSame T.eq view.now.rows other.now.rows rows cols }
 {
-    let (rows, _) = view.size();
-    for row in 0..rows {
-        if !has_same_row(view, other, row) {
+    for row in rows.0..rows.1 {
+        if !has_same_cells(view, other, row, cols) {
             return false;
         }
     }
     true
+}
+
+// The same, in halves: both views go through a small part before they go on.
+fn has_same_halves<T: PartialEq>(
+    view: &GridView<'_, T>,
+    other: &GridView<'_, T>,
+    rows: (usize, usize),
+    cols: (usize, usize),
+) -> bool
+    requires from_row { rows.0 ≤ rows.1 }
+    requires from_col { cols.0 ≤ cols.1 }
+    requires here { rows.1 ≤ row_count view.now.rows }
+    requires there { rows.1 ≤ row_count other.now.rows }
+    requires cols_here { cols.1 ≤ col_count view.now.rows }
+    requires cols_there { cols.1 ≤ col_count other.now.rows }
+    ensures { IsTrue result ↔ AreSame T.eq view.now.rows other.now.rows rows cols }
+{
+    let height = rows.1 - rows.0;
+    let width = cols.1 - cols.0;
+    if height <= SMALL && width <= SMALL {
+        return has_same_rows(view, other, rows, cols);
+    }
+    if height < width {
+        let mid = cols.0 + width / 2;
+        return has_same_halves(view, other, rows, (cols.0, mid))
+            && has_same_halves(view, other, rows, (mid, cols.1));
+    }
+    let mid = rows.0 + height / 2;
+    has_same_halves(view, other, (rows.0, mid), cols)
+        && has_same_halves(view, other, (mid, rows.1), cols)
+}
+
+// Whether all cells are the same in two views of so many rows and columns.
+fn has_same_table<T: PartialEq>(
+    view: &GridView<'_, T>,
+    other: &GridView<'_, T>,
+    size: (usize, usize),
+) -> bool
+    requires rows_here { size.0 ≡ row_count view.now.rows }
+    requires rows_there { size.0 ≡ row_count other.now.rows }
+    requires cols_here { size.1 ≡ col_count view.now.rows }
+    requires cols_there { size.1 ≡ col_count other.now.rows }
+    ensures { result ≡ same_view T.eq view.now other.now }
+{
+    if view.cols.stride == 1 && other.cols.stride == 1 {
+        has_same_rows(view, other, (0, size.0), (0, size.1))
+    } else {
+        has_same_halves(view, other, (0, size.0), (0, size.1))
+    }
 }
 
 /// Two views are equal if they have the same rows; the orders of their storages don't matter.
@@ -44,12 +108,11 @@ impl<'a, T: PartialEq> PartialEq for GridView<'a, T> {
     ghost laws = { same_view_per T.laws };
 
     fn eq(&self, other: &Self) -> bool {
-        let (rows, cols) = self.size();
-        let (other_rows, other_cols) = other.size();
-        if rows != other_rows || cols != other_cols {
+        let size = self.size();
+        if size != other.size() {
             return false;
         }
-        has_same_rows(self, other)
+        has_same_table(self, other, size)
     }
 }
 
