@@ -100,11 +100,7 @@ pub(crate) fn copy_part<T: Copy, A: Allocator>(
 }
 
 // The same in row-major order.
-fn copy_rows<T: Copy, A: Allocator>(
-    to: &mut Grid<T, A>,
-    at: (usize, usize),
-    view: &GridView<'_, T>,
-)
+fn copy_rows<T: Copy, A: Allocator>(to: &mut Grid<T, A>, at: (usize, usize), view: &GridView<'_, T>)
     requires order { to.old.order ≡ RowMajor }
     requires to_rows { at.0 + row_count view.now.rows ≤ row_count to.old.rows }
     requires to_cols { at.1 + col_count view.now.rows ≤ col_count to.old.rows }

@@ -27,7 +27,8 @@
 //!   as `count_neighbors8`; a grid of what a closure makes of them, as `map_neighbors8`, or, many times faster, of their
 //!   counts and sums, as `map_counts8` and `map_sums8`
 //! - views, which copy no cell: `view` and `part`, and `turned`, `get`, `iter_row` and more on a [`GridView`]
-//! - parts: `sub_grid`, `from_view`, `paste`, `paste_clipped`, `fill_part`, `update_part`, `swap_rows`, `swap_cols`
+//! - parts: `sub_grid`, `from_view`, `paste`, `paste_copied`, `paste_clipped`, `fill_part`, `update_part`, `swap_rows`,
+//!   `swap_cols`
 //! - the whole grid: `map`, `map_ref`, `map_indexed`, `update`, `clone`, `==`, `Hash`, `Debug`, `Display`, `pretty`
 //! - turn: `transpose`, `flip_rows`, `flip_cols`, `rotate_left`, `rotate_right`, `rotate_half`, and `apply` of a
 //!   [`Symmetry`], one of [`Symmetry::ALL`], to which [`reduce`] brings a list of [`Move`]s; `lay_out` in an order

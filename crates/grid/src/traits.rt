@@ -58,7 +58,7 @@ impl<T: Clone, A: Allocator + Clone> Clone for Grid<T, A> {
 ///     row-major [1, 2, 3, 4] == column-major [1, 3, 2, 4]   true, both with two columns
 ///
 /// Cost: the sizes are compared first. Where the orders agree, the storages are compared then; else each cell is read
-/// once at most from either grid.
+/// once at most from either grid, part by part, so that both storages are read a cache line at a time.
 impl<T: PartialEq, A: Allocator> PartialEq for Grid<T, A> {
     ghost eq = { same_cells T.eq };
 

@@ -89,32 +89,3 @@ fn push_numbers<T: Whole>(text: &mut String, row: GridLineIter<'_, T>) -> Result
     }
     Ok(())
 }
-
-#[cfg(test)]
-mod tests {
-    use super::*;
-    use std::test::Fail;
-
-    #[test]
-    fn writes(rt: HostRuntime) -> Result<(), Fail> {
-        let mut grid: Grid<u8> = Grid::from_vec(vec![in rt.alloc(); 1, 0, 0, 2, 1, 0]?, 3);
-        for _ in 0..2 {
-            let text = to_text(rt.alloc(), &grid, |x| match x {
-                0 => '.',
-                1 => '#',
-                _ => 'é',
-            })?;
-            assert!(rt; text.as_str() == "#..\né#.\n" || text.as_str() == "#é\n.#\n..\n");
-            grid.transpose();
-        }
-        Ok(())
-    }
-
-    #[test]
-    fn numbers_are_written(rt: HostRuntime) -> Result<(), Fail> {
-        let grid: Grid<i64> = Grid::from_vec(vec![in rt.alloc(); 1, -20, 3, i64::MIN]?, 2);
-        let text = to_words(rt.alloc(), &grid)?;
-        assert_eq!(rt; text.as_str(), "1 -20\n3 -9223372036854775808\n");
-        Ok(())
-    }
-}

@@ -20,7 +20,13 @@ mod laws;
 #[cfg(test)]
 mod least;
 #[cfg(test)]
+mod lines;
+#[cfg(test)]
+mod paths;
+#[cfg(test)]
 mod run_laws;
+#[cfg(test)]
+mod texts;
 #[cfg(test)]
 mod views;
 #[cfg(test)]

@@ -71,11 +71,14 @@ fn compared(alloc: Global, board: &Grid<i64>, ask: Ask<'_>) -> Result<String, Al
 fn paste(alloc: Global, board: &mut Grid<i64>, ask: Ask<'_>) -> Result<String, AllocError> {
     let stamp = stamp(alloc, ask, 2)?;
     let (at, view) = (ask.position(0), turned(&stamp.view(), ask, 3));
-    if is_within(board, at, view.size()) {
-        shown(alloc, board.paste(at, &view))
-    } else {
-        String::from_str(alloc, "out of range")
+    if !is_within(board, at, view.size()) {
+        return String::from_str(alloc, "out of range");
     }
+    if ask.call == "paste_copied" {
+        board.paste_copied(at, &view);
+        return String::from_str(alloc, "copied");
+    }
+    shown(alloc, board.paste(at, &view))
 }
 
 fn paste_clipped(alloc: Global, board: &mut Grid<i64>, ask: Ask<'_>) -> Result<String, AllocError> {
@@ -108,7 +111,7 @@ fn write(alloc: Global, board: &mut Grid<i64>, ask: Ask<'_>) -> Result<String, A
 pub fn told(alloc: Global, board: &mut Grid<i64>, ask: Ask<'_>) -> Result<String, AllocError> {
     match ask.call {
         "compare" => compared(alloc, board, ask),
-        "paste" => paste(alloc, board, ask),
+        "paste" | "paste_copied" => paste(alloc, board, ask),
         "paste_clipped" => paste_clipped(alloc, board, ask),
         _ => write(alloc, board, ask),
     }

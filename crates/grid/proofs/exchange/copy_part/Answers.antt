@@ -30,8 +30,8 @@ returns-in-ColumnMajor g c =
     let width : col_count c.transposed.result.rows ≡ row_count view.rows = ap col_count c.transposed.ensures.act ∙ cols-act Transpose view.rows view.table in
     let order = c.transpose-in-ColumnMajor.ensures.order ∙ (ap flipped (copied.ensures.order ∙ c.transpose.ensures.order) ∙ flipped-flipped c.args.to.now.order) in
     let back : view.rows ≡ act Transpose c.transposed.result.rows = sym (ap (act Transpose) c.transposed.ensures.act ∙ across-across view.rows view.table) in
-    let part = 
-        subst (λ n. PartTaken (InRows (col_count view.rows) n) (c.args.at.1, c.args.at.0) c.transpose.new.self (held c.transposed.result) copied.new.to (held c.transposed.result)) width
-        (subst (λ m. PartTaken (InRows m (col_count c.transposed.result.rows)) (c.args.at.1, c.args.at.0) c.transpose.new.self (held c.transposed.result) copied.new.to (held c.transposed.result)) height copied.ensures) in
+    let part =
+    subst (λ n. PartTaken (InRows (col_count view.rows) n) (c.args.at.1, c.args.at.0) c.transpose.new.self (held c.transposed.result) copied.new.to (held c.transposed.result)) width
+    (subst (λ m. PartTaken (InRows m (col_count c.transposed.result.rows)) (c.args.at.1, c.args.at.0) c.transpose.new.self (held c.transposed.result) copied.new.to (held c.transposed.result)) height copied.ensures) in
     part_across c.args.at (row_count view.rows) (col_count view.rows) c.args.to.now (held view) c.transpose-in-ColumnMajor.new.self (held view) c.transpose.new.self (held c.transposed.result) copied.new.to (held c.transposed.result)
     c.transpose.ensures.rows c.transposed.ensures.act c.transpose-in-ColumnMajor.ensures.rows back order refl part

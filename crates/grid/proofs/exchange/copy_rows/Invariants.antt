@@ -1,4 +1,3 @@
-use Rattle.std.proofs.Common.{length}
 use Rattle.grid_base.specs.Table.{col_count}
 use Rattle.grid.specs.Exchanged.{InRows, PartTaken, held}
 use Rattle.grid.proofs.exchange.copy_rows.Given as goal
