@@ -113,7 +113,7 @@ row_exchanged o u m n p q old new other left h k f l to from seen from_seen orde
     rw (← seen, ← from_seen, o_is, u_is) (row_taken m n p q old new other left h k f l at row cols ls lr fits from_fits w v)
 
 -- a vector whose cells were all written anew through a slice
-refilled : {T : Type 0} (xs ws : List T) → length ws ≡ length xs → refill (length xs) xs ws ≡ ws
+pub refilled : {T : Type 0} (xs ws : List T) → length ws ≡ length xs → refill (length xs) xs ws ≡ ws
 refilled xs ws e = ap (λ k. take k (ws ++ drop (length ws) xs)) (sym e) ∙ take-append_seam ws (drop (length ws) xs)
 
 pub row_copied : {T : Type 0} (o : Order) (m n : ℕ) (old cells written : List T) (h : HoldsSize m n (length old)) (k : HoldsSize m n (length (refill (length old) old written))) (to : GridValue T) (u : ViewValue T) → grid_value o m n old h ≡ to → to.order ≡ RowMajor → (at : ℕ × ℕ) (row : ℕ) → at.0 + row < m → at.1 + col_count u.rows ≤ n → cells ≡ old → BlockTaken ((at.0 + row) * n + at.1) 0 (col_count u.rows) cells (table.row u.rows row) written → PartTaken (InRow row (col_count u.rows)) at to (held u) (grid_value o m n (refill (length old) old written) k) (held u)

@@ -1,41 +1,19 @@
 -- Tables that are the same cell by cell and storage by storage.
-use Rattle.std.proofs.Common.{◌≡◌, ℕ, zero, suc, ◌<◌, Bool, true, false, List, [], ◌∷◌, length, refl, sym, ap, ◌∙◌, ◌*◌, arith}
+use Rattle.std.proofs.Common.{◌≡◌, ℕ, ◌<◌, Bool, true, false, List, length, sym, ap, ◌∙◌, ◌*◌, arith}
 use Rattle.std.specs.Prelude.{Some}
-use Rattle.std.specs.Cmp.{first_so, second_so}
 use Rattle.std.specs.List.{slice_get}
 use lib.Pointwise.{pointwise}
 use Rattle.grid_base.specs.declared.order.Order.{Order}
 use Rattle.grid_base.specs.Table.{row, row_count, col_count, cell, IsTable}
 use Rattle.grid_base.specs.Order.{storage, place}
 use Rattle.grid_base.proofs.StorageLemmas.{length-storage, get-storage, has_place}
-use Rattle.grid_view.proofs.SameLemmas.{row_at}
+use Rattle.grid_view.proofs.SameLemmas.{row_at, row_is, same_at, same_by}
 use Rattle.std.proofs.lemmas.Option.{slice_get_within}
 
 bool_iff : (a b : Bool) → (a ≡ true → b ≡ true) → (b ≡ true → a ≡ true) → a ≡ b
 bool_iff true b f g = sym (f refl)
 bool_iff false true f g = g refl
 bool_iff false false f g = refl
-
-module _ {X : Type 0} (E : X → X → Bool) where
-  -- the items of an index are the same, where all are
-  same_at : (xs ys : List X) (i : ℕ) (x y : X) → pointwise E xs ys ≡ true → slice_get xs i ≡ Some x → slice_get ys i ≡ Some y → E x y ≡ true
-  same_at [] ys i x y h e f = absurd (cc)
-  same_at (a ∷ xs) [] i x y h e f = absurd (cc)
-  same_at (a ∷ xs) (b ∷ ys) zero x y h e f = let p : a ≡ x = cc in let q : b ≡ y = cc in rw (p, q) at (first_so (E a b) (pointwise E xs ys) h)
-  same_at (a ∷ xs) (b ∷ ys) (suc i) x y h e f = same_at xs ys i x y (second_so (E a b) (pointwise E xs ys) h) e f
-
-  -- all are the same, where those of each index are
-  same_by : (xs ys : List X) → length xs ≡ length ys → ((i : ℕ) (x y : X) → slice_get xs i ≡ Some x → slice_get ys i ≡ Some y → E x y ≡ true) → pointwise E xs ys ≡ true
-  same_by [] [] len each = refl
-  same_by [] (b ∷ ys) len each = absurd (omega (arith, len))
-  same_by (a ∷ xs) [] len each = absurd (omega (arith, len))
-  same_by (a ∷ xs) (b ∷ ys) len each = rw (each 0 a b refl refl) (same_by xs ys (omega (arith, len)) (λ i x y e f. each (suc i) x y e f))
-
--- an item of a table is its row
-row_is : {X : Type 0} (t : List (List X)) (r : ℕ) (x : List X) → slice_get t r ≡ Some x → row t r ≡ x
-row_is [] r x e = absurd (cc)
-row_is (y ∷ t) zero x e = cc
-row_is (y ∷ t) (suc r) x e = row_is t r x e
 
 module _ {X : Type 0} (E : X → X → Bool) (o : Order) (t u : List (List X)) (T : IsTable t) (U : IsTable u) (rows : row_count t ≡ row_count u) (cols : col_count t ≡ col_count u) where
   rows_same : pointwise E (storage o t) (storage o u) ≡ true → pointwise (pointwise E) t u ≡ true

@@ -8,6 +8,7 @@ use Rattle.std.specs.Borrow.{MutBor}
 use Rattle.std.specs.Fn.{Mut, Called, CalledAtMut}
 use Rattle.std.specs.List.{slice_get, refill}
 use borrow.Rule.Slice.PartMut.{mid_of, put_mid}
+use Rattle.grid.proofs.ExchangeLemmas.{refilled}
 use Rattle.grid_base.specs.declared.order.Order.{Order}
 use Rattle.grid_base.specs.declared.order.Order.TheVariants.{RowMajor}
 use Rattle.grid_base.specs.ClosureCalls.{MapsThrough, MapsTo}
@@ -141,12 +142,6 @@ calls_change g f change says x y h k =
     let one = says k.shown k.left h k.called in
     (sym k.leaves ∙ (one.0 ∙ ap change k.shows), one.1)
 
--- as many cells as there were, written over all of them
-refill_all : {T : Type 0} (xs ws : List T) → length ws ≡ length xs → refill (length xs) xs ws ≡ ws
-refill_all xs ws len =
-    ap (λ l. take (length xs) (ws ++ l)) (drop_all (length ws) xs (omega (arith, len)))
-    ∙ (ap (take (length xs)) (append-nil ws) ∙ take_all (length xs) ws (omega (arith, len)))
-
 -- the rows of a grid, whose storage a call rewrote as those of a table
 module _ {F T : Type 0} (step : F → List T → List T → F → Type 0) (f : F) (v : GridValue T) (o : Order) (m n : ℕ) (now : List T) (order_is : v.order ≡ o) (rows_are : m ≡ row_count v.rows) (cols_are : n ≡ col_count v.rows) (stored : now ≡ storage v.order v.rows) (below : row_count v.rows * col_count v.rows < 2 ^ 64) where
   pub stored_size : HoldsSize m n (length now)
@@ -159,7 +154,7 @@ module _ {F T : Type 0} (step : F → List T → List T → F → Type 0) (f : F
 
   pub stored_rewritten : (new : List T) → length new ≡ length now → MapsTo step f (table_of o m n now) (table_of o m n new) → MapsTo step f v.rows (table_of v.order (row_count v.rows) (col_count v.rows) (refill (length (storage v.order v.rows)) (storage v.order v.rows) new))
   stored_rewritten new len made =
-      let cells : refill (length (storage v.order v.rows)) (storage v.order v.rows) new ≡ new = refill_all (storage v.order v.rows) new (len ∙ ap length stored) in
+      let cells : refill (length (storage v.order v.rows)) (storage v.order v.rows) new ≡ new = refilled (storage v.order v.rows) new (len ∙ ap length stored) in
       rw (cells, order_is, ← rows_are, ← cols_are) (subst (λ t. MapsTo step f t (table_of o m n new)) rows_stored made)
 
 -- what R says of each call, it says of each row
