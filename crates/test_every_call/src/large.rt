@@ -1,15 +1,17 @@
-//! Larger inputs: texts with a fault at each line and word, a way of 77 steps, and the words of want of memory.
+//! Larger inputs: texts, sheets and rows of JSON with a fault at each line and word, a way of 77 steps, and the words of want of memory.
 use crate::state::{Answer, came};
 use grid::{Grid, GridError, Order, ShapeError};
-use grid_csv::CsvError;
-use grid_json::{ReadError, RowsError};
+use grid_csv::{CsvError, from_csv};
+use grid_json::{ReadError, RowsError, rows_from_value};
 use grid_paths::{Steps, cheapest, cheapest_path, distances, shortest_path};
 use grid_pnm::PnmError;
 use grid_text::{TextError, from_text, from_words, try_from_words};
+use serde_json::Value;
 use std::alloc::{AllocError, Global};
 use std::cell::Cell;
 use std::fmt::Display;
 use std::io;
+use test_support::counted::Counted;
 use test_support::fixtures::{Heap, ORDERS};
 use test_support::fuse::Fuse;
 
@@ -86,36 +88,133 @@ fn char_fault(line: usize, flaw: Flaw) -> TextError {
     }
 }
 
-fn is_fault(read: Result<Grid<u32>, TextError>, wanted: TextError) -> bool {
+fn number(word: &str) -> Option<u32> {
+    word.parse::<u32>().ok()
+}
+
+// Whether a call that read something with a flaw refused it by this fault.
+fn is_told<T: Drop, E: PartialEq + Drop>(read: Result<T, E>, wanted: E) -> bool {
     match read {
         Ok(_) => false,
         Err(fault) => fault == wanted,
     }
 }
 
-fn number(word: &str) -> Option<u32> {
-    word.parse::<u32>().ok()
-}
-
-// Whether the calls that read a text tell of this flaw.
-fn is_told(alloc: Global, line: usize, flaw: Flaw) -> Result<bool, AllocError> {
+// Whether the calls that read words tell of this flaw.
+fn is_told_of_words(
+    alloc: Global,
+    heap: &Heap,
+    line: usize,
+    flaw: Flaw,
+) -> Result<bool, AllocError> {
     let words = flawed(alloc, " ", line, flaw)?;
-    let read = from_words(alloc, words.as_str(), number);
-    let tried = try_from_words(alloc, words.as_str(), |word| Ok(number(word)));
-    if !is_fault(read, word_fault(line, flaw)) || !is_fault(tried, word_fault(line, flaw)) {
-        return Ok(false);
-    }
-    let letters = flawed(alloc, "", line, flaw)?;
-    let read = from_text(alloc, letters.as_str(), |letter| letter.to_digit(10));
-    Ok(is_fault(read, char_fault(line, flaw)))
+    let read = from_words(heap, words.as_str(), number);
+    let tried = try_from_words(heap, words.as_str(), |word| Ok(number(word)));
+    Ok(is_told(read, word_fault(line, flaw)) && is_told(tried, word_fault(line, flaw)))
 }
 
-fn try_flaw<R: Print + AllocGlobal>(rt: &R, line: usize, flaw: Flaw) -> io::Result<u64> {
-    if is_told(rt.alloc(), line, flaw)? {
-        return Ok(1);
+// The same of characters.
+fn is_told_of_letters(
+    alloc: Global,
+    heap: &Heap,
+    line: usize,
+    flaw: Flaw,
+) -> Result<bool, AllocError> {
+    let letters = flawed(alloc, "", line, flaw)?;
+    let read = from_text(heap, letters.as_str(), |letter| letter.to_digit(10));
+    Ok(is_told(read, char_fault(line, flaw)))
+}
+
+// The same of a sheet. Its cells are counted, since its memory isn't.
+fn is_told_of_sheet(
+    alloc: Global,
+    heap: &Heap,
+    line: usize,
+    flaw: Flaw,
+) -> Result<bool, AllocError> {
+    let sheet = flawed(alloc, ",", line, flaw)?;
+    let read = from_csv(alloc, sheet.as_str().as_bytes(), |field| {
+        Ok(number(field).map(|value| Counted::new(heap, value)))
+    });
+    let record = line.saturating_add(1);
+    let wanted = match flaw {
+        Flaw::Bad(word) => CsvError::BadField {
+            record,
+            field: word.saturating_add(1),
+        },
+        Flaw::Short => CsvError::Ragged {
+            record,
+            len: WORDS - 1,
+            cols: WORDS,
+        },
+    };
+    Ok(is_told(read, wanted))
+}
+
+// The words as rows of JSON, where one that is no number is null.
+fn flawed_rows(alloc: Global, row: usize, flaw: Flaw) -> Result<Value, AllocError> {
+    let text = flawed(alloc, ",", row, flaw)?;
+    let mut rows = Vec::new(alloc);
+    for line in text.as_str().lines() {
+        let mut cells = Vec::new(alloc);
+        for word in line.split(",") {
+            cells.push(match number(word) {
+                Some(number) => Value::from(number),
+                None => Value::Null,
+            })?;
+        }
+        rows.push(Value::Array(cells))?;
     }
-    println!(rt; "FAILED a flaw in line {line}")?;
-    Ok(0)
+    Ok(Value::Array(rows))
+}
+
+// The same of rows of JSON.
+fn is_told_of_rows(alloc: Global, heap: &Heap, row: usize, flaw: Flaw) -> Result<bool, AllocError> {
+    let rows = flawed_rows(alloc, row, flaw)?;
+    let read = rows_from_value(alloc, &rows, |item| {
+        Ok(item.as_u64().map(|_| Counted::new(heap, 7)))
+    });
+    let wanted = match flaw {
+        Flaw::Bad(col) => RowsError::BadCell { row, col },
+        Flaw::Short => RowsError::Ragged {
+            row,
+            len: WORDS - 1,
+            cols: WORDS,
+        },
+    };
+    Ok(is_told(read, wanted))
+}
+
+// What is read where a flaw is.
+const READ: [&str; 4] = ["words", "letters", "a sheet", "rows of JSON"];
+
+fn is_told_of(
+    alloc: Global,
+    heap: &Heap,
+    read: &str,
+    line: usize,
+    flaw: Flaw,
+) -> Result<bool, AllocError> {
+    match read {
+        "words" => is_told_of_words(alloc, heap, line, flaw),
+        "letters" => is_told_of_letters(alloc, heap, line, flaw),
+        "a sheet" => is_told_of_sheet(alloc, heap, line, flaw),
+        _ => is_told_of_rows(alloc, heap, line, flaw),
+    }
+}
+
+// Reads what has this flaw. Its fault is told, and nothing is held then.
+fn try_flaw<R: Print + AllocGlobal>(rt: &R, line: usize, flaw: Flaw) -> io::Result<u64> {
+    let mut told = 0u64;
+    for read in READ {
+        let heap = Fuse::new(rt.alloc(), u64::MAX);
+        if is_told_of(rt.alloc(), &heap, read, line, flaw)? && heap.held() == 0 {
+            told = told.saturating_add(1);
+        } else {
+            println!(rt; "FAILED a flaw in line {line} of {read}")?;
+        }
+    }
+    Ok(told)
 }
 
 fn try_flaws<R: Print + AllocGlobal>(rt: &R) -> io::Result<()> {
@@ -128,7 +227,7 @@ fn try_flaws<R: Print + AllocGlobal>(rt: &R) -> io::Result<()> {
             told = told.saturating_add(try_flaw(rt, line, Flaw::Short)?);
         }
     }
-    println!(rt; "flaws of texts: {told} are told")
+    println!(rt; "flaws of what is read: {told} are told")
 }
 
 // The side of the board of the long way, and where the way ends.
