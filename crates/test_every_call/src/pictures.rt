@@ -1,18 +1,18 @@
 //! Boards as pictures, and boards made larger.
 use crate::state::{Answer, Call, Numbers, Start, came};
 use grid_pnm::laws::{pgm_written_and_read, ppm_written_and_read};
-use grid_pnm::{enlarged, from_pgm, from_ppm, read_header, to_pgm, to_ppm};
+use grid_pnm::{PnmError, enlarged, from_pgm, from_ppm, read_header, to_pgm, to_ppm};
 use std::alloc::AllocError;
 
 pub const CALLS: [Call; 8] = [
     Call("grid_pnm::read_header", 1, None, None),
-    Call("grid_pnm::from_pgm", 1, None, None),
-    Call("grid_pnm::from_ppm", 1, None, None),
+    Call("grid_pnm::from_pgm", 3, None, None),
+    Call("grid_pnm::from_ppm", 3, None, None),
     Call("grid_pnm::to_pgm", 1, None, Some(1)),
     Call("grid_pnm::to_ppm", 1, None, Some(1)),
     Call("grid_pnm::pgm_written_and_read", 1, None, None),
     Call("grid_pnm::ppm_written_and_read", 1, None, None),
-    Call("grid_pnm::enlarged", 3, None, None),
+    Call("grid_pnm::enlarged", 5, None, None),
 ];
 
 fn sample(cell: &u32) -> u8 {
@@ -33,6 +33,40 @@ fn color_read(start: Start<'_>) -> Result<Answer, AllocError> {
     let picture = to_ppm(start.alloc, &start.numbers()?, |cell| [sample(cell); 3])?;
     start.ready();
     Ok(came(from_ppm(start.heap, picture.as_slice())))
+}
+
+// Pictures in decimals: gray, and its last sample above the greatest; colored, and the same.
+const GRAY: [&[u8]; 2] = [b"P2 2 1 9 7 9", b"P2 2 1 9 7 10"];
+
+const COLORED: [&[u8]; 2] = [b"P3 1 2 9 1 2 3 4 5 6", b"P3 1 2 9 1 2 3 4 5 10"];
+
+fn picture(pictures: [&'static [u8]; 2], start: Start<'_>) -> &'static [u8] {
+    if start.case == 1 {
+        pictures[0]
+    } else {
+        pictures[1]
+    }
+}
+
+// What a picture of a case came to, the last of which has a fault.
+fn plain_came<T: Drop>(start: Start<'_>, read: Result<T, PnmError>) -> Answer {
+    match read {
+        Err(PnmError::AboveMax { .. }) if start.case == 2 => Answer::Done,
+        Ok(_) if start.case == 2 => Answer::Wrong,
+        read => came(read),
+    }
+}
+
+fn plain_read(start: Start<'_>, name: &str) -> Answer {
+    if start.size != (1, 1) {
+        return Answer::Skipped;
+    }
+    start.ready();
+    if name == "grid_pnm::from_pgm" {
+        plain_came(start, from_pgm(start.heap, picture(GRAY, start)))
+    } else {
+        plain_came(start, from_ppm(start.heap, picture(COLORED, start)))
+    }
 }
 
 // Of many cells or few, each as often as the case says.
@@ -66,6 +100,9 @@ fn written(start: Start<'_>, name: &str) -> Result<Answer, AllocError> {
 
 pub fn call(start: Start<'_>, name: &str) -> Result<Answer, AllocError> {
     match name {
+        "grid_pnm::from_pgm" | "grid_pnm::from_ppm" if start.case > 0 => {
+            Ok(plain_read(start, name))
+        }
         "grid_pnm::read_header" | "grid_pnm::from_pgm" => read(start, name),
         "grid_pnm::from_ppm" => color_read(start),
         name => written(start, name),
