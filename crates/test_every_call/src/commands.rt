@@ -1,10 +1,10 @@
 //! Commands, one by one and in runs, at once and deferred, and scripts.
-use crate::state::{Answer, Board, Call, Start, came, line_came};
+use crate::state::{Answer, Board, Call, Start, came, came_of, line_came};
 use grid::{Command, Order, Symmetry, Tally, run};
 use grid_deferred::{Deferred, run_deferred};
 use grid_laws::{push_row_then_pop_row, run_deferred_by_least, step_by_least};
 use grid_play::laws::plays_alike;
-use grid_play::{Script, play};
+use grid_play::{Script, ScriptFault, play};
 use std::alloc::AllocError;
 use test_support::counted::Counted;
 use test_support::fixtures::Heap;
@@ -17,7 +17,7 @@ pub const CALLS: [Call; 10] = [
     Call("grid_deferred::run_deferred", 1, None, None),
     Call("grid_laws::run_deferred_by_least", 1, None, None),
     Call("grid_laws::push_row_then_pop_row", 1, None, None),
-    Call("Script::parse", 1, None, None),
+    Call("Script::parse", 2, None, None),
     Call("grid_play::play", 2, None, None),
     Call("grid_play::plays_alike", 1, None, None),
 ];
@@ -98,11 +98,23 @@ fn ran<'a>(start: Start<'a>, board: &mut Board<'a>, name: &str) -> Result<Answer
 
 const SCRIPT: &[u8] = b"ColumnMajor 2 1 3 2 4\npush_row 5 6\nrotate_left\nrow 0\nfill 7\npop_col\n";
 
+// A script whose last line is no command.
+const BAD_SCRIPT: &[u8] = b"RowMajor 1 5\npush_row 6\nno_command\n";
+
+fn bad_parsed(start: Start<'_>) -> Answer {
+    match Script::parse(start.heap, BAD_SCRIPT) {
+        Err(ScriptFault::BadCommand(3)) => Answer::Done,
+        Ok(_) => Answer::Wrong,
+        Err(fault) => came_of(&fault),
+    }
+}
+
 fn played(start: Start<'_>, name: &str) -> Answer {
     if start.size != (1, 1) || start.order == Order::ColumnMajor {
         return Answer::Skipped;
     }
     match name {
+        "Script::parse" if start.case == 1 => bad_parsed(start),
         "Script::parse" => came(Script::parse(start.heap, SCRIPT)),
         "grid_play::play" => came(play(start.heap, SCRIPT, start.case == 1)),
         _ => played_alike(start),

@@ -1,12 +1,12 @@
 //! Calls that make a board of a size and an order: of defaults, clones, what a closure makes, a vector, rows or a view.
 use crate::state::{Answer, Board, Call, Line, Start, both_came, came};
-use grid::{Grid, GridError, GridView};
+use grid::{Grid, GridError, GridView, ShapeError};
 use std::alloc::AllocError;
 use std::convert::TryFrom;
 use test_support::counted::Counted;
 use test_support::fixtures::Heap;
 
-pub const CALLS: [Call; 17] = [
+pub const CALLS: [Call; 18] = [
     Call("Grid::new", 1, Some(1), None),
     Call("Grid::new_with_order", 1, Some(1), None),
     Call("Grid::init", 1, Some(1), None),
@@ -24,6 +24,7 @@ pub const CALLS: [Call; 17] = [
     Call("Grid::try_from of a list lent", 1, Some(1), None),
     Call("Grid::try_from of rows lent", 1, Some(1), None),
     Call("Grid::new of too many cells", 4, None, None),
+    Call("Grid::try_from of what is no table", 3, Some(0), None),
 ];
 
 // A board of what a closure makes.
@@ -133,6 +134,24 @@ fn of_list<'a>(
     Ok(came(Board::try_from(&lent)))
 }
 
+// Vectors that are no table, which are dropped: a line to be cut into rows of none, and rows of two lengths, also lent.
+fn no_table(start: Start<'_>) -> Result<Answer, AllocError> {
+    start.prepare();
+    let line = start.line(1)?;
+    let mut rows = start.lines(1, 2)?;
+    rows.push(start.line(1)?)?;
+    start.ready();
+    let made = match start.case {
+        0 => Board::try_from((line, 0usize)),
+        1 => Board::try_from(rows),
+        _ => Board::try_from(&rows),
+    };
+    Ok(match made {
+        Err(ShapeError::Shape { .. } | ShapeError::Ragged { .. }) => Answer::Done,
+        _ => Answer::Wrong,
+    })
+}
+
 // Sizes whose number of cells passes `usize::MAX`.
 fn too_many(start: Start<'_>) -> Answer {
     let Start { heap, order, .. } = start;
@@ -155,6 +174,7 @@ pub fn call<'a>(start: Start<'a>, board: &mut Board<'a>, name: &str) -> Result<A
         "Grid::from_view" => Ok(from_view(start, &board.view())),
         "Grid::try_from of a vector lent" => Ok(of_vector(start, board)),
         "Grid::new of too many cells" => Ok(too_many(start)),
+        "Grid::try_from of what is no table" => no_table(start),
         "Grid::try_from of rows"
         | "Grid::try_from of a list lent"
         | "Grid::try_from of rows lent" => {
