@@ -1,6 +1,6 @@
 //! Calls that copy cells of a board, and calls that write cells over.
 use crate::state::{Answer, Board, Call, Start, came};
-use grid::{Grid, Order};
+use grid::{Grid, GridError, Order};
 use std::alloc::AllocError;
 use std::cell::Cell;
 
@@ -17,7 +17,7 @@ pub const CALLS: [Call; 13] = [
     Call("Grid::update", 1, Some(0), Some(1)),
     Call("Grid::update_part", 1, Some(0), Some(1)),
     Call("Grid::set", 1, Some(0), Some(1)),
-    Call("Grid::map", 1, Some(1), Some(1)),
+    Call("Grid::map", 2, Some(1), Some(1)),
 ];
 
 // A part of the board: nothing, its first row, its first column, its last cell, all; where there is one.
@@ -127,10 +127,13 @@ fn set<'a>(start: Start<'a>, board: &mut Board<'a>) -> Answer {
             }
         }
     }
+    if board.set(start.size.0, 0, start.given(3)).is_some() {
+        return Answer::Wrong;
+    }
     Answer::Done
 }
 
-// Maps the board by value. Where the call is refused, the board comes back.
+// Maps the board by value. Where the call is refused, the board comes back, and is dropped where it becomes the error.
 fn map<'a>(start: Start<'a>, board: &mut Board<'a>) -> Answer {
     let moved = std::mem::replace(board, Grid::empty(start.heap));
     match moved.map(|cell| start.cell(cell.value().wrapping_add(1))) {
@@ -138,9 +141,13 @@ fn map<'a>(start: Start<'a>, board: &mut Board<'a>) -> Answer {
             *board = mapped;
             Answer::Done
         }
-        Err(back) => {
+        Err(back) if start.case == 0 => {
             *board = back;
             Answer::Refused
+        }
+        Err(back) => {
+            let _fault = GridError::from(back);
+            Answer::Stopped
         }
     }
 }

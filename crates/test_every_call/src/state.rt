@@ -263,7 +263,7 @@ pub fn line_came<'a>(
 ) -> Answer {
     match outcome {
         Ok(()) => Answer::Done,
-        Err(refused) if is_line(&refused.line, len) => came_of(&refused.fault),
+        Err(refused) if is_line(&refused.line, len) => came_of(&GridError::from(refused)),
         Err(_) => Answer::Wrong,
     }
 }
@@ -283,7 +283,7 @@ pub fn lines_came<'a>(
                 }
             }
             if refused.lines.len() == count {
-                came_of(&refused.fault)
+                came_of(&GridError::from(refused))
             } else {
                 Answer::Wrong
             }
@@ -299,7 +299,9 @@ pub fn board_came<'a>(
 ) -> Answer {
     match outcome {
         Ok(()) => Answer::Done,
-        Err(refused) if is_board(&refused.grid, size, order) => came_of(&refused.fault),
+        Err(refused) if is_board(&refused.grid, size, order) => {
+            came_of(&GridError::from(refused))
+        }
         Err(_) => Answer::Wrong,
     }
 }
