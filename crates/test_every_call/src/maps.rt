@@ -11,15 +11,15 @@ pub const CALLS: [Call; 16] = [
     Call("Grid::map_neighbors8", 1, Some(1), Some(1)),
     Call("Grid::map_wrapped_neighbors4", 1, Some(1), Some(1)),
     Call("Grid::map_wrapped_neighbors8", 1, Some(1), Some(1)),
-    Call("Grid::map_counts4", 1, Some(4), Some(1)),
-    Call("Grid::map_counts8", 1, Some(4), Some(1)),
-    Call("Grid::map_sums4", 1, Some(4), Some(1)),
-    Call("Grid::map_sums8", 1, Some(4), Some(1)),
+    Call("Grid::map_counts4", 1, Some(4), Some(2)),
+    Call("Grid::map_counts8", 1, Some(4), Some(2)),
+    Call("Grid::map_sums4", 1, Some(4), Some(2)),
+    Call("Grid::map_sums8", 1, Some(4), Some(2)),
     Call("Grid::map_wrapped_counts4", 1, None, Some(1)),
     Call("Grid::map_wrapped_counts8", 1, None, Some(1)),
     Call("Grid::map_wrapped_sums4", 1, None, Some(1)),
     Call("Grid::map_wrapped_sums8", 1, None, Some(1)),
-    Call("Grid::positions", 2, None, Some(1)),
+    Call("Grid::positions", 3, None, Some(1)),
 ];
 
 fn is_odd(cell: &Counted<'_>) -> bool {
@@ -30,18 +30,27 @@ fn low(cell: &Counted<'_>) -> u8 {
     (cell.value() % 200) as u8
 }
 
+// Of those that are open at the edges both closures are counted.
 fn counted<'a>(start: Start<'a>, board: &Board<'a>, name: &str) -> Answer {
+    let odd = |cell: &Counted<'_>| {
+        start.called();
+        is_odd(cell)
+    };
+    let few = |cell: &Counted<'_>| {
+        start.called();
+        low(cell)
+    };
     match name {
-        "Grid::map_counts4" => came(board.map_counts4(is_odd, |_, count| start.cell(count.into()))),
-        "Grid::map_counts8" => came(board.map_counts8(is_odd, |_, count| start.cell(count.into()))),
+        "Grid::map_counts4" => came(board.map_counts4(odd, |_, count| start.cell(count.into()))),
+        "Grid::map_counts8" => came(board.map_counts8(odd, |_, count| start.cell(count.into()))),
         "Grid::map_wrapped_counts4" => {
             came(board.map_wrapped_counts4(is_odd, |_, count| start.cell(count.into())))
         }
         "Grid::map_wrapped_counts8" => {
             came(board.map_wrapped_counts8(is_odd, |_, count| start.cell(count.into())))
         }
-        "Grid::map_sums4" => came(board.map_sums4(low, |_, sum| start.cell(sum.into()))),
-        "Grid::map_sums8" => came(board.map_sums8(low, |_, sum| start.cell(sum.into()))),
+        "Grid::map_sums4" => came(board.map_sums4(few, |_, sum| start.cell(sum.into()))),
+        "Grid::map_sums8" => came(board.map_sums8(few, |_, sum| start.cell(sum.into()))),
         "Grid::map_wrapped_sums4" => {
             came(board.map_wrapped_sums4(low, |_, sum| start.cell(sum.into())))
         }
@@ -52,11 +61,11 @@ fn counted<'a>(start: Start<'a>, board: &Board<'a>, name: &str) -> Answer {
     }
 }
 
-// The positions of the cells that are all or none of the board, by the case.
+// The positions of all cells, of none, or of those that are odd, by the case.
 fn positions<'a>(start: Start<'a>, board: &Board<'a>) -> Answer {
-    came(board.positions(start.heap, |_| {
+    came(board.positions(start.heap, |cell| {
         start.called();
-        start.case == 0
+        start.case == 0 || (start.case == 2 && is_odd(cell))
     }))
 }
 
