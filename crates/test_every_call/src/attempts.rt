@@ -1,5 +1,5 @@
 //! A call on all small boards, with all memory and with each request refused in turn.
-use crate::state::{Answer, Call, Start, is_board};
+use crate::state::{Answer, Board, Call, Start, is_board};
 use crate::{commands, copies, csv, edits, json, lines, makers, maps, paths, pictures, texts};
 use grid::Order;
 use std::alloc::{AllocError, Global};
@@ -45,10 +45,23 @@ struct Seen {
     held: u64,
 }
 
+// Gives the vector of a board room to spare.
+fn give_room(board: &mut Board<'_>) -> Result<(), AllocError> {
+    let rows = board.rows();
+    if board.expand_rows(1).is_err() {
+        return Err(AllocError);
+    }
+    board.delete_rows(rows, 1);
+    Ok(())
+}
+
 // Makes the call on a new board, which is then dropped.
 fn made(start: Start<'_>, group: Group, name: &str) -> Result<Answer, AllocError> {
     start.prepare();
     let mut board = start.board(start.size, start.order)?;
+    if !is_refused_on(start.size) && start.order == Order::ColumnMajor {
+        give_room(&mut board)?;
+    }
     let answer = match group {
         Group::Commands => commands::call(start, &mut board, name)?,
         Group::Copies => copies::call(start, &mut board, name)?,
@@ -162,7 +175,7 @@ fn printed<R: Print>(
 }
 
 // Whether requests are refused on a board of this size: one of at most two rows and columns. Larger boards have memory
-// for all.
+// for all, and in column-major order room to spare.
 fn is_refused_on((rows, cols): (usize, usize)) -> bool {
     rows <= 2 && cols <= 2
 }
