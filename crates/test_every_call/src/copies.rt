@@ -12,7 +12,7 @@ pub const CALLS: [Call; 13] = [
     Call("Grid::fill", 1, Some(1), None),
     Call("Grid::fill_part", 4, None, None),
     Call("Grid::paste", 3, None, None),
-    Call("Grid::paste_clipped", 4, None, None),
+    Call("Grid::paste_clipped", 6, None, None),
     Call("Grid::fill_with", 1, Some(0), Some(1)),
     Call("Grid::update", 1, Some(0), Some(1)),
     Call("Grid::update_part", 1, Some(0), Some(1)),
@@ -85,12 +85,14 @@ fn paste<'a>(start: Start<'a>, board: &mut Board<'a>) -> Result<Answer, AllocErr
     Ok(came(board.paste((0, 0), &view)))
 }
 
-// Pastes two rows of two cells within, over the upper left corner, over the lower right one, and outside.
+// Pastes two rows of two cells within, over each corner, and outside.
 fn paste_clipped<'a>(start: Start<'a>, board: &mut Board<'a>) -> Result<Answer, AllocError> {
     let at = match start.case {
         0 => (0, 0),
         1 => (-1, -1),
         2 => (1, 1),
+        3 => (-1, 1),
+        4 => (1, -1),
         _ => (-5, 7),
     };
     let pasted = start.board((2, 2), Order::ColumnMajor)?;

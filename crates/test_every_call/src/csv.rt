@@ -70,7 +70,8 @@ fn csv_written_and_read<'a>(start: Start<'a>) -> Result<Answer, AllocError> {
 }
 
 pub fn call(start: Start<'_>, name: &str) -> Result<Answer, AllocError> {
-    if start.order == Order::ColumnMajor || start.size.0 != start.size.1 || start.size.0 > 2 {
+    let few = start.order == Order::RowMajor && start.size.0 <= 2 && start.size.1 <= 2;
+    if !few {
         return Ok(Answer::Skipped);
     }
     match name {

@@ -9,8 +9,8 @@ pub const CALLS: [Call; 19] = [
     Call("Grid::push_col", 1, None, None),
     Call("Grid::insert_row", 2, None, None),
     Call("Grid::insert_col", 2, None, None),
-    Call("Grid::insert_rows", 3, None, None),
-    Call("Grid::insert_cols", 3, None, None),
+    Call("Grid::insert_rows", 6, None, None),
+    Call("Grid::insert_cols", 6, None, None),
     Call("Grid::pop_row", 1, Some(1), None),
     Call("Grid::pop_col", 1, Some(1), None),
     Call("Grid::remove_row", 4, None, None),
@@ -19,8 +19,8 @@ pub const CALLS: [Call; 19] = [
     Call("Grid::expand_cols", 3, None, None),
     Call("Grid::prepend_rows", 3, None, None),
     Call("Grid::prepend_cols", 3, None, None),
-    Call("Grid::append_rows", 3, None, None),
-    Call("Grid::append_cols", 3, None, None),
+    Call("Grid::append_rows", 4, None, None),
+    Call("Grid::append_cols", 4, None, None),
     Call("Grid::split_off_rows", 4, None, None),
     Call("Grid::split_off_cols", 4, None, None),
     Call("Grid::resize", 6, None, None),
@@ -59,17 +59,23 @@ fn col_pushed<'a>(start: Start<'a>, board: &mut Board<'a>) -> Result<Answer, All
     Ok(line_came(push_col(board, line), len))
 }
 
-// So many lines of this length, put before the first line.
+// No line of this length, one or two, put before the first line or behind the last.
 fn several_put<'a>(
     start: Start<'a>,
     board: &mut Board<'a>,
     at: LineAt,
     len: usize,
 ) -> Result<Answer, AllocError> {
-    let lines = start.lines(start.case, len)?;
+    let count = start.case % 3;
+    let lines = start.lines(count, len)?;
     start.ready();
     let put = insert_several(board, at, lines);
-    Ok(lines_came(put, start.case, len))
+    Ok(lines_came(put, count, len))
+}
+
+// How many lines another board has.
+fn joined_count(start: Start<'_>) -> usize {
+    if start.case == 2 { 1 } else { 2 }
 }
 
 // The other board: in the same order, in the other order, or empty.
@@ -83,7 +89,7 @@ fn other_of<'a>(
     };
     let (size, order) = match start.case {
         0 => (size, start.order),
-        1 => (size, other),
+        1 | 2 => (size, other),
         _ => ((0, 0), other),
     };
     let board = start.board(size, order)?;
@@ -91,7 +97,7 @@ fn other_of<'a>(
 }
 
 fn rows_joined<'a>(start: Start<'a>, board: &mut Board<'a>) -> Result<Answer, AllocError> {
-    let (other, size, order) = other_of(start, (2, fitting(start.size.1)))?;
+    let (other, size, order) = other_of(start, (joined_count(start), fitting(start.size.1)))?;
     if !other.is_empty() && !board.fits_row(other.cols()) {
         return Ok(Answer::Wrong);
     }
@@ -100,7 +106,7 @@ fn rows_joined<'a>(start: Start<'a>, board: &mut Board<'a>) -> Result<Answer, Al
 }
 
 fn cols_joined<'a>(start: Start<'a>, board: &mut Board<'a>) -> Result<Answer, AllocError> {
-    let (other, size, order) = other_of(start, (fitting(start.size.0), 2))?;
+    let (other, size, order) = other_of(start, (fitting(start.size.0), joined_count(start)))?;
     if !other.is_empty() && !board.fits_col(other.rows()) {
         return Ok(Answer::Wrong);
     }
@@ -176,13 +182,14 @@ fn joined_or_split<'a>(
 
 pub fn call<'a>(start: Start<'a>, board: &mut Board<'a>, name: &str) -> Result<Answer, AllocError> {
     let (rows, cols) = start.size;
+    let at = if start.case < 3 { (0, 0) } else { start.size };
     match name {
         "Grid::push_row" => row_pushed(start, board),
         "Grid::push_col" => col_pushed(start, board),
         "Grid::insert_row" => row_put(start, board, LineAt::Row(start.case.min(rows))),
         "Grid::insert_col" => col_put(start, board, LineAt::Col(start.case.min(cols))),
-        "Grid::insert_rows" => several_put(start, board, LineAt::Row(0), fitting(cols)),
-        "Grid::insert_cols" => several_put(start, board, LineAt::Col(0), fitting(rows)),
+        "Grid::insert_rows" => several_put(start, board, LineAt::Row(at.0), fitting(cols)),
+        "Grid::insert_cols" => several_put(start, board, LineAt::Col(at.1), fitting(rows)),
         name => joined_or_split(start, board, name),
     }
 }
