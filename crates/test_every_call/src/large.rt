@@ -1,4 +1,5 @@
-//! Larger inputs: texts, sheets and rows of JSON with a fault at each line and word, a way of 77 steps, and the words of want of memory.
+//! Larger inputs: texts, sheets and rows of JSON with a fault at each line and word, a way of 77 steps, and the words of want
+//! of memory.
 use crate::state::{Answer, came};
 use grid::{Grid, GridError, Order, ShapeError};
 use grid_csv::{CsvError, from_csv};
