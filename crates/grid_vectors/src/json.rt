@@ -5,7 +5,7 @@ ghost use Rattle.grid_json.specs.Content.{whole, unsigned_content};
 use grid::Grid;
 use grid_json::{Cell, ReadError, from_value, to_value};
 use serde_json::Value;
-use std::alloc::{AllocError, AllocFailed, Global};
+use std::alloc::{AllocError, Global};
 use std::process::Abort;
 use std::test::Fail;
 
@@ -101,14 +101,5 @@ fn faults_before_the_refused_cell(rt: HostRuntime) -> Result<(), Fail> {
     assert_eq!(rt; early, Some(ReadError::BadCell(0)));
     let late = refusal::<Scarce>(rt.alloc(), "[-1,[13]]")?;
     assert_eq!(rt; late, Some(ReadError::BadCols));
-    Ok(())
-}
-
-#[test]
-fn refused_memory(rt: HostRuntime) -> Result<(), Fail> {
-    assert_eq!(rt; ReadError::from(AllocError), ReadError::Memory);
-    let refused = ReadError::from(AllocFailed { value: 7u8 });
-    assert_eq!(rt; refused, ReadError::Memory);
-    assert_eq!(rt; refused.to_string(rt.alloc())?.as_str(), "out of memory");
     Ok(())
 }

@@ -48,18 +48,6 @@ fn keeps_what_is_turned_back(rt: HostRuntime) -> Result<(), Fail> {
 }
 
 #[test]
-fn pops_what_was_pushed(rt: HostRuntime) -> Result<(), Fail> {
-    let mut grid = grid_with(rt.alloc(), WIDE, Order::ColumnMajor)?;
-    let line = vec![in rt.alloc(); 7, 8, 9]?;
-    assert!(rt; grid.fits_row(line.len()));
-    match grid_laws::push_row_then_pop_row(&mut grid, line) {
-        Ok(Ok(Some(popped))) => assert_eq!(rt; popped.as_slice(), [7, 8, 9].as_slice()),
-        _ => panic!(rt; "there is memory, and a row"),
-    }
-    assert_rows(&rt, rt.alloc(), &grid, WIDE, Order::ColumnMajor)
-}
-
-#[test]
 fn puts_a_column_as_a_row_across(rt: HostRuntime) -> Result<(), Fail> {
     let mut grid: Grid<u32> = Grid::empty(rt.alloc());
     let mut other: Grid<u32> = Grid::empty(rt.alloc());

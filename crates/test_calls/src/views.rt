@@ -44,6 +44,15 @@ fn cell_of(view: &GridView<'_, i64>, (row, col): (usize, usize)) -> Option<i64> 
     }
 }
 
+// The cells of a row of a view, copied over those of a line, or the line as it was where there is no such row.
+fn copied(alloc: Global, view: &GridView<'_, i64>, r: usize) -> Result<Vec<i64>, AllocError> {
+    let mut line = vec![in alloc; 0; view.cols()]?;
+    if r < view.rows() && line.len() == view.cols() {
+        view.copy_row(r, &mut line);
+    }
+    Ok(line)
+}
+
 // The part of a board that the first four words say, through the symmetry of the fifth.
 fn read(alloc: Global, board: &Grid<i64>, ask: Ask<'_>) -> Result<String, AllocError> {
     let (at, size) = (ask.position(0), ask.position(2));
@@ -55,6 +64,7 @@ fn read(alloc: Global, board: &Grid<i64>, ask: Ask<'_>) -> Result<String, AllocE
         "sub_grid" => told_made(alloc, board.sub_grid(at, size)),
         "from_view" => told_made(alloc, Grid::from_view(alloc, ask.order(5), &view)),
         "to_vec" => shown(alloc, view.to_vec(alloc, ask.order(5))?),
+        "copy_row" => shown(alloc, copied(alloc, &view, ask.number(5))?),
         "get_unchecked" => shown(alloc, cell_of(&view, ask.position(5))),
         _ => Err(AllocError),
     }

@@ -1,6 +1,6 @@
 //! What no line of a case tells. Iterators for writing, and those with positions, over all small tables, in both orders,
-//! beside the plain program; iterators that are dropped early. Where memory is refused (`test_refusals` has the calls that a
-//! case tells): texts and scripts, request by request, carried lines, and cells that can't be cloned.
+//! beside the plain program; iterators that are dropped early. Where memory is refused (`test_every_call` has each call,
+//! `test_refusals` what a case tells): scripts request by request, carried lines, and cells that can't be cloned.
 #![tactic(auto)]
 
 #[cfg(test)]
@@ -17,7 +17,5 @@ mod iterators;
 mod memory;
 #[cfg(test)]
 mod play;
-#[cfg(test)]
-mod texts;
 #[cfg(test)]
 mod views;

@@ -23,34 +23,6 @@ fn starved_grid_of<'a>(
     cut(cells, cols, order)
 }
 
-// A grid of the columns of a view, with one request for its cells.
-fn check_from_view(
-    rt: &impl Abort,
-    alloc: Global,
-    order: Order,
-    into: Order,
-    granted: u64,
-) -> Result<(), Fail> {
-    let heap = Fuse::new(alloc, 0);
-    let grid = starved_grid_of(alloc, &heap, &numbered(alloc, 2, 3)?, order)?;
-    heap.grant(granted);
-    let made = Grid::from_view(&heap, into, &grid.view().transposed());
-    assert_eq!(rt; made.is_ok(), granted != 0);
-    Ok(())
-}
-
-#[test]
-fn makes_a_grid_of_a_view_with_one_request(rt: HostRuntime) -> Result<(), Fail> {
-    for order in ORDERS {
-        for into in ORDERS {
-            for granted in 0..2u64 {
-                check_from_view(&rt, rt.alloc(), order, into, granted)?;
-            }
-        }
-    }
-    Ok(())
-}
-
 // Writes a column of its own over another, or a value over one, and returns whether memory was granted.
 fn write_column(grid: &mut Grid<u32, &Heap>, stamp: &Grid<u32>, by_value: bool) -> Option<bool> {
     if grid.rows() < 2 || grid.cols() < 3 || stamp.rows() != 2 || stamp.cols() != 1 {

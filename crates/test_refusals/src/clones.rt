@@ -1,11 +1,10 @@
-//! Calls whose clones are granted one by one, with memory for all.
-use crate::state::{answered, parsed, told_made, with_grid};
+//! Commands whose clones are granted one by one, with memory for all.
+use crate::state::{answered, parsed, with_grid};
 use grid::{Command, Grid, Tally, run};
 use grid_deferred::{Deferred, run_deferred};
 use grid_play::Script;
 use std::alloc::{AllocError, Global};
 use std::cell::Cell;
-use std::convert::TryFrom;
 use test_support::fixtures::{Fragile, cut};
 use test_support::requests::{Attempt, Told, told_in_turn};
 
@@ -100,63 +99,6 @@ fn commands_of<'a>(
     Ok(all)
 }
 
-fn fill<'a>(alloc: Global, grid: &mut Cells<'a>, cell: Fragile<'a>) -> Result<Told, AllocError> {
-    let filled = grid.fill(cell);
-    with_grid(answered(alloc, filled)?, grid)
-}
-
-// The part of two rows and two columns from the second column on.
-fn sub_grid(alloc: Global, grid: &Cells<'_>) -> Result<Told, AllocError> {
-    if grid.rows() < 2 || grid.cols() < 3 {
-        return Err(AllocError);
-    }
-    told_made(alloc, grid.sub_grid((0, 1), (2, 2)))
-}
-
-// The first two rows, as a list of vectors.
-fn two_rows<'a>(
-    alloc: Global,
-    granted: &'a Cell<u64>,
-) -> Result<Vec<Vec<Fragile<'a>>>, AllocError> {
-    let mut rows = Vec::new(alloc);
-    rows.push(vec![in alloc; fragile(granted, 1), fragile(granted, 2)]?)?;
-    rows.push(vec![in alloc; fragile(granted, 3), fragile(granted, 4)]?)?;
-    Ok(rows)
-}
-
-fn list_lent(alloc: Global, clones: &Cell<u64>, granted: u64) -> Result<Told, AllocError> {
-    let rows = two_rows(alloc, clones)?;
-    clones.set(granted);
-    told_made(alloc, Grid::try_from(&rows))
-}
-
-fn rows_lent(alloc: Global, clones: &Cell<u64>, granted: u64) -> Result<Told, AllocError> {
-    let rows = two_rows(alloc, clones)?;
-    let lent: Vec<&Vec<Fragile<'_>>> = rows.iter().collect(alloc)?;
-    clones.set(granted);
-    told_made(alloc, Grid::try_from(&lent))
-}
-
-// Does the call of this name on a grid, with so many clones.
-fn by_name(
-    alloc: Global,
-    name: &str,
-    grid: &mut Cells<'_>,
-    clones: &Cell<u64>,
-    granted: u64,
-) -> Result<Told, AllocError> {
-    let cols = grid.cols();
-    match name {
-        "clone" => told_made(alloc, grid.clone()),
-        "sub_grid" => sub_grid(alloc, grid),
-        "cells_lent" => told_made(alloc, Grid::try_from((grid.flatten(), cols))),
-        "cells_and_length_lent" => told_made(alloc, Grid::try_from((grid.flatten(), &cols))),
-        "list_lent" => list_lent(alloc, clones, granted),
-        "rows_lent" => rows_lent(alloc, clones, granted),
-        _ => Err(AllocError),
-    }
-}
-
 // Does the commands of a script in this way, with so many clones.
 fn by_commands<'a>(
     alloc: Global,
@@ -186,13 +128,7 @@ impl Attempt for Cloning<'_> {
         let mut grid = cells_of(alloc, &clones, &grid)?;
         let commands = commands_of(alloc, &clones, commands)?;
         clones.set(granted);
-        match self.0 {
-            "run" | "run_deferred" | "step" | "step_deferred" => {
-                by_commands(alloc, self.0, &mut grid, commands)
-            }
-            "fill" => fill(alloc, &mut grid, fragile(&clones, 9)),
-            name => by_name(alloc, name, &mut grid, &clones, granted),
-        }
+        by_commands(alloc, self.0, &mut grid, commands)
     }
 }
 

@@ -7,14 +7,11 @@
 
 mod clones;
 mod commands;
-mod conversions;
-mod joins;
 mod makers;
 mod pictures;
 mod runs;
 mod sorts;
 mod state;
-mod texts;
 mod whole;
 
 use std::alloc::{AllocError, Global};
@@ -29,13 +26,9 @@ fn told(alloc: Global, kind: &str, name: &str, start: &str) -> Result<String, Al
         "run" => runs::told(alloc, start),
         "grid" => whole::told(alloc, name, start),
         "make" => makers::told(alloc, name, start),
-        "convert" => conversions::told(alloc, name, start),
         "clones" => clones::told(alloc, name, start),
-        "join" => joins::told(alloc, name, start),
-        "text" => texts::told(alloc, name, start),
         "picture" => pictures::told(alloc, name, start),
         "sort" => sorts::told(alloc, name, start),
-        "rows" => sorts::told_rows(alloc, name, start),
         _ => Err(AllocError),
     }
 }

@@ -2,38 +2,11 @@
 use crate::state::{Starved, parsed, told_made};
 use grid::{Grid, GridError, Order};
 use std::alloc::{AllocError, Global};
-use std::cell::Cell;
 use test_support::fixtures::Heap;
 use test_support::fuse::Fuse;
 use test_support::requests::{Attempt, Told, told_in_turn};
 
 type Made<'a> = Result<Starved<'a>, GridError>;
-
-// Adds to a line how often a closure was called.
-fn told_with_calls(alloc: Global, made: Made<'_>, calls: usize) -> Result<Told, AllocError> {
-    let Told { done, mut line } = told_made(alloc, made)?;
-    write!(&mut line, " {calls} calls")?;
-    Ok(Told { done, line })
-}
-
-// Ten times the row and the column, in a grid of this size.
-fn from_fn(
-    alloc: Global,
-    heap: &Heap,
-    (rows, cols): (usize, usize),
-    order: Option<Order>,
-) -> Result<Told, AllocError> {
-    let calls = Cell::new(0usize);
-    let number = |(row, col): (usize, usize)| {
-        calls.set(calls.get().wrapping_add(1));
-        (row % 1000 * 10 + col % 1000) as i64
-    };
-    let made = match order {
-        None => Grid::from_fn(heap, rows, cols, number),
-        Some(order) => Grid::from_fn_with_order(heap, rows, cols, order, number),
-    };
-    told_with_calls(alloc, made, calls.get())
-}
 
 // A grid that has room for so many cells. Of the room it is told whether it is enough.
 fn with_capacity(
@@ -71,12 +44,6 @@ fn by_name(
 ) -> Result<Told, AllocError> {
     let size = (rows, cols);
     match name {
-        "new" => told_made(alloc, Starved::new(heap, rows, cols)),
-        "new_with_order" => told_made(alloc, Starved::new_with_order(heap, rows, cols, order)),
-        "init" => told_made(alloc, Starved::init(heap, rows, cols, 7)),
-        "init_with_order" => told_made(alloc, Starved::init_with_order(heap, rows, cols, order, 7)),
-        "from_fn" => from_fn(alloc, heap, size, None),
-        "from_fn_with_order" => from_fn(alloc, heap, size, Some(order)),
         "with_capacity" => with_capacity(alloc, Grid::with_capacity(heap, rows, cols), size),
         "with_capacity_and_order" => {
             let made = Grid::with_capacity_and_order(heap, rows, cols, order);

@@ -1,8 +1,6 @@
-//! Sorts of rows and of columns, and the rows as vectors.
-use crate::state::{Starved, answered, started, with_grid};
-use grid_lines::{
-    into_rows, sort_cols_by, sort_cols_by_key, sort_rows_by, sort_rows_by_key, to_rows,
-};
+//! Sorts of rows and of columns.
+use crate::state::{answered, started, with_grid};
+use grid_lines::{sort_cols_by, sort_cols_by_key, sort_rows_by, sort_rows_by_key};
 use std::alloc::{AllocError, Global};
 use test_support::fuse::Fuse;
 use test_support::requests::{Attempt, Told, told_in_turn};
@@ -27,35 +25,6 @@ impl Attempt for Sort<'_> {
     }
 }
 
-// Tells the rows that the grid became, or the grid that came back.
-fn moved(alloc: Global, grid: Starved<'_>) -> Result<Told, AllocError> {
-    match into_rows(grid) {
-        Ok(rows) => answered::<_, AllocError>(alloc, Ok(rows)),
-        Err(grid) => with_grid(answered::<(), _>(alloc, Err(AllocError))?, &grid),
-    }
-}
-
-// The rows of the grid of a script, moved or cloned.
-#[derive(Clone, Copy)]
-struct Rows<'s>(&'s str, &'s str);
-
-impl Attempt for Rows<'_> {
-    fn attempt(&self, alloc: Global, granted: u64) -> Result<Told, AllocError> {
-        let heap = Fuse::new(alloc, 0);
-        let grid = started(&heap, self.1)?.grid;
-        heap.grant(granted);
-        match self.0 {
-            "into_rows" => moved(alloc, grid),
-            "to_rows" => with_grid(answered(alloc, to_rows(&grid))?, &grid),
-            _ => Err(AllocError),
-        }
-    }
-}
-
 pub fn told(alloc: Global, name: &str, script: &str) -> Result<String, AllocError> {
     told_in_turn(alloc, &Sort(name, script))
-}
-
-pub fn told_rows(alloc: Global, name: &str, script: &str) -> Result<String, AllocError> {
-    told_in_turn(alloc, &Rows(name, script))
 }
