@@ -1,6 +1,7 @@
 //! Rows and columns by their content: kept, sorted, rolled, written, rewritten one by one; a grid as vectors of its rows.
 #![tactic(auto)]
 
+mod across;
 mod numbers;
 mod retain;
 mod rewrite;

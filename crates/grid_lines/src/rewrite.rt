@@ -7,6 +7,7 @@ ghost use Rattle.grid_base.specs.Table.{row_count, col_count, transposed};
 ghost use Rattle.grid_lines.specs.Brought.{brought, taken_back};
 ghost use Rattle.grid_lines.specs.Rewritten.{AreRewritten, RewritesBy};
 
+use crate::across::runs_across;
 use grid::{Grid, Order};
 use std::alloc::Allocator;
 
@@ -16,9 +17,49 @@ use std::alloc::Allocator;
 ///     [[3, 1, 2], [6, 5, 4]]   rewrite_rows(grid, |row| row.reverse())   [[2, 1, 3], [4, 5, 6]]
 ///
 /// Requires: the closure can always be called.
-/// Cost: one call for each row; in a column-major grid also two swaps for each cell, by which each row comes to the front
-/// of the storage and goes back; no memory.
+/// Cost: one call for each row; no memory. In a column-major grid also two swaps for each cell, by which each row comes to
+/// the front of the storage and goes back, or, of 64 rows and columns or more, two times [`lay_out`](Grid::lay_out).
 pub fn rewrite_rows<T, A: Allocator, F: FnMut(&mut [T])>(grid: &mut Grid<T, A>, f: F)
+    requires { F.IsAlwaysCallable f }
+    ensures rows { AreRewritten F.FnMut f grid.old.rows grid.new.rows }
+    ensures pure { (change : List T → List T) → RewritesBy F.step f change
+        → grid.new.rows ≡ map change grid.old.rows }
+    ensures row_count { row_count grid.new.rows ≡ row_count grid.old.rows }
+    ensures col_count { col_count grid.new.rows ≡ col_count grid.old.rows }
+    ensures order { grid.new.order ≡ grid.old.order }
+{
+    if runs_across(grid) {
+        grid.lay_out(Order::RowMajor);
+        rewrite_stored(grid, f);
+        grid.lay_out(Order::ColumnMajor);
+    } else {
+        rewrite_stored(grid, f);
+    }
+}
+
+/// Calls the closure at each column as a slice, from the first on, and leaves in the grid what it leaves there. The size
+/// and the order stay.
+///
+///     [[3, 1], [2, 5], [1, 4]]   rewrite_cols(grid, |col| col.reverse())   [[1, 4], [2, 5], [3, 1]]
+///
+/// Requires: the closure can always be called.
+/// Cost: that of [`rewrite_rows`], with the orders and the words row and column exchanged.
+pub fn rewrite_cols<T, A: Allocator, F: FnMut(&mut [T])>(grid: &mut Grid<T, A>, f: F)
+    requires { F.IsAlwaysCallable f }
+    ensures cols { AreRewritten F.FnMut f (transposed grid.old.rows) (transposed grid.new.rows) }
+    ensures pure { (change : List T → List T) → RewritesBy F.step f change
+        → transposed grid.new.rows ≡ map change (transposed grid.old.rows) }
+    ensures row_count { row_count grid.new.rows ≡ row_count grid.old.rows }
+    ensures col_count { col_count grid.new.rows ≡ col_count grid.old.rows }
+    ensures order { grid.new.order ≡ grid.old.order }
+{
+    grid.transpose();
+    rewrite_rows(grid, f);
+    grid.transpose();
+}
+
+// Rewrites the rows where they are.
+fn rewrite_stored<T, A: Allocator, F: FnMut(&mut [T])>(grid: &mut Grid<T, A>, f: F)
     requires { F.IsAlwaysCallable f }
     ensures rows { AreRewritten F.FnMut f grid.old.rows grid.new.rows }
     ensures pure { (change : List T → List T) → RewritesBy F.step f change
@@ -32,28 +73,6 @@ pub fn rewrite_rows<T, A: Allocator, F: FnMut(&mut [T])>(grid: &mut Grid<T, A>, 
         Order::RowMajor => rewrite_along(grid.as_mut_slice(), rows, cols, f),
         Order::ColumnMajor => rewrite_across(grid.as_mut_slice(), rows, cols, f),
     }
-}
-
-/// Calls the closure at each column as a slice, from the first on, and leaves in the grid what it leaves there. The size
-/// and the order stay.
-///
-///     [[3, 1], [2, 5], [1, 4]]   rewrite_cols(grid, |col| col.reverse())   [[1, 4], [2, 5], [3, 1]]
-///
-/// Requires: the closure can always be called.
-/// Cost: one call for each column; in a row-major grid also two swaps for each cell, by which each column comes to the
-/// front of the storage and goes back; no memory.
-pub fn rewrite_cols<T, A: Allocator, F: FnMut(&mut [T])>(grid: &mut Grid<T, A>, f: F)
-    requires { F.IsAlwaysCallable f }
-    ensures cols { AreRewritten F.FnMut f (transposed grid.old.rows) (transposed grid.new.rows) }
-    ensures pure { (change : List T → List T) → RewritesBy F.step f change
-        → transposed grid.new.rows ≡ map change (transposed grid.old.rows) }
-    ensures row_count { row_count grid.new.rows ≡ row_count grid.old.rows }
-    ensures col_count { col_count grid.new.rows ≡ col_count grid.old.rows }
-    ensures order { grid.new.order ≡ grid.old.order }
-{
-    grid.transpose();
-    rewrite_rows(grid, f);
-    grid.transpose();
 }
 
 // Rewrites the rows of a row-major table, which stand one after another.

@@ -6,8 +6,9 @@ ghost use Rattle.grid_base.specs.Table.{row, row_count, col_count, transposed};
 ghost use Rattle.grid_lines.specs.LineAnswers.{AnswersBy};
 ghost use Rattle.grid_lines.specs.SortedLines.{AlwaysComparesNumbers, AreSortedLines, AreStableLines, AscendBy, ComparesNumbers, AreSortedByKey, AreStableByKey, AscendByKey};
 
+use crate::across::runs_across;
 use crate::numbers::{numbers_by, numbers_by_key, row_numbers};
-use grid::{Grid, GridLineIter};
+use grid::{Grid, GridLineIter, Order};
 use std::alloc::{AllocError, Allocator};
 use std::cmp::Ordering;
 
@@ -20,7 +21,8 @@ use std::cmp::Ordering;
 ///
 /// Requires: the closure can always be called.
 /// Fails: where memory is refused; the grid is unchanged.
-/// Cost: `rows * log(rows)` calls, at most `rows * cols` swaps, and memory for four numbers for each row.
+/// Cost: `rows * log(rows)` calls, at most `rows * cols` swaps, and memory for four numbers for each row. A column-major
+/// grid of 64 rows and columns or more is laid out row by row for the swaps, and back.
 pub fn sort_rows_by<T, A: Allocator + Clone, F>(
     grid: &mut Grid<T, A>,
     compare: F,
@@ -55,7 +57,7 @@ where
 ///
 /// Requires: the closure can always be called.
 /// Fails: where memory is refused; the grid is unchanged.
-/// Cost: `cols * log(cols)` calls, at most `rows * cols` swaps, and memory for four numbers for each column.
+/// Cost: that of [`sort_rows_by`], with the orders and the words row and column exchanged.
 pub fn sort_cols_by<T, A: Allocator + Clone, F>(
     grid: &mut Grid<T, A>,
     compare: F,
@@ -93,7 +95,7 @@ where
 /// Requires: the closure can always be called.
 /// Fails: where memory is refused; the grid is unchanged.
 /// Cost: `rows` calls, `rows * log(rows)` comparisons, at most `rows * cols` swaps, and memory for a key and four numbers
-/// for each row.
+/// for each row. A column-major grid of 64 rows and columns or more is laid out row by row for the swaps, and back.
 pub fn sort_rows_by_key<T, K: Ord + Drop, A: Allocator + Clone, F>(
     grid: &mut Grid<T, A>,
     key: F,
@@ -126,8 +128,7 @@ where
 ///
 /// Requires: the closure can always be called.
 /// Fails: where memory is refused; the grid is unchanged.
-/// Cost: `cols` calls, `cols * log(cols)` comparisons, at most `rows * cols` swaps, and memory for a key and four numbers
-/// for each column.
+/// Cost: that of [`sort_rows_by_key`], with the orders and the words row and column exchanged.
 pub fn sort_cols_by_key<T, K: Ord + Drop, A: Allocator + Clone, F>(
     grid: &mut Grid<T, A>,
     key: F,
@@ -167,6 +168,12 @@ fn put_in_order<T, A: Allocator + Clone>(
 {
     let mut holds = row_numbers(grid)?;
     let mut places = row_numbers(grid)?;
+    if runs_across(grid) {
+        grid.lay_out(Order::RowMajor);
+        arrange(grid, wanted, &mut holds, &mut places);
+        grid.lay_out(Order::ColumnMajor);
+        return Ok(());
+    }
     arrange(grid, wanted, &mut holds, &mut places);
     Ok(())
 }

@@ -2,7 +2,7 @@
 use Rattle.std.proofs.Common.{◌∙◌, sym}
 use Rattle.grid_base.specs.declared.order.Order.TheVariants.{RowMajor, ColumnMajor}
 use Rattle.grid_lines.proofs.RewriteLemmas.{calls_change, rewritten_by, stored_size, stored_rewritten}
-use Rattle.grid_lines.proofs.rewrite.rewrite_rows.Goals as goal
+use Rattle.grid_lines.proofs.rewrite.rewrite_stored.Goals as goal
 
 pub rewrite_along-requires-clause-size : goal.rewrite_along-requires-clause-size
 rewrite_along-requires-clause-size g c =

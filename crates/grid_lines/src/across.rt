@@ -1,0 +1,20 @@
+//! Rows that run across the storage.
+ghost use Rattle.std.specs.Prelude.{◌≡◌, IsTrue};
+ghost use Rattle.grid_base.specs.declared.order.Order.TheVariants.{ColumnMajor};
+
+use grid::{Grid, Order};
+use std::alloc::Allocator;
+
+// A board of fewer rows or columns isn't worth laying out twice.
+const FEW: usize = 64;
+
+// Whether the rows run across the storage, and rows and columns are so many that it is faster to lay the board out row by
+// row first, and back in the end.
+pub(crate) fn runs_across<T, A: Allocator>(grid: &Grid<T, A>) -> bool
+    ensures { IsTrue result → grid.now.order ≡ ColumnMajor }
+{
+    match grid.order() {
+        Order::RowMajor => false,
+        Order::ColumnMajor => FEW <= grid.rows() && FEW <= grid.cols(),
+    }
+}
