@@ -6,8 +6,9 @@ ghost use Rattle.grid_view.specs.Same.{AreSame, same_view, same_view_per, same_v
 use crate::view::GridView;
 
 // A part of at most so many rows and columns is compared cell by cell. Where one view runs along the storage and the other
-// across it, the cells of a small part stay in the cache until the lines beside them are read.
-const SMALL: usize = 8;
+// across it, the cells of a small part stay in the cache until the lines beside them are read. Boards of 4096 by 4096 take
+// twice as long by parts of 8 or of 32.
+const SMALL: usize = 16;
 
 // Whether the cells of row `r` are the same in two views, in the columns from the first number to before the second.
 fn has_same_cells<T: PartialEq>(
