@@ -1,0 +1,103 @@
+//! Digs a maze, finds a shortest path between its two rooms that are farthest apart, and draws it as a colored picture.
+#![tactic(auto)]
+
+use anyhow::Result;
+use grid::{Direction, Grid, GridError};
+use grid_paths::{Steps, distances, shortest_path};
+use grid_pnm::{enlarged, to_ppm};
+use std::alloc::{AllocError, Global};
+use std::io;
+use std::io::Write;
+
+#[derive(Clone, Copy, Default, PartialEq)]
+enum Cell {
+    #[default]
+    Wall,
+    Floor,
+    Path,
+}
+
+// The random numbers of Marsaglia's xorshift.
+fn next(random: &mut u32) -> usize {
+    *random ^= *random << 13;
+    *random ^= *random >> 17;
+    *random ^= *random << 5;
+    *random as usize
+}
+
+// The cell beside a room, and the room behind it.
+fn beyond(
+    maze: &Grid<Cell>,
+    at: (usize, usize),
+    way: Direction,
+) -> Option<((usize, usize), (usize, usize))> {
+    let door = maze.beside(at, way)?;
+    Some((door, maze.beside(door, way)?))
+}
+
+// A maze of so many rooms: from each room it goes on to one that isn't dug yet, and back where there is none.
+fn dug(alloc: Global, rows: usize, cols: usize, mut random: u32) -> Result<Grid<Cell>, GridError> {
+    let mut maze: Grid<Cell> = Grid::new(alloc, 2 * rows + 1, 2 * cols + 1)?;
+    let mut trail = vec![in alloc; (1, 1)]?;
+    maze.set_at((1, 1), Cell::Floor);
+    for _ in 0..2 * rows * cols {
+        let Some(&at) = trail.last() else {
+            break;
+        };
+        let first = next(&mut random);
+        let found = (0..4usize).find_map(|turn| {
+            let way = Direction::SIDES[(first % 4 + turn) % 4];
+            beyond(&maze, at, way).filter(|(_, room)| maze[*room] == Cell::Wall)
+        });
+        match found {
+            Some((door, room)) => {
+                maze.set_at(door, Cell::Floor);
+                maze.set_at(room, Cell::Floor);
+                trail.push(room)?;
+            }
+            None => {
+                trail.pop();
+            }
+        }
+    }
+    Ok(maze)
+}
+
+// The first room that is farthest from a position.
+fn farthest(maze: &Grid<Cell>, from: (usize, usize)) -> Result<(usize, usize), AllocError> {
+    let steps = distances(maze, from, Steps::Sides, |cell| *cell != Cell::Wall)?;
+    let mut best = (from, 0);
+    for (at, count) in steps.indexed_iter() {
+        if let Some(count) = count {
+            if best.1 < *count {
+                best = (at, *count);
+            }
+        }
+    }
+    Ok(best.0)
+}
+
+fn color(cell: &Cell) -> [u8; 3] {
+    match cell {
+        Cell::Wall => [31, 35, 40],
+        Cell::Floor => [235, 238, 241],
+        Cell::Path => [232, 145, 45],
+    }
+}
+
+fn drawn(alloc: Global) -> Result<Vec<u8>> {
+    let mut maze = dug(alloc, 8, 20, 2463534242)?;
+    let from = farthest(&maze, (1, 1))?;
+    let to = farthest(&maze, from)?;
+    let path = shortest_path(&maze, from, to, Steps::Sides, |cell| *cell != Cell::Wall)?;
+    for at in path.iter().flatten() {
+        maze.set_at(*at, Cell::Path);
+    }
+    Ok(to_ppm(alloc, &enlarged(alloc, &maze, 5)?, color)?)
+}
+
+fn main(rt: HostRuntime) -> Result<()> {
+    let picture = drawn(rt.alloc())?;
+    io::writer(&rt).write_all(picture.as_slice())?;
+    Ok(())
+}
