@@ -6,8 +6,9 @@ use grid::{Direction, Grid, GridError};
 use grid_paths::{Steps, distances, shortest_path};
 use grid_pnm::{enlarged, to_ppm};
 use std::alloc::{AllocError, Global};
-use std::io;
-use std::io::Write;
+use std::io::{self, Write};
+
+type At = (usize, usize);
 
 #[derive(Clone, Copy, Default, PartialEq)]
 enum Cell {
@@ -26,11 +27,7 @@ fn next(random: &mut u32) -> usize {
 }
 
 // The cell beside a room, and the room behind it.
-fn beyond(
-    maze: &Grid<Cell>,
-    at: (usize, usize),
-    way: Direction,
-) -> Option<((usize, usize), (usize, usize))> {
+fn beyond(maze: &Grid<Cell>, at: At, way: Direction) -> Option<(At, At)> {
     let door = maze.beside(at, way)?;
     Some((door, maze.beside(door, way)?))
 }
@@ -64,7 +61,7 @@ fn dug(alloc: Global, rows: usize, cols: usize, mut random: u32) -> Result<Grid<
 }
 
 // The first room that is farthest from a position.
-fn farthest(maze: &Grid<Cell>, from: (usize, usize)) -> Result<(usize, usize), AllocError> {
+fn farthest(maze: &Grid<Cell>, from: At) -> Result<At, AllocError> {
     let steps = distances(maze, from, Steps::Sides, |cell| *cell != Cell::Wall)?;
     let mut best = (from, 0);
     for (at, count) in steps.indexed_iter() {
