@@ -10,6 +10,9 @@ use std::io::{self, Write};
 
 type At = (usize, usize);
 
+// How many rooms there are in a column and in a row.
+const ROOMS: At = (8, 20);
+
 #[derive(Clone, Copy, Default, PartialEq)]
 enum Cell {
     #[default]
@@ -32,21 +35,29 @@ fn beyond(maze: &Grid<Cell>, at: At, way: Direction) -> Option<(At, At)> {
     Some((door, maze.beside(door, way)?))
 }
 
-// A maze of so many rooms: from each room it goes on to one that isn't dug yet, and back where there is none.
-fn dug(alloc: Global, rows: usize, cols: usize, mut random: u32) -> Result<Grid<Cell>, GridError> {
-    let mut maze: Grid<Cell> = Grid::new(alloc, 2 * rows + 1, 2 * cols + 1)?;
+// The first room that isn't dug yet, of the four around in turn from a number on, and the door to it.
+fn ahead(maze: &Grid<Cell>, at: At, first: usize) -> Option<(At, At)> {
+    for turn in 0..4usize {
+        let way = Direction::SIDES[(first % 4 + turn) % 4];
+        if let Some((door, room)) = beyond(maze, at, way) {
+            if maze.get_at(room) == Some(&Cell::Wall) {
+                return Some((door, room));
+            }
+        }
+    }
+    None
+}
+
+// A maze: from each room it goes on to one that isn't dug yet, and back where there is none.
+fn dug(alloc: Global, mut random: u32) -> Result<Grid<Cell>, GridError> {
+    let mut maze: Grid<Cell> = Grid::new(alloc, 2 * ROOMS.0 + 1, 2 * ROOMS.1 + 1)?;
     let mut trail = vec![in alloc; (1, 1)]?;
     maze.set_at((1, 1), Cell::Floor);
-    for _ in 0..2 * rows * cols {
+    for _ in 0..2 * ROOMS.0 * ROOMS.1 {
         let Some(&at) = trail.last() else {
             break;
         };
-        let first = next(&mut random);
-        let found = (0..4usize).find_map(|turn| {
-            let way = Direction::SIDES[(first % 4 + turn) % 4];
-            beyond(&maze, at, way).filter(|(_, room)| maze[*room] == Cell::Wall)
-        });
-        match found {
+        match ahead(&maze, at, next(&mut random)) {
             Some((door, room)) => {
                 maze.set_at(door, Cell::Floor);
                 maze.set_at(room, Cell::Floor);
@@ -83,7 +94,7 @@ fn color(cell: &Cell) -> [u8; 3] {
 }
 
 fn drawn(alloc: Global) -> Result<Vec<u8>> {
-    let mut maze = dug(alloc, 8, 20, 2463534242)?;
+    let mut maze = dug(alloc, 2463534242)?;
     let from = farthest(&maze, (1, 1))?;
     let to = farthest(&maze, from)?;
     let path = shortest_path(&maze, from, to, Steps::Sides, |cell| *cell != Cell::Wall)?;
