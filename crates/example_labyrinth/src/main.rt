@@ -29,23 +29,17 @@ fn next(random: &mut u32) -> usize {
     *random as usize
 }
 
-// The cell beside a room, and the room behind it.
+// The cell beside a room, and the room behind it, if that isn't dug yet.
 fn beyond(maze: &Grid<Cell>, at: At, way: Direction) -> Option<(At, At)> {
     let door = maze.beside(at, way)?;
-    Some((door, maze.beside(door, way)?))
+    let room = maze.beside(door, way)?;
+    (maze[room] == Cell::Wall).then_some((door, room))
 }
 
-// The first room that isn't dug yet, of the four around in turn from a number on, and the door to it.
+// The first of the four rooms around, in turn from a number on, that isn't dug yet, and the door to it.
 fn ahead(maze: &Grid<Cell>, at: At, first: usize) -> Option<(At, At)> {
-    for turn in 0..4usize {
-        let way = Direction::SIDES[(first % 4 + turn) % 4];
-        if let Some((door, room)) = beyond(maze, at, way) {
-            if maze.get_at(room) == Some(&Cell::Wall) {
-                return Some((door, room));
-            }
-        }
-    }
-    None
+    let ways = (0..4usize).map(|turn| Direction::SIDES[(first % 4 + turn) % 4]);
+    ways.filter_map(|way| beyond(maze, at, way)).next()
 }
 
 // A maze: from each room it goes on to one that isn't dug yet, and back where there is none.
@@ -63,9 +57,7 @@ fn dug(alloc: Global, mut random: u32) -> Result<Grid<Cell>, GridError> {
                 maze.set_at(room, Cell::Floor);
                 trail.push(room)?;
             }
-            None => {
-                trail.pop();
-            }
+            None => drop(trail.pop()),
         }
     }
     Ok(maze)
@@ -76,10 +68,9 @@ fn farthest(maze: &Grid<Cell>, from: At) -> Result<At, AllocError> {
     let steps = distances(maze, from, Steps::Sides, |cell| *cell != Cell::Wall)?;
     let mut best = (from, 0);
     for (at, count) in steps.indexed_iter() {
-        if let Some(count) = count {
-            if best.1 < *count {
-                best = (at, *count);
-            }
+        let count = count.unwrap_or(0);
+        if best.1 < count {
+            best = (at, count);
         }
     }
     Ok(best.0)
@@ -93,7 +84,8 @@ fn color(cell: &Cell) -> [u8; 3] {
     }
 }
 
-fn drawn(alloc: Global) -> Result<Vec<u8>> {
+fn main(rt: HostRuntime) -> Result<()> {
+    let alloc = rt.alloc();
     let mut maze = dug(alloc, 2463534242)?;
     let from = farthest(&maze, (1, 1))?;
     let to = farthest(&maze, from)?;
@@ -101,11 +93,7 @@ fn drawn(alloc: Global) -> Result<Vec<u8>> {
     for at in path.iter().flatten() {
         maze.set_at(*at, Cell::Path);
     }
-    Ok(to_ppm(alloc, &enlarged(alloc, &maze, 5)?, color)?)
-}
-
-fn main(rt: HostRuntime) -> Result<()> {
-    let picture = drawn(rt.alloc())?;
+    let picture = to_ppm(alloc, &enlarged(alloc, &maze, 5)?, color)?;
     io::writer(&rt).write_all(picture.as_slice())?;
     Ok(())
 }

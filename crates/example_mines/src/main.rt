@@ -1,0 +1,99 @@
+//! Plays Minesweeper: reads a field of mines and moves on standard input, and draws the field after each move.
+//!
+//! A field is lines of `*` (a mine) and `.`. Behind a line `--` each line is a move: `open 2 3` or `flag 2 3`, with a row and
+//! a column.
+#![tactic(auto)]
+
+use anyhow::{Result, bail};
+use grid::Grid;
+use grid_paths::{Enter, Steps, flood};
+use grid_text::{from_text, to_text};
+use std::alloc::{AllocError, Global};
+use std::io;
+use text_lines::{Words, index};
+
+#[derive(Clone, Copy, PartialEq)]
+enum Shown {
+    Nothing,
+    Flag,
+    Count,
+}
+
+#[derive(Clone, Copy)]
+struct Cell {
+    is_mine: bool,
+    near: u8,
+    shown: Shown,
+}
+
+// The field of these mines, each cell with the number of mines that touch it.
+fn field(alloc: Global, text: &str) -> Result<Grid<Cell>> {
+    let mines = from_text(alloc, text, |character| match character {
+        '*' => Some(true),
+        '.' => Some(false),
+        _ => None,
+    })?;
+    let cells = mines.map_counts8(
+        |is_mine| *is_mine,
+        |is_mine, near| Cell {
+            is_mine: *is_mine,
+            near,
+            shown: Shown::Nothing,
+        },
+    )?;
+    Ok(cells)
+}
+
+// The word of a move, and its position.
+fn read_move(line: &str) -> Option<(&str, (usize, usize))> {
+    let mut words = Words::of(line.as_bytes())?;
+    let word = words.next()?;
+    Some((word, (index(words.next()?)?, index(words.next()?)?)))
+}
+
+// Opens a cell, and round each that no mine touches all others, as far as these lead.
+fn open(field: &mut Grid<Cell>, at: (usize, usize)) -> Result<(), AllocError> {
+    let opened = flood(field, &[at], Steps::All, |cell| match cell.near {
+        _ if cell.shown == Shown::Flag => Enter::No,
+        0 if !cell.is_mine => Enter::On,
+        _ => Enter::Stop,
+    })?;
+    for at in opened.iter() {
+        if let Some(cell) = field.get_mut_at(*at) {
+            cell.shown = Shown::Count;
+        }
+    }
+    Ok(())
+}
+
+fn drawn(alloc: Global, field: &Grid<Cell>) -> Result<String, AllocError> {
+    to_text(alloc, field, |cell| match cell.shown {
+        Shown::Nothing => '#',
+        Shown::Flag => '!',
+        Shown::Count if cell.is_mine => '*',
+        Shown::Count if cell.near == 0 => ' ',
+        Shown::Count => char::from(b'0' + cell.near),
+    })
+}
+
+fn main(rt: HostRuntime) -> Result<()> {
+    let alloc = rt.alloc();
+    let text = io::read_to_string(alloc, rt.reader())?;
+    let Some((map, moves)) = text.split_once("--\n") else {
+        bail!("there is no line --");
+    };
+    let mut field = field(alloc, map)?;
+    for line in moves.lines() {
+        match read_move(line) {
+            Some(("open", at)) => open(&mut field, at)?,
+            Some(("flag", at)) => {
+                if let Some(cell) = field.get_mut_at(at) {
+                    cell.shown = Shown::Flag;
+                }
+            }
+            _ => bail!("{line:?} is no move"),
+        }
+        println!(rt; "{line}\n{}", drawn(alloc, &field)?)?;
+    }
+    Ok(())
+}
