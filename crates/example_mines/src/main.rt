@@ -72,7 +72,7 @@ fn drawn(alloc: Global, field: &Grid<Cell>) -> Result<String, AllocError> {
         Shown::Flag => '!',
         Shown::Count if cell.is_mine => '*',
         Shown::Count if cell.near == 0 => ' ',
-        Shown::Count => char::from(b'0' + cell.near),
+        Shown::Count => char::from(b'0'.saturating_add(cell.near)),
     })
 }
 
