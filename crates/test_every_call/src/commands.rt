@@ -10,8 +10,8 @@ use test_support::counted::Counted;
 use test_support::fixtures::Heap;
 
 pub const CALLS: [Call; 10] = [
-    Call("Grid::step", 6, None, None),
-    Call("Deferred::step", 6, None, None),
+    Call("Grid::step", 7, None, None),
+    Call("Deferred::step", 7, None, None),
     Call("grid_laws::step_by_least", 2, None, None),
     Call("grid::run", 1, None, None),
     Call("grid_deferred::run_deferred", 1, None, None),
@@ -37,7 +37,9 @@ fn command<'a>(start: Start<'a>, (rows, cols): (usize, usize)) -> Result<Given<'
         2 => Command::InsertCols(0, start.lines(2, fitting(rows))?),
         3 => Command::Row(0),
         4 => Command::RemoveCol(0),
-        _ => Command::ExpandRows(2),
+        5 => Command::ExpandRows(2),
+        // (out of range)
+        _ => Command::Set(rows, cols, start.given(7)),
     })
 }
 
@@ -96,7 +98,8 @@ fn ran<'a>(start: Start<'a>, board: &mut Board<'a>, name: &str) -> Result<Answer
     })
 }
 
-const SCRIPT: &[u8] = b"ColumnMajor 2 1 3 2 4\npush_row 5 6\nrotate_left\nrow 0\nfill 7\npop_col\n";
+const SCRIPT: &[u8] =
+    b"ColumnMajor 2 1 3 2 4\n\npush_row 5 6\nrotate_left\nrow 0\nfill 7\npop_col\ninsert_rows 0 2 8 8 9 9\n";
 
 // A script whose last line is no command.
 const BAD_SCRIPT: &[u8] = b"RowMajor 1 5\npush_row 6\nno_command\n";
