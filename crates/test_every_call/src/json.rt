@@ -2,7 +2,7 @@
 use crate::state::{Answer, Call, Start, came};
 use grid::Grid;
 use grid_json::laws::written_and_read;
-use grid_json::{Cell, from_value, rows_from_value, rows_to_value, to_value};
+use grid_json::{Cell, RowsError, from_value, rows_from_value, rows_to_value, to_value};
 use serde_json::Value;
 use std::alloc::AllocError;
 
@@ -12,7 +12,7 @@ pub const CALLS: [Call; 7] = [
     Call("grid_json::to_value", 1, None, None),
     Call("grid_json::from_value", 1, None, None),
     Call("grid_json::rows_to_value", 1, None, Some(1)),
-    Call("grid_json::rows_from_value", 1, None, Some(1)),
+    Call("grid_json::rows_from_value", 2, None, Some(1)),
     Call("grid_json::written_and_read", 1, None, None),
 ];
 
@@ -37,14 +37,20 @@ fn read(start: Start<'_>) -> Result<Answer, AllocError> {
     Ok(came(read))
 }
 
+// The rows of the board, and in case 1 an item behind them that is no row, which is told when all cells are read.
 fn rows_read(start: Start<'_>) -> Result<Answer, AllocError> {
-    let value = rows_to_value(
-        start.alloc,
-        &start.numbers()?,
-        |cell| Ok(Value::from(*cell)),
-    )?;
+    let board = start.numbers()?;
+    let mut value = rows_to_value(start.alloc, &board, |cell| Ok(Value::from(*cell)))?;
+    if let (Some(items), 1) = (value.as_array_mut(), start.case) {
+        items.push(Value::Null)?;
+    }
     start.ready();
-    Ok(came(rows_from_value(start.alloc, &value, |_| { Ok(Some(start.try_cell(1)?)) })))
+    let read = rows_from_value(start.alloc, &value, |_| { Ok(Some(start.try_cell(1)?)) });
+    Ok(match read {
+        Err(RowsError::NotRow { row }) if start.case == 1 && row == board.rows() => Answer::Done,
+        Ok(_) if start.case == 1 => Answer::Wrong,
+        read => came(read),
+    })
 }
 
 fn written(start: Start<'_>, name: &str) -> Result<Answer, AllocError> {

@@ -1,5 +1,5 @@
 //! Paths and regions, on boards of numbers that are copied.
-use crate::state::{Answer, Call, Numbers, Start, are_numbers, came};
+use crate::state::{Answer, Call, Numbers, Start, are_numbers, came, number};
 use grid_paths::{
     Enter, Steps, cheapest, cheapest_path, distances, distances_from, fill_region, flood, regions,
     shortest_path,
@@ -42,27 +42,32 @@ fn once_each(start: Start<'_>, answer: Answer) -> Answer {
     }
 }
 
-// From the first cell to the last one, where all is free; or where nothing is.
-fn path(start: Start<'_>, board: &Numbers<'_>) -> Answer {
+// The last cell.
+fn end(start: Start<'_>) -> (usize, usize) {
     let (rows, cols) = start.size;
-    let end = (rows.saturating_sub(1), cols.saturating_sub(1));
-    let found = shortest_path(board, (0, 0), end, steps(start), |_| {
-        start.called();
-        start.case < 2
-    });
-    once_each(start, came(found))
+    (rows.saturating_sub(1), cols.saturating_sub(1))
+}
+
+// Whether a cell is free: all are; none is; or the first and the last alone, between which no path leads on three columns.
+fn is_free(start: Start<'_>, cell: u32) -> bool {
+    start.called();
+    start.case < 2 || start.case == 3 && (cell == number((0, 0)) || cell == number(end(start)))
+}
+
+// From the first cell to the last one.
+fn path(start: Start<'_>, board: &Numbers<'_>) -> Answer {
+    let free = |cell: &u32| is_free(start, *cell);
+    once_each(
+        start,
+        came(shortest_path(board, (0, 0), end(start), steps(start), free)),
+    )
 }
 
 fn cheap_path(start: Start<'_>, board: &Numbers<'_>) -> Answer {
-    let (rows, cols) = start.size;
-    let end = (rows.saturating_sub(1), cols.saturating_sub(1));
-    let cost = |cell: &u32| {
-        start.called();
-        if start.case < 2 { Some(*cell) } else { None }
-    };
+    let cost = |cell: &u32| is_free(start, *cell).then_some(*cell);
     once_each(
         start,
-        came(cheapest_path(board, (0, 0), end, steps(start), cost)),
+        came(cheapest_path(board, (0, 0), end(start), steps(start), cost)),
     )
 }
 
