@@ -74,7 +74,7 @@ fn take<T: Copy + PartialEq + Drop, A: Allocator>(
         return Ok(());
     }
     taken.push((at, cell))?;
-    grid.set(at.0, at.1, cells.mark);
+    grid[at] = cells.mark;
     Ok(())
 }
 

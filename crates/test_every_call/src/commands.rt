@@ -1,6 +1,6 @@
 //! Commands, one by one and in runs, at once and deferred, and scripts.
 use crate::state::{Answer, Board, Call, Start, came, came_of, line_came};
-use grid::{Command, Order, Symmetry, Tally, run};
+use grid::{Command, GridError, Order, Symmetry, Tally, run};
 use grid_deferred::{Deferred, run_deferred};
 use grid_laws::{push_row_then_pop_row, run_deferred_by_least, step_by_least};
 use grid_play::laws::plays_alike;
@@ -10,14 +10,14 @@ use test_support::counted::Counted;
 use test_support::fixtures::Heap;
 
 pub const CALLS: [Call; 10] = [
-    Call("Grid::step", 7, None, None),
-    Call("Deferred::step", 7, None, None),
-    Call("grid_laws::step_by_least", 2, None, None),
+    Call("Grid::step", 9, None, None),
+    Call("Deferred::step", 9, None, None),
+    Call("grid_laws::step_by_least", 9, None, None),
     Call("grid::run", 1, None, None),
     Call("grid_deferred::run_deferred", 1, None, None),
     Call("grid_laws::run_deferred_by_least", 1, None, None),
     Call("grid_laws::push_row_then_pop_row", 1, None, None),
-    Call("Script::parse", 2, None, None),
+    Call("Script::parse", 5, None, None),
     Call("grid_play::play", 2, None, None),
     Call("grid_play::plays_alike", 1, None, None),
 ];
@@ -38,7 +38,9 @@ fn command<'a>(start: Start<'a>, (rows, cols): (usize, usize)) -> Result<Given<'
         3 => Command::Row(0),
         4 => Command::RemoveCol(0),
         5 => Command::ExpandRows(2),
-        // (out of range)
+        6 => Command::Get(0, 0),
+        // (too long, and out of range)
+        7 => Command::PushRow(start.line(fitting(cols).saturating_add(1))?),
         _ => Command::Set(rows, cols, start.given(7)),
     })
 }
@@ -86,27 +88,45 @@ fn ran<'a>(start: Start<'a>, board: &mut Board<'a>, name: &str) -> Result<Answer
     let list = commands(start)?;
     start.ready();
     let mut tally = Tally::new();
-    let answer = came(match name {
+    let outcome = match name {
         "grid::run" => run(start.heap, board, list, &mut tally),
         "grid_deferred::run_deferred" => run_deferred(start.heap, board, list, &mut tally),
         _ => run_deferred_by_least(start.heap, board, list, &mut tally),
-    });
-    Ok(if answer == Answer::Refused {
-        Answer::Stopped
-    } else {
-        answer
+    };
+    let Err(stopped) = outcome else {
+        return Ok(Answer::Done);
+    };
+    let answer = came_of(&stopped);
+    Ok(match GridError::from(stopped) {
+        GridError::Memory if answer == Answer::Refused => Answer::Stopped,
+        _ => Answer::Wrong,
     })
 }
 
 const SCRIPT: &[u8] =
     b"ColumnMajor 2 1 3 2 4\n\npush_row 5 6\nrotate_left\nrow 0\nfill 7\npop_col\ninsert_rows 0 2 8 8 9 9\n";
 
-// A script whose last line is no command.
-const BAD_SCRIPT: &[u8] = b"RowMajor 1 5\npush_row 6\nno_command\n";
+// Scripts with a fault behind something that was read: a line that is no command, one whose cells can't be cut, a cell
+// that is no number, and cells that can't be cut into rows.
+const BAD_SCRIPTS: [(&[u8], ScriptFault); 4] = [
+    (
+        b"RowMajor 1 5\npush_row 6\nno_command\n",
+        ScriptFault::BadCommand(3),
+    ),
+    (
+        b"RowMajor 1 5\ninsert_rows 0 2 8 8 9\n",
+        ScriptFault::BadCommand(2),
+    ),
+    (b"RowMajor 1 5 x\n", ScriptFault::BadGrid),
+    (b"RowMajor 2 1 2 3\n", ScriptFault::BadGrid),
+];
 
 fn bad_parsed(start: Start<'_>) -> Answer {
-    match Script::parse(start.heap, BAD_SCRIPT) {
-        Err(ScriptFault::BadCommand(3)) => Answer::Done,
+    let Some((script, wanted)) = BAD_SCRIPTS.get(start.case.wrapping_sub(1)) else {
+        return Answer::Wrong;
+    };
+    match Script::parse(start.heap, *script) {
+        Err(fault) if fault == *wanted => Answer::Done,
         Ok(_) => Answer::Wrong,
         Err(fault) => came_of(&fault),
     }
@@ -117,7 +137,7 @@ fn played(start: Start<'_>, name: &str) -> Answer {
         return Answer::Skipped;
     }
     match name {
-        "Script::parse" if start.case == 1 => bad_parsed(start),
+        "Script::parse" if start.case > 0 => bad_parsed(start),
         "Script::parse" => came(Script::parse(start.heap, SCRIPT)),
         "grid_play::play" => came(play(start.heap, SCRIPT, start.case == 1)),
         _ => played_alike(start),

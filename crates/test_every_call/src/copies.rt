@@ -1,6 +1,6 @@
 //! Calls that copy cells of a board, and calls that write cells over.
 use crate::state::{Answer, Board, Call, Start, came};
-use grid::{Grid, GridError, Order};
+use grid::{Grid, GridError, Order, Symmetry};
 use std::alloc::AllocError;
 use std::cell::Cell;
 
@@ -8,16 +8,16 @@ pub const CALLS: [Call; 13] = [
     Call("Grid::clone", 1, Some(1), None),
     Call("Clone::clone of a grid", 1, Some(1), None),
     Call("Grid::sub_grid", 5, None, None),
-    Call("GridView::to_vec", 2, Some(1), None),
+    Call("GridView::to_vec", 3, Some(1), None),
     Call("Grid::fill", 1, Some(1), None),
     Call("Grid::fill_part", 4, None, None),
     Call("Grid::paste", 3, None, None),
-    Call("Grid::paste_clipped", 6, None, None),
+    Call("Grid::paste_clipped", 7, None, None),
     Call("Grid::fill_with", 1, Some(0), Some(1)),
     Call("Grid::update", 1, Some(0), Some(1)),
     Call("Grid::update_part", 1, Some(0), Some(1)),
     Call("Grid::set", 1, Some(0), Some(1)),
-    Call("Grid::map", 2, Some(1), Some(1)),
+    Call("Grid::map", 3, Some(1), Some(1)),
 ];
 
 // A part of the board: nothing, its first row, its first column, its last cell, all; where there is one.
@@ -93,6 +93,7 @@ fn paste_clipped<'a>(start: Start<'a>, board: &mut Board<'a>) -> Result<Answer, 
         2 => (1, 1),
         3 => (-1, 1),
         4 => (1, -1),
+        5 => (isize::MIN, isize::MIN),
         _ => (-5, 7),
     };
     let pasted = start.board((2, 2), Order::ColumnMajor)?;
@@ -147,8 +148,12 @@ fn map<'a>(start: Start<'a>, board: &mut Board<'a>) -> Answer {
             *board = back;
             Answer::Refused
         }
-        Err(back) => {
+        Err(back) if start.case == 1 => {
             let _fault = GridError::from(back);
+            Answer::Stopped
+        }
+        Err(back) => {
+            let _fault = AllocError::from(back);
             Answer::Stopped
         }
     }
@@ -172,13 +177,22 @@ fn written<'a>(start: Start<'a>, board: &mut Board<'a>, name: &str) -> Answer {
     }
 }
 
+// Clones of a view: as it is, transposed, and turned half round.
+fn to_vec<'a>(start: Start<'a>, board: &Board<'a>) -> Answer {
+    let view = match start.case {
+        0 => board.view(),
+        1 => board.view().transposed(),
+        _ => board.view().turned(Symmetry::RotateHalf),
+    };
+    came(view.to_vec(start.heap, start.order))
+}
+
 fn copied<'a>(start: Start<'a>, board: &mut Board<'a>, name: &str) -> Answer {
     match name {
         "Grid::clone" => came(board.clone()),
         "Clone::clone of a grid" => came(Clone::clone(board)),
         "Grid::sub_grid" => sub_grid(start, board),
-        "GridView::to_vec" if start.case == 0 => came(board.view().to_vec(start.heap, start.order)),
-        "GridView::to_vec" => came(board.view().transposed().to_vec(start.heap, start.order)),
+        "GridView::to_vec" => to_vec(start, board),
         "Grid::fill" => came(board.fill(start.given(9))),
         name => written(start, board, name),
     }

@@ -2,8 +2,9 @@
 //! of memory.
 use crate::state::{Answer, came};
 use grid::{Grid, GridError, Order, ShapeError};
-use grid_csv::{CsvError, from_csv};
+use grid_csv::{CsvError, from_csv, from_csv_with_header};
 use grid_json::{ReadError, RowsError, rows_from_value};
+use grid_lines::sort_rows_by;
 use grid_paths::{Steps, cheapest, cheapest_path, distances, shortest_path};
 use grid_pnm::PnmError;
 use grid_text::{TextError, from_text, from_words, try_from_words};
@@ -21,21 +22,26 @@ const LINES: usize = 4;
 
 const WORDS: usize = 4;
 
-// What is wrong in one line of a text: a word is no number, or the last word is missing.
+// What is wrong in one line of a text: a word is no number, the last word is missing, or there is one more.
 #[derive(Clone, Copy, PartialEq, Eq)]
 enum Flaw {
     Bad(usize),
     Short,
+    Long,
+}
+
+// How many words a line with a flaw has.
+fn len_of(flaw: Flaw) -> usize {
+    match flaw {
+        Flaw::Bad(_) => WORDS,
+        Flaw::Short => WORDS - 1,
+        Flaw::Long => WORDS + 1,
+    }
 }
 
 // Adds a line of words that are numbers, but for the flaw.
 fn add_line(text: &mut String, between: &str, flaw: Option<Flaw>) -> Result<(), AllocError> {
-    let words = if flaw == Some(Flaw::Short) {
-        WORDS - 1
-    } else {
-        WORDS
-    };
-    for word in 0..words {
+    for word in 0..flaw.map_or(WORDS, len_of) {
         if word > 0 {
             text.push_str(between)?;
         }
@@ -69,9 +75,9 @@ fn word_fault(line: usize, flaw: Flaw) -> TextError {
             line,
             word: word.saturating_add(1),
         },
-        Flaw::Short => TextError::Ragged {
+        flaw => TextError::Ragged {
             line,
-            len: WORDS - 1,
+            len: len_of(flaw),
             cols: WORDS,
         },
     }
@@ -85,7 +91,7 @@ fn char_fault(line: usize, flaw: Flaw) -> TextError {
             column: column.saturating_add(1),
             found: 'x',
         },
-        Flaw::Short => word_fault(line, flaw),
+        flaw => word_fault(line, flaw),
     }
 }
 
@@ -109,12 +115,13 @@ fn is_told_of_words(
     flaw: Flaw,
 ) -> Result<bool, AllocError> {
     let words = flawed(alloc, " ", line, flaw)?;
-    let read = from_words(heap, words.as_str(), number);
-    let tried = try_from_words(heap, words.as_str(), |word| Ok(number(word)));
+    let cell = |word: &str| number(word).map(|value| Counted::new(heap, value));
+    let read = from_words(heap, words.as_str(), |word| cell(word));
+    let tried = try_from_words(heap, words.as_str(), |word| Ok(cell(word)));
     Ok(is_told(read, word_fault(line, flaw)) && is_told(tried, word_fault(line, flaw)))
 }
 
-// The same of characters.
+// The same of characters, which are read once up to the flaw.
 fn is_told_of_letters(
     alloc: Global,
     heap: &Heap,
@@ -122,11 +129,19 @@ fn is_told_of_letters(
     flaw: Flaw,
 ) -> Result<bool, AllocError> {
     let letters = flawed(alloc, "", line, flaw)?;
-    let read = from_text(heap, letters.as_str(), |letter| letter.to_digit(10));
-    Ok(is_told(read, char_fault(line, flaw)))
+    let calls = Cell::new(0usize);
+    let read = from_text(heap, letters.as_str(), |letter| {
+        calls.set(calls.get().wrapping_add(1));
+        letter.to_digit(10)
+    });
+    let most = match flaw {
+        Flaw::Bad(word) => line.wrapping_mul(WORDS).wrapping_add(word).wrapping_add(1),
+        _ => usize::MAX,
+    };
+    Ok(is_told(read, char_fault(line, flaw)) && calls.get() <= most)
 }
 
-// The same of a sheet. Its cells are counted, since its memory isn't.
+// The same of a sheet, whose first line is no flaw where it is a header. Its cells are counted, since its memory isn't.
 fn is_told_of_sheet(
     alloc: Global,
     heap: &Heap,
@@ -134,18 +149,21 @@ fn is_told_of_sheet(
     flaw: Flaw,
 ) -> Result<bool, AllocError> {
     let sheet = flawed(alloc, ",", line, flaw)?;
-    let read = from_csv(alloc, sheet.as_str().as_bytes(), |field| {
-        Ok(number(field).map(|value| Counted::new(heap, value)))
-    });
+    let cell = |field: &str| Ok(number(field).map(|value| Counted::new(heap, value)));
+    let read = from_csv(alloc, sheet.as_str().as_bytes(), |field| cell(field));
+    let below = from_csv_with_header(alloc, sheet.as_str().as_bytes(), |field| cell(field));
+    if below.is_ok() != (line == 0) {
+        return Ok(false);
+    }
     let record = line.saturating_add(1);
     let wanted = match flaw {
         Flaw::Bad(word) => CsvError::BadField {
             record,
             field: word.saturating_add(1),
         },
-        Flaw::Short => CsvError::Ragged {
+        flaw => CsvError::Ragged {
             record,
-            len: WORDS - 1,
+            len: len_of(flaw),
             cols: WORDS,
         },
     };
@@ -177,9 +195,9 @@ fn is_told_of_rows(alloc: Global, heap: &Heap, row: usize, flaw: Flaw) -> Result
     });
     let wanted = match flaw {
         Flaw::Bad(col) => RowsError::BadCell { row, col },
-        Flaw::Short => RowsError::Ragged {
+        flaw => RowsError::Ragged {
             row,
-            len: WORDS - 1,
+            len: len_of(flaw),
             cols: WORDS,
         },
     };
@@ -226,6 +244,7 @@ fn try_flaws<R: Print + AllocGlobal>(rt: &R) -> io::Result<()> {
         }
         if line > 0 {
             told = told.saturating_add(try_flaw(rt, line, Flaw::Short)?);
+            told = told.saturating_add(try_flaw(rt, line, Flaw::Long)?);
         }
     }
     println!(rt; "flaws of what is read: {told} are told")
@@ -382,8 +401,25 @@ fn are_out_of_memory(alloc: Global) -> Result<bool, AllocError> {
     )
 }
 
+// Sorts a board that is laid out in the other order first, by rows that differ in their first cell.
+fn is_sorted_large(heap: &Heap) -> Result<bool, AllocError> {
+    let made = Grid::from_fn_with_order(heap, 64, 64, Order::ColumnMajor, |at| at);
+    let mut board = made.map_err(|_| AllocError)?;
+    sort_rows_by(&mut board, |mut a, mut b| b.next().cmp(&a.next()))?;
+    Ok(board.get(0, 0) == Some(&(63, 0)) && board.order() == Order::ColumnMajor)
+}
+
+fn try_sort<R: Print + AllocGlobal>(rt: &R) -> io::Result<()> {
+    let heap = Fuse::new(rt.alloc(), u64::MAX);
+    if !is_sorted_large(&heap)? || heap.held() != 0 {
+        println!(rt; "FAILED sort_rows_by of 64 rows across the storage")?;
+    }
+    Ok(())
+}
+
 pub fn try_all<R: Print + AllocGlobal>(rt: &R) -> io::Result<()> {
     try_flaws(rt)?;
+    try_sort(rt)?;
     try_searches(rt)?;
     if are_out_of_memory(rt.alloc())? {
         println!(rt; "want of memory: 7 faults say so")

@@ -5,13 +5,15 @@ use grid_lines::{
     into_rows, sort_cols_by, sort_cols_by_key, sort_rows_by, sort_rows_by_key, to_rows,
 };
 use std::alloc::AllocError;
+use std::cmp::Ordering;
 use test_support::counted::Counted;
+use test_support::fixtures::Heap;
 
 pub const CALLS: [Call; 6] = [
-    Call("grid_lines::sort_rows_by", 2, None, None),
-    Call("grid_lines::sort_cols_by", 2, None, None),
-    Call("grid_lines::sort_rows_by_key", 1, None, None),
-    Call("grid_lines::sort_cols_by_key", 1, None, None),
+    Call("grid_lines::sort_rows_by", 3, None, None),
+    Call("grid_lines::sort_cols_by", 3, None, None),
+    Call("grid_lines::sort_rows_by_key", 2, None, None),
+    Call("grid_lines::sort_cols_by_key", 2, None, None),
     Call("grid_lines::into_rows", 1, None, None),
     Call("grid_lines::to_rows", 1, None, None),
 ];
@@ -21,26 +23,49 @@ fn first(mut line: GridLineIter<'_, Counted<'_>>) -> Option<u32> {
     line.next().map(|cell| cell.value())
 }
 
-// Sorts as it is sorted, or backwards.
-fn sort_by<'a>(start: Start<'a>, board: &mut Board<'a>, by_rows: bool) -> Answer {
-    match (by_rows, start.case) {
-        (true, 0) => came(sort_rows_by(board, |a, b| first(a).cmp(&first(b)))),
-        (true, _) => came(sort_rows_by(board, |a, b| first(b).cmp(&first(a)))),
-        (false, 0) => came(sort_cols_by(board, |a, b| first(a).cmp(&first(b)))),
-        (false, _) => came(sort_cols_by(board, |a, b| first(b).cmp(&first(a)))),
+// Sorts as it is sorted, backwards, or as if all were equal.
+fn compared<'a>(
+    start: Start<'a>,
+    a: GridLineIter<'_, Counted<'a>>,
+    b: GridLineIter<'_, Counted<'a>>,
+) -> Ordering {
+    match start.case {
+        0 => first(a).cmp(&first(b)),
+        1 => first(b).cmp(&first(a)),
+        _ => Ordering::Equal,
     }
 }
 
-// Sorts backwards by a key, which is asked once of each line.
-fn sort_by_key<'a>(start: Start<'a>, board: &mut Board<'a>, by_rows: bool) -> Answer {
-    let key = |line: GridLineIter<'_, Counted<'_>>| {
-        start.called();
-        first(line).map(|number| 100u32.saturating_sub(number))
-    };
-    let (sorted, lines) = if by_rows {
-        (sort_rows_by_key(board, key), start.size.0)
+fn sort_by<'a>(start: Start<'a>, board: &mut Board<'a>, by_rows: bool) -> Answer {
+    if by_rows {
+        came(sort_rows_by(board, |a, b| compared(start, a, b)))
     } else {
-        (sort_cols_by_key(board, key), start.size.1)
+        came(sort_cols_by(board, |a, b| compared(start, a, b)))
+    }
+}
+
+// A key on the heap: a number that goes down, or in case 1 nothing.
+fn key<'a>(start: Start<'a>, line: GridLineIter<'_, Counted<'a>>) -> Vec<u32, &'a Heap> {
+    start.called();
+    let mut key = Vec::new(start.heap);
+    if start.case == 0 {
+        let _refused = key.push(100u32.saturating_sub(first(line).unwrap_or(0)));
+    }
+    key
+}
+
+// Sorts by a key, which is asked once of each line.
+fn sort_by_key<'a>(start: Start<'a>, board: &mut Board<'a>, by_rows: bool) -> Answer {
+    let (sorted, lines) = if by_rows {
+        (
+            sort_rows_by_key(board, |line| key(start, line)),
+            start.size.0,
+        )
+    } else {
+        (
+            sort_cols_by_key(board, |line| key(start, line)),
+            start.size.1,
+        )
     };
     let answer = came(sorted);
     if answer == Answer::Done && lines != 1 && start.calls.get() != lines as u64 {

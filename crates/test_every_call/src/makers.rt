@@ -23,7 +23,7 @@ pub const CALLS: [Call; 18] = [
     Call("Grid::try_from of rows", 1, Some(1), None),
     Call("Grid::try_from of a list lent", 1, Some(1), None),
     Call("Grid::try_from of rows lent", 1, Some(1), None),
-    Call("Grid::new of too many cells", 4, None, None),
+    Call("Grid::new of too many cells", 5, None, None),
     Call("Grid::try_from of what is no table", 3, Some(0), None),
 ];
 
@@ -159,7 +159,8 @@ fn too_many(start: Start<'_>) -> Answer {
         0 => Board::new(heap, usize::MAX, 2),
         1 => Board::init_with_order(heap, 2, usize::MAX, order, start.given(1)),
         2 => Board::from_fn(heap, usize::MAX, usize::MAX, |_| start.cell(1)),
-        _ => Board::with_capacity(heap, usize::MAX, 3),
+        3 => Board::with_capacity(heap, usize::MAX, 3),
+        _ => Board::init(heap, usize::MAX, 2, start.given(1)),
     };
     match made {
         Err(GridError::TooLarge) => Answer::Done,

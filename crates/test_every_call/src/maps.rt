@@ -1,6 +1,8 @@
 //! Maps of a whole board, with what is round each cell, and the positions of cells.
 use crate::state::{Answer, Board, Call, Start, both_came, came};
+use grid::Order;
 use std::alloc::AllocError;
+use std::cell::Cell;
 use test_support::counted::Counted;
 
 pub const CALLS: [Call; 16] = [
@@ -30,7 +32,7 @@ fn low(cell: &Counted<'_>) -> u8 {
     (cell.value() % 200) as u8
 }
 
-// Of those that are open at the edges both closures are counted.
+// Of those whose edges are open both closures are counted.
 fn counted<'a>(start: Start<'a>, board: &Board<'a>, name: &str) -> Answer {
     let odd = |cell: &Counted<'_>| {
         start.called();
@@ -43,22 +45,48 @@ fn counted<'a>(start: Start<'a>, board: &Board<'a>, name: &str) -> Answer {
     match name {
         "Grid::map_counts4" => came(board.map_counts4(odd, |_, count| start.cell(count.into()))),
         "Grid::map_counts8" => came(board.map_counts8(odd, |_, count| start.cell(count.into()))),
-        "Grid::map_wrapped_counts4" => {
-            came(board.map_wrapped_counts4(is_odd, |_, count| start.cell(count.into())))
-        }
-        "Grid::map_wrapped_counts8" => {
-            came(board.map_wrapped_counts8(is_odd, |_, count| start.cell(count.into())))
-        }
         "Grid::map_sums4" => came(board.map_sums4(few, |_, sum| start.cell(sum.into()))),
         "Grid::map_sums8" => came(board.map_sums8(few, |_, sum| start.cell(sum.into()))),
+        name => wrapped(start, board, name),
+    }
+}
+
+// Those whose edges are joined call the test once more at the cells of the first line along the storage and of the last.
+fn wrapped<'a>(start: Start<'a>, board: &Board<'a>, name: &str) -> Answer {
+    let tests = Cell::new(0u64);
+    let tested = || tests.set(tests.get().wrapping_add(1));
+    let odd = |cell: &Counted<'_>| {
+        tested();
+        is_odd(cell)
+    };
+    let few = |cell: &Counted<'_>| {
+        tested();
+        low(cell)
+    };
+    let answer = match name {
+        "Grid::map_wrapped_counts4" => {
+            came(board.map_wrapped_counts4(odd, |_, count| start.cell(count.into())))
+        }
+        "Grid::map_wrapped_counts8" => {
+            came(board.map_wrapped_counts8(odd, |_, count| start.cell(count.into())))
+        }
         "Grid::map_wrapped_sums4" => {
-            came(board.map_wrapped_sums4(low, |_, sum| start.cell(sum.into())))
+            came(board.map_wrapped_sums4(few, |_, sum| start.cell(sum.into())))
         }
         "Grid::map_wrapped_sums8" => {
-            came(board.map_wrapped_sums8(low, |_, sum| start.cell(sum.into())))
+            came(board.map_wrapped_sums8(few, |_, sum| start.cell(sum.into())))
         }
         _ => Answer::Wrong,
+    };
+    let (lines, width) = match start.order {
+        Order::RowMajor => start.size,
+        Order::ColumnMajor => (start.size.1, start.size.0),
+    };
+    let most = lines.saturating_add(2).wrapping_mul(width) as u64;
+    if tests.get() > most {
+        return Answer::Wrong;
     }
+    answer
 }
 
 // The positions of all cells, of none, or of those that are odd, by the case.

@@ -7,14 +7,14 @@ use grid_paths::{
 use std::alloc::AllocError;
 
 pub const CALLS: [Call; 8] = [
-    Call("grid_paths::distances", 2, None, Some(1)),
-    Call("grid_paths::distances_from", 3, None, Some(1)),
+    Call("grid_paths::distances", 3, None, Some(1)),
+    Call("grid_paths::distances_from", 4, None, Some(1)),
     Call("grid_paths::shortest_path", 4, None, None),
-    Call("grid_paths::cheapest", 2, None, Some(1)),
+    Call("grid_paths::cheapest", 3, None, Some(1)),
     Call("grid_paths::cheapest_path", 4, None, None),
-    Call("grid_paths::regions", 2, None, None),
-    Call("grid_paths::flood", 3, None, Some(1)),
-    Call("grid_paths::fill_region", 3, None, None),
+    Call("grid_paths::regions", 3, None, None),
+    Call("grid_paths::flood", 5, None, Some(1)),
+    Call("grid_paths::fill_region", 4, None, None),
 ];
 
 // The steps of a case: to the sides, or to the corners too.
@@ -29,8 +29,9 @@ fn steps(start: Start<'_>) -> Steps {
 // No position; the first cell; the first and the last cell, and one that is out of range.
 const STARTS: [&[(usize, usize)]; 3] = [&[], &[(0, 0)], &[(0, 0), (2, 2), (9, 9)]];
 
+// The positions of a case; from case 3 on the last ones.
 fn starts(start: Start<'_>) -> &'static [(usize, usize)] {
-    STARTS.get(start.case).copied().unwrap_or(&[])
+    STARTS.get(start.case.min(2)).copied().unwrap_or(&[])
 }
 
 // What a call came to, which may call its closure once for each cell.
@@ -71,38 +72,61 @@ fn cheap_path(start: Start<'_>, board: &Numbers<'_>) -> Answer {
     )
 }
 
+// It goes on, stops or stays out everywhere.
 fn flooded(start: Start<'_>, board: &Numbers<'_>) -> Answer {
-    came(flood(board, starts(start), Steps::Sides, |_| {
+    came(flood(board, starts(start), steps(start), |_| {
         start.called();
-        Enter::On
+        match start.case {
+            3 => Enter::Stop,
+            4 => Enter::No,
+            _ => Enter::On,
+        }
     }))
 }
 
+// All cells are free, or in the last case none.
 fn searched(start: Start<'_>, board: &Numbers<'_>, name: &str) -> Answer {
-    let free = |_: &u32| {
+    let free_until = |case: usize| {
         start.called();
-        true
+        start.case < case
     };
     match name {
-        "grid_paths::distances" => came(distances(board, (0, 0), steps(start), free)),
+        "grid_paths::distances" => {
+            came(distances(board, (0, 0), steps(start), |_| free_until(2)))
+        }
         "grid_paths::distances_from" => {
-            came(distances_from(board, starts(start), Steps::All, free))
+            came(distances_from(board, starts(start), Steps::All, |_| free_until(3)))
         }
         _ => came(cheapest(board, (0, 0), steps(start), |cell| {
-            start.called();
-            Some(*cell)
+            free_until(2).then_some(*cell)
         })),
     }
 }
 
-// Fills the region of the first cell with another number, or with its own.
+// Fills the region of the first cell with another number, or with its own. In case 3 the region is the board.
 fn filled(start: Start<'_>, board: &mut Numbers<'_>) -> Answer {
+    if start.case == 3 {
+        board.fill_with(|| 1);
+    }
     let value = if start.case == 2 { 1 } else { 99 };
     let answer = came(fill_region(board, (0, 0), steps(start), value));
-    if answer == Answer::Refused && !are_numbers(board, start.size, start.order) {
+    let is_unchanged = if start.case == 3 {
+        board.iter().all(|cell| *cell == 1)
+    } else {
+        are_numbers(board, start.size, start.order)
+    };
+    if answer == Answer::Refused && !is_unchanged {
         return Answer::Wrong;
     }
     answer
+}
+
+// Each cell is a region, or in case 2 the board is one.
+fn numbered(start: Start<'_>, board: &mut Numbers<'_>) -> Answer {
+    if start.case == 2 {
+        board.fill_with(|| 1);
+    }
+    came(regions(board, steps(start)))
 }
 
 pub fn call(start: Start<'_>, name: &str) -> Result<Answer, AllocError> {
@@ -111,7 +135,7 @@ pub fn call(start: Start<'_>, name: &str) -> Result<Answer, AllocError> {
     Ok(match name {
         "grid_paths::shortest_path" => path(start, &board),
         "grid_paths::cheapest_path" => cheap_path(start, &board),
-        "grid_paths::regions" => came(regions(&board, steps(start))),
+        "grid_paths::regions" => numbered(start, &mut board),
         "grid_paths::flood" => flooded(start, &board),
         "grid_paths::fill_region" => filled(start, &mut board),
         name => searched(start, &board, name),

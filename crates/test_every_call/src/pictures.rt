@@ -6,8 +6,8 @@ use std::alloc::AllocError;
 
 pub const CALLS: [Call; 8] = [
     Call("grid_pnm::read_header", 1, None, None),
-    Call("grid_pnm::from_pgm", 3, None, None),
-    Call("grid_pnm::from_ppm", 3, None, None),
+    Call("grid_pnm::from_pgm", 4, None, None),
+    Call("grid_pnm::from_ppm", 4, None, None),
     Call("grid_pnm::to_pgm", 1, None, Some(1)),
     Call("grid_pnm::to_ppm", 1, None, Some(1)),
     Call("grid_pnm::pgm_written_and_read", 1, None, None),
@@ -35,24 +35,29 @@ fn color_read(start: Start<'_>) -> Result<Answer, AllocError> {
     Ok(came(from_ppm(start.heap, picture.as_slice())))
 }
 
-// Pictures in decimals: gray, and its last sample above the greatest; colored, and the same.
-const GRAY: [&[u8]; 2] = [b"P2 2 1 9 7 9", b"P2 2 1 9 7 10"];
+// Pictures in decimals, gray and colored: good ones, and their last sample above the greatest, and no number.
+const GRAY: [&[u8]; 3] = [b"P2 2 1 9 7 9", b"P2 2 1 9 7 10", b"P2 2 1 9 7 x"];
 
-const COLORED: [&[u8]; 2] = [b"P3 1 2 9 1 2 3 4 5 6", b"P3 1 2 9 1 2 3 4 5 10"];
+const COLORED: [&[u8]; 3] = [
+    b"P3 1 2 9 1 2 3 4 5 6",
+    b"P3 1 2 9 1 2 3 4 5 10",
+    b"P3 1 2 9 1 2 3 4 5 x",
+];
 
-fn picture(pictures: [&'static [u8]; 2], start: Start<'_>) -> &'static [u8] {
-    if start.case == 1 {
-        pictures[0]
-    } else {
-        pictures[1]
+fn picture(pictures: [&'static [u8]; 3], start: Start<'_>) -> &'static [u8] {
+    match start.case {
+        1 => pictures[0],
+        2 => pictures[1],
+        _ => pictures[2],
     }
 }
 
-// What a picture of a case came to, the last of which has a fault.
+// What a picture of a case came to, the last two of which have a fault.
 fn plain_came<T: Drop>(start: Start<'_>, read: Result<T, PnmError>) -> Answer {
     match read {
         Err(PnmError::AboveMax { .. }) if start.case == 2 => Answer::Done,
-        Ok(_) if start.case == 2 => Answer::Wrong,
+        Err(PnmError::BadNumber { .. }) if start.case == 3 => Answer::Done,
+        Ok(_) if start.case > 1 => Answer::Wrong,
         read => came(read),
     }
 }
