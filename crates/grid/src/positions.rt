@@ -103,7 +103,7 @@ impl<T, A: Allocator> Grid<T, A> {
     ///     [[1, 2], [2, 3]]   positions(alloc, |x| *x == 2)   [(0, 1), (1, 0)]
     ///
     /// Requires: the closure can be called at a reference to each cell.
-    /// Fails: where memory is refused.
+    /// Fails: if allocation fails.
     /// Cost: one call for each cell, row by row in either order; the vector grows as it is filled.
     pub fn positions<B: Allocator, F: Fn(&T) -> bool>(
         &self,

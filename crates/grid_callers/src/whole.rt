@@ -19,7 +19,7 @@ pub fn of_rows<T: Drop, A: Allocator + Clone>(rows: Vec<Vec<T, A>, A>) -> Option
 
 /// Adds a row of zeros at the end.
 ///
-/// Fails: where the cells would be too many, and where memory is refused; the grid is unchanged.
+/// Fails: where the cells would be too many, and if allocation fails; the grid is unchanged.
 pub fn add_blank_row<A: Allocator + Clone>(grid: &mut Grid<u32, A>) -> Result<(), GridError>
     ensures rows { OnOk result (grid.new.rows ≡ expanded_rows 1 0 grid.old.rows) }
     ensures err { OnErr result (grid.new ≡ grid.old) }

@@ -73,9 +73,9 @@ pub enum Command<T, A: Allocator = Global> {
     DeleteRow(usize),
     /// Drops a column. Replies `Flag`: whether there was such a column.
     DeleteCol(usize),
-    /// Drops a number of rows, from a row on. Replies `Flag`: whether there were so many; if not, nothing changes.
+    /// Drops a number of rows, from a row on. Replies `Flag`: whether they were all there; if not, nothing changes.
     DeleteRows(usize, usize),
-    /// Drops a number of columns, from a column on. Replies `Flag`: whether there were so many; if not, nothing
+    /// Drops a number of columns, from a column on. Replies `Flag`: whether they were all there; if not, nothing
     /// changes.
     DeleteCols(usize, usize),
     /// Adds rows of defaults at the end; an empty grid stays empty. Replies `Done`; takes memory where it adds rows.

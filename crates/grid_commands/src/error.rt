@@ -13,7 +13,7 @@ use thiserror::Error;
 pub enum GridError {
     /// The number of cells would pass `usize::MAX`.
     TooLarge,
-    /// Memory was refused.
+    /// Allocation failed.
     Memory,
 }
 
@@ -41,7 +41,7 @@ pub enum ShapeError {
         /// The length of row 0.
         cols: usize,
     },
-    /// Memory was refused.
+    /// Allocation failed.
     #[error("out of memory")]
     Memory,
 }

@@ -27,7 +27,7 @@ pub enum CsvError {
         /// The number of those of record 1.
         cols: usize,
     },
-    /// Memory was refused.
+    /// Allocation failed.
     #[error("out of memory")]
     Memory,
 }

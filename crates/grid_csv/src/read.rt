@@ -22,7 +22,7 @@ use std::str;
 ///
 /// Requires: `read` can be called at every field.
 /// Fails: `BadField` or `Ragged` of the first record that is no row; its fields are tested before their number.
-/// `Memory` where memory is refused, also to `read`.
+/// `Memory` if allocation fails, also in `read`.
 /// Cost: one call for each field; the vector of cells grows as it is filled.
 pub fn from_csv<T: Drop, F>(alloc: Global, bytes: &[u8], read: F) -> Result<Grid<T>, CsvError>
 where

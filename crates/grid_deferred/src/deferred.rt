@@ -226,8 +226,8 @@ impl<'a, T, A: Allocator> Deferred<'a, T, A> {
     /// carried to the base and its reply back; an expand, a prepend or a delete adds the cells that it moves there to
     /// the shift count of the tally. Nothing is added to the symmetry count.
     ///
-    /// Fails: where memory is refused; this comes only at a command that takes memory. The base, what is pending and
-    /// the tally are unchanged, and the command is dropped.
+    /// Fails: if allocation fails; this comes only at a command that takes memory. The base, what is pending and the
+    /// tally are unchanged, and the command is dropped.
     /// Cost: that of the carried command.
     pub fn step(
         &mut self,

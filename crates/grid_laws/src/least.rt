@@ -35,7 +35,7 @@ use std::alloc::{AllocError, Allocator};
 /// The clauses `price_law` and `shift_law` say it of every table with different cells, in both orders: what the command
 /// would count there is the least.
 ///
-/// Fails: where memory is refused, as `step` does. The grid and the tally are unchanged.
+/// Fails: if allocation fails, as `step` does. The grid and the tally are unchanged.
 /// Cost: that of `step`.
 pub fn step_by_least<T, A: Allocator>(
     grid: &mut Grid<T, A>,

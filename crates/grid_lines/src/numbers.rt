@@ -31,7 +31,7 @@ fn line<T, A: Allocator>(grid: &Grid<T, A>, r: usize) -> GridLineIter<'_, T>
     }
 }
 
-// Returns the numbers of the rows, sorted by what `compare` answers of the rows.
+// Returns the numbers of the rows, sorted by what `compare` returns for them.
 pub(crate) fn numbers_by<T, A: Allocator + Clone, F>(
     grid: &Grid<T, A>,
     mut compare: F,

@@ -75,7 +75,7 @@ fn rewrite_stored<T, A: Allocator, F: FnMut(&mut [T])>(grid: &mut Grid<T, A>, f:
     }
 }
 
-// Rewrites the rows of a row-major table, which stand one after another.
+// Rewrites the rows of a row-major table, which are one after another.
 fn rewrite_along<T, F: FnMut(&mut [T])>(cells: &mut [T], rows: usize, cols: usize, mut f: F)
     requires size { HoldsSize rows cols (length cells.old) }
     requires callable { F.IsAlwaysCallable f }

@@ -13,7 +13,7 @@ pub enum ScriptFault {
     BadGrid,
     /// The line of this number, counted from 1, is no command.
     BadCommand(usize),
-    /// Memory was refused.
+    /// Allocation failed.
     Memory,
 }
 

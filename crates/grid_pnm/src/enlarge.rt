@@ -7,7 +7,7 @@ ghost use Rattle.grid_pnm.specs.Enlarging.{enlarged};
 use grid::{Grid, GridError, Order};
 use std::alloc::Allocator;
 
-/// Returns the row-major grid in which each cell fills a square of so many rows and columns.
+/// Returns the row-major grid in which each cell fills a square of `scale` rows and columns.
 ///
 ///     [[1, 2]]   enlarged(alloc, grid, 2)   [[1, 1, 2, 2], [1, 1, 2, 2]]
 ///

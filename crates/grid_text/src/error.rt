@@ -37,7 +37,7 @@ pub enum TextError {
         /// The number of those of line 1.
         cols: usize,
     },
-    /// Memory was refused.
+    /// Allocation failed.
     #[error("out of memory")]
     Memory,
 }

@@ -36,7 +36,7 @@ pub fn mode(args: &[String]) -> Option<bool>
 
 /// Returns the bytes of the reader up to its end.
 ///
-/// Fails: where reading fails, memory is refused, or the end doesn't come within `READS` reads.
+/// Fails: if reading or allocation fails, or the end doesn't come within `READS` reads.
 pub fn read_all<A: Allocator, R: Read>(alloc: A, reader: &mut R) -> io::Result<Vec<u8, A>>
     ensures { IfOk result (λ bytes. IfSome (R.remaining reader.old) (λ left. bytes.items ≡ left)) }
 {

@@ -48,7 +48,7 @@ fn read_ask<'a>(alloc: Global, head: &'a str) -> Result<Ask<'a>, AllocError> {
     })
 }
 
-// How many requests for memory are made for a vector of so many positions, each time that it is full.
+// How many requests for memory are made for a vector of `len` positions, each time that it is full.
 fn growths(len: usize) -> u64 {
     let full: [usize; 7] = [0, 4, 8, 16, 32, 64, 128];
     let mut count = 0u64;

@@ -1,5 +1,5 @@
-//! Larger inputs: texts, sheets and rows of JSON with a fault at each line and word, a way of 77 steps, and the words of want
-//! of memory.
+//! Larger inputs: texts, sheets and rows of JSON with a fault at each line and word, a path of 77 steps, and the words
+//! of a failed allocation.
 use crate::state::{Answer, came};
 use grid::{Grid, GridError, Order, ShapeError};
 use grid_csv::{CsvError, from_csv};
@@ -231,12 +231,12 @@ fn try_flaws<R: Print + AllocGlobal>(rt: &R) -> io::Result<()> {
     println!(rt; "flaws of what is read: {told} are told")
 }
 
-// The side of the board of the long way, and where the way ends.
+// The side of the board of the long path, and where the path ends.
 const SIDE: usize = 12;
 
 const END: (usize, usize) = (11, 0);
 
-// A way that goes along every second row, to the right and to the left in turn: 78 cells.
+// A path that goes along every second row, to the right and to the left in turn: 78 cells.
 fn is_free((row, col): (usize, usize)) -> bool {
     row % 2 == 0 || (row % 4 == 1 && col == SIDE - 1) || (row % 4 == 3 && col == 0)
 }
@@ -284,7 +284,7 @@ fn numbered(maze: &Maze<'_>, name: &str, calls: &Cell<u64>) -> Answer {
     is_walked(came(sums), right)
 }
 
-// The way from the first cell to the end, by the call of this name.
+// The path from the first cell to the end, by the call of this name.
 fn walked(maze: &Maze<'_>, name: &str, calls: &Cell<u64>) -> Answer {
     let count = || calls.set(calls.get().wrapping_add(1));
     if name == "shortest_path" {
@@ -311,7 +311,7 @@ fn walked(maze: &Maze<'_>, name: &str, calls: &Cell<u64>) -> Answer {
     is_walked(came(path), right)
 }
 
-// Searches with so many requests. Whatever came of it, nothing is held in the end.
+// Searches with `granted` requests. Whatever came of it, nothing is held in the end.
 fn searched(alloc: Global, order: Order, name: &str, granted: u64) -> Result<Answer, AllocError> {
     let heap = Fuse::new(alloc, 0);
     let calls = Cell::new(0u64);
@@ -363,7 +363,7 @@ fn try_searches<R: Print + AllocGlobal>(rt: &R) -> io::Result<()> {
     Ok(())
 }
 
-// Whether a fault is told by the words of want of memory.
+// Whether a fault is told by the words of a failed allocation.
 fn is_out_of_memory<T: Display + Drop>(alloc: Global, fault: T) -> Result<bool, AllocError> {
     let mut text = String::new(alloc);
     write!(&mut text, "{fault}")?;

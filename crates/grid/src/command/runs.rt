@@ -14,9 +14,9 @@ use std::alloc::Allocator;
 ///
 /// The list of replies is reserved before the first command.
 ///
-/// Fails: where memory is refused, at a command that takes memory, or before the first command of a list that isn't
-/// empty. The grid has the rows after the commands that were done, and their replies come with the error; the commands
-/// that remain are dropped.
+/// Fails: if allocation fails, at a command that takes memory, or before the first command of a list that isn't empty.
+/// The grid has the rows after the commands that were done, and their replies come with the error; the commands that
+/// remain are dropped.
 /// Cost: that of the commands.
 pub fn run<T, A: Allocator>(
     alloc: A,

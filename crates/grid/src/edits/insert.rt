@@ -12,7 +12,7 @@ use grid_base::{Flat, Order};
 use grid_commands::first_len;
 use std::alloc::Allocator;
 
-// Puts the rows that stand behind the cells of a table, `count` of them in storage order, before its row `at`.
+// Puts the rows that are behind the cells of a table, `count` of them in storage order, before its row `at`.
 pub(super) fn weave_rows<T, A: Allocator>(
     flat: &mut Flat<T, A>,
     order: Order,

@@ -32,7 +32,7 @@ pub struct GridLineIter<'a, T> {
     cells: Cells<'a, T>,
 }
 
-// The cells that are left. Where they stand together, a loop over them is as fast as one over a slice.
+// The cells that are left. Where they are side by side, a loop over them is as fast as one over a slice.
 #[derive(Drop)]
 enum Cells<'a, T> {
     Together(slice::Iter<'a, T>),
@@ -133,7 +133,7 @@ impl<'a, T> ExactSizeIterator for GridLineIter<'a, T> {
 
 impl<'a, T> FusedIterator for GridLineIter<'a, T> {}
 
-/// Returns an iterator that stands at the same cells.
+/// Returns an iterator at the same cells.
 ///
 /// Cost: constant; it is always `Ok`, and takes no memory.
 impl<'a, T> Clone for GridLineIter<'a, T> {

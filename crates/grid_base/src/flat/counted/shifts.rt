@@ -10,7 +10,7 @@ use std::mem;
 // Shorter blocks cost more to begin than vector code saves.
 const SHORT_BLOCK: usize = 8;
 
-// So many swaps at a distance of one or two are code without a loop.
+// At a distance of one or two this many swaps are code without a loop.
 const SWAPS_AT_ONCE: usize = 32;
 
 // At shorter distances nothing is gained by three blocks at once.
@@ -20,8 +20,8 @@ const LONG_SHIFT: usize = 16;
 const VECTOR: usize = 16;
 
 impl<T, A: Allocator> Flat<T, A> {
-    // Moves the `n` cells that stand `shift` places behind `start` there, the first first, by `n` swaps for a shift, which
-    // the run goes on with.
+    // Moves the `n` cells that are `shift` places behind `start` there, the first first, by `n` swaps for a shift,
+    // which the run goes on with.
     //
     //     [1, 2, 3, 4, 5]   move_forward(0, 2, 3)   [3, 4, 5, 2, 1]   3 swaps
     //
@@ -213,7 +213,7 @@ fn swap_back<T>(cells: &mut [T], start: usize, shift: usize, n: usize, mut swaps
     swaps
 }
 
-// How many cells are swapped as one block: no more than come to places where none of them stands, so that the block is
+// How many cells are swapped as one block: no more than come to places where none of them is, so that the block is
 // vector code, and whole vectors where cells are bytes and it is longer than one.
 fn block_of(shift: usize, n: usize) -> usize
     requires moves { 0 < shift }
