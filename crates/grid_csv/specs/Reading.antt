@@ -94,7 +94,7 @@ abbrev pub without_header : {H T : Type 0} → Result (H × GridValue T) CsvErro
 without_header (Ok p) = Ok p.1
 without_header (Err e) = Err e
 
--- the answer is the row-major grid that was read, or the fault; or memory was refused
+-- the answer is the row-major grid that was read, or the fault; or allocation failed
 abbrev pub IsOrMemory : {T : Type 0} → Result (List (List T)) CsvError → Result (GridValue T) CsvError
     → Type 0
 IsOrMemory read answer = (answer ≡ Err Memory)
@@ -119,7 +119,7 @@ module _ {T : Type 0} (R : List ℕ → Option T → Type 0) where
   AreRows cols records rows = AllZip (λ fields row. AreCells fields row × (length row ≡ cols))
       records rows
 
-  -- the first of these fields that may be no cell stands at this place, counted from 1
+  -- the first of these fields that may be no cell is at this place, counted from 1
   pub record IsBadAt (fields : List (List ℕ)) (place : ℕ) : Type 0 where
     pub before : List (List ℕ)
     pub field : List ℕ
@@ -150,7 +150,7 @@ module _ {T : Type 0} (R : List ℕ → Option T → Type 0) where
     pub bad : IsBadRecord (number + length before) cols fields e
 
   -- the answer is the row-major grid of rows that may be read of these records, of which the first
-  -- has this number, or the fault; or memory was refused
+  -- has this number, or the fault; or allocation failed
   abbrev pub MayRead : ℕ → ℕ → List (List (List ℕ)) → Result (GridValue T) CsvError → Type 0
   MayRead number cols records answer = MatchResult answer
       (λ g. AreRows cols records g.rows × (g.order ≡ RowMajor))
