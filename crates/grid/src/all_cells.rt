@@ -21,8 +21,8 @@ impl<T, A: Allocator> Grid<T, A> {
     /// Where the cells are `Copy`, [`fill_with(|| value)`](Grid::fill_with) does the same, is faster, takes no memory and
     /// never fails.
     ///
-    /// Requires: clones of the cell type equal their source. Where they needn't, as of cells that hold a `String`, call
-    /// [`step`](Grid::step) with [`Command::Fill`](crate::Command::Fill).
+    /// Requires: clones of the cell type equal their source. Where they needn't, as for cells that hold a `String`,
+    /// call [`step`](Grid::step) with [`Command::Fill`](crate::Command::Fill).
     /// Fails: if allocation fails; the grid is unchanged, and the value is dropped. An empty grid takes no memory and
     /// never fails.
     /// Cost: one clone for each cell but the last, all of them before the first change; one allocation, of a second
@@ -168,8 +168,8 @@ impl<T, A: Allocator> Grid<T, A> {
         })
     }
 
-    /// Same as [`map_indexed`](Grid::map_indexed) of a closure that may fail. `Ok(Err(error))` is its first error, in
-    /// storage order; the cells that were made are dropped. `??` passes on either error.
+    /// Same as [`map_indexed`](Grid::map_indexed) with a closure that may fail. `Ok(Err(error))` is its first error, in
+    /// storage order; the cells that were made are dropped. `??` propagates either error.
     ///
     ///     [[1, 2], [3, 4]]   try_map_indexed(|_, x| 9u8.checked_sub(*x).ok_or("big"))   Ok(Ok([[8, 7], [6, 5]]))
     ///
@@ -228,7 +228,7 @@ impl<T, A: Allocator> Grid<T, A> {
     }
 }
 
-/// Returns `GridError::Memory`, so that `?` passes on what [`map`](Grid::map) refused. The grid is dropped.
+/// Returns `GridError::Memory`, so that `?` propagates a failed [`map`](Grid::map). The grid is dropped.
 impl<T: Drop, A: Allocator> From<Grid<T, A>> for GridError {
     ghost from_gives = { λ _ e. e ≡ Memory };
 
@@ -237,7 +237,7 @@ impl<T: Drop, A: Allocator> From<Grid<T, A>> for GridError {
     }
 }
 
-/// Returns the error, so that `?` passes on what [`map`](Grid::map) refused. The grid is dropped.
+/// Returns the error, so that `?` propagates a failed [`map`](Grid::map). The grid is dropped.
 impl<T: Drop, A: Allocator> From<Grid<T, A>> for AllocError {
     ghost from_gives = { λ _ _. ⊤ };
 

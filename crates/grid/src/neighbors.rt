@@ -181,7 +181,7 @@ impl<T, A: Allocator> Grid<T, A> {
         count_near(self.neighbors4(at), test)
     }
 
-    /// Returns how many of the cells that touch the cell at this position the closure returns `true` at. It counts as
+    /// Returns for how many of the cells that touch the cell at this position the closure returns `true`. It counts as
     /// fast as a loop over [`neighbors8`](Grid::neighbors8), where `filter` and `count` do not.
     ///
     ///     [[1, 2, 3], [4, 5, 6]]   count_neighbors8((0, 2), |cell| 4 < *cell)   2: the cells 5 and 6
@@ -226,15 +226,16 @@ impl<T, A: Allocator> Grid<T, A> {
         count_wrapped(self.wrapped_neighbors8(at), test)
     }
 
-    /// Returns the grid of what the closure `rule` returns at a reference to each cell, and at how many of the cells
-    /// that touch it, at a side or a corner, the closure `test` returns `true`. The size and the order are the same.
+    /// Returns the grid of what the closure `rule` returns for a reference to each cell and the number of the cells
+    /// that touch it, at a side or a corner, for which the closure `test` returns `true`. The size and the order are
+    /// the same.
     ///
     ///     [[1, 2, 3], [4, 5, 6]]   map_counts8(|x| 4 < *x, |_, n| n)   [[1, 2, 2], [1, 1, 1]]
     ///
     /// It takes a tenth of the time of [`map_indexed`](Grid::map_indexed) with [`count_neighbors8`](Grid::count_neighbors8),
     /// or less, where `rule` has no branch: write `|` and `&` in it, and not `||` and `&&`.
     ///
-    /// Requires: the closures can be called so.
+    /// Requires: the closures can be called with these arguments.
     /// Fails: if allocation fails; neither closure was called.
     /// Cost: one call of each closure for each cell; one allocation, and three of a line of `bool`s, before the first call.
     pub fn map_counts8<U, F: Fn(&T) -> bool, G: Fn(&T, u8) -> U>(
@@ -259,7 +260,7 @@ impl<T, A: Allocator> Grid<T, A> {
     ///
     ///     [[1, 2, 3], [4, 5, 6], [7, 8, 9]]   map_wrapped_counts8(|x| 4 < *x, |_, n| n)   [[5, 5, 5], [5, 4, 4], [4, 4, 4]]
     ///
-    /// Requires: the closures can be called so.
+    /// Requires: the closures can be called with these arguments.
     /// Fails: if allocation fails; neither closure was called.
     /// Cost: one call of each closure for each cell, and one more of `test` for each cell of two lines; one allocation, and
     /// three of a line of `bool`s, before the first call.
@@ -286,7 +287,7 @@ impl<T, A: Allocator> Grid<T, A> {
     ///
     ///     [[1, 2, 3], [4, 5, 6]]   map_sums8(|x| *x, |x, sum| sum + u16::from(*x))   [[12, 21, 16], [12, 21, 16]]
     ///
-    /// Requires: the closures can be called so.
+    /// Requires: the closures can be called with these arguments.
     /// Fails: if allocation fails; neither closure was called.
     /// Cost: one call of each closure for each cell; one allocation, and three of a line of `u8`s, before the first call.
     pub fn map_sums8<U, F: Fn(&T) -> u8, G: Fn(&T, u16) -> U>(
@@ -310,7 +311,7 @@ impl<T, A: Allocator> Grid<T, A> {
     ///
     ///     [[1, 2, 3], [4, 5, 6], [7, 8, 9]]   map_wrapped_sums8(|x| *x, |_, sum| sum)   [[44, 43, 42], [41, 40, 39], [38, 37, 36]]
     ///
-    /// Requires: the closures can be called so.
+    /// Requires: the closures can be called with these arguments.
     /// Fails: if allocation fails; neither closure was called.
     /// Cost: one call of each closure for each cell, and one more of `weight` for each cell of two lines; one allocation, and
     /// three of a line of `u8`s, before the first call.
@@ -467,7 +468,7 @@ impl<T, A: Allocator> Grid<T, A> {
     }
 }
 
-// How many of these cells the closure returns `true` at.
+// For how many of these cells the closure returns `true`.
 fn count_near<T, F: Fn(&T) -> bool>(near: Neighbors<'_, T>, test: F) -> usize
     requires most { length near ≤ 8 }
     requires callable { CallableNear F.pre test near }
@@ -483,7 +484,7 @@ fn count_near<T, F: Fn(&T) -> bool>(near: Neighbors<'_, T>, test: F) -> usize
     count
 }
 
-// How many of these cells the closure returns `true` at.
+// For how many of these cells the closure returns `true`.
 fn count_wrapped<T, F: Fn(&T) -> bool>(near: WrappedNeighbors<'_, T>, test: F) -> usize
     requires most { length near ≤ 8 }
     requires callable { CallableNear F.pre test near }

@@ -1,6 +1,6 @@
 //! Commands, refusals and replies as data.
 //!
-//! A command is read once, by `command_value`; every other definition and all steps go by what it says.
+//! A command is read once, by `command_value`; every other definition and all steps use what it says.
 ghost use Rattle.std.specs.Prelude.{◌≡◌};
 ghost use Rattle.grid_commands.specs.Command.{command_value, axis_of};
 
@@ -114,7 +114,7 @@ pub enum Refusal {
     Length,
     /// A row, a column or an insertion point is out of range.
     Index,
-    /// The number of cells would pass `usize::MAX`.
+    /// The number of cells would exceed `usize::MAX`.
     TooLarge,
 }
 
@@ -145,7 +145,7 @@ pub enum Reply<T, A: Allocator = Global> {
     Refused(Refusal),
 }
 
-/// A run that found no memory.
+/// A run that stopped because allocation failed.
 ///
 /// The grid has the rows after the first `done` commands, and `replies` are theirs.
 #[derive(Drop)]

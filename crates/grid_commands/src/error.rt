@@ -11,7 +11,7 @@ use thiserror::Error;
 /// Why a grid of a size could not be made, or could not grow to it.
 #[derive(Clone, Copy, Debug, PartialEq, Eq)]
 pub enum GridError {
-    /// The number of cells would pass `usize::MAX`.
+    /// The number of cells would exceed `usize::MAX`.
     TooLarge,
     /// Allocation failed.
     Memory,
@@ -20,7 +20,7 @@ pub enum GridError {
 /// Why cells or rows could not be made a grid.
 #[derive(Clone, Copy, Debug, PartialEq, Eq, Error)]
 pub enum ShapeError {
-    /// The number of cells would pass `usize::MAX`.
+    /// The number of cells would exceed `usize::MAX`.
     #[error("too many cells")]
     TooLarge,
     /// `len` cells cannot be cut into rows of `cols`.

@@ -2,7 +2,7 @@
 //!
 //! Fields are separated by commas. A field may be in quotes, and may then hold commas, line feeds, and quotes, each
 //! written twice. A record ends at a line feed, a carriage return or both, or at the end of the text; blank lines are
-//! no records. A byte order mark at the start is passed over.
+//! no records. A byte order mark at the start is skipped.
 #![tactic(auto)]
 
 mod error;

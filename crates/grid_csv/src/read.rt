@@ -87,8 +87,8 @@ fn reader_of(alloc: Global, bytes: &[u8]) -> Reader<&[u8]>
         .from_reader(alloc, bytes)
 }
 
-// Reads the next record, and returns whether there was one. Of bytes in memory, and of records of any lengths, the reader
-// fails for memory alone.
+// Reads the next record, and returns whether there was one. Of bytes in memory, and of records of any lengths, the
+// reader fails only if allocation fails.
 fn next_row(reader: &mut Reader<&[u8]>, row: &mut ByteRecord) -> Result<bool, CsvError>
     ensures ok { (left : List (List (List ℕ))) → HasLeft reader.old left
         → IfOk result (λ found. MatchBool found

@@ -217,7 +217,7 @@ impl<'a, T, A: Allocator> Deferred<'a, T, A> {
         Ok(Reply::Line(Some(line)))
     }
 
-    /// Does a command on the shown grid, and returns its reply.
+    /// Executes a command on the shown grid, and returns its reply.
     ///
     ///     over([[1, 2]])   step(Apply(FlipCols))     Done   base [[1, 2]], shown [[2, 1]]
     ///                      step(PushRow([3, 4]))     Done   base [[1, 2], [4, 3]], shown [[2, 1], [3, 4]]

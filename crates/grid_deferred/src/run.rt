@@ -7,9 +7,9 @@ use crate::Deferred;
 use grid::{Command, Grid, Reply, RunStopped, Tally};
 use std::alloc::Allocator;
 
-/// Does a list of commands in turn, each as [`Deferred::step`] does it, applies what is pending then, and returns their
-/// replies: those of [`grid::run`], with the same rows and order. The symmetries cost what the one that they join to
-/// costs, at most half of the final cells in swaps.
+/// Executes a list of commands in turn, each as [`Deferred::step`] does it, applies what is pending then, and returns
+/// their replies: those of [`grid::run`], with the same rows and order. The symmetries cost what the one that they join
+/// to costs, at most half of the final cells in swaps.
 ///
 ///     [[1, 2]]   run_deferred([Apply(FlipCols), PushRow([3, 4]), Size])   [Done, Done, Size(2, 2)]   [[2, 1], [3, 4]]
 ///

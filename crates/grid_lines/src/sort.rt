@@ -17,7 +17,7 @@ use std::cmp::Ordering;
 ///
 ///     [[3, 1], [2, 2], [3, 0]]   sort_rows_by(grid, |mut a, mut b| a.next().cmp(&b.next()))   [[2, 2], [3, 1], [3, 0]]
 ///
-/// Where what it returns is no consistent order, the rows end in some order.
+/// Where the results follow no order, the rows end in some order.
 ///
 /// Requires: the closure can always be called.
 /// Fails: if allocation fails; the grid is unchanged.
@@ -53,7 +53,7 @@ where
 ///
 ///     [[3, 2, 3], [1, 2, 0]]   sort_cols_by(grid, |mut a, mut b| a.next().cmp(&b.next()))   [[2, 3, 3], [2, 1, 0]]
 ///
-/// Where what it returns is no consistent order, the columns end in some order.
+/// Where the results follow no order, the columns end in some order.
 ///
 /// Requires: the closure can always be called.
 /// Fails: if allocation fails; the grid is unchanged.
@@ -85,12 +85,12 @@ where
     sorted
 }
 
-/// Sorts the rows by the key that the closure gives of each. It is called once at each row, if there are two or more. Rows
-/// whose keys tie stay in their order. The order of the storage stays.
+/// Sorts the rows by the key that the closure returns for each. It is called once for each row, if there are two or
+/// more. Rows whose keys tie stay in their order. The order of the storage stays.
 ///
 ///     [[3, 1], [2, 2], [3, 0]]   sort_rows_by_key(grid, |row| row.copied().sum::<u32>())   [[3, 0], [3, 1], [2, 2]]
 ///
-/// Where the closure gives no function's values, the rows end in some order.
+/// Where its keys are not a function of the row, the rows end in some order.
 ///
 /// Requires: the closure can always be called.
 /// Fails: if allocation fails; the grid is unchanged.
@@ -119,12 +119,12 @@ where
     Ok(())
 }
 
-/// Sorts the columns by the key that the closure gives of each. It is called once at each column, if there are two or more.
-/// Columns whose keys tie stay in their order. The order of the storage stays.
+/// Sorts the columns by the key that the closure returns for each. It is called once for each column, if there are two
+/// or more. Columns whose keys tie stay in their order. The order of the storage stays.
 ///
 ///     [[3, 2, 3], [1, 2, 0]]   sort_cols_by_key(grid, |col| col.copied().sum::<u32>())   [[3, 3, 2], [0, 1, 2]]
 ///
-/// Where the closure gives no function's values, the columns end in some order.
+/// Where its keys are not a function of the column, the columns end in some order.
 ///
 /// Requires: the closure can always be called.
 /// Fails: if allocation fails; the grid is unchanged.

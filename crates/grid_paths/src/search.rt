@@ -10,7 +10,7 @@ use grid::Grid;
 use grid_near::Steps;
 use std::alloc::{AllocError, Allocator};
 
-// How many positions of a queue are gone on from before it drops them.
+// How many positions of a queue are processed before it drops them.
 const MANY: usize = 2048;
 
 // For how many positions a queue has room from the start.

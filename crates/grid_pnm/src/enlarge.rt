@@ -11,7 +11,7 @@ use std::alloc::Allocator;
 ///
 ///     [[1, 2]]   enlarged(alloc, grid, 2)   [[1, 1, 2, 2], [1, 1, 2, 2]]
 ///
-/// Fails: `TooLarge` where the cells pass `usize::MAX`, else `Memory`.
+/// Fails: `TooLarge` where the cells exceed `usize::MAX`, else `Memory`.
 /// Cost: one copy for each cell of the new grid; one allocation.
 pub fn enlarged<T: Copy, A: Allocator, B: Allocator>(
     alloc: B,

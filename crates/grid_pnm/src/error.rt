@@ -31,7 +31,7 @@ pub enum PnmError {
         /// The byte behind the greatest sample.
         at: usize,
     },
-    /// The raster has less bytes than the size says samples.
+    /// The raster has fewer bytes than a picture of this size has samples.
     #[error("too few bytes from byte {at} on for {rows} rows of {cols} cells")]
     Short {
         /// Where the raster begins.

@@ -36,7 +36,7 @@ pub fn from_pgm<A: Allocator>(alloc: A, bytes: &[u8]) -> Result<Grid<u8, A>, Pnm
 ///
 ///     from_ppm(alloc, b"P3 1 2 255 255 0 0  9 8 7")   [[[255, 0, 0]], [[9, 8, 7]]]
 ///
-/// Cost: one allocation; of a plain picture two, of which one is given back.
+/// Cost: one allocation; for a plain picture two, of which one is freed.
 pub fn from_ppm<A: Allocator + Clone>(alloc: A, bytes: &[u8]) -> Result<Grid<[u8; 3], A>, PnmError>
     ensures { IsOrMemory 3 bytes.now (ppm_of bytes.now) result }
 {

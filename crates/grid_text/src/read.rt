@@ -103,8 +103,8 @@ pub fn from_words<T: Drop, A: Allocator, F: Fn(&str) -> Option<T>>(
     try_from_words(alloc, text, |word| Ok(read(word)))
 }
 
-/// Same as [`from_words`], of a closure that may find no memory, as one that makes a `String` of a word: `Err` of it is
-/// `Memory` here.
+/// Same as [`from_words`], with a closure that may fail to allocate, as one that makes a `String` of a word: its `Err`
+/// is `Memory` here.
 ///
 ///     try_from_words(alloc, "ab c\n", |word| Ok(Some(String::from_str(alloc, word)?)))   [["ab", "c"]]
 pub fn try_from_words<T: Drop, A: Allocator, F>(

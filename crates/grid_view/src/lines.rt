@@ -108,7 +108,7 @@ impl<'a, T> Model for ViewLineIter<'a, T> {
 }
 
 impl<'a, T> ViewLineIter<'a, T> {
-    /// Passes over `n` cells and returns the next, or `None` if fewer remain.
+    /// Skips `n` cells and returns the next, or `None` if fewer remain.
     ///
     ///     [[1, 2, 3, 4]]   iter_row(0), then nth(2)   Some(3), and 4 remains
     ///
@@ -210,7 +210,7 @@ impl<'a, T> Model for ViewRowIter<'a, T> {
 }
 
 impl<'a, T> ViewRowIter<'a, T> {
-    /// Passes over `n` rows and returns the next, or `None` if fewer remain.
+    /// Skips `n` rows and returns the next, or `None` if fewer remain.
     ///
     ///     [[1, 2], [3, 4], [5, 6]]   iter_rows(), then nth(1)   3, 4; and 5, 6 remains
     ///

@@ -8,7 +8,7 @@ use grid_base::Tally;
 use grid_commands::{Command, Reply, RunStopped};
 use std::alloc::Allocator;
 
-/// Does a list of commands in turn, each as [`Grid::step`] does it, and returns their replies.
+/// Executes a list of commands in turn, each as [`Grid::step`] does it, and returns their replies.
 ///
 ///     [[1, 2]]   run([Apply(FlipCols), PushRow([3, 4]), Size])   [Done, Done, Size(2, 2)]   [[2, 1], [3, 4]]
 ///

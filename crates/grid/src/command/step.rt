@@ -109,7 +109,7 @@ where
 }
 
 impl<T, A: Allocator> Grid<T, A> {
-    /// Does a command, and returns its reply.
+    /// Executes a command, and returns its reply.
     ///
     ///     [[1, 2]]   step(PushRow([3, 4]))   Done                [[1, 2], [3, 4]]
     ///     [[1, 2]]   step(PushRow([3]))      Refused(Length)     [[1, 2]]

@@ -44,8 +44,8 @@ impl<T, A: Allocator> Flat<T, A> {
         Ok(Flat { cells })
     }
 
-    /// Same as [`from_fn`](Flat::from_fn) of a closure that may fail: its first error comes back, and the cells that were
-    /// made are dropped.
+    /// Same as [`from_fn`](Flat::from_fn) with a closure that may fail: its first error comes back, and the cells that
+    /// were made are dropped.
     ///
     /// Requires: as `from_fn`.
     /// Fails: if allocation fails; the closure wasn't called.

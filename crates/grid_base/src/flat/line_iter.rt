@@ -71,7 +71,7 @@ impl<'a, T> GridLineIter<'a, T> {
         GridLineIter { cells }
     }
 
-    /// Passes over `n` cells and returns the next, or `None` if fewer remain.
+    /// Skips `n` cells and returns the next, or `None` if fewer remain.
     ///
     /// Cost: the same time at every `n`.
     pub fn nth(&mut self, n: usize) -> Option<&'a T>

@@ -43,7 +43,7 @@ impl<'a, T> StridedIter<'a, T> {
         }
     }
 
-    // Passes over `n` of the cells that are left.
+    // Skips `n` of the cells that are left.
     pub(super) fn pass(&mut self, n: usize)
         requires { n ≤ length self.old }
         ensures { self.new ≡ drop n self.old }

@@ -76,8 +76,8 @@ impl<T, A: Allocator> Flat<T, A> {
     }
 }
 
-// As `swap_forward`. The distance and how many swaps are done at once are numbers in the code, so that a cell goes from
-// swap to swap in a register, and the cells between are read and written as vectors.
+// As `swap_forward`. The distance and how many swaps are done at once are constants in the code, so that a cell goes
+// from swap to swap in a register, and the cells between are read and written as vectors.
 #[tactic(auto, using(crate::proofs::ShiftLemmas::forward_start, crate::proofs::ShiftLemmas::forward_swap))]
 fn swap_forward_by<const SHIFT: usize, T>(
     cells: &mut [T],
@@ -130,9 +130,9 @@ fn swap_forward<T>(cells: &mut [T], start: usize, shift: usize, n: usize, mut sw
     swap_forward_by_block(cells, start + done, shift, n - done, swaps)
 }
 
-// As `swap_forward` with `3 * shift` swaps: three blocks of `shift` cells come before the one at `start`. Each place takes
-// three swaps, one after another, so that a cell of the middle blocks is read and written once. Each place is reckoned
-// from the one before it, so that the compiler sees that they differ.
+// As `swap_forward` with `3 * shift` swaps: three blocks of `shift` cells come before the one at `start`. Each place
+// takes three swaps, one after another, so that a cell of the middle blocks is read and written once. Each place is
+// computed from the one before it, so that the compiler sees that they differ.
 #[inline(never)]
 #[tactic(auto, using(crate::proofs::ShiftLemmas::three_none, crate::proofs::ShiftLemmas::three_all))]
 fn swap_three_blocks<T>(cells: &mut [T], start: usize, shift: usize, mut swaps: Swaps) -> Swaps
