@@ -44,8 +44,8 @@ pub fn exchange<T, A: Allocator>(
     }
 }
 
-/// Adds a row at the end. The line comes back where it has no cells, where it doesn't fit, and where there is no
-/// memory; the grid is unchanged then.
+/// Adds a row at the end. The line comes back where it has no cells, where it doesn't fit, and if allocation fails; the
+/// grid is unchanged then.
 pub fn push<T: Drop, A: Allocator>(grid: &mut Grid<T, A>, line: Vec<T, A>) -> Result<(), Vec<T, A>>
     ensures rows { OnOk result
         (grid.new.rows ≡ insert grid.old.rows (row_count grid.old.rows) line.items) }

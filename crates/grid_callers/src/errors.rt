@@ -1,4 +1,4 @@
-//! Errors that go up by `?`.
+//! Errors that `?` propagates.
 ghost use Rattle.std.specs.Prelude.{◌≡◌, ◌↔◌, ◌+◌, ◌<◌, IsErrOf, IfErr, IfOk, OnOk, OnErr, Some, length, codes};
 ghost use Rattle.std.specs.List.{insert};
 ghost use Rattle.grid_base.specs.Table.{row_count, col_count};

@@ -75,8 +75,8 @@ pub fn four_by_four<A: Allocator + Clone>(board: &mut Grid<u8, A>) -> Result<(),
     Ok(())
 }
 
-/// Keeps the first row and column of a board that has two of each, and returns whether it has: this takes no memory, so
-/// the error can't come.
+/// Keeps the first row and column of a board that has two of each, and returns whether it has: this allocates nothing,
+/// so the error can't occur.
 pub fn keep_first_cell<A: Allocator + Clone>(board: &mut Grid<u8, A>) -> bool {
     if 1 < board.rows() && 1 < board.cols() {
         match board.resize(1, 1) {

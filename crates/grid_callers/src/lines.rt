@@ -74,7 +74,7 @@ pub fn sort_and_mark<A: Allocator + Clone>(board: &mut Grid<u8, A>) -> Result<()
     Ok(())
 }
 
-/// Turns each row round.
+/// Reverses each row.
 pub fn mirror<T, A: Allocator>(board: &mut Grid<T, A>)
     ensures { board.new.rows ≡ map reverse board.old.rows }
 {

@@ -52,7 +52,7 @@ row_before number cols (Ok row) later = if length row == cols then prepend row l
     else Err (Ragged number (length row) cols)
 
 module _ {T : Type 0} (h : List ℕ → Option T) where
-  -- the cell that h gives of a field; one that is no text is none
+  -- the cell that h gives of a field; one that isn't text is none
   abbrev pub cell_of : List ℕ → Option T
   cell_of field = if is_utf8 field then h field else None
 
@@ -73,7 +73,7 @@ module _ {T : Type 0} (h : List ℕ → Option T) where
   abbrev pub reading : List (List (List ℕ)) → Result (List (List T)) CsvError
   reading records = read_records 1 (length (first_of records)) records
 
--- the names in a header: its fields, or the fault of the first that is no text
+-- the names in a header: its fields, or the fault of the first that isn't text
 abbrev pub read_header : List (List ℕ) → Result (List (List ℕ)) CsvError
 read_header fields = read_fields Some 1 1 fields
 
@@ -102,7 +102,7 @@ IsOrMemory read answer = (answer ≡ Err Memory)
 
 -- ---- by what a closure may answer
 
--- the closure may answer so at a field; one that is no text is no cell
+-- the closure may answer so at a field; one that isn't text isn't a cell
 abbrev pub AnswersField : {F T : Type 0}
     → (F → Bor (List ℕ) → Result (Option T) AllocError → Type 0) → F → List ℕ → Option T → Type 0
 AnswersField returns read field cell = MatchBool (is_utf8 field)

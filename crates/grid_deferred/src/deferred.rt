@@ -26,7 +26,7 @@ use std::alloc::{AllocError, Allocator, Global};
 /// An iterator over a row or a column of a grid as seen through a pending symmetry. Each step takes the same time.
 pub type DeferredLineIter<'a, T> = ViewLineIter<'a, T>;
 
-// Does on a base what a command, which is no Apply, does on the base's image.
+// Does on a base what a command, which isn't an Apply, does on the base's image.
 #[tactic(auto, using(crate::proofs::PendingLemmas::carried_known, crate::proofs::PendingLemmas::carried_still))]
 fn step_through<T, A: Allocator>(
     base: &mut Grid<T, A>,

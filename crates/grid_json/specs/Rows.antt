@@ -69,7 +69,7 @@ ReadsBy {F} {T} returns read h = (value : Bor Value) (cell : Option T)
 abbrev pub GivenBy : {T : Type 0} → (Data → Option T) → Data → Option T → Type 0
 GivenBy h d cell = cell ≡ h d
 
--- the data is no array
+-- the data isn't an array
 abbrev pub NoArray : Data → Type 0
 NoArray d = (items : List Data) → d ≡ array_of items → ⊥
 

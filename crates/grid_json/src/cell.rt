@@ -15,7 +15,7 @@ pub trait Cell: Drop {
     // What a cell says.
     ghost content: { Self → Content };
 
-    // What the cell that is read of this data says, or nothing where the data is no cell.
+    // What the cell that is read of this data says, or nothing where the data isn't a cell.
     ghost read: { Data → Option Content };
 
     /// Returns the cell as a JSON value, which is read as the same content.

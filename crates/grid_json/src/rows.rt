@@ -62,8 +62,8 @@ where
 ///     [[1,2],[3,4]]   rows_from_value(alloc, value, |item| Ok(item.as_i64()))   [[1, 2], [3, 4]]
 ///
 /// Requires: `read` can be called at every value.
-/// Fails: `NotRows`, or `NotRow`, `BadCell` or `Ragged` of the first item that is no row. `Memory` if allocation fails,
-/// also in `read`.
+/// Fails: `NotRows`, or `NotRow`, `BadCell` or `Ragged` of the first item that isn't a row. `Memory` if allocation
+/// fails, also in `read`.
 /// Cost: one call for each item of a row.
 pub fn rows_from_value<T: Drop, F>(
     alloc: Global,

@@ -105,7 +105,7 @@ module _ {A T : Type 0} (parts : List ℕ → List A) (bad : ℕ → ℕ → A �
   abbrev pub table_read : List (List ℕ) → Result (List (List T)) TextError
   table_read lines = as_table (rows_of lines)
 
--- the fault of a character, or of a word, that is no cell
+-- the fault of a character, or of a word, that isn't a cell
 abbrev pub bad_char : ℕ → ℕ → ℕ → TextError
 bad_char line column c = BadChar line column c
 

@@ -12,7 +12,7 @@ const READS: u32 = 1_048_576;
 
 const READ_LEN: usize = 4096;
 
-/// Returns the arguments after the program's name. One that is no text ends the program as bad arguments do.
+/// Returns the arguments after the program's name. One that isn't text ends the program as bad arguments do.
 pub fn arguments<R: Env + AllocGlobal>(rt: &R) -> Result<Vec<String>, Ending> {
     match env::args(rt) {
         Ok(args) => Ok(args.skip(1).collect(rt.alloc())?),

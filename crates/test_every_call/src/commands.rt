@@ -101,7 +101,7 @@ fn ran<'a>(start: Start<'a>, board: &mut Board<'a>, name: &str) -> Result<Answer
 const SCRIPT: &[u8] =
     b"ColumnMajor 2 1 3 2 4\n\npush_row 5 6\nrotate_left\nrow 0\nfill 7\npop_col\ninsert_rows 0 2 8 8 9 9\n";
 
-// A script whose last line is no command.
+// A script whose last line isn't a command.
 const BAD_SCRIPT: &[u8] = b"RowMajor 1 5\npush_row 6\nno_command\n";
 
 fn bad_parsed(start: Start<'_>) -> Answer {

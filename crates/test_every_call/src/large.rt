@@ -21,7 +21,7 @@ const LINES: usize = 4;
 
 const WORDS: usize = 4;
 
-// What is wrong in one line of a text: a word is no number, or the last word is missing.
+// What is wrong in one line of a text: a word isn't a number, or the last word is missing.
 #[derive(Clone, Copy, PartialEq, Eq)]
 enum Flaw {
     Bad(usize),
@@ -152,7 +152,7 @@ fn is_told_of_sheet(
     Ok(is_told(read, wanted))
 }
 
-// The words as rows of JSON, where one that is no number is null.
+// The words as rows of JSON, where one that isn't a number is null.
 fn flawed_rows(alloc: Global, row: usize, flaw: Flaw) -> Result<Value, AllocError> {
     let text = flawed(alloc, ",", row, flaw)?;
     let mut rows = Vec::new(alloc);
