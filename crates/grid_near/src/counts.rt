@@ -253,7 +253,7 @@ fn push_line<T, U, A: Allocator, F: Fn(&T) -> bool, G: Fn(&T, u8) -> U>(
     made
 }
 
-/// Returns what the closure `rule` returns for a reference to each cell of a table that a slice stores in an order and
+/// Returns what the closure `rule` returns for a reference to each cell of a table that a slice stores in an order, and
 /// the number of the cells round it, at a side or all eight, for which the closure `test` returns `true`.
 ///
 /// Requires: the slice has as many cells, there are rows exactly if there are columns, and the closures can be called

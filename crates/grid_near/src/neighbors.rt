@@ -142,7 +142,7 @@ impl<'a, T> ExactSizeIterator for Neighbors<'a, T> {
 
 impl<'a, T> FusedIterator for Neighbors<'a, T> {}
 
-/// Returns an iterator at the same cells.
+/// Returns an iterator over the same remaining cells.
 ///
 /// Cost: constant; it is always `Ok`, and takes no memory.
 impl<'a, T> Clone for Neighbors<'a, T> {

@@ -133,7 +133,7 @@ impl<'a, T> ExactSizeIterator for WrappedNeighbors<'a, T> {
 
 impl<'a, T> FusedIterator for WrappedNeighbors<'a, T> {}
 
-/// Returns an iterator at the same cells.
+/// Returns an iterator over the same remaining cells.
 ///
 /// Cost: constant; it is always `Ok`, and takes no memory.
 impl<'a, T> Clone for WrappedNeighbors<'a, T> {

@@ -173,7 +173,7 @@ impl<'a, T> ExactSizeIterator for ViewLineIter<'a, T> {
 
 impl<'a, T> FusedIterator for ViewLineIter<'a, T> {}
 
-/// Returns an iterator at the same cells.
+/// Returns an iterator over the same remaining cells.
 ///
 /// Cost: constant; it is always `Ok`, and takes no memory.
 impl<'a, T> Clone for ViewLineIter<'a, T> {
@@ -264,7 +264,7 @@ impl<'a, T> ExactSizeIterator for ViewRowIter<'a, T> {
 
 impl<'a, T> FusedIterator for ViewRowIter<'a, T> {}
 
-/// Returns an iterator at the same rows.
+/// Returns an iterator over the same remaining rows.
 ///
 /// Cost: constant; it is always `Ok`, and takes no memory.
 impl<'a, T> Clone for ViewRowIter<'a, T> {

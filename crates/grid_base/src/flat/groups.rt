@@ -6,9 +6,9 @@
 //!     groups in the lines       [a 1 2 b c | d 3 4 e f]
 //!
 //! `weave` brings the cells from the first form to the second. `take_out` takes the groups from the second form, and
-//! leaves the lines. Both keep the order of the groups, and no tally counts their moves. `open` does the first by
-//! counted swaps, which keep the order of the lines but not of the cells behind them. `close_up` does the second by
-//! counted swaps, and drops the groups.
+//! leaves the lines. Both keep the order of the groups, and no tally counts their moves. `open` goes from the first
+//! form to the second by counted swaps, which keep the order of the lines but not of the cells behind them. `close_up`
+//! takes the groups from the second form by counted swaps, and drops them.
 ghost use Rattle.std.specs.Prelude.{◌≡◌, ◌+◌, ◌-◌, ◌*◌, ◌^◌, ◌<◌, ◌≤◌, ◌⊎◌, length, IfOk, IsFalse, IsTrue, OnErr};
 ghost use Rattle.grid_base.specs.Groups.{Widened, Woven, Opened, Closed, TakenOut};
 ghost use Rattle.grid_base.specs.Tally.{saturating_count};

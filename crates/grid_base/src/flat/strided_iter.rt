@@ -80,7 +80,7 @@ impl<'a, T> ExactSizeIterator for StridedIter<'a, T> {
     }
 }
 
-// Returns an iterator at the same cells.
+// Returns an iterator over the same remaining cells.
 impl<'a, T> Clone for StridedIter<'a, T> {
     ghost is_clone = { λ it copy. copy ≡ it };
 
