@@ -135,8 +135,8 @@ fn join_rows<T: Drop, A: Allocator>(
 ///     try_from([[1, 2], [3, 4]])   [[1, 2], [3, 4]]
 ///
 /// Fails: `Ragged` with the first row whose length is not that of row 0; else `TooLarge` where there are more than
-/// `usize::MAX` cells (only zero-sized cells can be so many); else `Memory`, from the outer vector's allocator. The
-/// rows are dropped.
+/// `usize::MAX` cells (possible only with zero-sized cells); else `Memory`, from the outer vector's allocator. The rows
+/// are dropped.
 /// Cost: each cell is moved once; one allocation; nothing is allocated before the rows are measured.
 impl<T: Drop, A: Allocator + Clone> TryFrom<Vec<Vec<T, A>, A>> for Grid<T, A> {
     type Error = ShapeError;
@@ -174,7 +174,7 @@ fn join_clones<T: Clone, L: AsSlice<T>, A: Allocator + Clone>(
 ///     try_from(&[[1, 2], [3, 4]])   [[1, 2], [3, 4]]
 ///
 /// Fails: `Ragged` with the first row whose length is not that of row 0; else `TooLarge` where there are more than
-/// `usize::MAX` cells (only zero-sized cells can be so many); else `Memory`, from the outer vector's allocator or a
+/// `usize::MAX` cells (possible only with zero-sized cells); else `Memory`, from the outer vector's allocator or a
 /// clone.
 /// Cost: one clone for each cell; nothing is allocated before the rows are measured.
 impl<T: Clone, A: Allocator + Clone> TryFrom<&Vec<Vec<T, A>, A>> for Grid<T, A> {
@@ -194,7 +194,7 @@ impl<T: Clone, A: Allocator + Clone> TryFrom<&Vec<Vec<T, A>, A>> for Grid<T, A> 
 ///     try_from(&[&[1, 2], &[3, 4]])   [[1, 2], [3, 4]]
 ///
 /// Fails: `Ragged` with the first row whose length is not that of row 0; else `TooLarge` where there are more than
-/// `usize::MAX` cells (only zero-sized cells, or one vector that is borrowed many times, can be so many); else
+/// `usize::MAX` cells (possible only with zero-sized cells, or with one vector that is borrowed many times); else
 /// `Memory`, from the outer vector's allocator or a clone.
 /// Cost: one clone for each cell; nothing is allocated before the rows are measured.
 impl<T: Clone, A: Allocator + Clone> TryFrom<&Vec<&Vec<T, A>, A>> for Grid<T, A> {

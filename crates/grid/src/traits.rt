@@ -33,8 +33,8 @@ impl<T: Clone, A: Allocator + Clone> Grid<T, A> {
     }
 }
 
-/// Returns a grid of clones of the cells, with the same order. This is what `T: Clone` and `#[derive(Clone)]` call; of a
-/// grid, `grid.clone()` is the inherent [`clone`](Grid::clone), which asks that clones equal their source.
+/// Returns a grid of clones of the cells, with the same order. This is what `T: Clone` and `#[derive(Clone)]` call; of
+/// a grid, `grid.clone()` is the inherent [`clone`](Grid::clone), which requires that clones equal their source.
 ///
 /// Fails: if allocation fails, for the vector or in a clone.
 /// Cost: one clone for each cell.
