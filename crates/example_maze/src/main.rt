@@ -1,8 +1,8 @@
-//! Draws a shortest way through each maze on standard input.
+//! Draws a shortest path through each maze on standard input.
 //!
-//! A maze is lines of `#` (a wall), `.` (a free cell), `S` (the start) and `G` (the goal); a line `--` stands between two
-//! mazes. Each is written with a shortest way from the start to the goal drawn as `o`, and the number of its steps. What is
-//! wrong with a maze is named by its line and column, and the status is 2 then.
+//! A maze is lines of `#` (a wall), `.` (a free cell), `S` (the start) and `G` (the goal); a line `--` comes between
+//! two mazes. Each is written with a shortest path from the start to the goal drawn as `o`, and the number of its
+//! steps. What is wrong with a maze is named by its line and column, and the status is 2 then.
 #![tactic(auto)]
 
 use anyhow::{Result, bail};
@@ -39,7 +39,7 @@ fn find(maze: &Grid<char>, mark: char) -> Result<(usize, usize)> {
     }
 }
 
-// Draws a way on the free cells.
+// Draws a path on the free cells.
 fn draw(maze: &mut Grid<char>, path: &[(usize, usize)]) {
     for at in path {
         if let Some('.') = maze.get(at.0, at.1) {
@@ -48,7 +48,7 @@ fn draw(maze: &mut Grid<char>, path: &[(usize, usize)]) {
     }
 }
 
-// A maze with a shortest way drawn, and the number of its steps.
+// A maze with a shortest path drawn, and the number of its steps.
 fn solved(alloc: Global, text: &str) -> Result<String> {
     let mut maze = from_text(alloc, text, cell)?;
     let start = find(&maze, 'S')?;

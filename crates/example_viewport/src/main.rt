@@ -1,6 +1,6 @@
-//! A window of a large map on a text screen. It scrolls, and a piece stands on the map, turned once more in each picture.
+//! A window of a large map on a text screen. It scrolls, and a piece is on the map, turned once more in each picture.
 //!
-//! The window and the turned piece are views: neither is copied before it is drawn. Of the piece what lies outside of the
+//! The window and the turned piece are views: neither is copied before it is drawn. Of the piece what is outside of the
 //! window is left out.
 #![tactic(auto)]
 
@@ -11,7 +11,7 @@ const MAP: (usize, usize) = (40, 100);
 
 const WINDOW: (usize, usize) = (8, 20);
 
-// Where the piece stands on the map.
+// Where the piece is on the map.
 const PIECE: (usize, usize) = (17, 40);
 
 // The upper left corner of the window, and the turn of the piece.
@@ -36,7 +36,7 @@ fn ground((row, col): (usize, usize)) -> char {
     }
 }
 
-// How far a place lies behind another, less than 0 before it.
+// How far a place is behind another, less than 0 before it.
 fn distance(place: usize, from: usize) -> isize {
     let behind = isize::try_from(place).unwrap_or(isize::MAX);
     behind.saturating_sub(isize::try_from(from).unwrap_or(isize::MAX))

@@ -115,7 +115,7 @@ module _ {A : Type 0} (o : Order) (m n : ℕ) (cells : List A) (v : GridValue A)
     pub seen_mapped : MappedBy returns f v.rows (table_of o m n news)
     seen_mapped = record { tabulated = seen_tabulated; answers = seen_answered }
 
--- what stands at the length of the first part
+-- what is at the length of the first part
 pub at_seam : {X : Type 0} (xs : List X) (x : X) (ys : List X) → slice_get (xs ++ x ∷ ys) (length xs) ≡ Some x
 at_seam xs x ys = get_append_right xs (x ∷ ys) (length xs) 0 (omega arith)
 

@@ -28,7 +28,7 @@ refused len k cols b e f failed h =
 pub CanCut-same : (k len cols : ℕ) → k ≡ len → CanCut k cols → CanCut len cols
 CanCut-same k len cols e h = let P : ℕ → Type 0 = λ x. CanCut x cols in subst P e h
 
--- want of memory, where it may come
+-- a failed allocation, where it may come
 pub cut_memory : {T : Type 0} (memory : Type 0) (cells : List T) (n : ℕ) (P : List T → Type 0) (r : Result (GridValue T) ShapeError) → memory → IsErrAnd r (λ e. e ≡ Memory) → CutAnswer memory cells n P r
 cut_memory memory cells n P (Ok x) h e = absurd e
 cut_memory memory cells n P (Err x) h e = rw e h

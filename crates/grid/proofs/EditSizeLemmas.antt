@@ -86,7 +86,7 @@ module _ {T : Type 0} where
   prepended-put k d [] some = absurd (omega arith)
   prepended-put k d (r ∷ t) some = refl
 
--- so many cells fill m rows and n columns
+-- `len` cells fill m rows and n columns
 pub HoldsSize-filled : (m n len : ℕ) → 0 < m → 0 < n → len ≡ m * n → len < 2 ^ 64 → HoldsSize m n len
 HoldsSize-filled m n len rows cols e small =
     record { cells = e; below = omega arith; size = record { has_cols = λ _. cols; has_rows = λ _. rows } }

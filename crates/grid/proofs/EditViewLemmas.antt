@@ -53,7 +53,7 @@ module _ {T : Type 0} where
 
   -- the table that is cut from m * n cells
   module _ (o : Order) (m n : ℕ) (cells : List T) (len : length cells ≡ m * n) where
-    -- lines that stood behind the cells and are woven into them are rows
+    -- lines that were behind the cells and are woven into them are rows
     pub view-insert_rows : (i k p q a g : ℕ) (lines : List (List T)) (new : List T) → RowGroups o m n i k p q a g → IsTable lines → row_count lines ≡ k → col_count lines ≡ n → i ≤ m → Woven p q a g (cells ++ storage o lines) new → table_of o (m + k) n new ≡ insert_rows i lines (table_of o m n cells)
     view-insert_rows i k p q a g lines new e h em en le w =
         let behind = storage o lines in

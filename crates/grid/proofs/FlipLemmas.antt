@@ -38,7 +38,7 @@ flip_cols_across o m n old new h len e =
 pub price_across : (m n : ℕ) → price FlipRows n m ≡ price FlipCols m n
 price_across m n = mul_comm (n / 2) m
 
--- the place of the cell that stands opposite
+-- the place of the cell that is opposite
 opposite : (p q i j : ℕ) → i < p → j < q → p * q - 1 - (i * q + j) ≡ (p - 1 - i) * q + (q - 1 - j)
 opposite p q i j a b =
     let whole : (p - 1 - i) + (i + 1) ≡ p = omega arith in

@@ -7,7 +7,7 @@ use Rattle.std.proofs.lemmas.Bool.{cases_lt}
 use Rattle.grid_base.proofs.StorageLemmas.{get_append_left, get_append_right, get-take, get-drop}
 
 module _ {X : Type 0} where
-  -- a list of which the elements from i to n are gone, or stand twice
+  -- a list of which the elements from i to n are gone, or are there twice
   module _ (xs : List X) (i n : ℕ) (in_list : i ≤ length xs) where
     pub get-cut_before : (k : ℕ) → k < i → slice_get (take i xs ++ drop n xs) k ≡ slice_get xs k
     get-cut_before k lt = get_append_left (take i xs) (drop n xs) k (omega (arith, length-take-le i xs in_list)) ∙ get-take i xs k lt

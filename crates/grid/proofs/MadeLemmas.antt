@@ -52,7 +52,7 @@ length-storage_none {T} o t e =
     let h : IsTable none = record { nonempty = λ r lt. absurd (omega arith); even = λ r lt. absurd (omega arith) } in
     ap (λ x. length (storage o x)) e ∙ (length-storage o none h ∙ omega arith)
 
--- so many cells can be cut into rows of n
+-- m * n cells can be cut into rows of n
 pub CanCut-cells : (len m n : ℕ) → len ≡ m * n → CanCut len n
 CanCut-cells len m n e =
     ⊎_elim (λ none. inl (e ∙ (ap (λ x. m * x) none ∙ omega arith))) (λ some. inr (some, ap (λ x. x % n) e ∙ mul-mod_left m n)) (cases_eq n 0)

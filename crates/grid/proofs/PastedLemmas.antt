@@ -125,7 +125,7 @@ pub set_wrote : {T : Type 0} (o : Option T) (P Q R : Type 0) → R → MatchOpti
 set_wrote None P Q R r out w = absurd (out r)
 set_wrote (Some x) P Q R r out w = w
 
--- a part of a table over another, where the rest lies outside
+-- a part of a table over another, where the rest is outside
 module _ {T : Type 0} (at : ℤ × ℤ) (u t p : List (List T)) (hu : IsTable u) (ht : IsTable t) (hp : IsTable p) (from place count : ℕ × ℕ) (rows : IsClipped at.0 (row_count u) (row_count t) from.0 place.0 count.0) (cols : IsClipped at.1 (col_count u) (col_count t) from.1 place.1 count.1) (part : 0 < count.0 → 0 < count.1 → p ≡ sub_table u from count) (none : (count.0 ≡ 0) ⊎ (count.1 ≡ 0) → p ≡ []) where
   size : HasSize count.0 count.1 p
   size = part_size u p from count hu rows.of_line cols.of_line part none

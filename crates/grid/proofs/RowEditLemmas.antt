@@ -26,7 +26,7 @@ pub shift-taken : (o : Order) (m n i k : ℕ) → 0 < k → rows_taken_shift o (
 shift-taken RowMajor m n i k some = rw (ne_eqb k 0 (λ e. omega arith)) (ap (λ x. x * n) (omega arith))
 shift-taken ColumnMajor m n i k some = rw (ne_eqb k 0 (λ e. omega arith)) (ap (λ x. n * x - i) (omega arith))
 
--- the rows of a table of m rows and n columns stand in a longer one, on both sides of k rows before row i
+-- the rows of a table of m rows and n columns are in a longer one, on both sides of k rows before row i
 pub record RowsWidened {T : Type 0} (o : Order) (m n i k : ℕ) (short long : List T) : Type 0 where
   pub before : (r c : ℕ) → r < i → r < m → c < n → slice_get long (place o (m + k) n r c) ≡ slice_get short (place o m n r c)
   pub after : (r c : ℕ) → i ≤ r → r < m → c < n → slice_get long (place o (m + k) n (k + r) c) ≡ slice_get short (place o m n r c)
@@ -60,7 +60,7 @@ module _ {T : Type 0} where
   rows_widened ColumnMajor m n i k p q a g short long e h =
       widened_by_cols m n i k short long (at_groups (λ p q a g. Widened p q a g short long) p q a g n m i k e.0 e.1 e.2 e.3 h)
 
-  -- the groups stand behind the lines, as the storage of the rows
+  -- the groups are behind the lines, as the storage of the rows
   pub rows_woven : (o : Order) (m n i k p q a g : ℕ) (short long : List T) → RowGroups o m n i k p q a g → Woven p q a g short long → (j c : ℕ) → j < k → c < n → slice_get long (place o (m + k) n (i + j) c) ≡ slice_get short (m * n + place o k n j c)
   rows_woven RowMajor m n i k p q a g short long e h j c lj lc =
       let w : Woven 1 (m * n) (i * n) (k * n) short long = at_groups (λ p q a g. Woven p q a g short long) p q a g 1 (m * n) (i * n) (k * n) e.0 e.1 e.2 e.3 h in

@@ -106,7 +106,7 @@ storage-none o t none =
     let h : IsTable t = record { nonempty = λ r lt. absurd (omega (arith, none)); even = λ r lt. absurd (omega (arith, none)) } in
     nil_from_length (storage o t) (length-storage o t h ∙ (ap (λ x. x * col_count t) none ∙ omega arith))
 
--- the table and the size where so many rows are left
+-- the table and the size where `rest` rows are left
 pub table_left : {T : Type 0} (o : Order) (rest n : ℕ) (cells : List T) → table_of o rest (cols_if_rows rest n) cells ≡ table_of o rest n cells
 table_left o zero n cells = table_of-no_rows o 0 cells ∙ sym (table_of-no_rows o n cells)
 table_left o (suc rest) n cells = rw (eqb-suc-zero rest) refl

@@ -28,8 +28,8 @@ use Rattle.grid_commands.specs.declared.error.ShapeError.TheVariants.{
   Memory,
 }
 
--- why so many cells could not be cut into rows of n: the cells of one vector are never too many,
--- and rows that are cut are never ragged; memory says when want of memory may come
+-- why `len` cells could not be cut into rows of n: the cells of one vector are never too many, and
+-- rows that are cut are never ragged; memory says when allocation may fail
 abbrev pub CutFault : Type 0 → ℕ → ℕ → ShapeError → Type 0
 CutFault memory len n TooLarge = ⊥
 CutFault memory len n (Shape l cols) = (¬ CanCut len n) × (l ≡ len) × (cols ≡ n)
@@ -37,7 +37,7 @@ CutFault memory len n (Ragged r l cols) = ⊥
 CutFault memory len n Memory = memory
 
 module _ {T : Type 0} where
-  -- a row-major grid of so many cells in rows of n
+  -- a row-major grid of `len` cells in rows of n
   pub record HasShape (len n : ℕ) (g : GridValue T) : Type 0 where
     pub order : g.order ≡ RowMajor
     pub count : length (concat_rows g.rows) ≡ len

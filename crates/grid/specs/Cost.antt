@@ -29,7 +29,7 @@ module _ {T : Type 0} where
   abbrev pub list_symmetry : List (CommandValue T) → Symmetry
   list_symmetry xs = symmetry_of (map command_symmetry xs)
 
-  -- how many cells stay at an edit of so many lines of this width and change their place in the
+  -- how many cells stay at an edit of `count` lines of this width and change their place in the
   -- storage
   abbrev pub edit_shift : Order → ℕ → ℕ → Edit T → ℕ
   edit_shift o count width (expand k) = if is_none (pad_refusal count width k)

@@ -3,7 +3,7 @@ use Rattle.std.specs.Prelude.{ℕ, Option, Some, List, [], ◌∷◌, codes}
 use Rattle.std.specs.Fmt.{◌++?◌}
 
 module _ {X : Type 0} (text : X → Option (List ℕ)) (between : List ℕ) where
-  -- the text of each item, the first behind `lead` and each other behind what stands between two
+  -- the text of each item, the first behind `lead` and each other behind what is between two
   abbrev pub items_text : List ℕ → List X → Option (List ℕ)
   items_text lead [] = Some []
   items_text lead (x ∷ xs) = Some lead ++? text x ++? items_text between xs

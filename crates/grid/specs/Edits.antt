@@ -25,7 +25,7 @@ use Rattle.grid_base.specs.Table.{row, row_count, col_count}
 use Rattle.grid.specs.Make.{IsOnlyDefault}
 
 module _ {T : Type 0} where
-  -- a row, or a column, of so many cells fits a table: any fits the empty one
+  -- a row, or a column, of this number of cells fits a table: any fits the empty one
   abbrev pub FitsRow : List (List T) → ℕ → Type 0
   FitsRow t width = (t ≡ []) ⊎ (width ≡ col_count t)
 

@@ -101,7 +101,7 @@ pub record CellsUpdated {A : Type 0} (P : ℕ → ℕ → Type 0) (returns : ℕ
   pub others : (i j : ℕ) → (P i j → ⊥) → cell new.rows i j ≡ cell old.rows i j
 
 -- a line of `len` cells that begins at a signed number, and `limit` numbers: of the line `count`
--- cells from number `skipped` on lie over the numbers from `start` on
+-- cells from number `skipped` on are over the numbers from `start` on
 pub record IsClipped (at : ℤ) (len limit skipped start count : ℕ) : Type 0 where
   pub of_line : skipped + count ≤ len
   pub within : start + count ≤ limit

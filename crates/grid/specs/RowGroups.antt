@@ -27,12 +27,12 @@ abbrev pub RowGroups : Order → (m n i k p q a g : ℕ) → Type 0
 RowGroups RowMajor m n i k p q a g = (p ≡ 1) × (q ≡ m * n) × (a ≡ i * n) × (g ≡ k * n)
 RowGroups ColumnMajor m n i k p q a g = (p ≡ n) × (q ≡ m) × (a ≡ i) × (g ≡ k)
 
--- the number of columns where so many rows of n cells are left
+-- the number of columns where `rest` rows of n cells are left
 abbrev pub cols_if_rows : ℕ → ℕ → ℕ
 cols_if_rows rest n = if nat_eq rest 0 then 0 else n
 
 module _ {T : Type 0} (o : Order) (m n i k : ℕ) (old new : List T) where
-  -- k rows that stand behind the cells of a table of m rows and n columns are put before its row i
+  -- k rows that are behind the cells of a table of m rows and n columns are put before its row i
   pub record RowsInserted : Type 0 where
     pub lengths : length new ≡ length old
     pub table : (cells : List T) (lines : List (List T)) → old ≡ cells ++ storage o lines
@@ -53,7 +53,7 @@ module _ {T : Type 0} (o : Order) (n i k rest : ℕ) (old new taken : List T) wh
     pub cells : 0 < n → 0 < k → taken ≡ storage o (take k (drop i (table_of o (rest + k) n old)))
 
 module _ {T : Type 0} (o : Order) (m n i k : ℕ) (old new : List T) where
-  -- k rows of cells that stood behind a table of m rows and n columns are put before its row i
+  -- k rows of cells that were behind a table of m rows and n columns are put before its row i
   pub record RowsOpened : Type 0 where
     pub lengths : length new ≡ length old
     pub fresh : List (List T)

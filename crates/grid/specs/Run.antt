@@ -80,8 +80,8 @@ module _ {T : Type 0} where
     pub replies : (d : T) → AreKnown is_default is_clone d commands
         → ClonesAreEqual is_clone → answers ≡ run_replies d commands old.rows
 
-  -- a run may stop for memory after so many commands, at this table: the next command takes memory,
-  -- or none was done of a list that isn't empty
+  -- a run may stop for memory after `finished` commands, at this table: the next command takes
+  -- memory, or none was done of a list that isn't empty
   abbrev pub MayStop : List (CommandValue T) → ℕ → List (List T) → Type 0
   MayStop commands finished t =
       ((finished ≡ 0) × (0 < length commands))

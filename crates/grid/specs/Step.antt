@@ -81,7 +81,7 @@ module _ {T : Type 0} where
   abbrev pub range_effect : ℕ → ℕ → ℕ → Effect T
   range_effect count i k = if nat_lt count (i + k) then nothing else removes i k
 
-  -- of so many lines
+  -- of `count` lines
   abbrev pub effect : ℕ → Edit T → Effect T
   effect count (read i) = nothing
   effect count (push line) = inserts count (line ∷ [])
@@ -153,7 +153,7 @@ module _ {T : Type 0} where
   has_lines [] = false
   has_lines (l ∷ ls) = true
 
-  -- whether an edit of so many lines of this width takes memory
+  -- whether an edit of `count` lines of this width takes memory
   abbrev pub edit_takes_memory : ℕ → ℕ → Edit T → Bool
   edit_takes_memory count width (read i) = nat_lt i count
   edit_takes_memory count width (push line) = is_none (edit_refusal count width (push line))

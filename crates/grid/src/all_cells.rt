@@ -21,10 +21,10 @@ impl<T, A: Allocator> Grid<T, A> {
     /// Where the cells are `Copy`, [`fill_with(|| value)`](Grid::fill_with) does the same, is faster, takes no memory and
     /// never fails.
     ///
-    /// Requires: clones of the cell type equal their source. Where they needn't, as of cells that hold a `String`, call
-    /// [`step`](Grid::step) with [`Command::Fill`](crate::Command::Fill).
-    /// Fails: where memory is refused; the grid is unchanged, and the value is dropped. An empty grid takes no memory
-    /// and never fails.
+    /// Requires: clones of the cell type equal their source. Where they needn't, as for cells that hold a `String`,
+    /// call [`step`](Grid::step) with [`Command::Fill`](crate::Command::Fill).
+    /// Fails: if allocation fails; the grid is unchanged, and the value is dropped. An empty grid takes no memory and
+    /// never fails.
     /// Cost: one clone for each cell but the last, all of them before the first change; one allocation, of a second
     /// vector.
     pub fn fill(&mut self, value: T) -> Result<(), AllocError>
@@ -78,7 +78,7 @@ impl<T, A: Allocator> Grid<T, A> {
     ///     [[1, 2], [3, 4]]   map(|x| x * 10)   [[10, 20], [30, 40]]
     ///
     /// Requires: the closure can be called at each cell, in turn.
-    /// Fails: where memory is refused; this grid comes back, and the closure wasn't called.
+    /// Fails: if allocation fails; this grid comes back, and the closure wasn't called.
     /// Cost: one call for each cell; one allocation.
     pub fn map<U, F: FnMut(T) -> U>(self, f: F) -> Result<Grid<U, A>, Grid<T, A>>
     where
@@ -119,7 +119,7 @@ impl<T, A: Allocator> Grid<T, A> {
     ///     [[1, 2], [3, 4]]   map_ref(|x| *x * 10)   [[10, 20], [30, 40]]
     ///
     /// Requires: the closure can be called at a reference to each cell.
-    /// Fails: where memory is refused; the closure wasn't called.
+    /// Fails: if allocation fails; the closure wasn't called.
     /// Cost: one call for each cell; one allocation, before the first call.
     pub fn map_ref<U, F: Fn(&T) -> U>(&self, f: F) -> Result<Grid<U, A>, AllocError>
     where
@@ -144,7 +144,7 @@ impl<T, A: Allocator> Grid<T, A> {
     ///     [[1, 2], [3, 4]]   map_indexed(|(row, col), x| row * 10 + col + *x)   [[1, 3], [13, 15]]
     ///
     /// Requires: the closure can be called at each position and a reference to the cell there.
-    /// Fails: where memory is refused; the closure wasn't called.
+    /// Fails: if allocation fails; the closure wasn't called.
     /// Cost: one call for each cell; one allocation, before the first call.
     pub fn map_indexed<U, F: Fn((usize, usize), &T) -> U>(
         &self,
@@ -168,13 +168,13 @@ impl<T, A: Allocator> Grid<T, A> {
         })
     }
 
-    /// Same as [`map_indexed`](Grid::map_indexed) of a closure that may fail. `Ok(Err(error))` is its first error, in
-    /// storage order; the cells that were made are dropped. `??` passes on either error.
+    /// Same as [`map_indexed`](Grid::map_indexed) with a closure that may fail. `Ok(Err(error))` is its first error, in
+    /// storage order; the cells that were made are dropped. `??` propagates either error.
     ///
     ///     [[1, 2], [3, 4]]   try_map_indexed(|_, x| 9u8.checked_sub(*x).ok_or("big"))   Ok(Ok([[8, 7], [6, 5]]))
     ///
     /// Requires: as `map_indexed`.
-    /// Fails: where memory is refused; the closure wasn't called.
+    /// Fails: if allocation fails; the closure wasn't called.
     /// Cost: one call for each cell, up to the first error; one allocation, before the first call.
     pub fn try_map_indexed<U, E, F: Fn((usize, usize), &T) -> Result<U, E>>(
         &self,
@@ -228,7 +228,7 @@ impl<T, A: Allocator> Grid<T, A> {
     }
 }
 
-/// Returns `GridError::Memory`, so that `?` passes on what [`map`](Grid::map) refused. The grid is dropped.
+/// Returns `GridError::Memory`, so that `?` propagates a failed [`map`](Grid::map). The grid is dropped.
 impl<T: Drop, A: Allocator> From<Grid<T, A>> for GridError {
     ghost from_gives = { λ _ e. e ≡ Memory };
 
@@ -237,7 +237,7 @@ impl<T: Drop, A: Allocator> From<Grid<T, A>> for GridError {
     }
 }
 
-/// Returns the error, so that `?` passes on what [`map`](Grid::map) refused. The grid is dropped.
+/// Returns the error, so that `?` propagates a failed [`map`](Grid::map). The grid is dropped.
 impl<T: Drop, A: Allocator> From<Grid<T, A>> for AllocError {
     ghost from_gives = { λ _ _. ⊤ };
 

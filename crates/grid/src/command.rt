@@ -1,4 +1,4 @@
-//! Commands as a grid does them: a step, and runs of steps.
+//! Commands as a grid executes them: a step, and runs of steps.
 mod lines;
 mod runs;
 mod step;

@@ -66,7 +66,7 @@ fn cut_clones<T: Clone, A: Allocator + Clone>(
 ///
 /// Fails: `Shape` where the vector is not empty, and the length is 0 or does not divide the number of cells; else
 /// `Memory`, from the vector's allocator or a clone. No other error comes.
-/// Cost: one clone for each cell; no memory is asked for before the shape is tested.
+/// Cost: one clone for each cell; nothing is allocated before the shape is tested.
 impl<T: Clone, A: Allocator + Clone> TryFrom<(&Vec<T, A>, usize)> for Grid<T, A> {
     type Error = ShapeError;
 
@@ -79,7 +79,7 @@ impl<T: Clone, A: Allocator + Clone> TryFrom<(&Vec<T, A>, usize)> for Grid<T, A>
     }
 }
 
-/// Same as of `(&Vec<T, A>, usize)`, with the length by reference.
+/// Same as for `(&Vec<T, A>, usize)`, with the length by reference.
 impl<T: Clone, A: Allocator + Clone> TryFrom<(&Vec<T, A>, &usize)> for Grid<T, A> {
     type Error = ShapeError;
 
@@ -135,9 +135,9 @@ fn join_rows<T: Drop, A: Allocator>(
 ///     try_from([[1, 2], [3, 4]])   [[1, 2], [3, 4]]
 ///
 /// Fails: `Ragged` with the first row whose length is not that of row 0; else `TooLarge` where there are more than
-/// `usize::MAX` cells (only zero-sized cells can be so many); else `Memory`, from the outer vector's allocator. The
-/// rows are dropped.
-/// Cost: each cell is moved once; one allocation; no memory is asked for before the rows are measured.
+/// `usize::MAX` cells (possible only with zero-sized cells); else `Memory`, from the outer vector's allocator. The rows
+/// are dropped.
+/// Cost: each cell is moved once; one allocation; nothing is allocated before the rows are measured.
 impl<T: Drop, A: Allocator + Clone> TryFrom<Vec<Vec<T, A>, A>> for Grid<T, A> {
     type Error = ShapeError;
 
@@ -174,9 +174,9 @@ fn join_clones<T: Clone, L: AsSlice<T>, A: Allocator + Clone>(
 ///     try_from(&[[1, 2], [3, 4]])   [[1, 2], [3, 4]]
 ///
 /// Fails: `Ragged` with the first row whose length is not that of row 0; else `TooLarge` where there are more than
-/// `usize::MAX` cells (only zero-sized cells can be so many); else `Memory`, from the outer vector's allocator or a
+/// `usize::MAX` cells (possible only with zero-sized cells); else `Memory`, from the outer vector's allocator or a
 /// clone.
-/// Cost: one clone for each cell; no memory is asked for before the rows are measured.
+/// Cost: one clone for each cell; nothing is allocated before the rows are measured.
 impl<T: Clone, A: Allocator + Clone> TryFrom<&Vec<Vec<T, A>, A>> for Grid<T, A> {
     type Error = ShapeError;
 
@@ -188,15 +188,15 @@ impl<T: Clone, A: Allocator + Clone> TryFrom<&Vec<Vec<T, A>, A>> for Grid<T, A> 
     }
 }
 
-/// Returns the row-major grid of clones of these rows, which are lent. Where clones equal their source, the rows are
-/// these. No rows, or rows of length 0, give the empty grid.
+/// Returns the row-major grid of clones of these rows, which are borrowed. Where clones equal their source, the rows
+/// are these. No rows, or rows of length 0, give the empty grid.
 ///
 ///     try_from(&[&[1, 2], &[3, 4]])   [[1, 2], [3, 4]]
 ///
 /// Fails: `Ragged` with the first row whose length is not that of row 0; else `TooLarge` where there are more than
-/// `usize::MAX` cells (only zero-sized cells, or one vector that is lent many times, can be so many); else `Memory`,
-/// from the outer vector's allocator or a clone.
-/// Cost: one clone for each cell; no memory is asked for before the rows are measured.
+/// `usize::MAX` cells (possible only with zero-sized cells, or with one vector that is borrowed many times); else
+/// `Memory`, from the outer vector's allocator or a clone.
+/// Cost: one clone for each cell; nothing is allocated before the rows are measured.
 impl<T: Clone, A: Allocator + Clone> TryFrom<&Vec<&Vec<T, A>, A>> for Grid<T, A> {
     type Error = ShapeError;
 

@@ -10,7 +10,7 @@ use std::alloc::Allocator;
 use std::fmt;
 
 impl<T: fmt::Display, A: Allocator> Grid<T, A> {
-    // Writes what stands before row `r`, which is in range, and its cells, with a space between two.
+    // Writes what comes before row `r`, which is in range, and its cells, with a space between two.
     fn display_row<W: fmt::Write>(
         &self,
         before: &str,
@@ -32,8 +32,8 @@ impl<T: fmt::Display, A: Allocator> Grid<T, A> {
     }
 }
 
-/// Writes each row as a line: the text of each cell, with a space between two. No line end stands behind the last row,
-/// and the empty grid writes nothing. The text is the same in either order.
+/// Writes each row as a line: the text of each cell, with a space between two. There is no line end behind the last
+/// row, and the empty grid writes nothing. The text is the same in either order.
 ///
 ///     [[1, 20], [3, 4]]   {}   "1 20\n3 4"
 impl<T: fmt::Display, A: Allocator> fmt::Display for Grid<T, A> {

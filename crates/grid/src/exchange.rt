@@ -56,7 +56,7 @@ fn exchange_rows<T, A: Allocator>(
     }
 }
 
-// Exchanges the first `cols` cells of a row of `from`, which stand together, with as many of `to`.
+// Exchanges the first `cols` cells of a row of `from`, which are side by side, with as many of `to`.
 fn exchange_row<T, A: Allocator>(
     to: &mut Grid<T, A>,
     from: &mut Grid<T, A>,
@@ -112,7 +112,7 @@ fn copy_rows<T: Copy, A: Allocator>(to: &mut Grid<T, A>, at: (usize, usize), vie
     }
 }
 
-// Writes copies of the cells of a row of a view over those of `to`, which stand together.
+// Writes copies of the cells of a row of a view over those of `to`, which are side by side.
 fn copy_row<T: Copy, A: Allocator>(
     to: &mut Grid<T, A>,
     at: (usize, usize),

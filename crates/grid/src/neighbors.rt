@@ -107,7 +107,7 @@ impl<T, A: Allocator> Grid<T, A> {
     ///                              [[12, 21, 16], [12, 21, 16]]
     ///
     /// Requires: the closure can be called at each position, a reference to the cell there, and the cells round it.
-    /// Fails: where memory is refused; the closure wasn't called.
+    /// Fails: if allocation fails; the closure wasn't called.
     /// Cost: one call for each cell; one allocation, before the first call.
     pub fn map_neighbors8<U, F: Fn((usize, usize), &T, Neighbors<'_, T>) -> U>(
         &self,
@@ -181,8 +181,8 @@ impl<T, A: Allocator> Grid<T, A> {
         count_near(self.neighbors4(at), test)
     }
 
-    /// Returns how many of the cells that touch the cell at this position the closure answers `true` at. It counts as fast
-    /// as a loop over [`neighbors8`](Grid::neighbors8), where `filter` and `count` do not.
+    /// Returns for how many of the cells that touch the cell at this position the closure returns `true`. It counts as
+    /// fast as a loop over [`neighbors8`](Grid::neighbors8), where `filter` and `count` do not.
     ///
     ///     [[1, 2, 3], [4, 5, 6]]   count_neighbors8((0, 2), |cell| 4 < *cell)   2: the cells 5 and 6
     ///
@@ -226,16 +226,17 @@ impl<T, A: Allocator> Grid<T, A> {
         count_wrapped(self.wrapped_neighbors8(at), test)
     }
 
-    /// Returns the grid of what the closure `rule` returns at a reference to each cell, and at how many of the cells that
-    /// touch it, at a side or a corner, the closure `test` answers `true`. The size and the order are the same.
+    /// Returns the grid of what the closure `rule` returns for a reference to each cell and the number of the cells
+    /// that touch it, at a side or a corner, for which the closure `test` returns `true`. The size and the order are
+    /// the same.
     ///
     ///     [[1, 2, 3], [4, 5, 6]]   map_counts8(|x| 4 < *x, |_, n| n)   [[1, 2, 2], [1, 1, 1]]
     ///
     /// It takes a tenth of the time of [`map_indexed`](Grid::map_indexed) with [`count_neighbors8`](Grid::count_neighbors8),
     /// or less, where `rule` has no branch: write `|` and `&` in it, and not `||` and `&&`.
     ///
-    /// Requires: the closures can be called so.
-    /// Fails: where memory is refused; neither closure was called.
+    /// Requires: the closures can be called with these arguments.
+    /// Fails: if allocation fails; neither closure was called.
     /// Cost: one call of each closure for each cell; one allocation, and three of a line of `bool`s, before the first call.
     pub fn map_counts8<U, F: Fn(&T) -> bool, G: Fn(&T, u8) -> U>(
         &self,
@@ -259,8 +260,8 @@ impl<T, A: Allocator> Grid<T, A> {
     ///
     ///     [[1, 2, 3], [4, 5, 6], [7, 8, 9]]   map_wrapped_counts8(|x| 4 < *x, |_, n| n)   [[5, 5, 5], [5, 4, 4], [4, 4, 4]]
     ///
-    /// Requires: the closures can be called so.
-    /// Fails: where memory is refused; neither closure was called.
+    /// Requires: the closures can be called with these arguments.
+    /// Fails: if allocation fails; neither closure was called.
     /// Cost: one call of each closure for each cell, and one more of `test` for each cell of two lines; one allocation, and
     /// three of a line of `bool`s, before the first call.
     pub fn map_wrapped_counts8<U, F: Fn(&T) -> bool, G: Fn(&T, u8) -> U>(
@@ -281,13 +282,13 @@ impl<T, A: Allocator> Grid<T, A> {
         self.counts_round(Steps::All, Edges::Joined, test, rule)
     }
 
-    /// Same as [`map_counts8`](Grid::map_counts8), with the sum of what the closure `weight` answers at the cells that touch
-    /// a cell in place of the number of those that pass, as for a blur.
+    /// Same as [`map_counts8`](Grid::map_counts8), with the sum of what the closure `weight` returns at the cells that
+    /// touch a cell in place of the number of those that pass, as for a blur.
     ///
     ///     [[1, 2, 3], [4, 5, 6]]   map_sums8(|x| *x, |x, sum| sum + u16::from(*x))   [[12, 21, 16], [12, 21, 16]]
     ///
-    /// Requires: the closures can be called so.
-    /// Fails: where memory is refused; neither closure was called.
+    /// Requires: the closures can be called with these arguments.
+    /// Fails: if allocation fails; neither closure was called.
     /// Cost: one call of each closure for each cell; one allocation, and three of a line of `u8`s, before the first call.
     pub fn map_sums8<U, F: Fn(&T) -> u8, G: Fn(&T, u16) -> U>(
         &self,
@@ -310,8 +311,8 @@ impl<T, A: Allocator> Grid<T, A> {
     ///
     ///     [[1, 2, 3], [4, 5, 6], [7, 8, 9]]   map_wrapped_sums8(|x| *x, |_, sum| sum)   [[44, 43, 42], [41, 40, 39], [38, 37, 36]]
     ///
-    /// Requires: the closures can be called so.
-    /// Fails: where memory is refused; neither closure was called.
+    /// Requires: the closures can be called with these arguments.
+    /// Fails: if allocation fails; neither closure was called.
     /// Cost: one call of each closure for each cell, and one more of `weight` for each cell of two lines; one allocation, and
     /// three of a line of `u8`s, before the first call.
     pub fn map_wrapped_sums8<U, F: Fn(&T) -> u8, G: Fn(&T, u16) -> U>(
@@ -467,7 +468,7 @@ impl<T, A: Allocator> Grid<T, A> {
     }
 }
 
-// How many of these cells the closure answers `true` at.
+// For how many of these cells the closure returns `true`.
 fn count_near<T, F: Fn(&T) -> bool>(near: Neighbors<'_, T>, test: F) -> usize
     requires most { length near ≤ 8 }
     requires callable { CallableNear F.pre test near }
@@ -483,7 +484,7 @@ fn count_near<T, F: Fn(&T) -> bool>(near: Neighbors<'_, T>, test: F) -> usize
     count
 }
 
-// How many of these cells the closure answers `true` at.
+// For how many of these cells the closure returns `true`.
 fn count_wrapped<T, F: Fn(&T) -> bool>(near: WrappedNeighbors<'_, T>, test: F) -> usize
     requires most { length near ≤ 8 }
     requires callable { CallableNear F.pre test near }

@@ -19,7 +19,7 @@ impl<T, A: Allocator> Grid<T, A> {
     ///     [[1, 2, 3], [4, 5, 6]]   sub_grid((0, 1), (2, 2))   [[2, 3], [5, 6]]
     ///
     /// Requires: clones of the cell type equal their source; the part is within the grid.
-    /// Fails: where memory is refused, for the vector or for a clone.
+    /// Fails: if allocation fails, for the vector or in a clone.
     /// Cost: one clone for each cell of the part; one allocation, before the first clone.
     pub fn sub_grid(
         &self,
@@ -88,7 +88,7 @@ impl<T, A: Allocator> Grid<T, A> {
     }
 }
 
-// Exchanges two lines of so many cells.
+// Exchanges two lines of `len` cells.
 fn swap_lines<T, A: Allocator>(flat: &mut Flat<T, A>, width: usize, a: usize, b: usize)
     requires a_in { a * width + width ≤ length flat.old }
     requires b_in { b * width + width ≤ length flat.old }

@@ -10,8 +10,8 @@ use crate::exchange::{copy_part, exchange_part};
 use grid_view::GridView;
 use std::alloc::{AllocError, Allocator};
 
-// Returns which cells of a line of `len` cells lie over `limit` numbers, where the first lies over a signed number: how many
-// come before them, over which number the first of them lies, and how many there are.
+// Returns which cells of a line of `len` cells are over `limit` numbers, where the first is over a signed number: how
+// many come before them, over which number the first of them is, and how many there are.
 fn clipped(at: isize, len: usize, limit: usize) -> (usize, usize, usize)
     ensures { IsClipped at len limit result.0 result.1 result.2 }
 {
@@ -30,7 +30,7 @@ impl<T, A: Allocator> Grid<T, A> {
     ///     [[1, 2, 3], [4, 5, 6]]   paste((0, 1), [[7, 8]])   [[1, 7, 8], [4, 5, 6]]
     ///
     /// Requires: clones of the cell type equal their source; the cells are within the grid.
-    /// Fails: where memory is refused, for the clones or by a clone; the grid is unchanged.
+    /// Fails: if allocation fails, for the clones or in a clone; the grid is unchanged.
     /// Cost: one clone and one swap for each cell of the view, all clones before the first change; one allocation.
     pub fn paste(&mut self, at: (usize, usize), view: &GridView<'_, T>) -> Result<(), AllocError>
     where
@@ -57,7 +57,7 @@ impl<T, A: Allocator> Grid<T, A> {
     ///     [[1, 2, 3], [4, 5, 6]]   paste_copied((0, 1), [[7, 8]])   [[1, 7, 8], [4, 5, 6]]
     ///
     /// Requires: the cells are within the grid.
-    /// Cost: one copy for each cell of the view, a line at once where its cells stand side by side in both; no memory.
+    /// Cost: one copy for each cell of the view, a line at once where its cells are side by side in both; no memory.
     pub fn paste_copied(&mut self, at: (usize, usize), view: &GridView<'_, T>)
     where
         T: Copy,
@@ -69,13 +69,13 @@ impl<T, A: Allocator> Grid<T, A> {
         copy_part(self, at, view);
     }
 
-    /// Writes clones of the cells of a view over the cells of the grid that it covers, where its first cell lies over the
+    /// Writes clones of the cells of a view over the cells of the grid that it covers, where its first cell is over the
     /// signed row and column of `at`. Its cells outside of the grid are left out.
     ///
     ///     [[1, 2], [3, 4]]   paste_clipped((-1, 1), [[5, 6], [7, 8]])   [[1, 7], [3, 4]]
     ///
     /// Requires: clones of the cell type equal their source.
-    /// Fails: where memory is refused, for the clones or by a clone; the grid is unchanged.
+    /// Fails: if allocation fails, for the clones or in a clone; the grid is unchanged.
     /// Cost: one clone and one swap for each cell that is written, all clones before the first change; one allocation.
     pub fn paste_clipped(
         &mut self,
@@ -104,7 +104,7 @@ impl<T, A: Allocator> Grid<T, A> {
     ///     [[1, 2, 3], [4, 5, 6]]   fill_part((0, 1), (2, 1), 7)   [[1, 7, 3], [4, 7, 6]]
     ///
     /// Requires: clones of the cell type equal their source; the part is within the grid.
-    /// Fails: where memory is refused, for the clones or by a clone; the grid is unchanged, and the value is dropped.
+    /// Fails: if allocation fails, for the clones or in a clone; the grid is unchanged, and the value is dropped.
     /// Cost: one clone for each cell of the part but the last, all before the first change, and one swap for each; one
     /// allocation.
     pub fn fill_part(

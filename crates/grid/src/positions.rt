@@ -77,7 +77,7 @@ impl<T, A: Allocator> Grid<T, A> {
         way.step(self.size(), at)
     }
 
-    /// Returns the position of the first cell, row by row, at which the closure returns true.
+    /// Returns the position of the first cell, row by row, for which the closure returns true.
     ///
     ///     [[1, 2], [3, 2]]   position(|x| *x == 2)   Some((0, 1))
     ///
@@ -98,12 +98,12 @@ impl<T, A: Allocator> Grid<T, A> {
         None
     }
 
-    /// Returns the positions of the cells at which the closure returns true, row by row.
+    /// Returns the positions of the cells for which the closure returns true, row by row.
     ///
     ///     [[1, 2], [2, 3]]   positions(alloc, |x| *x == 2)   [(0, 1), (1, 0)]
     ///
     /// Requires: the closure can be called at a reference to each cell.
-    /// Fails: where memory is refused.
+    /// Fails: if allocation fails.
     /// Cost: one call for each cell, row by row in either order; the vector grows as it is filled.
     pub fn positions<B: Allocator, F: Fn(&T) -> bool>(
         &self,

@@ -7,7 +7,7 @@ use crate::Grid;
 use grid_base::Whole;
 use std::alloc::{AllocError, Allocator};
 
-// Returns what stands before the item at an index: nothing before the first, else the separator.
+// Returns what comes before the item at an index: nothing before the first, else the separator.
 pub(crate) fn separator_before(index: usize, separator: &'static str) -> &'static str
     ensures { result.now ≡ (if nat_lt 0 index then separator.now else []) }
 {
@@ -92,7 +92,8 @@ impl<T: Whole, A: Allocator> Grid<T, A> {
     }
 
     /// Returns the text of the rows, each in a line of its own, each number right-aligned in the width. Without a width
-    /// it is the length of the longest number. A longer number stands in full. The text is the same in either order.
+    /// it is the length of the longest number. A longer number is written in full. The text is the same in either
+    /// order.
     ///
     ///     [[1, 20], [3, 4]]   pretty(alloc, None)   [
     ///                                                   [  1, 20]
@@ -100,8 +101,8 @@ impl<T: Whole, A: Allocator> Grid<T, A> {
     ///                                               ]
     ///     []                  pretty(alloc, None)   []
     ///
-    /// No line end stands behind the last bracket.
-    /// Fails: where memory is refused.
+    /// There is no line end behind the last bracket.
+    /// Fails: if allocation fails.
     /// Cost: each number is written once, and without a width once more to be measured.
     pub fn pretty<B: Allocator>(
         &self,

@@ -17,7 +17,7 @@ impl<T: Clone, A: Allocator + Clone> Grid<T, A> {
     /// Returns a grid of clones of the cells, with the same rows and the same order.
     ///
     /// Requires: clones of the cell type equal their source.
-    /// Fails: where memory is refused, for the vector or for a clone.
+    /// Fails: if allocation fails, for the vector or in a clone.
     /// Cost: one clone for each cell.
     pub fn clone(&self) -> Result<Grid<T, A>, AllocError>
         requires clones { ClonesAreEqual T.is_clone }
@@ -33,10 +33,10 @@ impl<T: Clone, A: Allocator + Clone> Grid<T, A> {
     }
 }
 
-/// Returns a grid of clones of the cells, with the same order. This is what `T: Clone` and `#[derive(Clone)]` call; of a
-/// grid, `grid.clone()` is the inherent [`clone`](Grid::clone), which asks that clones equal their source.
+/// Returns a grid of clones of the cells, with the same order. This is what `T: Clone` and `#[derive(Clone)]` call; of
+/// a grid, `grid.clone()` is the inherent [`clone`](Grid::clone), which requires that clones equal their source.
 ///
-/// Fails: where memory is refused, for the vector or for a clone.
+/// Fails: if allocation fails, for the vector or in a clone.
 /// Cost: one clone for each cell.
 impl<T: Clone, A: Allocator + Clone> Clone for Grid<T, A> {
     ghost is_clone = { IsGridClone T.is_clone };

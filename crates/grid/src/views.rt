@@ -44,7 +44,7 @@ impl<T, A: Allocator> Grid<T, A> {
     ///     from_view(ColumnMajor, [[1, 2], [3, 4]])   [[1, 2], [3, 4]]
     ///
     /// Requires: clones of the cell type equal their source.
-    /// Fails: where memory is refused, for the vector or for a clone.
+    /// Fails: if allocation fails, for the vector or in a clone.
     /// Cost: one clone for each cell; one allocation, before the first clone.
     pub fn from_view(
         alloc: A,

@@ -17,7 +17,7 @@ use Rattle.grid_base.specs.Move.{of_move, word_image, IsNormalForm, ActAlike}
 use Rattle.grid_base.proofs.TableLemmas.{tabulate-same, IsFull, IsFull-cells, IsSize-table, tabulate-cells}
 use Rattle.grid_base.proofs.ActLemmas.{act-tabulate, image_cell, IsFull-image, IsSize-image, IsTable-act}
 
--- the symmetry that is s and then u: a transpose exchanges the flips that stand before it
+-- the symmetry that is s and then u: a transpose exchanges the flips that are before it
 abbrev pub product : Symmetry → Symmetry → Symmetry
 product s u =
     if (flags_of u).0

@@ -8,8 +8,8 @@ use Rattle.grid_base.specs.Groups.{Woven}
 use Rattle.grid_base.proofs.WeaveLemmas.{place_below}
 use Rattle.grid_base.proofs.SpreadLemmas.{spread, spread_start, spread_run, spread_later, wide_lines, widened_by_spread}
 
--- the cells from x on stand at their new places with the groups from g on between them; the g groups before those
--- stand at x, and the cells before x have not moved
+-- the cells from x on are at their new places with the groups from g on between them; the g groups before those are at
+-- x, and the cells before x have not moved
 pub record Weaving {T : Type 0} (p q i k g x : ℕ) (old now : List T) : Type 0 where
   pub length_stays : length now ≡ length old
   pub placed : (y : ℕ) → x ≤ y → y < p * q → slice_get now (spread q i k y) ≡ slice_get old y
@@ -54,8 +54,8 @@ weaving_end p q i k g x old now le none some w =
       groups = λ l j a b. w.woven l j (omega arith) a b;
     }
 
--- the cells before x stand at their places in the closed lines, the groups before line g stand at x, and the cells
--- behind those have not moved
+-- the cells before x are at their places in the closed lines, the groups before line g are at x, and the cells behind
+-- those have not moved
 pub record Unweaving {T : Type 0} (p q i k g x : ℕ) (old now : List T) : Type 0 where
   pub length_stays : length now ≡ length old
   pub placed : (y : ℕ) → y < x → slice_get old (spread q i k y) ≡ slice_get now y

@@ -47,7 +47,7 @@ drop_from : {X : Type 0} (xs : List X) (k : ℕ) (x : X) → slice_get xs k ≡ 
 drop_from xs k x h =
     drop_more xs k x (slice_get_within xs k x h) ∙ ap (λ z. z ∷ drop (k + 1) xs) (get_or_from_slice_get xs k x x h)
 
--- no position lies past the last
+-- no position is past the last
 pub within-places : (o : Order) (m n r c : ℕ) → StandsAt o m n r c → place o m n r c ≤ m * n
 within-places o m n r c h =
     ⊎_elim (λ inside. let lt = place_within o m n r c inside.0 inside.1 in omega arith) (λ last. omega arith) h.next

@@ -30,7 +30,7 @@ forward_more x s n old now some within h =
       behind = λ y ge. get-swap_other now _ _ y p q (λ e. omega arith) (λ e. omega arith) ∙ h.behind y (omega arith);
     }
 
--- each of the n cells from x on has come s places back, the last of them first; what stood behind them came before them
+-- each of the n cells from x on has come s places back, the last of them first; what was behind them came before them
 pub record MovedBack {T : Type 0} (x s n : ℕ) (old new : List T) : Type 0 where
   pub length_stays : length new ≡ length old
   pub placed : (y : ℕ) → x ≤ y → y < x + n → slice_get new (y + s) ≡ slice_get old y

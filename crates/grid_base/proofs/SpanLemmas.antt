@@ -16,7 +16,7 @@ use Rattle.grid_base.proofs.StorageLemmas.{IsFull-table_of}
 use Rattle.grid_base.proofs.StrideLemmas.{get-strided, length-line_of, ceil_is}
 use Rattle.grid_base.proofs.ViewLemmas.{view-cell}
 
--- a line whose cells stand one after another
+-- a line whose cells are one after another
 pub together_is : (p q i : ℕ) → i < p → IsSpan q (λ k. i * q + k) (p * q) (record { start = i * q; end = i * q + q; stride = 1; count = q })
 together_is p q i h =
     let all : (i + 1) * q ≤ p * q = mul-le-mul_right q (omega arith) in

@@ -1,4 +1,4 @@
--- Where the cells of lines stand once each line has room for a group.
+-- Where the cells of lines are once each line has room for a group.
 use Rattle.std.proofs.Common.{◌≡◌, ◌≢◌, ℕ, ◌+◌, ◌-◌, ◌*◌, ◌/◌, ◌%◌, ◌<◌, ◌≤◌, List, length, min, refl, sym, ◌∙◌, ap, arith, ⊎_elim}
 use Rattle.std.specs.List.{slice_get}
 use Rattle.std.proofs.lemmas.Nat.{div-mul-add, div-add-mod', mod_below, same_from_place, le-div}
@@ -53,7 +53,7 @@ module _ (q i k : ℕ) (le : i ≤ q) where
 pub spread_start : (q i k y : ℕ) → i ≤ q → y < i → spread q i k y ≡ y
 spread_start q i k y le lt = sym (ap (spread q i k) (omega arith)) ∙ (spread-before q i k le 0 y (omega arith) lt ∙ omega arith)
 
--- cells before and behind place i of each line, from where each cell stands
+-- cells before and behind place i of each line, from where each cell is
 pub widened_by_spread : {T : Type 0} (p q i k : ℕ) (short long : List T) → i ≤ q → ((y : ℕ) → y < p * q → slice_get long (spread q i k y) ≡ slice_get short y) → Widened p q i k short long
 widened_by_spread p q i k short long le at =
     record {
@@ -61,7 +61,7 @@ widened_by_spread p q i k short long le at =
       after = λ l j a b c. ap (slice_get long) (sym (spread-after q i k le l j b c)) ∙ at (l * q + j) (place_below l q j p a b);
     }
 
--- the cells from x on below n stand at their new places, the others from x on are some of those that stood behind
+-- the cells from x on below n are at their new places, the others from x on are some of those that were behind
 pub record Opening {T : Type 0} (f : ℕ → ℕ) (n x : ℕ) (old now : List T) : Type 0 where
   pub length_stays : length now ≡ length old
   pub placed : (y : ℕ) → x ≤ y → y < n → slice_get now (f y) ≡ slice_get old y
@@ -139,7 +139,7 @@ opening_end p q i k x old now lines wide le size last e =
 pub first_line : (p q : ℕ) → 0 < p → q ≤ p * q
 first_line p q some = omega (arith, mul-le-mul_right q some)
 
--- the cells before x stand at their places in the closed lines, the others have not moved
+-- the cells before x are at their places in the closed lines, the others have not moved
 pub record Closing {T : Type 0} (f : ℕ → ℕ) (n x : ℕ) (old now : List T) : Type 0 where
   pub length_stays : length now ≡ length old
   pub placed : (y : ℕ) → y < x → slice_get now y ≡ slice_get old (f y)

@@ -55,7 +55,7 @@ get-concat_rows (x ∷ t) n (suc r) c h lr lc =
     get_append_right x (concat_rows t) (suc r * n + c) (r * n + c) (omega arith)
     ∙ get-concat_rows t n r c (λ r lt. h (suc r) (omega arith)) (omega arith) lc
 
--- the number of cells, and where each stands
+-- the number of cells, and where each is
 pub length-storage : {T : Type 0} (o : Order) (t : List (List T)) → IsTable t → length (storage o t) ≡ row_count t * col_count t
 length-storage RowMajor t h = length-concat_rows t (col_count t) h.even
 length-storage ColumnMajor t h =

@@ -113,7 +113,7 @@ module _ (X : Type 0) where
   pub each_line_in_reverse : EachLineInReverse X
   each_line_in_reverse p s = as_is_back p p.from (from_back (YieldsLast (λ (rest : List (List X)). rest)) (λ y. y) (λ rest. rest) (λ s t h. ap length h.0) (λ s x t h. h) p s)
 
--- where a number of such a cell stands
+-- where a number of such a cell is
 every_within : {X : Type 0} (xs : List X) (k g j : ℕ) → j < length (every k g xs) → k + j * (g + 1) < length xs
 every_within [] k g j h = absurd (omega arith)
 every_within (x ∷ xs) zero g zero h = omega arith
@@ -127,7 +127,7 @@ module _ {X : Type 0} (stride first past : ℕ) (xs : List X) (h : IsLine stride
   step_is : (j : ℕ) → j * stride ≡ j * (stride - 1 + 1)
   step_is j = let one : stride ≡ stride - 1 + 1 = omega (arith, h.steps) in ap (λ x. j * x) one
 
-  -- a cell that is left stands within the list
+  -- a cell that is left is within the list
   pub line_within : (j : ℕ) → j < past → j * stride < length xs
   line_within j lt = omega (arith, every_within xs 0 (stride - 1) j (omega (arith, h.remaining.within)), step_is j)
 
@@ -156,7 +156,7 @@ every_all : {X : Type 0} (xs : List X) → every 0 0 xs ≡ xs
 every_all [] = refl
 every_all (x ∷ xs) = ap (λ l. x ∷ l) (every_all xs)
 
--- cells that stand together are all of them
+-- cells that are side by side are all of them
 pub every_one : {X : Type 0} (stride : ℕ) (xs : List X) → stride ≡ 1 → every 0 (stride - 1) xs ≡ xs
 every_one stride xs e = rw e (every_all xs)
 

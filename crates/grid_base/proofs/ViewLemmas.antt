@@ -67,7 +67,7 @@ module _ {T : Type 0} (o : Order) (m n : ℕ) (cells : List T) (h : HoldsSize m 
   pub view-storage : storage o (table_of o m n cells) ≡ cells
   view-storage = storage-table_of o m n cells h.size h.cells
 
-  -- a table whose cells stand where the formula says is the image
+  -- a table whose cells are where the formula says is the image
   pub view-act : (s : Symmetry) (u : Order) (news : List T) → ((i j : ℕ) → i < image_rows s m n → j < image_cols s m n → slice_get news (place u (image_rows s m n) (image_cols s m n) i j) ≡ slice_get cells (place o m n (source_row s m n i j) (source_col s m n i j))) → table_of u (image_rows s m n) (image_cols s m n) news ≡ act s (table_of o m n cells)
   view-act s u news same =
       tabulate-same _ _ _ _ same (IsFull-image s m n _ full) ∙ sym (act-tabulate s m n _ h.size full)

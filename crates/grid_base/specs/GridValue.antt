@@ -23,7 +23,7 @@ pub record SameSizeAndOrder {T U : Type 0} (old : GridValue T) (new : GridValue 
   pub cols : col_count new.rows ≡ col_count old.rows
   pub order : new.order ≡ old.order
 
--- so many cells fill m rows and n columns, and a vector can hold them
+-- `len` cells fill m rows and n columns, and a vector can hold them
 pub record HoldsSize (m n len : ℕ) : Type 0 where
   pub cells : len ≡ m * n
   pub below : m * n < 2 ^ 64

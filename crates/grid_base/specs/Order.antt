@@ -23,7 +23,7 @@ place ColumnMajor m n r c = c * m + r
 abbrev pub table_of : {T : Type 0} → Order → ℕ → ℕ → List T → List (List T)
 table_of o m n cells = tabulate m n (λ r c. slice_get cells (place o m n r c))
 
--- so many cells can be cut into lines of one length: there are none, or the length divides their
+-- `len` cells can be cut into lines of one length: there are none, or the length divides their
 -- number
 abbrev pub CanCut : ℕ → ℕ → Type 0
 CanCut len width = (len ≡ 0) ⊎ ((width ≢ 0) × (len % width ≡ 0))

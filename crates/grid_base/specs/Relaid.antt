@@ -7,7 +7,7 @@ module _ {T : Type 0} (p q : ℕ) (old new : List T) where
     pub lengths : length new ≡ length old
     pub at : (l j : ℕ) → l < p → j < q → slice_get new (j * p + l) ≡ slice_get old (l * q + j)
 
--- In a square of n lines of n cells, the cells of rows t to b and columns l to r, which lie above
+-- In a square of n lines of n cells, the cells of rows t to b and columns l to r, which are above
 -- the diagonal, have changed places with those across it.
 module _ {T : Type 0} (n t b l r : ℕ) (old new : List T) where
   pub record Mirrored : Type 0 where

@@ -1,10 +1,10 @@
--- Where the cells of a row stand in the storage. No public clause cites this module.
+-- Where the cells of a row are in the storage. No public clause cites this module.
 use Rattle.std.specs.Prelude.{◌≡◌, ℕ, ◌+◌, ◌-◌, ◌*◌, ◌<◌, ◌≤◌}
 use Rattle.std.specs.Int.{div_ceil}
 use Rattle.grid_base.specs.declared.flat.span.Span.{Span}
 
--- the n cells at the places `at 0`, .., `at (n - 1)` stand a stride apart from start on and before
--- end, among so many cells
+-- the n cells at the places `at 0`, .., `at (n - 1)` are a stride apart from start on and before
+-- end, among `cells` cells
 pub record IsSpan (n : ℕ) (at : ℕ → ℕ) (cells : ℕ) (s : Span) : Type 0 where
   pub len : s.count ≡ n
   pub steps : 0 < s.stride

@@ -181,7 +181,7 @@ impl<T: Clone, A: Allocator + Clone> Flat<T, A> {
     /// Returns clones of the cells, in a vector of their own.
     ///
     /// Requires: clones of the cell type equal their source.
-    /// Fails: where memory is refused, for the vector or for a clone.
+    /// Fails: if allocation fails, for the vector or in a clone.
     /// Cost: one clone for each cell.
     pub fn clone(&self) -> Result<Flat<T, A>, AllocError>
         requires clones { ClonesAreEqual T.is_clone }

@@ -1,5 +1,5 @@
-//! The laws of the symmetries as public calls: the eight are a group under `then` and `inverse`, act as one on tables of
-//! any cells, and stand in `Symmetry::ALL`.
+//! The laws of the symmetries as public calls: the eight are a group under `then` and `inverse`, act as one on tables
+//! of any cells, and are in `Symmetry::ALL`.
 //!
 //! A law is the clause of that name: it speaks of every table or every symmetry. The other clauses say what a call
 //! returns.

@@ -1,4 +1,4 @@
-//! What a grid stands on: the one vector of its cells with counted swaps, and the eight symmetries of a table
+//! What a grid is built on: the one vector of its cells with counted swaps, and the eight symmetries of a table
 //! with words of moves.
 #![tactic(auto)]
 

@@ -4,10 +4,10 @@ ghost use Rattle.std.specs.Prelude.{◌≡◌, ◌*◌, ◌^◌, ◌<◌};
 /// The order of the cells in a grid's vector.
 #[derive(Clone, Copy, Debug, Default, PartialEq, Eq, Hash)]
 pub enum Order {
-    /// Row by row: cell (r, c) stands at `r * cols + c`.
+    /// Row by row: cell (r, c) is at `r * cols + c`.
     #[default]
     RowMajor,
-    /// Column by column: cell (r, c) stands at `c * rows + r`.
+    /// Column by column: cell (r, c) is at `c * rows + r`.
     ColumnMajor,
 }
 

@@ -44,8 +44,8 @@ pub fn exchange<T, A: Allocator>(
     }
 }
 
-/// Adds a row at the end. The line comes back where it has no cells, where it doesn't fit, and where there is no
-/// memory; the grid is unchanged then.
+/// Adds a row at the end. The line comes back where it has no cells, where it doesn't fit, and if allocation fails; the
+/// grid is unchanged then.
 pub fn push<T: Drop, A: Allocator>(grid: &mut Grid<T, A>, line: Vec<T, A>) -> Result<(), Vec<T, A>>
     ensures rows { OnOk result
         (grid.new.rows ≡ insert grid.old.rows (row_count grid.old.rows) line.items) }
@@ -63,7 +63,7 @@ pub fn push<T: Drop, A: Allocator>(grid: &mut Grid<T, A>, line: Vec<T, A>) -> Re
 
 /// Removes the first row and returns it, or `None` where there is no row.
 ///
-/// Fails: where memory for the line is refused; the grid is unchanged.
+/// Fails: if the allocation of the line fails; the grid is unchanged.
 pub fn take_first<T, A: Allocator + Clone>(
     grid: &mut Grid<T, A>,
 ) -> Result<Option<Vec<T, A>>, AllocError>
@@ -75,7 +75,7 @@ pub fn take_first<T, A: Allocator + Clone>(
 
 /// Adds a row at the end by a command, and returns why it was refused, or `None` where it was done.
 ///
-/// Fails: where memory is refused; the grid is unchanged.
+/// Fails: if allocation fails; the grid is unchanged.
 pub fn push_by_command<T, A>(
     grid: &mut Grid<T, A>,
     line: Vec<T, A>,

@@ -1,4 +1,4 @@
-//! Errors that go up by `?`.
+//! Errors that `?` propagates.
 ghost use Rattle.std.specs.Prelude.{◌≡◌, ◌↔◌, ◌+◌, ◌<◌, IsErrOf, IfErr, IfOk, OnOk, OnErr, Some, length, codes};
 ghost use Rattle.std.specs.List.{insert};
 ghost use Rattle.grid_base.specs.Table.{row_count, col_count};
@@ -84,7 +84,7 @@ pub fn run_or_say<A: Allocator + Clone>(
     Ok(())
 }
 
-/// Makes a grid of strings, cells that take memory: either want of memory is the library's error.
+/// Makes a grid of strings, cells that take memory: either failed allocation is the library's error.
 pub fn names(alloc: Global, rows: usize, cols: usize) -> Result<Grid<String>, GridError> {
     let grid = Grid::try_from_fn(alloc, rows, cols, |_at| String::from_str(alloc, "cell"))??;
     Ok(grid)

@@ -5,7 +5,7 @@ ghost use Rattle.std.specs.Prelude.{◌≡◌, OnOk};
 use grid::{Grid, GridError};
 use std::alloc::{AllocError, Allocator};
 
-/// Puts a board under another, and marks its first cell there. The error goes up by `?`.
+/// Puts a board under another, and marks its first cell there. The error is returned by `?`.
 ///
 ///     [[1, 2]]   stack([[3, 4]])   [[1, 2], [9, 4]]
 pub fn stack<A: Allocator>(board: &mut Grid<u8, A>, under: Grid<u8, A>) -> Result<bool, GridError> {
@@ -18,7 +18,7 @@ pub fn stack<A: Allocator>(board: &mut Grid<u8, A>, under: Grid<u8, A>) -> Resul
     Ok(true)
 }
 
-/// Puts a board beside another, and marks its last cell there; the board comes back where memory is refused.
+/// Puts a board beside another, and marks its last cell there; the board comes back if allocation fails.
 ///
 ///     [[1], [2]]   extend([[3], [4]])   [[1, 3], [2, 9]]
 pub fn extend<A: Allocator>(
@@ -75,8 +75,8 @@ pub fn four_by_four<A: Allocator + Clone>(board: &mut Grid<u8, A>) -> Result<(),
     Ok(())
 }
 
-/// Keeps the first row and column of a board that has two of each, and returns whether it has: this takes no memory, so
-/// the error can't come.
+/// Keeps the first row and column of a board that has two of each, and returns whether it has: this allocates nothing,
+/// so the error can't occur.
 pub fn keep_first_cell<A: Allocator + Clone>(board: &mut Grid<u8, A>) -> bool {
     if 1 < board.rows() && 1 < board.cols() {
         match board.resize(1, 1) {

@@ -39,7 +39,7 @@ pub fn count_full(grid: &Grid<u8>) -> usize
 ///
 ///     [[1, 9], [2, 5], [3, 9]]   sort_by_second()   [[2, 5], [1, 9], [3, 9]]
 ///
-/// Fails: where memory is refused; the sheet is unchanged.
+/// Fails: if allocation fails; the sheet is unchanged.
 pub fn sort_by_second<A: Allocator + Clone>(sheet: &mut Grid<u32, A>) -> Result<(), AllocError>
     ensures permutation { IsPermutation sheet.old.rows sheet.new.rows }
     ensures sorted { OnOk result
@@ -65,7 +65,7 @@ pub fn compare_by_second<A: Allocator + Clone>(sheet: &mut Grid<u32, A>) -> Resu
 ///
 ///     [[3, 2], [1, 4]]   sort_and_mark()   [[9, 3], [4, 1]]
 ///
-/// Fails: where memory is refused; the board is unchanged.
+/// Fails: if allocation fails; the board is unchanged.
 pub fn sort_and_mark<A: Allocator + Clone>(board: &mut Grid<u8, A>) -> Result<(), AllocError> {
     if !board.is_empty() {
         sort_cols_by(board, |mut a, mut b| a.next().cmp(&b.next()))?;
@@ -74,7 +74,7 @@ pub fn sort_and_mark<A: Allocator + Clone>(board: &mut Grid<u8, A>) -> Result<()
     Ok(())
 }
 
-/// Turns each row round.
+/// Reverses each row.
 pub fn mirror<T, A: Allocator>(board: &mut Grid<T, A>)
     ensures { board.new.rows ≡ map reverse board.old.rows }
 {
@@ -89,7 +89,7 @@ pub fn sort_cells<A: Allocator>(board: &mut Grid<u32, A>)
     rewrite_rows(board, |row| row.sort_unstable());
 }
 
-/// Returns the rows as vectors, or the board where memory is refused.
+/// Returns the rows as vectors, or the board if allocation fails.
 pub fn unpack<A: Allocator + Clone>(board: Grid<u8, A>) -> Result<Vec<Vec<u8, A>, A>, Grid<u8, A>>
     ensures { IfOk result (λ rows. map (λ row. row.items) rows.items ≡ board.rows) }
 {

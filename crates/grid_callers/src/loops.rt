@@ -102,8 +102,8 @@ pub fn paint(grid: &mut Grid<u8>, x: u8) {
     }
 }
 
-/// Returns the board of these lines, or `None` where a line has no cells or another length, and where there is no
-/// memory: the tests of the conditions stand in the loop.
+/// Returns the board of these lines, or `None` where a line has no cells or another length, or if allocation fails: the
+/// tests of the conditions are in the loop.
 pub fn stacked(alloc: Global, lines: Vec<Vec<u8>>) -> Option<Grid<u8>> {
     let mut grid = Grid::empty(alloc);
     for line in lines {

@@ -31,7 +31,7 @@ pub fn count_beside(grid: &Grid<u8>, row: usize, col: usize, x: u8) -> usize
         .count()
 }
 
-/// Returns whether all cells that touch a cell are below this height: where it answers true, they are.
+/// Returns whether all cells that touch a cell are below this height: where it returns true, they are.
 pub fn is_peak(grid: &Grid<u8>, row: usize, col: usize, height: u8) -> bool
     ensures { IsTrue result → All (λ near. near.1 < height) (neighbors8 grid.now.rows row col) }
 {
@@ -166,7 +166,7 @@ pub fn walls_beside(walls: &Grid<bool>) -> Result<(Grid<u8>, Grid<u8>), AllocErr
     Ok((open, joined))
 }
 
-/// Returns the position beside one on a board of this size, to be had without the board.
+/// Returns the position beside one on a board of this size, without the board.
 ///
 ///     ahead((2, 3), (0, 1), Down)   Some((1, 1))
 pub fn ahead(size: (usize, usize), at: (usize, usize), way: Direction) -> Option<(usize, usize)> {

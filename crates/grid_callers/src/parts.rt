@@ -6,8 +6,8 @@ ghost use Rattle.grid.specs.Parts.{sub_table};
 
 use grid::Grid;
 
-/// Returns the upper left corner of two rows and three columns, or `None` where the board is smaller, and where there is
-/// no memory.
+/// Returns the upper left corner of two rows and three columns, or `None` where the board is smaller, or if allocation
+/// fails.
 ///
 ///     [[1, 2, 3, 4], [5, 6, 7, 8]]   corner()   Some([[1, 2, 3], [5, 6, 7]])
 pub fn corner(grid: &Grid<u8>) -> Option<Grid<u8>>

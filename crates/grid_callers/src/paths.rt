@@ -35,7 +35,7 @@ pub fn steps_of_kings(
     Ok((steps, here))
 }
 
-/// Paints a cell and what hangs together with it, and returns what another cell is then.
+/// Paints a cell and what is connected with it, and returns what another cell is then.
 pub fn paint(
     picture: &mut Grid<u8>,
     at: (usize, usize),
@@ -62,8 +62,8 @@ pub fn region_of(picture: &Grid<u8>, at: (usize, usize)) -> Result<(Grid<usize>,
     Ok((numbers, number))
 }
 
-/// Draws a shortest way through a maze, whose walls are `#`, and returns the number of its steps, or `None` where there is
-/// no way.
+/// Draws a shortest path through a maze, whose walls are `#`, and returns the number of its steps, or `None` where
+/// there is no path.
 ///
 ///     ["..#", "#..", "#.."]   draw_way((0, 0), (2, 2))   Some(4)   ["oo#", "#oo", "#.o"]
 pub fn draw_way(
@@ -80,8 +80,8 @@ pub fn draw_way(
     Ok(Some(path.len().saturating_sub(1)))
 }
 
-/// Returns what the cheapest way over a map of heights costs, and where it goes. A step costs the height that it leads to; 9
-/// can't be climbed.
+/// Returns what the cheapest path over a map of heights costs, and where it goes. A step costs the height that it leads
+/// to; 9 can't be climbed.
 ///
 ///     [[1, 8, 1], [1, 1, 1]]   cheapest_way((0, 0), (0, 2))   Some(([(0, 0), (1, 0), (1, 1), (1, 2), (0, 2)], 4))
 pub fn cheapest_way(

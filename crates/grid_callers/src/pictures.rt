@@ -50,7 +50,7 @@ pub fn turned(alloc: Global, bytes: &[u8]) -> Result<Grid<u8>, PnmError> {
     Ok(picture)
 }
 
-/// The negative of a gray board, by way of a picture.
+/// The negative of a gray board, through a picture.
 pub fn negative<A: Allocator>(alloc: Global, board: &Grid<u8, A>) -> Result<Grid<u8>, PnmError>
     ensures { MatchResult result (λ negative.
         negative.rows ≡ table_map (λ x. 255 - x) board.now.rows) (λ e. e ≡ Memory) }

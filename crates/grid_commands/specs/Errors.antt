@@ -14,7 +14,7 @@ abbrev pub fault_text : GridError → List ℕ
 fault_text TooLarge = codes "too many cells"
 fault_text Memory = codes "out of memory"
 
--- that memory ran out after so many commands
+-- that memory ran out after `done` commands
 abbrev pub stopped_text : ℕ → List ℕ
 stopped_text done = codes "out of memory after " ++ (decimal done ++ codes " commands")
 

@@ -28,11 +28,11 @@ use Rattle.grid_commands.specs.declared.command.Refusal.TheVariants.{
 }
 use Rattle.grid_commands.specs.Command.{Edit, push, insert_at, insert_all, expand, prepend, CommandValue, set_cell, swap_cells, lines, line_count, line_width}
 
--- whether so many cells are more than a grid can have, `usize::MAX`
+-- whether this number of cells is more than a grid can have, `usize::MAX`
 abbrev pub exceeds : ℕ → Bool
 exceeds cells = nat_lt 18446744073709551615 cells
 
--- why k lines of this width can't be added as padding to so many; none are added to no lines
+-- why k lines of this width can't be added as padding to `count`; none are added to no lines
 abbrev pub pad_refusal : ℕ → ℕ → ℕ → Option Refusal
 pad_refusal count width k =
     if nat_eq count 0 then None
@@ -51,12 +51,12 @@ module _ {T : Type 0} where
   abbrev pub first_width : List (List T) → ℕ
   first_width ls = length (slice_index_or ls 0 [])
 
-  -- the width that lines must have among so many of this width: any where there are none, but one
+  -- the width that lines must have among `count` of this width: any where there are none, but one
   -- for all
   abbrev pub fitting_width : ℕ → ℕ → List (List T) → ℕ
   fitting_width count width ls = if nat_eq count 0 then first_width ls else width
 
-  -- why lines can't be put before place i of so many lines of this width
+  -- why lines can't be put before place i of `count` lines of this width
   abbrev pub lines_refusal : ℕ → ℕ → ℕ → List (List T) → Option Refusal
   lines_refusal count width i ls =
       if list_any (λ l. nat_eq (length l) 0) ls then Some EmptyLine

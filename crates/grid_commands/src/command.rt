@@ -1,6 +1,6 @@
 //! Commands, refusals and replies as data.
 //!
-//! A command is read once, by `command_value`; every other definition and all steps go by what it says.
+//! A command is read once, by `command_value`; every other definition and all steps use what it says.
 ghost use Rattle.std.specs.Prelude.{◌≡◌};
 ghost use Rattle.grid_commands.specs.Command.{command_value, axis_of};
 
@@ -73,9 +73,9 @@ pub enum Command<T, A: Allocator = Global> {
     DeleteRow(usize),
     /// Drops a column. Replies `Flag`: whether there was such a column.
     DeleteCol(usize),
-    /// Drops a number of rows, from a row on. Replies `Flag`: whether there were so many; if not, nothing changes.
+    /// Drops a number of rows, from a row on. Replies `Flag`: whether they were all there; if not, nothing changes.
     DeleteRows(usize, usize),
-    /// Drops a number of columns, from a column on. Replies `Flag`: whether there were so many; if not, nothing
+    /// Drops a number of columns, from a column on. Replies `Flag`: whether they were all there; if not, nothing
     /// changes.
     DeleteCols(usize, usize),
     /// Adds rows of defaults at the end; an empty grid stays empty. Replies `Done`; takes memory where it adds rows.
@@ -114,7 +114,7 @@ pub enum Refusal {
     Length,
     /// A row, a column or an insertion point is out of range.
     Index,
-    /// The number of cells would pass `usize::MAX`.
+    /// The number of cells would exceed `usize::MAX`.
     TooLarge,
 }
 
@@ -145,7 +145,7 @@ pub enum Reply<T, A: Allocator = Global> {
     Refused(Refusal),
 }
 
-/// A run that found no memory.
+/// A run that stopped because allocation failed.
 ///
 /// The grid has the rows after the first `done` commands, and `replies` are theirs.
 #[derive(Drop)]

@@ -11,16 +11,16 @@ use thiserror::Error;
 /// Why a grid of a size could not be made, or could not grow to it.
 #[derive(Clone, Copy, Debug, PartialEq, Eq)]
 pub enum GridError {
-    /// The number of cells would pass `usize::MAX`.
+    /// The number of cells would exceed `usize::MAX`.
     TooLarge,
-    /// Memory was refused.
+    /// Allocation failed.
     Memory,
 }
 
 /// Why cells or rows could not be made a grid.
 #[derive(Clone, Copy, Debug, PartialEq, Eq, Error)]
 pub enum ShapeError {
-    /// The number of cells would pass `usize::MAX`.
+    /// The number of cells would exceed `usize::MAX`.
     #[error("too many cells")]
     TooLarge,
     /// `len` cells cannot be cut into rows of `cols`.
@@ -41,7 +41,7 @@ pub enum ShapeError {
         /// The length of row 0.
         cols: usize,
     },
-    /// Memory was refused.
+    /// Allocation failed.
     #[error("out of memory")]
     Memory,
 }

@@ -23,7 +23,7 @@ pub fn first_len<T, L: AsSlice<T>>(rows: &[L]) -> usize
     }
 }
 
-// Whether so many lines of this width, and more of them, have too many cells for a grid.
+// Whether `count + more` lines of `width` cells exceed `usize::MAX`.
 fn exceeds(count: usize, more: usize, width: usize) -> bool
     ensures { result ≡ exceeds ((count + more) * width) }
 {

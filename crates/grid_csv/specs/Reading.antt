@@ -52,7 +52,7 @@ row_before number cols (Ok row) later = if length row == cols then prepend row l
     else Err (Ragged number (length row) cols)
 
 module _ {T : Type 0} (h : List ℕ → Option T) where
-  -- the cell that h gives of a field; one that is no text is none
+  -- the cell that h gives of a field; one that isn't text is none
   abbrev pub cell_of : List ℕ → Option T
   cell_of field = if is_utf8 field then h field else None
 
@@ -73,7 +73,7 @@ module _ {T : Type 0} (h : List ℕ → Option T) where
   abbrev pub reading : List (List (List ℕ)) → Result (List (List T)) CsvError
   reading records = read_records 1 (length (first_of records)) records
 
--- the names in a header: its fields, or the fault of the first that is no text
+-- the names in a header: its fields, or the fault of the first that isn't text
 abbrev pub read_header : List (List ℕ) → Result (List (List ℕ)) CsvError
 read_header fields = read_fields Some 1 1 fields
 
@@ -94,7 +94,7 @@ abbrev pub without_header : {H T : Type 0} → Result (H × GridValue T) CsvErro
 without_header (Ok p) = Ok p.1
 without_header (Err e) = Err e
 
--- the answer is the row-major grid that was read, or the fault; or memory was refused
+-- the answer is the row-major grid that was read, or the fault; or allocation failed
 abbrev pub IsOrMemory : {T : Type 0} → Result (List (List T)) CsvError → Result (GridValue T) CsvError
     → Type 0
 IsOrMemory read answer = (answer ≡ Err Memory)
@@ -102,7 +102,7 @@ IsOrMemory read answer = (answer ≡ Err Memory)
 
 -- ---- by what a closure may answer
 
--- the closure may answer so at a field; one that is no text is no cell
+-- the closure may answer so at a field; one that isn't text isn't a cell
 abbrev pub AnswersField : {F T : Type 0}
     → (F → Bor (List ℕ) → Result (Option T) AllocError → Type 0) → F → List ℕ → Option T → Type 0
 AnswersField returns read field cell = MatchBool (is_utf8 field)
@@ -119,7 +119,7 @@ module _ {T : Type 0} (R : List ℕ → Option T → Type 0) where
   AreRows cols records rows = AllZip (λ fields row. AreCells fields row × (length row ≡ cols))
       records rows
 
-  -- the first of these fields that may be no cell stands at this place, counted from 1
+  -- the first of these fields that may be no cell is at this place, counted from 1
   pub record IsBadAt (fields : List (List ℕ)) (place : ℕ) : Type 0 where
     pub before : List (List ℕ)
     pub field : List ℕ
@@ -150,7 +150,7 @@ module _ {T : Type 0} (R : List ℕ → Option T → Type 0) where
     pub bad : IsBadRecord (number + length before) cols fields e
 
   -- the answer is the row-major grid of rows that may be read of these records, of which the first
-  -- has this number, or the fault; or memory was refused
+  -- has this number, or the fault; or allocation failed
   abbrev pub MayRead : ℕ → ℕ → List (List (List ℕ)) → Result (GridValue T) CsvError → Type 0
   MayRead number cols records answer = MatchResult answer
       (λ g. AreRows cols records g.rows × (g.order ≡ RowMajor))

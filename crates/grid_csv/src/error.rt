@@ -5,11 +5,11 @@ ghost use Rattle.grid_csv.specs.declared.error.CsvError.TheVariants.{Memory};
 use std::alloc::{AllocError, AllocFailed};
 use thiserror::Error;
 
-/// Why CSV could not be read as a grid: the first record that is no row. In a record the fields are tested first, then
-/// their number.
+/// Why CSV could not be read as a grid: the first record that isn't a row. In a record the fields are tested first,
+/// then their number.
 #[derive(Clone, Copy, Debug, PartialEq, Eq, Error)]
 pub enum CsvError {
-    /// A field is no cell, or no text.
+    /// A field isn't a cell, or isn't text.
     #[error("record {record}, field {field} is no cell")]
     BadField {
         /// The record, counted from 1; a header is record 1.
@@ -27,7 +27,7 @@ pub enum CsvError {
         /// The number of those of record 1.
         cols: usize,
     },
-    /// Memory was refused.
+    /// Allocation failed.
     #[error("out of memory")]
     Memory,
 }

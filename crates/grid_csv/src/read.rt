@@ -14,15 +14,15 @@ use std::alloc::{AllocError, Global};
 use std::str;
 
 /// Returns the row-major grid of the records: each record is a row, and `read` says which cell a field is, or `None`
-/// where it is none. A field that is no UTF-8 is no cell.
+/// where it is none. A field that isn't UTF-8 isn't a cell.
 ///
 ///     from_csv(alloc, b"1,\"2\"\n3,4\n", |field| Ok(field.parse::<i64>().ok()))   [[1, 2], [3, 4]]
 ///
 /// A byte order mark at the start, as spreadsheets write one, belongs to no field. Without records it is the empty grid.
 ///
 /// Requires: `read` can be called at every field.
-/// Fails: `BadField` or `Ragged` of the first record that is no row; its fields are tested before their number.
-/// `Memory` where memory is refused, also to `read`.
+/// Fails: `BadField` or `Ragged` of the first record that isn't a row; its fields are tested before their number.
+/// `Memory` if allocation fails, also in `read`.
 /// Cost: one call for each field; the vector of cells grows as it is filled.
 pub fn from_csv<T: Drop, F>(alloc: Global, bytes: &[u8], read: F) -> Result<Grid<T>, CsvError>
 where
@@ -87,8 +87,8 @@ fn reader_of(alloc: Global, bytes: &[u8]) -> Reader<&[u8]>
         .from_reader(alloc, bytes)
 }
 
-// Reads the next record, and returns whether there was one. Of bytes in memory, and of records of any lengths, the reader
-// fails for memory alone.
+// Reads the next record, and returns whether there was one. Of bytes in memory, and of records of any lengths, the
+// reader fails only if allocation fails.
 fn next_row(reader: &mut Reader<&[u8]>, row: &mut ByteRecord) -> Result<bool, CsvError>
     ensures ok { (left : List (List (List ℕ))) → HasLeft reader.old left
         → IfOk result (λ found. MatchBool found

@@ -18,7 +18,7 @@ use std::alloc::{AllocError, Allocator, Global};
 ///     [[1, 2], [3, 4]]   to_csv(alloc, grid, |cell, text| write!(text, "{cell}"))   "1,2\n3,4\n"
 ///
 /// Requires: `write` can be called at every cell.
-/// Fails: where memory is refused, also to `write`.
+/// Fails: if allocation fails, also in `write`.
 /// Cost: one call for each cell.
 pub fn to_csv<T, A: Allocator, F>(
     alloc: Global,

@@ -32,7 +32,7 @@ module _ {T : Type 0} where
   pub pending-product : (y : CommandValue T) (s : Symmetry) → pending_after y s ≡ product s (command_symmetry y)
   pending-product y s = symmetry_of-product_from (s ∷ command_symmetry y ∷ []) ∙ ap (λ x. product x (command_symmetry y)) (identity_product s)
 
-  -- a command that is no Apply has no symmetry
+  -- a command that isn't an Apply has no symmetry
   no_symmetry : (y : CommandValue T) → is_apply y ≡ false → command_symmetry y ≡ Identity
   no_symmetry (apply s) h = absurd (cc h)
   no_symmetry size h = refl
@@ -76,7 +76,7 @@ module _ {T : Type 0} where
 pub pending-then : (T : Type 0) (s u v : Symmetry) → IsThen s u v → v ≡ pending_after {T = T} (apply u) s
 pending-then T s u v h = then_is s u v h ∙ sym (pending-product {T = T} (apply u) s)
 
--- a command that is no Apply
+-- a command that isn't an Apply
 pub applies-none : {T A : Type 0} (x : Command T A) → ((u : Symmetry) → x ≡ Apply u → ⊥) → is_apply (command_value x) ≡ false
 applies-none (Apply u) h = absurd (h u refl)
 applies-none Size h = refl

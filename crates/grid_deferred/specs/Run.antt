@@ -67,7 +67,7 @@ module _ {T : Type 0} where
   -- every command that is no edit of lines
   step_allowance x cells = 0
 
-  -- the shift allowance of a list of commands: for each that may shift, the cells that stood before
+  -- the shift allowance of a list of commands: for each that may shift, the cells that were before
   -- it
   abbrev pub run_allowance : T → List (CommandValue T) → List (List T) → ℕ
   run_allowance d [] t = 0

@@ -49,7 +49,7 @@ turned_reply s a (line_is x) = line_is (reversed_if (reverses_cells s a) x)
 -- every reply but a size and a line
 turned_reply s a r = r
 
--- line i of so many in the reversed order, the gap before it, and the first of k lines; past the
+-- line i of `count` in the reversed order, the gap before it, and the first of k lines; past the
 -- end all stay
 abbrev pub mirrored_line : ℕ → ℕ → ℕ
 mirrored_line count i = if nat_lt i count then count - 1 - i else i
@@ -61,7 +61,7 @@ abbrev pub mirrored_start : ℕ → ℕ → ℕ → ℕ
 mirrored_start count i k = if nat_lt count (i + k) then i else count - i - k
 
 module _ {T : Type 0} where
-  -- an edit of so many lines, on the lines in the reversed order
+  -- an edit of `count` lines, on the lines in the reversed order
   abbrev pub edit_of_flipped : ℕ → Edit T → Edit T
   edit_of_flipped count (read i) = read (mirrored_line count i)
   edit_of_flipped count (push line) = insert_at 0 line

@@ -13,9 +13,9 @@ use grid::{Axis, Command, Reply};
 use grid_base::Symmetry;
 use std::alloc::Allocator;
 
-/// Returns the command on a grid of this size, of so many rows and columns, that does what the given one does on the
-/// grid's image under a symmetry: the same rows and, by [`carry_reply`], the same reply. It takes memory exactly where
-/// the given one does, and moves as many counted cells as the given one does through the symmetry.
+/// Returns the command on a grid of `size.0` rows and `size.1` columns that does what the given one does on the grid's
+/// image under a symmetry: the same rows and, by [`carry_reply`], the same reply. It takes memory exactly where the
+/// given one does, and moves as many counted cells as the given one does through the symmetry.
 ///
 ///     carry(FlipCols, (2, 3), PushRow([7, 8, 9]))   PushRow([9, 8, 7])
 ///     carry(RotateLeft, (2, 3), ExpandRows(1))      PrependCols(1)
@@ -103,7 +103,7 @@ fn transposed_command<T, A: Allocator>(command: Command<T, A>) -> Command<T, A>
     }
 }
 
-// The same command on a table of so many rows in the reversed order.
+// The same command on a table of `rows` rows in the reversed order.
 fn flipped_command<T, A: Allocator>(rows: usize, command: Command<T, A>) -> Command<T, A>
     ensures { command_value result ≡ flipped_command rows (command_value command) }
 {
@@ -149,7 +149,7 @@ fn flipped_command<T, A: Allocator>(rows: usize, command: Command<T, A>) -> Comm
     }
 }
 
-// Where a line stands, counted from the other end; past the end it stays.
+// Where a line is, counted from the other end; past the end it stays.
 pub(crate) fn mirrored_line(count: usize, at: usize) -> usize
     ensures { result ≡ mirrored_line count at }
 {

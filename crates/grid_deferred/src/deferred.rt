@@ -26,7 +26,7 @@ use std::alloc::{AllocError, Allocator, Global};
 /// An iterator over a row or a column of a grid as seen through a pending symmetry. Each step takes the same time.
 pub type DeferredLineIter<'a, T> = ViewLineIter<'a, T>;
 
-// Does on a base what a command, which is no Apply, does on the base's image.
+// Does on a base what a command, which isn't an Apply, does on the base's image.
 #[tactic(auto, using(crate::proofs::PendingLemmas::carried_known, crate::proofs::PendingLemmas::carried_still))]
 fn step_through<T, A: Allocator>(
     base: &mut Grid<T, A>,
@@ -217,7 +217,7 @@ impl<'a, T, A: Allocator> Deferred<'a, T, A> {
         Ok(Reply::Line(Some(line)))
     }
 
-    /// Does a command on the shown grid, and returns its reply.
+    /// Executes a command on the shown grid, and returns its reply.
     ///
     ///     over([[1, 2]])   step(Apply(FlipCols))     Done   base [[1, 2]], shown [[2, 1]]
     ///                      step(PushRow([3, 4]))     Done   base [[1, 2], [4, 3]], shown [[2, 1], [3, 4]]
@@ -226,8 +226,8 @@ impl<'a, T, A: Allocator> Deferred<'a, T, A> {
     /// carried to the base and its reply back; an expand, a prepend or a delete adds the cells that it moves there to
     /// the shift count of the tally. Nothing is added to the symmetry count.
     ///
-    /// Fails: where memory is refused; this comes only at a command that takes memory. The base, what is pending and
-    /// the tally are unchanged, and the command is dropped.
+    /// Fails: if allocation fails; this comes only at a command that takes memory. The base, what is pending and the
+    /// tally are unchanged, and the command is dropped.
     /// Cost: that of the carried command.
     pub fn step(
         &mut self,

@@ -7,17 +7,17 @@ use crate::Deferred;
 use grid::{Command, Grid, Reply, RunStopped, Tally};
 use std::alloc::Allocator;
 
-/// Does a list of commands in turn, each as [`Deferred::step`] does it, applies what is pending then, and returns their
-/// replies: those of [`grid::run`], with the same rows and order. The symmetries cost what the one that they join to
-/// costs, at most half of the final cells in swaps.
+/// Executes a list of commands in turn, each as [`Deferred::step`] does it, applies what is pending then, and returns
+/// their replies: those of [`grid::run`], with the same rows and order. The symmetries cost what the one that they join
+/// to costs, at most half of the final cells in swaps.
 ///
 ///     [[1, 2]]   run_deferred([Apply(FlipCols), PushRow([3, 4]), Size])   [Done, Done, Size(2, 2)]   [[2, 1], [3, 4]]
 ///
 /// The list of replies is reserved before the first command.
 ///
-/// Fails: where memory is refused, at a command that takes memory, or before the first command of a list that isn't
-/// empty. What is pending is applied first: the grid has the rows after the commands that were done, and their replies
-/// come with the error; the commands that remain are dropped.
+/// Fails: if allocation fails, at a command that takes memory, or before the first command of a list that isn't empty.
+/// What is pending is applied first: the grid has the rows after the commands that were done, and their replies come
+/// with the error; the commands that remain are dropped.
 /// Cost: that of the carried commands, and of one symmetry.
 pub fn run_deferred<T, A: Allocator>(
     alloc: A,

@@ -69,7 +69,7 @@ ReadsBy {F} {T} returns read h = (value : Bor Value) (cell : Option T)
 abbrev pub GivenBy : {T : Type 0} → (Data → Option T) → Data → Option T → Type 0
 GivenBy h d cell = cell ≡ h d
 
--- the data is no array
+-- the data isn't an array
 abbrev pub NoArray : Data → Type 0
 NoArray d = (items : List Data) → d ≡ array_of items → ⊥
 
@@ -140,7 +140,7 @@ module _ {T : Type 0} (R : Data → Option T → Type 0) where
     pub is_row : IsRow d row
     pub is_len : len ≡ length row
 
-  -- memory was refused, or the data of this index may be no row whatever the others are
+  -- allocation failed, or the data of this index may be no row whatever the others are
   abbrev pub IsMemoryOrBad : ℕ → Data → RowsError → Type 0
   IsMemoryOrBad index d e = (e ≡ Memory) ⊎ ((cols : ℕ) → IsBadRow index cols d e)
 

@@ -15,14 +15,14 @@ pub trait Cell: Drop {
     // What a cell says.
     ghost content: { Self → Content };
 
-    // What the cell that is read of this data says, or nothing where the data is no cell.
+    // What the cell that is read of this data says, or nothing where the data isn't a cell.
     ghost read: { Data → Option Content };
 
     /// Returns the cell as a JSON value, which is read as the same content.
     ///
     ///     5, true and "a"   to_cell(alloc)   5, true and "a"
     ///
-    /// Fails: where memory is refused.
+    /// Fails: if allocation fails.
     fn to_cell(&self, alloc: Global) -> Result<Value, AllocError>
         ensures written { IfOk result (λ value. view value ≡ written (content self.now)) }
         ensures read { IfOk result (λ value. read (view value) ≡ Some (content self.now)) };
@@ -30,7 +30,7 @@ pub trait Cell: Drop {
     /// Returns the cell that a JSON value is, or `None` where it is none. A number is a cell exactly in the range of
     /// the type: 0 and 255 are a `u8`, and 256, -1 and 1.0 are not.
     ///
-    /// Fails: where memory is refused.
+    /// Fails: if allocation fails.
     fn from_cell(alloc: Global, value: &Value) -> Result<Option<Self>, AllocError>
         ensures { IfOk result (λ found. option_map content found ≡ read (view value.now)) };
 }

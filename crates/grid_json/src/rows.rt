@@ -10,12 +10,12 @@ use grid::{Grid, GridLineIter};
 use serde_json::Value;
 use std::alloc::{AllocError, Allocator, Global};
 
-/// Returns an array of an array for each row, of the values that `write` answers at its cells. The empty grid is `[]`.
+/// Returns an array of an array for each row, of the values that `write` returns at its cells. The empty grid is `[]`.
 ///
 ///     [[1, 2], [3, 4]]   rows_to_value(alloc, grid, |cell| Ok(Value::from(*cell)))   [[1,2],[3,4]]
 ///
 /// Requires: `write` can be called at every cell.
-/// Fails: where memory is refused, also to `write`.
+/// Fails: if allocation fails, also in `write`.
 /// Cost: one call for each cell.
 pub fn rows_to_value<T, A: Allocator, F>(
     alloc: Global,
@@ -62,8 +62,8 @@ where
 ///     [[1,2],[3,4]]   rows_from_value(alloc, value, |item| Ok(item.as_i64()))   [[1, 2], [3, 4]]
 ///
 /// Requires: `read` can be called at every value.
-/// Fails: `NotRows`, or `NotRow`, `BadCell` or `Ragged` of the first item that is no row. `Memory` where memory is
-/// refused, also to `read`.
+/// Fails: `NotRows`, or `NotRow`, `BadCell` or `Ragged` of the first item that isn't a row. `Memory` if allocation
+/// fails, also in `read`.
 /// Cost: one call for each item of a row.
 pub fn rows_from_value<T: Drop, F>(
     alloc: Global,

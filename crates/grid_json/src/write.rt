@@ -38,7 +38,7 @@ fn object_of(alloc: Global, cols: usize, data: Value, order: &str) -> Result<Val
 ///
 ///     [[1, 2], [3, 4]], column-major   to_value(alloc)   {"cols":2,"data":[1,3,2,4],"order":"ColumnMajor"}
 ///
-/// Fails: where memory is refused.
+/// Fails: if allocation fails.
 /// Cost: each cell is written once.
 pub fn to_value<T: Cell, A: Allocator>(
     alloc: Global,

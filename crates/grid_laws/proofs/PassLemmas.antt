@@ -1,4 +1,5 @@
--- The three ways in which a flip exchanges the places of p lines of q items each: lines, each line, or all.
+-- The three forms in which a flip exchanges the places of p lines of q items each: lines, each
+-- line, or all.
 use Rattle.std.proofs.Common.{◌≡◌, ℕ, zero, suc, ◌+◌, ◌-◌, ◌*◌, ◌/◌, ◌%◌, ◌<◌, ◌≤◌, refl, sym, ◌∙◌, ap, arith, ⊎_elim}
 use Rattle.std.proofs.lemmas.Nat.{mul-add-lt, div_below, mod_below, div-add-mod', div-mul-add, mod-mul-add, same_from_place}
 use Rattle.std.proofs.lemmas.Bool.{cases_lt}

@@ -34,7 +34,7 @@ module _ {T : Type 0} where
   swapped_all (p ∷ ps) xs = swapped_all ps (swap xs p.0 p.1)
 
   -- these swaps bring the items of the new list to its places; what a longer old list has besides
-  -- stands behind them
+  -- is behind them
   pub record Makes (swaps : List (ℕ × ℕ)) (old new : List T) : Type 0 where
     pub within : AreWithin (length old) swaps
     pub front : take (length new) (swapped_all swaps old) ≡ new

@@ -20,8 +20,8 @@ use grid_base::Tally;
 use grid_deferred::run_deferred;
 use std::alloc::{AllocError, Allocator};
 
-/// Does a command, as [`Grid::step`] does. Where no two cells are the same, what it adds to the two counts is the least
-/// number of swaps of two places of the storage that do as much.
+/// Executes a command, as [`Grid::step`] does. Where no two cells are the same, what it adds to the two counts is the
+/// least number of swaps of two places of the storage that do as much.
 ///
 ///     [[1, 2, 3], [4, 5, 6]]   step_by_least(Apply(FlipCols))   [[3, 2, 1], [6, 5, 4]]         2 for the symmetry
 ///     [[1, 2, 3], [4, 5, 6]]   step_by_least(DeleteCols(0, 1))  [[2, 3], [5, 6]]               4 shifted
@@ -35,7 +35,7 @@ use std::alloc::{AllocError, Allocator};
 /// The clauses `price_law` and `shift_law` say it of every table with different cells, in both orders: what the command
 /// would count there is the least.
 ///
-/// Fails: where memory is refused, as `step` does. The grid and the tally are unchanged.
+/// Fails: if allocation fails, as `step` does. The grid and the tally are unchanged.
 /// Cost: that of `step`.
 pub fn step_by_least<T, A: Allocator>(
     grid: &mut Grid<T, A>,

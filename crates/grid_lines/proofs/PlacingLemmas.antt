@@ -15,7 +15,7 @@ pub record IsNumbering (n : ℕ) (ns : List ℕ) : Type 0 where
   pub apart : (j k : ℕ) → j < n → k < n → get_or ns j 0 ≡ get_or ns k 0 → j ≡ k
 
 module _ {X : Type 0} {f g : ℕ → X} {a b : ℕ} (s : Swapped f g a b) where
-  -- which item stands at place k now
+  -- which item is at place k now
   moved : (k : ℕ) → ((k ≡ a) × (g k ≡ f b)) ⊎ (((k ≡ b) × (g k ≡ f a)) ⊎ ((k ≢ a) × (k ≢ b) × (g k ≡ f k)))
   moved k = elim (eqb_tells k a) [
     | inl e ↦ inl (e.1, ap g e.1 ∙ s.0)
@@ -71,7 +71,7 @@ numbering_swap n ns i j p q h =
 pub numbering : (n : ℕ) (ns : List ℕ) → IsPermutation (range_with_len 0 n) ns → IsNumbering n ns
 numbering n ns = IsPermutation-keeps (range_with_len 0 n) (IsNumbering n) (numbering_start n) (numbering_swap n) ns
 
--- h names what stands at each place, and p where each stands: so they do after both were swapped
+-- h names what is at each place, and p where each is: so they do after both were swapped
 inverse_more : (n i q x y : ℕ) (h h' p p' : ℕ → ℕ) → Swapped h h' i q → Swapped p p' x y → h i ≡ y → h q ≡ x → p x ≡ q → p y ≡ i → i < n → q < n → ((k : ℕ) → k < n → (h k < n) × (p (h k) ≡ k)) → (k : ℕ) → k < n → (h' k < n) × (p' (h' k) ≡ k)
 inverse_more n i q x y h h' p p' s t hi hq px py i_low q_low inv k lt = elim (moved s k) [
   | inl e ↦ (omega (arith, e.1, (inv q q_low).0), ap p' (e.1 ∙ hq) ∙ (t.0 ∙ (py ∙ sym e.0)))
@@ -105,7 +105,7 @@ held_more n i q h h' now new old s t i_low q_low held k lt = elim (moved s k) [
 ]
 
 module _ {X : Type 0} (old : List X) (d : X) (wanted : List ℕ) where
-  -- place k holds the item of number holds k, and the item of number r stands at places r; before i they are as wanted
+  -- place k holds the item of number holds k, and the item of number r is at places r; before i they are as wanted
   pub record Placing (i : ℕ) (now : List X) (holds places : List ℕ) : Type 0 where
     pub long : length now ≡ length old
     pub holds_long : length holds ≡ length old
@@ -139,7 +139,7 @@ module _ {X : Type 0} (old : List X) (d : X) (wanted : List ℕ) where
       ∙ (ap (λ m. get_or old m d) (s.placed k (omega arith))
       ∙ sym (get_or-map (λ r. get_or old r d) wanted k 0 d (omega (arith, w.long)))))
 
-  -- the item that is wanted at place i goes there, and the one that stood there takes its place
+  -- the item that is wanted at place i goes there, and the one that was there takes its place
   pub placing_more : (i : ℕ) (now new : List X) (holds places : List ℕ) (x q y : ℕ) → IsNumbering (length old) wanted → i < length old → Placing i now holds places → x ≡ get_or wanted i 0 → q ≡ get_or places x 0 → y ≡ get_or holds i 0 → new ≡ swap now i q → Placing (i + 1) new (swap holds i q) (swap places x y)
   placing_more i now new holds places x q y w lt s x_is q_is y_is swapped =
       let n = length old in

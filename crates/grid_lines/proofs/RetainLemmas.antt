@@ -33,7 +33,7 @@ module _ {X P : Type 0} (R : P → X → Bool → P → Type 0) where
           let counts : length bs ≡ length xs = omega arith in
           one x b (test x) xs bs (says p x b r.0 r.1) refl (by_answers r.0 bs xs q counts r.2)
 
-  -- calls at the first rows took the test from p to q; `kept` of them, which it passed, stand in
+  -- calls at the first rows took the test from p to q; `kept` of them, which it passed, are in
   -- front, and those ahead are as they were
   pub record Retaining (p : P) (old : List X) (kept row : ℕ) (q : P) (now : List X) : Type 0 where
     pub behind : kept ≤ row

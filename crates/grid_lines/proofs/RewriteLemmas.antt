@@ -92,7 +92,7 @@ module _ {T : Type 0} (o : Order) (m n : ℕ) (old new y : List T) (r : ℕ) (h 
         | inr e ↦ row_same i lt e.1 ∙ sym (get_or-set_other t r i y [] e.1)
       ])
 
--- a row of a row-major table, whose k cells stand together
+-- a row of a row-major table, whose k cells are side by side
 module _ {T : Type 0} (m n r k : ℕ) (cells : List T) (h : HoldsSize m n (length cells)) (lr : r < m) (all : k ≡ n) where
   pub along_within : r * n + n ≤ length cells
   along_within = let w : (r + 1) * n ≤ m * n = mul-le-mul_right n (omega arith) in omega (arith, w, h.cells)

@@ -11,7 +11,7 @@ pub record AreCopied {T : Type 0} (is_clone : T → T → Type 0) (rows copies :
   pub each : AllZip (AllZip is_clone) rows copies
   pub same : ClonesAreEqual is_clone → copies ≡ rows
 
--- a vector without items, and with room for so many
+-- a vector without items, and with room for `count`
 pub record IsRoomFor {T A : Type 0} (count : ℕ) (v : Vec T A) : Type 0 where
   pub none : v.items ≡ []
   pub room : count ≤ vec_capacity v

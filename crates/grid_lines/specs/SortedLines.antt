@@ -16,7 +16,7 @@ module _ {F T : Type 0} (g : Mut F (List T × (List T × Unit {0})) Ordering) wh
   AreSortedLines f lines = (lt : List T → List T → Bool) → IsStrictWeakOrder lt
       → ComparesLinesAs lt f → IsSortedBy lt lines
 
-  -- lines that tie by that order stand in new as they stood in old
+  -- lines that tie by that order are in new in the order they had in old
   abbrev pub AreStableLines : F → List (List T) → List (List T) → Type 0
   AreStableLines f old new = (lt : List T → List T → Bool) → IsStrictWeakOrder lt
       → ComparesLinesAs lt f → IsStableBy lt old new
@@ -30,7 +30,7 @@ module _ {F T K : Type 0} (g : Mut F (List T × Unit {0}) K) where
   abbrev pub AreSortedByKey : (K → K → Ordering) → F → List (List T) → Type 0
   AreSortedByKey cmp f lines = (key : List T → K) → GivesLineKey key f → IsSortedByKey key cmp lines
 
-  -- lines whose keys tie stand in new as they stood in old
+  -- lines whose keys tie are in new in the order they had in old
   abbrev pub AreStableByKey : (K → K → Ordering) → F → List (List T) → List (List T) → Type 0
   AreStableByKey cmp f old new = (key : List T → K) → GivesLineKey key f
       → IsStableByKey key cmp old new

@@ -31,7 +31,7 @@ fn line<T, A: Allocator>(grid: &Grid<T, A>, r: usize) -> GridLineIter<'_, T>
     }
 }
 
-// Returns the numbers of the rows, sorted by what `compare` answers of the rows.
+// Returns the numbers of the rows, sorted by what `compare` returns for them.
 pub(crate) fn numbers_by<T, A: Allocator + Clone, F>(
     grid: &Grid<T, A>,
     mut compare: F,
@@ -57,7 +57,7 @@ where
     Ok(numbers)
 }
 
-// Returns the numbers of the rows, sorted by the keys that `key` gives of the rows, each of which it is asked once.
+// Returns the numbers of the rows, sorted by the keys that `key` returns for them; it is called once for each.
 pub(crate) fn numbers_by_key<T, K: Ord + Drop, A: Allocator + Clone, F>(
     grid: &Grid<T, A>,
     mut key: F,

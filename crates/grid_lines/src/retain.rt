@@ -8,7 +8,7 @@ ghost use Rattle.grid_lines.specs.LineAnswers.{AnswersAlways, AnswersBy};
 use grid::{Grid, GridLineIter};
 use std::alloc::Allocator;
 
-/// Keeps the rows at which the closure returns true, in their order, and drops the others. It is called once at each
+/// Keeps the rows for which the closure returns true, in their order, and drops the others. It is called once for each
 /// row, from the first on. With no row left the size is (0, 0). The order stays.
 ///
 ///     [[1, 1], [1, 0], [0, 0]]   retain_rows(grid, |mut row| row.any(|x| *x == 0))   [[1, 0], [0, 0]]
@@ -41,8 +41,8 @@ pub fn retain_rows<T: Drop, A: Allocator, F: FnMut(GridLineIter<'_, T>) -> bool>
     grid.delete_rows(kept, rows - kept);
 }
 
-/// Keeps the columns at which the closure returns true, in their order, and drops the others. It is called once at each
-/// column, from the first on. With no column left the size is (0, 0). The order stays.
+/// Keeps the columns for which the closure returns true, in their order, and drops the others. It is called once for
+/// each column, from the first on. With no column left the size is (0, 0). The order stays.
 ///
 ///     [[1, 2, 3], [4, 5, 6]]   retain_cols(grid, |mut col| col.all(|x| *x != 5))   [[1, 3], [4, 6]]
 ///

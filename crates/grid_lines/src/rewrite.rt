@@ -11,8 +11,8 @@ use crate::across::runs_across;
 use grid::{Grid, Order};
 use std::alloc::Allocator;
 
-/// Calls the closure at each row as a slice, from the first on, and leaves in the grid what it leaves there. The size and
-/// the order stay.
+/// Calls the closure with each row as a slice, from the first on, and leaves in the grid what it leaves there. The size
+/// and the order stay.
 ///
 ///     [[3, 1, 2], [6, 5, 4]]   rewrite_rows(grid, |row| row.reverse())   [[2, 1, 3], [4, 5, 6]]
 ///
@@ -37,8 +37,8 @@ pub fn rewrite_rows<T, A: Allocator, F: FnMut(&mut [T])>(grid: &mut Grid<T, A>, 
     }
 }
 
-/// Calls the closure at each column as a slice, from the first on, and leaves in the grid what it leaves there. The size
-/// and the order stay.
+/// Calls the closure with each column as a slice, from the first on, and leaves in the grid what it leaves there. The
+/// size and the order stay.
 ///
 ///     [[3, 1], [2, 5], [1, 4]]   rewrite_cols(grid, |col| col.reverse())   [[1, 4], [2, 5], [3, 1]]
 ///
@@ -75,7 +75,7 @@ fn rewrite_stored<T, A: Allocator, F: FnMut(&mut [T])>(grid: &mut Grid<T, A>, f:
     }
 }
 
-// Rewrites the rows of a row-major table, which stand one after another.
+// Rewrites the rows of a row-major table, which are one after another.
 fn rewrite_along<T, F: FnMut(&mut [T])>(cells: &mut [T], rows: usize, cols: usize, mut f: F)
     requires size { HoldsSize rows cols (length cells.old) }
     requires callable { F.IsAlwaysCallable f }

@@ -13,7 +13,7 @@ use std::vec;
 ///
 ///     [[1, 2], [3, 4]]   into_rows(grid)   [1, 2] and [3, 4]
 ///
-/// Fails: where memory is refused; the grid comes back.
+/// Fails: if allocation fails; the grid comes back.
 /// Cost: each cell is moved once; one allocation, and one for each row, before the first cell is moved. A column-major
 /// grid is laid out first.
 pub fn into_rows<T: Drop, A: Allocator + Clone>(
@@ -67,7 +67,7 @@ fn fill_row<T, A: Allocator>(row: &mut Vec<T, A>, cells: &mut vec::IntoIter<T, A
 ///
 ///     [[1, 2], [3, 4]]   to_rows(&grid)   [1, 2] and [3, 4]
 ///
-/// Fails: where memory is refused, for the vectors or by a clone.
+/// Fails: if allocation fails, for the vectors or in a clone.
 /// Cost: one clone for each cell; one allocation, and one for each row.
 pub fn to_rows<T: Clone, A: Allocator + Clone>(
     grid: &Grid<T, A>,

@@ -12,15 +12,15 @@ use grid::{Grid, GridLineIter, Order};
 use std::alloc::{AllocError, Allocator};
 use std::cmp::Ordering;
 
-/// Sorts the rows by what the closure answers of two of them. Rows that tie stay in their order. The order of the storage
-/// stays.
+/// Sorts the rows by what the closure returns for two of them. Rows that tie stay in their order. The order of the
+/// storage stays.
 ///
 ///     [[3, 1], [2, 2], [3, 0]]   sort_rows_by(grid, |mut a, mut b| a.next().cmp(&b.next()))   [[2, 2], [3, 1], [3, 0]]
 ///
-/// Where the answers follow no order, the rows end in some order.
+/// Where the results follow no order, the rows end in some order.
 ///
 /// Requires: the closure can always be called.
-/// Fails: where memory is refused; the grid is unchanged.
+/// Fails: if allocation fails; the grid is unchanged.
 /// Cost: `rows * log(rows)` calls, at most `rows * cols` swaps, and memory for four numbers for each row. A column-major
 /// grid of 64 rows and columns or more is laid out row by row for the swaps, and back.
 pub fn sort_rows_by<T, A: Allocator + Clone, F>(
@@ -48,15 +48,15 @@ where
     Ok(())
 }
 
-/// Sorts the columns by what the closure answers of two of them. Columns that tie stay in their order. The order of the
-/// storage stays.
+/// Sorts the columns by what the closure returns for two of them. Columns that tie stay in their order. The order of
+/// the storage stays.
 ///
 ///     [[3, 2, 3], [1, 2, 0]]   sort_cols_by(grid, |mut a, mut b| a.next().cmp(&b.next()))   [[2, 3, 3], [2, 1, 0]]
 ///
-/// Where the answers follow no order, the columns end in some order.
+/// Where the results follow no order, the columns end in some order.
 ///
 /// Requires: the closure can always be called.
-/// Fails: where memory is refused; the grid is unchanged.
+/// Fails: if allocation fails; the grid is unchanged.
 /// Cost: that of [`sort_rows_by`], with the orders and the words row and column exchanged.
 pub fn sort_cols_by<T, A: Allocator + Clone, F>(
     grid: &mut Grid<T, A>,
@@ -85,15 +85,15 @@ where
     sorted
 }
 
-/// Sorts the rows by the key that the closure gives of each. It is called once at each row, if there are two or more. Rows
-/// whose keys tie stay in their order. The order of the storage stays.
+/// Sorts the rows by the key that the closure returns for each. It is called once for each row, if there are two or
+/// more. Rows whose keys tie stay in their order. The order of the storage stays.
 ///
 ///     [[3, 1], [2, 2], [3, 0]]   sort_rows_by_key(grid, |row| row.copied().sum::<u32>())   [[3, 0], [3, 1], [2, 2]]
 ///
-/// Where the closure gives no function's values, the rows end in some order.
+/// Where its keys are not a function of the row, the rows end in some order.
 ///
 /// Requires: the closure can always be called.
-/// Fails: where memory is refused; the grid is unchanged.
+/// Fails: if allocation fails; the grid is unchanged.
 /// Cost: `rows` calls, `rows * log(rows)` comparisons, at most `rows * cols` swaps, and memory for a key and four numbers
 /// for each row. A column-major grid of 64 rows and columns or more is laid out row by row for the swaps, and back.
 pub fn sort_rows_by_key<T, K: Ord + Drop, A: Allocator + Clone, F>(
@@ -119,15 +119,15 @@ where
     Ok(())
 }
 
-/// Sorts the columns by the key that the closure gives of each. It is called once at each column, if there are two or more.
-/// Columns whose keys tie stay in their order. The order of the storage stays.
+/// Sorts the columns by the key that the closure returns for each. It is called once for each column, if there are two
+/// or more. Columns whose keys tie stay in their order. The order of the storage stays.
 ///
 ///     [[3, 2, 3], [1, 2, 0]]   sort_cols_by_key(grid, |col| col.copied().sum::<u32>())   [[3, 3, 2], [0, 1, 2]]
 ///
-/// Where the closure gives no function's values, the columns end in some order.
+/// Where its keys are not a function of the column, the columns end in some order.
 ///
 /// Requires: the closure can always be called.
-/// Fails: where memory is refused; the grid is unchanged.
+/// Fails: if allocation fails; the grid is unchanged.
 /// Cost: that of [`sort_rows_by_key`], with the orders and the words row and column exchanged.
 pub fn sort_cols_by_key<T, K: Ord + Drop, A: Allocator + Clone, F>(
     grid: &mut Grid<T, A>,
@@ -154,7 +154,7 @@ where
     sorted
 }
 
-// Puts the rows into the wanted order: row `wanted[0]` first, and so on. Where memory is refused, the grid is unchanged.
+// Puts the rows into the wanted order: row `wanted[0]` first, and so on. If allocation fails, the grid is unchanged.
 fn put_in_order<T, A: Allocator + Clone>(
     grid: &mut Grid<T, A>,
     wanted: &[usize],
@@ -178,7 +178,7 @@ fn put_in_order<T, A: Allocator + Clone>(
     Ok(())
 }
 
-// The same. Place `p` holds the old row `holds[p]`, and the old row `r` stands at `places[r]`; both count up at the start.
+// The same. Place `p` holds the old row `holds[p]`, and the old row `r` is at `places[r]`; both count up at the start.
 fn arrange<T, A: Allocator>(
     grid: &mut Grid<T, A>,
     wanted: &[usize],

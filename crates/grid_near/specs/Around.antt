@@ -37,7 +37,7 @@ use Rattle.grid_near.specs.declared.steps.Steps.{Steps}
 use Rattle.grid_near.specs.declared.steps.Steps.TheVariants.{Sides, All}
 use Rattle.grid_near.specs.Neighbors.{around8, around4, before, both, cell_at, placed}
 
--- the cell in row r and column c of m rows and n columns whose cells stand `down` and `right` apart
+-- the cell in row r and column c of m rows and n columns whose cells are `down` and `right` apart
 abbrev pub strided_cell : {T : Type 0} → List T → ℕ × ℕ → ℕ × ℕ → ℕ → ℕ → Option T
 strided_cell cells size strides r c =
     cond (nat_lt r size.0 && nat_lt c size.1) (slice_get cells (r * strides.0 + c * strides.1)) None
@@ -110,7 +110,7 @@ pub record IsInner (size at : ℕ × ℕ) : Type 0 where
   pub below : at.0 + 1 < size.0
   pub after : at.1 + 1 < size.1
 
--- where the first of the nine cells round a position stands
+-- where the first of the nine cells round a position is
 abbrev pub box_start : ℕ × ℕ → ℕ × ℕ → ℕ
 box_start strides at = (at.0 - 1) * strides.0 + (at.1 - 1) * strides.1
 

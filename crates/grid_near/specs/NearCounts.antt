@@ -20,7 +20,7 @@ module _ {F T : Type 0} (returns : F → Bor T → Bool → Type 0) (f : F) wher
       ⊎ ((k : ℕ) × (count ≡ suc k) × MayAnswer returns f n.1 true × MayCount near k)
 
 -- `count` is how many of these cells the closure f answers true at: where p says of each cell what
--- f may answer, so many pass p; and an answer at each can be chosen so
+-- f may answer, `count` pass p; and an answer at each can be chosen so
 pub record CountsNear {F T : Type 0} (returns : F → Bor T → Bool → Type 0) (f : F)
     (near : List ((ℕ × ℕ) × T)) (count : ℕ) : Type 0 where
   pub tested : (p : (ℕ × ℕ) × T → Bool)

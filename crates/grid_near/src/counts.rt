@@ -253,11 +253,12 @@ fn push_line<T, U, A: Allocator, F: Fn(&T) -> bool, G: Fn(&T, u8) -> U>(
     made
 }
 
-/// Returns what the closure `rule` returns at a reference to each cell of a table that a slice stores in an order, and the
-/// number of the cells round it, at a side or all eight, at which the closure `test` answers `true`.
+/// Returns what the closure `rule` returns for a reference to each cell of a table that a slice stores in an order, and
+/// the number of the cells round it, at a side or all eight, for which the closure `test` returns `true`.
 ///
-/// Requires: the slice has as many cells, there are rows exactly if there are columns, and the closures can be called so.
-/// Fails: where memory is refused; neither closure was called.
+/// Requires: the slice has as many cells, there are rows exactly if there are columns, and the closures can be called
+/// with these arguments.
+/// Fails: if allocation fails; neither closure was called.
 /// Cost: one call of each for each cell, and, where the edges are joined, one more of `test` for each cell of the first line
 /// and of the last; one allocation, and three of a line of `bool`s.
 pub fn map_counts<T, U, A: Allocator, F: Fn(&T) -> bool, G: Fn(&T, u8) -> U>(
@@ -383,7 +384,7 @@ fn push_sums<T, U, A: Allocator, F: Fn(&T) -> u8, G: Fn(&T, u16) -> U>(
     made
 }
 
-/// Same as [`map_counts`], with the sum of what the closure `weight` answers at the cells round a cell in place of the
+/// Same as [`map_counts`], with the sum of what the closure `weight` returns at the cells round a cell in place of the
 /// number of those that pass.
 ///
 /// Requires: as `map_counts`.

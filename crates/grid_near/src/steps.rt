@@ -14,7 +14,7 @@ pub enum Steps {
     All,
 }
 
-// How far apart the cells of a column and of a row stand.
+// How far apart the cells of a column and of a row are.
 pub(crate) fn strides_of(order: Order, size: (usize, usize)) -> (usize, usize)
     ensures { result ≡ strides_of order size }
 {

@@ -18,7 +18,7 @@ use std::marker::Model;
 #[derive(Drop)]
 pub struct WrappedNeighbors<'a, T> {
     cells: &'a [T],
-    // The numbers of rows and columns, and how far apart the cells of a column and of a row stand.
+    // The numbers of rows and columns, and how far apart the cells of a column and of a row are.
     size: (usize, usize),
     strides: (usize, usize),
     at: (usize, usize),
@@ -133,7 +133,7 @@ impl<'a, T> ExactSizeIterator for WrappedNeighbors<'a, T> {
 
 impl<'a, T> FusedIterator for WrappedNeighbors<'a, T> {}
 
-/// Returns an iterator that stands at the same cells.
+/// Returns an iterator over the same remaining cells.
 ///
 /// Cost: constant; it is always `Ok`, and takes no memory.
 impl<'a, T> Clone for WrappedNeighbors<'a, T> {

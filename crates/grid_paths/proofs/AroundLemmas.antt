@@ -36,7 +36,7 @@ module _ (at b : ℕ) (small : at + 1 < 2 ^ 64) (fits : b + 1 < 2 ^ 64) where
   from_after : at + 1 ≡ b → DifferByOne at b
   from_after e = inl e
 
--- what stands in four and in eight
+-- what is in four and in eight
 module _ {X : Type 0} (x1 x2 x3 x4 z : X) (xs : List X) where
   abbrev pub Four : Type 0
   Four = ((x1 ≡ z) ⊎ (x2 ≡ z)) ⊎ ((x3 ≡ z) ⊎ (x4 ≡ z))
@@ -135,7 +135,7 @@ place_of region b is =
     let lt : is.0 < length region = is.1 in
     (is.0, slice_get_read region (length region) is.0 b refl lt (sym is.2))
 
--- what stands in a list before place i
+-- what is in a list before place i
 pub record Before (xs : List (ℕ × ℕ)) (i : ℕ) (b : ℕ × ℕ) : Type 0 where
   pub place : ℕ
   pub early : place < i

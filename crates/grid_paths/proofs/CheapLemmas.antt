@@ -18,7 +18,7 @@ use Rattle.grid_paths.specs.Relaxing.{Entry, by_sum, IsWaiting, HoldsUpTo, IsClo
 use Rattle.grid_paths.proofs.HeapLemmas as heaps
 use Rattle.grid_paths.proofs.RelaxLemmas.{left_inside}
 
--- a number stands at a position, or none
+-- a position has a number, or none
 pub left_or_closed : (t : List (List (Option ℕ))) (a : ℕ × ℕ) → ((k : ℕ) × Holds t a k) ⊎ IsClosed t a
 left_or_closed t a = of (cell t a.0 a.1) refl
   where
@@ -27,7 +27,7 @@ left_or_closed t a = of (cell t a.0 a.1) refl
     of (Some None) e = inr (λ k h. let clash : ◌≡◌ {A = Option (Option ℕ)} (Some None) (Some (Some k)) = sym e ∙ h in cc)
     of (Some (Some k)) e = inl (k, e)
 
--- no number stands in an empty table
+-- there is no number in an empty table
 pub no_number : (m n : ℕ) (u : List (List (Option ℕ))) → u ≡ tabulate m n (λ r c. Some None) → (a : ℕ × ℕ) (k : ℕ) → Holds u a k → ⊥
 no_number m n u e a k h = none_marked m n a k (subst (λ x. Holds x a k) e h)
 

@@ -142,7 +142,7 @@ module _ (kind : Steps) (floor : List (List Bool)) where
   open_end zero a b w = w.1
   open_end (suc n) a b w = w.3
 
-  -- the number 0 stands only at the start
+  -- the number 0 is only at the start
   pub zero_at : (from : ℕ × ℕ) (u : List (List (Option ℕ))) (d : ℕ) → HasLeastUpTo kind floor from u d → (a : ℕ × ℕ) → IsMarked u a 0 → a ≡ from
   zero_at from u d h a mark = sym (h.least a 0 (omega arith) mark).walk.0
 

@@ -1,4 +1,5 @@
--- The queue of a breadth-first search, where the first positions were let go; and that numbers stay below the cells.
+-- The queue of a breadth-first search, where the first positions were dropped; and that numbers
+-- stay below the cells.
 use Rattle.std.proofs.Common.{◌≡◌, ℕ, zero, suc, ◌+◌, ◌*◌, ◌<◌, ◌≤◌, ◌⊎◌, Bool, Option, None, Some, List, [], ◌∷◌, ◌++◌, length, Contains, sym, ◌∙◌, ap, subst, arith, inl, inr, ⊎_elim}
 use Rattle.std.specs.List.{sum_by}
 use Rattle.std.proofs.lemmas.List.{length-append, append_assoc}
@@ -89,7 +90,7 @@ module _ (near : ℕ × ℕ → Type 0) (floor : List (List Bool)) (k : ℕ) (u 
         around = w.around;
       }
 
--- the search, where the first positions of the queue were let go
+-- the search, where the first positions of the queue were dropped
 pub record IsTrimmed (kind : Steps) (floor : List (List Bool)) (starts : List (ℕ × ℕ)) (steps : List (List (Option ℕ))) (queue : List (ℕ × ℕ)) (next cells : ℕ) : Type 0 where
   pub front : List (ℕ × ℕ)
   pub search : IsSearch kind floor starts steps (front ++ queue) (length front + next)

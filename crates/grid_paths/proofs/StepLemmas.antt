@@ -32,7 +32,7 @@ at_push_fresh (x ∷ queue) b zero a h = inr h
 at_push_fresh (x ∷ queue) b (suc j) a h =
     ⊎_elim (λ e. inl (ap suc e.0, e.1)) (λ h0. inr h0) (at_push_fresh queue b j a h)
 
--- one position more is marked, and stands at the end of the queue
+-- one position more is marked, and is at the end of the queue
 pub record Grew (steps : List (List (Option ℕ))) (queue : List (ℕ × ℕ)) (steps' : List (List (Option ℕ))) (queue' : List (ℕ × ℕ)) (b : ℕ × ℕ) (k : ℕ) : Type 0 where
   pub kept : (a : ℕ × ℕ) (m : ℕ) → IsMarked steps a m → IsMarked steps' a m
   pub fresh : (a : ℕ × ℕ) (m : ℕ) → IsMarked steps' a m → ((a ≡ b) × (m ≡ k)) ⊎ IsMarked steps a m

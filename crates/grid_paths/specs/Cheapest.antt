@@ -6,7 +6,7 @@ use Rattle.grid_base.specs.Table.{cell}
 use Rattle.grid_near.specs.declared.steps.Steps.{Steps}
 use Rattle.grid_paths.specs.Walks.{IsStep}
 
--- the number k stands in the table at a
+-- the number k is in the table at a
 abbrev pub Holds : List (List (Option ℕ)) → ℕ × ℕ → ℕ → Type 0
 Holds t a k = cell t a.0 a.1 ≡ Some (Some k)
 
@@ -27,8 +27,8 @@ module _ (kind : Steps) (costs : List (List (Option ℕ))) where
     pub walk : (n : ℕ) × CostWalk a b n k
     pub least : (n sum : ℕ) → CostWalk a b n sum → k ≤ sum
 
-  -- a number stands in u at each position that a walk leads to, and is the least sum of costs; None
-  -- stands at the others
+  -- u has a number at each position that a walk leads to, the least sum of costs; it has None at
+  -- the others
   pub record HasLeastCosts (from : ℕ × ℕ) (u : List (List (Option ℕ))) : Type 0 where
     pub found : (at : ℕ × ℕ) (n sum : ℕ) → CostWalk from at n sum → (k : ℕ) × Holds u at k
     pub least : (at : ℕ × ℕ) (k : ℕ) → Holds u at k → IsLeastCost from at k

@@ -27,7 +27,7 @@ IsWaiting heap s a = (w : Entry) × Contains heap w × (w.0.0 ≡ s) × (w.0.1 �
 abbrev pub HoldsUpTo : List (List (Option ℕ)) → ℕ × ℕ → ℕ → Type 0
 HoldsUpTo u a m = (k : ℕ) × Holds u a k × (k ≤ m)
 
--- no number stands at a
+-- there is no number at a
 abbrev pub IsClosed : List (List (Option ℕ)) → ℕ × ℕ → Type 0
 IsClosed t a = (k : ℕ) → Holds t a k → ⊥
 

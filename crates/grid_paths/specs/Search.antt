@@ -21,7 +21,7 @@ Reaches floor at k steps queue steps' queue' =
     ⊎ ((IsOpen floor at → (n : ℕ) × (cell steps at.0 at.1 ≡ Some (Some n)))
     × (steps' ≡ steps) × (queue' ≡ queue))
 
--- the position has so many steps
+-- the position has n steps
 abbrev pub IsMarked : List (List (Option ℕ)) → ℕ × ℕ → ℕ → Type 0
 IsMarked steps a n = cell steps a.0 a.1 ≡ Some (Some n)
 

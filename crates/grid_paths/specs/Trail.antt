@@ -16,7 +16,7 @@ module _ (kind : Steps) (from : ℕ × ℕ) where
       × (x.sum ≡ y.sum + x.cost))
 
   module _ (costs : List (List (Option ℕ))) where
-    -- each number comes from that of a position before it, and no position stands there twice
+    -- each number comes from that of a position before it, and no position is there twice
     pub record IsTrail (trail : List Settled) : Type 0 where
       pub cost : (j : ℕ) (x : Settled) → slice_get trail j ≡ Some x → Holds costs x.at x.cost
       pub before : (j : ℕ) (x : Settled) → slice_get trail j ≡ Some x → ComesBefore trail j x

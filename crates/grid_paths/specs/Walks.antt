@@ -39,8 +39,8 @@ module _ (kind : Steps) (floor : List (List Bool)) where
     pub walk : Walk a b k
     pub least : (n : ℕ) → Walk a b n → k ≤ n
 
-  -- a number stands in u at each position that a walk leads to, and is the least number of steps;
-  -- None stands at the others
+  -- u has a number at each position that a walk leads to, the least number of steps; it has None at
+  -- the others
   pub record HasLeastSteps (from : ℕ × ℕ) (u : List (List (Option ℕ))) : Type 0 where
     pub found : (at : ℕ × ℕ) (n : ℕ) → Walk from at n → (k : ℕ) × (cell u at.0 at.1 ≡ Some (Some k))
     pub least : (at : ℕ × ℕ) (k : ℕ) → cell u at.0 at.1 ≡ Some (Some k) → IsLeastSteps from at k
@@ -54,8 +54,8 @@ module _ (kind : Steps) (floor : List (List Bool)) where
     pub walk : WalkFrom starts at k
     pub least : (n : ℕ) → WalkFrom starts at n → k ≤ n
 
-  -- a number stands in u at each position that a walk from one of them leads to, and is the least
-  -- number of steps from any of them; None stands at the others
+  -- u has a number at each position that a walk from one of them leads to, the least number of
+  -- steps from any of them; it has None at the others
   pub record HasLeastFrom (starts : List (ℕ × ℕ)) (u : List (List (Option ℕ))) : Type 0 where
     pub found : (at : ℕ × ℕ) (n : ℕ) → WalkFrom starts at n
         → (k : ℕ) × (cell u at.0 at.1 ≡ Some (Some k))

@@ -97,12 +97,12 @@ fn path_over<A: Allocator + Clone>(
 }
 
 /// Returns a cheapest path from one position to another, and the sum of its costs: of the cells that it enters, as
-/// [`cheapest`](super::cheapest) counts them. No position stands there twice. Returns `None` exactly where no path leads.
+/// [`cheapest`](super::cheapest) counts them. No position is in it twice. Returns `None` exactly where no path leads.
 ///
 ///     [[1, 9, 1], [1, 1, 1]]   cheapest_path((0, 0), (0, 2), Steps::Sides, |x| Some(*x))   ([(0, 0), (1, 0), (1, 1), (1, 2), (0, 2)], 4)
 ///
 /// Requires: the closure can be called at every cell.
-/// Fails: where memory is refused.
+/// Fails: if allocation fails.
 /// Cost: at most that of `cheapest`, whose search stops here once it settles the end; then a constant number of steps for
 /// each settled cell.
 pub fn cheapest_path<T, A: Allocator + Clone, F: Fn(&T) -> Option<u32>>(

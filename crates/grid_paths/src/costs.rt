@@ -18,7 +18,7 @@ use std::collections::BinaryHeap;
 // For how many waiting positions there is room from the start.
 const MANY: usize = 1024;
 
-// Whether a sum is less than the number at a position, or none stands there.
+// Whether a sum is less than the number at a position, or there is none.
 fn is_less<A: Allocator>(sums: &Grid<Option<u128>, A>, row: usize, col: usize, sum: u128) -> bool
     requires { InRange sums.now.rows row col }
     ensures { IsTrue result ↔ ((m : ℕ) → Holds sums.now.rows (row, col) m → sum < m) }
@@ -241,15 +241,15 @@ pub(crate) fn costs_of<T, A: Allocator + Clone, F: Fn(&T) -> Option<u32>>(
     grid.map_indexed(|_, cell| cost(cell))
 }
 
-/// Returns, for each cell, the least sum of costs of a way from a position. `cost` says what it costs to enter a cell, 0
-/// too, or `None` for a cell that can't be entered. The first cell's own cost doesn't count, but it has to have one.
-/// `None` stands exactly where no way leads.
+/// Returns, for each cell, the least sum of costs of a path from a position. `cost` says what it costs to enter a cell,
+/// 0 too, or `None` for a cell that can't be entered. The first cell's own cost doesn't count, but it has to have one.
+/// A cell gets `None` exactly where no path leads to it.
 ///
 ///     [[1, 9, 1], [1, 1, 1]]   cheapest((0, 0), Steps::Sides, |x| Some(*x))   [[Some(0), Some(9), Some(4)], [Some(1), Some(2), Some(3)]]
 ///     [[1, 9, 1], [1, 1, 1]]   cheapest((0, 0), Steps::All, |x| Some(*x))     [[Some(0), Some(9), Some(2)], [Some(1), Some(1), Some(2)]]
 ///
 /// Requires: the closure can be called at every cell.
-/// Fails: where memory is refused.
+/// Fails: if allocation fails.
 /// Cost: one call for each cell; a number of steps for each cell that grows as the logarithm of the number of cells; three
 /// allocations, and those of the heap where more than 1,024 positions wait, each at most once for each step to it.
 pub fn cheapest<T, A: Allocator + Clone, F: Fn(&T) -> Option<u32>>(

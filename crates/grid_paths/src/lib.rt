@@ -1,9 +1,9 @@
 //! Shortest paths over the cells of a grid, and its connected regions.
 //!
 //! - How far: [`distances`] from a position, [`distances_from`] the nearest of several.
-//! - Which way: [`shortest_path`].
+//! - By which path: [`shortest_path`].
 //! - Where each cell has a cost: [`cheapest`], [`cheapest_path`].
-//! - What hangs together: [`regions`], [`fill_region`]; with a border, [`flood`].
+//! - What is connected: [`regions`], [`fill_region`]; with a border, [`flood`].
 //!
 //! [`Steps`] says which steps there are: to the cells that share a side, or to all that touch. [`laws`] ties them to
 //! `neighbors4` and `neighbors8`.

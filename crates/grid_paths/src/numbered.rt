@@ -216,7 +216,7 @@ fn all_numbers<A: Allocator + Clone>(
 /// That the numbers are the regions is said where `==` is an equivalence, as at integers (not at floats, where `NaN` is
 /// unequal to itself).
 ///
-/// Fails: where memory is refused.
+/// Fails: if allocation fails.
 /// Cost: at most four comparisons for each cell, or eight; a constant number of steps for each cell; three allocations.
 pub fn regions<T: PartialEq, A: Allocator + Clone>(
     grid: &Grid<T, A>,

@@ -118,14 +118,14 @@ fn path_over<A: Allocator + Clone>(
     }
 }
 
-/// Returns a shortest path from one position to another. Each cell on the way passes the test, the first and the last
+/// Returns a shortest path from one position to another. Each cell on the path passes the test, the first and the last
 /// too. Returns `None` exactly where no path leads.
 ///
 ///     [[1, 1, 0], [0, 1, 1]]   shortest_path((0, 0), (1, 2), Steps::Sides, |x| *x == 1)   [(0, 0), (0, 1), (1, 1), (1, 2)]
 ///     [[1, 1, 0], [0, 1, 1]]   shortest_path((0, 0), (1, 2), Steps::All, |x| *x == 1)     [(0, 0), (0, 1), (1, 2)]
 ///
 /// Requires: the test can be called at every cell.
-/// Fails: where memory is refused.
+/// Fails: if allocation fails.
 /// Cost: at most that of `distances`, whose search stops here once it reaches the start; then a constant number of steps
 /// for each cell of the path, and one allocation.
 pub fn shortest_path<T, A: Allocator + Clone, F: Fn(&T) -> bool>(

@@ -42,7 +42,7 @@ fn other_in_row<T: Copy + PartialEq, A: Allocator>(
     None
 }
 
-// A cell of the board that doesn't equal the one at a position. All that are looked at before it hang together with the
+// A cell of the board that doesn't equal the one at a position. All that are looked at before it are connected with the
 // position, so it is found in no more steps than there are cells in the region.
 fn other_than<T: Copy + PartialEq, A: Allocator>(
     grid: &Grid<T, A>,
@@ -155,7 +155,7 @@ fn fill_equal<T: Copy + PartialEq + Drop, A: Allocator + Clone>(
 ///
 ///     [[1, 1, 2], [2, 1, 1]]   fill_region((0, 0), Steps::Sides, 7)   [[7, 7, 2], [2, 7, 7]]
 ///
-/// Fails: where memory is refused; the grid is unchanged.
+/// Fails: if allocation fails; the grid is unchanged.
 /// Cost: at most six comparisons for each cell of the region, or ten, and a constant number of steps; memory for these
 /// cells and their positions. The rest of the board costs nothing.
 pub fn fill_region<T: Copy + PartialEq + Drop, A: Allocator + Clone>(

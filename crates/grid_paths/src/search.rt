@@ -10,7 +10,7 @@ use grid::Grid;
 use grid_near::Steps;
 use std::alloc::{AllocError, Allocator};
 
-// How many positions of a queue are gone on from before it lets go of them.
+// How many positions of a queue are processed before it drops them.
 const MANY: usize = 2048;
 
 // For how many positions a queue has room from the start.
@@ -26,7 +26,7 @@ pub(crate) fn is_left<A: Allocator>(left: &Grid<bool, A>, row: usize, col: usize
     }
 }
 
-// Reaches a position by so many steps, if it is left. `left` are the open positions that aren't reached yet.
+// Reaches a position by `count` steps, if it is left. `left` are the open positions that aren't reached yet.
 #[inline(always)]
 fn reach<A: Allocator>(
     row: usize,
@@ -114,7 +114,7 @@ fn is_goal(goal: Option<(usize, usize)>, row: usize, col: usize) -> bool
     }
 }
 
-// Lets go of the first positions, and moves the rest to the front.
+// Drops the first positions, and moves the rest to the front.
 fn remove_front<A: Allocator>(queue: &mut Vec<(usize, usize), A>, count: usize)
     requires { count ≤ length queue.old.items }
     ensures { queue.new.items ≡ drop count queue.old.items }
@@ -124,8 +124,8 @@ fn remove_front<A: Allocator>(queue: &mut Vec<(usize, usize), A>, count: usize)
     queue.truncate(len - count);
 }
 
-// Lets go of the positions before `next` once they are many, and no fewer than the others; returns the place that `next`
-// has then. So the queue stays short, and there are no more moves than positions.
+// Drops the positions before `next` once they are many, and no fewer than the others; returns the place that `next` has
+// then. So the queue stays short, and there are no more moves than positions.
 fn trim<A: Allocator>(queue: &mut Vec<(usize, usize), A>, next: usize) -> usize
     requires { next ≤ length queue.old.items }
     ensures { (front : List (ℕ × ℕ)) × (queue.old.items ≡ front ++ queue.new.items)
@@ -214,14 +214,14 @@ pub(crate) fn floor_of<T, A: Allocator + Clone, F: Fn(&T) -> bool>(
     grid.map_indexed(|_, cell| passable(cell))
 }
 
-/// Returns, for each cell, the least number of steps from a position. Each cell on the way passes the test, the first and
-/// the last too. `None` stands exactly where no way leads.
+/// Returns, for each cell, the least number of steps from a position. Each cell on the path passes the test, the first
+/// and the last too. A cell gets `None` exactly where no path leads to it.
 ///
 ///     [[1, 1, 0], [0, 1, 1]]   distances((0, 0), Steps::Sides, |x| *x == 1)   [[Some(0), Some(1), None], [None, Some(2), Some(3)]]
 ///     [[1, 1, 0], [0, 1, 1]]   distances((0, 0), Steps::All, |x| *x == 1)     [[Some(0), Some(1), None], [None, Some(1), Some(2)]]
 ///
 /// Requires: the test can be called at every cell.
-/// Fails: where memory is refused.
+/// Fails: if allocation fails.
 /// Cost: one call for each cell; a constant number of steps for each cell; three allocations, and those of the queue
 /// where more than 4,096 positions wait.
 pub fn distances<T, A: Allocator + Clone, F: Fn(&T) -> bool>(
@@ -241,13 +241,13 @@ pub fn distances<T, A: Allocator + Clone, F: Fn(&T) -> bool>(
 }
 
 /// Returns, for each cell, the least number of steps from the nearest of several positions, as [`distances`] counts
-/// them. Positions out of range and those whose cell does not pass the test count for nothing; one that stands twice
+/// them. Positions out of range and those whose cell does not pass the test count for nothing; one that comes twice
 /// counts once.
 ///
 ///     [[1, 1, 0], [1, 1, 1]]   distances_from(&[(0, 0), (1, 2)], Steps::Sides, |x| *x == 1)   [[Some(0), Some(1), None], [Some(1), Some(1), Some(0)]]
 ///
 /// Requires: the test can be called at every cell.
-/// Fails: where memory is refused.
+/// Fails: if allocation fails.
 /// Cost: one call for each cell; a constant number of steps for each cell and each of the positions; allocations as at
 /// [`distances`].
 pub fn distances_from<T, A: Allocator + Clone, F: Fn(&T) -> bool>(

@@ -188,10 +188,10 @@ fn places_of<T: Copy, A: Allocator>(
 ///     [[0, 0, 1, 0], [1, 1, 1, 0]]   flood(&[(0, 0)], Steps::Sides, |x| if *x == 0 { Enter::On } else { Enter::Stop })
 ///     [(0, 0), (0, 1), (1, 0), (1, 1), (0, 2)], in some order
 ///
-/// So does Minesweeper: a field that no mine touches opens those around it, a numbered one opens alone.
+/// Minesweeper does this: a field that no mine touches opens those around it, a numbered one opens alone.
 ///
 /// Requires: the closure can be called at every cell.
-/// Fails: where memory is refused.
+/// Fails: if allocation fails.
 /// Cost: one call for each cell; a constant number of steps for each cell and each of the positions; a grid of what the
 /// closure said, the positions with these, and the positions.
 pub fn flood<T, A: Allocator + Clone, F: Fn(&T) -> Enter>(

@@ -23,7 +23,7 @@ cut_next len all x rest some is short left even =
     let count : length all / len ≡ suc (length rest / len) = rw sum (omega (arith, add-div_left (length rest) some)) in
     (rw (count, is) (cut_line len _ x rest whole), sym (add-mod_left len (length rest)) ∙ (ap (λ n. n % len) (sym sum) ∙ even))
 
--- a line that is pushed stands before those that are left
+-- a line that is pushed is before those that are left
 pub push_one : {A : Type 0} (ls : List (Vec ℤ A)) (new : List (Vec ℤ A)) (v : Vec ℤ A) (x : List ℤ) (all rest : List (List ℤ)) → all ≡ x ∷ rest → x ≡ v.items → new ≡ ls ++ v ∷ [] → items_of_each ls ++ all ≡ items_of_each new ++ rest
 push_one [] new v x all rest e is pushed = rw (pushed, e, is) refl
 push_one (l ∷ ls) new v x all rest e is pushed =

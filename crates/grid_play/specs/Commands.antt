@@ -74,12 +74,12 @@ cells_of (word ∷ words) = do
   cells ← cells_of words
   Some (cell ∷ cells)
 
--- so many lines of this length, from the first cell on
+-- this number of lines of this length, from the first cell on
 abbrev pub cut : ℕ → ℕ → List ℤ → List (List ℤ)
 cut zero len cells = []
 cut (suc n) len cells = take len cells ∷ cut n len (drop len cells)
 
--- whether so many cells can be cut into lines of this length: there are none, or the length divides
+-- whether `count` cells can be cut into lines of this length: there are none, or the length divides
 -- their number
 abbrev pub can_be_cut : ℕ → ℕ → Bool
 can_be_cut count len = count == 0 || (not (len == 0) && count % len == 0)
@@ -100,7 +100,7 @@ pub data Form : Type 0 where
   with_index_and_line : (ℕ → List ℤ → CommandValue ℤ) → Form
   with_index_and_lines : (ℕ → List (List ℤ) → CommandValue ℤ) → Form
 
--- the names behind which lines of cells stand
+-- the names that lines of cells follow
 unfoldable pub line_forms : List (List ℕ × Form)
 line_forms =
     (codes "push_row", with_line (λ cells. lines Row (push cells)))
@@ -111,7 +111,7 @@ line_forms =
     ∷ (codes "insert_cols", with_index_and_lines (λ i ls. lines Col (insert_all i ls)))
     ∷ []
 
--- the names behind which numbers stand
+-- the names that numbers follow
 unfoldable pub number_forms : List (List ℕ × Form)
 number_forms =
     (codes "get", with_two get)

@@ -51,8 +51,8 @@ pub record Layout : Type 0 where
 abbrev pub layout : GridValue ℤ → Layout
 layout grid = record { rows = grid.rows; order = grid.order }
 
--- the table of this order and so many columns whose cells in storage order are these, if they can
--- be cut so
+-- the table of this order and `cols` columns whose cells in storage order are these, if they can be
+-- cut so
 abbrev pub grid_from : Order → ℕ → List ℤ → Option Layout
 grid_from order cols cells =
     if can_be_cut (length cells) cols then Some
@@ -117,7 +117,7 @@ script_of_lines (first ∷ later) =
 unfoldable pub script_of : List ℕ → Result ScriptValue ScriptFault
 script_of input = script_of_lines (lines_of input)
 
--- what is due comes, as it is seen, or else memory was refused
+-- what is due comes, as it is seen, or else allocation failed
 abbrev pub IsOrMemory : {X Y : Type 0} → (Y → X) → Result X ScriptFault → Result Y ScriptFault
     → Type 0
 IsOrMemory seen due (Ok y) = due ≡ Ok (seen y)

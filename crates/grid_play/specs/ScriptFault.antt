@@ -3,7 +3,7 @@ use Rattle.std.specs.Prelude.{ℕ, List, ◌++◌, codes, decimal}
 use Rattle.grid_play.specs.declared.fault.ScriptFault.{ScriptFault}
 use Rattle.grid_play.specs.declared.fault.ScriptFault.TheVariants.{BadGrid, BadCommand, Memory}
 
--- the exit status: 2 where the script is at fault, 3 where memory was refused
+-- the exit status: 2 where the script is at fault, 3 where allocation failed
 abbrev pub fault_status : ScriptFault → ℕ
 fault_status BadGrid = 2
 fault_status (BadCommand line) = 2

@@ -15,7 +15,7 @@ use text_lines::{Words, cell, index};
 ///
 ///     "insert_row", "1 7 8 9"   InsertRow(1, [7, 8, 9])
 ///
-/// Fails: where memory for a line is refused.
+/// Fails: if the allocation of a line fails.
 #[tactic(auto, unfolding(crate::specs::Commands::command_of, crate::specs::Commands::line_forms))]
 pub(crate) fn parse_command<A: Allocator + Clone>(
     alloc: A,

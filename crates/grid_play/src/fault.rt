@@ -9,11 +9,11 @@ use std::fmt;
 /// Why a script has no output.
 #[derive(Debug, PartialEq, Eq, Drop)]
 pub enum ScriptFault {
-    /// The first line is no grid.
+    /// The first line isn't a grid.
     BadGrid,
-    /// The line of this number, counted from 1, is no command.
+    /// The line of this number, counted from 1, isn't a command.
     BadCommand(usize),
-    /// Memory was refused.
+    /// Allocation failed.
     Memory,
 }
 

@@ -26,7 +26,7 @@ pub struct Script<A: Allocator = Global> {
 impl<A: Allocator + Clone> Script<A> {
     /// Reads a script.
     ///
-    /// Fails: `BadGrid` or `BadCommand` at the first line that is at fault; `Memory` where memory is refused.
+    /// Fails: `BadGrid` or `BadCommand` at the first line that is at fault; `Memory` if allocation fails.
     pub fn parse(alloc: A, input: &[u8]) -> Result<Script<A>, ScriptFault>
         ensures { IsOrMemory script_value (script_of input.now) result }
     {

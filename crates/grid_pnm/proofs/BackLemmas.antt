@@ -36,7 +36,7 @@ count_is (d ∷ ds) b rest digits end =
     let others : all_ascii_digits ds ≡ true = grind (arith, nat_tests) in
     rw digit (omega (arith, count_is ds b rest others end))
 
--- no white space and no comment stands before digits
+-- no white space and no comment is before digits
 no_gap : (ds rest : List ℕ) → 0 < length ds → all_ascii_digits ds ≡ true → behind_gap false (ds ++ rest) ≡ ds ++ rest
 no_gap [] rest some digits = absurd (omega (arith, some))
 no_gap (d ∷ ds) rest some digits =

@@ -88,7 +88,7 @@ ppm_is bytes header samples cells t is colored read count threes rows = rw is (b
     by_color : (color : Bool) (found : Result (List ℕ) PnmError) → color ≡ true → found ≡ Ok samples → cond color (and_then found (λ xs. Ok (rows_of header (first_chunks 3 (header.rows * header.cols) xs)))) (Err BadMagic) ≡ Ok t
     by_color color found colored read = rw (colored, read) (ap Ok (sym (rows ∙ ap (rows_of header) cut)))
 
--- what is read of a picture of a board is the board, unless memory was refused
+-- what is read of a picture of a board is the board, unless allocation failed
 module _ {T : Type 0} (channels : ℕ) (bytes : List ℕ) (read : Result (List (List T)) PnmError) (rows : List (List T)) (due : read ≡ Ok rows) where
   pub back : (r : Result (GridValue T) PnmError) → IsOrMemory channels bytes read r → MatchResult r (λ g. g.rows ≡ rows) (λ e. e ≡ Memory)
   back (Ok g) (inl refused) = absurd (cc (refused.0))

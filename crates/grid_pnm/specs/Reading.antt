@@ -42,13 +42,13 @@ ppm_of bytes = and_then (header_of bytes) (λ header.
     Ok (rows_of header (first_chunks 3 (header.rows * header.cols) samples)))
     else Err BadMagic)
 
--- a picture of so many samples for each cell has at least as many bytes as samples
+-- a picture of `channels` samples for each cell has at least as many bytes as samples
 abbrev pub HasSamples : ℕ → List ℕ → Type 0
 HasSamples channels bytes = (header : Header) × (header_of bytes ≡ Ok header)
     × (sample_count channels header ≤ length bytes)
 
--- the answer is the row-major grid that was read, or the fault; or memory was refused, for which a
--- picture asks only if it has as many bytes as samples
+-- the answer is the row-major grid that was read, or the fault; or allocation failed, which a
+-- picture needs only if it has as many bytes as samples
 abbrev pub IsOrMemory : {T : Type 0} → ℕ → List ℕ → Result (List (List T)) PnmError
     → Result (GridValue T) PnmError → Type 0
 IsOrMemory channels bytes read answer = ((answer ≡ Err Memory) × HasSamples channels bytes)

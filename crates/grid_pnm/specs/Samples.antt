@@ -11,14 +11,14 @@ abbrev pub prepend : List ℕ → Result (List ℕ) PnmError → Result (List �
 prepend samples (Err e) = Err e
 prepend samples (Ok later) = Ok (samples ++ later)
 
--- the sample that the number behind white space and comments is, and what stands behind it, in a
+-- the sample that the number behind white space and comments is, and what is behind it, in a
 -- picture of len bytes
 abbrev pub next_sample : ℕ → ℕ → List ℕ → Result (ℕ × List ℕ) PnmError
 next_sample len max bytes = and_then (next_number len bytes) (λ sample.
     if nat_lt max sample.0 then Err (AboveMax sample.0 (len - length (behind_gap false bytes)) max)
     else Ok sample)
 
--- so many samples in decimals
+-- this number of samples in decimals
 abbrev pub plain_samples : ℕ → ℕ → ℕ → List ℕ → Result (List ℕ) PnmError
 plain_samples len max zero bytes = Ok []
 plain_samples len max (suc count) bytes = and_then (next_sample len max bytes) (λ sample.
@@ -34,7 +34,7 @@ abbrev pub raw_samples : ℕ → ℕ → List ℕ → Result (List ℕ) PnmError
 raw_samples at max bytes = if max == 255 then Ok bytes
     else raw_or at max bytes (position (λ sample. nat_lt max sample) bytes)
 
--- how many samples a picture of so many for each cell has
+-- how many samples a picture of `channels` for each cell has
 abbrev pub sample_count : ℕ → Header → ℕ
 sample_count channels header = header.rows * header.cols * channels
 

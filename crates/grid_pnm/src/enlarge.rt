@@ -7,11 +7,11 @@ ghost use Rattle.grid_pnm.specs.Enlarging.{enlarged};
 use grid::{Grid, GridError, Order};
 use std::alloc::Allocator;
 
-/// Returns the row-major grid in which each cell fills a square of so many rows and columns.
+/// Returns the row-major grid in which each cell fills a square of `scale` rows and columns.
 ///
 ///     [[1, 2]]   enlarged(alloc, grid, 2)   [[1, 1, 2, 2], [1, 1, 2, 2]]
 ///
-/// Fails: `TooLarge` where the cells pass `usize::MAX`, else `Memory`.
+/// Fails: `TooLarge` where the cells exceed `usize::MAX`, else `Memory`.
 /// Cost: one copy for each cell of the new grid; one allocation.
 pub fn enlarged<T: Copy, A: Allocator, B: Allocator>(
     alloc: B,

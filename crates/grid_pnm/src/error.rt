@@ -11,7 +11,7 @@ pub enum PnmError {
     /// The bytes begin with none of the magic numbers that the call reads.
     #[error("no magic number of such a picture at byte 0")]
     BadMagic,
-    /// No number stands here, or one above `usize::MAX`.
+    /// There is no number here, or one above `usize::MAX`.
     #[error("no number at byte {at}")]
     BadNumber {
         /// The first byte that is neither white space nor in a comment.
@@ -25,13 +25,13 @@ pub enum PnmError {
         /// The byte behind it.
         at: usize,
     },
-    /// Behind the greatest sample stands no white space.
+    /// There is no white space behind the greatest sample.
     #[error("no white space at byte {at}")]
     NoSpace {
         /// The byte behind the greatest sample.
         at: usize,
     },
-    /// The raster has less bytes than the size says samples.
+    /// The raster has fewer bytes than a picture of this size has samples.
     #[error("too few bytes from byte {at} on for {rows} rows of {cols} cells")]
     Short {
         /// Where the raster begins.
@@ -46,12 +46,12 @@ pub enum PnmError {
     AboveMax {
         /// The sample.
         sample: usize,
-        /// Where it stands.
+        /// Where it is.
         at: usize,
         /// The greatest sample that the header says.
         max: u8,
     },
-    /// Memory was refused.
+    /// Allocation failed.
     #[error("out of memory")]
     Memory,
 }

@@ -15,10 +15,10 @@ use std::alloc::{AllocError, Allocator};
 ///
 ///     from_pgm(alloc, b"P2 # plain\n3 2\n255\n0 7 255 3 2 1")   [[0, 7, 255], [3, 2, 1]]
 ///
-/// What stands behind the last sample isn't read: other pictures may follow.
+/// What is behind the last sample isn't read: other pictures may follow.
 ///
-/// Fails: `BadMagic` of another picture; `BadNumber`, `BadMax`, `NoSpace`, `Short` or `AboveMax`, whichever comes first;
-/// `Memory` where memory is refused. None is asked for before it is seen that there are as many bytes as samples.
+/// Fails: `BadMagic` of another picture; `BadNumber`, `BadMax`, `NoSpace`, `Short` or `AboveMax`, whichever comes
+/// first; `Memory` if allocation fails. Nothing is allocated before it is seen that there are as many bytes as samples.
 /// Cost: one allocation.
 pub fn from_pgm<A: Allocator>(alloc: A, bytes: &[u8]) -> Result<Grid<u8, A>, PnmError>
     ensures { IsOrMemory 1 bytes.now (pgm_of bytes.now) result }
@@ -36,7 +36,7 @@ pub fn from_pgm<A: Allocator>(alloc: A, bytes: &[u8]) -> Result<Grid<u8, A>, Pnm
 ///
 ///     from_ppm(alloc, b"P3 1 2 255 255 0 0  9 8 7")   [[[255, 0, 0]], [[9, 8, 7]]]
 ///
-/// Cost: one allocation; of a plain picture two, of which one is given back.
+/// Cost: one allocation; for a plain picture two, of which one is freed.
 pub fn from_ppm<A: Allocator + Clone>(alloc: A, bytes: &[u8]) -> Result<Grid<[u8; 3], A>, PnmError>
     ensures { IsOrMemory 3 bytes.now (ppm_of bytes.now) result }
 {

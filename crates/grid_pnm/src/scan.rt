@@ -19,7 +19,7 @@ fn ends_comment(byte: u8) -> bool
     byte == b'\n' || byte == b'\r'
 }
 
-// What stands behind the white space and the comments at the front.
+// What is behind the white space and the comments at the front.
 pub(crate) fn behind_gap(bytes: &[u8]) -> &[u8]
     ensures rest { result.now ≡ behind_gap false bytes.now }
     ensures shorter { length result.now ≤ length bytes.now }
@@ -39,7 +39,7 @@ pub(crate) fn behind_gap(bytes: &[u8]) -> &[u8]
     rest
 }
 
-// How many digits stand at the front.
+// How many digits are at the front.
 #[tactic(auto, using(crate::proofs::ScanLemmas::front_count))]
 fn digit_count(bytes: &[u8]) -> usize
     ensures count { result ≡ digit_count bytes.now }
@@ -51,7 +51,7 @@ fn digit_count(bytes: &[u8]) -> usize
         .count()
 }
 
-// The number that the digits at the front write, and what stands behind them.
+// The number that the digits at the front write, and what is behind them.
 pub(crate) fn number_at(bytes: &[u8]) -> Option<(usize, &[u8])>
     ensures number { MatchOption result (number_at bytes.now ≡ None)
         (λ number. number_at bytes.now ≡ Some (number.0, number.1.now)) }
@@ -62,7 +62,7 @@ pub(crate) fn number_at(bytes: &[u8]) -> Option<(usize, &[u8])>
     Some((index(word)?, rest))
 }
 
-// The number behind white space and comments, and what stands behind it, in a picture of so many bytes.
+// The number behind white space and comments, and what is behind it, in a picture of `len` bytes.
 #[tactic(auto, unfolding(crate::specs::Scan::next_number))]
 pub(crate) fn next_number(len: usize, bytes: &[u8]) -> Result<(usize, &[u8]), PnmError>
     ensures number { MatchResult result

@@ -13,7 +13,7 @@ use std::alloc::{AllocError, Allocator};
 ///     [[0, 65], [66, 67]]   to_pgm(alloc, grid, |x| *x)   "P5\n2 2\n255\n\0ABC"
 ///
 /// Requires: `write` can be called at every cell.
-/// Fails: where memory is refused.
+/// Fails: if allocation fails.
 /// Cost: one call for each cell; the vector grows as it is filled, and of a row-major grid to its end at once.
 pub fn to_pgm<T, A: Allocator, B: Allocator, F: Fn(&T) -> u8>(
     alloc: B,
@@ -43,7 +43,7 @@ pub fn to_pgm<T, A: Allocator, B: Allocator, F: Fn(&T) -> u8>(
 ///     [[1], [0]]   to_ppm(alloc, grid, |x| [*x, 65, 66])   "P6\n1 2\n255\n\x01AB\0AB"
 ///
 /// Requires: `write` can be called at every cell.
-/// Fails: where memory is refused.
+/// Fails: if allocation fails.
 /// Cost: one call for each cell; the vector grows as it is filled.
 pub fn to_ppm<T, A: Allocator, B: Allocator, F: Fn(&T) -> [u8; 3]>(
     alloc: B,
@@ -63,7 +63,7 @@ pub fn to_ppm<T, A: Allocator, B: Allocator, F: Fn(&T) -> [u8; 3]>(
     Ok(bytes)
 }
 
-// What stands before the samples of a raw picture with this magic number, of so many rows and columns.
+// What comes before the samples of a raw picture with this magic number, of `size.0` rows and `size.1` columns.
 fn head<B: Allocator>(alloc: B, magic: &str, size: (usize, usize)) -> Result<Vec<u8, B>, AllocError>
     ensures { IfOk result (λ bytes. (samples : List ℕ)
         → bytes.items ++ samples ≡ raw_picture magic.now size.0 size.1 samples) }

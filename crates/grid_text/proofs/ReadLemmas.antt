@@ -33,7 +33,7 @@ module _ {T : Type 0} where
       rw test refl
 
 module _ {A T : Type 0} (parts : List ℕ → List A) (bad : ℕ → ℕ → A → TextError) (h : A → Option T) where
-  -- the rows of the lines that are left, after so many
+  -- the rows of the lines that are left, after this number of lines
   abbrev pub rows_on : ℕ → ℕ → List (List ℕ) → Result (List (List T)) TextError
   rows_on zero cols lines = rows_of parts bad h lines
   rows_on (suc line) cols lines = read_lines parts bad h (suc (suc line)) cols lines
@@ -78,7 +78,7 @@ module _ {A T : Type 0} (parts : List ℕ → List A) (bad : ℕ → ℕ → A �
       ∙ (ragged_row (suc (suc line)) cols row (read_lines parts bad h (suc (suc line) + 1) cols texts) ne ∙ ap (λ n. Err (Ragged n (length row) cols)) (sym e))
 
 module _ {A T : Type 0} (parts : List ℕ → List A) (bad : ℕ → ℕ → A → TextError) (R : A → Option T → Type 0) where
-  -- the rows that may be read of the lines that are left, after so many
+  -- the rows that may be read of the lines that are left, after this number of lines
   abbrev pub MayRowsOn : ℕ → ℕ → List (List ℕ) → Result (List (List T)) TextError → Type 0
   MayRowsOn zero cols lines = MayReadRows parts bad R lines
   MayRowsOn (suc line) cols lines = MayReadLines parts bad R (suc (suc line)) cols lines

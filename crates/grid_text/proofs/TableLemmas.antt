@@ -68,7 +68,7 @@ module _ {A T : Type 0} (parts : List ℕ → List A) (bad : ℕ → ℕ → A �
 pub fewer_read : {A T : Type 0} (parts : List ℕ → List A) (bad : ℕ → ℕ → A → TextError) (R S : A → Option T → Type 0) (texts : List (List ℕ)) (answer : Result (GridValue T) TextError) → MayReadAs parts bad R texts answer → ((x : A) (cell : Option T) → R x cell → S x cell) → MayReadAs parts bad S texts answer
 fewer_read parts bad R S texts answer m more = record { read = more_or_memory parts bad R S more texts answer m.read }
 
--- what is read of the text of a table is the table, unless memory was refused
+-- what is read of the text of a table is the table, unless allocation failed
 module _ {T : Type 0} (rows : List (List T)) (read : Result (List (List T)) TextError) (due : read ≡ Ok rows) where
   pub back_ok : (r : Result (GridValue T) TextError) → IsOrMemory read r → IfOk r (λ g. g.rows ≡ rows)
   back_ok (Ok g) answer = elim answer [ inl e ↦ absurd (cc) | inr f ↦ let both : Ok rows ≡ Ok g.rows = sym due ∙ f.0 in cc ]

@@ -105,7 +105,7 @@ module _ {A T : Type 0} (parts : List ℕ → List A) (bad : ℕ → ℕ → A �
   abbrev pub table_read : List (List ℕ) → Result (List (List T)) TextError
   table_read lines = as_table (rows_of lines)
 
--- the fault of a character, or of a word, that is no cell
+-- the fault of a character, or of a word, that isn't a cell
 abbrev pub bad_char : ℕ → ℕ → ℕ → TextError
 bad_char line column c = BadChar line column c
 
@@ -121,7 +121,7 @@ abbrev pub reading_words : {T : Type 0} → (List ℕ → Option T) → List (Li
     → Result (List (List T)) TextError
 reading_words h lines = table_read words_of bad_word h lines
 
--- the answer is the row-major grid that was read, or the fault; or memory was refused
+-- the answer is the row-major grid that was read, or the fault; or allocation failed
 abbrev pub IsOrMemory : {T : Type 0} → Result (List (List T)) TextError
     → Result (GridValue T) TextError → Type 0
 IsOrMemory read answer = (answer ≡ Err Memory)
@@ -159,8 +159,8 @@ module _ {A T : Type 0} (parts : List ℕ → List A) (bad : ℕ → ℕ → A �
   MayReadRows [] read = read ≡ Ok []
   MayReadRows (text ∷ texts) read = MayReadLines 1 (length (parts text)) (text ∷ texts) read
 
-  -- the answer is the row-major grid that may be read of these lines, or the fault; or memory was
-  -- refused
+  -- the answer is the row-major grid that may be read of these lines, or the fault; or allocation
+  -- failed
   abbrev pub MayReadOrMemory : List (List ℕ) → Result (GridValue T) TextError → Type 0
   MayReadOrMemory lines answer = MatchResult answer
       (λ g. (g.order ≡ RowMajor) × ((rows : List (List T)) × MayReadRows lines (Ok rows)
@@ -171,8 +171,8 @@ module _ {A T : Type 0} (parts : List ℕ → List A) (bad : ℕ → ℕ → A �
     pub read : MayReadOrMemory lines answer
 
 -- what came of the cells of one line, behind the cells before it: as many as its parts, those that
--- every h gives of which By holds, and that R lets them be; or the fault that every such h gives; or
--- memory was refused
+-- every h gives of which By holds, and that R lets them be; or the fault that every such h gives;
+-- or allocation failed
 module _ {A T : Type 0} (parts : List ℕ → List A) (bad : ℕ → ℕ → A → TextError)
     (By : (A → Option T) → Type 0) (R : A → Option T → Type 0) where
   pub record IsRow (line : ℕ) (text : List ℕ) (old new : List T) (len : ℕ) : Type 0 where

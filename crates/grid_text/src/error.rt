@@ -1,15 +1,15 @@
-//! Why a text is no grid.
+//! Why a text isn't a grid.
 ghost use Rattle.std.specs.Prelude.{◌≡◌};
 ghost use Rattle.grid_text.specs.declared.error.TextError.TheVariants.{Memory};
 
 use std::alloc::{AllocError, AllocFailed};
 use thiserror::Error;
 
-/// Why a text could not be read as a grid: the first line that is no row. In a line the characters or words are tested
-/// first, then their number.
+/// Why a text could not be read as a grid: the first line that isn't a row. In a line the characters or words are
+/// tested first, then their number.
 #[derive(Clone, Copy, Debug, PartialEq, Eq, Error)]
 pub enum TextError {
-    /// A character is no cell.
+    /// A character isn't a cell.
     #[error("line {line}, column {column}: {found:?} is no cell")]
     BadChar {
         /// The line, counted from 1.
@@ -19,7 +19,7 @@ pub enum TextError {
         /// The character.
         found: char,
     },
-    /// A word is no cell.
+    /// A word isn't a cell.
     #[error("line {line}, word {word} is no cell")]
     BadWord {
         /// The line, counted from 1.
@@ -37,7 +37,7 @@ pub enum TextError {
         /// The number of those of line 1.
         cols: usize,
     },
-    /// Memory was refused.
+    /// Allocation failed.
     #[error("out of memory")]
     Memory,
 }

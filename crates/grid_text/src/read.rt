@@ -20,8 +20,8 @@ use text_lines::{Words, cut_line};
 /// text of blank lines is the empty grid.
 ///
 /// Requires: `read` can be called at every character.
-/// Fails: `BadChar` or `Ragged` of the first line that is no row; its characters are tested before their number.
-/// `Memory` where memory is refused.
+/// Fails: `BadChar` or `Ragged` of the first line that isn't a row; its characters are tested before their number.
+/// `Memory` if allocation fails.
 /// Cost: one call for each character; the vector of cells grows as it is filled.
 pub fn from_text<T: Drop, A: Allocator, F: Fn(char) -> Option<T>>(
     alloc: A,
@@ -86,8 +86,8 @@ fn push_line<T: Drop, A: Allocator, F: Fn(char) -> Option<T>>(
 /// Lines end as in [`from_text`]. A line without words is a row without cells.
 ///
 /// Requires: `read` can be called at every word.
-/// Fails: `BadWord` or `Ragged` of the first line that is no row; its words are tested before their number. `Memory`
-/// where memory is refused.
+/// Fails: `BadWord` or `Ragged` of the first line that isn't a row; its words are tested before their number. `Memory`
+/// if allocation fails.
 /// Cost: one call for each word; the vector of cells grows as it is filled.
 pub fn from_words<T: Drop, A: Allocator, F: Fn(&str) -> Option<T>>(
     alloc: A,
@@ -103,8 +103,8 @@ pub fn from_words<T: Drop, A: Allocator, F: Fn(&str) -> Option<T>>(
     try_from_words(alloc, text, |word| Ok(read(word)))
 }
 
-/// Same as [`from_words`], of a closure that may find no memory, as one that makes a `String` of a word: `Err` of it is
-/// `Memory` here.
+/// Same as [`from_words`], with a closure that may fail to allocate, as one that makes a `String` of a word: its `Err`
+/// is `Memory` here.
 ///
 ///     try_from_words(alloc, "ab c\n", |word| Ok(Some(String::from_str(alloc, word)?)))   [["ab", "c"]]
 pub fn try_from_words<T: Drop, A: Allocator, F>(

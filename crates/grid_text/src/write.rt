@@ -13,7 +13,7 @@ use std::alloc::{AllocError, Allocator, Global};
 ///     [[1, 0], [0, 1]]   to_text(alloc, grid, |x| if *x == 1 { '#' } else { '.' })   "#.\n.#\n"
 ///
 /// Requires: `write` can be called at every cell.
-/// Fails: where memory is refused.
+/// Fails: if allocation fails.
 pub fn to_text<T, A: Allocator, F: Fn(&T) -> char>(
     alloc: Global,
     grid: &Grid<T, A>,
@@ -57,7 +57,7 @@ fn push_row<T, F: Fn(&T) -> char>(
 ///
 ///     [[1, -20], [3, 4]]   to_words(alloc, grid)   "1 -20\n3 4\n"
 ///
-/// Fails: where memory is refused.
+/// Fails: if allocation fails.
 pub fn to_words<T: Whole, A: Allocator>(
     alloc: Global,
     grid: &Grid<T, A>,

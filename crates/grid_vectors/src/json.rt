@@ -1,4 +1,4 @@
-//! JSON whose memory is refused cell by cell.
+//! JSON with allocation refused cell by cell.
 ghost use Rattle.std.specs.Prelude.{◌^◌, pos};
 ghost use Rattle.grid_json.specs.Content.{whole, unsigned_content};
 

@@ -44,7 +44,8 @@ fn least_swaps(alloc: Global, before: Cells, after: &[u32]) -> Result<Option<u12
     Ok(None)
 }
 
-// Whether a command counts so many swaps, for symmetries and shifts, and the search from these cells finds their sum.
+// Whether a command counts these numbers of swaps, for symmetries and shifts, and the search from these cells finds
+// their sum.
 fn counts(
     alloc: Global,
     grid: &mut Grid<u32>,

@@ -37,7 +37,7 @@ fn paths_are_cheapest(rt: HostRuntime) -> Result<(), Fail> {
     Ok(())
 }
 
-// What the ways from a position cost over the rows 1 7 0, 1 255 2, 0 1 1, where 255 can't be entered.
+// What the paths from a position cost over the rows 1 7 0, 1 255 2, 0 1 1, where 255 can't be entered.
 fn assert_costs<R: AllocGlobal + Abort>(
     rt: &R,
     order: Order,

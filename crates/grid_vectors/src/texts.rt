@@ -26,7 +26,7 @@ fn assert_said<R: AllocGlobal + Abort>(
     Ok(())
 }
 
-// A text, and the grid or the fault. Behind a fault stand later ones: in the same line, and in the next.
+// A text, and the grid or the fault. Behind a fault there are later ones: in the same line, and in the next.
 const TEXTS: [(&str, &str); 13] = [
     ("", "[]"),
     ("\n\n", "[]"),

@@ -90,7 +90,7 @@ module _ {T : Type 0} where
       let below : k * stride ≤ (count - 1) * stride = mul-le k stride (count - 1) stride (omega arith) (omega arith) in
       get-strided start (start + (count - 1) * stride + 1) stride k cells steps (omega arith)
 
-  -- the cells of a line that stands together
+  -- the cells of a line, where they are side by side
   pub together : (b : Bool) (start count stride : ℕ) (cells : List T) → b ≡ false → stride ≡ 1 → 0 < count → take (start + count - start) (drop start cells) ≡ directed b (line_cells start count stride cells)
   together b start count stride cells forwards one some =
       let end : start + count ≡ start + (count - 1) * stride + 1 = omega (arith, ap (λ x. (count - 1) * x) one) in

@@ -4,8 +4,8 @@ use Rattle.grid_base.specs.declared.order.Order.TheVariants.{RowMajor}
 use Rattle.grid_base.specs.Table.{row}
 use Rattle.grid_base.specs.Positions.{positions, StandsAt}
 
--- each of the rows that are not begun has so many cells, and some; and all cells that are left, with
--- those of the rows begun at either end, are fewer than 2 ^ 64
+-- each of the rows that are not begun has `width` cells, and some; and all cells that are left,
+-- with those of the rows begun at either end, are fewer than 2 ^ 64
 pub record AreCellsLeft {T : Type 0} (width : ℕ) (line : List T) (rows : List (List T))
     (last : List T) : Type 0 where
   pub long : (r : ℕ) → r < length rows → length (row rows r) ≡ width
@@ -16,7 +16,7 @@ pub record AreCellsLeft {T : Type 0} (width : ℕ) (line : List T) (rows : List 
 abbrev pub positions_from : ℕ → ℕ → ℕ → ℕ → List (ℕ × ℕ)
 positions_from m n r c = drop (r * n + c) (positions RowMajor m n)
 
--- (r, c) is a position of m rows and n columns, or comes after the last, and there are so many from
+-- (r, c) is a position of m rows and n columns, or comes after the last, and there are `count` from
 -- it on
 pub record ArePlaced (m n r c count : ℕ) : Type 0 where
   pub stands : StandsAt RowMajor m n r c

@@ -8,7 +8,7 @@ abbrev pub counted : Bool → ℕ → ℕ → ℕ
 counted true n k = n - 1 - k
 counted false n k = k
 
--- how far line k of an axis stands from the first cell
+-- how far line k of an axis is from the first cell
 abbrev pub offset : ViewAxis → ℕ → ℕ
 offset a k = counted a.backwards a.count k * a.stride
 
@@ -49,7 +49,7 @@ module _ {T : Type 0} (rows cols : ViewAxis) (cells : List T) where
   abbrev pub seen : List (List T)
   seen = tabulate rows.count cols.count seen_cell
 
--- the cells of two axes are within a slice of so many cells
+-- the cells of two axes are within a slice of `len` cells
 pub record HoldsView (rows cols : ViewAxis) (len : ℕ) : Type 0 where
   pub size : IsSize rows.count cols.count
   pub below : rows.count * cols.count < 2 ^ 64

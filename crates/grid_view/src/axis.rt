@@ -1,4 +1,4 @@
-//! One direction of a view: how many lines there are, how far apart they stand, and whether they come from the last.
+//! One direction of a view: how many lines there are, how far apart they are, and whether they come from the last.
 ghost use Rattle.std.specs.Prelude.{◌≡◌, ◌+◌, ◌<◌, ◌≤◌};
 ghost use Rattle.grid_view.specs.View.{counted, turned, cut, first_of, crossed};
 
@@ -47,7 +47,7 @@ impl ViewAxis {
         }
     }
 
-    // Returns the axis with so many lines.
+    // Returns the axis with `count` lines.
     pub(crate) fn cut(self, count: usize) -> ViewAxis
         ensures { result ≡ cut self count }
     {

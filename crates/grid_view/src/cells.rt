@@ -122,7 +122,7 @@ impl<'a, T> ExactSizeIterator for ViewIter<'a, T> {
 
 impl<'a, T> FusedIterator for ViewIter<'a, T> {}
 
-/// Returns an iterator that stands at the same cells.
+/// Returns an iterator over the same remaining cells.
 ///
 /// Cost: constant; it is always `Ok`, and takes no memory.
 impl<'a, T> Clone for ViewIter<'a, T> {
@@ -228,7 +228,7 @@ impl<'a, T> ExactSizeIterator for ViewIndexedIter<'a, T> {
 
 impl<'a, T> FusedIterator for ViewIndexedIter<'a, T> {}
 
-/// Returns an iterator that stands at the same cells.
+/// Returns an iterator over the same remaining cells.
 ///
 /// Cost: constant; it is always `Ok`, and takes no memory.
 impl<'a, T> Clone for ViewIndexedIter<'a, T> {

@@ -26,7 +26,7 @@ fn push_line<T: Clone, A: Allocator>(
     Ok(())
 }
 
-// Adds clones of the cells of row `r` to a vector that has room for them, at one go where they stand together.
+// Adds clones of the cells of row `r` to a vector that has room for them, at once where they are side by side.
 fn push_row<T: Clone, A: Allocator>(
     copies: &mut Vec<T, A>,
     view: &GridView<'_, T>,
@@ -101,7 +101,7 @@ impl<'a, T> GridView<'a, T> {
             && LONG <= self.cols.count
     }
 
-    // Returns the cells of row `r` as a slice, or `None` where they don't stand side by side, the first first.
+    // Returns the cells of row `r` as a slice, or `None` where they aren't side by side, the first first.
     fn row_slice(&self, r: usize) -> Option<&'a [T]>
         requires { r < row_count self.now.rows }
         ensures { IfSome result (λ line. line.now ≡ row self.now.rows r) }
@@ -118,7 +118,7 @@ impl<'a, T> GridView<'a, T> {
     ///     [[1, 2], [3, 4]]   to_vec(ColumnMajor)   [1, 3, 2, 4]
     ///
     /// Requires: clones of the cell type equal their source.
-    /// Fails: where memory is refused, for the vector or for a clone.
+    /// Fails: if allocation fails, for the vector or in a clone.
     /// Cost: one clone for each cell; one allocation, before the first clone.
     pub fn to_vec<A: Allocator>(&self, alloc: A, order: Order) -> Result<Vec<T, A>, AllocError>
     where
@@ -137,7 +137,7 @@ impl<'a, T> GridView<'a, T> {
     ///     [[1, 2], [3, 4]]   copy_row(1, [0, 0])   [3, 4]
     ///
     /// Requires: there is such a row, and the slice has a cell for each column.
-    /// Cost: one copy for each cell, all at once where they stand side by side in the storage; no memory.
+    /// Cost: one copy for each cell, all at once where they are side by side in the storage; no memory.
     pub fn copy_row(&self, r: usize, to: &mut [T])
     where
         T: Copy,

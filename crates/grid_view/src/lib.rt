@@ -1,5 +1,5 @@
 //! Views of a table that a slice stores: a part of it, seen through a symmetry. No cell is copied and no memory taken.
-//! Users make them by a grid's `view` and `part`.
+//! Users make them with a grid's `view` and `part`.
 #![tactic(auto)]
 
 mod axis;

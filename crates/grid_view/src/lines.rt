@@ -108,7 +108,7 @@ impl<'a, T> Model for ViewLineIter<'a, T> {
 }
 
 impl<'a, T> ViewLineIter<'a, T> {
-    /// Passes over `n` cells and returns the next, or `None` if fewer remain.
+    /// Skips `n` cells and returns the next, or `None` if fewer remain.
     ///
     ///     [[1, 2, 3, 4]]   iter_row(0), then nth(2)   Some(3), and 4 remains
     ///
@@ -173,7 +173,7 @@ impl<'a, T> ExactSizeIterator for ViewLineIter<'a, T> {
 
 impl<'a, T> FusedIterator for ViewLineIter<'a, T> {}
 
-/// Returns an iterator that stands at the same cells.
+/// Returns an iterator over the same remaining cells.
 ///
 /// Cost: constant; it is always `Ok`, and takes no memory.
 impl<'a, T> Clone for ViewLineIter<'a, T> {
@@ -210,7 +210,7 @@ impl<'a, T> Model for ViewRowIter<'a, T> {
 }
 
 impl<'a, T> ViewRowIter<'a, T> {
-    /// Passes over `n` rows and returns the next, or `None` if fewer remain.
+    /// Skips `n` rows and returns the next, or `None` if fewer remain.
     ///
     ///     [[1, 2], [3, 4], [5, 6]]   iter_rows(), then nth(1)   3, 4; and 5, 6 remains
     ///
@@ -264,7 +264,7 @@ impl<'a, T> ExactSizeIterator for ViewRowIter<'a, T> {
 
 impl<'a, T> FusedIterator for ViewRowIter<'a, T> {}
 
-/// Returns an iterator that stands at the same rows.
+/// Returns an iterator over the same remaining rows.
 ///
 /// Cost: constant; it is always `Ok`, and takes no memory.
 impl<'a, T> Clone for ViewRowIter<'a, T> {

@@ -5,9 +5,9 @@ ghost use Rattle.grid_view.specs.Same.{AreSame, same_view, same_view_per, same_v
 
 use crate::view::GridView;
 
-// A part of at most so many rows and columns is compared cell by cell. Where one view runs along the storage and the other
-// across it, the cells of a small part stay in the cache until the lines beside them are read. Boards of 4096 by 4096 take
-// twice as long by parts of 8 or of 32.
+// A part of at most this many rows and columns is compared cell by cell. Where one view runs along the storage and the
+// other across it, the cells of a small part stay in the cache until the lines beside them are read. Boards of 4096 by
+// 4096 take twice as long by parts of 8 or of 32.
 const SMALL: usize = 16;
 
 // Whether the cells of row `r` are the same in two views, in the columns from the first number to before the second.
@@ -83,7 +83,7 @@ fn has_same_halves<T: PartialEq>(
         && has_same_halves(view, other, (mid, rows.1), cols)
 }
 
-// Whether all cells are the same in two views of so many rows and columns.
+// Whether all cells are the same in two views of `size.0` rows and `size.1` columns.
 fn has_same_table<T: PartialEq>(
     view: &GridView<'_, T>,
     other: &GridView<'_, T>,

@@ -7,7 +7,7 @@ ghost use Rattle.grid_view.specs.Texts.{table_text};
 use crate::view::GridView;
 use std::fmt;
 
-// Returns what stands before the cell of a column.
+// Returns what comes before the cell of a column.
 fn separator_before(col: usize) -> &'static str
     ensures { result.now ≡ (if nat_lt 0 col then comma_space else []) }
 {

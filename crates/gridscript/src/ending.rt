@@ -15,7 +15,7 @@ use std::{fmt, io};
 pub enum Ending {
     /// The arguments are neither none nor the word `deferred`.
     Usage,
-    /// The script is at fault, or memory was refused.
+    /// The script is at fault, or allocation failed.
     Script(ScriptFault),
     /// Reading or writing failed.
     Transfer,

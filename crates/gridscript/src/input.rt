@@ -12,7 +12,7 @@ const READS: u32 = 1_048_576;
 
 const READ_LEN: usize = 4096;
 
-/// Returns the arguments after the program's name. One that is no text ends the program as bad arguments do.
+/// Returns the arguments after the program's name. One that isn't text ends the program as bad arguments do.
 pub fn arguments<R: Env + AllocGlobal>(rt: &R) -> Result<Vec<String>, Ending> {
     match env::args(rt) {
         Ok(args) => Ok(args.skip(1).collect(rt.alloc())?),
@@ -36,7 +36,7 @@ pub fn mode(args: &[String]) -> Option<bool>
 
 /// Returns the bytes of the reader up to its end.
 ///
-/// Fails: where reading fails, memory is refused, or the end doesn't come within `READS` reads.
+/// Fails: if reading or allocation fails, or the end doesn't come within `READS` reads.
 pub fn read_all<A: Allocator, R: Read>(alloc: A, reader: &mut R) -> io::Result<Vec<u8, A>>
     ensures { IfOk result (λ bytes. IfSome (R.remaining reader.old) (λ left. bytes.items ≡ left)) }
 {

@@ -6,7 +6,7 @@ use grid::{Grid, Move, Order, Symmetry};
 use std::alloc::{AllocError, Global};
 use test_support::fixtures::cut;
 
-/// A call, what stands behind its name, and the text of its lines of cells.
+/// A call, what is behind its name, and the text of its lines of cells.
 #[derive(Clone, Copy)]
 pub struct Ask<'a> {
     pub call: &'a str,
@@ -14,7 +14,7 @@ pub struct Ask<'a> {
     cells: Option<&'a str>,
 }
 
-// The cells of a line. A word that is no number ends it.
+// The cells of a line. A word that isn't a number ends it.
 fn cells_of(alloc: Global, text: &str) -> Result<Vec<i64>, AllocError> {
     let mut cells = Vec::new(alloc);
     for word in text.split_whitespace() {

@@ -57,7 +57,7 @@ fn stopped(alloc: Global, (rows, cols): (usize, usize)) -> Result<RunStopped<i64
     })
 }
 
-// A run that stopped after so many commands, whose replies are left out.
+// A run that stopped after `done` commands, whose replies are left out.
 fn stopped_after(alloc: Global, done: usize) -> RunStopped<i64> {
     RunStopped {
         done,

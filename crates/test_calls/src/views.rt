@@ -8,7 +8,7 @@ use grid::{Grid, GridView};
 use std::alloc::{AllocError, Global};
 use std::convert::TryFrom;
 
-// Whether a board has so many rows and columns from a position on.
+// Whether a board has `size.0` rows and `size.1` columns from a position on.
 fn is_within(board: &Grid<i64>, at: (usize, usize), size: (usize, usize)) -> bool
     ensures { IsTrue result → at.0 + size.0 ≤ row_count board.now.rows
         × at.1 + size.1 ≤ col_count board.now.rows }

@@ -1,6 +1,6 @@
 //! Calls on a whole board: its cells by closures, its clone, whether another is equal, and its texts.
 //!
-//! A board that a call makes stands in the line of the call.
+//! A board that a call makes is in the line of the call.
 use crate::ask::{Ask, board_of};
 use crate::told::{shown, told_board, told_made};
 use grid::Grid;

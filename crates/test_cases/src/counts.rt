@@ -1,4 +1,4 @@
-//! Runs each script of the cases at once and deferred: its swaps and the grid after it are what stands below it.
+//! Runs each script of the cases at once and deferred: its swaps and the grid after it are what is below it.
 //!
 //! A case is a line `== NAME`, a script, a line `--`, and a line for each kind of run: the swaps for symmetries and for
 //! shifts, the size, the order and the storage. Below a name that begins with `carry`, the script is a grid, a symmetry

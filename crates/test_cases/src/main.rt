@@ -1,6 +1,6 @@
-//! Reads cases from standard input, and counts those that hold: scripts with what they write, scripts with the swaps that
-//! they count, JSON with the grid that it is, and maps with what calls of `grid_paths` answer. A case that doesn't hold is
-//! printed.
+//! Reads cases from standard input, and counts those that hold: scripts with what they write, scripts with the swaps
+//! that they count, JSON with the grid that it is, and maps with what calls of `grid_paths` return. A case that doesn't
+//! hold is printed.
 //!
 //! A section is a line `#### NAME`, some words, and its cases. Each case begins with `== `. The head of each module has the form of its cases.
 #![tactic(auto)]

@@ -1,10 +1,10 @@
-//! Asks each call of `grid_paths` for the cases, on maps stored by rows and by columns: it answers what stands below them.
+//! Makes each call of `grid_paths` for the cases, on maps stored by rows and by columns: it returns what is below them.
 //! Each request of a call for memory is refused once: then the map stays as it was.
 //!
-//! A case is a line `== CALL STEPS NUMBERS`, where the numbers are rows and columns of positions; the map, in which `.` may be
-//! walked on, or at `cheapest` a digit is the cost; a line `--`; and the answer: a line of numbers for each row (`.` where
-//! there is none), or of cells. Below `regions` and `flood` the count stands first; below `shortest_path` only the number of
-//! steps. `paths.py` made the cases.
+//! A case is a line `== CALL STEPS NUMBERS`, where the numbers are rows and columns of positions; the map, in which `.`
+//! may be walked on, or at `cheapest` a digit is the cost; a line `--`; and the answer: a line of numbers for each row
+//! (`.` where there is none), or of cells. Below `regions` and `flood` the count comes first; below `shortest_path`
+//! only the number of steps. `paths.py` made the cases.
 
 mod answer;
 
@@ -48,7 +48,7 @@ fn read_ask<'a>(alloc: Global, head: &'a str) -> Result<Ask<'a>, AllocError> {
     })
 }
 
-// How many requests for memory are made for a vector of so many positions, each time that it is full.
+// How many requests for memory are made for a vector of `len` positions, each time that it is full.
 fn growths(len: usize) -> u64 {
     let full: [usize; 7] = [0, 4, 8, 16, 32, 64, 128];
     let mut count = 0u64;
@@ -102,7 +102,7 @@ fn stored<'a>(
     stored.map_err(|_| AllocError)
 }
 
-// Whether a call with this many requests granted answers what is wanted, or leaves the map as it was.
+// Whether a call with this many requests granted returns what is wanted, or leaves the map as it was.
 fn holds_with(
     alloc: Global,
     granted: u64,
@@ -120,7 +120,7 @@ fn holds_with(
     }
 }
 
-// Whether a call answers what is wanted, in both orders, once it has memory.
+// Whether a call returns what is wanted, in both orders, once it has memory.
 fn answers(
     alloc: Global,
     map: &Grid<char>,
@@ -137,7 +137,7 @@ fn answers(
     Ok(true)
 }
 
-// Whether a call answers what a case wants.
+// Whether a call returns what a case wants.
 pub fn holds(alloc: Global, case: &str) -> Result<bool, AllocError> {
     let Some((head, after_head)) = case.split_once("\n") else {
         return Ok(false);

@@ -1,4 +1,4 @@
-//! Plays each script of the cases, in both kinds of run: it writes what stands below it.
+//! Plays each script of the cases, in both kinds of run: it writes what is below it.
 //!
 //! A case is a line `== NAME`, a script, a line `--`, and what the script writes, or the text of its fault.
 use grid_play::play;

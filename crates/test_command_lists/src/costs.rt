@@ -129,7 +129,7 @@ fn shifting_edit(command: &Command<u32>) -> Option<Shifting> {
     }
 }
 
-// The same edit of so many lines in the reversed order.
+// The same edit of `lines` lines in the reversed order.
 fn mirrored(edit: Shifting, lines: usize) -> Shifting {
     match edit {
         Shifting::Expand(count) => Shifting::Prepend(count),

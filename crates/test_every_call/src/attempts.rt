@@ -107,7 +107,7 @@ fn attempt(alloc: Global, trial: Trial, granted: u64) -> Seen {
     }
 }
 
-// Whether a number is the promised one for each of so many.
+// Whether a number is the promised one for each of `each`.
 fn keeps(promise: Option<u64>, found: u64, each: usize) -> bool {
     match promise {
         Some(promised) => found == promised.wrapping_mul(each as u64),

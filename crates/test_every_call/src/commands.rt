@@ -106,8 +106,8 @@ fn ran<'a>(start: Start<'a>, board: &mut Board<'a>, name: &str) -> Result<Answer
 const SCRIPT: &[u8] =
     b"ColumnMajor 2 1 3 2 4\n\npush_row 5 6\nrotate_left\nrow 0\nfill 7\npop_col\ninsert_rows 0 2 8 8 9 9\n";
 
-// Scripts with a fault behind something that was read: a line that is no command, one whose cells can't be cut, a cell
-// that is no number, and cells that can't be cut into rows.
+// Scripts with a fault behind something that was read: a line that isn't a command, one whose cells can't be cut, a cell
+// that isn't a number, and cells that can't be cut into rows.
 const BAD_SCRIPTS: [(&[u8], ScriptFault); 4] = [
     (
         b"RowMajor 1 5\npush_row 6\nno_command\n",

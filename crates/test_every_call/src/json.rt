@@ -37,7 +37,7 @@ fn read(start: Start<'_>) -> Result<Answer, AllocError> {
     Ok(came(read))
 }
 
-// The rows of the board, and in case 1 an item behind them that is no row, which is told when all cells are read.
+// The rows of the board, and in case 1 an item behind them that isn't a row, which is told when all cells are read.
 fn rows_read(start: Start<'_>) -> Result<Answer, AllocError> {
     let board = start.numbers()?;
     let mut value = rows_to_value(start.alloc, &board, |cell| Ok(Value::from(*cell)))?;

@@ -1,5 +1,5 @@
-//! Larger inputs: texts, sheets and rows of JSON with a fault at each line and word, a way of 77 steps, and the words of want
-//! of memory.
+//! Larger inputs: texts, sheets and rows of JSON with a fault at each line and word, a path of 77 steps, and the words
+//! of a failed allocation.
 use crate::state::{Answer, came};
 use grid::{Grid, GridError, Order, ShapeError};
 use grid_csv::{CsvError, from_csv, from_csv_with_header};
@@ -22,7 +22,7 @@ const LINES: usize = 4;
 
 const WORDS: usize = 4;
 
-// What is wrong in one line of a text: a word is no number, the last word is missing, or there is one more.
+// What is wrong in one line of a text: a word isn't a number, the last word is missing, or there is one more.
 #[derive(Clone, Copy, PartialEq, Eq)]
 enum Flaw {
     Bad(usize),
@@ -141,7 +141,7 @@ fn is_told_of_letters(
     Ok(is_told(read, char_fault(line, flaw)) && calls.get() <= most)
 }
 
-// The same of a sheet, whose first line is no flaw where it is a header. Its cells are counted, since its memory isn't.
+// The same of a sheet, whose first line has no flaw where it is a header. Its cells are counted, since its memory isn't.
 fn is_told_of_sheet(
     alloc: Global,
     heap: &Heap,
@@ -170,7 +170,7 @@ fn is_told_of_sheet(
     Ok(is_told(read, wanted))
 }
 
-// The words as rows of JSON, where one that is no number is null.
+// The words as rows of JSON, where one that isn't a number is null.
 fn flawed_rows(alloc: Global, row: usize, flaw: Flaw) -> Result<Value, AllocError> {
     let text = flawed(alloc, ",", row, flaw)?;
     let mut rows = Vec::new(alloc);
@@ -250,12 +250,12 @@ fn try_flaws<R: Print + AllocGlobal>(rt: &R) -> io::Result<()> {
     println!(rt; "flaws of what is read: {told} are told")
 }
 
-// The side of the board of the long way, and where the way ends.
+// The side of the board of the long path, and where the path ends.
 const SIDE: usize = 12;
 
 const END: (usize, usize) = (11, 0);
 
-// A way that goes along every second row, to the right and to the left in turn: 78 cells.
+// A path that goes along every second row, to the right and to the left in turn: 78 cells.
 fn is_free((row, col): (usize, usize)) -> bool {
     row % 2 == 0 || (row % 4 == 1 && col == SIDE - 1) || (row % 4 == 3 && col == 0)
 }
@@ -303,7 +303,7 @@ fn numbered(maze: &Maze<'_>, name: &str, calls: &Cell<u64>) -> Answer {
     is_walked(came(sums), right)
 }
 
-// The way from the first cell to the end, by the call of this name.
+// The path from the first cell to the end, by the call of this name.
 fn walked(maze: &Maze<'_>, name: &str, calls: &Cell<u64>) -> Answer {
     let count = || calls.set(calls.get().wrapping_add(1));
     if name == "shortest_path" {
@@ -330,7 +330,7 @@ fn walked(maze: &Maze<'_>, name: &str, calls: &Cell<u64>) -> Answer {
     is_walked(came(path), right)
 }
 
-// Searches with so many requests. Whatever came of it, nothing is held in the end.
+// Searches with `granted` requests. Whatever came of it, nothing is held in the end.
 fn searched(alloc: Global, order: Order, name: &str, granted: u64) -> Result<Answer, AllocError> {
     let heap = Fuse::new(alloc, 0);
     let calls = Cell::new(0u64);
@@ -382,7 +382,7 @@ fn try_searches<R: Print + AllocGlobal>(rt: &R) -> io::Result<()> {
     Ok(())
 }
 
-// Whether a fault is told by the words of want of memory.
+// Whether a fault is told by the words of a failed allocation.
 fn is_out_of_memory<T: Display + Drop>(alloc: Global, fault: T) -> Result<bool, AllocError> {
     let mut text = String::new(alloc);
     write!(&mut text, "{fault}")?;

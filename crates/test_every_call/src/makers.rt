@@ -152,7 +152,7 @@ fn no_table(start: Start<'_>) -> Result<Answer, AllocError> {
     })
 }
 
-// Sizes whose number of cells passes `usize::MAX`.
+// Sizes whose number of cells exceeds `usize::MAX`.
 fn too_many(start: Start<'_>) -> Answer {
     let Start { heap, order, .. } = start;
     let made = match start.case {

@@ -39,11 +39,11 @@ pub enum Answer {
     Stopped,
     // It is no call on this board.
     Skipped,
-    // What it answered is wrong.
+    // What it returned is wrong.
     Wrong,
 }
 
-// What a call starts from: a board of this size and order, where so many requests are granted.
+// What a call starts from: a board of this size and order, where `granted` requests are granted.
 #[derive(Clone, Copy)]
 pub struct Start<'a> {
     pub alloc: Global,
@@ -93,7 +93,7 @@ impl<'a> Start<'a> {
         self.calls.set(self.calls.get().wrapping_add(1));
     }
 
-    // The line of so many cells.
+    // The line of `len` cells.
     pub fn line(&self, len: usize) -> Result<Line<'a>, AllocError> {
         let mut line = Vec::with_capacity(self.heap, len)?;
         for col in 0..len {
@@ -102,7 +102,7 @@ impl<'a> Start<'a> {
         Ok(line)
     }
 
-    // So many lines of so many cells.
+    // `count` lines of `len` cells.
     pub fn lines(&self, count: usize, len: usize) -> Result<Vec<Line<'a>, &'a Heap>, AllocError> {
         let mut lines = Vec::with_capacity(self.heap, count)?;
         for _ in 0..count {
@@ -131,7 +131,7 @@ impl<'a> Start<'a> {
     }
 }
 
-// Whether a line has its first cells as they were made, and so many.
+// Whether a line has its first cells as they were made, and `len` of them.
 pub fn is_line(line: &Line<'_>, len: usize) -> bool {
     for col in 0..line.len() {
         match line.get(col) {
@@ -167,7 +167,7 @@ pub fn are_numbers(board: &Numbers<'_>, (rows, cols): (usize, usize), order: Ord
     board.size() == (rows, cols) && board.order() == order
 }
 
-// An error that may be want of memory.
+// An error that may be a failed allocation.
 pub trait Fault: Drop {
     fn is_memory(&self) -> bool;
 }
@@ -232,7 +232,7 @@ impl<T: Drop, A: Allocator> Fault for RunStopped<T, A> {
     }
 }
 
-// What an outcome is: nothing but want of memory may refuse it.
+// What an outcome is: nothing but a failed allocation may refuse it.
 pub fn came<T: Drop, E: Fault>(outcome: Result<T, E>) -> Answer {
     match outcome {
         Ok(_) => Answer::Done,

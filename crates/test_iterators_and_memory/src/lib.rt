@@ -1,6 +1,7 @@
-//! What no line of a case tells. Iterators for writing, and those with positions, over all small tables, in both orders,
-//! beside the plain program; iterators that are dropped early. Where memory is refused (`test_every_call` has each call,
-//! `test_refusals` what a case tells): scripts request by request, carried lines, and cells that can't be cloned.
+//! What no line of a case tells. Iterators for writing, and those with positions, over all small tables, in both
+//! orders, beside the plain program; iterators that are dropped early. Where allocation fails (`test_every_call` has
+//! each call, `test_refusals` what a case tells): scripts request by request, carried lines, and cells that can't be
+//! cloned.
 #![tactic(auto)]
 
 #[cfg(test)]

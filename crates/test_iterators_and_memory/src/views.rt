@@ -36,7 +36,7 @@ fn write_column(grid: &mut Grid<u32, &Heap>, stamp: &Grid<u32>, by_value: bool) 
     Some(written.is_ok())
 }
 
-// Where memory is refused, the grid is unchanged.
+// If allocation fails, the grid is unchanged.
 fn check_written(
     rt: &impl Abort,
     alloc: Global,

@@ -99,7 +99,7 @@ fn commands_of<'a>(
     Ok(all)
 }
 
-// Does the commands of a script in this way, with so many clones.
+// Does the commands of a script as `way` says.
 fn by_commands<'a>(
     alloc: Global,
     way: &str,

@@ -77,8 +77,8 @@ impl Attempt for Stepped<'_> {
     }
 }
 
-// Does a command on what is seen through a symmetry where so many requests are granted, and applies the symmetry then.
-// Whatever the command came to, a refused one leaves the symmetry that was pending.
+// Does a command on what is seen through a symmetry where `granted` requests are granted, and applies the symmetry
+// then. Whatever the command came to, a refused one leaves the symmetry that was pending.
 fn step_deferred<'a>(
     alloc: Global,
     heap: &'a Heap,

@@ -1,5 +1,5 @@
 //! Makes each call of the cases on standard input with no memory granted, then with one request, with two, and so on
-//! until it is done, and counts the cases whose calls tell what stands below them.
+//! until it is done, and counts the cases whose calls tell what is below them.
 //!
 //! A case is a line `== KIND NAME`, what the call starts from, a line `--`, and the lines that the call tells in turn,
 //! each once. They have what it returned, what came back, and the whole grid then: its size, its order and its storage.

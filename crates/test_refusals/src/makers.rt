@@ -8,7 +8,7 @@ use test_support::requests::{Attempt, Told, told_in_turn};
 
 type Made<'a> = Result<Starved<'a>, GridError>;
 
-// A grid that has room for so many cells. Of the room it is told whether it is enough.
+// A grid that has room for `rows * cols` cells. Of the room it is told whether it is enough.
 fn with_capacity(
     alloc: Global,
     made: Made<'_>,

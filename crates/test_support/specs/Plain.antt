@@ -8,7 +8,7 @@ use Rattle.grid.specs.Run.{run_rows}
 abbrev pub items_of_each : {T : Type 0} → Vec (Vec T Global) Global → List (List T)
 items_of_each v = map (λ r. r.items) v.items
 
--- what a table is after the first so many of the commands, where d is the cells' default
+-- what a table is after the first `number` of the commands, where d is the cells' default
 pub record AfterSome {T : Type 0} (d : T) (commands : List (CommandValue T))
     (old new : List (List T)) : Type 0 where
   pub number : ℕ

@@ -249,7 +249,7 @@ pub fn is_stored<T: PartialEq, A: Allocator>(
     grid.size() == size && grid.order() == order && grid.flatten().as_slice() == cells
 }
 
-// Where the cells of a table of this size stand, in storage order.
+// Where the cells of a table of this size are, in storage order.
 pub fn positions_of(
     alloc: Global,
     (rows, cols): (usize, usize),

@@ -255,7 +255,7 @@ fn reply_to<T: Copy>(
 ///     [[1, 2]]   step(PushRow([3, 4]))   Done                [[1, 2], [3, 4]]
 ///     [[1, 2]]   step(PushRow([3]))      Refused(Length)     [[1, 2]]
 ///
-/// Fails: where memory is refused; the table is unchanged.
+/// Fails: if allocation fails; the table is unchanged.
 pub fn step<T: Copy>(
     alloc: Global,
     default: T,
@@ -281,7 +281,7 @@ pub fn step<T: Copy>(
 
 /// Does commands one after another, and returns their replies.
 ///
-/// Fails: where memory is refused; the table is as after some of the commands.
+/// Fails: if allocation fails; the table is as after some of the commands.
 pub fn run<T: Copy>(
     alloc: Global,
     default: T,

@@ -13,8 +13,8 @@ pub struct Told {
 
 // A call with all that it starts from.
 pub trait Attempt {
-    // Starts anew, lets the call have so many requests (or clones), and tells what came of it: what it returned, and the
-    // whole state then.
+    // Starts anew, lets the call have `granted` requests (or clones), and tells what came of it: what it returned, and
+    // the whole state then.
     fn attempt(&self, alloc: Global, granted: u64) -> Result<Told, AllocError>;
 }
 

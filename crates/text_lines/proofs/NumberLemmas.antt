@@ -40,7 +40,7 @@ number_from : {E : Type 0} (limit most : ℕ) (bs : List ℕ) (r : Result ℕ E)
 number_from limit most bs (Ok x) e h = ap Some h.1 ∙ sym (number_is most bs h.0.0 h.0.1 (omega (arith, h.0.2, e)))
 number_from limit most bs (Err x) e h = sym (number_none most bs (λ q. h (q.0, q.1, omega (arith, q.2, e))))
 
--- no plus stands before a number
+-- no plus is before a number
 no_plus : (most : ℕ) (bs : List ℕ) → get_or bs 0 0 ≡ 43 → number_up_to most bs ≡ None
 unfolding number_up_to
 no_plus most [] e = refl

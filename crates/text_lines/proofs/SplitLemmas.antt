@@ -1,4 +1,4 @@
--- The parts of a text that a test cuts, by what stands before the first byte that passes, and by what follows it.
+-- The parts of a text that a test cuts, by what is before the first byte that passes, and by what follows it.
 use Rattle.std.proofs.Common.{◌≡◌, ◌⊎◌, inl, inr, ℕ, suc, ◌+◌, Bool, true, false, List, [], ◌∷◌, ◌∙◌, refl, ap, sym, arith}
 use Rattle.std.specs.List.{before_first, after_first, slice_split, onto_first, position_or_len}
 use Rattle.std.proofs.lemmas.List.Splits.{slice_split-cons_no}

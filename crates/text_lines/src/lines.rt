@@ -12,7 +12,7 @@ ghost use Rattle.text_lines.specs.Lines.{first_line, later_lines, without_return
 ///     Lines::of(b"ab\r\n\nc")   (1, "ab"), (2, ""), (3, "c")
 #[derive(Drop)]
 pub struct Lines<'a> {
-    /// What stands behind the lines that came.
+    /// What is behind the lines that came.
     pub rest: &'a [u8],
     /// How many lines came.
     pub count: usize,
@@ -70,7 +70,7 @@ fn bytes_without_return(line: &[u8]) -> &[u8]
     line.strip_suffix(b"\r").unwrap_or(line)
 }
 
-/// Returns the first line of a text, without its end, and what stands behind it.
+/// Returns the first line of a text, without its end, and what is behind it.
 ///
 ///     cut_line("ab\r\n\nc")   ("ab", "\nc")
 pub fn cut_line(text: &str) -> (&str, &str)
@@ -94,7 +94,7 @@ fn without_return(line: &str) -> &str
     }
 }
 
-// Where the first line feed stands.
+// Where the first line feed is.
 fn line_feed(text: &[u8]) -> Option<usize>
     ensures first { result ≡ position (λ byte. byte == 10) text.now }
     ensures ascii { IfSome result

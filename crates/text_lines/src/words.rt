@@ -6,8 +6,8 @@ ghost use Rattle.std.specs.List.{before_first, after_first};
 ghost use Rattle.std.specs.Str.{is_utf8};
 ghost use Rattle.std.specs.Option.{is_some};
 
-/// An iterator over the words of a line, which are separated by spaces and tabs. It holds what stands behind the words
-/// that came.
+/// An iterator over the words of a line, which are separated by spaces and tabs. It holds what is behind the words that
+/// came.
 ///
 ///     Words(" 7\t -8 ")   "7", "-8"
 #[derive(Drop)]
@@ -44,7 +44,7 @@ impl<'a> Iterator for Words<'a> {
     }
 }
 
-// What stands before the first separator, and what stands after it.
+// What is before the first separator, and what is after it.
 fn cut_word(text: &str) -> (&str, &str)
     ensures word { result.0.now ≡ before_first separates text.now }
     ensures rest { result.1.now ≡ after_first separates text.now }
@@ -55,7 +55,7 @@ fn cut_word(text: &str) -> (&str, &str)
     }
 }
 
-// Where the first separator of words stands.
+// Where the first separator of words is.
 fn separator(text: &str) -> Option<usize>
     ensures first { result ≡ position separates text.now }
     ensures ascii { IfSome result

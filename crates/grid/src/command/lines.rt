@@ -1,6 +1,6 @@
 //! Commands on lines: an edit of rows, and an edit of columns as that of rows between two transposes.
 //!
-//! A refusal is decided before memory is asked for.
+//! A refusal is decided before anything is allocated.
 ghost use Rattle.std.specs.Prelude.{◌≡◌, ◌<◌, IfOk};
 ghost use Rattle.grid_base.specs.Table.{row, row_count};
 ghost use Rattle.grid_base.specs.Gather.{items_of_each};

@@ -8,15 +8,15 @@ use grid_base::Tally;
 use grid_commands::{Command, Reply, RunStopped};
 use std::alloc::Allocator;
 
-/// Does a list of commands in turn, each as [`Grid::step`] does it, and returns their replies.
+/// Executes a list of commands in turn, each as [`Grid::step`] does it, and returns their replies.
 ///
 ///     [[1, 2]]   run([Apply(FlipCols), PushRow([3, 4]), Size])   [Done, Done, Size(2, 2)]   [[2, 1], [3, 4]]
 ///
 /// The list of replies is reserved before the first command.
 ///
-/// Fails: where memory is refused, at a command that takes memory, or before the first command of a list that isn't
-/// empty. The grid has the rows after the commands that were done, and their replies come with the error; the commands
-/// that remain are dropped.
+/// Fails: if allocation fails, at a command that takes memory, or before the first command of a list that isn't empty.
+/// The grid has the rows after the commands that were done, and their replies come with the error; the commands that
+/// remain are dropped.
 /// Cost: that of the commands.
 pub fn run<T, A: Allocator>(
     alloc: A,

@@ -109,7 +109,7 @@ where
 }
 
 impl<T, A: Allocator> Grid<T, A> {
-    /// Does a command, and returns its reply.
+    /// Executes a command, and returns its reply.
     ///
     ///     [[1, 2]]   step(PushRow([3, 4]))   Done                [[1, 2], [3, 4]]
     ///     [[1, 2]]   step(PushRow([3]))      Refused(Length)     [[1, 2]]
@@ -117,7 +117,7 @@ impl<T, A: Allocator> Grid<T, A> {
     /// Adds the swaps of a symmetry to the symmetry count of the tally, and the cells that an expand, a prepend or a
     /// delete moves to the shift count.
     ///
-    /// Fails: where memory is refused; this comes only at a command that takes memory. The grid and the tally are
+    /// Fails: if allocation fails; this comes only at a command that takes memory. The grid and the tally are
     /// unchanged, and the command is dropped.
     /// Cost: that of the call of the same name; a command on columns is that on rows between two transposes.
     #[tactic(auto, unfolding(crate::specs::Step::step_rows, crate::specs::Step::step_reply))]

@@ -52,8 +52,8 @@ impl<T, A: Allocator> Grid<T, A> {
     /// An empty grid changes nothing and takes no memory. Where this grid is empty, the rows become its rows.
     ///
     /// Requires: both have the same number of columns, or one is empty.
-    /// Fails: `TooLarge` where the cells would pass `usize::MAX`, else `Memory`, before the first change of this grid. The
-    /// other comes back, and both are unchanged.
+    /// Fails: `TooLarge` where the cells would exceed `usize::MAX`, else `Memory`, before the first change of this
+    /// grid. The other comes back, and both are unchanged.
     /// Cost: row-major, time in the cells of the other, not counting a reallocation; column-major, time in the number of
     /// cells times log2(columns) + 1 at most. Where the orders differ, that of [`lay_out`](Grid::lay_out) of the other is
     /// added, twice where it is refused.

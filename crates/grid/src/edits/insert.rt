@@ -12,7 +12,7 @@ use grid_base::{Flat, Order};
 use grid_commands::first_len;
 use std::alloc::Allocator;
 
-// Puts the rows that stand behind the cells of a table, `count` of them in storage order, before its row `at`.
+// Puts the rows that are behind the cells of a table, `count` of them in storage order, before its row `at`.
 pub(super) fn weave_rows<T, A: Allocator>(
     flat: &mut Flat<T, A>,
     order: Order,
@@ -49,7 +49,7 @@ impl<T, A: Allocator> Grid<T, A> {
     ///     [[1, 2], [3, 4]]   push_row([5, 6])   [[1, 2], [3, 4], [5, 6]]
     ///
     /// Requires: the line is not empty, and as long as the grid has columns; into an empty grid any length fits.
-    /// Fails: `TooLarge` where the cells would pass `usize::MAX`, else `Memory`. The line comes back, and the grid is
+    /// Fails: `TooLarge` where the cells would exceed `usize::MAX`, else `Memory`. The line comes back, and the grid is
     /// unchanged.
     /// Cost: row-major, time in the length of the line, not counting a reallocation; column-major, as
     /// [`insert_row`](Grid::insert_row).
@@ -70,7 +70,7 @@ impl<T, A: Allocator> Grid<T, A> {
     ///     [[1, 2], [3, 4]]   push_col([5, 6])   [[1, 2, 5], [3, 4, 6]]
     ///
     /// Requires: the line is not empty, and as long as the grid has rows; into an empty grid any length fits.
-    /// Fails: `TooLarge` where the cells would pass `usize::MAX`, else `Memory`. The line comes back, and the grid is
+    /// Fails: `TooLarge` where the cells would exceed `usize::MAX`, else `Memory`. The line comes back, and the grid is
     /// unchanged.
     /// Cost: column-major, time in the length of the line, not counting a reallocation; row-major, as
     /// [`insert_col`](Grid::insert_col).
@@ -94,7 +94,7 @@ impl<T, A: Allocator> Grid<T, A> {
     ///
     /// Requires: the line is not empty, and as long as the grid has columns; into an empty grid any length fits. `at`
     /// is at most the number of rows.
-    /// Fails: `TooLarge` where the cells would pass `usize::MAX`, else `Memory`. The line comes back, and the grid is
+    /// Fails: `TooLarge` where the cells would exceed `usize::MAX`, else `Memory`. The line comes back, and the grid is
     /// unchanged.
     /// Cost: row-major, time in the number of cells; column-major, that times log2(columns) + 1 at most.
     pub fn insert_row(&mut self, at: usize, line: Vec<T, A>) -> Result<(), LineRefused<T, A>>
@@ -134,7 +134,7 @@ impl<T, A: Allocator> Grid<T, A> {
     ///
     /// Requires: the line is not empty, and as long as the grid has rows; into an empty grid any length fits. `at` is
     /// at most the number of columns.
-    /// Fails: `TooLarge` where the cells would pass `usize::MAX`, else `Memory`. The line comes back, and the grid is
+    /// Fails: `TooLarge` where the cells would exceed `usize::MAX`, else `Memory`. The line comes back, and the grid is
     /// unchanged.
     /// Cost: column-major, time in the number of cells; row-major, that times log2(rows) + 1 at most.
     pub fn insert_col(&mut self, at: usize, line: Vec<T, A>) -> Result<(), LineRefused<T, A>>
@@ -162,7 +162,7 @@ impl<T, A: Allocator> Grid<T, A> {
     ///
     /// Requires: no line is empty, and each is as long as the grid has columns; into an empty grid all have one length.
     /// `at` is at most the number of rows.
-    /// Fails: `TooLarge` where the cells would pass `usize::MAX`, else `Memory`, before the first change. The lines
+    /// Fails: `TooLarge` where the cells would exceed `usize::MAX`, else `Memory`, before the first change. The lines
     /// come back, and the grid is unchanged.
     /// Cost: row-major, time in the number of cells; column-major, that times log2(columns) + 1 at most.
     pub fn insert_rows(
@@ -219,7 +219,7 @@ impl<T, A: Allocator> Grid<T, A> {
     ///
     /// Requires: no line is empty, and each is as long as the grid has rows; into an empty grid all have one length.
     /// `at` is at most the number of columns.
-    /// Fails: `TooLarge` where the cells would pass `usize::MAX`, else `Memory`, before the first change. The lines
+    /// Fails: `TooLarge` where the cells would exceed `usize::MAX`, else `Memory`, before the first change. The lines
     /// come back, and the grid is unchanged.
     /// Cost: column-major, time in the number of cells; row-major, that times log2(rows) + 1 at most.
     pub fn insert_cols(

@@ -42,7 +42,7 @@ impl<T, A: Allocator> Grid<T, A> {
     ///
     ///     [[1, 2]]   expand_rows(1)   [[1, 2], [0, 0]]
     ///
-    /// Fails: `TooLarge` where the cells would pass `usize::MAX`, else `Memory`; the grid is unchanged. On an empty
+    /// Fails: `TooLarge` where the cells would exceed `usize::MAX`, else `Memory`; the grid is unchanged. On an empty
     /// grid, or where `count` is 0, it takes no memory and never fails.
     /// Cost: row-major, time in the new cells, not counting a reallocation; column-major, time in all cells: each one
     /// is swapped once, but for those of the first column.
@@ -65,7 +65,7 @@ impl<T, A: Allocator> Grid<T, A> {
     ///
     ///     [[1], [2]]   expand_cols(2)   [[1, 0, 0], [2, 0, 0]]
     ///
-    /// Fails: `TooLarge` where the cells would pass `usize::MAX`, else `Memory`; the grid is unchanged. On an empty
+    /// Fails: `TooLarge` where the cells would exceed `usize::MAX`, else `Memory`; the grid is unchanged. On an empty
     /// grid, or where `count` is 0, it takes no memory and never fails.
     /// Cost: column-major, time in the new cells, not counting a reallocation; row-major, time in all cells: each one
     /// is swapped once, but for those of the first row.

@@ -36,7 +36,7 @@ impl<T, A: Allocator> Grid<T, A> {
     ///
     ///     [[1, 2], [3, 4]]   pop_row()   Some([3, 4])   [[1, 2]]
     ///
-    /// Fails: where memory for the line is refused; the grid is unchanged. `None` takes no memory.
+    /// Fails: if the allocation of the line fails; the grid is unchanged. `None` takes no memory.
     /// Cost: row-major, time in the length of the line; column-major, as [`remove_row`](Grid::remove_row).
     pub fn pop_row(&mut self) -> Result<Option<Vec<T, A>>, AllocError>
     where
@@ -60,7 +60,7 @@ impl<T, A: Allocator> Grid<T, A> {
     ///
     ///     [[1, 2], [3, 4]]   pop_col()   Some([2, 4])   [[1], [3]]
     ///
-    /// Fails: where memory for the line is refused; the grid is unchanged. `None` takes no memory.
+    /// Fails: if the allocation of the line fails; the grid is unchanged. `None` takes no memory.
     /// Cost: column-major, time in the length of the line; row-major, as [`remove_col`](Grid::remove_col).
     pub fn pop_col(&mut self) -> Result<Option<Vec<T, A>>, AllocError>
     where
@@ -87,7 +87,7 @@ impl<T, A: Allocator> Grid<T, A> {
     ///
     ///     [[1, 2], [3, 4]]   remove_row(0)   Some([1, 2])   [[3, 4]]
     ///
-    /// Fails: where memory for the line is refused; the grid is unchanged. `None` takes no memory.
+    /// Fails: if the allocation of the line fails; the grid is unchanged. `None` takes no memory.
     /// Cost: row-major, time in the number of cells; column-major, that times log2(columns) + 1 at most.
     pub fn remove_row(&mut self, at: usize) -> Result<Option<Vec<T, A>>, AllocError>
     where
@@ -111,7 +111,7 @@ impl<T, A: Allocator> Grid<T, A> {
     ///
     ///     [[1, 2], [3, 4]]   remove_col(0)   Some([1, 3])   [[2], [4]]
     ///
-    /// Fails: where memory for the line is refused; the grid is unchanged. `None` takes no memory.
+    /// Fails: if the allocation of the line fails; the grid is unchanged. `None` takes no memory.
     /// Cost: column-major, time in the number of cells; row-major, that times log2(rows) + 1 at most.
     pub fn remove_col(&mut self, at: usize) -> Result<Option<Vec<T, A>>, AllocError>
     where

@@ -16,7 +16,7 @@ impl<T, A: Allocator> Grid<T, A> {
     ///
     ///     [[1, 2], [3, 4]]   resize(3, 1)   [[1], [3], [0]]
     ///
-    /// Fails: `TooLarge` where `rows * cols` passes `usize::MAX`, else `Memory`, before the first change; the grid is
+    /// Fails: `TooLarge` where `rows * cols` exceeds `usize::MAX`, else `Memory`, before the first change; the grid is
     /// unchanged. Where neither number grows, and without rows or without columns, it takes no memory and never fails.
     /// Cost: where neither number grows, that of [`delete_rows`](Grid::delete_rows) and
     /// [`delete_cols`](Grid::delete_cols). Else one default for each cell, one swap for each cell that stays, and one

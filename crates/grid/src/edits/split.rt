@@ -13,7 +13,7 @@ impl<T, A: Allocator> Grid<T, A> {
     ///     [[1, 2], [3, 4], [5, 6]]   split_off_rows(1)   [[3, 4], [5, 6]]   [[1, 2]]
     ///
     /// Requires: `at` is at most the number of rows.
-    /// Fails: where memory for the cells is refused, which is asked for first; the grid is unchanged.
+    /// Fails: if the allocation of the cells, which comes first, fails; the grid is unchanged.
     /// Cost: row-major, time in the cells that are taken; column-major, time in the number of cells times
     /// log2(columns) + 1 at most.
     pub fn split_off_rows(&mut self, at: usize) -> Result<Grid<T, A>, AllocError>
@@ -43,7 +43,7 @@ impl<T, A: Allocator> Grid<T, A> {
     ///     [[1, 2, 3], [4, 5, 6]]   split_off_cols(1)   [[2, 3], [5, 6]]   [[1], [4]]
     ///
     /// Requires: `at` is at most the number of columns.
-    /// Fails: where memory for the cells is refused, which is asked for first; the grid is unchanged.
+    /// Fails: if the allocation of the cells, which comes first, fails; the grid is unchanged.
     /// Cost: column-major, time in the cells that are taken; row-major, time in the number of cells times log2(rows) + 1
     /// at most.
     pub fn split_off_cols(&mut self, at: usize) -> Result<Grid<T, A>, AllocError>

@@ -23,7 +23,7 @@ impl<T, A: Allocator> Grid<T, A> {
     ///
     ///     new(alloc, 2, 3)   [[0, 0, 0], [0, 0, 0]]
     ///
-    /// Fails: `TooLarge` where `rows * cols` passes `usize::MAX`, else `Memory`. Without rows or without columns it
+    /// Fails: `TooLarge` where `rows * cols` exceeds `usize::MAX`, else `Memory`. Without rows or without columns it
     /// takes no memory and never fails.
     /// Cost: one default for each cell; one allocation.
     pub fn new(alloc: A, rows: usize, cols: usize) -> Result<Grid<T, A>, GridError>
@@ -67,9 +67,9 @@ impl<T, A: Allocator> Grid<T, A> {
     ///
     ///     init(alloc, 2, 2, 7)   [[7, 7], [7, 7]]
     ///
-    /// Requires: clones of the cell type equal their source. Where they needn't, as of cells that hold a `String`, call
-    /// [`try_from_fn`](Grid::try_from_fn) with a closure that clones the value.
-    /// Fails: `TooLarge` where `rows * cols` passes `usize::MAX`, else `Memory`; the value is dropped. Without rows or
+    /// Requires: clones of the cell type equal their source. Where they needn't, as for cells that hold a `String`,
+    /// call [`try_from_fn`](Grid::try_from_fn) with a closure that clones the value.
+    /// Fails: `TooLarge` where `rows * cols` exceeds `usize::MAX`, else `Memory`; the value is dropped. Without rows or
     /// without columns it takes no memory and never fails.
     /// Cost: one clone for each cell but the last; one allocation, and those of the clones.
     pub fn init(alloc: A, rows: usize, cols: usize, value: T) -> Result<Grid<T, A>, GridError>
@@ -113,8 +113,8 @@ impl<T, A: Allocator> Grid<T, A> {
     ///
     ///     from_fn(alloc, 2, 3, |(row, col)| 10 * row + col)   [[0, 1, 2], [10, 11, 12]]
     ///
-    /// Requires: the closure can be called at each position, where `rows * cols` doesn't pass `usize::MAX`.
-    /// Fails: `TooLarge` where `rows * cols` passes `usize::MAX`, else `Memory`; the closure wasn't called. Without
+    /// Requires: the closure can be called at each position, where `rows * cols` doesn't exceed `usize::MAX`.
+    /// Fails: `TooLarge` where `rows * cols` exceeds `usize::MAX`, else `Memory`; the closure wasn't called. Without
     /// rows or without columns it takes no memory and never fails.
     /// Cost: one call for each cell; one allocation, before the first call.
     pub fn from_fn<F: Fn((usize, usize)) -> T>(
@@ -159,8 +159,8 @@ impl<T, A: Allocator> Grid<T, A> {
         })
     }
 
-    /// Same as [`from_fn`](Grid::from_fn) of a closure that may fail. `Ok(Err(error))` is its first error, in storage order;
-    /// the cells that were made are dropped. `??` passes on either error.
+    /// Same as [`from_fn`](Grid::from_fn) with a closure that may fail. `Ok(Err(error))` is its first error, in storage
+    /// order; the cells that were made are dropped. `??` propagates either error.
     ///
     ///     try_from_fn(alloc, 2, 3, |(row, col)| Ok(10 * row + col))   Ok(Ok([[0, 1, 2], [10, 11, 12]]))
     ///
@@ -224,7 +224,7 @@ impl<T, A: Allocator> Grid<T, A> {
 
     /// Returns an empty row-major grid with room for this many rows and columns.
     ///
-    /// Fails: `TooLarge` where `rows * cols` passes `usize::MAX`, else `Memory`. Without rows or without columns it
+    /// Fails: `TooLarge` where `rows * cols` exceeds `usize::MAX`, else `Memory`. Without rows or without columns it
     /// takes no memory and never fails.
     /// Cost: one allocation.
     pub fn with_capacity(alloc: A, rows: usize, cols: usize) -> Result<Grid<T, A>, GridError>

@@ -21,7 +21,7 @@ impl<T, A: Allocator> Flat<T, A> {
     ///
     /// Requires: there are rows exactly if there are columns, a vector can hold their cells, and the closure can be
     /// called at each position.
-    /// Fails: where memory is refused; the closure wasn't called.
+    /// Fails: if allocation fails; the closure wasn't called.
     /// Cost: one call for each cell; one allocation, before the first call.
     pub fn from_fn<F: Fn((usize, usize)) -> T>(
         alloc: A,
@@ -44,11 +44,11 @@ impl<T, A: Allocator> Flat<T, A> {
         Ok(Flat { cells })
     }
 
-    /// Same as [`from_fn`](Flat::from_fn) of a closure that may fail: its first error comes back, and the cells that were
-    /// made are dropped.
+    /// Same as [`from_fn`](Flat::from_fn) with a closure that may fail: its first error comes back, and the cells that
+    /// were made are dropped.
     ///
     /// Requires: as `from_fn`.
-    /// Fails: where memory is refused; the closure wasn't called.
+    /// Fails: if allocation fails; the closure wasn't called.
     /// Cost: one call for each cell, up to the first error; one allocation, before the first call.
     pub fn try_from_fn<E, F: Fn((usize, usize)) -> Result<T, E>>(
         alloc: A,
@@ -83,8 +83,8 @@ impl<T, A: Allocator> Flat<T, A> {
     /// closure that returns the value does the same, takes no memory and can't fail.
     ///
     /// Requires: clones of the cell type equal their source.
-    /// Fails: where memory is refused; the cells are unchanged, and the value is dropped. Without cells it takes no
-    /// memory and never fails.
+    /// Fails: if allocation fails; the cells are unchanged, and the value is dropped. Without cells it takes no memory
+    /// and never fails.
     /// Cost: one clone for each cell but the last, all of them before the first change; one allocation, of a second
     /// vector.
     pub fn fill(&mut self, value: T) -> Result<(), AllocError>
@@ -126,7 +126,7 @@ impl<T, A: Allocator> Flat<T, A> {
     /// Returns what the closure returns at each cell, in order.
     ///
     /// Requires: the closure can be called at each cell, in turn.
-    /// Fails: where memory is refused; these cells come back, and the closure wasn't called.
+    /// Fails: if allocation fails; these cells come back, and the closure wasn't called.
     /// Cost: one call for each cell; one allocation.
     pub fn map<U, F: FnMut(T) -> U>(self, mut f: F) -> Result<Flat<U, A>, Flat<T, A>>
     where
@@ -155,7 +155,7 @@ impl<T, A: Allocator> Flat<T, A> {
     /// Returns what the closure returns at a reference to each cell, in order.
     ///
     /// Requires: the closure can be called at a reference to each cell.
-    /// Fails: where memory is refused; the closure wasn't called.
+    /// Fails: if allocation fails; the closure wasn't called.
     /// Cost: one call for each cell; one allocation, before the first call.
     pub fn map_ref<U, F: Fn(&T) -> U>(&self, f: F) -> Result<Flat<U, A>, AllocError>
     where
@@ -177,7 +177,7 @@ impl<T, A: Allocator> Flat<T, A> {
     ///
     /// Requires: the vector has `rows * cols` cells, there are rows exactly if there are columns, and the closure can be
     /// called at each position and its cell.
-    /// Fails: where memory is refused; the closure wasn't called.
+    /// Fails: if allocation fails; the closure wasn't called.
     /// Cost: one call for each cell; one allocation, before the first call.
     pub fn map_indexed<U, F: Fn((usize, usize), &T) -> U>(
         &self,

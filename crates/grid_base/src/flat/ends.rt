@@ -15,7 +15,7 @@ impl<T, A: Allocator> Flat<T, A> {
 
     /// Moves the cells of `line` to the end.
     ///
-    /// Fails: where memory is refused; both vectors are unchanged.
+    /// Fails: if allocation fails; both vectors are unchanged.
     pub fn append(&mut self, line: &mut Vec<T, A>) -> Result<(), AllocError>
         ensures ok { OnOk result (self.new ≡ self.old ++ line.old.items) }
         ensures moved { OnOk result (line.new.items ≡ []) }
@@ -27,7 +27,7 @@ impl<T, A: Allocator> Flat<T, A> {
 
     /// Puts `count` default cells at the end.
     ///
-    /// Fails: where memory is refused, which is asked for first; the cells are unchanged.
+    /// Fails: if the allocation, which comes first, fails; the cells are unchanged.
     pub fn append_defaults(&mut self, count: usize) -> Result<(), AllocError>
     where
         T: Default,

@@ -15,8 +15,7 @@ impl<T, A: Allocator> Flat<T, A> {
     ///     [0]   append_rows(ColumnMajor, 2, [[1, 2], [3, 4]])   [0, 1, 3, 2, 4]
     ///
     /// Requires: no row is empty, all have this length, and they have fewer than 2^64 cells.
-    /// Fails: where memory for all of them is refused, which is asked for first; this vector and the rows are
-    /// unchanged.
+    /// Fails: if the allocation for all of them, which comes first, fails; this vector and the rows are unchanged.
     pub fn append_rows(
         &mut self,
         order: Order,

@@ -1,4 +1,4 @@
-//! Groups of cells that stand among the lines of a vector, and how they are put there or taken out.
+//! Groups of cells that are among the lines of a vector, and how they are put there or taken out.
 //!
 //! All four calls see the cells as lines, here 2 of 3 cells, and each line's group, here 2 cells before place 1:
 //!
@@ -6,9 +6,9 @@
 //!     groups in the lines       [a 1 2 b c | d 3 4 e f]
 //!
 //! `weave` brings the cells from the first form to the second. `take_out` takes the groups from the second form, and
-//! leaves the lines. Both keep the order of the groups, and no tally counts their moves. `open` goes the first way by
-//! counted swaps, which keep the order of the lines but not of the cells behind them. `close_up` goes the second way by
-//! counted swaps, and drops the groups.
+//! leaves the lines. Both keep the order of the groups, and no tally counts their moves. `open` goes from the first
+//! form to the second by counted swaps, which keep the order of the lines but not of the cells behind them. `close_up`
+//! takes the groups from the second form by counted swaps, and drops them.
 ghost use Rattle.std.specs.Prelude.{◌≡◌, ◌+◌, ◌-◌, ◌*◌, ◌^◌, ◌<◌, ◌≤◌, ◌⊎◌, length, IfOk, IsFalse, IsTrue, OnErr};
 ghost use Rattle.grid_base.specs.Groups.{Widened, Woven, Opened, Closed, TakenOut};
 ghost use Rattle.grid_base.specs.Tally.{saturating_count};
@@ -55,7 +55,7 @@ impl Groups {
 }
 
 impl<T, A: Allocator> Flat<T, A> {
-    /// Puts the groups that stand behind the lines into their lines.
+    /// Puts the groups that are behind the lines into their lines.
     ///
     ///     [1, 2, 3, 4, 5, 6]   weave(1 line of 4, 2 cells before place 2)    [1, 2, 5, 6, 3, 4]
     ///     [1, 3, 2, 4, 5, 6]   weave(2 lines of 2, 1 cell before place 1)   [1, 5, 3, 2, 6, 4]
@@ -76,7 +76,7 @@ impl<T, A: Allocator> Flat<T, A> {
     ///     [1, 5, 3, 2, 6, 4]   take_out(2 lines of 2, 1 cell before place 1)   [5, 6], and [1, 3, 2, 4] stay
     ///
     /// Requires: the vector has the cells of these lines and groups.
-    /// Fails: where memory for the groups is refused, which is asked for first; the cells are unchanged.
+    /// Fails: if the allocation for the groups, which comes first, fails; the cells are unchanged.
     /// Cost: that of [`weave`](Flat::weave).
     pub fn take_out(&mut self, groups: Groups) -> Result<Vec<T, A>, AllocError>
     where
@@ -106,7 +106,7 @@ impl<T, A: Allocator> Flat<T, A> {
         }
     }
 
-    /// Spreads the lines that stand first, so that each has room for its group. What stood behind the lines comes to the
+    /// Spreads the lines that come first, so that each has room for its group. What was behind the lines comes to the
     /// room, in any order.
     ///
     ///     [1, 3, 2, 4, 0, 0]   open(2 lines of 2, 1 cell before place 1)   [1, 0, 3, 2, 0, 4]
@@ -161,8 +161,8 @@ impl<T, A: Allocator> Flat<T, A> {
     }
 }
 
-// Whether groups that stand behind their lines have to move to stand in them. Where the lines have no cells, or the group
-// of a single line is at its end, they stand there.
+// Whether groups that are behind their lines have to move to be in them. Where the lines have no cells, or the group of
+// a single line is at its end, they are there.
 fn moves_groups(groups: Groups) -> bool
     ensures { IsFalse result
         → (groups.width ≡ 0) ⊎ ((groups.lines ≤ 1) × (groups.at ≡ groups.width)) }
@@ -209,7 +209,7 @@ fn move_singly<T>(cells: &[T], groups: Groups) -> bool
     groups.count == 1 && groups.lines <= FEW_SINGLE_CELLS && are_few(cells, cells.len())
 }
 
-// The groups are single cells. Each comes to its place, the first first, past all cells that stand there and behind.
+// The groups are single cells. Each comes to its place, the first first, past all cells that are there and behind.
 fn weave_singly<T>(cells: &mut [T], groups: Groups)
     requires single { groups.count ≡ 1 }
     requires cells { length cells.old ≡ groups.lines * (groups.width + groups.count) }
@@ -222,7 +222,7 @@ fn weave_singly<T>(cells: &mut [T], groups: Groups)
     }
 }
 
-// The groups are single cells. Each goes behind the lines, the last first, past all cells that stand there.
+// The groups are single cells. Each goes behind the lines, the last first, past all cells that are there.
 fn unweave_singly<T>(cells: &mut [T], groups: Groups)
     requires single { groups.count ≡ 1 }
     requires cells { length cells.old ≡ groups.lines * (groups.width + groups.count) }
@@ -252,8 +252,8 @@ fn weave_in_turn<T>(cells: &mut [T], groups: Groups)
     }
 }
 
-// Each half is unwoven; then the lines of the second half come before the groups of the first. The other three ways are
-// those of `weave_cells`.
+// Each half is unwoven; then the lines of the second half come before the groups of the first. The other three cases
+// are those of `weave_cells`.
 pub(super) fn unweave_cells<T>(cells: &mut [T], groups: Groups)
     requires { length cells.old ≡ groups.lines * (groups.width + groups.count) }
     ensures { Woven groups.lines groups.width groups.at groups.count cells.new cells.old }

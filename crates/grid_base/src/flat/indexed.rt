@@ -125,7 +125,7 @@ impl<'a, T> ExactSizeIterator for IndexedIter<'a, T> {
     }
 }
 
-// Returns an iterator that stands at the same cell.
+// Returns an iterator over the same remaining cells.
 impl<'a, T> Clone for IndexedIter<'a, T> {
     ghost is_clone = { λ it copy. copy ≡ it };
 

@@ -32,7 +32,7 @@ pub struct GridLineIter<'a, T> {
     cells: Cells<'a, T>,
 }
 
-// The cells that are left. Where they stand together, a loop over them is as fast as one over a slice.
+// The cells that are left. Where they are side by side, a loop over them is as fast as one over a slice.
 #[derive(Drop)]
 enum Cells<'a, T> {
     Together(slice::Iter<'a, T>),
@@ -71,7 +71,7 @@ impl<'a, T> GridLineIter<'a, T> {
         GridLineIter { cells }
     }
 
-    /// Passes over `n` cells and returns the next, or `None` if fewer remain.
+    /// Skips `n` cells and returns the next, or `None` if fewer remain.
     ///
     /// Cost: the same time at every `n`.
     pub fn nth(&mut self, n: usize) -> Option<&'a T>
@@ -133,7 +133,7 @@ impl<'a, T> ExactSizeIterator for GridLineIter<'a, T> {
 
 impl<'a, T> FusedIterator for GridLineIter<'a, T> {}
 
-/// Returns an iterator that stands at the same cells.
+/// Returns an iterator over the same remaining cells.
 ///
 /// Cost: constant; it is always `Ok`, and takes no memory.
 impl<'a, T> Clone for GridLineIter<'a, T> {

@@ -80,8 +80,8 @@ impl Positions {
         }
     }
 
-    // Passes the next position, without a test whether there is one. A loop that asks no more than this is vectorised
-    // where nothing looks at the position.
+    // Advances past the next position, without a test whether there is one. A loop that asks no more than this is
+    // vectorised where nothing looks at the position.
     pub(super) fn pass(&mut self) -> (usize, usize)
         requires { 0 < length self.old }
         ensures { self.old ≡ result ∷ self.new }

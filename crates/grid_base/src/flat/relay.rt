@@ -8,7 +8,7 @@ use super::{Flat, Groups};
 use std::alloc::Allocator;
 
 impl<T, A: Allocator> Flat<T, A> {
-    /// Makes `lines` lines of `width` cells `width` lines of `lines` cells: each line holds the cells that stood at one
+    /// Makes `lines` lines of `width` cells `width` lines of `lines` cells: each line holds the cells that were at one
     /// place of the lines before.
     ///
     ///     [1, 2, 3, 4, 5, 6]   relay(2, 3)   [1, 4, 2, 5, 3, 6]
@@ -35,8 +35,8 @@ fn first_part(lines: usize, width: usize) -> usize
     if lines / 2 < width { width } else { lines / 2 }
 }
 
-// A square is transposed. Of more lines, the first part and the rest are laid out anew, and then the lines of the rest go
-// behind those of the first part. Fewer lines go the other way.
+// A square is transposed. Of more lines, the first part and the rest are laid out anew, and then the lines of the rest
+// go behind those of the first part. Fewer lines are laid out by the reverse steps.
 fn relay_cells<T>(cells: &mut [T], lines: usize, width: usize)
     requires cells { length cells.old ≡ lines * width }
     requires fits { lines * width < 2 ^ 64 }

@@ -1,4 +1,4 @@
-//! Parts of a slice that are reversed, and blocks that stand side by side and change places. No tally counts it.
+//! Parts of a slice that are reversed, and blocks that are side by side and change places. No tally counts it.
 ghost use Rattle.std.specs.Prelude.{◌≡◌, ◌<◌, ◌≤◌, ◌+◌, ◌^◌, ◌++◌, length, take, drop, reverse};
 ghost use Rattle.grid_base.specs.Blocks.{BlocksExchanged, BlockTaken, PartReversed};
 
@@ -7,8 +7,8 @@ use std::mem;
 // Fewer cells are moved one by one, since a call out of line would cost more.
 const SHORT_PART: usize = 16;
 
-// `rotate_left` and `with_room` clear 4096 bytes on the stack first: a rotation takes 48 ns at least, three reversals 12.
-// At about so many bytes both take 64 to 75 ns, at cells of 8 bytes and of one.
+// `rotate_left` and `with_room` clear 4096 bytes on the stack first: a rotation takes 48 ns at least, three reversals
+// 12. At about this many bytes both take 64 to 75 ns, at cells of 8 bytes and of one.
 const FEW_BYTES: usize = 1024;
 
 // Reverses the `n` cells from `start` on.
@@ -61,7 +61,7 @@ pub(super) fn exchange_blocks<T>(cells: &mut [T], start: usize, first: usize, se
     }
 }
 
-// Whether so many of the cells are moved faster without a room on the stack.
+// Whether `n` of the cells are moved faster without a room on the stack.
 pub(super) fn are_few<T>(cells: &[T], n: usize) -> bool
     requires { n ≤ length cells.now }
 {

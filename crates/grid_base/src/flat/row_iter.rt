@@ -163,7 +163,7 @@ impl<'a, T> ExactSizeIterator for GridRowIter<'a, T> {
 
 impl<'a, T> FusedIterator for GridRowIter<'a, T> {}
 
-/// Returns an iterator that stands at the same rows.
+/// Returns an iterator over the same remaining rows.
 ///
 /// Cost: constant; it is always `Ok`, and takes no memory.
 impl<'a, T> Clone for GridRowIter<'a, T> {

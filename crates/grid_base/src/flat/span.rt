@@ -1,4 +1,4 @@
-//! Where the cells of a row stand in the storage of a table: a start, an end, a stride, and their number.
+//! Where the cells of a row are in the storage of a table: a start, an end, a stride, and their number.
 ghost use Rattle.std.specs.Prelude.{◌+◌, ◌*◌, ◌^◌, ◌<◌};
 ghost use Rattle.grid_base.specs.Order.{place};
 ghost use Rattle.grid_base.specs.Span.{IsSpan};
@@ -14,7 +14,7 @@ pub(super) struct Span {
     pub(super) count: usize,
 }
 
-// Returns where the cells of row `r` stand.
+// Returns where the cells of row `r` are.
 pub(super) fn row_span(order: Order, rows: usize, cols: usize, r: usize) -> Span
     requires fits { rows * cols < 2 ^ 64 }
     requires row_in { r < rows }
@@ -27,7 +27,7 @@ pub(super) fn row_span(order: Order, rows: usize, cols: usize, r: usize) -> Span
     }
 }
 
-// Returns where line `i` stands, of `lines` lines of `len` cells that stand one after another.
+// Returns where line `i` is, of `lines` lines of `len` cells, one after another.
 #[tactic(auto, using(crate::proofs::SpanLemmas::together_is))]
 fn together(lines: usize, len: usize, i: usize) -> Span
     requires fits { lines * len < 2 ^ 64 }
@@ -43,7 +43,7 @@ fn together(lines: usize, len: usize, i: usize) -> Span
     }
 }
 
-// Returns where cell `i` of each line stands, of `lines` lines of `len` cells that stand one after another.
+// Returns where cell `i` of each line is, of `lines` lines of `len` cells, one after another.
 #[tactic(auto, using(crate::proofs::SpanLemmas::across_is))]
 fn across(lines: usize, len: usize, i: usize) -> Span
     requires fits { lines * len < 2 ^ 64 }

@@ -3,8 +3,8 @@
 ghost use Rattle.std.specs.Prelude.{◌≡◌, ◌+◌, ◌*◌, ◌^◌, ◌<◌, ◌≤◌, length};
 ghost use Rattle.grid_base.specs.Relaid.{Relaid, Mirrored, Transposed};
 
-// A part of at most so many rows and columns is swapped cell by cell. A line of a board of 4096 by 4096 is as long as a
-// page, so the lines of a larger part drive each other out of the cache.
+// A part of at most this many rows and columns is swapped cell by cell. A line of a board of 4096 by 4096 is as long as
+// a page, so the lines of a larger part drive each other out of the cache.
 const SMALL: usize = 8;
 
 // Transposes `side` lines of `side` cells.

@@ -1,4 +1,4 @@
-//! An iterator over the cells of a slice that stand a stride apart.
+//! An iterator over the cells of a slice that are a stride apart.
 ghost use Rattle.std.specs.Prelude.{◌≡◌, ◌-◌, ◌<◌, ◌≤◌, ⊤, length, drop};
 ghost use Rattle.std.specs.Int.{div_ceil};
 ghost use Rattle.std.specs.Iterator.{YieldsFirstRef, YieldsLastRef, item_count};
@@ -8,7 +8,7 @@ use std::alloc::AllocError;
 use std::marker::Model;
 use std::ops::Range;
 
-// An iterator over the cells of a slice that stand a stride apart, from both ends.
+// An iterator over the cells of a slice that are a stride apart, from both ends.
 #[derive(Drop)]
 pub(super) struct StridedIter<'a, T> {
     // From the first cell on.
@@ -43,7 +43,7 @@ impl<'a, T> StridedIter<'a, T> {
         }
     }
 
-    // Passes over `n` of the cells that are left.
+    // Skips `n` of the cells that are left.
     pub(super) fn pass(&mut self, n: usize)
         requires { n ≤ length self.old }
         ensures { self.new ≡ drop n self.old }
@@ -80,7 +80,7 @@ impl<'a, T> ExactSizeIterator for StridedIter<'a, T> {
     }
 }
 
-// Returns an iterator that stands at the same cells.
+// Returns an iterator over the same remaining cells.
 impl<'a, T> Clone for StridedIter<'a, T> {
     ghost is_clone = { λ it copy. copy ≡ it };
 

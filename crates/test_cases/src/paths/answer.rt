@@ -1,4 +1,4 @@
-//! What the calls answer, as text.
+//! What the calls return, as text.
 use grid::Grid;
 use grid_paths::{
     Enter, Steps, cheapest, distances, distances_from, fill_region, flood, regions, shortest_path,
@@ -108,7 +108,7 @@ fn flooded_text<A: Allocator + Clone>(
     format!(in alloc; "{count}\n{text}")
 }
 
-/// What a call answers.
+/// What a call returns.
 pub fn answer<A: Allocator + Clone>(
     alloc: Global,
     map: &mut Grid<char, A>,

@@ -125,7 +125,7 @@ fn without_cols<T: Copy>(
     Ok(left)
 }
 
-// A table without so many columns from one on, or with all of them where there are not so many.
+// A table without `count` columns from one on, or with all of them where there are fewer.
 pub(crate) fn delete_cols<T: Copy>(
     alloc: Global,
     table: &Vec<Vec<T>>,
@@ -143,7 +143,7 @@ pub(crate) fn delete_cols<T: Copy>(
     }
 }
 
-// A table with so many defaults at the end of each row.
+// A table with `count` defaults at the end of each row.
 pub(crate) fn expand_cols<T: Copy>(
     alloc: Global,
     default: T,
@@ -162,7 +162,7 @@ pub(crate) fn expand_cols<T: Copy>(
     Ok(padded)
 }
 
-// A table with so many defaults at the beginning of each row.
+// A table with `count` defaults at the beginning of each row.
 pub(crate) fn prepend_cols<T: Copy>(
     alloc: Global,
     default: T,

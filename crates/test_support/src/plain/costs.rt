@@ -11,14 +11,14 @@ ghost use Rattle.grid.specs.Shift.{rows_added_shift, delete_rows_shift};
 use crate::plain::refusals::pad_refusal;
 use grid::{Command, Order, Symmetry};
 
-// The cells of so many lines of this width.
+// The number of cells of `lines` lines of this width.
 fn cells_of(lines: usize, width: usize) -> u128
     ensures { result ≡ lines * width }
 {
     lines as u128 * width as u128
 }
 
-/// Returns how many swaps a symmetry costs at a table of so many rows and columns.
+/// Returns how many swaps a symmetry costs at a table of `rows` rows and `cols` columns.
 ///
 ///     FlipCols     at 2 rows, 3 columns   2
 ///     RotateHalf   at 3 rows, 3 columns   4
@@ -72,7 +72,7 @@ fn delete_shift(order: Order, rows: usize, cols: usize, start: usize, count: usi
     }
 }
 
-/// Returns how many cells stay at a command and change their place in the storage, at a table of so many rows and
+/// Returns how many cells stay at a command and change their place in the storage, at a table of `rows` rows and `cols`
 /// columns in an order.
 ///
 ///     row-major      PrependRows(1)   at 2 rows, 3 columns   6

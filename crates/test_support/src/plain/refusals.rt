@@ -7,7 +7,7 @@ ghost use Rattle.grid_commands.specs.Refusal.{exceeds, in_range, fitting_width, 
 
 use grid::{Command, Refusal};
 
-// Whether so many lines of this width, and more of them, have more cells than a grid can have.
+// Whether `count + more` lines of `width` cells exceed `usize::MAX`.
 fn exceeds(count: usize, more: usize, width: usize) -> bool
     ensures { result ≡ exceeds ((count + more) * width) }
 {
@@ -44,7 +44,7 @@ fn fitting_width<T>(count: usize, width: usize, lines: &[Vec<T>]) -> usize
     }
 }
 
-// Why lines can't be put before one of so many lines of this width.
+// Why lines can't be put before one of `count` lines of `width` cells.
 fn lines_refusal<T>(count: usize, width: usize, at: usize, lines: &[Vec<T>]) -> Option<Refusal>
     ensures { result ≡ lines_refusal count width at (items_of_each lines.now) }
 {
@@ -62,7 +62,7 @@ fn lines_refusal<T>(count: usize, width: usize, at: usize, lines: &[Vec<T>]) -> 
     }
 }
 
-// Why a line can't be put before one of so many lines of this width.
+// Why a line can't be put before one of `count` lines of `width` cells.
 fn line_refusal<T>(count: usize, width: usize, at: usize, line: &[T]) -> Option<Refusal>
     ensures { result ≡ lines_refusal count width at (line.now ∷ []) }
 {
@@ -79,7 +79,7 @@ fn line_refusal<T>(count: usize, width: usize, at: usize, line: &[T]) -> Option<
     }
 }
 
-// Why so many lines of this width can't be padded by `more` of them.
+// Why `count` lines of `width` cells can't be padded by `more` of them.
 pub(crate) fn pad_refusal(count: usize, width: usize, more: usize) -> Option<Refusal>
     ensures { result ≡ pad_refusal count width more }
 {
@@ -101,7 +101,7 @@ fn place_refusal(place: (usize, usize), rows: usize, cols: usize) -> Option<Refu
     }
 }
 
-/// Returns why a command is refused at a table of so many rows and columns, or `None` where it is not.
+/// Returns why a command is refused at a table of `rows` rows and `cols` columns, or `None` where it is not.
 ///
 ///     PushRow([])       at 1 row, 2 columns   Some(EmptyLine)
 ///     Set(1, 0, 5)      at 1 row, 2 columns   Some(Index)

@@ -9,7 +9,7 @@ ghost use Rattle.grid.specs.Step.{range_effect, after_effect};
 
 use std::alloc::{AllocError, Global};
 
-// The items before a place, or all of them where there are not so many.
+// The items before a place, or all of them where there are fewer.
 pub(crate) fn before<T>(items: &[T], at: usize) -> &[T]
     ensures { result.now ≡ take at items.now }
 {
@@ -31,7 +31,7 @@ pub(crate) fn from<T>(items: &[T], at: usize) -> &[T]
     }
 }
 
-// Whether a table has so many lines from one on.
+// Whether a table of `lines` lines has `count` lines from one on.
 pub(crate) fn has_lines(lines: usize, start: usize, count: usize) -> bool
     ensures { result ≡ not (nat_lt lines (start + count)) }
 {
@@ -41,7 +41,7 @@ pub(crate) fn has_lines(lines: usize, start: usize, count: usize) -> bool
     }
 }
 
-// A line of so many cells that are the default.
+// A line of `len` cells that are the default.
 pub(crate) fn blank_line<T: Copy>(
     alloc: Global,
     default: T,
@@ -162,7 +162,7 @@ fn without_rows<T: Copy>(
     Ok(left)
 }
 
-// A table without so many rows from one on, or with all of them where there are not so many.
+// A table without `count` rows from one on, or with all of them where there are fewer.
 pub(crate) fn delete_rows<T: Copy>(
     alloc: Global,
     table: &Vec<Vec<T>>,

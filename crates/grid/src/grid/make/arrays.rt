@@ -54,7 +54,7 @@ impl<T, A: Allocator> Grid<T, A> {
     ///     from_arrays(alloc, RowMajor, [[Some(1), Some(2)], [Some(3), Some(4)]])   [[1, 2], [3, 4]]
     ///
     /// Requires: every slot holds a cell.
-    /// Fails: `TooLarge` where `R * C` passes `usize::MAX`, else `Memory`; all slots are unchanged. Without rows or
+    /// Fails: `TooLarge` where `R * C` exceeds `usize::MAX`, else `Memory`; all slots are unchanged. Without rows or
     /// without columns it takes no memory and never fails.
     /// Cost: each cell is moved once; one allocation.
     pub fn from_arrays<const R: usize, const C: usize>(

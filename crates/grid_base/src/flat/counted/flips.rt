@@ -66,7 +66,7 @@ fn swap_blocks<T>(front: &mut [T], back: &mut [T], n: usize) -> Swaps
 }
 
 // Exchanges the first cell with the last, the second with the last but one, and so on, where the last `half` of these
-// cells stand at the start of the back part. Out of line for the same reason.
+// cells are at the start of the back part. Out of line for the same reason.
 #[inline(never)]
 #[tactic(auto, using(crate::proofs::PartLemmas::turning_none, crate::proofs::PartLemmas::turning_all))]
 fn swap_mirrored<T>(front: &mut [T], back: &mut [T], half: usize) -> Swaps

@@ -10,7 +10,7 @@ use std::mem;
 // Shorter blocks cost more to begin than vector code saves.
 const SHORT_BLOCK: usize = 8;
 
-// So many swaps at a distance of one or two are code without a loop.
+// At a distance of one or two this many swaps are code without a loop.
 const SWAPS_AT_ONCE: usize = 32;
 
 // At shorter distances nothing is gained by three blocks at once.
@@ -20,8 +20,8 @@ const LONG_SHIFT: usize = 16;
 const VECTOR: usize = 16;
 
 impl<T, A: Allocator> Flat<T, A> {
-    // Moves the `n` cells that stand `shift` places behind `start` there, the first first, by `n` swaps for a shift, which
-    // the run goes on with.
+    // Moves the `n` cells that are `shift` places behind `start` there, the first first, by `n` swaps for a shift,
+    // which the run goes on with.
     //
     //     [1, 2, 3, 4, 5]   move_forward(0, 2, 3)   [3, 4, 5, 2, 1]   3 swaps
     //
@@ -76,8 +76,8 @@ impl<T, A: Allocator> Flat<T, A> {
     }
 }
 
-// As `swap_forward`. The distance and how many swaps are done at once are numbers in the code, so that a cell goes from
-// swap to swap in a register, and the cells between are read and written as vectors.
+// As `swap_forward`. The distance and how many swaps are done at once are constants in the code, so that a cell goes
+// from swap to swap in a register, and the cells between are read and written as vectors.
 #[tactic(auto, using(crate::proofs::ShiftLemmas::forward_start, crate::proofs::ShiftLemmas::forward_swap))]
 fn swap_forward_by<const SHIFT: usize, T>(
     cells: &mut [T],
@@ -130,9 +130,9 @@ fn swap_forward<T>(cells: &mut [T], start: usize, shift: usize, n: usize, mut sw
     swap_forward_by_block(cells, start + done, shift, n - done, swaps)
 }
 
-// As `swap_forward` with `3 * shift` swaps: three blocks of `shift` cells come before the one at `start`. Each place takes
-// three swaps, one after another, so that a cell of the middle blocks is read and written once. Each place is reckoned
-// from the one before it, so that the compiler sees that they differ.
+// As `swap_forward` with `3 * shift` swaps: three blocks of `shift` cells come before the one at `start`. Each place
+// takes three swaps, one after another, so that a cell of the middle blocks is read and written once. Each place is
+// computed from the one before it, so that the compiler sees that they differ.
 #[inline(never)]
 #[tactic(auto, using(crate::proofs::ShiftLemmas::three_none, crate::proofs::ShiftLemmas::three_all))]
 fn swap_three_blocks<T>(cells: &mut [T], start: usize, shift: usize, mut swaps: Swaps) -> Swaps
@@ -213,7 +213,7 @@ fn swap_back<T>(cells: &mut [T], start: usize, shift: usize, n: usize, mut swaps
     swaps
 }
 
-// How many cells are swapped as one block: no more than come to places where none of them stands, so that the block is
+// How many cells are swapped as one block: no more than come to places where none of them is, so that the block is
 // vector code, and whole vectors where cells are bytes and it is longer than one.
 fn block_of(shift: usize, n: usize) -> usize
     requires moves { 0 < shift }

@@ -1,4 +1,4 @@
--- The names, and the first field that is no text.
+-- The names, and the first field that isn't text.
 use Rattle.std.proofs.lemmas.Result.{err_from_is_err_and}
 use Rattle.grid_csv.proofs.HeaderLemmas.{header_is, header_bad}
 use Rattle.grid_csv.proofs.read.header_of.Goals as goal

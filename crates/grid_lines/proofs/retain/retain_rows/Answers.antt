@@ -1,4 +1,4 @@
--- One row more: it is kept, where it stands or further in front, or it isn't.
+-- One row more: it is kept, where it is or further in front, or it isn't.
 use Rattle.std.proofs.Common.{◌≡◌, ◌<◌, ◌≤◌, [], ◌∷◌, ◌∙◌, length, take, get_or, arith, rules}
 use Rattle.std.proofs.lemmas.List.{get_or_default}
 use Rattle.grid_base.proofs.StrideLemmas.{lines_in_order}

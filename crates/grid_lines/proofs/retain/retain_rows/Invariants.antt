@@ -1,4 +1,4 @@
--- The rows that were kept stand in front, and those ahead are as they were.
+-- The rows that were kept are in front, and those ahead are as they were.
 use Rattle.std.proofs.Common.{◌≡◌}
 use Rattle.grid_lines.proofs.RetainLemmas.{Retaining}
 use Rattle.grid_lines.proofs.retain.retain_rows.Given as goal

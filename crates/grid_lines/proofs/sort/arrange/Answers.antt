@@ -1,4 +1,4 @@
--- One row more stands where it is wanted, and in the end all do.
+-- One row more is where it is wanted, and in the end all do.
 use Rattle.std.proofs.Common.{◌∙◌, [], refl, arith}
 use Rattle.grid_lines.proofs.PlacingLemmas.{numbering, placing_start, placing_more, placed_all, place_fits, row_fits, held_fits, standing_fits}
 use Rattle.grid_lines.proofs.sort.arrange.Goals as goal

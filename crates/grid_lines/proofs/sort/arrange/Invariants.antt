@@ -1,4 +1,4 @@
--- The rows before i stand as they are wanted.
+-- The rows before i are as they are wanted.
 use Rattle.std.proofs.Common.{◌≡◌, []}
 use Rattle.grid_base.specs.Table.{row_count, col_count}
 use Rattle.grid_lines.proofs.PlacingLemmas.{IsNumbering, Placing}

@@ -1,4 +1,4 @@
--- Each cell is that of the square in which it lies.
+-- Each cell is that of the square in which it is.
 use Rattle.std.proofs.Common.{◌≡◌, ◌*◌, ◌/◌, rules}
 use Rattle.grid_base.specs.Table.{row_count, col_count, cell, IsSize}
 use Rattle.grid_base.proofs.TableLemmas.{IsSize-table}

@@ -1,4 +1,4 @@
--- What stands before the row, and the cells so far.
+-- What is before the row, and the cells so far.
 use Rattle.std.proofs.Common.{[], codes, take}
 use Rattle.std.specs.Prelude.{Some, IfSome}
 use Rattle.std.specs.Fmt.{◌++?◌, HasWritten, IsPlainFormatter}

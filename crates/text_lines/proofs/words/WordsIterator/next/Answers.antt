@@ -1,4 +1,4 @@
--- What stands before the first separator is the first word, unless it is empty.
+-- What is before the first separator is the first word, unless it is empty.
 use Rattle.std.proofs.Common.{◌<◌, ◌∙◌, length, sym, arith, rules}
 use Rattle.text_lines.proofs.WordLemmas.{word_first, rest_is_shorter}
 use Rattle.text_lines.proofs.words.WordsIterator.next.Goals as goal
