@@ -57,3 +57,12 @@ module _ {X : Type 0} where
 
   pub part_past_most : (n k : ℕ) (xs ys : List X) → k ≡ min n (length xs) → ys ≡ xs → take (length ys - k) (drop k ys) ≡ drop n xs
   part_past_most n k xs ys ek e = take_all (length ys - k) (drop k ys) (omega (arith, length-drop k ys)) ∙ past_most n k xs ys ek e
+
+  -- what is left past n of the items that were left, or past all where fewer were
+  pub rows_passed : (first past n k : ℕ) (rows left : List X) → IsRemaining first past (length rows) → remaining first past rows ≡ left → k ≡ past - (length left - n) → remaining k past rows ≡ drop n left
+  rows_passed first past n k rows left h e ek =
+      let long : length left ≡ past - first = omega (arith, ap length e, length-left first past rows h) in
+      let m : k - first ≡ min n (length left) = omega (arith, h.ordered) in
+      let there : k ≡ first + (k - first) = omega (arith, h.ordered) in
+      ap (λ i. remaining i past rows) there
+      ∙ (remaining_past first past (k - first) rows (omega (arith, h.ordered)) ∙ past_most n (k - first) left (remaining first past rows) m e)

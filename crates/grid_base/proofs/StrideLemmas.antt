@@ -168,3 +168,12 @@ nth_found n xs mid rest None e h =
 nth_found n xs mid rest (Some x) e h =
     let l : x.now ∷ rest ≡ drop n xs = sym h ∙ e in
     (ap (λ l. slice_get l 0) l ∙ get-drop n xs n 0 (omega arith), ap (drop 1) l ∙ drop-drop 1 n xs)
+
+-- the same of an iterator by value, as one over rows
+pub nth_row_found : {X : Type 0} (n : ℕ) (xs mid rest : List X) (r : Option X) → mid ≡ drop n xs → YieldsFirst (λ (l : List X). l) mid r rest → (r ≡ slice_get xs n) × (rest ≡ drop (n + 1) xs)
+nth_row_found n xs mid rest None e h =
+    let l : [] ≡ drop n xs = sym h.0 ∙ e in
+    (ap (λ l. slice_get l 0) l ∙ get-drop n xs n 0 (omega arith), h.1 ∙ (ap (drop 1) l ∙ drop-drop 1 n xs))
+nth_row_found n xs mid rest (Some x) e h =
+    let l : x ∷ rest ≡ drop n xs = sym h ∙ e in
+    (ap (λ l. slice_get l 0) l ∙ get-drop n xs n 0 (omega arith), ap (drop 1) l ∙ drop-drop 1 n xs)

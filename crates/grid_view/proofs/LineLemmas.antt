@@ -61,24 +61,6 @@ module _ {T : Type 0} where
   nth_back_found n old new (Some x) h =
       nth_found n (reverse old) (reverse h.1.0) (reverse new) (Some x) (back_passed h.0 old h.1.0 h.1.1 ∙ ap (λ k. drop k (reverse old)) h.2) (backwards_first h.1.0 new (Some x) h.1.2)
 
-  -- what is left of a list's rows past n of them, or past all where fewer are left
-  pub rows_passed : (first past n k : ℕ) (rows left : List (List T)) → IsRemaining first past (length rows) → remaining first past rows ≡ left → k ≡ past - (length left - n) → remaining k past rows ≡ drop n left
-  rows_passed first past n k rows left h e ek =
-      let long : length left ≡ past - first = omega (arith, ap length e, length-left first past rows h) in
-      let m : k - first ≡ min n (length left) = omega (arith, h.ordered) in
-      let there : k ≡ first + (k - first) = omega (arith, h.ordered) in
-      ap (λ i. remaining i past rows) there
-      ∙ (remaining_past first past (k - first) rows (omega (arith, h.ordered)) ∙ past_most n (k - first) left (remaining first past rows) m e)
-
-  -- the first row after n others
-  pub nth_row_found : (n : ℕ) (xs mid rest : List (List T)) (r : Option (List T)) → mid ≡ drop n xs → YieldsFirst (λ (rest : List (List T)). rest) mid r rest → (r ≡ slice_get xs n) × (rest ≡ drop (n + 1) xs)
-  nth_row_found n xs mid rest None e h =
-      let l : [] ≡ drop n xs = sym h.0 ∙ e in
-      (ap (λ l. slice_get l 0) l ∙ get-drop n xs n 0 (omega arith), h.1 ∙ (ap (drop 1) l ∙ drop-drop 1 n xs))
-  nth_row_found n xs mid rest (Some x) e h =
-      let l : x ∷ rest ≡ drop n xs = sym h ∙ e in
-      (ap (λ l. slice_get l 0) l ∙ get-drop n xs n 0 (omega arith), ap (drop 1) l ∙ drop-drop 1 n xs)
-
   pub length-line_cells : (start count stride : ℕ) (cells : List T) → 0 < count → 0 < stride → start + (count - 1) * stride < length cells → length (line_cells start count stride cells) ≡ count
   length-line_cells start count stride cells some steps within =
       let end = start + (count - 1) * stride + 1 in

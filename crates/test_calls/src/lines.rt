@@ -23,7 +23,8 @@ fn add_line(
     }
 }
 
-// The lines that an iterator hands out at these ends, and how many are left each time.
+// The lines that an iterator hands out at these ends, or after as many others as a number says, and how many are left each
+// time.
 fn handed(
     alloc: Global,
     mut lines: GridRowIter<'_, i64>,
@@ -33,7 +34,8 @@ fn handed(
     for end in ends.split_whitespace() {
         let line = match end {
             "front" => lines.next(),
-            _ => lines.next_back(),
+            "back" => lines.next_back(),
+            skipped => lines.nth(skipped.parse::<usize>().unwrap_or(usize::MAX)),
         };
         add_line(alloc, &mut told, line, lines.len())?;
     }

@@ -11,6 +11,7 @@ use super::Flat;
 use super::positions::Positions;
 use crate::Order;
 use std::alloc::{AllocError, Allocator, Global};
+use std::iter::FusedIterator;
 use std::marker::Model;
 use std::{slice, vec};
 
@@ -124,6 +125,8 @@ impl<'a, T> ExactSizeIterator for IndexedIter<'a, T> {
         self.positions.len().min(self.cells.len())
     }
 }
+
+impl<'a, T> FusedIterator for IndexedIter<'a, T> {}
 
 // Returns an iterator over the same remaining cells.
 impl<'a, T> Clone for IndexedIter<'a, T> {

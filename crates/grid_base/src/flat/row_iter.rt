@@ -1,5 +1,5 @@
 //! An iterator over the rows of a table that a vector stores, and over one of them.
-ghost use Rattle.std.specs.Prelude.{◌≡◌, ◌<◌, ⊤, length, IfSome, Some};
+ghost use Rattle.std.specs.Prelude.{◌≡◌, ◌+◌, ◌<◌, ⊤, length, drop, slice_get, IfSome, Some};
 ghost use Rattle.std.specs.Borrow.{sem};
 ghost use Rattle.std.specs.Iterator.{YieldsFirst, YieldsLast, item_count, UpTo, at_most};
 ghost use Rattle.std.specs.Iterator.SizeHint.{IsWithinCount};
@@ -122,6 +122,22 @@ impl<'a, T> Model for GridRowIter<'a, T> {
 
     ghost invariant = { λ a. AreRowsLeft a.row_count a.col_count (length a.cells.now)
         a.ahead.start a.ahead.end };
+}
+
+impl<'a, T> GridRowIter<'a, T> {
+    /// Skips `n` rows and returns the next, or `None` if fewer remain.
+    ///
+    ///     [[1, 2], [3, 4], [5, 6]]   iter_rows(), then nth(1)   3, 4; and 5, 6 remains
+    ///
+    /// Cost: the same time at every `n`.
+    pub fn nth(&mut self, n: usize) -> Option<GridLineIter<'a, T>>
+        ensures item { result ≡ slice_get self.old n }
+        ensures rest { self.new ≡ drop (n + 1) self.old }
+    {
+        let left = self.len().saturating_sub(n);
+        self.ahead.start = self.ahead.end - left;
+        self.next()
+    }
 }
 
 impl<'a, T> Iterator for GridRowIter<'a, T> {

@@ -1,5 +1,6 @@
 use Rattle.std.proofs.Common.{◌-◌, ap, ◌∙◌}
-use Rattle.grid_view.proofs.LineLemmas.{rows_passed, nth_row_found}
+use Rattle.grid_base.proofs.RemainingLemmas.{rows_passed}
+use Rattle.grid_base.proofs.StrideLemmas.{nth_row_found}
 use Rattle.grid_view.proofs.lines.ViewRowIter.nth.Goals as goal
 
 pub returns : goal.returns
