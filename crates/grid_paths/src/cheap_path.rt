@@ -84,14 +84,14 @@ fn path_over<A: Allocator + Clone>(
     let mut left = costs;
     while let Some(next) = heap.pop() {
         let Reverse((sum, at)) = next;
-        if let Some(cost) = cost_of(&left, at.0, at.1) {
+        if let Some(cost) = cost_of(&left, at) {
             let here = Settled { at, cost, sum };
             trail.push(here)?;
             if at == to {
                 return Ok(Some((follow(kind, &trail, here)?, sum)));
             }
         }
-        settle(kind, at.0, at.1, sum, &mut left, &mut sums, &mut heap)?;
+        settle(kind, next.0, &mut left, &mut sums, &mut heap)?;
     }
     Ok(None)
 }

@@ -19,43 +19,38 @@ use std::collections::BinaryHeap;
 const MANY: usize = 1024;
 
 // Whether a sum is less than the number at a position, or there is none.
-fn is_less<A: Allocator>(sums: &Grid<Option<u128>, A>, row: usize, col: usize, sum: u128) -> bool
-    requires { InRange sums.now.rows row col }
-    ensures { IsTrue result ↔ ((m : ℕ) → Holds sums.now.rows (row, col) m → sum < m) }
+fn is_less<A: Allocator>(sums: &Grid<Option<u128>, A>, at: (usize, usize), sum: u128) -> bool
+    requires { InRange sums.now.rows at.0 at.1 }
+    ensures { IsTrue result ↔ ((m : ℕ) → Holds sums.now.rows at m → sum < m) }
 {
-    match sums[(row, col)] {
+    match sums[at] {
         Some(old) => sum < old,
         None => true,
     }
 }
 
 // What it costs to enter a position, if it is left.
-pub(crate) fn cost_of<A: Allocator>(
-    left: &Grid<Option<u32>, A>,
-    row: usize,
-    col: usize,
-) -> Option<u32>
-    ensures { (k : ℕ) → (result ≡ Some k) ↔ Holds left.now.rows (row, col) k }
+pub(crate) fn cost_of<A: Allocator>(left: &Grid<Option<u32>, A>, at: (usize, usize)) -> Option<u32>
+    ensures { (k : ℕ) → (result ≡ Some k) ↔ Holds left.now.rows at k }
 {
-    match left.get(row, col) {
+    match left.get(at.0, at.1) {
         Some(cost) => *cost,
         None => None,
     }
 }
 
 // Whether a position is left.
-fn is_left<A: Allocator>(left: &Grid<Option<u32>, A>, row: usize, col: usize) -> bool
-    ensures { IsTrue result ↔ ((k : ℕ) × Holds left.now.rows (row, col) k) }
+fn is_left<A: Allocator>(left: &Grid<Option<u32>, A>, at: (usize, usize)) -> bool
+    ensures { IsTrue result ↔ ((k : ℕ) × Holds left.now.rows at k) }
 {
-    cost_of(left, row, col).is_some()
+    cost_of(left, at).is_some()
 }
 
 // Enters a position, if it is left, from another of this sum: a lesser number than before is written, and the position
 // waits with it. `left` has the costs of the positions whose number isn't settled yet.
 #[inline(always)]
 fn relax<A: Allocator>(
-    row: usize,
-    col: usize,
+    at: (usize, usize),
     sum: u128,
     left: &Grid<Option<u32>, A>,
     sums: &mut Grid<Option<u128>, A>,
@@ -67,14 +62,14 @@ fn relax<A: Allocator>(
     ensures order { sums.new.order ≡ sums.old.order }
     ensures size { HaveOneSize sums.new.rows left.now.rows }
     ensures heap_order { OnOk result (IsHeap by_sum (heap_items heap.new)) }
-    ensures relaxes { OnOk result (Relaxes (λ b. (row, col) ≡ b) left.now.rows sum
+    ensures relaxes { OnOk result (Relaxes (λ b. at ≡ b) left.now.rows sum
         sums.old.rows (heap_items heap.old) sums.new.rows (heap_items heap.new) 1) }
 {
-    if let Some(cost) = cost_of(left, row, col) {
+    if let Some(cost) = cost_of(left, at) {
         let next = sum + cost as u128;
-        if is_less(sums, row, col, next) {
-            sums.set(row, col, Some(next));
-            heap.push(Reverse((next, (row, col))))?;
+        if is_less(sums, at, next) {
+            sums.set(at.0, at.1, Some(next));
+            heap.push(Reverse((next, at)))?;
         }
     }
     Ok(())
@@ -98,62 +93,60 @@ fn relax_each<A: Allocator>(
         sums.old.rows (heap_items heap.old) sums.new.rows (heap_items heap.new) (length at.now)) }
 {
     for near in at {
-        relax(near.0, near.1, sum, left, sums, heap)?;
+        relax(*near, sum, left, sums, heap)?;
     }
     Ok(())
 }
 
-// Enters the positions that a step from this one leads to.
+// Enters the positions that a step from one of this sum leads to.
 fn relax_around<A: Allocator>(
     kind: Steps,
-    row: usize,
-    col: usize,
-    sum: u128,
+    from: (u128, (usize, usize)),
     left: &Grid<Option<u32>, A>,
     sums: &mut Grid<Option<u128>, A>,
     heap: &mut BinaryHeap<Reverse<(u128, (usize, usize))>, A>,
 ) -> Result<(), AllocError>
-    requires at { InRange left.now.rows row col }
-    requires small { sum + 2 ^ 32 ≤ 2 ^ 128 }
+    requires at { InRange left.now.rows (from.1).0 (from.1).1 }
+    requires small { from.0 + 2 ^ 32 ≤ 2 ^ 128 }
     requires size { HaveOneSize sums.old.rows left.now.rows }
     requires heap_order { IsHeap by_sum (heap_items heap.old) }
     ensures order { sums.new.order ≡ sums.old.order }
     ensures size { HaveOneSize sums.new.rows left.now.rows }
     ensures heap_order { OnOk result (IsHeap by_sum (heap_items heap.new)) }
-    ensures relaxes { OnOk result (Relaxes (IsStep kind (row, col)) left.now.rows sum
+    ensures relaxes { OnOk result (Relaxes (IsStep kind from.1) left.now.rows from.0
         sums.old.rows (heap_items heap.old) sums.new.rows (heap_items heap.new) 8) }
 {
-    let at = around(row, col);
+    let (sum, at) = from;
+    let near = around(at.0, at.1);
     match kind {
-        Steps::Sides => relax_each(&at[..4], sum, left, sums, heap),
-        Steps::All => relax_each(&at, sum, left, sums, heap),
+        Steps::Sides => relax_each(&near[..4], sum, left, sums, heap),
+        Steps::All => relax_each(&near, sum, left, sums, heap),
     }
 }
 
-// Settles a position, if it is left, and enters those that a step from it leads to.
+// Settles a position with its sum, if it is left, and enters those that a step from it leads to.
 pub(crate) fn settle<A: Allocator>(
     kind: Steps,
-    row: usize,
-    col: usize,
-    sum: u128,
+    next: (u128, (usize, usize)),
     left: &mut Grid<Option<u32>, A>,
     sums: &mut Grid<Option<u128>, A>,
     heap: &mut BinaryHeap<Reverse<(u128, (usize, usize))>, A>,
 ) -> Result<(), AllocError>
-    requires small { (k : ℕ) → Holds left.old.rows (row, col) k → sum + 2 ^ 32 ≤ 2 ^ 128 }
+    requires small { (k : ℕ) → Holds left.old.rows next.1 k → next.0 + 2 ^ 32 ≤ 2 ^ 128 }
     requires size { HaveOneSize sums.old.rows left.old.rows }
     requires heap_order { IsHeap by_sum (heap_items heap.old) }
     ensures order { sums.new.order ≡ sums.old.order }
     ensures size { HaveOneSize sums.new.rows left.old.rows }
     ensures left { HaveOneSize left.new.rows left.old.rows }
     ensures heap_order { OnOk result (IsHeap by_sum (heap_items heap.new)) }
-    ensures settles { OnOk result (Settles kind (row, col) sum
+    ensures settles { OnOk result (Settles kind next.1 next.0
         left.old.rows sums.old.rows (heap_items heap.old)
         left.new.rows sums.new.rows (heap_items heap.new)) }
 {
-    if is_left(left, row, col) {
-        left.set(row, col, None);
-        relax_around(kind, row, col, sum, left, sums, heap)?;
+    let at = next.1;
+    if is_left(left, at) {
+        left.set(at.0, at.1, None);
+        relax_around(kind, next, left, sums, heap)?;
     }
     Ok(())
 }
@@ -175,7 +168,7 @@ fn start<A: Allocator>(
     ensures search { OnOk result ((kind : Steps) → IsCostSearch kind costs.now.rows from
         sums.new.rows costs.now.rows (heap_items heap.new)) }
 {
-    if is_left(costs, from.0, from.1) {
+    if is_left(costs, from) {
         sums.set(from.0, from.1, Some(0));
         heap.push(Reverse((0, from)))?;
     }
@@ -220,8 +213,7 @@ fn search<A: Allocator + Clone>(
     let (mut sums, mut heap) = begun(&costs, from)?;
     let mut left = costs;
     while let Some(next) = heap.pop() {
-        let Reverse((sum, (row, col))) = next;
-        settle(kind, row, col, sum, &mut left, &mut sums, &mut heap)?;
+        settle(kind, next.0, &mut left, &mut sums, &mut heap)?;
     }
     Ok(sums)
 }

@@ -14,120 +14,115 @@ use grid::Grid;
 use grid_near::Steps;
 use std::alloc::{AllocError, Allocator};
 
+// A region: the cells of a board that equal one, and the number that they get.
+#[derive(Drop)]
+struct Region<'a, T, A: Allocator> {
+    grid: &'a Grid<T, A>,
+    first: &'a T,
+    number: usize,
+}
+
 // Whether there is a cell at a position that equals this one.
-fn equals_at<T: PartialEq, A: Allocator>(
-    grid: &Grid<T, A>,
-    first: &T,
-    row: usize,
-    col: usize,
-) -> bool
-    ensures equal { IsTrue result ↔ IsOpen (alike T.eq first.now grid.now.rows) (row, col) }
-    ensures inside { IsTrue result → InRange grid.now.rows row col }
+fn equals_at<T: PartialEq, A: Allocator>(grid: &Grid<T, A>, first: &T, at: (usize, usize)) -> bool
+    ensures equal { IsTrue result ↔ IsOpen (alike T.eq first.now grid.now.rows) at }
+    ensures inside { IsTrue result → InRange grid.now.rows at.0 at.1 }
 {
-    match grid.get(row, col) {
+    match grid.get(at.0, at.1) {
         Some(cell) => *cell == *first,
         None => false,
     }
 }
 
-// Gives a number to a position, if its cell equals this one and it has none yet.
+// Gives a position the region's number, if its cell is one of those and has no number yet.
 fn number_at<T: PartialEq, A: Allocator>(
-    grid: &Grid<T, A>,
-    first: &T,
-    row: usize,
-    col: usize,
-    number: usize,
+    region: &Region<'_, T, A>,
+    at: (usize, usize),
     numbers: &mut Grid<Option<usize>, A>,
     queue: &mut Vec<(usize, usize), A>,
 ) -> Result<(), AllocError>
-    requires { HaveOneSize numbers.old.rows grid.now.rows }
+    requires { HaveOneSize numbers.old.rows region.now.grid.now.rows }
     ensures order { numbers.new.order ≡ numbers.old.order }
-    ensures size { HaveOneSize numbers.new.rows grid.now.rows }
-    ensures reaches { OnOk result (Reaches (alike T.eq first.now grid.now.rows) (row, col) number
+    ensures size { HaveOneSize numbers.new.rows region.now.grid.now.rows }
+    ensures reaches { OnOk result (Reaches
+        (alike T.eq region.now.first.now region.now.grid.now.rows) at region.now.number
         numbers.old.rows queue.old.items numbers.new.rows queue.new.items) }
 {
-    if equals_at(grid, first, row, col) {
-        if let None = numbers[(row, col)] {
-            numbers.set(row, col, Some(number));
-            queue.push((row, col))?;
+    if equals_at(region.grid, region.first, at) {
+        if let None = numbers[at] {
+            numbers.set(at.0, at.1, Some(region.number));
+            queue.push(at)?;
         }
     }
     Ok(())
 }
 
-// Gives a number to each of these positions, as far as their cells equal a cell.
+// The same of each of these positions.
 fn number_each<T: PartialEq, A: Allocator>(
-    grid: &Grid<T, A>,
-    first: &T,
+    region: &Region<'_, T, A>,
     at: &[(usize, usize)],
-    number: usize,
     numbers: &mut Grid<Option<usize>, A>,
     queue: &mut Vec<(usize, usize), A>,
 ) -> Result<(), AllocError>
-    requires { HaveOneSize numbers.old.rows grid.now.rows }
+    requires { HaveOneSize numbers.old.rows region.now.grid.now.rows }
     ensures order { numbers.new.order ≡ numbers.old.order }
-    ensures size { HaveOneSize numbers.new.rows grid.now.rows }
-    ensures round { OnOk result (WentRound (λ b. Contains at.now b) (alike T.eq first.now grid.now.rows)
-        number numbers.old.rows queue.old.items numbers.new.rows queue.new.items) }
+    ensures size { HaveOneSize numbers.new.rows region.now.grid.now.rows }
+    ensures round { OnOk result (WentRound (λ b. Contains at.now b)
+        (alike T.eq region.now.first.now region.now.grid.now.rows) region.now.number
+        numbers.old.rows queue.old.items numbers.new.rows queue.new.items) }
 {
     for near in at {
-        number_at(grid, first, near.0, near.1, number, numbers, queue)?;
+        number_at(region, *near, numbers, queue)?;
     }
     Ok(())
 }
 
-// Gives a number to the positions that a step from this one leads to, as far as their cells equal a cell.
+// The same of the positions that a step from this one leads to.
 fn number_around<T: PartialEq, A: Allocator>(
     kind: Steps,
-    grid: &Grid<T, A>,
-    first: &T,
-    row: usize,
-    col: usize,
-    number: usize,
+    region: &Region<'_, T, A>,
+    at: (usize, usize),
     numbers: &mut Grid<Option<usize>, A>,
     queue: &mut Vec<(usize, usize), A>,
 ) -> Result<(), AllocError>
-    requires size { HaveOneSize numbers.old.rows grid.now.rows }
-    requires at { InRange grid.now.rows row col }
+    requires size { HaveOneSize numbers.old.rows region.now.grid.now.rows }
+    requires at { InRange region.now.grid.now.rows at.0 at.1 }
     ensures order { numbers.new.order ≡ numbers.old.order }
-    ensures size { HaveOneSize numbers.new.rows grid.now.rows }
-    ensures round { OnOk result (WentRound (IsStep kind (row, col)) (alike T.eq first.now grid.now.rows)
-        number numbers.old.rows queue.old.items numbers.new.rows queue.new.items) }
+    ensures size { HaveOneSize numbers.new.rows region.now.grid.now.rows }
+    ensures round { OnOk result (WentRound (IsStep kind at)
+        (alike T.eq region.now.first.now region.now.grid.now.rows) region.now.number
+        numbers.old.rows queue.old.items numbers.new.rows queue.new.items) }
 {
-    let at = around(row, col);
+    let near = around(at.0, at.1);
     match kind {
-        Steps::Sides => number_each(grid, first, &at[..4], number, numbers, queue),
-        Steps::All => number_each(grid, first, &at, number, numbers, queue),
+        Steps::Sides => number_each(region, &near[..4], numbers, queue),
+        Steps::All => number_each(region, &near, numbers, queue),
     }
 }
 
-// Gives a number to the region of a position that has none. The queue is that of this region alone.
+// Gives the region of a position its number, which it doesn't have yet. The queue is that of this region alone.
 fn number_region<T: PartialEq, A: Allocator>(
     kind: Steps,
-    grid: &Grid<T, A>,
-    first: &T,
-    row: usize,
-    col: usize,
-    number: usize,
+    region: &Region<'_, T, A>,
+    at: (usize, usize),
     numbers: &mut Grid<Option<usize>, A>,
     queue: &mut Vec<(usize, usize), A>,
 ) -> Result<(), AllocError>
-    requires size { HaveOneSize numbers.old.rows grid.now.rows }
-    requires at { cell numbers.old.rows row col ≡ Some None }
-    requires below { (a : ℕ × ℕ) (m : ℕ) → IsMarked numbers.old.rows a m → m < number }
+    requires size { HaveOneSize numbers.old.rows region.now.grid.now.rows }
+    requires at { cell numbers.old.rows at.0 at.1 ≡ Some None }
+    requires below { (a : ℕ × ℕ) (m : ℕ) → IsMarked numbers.old.rows a m → m < region.now.number }
     ensures order { numbers.new.order ≡ numbers.old.order }
-    ensures size { HaveOneSize numbers.new.rows grid.now.rows }
-    ensures numbered { OnOk result (IsNumbered kind (alike T.eq first.now grid.now.rows) (row, col) number
+    ensures size { HaveOneSize numbers.new.rows region.now.grid.now.rows }
+    ensures numbered { OnOk result (IsNumbered kind
+        (alike T.eq region.now.first.now region.now.grid.now.rows) at region.now.number
         numbers.old.rows numbers.new.rows) }
     ensures fewer { OnOk result (unreached numbers.new.rows + 1 ≤ unreached numbers.old.rows) }
 {
     let mut next = 0;
     queue.clear();
-    numbers.set(row, col, Some(number));
-    queue.push((row, col))?;
+    numbers.set(at.0, at.1, Some(region.number));
+    queue.push(at)?;
     while next < queue.len() {
-        let (row, col) = queue[next];
-        number_around(kind, grid, first, row, col, number, numbers, queue)?;
+        number_around(kind, region, queue[next], numbers, queue)?;
         next += 1;
     }
     Ok(())
@@ -137,35 +132,30 @@ fn number_region<T: PartialEq, A: Allocator>(
 fn number_cell<T: PartialEq, A: Allocator>(
     kind: Steps,
     grid: &Grid<T, A>,
-    row: usize,
-    col: usize,
+    at: (usize, usize),
     count: usize,
     numbers: &mut Grid<Option<usize>, A>,
     queue: &mut Vec<(usize, usize), A>,
 ) -> Result<usize, AllocError>
     requires size { HaveOneSize numbers.old.rows grid.now.rows }
-    requires at { InRange grid.now.rows row col }
-    requires scanned { IsScanned kind T.eq grid.now.rows numbers.old.rows count (row, col) }
+    requires at { InRange grid.now.rows at.0 at.1 }
+    requires scanned { IsScanned kind T.eq grid.now.rows numbers.old.rows count at }
     requires room { count + unreached numbers.old.rows < 2 ^ 64 }
     ensures order { numbers.new.order ≡ numbers.old.order }
     ensures size { HaveOneSize numbers.new.rows grid.now.rows }
     ensures scanned { IfOk result (λ n.
-        IsScanned kind T.eq grid.now.rows numbers.new.rows n (row, col + 1)) }
+        IsScanned kind T.eq grid.now.rows numbers.new.rows n (at.0, at.1 + 1)) }
     ensures room { IfOk result (λ n. n + unreached numbers.new.rows < 2 ^ 64) }
 {
-    match numbers[(row, col)] {
+    match numbers[at] {
         Some(_) => Ok(count),
         None => {
-            number_region(
-                kind,
+            let region = Region {
                 grid,
-                &grid[(row, col)],
-                row,
-                col,
-                count,
-                numbers,
-                queue,
-            )?;
+                first: &grid[at],
+                number: count,
+            };
+            number_region(kind, &region, at, numbers, queue)?;
             Ok(count + 1)
         }
     }
@@ -187,7 +177,7 @@ fn number_all<T: PartialEq, A: Allocator + Clone>(
     let mut count = 0;
     for row in 0..grid.rows() {
         for col in 0..grid.cols() {
-            count = number_cell(kind, grid, row, col, count, &mut numbers, &mut queue)?;
+            count = number_cell(kind, grid, (row, col), count, &mut numbers, &mut queue)?;
         }
     }
     Ok((numbers, count))

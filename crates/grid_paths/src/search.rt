@@ -1,9 +1,9 @@
 //! The least number of steps to each cell, by a breadth-first search.
-ghost use Rattle.std.specs.Prelude.{◌≡◌, ◌≤◌, ◌+◌, ◌↔◌, List, ℕ, [], ◌∷◌, ◌++◌, length, drop, IfOk, IsTrue, OnOk, Bool, Some, None, Contains};
+ghost use Rattle.std.specs.Prelude.{◌≡◌, ◌<◌, ◌≤◌, ◌+◌, ◌^◌, ◌↔◌, List, ℕ, [], ◌∷◌, ◌++◌, length, drop, IfOk, IsTrue, OnOk, Bool, Some, None, Contains};
 ghost use Rattle.grid_base.specs.Table.{InRange};
 ghost use Rattle.grid_paths.specs.Walks.{IsOpen, IsStep, HasLeastSteps, HasLeastFrom, passing};
 ghost use Rattle.grid_paths.specs.Closures.{IsAnswer, AreAnswers, HoldsOfAnswers};
-ghost use Rattle.grid_paths.specs.Search.{Reaches, WentRound, HaveOneSize, IsLeft, IsSettled};
+ghost use Rattle.grid_paths.specs.Search.{Reaches, WentRound, HaveOneSize, IsMarked, IsLeft, IsSettled};
 
 use super::around::around;
 use grid::Grid;
@@ -17,10 +17,10 @@ const MANY: usize = 2048;
 pub(crate) const ROOM: usize = 4096;
 
 // Whether a cell is there and may still be reached.
-pub(crate) fn is_left<A: Allocator>(left: &Grid<bool, A>, row: usize, col: usize) -> bool
-    ensures { IsTrue result ↔ IsOpen left.now.rows (row, col) }
+pub(crate) fn is_left<A: Allocator>(left: &Grid<bool, A>, at: (usize, usize)) -> bool
+    ensures { IsTrue result ↔ IsOpen left.now.rows at }
 {
-    match left.get(row, col) {
+    match left.get(at.0, at.1) {
         Some(is_left) => *is_left,
         None => false,
     }
@@ -29,8 +29,7 @@ pub(crate) fn is_left<A: Allocator>(left: &Grid<bool, A>, row: usize, col: usize
 // Reaches a position by `count` steps, if it is left. `left` are the open positions that aren't reached yet.
 #[inline(always)]
 fn reach<A: Allocator>(
-    row: usize,
-    col: usize,
+    at: (usize, usize),
     count: usize,
     left: &mut Grid<bool, A>,
     steps: &mut Grid<Option<usize>, A>,
@@ -41,13 +40,13 @@ fn reach<A: Allocator>(
     ensures left { HaveOneSize left.new.rows left.old.rows }
     ensures reaches { OnOk result ((floor : List (List Bool))
         → IsLeft floor steps.old.rows left.old.rows
-        → Reaches floor (row, col) count steps.old.rows queue.old.items steps.new.rows queue.new.items
+        → Reaches floor at count steps.old.rows queue.old.items steps.new.rows queue.new.items
         × IsLeft floor steps.new.rows left.new.rows) }
 {
-    if is_left(left, row, col) {
-        left.set(row, col, false);
-        steps.set(row, col, Some(count));
-        queue.push((row, col))?;
+    if is_left(left, at) {
+        left.set(at.0, at.1, false);
+        steps.set(at.0, at.1, Some(count));
+        queue.push(at)?;
     }
     Ok(())
 }
@@ -71,45 +70,48 @@ fn reach_each<A: Allocator>(
         × IsLeft floor steps.new.rows left.new.rows) }
 {
     for near in at {
-        reach(near.0, near.1, count, left, steps, queue)?;
+        reach(*near, count, left, steps, queue)?;
     }
     Ok(())
 }
 
-// Reaches the positions that a step from this one leads to.
+// Reaches the positions that a step from one that is reached leads to, each by one step more.
 #[inline(always)]
 fn reach_around<A: Allocator>(
     kind: Steps,
-    row: usize,
-    col: usize,
-    count: usize,
+    at: (usize, usize),
     left: &mut Grid<bool, A>,
     steps: &mut Grid<Option<usize>, A>,
     queue: &mut Vec<(usize, usize), A>,
 ) -> Result<(), AllocError>
-    requires { InRange left.old.rows row col }
+    requires inside { InRange left.old.rows at.0 at.1 }
+    requires marked { (m : ℕ) × IsMarked steps.old.rows at m × (m + 1 < 2 ^ 64) }
     ensures order { steps.new.order ≡ steps.old.order }
     ensures size { HaveOneSize steps.new.rows steps.old.rows }
     ensures left { HaveOneSize left.new.rows left.old.rows }
-    ensures round { OnOk result ((floor : List (List Bool))
+    ensures round { OnOk result ((floor : List (List Bool)) (m : ℕ) → IsMarked steps.old.rows at m
         → IsLeft floor steps.old.rows left.old.rows
-        → WentRound (IsStep kind (row, col)) floor count
+        → WentRound (IsStep kind at) floor (m + 1)
         steps.old.rows queue.old.items steps.new.rows queue.new.items
         × IsLeft floor steps.new.rows left.new.rows) }
 {
-    let at = around(row, col);
+    let Some(count) = steps[at] else {
+        return Ok(());
+    };
+    let next = count + 1;
+    let near = around(at.0, at.1);
     match kind {
-        Steps::Sides => reach_each(&at[..4], count, left, steps, queue),
-        Steps::All => reach_each(&at, count, left, steps, queue),
+        Steps::Sides => reach_each(&near[..4], next, left, steps, queue),
+        Steps::All => reach_each(&near, next, left, steps, queue),
     }
 }
 
 // Whether the search is for this position.
-fn is_goal(goal: Option<(usize, usize)>, row: usize, col: usize) -> bool
-    ensures { IsTrue result → goal ≡ Some (row, col) }
+fn is_goal(goal: Option<(usize, usize)>, at: (usize, usize)) -> bool
+    ensures { IsTrue result → goal ≡ Some at }
 {
     match goal {
-        Some((goal_row, goal_col)) => goal_row == row && goal_col == col,
+        Some(goal) => goal.0 == at.0 && goal.1 == at.1,
         None => false,
     }
 }
@@ -158,17 +160,15 @@ fn search_from<A: Allocator + Clone>(
     let mut queue = Vec::with_capacity(floor.allocator().clone()?, cells.min(ROOM))?;
     let mut left = floor;
     for start in starts {
-        reach(start.0, start.1, 0, &mut left, &mut steps, &mut queue)?;
+        reach(*start, 0, &mut left, &mut steps, &mut queue)?;
     }
     let mut next = 0;
     while next < queue.len() {
-        let (row, col) = queue[next];
-        if is_goal(goal, row, col) {
+        let at = queue[next];
+        if is_goal(goal, at) {
             return Ok(steps);
         }
-        if let Some(count) = steps[(row, col)] {
-            reach_around(kind, row, col, count + 1, &mut left, &mut steps, &mut queue)?;
-        }
+        reach_around(kind, at, &mut left, &mut steps, &mut queue)?;
         next = trim(&mut queue, next + 1);
     }
     Ok(steps)

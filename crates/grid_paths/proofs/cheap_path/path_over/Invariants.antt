@@ -1,4 +1,4 @@
-use Rattle.std.proofs.Common.{◌≡◌, ℕ, ◌+◌, ◌*◌, ◌-◌, ◌≤◌, Some, length}
+use Rattle.std.proofs.Common.{◌≡◌, ℕ, ◌+◌, ◌*◌, ◌-◌, Some, length}
 use Rattle.std.specs.List.{slice_get}
 use Rattle.std.specs.BinaryHeap.{IsHeap, heap_items}
 use Rattle.grid_base.specs.Table.{row_count, col_count}

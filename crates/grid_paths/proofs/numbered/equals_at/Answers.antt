@@ -9,11 +9,11 @@ returns-in-Some-clause-equal g c =
     let t = c.args.grid.now.rows in
     let table = c.args.grid.now.table in
     let x = c.args.first.now in
-    let at : cell t c.args.row c.args.col ≡ Some c.in-Some.cell.now = sym c.in-Some.ensures.cell in
+    let at : cell t c.args.at.0 c.args.at.1 ≡ Some c.in-Some.cell.now = sym c.in-Some.ensures.cell in
     let is : c.eq.result ≡ eq c.in-Some.cell.now x = c.eq.ensures in (
-      λ h. open_alike eq x t table (c.args.row, c.args.col) c.in-Some.cell.now at (sym is ∙ h),
+      λ h. open_alike eq x t table c.args.at c.in-Some.cell.now at (sym is ∙ h),
       λ h.
-          let v = alike_open eq x t table (c.args.row, c.args.col) h in
+          let v = alike_open eq x t table c.args.at h in
           let both : Some c.in-Some.cell.now ≡ Some v.0 = sym at ∙ v.1 in
           let y_is : v.0 ≡ c.in-Some.cell.now = cc in
           is ∙ subst (λ y. eq y x ≡ true) y_is v.2,
@@ -23,10 +23,10 @@ pub returns-in-None-clause-equal : goal.returns-in-None-clause-equal
 returns-in-None-clause-equal g c =
     let eq = g.T.PartialEq.eq in
     let t = c.args.grid.now.rows in
-    let none : cell t c.args.row c.args.col ≡ None = sym c.in-None.ensures.cell in (
+    let none : cell t c.args.at.0 c.args.at.1 ≡ None = sym c.in-None.ensures.cell in (
       λ h. absurd (cc),
       λ h.
-          let v = alike_open eq c.args.first.now t c.args.grid.now.table (c.args.row, c.args.col) h in
+          let v = alike_open eq c.args.first.now t c.args.grid.now.table c.args.at h in
           let clash : None ≡ Some v.0 = sym none ∙ v.1 in
           absurd (cc),
     )

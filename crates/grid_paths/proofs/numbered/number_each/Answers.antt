@@ -10,7 +10,7 @@ loop-near-init g c =
     record {
       order = refl;
       size = c.requires;
-      round = RoundEach-start c.args.at.now (alike g.T.PartialEq.eq c.args.first.now c.args.grid.now.rows) c.args.number c.args.numbers.now.rows c.args.queue.now.items;
+      round = RoundEach-start c.args.at.now (alike g.T.PartialEq.eq c.args.region.now.first.now c.args.region.now.grid.now.rows) c.args.region.now.number c.args.numbers.now.rows c.args.queue.now.items;
     }
 
 pub loop-near-preserved : goal.loop-near-preserved
@@ -24,7 +24,7 @@ loop-near-preserved g c =
     record {
       order = c.in_ok-number_at.ensures.order ∙ now.order;
       size = c.in_ok-number_at.ensures.size;
-      round = RoundEach-next xs (alike g.T.PartialEq.eq c.args.first.now c.args.grid.now.rows) c.args.number c.args.numbers.now.rows c.args.queue.now.items i c.loop-near.numbers.rows c.loop-near.queue.items now.round
+      round = RoundEach-next xs (alike g.T.PartialEq.eq c.args.region.now.first.now c.args.region.now.grid.now.rows) c.args.region.now.number c.args.numbers.now.rows c.args.queue.now.items i c.loop-near.numbers.rows c.loop-near.queue.items now.round
           b c.number_at.new.numbers.rows c.number_at.new.queue.items place c.loop-near.numbers.table c.in_ok-number_at.ensures.reaches;
     }
 
@@ -33,4 +33,4 @@ returns-clause-round g c =
     let i = c.loop-near.near-index in
     let xs = c.args.at.now in
     let end : length xs ≤ i = omega arith in
-    RoundEach-end xs (alike g.T.PartialEq.eq c.args.first.now c.args.grid.now.rows) c.args.number c.args.numbers.now.rows c.args.queue.now.items i c.loop-near.numbers.rows c.loop-near.queue.items c.loop-near.invariant.round end
+    RoundEach-end xs (alike g.T.PartialEq.eq c.args.region.now.first.now c.args.region.now.grid.now.rows) c.args.region.now.number c.args.numbers.now.rows c.args.queue.now.items i c.loop-near.numbers.rows c.loop-near.queue.items c.loop-near.invariant.round end

@@ -8,6 +8,6 @@ abbrev pub invariant-loop-near : goal.invariant-loop-near
 invariant-loop-near g l =
     record {
       order : l.numbers.order ≡ l.fn.numbers.order;
-      size : HaveOneSize l.numbers.rows l.grid.rows;
-      round : WentRound (Before l.at l.near-index) (alike g.T.PartialEq.eq l.first l.grid.rows) l.number l.fn.numbers.rows l.fn.queue.items l.numbers.rows l.queue.items;
+      size : HaveOneSize l.numbers.rows l.region.grid.now.rows;
+      round : WentRound (Before l.at l.near-index) (alike g.T.PartialEq.eq l.region.first.now l.region.grid.now.rows) l.region.number l.fn.numbers.rows l.fn.queue.items l.numbers.rows l.queue.items;
     }

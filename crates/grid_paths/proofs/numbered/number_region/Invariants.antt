@@ -7,9 +7,9 @@ use Rattle.grid_paths.proofs.numbered.number_region.Given as goal
 abbrev pub invariant-loop-next : goal.invariant-loop-next
 invariant-loop-next g l =
     record {
-      size : HaveOneSize l.numbers.rows l.grid.rows;
+      size : HaveOneSize l.numbers.rows l.region.grid.now.rows;
       order : l.numbers.order ≡ l.fn.numbers.order;
-      numbering : IsNumbering l.kind (alike g.T.PartialEq.eq l.first l.grid.rows) (l.fn.row, l.fn.col) l.number 0 l.fn.numbers.rows l.numbers.rows l.queue.items l.next;
+      numbering : IsNumbering l.kind (alike g.T.PartialEq.eq l.region.first.now l.region.grid.now.rows) l.fn.at l.region.number 0 l.fn.numbers.rows l.numbers.rows l.queue.items l.next;
       fewer : unreached l.numbers.rows + length l.queue.items ≡ unreached l.fn.numbers.rows;
     }
 

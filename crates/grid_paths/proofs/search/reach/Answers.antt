@@ -10,25 +10,24 @@ returns-in_ok-push-clause-reaches g c =
     λ floor l.
     let u = c.args.steps.now.rows in
     let w = c.args.left.now.rows in
-    let row = c.args.row in
-    let col = c.args.col in
+    let at = c.args.at in
     let k = c.args.count in
     let table = c.args.steps.now.table in
     let left_table = c.args.left.now.table in
-    let is_left : IsOpen w (row, col) = c.if-is_left.ensures.0 refl in
-    let here : InRange u row col = inside_steps floor u w l table left_table (row, col) k is_left in
-    let there : InRange w row col = inside_left floor u w l table left_table (row, col) k is_left in
-    let closed : c.set.new.self.rows ≡ with_cell w row col false = set_there c.set.result (InRange w row col) _ _ there c.set.ensures.in_range c.set.ensures.rows in
-    let new : c.set-then-is_left.new.self.rows ≡ with_cell u row col (Some k) = set_there c.set-then-is_left.result (InRange u row col) _ _ here c.set-then-is_left.ensures.in_range c.set-then-is_left.ensures.rows in
-    let before = l.unreached_yet (row, col) is_left in (
-      inl (before.0, inside_floor floor u w l table left_table (row, col) k is_left, here, before.1, new, c.in_ok-push.ensures.items),
-      IsLeft-reach floor u w l table left_table (row, col) k is_left c.set-then-is_left.new.self.rows c.set.new.self.rows new closed
+    let is_left : IsOpen w at = c.if-is_left.ensures.0 refl in
+    let here : InRange u at.0 at.1 = inside_steps floor u w l table left_table at k is_left in
+    let there : InRange w at.0 at.1 = inside_left floor u w l table left_table at k is_left in
+    let closed : c.set.new.self.rows ≡ with_cell w at.0 at.1 false = set_there c.set.result (InRange w at.0 at.1) _ _ there c.set.ensures.in_range c.set.ensures.rows in
+    let new : c.set-then-is_left.new.self.rows ≡ with_cell u at.0 at.1 (Some k) = set_there c.set-then-is_left.result (InRange u at.0 at.1) _ _ here c.set-then-is_left.ensures.in_range c.set-then-is_left.ensures.rows in
+    let before = l.unreached_yet at is_left in (
+      inl (before.0, inside_floor floor u w l table left_table at k is_left, here, before.1, new, c.in_ok-push.ensures.items),
+      IsLeft-reach floor u w l table left_table at k is_left c.set-then-is_left.new.self.rows c.set.new.self.rows new closed
           (record { rows = c.set.ensures.same.rows; cols = c.set.ensures.same.cols }),
     )
 
 pub returns-else-is_left-clause-reaches : goal.returns-else-is_left-clause-reaches
 returns-else-is_left-clause-reaches g c =
     λ floor l. (
-      inr (λ o. ⊎_elim (λ h. absurd (let is = c.if-is_left.ensures.1 h in cc)) (λ m. m) (l.all (c.args.row, c.args.col) o), refl, refl),
+      inr (λ o. ⊎_elim (λ h. absurd (let is = c.if-is_left.ensures.1 h in cc)) (λ m. m) (l.all c.args.at o), refl, refl),
       l,
     )

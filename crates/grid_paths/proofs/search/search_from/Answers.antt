@@ -5,13 +5,12 @@ use Rattle.std.proofs.lemmas.Option.{slice_get_read, slice_get-get_or}
 use Rattle.grid_base.specs.Table.{row_count, col_count, cell}
 use Rattle.grid_base.proofs.StorageLemmas.{length-storage}
 use Rattle.grid_paths.specs.Walks.{IsOpen, HasLeastFrom}
-use Rattle.grid_paths.specs.Search.{IsMarked, IsAt, IsLeft, HaveOneSize, unreached}
-use Rattle.grid_paths.proofs.SearchLemmas.{IsSearch, one_mark, HasLeastSteps-one, IsSettled-end, IsSettled-found}
-use Rattle.grid_paths.proofs.QueueLemmas.{IsTrimmed, IsTrimmed-start, IsTrimmed-round, IsTrimmed-trim, mark_at, HasLeastFrom-trimmed, unreached_cells}
+use Rattle.grid_paths.specs.Search.{IsMarked, IsAt, unreached}
+use Rattle.grid_paths.proofs.SearchLemmas.{IsSearch, HasLeastSteps-one, IsSettled-end, IsSettled-found}
+use Rattle.grid_paths.proofs.QueueLemmas.{IsTrimmed-start, IsTrimmed-round, IsTrimmed-trim, mark_at, HasLeastFrom-trimmed, unreached_cells}
 use Rattle.grid_paths.proofs.StepLemmas.{none_at, none_marked, IsStarted, IsStarted-empty, IsStarted-reach, started_all, Spread-from_reaches}
 use Rattle.grid_paths.proofs.LeftLemmas.{IsLeft-start}
 use Rattle.grid_paths.proofs.search.search_from.Goals as goal
-use Rattle.grid_paths.proofs.search.search_from.Goals.{in-Some+in_ok-reach_around, in_default}
 use Rattle.grid_base.proofs.TableLemmas.{cell_in_range}
 
 pub loop-start-init : goal.loop-start-init
@@ -80,33 +79,12 @@ loop-next-init g c =
       start = started_all c.args.kind floor starts c.loop-start.steps.rows c.loop-start.queue.items i c.loop-start.invariant.started le;
     }
 
-pub index-requires-in-loop-next : goal.index-requires-in-loop-next
-index-requires-in-loop-next g c =
+pub reach_around-requires-clause-inside : goal.reach_around-requires-clause-inside
+reach_around-requires-clause-inside g c =
     let queue = c.loop-next.queue in
-    let a = c.index.result.now in
+    let a = c.index-at.result.now in
     let lt : c.loop-next.next < length queue.items = omega (arith, queue.ok.0) in
-    let place : IsAt queue.items c.loop-next.next a = slice_get_read queue.items (length queue.items) c.loop-next.next a refl lt c.index.ensures in
-    let v = mark_at c.args.kind c.args.floor.rows c.args.starts.now _ c.loop-next.steps.rows queue.items c.loop-next.next c.loop-next.invariant.search a place in
-    cell_in_range c.loop-next.steps.rows c.loop-next.steps.table a.0 a.1 (Some v.0) v.1
-
-pub overflow_add-count : goal.overflow_add-count
-overflow_add-count g c =
-    let queue = c.loop-next.queue in
-    let a = c.index.result.now in
-    let lt : c.loop-next.next < length queue.items = omega (arith, queue.ok.0) in
-    let place : IsAt queue.items c.loop-next.next a = slice_get_read queue.items (length queue.items) c.loop-next.next a refl lt c.index.ensures in
-    let v = mark_at c.args.kind c.args.floor.rows c.args.starts.now _ c.loop-next.steps.rows queue.items c.loop-next.next c.loop-next.invariant.search a place in
-    let mark : IsMarked c.loop-next.steps.rows a c.in-Some.count = c.index-in-loop-next.ensures ∙ ap Some c.in-Some.is in
-    let e : v.0 ≡ c.in-Some.count = one_mark c.loop-next.steps.rows a v.0 c.in-Some.count v.1 mark in
-    let low : v.0 < c.len-cells.result = v.2 in
-    omega arith
-
-pub reach_around-requires : goal.reach_around-requires
-reach_around-requires g c =
-    let queue = c.loop-next.queue in
-    let a = c.index.result.now in
-    let lt : c.loop-next.next < length queue.items = omega (arith, queue.ok.0) in
-    let place : IsAt queue.items c.loop-next.next a = slice_get_read queue.items (length queue.items) c.loop-next.next a refl lt c.index.ensures in
+    let place : IsAt queue.items c.loop-next.next a = slice_get_read queue.items (length queue.items) c.loop-next.next a refl lt c.index-at.ensures in
     let v = mark_at c.args.kind c.args.floor.rows c.args.starts.now _ c.loop-next.steps.rows queue.items c.loop-next.next c.loop-next.invariant.search a place in
     let i = cell_in_range c.loop-next.steps.rows c.loop-next.steps.table a.0 a.1 (Some v.0) v.1 in
     let rows = c.loop-next.invariant.size.rows in
@@ -117,44 +95,50 @@ reach_around-requires g c =
     let lc : a.1 < col_count c.loop-next.left.rows = omega arith in
     (lr, lc)
 
+pub reach_around-requires-clause-marked : goal.reach_around-requires-clause-marked
+reach_around-requires-clause-marked g c =
+    let queue = c.loop-next.queue in
+    let a = c.index-at.result.now in
+    let lt : c.loop-next.next < length queue.items = omega (arith, queue.ok.0) in
+    let place : IsAt queue.items c.loop-next.next a = slice_get_read queue.items (length queue.items) c.loop-next.next a refl lt c.index-at.ensures in
+    let v = mark_at c.args.kind c.args.floor.rows c.args.starts.now _ c.loop-next.steps.rows queue.items c.loop-next.next c.loop-next.invariant.search a place in
+    let low : v.0 < c.len-cells.result = v.2 in
+    (v.0, v.1, omega arith)
+
+pub trim-next-requires : goal.trim-next-requires
+trim-next-requires g c =
+    let queue = c.loop-next.queue in
+    let a = c.index-at.result.now in
+    let lt : c.loop-next.next < length queue.items = omega (arith, queue.ok.0) in
+    let place : IsAt queue.items c.loop-next.next a = slice_get_read queue.items (length queue.items) c.loop-next.next a refl lt c.index-at.ensures in
+    let v = mark_at c.args.kind c.args.floor.rows c.args.starts.now _ c.loop-next.steps.rows queue.items c.loop-next.next c.loop-next.invariant.search a place in
+    let longer = (c.in_ok-reach_around.ensures.round c.args.floor.rows v.0 v.1 c.loop-next.invariant.left).0.spread.longer in
+    omega arith
+
 pub loop-next-preserved : goal.loop-next-preserved
 loop-next-preserved g c =
     let queue = c.loop-next.queue in
     let d = c.loop-next.steps.rows in
-    let a = c.index.result.now in
+    let a = c.index-at.result.now in
     let floor = c.args.floor.rows in
     let starts = c.args.starts.now in
     let next = c.loop-next.next in
     let lt : c.loop-next.next < length queue.items = omega (arith, queue.ok.0) in
-    let place : IsAt queue.items next a = slice_get_read queue.items (length queue.items) next a refl lt c.index.ensures in
-    let v = mark_at c.args.kind c.args.floor.rows c.args.starts.now _ c.loop-next.steps.rows queue.items next c.loop-next.invariant.search a place in
-    elim c.match-index.branch [
-      | in-Some+in_ok-reach_around w ↦
-          let n = w.in-Some.count in
-          let mark : IsMarked d a n = c.index-in-loop-next.ensures ∙ ap Some w.in-Some.is in
-          let both = w.in_ok-reach_around.ensures.round floor c.loop-next.invariant.left in
-          let round = both.0 in
-          let new = w.reach_around.new.steps in
-          let sized = w.in_ok-reach_around.ensures.size in
-          let size : HaveOneSize new.rows floor = record { rows = sized.rows ∙ c.loop-next.invariant.size.rows; cols = sized.cols ∙ c.loop-next.invariant.size.cols } in
-          let items = w.reach_around.new.queue.items in
-          let s = IsTrimmed-round c.args.kind floor starts _ d queue.items next c.loop-next.invariant.search new.rows items a n place mark round in
-          record {
-            size = subst (λ x. HaveOneSize x.rows floor) (sym w.steps-is) size;
-            left = subst (λ x. IsLeft floor x.rows c.match-index.left.rows) (sym w.steps-is) (subst (λ x. IsLeft floor new.rows x.rows) (sym w.left-is) both.1);
-            cells = c.loop-next.invariant.cells;
-            order = ap (λ x. x.order) w.steps-is ∙ (w.in_ok-reach_around.ensures.order ∙ c.loop-next.invariant.order);
-            search = IsTrimmed-trim c.args.kind floor starts _ c.match-index.steps.rows c.match-index.queue.items (next + 1)
-                (subst (λ x. IsTrimmed c.args.kind floor starts x.rows c.match-index.queue.items (next + 1) c.len-cells.result) (sym w.steps-is)
-                (subst (λ x. IsTrimmed c.args.kind floor starts new.rows x.items (next + 1) c.len-cells.result) (sym w.queue-is) s))
-                c.trim-next.new.queue.items c.trim-next.result c.trim-next.ensures;
-            start = λ from is is_open. subst (λ x. IsMarked x.rows from 0) (sym w.steps-is) (round.spread.kept from 0 (c.loop-next.invariant.start from is is_open));
-          }
-      | in_default w ↦
-          let e : ◌≡◌ {A = Option (Option ℕ)} (Some (Some v.0)) (Some c.index-in-loop-next.result.now) = sym v.1 ∙ c.index-in-loop-next.ensures in
-          let f : c.index-in-loop-next.result.now ≡ Some v.0 = cc in
-          absurd (w.in_default.not-Some v.0 f)
-    ]
+    let place : IsAt queue.items next a = slice_get_read queue.items (length queue.items) next a refl lt c.index-at.ensures in
+    let v = mark_at c.args.kind floor starts _ d queue.items next c.loop-next.invariant.search a place in
+    let both = c.in_ok-reach_around.ensures.round floor v.0 v.1 c.loop-next.invariant.left in
+    let new = c.reach_around.new in
+    let sized = c.in_ok-reach_around.ensures.size in
+    record {
+      size = record { rows = sized.rows ∙ c.loop-next.invariant.size.rows; cols = sized.cols ∙ c.loop-next.invariant.size.cols };
+      left = both.1;
+      cells = c.loop-next.invariant.cells;
+      order = c.in_ok-reach_around.ensures.order ∙ c.loop-next.invariant.order;
+      search = IsTrimmed-trim c.args.kind floor starts _ new.steps.rows new.queue.items (next + 1)
+          (IsTrimmed-round c.args.kind floor starts _ d queue.items next c.loop-next.invariant.search new.steps.rows new.queue.items a v.0 place v.1 both.0)
+          c.trim-next.new.queue.items c.trim-next.result c.trim-next.ensures;
+      start = λ from is is_open. both.0.spread.kept from 0 (c.loop-next.invariant.start from is is_open);
+    }
 
 pub returns-clause-least : goal.returns-clause-least
 returns-clause-least g c =
@@ -180,13 +164,13 @@ returns-then-is_goal-clause-settled g c =
     let queue = c.loop-next.queue in
     let d = c.loop-next.steps.rows in
     let next = c.loop-next.next in
-    let a = c.index.result.now in
+    let a = c.index-at.result.now in
     let lt : next < length queue.items = omega (arith, queue.ok.0) in
-    let place : IsAt queue.items next a = slice_get_read queue.items (length queue.items) next a refl lt c.index.ensures in
+    let place : IsAt queue.items next a = slice_get_read queue.items (length queue.items) next a refl lt c.index-at.ensures in
     let v = mark_at c.args.kind c.args.floor.rows c.args.starts.now _ c.loop-next.steps.rows queue.items next c.loop-next.invariant.search a place in
-    let here : c.args.goal ≡ Some (a.0, a.1) = c.if-is_goal.ensures refl in
-    let both : ◌≡◌ {A = Option (ℕ × ℕ)} (Some (a.0, a.1)) (Some to) = sym here ∙ is in
-    let same : (a.0, a.1) ≡ to = cc in
+    let here : c.args.goal ≡ Some a = c.if-is_goal.ensures refl in
+    let both : ◌≡◌ {A = Option (ℕ × ℕ)} (Some a) (Some to) = sym here ∙ is in
+    let same : a ≡ to = cc in
     let mark : IsMarked d to v.0 = subst (λ x. IsMarked d x v.0) same v.1 in
     let t = c.loop-next.invariant.search in
     let search : IsSearch c.args.kind floor (from ∷ []) d (t.front ++ queue.items) (length t.front + next) = subst (λ x. IsSearch c.args.kind floor x d (t.front ++ queue.items) (length t.front + next)) one t.search in
@@ -197,22 +181,13 @@ pub loop-next-smaller : goal.loop-next-smaller
 loop-next-smaller g c =
     let queue = c.loop-next.queue in
     let d = c.loop-next.steps.rows in
-    let a = c.index.result.now in
+    let a = c.index-at.result.now in
     let next = c.loop-next.next in
     let lt : next < length queue.items = omega (arith, queue.ok.0) in
-    let place : IsAt queue.items next a = slice_get_read queue.items (length queue.items) next a refl lt c.index.ensures in
+    let place : IsAt queue.items next a = slice_get_read queue.items (length queue.items) next a refl lt c.index-at.ensures in
     let v = mark_at c.args.kind c.args.floor.rows c.args.starts.now _ d queue.items next c.loop-next.invariant.search a place in
     let trimmed = c.trim-next.ensures in
     let long = ap length trimmed.1 ∙ length-append trimmed.0 c.trim-next.new.queue.items in
     let next_is = trimmed.2 in
-    elim c.match-index.branch [
-      | in-Some+in_ok-reach_around w ↦
-          let total = (w.in_ok-reach_around.ensures.round c.args.floor.rows c.loop-next.invariant.left).0.spread.total in
-          let steps_is = ap (λ x. unreached x.rows) w.steps-is in
-          let queue_is = ap (λ x. length x.items) w.queue-is in
-          omega arith
-      | in_default w ↦
-          let e : ◌≡◌ {A = Option (Option ℕ)} (Some (Some v.0)) (Some c.index-in-loop-next.result.now) = sym v.1 ∙ c.index-in-loop-next.ensures in
-          let f : c.index-in-loop-next.result.now ≡ Some v.0 = cc in
-          absurd (w.in_default.not-Some v.0 f)
-    ]
+    let total = (c.in_ok-reach_around.ensures.round c.args.floor.rows v.0 v.1 c.loop-next.invariant.left).0.spread.total in
+    omega arith
