@@ -1,8 +1,11 @@
 //! Commands, one by one and in runs, at once and deferred, and scripts.
-use crate::state::{Answer, Board, Call, Start, came, came_of, line_came};
+use crate::state::{Answer, Board, Call, Start, came, came_of, is_board, line_came};
 use grid::{Command, GridError, Order, Symmetry, Tally, run};
 use grid_deferred::{Deferred, run_deferred};
-use grid_laws::{push_row_then_pop_row, run_deferred_by_least, step_by_least};
+use grid_laws::{
+    insert_col_or_row_across, push_row_then_pop_row, run_deferred_by_least, run_in_either_order,
+    step_by_least,
+};
 use grid_play::laws::plays_alike;
 use grid_play::{Script, ScriptFault, play};
 use std::alloc::AllocError;
@@ -12,7 +15,7 @@ use test_support::fixtures::Heap;
 // How many commands are tried.
 const COMMANDS: usize = 10;
 
-pub const CALLS: [Call; 10] = [
+pub const CALLS: [Call; 12] = [
     Call("Grid::step", COMMANDS, None, None),
     Call("Deferred::step", 2 * COMMANDS, None, None),
     Call("grid_laws::step_by_least", COMMANDS, None, None),
@@ -20,6 +23,8 @@ pub const CALLS: [Call; 10] = [
     Call("grid_deferred::run_deferred", 1, None, None),
     Call("grid_laws::run_deferred_by_least", 1, None, None),
     Call("grid_laws::push_row_then_pop_row", 1, None, None),
+    Call("grid_laws::insert_col_or_row_across", 1, None, None),
+    Call("grid_laws::run_in_either_order", 1, None, None),
     Call("Script::parse", 5, None, None),
     Call("grid_play::play", 4, None, None),
     Call("grid_play::plays_alike", 1, None, None),
@@ -184,11 +189,66 @@ fn pushed_and_popped<'a>(start: Start<'a>, board: &mut Board<'a>) -> Result<Answ
     })
 }
 
+// What came of a call on the board and of the same on another one, which is as it was where that was refused.
+fn both_of<'a>(start: Start<'a>, first: Answer, other: &Board<'a>, second: Answer) -> Answer {
+    match (first, second) {
+        (Answer::Wrong, _) | (_, Answer::Wrong) => Answer::Wrong,
+        (_, Answer::Refused) if !is_board(other, start.size, start.order) => Answer::Wrong,
+        (Answer::Done, Answer::Done) => Answer::Done,
+        (Answer::Refused, _) => Answer::Refused,
+        _ => Answer::Stopped,
+    }
+}
+
+// A column is put into the board, and as a row across into another that is alike.
+fn put_across<'a>(start: Start<'a>, board: &mut Board<'a>) -> Result<Answer, AllocError> {
+    let len = fitting(start.size.0);
+    let line = start.line(len)?;
+    let other_line = line.clone()?;
+    let mut other = board.clone()?;
+    if line.is_empty() || !board.fits_col(line.len()) {
+        return Ok(Answer::Wrong);
+    }
+    start.ready();
+    let (as_col, as_row) = insert_col_or_row_across(board, &mut other, 0, line, other_line);
+    Ok(both_of(
+        start,
+        line_came(as_col, len),
+        &other,
+        line_came(as_row, len),
+    ))
+}
+
+// The same two commands on the board and on another that is alike.
+fn ran_on_both<'a>(start: Start<'a>, board: &mut Board<'a>) -> Result<Answer, AllocError> {
+    let mut other = board.clone()?;
+    let mut list: Vec<Given<'a>, &'a Heap> = Vec::new(start.heap);
+    list.push(Command::Row(0))?;
+    list.push(Command::PopRow)?;
+    let mut other_list: Vec<Given<'a>, &'a Heap> = Vec::new(start.heap);
+    other_list.push(Command::Row(0))?;
+    other_list.push(Command::PopRow)?;
+    start.ready();
+    let (mut tally, mut other_tally) = (Tally::new(), Tally::new());
+    let (first, second) = run_in_either_order(
+        (start.heap, start.heap),
+        board,
+        &mut other,
+        list,
+        other_list,
+        &mut tally,
+        &mut other_tally,
+    );
+    Ok(both_of(start, came(first), &other, came(second)))
+}
+
 pub fn call<'a>(start: Start<'a>, board: &mut Board<'a>, name: &str) -> Result<Answer, AllocError> {
     match name {
         "Grid::step" | "grid_laws::step_by_least" => stepped(start, board, name),
         "Deferred::step" => stepped_deferred(start, board),
         "grid_laws::push_row_then_pop_row" => pushed_and_popped(start, board),
+        "grid_laws::insert_col_or_row_across" => put_across(start, board),
+        "grid_laws::run_in_either_order" => ran_on_both(start, board),
         "Script::parse" | "grid_play::play" | "grid_play::plays_alike" => {
             start.ready();
             Ok(played(start, name))
