@@ -35,13 +35,14 @@ struct Trial {
 }
 
 // What an attempt came to: how many requests it took, clones among them, how many were for memory, how often it called its
-// closure, and how many blocks and cells were held in the end.
+// closure, how often the closure was refused, and how many blocks and cells were held in the end.
 #[derive(Clone, Copy)]
 struct Seen {
     answer: Answer,
     taken: u64,
     blocks: u64,
     calls: u64,
+    refusals: u64,
     held: u64,
 }
 
@@ -85,6 +86,7 @@ fn made(start: Start<'_>, group: Group, name: &str) -> Result<Answer, AllocError
 fn attempt(alloc: Global, trial: Trial, granted: u64) -> Seen {
     let heap = Fuse::new(alloc, 0);
     let calls = Cell::new(0u64);
+    let refusals = Cell::new(0u64);
     let answer = made(
         Start {
             alloc,
@@ -94,6 +96,7 @@ fn attempt(alloc: Global, trial: Trial, granted: u64) -> Seen {
             case: trial.case,
             granted,
             calls: &calls,
+            refusals: &refusals,
         },
         trial.group,
         trial.call.0,
@@ -103,6 +106,7 @@ fn attempt(alloc: Global, trial: Trial, granted: u64) -> Seen {
         taken: granted.wrapping_sub(heap.left()),
         blocks: heap.granted(),
         calls: calls.get(),
+        refusals: refusals.get(),
         held: heap.held(),
     }
 }
@@ -133,18 +137,22 @@ fn fault_with_all(trial: Trial, seen: Seen) -> Option<&'static str> {
     }
 }
 
-// Whether a call asks for all its memory before it calls its closure.
-fn asks_first(call: Call) -> bool {
-    call.2.is_some() && call.3.is_some()
+// Whether a call that asks for all its memory before it calls its closure got less than that.
+fn asks_for_more(call: Call, blocks: u64) -> bool {
+    match (call.2, call.3) {
+        (Some(promised), Some(_)) => blocks < promised,
+        _ => false,
+    }
 }
 
 // What is wrong with an attempt that has some requests, or nothing.
-fn fault_with_some(trial: Trial, granted: u64, seen: Seen) -> Option<&'static str> {
+fn fault_with_some(trial: Trial, seen: Seen) -> Option<&'static str> {
     match seen.answer {
         Answer::Wrong => Some("answers something else, or leaves the board changed"),
-        Answer::Refused if granted == 0 && seen.calls != 0 && asks_first(trial.call) => {
+        Answer::Refused if seen.calls != 0 && asks_for_more(trial.call, seen.blocks) => {
             Some("calls its closure before it asks for memory")
         }
+        _ if seen.refusals > 1 => Some("calls its closure again after that was refused"),
         _ if seen.held != 0 => Some("leaks"),
         _ => None,
     }
@@ -193,7 +201,7 @@ fn try_case<R: Print + AllocGlobal>(rt: &R, trial: Trial) -> io::Result<u64> {
     }
     for granted in 0..all.taken {
         let seen = attempt(rt.alloc(), trial, granted);
-        printed(rt, trial, granted, fault_with_some(trial, granted, seen))?;
+        printed(rt, trial, granted, fault_with_some(trial, seen))?;
     }
     Ok(all.taken.saturating_add(1))
 }

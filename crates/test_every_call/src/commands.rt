@@ -1,24 +1,32 @@
 //! Commands, one by one and in runs, at once and deferred, and scripts.
-use crate::state::{Answer, Board, Call, Start, came, came_of, line_came};
+use crate::state::{Answer, Board, Call, Start, came, came_of, is_board, line_came};
 use grid::{Command, GridError, Order, Symmetry, Tally, run};
 use grid_deferred::{Deferred, run_deferred};
-use grid_laws::{push_row_then_pop_row, run_deferred_by_least, step_by_least};
+use grid_laws::{
+    insert_col_or_row_across, push_row_then_pop_row, run_deferred_by_least, run_in_either_order,
+    step_by_least,
+};
 use grid_play::laws::plays_alike;
 use grid_play::{Script, ScriptFault, play};
 use std::alloc::AllocError;
 use test_support::counted::Counted;
 use test_support::fixtures::Heap;
 
-pub const CALLS: [Call; 10] = [
-    Call("Grid::step", 9, None, None),
-    Call("Deferred::step", 9, None, None),
-    Call("grid_laws::step_by_least", 9, None, None),
+// How many commands are tried.
+const COMMANDS: usize = 10;
+
+pub const CALLS: [Call; 12] = [
+    Call("Grid::step", COMMANDS, None, None),
+    Call("Deferred::step", 2 * COMMANDS, None, None),
+    Call("grid_laws::step_by_least", COMMANDS, None, None),
     Call("grid::run", 1, None, None),
     Call("grid_deferred::run_deferred", 1, None, None),
     Call("grid_laws::run_deferred_by_least", 1, None, None),
     Call("grid_laws::push_row_then_pop_row", 1, None, None),
+    Call("grid_laws::insert_col_or_row_across", 1, None, None),
+    Call("grid_laws::run_in_either_order", 1, None, None),
     Call("Script::parse", 5, None, None),
-    Call("grid_play::play", 2, None, None),
+    Call("grid_play::play", 4, None, None),
     Call("grid_play::plays_alike", 1, None, None),
 ];
 
@@ -31,7 +39,7 @@ fn fitting(len: usize) -> usize {
 
 // The command of a case, for a board of this size. `test_command_lists` has all commands, with memory for all.
 fn command<'a>(start: Start<'a>, (rows, cols): (usize, usize)) -> Result<Given<'a>, AllocError> {
-    Ok(match start.case {
+    Ok(match start.case % COMMANDS {
         0 => Command::Fill(start.given(7)),
         1 => Command::PushRow(start.line(fitting(cols))?),
         2 => Command::InsertCols(0, start.lines(2, fitting(rows))?),
@@ -41,7 +49,9 @@ fn command<'a>(start: Start<'a>, (rows, cols): (usize, usize)) -> Result<Given<'
         6 => Command::Get(0, 0),
         // (too long, and out of range)
         7 => Command::PushRow(start.line(fitting(cols).saturating_add(1))?),
-        _ => Command::Set(rows, cols, start.given(7)),
+        8 => Command::Set(rows, cols, start.given(7)),
+        // (no lines, in a list with room)
+        _ => Command::InsertRows(0, Vec::with_capacity(start.heap, 1)?),
     })
 }
 
@@ -56,16 +66,21 @@ fn stepped<'a>(start: Start<'a>, board: &mut Board<'a>, name: &str) -> Result<An
     })
 }
 
-// On the board transposed, which is transposed back in the end.
+// On the board transposed, or turned half round, which isn't applied in the end.
 fn stepped_deferred<'a>(start: Start<'a>, board: &mut Board<'a>) -> Result<Answer, AllocError> {
-    let command = command(start, (start.size.1, start.size.0))?;
+    let (symmetry, size) = if start.case < COMMANDS {
+        (Symmetry::Transpose, (start.size.1, start.size.0))
+    } else {
+        (Symmetry::RotateHalf, start.size)
+    };
+    let command = command(start, size)?;
     start.ready();
     let mut tally = Tally::new();
     let mut deferred = Deferred::over(board);
-    let transposed = came(deferred.step(Command::Apply(Symmetry::Transpose), &mut tally));
+    let turned = came(deferred.step(Command::Apply(symmetry), &mut tally));
     let answer = came(deferred.step(command, &mut tally));
     let pending = deferred.release();
-    if transposed != Answer::Done || pending != Symmetry::Transpose {
+    if turned != Answer::Done || pending != symmetry {
         return Ok(Answer::Wrong);
     }
     Ok(answer)
@@ -106,6 +121,9 @@ fn ran<'a>(start: Start<'a>, board: &mut Board<'a>, name: &str) -> Result<Answer
 const SCRIPT: &[u8] =
     b"ColumnMajor 2 1 3 2 4\n\npush_row 5 6\nrotate_left\nrow 0\nfill 7\npop_col\ninsert_rows 0 2 8 8 9 9\n";
 
+// A script without commands.
+const BARE_SCRIPT: &[u8] = b"RowMajor 1 5\n";
+
 // Scripts with a fault behind something that was read: a line that isn't a command, one whose cells can't be cut, a cell
 // that isn't a number, and cells that can't be cut into rows.
 const BAD_SCRIPTS: [(&[u8], ScriptFault); 4] = [
@@ -139,7 +157,8 @@ fn played(start: Start<'_>, name: &str) -> Answer {
     match name {
         "Script::parse" if start.case > 0 => bad_parsed(start),
         "Script::parse" => came(Script::parse(start.heap, SCRIPT)),
-        "grid_play::play" => came(play(start.heap, SCRIPT, start.case == 1)),
+        "grid_play::play" if start.case < 2 => came(play(start.heap, SCRIPT, start.case == 1)),
+        "grid_play::play" => came(play(start.heap, BARE_SCRIPT, start.case == 3)),
         _ => played_alike(start),
     }
 }
@@ -170,11 +189,66 @@ fn pushed_and_popped<'a>(start: Start<'a>, board: &mut Board<'a>) -> Result<Answ
     })
 }
 
+// What came of a call on the board and of the same on another one, which is as it was where that was refused.
+fn both_of<'a>(start: Start<'a>, first: Answer, other: &Board<'a>, second: Answer) -> Answer {
+    match (first, second) {
+        (Answer::Wrong, _) | (_, Answer::Wrong) => Answer::Wrong,
+        (_, Answer::Refused) if !is_board(other, start.size, start.order) => Answer::Wrong,
+        (Answer::Done, Answer::Done) => Answer::Done,
+        (Answer::Refused, _) => Answer::Refused,
+        _ => Answer::Stopped,
+    }
+}
+
+// A column is put into the board, and as a row across into another that is alike.
+fn put_across<'a>(start: Start<'a>, board: &mut Board<'a>) -> Result<Answer, AllocError> {
+    let len = fitting(start.size.0);
+    let line = start.line(len)?;
+    let other_line = line.clone()?;
+    let mut other = board.clone()?;
+    if line.is_empty() || !board.fits_col(line.len()) {
+        return Ok(Answer::Wrong);
+    }
+    start.ready();
+    let (as_col, as_row) = insert_col_or_row_across(board, &mut other, 0, line, other_line);
+    Ok(both_of(
+        start,
+        line_came(as_col, len),
+        &other,
+        line_came(as_row, len),
+    ))
+}
+
+// The same two commands on the board and on another that is alike.
+fn ran_on_both<'a>(start: Start<'a>, board: &mut Board<'a>) -> Result<Answer, AllocError> {
+    let mut other = board.clone()?;
+    let mut list: Vec<Given<'a>, &'a Heap> = Vec::new(start.heap);
+    list.push(Command::Row(0))?;
+    list.push(Command::PopRow)?;
+    let mut other_list: Vec<Given<'a>, &'a Heap> = Vec::new(start.heap);
+    other_list.push(Command::Row(0))?;
+    other_list.push(Command::PopRow)?;
+    start.ready();
+    let (mut tally, mut other_tally) = (Tally::new(), Tally::new());
+    let (first, second) = run_in_either_order(
+        (start.heap, start.heap),
+        board,
+        &mut other,
+        list,
+        other_list,
+        &mut tally,
+        &mut other_tally,
+    );
+    Ok(both_of(start, came(first), &other, came(second)))
+}
+
 pub fn call<'a>(start: Start<'a>, board: &mut Board<'a>, name: &str) -> Result<Answer, AllocError> {
     match name {
         "Grid::step" | "grid_laws::step_by_least" => stepped(start, board, name),
         "Deferred::step" => stepped_deferred(start, board),
         "grid_laws::push_row_then_pop_row" => pushed_and_popped(start, board),
+        "grid_laws::insert_col_or_row_across" => put_across(start, board),
+        "grid_laws::run_in_either_order" => ran_on_both(start, board),
         "Script::parse" | "grid_play::play" | "grid_play::plays_alike" => {
             start.ready();
             Ok(played(start, name))

@@ -8,7 +8,7 @@ pub const CALLS: [Call; 13] = [
     Call("Grid::clone", 1, Some(1), None),
     Call("Clone::clone of a grid", 1, Some(1), None),
     Call("Grid::sub_grid", 5, None, None),
-    Call("GridView::to_vec", 3, Some(1), None),
+    Call("GridView::to_vec", 5, Some(1), None),
     Call("Grid::fill", 1, Some(1), None),
     Call("Grid::fill_part", 4, None, None),
     Call("Grid::paste", 3, None, None),
@@ -177,12 +177,14 @@ fn written<'a>(start: Start<'a>, board: &mut Board<'a>, name: &str) -> Answer {
     }
 }
 
-// Clones of a view: as it is, transposed, and turned half round.
+// Clones of a view: as it is, transposed, turned half round, and with the rows or the columns flipped.
 fn to_vec<'a>(start: Start<'a>, board: &Board<'a>) -> Answer {
     let view = match start.case {
         0 => board.view(),
         1 => board.view().transposed(),
-        _ => board.view().turned(Symmetry::RotateHalf),
+        2 => board.view().turned(Symmetry::RotateHalf),
+        3 => board.view().turned(Symmetry::FlipRows),
+        _ => board.view().turned(Symmetry::FlipCols),
     };
     came(view.to_vec(start.heap, start.order))
 }

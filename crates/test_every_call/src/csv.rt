@@ -2,14 +2,14 @@
 use crate::state::{Answer, Call, Start, came};
 use grid::Order;
 use grid_csv::laws::written_and_read;
-use grid_csv::{from_csv, from_csv_with_header, to_csv, to_csv_with_header};
+use grid_csv::{CsvError, from_csv, from_csv_with_header, to_csv, to_csv_with_header};
 use std::alloc::AllocError;
 use test_support::counted::Counted;
 
 pub const CALLS: [Call; 5] = [
-    Call("grid_csv::to_csv", 1, None, None),
-    Call("grid_csv::to_csv_with_header", 1, None, None),
-    Call("grid_csv::from_csv", 1, None, Some(1)),
+    Call("grid_csv::to_csv", 1, None, Some(1)),
+    Call("grid_csv::to_csv_with_header", 1, None, Some(1)),
+    Call("grid_csv::from_csv", 2, None, Some(1)),
     Call("grid_csv::from_csv_with_header", 1, None, Some(1)),
     Call("grid_csv::written_and_read", 1, None, None),
 ];
@@ -39,11 +39,15 @@ fn header(start: Start<'_>) -> Result<Vec<String>, AllocError> {
 fn csv_written<'a>(start: Start<'a>, name: &str) -> Result<Answer, AllocError> {
     let board = start.numbers()?;
     start.ready();
+    let write = |cell: &u32, field: &mut String| {
+        start.called();
+        put(cell, field)
+    };
     if name == "grid_csv::to_csv" {
-        return Ok(came(to_csv(start.alloc, &board, put)));
+        return Ok(came(to_csv(start.alloc, &board, write)));
     }
     let names = header(start)?;
-    Ok(came(to_csv_with_header(start.alloc, names.as_slice(), &board, put)))
+    Ok(came(to_csv_with_header(start.alloc, names.as_slice(), &board, write)))
 }
 
 fn csv_read<'a>(start: Start<'a>) -> Result<Answer, AllocError> {
@@ -52,6 +56,24 @@ fn csv_read<'a>(start: Start<'a>) -> Result<Answer, AllocError> {
     Ok(came(from_csv(start.alloc, text.as_str().as_bytes(), |field| {
         try_read(start, field)
     })))
+}
+
+// A field that isn't UTF-8, behind one that was read.
+fn bad_csv_read<'a>(start: Start<'a>) -> Answer {
+    if start.size != (1, 1) {
+        return Answer::Skipped;
+    }
+    start.ready();
+    match from_csv(start.alloc, b"1,\xff\n", |field| try_read(start, field)) {
+        Err(
+            CsvError::BadField {
+                record: 1,
+                field: 2,
+            },
+        ) => Answer::Done,
+        Ok(_) => Answer::Wrong,
+        read => came(read),
+    }
 }
 
 fn csv_with_header_read<'a>(start: Start<'a>) -> Result<Answer, AllocError> {
@@ -75,6 +97,7 @@ pub fn call(start: Start<'_>, name: &str) -> Result<Answer, AllocError> {
         return Ok(Answer::Skipped);
     }
     match name {
+        "grid_csv::from_csv" if start.case == 1 => Ok(bad_csv_read(start)),
         "grid_csv::from_csv" => csv_read(start),
         "grid_csv::from_csv_with_header" => csv_with_header_read(start),
         "grid_csv::written_and_read" => csv_written_and_read(start),

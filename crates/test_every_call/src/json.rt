@@ -12,7 +12,7 @@ pub const CALLS: [Call; 7] = [
     Call("grid_json::to_value", 1, None, None),
     Call("grid_json::from_value", 1, None, None),
     Call("grid_json::rows_to_value", 1, None, Some(1)),
-    Call("grid_json::rows_from_value", 2, None, Some(1)),
+    Call("grid_json::rows_from_value", 3, None, Some(1)),
     Call("grid_json::written_and_read", 1, None, None),
 ];
 
@@ -53,6 +53,24 @@ fn rows_read(start: Start<'_>) -> Result<Answer, AllocError> {
     })
 }
 
+// Two rows without cells.
+fn empty_rows_read(start: Start<'_>) -> Result<Answer, AllocError> {
+    if start.size != (0, 0) {
+        return Ok(Answer::Skipped);
+    }
+    let mut rows = Vec::new(start.alloc);
+    for _ in 0..2usize {
+        rows.push(Value::Array(Vec::new(start.alloc)))?;
+    }
+    let value = Value::Array(rows);
+    start.ready();
+    let read = rows_from_value(start.alloc, &value, |_| { Ok(Some(start.try_cell(1)?)) });
+    Ok(match read {
+        Ok(board) if !board.is_empty() => Answer::Wrong,
+        read => came(read),
+    })
+}
+
 fn written(start: Start<'_>, name: &str) -> Result<Answer, AllocError> {
     let board = start.numbers()?;
     start.ready();
@@ -71,6 +89,7 @@ pub fn call(start: Start<'_>, name: &str) -> Result<Answer, AllocError> {
     match name {
         "Cell::to_cell" | "Cell::from_cell" => cells(start, name),
         "grid_json::from_value" => read(start),
+        "grid_json::rows_from_value" if start.case == 2 => empty_rows_read(start),
         "grid_json::rows_from_value" => rows_read(start),
         name => written(start, name),
     }

@@ -6,7 +6,7 @@ use std::convert::TryFrom;
 use test_support::counted::Counted;
 use test_support::fixtures::Heap;
 
-pub const CALLS: [Call; 18] = [
+pub const CALLS: [Call; 19] = [
     Call("Grid::new", 1, Some(1), None),
     Call("Grid::new_with_order", 1, Some(1), None),
     Call("Grid::init", 1, Some(1), None),
@@ -21,6 +21,7 @@ pub const CALLS: [Call; 18] = [
     Call("Grid::from_view", 2, Some(1), None),
     Call("Grid::try_from of a vector lent", 2, Some(1), None),
     Call("Grid::try_from of rows", 1, Some(1), None),
+    Call("Grid::try_from of rows of no cells", 2, Some(0), None),
     Call("Grid::try_from of a list lent", 1, Some(1), None),
     Call("Grid::try_from of rows lent", 1, Some(1), None),
     Call("Grid::new of too many cells", 5, None, None),
@@ -134,6 +135,21 @@ fn of_list<'a>(
     Ok(came(Board::try_from(&lent)))
 }
 
+// Of as many rows as the board has, without cells, moved or lent.
+fn of_empty_rows(start: Start<'_>) -> Result<Answer, AllocError> {
+    let rows = start.lines(start.size.0, 0)?;
+    start.ready();
+    let made = if start.case == 0 {
+        Board::try_from(rows)
+    } else {
+        Board::try_from(&rows)
+    };
+    Ok(match made {
+        Ok(board) if !board.is_empty() => Answer::Wrong,
+        made => came(made),
+    })
+}
+
 // Vectors that are no table, which are dropped: a line to be cut into rows of none, and rows of two lengths, also lent.
 fn no_table(start: Start<'_>) -> Result<Answer, AllocError> {
     start.prepare();
@@ -176,6 +192,10 @@ pub fn call<'a>(start: Start<'a>, board: &mut Board<'a>, name: &str) -> Result<A
         "Grid::try_from of a vector lent" => Ok(of_vector(start, board)),
         "Grid::new of too many cells" => Ok(too_many(start)),
         "Grid::try_from of what is no table" => no_table(start),
+        "Grid::try_from of rows of no cells" => {
+            start.prepare();
+            of_empty_rows(start)
+        }
         "Grid::try_from of rows"
         | "Grid::try_from of a list lent"
         | "Grid::try_from of rows lent" => {

@@ -17,10 +17,10 @@ pub const CALLS: [Call; 16] = [
     Call("Grid::map_counts8", 1, Some(4), Some(2)),
     Call("Grid::map_sums4", 1, Some(4), Some(2)),
     Call("Grid::map_sums8", 1, Some(4), Some(2)),
-    Call("Grid::map_wrapped_counts4", 1, None, Some(1)),
-    Call("Grid::map_wrapped_counts8", 1, None, Some(1)),
-    Call("Grid::map_wrapped_sums4", 1, None, Some(1)),
-    Call("Grid::map_wrapped_sums8", 1, None, Some(1)),
+    Call("Grid::map_wrapped_counts4", 1, Some(4), Some(1)),
+    Call("Grid::map_wrapped_counts8", 1, Some(4), Some(1)),
+    Call("Grid::map_wrapped_sums4", 1, Some(4), Some(1)),
+    Call("Grid::map_wrapped_sums8", 1, Some(4), Some(1)),
     Call("Grid::positions", 3, None, Some(1)),
 ];
 
@@ -51,7 +51,8 @@ fn counted<'a>(start: Start<'a>, board: &Board<'a>, name: &str) -> Answer {
     }
 }
 
-// Those whose edges are joined call the test once more at the cells of the first line along the storage and of the last.
+// Those whose edges are joined call the test once more at the cells of the first line along the storage and of the last, and
+// never where they are refused.
 fn wrapped<'a>(start: Start<'a>, board: &Board<'a>, name: &str) -> Answer {
     let tests = Cell::new(0u64);
     let tested = || tests.set(tests.get().wrapping_add(1));
@@ -82,7 +83,11 @@ fn wrapped<'a>(start: Start<'a>, board: &Board<'a>, name: &str) -> Answer {
         Order::RowMajor => start.size,
         Order::ColumnMajor => (start.size.1, start.size.0),
     };
-    let most = lines.saturating_add(2).wrapping_mul(width) as u64;
+    let most = if answer == Answer::Refused {
+        0
+    } else {
+        lines.saturating_add(2).wrapping_mul(width) as u64
+    };
     if tests.get() > most {
         return Answer::Wrong;
     }

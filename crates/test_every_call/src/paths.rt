@@ -26,8 +26,8 @@ fn steps(start: Start<'_>) -> Steps {
     }
 }
 
-// No position; the first cell; the first and the last cell, and one that is out of range.
-const STARTS: [&[(usize, usize)]; 3] = [&[], &[(0, 0)], &[(0, 0), (2, 2), (9, 9)]];
+// No position; the first cell; the first one twice and the last cell, and one that is out of range.
+const STARTS: [&[(usize, usize)]; 3] = [&[], &[(0, 0)], &[(0, 0), (2, 2), (0, 0), (9, 9)]];
 
 // The positions of a case; from case 3 on the last ones.
 fn starts(start: Start<'_>) -> &'static [(usize, usize)] {

@@ -53,6 +53,7 @@ pub struct Start<'a> {
     pub case: usize,
     pub granted: u64,
     pub calls: &'a Cell<u64>,
+    pub refusals: &'a Cell<u64>,
 }
 
 // The number of the cell at a position.
@@ -77,10 +78,14 @@ impl<'a> Start<'a> {
         Counted::new(self.heap, number)
     }
 
-    // The same of a cell that may be refused.
+    // The same of a cell that may be refused, which is counted too.
     pub fn try_cell(&self, number: u32) -> Result<Counted<'a>, AllocError> {
         self.called();
-        Counted::try_new(self.heap, number)
+        let made = Counted::try_new(self.heap, number);
+        if made.is_err() {
+            self.refusals.set(self.refusals.get().wrapping_add(1));
+        }
+        made
     }
 
     // A cell that is handed over, and counted by the heap alone.
