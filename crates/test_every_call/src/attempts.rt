@@ -7,6 +7,7 @@ use std::cell::Cell;
 use std::io;
 use test_support::fixtures::{ORDERS, SIZES};
 use test_support::fuse::Fuse;
+use test_support::line_edits::push_row;
 
 // The modules that make the calls.
 #[derive(Clone, Copy)]
@@ -46,22 +47,27 @@ struct Seen {
     held: u64,
 }
 
-// Gives the vector of a board room to spare.
-fn give_room(board: &mut Board<'_>) -> Result<(), AllocError> {
-    let rows = board.rows();
-    if board.expand_rows(1).is_err() {
+// Gives the vector of a board room to spare, by a row that is pushed and deleted.
+fn give_room<'a>(start: Start<'a>, board: &mut Board<'a>) -> Result<(), AllocError> {
+    let (rows, cols) = board.size();
+    if push_row(board, start.line(cols.max(1))?).is_err() {
         return Err(AllocError);
     }
     board.delete_rows(rows, 1);
     Ok(())
 }
 
+// Whether the board has room to spare: in column-major order, one that is empty or has memory for all.
+fn has_room(start: Start<'_>) -> bool {
+    start.order == Order::ColumnMajor && (start.size.0 == 0 || !is_refused_on(start.size))
+}
+
 // Makes the call on a new board, which is then dropped.
 fn made(start: Start<'_>, group: Group, name: &str) -> Result<Answer, AllocError> {
     start.prepare();
     let mut board = start.board(start.size, start.order)?;
-    if !is_refused_on(start.size) && start.order == Order::ColumnMajor {
-        give_room(&mut board)?;
+    if has_room(start) {
+        give_room(start, &mut board)?;
     }
     let answer = match group {
         Group::Commands => commands::call(start, &mut board, name)?,
@@ -183,7 +189,7 @@ fn printed<R: Print>(
 }
 
 // Whether requests are refused on a board of this size: one of at most two rows, on which a vector grows twice. Larger
-// boards have memory for all, and in column-major order room to spare.
+// boards have memory for all.
 fn is_refused_on((rows, _): (usize, usize)) -> bool {
     rows <= 2
 }

@@ -13,7 +13,7 @@ use test_support::counted::Counted;
 use test_support::fixtures::Heap;
 
 // How many commands are tried.
-const COMMANDS: usize = 10;
+const COMMANDS: usize = 14;
 
 pub const CALLS: [Call; 12] = [
     Call("Grid::step", COMMANDS, None, None),
@@ -51,7 +51,12 @@ fn command<'a>(start: Start<'a>, (rows, cols): (usize, usize)) -> Result<Given<'
         7 => Command::PushRow(start.line(fitting(cols).saturating_add(1))?),
         8 => Command::Set(rows, cols, start.given(7)),
         // (no lines, in a list with room)
-        _ => Command::InsertRows(0, Vec::with_capacity(start.heap, 1)?),
+        9 => Command::InsertRows(0, Vec::with_capacity(start.heap, 1)?),
+        10 => Command::Set(0, 0, start.given(7)),
+        11 => Command::Col(0),
+        12 => Command::InsertRow(rows, start.line(fitting(cols))?),
+        // (too long)
+        _ => Command::InsertCols(0, start.lines(2, fitting(rows).saturating_add(1))?),
     })
 }
 

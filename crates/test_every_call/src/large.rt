@@ -1,11 +1,13 @@
-//! Larger inputs: texts, sheets and rows of JSON with a fault at each line and word, a path of 77 steps, and the words
-//! of a failed allocation.
+//! Larger inputs: texts, sheets and rows of JSON with a fault at each line and word, a path of 77 steps, searches that
+//! outgrow the room they begin with, and the words of a failed allocation.
 use crate::state::{Answer, came};
 use grid::{Grid, GridError, Order, ShapeError};
 use grid_csv::{CsvError, from_csv, from_csv_with_header};
 use grid_json::{ReadError, RowsError, rows_from_value};
 use grid_lines::sort_rows_by;
-use grid_paths::{Steps, cheapest, cheapest_path, distances, shortest_path};
+use grid_paths::{
+    Steps, cheapest, cheapest_path, distances, distances_from, regions, shortest_path,
+};
 use grid_pnm::PnmError;
 use grid_text::{TextError, from_text, from_words, try_from_words};
 use serde_json::Value;
@@ -349,11 +351,40 @@ fn search(
     granted: u64,
     calls: &Cell<u64>,
 ) -> Result<Answer, AllocError> {
+    if WIDE_SEARCHES.contains(&name) {
+        return outgrown(heap, name, granted);
+    }
     let maze = maze(heap, order)?;
     heap.grant(granted);
     Ok(match name {
         "distances" | "cheapest" => numbered(&maze, name, calls),
         _ => walked(&maze, name, calls),
+    })
+}
+
+// Two rows so wide that these outgrow the room that they begin with, where the second row costs more.
+const WIDTH: usize = 2100;
+
+const WIDE_SEARCHES: [&str; 5] = [
+    "all sums",
+    "a dear path",
+    "distances from a row",
+    "distances from all",
+    "a region",
+];
+
+fn outgrown(heap: &Heap, name: &str, granted: u64) -> Result<Answer, AllocError> {
+    heap.grant(u64::MAX);
+    let made = Grid::from_fn(heap, 2, WIDTH, |(row, _)| name != "a region" && row == 1);
+    let wide = made.map_err(|_| AllocError)?;
+    let starts = wide.positions(heap, |dear| name == "distances from all" || !*dear)?;
+    heap.grant(granted);
+    let cost = |dear: &bool| Some(if *dear { 9999 } else { 1 });
+    Ok(match name {
+        "all sums" => came(cheapest(&wide, (0, 0), Steps::Sides, cost)),
+        "a dear path" => came(cheapest_path(&wide, (0, 0), (1, 0), Steps::Sides, cost)),
+        "a region" => came(regions(&wide, Steps::Sides)),
+        _ => came(distances_from(&wide, &starts, Steps::Sides, |_| true)),
     })
 }
 
@@ -378,6 +409,10 @@ fn try_searches<R: Print + AllocGlobal>(rt: &R) -> io::Result<()> {
             let requests = try_search(rt, order, name)?;
             println!(rt; "{name} of a long way, {order:?}: {requests} requests")?;
         }
+    }
+    for name in WIDE_SEARCHES {
+        let requests = try_search(rt, Order::RowMajor, name)?;
+        println!(rt; "{name} of two wide rows: {requests} requests")?;
     }
     Ok(())
 }
@@ -417,9 +452,27 @@ fn try_sort<R: Print + AllocGlobal>(rt: &R) -> io::Result<()> {
     Ok(())
 }
 
+// Updates the cells of a row that is longer than one that is updated in turn.
+fn update_large(heap: &Heap) -> Result<(), AllocError> {
+    let made = Grid::from_fn(heap, 1, 40, |_| Counted::new(heap, 1));
+    let mut board = made.map_err(|_| AllocError)?;
+    board.update(|_, cell| Counted::new(heap, cell.value()));
+    Ok(())
+}
+
+fn try_update<R: Print + AllocGlobal>(rt: &R) -> io::Result<()> {
+    let heap = Fuse::new(rt.alloc(), u64::MAX);
+    update_large(&heap)?;
+    if heap.held() != 0 {
+        println!(rt; "FAILED update of a long row")?;
+    }
+    Ok(())
+}
+
 pub fn try_all<R: Print + AllocGlobal>(rt: &R) -> io::Result<()> {
     try_flaws(rt)?;
     try_sort(rt)?;
+    try_update(rt)?;
     try_searches(rt)?;
     if are_out_of_memory(rt.alloc())? {
         println!(rt; "want of memory: 7 faults say so")

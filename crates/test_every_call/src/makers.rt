@@ -6,7 +6,7 @@ use std::convert::TryFrom;
 use test_support::counted::Counted;
 use test_support::fixtures::Heap;
 
-pub const CALLS: [Call; 19] = [
+pub const CALLS: [Call; 20] = [
     Call("Grid::new", 1, Some(1), None),
     Call("Grid::new_with_order", 1, Some(1), None),
     Call("Grid::init", 1, Some(1), None),
@@ -26,6 +26,7 @@ pub const CALLS: [Call; 19] = [
     Call("Grid::try_from of rows lent", 1, Some(1), None),
     Call("Grid::new of too many cells", 5, None, None),
     Call("Grid::try_from of what is no table", 3, Some(0), None),
+    Call("Grid::new of no cells", 6, Some(0), None),
 ];
 
 // A board of what a closure makes.
@@ -184,6 +185,25 @@ fn too_many(start: Start<'_>) -> Answer {
     }
 }
 
+// Sizes with no rows alone, and with no columns; and the vector of one row, moved.
+fn none_or_moved<'a>(start: Start<'a>) -> Result<Answer, AllocError> {
+    let Start { heap, order, .. } = start;
+    let line = start.line(start.size.1)?;
+    start.ready();
+    let made = match start.case {
+        0 => Board::new_with_order(heap, 0, 3, order),
+        1 => Board::init_with_order(heap, 3, 0, order, start.given(1)),
+        2 => Board::init(heap, 0, 3, start.given(1)),
+        3 => Board::from_fn(heap, 3, 0, |_| start.cell(1)),
+        4 => Board::with_capacity(heap, 3, 0),
+        _ => return Ok(came(Board::try_from((line, start.size.1)))),
+    };
+    Ok(match made {
+        Ok(board) if !board.is_empty() => Answer::Wrong,
+        made => came(made),
+    })
+}
+
 pub fn call<'a>(start: Start<'a>, board: &mut Board<'a>, name: &str) -> Result<Answer, AllocError> {
     start.ready();
     match name {
@@ -192,6 +212,10 @@ pub fn call<'a>(start: Start<'a>, board: &mut Board<'a>, name: &str) -> Result<A
         "Grid::try_from of a vector lent" => Ok(of_vector(start, board)),
         "Grid::new of too many cells" => Ok(too_many(start)),
         "Grid::try_from of what is no table" => no_table(start),
+        "Grid::new of no cells" => {
+            start.prepare();
+            none_or_moved(start)
+        }
         "Grid::try_from of rows of no cells" => {
             start.prepare();
             of_empty_rows(start)

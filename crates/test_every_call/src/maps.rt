@@ -21,7 +21,7 @@ pub const CALLS: [Call; 16] = [
     Call("Grid::map_wrapped_counts8", 1, Some(4), Some(1)),
     Call("Grid::map_wrapped_sums4", 1, Some(4), Some(1)),
     Call("Grid::map_wrapped_sums8", 1, Some(4), Some(1)),
-    Call("Grid::positions", 3, None, Some(1)),
+    Call("Grid::positions", 4, None, Some(1)),
 ];
 
 fn is_odd(cell: &Counted<'_>) -> bool {
@@ -94,11 +94,17 @@ fn wrapped<'a>(start: Start<'a>, board: &Board<'a>, name: &str) -> Answer {
     answer
 }
 
-// The positions of all cells, of none, or of those that are odd, by the case.
+// The positions of all cells, of none, of those that are odd, or of the last, by the case.
 fn positions<'a>(start: Start<'a>, board: &Board<'a>) -> Answer {
+    let cells = start.size.0.wrapping_mul(start.size.1) as u64;
     came(board.positions(start.heap, |cell| {
         start.called();
-        start.case == 0 || (start.case == 2 && is_odd(cell))
+        match start.case {
+            0 => true,
+            1 => false,
+            2 => is_odd(cell),
+            _ => start.calls.get() == cells,
+        }
     }))
 }
 

@@ -9,12 +9,12 @@ use std::alloc::AllocError;
 pub const CALLS: [Call; 8] = [
     Call("grid_paths::distances", 3, None, Some(1)),
     Call("grid_paths::distances_from", 4, None, Some(1)),
-    Call("grid_paths::shortest_path", 4, None, None),
+    Call("grid_paths::shortest_path", 5, None, None),
     Call("grid_paths::cheapest", 3, None, Some(1)),
-    Call("grid_paths::cheapest_path", 4, None, None),
+    Call("grid_paths::cheapest_path", 5, None, None),
     Call("grid_paths::regions", 3, None, None),
     Call("grid_paths::flood", 5, None, Some(1)),
-    Call("grid_paths::fill_region", 4, None, None),
+    Call("grid_paths::fill_region", 5, None, None),
 ];
 
 // The steps of a case: to the sides, or to the corners too.
@@ -43,16 +43,21 @@ fn once_each(start: Start<'_>, answer: Answer) -> Answer {
     }
 }
 
-// The last cell.
+// The last cell, or in case 4 a position out of range.
 fn end(start: Start<'_>) -> (usize, usize) {
     let (rows, cols) = start.size;
+    if start.case == 4 {
+        return (rows, cols);
+    }
     (rows.saturating_sub(1), cols.saturating_sub(1))
 }
 
 // Whether a cell is free: all are; none is; or the first and the last alone, between which no path leads on three columns.
 fn is_free(start: Start<'_>, cell: u32) -> bool {
     start.called();
-    start.case < 2 || start.case == 3 && (cell == number((0, 0)) || cell == number(end(start)))
+    start.case < 2
+        || start.case == 4
+        || start.case == 3 && (cell == number((0, 0)) || cell == number(end(start)))
 }
 
 // From the first cell to the last one.
@@ -103,13 +108,15 @@ fn searched(start: Start<'_>, board: &Numbers<'_>, name: &str) -> Answer {
     }
 }
 
-// Fills the region of the first cell with another number, or with its own. In case 3 the region is the board.
+// Fills the region of the first cell with another number, or with its own. In case 3 the region is the board; in case 4
+// there is none.
 fn filled(start: Start<'_>, board: &mut Numbers<'_>) -> Answer {
     if start.case == 3 {
         board.fill_with(|| 1);
     }
     let value = if start.case == 2 { 1 } else { 99 };
-    let answer = came(fill_region(board, (0, 0), steps(start), value));
+    let at = if start.case == 4 { start.size } else { (0, 0) };
+    let answer = came(fill_region(board, at, steps(start), value));
     let is_unchanged = if start.case == 3 {
         board.iter().all(|cell| *cell == 1)
     } else {

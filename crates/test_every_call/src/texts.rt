@@ -9,8 +9,8 @@ pub const CALLS: [Call; 8] = [
     Call("grid_text::to_text", 4, None, None),
     Call("grid_text::to_words", 1, None, None),
     Call("grid_text::from_text", 2, None, Some(1)),
-    Call("grid_text::from_words", 1, None, Some(1)),
-    Call("grid_text::try_from_words", 1, None, Some(1)),
+    Call("grid_text::from_words", 2, None, Some(1)),
+    Call("grid_text::try_from_words", 2, None, Some(1)),
     Call("grid_text::written_and_read", 1, None, None),
     Call("grid_text::numbers_written_and_read", 1, None, None),
 ];
@@ -22,10 +22,19 @@ fn letter(start: Start<'_>) -> char {
     LETTERS.get(start.case).copied().unwrap_or('x')
 }
 
+// A text as it was written, or in case 1 without the end of its last line.
+fn ended<'t>(start: Start<'_>, text: &'t str) -> &'t str {
+    if start.case == 1 {
+        text.trim_end()
+    } else {
+        text
+    }
+}
+
 fn read<'a>(start: Start<'a>) -> Result<Answer, AllocError> {
     let text = to_text(start.alloc, &start.numbers()?, |_| letter(start))?;
     start.ready();
-    Ok(came(from_text(start.heap, text.as_str(), |found| {
+    Ok(came(from_text(start.heap, ended(start, text.as_str()), |found| {
         if found == letter(start) {
             Some(start.cell(1))
         } else {
@@ -39,14 +48,15 @@ fn number_of(word: &str) -> Option<u32> {
 }
 
 fn words_read<'a>(start: Start<'a>, name: &str) -> Result<Answer, AllocError> {
-    let text = to_words(start.alloc, &start.numbers()?)?;
+    let written = to_words(start.alloc, &start.numbers()?)?;
+    let text = ended(start, written.as_str());
     start.ready();
     Ok(if name == "grid_text::from_words" {
-        came(from_words(start.heap, text.as_str(), |word| {
+        came(from_words(start.heap, text, |word| {
             number_of(word).map(|number| start.cell(number))
         }))
     } else {
-        came(try_from_words(start.heap, text.as_str(), |word| {
+        came(try_from_words(start.heap, text, |word| {
             Ok(Some(start.try_cell(number_of(word).unwrap_or(0))?))
         }))
     })
