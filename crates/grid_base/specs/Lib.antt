@@ -14,6 +14,7 @@ pub mod Append
 pub mod Positions
 pub mod Remaining
 pub mod Strides
+pub mod Layout
 pub mod LineCells
 pub mod Span
 pub mod RowsLeft

@@ -3,6 +3,7 @@
 #![tactic(auto)]
 
 mod flat;
+mod layout;
 pub mod laws;
 mod order;
 mod tally;
@@ -13,6 +14,7 @@ pub use flat::{
     Flat, GridLineIter, GridLineIterMut, GridRowIter, Groups, IndexedIntoIter, IndexedIter,
     IndexedIterMut, Positions,
 };
+pub use layout::Layout;
 pub use order::Order;
 pub use tally::Tally;
 pub use whole::Whole;

@@ -1,45 +1,38 @@
 //! Calls on all cells of a `Flat`.
-ghost use Rattle.std.specs.Prelude.{[], ◌≡◌, ◌+◌, ◌*◌, ◌^◌, ◌<◌, ◌≤◌, length, replicate, take, zip, vec_len, vec_capacity, Ok, IsOk, IfOk, IfErr, OnOk, OnErr};
+ghost use Rattle.std.specs.Prelude.{[], ◌≡◌, ◌+◌, ◌*◌, ◌<◌, ◌≤◌, length, replicate, take, zip, vec_len, vec_capacity, Ok, IsOk, IfOk, IfErr, OnOk, OnErr};
 ghost use Rattle.std.specs.Fn.{FnReturnsAt};
 ghost use Rattle.grid_base.specs.ClosureCalls.{MapsTo, CallableAtEach, CallableAtRefs, CallableTimes, CallableAtCells, CallableAtItems, ReturnsAtCell, Generates, PairsUp, FailsFirst};
 ghost use Rattle.grid_base.specs.Updated.{CallableFrom, UpdatedFrom};
-ghost use Rattle.grid_base.specs.GridValue.{HoldsSize};
-ghost use Rattle.grid_base.specs.Table.{IsSize};
-ghost use Rattle.grid_base.specs.Positions.{positions, along};
+ghost use Rattle.grid_base.specs.Layout.{positions_of, lines_of};
 ghost use Rattle.grid_base.specs.Clones.{ClonesAreEqual};
 
 use super::Flat;
-use super::positions::{Positions, by_line};
-use crate::Order;
+use super::positions::Positions;
+use crate::Layout;
 use std::alloc::{AllocError, Allocator};
 
 // In shorter lines the start of a loop costs more than the steps of a position.
 const LONG_LINE: usize = 32;
 
 impl<T, A: Allocator> Flat<T, A> {
-    /// Returns what the closure returns at each position of a table of `rows` rows and `cols` columns, in storage order.
+    /// Returns what the closure returns at each position of a table, in storage order.
     ///
-    /// Requires: there are rows exactly if there are columns, a vector can hold their cells, and the closure can be
-    /// called at each position.
+    /// Requires: the closure can be called at each position.
     /// Fails: if allocation fails; the closure wasn't called.
     /// Cost: one call for each cell; one allocation, before the first call.
     pub fn from_fn<F: Fn((usize, usize)) -> T>(
         alloc: A,
-        order: Order,
-        rows: usize,
-        cols: usize,
+        layout: Layout,
         f: F,
     ) -> Result<Flat<T, A>, AllocError>
-        requires below { rows * cols < 2 ^ 64 }
-        requires size { IsSize rows cols }
-        requires calls { CallableAtItems F.pre f (positions order rows cols) }
-        ensures len { IfOk result (λ g. length g ≡ rows * cols) }
-        ensures cells { IfOk result (λ g. PairsUp (F.post f) (positions order rows cols) g) }
+        requires calls { CallableAtItems F.pre f (positions_of layout) }
+        ensures len { IfOk result (λ g. length g ≡ layout.rows * layout.cols) }
+        ensures cells { IfOk result (λ g. PairsUp (F.post f) (positions_of layout) g) }
     {
-        let (lines, _) = by_line(order, rows, cols);
-        let mut cells = Vec::with_capacity(alloc, rows * cols)?;
+        let (lines, _) = layout.lines();
+        let mut cells = Vec::with_capacity(alloc, layout.len())?;
         for line in 0..lines {
-            cells = push_line(cells, order, rows, cols, line, &f);
+            cells = push_line(cells, layout, line, &f);
         }
         Ok(Flat { cells })
     }
@@ -52,24 +45,20 @@ impl<T, A: Allocator> Flat<T, A> {
     /// Cost: one call for each cell, up to the first error; one allocation, before the first call.
     pub fn try_from_fn<E, F: Fn((usize, usize)) -> Result<T, E>>(
         alloc: A,
-        order: Order,
-        rows: usize,
-        cols: usize,
+        layout: Layout,
         f: F,
     ) -> Result<Result<Flat<T, A>, E>, AllocError>
     where
         T: Drop,
-        requires below { rows * cols < 2 ^ 64 }
-        requires size { IsSize rows cols }
-        requires calls { CallableAtItems F.pre f (positions order rows cols) }
-        ensures len { IfOk result (λ made. IfOk made (λ g. length g ≡ rows * cols)) }
+        requires calls { CallableAtItems F.pre f (positions_of layout) }
+        ensures len { IfOk result (λ made. IfOk made (λ g. length g ≡ layout.rows * layout.cols)) }
         ensures cells { IfOk result (λ made. IfOk made
-            (PairsUp (λ at y. F.post f at (Ok y)) (positions order rows cols))) }
+            (PairsUp (λ at y. F.post f at (Ok y)) (positions_of layout))) }
         ensures failed { IfOk result (λ made. IfErr made
-            (FailsFirst (F.post f) (positions order rows cols))) }
+            (FailsFirst (F.post f) (positions_of layout))) }
     {
-        let mut cells = Vec::with_capacity(alloc, rows * cols)?;
-        let positions = Positions::new(order, rows, cols);
+        let mut cells = Vec::with_capacity(alloc, layout.len())?;
+        let positions = Positions::new(layout);
         for at in positions {
             match f(at) {
                 Ok(cell) => cells.push_reserved(cell),
@@ -172,81 +161,63 @@ impl<T, A: Allocator> Flat<T, A> {
         Ok(Flat { cells: mapped })
     }
 
-    /// Returns what the closure returns at each position of a table of `rows` rows and `cols` columns, and a reference to
-    /// the cell there.
+    /// Returns what the closure returns at each position of a table, and a reference to the cell there.
     ///
-    /// Requires: the vector has `rows * cols` cells, there are rows exactly if there are columns, and the closure can be
-    /// called at each position and its cell.
+    /// Requires: the vector has as many cells as the layout, and the closure can be called at each position and its cell.
     /// Fails: if allocation fails; the closure wasn't called.
     /// Cost: one call for each cell; one allocation, before the first call.
     pub fn map_indexed<U, F: Fn((usize, usize), &T) -> U>(
         &self,
-        order: Order,
-        rows: usize,
-        cols: usize,
+        layout: Layout,
         f: F,
     ) -> Result<Flat<U, A>, AllocError>
     where
         A: Clone,
-        requires size { HoldsSize rows cols (length self.now) }
-        requires calls { CallableAtCells F.pre f (zip (positions order rows cols) self.now) }
+        requires cells { length self.now ≡ layout.rows * layout.cols }
+        requires calls { CallableAtCells F.pre f (zip (positions_of layout) self.now) }
         ensures len { IfOk result (λ g. length g ≡ length self.now) }
         ensures cells { IfOk result (λ g.
-            PairsUp (ReturnsAtCell F.post f) (zip (positions order rows cols) self.now) g) }
+            PairsUp (ReturnsAtCell F.post f) (zip (positions_of layout) self.now) g) }
     {
         let alloc = self.cells.allocator().clone()?;
         let room = Vec::with_capacity(alloc, self.cells.len())?;
-        let made = mapped(room, self.cells.as_slice(), order, rows, cols, &f);
+        let made = mapped(room, self.cells.as_slice(), layout, &f);
         Ok(Flat { cells: made })
     }
 
-    /// Replaces each cell of a table of `rows` rows and `cols` columns by what the closure returns at its position and a
-    /// reference to it, in order.
+    /// Replaces each cell of a table by what the closure returns at its position and a reference to it, in order.
     ///
-    /// Requires: the vector has `rows * cols` cells, there are rows exactly if there are columns, and the closure can be
-    /// called at each position and its cell.
+    /// Requires: the vector has as many cells as the layout, and the closure can be called at each position and its cell.
     /// Cost: one call for each cell; no memory.
-    pub fn update<F: Fn((usize, usize), &T) -> T>(
-        &mut self,
-        order: Order,
-        rows: usize,
-        cols: usize,
-        f: F,
-    )
+    pub fn update<F: Fn((usize, usize), &T) -> T>(&mut self, layout: Layout, f: F)
     where
         T: Drop,
-        requires size { HoldsSize rows cols (length self.old) }
-        requires calls { CallableAtCells F.pre f (zip (positions order rows cols) self.old) }
+        requires cells { length self.old ≡ layout.rows * layout.cols }
+        requires calls { CallableAtCells F.pre f (zip (positions_of layout) self.old) }
         ensures len { length self.new ≡ length self.old }
-        ensures cells { PairsUp (ReturnsAtCell F.post f) (zip (positions order rows cols) self.old)
+        ensures cells { PairsUp (ReturnsAtCell F.post f) (zip (positions_of layout) self.old)
             self.new }
     {
-        let (_, width) = by_line(order, rows, cols);
+        let (_, width) = layout.lines();
         let cells = self.cells.as_mut_slice();
         if width < LONG_LINE {
-            update_in_turn(cells, order, rows, cols, &f);
+            update_in_turn(cells, layout, &f);
         } else {
-            update_by_line(cells, order, rows, cols, &f);
+            update_by_line(cells, layout, &f);
         }
     }
 }
 
 // Replaces each cell of a table by what the closure returns at its position and a reference to it, in one loop. It is
 // vectorised where the closure doesn't look at the position.
-fn update_in_turn<T: Drop, F: Fn((usize, usize), &T) -> T>(
-    cells: &mut [T],
-    order: Order,
-    rows: usize,
-    cols: usize,
-    f: &F,
-)
-    requires size { HoldsSize rows cols (length cells.old) }
-    requires calls { CallableAtCells F.pre f.now (zip (positions order rows cols) cells.old) }
+fn update_in_turn<T: Drop, F: Fn((usize, usize), &T) -> T>(cells: &mut [T], layout: Layout, f: &F)
+    requires cells { length cells.old ≡ layout.rows * layout.cols }
+    requires calls { CallableAtCells F.pre f.now (zip (positions_of layout) cells.old) }
     ensures len { length cells.new ≡ length cells.old }
     ensures cells { PairsUp (ReturnsAtCell F.post f.now)
-        (zip (positions order rows cols) cells.old) cells.new }
+        (zip (positions_of layout) cells.old) cells.new }
 {
-    let mut left = Positions::new(order, rows, cols);
+    let mut left = Positions::new(layout);
     for cell in cells.iter_mut() {
         let at = left.pass();
         *cell = f(at, cell);
@@ -255,45 +226,37 @@ fn update_in_turn<T: Drop, F: Fn((usize, usize), &T) -> T>(
 
 // Does the same, line by line along the storage. Where the closure doesn't look at the position and a cell is a byte,
 // the compiler joins the fills of the lines into one.
-fn update_by_line<T: Drop, F: Fn((usize, usize), &T) -> T>(
-    cells: &mut [T],
-    order: Order,
-    rows: usize,
-    cols: usize,
-    f: &F,
-)
-    requires size { HoldsSize rows cols (length cells.old) }
-    requires calls { CallableAtCells F.pre f.now (zip (positions order rows cols) cells.old) }
+fn update_by_line<T: Drop, F: Fn((usize, usize), &T) -> T>(cells: &mut [T], layout: Layout, f: &F)
+    requires cells { length cells.old ≡ layout.rows * layout.cols }
+    requires calls { CallableAtCells F.pre f.now (zip (positions_of layout) cells.old) }
     ensures len { length cells.new ≡ length cells.old }
     ensures cells { PairsUp (ReturnsAtCell F.post f.now)
-        (zip (positions order rows cols) cells.old) cells.new }
+        (zip (positions_of layout) cells.old) cells.new }
 {
-    let (lines, _) = by_line(order, rows, cols);
+    let (lines, _) = layout.lines();
     for line in 0..lines {
-        update_line(cells, order, rows, cols, line, f);
+        update_line(cells, layout, line, f);
     }
 }
 
 // Replaces the cells of a line along the storage in the same way.
 fn update_line<T: Drop, F: Fn((usize, usize), &T) -> T>(
     cells: &mut [T],
-    order: Order,
-    rows: usize,
-    cols: usize,
+    layout: Layout,
     line: usize,
     f: &F,
 )
-    requires size { HoldsSize rows cols (length cells.old) }
-    requires line { line < (along order rows cols).0 }
+    requires cells { length cells.old ≡ layout.rows * layout.cols }
+    requires line { line < (lines_of layout).0 }
     requires calls { CallableFrom F.pre f.now
-        (positions order rows cols) cells.old (line * (along order rows cols).1) }
-    ensures { UpdatedFrom (ReturnsAtCell F.post f.now) (positions order rows cols) cells.old
-        (line * (along order rows cols).1) ((line + 1) * (along order rows cols).1) cells.new }
+        (positions_of layout) cells.old (line * (lines_of layout).1) }
+    ensures { UpdatedFrom (ReturnsAtCell F.post f.now) (positions_of layout) cells.old
+        (line * (lines_of layout).1) ((line + 1) * (lines_of layout).1) cells.new }
 {
-    let (_, width) = by_line(order, rows, cols);
+    let (_, width) = layout.lines();
     let start = line * width;
     for k in 0..width {
-        let at = by_line(order, line, k);
+        let at = layout.at(line, k);
         cells[start + k] = f(at, &cells[start + k]);
     }
 }
@@ -302,27 +265,24 @@ fn update_line<T: Drop, F: Fn((usize, usize), &T) -> T>(
 // one over all positions isn't.
 fn push_line<T, A: Allocator, F: Fn((usize, usize)) -> T>(
     mut cells: Vec<T, A>,
-    order: Order,
-    rows: usize,
-    cols: usize,
+    layout: Layout,
     line: usize,
     f: &F,
 ) -> Vec<T, A>
-    requires size { IsSize rows cols }
-    requires line { line < (along order rows cols).0 }
-    requires calls { CallableAtItems F.pre f.now (positions order rows cols) }
-    requires room { rows * cols ≤ vec_capacity cells }
-    requires passed { vec_len cells ≡ line * (along order rows cols).1 }
+    requires line { line < (lines_of layout).0 }
+    requires calls { CallableAtItems F.pre f.now (positions_of layout) }
+    requires room { layout.rows * layout.cols ≤ vec_capacity cells }
+    requires passed { vec_len cells ≡ line * (lines_of layout).1 }
     requires answers { PairsUp
-        (F.post f.now) (take (vec_len cells) (positions order rows cols)) cells.items }
+        (F.post f.now) (take (vec_len cells) (positions_of layout)) cells.items }
     ensures room { vec_capacity result ≡ vec_capacity cells }
-    ensures passed { vec_len result ≡ vec_len cells + (along order rows cols).1 }
+    ensures passed { vec_len result ≡ vec_len cells + (lines_of layout).1 }
     ensures answers { PairsUp
-        (F.post f.now) (take (vec_len result) (positions order rows cols)) result.items }
+        (F.post f.now) (take (vec_len result) (positions_of layout)) result.items }
 {
-    let (_, width) = by_line(order, rows, cols);
+    let (_, width) = layout.lines();
     for k in 0..width {
-        let at = by_line(order, line, k);
+        let at = layout.at(line, k);
         cells.push_reserved(f(at));
     }
     cells
@@ -332,24 +292,22 @@ fn push_line<T, A: Allocator, F: Fn((usize, usize)) -> T>(
 fn mapped<T, U, A: Allocator, F: Fn((usize, usize), &T) -> U>(
     made: Vec<U, A>,
     cells: &[T],
-    order: Order,
-    rows: usize,
-    cols: usize,
+    layout: Layout,
     f: &F,
 ) -> Vec<U, A>
-    requires size { HoldsSize rows cols (length cells.now) }
-    requires calls { CallableAtCells F.pre f.now (zip (positions order rows cols) cells.now) }
+    requires cells { length cells.now ≡ layout.rows * layout.cols }
+    requires calls { CallableAtCells F.pre f.now (zip (positions_of layout) cells.now) }
     requires none { made.items ≡ [] }
     requires room { length cells.now ≤ vec_capacity made }
     ensures len { length result.items ≡ length cells.now }
     ensures cells { PairsUp (ReturnsAtCell F.post f.now)
-        (zip (positions order rows cols) cells.now) result.items }
+        (zip (positions_of layout) cells.now) result.items }
 {
-    let (_, width) = by_line(order, rows, cols);
+    let (_, width) = layout.lines();
     if width < LONG_LINE {
-        map_in_turn(made, cells, order, rows, cols, f)
+        map_in_turn(made, cells, layout, f)
     } else {
-        map_by_line(made, cells, order, rows, cols, f)
+        map_by_line(made, cells, layout, f)
     }
 }
 
@@ -357,20 +315,18 @@ fn mapped<T, U, A: Allocator, F: Fn((usize, usize), &T) -> U>(
 fn map_in_turn<T, U, A: Allocator, F: Fn((usize, usize), &T) -> U>(
     mut made: Vec<U, A>,
     cells: &[T],
-    order: Order,
-    rows: usize,
-    cols: usize,
+    layout: Layout,
     f: &F,
 ) -> Vec<U, A>
-    requires size { HoldsSize rows cols (length cells.now) }
-    requires calls { CallableAtCells F.pre f.now (zip (positions order rows cols) cells.now) }
+    requires cells { length cells.now ≡ layout.rows * layout.cols }
+    requires calls { CallableAtCells F.pre f.now (zip (positions_of layout) cells.now) }
     requires none { made.items ≡ [] }
     requires room { length cells.now ≤ vec_capacity made }
     ensures len { length result.items ≡ length cells.now }
     ensures cells { PairsUp (ReturnsAtCell F.post f.now)
-        (zip (positions order rows cols) cells.now) result.items }
+        (zip (positions_of layout) cells.now) result.items }
 {
-    let mut left = Positions::new(order, rows, cols);
+    let mut left = Positions::new(layout);
     for cell in cells {
         let at = left.pass();
         made.push_reserved(f(at, cell));
@@ -382,22 +338,20 @@ fn map_in_turn<T, U, A: Allocator, F: Fn((usize, usize), &T) -> U>(
 fn map_by_line<T, U, A: Allocator, F: Fn((usize, usize), &T) -> U>(
     mut made: Vec<U, A>,
     cells: &[T],
-    order: Order,
-    rows: usize,
-    cols: usize,
+    layout: Layout,
     f: &F,
 ) -> Vec<U, A>
-    requires size { HoldsSize rows cols (length cells.now) }
-    requires calls { CallableAtCells F.pre f.now (zip (positions order rows cols) cells.now) }
+    requires cells { length cells.now ≡ layout.rows * layout.cols }
+    requires calls { CallableAtCells F.pre f.now (zip (positions_of layout) cells.now) }
     requires none { made.items ≡ [] }
     requires room { length cells.now ≤ vec_capacity made }
     ensures len { length result.items ≡ length cells.now }
     ensures cells { PairsUp (ReturnsAtCell F.post f.now)
-        (zip (positions order rows cols) cells.now) result.items }
+        (zip (positions_of layout) cells.now) result.items }
 {
-    let (lines, _) = by_line(order, rows, cols);
+    let (lines, _) = layout.lines();
     for line in 0..lines {
-        push_mapped(&mut made, cells, order, rows, cols, line, f);
+        push_mapped(&mut made, cells, layout, line, f);
     }
     made
 }
@@ -407,28 +361,26 @@ fn map_by_line<T, U, A: Allocator, F: Fn((usize, usize), &T) -> U>(
 fn push_mapped<T, U, A: Allocator, F: Fn((usize, usize), &T) -> U>(
     mapped: &mut Vec<U, A>,
     cells: &[T],
-    order: Order,
-    rows: usize,
-    cols: usize,
+    layout: Layout,
     line: usize,
     f: &F,
 )
-    requires size { HoldsSize rows cols (length cells.now) }
-    requires line { line < (along order rows cols).0 }
-    requires calls { CallableAtCells F.pre f.now (zip (positions order rows cols) cells.now) }
-    requires room { rows * cols ≤ vec_capacity mapped.old }
-    requires passed { vec_len mapped.old ≡ line * (along order rows cols).1 }
+    requires cells { length cells.now ≡ layout.rows * layout.cols }
+    requires line { line < (lines_of layout).0 }
+    requires calls { CallableAtCells F.pre f.now (zip (positions_of layout) cells.now) }
+    requires room { layout.rows * layout.cols ≤ vec_capacity mapped.old }
+    requires passed { vec_len mapped.old ≡ line * (lines_of layout).1 }
     requires answers { PairsUp (ReturnsAtCell F.post f.now)
-        (take (vec_len mapped.old) (zip (positions order rows cols) cells.now)) mapped.old.items }
+        (take (vec_len mapped.old) (zip (positions_of layout) cells.now)) mapped.old.items }
     ensures room { vec_capacity mapped.new ≡ vec_capacity mapped.old }
-    ensures passed { vec_len mapped.new ≡ vec_len mapped.old + (along order rows cols).1 }
+    ensures passed { vec_len mapped.new ≡ vec_len mapped.old + (lines_of layout).1 }
     ensures answers { PairsUp (ReturnsAtCell F.post f.now)
-        (take (vec_len mapped.new) (zip (positions order rows cols) cells.now)) mapped.new.items }
+        (take (vec_len mapped.new) (zip (positions_of layout) cells.now)) mapped.new.items }
 {
-    let (_, width) = by_line(order, rows, cols);
+    let (_, width) = layout.lines();
     let start = line * width;
     for k in 0..width {
-        let at = by_line(order, line, k);
+        let at = layout.at(line, k);
         mapped.push_reserved(f(at, &cells[start + k]));
     }
 }

@@ -1,15 +1,14 @@
 //! Iterators over all cells with their rows and columns, in storage order: by reference, for writing, and by value.
-ghost use Rattle.std.specs.Prelude.{◌≡◌, ⊤, length, zip, IfSome, Some};
+ghost use Rattle.std.specs.Prelude.{◌≡◌, ◌*◌, ⊤, length, zip, IfSome, Some};
 ghost use Rattle.std.specs.Borrow.{sem};
 ghost use Rattle.std.specs.Iterator.{YieldsFirst, YieldsFirstBy, YieldsLastBy, item_count, UpTo, at_most};
 ghost use Rattle.std.specs.Iterator.SizeHint.{IsWithinCount};
-ghost use Rattle.grid_base.specs.GridValue.{HoldsSize};
-ghost use Rattle.grid_base.specs.Positions.{positions};
+ghost use Rattle.grid_base.specs.Layout.{positions_of};
 ghost use Rattle.grid_base.specs.IndexedIterMut.{indexed_mut_rest};
 
 use super::Flat;
 use super::positions::Positions;
-use crate::Order;
+use crate::Layout;
 use std::alloc::{AllocError, Allocator, Global};
 use std::iter::FusedIterator;
 use std::marker::Model;
@@ -18,51 +17,43 @@ use std::{slice, vec};
 impl<T, A: Allocator> Flat<T, A> {
     ghost use Rattle.grid_base.specs.FlatLends.{lends_indexed};
 
-    /// Returns an iterator over the cells of a table of `rows` rows and `cols` columns, each with its row and its
-    /// column.
+    /// Returns an iterator over the cells, each with its row and its column.
     ///
-    /// Requires: the vector has `rows * cols` cells, and there are rows exactly if there are columns.
-    pub fn indexed_iter(&self, order: Order, rows: usize, cols: usize) -> IndexedIter<'_, T>
-        requires { HoldsSize rows cols (length self.now) }
-        ensures { result ≡ zip (positions order rows cols) self.now }
+    /// Requires: the vector has as many cells as the layout.
+    pub fn indexed_iter(&self, layout: Layout) -> IndexedIter<'_, T>
+        requires { length self.now ≡ layout.rows * layout.cols }
+        ensures { result ≡ zip (positions_of layout) self.now }
     {
         IndexedIter {
-            positions: Positions::new(order, rows, cols),
+            positions: Positions::new(layout),
             cells: self.cells.as_slice().iter(),
         }
     }
 
-    /// Returns an iterator over the cells of a table of `rows` rows and `cols` columns, for writing, each with its row
-    /// and its column.
+    /// Returns an iterator over the cells, for writing, each with its row and its column.
     ///
-    /// Requires: the vector has `rows * cols` cells, and there are rows exactly if there are columns.
-    pub fn indexed_iter_mut(
-        &mut self,
-        order: Order,
-        rows: usize,
-        cols: usize,
-    ) -> IndexedIterMut<'_, T>
-        requires { HoldsSize rows cols (length self.old) }
+    /// Requires: the vector has as many cells as the layout.
+    pub fn indexed_iter_mut(&mut self, layout: Layout) -> IndexedIterMut<'_, T>
+        requires { length self.old ≡ layout.rows * layout.cols }
         ensures* writes_back { sem 𝓛 (lends_indexed T.row A.row A.Allocator self.entry result) }
-        ensures rest { indexed_mut_rest result ≡ zip (positions order rows cols) self.old }
+        ensures rest { indexed_mut_rest result ≡ zip (positions_of layout) self.old }
     {
         IndexedIterMut {
-            positions: Positions::new(order, rows, cols),
+            positions: Positions::new(layout),
             lent: self.cells.as_mut_slice().iter_mut(),
         }
     }
 
-    /// Returns an iterator over the cells of a table of `rows` rows and `cols` columns, by value, each with its row and
-    /// its column.
+    /// Returns an iterator over the cells, by value, each with its row and its column.
     ///
-    /// Requires: the vector has `rows * cols` cells, and there are rows exactly if there are columns.
-    pub fn indexed_into_iter(self, order: Order, rows: usize, cols: usize) -> IndexedIntoIter<T, A>
-        requires { HoldsSize rows cols (length self) }
-        ensures { result ≡ zip (positions order rows cols) self }
+    /// Requires: the vector has as many cells as the layout.
+    pub fn indexed_into_iter(self, layout: Layout) -> IndexedIntoIter<T, A>
+        requires { length self ≡ layout.rows * layout.cols }
+        ensures { result ≡ zip (positions_of layout) self }
     {
         let Flat { cells } = self;
         IndexedIntoIter {
-            positions: Positions::new(order, rows, cols),
+            positions: Positions::new(layout),
             owned: cells.into_iter(),
         }
     }

@@ -1,20 +1,18 @@
 //! The positions of a table's cells, one after another.
-ghost use Rattle.std.specs.Prelude.{◌≡◌, ◌+◌, ◌*◌, ◌^◌, ◌<◌, ◌∷◌, length, min, slice_get, IfSome, Some};
+ghost use Rattle.std.specs.Prelude.{◌≡◌, ◌+◌, ◌<◌, ◌∷◌, length, min, slice_get, IfSome, Some};
 ghost use Rattle.std.specs.Iterator.{YieldsFirst, item_count, UpTo, at_most};
 ghost use Rattle.std.specs.Iterator.SizeHint.{IsWithinCount};
-ghost use Rattle.grid_base.specs.Table.{IsSize};
 ghost use Rattle.grid_base.specs.Order.{place};
-ghost use Rattle.grid_base.specs.Positions.{positions, StandsAt, along};
+ghost use Rattle.grid_base.specs.Positions.{StandsAt};
+ghost use Rattle.grid_base.specs.Layout.{positions_of};
 
-use crate::Order;
+use crate::{Layout, Order};
 use std::marker::Model;
 
 /// The rows and columns of a table's cells, in storage order, seen as the list of those that remain.
 #[derive(Drop)]
 pub struct Positions {
-    order: Order,
-    rows: usize,
-    cols: usize,
+    layout: Layout,
     // The next cell.
     row: usize,
     col: usize,
@@ -23,58 +21,44 @@ pub struct Positions {
 impl Model for Positions {
     ghost use Rattle.std.specs.Prelude.{ℕ, List, drop};
     ghost use Rattle.grid_base.specs.Order.{place};
-    ghost use Rattle.grid_base.specs.Positions.{positions, StandsAt};
+    ghost use Rattle.grid_base.specs.Positions.{StandsAt};
+    ghost use Rattle.grid_base.specs.Layout.{positions_of};
 
     ghost Value = { List (ℕ × ℕ) };
 
-    ghost view = { λ a. drop (place a.order a.rows a.cols a.row a.col)
-        (positions a.order a.rows a.cols) };
+    ghost view = { λ a. drop (place a.layout.order a.layout.rows a.layout.cols a.row a.col)
+        (positions_of a.layout) };
 
-    ghost invariant = { λ a. StandsAt a.order a.rows a.cols a.row a.col };
+    ghost invariant = { λ a. StandsAt a.layout.order a.layout.rows a.layout.cols a.row a.col };
 }
 
-// Returns the row and the column of the cell that is stored after cell (row, col). Nothing is divided, since a division
-// would be most of a step.
-fn place_after(order: Order, rows: usize, cols: usize, row: usize, col: usize) -> (usize, usize)
-    requires fits { rows * cols < 2 ^ 64 }
-    requires size { IsSize rows cols }
-    requires row_in { row < rows }
-    requires col_in { col < cols }
-    ensures stands { StandsAt order rows cols result.0 result.1 }
-    ensures after { place order rows cols result.0 result.1 ≡ place order rows cols row col + 1 }
+// Returns the row and the column of the cell that is stored after that at a position. Nothing is divided, since a
+// division would be most of a step.
+fn place_after(layout: Layout, at: (usize, usize)) -> (usize, usize)
+    requires row_in { at.0 < layout.rows }
+    requires col_in { at.1 < layout.cols }
+    ensures stands { StandsAt layout.order layout.rows layout.cols result.0 result.1 }
+    ensures after { place layout.order layout.rows layout.cols result.0 result.1
+        ≡ place layout.order layout.rows layout.cols at.0 at.1 + 1 }
 {
-    match order {
-        Order::RowMajor if col + 1 < cols => (row, col + 1),
+    let (row, col) = at;
+    match layout.order {
+        Order::RowMajor if col + 1 < layout.cols => (row, col + 1),
         Order::RowMajor => (row + 1, 0),
-        Order::ColumnMajor if row + 1 < rows => (row + 1, col),
+        Order::ColumnMajor if row + 1 < layout.rows => (row + 1, col),
         Order::ColumnMajor => (0, col + 1),
     }
 }
 
-// Of a number of rows and a number of columns: the number of lines along the storage, and their length. Of a line along
-// the storage and a place in it: the row and the column.
-pub(super) fn by_line(order: Order, a: usize, b: usize) -> (usize, usize)
-    ensures { result ≡ along order a b }
-{
-    match order {
-        Order::RowMajor => (a, b),
-        Order::ColumnMajor => (b, a),
-    }
-}
-
 impl Positions {
-    /// Returns the positions of a table of `rows` rows and `cols` columns.
+    /// Returns the positions of the cells of a layout.
     ///
-    ///     new(RowMajor, 2, 2)   (0, 0), (0, 1), (1, 0), (1, 1)
-    pub fn new(order: Order, rows: usize, cols: usize) -> Positions
-        requires below { rows * cols < 2 ^ 64 }
-        requires size { IsSize rows cols }
-        ensures { result ≡ positions order rows cols }
+    ///     new(RowMajor, 2 by 2)   (0, 0), (0, 1), (1, 0), (1, 1)
+    pub fn new(layout: Layout) -> Positions
+        ensures { result ≡ positions_of layout }
     {
         Positions {
-            order,
-            rows,
-            cols,
+            layout,
             row: 0,
             col: 0,
         }
@@ -87,7 +71,7 @@ impl Positions {
         ensures { self.old ≡ result ∷ self.new }
     {
         let at = (self.row, self.col);
-        let (row, col) = place_after(self.order, self.rows, self.cols, at.0, at.1);
+        let (row, col) = place_after(self.layout, at);
         self.row = row;
         self.col = col;
         at
@@ -98,9 +82,9 @@ impl Positions {
         requires { n < length self.now }
         ensures { slice_get self.now n ≡ Some result }
     {
-        let (_, width) = by_line(self.order, self.rows, self.cols);
-        let number = self.rows * self.cols - (self.len() - n);
-        by_line(self.order, number / width, number % width)
+        let (_, width) = self.layout.lines();
+        let number = self.layout.len() - (self.len() - n);
+        self.layout.at(number / width, number % width)
     }
 
     // Returns the positions that remain, once more.
@@ -108,9 +92,7 @@ impl Positions {
         ensures { result ≡ self.now }
     {
         Positions {
-            order: self.order,
-            rows: self.rows,
-            cols: self.cols,
+            layout: self.layout,
             row: self.row,
             col: self.col,
         }
@@ -120,11 +102,12 @@ impl Positions {
     pub fn len(&self) -> usize
         ensures { result ≡ length self.now }
     {
-        let passed = match self.order {
-            Order::RowMajor => self.row * self.cols + self.col,
-            Order::ColumnMajor => self.col * self.rows + self.row,
+        let layout = self.layout;
+        let passed = match layout.order {
+            Order::RowMajor => self.row * layout.cols + self.col,
+            Order::ColumnMajor => self.col * layout.rows + self.row,
         };
-        self.rows * self.cols - passed
+        layout.len() - passed
     }
 
     /// Returns the exact size hint of an iterator over these positions, each with one of `cells` cells.
@@ -144,7 +127,7 @@ impl Iterator for Positions {
     ghost remaining = { item_count (λ rest. rest) };
 
     fn next(&mut self) -> Option<(usize, usize)> {
-        if self.row < self.rows && self.col < self.cols {
+        if self.row < self.layout.rows && self.col < self.layout.cols {
             Some(self.pass())
         } else {
             None

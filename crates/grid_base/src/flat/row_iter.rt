@@ -1,18 +1,17 @@
 //! An iterator over the rows of a table that a vector stores, and over one of them.
-ghost use Rattle.std.specs.Prelude.{◌≡◌, ◌+◌, ◌<◌, ⊤, length, drop, slice_get, IfSome, Some};
+ghost use Rattle.std.specs.Prelude.{◌≡◌, ◌+◌, ◌*◌, ◌<◌, ⊤, length, drop, slice_get, IfSome, Some};
 ghost use Rattle.std.specs.Borrow.{sem};
 ghost use Rattle.std.specs.Iterator.{YieldsFirst, YieldsLast, item_count, UpTo, at_most};
 ghost use Rattle.std.specs.Iterator.SizeHint.{IsWithinCount};
 ghost use Rattle.grid_base.specs.Table.{row};
 ghost use Rattle.grid_base.specs.Order.{place, table_of};
-ghost use Rattle.grid_base.specs.GridValue.{HoldsSize};
 ghost use Rattle.grid_base.specs.Strides.{LinesInOrder, LinesInReverse, EachLineInOrder, EachLineInReverse};
 ghost use Rattle.grid_base.specs.GridLineIterMut.{line_mut_rest};
 
 use super::line_iter::line_of;
 use super::span::row_span;
 use super::{Flat, GridLineIter, GridLineIterMut};
-use crate::Order;
+use crate::Layout;
 use std::alloc::{AllocError, Allocator};
 use std::iter::FusedIterator;
 use std::marker::Model;
@@ -21,56 +20,48 @@ use std::ops::Range;
 impl<T, A: Allocator> Flat<T, A> {
     ghost use Rattle.grid_base.specs.FlatLends.{lends_line};
 
-    /// Returns an iterator over the cells of row `r` of the table of `rows` rows and `cols` columns that the vector
-    /// stores in an order.
+    /// Returns an iterator over the cells of row `r` of the table that the vector stores.
     ///
-    ///     [1, 2, 3, 4, 5, 6]   row(ColumnMajor, 2, 3, 1)   2, 4, 6
+    ///     [1, 2, 3, 4, 5, 6]   row(ColumnMajor, 2 by 3, 1)   2, 4, 6
     ///
-    /// Requires: the vector has `rows * cols` cells, there are rows exactly if there are columns, and `r` is in range.
+    /// Requires: the vector has as many cells as the layout, and `r` is in range.
     /// Cost: each step takes the same time, in either order.
-    pub fn row(&self, order: Order, rows: usize, cols: usize, r: usize) -> GridLineIter<'_, T>
-        requires size { HoldsSize rows cols (length self.now) }
-        requires row_in { r < rows }
-        ensures rest { result ≡ row (table_of order rows cols self.now) r }
+    pub fn row(&self, layout: Layout, r: usize) -> GridLineIter<'_, T>
+        requires cells { length self.now ≡ layout.rows * layout.cols }
+        requires row_in { r < layout.rows }
+        ensures rest { result ≡ row (table_of layout.order layout.rows layout.cols self.now) r }
         ensures runs { LinesInOrder T }
         ensures runs_back { LinesInReverse T }
     {
-        row_of(self.as_slice(), order, rows, cols, r)
+        row_of(self.as_slice(), layout, r)
     }
 
-    /// Returns an iterator over the cells of row `r` of the table of `rows` rows and `cols` columns that the vector
-    /// stores in an order, for writing.
+    /// Returns an iterator over the cells of row `r` of the table that the vector stores, for writing.
     ///
-    ///     [1, 2, 3, 4, 5, 6]   row_mut(ColumnMajor, 2, 3, 1)   2, 4, 6
+    ///     [1, 2, 3, 4, 5, 6]   row_mut(ColumnMajor, 2 by 3, 1)   2, 4, 6
     ///
-    /// Requires: the vector has `rows * cols` cells, there are rows exactly if there are columns, and `r` is in range.
+    /// Requires: the vector has as many cells as the layout, and `r` is in range.
     /// Cost: each step takes the same time, in either order.
-    pub fn row_mut(
-        &mut self,
-        order: Order,
-        rows: usize,
-        cols: usize,
-        r: usize,
-    ) -> GridLineIterMut<'_, T>
-        requires size { HoldsSize rows cols (length self.old) }
-        requires row_in { r < rows }
+    pub fn row_mut(&mut self, layout: Layout, r: usize) -> GridLineIterMut<'_, T>
+        requires cells { length self.old ≡ layout.rows * layout.cols }
+        requires row_in { r < layout.rows }
         ensures* writes_back { sem 𝓛 (lends_line T.row A.row A.Allocator self.entry
-            (place order rows cols r 0) result) }
-        ensures rest { line_mut_rest result ≡ row (table_of order rows cols self.old) r }
+            (place layout.order layout.rows layout.cols r 0) result) }
+        ensures rest { line_mut_rest result ≡ row (table_of layout.order layout.rows layout.cols self.old) r }
     {
-        let span = row_span(order, rows, cols, r);
+        let span = row_span(layout, r);
         self.line_mut(span.start, span.end, span.stride)
     }
 
-    /// Returns an iterator over the rows of the table of `rows` rows and `cols` columns that the vector stores in an
-    /// order, from both ends, each as [`row`](Flat::row) gives it.
+    /// Returns an iterator over the rows of the table that the vector stores, from both ends, each as
+    /// [`row`](Flat::row) gives it.
     ///
-    ///     [1, 2, 3, 4, 5, 6]   rows(ColumnMajor, 2, 3)   1, 3, 5; then 2, 4, 6
+    ///     [1, 2, 3, 4, 5, 6]   rows(ColumnMajor, 2 by 3)   1, 3, 5; then 2, 4, 6
     ///
-    /// Requires: the vector has `rows * cols` cells, and there are rows exactly if there are columns.
-    pub fn rows(&self, order: Order, rows: usize, cols: usize) -> GridRowIter<'_, T>
-        requires { HoldsSize rows cols (length self.now) }
-        ensures rest { result ≡ table_of order rows cols self.now }
+    /// Requires: the vector has as many cells as the layout.
+    pub fn rows(&self, layout: Layout) -> GridRowIter<'_, T>
+        requires { length self.now ≡ layout.rows * layout.cols }
+        ensures rest { result ≡ table_of layout.order layout.rows layout.cols self.now }
         ensures runs { EachLineInOrder T }
         ensures runs_back { EachLineInReverse T }
         ensures along { LinesInOrder T }
@@ -78,23 +69,21 @@ impl<T, A: Allocator> Flat<T, A> {
     {
         GridRowIter {
             cells: self.as_slice(),
-            order,
-            row_count: rows,
-            col_count: cols,
-            ahead: 0..rows,
+            layout,
+            ahead: 0..layout.rows,
         }
     }
 }
 
 // Returns an iterator over the cells of row `r` of the table that a slice stores.
-fn row_of<T>(cells: &[T], order: Order, rows: usize, cols: usize, r: usize) -> GridLineIter<'_, T>
-    requires size { HoldsSize rows cols (length cells.now) }
-    requires row_in { r < rows }
-    ensures rest { result ≡ row (table_of order rows cols cells.now) r }
+fn row_of<T>(cells: &[T], layout: Layout, r: usize) -> GridLineIter<'_, T>
+    requires cells { length cells.now ≡ layout.rows * layout.cols }
+    requires row_in { r < layout.rows }
+    ensures rest { result ≡ row (table_of layout.order layout.rows layout.cols cells.now) r }
     ensures runs { LinesInOrder T }
     ensures runs_back { LinesInReverse T }
 {
-    let span = row_span(order, rows, cols, r);
+    let span = row_span(layout, r);
     line_of(cells, span)
 }
 
@@ -102,9 +91,7 @@ fn row_of<T>(cells: &[T], order: Order, rows: usize, cols: usize, r: usize) -> G
 #[derive(Drop)]
 pub struct GridRowIter<'a, T> {
     cells: &'a [T],
-    order: Order,
-    row_count: usize,
-    col_count: usize,
+    layout: Layout,
     // The numbers of the rows that are left.
     ahead: Range<usize>,
 }
@@ -118,9 +105,9 @@ impl<'a, T> Model for GridRowIter<'a, T> {
     ghost Value = { List (List T) };
 
     ghost view = { λ a. remaining a.ahead.start a.ahead.end
-        (table_of a.order a.row_count a.col_count a.cells.now) };
+        (table_of a.layout.order a.layout.rows a.layout.cols a.cells.now) };
 
-    ghost invariant = { λ a. AreRowsLeft a.row_count a.col_count (length a.cells.now)
+    ghost invariant = { λ a. AreRowsLeft a.layout.rows a.layout.cols (length a.cells.now)
         a.ahead.start a.ahead.end };
 }
 
@@ -149,7 +136,7 @@ impl<'a, T> Iterator for GridRowIter<'a, T> {
 
     fn next(&mut self) -> Option<GridLineIter<'a, T>> {
         let r = self.ahead.next()?;
-        Some(row_of(self.cells, self.order, self.row_count, self.col_count, r))
+        Some(row_of(self.cells, self.layout, r))
     }
 
     fn size_hint(&self) -> (usize, Option<usize>)
@@ -167,7 +154,7 @@ impl<'a, T> DoubleEndedIterator for GridRowIter<'a, T> {
 
     fn next_back(&mut self) -> Option<GridLineIter<'a, T>> {
         let r = self.ahead.next_back()?;
-        Some(row_of(self.cells, self.order, self.row_count, self.col_count, r))
+        Some(row_of(self.cells, self.layout, r))
     }
 }
 
@@ -190,9 +177,7 @@ impl<'a, T> Clone for GridRowIter<'a, T> {
     fn clone(&self) -> Result<Self, AllocError> {
         Ok(GridRowIter {
             cells: self.cells,
-            order: self.order,
-            row_count: self.row_count,
-            col_count: self.col_count,
+            layout: self.layout,
             ahead: self.ahead.start..self.ahead.end,
         })
     }

@@ -3,7 +3,7 @@ ghost use Rattle.std.specs.Prelude.{◌+◌, ◌*◌, ◌^◌, ◌<◌};
 ghost use Rattle.grid_base.specs.Order.{place};
 ghost use Rattle.grid_base.specs.Span.{IsSpan};
 
-use crate::Order;
+use crate::{Layout, Order};
 
 // The `count` places from `start` on and before `end`, each `stride` after the last.
 #[derive(Drop)]
@@ -15,15 +15,15 @@ pub(super) struct Span {
 }
 
 // Returns where the cells of row `r` are.
-pub(super) fn row_span(order: Order, rows: usize, cols: usize, r: usize) -> Span
-    requires fits { rows * cols < 2 ^ 64 }
-    requires row_in { r < rows }
-    requires wide { 0 < cols }
-    ensures { IsSpan cols (λ c. place order rows cols r c) (rows * cols) result }
+pub(super) fn row_span(layout: Layout, r: usize) -> Span
+    requires row_in { r < layout.rows }
+    requires wide { 0 < layout.cols }
+    ensures { IsSpan layout.cols (λ c. place layout.order layout.rows layout.cols r c)
+        (layout.rows * layout.cols) result }
 {
-    match order {
-        Order::RowMajor => together(rows, cols, r),
-        Order::ColumnMajor => across(cols, rows, r),
+    match layout.order {
+        Order::RowMajor => together(layout.rows, layout.cols, r),
+        Order::ColumnMajor => across(layout.cols, layout.rows, r),
     }
 }
 

@@ -1,18 +1,19 @@
 use Rattle.std.proofs.Common.{◌∙◌, arith, refl, ap}
 use Rattle.grid_base.specs.FlatLends.{written_from}
 use Rattle.grid_base.proofs.SpanLemmas.{span_within, row_is, first_place}
+use Rattle.grid_base.proofs.LayoutLemmas.{holds}
 use Rattle.grid_base.proofs.flat.Flat.row_mut.Goals as goal
 
 pub row_span-span-requires-clause-wide : goal.row_span-span-requires-clause-wide
-row_span-span-requires-clause-wide g c = c.requires.size.size.has_cols (omega (arith, c.requires.row_in))
+row_span-span-requires-clause-wide g c = c.args.layout.size.has_cols (omega (arith, c.requires.row_in))
 
 pub line_mut-requires-clause-within : goal.line_mut-requires-clause-within
-line_mut-requires-clause-within g c = span_within _ _ _ _ c.requires.size _ _ c.requires.row_in c.row_span-span.ensures
+line_mut-requires-clause-within g c = span_within _ _ _ _ (holds c.args.layout _ c.requires.cells) _ _ c.requires.row_in c.row_span-span.ensures
 
 pub returns : goal.returns
 returns g c =
-    let some = c.requires.size.size.has_cols (omega (arith, c.requires.row_in)) in
+    let some = c.args.layout.size.has_cols (omega (arith, c.requires.row_in)) in
     let first = first_place _ _ _ _ c.row_span-span.ensures some in (
       (refl, λ w. ap (λ x. written_from x c.args.self.now w) first),
-      record { writes_back = tt; rest = c.line_mut.ensures.rest ∙ row_is _ _ _ _ c.requires.size _ _ c.requires.row_in c.row_span-span.ensures },
+      record { writes_back = tt; rest = c.line_mut.ensures.rest ∙ row_is _ _ _ _ (holds c.args.layout _ c.requires.cells) _ _ c.requires.row_in c.row_span-span.ensures },
     )

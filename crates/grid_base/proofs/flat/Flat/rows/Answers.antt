@@ -3,16 +3,17 @@ use Rattle.grid_base.specs.Order.{table_of}
 use Rattle.grid_base.proofs.StrideLemmas.{lines_in_order, lines_in_reverse, each_line_in_order, each_line_in_reverse}
 use Rattle.grid_base.proofs.RemainingLemmas.{remaining_all}
 use Rattle.grid_base.proofs.ViewLemmas.{view-rows}
+use Rattle.grid_base.proofs.LayoutLemmas.{holds}
 use Rattle.grid_base.proofs.flat.Flat.rows.Goals as goal
 
 pub invariant_of-result : goal.invariant_of-result
-invariant_of-result g c = record { holds = rw c.as_slice.ensures c.requires; remaining = record { ordered = omega arith; within = omega arith } }
+invariant_of-result g c = record { holds = rw c.as_slice.ensures (holds c.args.layout _ c.requires); remaining = record { ordered = omega arith; within = omega arith } }
 
 pub returns-clause-rest : goal.returns-clause-rest
 returns-clause-rest g c =
-    let a = c.args in
-    remaining_all a.rows (table_of a.order a.rows a.cols c.as_slice.result.now) (sym (view-rows a.order a.rows a.cols c.as_slice.result.now (rw c.as_slice.ensures c.requires)))
-    ∙ ap (table_of a.order a.rows a.cols) c.as_slice.ensures
+    let l = c.args.layout in
+    remaining_all l.rows (table_of l.order l.rows l.cols c.as_slice.result.now) (sym (view-rows l.order l.rows l.cols c.as_slice.result.now (rw c.as_slice.ensures (holds l _ c.requires))))
+    ∙ ap (table_of l.order l.rows l.cols) c.as_slice.ensures
 
 pub returns-clause-runs : goal.returns-clause-runs
 returns-clause-runs g c = each_line_in_order _

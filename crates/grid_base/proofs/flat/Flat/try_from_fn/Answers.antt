@@ -1,13 +1,13 @@
 use Rattle.std.proofs.Common.{◌≡◌, arith, ap, ◌∙◌, ◌++◌, ◌∷◌, [], length, append_assoc, append-nil}
-use Rattle.grid_base.specs.Positions.{positions}
+use Rattle.grid_base.specs.Layout.{positions_of}
 use Rattle.grid_base.proofs.ClosureLemmas.{AllZip-append, AllZip-length, callable_item}
 use Rattle.grid_base.proofs.PlaceLemmas.{length-places}
 use Rattle.grid_base.proofs.flat.Flat.try_from_fn.Goals as goal
 
 pub loop-at-init : goal.loop-at-init
 loop-at-init g c =
-    let from : c.into_iter-at-iterator.result ≡ positions c.args.order c.args.rows c.args.cols = c.into_iter-at-iterator.ensures.into_iter_gives ∙ c.new-positions.ensures in
-    let count = length-places c.args.order c.args.rows c.args.cols c.requires.size in
+    let from : c.into_iter-at-iterator.result ≡ positions_of c.args.layout = c.into_iter-at-iterator.ensures.into_iter_gives ∙ c.new-positions.ensures in
+    let count = length-places c.args.layout.order c.args.layout.rows c.args.layout.cols c.args.layout.size in
     record {
       can = tt;
       finite = tt;
@@ -58,7 +58,7 @@ pub returns-clause-len : goal.returns-clause-len
 returns-clause-len g c =
     let i = c.loop-at.invariant in
     let whole = rw (c.in-None.ensures.steps.0, append-nil) at i.split in
-    AllZip-length _ _ _ i.answers ∙ (ap length whole ∙ length-places c.args.order c.args.rows c.args.cols c.requires.size)
+    AllZip-length _ _ _ i.answers ∙ (ap length whole ∙ length-places c.args.layout.order c.args.layout.rows c.args.layout.cols c.args.layout.size)
 
 pub returns-clause-cells : goal.returns-clause-cells
 returns-clause-cells g c =

@@ -1,5 +1,5 @@
-use Rattle.std.proofs.Common.{◌≡◌, arith, sym, ◌∙◌, length, vec_len, zip}
-use Rattle.grid_base.specs.Positions.{positions}
+use Rattle.std.proofs.Common.{rules, ◌≡◌, arith, sym, ◌∙◌, length, vec_len, zip}
+use Rattle.grid_base.specs.Layout.{positions_of}
 use Rattle.std.proofs.lemmas.List.{take_all}
 use Rattle.grid_base.proofs.PlaceLemmas.{all_passed, length-places}
 use Rattle.grid_base.proofs.PlacedCellLemmas.{zip_even}
@@ -8,10 +8,18 @@ use Rattle.grid_base.proofs.flat.all_cells.map_by_line.Goals as goal
 pub returns-clause-cells : goal.returns-clause-cells
 returns-clause-cells g c =
     let i = c.loop-line.invariant in
-    let all = positions c.args.order c.args.rows c.args.cols in
+    let all = positions_of c.args.layout in
     let cells = c.args.cells.now in
-    let last : c.loop-line.line ≡ c.by_line-lines.result.0 = omega (arith, c.loop-line-test.false, c.loop-line.auto.line-end) in
-    let even : length all ≡ length cells = length-places _ _ _ c.requires.size.size ∙ sym c.requires.size.cells in
-    let passed : length all ≡ vec_len c.loop-line.made = all_passed _ _ _ _ _ _ c.requires.size.size c.by_line-lines.ensures last i.passed in
+    let last : c.loop-line.line ≡ c.lines-lines.result.0 = omega (arith, c.loop-line-test.false, c.loop-line.auto.line-end) in
+    let even : length all ≡ length cells = length-places _ _ _ c.args.layout.size ∙ sym c.requires.cells in
+    let passed : length all ≡ vec_len c.loop-line.made = all_passed _ _ _ _ _ _ c.args.layout.size c.lines-lines.ensures last i.passed in
     let whole = take_all (vec_len c.loop-line.made) (zip all cells) (omega (arith, zip_even all cells even, even, passed)) in
     record { places = rw whole at i.answers }
+
+pub returns-clause-len : goal.returns-clause-len
+returns-clause-len g c =
+    let i = c.loop-line.invariant in
+    let last : c.loop-line.line ≡ c.lines-lines.result.0 = omega (arith, c.loop-line-test.false, c.loop-line.auto.line-end) in
+    let all = all_passed _ _ _ _ _ _ c.args.layout.size c.lines-lines.ensures last i.passed in
+    let count = length-places c.args.layout.order c.args.layout.rows c.args.layout.cols c.args.layout.size in
+    search rules

@@ -1,13 +1,13 @@
 use Rattle.std.proofs.Common.{◌≡◌, ◌≤◌, ◌*◌, take, vec_len, zip}
 use Rattle.std.specs.Vec.{vec_capacity}
 use Rattle.std.specs.List.{AllZip}
-use Rattle.grid_base.specs.Positions.{positions, along}
+use Rattle.grid_base.specs.Layout.{positions_of, lines_of}
 use Rattle.grid_base.specs.ClosureCalls.{ReturnsAtCell}
 use Rattle.grid_base.proofs.flat.all_cells.map_by_line.Given as goal
 
 abbrev pub invariant-loop-line : goal.invariant-loop-line
 invariant-loop-line g l = record {
-  room : l.fn.rows * l.fn.cols ≤ vec_capacity l.made;
-  passed : vec_len l.made ≡ l.line * (along l.fn.order l.fn.rows l.fn.cols).1;
-  answers : AllZip (ReturnsAtCell (λ h at p y. goal.F-post g h at p y) l.f) (take (vec_len l.made) (zip (positions l.fn.order l.fn.rows l.fn.cols) l.fn.cells)) l.made.items;
+  room : l.fn.layout.rows * l.fn.layout.cols ≤ vec_capacity l.made;
+  passed : vec_len l.made ≡ l.line * (lines_of l.fn.layout).1;
+  answers : AllZip (ReturnsAtCell (λ h at p y. goal.F-post g h at p y) l.f) (take (vec_len l.made) (zip (positions_of l.fn.layout) l.fn.cells)) l.made.items;
 }

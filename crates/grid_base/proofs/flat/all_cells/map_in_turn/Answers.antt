@@ -1,6 +1,6 @@
 use Rattle.std.proofs.Common.{◌≡◌, ◌<◌, ◌+◌, arith, refl, sym, ap, ◌∙◌, ◌++◌, ◌∷◌, [], zip, length, drop, append_assoc, append-nil}
 use Rattle.std.proofs.lemmas.List.{drop_all, drop_more}
-use Rattle.grid_base.specs.Positions.{positions}
+use Rattle.grid_base.specs.Layout.{positions_of}
 use Rattle.grid_base.proofs.ClosureLemmas.{AllZip-append, callable_cell}
 use Rattle.grid_base.proofs.PlaceLemmas.{length-places}
 use Rattle.grid_base.proofs.PlacedCellLemmas.{zip_nothing}
@@ -11,7 +11,7 @@ loop-cell-init g c =
     record {
       done = [];
       split = ap (λ l. zip l c.args.cells.now) c.new-left.ensures;
-      positions_left = omega (arith, ap length c.new-left.ensures, length-places c.args.order c.args.rows c.args.cols c.requires.size.size, c.requires.size.cells);
+      positions_left = omega (arith, ap length c.new-left.ensures, length-places c.args.layout.order c.args.layout.rows c.args.layout.cols c.args.layout.size, c.requires.cells);
       count = omega (arith, ap length c.requires.none);
       room = c.requires.room;
       answers = rw c.requires.none tt;
@@ -44,7 +44,7 @@ f-requires g c =
     let lt : c.loop-cell.cell-index < length cells = omega arith in
     let s = c.pass-at.ensures in
     let cut = drop_more cells c.loop-cell.cell-index c.cell-item.result lt ∙ ap (λ z. z ∷ drop (c.loop-cell.cell-index + 1) cells) (sym c.cell-item.is) in
-    let all = zip (positions c.args.order c.args.rows c.args.cols) cells in
+    let all = zip (positions_of c.args.layout) cells in
     callable_cell _ c.args.f.now all i.done _ c.pass-at.result _ c.requires.calls (rw (s, cut) at i.split)
 
 pub returns-clause-cells : goal.returns-clause-cells
@@ -52,6 +52,6 @@ returns-clause-cells g c =
     let i = c.loop-cell.invariant in
     let cells = c.args.cells.now in
     let k = c.loop-cell.cell-index in
-    let all : i.done ≡ zip (positions c.args.order c.args.rows c.args.cols) cells =
+    let all : i.done ≡ zip (positions_of c.args.layout) cells =
     rw (drop_all k cells (omega arith), zip_nothing c.loop-cell.left [] refl, append-nil) at i.split in
     record { places = rw (← all) i.answers }

@@ -1,32 +1,32 @@
 use Rattle.std.proofs.Common.{◌≡◌, Some, arith, sym, vec_len, ◌∙◌}
 use Rattle.std.specs.List.{slice_get}
 use Rattle.std.proofs.lemmas.Option.{slice_get_within, get_or_from_slice_get}
-use Rattle.grid_base.specs.Positions.{positions}
+use Rattle.grid_base.specs.Layout.{positions_of}
 use Rattle.grid_base.proofs.ClosureLemmas.{answers_more}
 use Rattle.grid_base.proofs.PlaceLemmas.{get_along, length-places}
 use Rattle.grid_base.proofs.flat.all_cells.push_line.Goals as goal
 
 pub f-requires : goal.f-requires
 f-requires g c =
-    let all = positions c.args.order c.args.rows c.args.cols in
-    let at = c.by_line-at.result in
-    let here : slice_get all (vec_len c.loop-k.cells) ≡ Some at = get_along _ _ _ _ _ _ _ _ _ c.requires.size c.requires.line c.by_line-width.ensures c.loop-k-test.true c.requires.passed c.loop-k.invariant.passed c.by_line-at.ensures in
+    let all = positions_of c.args.layout in
+    let at = c.at-at.result in
+    let here : slice_get all (vec_len c.loop-k.cells) ≡ Some at = get_along _ _ _ _ _ _ _ _ _ c.args.layout.size c.requires.line c.lines-width.ensures c.loop-k-test.true c.requires.passed c.loop-k.invariant.passed c.at-at.ensures in
     c.requires.calls.at _ at (slice_get_within all _ at here) (sym (get_or_from_slice_get all _ at at here))
 
 pub push_reserved-requires : goal.push_reserved-requires
 push_reserved-requires g c =
-    let all = positions c.args.order c.args.rows c.args.cols in
-    let at = c.by_line-at.result in
-    let here : slice_get all (vec_len c.loop-k.cells) ≡ Some at = get_along _ _ _ _ _ _ _ _ _ c.requires.size c.requires.line c.by_line-width.ensures c.loop-k-test.true c.requires.passed c.loop-k.invariant.passed c.by_line-at.ensures in
-    omega (arith, slice_get_within all _ at here, length-places c.args.order c.args.rows c.args.cols c.requires.size, c.requires.room, c.loop-k.invariant.room)
+    let all = positions_of c.args.layout in
+    let at = c.at-at.result in
+    let here : slice_get all (vec_len c.loop-k.cells) ≡ Some at = get_along _ _ _ _ _ _ _ _ _ c.args.layout.size c.requires.line c.lines-width.ensures c.loop-k-test.true c.requires.passed c.loop-k.invariant.passed c.at-at.ensures in
+    omega (arith, slice_get_within all _ at here, length-places c.args.layout.order c.args.layout.rows c.args.layout.cols c.args.layout.size, c.requires.room, c.loop-k.invariant.room)
 
 pub loop-k-preserved : goal.loop-k-preserved
 loop-k-preserved g c =
-    let all = positions c.args.order c.args.rows c.args.cols in
-    let at = c.by_line-at.result in
+    let all = positions_of c.args.layout in
+    let at = c.at-at.result in
     let i = c.loop-k.invariant in
     let p = c.push_reserved.ensures in
-    let here : slice_get all (vec_len c.loop-k.cells) ≡ Some at = get_along _ _ _ _ _ _ _ _ _ c.requires.size c.requires.line c.by_line-width.ensures c.loop-k-test.true c.requires.passed i.passed c.by_line-at.ensures in
+    let here : slice_get all (vec_len c.loop-k.cells) ≡ Some at = get_along _ _ _ _ _ _ _ _ _ c.args.layout.size c.requires.line c.lines-width.ensures c.loop-k-test.true c.requires.passed i.passed c.at-at.ensures in
     record {
       room = p.capacity ∙ i.room;
       passed = omega (arith, p.len, i.passed);

@@ -1,12 +1,12 @@
 use Rattle.std.proofs.Common.{◌≡◌, ◌+◌, take, vec_len}
 use Rattle.std.specs.Vec.{vec_capacity}
 use Rattle.std.specs.List.{AllZip}
-use Rattle.grid_base.specs.Positions.{positions}
+use Rattle.grid_base.specs.Layout.{positions_of}
 use Rattle.grid_base.proofs.flat.all_cells.push_line.Given as goal
 
 abbrev pub invariant-loop-k : goal.invariant-loop-k
 invariant-loop-k g l = record {
   room : vec_capacity l.cells ≡ vec_capacity l.initial.cells;
   passed : vec_len l.cells ≡ vec_len l.initial.cells + l.k;
-  answers : AllZip (λ at y. goal.F-post g l.f at y) (take (vec_len l.cells) (positions l.fn.order l.fn.rows l.fn.cols)) l.cells.items;
+  answers : AllZip (λ at y. goal.F-post g l.f at y) (take (vec_len l.cells) (positions_of l.fn.layout)) l.cells.items;
 }

@@ -1,7 +1,7 @@
 use Rattle.std.proofs.Common.{◌≡◌, ◌+◌, take, vec_len, zip}
 use Rattle.std.specs.Vec.{vec_capacity}
 use Rattle.std.specs.List.{AllZip}
-use Rattle.grid_base.specs.Positions.{positions}
+use Rattle.grid_base.specs.Layout.{positions_of}
 use Rattle.grid_base.specs.ClosureCalls.{ReturnsAtCell}
 use Rattle.grid_base.proofs.flat.all_cells.push_mapped.Given as goal
 
@@ -9,5 +9,5 @@ abbrev pub invariant-loop-k : goal.invariant-loop-k
 invariant-loop-k g l = record {
   room : vec_capacity l.mapped ≡ vec_capacity l.initial.mapped;
   passed : vec_len l.mapped ≡ vec_len l.initial.mapped + l.k;
-  answers : AllZip (ReturnsAtCell (λ h at p y. goal.F-post g h at p y) l.f) (take (vec_len l.mapped) (zip (positions l.fn.order l.fn.rows l.fn.cols) l.fn.cells)) l.mapped.items;
+  answers : AllZip (ReturnsAtCell (λ h at p y. goal.F-post g h at p y) l.f) (take (vec_len l.mapped) (zip (positions_of l.fn.layout) l.fn.cells)) l.mapped.items;
 }

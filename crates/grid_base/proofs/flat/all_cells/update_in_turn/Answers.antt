@@ -1,6 +1,6 @@
 use Rattle.std.proofs.Common.{get_or, ◌≡◌, ◌<◌, ◌+◌, arith, refl, sym, ap, ◌∙◌, ◌++◌, ◌∷◌, [], zip, length, take, drop, append_assoc, append-nil}
 use Rattle.std.proofs.lemmas.List.{take_more_set, take_all, drop_all, drop_more, drop-set-lt}
-use Rattle.grid_base.specs.Positions.{positions}
+use Rattle.grid_base.specs.Layout.{positions_of}
 use Rattle.grid_base.proofs.ClosureLemmas.{AllZip-append, callable_cell}
 use Rattle.grid_base.proofs.PlaceLemmas.{length-places}
 use Rattle.grid_base.proofs.PlacedCellLemmas.{zip_nothing}
@@ -11,7 +11,7 @@ loop-cell-init g c =
     record {
       done = [];
       split = ap (λ l. zip l c.args.cells.now) c.new-left.ensures;
-      positions_left = omega (arith, ap length c.new-left.ensures, length-places c.args.order c.args.rows c.args.cols c.requires.size.size, c.requires.size.cells);
+      positions_left = omega (arith, ap length c.new-left.ensures, length-places c.args.layout.order c.args.layout.rows c.args.layout.cols c.args.layout.size, c.requires.cells);
       answers = tt;
     }
 
@@ -42,7 +42,7 @@ f-requires g c =
     let lt : k < length cells = omega (arith, c.loop-cell-test.true, c.loop-cell.auto.cells) in
     let cut : drop k cells ≡ get_or cells k c.cell-item.result ∷ drop (k + 1) cells =
     drop_more cells k c.cell-item.result lt in
-    let all = zip (positions c.args.order c.args.rows c.args.cols) c.args.cells.now in
+    let all = zip (positions_of c.args.layout) c.args.cells.now in
     callable_cell _ c.args.f.now all i.done _ c.pass-at.result _ c.requires.calls (rw (s, cut) at i.split)
 
 pub returns-clause-cells : goal.returns-clause-cells
@@ -50,7 +50,7 @@ returns-clause-cells g c =
     let i = c.loop-cell.invariant in
     let cells = c.loop-cell.cells in
     let k = c.loop-cell.cell-index in
-    let all : i.done ≡ zip (positions c.args.order c.args.rows c.args.cols) c.args.cells.now =
+    let all : i.done ≡ zip (positions_of c.args.layout) c.args.cells.now =
     rw (drop_all k cells (omega (arith, c.loop-cell-test.false, c.loop-cell.auto.cells)), zip_nothing c.loop-cell.left [] refl, append-nil) at i.split in
     let whole : take k cells ≡ cells = take_all k cells (omega (arith, c.loop-cell-test.false, c.loop-cell.auto.cells, c.loop-cell.auto.cell-index-end)) in
     record { places = rw (← all) (rw whole at i.answers) }

@@ -1,8 +1,8 @@
 use Rattle.std.proofs.Common.{◌+◌}
-use Rattle.grid_base.specs.Positions.{positions}
+use Rattle.grid_base.specs.Layout.{positions_of}
 use Rattle.grid_base.specs.ClosureCalls.{ReturnsAtCell}
 use Rattle.grid_base.specs.Updated.{UpdatedFrom}
 use Rattle.grid_base.proofs.flat.all_cells.update_line.Given as goal
 
 abbrev pub invariant-loop-k : goal.invariant-loop-k
-invariant-loop-k g l = UpdatedFrom (ReturnsAtCell (λ h at p y. goal.F-post g h at p y) l.f) (positions l.fn.order l.fn.rows l.fn.cols) l.initial.cells l.start (l.start + l.k) l.cells
+invariant-loop-k g l = UpdatedFrom (ReturnsAtCell (λ h at p y. goal.F-post g h at p y) l.f) (positions_of l.fn.layout) l.initial.cells l.start (l.start + l.k) l.cells

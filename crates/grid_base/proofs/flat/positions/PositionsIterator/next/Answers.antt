@@ -6,7 +6,7 @@ use Rattle.grid_base.proofs.flat.positions.PositionsIterator.next.Goals.{else-se
 pub pass-requires : goal.pass-requires
 pass-requires c =
     let s = c.self.inside in
-    omega (arith, ap length c.self.view_is, ap length (place_and_rest s.order s.rows s.cols s.row s.col _ c.self.invariant.size c.if-self.true c.if-self-2.true refl))
+    omega (arith, ap length c.self.view_is, ap length (place_and_rest s.layout.order s.layout.rows s.layout.cols s.row s.col _ c.self.invariant.size c.if-self.true c.if-self-2.true refl))
 
 pub returns-then-self-2-clause-steps : goal.returns-then-self-2-clause-steps
 returns-then-self-2-clause-steps c = c.pass.ensures
@@ -19,9 +19,9 @@ returns-then-self-2-clause-goes c =
 pub returns-else-self-clause-steps : goal.returns-else-self-clause-steps
 returns-else-self-clause-steps c =
     let s = c.self.inside in
-    let past : (s.row < s.rows × s.col < s.cols) → ⊥ = elim c.else-self.branch [
+    let past : (s.row < s.layout.rows × s.col < s.layout.cols) → ⊥ = elim c.else-self.branch [
       | else-self-via-then-self+else-self-2 w ↦ λ h. (let lt = h.1 in absurd (omega (arith, w.if-self-2.false)))
       | else-self-via-else-self w ↦ λ h. (let lt = h.0 in absurd (omega (arith, w.if-self.false)))
     ] in
-    let e = sym c.self.view_is ∙ none_left s.order s.rows s.cols s.row s.col c.self.invariant past in
+    let e = sym c.self.view_is ∙ none_left s.layout.order s.layout.rows s.layout.cols s.row s.col c.self.invariant past in
     (e, e)

@@ -8,7 +8,7 @@ pub returns-clause-value : goal.returns-clause-value
 returns-clause-value g c =
     let a = c.self.inside in
     let i = c.self.invariant in
-    let rows = view-rows a.order a.row_count a.col_count a.cells.now i.holds in
+    let rows = view-rows a.layout.order a.layout.rows a.layout.cols a.cells.now i.holds in
     c.len.ensures.value
-    ∙ (sym (length-left a.ahead.start a.ahead.end (table_of a.order a.row_count a.col_count a.cells.now) (record { ordered = i.remaining.ordered; within = omega (arith, i.remaining.within, rows) }))
+    ∙ (sym (length-left a.ahead.start a.ahead.end (table_of a.layout.order a.layout.rows a.layout.cols a.cells.now) (record { ordered = i.remaining.ordered; within = omega (arith, i.remaining.within, rows) }))
     ∙ ap length c.self.view_is)

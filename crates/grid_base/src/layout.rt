@@ -1,0 +1,61 @@
+//! How a slice stores the cells of a table.
+ghost use Rattle.std.specs.Prelude.{◌≡◌, ◌*◌, ◌^◌, ◌<◌};
+ghost use Rattle.grid_base.specs.Table.{IsSize};
+ghost use Rattle.grid_base.specs.Order.{flipped};
+ghost use Rattle.grid_base.specs.Positions.{along};
+
+use crate::Order;
+
+/// A table's size and the order in which a slice stores its cells.
+///
+/// There are rows exactly if there are columns, and at most `usize::MAX` cells.
+#[derive(Clone, Copy)]
+pub struct Layout {
+    pub order: Order,
+    pub rows: usize,
+    pub cols: usize,
+    pub ghost fits: { rows * cols < 2 ^ 64 },
+    pub ghost size: { IsSize rows cols },
+}
+
+impl Layout {
+    /// Returns the number of cells.
+    pub fn len(self) -> usize
+        ensures { result ≡ self.rows * self.cols }
+    {
+        self.rows * self.cols
+    }
+
+    /// Returns the layout of the transposed table, which the same slice stores in the other order.
+    pub fn flipped(self) -> Layout
+        ensures order { result.order ≡ flipped self.order }
+        ensures rows { result.rows ≡ self.cols }
+        ensures cols { result.cols ≡ self.rows }
+    {
+        Layout {
+            order: self.order.flipped(),
+            rows: self.cols,
+            cols: self.rows,
+        }
+    }
+
+    /// Returns the number of lines along the storage, rows or columns, and their length.
+    pub fn lines(self) -> (usize, usize)
+        ensures { result ≡ along self.order self.rows self.cols }
+    {
+        match self.order {
+            Order::RowMajor => (self.rows, self.cols),
+            Order::ColumnMajor => (self.cols, self.rows),
+        }
+    }
+
+    /// Returns the row and the column of a place in a line along the storage.
+    pub fn at(self, line: usize, place: usize) -> (usize, usize)
+        ensures { result ≡ along self.order line place }
+    {
+        match self.order {
+            Order::RowMajor => (line, place),
+            Order::ColumnMajor => (place, line),
+        }
+    }
+}
