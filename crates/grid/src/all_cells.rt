@@ -11,6 +11,7 @@ ghost use Rattle.grid.specs.Make.{FailsAt};
 ghost use Rattle.grid_commands.specs.declared.error.GridError.TheVariants.{Memory};
 
 use crate::{Grid, GridError};
+use grid_base::Layout;
 use std::alloc::{AllocError, Allocator};
 
 impl<T, A: Allocator> Grid<T, A> {
@@ -156,10 +157,8 @@ impl<T, A: Allocator> Grid<T, A> {
         ensures same { IfOk result (SameSizeAndOrder self.now) }
         ensures cells { IfOk result (λ g. MappedBy F.post f self.now.rows g.rows) }
     {
-        let order = self.order;
-        let flat = self
-            .flat
-            .map_indexed(order, self.row_count, self.col_count, f)?;
+        let (order, rows, cols) = (self.order, self.row_count, self.col_count);
+        let flat = self.flat.map_indexed(Layout { order, rows, cols }, f)?;
         Ok(Grid {
             flat,
             row_count: self.row_count,
@@ -223,8 +222,8 @@ impl<T, A: Allocator> Grid<T, A> {
         ensures same { SameSizeAndOrder self.old self.new }
         ensures cells { MappedBy F.post f self.old.rows self.new.rows }
     {
-        self.flat
-            .update(self.order, self.row_count, self.col_count, f);
+        let (order, rows, cols) = (self.order, self.row_count, self.col_count);
+        self.flat.update(Layout { order, rows, cols }, f);
     }
 }
 

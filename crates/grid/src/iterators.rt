@@ -7,7 +7,7 @@ ghost use Rattle.grid_base.specs.Iterators.{GivesRefs, GivesMutRefs, GivesOwned,
 mod lines;
 
 use crate::Grid;
-use grid_base::{IndexedIntoIter, IndexedIter, IndexedIterMut};
+use grid_base::{IndexedIntoIter, IndexedIter, IndexedIterMut, Layout};
 pub use lines::GridColIter;
 use std::alloc::Allocator;
 use std::{slice, vec};
@@ -41,8 +41,8 @@ impl<T, A: Allocator> Grid<T, A> {
     pub fn indexed_iter(&self) -> IndexedIter<'_, T>
         ensures gives { GivesIndexed self.now.order self.now.rows result }
     {
-        self.flat
-            .indexed_iter(self.order, self.row_count, self.col_count)
+        let (order, rows, cols) = (self.order, self.row_count, self.col_count);
+        self.flat.indexed_iter(Layout { order, rows, cols })
     }
 
     /// Returns an iterator over the cells in storage order, for writing, each with its row and its column. The size and
@@ -55,7 +55,7 @@ impl<T, A: Allocator> Grid<T, A> {
         ensures gives { GivesMutIndexed self.old.order self.old.rows result }
     {
         let (order, rows, cols) = (self.order, self.row_count, self.col_count);
-        self.flat.indexed_iter_mut(order, rows, cols)
+        self.flat.indexed_iter_mut(Layout { order, rows, cols })
     }
 
     /// Returns an iterator over the cells in storage order, by value, each with its row and its column.
@@ -70,7 +70,8 @@ impl<T, A: Allocator> Grid<T, A> {
             col_count,
             order,
         } = self;
-        flat.indexed_into_iter(order, row_count, col_count)
+        let (rows, cols) = (row_count, col_count);
+        flat.indexed_into_iter(Layout { order, rows, cols })
     }
 }
 

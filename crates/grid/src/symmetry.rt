@@ -1,8 +1,8 @@
 //! The six moves of a grid, and the eight symmetries.
-ghost use Rattle.std.specs.Prelude.{◌≡◌, false, length};
+ghost use Rattle.std.specs.Prelude.{◌≡◌, ◌*◌, false, length};
 ghost use Rattle.grid_base.specs.Table.{row_count, col_count};
 ghost use Rattle.grid_base.specs.Order.{flipped, storage, table_of};
-ghost use Rattle.grid_base.specs.GridValue.{HoldsSize, SameSizeAndOrder};
+ghost use Rattle.grid_base.specs.GridValue.{SameSizeAndOrder};
 ghost use Rattle.grid_base.specs.Symmetry.{act, order_after, price, HasImageSize};
 ghost use Rattle.grid_base.specs.Move.{IsImageByWords};
 ghost use Rattle.grid_base.specs.Flags.{from_flags};
@@ -12,7 +12,7 @@ ghost use Rattle.grid_base.specs.declared.words.Symmetry.TheVariants.{FlipRows, 
 mod passes;
 
 use crate::Grid;
-use grid_base::{Flat, Order, Symmetry, Tally};
+use grid_base::{Flat, Layout, Order, Symmetry, Tally};
 use passes::{reverse_each_line, reverse_lines};
 use std::alloc::Allocator;
 use std::mem;
@@ -148,11 +148,11 @@ impl<T, A: Allocator> Grid<T, A> {
             (false, false) => {}
             (true, false) => {
                 let (order, rows, cols) = (self.order, self.row_count, self.col_count);
-                flip_stored(&mut self.flat, order, rows, cols, tally);
+                flip_stored(&mut self.flat, Layout { order, rows, cols }, tally);
             }
             (false, true) => {
                 let (order, rows, cols) = (self.order.flipped(), self.col_count, self.row_count);
-                flip_stored(&mut self.flat, order, rows, cols, tally);
+                flip_stored(&mut self.flat, Layout { order, rows, cols }, tally);
             }
             (true, true) => {
                 let len = self.row_count * self.col_count;
@@ -162,23 +162,18 @@ impl<T, A: Allocator> Grid<T, A> {
     }
 }
 
-// Reverses the rows of the table of `rows` rows and `cols` columns that a vector stores in an order.
-fn flip_stored<T, A: Allocator>(
-    flat: &mut Flat<T, A>,
-    order: Order,
-    rows: usize,
-    cols: usize,
-    tally: &mut Tally,
-)
-    requires { HoldsSize rows cols (length flat.old) }
+// Reverses the rows of the table that a vector stores.
+fn flip_stored<T, A: Allocator>(flat: &mut Flat<T, A>, layout: Layout, tally: &mut Tally)
+    requires { length flat.old ≡ layout.rows * layout.cols }
     ensures cells { length flat.new ≡ length flat.old }
-    ensures rows { table_of order rows cols flat.new
-        ≡ act FlipRows (table_of order rows cols flat.old) }
+    ensures rows { table_of layout.order layout.rows layout.cols flat.new
+        ≡ act FlipRows (table_of layout.order layout.rows layout.cols flat.old) }
     ensures symmetry { tally.new.symmetry
-        ≡ saturating_count tally.old.symmetry (price FlipRows rows cols) }
+        ≡ saturating_count tally.old.symmetry (price FlipRows layout.rows layout.cols) }
     ensures shift { tally.new.shift ≡ tally.old.shift }
 {
-    match order {
+    let (rows, cols) = (layout.rows, layout.cols);
+    match layout.order {
         Order::RowMajor => reverse_lines(flat, rows, cols, tally),
         Order::ColumnMajor => reverse_each_line(flat, cols, rows, tally),
     }

@@ -1,7 +1,6 @@
 //! How a slice stores the cells of a table.
 ghost use Rattle.std.specs.Prelude.{◌≡◌, ◌*◌, ◌^◌, ◌<◌};
 ghost use Rattle.grid_base.specs.Table.{IsSize};
-ghost use Rattle.grid_base.specs.Order.{flipped};
 ghost use Rattle.grid_base.specs.Positions.{along};
 
 use crate::Order;
@@ -24,19 +23,6 @@ impl Layout {
         ensures { result ≡ self.rows * self.cols }
     {
         self.rows * self.cols
-    }
-
-    /// Returns the layout of the transposed table, which the same slice stores in the other order.
-    pub fn flipped(self) -> Layout
-        ensures order { result.order ≡ flipped self.order }
-        ensures rows { result.rows ≡ self.cols }
-        ensures cols { result.cols ≡ self.rows }
-    {
-        Layout {
-            order: self.order.flipped(),
-            rows: self.cols,
-            cols: self.rows,
-        }
     }
 
     /// Returns the number of lines along the storage, rows or columns, and their length.

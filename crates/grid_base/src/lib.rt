@@ -3,8 +3,8 @@
 #![tactic(auto)]
 
 mod flat;
-mod layout;
 pub mod laws;
+mod layout;
 mod order;
 mod tally;
 mod whole;

@@ -4,7 +4,7 @@ ghost use Rattle.grid_base.specs.Clones.{ClonesAreEqual};
 ghost use Rattle.grid.specs.Make.{IsMade, FailsBySize, EachCellIs, HoldsDefaults, CallableOver, MadeBy, FailsAt};
 
 use crate::{Grid, GridError};
-use grid_base::{Flat, Order};
+use grid_base::{Flat, Layout, Order};
 use std::alloc::Allocator;
 
 mod arrays;
@@ -150,7 +150,7 @@ impl<T, A: Allocator> Grid<T, A> {
         if rows.checked_mul(cols).is_none() {
             return Err(GridError::TooLarge);
         }
-        let flat = Flat::from_fn(alloc, order, rows, cols, f)?;
+        let flat = Flat::from_fn(alloc, Layout { order, rows, cols }, f)?;
         Ok(Grid {
             flat,
             row_count: rows,
@@ -210,7 +210,7 @@ impl<T, A: Allocator> Grid<T, A> {
         if too_large {
             return Err(GridError::TooLarge);
         }
-        let made = Flat::try_from_fn(alloc, order, rows, cols, f)?;
+        let made = Flat::try_from_fn(alloc, Layout { order, rows, cols }, f)?;
         match made {
             Ok(flat) => Ok(Ok(Grid {
                 flat,

@@ -7,7 +7,7 @@ ghost use Rattle.grid_base.specs.Iterators.{GivesLine, GivesLines};
 ghost use Rattle.grid_base.specs.GridLineIterMut.{line_mut_rest};
 
 use crate::Grid;
-use grid_base::{GridLineIter, GridLineIterMut, GridRowIter};
+use grid_base::{GridLineIter, GridLineIterMut, GridRowIter, Layout};
 use std::alloc::Allocator;
 
 /// An iterator over the columns of a grid, from both ends, seen as the list of the columns that remain.
@@ -26,7 +26,8 @@ impl<T, A: Allocator> Grid<T, A> {
         requires { r < row_count self.now.rows }
         ensures gives { GivesLine (row self.now.rows r) result }
     {
-        self.flat.row(self.order, self.row_count, self.col_count, r)
+        let (order, rows, cols) = (self.order, self.row_count, self.col_count);
+        self.flat.row(Layout { order, rows, cols }, r)
     }
 
     /// Returns an iterator over the cells of column `c`, from both ends.
@@ -39,8 +40,8 @@ impl<T, A: Allocator> Grid<T, A> {
         requires { c < col_count self.now.rows }
         ensures gives { GivesLine (row (transposed self.now.rows) c) result }
     {
-        let order = self.order.flipped();
-        self.flat.row(order, self.col_count, self.row_count, c)
+        let (order, rows, cols) = (self.order.flipped(), self.col_count, self.row_count);
+        self.flat.row(Layout { order, rows, cols }, c)
     }
 
     /// Returns an iterator over the cells of row `r`, for writing. The size and the order stay.
@@ -56,7 +57,7 @@ impl<T, A: Allocator> Grid<T, A> {
         ensures rest { line_mut_rest result ≡ row self.old.rows r }
     {
         let (order, rows, cols) = (self.order, self.row_count, self.col_count);
-        self.flat.row_mut(order, rows, cols, r)
+        self.flat.row_mut(Layout { order, rows, cols }, r)
     }
 
     /// Returns an iterator over the cells of column `c`, for writing. The size and the order stay.
@@ -71,8 +72,8 @@ impl<T, A: Allocator> Grid<T, A> {
         ensures keeps { KeepsSizeFrom self.old 0 c }
         ensures rest { line_mut_rest result ≡ row (transposed self.old.rows) c }
     {
-        let (order, rows, cols) = (self.order.flipped(), self.row_count, self.col_count);
-        self.flat.row_mut(order, cols, rows, c)
+        let (order, rows, cols) = (self.order.flipped(), self.col_count, self.row_count);
+        self.flat.row_mut(Layout { order, rows, cols }, c)
     }
 
     /// Returns an iterator over the rows, from both ends, each as [`iter_row`](Grid::iter_row) gives it.
@@ -81,7 +82,8 @@ impl<T, A: Allocator> Grid<T, A> {
     pub fn iter_rows(&self) -> GridRowIter<'_, T>
         ensures gives { GivesLines self.now.rows result }
     {
-        self.flat.rows(self.order, self.row_count, self.col_count)
+        let (order, rows, cols) = (self.order, self.row_count, self.col_count);
+        self.flat.rows(Layout { order, rows, cols })
     }
 
     /// Returns an iterator over the columns, from both ends, each as [`iter_col`](Grid::iter_col) gives it.
@@ -90,7 +92,8 @@ impl<T, A: Allocator> Grid<T, A> {
     pub fn iter_cols(&self) -> GridColIter<'_, T>
         ensures gives { GivesLines (transposed self.now.rows) result }
     {
-        let order = self.order.flipped();
-        self.flat.rows(order, self.col_count, self.row_count)
+        let (order, rows, cols) = (self.order.flipped(), self.col_count, self.row_count);
+        let across = Layout { order, rows, cols };
+        self.flat.rows(across)
     }
 }

@@ -6,7 +6,7 @@ use Rattle.grid.proofs.SeenLemmas.{seen_rows, seen_cols}
 use Rattle.grid.proofs.grid.Grid.flip_counted.Goals as goal
 
 pub flip_stored-requires-in-false-true : goal.flip_stored-requires-in-false-true
-flip_stored-requires-in-false-true g c = HoldsSize-transposed _ _ _ c.self.inside.fits
+flip_stored-requires-in-false-true g c = (HoldsSize-transposed _ _ _ c.self.inside.fits).cells
 
 pub returns-in-false-false-clause-rows : goal.returns-in-false-false-clause-rows
 returns-in-false-false-clause-rows g c = rw (c.in-false-false.is-0, c.in-false-false.is-1) (sym (act-identity _ c.args.self.now.table))

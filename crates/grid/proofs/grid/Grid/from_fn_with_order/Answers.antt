@@ -4,10 +4,10 @@ use Rattle.grid_base.proofs.ViewLemmas.{FitsUsize-size}
 use Rattle.grid.proofs.CellCallLemmas.{callable_positions, answers_made, seen_made}
 use Rattle.grid.proofs.grid.Grid.from_fn_with_order.Goals as goal
 
-pub from_fn-requires-clause-calls : goal.from_fn-requires-clause-calls
-from_fn-requires-clause-calls g c =
+pub from_fn-requires : goal.from_fn-requires
+from_fn-requires g c =
     let size : IsSize c.args.rows c.args.cols = record { has_cols = λ _. omega arith; has_rows = λ _. omega arith } in
-    callable_positions c.args.order c.args.rows c.args.cols size _ _ (FitsUsize-size _ _ size (search rules)) c.requires
+    record { calls = callable_positions c.args.order c.args.rows c.args.cols size _ _ (FitsUsize-size _ _ size (search rules)) c.requires }
 
 pub returns-clause-made : goal.returns-clause-made
 returns-clause-made g c = seen_made c.args.order c.args.rows c.args.cols _ _ (omega arith) (omega arith)

@@ -6,8 +6,8 @@ use Rattle.grid.proofs.SeenLemmas.{seen_cols}
 use Rattle.grid.proofs.SeenIteratorLemmas.{seen_transposed}
 use Rattle.grid.proofs.grid.Grid.iter_col.Goals as goal
 
-pub row-requires-clause-size : goal.row-requires-clause-size
-row-requires-clause-size g c = HoldsSize-transposed _ _ _ c.self.inside.fits
+pub row-requires-clause-cells : goal.row-requires-clause-cells
+row-requires-clause-cells g c = (HoldsSize-transposed _ _ _ c.self.inside.fits).cells
 
 pub row-requires-clause-row_in : goal.row-requires-clause-row_in
 row-requires-clause-row_in g c = omega (arith, seen_cols _ _ _ _ _ c.self.inside.fits c.self.view_is, c.requires)

@@ -6,8 +6,8 @@ use Rattle.grid.proofs.SeenLemmas.{seen_cols}
 use Rattle.grid.proofs.SeenIteratorLemmas.{seen_written, seen_keeps_from, seen_transposed, place_flipped}
 use Rattle.grid.proofs.grid.Grid.iter_col_mut.Goals as goal
 
-pub row_mut-requires-clause-size : goal.row_mut-requires-clause-size
-row_mut-requires-clause-size g c = HoldsSize-transposed _ _ _ c.self.inside.fits
+pub row_mut-requires-clause-cells : goal.row_mut-requires-clause-cells
+row_mut-requires-clause-cells g c = (HoldsSize-transposed _ _ _ c.self.inside.fits).cells
 
 pub row_mut-requires-clause-row_in : goal.row_mut-requires-clause-row_in
 row_mut-requires-clause-row_in g c = omega (arith, seen_cols _ _ _ _ _ c.self.inside.fits c.self.view_is, c.requires)

@@ -5,7 +5,7 @@ use Rattle.grid.proofs.SeenIteratorLemmas.{seen_transposed}
 use Rattle.grid.proofs.grid.Grid.iter_cols.Goals as goal
 
 pub rows-requires : goal.rows-requires
-rows-requires g c = HoldsSize-transposed _ _ _ c.self.inside.fits
+rows-requires g c = (HoldsSize-transposed _ _ _ c.self.inside.fits).cells
 
 pub returns : goal.returns
 returns g c =
