@@ -11,8 +11,8 @@ ghost use Rattle.grid_base.specs.declared.words.Symmetry.{Symmetry};
 ghost use Rattle.grid_commands.specs.Command.{command_value, apply};
 ghost use Rattle.grid.specs.Cost.{command_symmetry, list_symmetry, price_at, shift_at};
 ghost use Rattle.grid.specs.Step.{RowsAreKnown, step_rows};
-ghost use Rattle.grid.specs.Stepped.{Stepped, StepCounted};
 ghost use Rattle.grid_deferred.specs.Run.{DeferredRunGives};
+ghost use Rattle.grid_laws.specs.StepGives.{StepGives};
 ghost use Rattle.grid_laws.specs.Least.{HasDifferentCells, IsLeast, Shifts, filled_up, GrewByLeast};
 
 use grid::{Command, Grid, Reply, RunStopped};
@@ -45,14 +45,8 @@ pub fn step_by_least<T, A: Allocator>(
 where
     T: Clone + Default + Drop,
     A: Clone,
-    ensures stepped { Stepped
-        T.is_default T.is_clone (command_value command) grid.old.rows grid.new.rows result }
-    ensures applied { OnOk result ((s : Symmetry)
-        → command_value command ≡ apply s → grid.new.rows ≡ act s grid.old.rows) }
-    ensures order { OnOk result (grid.new.order
-        ≡ order_after (command_symmetry (command_value command)) grid.old.order) }
-    ensures counted { StepCounted
-        (command_value command) grid.old tally.old tally.new result }
+    ensures gives { StepGives T.is_default T.is_clone
+        (command_value command) grid.old grid.new tally.old tally.new result }
     ensures symmetry { OnOk result (HasDifferentCells grid.old.rows
         → GrewByLeast tally.old.symmetry tally.new.symmetry
         (storage grid.old.order grid.old.rows)
@@ -77,7 +71,6 @@ where
         → IsLeast (shift_at (command_value command) o t)
         (filled_up d (length (storage o (step_rows d (command_value command) t))) (storage o t))
         (storage o (step_rows d (command_value command) t)) }
-    ensures err { OnErr result (grid.new ≡ grid.old) }
 {
     grid.step(command, tally)
 }

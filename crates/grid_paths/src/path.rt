@@ -7,7 +7,7 @@ ghost use Rattle.grid_paths.specs.Closures.{HoldsOfAnswers};
 ghost use Rattle.grid_paths.specs.Search.{IsMarked, HasLeastUpTo};
 
 use super::around::around;
-use super::search::{floor_of, search_until};
+use super::search::{floor_of, search_from};
 use grid::Grid;
 use grid_near::Steps;
 use std::alloc::{AllocError, Allocator};
@@ -111,7 +111,7 @@ fn path_over<A: Allocator + Clone>(
         ((n : ℕ) → Walk kind floor.rows from to n → ⊥)
         (λ path. IsShortestPath kind floor.rows from to path.items)) }
 {
-    let steps = search_until(kind, floor, to, from)?;
+    let steps = search_from(kind, floor, &[to], Some(from))?;
     match steps_at(&steps, from.0, from.1) {
         Some(count) => Ok(Some(follow(&steps, from, count)?)),
         None => Ok(None),

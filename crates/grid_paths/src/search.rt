@@ -116,16 +116,6 @@ fn is_goal(goal: Option<(usize, usize)>, at: (usize, usize)) -> bool
     }
 }
 
-// Drops the first positions, and moves the rest to the front.
-fn remove_front<A: Allocator>(queue: &mut Vec<(usize, usize), A>, count: usize)
-    requires { count ≤ length queue.old.items }
-    ensures { queue.new.items ≡ drop count queue.old.items }
-{
-    let len = queue.len();
-    queue.copy_within(count..len, 0);
-    queue.truncate(len - count);
-}
-
 // Drops the positions before `next` once they are many, and no fewer than the others; returns the place that `next` has
 // then. So the queue stays short, and there are no more moves than positions.
 fn trim<A: Allocator>(queue: &mut Vec<(usize, usize), A>, next: usize) -> usize
@@ -133,16 +123,18 @@ fn trim<A: Allocator>(queue: &mut Vec<(usize, usize), A>, next: usize) -> usize
     ensures { (front : List (ℕ × ℕ)) × (queue.old.items ≡ front ++ queue.new.items)
         × (next ≡ length front + result) }
 {
-    if next < MANY || next < queue.len() - next {
+    let len = queue.len();
+    if next < MANY || next < len - next {
         return next;
     }
-    remove_front(queue, next);
+    queue.copy_within(next..len, 0);
+    queue.truncate(len - next);
     0
 }
 
 // The least number of steps to each open position, from the nearest of several; with a goal the search stops once it
 // goes on from it.
-fn search_from<A: Allocator + Clone>(
+pub(crate) fn search_from<A: Allocator + Clone>(
     kind: Steps,
     floor: Grid<bool, A>,
     starts: &[(usize, usize)],
@@ -172,31 +164,6 @@ fn search_from<A: Allocator + Clone>(
         next = trim(&mut queue, next + 1);
     }
     Ok(steps)
-}
-
-// The least number of steps to each open position, from the first.
-fn search<A: Allocator + Clone>(
-    kind: Steps,
-    floor: Grid<bool, A>,
-    from: (usize, usize),
-) -> Result<Grid<Option<usize>, A>, AllocError>
-    ensures order { IfOk result (λ steps. steps.order ≡ floor.order) }
-    ensures size { IfOk result (λ steps. HaveOneSize steps.rows floor.rows) }
-    ensures least { IfOk result (λ steps. HasLeastSteps kind floor.rows from steps.rows) }
-{
-    search_from(kind, floor, &[from], None)
-}
-
-// The numbers up to that of a goal.
-pub(crate) fn search_until<A: Allocator + Clone>(
-    kind: Steps,
-    floor: Grid<bool, A>,
-    from: (usize, usize),
-    goal: (usize, usize),
-) -> Result<Grid<Option<usize>, A>, AllocError>
-    ensures { IfOk result (λ steps. IsSettled kind floor.rows from goal steps.rows) }
-{
-    search_from(kind, floor, &[from], Some(goal))
 }
 
 // Which cells pass the test.
@@ -237,7 +204,7 @@ pub fn distances<T, A: Allocator + Clone, F: Fn(&T) -> bool>(
         HasLeastSteps kind floor from steps.rows)) }
 {
     let floor = floor_of(grid, passable)?;
-    search(kind, floor, from)
+    search_from(kind, floor, &[from], None)
 }
 
 /// Returns, for each cell, the least number of steps from the nearest of several positions, as [`distances`] counts

@@ -6,6 +6,11 @@ use Rattle.grid_laws.proofs.EditLemmas.{shift_is_least}
 use Rattle.grid_laws.proofs.ImageLemmas.{price_is_least}
 use Rattle.grid_laws.proofs.least.step_by_least.Goals as goal
 
+pub returns-clause-gives : goal.returns-clause-gives
+returns-clause-gives g c =
+    let s = c.step.ensures in
+    record { stepped = s.stepped; applied = s.applied; order = s.order; counted = s.counted; half = s.half; err = s.err }
+
 pub returns-clause-symmetry : goal.returns-clause-symmetry
 returns-clause-symmetry g c =
     on_ok3 c.step.result (λ r o s u. grew_by_price _ _ _ _ _ _ _ c.args.grid.now.table u refl o s)

@@ -1,8 +1,13 @@
+use Rattle.std.proofs.Common.{refl}
+use Rattle.std.proofs.lemmas.Result.{IfOk-weaker}
 use Rattle.grid_paths.specs.Walks.{HasLeastSteps}
 use Rattle.grid_paths.proofs.ClosureLemmas.{HoldsOfAnswers-if_ok}
+use Rattle.grid_paths.proofs.SearchLemmas.{HasLeastSteps-one}
 use Rattle.grid_paths.proofs.search.distances.Goals as goal
 
 pub returns-clause-least : goal.returns-clause-least
 returns-clause-least g c =
-    HoldsOfAnswers-if_ok _ _ _ c.search.result (λ floor steps. HasLeastSteps c.args.kind floor c.args.from steps.rows)
-    c.in_ok-floor.floor.rows c.in_ok-floor.ensures.answers c.in_ok-floor.ensures.cells c.search.ensures.least
+    let floor = c.in_ok-floor.floor.rows in
+    HoldsOfAnswers-if_ok _ _ _ c.search_from.result (λ floor steps. HasLeastSteps c.args.kind floor c.args.from steps.rows)
+    floor c.in_ok-floor.ensures.answers c.in_ok-floor.ensures.cells
+    (IfOk-weaker c.search_from.result _ _ (λ steps h. HasLeastSteps-one c.args.kind floor c.args.from steps.rows (h refl)) c.search_from.ensures.least)

@@ -1,11 +1,21 @@
-use Rattle.std.proofs.Common.{◌≡◌, ◌++◌, length, take, sym, ap, ◌∙◌, arith, length-take-le}
+use Rattle.std.proofs.Common.{◌≡◌, ◌+◌, ◌-◌, ◌++◌, length, take, drop, sym, ap, ◌∙◌, arith, length-drop, length-take-le, take_all}
+use lib.Seq.{paste}
 use Rattle.std.proofs.lemmas.List.{take-append-drop}
+use Rattle.std.proofs.lemmas.List.Edits.{take-paste}
 use Rattle.grid_paths.proofs.search.trim.Goals as goal
 
 pub returns : goal.returns
 returns g c =
-    let all = c.args.queue.now.items in
+    let queue = c.args.queue.now in
+    let all = queue.items in
     let next = c.args.next in
     let front = take next all in
-    let long : length front ≡ next = length-take-le next all c.requires in
-    (front, sym (take-append-drop next all) ∙ ap (λ x. front ++ x) (sym c.remove_front.ensures), omega arith)
+    let left = c.len-len.result - next in
+    let long : length all ≡ c.len-len.result = omega (arith, queue.ok.0) in
+    let same : left ≡ 0 + left = omega arith in
+    let rest : length (drop next all) ≡ left = omega (arith, length-drop next all) in
+    let kept = c.truncate.ensures.items ∙ (ap (take left) c.copy_within.ensures.items
+    ∙ (ap (λ k. take k (paste all 0 (drop next all) left)) same ∙ (take-paste all 0 (drop next all) left (omega arith) (omega arith)
+    ∙ take_all left (drop next all) (omega arith)))) in
+    let passed : length front ≡ next = length-take-le next all c.requires in
+    (front, sym (take-append-drop next all) ∙ ap (λ x. front ++ x) (sym kept), omega arith)

@@ -1,0 +1,22 @@
+-- All that one command does, in one word.
+use Rattle.std.specs.Prelude.{◌≡◌, ◌+◌, ◌≤◌, Result, OnOk, OnErr}
+use Rattle.grid_base.specs.Table.{row_count, col_count}
+use Rattle.grid_base.specs.GridValue.{GridValue}
+use Rattle.grid_base.specs.Symmetry.{act, order_after, half}
+use Rattle.grid_base.specs.Tally.{Counts}
+use Rattle.grid_base.specs.declared.words.Symmetry.{Symmetry}
+use Rattle.grid_commands.specs.declared.command.Reply.{Reply}
+use Rattle.grid_commands.specs.Command.{CommandValue, apply}
+use Rattle.grid.specs.Cost.{command_symmetry}
+use Rattle.grid.specs.Stepped.{Stepped, StepCounted}
+
+-- what a step by this command makes of a grid and a tally, and what it returns
+pub record StepGives {T A E : Type 0} (is_default : T → Type 0) (is_clone : T → T → Type 0)
+    (x : CommandValue T) (old new : GridValue T) (before after : Counts)
+    (result : Result (Reply T A) E) : Type 0 where
+  pub stepped : Stepped is_default is_clone x old.rows new.rows result
+  pub applied : OnOk result ((s : Symmetry) → x ≡ apply s → new.rows ≡ act s old.rows)
+  pub order : OnOk result (new.order ≡ order_after (command_symmetry x) old.order)
+  pub counted : StepCounted x old before after result
+  pub half : after.symmetry ≤ before.symmetry + half (row_count old.rows) (col_count old.rows)
+  pub err : OnErr result (new ≡ old)
