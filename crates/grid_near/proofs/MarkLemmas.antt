@@ -1,9 +1,10 @@
 -- Marks of cells.
-use Rattle.std.proofs.Common.{◌≡◌, ℕ, zero, suc, ◌+◌, ◌-◌, ◌*◌, ◌%◌, ◌<◌, ◌&&◌, inl, inr, Bool, true, false, cond, nat_lt, List, [], ◌∷◌, Option, Some, None, length, refl, sym, subst, ◌∙◌, ap, arith, get_or, set}
+use Rattle.std.proofs.Common.{◌≡◌, ℕ, zero, suc, ◌+◌, ◌-◌, ◌*◌, ◌%◌, ◌<◌, ◌&&◌, inl, inr, Bool, true, false, cond, nat_lt, List, [], ◌∷◌, Option, Some, None, length, refl, sym, subst, ◌∙◌, ap, arith, get_or, set, take}
 use Rattle.std.specs.List.{slice_get, filter_map, cons_option, AllZip}
 use Rattle.std.specs.Int.{from_bool}
 use Rattle.std.specs.Option.{option_map, MatchOption}
-use Rattle.std.proofs.lemmas.List.{get_or-set_other}
+use Rattle.std.proofs.lemmas.List.{get_or-set_other, take_all}
+use Rattle.std.proofs.lemmas.Option.{slice_get_read}
 use Rattle.std.proofs.lemmas.List.Sums.{sum_by-cons}
 use Rattle.std.proofs.lemmas.Grind.{get_or-set_at}
 use Rattle.std.proofs.lemmas.Bool.{cases_lt, lt-ltb, le-ltb}
@@ -14,16 +15,21 @@ use Rattle.grid_base.specs.declared.order.Order.TheVariants.{RowMajor, ColumnMaj
 use Rattle.grid_base.specs.Positions.{along}
 use Rattle.grid_base.specs.Order.{table_of}
 use Rattle.grid_base.specs.GridValue.{HoldsSize}
+use Rattle.grid_base.specs.Layout.{positions_of, lines_of}
+use Rattle.grid_base.proofs.LayoutLemmas.{holds}
+use Rattle.grid_base.proofs.PlaceLemmas.{get_along, all_passed, length-places}
+use Rattle.grid_base.proofs.PlacedCellLemmas.{get-zip, zip_even}
 use Rattle.grid_base.proofs.StorageLemmas.{place_within}
 use Rattle.grid_near.specs.declared.steps.Steps.{Steps}
 use Rattle.grid_near.specs.declared.steps.Steps.TheVariants.{Sides, All}
-use Rattle.grid_near.specs.declared.counts.Edges.{Edges}
-use Rattle.grid_near.specs.declared.counts.Edges.TheVariants.{Open, Joined}
+use Rattle.grid_near.specs.declared.board.Board.{Board}
+use Rattle.grid_near.specs.declared.board.Edges.{Edges}
+use Rattle.grid_near.specs.declared.board.Edges.TheVariants.{Open, Joined}
 use Rattle.grid_near.specs.Neighbors.{around8, around4, both, cell_at, before, step_count}
 use Rattle.grid_near.specs.Around.{strided_cell, strides_of, beside, if_within}
 use Rattle.grid_near.specs.Wrapped.{around}
 use Rattle.grid_near.specs.NearCounts.{MayAnswer, MayCount, CountsNear, SumsNear}
-use Rattle.grid_near.specs.Marks.{MarkAt, MarksCells, MarksLine, WithEnds, IsBeyond, side, spot, round_of, count_round, sum_round}
+use Rattle.grid_near.specs.Marks.{MarkAt, MarksCells, MarksLine, MarksBeside, WithEnds, IsBeyond, side, spot, round_of, near, table, placed_cells, count_round, sum_round}
 use Rattle.grid_near.proofs.AroundLemmas.{cell_some, start_shown}
 use Rattle.grid_near.proofs.WrappedLemmas.{wrapped_start, below_mod, around_within}
 
@@ -80,7 +86,7 @@ spot_found cells ColumnMajor size l c x ll lc is =
     found cells size (1, size.0) c l x lc ll (ap (slice_get cells) (omega arith) ∙ is)
 
 -- a place in a line is within the cells
-pub line_within : (o : Order) (m n len l c : ℕ) → HoldsSize m n len → l < (along o m n).0 → c < (along o m n).1 → l * (along o m n).1 + c < len
+line_within : (o : Order) (m n len l c : ℕ) → HoldsSize m n len → l < (along o m n).0 → c < (along o m n).1 → l * (along o m n).1 + c < len
 line_within RowMajor m n len l c h ll lc = omega (arith, place_within RowMajor m n l c ll lc, h.cells)
 line_within ColumnMajor m n len l c h ll lc = omega (arith, place_within ColumnMajor m n c l lc ll, h.cells)
 
@@ -197,7 +203,7 @@ module _ {F T : Type 0} (returns : F → Bor T → Bool → Type 0) (f : F) wher
     counted (p ∷ ps) (b ∷ bs) a = counted_step (cell_at g p) b (filter_map (cell_at g) ps) (trues bs) a.0 (counted ps bs a.1)
 
   -- the marks round a place say how many of the cells round it pass
-  pub round_counted : (cells : List T) (o : Order) (size : ℕ × ℕ) → HoldsSize size.0 size.1 (length cells) → (e : Edges) (kind : Steps) (l k : ℕ) (up mid down : List Bool) → l < (along o size.0 size.1).0 → k < (along o size.0 size.1).1 → MarksLine false returns f (strided_cell cells size (strides_of o size)) o e (along o size.0 size.1).1 (side e (along o size.0 size.1).0 l 0) up → MarksLine false returns f (strided_cell cells size (strides_of o size)) o e (along o size.0 size.1).1 (side e (along o size.0 size.1).0 l 1) mid → MarksLine false returns f (strided_cell cells size (strides_of o size)) o e (along o size.0 size.1).1 (side e (along o size.0 size.1).0 l 2) down → CountsNear returns f (round_of kind e (table_of o size.0 size.1 cells) (along o l k).0 (along o l k).1) (count_round kind up mid down k)
+  round_counted : (cells : List T) (o : Order) (size : ℕ × ℕ) → HoldsSize size.0 size.1 (length cells) → (e : Edges) (kind : Steps) (l k : ℕ) (up mid down : List Bool) → l < (along o size.0 size.1).0 → k < (along o size.0 size.1).1 → MarksLine false returns f (strided_cell cells size (strides_of o size)) o e (along o size.0 size.1).1 (side e (along o size.0 size.1).0 l 0) up → MarksLine false returns f (strided_cell cells size (strides_of o size)) o e (along o size.0 size.1).1 (side e (along o size.0 size.1).0 l 1) mid → MarksLine false returns f (strided_cell cells size (strides_of o size)) o e (along o size.0 size.1).1 (side e (along o size.0 size.1).0 l 2) down → CountsNear returns f (round_of kind e (table_of o size.0 size.1 cells) (along o l k).0 (along o l k).1) (count_round kind up mid down k)
   round_counted cells RowMajor size h e Sides l k up mid down ll lk hu hm hd =
       let g = strided_cell cells size (size.1, 1) in
       let u : (i j : ℕ) → i < 3 → j ≡ k + i → MarkAt false returns f g (side e size.0 l 0, side e size.1 k i) (get_or up j false) = λ i j li ej. hu.at k i j lk li ej in
@@ -258,7 +264,7 @@ module _ {F T : Type 0} (returns : F → Bor T → ℕ → Type 0) (f : F) where
     summed (p ∷ ps) (b ∷ bs) a = summed_step (cell_at g p) b (filter_map (cell_at g) ps) (total bs) a.0 (summed ps bs a.1)
 
   -- the marks round a place have the sum of the cells round it
-  pub round_summed : (cells : List T) (o : Order) (size : ℕ × ℕ) → HoldsSize size.0 size.1 (length cells) → (e : Edges) (kind : Steps) (l k : ℕ) (up mid down : List ℕ) → l < (along o size.0 size.1).0 → k < (along o size.0 size.1).1 → MarksLine 0 returns f (strided_cell cells size (strides_of o size)) o e (along o size.0 size.1).1 (side e (along o size.0 size.1).0 l 0) up → MarksLine 0 returns f (strided_cell cells size (strides_of o size)) o e (along o size.0 size.1).1 (side e (along o size.0 size.1).0 l 1) mid → MarksLine 0 returns f (strided_cell cells size (strides_of o size)) o e (along o size.0 size.1).1 (side e (along o size.0 size.1).0 l 2) down → SumsNear returns f (round_of kind e (table_of o size.0 size.1 cells) (along o l k).0 (along o l k).1) (sum_round kind up mid down k)
+  round_summed : (cells : List T) (o : Order) (size : ℕ × ℕ) → HoldsSize size.0 size.1 (length cells) → (e : Edges) (kind : Steps) (l k : ℕ) (up mid down : List ℕ) → l < (along o size.0 size.1).0 → k < (along o size.0 size.1).1 → MarksLine 0 returns f (strided_cell cells size (strides_of o size)) o e (along o size.0 size.1).1 (side e (along o size.0 size.1).0 l 0) up → MarksLine 0 returns f (strided_cell cells size (strides_of o size)) o e (along o size.0 size.1).1 (side e (along o size.0 size.1).0 l 1) mid → MarksLine 0 returns f (strided_cell cells size (strides_of o size)) o e (along o size.0 size.1).1 (side e (along o size.0 size.1).0 l 2) down → SumsNear returns f (round_of kind e (table_of o size.0 size.1 cells) (along o l k).0 (along o l k).1) (sum_round kind up mid down k)
   round_summed cells RowMajor size h e Sides l k up mid down ll lk hu hm hd =
       let g = strided_cell cells size (size.1, 1) in
       let u : (i j : ℕ) → i < 3 → j ≡ k + i → MarkAt 0 returns f g (side e size.0 l 0, side e size.1 k i) (get_or up j 0) = λ i j li ej. hu.at k i j lk li ej in
@@ -313,7 +319,46 @@ pub side_second : (e : Edges) (n k : ℕ) → k + 1 < n → side e n k 2 ≡ sid
 side_second Open n k lt = refl
 side_second Joined n k lt = ap Some (below_mod n (k + 1) lt)
 
--- no lines hold no cells
-pub no_lines : (o : Order) (m n len : ℕ) → HoldsSize m n len → (along o m n).0 ≡ 0 → len ≡ 0
-no_lines RowMajor m n len h e = h.cells ∙ (ap (λ x. x * n) e ∙ omega arith)
-no_lines ColumnMajor m n len h e = h.cells ∙ (ap (λ x. m * x) e ∙ omega arith)
+-- the cells of a board
+module _ {T F : Type 0} (b : Board T F) where
+  abbrev o : Order
+  o = b.layout.order
+
+  abbrev board_size : ℕ × ℕ
+  board_size = (b.layout.rows, b.layout.cols)
+
+  abbrev board_lines : ℕ
+  board_lines = (lines_of b.layout).0
+
+  abbrev board_width : ℕ
+  board_width = (lines_of b.layout).1
+
+  pub holds_size : HoldsSize b.layout.rows b.layout.cols (length b.cells.now)
+  holds_size = holds b.layout (length b.cells.now) b.filled
+
+  placed_even : length (positions_of b.layout) ≡ length b.cells.now
+  placed_even = length-places o b.layout.rows b.layout.cols b.layout.size ∙ sym b.filled
+
+  -- the cell in place k of line l
+  pub within_board : (l k : ℕ) → l < board_lines → k < board_width → l * board_width + k < length b.cells.now
+  within_board l k ll lk = line_within o b.layout.rows b.layout.cols (length b.cells.now) l k holds_size ll lk
+
+  pub cell_placed : (l k i : ℕ) (x : T) → l < board_lines → k < board_width → i ≡ l * board_width + k → x ≡ get_or b.cells.now (l * board_width + k) x → slice_get (placed_cells b) i ≡ Some (along o l k, x)
+  cell_placed l k i x ll lk e is =
+      let here : slice_get (positions_of b.layout) i ≡ Some (along o l k) = get_along o b.layout.rows b.layout.cols l k (l * board_width) i (lines_of b.layout) (along o l k) b.layout.size ll refl lk refl e refl in
+      let shown : slice_get b.cells.now i ≡ Some x = ap (slice_get b.cells.now) e ∙ slice_get_read b.cells.now (length b.cells.now) _ x refl (within_board l k ll lk) is in
+      get-zip (positions_of b.layout) b.cells.now i (along o l k) x here shown
+
+  -- past the last line all cells are passed
+  pub board_passed : (l i : ℕ) → l ≡ board_lines → i ≡ l * board_width → i ≡ length b.cells.now
+  board_passed l i el e = sym (all_passed o b.layout.rows b.layout.cols l i (lines_of b.layout) b.layout.size refl el e) ∙ placed_even
+
+  pub all_placed : (i : ℕ) → i ≡ length b.cells.now → take i (placed_cells b) ≡ placed_cells b
+  all_placed i e = take_all i (placed_cells b) (omega (arith, zip_even (positions_of b.layout) b.cells.now placed_even, placed_even, e))
+
+-- what the marks round a place of a board say of the cells round it
+pub board_counted : {T F : Type 0} (returns : F → Bor T → Bool → Type 0) (b : Board T F) (l k : ℕ) (up mid down : List Bool) → l < (lines_of b.layout).0 → k < (lines_of b.layout).1 → MarksBeside false returns b l 0 up → MarksBeside false returns b l 1 mid → MarksBeside false returns b l 2 down → CountsNear returns b.mark.now (near b (table b) (along b.layout.order l k).0 (along b.layout.order l k).1) (count_round b.kind up mid down k)
+board_counted returns b = round_counted returns b.mark.now b.cells.now b.layout.order (b.layout.rows, b.layout.cols) (holds_size b) b.edges b.kind
+
+pub board_summed : {T F : Type 0} (returns : F → Bor T → ℕ → Type 0) (b : Board T F) (l k : ℕ) (up mid down : List ℕ) → l < (lines_of b.layout).0 → k < (lines_of b.layout).1 → MarksBeside 0 returns b l 0 up → MarksBeside 0 returns b l 1 mid → MarksBeside 0 returns b l 2 down → SumsNear returns b.mark.now (near b (table b) (along b.layout.order l k).0 (along b.layout.order l k).1) (sum_round b.kind up mid down k)
+board_summed returns b = round_summed returns b.mark.now b.cells.now b.layout.order (b.layout.rows, b.layout.cols) (holds_size b) b.edges b.kind

@@ -1,15 +1,18 @@
 -- Marks of the cells of a line, and of its two neighbours, with a border: what a closure answered at each of them.
-use Rattle.std.specs.Prelude.{◌≡◌, ⊤, ℕ, ◌+◌, ◌<◌, ◌≤◌, Bool, false, List, Option, Some, MatchOption, slice_get, slice_index_or}
+use Rattle.std.specs.Prelude.{◌≡◌, ⊤, ℕ, ◌+◌, ◌<◌, ◌≤◌, Bool, false, List, Option, Some, MatchOption, slice_get, slice_index_or, zip}
 use Rattle.std.specs.Int.{from_bool}
 use denote.Ref.{Bor}
 use Rattle.grid_base.specs.declared.order.Order.{Order}
 use Rattle.grid_base.specs.declared.order.Order.TheVariants.{RowMajor, ColumnMajor}
 use Rattle.grid_near.specs.declared.steps.Steps.{Steps}
 use Rattle.grid_near.specs.declared.steps.Steps.TheVariants.{Sides, All}
-use Rattle.grid_near.specs.declared.counts.Edges.{Edges}
-use Rattle.grid_near.specs.declared.counts.Edges.TheVariants.{Open, Joined}
+use Rattle.grid_base.specs.Order.{table_of}
+use Rattle.grid_base.specs.Layout.{positions_of, lines_of}
+use Rattle.grid_near.specs.declared.board.Board.{Board}
+use Rattle.grid_near.specs.declared.board.Edges.{Edges}
+use Rattle.grid_near.specs.declared.board.Edges.TheVariants.{Open, Joined}
 use Rattle.grid_near.specs.Neighbors.{cell_at, neighbors_of, wrapped_neighbors_of}
-use Rattle.grid_near.specs.Around.{beside}
+use Rattle.grid_near.specs.Around.{beside, strided_cell, strides_of}
 use Rattle.grid_near.specs.Wrapped.{around}
 use Rattle.grid_near.specs.NearCounts.{MayAnswer, CountsNear, SumsNear}
 
@@ -17,6 +20,19 @@ use Rattle.grid_near.specs.NearCounts.{MayAnswer, CountsNear, SumsNear}
 abbrev pub round_of : {T : Type 0} → Steps → Edges → List (List T) → ℕ → ℕ → List ((ℕ × ℕ) × T)
 round_of kind Open = neighbors_of kind
 round_of kind Joined = wrapped_neighbors_of kind
+
+module _ {T F : Type 0} (b : Board T F) where
+  -- the table of a board
+  abbrev pub table : List (List T)
+  table = table_of b.layout.order b.layout.rows b.layout.cols b.cells.now
+
+  -- its cells, each with its position, in storage order
+  abbrev pub placed_cells : List ((ℕ × ℕ) × T)
+  placed_cells = zip (positions_of b.layout) b.cells.now
+
+  -- the cells round a cell of a table, by the board's kind of steps and its edges
+  abbrev pub near : List (List T) → ℕ → ℕ → List ((ℕ × ℕ) × T)
+  near = round_of b.kind b.edges
 
 -- the number before k, k, or the number after it, of n numbers, if there may be one
 abbrev pub side : Edges → ℕ → ℕ → ℕ → Option ℕ
@@ -82,6 +98,15 @@ module _ {F T B : Type 0} (blank : B) (returns : F → Bor T → B → Type 0) (
   pub record MarksCells (cells : List T) (start w : ℕ) (marks : List B) : Type 0 where
     pub at : (k : ℕ) (x : T) → k < w → slice_get cells (start + k) ≡ Some x
         → MayAnswer returns f x (slice_index_or marks (k + 1) blank)
+
+-- the marks of the line before a line of a board, of the line, or of the one after it
+abbrev pub MarksBeside : {F T B : Type 0} → B → (F → Bor T → B → Type 0) → Board T F → ℕ → ℕ
+    → List B → Type 0
+MarksBeside blank returns b line i marks =
+    let o = b.layout.order in
+    let size : ℕ × ℕ = (b.layout.rows, b.layout.cols) in
+    MarksLine blank returns b.mark.now (strided_cell b.cells.now size (strides_of o size)) o b.edges
+    (lines_of b.layout).1 (side b.edges (lines_of b.layout).0 line i) marks
 
 module _ {F G T : Type 0} (near : List (List T) → ℕ → ℕ → List ((ℕ × ℕ) × T))
     (returns : F → Bor T → Bool → Type 0) (f : F) (t : List (List T)) where

@@ -1,35 +1,13 @@
 //! How many of the cells round each cell pass a test, for all cells of a table at once.
-ghost use Rattle.std.specs.Prelude.{◌≡◌, ℕ, ◌+◌, ◌*◌, ◌<◌, ◌≤◌, length, take, zip, vec_len, vec_capacity, false, slice_index_or, MatchOption, Some, IfOk};
-ghost use Rattle.grid_base.specs.GridValue.{HoldsSize};
+ghost use Rattle.std.specs.Prelude.{◌≡◌, ℕ, ◌+◌, ◌*◌, ◌<◌, ◌≤◌, length, take, vec_len, vec_capacity, false, slice_index_or, MatchOption, Some, IfOk};
 ghost use Rattle.grid_base.specs.ClosureCalls.{CallableAtRefs, CallableAtCells, ReturnsAtCell, PairsUp};
-ghost use Rattle.grid_base.specs.Positions.{along, positions};
-ghost use Rattle.grid_base.specs.Order.{table_of};
-ghost use Rattle.grid_near.specs.Around.{strided_cell, strides_of};
-ghost use Rattle.grid_near.specs.Marks.{side, IsBeyond, count_round, sum_round, MarksLine, MarksCells, WithEnds, round_of, TakesCounted, AnswersCounted, TakesSummed, AnswersSummed};
+ghost use Rattle.grid_base.specs.Layout.{lines_of};
+ghost use Rattle.grid_near.specs.Marks.{side, IsBeyond, count_round, sum_round, MarksBeside, MarksCells, WithEnds, near, table, placed_cells, TakesCounted, AnswersCounted, TakesSummed, AnswersSummed};
 
+use crate::board::{Board, Edges};
 use crate::steps::Steps;
 use crate::wrapped::around;
-use grid_base::Order;
 use std::alloc::{AllocError, Allocator};
-
-/// What is beside the cells at an edge of a table.
-#[derive(Clone, Copy, Debug, PartialEq, Eq)]
-pub enum Edges {
-    /// Nothing.
-    Open,
-    /// The cells at the other edge.
-    Joined,
-}
-
-// The number of lines along the storage and their length.
-fn by_line(order: Order, size: (usize, usize)) -> (usize, usize)
-    ensures { result ≡ along order size.0 size.1 }
-{
-    match order {
-        Order::RowMajor => size,
-        Order::ColumnMajor => (size.1, size.0),
-    }
-}
 
 // The line before a line, the line, or the one after it, if the table has it.
 fn line_beside(edges: Edges, lines: usize, line: usize, step: usize) -> Option<usize>
@@ -101,23 +79,25 @@ fn blank_line<M: Copy>(marks: &mut [M], blank: M)
     }
 }
 
-// Marks the cells from `start` on, from the second mark on.
+// Marks the cells of a line, which start at cell `start`, from the second mark on.
 fn mark_cells<T, M: Copy, F: Fn(&T) -> M>(
     marks: &mut [M],
     blank: M,
-    cells: &[T],
+    board: &Board<'_, T, F>,
     start: usize,
-    width: usize,
-    test: &F,
 )
-    requires marks { length marks.old ≡ width + 2 }
-    requires cells { start + width ≤ length cells.now }
-    requires calls { CallableAtRefs F.pre test.now cells.now }
+    requires marks { length marks.old ≡ (lines_of board.now.layout).1 + 2 }
+    requires cells { start + (lines_of board.now.layout).1 ≤ length board.now.cells.now }
+    requires calls { CallableAtRefs F.pre board.now.mark.now board.now.cells.now }
     ensures len { length marks.new ≡ length marks.old }
-    ensures cells { MarksCells blank F.post test.now cells.now start width marks.new }
+    ensures cells { MarksCells blank F.post board.now.mark.now board.now.cells.now start
+        (lines_of board.now.layout).1 marks.new }
 {
+    let (_, width) = board.layout.lines();
+    let cells = board.cells;
+    let mark = board.mark;
     for k in 0..width {
-        marks[k + 1] = test(&cells[start + k]);
+        marks[k + 1] = mark(&cells[start + k]);
     }
 }
 
@@ -140,28 +120,21 @@ fn mark_ends<M: Copy>(marks: &mut [M], blank: M, edges: Edges, width: usize)
 fn mark_line<T, M: Copy, F: Fn(&T) -> M>(
     marks: &mut [M],
     blank: M,
-    cells: &[T],
-    order: Order,
-    size: (usize, usize),
-    edges: Edges,
+    board: &Board<'_, T, F>,
     at: (usize, usize),
-    test: &F,
 )
-    requires size { HoldsSize size.0 size.1 (length cells.now) }
-    requires line { at.0 < (along order size.0 size.1).0 }
+    requires line { at.0 < (lines_of board.now.layout).0 }
     requires step { at.1 < 3 }
-    requires marks { length marks.old ≡ (along order size.0 size.1).1 + 2 }
-    requires calls { CallableAtRefs F.pre test.now cells.now }
+    requires marks { length marks.old ≡ (lines_of board.now.layout).1 + 2 }
+    requires calls { CallableAtRefs F.pre board.now.mark.now board.now.cells.now }
     ensures len { length marks.new ≡ length marks.old }
-    ensures marks { MarksLine blank F.post test.now (strided_cell cells.now size (strides_of order size))
-        order edges (along order size.0 size.1).1
-        (side edges (along order size.0 size.1).0 at.0 at.1) marks.new }
+    ensures marks { MarksBeside blank F.post board.now at.0 at.1 marks.new }
 {
-    let (lines, width) = by_line(order, size);
-    match line_beside(edges, lines, at.0, at.1) {
+    let (lines, width) = board.layout.lines();
+    match line_beside(board.edges, lines, at.0, at.1) {
         Some(line) => {
-            mark_cells(marks, blank, cells, line * width, width, test);
-            mark_ends(marks, blank, edges, width);
+            mark_cells(marks, blank, board, line * width);
+            mark_ends(marks, blank, board.edges, width);
         }
         None => blank_line(marks, blank),
     }
@@ -171,33 +144,17 @@ fn mark_line<T, M: Copy, F: Fn(&T) -> M>(
 fn marked<T, M: Copy, A: Allocator, F: Fn(&T) -> M>(
     mut marks: Vec<M, A>,
     blank: M,
-    cells: &[T],
-    order: Order,
-    size: (usize, usize),
-    edges: Edges,
+    board: &Board<'_, T, F>,
     at: (usize, usize),
-    test: &F,
 ) -> Vec<M, A>
-    requires size { HoldsSize size.0 size.1 (length cells.now) }
-    requires line { at.0 < (along order size.0 size.1).0 }
+    requires line { at.0 < (lines_of board.now.layout).0 }
     requires step { at.1 < 3 }
-    requires marks { length marks.items ≡ (along order size.0 size.1).1 + 2 }
-    requires calls { CallableAtRefs F.pre test.now cells.now }
+    requires marks { length marks.items ≡ (lines_of board.now.layout).1 + 2 }
+    requires calls { CallableAtRefs F.pre board.now.mark.now board.now.cells.now }
     ensures len { length result.items ≡ length marks.items }
-    ensures marks { MarksLine blank F.post test.now (strided_cell cells.now size (strides_of order size))
-        order edges (along order size.0 size.1).1
-        (side edges (along order size.0 size.1).0 at.0 at.1) result.items }
+    ensures marks { MarksBeside blank F.post board.now at.0 at.1 result.items }
 {
-    mark_line(
-        marks.as_mut_slice(),
-        blank,
-        cells,
-        order,
-        size,
-        edges,
-        at,
-        test,
-    );
+    mark_line(marks.as_mut_slice(), blank, board, at);
     marks
 }
 
@@ -205,46 +162,35 @@ fn marked<T, M: Copy, A: Allocator, F: Fn(&T) -> M>(
 fn push_line<T, U, A: Allocator, F: Fn(&T) -> bool, G: Fn(&T, u8) -> U>(
     mut made: Vec<U, A>,
     marks: (&[bool], &[bool], &[bool]),
-    cells: &[T],
-    order: Order,
-    size: (usize, usize),
-    edges: Edges,
-    kind: Steps,
+    board: &Board<'_, T, F>,
     line: usize,
-    test: &F,
     rule: &G,
 ) -> Vec<U, A>
-    requires size { HoldsSize size.0 size.1 (length cells.now) }
-    requires line { line < (along order size.0 size.1).0 }
-    requires up { MarksLine false F.post test.now (strided_cell cells.now size (strides_of order size))
-        order edges (along order size.0 size.1).1
-        (side edges (along order size.0 size.1).0 line 0) marks.0.now }
-    requires mid { MarksLine false F.post test.now (strided_cell cells.now size (strides_of order size))
-        order edges (along order size.0 size.1).1
-        (side edges (along order size.0 size.1).0 line 1) marks.1.now }
-    requires down { MarksLine false F.post test.now (strided_cell cells.now size (strides_of order size))
-        order edges (along order size.0 size.1).1
-        (side edges (along order size.0 size.1).0 line 2) marks.2.now }
-    requires up_len { length marks.0.now ≡ (along order size.0 size.1).1 + 2 }
-    requires mid_len { length marks.1.now ≡ (along order size.0 size.1).1 + 2 }
-    requires down_len { length marks.2.now ≡ (along order size.0 size.1).1 + 2 }
+    requires line { line < (lines_of board.now.layout).0 }
+    requires up { MarksBeside false F.post board.now line 0 marks.0.now }
+    requires mid { MarksBeside false F.post board.now line 1 marks.1.now }
+    requires down { MarksBeside false F.post board.now line 2 marks.2.now }
+    requires up_len { length marks.0.now ≡ (lines_of board.now.layout).1 + 2 }
+    requires mid_len { length marks.1.now ≡ (lines_of board.now.layout).1 + 2 }
+    requires down_len { length marks.2.now ≡ (lines_of board.now.layout).1 + 2 }
     requires calls { CallableAtCells
-        (TakesCounted (round_of kind edges) F.post test.now (table_of order size.0 size.1 cells.now) G.pre)
-        rule.now (zip (positions order size.0 size.1) cells.now) }
-    requires room { length cells.now ≤ vec_capacity made }
-    requires passed { vec_len made ≡ line * (along order size.0 size.1).1 }
+        (TakesCounted (near board.now) F.post board.now.mark.now (table board.now) G.pre)
+        rule.now (placed_cells board.now) }
+    requires room { length board.now.cells.now ≤ vec_capacity made }
+    requires passed { vec_len made ≡ line * (lines_of board.now.layout).1 }
     requires answers { PairsUp (ReturnsAtCell
-        (AnswersCounted (round_of kind edges) F.post test.now (table_of order size.0 size.1 cells.now) G.post)
-        rule.now) (take (vec_len made) (zip (positions order size.0 size.1) cells.now)) made.items }
+        (AnswersCounted (near board.now) F.post board.now.mark.now (table board.now) G.post)
+        rule.now) (take (vec_len made) (placed_cells board.now)) made.items }
     ensures room { vec_capacity result ≡ vec_capacity made }
-    ensures passed { vec_len result ≡ vec_len made + (along order size.0 size.1).1 }
+    ensures passed { vec_len result ≡ vec_len made + (lines_of board.now.layout).1 }
     ensures answers { PairsUp (ReturnsAtCell
-        (AnswersCounted (round_of kind edges) F.post test.now (table_of order size.0 size.1 cells.now) G.post)
-        rule.now) (take (vec_len result) (zip (positions order size.0 size.1) cells.now))
-        result.items }
+        (AnswersCounted (near board.now) F.post board.now.mark.now (table board.now) G.post)
+        rule.now) (take (vec_len result) (placed_cells board.now)) result.items }
 {
     let (up, mid, down) = marks;
-    let (_, width) = by_line(order, size);
+    let (_, width) = board.layout.lines();
+    let cells = board.cells;
+    let kind = board.kind;
     let start = line * width;
     for k in 0..width {
         let count = count_round(kind, up, mid, down, k);
@@ -253,37 +199,30 @@ fn push_line<T, U, A: Allocator, F: Fn(&T) -> bool, G: Fn(&T, u8) -> U>(
     made
 }
 
-/// Returns what the closure `rule` returns for a reference to each cell of a table that a slice stores in an order, and
-/// the number of the cells round it, at a side or all eight, for which the closure `test` returns `true`.
+/// Returns what the closure `rule` returns for a reference to each cell of a board, and the number of the cells round it,
+/// at a side or all eight, that the board marks with `true`.
 ///
-/// Requires: the slice has as many cells, there are rows exactly if there are columns, and the closures can be called
-/// with these arguments.
+/// Requires: the closures can be called with these arguments.
 /// Fails: if allocation fails; neither closure was called.
-/// Cost: one call of each for each cell, and, where the edges are joined, one more of `test` for each cell of the first line
+/// Cost: one call of each for each cell, and, where the edges are joined, one more of `mark` for each cell of the first line
 /// and of the last; one allocation, and three of a line of `bool`s.
 pub fn map_counts<T, U, A: Allocator, F: Fn(&T) -> bool, G: Fn(&T, u8) -> U>(
     alloc: A,
-    cells: &[T],
-    order: Order,
-    size: (usize, usize),
-    edges: Edges,
-    kind: Steps,
-    test: F,
+    board: &Board<'_, T, F>,
     rule: G,
 ) -> Result<Vec<U, A>, AllocError>
 where
     A: Clone,
-    requires size { HoldsSize size.0 size.1 (length cells.now) }
-    requires tests { CallableAtRefs F.pre test cells.now }
+    requires tests { CallableAtRefs F.pre board.now.mark.now board.now.cells.now }
     requires calls { CallableAtCells
-        (TakesCounted (round_of kind edges) F.post test (table_of order size.0 size.1 cells.now) G.pre) rule
-        (zip (positions order size.0 size.1) cells.now) }
-    ensures len { IfOk result (λ made. length made.items ≡ length cells.now) }
+        (TakesCounted (near board.now) F.post board.now.mark.now (table board.now) G.pre) rule
+        (placed_cells board.now) }
+    ensures len { IfOk result (λ made. length made.items ≡ length board.now.cells.now) }
     ensures cells { IfOk result (λ made. PairsUp (ReturnsAtCell
-        (AnswersCounted (round_of kind edges) F.post test (table_of order size.0 size.1 cells.now) G.post) rule)
-        (zip (positions order size.0 size.1) cells.now) made.items) }
+        (AnswersCounted (near board.now) F.post board.now.mark.now (table board.now) G.post) rule)
+        (placed_cells board.now) made.items) }
 {
-    let (lines, width) = by_line(order, size);
+    let (lines, width) = board.layout.lines();
     if lines == 0 {
         return Ok(Vec::new(alloc));
     }
@@ -293,15 +232,13 @@ where
     let mut up = Vec::from_elem(alloc.clone()?, false, wide)?;
     let mut mid = Vec::from_elem(alloc.clone()?, false, wide)?;
     let mut down = Vec::from_elem(alloc.clone()?, false, wide)?;
-    let mut made = Vec::with_capacity(alloc, cells.len())?;
-    up = marked(up, false, cells, order, size, edges, (0, 0), &test);
-    mid = marked(mid, false, cells, order, size, edges, (0, 1), &test);
+    let mut made = Vec::with_capacity(alloc, board.cells.len())?;
+    up = marked(up, false, board, (0, 0));
+    mid = marked(mid, false, board, (0, 1));
     for line in 0..lines {
-        down = marked(down, false, cells, order, size, edges, (line, 2), &test);
+        down = marked(down, false, board, (line, 2));
         let marks = (up.as_slice(), mid.as_slice(), down.as_slice());
-        made = push_line(
-            made, marks, cells, order, size, edges, kind, line, &test, &rule,
-        );
+        made = push_line(made, marks, board, line, &rule);
         let spare = up;
         up = mid;
         mid = down;
@@ -336,46 +273,35 @@ fn sum_round(kind: Steps, up: &[u8], mid: &[u8], down: &[u8], k: usize) -> u16
 fn push_sums<T, U, A: Allocator, F: Fn(&T) -> u8, G: Fn(&T, u16) -> U>(
     mut made: Vec<U, A>,
     marks: (&[u8], &[u8], &[u8]),
-    cells: &[T],
-    order: Order,
-    size: (usize, usize),
-    edges: Edges,
-    kind: Steps,
+    board: &Board<'_, T, F>,
     line: usize,
-    weight: &F,
     rule: &G,
 ) -> Vec<U, A>
-    requires size { HoldsSize size.0 size.1 (length cells.now) }
-    requires line { line < (along order size.0 size.1).0 }
-    requires up { MarksLine 0 F.post weight.now (strided_cell cells.now size (strides_of order size))
-        order edges (along order size.0 size.1).1
-        (side edges (along order size.0 size.1).0 line 0) marks.0.now }
-    requires mid { MarksLine 0 F.post weight.now (strided_cell cells.now size (strides_of order size))
-        order edges (along order size.0 size.1).1
-        (side edges (along order size.0 size.1).0 line 1) marks.1.now }
-    requires down { MarksLine 0 F.post weight.now (strided_cell cells.now size (strides_of order size))
-        order edges (along order size.0 size.1).1
-        (side edges (along order size.0 size.1).0 line 2) marks.2.now }
-    requires up_len { length marks.0.now ≡ (along order size.0 size.1).1 + 2 }
-    requires mid_len { length marks.1.now ≡ (along order size.0 size.1).1 + 2 }
-    requires down_len { length marks.2.now ≡ (along order size.0 size.1).1 + 2 }
+    requires line { line < (lines_of board.now.layout).0 }
+    requires up { MarksBeside 0 F.post board.now line 0 marks.0.now }
+    requires mid { MarksBeside 0 F.post board.now line 1 marks.1.now }
+    requires down { MarksBeside 0 F.post board.now line 2 marks.2.now }
+    requires up_len { length marks.0.now ≡ (lines_of board.now.layout).1 + 2 }
+    requires mid_len { length marks.1.now ≡ (lines_of board.now.layout).1 + 2 }
+    requires down_len { length marks.2.now ≡ (lines_of board.now.layout).1 + 2 }
     requires calls { CallableAtCells
-        (TakesSummed (round_of kind edges) F.post weight.now (table_of order size.0 size.1 cells.now) G.pre)
-        rule.now (zip (positions order size.0 size.1) cells.now) }
-    requires room { length cells.now ≤ vec_capacity made }
-    requires passed { vec_len made ≡ line * (along order size.0 size.1).1 }
+        (TakesSummed (near board.now) F.post board.now.mark.now (table board.now) G.pre)
+        rule.now (placed_cells board.now) }
+    requires room { length board.now.cells.now ≤ vec_capacity made }
+    requires passed { vec_len made ≡ line * (lines_of board.now.layout).1 }
     requires answers { PairsUp (ReturnsAtCell
-        (AnswersSummed (round_of kind edges) F.post weight.now (table_of order size.0 size.1 cells.now) G.post)
-        rule.now) (take (vec_len made) (zip (positions order size.0 size.1) cells.now)) made.items }
+        (AnswersSummed (near board.now) F.post board.now.mark.now (table board.now) G.post)
+        rule.now) (take (vec_len made) (placed_cells board.now)) made.items }
     ensures room { vec_capacity result ≡ vec_capacity made }
-    ensures passed { vec_len result ≡ vec_len made + (along order size.0 size.1).1 }
+    ensures passed { vec_len result ≡ vec_len made + (lines_of board.now.layout).1 }
     ensures answers { PairsUp (ReturnsAtCell
-        (AnswersSummed (round_of kind edges) F.post weight.now (table_of order size.0 size.1 cells.now) G.post)
-        rule.now) (take (vec_len result) (zip (positions order size.0 size.1) cells.now))
-        result.items }
+        (AnswersSummed (near board.now) F.post board.now.mark.now (table board.now) G.post)
+        rule.now) (take (vec_len result) (placed_cells board.now)) result.items }
 {
     let (up, mid, down) = marks;
-    let (_, width) = by_line(order, size);
+    let (_, width) = board.layout.lines();
+    let cells = board.cells;
+    let kind = board.kind;
     let start = line * width;
     for k in 0..width {
         let sum = sum_round(kind, up, mid, down, k);
@@ -384,35 +310,29 @@ fn push_sums<T, U, A: Allocator, F: Fn(&T) -> u8, G: Fn(&T, u16) -> U>(
     made
 }
 
-/// Same as [`map_counts`], with the sum of what the closure `weight` returns at the cells round a cell in place of the
-/// number of those that pass.
+/// Same as [`map_counts`], with the sum of the marks of the cells round a cell in place of the number of those that are
+/// `true`.
 ///
 /// Requires: as `map_counts`.
 /// Fails: as `map_counts`.
 /// Cost: as `map_counts`, with lines of `u8`s.
 pub fn map_sums<T, U, A: Allocator, F: Fn(&T) -> u8, G: Fn(&T, u16) -> U>(
     alloc: A,
-    cells: &[T],
-    order: Order,
-    size: (usize, usize),
-    edges: Edges,
-    kind: Steps,
-    weight: F,
+    board: &Board<'_, T, F>,
     rule: G,
 ) -> Result<Vec<U, A>, AllocError>
 where
     A: Clone,
-    requires size { HoldsSize size.0 size.1 (length cells.now) }
-    requires weights { CallableAtRefs F.pre weight cells.now }
+    requires weights { CallableAtRefs F.pre board.now.mark.now board.now.cells.now }
     requires calls { CallableAtCells
-        (TakesSummed (round_of kind edges) F.post weight (table_of order size.0 size.1 cells.now) G.pre) rule
-        (zip (positions order size.0 size.1) cells.now) }
-    ensures len { IfOk result (λ made. length made.items ≡ length cells.now) }
+        (TakesSummed (near board.now) F.post board.now.mark.now (table board.now) G.pre) rule
+        (placed_cells board.now) }
+    ensures len { IfOk result (λ made. length made.items ≡ length board.now.cells.now) }
     ensures cells { IfOk result (λ made. PairsUp (ReturnsAtCell
-        (AnswersSummed (round_of kind edges) F.post weight (table_of order size.0 size.1 cells.now) G.post) rule)
-        (zip (positions order size.0 size.1) cells.now) made.items) }
+        (AnswersSummed (near board.now) F.post board.now.mark.now (table board.now) G.post) rule)
+        (placed_cells board.now) made.items) }
 {
-    let (lines, width) = by_line(order, size);
+    let (lines, width) = board.layout.lines();
     if lines == 0 {
         return Ok(Vec::new(alloc));
     }
@@ -422,15 +342,13 @@ where
     let mut up = Vec::from_elem(alloc.clone()?, 0u8, wide)?;
     let mut mid = Vec::from_elem(alloc.clone()?, 0u8, wide)?;
     let mut down = Vec::from_elem(alloc.clone()?, 0u8, wide)?;
-    let mut made = Vec::with_capacity(alloc, cells.len())?;
-    up = marked(up, 0, cells, order, size, edges, (0, 0), &weight);
-    mid = marked(mid, 0, cells, order, size, edges, (0, 1), &weight);
+    let mut made = Vec::with_capacity(alloc, board.cells.len())?;
+    up = marked(up, 0, board, (0, 0));
+    mid = marked(mid, 0, board, (0, 1));
     for line in 0..lines {
-        down = marked(down, 0, cells, order, size, edges, (line, 2), &weight);
+        down = marked(down, 0, board, (line, 2));
         let marks = (up.as_slice(), mid.as_slice(), down.as_slice());
-        made = push_sums(
-            made, marks, cells, order, size, edges, kind, line, &weight, &rule,
-        );
+        made = push_sums(made, marks, board, line, &rule);
         let spare = up;
         up = mid;
         mid = down;

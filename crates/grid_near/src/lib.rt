@@ -2,13 +2,16 @@
 //! Users call them as methods of a grid.
 #![tactic(auto)]
 
+mod board;
 mod counts;
 mod direction;
 mod neighbors;
 mod steps;
+mod strided;
 mod wrapped;
 
-pub use counts::{Edges, map_counts, map_sums};
+pub use board::{Board, Edges};
+pub use counts::{map_counts, map_sums};
 pub use direction::Direction;
 pub use neighbors::{Neighbors, neighbors_of};
 pub use steps::Steps;

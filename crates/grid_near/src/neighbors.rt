@@ -8,6 +8,7 @@ ghost use Rattle.grid_near.specs.Neighbors.{step_count, placed, neighbors_of, Gi
 ghost use Rattle.grid_near.specs.Around.{HoldsCells, FindsFirst, strided_cell};
 
 use crate::steps::{Steps, count_from, first_from, is_inner, offset, step_count, strides_of};
+use crate::strided::Strided;
 use grid_base::Order;
 use std::alloc::AllocError;
 use std::iter::FusedIterator;
@@ -19,10 +20,7 @@ use std::marker::Model;
 /// in the table. A loop over it ends at a fixed number of steps, so that a short one is unrolled.
 #[derive(Drop)]
 pub struct Neighbors<'a, T> {
-    cells: &'a [T],
-    // The numbers of rows and columns, and how far apart the cells of a column and of a row are.
-    size: (usize, usize),
-    strides: (usize, usize),
+    table: Strided<'a, T>,
     at: (usize, usize),
     kind: Steps,
     // All cells round this one are there, and the place of the first of its box of nine.
@@ -39,11 +37,11 @@ impl<'a, T> Model for Neighbors<'a, T> {
 
     ghost Value = { List ((ℕ × ℕ) × T) };
 
-    ghost view = { λ a. cells_from (strided_cell a.cells.now a.size a.strides) a.kind a.at
-        (cond a.inner a.passed a.tried) };
+    ghost view = { λ a. cells_from (strided_cell a.table.cells.now a.table.size a.table.strides)
+        a.kind a.at (cond a.inner a.passed a.tried) };
 
-    ghost invariant = { λ a. IsRound a.cells.now a.size a.strides a.at a.first a.inner
-        a.passed a.tried };
+    ghost invariant = { λ a. IsRound a.table.cells.now a.table.size a.table.strides
+        a.at a.first a.inner a.passed a.tried };
 }
 
 /// Returns an iterator over the cells round cell `at` of the table of `size.0` rows and `size.1` columns that a slice
@@ -76,9 +74,11 @@ pub fn neighbors_of<T>(
         0
     };
     Neighbors {
-        cells,
-        size,
-        strides,
+        table: Strided {
+            cells,
+            size,
+            strides,
+        },
         at,
         kind,
         inner,
@@ -104,17 +104,10 @@ impl<'a, T> Iterator for Neighbors<'a, T> {
         if self.inner {
             let (i, j) = offset(self.kind, k);
             let at = (self.at.0 + i - 1, self.at.1 + j - 1);
-            let place = self.first + i * self.strides.0 + j * self.strides.1;
-            Some((at, &self.cells[place]))
+            let place = self.first + i * self.table.strides.0 + j * self.table.strides.1;
+            Some((at, &self.table.cells[place]))
         } else {
-            let (tried, found) = find_from(
-                self.cells,
-                self.size,
-                self.strides,
-                self.at,
-                self.kind,
-                self.tried,
-            );
+            let (tried, found) = find_from(self.table, self.at, self.kind, self.tried);
             self.tried = tried;
             found
         }
@@ -136,7 +129,7 @@ impl<'a, T> ExactSizeIterator for Neighbors<'a, T> {
         ensures exact { result ≡ length self.now }
     {
         let from = if self.inner { self.passed } else { self.tried };
-        count_from(self.size, self.at, self.kind, from)
+        count_from(self.table.size, self.at, self.kind, from)
     }
 }
 
@@ -158,18 +151,22 @@ impl<'a, T> Clone for Neighbors<'a, T> {
 // Finds the first cell that is in the table at step `from` or later, and the number of the step after it.
 #[inline(always)]
 fn find_from<T>(
-    cells: &[T],
-    size: (usize, usize),
-    strides: (usize, usize),
+    table: Strided<'_, T>,
     at: (usize, usize),
     kind: Steps,
     from: usize,
 ) -> (usize, Option<((usize, usize), &T)>)
-    requires holds { HoldsCells cells.now size strides }
-    ensures found { FindsFirst (strided_cell cells.now size strides) kind at from result }
+    requires holds { HoldsCells table.cells.now table.size table.strides }
+    ensures found { FindsFirst
+        (strided_cell table.entry.cells.now table.entry.size table.entry.strides) kind at from result }
     ensures keeps { from ≤ result.0 }
     ensures on { from < step_count kind → from < result.0 }
 {
+    let Strided {
+        cells,
+        size,
+        strides,
+    } = table;
     let k = first_from(size, at, kind, from);
     if k >= step_count(kind) {
         return (k, None);

@@ -8,6 +8,7 @@ ghost use Rattle.grid_near.specs.Neighbors.{step_count, placed, wrapped_neighbor
 ghost use Rattle.grid_near.specs.Wrapped.{around};
 
 use crate::steps::{Steps, is_inner, offset, step_count, strides_of};
+use crate::strided::Strided;
 use grid_base::Order;
 use std::alloc::AllocError;
 use std::iter::FusedIterator;
@@ -17,10 +18,7 @@ use std::marker::Model;
 /// list of those that remain.
 #[derive(Drop)]
 pub struct WrappedNeighbors<'a, T> {
-    cells: &'a [T],
-    // The numbers of rows and columns, and how far apart the cells of a column and of a row are.
-    size: (usize, usize),
-    strides: (usize, usize),
+    table: Strided<'a, T>,
     at: (usize, usize),
     kind: Steps,
     // None of them is past an edge, and the place of the first of its box of nine.
@@ -37,11 +35,11 @@ impl<'a, T> Model for WrappedNeighbors<'a, T> {
 
     ghost Value = { List ((ℕ × ℕ) × T) };
 
-    ghost view = { λ a. wrapped_from (strided_cell a.cells.now a.size a.strides) a.size a.kind a.at
-        a.passed };
+    ghost view = { λ a. wrapped_from (strided_cell a.table.cells.now a.table.size a.table.strides)
+        a.table.size a.kind a.at a.passed };
 
-    ghost invariant = { λ a. IsWrapped a.cells.now a.size a.strides a.at a.kind a.first a.inner
-        a.passed };
+    ghost invariant = { λ a. IsWrapped a.table.cells.now a.table.size a.table.strides
+        a.at a.kind a.first a.inner a.passed };
 }
 
 /// Returns an iterator over the cells round cell `at`, as [`neighbors_of`](super::neighbors_of) does, where the edges of the
@@ -76,9 +74,11 @@ pub fn wrapped_neighbors_of<T>(
     };
     let passed = done_at_start(size, at, kind);
     WrappedNeighbors {
-        cells,
-        size,
-        strides,
+        table: Strided {
+            cells,
+            size,
+            strides,
+        },
         at,
         kind,
         inner,
@@ -103,12 +103,12 @@ impl<'a, T> Iterator for WrappedNeighbors<'a, T> {
         let (i, j) = offset(self.kind, k);
         if self.inner {
             let at = (self.at.0 + i - 1, self.at.1 + j - 1);
-            let place = self.first + i * self.strides.0 + j * self.strides.1;
-            return Some((at, &self.cells[place]));
+            let place = self.first + i * self.table.strides.0 + j * self.table.strides.1;
+            return Some((at, &self.table.cells[place]));
         }
-        let row = around(self.size.0, self.at.0, i);
-        let col = around(self.size.1, self.at.1, j);
-        let cell = &self.cells[row * self.strides.0 + col * self.strides.1];
+        let row = around(self.table.size.0, self.at.0, i);
+        let col = around(self.table.size.1, self.at.1, j);
+        let cell = &self.table.cells[row * self.table.strides.0 + col * self.table.strides.1];
         Some(((row, col), cell))
     }
 

@@ -8,16 +8,16 @@ use Rattle.grid_near.proofs.neighbors.find_from.Goals as goal
 pub returns-then-k-step_count-clause-found : goal.returns-then-k-step_count-clause-found
 returns-then-k-step_count-clause-found g c =
     let a = c.args in
-    let f = strided_cell a.cells.now a.size a.strides in
+    let f = strided_cell a.table.cells.now a.table.size a.table.strides in
     let past = no_cells f a.kind a.at c.first_from-k.result (omega arith) in
-    (cells_skipped a.cells.now a.size a.strides a.kind a.at a.from c.first_from-k.result c.first_from-k.ensures.skips ∙ past, past)
+    (cells_skipped a.table.cells.now a.table.size a.table.strides a.kind a.at a.from c.first_from-k.result c.first_from-k.ensures.skips ∙ past, past)
 
 pub overflow_mul-cell : goal.overflow_mul-cell
 overflow_mul-cell g c =
     let a = c.args in
     let k = c.first_from-k.result in
     let lt : k < step_count a.kind = omega arith in
-    let h = position_within a.cells.now a.size a.strides a.at a.kind k c.offset-i.result.0 c.offset-i.result.1 lt c.requires.holds (c.first_from-k.ensures.there lt) c.offset-i.ensures.row c.offset-i.ensures.col in
+    let h = position_within a.table.cells.now a.table.size a.table.strides a.at a.kind k c.offset-i.result.0 c.offset-i.result.1 lt c.requires.holds (c.first_from-k.ensures.there lt) c.offset-i.ensures.row c.offset-i.ensures.col in
     omega arith
 
 pub overflow_mul-cell-2 : goal.overflow_mul-cell-2
@@ -25,7 +25,7 @@ overflow_mul-cell-2 g c =
     let a = c.args in
     let k = c.first_from-k.result in
     let lt : k < step_count a.kind = omega arith in
-    let h = position_within a.cells.now a.size a.strides a.at a.kind k c.offset-i.result.0 c.offset-i.result.1 lt c.requires.holds (c.first_from-k.ensures.there lt) c.offset-i.ensures.row c.offset-i.ensures.col in
+    let h = position_within a.table.cells.now a.table.size a.table.strides a.at a.kind k c.offset-i.result.0 c.offset-i.result.1 lt c.requires.holds (c.first_from-k.ensures.there lt) c.offset-i.ensures.row c.offset-i.ensures.col in
     omega arith
 
 pub returns-clause-found : goal.returns-clause-found
@@ -34,7 +34,7 @@ returns-clause-found g c =
     let k = c.first_from-k.result in
     let lt : k < step_count a.kind = omega arith in
     let there = c.first_from-k.ensures.there lt in
-    let h = position_within a.cells.now a.size a.strides a.at a.kind k c.offset-i.result.0 c.offset-i.result.1 lt c.requires.holds there c.offset-i.ensures.row c.offset-i.ensures.col in
-    let same = position_in_size a.cells.now a.size a.strides a.at a.kind k c.offset-i.result.0 c.offset-i.result.1 lt c.requires.holds there c.offset-i.ensures.row c.offset-i.ensures.col in
-    cells_skipped a.cells.now a.size a.strides a.kind a.at a.from k c.first_from-k.ensures.skips
-    ∙ first_cell (strided_cell a.cells.now a.size a.strides) a.kind a.at k _ lt (cell_some a.cells.now a.size a.strides (position_of a.kind a.at k) _ c.index-cells-row.result same (slice_get_read a.cells.now _ _ _ refl h c.index-cells-row.is))
+    let h = position_within a.table.cells.now a.table.size a.table.strides a.at a.kind k c.offset-i.result.0 c.offset-i.result.1 lt c.requires.holds there c.offset-i.ensures.row c.offset-i.ensures.col in
+    let same = position_in_size a.table.cells.now a.table.size a.table.strides a.at a.kind k c.offset-i.result.0 c.offset-i.result.1 lt c.requires.holds there c.offset-i.ensures.row c.offset-i.ensures.col in
+    cells_skipped a.table.cells.now a.table.size a.table.strides a.kind a.at a.from k c.first_from-k.ensures.skips
+    ∙ first_cell (strided_cell a.table.cells.now a.table.size a.table.strides) a.kind a.at k _ lt (cell_some a.table.cells.now a.table.size a.table.strides (position_of a.kind a.at k) _ c.index-cells-row.result same (slice_get_read a.table.cells.now _ _ _ refl h c.index-cells-row.is))

@@ -14,12 +14,12 @@ returns-clause-exact g c =
       | else-self w ↦ w.from-is ∙ ap (λ b. cond b s.passed s.tried) (sym w.if-self.false)
     ] in
     c.count_from.ensures
-    ∙ (ap (λ k. length (positions_from s.size s.kind s.at k)) from
-    ∙ (sym (length-cells_from s.cells.now s.size s.strides c.self.invariant.holds s.kind s.at (cond s.inner s.passed s.tried))
+    ∙ (ap (λ k. length (positions_from s.table.size s.kind s.at k)) from
+    ∙ (sym (length-cells_from s.table.cells.now s.table.size s.table.strides c.self.invariant.holds s.kind s.at (cond s.inner s.passed s.tried))
     ∙ ap length c.self.view_is))
 
 pub returns-clause-value : goal.returns-clause-value
 returns-clause-value g c =
     let s = c.self.inside in
-    let few : length c.args.self.now ≤ 8 = omega (arith, few_left (strided_cell s.cells.now s.size s.strides) s.kind s.at (cond s.inner s.passed s.tried), ap length c.self.view_is) in
+    let few : length c.args.self.now ≤ 8 = omega (arith, few_left (strided_cell s.table.cells.now s.table.size s.table.strides) s.kind s.at (cond s.inner s.passed s.tried), ap length c.self.view_is) in
     returns-clause-exact g c ∙ sym (min-eq_left {n = length c.args.self.now} few)

@@ -10,11 +10,11 @@ pub returns-clause-exact : goal.returns-clause-exact
 returns-clause-exact g c =
     let s = c.self.inside in
     let i = c.self.invariant in
-    let left = length-wrapped_from (strided_cell s.cells.now s.size s.strides) s.size s.at (strided_there s.cells.now s.size s.strides i.round.holds) s.kind s.passed i.row_in i.col_in in
+    let left = length-wrapped_from (strided_cell s.table.cells.now s.table.size s.table.strides) s.table.size s.at (strided_there s.table.cells.now s.table.size s.table.strides i.round.holds) s.kind s.passed i.row_in i.col_in in
     omega (arith, left, ap length c.self.view_is)
 
 pub returns-clause-value : goal.returns-clause-value
 returns-clause-value g c =
     let s = c.self.inside in
-    let few : length c.args.self.now ≤ 8 = omega (arith, wrapped_few_left (strided_cell s.cells.now s.size s.strides) s.size s.kind s.at s.passed, ap length c.self.view_is) in
+    let few : length c.args.self.now ≤ 8 = omega (arith, wrapped_few_left (strided_cell s.table.cells.now s.table.size s.table.strides) s.table.size s.kind s.at s.passed, ap length c.self.view_is) in
     returns-clause-exact g c ∙ sym (min-eq_left {n = length c.args.self.now} few)
