@@ -12,8 +12,8 @@ ghost use Rattle.grid_near.specs.NearCounts.{CallableNear, CountsNear};
 ghost use Rattle.grid_near.specs.Neighbors.{neighbors4, neighbors8, wrapped_neighbors4, wrapped_neighbors8, GivesNear};
 
 use crate::Grid;
-use grid_base::Flat;
-use grid_near::{Edges, Neighbors, Steps, WrappedNeighbors};
+use grid_base::{Flat, Layout};
+use grid_near::{Board, Edges, Neighbors, Steps, WrappedNeighbors};
 use std::alloc::{AllocError, Allocator};
 
 impl<T, A: Allocator> Grid<T, A> {
@@ -424,15 +424,21 @@ impl<T, A: Allocator> Grid<T, A> {
         ensures cells { IfOk result (λ g. MappedBy
             (AnswersCounted (round_of kind edges) F.post test self.now.rows G.post) rule self.now.rows g.rows) }
     {
-        let size = (self.row_count, self.col_count);
-        let order = self.order;
+        let (order, rows, cols) = (self.order, self.row_count, self.col_count);
         let alloc = self.allocator().clone()?;
         let cells = self.flat.as_slice();
-        let made = grid_near::map_counts(alloc, cells, order, size, edges, kind, test, rule)?;
+        let board = Board {
+            cells,
+            layout: Layout { order, rows, cols },
+            edges,
+            kind,
+            mark: &test,
+        };
+        let made = grid_near::map_counts(alloc, &board, rule)?;
         Ok(Grid {
             flat: Flat::from_vec(made),
-            row_count: self.row_count,
-            col_count: self.col_count,
+            row_count: rows,
+            col_count: cols,
             order,
         })
     }
@@ -454,15 +460,21 @@ impl<T, A: Allocator> Grid<T, A> {
         ensures cells { IfOk result (λ g. MappedBy
             (AnswersSummed (round_of kind edges) F.post weight self.now.rows G.post) rule self.now.rows g.rows) }
     {
-        let size = (self.row_count, self.col_count);
-        let order = self.order;
+        let (order, rows, cols) = (self.order, self.row_count, self.col_count);
         let alloc = self.allocator().clone()?;
         let cells = self.flat.as_slice();
-        let made = grid_near::map_sums(alloc, cells, order, size, edges, kind, weight, rule)?;
+        let board = Board {
+            cells,
+            layout: Layout { order, rows, cols },
+            edges,
+            kind,
+            mark: &weight,
+        };
+        let made = grid_near::map_sums(alloc, &board, rule)?;
         Ok(Grid {
             flat: Flat::from_vec(made),
-            row_count: self.row_count,
-            col_count: self.col_count,
+            row_count: rows,
+            col_count: cols,
             order,
         })
     }

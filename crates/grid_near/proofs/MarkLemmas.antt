@@ -324,9 +324,6 @@ module _ {T F : Type 0} (b : Board T F) where
   abbrev o : Order
   o = b.layout.order
 
-  abbrev board_size : ℕ × ℕ
-  board_size = (b.layout.rows, b.layout.cols)
-
   abbrev board_lines : ℕ
   board_lines = (lines_of b.layout).0
 

@@ -16,6 +16,7 @@ pub enum Edges {
 /// A table that a slice stores, which cells are round a cell of it, and a closure that marks each cell.
 ///
 /// The slice has as many cells as the layout.
+#[derive(Drop)]
 pub struct Board<'a, T, F> {
     pub cells: &'a [T],
     pub layout: Layout,
