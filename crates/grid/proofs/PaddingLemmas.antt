@@ -5,13 +5,25 @@ use Rattle.std.proofs.lemmas.List.{length-take-le}
 use Rattle.std.proofs.lemmas.List.Elements.{All-nil, All-cons, All-head, All-tail, All-get_or, All-from_get_or}
 use Rattle.std.proofs.lemmas.Option.{get_or_from_slice_get}
 use Rattle.grid_base.specs.declared.order.Order.{Order}
-use Rattle.grid_base.specs.Table.{row, row_count, tabulate}
+use Rattle.grid_base.specs.Table.{row, row_count, cell, tabulate}
 use Rattle.grid_base.specs.Order.{place, table_of}
 use Rattle.grid_base.specs.Groups.{Opened}
 use Rattle.grid_base.proofs.TableLemmas.{rows-tabulate, cell-tabulate, width-tabulate, IsFull, IsSome_within}
 use Rattle.grid_base.proofs.StorageLemmas.{place_within, get-take, get-drop, width-table_of, cell-table_of}
-use Rattle.grid.specs.RowGroups.{RowGroups, RowsOpened}
+use Rattle.grid.specs.Edits.{insert_rows}
+use Rattle.grid.specs.RowGroups.{RowGroups}
 use Rattle.grid.proofs.RowEditLemmas.{rows_widened, rows_opened, table-put}
+
+module _ {T : Type 0} (o : Order) (m n i k : ℕ) (old new : List T) where
+  -- k rows of cells that were behind a table of m rows and n columns are put before its row i
+  pub record RowsOpened : Type 0 where
+    pub lengths : length new ≡ length old
+    pub fresh : List (List T)
+    pub rows : row_count fresh ≡ k
+    pub widths : (j : ℕ) → j < row_count fresh → length (row fresh j) ≡ n
+    pub from : (j c : ℕ) → j < k → c < n → (x : ℕ) × (m * n ≤ x) × (x < length old)
+        × (cell fresh j c ≡ slice_get old x)
+    pub put : table_of o (m + k) n new ≡ insert_rows i fresh (table_of o m n (take (m * n) old))
 
 module _ {T : Type 0} where
   pub holds_at : (P : T → Type 0) (ys : List T) (y : ℕ) (x : T) → All P ys → y < length ys → slice_get ys y ≡ Some x → P x

@@ -1,32 +1,53 @@
 -- What a line edit starts from and leaves, by a grid's fields.
-use Rattle.std.proofs.Common.{◌≡◌, ◌<◌, ◌≤◌, ◌+◌, ◌-◌, ◌*◌, ◌^◌, ◌++◌, ◌∷◌, [], ℕ, zero, suc, List, take, drop, length, length-append, refl, sym, ◌∙◌, ap, arith, ⊎_elim, subst, Bool, true, false, IsTrue, ◌↔◌}
+use Rattle.std.proofs.Common.{◌≡◌, ◌<◌, ◌≤◌, ◌+◌, ◌-◌, ◌*◌, ◌^◌, ◌++◌, [], ℕ, zero, suc, List, Vec, take, drop, length, length-append, refl, sym, ◌∙◌, ap, arith, ⊎_elim, subst, Bool, true, false, IsTrue, ◌↔◌}
 use Rattle.std.proofs.lemmas.Bool.{cases_lt, cases_eq}
-use Rattle.std.specs.List.{insert}
 use Rattle.std.proofs.lemmas.List.{nil_from_length}
 use Rattle.std.proofs.Math.Seq.{take-append_seam, drop-append_seam}
 use Rattle.std.proofs.Math.Dec.{eqb-suc-zero}
 use Rattle.grid_base.specs.declared.order.Order.{Order}
 use Rattle.grid_base.specs.Table.{row_count, col_count, IsTable}
 use Rattle.grid_base.specs.Order.{storage, table_of}
+use Rattle.grid_base.specs.Gather.{items_of_each}
+use Rattle.grid_base.proofs.GatherLemmas.{rows-vecs}
 use Rattle.grid_base.specs.GridValue.{GridValue, HoldsSize}
 use Rattle.grid_base.proofs.StorageLemmas.{length-storage}
 use Rattle.grid_base.specs.Groups.{Woven, Closed, TakenOut}
 use Rattle.grid.specs.Edits.{FitsRow, insert_rows, without_rows}
-use Rattle.grid.specs.RowGroups.{RowGroups, RowsInserted, RowsTaken, RowsTakenOut, cols_if_rows}
+use Rattle.grid.specs.RowGroups.{RowGroups, cols_if_rows}
 use Rattle.grid.proofs.SeenLemmas.{seen_rows, seen_cols}
-use Rattle.grid_base.proofs.ViewLemmas.{HoldsSize-none, view-rows, view-cols}
+use Rattle.grid_base.proofs.ViewLemmas.{HoldsSize-none, view-rows, view-cols, view-table, view-storage}
 use Rattle.grid.specs.View.{grid_value}
-use Rattle.grid.specs.Shift.{rows_taken_shift}
-use Rattle.grid.proofs.RowEditLemmas.{cells-groups}
-use Rattle.grid.proofs.EditViewLemmas.{view-without_rows, view-taken_rows, view-close_rows, cells-closed, view-insert_rows, table_of-no_rows, storage-line, IsTable-line, put_line}
-use Rattle.grid.proofs.EditSizeLemmas.{HoldsSize-fewer}
+use Rattle.grid.specs.Shift.{rows_added_shift, rows_taken_shift}
+use Rattle.grid.proofs.RowEditLemmas.{cells-groups, shift-taken}
+use Rattle.grid.proofs.EditViewLemmas.{view-without_rows, view-taken_rows, view-close_rows, cells-closed, view-insert_rows, table_of-no_rows}
+use Rattle.grid.proofs.EditSizeLemmas.{HoldsSize-fewer, HoldsSize-filled}
 
--- groups woven into the lines are rows put
-pub rows_put : {T : Type 0} (o : Order) (m n i k p q a g : ℕ) (old new : List T) → RowGroups o m n i k p q a g → i ≤ m → Woven p q a g old new → RowsInserted o m n i k old new
-rows_put {T} o m n i k p q a g old new groups le w =
+-- the cells of k lines of w cells are behind others
+pub record RowsBehind {T : Type 0} (o : Order) (w k : ℕ) (cells : List T) (lines : List (List T)) (grown : List T) : Type 0 where
+  pub table : IsTable lines
+  pub count : row_count lines ≡ k
+  pub wide : col_count lines ≡ w
+  pub behind : grown ≡ cells ++ storage o lines
+
+-- lines that were moved there
+pub RowsBehind-lines : {T A : Type 0} (o : Order) (w k : ℕ) (cells grown : List T) {old now : List (Vec T A)} → IsTable (items_of_each old) → w ≡ col_count (items_of_each old) → k ≡ length old → now ≡ old → grown ≡ cells ++ storage o (items_of_each now) → RowsBehind o w k cells (items_of_each old) grown
+RowsBehind-lines o w k cells grown {old} table wide count same e =
     record {
-      lengths = w.lengths;
-      table = λ cells lines e len h em en. view-insert_rows o m n cells len i k p q a g lines new groups h em en le (subst (λ x. Woven p q a g x new) e w);
+      table = table;
+      count = rows-vecs old ∙ sym count;
+      wide = sym wide;
+      behind = e ∙ ap (λ xs. cells ++ storage o (items_of_each xs)) same;
+    }
+
+-- lines that are cut from cells there
+pub RowsBehind-put : {T : Type 0} (o : Order) (w k m : ℕ) (cells news grown : List T) → 0 < k → 0 < w → length news ≡ k * w → (m + k) * w < 2 ^ 64 → grown ≡ cells ++ news → RowsBehind o w k cells (table_of o k w news) grown
+RowsBehind-put o w k m cells news grown some wide len small e =
+    let h = HoldsSize-filled k w (length news) some wide len (omega (arith, len, small)) in
+    record {
+      table = view-table o k w news h;
+      count = view-rows o k w news h;
+      wide = view-cols o k w news h;
+      behind = e ∙ ap (λ x. cells ++ x) (sym (view-storage o k w news h));
     }
 
 module _ {T : Type 0} (o : Order) (m n : ℕ) (cells : List T) (s : GridValue T) (h : HoldsSize m n (length cells)) (e : grid_value o m n cells h ≡ s) (w : ℕ) (f : FitsRow s.rows w) where
@@ -46,24 +67,25 @@ module _ {T : Type 0} (o : Order) (m n : ℕ) (cells : List T) (s : GridValue T)
       ⊎_elim {C = table_of o m w cells ≡ s.rows} (λ none. ap (λ x. table_of o x w cells) (no_rows none) ∙ (table_of-no_rows o w cells ∙ sym none))
       (λ wide. ap (λ x. table_of o m x cells) (wide ∙ seen_cols o m n cells s h e) ∙ ap (λ x. x.rows) e) f
 
-  -- more rows of w cells
-  pub range_cells : (k : ℕ) (lines : List (List T)) (grown : List T) → IsTable lines → row_count lines ≡ k → col_count lines ≡ w → grown ≡ cells ++ storage o lines → length grown ≡ m * w + k * w
-  range_cells k lines grown table count wide g =
-      let behind : row_count lines * col_count lines ≡ k * w = ap (λ x. x * col_count lines) count ∙ ap (λ x. k * x) wide in
-      ap length g ∙ omega (arith, length-append cells (storage o lines), length-storage o lines table, behind, cells_fit)
+  -- k lines of w cells are put before row i
+  module _ (k : ℕ) (lines : List (List T)) (grown : List T) (b : RowsBehind o w k cells lines grown) where
+    pub put_cells : length grown ≡ (m + k) * w
+    put_cells =
+        let behind : row_count lines * col_count lines ≡ k * w = ap (λ x. x * col_count lines) b.count ∙ ap (λ x. k * x) b.wide in
+        ap length b.behind ∙ omega (arith, length-append cells (storage o lines), length-storage o lines b.table, behind, cells_fit)
 
-  pub range_inserted : (i k : ℕ) (lines : List (List T)) (grown new : List T) → IsTable lines → row_count lines ≡ k → col_count lines ≡ w → grown ≡ cells ++ storage o lines → RowsInserted o m w i k grown new → table_of o (m + k) w new ≡ insert_rows i lines s.rows
-  range_inserted i k lines grown new table count wide g p = p.table cells lines g cells_fit table count wide ∙ ap (insert_rows i lines) rows_fit
+    module _ (i p q a g : ℕ) (new : List T) (groups : RowGroups o m w i k p q a g) (woven : Woven p q a g grown new) where
+      pub put_fits : 0 < k → (m + k) * w < 2 ^ 64 → HoldsSize (m + k) w (length new)
+      put_fits some small =
+          let wide : 0 < w = omega (arith, b.wide, b.table.nonempty 0 (omega (arith, b.count, some))) in
+          let total = woven.lengths ∙ put_cells in
+          HoldsSize-filled (m + k) w (length new) (omega (arith, some)) wide total (omega (arith, small, total))
 
-  -- one more row of w cells
-  pub rows_inserted : (i : ℕ) (line grown new : List T) → 0 < w → length line ≡ w → grown ≡ cells ++ line → RowsInserted o m w i 1 grown new → table_of o (m + 1) w new ≡ insert s.rows i line
-  rows_inserted i line grown new some wide g p =
-      let within : 0 < length line = omega arith in
-      p.table cells (line ∷ []) (g ∙ ap (λ x. cells ++ x) (sym (storage-line o line within))) cells_fit (IsTable-line line within) refl wide
-      ∙ (ap (λ t. put_one t) rows_fit ∙ put_line i line s.rows)
-    where
-      put_one : List (List T) → List (List T)
-      put_one t = insert_rows i (line ∷ []) t
+      pub rows_put : i ≤ row_count s.rows → table_of o (m + k) w new ≡ insert_rows i lines s.rows
+      rows_put le =
+          view-insert_rows o m w cells cells_fit i k p q a g lines new groups b.table b.count b.wide (omega (arith, le, seen_rows o m n cells s h e))
+          (subst (λ x. Woven p q a g x new) b.behind woven)
+          ∙ ap (insert_rows i lines) rows_fit
 
 -- what the test for room says of the rows that a contract sees
 module _ (found : Bool) (m k rows w width : ℕ) (e : rows ≡ m) (f : w ≡ width) (tests : IsTrue found ↔ ((m + k) * w < 2 ^ 64)) where
@@ -77,29 +99,11 @@ module _ (found : Bool) (m k rows w width : ℕ) (e : rows ≡ m) (f : w ≡ wid
       let fits : found ≡ true = tests.1 (omega (arith, small, same)) in cc (fits, full))
       (λ large. large) (cases_lt ((rows + k) * width) (2 ^ 64))
 
--- groups closed up are rows taken
-pub rows_taken : {T : Type 0} (o : Order) (n i k rest p q a g : ℕ) (old new : List T) → RowGroups o rest n i k p q a g → length old ≡ (rest + k) * n → i ≤ rest → Closed p q a g new old → RowsTaken o n i k rest old new
-rows_taken {T} o n i k rest p q a g old new groups len le w =
-    record {
-      lengths = cells-closed o rest n i k p q a g new old groups w;
-      table = view-close_rows o (rest + k) n i k rest old refl len (omega arith) p q a g new groups w;
-    }
-
--- groups taken out are rows taken out
-pub rows_out : {T : Type 0} (o : Order) (n i k rest p q a g : ℕ) (old new taken : List T) → RowGroups o rest n i k p q a g → length old ≡ (rest + k) * n → i ≤ rest → TakenOut p q a g new taken old → RowsTakenOut o n i k rest old new taken
-rows_out o n i k rest p q a g old new taken groups len le out =
-    let w = out.woven in
-    let size : length new ≡ rest * n = out.lengths ∙ cells-groups o rest n i k p q a g groups in
-    let front : take (rest * n) (new ++ taken) ≡ new = ap (λ x. take x (new ++ taken)) (sym size) ∙ take-append_seam new taken in
-    let behind : drop (rest * n) (new ++ taken) ≡ taken = ap (λ x. drop x (new ++ taken)) (sym size) ∙ drop-append_seam new taken in
-    record {
-      kept = record {
-        lengths = size;
-        table = ap (table_of o rest n) (sym front) ∙ view-without_rows o (rest + k) n i k rest old refl len (omega arith) p q a g (new ++ taken) groups w;
-      };
-      lengths = omega (arith, w.lengths, length-append new taken, size, len);
-      cells = λ wide some. sym behind ∙ view-taken_rows o (rest + k) n i k rest old refl len (omega arith) p q a g (new ++ taken) groups w wide some;
-    }
+module _ {T : Type 0} (o : Order) (n i k rest : ℕ) (old new : List T) where
+  -- k rows from row i on of a table of rest + k rows and n columns are taken out
+  pub record RowsTaken : Type 0 where
+    pub lengths : length new ≡ rest * n
+    pub table : table_of o rest n new ≡ without_rows i k (table_of o (rest + k) n old)
 
 storage-none : {T : Type 0} (o : Order) (t : List (List T)) → row_count t ≡ 0 → storage o t ≡ []
 storage-none o t none =
@@ -132,6 +136,14 @@ module _ {T : Type 0} (o : Order) (m n : ℕ) (cells : List T) (s : GridValue T)
   pub taken_small : (m - k + k) * n < 2 ^ 64
   taken_small = rw taken_whole h.below
 
+  -- groups closed up are rows taken
+  pub closed : (p q a g : ℕ) (new : List T) → RowGroups o (m - k) n i k p q a g → Closed p q a g new cells → RowsTaken o n i k (m - k) cells new
+  closed p q a g new groups w =
+      record {
+        lengths = cells-closed o (m - k) n i k p q a g new cells groups w;
+        table = view-close_rows o (m - k + k) n i k (m - k) cells refl taken_cells (omega (arith, taken_in)) p q a g new groups w;
+      }
+
   pub rows_taken_out : (new : List T) → RowsTaken o n i k (m - k) cells new → table_of o (m - k) (cols_if_rows (m - k) n) new ≡ without_rows i k s.rows
   rows_taken_out new p =
       table_left o (m - k) n new ∙ (p.table ∙ (ap (λ x. without_rows i k (table_of o x n cells)) taken_whole ∙ ap (λ x. without_rows i k x.rows) e))
@@ -139,25 +151,48 @@ module _ {T : Type 0} (o : Order) (m n : ℕ) (cells : List T) (s : GridValue T)
   pub taken_fits : (new : List T) → RowsTaken o n i k (m - k) cells new → HoldsSize (m - k) (cols_if_rows (m - k) n) (length new)
   taken_fits new p = HoldsSize-left m n (m - k) (length cells) (length new) h (omega arith) p.lengths
 
-  pub taken_shift : rows_taken_shift s.order (row_count s.rows) (col_count s.rows) i k ≡ rows_taken_shift o (m - k + k) n i k
-  taken_shift =
+  -- as many cells move as the same rows move when they come
+  pub taken_shift : 0 < k → rows_taken_shift s.order (row_count s.rows) (col_count s.rows) i k ≡ rows_added_shift o (m - k) n i k
+  taken_shift some =
       ap (λ x. rows_taken_shift x.order (row_count x.rows) (col_count x.rows) i k) (sym e)
       ∙ (ap (λ x. rows_taken_shift o x (col_count (table_of o m n cells)) i k) (view-rows o m n cells h ∙ sym taken_whole)
-      ∙ ap (λ x. rows_taken_shift o (m - k + k) x i k) (view-cols o m n cells h))
+      ∙ (ap (λ x. rows_taken_shift o (m - k + k) x i k) (view-cols o m n cells h) ∙ shift-taken o (m - k) n i k some))
 
-  module _ (new taken : List T) (p : RowsTakenOut o n i k (m - k) cells new taken) where
-    whole : table_of o (m - k + k) n cells ≡ s.rows
+  module _ (p q a g : ℕ) (new taken : List T) (groups : RowGroups o (m - k) n i k p q a g) (out : TakenOut p q a g new taken cells) where
+    abbrev rest : ℕ
+    rest = m - k
+
+    lengths : length new ≡ rest * n
+    lengths = out.lengths ∙ cells-groups o rest n i k p q a g groups
+
+    within_rest : i + k ≤ rest + k
+    within_rest = omega (arith, taken_in)
+
+    -- groups taken out are rows taken
+    pub taken_out : RowsTaken o n i k (m - k) cells new
+    taken_out =
+        let front : take (rest * n) (new ++ taken) ≡ new = ap (λ x. take x (new ++ taken)) (sym lengths) ∙ take-append_seam new taken in
+        record {
+          lengths = lengths;
+          table = ap (table_of o rest n) (sym front) ∙ view-without_rows o (rest + k) n i k rest cells refl taken_cells within_rest p q a g (new ++ taken) groups out.woven;
+        }
+
+    whole : table_of o (rest + k) n cells ≡ s.rows
     whole = ap (λ x. table_of o x n cells) taken_whole ∙ ap (λ x. x.rows) e
 
     some_taken : 0 < k → taken ≡ storage s.order (take k (drop i s.rows))
     some_taken some =
-        p.cells (taken_wide some) some
-        ∙ (ap (λ x. storage o (take k (drop i x))) whole ∙ ap (λ x. storage x.order (take k (drop i s.rows))) e)
+        let behind : drop (rest * n) (new ++ taken) ≡ taken = ap (λ x. drop x (new ++ taken)) (sym lengths) ∙ drop-append_seam new taken in
+        sym behind
+        ∙ (view-taken_rows o (rest + k) n i k rest cells refl taken_cells within_rest p q a g (new ++ taken) groups out.woven (taken_wide some) some
+        ∙ (ap (λ x. storage o (take k (drop i x))) whole ∙ ap (λ x. storage x.order (take k (drop i s.rows))) e))
 
     none_taken : k ≡ 0 → taken ≡ storage s.order (take k (drop i s.rows))
     none_taken none =
-        nil_from_length taken (omega (arith, p.lengths, ap (λ x. x * n) none))
+        let size : length taken ≡ k * n = omega (arith, out.woven.lengths, length-append new taken, lengths, taken_cells) in
+        nil_from_length taken (omega (arith, size, ap (λ x. x * n) none))
         ∙ sym (storage-none s.order (take k (drop i s.rows)) (ap (λ x. length (take x (drop i s.rows))) none))
 
+    -- and their cells are those of the rows
     pub taken_storage : taken ≡ storage s.order (take k (drop i s.rows))
     taken_storage = ⊎_elim none_taken (λ some. some_taken (omega arith)) (cases_eq k 0)

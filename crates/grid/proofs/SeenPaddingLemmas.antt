@@ -15,9 +15,10 @@ use Rattle.grid_base.specs.Symmetry.{act}
 use Rattle.grid_commands.proofs.FactorLemmas.{factor_small}
 use Rattle.grid.specs.Edits.{PadsRows, PadsCols, padding_count, insert_rows, expanded_rows, prepended_rows}
 use Rattle.grid.specs.Make.{IsOnlyDefault}
-use Rattle.grid.specs.RowGroups.{RowsOpened}
+use Rattle.grid_base.specs.Groups.{Opened}
+use Rattle.grid.specs.RowGroups.{RowGroups}
 use Rattle.grid.proofs.SeenLemmas.{seen_rows, seen_cols}
-use Rattle.grid.proofs.PaddingLemmas.{All-all_fresh, replicate_from_all, All-from_gets, holds_at}
+use Rattle.grid.proofs.PaddingLemmas.{RowsOpened, view-open_rows, All-all_fresh, replicate_from_all, All-from_gets, holds_at}
 use Rattle.grid.proofs.EditSizeLemmas.{HoldsSize-filled, IsTable-width, put-no_lines, copies, row-copies, expanded-put, prepended-put}
 use Rattle.grid.proofs.RowEditLemmas.{HasWidth, HasWidth-put, rows-put}
 use Rattle.grid.proofs.ColEditLemmas.{rows-across, cols-across, HasWidth-across, across-none, ColumnsFit, insert_cols-across, expanded_cols-across, prepended_cols-across}
@@ -112,9 +113,12 @@ module _ {T : Type 0} (o : Order) (m n : ℕ) (cells : List T) (s : GridValue T)
     back : All P (drop (m * n) grown)
     back = subst (All P) (sym (ap (drop (m * n)) f.appended ∙ drop_at cells f.fresh (m * n) h.cells)) f.each
 
-    module _ (i : ℕ) (new : List T) (opened : RowsOpened o a b i k grown new) where
+    module _ (i x y z g : ℕ) (new : List T) (groups : RowGroups o a b i k x y z g) (le : i ≤ row_count s.rows) (opened : Opened x y z g grown new) where
       abbrev p : RowsOpened o m n i k grown new
-      p = subst (λ x. RowsOpened o x n i k grown new) as_rows (subst (λ x. RowsOpened o a x i k grown new) as_cols opened)
+      p =
+          subst (λ x. RowsOpened o x n i k grown new) as_rows
+          (subst (λ x. RowsOpened o a x i k grown new) as_cols
+          (view-open_rows o a b i k x y z g grown new groups (omega (arith, pad_cells)) (omega (arith, le, rows)) opened))
 
       pub pads_rows : PadsRows P i k s.rows (table_of o (m + k) n new)
       pads_rows =

@@ -4,8 +4,6 @@ ghost use Rattle.grid_base.specs.Table.{row_count, col_count, transposed};
 ghost use Rattle.grid.specs.Edits.{FitsRow, FitsCol, insert_cols};
 ghost use Rattle.grid.specs.GridFails.{GridFails};
 
-use super::has_room;
-use super::insert::weave_rows;
 use crate::{Grid, GridError};
 use std::alloc::{Allocator, Global};
 use std::fmt;
@@ -77,11 +75,18 @@ impl<T, A: Allocator> Grid<T, A> {
         }
         let order = other.order();
         other.lay_out(self.order());
-        match self.append_alike(other) {
-            Ok(()) => Ok(()),
-            Err(mut refused) => {
-                refused.grid.lay_out(order);
-                Err(refused)
+        let end = self.rows();
+        let (count, cols) = other.size();
+        let mut cells = other.into_vec();
+        match self.put_rows(end, count, cols, &mut cells) {
+            Ok(()) => {
+                cells.destroy_empty();
+                Ok(())
+            }
+            Err(fault) => {
+                let mut grid = Grid::from_vec_with_order(cells, cols, self.order());
+                grid.lay_out(order);
+                Err(GridRefused { grid, fault })
             }
         }
     }
@@ -120,40 +125,6 @@ impl<T, A: Allocator> Grid<T, A> {
                 refused.grid.transpose();
                 Err(refused)
             }
-        }
-    }
-
-    // As `append_rows`, for a grid of the same order that has rows.
-    fn append_alike(&mut self, other: Grid<T, A>) -> Result<(), GridRefused<T, A>>
-        requires alike { other.order ≡ self.old.order }
-        requires some { 0 < row_count other.rows }
-        requires fits { FitsRow self.old.rows (col_count other.rows) }
-        ensures rows { OnOk result (self.new.rows ≡ self.old.rows ++ other.rows) }
-        ensures order { self.new.order ≡ self.old.order }
-        ensures fails { GridFails (row_count self.old.rows + row_count other.rows)
-            (col_count other.rows) other self.old self.new result }
-    {
-        let (count, cols) = other.size();
-        if !has_room(self.row_count, count, cols) {
-            return Err(GridRefused {
-                grid: other,
-                fault: GridError::TooLarge,
-            });
-        }
-        let mut cells = other.into_vec();
-        match self.flat.append(&mut cells) {
-            Ok(()) => {
-                cells.destroy_empty();
-                let end = self.row_count;
-                weave_rows(&mut self.flat, self.order, end, cols, end, count);
-                self.row_count += count;
-                self.col_count = cols;
-                Ok(())
-            }
-            Err(_) => Err(GridRefused {
-                grid: Grid::from_vec_with_order(cells, cols, self.order),
-                fault: GridError::Memory,
-            }),
         }
     }
 }

@@ -1,39 +1,14 @@
 //! Rows and columns that are deleted, one or several: the lines are dropped, and a command counts the moves.
-ghost use Rattle.std.specs.Prelude.{◌≡◌, ◌↔◌, ◌+◌, ◌-◌, ◌*◌, ◌^◌, ◌<◌, ◌≤◌, length, remove, IsTrue, if◌then◌else◌};
+ghost use Rattle.std.specs.Prelude.{◌≡◌, ◌↔◌, ◌+◌, ◌-◌, ◌<◌, ◌≤◌, remove, IsTrue, if◌then◌else◌};
 ghost use Rattle.grid_base.specs.Table.{row_count, col_count};
 ghost use Rattle.grid_base.specs.Tally.{saturating_count};
 ghost use Rattle.grid.specs.Edits.{without_rows, without_cols};
-ghost use Rattle.grid.specs.RowGroups.{RowsTaken};
 ghost use Rattle.grid.specs.Shift.{rows_taken_shift, delete_rows_shift, delete_cols_shift};
 
 use super::{cols_if_rows, row_groups};
 use crate::Grid;
-use grid_base::{Flat, Order, Tally};
+use grid_base::Tally;
 use std::alloc::Allocator;
-
-// Drops `count` rows from row `at` on; `rest` rows stay.
-fn close_rows<T: Drop, A: Allocator>(
-    flat: &mut Flat<T, A>,
-    order: Order,
-    rest: usize,
-    cols: usize,
-    at: usize,
-    count: usize,
-    tally: &mut Tally,
-)
-    requires cells { length flat.old ≡ (rest + count) * cols }
-    requires fits { (rest + count) * cols < 2 ^ 64 }
-    requires point { at ≤ rest }
-    requires some { 0 < count }
-    requires wide { 0 < cols }
-    ensures taken { RowsTaken order cols at count rest flat.old flat.new }
-    ensures symmetry { tally.new.symmetry ≡ tally.old.symmetry }
-    ensures shift { tally.new.shift
-        ≡ saturating_count tally.old.shift (rows_taken_shift order (rest + count) cols at count) }
-{
-    let groups = row_groups(order, rest, cols, at, count);
-    flat.close_up(groups, tally);
-}
 
 impl<T, A: Allocator> Grid<T, A> {
     /// Drops row `at`, and returns whether there was one; if not, nothing changes. The order stays. Deleting the only
@@ -178,15 +153,8 @@ impl<T, A: Allocator> Grid<T, A> {
         ensures symmetry { tally.new.symmetry ≡ tally.old.symmetry }
     {
         let rest = self.row_count - count;
-        close_rows(
-            &mut self.flat,
-            self.order,
-            rest,
-            self.col_count,
-            start,
-            count,
-            tally,
-        );
+        let groups = row_groups(self.order, rest, self.col_count, start, count);
+        self.flat.close_up(groups, tally);
         self.row_count = rest;
         self.col_count = cols_if_rows(rest, self.col_count);
     }

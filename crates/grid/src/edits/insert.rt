@@ -1,34 +1,16 @@
 //! Rows and columns that are pushed and inserted, one or several.
-ghost use Rattle.std.specs.Prelude.{◌≡◌, ◌+◌, ◌*◌, ◌^◌, ◌<◌, ◌≤◌, [], length, insert, All, OnOk};
+ghost use Rattle.std.specs.Prelude.{◌≡◌, ◌↔◌, ◌+◌, ◌*◌, ◌<◌, ◌≤◌, [], length, insert, All, OnOk, OnErr, IsErrOf};
 ghost use Rattle.grid_base.specs.Table.{row_count, col_count, IsTable};
 ghost use Rattle.grid_base.specs.Gather.{items_of_each};
+ghost use Rattle.grid_base.specs.Order.{table_of};
 ghost use Rattle.grid.specs.Edits.{FitsRow, FitsCol, insert_col, insert_rows, insert_cols};
 ghost use Rattle.grid.specs.EditFails.{LineFails, LinesFail};
-ghost use Rattle.grid.specs.RowGroups.{RowsInserted};
+ghost use Rattle.grid.specs.Make.{ExceedsMax};
 
 use super::{has_room, row_groups};
 use crate::{Grid, GridError, LineRefused, LinesRefused};
-use grid_base::{Flat, Order};
 use grid_commands::first_len;
 use std::alloc::Allocator;
-
-// Puts the rows that are behind the cells of a table, `count` of them in storage order, before its row `at`.
-pub(super) fn weave_rows<T, A: Allocator>(
-    flat: &mut Flat<T, A>,
-    order: Order,
-    rows: usize,
-    cols: usize,
-    at: usize,
-    count: usize,
-)
-    requires cells { length flat.old ≡ rows * cols + count * cols }
-    requires fits { rows * cols + count * cols < 2 ^ 64 }
-    requires point { at ≤ rows }
-    ensures { RowsInserted order rows cols at count flat.old flat.new }
-{
-    let groups = row_groups(order, rows, cols, at, count);
-    flat.weave(groups);
-}
 
 // Frees lines that have no cells left.
 fn free_empty<T, A: Allocator>(lines: Vec<Vec<T, A>, A>)
@@ -107,24 +89,12 @@ impl<T, A: Allocator> Grid<T, A> {
     {
         let mut line = line;
         let width = line.len();
-        if !has_room(self.row_count, 1, width) {
-            return Err(LineRefused {
-                line,
-                fault: GridError::TooLarge,
-            });
-        }
-        match self.flat.append(&mut line) {
+        match self.put_rows(at, 1, width, &mut line) {
             Ok(()) => {
                 line.destroy_empty();
-                weave_rows(&mut self.flat, self.order, self.row_count, width, at, 1);
-                self.row_count += 1;
-                self.col_count = width;
                 Ok(())
             }
-            Err(_) => Err(LineRefused {
-                line,
-                fault: GridError::Memory,
-            }),
+            Err(fault) => Err(LineRefused { line, fault }),
         }
     }
 
@@ -198,7 +168,8 @@ impl<T, A: Allocator> Grid<T, A> {
         {
             Ok(()) => {
                 free_empty(lines);
-                weave_rows(&mut self.flat, self.order, self.row_count, width, at, count);
+                let groups = row_groups(self.order, self.row_count, width, at, count);
+                self.flat.weave(groups);
                 self.row_count += count;
                 self.col_count = width;
                 Ok(())
@@ -244,5 +215,38 @@ impl<T, A: Allocator> Grid<T, A> {
         let inserted = self.insert_rows(at, lines);
         self.transpose();
         inserted
+    }
+
+    // Puts `count` rows of `width` cells before row `at`, which takes the cells. They come in storage order.
+    pub(super) fn put_rows(
+        &mut self,
+        at: usize,
+        count: usize,
+        width: usize,
+        cells: &mut Vec<T, A>,
+    ) -> Result<(), GridError>
+        requires point { at ≤ row_count self.old.rows }
+        requires fits { FitsRow self.old.rows width }
+        requires some { 0 < count }
+        requires wide { 0 < width }
+        requires cells { length cells.old.items ≡ count * width }
+        ensures rows { OnOk result (self.new.rows ≡ insert_rows at
+            (table_of self.old.order count width cells.old.items) self.old.rows) }
+        ensures order { self.new.order ≡ self.old.order }
+        ensures taken { OnOk result (cells.new.items ≡ []) }
+        ensures too_large { IsErrOf result GridError.TooLarge
+            ↔ ExceedsMax (row_count self.old.rows + count) width }
+        ensures unchanged { OnErr result (self.new ≡ self.old) }
+        ensures cells_stay { OnErr result (cells.new.items ≡ cells.old.items) }
+    {
+        if !has_room(self.row_count, count, width) {
+            return Err(GridError::TooLarge);
+        }
+        self.flat.append(cells)?;
+        let groups = row_groups(self.order, self.row_count, width, at, count);
+        self.flat.weave(groups);
+        self.row_count += count;
+        self.col_count = width;
+        Ok(())
     }
 }

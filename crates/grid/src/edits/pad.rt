@@ -1,41 +1,15 @@
 //! Padding: rows and columns of defaults at the end or at the beginning, by counted passes.
-ghost use Rattle.std.specs.Prelude.{◌≡◌, ◌+◌, ◌*◌, ◌^◌, ◌<◌, ◌≤◌, length, OnOk, OnErr};
+ghost use Rattle.std.specs.Prelude.{◌≡◌, ◌≤◌, OnOk, OnErr};
 ghost use Rattle.grid_base.specs.Table.{row_count, col_count};
 ghost use Rattle.grid_base.specs.Tally.{saturating_count};
 ghost use Rattle.grid.specs.Edits.{PadsRows, PadsCols};
 ghost use Rattle.grid.specs.EditFails.{PaddingFails};
-ghost use Rattle.grid.specs.RowGroups.{RowsOpened};
 ghost use Rattle.grid.specs.Shift.{rows_added_shift, cols_added_shift};
 
 use super::{has_room, row_groups};
 use crate::{Grid, GridError};
-use grid_base::{Flat, Order, Tally};
+use grid_base::Tally;
 use std::alloc::Allocator;
-
-// Puts the cells behind a table, `count` rows of them, as rows before its row `at`.
-fn open_rows<T, A: Allocator>(
-    flat: &mut Flat<T, A>,
-    order: Order,
-    rows: usize,
-    cols: usize,
-    at: usize,
-    count: usize,
-    tally: &mut Tally,
-)
-    requires cells { length flat.old ≡ (rows + count) * cols }
-    requires fits { (rows + count) * cols < 2 ^ 64 }
-    requires has_rows { 0 < rows }
-    requires has_cols { 0 < cols }
-    requires point { at ≤ rows }
-    requires some { 0 < count }
-    ensures opened { RowsOpened order rows cols at count flat.old flat.new }
-    ensures symmetry { tally.new.symmetry ≡ tally.old.symmetry }
-    ensures shift { tally.new.shift
-        ≡ saturating_count tally.old.shift (rows_added_shift order rows cols at count) }
-{
-    let groups = row_groups(order, rows, cols, at, count);
-    flat.open(groups, tally);
-}
 
 impl<T, A: Allocator> Grid<T, A> {
     /// Adds `count` rows of defaults at the end. The order stays. An empty grid stays empty.
@@ -152,7 +126,8 @@ impl<T, A: Allocator> Grid<T, A> {
             return Err(GridError::TooLarge);
         }
         self.flat.append_defaults(count * cols)?;
-        open_rows(&mut self.flat, self.order, rows, cols, at, count, tally);
+        let groups = row_groups(self.order, rows, cols, at, count);
+        self.flat.open(groups, tally);
         self.row_count += count;
         Ok(())
     }

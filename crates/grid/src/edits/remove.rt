@@ -1,34 +1,12 @@
 //! Rows and columns that are popped and removed: the call returns the line, and no tally counts its moves.
-ghost use Rattle.std.specs.Prelude.{[], ◌≡◌, ◌+◌, ◌-◌, ◌*◌, ◌^◌, ◌<◌, ◌≤◌, length, take, drop, remove, slice_get, Some, OnOk, OnErr, IfOk, MatchOption};
+ghost use Rattle.std.specs.Prelude.{[], ◌≡◌, ◌+◌, ◌-◌, ◌<◌, ◌≤◌, take, drop, remove, slice_get, Some, OnOk, OnErr, IfOk, MatchOption};
 ghost use Rattle.grid_base.specs.Table.{row_count, col_count, transposed};
 ghost use Rattle.grid_base.specs.Order.{storage};
 ghost use Rattle.grid.specs.Edits.{without_rows, without_cols};
-ghost use Rattle.grid.specs.RowGroups.{RowsTakenOut};
 
 use super::{cols_if_rows, row_groups};
 use crate::Grid;
-use grid_base::{Flat, Order};
 use std::alloc::{AllocError, Allocator};
-
-// Takes `count` rows from row `at` on out, and returns their cells in storage order; `rest` rows stay.
-fn take_out_rows<T, A: Allocator + Clone>(
-    flat: &mut Flat<T, A>,
-    order: Order,
-    rest: usize,
-    cols: usize,
-    at: usize,
-    count: usize,
-) -> Result<Vec<T, A>, AllocError>
-    requires cells { length flat.old ≡ (rest + count) * cols }
-    requires fits { (rest + count) * cols < 2 ^ 64 }
-    requires point { at ≤ rest }
-    ensures taken { IfOk result
-        (λ taken. RowsTakenOut order cols at count rest flat.old flat.new taken.items) }
-    ensures err { OnErr result (flat.new ≡ flat.old) }
-{
-    let groups = row_groups(order, rest, cols, at, count);
-    flat.take_out(groups)
-}
 
 impl<T, A: Allocator> Grid<T, A> {
     /// Removes the last row and returns it, or `None` from an empty grid. The order stays. Taking the only row
@@ -146,7 +124,8 @@ impl<T, A: Allocator> Grid<T, A> {
         ensures err { OnErr result (self.new ≡ self.old) }
     {
         let rest = self.row_count - count;
-        let cells = take_out_rows(&mut self.flat, self.order, rest, self.col_count, at, count)?;
+        let groups = row_groups(self.order, rest, self.col_count, at, count);
+        let cells = self.flat.take_out(groups)?;
         self.row_count = rest;
         self.col_count = cols_if_rows(rest, self.col_count);
         Ok(cells)

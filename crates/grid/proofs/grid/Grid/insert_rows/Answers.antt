@@ -1,13 +1,11 @@
-use Rattle.std.proofs.Common.{rules, ◌≡◌, ◌<◌, ◌+◌, ◌*◌, ◌++◌, length, refl, sym, ◌∙◌, ap, arith}
+use Rattle.std.proofs.Common.{rules, ◌≡◌, ◌<◌, length, refl, sym, ◌∙◌, ap, arith}
 use Rattle.std.proofs.lemmas.Grind.{common_steps}
-use Rattle.grid_base.specs.Table.{row_count, col_count}
-use Rattle.grid_base.specs.Order.{storage}
+use Rattle.grid_base.specs.Table.{col_count}
 use Rattle.grid_base.specs.Gather.{items_of_each}
 use Rattle.grid_base.proofs.GatherLemmas.{rows-vecs}
 use Rattle.grid_commands.proofs.FactorLemmas.{factor_small}
 use Rattle.grid.proofs.SeenLemmas.{seen_rows, seen_same}
-use Rattle.grid.proofs.SeenEditLemmas.{range_cells, range_inserted, no_room, room}
-use Rattle.grid.proofs.EditSizeLemmas.{HoldsSize-filled}
+use Rattle.grid.proofs.SeenEditLemmas.{RowsBehind-lines, put_cells, put_fits, rows_put, no_room, room}
 use Rattle.grid.proofs.grid.Grid.insert_rows.Goals as goal
 
 pub returns-then-not-has_room-clause-fails : goal.returns-then-not-has_room-clause-fails
@@ -21,17 +19,17 @@ returns-then-not-has_room-clause-fails g c =
       unchanged = refl;
     }
 
-pub weave_rows-requires-clause-cells : goal.weave_rows-requires-clause-cells
-weave_rows-requires-clause-cells g c =
-    let width : c.first_len-width.result ≡ col_count (items_of_each c.args.lines.items) = c.first_len-width.ensures ∙ ap (λ xs. col_count (items_of_each xs)) c.as_slice.ensures.value in
-    let count : row_count (items_of_each c.args.lines.items) ≡ c.len-count.result = omega (arith, rows-vecs c.args.lines.items) in
-    range_cells _ _ _ _ _ c.self.inside.fits c.self.view_is _ (rw width (c.requires.fits (omega arith))) _ _ _ c.requires.table count (sym width)
-    (c.in-Ok.ensures.ok ∙ ap (λ xs. c.self.inside.flat ++ storage c.self.inside.order (items_of_each xs)) c.as_mut_slice.ensures.value)
-
-pub weave_rows-requires-clause-point : goal.weave_rows-requires-clause-point
-weave_rows-requires-clause-point g c =
-    let rows : row_count c.args.self.now.rows ≡ c.self.inside.row_count = seen_rows _ _ _ _ _ c.self.inside.fits c.self.view_is in
+pub row_groups-groups-requires-clause-point : goal.row_groups-groups-requires-clause-point
+row_groups-groups-requires-clause-point g c =
+    let rows = seen_rows _ _ _ _ _ c.self.inside.fits c.self.view_is in
     omega (arith, rows, c.requires.point)
+
+pub weave-requires : goal.weave-requires
+weave-requires g c =
+    let width : c.first_len-width.result ≡ col_count (items_of_each c.args.lines.items) = c.first_len-width.ensures ∙ ap (λ xs. col_count (items_of_each xs)) c.as_slice.ensures.value in
+    let fits = c.requires.fits (omega arith) in
+    let behind = RowsBehind-lines c.self.inside.order _ _ _ _ c.requires.table width (omega arith) c.as_mut_slice.ensures.value c.in-Ok.ensures.ok in
+    put_cells _ _ _ _ _ c.self.inside.fits c.self.view_is _ (rw width fits) _ _ _ behind ∙ sym c.row_groups-groups.ensures.cells
 
 pub overflow_add-self : goal.overflow_add-self
 overflow_add-self g c =
@@ -43,21 +41,17 @@ overflow_add-self g c =
 pub invariant_of-self-inside : goal.invariant_of-self-inside
 invariant_of-self-inside g c =
     let width : c.first_len-width.result ≡ col_count (items_of_each c.args.lines.items) = c.first_len-width.ensures ∙ ap (λ xs. col_count (items_of_each xs)) c.as_slice.ensures.value in
-    let some : 0 < c.first_len-width.result = omega (arith, width, c.requires.table.nonempty 0 (omega (arith, rows-vecs c.args.lines.items))) in
-    let count : row_count (items_of_each c.args.lines.items) ≡ c.len-count.result = omega (arith, rows-vecs c.args.lines.items) in
-    let cells =
-    range_cells _ _ _ _ _ c.self.inside.fits c.self.view_is _ (rw width (c.requires.fits (omega arith))) _ _ _ c.requires.table count (sym width)
-    (c.in-Ok.ensures.ok ∙ ap (λ xs. c.self.inside.flat ++ storage c.self.inside.order (items_of_each xs)) c.as_mut_slice.ensures.value) in
-    let small = c.has_room.ensures.0 c.if-not-has_room.false in
-    let total : length c.weave_rows.new.flat ≡ (c.self.inside.row_count + c.len-count.result) * c.first_len-width.result = c.weave_rows.ensures.lengths ∙ (cells ∙ omega arith) in
-    (HoldsSize-filled _ _ _ (omega arith) some total (omega (arith, small, total)), tt)
+    let some : 0 < c.len-count.result = omega arith in
+    let fits = c.requires.fits (omega arith) in
+    let behind = RowsBehind-lines c.self.inside.order _ _ _ _ c.requires.table width (omega arith) c.as_mut_slice.ensures.value c.in-Ok.ensures.ok in
+    (put_fits _ _ _ _ _ c.self.inside.fits c.self.view_is _ (rw width fits) _ _ _ behind _ _ _ _ _ _ c.row_groups-groups.ensures.groups c.weave.ensures some (c.has_room.ensures.0 c.if-not-has_room.false), tt)
 
 pub returns-in-Ok-clause-rows : goal.returns-in-Ok-clause-rows
 returns-in-Ok-clause-rows g c =
     let width : c.first_len-width.result ≡ col_count (items_of_each c.args.lines.items) = c.first_len-width.ensures ∙ ap (λ xs. col_count (items_of_each xs)) c.as_slice.ensures.value in
-    let count : row_count (items_of_each c.args.lines.items) ≡ c.len-count.result = omega (arith, rows-vecs c.args.lines.items) in
-    range_inserted _ _ _ _ _ c.self.inside.fits c.self.view_is _ (rw width (c.requires.fits (omega arith))) c.args.at _ _ _ _ c.requires.table count (sym width)
-    (c.in-Ok.ensures.ok ∙ ap (λ xs. c.self.inside.flat ++ storage c.self.inside.order (items_of_each xs)) c.as_mut_slice.ensures.value) c.weave_rows.ensures
+    let fits = c.requires.fits (omega arith) in
+    let behind = RowsBehind-lines c.self.inside.order _ _ _ _ c.requires.table width (omega arith) c.as_mut_slice.ensures.value c.in-Ok.ensures.ok in
+    rows_put _ _ _ _ _ c.self.inside.fits c.self.view_is _ (rw width fits) _ _ _ behind _ _ _ _ _ _ c.row_groups-groups.ensures.groups c.weave.ensures c.requires.point
 
 pub returns-in-Ok-clause-fails : goal.returns-in-Ok-clause-fails
 returns-in-Ok-clause-fails g c =

@@ -1,5 +1,7 @@
-use Rattle.std.proofs.Common.{◌≡◌, ◌+◌, ◌*◌, ◌⊎◌, inl, inr, ap, refl, arith, rules}
+use Rattle.std.proofs.Common.{◌≡◌, ◌+◌, ◌*◌, ◌⊎◌, inl, inr, ap, refl, sym, ◌∙◌, arith, rules}
+use Rattle.std.proofs.Math.Nat.{mul-pos}
 use Rattle.grid_base.specs.Table.{row_count, col_count}
+use Rattle.grid_base.specs.Tally.{saturating_count}
 use Rattle.grid.specs.Edits.{padding_count}
 use Rattle.grid.specs.Shift.{rows_added_shift}
 use Rattle.grid.proofs.SeenPaddingLemmas.{padding_none, pads_none, pad_cols, pad_rows_small, pad_shift, pad_cells, pads_rows, pad_fits}
@@ -26,26 +28,34 @@ returns-then-count-eq0-clause-fails g c =
       unchanged = (search rules);
     }
 
-pub open_rows-requires-clause-cells : goal.open_rows-requires-clause-cells
-open_rows-requires-clause-cells g c = pad_cells _ _ _ _ _ c.self.inside.fits c.self.view_is _ _ _ c.size-rows.ensures.rows c.size-rows.ensures.cols c.if-rows-eq0.false (c.if-not-has_room.ensures.0 refl) _ _ c.in_ok-append_defaults.ensures.ok
-
-pub open_rows-requires-clause-has_cols : goal.open_rows-requires-clause-has_cols
-open_rows-requires-clause-has_cols g c = pad_cols _ _ _ _ _ c.self.inside.fits c.self.view_is _ _ _ c.size-rows.ensures.rows c.size-rows.ensures.cols c.if-rows-eq0.false (c.if-not-has_room.ensures.0 refl)
+pub open-requires : goal.open-requires
+open-requires g c =
+    let groups = c.row_groups-groups.ensures in
+    let wide = pad_cols _ _ _ _ _ c.self.inside.fits c.self.view_is _ _ _ c.size-rows.ensures.rows c.size-rows.ensures.cols c.if-rows-eq0.false (c.if-not-has_room.ensures.0 refl) in
+    record {
+      cells =
+          pad_cells _ _ _ _ _ c.self.inside.fits c.self.view_is _ _ _ c.size-rows.ensures.rows c.size-rows.ensures.cols c.if-rows-eq0.false (c.if-not-has_room.ensures.0 refl) _ _ c.in_ok-append_defaults.ensures.ok
+          ∙ sym groups.cells;
+      has_lines = groups.has_lines wide;
+      has_width = groups.has_width (mul-pos (omega (arith, c.if-rows-eq0.false)) wide);
+      has_count = groups.has_count (mul-pos (omega (arith, c.if-count-eq0.false)) wide);
+    }
 
 pub overflow_add-self : goal.overflow_add-self
 overflow_add-self g c = let small = pad_rows_small _ _ _ _ _ c.self.inside.fits c.self.view_is _ _ _ c.size-rows.ensures.rows c.size-rows.ensures.cols c.if-rows-eq0.false (c.if-not-has_room.ensures.0 refl) in omega (arith, small)
 
 pub invariant_of-self-inside-2 : goal.invariant_of-self-inside-2
 invariant_of-self-inside-2 g c =
-    (pad_fits _ _ _ _ _ c.self.inside.fits c.self.view_is _ _ _ c.size-rows.ensures.rows c.size-rows.ensures.cols c.if-rows-eq0.false (c.if-not-has_room.ensures.0 refl) _ _ c.in_ok-append_defaults.ensures.ok c.args.at _ c.open_rows.ensures.opened, tt)
+    (pad_fits _ _ _ _ _ c.self.inside.fits c.self.view_is _ _ _ c.size-rows.ensures.rows c.size-rows.ensures.cols c.if-rows-eq0.false (c.if-not-has_room.ensures.0 refl) _ _ c.in_ok-append_defaults.ensures.ok c.args.at _ _ _ _ _ c.row_groups-groups.ensures.groups c.requires.point c.open.ensures.opened, tt)
 
 pub returns-clause-padded : goal.returns-clause-padded
 returns-clause-padded g c =
-    pads_rows _ _ _ _ _ c.self.inside.fits c.self.view_is _ _ _ c.size-rows.ensures.rows c.size-rows.ensures.cols c.if-rows-eq0.false (c.if-not-has_room.ensures.0 refl) _ _ c.in_ok-append_defaults.ensures.ok c.args.at _ c.open_rows.ensures.opened
+    pads_rows _ _ _ _ _ c.self.inside.fits c.self.view_is _ _ _ c.size-rows.ensures.rows c.size-rows.ensures.cols c.if-rows-eq0.false (c.if-not-has_room.ensures.0 refl) _ _ c.in_ok-append_defaults.ensures.ok c.args.at _ _ _ _ _ c.row_groups-groups.ensures.groups c.requires.point c.open.ensures.opened
 
 pub returns-clause-shift : goal.returns-clause-shift
 returns-clause-shift g c =
-    rw (pad_shift _ _ _ _ _ c.self.inside.fits c.self.view_is _ _ _ c.size-rows.ensures.rows c.size-rows.ensures.cols c.if-rows-eq0.false (c.if-not-has_room.ensures.0 refl) (λ o m n k. rows_added_shift o m n c.args.at k)) c.open_rows.ensures.shift
+    rw (pad_shift _ _ _ _ _ c.self.inside.fits c.self.view_is _ _ _ c.size-rows.ensures.rows c.size-rows.ensures.cols c.if-rows-eq0.false (c.if-not-has_room.ensures.0 refl) (λ o m n k. rows_added_shift o m n c.args.at k))
+    (c.open.ensures.shift ∙ ap (saturating_count c.args.tally.now.shift) (c.row_groups-groups.ensures.shift (omega (arith, c.if-count-eq0.false))))
 
 pub returns-in_err-append_defaults-clause-fails : goal.returns-in_err-append_defaults-clause-fails
 returns-in_err-append_defaults-clause-fails g c =
