@@ -36,7 +36,8 @@ struct Trial {
 }
 
 // What an attempt came to: how many requests it took, clones among them, how many were for memory, how often it called its
-// closure, how often the closure was refused, and how many blocks and cells were held in the end.
+// closure, how often the closure was refused, how often it was called out of storage order, and how many blocks and cells
+// were held in the end.
 #[derive(Clone, Copy)]
 struct Seen {
     answer: Answer,
@@ -44,6 +45,7 @@ struct Seen {
     blocks: u64,
     calls: u64,
     refusals: u64,
+    strays: u64,
     held: u64,
 }
 
@@ -93,6 +95,8 @@ fn attempt(alloc: Global, trial: Trial, granted: u64) -> Seen {
     let heap = Fuse::new(alloc, 0);
     let calls = Cell::new(0u64);
     let refusals = Cell::new(0u64);
+    let last = Cell::new(0u64);
+    let strays = Cell::new(0u64);
     let answer = made(
         Start {
             alloc,
@@ -103,6 +107,8 @@ fn attempt(alloc: Global, trial: Trial, granted: u64) -> Seen {
             granted,
             calls: &calls,
             refusals: &refusals,
+            last: &last,
+            strays: &strays,
         },
         trial.group,
         trial.call.0,
@@ -113,6 +119,7 @@ fn attempt(alloc: Global, trial: Trial, granted: u64) -> Seen {
         blocks: heap.granted(),
         calls: calls.get(),
         refusals: refusals.get(),
+        strays: strays.get(),
         held: heap.held(),
     }
 }
@@ -132,6 +139,7 @@ fn fault_with_all(trial: Trial, seen: Seen) -> Option<&'static str> {
         Answer::Skipped => None,
         Answer::Refused | Answer::Stopped => Some("is refused with memory for all"),
         Answer::Wrong => Some("answers something else"),
+        Answer::Done if seen.strays != 0 => Some("visits the cells in another order"),
         Answer::Done if !keeps(trial.call.2, seen.blocks, cells.min(1)) => {
             Some("makes another number of requests")
         }
@@ -188,10 +196,18 @@ fn printed<R: Print>(
     Ok(1)
 }
 
+// A board on which sizes show that no small one has. It has memory for all.
+const LARGE: (usize, usize) = (5, 8);
+
 // Whether requests are refused on a board of this size: one of at most two rows, on which a vector grows twice. Larger
 // boards have memory for all.
 fn is_refused_on((rows, _): (usize, usize)) -> bool {
     rows <= 2
+}
+
+// Whether the requests of a trial are refused: on boards of three rows too where a call makes a vector for each line.
+fn is_refused(trial: Trial) -> bool {
+    is_refused_on(trial.size) || (matches!(trial.group, Group::Lines) && trial.size != LARGE)
 }
 
 // Makes a call with memory for all, and on a small board with each smaller number of requests. Returns how often it was
@@ -202,7 +218,7 @@ fn try_case<R: Print + AllocGlobal>(rt: &R, trial: Trial) -> io::Result<u64> {
         return Ok(0);
     }
     printed(rt, trial, u64::MAX, fault_with_all(trial, all))?;
-    if !is_refused_on(trial.size) {
+    if !is_refused(trial) {
         return Ok(1);
     }
     for granted in 0..all.taken {
@@ -212,22 +228,34 @@ fn try_case<R: Print + AllocGlobal>(rt: &R, trial: Trial) -> io::Result<u64> {
     Ok(all.taken.saturating_add(1))
 }
 
+// Tries a call on the boards of a size. Returns how many attempts there were.
+fn try_size<R: Print + AllocGlobal>(
+    rt: &R,
+    group: Group,
+    call: Call,
+    size: (usize, usize),
+) -> io::Result<u64> {
+    let mut attempts = 0u64;
+    for order in ORDERS {
+        for case in 0..call.1 {
+            let trial = Trial {
+                group,
+                call,
+                case,
+                size,
+                order,
+            };
+            attempts = attempts.saturating_add(try_case(rt, trial)?);
+        }
+    }
+    Ok(attempts)
+}
+
 // Tries a call on all boards, and prints how many attempts there were.
 fn try_call<R: Print + AllocGlobal>(rt: &R, group: Group, call: Call) -> io::Result<()> {
-    let mut attempts = 0u64;
+    let mut attempts = try_size(rt, group, call, LARGE)?;
     for size in SIZES {
-        for order in ORDERS {
-            for case in 0..call.1 {
-                let trial = Trial {
-                    group,
-                    call,
-                    case,
-                    size,
-                    order,
-                };
-                attempts = attempts.saturating_add(try_case(rt, trial)?);
-            }
-        }
+        attempts = attempts.saturating_add(try_size(rt, group, call, size)?);
     }
     println!(rt; "{}: {attempts} attempts", call.0)
 }

@@ -10,9 +10,9 @@ pub const CALLS: [Call; 7] = [
     Call("Cell::to_cell", 1, None, None),
     Call("Cell::from_cell", 1, None, None),
     Call("grid_json::to_value", 1, None, None),
-    Call("grid_json::from_value", 1, None, None),
+    Call("grid_json::from_value", 4, None, None),
     Call("grid_json::rows_to_value", 1, None, Some(1)),
-    Call("grid_json::rows_from_value", 3, None, Some(1)),
+    Call("grid_json::rows_from_value", 4, None, Some(1)),
     Call("grid_json::written_and_read", 1, None, None),
 ];
 
@@ -35,6 +35,51 @@ fn read(start: Start<'_>) -> Result<Answer, AllocError> {
     let value = to_value(start.alloc, &start.numbers()?)?;
     let read: Result<Grid<u32>, _> = from_value(start.alloc, &value);
     Ok(came(read))
+}
+
+// The board as an array of its width, its numbers, and in cases 2 and 3 an order.
+fn array_read(start: Start<'_>) -> Result<Answer, AllocError> {
+    let board = start.numbers()?;
+    let mut numbers = Vec::new(start.alloc);
+    for cell in board.iter() {
+        numbers.push(Value::from(*cell))?;
+    }
+    let mut items = Vec::new(start.alloc);
+    items.push(Value::from(board.cols() as u64))?;
+    items.push(Value::Array(numbers))?;
+    if start.case > 1 {
+        let name = if start.case == 2 {
+            "RowMajor"
+        } else {
+            "ColumnMajor"
+        };
+        items.push(Value::String(String::from_str(start.alloc, name)?))?;
+    }
+    let value = Value::Array(items);
+    let read: Result<Grid<u32>, _> = from_value(start.alloc, &value);
+    Ok(came(read))
+}
+
+// One item that the closure, which is asked once, says is no cell.
+fn no_cell_read(start: Start<'_>) -> Result<Answer, AllocError> {
+    if start.size != (1, 1) {
+        return Ok(Answer::Skipped);
+    }
+    let value = rows_to_value(
+        start.alloc,
+        &start.numbers()?,
+        |cell| Ok(Value::from(*cell)),
+    )?;
+    start.ready();
+    let read: Result<Grid<u32>, _> = rows_from_value(start.alloc, &value, |_| {
+        start.called();
+        Ok(None)
+    });
+    Ok(match read {
+        Err(RowsError::BadCell { row: 0, col: 0 }) => Answer::Done,
+        Ok(_) => Answer::Wrong,
+        read => came(read),
+    })
 }
 
 // The rows of the board, and in case 1 an item behind them that isn't a row, which is told when all cells are read.
@@ -88,7 +133,9 @@ fn written(start: Start<'_>, name: &str) -> Result<Answer, AllocError> {
 pub fn call(start: Start<'_>, name: &str) -> Result<Answer, AllocError> {
     match name {
         "Cell::to_cell" | "Cell::from_cell" => cells(start, name),
+        "grid_json::from_value" if start.case > 0 => array_read(start),
         "grid_json::from_value" => read(start),
+        "grid_json::rows_from_value" if start.case == 3 => no_cell_read(start),
         "grid_json::rows_from_value" if start.case == 2 => empty_rows_read(start),
         "grid_json::rows_from_value" => rows_read(start),
         name => written(start, name),

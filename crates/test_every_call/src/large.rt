@@ -24,12 +24,13 @@ const LINES: usize = 4;
 
 const WORDS: usize = 4;
 
-// What is wrong in one line of a text: a word isn't a number, the last word is missing, or there is one more.
+// What is wrong in one line of a text: a word isn't a number, the last word is missing, there is one more, or there is none.
 #[derive(Clone, Copy, PartialEq, Eq)]
 enum Flaw {
     Bad(usize),
     Short,
     Long,
+    Blank,
 }
 
 // How many words a line with a flaw has.
@@ -38,6 +39,7 @@ fn len_of(flaw: Flaw) -> usize {
         Flaw::Bad(_) => WORDS,
         Flaw::Short => WORDS - 1,
         Flaw::Long => WORDS + 1,
+        Flaw::Blank => 0,
     }
 }
 
@@ -217,6 +219,8 @@ fn is_told_of(
     flaw: Flaw,
 ) -> Result<bool, AllocError> {
     match read {
+        // (a blank line of a sheet has one field)
+        "a sheet" | "rows of JSON" if flaw == Flaw::Blank => Ok(true),
         "words" => is_told_of_words(alloc, heap, line, flaw),
         "letters" => is_told_of_letters(alloc, heap, line, flaw),
         "a sheet" => is_told_of_sheet(alloc, heap, line, flaw),
@@ -247,6 +251,7 @@ fn try_flaws<R: Print + AllocGlobal>(rt: &R) -> io::Result<()> {
         if line > 0 {
             told = told.saturating_add(try_flaw(rt, line, Flaw::Short)?);
             told = told.saturating_add(try_flaw(rt, line, Flaw::Long)?);
+            told = told.saturating_add(try_flaw(rt, line, Flaw::Blank)?);
         }
     }
     println!(rt; "flaws of what is read: {told} are told")

@@ -23,12 +23,15 @@ fn first(mut line: GridLineIter<'_, Counted<'_>>) -> Option<u32> {
     line.next().map(|cell| cell.value())
 }
 
-// How often a sort of so few lines may compare two of them: as often as there are lines, times the logarithm.
+// How often a sort of these many lines may compare two of them: few as often as there are lines, times the logarithm; more
+// at most each two.
 fn most_compared(lines: usize) -> u64 {
     match lines {
         0 | 1 => 0,
         2 => 2,
-        _ => 4,
+        3 => 4,
+        5 => 10,
+        _ => 28,
     }
 }
 

@@ -1,10 +1,10 @@
 //! Calls that make a board of a size and an order: of defaults, clones, what a closure makes, a vector, rows or a view.
-use crate::state::{Answer, Board, Call, Line, Start, both_came, came};
+use crate::state::{Answer, Board, Call, Line, Start, both_came, came, number};
 use grid::{Grid, GridError, GridView, ShapeError};
 use std::alloc::AllocError;
 use std::convert::TryFrom;
 use test_support::counted::Counted;
-use test_support::fixtures::Heap;
+use test_support::fixtures::{Heap, SYMMETRIES};
 
 pub const CALLS: [Call; 20] = [
     Call("Grid::new", 1, Some(1), None),
@@ -18,7 +18,7 @@ pub const CALLS: [Call; 20] = [
     Call("Grid::with_capacity", 1, Some(1), None),
     Call("Grid::with_capacity_and_order", 1, Some(1), None),
     Call("Grid::from_arrays", 1, None, None),
-    Call("Grid::from_view", 2, Some(1), None),
+    Call("Grid::from_view", 8, Some(1), None),
     Call("Grid::try_from of a vector lent", 2, Some(1), None),
     Call("Grid::try_from of rows", 1, Some(1), None),
     Call("Grid::try_from of rows of no cells", 2, Some(0), None),
@@ -40,7 +40,7 @@ fn from_fn<'a>(start: Start<'a>, name: &str) -> Answer {
             rows,
             cols,
             order,
-            |_| start.cell(1),
+            |at| start.visit(number(at)),
         )),
         "Grid::try_from_fn" => both_came(Board::try_from_fn(
             heap,
@@ -48,13 +48,10 @@ fn from_fn<'a>(start: Start<'a>, name: &str) -> Answer {
             cols,
             |_| start.try_cell(1),
         )),
-        _ => both_came(Board::try_from_fn_with_order(
-            heap,
-            rows,
-            cols,
-            order,
-            |_| start.try_cell(1),
-        )),
+        _ => both_came(Board::try_from_fn_with_order(heap, rows, cols, order, |at| {
+            start.visited(number(at));
+            start.try_cell(1)
+        })),
     }
 }
 
@@ -93,13 +90,12 @@ fn from_arrays(start: Start<'_>) -> Answer {
     came(Grid::from_arrays(start.heap, start.order, &mut slots))
 }
 
-// Of a view of the board, as it is or turned.
+// Of a view of the board, through each symmetry.
 fn from_view(start: Start<'_>, view: &GridView<'_, Counted<'_>>) -> Answer {
-    if start.case == 0 {
-        came(Grid::from_view(start.heap, start.order, view))
-    } else {
-        came(Grid::from_view(start.heap, start.order, &view.transposed()))
-    }
+    let Some(symmetry) = SYMMETRIES.get(start.case) else {
+        return Answer::Skipped;
+    };
+    came(Grid::from_view(start.heap, start.order, &view.turned(*symmetry)))
 }
 
 // Of the vector of a board, lent.
@@ -155,7 +151,7 @@ fn of_empty_rows(start: Start<'_>) -> Result<Answer, AllocError> {
 fn no_table(start: Start<'_>) -> Result<Answer, AllocError> {
     start.prepare();
     let line = start.line(1)?;
-    let mut rows = start.lines(1, 2)?;
+    let mut rows = start.lines(2, 2)?;
     rows.push(start.line(1)?)?;
     start.ready();
     let made = match start.case {

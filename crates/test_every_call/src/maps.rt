@@ -110,13 +110,17 @@ fn positions<'a>(start: Start<'a>, board: &Board<'a>) -> Answer {
 
 fn round<'a>(start: Start<'a>, board: &Board<'a>, name: &str) -> Answer {
     match name {
-        "Grid::map_neighbors4" => came(board.map_neighbors4(|_, cell, _| start.cell(cell.value()))),
-        "Grid::map_neighbors8" => came(board.map_neighbors8(|_, cell, _| start.cell(cell.value()))),
+        "Grid::map_neighbors4" => came(board.map_neighbors4(|_, cell, _| start.visit(
+            cell.value(),
+        ))),
+        "Grid::map_neighbors8" => came(board.map_neighbors8(|_, cell, _| start.visit(
+            cell.value(),
+        ))),
         "Grid::map_wrapped_neighbors4" => {
-            came(board.map_wrapped_neighbors4(|_, cell, _| start.cell(cell.value())))
+            came(board.map_wrapped_neighbors4(|_, cell, _| start.visit(cell.value())))
         }
         "Grid::map_wrapped_neighbors8" => {
-            came(board.map_wrapped_neighbors8(|_, cell, _| start.cell(cell.value())))
+            came(board.map_wrapped_neighbors8(|_, cell, _| start.visit(cell.value())))
         }
         name => counted(start, board, name),
     }
@@ -125,10 +129,13 @@ fn round<'a>(start: Start<'a>, board: &Board<'a>, name: &str) -> Answer {
 pub fn call<'a>(start: Start<'a>, board: &mut Board<'a>, name: &str) -> Result<Answer, AllocError> {
     start.ready();
     Ok(match name {
-        "Grid::map_ref" => came(board.map_ref(|cell| start.cell(cell.value()))),
-        "Grid::map_indexed" => came(board.map_indexed(|_, cell| start.cell(cell.value()))),
+        "Grid::map_ref" => came(board.map_ref(|cell| start.visit(cell.value()))),
+        "Grid::map_indexed" => came(board.map_indexed(|_, cell| start.visit(cell.value()))),
         "Grid::try_map_indexed" => {
-            both_came(board.try_map_indexed(|_, cell| start.try_cell(cell.value())))
+            both_came(board.try_map_indexed(|_, cell| {
+                start.visited(cell.value());
+                start.try_cell(cell.value())
+            }))
         }
         "Grid::positions" => positions(start, board),
         name => round(start, board, name),

@@ -69,8 +69,17 @@ fn path(start: Start<'_>, board: &Numbers<'_>) -> Answer {
     )
 }
 
+// What it costs to enter a cell: its number, or in an odd case so much that two exceed `u32::MAX`.
+fn cost_of(start: Start<'_>, cell: u32) -> u32 {
+    if start.case % 2 == 0 {
+        cell
+    } else {
+        u32::MAX.wrapping_sub(cell)
+    }
+}
+
 fn cheap_path(start: Start<'_>, board: &Numbers<'_>) -> Answer {
-    let cost = |cell: &u32| is_free(start, *cell).then_some(*cell);
+    let cost = |cell: &u32| is_free(start, *cell).then_some(cost_of(start, *cell));
     once_each(
         start,
         came(cheapest_path(board, (0, 0), end(start), steps(start), cost)),
@@ -103,7 +112,7 @@ fn searched(start: Start<'_>, board: &Numbers<'_>, name: &str) -> Answer {
             came(distances_from(board, starts(start), Steps::All, |_| free_until(3)))
         }
         _ => came(cheapest(board, (0, 0), steps(start), |cell| {
-            free_until(2).then_some(*cell)
+            free_until(2).then_some(cost_of(start, *cell))
         })),
     }
 }

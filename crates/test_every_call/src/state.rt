@@ -54,6 +54,8 @@ pub struct Start<'a> {
     pub granted: u64,
     pub calls: &'a Cell<u64>,
     pub refusals: &'a Cell<u64>,
+    pub last: &'a Cell<u64>,
+    pub strays: &'a Cell<u64>,
 }
 
 // The number of the cell at a position.
@@ -86,6 +88,26 @@ impl<'a> Start<'a> {
             self.refusals.set(self.refusals.get().wrapping_add(1));
         }
         made
+    }
+
+    // Notes that a closure is called at the cell of this number, which comes behind the last one in storage order.
+    pub fn visited(&self, number: u32) {
+        let (row, col) = (number.wrapping_sub(1) / 10, number.wrapping_sub(1) % 10);
+        let rank = match self.order {
+            Order::RowMajor => row.wrapping_mul(10).wrapping_add(col),
+            Order::ColumnMajor => col.wrapping_mul(10).wrapping_add(row),
+        };
+        let rank = u64::from(rank).wrapping_add(1);
+        if rank <= self.last.get() {
+            self.strays.set(self.strays.get().wrapping_add(1));
+        }
+        self.last.set(rank);
+    }
+
+    // The same, and makes a cell of this number.
+    pub fn visit(&self, number: u32) -> Counted<'a> {
+        self.visited(number);
+        self.cell(number)
     }
 
     // A cell that is handed over, and counted by the heap alone.

@@ -5,9 +5,9 @@ use grid_text::{from_text, from_words, to_text, to_words, try_from_words};
 use std::alloc::AllocError;
 
 pub const CALLS: [Call; 8] = [
-    Call("Grid::pretty", 3, None, None),
+    Call("Grid::pretty", 4, None, None),
     Call("grid_text::to_text", 4, None, None),
-    Call("grid_text::to_words", 1, None, None),
+    Call("grid_text::to_words", 3, None, None),
     Call("grid_text::from_text", 2, None, Some(1)),
     Call("grid_text::from_words", 2, None, Some(1)),
     Call("grid_text::try_from_words", 2, None, Some(1)),
@@ -62,11 +62,24 @@ fn words_read<'a>(start: Start<'a>, name: &str) -> Result<Answer, AllocError> {
     })
 }
 
+// The largest numbers as words, or the least ones.
+fn extremes_written<'a>(start: Start<'a>) -> Result<Answer, AllocError> {
+    let board = start.numbers()?;
+    if start.case == 1 {
+        let large = board.map_ref(|cell| u64::MAX.wrapping_sub(u64::from(*cell)))?;
+        start.ready();
+        return Ok(came(to_words(start.alloc, &large)));
+    }
+    let low = board.map_ref(|cell| i64::MIN.wrapping_add(i64::from(*cell)))?;
+    start.ready();
+    Ok(came(to_words(start.alloc, &low)))
+}
+
 fn written<'a>(start: Start<'a>, board: &Numbers<'a>, name: &str) -> Answer {
     let Start { alloc, heap, .. } = start;
     match name {
         "Grid::pretty" if start.case == 0 => came(board.pretty(heap, None)),
-        "Grid::pretty" => came(board.pretty(heap, Some(start.case))),
+        "Grid::pretty" => came(board.pretty(heap, Some(start.case.wrapping_sub(1)))),
         "grid_text::to_text" => came(to_text(alloc, board, |_| letter(start))),
         "grid_text::to_words" => came(to_words(alloc, board)),
         "grid_text::written_and_read" => came(written_and_read(
@@ -90,6 +103,7 @@ pub fn call<'a>(
     match name {
         "grid_text::from_text" => read(start),
         "grid_text::from_words" | "grid_text::try_from_words" => words_read(start, name),
+        "grid_text::to_words" if start.case > 0 => extremes_written(start),
         name => {
             let board = start.numbers()?;
             start.ready();
