@@ -5,7 +5,7 @@ use Rattle.grid_base.specs.Table.{row_count, col_count}
 use Rattle.grid_base.specs.Order.{storage, table_of}
 use Rattle.grid_base.specs.GridValue.{GridValue}
 use Rattle.grid.specs.Edits.{FitsRow, insert_rows}
-use Rattle.grid.proofs.EditViewLemmas.{table_of-storage}
+use Rattle.grid_base.proofs.ViewLemmas.{by_storage}
 
 -- rows put behind the last one
 pub put_last : {T : Type 0} (i : ℕ) (lines t : List (List T)) → i ≡ row_count t → insert_rows i lines t ≡ t ++ lines
@@ -18,7 +18,7 @@ put_last i lines t e =
 pub rows_appended : {T : Type 0} (i m n : ℕ) (cells : List T) (s t : GridValue T) → i ≡ row_count s.rows → m ≡ row_count t.rows → n ≡ col_count t.rows → t.order ≡ s.order → cells ≡ storage t.order t.rows → insert_rows i (table_of s.order m n cells) s.rows ≡ s.rows ++ t.rows
 rows_appended i m n cells s t last rows cols order e =
     let cut : table_of s.order m n cells ≡ table_of t.order (row_count t.rows) (col_count t.rows) (storage t.order t.rows) = rw (rows, cols, e, sym order) refl in
-    ap (λ v. insert_rows i v s.rows) (cut ∙ table_of-storage t.order t.rows t.table) ∙ put_last i t.rows s.rows last
+    ap (λ v. insert_rows i v s.rows) (cut ∙ sym (by_storage t.order t.rows t.table)) ∙ put_last i t.rows s.rows last
 
 -- their number of columns
 pub cols_appended : {T : Type 0} (s t : List (List T)) → FitsRow s (col_count t) → col_count (s ++ t) ≡ col_count t

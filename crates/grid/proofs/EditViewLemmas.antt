@@ -7,9 +7,9 @@ use Rattle.grid_base.specs.declared.order.Order.TheVariants.{RowMajor, ColumnMaj
 use Rattle.grid_base.specs.Table.{row, row_count, col_count, cell, IsTable, tabulate}
 use Rattle.grid_base.specs.Order.{storage, place, table_of}
 use Rattle.grid_base.specs.Groups.{Woven, Closed}
-use Rattle.grid_base.proofs.TableLemmas.{IsSize-table, IsTable-tabulate, rows-tabulate, cols-tabulate, same_cells}
-use Rattle.grid_base.proofs.ViewLemmas.{same_by_storage}
-use Rattle.grid_base.proofs.StorageLemmas.{length-storage, storage-table_of, IsFull-table_of, get-storage, place_within, has_place, get_append_left, get_append_right, get-take, get-drop, width-table_of, cell-table_of}
+use Rattle.grid_base.proofs.TableLemmas.{rows-tabulate, same_cells}
+use Rattle.grid_base.proofs.ViewLemmas.{by_storage}
+use Rattle.grid_base.proofs.StorageLemmas.{length-storage, get-storage, place_within, has_place, get_append_left, get_append_right, get-take, get-drop, width-table_of, cell-table_of}
 use Rattle.grid.specs.Edits.{insert_rows, without_rows}
 use Rattle.grid.proofs.ListEditLemmas.{get_or-same}
 use Rattle.grid.specs.RowGroups.{RowGroups}
@@ -18,14 +18,6 @@ use Rattle.grid.proofs.RowEditLemmas.{RowsWidened, rows_widened, rows_woven, tab
 place_of_line : (o : Order) (n c : ℕ) → place o 1 n 0 c ≡ c
 place_of_line RowMajor n c = omega arith
 place_of_line ColumnMajor n c = omega arith
-
--- a table is what is cut from its storage
-pub table_of-storage : {T : Type 0} (o : Order) (t : List (List T)) → IsTable t → table_of o (row_count t) (col_count t) (storage o t) ≡ t
-table_of-storage o t h =
-    let len = length-storage o t h in
-    let full = IsFull-table_of o (row_count t) (col_count t) (storage o t) len in
-    same_by_storage o (table_of o (row_count t) (col_count t) (storage o t)) t
-    (IsTable-tabulate (row_count t) (col_count t) _ (IsSize-table t h) full) h (cols-tabulate (row_count t) (col_count t) _ (IsSize-table t h) full) (storage-table_of o (row_count t) (col_count t) (storage o t) (IsSize-table t h) len)
 
 module _ {T : Type 0} where
   -- one row
@@ -57,7 +49,7 @@ module _ {T : Type 0} where
   -- and the table that is cut from them
   pub table_of-line : (o : Order) (line : List T) → 0 < length line → table_of o 1 (length line) line ≡ line ∷ []
   table_of-line o line some =
-      ap (table_of o 1 (length line)) (sym (storage-line o line some)) ∙ table_of-storage o (line ∷ []) (IsTable-line line some)
+      ap (table_of o 1 (length line)) (sym (storage-line o line some)) ∙ sym (by_storage o (line ∷ []) (IsTable-line line some))
 
   pub put_line : (i : ℕ) (line : List T) (t : List (List T)) → insert_rows i (line ∷ []) t ≡ insert t i line
   put_line i line t = append_assoc (take i t) (line ∷ []) (drop i t)

@@ -1,11 +1,11 @@
 -- The cells of a table passed row by row.
-use Rattle.std.proofs.Common.{◌≡◌, ℕ, suc, ◌+◌, ◌<◌, ◌≤◌, ◌⊎◌, inl, inr, Bool, true, false, List, [], ◌∷◌, ◌++◌, length, slice_index_or, refl, subst, sym, ◌∙◌, ap, arith, length-append}
+use Rattle.std.proofs.Common.{◌≡◌, ℕ, ◌+◌, ◌<◌, ◌≤◌, ◌⊎◌, inl, inr, Bool, true, false, List, [], ◌∷◌, ◌++◌, length, slice_index_or, refl, subst, sym, ◌∙◌, ap, arith, length-append}
 use Rattle.std.proofs.lemmas.Bool.{cases_lt}
 use Rattle.std.proofs.lemmas.List.{get_or_append_left}
 use Rattle.std.proofs.Math.Seq.{get_or-append_seam}
 use denote.Ref.{Bor}
-use Rattle.grid_base.specs.Table.{row_count, col_count, cell, InRange}
-use Rattle.grid.specs.Found.{Precedes, IsAmong, AnswersAt, IsFirst, FoundAll}
+use Rattle.grid_base.specs.Table.{row_count, col_count, InRange}
+use Rattle.grid.specs.Found.{Precedes, IsAmong, AnswersAt, FoundAll}
 
 -- P holds of the positions before (r, c)
 module _ {T : Type 0} (t : List (List T)) (P : ℕ × ℕ → Type 0) where

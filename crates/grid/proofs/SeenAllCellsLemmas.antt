@@ -3,7 +3,7 @@ use Rattle.std.proofs.Common.{◌≡◌, ℕ, zero, suc, ◌*◌, ◌<◌, List,
 use Rattle.std.specs.List.{slice_get}
 use Rattle.std.proofs.lemmas.List.{get_or-map, length-map, length-replicate}
 use Rattle.grid_base.specs.declared.order.Order.{Order}
-use Rattle.grid_base.specs.Table.{row, row_count, col_count}
+use Rattle.grid_base.specs.Table.{row}
 use Rattle.grid_base.specs.Order.{table_of, storage, place}
 use Rattle.grid_base.specs.GridValue.{GridValue, HoldsSize, SameSizeAndOrder}
 use Rattle.grid_base.proofs.TableLemmas.{same_tables, width-tabulate}

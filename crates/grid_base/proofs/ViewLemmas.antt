@@ -108,7 +108,7 @@ HoldsSize-transposed m n len h =
     }
 
 -- a table is what is cut from its storage
-by_storage : {T : Type 0} (o : Order) (t : List (List T)) → IsTable t → t ≡ table_of o (row_count t) (col_count t) (storage o t)
+pub by_storage : {T : Type 0} (o : Order) (t : List (List T)) → IsTable t → t ≡ table_of o (row_count t) (col_count t) (storage o t)
 by_storage o t h =
     sym (tabulate-cells t h)
     ∙ tabulate-same (row_count t) (col_count t) (cell t) (λ r c. slice_get (storage o t) (place o (row_count t) (col_count t) r c))

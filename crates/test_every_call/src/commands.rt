@@ -10,14 +10,14 @@ use grid_play::laws::plays_alike;
 use grid_play::{Script, ScriptFault, play};
 use std::alloc::AllocError;
 use test_support::counted::Counted;
-use test_support::fixtures::Heap;
+use test_support::fixtures::{Heap, SYMMETRIES};
 
 // How many commands are tried.
-const COMMANDS: usize = 14;
+const COMMANDS: usize = 16;
 
 pub const CALLS: [Call; 12] = [
     Call("Grid::step", COMMANDS, None, None),
-    Call("Deferred::step", 2 * COMMANDS, None, None),
+    Call("Deferred::step", 8 * COMMANDS, None, None),
     Call("grid_laws::step_by_least", COMMANDS, None, None),
     Call("grid::run", 1, None, None),
     Call("grid_deferred::run_deferred", 1, None, None),
@@ -55,6 +55,8 @@ fn command<'a>(start: Start<'a>, (rows, cols): (usize, usize)) -> Result<Given<'
         10 => Command::Set(0, 0, start.given(7)),
         11 => Command::Col(0),
         12 => Command::InsertRow(rows, start.line(fitting(cols))?),
+        13 => Command::Row(rows.saturating_sub(2)),
+        14 => Command::Col(cols.saturating_sub(2)),
         // (too long)
         _ => Command::InsertCols(0, start.lines(2, fitting(rows).saturating_add(1))?),
     })
@@ -71,12 +73,17 @@ fn stepped<'a>(start: Start<'a>, board: &mut Board<'a>, name: &str) -> Result<An
     })
 }
 
-// On the board transposed, or turned half round, which isn't applied in the end.
+// On the board through a symmetry, which isn't applied in the end. The last four exchange rows and columns.
 fn stepped_deferred<'a>(start: Start<'a>, board: &mut Board<'a>) -> Result<Answer, AllocError> {
-    let (symmetry, size) = if start.case < COMMANDS {
-        (Symmetry::Transpose, (start.size.1, start.size.0))
+    let number = start.case / COMMANDS;
+    let symmetry = SYMMETRIES
+        .get(number)
+        .copied()
+        .unwrap_or(Symmetry::Identity);
+    let size = if number < 4 {
+        start.size
     } else {
-        (Symmetry::RotateHalf, start.size)
+        (start.size.1, start.size.0)
     };
     let command = command(start, size)?;
     start.ready();

@@ -1,4 +1,4 @@
-use Rattle.std.proofs.Common.{rules, length, subst, ap}
+use Rattle.std.proofs.Common.{length, subst, ap}
 use Rattle.grid_base.specs.ClosureCalls.{CallableTimes}
 use Rattle.grid.proofs.SeenLemmas.{seen_storage}
 use Rattle.grid.proofs.SeenAllCellsLemmas.{whole_same, whole_cells}

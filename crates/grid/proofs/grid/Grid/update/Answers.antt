@@ -1,4 +1,3 @@
-use Rattle.std.proofs.Common.{rules}
 use Rattle.grid.proofs.CellCallLemmas.{seen_callable, seen_mapped}
 use Rattle.grid.proofs.SeenAllCellsLemmas.{whole_same}
 use Rattle.grid.proofs.grid.Grid.update.Goals as goal

@@ -1,4 +1,4 @@
-use Rattle.std.proofs.Common.{rules, ◌∙◌, ap}
+use Rattle.std.proofs.Common.{◌∙◌, ap}
 use Rattle.grid_near.specs.Neighbors.{wrapped_neighbors4}
 use Rattle.grid.proofs.NearLemmas.{gives_wrapped_neighbors4}
 use Rattle.grid.proofs.SeenLemmas.{seen_row_in, seen_col_in}
