@@ -122,42 +122,14 @@ fn mark_region<T: Copy + PartialEq + Drop, A: Allocator + Clone>(
     }
 }
 
-// Replaces the cells of a region by a value that equals them. Another cell of the board marks them meanwhile; where there
-// is none, the region is the board.
-fn fill_equal<T: Copy + PartialEq + Drop, A: Allocator + Clone>(
-    grid: &mut Grid<T, A>,
-    at: (usize, usize),
-    kind: Steps,
-    first: T,
-    value: T,
-) -> Result<(), AllocError>
-    requires { InRange grid.old.rows at.0 at.1 }
-    ensures same { SameSizeAndOrder grid.old grid.new }
-    ensures filled { OnOk result
-        (IsFilled kind (alike T.eq first grid.old.rows) at value grid.old.rows grid.new.rows) }
-    ensures err { OnErr result (grid.new ≡ grid.old) }
-{
-    match other_than(grid, at, first) {
-        Some(mark) => {
-            let taken = mark_region(grid, at, kind, first, mark)?;
-            fill_all(grid, &taken, value);
-            Ok(())
-        }
-        None => {
-            grid.update(|_, _| value);
-            Ok(())
-        }
-    }
-}
-
 /// Replaces the cell at a position, and those that a walk over cells equal to it leads to, by a value. The other cells
 /// stay; out of range nothing changes.
 ///
 ///     [[1, 1, 2], [2, 1, 1]]   fill_region((0, 0), Steps::Sides, 7)   [[7, 7, 2], [2, 7, 7]]
 ///
 /// Fails: if allocation fails; the grid is unchanged.
-/// Cost: at most six comparisons for each cell of the region, or ten, and a constant number of steps; memory for these
-/// cells and their positions. The rest of the board costs nothing.
+/// Cost: at most seven comparisons for each cell of the region, or eleven, and a constant number of steps; memory for these
+/// cells and their positions, unless they are the whole board. The rest of the board costs nothing.
 pub fn fill_region<T: Copy + PartialEq + Drop, A: Allocator + Clone>(
     grid: &mut Grid<T, A>,
     at: (usize, usize),
@@ -174,9 +146,17 @@ pub fn fill_region<T: Copy + PartialEq + Drop, A: Allocator + Clone>(
         Some(first) => *first,
         None => return Ok(()),
     };
-    if value == first {
-        return fill_equal(grid, at, kind, first, value);
+    match other_than(grid, at, first) {
+        // the region is the board
+        None => grid.update(|_, _| value),
+        // the value can't mark the cells that it equals
+        Some(other) if value == first => {
+            let taken = mark_region(grid, at, kind, first, other)?;
+            fill_all(grid, &taken, value);
+        }
+        Some(_) => {
+            let _taken = mark_region(grid, at, kind, first, value)?;
+        }
     }
-    let _taken = mark_region(grid, at, kind, first, value)?;
     Ok(())
 }
