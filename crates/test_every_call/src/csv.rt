@@ -10,7 +10,7 @@ pub const CALLS: [Call; 5] = [
     Call("grid_csv::to_csv", 2, None, Some(1)),
     Call("grid_csv::to_csv_with_header", 2, None, Some(1)),
     Call("grid_csv::from_csv", 3, None, Some(1)),
-    Call("grid_csv::from_csv_with_header", 1, None, Some(1)),
+    Call("grid_csv::from_csv_with_header", 2, None, Some(1)),
     Call("grid_csv::written_and_read", 1, None, None),
 ];
 
@@ -101,6 +101,15 @@ fn csv_with_header_read<'a>(start: Start<'a>) -> Result<Answer, AllocError> {
     })))
 }
 
+// A header without records.
+fn header_read<'a>(start: Start<'a>) -> Answer {
+    if start.size != (0, 0) {
+        return Answer::Skipped;
+    }
+    start.ready();
+    came(from_csv_with_header(start.alloc, b"a,b\n", |field| try_read(start, field)))
+}
+
 fn csv_written_and_read<'a>(start: Start<'a>) -> Result<Answer, AllocError> {
     let board = start.numbers()?;
     start.ready();
@@ -115,6 +124,7 @@ pub fn call(start: Start<'_>, name: &str) -> Result<Answer, AllocError> {
     match name {
         "grid_csv::from_csv" if start.case == 1 => Ok(bad_csv_read(start)),
         "grid_csv::from_csv" => csv_read(start),
+        "grid_csv::from_csv_with_header" if start.case == 1 => Ok(header_read(start)),
         "grid_csv::from_csv_with_header" => csv_with_header_read(start),
         "grid_csv::written_and_read" => csv_written_and_read(start),
         name => csv_written(start, name),

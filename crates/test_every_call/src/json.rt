@@ -10,7 +10,7 @@ pub const CALLS: [Call; 7] = [
     Call("Cell::to_cell", 1, None, None),
     Call("Cell::from_cell", 1, None, None),
     Call("grid_json::to_value", 1, None, None),
-    Call("grid_json::from_value", 4, None, None),
+    Call("grid_json::from_value", 5, None, None),
     Call("grid_json::rows_to_value", 1, None, Some(1)),
     Call("grid_json::rows_from_value", 4, None, Some(1)),
     Call("grid_json::written_and_read", 1, None, None),
@@ -56,6 +56,16 @@ fn array_read(start: Start<'_>) -> Result<Answer, AllocError> {
         items.push(Value::String(String::from_str(start.alloc, name)?))?;
     }
     let value = Value::Array(items);
+    let read: Result<Grid<u32>, _> = from_value(start.alloc, &value);
+    Ok(came(read))
+}
+
+// The board as an object without an order.
+fn object_read(start: Start<'_>) -> Result<Answer, AllocError> {
+    let mut value = to_value(start.alloc, &start.numbers()?)?;
+    if let Some(fields) = value.as_object_mut() {
+        let _order = fields.remove("order");
+    }
     let read: Result<Grid<u32>, _> = from_value(start.alloc, &value);
     Ok(came(read))
 }
@@ -133,6 +143,7 @@ fn written(start: Start<'_>, name: &str) -> Result<Answer, AllocError> {
 pub fn call(start: Start<'_>, name: &str) -> Result<Answer, AllocError> {
     match name {
         "Cell::to_cell" | "Cell::from_cell" => cells(start, name),
+        "grid_json::from_value" if start.case == 4 => object_read(start),
         "grid_json::from_value" if start.case > 0 => array_read(start),
         "grid_json::from_value" => read(start),
         "grid_json::rows_from_value" if start.case == 3 => no_cell_read(start),

@@ -14,7 +14,7 @@ pub const CALLS: [Call; 8] = [
     Call("grid_paths::cheapest_path", 5, None, None),
     Call("grid_paths::regions", 3, None, None),
     Call("grid_paths::flood", 5, None, Some(1)),
-    Call("grid_paths::fill_region", 5, None, None),
+    Call("grid_paths::fill_region", 6, None, None),
 ];
 
 // The steps of a case: to the sides, or to the corners too.
@@ -118,16 +118,20 @@ fn searched(start: Start<'_>, board: &Numbers<'_>, name: &str) -> Answer {
 }
 
 // Fills the region of the first cell with another number, or with its own. In case 3 the region is the board; in case 4
-// there is none.
+// there is none; in case 5 it is the board but for the last cell.
 fn filled(start: Start<'_>, board: &mut Numbers<'_>) -> Answer {
-    if start.case == 3 {
+    if start.case == 3 || start.case == 5 {
         board.fill_with(|| 1);
+    }
+    if start.case == 5 {
+        let (row, col) = end(start);
+        board.set(row, col, 2);
     }
     let value = if start.case == 2 { 1 } else { 99 };
     let at = if start.case == 4 { start.size } else { (0, 0) };
     let answer = came(fill_region(board, at, steps(start), value));
-    let is_unchanged = if start.case == 3 {
-        board.iter().all(|cell| *cell == 1)
+    let is_unchanged = if start.case == 3 || start.case == 5 {
+        board.iter().all(|cell| *cell < 3)
     } else {
         are_numbers(board, start.size, start.order)
     };

@@ -9,8 +9,8 @@ pub const CALLS: [Call; 8] = [
     Call("grid_text::to_text", 4, None, None),
     Call("grid_text::to_words", 3, None, None),
     Call("grid_text::from_text", 2, None, Some(1)),
-    Call("grid_text::from_words", 2, None, Some(1)),
-    Call("grid_text::try_from_words", 2, None, Some(1)),
+    Call("grid_text::from_words", 3, None, Some(1)),
+    Call("grid_text::try_from_words", 3, None, Some(1)),
     Call("grid_text::written_and_read", 1, None, None),
     Call("grid_text::numbers_written_and_read", 1, None, None),
 ];
@@ -49,7 +49,15 @@ fn number_of(word: &str) -> Option<u32> {
 
 fn words_read<'a>(start: Start<'a>, name: &str) -> Result<Answer, AllocError> {
     let written = to_words(start.alloc, &start.numbers()?)?;
-    let text = ended(start, written.as_str());
+    let mut tabbed = String::new(start.alloc);
+    for letter in written.as_str().chars() {
+        tabbed.push(if start.case == 2 && letter == ' ' {
+            '\t'
+        } else {
+            letter
+        })?;
+    }
+    let text = ended(start, tabbed.as_str());
     start.ready();
     Ok(if name == "grid_text::from_words" {
         came(from_words(start.heap, text, |word| {
