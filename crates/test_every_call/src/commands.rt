@@ -25,9 +25,9 @@ pub const CALLS: [Call; 12] = [
     Call("grid_laws::push_row_then_pop_row", 1, None, None),
     Call("grid_laws::insert_col_or_row_across", 1, None, None),
     Call("grid_laws::run_in_either_order", 1, None, None),
-    Call("Script::parse", 5, None, None),
-    Call("grid_play::play", 4, None, None),
-    Call("grid_play::plays_alike", 1, None, None),
+    Call("Script::parse", 9, None, None),
+    Call("grid_play::play", 10, None, None),
+    Call("grid_play::plays_alike", 5, None, None),
 ];
 
 type Given<'a> = Command<Counted<'a>, &'a Heap>;
@@ -130,11 +130,14 @@ fn ran<'a>(start: Start<'a>, board: &mut Board<'a>, name: &str) -> Result<Answer
     })
 }
 
-const SCRIPT: &[u8] =
-    b"ColumnMajor 2 1 3 2 4\n\npush_row 5 6\nrotate_left\nrow 0\nfill 7\npop_col\ninsert_rows 0 2 8 8 9 9\n";
-
-// A script without commands.
-const BARE_SCRIPT: &[u8] = b"RowMajor 1 5\n";
+// Scripts of all commands, one without any, and one whose commands are refused.
+const SCRIPTS: [&[u8]; 5] = [
+    b"ColumnMajor 2 1 3 2 4\n\npush_row 5 6\nrotate_left\nrow 0\nfill 7\npop_col\ninsert_rows 0 2 8 8 9 9\n",
+    b"RowMajor 1 5\n",
+    b"RowMajor 0\nsize\npush_col 1 2 3\ninsert_cols 1 3 4 5 6 7 8 9\nremove_row 1\nremove_col 0\nexpand_cols 2\nprepend_rows 1\nset 0 0 -9\nget 0 0\nswap 0 0 1 1\ncol 0\nrow 1\ndelete_row 0\ndelete_cols 0 1\ninsert_rows 0 1 5\n",
+    b"ColumnMajor 3 1 2 3 4 5 6\nidentity\nflip_cols\nflip_rows\nrotate_half\ntranspose\nrotate_right\nanti_transpose\npop_row\nexpand_rows 1\nprepend_cols 2\npush_col 1 2\ninsert_row 1 7 7 7\ninsert_col 0 8 8\ndelete_rows 0 1\ndelete_col 0\nclear\nsize\n",
+    b"RowMajor 1 5\nget 9 9\nset 9 9 1\nrow 9\npush_row 1 2\nremove_row 9\npop_row\npop_row\n",
+];
 
 // Scripts with a fault behind something that was read: a line that isn't a command, one whose cells can't be cut, a cell
 // that isn't a number, and cells that can't be cut into rows.
@@ -152,7 +155,7 @@ const BAD_SCRIPTS: [(&[u8], ScriptFault); 4] = [
 ];
 
 fn bad_parsed(start: Start<'_>) -> Answer {
-    let Some((script, wanted)) = BAD_SCRIPTS.get(start.case.wrapping_sub(1)) else {
+    let Some((script, wanted)) = BAD_SCRIPTS.get(start.case.wrapping_sub(5)) else {
         return Answer::Wrong;
     };
     match Script::parse(start.heap, *script) {
@@ -162,21 +165,24 @@ fn bad_parsed(start: Start<'_>) -> Answer {
     }
 }
 
+fn script(number: usize) -> &'static [u8] {
+    SCRIPTS.get(number).copied().unwrap_or(b"")
+}
+
 fn played(start: Start<'_>, name: &str) -> Answer {
     if start.size != (1, 1) || start.order == Order::ColumnMajor {
         return Answer::Skipped;
     }
     match name {
-        "Script::parse" if start.case > 0 => bad_parsed(start),
-        "Script::parse" => came(Script::parse(start.heap, SCRIPT)),
-        "grid_play::play" if start.case < 2 => came(play(start.heap, SCRIPT, start.case == 1)),
-        "grid_play::play" => came(play(start.heap, BARE_SCRIPT, start.case == 3)),
+        "Script::parse" if start.case > 4 => bad_parsed(start),
+        "Script::parse" => came(Script::parse(start.heap, script(start.case))),
+        "grid_play::play" => came(play(start.heap, script(start.case / 2), start.case % 2 == 1)),
         _ => played_alike(start),
     }
 }
 
 fn played_alike(start: Start<'_>) -> Answer {
-    let (at_once, deferred) = plays_alike((start.heap, start.heap), SCRIPT);
+    let (at_once, deferred) = plays_alike((start.heap, start.heap), script(start.case));
     match came(at_once) {
         Answer::Done => came(deferred),
         answer => answer,

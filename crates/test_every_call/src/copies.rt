@@ -1,17 +1,18 @@
 //! Calls that copy cells of a board, and calls that write cells over.
 use crate::state::{Answer, Board, Call, Start, came};
-use grid::{Grid, GridError, Order, Symmetry};
+use grid::{Grid, GridError, Order};
 use std::alloc::AllocError;
 use std::cell::Cell;
+use test_support::fixtures::SYMMETRIES;
 
 pub const CALLS: [Call; 13] = [
     Call("Grid::clone", 1, Some(1), None),
     Call("Clone::clone of a grid", 1, Some(1), None),
     Call("Grid::sub_grid", 5, None, None),
-    Call("GridView::to_vec", 5, Some(1), None),
+    Call("GridView::to_vec", 8, Some(1), None),
     Call("Grid::fill", 1, Some(1), None),
     Call("Grid::fill_part", 4, None, None),
-    Call("Grid::paste", 3, None, None),
+    Call("Grid::paste", 5, None, None),
     Call("Grid::paste_clipped", 7, None, None),
     Call("Grid::fill_with", 1, Some(0), Some(1)),
     Call("Grid::update", 1, Some(0), Some(1)),
@@ -68,12 +69,14 @@ fn fill_part<'a>(start: Start<'a>, board: &mut Board<'a>) -> Answer {
     came(board.fill_part(at, size, start.given(9)))
 }
 
-// Pastes a board of this size at the first cell.
+// Pastes nothing, a cell, the board, its first column or its first row at the first cell.
 fn paste<'a>(start: Start<'a>, board: &mut Board<'a>) -> Result<Answer, AllocError> {
     let (rows, cols) = board.size();
     let (high, wide) = match start.case {
         0 => (0, 0),
         1 => (rows.min(1), cols.min(1)),
+        3 => (rows, cols.min(1)),
+        4 => (rows.min(1), cols),
         _ => (rows, cols),
     };
     let pasted = start.board((high, wide), Order::RowMajor)?;
@@ -177,16 +180,17 @@ fn written<'a>(start: Start<'a>, board: &mut Board<'a>, name: &str) -> Answer {
     }
 }
 
-// Clones of a view: as it is, transposed, turned half round, and with the rows or the columns flipped.
+// Clones of the board through each symmetry.
 fn to_vec<'a>(start: Start<'a>, board: &Board<'a>) -> Answer {
-    let view = match start.case {
-        0 => board.view(),
-        1 => board.view().transposed(),
-        2 => board.view().turned(Symmetry::RotateHalf),
-        3 => board.view().turned(Symmetry::FlipRows),
-        _ => board.view().turned(Symmetry::FlipCols),
+    let Some(symmetry) = SYMMETRIES.get(start.case) else {
+        return Answer::Skipped;
     };
-    came(view.to_vec(start.heap, start.order))
+    came(
+        board
+            .view()
+            .turned(*symmetry)
+            .to_vec(start.heap, start.order),
+    )
 }
 
 fn copied<'a>(start: Start<'a>, board: &mut Board<'a>, name: &str) -> Answer {

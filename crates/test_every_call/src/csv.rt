@@ -7,9 +7,9 @@ use std::alloc::AllocError;
 use test_support::counted::Counted;
 
 pub const CALLS: [Call; 5] = [
-    Call("grid_csv::to_csv", 2, None, Some(1)),
-    Call("grid_csv::to_csv_with_header", 2, None, Some(1)),
-    Call("grid_csv::from_csv", 3, None, Some(1)),
+    Call("grid_csv::to_csv", 3, None, Some(1)),
+    Call("grid_csv::to_csv_with_header", 3, None, Some(1)),
+    Call("grid_csv::from_csv", 5, None, Some(1)),
     Call("grid_csv::from_csv_with_header", 2, None, Some(1)),
     Call("grid_csv::written_and_read", 1, None, None),
 ];
@@ -47,11 +47,11 @@ fn csv_written<'a>(start: Start<'a>, name: &str) -> Result<Answer, AllocError> {
     start.ready();
     let write = |cell: &u32, field: &mut String| {
         start.called();
-        if start.case == 0 {
-            put(cell, field)
-        } else {
-            // (an empty field)
-            Ok(())
+        match start.case {
+            0 => put(cell, field),
+            // (a field that is quoted, and an empty one)
+            1 => field.push_str("a, \"b\"\n"),
+            _ => Ok(()),
         }
     };
     if name == "grid_csv::to_csv" {
@@ -101,6 +101,17 @@ fn csv_with_header_read<'a>(start: Start<'a>) -> Result<Answer, AllocError> {
     })))
 }
 
+// Four quoted fields and line ends of two bytes, or a field behind a byte order mark.
+fn quoted_read<'a>(start: Start<'a>) -> Answer {
+    let sheet: &[u8] = match start.size {
+        (2, 2) if start.case == 3 => b"\"1\",\"2\"\r\n3,\"4\"",
+        (1, 1) if start.case == 4 => b"\xef\xbb\xbf5\n",
+        _ => return Answer::Skipped,
+    };
+    start.ready();
+    came(from_csv(start.alloc, sheet, |field| try_read(start, field)))
+}
+
 // A header without records.
 fn header_read<'a>(start: Start<'a>) -> Answer {
     if start.size != (0, 0) {
@@ -123,6 +134,7 @@ pub fn call(start: Start<'_>, name: &str) -> Result<Answer, AllocError> {
     }
     match name {
         "grid_csv::from_csv" if start.case == 1 => Ok(bad_csv_read(start)),
+        "grid_csv::from_csv" if start.case > 2 => Ok(quoted_read(start)),
         "grid_csv::from_csv" => csv_read(start),
         "grid_csv::from_csv_with_header" if start.case == 1 => Ok(header_read(start)),
         "grid_csv::from_csv_with_header" => csv_with_header_read(start),

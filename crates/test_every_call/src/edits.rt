@@ -7,23 +7,23 @@ use test_support::line_edits::{LineAt, insert, insert_several, push_col, push_ro
 pub const CALLS: [Call; 19] = [
     Call("Grid::push_row", 1, None, None),
     Call("Grid::push_col", 1, None, None),
-    Call("Grid::insert_row", 2, None, None),
-    Call("Grid::insert_col", 2, None, None),
-    Call("Grid::insert_rows", 6, None, None),
-    Call("Grid::insert_cols", 6, None, None),
+    Call("Grid::insert_row", 4, None, None),
+    Call("Grid::insert_col", 4, None, None),
+    Call("Grid::insert_rows", 9, None, None),
+    Call("Grid::insert_cols", 9, None, None),
     Call("Grid::pop_row", 1, Some(1), None),
     Call("Grid::pop_col", 1, Some(1), None),
-    Call("Grid::remove_row", 4, None, None),
-    Call("Grid::remove_col", 4, None, None),
+    Call("Grid::remove_row", 9, None, None),
+    Call("Grid::remove_col", 9, None, None),
     Call("Grid::expand_rows", 3, None, None),
     Call("Grid::expand_cols", 3, None, None),
     Call("Grid::prepend_rows", 3, None, None),
     Call("Grid::prepend_cols", 3, None, None),
     Call("Grid::append_rows", 4, None, None),
     Call("Grid::append_cols", 4, None, None),
-    Call("Grid::split_off_rows", 4, None, None),
-    Call("Grid::split_off_cols", 4, None, None),
-    Call("Grid::resize", 6, None, None),
+    Call("Grid::split_off_rows", 9, None, None),
+    Call("Grid::split_off_cols", 9, None, None),
+    Call("Grid::resize", 9, None, None),
 ];
 
 // The length of a line that fits: as the board's, or two cells for an empty board.
@@ -59,7 +59,7 @@ fn col_pushed<'a>(start: Start<'a>, board: &mut Board<'a>) -> Result<Answer, All
     Ok(line_came(push_col(board, line), len))
 }
 
-// No line of this length, one or two, put before the first line or behind the last.
+// No line of this length, one or two, put before the first line, behind the last, or between.
 fn several_put<'a>(
     start: Start<'a>,
     board: &mut Board<'a>,
@@ -137,7 +137,10 @@ fn resized<'a>(start: Start<'a>, board: &mut Board<'a>) -> Answer {
         2 => (2, 2),
         3 => (3, 3),
         4 => (4, 1),
-        _ => (1, 4),
+        5 => (1, 4),
+        6 => start.size,
+        7 => (start.size.0.saturating_add(1), start.size.1),
+        _ => (start.size.0, start.size.1.saturating_add(1)),
     };
     start.ready();
     came(board.resize(rows, cols))
@@ -182,7 +185,11 @@ fn joined_or_split<'a>(
 
 pub fn call<'a>(start: Start<'a>, board: &mut Board<'a>, name: &str) -> Result<Answer, AllocError> {
     let (rows, cols) = start.size;
-    let at = if start.case < 3 { (0, 0) } else { start.size };
+    let at = match start.case / 3 {
+        0 => (0, 0),
+        1 => start.size,
+        _ => (rows / 2, cols / 2),
+    };
     match name {
         "Grid::push_row" => row_pushed(start, board),
         "Grid::push_col" => col_pushed(start, board),

@@ -7,8 +7,8 @@ use serde_json::Value;
 use std::alloc::AllocError;
 
 pub const CALLS: [Call; 7] = [
-    Call("Cell::to_cell", 1, None, None),
-    Call("Cell::from_cell", 1, None, None),
+    Call("Cell::to_cell", 4, None, None),
+    Call("Cell::from_cell", 4, None, None),
     Call("grid_json::to_value", 1, None, None),
     Call("grid_json::from_value", 5, None, None),
     Call("grid_json::rows_to_value", 1, None, Some(1)),
@@ -16,13 +16,22 @@ pub const CALLS: [Call; 7] = [
     Call("grid_json::written_and_read", 1, None, None),
 ];
 
-// Each cell of the board as a value, and back.
+// A cell as a value, and back.
+fn cell<T: Cell>(start: Start<'_>, name: &str, cell: &T) -> Answer {
+    match cell.to_cell(start.alloc) {
+        Ok(value) if name == "Cell::from_cell" => came(T::from_cell(start.alloc, &value)),
+        value => came(value),
+    }
+}
+
+// Each cell of the board as a number, a large or a negative one, or a text.
 fn cells(start: Start<'_>, name: &str) -> Result<Answer, AllocError> {
-    for cell in start.numbers()?.iter() {
-        let value = cell.to_cell(start.alloc);
-        let answer = match value {
-            Ok(value) if name == "Cell::from_cell" => came(u32::from_cell(start.alloc, &value)),
-            value => came(value),
+    for number in start.numbers()?.iter() {
+        let answer = match start.case {
+            0 => cell(start, name, number),
+            1 => cell(start, name, &u64::MAX.wrapping_sub(u64::from(*number))),
+            2 => cell(start, name, &i64::MIN.wrapping_add(i64::from(*number))),
+            _ => cell(start, name, &String::from_str(start.alloc, "a text")?),
         };
         if answer != Answer::Done {
             return Ok(answer);

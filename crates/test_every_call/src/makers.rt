@@ -18,7 +18,7 @@ pub const CALLS: [Call; 20] = [
     Call("Grid::with_capacity", 1, Some(1), None),
     Call("Grid::with_capacity_and_order", 1, Some(1), None),
     Call("Grid::from_arrays", 1, None, None),
-    Call("Grid::from_view", 8, Some(1), None),
+    Call("Grid::from_view", 16, Some(1), None),
     Call("Grid::try_from of a vector lent", 2, Some(1), None),
     Call("Grid::try_from of rows", 1, Some(1), None),
     Call("Grid::try_from of rows of no cells", 2, Some(0), None),
@@ -90,12 +90,20 @@ fn from_arrays(start: Start<'_>) -> Answer {
     came(Grid::from_arrays(start.heap, start.order, &mut slots))
 }
 
-// Of a view of the board, through each symmetry.
+// Of a view of the board through each symmetry, or, in the other order than that of the board, of its last column.
 fn from_view(start: Start<'_>, view: &GridView<'_, Counted<'_>>) -> Answer {
-    let Some(symmetry) = SYMMETRIES.get(start.case) else {
+    let Some(symmetry) = SYMMETRIES.get(start.case % 8) else {
         return Answer::Skipped;
     };
-    came(Grid::from_view(start.heap, start.order, &view.turned(*symmetry)))
+    if start.case < 8 {
+        return came(Grid::from_view(start.heap, start.order, &view.turned(*symmetry)));
+    }
+    let (rows, cols) = view.size();
+    if cols == 0 {
+        return Answer::Skipped;
+    }
+    let last = view.part((0, cols - 1), (rows, 1));
+    came(Grid::from_view(start.heap, start.order.flipped(), &last.turned(*symmetry)))
 }
 
 // Of the vector of a board, lent.

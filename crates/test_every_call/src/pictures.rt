@@ -6,8 +6,8 @@ use std::alloc::AllocError;
 
 pub const CALLS: [Call; 8] = [
     Call("grid_pnm::read_header", 1, None, None),
-    Call("grid_pnm::from_pgm", 10, None, None),
-    Call("grid_pnm::from_ppm", 10, None, None),
+    Call("grid_pnm::from_pgm", 11, None, None),
+    Call("grid_pnm::from_ppm", 11, None, None),
     Call("grid_pnm::to_pgm", 1, None, Some(1)),
     Call("grid_pnm::to_ppm", 1, None, Some(1)),
     Call("grid_pnm::pgm_written_and_read", 1, None, None),
@@ -36,8 +36,9 @@ fn color_read(start: Start<'_>) -> Result<Answer, AllocError> {
 }
 
 // Pictures, gray and colored: in decimals good ones of one row and of one column, and in bytes a good one; the last sample
-// above the greatest, in decimals and in bytes; and no number; good ones whose greatest sample is 1, and 255.
-const GRAY: [&[u8]; 9] = [
+// above the greatest, in decimals and in bytes; and no number; good ones whose greatest sample is 1, and 255;
+// one with a comment.
+const GRAY: [&[u8]; 10] = [
     b"P2 2 1 9 7 9",
     b"P2 1 2 9 7 9",
     b"P5 2 1 9 \x07\x09",
@@ -47,9 +48,10 @@ const GRAY: [&[u8]; 9] = [
     b"P2 2 1 1 1 0",
     b"P5 2 1 1 \x01\x00",
     b"P5 1 1 255 \xff",
+    b"P2 # two\n2 1\n9\n7 9\n",
 ];
 
-const COLORED: [&[u8]; 9] = [
+const COLORED: [&[u8]; 10] = [
     b"P3 1 2 9 1 2 3 4 5 6",
     b"P3 2 1 9 1 2 3 4 5 6",
     b"P6 1 2 9 \x01\x02\x03\x04\x05\x09",
@@ -59,9 +61,10 @@ const COLORED: [&[u8]; 9] = [
     b"P3 1 1 1 1 0 1",
     b"P6 1 1 1 \x01\x00\x01",
     b"P6 1 1 255 \xff\x00\x7f",
+    b"P3 # one\n1 1\n9\n7 8 9\n",
 ];
 
-fn picture(pictures: [&'static [u8]; 9], start: Start<'_>) -> &'static [u8] {
+fn picture(pictures: [&'static [u8]; 10], start: Start<'_>) -> &'static [u8] {
     pictures
         .get(start.case.wrapping_sub(1))
         .copied()
