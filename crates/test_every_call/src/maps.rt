@@ -99,6 +99,7 @@ fn positions<'a>(start: Start<'a>, board: &Board<'a>) -> Answer {
     let cells = start.size.0.wrapping_mul(start.size.1) as u64;
     came(board.positions(start.heap, |cell| {
         start.called();
+        start.visited_by_rows(cell.value());
         match start.case {
             0 => true,
             1 => false,

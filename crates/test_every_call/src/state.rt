@@ -93,11 +93,15 @@ impl<'a> Start<'a> {
     // Notes that a closure is called at the cell of this number, which comes behind the last one in storage order.
     pub fn visited(&self, number: u32) {
         let (row, col) = (number.wrapping_sub(1) / 10, number.wrapping_sub(1) % 10);
-        let rank = match self.order {
-            Order::RowMajor => row.wrapping_mul(10).wrapping_add(col),
-            Order::ColumnMajor => col.wrapping_mul(10).wrapping_add(row),
-        };
-        let rank = u64::from(rank).wrapping_add(1);
+        self.visited_by_rows(match self.order {
+            Order::RowMajor => number,
+            Order::ColumnMajor => col.wrapping_mul(10).wrapping_add(row).wrapping_add(1),
+        });
+    }
+
+    // The same, of the next one row by row.
+    pub fn visited_by_rows(&self, number: u32) {
+        let rank = u64::from(number);
         if rank <= self.last.get() {
             self.strays.set(self.strays.get().wrapping_add(1));
         }

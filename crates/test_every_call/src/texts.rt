@@ -8,9 +8,9 @@ pub const CALLS: [Call; 8] = [
     Call("Grid::pretty", 4, None, None),
     Call("grid_text::to_text", 4, None, None),
     Call("grid_text::to_words", 3, None, None),
-    Call("grid_text::from_text", 2, None, Some(1)),
-    Call("grid_text::from_words", 3, None, Some(1)),
-    Call("grid_text::try_from_words", 3, None, Some(1)),
+    Call("grid_text::from_text", 3, None, Some(1)),
+    Call("grid_text::from_words", 4, None, Some(1)),
+    Call("grid_text::try_from_words", 4, None, Some(1)),
     Call("grid_text::written_and_read", 1, None, None),
     Call("grid_text::numbers_written_and_read", 1, None, None),
 ];
@@ -28,6 +28,19 @@ fn ended<'t>(start: Start<'_>, text: &'t str) -> &'t str {
         text.trim_end()
     } else {
         text
+    }
+}
+
+// Two lines without characters, or of a blank and a tab.
+fn blank_read<'a>(start: Start<'a>, name: &str) -> Answer {
+    if start.size != (0, 0) {
+        return Answer::Skipped;
+    }
+    start.ready();
+    match name {
+        "grid_text::from_text" => came(from_text(start.heap, "\n\n", |_| Some(start.cell(1)))),
+        "grid_text::from_words" => came(from_words(start.heap, " \n\t\n", |_| Some(start.cell(1)))),
+        _ => came(try_from_words(start.heap, " \n\t\n", |_| { Ok(Some(start.try_cell(1)?)) })),
     }
 }
 
@@ -109,6 +122,10 @@ pub fn call<'a>(
     name: &str,
 ) -> Result<Answer, AllocError> {
     match name {
+        "grid_text::from_text" if start.case == 2 => Ok(blank_read(start, name)),
+        "grid_text::from_words" | "grid_text::try_from_words" if start.case == 3 => {
+            Ok(blank_read(start, name))
+        }
         "grid_text::from_text" => read(start),
         "grid_text::from_words" | "grid_text::try_from_words" => words_read(start, name),
         "grid_text::to_words" if start.case > 0 => extremes_written(start),
