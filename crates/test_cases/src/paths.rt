@@ -67,6 +67,8 @@ fn requests(call: &str, wanted: &str) -> u64 {
     match call {
         "shortest_path" if wanted != ".\n" => 4,
         "regions" => 4,
+        // (the region is the board)
+        "fill_region" if wanted.chars().all(|letter| letter == 'x' || letter == '\n') => 0,
         "fill_region" => growths(marks),
         "flood" if marks > 0 => growths(marks).saturating_add(2),
         "flood" => 1,
