@@ -3,12 +3,12 @@ use Rattle.std.specs.Prelude.{ℕ, Bool, ◌&&◌, ◌||◌, ◌==◌, Option, L
 use Rattle.grid_base.specs.Table.{row_count, col_count, cell, tabulate}
 use Rattle.grid_near.specs.Neighbors.{wrapped_neighbors8}
 
--- whether a cell is live in the next generation: with three live neighbours, or with two if it is
+-- whether a cell is live in the next generation: with three live neighbors, or with two if it is
 -- live
 abbrev pub rule : Bool → ℕ → Bool
 rule live near = (near == 3) || (live && (near == 2))
 
--- how many of the eight neighbours of a cell are live
+-- how many of the eight neighbors of a cell are live
 abbrev pub live_neighbors : List (List Bool) → ℕ → ℕ → ℕ
 live_neighbors t r c = count_by (λ near. near.1) (wrapped_neighbors8 t r c)
 

@@ -73,7 +73,7 @@ impl<T, A: Allocator> Grid<T, A> {
         self.flat.fill_with(f);
     }
 
-    /// Returns the grid of what the closure returns at each cell, called in storage order. The size and the order are
+    /// Returns the grid of what the closure, called in storage order, returns for each cell. The size and the order are
     /// the same.
     ///
     ///     [[1, 2], [3, 4]]   map(|x| x * 10)   [[10, 20], [30, 40]]
@@ -114,8 +114,8 @@ impl<T, A: Allocator> Grid<T, A> {
         }
     }
 
-    /// Returns the grid of what the closure returns at a reference to each cell, called in storage order. The size and
-    /// the order are the same.
+    /// Returns the grid of what the closure, called in storage order, returns for a reference to each cell. The size
+    /// and the order are the same.
     ///
     ///     [[1, 2], [3, 4]]   map_ref(|x| *x * 10)   [[10, 20], [30, 40]]
     ///
@@ -139,8 +139,8 @@ impl<T, A: Allocator> Grid<T, A> {
         })
     }
 
-    /// Returns the grid of what the closure returns at each position and a reference to the cell there, called in storage
-    /// order. The size and the order are the same.
+    /// Returns the grid of what the closure, called in storage order, returns for each position and a reference to the
+    /// cell there. The size and the order are the same.
     ///
     ///     [[1, 2], [3, 4]]   map_indexed(|(row, col), x| row * 10 + col + *x)   [[1, 3], [13, 15]]
     ///

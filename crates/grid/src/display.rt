@@ -32,7 +32,7 @@ impl<T: fmt::Display, A: Allocator> Grid<T, A> {
     }
 }
 
-/// Writes each row as a line: the text of each cell, with a space between two. There is no line end behind the last
+/// Writes each row as a line: the text of each cell, with a space between two. There is no line end after the last
 /// row, and the empty grid writes nothing. The text is the same in either order.
 ///
 ///     [[1, 20], [3, 4]]   {}   "1 20\n3 4"

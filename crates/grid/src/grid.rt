@@ -195,7 +195,7 @@ impl<T, A: Allocator> Grid<T, A> {
     ///     [[1, 2], [3, 4]]   get_unchecked(0, 1)   2
     ///
     /// Requires: both are in range.
-    /// Cost: constant; the range isn't tested when it runs.
+    /// Cost: constant; nothing is checked at run time.
     pub fn get_unchecked(&self, row: usize, col: usize) -> &T
         requires { InRange self.now.rows row col }
         ensures { cell self.now.rows row col ≡ Some result.now }
@@ -209,7 +209,7 @@ impl<T, A: Allocator> Grid<T, A> {
     ///     [[1, 2], [3, 4]]   *get_unchecked_mut(0, 1) = 9   [[1, 9], [3, 4]]
     ///
     /// Requires: both are in range.
-    /// Cost: constant; the range isn't tested when it runs.
+    /// Cost: constant; nothing is checked at run time.
     pub fn get_unchecked_mut(&mut self, row: usize, col: usize) -> &mut T
         requires { InRange self.old.rows row col }
         ensures* writes_back { sem 𝓛

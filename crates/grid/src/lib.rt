@@ -14,11 +14,12 @@
 //!
 //! The calls of [`Grid`] by theme:
 //!
-//! - make one: `empty`; `new`, `init`, `from_fn`, `with_capacity`, `from_vec`, `from_arrays`, each in either order;
-//!   `grid!`, `grid_cm!`; `TryFrom` a vector and a number of columns, or a list of rows
-//! - read: `size`, `rows`, `cols`, `order`, `is_empty`, `get`, `get_unchecked`, `grid[(row, col)]`, `flatten`,
-//!   `into_vec`
-//! - write: `set`, `get_mut`, `get_unchecked_mut`, `grid[(row, col)] = x`, `swap`, `fill`, `fill_with`, `clear`
+//! - make one: `empty`; `new`, `init`, `from_fn`, `try_from_fn`, `with_capacity`, `from_vec`, `from_arrays`, each in
+//!   either order; `grid!`, `grid_cm!`; `TryFrom` a vector and a number of columns, or a list of rows
+//! - read: `size`, `rows`, `cols`, `order`, `is_empty`, `get`, `get_at`, `get_unchecked`, `grid[(row, col)]`, `flatten`,
+//!   `as_slice`, `into_vec`; `contains`, `position`, `positions`, `beside`; `can_cut`, `fits_row`, `fits_col`, `allocator`
+//! - write: `set`, `set_at`, `get_mut`, `get_mut_at`, `get_unchecked_mut`, `grid[(row, col)] = x`, `as_mut_slice`, `swap`,
+//!   `fill`, `fill_with`, `clear`
 //! - rows and columns: `push_*`, `insert_*`, `pop_*`, `remove_*`, `delete_*`, `expand_*`, `prepend_*`, `append_*`,
 //!   `split_off_*`, `resize`
 //! - iterate: `iter`, `iter_row`, `iter_col` and their forms for writing, `iter_rows`, `iter_cols`, `indexed_iter`,
@@ -29,9 +30,11 @@
 //! - views, which copy no cell: `view` and `part`, and `turned`, `get`, `iter_row` and more on a [`GridView`]
 //! - parts: `sub_grid`, `from_view`, `paste`, `paste_copied`, `paste_clipped`, `fill_part`, `update_part`, `swap_rows`,
 //!   `swap_cols`
-//! - the whole grid: `map`, `map_ref`, `map_indexed`, `update`, `clone`, `==`, `Hash`, `Debug`, `Display`, `pretty`
-//! - turn: `transpose`, `flip_rows`, `flip_cols`, `rotate_left`, `rotate_right`, `rotate_half`, and `apply` of a
-//!   [`Symmetry`], one of [`Symmetry::ALL`], to which [`reduce`] brings a list of [`Move`]s; `lay_out` in an order
+//! - the whole grid: `map`, `map_ref`, `map_indexed`, `try_map_indexed`, `update`, `clone`, `==`, `Hash`, `Debug`,
+//!   `Display`, `pretty`
+//! - turn: `transpose`, `flip_rows`, `flip_cols`, `rotate_left`, `rotate_right`, `rotate_half`; `apply` and
+//!   `apply_counted` of a [`Symmetry`], one of [`Symmetry::ALL`], to which [`reduce`] brings a list of [`Move`]s;
+//!   `lay_out` in an order
 //! - commands as data: [`Command`], `step`, [`run`]
 #![tactic(auto)]
 

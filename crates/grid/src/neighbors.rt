@@ -18,7 +18,7 @@ use std::alloc::{AllocError, Allocator};
 
 impl<T, A: Allocator> Grid<T, A> {
     /// Returns an iterator over the cells that share a side with the cell at this position, row by row, each with its
-    /// own.
+    /// position.
     ///
     ///     [[1, 2, 3], [4, 5, 6]]   neighbors4((0, 2))   ((0, 1), 2), ((1, 2), 6)
     ///
@@ -33,7 +33,7 @@ impl<T, A: Allocator> Grid<T, A> {
     }
 
     /// Returns an iterator over the cells that touch the cell at this position, at a side or a corner, row by row, each with
-    /// its own.
+    /// its position.
     ///
     ///     [[1, 2, 3], [4, 5, 6]]   neighbors8((0, 2))   ((0, 1), 2), ((1, 1), 5), ((1, 2), 6)
     ///
@@ -100,8 +100,8 @@ impl<T, A: Allocator> Grid<T, A> {
         )
     }
 
-    /// Returns the grid of what the closure returns at each position, a reference to the cell there, and the iterator that
-    /// [`neighbors8`](Grid::neighbors8) gives, called in storage order. The size and the order are the same.
+    /// Returns the grid of what the closure, called in storage order, returns for each position, a reference to the
+    /// cell there, and the iterator that [`neighbors8`](Grid::neighbors8) gives. The size and the order are the same.
     ///
     ///     [[1, 2, 3], [4, 5, 6]]   map_neighbors8(|_, x, near| near.fold(*x, |sum, (_, y)| sum + *y))
     ///                              [[12, 21, 16], [12, 21, 16]]

@@ -101,7 +101,7 @@ impl<T: Whole, A: Allocator> Grid<T, A> {
     ///                                               ]
     ///     []                  pretty(alloc, None)   []
     ///
-    /// There is no line end behind the last bracket.
+    /// There is no line end after the last bracket.
     /// Fails: if allocation fails.
     /// Cost: each number is written once, and without a width once more to be measured.
     pub fn pretty<B: Allocator>(

@@ -1,4 +1,4 @@
--- What the callers compute of a cell and its neighbours.
+-- What the callers compute of a cell and its neighbors.
 use Rattle.std.specs.Prelude.{
   ℕ,
   zero,
@@ -44,7 +44,7 @@ module _ (t : List (List Bool)) where
   live_in_three r c = weight (cell t r (before (col_count t) c)) + weight (cell t r c)
       + weight (cell t r (after (col_count t) c))
 
-  -- how many of a cell and its eight neighbours are live
+  -- how many of a cell and its eight neighbors are live
   abbrev pub live_around : ℕ → ℕ → ℕ
   live_around r c = live_in_three (before (row_count t) r) c + live_in_three r c
       + live_in_three (after (row_count t) r) c

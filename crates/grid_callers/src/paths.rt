@@ -39,15 +39,15 @@ pub fn steps_of_kings(
 pub fn paint(
     picture: &mut Grid<u8>,
     at: (usize, usize),
-    colour: u8,
+    color: u8,
     other: (usize, usize),
 ) -> Result<u8, AllocError>
     requires { InRange picture.old.rows other.0 other.1 }
     ensures { OnOk result ((x : ℕ) → cell picture.old.rows at.0 at.1 ≡ Some x
-        → IsFilled Sides (passing (λ y. y == x) picture.old.rows) at colour
+        → IsFilled Sides (passing (λ y. y == x) picture.old.rows) at color
         picture.old.rows picture.new.rows) }
 {
-    fill_region(picture, at, Steps::Sides, colour)?;
+    fill_region(picture, at, Steps::Sides, color)?;
     Ok(picture[other])
 }
 

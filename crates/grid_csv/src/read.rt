@@ -14,7 +14,7 @@ use std::alloc::{AllocError, Global};
 use std::str;
 
 /// Returns the row-major grid of the records: each record is a row, and `read` says which cell a field is, or `None`
-/// where it is none. A field that isn't UTF-8 isn't a cell.
+/// where it isn't one. A field that isn't UTF-8 isn't a cell.
 ///
 ///     from_csv(alloc, b"1,\"2\"\n3,4\n", |field| Ok(field.parse::<i64>().ok()))   [[1, 2], [3, 4]]
 ///

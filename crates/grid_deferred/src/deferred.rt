@@ -132,7 +132,7 @@ impl<'a, T, A: Allocator> Deferred<'a, T, A> {
 
     /// Returns the cell in a row and a column as seen through the pending symmetry, or `None` where there is none.
     ///
-    ///     [[1, 2]] with FlipCols pending   get(0, 0)   2
+    ///     [[1, 2]] with FlipCols pending   get(0, 0)   Some(2)
     ///
     /// Cost: constant; no cell moves.
     pub fn get(&self, row: usize, col: usize) -> Option<&T>

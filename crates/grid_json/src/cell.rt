@@ -27,7 +27,7 @@ pub trait Cell: Drop {
         ensures written { IfOk result (λ value. view value ≡ written (content self.now)) }
         ensures read { IfOk result (λ value. read (view value) ≡ Some (content self.now)) };
 
-    /// Returns the cell that a JSON value is, or `None` where it is none. A number is a cell exactly in the range of
+    /// Returns the cell that a JSON value is, or `None` where it isn't one. A number is a cell exactly in the range of
     /// the type: 0 and 255 are a `u8`, and 256, -1 and 1.0 are not.
     ///
     /// Fails: if allocation fails.

@@ -1,5 +1,5 @@
 //! Rows as JSON that other programs read: an array of arrays.
-ghost use Rattle.std.specs.Prelude.{List, Option, IfOk, MatchResult};
+ghost use Rattle.std.specs.Prelude.{Option, IfOk, MatchResult};
 ghost use Rattle.serde_json.specs.Data.{Data};
 ghost use Rattle.serde_json.specs.View.{view};
 ghost use Rattle.grid_json.specs.Rows.{AddsRow, AnswersCell, AnswersItem, IsMemoryOrBad, IsRead, IsRows, MayBeRow, MayBeRows, MayRead, ReadsBy, WritesBy};
@@ -57,7 +57,7 @@ where
 }
 
 /// Returns the row-major grid of an array of arrays: each is a row, and `read` says which cell a value is, or `None`
-/// where it is none. Rows without cells give the empty grid.
+/// where it isn't one. Rows without cells give the empty grid.
 ///
 ///     [[1,2],[3,4]]   rows_from_value(alloc, value, |item| Ok(item.as_i64()))   [[1, 2], [3, 4]]
 ///

@@ -1,4 +1,4 @@
--- Lists of the positions that steps lead to.
+-- Lists of the positions that steps lead to. No public clause cites this module.
 use Rattle.std.specs.Prelude.{◌<◌, ◌+◌, ◌^◌, ◌↔◌, ℕ, List, Contains}
 use Rattle.grid_near.specs.declared.steps.Steps.{Steps}
 use Rattle.grid_paths.specs.Walks.{IsStep}

@@ -104,7 +104,7 @@ fn path_over<A: Allocator + Clone>(
 /// Requires: the closure can be called at every cell.
 /// Fails: if allocation fails.
 /// Cost: at most that of `cheapest`, whose search stops here once it settles the end; then a constant number of steps for
-/// each settled cell.
+/// each settled cell, and memory for it.
 pub fn cheapest_path<T, A: Allocator + Clone, F: Fn(&T) -> Option<u32>>(
     grid: &Grid<T, A>,
     from: (usize, usize),

@@ -207,7 +207,8 @@ fn all_numbers<A: Allocator + Clone>(
 /// unequal to itself).
 ///
 /// Fails: if allocation fails.
-/// Cost: at most four comparisons for each cell, or eight; a constant number of steps for each cell; three allocations.
+/// Cost: at most four comparisons, or eight by `Steps::All`, and a constant number of steps for each cell; three
+/// allocations, and those of the queue where a region has more than 4,096 cells.
 pub fn regions<T: PartialEq, A: Allocator + Clone>(
     grid: &Grid<T, A>,
     kind: Steps,

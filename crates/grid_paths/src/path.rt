@@ -118,7 +118,7 @@ fn path_over<A: Allocator + Clone>(
     }
 }
 
-/// Returns a shortest path from one position to another. Each cell on the path passes the test, the first and the last
+/// Returns a shortest path from one position to another. Each cell on a path passes the test, the first and the last
 /// too. Returns `None` exactly where no path leads.
 ///
 ///     [[1, 1, 0], [0, 1, 1]]   shortest_path((0, 0), (1, 2), Steps::Sides, |x| *x == 1)   [(0, 0), (0, 1), (1, 1), (1, 2)]

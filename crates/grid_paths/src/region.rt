@@ -1,6 +1,6 @@
 //! A region of equal cells, filled.
 ghost use Rattle.std.specs.Prelude.{◌≡◌, ◌<◌, ◌≤◌, ◌+◌, ℕ, [], ◌∷◌, false, IfOk, OnOk, OnErr, None, Some, MatchOption, Contains};
-ghost use Rattle.grid_base.specs.Table.{row_count, col_count, cell, InRange};
+ghost use Rattle.grid_base.specs.Table.{col_count, cell, InRange};
 ghost use Rattle.grid_base.specs.GridValue.{SameSizeAndOrder};
 ghost use Rattle.grid_paths.specs.Walks.{IsOpen, IsFilled, alike};
 ghost use Rattle.grid_paths.specs.Closures.{answers_by};
@@ -128,8 +128,8 @@ fn mark_region<T: Copy + PartialEq + Drop, A: Allocator + Clone>(
 ///     [[1, 1, 2], [2, 1, 1]]   fill_region((0, 0), Steps::Sides, 7)   [[7, 7, 2], [2, 7, 7]]
 ///
 /// Fails: if allocation fails; the grid is unchanged.
-/// Cost: at most seven comparisons for each cell of the region, or eleven, and a constant number of steps; memory for these
-/// cells and their positions, unless they are the whole board. The rest of the board costs nothing.
+/// Cost: at most seven comparisons, or eleven by `Steps::All`, and a constant number of steps for each cell of the region;
+/// memory for these cells and their positions, unless they are the whole board. The rest of the board costs nothing.
 pub fn fill_region<T: Copy + PartialEq + Drop, A: Allocator + Clone>(
     grid: &mut Grid<T, A>,
     at: (usize, usize),

@@ -1,5 +1,5 @@
 //! The least number of steps to each cell, by a breadth-first search.
-ghost use Rattle.std.specs.Prelude.{◌≡◌, ◌<◌, ◌≤◌, ◌+◌, ◌^◌, ◌↔◌, List, ℕ, [], ◌∷◌, ◌++◌, length, drop, IfOk, IsTrue, OnOk, Bool, Some, None, Contains};
+ghost use Rattle.std.specs.Prelude.{◌≡◌, ◌<◌, ◌≤◌, ◌+◌, ◌^◌, ◌↔◌, List, ℕ, [], ◌∷◌, ◌++◌, length, IfOk, IsTrue, OnOk, Bool, Some, None, Contains};
 ghost use Rattle.grid_base.specs.Table.{InRange};
 ghost use Rattle.grid_paths.specs.Walks.{IsOpen, IsStep, HasLeastSteps, HasLeastFrom, passing};
 ghost use Rattle.grid_paths.specs.Closures.{IsAnswer, AreAnswers, HoldsOfAnswers};
@@ -181,7 +181,7 @@ pub(crate) fn floor_of<T, A: Allocator + Clone, F: Fn(&T) -> bool>(
     grid.map_indexed(|_, cell| passable(cell))
 }
 
-/// Returns, for each cell, the least number of steps from a position. Each cell on the path passes the test, the first
+/// Returns, for each cell, the least number of steps from a position. Each cell on a path passes the test, the first
 /// and the last too. A cell gets `None` exactly where no path leads to it.
 ///
 ///     [[1, 1, 0], [0, 1, 1]]   distances((0, 0), Steps::Sides, |x| *x == 1)   [[Some(0), Some(1), None], [None, Some(2), Some(3)]]
@@ -190,7 +190,7 @@ pub(crate) fn floor_of<T, A: Allocator + Clone, F: Fn(&T) -> bool>(
 /// Requires: the test can be called at every cell.
 /// Fails: if allocation fails.
 /// Cost: one call for each cell; a constant number of steps for each cell; three allocations, and those of the queue
-/// where more than 4,096 positions wait.
+/// where more than 2,048 positions wait.
 pub fn distances<T, A: Allocator + Clone, F: Fn(&T) -> bool>(
     grid: &Grid<T, A>,
     from: (usize, usize),
@@ -208,7 +208,7 @@ pub fn distances<T, A: Allocator + Clone, F: Fn(&T) -> bool>(
 }
 
 /// Returns, for each cell, the least number of steps from the nearest of several positions, as [`distances`] counts
-/// them. Positions out of range and those whose cell does not pass the test count for nothing; one that comes twice
+/// them. Positions out of range and those whose cell does not pass the test are ignored; one that comes twice
 /// counts once.
 ///
 ///     [[1, 1, 0], [1, 1, 1]]   distances_from(&[(0, 0), (1, 2)], Steps::Sides, |x| *x == 1)   [[Some(0), Some(1), None], [Some(1), Some(1), Some(0)]]

@@ -22,13 +22,13 @@ pub enum PnmError {
     BadMax {
         /// The greatest sample that the header says.
         max: usize,
-        /// The byte behind it.
+        /// The byte after it.
         at: usize,
     },
-    /// There is no white space behind the greatest sample.
+    /// There is no white space after the greatest sample.
     #[error("no white space at byte {at}")]
     NoSpace {
-        /// The byte behind the greatest sample.
+        /// The byte after the greatest sample.
         at: usize,
     },
     /// The raster has fewer bytes than a picture of this size has samples.

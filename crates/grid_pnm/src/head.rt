@@ -23,7 +23,7 @@ pub struct Header {
 }
 
 /// Returns the header of a picture: a magic number, the numbers of columns and rows, and the greatest sample. White
-/// space and comments may come before each number; behind the last there is one byte of white space, and then the
+/// space and comments may come before each number; after the last there is one byte of white space, and then the
 /// samples.
 ///
 ///     read_header(b"P5 # a comment\n640 480\n255\n..")   { color: false, plain: false, rows: 480, cols: 640, max: 255, .. }

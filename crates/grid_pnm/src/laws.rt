@@ -7,8 +7,8 @@ use crate::{PnmError, from_pgm, from_ppm, to_pgm, to_ppm};
 use grid::{Grid, Order};
 use std::alloc::{Allocator, Global};
 
-/// Writes a grid as a gray picture, and returns the row-major grid that is read from it: one of the samples that `write` says, each
-/// in the place of its cell.
+/// Writes a grid as a gray picture, and returns the row-major grid that is read from it. Its cells are the samples that
+/// `write` returns, each in the place of its cell.
 ///
 /// Requires: `write` can always be called.
 /// Fails: `Memory`, and no other error.
@@ -26,8 +26,8 @@ pub fn pgm_written_and_read<T, A: Allocator, F: Fn(&T) -> u8>(
     from_pgm(alloc, bytes.as_slice())
 }
 
-/// Writes a grid as a colored picture, and returns the row-major grid that is read from it: one of the samples that `write` says,
-/// each three in the place of their cell.
+/// Writes a grid as a colored picture, and returns the row-major grid that is read from it. Its cells are the samples
+/// that `write` returns, each three in the place of their cell.
 ///
 /// Requires: `write` can always be called.
 /// Fails: `Memory`, and no other error.

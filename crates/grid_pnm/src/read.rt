@@ -15,7 +15,7 @@ use std::alloc::{AllocError, Allocator};
 ///
 ///     from_pgm(alloc, b"P2 # plain\n3 2\n255\n0 7 255 3 2 1")   [[0, 7, 255], [3, 2, 1]]
 ///
-/// What is behind the last sample isn't read: other pictures may follow.
+/// Nothing after the last sample is read: other pictures may follow.
 ///
 /// Fails: `BadMagic` of another picture; `BadNumber`, `BadMax`, `NoSpace`, `Short` or `AboveMax`, whichever comes
 /// first; `Memory` if allocation fails. Nothing is allocated before it is seen that there are as many bytes as samples.

@@ -10,7 +10,7 @@ use std::alloc::{AllocError, Allocator};
 use text_lines::{Words, cut_line};
 
 /// Returns the row-major grid of a text: each line is a row, and `read` says which cell a character is, or `None` where
-/// it is none.
+/// it isn't one.
 ///
 ///     from_text(alloc, "#..\n.#.\n", |c| match c { '#' => Some(1), '.' => Some(0), _ => None })
 ///     [[1, 0, 0], [0, 1, 0]]
@@ -78,8 +78,8 @@ fn push_line<T: Drop, A: Allocator, F: Fn(char) -> Option<T>>(
     Ok(column)
 }
 
-/// Returns the row-major grid of a text: each line is a row, and `read` says which cell a word is, or `None` where it is
-/// none. Words are separated by spaces and tabs.
+/// Returns the row-major grid of a text: each line is a row, and `read` says which cell a word is, or `None` where it
+/// isn't one. Words are separated by spaces and tabs.
 ///
 ///     from_words(alloc, "1 20\n 3  4\n", |word| word.parse::<i64>().ok())   [[1, 20], [3, 4]]
 ///

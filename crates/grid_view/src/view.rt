@@ -138,7 +138,7 @@ impl<'a, T> GridView<'a, T> {
     ///     [[1, 2], [3, 4]]   get_unchecked(0, 1)   2
     ///
     /// Requires: both are in range.
-    /// Cost: constant; the range isn't tested when it runs.
+    /// Cost: constant; nothing is checked at run time.
     pub fn get_unchecked(&self, row: usize, col: usize) -> &'a T
         requires { InRange self.now.rows row col }
         ensures { cell self.now.rows row col ≡ Some result.now }

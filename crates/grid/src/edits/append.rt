@@ -43,7 +43,7 @@ impl<T: Drop, A: Allocator> From<GridRefused<T, A>> for GridError {
 }
 
 impl<T, A: Allocator> Grid<T, A> {
-    /// Appends the rows of another grid, of either order, behind the last row. The order stays.
+    /// Appends the rows of another grid, of either order, after the last row. The order stays.
     ///
     ///     [[1, 2]]   append_rows([[3, 4], [5, 6]])   [[1, 2], [3, 4], [5, 6]]
     ///
@@ -91,7 +91,7 @@ impl<T, A: Allocator> Grid<T, A> {
         }
     }
 
-    /// Appends the columns of another grid, of either order, behind the last column. The order stays.
+    /// Appends the columns of another grid, of either order, after the last column. The order stays.
     ///
     ///     [[1], [2]]   append_cols([[3, 4], [5, 6]])   [[1, 3, 4], [2, 5, 6]]
     ///

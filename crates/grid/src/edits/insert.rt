@@ -30,7 +30,7 @@ impl<T, A: Allocator> Grid<T, A> {
     ///
     ///     [[1, 2], [3, 4]]   push_row([5, 6])   [[1, 2], [3, 4], [5, 6]]
     ///
-    /// Requires: the line is not empty, and as long as the grid has columns; into an empty grid any length fits.
+    /// Requires: the line is not empty, and has one cell for each column; into an empty grid any length fits.
     /// Fails: `TooLarge` where the cells would exceed `usize::MAX`, else `Memory`. The line comes back, and the grid is
     /// unchanged.
     /// Cost: row-major, time in the length of the line, not counting a reallocation; column-major, as
@@ -51,7 +51,7 @@ impl<T, A: Allocator> Grid<T, A> {
     ///
     ///     [[1, 2], [3, 4]]   push_col([5, 6])   [[1, 2, 5], [3, 4, 6]]
     ///
-    /// Requires: the line is not empty, and as long as the grid has rows; into an empty grid any length fits.
+    /// Requires: the line is not empty, and has one cell for each row; into an empty grid any length fits.
     /// Fails: `TooLarge` where the cells would exceed `usize::MAX`, else `Memory`. The line comes back, and the grid is
     /// unchanged.
     /// Cost: column-major, time in the length of the line, not counting a reallocation; row-major, as
@@ -74,7 +74,7 @@ impl<T, A: Allocator> Grid<T, A> {
     ///
     ///     [[1, 2], [3, 4]]   insert_row(1, [8, 9])   [[1, 2], [8, 9], [3, 4]]
     ///
-    /// Requires: the line is not empty, and as long as the grid has columns; into an empty grid any length fits. `at`
+    /// Requires: the line is not empty, and has one cell for each column; into an empty grid any length fits. `at`
     /// is at most the number of rows.
     /// Fails: `TooLarge` where the cells would exceed `usize::MAX`, else `Memory`. The line comes back, and the grid is
     /// unchanged.
@@ -102,7 +102,7 @@ impl<T, A: Allocator> Grid<T, A> {
     ///
     ///     [[1, 2], [3, 4]]   insert_col(1, [8, 9])   [[1, 8, 2], [3, 9, 4]]
     ///
-    /// Requires: the line is not empty, and as long as the grid has rows; into an empty grid any length fits. `at` is
+    /// Requires: the line is not empty, and has one cell for each row; into an empty grid any length fits. `at` is
     /// at most the number of columns.
     /// Fails: `TooLarge` where the cells would exceed `usize::MAX`, else `Memory`. The line comes back, and the grid is
     /// unchanged.
@@ -130,7 +130,7 @@ impl<T, A: Allocator> Grid<T, A> {
     ///
     /// An empty list changes nothing and takes no memory. Into an empty grid the lines become its rows.
     ///
-    /// Requires: no line is empty, and each is as long as the grid has columns; into an empty grid all have one length.
+    /// Requires: no line is empty, and each has one cell for each column; into an empty grid all have one length.
     /// `at` is at most the number of rows.
     /// Fails: `TooLarge` where the cells would exceed `usize::MAX`, else `Memory`, before the first change. The lines
     /// come back, and the grid is unchanged.
@@ -188,7 +188,7 @@ impl<T, A: Allocator> Grid<T, A> {
     ///
     /// An empty list changes nothing and takes no memory. Into an empty grid the lines become its columns.
     ///
-    /// Requires: no line is empty, and each is as long as the grid has rows; into an empty grid all have one length.
+    /// Requires: no line is empty, and each has one cell for each row; into an empty grid all have one length.
     /// `at` is at most the number of columns.
     /// Fails: `TooLarge` where the cells would exceed `usize::MAX`, else `Memory`, before the first change. The lines
     /// come back, and the grid is unchanged.

@@ -20,7 +20,7 @@ fn relay<T, A: Allocator>(flat: &mut Flat<T, A>, order: Order, rows: usize, cols
 }
 
 impl<T, A: Allocator> Grid<T, A> {
-    /// Lays the cells out in this order. The rows stay, and so does a grid that has this order.
+    /// Lays the cells out in this order. The rows stay. A grid that already has this order is unchanged.
     ///
     ///     [[1, 2, 3], [4, 5, 6]]   lay_out(ColumnMajor)   the vector is [1, 4, 2, 5, 3, 6]
     ///

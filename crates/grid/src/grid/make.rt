@@ -108,8 +108,8 @@ impl<T, A: Allocator> Grid<T, A> {
         Ok(Grid::from_vec_with_order(cells, cols, order))
     }
 
-    /// Returns the row-major grid of this size whose cells are what the closure returns at each position, called in
-    /// storage order. Without rows or without columns it is the empty grid.
+    /// Returns the row-major grid of this size whose cells are what the closure, called in storage order, returns for
+    /// each position. Without rows or without columns it is the empty grid.
     ///
     ///     from_fn(alloc, 2, 3, |(row, col)| 10 * row + col)   [[0, 1, 2], [10, 11, 12]]
     ///
