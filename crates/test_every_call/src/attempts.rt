@@ -50,7 +50,7 @@ struct Seen {
 }
 
 // Gives the vector of a board room to spare, by a row that is pushed and deleted.
-fn give_room<'a>(start: Start<'a>, board: &mut Board<'a>) -> Result<(), AllocError> {
+fn give_room<'a>(start: &'a Start, board: &mut Board<'a>) -> Result<(), AllocError> {
     let (rows, cols) = board.size();
     if push_row(board, start.line(cols.max(1))?).is_err() {
         return Err(AllocError);
@@ -60,30 +60,40 @@ fn give_room<'a>(start: Start<'a>, board: &mut Board<'a>) -> Result<(), AllocErr
 }
 
 // Whether the board has room to spare: in column-major order, one that is empty or has memory for all.
-fn has_room(start: Start<'_>) -> bool {
+fn has_room(start: &Start) -> bool {
     start.order == Order::ColumnMajor && (start.size.0 == 0 || !is_refused_on(start.size))
 }
 
+// Makes the call.
+fn called<'a>(
+    start: &'a Start,
+    board: &mut Board<'a>,
+    group: Group,
+    name: &str,
+) -> Result<Answer, AllocError> {
+    match group {
+        Group::Commands => commands::call(start, board, name),
+        Group::Copies => copies::call(start, board, name),
+        Group::Csv => csv::call(start, name),
+        Group::Edits => edits::call(start, board, name),
+        Group::Json => json::call(start, name),
+        Group::Lines => lines::call(start, board, name),
+        Group::Makers => makers::call(start, board, name),
+        Group::Maps => maps::call(start, board, name),
+        Group::Paths => paths::call(start, name),
+        Group::Pictures => pictures::call(start, name),
+        Group::Texts => texts::call(start, board, name),
+    }
+}
+
 // Makes the call on a new board, which is then dropped.
-fn made(start: Start<'_>, group: Group, name: &str) -> Result<Answer, AllocError> {
+fn made(start: &Start, group: Group, name: &str) -> Result<Answer, AllocError> {
     start.prepare();
     let mut board = start.board(start.size, start.order)?;
     if has_room(start) {
         give_room(start, &mut board)?;
     }
-    let answer = match group {
-        Group::Commands => commands::call(start, &mut board, name)?,
-        Group::Copies => copies::call(start, &mut board, name)?,
-        Group::Csv => csv::call(start, name)?,
-        Group::Edits => edits::call(start, &mut board, name)?,
-        Group::Json => json::call(start, name)?,
-        Group::Lines => lines::call(start, &mut board, name)?,
-        Group::Makers => makers::call(start, &mut board, name)?,
-        Group::Maps => maps::call(start, &mut board, name)?,
-        Group::Paths => paths::call(start, name)?,
-        Group::Pictures => pictures::call(start, name)?,
-        Group::Texts => texts::call(start, &mut board, name)?,
-    };
+    let answer = called(start, &mut board, group, name)?;
     if answer == Answer::Refused && !is_board(&board, start.size, start.order) {
         return Ok(Answer::Wrong);
     }
@@ -92,35 +102,27 @@ fn made(start: Start<'_>, group: Group, name: &str) -> Result<Answer, AllocError
 
 // An attempt whose preparation finds no memory is wrong too.
 fn attempt(alloc: Global, trial: Trial, granted: u64) -> Seen {
-    let heap = Fuse::new(alloc, 0);
-    let calls = Cell::new(0u64);
-    let refusals = Cell::new(0u64);
-    let last = Cell::new(0u64);
-    let strays = Cell::new(0u64);
-    let answer = made(
-        Start {
-            alloc,
-            heap: &heap,
-            size: trial.size,
-            order: trial.order,
-            case: trial.case,
-            granted,
-            calls: &calls,
-            refusals: &refusals,
-            last: &last,
-            strays: &strays,
-        },
-        trial.group,
-        trial.call.0,
-    );
+    let start = Start {
+        alloc,
+        heap: Fuse::new(alloc, 0),
+        size: trial.size,
+        order: trial.order,
+        case: trial.case,
+        granted,
+        calls: Cell::new(0),
+        refusals: Cell::new(0),
+        last: Cell::new(0),
+        strays: Cell::new(0),
+    };
+    let answer = made(&start, trial.group, trial.call.0);
     Seen {
         answer: answer.unwrap_or(Answer::Wrong),
-        taken: granted.wrapping_sub(heap.left()),
-        blocks: heap.granted(),
-        calls: calls.get(),
-        refusals: refusals.get(),
-        strays: strays.get(),
-        held: heap.held(),
+        taken: granted.wrapping_sub(start.heap.left()),
+        blocks: start.heap.granted(),
+        calls: start.calls.get(),
+        refusals: start.refusals.get(),
+        strays: start.strays.get(),
+        held: start.heap.held(),
     }
 }
 

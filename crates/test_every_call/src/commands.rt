@@ -38,7 +38,7 @@ fn fitting(len: usize) -> usize {
 }
 
 // The command of a case, for a board of this size. `test_command_lists` has all commands, with memory for all.
-fn command<'a>(start: Start<'a>, (rows, cols): (usize, usize)) -> Result<Given<'a>, AllocError> {
+fn command<'a>(start: &'a Start, (rows, cols): (usize, usize)) -> Result<Given<'a>, AllocError> {
     Ok(match start.case % COMMANDS {
         0 => Command::Fill(start.given(7)),
         1 => Command::PushRow(start.line(fitting(cols))?),
@@ -51,7 +51,7 @@ fn command<'a>(start: Start<'a>, (rows, cols): (usize, usize)) -> Result<Given<'
         7 => Command::PushRow(start.line(fitting(cols).saturating_add(1))?),
         8 => Command::Set(rows, cols, start.given(7)),
         // (no lines, in a list with room)
-        9 => Command::InsertRows(0, Vec::with_capacity(start.heap, 1)?),
+        9 => Command::InsertRows(0, Vec::with_capacity(&start.heap, 1)?),
         10 => Command::Set(0, 0, start.given(7)),
         11 => Command::Col(0),
         12 => Command::InsertRow(rows, start.line(fitting(cols))?),
@@ -62,7 +62,7 @@ fn command<'a>(start: Start<'a>, (rows, cols): (usize, usize)) -> Result<Given<'
     })
 }
 
-fn stepped<'a>(start: Start<'a>, board: &mut Board<'a>, name: &str) -> Result<Answer, AllocError> {
+fn stepped<'a>(start: &'a Start, board: &mut Board<'a>, name: &str) -> Result<Answer, AllocError> {
     let command = command(start, start.size)?;
     start.ready();
     let mut tally = Tally::new();
@@ -74,7 +74,7 @@ fn stepped<'a>(start: Start<'a>, board: &mut Board<'a>, name: &str) -> Result<An
 }
 
 // On the board through a symmetry, which isn't applied in the end. The last four exchange rows and columns.
-fn stepped_deferred<'a>(start: Start<'a>, board: &mut Board<'a>) -> Result<Answer, AllocError> {
+fn stepped_deferred<'a>(start: &'a Start, board: &mut Board<'a>) -> Result<Answer, AllocError> {
     let number = start.case / COMMANDS;
     let symmetry = SYMMETRIES
         .get(number)
@@ -98,9 +98,9 @@ fn stepped_deferred<'a>(start: Start<'a>, board: &mut Board<'a>) -> Result<Answe
     Ok(answer)
 }
 
-fn commands<'a>(start: Start<'a>) -> Result<Vec<Given<'a>, &'a Heap>, AllocError> {
+fn commands<'a>(start: &'a Start) -> Result<Vec<Given<'a>, &'a Heap>, AllocError> {
     let (rows, cols) = start.size;
-    let mut list = Vec::new(start.heap);
+    let mut list = Vec::new(&start.heap);
     list.push(Command::PushRow(start.line(fitting(cols))?))?;
     list.push(Command::Apply(Symmetry::RotateLeft))?;
     list.push(Command::Row(0))?;
@@ -111,14 +111,14 @@ fn commands<'a>(start: Start<'a>) -> Result<Vec<Given<'a>, &'a Heap>, AllocError
 }
 
 // A run that is refused has done some commands.
-fn ran<'a>(start: Start<'a>, board: &mut Board<'a>, name: &str) -> Result<Answer, AllocError> {
+fn ran<'a>(start: &'a Start, board: &mut Board<'a>, name: &str) -> Result<Answer, AllocError> {
     let list = commands(start)?;
     start.ready();
     let mut tally = Tally::new();
     let outcome = match name {
-        "grid::run" => run(start.heap, board, list, &mut tally),
-        "grid_deferred::run_deferred" => run_deferred(start.heap, board, list, &mut tally),
-        _ => run_deferred_by_least(start.heap, board, list, &mut tally),
+        "grid::run" => run(&start.heap, board, list, &mut tally),
+        "grid_deferred::run_deferred" => run_deferred(&start.heap, board, list, &mut tally),
+        _ => run_deferred_by_least(&start.heap, board, list, &mut tally),
     };
     let Err(stopped) = outcome else {
         return Ok(Answer::Done);
@@ -154,11 +154,11 @@ const BAD_SCRIPTS: [(&[u8], ScriptFault); 4] = [
     (b"RowMajor 2 1 2 3\n", ScriptFault::BadGrid),
 ];
 
-fn bad_parsed(start: Start<'_>) -> Answer {
+fn bad_parsed(start: &Start) -> Answer {
     let Some((script, wanted)) = BAD_SCRIPTS.get(start.case.wrapping_sub(5)) else {
         return Answer::Wrong;
     };
-    match Script::parse(start.heap, *script) {
+    match Script::parse(&start.heap, *script) {
         Err(fault) if fault == *wanted => Answer::Done,
         Ok(_) => Answer::Wrong,
         Err(fault) => came_of(&fault),
@@ -169,20 +169,20 @@ fn script(number: usize) -> &'static [u8] {
     SCRIPTS.get(number).copied().unwrap_or(b"")
 }
 
-fn played(start: Start<'_>, name: &str) -> Answer {
+fn played(start: &Start, name: &str) -> Answer {
     if start.size != (1, 1) || start.order == Order::ColumnMajor {
         return Answer::Skipped;
     }
     match name {
         "Script::parse" if start.case > 4 => bad_parsed(start),
-        "Script::parse" => came(Script::parse(start.heap, script(start.case))),
-        "grid_play::play" => came(play(start.heap, script(start.case / 2), start.case % 2 == 1)),
+        "Script::parse" => came(Script::parse(&start.heap, script(start.case))),
+        "grid_play::play" => came(play(&start.heap, script(start.case / 2), start.case % 2 == 1)),
         _ => played_alike(start),
     }
 }
 
-fn played_alike(start: Start<'_>) -> Answer {
-    let (at_once, deferred) = plays_alike((start.heap, start.heap), script(start.case));
+fn played_alike(start: &Start) -> Answer {
+    let (at_once, deferred) = plays_alike((&start.heap, &start.heap), script(start.case));
     match came(at_once) {
         Answer::Done => came(deferred),
         answer => answer,
@@ -190,7 +190,7 @@ fn played_alike(start: Start<'_>) -> Answer {
 }
 
 // A row is pushed and popped. Where the push is refused, the line comes back; where the pop is, the row stays.
-fn pushed_and_popped<'a>(start: Start<'a>, board: &mut Board<'a>) -> Result<Answer, AllocError> {
+fn pushed_and_popped<'a>(start: &'a Start, board: &mut Board<'a>) -> Result<Answer, AllocError> {
     let len = fitting(start.size.1);
     let line = start.line(len)?;
     if line.is_empty() || !board.fits_row(line.len()) {
@@ -208,7 +208,7 @@ fn pushed_and_popped<'a>(start: Start<'a>, board: &mut Board<'a>) -> Result<Answ
 }
 
 // What came of a call on the board and of the same on another one, which is as it was where that was refused.
-fn both_of<'a>(start: Start<'a>, first: Answer, other: &Board<'a>, second: Answer) -> Answer {
+fn both_of<'a>(start: &'a Start, first: Answer, other: &Board<'a>, second: Answer) -> Answer {
     match (first, second) {
         (Answer::Wrong, _) | (_, Answer::Wrong) => Answer::Wrong,
         (_, Answer::Refused) if !is_board(other, start.size, start.order) => Answer::Wrong,
@@ -219,7 +219,7 @@ fn both_of<'a>(start: Start<'a>, first: Answer, other: &Board<'a>, second: Answe
 }
 
 // A column is put into the board, and as a row across into another that is alike.
-fn put_across<'a>(start: Start<'a>, board: &mut Board<'a>) -> Result<Answer, AllocError> {
+fn put_across<'a>(start: &'a Start, board: &mut Board<'a>) -> Result<Answer, AllocError> {
     let len = fitting(start.size.0);
     let line = start.line(len)?;
     let other_line = line.clone()?;
@@ -238,18 +238,18 @@ fn put_across<'a>(start: Start<'a>, board: &mut Board<'a>) -> Result<Answer, All
 }
 
 // The same two commands on the board and on another that is alike.
-fn ran_on_both<'a>(start: Start<'a>, board: &mut Board<'a>) -> Result<Answer, AllocError> {
+fn ran_on_both<'a>(start: &'a Start, board: &mut Board<'a>) -> Result<Answer, AllocError> {
     let mut other = board.clone()?;
-    let mut list: Vec<Given<'a>, &'a Heap> = Vec::new(start.heap);
+    let mut list: Vec<Given<'a>, &'a Heap> = Vec::new(&start.heap);
     list.push(Command::Row(0))?;
     list.push(Command::PopRow)?;
-    let mut other_list: Vec<Given<'a>, &'a Heap> = Vec::new(start.heap);
+    let mut other_list: Vec<Given<'a>, &'a Heap> = Vec::new(&start.heap);
     other_list.push(Command::Row(0))?;
     other_list.push(Command::PopRow)?;
     start.ready();
     let (mut tally, mut other_tally) = (Tally::new(), Tally::new());
     let (first, second) = run_in_either_order(
-        (start.heap, start.heap),
+        (&start.heap, &start.heap),
         board,
         &mut other,
         list,
@@ -260,7 +260,7 @@ fn ran_on_both<'a>(start: Start<'a>, board: &mut Board<'a>) -> Result<Answer, Al
     Ok(both_of(start, came(first), &other, came(second)))
 }
 
-pub fn call<'a>(start: Start<'a>, board: &mut Board<'a>, name: &str) -> Result<Answer, AllocError> {
+pub fn call<'a>(start: &'a Start, board: &mut Board<'a>, name: &str) -> Result<Answer, AllocError> {
     match name {
         "Grid::step" | "grid_laws::step_by_least" => stepped(start, board, name),
         "Deferred::step" => stepped_deferred(start, board),

@@ -22,7 +22,7 @@ pub const CALLS: [Call; 13] = [
 ];
 
 // A part of the board: nothing, its first row, its first column, its last cell, all; where there is one.
-fn part(start: Start<'_>) -> Option<((usize, usize), (usize, usize))> {
+fn part(start: &Start) -> Option<((usize, usize), (usize, usize))> {
     let (rows, cols) = start.size;
     match start.case {
         0 => Some(((rows, cols), (0, 0))),
@@ -40,7 +40,7 @@ fn is_within(board: &Board<'_>, (row, col): (usize, usize), (rows, cols): (usize
     rows <= size.0 && row <= size.0 - rows && cols <= size.1 && col <= size.1 - cols
 }
 
-fn sub_grid(start: Start<'_>, board: &Board<'_>) -> Answer {
+fn sub_grid(start: &Start, board: &Board<'_>) -> Answer {
     let Some((at, size)) = part(start) else {
         return Answer::Skipped;
     };
@@ -58,7 +58,7 @@ fn sub_grid(start: Start<'_>, board: &Board<'_>) -> Answer {
     answer
 }
 
-fn fill_part<'a>(start: Start<'a>, board: &mut Board<'a>) -> Answer {
+fn fill_part<'a>(start: &'a Start, board: &mut Board<'a>) -> Answer {
     let Some((at, size)) = part(start) else {
         return Answer::Skipped;
     };
@@ -70,7 +70,7 @@ fn fill_part<'a>(start: Start<'a>, board: &mut Board<'a>) -> Answer {
 }
 
 // Pastes nothing, a cell, the board, its first column or its first row at the first cell.
-fn paste<'a>(start: Start<'a>, board: &mut Board<'a>) -> Result<Answer, AllocError> {
+fn paste<'a>(start: &'a Start, board: &mut Board<'a>) -> Result<Answer, AllocError> {
     let (rows, cols) = board.size();
     let (high, wide) = match start.case {
         0 => (0, 0),
@@ -89,7 +89,7 @@ fn paste<'a>(start: Start<'a>, board: &mut Board<'a>) -> Result<Answer, AllocErr
 }
 
 // Pastes two rows of two cells within, over each corner, and outside.
-fn paste_clipped<'a>(start: Start<'a>, board: &mut Board<'a>) -> Result<Answer, AllocError> {
+fn paste_clipped<'a>(start: &'a Start, board: &mut Board<'a>) -> Result<Answer, AllocError> {
     let at = match start.case {
         0 => (0, 0),
         1 => (-1, -1),
@@ -105,7 +105,7 @@ fn paste_clipped<'a>(start: Start<'a>, board: &mut Board<'a>) -> Result<Answer, 
 }
 
 // Updates all cells as a part, which go row by row in either order.
-fn update_part<'a>(start: Start<'a>, board: &mut Board<'a>) -> Answer {
+fn update_part<'a>(start: &'a Start, board: &mut Board<'a>) -> Answer {
     let next = Cell::new((0usize, 0usize));
     let in_turn = Cell::new(true);
     let (rows, cols) = board.size();
@@ -125,7 +125,7 @@ fn update_part<'a>(start: Start<'a>, board: &mut Board<'a>) -> Answer {
     }
 }
 
-fn set<'a>(start: Start<'a>, board: &mut Board<'a>) -> Answer {
+fn set<'a>(start: &'a Start, board: &mut Board<'a>) -> Answer {
     for row in 0..start.size.0 {
         for col in 0..start.size.1 {
             if board.set(row, col, start.cell(3)).is_none() {
@@ -140,8 +140,8 @@ fn set<'a>(start: Start<'a>, board: &mut Board<'a>) -> Answer {
 }
 
 // Maps the board by value. Where the call is refused, the board comes back, and is dropped where it becomes the error.
-fn map<'a>(start: Start<'a>, board: &mut Board<'a>) -> Answer {
-    let moved = std::mem::replace(board, Grid::empty(start.heap));
+fn map<'a>(start: &'a Start, board: &mut Board<'a>) -> Answer {
+    let moved = std::mem::replace(board, Grid::empty(&start.heap));
     match moved.map(|cell| start.cell(cell.value().wrapping_add(1))) {
         Ok(mapped) => {
             *board = mapped;
@@ -162,7 +162,7 @@ fn map<'a>(start: Start<'a>, board: &mut Board<'a>) -> Answer {
     }
 }
 
-fn written<'a>(start: Start<'a>, board: &mut Board<'a>, name: &str) -> Answer {
+fn written<'a>(start: &'a Start, board: &mut Board<'a>, name: &str) -> Answer {
     match name {
         "Grid::fill_part" => fill_part(start, board),
         "Grid::fill_with" => {
@@ -181,7 +181,7 @@ fn written<'a>(start: Start<'a>, board: &mut Board<'a>, name: &str) -> Answer {
 }
 
 // Clones of the board through each symmetry.
-fn to_vec<'a>(start: Start<'a>, board: &Board<'a>) -> Answer {
+fn to_vec<'a>(start: &'a Start, board: &Board<'a>) -> Answer {
     let Some(symmetry) = SYMMETRIES.get(start.case) else {
         return Answer::Skipped;
     };
@@ -189,11 +189,11 @@ fn to_vec<'a>(start: Start<'a>, board: &Board<'a>) -> Answer {
         board
             .view()
             .turned(*symmetry)
-            .to_vec(start.heap, start.order),
+            .to_vec(&start.heap, start.order),
     )
 }
 
-fn copied<'a>(start: Start<'a>, board: &mut Board<'a>, name: &str) -> Answer {
+fn copied<'a>(start: &'a Start, board: &mut Board<'a>, name: &str) -> Answer {
     match name {
         "Grid::clone" => came(board.clone()),
         "Clone::clone of a grid" => came(Clone::clone(board)),
@@ -204,7 +204,7 @@ fn copied<'a>(start: Start<'a>, board: &mut Board<'a>, name: &str) -> Answer {
     }
 }
 
-pub fn call<'a>(start: Start<'a>, board: &mut Board<'a>, name: &str) -> Result<Answer, AllocError> {
+pub fn call<'a>(start: &'a Start, board: &mut Board<'a>, name: &str) -> Result<Answer, AllocError> {
     match name {
         "Grid::paste" => paste(start, board),
         "Grid::paste_clipped" => paste_clipped(start, board),

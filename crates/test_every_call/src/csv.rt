@@ -29,12 +29,12 @@ fn put_long(cell: &u32, field: &mut String) -> Result<(), AllocError> {
     put(cell, field)
 }
 
-fn try_read<'a>(start: Start<'a>, field: &str) -> Result<Option<Counted<'a>>, AllocError> {
+fn try_read<'a>(start: &'a Start, field: &str) -> Result<Option<Counted<'a>>, AllocError> {
     Ok(Some(start.try_cell(number_of(field).unwrap_or(0))?))
 }
 
 // A name for each column, or none.
-fn header(start: Start<'_>) -> Result<Vec<String>, AllocError> {
+fn header(start: &Start) -> Result<Vec<String>, AllocError> {
     let mut names = Vec::new(start.alloc);
     for _ in 0..start.size.1 {
         names.push(String::from_str(start.alloc, "a name of more than twenty-four bytes")?)?;
@@ -42,7 +42,7 @@ fn header(start: Start<'_>) -> Result<Vec<String>, AllocError> {
     Ok(names)
 }
 
-fn csv_written<'a>(start: Start<'a>, name: &str) -> Result<Answer, AllocError> {
+fn csv_written<'a>(start: &'a Start, name: &str) -> Result<Answer, AllocError> {
     let board = start.numbers()?;
     start.ready();
     let write = |cell: &u32, field: &mut String| {
@@ -61,7 +61,7 @@ fn csv_written<'a>(start: Start<'a>, name: &str) -> Result<Answer, AllocError> {
     Ok(came(to_csv_with_header(start.alloc, names.as_slice(), &board, write)))
 }
 
-fn csv_read<'a>(start: Start<'a>) -> Result<Answer, AllocError> {
+fn csv_read<'a>(start: &'a Start) -> Result<Answer, AllocError> {
     let board = start.numbers()?;
     let text = if start.case == 0 {
         to_csv(start.alloc, &board, put)?
@@ -75,7 +75,7 @@ fn csv_read<'a>(start: Start<'a>) -> Result<Answer, AllocError> {
 }
 
 // A field that isn't UTF-8, behind one that was read.
-fn bad_csv_read<'a>(start: Start<'a>) -> Answer {
+fn bad_csv_read<'a>(start: &'a Start) -> Answer {
     if start.size != (1, 1) {
         return Answer::Skipped;
     }
@@ -92,7 +92,7 @@ fn bad_csv_read<'a>(start: Start<'a>) -> Answer {
     }
 }
 
-fn csv_with_header_read<'a>(start: Start<'a>) -> Result<Answer, AllocError> {
+fn csv_with_header_read<'a>(start: &'a Start) -> Result<Answer, AllocError> {
     let names = header(start)?;
     let text = to_csv_with_header(start.alloc, names.as_slice(), &start.numbers()?, put)?;
     start.ready();
@@ -102,7 +102,7 @@ fn csv_with_header_read<'a>(start: Start<'a>) -> Result<Answer, AllocError> {
 }
 
 // Four quoted fields and line ends of two bytes, or a field behind a byte order mark.
-fn quoted_read<'a>(start: Start<'a>) -> Answer {
+fn quoted_read<'a>(start: &'a Start) -> Answer {
     let sheet: &[u8] = match start.size {
         (2, 2) if start.case == 3 => b"\"1\",\"2\"\r\n3,\"4\"",
         (1, 1) if start.case == 4 => b"\xef\xbb\xbf5\n",
@@ -113,7 +113,7 @@ fn quoted_read<'a>(start: Start<'a>) -> Answer {
 }
 
 // A header without records.
-fn header_read<'a>(start: Start<'a>) -> Answer {
+fn header_read<'a>(start: &'a Start) -> Answer {
     if start.size != (0, 0) {
         return Answer::Skipped;
     }
@@ -121,13 +121,13 @@ fn header_read<'a>(start: Start<'a>) -> Answer {
     came(from_csv_with_header(start.alloc, b"a,b\n", |field| try_read(start, field)))
 }
 
-fn csv_written_and_read<'a>(start: Start<'a>) -> Result<Answer, AllocError> {
+fn csv_written_and_read<'a>(start: &'a Start) -> Result<Answer, AllocError> {
     let board = start.numbers()?;
     start.ready();
     Ok(came(written_and_read(start.alloc, &board, put, |field| Ok(number_of(field)))))
 }
 
-pub fn call(start: Start<'_>, name: &str) -> Result<Answer, AllocError> {
+pub fn call(start: &Start, name: &str) -> Result<Answer, AllocError> {
     let few = start.order == Order::RowMajor && start.size.0 <= 2 && start.size.1 <= 2;
     if !few {
         return Ok(Answer::Skipped);

@@ -31,28 +31,28 @@ fn fitting(len: usize) -> usize {
     if len == 0 { 2 } else { len }
 }
 
-fn row_put<'a>(start: Start<'a>, board: &mut Board<'a>, at: LineAt) -> Result<Answer, AllocError> {
+fn row_put<'a>(start: &'a Start, board: &mut Board<'a>, at: LineAt) -> Result<Answer, AllocError> {
     let len = fitting(start.size.1);
     let line = start.line(len)?;
     start.ready();
     Ok(line_came(insert(board, at, line), len))
 }
 
-fn col_put<'a>(start: Start<'a>, board: &mut Board<'a>, at: LineAt) -> Result<Answer, AllocError> {
+fn col_put<'a>(start: &'a Start, board: &mut Board<'a>, at: LineAt) -> Result<Answer, AllocError> {
     let len = fitting(start.size.0);
     let line = start.line(len)?;
     start.ready();
     Ok(line_came(insert(board, at, line), len))
 }
 
-fn row_pushed<'a>(start: Start<'a>, board: &mut Board<'a>) -> Result<Answer, AllocError> {
+fn row_pushed<'a>(start: &'a Start, board: &mut Board<'a>) -> Result<Answer, AllocError> {
     let len = fitting(start.size.1);
     let line = start.line(len)?;
     start.ready();
     Ok(line_came(push_row(board, line), len))
 }
 
-fn col_pushed<'a>(start: Start<'a>, board: &mut Board<'a>) -> Result<Answer, AllocError> {
+fn col_pushed<'a>(start: &'a Start, board: &mut Board<'a>) -> Result<Answer, AllocError> {
     let len = fitting(start.size.0);
     let line = start.line(len)?;
     start.ready();
@@ -61,7 +61,7 @@ fn col_pushed<'a>(start: Start<'a>, board: &mut Board<'a>) -> Result<Answer, All
 
 // No line of this length, one or two, put before the first line, behind the last, or between.
 fn several_put<'a>(
-    start: Start<'a>,
+    start: &'a Start,
     board: &mut Board<'a>,
     at: LineAt,
     len: usize,
@@ -74,13 +74,13 @@ fn several_put<'a>(
 }
 
 // How many lines another board has.
-fn joined_count(start: Start<'_>) -> usize {
+fn joined_count(start: &Start) -> usize {
     if start.case == 2 { 1 } else { 2 }
 }
 
 // The other board: in the same order, in the other order, or empty.
 fn other_of<'a>(
-    start: Start<'a>,
+    start: &'a Start,
     size: (usize, usize),
 ) -> Result<(Board<'a>, (usize, usize), Order), AllocError> {
     let other = match start.order {
@@ -96,7 +96,7 @@ fn other_of<'a>(
     Ok((board, size, order))
 }
 
-fn rows_joined<'a>(start: Start<'a>, board: &mut Board<'a>) -> Result<Answer, AllocError> {
+fn rows_joined<'a>(start: &'a Start, board: &mut Board<'a>) -> Result<Answer, AllocError> {
     let (other, size, order) = other_of(start, (joined_count(start), fitting(start.size.1)))?;
     if !other.is_empty() && !board.fits_row(other.cols()) {
         return Ok(Answer::Wrong);
@@ -105,7 +105,7 @@ fn rows_joined<'a>(start: Start<'a>, board: &mut Board<'a>) -> Result<Answer, Al
     Ok(board_came(board.append_rows(other), size, order))
 }
 
-fn cols_joined<'a>(start: Start<'a>, board: &mut Board<'a>) -> Result<Answer, AllocError> {
+fn cols_joined<'a>(start: &'a Start, board: &mut Board<'a>) -> Result<Answer, AllocError> {
     let (other, size, order) = other_of(start, (fitting(start.size.0), joined_count(start)))?;
     if !other.is_empty() && !board.fits_col(other.rows()) {
         return Ok(Answer::Wrong);
@@ -114,7 +114,7 @@ fn cols_joined<'a>(start: Start<'a>, board: &mut Board<'a>) -> Result<Answer, Al
     Ok(board_came(board.append_cols(other), size, order))
 }
 
-fn rows_split_off<'a>(start: Start<'a>, board: &mut Board<'a>) -> Answer {
+fn rows_split_off<'a>(start: &'a Start, board: &mut Board<'a>) -> Answer {
     if start.case > board.rows() {
         return Answer::Skipped;
     }
@@ -122,7 +122,7 @@ fn rows_split_off<'a>(start: Start<'a>, board: &mut Board<'a>) -> Answer {
     came(board.split_off_rows(start.case))
 }
 
-fn cols_split_off<'a>(start: Start<'a>, board: &mut Board<'a>) -> Answer {
+fn cols_split_off<'a>(start: &'a Start, board: &mut Board<'a>) -> Answer {
     if start.case > board.cols() {
         return Answer::Skipped;
     }
@@ -130,7 +130,7 @@ fn cols_split_off<'a>(start: Start<'a>, board: &mut Board<'a>) -> Answer {
     came(board.split_off_cols(start.case))
 }
 
-fn resized<'a>(start: Start<'a>, board: &mut Board<'a>) -> Answer {
+fn resized<'a>(start: &'a Start, board: &mut Board<'a>) -> Answer {
     let (rows, cols) = match start.case {
         0 => (0, 0),
         1 => (1, 1),
@@ -146,7 +146,7 @@ fn resized<'a>(start: Start<'a>, board: &mut Board<'a>) -> Answer {
     came(board.resize(rows, cols))
 }
 
-fn padded<'a>(start: Start<'a>, board: &mut Board<'a>, name: &str) -> Answer {
+fn padded<'a>(start: &'a Start, board: &mut Board<'a>, name: &str) -> Answer {
     start.ready();
     match name {
         "Grid::expand_rows" => came(board.expand_rows(start.case)),
@@ -157,7 +157,7 @@ fn padded<'a>(start: Start<'a>, board: &mut Board<'a>, name: &str) -> Answer {
     }
 }
 
-fn taken<'a>(start: Start<'a>, board: &mut Board<'a>, name: &str) -> Answer {
+fn taken<'a>(start: &'a Start, board: &mut Board<'a>, name: &str) -> Answer {
     start.ready();
     match name {
         "Grid::pop_row" => came(board.pop_row()),
@@ -169,7 +169,7 @@ fn taken<'a>(start: Start<'a>, board: &mut Board<'a>, name: &str) -> Answer {
 }
 
 fn joined_or_split<'a>(
-    start: Start<'a>,
+    start: &'a Start,
     board: &mut Board<'a>,
     name: &str,
 ) -> Result<Answer, AllocError> {
@@ -183,7 +183,7 @@ fn joined_or_split<'a>(
     }
 }
 
-pub fn call<'a>(start: Start<'a>, board: &mut Board<'a>, name: &str) -> Result<Answer, AllocError> {
+pub fn call<'a>(start: &'a Start, board: &mut Board<'a>, name: &str) -> Result<Answer, AllocError> {
     let (rows, cols) = start.size;
     let at = match start.case / 3 {
         0 => (0, 0),

@@ -1,5 +1,5 @@
 //! Boards as JSON values.
-use crate::state::{Answer, Call, Start, came};
+use crate::state::{Answer, Call, Numbers, Start, came};
 use grid::Grid;
 use grid_json::laws::written_and_read;
 use grid_json::{Cell, RowsError, from_value, rows_from_value, rows_to_value, to_value};
@@ -17,7 +17,7 @@ pub const CALLS: [Call; 7] = [
 ];
 
 // A cell as a value, and back.
-fn cell<T: Cell>(start: Start<'_>, name: &str, cell: &T) -> Answer {
+fn cell<T: Cell>(start: &Start, name: &str, cell: &T) -> Answer {
     match cell.to_cell(start.alloc) {
         Ok(value) if name == "Cell::from_cell" => came(T::from_cell(start.alloc, &value)),
         value => came(value),
@@ -25,7 +25,7 @@ fn cell<T: Cell>(start: Start<'_>, name: &str, cell: &T) -> Answer {
 }
 
 // Each cell of the board as a number, a large or a negative one, or a text.
-fn cells(start: Start<'_>, name: &str) -> Result<Answer, AllocError> {
+fn cells(start: &Start, name: &str) -> Result<Answer, AllocError> {
     for number in start.numbers()?.iter() {
         let answer = match start.case {
             0 => cell(start, name, number),
@@ -40,22 +40,27 @@ fn cells(start: Start<'_>, name: &str) -> Result<Answer, AllocError> {
     Ok(Answer::Done)
 }
 
-fn read(start: Start<'_>) -> Result<Answer, AllocError> {
+fn read(start: &Start) -> Result<Answer, AllocError> {
     let value = to_value(start.alloc, &start.numbers()?)?;
     let read: Result<Grid<u32>, _> = from_value(start.alloc, &value);
     Ok(came(read))
 }
 
-// The board as an array of its width, its numbers, and in cases 2 and 3 an order.
-fn array_read(start: Start<'_>) -> Result<Answer, AllocError> {
-    let board = start.numbers()?;
+// The numbers of a board, in storage order.
+fn stored_numbers(start: &Start, board: &Numbers<'_>) -> Result<Value, AllocError> {
     let mut numbers = Vec::new(start.alloc);
     for cell in board.iter() {
         numbers.push(Value::from(*cell))?;
     }
+    Ok(Value::Array(numbers))
+}
+
+// The board as an array of its width, its numbers, and in cases 2 and 3 an order.
+fn array_read(start: &Start) -> Result<Answer, AllocError> {
+    let board = start.numbers()?;
     let mut items = Vec::new(start.alloc);
     items.push(Value::from(board.cols() as u64))?;
-    items.push(Value::Array(numbers))?;
+    items.push(stored_numbers(start, &board)?)?;
     if start.case > 1 {
         let name = if start.case == 2 {
             "RowMajor"
@@ -70,7 +75,7 @@ fn array_read(start: Start<'_>) -> Result<Answer, AllocError> {
 }
 
 // The board as an object without an order.
-fn object_read(start: Start<'_>) -> Result<Answer, AllocError> {
+fn object_read(start: &Start) -> Result<Answer, AllocError> {
     let mut value = to_value(start.alloc, &start.numbers()?)?;
     if let Some(fields) = value.as_object_mut() {
         let _order = fields.remove("order");
@@ -80,7 +85,7 @@ fn object_read(start: Start<'_>) -> Result<Answer, AllocError> {
 }
 
 // One item that the closure, which is asked once, says is no cell.
-fn no_cell_read(start: Start<'_>) -> Result<Answer, AllocError> {
+fn no_cell_read(start: &Start) -> Result<Answer, AllocError> {
     if start.size != (1, 1) {
         return Ok(Answer::Skipped);
     }
@@ -102,7 +107,7 @@ fn no_cell_read(start: Start<'_>) -> Result<Answer, AllocError> {
 }
 
 // The rows of the board, and in case 1 an item behind them that isn't a row, which is told when all cells are read.
-fn rows_read(start: Start<'_>) -> Result<Answer, AllocError> {
+fn rows_read(start: &Start) -> Result<Answer, AllocError> {
     let board = start.numbers()?;
     let mut value = rows_to_value(start.alloc, &board, |cell| Ok(Value::from(*cell)))?;
     if let (Some(items), 1) = (value.as_array_mut(), start.case) {
@@ -118,7 +123,7 @@ fn rows_read(start: Start<'_>) -> Result<Answer, AllocError> {
 }
 
 // Two rows without cells.
-fn empty_rows_read(start: Start<'_>) -> Result<Answer, AllocError> {
+fn empty_rows_read(start: &Start) -> Result<Answer, AllocError> {
     if start.size != (0, 0) {
         return Ok(Answer::Skipped);
     }
@@ -135,7 +140,7 @@ fn empty_rows_read(start: Start<'_>) -> Result<Answer, AllocError> {
     })
 }
 
-fn written(start: Start<'_>, name: &str) -> Result<Answer, AllocError> {
+fn written(start: &Start, name: &str) -> Result<Answer, AllocError> {
     let board = start.numbers()?;
     start.ready();
     Ok(match name {
@@ -149,7 +154,7 @@ fn written(start: Start<'_>, name: &str) -> Result<Answer, AllocError> {
     })
 }
 
-pub fn call(start: Start<'_>, name: &str) -> Result<Answer, AllocError> {
+pub fn call(start: &Start, name: &str) -> Result<Answer, AllocError> {
     match name {
         "Cell::to_cell" | "Cell::from_cell" => cells(start, name),
         "grid_json::from_value" if start.case == 4 => object_read(start),

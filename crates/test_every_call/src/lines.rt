@@ -37,7 +37,7 @@ fn most_compared(lines: usize) -> u64 {
 
 // Compares as it is sorted, backwards, or as if all were equal.
 fn compared<'a>(
-    start: Start<'a>,
+    start: &'a Start,
     a: GridLineIter<'_, Counted<'a>>,
     b: GridLineIter<'_, Counted<'a>>,
 ) -> Ordering {
@@ -49,7 +49,7 @@ fn compared<'a>(
     }
 }
 
-fn sort_by<'a>(start: Start<'a>, board: &mut Board<'a>, by_rows: bool) -> Answer {
+fn sort_by<'a>(start: &'a Start, board: &mut Board<'a>, by_rows: bool) -> Answer {
     let (sorted, lines) = if by_rows {
         (
             sort_rows_by(board, |a, b| compared(start, a, b)),
@@ -68,9 +68,9 @@ fn sort_by<'a>(start: Start<'a>, board: &mut Board<'a>, by_rows: bool) -> Answer
 }
 
 // A key on the heap: a number that goes down, or in case 1 nothing.
-fn key<'a>(start: Start<'a>, line: GridLineIter<'_, Counted<'a>>) -> Vec<u32, &'a Heap> {
+fn key<'a>(start: &'a Start, line: GridLineIter<'_, Counted<'a>>) -> Vec<u32, &'a Heap> {
     start.called();
-    let mut key = Vec::new(start.heap);
+    let mut key = Vec::new(&start.heap);
     if start.case == 0 {
         let _refused = key.push(100u32.saturating_sub(first(line).unwrap_or(0)));
     }
@@ -78,7 +78,7 @@ fn key<'a>(start: Start<'a>, line: GridLineIter<'_, Counted<'a>>) -> Vec<u32, &'
 }
 
 // Sorts by a key, which is asked once of each line.
-fn sort_by_key<'a>(start: Start<'a>, board: &mut Board<'a>, by_rows: bool) -> Answer {
+fn sort_by_key<'a>(start: &'a Start, board: &mut Board<'a>, by_rows: bool) -> Answer {
     let (sorted, lines) = if by_rows {
         (
             sort_rows_by_key(board, |line| key(start, line)),
@@ -98,8 +98,8 @@ fn sort_by_key<'a>(start: Start<'a>, board: &mut Board<'a>, by_rows: bool) -> An
 }
 
 // The rows by value. Where the call is refused, the board comes back.
-fn moved<'a>(start: Start<'a>, board: &mut Board<'a>) -> Answer {
-    match into_rows(std::mem::replace(board, Grid::empty(start.heap))) {
+fn moved<'a>(start: &'a Start, board: &mut Board<'a>) -> Answer {
+    match into_rows(std::mem::replace(board, Grid::empty(&start.heap))) {
         Ok(_) => Answer::Done,
         Err(back) => {
             *board = back;
@@ -108,7 +108,7 @@ fn moved<'a>(start: Start<'a>, board: &mut Board<'a>) -> Answer {
     }
 }
 
-pub fn call<'a>(start: Start<'a>, board: &mut Board<'a>, name: &str) -> Result<Answer, AllocError> {
+pub fn call<'a>(start: &'a Start, board: &mut Board<'a>, name: &str) -> Result<Answer, AllocError> {
     start.ready();
     Ok(match name {
         "grid_lines::sort_rows_by" => sort_by(start, board, true),

@@ -30,8 +30,8 @@ pub const CALLS: [Call; 20] = [
 ];
 
 // A board of what a closure makes.
-fn from_fn<'a>(start: Start<'a>, name: &str) -> Answer {
-    let Start { heap, order, .. } = start;
+fn from_fn<'a>(start: &'a Start, name: &str) -> Answer {
+    let (heap, order) = (&start.heap, start.order);
     let (rows, cols) = start.size;
     match name {
         "Grid::from_fn" => came(Board::from_fn(heap, rows, cols, |_| start.cell(1))),
@@ -55,8 +55,8 @@ fn from_fn<'a>(start: Start<'a>, name: &str) -> Answer {
     }
 }
 
-fn sized<'a>(start: Start<'a>, name: &str) -> Answer {
-    let Start { heap, order, .. } = start;
+fn sized<'a>(start: &'a Start, name: &str) -> Answer {
+    let (heap, order) = (&start.heap, start.order);
     let (rows, cols) = start.size;
     match name {
         "Grid::new" => came(Board::new(heap, rows, cols)),
@@ -74,7 +74,7 @@ fn sized<'a>(start: Start<'a>, name: &str) -> Answer {
 }
 
 // Two rows of three slots. That every slot keeps its cell where the call is refused, `test_refusals` shows.
-fn from_arrays(start: Start<'_>) -> Answer {
+fn from_arrays(start: &Start) -> Answer {
     let mut slots = [
         [
             Some(start.given(1)),
@@ -87,27 +87,27 @@ fn from_arrays(start: Start<'_>) -> Answer {
             Some(start.given(6)),
         ],
     ];
-    came(Grid::from_arrays(start.heap, start.order, &mut slots))
+    came(Grid::from_arrays(&start.heap, start.order, &mut slots))
 }
 
 // Of a view of the board through each symmetry, or, in the other order than that of the board, of its last column.
-fn from_view(start: Start<'_>, view: &GridView<'_, Counted<'_>>) -> Answer {
+fn from_view(start: &Start, view: &GridView<'_, Counted<'_>>) -> Answer {
     let Some(symmetry) = SYMMETRIES.get(start.case % 8) else {
         return Answer::Skipped;
     };
     if start.case < 8 {
-        return came(Grid::from_view(start.heap, start.order, &view.turned(*symmetry)));
+        return came(Grid::from_view(&start.heap, start.order, &view.turned(*symmetry)));
     }
     let (rows, cols) = view.size();
     if cols == 0 {
         return Answer::Skipped;
     }
     let last = view.part((0, cols - 1), (rows, 1));
-    came(Grid::from_view(start.heap, start.order.flipped(), &last.turned(*symmetry)))
+    came(Grid::from_view(&start.heap, start.order.flipped(), &last.turned(*symmetry)))
 }
 
 // Of the vector of a board, lent.
-fn of_vector(start: Start<'_>, board: &Board<'_>) -> Answer {
+fn of_vector(start: &Start, board: &Board<'_>) -> Answer {
     let cols = board.cols();
     if start.case == 0 {
         came(Board::try_from((board.flatten(), cols)))
@@ -117,7 +117,7 @@ fn of_vector(start: Start<'_>, board: &Board<'_>) -> Answer {
 }
 
 // Of the rows of a board of this size.
-fn of_rows<'a>(start: Start<'a>, name: &str) -> Result<Answer, AllocError> {
+fn of_rows<'a>(start: &'a Start, name: &str) -> Result<Answer, AllocError> {
     let rows = start.lines(start.size.0, start.size.1)?;
     if name == "Grid::try_from of rows" {
         start.ready();
@@ -127,7 +127,7 @@ fn of_rows<'a>(start: Start<'a>, name: &str) -> Result<Answer, AllocError> {
 }
 
 fn of_list<'a>(
-    start: Start<'a>,
+    start: &'a Start,
     name: &str,
     rows: &Vec<Line<'a>, &'a Heap>,
 ) -> Result<Answer, AllocError> {
@@ -135,13 +135,13 @@ fn of_list<'a>(
         start.ready();
         return Ok(came(Board::try_from(rows)));
     }
-    let lent: Vec<&Line<'a>, &'a Heap> = rows.iter().collect(start.heap)?;
+    let lent: Vec<&Line<'a>, &'a Heap> = rows.iter().collect(&start.heap)?;
     start.ready();
     Ok(came(Board::try_from(&lent)))
 }
 
 // Of as many rows as the board has, without cells, moved or lent.
-fn of_empty_rows(start: Start<'_>) -> Result<Answer, AllocError> {
+fn of_empty_rows(start: &Start) -> Result<Answer, AllocError> {
     let rows = start.lines(start.size.0, 0)?;
     start.ready();
     let made = if start.case == 0 {
@@ -156,7 +156,7 @@ fn of_empty_rows(start: Start<'_>) -> Result<Answer, AllocError> {
 }
 
 // Vectors that are no table, which are dropped: a line to be cut into rows of none, and rows of two lengths, also lent.
-fn no_table(start: Start<'_>) -> Result<Answer, AllocError> {
+fn no_table(start: &Start) -> Result<Answer, AllocError> {
     start.prepare();
     let line = start.line(1)?;
     let mut rows = start.lines(2, 2)?;
@@ -174,8 +174,8 @@ fn no_table(start: Start<'_>) -> Result<Answer, AllocError> {
 }
 
 // Sizes whose number of cells exceeds `usize::MAX`.
-fn too_many(start: Start<'_>) -> Answer {
-    let Start { heap, order, .. } = start;
+fn too_many(start: &Start) -> Answer {
+    let (heap, order) = (&start.heap, start.order);
     let made = match start.case {
         0 => Board::new(heap, usize::MAX, 2),
         1 => Board::init_with_order(heap, 2, usize::MAX, order, start.given(1)),
@@ -190,8 +190,8 @@ fn too_many(start: Start<'_>) -> Answer {
 }
 
 // Sizes with no rows alone, and with no columns; and the vector of one row, moved.
-fn none_or_moved<'a>(start: Start<'a>) -> Result<Answer, AllocError> {
-    let Start { heap, order, .. } = start;
+fn none_or_moved<'a>(start: &'a Start) -> Result<Answer, AllocError> {
+    let (heap, order) = (&start.heap, start.order);
     let line = start.line(start.size.1)?;
     start.ready();
     let made = match start.case {
@@ -208,7 +208,7 @@ fn none_or_moved<'a>(start: Start<'a>) -> Result<Answer, AllocError> {
     })
 }
 
-pub fn call<'a>(start: Start<'a>, board: &mut Board<'a>, name: &str) -> Result<Answer, AllocError> {
+pub fn call<'a>(start: &'a Start, board: &mut Board<'a>, name: &str) -> Result<Answer, AllocError> {
     start.ready();
     match name {
         "Grid::from_arrays" => Ok(from_arrays(start)),

@@ -33,7 +33,7 @@ fn low(cell: &Counted<'_>) -> u8 {
 }
 
 // Of those whose edges are open both closures are counted.
-fn counted<'a>(start: Start<'a>, board: &Board<'a>, name: &str) -> Answer {
+fn counted<'a>(start: &'a Start, board: &Board<'a>, name: &str) -> Answer {
     let odd = |cell: &Counted<'_>| {
         start.called();
         is_odd(cell)
@@ -53,7 +53,7 @@ fn counted<'a>(start: Start<'a>, board: &Board<'a>, name: &str) -> Answer {
 
 // Those whose edges are joined call the test once more at the cells of the first line along the storage and of the last, and
 // never where they are refused.
-fn wrapped<'a>(start: Start<'a>, board: &Board<'a>, name: &str) -> Answer {
+fn wrapped<'a>(start: &'a Start, board: &Board<'a>, name: &str) -> Answer {
     let tests = Cell::new(0u64);
     let tested = || tests.set(tests.get().wrapping_add(1));
     let odd = |cell: &Counted<'_>| {
@@ -95,9 +95,9 @@ fn wrapped<'a>(start: Start<'a>, board: &Board<'a>, name: &str) -> Answer {
 }
 
 // The positions of all cells, of none, of those that are odd, or of the last, by the case.
-fn positions<'a>(start: Start<'a>, board: &Board<'a>) -> Answer {
+fn positions<'a>(start: &'a Start, board: &Board<'a>) -> Answer {
     let cells = start.size.0.wrapping_mul(start.size.1) as u64;
-    came(board.positions(start.heap, |cell| {
+    came(board.positions(&start.heap, |cell| {
         start.called();
         start.visited_by_rows(cell.value());
         match start.case {
@@ -109,7 +109,7 @@ fn positions<'a>(start: Start<'a>, board: &Board<'a>) -> Answer {
     }))
 }
 
-fn round<'a>(start: Start<'a>, board: &Board<'a>, name: &str) -> Answer {
+fn round<'a>(start: &'a Start, board: &Board<'a>, name: &str) -> Answer {
     match name {
         "Grid::map_neighbors4" => came(board.map_neighbors4(|_, cell, _| start.visit(
             cell.value(),
@@ -127,7 +127,7 @@ fn round<'a>(start: Start<'a>, board: &Board<'a>, name: &str) -> Answer {
     }
 }
 
-pub fn call<'a>(start: Start<'a>, board: &mut Board<'a>, name: &str) -> Result<Answer, AllocError> {
+pub fn call<'a>(start: &'a Start, board: &mut Board<'a>, name: &str) -> Result<Answer, AllocError> {
     start.ready();
     Ok(match name {
         "Grid::map_ref" => came(board.map_ref(|cell| start.visit(cell.value()))),

@@ -18,7 +18,7 @@ pub const CALLS: [Call; 8] = [
 ];
 
 // The steps of a case: to the sides, or to the corners too.
-fn steps(start: Start<'_>) -> Steps {
+fn steps(start: &Start) -> Steps {
     if start.case % 2 == 0 {
         Steps::Sides
     } else {
@@ -30,12 +30,12 @@ fn steps(start: Start<'_>) -> Steps {
 const STARTS: [&[(usize, usize)]; 3] = [&[], &[(0, 0)], &[(0, 0), (2, 2), (0, 0), (9, 9)]];
 
 // The positions of a case; from case 3 on the last ones.
-fn starts(start: Start<'_>) -> &'static [(usize, usize)] {
+fn starts(start: &Start) -> &'static [(usize, usize)] {
     STARTS.get(start.case.min(2)).copied().unwrap_or(&[])
 }
 
 // What a call came to, which may call its closure once for each cell.
-fn once_each(start: Start<'_>, answer: Answer) -> Answer {
+fn once_each(start: &Start, answer: Answer) -> Answer {
     if start.calls.get() <= start.size.0.wrapping_mul(start.size.1) as u64 {
         answer
     } else {
@@ -44,7 +44,7 @@ fn once_each(start: Start<'_>, answer: Answer) -> Answer {
 }
 
 // The last cell, or in case 4 a position out of range.
-fn end(start: Start<'_>) -> (usize, usize) {
+fn end(start: &Start) -> (usize, usize) {
     let (rows, cols) = start.size;
     if start.case == 4 {
         return (rows, cols);
@@ -53,7 +53,7 @@ fn end(start: Start<'_>) -> (usize, usize) {
 }
 
 // Whether a cell is free: all are; none is; or the first and the last alone, between which no path leads on three columns.
-fn is_free(start: Start<'_>, cell: u32) -> bool {
+fn is_free(start: &Start, cell: u32) -> bool {
     start.called();
     start.case < 2
         || start.case == 4
@@ -61,7 +61,7 @@ fn is_free(start: Start<'_>, cell: u32) -> bool {
 }
 
 // From the first cell to the last one.
-fn path(start: Start<'_>, board: &Numbers<'_>) -> Answer {
+fn path(start: &Start, board: &Numbers<'_>) -> Answer {
     let free = |cell: &u32| is_free(start, *cell);
     once_each(
         start,
@@ -70,7 +70,7 @@ fn path(start: Start<'_>, board: &Numbers<'_>) -> Answer {
 }
 
 // What it costs to enter a cell: its number, or in an odd case so much that two exceed `u32::MAX`.
-fn cost_of(start: Start<'_>, cell: u32) -> u32 {
+fn cost_of(start: &Start, cell: u32) -> u32 {
     if start.case % 2 == 0 {
         cell
     } else {
@@ -78,7 +78,7 @@ fn cost_of(start: Start<'_>, cell: u32) -> u32 {
     }
 }
 
-fn cheap_path(start: Start<'_>, board: &Numbers<'_>) -> Answer {
+fn cheap_path(start: &Start, board: &Numbers<'_>) -> Answer {
     let cost = |cell: &u32| is_free(start, *cell).then_some(cost_of(start, *cell));
     once_each(
         start,
@@ -87,7 +87,7 @@ fn cheap_path(start: Start<'_>, board: &Numbers<'_>) -> Answer {
 }
 
 // It goes on, stops or stays out everywhere.
-fn flooded(start: Start<'_>, board: &Numbers<'_>) -> Answer {
+fn flooded(start: &Start, board: &Numbers<'_>) -> Answer {
     came(flood(board, starts(start), steps(start), |_| {
         start.called();
         match start.case {
@@ -99,7 +99,7 @@ fn flooded(start: Start<'_>, board: &Numbers<'_>) -> Answer {
 }
 
 // All cells are free, or in the last case none.
-fn searched(start: Start<'_>, board: &Numbers<'_>, name: &str) -> Answer {
+fn searched(start: &Start, board: &Numbers<'_>, name: &str) -> Answer {
     let free_until = |case: usize| {
         start.called();
         start.case < case
@@ -119,7 +119,7 @@ fn searched(start: Start<'_>, board: &Numbers<'_>, name: &str) -> Answer {
 
 // Fills the region of the first cell with another number, or with its own. In case 3 the region is the board; in case 4
 // there is none; in case 5 it is the board but for the last cell.
-fn filled(start: Start<'_>, board: &mut Numbers<'_>) -> Answer {
+fn filled(start: &Start, board: &mut Numbers<'_>) -> Answer {
     if start.case == 3 || start.case == 5 {
         board.fill_with(|| 1);
     }
@@ -142,14 +142,14 @@ fn filled(start: Start<'_>, board: &mut Numbers<'_>) -> Answer {
 }
 
 // Each cell is a region, or in case 2 the board is one.
-fn numbered(start: Start<'_>, board: &mut Numbers<'_>) -> Answer {
+fn numbered(start: &Start, board: &mut Numbers<'_>) -> Answer {
     if start.case == 2 {
         board.fill_with(|| 1);
     }
     came(regions(board, steps(start)))
 }
 
-pub fn call(start: Start<'_>, name: &str) -> Result<Answer, AllocError> {
+pub fn call(start: &Start, name: &str) -> Result<Answer, AllocError> {
     let mut board = start.numbers()?;
     start.ready();
     Ok(match name {

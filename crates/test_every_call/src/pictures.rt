@@ -19,20 +19,20 @@ fn sample(cell: &u32) -> u8 {
     (cell % 200) as u8
 }
 
-fn read(start: Start<'_>, name: &str) -> Result<Answer, AllocError> {
+fn read(start: &Start, name: &str) -> Result<Answer, AllocError> {
     let picture = to_pgm(start.alloc, &start.numbers()?, sample)?;
     start.ready();
     Ok(if name == "grid_pnm::from_pgm" {
-        came(from_pgm(start.heap, picture.as_slice()))
+        came(from_pgm(&start.heap, picture.as_slice()))
     } else {
         came(read_header(picture.as_slice()))
     })
 }
 
-fn color_read(start: Start<'_>) -> Result<Answer, AllocError> {
+fn color_read(start: &Start) -> Result<Answer, AllocError> {
     let picture = to_ppm(start.alloc, &start.numbers()?, |cell| [sample(cell); 3])?;
     start.ready();
-    Ok(came(from_ppm(start.heap, picture.as_slice())))
+    Ok(came(from_ppm(&start.heap, picture.as_slice())))
 }
 
 // Pictures, gray and colored: in decimals good ones of one row and of one column, and in bytes a good one; the last sample
@@ -64,7 +64,7 @@ const COLORED: [&[u8]; 10] = [
     b"P3 # one\n1 1\n9\n7 8 9\n",
 ];
 
-fn picture(pictures: [&'static [u8]; 10], start: Start<'_>) -> &'static [u8] {
+fn picture(pictures: [&'static [u8]; 10], start: &Start) -> &'static [u8] {
     pictures
         .get(start.case.wrapping_sub(1))
         .copied()
@@ -72,7 +72,7 @@ fn picture(pictures: [&'static [u8]; 10], start: Start<'_>) -> &'static [u8] {
 }
 
 // What a picture of a case came to; those of cases 4 to 6 have a fault.
-fn plain_came<T: Drop>(start: Start<'_>, read: Result<T, PnmError>) -> Answer {
+fn plain_came<T: Drop>(start: &Start, read: Result<T, PnmError>) -> Answer {
     match read {
         Err(PnmError::AboveMax { .. }) if start.case == 4 || start.case == 5 => Answer::Done,
         Err(PnmError::BadNumber { .. }) if start.case == 6 => Answer::Done,
@@ -81,21 +81,21 @@ fn plain_came<T: Drop>(start: Start<'_>, read: Result<T, PnmError>) -> Answer {
     }
 }
 
-fn plain_read(start: Start<'_>, name: &str) -> Answer {
+fn plain_read(start: &Start, name: &str) -> Answer {
     if start.size != (1, 1) {
         return Answer::Skipped;
     }
     start.ready();
     if name == "grid_pnm::from_pgm" {
-        plain_came(start, from_pgm(start.heap, picture(GRAY, start)))
+        plain_came(start, from_pgm(&start.heap, picture(GRAY, start)))
     } else {
-        plain_came(start, from_ppm(start.heap, picture(COLORED, start)))
+        plain_came(start, from_ppm(&start.heap, picture(COLORED, start)))
     }
 }
 
 // Of many cells or few, each as often as the case says.
-fn large(start: Start<'_>, board: &Numbers<'_>) -> Answer {
-    let answer = came(enlarged(start.heap, board, start.case));
+fn large(start: &Start, board: &Numbers<'_>) -> Answer {
+    let answer = came(enlarged(&start.heap, board, start.case));
     let cells = start.case.min(start.size.0).min(1) as u64;
     if answer == Answer::Done && start.heap.granted() != cells {
         return Answer::Wrong;
@@ -103,7 +103,7 @@ fn large(start: Start<'_>, board: &Numbers<'_>) -> Answer {
     answer
 }
 
-fn written(start: Start<'_>, name: &str) -> Result<Answer, AllocError> {
+fn written(start: &Start, name: &str) -> Result<Answer, AllocError> {
     let board = start.numbers()?;
     start.ready();
     let gray = |cell: &u32| {
@@ -111,8 +111,8 @@ fn written(start: Start<'_>, name: &str) -> Result<Answer, AllocError> {
         sample(cell)
     };
     Ok(match name {
-        "grid_pnm::to_pgm" => came(to_pgm(start.heap, &board, gray)),
-        "grid_pnm::to_ppm" => came(to_ppm(start.heap, &board, |cell| [gray(cell); 3])),
+        "grid_pnm::to_pgm" => came(to_pgm(&start.heap, &board, gray)),
+        "grid_pnm::to_ppm" => came(to_ppm(&start.heap, &board, |cell| [gray(cell); 3])),
         "grid_pnm::pgm_written_and_read" => came(pgm_written_and_read(start.alloc, &board, gray)),
         "grid_pnm::ppm_written_and_read" => {
             came(ppm_written_and_read(start.alloc, &board, |cell| [gray(cell); 3]))
@@ -122,7 +122,7 @@ fn written(start: Start<'_>, name: &str) -> Result<Answer, AllocError> {
     })
 }
 
-pub fn call(start: Start<'_>, name: &str) -> Result<Answer, AllocError> {
+pub fn call(start: &Start, name: &str) -> Result<Answer, AllocError> {
     match name {
         "grid_pnm::from_pgm" | "grid_pnm::from_ppm" if start.case > 0 => {
             Ok(plain_read(start, name))

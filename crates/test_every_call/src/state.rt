@@ -44,18 +44,18 @@ pub enum Answer {
 }
 
 // What a call starts from: a board of this size and order, where `granted` requests are granted.
-#[derive(Clone, Copy)]
-pub struct Start<'a> {
+#[derive(Drop)]
+pub struct Start {
     pub alloc: Global,
-    pub heap: &'a Heap,
+    pub heap: Heap,
     pub size: (usize, usize),
     pub order: Order,
     pub case: usize,
     pub granted: u64,
-    pub calls: &'a Cell<u64>,
-    pub refusals: &'a Cell<u64>,
-    pub last: &'a Cell<u64>,
-    pub strays: &'a Cell<u64>,
+    pub calls: Cell<u64>,
+    pub refusals: Cell<u64>,
+    pub last: Cell<u64>,
+    pub strays: Cell<u64>,
 }
 
 // The number of the cell at a position.
@@ -63,7 +63,7 @@ pub fn number((row, col): (usize, usize)) -> u32 {
     (row % 10 * 10 + col % 10 + 1) as u32
 }
 
-impl<'a> Start<'a> {
+impl Start {
     // Grants all requests, to make what is handed over.
     pub fn prepare(&self) {
         self.heap.grant(u64::MAX);
@@ -75,15 +75,15 @@ impl<'a> Start<'a> {
     }
 
     // Counts a call of a closure, and makes a cell of this number.
-    pub fn cell(&self, number: u32) -> Counted<'a> {
+    pub fn cell<'a>(&'a self, number: u32) -> Counted<'a> {
         self.called();
-        Counted::new(self.heap, number)
+        Counted::new(&self.heap, number)
     }
 
     // The same of a cell that may be refused, which is counted too.
-    pub fn try_cell(&self, number: u32) -> Result<Counted<'a>, AllocError> {
+    pub fn try_cell<'a>(&'a self, number: u32) -> Result<Counted<'a>, AllocError> {
         self.called();
-        let made = Counted::try_new(self.heap, number);
+        let made = Counted::try_new(&self.heap, number);
         if made.is_err() {
             self.refusals.set(self.refusals.get().wrapping_add(1));
         }
@@ -109,14 +109,14 @@ impl<'a> Start<'a> {
     }
 
     // The same, and makes a cell of this number.
-    pub fn visit(&self, number: u32) -> Counted<'a> {
+    pub fn visit<'a>(&'a self, number: u32) -> Counted<'a> {
         self.visited(number);
         self.cell(number)
     }
 
     // A cell that is handed over, and counted by the heap alone.
-    pub fn given(&self, number: u32) -> Counted<'a> {
-        Counted::new(self.heap, number)
+    pub fn given<'a>(&'a self, number: u32) -> Counted<'a> {
+        Counted::new(&self.heap, number)
     }
 
     // Counts a call of a closure.
@@ -125,17 +125,21 @@ impl<'a> Start<'a> {
     }
 
     // The line of `len` cells.
-    pub fn line(&self, len: usize) -> Result<Line<'a>, AllocError> {
-        let mut line = Vec::with_capacity(self.heap, len)?;
+    pub fn line<'a>(&'a self, len: usize) -> Result<Line<'a>, AllocError> {
+        let mut line = Vec::with_capacity(&self.heap, len)?;
         for col in 0..len {
-            line.push(Counted::new(self.heap, number((0, col))))?;
+            line.push(Counted::new(&self.heap, number((0, col))))?;
         }
         Ok(line)
     }
 
     // `count` lines of `len` cells.
-    pub fn lines(&self, count: usize, len: usize) -> Result<Vec<Line<'a>, &'a Heap>, AllocError> {
-        let mut lines = Vec::with_capacity(self.heap, count)?;
+    pub fn lines<'a>(
+        &'a self,
+        count: usize,
+        len: usize,
+    ) -> Result<Vec<Line<'a>, &'a Heap>, AllocError> {
+        let mut lines = Vec::with_capacity(&self.heap, count)?;
         for _ in 0..count {
             lines.push(self.line(len)?)?;
         }
@@ -143,21 +147,25 @@ impl<'a> Start<'a> {
     }
 
     // The board of this size and order, whose vector has no room to spare.
-    pub fn board(&self, size: (usize, usize), order: Order) -> Result<Board<'a>, AllocError> {
+    pub fn board<'a>(
+        &'a self,
+        size: (usize, usize),
+        order: Order,
+    ) -> Result<Board<'a>, AllocError> {
         let made = Grid::from_fn_with_order(
-            self.heap,
+            &self.heap,
             size.0,
             size.1,
             order,
-            |at| Counted::new(self.heap, number(at)),
+            |at| Counted::new(&self.heap, number(at)),
         );
         made.map_err(|_| AllocError)
     }
 
     // The numbers of the board.
-    pub fn numbers(&self) -> Result<Numbers<'a>, AllocError> {
+    pub fn numbers<'a>(&'a self) -> Result<Numbers<'a>, AllocError> {
         let (rows, cols) = self.size;
-        let made = Grid::from_fn_with_order(self.heap, rows, cols, self.order, |at| number(at));
+        let made = Grid::from_fn_with_order(&self.heap, rows, cols, self.order, |at| number(at));
         made.map_err(|_| AllocError)
     }
 }

@@ -18,12 +18,12 @@ pub const CALLS: [Call; 8] = [
 // Characters of one, four, two and three bytes.
 const LETTERS: [char; 4] = ['x', '🦀', 'é', '€'];
 
-fn letter(start: Start<'_>) -> char {
+fn letter(start: &Start) -> char {
     LETTERS.get(start.case).copied().unwrap_or('x')
 }
 
 // A text as it was written, or in case 1 without the end of its last line.
-fn ended<'t>(start: Start<'_>, text: &'t str) -> &'t str {
+fn ended<'t>(start: &Start, text: &'t str) -> &'t str {
     if start.case == 1 {
         text.trim_end()
     } else {
@@ -32,22 +32,26 @@ fn ended<'t>(start: Start<'_>, text: &'t str) -> &'t str {
 }
 
 // Two lines without characters, or of a blank and a tab.
-fn blank_read<'a>(start: Start<'a>, name: &str) -> Answer {
+fn blank_read<'a>(start: &'a Start, name: &str) -> Answer {
     if start.size != (0, 0) {
         return Answer::Skipped;
     }
     start.ready();
     match name {
-        "grid_text::from_text" => came(from_text(start.heap, "\n\n", |_| Some(start.cell(1)))),
-        "grid_text::from_words" => came(from_words(start.heap, " \n\t\n", |_| Some(start.cell(1)))),
-        _ => came(try_from_words(start.heap, " \n\t\n", |_| { Ok(Some(start.try_cell(1)?)) })),
+        "grid_text::from_text" => came(from_text(&start.heap, "\n\n", |_| Some(start.cell(1)))),
+        "grid_text::from_words" => came(from_words(
+            &start.heap,
+            " \n\t\n",
+            |_| Some(start.cell(1)),
+        )),
+        _ => came(try_from_words(&start.heap, " \n\t\n", |_| { Ok(Some(start.try_cell(1)?)) })),
     }
 }
 
-fn read<'a>(start: Start<'a>) -> Result<Answer, AllocError> {
+fn read<'a>(start: &'a Start) -> Result<Answer, AllocError> {
     let text = to_text(start.alloc, &start.numbers()?, |_| letter(start))?;
     start.ready();
-    Ok(came(from_text(start.heap, ended(start, text.as_str()), |found| {
+    Ok(came(from_text(&start.heap, ended(start, text.as_str()), |found| {
         if found == letter(start) {
             Some(start.cell(1))
         } else {
@@ -60,7 +64,7 @@ fn number_of(word: &str) -> Option<u32> {
     word.parse::<u32>().ok()
 }
 
-fn words_read<'a>(start: Start<'a>, name: &str) -> Result<Answer, AllocError> {
+fn words_read<'a>(start: &'a Start, name: &str) -> Result<Answer, AllocError> {
     let written = to_words(start.alloc, &start.numbers()?)?;
     let mut tabbed = String::new(start.alloc);
     for letter in written.as_str().chars() {
@@ -73,18 +77,18 @@ fn words_read<'a>(start: Start<'a>, name: &str) -> Result<Answer, AllocError> {
     let text = ended(start, tabbed.as_str());
     start.ready();
     Ok(if name == "grid_text::from_words" {
-        came(from_words(start.heap, text, |word| {
+        came(from_words(&start.heap, text, |word| {
             number_of(word).map(|number| start.cell(number))
         }))
     } else {
-        came(try_from_words(start.heap, text, |word| {
+        came(try_from_words(&start.heap, text, |word| {
             Ok(Some(start.try_cell(number_of(word).unwrap_or(0))?))
         }))
     })
 }
 
 // The largest numbers as words, or the least ones.
-fn extremes_written<'a>(start: Start<'a>) -> Result<Answer, AllocError> {
+fn extremes_written<'a>(start: &'a Start) -> Result<Answer, AllocError> {
     let board = start.numbers()?;
     if start.case == 1 {
         let large = board.map_ref(|cell| u64::MAX.wrapping_sub(u64::from(*cell)))?;
@@ -96,8 +100,8 @@ fn extremes_written<'a>(start: Start<'a>) -> Result<Answer, AllocError> {
     Ok(came(to_words(start.alloc, &low)))
 }
 
-fn written<'a>(start: Start<'a>, board: &Numbers<'a>, name: &str) -> Answer {
-    let Start { alloc, heap, .. } = start;
+fn written<'a>(start: &'a Start, board: &Numbers<'a>, name: &str) -> Answer {
+    let (alloc, heap) = (start.alloc, &start.heap);
     match name {
         "Grid::pretty" if start.case == 0 => came(board.pretty(heap, None)),
         "Grid::pretty" => came(board.pretty(heap, Some(start.case.wrapping_sub(1)))),
@@ -117,7 +121,7 @@ fn written<'a>(start: Start<'a>, board: &Numbers<'a>, name: &str) -> Answer {
 }
 
 pub fn call<'a>(
-    start: Start<'a>,
+    start: &'a Start,
     _board: &mut Board<'a>,
     name: &str,
 ) -> Result<Answer, AllocError> {
