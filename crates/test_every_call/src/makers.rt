@@ -17,7 +17,7 @@ pub const CALLS: [Call; 20] = [
     Call("Grid::try_from_fn_with_order", 1, Some(1), Some(1)),
     Call("Grid::with_capacity", 1, Some(1), None),
     Call("Grid::with_capacity_and_order", 1, Some(1), None),
-    Call("Grid::from_arrays", 1, None, None),
+    Call("Grid::from_arrays", 2, None, None),
     Call("Grid::from_view", 16, Some(1), None),
     Call("Grid::try_from of a vector lent", 2, Some(1), None),
     Call("Grid::try_from of rows", 1, Some(1), None),
@@ -87,6 +87,12 @@ fn from_arrays(start: &Start) -> Answer {
             Some(start.given(6)),
         ],
     ];
+    came(Grid::from_arrays(&start.heap, start.order, &mut slots))
+}
+
+// Two rows of one slot.
+fn column_from_arrays(start: &Start) -> Answer {
+    let mut slots = [[Some(start.given(1))], [Some(start.given(2))]];
     came(Grid::from_arrays(&start.heap, start.order, &mut slots))
 }
 
@@ -211,6 +217,7 @@ fn none_or_moved<'a>(start: &'a Start) -> Result<Answer, AllocError> {
 pub fn call<'a>(start: &'a Start, board: &mut Board<'a>, name: &str) -> Result<Answer, AllocError> {
     start.ready();
     match name {
+        "Grid::from_arrays" if start.case == 1 => Ok(column_from_arrays(start)),
         "Grid::from_arrays" => Ok(from_arrays(start)),
         "Grid::from_view" => Ok(from_view(start, &board.view())),
         "Grid::try_from of a vector lent" => Ok(of_vector(start, board)),
