@@ -52,6 +52,10 @@ fn write(alloc: Global, board: &mut Grid<i64>, ask: Ask<'_>) -> Result<String, A
     match ask.call {
         "set" => shown(alloc, board.set(row, col, number)),
         "set_at" => shown(alloc, board.set_at((row, col), number)),
+        "as_mut_slice" => {
+            let cell = board.as_mut_slice().get_mut(row);
+            shown(alloc, written(cell, ask.cell(1)))
+        }
         "get_mut" => shown(alloc, written(board.get_mut(row, col), number)),
         "get_mut_at" => shown(alloc, written(board.get_mut_at((row, col)), number)),
         _ => in_range(alloc, board, ask.call, (row, col), number),

@@ -15,6 +15,9 @@ mod lines;
 mod make;
 mod moves;
 mod near;
+mod paths;
+mod pending;
+mod rearrange;
 mod texts;
 mod told;
 mod views;
@@ -47,6 +50,9 @@ fn answer(
         "commands" => commands::told(alloc, board, ask),
         "views" => views::told(alloc, board, ask),
         "moves" => moves::told(alloc, board, ask),
+        "rearranged" => rearrange::told(alloc, board, ask),
+        "pending" => pending::told(alloc, board, ask),
+        "paths" => paths::told(alloc, board, ask),
         _ => Err(AllocError),
     }
 }

@@ -4,7 +4,7 @@ ghost use Rattle.grid_base.specs.Table.{row_count, col_count};
 
 use crate::ask::Ask;
 use crate::told::{shown, told_made};
-use grid::{Grid, GridView};
+use grid::{Grid, GridView, ViewLineIter, ViewRowIter};
 use std::alloc::{AllocError, Global};
 use std::convert::TryFrom;
 
@@ -53,6 +53,43 @@ fn copied(alloc: Global, view: &GridView<'_, i64>, r: usize) -> Result<Vec<i64>,
     Ok(line)
 }
 
+fn cell_after(mut line: ViewLineIter<'_, i64>, skipped: usize) -> Option<i64> {
+    line.nth(skipped).copied()
+}
+
+// A cell behind some others, in a line behind some others.
+fn nth(
+    alloc: Global,
+    mut lines: ViewRowIter<'_, i64>,
+    (skipped, cell): (usize, usize),
+) -> Result<String, AllocError> {
+    match lines.nth(skipped) {
+        Some(line) => shown(alloc, cell_after(line, cell)),
+        None => String::from_str(alloc, "no such line"),
+    }
+}
+
+// The cells that the iterators of a view give.
+fn iterated(alloc: Global, view: &GridView<'_, i64>, ask: Ask<'_>) -> Result<String, AllocError> {
+    let at = ask.number(5);
+    match ask.call {
+        "iter_row" if at < view.rows() => {
+            shown(alloc, view.iter_row(at).collect::<Vec<&i64>>(alloc)?)
+        }
+        "iter_col" if at < view.cols() => {
+            shown(alloc, view.iter_col(at).collect::<Vec<&i64>>(alloc)?)
+        }
+        "nth_of_rows" => nth(alloc, view.iter_rows(), ask.position(5)),
+        "nth_of_cols" => nth(alloc, view.iter_cols(), ask.position(5)),
+        "indexed_iter" => shown(
+            alloc,
+            view.indexed_iter()
+                .collect::<Vec<((usize, usize), &i64)>>(alloc)?,
+        ),
+        _ => Err(AllocError),
+    }
+}
+
 // The part of a board that the first four words say, through the symmetry of the fifth.
 fn read(alloc: Global, board: &Grid<i64>, ask: Ask<'_>) -> Result<String, AllocError> {
     let (at, size) = (ask.position(0), ask.position(2));
@@ -66,7 +103,7 @@ fn read(alloc: Global, board: &Grid<i64>, ask: Ask<'_>) -> Result<String, AllocE
         "to_vec" => shown(alloc, view.to_vec(alloc, ask.order(5))?),
         "copy_row" => shown(alloc, copied(alloc, &view, ask.number(5))?),
         "get_unchecked" => shown(alloc, cell_of(&view, ask.position(5))),
-        _ => Err(AllocError),
+        _ => iterated(alloc, &view, ask),
     }
 }
 

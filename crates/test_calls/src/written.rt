@@ -1,7 +1,7 @@
 //! Boards that are written out by the macros.
 use crate::ask::Ask;
-use crate::told::told_made;
-use grid::{grid, grid_cm};
+use crate::told::{shown, told_made};
+use grid::{GridView, Order, grid, grid_cm};
 use std::alloc::{AllocError, Global};
 
 // Row-major boards.
@@ -43,6 +43,10 @@ pub fn told(alloc: Global, ask: Ask<'_>) -> Result<String, AllocError> {
     match ask.call {
         "grid!" => by_rows(alloc, ask.rest),
         "grid_cm!" => by_cols(alloc, ask.rest),
+        "over" => shown(
+            alloc,
+            GridView::over(&[1, 2, 3, 4, 5, 6], Order::ColumnMajor, 2, 3),
+        ),
         _ => Err(AllocError),
     }
 }

@@ -1,6 +1,6 @@
 //! Reads cases from standard input, and counts those that hold: scripts with what they write, scripts with the swaps
-//! that they count, JSON with the grid that it is, and maps with what calls of `grid_paths` return. A case that doesn't
-//! hold is printed.
+//! that they count, JSON with the grid that it is, texts with the board that they are, and maps with what calls of
+//! `grid_paths` return. A case that doesn't hold is printed.
 //!
 //! A section is a line `#### NAME`, some words, and its cases. Each case begins with `== `. The head of each module has the form of its cases.
 #![tactic(auto)]
@@ -9,6 +9,7 @@ mod counts;
 mod json;
 mod paths;
 mod scripts;
+mod texts;
 
 use std::alloc::{AllocError, Global};
 use std::io;
@@ -22,6 +23,7 @@ fn holds(alloc: Global, section: &str, case: &str) -> Result<bool, AllocError> {
         "counts" => counts::holds(alloc, case),
         "json" => json::holds(alloc, case),
         "paths" => paths::holds(alloc, case),
+        "texts" => texts::holds(alloc, case),
         _ => Ok(false),
     }
 }

@@ -98,8 +98,9 @@ fn sort_by_key<'a>(start: &'a Start, board: &mut Board<'a>, by_rows: bool) -> An
 }
 
 // The rows by value. Where the call is refused, the board comes back.
-fn moved<'a>(start: &'a Start, board: &mut Board<'a>) -> Answer {
-    match into_rows(std::mem::replace(board, Grid::empty(&start.heap))) {
+fn moved(board: &mut Board<'_>) -> Answer {
+    let none = Grid::empty(*board.allocator());
+    match into_rows(std::mem::replace(board, none)) {
         Ok(_) => Answer::Done,
         Err(back) => {
             *board = back;
@@ -115,7 +116,7 @@ pub fn call<'a>(start: &'a Start, board: &mut Board<'a>, name: &str) -> Result<A
         "grid_lines::sort_cols_by" => sort_by(start, board, false),
         "grid_lines::sort_rows_by_key" => sort_by_key(start, board, true),
         "grid_lines::sort_cols_by_key" => sort_by_key(start, board, false),
-        "grid_lines::into_rows" => moved(start, board),
+        "grid_lines::into_rows" => moved(board),
         "grid_lines::to_rows" => came(to_rows(board)),
         _ => Answer::Wrong,
     })

@@ -55,6 +55,15 @@ fn from_fn<'a>(start: &'a Start, name: &str) -> Answer {
     }
 }
 
+// Whether a board without cells has room for those of the size.
+fn has_room<'a>(start: &'a Start, made: Result<Board<'a>, GridError>) -> Answer {
+    let cells = start.size.0.wrapping_mul(start.size.1);
+    match made {
+        Ok(board) if board.flatten().capacity() < cells => Answer::Wrong,
+        made => came(made),
+    }
+}
+
 fn sized<'a>(start: &'a Start, name: &str) -> Answer {
     let (heap, order) = (&start.heap, start.order);
     let (rows, cols) = start.size;
@@ -65,15 +74,18 @@ fn sized<'a>(start: &'a Start, name: &str) -> Answer {
         "Grid::init_with_order" => {
             came(Board::init_with_order(heap, rows, cols, order, start.given(1)))
         }
-        "Grid::with_capacity" => came(Board::with_capacity(heap, rows, cols)),
+        "Grid::with_capacity" => has_room(start, Board::with_capacity(heap, rows, cols)),
         "Grid::with_capacity_and_order" => {
-            came(Board::with_capacity_and_order(heap, rows, cols, order))
+            has_room(
+                start,
+                Board::with_capacity_and_order(heap, rows, cols, order),
+            )
         }
         name => from_fn(start, name),
     }
 }
 
-// Two rows of three slots. That every slot keeps its cell where the call is refused, `test_refusals` shows.
+// Two rows of three slots, which keep their cells where the call is refused.
 fn from_arrays(start: &Start) -> Answer {
     let mut slots = [
         [
@@ -87,7 +99,15 @@ fn from_arrays(start: &Start) -> Answer {
             Some(start.given(6)),
         ],
     ];
-    came(Grid::from_arrays(&start.heap, start.order, &mut slots))
+    let answer = came(Grid::from_arrays(&start.heap, start.order, &mut slots));
+    if answer == Answer::Refused
+        && !slots
+            .iter()
+            .all(|row| row.iter().all(|slot| slot.is_some()))
+    {
+        return Answer::Wrong;
+    }
+    answer
 }
 
 // Two rows of one slot.

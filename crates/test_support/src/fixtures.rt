@@ -1,12 +1,10 @@
-//! What the tests share: all small tables, whether a grid shows one, and cells and memory that are refused.
+//! What the tests share: all small tables, whether a grid shows one, and memory that is refused.
 ghost use Rattle.std.specs.Prelude.{◌≡◌};
 
 use crate::fuse::Fuse;
 use crate::plain;
 use grid::{Grid, Move, Order, ShapeError, Symmetry, can_cut};
 use std::alloc::{AllocError, Allocator, Global};
-use std::cell::Cell;
-use std::fmt;
 
 // Memory that a test can refuse.
 pub type Heap = Fuse<Global>;
@@ -182,63 +180,6 @@ pub fn shows<A: Allocator>(grid: &Grid<u32, A>, table: &Vec<Vec<u32>>, order: Or
     stored && has_size(grid, (rows, cols), order) && has_cells(grid, table)
 }
 
-// Whether these are `len` numbers: the first, and each later one larger by `step`.
-pub fn is_count(cells: &[u32], len: usize, first: u32, step: u32) -> bool {
-    let mut next = first;
-    for cell in cells {
-        if *cell != next {
-            return false;
-        }
-        next = next.wrapping_add(step);
-    }
-    cells.len() == len
-}
-
-// The number at a position of a table whose cells, in storage order, are the first, and each later one by so much more.
-fn count_at(
-    (rows, cols): (usize, usize),
-    order: Order,
-    (first, step): (u32, u32),
-    (row, col): (usize, usize),
-) -> Option<u32> {
-    if row >= rows || col >= cols {
-        return None;
-    }
-    let number = match order {
-        Order::RowMajor => row.wrapping_mul(cols).wrapping_add(col),
-        Order::ColumnMajor => col.wrapping_mul(rows).wrapping_add(row),
-    };
-    Some(first.wrapping_add(step.wrapping_mul((number % 1000) as u32)))
-}
-
-// Whether the cells of a small grid of this size and order are those numbers, in range, and none past its ends.
-fn has_count<A: Allocator>(
-    grid: &Grid<u32, A>,
-    size: (usize, usize),
-    order: Order,
-    count: (u32, u32),
-) -> bool {
-    for row in INDICES {
-        for col in INDICES {
-            if grid.get(row, col).copied() != count_at(size, order, count, (row, col)) {
-                return false;
-            }
-        }
-    }
-    true
-}
-
-// Whether a small grid shows this size and order, and has stored the first number, and each later one by so much more.
-pub fn shows_count<A: Allocator>(
-    grid: &Grid<u32, A>,
-    size: (usize, usize),
-    order: Order,
-    (first, step): (u32, u32),
-) -> bool {
-    let stored = is_count(grid.flatten(), size.0.wrapping_mul(size.1), first, step);
-    stored && has_size(grid, size, order) && has_count(grid, size, order, (first, step))
-}
-
 // Whether a grid has this size, and has stored these cells in this order.
 pub fn is_stored<T: PartialEq, A: Allocator>(
     grid: &Grid<T, A>,
@@ -247,41 +188,6 @@ pub fn is_stored<T: PartialEq, A: Allocator>(
     cells: &[T],
 ) -> bool {
     grid.size() == size && grid.order() == order && grid.flatten().as_slice() == cells
-}
-
-// Where the cells of a table of this size are, in storage order.
-pub fn positions_of(
-    alloc: Global,
-    (rows, cols): (usize, usize),
-    order: Order,
-) -> Result<Vec<(usize, usize)>, AllocError> {
-    let mut places = Vec::new(alloc);
-    match order {
-        Order::RowMajor => {
-            for row in 0..rows {
-                for col in 0..cols {
-                    places.push((row, col))?;
-                }
-            }
-        }
-        Order::ColumnMajor => {
-            for col in 0..cols {
-                for row in 0..rows {
-                    places.push((row, col))?;
-                }
-            }
-        }
-    }
-    Ok(places)
-}
-
-// Writes a cell of a table, if it is there.
-pub fn put_cell(table: &mut Vec<Vec<u32>>, row: usize, col: usize, value: u32) {
-    if let Some(cells) = table.get_mut(row) {
-        if let Some(cell) = cells.get_mut(col) {
-            *cell = value;
-        }
-    }
 }
 
 // Does a move by the call of its name.
@@ -350,34 +256,4 @@ pub fn has_texts(grid: &Grid<String>, order: Order, texts: &[&str]) -> bool {
         }
     }
     grid.order() == order && left.next().is_none()
-}
-
-// A cell whose clone is refused once none of the granted ones is left.
-#[derive(Default, Drop)]
-pub struct Fragile<'a> {
-    pub value: u32,
-    pub granted: Option<&'a Cell<u64>>,
-}
-
-impl fmt::Debug for Fragile<'_> {
-    fn fmt<W: fmt::Write>(&self, f: &mut fmt::Formatter<W>) -> fmt::Result {
-        write!(f, "{}", self.value)
-    }
-}
-
-impl Clone for Fragile<'_> {
-    ghost is_clone = { λ x y. y ≡ x };
-
-    fn clone(&self) -> Result<Self, AllocError> {
-        if let Some(granted) = self.granted {
-            match granted.get().checked_sub(1) {
-                Some(left) => granted.set(left),
-                None => return Err(AllocError),
-            }
-        }
-        Ok(Fragile {
-            value: self.value,
-            granted: self.granted,
-        })
-    }
 }

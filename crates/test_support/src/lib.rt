@@ -6,7 +6,5 @@
 pub mod counted;
 pub mod fixtures;
 pub mod fuse;
-pub mod iterators;
 pub mod line_edits;
 pub mod plain;
-pub mod requests;

@@ -1,5 +1,4 @@
-//! Cells that have no size, no default, or own memory, and texts of integers of other types. All other worked examples are
-//! cases of `test_calls`.
+//! Cells that have no size, no default, or own memory, and texts of integers of other types.
 use crate::asserts::{assert_made, assert_refused, assert_stored};
 use grid::Order::{ColumnMajor, RowMajor};
 use grid::{Grid, GridError, Order, Whole};

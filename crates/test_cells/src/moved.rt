@@ -1,4 +1,4 @@
-//! Cells that own memory, and can't be cloned.
+//! Cells that own memory are moved.
 use grid::{Grid, Order};
 use std::process::Abort;
 use std::test::Fail;

@@ -1,8 +1,7 @@
-//! Laws, and callers whose contracts rest on them, each run once.
+//! Laws, each run once.
 use crate::asserts::{Rows, assert_rows, grid_with};
 use grid::{Grid, Order, Symmetry};
 use grid_base::laws as symmetry_laws;
-use grid_callers::chains::*;
 use std::test::Fail;
 use test_support::fixtures::ORDERS;
 
@@ -45,40 +44,6 @@ fn keeps_what_is_turned_back(rt: HostRuntime) -> Result<(), Fail> {
         assert_rows(&rt, rt.alloc(), &grid, &[&[6, 5, 4], &[3, 2, 1]], order)?;
     }
     Ok(())
-}
-
-#[test]
-fn puts_a_column_as_a_row_across(rt: HostRuntime) -> Result<(), Fail> {
-    let mut grid: Grid<u32> = Grid::empty(rt.alloc());
-    let mut other: Grid<u32> = Grid::empty(rt.alloc());
-    let line = vec![in rt.alloc(); 1, 2, 3]?;
-    let same = vec![in rt.alloc(); 1, 2, 3]?;
-    match grid_laws::insert_col_or_row_across(&mut grid, &mut other, 0, line, same) {
-        (Ok(()), Ok(())) => {}
-        _ => panic!(rt; "there is memory"),
-    }
-    assert_eq!(rt; (grid.size(), other.size()), ((3, 1), (3, 1)));
-    Ok(())
-}
-
-#[test]
-fn characters_that_were_written_are_read_back(rt: HostRuntime) -> Result<(), Fail> {
-    let grid = grid_with(rt.alloc(), WIDE, Order::ColumnMajor)?;
-    let write = |cell: &u32| char::from_digit(*cell, 10).unwrap_or('?');
-    match grid_text::laws::written_and_read(rt.alloc(), &grid, write, |found| found.to_digit(10)) {
-        Ok(again) => assert_rows(&rt, rt.alloc(), &again, WIDE, Order::RowMajor),
-        Err(_) => panic!(rt; "there is memory"),
-    }
-}
-
-#[test]
-fn numbers_that_were_written_are_read_back(rt: HostRuntime) -> Result<(), Fail> {
-    let grid = grid_with(rt.alloc(), WIDE, Order::ColumnMajor)?;
-    let read = |word: &str| word.parse::<u32>().ok();
-    match grid_text::laws::numbers_written_and_read(rt.alloc(), &grid, read) {
-        Ok(again) => assert_rows(&rt, rt.alloc(), &again, WIDE, Order::RowMajor),
-        Err(_) => panic!(rt; "there is memory"),
-    }
 }
 
 // Of the cells round (0, 2) the first is (0, 1).

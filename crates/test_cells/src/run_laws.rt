@@ -1,4 +1,4 @@
-//! The laws of runs: the same list on grids of the same rows, in different orders and in both kinds of run.
+//! The law of both kinds of run: the same list on grids of the same rows, in different orders.
 ghost use Rattle.std.specs.Prelude.{◌≡◌, [], ◌∷◌, map, IfOk};
 ghost use Rattle.grid_base.specs.declared.words.Symmetry.TheVariants.{RotateLeft};
 ghost use Rattle.grid_commands.specs.Command.{command_value, lines, push, size, apply};
@@ -6,7 +6,6 @@ ghost use Rattle.grid_commands.specs.declared.command.Axis.TheVariants.{Row};
 
 use grid::{Command, Grid, Order, Reply, RunStopped, Symmetry, Tally};
 use grid_deferred::laws::run_at_once_and_deferred;
-use grid_laws::run_in_either_order;
 use std::alloc::{AllocError, Global};
 use std::process::Abort;
 use std::test::Fail;
@@ -43,40 +42,6 @@ fn is_turned(grid: &Grid<u32>) -> bool {
 // Both grids are turned, and stored in different orders.
 fn are_turned(grid: &Grid<u32>, other: &Grid<u32>) -> bool {
     is_turned(grid) && is_turned(other) && grid.order() != other.order()
-}
-
-fn check_in_either_order(
-    rt: &impl Abort,
-    alloc: Global,
-    grid: &mut Grid<u32>,
-    other: &mut Grid<u32>,
-) -> Result<(), AllocError>
-    requires { other.old.rows ≡ grid.old.rows }
-{
-    let first = push_and_turn(alloc)?;
-    let second = push_and_turn(alloc)?;
-    let (mut tally, mut other_tally) = (Tally::new(), Tally::new());
-    let (ran, other_ran) = run_in_either_order(
-        (alloc, alloc),
-        grid,
-        other,
-        first,
-        second,
-        &mut tally,
-        &mut other_tally,
-    );
-    assert!(rt; went(&ran) && went(&other_ran));
-    Ok(())
-}
-
-#[test]
-fn runs_in_either_order(rt: HostRuntime) -> Result<(), Fail> {
-    let alloc = rt.alloc();
-    let mut grid = Grid::empty(alloc);
-    let mut other = Grid::with_capacity_and_order(alloc, 0, 0, Order::ColumnMajor)?;
-    check_in_either_order(&rt, alloc, &mut grid, &mut other)?;
-    assert!(rt; are_turned(&grid, &other));
-    Ok(())
 }
 
 fn check_at_once_and_deferred(

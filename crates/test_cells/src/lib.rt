@@ -1,0 +1,26 @@
+//! What no line of a case can say: cells that have no size, no default or memory of their own, that equal others, or that are no
+//! JSON; iterators for writing; laws; and a caller whose result no clause says.
+#![tactic(auto)]
+
+#[cfg(test)]
+mod asserts;
+#[cfg(test)]
+mod base;
+#[cfg(test)]
+mod callers;
+#[cfg(test)]
+mod dropped;
+#[cfg(test)]
+mod filled;
+#[cfg(test)]
+mod json;
+#[cfg(test)]
+mod laws;
+#[cfg(test)]
+mod moved;
+#[cfg(test)]
+mod run_laws;
+#[cfg(test)]
+mod worked;
+#[cfg(test)]
+mod written;
