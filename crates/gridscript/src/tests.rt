@@ -1,11 +1,10 @@
-//! What a text of scripts can't show: the two kinds of run by one call, arguments, reads, writes and endings.
+//! What a text of scripts can't show: arguments, reads, writes and endings.
 ghost use Rattle.std.specs.Prelude.{◌≤◌, IfOk, length};
 
 use crate::ending::Ending;
-use crate::input::{arguments, mode, read_all};
+use crate::input::read_all;
 use crate::{exit_code, run};
-use grid_play::laws::plays_alike;
-use std::alloc::{AllocError, Allocator, Global};
+use std::alloc::Allocator;
 use std::env::FillError;
 use std::fmt::Display;
 use std::io;
@@ -13,41 +12,6 @@ use std::io::{BufRead, Read};
 use std::process::{Abort, ExitCode};
 use std::rt::Env;
 use std::test::Fail;
-
-#[test]
-fn a_script_plays_alike_at_once_and_deferred(rt: HostRuntime) -> Result<(), Fail> {
-    let script = b"RowMajor 2 1 2 3 4\nflip_rows\nget 0 0\n";
-    let (at_once, deferred) = plays_alike((rt.alloc(), rt.alloc()), script);
-    assert_eq!(rt; at_once?.as_str(), "ok\ncell 3\n[[3, 4][1, 2]]\n");
-    assert_eq!(rt; deferred?.as_str(), "ok\ncell 3\n[[3, 4][1, 2]]\n");
-    Ok(())
-}
-
-fn texts_of(alloc: Global, words: &[&str]) -> Result<Vec<String>, AllocError> {
-    let mut texts = Vec::new(alloc);
-    for word in words {
-        texts.push(String::from_str(alloc, word)?)?;
-    }
-    Ok(texts)
-}
-
-#[test]
-fn mode_is_deferred_or_not(rt: HostRuntime) -> Result<(), Fail> {
-    const CASES: [(&'static [&'static str], Option<bool>); 7] = [
-        (&[], Some(false)),
-        (&["deferred"], Some(true)),
-        (&["Deferred"], None),
-        (&["deferred", "deferred"], None),
-        (&["now"], None),
-        (&["--help"], None),
-        (&[""], None),
-    ];
-    for (words, want) in CASES {
-        let texts = texts_of(rt.alloc(), words)?;
-        assert_eq!(rt; mode(&texts), want, "of {words:?}");
-    }
-    Ok(())
-}
 
 // What a process reads: these bytes, or nothing but failures.
 type Source = Result<&'static [u8], io::ErrorKind>;
@@ -157,18 +121,38 @@ impl Print for Process {
 
 const BROKEN: Source = Err(io::ErrorKind::BrokenPipe);
 
-#[test]
-fn arguments_are_text(rt: HostRuntime) -> Result<(), Fail> {
-    let process = Process {
-        argument: Some(b"deferred"),
-        source: BROKEN,
-        takes_output: false,
-    };
-    let words = arguments(&(process, rt.alloc()))?;
-    assert_eq!(rt; words.len(), 1);
-    assert_eq!(rt; words[0].as_str(), "deferred");
-    Ok(())
-}
+const REFUSED: Source = Err(io::ErrorKind::OutOfMemory);
+
+const SCRIPT: Source = Ok(b"RowMajor 2 1 2 3 4\nflip_rows\n");
+
+const EMPTY: Source = Ok(b"");
+
+const BAD: Source = Ok(b"RowMajor 0\nsize\nsizes\n");
+
+const DEFERRED: Option<&'static [u8]> = Some(b"deferred");
+
+const USAGE: &str = "usage: gridscript [deferred]";
+
+const TRANSFER: &str = "input or output failed";
+
+// An argument or none, the input, whether output is taken; the status, and the text where no output is written. Bad arguments end
+// a process before it reads, a failed read before it plays, and a script at fault before it writes.
+const PROCESSES: [(Option<&'static [u8]>, Source, bool, u8, &str); 14] = [
+    (None, SCRIPT, true, 0, ""),
+    (DEFERRED, SCRIPT, true, 0, ""),
+    (None, SCRIPT, false, 4, TRANSFER),
+    (DEFERRED, SCRIPT, false, 4, TRANSFER),
+    (Some(b"now"), BROKEN, false, 2, USAGE),
+    (Some(b"Deferred"), BROKEN, false, 2, USAGE),
+    (Some(b"--help"), BROKEN, false, 2, USAGE),
+    (Some(b"\xff"), BROKEN, false, 2, USAGE),
+    (Some(b""), BROKEN, false, 2, USAGE),
+    (None, BROKEN, false, 4, TRANSFER),
+    (DEFERRED, BROKEN, false, 4, TRANSFER),
+    (None, REFUSED, false, 3, "out of memory"),
+    (None, EMPTY, false, 2, "line 1: bad grid"),
+    (None, BAD, false, 2, "line 3: bad command"),
+];
 
 // A process ends with this status, and with this text where it writes no output.
 fn check_run(
@@ -185,66 +169,15 @@ fn check_run(
     Ok(())
 }
 
-// Checks a process whose output fails.
-fn check_mute(
-    rt: &(impl Abort + AllocGlobal),
-    argument: Option<&'static [u8]>,
-    source: Source,
-    status: u8,
-    text: &str,
-) -> Result<(), Fail> {
-    let process = Process {
-        argument,
-        source,
-        takes_output: false,
-    };
-    check_run(rt, process, status, text)
-}
-
-const USAGE: &str = "usage: gridscript [deferred]";
-
-const TRANSFER: &str = "input or output failed";
-
-const SCRIPT: Source = Ok(b"RowMajor 2 1 2 3 4\nflip_rows\n");
-
 #[test]
-fn bad_arguments_end_the_process_before_it_reads(rt: HostRuntime) -> Result<(), Fail> {
-    for word in [b"now".as_slice(), b"\xff", b""] {
-        check_mute(&rt, Some(word), BROKEN, 2, USAGE)?;
-    }
-    Ok(())
-}
-
-#[test]
-fn a_failed_read_ends_the_process_before_it_plays(rt: HostRuntime) -> Result<(), Fail> {
-    check_mute(&rt, None, BROKEN, 4, TRANSFER)?;
-    check_mute(&rt, Some(b"deferred"), BROKEN, 4, TRANSFER)?;
-    let refused = Err(io::ErrorKind::OutOfMemory);
-    check_mute(&rt, None, refused, 3, "out of memory")
-}
-
-#[test]
-fn a_script_at_fault_ends_the_process_before_it_writes(rt: HostRuntime) -> Result<(), Fail> {
-    check_mute(&rt, None, Ok(b""), 2, "line 1: bad grid")?;
-    let script = Ok(b"RowMajor 0\nsize\nsizes\n".as_slice());
-    check_mute(&rt, None, script, 2, "line 3: bad command")
-}
-
-#[test]
-fn a_failed_write_ends_the_process(rt: HostRuntime) -> Result<(), Fail> {
-    check_mute(&rt, None, SCRIPT, 4, TRANSFER)?;
-    check_mute(&rt, Some(b"deferred"), SCRIPT, 4, TRANSFER)
-}
-
-#[test]
-fn a_process_that_wrote_its_output_ends_well(rt: HostRuntime) -> Result<(), Fail> {
-    for argument in [None, Some(b"deferred".as_slice())] {
+fn processes_end_with_their_status_and_text(rt: HostRuntime) -> Result<(), Fail> {
+    for (argument, source, takes_output, status, text) in PROCESSES {
         let process = Process {
             argument,
-            source: SCRIPT,
-            takes_output: true,
+            source,
+            takes_output,
         };
-        check_run(&rt, process, 0, "")?;
+        check_run(&rt, process, status, text)?;
     }
     Ok(())
 }
