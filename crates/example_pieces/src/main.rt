@@ -47,22 +47,3 @@ fn main(rt: HostRuntime) -> ExitCode {
         }
     }
 }
-
-#[cfg(test)]
-mod tests {
-    use super::*;
-    use std::process::Abort;
-    use std::test::Fail;
-
-    #[test]
-    fn bad_input_tells_its_line_and_column(rt: HostRuntime) -> Result<(), Fail> {
-        match board(rt.alloc(), "#.\n#x\n") {
-            Ok(_) => assert!(rt; false),
-            Err(error) => {
-                let text = format!(in rt.alloc(); "{error}")?;
-                assert_eq!(rt; text.as_str(), "line 2, column 2: 'x' is no cell");
-            }
-        }
-        Ok(())
-    }
-}
