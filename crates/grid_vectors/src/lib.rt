@@ -1,5 +1,5 @@
-//! What no line of a case can say: cells that have no size, no default or memory of their own, that equal others, or that are no
-//! JSON; iterators for writing; laws; and a caller whose result no clause says.
+//! What no line of a case can say: cells that have no size or no default, that own memory, that find none, or that equal a
+//! different one; iterators for writing; laws; and a caller whose result no clause says.
 #![tactic(auto)]
 
 #[cfg(test)]
