@@ -1,6 +1,6 @@
 //! Reads cases from standard input, and counts those that hold: scripts with what they write, scripts with the swaps
-//! that they count, JSON with the grid that it is, texts with the board that they are, and maps with what calls of
-//! `grid_paths` return. A case that doesn't hold is printed.
+//! that they count, JSON and texts with the boards that they are, calls whose requests for memory are refused, and maps
+//! with what calls of `grid_paths` return. A case that doesn't hold is printed.
 //!
 //! A section is a line `#### NAME`, some words, and its cases. Each case begins with `== `. The head of each module has the form of its cases.
 #![tactic(auto)]
@@ -8,6 +8,7 @@
 mod counts;
 mod json;
 mod paths;
+mod refused;
 mod scripts;
 mod texts;
 
@@ -24,6 +25,7 @@ fn holds(alloc: Global, section: &str, case: &str) -> Result<bool, AllocError> {
         "json" => json::holds(alloc, case),
         "paths" => paths::holds(alloc, case),
         "texts" => texts::holds(alloc, case),
+        "refused" => refused::holds(alloc, case),
         _ => Ok(false),
     }
 }
