@@ -1,5 +1,5 @@
 -- Two blocks of cells that change places, swaps at one distance one after another, and a part of
--- the cells that is reversed. Only contracts of `Flat` cite this module.
+-- the cells that is reversed.
 use Rattle.std.specs.Prelude.{◌≡◌, ℕ, zero, suc, ◌+◌, ◌-◌, ◌<◌, ◌≤◌, List, length, slice_get, swap}
 
 -- the m cells from place a on, and the n cells behind them

@@ -1,5 +1,5 @@
 -- What a slice ends as, of which an iterator along a line has taken the first cell and the rest
--- after a stride.
+-- after a stride. No public clause cites this module.
 use Rattle.std.specs.Prelude.{ℕ, List, ◌++◌, take, slice_set}
 use Rattle.std.specs.Borrow.{Fml, RattleType, MutBor, Array, LendsBoth}
 

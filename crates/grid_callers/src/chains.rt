@@ -2,7 +2,7 @@
 //! chains over a row or a column, calls on all cells, symmetries and commands on texts, and grids that are written out.
 //!
 //! A row `r` or a column `c` is required to be in range.
-ghost use Rattle.std.specs.Prelude.{◌≡◌, ◌/◌, ◌^◌, ◌<◌, ◌≤◌, ◌==◌, ◌↔◌, IsTrue, IfOk, MatchOption, Any, All, length, map, reverse, sum, count_by, filter, fold, min, ◌+◌, ◌*◌, nat_lt, [], ◌∷◌, ◌-◌, slice_get};
+ghost use Rattle.std.specs.Prelude.{◌≡◌, ◌^◌, ◌<◌, ◌≤◌, ◌==◌, ◌↔◌, IsTrue, IfOk, MatchOption, Any, All, length, map, sum, count_by, filter, ◌*◌, [], ◌∷◌, ◌-◌, slice_get};
 ghost use Rattle.std.specs.List.{range_with_len};
 ghost use Rattle.grid_base.specs.Table.{row, row_count, col_count, transposed};
 ghost use Rattle.grid_base.specs.Order.{storage};
@@ -19,16 +19,6 @@ pub fn count_in_row<A: Allocator>(grid: &Grid<u32, A>, r: usize, x: u32) -> usiz
     ensures { result ≡ count_by (λ y. y == x) (row grid.now.rows r) }
 {
     grid.iter_row(r).filter(|y| **y == x).count()
-}
-
-/// Returns the number of cells of the first row that are `x`.
-pub fn count_in_first_row<A: Allocator>(grid: &Grid<u32, A>, x: u32) -> usize
-    ensures { result ≡ count_by (λ y. y == x) (row grid.now.rows 0) }
-{
-    match grid.iter_rows().next() {
-        Some(line) => line.filter(|y| **y == x).count(),
-        None => 0,
-    }
 }
 
 /// Returns whether a cell of column `c` is `x`.
@@ -58,28 +48,6 @@ pub fn row_sum<A: Allocator>(grid: &Grid<u32, A>, r: usize) -> u32
     grid.iter_row(r).sum()
 }
 
-/// Returns the sum of column `c`, or `u32::MAX` if it is larger.
-pub fn column_sum<A: Allocator>(grid: &Grid<u32, A>, c: usize) -> u32
-    requires { c < col_count grid.now.rows }
-    ensures { result
-        ≡ fold (λ total y. min (total + y) u32.MAX) 0 (row (transposed grid.now.rows) c) }
-{
-    grid.iter_col(c)
-        .fold(0, |total: u32, y| total.saturating_add(*y))
-}
-
-/// Returns half of each cell of row `r`, rounded down.
-pub fn halves_of_row<A: Allocator>(
-    alloc: Global,
-    grid: &Grid<u32, A>,
-    r: usize,
-) -> Result<Vec<u32>, AllocError>
-    requires { r < row_count grid.now.rows }
-    ensures { IfOk result (λ halves. halves.items ≡ map (λ y. y / 2) (row grid.now.rows r)) }
-{
-    grid.iter_row(r).map(|y| *y / 2).collect(alloc)
-}
-
 /// Returns the cells of column `c`.
 pub fn column<T: Copy, A: Allocator>(
     alloc: Global,
@@ -92,20 +60,6 @@ pub fn column<T: Copy, A: Allocator>(
     grid.iter_col(c).copied().collect(alloc)
 }
 
-/// Returns the cells of column `c` that are above `x`.
-pub fn column_above<A: Allocator>(
-    alloc: Global,
-    grid: &Grid<u32, A>,
-    c: usize,
-    x: u32,
-) -> Result<Vec<u32>, AllocError>
-    requires { c < col_count grid.now.rows }
-    ensures { IfOk result
-        (λ cells. cells.items ≡ filter (λ y. nat_lt x y) (row (transposed grid.now.rows) c)) }
-{
-    grid.iter_col(c).copied().filter(|y| x < *y).collect(alloc)
-}
-
 /// Returns the largest cell of row `r`.
 pub fn row_max<A: Allocator>(grid: &Grid<u32, A>, r: usize) -> Option<u32>
     requires { r < row_count grid.now.rows }
@@ -113,29 +67,6 @@ pub fn row_max<A: Allocator>(grid: &Grid<u32, A>, r: usize) -> Option<u32>
         All (λ y. y ≤ most) (row grid.now.rows r) × Any (λ y. y ≡ most) (row grid.now.rows r)) }
 {
     grid.iter_row(r).copied().max()
-}
-
-/// Returns half of each cell of the whole grid, last first.
-pub fn halves_reversed<A: Allocator>(
-    alloc: Global,
-    grid: &Grid<u32, A>,
-) -> Result<Vec<u32>, AllocError>
-    ensures { IfOk result (λ halves.
-        halves.items ≡ reverse (map (λ y. y / 2) (storage grid.now.order grid.now.rows))) }
-{
-    grid.iter().rev().map(|y| *y / 2).collect(alloc)
-}
-
-/// Returns the cells of column `c`, last first.
-pub fn column_reversed<T: Copy, A: Allocator>(
-    alloc: Global,
-    grid: &Grid<T, A>,
-    c: usize,
-) -> Result<Vec<T>, AllocError>
-    requires { c < col_count grid.now.rows }
-    ensures { IfOk result (λ cells. cells.items ≡ reverse (row (transposed grid.now.rows) c)) }
-{
-    grid.iter_col(c).rev().copied().collect(alloc)
 }
 
 /// Returns the last cell of row `r`, if there is one.
@@ -152,13 +83,6 @@ pub fn cell_of_column<A: Allocator>(grid: &Grid<u32, A>, c: usize, k: usize) -> 
     ensures { result ≡ slice_get (row (transposed grid.now.rows) c) k }
 {
     grid.iter_col(c).nth(k).copied()
-}
-
-/// Returns whether every row has `n` cells.
-pub fn rows_have<T, A: Allocator>(grid: &Grid<T, A>, n: usize) -> bool
-    ensures { IsTrue result ↔ All (λ line. length line ≡ n) grid.now.rows }
-{
-    grid.iter_rows().all(|line| line.len() == n)
 }
 
 /// Returns, for each column, the number of its cells that are `x`.

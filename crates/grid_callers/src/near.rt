@@ -136,18 +136,6 @@ pub fn mean_of_nine(grid: &Grid<u8>) -> Result<Grid<u8>, AllocError> {
     )
 }
 
-/// Same as [`mean_of_nine`], on a board whose edges meet.
-///
-///     [[0, 9, 0], [0, 0, 0], [0, 0, 9]]   mean_on_a_torus()   [[2, 2, 2], [2, 2, 2], [2, 2, 2]]
-pub fn mean_on_a_torus(grid: &Grid<u8>) -> Result<Grid<u8>, AllocError> {
-    grid.map_wrapped_sums8(
-        |cell| *cell,
-        |cell, sum|
-            requires { sum ≤ 2040 }
-        { ((u16::from(*cell) + sum) / 9) as u8 },
-    )
-}
-
 /// Returns what the cells that share a side with each cell come to, and the same on a board whose edges meet.
 ///
 ///     [[1, 2, 3]]   sums_beside()   [[2, 4, 2]]   [[7, 8, 9]]

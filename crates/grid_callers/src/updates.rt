@@ -1,7 +1,7 @@
 //! Whole boards at once, with their rows in the contract and no proof file.
-ghost use Rattle.std.specs.Prelude.{◌≡◌, ◌<◌, ◌≤◌, ◌+◌, ◌/◌, ◌%◌, ◌==◌, nat_lt, IfOk, Some, option_map};
-ghost use Rattle.grid_base.specs.Table.{row_count, col_count, cell, tabulate, InRange};
-ghost use Rattle.grid_callers.specs.Rules.{level, before, after, weight, live_in_three, live_around, lives};
+ghost use Rattle.std.specs.Prelude.{◌≡◌, ◌<◌, ◌+◌, ◌/◌, ◌%◌, ◌==◌, nat_lt, IfOk, Some, option_map};
+ghost use Rattle.grid_base.specs.Table.{row_count, col_count, cell, tabulate};
+ghost use Rattle.grid_callers.specs.Rules.{level};
 
 use grid::{Grid, GridError};
 use std::alloc::{AllocError, Global};
@@ -58,67 +58,4 @@ pub fn chessboard(alloc: Global, rows: usize, cols: usize) -> Result<Grid<bool>,
         → new.rows ≡ tabulate rows cols (λ r c. Some (r % 2 == c % 2))) }
 {
     Grid::from_fn(alloc, rows, cols, |(row, col)| row % 2 == col % 2)
-}
-
-fn place_before(at: usize, len: usize) -> usize
-    requires { at < len }
-    ensures { result ≡ before len at }
-{
-    if at == 0 { len - 1 } else { at - 1 }
-}
-
-fn place_after(at: usize, len: usize) -> usize
-    requires { at < len }
-    ensures { result ≡ after len at }
-{
-    if at + 1 == len { 0 } else { at + 1 }
-}
-
-fn weight(grid: &Grid<bool>, row: usize, col: usize) -> usize
-    ensures value { result ≡ weight (cell grid.now.rows row col) }
-    ensures small { result ≤ 1 }
-{
-    match grid.get(row, col) {
-        Some(true) => 1,
-        _ => 0,
-    }
-}
-
-fn live_in_three(grid: &Grid<bool>, row: usize, col: usize) -> usize
-    requires { col < col_count grid.now.rows }
-    ensures value { result ≡ live_in_three grid.now.rows row col }
-    ensures small { result ≤ 3 }
-{
-    let cols = grid.cols();
-    let (left, right) = (place_before(col, cols), place_after(col, cols));
-    weight(grid, row, left) + weight(grid, row, col) + weight(grid, row, right)
-}
-
-fn live_around(grid: &Grid<bool>, row: usize, col: usize) -> usize
-    requires { InRange grid.now.rows row col }
-    ensures { result ≡ live_around grid.now.rows row col }
-{
-    let rows = grid.rows();
-    let (above, below) = (place_before(row, rows), place_after(row, rows));
-    live_in_three(grid, above, col)
-        + live_in_three(grid, row, col)
-        + live_in_three(grid, below, col)
-}
-
-// Whether a cell is live in the next generation.
-fn lives(grid: &Grid<bool>, row: usize, col: usize) -> bool
-    requires { InRange grid.now.rows row col }
-    ensures { result ≡ lives grid.now.rows row col }
-{
-    let around = live_around(grid, row, col);
-    around == 3 || (around == 4 && weight(grid, row, col) == 1)
-}
-
-/// Returns the next generation of Life on a board whose edges meet.
-pub fn next_generation(grid: &Grid<bool>) -> Result<Grid<bool>, AllocError>
-    ensures { IfOk result (λ new. new.rows
-        ≡ tabulate (row_count grid.now.rows) (col_count grid.now.rows)
-        (λ r c. Some (lives grid.now.rows r c))) }
-{
-    grid.map_indexed(|(row, col), _| lives(grid, row, col))
 }

@@ -1,6 +1,6 @@
 //! Views: what a caller's contract says by the rows that are seen, with no proof file.
-ghost use Rattle.std.specs.Prelude.{◌≡◌, ◌/◌, ◌<◌, ◌≤◌, ◌==◌, ◌↔◌, ◌&&◌, ◌||◌, IsTrue, IfOk, IfSome, OnOk, OnErr, Some, Any, length, map, reverse, sum, count_by};
-ghost use Rattle.grid_base.specs.Table.{row, row_count, col_count, transposed, concat_rows, cell};
+ghost use Rattle.std.specs.Prelude.{◌≡◌, ◌<◌, ◌≤◌, ◌==◌, ◌↔◌, IsTrue, IfSome, OnOk, OnErr, Some, Any, sum, count_by};
+ghost use Rattle.grid_base.specs.Table.{row, row_count, col_count, transposed, cell};
 ghost use Rattle.grid_base.specs.Symmetry.{act};
 ghost use Rattle.grid_view.specs.View.{sub_table};
 ghost use Rattle.grid.specs.Pasted.{overlaid};
@@ -24,45 +24,12 @@ pub fn column_has(view: &GridView<'_, u32>, c: usize, x: u32) -> bool
     view.iter_col(c).any(|y| *y == x)
 }
 
-/// Returns the cells of row `r` from its end.
-pub fn reversed_row(
-    alloc: Global,
-    view: &GridView<'_, u32>,
-    r: usize,
-) -> Result<Vec<u32>, AllocError>
-    requires { r < row_count view.now.rows }
-    ensures { IfOk result (λ cells. cells.items ≡ reverse (row view.now.rows r)) }
-{
-    view.iter_row(r).rev().map(|y| *y).collect(alloc)
-}
-
-/// Returns half of each cell, row by row.
-pub fn halves(alloc: Global, view: &GridView<'_, u32>) -> Result<Vec<u32>, AllocError>
-    ensures { IfOk result (λ halves. halves.items ≡ map (λ y. y / 2) (concat_rows view.now.rows)) }
-{
-    view.iter().map(|y| *y / 2).collect(alloc)
-}
-
 /// Returns a position of a cell that is `x`, found by a chain.
 pub fn position_of(view: &GridView<'_, u32>, x: u32) -> Option<(usize, usize)>
     ensures { IfSome result (λ at. cell view.now.rows at.0 at.1 ≡ Some x) }
 {
     let (at, _) = view.indexed_iter().find(|(_, cell)| **cell == x)?;
     Some(at)
-}
-
-/// Returns how many cells off the diagonal are `x`.
-pub fn count_off_diagonal(view: &GridView<'_, u32>, x: u32) -> usize {
-    view.indexed_iter()
-        .filter(|((row, col), cell)| row != col && **cell == x)
-        .count()
-}
-
-/// Returns the lengths of the rows.
-pub fn widths(alloc: Global, view: &GridView<'_, u32>) -> Result<Vec<usize>, AllocError>
-    ensures { IfOk result (λ widths. widths.items ≡ map (λ line. length line) view.now.rows) }
-{
-    view.iter_rows().map(|line| line.len()).collect(alloc)
 }
 
 /// Returns the part of two rows and two columns, seen with its columns flipped.

@@ -1,4 +1,4 @@
--- Marks of the cells of a line, and of its two neighbours, with a border: what a closure answered at each of them.
+-- Marks of the cells of a line, and of its two neighbors, with a border: what a closure answered at each of them.
 use Rattle.std.specs.Prelude.{◌≡◌, ⊤, ℕ, ◌+◌, ◌<◌, ◌≤◌, Bool, false, List, Option, Some, MatchOption, slice_get, slice_index_or, zip}
 use Rattle.std.specs.Int.{from_bool}
 use denote.Ref.{Bor}

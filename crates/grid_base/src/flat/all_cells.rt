@@ -71,7 +71,8 @@ impl<T, A: Allocator> Flat<T, A> {
     /// Makes every cell a clone of the value, or the value. Where a cell is `Copy`, [`fill_with`](Flat::fill_with) of a
     /// closure that returns the value does the same, takes no memory and can't fail.
     ///
-    /// Requires: clones of the cell type equal their source.
+    /// If clones of the cell type equal their source, every cell equals the value then.
+    ///
     /// Fails: if allocation fails; the cells are unchanged, and the value is dropped. Without cells it takes no memory
     /// and never fails.
     /// Cost: one clone for each cell but the last, all of them before the first change; one allocation, of a second

@@ -92,18 +92,8 @@ impl<T, A: Allocator> Flat<T, A> {
         }
         let alloc = self.cells.allocator().clone()?;
         let into = Vec::with_capacity(alloc, groups.lines * groups.count)?;
-        self.unweave(groups);
+        unweave_cells(self.cells.as_mut_slice(), groups);
         Ok(self.move_tail(kept, into))
-    }
-
-    // Puts the groups behind the lines.
-    fn unweave(&mut self, groups: Groups)
-        requires { length self.old ≡ groups.lines * (groups.width + groups.count) }
-        ensures { Woven groups.lines groups.width groups.at groups.count self.new self.old }
-    {
-        if moves_groups(groups) {
-            unweave_cells(self.cells.as_mut_slice(), groups);
-        }
     }
 
     /// Spreads the lines that come first, so that each has room for its group. What was behind the lines comes to the

@@ -55,25 +55,11 @@ fn move_on_stack<T>(row: Slots<T>, state: (), job: (Groups, Way)) -> (Slots<T>, 
 {
     let (groups, way) = job;
     let count = groups.lines * groups.count;
-    (
-        unsafe { with_room(count, (row, groups, way), move_in_room) },
-        state,
-        (),
-    )
-}
-
-fn move_in_room<T>(room: Slots<T>, job: (Slots<T>, Groups, Way)) -> (Slots<T>, Slots<T>)
-    requires row { HasGroups job.1 job.0 }
-    requires room { job.1.lines * job.1.count ≤ slots_len room }
-    ensures room { SamePlaces room result.0 }
-    ensures row { Refills job.0 result.1 }
-    ensures moved { GroupsMoved job.2 job.1 (slots_items job.0) (slots_items result.1) }
-{
-    let (row, groups, way) = job;
-    match way {
-        Way::In => weave_row(room, row, groups),
-        Way::Out => unweave_row(room, row, groups),
-    }
+    let moved = match way {
+        Way::In => unsafe { with_room(count, (row, groups), weave_row) },
+        Way::Out => unsafe { with_room(count, (row, groups), unweave_row) },
+    };
+    (moved, state, ())
 }
 
 // `move_run`, but a single value goes without a call of the C library.
@@ -99,14 +85,15 @@ fn move_group<T>(from: &mut Slots<T>, at: usize, other: &mut Slots<T>, to: usize
 
 // All groups go to the room. Then the cells behind the place of each group, the last first, move to the back, and the
 // group comes to its place.
-fn weave_row<T>(mut room: Slots<T>, mut row: Slots<T>, groups: Groups) -> (Slots<T>, Slots<T>)
-    requires row { HasGroups groups row }
-    requires room { groups.lines * groups.count ≤ slots_len room }
+fn weave_row<T>(mut room: Slots<T>, job: (Slots<T>, Groups)) -> (Slots<T>, Slots<T>)
+    requires row { HasGroups job.1 job.0 }
+    requires room { job.1.lines * job.1.count ≤ slots_len room }
     ensures room { SamePlaces room result.0 }
-    ensures row { Refills row result.1 }
-    ensures woven { Woven groups.lines groups.width groups.at groups.count
-        (slots_items row) (slots_items result.1) }
+    ensures row { Refills job.0 result.1 }
+    ensures woven { Woven job.1.lines job.1.width job.1.at job.1.count
+        (slots_items job.0) (slots_items result.1) }
 {
+    let (mut row, groups) = job;
     let mut end = groups.lines * groups.width;
     row.move_run(end, &mut room, 0, groups.lines * groups.count);
     let mut line = groups.lines;
@@ -123,14 +110,15 @@ fn weave_row<T>(mut room: Slots<T>, mut row: Slots<T>, groups: Groups) -> (Slots
 
 // Each group goes to the room, from the first on, and the cells behind it move to the front. Then all groups come behind
 // the lines.
-fn unweave_row<T>(mut room: Slots<T>, mut row: Slots<T>, groups: Groups) -> (Slots<T>, Slots<T>)
-    requires row { HasGroups groups row }
-    requires room { groups.lines * groups.count ≤ slots_len room }
+fn unweave_row<T>(mut room: Slots<T>, job: (Slots<T>, Groups)) -> (Slots<T>, Slots<T>)
+    requires row { HasGroups job.1 job.0 }
+    requires room { job.1.lines * job.1.count ≤ slots_len room }
     ensures room { SamePlaces room result.0 }
-    ensures row { Refills row result.1 }
-    ensures woven { Woven groups.lines groups.width groups.at groups.count
-        (slots_items result.1) (slots_items row) }
+    ensures row { Refills job.0 result.1 }
+    ensures woven { Woven job.1.lines job.1.width job.1.at job.1.count
+        (slots_items result.1) (slots_items job.0) }
 {
+    let (mut row, groups) = job;
     let kept = groups.lines * groups.width;
     let mut start = groups.at;
     for line in 0..groups.lines {

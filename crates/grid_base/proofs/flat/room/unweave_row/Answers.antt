@@ -10,8 +10,8 @@ use Rattle.grid_base.proofs.flat.room.unweave_row.Goals as goal
 
 pub loop-line-init : goal.loop-line-init
 loop-line-init g c =
-    let groups = c.args.groups in
-    let row = c.args.row in
+    let groups = c.args.job.1 in
+    let row = c.args.job.0 in
     let room = c.args.room in
     let reach = first_line groups.lines groups.width c.requires.row.lines in
     let within = groups.within in
@@ -34,7 +34,7 @@ loop-line-init g c =
 pub move_within-requires : goal.move_within-requires
 move_within-requires g c =
     let inv = c.loop-line.invariant in
-    let groups = c.args.groups in
+    let groups = c.args.job.1 in
     let few = c.loop-line.line * groups.count in
     let start = c.loop-line.start in
     let row0 = c.loop-line.row in
@@ -51,7 +51,7 @@ move_within-requires g c =
 pub loop-line-preserved : goal.loop-line-preserved
 loop-line-preserved g c =
     let inv = c.loop-line.invariant in
-    let groups = c.args.groups in
+    let groups = c.args.job.1 in
     let few = c.loop-line.line * groups.count in
     let start = c.loop-line.start in
     let run = c.min-stretch.result in
@@ -97,7 +97,7 @@ loop-line-preserved g c =
 pub returns-clause-row : goal.returns-clause-row
 returns-clause-row g c =
     let inv = c.loop-line.invariant in
-    let groups = c.args.groups in
+    let groups = c.args.job.1 in
     let all : c.loop-line.line ≡ groups.lines = omega arith in
     let same = ap (λ v. v * groups.width) all in
     let place = inv.place c.requires.row.lines in
@@ -117,7 +117,7 @@ returns-clause-row g c =
 pub returns-clause-woven : goal.returns-clause-woven
 returns-clause-woven g c =
     let inv = c.loop-line.invariant in
-    let groups = c.args.groups in
+    let groups = c.args.job.1 in
     let all : c.loop-line.line ≡ groups.lines = omega arith in
     let same = ap (λ v. v * groups.width) all in
     let place = inv.place c.requires.row.lines in
@@ -128,5 +128,5 @@ returns-clause-woven g c =
     let now : with_waiting row room c.loop-line.start (c.loop-line.line * groups.count) ≡ c.move_run.new.other.items =
     ap (λ s. with_waiting row room s (c.loop-line.line * groups.count)) end
     ∙ (ap (λ v. with_waiting row room (groups.lines * groups.width) (v * groups.count)) all ∙ sym put.items) in
-    subst (λ xs. Woven groups.lines groups.width groups.at groups.count xs c.args.row.items) now
+    subst (λ xs. Woven groups.lines groups.width groups.at groups.count xs c.args.job.0.items) now
     (unweaving_end _ _ _ _ _ _ _ _ groups.within all (λ some. end) inv.run)

@@ -11,7 +11,7 @@ use Rattle.grid_base.proofs.flat.room.weave_row.Goals as goal
 pub loop-line-preserved : goal.loop-line-preserved
 loop-line-preserved g c =
     let inv = c.loop-line.invariant in
-    let groups = c.args.groups in
+    let groups = c.args.job.1 in
     let h = c.loop-line.line - 1 in
     let few = h * groups.count in
     let start = groups.at + h * groups.width in
@@ -61,7 +61,7 @@ loop-line-preserved g c =
 pub returns-clause-woven : goal.returns-clause-woven
 returns-clause-woven g c =
     let inv = c.loop-line.invariant in
-    let groups = c.args.groups in
+    let groups = c.args.job.1 in
     let none : c.loop-line.line ≡ 0 = omega arith in
     let gone = ap (λ v. v * groups.width) none in
     let none_left : c.loop-line.line * groups.count ≡ 0 = ap (λ v. v * groups.count) none ∙ omega arith in
@@ -72,6 +72,6 @@ returns-clause-woven g c =
     let fits : c.loop-line.end ≤ length row.items = omega arith in
     let now : with_waiting row.items c.loop-line.room.items c.loop-line.end (c.loop-line.line * groups.count) ≡ row.items =
     ap (λ n. with_waiting row.items c.loop-line.room.items c.loop-line.end n) none_left ∙ none_waits row.items c.loop-line.room.items c.loop-line.end fits in
-    subst (λ xs. Woven groups.lines groups.width groups.at groups.count c.args.row.items xs) now
+    subst (λ xs. Woven groups.lines groups.width groups.at groups.count c.args.job.0.items xs) now
     (weaving_end _ _ _ _ _ _ _ _ groups.within none
     (λ some. let reach = first_line groups.lines groups.width some in omega arith) inv.run)
