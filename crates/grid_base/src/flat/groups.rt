@@ -9,18 +9,24 @@
 //! leaves the lines. Both keep the order of the groups, and no tally counts their moves. `open` goes from the first
 //! form to the second by counted swaps, which keep the order of the lines but not of the cells behind them. `close_up`
 //! takes the groups from the second form by counted swaps, and drops them.
-ghost use Rattle.std.specs.Prelude.{◌≡◌, ◌+◌, ◌-◌, ◌*◌, ◌^◌, ◌<◌, ◌≤◌, ◌⊎◌, length, IfOk, IsFalse, IsTrue, OnErr};
+ghost use Rattle.std.specs.Prelude.{◌≡◌, ◌+◌, ◌-◌, ◌*◌, ◌^◌, ◌<◌, ◌≤◌, ◌⊎◌, length, IfOk, IsFalse, OnErr};
+ghost use Rattle.core.specs.Mem.Slots.{FitsRoom};
+ghost use Rattle.grid_base.specs.declared.flat.groups.Method.TheVariants.{Singly, ThroughRoom, ByHalves};
 ghost use Rattle.grid_base.specs.Groups.{Widened, Woven, Opened, Closed, TakenOut};
 ghost use Rattle.grid_base.specs.Tally.{saturating_count};
 
-use super::room::{Way, fits_room, move_through_room};
+use super::room::{Way, move_through_room};
 use super::rotations::{are_few, exchange_at_once, exchange_blocks};
 use super::{Flat, Swaps};
 use crate::Tally;
+use core::slots::has_room;
 use std::alloc::{AllocError, Allocator};
 
 // Single cells in 33 short lines: one by one 390 ns at 8 bytes a cell and 182 ns at one, through the room 313 and 290.
 const FEW_SINGLE_CELLS: usize = 32;
+
+// Two cells into each line of 8: 4 lines take 70 ns without the room; 5 lines 107 to 115 ns, and through it 95 to 104.
+const FEW_LINES: usize = 4;
 
 /// A vector's cells as lines with a group in each: `lines` lines of `width` cells, and in each line `count` more cells,
 /// its group, before place `at`.
@@ -160,43 +166,63 @@ fn moves_groups(groups: Groups) -> bool
     0 < groups.width && (1 < groups.lines || groups.at != groups.width)
 }
 
-// The groups of the first half of the lines come before the lines of the second half; then each half is woven. Few single
-// cells are woven one by one, and groups that fit the room through it. Lines that are long beside the groups are woven in turn, since then each round
-// moves little more than a line.
+// How groups come to their places among the lines, and how they leave them.
+#[derive(Clone, Copy)]
+enum Method {
+    // Few single cells, among few cells, one by one.
+    Singly,
+    // Groups that fit the room on the stack, through it.
+    ThroughRoom,
+    // Lines that are long beside the groups in turn, since then each round moves little more than a line.
+    InTurn,
+    // Others by halves of the lines.
+    ByHalves,
+}
+
+fn method_for<T>(cells: &[T], groups: Groups) -> Method
+    requires { length cells.now ≡ groups.lines * (groups.width + groups.count) }
+    ensures single { result ≡ Singly → groups.count ≡ 1 }
+    ensures lines { result ≡ ThroughRoom → 0 < groups.lines }
+    ensures some { result ≡ ThroughRoom → 0 < length cells.now }
+    ensures room { result ≡ ThroughRoom → FitsRoom T.row (groups.lines * groups.count) }
+    ensures halves { result ≡ ByHalves → 1 < groups.lines }
+{
+    let is_small = are_few(cells, cells.len());
+    let is_room_better = 1 < groups.lines && (FEW_LINES < groups.lines || !is_small);
+    if is_small && groups.count == 1 && groups.lines <= FEW_SINGLE_CELLS {
+        Method::Singly
+    } else if is_room_better && !cells.is_empty() && has_room(cells, groups.lines * groups.count) {
+        Method::ThroughRoom
+    } else if groups.lines < 2 || groups.lines * groups.count <= groups.width {
+        Method::InTurn
+    } else {
+        Method::ByHalves
+    }
+}
+
+// By halves, the groups of the first half of the lines come before the lines of the second half; then each half is woven.
 pub(super) fn weave_cells<T>(cells: &mut [T], groups: Groups)
     requires { length cells.old ≡ groups.lines * (groups.width + groups.count) }
     ensures { Woven groups.lines groups.width groups.at groups.count cells.old cells.new }
 {
-    if move_singly(cells, groups) {
-        weave_singly(cells, groups);
-        return;
+    match method_for(cells, groups) {
+        Method::Singly => weave_singly(cells, groups),
+        Method::ThroughRoom => move_through_room(cells, groups, Way::In),
+        Method::InTurn => weave_in_turn(cells, groups),
+        Method::ByHalves => {
+            let half = groups.lines / 2;
+            let rest = groups.lines - half;
+            exchange_blocks(
+                cells,
+                half * groups.width,
+                rest * groups.width,
+                half * groups.count,
+            );
+            let (front, back) = cells.split_at_mut(half * (groups.width + groups.count));
+            weave_cells(front, groups.in_lines(half));
+            weave_cells(back, groups.in_lines(rest));
+        }
     }
-    if fits_room(cells, groups) {
-        move_through_room(cells, groups, Way::In);
-        return;
-    }
-    if groups.lines < 2 || groups.lines * groups.count <= groups.width {
-        weave_in_turn(cells, groups);
-        return;
-    }
-    let half = groups.lines / 2;
-    let rest = groups.lines - half;
-    exchange_blocks(
-        cells,
-        half * groups.width,
-        rest * groups.width,
-        half * groups.count,
-    );
-    let (front, back) = cells.split_at_mut(half * (groups.width + groups.count));
-    weave_cells(front, groups.in_lines(half));
-    weave_cells(back, groups.in_lines(rest));
-}
-
-// Whether the groups are single cells, few of them and among few cells.
-fn move_singly<T>(cells: &[T], groups: Groups) -> bool
-    ensures { IsTrue result → groups.count ≡ 1 }
-{
-    groups.count == 1 && groups.lines <= FEW_SINGLE_CELLS && are_few(cells, cells.len())
 }
 
 // The groups are single cells. Each comes to its place, the first first, past all cells that are there and behind.
@@ -242,35 +268,29 @@ fn weave_in_turn<T>(cells: &mut [T], groups: Groups)
     }
 }
 
-// Each half is unwoven; then the lines of the second half come before the groups of the first. The other three cases
-// are those of `weave_cells`.
+// By halves, each half is unwoven; then the lines of the second half come before the groups of the first.
 pub(super) fn unweave_cells<T>(cells: &mut [T], groups: Groups)
     requires { length cells.old ≡ groups.lines * (groups.width + groups.count) }
     ensures { Woven groups.lines groups.width groups.at groups.count cells.new cells.old }
 {
-    if move_singly(cells, groups) {
-        unweave_singly(cells, groups);
-        return;
+    match method_for(cells, groups) {
+        Method::Singly => unweave_singly(cells, groups),
+        Method::ThroughRoom => move_through_room(cells, groups, Way::Out),
+        Method::InTurn => unweave_in_turn(cells, groups),
+        Method::ByHalves => {
+            let half = groups.lines / 2;
+            let rest = groups.lines - half;
+            let (front, back) = cells.split_at_mut(half * (groups.width + groups.count));
+            unweave_cells(front, groups.in_lines(half));
+            unweave_cells(back, groups.in_lines(rest));
+            exchange_blocks(
+                cells,
+                half * groups.width,
+                half * groups.count,
+                rest * groups.width,
+            );
+        }
     }
-    if fits_room(cells, groups) {
-        move_through_room(cells, groups, Way::Out);
-        return;
-    }
-    if groups.lines < 2 || groups.lines * groups.count <= groups.width {
-        unweave_in_turn(cells, groups);
-        return;
-    }
-    let half = groups.lines / 2;
-    let rest = groups.lines - half;
-    let (front, back) = cells.split_at_mut(half * (groups.width + groups.count));
-    unweave_cells(front, groups.in_lines(half));
-    unweave_cells(back, groups.in_lines(rest));
-    exchange_blocks(
-        cells,
-        half * groups.width,
-        half * groups.count,
-        rest * groups.width,
-    );
 }
 
 // The stretch of cells behind each group, from the first on, changes places with that group and all before it.

@@ -1,5 +1,5 @@
 //! Groups that wait in a room on the stack while the cells of the lines move, each cell once. No tally counts it.
-ghost use Rattle.std.specs.Prelude.{◌≡◌, ◌+◌, ◌*◌, ◌<◌, ◌≤◌, ◌++◌, false, length, take, drop, IsTrue};
+ghost use Rattle.std.specs.Prelude.{◌≡◌, ◌+◌, ◌*◌, ◌<◌, ◌≤◌, ◌++◌, false, length, take, drop};
 ghost use Rattle.core.specs.List.{slice_range};
 ghost use Rattle.core.specs.Mem.Slots.Ownership.{Filled, SameOutside};
 ghost use Rattle.core.specs.Mem.Slots.{slots_items, slots_filled, slots_len, SamePlaces, Refills, FitsRoom};
@@ -7,8 +7,7 @@ ghost use Rattle.grid_base.specs.Groups.{Woven};
 ghost use Rattle.grid_base.specs.Room.{GroupsMoved, HasGroups};
 
 use super::Groups;
-use super::rotations::are_few;
-use core::slots::{Slots, has_room, with_room, with_slots};
+use core::slots::{Slots, with_room, with_slots};
 
 // Which way groups move: from behind the lines into them, or out of them.
 #[derive(Clone, Copy)]
@@ -17,23 +16,7 @@ pub(super) enum Way {
     Out,
 }
 
-// Two cells into each line of 8: 4 lines take 70 ns without the room; 5 lines 107 to 115 ns, and through it 95 to 104.
-const FEW_LINES: usize = 4;
-
-// Whether the groups are in more than a few lines, and fit the room.
-pub(super) fn fits_room<T>(cells: &[T], groups: Groups) -> bool
-    requires { length cells.now ≡ groups.lines * (groups.width + groups.count) }
-    ensures lines { IsTrue result → 0 < groups.lines }
-    ensures some { IsTrue result → 0 < length cells.now }
-    ensures room { IsTrue result → FitsRoom T.row (groups.lines * groups.count) }
-{
-    1 < groups.lines
-        && (FEW_LINES < groups.lines || !are_few(cells, cells.len()))
-        && !cells.is_empty()
-        && has_room(cells, groups.lines * groups.count)
-}
-
-// Moves the groups, where `fits_room` says so.
+// Moves the groups, which fit the room.
 pub(super) fn move_through_room<T>(cells: &mut [T], groups: Groups, way: Way)
     requires lines { 0 < groups.lines }
     requires some { 0 < length cells.old }

@@ -2,12 +2,13 @@ use Rattle.std.proofs.Common.{rules, ◌≡◌, ◌+◌, ◌*◌, ◌<◌, lengt
 use Rattle.grid_base.proofs.WeaveLemmas.{woven_by_halves, exchanged_back, whole_of_halves}
 use Rattle.grid_base.proofs.flat.groups.+unweave_cells.Goals as goal
 
-pub unweave_cells-requires-2 : goal.unweave_cells-requires-2
-unweave_cells-requires-2 g t c κs within =
-    let e = c.in_lines-2.ensures in
+pub unweave_cells-requires-in-ByHalves : goal.unweave_cells-requires-in-ByHalves
+unweave_cells-requires-in-ByHalves g t c κs within =
+    let e = c.in_lines-in-ByHalves.ensures in
+    let two = c.in-ByHalves.ensures.halves refl in
     let whole = whole_of_halves c.args.groups.lines (c.args.groups.width + c.args.groups.count) in
-    let rest : c.in_lines-2.result.lines < t = omega arith in
-    let cells : length c.split_at_mut-front.result.1.now ≡ c.in_lines-2.result.lines * (c.in_lines-2.result.width + c.in_lines-2.result.count) =
+    let rest : c.in_lines-in-ByHalves.result.lines < t = omega arith in
+    let cells : length c.split_at_mut-front.result.1.now ≡ c.in_lines-in-ByHalves.result.lines * (c.in_lines-in-ByHalves.result.width + c.in_lines-in-ByHalves.result.count) =
     rw (e.lines, e.width, e.count) (omega (arith, c.split_at_mut-front.ensures.back_len)) in
     search rules
 
@@ -15,9 +16,9 @@ pub exchange_blocks-requires-clause-within : goal.exchange_blocks-requires-claus
 exchange_blocks-requires-clause-within g t c =
     omega (
       arith,
-      length-append c.unweave_cells.new.cells c.unweave_cells-2.new.cells,
+      length-append c.unweave_cells.new.cells c.unweave_cells-in-ByHalves.new.cells,
       c.unweave_cells.ensures.lengths,
-      c.unweave_cells-2.ensures.lengths,
+      c.unweave_cells-in-ByHalves.ensures.lengths,
       c.split_at_mut-front.ensures.front_len,
       c.split_at_mut-front.ensures.back_len,
       whole_of_halves c.args.groups.lines c.args.groups.width,
@@ -28,10 +29,10 @@ pub exchange_blocks-requires-clause-fits : goal.exchange_blocks-requires-clause-
 exchange_blocks-requires-clause-fits g t c =
     omega (arith, c.args.groups.fits, whole_of_halves c.args.groups.lines c.args.groups.width, whole_of_halves c.args.groups.lines c.args.groups.count)
 
-pub returns : goal.returns
-returns g t c =
+pub returns-in-ByHalves : goal.returns-in-ByHalves
+returns-in-ByHalves g t c =
     let front = c.in_lines.ensures in
-    let back = c.in_lines-2.ensures in
-    woven_by_halves _ (c.args.groups.lines / 2) (c.args.groups.lines - c.args.groups.lines / 2) _ _ _ _ (c.unweave_cells.new.cells ++ c.unweave_cells-2.new.cells) _ _ _ _ _ (omega arith) c.args.groups.within
+    let back = c.in_lines-in-ByHalves.ensures in
+    woven_by_halves _ (c.args.groups.lines / 2) (c.args.groups.lines - c.args.groups.lines / 2) _ _ _ _ (c.unweave_cells.new.cells ++ c.unweave_cells-in-ByHalves.new.cells) _ _ _ _ _ (omega arith) c.args.groups.within
     (omega (arith, c.split_at_mut-front.ensures.front_len, c.unweave_cells.ensures.lengths)) refl c.split_at_mut-front.ensures.value (exchanged_back _ _ _ _ _ c.exchange_blocks.ensures)
-    (rw (front.lines, front.width, front.at, front.count) at c.unweave_cells.ensures) (rw (back.lines, back.width, back.at, back.count) at c.unweave_cells-2.ensures)
+    (rw (front.lines, front.width, front.at, front.count) at c.unweave_cells.ensures) (rw (back.lines, back.width, back.at, back.count) at c.unweave_cells-in-ByHalves.ensures)
