@@ -1,6 +1,6 @@
 -- Items that come to the end of a list one by one, or leave it there.
 use Rattle.std.proofs.Common.{◌≡◌, ℕ, zero, suc, ◌+◌, List, [], ◌∷◌, ◌++◌, length, take, drop, reverse, refl, sym, ◌∙◌, ap, arith, append_assoc, append-nil, All, length-append}
-use Rattle.std.proofs.lemmas.List.{length-reverse}
+use Rattle.std.proofs.lemmas.List.{length-reverse, reverse-append}
 use Rattle.std.proofs.lemmas.List.Elements.{All-append, All-nil}
 use Rattle.std.proofs.Math.Seq.{take-append_seam, drop-append_seam}
 use Rattle.grid_base.specs.Append.{AppendsEach}
@@ -27,6 +27,15 @@ pub record Leaving {T : Type 0} (n : ℕ) (old now from into : List T) : Type 0 
   pub number : length gone ≡ n
   pub left : old ≡ now ++ reverse gone
   pub come : into ≡ from ++ gone
+
+pub leaving_more : {T : Type 0} (n m : ℕ) (x : T) (old now next from into new : List T) → Leaving n old now from into → m ≡ n + 1 → now ≡ next ++ x ∷ [] → new ≡ into ++ x ∷ [] → Leaving m old next from new
+leaving_more n m x old now next from into new h e l r =
+    record {
+      gone = h.gone ++ x ∷ [];
+      number = length-append h.gone (x ∷ []) ∙ omega (arith, h.number);
+      left = h.left ∙ (ap (λ ys. ys ++ reverse h.gone) l ∙ (append_assoc next (x ∷ []) (reverse h.gone) ∙ ap (λ ys. next ++ ys) (sym (reverse-append h.gone (x ∷ [])))));
+      come = r ∙ (ap (λ ys. ys ++ x ∷ []) h.come ∙ append_assoc from h.gone (x ∷ []));
+    }
 
 pub leaving_length : {T : Type 0} (n : ℕ) (old now from into : List T) → Leaving n old now from into → length now + n ≡ length old
 leaving_length n old now from into h =
