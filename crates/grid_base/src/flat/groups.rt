@@ -16,11 +16,12 @@ ghost use Rattle.grid_base.specs.Groups.{Widened, Woven, Opened, Closed, TakenOu
 ghost use Rattle.grid_base.specs.Tally.{saturating_count};
 
 use super::room::{Way, move_through_room};
-use super::rotations::{are_few, exchange_at_once, exchange_blocks};
+use super::rotations::{FEW_BYTES, exchange_at_once, exchange_blocks};
 use super::{Flat, Swaps};
 use crate::Tally;
 use core::slots::has_room;
 use std::alloc::{AllocError, Allocator};
+use std::mem::size_of_val;
 
 // Single cells in 33 short lines: one by one 390 ns at 8 bytes a cell and 182 ns at one, through the room 313 and 290.
 const FEW_SINGLE_CELLS: usize = 32;
@@ -187,7 +188,7 @@ fn method_for<T>(cells: &[T], groups: Groups) -> Method
     ensures room { result ≡ ThroughRoom → FitsRoom T.row (groups.lines * groups.count) }
     ensures halves { result ≡ ByHalves → 1 < groups.lines }
 {
-    let is_small = are_few(cells, cells.len());
+    let is_small = size_of_val(cells) < FEW_BYTES;
     let is_room_better = 1 < groups.lines && (FEW_LINES < groups.lines || !is_small);
     if is_small && groups.count == 1 && groups.lines <= FEW_SINGLE_CELLS {
         Method::Singly

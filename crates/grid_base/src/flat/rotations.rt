@@ -9,7 +9,7 @@ const SHORT_PART: usize = 16;
 
 // `rotate_left` and `with_room` clear 4096 bytes on the stack first: a rotation takes 48 ns at least, three reversals
 // 12. At about this many bytes both take 64 to 75 ns, at cells of 8 bytes and of one.
-const FEW_BYTES: usize = 1024;
+pub(super) const FEW_BYTES: usize = 1024;
 
 // Reverses the `n` cells from `start` on.
 fn reverse_part<T>(cells: &mut [T], start: usize, n: usize)
@@ -62,7 +62,7 @@ pub(super) fn exchange_blocks<T>(cells: &mut [T], start: usize, first: usize, se
 }
 
 // Whether `n` of the cells are moved faster without a room on the stack.
-pub(super) fn are_few<T>(cells: &[T], n: usize) -> bool
+fn are_few<T>(cells: &[T], n: usize) -> bool
     requires { n ≤ length cells.now }
 {
     mem::size_of_val(&cells[..n]) < FEW_BYTES
