@@ -12,27 +12,12 @@ use grid::Grid;
 use grid_near::Steps;
 use std::alloc::{AllocError, Allocator};
 
-// Whether a cell has this number of steps.
-fn has_steps<A: Allocator>(
-    steps: &Grid<Option<usize>, A>,
-    row: usize,
-    col: usize,
-    count: usize,
-) -> bool
-    ensures { IsTrue result ↔ IsMarked steps.now.rows (row, col) count }
-{
-    match steps.get(row, col) {
-        Some(Some(here)) => *here == count,
-        _ => false,
-    }
-}
-
 // The number of steps at a position, if it has one.
-fn steps_at<A: Allocator>(steps: &Grid<Option<usize>, A>, row: usize, col: usize) -> Option<usize>
-    ensures { MatchOption result ((k : ℕ) → IsMarked steps.now.rows (row, col) k → ⊥)
-        (λ k. IsMarked steps.now.rows (row, col) k) }
+fn steps_at<A: Allocator>(steps: &Grid<Option<usize>, A>, at: (usize, usize)) -> Option<usize>
+    ensures { MatchOption result ((k : ℕ) → IsMarked steps.now.rows at k → ⊥)
+        (λ k. IsMarked steps.now.rows at k) }
 {
-    match steps.get(row, col) {
+    match steps.get(at.0, at.1) {
         Some(Some(here)) => Some(*here),
         _ => None,
     }
@@ -49,7 +34,7 @@ fn first_with<A: Allocator>(
         (λ b. Contains at.now b × IsMarked steps.now.rows b count) }
 {
     for near in at {
-        if has_steps(steps, near.0, near.1, count) {
+        if steps.get(near.0, near.1) == Some(&Some(count)) {
             return Some(*near);
         }
     }
@@ -112,7 +97,7 @@ fn path_over<A: Allocator + Clone>(
         (λ path. IsShortestPath kind floor.rows from to path.items)) }
 {
     let steps = search_from(kind, floor, &[to], Some(from))?;
-    match steps_at(&steps, from.0, from.1) {
+    match steps_at(&steps, from) {
         Some(count) => Ok(Some(follow(&steps, from, count)?)),
         None => Ok(None),
     }

@@ -16,16 +16,6 @@ const MANY: usize = 2048;
 // For how many positions a queue has room from the start.
 pub(crate) const ROOM: usize = 4096;
 
-// Whether a cell is there and may still be reached.
-pub(crate) fn is_left<A: Allocator>(left: &Grid<bool, A>, at: (usize, usize)) -> bool
-    ensures { IsTrue result ↔ IsOpen left.now.rows at }
-{
-    match left.get(at.0, at.1) {
-        Some(is_left) => *is_left,
-        None => false,
-    }
-}
-
 // Reaches a position by `count` steps, if it is left. `left` are the open positions that aren't reached yet.
 #[inline(always)]
 fn reach<A: Allocator>(
@@ -43,7 +33,8 @@ fn reach<A: Allocator>(
         → Reaches floor at count steps.old.rows queue.old.items steps.new.rows queue.new.items
         × IsLeft floor steps.new.rows left.new.rows) }
 {
-    if is_left(left, at) {
+    let is_left = left.get(at.0, at.1) == Some(&true);
+    if is_left {
         left.set(at.0, at.1, false);
         steps.set(at.0, at.1, Some(count));
         queue.push(at)?;

@@ -1,4 +1,4 @@
-use Rattle.std.proofs.Common.{◌≡◌, Some, false, refl, inl, inr, ⊎_elim}
+use Rattle.std.proofs.Common.{rules, ◌≡◌, Some, false, refl, inl, inr, ⊎_elim}
 use Rattle.grid_base.specs.Table.{with_cell, InRange}
 use Rattle.grid_paths.specs.Walks.{IsOpen}
 use Rattle.grid_paths.proofs.AlikeLemmas.{set_there}
@@ -14,7 +14,7 @@ returns-in_ok-push-clause-reaches g c =
     let k = c.args.count in
     let table = c.args.steps.now.table in
     let left_table = c.args.left.now.table in
-    let is_left : IsOpen w at = c.if-is_left.ensures.0 refl in
+    let is_left : IsOpen w at = search rules in
     let here : InRange u at.0 at.1 = inside_steps floor u w l table left_table at k is_left in
     let there : InRange w at.0 at.1 = inside_left floor u w l table left_table at k is_left in
     let closed : c.set.new.self.rows ≡ with_cell w at.0 at.1 false = set_there c.set.result (InRange w at.0 at.1) _ _ there c.set.ensures.in_range c.set.ensures.rows in
@@ -28,6 +28,6 @@ returns-in_ok-push-clause-reaches g c =
 pub returns-else-is_left-clause-reaches : goal.returns-else-is_left-clause-reaches
 returns-else-is_left-clause-reaches g c =
     λ floor l. (
-      inr (λ o. ⊎_elim (λ h. absurd (let is = c.if-is_left.ensures.1 h in cc)) (λ m. m) (l.all c.args.at o), refl, refl),
+      inr (λ o. ⊎_elim (λ h. absurd (search rules)) (λ m. m) (l.all c.args.at o), refl, refl),
       l,
     )
