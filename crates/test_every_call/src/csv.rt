@@ -1,6 +1,6 @@
 //! Boards as CSV. A reader of CSV takes long, so few boards are enough.
 use crate::state::{Answer, Call, Start, came};
-use grid::Order;
+use grid::{Grid, Order};
 use grid_csv::laws::written_and_read;
 use grid_csv::{CsvError, from_csv, from_csv_with_header, to_csv, to_csv_with_header};
 use std::alloc::AllocError;
@@ -31,6 +31,16 @@ fn put_long(cell: &u32, field: &mut String) -> Result<(), AllocError> {
 
 fn try_read<'a>(start: &'a Start, field: &str) -> Result<Option<Counted<'a>>, AllocError> {
     Ok(Some(start.try_cell(number_of(field).unwrap_or(0))?))
+}
+
+// What is read of a sheet.
+fn cells_of<'a>(start: &'a Start, sheet: &[u8]) -> Result<Grid<Counted<'a>>, CsvError> {
+    from_csv(start.alloc, sheet, |field| try_read(start, field))
+}
+
+// What is read of one with a header.
+fn came_with_header(start: &Start, sheet: &[u8]) -> Answer {
+    came(from_csv_with_header(start.alloc, sheet, |field| try_read(start, field)))
 }
 
 // A name for each column, or none.
@@ -69,9 +79,7 @@ fn csv_read<'a>(start: &'a Start) -> Result<Answer, AllocError> {
         to_csv(start.alloc, &board, put_long)?
     };
     start.ready();
-    Ok(came(from_csv(start.alloc, text.as_str().as_bytes(), |field| {
-        try_read(start, field)
-    })))
+    Ok(came(cells_of(start, text.as_str().as_bytes())))
 }
 
 // A field that isn't UTF-8, behind one that was read.
@@ -80,7 +88,7 @@ fn bad_csv_read<'a>(start: &'a Start) -> Answer {
         return Answer::Skipped;
     }
     start.ready();
-    match from_csv(start.alloc, b"1,\xff\n", |field| try_read(start, field)) {
+    match cells_of(start, b"1,\xff\n") {
         Err(
             CsvError::BadField {
                 record: 1,
@@ -96,9 +104,7 @@ fn csv_with_header_read<'a>(start: &'a Start) -> Result<Answer, AllocError> {
     let names = header(start)?;
     let text = to_csv_with_header(start.alloc, names.as_slice(), &start.numbers()?, put)?;
     start.ready();
-    Ok(came(from_csv_with_header(start.alloc, text.as_str().as_bytes(), |field| {
-        try_read(start, field)
-    })))
+    Ok(came_with_header(start, text.as_str().as_bytes()))
 }
 
 // Four quoted fields and line ends of two bytes, or a field behind a byte order mark.
@@ -109,7 +115,7 @@ fn quoted_read<'a>(start: &'a Start) -> Answer {
         _ => return Answer::Skipped,
     };
     start.ready();
-    came(from_csv(start.alloc, sheet, |field| try_read(start, field)))
+    came(cells_of(start, sheet))
 }
 
 // A header without records.
@@ -118,7 +124,7 @@ fn header_read<'a>(start: &'a Start) -> Answer {
         return Answer::Skipped;
     }
     start.ready();
-    came(from_csv_with_header(start.alloc, b"a,b\n", |field| try_read(start, field)))
+    came_with_header(start, b"a,b\n")
 }
 
 fn csv_written_and_read<'a>(start: &'a Start) -> Result<Answer, AllocError> {

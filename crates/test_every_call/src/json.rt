@@ -5,6 +5,7 @@ use grid_json::laws::written_and_read;
 use grid_json::{Cell, RowsError, from_value, rows_from_value, rows_to_value, to_value};
 use serde_json::Value;
 use std::alloc::AllocError;
+use test_support::counted::Counted;
 
 pub const CALLS: [Call; 7] = [
     Call("Cell::to_cell", 4, None, None),
@@ -84,16 +85,25 @@ fn object_read(start: &Start) -> Result<Answer, AllocError> {
     Ok(came(read))
 }
 
+// The rows as a value.
+fn rows_of(start: &Start, board: &Numbers<'_>) -> Result<Value, AllocError> {
+    rows_to_value(start.alloc, board, |cell| {
+        start.called();
+        Ok(Value::from(*cell))
+    })
+}
+
+// Cells that are made from the items of a value.
+fn cells_of<'a>(start: &'a Start, value: &Value) -> Result<Grid<Counted<'a>>, RowsError> {
+    rows_from_value(start.alloc, value, |_| Ok(Some(start.try_cell(1)?)))
+}
+
 // One item that the closure, which is asked once, says is no cell.
 fn no_cell_read(start: &Start) -> Result<Answer, AllocError> {
     if start.size != (1, 1) {
         return Ok(Answer::Skipped);
     }
-    let value = rows_to_value(
-        start.alloc,
-        &start.numbers()?,
-        |cell| Ok(Value::from(*cell)),
-    )?;
+    let value = rows_of(start, &start.numbers()?)?;
     start.ready();
     let read: Result<Grid<u32>, _> = rows_from_value(start.alloc, &value, |_| {
         start.called();
@@ -109,12 +119,12 @@ fn no_cell_read(start: &Start) -> Result<Answer, AllocError> {
 // The rows of the board, and in case 1 an item behind them that isn't a row, which is told when all cells are read.
 fn rows_read(start: &Start) -> Result<Answer, AllocError> {
     let board = start.numbers()?;
-    let mut value = rows_to_value(start.alloc, &board, |cell| Ok(Value::from(*cell)))?;
+    let mut value = rows_of(start, &board)?;
     if let (Some(items), 1) = (value.as_array_mut(), start.case) {
         items.push(Value::Null)?;
     }
     start.ready();
-    let read = rows_from_value(start.alloc, &value, |_| { Ok(Some(start.try_cell(1)?)) });
+    let read = cells_of(start, &value);
     Ok(match read {
         Err(RowsError::NotRow { row }) if start.case == 1 && row == board.rows() => Answer::Done,
         Ok(_) if start.case == 1 => Answer::Wrong,
@@ -133,7 +143,7 @@ fn empty_rows_read(start: &Start) -> Result<Answer, AllocError> {
     }
     let value = Value::Array(rows);
     start.ready();
-    let read = rows_from_value(start.alloc, &value, |_| { Ok(Some(start.try_cell(1)?)) });
+    let read = cells_of(start, &value);
     Ok(match read {
         Ok(board) if !board.is_empty() => Answer::Wrong,
         read => came(read),
@@ -145,10 +155,7 @@ fn written(start: &Start, name: &str) -> Result<Answer, AllocError> {
     start.ready();
     Ok(match name {
         "grid_json::to_value" => came(to_value(start.alloc, &board)),
-        "grid_json::rows_to_value" => came(rows_to_value(start.alloc, &board, |cell| {
-            start.called();
-            Ok(Value::from(*cell))
-        })),
+        "grid_json::rows_to_value" => came(rows_of(start, &board)),
         "grid_json::written_and_read" => came(written_and_read(start.alloc, &board)),
         _ => Answer::Wrong,
     })

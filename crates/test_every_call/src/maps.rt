@@ -1,6 +1,6 @@
 //! Maps of a whole board, with what is round each cell, and the positions of cells.
 use crate::state::{Answer, Board, Call, Start, both_came, came};
-use grid::Order;
+use grid::{Neighbors, Order, WrappedNeighbors};
 use std::alloc::AllocError;
 use std::cell::Cell;
 use test_support::counted::Counted;
@@ -13,10 +13,10 @@ pub const CALLS: [Call; 16] = [
     Call("Grid::map_neighbors8", 1, Some(1), Some(1)),
     Call("Grid::map_wrapped_neighbors4", 1, Some(1), Some(1)),
     Call("Grid::map_wrapped_neighbors8", 1, Some(1), Some(1)),
-    Call("Grid::map_counts4", 1, Some(4), Some(2)),
-    Call("Grid::map_counts8", 1, Some(4), Some(2)),
-    Call("Grid::map_sums4", 1, Some(4), Some(2)),
-    Call("Grid::map_sums8", 1, Some(4), Some(2)),
+    Call("Grid::map_counts4", 1, Some(4), Some(1)),
+    Call("Grid::map_counts8", 1, Some(4), Some(1)),
+    Call("Grid::map_sums4", 1, Some(4), Some(1)),
+    Call("Grid::map_sums8", 1, Some(4), Some(1)),
     Call("Grid::map_wrapped_counts4", 1, Some(4), Some(1)),
     Call("Grid::map_wrapped_counts8", 1, Some(4), Some(1)),
     Call("Grid::map_wrapped_sums4", 1, Some(4), Some(1)),
@@ -32,66 +32,50 @@ fn low(cell: &Counted<'_>) -> u8 {
     (cell.value() % 200) as u8
 }
 
-// Of those whose edges are open both closures are counted.
-fn counted<'a>(start: &'a Start, board: &Board<'a>, name: &str) -> Answer {
-    let odd = |cell: &Counted<'_>| {
-        start.called();
-        is_odd(cell)
-    };
-    let few = |cell: &Counted<'_>| {
-        start.called();
-        low(cell)
-    };
-    match name {
-        "Grid::map_counts4" => came(board.map_counts4(odd, |_, count| start.cell(count.into()))),
-        "Grid::map_counts8" => came(board.map_counts8(odd, |_, count| start.cell(count.into()))),
-        "Grid::map_sums4" => came(board.map_sums4(few, |_, sum| start.cell(sum.into()))),
-        "Grid::map_sums8" => came(board.map_sums8(few, |_, sum| start.cell(sum.into()))),
-        name => wrapped(start, board, name),
-    }
-}
-
-// Those whose edges are joined call the test once more at the cells of the first line along the storage and of the last, and
-// never where they are refused.
-fn wrapped<'a>(start: &'a Start, board: &Board<'a>, name: &str) -> Answer {
-    let tests = Cell::new(0u64);
-    let tested = || tests.set(tests.get().wrapping_add(1));
-    let odd = |cell: &Counted<'_>| {
-        tested();
-        is_odd(cell)
-    };
-    let few = |cell: &Counted<'_>| {
-        tested();
-        low(cell)
-    };
-    let answer = match name {
-        "Grid::map_wrapped_counts4" => {
-            came(board.map_wrapped_counts4(odd, |_, count| start.cell(count.into())))
-        }
-        "Grid::map_wrapped_counts8" => {
-            came(board.map_wrapped_counts8(odd, |_, count| start.cell(count.into())))
-        }
-        "Grid::map_wrapped_sums4" => {
-            came(board.map_wrapped_sums4(few, |_, sum| start.cell(sum.into())))
-        }
-        "Grid::map_wrapped_sums8" => {
-            came(board.map_wrapped_sums8(few, |_, sum| start.cell(sum.into())))
-        }
-        _ => Answer::Wrong,
-    };
+// Whether a test is called as often as is promised: once for each cell, and where the edges are joined at most once more
+// at those of the first line along the storage and of the last, but never where the call is refused.
+fn keeps_tests(start: &Start, name: &str, answer: Answer, tests: u64) -> bool {
     let (lines, width) = match start.order {
         Order::RowMajor => start.size,
         Order::ColumnMajor => (start.size.1, start.size.0),
     };
-    let most = if answer == Answer::Refused {
-        0
-    } else {
-        lines.saturating_add(2).wrapping_mul(width) as u64
-    };
-    if tests.get() > most {
-        return Answer::Wrong;
+    match answer {
+        Answer::Refused => tests == 0,
+        _ if name.contains("wrapped") => {
+            tests <= lines.saturating_add(2).wrapping_mul(width) as u64
+        }
+        _ => tests == lines.wrapping_mul(width) as u64,
     }
-    answer
+}
+
+fn counted<'a>(start: &'a Start, board: &Board<'a>, name: &str) -> Answer {
+    let tests = Cell::new(0u64);
+    let odd = |cell: &Counted<'_>| {
+        tests.set(tests.get().wrapping_add(1));
+        is_odd(cell)
+    };
+    let few = |cell: &Counted<'_>| {
+        tests.set(tests.get().wrapping_add(1));
+        low(cell)
+    };
+    let of_count = |_: &Counted<'_>, count: u8| start.cell(count.into());
+    let of_sum = |_: &Counted<'_>, sum: u16| start.cell(sum.into());
+    let answer = match name {
+        "Grid::map_counts4" => came(board.map_counts4(odd, of_count)),
+        "Grid::map_counts8" => came(board.map_counts8(odd, of_count)),
+        "Grid::map_wrapped_counts4" => came(board.map_wrapped_counts4(odd, of_count)),
+        "Grid::map_wrapped_counts8" => came(board.map_wrapped_counts8(odd, of_count)),
+        "Grid::map_sums4" => came(board.map_sums4(few, of_sum)),
+        "Grid::map_sums8" => came(board.map_sums8(few, of_sum)),
+        "Grid::map_wrapped_sums4" => came(board.map_wrapped_sums4(few, of_sum)),
+        "Grid::map_wrapped_sums8" => came(board.map_wrapped_sums8(few, of_sum)),
+        _ => Answer::Wrong,
+    };
+    if keeps_tests(start, name, answer, tests.get()) {
+        answer
+    } else {
+        Answer::Wrong
+    }
 }
 
 // The positions of all cells, of none, of those that are odd, or of the last, by the case.
@@ -110,19 +94,17 @@ fn positions<'a>(start: &'a Start, board: &Board<'a>) -> Answer {
 }
 
 fn round<'a>(start: &'a Start, board: &Board<'a>, name: &str) -> Answer {
+    let open = |_: (usize, usize), cell: &Counted<'_>, _: Neighbors<'_, Counted<'_>>| {
+        start.visit(cell.value())
+    };
+    let joined = |_: (usize, usize), cell: &Counted<'_>, _: WrappedNeighbors<'_, Counted<'_>>| {
+        start.visit(cell.value())
+    };
     match name {
-        "Grid::map_neighbors4" => came(board.map_neighbors4(|_, cell, _| start.visit(
-            cell.value(),
-        ))),
-        "Grid::map_neighbors8" => came(board.map_neighbors8(|_, cell, _| start.visit(
-            cell.value(),
-        ))),
-        "Grid::map_wrapped_neighbors4" => {
-            came(board.map_wrapped_neighbors4(|_, cell, _| start.visit(cell.value())))
-        }
-        "Grid::map_wrapped_neighbors8" => {
-            came(board.map_wrapped_neighbors8(|_, cell, _| start.visit(cell.value())))
-        }
+        "Grid::map_neighbors4" => came(board.map_neighbors4(open)),
+        "Grid::map_neighbors8" => came(board.map_neighbors8(open)),
+        "Grid::map_wrapped_neighbors4" => came(board.map_wrapped_neighbors4(joined)),
+        "Grid::map_wrapped_neighbors8" => came(board.map_wrapped_neighbors8(joined)),
         name => counted(start, board, name),
     }
 }

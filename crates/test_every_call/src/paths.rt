@@ -100,19 +100,22 @@ fn flooded(start: &Start, board: &Numbers<'_>) -> Answer {
 
 // All cells are free, or in the last case none.
 fn searched(start: &Start, board: &Numbers<'_>, name: &str) -> Answer {
-    let free_until = |case: usize| {
+    let last = if name == "grid_paths::distances_from" {
+        3
+    } else {
+        2
+    };
+    let free = |_: &u32| {
         start.called();
-        start.case < case
+        start.case < last
     };
     match name {
-        "grid_paths::distances" => {
-            came(distances(board, (0, 0), steps(start), |_| free_until(2)))
-        }
+        "grid_paths::distances" => came(distances(board, (0, 0), steps(start), free)),
         "grid_paths::distances_from" => {
-            came(distances_from(board, starts(start), Steps::All, |_| free_until(3)))
+            came(distances_from(board, starts(start), Steps::All, free))
         }
         _ => came(cheapest(board, (0, 0), steps(start), |cell| {
-            free_until(2).then_some(cost_of(start, *cell))
+            free(cell).then_some(cost_of(start, *cell))
         })),
     }
 }

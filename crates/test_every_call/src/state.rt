@@ -71,6 +71,7 @@ impl Start {
 
     // Grants the requests of the call, which comes next.
     pub fn ready(&self) {
+        self.calls.set(0);
         self.heap.grant(self.granted);
     }
 

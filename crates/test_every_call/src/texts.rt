@@ -31,6 +31,16 @@ fn ended<'t>(start: &Start, text: &'t str) -> &'t str {
     }
 }
 
+fn letters_read<'a>(start: &'a Start, text: &str) -> Answer {
+    came(from_text(&start.heap, text, |found| {
+        if found == letter(start) {
+            Some(start.cell(1))
+        } else {
+            None
+        }
+    }))
+}
+
 // Two lines without characters, or of a blank and a tab.
 fn blank_read<'a>(start: &'a Start, name: &str) -> Answer {
     if start.size != (0, 0) {
@@ -38,30 +48,30 @@ fn blank_read<'a>(start: &'a Start, name: &str) -> Answer {
     }
     start.ready();
     match name {
-        "grid_text::from_text" => came(from_text(&start.heap, "\n\n", |_| Some(start.cell(1)))),
-        "grid_text::from_words" => came(from_words(
-            &start.heap,
-            " \n\t\n",
-            |_| Some(start.cell(1)),
-        )),
-        _ => came(try_from_words(&start.heap, " \n\t\n", |_| { Ok(Some(start.try_cell(1)?)) })),
+        "grid_text::from_text" => letters_read(start, "\n\n"),
+        name => numbers_read(start, name, " \n\t\n"),
     }
 }
 
 fn read<'a>(start: &'a Start) -> Result<Answer, AllocError> {
     let text = to_text(start.alloc, &start.numbers()?, |_| letter(start))?;
     start.ready();
-    Ok(came(from_text(&start.heap, ended(start, text.as_str()), |found| {
-        if found == letter(start) {
-            Some(start.cell(1))
-        } else {
-            None
-        }
-    })))
+    Ok(letters_read(start, ended(start, text.as_str())))
 }
 
 fn number_of(word: &str) -> Option<u32> {
     word.parse::<u32>().ok()
+}
+
+fn numbers_read<'a>(start: &'a Start, name: &str, text: &str) -> Answer {
+    if name == "grid_text::from_words" {
+        return came(from_words(&start.heap, text, |word| {
+            number_of(word).map(|number| start.cell(number))
+        }));
+    }
+    came(try_from_words(&start.heap, text, |word| {
+        Ok(Some(start.try_cell(number_of(word).unwrap_or(0))?))
+    }))
 }
 
 fn words_read<'a>(start: &'a Start, name: &str) -> Result<Answer, AllocError> {
@@ -76,15 +86,7 @@ fn words_read<'a>(start: &'a Start, name: &str) -> Result<Answer, AllocError> {
     }
     let text = ended(start, tabbed.as_str());
     start.ready();
-    Ok(if name == "grid_text::from_words" {
-        came(from_words(&start.heap, text, |word| {
-            number_of(word).map(|number| start.cell(number))
-        }))
-    } else {
-        came(try_from_words(&start.heap, text, |word| {
-            Ok(Some(start.try_cell(number_of(word).unwrap_or(0))?))
-        }))
-    })
+    Ok(numbers_read(start, name, text))
 }
 
 // The largest numbers as words, or the least ones.
@@ -102,17 +104,13 @@ fn extremes_written<'a>(start: &'a Start) -> Result<Answer, AllocError> {
 
 fn written<'a>(start: &'a Start, board: &Numbers<'a>, name: &str) -> Answer {
     let (alloc, heap) = (start.alloc, &start.heap);
+    let put = |_: &u32| letter(start);
     match name {
         "Grid::pretty" if start.case == 0 => came(board.pretty(heap, None)),
         "Grid::pretty" => came(board.pretty(heap, Some(start.case.wrapping_sub(1)))),
-        "grid_text::to_text" => came(to_text(alloc, board, |_| letter(start))),
+        "grid_text::to_text" => came(to_text(alloc, board, put)),
         "grid_text::to_words" => came(to_words(alloc, board)),
-        "grid_text::written_and_read" => came(written_and_read(
-            alloc,
-            board,
-            |_| letter(start),
-            |_| Some(1),
-        )),
+        "grid_text::written_and_read" => came(written_and_read(alloc, board, put, |_| Some(1))),
         "grid_text::numbers_written_and_read" => {
             came(numbers_written_and_read(alloc, board, number_of))
         }
