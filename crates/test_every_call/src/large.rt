@@ -120,7 +120,7 @@ fn is_told_of_words(
 ) -> Result<bool, AllocError> {
     let words = flawed(alloc, " ", line, flaw)?;
     let cell = |word: &str| number(word).map(|value| Counted::new(heap, value));
-    let read = from_words(heap, words.as_str(), |word| cell(word));
+    let read = from_words(heap, words.as_str(), cell);
     let tried = try_from_words(heap, words.as_str(), |word| Ok(cell(word)));
     Ok(is_told(read, word_fault(line, flaw)) && is_told(tried, word_fault(line, flaw)))
 }
@@ -154,8 +154,8 @@ fn is_told_of_sheet(
 ) -> Result<bool, AllocError> {
     let sheet = flawed(alloc, ",", line, flaw)?;
     let cell = |field: &str| Ok(number(field).map(|value| Counted::new(heap, value)));
-    let read = from_csv(alloc, sheet.as_str().as_bytes(), |field| cell(field));
-    let below = from_csv_with_header(alloc, sheet.as_str().as_bytes(), |field| cell(field));
+    let read = from_csv(alloc, sheet.as_str().as_bytes(), cell);
+    let below = from_csv_with_header(alloc, sheet.as_str().as_bytes(), cell);
     if below.is_ok() != (line == 0) {
         return Ok(false);
     }
@@ -287,10 +287,9 @@ fn is_walked(answer: Answer, right: bool) -> Answer {
 
 // How far the end is from the first cell, by the call of this name that numbers all cells.
 fn numbered(maze: &Maze<'_>, name: &str, calls: &Cell<u64>) -> Answer {
-    let count = || calls.set(calls.get().wrapping_add(1));
     if name == "distances" {
         let steps = distances(maze, (0, 0), Steps::Sides, |free| {
-            count();
+            calls.set(calls.get().wrapping_add(1));
             *free
         });
         let right = match &steps {
@@ -300,7 +299,7 @@ fn numbered(maze: &Maze<'_>, name: &str, calls: &Cell<u64>) -> Answer {
         return is_walked(came(steps), right);
     }
     let sums = cheapest(maze, (0, 0), Steps::Sides, |free| {
-        count();
+        calls.set(calls.get().wrapping_add(1));
         if *free { Some(2) } else { None }
     });
     let right = match &sums {
@@ -312,10 +311,9 @@ fn numbered(maze: &Maze<'_>, name: &str, calls: &Cell<u64>) -> Answer {
 
 // The path from the first cell to the end, by the call of this name.
 fn walked(maze: &Maze<'_>, name: &str, calls: &Cell<u64>) -> Answer {
-    let count = || calls.set(calls.get().wrapping_add(1));
     if name == "shortest_path" {
         let path = shortest_path(maze, (0, 0), END, Steps::Sides, |free| {
-            count();
+            calls.set(calls.get().wrapping_add(1));
             *free
         });
         let right = match &path {
@@ -326,7 +324,7 @@ fn walked(maze: &Maze<'_>, name: &str, calls: &Cell<u64>) -> Answer {
         return is_walked(came(path), right);
     }
     let path = cheapest_path(maze, (0, 0), END, Steps::Sides, |free| {
-        count();
+        calls.set(calls.get().wrapping_add(1));
         if *free { Some(2) } else { None }
     });
     let right = match &path {
