@@ -180,6 +180,7 @@ enum Method {
     ByHalves,
 }
 
+#[inline(always)]
 fn method_for<T>(cells: &[T], groups: Groups) -> Method
     requires { length cells.now ≡ groups.lines * (groups.width + groups.count) }
     ensures single { result ≡ Singly → groups.count ≡ 1 }
@@ -188,13 +189,18 @@ fn method_for<T>(cells: &[T], groups: Groups) -> Method
     ensures room { result ≡ ThroughRoom → FitsRoom T.row (groups.lines * groups.count) }
     ensures halves { result ≡ ByHalves → 1 < groups.lines }
 {
+    if groups.lines < 2 {
+        return Method::InTurn;
+    }
     let is_small = size_of_val(cells) < FEW_BYTES;
-    let is_room_better = 1 < groups.lines && (FEW_LINES < groups.lines || !is_small);
     if is_small && groups.count == 1 && groups.lines <= FEW_SINGLE_CELLS {
         Method::Singly
-    } else if is_room_better && !cells.is_empty() && has_room(cells, groups.lines * groups.count) {
+    } else if (FEW_LINES < groups.lines || !is_small)
+        && !cells.is_empty()
+        && has_room(cells, groups.lines * groups.count)
+    {
         Method::ThroughRoom
-    } else if groups.lines < 2 || groups.lines * groups.count <= groups.width {
+    } else if groups.lines * groups.count <= groups.width {
         Method::InTurn
     } else {
         Method::ByHalves
