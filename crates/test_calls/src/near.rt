@@ -28,11 +28,12 @@ fn listed(alloc: Global, board: &Grid<i64>, ask: Ask<'_>) -> Result<String, Allo
 // How many cells round a position are above a number.
 fn counted(alloc: Global, board: &Grid<i64>, ask: Ask<'_>) -> Result<String, AllocError> {
     let (at, number) = (ask.position(0), ask.cell(2));
+    let is_above = |cell: &i64| number < *cell;
     let count = match ask.call {
-        "count_neighbors4" => board.count_neighbors4(at, |cell| number < *cell),
-        "count_neighbors8" => board.count_neighbors8(at, |cell| number < *cell),
-        "count_wrapped_neighbors4" => board.count_wrapped_neighbors4(at, |cell| number < *cell),
-        "count_wrapped_neighbors8" => board.count_wrapped_neighbors8(at, |cell| number < *cell),
+        "count_neighbors4" => board.count_neighbors4(at, is_above),
+        "count_neighbors8" => board.count_neighbors8(at, is_above),
+        "count_wrapped_neighbors4" => board.count_wrapped_neighbors4(at, is_above),
+        "count_wrapped_neighbors8" => board.count_wrapped_neighbors8(at, is_above),
         _ => return listed(alloc, board, ask),
     };
     shown(alloc, count)
@@ -56,15 +57,17 @@ fn wrapped_sum(near: WrappedNeighbors<'_, i64>) -> i64 {
 
 // The sums of each cell and those round it.
 fn mapped(alloc: Global, board: &Grid<i64>, ask: Ask<'_>) -> Result<String, AllocError> {
+    let add = |_: (usize, usize), cell: &i64, near: Neighbors<'_, i64>| cell.wrapping_add(sum(
+        near,
+    ));
+    let add_wrapped = |_: (usize, usize), cell: &i64, near: WrappedNeighbors<'_, i64>| {
+        cell.wrapping_add(wrapped_sum(near))
+    };
     let made = match ask.call {
-        "map_neighbors4" => board.map_neighbors4(|_, cell, near| cell.wrapping_add(sum(near))),
-        "map_neighbors8" => board.map_neighbors8(|_, cell, near| cell.wrapping_add(sum(near))),
-        "map_wrapped_neighbors4" => board.map_wrapped_neighbors4(|_, cell, near| cell.wrapping_add(
-            wrapped_sum(near),
-        )),
-        "map_wrapped_neighbors8" => board.map_wrapped_neighbors8(|_, cell, near| cell.wrapping_add(
-            wrapped_sum(near),
-        )),
+        "map_neighbors4" => board.map_neighbors4(add),
+        "map_neighbors8" => board.map_neighbors8(add),
+        "map_wrapped_neighbors4" => board.map_wrapped_neighbors4(add_wrapped),
+        "map_wrapped_neighbors8" => board.map_wrapped_neighbors8(add_wrapped),
         _ => return counted(alloc, board, ask),
     };
     told_made(alloc, made)
@@ -73,43 +76,27 @@ fn mapped(alloc: Global, board: &Grid<i64>, ask: Ask<'_>) -> Result<String, Allo
 // How many of the cells round each one are above a number.
 fn map_counts(alloc: Global, board: &Grid<i64>, ask: Ask<'_>) -> Result<String, AllocError> {
     let number = ask.cell(0);
+    let is_above = |cell: &i64| number < *cell;
+    let count_of = |_: &i64, count: u8| i64::from(count);
     let made = match ask.call {
-        "map_counts4" => board.map_counts4(|cell| number < *cell, |_, count| i64::from(count)),
-        "map_counts8" => board.map_counts8(|cell| number < *cell, |_, count| i64::from(count)),
-        "map_wrapped_counts4" => board.map_wrapped_counts4(
-            |cell| number < *cell,
-            |_, count| i64::from(count),
-        ),
-        "map_wrapped_counts8" => board.map_wrapped_counts8(
-            |cell| number < *cell,
-            |_, count| i64::from(count),
-        ),
+        "map_counts4" => board.map_counts4(is_above, count_of),
+        "map_counts8" => board.map_counts8(is_above, count_of),
+        "map_wrapped_counts4" => board.map_wrapped_counts4(is_above, count_of),
+        "map_wrapped_counts8" => board.map_wrapped_counts8(is_above, count_of),
         _ => return mapped(alloc, board, ask),
     };
     told_made(alloc, made)
 }
 
-// A cell as a byte, or the largest.
-fn weight(cell: &i64) -> u8 {
-    u8::try_from(*cell).unwrap_or(u8::MAX)
-}
-
-// A cell and the sum of those round it.
-fn added(cell: &i64, sum: u16) -> i64 {
-    cell.wrapping_add(i64::from(sum))
-}
-
-// The sums of each cell and of those round it, as bytes.
+// The sums of each cell and of those round it, as bytes, the largest where a cell is no byte.
 fn map_sums(alloc: Global, board: &Grid<i64>, ask: Ask<'_>) -> Result<String, AllocError> {
+    let weight = |cell: &i64| u8::try_from(*cell).unwrap_or(u8::MAX);
+    let added = |cell: &i64, sum: u16| cell.wrapping_add(i64::from(sum));
     let made = match ask.call {
-        "map_sums4" => board.map_sums4(|cell| weight(cell), |cell, sum| added(cell, sum)),
-        "map_sums8" => board.map_sums8(|cell| weight(cell), |cell, sum| added(cell, sum)),
-        "map_wrapped_sums4" => {
-            board.map_wrapped_sums4(|cell| weight(cell), |cell, sum| added(cell, sum))
-        }
-        "map_wrapped_sums8" => {
-            board.map_wrapped_sums8(|cell| weight(cell), |cell, sum| added(cell, sum))
-        }
+        "map_sums4" => board.map_sums4(weight, added),
+        "map_sums8" => board.map_sums8(weight, added),
+        "map_wrapped_sums4" => board.map_wrapped_sums4(weight, added),
+        "map_wrapped_sums8" => board.map_wrapped_sums8(weight, added),
         _ => return map_counts(alloc, board, ask),
     };
     told_made(alloc, made)

@@ -12,14 +12,21 @@ fn cell(alloc: Global, field: &str) -> Result<Option<String>, AllocError> {
     Ok(Some(String::from_str(alloc, field)?))
 }
 
+fn put(cell: &String, text: &mut String) -> Result<(), AllocError> {
+    text.push_str(cell.as_str())
+}
+
+fn read(alloc: Global, bytes: &[u8]) -> Result<Grid<String>, CsvError> {
+    from_csv(alloc, bytes, |field| cell(alloc, field))
+}
+
+fn read_headed(alloc: Global, bytes: &[u8]) -> Result<(Vec<String>, Grid<String>), CsvError> {
+    from_csv_with_header(alloc, bytes, |field| cell(alloc, field))
+}
+
 // The grid that is read from the CSV of this one.
 fn again(alloc: Global, grid: &Grid<String>) -> Result<Grid<String>, CsvError> {
-    written_and_read(
-        alloc,
-        grid,
-        |cell, text| text.push_str(cell.as_str()),
-        |field| cell(alloc, field),
-    )
+    written_and_read(alloc, grid, put, |field| cell(alloc, field))
 }
 
 // The rows that a value is.
@@ -44,7 +51,7 @@ fn told(alloc: Global, grid: &Grid<String>) -> Result<String> {
 
 /// Returns the rows of a sheet, or what is wrong with it.
 pub fn sheet(alloc: Global, bytes: &[u8]) -> Result<String> {
-    match from_csv(alloc, bytes, |field| cell(alloc, field)) {
+    match read(alloc, bytes) {
         Ok(grid) => told(alloc, &grid),
         Err(fault) => Ok(format!(in alloc; "{fault}\n")?),
     }
@@ -52,7 +59,7 @@ pub fn sheet(alloc: Global, bytes: &[u8]) -> Result<String> {
 
 /// Returns the header and the rows of a sheet that has one, or what is wrong with it.
 pub fn headed(alloc: Global, bytes: &[u8]) -> Result<String> {
-    match from_csv_with_header(alloc, bytes, |field| cell(alloc, field)) {
+    match read_headed(alloc, bytes) {
         Ok((header, grid)) => {
             let rows = told(alloc, &grid)?;
             Ok(format!(in alloc; "{header:?}\n{rows}")?)
@@ -63,34 +70,29 @@ pub fn headed(alloc: Global, bytes: &[u8]) -> Result<String> {
 
 /// Returns the sheet of the rows of a sheet.
 pub fn sheet_again(alloc: Global, bytes: &[u8]) -> Result<Vec<u8>> {
-    let grid = from_csv(alloc, bytes, |field| cell(alloc, field))?;
-    let text = to_csv(alloc, &grid, |cell, text| text.push_str(cell.as_str()))?;
+    let grid = read(alloc, bytes)?;
+    let text = to_csv(alloc, &grid, put)?;
     Ok(text.into_bytes())
 }
 
 /// Returns the sheet of the header and the rows of a sheet.
 pub fn headed_again(alloc: Global, bytes: &[u8]) -> Result<Vec<u8>> {
-    let (header, grid) = from_csv_with_header(alloc, bytes, |field| cell(alloc, field))?;
-    let text = to_csv_with_header(
-        alloc,
-        &header,
-        &grid,
-        |cell, text| text.push_str(cell.as_str()),
-    )?;
+    let (header, grid) = read_headed(alloc, bytes)?;
+    let text = to_csv_with_header(alloc, &header, &grid, put)?;
     Ok(text.into_bytes())
 }
 
 /// Returns the sheet of the columns of a sheet.
 pub fn sheet_transposed(alloc: Global, bytes: &[u8]) -> Result<Vec<u8>> {
-    let mut grid = from_csv(alloc, bytes, |field| cell(alloc, field))?;
+    let mut grid = read(alloc, bytes)?;
     grid.transpose();
-    let text = to_csv(alloc, &grid, |cell, text| text.push_str(cell.as_str()))?;
+    let text = to_csv(alloc, &grid, put)?;
     Ok(text.into_bytes())
 }
 
 /// Returns the columns of a sheet.
 pub fn transposed(alloc: Global, bytes: &[u8]) -> Result<String> {
-    let mut grid = from_csv(alloc, bytes, |field| cell(alloc, field))?;
+    let mut grid = read(alloc, bytes)?;
     grid.transpose();
     told(alloc, &grid)
 }
