@@ -3,7 +3,9 @@ use Rattle.std.proofs.Common.{◌≡◌, ℕ, zero, suc, ◌+◌, ◌<◌, ◌&&
 use Rattle.std.specs.List.{filter_map, cons_option, slice_index_or}
 use Rattle.std.specs.Option.{option_map, option_and_then}
 use Rattle.grid_base.specs.Table.{row_count, col_count, cell, IsTable}
-use Rattle.grid_near.specs.Neighbors.{around4, around8, before, both, round_before, round_after, cell_at, neighbors4, neighbors8, wrapped_neighbors4, wrapped_neighbors8}
+use Rattle.grid_near.specs.Neighbors.{around4, around8, before, both, round_before, round_after, cell_at, neighbors4, neighbors8, wrapped_neighbors4, wrapped_neighbors8, neighbors_of, wrapped_neighbors_of}
+use Rattle.grid_near.specs.declared.steps.Steps.{Steps}
+use Rattle.grid_near.specs.declared.steps.Steps.TheVariants.{Sides, All}
 use Rattle.grid_base.specs.IndexedIterators.{IsCellAt, GivesCells}
 use Rattle.grid.proofs.IndexedIteratorLemmas.{gives_cells_of}
 use Rattle.grid_base.proofs.TableLemmas.{cell_in_range}
@@ -45,24 +47,33 @@ module _ {T : Type 0} (t : List (List T)) (h : IsTable t) where
   gives_if false ps s is = gives_from [] s is
 
   module _ (r c : ℕ) (s : List ((ℕ × ℕ) × T)) where
-    pub gives_neighbors4 : s ≡ neighbors4 t r c → GivesCells t s
+    gives_neighbors4 : s ≡ neighbors4 t r c → GivesCells t s
     unfolding neighbors4
     gives_neighbors4 is = gives_from (around4 (before r) (Some r) (Some (r + 1)) (before c) (Some c) (Some (c + 1))) s is
 
-    pub gives_neighbors8 : s ≡ neighbors8 t r c → GivesCells t s
+    gives_neighbors8 : s ≡ neighbors8 t r c → GivesCells t s
     unfolding neighbors8
     gives_neighbors8 is = gives_from (around8 (before r) (Some r) (Some (r + 1)) (before c) (Some c) (Some (c + 1))) s is
 
-    pub gives_wrapped_neighbors4 : s ≡ wrapped_neighbors4 t r c → GivesCells t s
+    gives_wrapped_neighbors4 : s ≡ wrapped_neighbors4 t r c → GivesCells t s
     unfolding wrapped_neighbors4
     gives_wrapped_neighbors4 is =
         let m = row_count t in
         let n = col_count t in
         gives_if (nat_lt r m && nat_lt c n) (around4 (Some (round_before m r)) (Some r) (Some (round_after m r)) (Some (round_before n c)) (Some c) (Some (round_after n c))) s is
 
-    pub gives_wrapped_neighbors8 : s ≡ wrapped_neighbors8 t r c → GivesCells t s
+    gives_wrapped_neighbors8 : s ≡ wrapped_neighbors8 t r c → GivesCells t s
     unfolding wrapped_neighbors8
     gives_wrapped_neighbors8 is =
         let m = row_count t in
         let n = col_count t in
         gives_if (nat_lt r m && nat_lt c n) (around8 (Some (round_before m r)) (Some r) (Some (round_after m r)) (Some (round_before n c)) (Some c) (Some (round_after n c))) s is
+
+    -- by the kind of steps
+    pub gives_near : (kind : Steps) → s ≡ neighbors_of kind t r c → GivesCells t s
+    gives_near Sides is = gives_neighbors4 is
+    gives_near All is = gives_neighbors8 is
+
+    pub gives_wrapped : (kind : Steps) → s ≡ wrapped_neighbors_of kind t r c → GivesCells t s
+    gives_wrapped Sides is = gives_wrapped_neighbors4 is
+    gives_wrapped All is = gives_wrapped_neighbors8 is

@@ -9,7 +9,7 @@ ghost use Rattle.grid_near.specs.Marks.{round_of, TakesCounted, AnswersCounted, 
 ghost use Rattle.grid.specs.NearMaps.{CallableRound, ReturnsRound, ReachesRound};
 ghost use Rattle.grid_base.specs.IndexedIterators.{GivesCells};
 ghost use Rattle.grid_near.specs.NearCounts.{CallableNear, CountsNear};
-ghost use Rattle.grid_near.specs.Neighbors.{neighbors4, neighbors8, wrapped_neighbors4, wrapped_neighbors8, GivesNear};
+ghost use Rattle.grid_near.specs.Neighbors.{neighbors4, neighbors8, wrapped_neighbors4, wrapped_neighbors8, neighbors_of, wrapped_neighbors_of, step_count, GivesNear};
 
 use crate::Grid;
 use grid_base::{Flat, Layout};
@@ -28,8 +28,7 @@ impl<T, A: Allocator> Grid<T, A> {
         ensures count { length result ≤ 4 }
         ensures cells { GivesCells self.now.rows result }
     {
-        let size = (self.row_count, self.col_count);
-        grid_near::neighbors_of(self.flat.as_slice(), self.order, size, at, Steps::Sides)
+        self.open_round(at, Steps::Sides)
     }
 
     /// Returns an iterator over the cells that touch the cell at this position, at a side or a corner, row by row, each with
@@ -43,8 +42,7 @@ impl<T, A: Allocator> Grid<T, A> {
         ensures count { length result ≤ 8 }
         ensures cells { GivesCells self.now.rows result }
     {
-        let size = (self.row_count, self.col_count);
-        grid_near::neighbors_of(self.flat.as_slice(), self.order, size, at, Steps::All)
+        self.open_round(at, Steps::All)
     }
 
     /// Same as [`neighbors4`](Grid::neighbors4), on a grid whose edges meet: the last row is above the first, and the last
@@ -60,8 +58,7 @@ impl<T, A: Allocator> Grid<T, A> {
         ensures at_most { length result ≤ 4 }
         ensures cells { GivesCells self.now.rows result }
     {
-        let size = (self.row_count, self.col_count);
-        grid_near::wrapped_neighbors_of(self.flat.as_slice(), self.order, size, at, Steps::Sides)
+        self.joined_round(at, Steps::Sides)
     }
 
     /// Same as [`neighbors8`](Grid::neighbors8), on a grid whose edges meet: the last row is above the first, and the last
@@ -77,8 +74,7 @@ impl<T, A: Allocator> Grid<T, A> {
         ensures at_most { length result ≤ 8 }
         ensures cells { GivesCells self.now.rows result }
     {
-        let size = (self.row_count, self.col_count);
-        grid_near::wrapped_neighbors_of(self.flat.as_slice(), self.order, size, at, Steps::All)
+        self.joined_round(at, Steps::All)
     }
 
     /// Same as [`map_neighbors8`](Grid::map_neighbors8), with the iterator that [`neighbors4`](Grid::neighbors4) gives.
@@ -93,11 +89,7 @@ impl<T, A: Allocator> Grid<T, A> {
         ensures cells { IfOk result (λ g. MappedBy
             (ReturnsRound neighbors4 F.post self.now.rows) f self.now.rows g.rows) }
     {
-        self.map_indexed(
-            |at, cell|
-                requires { ReachesRound neighbors4 F.pre f self.now.rows at cell }
-            { f(at, cell, self.neighbors4(at)) },
-        )
+        self.map_open(Steps::Sides, f)
     }
 
     /// Returns the grid of what the closure, called in storage order, returns for each position, a reference to the
@@ -120,11 +112,7 @@ impl<T, A: Allocator> Grid<T, A> {
         ensures cells { IfOk result (λ g. MappedBy
             (ReturnsRound neighbors8 F.post self.now.rows) f self.now.rows g.rows) }
     {
-        self.map_indexed(
-            |at, cell|
-                requires { ReachesRound neighbors8 F.pre f self.now.rows at cell }
-            { f(at, cell, self.neighbors8(at)) },
-        )
+        self.map_open(Steps::All, f)
     }
 
     /// Same as [`map_neighbors8`](Grid::map_neighbors8), with the iterator that
@@ -140,11 +128,7 @@ impl<T, A: Allocator> Grid<T, A> {
         ensures cells { IfOk result (λ g. MappedBy
             (ReturnsRound wrapped_neighbors4 F.post self.now.rows) f self.now.rows g.rows) }
     {
-        self.map_indexed(
-            |at, cell|
-                requires { ReachesRound wrapped_neighbors4 F.pre f self.now.rows at cell }
-            { f(at, cell, self.wrapped_neighbors4(at)) },
-        )
+        self.map_joined(Steps::Sides, f)
     }
 
     /// Same as [`map_neighbors8`](Grid::map_neighbors8), with the iterator that
@@ -160,11 +144,7 @@ impl<T, A: Allocator> Grid<T, A> {
         ensures cells { IfOk result (λ g. MappedBy
             (ReturnsRound wrapped_neighbors8 F.post self.now.rows) f self.now.rows g.rows) }
     {
-        self.map_indexed(
-            |at, cell|
-                requires { ReachesRound wrapped_neighbors8 F.pre f self.now.rows at cell }
-            { f(at, cell, self.wrapped_neighbors8(at)) },
-        )
+        self.map_joined(Steps::All, f)
     }
 
     /// Same as [`count_neighbors8`](Grid::count_neighbors8), of the cells of [`neighbors4`](Grid::neighbors4).
@@ -405,6 +385,67 @@ impl<T, A: Allocator> Grid<T, A> {
             g.rows) }
     {
         self.sums_round(Steps::Sides, Edges::Joined, weight, rule)
+    }
+
+    // The cells round a cell, by which steps.
+    fn open_round(&self, at: (usize, usize), kind: Steps) -> Neighbors<'_, T>
+        ensures gives { GivesNear (neighbors_of kind self.now.rows at.0 at.1) result }
+        ensures count { length result ≤ step_count kind }
+        ensures cells { GivesCells self.now.rows result }
+    {
+        let size = (self.row_count, self.col_count);
+        grid_near::neighbors_of(self.flat.as_slice(), self.order, size, at, kind)
+    }
+
+    // The same, where edges meet.
+    fn joined_round(&self, at: (usize, usize), kind: Steps) -> WrappedNeighbors<'_, T>
+        ensures gives { GivesNear (wrapped_neighbors_of kind self.now.rows at.0 at.1) result }
+        ensures count { InRange self.now.rows at.0 at.1 → length result ≡ step_count kind }
+        ensures at_most { length result ≤ step_count kind }
+        ensures cells { GivesCells self.now.rows result }
+    {
+        let size = (self.row_count, self.col_count);
+        grid_near::wrapped_neighbors_of(self.flat.as_slice(), self.order, size, at, kind)
+    }
+
+    // What the closure returns at each cell and the cells round it.
+    fn map_open<U, F: Fn((usize, usize), &T, Neighbors<'_, T>) -> U>(
+        &self,
+        kind: Steps,
+        f: F,
+    ) -> Result<Grid<U, A>, AllocError>
+    where
+        A: Clone,
+        requires { CallableRound (neighbors_of kind) F.pre f self.now.rows }
+        ensures same { IfOk result (SameSizeAndOrder self.now) }
+        ensures cells { IfOk result (λ g. MappedBy
+            (ReturnsRound (neighbors_of kind) F.post self.now.rows) f self.now.rows g.rows) }
+    {
+        self.map_indexed(
+            |at, cell|
+                requires { ReachesRound (neighbors_of kind) F.pre f self.now.rows at cell }
+            { f(at, cell, self.open_round(at, kind)) },
+        )
+    }
+
+    // The same, where edges meet.
+    fn map_joined<U, F: Fn((usize, usize), &T, WrappedNeighbors<'_, T>) -> U>(
+        &self,
+        kind: Steps,
+        f: F,
+    ) -> Result<Grid<U, A>, AllocError>
+    where
+        A: Clone,
+        requires { CallableRound (wrapped_neighbors_of kind) F.pre f self.now.rows }
+        ensures same { IfOk result (SameSizeAndOrder self.now) }
+        ensures cells { IfOk result (λ g. MappedBy
+            (ReturnsRound (wrapped_neighbors_of kind) F.post self.now.rows) f self.now.rows g.rows) }
+    {
+        self.map_indexed(
+            |at, cell|
+                requires { ReachesRound (wrapped_neighbors_of kind) F.pre f self.now.rows at cell }
+            { f(at, cell, self.joined_round(at, kind)) },
+        )
     }
 
     // What the closure returns at each cell and how many of the cells round it pass.

@@ -6,7 +6,8 @@ ghost use Rattle.grid_paths.specs.Walks.{IsStep};
 ghost use Rattle.grid_paths.specs.Cheapest.{CostWalk, IsCheapestPath, IsCostPath};
 ghost use Rattle.grid_paths.specs.Trail.{IsTrail};
 
-use super::costs::{begun, cost_of, costs_of, settle};
+use super::answers::answers_of;
+use super::costs::{begun, cost_of, settle};
 use grid::Grid;
 use grid_near::Steps;
 use std::alloc::{AllocError, Allocator};
@@ -119,6 +120,6 @@ pub fn cheapest_path<T, A: Allocator + Clone, F: Fn(&T) -> Option<u32>>(
         (λ path. HoldsOfAnswers F.post cost grid.now.rows (λ costs.
         IsCheapestPath kind costs from to path.0.items path.1))) }
 {
-    let costs = costs_of(grid, cost)?;
+    let costs = answers_of(grid, cost)?;
     path_over(kind, costs, from, to)
 }

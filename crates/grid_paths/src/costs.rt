@@ -2,12 +2,13 @@
 ghost use Rattle.std.specs.Prelude.{◌≡◌, ◌<◌, ◌≤◌, ◌+◌, ◌^◌, ◌↔◌, ℕ, [], Contains, IfOk, IsTrue, OnOk, Some, length};
 ghost use Rattle.std.specs.BinaryHeap.{IsHeap, heap_items};
 ghost use Rattle.grid_base.specs.Table.{InRange};
-ghost use Rattle.grid_paths.specs.Closures.{answers_by, IsAnswer, AreAnswers, HoldsOfAnswers};
+ghost use Rattle.grid_paths.specs.Closures.{HoldsOfAnswers};
 ghost use Rattle.grid_paths.specs.Walks.{IsStep};
 ghost use Rattle.grid_paths.specs.Search.{HaveOneSize};
 ghost use Rattle.grid_paths.specs.Cheapest.{Holds, HasLeastCosts};
 ghost use Rattle.grid_paths.specs.Relaxing.{Relaxes, Settles, IsCostSearch, by_sum};
 
+use super::answers::{answers_of, no_numbers};
 use super::around::around;
 use grid::Grid;
 use grid_near::Steps;
@@ -192,7 +193,7 @@ pub(crate) fn begun<A: Allocator + Clone>(
     ensures search { IfOk result (λ both. (kind : Steps) → IsCostSearch kind costs.now.rows from
         both.0.rows costs.now.rows (heap_items both.1)) }
 {
-    let mut sums: Grid<Option<u128>, A> = costs.map_indexed(|_, _| None)?;
+    let mut sums = no_numbers(costs)?;
     let cells = costs.flatten().len();
     let mut heap = BinaryHeap::with_capacity(costs.allocator().clone()?, cells.min(MANY))?;
     start(from, costs, &mut sums, &mut heap)?;
@@ -218,21 +219,6 @@ fn search<A: Allocator + Clone>(
     Ok(sums)
 }
 
-// What it costs to enter each cell.
-pub(crate) fn costs_of<T, A: Allocator + Clone, F: Fn(&T) -> Option<u32>>(
-    grid: &Grid<T, A>,
-    cost: F,
-) -> Result<Grid<Option<u32>, A>, AllocError>
-    requires { F.IsAlwaysCallable cost }
-    ensures order { IfOk result (λ costs. costs.order ≡ grid.now.order) }
-    ensures size { IfOk result (λ costs. HaveOneSize costs.rows grid.now.rows) }
-    ensures answers { IfOk result (λ costs. AreAnswers F.post cost grid.now.rows costs.rows) }
-    ensures cells { IfOk result (λ costs. (p : _) → IsAnswer F.post cost p
-        → costs.rows ≡ answers_by p grid.now.rows) }
-{
-    grid.map_indexed(|_, cell| cost(cell))
-}
-
 /// Returns, for each cell, the least sum of costs of a path from a position. `cost` says what it costs to enter a cell,
 /// 0 too, or `None` for a cell that can't be entered. The first cell's own cost doesn't count, but it has to have one.
 /// A cell gets `None` exactly where no path leads to it.
@@ -256,6 +242,6 @@ pub fn cheapest<T, A: Allocator + Clone, F: Fn(&T) -> Option<u32>>(
     ensures least { IfOk result (λ sums. HoldsOfAnswers F.post cost grid.now.rows (λ costs.
         HasLeastCosts kind costs from sums.rows)) }
 {
-    let costs = costs_of(grid, cost)?;
+    let costs = answers_of(grid, cost)?;
     search(kind, costs, from)
 }

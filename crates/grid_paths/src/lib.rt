@@ -9,6 +9,7 @@
 //! `neighbors4` and `neighbors8`.
 #![tactic(auto)]
 
+mod answers;
 mod around;
 mod cheap_path;
 mod costs;

@@ -8,6 +8,7 @@ ghost use Rattle.grid_paths.specs.Search.{HaveOneSize, IsMarked, Reaches, WentRo
 ghost use Rattle.grid_paths.specs.Regions.{AreRegions, AreNumbers};
 ghost use Rattle.grid_paths.specs.Numbers.{IsNumbered, IsScanned};
 
+use super::answers::no_numbers;
 use super::around::around;
 use super::search::ROOM;
 use grid::Grid;
@@ -171,7 +172,7 @@ fn number_all<T: PartialEq, A: Allocator + Clone>(
     ensures scanned { IfOk result (λ found. IsScanned kind T.eq grid.now.rows found.0.rows found.1
         (row_count grid.now.rows, 0)) }
 {
-    let mut numbers: Grid<Option<usize>, A> = grid.map_indexed(|_, _| None)?;
+    let mut numbers = no_numbers(grid)?;
     let cells = grid.flatten().len();
     let mut queue = Vec::with_capacity(grid.allocator().clone()?, cells.min(ROOM))?;
     let mut count = 0;

@@ -6,8 +6,9 @@ ghost use Rattle.grid_paths.specs.Walks.{IsStep, IsPath, Walk, IsShortestPath};
 ghost use Rattle.grid_paths.specs.Closures.{HoldsOfAnswers};
 ghost use Rattle.grid_paths.specs.Search.{IsMarked, HasLeastUpTo};
 
+use super::answers::answers_of;
 use super::around::around;
-use super::search::{floor_of, search_from};
+use super::search::search_from;
 use grid::Grid;
 use grid_near::Steps;
 use std::alloc::{AllocError, Allocator};
@@ -127,6 +128,6 @@ pub fn shortest_path<T, A: Allocator + Clone, F: Fn(&T) -> bool>(
         (λ path. HoldsOfAnswers F.post passable grid.now.rows (λ floor.
         IsShortestPath kind floor from to path.items))) }
 {
-    let floor = floor_of(grid, passable)?;
+    let floor = answers_of(grid, passable)?;
     path_over(kind, floor, from, to)
 }

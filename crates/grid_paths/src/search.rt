@@ -2,9 +2,10 @@
 ghost use Rattle.std.specs.Prelude.{◌≡◌, ◌<◌, ◌≤◌, ◌+◌, ◌^◌, ◌↔◌, List, ℕ, [], ◌∷◌, ◌++◌, length, IfOk, IsTrue, OnOk, Bool, Some, None, Contains};
 ghost use Rattle.grid_base.specs.Table.{InRange};
 ghost use Rattle.grid_paths.specs.Walks.{IsOpen, IsStep, HasLeastSteps, HasLeastFrom, passing};
-ghost use Rattle.grid_paths.specs.Closures.{IsAnswer, AreAnswers, HoldsOfAnswers};
+ghost use Rattle.grid_paths.specs.Closures.{HoldsOfAnswers};
 ghost use Rattle.grid_paths.specs.Search.{Reaches, WentRound, HaveOneSize, IsMarked, IsLeft, IsSettled};
 
+use super::answers::{answers_of, no_numbers};
 use super::around::around;
 use grid::Grid;
 use grid_near::Steps;
@@ -138,7 +139,7 @@ pub(crate) fn search_from<A: Allocator + Clone>(
     ensures settled { IfOk result (λ steps. (from to : ℕ × ℕ)
         → starts.now ≡ from ∷ [] → goal ≡ Some to → IsSettled kind floor.rows from to steps.rows) }
 {
-    let mut steps: Grid<Option<usize>, A> = floor.map_indexed(|_, _| None)?;
+    let mut steps = no_numbers(&floor)?;
     let cells = floor.flatten().len();
     let mut queue = Vec::with_capacity(floor.allocator().clone()?, cells.min(ROOM))?;
     let mut left = floor;
@@ -155,21 +156,6 @@ pub(crate) fn search_from<A: Allocator + Clone>(
         next = trim(&mut queue, next + 1);
     }
     Ok(steps)
-}
-
-// Which cells pass the test.
-pub(crate) fn floor_of<T, A: Allocator + Clone, F: Fn(&T) -> bool>(
-    grid: &Grid<T, A>,
-    passable: F,
-) -> Result<Grid<bool, A>, AllocError>
-    requires { F.IsAlwaysCallable passable }
-    ensures order { IfOk result (λ floor. floor.order ≡ grid.now.order) }
-    ensures size { IfOk result (λ floor. HaveOneSize floor.rows grid.now.rows) }
-    ensures answers { IfOk result (λ floor. AreAnswers F.post passable grid.now.rows floor.rows) }
-    ensures cells { IfOk result (λ floor. (p : _) → IsAnswer F.post passable p
-        → floor.rows ≡ passing p grid.now.rows) }
-{
-    grid.map_indexed(|_, cell| passable(cell))
 }
 
 /// Returns, for each cell, the least number of steps from a position. Each cell on a path passes the test, the first
@@ -194,7 +180,7 @@ pub fn distances<T, A: Allocator + Clone, F: Fn(&T) -> bool>(
     ensures least { IfOk result (λ steps. HoldsOfAnswers F.post passable grid.now.rows (λ floor.
         HasLeastSteps kind floor from steps.rows)) }
 {
-    let floor = floor_of(grid, passable)?;
+    let floor = answers_of(grid, passable)?;
     search_from(kind, floor, &[from], None)
 }
 
@@ -220,6 +206,6 @@ pub fn distances_from<T, A: Allocator + Clone, F: Fn(&T) -> bool>(
     ensures least { IfOk result (λ steps. HoldsOfAnswers F.post passable grid.now.rows (λ floor.
         HasLeastFrom kind floor starts.now steps.rows)) }
 {
-    let floor = floor_of(grid, passable)?;
+    let floor = answers_of(grid, passable)?;
     search_from(kind, floor, starts, None)
 }

@@ -3,10 +3,11 @@ ghost use Rattle.std.specs.Prelude.{◌≡◌, [], IfOk, OnOk, Contains};
 ghost use Rattle.grid_base.specs.Table.{InRange};
 ghost use Rattle.grid_base.specs.GridValue.{SameSizeAndOrder};
 ghost use Rattle.grid_paths.specs.Walks.{IsStep};
-ghost use Rattle.grid_paths.specs.Closures.{answers_by, IsAnswer, AreAnswers, HoldsOfAnswers};
+ghost use Rattle.grid_paths.specs.Closures.{answers_by, HoldsOfAnswers};
 ghost use Rattle.grid_paths.specs.Flood.{IsFlood, way_of};
 ghost use Rattle.grid_paths.specs.Taken.{places, undone, IsWritten, Takes, TakesAll};
 
+use super::answers::answers_of;
 use super::around::around;
 use grid::Grid;
 use grid_near::Steps;
@@ -158,19 +159,6 @@ pub(crate) fn take_region<T: Copy + PartialEq + Drop, A: Allocator>(
     Ok(())
 }
 
-// What the closure says at each cell.
-fn ways_of<T, A: Allocator + Clone, F: Fn(&T) -> Enter>(
-    grid: &Grid<T, A>,
-    enter: F,
-) -> Result<Grid<Enter, A>, AllocError>
-    requires { F.IsAlwaysCallable enter }
-    ensures answers { IfOk result (λ ways. AreAnswers F.post enter grid.now.rows ways.rows) }
-    ensures cells { IfOk result (λ ways. (p : _) → IsAnswer F.post enter p
-        → ways.rows ≡ answers_by p grid.now.rows) }
-{
-    grid.map_indexed(|_, cell| enter(cell))
-}
-
 // The positions alone.
 fn places_of<T: Copy, A: Allocator>(
     taken: &[((usize, usize), T)],
@@ -204,7 +192,7 @@ pub fn flood<T, A: Allocator + Clone, F: Fn(&T) -> Enter>(
     ensures { IfOk result (λ found. HoldsOfAnswers F.post enter grid.now.rows (λ ways.
         IsFlood kind ways starts.now found.items)) }
 {
-    let mut ways = ways_of(grid, enter)?;
+    let mut ways = answers_of(grid, enter)?;
     let mut taken = Vec::new(grid.allocator().clone()?);
     let cells = Cells {
         on: Enter::On,

@@ -1,4 +1,4 @@
-use Rattle.std.proofs.Common.{◌≡◌, ℕ, ◌*◌, ◌≤◌, length, ap, Some, None, ◌∙◌, subst, arith, rules}
+use Rattle.std.proofs.Common.{◌≡◌, ℕ, ◌*◌, ◌≤◌, length, ap, ◌∙◌, subst, arith}
 use Rattle.grid_base.specs.Table.{row_count, col_count}
 use Rattle.grid_base.proofs.StorageLemmas.{length-storage}
 use Rattle.grid_paths.specs.Search.{IsMarked}
@@ -12,17 +12,17 @@ pub loop-row-init : goal.loop-row-init
 loop-row-init g c =
     let t = c.args.grid.now.rows in
     let u = c.in_ok-numbers.numbers.rows in
-    let blank = c.in_ok-numbers.ensures.cells.tabulated (λ r k. Some None) (λ r k p y inside at h. search rules) in
+    let blank = c.in_ok-numbers.ensures.none in
     let none : (a : ℕ × ℕ) (m : ℕ) → IsMarked u a m → ⊥ = λ a m w.
     none_marked (row_count t) (col_count t) a m (subst (λ x. IsMarked x a m) blank w) in
     let all = length-storage c.args.grid.now.order t c.args.grid.now.table in
     let stored = ap length c.flatten.ensures in
     let flat = c.flatten.result.now in
     let blanks = unreached_cells u c.in_ok-numbers.numbers.table in
-    let size : row_count u * col_count u ≡ row_count t * col_count t = ap (λ n. n * col_count u) c.in_ok-numbers.ensures.same.rows ∙ ap (λ n. row_count t * n) c.in_ok-numbers.ensures.same.cols in
+    let size : row_count u * col_count u ≡ row_count t * col_count t = ap (λ n. n * col_count u) c.in_ok-numbers.ensures.size.rows ∙ ap (λ n. row_count t * n) c.in_ok-numbers.ensures.size.cols in
     record {
-      size = record { rows = c.in_ok-numbers.ensures.same.rows; cols = c.in_ok-numbers.ensures.same.cols };
-      order = c.in_ok-numbers.ensures.same.order;
+      size = c.in_ok-numbers.ensures.size;
+      order = c.in_ok-numbers.ensures.order;
       scanned = IsScanned-start c.args.kind g.T.PartialEq.eq t u none;
       room = omega (arith, flat.ok.0);
       end = c.rows-row-end.ensures.rows;

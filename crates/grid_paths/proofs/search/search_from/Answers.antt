@@ -1,4 +1,4 @@
-use Rattle.std.proofs.Common.{◌≡◌, true, ℕ, ◌<◌, ◌≤◌, ◌+◌, ◌*◌, Option, Some, None, length, get_or, [], ◌∷◌, ◌++◌, Contains, refl, sym, ◌∙◌, ap, subst, arith, rules}
+use Rattle.std.proofs.Common.{◌≡◌, true, ℕ, ◌<◌, ◌≤◌, ◌+◌, ◌*◌, Option, Some, None, length, get_or, [], ◌∷◌, ◌++◌, Contains, refl, sym, ◌∙◌, ap, subst, arith}
 use Rattle.std.specs.List.{slice_get}
 use Rattle.std.proofs.lemmas.List.{length-append}
 use Rattle.std.proofs.lemmas.Option.{slice_get_read, slice_get-get_or}
@@ -18,21 +18,21 @@ loop-start-init g c =
     let floor = c.args.floor.rows in
     let starts = c.args.starts.now in
     let d0 = c.in_ok-steps.steps.rows in
-    let blank = c.in_ok-steps.ensures.cells.tabulated (λ r k. Some None) (λ r k p y inside at h. search rules) in
+    let blank = c.in_ok-steps.ensures.none in
     let none : (a : ℕ × ℕ) (m : ℕ) → IsMarked d0 a m → ⊥ = λ a m w.
     none_marked (row_count floor) (col_count floor) a m (subst (λ x. IsMarked x a m) blank w) in
     let empty : (a : ℕ × ℕ) → IsOpen floor a → cell d0 a.0 a.1 ≡ Some None = λ a o.
     let i = cell_in_range floor c.args.floor.table a.0 a.1 true o in
     ap (λ x. cell x a.0 a.1) blank ∙ none_at (row_count floor) (col_count floor) a.0 a.1 i.0 i.1 in
     let few = unreached_cells d0 c.in_ok-steps.steps.table in
-    let size : row_count d0 * col_count d0 ≡ row_count floor * col_count floor = ap (λ x. x * col_count d0) c.in_ok-steps.ensures.same.rows ∙ ap (λ x. row_count floor * x) c.in_ok-steps.ensures.same.cols in
+    let size : row_count d0 * col_count d0 ≡ row_count floor * col_count floor = ap (λ x. x * col_count d0) c.in_ok-steps.ensures.size.rows ∙ ap (λ x. row_count floor * x) c.in_ok-steps.ensures.size.cols in
     let all = length-storage c.args.floor.order floor c.args.floor.table in
     let stored = ap length c.flatten.ensures in
     let flat = c.flatten.result.now in
     let bound : unreached d0 + 0 ≤ c.len-cells.result = omega (arith, flat.ok.0) in
     record {
-      size = record { rows = c.in_ok-steps.ensures.same.rows; cols = c.in_ok-steps.ensures.same.cols };
-      order = c.in_ok-steps.ensures.same.order;
+      size = c.in_ok-steps.ensures.size;
+      order = c.in_ok-steps.ensures.order;
       cells = omega (arith, flat.ok.0);
       left = IsLeft-start floor d0 (λ a o. empty a o);
       started = subst (λ x. IsStarted c.args.kind floor starts d0 x 0) (sym c.in_ok-queue.ensures.items) (IsStarted-empty c.args.kind floor starts d0 none);
