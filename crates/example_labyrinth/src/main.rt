@@ -38,8 +38,13 @@ fn beyond(maze: &Grid<Cell>, at: At, way: Direction) -> Option<(At, At)> {
 
 // The first of the four rooms around, in turn from a number on, that isn't dug yet, and the door to it.
 fn ahead(maze: &Grid<Cell>, at: At, first: usize) -> Option<(At, At)> {
-    let ways = (0..4usize).map(|turn| Direction::SIDES[(first % 4 + turn) % 4]);
-    ways.filter_map(|way| beyond(maze, at, way)).next()
+    for turn in 0..4 {
+        let found = beyond(maze, at, Direction::SIDES[(first % 4 + turn) % 4]);
+        if found.is_some() {
+            return found;
+        }
+    }
+    None
 }
 
 // A maze: from each room it goes on to one that isn't dug yet, and back where there is none.

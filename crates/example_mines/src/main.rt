@@ -26,22 +26,28 @@ struct Cell {
     shown: Shown,
 }
 
-// The field of these mines, each cell with the number of mines that touch it.
-fn field(alloc: Global, text: &str) -> Result<Grid<Cell>> {
-    let mines = from_text(alloc, text, |character| match character {
+// Whether a character is a mine, if it is a cell.
+fn mine(character: char) -> Option<bool> {
+    match character {
         '*' => Some(true),
         '.' => Some(false),
         _ => None,
-    })?;
-    let cells = mines.map_counts8(
-        |is_mine| *is_mine,
-        |is_mine, near| Cell {
-            is_mine: *is_mine,
-            near,
-            shown: Shown::Nothing,
-        },
-    )?;
-    Ok(cells)
+    }
+}
+
+// A cell that isn't opened yet.
+fn hidden(is_mine: &bool, near: u8) -> Cell {
+    Cell {
+        is_mine: *is_mine,
+        near,
+        shown: Shown::Nothing,
+    }
+}
+
+// The field of these mines, each cell with the number of mines that touch it.
+fn field(alloc: Global, text: &str) -> Result<Grid<Cell>> {
+    let mines = from_text(alloc, text, mine)?;
+    Ok(mines.map_counts8(|is_mine| *is_mine, hidden)?)
 }
 
 // The word of a move, and its position.
@@ -66,14 +72,14 @@ fn open(field: &mut Grid<Cell>, at: (usize, usize)) -> Result<(), AllocError> {
     Ok(())
 }
 
-fn drawn(alloc: Global, field: &Grid<Cell>) -> Result<String, AllocError> {
-    to_text(alloc, field, |cell| match cell.shown {
+fn drawn(cell: &Cell) -> char {
+    match cell.shown {
         Shown::Nothing => '#',
         Shown::Flag => '!',
         Shown::Count if cell.is_mine => '*',
         Shown::Count if cell.near == 0 => ' ',
         Shown::Count => char::from(b'0'.saturating_add(cell.near)),
-    })
+    }
 }
 
 fn main(rt: HostRuntime) -> Result<()> {
@@ -93,7 +99,7 @@ fn main(rt: HostRuntime) -> Result<()> {
             }
             _ => bail!("{line:?} is no move"),
         }
-        println!(rt; "{line}\n{}", drawn(alloc, &field)?)?;
+        println!(rt; "{line}\n{}", to_text(alloc, &field, drawn)?)?;
     }
     Ok(())
 }

@@ -38,9 +38,10 @@ fn padded(shape: &Shape) -> Result<Shape> {
 // Cuts one empty row or column off each side that has one.
 fn trim(shape: &mut Shape) {
     for _ in 0..4u8 {
-        let top = shape.iter_rows().next();
-        if top.is_some_and(|mut cells| !cells.any(|filled| *filled)) {
-            shape.delete_row(0);
+        if let Some(mut top) = shape.iter_rows().next() {
+            if !top.any(|filled| *filled) {
+                shape.delete_row(0);
+            }
         }
         shape.rotate_left();
     }
@@ -96,8 +97,10 @@ fn next_fixed(alloc: Global, fixed: &[Shape]) -> Result<Vec<Shape>> {
 fn print_row_of_each<R: Print + AllocGlobal>(rt: &R, shapes: &[Shape], row: usize) -> Result<()> {
     let mut text = String::new(rt.alloc());
     for shape in shapes {
-        let filled = (0..shape.cols()).map(|col| shape.get(row, col) == Some(&true));
-        text.extend(filled.map(|filled| if filled { '#' } else { ' ' }))?;
+        for col in 0..shape.cols() {
+            let filled = shape.get(row, col) == Some(&true);
+            text.push(if filled { '#' } else { ' ' })?;
+        }
         text.push_str("   ")?;
     }
     println!(rt; "{}", text.as_str().trim_end())?;

@@ -9,14 +9,13 @@ use std::alloc::Global;
 use std::io;
 use std::process::ExitCode;
 
-// Reads a board: true where there is a piece.
-fn board(alloc: Global, text: &str) -> anyhow::Result<Grid<bool>> {
-    let board = from_text(alloc, text, |c| match c {
+// Whether a character is a piece, if it is a cell of a board.
+fn piece(character: char) -> Option<bool> {
+    match character {
         '#' => Some(true),
         '.' => Some(false),
         _ => None,
-    })?;
-    Ok(board)
+    }
 }
 
 // Takes the full rows out, and returns the board with as many free rows on top.
@@ -32,7 +31,8 @@ fn settled(alloc: Global, mut board: Grid<bool>) -> anyhow::Result<Grid<bool>> {
 
 fn run<R: Input + Print + AllocGlobal>(rt: &R) -> anyhow::Result<()> {
     let text = io::read_to_string(rt.alloc(), rt.reader())?;
-    let board = settled(rt.alloc(), board(rt.alloc(), text.as_str())?)?;
+    let board = from_text(rt.alloc(), text.as_str(), piece)?;
+    let board = settled(rt.alloc(), board)?;
     let text = to_text(rt.alloc(), &board, |cell| if *cell { '#' } else { '.' })?;
     print!(rt; "{text}")?;
     Ok(())

@@ -11,19 +11,17 @@ use std::cmp::Reverse;
 use std::io;
 use std::process::ExitCode;
 
+fn total(line: GridLineIter<'_, i64>) -> i64 {
+    line.copied().fold(0, i64::wrapping_add)
+}
+
 // Adds a row of the totals of the columns, and then a column of those of the rows.
 fn with_totals(alloc: Global, mut sheet: Grid<i64>) -> Result<Grid<i64>> {
-    let below: Vec<i64> = sheet
-        .iter_cols()
-        .map(|line| line.fold(0i64, |sum, x| sum.wrapping_add(*x)))
-        .collect(alloc)?;
+    let below: Vec<i64> = sheet.iter_cols().map(total).collect(alloc)?;
     if !below.is_empty() && sheet.fits_row(below.len()) {
         sheet.push_row(below)?;
     }
-    let behind: Vec<i64> = sheet
-        .iter_rows()
-        .map(|line| line.fold(0i64, |sum, x| sum.wrapping_add(*x)))
-        .collect(alloc)?;
+    let behind: Vec<i64> = sheet.iter_rows().map(total).collect(alloc)?;
     if !behind.is_empty() && sheet.fits_col(behind.len()) {
         sheet.push_col(behind)?;
     }

@@ -16,6 +16,22 @@ type Swap = ((usize, usize), (usize, usize));
 // A move: a box and the floor before it, if the man pushes one, and then he and the floor before him.
 type Move = (Option<Swap>, Swap);
 
+// Whether a mark has a goal.
+fn goal(mark: char) -> Option<bool> {
+    Some(matches!(mark, '.' | '+' | '*'))
+}
+
+// The piece of a mark without its goal, or a floor.
+fn piece(mark: char) -> Option<char> {
+    match mark {
+        '#' | '-' | '@' | '$' => Some(mark),
+        '.' => Some('-'),
+        '+' => Some('@'),
+        '*' => Some('$'),
+        _ => None,
+    }
+}
+
 // What a move of the man does, if he can make it.
 fn ahead(pieces: &Grid<char>, way: Direction) -> Option<Move> {
     let man = pieces.position(|piece| *piece == '@')?;
@@ -82,14 +98,8 @@ fn main(rt: HostRuntime) -> Result<()> {
     let Some((level, keys)) = text.split_once("--\n") else {
         bail!("there is no line --");
     };
-    let goals = from_text(alloc, level, |mark| Some(matches!(mark, '.' | '+' | '*')))?;
-    let mut pieces = from_text(alloc, level, |character| match character {
-        '#' | '-' | '@' | '$' => Some(character),
-        '.' => Some('-'),
-        '+' => Some('@'),
-        '*' => Some('$'),
-        _ => None,
-    })?;
+    let goals = from_text(alloc, level, goal)?;
+    let mut pieces = from_text(alloc, level, piece)?;
     let moves = play(&mut pieces, keys, alloc)?;
     println!(rt; "{}moves: {moves}", drawn(alloc, &pieces, &goals)?)?;
     Ok(())

@@ -1,3 +1,2 @@
 mod CountLemmas
-pub mod SumLemmas
 mod WriteLemmas

@@ -2,7 +2,7 @@
 //! chains over a row or a column, calls on all cells, symmetries and commands on texts, and grids that are written out.
 //!
 //! A row `r` or a column `c` is required to be in range.
-ghost use Rattle.std.specs.Prelude.{◌≡◌, ◌^◌, ◌<◌, ◌≤◌, ◌==◌, ◌↔◌, IsTrue, IfOk, MatchOption, Any, All, length, map, sum, count_by, filter, ◌*◌, [], ◌∷◌, ◌-◌, slice_get};
+ghost use Rattle.std.specs.Prelude.{◌≡◌, ◌^◌, ◌<◌, ◌≤◌, ◌==◌, ◌↔◌, IsTrue, IfOk, MatchOption, Any, All, length, map, reverse, sum, count_by, filter, ◌*◌, [], ◌∷◌, ◌-◌, slice_get};
 ghost use Rattle.std.specs.List.{range_with_len};
 ghost use Rattle.grid_base.specs.Table.{row, row_count, col_count, transposed};
 ghost use Rattle.grid_base.specs.Order.{storage};
@@ -13,28 +13,25 @@ use grid::{Command, Grid, GridError, Symmetry, Tally, grid, grid_cm};
 use grid_base::laws as symmetry_laws;
 use std::alloc::{AllocError, Allocator, Global};
 
-/// Returns the number of cells of row `r` that are `x`.
-pub fn count_in_row<A: Allocator>(grid: &Grid<u32, A>, r: usize, x: u32) -> usize
-    requires { r < row_count grid.now.rows }
-    ensures { result ≡ count_by (λ y. y == x) (row grid.now.rows r) }
+/// Returns how many cells of row `r` are `x`, whether all of them are, and whether a cell of column `c` is.
+pub fn found_in_lines<A: Allocator>(
+    grid: &Grid<u32, A>,
+    r: usize,
+    c: usize,
+    x: u32,
+) -> (usize, bool, bool)
+    requires row { r < row_count grid.now.rows }
+    requires col { c < col_count grid.now.rows }
+    ensures count { result.0 ≡ count_by (λ y. y == x) (row grid.now.rows r) }
+    ensures all { IsTrue result.1 ↔ All (λ y. y ≡ x) (row grid.now.rows r) }
+    ensures any { IsTrue result.2 ↔ Any (λ y. y ≡ x) (row (transposed grid.now.rows) c) }
 {
-    grid.iter_row(r).filter(|y| **y == x).count()
-}
-
-/// Returns whether a cell of column `c` is `x`.
-pub fn column_has<A: Allocator>(grid: &Grid<u32, A>, c: usize, x: u32) -> bool
-    requires { c < col_count grid.now.rows }
-    ensures { IsTrue result ↔ Any (λ y. y ≡ x) (row (transposed grid.now.rows) c) }
-{
-    grid.iter_col(c).any(|y| *y == x)
-}
-
-/// Returns whether every cell of row `r` is at most `x`.
-pub fn row_is_within<A: Allocator>(grid: &Grid<u32, A>, r: usize, x: u32) -> bool
-    requires { r < row_count grid.now.rows }
-    ensures { IsTrue result ↔ All (λ y. y ≤ x) (row grid.now.rows r) }
-{
-    grid.iter_row(r).all(|y| *y <= x)
+    let is_x = |y: &u32| *y == x;
+    (
+        grid.iter_row(r).copied().filter(is_x).count(),
+        grid.iter_row(r).all(is_x),
+        grid.iter_col(c).any(is_x),
+    )
 }
 
 /// Returns the sum of row `r`.
@@ -58,6 +55,18 @@ pub fn column<T: Copy, A: Allocator>(
     ensures { IfOk result (λ cells. cells.items ≡ row (transposed grid.now.rows) c) }
 {
     grid.iter_col(c).copied().collect(alloc)
+}
+
+/// Returns the cells of column `c`, last first.
+pub fn column_reversed<T: Copy, A: Allocator>(
+    alloc: Global,
+    grid: &Grid<T, A>,
+    c: usize,
+) -> Result<Vec<T>, AllocError>
+    requires { c < col_count grid.now.rows }
+    ensures { IfOk result (λ cells. cells.items ≡ reverse (row (transposed grid.now.rows) c)) }
+{
+    grid.iter_col(c).rev().copied().collect(alloc)
 }
 
 /// Returns the largest cell of row `r`.
@@ -106,7 +115,15 @@ pub fn count_rows<A: Allocator>(grid: &Grid<u32, A>) -> usize
     grid.iter_rows().count()
 }
 
-/// Returns what each cell lacks to ten. The closure can't be called at a larger number.
+// Returns what a number lacks to ten. It can't be called at a larger one.
+fn lack(y: u32) -> u32
+    requires { y ≤ 10 }
+    ensures { result ≡ 10 - y }
+{
+    10 - y
+}
+
+/// Returns what each cell lacks to ten.
 ///
 /// Requires: every cell is at most ten.
 #[tactic(auto, using(grid_base::proofs::ClosureLemmas::answers_pure))]
@@ -118,7 +135,7 @@ pub fn lacking<A: Allocator + Clone>(grid: Grid<u32, A>) -> Result<Grid<u32, A>,
     ensures cells { IfOk result (λ lacking.
         storage lacking.order lacking.rows ≡ map (λ y. 10 - y) (storage grid.order grid.rows)) }
 {
-    match grid.map(|y| 10 - y) {
+    match grid.map(lack) {
         Ok(lacking) => Ok(lacking),
         Err(_) => Err(AllocError),
     }

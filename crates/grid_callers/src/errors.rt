@@ -10,23 +10,6 @@ use grid::{Command, Grid, GridError, Tally, run};
 use std::alloc::{Allocator, Global};
 use std::fmt::Debug;
 
-/// Adds two rows, of any cells and allocator; the error is the library's.
-pub fn push_two<T: Drop, A: Allocator>(
-    board: &mut Grid<T, A>,
-    first: Vec<T, A>,
-    second: Vec<T, A>,
-) -> Result<bool, GridError> {
-    if first.is_empty() || !board.fits_row(first.len()) {
-        return Ok(false);
-    }
-    board.push_row(first)?;
-    if second.is_empty() || !board.fits_row(second.len()) {
-        return Ok(false);
-    }
-    board.push_row(second)?;
-    Ok(true)
-}
-
 /// Adds a row. The contract says which error comes.
 pub fn push<T: Drop, A: Allocator>(board: &mut Grid<T, A>, line: Vec<T, A>) -> Result<(), GridError>
     requires nonempty { 0 < length line.items }
@@ -74,28 +57,15 @@ pub fn play(
     Ok(replies.len())
 }
 
-/// The text of a run that stopped.
-pub fn run_or_say<A: Allocator + Clone>(
-    alloc: A,
-    board: &mut Grid<u32, A>,
-    commands: Vec<Command<u32, A>, A>,
-) -> anyhow::Result<()> {
-    run(alloc, board, commands, &mut Tally::new())?;
-    Ok(())
-}
-
 /// Makes a grid of strings, cells that take memory: either failed allocation is the library's error.
 pub fn names(alloc: Global, rows: usize, cols: usize) -> Result<Grid<String>, GridError> {
     let grid = Grid::try_from_fn(alloc, rows, cols, |_at| String::from_str(alloc, "cell"))??;
     Ok(grid)
 }
 
-/// Makes a table of products; a product that doesn't fit is an error.
-pub fn products(alloc: Global, rows: usize, cols: usize) -> anyhow::Result<Grid<usize>> {
-    let grid = Grid::try_from_fn(alloc, rows, cols, |(row, col)| {
-        row.checked_mul(col).ok_or(GridError::TooLarge)
-    })??;
-    Ok(grid)
+// Returns the double of a cell, or the error where it doesn't fit.
+fn double(_at: (usize, usize), cell: &u8) -> Result<u8, GridError> {
+    cell.checked_mul(2).ok_or(GridError::TooLarge)
 }
 
 /// Doubles each cell. One whose double doesn't fit is an error, and no grid is made.
@@ -104,7 +74,7 @@ pub fn doubled(board: &Grid<u8>) -> Result<Grid<u8>, GridError>
     ensures cols { IfOk result (λ made. col_count made.rows ≡ col_count board.now.rows) }
     ensures order { IfOk result (λ made. made.order ≡ board.now.order) }
 {
-    let made = board.try_map_indexed(|_at, x| x.checked_mul(2).ok_or(GridError::TooLarge))??;
+    let made = board.try_map_indexed(double)??;
     Ok(made)
 }
 

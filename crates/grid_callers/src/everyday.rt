@@ -104,11 +104,6 @@ pub fn halved(alloc: Global, board: &Grid<u8>) -> Result<Grid<u8>, GridError> {
     )
 }
 
-/// Returns how many free cells touch each cell, as a closure counts them.
-pub fn free_round(board: &Grid<Piece>) -> Result<Grid<usize>, AllocError> {
-    board.map_indexed(|at, _| board.count_neighbors8(at, |cell| *cell == Piece::Free))
-}
-
 /// Returns for each cell the sum of those before it in its row.
 pub fn running_sums(board: &Grid<u32>) -> Result<Grid<u32>, AllocError> {
     board.map_indexed(
@@ -124,37 +119,29 @@ pub fn running_sums(board: &Grid<u32>) -> Result<Grid<u32>, AllocError> {
     )
 }
 
-/// Same as [`running_sums`], of a table of products, which is a local variable.
-pub fn sums_of_products(alloc: Global, rows: usize, cols: usize) -> Result<Grid<usize>, GridError> {
-    let table: Grid<usize> = Grid::from_fn(
-        alloc,
-        rows,
-        cols,
-        |(row, col)| row.saturating_mul(col),
-    )?;
-    let sums = table.map_indexed(
+/// Same as [`running_sums`], of a board that is a local variable.
+pub fn running_sums_of(board: Grid<u32>) -> Result<Grid<u32>, AllocError> {
+    board.map_indexed(
         |(row, col), _|
-            requires { InRange table.rows row col }
+            requires { InRange board.rows row col }
         {
-            let mut sum = 0usize;
+            let mut sum = 0u32;
             for at in 0..col {
-                sum = sum.saturating_add(table[(row, at)]);
+                sum = sum.saturating_add(board[(row, at)]);
             }
             sum
         },
-    )?;
-    Ok(sums)
+    )
 }
 
 /// Returns the product of the cells of a line that aren't 0.
 pub fn product(line: GridLineIter<'_, u32>) -> u32 {
-    line.filter(|x| **x != 0)
-        .fold(1u32, |product, x| product.saturating_mul(*x))
+    line.fold(1u32, |product, x| product.saturating_mul((*x).max(1)))
 }
 
 /// Returns the largest product of a row.
 pub fn best_row(board: &Grid<u32>) -> Option<u32> {
-    board.iter_rows().map(|row| product(row)).max()
+    board.iter_rows().map(product).max()
 }
 
 /// A cell of an own type.

@@ -1,28 +1,22 @@
 //! Callers of `grid_lines`, of which only `sort_cells` has a proof file.
-ghost use Rattle.std.specs.Prelude.{◌≡◌, ◌==◌, ◌<◌, ℕ, nat_lt, not, count_by, filter, map, reverse, slice_index_or, OnOk, OnErr, IfOk, IsPermutation};
+ghost use Rattle.std.specs.Prelude.{◌≡◌, ◌<◌, ℕ, nat_lt, not, count_by, filter, map, reverse, slice_index_or, OnOk, OnErr, IfOk, IsPermutation};
 ghost use Rattle.std.specs.Ordering.{nat_cmp};
 ghost use Rattle.grid_base.specs.Table.{row, row_count};
 ghost use Rattle.grid_callers.specs.Score.{full_rows};
 ghost use Rattle.grid_lines.specs.SortedLines.{AscendBy, AscendByKey};
 
-use grid::Grid;
+use grid::{Grid, GridLineIter};
 use grid_lines::{
     into_rows, retain_rows, rewrite_rows, sort_cols_by, sort_rows_by, sort_rows_by_key, to_rows,
 };
 use std::alloc::{AllocError, Allocator};
+use std::cmp::Ordering;
 
 /// Drops the rows that are full, as a board game does: keeps those that have a free cell.
 pub fn clear_full_rows<A: Allocator>(grid: &mut Grid<bool, A>)
     ensures { grid.new.rows ≡ filter (λ row. nat_lt 0 (count_by (λ x. not x) row)) grid.old.rows }
 {
     retain_rows(grid, |row| 0 < row.filter(|cell| !**cell).count());
-}
-
-/// Keeps the rows of a sheet that begin with this number.
-pub fn keep_group<A: Allocator>(sheet: &mut Grid<u32, A>, group: u32)
-    ensures { sheet.new.rows ≡ filter (λ row. slice_index_or row 0 0 == group) sheet.old.rows }
-{
-    retain_rows(sheet, |mut row| row.next().copied().unwrap_or(0) == group);
 }
 
 /// Returns how many rows are full.
@@ -49,36 +43,58 @@ pub fn sort_by_second<A: Allocator + Clone>(sheet: &mut Grid<u32, A>) -> Result<
     sort_rows_by_key(sheet, |mut row| row.nth(1).copied().unwrap_or(0))
 }
 
-/// The same by a comparison.
-pub fn compare_by_second<A: Allocator + Clone>(sheet: &mut Grid<u32, A>) -> Result<(), AllocError>
-    ensures sorted { OnOk result (AscendBy (λ row. slice_index_or row 1 0) sheet.new.rows) }
-    ensures err { OnErr result (sheet.new ≡ sheet.old) }
+// Compares two lines by their first cell, or 0 where there is none.
+fn by_first(a: GridLineIter<'_, u32>, b: GridLineIter<'_, u32>) -> Ordering
+    ensures { result ≡ nat_cmp (slice_index_or a.entry 0 0) (slice_index_or b.entry 0 0) }
 {
-    sort_rows_by(sheet, |mut a, mut b| {
-        let x = a.nth(1).copied().unwrap_or(0);
-        let y = b.nth(1).copied().unwrap_or(0);
-        x.cmp(&y)
-    })
+    let (mut a, mut b) = (a, b);
+    let x = a.next().copied().unwrap_or(0);
+    let y = b.next().copied().unwrap_or(0);
+    x.cmp(&y)
 }
 
-/// Sorts the columns of a board by their first cell, and marks the first one. A board without cells stays as it is.
+/// Sorts the rows of a sheet by their first cell, or 0 where there is none.
+///
+/// Fails: if allocation fails; the sheet is unchanged.
+pub fn compare_by_first<A: Allocator + Clone>(sheet: &mut Grid<u32, A>) -> Result<(), AllocError>
+    ensures sorted { OnOk result (AscendBy (λ row. slice_index_or row 0 0) sheet.new.rows) }
+    ensures err { OnErr result (sheet.new ≡ sheet.old) }
+{
+    sort_rows_by(sheet, by_first)
+}
+
+/// Sorts the columns of a sheet by their first cell, and marks the first one. A sheet without cells stays as it is.
 ///
 ///     [[3, 2], [1, 4]]   sort_and_mark()   [[9, 3], [4, 1]]
 ///
-/// Fails: if allocation fails; the board is unchanged.
-pub fn sort_and_mark<A: Allocator + Clone>(board: &mut Grid<u8, A>) -> Result<(), AllocError> {
-    if !board.is_empty() {
-        sort_cols_by(board, |mut a, mut b| a.next().cmp(&b.next()))?;
-        board[(0, 0)] = 9;
+/// Fails: if allocation fails; the sheet is unchanged.
+pub fn sort_and_mark<A: Allocator + Clone>(sheet: &mut Grid<u32, A>) -> Result<(), AllocError> {
+    if !sheet.is_empty() {
+        sort_cols_by(sheet, by_first)?;
+        sheet[(0, 0)] = 9;
     }
     Ok(())
+}
+
+// Reverses a line.
+fn reversed<T>(line: &mut [T])
+    ensures { line.new ≡ reverse line.old }
+{
+    line.reverse();
 }
 
 /// Reverses each row.
 pub fn mirror<T, A: Allocator>(board: &mut Grid<T, A>)
     ensures { board.new.rows ≡ map reverse board.old.rows }
 {
-    rewrite_rows(board, |row| row.reverse());
+    rewrite_rows(board, reversed);
+}
+
+// Sorts a line.
+fn sorted(line: &mut [u32])
+    ensures { IsPermutation line.old line.new }
+{
+    line.sort_unstable();
 }
 
 /// Sorts within each row.
@@ -86,7 +102,7 @@ pub fn sort_cells<A: Allocator>(board: &mut Grid<u32, A>)
     ensures { (r : ℕ) → r < row_count board.old.rows
         → IsPermutation (row board.old.rows r) (row board.new.rows r) }
 {
-    rewrite_rows(board, |row| row.sort_unstable());
+    rewrite_rows(board, sorted);
 }
 
 /// Returns the rows as vectors, or the board if allocation fails.

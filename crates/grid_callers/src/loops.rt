@@ -5,13 +5,6 @@ ghost use Rattle.grid_base.specs.Table.{cell};
 use grid::Grid;
 use std::alloc::{AllocError, Global};
 
-/// Writes the first cell, if there is one: a board that isn't empty has cell (0, 0).
-pub fn mark_first(grid: &mut Grid<u8>) {
-    if !grid.is_empty() {
-        grid[(0, 0)] = 1;
-    }
-}
-
 /// Replaces a cell that is `old`: where `get` finds a cell, its position is in range.
 pub fn replace(grid: &mut Grid<u8>, row: usize, col: usize, old: u8, new: u8) {
     if grid.get(row, col) == Some(&old) {
@@ -54,42 +47,29 @@ pub fn position_of(grid: &Grid<u8>, x: u8) -> Option<(usize, usize)>
     None
 }
 
-/// Clears a cell that is `x`, and returns whether there is one: a position that a chain found is in range.
-pub fn clear_one(grid: &mut Grid<u8>, x: u8) -> bool {
-    match grid.indexed_iter().find(|(_, cell)| **cell == x) {
-        Some((at, _)) => {
-            grid[at] = 0;
-            true
-        }
-        None => false,
+// Whether a cell is in the first row and not 0.
+fn is_set_above(((row, _), cell): &((usize, usize), &u8)) -> bool {
+    *row == 0 && **cell != 0
+}
+
+/// Clears a cell of the first row that isn't 0, and returns how many there were: a position that a chain found is in range.
+pub fn clear_one(grid: &mut Grid<u8>) -> usize {
+    let count = grid.indexed_iter().filter(is_set_above).count();
+    if let Some((at, _)) = grid.indexed_iter().find(is_set_above) {
+        grid[at] = 0;
     }
+    count
 }
 
-/// Returns how many cells of the first row are `x`, by a chain that tests positions.
-pub fn count_in_row_zero(grid: &Grid<u8>, x: u8) -> usize {
-    grid.indexed_iter()
-        .filter(|((row, _), cell)| *row == 0 && **cell == x)
-        .count()
+// Whether a cell is off the diagonal and not 0.
+fn is_off(((row, col), cell): ((usize, usize), &u8)) -> bool {
+    row != col && *cell != 0
 }
 
-/// Returns whether the cells off the diagonal are all 0.
-pub fn is_diagonal(grid: &Grid<u8>) -> bool {
-    grid.indexed_iter()
-        .all(|((row, col), cell)| row == col || *cell == 0)
-}
-
-/// Returns which cell in storage order is the first that is `x`.
-pub fn number_of(grid: &Grid<u8>, x: u8) -> Option<usize> {
-    grid.indexed_iter().position(|(_, cell)| *cell == x)
-}
-
-/// Writes every cell by [`set`](Grid::set), which has no condition.
-pub fn paint_by_set(grid: &mut Grid<u8>, x: u8) {
-    for row in 0..grid.rows() {
-        for col in 0..grid.cols() {
-            grid.set(row, col, x);
-        }
-    }
+/// Returns which cell in storage order is the first off the diagonal that isn't 0, and whether all are such.
+pub fn first_off_diagonal(grid: &Grid<u8>) -> (Option<usize>, bool) {
+    let first = grid.indexed_iter().position(is_off);
+    (first, grid.indexed_iter().all(is_off))
 }
 
 /// Writes every cell by its index. A loop forgets what its calls leave of the size, so this one has a proof file: two

@@ -6,20 +6,18 @@ ghost use Rattle.grid_near.specs.Neighbors.{neighbors4, neighbors8, wrapped_neig
 use grid::{Direction, Grid};
 use std::alloc::{AllocError, Global};
 
-/// Returns how many of the cells that touch a cell are `x`.
+/// Returns how many of the cells that touch a cell are `x`, and how many on a board whose edges meet.
 ///
-///     [[1, 2, 1], [1, 1, 2]]   count_round(1, 1, 1)   3
-pub fn count_round(grid: &Grid<u8>, row: usize, col: usize, x: u8) -> usize
-    ensures { result ≡ count_by (λ near. near.1 == x) (neighbors8 grid.now.rows row col) }
+///     [[1, 2, 1], [1, 1, 2]]   count_round(1, 1, 1)   (3, 5)
+pub fn count_round(grid: &Grid<u8>, row: usize, col: usize, x: u8) -> (usize, usize)
+    ensures open { result.0 ≡ count_by (λ near. near.1 == x) (neighbors8 grid.now.rows row col) }
+    ensures joined { result.1
+        ≡ count_by (λ near. near.1 == x) (wrapped_neighbors8 grid.now.rows row col) }
 {
-    grid.count_neighbors8((row, col), |cell| *cell == x)
-}
-
-/// Same as [`count_round`], on a board whose edges meet.
-pub fn count_round_wrapped(grid: &Grid<u8>, row: usize, col: usize, x: u8) -> usize
-    ensures { result ≡ count_by (λ near. near.1 == x) (wrapped_neighbors8 grid.now.rows row col) }
-{
-    grid.count_wrapped_neighbors8((row, col), |cell| *cell == x)
+    let is_x = |cell: &u8| *cell == x;
+    let open = grid.count_neighbors8((row, col), is_x);
+    let joined = grid.count_wrapped_neighbors8((row, col), is_x);
+    (open, joined)
 }
 
 /// Same as [`count_round`], of the cells that share a side, by a chain.
@@ -31,26 +29,30 @@ pub fn count_beside(grid: &Grid<u8>, row: usize, col: usize, x: u8) -> usize
         .count()
 }
 
-/// Returns whether all cells that touch a cell are below this height: where it returns true, they are.
-pub fn is_peak(grid: &Grid<u8>, row: usize, col: usize, height: u8) -> bool
-    ensures { IsTrue result → All (λ near. near.1 < height) (neighbors8 grid.now.rows row col) }
-{
-    grid.neighbors8((row, col)).all(|(_, cell)| *cell < height)
+// Whether a cell beside another isn't 0.
+fn is_set((_, cell): &((usize, usize), &u8)) -> bool {
+    **cell != 0
 }
 
-/// Returns whether a cell that shares a side with a cell is `x`, on a board whose edges meet: none is missed.
-pub fn touches(grid: &Grid<u8>, row: usize, col: usize, x: u8) -> bool
-    ensures { Any (λ near. near.1 ≡ x) (wrapped_neighbors4 grid.now.rows row col) → IsTrue result }
-{
-    grid.wrapped_neighbors4((row, col))
-        .any(|(_, cell)| *cell == x)
-}
-
-/// Clears a cell that is `x` and shares a side with a cell: the position that a search finds is in range.
-pub fn clear_beside(grid: &mut Grid<u8>, row: usize, col: usize, x: u8) {
-    if let Some((at, _)) = grid.neighbors4((row, col)).find(|(_, cell)| **cell == x) {
+/// Clears a cell that isn't 0 and shares a side with a cell: the position that a search finds is in range.
+pub fn clear_beside(grid: &mut Grid<u8>, row: usize, col: usize) {
+    if let Some((at, _)) = grid.neighbors4((row, col)).find(is_set) {
         grid[at] = 0;
     }
+}
+
+/// Returns whether all cells that touch a cell are below this height: where it returns true, they are. And whether one
+/// that shares a side with it is, on a board whose edges meet: none is missed.
+pub fn are_below(grid: &Grid<u8>, row: usize, col: usize, height: u8) -> (bool, bool)
+    ensures all { IsTrue result.0 → All (λ near. near.1 < height) (neighbors8 grid.now.rows row col) }
+    ensures any { Any (λ near. near.1 < height) (wrapped_neighbors4 grid.now.rows row col)
+        → IsTrue result.1 }
+{
+    let is_below = |(_, cell): ((usize, usize), &u8)| *cell < height;
+    (
+        grid.neighbors8((row, col)).all(is_below),
+        grid.wrapped_neighbors4((row, col)).any(is_below),
+    )
 }
 
 /// Returns the positions round a position.
@@ -68,13 +70,19 @@ pub fn positions_round(
     grid.neighbors8((row, col)).map(|(at, _)| at).collect(alloc)
 }
 
-/// Returns the sum of the cells round a cell.
+// Adds a cell to a sum, which stays within a `u32`.
+fn plus(total: u32, near: ((usize, usize), &u32)) -> u32
+    ensures { result ≡ min (total + near.entry.1.now) u32.MAX }
+{
+    total.saturating_add(*near.1)
+}
+
+/// Returns the sum of the cells round a cell, on a board whose edges meet.
 pub fn sum_round(grid: &Grid<u32>, row: usize, col: usize) -> u32
     ensures { result ≡ fold (λ total near. min (total + near.1) u32.MAX) 0
         (wrapped_neighbors8 grid.now.rows row col) }
 {
-    grid.wrapped_neighbors8((row, col))
-        .fold(0, |total: u32, (_, cell)| total.saturating_add(*cell))
+    grid.wrapped_neighbors8((row, col)).fold(0, plus)
 }
 
 /// Returns how many cells of the board are peaks, by loops alone.
@@ -90,21 +98,6 @@ pub fn count_peaks(grid: &Grid<u8>) -> usize {
         }
     }
     peaks
-}
-
-/// Returns the board in which each cell is the mean of the cell and those that touch it, rounded down.
-///
-///     [[0, 9], [0, 9]]   blur()   [[4, 4], [4, 4]]
-pub fn blur(grid: &Grid<u8>) -> Result<Grid<u8>, AllocError> {
-    grid.map_indexed(|at, cell| {
-        let mut sum = u32::from(*cell);
-        let mut count = 1u32;
-        for (_, near) in grid.neighbors8(at) {
-            sum = sum.saturating_add(u32::from(*near));
-            count = count.saturating_add(1);
-        }
-        u8::try_from(sum / count.max(1)).unwrap_or(255)
-    })
 }
 
 /// Returns the next generation of Life: a cell lives with three live cells round it, or with two if it lives now.
@@ -136,12 +129,22 @@ pub fn mean_of_nine(grid: &Grid<u8>) -> Result<Grid<u8>, AllocError> {
     )
 }
 
+// The cell itself.
+fn same<T: Copy>(cell: &T) -> T {
+    *cell
+}
+
+// The sum or the count that was found round a cell.
+fn found<T, N>(_cell: &T, number: N) -> N {
+    number
+}
+
 /// Returns what the cells that share a side with each cell come to, and the same on a board whose edges meet.
 ///
 ///     [[1, 2, 3]]   sums_beside()   [[2, 4, 2]]   [[7, 8, 9]]
 pub fn sums_beside(grid: &Grid<u8>) -> Result<(Grid<u16>, Grid<u16>), AllocError> {
-    let open = grid.map_sums4(|cell| *cell, |_, sum| sum)?;
-    let joined = grid.map_wrapped_sums4(|cell| *cell, |_, sum| sum)?;
+    let open = grid.map_sums4(same, found)?;
+    let joined = grid.map_wrapped_sums4(same, found)?;
     Ok((open, joined))
 }
 
@@ -149,8 +152,8 @@ pub fn sums_beside(grid: &Grid<u8>) -> Result<(Grid<u16>, Grid<u16>), AllocError
 ///
 ///     [[true, false, false]]   walls_beside()   [[0, 1, 0]]   [[2, 1, 1]]
 pub fn walls_beside(walls: &Grid<bool>) -> Result<(Grid<u8>, Grid<u8>), AllocError> {
-    let open = walls.map_counts4(|wall| *wall, |_, count| count)?;
-    let joined = walls.map_wrapped_counts4(|wall| *wall, |_, count| count)?;
+    let open = walls.map_counts4(same, found)?;
+    let joined = walls.map_wrapped_counts4(same, found)?;
     Ok((open, joined))
 }
 

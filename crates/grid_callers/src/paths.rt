@@ -19,6 +19,13 @@ pub fn steps_from(maze: &Grid<u8>, from: (usize, usize)) -> Result<Grid<Option<u
     distances(maze, from, Steps::Sides, |cell| *cell == b'.')
 }
 
+// Whether a cell of a board is free.
+fn is_free(cell: &bool) -> bool
+    ensures { result ≡ cell.now }
+{
+    *cell
+}
+
 /// Returns the steps of a king to each free cell of a board from the nearest of several, and those to one cell.
 pub fn steps_of_kings(
     board: &Grid<bool>,
@@ -30,7 +37,7 @@ pub fn steps_of_kings(
         HasLeastFrom All (passing (λ x. x) board.now.rows) kings.now found.0.rows) }
     ensures at { IfOk result (λ found. cell found.0.rows at.0 at.1 ≡ Some found.1) }
 {
-    let steps = distances_from(board, kings, Steps::All, |free| *free)?;
+    let steps = distances_from(board, kings, Steps::All, is_free)?;
     let here = steps[at];
     Ok((steps, here))
 }
@@ -80,6 +87,15 @@ pub fn draw_way(
     Ok(Some(path.len().saturating_sub(1)))
 }
 
+// What a step to this height costs, if it can be climbed.
+fn cost(height: &u8) -> Option<u32> {
+    if *height == 9 {
+        None
+    } else {
+        Some(u32::from(*height))
+    }
+}
+
 /// Returns what the cheapest path over a map of heights costs, and where it goes. A step costs the height that it leads
 /// to; 9 can't be climbed.
 ///
@@ -89,13 +105,7 @@ pub fn cheapest_way(
     from: (usize, usize),
     to: (usize, usize),
 ) -> Result<Option<(Vec<(usize, usize)>, u128)>, AllocError> {
-    cheapest_path(map, from, to, Steps::Sides, |height| {
-        if *height == 9 {
-            None
-        } else {
-            Some(u32::from(*height))
-        }
-    })
+    cheapest_path(map, from, to, Steps::Sides, cost)
 }
 
 /// Returns how many cells each region of equal cells has, in the order of the regions' numbers.
@@ -120,5 +130,5 @@ pub fn farthest_from(
     wells: &[(usize, usize)],
 ) -> Result<Option<usize>, AllocError> {
     let steps = distances_from(map, wells, Steps::Sides, |cell| *cell == '.')?;
-    Ok(steps.iter().filter_map(|count| *count).max())
+    Ok(steps.iter().copied().max().flatten())
 }

@@ -16,18 +16,25 @@ pub fn drawn<A: Allocator>(alloc: Global, board: &Grid<bool, A>) -> Result<Vec<u
     to_pgm(alloc, board, |lives| if *lives { 255 } else { 0 })
 }
 
+// The color of a height: the higher, the more red and the less blue.
+fn heat(high: &u8) -> [u8; 3]
+    ensures { result ≡ high.now ∷ 0 ∷ (255 - high.now) ∷ [] }
+{
+    [*high, 0, 255 - *high]
+}
+
 /// Draws heights from blue to red.
 pub fn colored<A: Allocator>(alloc: Global, heights: &Grid<u8, A>) -> Result<Vec<u8>, AllocError>
     ensures { IfOk result (λ bytes.
         bytes.items ≡ ppm_bytes (λ high. high ∷ 0 ∷ (255 - high) ∷ []) heights.now.rows) }
 {
-    to_ppm(
-        alloc,
-        heights,
-        |high| -> [u8; 3]
-            ensures { result ≡ high.now ∷ 0 ∷ (255 - high.now) ∷ [] }
-        { [*high, 0, 255 - *high] },
-    )
+    to_ppm(alloc, heights, heat)
+}
+
+// The mean of the three samples of a cell.
+fn mean(cell: &[u8; 3]) -> u8 {
+    let [red, green, blue] = *cell;
+    ((u16::from(red) + u16::from(green) + u16::from(blue)) / 3) as u8
 }
 
 /// Reads a picture, gray or colored, as a gray one.
@@ -36,10 +43,7 @@ pub fn gray(alloc: Global, bytes: &[u8]) -> Result<Grid<u8>, PnmError> {
         return from_pgm(alloc, bytes);
     }
     let colors = from_ppm(alloc, bytes)?;
-    let grays = colors.map_ref(|cell| {
-        let [red, green, blue] = *cell;
-        ((u16::from(red) + u16::from(green) + u16::from(blue)) / 3) as u8
-    })?;
+    let grays = colors.map_ref(mean)?;
     Ok(grays)
 }
 
@@ -50,10 +54,17 @@ pub fn turned(alloc: Global, bytes: &[u8]) -> Result<Grid<u8>, PnmError> {
     Ok(picture)
 }
 
+// The gray of a cell in a negative.
+fn inverted(cell: &u8) -> u8
+    ensures { result ≡ 255 - cell.now }
+{
+    255 - *cell
+}
+
 /// The negative of a gray board, through a picture.
 pub fn negative<A: Allocator>(alloc: Global, board: &Grid<u8, A>) -> Result<Grid<u8>, PnmError>
     ensures { MatchResult result (λ negative.
         negative.rows ≡ table_map (λ x. 255 - x) board.now.rows) (λ e. e ≡ Memory) }
 {
-    pgm_written_and_read(alloc, board, |cell| 255 - *cell)
+    pgm_written_and_read(alloc, board, inverted)
 }

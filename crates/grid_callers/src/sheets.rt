@@ -1,5 +1,5 @@
 //! Callers of `grid_csv`.
-ghost use Rattle.std.specs.Prelude.{[], IfOk, map};
+ghost use Rattle.std.specs.Prelude.{◌≡◌, ◌++◌, [], Ok, IfOk, OnOk, map};
 ghost use Rattle.std.specs.Fmt.{signed_decimal};
 ghost use Rattle.std.specs.String.{string_bytes};
 ghost use Rattle.text_lines.specs.Numbers.{cell_of};
@@ -12,11 +12,25 @@ use grid_csv::{CsvError, from_csv, from_csv_with_header, to_csv, to_csv_with_hea
 use std::alloc::{AllocError, Allocator, Global};
 use text_lines::cell;
 
+// The number that a field writes, if it is one.
+fn number(field: &str) -> Result<Option<i64>, AllocError>
+    ensures { result ≡ Ok (cell_of field.now) }
+{
+    Ok(cell(field))
+}
+
 /// Reads a sheet of numbers.
 pub fn numbers(alloc: Global, bytes: &[u8]) -> Result<Grid<i64>, CsvError>
     ensures { IsOrMemory (reading cell_of (records_of bytes.now)) result }
 {
-    from_csv(alloc, bytes, |field| Ok(cell(field)))
+    from_csv(alloc, bytes, number)
+}
+
+// Appends a cell to the text of its field.
+fn put(cell: &String, text: &mut String) -> Result<(), AllocError>
+    ensures { OnOk result (string_bytes text.new ≡ string_bytes text.old ++ string_bytes cell.now) }
+{
+    text.push_str(cell.as_str())
 }
 
 /// Writes a sheet of strings.
@@ -27,14 +41,14 @@ pub fn strings_text<A: Allocator>(
     ensures { IfOk result
         (λ text. IsCsv string_bytes [] sheet.now.rows (string_bytes text)) }
 {
-    to_csv(alloc, sheet, |cell, text| text.push_str(cell.as_str()))
+    to_csv(alloc, sheet, put)
 }
 
 /// Reads a sheet of numbers below a header.
 pub fn headed_numbers(alloc: Global, bytes: &[u8]) -> Result<(Vec<String>, Grid<i64>), CsvError>
     ensures { IsOrMemory (reading_below cell_of (records_of bytes.now)) (without_header result) }
 {
-    from_csv_with_header(alloc, bytes, |field| Ok(cell(field)))
+    from_csv_with_header(alloc, bytes, number)
 }
 
 /// Returns the sheet that is read from the CSV of one.
@@ -42,20 +56,17 @@ pub fn strings_again<A: Allocator>(
     alloc: Global,
     sheet: &Grid<String, A>,
 ) -> Result<Grid<String>, CsvError> {
-    written_and_read(
-        alloc,
-        sheet,
-        |cell, text| text.push_str(cell.as_str()),
-        |field| Ok(Some(String::from_str(alloc, field)?)),
-    )
+    written_and_read(alloc, sheet, put, |field| {
+        Ok(Some(String::from_str(alloc, field)?))
+    })
 }
 
-/// Writes a sheet of numbers.
-pub fn numbers_text<A: Allocator>(alloc: Global, sheet: &Grid<i64, A>) -> Result<String, AllocError>
-    ensures { IfOk result
-        (λ text. IsCsv signed_decimal [] sheet.now.rows (string_bytes text)) }
+// Appends a number to the text of its field.
+fn put_number(cell: &i64, text: &mut String) -> Result<(), AllocError>
+    ensures { OnOk result
+        (string_bytes text.new ≡ string_bytes text.old ++ signed_decimal cell.now) }
 {
-    to_csv(alloc, sheet, |cell, text| write!(text, "{cell}"))
+    write!(text, "{cell}")
 }
 
 /// Writes a sheet of numbers below a header.
@@ -67,5 +78,5 @@ pub fn headed_text<A: Allocator>(
     ensures { IfOk result (λ text.
         IsCsv signed_decimal (map string_bytes header.now) sheet.now.rows (string_bytes text)) }
 {
-    to_csv_with_header(alloc, header, sheet, |cell, text| write!(text, "{cell}"))
+    to_csv_with_header(alloc, header, sheet, put_number)
 }

@@ -1,7 +1,6 @@
 //! Whole boards at once, with their rows in the contract and no proof file.
-ghost use Rattle.std.specs.Prelude.{◌≡◌, ◌<◌, ◌+◌, ◌/◌, ◌%◌, ◌==◌, nat_lt, IfOk, Some, option_map};
+ghost use Rattle.std.specs.Prelude.{◌≡◌, ◌<◌, ◌/◌, ◌%◌, ◌==◌, nat_lt, IfOk, Some, option_map};
 ghost use Rattle.grid_base.specs.Table.{row_count, col_count, cell, tabulate};
-ghost use Rattle.grid_callers.specs.Rules.{level};
 
 use grid::{Grid, GridError};
 use std::alloc::{AllocError, Global};
@@ -25,29 +24,6 @@ pub fn halve(grid: &mut Grid<u8>)
         (λ r c. option_map (λ y. y / 2) (cell grid.old.rows r c)) }
 {
     grid.update(|_, cell| *cell / 2);
-}
-
-// Returns a cell as a number, 0 where there is none.
-fn level(grid: &Grid<u8>, row: usize, col: usize) -> usize
-    ensures value { result ≡ level (cell grid.now.rows row col) }
-    ensures small { result < 256 }
-{
-    match grid.get(row, col) {
-        Some(cell) => *cell as usize,
-        None => 0,
-    }
-}
-
-/// Returns half the sum of each cell and the one after it in its row.
-///
-///     [[1, 2], [3, 4]]   blurred()   [[1, 1], [3, 2]]
-pub fn blurred(grid: &Grid<u8>) -> Result<Grid<usize>, AllocError>
-    ensures { IfOk result (λ new. new.rows
-        ≡ tabulate (row_count grid.now.rows) (col_count grid.now.rows)
-        (λ r c. Some ((level (cell grid.now.rows r c)
-        + level (cell grid.now.rows r (c + 1))) / 2))) }
-{
-    grid.map_indexed(|(row, col), _| (level(grid, row, col) + level(grid, row, col + 1)) / 2)
 }
 
 /// Returns the board of this size whose cells are true where row and column are both even or both odd.

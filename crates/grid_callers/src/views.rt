@@ -8,20 +8,18 @@ ghost use Rattle.grid.specs.Pasted.{overlaid};
 use grid::{Grid, GridView, Symmetry};
 use std::alloc::{AllocError, Global};
 
-/// Returns the number of cells of row `r` that are `x`.
-pub fn count_in_row(view: &GridView<'_, u32>, r: usize, x: u32) -> usize
-    requires { r < row_count view.now.rows }
-    ensures { result ≡ count_by (λ y. y == x) (row view.now.rows r) }
+/// Returns how many cells of row `r` are `x`, and whether a cell of column `c` is.
+pub fn found_in_lines(view: &GridView<'_, u32>, r: usize, c: usize, x: u32) -> (usize, bool)
+    requires row { r < row_count view.now.rows }
+    requires col { c < col_count view.now.rows }
+    ensures count { result.0 ≡ count_by (λ y. y == x) (row view.now.rows r) }
+    ensures any { IsTrue result.1 ↔ Any (λ y. y ≡ x) (row (transposed view.now.rows) c) }
 {
-    view.iter_row(r).filter(|y| **y == x).count()
-}
-
-/// Returns whether a cell of column `c` is `x`.
-pub fn column_has(view: &GridView<'_, u32>, c: usize, x: u32) -> bool
-    requires { c < col_count view.now.rows }
-    ensures { IsTrue result ↔ Any (λ y. y ≡ x) (row (transposed view.now.rows) c) }
-{
-    view.iter_col(c).any(|y| *y == x)
+    let is_x = |y: &u32| *y == x;
+    (
+        view.iter_row(r).copied().filter(is_x).count(),
+        view.iter_col(c).any(is_x),
+    )
 }
 
 /// Returns a position of a cell that is `x`, found by a chain.

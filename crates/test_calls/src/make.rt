@@ -3,27 +3,24 @@ use crate::ask::Ask;
 use crate::told::{shown, told_board, told_made};
 use grid::{Grid, GridError, Order, can_cut};
 use std::alloc::{AllocError, Global};
+use std::convert::identity;
 use test_support::fixtures::cut;
 
-// A board of a closure that fails at (0, 2) and at (1, 1), or the first of these.
+// Fails at (0, 2) and at (1, 1).
+fn seven(at: (usize, usize)) -> Result<u32, (usize, usize)> {
+    if at == (0, 2) || at == (1, 1) {
+        Err(at)
+    } else {
+        Ok(7)
+    }
+}
+
 fn try_from_fn(
     alloc: Global,
     (rows, cols): (usize, usize),
     order: Order,
 ) -> Result<String, AllocError> {
-    let made: Result<Result<Grid<u32>, (usize, usize)>, GridError> = Grid::try_from_fn_with_order(
-        alloc,
-        rows,
-        cols,
-        order,
-        |at| {
-            if at == (0, 2) || at == (1, 1) {
-                Err(at)
-            } else {
-                Ok(7)
-            }
-        },
-    );
+    let made = Grid::try_from_fn_with_order(alloc, rows, cols, order, seven);
     match made {
         Ok(made) => told_made(alloc, made),
         Err(fault) => shown(alloc, fault),
@@ -44,7 +41,7 @@ fn by_rows(alloc: Global, ask: Ask<'_>) -> Result<String, AllocError> {
     match ask.call {
         "new" => told_made(alloc, Grid::<i64>::new(alloc, rows, cols)),
         "init" => told_made(alloc, Grid::init(alloc, rows, cols, 7i64)),
-        "from_fn" => told_made(alloc, Grid::from_fn(alloc, rows, cols, |at| at)),
+        "from_fn" => told_made(alloc, Grid::from_fn(alloc, rows, cols, identity)),
         "with_capacity" => told_made(alloc, Grid::<i64>::with_capacity(alloc, rows, cols)),
         "from_vec" => from_vec(alloc, ask.line(alloc)?, rows),
         "empty" => told_made::<_, GridError>(alloc, Ok(Grid::<i64>::empty(alloc))),
@@ -65,7 +62,7 @@ pub fn told(alloc: Global, ask: Ask<'_>) -> Result<String, AllocError> {
         }
         "from_fn_with_order" => told_made(
             alloc,
-            Grid::from_fn_with_order(alloc, rows, cols, order, |at| at),
+            Grid::from_fn_with_order(alloc, rows, cols, order, identity),
         ),
         "try_from_fn_with_order" => try_from_fn(alloc, (rows, cols), order),
         "with_capacity_and_order" => told_made(

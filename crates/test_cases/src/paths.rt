@@ -63,12 +63,19 @@ fn growths(len: usize) -> u64 {
 // How many requests for memory are made: for which cells may be walked on or entered, for the numbers, and for the queue;
 // for a path, if there is one; and for the text of regions. What is taken takes more as it grows.
 fn requests(call: &str, wanted: &str) -> u64 {
-    let marks = wanted.chars().filter(|letter| *letter == 'x').count();
+    let (mut marks, mut others) = (0usize, 0usize);
+    for letter in wanted.chars() {
+        match letter {
+            'x' => marks = marks.saturating_add(1),
+            '\n' => {}
+            _ => others = others.saturating_add(1),
+        }
+    }
     match call {
         "shortest_path" if wanted != ".\n" => 4,
         "regions" => 4,
         // (the region is the board)
-        "fill_region" if wanted.chars().all(|letter| letter == 'x' || letter == '\n') => 0,
+        "fill_region" if others == 0 => 0,
         "fill_region" => growths(marks),
         "flood" if marks > 0 => growths(marks).saturating_add(2),
         "flood" => 1,
@@ -92,16 +99,10 @@ fn stored<'a>(
     map: &Grid<char>,
     order: Order,
 ) -> Result<Grid<char, &'a Heap>, AllocError> {
-    let (rows, cols) = map.size();
     heap.grant(1);
-    let stored = Grid::from_fn_with_order(heap, rows, cols, order, |(row, col)| {
-        match map.get(row, col) {
-            Some(cell) => *cell,
-            None => ' ',
-        }
-    });
+    let stored = Grid::from_view(heap, order, &map.view());
     heap.grant(0);
-    stored.map_err(|_| AllocError)
+    stored
 }
 
 // Whether a call with this many requests granted returns what is wanted, or leaves the map as it was.

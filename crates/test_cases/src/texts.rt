@@ -7,6 +7,7 @@ use grid::{Grid, Whole};
 use grid_text::{TextError, from_text, from_words, to_text, to_words};
 use std::alloc::{AllocError, Global};
 use std::fmt::Debug;
+use std::str::FromStr;
 
 fn cell(letter: char) -> Option<u8> {
     match letter {
@@ -23,6 +24,13 @@ fn letter(cell: &u8) -> char {
         1 => '#',
         _ => 'é',
     }
+}
+
+fn number<T: FromStr>(word: &str) -> Option<T>
+where
+    <T as FromStr>::Err: Drop,
+{
+    word.parse::<T>().ok()
 }
 
 fn fault(alloc: Global, refused: TextError) -> Result<String, AllocError> {
@@ -64,14 +72,8 @@ fn numbers<T: Whole + Debug + Drop>(
 fn answer(alloc: Global, call: &str, text: &str) -> Result<String, AllocError> {
     match call {
         "from_text" => letters(alloc, from_text(alloc, text, cell)),
-        "from_words" => numbers(
-            alloc,
-            from_words(alloc, text, |word| word.parse::<u8>().ok()),
-        ),
-        _ => numbers(
-            alloc,
-            from_words(alloc, text, |word| word.parse::<i64>().ok()),
-        ),
+        "from_words" => numbers::<u8>(alloc, from_words(alloc, text, number)),
+        _ => numbers::<i64>(alloc, from_words(alloc, text, number)),
     }
 }
 

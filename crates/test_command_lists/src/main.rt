@@ -45,22 +45,6 @@ fn check_list<R: Print + AllocGlobal>(
     Ok(())
 }
 
-// Checks the lists of a symmetry and a command, alone and before each command.
-fn check_lists_from<R: Print + AllocGlobal>(
-    rt: &R,
-    start: Start,
-    symmetry: Symmetry,
-    first: &Command<u32>,
-    commands: &[Command<u32>],
-    counts: &mut Counts,
-) -> io::Result<()> {
-    check_list(rt, start, symmetry, [first].as_slice(), counts)?;
-    for second in commands {
-        check_list(rt, start, symmetry, [first, second].as_slice(), counts)?;
-    }
-    Ok(())
-}
-
 // Checks all lists that begin with a symmetry.
 fn check_symmetry<R: Print + AllocGlobal>(
     rt: &R,
@@ -71,12 +55,15 @@ fn check_symmetry<R: Print + AllocGlobal>(
 ) -> io::Result<()> {
     check_list(rt, start, symmetry, [].as_slice(), counts)?;
     for first in commands {
-        check_lists_from(rt, start, symmetry, first, commands, counts)?;
+        check_list(rt, start, symmetry, [first].as_slice(), counts)?;
+        for second in commands {
+            check_list(rt, start, symmetry, [first, second].as_slice(), counts)?;
+        }
     }
     Ok(())
 }
 
-// Checks all lists at the tables of a size, and writes how many agree.
+// Checks all lists at the tables of a size.
 fn check_size<R: Print + AllocGlobal>(
     rt: &R,
     size: (usize, usize),

@@ -3,10 +3,8 @@ use crate::state::{Answer, Board, Call, Start, is_board};
 use crate::{commands, copies, csv, edits, json, lines, makers, maps, paths, pictures, texts};
 use grid::Order;
 use std::alloc::{AllocError, Global};
-use std::cell::Cell;
 use std::io;
 use test_support::fixtures::{ORDERS, SIZES};
-use test_support::fuse::Fuse;
 use test_support::line_edits::push_row;
 
 // The modules that make the calls.
@@ -49,9 +47,13 @@ struct Seen {
     held: u64,
 }
 
-// Gives the vector of a board room to spare, by a row that is pushed and deleted.
+// Gives the vector of a board in column-major order room to spare, where the board is empty or has memory for all: by a
+// row that is pushed and deleted.
 fn give_room<'a>(start: &'a Start, board: &mut Board<'a>) -> Result<(), AllocError> {
-    let (rows, cols) = board.size();
+    let (rows, cols) = start.size;
+    if start.order == Order::RowMajor || (rows > 0 && is_refused_on(start.size)) {
+        return Ok(());
+    }
     if push_row(board, start.line(cols.max(1))?).is_err() {
         return Err(AllocError);
     }
@@ -59,41 +61,24 @@ fn give_room<'a>(start: &'a Start, board: &mut Board<'a>) -> Result<(), AllocErr
     Ok(())
 }
 
-// Whether the board has room to spare: in column-major order, one that is empty or has memory for all.
-fn has_room(start: &Start) -> bool {
-    start.order == Order::ColumnMajor && (start.size.0 == 0 || !is_refused_on(start.size))
-}
-
-// Makes the call.
-fn called<'a>(
-    start: &'a Start,
-    board: &mut Board<'a>,
-    group: Group,
-    name: &str,
-) -> Result<Answer, AllocError> {
-    match group {
-        Group::Commands => commands::call(start, board, name),
-        Group::Copies => copies::call(start, board, name),
-        Group::Csv => csv::call(start, name),
-        Group::Edits => edits::call(start, board, name),
-        Group::Json => json::call(start, name),
-        Group::Lines => lines::call(start, board, name),
-        Group::Makers => makers::call(start, board, name),
-        Group::Maps => maps::call(start, board, name),
-        Group::Paths => paths::call(start, name),
-        Group::Pictures => pictures::call(start, name),
-        Group::Texts => texts::call(start, board, name),
-    }
-}
-
 // Makes the call on a new board, which is then dropped.
 fn made(start: &Start, group: Group, name: &str) -> Result<Answer, AllocError> {
     start.prepare();
     let mut board = start.board(start.size, start.order)?;
-    if has_room(start) {
-        give_room(start, &mut board)?;
-    }
-    let answer = called(start, &mut board, group, name)?;
+    give_room(start, &mut board)?;
+    let answer = match group {
+        Group::Commands => commands::call(start, &mut board, name)?,
+        Group::Copies => copies::call(start, &mut board, name)?,
+        Group::Csv => csv::call(start, name)?,
+        Group::Edits => edits::call(start, &mut board, name)?,
+        Group::Json => json::call(start, name)?,
+        Group::Lines => lines::call(start, &mut board, name)?,
+        Group::Makers => makers::call(start, &mut board, name)?,
+        Group::Maps => maps::call(start, &mut board, name)?,
+        Group::Paths => paths::call(start, name)?,
+        Group::Pictures => pictures::call(start, name)?,
+        Group::Texts => texts::call(start, name)?,
+    };
     if answer == Answer::Refused && !is_board(&board, start.size, start.order) {
         return Ok(Answer::Wrong);
     }
@@ -102,18 +87,7 @@ fn made(start: &Start, group: Group, name: &str) -> Result<Answer, AllocError> {
 
 // An attempt whose preparation finds no memory is wrong too.
 fn attempt(alloc: Global, trial: Trial, granted: u64) -> Seen {
-    let start = Start {
-        alloc,
-        heap: Fuse::new(alloc, 0),
-        size: trial.size,
-        order: trial.order,
-        case: trial.case,
-        granted,
-        calls: Cell::new(0),
-        refusals: Cell::new(0),
-        last: Cell::new(0),
-        strays: Cell::new(0),
-    };
+    let start = Start::new(alloc, trial.size, trial.order, trial.case, granted);
     let answer = made(&start, trial.group, trial.call.0);
     Seen {
         answer: answer.unwrap_or(Answer::Wrong),
@@ -153,19 +127,16 @@ fn fault_with_all(trial: Trial, seen: Seen) -> Option<&'static str> {
     }
 }
 
-// Whether a call that asks for all its memory before it calls its closure got less than that.
-fn asks_for_more(call: Call, blocks: u64) -> bool {
-    match (call.2, call.3) {
-        (Some(promised), Some(_)) => blocks < promised,
-        _ => false,
-    }
-}
-
 // What is wrong with an attempt that has some requests, or nothing.
 fn fault_with_some(trial: Trial, seen: Seen) -> Option<&'static str> {
+    // (such a call asks for all its memory before it calls its closure)
+    let asks_for_more = match (trial.call.2, trial.call.3) {
+        (Some(promised), Some(_)) => seen.blocks < promised,
+        _ => false,
+    };
     match seen.answer {
         Answer::Wrong => Some("answers something else, or leaves the board changed"),
-        Answer::Refused if seen.calls != 0 && asks_for_more(trial.call, seen.blocks) => {
+        Answer::Refused if seen.calls != 0 && asks_for_more => {
             Some("calls its closure before it asks for memory")
         }
         _ if seen.refusals > 1 => Some("calls its closure again after that was refused"),
@@ -253,19 +224,14 @@ fn try_size<R: Print + AllocGlobal>(
     Ok(attempts)
 }
 
-// Tries a call on all boards, and prints how many attempts there were.
-fn try_call<R: Print + AllocGlobal>(rt: &R, group: Group, call: Call) -> io::Result<()> {
-    let mut attempts = try_size(rt, group, call, LARGE)?;
-    for size in SIZES {
-        attempts = attempts.saturating_add(try_size(rt, group, call, size)?);
-    }
-    println!(rt; "{}: {attempts} attempts", call.0)
-}
-
-// Tries all calls of a group.
+// Tries each call of a group on all boards, and prints how many attempts there were.
 pub fn try_all<R: Print + AllocGlobal>(rt: &R, group: Group, calls: &[Call]) -> io::Result<()> {
     for call in calls {
-        try_call(rt, group, *call)?;
+        let mut attempts = try_size(rt, group, *call, LARGE)?;
+        for size in SIZES {
+            attempts = attempts.saturating_add(try_size(rt, group, *call, size)?);
+        }
+        println!(rt; "{}: {attempts} attempts", call.0)?;
     }
     Ok(())
 }

@@ -1,6 +1,8 @@
 //! Commands, one by one and in runs, at once and deferred, and scripts.
-use crate::state::{Answer, Board, Call, Start, came, came_of, is_board, line_came};
-use grid::{Command, GridError, Order, Symmetry, Tally, run};
+use crate::state::{
+    Answer, Board, Call, Start, came, came_of, fitting, is_board, line_came, run_came,
+};
+use grid::{Command, Order, Symmetry, Tally, run};
 use grid_deferred::{Deferred, run_deferred};
 use grid_laws::{
     insert_col_or_row_across, push_row_then_pop_row, run_deferred_by_least, run_in_either_order,
@@ -31,11 +33,6 @@ pub const CALLS: [Call; 12] = [
 ];
 
 type Given<'a> = Command<Counted<'a>, &'a Heap>;
-
-// A line that fits this number of cells, or two cells.
-fn fitting(len: usize) -> usize {
-    if len == 0 { 2 } else { len }
-}
 
 // The command of a case, for a board of this size. `test_command_lists` has all commands, with memory for all.
 fn command<'a>(start: &'a Start, (rows, cols): (usize, usize)) -> Result<Given<'a>, AllocError> {
@@ -120,13 +117,9 @@ fn ran<'a>(start: &'a Start, board: &mut Board<'a>, name: &str) -> Result<Answer
         "grid_deferred::run_deferred" => run_deferred(&start.heap, board, list, &mut tally),
         _ => run_deferred_by_least(&start.heap, board, list, &mut tally),
     };
-    let Err(stopped) = outcome else {
-        return Ok(Answer::Done);
-    };
-    let answer = came_of(&stopped);
-    Ok(match GridError::from(stopped) {
-        GridError::Memory if answer == Answer::Refused => Answer::Stopped,
-        _ => Answer::Wrong,
+    Ok(match run_came(outcome) {
+        Answer::Refused => Answer::Stopped,
+        answer => answer,
     })
 }
 
@@ -161,7 +154,7 @@ fn bad_parsed(start: &Start) -> Answer {
     match Script::parse(&start.heap, *script) {
         Err(fault) if fault == *wanted => Answer::Done,
         Ok(_) => Answer::Wrong,
-        Err(fault) => came_of(&fault),
+        Err(fault) => came_of(fault),
     }
 }
 
@@ -257,7 +250,7 @@ fn ran_on_both<'a>(start: &'a Start, board: &mut Board<'a>) -> Result<Answer, Al
         &mut tally,
         &mut other_tally,
     );
-    Ok(both_of(start, came(first), &other, came(second)))
+    Ok(both_of(start, run_came(first), &other, run_came(second)))
 }
 
 pub fn call<'a>(start: &'a Start, board: &mut Board<'a>, name: &str) -> Result<Answer, AllocError> {

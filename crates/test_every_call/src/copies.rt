@@ -3,6 +3,7 @@ use crate::state::{Answer, Board, Call, Start, came};
 use grid::{Grid, GridError, Order};
 use std::alloc::AllocError;
 use std::cell::Cell;
+use test_support::counted::Counted;
 use test_support::fixtures::SYMMETRIES;
 
 pub const CALLS: [Call; 13] = [
@@ -32,12 +33,6 @@ fn part(start: &Start) -> Option<((usize, usize), (usize, usize))> {
         4 => Some(((0, 0), (rows, cols))),
         _ => None,
     }
-}
-
-// Whether a part is within the board.
-fn is_within(board: &Board<'_>, (row, col): (usize, usize), (rows, cols): (usize, usize)) -> bool {
-    let size = board.size();
-    rows <= size.0 && row <= size.0 - rows && cols <= size.1 && col <= size.1 - cols
 }
 
 fn sub_grid(start: &Start, board: &Board<'_>) -> Answer {
@@ -104,20 +99,25 @@ fn paste_clipped<'a>(start: &'a Start, board: &mut Board<'a>) -> Result<Answer, 
     Ok(came(board.paste_clipped(at, &pasted.view())))
 }
 
-// Updates all cells as a part, which go row by row in either order.
-fn update_part<'a>(start: &'a Start, board: &mut Board<'a>) -> Answer {
+// Updates all cells, or all as a part, which go row by row in either order.
+pub fn updated<'a>(start: &'a Start, board: &mut Board<'a>, name: &str) -> Answer {
     let next = Cell::new((0usize, 0usize));
     let in_turn = Cell::new(true);
     let (rows, cols) = board.size();
-    board.update_part((0, 0), (rows, cols), |at, _| {
+    let update = |at: (usize, usize), cell: &Counted<'_>| {
         in_turn.set(in_turn.get() && at == next.get());
         next.set(if at.1.saturating_add(1) < cols {
             (at.0, at.1.saturating_add(1))
         } else {
             (at.0.saturating_add(1), 0)
         });
-        start.cell(5)
-    });
+        start.cell(cell.value().wrapping_add(1))
+    };
+    if name == "Grid::update" {
+        board.update(update);
+        return Answer::Done;
+    }
+    board.update_part((0, 0), (rows, cols), update);
     if in_turn.get() {
         Answer::Done
     } else {
@@ -162,24 +162,6 @@ fn map<'a>(start: &'a Start, board: &mut Board<'a>) -> Answer {
     }
 }
 
-fn written<'a>(start: &'a Start, board: &mut Board<'a>, name: &str) -> Answer {
-    match name {
-        "Grid::fill_part" => fill_part(start, board),
-        "Grid::fill_with" => {
-            board.fill_with(|| start.cell(8));
-            Answer::Done
-        }
-        "Grid::update" => {
-            board.update(|_, cell| start.cell(cell.value().wrapping_add(1)));
-            Answer::Done
-        }
-        "Grid::update_part" => update_part(start, board),
-        "Grid::set" => set(start, board),
-        "Grid::map" => map(start, board),
-        _ => Answer::Wrong,
-    }
-}
-
 // Clones of the board through each symmetry.
 fn to_vec<'a>(start: &'a Start, board: &Board<'a>) -> Answer {
     let Some(symmetry) = SYMMETRIES.get(start.case) else {
@@ -200,7 +182,15 @@ fn copied<'a>(start: &'a Start, board: &mut Board<'a>, name: &str) -> Answer {
         "Grid::sub_grid" => sub_grid(start, board),
         "GridView::to_vec" => to_vec(start, board),
         "Grid::fill" => came(board.fill(start.given(9))),
-        name => written(start, board, name),
+        "Grid::fill_part" => fill_part(start, board),
+        "Grid::fill_with" => {
+            board.fill_with(|| start.cell(8));
+            Answer::Done
+        }
+        "Grid::update" | "Grid::update_part" => updated(start, board, name),
+        "Grid::set" => set(start, board),
+        "Grid::map" => map(start, board),
+        _ => Answer::Wrong,
     }
 }
 

@@ -1,5 +1,5 @@
 //! Boards as CSV. A reader of CSV takes long, so few boards are enough.
-use crate::state::{Answer, Call, Start, came};
+use crate::state::{Answer, Call, Start, came, number_of};
 use grid::{Grid, Order};
 use grid_csv::laws::written_and_read;
 use grid_csv::{CsvError, from_csv, from_csv_with_header, to_csv, to_csv_with_header};
@@ -14,10 +14,6 @@ pub const CALLS: [Call; 5] = [
     Call("grid_csv::written_and_read", 1, None, None),
 ];
 
-fn number_of(field: &str) -> Option<u32> {
-    field.parse::<u32>().ok()
-}
-
 // Writes a number as a field.
 fn put(cell: &u32, field: &mut String) -> Result<(), AllocError> {
     write!(field, "{cell}")
@@ -29,18 +25,23 @@ fn put_long(cell: &u32, field: &mut String) -> Result<(), AllocError> {
     put(cell, field)
 }
 
-fn try_read<'a>(start: &'a Start, field: &str) -> Result<Option<Counted<'a>>, AllocError> {
-    Ok(Some(start.try_cell(number_of(field).unwrap_or(0))?))
+// Reads a number, whatever else it may find.
+fn try_number_of(field: &str) -> Result<Option<u32>, AllocError> {
+    Ok(number_of(field))
 }
 
-// What is read of a sheet.
-fn cells_of<'a>(start: &'a Start, sheet: &[u8]) -> Result<Grid<Counted<'a>>, CsvError> {
-    from_csv(start.alloc, sheet, |field| try_read(start, field))
-}
-
-// What is read of one with a header.
-fn came_with_header(start: &Start, sheet: &[u8]) -> Answer {
-    came(from_csv_with_header(start.alloc, sheet, |field| try_read(start, field)))
+// What the call of this name reads of a sheet.
+pub fn cells_of<'a>(
+    start: &'a Start,
+    name: &str,
+    sheet: &[u8],
+) -> Result<Grid<Counted<'a>>, CsvError> {
+    let read = |field: &str| start.try_number(field);
+    if name == "grid_csv::from_csv" {
+        return from_csv(start.alloc, sheet, read);
+    }
+    let (_, cells) = from_csv_with_header(start.alloc, sheet, read)?;
+    Ok(cells)
 }
 
 // A name for each column, or none.
@@ -55,6 +56,9 @@ fn header(start: &Start) -> Result<Vec<String>, AllocError> {
 fn csv_written<'a>(start: &'a Start, name: &str) -> Result<Answer, AllocError> {
     let board = start.numbers()?;
     start.ready();
+    if name == "grid_csv::written_and_read" {
+        return Ok(came(written_and_read(start.alloc, &board, put, try_number_of)));
+    }
     let write = |cell: &u32, field: &mut String| {
         start.called();
         match start.case {
@@ -71,24 +75,27 @@ fn csv_written<'a>(start: &'a Start, name: &str) -> Result<Answer, AllocError> {
     Ok(came(to_csv_with_header(start.alloc, names.as_slice(), &board, write)))
 }
 
-fn csv_read<'a>(start: &'a Start) -> Result<Answer, AllocError> {
+fn csv_read<'a>(start: &'a Start, name: &str) -> Result<Answer, AllocError> {
     let board = start.numbers()?;
-    let text = if start.case == 0 {
+    let text = if name == "grid_csv::from_csv_with_header" {
+        let names = header(start)?;
+        to_csv_with_header(start.alloc, names.as_slice(), &board, put)?
+    } else if start.case == 0 {
         to_csv(start.alloc, &board, put)?
     } else {
         to_csv(start.alloc, &board, put_long)?
     };
     start.ready();
-    Ok(came(cells_of(start, text.as_str().as_bytes())))
+    Ok(came(cells_of(start, name, text.as_str().as_bytes())))
 }
 
 // A field that isn't UTF-8, behind one that was read.
-fn bad_csv_read<'a>(start: &'a Start) -> Answer {
+fn bad_csv_read<'a>(start: &'a Start, name: &str) -> Answer {
     if start.size != (1, 1) {
         return Answer::Skipped;
     }
     start.ready();
-    match cells_of(start, b"1,\xff\n") {
+    match cells_of(start, name, b"1,\xff\n") {
         Err(
             CsvError::BadField {
                 record: 1,
@@ -100,37 +107,16 @@ fn bad_csv_read<'a>(start: &'a Start) -> Answer {
     }
 }
 
-fn csv_with_header_read<'a>(start: &'a Start) -> Result<Answer, AllocError> {
-    let names = header(start)?;
-    let text = to_csv_with_header(start.alloc, names.as_slice(), &start.numbers()?, put)?;
-    start.ready();
-    Ok(came_with_header(start, text.as_str().as_bytes()))
-}
-
-// Four quoted fields and line ends of two bytes, or a field behind a byte order mark.
-fn quoted_read<'a>(start: &'a Start) -> Answer {
+// Four quoted fields and line ends of two bytes, a field behind a byte order mark, or a header without records.
+fn plain_read<'a>(start: &'a Start, name: &str) -> Answer {
     let sheet: &[u8] = match start.size {
         (2, 2) if start.case == 3 => b"\"1\",\"2\"\r\n3,\"4\"",
         (1, 1) if start.case == 4 => b"\xef\xbb\xbf5\n",
+        (0, 0) if start.case == 1 => b"a,b\n",
         _ => return Answer::Skipped,
     };
     start.ready();
-    came(cells_of(start, sheet))
-}
-
-// A header without records.
-fn header_read<'a>(start: &'a Start) -> Answer {
-    if start.size != (0, 0) {
-        return Answer::Skipped;
-    }
-    start.ready();
-    came_with_header(start, b"a,b\n")
-}
-
-fn csv_written_and_read<'a>(start: &'a Start) -> Result<Answer, AllocError> {
-    let board = start.numbers()?;
-    start.ready();
-    Ok(came(written_and_read(start.alloc, &board, put, |field| Ok(number_of(field)))))
+    came(cells_of(start, name, sheet))
 }
 
 pub fn call(start: &Start, name: &str) -> Result<Answer, AllocError> {
@@ -139,12 +125,10 @@ pub fn call(start: &Start, name: &str) -> Result<Answer, AllocError> {
         return Ok(Answer::Skipped);
     }
     match name {
-        "grid_csv::from_csv" if start.case == 1 => Ok(bad_csv_read(start)),
-        "grid_csv::from_csv" if start.case > 2 => Ok(quoted_read(start)),
-        "grid_csv::from_csv" => csv_read(start),
-        "grid_csv::from_csv_with_header" if start.case == 1 => Ok(header_read(start)),
-        "grid_csv::from_csv_with_header" => csv_with_header_read(start),
-        "grid_csv::written_and_read" => csv_written_and_read(start),
+        "grid_csv::from_csv" if start.case == 1 => Ok(bad_csv_read(start, name)),
+        "grid_csv::from_csv" if start.case > 2 => Ok(plain_read(start, name)),
+        "grid_csv::from_csv_with_header" if start.case == 1 => Ok(plain_read(start, name)),
+        "grid_csv::from_csv" | "grid_csv::from_csv_with_header" => csv_read(start, name),
         name => csv_written(start, name),
     }
 }

@@ -41,12 +41,6 @@ fn cells(start: &Start, name: &str) -> Result<Answer, AllocError> {
     Ok(Answer::Done)
 }
 
-fn read(start: &Start) -> Result<Answer, AllocError> {
-    let value = to_value(start.alloc, &start.numbers()?)?;
-    let read: Result<Grid<u32>, _> = from_value(start.alloc, &value);
-    Ok(came(read))
-}
-
 // The numbers of a board, in storage order.
 fn stored_numbers(start: &Start, board: &Numbers<'_>) -> Result<Value, AllocError> {
     let mut numbers = Vec::new(start.alloc);
@@ -75,10 +69,10 @@ fn array_read(start: &Start) -> Result<Answer, AllocError> {
     Ok(came(read))
 }
 
-// The board as an object without an order.
+// The board as an object, in case 4 without an order.
 fn object_read(start: &Start) -> Result<Answer, AllocError> {
     let mut value = to_value(start.alloc, &start.numbers()?)?;
-    if let Some(fields) = value.as_object_mut() {
+    if let (Some(fields), 4) = (value.as_object_mut(), start.case) {
         let _order = fields.remove("order");
     }
     let read: Result<Grid<u32>, _> = from_value(start.alloc, &value);
@@ -93,9 +87,15 @@ fn rows_of(start: &Start, board: &Numbers<'_>) -> Result<Value, AllocError> {
     })
 }
 
-// Cells that are made from the items of a value.
-fn cells_of<'a>(start: &'a Start, value: &Value) -> Result<Grid<Counted<'a>>, RowsError> {
-    rows_from_value(start.alloc, value, |_| Ok(Some(start.try_cell(1)?)))
+// Cells that are made from the numbers of a value. In case 3 none is a cell.
+pub fn cells_of<'a>(start: &'a Start, value: &Value) -> Result<Grid<Counted<'a>>, RowsError> {
+    rows_from_value(start.alloc, value, |item| match item.as_u64() {
+        Some(_) if start.case != 3 => Ok(Some(start.try_cell(1)?)),
+        _ => {
+            start.called();
+            Ok(None)
+        }
+    })
 }
 
 // One item that the closure, which is asked once, says is no cell.
@@ -105,11 +105,7 @@ fn no_cell_read(start: &Start) -> Result<Answer, AllocError> {
     }
     let value = rows_of(start, &start.numbers()?)?;
     start.ready();
-    let read: Result<Grid<u32>, _> = rows_from_value(start.alloc, &value, |_| {
-        start.called();
-        Ok(None)
-    });
-    Ok(match read {
+    Ok(match cells_of(start, &value) {
         Err(RowsError::BadCell { row: 0, col: 0 }) => Answer::Done,
         Ok(_) => Answer::Wrong,
         read => came(read),
@@ -164,9 +160,8 @@ fn written(start: &Start, name: &str) -> Result<Answer, AllocError> {
 pub fn call(start: &Start, name: &str) -> Result<Answer, AllocError> {
     match name {
         "Cell::to_cell" | "Cell::from_cell" => cells(start, name),
-        "grid_json::from_value" if start.case == 4 => object_read(start),
-        "grid_json::from_value" if start.case > 0 => array_read(start),
-        "grid_json::from_value" => read(start),
+        "grid_json::from_value" if start.case == 0 || start.case == 4 => object_read(start),
+        "grid_json::from_value" => array_read(start),
         "grid_json::rows_from_value" if start.case == 3 => no_cell_read(start),
         "grid_json::rows_from_value" if start.case == 2 => empty_rows_read(start),
         "grid_json::rows_from_value" => rows_read(start),

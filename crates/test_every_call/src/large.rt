@@ -1,21 +1,25 @@
 //! Larger inputs: texts, sheets and rows of JSON with a fault at each line and word, a path of 77 steps, searches that
 //! outgrow the room they begin with, and the words of a failed allocation.
-use crate::state::{Answer, came};
-use grid::{Grid, GridError, Order, ShapeError};
-use grid_csv::{CsvError, from_csv, from_csv_with_header};
-use grid_json::{ReadError, RowsError, rows_from_value};
+use crate::state::{Answer, Start, came, made, number_of};
+use crate::texts::{DIGIT, letters_read, numbers_read};
+use crate::{copies, csv, json, makers};
+use grid::{Grid, GridError, GridLineIter, Order, ShapeError};
+use grid_csv::CsvError;
+use grid_json::{ReadError, RowsError};
 use grid_lines::sort_rows_by;
 use grid_paths::{
     Steps, cheapest, cheapest_path, distances, distances_from, regions, shortest_path,
 };
+use grid_play::ScriptFault;
 use grid_pnm::PnmError;
-use grid_text::{TextError, from_text, from_words, try_from_words};
+use grid_text::TextError;
 use serde_json::Value;
 use std::alloc::{AllocError, Global};
 use std::cell::Cell;
+use std::cmp::Ordering;
+use std::convert::identity;
 use std::fmt::Display;
 use std::io;
-use test_support::counted::Counted;
 use test_support::fixtures::{Heap, ORDERS};
 use test_support::fuse::Fuse;
 
@@ -99,10 +103,6 @@ fn char_fault(line: usize, flaw: Flaw) -> TextError {
     }
 }
 
-fn number(word: &str) -> Option<u32> {
-    word.parse::<u32>().ok()
-}
-
 // Whether a call that read something with a flaw refused it by this fault.
 fn is_told<T: Drop, E: PartialEq + Drop>(read: Result<T, E>, wanted: E) -> bool {
     match read {
@@ -112,50 +112,30 @@ fn is_told<T: Drop, E: PartialEq + Drop>(read: Result<T, E>, wanted: E) -> bool 
 }
 
 // Whether the calls that read words tell of this flaw.
-fn is_told_of_words(
-    alloc: Global,
-    heap: &Heap,
-    line: usize,
-    flaw: Flaw,
-) -> Result<bool, AllocError> {
-    let words = flawed(alloc, " ", line, flaw)?;
-    let cell = |word: &str| number(word).map(|value| Counted::new(heap, value));
-    let read = from_words(heap, words.as_str(), cell);
-    let tried = try_from_words(heap, words.as_str(), |word| Ok(cell(word)));
+fn is_told_of_words(start: &Start, line: usize, flaw: Flaw) -> Result<bool, AllocError> {
+    let words = flawed(start.alloc, " ", line, flaw)?;
+    let read = numbers_read(start, "grid_text::from_words", words.as_str());
+    let tried = numbers_read(start, "grid_text::try_from_words", words.as_str());
     Ok(is_told(read, word_fault(line, flaw)) && is_told(tried, word_fault(line, flaw)))
 }
 
 // The same of characters, which are read once up to the flaw.
-fn is_told_of_letters(
-    alloc: Global,
-    heap: &Heap,
-    line: usize,
-    flaw: Flaw,
-) -> Result<bool, AllocError> {
-    let letters = flawed(alloc, "", line, flaw)?;
-    let calls = Cell::new(0usize);
-    let read = from_text(heap, letters.as_str(), |letter| {
-        calls.set(calls.get().wrapping_add(1));
-        letter.to_digit(10)
-    });
+fn is_told_of_letters(start: &Start, line: usize, flaw: Flaw) -> Result<bool, AllocError> {
+    let letters = flawed(start.alloc, "", line, flaw)?;
+    let read = letters_read(start, letters.as_str());
     let most = match flaw {
         Flaw::Bad(word) => line.wrapping_mul(WORDS).wrapping_add(word).wrapping_add(1),
         _ => usize::MAX,
     };
-    Ok(is_told(read, char_fault(line, flaw)) && calls.get() <= most)
+    Ok(is_told(read, char_fault(line, flaw)) && start.calls.get() <= most as u64)
 }
 
 // The same of a sheet, whose first line has no flaw where it is a header. Its cells are counted, since its memory isn't.
-fn is_told_of_sheet(
-    alloc: Global,
-    heap: &Heap,
-    line: usize,
-    flaw: Flaw,
-) -> Result<bool, AllocError> {
-    let sheet = flawed(alloc, ",", line, flaw)?;
-    let cell = |field: &str| Ok(number(field).map(|value| Counted::new(heap, value)));
-    let read = from_csv(alloc, sheet.as_str().as_bytes(), cell);
-    let below = from_csv_with_header(alloc, sheet.as_str().as_bytes(), cell);
+fn is_told_of_sheet(start: &Start, line: usize, flaw: Flaw) -> Result<bool, AllocError> {
+    let sheet = flawed(start.alloc, ",", line, flaw)?;
+    let bytes = sheet.as_str().as_bytes();
+    let read = csv::cells_of(start, "grid_csv::from_csv", bytes);
+    let below = csv::cells_of(start, "grid_csv::from_csv_with_header", bytes);
     if below.is_ok() != (line == 0) {
         return Ok(false);
     }
@@ -181,7 +161,7 @@ fn flawed_rows(alloc: Global, row: usize, flaw: Flaw) -> Result<Value, AllocErro
     for line in text.as_str().lines() {
         let mut cells = Vec::new(alloc);
         for word in line.split(",") {
-            cells.push(match number(word) {
+            cells.push(match number_of(word) {
                 Some(number) => Value::from(number),
                 None => Value::Null,
             })?;
@@ -192,11 +172,9 @@ fn flawed_rows(alloc: Global, row: usize, flaw: Flaw) -> Result<Value, AllocErro
 }
 
 // The same of rows of JSON.
-fn is_told_of_rows(alloc: Global, heap: &Heap, row: usize, flaw: Flaw) -> Result<bool, AllocError> {
-    let rows = flawed_rows(alloc, row, flaw)?;
-    let read = rows_from_value(alloc, &rows, |item| {
-        Ok(item.as_u64().map(|_| Counted::new(heap, 7)))
-    });
+fn is_told_of_rows(start: &Start, row: usize, flaw: Flaw) -> Result<bool, AllocError> {
+    let rows = flawed_rows(start.alloc, row, flaw)?;
+    let read = json::cells_of(start, &rows);
     let wanted = match flaw {
         Flaw::Bad(col) => RowsError::BadCell { row, col },
         flaw => RowsError::Ragged {
@@ -211,29 +189,30 @@ fn is_told_of_rows(alloc: Global, heap: &Heap, row: usize, flaw: Flaw) -> Result
 // What is read where a flaw is.
 const READ: [&str; 4] = ["words", "letters", "a sheet", "rows of JSON"];
 
-fn is_told_of(
-    alloc: Global,
-    heap: &Heap,
-    read: &str,
-    line: usize,
-    flaw: Flaw,
-) -> Result<bool, AllocError> {
+fn is_told_of(start: &Start, read: &str, line: usize, flaw: Flaw) -> Result<bool, AllocError> {
     match read {
         // (a blank line of a sheet has one field)
         "a sheet" | "rows of JSON" if flaw == Flaw::Blank => Ok(true),
-        "words" => is_told_of_words(alloc, heap, line, flaw),
-        "letters" => is_told_of_letters(alloc, heap, line, flaw),
-        "a sheet" => is_told_of_sheet(alloc, heap, line, flaw),
-        _ => is_told_of_rows(alloc, heap, line, flaw),
+        "words" => is_told_of_words(start, line, flaw),
+        "letters" => is_told_of_letters(start, line, flaw),
+        "a sheet" => is_told_of_sheet(start, line, flaw),
+        _ => is_told_of_rows(start, line, flaw),
     }
+}
+
+// What a call starts from that has memory for all, beside a board of this size.
+fn ready(alloc: Global, size: (usize, usize)) -> Start {
+    let start = Start::new(alloc, size, Order::RowMajor, DIGIT, u64::MAX);
+    start.ready();
+    start
 }
 
 // Reads what has this flaw. Its fault is told, and nothing is held then.
 fn try_flaw<R: Print + AllocGlobal>(rt: &R, line: usize, flaw: Flaw) -> io::Result<u64> {
     let mut told = 0u64;
     for read in READ {
-        let heap = Fuse::new(rt.alloc(), u64::MAX);
-        if is_told_of(rt.alloc(), &heap, read, line, flaw)? && heap.held() == 0 {
+        let start = ready(rt.alloc(), (0, 0));
+        if is_told_of(&start, read, line, flaw)? && start.heap.held() == 0 {
             told = told.saturating_add(1);
         } else {
             println!(rt; "FAILED a flaw in line {line} of {read}")?;
@@ -267,101 +246,48 @@ fn is_free((row, col): (usize, usize)) -> bool {
     row % 2 == 0 || (row % 4 == 1 && col == SIDE - 1) || (row % 4 == 3 && col == 0)
 }
 
-type Maze<'a> = Grid<bool, &'a Heap>;
-
-fn maze<'a>(heap: &'a Heap, order: Order) -> Result<Maze<'a>, AllocError> {
-    heap.grant(1);
-    let made = Grid::from_fn_with_order(heap, SIDE, SIDE, order, is_free);
-    made.map_err(|_| AllocError)
-}
-
 const SEARCHES: [&str; 4] = ["distances", "cheapest", "shortest_path", "cheapest_path"];
 
-fn is_walked(answer: Answer, right: bool) -> Answer {
-    if answer == Answer::Done && !right {
-        Answer::Wrong
-    } else {
-        answer
-    }
-}
-
-// How far the end is from the first cell, by the call of this name that numbers all cells.
-fn numbered(maze: &Maze<'_>, name: &str, calls: &Cell<u64>) -> Answer {
-    if name == "distances" {
-        let steps = distances(maze, (0, 0), Steps::Sides, |free| {
-            calls.set(calls.get().wrapping_add(1));
-            *free
-        });
-        let right = match &steps {
-            Ok(steps) => steps.get_at(END) == Some(&Some(77)) && calls.get() == 144,
-            Err(_) => true,
-        };
-        return is_walked(came(steps), right);
-    }
-    let sums = cheapest(maze, (0, 0), Steps::Sides, |free| {
-        calls.set(calls.get().wrapping_add(1));
-        if *free { Some(2) } else { None }
-    });
-    let right = match &sums {
-        Ok(sums) => sums.get_at(END) == Some(&Some(154)) && calls.get() == 144,
-        Err(_) => true,
-    };
-    is_walked(came(sums), right)
-}
-
-// The path from the first cell to the end, by the call of this name.
-fn walked(maze: &Maze<'_>, name: &str, calls: &Cell<u64>) -> Answer {
-    if name == "shortest_path" {
-        let path = shortest_path(maze, (0, 0), END, Steps::Sides, |free| {
-            calls.set(calls.get().wrapping_add(1));
-            *free
-        });
-        let right = match &path {
-            Ok(Some(path)) => path.len() == 78 && calls.get() <= 144,
-            Ok(None) => false,
-            Err(_) => true,
-        };
-        return is_walked(came(path), right);
-    }
-    let path = cheapest_path(maze, (0, 0), END, Steps::Sides, |free| {
-        calls.set(calls.get().wrapping_add(1));
-        if *free { Some(2) } else { None }
-    });
-    let right = match &path {
-        Ok(Some((path, sum))) => path.len() == 78 && *sum == 154 && calls.get() <= 144,
-        Ok(None) => false,
-        Err(_) => true,
-    };
-    is_walked(came(path), right)
-}
-
-// Searches with `granted` requests. Whatever came of it, nothing is held in the end.
-fn searched(alloc: Global, order: Order, name: &str, granted: u64) -> Result<Answer, AllocError> {
-    let heap = Fuse::new(alloc, 0);
+// Whether a search finds the way from the first cell to the end, of 77 steps that cost 2 each, and looks at no cell twice.
+fn is_found(maze: &Grid<bool, &Heap>, name: &str) -> Result<bool, AllocError> {
     let calls = Cell::new(0u64);
-    let answer = search(&heap, order, name, granted, &calls)?;
-    Ok(if heap.held() == 0 {
-        answer
-    } else {
-        Answer::Wrong
+    let test = |free: &bool| {
+        calls.set(calls.get().wrapping_add(1));
+        *free
+    };
+    let cost = |free: &bool| {
+        calls.set(calls.get().wrapping_add(1));
+        if *free { Some(2) } else { None }
+    };
+    Ok(match name {
+        "distances" => {
+            let steps = distances(maze, (0, 0), Steps::Sides, test)?;
+            steps.get_at(END) == Some(&Some(77)) && calls.get() == 144
+        }
+        "cheapest" => {
+            let sums = cheapest(maze, (0, 0), Steps::Sides, cost)?;
+            sums.get_at(END) == Some(&Some(154)) && calls.get() == 144
+        }
+        "shortest_path" => match shortest_path(maze, (0, 0), END, Steps::Sides, test)? {
+            Some(path) => path.len() == 78 && calls.get() <= 144,
+            None => false,
+        },
+        _ => match cheapest_path(maze, (0, 0), END, Steps::Sides, cost)? {
+            Some((path, sum)) => path.len() == 78 && sum == 154 && calls.get() <= 144,
+            None => false,
+        },
     })
 }
 
-fn search(
-    heap: &Heap,
-    order: Order,
-    name: &str,
-    granted: u64,
-    calls: &Cell<u64>,
-) -> Result<Answer, AllocError> {
-    if WIDE_SEARCHES.contains(&name) {
-        return outgrown(heap, name, granted);
-    }
-    let maze = maze(heap, order)?;
+// Searches the way with `granted` requests.
+fn walked(heap: &Heap, order: Order, name: &str, granted: u64) -> Result<Answer, AllocError> {
+    heap.grant(1);
+    let maze = made(Grid::from_fn_with_order(heap, SIDE, SIDE, order, is_free))?;
     heap.grant(granted);
-    Ok(match name {
-        "distances" | "cheapest" => numbered(&maze, name, calls),
-        _ => walked(&maze, name, calls),
+    Ok(match is_found(&maze, name) {
+        Ok(true) => Answer::Done,
+        Ok(false) => Answer::Wrong,
+        Err(_) => Answer::Refused,
     })
 }
 
@@ -376,18 +302,48 @@ const WIDE_SEARCHES: [&str; 5] = [
     "a region",
 ];
 
+fn is_any(_: &bool) -> bool {
+    true
+}
+
+fn is_cheap(dear: &bool) -> bool {
+    !*dear
+}
+
+fn cost_of(dear: &bool) -> Option<u32> {
+    Some(if *dear { 9999 } else { 1 })
+}
+
 fn outgrown(heap: &Heap, name: &str, granted: u64) -> Result<Answer, AllocError> {
     heap.grant(u64::MAX);
-    let made = Grid::from_fn(heap, 2, WIDTH, |(row, _)| name != "a region" && row == 1);
-    let wide = made.map_err(|_| AllocError)?;
-    let starts = wide.positions(heap, |dear| name == "distances from all" || !*dear)?;
+    let is_dear = |(row, _): (usize, usize)| name != "a region" && row == 1;
+    let wide = made(Grid::from_fn(heap, 2, WIDTH, is_dear))?;
+    let starts = if name == "distances from all" {
+        wide.positions(heap, is_any)?
+    } else {
+        wide.positions(heap, is_cheap)?
+    };
     heap.grant(granted);
-    let cost = |dear: &bool| Some(if *dear { 9999 } else { 1 });
     Ok(match name {
-        "all sums" => came(cheapest(&wide, (0, 0), Steps::Sides, cost)),
-        "a dear path" => came(cheapest_path(&wide, (0, 0), (1, 0), Steps::Sides, cost)),
+        "all sums" => came(cheapest(&wide, (0, 0), Steps::Sides, cost_of)),
+        "a dear path" => came(cheapest_path(&wide, (0, 0), (1, 0), Steps::Sides, cost_of)),
         "a region" => came(regions(&wide, Steps::Sides)),
-        _ => came(distances_from(&wide, &starts, Steps::Sides, |_| true)),
+        _ => came(distances_from(&wide, &starts, Steps::Sides, is_any)),
+    })
+}
+
+// Searches with `granted` requests. Whatever came of it, nothing is held in the end.
+fn searched(alloc: Global, order: Order, name: &str, granted: u64) -> Result<Answer, AllocError> {
+    let heap = Fuse::new(alloc, 0);
+    let answer = if WIDE_SEARCHES.contains(&name) {
+        outgrown(&heap, name, granted)?
+    } else {
+        walked(&heap, order, name, granted)?
+    };
+    Ok(if heap.held() == 0 {
+        answer
+    } else {
+        Answer::Wrong
     })
 }
 
@@ -420,11 +376,14 @@ fn try_searches<R: Print + AllocGlobal>(rt: &R) -> io::Result<()> {
     Ok(())
 }
 
-// Whether a fault is told by the words of a failed allocation.
-fn is_out_of_memory<T: Display + Drop>(alloc: Global, fault: T) -> Result<bool, AllocError> {
+// Whether a failed allocation becomes this fault, which is told by its words.
+fn is_out_of_memory<T: Display + PartialEq + From<AllocError> + Drop>(
+    alloc: Global,
+    fault: T,
+) -> Result<bool, AllocError> {
     let mut text = String::new(alloc);
     write!(&mut text, "{fault}")?;
-    Ok(text.as_str() == "out of memory")
+    Ok(text.as_str() == "out of memory" && fault == T::from(AllocError))
 }
 
 fn are_out_of_memory(alloc: Global) -> Result<bool, AllocError> {
@@ -435,38 +394,38 @@ fn are_out_of_memory(alloc: Global) -> Result<bool, AllocError> {
             && is_out_of_memory(alloc, CsvError::Memory)?
             && is_out_of_memory(alloc, PnmError::Memory)?
             && is_out_of_memory(alloc, ReadError::Memory)?
-            && is_out_of_memory(alloc, RowsError::Memory)?,
+            && is_out_of_memory(alloc, RowsError::Memory)?
+            && ScriptFault::from(AllocError) == ScriptFault::Memory,
     )
 }
 
+// Compares the first cells of two lines backwards.
+fn compared(
+    mut a: GridLineIter<'_, (usize, usize)>,
+    mut b: GridLineIter<'_, (usize, usize)>,
+) -> Ordering {
+    b.next().cmp(&a.next())
+}
+
 // Sorts a board that is laid out in the other order first, by rows that differ in their first cell.
-fn is_sorted_large(heap: &Heap) -> Result<bool, AllocError> {
-    let made = Grid::from_fn_with_order(heap, 64, 64, Order::ColumnMajor, |at| at);
-    let mut board = made.map_err(|_| AllocError)?;
-    sort_rows_by(&mut board, |mut a, mut b| b.next().cmp(&a.next()))?;
+fn is_sorted(heap: &Heap) -> Result<bool, AllocError> {
+    let mut board = made(Grid::from_fn_with_order(heap, 64, 64, Order::ColumnMajor, identity))?;
+    sort_rows_by(&mut board, compared)?;
     Ok(board.get(0, 0) == Some(&(63, 0)) && board.order() == Order::ColumnMajor)
 }
 
-fn try_sort<R: Print + AllocGlobal>(rt: &R) -> io::Result<()> {
-    let heap = Fuse::new(rt.alloc(), u64::MAX);
-    if !is_sorted_large(&heap)? || heap.held() != 0 {
+// Updates the cells of a row that is longer than one that is updated in turn.
+fn is_updated(start: &Start) -> Result<bool, AllocError> {
+    let mut board = made(makers::of_cells(start, "Grid::from_fn", start.size))?;
+    Ok(copies::updated(start, &mut board, "Grid::update") == Answer::Done)
+}
+
+fn try_lines<R: Print + AllocGlobal>(rt: &R) -> io::Result<()> {
+    let start = ready(rt.alloc(), (1, 40));
+    if !is_sorted(&start.heap)? || start.heap.held() != 0 {
         println!(rt; "FAILED sort_rows_by of 64 rows across the storage")?;
     }
-    Ok(())
-}
-
-// Updates the cells of a row that is longer than one that is updated in turn.
-fn update_large(heap: &Heap) -> Result<(), AllocError> {
-    let made = Grid::from_fn(heap, 1, 40, |_| Counted::new(heap, 1));
-    let mut board = made.map_err(|_| AllocError)?;
-    board.update(|_, cell| Counted::new(heap, cell.value()));
-    Ok(())
-}
-
-fn try_update<R: Print + AllocGlobal>(rt: &R) -> io::Result<()> {
-    let heap = Fuse::new(rt.alloc(), u64::MAX);
-    update_large(&heap)?;
-    if heap.held() != 0 {
+    if !is_updated(&start)? || start.heap.held() != 0 {
         println!(rt; "FAILED update of a long row")?;
     }
     Ok(())
@@ -474,8 +433,7 @@ fn try_update<R: Print + AllocGlobal>(rt: &R) -> io::Result<()> {
 
 pub fn try_all<R: Print + AllocGlobal>(rt: &R) -> io::Result<()> {
     try_flaws(rt)?;
-    try_sort(rt)?;
-    try_update(rt)?;
+    try_lines(rt)?;
     try_searches(rt)?;
     if are_out_of_memory(rt.alloc())? {
         println!(rt; "want of memory: 7 faults say so")

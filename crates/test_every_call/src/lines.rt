@@ -20,7 +20,7 @@ pub const CALLS: [Call; 6] = [
 
 // The number of the first cell of a line.
 fn first(mut line: GridLineIter<'_, Counted<'_>>) -> Option<u32> {
-    line.next().map(|cell| cell.value())
+    Some(line.next()?.value())
 }
 
 // How often a sort of these many lines may compare two of them: few as often as there are lines, times the logarithm; more
@@ -36,10 +36,10 @@ fn most_compared(lines: usize) -> u64 {
 }
 
 // Compares as it is sorted, backwards, or as if all were equal.
-fn compared<'a>(
-    start: &'a Start,
-    a: GridLineIter<'_, Counted<'a>>,
-    b: GridLineIter<'_, Counted<'a>>,
+fn compared(
+    start: &Start,
+    a: GridLineIter<'_, Counted<'_>>,
+    b: GridLineIter<'_, Counted<'_>>,
 ) -> Ordering {
     start.called();
     match start.case {
@@ -50,16 +50,13 @@ fn compared<'a>(
 }
 
 fn sort_by<'a>(start: &'a Start, board: &mut Board<'a>, by_rows: bool) -> Answer {
+    let compare = |a: GridLineIter<'_, Counted<'_>>, b: GridLineIter<'_, Counted<'_>>| {
+        compared(start, a, b)
+    };
     let (sorted, lines) = if by_rows {
-        (
-            sort_rows_by(board, |a, b| compared(start, a, b)),
-            start.size.0,
-        )
+        (sort_rows_by(board, compare), start.size.0)
     } else {
-        (
-            sort_cols_by(board, |a, b| compared(start, a, b)),
-            start.size.1,
-        )
+        (sort_cols_by(board, compare), start.size.1)
     };
     if start.calls.get() > most_compared(lines) {
         return Answer::Wrong;
@@ -68,7 +65,7 @@ fn sort_by<'a>(start: &'a Start, board: &mut Board<'a>, by_rows: bool) -> Answer
 }
 
 // A key on the heap: a number that goes down, or in case 1 nothing.
-fn key<'a>(start: &'a Start, line: GridLineIter<'_, Counted<'a>>) -> Vec<u32, &'a Heap> {
+fn key<'a>(start: &'a Start, line: GridLineIter<'_, Counted<'_>>) -> Vec<u32, &'a Heap> {
     start.called();
     let mut key = Vec::new(&start.heap);
     if start.case == 0 {
@@ -79,16 +76,11 @@ fn key<'a>(start: &'a Start, line: GridLineIter<'_, Counted<'a>>) -> Vec<u32, &'
 
 // Sorts by a key, which is asked once of each line.
 fn sort_by_key<'a>(start: &'a Start, board: &mut Board<'a>, by_rows: bool) -> Answer {
+    let ask = |line: GridLineIter<'_, Counted<'_>>| key(start, line);
     let (sorted, lines) = if by_rows {
-        (
-            sort_rows_by_key(board, |line| key(start, line)),
-            start.size.0,
-        )
+        (sort_rows_by_key(board, ask), start.size.0)
     } else {
-        (
-            sort_cols_by_key(board, |line| key(start, line)),
-            start.size.1,
-        )
+        (sort_cols_by_key(board, ask), start.size.1)
     };
     let answer = came(sorted);
     if answer == Answer::Done && lines != 1 && start.calls.get() != lines as u64 {

@@ -1,6 +1,6 @@
 //! Calls that make a board of a size and an order: of defaults, clones, what a closure makes, a vector, rows or a view.
 use crate::state::{Answer, Board, Call, Line, Start, both_came, came, number};
-use grid::{Grid, GridError, GridView, ShapeError};
+use grid::{Grid, GridError, GridView, Order, ShapeError};
 use std::alloc::AllocError;
 use std::convert::TryFrom;
 use test_support::counted::Counted;
@@ -29,29 +29,44 @@ pub const CALLS: [Call; 20] = [
     Call("Grid::new of no cells", 6, Some(0), None),
 ];
 
-// A board of what a closure makes.
-fn from_fn<'a>(start: &'a Start, name: &str) -> Answer {
-    let (heap, order) = (&start.heap, start.order);
-    let (rows, cols) = start.size;
+// The order in which the call of this name makes its cells.
+fn order_of(start: &Start, name: &str) -> Order {
     match name {
-        "Grid::from_fn" => came(Board::from_fn(heap, rows, cols, |_| start.cell(1))),
-        "Grid::from_fn_with_order" => came(Board::from_fn_with_order(
-            heap,
-            rows,
-            cols,
-            order,
-            |at| start.visit(number(at)),
-        )),
-        "Grid::try_from_fn" => both_came(Board::try_from_fn(
-            heap,
-            rows,
-            cols,
-            |_| start.try_cell(1),
-        )),
-        _ => both_came(Board::try_from_fn_with_order(heap, rows, cols, order, |at| {
-            start.visited(number(at));
-            start.try_cell(1)
-        })),
+        "Grid::from_fn" | "Grid::try_from_fn" => Order::RowMajor,
+        _ => start.order,
+    }
+}
+
+// A board of this size of what a closure makes, by the call of this name.
+pub fn of_cells<'a>(
+    start: &'a Start,
+    name: &str,
+    (rows, cols): (usize, usize),
+) -> Result<Board<'a>, GridError> {
+    let order = order_of(start, name);
+    let cell = |at: (usize, usize)| {
+        start.visited(order, number(at));
+        start.cell(number(at))
+    };
+    if name == "Grid::from_fn" {
+        Board::from_fn(&start.heap, rows, cols, cell)
+    } else {
+        Board::from_fn_with_order(&start.heap, rows, cols, order, cell)
+    }
+}
+
+// The same of a closure that may be refused.
+fn try_from_fn<'a>(start: &'a Start, name: &str) -> Answer {
+    let (rows, cols) = start.size;
+    let order = order_of(start, name);
+    let cell = |at: (usize, usize)| {
+        start.visited(order, number(at));
+        start.try_cell(number(at))
+    };
+    if name == "Grid::try_from_fn" {
+        both_came(Board::try_from_fn(&start.heap, rows, cols, cell))
+    } else {
+        both_came(Board::try_from_fn_with_order(&start.heap, rows, cols, order, cell))
     }
 }
 
@@ -81,12 +96,18 @@ fn sized<'a>(start: &'a Start, name: &str) -> Answer {
                 Board::with_capacity_and_order(heap, rows, cols, order),
             )
         }
-        name => from_fn(start, name),
+        "Grid::from_fn" | "Grid::from_fn_with_order" => came(of_cells(start, name, start.size)),
+        name => try_from_fn(start, name),
     }
 }
 
-// Two rows of three slots.
+// Two rows of three slots, or of one.
 fn from_arrays(start: &Start) -> Answer {
+    let (heap, order) = (&start.heap, start.order);
+    if start.case == 1 {
+        let mut slots = [[Some(start.given(1))], [Some(start.given(2))]];
+        return came(Grid::from_arrays(heap, order, &mut slots));
+    }
     let mut slots = [
         [
             Some(start.given(1)),
@@ -99,13 +120,7 @@ fn from_arrays(start: &Start) -> Answer {
             Some(start.given(6)),
         ],
     ];
-    came(Grid::from_arrays(&start.heap, start.order, &mut slots))
-}
-
-// Two rows of one slot.
-fn column_from_arrays(start: &Start) -> Answer {
-    let mut slots = [[Some(start.given(1))], [Some(start.given(2))]];
-    came(Grid::from_arrays(&start.heap, start.order, &mut slots))
+    came(Grid::from_arrays(heap, order, &mut slots))
 }
 
 // Of a view of the board through each symmetry, or, in the other order than that of the board, of its last column.
@@ -197,7 +212,7 @@ fn too_many(start: &Start) -> Answer {
     let made = match start.case {
         0 => Board::new(heap, usize::MAX, 2),
         1 => Board::init_with_order(heap, 2, usize::MAX, order, start.given(1)),
-        2 => Board::from_fn(heap, usize::MAX, usize::MAX, |_| start.cell(1)),
+        2 => of_cells(start, "Grid::from_fn", (usize::MAX, usize::MAX)),
         3 => Board::with_capacity(heap, usize::MAX, 3),
         _ => Board::init(heap, usize::MAX, 2, start.given(1)),
     };
@@ -216,7 +231,7 @@ fn none_or_moved<'a>(start: &'a Start) -> Result<Answer, AllocError> {
         0 => Board::new_with_order(heap, 0, 3, order),
         1 => Board::init_with_order(heap, 3, 0, order, start.given(1)),
         2 => Board::init(heap, 0, 3, start.given(1)),
-        3 => Board::from_fn(heap, 3, 0, |_| start.cell(1)),
+        3 => of_cells(start, "Grid::from_fn", (3, 0)),
         4 => Board::with_capacity(heap, 3, 0),
         _ => return Ok(came(Board::try_from((line, start.size.1)))),
     };
@@ -229,7 +244,6 @@ fn none_or_moved<'a>(start: &'a Start) -> Result<Answer, AllocError> {
 pub fn call<'a>(start: &'a Start, board: &mut Board<'a>, name: &str) -> Result<Answer, AllocError> {
     start.ready();
     match name {
-        "Grid::from_arrays" if start.case == 1 => Ok(column_from_arrays(start)),
         "Grid::from_arrays" => Ok(from_arrays(start)),
         "Grid::from_view" => Ok(from_view(start, &board.view())),
         "Grid::try_from of a vector lent" => Ok(of_vector(start, board)),

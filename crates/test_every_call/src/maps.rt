@@ -83,7 +83,7 @@ fn positions<'a>(start: &'a Start, board: &Board<'a>) -> Answer {
     let cells = start.size.0.wrapping_mul(start.size.1) as u64;
     came(board.positions(&start.heap, |cell| {
         start.called();
-        start.visited_by_rows(cell.value());
+        start.visited(Order::RowMajor, cell.value());
         match start.case {
             0 => true,
             1 => false,
@@ -116,7 +116,7 @@ pub fn call<'a>(start: &'a Start, board: &mut Board<'a>, name: &str) -> Result<A
         "Grid::map_indexed" => came(board.map_indexed(|_, cell| start.visit(cell.value()))),
         "Grid::try_map_indexed" => {
             both_came(board.try_map_indexed(|_, cell| {
-                start.visited(cell.value());
+                start.visited(start.order, cell.value());
                 start.try_cell(cell.value())
             }))
         }

@@ -34,15 +34,6 @@ fn starts(start: &Start) -> &'static [(usize, usize)] {
     STARTS.get(start.case.min(2)).copied().unwrap_or(&[])
 }
 
-// What a call came to, which may call its closure once for each cell.
-fn once_each(start: &Start, answer: Answer) -> Answer {
-    if start.calls.get() <= start.size.0.wrapping_mul(start.size.1) as u64 {
-        answer
-    } else {
-        Answer::Wrong
-    }
-}
-
 // The last cell, or in case 4 a position out of range.
 fn end(start: &Start) -> (usize, usize) {
     let (rows, cols) = start.size;
@@ -52,21 +43,16 @@ fn end(start: &Start) -> (usize, usize) {
     (rows.saturating_sub(1), cols.saturating_sub(1))
 }
 
-// Whether a cell is free: all are; none is; or the first and the last alone, between which no path leads on three columns.
-fn is_free(start: &Start, cell: u32) -> bool {
+// Whether a cell is free. For a path all are; none is; or the first and the last alone, between which no path leads on three
+// columns. For other searches all are, or in the last case none.
+fn is_free(start: &Start, name: &str, cell: u32) -> bool {
     start.called();
-    start.case < 2
-        || start.case == 4
-        || start.case == 3 && (cell == number((0, 0)) || cell == number(end(start)))
-}
-
-// From the first cell to the last one.
-fn path(start: &Start, board: &Numbers<'_>) -> Answer {
-    let free = |cell: &u32| is_free(start, *cell);
-    once_each(
-        start,
-        came(shortest_path(board, (0, 0), end(start), steps(start), free)),
-    )
+    match name {
+        "grid_paths::distances" | "grid_paths::cheapest" => start.case < 2,
+        "grid_paths::distances_from" => start.case < 3,
+        _ if start.case == 3 => cell == number((0, 0)) || cell == number(end(start)),
+        _ => start.case != 2,
+    }
 }
 
 // What it costs to enter a cell: its number, or in an odd case so much that two exceed `u32::MAX`.
@@ -78,12 +64,31 @@ fn cost_of(start: &Start, cell: u32) -> u32 {
     }
 }
 
-fn cheap_path(start: &Start, board: &Numbers<'_>) -> Answer {
-    let cost = |cell: &u32| is_free(start, *cell).then_some(cost_of(start, *cell));
-    once_each(
-        start,
-        came(cheapest_path(board, (0, 0), end(start), steps(start), cost)),
-    )
+// From the first cell, or from those of the case, to all cells or to the last one.
+fn searched(start: &Start, board: &Numbers<'_>, name: &str) -> Answer {
+    let free = |cell: &u32| is_free(start, name, *cell);
+    let cost = |cell: &u32| {
+        if is_free(start, name, *cell) {
+            Some(cost_of(start, *cell))
+        } else {
+            None
+        }
+    };
+    let (from, to) = ((0, 0), end(start));
+    let answer = match name {
+        "grid_paths::distances" => came(distances(board, from, steps(start), free)),
+        "grid_paths::distances_from" => {
+            came(distances_from(board, starts(start), Steps::All, free))
+        }
+        "grid_paths::cheapest" => came(cheapest(board, from, steps(start), cost)),
+        "grid_paths::shortest_path" => came(shortest_path(board, from, to, steps(start), free)),
+        _ => came(cheapest_path(board, from, to, steps(start), cost)),
+    };
+    // (it may call its closure once for each cell)
+    if start.calls.get() > start.size.0.wrapping_mul(start.size.1) as u64 {
+        return Answer::Wrong;
+    }
+    answer
 }
 
 // It goes on, stops or stays out everywhere.
@@ -98,33 +103,17 @@ fn flooded(start: &Start, board: &Numbers<'_>) -> Answer {
     }))
 }
 
-// All cells are free, or in the last case none.
-fn searched(start: &Start, board: &Numbers<'_>, name: &str) -> Answer {
-    let last = if name == "grid_paths::distances_from" {
-        3
-    } else {
-        2
-    };
-    let free = |_: &u32| {
-        start.called();
-        start.case < last
-    };
-    match name {
-        "grid_paths::distances" => came(distances(board, (0, 0), steps(start), free)),
-        "grid_paths::distances_from" => {
-            came(distances_from(board, starts(start), Steps::All, free))
-        }
-        _ => came(cheapest(board, (0, 0), steps(start), |cell| {
-            free(cell).then_some(cost_of(start, *cell))
-        })),
-    }
+// The number of each cell of a board that is one region.
+fn one() -> u32 {
+    1
 }
 
 // Fills the region of the first cell with another number, or with its own. In case 3 the region is the board; in case 4
 // there is none; in case 5 it is the board but for the last cell.
 fn filled(start: &Start, board: &mut Numbers<'_>) -> Answer {
-    if start.case == 3 || start.case == 5 {
-        board.fill_with(|| 1);
+    let is_level = start.case == 3 || start.case == 5;
+    if is_level {
+        board.fill_with(one);
     }
     if start.case == 5 {
         let (row, col) = end(start);
@@ -133,32 +122,31 @@ fn filled(start: &Start, board: &mut Numbers<'_>) -> Answer {
     let value = if start.case == 2 { 1 } else { 99 };
     let at = if start.case == 4 { start.size } else { (0, 0) };
     let answer = came(fill_region(board, at, steps(start), value));
-    let is_unchanged = if start.case == 3 || start.case == 5 {
-        board.iter().all(|cell| *cell < 3)
-    } else {
-        are_numbers(board, start.size, start.order)
-    };
-    if answer == Answer::Refused && !is_unchanged {
+    if answer != Answer::Refused {
+        return answer;
+    }
+    if !is_level && !are_numbers(board, start.size, start.order) {
         return Answer::Wrong;
     }
-    answer
-}
-
-// Each cell is a region, or in case 2 the board is one.
-fn numbered(start: &Start, board: &mut Numbers<'_>) -> Answer {
-    if start.case == 2 {
-        board.fill_with(|| 1);
+    for cell in board.iter() {
+        if is_level && *cell > 2 {
+            return Answer::Wrong;
+        }
     }
-    came(regions(board, steps(start)))
+    answer
 }
 
 pub fn call(start: &Start, name: &str) -> Result<Answer, AllocError> {
     let mut board = start.numbers()?;
     start.ready();
     Ok(match name {
-        "grid_paths::shortest_path" => path(start, &board),
-        "grid_paths::cheapest_path" => cheap_path(start, &board),
-        "grid_paths::regions" => numbered(start, &mut board),
+        "grid_paths::regions" => {
+            // (each cell is a region, or in case 2 the board is one)
+            if start.case == 2 {
+                board.fill_with(one);
+            }
+            came(regions(&board, steps(start)))
+        }
         "grid_paths::flood" => flooded(start, &board),
         "grid_paths::fill_region" => filled(start, &mut board),
         name => searched(start, &board, name),

@@ -19,20 +19,24 @@ fn sample(cell: &u32) -> u8 {
     (cell % 200) as u8
 }
 
+fn color(cell: &u32) -> [u8; 3] {
+    [sample(cell); 3]
+}
+
 fn read(start: &Start, name: &str) -> Result<Answer, AllocError> {
-    let picture = to_pgm(start.alloc, &start.numbers()?, sample)?;
+    let board = start.numbers()?;
+    if name == "grid_pnm::from_ppm" {
+        let picture = to_ppm(start.alloc, &board, color)?;
+        start.ready();
+        return Ok(came(from_ppm(&start.heap, picture.as_slice())));
+    }
+    let picture = to_pgm(start.alloc, &board, sample)?;
     start.ready();
     Ok(if name == "grid_pnm::from_pgm" {
         came(from_pgm(&start.heap, picture.as_slice()))
     } else {
         came(read_header(picture.as_slice()))
     })
-}
-
-fn color_read(start: &Start) -> Result<Answer, AllocError> {
-    let picture = to_ppm(start.alloc, &start.numbers()?, |cell| [sample(cell); 3])?;
-    start.ready();
-    Ok(came(from_ppm(&start.heap, picture.as_slice())))
 }
 
 // Pictures, gray and colored: in decimals good ones of one row and of one column, and in bytes a good one; the last sample
@@ -110,12 +114,16 @@ fn written(start: &Start, name: &str) -> Result<Answer, AllocError> {
         start.called();
         sample(cell)
     };
+    let colored = |cell: &u32| {
+        start.called();
+        color(cell)
+    };
     Ok(match name {
         "grid_pnm::to_pgm" => came(to_pgm(&start.heap, &board, gray)),
-        "grid_pnm::to_ppm" => came(to_ppm(&start.heap, &board, |cell| [gray(cell); 3])),
+        "grid_pnm::to_ppm" => came(to_ppm(&start.heap, &board, colored)),
         "grid_pnm::pgm_written_and_read" => came(pgm_written_and_read(start.alloc, &board, gray)),
         "grid_pnm::ppm_written_and_read" => {
-            came(ppm_written_and_read(start.alloc, &board, |cell| [gray(cell); 3]))
+            came(ppm_written_and_read(start.alloc, &board, colored))
         }
         "grid_pnm::enlarged" => large(start, &board),
         _ => Answer::Wrong,
@@ -127,8 +135,7 @@ pub fn call(start: &Start, name: &str) -> Result<Answer, AllocError> {
         "grid_pnm::from_pgm" | "grid_pnm::from_ppm" if start.case > 0 => {
             Ok(plain_read(start, name))
         }
-        "grid_pnm::read_header" | "grid_pnm::from_pgm" => read(start, name),
-        "grid_pnm::from_ppm" => color_read(start),
+        "grid_pnm::read_header" | "grid_pnm::from_pgm" | "grid_pnm::from_ppm" => read(start, name),
         name => written(start, name),
     }
 }

@@ -1,16 +1,10 @@
 //! What the calls start from, what they come to, and whether a board is as it was made.
-use grid::{
-    Grid, GridError, GridRefused, LineRefused, LinesRefused, Order, RunStopped, ShapeError,
-};
-use grid_csv::CsvError;
-use grid_json::{ReadError, RowsError};
-use grid_play::ScriptFault;
-use grid_pnm::PnmError;
-use grid_text::TextError;
+use grid::{Grid, GridError, GridRefused, LineRefused, LinesRefused, Order, RunStopped};
 use std::alloc::{AllocError, Allocator, Global};
 use std::cell::Cell;
 use test_support::counted::Counted;
 use test_support::fixtures::Heap;
+use test_support::fuse::Fuse;
 
 pub type Board<'a> = Grid<Counted<'a>, &'a Heap>;
 
@@ -58,12 +52,44 @@ pub struct Start {
     pub strays: Cell<u64>,
 }
 
+// The number that is written by these digits, or nothing.
+pub fn number_of(word: &str) -> Option<u32> {
+    word.parse::<u32>().ok()
+}
+
+// The length of a line that fits: as the board's, or two cells for an empty board.
+pub fn fitting(len: usize) -> usize {
+    if len == 0 { 2 } else { len }
+}
+
 // The number of the cell at a position.
 pub fn number((row, col): (usize, usize)) -> u32 {
     (row % 10 * 10 + col % 10 + 1) as u32
 }
 
 impl Start {
+    // That of a call whose requests are refused until it is made ready.
+    pub fn new(
+        alloc: Global,
+        size: (usize, usize),
+        order: Order,
+        case: usize,
+        granted: u64,
+    ) -> Start {
+        Start {
+            alloc,
+            heap: Fuse::new(alloc, 0),
+            size,
+            order,
+            case,
+            granted,
+            calls: Cell::new(0),
+            refusals: Cell::new(0),
+            last: Cell::new(0),
+            strays: Cell::new(0),
+        }
+    }
+
     // Grants all requests, to make what is handed over.
     pub fn prepare(&self) {
         self.heap.grant(u64::MAX);
@@ -91,27 +117,33 @@ impl Start {
         made
     }
 
-    // Notes that a closure is called at the cell of this number, which comes behind the last one in storage order.
-    pub fn visited(&self, number: u32) {
+    // Makes a cell of the number that this word is, which may be refused, or nothing.
+    pub fn try_number<'a>(&'a self, word: &str) -> Result<Option<Counted<'a>>, AllocError> {
+        match number_of(word) {
+            Some(number) => Ok(Some(self.try_cell(number)?)),
+            None => {
+                self.called();
+                Ok(None)
+            }
+        }
+    }
+
+    // Notes that a closure is called at the cell of this number, which comes behind the last one in this order.
+    pub fn visited(&self, order: Order, number: u32) {
         let (row, col) = (number.wrapping_sub(1) / 10, number.wrapping_sub(1) % 10);
-        self.visited_by_rows(match self.order {
+        let rank = u64::from(match order {
             Order::RowMajor => number,
             Order::ColumnMajor => col.wrapping_mul(10).wrapping_add(row).wrapping_add(1),
         });
-    }
-
-    // The same, of the next one row by row.
-    pub fn visited_by_rows(&self, number: u32) {
-        let rank = u64::from(number);
         if rank <= self.last.get() {
             self.strays.set(self.strays.get().wrapping_add(1));
         }
         self.last.set(rank);
     }
 
-    // The same, and makes a cell of this number.
+    // The same in storage order, and makes a cell of this number.
     pub fn visit<'a>(&'a self, number: u32) -> Counted<'a> {
-        self.visited(number);
+        self.visited(self.order, number);
         self.cell(number)
     }
 
@@ -153,21 +185,20 @@ impl Start {
         size: (usize, usize),
         order: Order,
     ) -> Result<Board<'a>, AllocError> {
-        let made = Grid::from_fn_with_order(
+        let board = Grid::from_fn_with_order(
             &self.heap,
             size.0,
             size.1,
             order,
             |at| Counted::new(&self.heap, number(at)),
         );
-        made.map_err(|_| AllocError)
+        made(board)
     }
 
     // The numbers of the board.
     pub fn numbers<'a>(&'a self) -> Result<Numbers<'a>, AllocError> {
         let (rows, cols) = self.size;
-        let made = Grid::from_fn_with_order(&self.heap, rows, cols, self.order, |at| number(at));
-        made.map_err(|_| AllocError)
+        made(Grid::from_fn_with_order(&self.heap, rows, cols, self.order, number))
     }
 }
 
@@ -207,92 +238,47 @@ pub fn are_numbers(board: &Numbers<'_>, (rows, cols): (usize, usize), order: Ord
     board.size() == (rows, cols) && board.order() == order
 }
 
-// An error that may be a failed allocation.
-pub trait Fault: Drop {
-    fn is_memory(&self) -> bool;
-}
-
-impl Fault for AllocError {
-    fn is_memory(&self) -> bool {
-        true
-    }
-}
-
-impl Fault for GridError {
-    fn is_memory(&self) -> bool {
-        *self == GridError::Memory
-    }
-}
-
-impl Fault for ShapeError {
-    fn is_memory(&self) -> bool {
-        *self == ShapeError::Memory
-    }
-}
-
-impl Fault for TextError {
-    fn is_memory(&self) -> bool {
-        *self == TextError::Memory
-    }
-}
-
-impl Fault for CsvError {
-    fn is_memory(&self) -> bool {
-        *self == CsvError::Memory
-    }
-}
-
-impl Fault for PnmError {
-    fn is_memory(&self) -> bool {
-        *self == PnmError::Memory
-    }
-}
-
-impl Fault for ReadError {
-    fn is_memory(&self) -> bool {
-        *self == ReadError::Memory
-    }
-}
-
-impl Fault for RowsError {
-    fn is_memory(&self) -> bool {
-        *self == RowsError::Memory
-    }
-}
-
-impl Fault for ScriptFault {
-    fn is_memory(&self) -> bool {
-        *self == ScriptFault::Memory
-    }
-}
-
-impl<T: Drop, A: Allocator> Fault for RunStopped<T, A> {
-    fn is_memory(&self) -> bool {
-        self.done == self.replies.len()
-    }
-}
-
-// What an outcome is: nothing but a failed allocation may refuse it.
-pub fn came<T: Drop, E: Fault>(outcome: Result<T, E>) -> Answer {
+// What was made, where nothing but memory may be wanting.
+pub fn made<T: Drop, E: Drop>(outcome: Result<T, E>) -> Result<T, AllocError> {
     match outcome {
-        Ok(_) => Answer::Done,
-        Err(fault) => came_of(&fault),
+        Ok(made) => Ok(made),
+        Err(_) => Err(AllocError),
     }
 }
 
-pub fn came_of<E: Fault>(fault: &E) -> Answer {
-    if fault.is_memory() {
+// What a fault is: nothing but a failed allocation may refuse a call.
+pub fn came_of<E: PartialEq + From<AllocError> + Drop>(fault: E) -> Answer {
+    if fault == E::from(AllocError) {
         Answer::Refused
     } else {
         Answer::Wrong
     }
 }
 
+// What an outcome is.
+pub fn came<T: Drop, E: PartialEq + From<AllocError> + Drop>(outcome: Result<T, E>) -> Answer {
+    match outcome {
+        Ok(_) => Answer::Done,
+        Err(fault) => came_of(fault),
+    }
+}
+
 // That of a call whose closure may be refused.
-pub fn both_came<T: Drop, E: Fault>(outcome: Result<Result<T, AllocError>, E>) -> Answer {
+pub fn both_came<T: Drop, E: PartialEq + From<AllocError> + Drop>(
+    outcome: Result<Result<T, AllocError>, E>,
+) -> Answer {
     match outcome {
         Ok(inner) => came(inner),
-        Err(fault) => came_of(&fault),
+        Err(fault) => came_of(fault),
+    }
+}
+
+// That of a run, which has a reply of each command that it did.
+pub fn run_came<T: Drop, U: Drop, A: Allocator>(outcome: Result<T, RunStopped<U, A>>) -> Answer {
+    match outcome {
+        Ok(_) => Answer::Done,
+        Err(stopped) if stopped.done == stopped.replies.len() => came_of(GridError::from(stopped)),
+        Err(_) => Answer::Wrong,
     }
 }
 
@@ -303,7 +289,7 @@ pub fn line_came<'a>(
 ) -> Answer {
     match outcome {
         Ok(()) => Answer::Done,
-        Err(refused) if is_line(&refused.line, len) => came_of(&GridError::from(refused)),
+        Err(refused) if is_line(&refused.line, len) => came_of(GridError::from(refused)),
         Err(_) => Answer::Wrong,
     }
 }
@@ -323,7 +309,7 @@ pub fn lines_came<'a>(
                 }
             }
             if refused.lines.len() == count {
-                came_of(&GridError::from(refused))
+                came_of(GridError::from(refused))
             } else {
                 Answer::Wrong
             }
@@ -340,7 +326,7 @@ pub fn board_came<'a>(
     match outcome {
         Ok(()) => Answer::Done,
         Err(refused) if is_board(&refused.grid, size, order) => {
-            came_of(&GridError::from(refused))
+            came_of(GridError::from(refused))
         }
         Err(_) => Answer::Wrong,
     }

@@ -1,7 +1,7 @@
 //! Boards as texts, of characters and of words.
-use crate::state::{Answer, Board, Call, Numbers, Start, came};
+use crate::state::{Answer, Board, Call, Numbers, Start, came, number_of};
 use grid_text::laws::{numbers_written_and_read, written_and_read};
-use grid_text::{from_text, from_words, to_text, to_words, try_from_words};
+use grid_text::{TextError, from_text, from_words, to_text, to_words, try_from_words};
 use std::alloc::AllocError;
 
 pub const CALLS: [Call; 8] = [
@@ -15,8 +15,11 @@ pub const CALLS: [Call; 8] = [
     Call("grid_text::numbers_written_and_read", 1, None, None),
 ];
 
-// Characters of one, four, two and three bytes.
-const LETTERS: [char; 4] = ['x', '🦀', 'é', '€'];
+// Characters of one, four, two and three bytes, and a digit.
+const LETTERS: [char; 5] = ['x', '🦀', 'é', '€', '7'];
+
+// The case of the digit, which `large` reads.
+pub const DIGIT: usize = 4;
 
 fn letter(start: &Start) -> char {
     LETTERS.get(start.case).copied().unwrap_or('x')
@@ -31,14 +34,27 @@ fn ended<'t>(start: &Start, text: &'t str) -> &'t str {
     }
 }
 
-fn letters_read<'a>(start: &'a Start, text: &str) -> Answer {
-    came(from_text(&start.heap, text, |found| {
+// Reads the characters of the case.
+pub fn letters_read<'a>(start: &'a Start, text: &str) -> Result<Board<'a>, TextError> {
+    from_text(&start.heap, text, |found| {
+        start.called();
         if found == letter(start) {
-            Some(start.cell(1))
+            Some(start.given(1))
         } else {
             None
         }
-    }))
+    })
+}
+
+// Reads words by the call of this name.
+pub fn numbers_read<'a>(start: &'a Start, name: &str, text: &str) -> Result<Board<'a>, TextError> {
+    if name == "grid_text::try_from_words" {
+        return try_from_words(&start.heap, text, |word| start.try_number(word));
+    }
+    from_words(&start.heap, text, |word| match number_of(word) {
+        Some(number) => Some(start.cell(number)),
+        None => None,
+    })
 }
 
 // Two lines without characters, or of a blank and a tab.
@@ -48,30 +64,9 @@ fn blank_read<'a>(start: &'a Start, name: &str) -> Answer {
     }
     start.ready();
     match name {
-        "grid_text::from_text" => letters_read(start, "\n\n"),
-        name => numbers_read(start, name, " \n\t\n"),
+        "grid_text::from_text" => came(letters_read(start, "\n\n")),
+        name => came(numbers_read(start, name, " \n\t\n")),
     }
-}
-
-fn read<'a>(start: &'a Start) -> Result<Answer, AllocError> {
-    let text = to_text(start.alloc, &start.numbers()?, |_| letter(start))?;
-    start.ready();
-    Ok(letters_read(start, ended(start, text.as_str())))
-}
-
-fn number_of(word: &str) -> Option<u32> {
-    word.parse::<u32>().ok()
-}
-
-fn numbers_read<'a>(start: &'a Start, name: &str, text: &str) -> Answer {
-    if name == "grid_text::from_words" {
-        return came(from_words(&start.heap, text, |word| {
-            number_of(word).map(|number| start.cell(number))
-        }));
-    }
-    came(try_from_words(&start.heap, text, |word| {
-        Ok(Some(start.try_cell(number_of(word).unwrap_or(0))?))
-    }))
 }
 
 fn words_read<'a>(start: &'a Start, name: &str) -> Result<Answer, AllocError> {
@@ -86,7 +81,7 @@ fn words_read<'a>(start: &'a Start, name: &str) -> Result<Answer, AllocError> {
     }
     let text = ended(start, tabbed.as_str());
     start.ready();
-    Ok(numbers_read(start, name, text))
+    Ok(came(numbers_read(start, name, text)))
 }
 
 // The largest numbers as words, or the least ones.
@@ -102,39 +97,43 @@ fn extremes_written<'a>(start: &'a Start) -> Result<Answer, AllocError> {
     Ok(came(to_words(start.alloc, &low)))
 }
 
-fn written<'a>(start: &'a Start, board: &Numbers<'a>, name: &str) -> Answer {
+// Reads each character as this number.
+fn one(_: char) -> Option<u32> {
+    Some(1)
+}
+
+fn written<'a>(start: &'a Start, board: &Numbers<'a>, name: &str) -> Result<Answer, AllocError> {
     let (alloc, heap) = (start.alloc, &start.heap);
     let put = |_: &u32| letter(start);
-    match name {
+    Ok(match name {
         "Grid::pretty" if start.case == 0 => came(board.pretty(heap, None)),
         "Grid::pretty" => came(board.pretty(heap, Some(start.case.wrapping_sub(1)))),
         "grid_text::to_text" => came(to_text(alloc, board, put)),
         "grid_text::to_words" => came(to_words(alloc, board)),
-        "grid_text::written_and_read" => came(written_and_read(alloc, board, put, |_| Some(1))),
+        "grid_text::from_text" => {
+            let text = to_text(alloc, board, put)?;
+            came(letters_read(start, ended(start, text.as_str())))
+        }
+        "grid_text::written_and_read" => came(written_and_read(alloc, board, put, one)),
         "grid_text::numbers_written_and_read" => {
             came(numbers_written_and_read(alloc, board, number_of))
         }
         _ => Answer::Wrong,
-    }
+    })
 }
 
-pub fn call<'a>(
-    start: &'a Start,
-    _board: &mut Board<'a>,
-    name: &str,
-) -> Result<Answer, AllocError> {
+pub fn call(start: &Start, name: &str) -> Result<Answer, AllocError> {
     match name {
         "grid_text::from_text" if start.case == 2 => Ok(blank_read(start, name)),
         "grid_text::from_words" | "grid_text::try_from_words" if start.case == 3 => {
             Ok(blank_read(start, name))
         }
-        "grid_text::from_text" => read(start),
         "grid_text::from_words" | "grid_text::try_from_words" => words_read(start, name),
         "grid_text::to_words" if start.case > 0 => extremes_written(start),
         name => {
             let board = start.numbers()?;
             start.ready();
-            Ok(written(start, &board, name))
+            written(start, &board, name)
         }
     }
 }

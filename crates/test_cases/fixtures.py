@@ -1,5 +1,6 @@
 #!/usr/bin/env python3
-"""Makes data/, stdin and stdout by other programs: netpbm 11, Python's csv and json, and LibreOffice Calc 7, if there is one.
+"""Makes data/, and writes the cases of the section `files` of stdin, by other programs: netpbm 11, Python's csv and json, and
+LibreOffice Calc 7, if there is one.
 
     fixtures.py           in the folder of the crate
 
@@ -16,7 +17,7 @@ import shutil
 import subprocess
 import zipfile
 
-LINES, OUT = [], []
+OUT = []
 
 
 def run(words, given=b""):
@@ -30,7 +31,6 @@ def keep(name, content):
 
 
 def say(line, *said):
-    LINES.append(line)
     OUT.extend([f"== {line}", *said])
 
 
@@ -335,6 +335,4 @@ os.makedirs("data", exist_ok=True)
 pictures()
 sheets()
 texts()
-for name, lines in ("stdin", LINES), ("stdout", OUT):
-    with open(name, "w", encoding="utf-8", newline="") as file:
-        file.write("".join(line + "\n" for line in lines))
+print(*OUT, sep="\n")

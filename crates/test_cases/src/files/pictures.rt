@@ -4,7 +4,19 @@ use grid::{Grid, GridError};
 use grid_csv::to_csv;
 use grid_pnm::laws::{pgm_written_and_read, ppm_written_and_read};
 use grid_pnm::{enlarged, from_pgm, from_ppm, read_header, to_pgm, to_ppm};
-use std::alloc::Global;
+use std::alloc::{AllocError, Global};
+
+fn same<T: Copy>(cell: &T) -> T {
+    *cell
+}
+
+fn put_gray(cell: &u8, text: &mut String) -> Result<(), AllocError> {
+    write!(text, "{cell}")
+}
+
+fn put_color([red, green, blue]: &[u8; 3], text: &mut String) -> Result<(), AllocError> {
+    write!(text, "{red} {green} {blue}")
+}
 
 // The size and the white of a picture, and its rows.
 fn told(alloc: Global, bytes: &[u8], size: (usize, usize), rows: String) -> Result<String> {
@@ -21,10 +33,10 @@ pub fn gray(alloc: Global, bytes: &[u8]) -> Result<String> {
         Ok(grid) => grid,
         Err(fault) => return Ok(format!(in alloc; "{fault}\n")?),
     };
-    if pgm_written_and_read(alloc, &grid, |cell| *cell)? != grid {
+    if pgm_written_and_read(alloc, &grid, same)? != grid {
         bail!("the rows are not read back");
     }
-    let rows = to_csv(alloc, &grid, |cell, text| write!(text, "{cell}"))?;
+    let rows = to_csv(alloc, &grid, put_gray)?;
     told(alloc, bytes, grid.size(), rows)
 }
 
@@ -34,13 +46,10 @@ pub fn colored(alloc: Global, bytes: &[u8]) -> Result<String> {
         Ok(grid) => grid,
         Err(fault) => return Ok(format!(in alloc; "{fault}\n")?),
     };
-    if ppm_written_and_read(alloc, &grid, |cell| *cell)? != grid {
+    if ppm_written_and_read(alloc, &grid, same)? != grid {
         bail!("the rows are not read back");
     }
-    let rows = to_csv(alloc, &grid, |cell, text| {
-        let [red, green, blue] = *cell;
-        write!(text, "{red} {green} {blue}")
-    })?;
+    let rows = to_csv(alloc, &grid, put_color)?;
     told(alloc, bytes, grid.size(), rows)
 }
 
@@ -78,13 +87,13 @@ pub fn gray_turned(alloc: Global, call: &str, bytes: &[u8]) -> Result<Vec<u8>> {
         "cut" => cut(board)?,
         _ => turned(alloc, call, board)?,
     };
-    Ok(to_pgm(alloc, &grid, |cell| *cell)?)
+    Ok(to_pgm(alloc, &grid, same)?)
 }
 
 /// Returns the colored picture that a call makes of one.
 pub fn colored_turned(alloc: Global, call: &str, bytes: &[u8]) -> Result<Vec<u8>> {
     let grid = turned(alloc, call, from_ppm(alloc, bytes)?)?;
-    Ok(to_ppm(alloc, &grid, |cell| *cell)?)
+    Ok(to_ppm(alloc, &grid, same)?)
 }
 
 /// Returns what is wrong with a gray picture enlarged past what a board can be.

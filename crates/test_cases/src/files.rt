@@ -1,10 +1,9 @@
-//! Reads pictures and sheets that other programs wrote, and prints what they are: the rows, or what is wrong. Or makes what
-//! another program made of the same file, and says whether the bytes are the same.
+//! Reads pictures and sheets that other programs wrote, and tells what they are: the rows, or what is wrong. Or makes what
+//! another program made of the same file, and tells whether the bytes are the same.
 //!
-//! A line of standard input is a call and the name of a file, or of two, of which the call makes the second of the first, or
-//! a short text as a string of JSON, each character a byte. `fixtures.py` makes the files, the lines and what is to be
-//! printed by netpbm, Python and LibreOffice Calc; what the short texts are was found by hand.
-#![tactic(auto)]
+//! A case is a line `== CALL NAME` and what is told. Behind the call is the name of a file, or of two, of which it makes the
+//! second of the first, or a short text as a string of JSON, each character a byte. `fixtures.py` makes the files and the
+//! cases by netpbm, Python and LibreOffice Calc; what the short texts are was found by hand.
 
 mod numbers;
 mod pictures;
@@ -13,9 +12,8 @@ mod sheets;
 use anyhow::Result;
 use serde_json::Value;
 use std::alloc::Global;
-use std::process::ExitCode;
+use std::fs;
 use std::rt::Files;
-use std::{fs, io};
 
 // What a file is.
 fn told(alloc: Global, call: &str, bytes: &[u8]) -> Result<String> {
@@ -58,6 +56,7 @@ fn bytes_of(alloc: Global, text: &str) -> Result<Vec<u8>> {
     Ok(bytes)
 }
 
+// What is told of a line.
 fn answer<R: Files + AllocGlobal>(rt: &R, line: &str) -> Result<String> {
     let alloc = rt.alloc();
     let (call, names) = line.split_once(" ").unwrap_or((line, ""));
@@ -79,21 +78,8 @@ fn answer<R: Files + AllocGlobal>(rt: &R, line: &str) -> Result<String> {
     Ok(String::from_str(alloc, said)?)
 }
 
-fn run<R: Input + Print + Files + AllocGlobal>(rt: &R) -> Result<()> {
-    let text = io::read_to_string(rt.alloc(), rt.reader())?;
-    for line in text.lines() {
-        let answer = answer(rt, line)?;
-        print!(rt; "== {line}\n{answer}")?;
-    }
-    Ok(())
-}
-
-fn main(rt: HostRuntime) -> ExitCode {
-    match run(&rt) {
-        Ok(()) => ExitCode::SUCCESS,
-        Err(error) => {
-            let _ = eprintln!(rt; "{error}");
-            ExitCode::FAILURE
-        }
-    }
+/// Returns whether what is told of a case is as wanted.
+pub fn holds<R: Files + AllocGlobal>(rt: &R, case: &str) -> Result<bool> {
+    let (line, wanted) = case.split_once("\n").unwrap_or((case, ""));
+    Ok(answer(rt, line)?.as_str() == wanted)
 }
