@@ -1,4 +1,4 @@
-use Rattle.std.proofs.Common.{sym, arith}
+use Rattle.std.proofs.Common.{sym, arith, rules}
 use Rattle.grid_view.proofs.SeenLemmas.{seen_rows, seen_cols, past_rows, past_cols}
 use Rattle.grid_view.proofs.view.GridView.get.Goals as goal
 use Rattle.grid_view.proofs.view.GridView.get.Goals.{else-row-self-via-then-row-self+else-col-self, else-row-self-via-else-row-self}
@@ -16,3 +16,6 @@ returns-else-row-self-clause-cell g c =
       | else-row-self-via-then-row-self+else-col-self w ↦ sym (past_cols _ _ _ c.self.inside.fits _ _ w.if-row-self.true w.if-col-self.false)
       | else-row-self-via-else-row-self w ↦ sym (past_rows _ _ _ c.self.inside.fits _ _ w.if-row-self.false)
     ])
+
+pub returns-then-col-self-clause-cell : goal.returns-then-col-self-clause-cell
+returns-then-col-self-clause-cell = search rules
