@@ -1,4 +1,4 @@
-use Rattle.std.proofs.Common.{◌∙◌, subst}
+use Rattle.std.proofs.Common.{◌∙◌, subst, rules}
 use Rattle.grid_base.proofs.GroupLemmas.{then_is, IsThen-product, product_identity, identity_product}
 use Rattle.grid_base.specs.Symmetry.{IsThen}
 use Rattle.grid_base.specs.declared.words.Symmetry.TheVariants.{Identity}
@@ -14,3 +14,6 @@ pub returns-clause-law : goal.returns-clause-law
 returns-clause-law c =
     let s = c.args.symmetry in
     (subst (λ v. IsThen Identity s v) (identity_product s) (IsThen-product Identity s), subst (λ v. IsThen s Identity v) (product_identity s) (IsThen-product s Identity))
+
+pub returns-clause-before : goal.returns-clause-before
+returns-clause-before = search rules
