@@ -388,6 +388,7 @@ impl<T, A: Allocator> Grid<T, A> {
     }
 
     // The cells round a cell, by which steps.
+    #[inline(always)]
     fn open_round(&self, at: (usize, usize), kind: Steps) -> Neighbors<'_, T>
         ensures gives { GivesNear (neighbors_of kind self.now.rows at.0 at.1) result }
         ensures count { length result ≤ step_count kind }
@@ -398,6 +399,7 @@ impl<T, A: Allocator> Grid<T, A> {
     }
 
     // The same, where edges meet.
+    #[inline(always)]
     fn joined_round(&self, at: (usize, usize), kind: Steps) -> WrappedNeighbors<'_, T>
         ensures gives { GivesNear (wrapped_neighbors_of kind self.now.rows at.0 at.1) result }
         ensures count { InRange self.now.rows at.0 at.1 → length result ≡ step_count kind }
