@@ -1,0 +1,5 @@
+use Rattle.std.proofs.Common.{rules}
+use Rattle.grid_commands.proofs.error.GridErrorFromLinesRefused.from.Goals as goal
+
+pub returns : goal.returns
+returns = search rules
