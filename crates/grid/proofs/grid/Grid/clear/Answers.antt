@@ -7,3 +7,6 @@ returns-clause-rows g c = table_of-none _ _
 
 pub returns-clause-order : goal.returns-clause-order
 returns-clause-order g c = search rules
+
+pub invariant_of-self-inside : goal.invariant_of-self-inside
+invariant_of-self-inside = search rules

@@ -1,4 +1,4 @@
-use Rattle.std.proofs.Common.{◌<◌, [], Some, sym, ◌∙◌, ap, arith}
+use Rattle.std.proofs.Common.{◌<◌, [], Some, sym, ◌∙◌, ap, arith, rules}
 use Rattle.std.proofs.lemmas.Option.{slice_get-get_or}
 use Rattle.grid_base.specs.Table.{row_count}
 use Rattle.grid.proofs.EditViewLemmas.{storage-one}
@@ -10,3 +10,6 @@ returns-clause-line g c =
     let within : c.args.at < row_count old.rows = omega (arith, c.rows.ensures.rows, c.if-at-rows.false) in
     slice_get-get_or old.rows c.args.at [] within
     ∙ ap Some (sym (c.in_ok-line.ensures.cells ∙ storage-one old.order old.rows c.args.at old.table within))
+
+pub returns-clause-rows : goal.returns-clause-rows
+returns-clause-rows = search rules

@@ -1,4 +1,4 @@
-use Rattle.std.proofs.Common.{◌≡◌, ◌<◌, ◌-◌, ◌∙◌, sym, ap, arith, length, take, drop, length-drop}
+use Rattle.std.proofs.Common.{◌≡◌, ◌<◌, ◌-◌, ◌∙◌, sym, ap, arith, length, take, drop, length-drop, rules}
 use Rattle.grid_base.specs.Table.{row_count, col_count}
 use Rattle.grid_base.specs.Order.{storage}
 use Rattle.grid.specs.Edits.{without_rows}
@@ -37,3 +37,6 @@ pub returns-clause-tail_cols : goal.returns-clause-tail_cols
 returns-clause-tail_cols g c some =
     let left : 0 < row_count (drop c.args.at c.args.self.now.rows) = omega (arith, some, length-drop c.args.at c.args.self.now.rows) in
     ap col_count (returns-clause-tail g c) ∙ cols-tail c.args.self.now.rows c.args.self.now.table c.args.at c.requires.point left
+
+pub returns-clause-tail_order : goal.returns-clause-tail_order
+returns-clause-tail_order = search rules

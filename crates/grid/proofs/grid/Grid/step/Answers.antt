@@ -1,4 +1,4 @@
-use Rattle.std.proofs.Common.{◌≡◌, ◌≤◌, sym, ◌∙◌, ap, arith}
+use Rattle.std.proofs.Common.{◌≡◌, ◌≤◌, sym, ◌∙◌, ap, arith, rules}
 use Rattle.grid_base.specs.Table.{row_count, col_count}
 use Rattle.grid_base.specs.Symmetry.{half, price}
 use Rattle.grid_base.proofs.PriceLemmas.{price_within_half}
@@ -28,3 +28,6 @@ returns-in-Lines-Col-default-clause-stepped g c =
     let says : command_value c.args.command ≡ lines Col (edit_value w.edit) =
     sym c.request_of.ensures ∙ (ap request_value w.is ∙ ap (λ a. lines a (edit_value w.edit)) w.field-0-is) in
     rw says (stepped_edit c.edit_cols.ensures.edited)
+
+pub returns-in-Apply-clause-counted : goal.returns-in-Apply-clause-counted
+returns-in-Apply-clause-counted = search rules

@@ -16,3 +16,6 @@ returns-then-eq g c =
     c.eq-then-eq.ensures
     ∙ ((λ k. pointwise E (c.flatten.ensures k) ((c.flatten-then-eq.ensures ∙ ap (λ o. storage o b.rows) (sym order)) k))
     ∙ same_stored E a.order a.rows b.rows a.table b.table rows cols)
+
+pub returns : goal.returns
+returns = search rules

@@ -1,0 +1,5 @@
+use Rattle.std.proofs.Common.{rules}
+use Rattle.grid.proofs.convert.GridTryFromTuple2RefVecUsize.try_from.Goals as goal
+
+pub returns : goal.returns
+returns = search rules
