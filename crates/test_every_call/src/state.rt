@@ -277,8 +277,11 @@ pub fn both_came<T: Drop, E: PartialEq + From<AllocError> + Drop>(
 pub fn run_came<T: Drop, U: Drop, A: Allocator>(outcome: Result<T, RunStopped<U, A>>) -> Answer {
     match outcome {
         Ok(_) => Answer::Done,
-        Err(stopped) if stopped.done == stopped.replies.len() => came_of(GridError::from(stopped)),
-        Err(_) => Answer::Wrong,
+        Err(stopped) => {
+            let is_told = stopped.done == stopped.replies.len();
+            let came = came_of(GridError::from(stopped));
+            if is_told { came } else { Answer::Wrong }
+        }
     }
 }
 
