@@ -111,13 +111,19 @@ line_forms =
     ∷ (codes "insert_cols", with_index_and_lines (λ i ls. lines Col (insert_all i ls)))
     ∷ []
 
--- the names that numbers follow
-unfoldable pub number_forms : List (List ℕ × Form)
-number_forms =
+-- the names of commands on cells
+unfoldable pub cell_forms : List (List ℕ × Form)
+cell_forms =
     (codes "get", with_two get)
     ∷ (codes "set", with_two_and_cell set_cell)
     ∷ (codes "swap", with_two_pairs swap_cells)
-    ∷ (codes "row", with_index (λ i. lines Row (read i)))
+    ∷ (codes "fill", with_cell fill)
+    ∷ []
+
+-- the names that the index of a line follows
+unfoldable pub index_forms : List (List ℕ × Form)
+index_forms =
+    (codes "row", with_index (λ i. lines Row (read i)))
     ∷ (codes "col", with_index (λ i. lines Col (read i)))
     ∷ (codes "remove_row", with_index (λ i. lines Row (remove_at i)))
     ∷ (codes "remove_col", with_index (λ i. lines Col (remove_at i)))
@@ -125,11 +131,15 @@ number_forms =
     ∷ (codes "delete_col", with_index (λ i. lines Col (delete_at i)))
     ∷ (codes "delete_rows", with_two (λ i n. lines Row (delete_range i n)))
     ∷ (codes "delete_cols", with_two (λ i n. lines Col (delete_range i n)))
-    ∷ (codes "expand_rows", with_index (λ n. lines Row (expand n)))
+    ∷ []
+
+-- the names that a number of lines follows
+unfoldable pub count_forms : List (List ℕ × Form)
+count_forms =
+    (codes "expand_rows", with_index (λ n. lines Row (expand n)))
     ∷ (codes "expand_cols", with_index (λ n. lines Col (expand n)))
     ∷ (codes "prepend_rows", with_index (λ n. lines Row (prepend n)))
     ∷ (codes "prepend_cols", with_index (λ n. lines Col (prepend n)))
-    ∷ (codes "fill", with_cell fill)
     ∷ []
 
 -- the names that stand alone
@@ -151,7 +161,7 @@ bare_forms =
 
 -- the names, as docs/SCRIPTS.md has them
 abbrev pub forms : List (List ℕ × Form)
-forms = line_forms ++ (number_forms ++ bare_forms)
+forms = line_forms ++ (cell_forms ++ (index_forms ++ (count_forms ++ bare_forms)))
 
 -- the form of the first entry of this name
 abbrev pub form_among : List (List ℕ × Form) → List ℕ → Option Form

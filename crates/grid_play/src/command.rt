@@ -4,7 +4,7 @@ ghost use Rattle.std.specs.Option.{option_map};
 ghost use Rattle.grid_base.specs.Gather.{items_of_each};
 ghost use Rattle.grid_commands.specs.Command.{command_value};
 ghost use Rattle.text_lines.specs.Lines.{words_of};
-ghost use Rattle.grid_play.specs.Commands.{alone, bare_forms, number_forms, form_among, command_among, command_of, with_no_word, one_cell, one_index, two_indices, position_and_cell, two_positions, index_and_line, index_and_lines, lines_of_length};
+ghost use Rattle.grid_play.specs.Commands.{alone, bare_forms, cell_forms, count_forms, index_forms, form_among, command_among, command_of, with_no_word, one_cell, one_index, two_indices, position_and_cell, two_positions, index_and_line, index_and_lines, lines_of_length};
 
 use crate::script::parse_cells;
 use grid::{Command, Symmetry, can_cut};
@@ -50,15 +50,16 @@ pub(crate) fn parse_command<A: Allocator + Clone>(
             Some(put) => Ok(Some(Command::InsertCols(put.0, put.1))),
             None => Ok(None),
         },
-        _ => Ok(number_command(name, words)),
+        _ => Ok(cell_command(name, words)),
     }
 }
 
-// A command of numbers, or of a name alone.
-#[tactic(auto, unfolding(crate::specs::Commands::number_forms))]
-fn number_command<A: Allocator>(name: &str, words: Words<'_>) -> Option<Command<i64, A>>
-    ensures { option_map command_value result
-        ≡ command_among (number_forms ++ bare_forms) name.now (words_of words.entry.0.now) }
+// A command on cells, or one that `index_command` reads.
+#[tactic(auto, unfolding(crate::specs::Commands::cell_forms))]
+fn cell_command<A: Allocator>(name: &str, words: Words<'_>) -> Option<Command<i64, A>>
+    ensures { option_map command_value result ≡ command_among
+        (cell_forms ++ (index_forms ++ (count_forms ++ bare_forms)))
+        name.now (words_of words.entry.0.now) }
 {
     match name {
         "get" => {
@@ -73,6 +74,18 @@ fn number_command<A: Allocator>(name: &str, words: Words<'_>) -> Option<Command<
             let positions = two_positions(words)?;
             Some(Command::Swap(positions.0, positions.1))
         }
+        "fill" => Some(Command::Fill(one_cell(words)?)),
+        _ => index_command(name, words),
+    }
+}
+
+// A command on a line of some index or on a range of lines, or one that `count_command` reads.
+#[tactic(auto, unfolding(crate::specs::Commands::index_forms))]
+fn index_command<A: Allocator>(name: &str, words: Words<'_>) -> Option<Command<i64, A>>
+    ensures { option_map command_value result ≡ command_among
+        (index_forms ++ (count_forms ++ bare_forms)) name.now (words_of words.entry.0.now) }
+{
+    match name {
         "row" => Some(Command::Row(one_index(words)?)),
         "col" => Some(Command::Col(one_index(words)?)),
         "remove_row" => Some(Command::RemoveRow(one_index(words)?)),
@@ -87,11 +100,21 @@ fn number_command<A: Allocator>(name: &str, words: Words<'_>) -> Option<Command<
             let range = two_indices(words)?;
             Some(Command::DeleteCols(range.0, range.1))
         }
+        _ => count_command(name, words),
+    }
+}
+
+// A command that adds a number of lines, or a name alone.
+#[tactic(auto, unfolding(crate::specs::Commands::count_forms))]
+fn count_command<A: Allocator>(name: &str, words: Words<'_>) -> Option<Command<i64, A>>
+    ensures { option_map command_value result
+        ≡ command_among (count_forms ++ bare_forms) name.now (words_of words.entry.0.now) }
+{
+    match name {
         "expand_rows" => Some(Command::ExpandRows(one_index(words)?)),
         "expand_cols" => Some(Command::ExpandCols(one_index(words)?)),
         "prepend_rows" => Some(Command::PrependRows(one_index(words)?)),
         "prepend_cols" => Some(Command::PrependCols(one_index(words)?)),
-        "fill" => Some(Command::Fill(one_cell(words)?)),
         _ => alone(words, bare_command(name)?),
     }
 }
