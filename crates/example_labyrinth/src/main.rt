@@ -89,15 +89,21 @@ fn color(cell: &Cell) -> [u8; 3] {
     }
 }
 
-fn main(rt: HostRuntime) -> Result<()> {
-    let alloc = rt.alloc();
-    let mut maze = dug(alloc, 2463534242)?;
-    let from = farthest(&maze, (1, 1))?;
-    let to = farthest(&maze, from)?;
-    let path = shortest_path(&maze, from, to, Steps::Sides, |cell| *cell != Cell::Wall)?;
+// Marks a shortest path between the two rooms that are farthest apart.
+fn mark_path(maze: &mut Grid<Cell>) -> Result<(), AllocError> {
+    let from = farthest(maze, (1, 1))?;
+    let to = farthest(maze, from)?;
+    let path = shortest_path(maze, from, to, Steps::Sides, |cell| *cell != Cell::Wall)?;
     for at in path.iter().flatten() {
         maze.set_at(*at, Cell::Path);
     }
+    Ok(())
+}
+
+fn main(rt: HostRuntime) -> Result<()> {
+    let alloc = rt.alloc();
+    let mut maze = dug(alloc, 2463534242)?;
+    mark_path(&mut maze)?;
     let picture = to_ppm(alloc, &enlarged(alloc, &maze, 5)?, color)?;
     io::writer(&rt).write_all(picture.as_slice())?;
     Ok(())

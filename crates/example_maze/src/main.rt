@@ -48,18 +48,23 @@ fn draw(maze: &mut Grid<char>, path: &[(usize, usize)]) {
     }
 }
 
+// Draws a shortest path, and returns the number of its steps in words.
+fn solve(alloc: Global, maze: &mut Grid<char>) -> Result<String> {
+    let start = find(maze, 'S')?;
+    let goal = find(maze, 'G')?;
+    match shortest_path(maze, start, goal, Steps::Sides, |cell| *cell != '#')? {
+        Some(path) => {
+            draw(maze, path.as_slice());
+            Ok(format!(in alloc; "steps: {}", path.len().saturating_sub(1))?)
+        }
+        None => Ok(String::from_str(alloc, "no way")?),
+    }
+}
+
 // A maze with a shortest path drawn, and the number of its steps.
 fn solved(alloc: Global, text: &str) -> Result<String> {
     let mut maze = from_text(alloc, text, cell)?;
-    let start = find(&maze, 'S')?;
-    let goal = find(&maze, 'G')?;
-    let steps = match shortest_path(&maze, start, goal, Steps::Sides, |cell| *cell != '#')? {
-        Some(path) => {
-            draw(&mut maze, path.as_slice());
-            format!(in alloc; "steps: {}", path.len().saturating_sub(1))?
-        }
-        None => String::from_str(alloc, "no way")?,
-    };
+    let steps = solve(alloc, &mut maze)?;
     let drawn = to_text(alloc, &maze, |cell| *cell)?;
     Ok(format!(in alloc; "{drawn}{steps}\n")?)
 }

@@ -72,6 +72,20 @@ fn open(field: &mut Grid<Cell>, at: (usize, usize)) -> Result<(), AllocError> {
     Ok(())
 }
 
+// Makes the move of a line.
+fn play(field: &mut Grid<Cell>, line: &str) -> Result<()> {
+    match read_move(line) {
+        Some(("open", at)) => open(field, at)?,
+        Some(("flag", at)) => {
+            if let Some(cell) = field.get_mut_at(at) {
+                cell.shown = Shown::Flag;
+            }
+        }
+        _ => bail!("{line:?} is no move"),
+    }
+    Ok(())
+}
+
 fn drawn(cell: &Cell) -> char {
     match cell.shown {
         Shown::Nothing => '#',
@@ -90,15 +104,7 @@ fn main(rt: HostRuntime) -> Result<()> {
     };
     let mut field = field(alloc, map)?;
     for line in moves.lines() {
-        match read_move(line) {
-            Some(("open", at)) => open(&mut field, at)?,
-            Some(("flag", at)) => {
-                if let Some(cell) = field.get_mut_at(at) {
-                    cell.shown = Shown::Flag;
-                }
-            }
-            _ => bail!("{line:?} is no move"),
-        }
+        play(&mut field, line)?;
         println!(rt; "{line}\n{}", to_text(alloc, &field, drawn)?)?;
     }
     Ok(())

@@ -47,17 +47,20 @@ fn trim(shape: &mut Shape) {
     }
 }
 
+// The shape with one cell more.
+fn with_cell(padded: &Shape, at: (usize, usize)) -> Result<Shape> {
+    let mut larger = padded.clone()?;
+    larger.set_at(at, true);
+    trim(&mut larger);
+    Ok(larger)
+}
+
 // Adds the shapes with one cell more than a shape.
 fn grow(shape: &Shape, grown: &mut Vec<Shape>) -> Result<()> {
     let padded = padded(shape)?;
-    for ((row, col), filled) in padded.indexed_iter() {
-        if !*filled && padded.neighbors4((row, col)).any(|(_, near)| *near) {
-            let mut larger = padded.clone()?;
-            if let Some(cell) = larger.get_mut(row, col) {
-                *cell = true;
-            }
-            trim(&mut larger);
-            grown.push(larger)?;
+    for (at, filled) in padded.indexed_iter() {
+        if !*filled && padded.neighbors4(at).any(|(_, near)| *near) {
+            grown.push(with_cell(&padded, at)?)?;
         }
     }
     Ok(())
@@ -107,24 +110,32 @@ fn print_row_of_each<R: Print + AllocGlobal>(rt: &R, shapes: &[Shape], row: usiz
     Ok(())
 }
 
+fn print_all<R: Print + AllocGlobal>(rt: &R, shapes: &[Shape]) -> Result<()> {
+    println!(rt;)?;
+    for row in 0..5usize {
+        print_row_of_each(rt, shapes, row)?;
+    }
+    Ok(())
+}
+
+// Prints how many kinds these fixed shapes are, and returns the free ones.
+fn print_counts<R: Print + AllocGlobal>(rt: &R, cells: u8, fixed: &[Shape]) -> Result<Vec<Shape>> {
+    let one_sided = kinds(rt.alloc(), fixed, &rotations())?;
+    let free = kinds(rt.alloc(), one_sided.as_slice(), &Symmetry::ALL)?;
+    let counts = (free.len(), one_sided.len(), fixed.len());
+    println!(rt; "{cells:5} {:5} {:10} {:6}", counts.0, counts.1, counts.2)?;
+    Ok(free)
+}
+
 fn run<R: Print + AllocGlobal>(rt: &R) -> Result<()> {
     println!(rt; "cells  free  one-sided  fixed")?;
     let mut fixed = vec![in rt.alloc(); Grid::init(rt.alloc(), 1, 1, true)?]?;
-    let mut free = Vec::new(rt.alloc());
-    for cells in 1..=5u8 {
-        if cells > 1 {
-            fixed = next_fixed(rt.alloc(), fixed.as_slice())?;
-        }
-        let one_sided = kinds(rt.alloc(), fixed.as_slice(), &rotations())?;
-        free = kinds(rt.alloc(), one_sided.as_slice(), &Symmetry::ALL)?;
-        let counts = (free.len(), one_sided.len(), fixed.len());
-        println!(rt; "{cells:5} {:5} {:10} {:6}", counts.0, counts.1, counts.2)?;
+    let mut free = print_counts(rt, 1, fixed.as_slice())?;
+    for cells in 2..=5u8 {
+        fixed = next_fixed(rt.alloc(), fixed.as_slice())?;
+        free = print_counts(rt, cells, fixed.as_slice())?;
     }
-    println!(rt;)?;
-    for row in 0..5usize {
-        print_row_of_each(rt, free.as_slice(), row)?;
-    }
-    Ok(())
+    print_all(rt, free.as_slice())
 }
 
 fn main(rt: HostRuntime) -> Result<()> {

@@ -16,7 +16,7 @@ fn total(line: GridLineIter<'_, i64>) -> i64 {
 }
 
 // Adds a row of the totals of the columns, and then a column of those of the rows.
-fn with_totals(alloc: Global, mut sheet: Grid<i64>) -> Result<Grid<i64>> {
+fn add_totals(alloc: Global, sheet: &mut Grid<i64>) -> Result<()> {
     let below: Vec<i64> = sheet.iter_cols().map(total).collect(alloc)?;
     if !below.is_empty() && sheet.fits_row(below.len()) {
         sheet.push_row(below)?;
@@ -25,7 +25,7 @@ fn with_totals(alloc: Global, mut sheet: Grid<i64>) -> Result<Grid<i64>> {
     if !behind.is_empty() && sheet.fits_col(behind.len()) {
         sheet.push_col(behind)?;
     }
-    Ok(sheet)
+    Ok(())
 }
 
 // The last number of a row, or 0 where there is none.
@@ -37,7 +37,7 @@ fn run<R: Input + Print + AllocGlobal>(rt: &R) -> Result<()> {
     let text = io::read_to_string(rt.alloc(), rt.reader())?;
     let mut sheet = from_words(rt.alloc(), text.as_str(), |word| word.parse::<i64>().ok())?;
     sort_rows_by_key(&mut sheet, |row| Reverse(last(row)))?;
-    let sheet = with_totals(rt.alloc(), sheet)?;
+    add_totals(rt.alloc(), &mut sheet)?;
     println!(rt; "{}", sheet.pretty(rt.alloc(), None)?)?;
     Ok(())
 }

@@ -92,15 +92,21 @@ fn drawn(alloc: Global, pieces: &Grid<char>, goals: &Grid<bool>) -> Result<Strin
     to_text(alloc, &shown, |character| *character)
 }
 
+// The level after these moves, and how many stay.
+fn played(alloc: Global, level: &str, keys: &str) -> Result<String> {
+    let goals = from_text(alloc, level, goal)?;
+    let mut pieces = from_text(alloc, level, piece)?;
+    let moves = play(&mut pieces, keys, alloc)?;
+    let level = drawn(alloc, &pieces, &goals)?;
+    Ok(format!(in alloc; "{level}moves: {moves}")?)
+}
+
 fn main(rt: HostRuntime) -> Result<()> {
     let alloc = rt.alloc();
     let text = io::read_to_string(alloc, rt.reader())?;
     let Some((level, keys)) = text.split_once("--\n") else {
         bail!("there is no line --");
     };
-    let goals = from_text(alloc, level, goal)?;
-    let mut pieces = from_text(alloc, level, piece)?;
-    let moves = play(&mut pieces, keys, alloc)?;
-    println!(rt; "{}moves: {moves}", drawn(alloc, &pieces, &goals)?)?;
+    println!(rt; "{}", played(alloc, level, keys)?)?;
     Ok(())
 }

@@ -83,10 +83,7 @@ impl<'a> Ask<'a> {
 
     /// Returns a word as an order.
     pub fn order(&self, at: usize) -> Order {
-        match self.word(at) {
-            "ColumnMajor" => Order::ColumnMajor,
-            _ => Order::RowMajor,
-        }
+        order_of(self.word(at))
     }
 
     /// Returns a word as a symmetry.
@@ -98,6 +95,14 @@ impl<'a> Ask<'a> {
                 None => Symmetry::AntiTranspose,
             },
         }
+    }
+}
+
+// The order of this name.
+fn order_of(word: &str) -> Order {
+    match word {
+        "ColumnMajor" => Order::ColumnMajor,
+        _ => Order::RowMajor,
     }
 }
 
@@ -118,12 +123,8 @@ pub fn move_of(word: &str) -> Option<Move> {
 pub fn board_of(alloc: Global, line: &str) -> Result<Grid<i64>, AllocError> {
     let (order, rest) = line.split_once(" ").unwrap_or((line, ""));
     let (cols, cells) = rest.split_once(" ").unwrap_or((rest, ""));
-    let order = match order {
-        "ColumnMajor" => Order::ColumnMajor,
-        _ => Order::RowMajor,
-    };
     let cols = cols.parse::<usize>().unwrap_or(0);
-    match cut(cells_of(alloc, cells)?, cols, order) {
+    match cut(cells_of(alloc, cells)?, cols, order_of(order)) {
         Ok(board) => Ok(board),
         Err(_) => Err(AllocError),
     }

@@ -27,14 +27,24 @@ fn rows_lent(alloc: Global, rows: &Vec<Vec<i64>>, last_first: bool) -> Result<St
     told_made(alloc, Grid::try_from(&lent))
 }
 
+// The rows, lent as a list or one by one.
+fn lent(alloc: Global, call: &str, rows: &Vec<Vec<i64>>) -> Result<String, AllocError> {
+    match call {
+        "list_lent" => told_made(alloc, Grid::try_from(rows)),
+        "rows_lent" => rows_lent(alloc, rows, false),
+        "rows_lent_last_first" => rows_lent(alloc, rows, true),
+        _ => Err(AllocError),
+    }
+}
+
 /// What a conversion made.
 pub fn told(alloc: Global, ask: Ask<'_>) -> Result<String, AllocError> {
     match ask.call {
         "rows" => told_made(alloc, Grid::try_from(ask.lines(alloc)?)),
         "rows_into" => told_made::<i64, _>(alloc, ask.lines(alloc)?.try_into()),
-        "list_lent" => told_made(alloc, Grid::try_from(&ask.lines(alloc)?)),
-        "rows_lent" => rows_lent(alloc, &ask.lines(alloc)?, false),
-        "rows_lent_last_first" => rows_lent(alloc, &ask.lines(alloc)?, true),
+        "list_lent" | "rows_lent" | "rows_lent_last_first" => {
+            lent(alloc, ask.call, &ask.lines(alloc)?)
+        }
         "can_cut" => shown(alloc, can_cut(ask.number(0), ask.number(1))),
         _ => pair(alloc, ask),
     }

@@ -71,22 +71,31 @@ fn answer_alone(alloc: Global, section: &str, ask: Ask<'_>) -> Result<String, Al
     }
 }
 
+fn add_line(lines: &mut String, line: &str) -> Result<(), AllocError> {
+    lines.push_str(line)?;
+    lines.push('\n')
+}
+
 // What the calls on a board returned, a line each, and the board then.
 fn told_in_turn(
     alloc: Global,
     section: &str,
-    board: &str,
+    board: &mut Grid<i64>,
     calls: &str,
 ) -> Result<String, AllocError> {
-    let mut board = board_of(alloc, board)?;
     let mut lines = String::new(alloc);
     for call in calls.lines() {
-        lines.push_str(answer(alloc, section, &mut board, Ask::of(call))?.as_str())?;
-        lines.push('\n')?;
+        let told = answer(alloc, section, board, Ask::of(call))?;
+        add_line(&mut lines, told.as_str())?;
     }
-    lines.push_str(told_board(alloc, &board)?.as_str())?;
-    lines.push('\n')?;
+    add_line(&mut lines, told_board(alloc, board)?.as_str())?;
     Ok(lines)
+}
+
+// The same of a board that is read first.
+fn told_of(alloc: Global, section: &str, board: &str, calls: &str) -> Result<String, AllocError> {
+    let mut board = board_of(alloc, board)?;
+    told_in_turn(alloc, section, &mut board, calls)
 }
 
 // What a case told in place of what it wants, or `None` if it holds.
@@ -114,7 +123,7 @@ fn strange(alloc: Global, section: &str, case: &str) -> Result<Option<String>, A
         return Ok(Some(String::from_str(alloc, "no answer")?));
     };
     let (board, calls) = start.split_once("\n").unwrap_or((start, ""));
-    compared(alloc, told_in_turn(alloc, section, board, calls), wanted)
+    compared(alloc, told_of(alloc, section, board, calls), wanted)
 }
 
 // Counts the cases of a section that hold, and prints the others.

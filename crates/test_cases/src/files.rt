@@ -56,6 +56,13 @@ fn bytes_of(alloc: Global, text: &str) -> Result<Vec<u8>> {
     Ok(bytes)
 }
 
+// Whether a call makes one file of another.
+fn makes<R: Files + AllocGlobal>(rt: &R, call: &str, name: &str, other: &str) -> Result<bool> {
+    let bytes = fs::read(rt, name)?;
+    let made = made(rt.alloc(), call, name, bytes.as_slice())?;
+    Ok(made == fs::read(rt, other)?)
+}
+
 // What is told of a line.
 fn answer<R: Files + AllocGlobal>(rt: &R, line: &str) -> Result<String> {
     let alloc = rt.alloc();
@@ -64,13 +71,9 @@ fn answer<R: Files + AllocGlobal>(rt: &R, line: &str) -> Result<String> {
         return told(alloc, call, bytes_of(alloc, names)?.as_slice());
     }
     let Some((name, other)) = names.split_once(" ") else {
-        let bytes = fs::read(rt, names)?;
-        return told(alloc, call, bytes.as_slice());
+        return told(alloc, call, fs::read(rt, names)?.as_slice());
     };
-    let bytes = fs::read(rt, name)?;
-    let wanted = fs::read(rt, other)?;
-    let made = made(alloc, call, name, bytes.as_slice())?;
-    let said = if made == wanted {
+    let said = if makes(rt, call, name, other)? {
         "the same bytes\n"
     } else {
         "OTHER BYTES\n"

@@ -1,5 +1,5 @@
 //! A call on all small boards, with all memory and with each request refused in turn.
-use crate::state::{Answer, Board, Call, Start, is_board};
+use crate::state::{Answer, Board, Call, Start, is_board, made as made_of};
 use crate::{commands, copies, csv, edits, json, lines, makers, maps, paths, pictures, texts};
 use grid::Order;
 use std::alloc::{AllocError, Global};
@@ -54,11 +54,30 @@ fn give_room<'a>(start: &'a Start, board: &mut Board<'a>) -> Result<(), AllocErr
     if start.order == Order::RowMajor || (rows > 0 && is_refused_on(start.size)) {
         return Ok(());
     }
-    if push_row(board, start.line(cols.max(1))?).is_err() {
-        return Err(AllocError);
-    }
+    made_of(push_row(board, start.line(cols.max(1))?))?;
     board.delete_rows(rows, 1);
     Ok(())
+}
+
+fn called<'a>(
+    start: &'a Start,
+    board: &mut Board<'a>,
+    group: Group,
+    name: &str,
+) -> Result<Answer, AllocError> {
+    match group {
+        Group::Commands => commands::call(start, board, name),
+        Group::Copies => copies::call(start, board, name),
+        Group::Csv => csv::call(start, name),
+        Group::Edits => edits::call(start, board, name),
+        Group::Json => json::call(start, name),
+        Group::Lines => lines::call(start, board, name),
+        Group::Makers => makers::call(start, board, name),
+        Group::Maps => maps::call(start, board, name),
+        Group::Paths => paths::call(start, name),
+        Group::Pictures => pictures::call(start, name),
+        Group::Texts => texts::call(start, name),
+    }
 }
 
 // Makes the call on a new board, which is then dropped.
@@ -66,19 +85,7 @@ fn made(start: &Start, group: Group, name: &str) -> Result<Answer, AllocError> {
     start.prepare();
     let mut board = start.board(start.size, start.order)?;
     give_room(start, &mut board)?;
-    let answer = match group {
-        Group::Commands => commands::call(start, &mut board, name)?,
-        Group::Copies => copies::call(start, &mut board, name)?,
-        Group::Csv => csv::call(start, name)?,
-        Group::Edits => edits::call(start, &mut board, name)?,
-        Group::Json => json::call(start, name)?,
-        Group::Lines => lines::call(start, &mut board, name)?,
-        Group::Makers => makers::call(start, &mut board, name)?,
-        Group::Maps => maps::call(start, &mut board, name)?,
-        Group::Paths => paths::call(start, name)?,
-        Group::Pictures => pictures::call(start, name)?,
-        Group::Texts => texts::call(start, name)?,
-    };
+    let answer = called(start, &mut board, group, name)?;
     if answer == Answer::Refused && !is_board(&board, start.size, start.order) {
         return Ok(Answer::Wrong);
     }

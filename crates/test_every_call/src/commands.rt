@@ -215,11 +215,11 @@ fn both_of<'a>(start: &'a Start, first: Answer, other: &Board<'a>, second: Answe
 fn put_across<'a>(start: &'a Start, board: &mut Board<'a>) -> Result<Answer, AllocError> {
     let len = fitting(start.size.0);
     let line = start.line(len)?;
-    let other_line = line.clone()?;
-    let mut other = board.clone()?;
     if line.is_empty() || !board.fits_col(line.len()) {
         return Ok(Answer::Wrong);
     }
+    let other_line = line.clone()?;
+    let mut other = board.clone()?;
     start.ready();
     let (as_col, as_row) = insert_col_or_row_across(board, &mut other, 0, line, other_line);
     Ok(both_of(

@@ -19,7 +19,7 @@ fn put_color([red, green, blue]: &[u8; 3], text: &mut String) -> Result<(), Allo
 }
 
 // The size and the white of a picture, and its rows.
-fn told(alloc: Global, bytes: &[u8], size: (usize, usize), rows: String) -> Result<String> {
+fn described(alloc: Global, bytes: &[u8], size: (usize, usize), rows: &str) -> Result<String> {
     let white = read_header(bytes)?.max;
     Ok(format!(in alloc;
         "{} rows, {} columns, white is {white}\n{rows}",
@@ -27,30 +27,42 @@ fn told(alloc: Global, bytes: &[u8], size: (usize, usize), rows: String) -> Resu
     )?)
 }
 
-/// Returns the rows of a gray picture, or what is wrong with it. The rows are read back from the picture of them.
-pub fn gray(alloc: Global, bytes: &[u8]) -> Result<String> {
-    let grid = match from_pgm(alloc, bytes) {
-        Ok(grid) => grid,
-        Err(fault) => return Ok(format!(in alloc; "{fault}\n")?),
-    };
-    if pgm_written_and_read(alloc, &grid, same)? != grid {
+// The rows of a gray picture, which must be those that are read back.
+fn gray_rows(alloc: Global, grid: &Grid<u8>) -> Result<String> {
+    if pgm_written_and_read(alloc, grid, same)? != *grid {
         bail!("the rows are not read back");
     }
-    let rows = to_csv(alloc, &grid, put_gray)?;
-    told(alloc, bytes, grid.size(), rows)
+    Ok(to_csv(alloc, grid, put_gray)?)
 }
 
-/// Returns the rows of a colored picture, or what is wrong with it. The rows are read back from the picture of them.
-pub fn colored(alloc: Global, bytes: &[u8]) -> Result<String> {
-    let grid = match from_ppm(alloc, bytes) {
-        Ok(grid) => grid,
-        Err(fault) => return Ok(format!(in alloc; "{fault}\n")?),
-    };
-    if ppm_written_and_read(alloc, &grid, same)? != grid {
+/// Returns the rows of a gray picture, or what is wrong with it.
+pub fn gray(alloc: Global, bytes: &[u8]) -> Result<String> {
+    match from_pgm(alloc, bytes) {
+        Ok(grid) => {
+            let rows = gray_rows(alloc, &grid)?;
+            described(alloc, bytes, grid.size(), rows.as_str())
+        }
+        Err(fault) => Ok(format!(in alloc; "{fault}\n")?),
+    }
+}
+
+// The rows of a colored picture, which must be those that are read back.
+fn colored_rows(alloc: Global, grid: &Grid<[u8; 3]>) -> Result<String> {
+    if ppm_written_and_read(alloc, grid, same)? != *grid {
         bail!("the rows are not read back");
     }
-    let rows = to_csv(alloc, &grid, put_color)?;
-    told(alloc, bytes, grid.size(), rows)
+    Ok(to_csv(alloc, grid, put_color)?)
+}
+
+/// Returns the rows of a colored picture, or what is wrong with it.
+pub fn colored(alloc: Global, bytes: &[u8]) -> Result<String> {
+    match from_ppm(alloc, bytes) {
+        Ok(grid) => {
+            let rows = colored_rows(alloc, &grid)?;
+            described(alloc, bytes, grid.size(), rows.as_str())
+        }
+        Err(fault) => Ok(format!(in alloc; "{fault}\n")?),
+    }
 }
 
 // The part of 3 rows and 4 columns from row 1 and column 2 on, or the whole of a smaller board.
