@@ -1,3 +1,4 @@
+use Rattle.std.proofs.Common.{rules}
 use Rattle.std.proofs.Common.{◌≡◌, ◌*◌, ◌+◌, ℕ, arith, ap, refl, sym, ◌∙◌, vec_len}
 use Rattle.std.proofs.lemmas.Option.{slice_get_within, get_or_from_slice_get}
 use Rattle.grid_base.specs.Layout.{lines_of}
@@ -46,3 +47,6 @@ loop-k-preserved g c =
       passed = omega (arith, p.len, c.loop-k.invariant.passed);
       answers = rw (p.len, p.items) (answers_more _ (placed_cells b) _ _ _ c.rule.result here c.loop-k.invariant.answers (record { shown = _; shows = refl; says = (c.sum_round-sum.result, rw c.sum_round-sum.ensures.sum n, c.rule.ensures) }));
     }
+
+pub offset_bounds-cells-start : goal.offset_bounds-cells-start
+offset_bounds-cells-start g c = let h = bounds-cells-start g c in search rules

@@ -29,3 +29,6 @@ returns-in-DeleteRange-clause-edited g c =
     let w = c.delete_rows_counted-in-DeleteRange.ensures in
     rw c.in-DeleteRange.is
     (done_edit _ _ _ _ _ _ (λ d known. w.rows ∙ range_rows d _ _ _ _ w.found) (range_reply _ _ _ _ w.found) w.order)
+
+pub returns-in-InsertAll-clause-edited : goal.returns-in-InsertAll-clause-edited
+returns-in-InsertAll-clause-edited g c = rw c.in-InsertAll.is c.insert_lines.ensures

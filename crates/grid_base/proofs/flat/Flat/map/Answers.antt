@@ -1,3 +1,4 @@
+use Rattle.std.proofs.lemmas.Grind.{common_steps}
 use Rattle.std.proofs.Common.{arith, length-append, append_assoc}
 use Rattle.grid_base.proofs.ClosureLemmas.{MapsThrough-append, callable_next}
 use Rattle.grid_base.proofs.flat.Flat.map.Goals as goal
@@ -21,3 +22,12 @@ f-requires g c =
     let i = c.loop-cell.invariant in
     let s = c.in-Some.ensures.steps in
     callable_next _ _ _ _ _ _ _ c.in-Some.cell _ c.requires (rw s.0 at i.rest) i.answers
+
+pub push_reserved-requires : goal.push_reserved-requires
+push_reserved-requires g c = grind (arith, common_steps)
+
+pub returns-clause-len : goal.returns-clause-len
+returns-clause-len g c = grind (arith, common_steps)
+
+pub returns-clause-cells : goal.returns-clause-cells
+returns-clause-cells g c = grind (arith, common_steps)

@@ -1,3 +1,5 @@
+use Rattle.std.proofs.Common.{arith}
+use Rattle.std.proofs.lemmas.Grind.{common_steps}
 use Rattle.std.proofs.Common.{rules, ◌≡◌, ◌*◌, List, take, drop}
 use Rattle.grid_base.specs.Groups.{TakenOut}
 use Rattle.grid_base.proofs.WeaveLemmas.{taken_in_place}
@@ -11,3 +13,12 @@ returns-then-not-moves_groups-clause-taken g c =
     let h : (short taken : List g.row.T.Denot) → short ≡ take (groups.lines * groups.width) xs → taken ≡ drop (groups.lines * groups.width) xs → TakenOut groups.lines groups.width groups.at groups.count short taken xs =
     λ short taken front back. taken_in_place _ _ _ _ xs short taken groups.within stand c.requires front back in
     search (rules, h)
+
+pub move_tail-requires-clause-within : goal.move_tail-requires-clause-within
+move_tail-requires-clause-within g c = grind (arith, common_steps)
+
+pub move_tail-requires-clause-room : goal.move_tail-requires-clause-room
+move_tail-requires-clause-room g c = grind (arith, common_steps)
+
+pub returns-clause-taken : goal.returns-clause-taken
+returns-clause-taken g c = grind (arith, common_steps)

@@ -1,3 +1,4 @@
+use Rattle.std.proofs.Common.{rules}
 use Rattle.std.proofs.Common.{◌≡◌, ◌<◌, ◌+◌, ◌*◌, ℕ, Some, arith, ap, refl, sym, ◌∙◌, length, vec_len, zip}
 use Rattle.std.specs.List.{slice_get}
 use Rattle.std.proofs.lemmas.Option.{slice_get_within, slice_get_read, get_or_from_slice_get}
@@ -44,3 +45,11 @@ loop-k-preserved g c =
       passed = omega (arith, p.len, i.passed);
       answers = rw (p.len, p.items) (answers_more _ (zip all cells) _ _ (at, cell) c.f.result (get-zip all cells _ at cell here shown) i.answers (record { shown = _; shows = refl; says = c.f.ensures }));
     }
+
+pub offset_bounds-cells-start : goal.offset_bounds-cells-start
+offset_bounds-cells-start g c = let h = bounds-cells-start g c in search rules
+
+pub push_reserved-requires : goal.push_reserved-requires
+push_reserved-requires g c = let all = positions_of c.args.layout in
+    let here : slice_get all (vec_len c.loop-k.mapped) ≡ Some c.at-at.result = get_along _ _ _ _ _ _ _ _ _ c.args.layout.size c.requires.line c.lines-width.ensures c.loop-k-test.true c.requires.passed c.loop-k.invariant.passed c.at-at.ensures in
+    omega (arith, slice_get_within all _ _ here, length-places c.args.layout.order c.args.layout.rows c.args.layout.cols c.args.layout.size, c.requires.room, c.loop-k.invariant.room)

@@ -1,3 +1,4 @@
+use Rattle.std.proofs.lemmas.Grind.{common_steps}
 use Rattle.std.proofs.Common.{rules, ◌≡◌, ◌<◌, ◌+◌, ◌*◌, ℕ, Some, arith, ap, refl, sym, ◌∙◌, length}
 use Rattle.std.specs.List.{slice_get}
 use Rattle.std.proofs.lemmas.Option.{slice_get_within, slice_get_read}
@@ -55,3 +56,12 @@ returns g c =
     let start : c.args.line * c.lines-width.result.1 ≡ c.args.line * w = ap (λ x. c.args.line * x) wide in
     let end : c.args.line * c.lines-width.result.1 + c.loop-k.k ≡ (c.args.line + 1) * w = omega (arith, start, wide, c.loop-k-test.false, c.loop-k.auto.k-end) in
     rw (end, start) at c.loop-k.invariant
+
+pub overflow_add-start : goal.overflow_add-start
+overflow_add-start g c = let h = bounds-cells-start g c in omega arith
+
+pub overflow_add-start-in-loop-k : goal.overflow_add-start-in-loop-k
+overflow_add-start-in-loop-k g c = let h = bounds-cells-start-in-loop-k g c in omega arith
+
+pub overflow_mul-start : goal.overflow_mul-start
+overflow_mul-start g c = grind (arith, common_steps)

@@ -61,3 +61,9 @@ returns-else-self-clause-goes g c =
     let s = c.self.inside in
     let few : length c.args.self.now ≤ 8 = omega (arith, few_left (strided_cell s.table.cells.now s.table.size s.table.strides) s.kind s.at (cond s.inner s.passed s.tried), ap length c.self.view_is) in
     goes_on _ _ _ few (returns-else-self-clause-steps g c)
+
+pub overflow_mul-place : goal.overflow_mul-place
+overflow_mul-place g c = let h = within g c in omega arith
+
+pub overflow_mul-place-then-self : goal.overflow_mul-place-then-self
+overflow_mul-place-then-self g c = let h = within g c in omega arith

@@ -72,3 +72,19 @@ returns-clause-goes g c =
     let s = c.self.inside in
     let few : length c.args.self.now ≤ 8 = omega (arith, wrapped_few_left (strided_cell s.table.cells.now s.table.size s.table.strides) s.table.size s.kind s.at s.passed, ap length c.self.view_is) in
     goes_on _ _ _ few (returns-clause-steps g c)
+
+pub overflow_mul-place : goal.overflow_mul-place
+overflow_mul-place g c = let s = c.self.inside in
+    let h = box_within s.table.cells.now s.table.size s.table.strides s.at s.first 0 0 s.inner c.self.invariant.round c.if-self.true s.kind s.passed (omega arith) c.offset-i.result.0 c.offset-i.result.1 c.offset-i.ensures.row c.offset-i.ensures.col in
+    omega arith
+
+pub overflow_mul-place-then-self : goal.overflow_mul-place-then-self
+overflow_mul-place-then-self g c = let s = c.self.inside in
+    let h = box_within s.table.cells.now s.table.size s.table.strides s.at s.first 0 0 s.inner c.self.invariant.round c.if-self.true s.kind s.passed (omega arith) c.offset-i.result.0 c.offset-i.result.1 c.offset-i.ensures.row c.offset-i.ensures.col in
+    omega arith
+
+pub overflow_add-cell : goal.overflow_add-cell
+overflow_add-cell g c = let h = c.self.invariant.round.holds _ _ c.around-row.ensures.within c.around-col.ensures.within in omega arith
+
+pub offset_bounds-self-inside-row : goal.offset_bounds-self-inside-row
+offset_bounds-self-inside-row g c = let h = c.self.invariant.round.holds _ _ c.around-row.ensures.within c.around-col.ensures.within in search rules
