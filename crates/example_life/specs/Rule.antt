@@ -1,7 +1,6 @@
 -- The rule of Life, on a board whose edges meet.
 use Rattle.std.specs.Prelude.{ℕ, Bool, ◌&&◌, ◌||◌, ◌==◌, Option, List, option_map, count_by}
-use Rattle.grid_base.specs.Table.{row_count, col_count, cell, tabulate}
-use Rattle.grid_near.specs.Neighbors.{wrapped_neighbors8}
+use Rattle.grid.specs.Prelude.{row_count, col_count, cell, tabulate, wrapped_neighbors8}
 
 -- whether a cell is live in the next generation: with three live neighbors, or with two if it is
 -- live

@@ -1,9 +1,6 @@
 -- Rows that are appended to those of a grid.
-use Rattle.std.proofs.Common.{◌≡◌, ◌++◌, [], ◌∷◌, ℕ, List, take, drop, length, refl, sym, ◌∙◌, ap, arith, ⊎_elim}
-use Rattle.std.proofs.lemmas.List.{take_all, drop_all, append-nil}
-use Rattle.grid_base.specs.Table.{row_count, col_count}
-use Rattle.grid_base.specs.Order.{storage, table_of}
-use Rattle.grid_base.specs.GridValue.{GridValue}
+use Rattle.std.proofs.Common.{◌≡◌, ◌++◌, [], ◌∷◌, ℕ, List, take, drop, length, refl, sym, ◌∙◌, ap, arith, ⊎_elim, take_all, append-nil}
+use Rattle.grid_base.proofs.Common.{drop_all, row_count, col_count, storage, table_of, GridValue}
 use Rattle.grid.specs.Edits.{FitsRow, insert_rows}
 use Rattle.grid_base.proofs.ViewLemmas.{by_storage}
 

@@ -1,16 +1,7 @@
 -- Calls of a closure at each position of a grid and the cell there.
-use Rattle.std.proofs.Common.{◌≡◌, ℕ, zero, suc, ◌*◌, ◌<◌, ◌≤◌, List, [], ◌∷◌, ◌++◌, Some, Result, Ok, Err, length, zip, refl, sym, subst, ◌∙◌, ap, arith, is_some, IsSomeAnd, Option, None, IfOk}
-use Rattle.std.specs.List.{slice_get, AllZip}
-use Rattle.std.specs.Option.{unwrap_or}
-use Rattle.std.proofs.lemmas.Option.{unwrap_or-slice_get}
-use Rattle.std.proofs.lemmas.List.{length-append}
-use denote.Ref.{Bor}
+use Rattle.std.proofs.Common.{◌≡◌, ℕ, zero, suc, ◌*◌, ◌<◌, ◌≤◌, List, [], ◌∷◌, ◌++◌, Some, Result, Ok, Err, length, zip, refl, sym, subst, ◌∙◌, ap, arith, is_some, IsSomeAnd, Option, None, IfOk, slice_get, unwrap_or, length-append, Bor}
+use Rattle.grid_base.proofs.Common.{AllZip, unwrap_or-slice_get, row_count, col_count, cell, InRange, IsSize, tabulate, table_of, place, positions, PairsUp, CallableAtCells, CallableAtItems, ReturnsAtCell, FailsFirst, GridValue, HoldsSize, FitsUsize}
 use Rattle.grid_base.specs.declared.order.Order.{Order}
-use Rattle.grid_base.specs.Table.{row_count, col_count, cell, InRange, IsSize, tabulate}
-use Rattle.grid_base.specs.Order.{table_of, place}
-use Rattle.grid_base.specs.Positions.{positions}
-use Rattle.grid_base.specs.ClosureCalls.{PairsUp, CallableAtCells, CallableAtItems, ReturnsAtCell, FailsFirst}
-use Rattle.grid_base.specs.GridValue.{GridValue, HoldsSize, FitsUsize}
 use Rattle.grid_base.proofs.TableLemmas.{IsFull, tabulate-same, cell-tabulate}
 use Rattle.grid_base.proofs.StorageLemmas.{place_within, has_place, get_append_left, get_append_right}
 use Rattle.grid_base.proofs.PlaceLemmas.{get-places, length-places}

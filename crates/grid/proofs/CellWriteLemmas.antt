@@ -1,11 +1,8 @@
 -- A grid of which one cell is written.
-use Rattle.std.proofs.Common.{◌≡◌, ℕ, ◌<◌, List, length, set, ◌∙◌, ap}
-use Rattle.std.specs.List.{swap}
+use Rattle.std.proofs.Common.{◌≡◌, ℕ, ◌<◌, List, length, set, ◌∙◌, ap, swap}
+use Rattle.grid_base.proofs.Common.{exchanged, with_cell, place, table_of, HoldsSize, GridValue}
 use Rattle.grid_base.specs.declared.order.Order.{Order}
-use Rattle.grid_base.specs.Table.{exchanged, with_cell}
-use Rattle.grid_base.specs.Order.{place, table_of}
 use Rattle.grid_base.proofs.ViewLemmas.{same_grid_value}
-use Rattle.grid_base.specs.GridValue.{HoldsSize, GridValue}
 use Rattle.grid_base.proofs.WriteLemmas.{view-write, view-swap}
 use Rattle.grid.specs.View.{grid_value, with_grid_cell}
 

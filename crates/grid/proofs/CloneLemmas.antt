@@ -1,11 +1,7 @@
 -- Clones of the cells of a storage, seen as a table.
-use Rattle.std.proofs.Common.{◌≡◌, ℕ, zero, suc, ◌+◌, ◌*◌, ◌<◌, ◌≤◌, Option, Some, None, List, [], ◌∷◌, length, map, ap, arith, subst}
-use Rattle.std.specs.List.{filter_map, range_with_len, slice_get, cons_option, AllZip}
-use Rattle.std.proofs.lemmas.List.Elements.{same_from_all_zip}
+use Rattle.std.proofs.Common.{◌≡◌, ℕ, zero, suc, ◌+◌, ◌*◌, ◌<◌, ◌≤◌, Option, Some, None, List, [], ◌∷◌, length, map, ap, arith, subst, filter_map, slice_get}
+use Rattle.grid_base.proofs.Common.{range_with_len, cons_option, AllZip, same_from_all_zip, cells_by, tabulate, place, table_of, GridValue, HoldsSize}
 use Rattle.grid_base.specs.declared.order.Order.{Order}
-use Rattle.grid_base.specs.Table.{cells_by, tabulate}
-use Rattle.grid_base.specs.Order.{place, table_of}
-use Rattle.grid_base.specs.GridValue.{GridValue, HoldsSize}
 use Rattle.grid_base.proofs.StorageLemmas.{place_within}
 use Rattle.grid.specs.View.{grid_value}
 use Rattle.grid.specs.Copies.{IsGridClone}

@@ -1,13 +1,7 @@
 -- An edit of columns is the edit of rows of the transposed table.
-use Rattle.std.proofs.Common.{◌≡◌, ℕ, zero, suc, ◌+◌, ◌-◌, ◌<◌, ◌≤◌, List, [], ◌∷◌, ◌++◌, length, get_or, map, take, drop, filter, replicate, refl, sym, ◌∙◌, ap, arith, append_assoc, ⊎_elim}
-use Rattle.std.specs.List.{slice_get, insert}
-use Rattle.std.proofs.lemmas.List.{length-take-le, length-map, get_or-map, length-replicate, append-nil, take_at, drop_at, take_all, drop_all}
-use Rattle.std.proofs.lemmas.List.Edits.{length-insert}
-use Rattle.std.proofs.lemmas.Option.{slice_get-get_or}
-use Rattle.std.proofs.lemmas.Bool.{cases_lt}
+use Rattle.std.proofs.Common.{◌≡◌, ℕ, zero, suc, ◌+◌, ◌-◌, ◌<◌, ◌≤◌, List, [], ◌∷◌, ◌++◌, length, get_or, map, take, drop, filter, replicate, refl, sym, ◌∙◌, ap, arith, append_assoc, ⊎_elim, slice_get, insert, length-take-le, append-nil, take_at, drop_at, take_all}
+use Rattle.grid_base.proofs.Common.{length-map, get_or-map, length-replicate, drop_all, length-insert, slice_get-get_or, cases_lt, row, row_count, col_count, cell, transposed, IsTable, tabulate, act}
 use Rattle.grid_base.specs.declared.words.Symmetry.TheVariants.{Transpose}
-use Rattle.grid_base.specs.Table.{row, row_count, col_count, cell, transposed, IsTable, tabulate}
-use Rattle.grid_base.specs.Symmetry.{act}
 use Rattle.grid_base.proofs.StorageLemmas.{get-replicate}
 use Rattle.grid_base.proofs.TableLemmas.{same_tables, IsSize-table, past_cols, cell_past_rows}
 use Rattle.grid_base.proofs.ActLemmas.{rows-act, cols-act, cell-act, IsTable-act, act_is_transposed}

@@ -1,15 +1,7 @@
 -- Cells that are joined, and cut into rows.
-use Rattle.std.proofs.Common.{◌≡◌, ◌≢◌, ℕ, suc, ◌+◌, ◌*◌, ◌<◌, ◌==◌, if◌then◌else◌, Bool, true, false, IsTrue, List, [], ◌∷◌, ◌++◌, length, get_or, take, map, Result, Ok, Err, refl, sym, ◌∙◌, ap, arith, ⊎_elim, subst}
-use Rattle.std.specs.Result.{IsErrAnd}
-use Rattle.std.specs.List.{AllZip}
-use Rattle.std.proofs.lemmas.List.{take_more, append-nil, map-append, get_or-map}
-use Rattle.std.proofs.lemmas.Grind.{flat_map-append}
-use Rattle.std.proofs.lemmas.Bool.{cases_eq}
-use borrow.Author.Tests.{eqb-true}
+use Rattle.std.proofs.Common.{◌≡◌, ◌≢◌, ℕ, suc, ◌+◌, ◌*◌, ◌<◌, ◌==◌, if◌then◌else◌, Bool, true, false, IsTrue, List, [], ◌∷◌, ◌++◌, length, get_or, take, map, Result, Ok, Err, refl, sym, ◌∙◌, ap, arith, ⊎_elim, subst, IsErrAnd, append-nil, eqb-true}
+use Rattle.grid_base.proofs.Common.{AllZip, take_more, map-append, get_or-map, flat_map-append, cases_eq, row, row_count, col_count, concat_rows, IsTable, storage, CanCut, GridValue}
 use Rattle.grid_base.specs.declared.order.Order.TheVariants.{RowMajor}
-use Rattle.grid_base.specs.Table.{row, row_count, col_count, concat_rows, IsTable}
-use Rattle.grid_base.specs.Order.{storage, CanCut}
-use Rattle.grid_base.specs.GridValue.{GridValue}
 use Rattle.grid_base.proofs.StorageLemmas.{length-concat_rows}
 use Rattle.grid_base.proofs.ViewLemmas.{same_by_storage, none_by_storage}
 use Rattle.grid_commands.specs.declared.error.ShapeError.{ShapeError}

@@ -1,11 +1,6 @@
 -- The text of items one after another.
-use Rattle.std.proofs.Common.{◌≡◌, ℕ, suc, ◌+◌, ◌<◌, Bool, true, false, List, [], ◌∷◌, ◌++◌, length, take, get_or, cond, ltb, refl, sym, ap, ◌∙◌, arith, add-one, append-nil}
-use Rattle.std.specs.Prelude.{Option, Some, None}
-use Rattle.std.specs.Fmt.{◌++?◌}
-use Rattle.std.proofs.Math.Seq.{take-suc}
-use Rattle.std.proofs.Output.{then_text_assoc}
-use Rattle.std.proofs.lemmas.List.{length-take-le}
-use borrow.Author.Tests.{lt-ltb}
+use Rattle.std.proofs.Common.{◌≡◌, ℕ, suc, ◌+◌, ◌<◌, Bool, true, false, List, [], ◌∷◌, ◌++◌, length, take, get_or, cond, ltb, refl, sym, ap, ◌∙◌, arith, add-one, append-nil, Option, Some, None, take-suc, length-take-le, lt-ltb}
+use Rattle.grid_base.proofs.Common.{◌++?◌, then_text_assoc}
 use Rattle.grid.specs.DisplayText.{items_text}
 
 nothing_then : (o : Option (List ℕ)) → Some [] ++? o ≡ o

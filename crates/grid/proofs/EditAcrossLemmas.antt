@@ -1,14 +1,11 @@
 -- Edits of lines that aren't refused: they fit, a table stays one, and those of columns are those of rows of the transposed
 -- table.
-use Rattle.std.proofs.Common.{◌≡◌, ℕ, zero, suc, ◌+◌, ◌-◌, ◌<◌, Bool, true, false, not, Some, None, List, [], ◌∷◌, length, nat_eq, nat_lt, if◌then◌else◌, refl, sym, ◌∙◌, ap, arith, ⊎_elim, ◌≤◌, subst, Option}
-use Rattle.std.specs.List.{list_any, list_all, slice_get}
-use Rattle.std.proofs.lemmas.Bool.{eqb-true, ne_eqb, lt-ltb, le-ltb, cases_lt, and_parts, or_parts, eqb-false, ltb-false}
-use Rattle.grid_base.specs.Table.{row, row_count, col_count, IsTable}
+use Rattle.std.proofs.Common.{◌≡◌, ℕ, zero, suc, ◌+◌, ◌-◌, ◌<◌, Bool, true, false, not, Some, None, List, [], ◌∷◌, length, nat_eq, nat_lt, if◌then◌else◌, refl, sym, ◌∙◌, ap, arith, ⊎_elim, ◌≤◌, subst, Option, slice_get, eqb-true, ne_eqb, lt-ltb, le-ltb, ltb-false}
+use Rattle.grid_base.proofs.Common.{list_any, list_all, cases_lt, and_parts, or_parts, eqb-false, row, row_count, col_count, IsTable, act}
 use Rattle.grid_commands.specs.declared.command.Refusal.TheVariants.{EmptyLine, Length, Index, TooLarge}
 use Rattle.grid_commands.specs.Command.{Edit, read, push, insert_at, insert_all, pop, remove_at, delete_at, delete_range, expand, prepend, lines}
 use Rattle.grid_commands.specs.Refusal.{fitting_width, lines_refusal, edit_refusal, unless_refused}
 use Rattle.grid_base.specs.declared.words.Symmetry.TheVariants.{Transpose}
-use Rattle.grid_base.specs.Symmetry.{act}
 use Rattle.grid_base.proofs.ActLemmas.{IsTable-act, act_is_transposed}
 use Rattle.grid_commands.specs.declared.command.Axis.TheVariants.{Row, Col}
 use Rattle.grid_commands.specs.Reply.{line_is, refused}

@@ -1,12 +1,8 @@
 -- What an edit of the vector by groups of cells does to the rows of its table.
-use Rattle.std.proofs.Common.{◌≡◌, ℕ, zero, suc, ◌+◌, ◌*◌, ◌<◌, ◌≤◌, List, [], ◌∷◌, ◌++◌, length, take, drop, refl, sym, ◌∙◌, ap, arith, append_assoc, length-drop}
-use Rattle.std.specs.List.{slice_get, insert, remove}
-use Rattle.std.proofs.lemmas.List.{length-take-le, drop_more}
+use Rattle.std.proofs.Common.{◌≡◌, ℕ, zero, suc, ◌+◌, ◌*◌, ◌<◌, ◌≤◌, List, [], ◌∷◌, ◌++◌, length, take, drop, refl, sym, ◌∙◌, ap, arith, append_assoc, length-drop, slice_get, insert, remove, length-take-le}
+use Rattle.grid_base.proofs.Common.{drop_more, row, row_count, col_count, cell, IsTable, tabulate, storage, place, table_of, Woven, Closed}
 use Rattle.grid_base.specs.declared.order.Order.{Order}
 use Rattle.grid_base.specs.declared.order.Order.TheVariants.{RowMajor, ColumnMajor}
-use Rattle.grid_base.specs.Table.{row, row_count, col_count, cell, IsTable, tabulate}
-use Rattle.grid_base.specs.Order.{storage, place, table_of}
-use Rattle.grid_base.specs.Groups.{Woven, Closed}
 use Rattle.grid_base.proofs.TableLemmas.{rows-tabulate, same_cells}
 use Rattle.grid_base.proofs.ViewLemmas.{by_storage}
 use Rattle.grid_base.proofs.StorageLemmas.{length-storage, get-storage, place_within, has_place, get_append_left, get_append_right, get-take, get-drop, width-table_of, cell-table_of}

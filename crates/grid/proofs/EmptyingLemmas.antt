@@ -1,16 +1,8 @@
 -- The slots of an array of rows are emptied one by one, in the order of a storage.
-use Rattle.std.proofs.Common.{◌≡◌, ◌≢◌, ℕ, ◌+◌, ◌*◌, ◌<◌, ◌≤◌, Option, Some, None, List, [], ◌∷◌, ◌++◌, length, get_or, is_some, true, false, refl, sym, ◌∙◌, ap, arith, ⊎_elim, length-append, subst}
-use Rattle.std.specs.List.{slice_get, list_all}
-use Rattle.std.specs.Option.{option_map}
-use Rattle.std.proofs.lemmas.List.{length-set, get_or_past}
-use Rattle.std.proofs.lemmas.List.Folds.{list_all_at}
-use Rattle.std.proofs.lemmas.Option.{get_or_from_slice_get, slice_get_within}
-use Rattle.std.proofs.lemmas.Bool.{cases_eq, cases_lt}
-use Rattle.std.proofs.Math.Nat.{mul_comm}
+use Rattle.std.proofs.Common.{◌≡◌, ◌≢◌, ℕ, ◌+◌, ◌*◌, ◌<◌, ◌≤◌, Option, Some, None, List, [], ◌∷◌, ◌++◌, length, get_or, is_some, true, false, refl, sym, ◌∙◌, ap, arith, ⊎_elim, length-append, subst, slice_get, option_map, length-set, mul_comm}
+use Rattle.grid_base.proofs.Common.{list_all, get_or_past, list_all_at, get_or_from_slice_get, slice_get_within, cases_eq, cases_lt, row, cell, with_cell, IsTable, place, storage}
 use Rattle.grid_base.specs.declared.order.Order.{Order}
 use Rattle.grid_base.specs.declared.order.Order.TheVariants.{RowMajor, ColumnMajor}
-use Rattle.grid_base.specs.Table.{row, cell, with_cell, IsTable}
-use Rattle.grid_base.specs.Order.{place, storage}
 use Rattle.grid_base.proofs.StorageLemmas.{get-storage, place_within, get_append_left, get_append_right}
 use Rattle.grid_base.proofs.WriteLemmas.{same_place, cell-written, cell-with_other}
 use Rattle.grid.specs.Make.{HasSize}

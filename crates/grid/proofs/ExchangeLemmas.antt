@@ -1,18 +1,9 @@
 -- A part of a row-major grid that changes places with cells of another, line by line.
-use Rattle.std.proofs.Common.{◌≡◌, ◌⊎◌, ℕ, ◌+◌, ◌*◌, ◌^◌, ◌<◌, ◌≤◌, List, ◌++◌, take, drop, length, refl, sym, ◌∙◌, ap, subst, arith, inl, inr, ⊎_elim}
-use Rattle.std.proofs.lemmas.Bool.{cases_lt, cases_eq}
-use Rattle.std.proofs.Math.Nat.{mul-le-mul_right}
-use Rattle.std.proofs.Math.Seq.{take-append_seam}
-use Rattle.std.specs.List.{slice_get, refill}
+use Rattle.std.proofs.Common.{◌≡◌, ◌⊎◌, ℕ, ◌+◌, ◌*◌, ◌^◌, ◌<◌, ◌≤◌, List, ◌++◌, take, drop, length, refl, sym, ◌∙◌, ap, subst, arith, inl, inr, ⊎_elim, mul-le-mul_right, slice_get}
+use Rattle.grid_base.proofs.Common.{cases_lt, cases_eq, take-append_seam, refill, BlockTaken, GridValue, HoldsSize, table_of, act, row_count, col_count, cell}
 use Rattle.grid_base.specs.declared.order.Order.{Order}
 use Rattle.grid_base.specs.declared.order.Order.TheVariants.{RowMajor}
 use Rattle.grid_base.specs.declared.words.Symmetry.TheVariants.{Transpose}
-use Rattle.grid_base.specs.Blocks.{BlockTaken}
-use Rattle.grid_base.specs.GridValue.{GridValue, HoldsSize}
-use Rattle.grid_base.specs.Order.{table_of}
-use Rattle.grid_base.specs.Symmetry.{act}
-use Rattle.grid_base.specs.Table as table
-use Rattle.grid_base.specs.Table.{row_count, col_count, cell}
 use Rattle.grid_base.proofs.ActLemmas.{rows-act, cols-act}
 use Rattle.grid_base.proofs.ViewLemmas.{view-rows, view-cols, view-cell, view-past_cols, view-past_rows}
 use Rattle.grid.specs.View.{grid_value}
@@ -21,6 +12,7 @@ use Rattle.grid.specs.Exchanged.{InRow, InRows, PartTaken, held}
 use Rattle.grid_commands.proofs.FactorLemmas.{factor_small}
 use Rattle.grid.proofs.SeenLemmas.{seen_rows, seen_cols}
 use Rattle.grid.proofs.ColEditLemmas.{cell-cross}
+use Rattle.grid_base.specs.Table as table
 
 -- of the rows of n cells, the cells behind a stretch of row s
 behind : (n s c cols i j : ℕ) → c + cols ≤ n → j < n → (i ≡ s → c ≤ j → c + cols ≤ j) → s * n + c ≤ i * n + j → s * n + c + cols ≤ i * n + j

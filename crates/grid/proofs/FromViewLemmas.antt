@@ -1,13 +1,8 @@
 -- A grid of the cells of a view.
-use Rattle.std.proofs.Common.{◌≡◌, ◌≢◌, ◌⊎◌, ℕ, ◌+◌, ◌*◌, ◌<◌, ◌≤◌, Option, List, [], length, sym, ◌∙◌, ap, subst, arith, inl, inr, ⊎_elim}
-use Rattle.std.proofs.lemmas.Bool.{cases_eq, cases_lt}
-use Rattle.std.proofs.lemmas.Nat.{mul-le}
-use Rattle.std.specs.Prelude.{Result, Ok, Err, IfOk}
+use Rattle.std.proofs.Common.{◌≡◌, ◌≢◌, ◌⊎◌, ℕ, ◌+◌, ◌*◌, ◌<◌, ◌≤◌, Option, List, [], length, sym, ◌∙◌, ap, subst, arith, inl, inr, ⊎_elim, Result, Ok, Err, IfOk}
+use Rattle.grid_base.proofs.Common.{cases_eq, cases_lt, mul-le, GridValue, row_count, col_count, cell, IsTable, storage}
 use Rattle.grid_base.specs.declared.order.Order.{Order}
-use Rattle.grid_base.specs.GridValue.{GridValue}
-use Rattle.grid_base.specs.Table.{row_count, col_count, cell, IsTable}
 use Rattle.grid_base.proofs.TableLemmas.{IsFull, IsFull-cells, rows-tabulate, cols-tabulate}
-use Rattle.grid_base.specs.Order.{storage}
 use Rattle.grid_base.proofs.ViewLemmas.{same_by_storage, none_by_storage}
 use Rattle.grid_view.specs.View.{sub_table}
 use Rattle.grid.specs.Make.{HasSize, IsMade}

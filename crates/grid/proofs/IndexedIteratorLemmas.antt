@@ -1,24 +1,13 @@
 -- What iterators over cells with their positions give.
-use Rattle.std.proofs.Common.{◌≡◌, ℕ, ◌^◌, ◌<◌, List, Option, Some, length, zip, sym, subst, ◌∙◌, ap, arith}
-use Rattle.std.specs.List.{slice_get, slice_index_or}
-use Rattle.std.specs.Option.{unwrap_or}
-use Rattle.std.specs.Borrow.{Bor, MutBor}
-use Rattle.std.specs.Iterator.{YieldsFirst, YieldsFirstBy}
-use Rattle.std.specs.Iterator.Runs.{EveryRun, EachRunFrom, AllItems, ItemsMapTo}
-use Rattle.std.proofs.iter.runs.Sources.{from_front}
-use Rattle.std.proofs.iter.runs.Lists.{at_some, slice_get_within}
-use Rattle.std.proofs.iter.runs.Made.{at-is}
-use Rattle.std.proofs.lemmas.Option.{unwrap_or-slice_get}
-use Rattle.std.specs.Option.{MatchOption}
+use Rattle.std.proofs.Common.{◌≡◌, ℕ, ◌^◌, ◌<◌, List, Option, Some, length, zip, sym, subst, ◌∙◌, ap, arith, slice_get, slice_index_or, unwrap_or, Bor, MutBor, MatchOption}
+use Rattle.grid_base.proofs.Common.{YieldsFirst, YieldsFirstBy, EveryRun, EachRunFrom, AllItems, ItemsMapTo, from_front, at_some, at-is, unwrap_or-slice_get, positions, GridValue, HoldsSize, IsCellAt, GivesCells, GivesOwnedCells, GivesMutCells}
+use Rattle.std.proofs.iter.runs.Lists.{slice_get_within}
 use Rattle.grid_base.specs.declared.order.Order.{Order}
 use Rattle.grid_base.specs.declared.flat.indexed.IndexedIterMut.{IndexedIterMut}
-use Rattle.grid_base.specs.Positions.{positions}
-use Rattle.grid_base.specs.GridValue.{GridValue, HoldsSize}
 use Rattle.grid_base.specs.IndexedIterMut.{indexed_mut_rest}
 use Rattle.grid_base.proofs.StorageLemmas.{has_place}
 use Rattle.grid_base.proofs.PlaceLemmas.{get-places}
 use Rattle.grid_base.proofs.PlacedCellLemmas.{zip_within, get-zip}
-use Rattle.grid_base.specs.IndexedIterators.{IsCellAt, GivesCells, GivesOwnedCells, GivesMutCells}
 use Rattle.grid.specs.View.{grid_value}
 use Rattle.grid.proofs.CellCallLemmas.{item_at, seen_cell, seen_in}
 

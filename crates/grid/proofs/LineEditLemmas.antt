@@ -1,23 +1,13 @@
 -- Edits of rows as the code of a grid does them, and of columns as those of rows between two transposes.
-use Rattle.std.proofs.Common.{◌≡◌, ℕ, ◌+◌, ◌-◌, ◌<◌, ◌≤◌, Bool, true, false, not, ◌&&◌, Option, Some, None, List, [], ◌∷◌, Vec, nat_lt, if◌then◌else◌, IsTrue, MatchOption, Result, Ok, ◌↔◌, refl, sym, ◌∙◌, ap, subst, arith, ⊎_elim}
-use Rattle.std.specs.List.{insert, remove, slice_get}
-use Rattle.std.specs.Option.{option_map, is_none}
-use Rattle.std.proofs.lemmas.Bool.{lt-ltb, le-ltb, cases_lt}
-use Rattle.std.proofs.lemmas.Result.{on_ok_weaker, on_err_weaker, IfOk-weaker}
-use Rattle.std.proofs.lemmas.Option.{slice_get_past, slice_get-get_or}
+use Rattle.std.proofs.Common.{◌≡◌, ℕ, ◌+◌, ◌-◌, ◌<◌, ◌≤◌, Bool, true, false, not, ◌&&◌, Option, Some, None, List, [], ◌∷◌, Vec, nat_lt, if◌then◌else◌, IsTrue, MatchOption, Result, Ok, ◌↔◌, refl, sym, ◌∙◌, ap, subst, arith, ⊎_elim, insert, remove, slice_get, option_map, is_none, lt-ltb, le-ltb}
+use Rattle.grid_base.proofs.Common.{cases_lt, on_ok_weaker, on_err_weaker, IfOk-weaker, slice_get_past, slice_get-get_or, row, row_count, col_count, cell, IsTable, GridValue, items_of_each, flipped, act}
 use Rattle.grid_base.specs.declared.words.Symmetry.TheVariants.{Transpose}
-use Rattle.grid_base.specs.Table.{row, row_count, col_count, cell, IsTable}
-use Rattle.grid_base.specs.GridValue.{GridValue}
-use Rattle.grid_base.specs.Gather.{items_of_each}
-use Rattle.grid_base.specs.Order.{flipped}
-use Rattle.grid_base.specs.Symmetry.{act}
 use Rattle.grid_base.proofs.TableLemmas.{past_cols, cell_past_rows}
 use Rattle.grid_base.proofs.ViewLemmas.{flipped-flipped}
 use Rattle.grid_commands.specs.declared.command.Axis.{Axis}
 use Rattle.grid_commands.specs.declared.command.Axis.TheVariants.{Row, Col}
 use Rattle.grid_commands.specs.declared.command.Refusal.{Refusal}
 use Rattle.grid_commands.specs.declared.command.Reply.{Reply}
-use Rattle.grid_commands.specs.declared.command.Reply.TheVariants as the
 use Rattle.grid_commands.specs.Command.{Edit, read, push, insert_at, insert_all, pop, remove_at, delete_at, delete_range, expand, prepend, get, lines}
 use Rattle.grid_commands.specs.Reply.{ReplyValue, reply_value, done, cell_is, line_is, flag_is, refused}
 use Rattle.grid_commands.specs.Refusal.{in_range, lines_refusal, pad_refusal, edit_refusal}
@@ -31,6 +21,7 @@ use Rattle.grid.proofs.NoneTakenLemmas.{remove-past}
 use Rattle.grid.proofs.ColEditLemmas.{across-across, rows-across, cols-across}
 use Rattle.grid.proofs.TransposedEditLemmas.{twice_across}
 use Rattle.grid.proofs.EditAcrossLemmas.{step_rows-across, step_reply-across, table-step_cols}
+use Rattle.grid_commands.specs.declared.command.Reply.TheVariants as the
 
 found_is : (found : Bool) (a b : ℕ) → IsTrue found ↔ (a ≤ b) → found ≡ not (nat_lt b a)
 found_is true a b h = sym (ap not (le-ltb b a (h.0 refl)))

@@ -1,14 +1,7 @@
 -- What a table that is cut from cells says of its size and of each cell.
-use Rattle.std.proofs.Common.{◌≡◌, ◌≢◌, ℕ, ◌*◌, ◌/◌, ◌%◌, ◌<◌, Some, List, [], length, All, replicate, sym, ◌∙◌, ap, arith}
-use Rattle.std.specs.List.{slice_get}
-use Rattle.std.proofs.Math.Nat.{mul-div_cancel, mul-mod_left}
-use Rattle.std.proofs.lemmas.List.{get_or-replicate, length-replicate}
-use Rattle.std.proofs.lemmas.Option.{slice_get-get_or}
-use Rattle.std.proofs.Common.{inl, inr, ⊎_elim}
-use Rattle.std.proofs.lemmas.Bool.{cases_eq}
+use Rattle.std.proofs.Common.{◌≡◌, ◌≢◌, ℕ, ◌*◌, ◌/◌, ◌%◌, ◌<◌, Some, List, [], length, All, replicate, sym, ◌∙◌, ap, arith, slice_get, mul-div_cancel, inl, inr, ⊎_elim}
+use Rattle.grid_base.proofs.Common.{mul-mod_left, get_or-replicate, length-replicate, slice_get-get_or, cases_eq, row_count, col_count, cell, InRange, IsTable, storage, place, CanCut}
 use Rattle.grid_base.specs.declared.order.Order.{Order}
-use Rattle.grid_base.specs.Table.{row_count, col_count, cell, InRange, IsTable}
-use Rattle.grid_base.specs.Order.{storage, place, CanCut}
 use Rattle.grid_base.proofs.StorageLemmas.{length-storage, get-storage, place_within}
 use Rattle.grid_base.proofs.ViewLemmas.{none_by_storage}
 use Rattle.grid.specs.Make.{HasSize, EachCellIs}

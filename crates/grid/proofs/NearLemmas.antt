@@ -1,12 +1,9 @@
 -- The cells round a cell are cells of the table, at their positions.
-use Rattle.std.proofs.Common.{◌≡◌, ℕ, zero, suc, ◌+◌, ◌<◌, ◌&&◌, Bool, true, false, cond, nat_lt, Option, Some, None, List, [], ◌∷◌, length, refl, subst, sym, arith}
-use Rattle.std.specs.List.{filter_map, cons_option, slice_index_or}
-use Rattle.std.specs.Option.{option_map, option_and_then}
-use Rattle.grid_base.specs.Table.{row_count, col_count, cell, IsTable}
+use Rattle.std.proofs.Common.{◌≡◌, ℕ, zero, suc, ◌+◌, ◌<◌, ◌&&◌, Bool, true, false, cond, nat_lt, Option, Some, None, List, [], ◌∷◌, length, refl, subst, sym, arith, filter_map, slice_index_or, option_map, option_and_then}
+use Rattle.grid_base.proofs.Common.{cons_option, row_count, col_count, cell, IsTable, IsCellAt, GivesCells}
 use Rattle.grid_near.specs.Neighbors.{around4, around8, before, both, round_before, round_after, cell_at, neighbors4, neighbors8, wrapped_neighbors4, wrapped_neighbors8, neighbors_of, wrapped_neighbors_of}
 use Rattle.grid_near.specs.declared.steps.Steps.{Steps}
 use Rattle.grid_near.specs.declared.steps.Steps.TheVariants.{Sides, All}
-use Rattle.grid_base.specs.IndexedIterators.{IsCellAt, GivesCells}
 use Rattle.grid.proofs.IndexedIteratorLemmas.{gives_cells_of}
 use Rattle.grid_base.proofs.TableLemmas.{cell_in_range}
 

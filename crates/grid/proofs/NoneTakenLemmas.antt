@@ -1,8 +1,6 @@
 -- Edits that take nothing.
-use Rattle.std.proofs.Common.{◌≡◌, ℕ, ◌+◌, ◌<◌, ◌≤◌, suc, List, ◌++◌, length, map, filter, take, drop, ◌∙◌, ap, arith}
-use Rattle.std.specs.List.{remove}
-use Rattle.std.proofs.lemmas.List.{take_all, drop_all, append-nil, map-id}
-use Rattle.grid_base.specs.Table.{row, row_count, col_count, IsTable}
+use Rattle.std.proofs.Common.{◌≡◌, ℕ, ◌+◌, ◌<◌, ◌≤◌, suc, List, ◌++◌, length, map, filter, take, drop, ◌∙◌, ap, arith, remove, take_all, append-nil, map-id}
+use Rattle.grid_base.proofs.Common.{drop_all, row, row_count, col_count, IsTable}
 use Rattle.grid.specs.Edits.{without_cols, has_cells}
 use Rattle.grid.proofs.ColEditLemmas.{filter_all, map_same}
 

@@ -1,13 +1,7 @@
 -- What opened groups of fresh cells are in the table: rows of padding.
-use Rattle.std.proofs.Common.{◌≡◌, ℕ, zero, suc, ◌+◌, ◌*◌, ◌-◌, ◌<◌, ◌≤◌, Option, Some, List, [], ◌∷◌, length, take, drop, replicate, refl, sym, ◌∙◌, ap, subst, arith, is_some, length-drop}
-use Rattle.std.specs.List.{slice_get, All}
-use Rattle.std.proofs.lemmas.List.{length-take-le}
-use Rattle.std.proofs.lemmas.List.Elements.{All-nil, All-cons, All-head, All-tail, All-get_or, All-from_get_or}
-use Rattle.std.proofs.lemmas.Option.{get_or_from_slice_get}
+use Rattle.std.proofs.Common.{◌≡◌, ℕ, zero, suc, ◌+◌, ◌*◌, ◌-◌, ◌<◌, ◌≤◌, Option, Some, List, [], ◌∷◌, length, take, drop, replicate, refl, sym, ◌∙◌, ap, subst, arith, is_some, length-drop, slice_get, All, length-take-le}
+use Rattle.grid_base.proofs.Common.{All-nil, All-cons, All-head, All-tail, All-get_or, All-from_get_or, get_or_from_slice_get, row, row_count, cell, tabulate, place, table_of, Opened}
 use Rattle.grid_base.specs.declared.order.Order.{Order}
-use Rattle.grid_base.specs.Table.{row, row_count, cell, tabulate}
-use Rattle.grid_base.specs.Order.{place, table_of}
-use Rattle.grid_base.specs.Groups.{Opened}
 use Rattle.grid_base.proofs.TableLemmas.{rows-tabulate, cell-tabulate, width-tabulate, IsFull, IsSome_within}
 use Rattle.grid_base.proofs.StorageLemmas.{place_within, get-take, get-drop, width-table_of, cell-table_of}
 use Rattle.grid.specs.Edits.{insert_rows}

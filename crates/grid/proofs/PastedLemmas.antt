@@ -1,14 +1,6 @@
 -- A part of a grid that takes the cells of another.
-use Rattle.std.proofs.Common.{subst, ◌≡◌, ◌≢◌, ◌⊎◌, ℕ, ℤ, ◌+◌, ◌-◌, ◌*◌, ◌<◌, ◌≤◌, Bool, true, false, Option, Some, None, List, [], if◌then◌else◌, refl, sym, ◌∙◌, ap, arith, inl, inr, ⊎_elim}
-use Rattle.std.specs.Prelude.{pos, IsSome, MatchOption}
-use Rattle.std.specs.Option.{option_or}
-use Rattle.std.specs.Bool.{Decides}
-use denote.Ref.{Bor}
-use Rattle.std.proofs.lemmas.Bool.Decides.{nat_tests}
-use Rattle.std.proofs.lemmas.Bool.{cases_lt, cases_eq, lt-ltb, le-ltb}
-use Rattle.std.proofs.lemmas.Nat.{mul-le}
-use Rattle.grid_base.specs.Table.{row_count, col_count, cell, tabulate, with_cell, InRange, IsTable}
-use Rattle.grid_base.specs.GridValue.{GridValue}
+use Rattle.std.proofs.Common.{subst, ◌≡◌, ◌≢◌, ◌⊎◌, ℕ, ℤ, ◌+◌, ◌-◌, ◌*◌, ◌<◌, ◌≤◌, Bool, true, false, Option, Some, None, List, [], if◌then◌else◌, refl, sym, ◌∙◌, ap, arith, inl, inr, ⊎_elim, pos, IsSome, MatchOption, Decides, Bor, lt-ltb, le-ltb}
+use Rattle.grid_base.proofs.Common.{option_or, nat_tests, cases_lt, cases_eq, mul-le, row_count, col_count, cell, tabulate, with_cell, InRange, IsTable, GridValue}
 use Rattle.grid_base.proofs.TableLemmas.{IsFull, IsFull-cells, tabulate-cells, tabulate-same, cell-tabulate, cell_past_rows, past_cols}
 use Rattle.grid_base.proofs.WriteLemmas.{cell-with_same, cell-with_other}
 use Rattle.grid_view.specs.View.{sub_table}

@@ -1,10 +1,6 @@
 -- The cells of a table passed row by row.
-use Rattle.std.proofs.Common.{◌≡◌, ℕ, ◌+◌, ◌<◌, ◌≤◌, ◌⊎◌, inl, inr, Bool, true, false, List, [], ◌∷◌, ◌++◌, length, slice_index_or, refl, subst, sym, ◌∙◌, ap, arith, length-append}
-use Rattle.std.proofs.lemmas.Bool.{cases_lt}
-use Rattle.std.proofs.lemmas.List.{get_or_append_left}
-use Rattle.std.proofs.Math.Seq.{get_or-append_seam}
-use denote.Ref.{Bor}
-use Rattle.grid_base.specs.Table.{row_count, col_count, InRange}
+use Rattle.std.proofs.Common.{◌≡◌, ℕ, ◌+◌, ◌<◌, ◌≤◌, ◌⊎◌, inl, inr, Bool, true, false, List, [], ◌∷◌, ◌++◌, length, slice_index_or, refl, subst, sym, ◌∙◌, ap, arith, length-append, Bor}
+use Rattle.grid_base.proofs.Common.{cases_lt, get_or_append_left, get_or-append_seam, row_count, col_count, InRange}
 use Rattle.grid.specs.Found.{Precedes, IsAmong, AnswersAt, FoundAll}
 
 -- P holds of the positions before (r, c)

@@ -1,10 +1,6 @@
 -- A pass that reverses the order of p lines of q cells, after it exchanged the outer l on each side.
-use Rattle.std.proofs.Common.{◌≡◌, ℕ, ◌+◌, ◌-◌, ◌*◌, ◌/◌, ◌<◌, ◌≤◌, List, length, refl, sym, ◌∙◌, ap, arith, ⊎_elim}
-use Rattle.std.specs.List.{slice_get}
-use Rattle.std.proofs.lemmas.Nat.{mul-add-lt}
-use Rattle.std.proofs.lemmas.Bool.{cases_lt}
-use Rattle.std.proofs.Math.Nat.{mul-le-mul_right}
-use Rattle.grid_base.specs.Blocks.{BlocksSwapped}
+use Rattle.std.proofs.Common.{◌≡◌, ℕ, ◌+◌, ◌-◌, ◌*◌, ◌/◌, ◌<◌, ◌≤◌, List, length, refl, sym, ◌∙◌, ap, arith, ⊎_elim, slice_get, mul-le-mul_right}
+use Rattle.grid_base.proofs.Common.{mul-add-lt, cases_lt, BlocksSwapped}
 use Rattle.grid.specs.Passes.{LinesReversed}
 
 pub record Reversing {T : Type 0} (p q l : ℕ) (old now : List T) : Type 0 where

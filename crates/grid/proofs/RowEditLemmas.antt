@@ -1,14 +1,8 @@
 -- Rows put into a table and taken out of it, and what the storage has then.
-use Rattle.std.proofs.Common.{◌≡◌, ℕ, ◌+◌, ◌*◌, ◌-◌, ◌<◌, ◌≤◌, Option, List, [], length, refl, sym, ◌∙◌, ap, subst, arith, is_some, ⊎_elim}
-use Rattle.std.specs.List.{slice_get}
-use Rattle.std.proofs.lemmas.Nat.{mul-add-lt}
-use Rattle.std.proofs.lemmas.Bool.{cases_lt, ne_eqb}
-use Rattle.std.proofs.Math.Nat.{mul-le-mul_right}
+use Rattle.std.proofs.Common.{◌≡◌, ℕ, ◌+◌, ◌*◌, ◌-◌, ◌<◌, ◌≤◌, Option, List, [], length, refl, sym, ◌∙◌, ap, subst, arith, is_some, ⊎_elim, slice_get, ne_eqb, mul-le-mul_right}
+use Rattle.grid_base.proofs.Common.{mul-add-lt, cases_lt, row, row_count, cell, tabulate, place, table_of, Widened, Woven, Opened}
 use Rattle.grid_base.specs.declared.order.Order.{Order}
 use Rattle.grid_base.specs.declared.order.Order.TheVariants.{RowMajor, ColumnMajor}
-use Rattle.grid_base.specs.Table.{row, row_count, cell, tabulate}
-use Rattle.grid_base.specs.Order.{place, table_of}
-use Rattle.grid_base.specs.Groups.{Widened, Woven, Opened}
 use Rattle.grid_base.proofs.TableLemmas.{rows-tabulate, cell-tabulate, width-tabulate, same_tables, IsFull, IsSome_within}
 use Rattle.grid.specs.Edits.{insert_rows, without_rows}
 use Rattle.grid.specs.RowGroups.{RowGroups}

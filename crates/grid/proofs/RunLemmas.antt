@@ -1,18 +1,8 @@
 -- A run of one more command.
-use Rattle.std.proofs.Common.{◌≡◌, ℕ, ◌+◌, ◌<◌, suc, List, [], ◌∷◌, ◌++◌, map, length, take, slice_get, length-append, Some, IsTrue, Result, Ok, Err, OnOk, IfOk, inr, refl, sym, ◌∙◌, ap, subst, arith}
-use Rattle.std.specs.List.{All}
-use Rattle.std.specs.Option.{option_map}
-use Rattle.std.proofs.lemmas.List.{map-append, take-map, length-map}
-use Rattle.std.proofs.lemmas.List.Elements.{All-pop}
-use Rattle.std.proofs.lemmas.Option.{slice_get-map}
-use Rattle.std.proofs.Math.Seq.{take-append_seam}
+use Rattle.std.proofs.Common.{◌≡◌, ℕ, ◌+◌, ◌<◌, suc, List, [], ◌∷◌, ◌++◌, map, length, take, slice_get, length-append, Some, IsTrue, Result, Ok, Err, OnOk, IfOk, inr, refl, sym, ◌∙◌, ap, subst, arith, All, option_map}
+use Rattle.grid_base.proofs.Common.{map-append, take-map, length-map, All-pop, slice_get-map, take-append_seam, GridValue, row_count, col_count, symmetry_of, order_after, Counts, saturating_count, ClonesAreEqual}
 use Rattle.grid_base.specs.declared.order.Order.{Order}
 use Rattle.grid_base.specs.declared.words.Symmetry.TheVariants.{Identity}
-use Rattle.grid_base.specs.GridValue.{GridValue}
-use Rattle.grid_base.specs.Table.{row_count, col_count}
-use Rattle.grid_base.specs.Symmetry.{symmetry_of, order_after}
-use Rattle.grid_base.specs.Tally.{Counts, saturating_count}
-use Rattle.grid_base.specs.Clones.{ClonesAreEqual}
 use Rattle.grid_base.proofs.GroupLemmas.{product, symmetry_of-product_from, symmetry_of-more, order_after-order_after}
 use Rattle.grid_commands.specs.Command.{CommandValue}
 use Rattle.grid_commands.specs.Reply.{ReplyValue}

@@ -1,11 +1,7 @@
 -- What calls on all cells of a grid's vector say of the value that a contract sees.
-use Rattle.std.proofs.Common.{◌≡◌, ℕ, zero, suc, ◌*◌, ◌<◌, List, [], ◌∷◌, Some, length, map, replicate, refl, sym, ◌∙◌, ap, arith}
-use Rattle.std.specs.List.{slice_get}
-use Rattle.std.proofs.lemmas.List.{get_or-map, length-map, length-replicate}
+use Rattle.std.proofs.Common.{◌≡◌, ℕ, zero, suc, ◌*◌, ◌<◌, List, [], ◌∷◌, Some, length, map, replicate, refl, sym, ◌∙◌, ap, arith, slice_get}
+use Rattle.grid_base.proofs.Common.{get_or-map, length-map, length-replicate, row, table_of, storage, place, GridValue, HoldsSize, SameSizeAndOrder}
 use Rattle.grid_base.specs.declared.order.Order.{Order}
-use Rattle.grid_base.specs.Table.{row}
-use Rattle.grid_base.specs.Order.{table_of, storage, place}
-use Rattle.grid_base.specs.GridValue.{GridValue, HoldsSize, SameSizeAndOrder}
 use Rattle.grid_base.proofs.TableLemmas.{same_tables, width-tabulate}
 use Rattle.grid_base.proofs.StorageLemmas.{IsFull-table_of, place_within, get-replicate}
 use Rattle.grid_base.proofs.ViewLemmas.{view-rows, view-cols, view-storage, view-cell}

@@ -1,17 +1,9 @@
 -- What a line edit starts from and leaves, by a grid's fields.
 use Rattle.std.proofs.Common.{◌≡◌, ◌<◌, ◌≤◌, ◌+◌, ◌-◌, ◌*◌, ◌^◌, ◌++◌, [], ℕ, zero, suc, List, Vec, take, drop, length, length-append, refl, sym, ◌∙◌, ap, arith, ⊎_elim, subst, Bool, true, false, IsTrue, ◌↔◌}
-use Rattle.std.proofs.lemmas.Bool.{cases_lt, cases_eq}
-use Rattle.std.proofs.lemmas.List.{nil_from_length}
-use Rattle.std.proofs.Math.Seq.{take-append_seam, drop-append_seam}
-use Rattle.std.proofs.Math.Dec.{eqb-suc-zero}
+use Rattle.grid_base.proofs.Common.{cases_lt, cases_eq, nil_from_length, take-append_seam, drop-append_seam, eqb-suc-zero, row_count, col_count, IsTable, storage, table_of, items_of_each, GridValue, HoldsSize, Woven, Closed, TakenOut}
 use Rattle.grid_base.specs.declared.order.Order.{Order}
-use Rattle.grid_base.specs.Table.{row_count, col_count, IsTable}
-use Rattle.grid_base.specs.Order.{storage, table_of}
-use Rattle.grid_base.specs.Gather.{items_of_each}
 use Rattle.grid_base.proofs.GatherLemmas.{rows-vecs}
-use Rattle.grid_base.specs.GridValue.{GridValue, HoldsSize}
 use Rattle.grid_base.proofs.StorageLemmas.{length-storage}
-use Rattle.grid_base.specs.Groups.{Woven, Closed, TakenOut}
 use Rattle.grid.specs.Edits.{FitsRow, insert_rows, without_rows}
 use Rattle.grid.specs.RowGroups.{RowGroups, cols_if_rows}
 use Rattle.grid.proofs.SeenLemmas.{seen_rows, seen_cols}

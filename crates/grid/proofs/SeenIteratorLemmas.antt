@@ -1,12 +1,8 @@
 -- What iterators over a grid's fields say of the value that a contract sees.
 use Rattle.std.proofs.Common.{◌≡◌, ℕ, List, ◌++◌, length, take, drop, zip, refl, sym, ◌∙◌, ap}
-use Rattle.std.specs.List.{refill, length_refill}
+use Rattle.grid_base.proofs.Common.{refill, length_refill, row_count, col_count, transposed, place, flipped, table_of, positions, GridValue, HoldsSize}
 use Rattle.grid_base.specs.declared.order.Order.{Order}
 use Rattle.grid_base.specs.declared.order.Order.TheVariants.{RowMajor, ColumnMajor}
-use Rattle.grid_base.specs.Table.{row_count, col_count, transposed}
-use Rattle.grid_base.specs.Order.{place, flipped, table_of}
-use Rattle.grid_base.specs.Positions.{positions}
-use Rattle.grid_base.specs.GridValue.{GridValue, HoldsSize}
 use Rattle.grid_base.specs.FlatLends.{written_from}
 use Rattle.grid_base.proofs.ActLemmas.{act_is_transposed}
 use Rattle.grid_base.proofs.ViewLemmas.{same_grid_value, view-transpose}

@@ -1,13 +1,9 @@
 -- What a grid's fields say of the value that a contract sees.
-use Rattle.std.proofs.Common.{◌≡◌, ◌<◌, ℕ, List, [], length, sym, ◌∙◌, ap, arith, ◌↔◌, IsTrue, nat_eq}
-use borrow.Author.Tests.{eqb-true, eq-eqb}
+use Rattle.std.proofs.Common.{◌≡◌, ◌<◌, ℕ, List, [], length, sym, ◌∙◌, ap, arith, ◌↔◌, IsTrue, nat_eq, eqb-true, eq-eqb}
+use Rattle.grid_base.proofs.Common.{row_count, col_count, InRange, table_of, storage, GridValue, HoldsSize, nil_from_length}
 use Rattle.grid_base.specs.declared.order.Order.{Order}
-use Rattle.grid_base.specs.Table.{row_count, col_count, InRange}
-use Rattle.grid_base.specs.Order.{table_of, storage}
-use Rattle.grid_base.specs.GridValue.{GridValue, HoldsSize}
 use Rattle.grid_base.proofs.ViewLemmas.{same_grid_value, view-rows, view-cols, view-storage}
 use Rattle.grid.specs.View.{grid_value}
-use Rattle.std.proofs.lemmas.List.{nil_from_length}
 
 module _ {T : Type 0} (o : Order) (m n : ℕ) (cells : List T) (s : GridValue T) (h : HoldsSize m n (length cells)) where
   pub seen_rows : grid_value o m n cells h ≡ s → row_count s.rows ≡ m

@@ -1,21 +1,13 @@
 -- What padding starts from and leaves, by a grid's fields, and as columns between two transposes.
-use Rattle.std.proofs.Common.{◌≡◌, ◌<◌, ◌≤◌, ◌+◌, ◌*◌, ◌^◌, ◌⊎◌, ◌∷◌, [], ℕ, List, take, drop, length, refl, sym, ◌∙◌, ap, arith, ⊎_elim, subst, inr, length-append}
-use Rattle.std.specs.List.{All}
-use Rattle.std.proofs.lemmas.List.{nil_from_length, take_at, drop_at, ext_get_or, length-replicate}
-use Rattle.std.proofs.lemmas.List.Elements.{All-nil, All-get_or}
-use Rattle.std.proofs.lemmas.Bool.{cases_eq}
+use Rattle.std.proofs.Common.{◌≡◌, ◌<◌, ◌≤◌, ◌+◌, ◌*◌, ◌^◌, ◌⊎◌, ◌∷◌, [], ℕ, List, take, drop, length, refl, sym, ◌∙◌, ap, arith, ⊎_elim, subst, inr, length-append, All, take_at, drop_at, ext_get_or}
+use Rattle.grid_base.proofs.Common.{nil_from_length, length-replicate, All-nil, All-get_or, cases_eq, row, row_count, col_count, IsTable, table_of, flipped, GridValue, HoldsSize, act, Opened}
 use Rattle.grid_base.specs.declared.order.Order.{Order}
 use Rattle.grid_base.specs.declared.words.Symmetry.TheVariants.{Transpose}
-use Rattle.grid_base.specs.Table.{row, row_count, col_count, IsTable}
-use Rattle.grid_base.specs.Order.{table_of, flipped}
 use Rattle.grid.specs.View.{grid_value}
-use Rattle.grid_base.specs.GridValue.{GridValue, HoldsSize}
 use Rattle.grid_base.specs.Append.{AppendsEach}
-use Rattle.grid_base.specs.Symmetry.{act}
 use Rattle.grid_commands.proofs.FactorLemmas.{factor_small}
 use Rattle.grid.specs.Edits.{PadsRows, PadsCols, padding_count, insert_rows, expanded_rows, prepended_rows}
 use Rattle.grid.specs.Make.{IsOnlyDefault}
-use Rattle.grid_base.specs.Groups.{Opened}
 use Rattle.grid.specs.RowGroups.{RowGroups}
 use Rattle.grid.proofs.SeenLemmas.{seen_rows, seen_cols}
 use Rattle.grid.proofs.PaddingLemmas.{RowsOpened, view-open_rows, All-all_fresh, replicate_from_all, All-from_gets, holds_at}

@@ -1,21 +1,9 @@
 -- Two rows or two columns of a table that change places, cell by cell.
-use Rattle.std.proofs.Common.{◌≡◌, ◌≢◌, ℕ, ◌+◌, ◌*◌, ◌<◌, ◌≤◌, Bool, true, false, nat_eq, if◌then◌else◌, Option, Some, None, List, [], ◌∷◌, length, set, get_or, IsSome, refl, sym, ◌∙◌, ap, arith, ⊎_elim}
-use Rattle.std.specs.Bool.{Decides}
-use Rattle.std.specs.List.{slice_get, swap}
+use Rattle.std.proofs.Common.{◌≡◌, ◌≢◌, ℕ, ◌+◌, ◌*◌, ◌<◌, ◌≤◌, Bool, true, false, nat_eq, if◌then◌else◌, Option, Some, None, List, [], ◌∷◌, length, set, get_or, IsSome, refl, sym, ◌∙◌, ap, arith, ⊎_elim, Decides, slice_get, swap, mul-le-mul_right, length-set}
+use Rattle.grid_base.proofs.Common.{length-map, swap_is, length-swap, slice_get-get_or, cases_lt, nat_tests, row, row_count, col_count, cell, with_cell_of, exchanged, IsTable, table_of, BlocksSwapped, GridValue, HoldsSize, act}
 use Rattle.std.proofs.Math.ListN.{get_or-map}
-use Rattle.std.proofs.Math.Nat.{mul-le-mul_right}
-use Rattle.std.proofs.lemmas.List.{length-set, length-map}
-use Rattle.std.proofs.lemmas.List.Edits.{swap_is, length-swap}
-use Rattle.std.proofs.lemmas.Option.{slice_get-get_or}
-use Rattle.std.proofs.lemmas.Bool.{cases_lt}
-use Rattle.std.proofs.lemmas.Bool.Decides.{nat_tests}
 use Rattle.grid_base.specs.declared.order.Order.TheVariants.{RowMajor}
-use Rattle.grid_base.specs.Table.{row, row_count, col_count, cell, with_cell_of, exchanged, IsTable}
-use Rattle.grid_base.specs.Order.{table_of}
-use Rattle.grid_base.specs.Blocks.{BlocksSwapped}
-use Rattle.grid_base.specs.GridValue.{GridValue, HoldsSize}
 use Rattle.grid_base.specs.declared.words.Symmetry.TheVariants.{Transpose}
-use Rattle.grid_base.specs.Symmetry.{act}
 use Rattle.grid_base.proofs.ActLemmas.{cell-act, rows-act}
 use Rattle.grid_base.proofs.TableLemmas.{IsSome_within, same_tables}
 use Rattle.grid_base.proofs.ViewLemmas.{view-rows, view-cols, view-table, view-cell}

@@ -1,16 +1,9 @@
 -- Texts item by item and row by row.
-use Rattle.std.proofs.Common.{◌≡◌, ℕ, zero, suc, ◌+◌, ◌-◌, ◌^◌, ◌<◌, ◌≤◌, ℤ, pos, negsuc, List, [], ◌∷◌, ◌++◌, length, take, map, replicate, codes, refl, sym, ap, ◌∙◌, arith, append_assoc, append-nil, cond, ltb, max, true, false, ◌≢◌}
-use Rattle.std.specs.Prelude.{Some, OnOk, is_ok, if◌then◌else◌}
+use Rattle.std.proofs.Common.{◌≡◌, ℕ, zero, suc, ◌+◌, ◌-◌, ◌^◌, ◌<◌, ◌≤◌, ℤ, pos, negsuc, List, [], ◌∷◌, ◌++◌, length, take, map, replicate, codes, refl, sym, ap, ◌∙◌, arith, append_assoc, append-nil, cond, ltb, max, true, false, ◌≢◌, Some, OnOk, is_ok, if◌then◌else◌, flat_map, slice_get, decimal, take_all, lt-ltb, le-ltb, ne_eqb, nat_cmp}
+use Rattle.grid_base.proofs.Common.{join_by, repeat, signed_decimal, styled_signed_decimal, format_spec, padded_integral, char_count, take_more, map-append, length-map, flat_map_more, nat_tests, ord_max, row, row_count, col_count, IsTable, concat_rows}
 use Rattle.std.specs.declared.result.Result.{Result}
 use Rattle.std.specs.declared.result.Result.TheVariants.{Ok, Err}
-use Rattle.std.specs.List.{flat_map, join_by, slice_get, repeat}
 use Rattle.std.specs.Char.{encode_utf8}
-use Rattle.std.specs.Fmt.{signed_decimal, decimal, styled_signed_decimal, format_spec, padded_integral, char_count}
-use Rattle.std.proofs.lemmas.List.{take_more, map-append, take_all, length-map, flat_map_more}
-use Rattle.std.proofs.lemmas.Bool.Decides.{nat_tests}
-use borrow.Author.Tests.{lt-ltb, le-ltb, ne_eqb}
-use Rattle.std.specs.Ordering.{ord_max, nat_cmp}
-use Rattle.grid_base.specs.Table.{row, row_count, col_count, IsTable, concat_rows}
 use Rattle.grid.specs.Texts.{numbers, longest, right_aligned, row_line, text_in_width}
 use Rattle.grid_base.proofs.ClosureLemmas.{take_next}
 

@@ -1,13 +1,8 @@
 -- A column edit as the row edit between two transposes.
-use Rattle.std.proofs.Common.{◌≡◌, ◌<◌, ◌≤◌, ℕ, List, length, refl, sym, ◌∙◌, ap, arith, inl, inr, ⊎_elim, Bool, true, false, IsTrue, ◌↔◌, ◌+◌, if◌then◌else◌, Result, Ok, Err, OnErr}
-use Rattle.std.specs.List.{insert, remove}
-use Rattle.std.proofs.lemmas.Bool.{cases_lt}
+use Rattle.std.proofs.Common.{◌≡◌, ◌<◌, ◌≤◌, ℕ, List, length, refl, sym, ◌∙◌, ap, arith, inl, inr, ⊎_elim, Bool, true, false, IsTrue, ◌↔◌, ◌+◌, if◌then◌else◌, Result, Ok, Err, OnErr, insert, remove}
+use Rattle.grid_base.proofs.Common.{cases_lt, row_count, col_count, IsTable, flipped, GridValue, act}
 use Rattle.grid.proofs.NoneTakenLemmas.{remove-past, without_cols-past}
 use Rattle.grid_base.specs.declared.words.Symmetry.TheVariants.{Transpose}
-use Rattle.grid_base.specs.Table.{row_count, col_count, IsTable}
-use Rattle.grid_base.specs.Order.{flipped}
-use Rattle.grid_base.specs.GridValue.{GridValue}
-use Rattle.grid_base.specs.Symmetry.{act}
 use Rattle.grid_base.proofs.ViewLemmas.{same_grid_value, flipped-flipped}
 use Rattle.grid_base.proofs.ActLemmas.{rows-act}
 use Rattle.grid.specs.Edits.{FitsRow, FitsCol, insert_rows, insert_col, insert_cols, without_rows, without_cols}

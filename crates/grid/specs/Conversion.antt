@@ -1,32 +1,10 @@
 -- Cells joined and cut into rows, and rows of one length as a table.
-use Rattle.std.specs.Prelude.{
-  ◌≡◌,
-  ◌≢◌,
-  ◌==◌,
-  if◌then◌else◌,
-  ℕ,
-  ◌^◌,
-  ◌<◌,
-  ◌≤◌,
-  List,
-  [],
-  length,
-  Result,
-  MatchResult,
-}
+use Rattle.std.specs.Prelude.{◌≡◌, ◌≢◌, ◌==◌, if◌then◌else◌, ℕ, ◌^◌, ◌<◌, ◌≤◌, List, [], length, Result, MatchResult}
+use Rattle.grid_base.specs.Prelude.{row, row_count, col_count, concat_rows, CanCut, GridValue, ClonesAreEqual}
 use Rattle.std.specs.List.{AllZip}
 use Rattle.grid_base.specs.declared.order.Order.TheVariants.{RowMajor}
-use Rattle.grid_base.specs.Table.{row, row_count, col_count, concat_rows}
-use Rattle.grid_base.specs.Order.{CanCut}
-use Rattle.grid_base.specs.GridValue.{GridValue}
-use Rattle.grid_base.specs.Clones.{ClonesAreEqual}
 use Rattle.grid_commands.specs.declared.error.ShapeError.{ShapeError}
-use Rattle.grid_commands.specs.declared.error.ShapeError.TheVariants.{
-  TooLarge,
-  Shape,
-  Ragged,
-  Memory,
-}
+use Rattle.grid_commands.specs.declared.error.ShapeError.TheVariants.{TooLarge, Shape, Ragged, Memory}
 
 -- why `len` cells could not be cut into rows of n: the cells of one vector are never too many, and
 -- rows that are cut are never ragged; memory says when allocation may fail

@@ -1,8 +1,7 @@
 -- Clones of whole grids.
 use Rattle.std.specs.Prelude.{◌≡◌}
+use Rattle.grid_base.specs.Prelude.{GridValue, ClonesAreEqual}
 use Rattle.std.specs.List.{AllZip}
-use Rattle.grid_base.specs.GridValue.{GridValue}
-use Rattle.grid_base.specs.Clones.{ClonesAreEqual}
 
 module _ {T : Type 0} where
   -- a grid of the same size and order with a clone of each cell in its place, which is the same

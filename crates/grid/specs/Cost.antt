@@ -1,12 +1,9 @@
 -- What commands cost in counted swaps, and the symmetries that they apply.
-use Rattle.std.specs.Prelude.{ℕ, List, map, nat_eq, if◌then◌else◌}
-use Rattle.std.specs.Option.{is_none}
+use Rattle.std.specs.Prelude.{ℕ, List, map, nat_eq, if◌then◌else◌, is_none}
+use Rattle.grid_base.specs.Prelude.{flipped, row_count, col_count, price, symmetry_of}
 use Rattle.grid_base.specs.declared.order.Order.{Order}
 use Rattle.grid_base.specs.declared.words.Symmetry.{Symmetry}
 use Rattle.grid_base.specs.declared.words.Symmetry.TheVariants.{Identity}
-use Rattle.grid_base.specs.Order.{flipped}
-use Rattle.grid_base.specs.Table.{row_count, col_count}
-use Rattle.grid_base.specs.Symmetry.{price, symmetry_of}
 use Rattle.grid_commands.specs.declared.command.Axis.{Axis}
 use Rattle.grid_commands.specs.declared.command.Axis.TheVariants.{Row, Col}
 use Rattle.grid_commands.specs.Command.{Edit, delete_at, delete_range, expand, prepend, CommandValue, lines, apply, line_count, line_width}

@@ -1,24 +1,7 @@
 -- How an edit that adds lines fails: as too large exactly where the cells would be too many, and
 -- with nothing changed.
-use Rattle.std.specs.Prelude.{
-  ◌≡◌,
-  ◌↔◌,
-  ℕ,
-  ◌+◌,
-  List,
-  [],
-  length,
-  Vec,
-  Result,
-  IsOk,
-  IsErrOf,
-  IsErrAnd,
-  IfErr,
-  OnErr,
-}
-use Rattle.grid_base.specs.Table.{col_count}
-use Rattle.grid_base.specs.Gather.{items_of_each}
-use Rattle.grid_base.specs.GridValue.{GridValue}
+use Rattle.std.specs.Prelude.{◌≡◌, ◌↔◌, ℕ, ◌+◌, List, [], length, Vec, Result, IsOk, IsErrOf, IsErrAnd, IfErr, OnErr}
+use Rattle.grid_base.specs.Prelude.{col_count, items_of_each, GridValue}
 use Rattle.grid_commands.specs.declared.error.GridError.{GridError}
 use Rattle.grid_commands.specs.declared.error.GridError.TheVariants.{TooLarge}
 use Rattle.grid_commands.specs.declared.error.LineRefused.{LineRefused}

@@ -1,9 +1,7 @@
 -- What an edit of rows or columns makes of a grid and a tally. Only private clauses cite these two:
 -- those of `Grid::step` say the same of any command.
 use Rattle.std.specs.Prelude.{◌≡◌, Result, OnOk, OnErr, IfOk, IsTrue}
-use Rattle.grid_base.specs.GridValue.{GridValue}
-use Rattle.grid_base.specs.Tally.{Counts, saturating_count}
-use Rattle.grid_base.specs.Clones.{ClonesAreEqual}
+use Rattle.grid_base.specs.Prelude.{GridValue, Counts, saturating_count, ClonesAreEqual}
 use Rattle.grid_commands.specs.declared.command.Axis.{Axis}
 use Rattle.grid_commands.specs.declared.command.Reply.{Reply}
 use Rattle.grid_commands.specs.Command.{Edit, lines}

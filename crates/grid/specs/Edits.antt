@@ -1,26 +1,5 @@
 -- Edits of tables: lines put and taken, and padding.
-use Rattle.std.specs.Prelude.{
-  ◌≡◌,
-  ◌⊎◌,
-  ℕ,
-  ◌+◌,
-  Bool,
-  true,
-  false,
-  List,
-  [],
-  ◌∷◌,
-  ◌++◌,
-  length,
-  All,
-  ◌<◌,
-  map,
-  filter,
-  take,
-  drop,
-  insert,
-  replicate,
-}
+use Rattle.std.specs.Prelude.{◌≡◌, ◌⊎◌, ℕ, ◌+◌, Bool, true, false, List, [], ◌∷◌, ◌++◌, length, All, ◌<◌, map, filter, take, drop, insert, replicate}
 use Rattle.grid_base.specs.Table.{row, row_count, col_count}
 use Rattle.grid.specs.Make.{IsOnlyDefault}
 

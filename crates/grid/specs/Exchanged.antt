@@ -1,7 +1,6 @@
 -- Parts of two grids that change places. Only contracts of private calls cite this module.
 use Rattle.std.specs.Prelude.{◌≡◌, ◌⊎◌, ℕ, ◌+◌, ◌<◌}
-use Rattle.grid_base.specs.Table.{row_count, col_count, cell}
-use Rattle.grid_base.specs.GridValue.{GridValue}
+use Rattle.grid_base.specs.Prelude.{row_count, col_count, cell, GridValue}
 use Rattle.grid_base.specs.declared.order.Order.TheVariants.{RowMajor}
 use Rattle.grid_view.specs.Value.{ViewValue}
 

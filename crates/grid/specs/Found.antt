@@ -1,19 +1,5 @@
 -- The positions of cells at which a closure answers true.
-use Rattle.std.specs.Prelude.{
-  ◌≡◌,
-  ◌<◌,
-  ◌⊎◌,
-  ℕ,
-  Bool,
-  true,
-  false,
-  Option,
-  Some,
-  List,
-  length,
-  slice_index_or,
-  MatchOption,
-}
+use Rattle.std.specs.Prelude.{◌≡◌, ◌<◌, ◌⊎◌, ℕ, Bool, true, false, Option, Some, List, length, slice_index_or, MatchOption}
 use denote.Ref.{Bor}
 use Rattle.grid_base.specs.Table.{cell, InRange}
 

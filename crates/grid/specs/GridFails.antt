@@ -1,16 +1,6 @@
 -- How a call that appends a grid fails: as too large exactly where the cells would be too many, and
 -- with nothing changed.
-use Rattle.std.specs.Prelude.{
-  ◌≡◌,
-  ◌↔◌,
-  ℕ,
-  [],
-  Result,
-  IsOk,
-  IsErrAnd,
-  IfErr,
-  OnErr,
-}
+use Rattle.std.specs.Prelude.{◌≡◌, ◌↔◌, ℕ, [], Result, IsOk, IsErrAnd, IfErr, OnErr}
 use Rattle.grid_base.specs.GridValue.{GridValue}
 use Rattle.grid_commands.specs.declared.error.GridError.TheVariants.{TooLarge}
 use Rattle.grid.specs.declared.edits.append.GridRefused.{GridRefused}

@@ -1,6 +1,7 @@
 -- What a grid ends as, once a slice or an iterator for writing has ended.
-use Rattle.std.specs.Prelude.{◌≡◌, ℕ, List, ◌++◌, length, take, drop}
-use Rattle.std.proofs.Common.{sym, refl}
+use Rattle.std.specs.Prelude.{◌≡◌, ℕ, List, ◌++◌, length, take, drop, refl}
+use Rattle.grid_base.specs.Prelude.{row_count, col_count, storage, place, GridValue, line_mut_name}
+use Rattle.std.proofs.Common.{sym}
 use Rattle.std.specs.List.{refill, length_refill}
 use Rattle.std.specs.Borrow.{follows, Lends, Fml, RattleType, MutBor, Array}
 use Rattle.std.specs.Slice.Iter.{iter_mut_name}
@@ -8,11 +9,7 @@ use Rattle.std.specs.declared.slice.IterMut.{IterMut}
 use Rattle.std.specs.declared.alloc.Allocator.{Ghosts}
 use Rattle.grid_base.specs.declared.flat.line_iter_mut.GridLineIterMut.{GridLineIterMut}
 use Rattle.grid_base.specs.declared.flat.indexed.IndexedIterMut.{IndexedIterMut}
-use Rattle.grid_base.specs.Table.{row_count, col_count}
-use Rattle.grid_base.specs.Order.{storage, place}
-use Rattle.grid_base.specs.GridValue.{GridValue}
 use Rattle.grid_base.specs.FlatLends.{written_from}
-use Rattle.grid_base.specs.GridLineIterMut.{line_mut_name}
 use Rattle.grid_base.specs.IndexedIterMut.{indexed_mut_name}
 use Rattle.grid.specs.View.{with_cells}
 use Rattle.grid.specs.contracts.grid.Grid.{the_row}

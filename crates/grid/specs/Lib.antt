@@ -1,3 +1,4 @@
+pub mod Prelude
 pub mod View
 pub mod Found
 pub mod Grid

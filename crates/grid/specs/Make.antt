@@ -1,29 +1,7 @@
 -- What the constructors of a grid say of its table.
-use Rattle.std.specs.Prelude.{
-  ◌≡◌,
-  ◌≢◌,
-  ◌↔◌,
-  ◌<◌,
-  ◌≤◌,
-  ◌^◌,
-  ℕ,
-  ◌*◌,
-  List,
-  [],
-  Option,
-  Some,
-  Result,
-  Ok,
-  Err,
-  IsOk,
-  IsErrOf,
-  IsSomeAnd,
-  All,
-}
+use Rattle.std.specs.Prelude.{◌≡◌, ◌≢◌, ◌↔◌, ◌<◌, ◌≤◌, ◌^◌, ℕ, ◌*◌, List, [], Option, Some, Result, Ok, Err, IsOk, IsErrOf, IsSomeAnd, All}
+use Rattle.grid_base.specs.Prelude.{row_count, col_count, cell, InRange, tabulate, place, storage, GridValue, FitsUsize}
 use Rattle.grid_base.specs.declared.order.Order.{Order}
-use Rattle.grid_base.specs.Table.{row_count, col_count, cell, InRange, tabulate}
-use Rattle.grid_base.specs.Order.{place, storage}
-use Rattle.grid_base.specs.GridValue.{GridValue, FitsUsize}
 use Rattle.grid_commands.specs.declared.error.GridError.{GridError}
 use Rattle.grid_commands.specs.declared.error.GridError.TheVariants.{TooLarge}
 

@@ -1,6 +1,5 @@
 -- Parts of a table, and lines of a table that change places.
-use Rattle.std.specs.Prelude.{ℕ, List, map}
-use Rattle.std.specs.List.{swap}
+use Rattle.std.specs.Prelude.{ℕ, List, map, swap}
 pub use Rattle.grid_view.specs.View.{sub_table}
 
 -- a table whose columns a and b have changed places

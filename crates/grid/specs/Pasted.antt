@@ -1,30 +1,8 @@
 -- A table over which another is laid, and a part of a table that is written.
-use Rattle.std.specs.Prelude.{
-  ◌≡◌,
-  ℕ,
-  ℤ,
-  pos,
-  negsuc,
-  ◌+◌,
-  ◌-◌,
-  ◌<◌,
-  ◌≤◌,
-  ◌⊎◌,
-  ◌&&◌,
-  Bool,
-  Option,
-  None,
-  Some,
-  List,
-  IsTrue,
-  nat_lt,
-  nat_le,
-  if◌then◌else◌,
-}
+use Rattle.std.specs.Prelude.{◌≡◌, ℕ, ℤ, pos, negsuc, ◌+◌, ◌-◌, ◌<◌, ◌≤◌, ◌⊎◌, ◌&&◌, Bool, Option, None, Some, List, IsTrue, nat_lt, nat_le, if◌then◌else◌}
+use Rattle.grid_base.specs.Prelude.{row_count, col_count, cell, InRange, tabulate, GridValue}
 use Rattle.std.specs.Option.{option_or}
 use denote.Ref.{Bor}
-use Rattle.grid_base.specs.Table.{row_count, col_count, cell, InRange, tabulate}
-use Rattle.grid_base.specs.GridValue.{GridValue}
 
 -- number i counted from a signed number on; None before it
 abbrev pub counted_from : ℤ → ℕ → Option ℕ

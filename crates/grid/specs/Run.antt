@@ -1,30 +1,7 @@
 -- What a list of commands does to a table and replies: the plain run. And what it costs.
-use Rattle.std.specs.Prelude.{
-  ◌≡◌,
-  ◌⊎◌,
-  ℕ,
-  ◌+◌,
-  ◌<◌,
-  List,
-  [],
-  ◌∷◌,
-  length,
-  slice_get,
-  take,
-  map,
-  All,
-  IsSomeAnd,
-  IsTrue,
-  Result,
-  IfOk,
-  IfErr,
-  Vec,
-}
+use Rattle.std.specs.Prelude.{◌≡◌, ◌⊎◌, ℕ, ◌+◌, ◌<◌, List, [], ◌∷◌, length, slice_get, take, map, All, IsSomeAnd, IsTrue, Result, IfOk, IfErr, Vec}
+use Rattle.grid_base.specs.Prelude.{GridValue, order_after, Counts, saturating_count, ClonesAreEqual}
 use Rattle.grid_base.specs.declared.order.Order.{Order}
-use Rattle.grid_base.specs.GridValue.{GridValue}
-use Rattle.grid_base.specs.Symmetry.{order_after}
-use Rattle.grid_base.specs.Tally.{Counts, saturating_count}
-use Rattle.grid_base.specs.Clones.{ClonesAreEqual}
 use Rattle.grid_commands.specs.declared.command.Reply.{Reply}
 use Rattle.grid_commands.specs.declared.command.RunStopped.{RunStopped}
 use Rattle.grid_commands.specs.Command.{CommandValue}

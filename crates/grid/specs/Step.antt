@@ -1,72 +1,14 @@
 -- What a command does to a table and replies: the plain step. And when it takes memory.
-use Rattle.std.specs.Prelude.{
-  ℕ,
-  ◌+◌,
-  ◌-◌,
-  ⊤,
-  Bool,
-  true,
-  false,
-  not,
-  ◌&&◌,
-  Option,
-  List,
-  [],
-  ◌∷◌,
-  slice_get,
-  nat_lt,
-  if◌then◌else◌,
-}
-use Rattle.std.specs.Option.{is_none}
-use Rattle.grid_base.specs.Table.{row_count, col_count, cell, transposed, with_cell, exchanged}
-use Rattle.grid_base.specs.Symmetry.{act}
-use Rattle.grid_base.specs.Clones.{ClonesAreEqual}
+use Rattle.std.specs.Prelude.{ℕ, ◌+◌, ◌-◌, ⊤, Bool, true, false, not, ◌&&◌, Option, List, [], ◌∷◌, slice_get, nat_lt, if◌then◌else◌, is_none}
+use Rattle.grid_base.specs.Prelude.{row_count, col_count, cell, transposed, with_cell, exchanged, act, ClonesAreEqual}
 use Rattle.grid_commands.specs.declared.command.Axis.{Axis}
 use Rattle.grid_commands.specs.declared.command.Axis.TheVariants.{Row, Col}
-use Rattle.grid_commands.specs.Command.{
-  Edit,
-  read,
-  push,
-  insert_at,
-  insert_all,
-  pop,
-  remove_at,
-  delete_at,
-  delete_range,
-  expand,
-  prepend,
-  CommandValue,
-  size,
-  get,
-  set_cell,
-  swap_cells,
-  lines,
-  fill,
-  clear,
-  apply,
-  line_count,
-  line_width,
-}
+use Rattle.grid_commands.specs.Command.{Edit, read, push, insert_at, insert_all, pop, remove_at, delete_at, delete_range, expand, prepend, CommandValue, size, get, set_cell, swap_cells, lines, fill, clear, apply, line_count, line_width}
 use Rattle.grid_commands.specs.Reply.{ReplyValue, done, size_is, cell_is, line_is, flag_is, refused}
-use Rattle.grid_commands.specs.Refusal.{
-  in_range,
-  unless_refused,
-  pad_refusal,
-  edit_refusal,
-  command_refusal,
-}
+use Rattle.grid_commands.specs.Refusal.{in_range, unless_refused, pad_refusal, edit_refusal, command_refusal}
 use Rattle.grid.specs.Make.{IsOnlyDefault}
 use Rattle.grid.specs.AllCells.{filled}
-use Rattle.grid.specs.Edits.{
-  insert_rows,
-  insert_cols,
-  without_rows,
-  without_cols,
-  expanded_rows,
-  expanded_cols,
-  prepended_rows,
-  prepended_cols,
-}
+use Rattle.grid.specs.Edits.{insert_rows, insert_cols, without_rows, without_cols, expanded_rows, expanded_cols, prepended_rows, prepended_cols}
 
 -- what an edit that isn't refused comes to
 pub data Effect (T : Type 0) : Type 0 where

@@ -1,8 +1,6 @@
 -- What one command makes of a table, and what it counts.
 use Rattle.std.specs.Prelude.{◌≡◌, List, Result, OnOk, OnErr, IfOk, IsTrue}
-use Rattle.grid_base.specs.GridValue.{GridValue}
-use Rattle.grid_base.specs.Tally.{Counts, saturating_count}
-use Rattle.grid_base.specs.Clones.{ClonesAreEqual}
+use Rattle.grid_base.specs.Prelude.{GridValue, Counts, saturating_count, ClonesAreEqual}
 use Rattle.grid_commands.specs.declared.command.Reply.{Reply}
 use Rattle.grid_commands.specs.Command.{CommandValue}
 use Rattle.grid_commands.specs.Reply.{reply_value}

@@ -2,10 +2,8 @@
 -- cells. That the rows are a table whose size fits is proved in grid_base; no other module of
 -- specs/ names a lemma of a crate.
 use Rattle.std.specs.Prelude.{◌≡◌, ℕ, List, length}
+use Rattle.grid_base.specs.Prelude.{row_count, col_count, with_cell, storage, table_of, GridValue, HoldsSize}
 use Rattle.grid_base.specs.declared.order.Order.{Order}
-use Rattle.grid_base.specs.Table.{row_count, col_count, with_cell}
-use Rattle.grid_base.specs.Order.{storage, table_of}
-use Rattle.grid_base.specs.GridValue.{GridValue, HoldsSize}
 use Rattle.grid_base.proofs.ViewLemmas.{view-table, view-fits, IsTable-recut, FitsUsize-recut}
 use Rattle.grid_base.proofs.WriteLemmas.{IsTable-with_cell, FitsUsize-with_cell}
 

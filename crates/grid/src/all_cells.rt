@@ -1,11 +1,7 @@
 //! Calls on all cells of a grid: `fill` and `fill_with`, `map`, `map_ref`, `map_indexed` and `try_map_indexed`, `update`.
 ghost use Rattle.std.specs.Prelude.{◌≡◌, [], ⊤, length, Ok, IsOk, IfOk, IfErr, OnOk, OnErr};
+ghost use Rattle.grid_base.specs.Prelude.{row_count, col_count, SameSizeAndOrder, storage, MapsTo, CallableAtEach, CallableAtRefs, CallableTimes, Generates, PairsUp, ClonesAreEqual};
 ghost use Rattle.std.specs.Fn.{FnReturnsAt};
-ghost use Rattle.grid_base.specs.Table.{row_count, col_count};
-ghost use Rattle.grid_base.specs.GridValue.{SameSizeAndOrder};
-ghost use Rattle.grid_base.specs.Order.{storage};
-ghost use Rattle.grid_base.specs.ClosureCalls.{MapsTo, CallableAtEach, CallableAtRefs, CallableTimes, Generates, PairsUp};
-ghost use Rattle.grid_base.specs.Clones.{ClonesAreEqual};
 ghost use Rattle.grid.specs.AllCells.{filled, CallableAtPositions, MappedBy, ReachesThere, ReturnsThere};
 ghost use Rattle.grid.specs.Make.{FailsAt};
 ghost use Rattle.grid_commands.specs.declared.error.GridError.TheVariants.{Memory};

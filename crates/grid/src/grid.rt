@@ -1,11 +1,8 @@
 //! A grid, its constructors from a vector, and access to its cells.
-ghost use Rattle.std.specs.Prelude.{◌≡◌, ◌≢◌, ◌↔◌, [], length, IsTrue, IfSome, MatchOption, Some, is_some};
+ghost use Rattle.std.specs.Prelude.{◌≡◌, ◌≢◌, ◌↔◌, [], length, IsTrue, IfSome, MatchOption, Some, is_some, option_copied};
+ghost use Rattle.grid_base.specs.Prelude.{row_count, col_count, cell, with_cell, exchanged, InRange, HoldsSize, SameSizeAndOrder, storage, place, CanCut};
 ghost use Rattle.std.specs.Borrow.{sem};
-ghost use Rattle.std.specs.Option.{option_copied};
-ghost use Rattle.grid_base.specs.Table.{row_count, col_count, cell, with_cell, exchanged, InRange};
 ghost use Rattle.grid.specs.Edits.{FitsRow, FitsCol};
-ghost use Rattle.grid_base.specs.GridValue.{HoldsSize, SameSizeAndOrder};
-ghost use Rattle.grid_base.specs.Order.{storage, place, CanCut};
 
 mod make;
 

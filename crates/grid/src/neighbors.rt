@@ -1,13 +1,9 @@
 //! Iterators over the cells round a cell, on the grid as it is or with its edges joined.
 ghost use Rattle.std.specs.Prelude.{◌≡◌, ◌≤◌, length, IfOk};
-ghost use Rattle.grid_base.specs.Table.{InRange};
-ghost use Rattle.grid_base.specs.GridValue.{SameSizeAndOrder};
+ghost use Rattle.grid_base.specs.Prelude.{InRange, SameSizeAndOrder, storage, CallableAtRefs, GivesCells};
 ghost use Rattle.grid.specs.AllCells.{MappedBy, CallableAtPositions};
-ghost use Rattle.grid_base.specs.Order.{storage};
-ghost use Rattle.grid_base.specs.ClosureCalls.{CallableAtRefs};
 ghost use Rattle.grid_near.specs.Marks.{round_of, TakesCounted, AnswersCounted, TakesSummed, AnswersSummed};
 ghost use Rattle.grid.specs.NearMaps.{CallableRound, ReturnsRound, ReachesRound};
-ghost use Rattle.grid_base.specs.IndexedIterators.{GivesCells};
 ghost use Rattle.grid_near.specs.NearCounts.{CallableNear, CountsNear};
 ghost use Rattle.grid_near.specs.Neighbors.{neighbors4, neighbors8, wrapped_neighbors4, wrapped_neighbors8, neighbors_of, wrapped_neighbors_of, step_count, GivesNear};
 

@@ -1,10 +1,6 @@
 //! A part of a grid as a new grid, and rows or columns that change places.
-ghost use Rattle.std.specs.Prelude.{◌≡◌, ◌<◌, ◌≤◌, ◌+◌, ◌*◌, ◌^◌, IfOk, length};
-ghost use Rattle.std.specs.List.{swap};
-ghost use Rattle.grid_base.specs.Blocks.{BlocksSwapped};
-ghost use Rattle.grid_base.specs.Clones.{ClonesAreEqual};
-ghost use Rattle.grid_base.specs.GridValue.{SameSizeAndOrder};
-ghost use Rattle.grid_base.specs.Table.{row_count, col_count};
+ghost use Rattle.std.specs.Prelude.{◌≡◌, ◌<◌, ◌≤◌, ◌+◌, ◌*◌, ◌^◌, IfOk, length, swap};
+ghost use Rattle.grid_base.specs.Prelude.{BlocksSwapped, ClonesAreEqual, SameSizeAndOrder, row_count, col_count};
 ghost use Rattle.grid.specs.Make.{IsMade};
 ghost use Rattle.grid.specs.Parts.{sub_table, cols_swapped};
 

@@ -1,8 +1,6 @@
 //! Parts of a grid that are written: by the cells of a view, and by a value.
 ghost use Rattle.std.specs.Prelude.{◌≡◌, ◌+◌, ◌<◌, ◌≤◌, pos, OnOk, OnErr};
-ghost use Rattle.grid_base.specs.Clones.{ClonesAreEqual};
-ghost use Rattle.grid_base.specs.Table.{row_count, col_count, InRange};
-ghost use Rattle.grid_base.specs.GridValue.{SameSizeAndOrder};
+ghost use Rattle.grid_base.specs.Prelude.{ClonesAreEqual, row_count, col_count, InRange, SameSizeAndOrder};
 ghost use Rattle.grid.specs.Pasted.{overlaid, part_filled, IsClipped, IsWithin, CallableInPart, CallableInRow, PartUpdated, CellsUpdated};
 
 use crate::Grid;

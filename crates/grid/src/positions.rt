@@ -1,9 +1,7 @@
 //! Positions as pairs: whether there is a cell, access, a step to the side, and the positions of cells that pass a test.
-ghost use Rattle.std.specs.Prelude.{◌≡◌, ◌↔◌, IsTrue, IfOk, IfSome, MatchOption, is_some, Some};
+ghost use Rattle.std.specs.Prelude.{◌≡◌, ◌↔◌, IsTrue, IfOk, IfSome, MatchOption, is_some, Some, option_copied};
+ghost use Rattle.grid_base.specs.Prelude.{cell, with_cell, InRange, SameSizeAndOrder};
 ghost use Rattle.std.specs.Borrow.{sem};
-ghost use Rattle.std.specs.Option.{option_copied};
-ghost use Rattle.grid_base.specs.Table.{cell, with_cell, InRange};
-ghost use Rattle.grid_base.specs.GridValue.{SameSizeAndOrder};
 ghost use Rattle.grid.specs.Found.{CallableAtCells, FoundFirst, FoundAll};
 ghost use Rattle.grid_near.specs.Directions.{IsBeside};
 

@@ -1,12 +1,6 @@
 //! The six moves of a grid, and the eight symmetries.
 ghost use Rattle.std.specs.Prelude.{◌≡◌, ◌*◌, false, length};
-ghost use Rattle.grid_base.specs.Table.{row_count, col_count};
-ghost use Rattle.grid_base.specs.Order.{flipped, storage, table_of};
-ghost use Rattle.grid_base.specs.GridValue.{SameSizeAndOrder};
-ghost use Rattle.grid_base.specs.Symmetry.{act, order_after, price, HasImageSize};
-ghost use Rattle.grid_base.specs.Move.{IsImageByWords};
-ghost use Rattle.grid_base.specs.Flags.{from_flags};
-ghost use Rattle.grid_base.specs.Tally.{saturating_count};
+ghost use Rattle.grid_base.specs.Prelude.{row_count, col_count, flipped, storage, table_of, SameSizeAndOrder, act, order_after, price, HasImageSize, IsImageByWords, from_flags, saturating_count};
 ghost use Rattle.grid_base.specs.declared.words.Symmetry.TheVariants.{FlipRows, FlipCols, RotateHalf, Transpose, RotateLeft, RotateRight};
 
 mod passes;

@@ -1,11 +1,6 @@
 -- Closures, call by call.
-use Rattle.std.proofs.Common.{◌≡◌, ℕ, ◌+◌, Some, List, [], ◌∷◌, ◌++◌, map, refl, sym, subst, ◌∙◌, ap, length, take, arith}
-use Rattle.std.proofs.lemmas.List.{length-append, take_more}
-use Rattle.std.proofs.Math.Seq.{get_or-append_seam, take-append_seam}
-use Rattle.std.proofs.lemmas.Option.{slice_get_within, get_or_from_slice_get}
-use Rattle.std.specs.List.{FoldsTo, AllZip, slice_get}
-use denote.Ref.{Bor}
-use Rattle.grid_base.specs.ClosureCalls.{MapsThrough, MapsTo, PairsUp, CallableAtEach, CallableAtCells, CallableAtItems}
+use Rattle.std.proofs.Common.{◌≡◌, ℕ, ◌+◌, Some, List, [], ◌∷◌, ◌++◌, map, refl, sym, subst, ◌∙◌, ap, length, take, arith, length-append, slice_get, Bor}
+use Rattle.grid_base.proofs.Common.{take_more, get_or-append_seam, take-append_seam, slice_get_within, get_or_from_slice_get, FoldsTo, AllZip, MapsThrough, MapsTo, PairsUp, CallableAtEach, CallableAtCells, CallableAtItems}
 
 -- one more answer
 pub MapsThrough-append : {F A B : Type 0} (step : F → A → B → F → Type 0) (f g h : F) (xs : List A) (ys : List B) (x : A) (y : B) → MapsThrough step f xs ys g → step g x y h → MapsThrough step f (xs ++ x ∷ []) (ys ++ y ∷ []) h

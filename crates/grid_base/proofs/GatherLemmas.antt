@@ -1,13 +1,7 @@
 -- Lists whose items leave them for the end of another list, line by line.
-use Rattle.std.proofs.Common.{◌≡◌, Vec, All, Option, None, ℕ, zero, suc, ◌+◌, ◌-◌, ◌<◌, ◌≤◌, Some, List, [], ◌∷◌, ◌++◌, length, get_or, take, drop, reverse, map, set, refl, sym, ◌∙◌, ap, arith, append_assoc, append-nil, length-append, subst}
-use Rattle.std.specs.List.{flat_map, slice_get}
-use Rattle.std.specs.Option.{option_to_list}
-use Rattle.std.proofs.lemmas.List.{reverse-append, length-map, map-set, get_or-map, take_more, drop_more, map-append, set-append_right, length-take-le, take_all, drop_all, drop_at, take_at}
-use Rattle.std.proofs.lemmas.Grind.{flat_map-append}
-use Rattle.grid_base.specs.Table.{row, row_count, col_count, cell, concat_rows, transposed, IsTable}
-use Rattle.grid_base.specs.Order.{storage}
+use Rattle.std.proofs.Common.{◌≡◌, Vec, All, Option, None, ℕ, zero, suc, ◌+◌, ◌-◌, ◌<◌, ◌≤◌, Some, List, [], ◌∷◌, ◌++◌, length, get_or, take, drop, reverse, map, set, refl, sym, ◌∙◌, ap, arith, append_assoc, append-nil, length-append, subst, flat_map, slice_get, option_to_list, length-take-le, take_all, drop_at, take_at}
+use Rattle.grid_base.proofs.Common.{reverse-append, length-map, map-set, get_or-map, take_more, drop_more, map-append, set-append_right, drop_all, flat_map-append, row, row_count, col_count, cell, concat_rows, transposed, IsTable, storage, items_of_each, last_of, before_last}
 use Rattle.grid_base.specs.declared.order.Order.TheVariants.{ColumnMajor}
-use Rattle.grid_base.specs.Gather.{items_of_each, last_of, before_last}
 use Rattle.grid_base.proofs.TableLemmas.{IsFull, IsFull-cells, width-tabulate, cell-tabulate, same_cells, rows-transposed}
 
 module _ {T : Type 0} where

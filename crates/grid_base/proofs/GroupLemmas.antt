@@ -1,19 +1,12 @@
 -- The eight symmetries are a group, and a word acts as one of them.
 use Rattle.std.proofs.Common.{◌≡◌, ℕ, ◌+◌, ◌<◌, zero, suc, Option, List, [], ◌∷◌, ◌++◌, ◌*◌, unwrap_or, length, take, get_or, map, fold, find, nat_eq, Bool, true, false, not, ◌≢◌, ◌↔◌, if◌then◌else◌, refl, sym, ◌∙◌, ap, arith}
-use Rattle.std.specs.Bool.{beq}
-use Rattle.std.proofs.lemmas.List.{take_more, map-append}
+use Rattle.grid_base.proofs.Common.{beq, take_more, map-append, pointwise, row, row_count, col_count, cell, IsTable, IsSize, cells_by, tabulate, flipped, transposes, source_row, source_col, image_rows, image_cols, act, act_all, test_table, symmetries, symmetry_of, order_after, IsThen, IsInverse, flags_of, from_flags, of_move, word_image, IsNormalForm, ActAlike}
 use Rattle.std.proofs.lemmas.Grind.{fold-append}
-use lib.Pointwise.{pointwise}
 use Rattle.grid_base.specs.declared.words.Symmetry.{Symmetry}
 use Rattle.grid_base.specs.declared.words.Symmetry.TheVariants.{Identity, FlipCols, FlipRows, RotateHalf, Transpose, RotateLeft, RotateRight, AntiTranspose}
 use Rattle.grid_base.specs.declared.words.Move.{Move}
 use Rattle.grid_base.specs.declared.order.Order.{Order}
 use Rattle.grid_base.specs.declared.order.Order.TheVariants.{RowMajor, ColumnMajor}
-use Rattle.grid_base.specs.Table.{row, row_count, col_count, cell, IsTable, IsSize, cells_by, tabulate}
-use Rattle.grid_base.specs.Order.{flipped}
-use Rattle.grid_base.specs.Symmetry.{transposes, source_row, source_col, image_rows, image_cols, act, act_all, test_table, symmetries, symmetry_of, order_after, IsThen, IsInverse}
-use Rattle.grid_base.specs.Flags.{flags_of, from_flags}
-use Rattle.grid_base.specs.Move.{of_move, word_image, IsNormalForm, ActAlike}
 use Rattle.grid_base.proofs.TableLemmas.{tabulate-same, IsFull, IsFull-cells, IsSize-table, tabulate-cells}
 use Rattle.grid_base.proofs.ActLemmas.{act-tabulate, image_cell, IsFull-image, IsSize-image, IsTable-act}
 

@@ -1,10 +1,6 @@
 -- Groups that are woven into lines one by one, the last first, and taken out of them one by one, the first first.
-use Rattle.std.proofs.Common.{◌≡◌, ℕ, ◌+◌, ◌-◌, ◌*◌, ◌<◌, ◌≤◌, List, length, min, refl, sym, ◌∙◌, ap, arith, ⊎_elim}
-use Rattle.std.specs.List.{slice_get}
-use Rattle.std.proofs.lemmas.Bool.{cases_lt, cases_eq}
-use Rattle.std.proofs.Math.Nat.{mul-le-mul_right}
-use Rattle.grid_base.specs.Blocks.{BlocksExchanged}
-use Rattle.grid_base.specs.Groups.{Woven}
+use Rattle.std.proofs.Common.{◌≡◌, ℕ, ◌+◌, ◌-◌, ◌*◌, ◌<◌, ◌≤◌, List, length, min, refl, sym, ◌∙◌, ap, arith, ⊎_elim, slice_get, mul-le-mul_right}
+use Rattle.grid_base.proofs.Common.{cases_lt, cases_eq, BlocksExchanged, Woven}
 use Rattle.grid_base.proofs.WeaveLemmas.{place_below}
 use Rattle.grid_base.proofs.SpreadLemmas.{spread, spread_start, spread_run, spread_later, wide_lines, widened_by_spread}
 

@@ -1,11 +1,6 @@
 -- Parts of a list that are reversed, and blocks that change places: at once, or swap by swap.
-use Rattle.std.proofs.Common.{◌≡◌, ℕ, ◌+◌, ◌-◌, ◌/◌, ◌<◌, ◌≤◌, List, [], ◌∷◌, ◌++◌, length, reverse, Some, sym, ◌∙◌, ap, arith, length-append, ⊎_elim}
-use Rattle.std.specs.List.{slice_get, swap}
-use Rattle.std.proofs.lemmas.List.{length-reverse, get_or-reverse}
-use Rattle.std.proofs.lemmas.List.Edits.{length-swap}
-use Rattle.std.proofs.lemmas.Option.{slice_get-get_or}
-use Rattle.std.proofs.lemmas.Bool.{cases_lt}
-use Rattle.grid_base.specs.Blocks.{PartReversed, BlocksSwapped, BlocksExchanged}
+use Rattle.std.proofs.Common.{◌≡◌, ℕ, ◌+◌, ◌-◌, ◌/◌, ◌<◌, ◌≤◌, List, [], ◌∷◌, ◌++◌, length, reverse, Some, sym, ◌∙◌, ap, arith, length-append, ⊎_elim, slice_get, swap}
+use Rattle.grid_base.proofs.Common.{length-reverse, get_or-reverse, length-swap, slice_get-get_or, cases_lt, PartReversed, BlocksSwapped, BlocksExchanged}
 use Rattle.grid_base.proofs.StorageLemmas.{get_append_left, get_append_right}
 use Rattle.grid_base.proofs.SwapLemmas.{get-swap_first, get-swap_second, get-swap_other}
 

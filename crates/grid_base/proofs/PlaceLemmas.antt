@@ -1,15 +1,8 @@
 -- The positions of a table's cells, one after another.
-use Rattle.std.proofs.Common.{◌≡◌, ℕ, zero, suc, ◌+◌, ◌*◌, ◌-◌, ◌/◌, ◌%◌, ◌<◌, ◌≤◌, ⊎_elim, Option, Some, List, [], ◌∷◌, length, drop, refl, sym, subst, ◌∙◌, ap, arith, length-drop}
-use Rattle.std.specs.List.{slice_get}
-use Rattle.std.proofs.lemmas.List.{drop_all, drop_more}
-use Rattle.std.proofs.lemmas.Option.{slice_get_within, get_or_from_slice_get}
-use Rattle.std.proofs.lemmas.Nat.{div_below, mod_below, div-add-mod'}
-use Rattle.std.proofs.Math.Nat.{mul_comm}
+use Rattle.std.proofs.Common.{◌≡◌, ℕ, zero, suc, ◌+◌, ◌*◌, ◌-◌, ◌/◌, ◌%◌, ◌<◌, ◌≤◌, ⊎_elim, Option, Some, List, [], ◌∷◌, length, drop, refl, sym, subst, ◌∙◌, ap, arith, length-drop, slice_get, div-add-mod', mul_comm}
+use Rattle.grid_base.proofs.Common.{drop_all, drop_more, slice_get_within, get_or_from_slice_get, div_below, mod_below, row_count, col_count, IsSize, tabulate, storage, place, positions, StandsAt, along}
 use Rattle.grid_base.specs.declared.order.Order.{Order}
 use Rattle.grid_base.specs.declared.order.Order.TheVariants.{RowMajor, ColumnMajor}
-use Rattle.grid_base.specs.Table.{row_count, col_count, IsSize, tabulate}
-use Rattle.grid_base.specs.Order.{storage, place}
-use Rattle.grid_base.specs.Positions.{positions, StandsAt, along}
 use Rattle.grid_base.proofs.TableLemmas.{rows-tabulate, cols-tabulate, cell-tabulate, IsFull, IsTable-tabulate}
 use Rattle.grid_base.proofs.StorageLemmas.{length-storage, get-storage, get-drop, place_within}
 

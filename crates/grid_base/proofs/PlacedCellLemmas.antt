@@ -1,6 +1,5 @@
 -- Iterators over cells with their positions.
-use Rattle.std.proofs.Common.{◌≡◌, ◌≤◌, ℕ, zero, suc, List, [], ◌∷◌, ◌++◌, Some, length, refl, ap, ◌∙◌, arith}
-use Rattle.std.specs.List.{zip, slice_get}
+use Rattle.std.proofs.Common.{◌≡◌, ◌≤◌, ℕ, zero, suc, List, [], ◌∷◌, ◌++◌, Some, length, refl, ap, ◌∙◌, arith, zip, slice_get}
 use Rattle.std.proofs.lemmas.Slice.Zip.{length-zip}
 
 -- no pairs without second parts

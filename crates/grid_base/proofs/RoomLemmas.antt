@@ -1,23 +1,7 @@
 -- Cells of a row of places that wait in a room while others move.
-use mathlib.Core.Path.{◌≡◌, refl, ap, sym, subst, ◌∙◌}
-use mathlib.Core.Logic.{inl, inr}
-use mathlib.Core.Bool.{Bool, false}
-use mathlib.Core.List.{List, [], ◌∷◌, ◌++◌}
-use Prim.Native.Nat.{ℕ, suc, ◌+◌, ◌-◌, ◌≤◌, ◌<◌}
-use native.Mathlib.Omega.{arith}
-use lib.ListN.{length, get_or, set, take, drop, length-append, length-drop, get_or-append}
-use lib.Seq.{get_or-take, get_or-drop, get_or-append_right, length-take-le}
-use Rattle.std.proofs.Common.{Some, append_assoc, ⊎_elim}
-use Rattle.std.specs.List.{slice_get}
-use Rattle.std.proofs.lemmas.Option.{slice_get-get_or, slice_get_past}
-use Rattle.std.proofs.lemmas.Bool.{cases_lt}
-use Rattle.std.proofs.lemmas.List.{set_split, drop_more}
-use Rattle.core.specs.List.{slice_range}
-use Rattle.core.specs.Mem.Slots.{SamePlaces}
-use Rattle.core.specs.Mem.Slots.Ownership.{Filled, SameOutside}
+use Rattle.std.proofs.Common.{◌≡◌, refl, ap, sym, subst, ◌∙◌, inl, inr, Bool, false, List, [], ◌∷◌, ◌++◌, ℕ, suc, ◌+◌, ◌-◌, ◌≤◌, ◌<◌, arith, length, get_or, set, take, drop, length-append, length-drop, get_or-take, get_or-drop, length-take-le, Some, append_assoc, ⊎_elim, slice_get, slice_range}
+use Rattle.grid_base.proofs.Common.{get_or-append, get_or-append_right, slice_get-get_or, slice_get_past, cases_lt, set_split, drop_more, SamePlaces, Filled, SameOutside, same_lists, BlocksExchanged}
 use Rattle.core.specs.declared.slots.Slots.{Slots}
-use Rattle.core.proofs.slice.Writes.{same_lists}
-use Rattle.grid_base.specs.Blocks.{BlocksExchanged}
 
 pub same_places : {X : Type 0} (a : Slots X) → SamePlaces a a
 same_places a = record { start = refl; count = refl }

@@ -1,10 +1,6 @@
 -- Swaps at one distance one after another: one more, and where the cells come.
-use Rattle.std.proofs.Common.{◌≡◌, ◌≢◌, ℕ, zero, suc, ◌+◌, ◌-◌, ◌*◌, ◌%◌, ◌<◌, ◌≤◌, List, length, refl, sym, ◌∙◌, ap, arith, add-one, ⊎_elim}
-use Rattle.std.specs.List.{slice_get, swap}
-use Rattle.std.proofs.lemmas.List.Edits.{length-swap}
-use Rattle.std.proofs.lemmas.Bool.{cases_eq, cases_lt}
-use Rattle.std.proofs.Math.Nat.{mod-eq_of_lt, add-mod_right, add-mul-mod_self_right}
-use Rattle.grid_base.specs.Blocks.{swapped_forward, swapped_back}
+use Rattle.std.proofs.Common.{◌≡◌, ◌≢◌, ℕ, zero, suc, ◌+◌, ◌-◌, ◌*◌, ◌%◌, ◌<◌, ◌≤◌, List, length, refl, sym, ◌∙◌, ap, arith, add-one, ⊎_elim, slice_get, swap, mod-eq_of_lt}
+use Rattle.grid_base.proofs.Common.{length-swap, cases_eq, cases_lt, add-mod_right, add-mul-mod_self_right, swapped_forward, swapped_back}
 use Rattle.grid_base.proofs.TableLemmas.{same_cells}
 use Rattle.grid_base.proofs.SwapLemmas.{get-swap_first, get-swap_second, get-swap_other}
 

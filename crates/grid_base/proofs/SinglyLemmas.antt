@@ -1,11 +1,6 @@
 -- Groups that come to their places in lines one by one, the first first, and leave them one by one, the last first.
-use mathlib.Core.Path.{subst}
-use Rattle.std.proofs.Common.{◌≡◌, ℕ, ◌+◌, ◌-◌, ◌*◌, ◌<◌, ◌≤◌, List, length, refl, sym, ◌∙◌, ap, arith, ⊎_elim}
-use Rattle.std.specs.List.{slice_get}
-use Rattle.std.proofs.lemmas.Bool.{cases_lt, cases_eq}
-use Rattle.std.proofs.Math.Nat.{mul-le-mul_right}
-use Rattle.grid_base.specs.Blocks.{BlocksExchanged}
-use Rattle.grid_base.specs.Groups.{Woven}
+use Rattle.std.proofs.Common.{subst, ◌≡◌, ℕ, ◌+◌, ◌-◌, ◌*◌, ◌<◌, ◌≤◌, List, length, refl, sym, ◌∙◌, ap, arith, ⊎_elim, slice_get, mul-le-mul_right}
+use Rattle.grid_base.proofs.Common.{cases_lt, cases_eq, BlocksExchanged, Woven}
 use Rattle.grid_base.proofs.SpreadLemmas.{spread, spread_start, spread_run, widened_by_spread}
 
 -- the groups before line g are at their places, and so are the cells of the lines up to there; the other cells of the lines

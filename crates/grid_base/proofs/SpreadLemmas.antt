@@ -1,10 +1,6 @@
 -- Where the cells of lines are once each line has room for a group.
-use Rattle.std.proofs.Common.{◌≡◌, ◌≢◌, ℕ, ◌+◌, ◌-◌, ◌*◌, ◌/◌, ◌%◌, ◌<◌, ◌≤◌, List, length, min, refl, sym, ◌∙◌, ap, arith, ⊎_elim}
-use Rattle.std.specs.List.{slice_get}
-use Rattle.std.proofs.lemmas.Nat.{div-mul-add, div-add-mod', mod_below, same_from_place, le-div}
-use Rattle.std.proofs.lemmas.Bool.{cases_lt, cases_eq}
-use Rattle.std.proofs.Math.Nat.{mul-le-mul_right}
-use Rattle.grid_base.specs.Groups.{Widened, Opened}
+use Rattle.std.proofs.Common.{◌≡◌, ◌≢◌, ℕ, ◌+◌, ◌-◌, ◌*◌, ◌/◌, ◌%◌, ◌<◌, ◌≤◌, List, length, min, refl, sym, ◌∙◌, ap, arith, ⊎_elim, slice_get, div-add-mod', mul-le-mul_right}
+use Rattle.grid_base.proofs.Common.{div-mul-add, mod_below, same_from_place, le-div, cases_lt, cases_eq, Widened, Opened}
 use Rattle.grid_base.proofs.WeaveLemmas.{place_below}
 use Rattle.grid_base.proofs.ShiftLemmas.{MovedForward, MovedBack}
 

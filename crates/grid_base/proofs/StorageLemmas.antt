@@ -1,8 +1,6 @@
 -- A table and its cells in storage order.
-use Rattle.std.proofs.Common.{◌≡◌, ℕ, zero, suc, ◌+◌, ◌*◌, ◌/◌, ◌%◌, ◌<◌, Some, List, [], ◌∷◌, ◌++◌, length, take, drop, replicate, refl, sym, ◌∙◌, ap, arith, length-append}
-use Rattle.std.specs.List.{slice_get}
-use Rattle.std.proofs.lemmas.Nat.{mul-add-lt, div_below, mod_below, div-add-mod'}
-use Rattle.std.proofs.Math.Nat.{mul_comm}
+use Rattle.std.proofs.Common.{◌≡◌, ℕ, zero, suc, ◌+◌, ◌*◌, ◌/◌, ◌%◌, ◌<◌, Some, List, [], ◌∷◌, ◌++◌, length, take, drop, replicate, refl, sym, ◌∙◌, ap, arith, length-append, slice_get, div-add-mod', mul_comm}
+use Rattle.std.proofs.lemmas.Nat.{mul-add-lt, div_below, mod_below}
 use Rattle.grid_base.specs.declared.order.Order.{Order}
 use Rattle.grid_base.specs.declared.order.Order.TheVariants.{RowMajor, ColumnMajor}
 use Rattle.grid_base.specs.Table.{row, row_count, col_count, cell, IsTable, IsSize, concat_rows, transposed}

@@ -1,12 +1,6 @@
 -- Cells that a closure replaces, one after another and line by line.
-use Rattle.std.proofs.Common.{◌≡◌, ℕ, suc, ◌+◌, ◌<◌, ◌≤◌, Some, List, [], ◌∷◌, zip, length, set, refl, sym, ◌∙◌, arith, ⊎_elim}
-use Rattle.std.specs.List.{AllZip, slice_get}
-use Rattle.std.proofs.lemmas.List.{length-set}
-use Rattle.std.proofs.lemmas.Option.{slice_get_within, get_or_from_slice_get}
-use Rattle.std.proofs.lemmas.Bool.{cases_lt}
-use denote.Ref.{Bor}
-use Rattle.grid_base.specs.ClosureCalls.{CallableAtCells}
-use Rattle.grid_base.specs.Updated.{CallableFrom, UpdatedFrom}
+use Rattle.std.proofs.Common.{◌≡◌, ℕ, suc, ◌+◌, ◌<◌, ◌≤◌, Some, List, [], ◌∷◌, zip, length, set, refl, sym, ◌∙◌, arith, ⊎_elim, slice_get, length-set, Bor}
+use Rattle.grid_base.proofs.Common.{AllZip, slice_get_within, get_or_from_slice_get, cases_lt, CallableAtCells, CallableFrom, UpdatedFrom}
 use Rattle.grid_base.proofs.PlacedCellLemmas.{get-zip}
 use Rattle.grid_base.proofs.WriteLemmas.{get-set_same, get-set_other}
 

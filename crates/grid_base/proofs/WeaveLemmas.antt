@@ -1,11 +1,6 @@
 -- Lines and groups that are woven half by half.
-use Rattle.std.proofs.Common.{◌≡◌, ℕ, ◌+◌, ◌-◌, ◌*◌, ◌/◌, ◌<◌, ◌≤◌, ◌++◌, List, length, take, drop, refl, sym, ◌∙◌, ap, arith, ◌⊎◌, ⊎_elim, length-append}
-use Rattle.std.specs.List.{slice_get}
-use Rattle.std.proofs.lemmas.Nat.{mul-add-lt}
-use Rattle.std.proofs.lemmas.List.{take-append-drop, length-take}
-use Rattle.std.proofs.lemmas.Bool.{cases_lt}
-use Rattle.grid_base.specs.Blocks.{BlocksExchanged}
-use Rattle.grid_base.specs.Groups.{Woven, TakenOut}
+use Rattle.std.proofs.Common.{◌≡◌, ℕ, ◌+◌, ◌-◌, ◌*◌, ◌/◌, ◌<◌, ◌≤◌, ◌++◌, List, length, take, drop, refl, sym, ◌∙◌, ap, arith, ◌⊎◌, ⊎_elim, length-append, slice_get, take-append-drop, length-take}
+use Rattle.grid_base.proofs.Common.{mul-add-lt, cases_lt, BlocksExchanged, Woven, TakenOut}
 use Rattle.grid_base.proofs.StorageLemmas.{get_append_left, get_append_right}
 
 -- the place b of line a of n lines of w cells

@@ -1,19 +1,5 @@
 -- What a closure returned, call by call.
-use Rattle.std.specs.Prelude.{
-  ◌≡◌,
-  ◌<◌,
-  ℕ,
-  List,
-  [],
-  ◌∷◌,
-  ◌++◌,
-  length,
-  take,
-  slice_index_or,
-  Result,
-  Ok,
-  Err,
-}
+use Rattle.std.specs.Prelude.{◌≡◌, ◌<◌, ℕ, List, [], ◌∷◌, ◌++◌, length, take, slice_index_or, Result, Ok, Err}
 use Rattle.std.specs.List.{FoldsTo, AllZip}
 use denote.Ref.{Bor}
 

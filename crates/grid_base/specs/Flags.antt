@@ -1,16 +1,7 @@
 -- A symmetry as an optional transpose, then an optional flip of the rows, then one of the columns.
 use Rattle.std.specs.Prelude.{Bool, true, false}
 use Rattle.grid_base.specs.declared.words.Symmetry.{Symmetry}
-use Rattle.grid_base.specs.declared.words.Symmetry.TheVariants.{
-  Identity,
-  FlipCols,
-  FlipRows,
-  RotateHalf,
-  Transpose,
-  RotateLeft,
-  RotateRight,
-  AntiTranspose,
-}
+use Rattle.grid_base.specs.declared.words.Symmetry.TheVariants.{Identity, FlipCols, FlipRows, RotateHalf, Transpose, RotateLeft, RotateRight, AntiTranspose}
 
 abbrev pub flags_of : Symmetry → Bool × Bool × Bool
 flags_of Identity = (false, false, false)

@@ -1,22 +1,8 @@
 -- What iterators give: what they have left, and that loops and chains get it in order, or from the
 -- end in reverse.
 use Rattle.std.specs.Prelude.{◌≡◌, ℕ, ◌^◌, ◌<◌, List, length, zip}
-use Rattle.std.specs.Iterator.Runs.{
-  YieldsInOrder,
-  YieldsInReverse,
-  YieldsRefsInOrder,
-  YieldsRefsInReverse,
-  YieldsMutRefsInOrder,
-  YieldsMutRefsInReverse,
-}
-use Rattle.std.specs.Slice.Iter.{
-  iter_rest,
-  iter_steps,
-  iter_steps_back,
-  iter_mut_rest,
-  iter_mut_steps,
-  iter_mut_steps_back,
-}
+use Rattle.std.specs.Iterator.Runs.{YieldsInOrder, YieldsInReverse, YieldsRefsInOrder, YieldsRefsInReverse, YieldsMutRefsInOrder, YieldsMutRefsInReverse}
+use Rattle.std.specs.Slice.Iter.{iter_rest, iter_steps, iter_steps_back, iter_mut_rest, iter_mut_steps, iter_mut_steps_back}
 use Rattle.std.specs.Vec.Iter.{into_iter_items, into_iter_steps, into_iter_steps_back}
 use Rattle.std.specs.declared.slice.Iter.{Iter}
 use Rattle.std.specs.declared.slice.IterMut.{IterMut}

@@ -1,3 +1,4 @@
+pub mod Prelude
 pub mod Table
 pub mod Order
 pub mod Symmetry

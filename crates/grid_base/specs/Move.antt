@@ -1,18 +1,11 @@
 -- Words of moves, and what they do to tables.
 use Rattle.std.specs.Prelude.{◌≡◌, ℕ, List, map}
 use Rattle.grid_base.specs.declared.words.Move.{Move}
-use Rattle.grid_base.specs.declared.words.Move.TheVariants as moves
 use Rattle.grid_base.specs.declared.words.Symmetry.{Symmetry}
-use Rattle.grid_base.specs.declared.words.Symmetry.TheVariants.{
-  FlipCols,
-  FlipRows,
-  RotateHalf,
-  Transpose,
-  RotateLeft,
-  RotateRight,
-}
+use Rattle.grid_base.specs.declared.words.Symmetry.TheVariants.{FlipCols, FlipRows, RotateHalf, Transpose, RotateLeft, RotateRight}
 use Rattle.grid_base.specs.Table.{IsTable}
 use Rattle.grid_base.specs.Symmetry.{act, act_all, test_table}
+use Rattle.grid_base.specs.declared.words.Move.TheVariants as moves
 
 -- the symmetry of a move
 abbrev pub of_move : Move → Symmetry

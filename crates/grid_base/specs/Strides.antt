@@ -1,12 +1,7 @@
 -- The cells of a list at a stride, and those that remain of them.
 use Rattle.std.specs.Prelude.{ℕ, zero, suc, ◌-◌, ◌<◌, List, [], ◌∷◌, take, drop, length}
 use Rattle.std.specs.Iterator.{YieldsFirst, YieldsLast, YieldsFirstRef, YieldsLastRef}
-use Rattle.std.specs.Iterator.Runs.{
-  YieldsInOrder,
-  YieldsInReverse,
-  YieldsRefsInOrder,
-  YieldsRefsInReverse,
-}
+use Rattle.std.specs.Iterator.Runs.{YieldsInOrder, YieldsInReverse, YieldsRefsInOrder, YieldsRefsInReverse}
 use Rattle.grid_base.specs.Remaining.{IsRemaining, remaining}
 
 module _ {X : Type 0} where

@@ -1,35 +1,9 @@
 -- The eight symmetries, as formulas on cells.
-use Rattle.std.specs.Prelude.{
-  ◌≡◌,
-  ℕ,
-  ◌-◌,
-  ◌*◌,
-  ◌/◌,
-  Bool,
-  true,
-  false,
-  List,
-  [],
-  ◌∷◌,
-  fold,
-  find,
-  nat_eq,
-  unwrap_or,
-  if◌then◌else◌,
-}
+use Rattle.std.specs.Prelude.{◌≡◌, ℕ, ◌-◌, ◌*◌, ◌/◌, Bool, true, false, List, [], ◌∷◌, fold, find, nat_eq, unwrap_or, if◌then◌else◌}
 use lib.Pointwise.{pointwise}
 use Rattle.grid_base.specs.declared.order.Order.{Order}
 use Rattle.grid_base.specs.declared.words.Symmetry.{Symmetry}
-use Rattle.grid_base.specs.declared.words.Symmetry.TheVariants.{
-  Identity,
-  FlipCols,
-  FlipRows,
-  RotateHalf,
-  Transpose,
-  RotateLeft,
-  RotateRight,
-  AntiTranspose,
-}
+use Rattle.grid_base.specs.declared.words.Symmetry.TheVariants.{Identity, FlipCols, FlipRows, RotateHalf, Transpose, RotateLeft, RotateRight, AntiTranspose}
 use Rattle.grid_base.specs.Table.{row_count, col_count, cell, IsTable, tabulate}
 use Rattle.grid_base.specs.Order.{flipped}
 

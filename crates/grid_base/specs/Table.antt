@@ -1,20 +1,6 @@
 -- Tables: lists of nonempty rows of one length.
-use Rattle.std.specs.Prelude.{
-  ◌≡◌,
-  ℕ,
-  ◌<◌,
-  Option,
-  None,
-  Some,
-  List,
-  [],
-  length,
-  map,
-  slice_get,
-  slice_index_or,
-  slice_set,
-}
-use Rattle.std.specs.List.{filter_map, range_with_len, flat_map}
+use Rattle.std.specs.Prelude.{◌≡◌, ℕ, ◌<◌, Option, None, Some, List, [], length, map, slice_get, slice_index_or, slice_set, filter_map, flat_map}
+use Rattle.std.specs.List.{range_with_len}
 
 -- no rows exactly if no columns
 pub record IsSize (m n : ℕ) : Type 0 where

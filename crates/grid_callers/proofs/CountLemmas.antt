@@ -1,7 +1,7 @@
 -- Closures that count their calls.
 use Rattle.std.proofs.Common.{◌≡◌, ℕ, ◌+◌, List, [], ◌∷◌, length, refl, ◌∙◌, ap, arith}
+use Rattle.grid.specs.Prelude.{Generates}
 use Rattle.std.specs.List.{FoldsTo, range_with_len}
-use Rattle.grid_base.specs.ClosureCalls.{Generates}
 
 -- a closure whose state has the number of its calls, and which answers that number
 module _ {F : Type 0} (step : F → ℕ → F → Type 0) (calls : F → ℕ) (more : (p : F) (y : ℕ) (q : F) → step p y q → calls q ≡ calls p + 1) where

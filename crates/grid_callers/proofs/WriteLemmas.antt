@@ -1,13 +1,8 @@
 -- Tables that are written out.
-use Rattle.std.proofs.Common.{◌≡◌, ◌≢◌, ℕ, zero, suc, ◌*◌, ◌<◌, List, [], ◌∷◌, Option, None, Some, Result, Ok, Err, IfOk, length, map, refl, sym, ◌∙◌, ap, arith}
-use Rattle.std.specs.List.{slice_get}
-use Rattle.std.specs.Option.{option_map}
-use Rattle.grid_base.specs.Table.{row, row_count, col_count, cell, IsTable}
+use Rattle.std.proofs.Common.{◌≡◌, ◌≢◌, ℕ, zero, suc, ◌*◌, ◌<◌, List, [], ◌∷◌, Option, None, Some, Result, Ok, Err, IfOk, length, map, refl, sym, ◌∙◌, ap, arith, slice_get, option_map}
+use Rattle.grid.specs.Prelude.{row, row_count, col_count, cell, IsTable, GridValue, HasSize, IsMade, HoldCells, AreTaken}
 use Rattle.grid_base.proofs.TableLemmas.{same_tables}
-use Rattle.grid_base.specs.GridValue.{GridValue}
 use Rattle.grid_base.specs.declared.order.Order.{Order}
-use Rattle.grid.specs.Make.{HasSize, IsMade}
-use Rattle.grid.specs.Slots.{HoldCells, AreTaken}
 
 module _ {T : Type 0} where
   -- rows of slots that hold the cells of a table

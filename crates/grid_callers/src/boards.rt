@@ -1,11 +1,7 @@
 //! Callers of `grid`.
 ghost use Rattle.std.specs.Prelude.{◌≡◌, ◌↔◌, IsTrue, IsSome, IfSome, IfErr, OnOk, OnErr, insert, length, remove};
-ghost use Rattle.grid_base.specs.Table.{row_count, col_count, exchanged, InRange};
-ghost use Rattle.grid_base.specs.Order.{storage, CanCut};
-ghost use Rattle.grid_commands.specs.Command.{lines, push, insert_at};
-ghost use Rattle.grid_commands.specs.Refusal.{command_refusal};
+ghost use Rattle.grid.specs.Prelude.{row_count, col_count, exchanged, InRange, storage, CanCut, lines, push, insert_at, command_refusal, step_rows};
 ghost use Rattle.grid_commands.specs.declared.command.Axis.TheVariants.{Row};
-ghost use Rattle.grid.specs.Step.{step_rows};
 
 use grid::{Command, Grid, Order, Refusal, Reply, Tally, can_cut};
 use grid_commands::line_refusal;

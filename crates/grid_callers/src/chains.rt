@@ -3,10 +3,8 @@
 //!
 //! A row `r` or a column `c` is required to be in range.
 ghost use Rattle.std.specs.Prelude.{◌≡◌, ◌^◌, ◌<◌, ◌≤◌, ◌==◌, ◌↔◌, IsTrue, IfOk, MatchOption, Any, All, length, map, reverse, sum, count_by, filter, ◌*◌, [], ◌∷◌, ◌-◌, slice_get};
+ghost use Rattle.grid.specs.Prelude.{row, row_count, col_count, transposed, storage, act};
 ghost use Rattle.std.specs.List.{range_with_len};
-ghost use Rattle.grid_base.specs.Table.{row, row_count, col_count, transposed};
-ghost use Rattle.grid_base.specs.Order.{storage};
-ghost use Rattle.grid_base.specs.Symmetry.{act};
 ghost use Rattle.grid_base.specs.declared.order.Order.TheVariants.{RowMajor, ColumnMajor};
 
 use grid::{Command, Grid, GridError, Symmetry, Tally, grid, grid_cm};

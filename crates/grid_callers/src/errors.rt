@@ -1,9 +1,6 @@
 //! Errors that `?` propagates.
-ghost use Rattle.std.specs.Prelude.{◌≡◌, ◌↔◌, ◌+◌, ◌<◌, IsErrOf, IfErr, IfOk, OnOk, OnErr, Some, length, codes};
-ghost use Rattle.std.specs.List.{insert};
-ghost use Rattle.grid_base.specs.Table.{row_count, col_count};
-ghost use Rattle.grid.specs.Edits.{FitsRow};
-ghost use Rattle.grid.specs.Make.{ExceedsMax};
+ghost use Rattle.std.specs.Prelude.{◌≡◌, ◌↔◌, ◌+◌, ◌<◌, IsErrOf, IfErr, IfOk, OnOk, OnErr, Some, length, codes, insert};
+ghost use Rattle.grid.specs.Prelude.{row_count, col_count, FitsRow, ExceedsMax};
 ghost use Rattle.anyhow.specs.Error.{HasMessage};
 
 use grid::{Command, Grid, GridError, Tally, run};

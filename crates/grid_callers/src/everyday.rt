@@ -1,5 +1,5 @@
 //! What an application writes first: code without contracts, with no proof file.
-ghost use Rattle.grid_base.specs.Table.{InRange};
+ghost use Rattle.grid.specs.Prelude.{InRange};
 
 use grid::{Direction, Grid, GridError, GridLineIter};
 use std::alloc::{AllocError, Global};

@@ -1,7 +1,7 @@
 //! Callers of `grid_lines`, of which only `sort_cells` has a proof file.
 ghost use Rattle.std.specs.Prelude.{◌≡◌, ◌<◌, ℕ, nat_lt, not, count_by, filter, map, reverse, slice_index_or, OnOk, OnErr, IfOk, IsPermutation};
+ghost use Rattle.grid.specs.Prelude.{row, row_count};
 ghost use Rattle.std.specs.Ordering.{nat_cmp};
-ghost use Rattle.grid_base.specs.Table.{row, row_count};
 ghost use Rattle.grid_callers.specs.Score.{full_rows};
 ghost use Rattle.grid_lines.specs.SortedLines.{AscendBy, AscendByKey};
 

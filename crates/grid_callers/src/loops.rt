@@ -1,6 +1,6 @@
 //! Loops over a board: what proves with no proof file, and the one loop, [`paint`], that wants lines of its own.
 ghost use Rattle.std.specs.Prelude.{◌≡◌, IfSome, Some};
-ghost use Rattle.grid_base.specs.Table.{cell};
+ghost use Rattle.grid.specs.Prelude.{cell};
 
 use grid::Grid;
 use std::alloc::{AllocError, Global};

@@ -1,7 +1,6 @@
 //! The cells round a cell: chains and loops over them, and counts, with no proof file.
 ghost use Rattle.std.specs.Prelude.{◌≡◌, ◌<◌, ◌≤◌, ◌+◌, ◌==◌, ◌&&◌, ◌||◌, IsTrue, IfOk, All, Any, count_by, fold, map, min, option_map};
-ghost use Rattle.grid_base.specs.Table.{row_count, col_count, cell, tabulate};
-ghost use Rattle.grid_near.specs.Neighbors.{neighbors4, neighbors8, wrapped_neighbors4, wrapped_neighbors8};
+ghost use Rattle.grid.specs.Prelude.{row_count, col_count, cell, tabulate, neighbors4, neighbors8, wrapped_neighbors4, wrapped_neighbors8};
 
 use grid::{Direction, Grid};
 use std::alloc::{AllocError, Global};

@@ -1,8 +1,6 @@
 //! Parts of a board, and lines that change places, with no proof file.
-ghost use Rattle.std.specs.Prelude.{◌≡◌, ◌-◌, IfSome};
-ghost use Rattle.std.specs.List.{swap};
-ghost use Rattle.grid_base.specs.Table.{row_count, InRange};
-ghost use Rattle.grid.specs.Parts.{sub_table};
+ghost use Rattle.std.specs.Prelude.{◌≡◌, ◌-◌, IfSome, swap};
+ghost use Rattle.grid.specs.Prelude.{row_count, InRange, sub_table};
 
 use grid::Grid;
 

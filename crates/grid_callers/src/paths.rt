@@ -1,6 +1,6 @@
 //! Distances and regions, with no proof file.
 ghost use Rattle.std.specs.Prelude.{◌≡◌, ◌==◌, ℕ, IfOk, OnOk, Some};
-ghost use Rattle.grid_base.specs.Table.{cell, InRange};
+ghost use Rattle.grid.specs.Prelude.{cell, InRange};
 ghost use Rattle.grid_near.specs.declared.steps.Steps.TheVariants.{Sides, All};
 ghost use Rattle.grid_paths.specs.Walks.{HasLeastSteps, HasLeastFrom, IsFilled, passing};
 ghost use Rattle.grid_paths.specs.Regions.{AreNumbers};

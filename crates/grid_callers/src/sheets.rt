@@ -1,7 +1,6 @@
 //! Callers of `grid_csv`.
-ghost use Rattle.std.specs.Prelude.{◌≡◌, ◌++◌, [], Ok, IfOk, OnOk, map};
+ghost use Rattle.std.specs.Prelude.{◌≡◌, ◌++◌, [], Ok, IfOk, OnOk, map, string_bytes};
 ghost use Rattle.std.specs.Fmt.{signed_decimal};
-ghost use Rattle.std.specs.String.{string_bytes};
 ghost use Rattle.text_lines.specs.Numbers.{cell_of};
 ghost use Rattle.grid_csv.specs.Reading.{IsOrMemory, reading, reading_below, records_of, without_header};
 ghost use Rattle.grid_csv.specs.Writing.{IsCsv};

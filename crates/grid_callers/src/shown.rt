@@ -1,7 +1,6 @@
 //! A caller of `grid_deferred`.
 ghost use Rattle.std.specs.Prelude.{◌≡◌};
-ghost use Rattle.grid_base.specs.Table.{cell};
-ghost use Rattle.grid_base.specs.Symmetry.{act};
+ghost use Rattle.grid.specs.Prelude.{cell, act};
 
 use grid::{Command, Grid, Symmetry, Tally};
 use grid_deferred::Deferred;

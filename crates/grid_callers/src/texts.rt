@@ -1,6 +1,5 @@
 //! Callers of `grid_text`, with no proof file.
-ghost use Rattle.std.specs.Prelude.{◌≡◌, ◌==◌, Some, None, true, false, IfOk, if◌then◌else◌};
-ghost use Rattle.std.specs.String.{string_bytes};
+ghost use Rattle.std.specs.Prelude.{◌≡◌, ◌==◌, Some, None, true, false, IfOk, if◌then◌else◌, string_bytes};
 ghost use Rattle.text_lines.specs.Lines.{lines_of};
 ghost use Rattle.text_lines.specs.Numbers.{cell_of};
 ghost use Rattle.grid_text.specs.Reading.{IsOrMemory, reading, reading_words};

@@ -1,6 +1,6 @@
 //! Whole boards at once, with their rows in the contract and no proof file.
 ghost use Rattle.std.specs.Prelude.{◌≡◌, ◌<◌, ◌/◌, ◌%◌, ◌==◌, nat_lt, IfOk, Some, option_map};
-ghost use Rattle.grid_base.specs.Table.{row_count, col_count, cell, tabulate};
+ghost use Rattle.grid.specs.Prelude.{row_count, col_count, cell, tabulate};
 
 use grid::{Grid, GridError};
 use std::alloc::{AllocError, Global};

@@ -1,9 +1,6 @@
 //! Views: what a caller's contract says by the rows that are seen, with no proof file.
 ghost use Rattle.std.specs.Prelude.{◌≡◌, ◌<◌, ◌≤◌, ◌==◌, ◌↔◌, IsTrue, IfSome, OnOk, OnErr, Some, Any, sum, count_by};
-ghost use Rattle.grid_base.specs.Table.{row, row_count, col_count, transposed, cell};
-ghost use Rattle.grid_base.specs.Symmetry.{act};
-ghost use Rattle.grid_view.specs.View.{sub_table};
-ghost use Rattle.grid.specs.Pasted.{overlaid};
+ghost use Rattle.grid.specs.Prelude.{row, row_count, col_count, transposed, cell, act, sub_table, overlaid};
 
 use grid::{Grid, GridView, Symmetry};
 use std::alloc::{AllocError, Global};

@@ -1,7 +1,6 @@
 //! Callers of `grid` on whole boards: rows that become one, and padding.
 ghost use Rattle.std.specs.Prelude.{◌≡◌, IfSome, OnOk, OnErr, map};
-ghost use Rattle.grid.specs.Conversion.{equal_rows};
-ghost use Rattle.grid.specs.Edits.{expanded_rows};
+ghost use Rattle.grid.specs.Prelude.{equal_rows, expanded_rows};
 
 use grid::{Grid, GridError};
 use std::alloc::Allocator;

@@ -1,6 +1,6 @@
 //! A caller of `grid_base`, and of `Grid::apply`.
 ghost use Rattle.std.specs.Prelude.{◌≡◌};
-ghost use Rattle.grid_base.specs.Move.{word_image};
+ghost use Rattle.grid.specs.Prelude.{word_image};
 
 use grid::{Grid, Move, reduce};
 use std::alloc::Allocator;

@@ -1,7 +1,6 @@
 -- Products that are small, and products that are too large.
-use Rattle.std.proofs.Common.{◌≡◌, ℕ, zero, suc, ◌*◌, ◌^◌, ◌<◌, ◌≤◌, not, nat_eq, sym, arith, ⊎_elim}
-use Rattle.std.proofs.lemmas.Bool.{lt-ltb, le-ltb, ne_eqb, cases_lt}
-use Rattle.std.proofs.Math.Nat.{mul-le-mul_right}
+use Rattle.std.proofs.Common.{◌≡◌, ℕ, zero, suc, ◌*◌, ◌^◌, ◌<◌, ◌≤◌, not, nat_eq, sym, arith, ⊎_elim, lt-ltb, le-ltb, ne_eqb, mul-le-mul_right}
+use Rattle.std.proofs.lemmas.Bool.{cases_lt}
 use Rattle.grid_commands.specs.Refusal.{exceeds}
 
 -- a product that is small has small factors

@@ -1,13 +1,9 @@
 -- What the errors of a grid's calls print.
-use Rattle.std.specs.Prelude.{ℕ, List, ◌++◌, codes}
-use Rattle.std.specs.Fmt.{decimal}
+use Rattle.std.specs.Prelude.{ℕ, List, ◌++◌, codes, decimal}
 use Rattle.grid_commands.specs.declared.error.GridError.{GridError}
 use Rattle.grid_commands.specs.declared.error.GridError.TheVariants.{TooLarge, Memory}
 use Rattle.grid_commands.specs.declared.error.ShapeError.{ShapeError}
-use Rattle.grid_commands.specs.declared.error.ShapeError.TheVariants.{
-  TooLarge as TooManyCells,
-  Memory as OutOfMemory,
-}
+use Rattle.grid_commands.specs.declared.error.ShapeError.TheVariants.{TooLarge as TooManyCells, Memory as OutOfMemory}
 
 -- why a grid could not be made or edited, in words
 abbrev pub fault_text : GridError → List ℕ

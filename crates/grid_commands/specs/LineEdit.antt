@@ -2,31 +2,10 @@
 use Rattle.std.specs.Prelude.{ℕ, Bool, true, false}
 use Rattle.grid_base.specs.Gather.{items_of_each}
 use Rattle.grid_commands.specs.declared.request.LineEdit.{LineEdit}
-use Rattle.grid_commands.specs.declared.request.LineEdit.TheVariants as the
 use Rattle.grid_commands.specs.declared.request.Request.{Request}
+use Rattle.grid_commands.specs.Command.{Edit, read, push, insert_at, insert_all, pop, remove_at, delete_at, delete_range, expand, prepend, CommandValue, size, get, set_cell, swap_cells, lines, fill, clear, apply}
+use Rattle.grid_commands.specs.declared.request.LineEdit.TheVariants as the
 use Rattle.grid_commands.specs.declared.request.Request.TheVariants as a_request
-use Rattle.grid_commands.specs.Command.{
-  Edit,
-  read,
-  push,
-  insert_at,
-  insert_all,
-  pop,
-  remove_at,
-  delete_at,
-  delete_range,
-  expand,
-  prepend,
-  CommandValue,
-  size,
-  get,
-  set_cell,
-  swap_cells,
-  lines,
-  fill,
-  clear,
-  apply,
-}
 
 module _ {T : Type 0} where
   -- padding by k lines, at the end or at the beginning

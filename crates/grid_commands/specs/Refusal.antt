@@ -1,31 +1,8 @@
 -- Which commands are refused: a function of the command and the size of the table.
-use Rattle.std.specs.Prelude.{
-  ℕ,
-  ◌+◌,
-  ◌*◌,
-  Bool,
-  not,
-  ◌&&◌,
-  Option,
-  None,
-  Some,
-  List,
-  [],
-  ◌∷◌,
-  length,
-  slice_index_or,
-  nat_eq,
-  nat_lt,
-  if◌then◌else◌,
-}
+use Rattle.std.specs.Prelude.{ℕ, ◌+◌, ◌*◌, Bool, not, ◌&&◌, Option, None, Some, List, [], ◌∷◌, length, slice_index_or, nat_eq, nat_lt, if◌then◌else◌}
 use Rattle.std.specs.List.{list_any, list_all}
 use Rattle.grid_commands.specs.declared.command.Refusal.{Refusal}
-use Rattle.grid_commands.specs.declared.command.Refusal.TheVariants.{
-  EmptyLine,
-  Length,
-  Index,
-  TooLarge,
-}
+use Rattle.grid_commands.specs.declared.command.Refusal.TheVariants.{EmptyLine, Length, Index, TooLarge}
 use Rattle.grid_commands.specs.Command.{Edit, push, insert_at, insert_all, expand, prepend, CommandValue, set_cell, swap_cells, lines, line_count, line_width}
 
 -- whether this number of cells is more than a grid can have, `usize::MAX`

@@ -1,6 +1,5 @@
 -- What replies say.
-use Rattle.std.specs.Prelude.{ℕ, Bool, Option, List}
-use Rattle.std.specs.Option.{option_map}
+use Rattle.std.specs.Prelude.{ℕ, Bool, Option, List, option_map}
 use Rattle.grid_commands.specs.declared.command.Refusal.{Refusal}
 use Rattle.grid_commands.specs.declared.command.Reply.{Reply}
 use Rattle.grid_commands.specs.declared.command.Reply.TheVariants as the

@@ -1,8 +1,7 @@
 //! Why lines can't be put into a table, or padding added to it: functions of the lines and of the size.
 ghost use Rattle.std.specs.Prelude.{◌≡◌, ◌+◌, ◌*◌, length, map, nat_eq, [], ◌∷◌};
+ghost use Rattle.grid_base.specs.Prelude.{col_count, items_of_each};
 ghost use Rattle.std.specs.List.{list_any, list_all};
-ghost use Rattle.grid_base.specs.Table.{col_count};
-ghost use Rattle.grid_base.specs.Gather.{items_of_each};
 ghost use Rattle.grid_commands.specs.Refusal.{exceeds, lines_refusal, pad_refusal};
 
 use crate::command::Refusal;

@@ -1,17 +1,9 @@
 -- What was written of a table is read as the table.
-use Rattle.std.proofs.Common.{◌≡◌, inl, inr, ℕ, suc, ◌+◌, ◌<◌, true, Option, Some, None, Result, Ok, Err, List, [], ◌∷◌, ◌++◌, length, map, get_or, All, IfOk, IfErr, IsUtf8, refl, sym, ap, subst, ◌∙◌, arith}
-use denote.Ref.{Bor, MutBor}
-use Rattle.std.specs.Bool.{⊤}
-use Rattle.std.specs.List.{AllZip, each_same}
-use Rattle.std.specs.Str.{is_utf8}
+use Rattle.std.proofs.Common.{◌≡◌, inl, inr, ℕ, suc, ◌+◌, ◌<◌, true, Option, Some, None, Result, Ok, Err, List, [], ◌∷◌, ◌++◌, length, map, get_or, All, IfOk, IfErr, IsUtf8, refl, sym, ap, subst, ◌∙◌, arith, Bor, MutBor}
+use Rattle.grid_base.proofs.Common.{⊤, AllZip, each_same, is_utf8, length-map, get_or_default, All-map, is_utf8-from_IsUtf8, row, IsTable, GridValue}
 use Rattle.std.specs.declared.string.String.{String}
 use Rattle.std.specs.declared.alloc.AllocError.{AllocError}
-use Rattle.std.proofs.lemmas.List.{length-map, get_or_default}
-use Rattle.std.proofs.lemmas.List.Elements.{All-map}
-use Rattle.std.proofs.lemmas.Str.{is_utf8-from_IsUtf8}
 use Rattle.csv.specs.Reading.{strip_bom}
-use Rattle.grid_base.specs.Table.{row, IsTable}
-use Rattle.grid_base.specs.GridValue.{GridValue}
 use Rattle.grid_csv.specs.declared.error.CsvError.{CsvError}
 use Rattle.grid_csv.specs.declared.error.CsvError.TheVariants.{BadField, Ragged, Memory}
 use Rattle.grid_csv.specs.Law.{ReadsBack}

@@ -1,12 +1,7 @@
 -- What may be read is what a function reads, where it gives whatever may be answered.
-use Rattle.std.proofs.Common.{◌≡◌, ◌≢◌, inl, inr, ℕ, suc, ◌+◌, ◌==◌, Bool, true, false, if◌then◌else◌, Option, Some, None, Result, Ok, Err, MatchResult, List, [], ◌∷◌, ◌++◌, length, refl, sym, ap, subst, ◌∙◌, arith}
-use denote.Ref.{Bor}
-use Rattle.std.specs.Bool.{MatchBool}
-use Rattle.std.specs.Str.{is_utf8}
+use Rattle.std.proofs.Common.{◌≡◌, ◌≢◌, inl, inr, ℕ, suc, ◌+◌, ◌==◌, Bool, true, false, if◌then◌else◌, Option, Some, None, Result, Ok, Err, MatchResult, List, [], ◌∷◌, ◌++◌, length, refl, sym, ap, subst, ◌∙◌, arith, Bor, MatchBool, eq-eqb, ne_eqb}
+use Rattle.grid_base.proofs.Common.{is_utf8, AllZip-long, GridValue}
 use Rattle.std.specs.declared.alloc.AllocError.{AllocError}
-use Rattle.std.proofs.lemmas.Bool.{eq-eqb, ne_eqb}
-use Rattle.std.proofs.lemmas.Slice.Zip.{AllZip-long}
-use Rattle.grid_base.specs.GridValue.{GridValue}
 use Rattle.grid_csv.specs.declared.error.CsvError.{CsvError}
 use Rattle.grid_csv.specs.declared.error.CsvError.TheVariants.{BadField, Ragged, Memory}
 use Rattle.grid_csv.specs.Reading.{AnswersField, AreCells, AreRows, IsBadAt, IsBadRecord, IsFault, IsOrMemory, MayRead, MayReadBelow, ReadsBy, below_header, cell_before, cell_of, first_of, later_of, prepend, read_fields, read_header, read_records, reading_below, row_before}

@@ -1,8 +1,6 @@
 -- The rows of records, one after the other.
 use Rattle.std.proofs.Common.{◌≡◌, ◌≢◌, ◌⊎◌, inl, inr, ℕ, ◌+◌, Option, List, [], ◌∷◌, ◌++◌, length, refl, sym, ap, subst, ◌∙◌, arith, append_assoc, append-nil, length-append}
-use Rattle.std.proofs.lemmas.Slice.Zip.{AllZip-long}
-use Rattle.std.proofs.lemmas.Grind.{flat_map-append}
-use Rattle.grid_base.specs.Table.{concat_rows}
+use Rattle.grid_base.proofs.Common.{AllZip-long, flat_map-append, concat_rows}
 use Rattle.grid_csv.specs.declared.error.CsvError.{CsvError}
 use Rattle.grid_csv.specs.declared.error.CsvError.TheVariants.{BadField, Ragged, Memory}
 use Rattle.grid_csv.specs.Reading.{AreCells, AreRows, IsBadRecord, IsFault}

@@ -1,10 +1,7 @@
 -- The table that is cut from the rows of records.
 use Rattle.std.proofs.Common.{◌≡◌, ◌≢◌, ◌⊎◌, inl, inr, ℕ, ◌*◌, ◌<◌, Option, Result, Ok, Err, List, [], ◌∷◌, ◌++◌, length, All, refl, sym, ap, subst, ◌∙◌, arith}
-use Rattle.std.proofs.lemmas.Slice.Zip.{AllZip-long}
+use Rattle.grid_base.proofs.Common.{AllZip-long, col_count, concat_rows, IsTable, storage, CanCut, GridValue}
 use Rattle.grid_base.specs.declared.order.Order.TheVariants.{RowMajor}
-use Rattle.grid_base.specs.Table.{col_count, concat_rows, IsTable}
-use Rattle.grid_base.specs.Order.{storage, CanCut}
-use Rattle.grid_base.specs.GridValue.{GridValue}
 use Rattle.grid_base.proofs.StorageLemmas.{length-concat_rows}
 use Rattle.grid_base.proofs.ViewLemmas.{same_by_storage, none_by_storage}
 use Rattle.grid.proofs.MadeLemmas.{CanCut-cells}

@@ -1,12 +1,6 @@
 -- The text of records of texts is text.
-use Rattle.std.proofs.Common.{◌≡◌, inl, inr, ℕ, suc, ◌<◌, ◌==◌, Bool, true, false, if◌then◌else◌, List, [], ◌∷◌, ◌++◌, get_or, All, IsUtf8, encode_utf8, encode_utf8_all, refl, sym, ap, subst, ◌∙◌, arith, append-nil}
-use lib.Utf8.{scalars}
-use Rattle.std.specs.Char.{IsScalar}
-use Rattle.std.specs.List.{list_any}
-use Rattle.std.specs.Str.{NoCharPasses}
-use Rattle.std.proofs.lemmas.Bool.{and_parts, cases_Bool, cases_lt, eqb-true, ne_eqb}
-use Rattle.std.proofs.lemmas.List.{get_or_default}
-use Rattle.std.proofs.lemmas.Str.{IsUtf8-append, IsUtf8-encode, IsUtf8-nil, NoCharPasses-byte, encode_ascii}
+use Rattle.std.proofs.Common.{◌≡◌, inl, inr, ℕ, suc, ◌<◌, ◌==◌, Bool, true, false, if◌then◌else◌, List, [], ◌∷◌, ◌++◌, get_or, All, IsUtf8, encode_utf8, encode_utf8_all, refl, sym, ap, subst, ◌∙◌, arith, append-nil, eqb-true, ne_eqb}
+use Rattle.grid_base.proofs.Common.{scalars, IsScalar, list_any, NoCharPasses, and_parts, cases_Bool, cases_lt, get_or_default, IsUtf8-append, IsUtf8-encode, IsUtf8-nil, NoCharPasses-byte, encode_ascii}
 use Rattle.csv.specs.Writing.{default_writer, escaped, field_text, fields_text, is_blank, needs_byte, row_text}
 use Rattle.grid_csv.specs.Writing.{sheet_text}
 

@@ -1,15 +1,8 @@
 -- What a writer has written, and what is written of rows.
-use Rattle.std.proofs.Common.{◌≡◌, ℕ, false, List, [], ◌∷◌, ◌++◌, map, get_or, All, Vec, Global, Result, IfOk, Ok, Err, IsUtf8, ◌<◌, length, arith, refl, sym, ap, subst, ◌∙◌, append-nil}
-use denote.Ref.{Bor, MutBor}
-use Rattle.std.specs.Bool.{⊤}
-use Rattle.std.specs.List.{AllZip}
-use Rattle.std.specs.String.{string_bytes}
+use Rattle.std.proofs.Common.{◌≡◌, ℕ, false, List, [], ◌∷◌, ◌++◌, map, get_or, All, Vec, Global, Result, IfOk, Ok, Err, IsUtf8, ◌<◌, length, arith, refl, sym, ap, subst, ◌∙◌, append-nil, Bor, MutBor, string_bytes}
+use Rattle.grid_base.proofs.Common.{⊤, AllZip, flat_map-append, All-map, AllZip-map, IsUtf8-string_bytes}
 use Rattle.std.specs.declared.string.String.{String}
 use Rattle.std.specs.declared.alloc.AllocError.{AllocError}
-use Rattle.std.proofs.lemmas.Grind.{flat_map-append}
-use Rattle.std.proofs.lemmas.List.Elements.{All-map}
-use Rattle.std.proofs.lemmas.Slice.Zip.{AllZip-map}
-use Rattle.std.proofs.lemmas.Str.{IsUtf8-string_bytes}
 use Rattle.csv.specs.Writing.{default_writer, fields_written, has_written, row_text, writer_pending, writer_setup, writer_under}
 use Rattle.csv.specs.declared.writer.Writer.{Writer}
 use Rattle.grid_csv.specs.Left.{HasWritten}

@@ -1,8 +1,7 @@
 -- The CSV of a grid.
-use Rattle.std.specs.Prelude.{◌≡◌, ℕ, List, [], ◌∷◌, ◌++◌, map, ⊤, Result, Ok}
+use Rattle.std.specs.Prelude.{◌≡◌, ℕ, List, [], ◌∷◌, ◌++◌, map, ⊤, Result, Ok, flat_map, string_bytes}
 use denote.Ref.{Bor, MutBor}
-use Rattle.std.specs.List.{AllZip, flat_map}
-use Rattle.std.specs.String.{string_bytes}
+use Rattle.std.specs.List.{AllZip}
 use Rattle.std.specs.declared.string.String.{String}
 use Rattle.std.specs.declared.alloc.AllocError.{AllocError}
 use Rattle.csv.specs.Writing.{default_writer, row_text}

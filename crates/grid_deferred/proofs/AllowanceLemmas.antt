@@ -1,20 +1,13 @@
 -- No command shifts more cells than there are.
-use Rattle.std.proofs.Common.{◌≡◌, ℕ, ◌+◌, ◌-◌, ◌*◌, ◌≤◌, Bool, true, false, List, [], ◌∷◌, if◌then◌else◌, nat_lt, nat_eq, refl, ◌∙◌, ap, arith}
-use Rattle.std.proofs.Math.Nat.{mul_comm, mul-le-mul_left, mul-le-mul_right}
-use Rattle.std.specs.Option.{is_none}
+use Rattle.std.proofs.Common.{◌≡◌, ℕ, ◌+◌, ◌-◌, ◌*◌, ◌≤◌, Bool, true, false, List, [], ◌∷◌, if◌then◌else◌, nat_lt, nat_eq, refl, ◌∙◌, ap, arith, mul_comm, mul-le-mul_left, mul-le-mul_right, is_none}
+use Rattle.grid_base.proofs.Common.{row_count, col_count, image_rows, image_cols}
+use Rattle.grid.specs.Prelude.{Edit, read, push, insert_at, insert_all, pop, remove_at, delete_at, delete_range, expand, prepend, CommandValue, size, get, set_cell, swap_cells, lines, fill, clear, apply, line_count, line_width, pad_refusal, step_rows, rows_added_shift, rows_taken_shift, delete_rows_shift, axis_order, edit_shift}
 use Rattle.grid_base.specs.declared.words.Symmetry.{Symmetry}
 use Rattle.grid_base.specs.declared.words.Symmetry.TheVariants.{Identity, FlipCols, FlipRows, RotateHalf, Transpose, RotateLeft, RotateRight, AntiTranspose}
 use Rattle.grid_base.specs.declared.order.Order.{Order}
 use Rattle.grid_base.specs.declared.order.Order.TheVariants.{RowMajor, ColumnMajor}
-use Rattle.grid_base.specs.Table.{row_count, col_count}
-use Rattle.grid_base.specs.Symmetry.{image_rows, image_cols}
 use Rattle.grid_commands.specs.declared.command.Axis.{Axis}
 use Rattle.grid_commands.specs.declared.command.Axis.TheVariants.{Row, Col}
-use Rattle.grid_commands.specs.Command.{Edit, read, push, insert_at, insert_all, pop, remove_at, delete_at, delete_range, expand, prepend, CommandValue, size, get, set_cell, swap_cells, lines, fill, clear, apply, line_count, line_width}
-use Rattle.grid_commands.specs.Refusal.{pad_refusal}
-use Rattle.grid.specs.Step.{step_rows}
-use Rattle.grid.specs.Shift.{rows_added_shift, rows_taken_shift, delete_rows_shift}
-use Rattle.grid.specs.Cost.{axis_order, edit_shift}
 use Rattle.grid_deferred.specs.Through.{base_axis}
 use Rattle.grid_deferred.specs.Carry.{reverses_lines, mirrored_if, shift_through}
 use Rattle.grid_deferred.specs.Deferred.{pending_after}

@@ -1,21 +1,14 @@
 -- Commands through words of the flip of the rows and the transpose.
-use Rattle.std.proofs.Common.{◌≡◌, ℕ, Bool, true, false, not, Option, Some, None, List, reverse, refl, sym, ◌∙◌, ap, subst}
-use Rattle.std.specs.Bool.{beq}
-use Rattle.std.specs.Option.{option_map}
-use Rattle.std.proofs.lemmas.List.{reverse-reverse}
+use Rattle.std.proofs.Common.{◌≡◌, ℕ, Bool, true, false, not, Option, Some, None, List, reverse, refl, sym, ◌∙◌, ap, subst, option_map}
+use Rattle.grid_base.proofs.Common.{beq, reverse-reverse, row_count, col_count, IsTable, act, image_rows, image_cols}
+use Rattle.grid.specs.Prelude.{CommandValue, size, lines, read, push, axis_of, ReplyValue, done, size_is, cell_is, line_is, flag_is, refused, step_rows, step_reply, takes_memory, step_shift}
 use Rattle.grid_base.specs.declared.words.Symmetry.{Symmetry}
 use Rattle.grid_base.specs.declared.words.Symmetry.TheVariants.{Identity, FlipCols, FlipRows, RotateHalf, Transpose, RotateLeft, RotateRight, AntiTranspose}
 use Rattle.grid_base.specs.declared.order.Order.{Order}
-use Rattle.grid_base.specs.Table.{row_count, col_count, IsTable}
-use Rattle.grid_base.specs.Symmetry.{act, image_rows, image_cols}
 use Rattle.grid_base.proofs.ActLemmas.{rows-act, IsTable-act}
 use Rattle.grid_base.proofs.GroupLemmas.{product, act-act, act-identity}
 use Rattle.grid_commands.specs.declared.command.Axis.{Axis}
 use Rattle.grid_commands.specs.declared.command.Axis.TheVariants.{Row, Col}
-use Rattle.grid_commands.specs.Command.{CommandValue, size, lines, read, push, axis_of}
-use Rattle.grid_commands.specs.Reply.{ReplyValue, done, size_is, cell_is, line_is, flag_is, refused}
-use Rattle.grid.specs.Step.{step_rows, step_reply, takes_memory}
-use Rattle.grid.specs.Cost.{step_shift}
 use Rattle.grid_deferred.specs.Through.{other_axis, reverses_cells, base_axis, reversed_if, turned_reply, transposed_command, flipped_command}
 use Rattle.grid_deferred.proofs.StepThroughLemmas.{IsAxis, IsAxis-axis_of, Through, through_flip, through_cross, table-step}
 use Rattle.grid_deferred.specs.Carry.{shift_through, Carries, is_apply}

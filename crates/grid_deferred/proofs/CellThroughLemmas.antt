@@ -1,12 +1,9 @@
 -- Cells read, written, exchanged and filled, through the flip of the rows and the transpose.
-use Rattle.std.proofs.Common.{◌≡◌, ℕ, ◌-◌, ◌<◌, Option, Some, None, List, [], ◌∷◌, ◌++◌, length, map, reverse, replicate, set, get_or, refl, sym, ◌∙◌, ap, arith, ⊎_elim}
-use Rattle.std.specs.List.{slice_get}
-use Rattle.std.proofs.lemmas.List.{length-reverse, length-map, length-set, get_or-reverse, get_or-map, get_or-set_same, get_or-set_other, get_or_past, reverse-append, same_lists, length-replicate, map-append}
-use Rattle.std.proofs.lemmas.Bool.{lt-ltb, le-ltb, cases_lt, cases_eq}
+use Rattle.std.proofs.Common.{◌≡◌, ℕ, ◌-◌, ◌<◌, Option, Some, None, List, [], ◌∷◌, ◌++◌, length, map, reverse, replicate, set, get_or, refl, sym, ◌∙◌, ap, arith, ⊎_elim, slice_get, length-set, get_or-set_same, get_or-set_other, lt-ltb, le-ltb}
+use Rattle.grid_base.proofs.Common.{length-reverse, length-map, get_or-reverse, get_or-map, get_or_past, reverse-append, length-replicate, map-append, cases_lt, cases_eq, row, row_count, col_count, cell, IsTable, with_cell, with_cell_of, exchanged, tabulate, act, symmetry_of, splat_is_map}
+use Rattle.std.proofs.lemmas.List.{same_lists}
 use Rattle.grid_base.specs.declared.words.Symmetry.{Symmetry}
 use Rattle.grid_base.specs.declared.words.Symmetry.TheVariants.{Identity, FlipRows, Transpose}
-use Rattle.grid_base.specs.Table.{row, row_count, col_count, cell, IsTable, with_cell, with_cell_of, exchanged, tabulate}
-use Rattle.grid_base.specs.Symmetry.{act, symmetry_of}
 use Rattle.grid_base.proofs.StorageLemmas.{get-replicate}
 use Rattle.grid_base.proofs.ActLemmas.{IsTable-act}
 use Rattle.grid_base.proofs.WriteLemmas.{rows-written, widths-written, cols-with_cell, IsTable-with_cell, cell-with_same, cell-with_other, rows-with_cell_of, cols-with_cell_of, IsTable-with_cell_of}
@@ -15,7 +12,6 @@ use Rattle.grid.specs.AllCells.{filled}
 use Rattle.grid.proofs.ColEditLemmas.{rows-across, cols-across, cell-cross, across_by_cells}
 use Rattle.grid_deferred.specs.Through.{mirrored_line}
 use Rattle.grid_deferred.proofs.MirrorLemmas.{flip_rows-is}
-use Rattle.std.proofs.lemmas.Simd.{splat_is_map}
 
 -- an element written to a reversed list
 set-mirrored : {X : Type 0} (xs : List X) (k : ℕ) (y : X) → k < length xs → set (reverse xs) k y ≡ reverse (set xs (length xs - 1 - k) y)

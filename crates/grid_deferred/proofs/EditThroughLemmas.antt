@@ -1,21 +1,12 @@
 -- Edits of lines through the flip of the rows and the transpose: what they do, reply and take.
-use Rattle.std.proofs.Common.{◌≡◌, ℕ, zero, suc, ◌+◌, ◌-◌, ◌<◌, ◌≤◌, Bool, true, false, not, ◌&&◌, None, List, [], ◌∷◌, length, map, reverse, nat_eq, nat_lt, if◌then◌else◌, refl, sym, ◌∙◌, ap, subst, arith, ⊎_elim}
-use Rattle.std.specs.List.{list_any, list_all, slice_get}
-use Rattle.std.specs.Option.{is_none, option_map}
-use Rattle.std.proofs.lemmas.List.{length-reverse, length-map}
-use Rattle.std.proofs.lemmas.Option.{slice_get-map, slice_get_past}
-use Rattle.std.proofs.lemmas.Bool.{ltb-false, lt-ltb, le-ltb, cases_lt}
+use Rattle.std.proofs.Common.{◌≡◌, ℕ, zero, suc, ◌+◌, ◌-◌, ◌<◌, ◌≤◌, Bool, true, false, not, ◌&&◌, None, List, [], ◌∷◌, length, map, reverse, nat_eq, nat_lt, if◌then◌else◌, refl, sym, ◌∙◌, ap, subst, arith, ⊎_elim, slice_get, is_none, option_map, ltb-false, lt-ltb, le-ltb}
+use Rattle.grid_base.proofs.Common.{list_any, list_all, length-reverse, length-map, slice_get-map, slice_get_past, cases_lt, row_count, col_count, IsTable, act}
+use Rattle.grid.specs.Prelude.{Edit, read, push, insert_at, insert_all, pop, remove_at, delete_at, delete_range, expand, prepend, line_is, flag_is, lines_refusal, edit_refusal, fitting_width, Effect, nothing, inserts, removes, range_effect, effect, after_effect, edit_takes_memory, has_lines, edit_reply, line_at}
 use Rattle.grid_base.specs.declared.words.Symmetry.TheVariants.{FlipRows, Transpose}
-use Rattle.grid_base.specs.Table.{row_count, col_count, IsTable}
-use Rattle.grid_base.specs.Symmetry.{act}
 use Rattle.grid_base.proofs.PartLemmas.{get-reverse}
 use Rattle.grid_base.proofs.ActLemmas.{rows-act, cols-act, IsTable-act, act_is_transposed}
 use Rattle.grid_commands.specs.declared.command.Axis.TheVariants.{Row, Col}
-use Rattle.grid_commands.specs.Command.{Edit, read, push, insert_at, insert_all, pop, remove_at, delete_at, delete_range, expand, prepend}
-use Rattle.grid_commands.specs.Reply.{line_is, flag_is}
-use Rattle.grid_commands.specs.Refusal.{lines_refusal, edit_refusal, fitting_width}
 use Rattle.grid.proofs.ColEditLemmas.{across-across, rows-across, cols-across}
-use Rattle.grid.specs.Step.{Effect, nothing, inserts, removes, range_effect, effect, after_effect, edit_takes_memory, has_lines, edit_reply, line_at}
 use Rattle.grid.proofs.EditAcrossLemmas.{IsApplicable, passed, applicable-edit, table-after, line-across}
 use Rattle.grid_deferred.specs.Through.{turned_reply, mirrored_line, mirrored_insertion, mirrored_start, edit_of_flipped, edit_of_reversed}
 use Rattle.grid_deferred.proofs.MirrorLemmas.{flip_rows-is, flip_cols-is}

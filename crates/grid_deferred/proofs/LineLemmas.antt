@@ -1,10 +1,7 @@
 -- What the code of `carry` needs.
-use Rattle.std.proofs.Common.{◌≡◌, ℕ, ◌+◌, ◌<◌, List, Vec, [], ◌∷◌, ◌++◌, length, map, take, drop, set, get_or, reverse, sym, ◌∙◌, ap, arith, length-append, length-drop}
-use Rattle.std.proofs.lemmas.List.{length-map, length-take, map-set, get_or-map}
-use Rattle.std.proofs.lemmas.List.Edits.{map_over_more}
-use Rattle.grid_base.specs.Gather.{items_of_each}
+use Rattle.std.proofs.Common.{◌≡◌, ℕ, ◌+◌, ◌<◌, List, Vec, [], ◌∷◌, ◌++◌, length, map, take, drop, set, get_or, reverse, sym, ◌∙◌, ap, arith, length-append, length-drop, length-take}
+use Rattle.grid_base.proofs.Common.{length-map, map-set, get_or-map, map_over_more, items_of_each, IsThen, symmetry_of}
 use Rattle.grid_base.specs.declared.words.Symmetry.{Symmetry}
-use Rattle.grid_base.specs.Symmetry.{IsThen, symmetry_of}
 use Rattle.grid_base.proofs.GroupLemmas.{product, then_is, symmetry_of-product_from, identity_product}
 use Rattle.grid_commands.specs.Command.{CommandValue, apply}
 

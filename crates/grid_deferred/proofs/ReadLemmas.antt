@@ -1,15 +1,10 @@
 -- What a read of a line replies.
-use Rattle.std.proofs.Common.{◌≡◌, ℕ, ◌<◌, ◌≤◌, None, Some, List, [], IsTrue, nat_lt, refl, sym, ◌∙◌, ap, arith, slice_get}
-use Rattle.std.proofs.lemmas.Bool.{lt-ltb}
-use Rattle.std.proofs.lemmas.Option.{slice_get-get_or, slice_get_past}
+use Rattle.std.proofs.Common.{◌≡◌, ℕ, ◌<◌, ◌≤◌, None, Some, List, [], IsTrue, nat_lt, refl, sym, ◌∙◌, ap, arith, slice_get, lt-ltb}
+use Rattle.grid_base.proofs.Common.{slice_get-get_or, slice_get_past, row, row_count, col_count, act}
+use Rattle.grid.specs.Prelude.{read, lines, line_count, line_is, step_reply, line_at}
 use Rattle.grid_base.specs.declared.words.Symmetry.TheVariants.{Transpose}
-use Rattle.grid_base.specs.Table.{row, row_count, col_count}
-use Rattle.grid_base.specs.Symmetry.{act}
 use Rattle.grid_commands.specs.declared.command.Axis.{Axis}
 use Rattle.grid_commands.specs.declared.command.Axis.TheVariants.{Row, Col}
-use Rattle.grid_commands.specs.Command.{read, lines, line_count}
-use Rattle.grid_commands.specs.Reply.{line_is}
-use Rattle.grid.specs.Step.{step_reply, line_at}
 use Rattle.grid_deferred.specs.Deferred.{along}
 use Rattle.grid_base.proofs.ActLemmas.{rows-act}
 

@@ -1,23 +1,13 @@
 -- A deferred run of one more command.
-use Rattle.std.proofs.Common.{◌≡◌, ℕ, suc, ◌+◌, ◌/◌, ◌≤◌, List, [], ◌∷◌, ◌++◌, length, length-append, Some, Result, Ok, Err, IfOk, OnOk, refl, sym, ◌∙◌, ap, subst, arith}
-use Rattle.std.specs.List.{All}
-use Rattle.std.proofs.lemmas.List.Elements.{All-pop}
+use Rattle.std.proofs.Common.{◌≡◌, ℕ, suc, ◌+◌, ◌/◌, ◌≤◌, List, [], ◌∷◌, ◌++◌, length, length-append, Some, Result, Ok, Err, IfOk, OnOk, refl, sym, ◌∙◌, ap, subst, arith, All}
+use Rattle.grid_base.proofs.Common.{All-pop, GridValue, row_count, col_count, IsTable, Counts, saturating_count, ClonesAreEqual, act, order_after, price, half, image_rows, image_cols}
+use Rattle.grid.specs.Prelude.{CommandValue, ReplyValue, step_rows, step_reply, RowsAreKnown, command_symmetry, list_symmetry, run_rows, run_replies, Ran}
 use Rattle.grid_base.specs.declared.words.Symmetry.{Symmetry}
 use Rattle.grid_base.specs.declared.words.Symmetry.TheVariants.{Identity}
 use Rattle.grid_base.specs.declared.order.Order.{Order}
-use Rattle.grid_base.specs.GridValue.{GridValue}
-use Rattle.grid_base.specs.Table.{row_count, col_count, IsTable}
-use Rattle.grid_base.specs.Tally.{Counts, saturating_count}
-use Rattle.grid_base.specs.Clones.{ClonesAreEqual}
-use Rattle.grid_base.specs.Symmetry.{act, order_after, price, half, image_rows, image_cols}
 use Rattle.grid_base.proofs.ActLemmas.{rows-act, cols-act}
 use Rattle.grid_base.proofs.GroupLemmas.{product, act-identity}
 use Rattle.grid_base.proofs.PriceLemmas.{price_within_half}
-use Rattle.grid_commands.specs.Command.{CommandValue}
-use Rattle.grid_commands.specs.Reply.{ReplyValue}
-use Rattle.grid.specs.Step.{step_rows, step_reply, RowsAreKnown}
-use Rattle.grid.specs.Cost.{command_symmetry, list_symmetry}
-use Rattle.grid.specs.Run.{run_rows, run_replies, Ran}
 use Rattle.grid.proofs.RunLemmas.{run_rows-more, run_replies-more, list_symmetry-more, list_symmetry-none, saturating_count-none, count_more}
 use Rattle.grid_deferred.specs.Carry.{shift_through}
 use Rattle.grid_deferred.specs.Deferred.{pending_after}

@@ -1,19 +1,13 @@
 -- Commands through the flip of the rows and the transpose, and through words of these.
-use Rattle.std.proofs.Common.{◌≡◌, ℕ, zero, suc, ◌<◌, ◌≤◌, Bool, true, false, ◌&&◌, Option, Some, None, List, nat_lt, if◌then◌else◌, refl, sym, ◌∙◌, ap, arith, ⊎_elim}
-use Rattle.std.proofs.Math.Bool.{and_comm}
-use Rattle.std.proofs.lemmas.Bool.{ltb-true, lt-ltb, le-ltb, cases_lt, and_parts}
+use Rattle.std.proofs.Common.{◌≡◌, ℕ, zero, suc, ◌<◌, ◌≤◌, Bool, true, false, ◌&&◌, Option, Some, None, List, nat_lt, if◌then◌else◌, refl, sym, ◌∙◌, ap, arith, ⊎_elim, ltb-true, lt-ltb, le-ltb}
+use Rattle.grid_base.proofs.Common.{and_comm, cases_lt, and_parts, row_count, col_count, IsTable, IsSize, act}
+use Rattle.grid.specs.Prelude.{rows_after, reply_to, step_rows, step_reply, takes_memory, CommandValue, size, get, set_cell, swap_cells, lines, fill, clear, apply, axis_of, ReplyValue, cell_is, refused, in_range, command_refusal, unless_refused}
 use Rattle.grid_base.specs.declared.words.Symmetry.{Symmetry}
 use Rattle.grid_base.specs.declared.words.Symmetry.TheVariants.{FlipRows, Transpose}
-use Rattle.grid_base.specs.Table.{row_count, col_count, IsTable, IsSize}
 use Rattle.grid_base.proofs.WriteLemmas.{IsTable-with_cell}
 use Rattle.grid_base.proofs.TableLemmas.{IsSize-table}
-use Rattle.grid_base.specs.Symmetry.{act}
-use Rattle.grid.specs.Step.{rows_after, reply_to, step_rows, step_reply, takes_memory}
 use Rattle.grid_deferred.specs.Through.{turned_reply, mirrored_line, transposed_command, flipped_command}
 use Rattle.grid_base.proofs.ActLemmas.{rows-act, cols-act, IsTable-act}
-use Rattle.grid_commands.specs.Command.{CommandValue, size, get, set_cell, swap_cells, lines, fill, clear, apply, axis_of}
-use Rattle.grid_commands.specs.Reply.{ReplyValue, cell_is, refused}
-use Rattle.grid_commands.specs.Refusal.{in_range, command_refusal, unless_refused}
 use Rattle.grid_commands.specs.declared.command.Axis.{Axis}
 use Rattle.grid_commands.specs.declared.command.Axis.TheVariants.{Row, Col}
 use Rattle.grid_commands.specs.declared.command.Refusal.{Refusal}

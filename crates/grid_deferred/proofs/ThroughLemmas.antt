@@ -1,9 +1,7 @@
 -- Effects on lines through the flip of the rows and the transpose; every other symmetry is a word of these.
 use Rattle.std.proofs.Common.{◌≡◌, List, map, reverse, sym, ◌∙◌, ap, subst, arith}
-use Rattle.std.proofs.lemmas.List.{length-reverse, length-map}
+use Rattle.grid_base.proofs.Common.{length-reverse, length-map, row_count, col_count, IsTable, act}
 use Rattle.grid_base.specs.declared.words.Symmetry.TheVariants.{FlipRows, FlipCols, Transpose}
-use Rattle.grid_base.specs.Table.{row_count, col_count, IsTable}
-use Rattle.grid_base.specs.Symmetry.{act}
 use Rattle.grid_base.proofs.ActLemmas.{cols-act, IsTable-act}
 use Rattle.grid_base.proofs.GroupLemmas.{act-act}
 use Rattle.grid_commands.specs.declared.command.Axis.TheVariants.{Row, Col}

@@ -2,16 +2,7 @@
 -- cell comes from. No public clause cites this module.
 use Rattle.std.specs.Prelude.{ℕ}
 use Rattle.grid_base.specs.declared.words.Symmetry.{Symmetry}
-use Rattle.grid_base.specs.declared.words.Symmetry.TheVariants.{
-  Identity,
-  FlipCols,
-  FlipRows,
-  RotateHalf,
-  Transpose,
-  RotateLeft,
-  RotateRight,
-  AntiTranspose,
-}
+use Rattle.grid_base.specs.declared.words.Symmetry.TheVariants.{Identity, FlipCols, FlipRows, RotateHalf, Transpose, RotateLeft, RotateRight, AntiTranspose}
 use Rattle.grid_commands.specs.Command.{CommandValue}
 use Rattle.grid_deferred.specs.Through.{transposed_command, flipped_command}
 

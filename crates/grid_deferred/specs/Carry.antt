@@ -1,15 +1,10 @@
 -- What it is for a command to do, on a table, what another does on the table's image.
 use Rattle.std.specs.Prelude.{◌≡◌, ℕ, Bool, true, false, List}
+use Rattle.grid.specs.Prelude.{flags_of, row_count, col_count, IsTable, act, Edit, delete_at, delete_range, expand, prepend, CommandValue, lines, apply, axis_of, line_count, step_rows, step_reply, takes_memory, step_shift}
 use Rattle.grid_base.specs.declared.words.Symmetry.{Symmetry}
 use Rattle.grid_base.specs.declared.order.Order.{Order}
-use Rattle.grid_base.specs.Flags.{flags_of}
-use Rattle.grid_base.specs.Table.{row_count, col_count, IsTable}
-use Rattle.grid_base.specs.Symmetry.{act}
 use Rattle.grid_commands.specs.declared.command.Axis.{Axis}
 use Rattle.grid_commands.specs.declared.command.Axis.TheVariants.{Row, Col}
-use Rattle.grid_commands.specs.Command.{Edit, delete_at, delete_range, expand, prepend, CommandValue, lines, apply, axis_of, line_count}
-use Rattle.grid.specs.Step.{step_rows, step_reply, takes_memory}
-use Rattle.grid.specs.Cost.{step_shift}
 use Rattle.grid_deferred.specs.Through.{turned_reply, base_axis, mirrored_line, mirrored_start}
 
 -- whether the image under a symmetry has the lines of an axis in the reversed order

@@ -1,15 +1,12 @@
 -- What a contract sees of a `Deferred`.
 use Rattle.std.specs.Prelude.{List, [], ◌∷◌}
+use Rattle.grid.specs.Prelude.{GridValue, act, symmetry_of, CommandValue, command_symmetry}
 use Rattle.std.specs.Borrow.{GName}
 use Rattle.grid_base.specs.declared.words.Symmetry.{Symmetry}
 use Rattle.grid_base.specs.declared.words.Symmetry.TheVariants.{Transpose}
-use Rattle.grid_base.specs.GridValue.{GridValue}
-use Rattle.grid_base.specs.Symmetry.{act, symmetry_of}
 use Rattle.grid_commands.specs.declared.command.Axis.{Axis}
 use Rattle.grid_commands.specs.declared.command.Axis.TheVariants.{Row, Col}
-use Rattle.grid_commands.specs.Command.{CommandValue}
 use Rattle.grid_deferred.specs.declared.deferred.Deferred.{Deferred}
-use Rattle.grid.specs.Cost.{command_symmetry}
 
 module _ {T A : Type 0} where
   -- the base grid as it is now

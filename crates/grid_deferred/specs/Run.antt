@@ -1,36 +1,11 @@
 -- What a deferred run of a list of commands leaves and costs.
-use Rattle.std.specs.Prelude.{
-  ◌≡◌,
-  ℕ,
-  ◌+◌,
-  ◌*◌,
-  ◌≤◌,
-  List,
-  [],
-  ◌∷◌,
-  length,
-  map,
-  take,
-  Vec,
-  Result,
-  IfOk,
-  IfErr,
-}
+use Rattle.std.specs.Prelude.{◌≡◌, ℕ, ◌+◌, ◌*◌, ◌≤◌, List, [], ◌∷◌, length, map, take, Vec, Result, IfOk, IfErr}
+use Rattle.grid.specs.Prelude.{GridValue, row_count, col_count, Counts, saturating_count, ClonesAreEqual, order_after, price, half, image_rows, image_cols, Edit, delete_at, delete_range, expand, prepend, CommandValue, lines, ReplyValue, reply_value, step_rows, list_symmetry, run_rows, run_replies, AreKnown, MayStop}
 use Rattle.grid_base.specs.declared.words.Symmetry.{Symmetry}
 use Rattle.grid_base.specs.declared.words.Symmetry.TheVariants.{Identity}
 use Rattle.grid_base.specs.declared.order.Order.{Order}
-use Rattle.grid_base.specs.GridValue.{GridValue}
-use Rattle.grid_base.specs.Table.{row_count, col_count}
-use Rattle.grid_base.specs.Tally.{Counts, saturating_count}
-use Rattle.grid_base.specs.Clones.{ClonesAreEqual}
-use Rattle.grid_base.specs.Symmetry.{order_after, price, half, image_rows, image_cols}
 use Rattle.grid_commands.specs.declared.command.Reply.{Reply}
 use Rattle.grid_commands.specs.declared.command.RunStopped.{RunStopped}
-use Rattle.grid_commands.specs.Command.{Edit, delete_at, delete_range, expand, prepend, CommandValue, lines}
-use Rattle.grid_commands.specs.Reply.{ReplyValue, reply_value}
-use Rattle.grid.specs.Step.{step_rows}
-use Rattle.grid.specs.Cost.{list_symmetry}
-use Rattle.grid.specs.Run.{run_rows, run_replies, AreKnown, MayStop}
 use Rattle.grid_deferred.specs.Carry.{shift_through}
 use Rattle.grid_deferred.specs.Deferred.{pending_after}
 

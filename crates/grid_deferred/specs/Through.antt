@@ -1,29 +1,10 @@
 -- A command and its reply as read through a flip of the rows and through the transpose.
-use Rattle.std.specs.Prelude.{
-  ℕ,
-  ◌+◌,
-  ◌-◌,
-  Bool,
-  true,
-  false,
-  Option,
-  List,
-  [],
-  ◌∷◌,
-  map,
-  reverse,
-  nat_lt,
-  if◌then◌else◌,
-}
-use Rattle.std.specs.Option.{option_map}
+use Rattle.std.specs.Prelude.{ℕ, ◌+◌, ◌-◌, Bool, true, false, Option, List, [], ◌∷◌, map, reverse, nat_lt, if◌then◌else◌, option_map}
+use Rattle.grid.specs.Prelude.{flags_of, transposes, image_rows, image_cols, symmetry_of, Edit, read, push, insert_at, insert_all, pop, remove_at, delete_at, delete_range, expand, prepend, CommandValue, get, set_cell, swap_cells, lines, apply, ReplyValue, size_is, line_is}
 use Rattle.grid_base.specs.declared.words.Symmetry.{Symmetry}
 use Rattle.grid_base.specs.declared.words.Symmetry.TheVariants.{FlipRows, Transpose}
-use Rattle.grid_base.specs.Flags.{flags_of}
-use Rattle.grid_base.specs.Symmetry.{transposes, image_rows, image_cols, symmetry_of}
 use Rattle.grid_commands.specs.declared.command.Axis.{Axis}
 use Rattle.grid_commands.specs.declared.command.Axis.TheVariants.{Row, Col}
-use Rattle.grid_commands.specs.Command.{Edit, read, push, insert_at, insert_all, pop, remove_at, delete_at, delete_range, expand, prepend, CommandValue, get, set_cell, swap_cells, lines, apply}
-use Rattle.grid_commands.specs.Reply.{ReplyValue, size_is, line_is}
 
 abbrev pub other_axis : Axis → Axis
 other_axis Row = Col

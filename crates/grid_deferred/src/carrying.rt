@@ -2,9 +2,7 @@
 //!
 //! Each symmetry is a word of transposes and flips of the rows, so a command is carried by these two.
 ghost use Rattle.std.specs.Prelude.{◌≡◌, map, reverse};
-ghost use Rattle.grid_base.specs.Gather.{items_of_each};
-ghost use Rattle.grid_commands.specs.Command.{command_value};
-ghost use Rattle.grid_commands.specs.Reply.{reply_value};
+ghost use Rattle.grid.specs.Prelude.{items_of_each, command_value, reply_value};
 ghost use Rattle.grid_deferred.specs.Through.{turned_reply, reverses_cells, mirrored_line, mirrored_insertion, mirrored_start, transposed_command, flipped_command};
 ghost use Rattle.grid_deferred.specs.Carry.{Carries, is_apply};
 ghost use Rattle.grid_deferred.specs.Carried.{carried};

@@ -1,19 +1,10 @@
 //! A grid seen through a symmetry that isn't applied yet.
-ghost use Rattle.std.specs.Prelude.{◌≡◌, ◌<◌, OnOk, OnErr, IfOk, IsTrue, false, nat_lt};
-ghost use Rattle.std.specs.Option.{option_copied};
-ghost use Rattle.grid_base.specs.Table.{row, row_count, col_count, cell, transposed, IsTable};
+ghost use Rattle.std.specs.Prelude.{◌≡◌, ◌<◌, OnOk, OnErr, IfOk, IsTrue, false, nat_lt, option_copied};
+ghost use Rattle.grid.specs.Prelude.{row, row_count, col_count, cell, transposed, IsTable, act, order_after, price, saturating_count, ClonesAreEqual, command_value, get, lines, read, apply, line_count, reply_value, in_range, step_reply, Stepped};
 ghost use Rattle.grid_base.specs.Strides.{LinesInOrder};
-ghost use Rattle.grid_base.specs.Symmetry.{act, order_after, price};
-ghost use Rattle.grid_base.specs.Tally.{saturating_count};
-ghost use Rattle.grid_base.specs.Clones.{ClonesAreEqual};
 ghost use Rattle.grid_base.specs.declared.words.Symmetry.{Symmetry};
 ghost use Rattle.grid_base.specs.declared.words.Symmetry.TheVariants.{Identity};
 ghost use Rattle.grid_commands.specs.declared.command.Axis.TheVariants.{Row, Col};
-ghost use Rattle.grid_commands.specs.Command.{command_value, get, lines, read, apply, line_count};
-ghost use Rattle.grid_commands.specs.Reply.{reply_value};
-ghost use Rattle.grid_commands.specs.Refusal.{in_range};
-ghost use Rattle.grid.specs.Step.{step_reply};
-ghost use Rattle.grid.specs.Stepped.{Stepped};
 ghost use Rattle.grid_deferred.specs.Carry.{shift_through_at, is_apply};
 ghost use Rattle.grid_deferred.specs.Deferred.{pending_after, along};
 

@@ -1,8 +1,7 @@
 -- What may be read by one relation may be read by one that allows more.
 use Rattle.std.proofs.Common.{inl, inr, ℕ, Option, Some, Result, Ok, Err, List, [], ◌∷◌, length, None}
-use Rattle.std.specs.List.{AllZip}
+use Rattle.grid_base.proofs.Common.{AllZip, GridValue}
 use Rattle.serde_json.specs.Data.{Data}
-use Rattle.grid_base.specs.GridValue.{GridValue}
 use Rattle.grid_json.specs.declared.error.RowsError.{RowsError}
 use Rattle.grid_json.specs.declared.error.RowsError.TheVariants.{Memory, NotRows, NotRow, BadCell, Ragged}
 use Rattle.grid_json.specs.Rows.{AreCells, AreRows, IsBadCell, IsBadRow, IsFault, IsRow, MayRead, MayReadItems}

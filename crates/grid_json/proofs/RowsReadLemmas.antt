@@ -1,17 +1,11 @@
 -- The rows of an array of arrays, item by item.
-use Rattle.std.proofs.Common.{◌≡◌, ◌≢◌, ◌⊎◌, inl, inr, ℕ, ◌+◌, ◌<◌, ◌≤◌, Option, Some, None, List, [], ◌∷◌, ◌++◌, length, map, take, drop, get_or, All, refl, sym, ap, subst, ◌∙◌, arith, append_assoc, append-nil, length-append}
-use Rattle.std.proofs.lemmas.List.{map-append, length-map, length-take, take_more, take_all, take-append-drop}
-use Rattle.std.proofs.lemmas.List.Elements.{All-push}
-use Rattle.std.proofs.lemmas.Slice.Zip.{AllZip-long}
-use Rattle.std.proofs.lemmas.Grind.{flat_map-append}
+use Rattle.std.proofs.Common.{◌≡◌, ◌≢◌, ◌⊎◌, inl, inr, ℕ, ◌+◌, ◌<◌, ◌≤◌, Option, Some, None, List, [], ◌∷◌, ◌++◌, length, map, take, drop, get_or, All, refl, sym, ap, subst, ◌∙◌, arith, append_assoc, append-nil, length-append, length-take, take_all, take-append-drop}
+use Rattle.grid_base.proofs.Common.{map-append, length-map, take_more, All-push, AllZip-long, flat_map-append, col_count, concat_rows, storage, CanCut, GridValue}
 use Rattle.serde_json.specs.Data.{Data, null, boolean, number, string, array, object, Items}
 use Rattle.serde_json.specs.Find.{as_array}
 use Rattle.serde_json.specs.View.{view}
 use Rattle.serde_json.specs.declared.value.Value.{Value}
 use Rattle.grid_base.specs.declared.order.Order.TheVariants.{RowMajor}
-use Rattle.grid_base.specs.Table.{col_count, concat_rows}
-use Rattle.grid_base.specs.Order.{storage, CanCut}
-use Rattle.grid_base.specs.GridValue.{GridValue}
 use Rattle.grid_base.proofs.StorageLemmas.{length-concat_rows}
 use Rattle.grid.specs.Conversion.{equal_rows}
 use Rattle.grid.proofs.ConversionLemmas.{AllZip-concat_rows, equal_rows_are}

@@ -1,5 +1,6 @@
 -- Rows as JSON data: an array of arrays.
 use Rattle.std.specs.Prelude.{◌≡◌, ◌≢◌, ◌⊎◌, ◌<◌, ℕ, List, ◌∷◌, ◌++◌, length, map, All, Option, Some, None, Result, Ok, Err, MatchResult}
+use Rattle.grid.specs.Prelude.{GridValue, equal_rows}
 use denote.Ref.{Bor}
 use Rattle.std.specs.List.{AllZip}
 use Rattle.std.specs.declared.alloc.AllocError.{AllocError}
@@ -7,8 +8,6 @@ use Rattle.serde_json.specs.Data.{Data, array}
 use Rattle.serde_json.specs.View.{items_of, view}
 use Rattle.serde_json.specs.declared.value.Value.{Value}
 use Rattle.grid_base.specs.declared.order.Order.TheVariants.{RowMajor}
-use Rattle.grid_base.specs.GridValue.{GridValue}
-use Rattle.grid.specs.Conversion.{equal_rows}
 use Rattle.grid_json.specs.declared.error.RowsError.{RowsError}
 use Rattle.grid_json.specs.declared.error.RowsError.TheVariants.{Memory, NotRows, NotRow, BadCell, Ragged}
 

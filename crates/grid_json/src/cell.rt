@@ -1,6 +1,5 @@
 //! Cells that JSON can hold.
-ghost use Rattle.std.specs.Prelude.{◌≡◌, ◌^◌, Option, IfOk, Some, pos, string_bytes};
-ghost use Rattle.std.specs.Option.{option_map};
+ghost use Rattle.std.specs.Prelude.{◌≡◌, ◌^◌, Option, IfOk, Some, pos, string_bytes, option_map};
 ghost use Rattle.serde_json.specs.Data.{Data};
 ghost use Rattle.serde_json.specs.View.{view};
 ghost use Rattle.grid_json.specs.Content.{Content, whole, truth, text as text_of, written, unsigned_content, signed_content, truth_content, text_content};

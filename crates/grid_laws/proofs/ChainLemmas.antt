@@ -1,7 +1,6 @@
 -- Lists whose items from a place on come from later places, in their order: as many swaps as such items bring them
 -- there, and no fewer do.
-use Rattle.std.proofs.Common.{◌≡◌, ℕ, zero, suc, ◌+◌, ◌-◌, ◌<◌, ◌≤◌, List, [], ◌∷◌, length, refl, sym, ◌∙◌, ap, arith, ⊎_elim}
-use Rattle.std.specs.List.{slice_get}
+use Rattle.std.proofs.Common.{◌≡◌, ℕ, zero, suc, ◌+◌, ◌-◌, ◌<◌, ◌≤◌, List, [], ◌∷◌, length, refl, sym, ◌∙◌, ap, arith, ⊎_elim, slice_get}
 use Rattle.std.proofs.lemmas.Bool.{cases_lt}
 use Rattle.grid_laws.specs.Least.{AreWithin, IsLeast}
 use Rattle.grid_laws.proofs.OriginLemmas.{turned, turned_first, turned_other, origin, makes}

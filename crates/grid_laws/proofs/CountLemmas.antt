@@ -1,19 +1,12 @@
 -- The counts of calls, which grow by the price of a symmetry, and by the shift of an edit.
 use Rattle.std.proofs.Common.{◌≡◌, ℕ, List, Result, Ok, Err, OnOk, length, refl, sym, ◌∙◌, ap, subst}
+use Rattle.grid_base.proofs.Common.{GridValue, row_count, col_count, IsTable, Counts, saturating_count, storage, act, order_after, price, image_rows, image_cols, IsInverse}
+use Rattle.grid.specs.Prelude.{CommandValue, ReplyValue, command_symmetry, list_symmetry, step_shift, step_rows}
 use Rattle.grid_base.specs.declared.order.Order.{Order}
 use Rattle.grid_base.specs.declared.words.Symmetry.{Symmetry}
 use Rattle.grid_base.specs.declared.words.Symmetry.TheVariants.{Identity}
-use Rattle.grid_base.specs.GridValue.{GridValue}
-use Rattle.grid_base.specs.Table.{row_count, col_count, IsTable}
-use Rattle.grid_base.specs.Tally.{Counts, saturating_count}
-use Rattle.grid_base.specs.Order.{storage}
-use Rattle.grid_base.specs.Symmetry.{act, order_after, price, image_rows, image_cols, IsInverse}
 use Rattle.grid_base.proofs.ActLemmas.{rows-act, cols-act, IsTable-act}
 use Rattle.grid_base.proofs.GroupLemmas.{act-act, act-identity, inverse_is, inverse_left}
-use Rattle.grid_commands.specs.Command.{CommandValue}
-use Rattle.grid_commands.specs.Reply.{ReplyValue}
-use Rattle.grid.specs.Cost.{command_symmetry, list_symmetry, step_shift}
-use Rattle.grid.specs.Step.{step_rows}
 use Rattle.grid_deferred.specs.Run.{settling_price, RanDeferred}
 use Rattle.grid_laws.specs.Least.{HasDifferentCells, IsLeast, GrewByLeast, Shifts, filled_up}
 use Rattle.grid_laws.proofs.ImageLemmas.{price_is_least, different_image}

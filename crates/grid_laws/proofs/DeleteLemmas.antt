@@ -1,17 +1,10 @@
 -- The cells that stay and move at a delete of rows are the least number of swaps that bring all that stay to their places.
-use Rattle.std.proofs.Common.{◌++◌, ◌≡◌, ℕ, ◌+◌, ◌-◌, ◌*◌, ◌/◌, ◌%◌, ◌<◌, ◌≤◌, cond, ltb, eqb, List, [], length, take, drop, refl, sym, ◌∙◌, ap, subst, arith, ⊎_elim}
-use Rattle.std.specs.List.{slice_get}
-use Rattle.std.proofs.lemmas.List.{take-append-drop}
-use Rattle.std.proofs.lemmas.Nat.{div-mul-add, mod-mul-add}
-use Rattle.std.proofs.lemmas.Bool.{cases_lt, cases_eq, cond-true, cond-false, lt-ltb, le-ltb, eq-eqb, ne_eqb}
-use Rattle.std.proofs.Math.Nat.{mul_comm, mul-le-mul_right}
+use Rattle.std.proofs.Common.{◌++◌, ◌≡◌, ℕ, ◌+◌, ◌-◌, ◌*◌, ◌/◌, ◌%◌, ◌<◌, ◌≤◌, cond, ltb, eqb, List, [], length, take, drop, refl, sym, ◌∙◌, ap, subst, arith, ⊎_elim, slice_get, take-append-drop, lt-ltb, le-ltb, eq-eqb, ne_eqb, mul_comm, mul-le-mul_right}
+use Rattle.grid_base.proofs.Common.{div-mul-add, mod-mul-add, cases_lt, cases_eq, cond-true, cond-false, row, row_count, col_count, cell, InRange, IsTable, storage, place}
+use Rattle.grid.specs.Prelude.{without_rows, rows_taken_shift, delete_rows_shift}
 use Rattle.grid_base.specs.declared.order.Order.{Order}
 use Rattle.grid_base.specs.declared.order.Order.TheVariants.{RowMajor, ColumnMajor}
-use Rattle.grid_base.specs.Table.{row, row_count, col_count, cell, InRange, IsTable}
-use Rattle.grid_base.specs.Order.{storage, place}
 use Rattle.grid_base.proofs.StorageLemmas.{length-storage, get-storage, has_place}
-use Rattle.grid.specs.Edits.{without_rows}
-use Rattle.grid.specs.Shift.{rows_taken_shift, delete_rows_shift}
 use Rattle.grid.proofs.RowEditLemmas.{row-take_before, row-take_after, rows-take}
 use Rattle.grid.proofs.EditSizeLemmas.{cols-take, IsTable-take}
 use Rattle.grid_laws.specs.Least.{HasDifferentCells, IsLeast}

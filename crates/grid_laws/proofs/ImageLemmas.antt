@@ -1,14 +1,10 @@
 -- The price of a symmetry is the least number of swaps that make the storage of the image of that of the table.
-use Rattle.std.proofs.Common.{◌≡◌, ℕ, ◌+◌, ◌-◌, ◌*◌, ◌/◌, ◌<◌, List, length, sym, ◌∙◌, ap, subst, arith}
-use Rattle.std.specs.List.{slice_get}
-use Rattle.std.proofs.Math.Nat.{mul_comm}
+use Rattle.std.proofs.Common.{◌≡◌, ℕ, ◌+◌, ◌-◌, ◌*◌, ◌/◌, ◌<◌, List, length, sym, ◌∙◌, ap, subst, arith, slice_get, mul_comm}
+use Rattle.grid_base.proofs.Common.{row_count, col_count, cell, IsTable, storage, place, flipped, act, order_after, price, image_rows, image_cols, source_row, source_col}
 use Rattle.grid_base.specs.declared.order.Order.{Order}
 use Rattle.grid_base.specs.declared.order.Order.TheVariants.{RowMajor, ColumnMajor}
 use Rattle.grid_base.specs.declared.words.Symmetry.{Symmetry}
 use Rattle.grid_base.specs.declared.words.Symmetry.TheVariants.{Identity, FlipRows, FlipCols, RotateHalf, Transpose, RotateLeft, RotateRight, AntiTranspose}
-use Rattle.grid_base.specs.Table.{row_count, col_count, cell, IsTable}
-use Rattle.grid_base.specs.Order.{storage, place, flipped}
-use Rattle.grid_base.specs.Symmetry.{act, order_after, price, image_rows, image_cols, source_row, source_col}
 use Rattle.grid_base.proofs.StorageLemmas.{length-storage, get-storage, has_place}
 use Rattle.grid_base.proofs.ActLemmas.{source_within, rows-act, cols-act, cell-act, IsTable-act}
 use Rattle.grid_base.proofs.TableLemmas.{same_cells}

@@ -1,15 +1,10 @@
 -- Padding is a delete backwards: the swaps that take the new rows out again, in opposite order, put them in.
-use Rattle.std.proofs.Common.{◌≡◌, ℕ, ◌+◌, ◌-◌, ◌*◌, ◌<◌, ◌≤◌, ◌⊎◌, inl, inr, ⊎_elim, Some, List, length, replicate, sym, ◌∙◌, ap, subst, arith}
-use Rattle.std.specs.List.{slice_get}
-use Rattle.std.proofs.lemmas.List.{length-append, length-replicate}
-use Rattle.std.proofs.lemmas.Bool.{cases_lt}
+use Rattle.std.proofs.Common.{◌≡◌, ℕ, ◌+◌, ◌-◌, ◌*◌, ◌<◌, ◌≤◌, ◌⊎◌, inl, inr, ⊎_elim, Some, List, length, replicate, sym, ◌∙◌, ap, subst, arith, slice_get, length-append}
+use Rattle.grid_base.proofs.Common.{length-replicate, cases_lt, row, row_count, col_count, cell, IsTable, storage, place}
+use Rattle.grid.specs.Prelude.{insert_rows, without_rows, rows_added_shift, rows_taken_shift}
 use Rattle.grid_base.specs.declared.order.Order.{Order}
-use Rattle.grid_base.specs.Table.{row, row_count, col_count, cell, IsTable}
-use Rattle.grid_base.specs.Order.{storage, place}
 use Rattle.grid_base.proofs.TableLemmas.{same_tables}
 use Rattle.grid_base.proofs.StorageLemmas.{get_append_left, get_append_right, length-storage, get-storage, has_place, place_within, get-replicate}
-use Rattle.grid.specs.Edits.{insert_rows, without_rows}
-use Rattle.grid.specs.Shift.{rows_added_shift, rows_taken_shift}
 use Rattle.grid.proofs.RowEditLemmas.{row-put_before, row-put_new, row-put_after, rows-put, row-take_before, row-take_after, rows-take, shift-taken}
 use Rattle.grid.proofs.EditSizeLemmas.{LinesFit, IsTable-put, IsTable-width, cols-put_lines, copies, row-copies, HasWidth-copies}
 use Rattle.grid_laws.specs.Least.{AreWithin, Makes, IsLeast, HasDifferentCells, Lacks, filled_up}

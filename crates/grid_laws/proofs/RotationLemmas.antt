@@ -1,9 +1,8 @@
 -- Quarter turns, one after another.
 use Rattle.std.proofs.Common.{ℕ, zero, suc, ◌+◌, ◌≡◌, ◌∙◌, List, ap, add-one}
+use Rattle.grid_base.proofs.Common.{IsTable, act, order_after}
 use Rattle.grid_base.specs.declared.words.Symmetry.{Symmetry}
 use Rattle.grid_base.specs.declared.words.Symmetry.TheVariants.{Identity, RotateLeft}
-use Rattle.grid_base.specs.Table.{IsTable}
-use Rattle.grid_base.specs.Symmetry.{act, order_after}
 use Rattle.grid_base.specs.declared.order.Order.{Order}
 use Rattle.grid_base.proofs.GroupLemmas.{product, act-act, act-identity, order_after-order_after}
 

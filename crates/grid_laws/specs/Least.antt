@@ -1,26 +1,7 @@
 -- Swaps of the items at two places, one after another, and the least number of them that makes one
 -- list of another.
-use Rattle.std.specs.Prelude.{
-  ◌≡◌,
-  ◌≢◌,
-  ℕ,
-  ◌-◌,
-  ◌<◌,
-  ◌≤◌,
-  ⊤,
-  Some,
-  List,
-  [],
-  ◌∷◌,
-  ◌++◌,
-  length,
-  take,
-  replicate,
-  swap,
-}
-use Rattle.grid_base.specs.Table.{cell, InRange}
-use Rattle.grid_base.specs.Tally.{saturating_count}
-use Rattle.grid_commands.specs.Command.{Edit, delete_at, delete_range, expand, prepend, CommandValue, lines}
+use Rattle.std.specs.Prelude.{◌≡◌, ◌≢◌, ℕ, ◌-◌, ◌<◌, ◌≤◌, ⊤, Some, List, [], ◌∷◌, ◌++◌, length, take, replicate, swap}
+use Rattle.grid.specs.Prelude.{cell, InRange, saturating_count, Edit, delete_at, delete_range, expand, prepend, CommandValue, lines}
 
 -- both places of each pair are below n
 abbrev pub AreWithin : ℕ → List (ℕ × ℕ) → Type 0

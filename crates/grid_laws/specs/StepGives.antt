@@ -1,14 +1,8 @@
 -- All that one command does, in one word.
 use Rattle.std.specs.Prelude.{◌≡◌, ◌+◌, ◌≤◌, Result, OnOk, OnErr}
-use Rattle.grid_base.specs.Table.{row_count, col_count}
-use Rattle.grid_base.specs.GridValue.{GridValue}
-use Rattle.grid_base.specs.Symmetry.{act, order_after, half}
-use Rattle.grid_base.specs.Tally.{Counts}
+use Rattle.grid.specs.Prelude.{row_count, col_count, GridValue, act, order_after, half, Counts, CommandValue, apply, command_symmetry, Stepped, StepCounted}
 use Rattle.grid_base.specs.declared.words.Symmetry.{Symmetry}
 use Rattle.grid_commands.specs.declared.command.Reply.{Reply}
-use Rattle.grid_commands.specs.Command.{CommandValue, apply}
-use Rattle.grid.specs.Cost.{command_symmetry}
-use Rattle.grid.specs.Stepped.{Stepped, StepCounted}
 
 -- what a step by this command makes of a grid and a tally, and what it returns
 pub record StepGives {T A E : Type 0} (is_default : T → Type 0) (is_clone : T → T → Type 0)

@@ -3,18 +3,9 @@
 //! A clause `law`, `law_rows` or `law_line` states the law itself. It speaks of tables and says nothing of the calls;
 //! what those leave is in the other clauses.
 ghost use Rattle.std.specs.Prelude.{◌≡◌, ◌<◌, ◌≤◌, List, length, map, insert, remove, slice_get, Some, OnOk, OnErr, IfOk, IfErr, MatchOption};
-ghost use Rattle.grid_base.specs.GridValue.{GridValue};
-ghost use Rattle.grid_base.specs.Tally.{Counts};
-ghost use Rattle.grid_base.specs.Table.{row_count, col_count, IsTable};
-ghost use Rattle.grid_base.specs.Order.{storage};
-ghost use Rattle.grid_base.specs.Symmetry.{act, order_after, IsInverse};
+ghost use Rattle.grid.specs.Prelude.{GridValue, Counts, row_count, col_count, IsTable, storage, act, order_after, IsInverse, ClonesAreEqual, CommandValue, command_value, ReplyValue, reply_value, FitsRow, FitsCol, insert_col, Ran, RunGives, AreKnown};
 ghost use Rattle.grid_base.specs.declared.words.Symmetry.{Symmetry};
 ghost use Rattle.grid_base.specs.declared.words.Symmetry.TheVariants.{FlipCols, FlipRows, RotateHalf, RotateLeft, RotateRight, Transpose};
-ghost use Rattle.grid_base.specs.Clones.{ClonesAreEqual};
-ghost use Rattle.grid_commands.specs.Command.{CommandValue, command_value};
-ghost use Rattle.grid_commands.specs.Reply.{ReplyValue, reply_value};
-ghost use Rattle.grid.specs.Edits.{FitsRow, FitsCol, insert_col};
-ghost use Rattle.grid.specs.Run.{Ran, RunGives, AreKnown};
 
 use grid::{Command, Grid, LineRefused, Reply, RunStopped, run};
 use grid_base::{Symmetry, Tally, laws};

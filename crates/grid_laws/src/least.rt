@@ -3,14 +3,9 @@
 //! Each law makes the call that its name says. Its clauses `symmetry`, `shift` and `least` say of that call that a
 //! count grew by the least number of swaps of two places. Those called `_law` say it of every table.
 ghost use Rattle.std.specs.Prelude.{◌≤◌, List, IfOk, IfErr, OnOk, length, map, take};
-ghost use Rattle.grid_base.specs.Table.{IsTable};
-ghost use Rattle.grid_base.specs.Order.{storage};
-ghost use Rattle.grid_base.specs.Symmetry.{act, order_after, IsInverse};
+ghost use Rattle.grid.specs.Prelude.{IsTable, storage, act, order_after, IsInverse, command_value, command_symmetry, list_symmetry, price_at, shift_at, RowsAreKnown, step_rows};
 ghost use Rattle.grid_base.specs.declared.order.Order.{Order};
 ghost use Rattle.grid_base.specs.declared.words.Symmetry.{Symmetry};
-ghost use Rattle.grid_commands.specs.Command.{command_value};
-ghost use Rattle.grid.specs.Cost.{command_symmetry, list_symmetry, price_at, shift_at};
-ghost use Rattle.grid.specs.Step.{RowsAreKnown, step_rows};
 ghost use Rattle.grid_deferred.specs.Run.{DeferredRunGives};
 ghost use Rattle.grid_laws.specs.StepGives.{StepGives};
 ghost use Rattle.grid_laws.specs.Least.{HasDifferentCells, IsLeast, Shifts, filled_up, GrewByLeast};

@@ -1,16 +1,7 @@
 -- The cells of a row across the storage come to its front, are rewritten there, and go back.
-use Rattle.std.proofs.Common.{◌≡◌, ◌≢◌, ℕ, zero, suc, ◌+◌, ◌-◌, ◌*◌, ◌<◌, ◌≤◌, List, length, drop, set, inl, inr, refl, sym, ap, ◌∙◌, arith, ⊎_elim, length-append, length-drop}
-use Rattle.std.proofs.lemmas.Bool.{cases_lt}
-use Rattle.std.proofs.lemmas.Bool.Decides.{eqb_tells}
-use Rattle.std.proofs.lemmas.List.Edits.{length-swap}
-use Rattle.std.proofs.Math.Nat.{mul-le-mul_right, mul-le-mul_left}
-use Rattle.std.specs.List.{slice_get, swap}
-use Rattle.std.proofs.lemmas.List.{length-take}
-use borrow.Rule.Slice.PartMut.{mid_of, put_mid}
+use Rattle.std.proofs.Common.{◌≡◌, ◌≢◌, ℕ, zero, suc, ◌+◌, ◌-◌, ◌*◌, ◌<◌, ◌≤◌, List, length, drop, set, inl, inr, refl, sym, ap, ◌∙◌, arith, ⊎_elim, length-append, length-drop, mul-le-mul_right, mul-le-mul_left, slice_get, swap, length-take}
+use Rattle.grid_base.proofs.Common.{cases_lt, eqb_tells, length-swap, mid_of, put_mid, HoldsSize, table_of, row}
 use Rattle.grid_base.specs.declared.order.Order.TheVariants.{ColumnMajor}
-use Rattle.grid_base.specs.GridValue.{HoldsSize}
-use Rattle.grid_base.specs.Order.{table_of}
-use Rattle.grid_base.specs.Table.{row}
 use Rattle.grid_base.proofs.StorageLemmas.{width-table_of, get-take, get-drop, get_append_left, get_append_right}
 use Rattle.grid_base.proofs.SwapLemmas.{get-swap_first, get-swap_second, get-swap_other}
 use Rattle.grid_base.proofs.TableLemmas.{same_cells}

@@ -1,12 +1,7 @@
 -- Rows that are cloned into vectors, or moved there.
-use Rattle.std.proofs.Common.{◌≡◌, ℕ, suc, ◌+◌, ◌<◌, ◌≤◌, Some, List, [], ◌∷◌, ◌++◌, length, take, drop, get_or, map, set, sym, ap, ◌∙◌, subst, arith, length-append, length-drop, add-one, drop-cons}
-use Rattle.std.proofs.Math.Seq.{take-append_seam, drop-append_seam}
-use Rattle.std.proofs.lemmas.List.{take_all, take_more, take_more_set, drop_all, nil_from_length, get_or-set_other, length-set, length-map, map-set}
-use Rattle.std.proofs.lemmas.List.Elements.{same_from_all_zip}
-use Rattle.std.proofs.lemmas.Option.{slice_get_within}
-use Rattle.std.specs.List.{AllZip, slice_get}
+use Rattle.std.proofs.Common.{◌≡◌, ℕ, suc, ◌+◌, ◌<◌, ◌≤◌, Some, List, [], ◌∷◌, ◌++◌, length, take, drop, get_or, map, set, sym, ap, ◌∙◌, subst, arith, length-append, length-drop, add-one, drop-cons, take_all, get_or-set_other, length-set, slice_get}
+use Rattle.grid_base.proofs.Common.{take-append_seam, drop-append_seam, take_more, take_more_set, drop_all, nil_from_length, length-map, map-set, same_from_all_zip, slice_get_within, AllZip, IsTable, row, col_count, concat_rows}
 use Rattle.std.specs.declared.vec.Vec.{Vec}
-use Rattle.grid_base.specs.Table.{IsTable, row, col_count, concat_rows}
 use Rattle.grid_base.proofs.ClosureLemmas.{answers_more, take_next}
 use Rattle.grid_base.proofs.StorageLemmas.{get-drop}
 use Rattle.grid_lines.specs.Copied.{AreCopied, IsRoomFor}

@@ -1,10 +1,6 @@
 -- Lines that are sorted by a number or by a key of each.
-use Rattle.std.proofs.Common.{◌≡◌, ℕ, List, ap}
-use Rattle.std.proofs.lemmas.Cmp.{nat_cmp_total}
-use Rattle.std.proofs.lemmas.Fn.{always_returns_same}
-use Rattle.std.proofs.lemmas.List.Sorted.{IsNonDecreasingBy-from_sort, answers_always, ranks_by}
-use Rattle.std.specs.Fn.{Mut, Called}
-use Rattle.std.specs.Ordering.{is_lt, nat_cmp}
+use Rattle.std.proofs.Common.{◌≡◌, ℕ, List, ap, is_lt, nat_cmp}
+use Rattle.grid_base.proofs.Common.{nat_cmp_total, always_returns_same, IsNonDecreasingBy-from_sort, answers_always, ranks_by, Mut, Called}
 use Rattle.std.specs.declared.cmp.Ordering.{Ordering}
 use Rattle.grid_lines.specs.SortedLines.{AreSortedLines, AreSortedByKey, AscendBy, AscendByKey}
 

@@ -1,12 +1,6 @@
 -- Items that are put into a wanted order by swaps, where each item is named by its number.
-use Rattle.std.proofs.Common.{◌≡◌, ◌≢◌, ℕ, ◌+◌, ◌<◌, ◌≤◌, ◌⊎◌, inl, inr, List, length, get_or, map, refl, sym, ap, ◌∙◌, arith}
-use Rattle.std.proofs.lemmas.Bool.Decides.{eqb_tells}
-use Rattle.std.proofs.lemmas.List.{ext_get_or, get_or-map, length-map}
-use Rattle.std.proofs.lemmas.List.Edits.{Swapped, swapped_from_swap, length-swap}
-use Rattle.std.proofs.lemmas.List.FromFn.{length-range_with_len, get_or-range_with_len}
-use Rattle.std.proofs.lemmas.List.Sorted.{IsPermutation-keeps}
-use Rattle.std.specs.List.{range_with_len, swap}
-use Rattle.std.specs.List.Sorted.{IsPermutation}
+use Rattle.std.proofs.Common.{◌≡◌, ◌≢◌, ℕ, ◌+◌, ◌<◌, ◌≤◌, ◌⊎◌, inl, inr, List, length, get_or, map, refl, sym, ap, ◌∙◌, arith, ext_get_or, swap, IsPermutation}
+use Rattle.grid_base.proofs.Common.{eqb_tells, get_or-map, length-map, Swapped, swapped_from_swap, length-swap, length-range_with_len, get_or-range_with_len, IsPermutation-keeps, range_with_len}
 
 -- the numbers below n, each once
 pub record IsNumbering (n : ℕ) (ns : List ℕ) : Type 0 where

@@ -1,20 +1,9 @@
 -- Rows of a stored table that are rewritten one after another.
-use Rattle.std.proofs.Common.{◌≡◌, ◌≢◌, ℕ, zero, suc, ◌+◌, ◌-◌, ◌*◌, ◌^◌, ◌<◌, ◌≤◌, List, [], ◌∷◌, ◌++◌, length, take, drop, get_or, map, set, refl, sym, ap, ◌∙◌, subst, arith, inl, inr, ⊎_elim, add-one, drop-cons, length-append, length-drop, append-nil}
-use Rattle.std.proofs.lemmas.Bool.{cases_lt}
-use Rattle.std.proofs.lemmas.Bool.Decides.{eqb_tells}
-use Rattle.std.proofs.lemmas.List.{length-take, ext_get_or, get_or-set_same, get_or-set_other, length-set, take_all, take_more, take_more_set, drop_all, drop-set-lt}
-use Rattle.std.proofs.Math.Nat.{mul-le-mul_right}
-use Rattle.std.specs.Borrow.{MutBor}
-use Rattle.std.specs.Fn.{Mut, Called, CalledAtMut}
-use Rattle.std.specs.List.{slice_get, refill}
-use borrow.Rule.Slice.PartMut.{mid_of, put_mid}
+use Rattle.std.proofs.Common.{◌≡◌, ◌≢◌, ℕ, zero, suc, ◌+◌, ◌-◌, ◌*◌, ◌^◌, ◌<◌, ◌≤◌, List, [], ◌∷◌, ◌++◌, length, take, drop, get_or, map, set, refl, sym, ap, ◌∙◌, subst, arith, inl, inr, ⊎_elim, add-one, drop-cons, length-append, length-drop, append-nil, length-take, ext_get_or, get_or-set_same, get_or-set_other, length-set, take_all, drop-set-lt, mul-le-mul_right, MutBor, slice_get}
+use Rattle.grid_base.proofs.Common.{cases_lt, eqb_tells, take_more, take_more_set, drop_all, Mut, Called, CalledAtMut, refill, mid_of, put_mid, MapsThrough, MapsTo, GridValue, HoldsSize, place, storage, table_of, row, row_count, col_count}
 use Rattle.grid.proofs.ExchangeLemmas.{refilled}
 use Rattle.grid_base.specs.declared.order.Order.{Order}
 use Rattle.grid_base.specs.declared.order.Order.TheVariants.{RowMajor}
-use Rattle.grid_base.specs.ClosureCalls.{MapsThrough, MapsTo}
-use Rattle.grid_base.specs.GridValue.{GridValue, HoldsSize}
-use Rattle.grid_base.specs.Order.{place, storage, table_of}
-use Rattle.grid_base.specs.Table.{row, row_count, col_count}
 use Rattle.grid_lines.specs.Rewritten.{AreRewritten}
 use Rattle.grid_base.proofs.ClosureLemmas.{MapsThrough-append}
 use Rattle.grid_base.proofs.StorageLemmas.{length-storage, width-table_of, get-take, get-drop, get_append_left, get_append_right}

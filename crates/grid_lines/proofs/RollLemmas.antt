@@ -1,9 +1,6 @@
 -- Two blocks that are a whole list and change places.
-use Rattle.std.proofs.Common.{◌≡◌, ℕ, ◌+◌, ◌-◌, ◌<◌, ◌≤◌, List, ◌++◌, length, take, drop, sym, ap, ◌∙◌, arith, ⊎_elim, length-append, length-drop, take-append-drop}
-use Rattle.std.specs.List.{slice_get}
-use Rattle.std.proofs.lemmas.Bool.{cases_lt}
-use Rattle.std.proofs.lemmas.List.{length-take}
-use Rattle.grid_base.specs.Blocks.{BlocksExchanged}
+use Rattle.std.proofs.Common.{◌≡◌, ℕ, ◌+◌, ◌-◌, ◌<◌, ◌≤◌, List, ◌++◌, length, take, drop, sym, ap, ◌∙◌, arith, ⊎_elim, length-append, length-drop, take-append-drop, slice_get, length-take}
+use Rattle.grid_base.proofs.Common.{cases_lt, BlocksExchanged}
 use Rattle.grid_base.proofs.TableLemmas.{same_cells}
 use Rattle.grid_base.proofs.StorageLemmas.{get_append_left, get_append_right}
 

@@ -1,8 +1,6 @@
 -- A row that is written cell by cell.
-use Rattle.std.proofs.Common.{◌≡◌, ℕ, zero, suc, ◌+◌, ◌<◌, List, [], ◌∷◌, ◌++◌, length, take, drop, get_or, set, refl, sym, ap, ◌∙◌, arith, add-one, append-nil}
-use Rattle.std.specs.Prelude.{Option, Some, None, MatchOption}
-use Rattle.std.proofs.lemmas.List.{get_or-set_same, take_all, drop_all}
-use Rattle.grid_base.specs.Table.{row, with_cell, InRange}
+use Rattle.std.proofs.Common.{◌≡◌, ℕ, zero, suc, ◌+◌, ◌<◌, List, [], ◌∷◌, ◌++◌, length, take, drop, get_or, set, refl, sym, ap, ◌∙◌, arith, add-one, append-nil, Option, Some, None, MatchOption, get_or-set_same, take_all}
+use Rattle.grid_base.proofs.Common.{drop_all, row, with_cell, InRange}
 
 set_set : {X : Type 0} (xs : List X) (i : ℕ) (a b : X) → set (set xs i a) i b ≡ set xs i b
 set_set [] i a b = refl

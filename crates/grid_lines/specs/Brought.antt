@@ -1,6 +1,5 @@
 -- The cells of a row across the storage come to its front, and go back. No public clause cites it.
-use Rattle.std.specs.Prelude.{ℕ, zero, suc, ◌+◌, ◌*◌, List}
-use Rattle.std.specs.List.{swap}
+use Rattle.std.specs.Prelude.{ℕ, zero, suc, ◌+◌, ◌*◌, List, swap}
 
 module _ {T : Type 0} (m r : ℕ) where
   -- the first k cells of row r of a column-major table of m rows have come to the front, one after

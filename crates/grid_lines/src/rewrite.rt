@@ -1,9 +1,7 @@
 //! Rows and columns that a closure rewrites, each as a slice.
 ghost use Rattle.std.specs.Prelude.{◌≡◌, ◌<◌, ◌*◌, List, length, map};
+ghost use Rattle.grid.specs.Prelude.{HoldsSize, table_of, row_count, col_count, transposed};
 ghost use Rattle.grid_base.specs.declared.order.Order.TheVariants.{RowMajor, ColumnMajor};
-ghost use Rattle.grid_base.specs.GridValue.{HoldsSize};
-ghost use Rattle.grid_base.specs.Order.{table_of};
-ghost use Rattle.grid_base.specs.Table.{row_count, col_count, transposed};
 ghost use Rattle.grid_lines.specs.Brought.{brought, taken_back};
 ghost use Rattle.grid_lines.specs.Rewritten.{AreRewritten, RewritesBy};
 

@@ -1,7 +1,6 @@
 //! Rows and columns that move round: the first ones go to the end.
 ghost use Rattle.std.specs.Prelude.{◌≡◌, ◌<◌, ◌≤◌, ◌+◌, ◌^◌, ◌++◌, take, drop};
-ghost use Rattle.grid_base.specs.Table.{row_count, col_count, transposed};
-ghost use Rattle.grid_base.specs.Blocks.{PartReversed};
+ghost use Rattle.grid.specs.Prelude.{row_count, col_count, transposed, PartReversed};
 
 use grid::Grid;
 use std::alloc::Allocator;

@@ -1,16 +1,8 @@
 -- The steps round a cell, one by one.
-use Rattle.std.proofs.Common.{◌≡◌, ℕ, zero, suc, ◌+◌, ◌-◌, ◌*◌, ◌/◌, ◌%◌, ◌<◌, ◌≤◌, inl, inr, Bool, true, false, cond, Option, Some, None, List, [], ◌∷◌, drop, length, refl, ◌&&◌, nat_lt, sym, ◌∙◌, ap, arith, slice_index_or, lit<, subst, IsSome}
-use Rattle.std.specs.List.{filter_map, slice_get, cons_option}
-use Rattle.std.specs.Option.{option_map, option_and_then}
-use Rattle.std.proofs.lemmas.List.{drop_all}
-use Rattle.std.proofs.lemmas.Nat.{mod_below}
-use Rattle.std.proofs.lemmas.Bool.{cases_lt, lt-ltb, le-ltb, ltb-true}
-use Rattle.std.proofs.lemmas.Option.{slice_get_read}
+use Rattle.std.proofs.Common.{◌≡◌, ℕ, zero, suc, ◌+◌, ◌-◌, ◌*◌, ◌/◌, ◌%◌, ◌<◌, ◌≤◌, inl, inr, Bool, true, false, cond, Option, Some, None, List, [], ◌∷◌, drop, length, refl, ◌&&◌, nat_lt, sym, ◌∙◌, ap, arith, slice_index_or, lit<, subst, IsSome, filter_map, slice_get, option_map, option_and_then, lt-ltb, le-ltb, ltb-true}
+use Rattle.grid_base.proofs.Common.{cons_option, drop_all, mod_below, cases_lt, slice_get_read, row_count, col_count, cell, IsTable, storage, place, table_of, HoldsSize}
 use Rattle.grid_base.specs.declared.order.Order.{Order}
 use Rattle.grid_base.specs.declared.order.Order.TheVariants.{RowMajor, ColumnMajor}
-use Rattle.grid_base.specs.Table.{row_count, col_count, cell, IsTable}
-use Rattle.grid_base.specs.Order.{storage, place, table_of}
-use Rattle.grid_base.specs.GridValue.{HoldsSize}
 use Rattle.grid_base.proofs.ViewLemmas.{view-rows, view-cols, view-table, view-storage}
 use Rattle.grid_base.proofs.TableLemmas.{cell_past_rows, IsSome_within, length_cons, past_cols}
 use Rattle.grid_base.proofs.StorageLemmas.{get-storage, length-storage, place_within}

@@ -1,21 +1,8 @@
 -- Marks of cells.
-use Rattle.std.proofs.Common.{◌≡◌, ℕ, zero, suc, ◌+◌, ◌-◌, ◌*◌, ◌%◌, ◌<◌, ◌&&◌, inl, inr, Bool, true, false, cond, nat_lt, List, [], ◌∷◌, Option, Some, None, length, refl, sym, subst, ◌∙◌, ap, arith, get_or, set, take}
-use Rattle.std.specs.List.{slice_get, filter_map, cons_option, AllZip}
-use Rattle.std.specs.Int.{from_bool}
-use Rattle.std.specs.Option.{option_map, MatchOption}
-use Rattle.std.proofs.lemmas.List.{get_or-set_other, take_all}
-use Rattle.std.proofs.lemmas.Option.{slice_get_read}
-use Rattle.std.proofs.lemmas.List.Sums.{sum_by-cons}
-use Rattle.std.proofs.lemmas.Grind.{get_or-set_at}
-use Rattle.std.proofs.lemmas.Bool.{cases_lt, lt-ltb, le-ltb}
-use Rattle.std.proofs.Math.Nat.{add-mod_right}
-use denote.Ref.{Bor}
+use Rattle.std.proofs.Common.{◌≡◌, ℕ, zero, suc, ◌+◌, ◌-◌, ◌*◌, ◌%◌, ◌<◌, ◌&&◌, inl, inr, Bool, true, false, cond, nat_lt, List, [], ◌∷◌, Option, Some, None, length, refl, sym, subst, ◌∙◌, ap, arith, get_or, set, take, slice_get, filter_map, option_map, MatchOption, get_or-set_other, take_all, lt-ltb, le-ltb, Bor}
+use Rattle.grid_base.proofs.Common.{cons_option, AllZip, from_bool, slice_get_read, sum_by-cons, get_or-set_at, cases_lt, add-mod_right, along, table_of, HoldsSize, positions_of, lines_of}
 use Rattle.grid_base.specs.declared.order.Order.{Order}
 use Rattle.grid_base.specs.declared.order.Order.TheVariants.{RowMajor, ColumnMajor}
-use Rattle.grid_base.specs.Positions.{along}
-use Rattle.grid_base.specs.Order.{table_of}
-use Rattle.grid_base.specs.GridValue.{HoldsSize}
-use Rattle.grid_base.specs.Layout.{positions_of, lines_of}
 use Rattle.grid_base.proofs.LayoutLemmas.{holds}
 use Rattle.grid_base.proofs.PlaceLemmas.{get_along, all_passed, length-places}
 use Rattle.grid_base.proofs.PlacedCellLemmas.{get-zip, zip_even}

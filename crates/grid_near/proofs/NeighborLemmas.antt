@@ -1,13 +1,6 @@
 -- Iterators over cells with their positions give what they have left.
-use Rattle.std.proofs.Common.{◌≡◌, ◌≤◌, ◌<◌, ℕ, suc, min, drop, Option, None, Some, List, [], ◌∷◌, length, length-drop, map, sym, ◌∙◌, ap, arith}
-use Rattle.std.specs.Bool.{⊤}
-use Rattle.std.specs.List.{filter_map, cons_option}
-use Rattle.std.specs.Iterator.{YieldsFirstBy, MakesProgress, at_most}
-use denote.Ref.{Bor}
-use Rattle.std.proofs.Math.Nat.{min-eq_left, min-le_left}
-use Rattle.std.proofs.iter.runs.Sources.{from_front}
-use Rattle.std.proofs.lemmas.Simd.{map-map}
-use Rattle.grid_base.specs.Table.{cell}
+use Rattle.std.proofs.Common.{◌≡◌, ◌≤◌, ◌<◌, ℕ, suc, min, drop, Option, None, Some, List, [], ◌∷◌, length, length-drop, map, sym, ◌∙◌, ap, arith, filter_map, Bor}
+use Rattle.grid_base.proofs.Common.{⊤, cons_option, YieldsFirstBy, MakesProgress, at_most, min-eq_left, min-le_left, from_front, map-map, cell}
 use Rattle.grid_near.specs.declared.steps.Steps.{Steps}
 use Rattle.grid_near.specs.declared.steps.Steps.TheVariants.{Sides, All}
 use Rattle.grid_near.specs.Neighbors.{step_count, placed, cell_at, neighbors4, neighbors8, neighbors_of, CellsInOrder, PositionsInOrder}

@@ -1,16 +1,8 @@
 -- The steps round a cell on a table whose edges meet.
-use Rattle.std.proofs.Common.{◌≡◌, ℕ, zero, suc, ◌+◌, ◌-◌, ◌*◌, ◌/◌, ◌%◌, ◌<◌, ◌≤◌, Bool, true, false, Option, Some, None, List, [], ◌∷◌, cond, nat_lt, ◌&&◌, drop, length, inl, inr, IsSome, refl, sym, ◌∙◌, ap, arith, slice_index_or}
-use Rattle.std.specs.List.{filter_map, slice_get, cons_option}
-use Rattle.std.proofs.lemmas.List.{drop_all}
-use Rattle.std.proofs.lemmas.Nat.{mod_below, mod-mul-add}
-use Rattle.std.proofs.lemmas.Bool.{lt-ltb, ltb-true, cases_lt}
-use Rattle.std.proofs.lemmas.Option.{slice_get_read}
-use Rattle.std.proofs.Math.Nat.{add-mod_right}
+use Rattle.std.proofs.Common.{◌≡◌, ℕ, zero, suc, ◌+◌, ◌-◌, ◌*◌, ◌/◌, ◌%◌, ◌<◌, ◌≤◌, Bool, true, false, Option, Some, None, List, [], ◌∷◌, cond, nat_lt, ◌&&◌, drop, length, inl, inr, IsSome, refl, sym, ◌∙◌, ap, arith, slice_index_or, filter_map, slice_get, lt-ltb, ltb-true}
+use Rattle.grid_base.proofs.Common.{cons_option, drop_all, mod_below, mod-mul-add, cases_lt, slice_get_read, add-mod_right, row_count, col_count, cell, table_of, HoldsSize}
 use Rattle.grid_base.specs.declared.order.Order.{Order}
 use Rattle.grid_base.proofs.TableLemmas.{length_cons}
-use Rattle.grid_base.specs.Table.{row_count, col_count, cell}
-use Rattle.grid_base.specs.Order.{table_of}
-use Rattle.grid_base.specs.GridValue.{HoldsSize}
 use Rattle.grid_near.specs.declared.steps.Steps.{Steps}
 use Rattle.grid_near.specs.declared.steps.Steps.TheVariants.{Sides, All}
 use Rattle.grid_near.specs.Neighbors.{step_count, both, cell_at, wrapped_neighbors4, wrapped_neighbors8, wrapped_neighbors_of, round_before, round_after}

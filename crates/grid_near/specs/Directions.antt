@@ -1,16 +1,7 @@
 -- Positions one step apart.
 use Rattle.std.specs.Prelude.{◌≡◌, ℕ, ◌+◌, ◌<◌}
 use Rattle.grid_near.specs.declared.direction.Direction.{Direction}
-use Rattle.grid_near.specs.declared.direction.Direction.TheVariants.{
-  Up,
-  UpRight,
-  Right,
-  DownRight,
-  Down,
-  DownLeft,
-  Left,
-  UpLeft,
-}
+use Rattle.grid_near.specs.declared.direction.Direction.TheVariants.{Up, UpRight, Right, DownRight, Down, DownLeft, Left, UpLeft}
 
 -- the row and the column, from 0, of the cell in a direction from the middle of three rows and columns
 abbrev pub box_of : Direction → ℕ × ℕ

@@ -1,13 +1,12 @@
 -- Marks of the cells of a line, and of its two neighbors, with a border: what a closure answered at each of them.
 use Rattle.std.specs.Prelude.{◌≡◌, ⊤, ℕ, ◌+◌, ◌<◌, ◌≤◌, Bool, false, List, Option, Some, MatchOption, slice_get, slice_index_or, zip}
+use Rattle.grid_base.specs.Prelude.{table_of, positions_of, lines_of}
 use Rattle.std.specs.Int.{from_bool}
 use denote.Ref.{Bor}
 use Rattle.grid_base.specs.declared.order.Order.{Order}
 use Rattle.grid_base.specs.declared.order.Order.TheVariants.{RowMajor, ColumnMajor}
 use Rattle.grid_near.specs.declared.steps.Steps.{Steps}
 use Rattle.grid_near.specs.declared.steps.Steps.TheVariants.{Sides, All}
-use Rattle.grid_base.specs.Order.{table_of}
-use Rattle.grid_base.specs.Layout.{positions_of, lines_of}
 use Rattle.grid_near.specs.declared.board.Board.{Board}
 use Rattle.grid_near.specs.declared.board.Edges.{Edges}
 use Rattle.grid_near.specs.declared.board.Edges.TheVariants.{Open, Joined}

@@ -1,6 +1,5 @@
 -- How many of the cells round a cell pass a test.
-use Rattle.std.specs.Prelude.{◌≡◌, ◌⊎◌, ℕ, suc, ◌+◌, Bool, true, false, List, [], ◌∷◌, map, count_by}
-use Rattle.std.specs.List.{sum_by}
+use Rattle.std.specs.Prelude.{◌≡◌, ◌⊎◌, ℕ, suc, ◌+◌, Bool, true, false, List, [], ◌∷◌, map, count_by, sum_by}
 use denote.Ref.{Bor}
 use Rattle.grid_base.specs.ClosureCalls.{CallableAtRefs}
 

@@ -1,26 +1,5 @@
 -- The cells round a cell.
-use Rattle.std.specs.Prelude.{
-  ◌≡◌,
-  ℕ,
-  zero,
-  suc,
-  ◌+◌,
-  ◌-◌,
-  ◌%◌,
-  ◌&&◌,
-  true,
-  cond,
-  nat_lt,
-  Option,
-  None,
-  Some,
-  List,
-  [],
-  ◌∷◌,
-  map,
-}
-use Rattle.std.specs.List.{filter_map}
-use Rattle.std.specs.Option.{option_map, option_and_then}
+use Rattle.std.specs.Prelude.{◌≡◌, ℕ, zero, suc, ◌+◌, ◌-◌, ◌%◌, ◌&&◌, true, cond, nat_lt, Option, None, Some, List, [], ◌∷◌, map, filter_map, option_map, option_and_then}
 use Rattle.std.specs.Iterator.{YieldsFirstBy}
 use Rattle.std.specs.Iterator.Runs.{EveryRun, ItemsMapTo}
 use Rattle.std.specs.Borrow.{Bor}

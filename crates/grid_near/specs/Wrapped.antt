@@ -1,6 +1,5 @@
 -- How the iterators round a cell count their steps on a table whose edges meet.
-use Rattle.std.specs.Prelude.{ℕ, zero, suc, ◌<◌, Bool, Option, Some, List, drop}
-use Rattle.std.specs.List.{filter_map}
+use Rattle.std.specs.Prelude.{ℕ, zero, suc, ◌<◌, Bool, Option, Some, List, drop, filter_map}
 use Rattle.grid_near.specs.declared.steps.Steps.{Steps}
 use Rattle.grid_near.specs.declared.steps.Steps.TheVariants.{Sides, All}
 use Rattle.grid_near.specs.Neighbors.{step_count, around8, around4, cell_at, round_before, round_after}

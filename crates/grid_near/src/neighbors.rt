@@ -1,9 +1,8 @@
 //! Iterators over the cells round a cell.
 ghost use Rattle.std.specs.Prelude.{◌≡◌, ◌<◌, ◌≤◌, ⊤, length, min, IfSome, Some};
+ghost use Rattle.grid_base.specs.Prelude.{HoldsSize, table_of};
 ghost use Rattle.std.specs.Iterator.{YieldsFirstBy, UpTo, at_most};
 ghost use Rattle.std.specs.Iterator.SizeHint.{IsWithinCount};
-ghost use Rattle.grid_base.specs.GridValue.{HoldsSize};
-ghost use Rattle.grid_base.specs.Order.{table_of};
 ghost use Rattle.grid_near.specs.Neighbors.{step_count, placed, neighbors_of, GivesNear};
 ghost use Rattle.grid_near.specs.Around.{HoldsCells, FindsFirst, strided_cell};
 

@@ -1,9 +1,6 @@
 -- Which cells equal one: the size of that table, and its cells.
-use Rattle.std.proofs.Common.{◌≡◌, ℕ, ◌+◌, ◌^◌, ◌<◌, Bool, true, Option, None, Some, List, length, refl, sym, ◌∙◌, ap, arith, ⊎_elim, MatchOption}
-use Rattle.std.specs.Option.{option_map}
-use Rattle.std.proofs.lemmas.Bool.{cases_lt}
-use Rattle.std.proofs.lemmas.Option.{slice_get_past}
-use Rattle.grid_base.specs.Table.{row, row_count, col_count, cell, IsTable, InRange, tabulate}
+use Rattle.std.proofs.Common.{◌≡◌, ℕ, ◌+◌, ◌^◌, ◌<◌, Bool, true, Option, None, Some, List, length, refl, sym, ◌∙◌, ap, arith, ⊎_elim, MatchOption, option_map}
+use Rattle.grid_base.proofs.Common.{cases_lt, slice_get_past, row, row_count, col_count, cell, IsTable, InRange, tabulate}
 use Rattle.grid_base.proofs.TableLemmas.{IsFull, IsFull-cells, IsSize-table, rows-tabulate, cols-tabulate, cell-tabulate, cell_past_rows, cell_past_cols}
 use Rattle.grid_base.proofs.TableLemmas.{cell_in_range}
 use Rattle.grid_paths.specs.Walks.{IsOpen, alike}

@@ -1,9 +1,6 @@
 -- The list of the eight positions round one.
-use Rattle.std.proofs.Common.{◌≡◌, ℕ, zero, suc, ◌+◌, ◌-◌, ◌%◌, ◌^◌, ◌<◌, ◌⊎◌, ◌↔◌, List, [], ◌∷◌, Contains, length, Some, ◌≤◌, refl, sym, ◌∙◌, ap, subst, arith, inl, inr, ⊎_elim}
-use Rattle.std.specs.List.{slice_get}
-use Rattle.std.proofs.lemmas.Bool.{cases_lt}
-use Rattle.std.proofs.lemmas.List.Elements.{Contains-get_or}
-use Rattle.std.proofs.lemmas.Option.{slice_get_within, slice_get_read, get_or_from_slice_get}
+use Rattle.std.proofs.Common.{◌≡◌, ℕ, zero, suc, ◌+◌, ◌-◌, ◌%◌, ◌^◌, ◌<◌, ◌⊎◌, ◌↔◌, List, [], ◌∷◌, Contains, length, Some, ◌≤◌, refl, sym, ◌∙◌, ap, subst, arith, inl, inr, ⊎_elim, slice_get}
+use Rattle.grid_base.proofs.Common.{cases_lt, Contains-get_or, slice_get_within, slice_get_read, get_or_from_slice_get}
 use Rattle.grid_paths.specs.Search.{IsAt}
 use Rattle.grid_near.specs.declared.steps.Steps.TheVariants.{Sides, All}
 use Rattle.grid_paths.specs.Walks.{DifferByOne, AreBeside, AreDiagonal}

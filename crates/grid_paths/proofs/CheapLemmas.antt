@@ -1,11 +1,6 @@
 -- The search for the least costs: what holds after each step, and what that says at the end.
-use Rattle.std.proofs.Common.{◌≡◌, ℕ, zero, suc, ◌+◌, ◌-◌, ◌*◌, ◌^◌, ◌<◌, ◌≤◌, ◌⊎◌, Option, None, Some, List, [], ◌∷◌, length, set, get_or, refl, sym, ◌∙◌, ap, subst, arith, inl, inr, ⊎_elim, IsPermutation}
-use Rattle.std.specs.List.{sum_by}
-use Rattle.std.specs.BinaryHeap.{IsUpperBound}
-use Rattle.std.proofs.lemmas.List.Sums.{sum_by-set}
-use Rattle.std.proofs.lemmas.List.Sorted.{IsPermutation-sym, length_permutation}
-use Rattle.std.proofs.lemmas.Option.{slice_get_within, get_or_from_slice_get}
-use Rattle.grid_base.specs.Table.{row, row_count, col_count, cell, with_cell, tabulate, IsTable, InRange}
+use Rattle.std.proofs.Common.{◌≡◌, ℕ, zero, suc, ◌+◌, ◌-◌, ◌*◌, ◌^◌, ◌<◌, ◌≤◌, ◌⊎◌, Option, None, Some, List, [], ◌∷◌, length, set, get_or, refl, sym, ◌∙◌, ap, subst, arith, inl, inr, ⊎_elim, IsPermutation, sum_by}
+use Rattle.grid_base.proofs.Common.{IsUpperBound, sum_by-set, IsPermutation-sym, length_permutation, slice_get_within, get_or_from_slice_get, row, row_count, col_count, cell, with_cell, tabulate, IsTable, InRange}
 use Rattle.grid_base.proofs.WriteLemmas.{cell-with_same, cell-with_other, same_or_other}
 use Rattle.grid_near.specs.declared.steps.Steps.{Steps}
 use Rattle.grid_paths.specs.Search.{HaveOneSize, free, unreached}
@@ -15,8 +10,8 @@ use Rattle.grid_paths.proofs.SearchLemmas.{one_mark}
 use Rattle.grid_paths.proofs.StepLemmas.{none_marked}
 use Rattle.grid_paths.specs.Cheapest.{Holds, CostWalk, IsLeastCost, HasLeastCosts}
 use Rattle.grid_paths.specs.Relaxing.{Entry, by_sum, IsWaiting, HoldsUpTo, IsClosed, Relaxes, Settles, Comes, IsCostSearch}
-use Rattle.grid_paths.proofs.HeapLemmas as heaps
 use Rattle.grid_paths.proofs.RelaxLemmas.{left_inside}
+use Rattle.grid_paths.proofs.HeapLemmas as heaps
 
 -- a position has a number, or none
 pub left_or_closed : (t : List (List (Option ℕ))) (a : ℕ × ℕ) → ((k : ℕ) × Holds t a k) ⊎ IsClosed t a

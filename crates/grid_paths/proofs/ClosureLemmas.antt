@@ -1,8 +1,6 @@
 -- Tables of what a closure returns.
-use Rattle.std.proofs.Common.{◌≡◌, ℕ, List, Option, None, Some, MatchOption, Result, Ok, Err, IfOk, subst}
-use denote.Ref.{Bor}
-use Rattle.grid_base.specs.GridValue.{GridValue, SameSizeAndOrder}
-use Rattle.grid_base.specs.Table.{cell}
+use Rattle.std.proofs.Common.{◌≡◌, ℕ, List, Option, None, Some, MatchOption, Result, Ok, Err, IfOk, subst, Bor}
+use Rattle.grid_base.proofs.Common.{GridValue, SameSizeAndOrder, cell}
 use Rattle.grid.specs.AllCells.{MappedBy}
 use Rattle.grid.proofs.CellCallLemmas.{some_and_map}
 use Rattle.grid_paths.specs.Closures.{answers_by, IsAnswer, AreAnswers, HoldsOfAnswers}

@@ -1,9 +1,6 @@
 -- The regions before a position, row by row: the next one, the end of a row, and what holds at the end.
-use Rattle.std.proofs.Common.{◌≡◌, ℕ, zero, suc, ◌+◌, ◌<◌, ◌≤◌, ◌⊎◌, Bool, true, Option, None, Some, List, refl, sym, ◌∙◌, ap, subst, arith, inl, inr, ⊎_elim}
-use Rattle.std.specs.Option.{option_map, unwrap_or}
-use Rattle.std.specs.Cmp.{IsEquivalence}
-use Rattle.std.proofs.lemmas.Bool.{cases_lt}
-use Rattle.grid_base.specs.Table.{row_count, col_count, cell, tabulate, IsTable, InRange}
+use Rattle.std.proofs.Common.{◌≡◌, ℕ, zero, suc, ◌+◌, ◌<◌, ◌≤◌, ◌⊎◌, Bool, true, Option, None, Some, List, refl, sym, ◌∙◌, ap, subst, arith, inl, inr, ⊎_elim, option_map, unwrap_or}
+use Rattle.grid_base.proofs.Common.{IsEquivalence, cases_lt, row_count, col_count, cell, tabulate, IsTable, InRange}
 use Rattle.grid_near.specs.declared.steps.Steps.{Steps}
 use Rattle.grid_paths.specs.Walks.{IsOpen, IsStep, Walk, alike}
 use Rattle.grid_paths.specs.Search.{IsMarked, HaveOneSize}

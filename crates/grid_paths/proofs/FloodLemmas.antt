@@ -1,10 +1,6 @@
 -- A search that goes on from what it took, until it has gone round all: what it took is a flood.
-use Rattle.std.proofs.Common.{◌≡◌, ℕ, zero, suc, ◌+◌, ◌<◌, ◌≤◌, ◌⊎◌, Bool, true, false, cond, Option, None, Some, List, [], length, Contains, refl, sym, ◌∙◌, ap, subst, arith, inr, ⊎_elim}
-use Rattle.std.specs.Option.{option_map}
-use Rattle.std.specs.List.{slice_get}
-use Rattle.std.proofs.lemmas.Bool.{cases_lt}
-use Rattle.std.proofs.lemmas.Option.{slice_get_within, slice_get-map}
-use Rattle.grid_base.specs.Table.{cell, row_count, col_count, IsTable}
+use Rattle.std.proofs.Common.{◌≡◌, ℕ, zero, suc, ◌+◌, ◌<◌, ◌≤◌, ◌⊎◌, Bool, true, false, cond, Option, None, Some, List, [], length, Contains, refl, sym, ◌∙◌, ap, subst, arith, inr, ⊎_elim, option_map, slice_get}
+use Rattle.grid_base.proofs.Common.{cases_lt, slice_get_within, slice_get-map, cell, row_count, col_count, IsTable}
 use Rattle.grid_base.proofs.TableLemmas.{tabulate-same, tabulate-cells, IsFull-cells}
 use Rattle.grid_near.specs.declared.steps.Steps.{Steps}
 use Rattle.grid_paths.specs.declared.taken.Enter.{Enter}

@@ -1,14 +1,11 @@
 -- What waits in the heap, after a push and after a pop.
-use Rattle.std.proofs.Common.{◌≡◌, ℕ, ◌<◌, ◌≤◌, ◌⊎◌, false, List, [], ◌∷◌, Contains, refl, ◌∙◌, ap, subst, arith, inl, inr, ⊎_elim, IsPermutation, Some}
-use Rattle.std.specs.BinaryHeap.{IsUpperBound}
+use Rattle.std.proofs.Common.{◌≡◌, ℕ, ◌<◌, ◌≤◌, ◌⊎◌, false, List, [], ◌∷◌, Contains, refl, ◌∙◌, ap, subst, arith, inl, inr, ⊎_elim, IsPermutation, Some, is_lt}
+use Rattle.grid_base.proofs.Common.{IsUpperBound, ordering_then, Contains-permutation, IsPermutation-sym, ge_from_not_lt}
 use Rattle.std.specs.declared.cmp.Ordering.{Ordering}
 use Rattle.std.specs.declared.cmp.Ordering.TheVariants.{Less, Equal, Greater}
-use Rattle.std.specs.Ordering.{is_lt, ordering_then}
-use Rattle.std.proofs.lemmas.List.Sorted.{Contains-permutation, IsPermutation-sym}
 use Rattle.grid_paths.specs.Relaxing.{Entry, by_sum, IsWaiting}
 use Rattle.grid_paths.proofs.AroundLemmas.{Contains-cases}
 use Rattle.grid_paths.proofs.NearLemmas.{Contains-more}
-use Rattle.std.proofs.lemmas.Map.Keys.{ge_from_not_lt}
 
 -- a heap, and the same with x
 module _ (x : Entry) (heap heap' : List Entry) (p : IsPermutation (x ∷ heap) heap') where

@@ -1,8 +1,6 @@
 -- A step leads to a neighbor.
-use Rattle.std.proofs.Common.{◌≡◌, ℕ, zero, suc, ◌+◌, ◌<◌, ◌⊎◌, ◌↔◌, Option, None, Some, List, [], ◌∷◌, length, Contains, refl, sym, ◌∙◌, ap, subst, arith, inl, inr, ⊎_elim}
-use Rattle.std.specs.List.{filter_map, cons_option}
-use Rattle.std.specs.Option.{option_map}
-use Rattle.grid_base.specs.Table.{cell}
+use Rattle.std.proofs.Common.{◌≡◌, ℕ, zero, suc, ◌+◌, ◌<◌, ◌⊎◌, ◌↔◌, Option, None, Some, List, [], ◌∷◌, length, Contains, refl, sym, ◌∙◌, ap, subst, arith, inl, inr, ⊎_elim, filter_map, option_map}
+use Rattle.grid_base.proofs.Common.{cons_option, cell}
 use Rattle.grid_near.specs.Neighbors.{around4, around8, before, cell_at, neighbors4, neighbors8}
 use Rattle.grid_near.specs.declared.steps.Steps.TheVariants.{Sides, All}
 use Rattle.grid_paths.specs.Walks.{DifferByOne, IsStep}

@@ -1,10 +1,6 @@
 -- Walks turned round, paths and walks, and a path that follows the numbers down.
-use Rattle.std.proofs.Common.{◌≡◌, ℕ, zero, suc, ◌+◌, ◌-◌, ◌<◌, ◌≤◌, Bool, Option, Some, List, [], ◌∷◌, ◌++◌, length, refl, sym, subst, arith, inl, inr, ⊎_elim, add-one, ◌^◌, take, Contains, MatchOption, None}
-use Rattle.std.specs.List.{slice_get}
-use Rattle.std.proofs.lemmas.List.{length-append}
-use Rattle.std.proofs.lemmas.Option.{slice_get_within}
-use Rattle.std.specs.Option.{unwrap_or}
-use Rattle.grid_base.specs.Table.{row_count, col_count, IsTable}
+use Rattle.std.proofs.Common.{◌≡◌, ℕ, zero, suc, ◌+◌, ◌-◌, ◌<◌, ◌≤◌, Bool, Option, Some, List, [], ◌∷◌, ◌++◌, length, refl, sym, subst, arith, inl, inr, ⊎_elim, add-one, ◌^◌, take, Contains, MatchOption, None, slice_get, length-append, unwrap_or}
+use Rattle.grid_base.proofs.Common.{slice_get_within, row_count, col_count, IsTable}
 use Rattle.grid_base.proofs.TableLemmas.{cell_in_range}
 use Rattle.grid_paths.specs.Around.{AreSteps}
 use Rattle.grid_near.specs.declared.steps.Steps.{Steps}

@@ -1,13 +1,9 @@
 -- The queue of a breadth-first search, where the first positions were dropped; and that numbers
 -- stay below the cells.
-use Rattle.std.proofs.Common.{◌≡◌, ℕ, zero, suc, ◌+◌, ◌*◌, ◌<◌, ◌≤◌, ◌⊎◌, Bool, Option, None, Some, List, [], ◌∷◌, ◌++◌, length, Contains, sym, ◌∙◌, ap, subst, arith, inl, inr, ⊎_elim}
-use Rattle.std.specs.List.{sum_by}
-use Rattle.std.proofs.lemmas.List.{length-append, append_assoc}
-use Rattle.grid_base.specs.Table.{row_count, col_count, IsTable, concat_rows}
+use Rattle.std.proofs.Common.{◌≡◌, ℕ, zero, suc, ◌+◌, ◌*◌, ◌<◌, ◌≤◌, ◌⊎◌, Bool, Option, None, Some, List, [], ◌∷◌, ◌++◌, length, Contains, sym, ◌∙◌, ap, subst, arith, inl, inr, ⊎_elim, sum_by, length-append, append_assoc}
+use Rattle.grid_base.proofs.Common.{row_count, col_count, IsTable, concat_rows, sum_by-cons, slice_get_within}
 use Rattle.grid_base.specs.declared.order.Order.TheVariants.{RowMajor}
 use Rattle.grid_base.proofs.StorageLemmas.{length-storage}
-use Rattle.std.proofs.lemmas.List.Sums.{sum_by-cons}
-use Rattle.std.proofs.lemmas.Option.{slice_get_within}
 use Rattle.grid_near.specs.declared.steps.Steps.{Steps}
 use Rattle.grid_paths.specs.Walks.{IsOpen, IsStep, HasLeastFrom}
 use Rattle.grid_paths.specs.Search.{IsMarked, IsAt, IsReached, Spread, WentRound, free, unreached}

@@ -1,9 +1,7 @@
 -- The cells of a region filled: of those that were taken, or of a whole board.
-use Rattle.std.proofs.Common.{◌≡◌, ℕ, zero, suc, ◌+◌, ◌-◌, ◌<◌, ◌≤◌, Bool, true, false, cond, Option, None, Some, List, [], ◌∷◌, length, Contains, IsSomeAnd, refl, sym, ◌∙◌, ap, subst, arith, inl, inr, ⊎_elim, add-one}
-use denote.Ref.{Bor}
+use Rattle.std.proofs.Common.{◌≡◌, ℕ, zero, suc, ◌+◌, ◌-◌, ◌<◌, ◌≤◌, Bool, true, false, cond, Option, None, Some, List, [], ◌∷◌, length, Contains, IsSomeAnd, refl, sym, ◌∙◌, ap, subst, arith, inl, inr, ⊎_elim, add-one, Bor}
+use Rattle.grid_base.proofs.Common.{cases_lt, row_count, col_count, cell, with_cell, IsTable, InRange}
 use Rattle.grid.specs.AllCells.{MappedBy}
-use Rattle.std.proofs.lemmas.Bool.{cases_lt}
-use Rattle.grid_base.specs.Table.{row_count, col_count, cell, with_cell, IsTable, InRange}
 use Rattle.grid_base.proofs.TableLemmas.{cell_in_range, cell_past_rows, past_cols}
 use Rattle.grid_base.proofs.WriteLemmas.{cell-with_same, cell-with_other, same_or_other}
 use Rattle.grid_near.specs.declared.steps.Steps.{Steps}

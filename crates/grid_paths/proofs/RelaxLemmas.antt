@@ -1,8 +1,6 @@
 -- One position entered, and the positions round one.
 use Rattle.std.proofs.Common.{◌≡◌, ℕ, ◌+◌, ◌^◌, ◌<◌, ◌≤◌, ◌⊎◌, ◌↔◌, Bool, true, false, IsTrue, is_some, Option, None, Some, List, ◌∷◌, length, Contains, refl, sym, ◌∙◌, subst, arith, inl, inr, ⊎_elim, IsPermutation}
-use Rattle.std.proofs.lemmas.Bool.{cases_lt}
-use Rattle.std.proofs.lemmas.List.Sorted.{length_permutation}
-use Rattle.grid_base.specs.Table.{row_count, col_count, cell, with_cell, IsTable, InRange}
+use Rattle.grid_base.proofs.Common.{cases_lt, length_permutation, row_count, col_count, cell, with_cell, IsTable, InRange}
 use Rattle.grid_base.proofs.WriteLemmas.{cell-with_same, cell-with_other, same_or_other}
 use Rattle.grid_near.specs.declared.steps.Steps.{Steps}
 use Rattle.grid_paths.specs.Around.{AreSteps}
@@ -12,8 +10,8 @@ use Rattle.grid_paths.proofs.AroundLemmas.{Before, before_more, before_last, bef
 use Rattle.grid_paths.proofs.SearchLemmas.{one_mark}
 use Rattle.grid_paths.specs.Cheapest.{Holds}
 use Rattle.grid_paths.specs.Relaxing.{Entry, IsWaiting, HoldsUpTo, IsClosed, IsEntered, Relaxes}
-use Rattle.grid_paths.proofs.HeapLemmas as heaps
 use Rattle.grid_base.proofs.TableLemmas.{cell_in_range}
+use Rattle.grid_paths.proofs.HeapLemmas as heaps
 
 pub left_inside : (t : List (List (Option ℕ))) → IsTable t → (a : ℕ × ℕ) (k : ℕ) → Holds t a k → InRange t a.0 a.1
 left_inside t table a k h = cell_in_range t table a.0 a.1 (Some k) h

@@ -1,11 +1,6 @@
 -- One position reached, the four round a position reached, and the start.
-use Rattle.std.proofs.Common.{◌≡◌, ◌≢◌, ℕ, zero, suc, ◌+◌, ◌^◌, ◌<◌, ◌≤◌, ◌⊎◌, Bool, Option, None, Some, List, [], ◌∷◌, ◌++◌, length, Contains, set, get_or, refl, sym, ◌∙◌, ap, subst, arith, rules, inl, inr, ⊎_elim, ◌↔◌}
-use Rattle.std.specs.List.{sum_by, slice_get}
-use Rattle.std.proofs.lemmas.Bool.{cases_eq, cases_lt}
-use Rattle.std.proofs.lemmas.List.{length-append}
-use Rattle.std.proofs.lemmas.List.Sums.{sum_by-set}
-use Rattle.std.proofs.lemmas.Option.{slice_get_within, slice_get_read, get_or_from_slice_get}
-use Rattle.grid_base.specs.Table.{row, cell, with_cell, tabulate, IsTable, InRange}
+use Rattle.std.proofs.Common.{◌≡◌, ◌≢◌, ℕ, zero, suc, ◌+◌, ◌^◌, ◌<◌, ◌≤◌, ◌⊎◌, Bool, Option, None, Some, List, [], ◌∷◌, ◌++◌, length, Contains, set, get_or, refl, sym, ◌∙◌, ap, subst, arith, rules, inl, inr, ⊎_elim, ◌↔◌, sum_by, slice_get, length-append}
+use Rattle.grid_base.proofs.Common.{cases_eq, cases_lt, sum_by-set, slice_get_within, slice_get_read, get_or_from_slice_get, row, cell, with_cell, tabulate, IsTable, InRange}
 use Rattle.grid_base.proofs.TableLemmas.{IsFull, cell-tabulate, rows-tabulate, cell_past_rows, cell_past_cols}
 use Rattle.grid_base.proofs.WriteLemmas.{cell-with_same, cell-with_other}
 use Rattle.grid_near.specs.declared.steps.Steps.{Steps}

@@ -1,11 +1,6 @@
 -- Cells taken: one, those at the positions of a list, those that steps lead to; and put back.
-use Rattle.std.proofs.Common.{◌≡◌, ◌≢◌, ℕ, zero, suc, ◌+◌, ◌<◌, ◌≤◌, ◌⊎◌, ◌↔◌, ◌^◌, Option, None, Some, List, [], ◌∷◌, ◌++◌, length, set, get_or, Contains, MatchOption, refl, sym, ◌∙◌, ap, subst, arith, inl, inr, ⊎_elim}
-use Rattle.std.specs.List.{slice_get, sum_by}
-use Rattle.std.proofs.lemmas.Bool.{cases_lt}
-use Rattle.std.proofs.lemmas.List.{length-append, get_or-set_same, set_past, set-get_or}
-use Rattle.std.proofs.lemmas.List.Sums.{sum_by-set}
-use Rattle.std.proofs.lemmas.Option.{slice_get_within, slice_get-get_or, get_or_from_slice_get}
-use Rattle.grid_base.specs.Table.{row, row_count, col_count, cell, with_cell, IsTable, InRange}
+use Rattle.std.proofs.Common.{◌≡◌, ◌≢◌, ℕ, zero, suc, ◌+◌, ◌<◌, ◌≤◌, ◌⊎◌, ◌↔◌, ◌^◌, Option, None, Some, List, [], ◌∷◌, ◌++◌, length, set, get_or, Contains, MatchOption, refl, sym, ◌∙◌, ap, subst, arith, inl, inr, ⊎_elim, slice_get, sum_by, length-append, get_or-set_same}
+use Rattle.grid_base.proofs.Common.{cases_lt, set_past, set-get_or, sum_by-set, slice_get_within, slice_get-get_or, get_or_from_slice_get, row, row_count, col_count, cell, with_cell, IsTable, InRange}
 use Rattle.grid_base.proofs.TableLemmas.{cell_in_range}
 use Rattle.grid_base.proofs.WriteLemmas.{cell-with_same, cell-with_other, same_or_other}
 use Rattle.grid_near.specs.declared.steps.Steps.{Steps}

@@ -1,7 +1,5 @@
 -- Walks over cells that cost something to enter, and the least sums of costs.
-use Rattle.std.specs.Prelude.{◌≡◌, ℕ, zero, suc, ◌+◌, ◌≤◌, ◌-◌, Option, None, Some, List, length, drop}
-use Rattle.std.specs.List.{slice_get, sum_by}
-use Rattle.std.specs.Option.{unwrap_or}
+use Rattle.std.specs.Prelude.{◌≡◌, ℕ, zero, suc, ◌+◌, ◌≤◌, ◌-◌, Option, None, Some, List, length, drop, slice_get, sum_by, unwrap_or}
 use Rattle.grid_base.specs.Table.{cell}
 use Rattle.grid_near.specs.declared.steps.Steps.{Steps}
 use Rattle.grid_paths.specs.Walks.{IsStep}

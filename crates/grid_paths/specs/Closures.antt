@@ -1,6 +1,5 @@
 -- Tables of what a closure returns at the cells of a table.
-use Rattle.std.specs.Prelude.{◌≡◌, ℕ, Some, List, IsSomeAnd}
-use Rattle.std.specs.Option.{option_map}
+use Rattle.std.specs.Prelude.{◌≡◌, ℕ, Some, List, IsSomeAnd, option_map}
 use denote.Ref.{Bor}
 use Rattle.grid_base.specs.Table.{row_count, col_count, cell, tabulate, IsTable, InRange}
 

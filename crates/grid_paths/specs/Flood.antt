@@ -1,6 +1,5 @@
 -- Walks that go on from some cells, and end at others.
-use Rattle.std.specs.Prelude.{◌≡◌, ◌≢◌, ℕ, zero, suc, Bool, cond, Option, None, Some, List, Contains}
-use Rattle.std.specs.List.{slice_get}
+use Rattle.std.specs.Prelude.{◌≡◌, ◌≢◌, ℕ, zero, suc, Bool, cond, Option, None, Some, List, Contains, slice_get}
 use Rattle.grid_base.specs.Table.{cell}
 use Rattle.grid_near.specs.declared.steps.Steps.{Steps}
 use Rattle.grid_paths.specs.declared.taken.Enter.{Enter}

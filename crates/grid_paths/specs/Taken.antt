@@ -1,7 +1,6 @@
 -- What one step of a search does that marks the cells which it takes. No public clause cites this
 -- module.
-use Rattle.std.specs.Prelude.{◌≡◌, ◌≢◌, ℕ, ◌+◌, ◌≤◌, ◌⊎◌, Some, List, [], ◌∷◌, ◌++◌, length, map}
-use Rattle.std.specs.List.{slice_get, sum_by}
+use Rattle.std.specs.Prelude.{◌≡◌, ◌≢◌, ℕ, ◌+◌, ◌≤◌, ◌⊎◌, Some, List, [], ◌∷◌, ◌++◌, length, map, slice_get, sum_by}
 use Rattle.grid_base.specs.Table.{cell, with_cell}
 use Rattle.grid_paths.specs.declared.taken.Enter.{Enter}
 use Rattle.grid_paths.specs.declared.taken.Enter.TheVariants.{No, Stop, On}

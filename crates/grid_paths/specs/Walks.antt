@@ -1,7 +1,6 @@
 -- Walks over the open cells of a table: a step goes to a cell that shares a side, or to any that
 -- touches.
-use Rattle.std.specs.Prelude.{◌≡◌, ℕ, zero, suc, ◌+◌, ◌-◌, ◌≤◌, ◌⊎◌, Bool, true, Option, Some, List, length, Contains}
-use Rattle.std.specs.List.{slice_get}
+use Rattle.std.specs.Prelude.{◌≡◌, ℕ, zero, suc, ◌+◌, ◌-◌, ◌≤◌, ◌⊎◌, Bool, true, Option, Some, List, length, Contains, slice_get}
 use Rattle.grid_base.specs.Table.{cell}
 use Rattle.grid_near.specs.declared.steps.Steps.{Steps}
 use Rattle.grid_near.specs.declared.steps.Steps.TheVariants.{Sides, All}

@@ -1,6 +1,5 @@
 //! A cheapest path between two cells.
-ghost use Rattle.std.specs.Prelude.{◌≡◌, ◌+◌, ◌-◌, ◌↔◌, ℕ, IfOk, IsTrue, MatchOption, Some, length};
-ghost use Rattle.std.specs.List.{slice_get};
+ghost use Rattle.std.specs.Prelude.{◌≡◌, ◌+◌, ◌-◌, ◌↔◌, ℕ, IfOk, IsTrue, MatchOption, Some, length, slice_get};
 ghost use Rattle.grid_paths.specs.Closures.{HoldsOfAnswers};
 ghost use Rattle.grid_paths.specs.Walks.{IsStep};
 ghost use Rattle.grid_paths.specs.Cheapest.{CostWalk, IsCheapestPath, IsCostPath};

@@ -1,7 +1,6 @@
 //! Laws of steps, as calls.
 ghost use Rattle.std.specs.Prelude.{◌≡◌, ◌↔◌, ℕ, Some, Contains};
-ghost use Rattle.grid_base.specs.Table.{cell};
-ghost use Rattle.grid_near.specs.Neighbors.{neighbors4, neighbors8, GivesNear};
+ghost use Rattle.grid.specs.Prelude.{cell, neighbors4, neighbors8, GivesNear};
 ghost use Rattle.grid_near.specs.declared.steps.Steps.TheVariants.{Sides, All};
 ghost use Rattle.grid_paths.specs.Walks.{IsStep};
 

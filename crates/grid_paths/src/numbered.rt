@@ -1,6 +1,5 @@
 //! The regions of equal cells, numbered.
-ghost use Rattle.std.specs.Prelude.{◌≡◌, ◌<◌, ◌≤◌, ◌+◌, ◌^◌, ◌↔◌, ℕ, IfOk, OnOk, IsTrue, None, Some, Contains};
-ghost use Rattle.std.specs.Option.{option_map, unwrap_or};
+ghost use Rattle.std.specs.Prelude.{◌≡◌, ◌<◌, ◌≤◌, ◌+◌, ◌^◌, ◌↔◌, ℕ, IfOk, OnOk, IsTrue, None, Some, Contains, option_map, unwrap_or};
 ghost use Rattle.std.specs.Cmp.{IsEquivalence};
 ghost use Rattle.grid_base.specs.Table.{row_count, col_count, cell, tabulate, InRange};
 ghost use Rattle.grid_paths.specs.Walks.{IsStep, IsOpen, alike};

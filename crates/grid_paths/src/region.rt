@@ -1,7 +1,6 @@
 //! A region of equal cells, filled.
 ghost use Rattle.std.specs.Prelude.{◌≡◌, ◌<◌, ◌≤◌, ◌+◌, ℕ, [], ◌∷◌, false, IfOk, OnOk, OnErr, None, Some, MatchOption, Contains};
-ghost use Rattle.grid_base.specs.Table.{col_count, cell, InRange};
-ghost use Rattle.grid_base.specs.GridValue.{SameSizeAndOrder};
+ghost use Rattle.grid.specs.Prelude.{col_count, cell, InRange, SameSizeAndOrder};
 ghost use Rattle.grid_paths.specs.Walks.{IsOpen, IsFilled, alike};
 ghost use Rattle.grid_paths.specs.Closures.{answers_by};
 ghost use Rattle.grid_paths.specs.Flood.{IsFlood, way_of};

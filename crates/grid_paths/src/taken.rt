@@ -1,7 +1,6 @@
 //! A search that marks the cells which it takes, and floods.
 ghost use Rattle.std.specs.Prelude.{◌≡◌, [], IfOk, OnOk, Contains};
-ghost use Rattle.grid_base.specs.Table.{InRange};
-ghost use Rattle.grid_base.specs.GridValue.{SameSizeAndOrder};
+ghost use Rattle.grid.specs.Prelude.{InRange, SameSizeAndOrder};
 ghost use Rattle.grid_paths.specs.Walks.{IsStep};
 ghost use Rattle.grid_paths.specs.Closures.{answers_by, HoldsOfAnswers};
 ghost use Rattle.grid_paths.specs.Flood.{IsFlood, way_of};

@@ -1,11 +1,9 @@
 -- The commands of lines, one line after another.
-use Rattle.std.proofs.Common.{◌≡◌, ℕ, ◌+◌, ◌<◌, List, [], ◌∷◌, ◌++◌, ◌∙◌, length, map, refl, ap, sym, arith, append_assoc, append-nil}
-use Rattle.std.specs.Prelude.{Some, None, Result, Ok, Err}
+use Rattle.std.proofs.Common.{◌≡◌, ℕ, ◌+◌, ◌<◌, List, [], ◌∷◌, ◌++◌, ◌∙◌, length, map, refl, ap, sym, arith, append_assoc, append-nil, Some, None, Result, Ok, Err, ℤ}
 use Rattle.grid_commands.specs.declared.command.Command.{Command}
 use Rattle.grid_commands.specs.Command.{CommandValue, command_value}
 use Rattle.grid_play.specs.declared.fault.ScriptFault.{ScriptFault}
 use Rattle.grid_play.specs.declared.fault.ScriptFault.TheVariants.{BadCommand}
-use Rattle.std.proofs.Common.{ℤ}
 use Rattle.text_lines.specs.Lines.{first_line, later_lines, lines_of}
 use Rattle.grid_play.specs.Script.{◌>>◌, line_commands, commands_from}
 use Rattle.text_lines.proofs.LineLemmas.{lines-first, lines-none}

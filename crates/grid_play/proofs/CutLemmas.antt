@@ -1,9 +1,6 @@
 -- Lines that are cut off a list one after another.
-use Rattle.std.proofs.Common.{◌≡◌, ℕ, suc, ◌+◌, ◌/◌, ◌%◌, ◌<◌, ◌≤◌, min, List, [], ◌∷◌, ◌++◌, length, refl, ap, sym, ◌∙◌, arith, ℤ, length-append}
-use Rattle.std.proofs.Math.Seq.{take-append_seam, drop-append_seam}
-use Rattle.std.proofs.Math.Nat.{add-mod_left, add-div_left, mod-eq_of_lt}
-use Rattle.std.specs.Prelude.{Vec}
-use Rattle.grid_base.specs.Gather.{items_of_each}
+use Rattle.std.proofs.Common.{◌≡◌, ℕ, suc, ◌+◌, ◌/◌, ◌%◌, ◌<◌, ◌≤◌, min, List, [], ◌∷◌, ◌++◌, length, refl, ap, sym, ◌∙◌, arith, ℤ, length-append, mod-eq_of_lt, Vec}
+use Rattle.grid_base.proofs.Common.{take-append_seam, drop-append_seam, add-mod_left, add-div_left, items_of_each}
 use Rattle.grid_play.specs.Commands.{cut}
 
 enough : (len n : ℕ) → 0 < n → n % len ≡ 0 → len ≤ n

@@ -1,12 +1,7 @@
 -- The grid that is made of cells in storage order is the one that a first line says.
-use Rattle.std.proofs.Common.{◌≡◌, ◌≢◌, inl, inr, ℕ, ◌+◌, ◌*◌, ◌/◌, ◌%◌, ◌<◌, ◌^◌, true, Some, List, [], ◌∷◌, length, refl, ap, sym, ◌∙◌, arith, ℤ}
-use Rattle.std.proofs.Math.Nat.{zero-div}
-use Rattle.std.proofs.lemmas.Nat.{div-add-mod'}
-use Rattle.std.proofs.lemmas.Bool.Decides.{nat_tests}
+use Rattle.std.proofs.Common.{◌≡◌, ◌≢◌, inl, inr, ℕ, ◌+◌, ◌*◌, ◌/◌, ◌%◌, ◌<◌, ◌^◌, true, Some, List, [], ◌∷◌, length, refl, ap, sym, ◌∙◌, arith, ℤ, div-add-mod'}
+use Rattle.grid_base.proofs.Common.{zero-div, nat_tests, col_count, IsTable, storage, table_of, CanCut, HoldsSize}
 use Rattle.grid_base.specs.declared.order.Order.{Order}
-use Rattle.grid_base.specs.Table.{col_count, IsTable}
-use Rattle.grid_base.specs.Order.{storage, table_of, CanCut}
-use Rattle.grid_base.specs.GridValue.{HoldsSize}
 use Rattle.grid_base.proofs.ViewLemmas.{same_by_storage, none_by_storage, view-table, view-cols, view-storage}
 use Rattle.grid_play.specs.Commands.{can_be_cut}
 use Rattle.grid_play.specs.Script.{grid_from}

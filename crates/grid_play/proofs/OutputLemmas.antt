@@ -1,12 +1,8 @@
 -- What a run writes: the lines of the replies, and the text of the rows.
-use Rattle.std.proofs.Common.{◌≡◌, ◌⊎◌, inl, inr, ℕ, List, [], ◌∷◌, ◌++◌, refl, ap, ℤ, pos, append_assoc}
-use Rattle.std.specs.Prelude.{Option, Some, Ok, Err, codes}
-use Rattle.std.specs.List.{flat_map}
+use Rattle.std.proofs.Common.{◌≡◌, ◌⊎◌, inl, inr, ℕ, List, [], ◌∷◌, ◌++◌, refl, ap, ℤ, pos, append_assoc, Option, Some, Ok, Err, codes, flat_map}
+use Rattle.grid.specs.Prelude.{run_rows, run_replies, CommandValue, ReplyValue}
 use Rattle.std.specs.Fmt.{debug_items, debug_list, signed_decimal, with_newline}
 use Rattle.grid.specs.Texts.{rows_text, table_text}
-use Rattle.grid.specs.Run.{run_rows, run_replies}
-use Rattle.grid_commands.specs.Command.{CommandValue}
-use Rattle.grid_commands.specs.Reply.{ReplyValue}
 use Rattle.grid_play.specs.declared.fault.ScriptFault.{ScriptFault}
 use Rattle.grid_play.specs.declared.fault.ScriptFault.TheVariants.{Memory}
 use Rattle.grid_play.specs.Script.{ScriptValue, script_of}

@@ -1,8 +1,6 @@
 -- What a run of commands rests on holds of integers.
+use Rattle.grid.specs.Prelude.{Edit, read, push, insert_at, insert_all, pop, remove_at, delete_at, delete_range, expand, prepend, CommandValue, size, get, set_cell, swap_cells, lines, fill, clear, apply, IsOnlyDefault, EditIsKnown, RowsAreKnown}
 use Rattle.grid_base.specs.Clones.{ClonesAreEqual}
-use Rattle.grid_commands.specs.Command.{Edit, read, push, insert_at, insert_all, pop, remove_at, delete_at, delete_range, expand, prepend, CommandValue, size, get, set_cell, swap_cells, lines, fill, clear, apply}
-use Rattle.grid.specs.Make.{IsOnlyDefault}
-use Rattle.grid.specs.Step.{EditIsKnown, RowsAreKnown}
 
 module _ {T : Type 0} (is_default : T → Type 0) (is_clone : T → T → Type 0) (d : T) (only : IsOnlyDefault is_default d) (same : ClonesAreEqual is_clone) where
   edit_is_known : (e : Edit T) → EditIsKnown is_default d e

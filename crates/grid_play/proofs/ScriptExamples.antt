@@ -1,14 +1,9 @@
 -- Scripts whose output is computed.
-use Rattle.std.proofs.Common.{◌≡◌, refl, [], ◌∷◌, pos, negsuc}
-use Rattle.std.specs.Prelude.{Some, None, Ok, Err, codes}
-use Rattle.std.specs.Str.{is_utf8, chars}
-use lib.Utf8.{encode}
-use Rattle.std.specs.Fmt.{digits}
-use Rattle.grid_base.specs.Table.{cells_by, tabulate}
-use Rattle.grid_base.specs.Symmetry.{act}
+use Rattle.std.proofs.Common.{◌≡◌, refl, [], ◌∷◌, pos, negsuc, Some, None, Ok, Err, codes}
+use Rattle.grid_base.proofs.Common.{is_utf8, encode, digits, cells_by, tabulate, act}
+use Rattle.grid.specs.Prelude.{insert_at, insert_all, lines, step_rows, step_reply}
+use Rattle.std.specs.Str.{chars}
 use Rattle.grid_commands.specs.declared.command.Axis.TheVariants.{Row, Col}
-use Rattle.grid_commands.specs.Command.{insert_at, insert_all, lines}
-use Rattle.grid.specs.Step.{step_rows, step_reply}
 use Rattle.grid_play.specs.declared.fault.ScriptFault.TheVariants.{BadGrid, BadCommand}
 use Rattle.text_lines.specs.Lines.{lines_of}
 use Rattle.text_lines.specs.Numbers.{number_up_to, index_of, cell_of}

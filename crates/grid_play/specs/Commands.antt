@@ -1,64 +1,8 @@
 -- The commands of a script: a name, and what the words behind it say.
-use Rattle.std.specs.Prelude.{
-  ℕ,
-  ◌/◌,
-  ◌%◌,
-  ◌==◌,
-  ◌||◌,
-  ◌&&◌,
-  not,
-  zero,
-  suc,
-  ℤ,
-  Bool,
-  if◌then◌else◌,
-  Option,
-  None,
-  Some,
-  List,
-  [],
-  ◌∷◌,
-  ◌++◌,
-  length,
-  take,
-  drop,
-  codes,
-  bytes_eq,
-  option_and_then,
-}
-use Rattle.std.specs.Option.{option_map}
-use Rattle.grid_base.specs.declared.words.Symmetry.TheVariants.{
-  Identity,
-  FlipCols,
-  FlipRows,
-  RotateHalf,
-  Transpose,
-  RotateLeft,
-  RotateRight,
-  AntiTranspose,
-}
+use Rattle.std.specs.Prelude.{ℕ, ◌/◌, ◌%◌, ◌==◌, ◌||◌, ◌&&◌, not, zero, suc, ℤ, Bool, if◌then◌else◌, Option, None, Some, List, [], ◌∷◌, ◌++◌, length, take, drop, codes, bytes_eq, option_and_then, option_map}
+use Rattle.grid_base.specs.declared.words.Symmetry.TheVariants.{Identity, FlipCols, FlipRows, RotateHalf, Transpose, RotateLeft, RotateRight, AntiTranspose}
 use Rattle.grid_commands.specs.declared.command.Axis.TheVariants.{Row, Col}
-use Rattle.grid_commands.specs.Command.{
-  read,
-  push,
-  insert_at,
-  insert_all,
-  pop,
-  remove_at,
-  delete_at,
-  delete_range,
-  expand,
-  prepend,
-  CommandValue,
-  size,
-  get,
-  set_cell,
-  swap_cells,
-  lines,
-  fill,
-  clear,
-  apply,
-}
+use Rattle.grid_commands.specs.Command.{read, push, insert_at, insert_all, pop, remove_at, delete_at, delete_range, expand, prepend, CommandValue, size, get, set_cell, swap_cells, lines, fill, clear, apply}
 use Rattle.text_lines.specs.Numbers.{index_of, cell_of}
 
 -- a step that may fail, and the next, which has its value

@@ -1,30 +1,10 @@
 -- What the run of a script writes.
-use Rattle.std.specs.Prelude.{
-  ℕ,
-  ℤ,
-  pos,
-  true,
-  false,
-  None,
-  Some,
-  Result,
-  Ok,
-  List,
-  ◌++◌,
-  codes,
-  decimal,
-}
-use Rattle.std.specs.List.{flat_map, join_by}
+use Rattle.std.specs.Prelude.{ℕ, ℤ, pos, true, false, None, Some, Result, Ok, List, ◌++◌, codes, decimal, flat_map}
+use Rattle.grid.specs.Prelude.{ReplyValue, done, size_is, cell_is, line_is, flag_is, refused, run_rows, run_replies}
+use Rattle.std.specs.List.{join_by}
 use Rattle.std.specs.Fmt.{signed_decimal}
 use Rattle.grid_commands.specs.declared.command.Refusal.{Refusal}
-use Rattle.grid_commands.specs.declared.command.Refusal.TheVariants.{
-  EmptyLine,
-  Length,
-  Index,
-  TooLarge,
-}
-use Rattle.grid_commands.specs.Reply.{ReplyValue, done, size_is, cell_is, line_is, flag_is, refused}
-use Rattle.grid.specs.Run.{run_rows, run_replies}
+use Rattle.grid_commands.specs.declared.command.Refusal.TheVariants.{EmptyLine, Length, Index, TooLarge}
 use Rattle.grid_play.specs.declared.fault.ScriptFault.{ScriptFault}
 use Rattle.grid_play.specs.Script.{◌>>◌, ScriptValue, script_of}
 

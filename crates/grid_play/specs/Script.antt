@@ -1,32 +1,9 @@
 -- What a script says: a table in an order, and commands; or what is wrong with it.
-use Rattle.std.specs.Prelude.{
-  ◌≡◌,
-  ◌⊎◌,
-  ℕ,
-  ◌+◌,
-  ◌/◌,
-  ℤ,
-  if◌then◌else◌,
-  Option,
-  None,
-  Some,
-  Result,
-  Ok,
-  Err,
-  List,
-  [],
-  ◌∷◌,
-  ◌++◌,
-  length,
-  codes,
-  bytes_eq,
-}
+use Rattle.std.specs.Prelude.{◌≡◌, ◌⊎◌, ℕ, ◌+◌, ◌/◌, ℤ, if◌then◌else◌, Option, None, Some, Result, Ok, Err, List, [], ◌∷◌, ◌++◌, length, codes, bytes_eq}
+use Rattle.grid.specs.Prelude.{table_of, GridValue, CommandValue}
 use Rattle.std.specs.Str.{is_utf8}
 use Rattle.grid_base.specs.declared.order.Order.{Order}
 use Rattle.grid_base.specs.declared.order.Order.TheVariants.{RowMajor, ColumnMajor}
-use Rattle.grid_base.specs.Order.{table_of}
-use Rattle.grid_base.specs.GridValue.{GridValue}
-use Rattle.grid_commands.specs.Command.{CommandValue}
 use Rattle.grid_play.specs.declared.fault.ScriptFault.{ScriptFault}
 use Rattle.grid_play.specs.declared.fault.ScriptFault.TheVariants.{BadGrid, BadCommand, Memory}
 use Rattle.text_lines.specs.Lines.{lines_of, words_of}

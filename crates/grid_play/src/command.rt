@@ -1,8 +1,6 @@
 //! The commands of a script: a name, and the words after it.
-ghost use Rattle.std.specs.Prelude.{◌≡◌, ◌++◌, Some, IfOk};
-ghost use Rattle.std.specs.Option.{option_map};
-ghost use Rattle.grid_base.specs.Gather.{items_of_each};
-ghost use Rattle.grid_commands.specs.Command.{command_value};
+ghost use Rattle.std.specs.Prelude.{◌≡◌, ◌++◌, Some, IfOk, option_map};
+ghost use Rattle.grid.specs.Prelude.{items_of_each, command_value};
 ghost use Rattle.text_lines.specs.Lines.{words_of};
 ghost use Rattle.grid_play.specs.Commands.{alone, bare_forms, cell_forms, count_forms, index_forms, form_among, command_among, command_of, with_no_word, one_cell, one_index, two_indices, position_and_cell, two_positions, index_and_line, index_and_lines, lines_of_length};
 

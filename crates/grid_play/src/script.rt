@@ -1,6 +1,5 @@
 //! Scripts: a grid on the first line, then at most one command on a line.
-ghost use Rattle.std.specs.Prelude.{◌≡◌, ◌+◌, IfOk, map};
-ghost use Rattle.std.specs.Option.{option_map, option_to_list};
+ghost use Rattle.std.specs.Prelude.{◌≡◌, ◌+◌, IfOk, map, option_map, option_to_list};
 ghost use Rattle.grid_commands.specs.Command.{command_value};
 ghost use Rattle.grid_play.specs.declared.fault.ScriptFault.TheVariants.{BadGrid};
 ghost use Rattle.text_lines.specs.Lines.{words_of, lines_of};

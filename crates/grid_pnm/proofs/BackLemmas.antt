@@ -1,14 +1,6 @@
 -- What was written is read back: a number, a header, and samples.
-use Rattle.std.proofs.Common.{◌≡◌, ℕ, ◌+◌, ◌-◌, ◌*◌, ◌<◌, ◌≤◌, ◌^◌, ◌==◌, Bool, true, false, nat_lt, Some, Ok, List, [], ◌∷◌, ◌++◌, length, take, drop, refl, ap, sym, ◌∙◌, arith, append_assoc, length-append}
-use Rattle.std.specs.Char.{is_ascii_digit}
-use Rattle.std.specs.Fmt.{decimal}
-use Rattle.std.specs.Str.{all_ascii_digits}
-use Rattle.std.specs.Str.Parse.{digits_value}
-use Rattle.std.proofs.lemmas.Bool.Decides.{nat_tests}
-use Rattle.std.proofs.lemmas.Fmt.{digits_decimal, digits_value-decimal, decimal_nonempty}
-use Rattle.std.proofs.lemmas.List.{take_all}
-use Rattle.std.proofs.Math.Seq.{take-append_seam, drop-append_seam, drop-append-add}
-use Rattle.std.proofs.lemmas.Str.Parse.{IsNumeralModel, numerals_by_value, tells_all_ascii_digits}
+use Rattle.std.proofs.Common.{◌≡◌, ℕ, ◌+◌, ◌-◌, ◌*◌, ◌<◌, ◌≤◌, ◌^◌, ◌==◌, Bool, true, false, nat_lt, Some, Ok, List, [], ◌∷◌, ◌++◌, length, take, drop, refl, ap, sym, ◌∙◌, arith, append_assoc, length-append, decimal, take_all}
+use Rattle.grid_base.proofs.Common.{is_ascii_digit, all_ascii_digits, digits_value, nat_tests, digits_decimal, digits_value-decimal, decimal_nonempty, take-append_seam, drop-append_seam, drop-append-add, IsNumeralModel, numerals_by_value, tells_all_ascii_digits}
 use Rattle.text_lines.specs.Numbers.{number_up_to, index_of}
 use Rattle.grid_pnm.specs.declared.head.Header.{Header}
 use Rattle.grid_pnm.specs.Scan.{is_white, behind_gap, digit_count, number_at, next_number}

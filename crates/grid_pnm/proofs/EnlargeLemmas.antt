@@ -1,10 +1,7 @@
 -- The size of a board that is made larger.
-use Rattle.std.proofs.Common.{◌≡◌, ℕ, zero, suc, ◌*◌, ◌<◌, ◌≤◌, ◌^◌, Option, Some, Result, Ok, Err, IfOk, refl, ap, ◌∙◌, arith}
-use Rattle.std.proofs.Math.Nat.{le-mul_of_pos_right, mul_comm}
-use Rattle.std.proofs.lemmas.Nat.{mul-lt}
+use Rattle.std.proofs.Common.{◌≡◌, ℕ, zero, suc, ◌*◌, ◌<◌, ◌≤◌, ◌^◌, Option, Some, Result, Ok, Err, IfOk, refl, ap, ◌∙◌, arith, le-mul_of_pos_right, mul_comm}
+use Rattle.grid_base.proofs.Common.{mul-lt, IsSize, tabulate, GridValue}
 use Rattle.grid_base.specs.declared.order.Order.TheVariants.{RowMajor}
-use Rattle.grid_base.specs.Table.{IsSize, tabulate}
-use Rattle.grid_base.specs.GridValue.{GridValue}
 use Rattle.grid_base.proofs.SpreadLemmas.{wide_lines}
 use Rattle.grid.specs.Make.{HasSize, IsMade, MadeBy, FailsBySize}
 use Rattle.grid.specs.declared.GridError.TheVariants.{TooLarge}

@@ -1,14 +1,7 @@
 -- A picture that was written is read as the board of its samples.
-use Rattle.std.proofs.Common.{◌≡◌, ℕ, zero, suc, ◌*◌, ◌/◌, ◌<◌, ◌≤◌, ◌^◌, false, true, Ok, List, [], ◌∷◌, ◌++◌, length, map, take, drop, All, codes, refl, ap, sym, ◌∙◌, arith, length-append}
-use Rattle.std.specs.List.{flat_map}
-use Rattle.std.specs.Simd.{first_chunks}
-use Rattle.std.proofs.Math.Nat.{le-mul_of_pos_right, mul_comm}
-use Rattle.std.proofs.Math.Seq.{take-append_seam, drop-append_seam}
-use Rattle.std.proofs.lemmas.Grind.{flat_map-append}
-use Rattle.std.proofs.lemmas.List.{length-map, map-append}
-use Rattle.std.proofs.lemmas.List.Elements.{All-append}
+use Rattle.std.proofs.Common.{◌≡◌, ℕ, zero, suc, ◌*◌, ◌/◌, ◌<◌, ◌≤◌, ◌^◌, false, true, Ok, List, [], ◌∷◌, ◌++◌, length, map, take, drop, All, codes, refl, ap, sym, ◌∙◌, arith, length-append, flat_map, le-mul_of_pos_right, mul_comm}
+use Rattle.grid_base.proofs.Common.{first_chunks, take-append_seam, drop-append_seam, flat_map-append, length-map, map-append, All-append, row, row_count, col_count, IsSize, IsTable, concat_rows}
 use Rattle.grid_base.specs.declared.order.Order.TheVariants.{RowMajor}
-use Rattle.grid_base.specs.Table.{row, row_count, col_count, IsSize, IsTable, concat_rows}
 use Rattle.grid_base.proofs.TableLemmas.{IsSize-table}
 use Rattle.grid_base.proofs.StorageLemmas.{length-storage}
 use Rattle.grid_pnm.specs.declared.head.Header.{Header}

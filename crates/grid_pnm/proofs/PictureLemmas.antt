@@ -1,12 +1,7 @@
 -- The rows of a picture's cells.
 use Rattle.std.proofs.Common.{◌≡◌, ◌≢◌, ℕ, zero, suc, ◌*◌, ◌<◌, ◌/◌, Bool, false, true, cond, Result, Ok, Err, inl, inr, MatchResult, List, length, drop, refl, ap, sym, ◌∙◌, arith, ⊎_elim}
-use Rattle.std.specs.Simd.{first_chunks}
-use Rattle.std.proofs.lemmas.Bool.{cases_eq}
-use Rattle.std.proofs.lemmas.List.{nil_from_length}
+use Rattle.grid_base.proofs.Common.{first_chunks, cases_eq, nil_from_length, row, row_count, col_count, IsSize, IsTable, concat_rows, GridValue, table_of, CanCut}
 use Rattle.grid_base.specs.declared.order.Order.TheVariants.{RowMajor}
-use Rattle.grid_base.specs.Table.{row, row_count, col_count, IsSize, IsTable, concat_rows}
-use Rattle.grid_base.specs.GridValue.{GridValue}
-use Rattle.grid_base.specs.Order.{table_of, CanCut}
 use Rattle.grid_base.proofs.TableLemmas.{rows-tabulate}
 use Rattle.grid_base.proofs.StorageLemmas.{length-concat_rows, width-table_of, storage-table_of}
 use Rattle.grid.specs.Conversion.{AreEven}

@@ -1,14 +1,6 @@
 -- The digits at the front of a list of bytes.
-use Rattle.std.proofs.Common.{◌≡◌, ℕ, ◌<◌, ◌≤◌, true, Some, None, List, length, take, drop, get_or, refl, arith, ⊎_elim}
-use Rattle.std.specs.Char.{is_ascii_digit}
-use Rattle.std.specs.List.{prefix_len}
-use Rattle.std.specs.Str.{IsAscii}
-use Rattle.std.proofs.Math.ListN.{get_or-eq_default}
-use Rattle.std.proofs.lemmas.Bool.{cases_lt}
-use Rattle.std.proofs.lemmas.Bool.Decides.{nat_tests}
-use Rattle.std.proofs.lemmas.List.{get_or-take}
-use Rattle.std.proofs.lemmas.List.Folds.{length-prefix_len}
-use Rattle.std.proofs.lemmas.List.Sums.{prefix_len_passes}
+use Rattle.std.proofs.Common.{◌≡◌, ℕ, ◌<◌, ◌≤◌, true, Some, None, List, length, take, drop, get_or, refl, arith, ⊎_elim, IsAscii, get_or-take}
+use Rattle.grid_base.proofs.Common.{is_ascii_digit, prefix_len, get_or-eq_default, cases_lt, nat_tests, length-prefix_len, prefix_len_passes}
 use Rattle.text_lines.specs.Numbers.{index_of}
 use Rattle.grid_pnm.specs.Scan.{digit_count, number_at}
 

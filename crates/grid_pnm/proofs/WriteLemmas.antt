@@ -1,7 +1,6 @@
 -- The samples of cells, one after another.
 use Rattle.std.proofs.Common.{◌≡◌, ℕ, ◌+◌, List, [], ◌∷◌, ◌++◌, map, take, subst, ap, sym, ◌∙◌, append_assoc}
-use Rattle.std.specs.List.{AllZip}
-use Rattle.std.proofs.lemmas.List.{map-append}
+use Rattle.grid_base.proofs.Common.{AllZip, map-append}
 use Rattle.grid_base.proofs.ClosureLemmas.{AllZip-append}
 use Rattle.grid.proofs.ConversionLemmas.{AllZip-concat_rows}
 

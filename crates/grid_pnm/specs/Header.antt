@@ -1,30 +1,5 @@
 -- The header of a picture.
-use Rattle.std.specs.Prelude.{
-  ◌==◌,
-  ◌||◌,
-  ◌+◌,
-  ◌-◌,
-  ℕ,
-  Bool,
-  true,
-  false,
-  nat_lt,
-  if◌then◌else◌,
-  Option,
-  Some,
-  None,
-  List,
-  [],
-  ◌∷◌,
-  length,
-  take,
-  drop,
-  bytes_eq,
-  codes,
-  Result,
-  Ok,
-  Err,
-}
+use Rattle.std.specs.Prelude.{◌==◌, ◌||◌, ◌+◌, ◌-◌, ℕ, Bool, true, false, nat_lt, if◌then◌else◌, Option, Some, None, List, [], ◌∷◌, length, take, drop, bytes_eq, codes, Result, Ok, Err}
 use Rattle.grid_pnm.specs.declared.error.PnmError.{PnmError}
 use Rattle.grid_pnm.specs.declared.error.PnmError.TheVariants.{BadMagic, BadMax, NoSpace}
 use Rattle.grid_pnm.specs.declared.head.Header.{Header}

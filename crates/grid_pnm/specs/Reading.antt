@@ -1,23 +1,8 @@
 -- Which board a picture is.
-use Rattle.std.specs.Prelude.{
-  ◌≡◌,
-  ◌≤◌,
-  ◌⊎◌,
-  ◌*◌,
-  ℕ,
-  if◌then◌else◌,
-  List,
-  length,
-  Result,
-  Ok,
-  Err,
-  MatchResult,
-}
+use Rattle.std.specs.Prelude.{◌≡◌, ◌≤◌, ◌⊎◌, ◌*◌, ℕ, if◌then◌else◌, List, length, Result, Ok, Err, MatchResult}
+use Rattle.grid.specs.Prelude.{table_of, GridValue, equal_rows}
 use Rattle.std.specs.Simd.{first_chunks}
 use Rattle.grid_base.specs.declared.order.Order.TheVariants.{RowMajor}
-use Rattle.grid_base.specs.Order.{table_of}
-use Rattle.grid_base.specs.GridValue.{GridValue}
-use Rattle.grid.specs.Conversion.{equal_rows}
 use Rattle.grid_pnm.specs.declared.error.PnmError.{PnmError}
 use Rattle.grid_pnm.specs.declared.error.PnmError.TheVariants.{BadMagic, Memory}
 use Rattle.grid_pnm.specs.declared.head.Header.{Header}

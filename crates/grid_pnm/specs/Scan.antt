@@ -1,28 +1,5 @@
 -- Numbers between white space and comments.
-use Rattle.std.specs.Prelude.{
-  ◌==◌,
-  ◌||◌,
-  ◌-◌,
-  ℕ,
-  Bool,
-  true,
-  false,
-  not,
-  if◌then◌else◌,
-  Option,
-  Some,
-  None,
-  List,
-  [],
-  ◌∷◌,
-  length,
-  take,
-  drop,
-  Result,
-  Ok,
-  Err,
-}
-use Rattle.std.specs.Option.{option_map}
+use Rattle.std.specs.Prelude.{◌==◌, ◌||◌, ◌-◌, ℕ, Bool, true, false, not, if◌then◌else◌, Option, Some, None, List, [], ◌∷◌, length, take, drop, Result, Ok, Err, option_map}
 use Rattle.std.specs.Char.{is_ascii_digit}
 use Rattle.std.specs.List.{prefix_len}
 use Rattle.text_lines.specs.Numbers.{index_of}

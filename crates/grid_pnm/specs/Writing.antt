@@ -1,8 +1,7 @@
 -- The bytes of a board as a picture.
-use Rattle.std.specs.Prelude.{◌≡◌, ℕ, List, ◌∷◌, ◌++◌, length, map, codes}
+use Rattle.std.specs.Prelude.{◌≡◌, ℕ, List, ◌∷◌, ◌++◌, length, map, codes, flat_map, decimal}
 use denote.Ref.{Bor}
-use Rattle.std.specs.List.{AllZip, flat_map}
-use Rattle.std.specs.Fmt.{decimal}
+use Rattle.std.specs.List.{AllZip}
 use Rattle.grid_base.specs.Table.{row_count, col_count, concat_rows}
 
 -- whatever the closure answers at a reference to a cell, h gives

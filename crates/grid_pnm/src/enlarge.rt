@@ -1,7 +1,6 @@
 //! Small boards made large, to be seen.
 ghost use Rattle.std.specs.Prelude.{◌≡◌, ◌*◌, IfOk};
-ghost use Rattle.grid_base.specs.Table.{row_count, col_count};
-ghost use Rattle.grid.specs.Make.{FailsBySize};
+ghost use Rattle.grid.specs.Prelude.{row_count, col_count, FailsBySize};
 ghost use Rattle.grid_pnm.specs.Enlarging.{enlarged};
 
 use grid::{Grid, GridError, Order};

@@ -1,11 +1,6 @@
 -- A text of lines is read as the rows that the lines write.
-use Rattle.std.proofs.Common.{◌≡◌, ◌≢◌, ℕ, suc, ◌+◌, ◌-◌, ◌<◌, ◌==◌, false, Option, Some, Ok, List, [], ◌∷◌, ◌++◌, length, map, drop, get_or, All, bytes_eq, refl, sym, ap, ◌∙◌, arith, append_assoc, length-drop}
-use Rattle.std.specs.List.{flat_map, slice_split}
-use Rattle.std.proofs.lemmas.Bool.{ne_eqb, eqb-false, false_from_ne_true}
-use Rattle.std.proofs.lemmas.List.{get_or_default, get_or-drop, length-map}
-use Rattle.std.proofs.lemmas.List.Splits.{slice_split_at}
-use Rattle.std.proofs.lemmas.Slice.Eq.{bytes_eq-Decides}
-use Rattle.grid_base.specs.Table.{row, IsTable}
+use Rattle.std.proofs.Common.{◌≡◌, ◌≢◌, ℕ, suc, ◌+◌, ◌-◌, ◌<◌, ◌==◌, false, Option, Some, Ok, List, [], ◌∷◌, ◌++◌, length, map, drop, get_or, All, bytes_eq, refl, sym, ap, ◌∙◌, arith, append_assoc, length-drop, flat_map, ne_eqb, get_or-drop}
+use Rattle.grid_base.proofs.Common.{slice_split, eqb-false, false_from_ne_true, get_or_default, length-map, slice_split_at, bytes_eq-Decides, row, IsTable}
 use Rattle.grid_text.specs.declared.error.TextError.{TextError}
 use Rattle.text_lines.specs.Lines.{without_return, without_empty_end, lines_of}
 use Rattle.grid_text.specs.Reading.{cell_before, read_line, read_lines, row_before, rows_of, prepend, as_table, table_read}

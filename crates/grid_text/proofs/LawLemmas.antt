@@ -1,11 +1,6 @@
 -- A text that was written of a table is read as the table.
-use Rattle.std.proofs.Common.{◌≡◌, ◌≢◌, ℕ, suc, ◌<◌, ◌≤◌, ◌==◌, true, false, Option, Ok, List, [], ◌∷◌, map, get_or, All, chars, encode_utf8_all, refl, arith, ⊎_elim}
-use lib.Utf8.{scalars}
-use Rattle.std.specs.Str.{NonePass, NoCharPasses}
-use Rattle.std.proofs.lemmas.Bool.{ne_eqb, cases_lt}
-use Rattle.std.proofs.lemmas.List.{get_or_default}
-use Rattle.std.proofs.lemmas.Str.{NoCharPasses-byte, chars-encodes}
-use Rattle.grid_base.specs.Table.{IsTable}
+use Rattle.std.proofs.Common.{◌≡◌, ◌≢◌, ℕ, suc, ◌<◌, ◌≤◌, ◌==◌, true, false, Option, Ok, List, [], ◌∷◌, map, get_or, All, chars, encode_utf8_all, refl, arith, ⊎_elim, ne_eqb}
+use Rattle.grid_base.proofs.Common.{scalars, NonePass, NoCharPasses, cases_lt, get_or_default, NoCharPasses-byte, chars-encodes, IsTable}
 use Rattle.text_lines.specs.Lines.{lines_of}
 use Rattle.grid_text.specs.Reading.{bad_char, reading}
 use Rattle.grid_text.specs.Writing.{line_text, table_text}

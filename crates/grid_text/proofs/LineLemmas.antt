@@ -1,10 +1,6 @@
 -- The cells of one line, part by part.
 use Rattle.std.proofs.Common.{◌≡◌, ℕ, ◌+◌, ◌≤◌, true, Option, Some, None, Result, Ok, Err, List, [], ◌∷◌, ◌++◌, length, encode_utf8, IsUtf8, chars, inl, inr, refl, subst, sym, ap, ◌∙◌, arith, append_assoc, append-nil, length-append}
-use lib.Utf8.{scalars}
-use Rattle.std.specs.Char.{IsScalar}
-use Rattle.std.proofs.lemmas.Bool.{and_parts}
-use Rattle.std.proofs.lemmas.List.{nil_from_length}
-use Rattle.std.proofs.lemmas.Str.{chars-nil, chars_past_char, IsUtf8-past_char, cons_from_encodes, length-encode, len_utf8_bounds}
+use Rattle.grid_base.proofs.Common.{scalars, IsScalar, and_parts, nil_from_length, chars-nil, chars_past_char, IsUtf8-past_char, cons_from_encodes, length-encode, len_utf8_bounds}
 use Rattle.grid_text.specs.declared.error.TextError.{TextError}
 use Rattle.grid_text.specs.Reading.{ReadsBy, prepend, cell_before, read_line, bad_char, IsRow, MayReadLine}
 

@@ -1,13 +1,6 @@
 -- The words of a line of numbers are their decimals.
-use Rattle.std.proofs.Common.{◌≡◌, ℕ, ℤ, pos, negsuc, suc, ◌+◌, ◌%◌, ◌<◌, ◌≤◌, ◌^◌, ◌==◌, zero, true, false, Option, Ok, List, [], ◌∷◌, ◌++◌, length, map, get_or, All, refl, ap, ◌∙◌, arith, append-nil}
-use lib.Signed.{mag}
-use Rattle.std.specs.List.{flat_map, filter, slice_split}
-use Rattle.std.specs.Fmt.{decimal, signed_decimal}
-use Rattle.std.proofs.lemmas.Bool.{ne_eqb}
-use Rattle.std.proofs.lemmas.Fmt.{decimal_by_steps_wide}
-use Rattle.std.proofs.lemmas.List.Elements.{All-append, All-push}
-use Rattle.std.proofs.lemmas.List.Splits.{slice_split_at, slice_split_none}
-use Rattle.grid_base.specs.Table.{IsTable}
+use Rattle.std.proofs.Common.{◌≡◌, ℕ, ℤ, pos, negsuc, suc, ◌+◌, ◌%◌, ◌<◌, ◌≤◌, ◌^◌, ◌==◌, zero, true, false, Option, Ok, List, [], ◌∷◌, ◌++◌, length, map, get_or, All, refl, ap, ◌∙◌, arith, append-nil, flat_map, filter, decimal, ne_eqb}
+use Rattle.grid_base.proofs.Common.{mag, slice_split, signed_decimal, decimal_by_steps_wide, All-append, All-push, slice_split_at, slice_split_none, IsTable}
 use Rattle.grid.specs.Texts.{numbers}
 use Rattle.text_lines.specs.Lines.{separates, is_word, words_of, lines_of}
 use Rattle.grid_text.specs.Law.{ReadsNumber}

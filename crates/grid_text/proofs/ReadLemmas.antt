@@ -1,11 +1,6 @@
 -- The rows of the lines of a text, line by line.
-use Rattle.std.proofs.Common.{◌≡◌, ◌≢◌, ◌⊎◌, inl, inr, ℕ, zero, suc, ◌+◌, ◌<◌, ◌≤◌, ◌==◌, true, false, Option, Result, Ok, Err, List, [], ◌∷◌, ◌++◌, length, All, refl, subst, sym, ap, ◌∙◌, arith, append-nil, length-append}
-use Rattle.std.specs.List.{position_or_len}
-use Rattle.std.proofs.lemmas.List.{nil_from_length, length-drop}
-use Rattle.std.proofs.lemmas.List.Elements.{All-push}
-use Rattle.std.proofs.lemmas.Bool.{eq-eqb, ne_eqb}
-use Rattle.std.proofs.lemmas.Grind.{flat_map-append}
-use Rattle.grid_base.specs.Table.{concat_rows}
+use Rattle.std.proofs.Common.{◌≡◌, ◌≢◌, ◌⊎◌, inl, inr, ℕ, zero, suc, ◌+◌, ◌<◌, ◌≤◌, ◌==◌, true, false, Option, Result, Ok, Err, List, [], ◌∷◌, ◌++◌, length, All, refl, subst, sym, ap, ◌∙◌, arith, append-nil, length-append, length-drop, eq-eqb, ne_eqb}
+use Rattle.grid_base.proofs.Common.{position_or_len, nil_from_length, All-push, flat_map-append, concat_rows}
 use Rattle.grid_text.specs.declared.error.TextError.{TextError}
 use Rattle.grid_text.specs.declared.error.TextError.TheVariants.{Ragged, Memory}
 use Rattle.text_lines.specs.Lines.{first_line, later_lines, lines_of}

@@ -1,9 +1,7 @@
 -- The table that is cut from the rows of a text.
 use Rattle.std.proofs.Common.{◌≡◌, ◌≢◌, ◌⊎◌, inl, inr, ℕ, ◌+◌, ◌<◌, Result, Ok, Err, Option, Some, None, List, [], ◌∷◌, length, All, IfOk, IfErr, refl, sym, ap, ◌∙◌, arith}
+use Rattle.grid_base.proofs.Common.{row, row_count, col_count, concat_rows, storage, CanCut, GridValue}
 use Rattle.grid_base.specs.declared.order.Order.TheVariants.{RowMajor}
-use Rattle.grid_base.specs.Table.{row, row_count, col_count, concat_rows}
-use Rattle.grid_base.specs.Order.{storage, CanCut}
-use Rattle.grid_base.specs.GridValue.{GridValue}
 use Rattle.grid_base.proofs.StorageLemmas.{length-concat_rows}
 use Rattle.grid_text.specs.declared.error.TextError.{TextError}
 use Rattle.grid_text.specs.declared.error.TextError.TheVariants.{Memory}

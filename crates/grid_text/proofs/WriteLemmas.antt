@@ -1,6 +1,5 @@
 -- The text of rows, line by line.
-use Rattle.std.proofs.Common.{◌≡◌, ℕ, List, [], ◌∷◌, ◌++◌, encode_utf8, refl, subst, sym, ap, ◌∙◌, arith, append_assoc}
-use Rattle.std.specs.List.{flat_map}
+use Rattle.std.proofs.Common.{◌≡◌, ℕ, List, [], ◌∷◌, ◌++◌, encode_utf8, refl, subst, sym, ap, ◌∙◌, arith, append_assoc, flat_map}
 use Rattle.grid_text.specs.Writing.{MayWriteLine, MayWriteRows, line_text}
 use Rattle.std.proofs.lemmas.Str.{encode_ascii}
 

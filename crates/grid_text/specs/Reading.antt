@@ -1,33 +1,11 @@
 -- Which rows a text says, or why it says none.
-use Rattle.std.specs.Prelude.{
-  ◌≡◌,
-  ◌≢◌,
-  ◌⊎◌,
-  ◌+◌,
-  ◌==◌,
-  if◌then◌else◌,
-  ℕ,
-  Option,
-  Some,
-  None,
-  List,
-  [],
-  ◌∷◌,
-  ◌++◌,
-  length,
-  Result,
-  Ok,
-  Err,
-  MatchResult,
-}
+use Rattle.std.specs.Prelude.{◌≡◌, ◌≢◌, ◌⊎◌, ◌+◌, ◌==◌, if◌then◌else◌, ℕ, Option, Some, None, List, [], ◌∷◌, ◌++◌, length, Result, Ok, Err, MatchResult, chars}
+use Rattle.grid.specs.Prelude.{GridValue, equal_rows}
 use denote.Ref.{Bor}
 use Rattle.std.specs.Char.{IsScalar}
-use Rattle.std.specs.Str.{chars}
 use Rattle.std.specs.declared.alloc.AllocError.{AllocError}
 use Rattle.text_lines.specs.Lines.{words_of}
 use Rattle.grid_base.specs.declared.order.Order.TheVariants.{RowMajor}
-use Rattle.grid_base.specs.GridValue.{GridValue}
-use Rattle.grid.specs.Conversion.{equal_rows}
 use Rattle.grid_text.specs.declared.error.TextError.{TextError}
 use Rattle.grid_text.specs.declared.error.TextError.TheVariants.{BadChar, BadWord, Ragged, Memory}
 

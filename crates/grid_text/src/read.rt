@@ -1,6 +1,5 @@
 //! Grids read from text.
-ghost use Rattle.std.specs.Prelude.{ℕ, Option, List, MatchResult};
-ghost use Rattle.std.specs.Str.{chars};
+ghost use Rattle.std.specs.Prelude.{ℕ, Option, List, MatchResult, chars};
 ghost use Rattle.grid_text.specs.Reading.{ReadsBy, ReadsWordsBy, AnswersWord, TriesWordsBy, TriesWord, MayReadAs, IsOrMemory, IsRow, IsBadRow, bad_char, bad_word, reading, reading_words};
 ghost use Rattle.text_lines.specs.Lines.{lines_of, words_of};
 

@@ -1,6 +1,5 @@
 //! Grids written as text.
-ghost use Rattle.std.specs.Prelude.{◌≡◌, ◌++◌, ℕ, map, IfOk, OnOk};
-ghost use Rattle.std.specs.String.{string_bytes};
+ghost use Rattle.std.specs.Prelude.{◌≡◌, ◌++◌, ℕ, map, IfOk, OnOk, string_bytes};
 ghost use Rattle.grid.specs.Texts.{numbers};
 ghost use Rattle.grid_text.specs.Writing.{WritesBy, AnswersCell, MayWriteLine, MayWriteRows, line_text, table_text, line_of_numbers, numbers_text};
 

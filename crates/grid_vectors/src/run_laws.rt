@@ -1,7 +1,7 @@
 //! The law of both kinds of run: the same list on grids of the same rows, in different orders.
 ghost use Rattle.std.specs.Prelude.{◌≡◌, [], ◌∷◌, map, IfOk};
+ghost use Rattle.grid.specs.Prelude.{command_value, lines, push, size, apply};
 ghost use Rattle.grid_base.specs.declared.words.Symmetry.TheVariants.{RotateLeft};
-ghost use Rattle.grid_commands.specs.Command.{command_value, lines, push, size, apply};
 ghost use Rattle.grid_commands.specs.declared.command.Axis.TheVariants.{Row};
 
 use grid::{Command, Grid, Order, Reply, RunStopped, Symmetry, Tally};

@@ -1,11 +1,6 @@
 -- All cells of a view, row by row.
-use Rattle.std.proofs.Common.{◌≡◌, ℕ, suc, ◌+◌, ◌*◌, ◌^◌, ◌<◌, ◌≤◌, Option, None, Some, Bor, List, [], ◌∷◌, ◌++◌, length, ◌∙◌, sym, ap, arith, length-append, append_assoc}
-use Rattle.std.specs.Iterator.{YieldsFirstRef, YieldsLastRef}
-use Rattle.std.proofs.Math.Nat.{suc-mul}
-use Rattle.std.proofs.lemmas.Grind.{flat_map-append}
-use Rattle.std.proofs.lemmas.List.{get_or_append_left, append-nil}
-use Rattle.std.proofs.Math.Seq.{get_or-append_seam}
-use Rattle.grid_base.specs.Table.{row, concat_rows}
+use Rattle.std.proofs.Common.{◌≡◌, ℕ, suc, ◌+◌, ◌*◌, ◌^◌, ◌<◌, ◌≤◌, Option, None, Some, Bor, List, [], ◌∷◌, ◌++◌, length, ◌∙◌, sym, ap, arith, length-append, append_assoc, suc-mul, append-nil}
+use Rattle.grid_base.proofs.Common.{YieldsFirstRef, YieldsLastRef, flat_map-append, get_or_append_left, get_or-append_seam, row, concat_rows}
 use Rattle.grid_base.proofs.StorageLemmas.{length-concat_rows}
 use Rattle.grid_view.specs.declared.axis.ViewAxis.{ViewAxis}
 use Rattle.grid_view.specs.View.{HoldsView}

@@ -1,10 +1,6 @@
 -- Debug text row by row.
-use Rattle.std.proofs.Common.{◌≡◌, ℕ, ◌+◌, ◌<◌, List, [], ◌∷◌, ◌++◌, take, refl, sym, ap, ◌∙◌, append-nil}
-use Rattle.std.specs.Prelude.{Option, Some, None}
-use Rattle.std.specs.Fmt.{◌++?◌, debug_list}
-use Rattle.std.proofs.Output.{then_text_assoc}
-use Rattle.std.proofs.lemmas.List.{take_more}
-use Rattle.grid_base.specs.Table.{row, row_count}
+use Rattle.std.proofs.Common.{◌≡◌, ℕ, ◌+◌, ◌<◌, List, [], ◌∷◌, ◌++◌, take, refl, sym, ap, ◌∙◌, append-nil, Option, Some, None}
+use Rattle.grid_base.proofs.Common.{◌++?◌, debug_list, then_text_assoc, take_more, row, row_count}
 use Rattle.grid_view.specs.Texts.{rows_text}
 
 module _ {T : Type 0} (text : T → Option (List ℕ)) where

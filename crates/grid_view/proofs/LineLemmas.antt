@@ -1,11 +1,6 @@
 -- The lines of a view.
-use Rattle.std.proofs.Common.{◌≡◌, ℕ, suc, ◌+◌, ◌-◌, ◌*◌, ◌/◌, ◌<◌, ◌≤◌, Bool, true, false, Option, None, Some, Bor, List, [], ◌∷◌, length, take, drop, min, reverse, slice_get, refl, sym, ◌∙◌, ap, arith, length-drop}
-use Rattle.std.specs.Int.{div_ceil}
-use Rattle.std.specs.Option.{option_copied}
-use Rattle.std.specs.Iterator.{YieldsFirst, YieldsFirstRef, YieldsLastRef, Yields, SkipsThenYields}
-use Rattle.std.proofs.lemmas.List.{length-reverse, reverse-append, drop-drop, drop_all}
-use Rattle.std.proofs.lemmas.Nat.{div-mul-add, mul-le}
-use Rattle.grid_base.specs.Table.{row, row_count}
+use Rattle.std.proofs.Common.{◌≡◌, ℕ, suc, ◌+◌, ◌-◌, ◌*◌, ◌/◌, ◌<◌, ◌≤◌, Bool, true, false, Option, None, Some, Bor, List, [], ◌∷◌, length, take, drop, min, reverse, slice_get, refl, sym, ◌∙◌, ap, arith, length-drop, option_copied, drop-drop}
+use Rattle.grid_base.proofs.Common.{div_ceil, YieldsFirst, YieldsFirstRef, YieldsLastRef, Yields, SkipsThenYields, length-reverse, reverse-append, drop_all, div-mul-add, mul-le, row, row_count}
 use Rattle.grid_base.proofs.PartLemmas.{get-reverse}
 use Rattle.grid_base.proofs.TableLemmas.{same_cells}
 use Rattle.grid_base.proofs.StrideLemmas.{get-strided, length-line_of, ceil_is, every_one, nth_found}

@@ -1,23 +1,13 @@
 -- The cells of a view with their positions.
-use Rattle.std.proofs.Common.{◌≡◌, ℕ, zero, suc, inl, inr, get_or, ◌+◌, ◌-◌, ◌*◌, ◌/◌, ◌%◌, ◌^◌, ◌<◌, List, Option, Some, [], ◌∷◌, ◌++◌, length, drop, zip, refl, sym, subst, ◌∙◌, ap, arith, length-append}
-use Rattle.std.specs.List.{slice_get, slice_index_or}
-use Rattle.std.specs.Option.{unwrap_or, MatchOption}
-use Rattle.std.specs.Borrow.{Bor}
-use Rattle.std.specs.Iterator.{YieldsFirstBy}
-use Rattle.std.proofs.iter.runs.Sources.{from_front}
-use Rattle.std.proofs.iter.runs.Lists.{at_some, slice_get_within}
-use Rattle.std.proofs.iter.runs.Made.{at-is}
-use Rattle.std.proofs.lemmas.Option.{unwrap_or-slice_get, slice_get-get_or}
-use Rattle.std.proofs.lemmas.Slice.Zip.{length-zip}
+use Rattle.std.proofs.Common.{◌≡◌, ℕ, zero, suc, inl, inr, get_or, ◌+◌, ◌-◌, ◌*◌, ◌/◌, ◌%◌, ◌^◌, ◌<◌, List, Option, Some, [], ◌∷◌, ◌++◌, length, drop, zip, refl, sym, subst, ◌∙◌, ap, arith, length-append, slice_get, slice_index_or, unwrap_or, MatchOption, Bor}
+use Rattle.grid_base.proofs.Common.{YieldsFirstBy, from_front, at_some, at-is, unwrap_or-slice_get, slice_get-get_or, length-zip, row_count, col_count, cell, IsTable, IsSize, concat_rows, positions, StandsAt, IsCellAt, GivesCells}
+use Rattle.std.proofs.iter.runs.Lists.{slice_get_within}
 use Rattle.grid_base.specs.declared.order.Order.TheVariants.{RowMajor}
-use Rattle.grid_base.specs.Table.{row_count, col_count, cell, IsTable, IsSize, concat_rows}
-use Rattle.grid_base.specs.Positions.{positions, StandsAt}
 use Rattle.grid_base.proofs.TableLemmas.{IsSize-table}
 use Rattle.grid_base.proofs.StorageLemmas.{has_place, length-storage, get-storage}
 use Rattle.grid_base.proofs.PlaceLemmas.{get-places, length-left, one_left, place_and_rest, get_ahead}
 use Rattle.grid_base.proofs.PlacedCellLemmas.{get-zip, zip_last, zip_within}
 use Rattle.grid_view.specs.Cells.{ArePlaced, positions_from}
-use Rattle.grid_base.specs.IndexedIterators.{IsCellAt, GivesCells}
 
 -- the cells that are left, and the positions from the next on
 module _ {T : Type 0} (m n r c : ℕ) (old : List T) (h : ArePlaced m n r c (length old)) where

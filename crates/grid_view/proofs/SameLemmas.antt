@@ -1,11 +1,6 @@
 -- Tables that are the same cell by cell.
-use Rattle.std.proofs.Common.{◌≡◌, ◌↔◌, IsTrue, ℕ, zero, suc, ◌<◌, Bool, true, false, List, [], ◌∷◌, length, refl, sym, ◌∙◌, ap, arith}
-use Rattle.std.specs.Prelude.{Some}
-use Rattle.std.specs.Cmp.{first_so, second_so}
-use Rattle.std.specs.List.{slice_get}
-use Rattle.std.proofs.lemmas.Option.{slice_get_within}
-use lib.Pointwise.{pointwise}
-use Rattle.grid_base.specs.Table.{row, row_count, col_count, IsTable}
+use Rattle.std.proofs.Common.{◌≡◌, ◌↔◌, IsTrue, ℕ, zero, suc, ◌<◌, Bool, true, false, List, [], ◌∷◌, length, refl, sym, ◌∙◌, ap, arith, Some, slice_get}
+use Rattle.grid_base.proofs.Common.{first_so, second_so, slice_get_within, pointwise, row, row_count, col_count, IsTable}
 use Rattle.grid_view.specs.Same.{AreSame}
 
 module _ {X : Type 0} (E : X → X → Bool) where

@@ -1,26 +1,17 @@
 -- What the fields of a view say of the rows that a contract sees.
-use Rattle.std.proofs.Common.{◌≡◌, IsTrue, ◌↔◌, nat_eq, ℕ, ◌+◌, ◌-◌, ◌*◌, ◌<◌, ◌≤◌, Bool, true, false, None, List, [], length, drop, slice_get, is_some, refl, sym, ◌∙◌, ap, arith}
-use Rattle.std.proofs.lemmas.Bool.{eqb-true, eq-eqb}
-use mathlib.Core.Path.{PathP}
-use mathlib.Core.HLevel.{is_prop→PathP}
-use Rattle.std.proofs.lemmas.Nat.{mul-le}
+use Rattle.std.proofs.Common.{◌≡◌, IsTrue, ◌↔◌, nat_eq, ℕ, ◌+◌, ◌-◌, ◌*◌, ◌<◌, ◌≤◌, Bool, true, false, None, List, [], length, drop, slice_get, is_some, refl, sym, ◌∙◌, ap, arith, eqb-true, eq-eqb}
+use Rattle.grid_base.proofs.Common.{PathP, is_prop→PathP, mul-le, row_count, col_count, cell, tabulate, IsTable, table_of, HoldsSize, FitsUsize, act, source_row, source_col, image_rows, image_cols, flags_of, nil_from_length}
 use Rattle.grid_base.specs.declared.order.Order.TheVariants.{RowMajor, ColumnMajor}
 use Rattle.grid_base.specs.declared.words.Symmetry.{Symmetry}
 use Rattle.grid_base.specs.declared.words.Symmetry.TheVariants.{Identity, FlipCols, FlipRows, RotateHalf, Transpose, RotateLeft, RotateRight, AntiTranspose}
-use Rattle.grid_base.specs.Table.{row_count, col_count, cell, tabulate, IsTable}
-use Rattle.grid_base.specs.Order.{table_of}
-use Rattle.grid_base.specs.GridValue.{HoldsSize, FitsUsize}
-use Rattle.grid_base.specs.Symmetry.{act, source_row, source_col, image_rows, image_cols}
-use Rattle.grid_base.specs.Flags.{flags_of}
 use Rattle.grid_base.proofs.TableLemmas.{rows-tabulate, cols-tabulate, cell-tabulate, tabulate-same, cell_past_rows, cell_past_cols}
 use Rattle.grid_base.proofs.ActLemmas.{act-tabulate, IsFull-image}
 use Rattle.grid_base.proofs.StorageLemmas.{IsFull-table_of, get-drop}
 use Rattle.grid_view.specs.declared.axis.ViewAxis.{ViewAxis}
 use Rattle.grid_view.specs.View.{counted, offset, turned, cut, crossed, first_of, seen, seen_cell, sub_table, HoldsView}
 use Rattle.grid_view.specs.Value.{ViewValue, view_value, IsFull-seen}
-use Rattle.grid_view.proofs.AxisLemmas as axis
 use Rattle.grid_base.proofs.ViewLemmas.{IsTable-prop, FitsUsize-prop}
-use Rattle.std.proofs.lemmas.List.{nil_from_length}
+use Rattle.grid_view.proofs.AxisLemmas as axis
 
 module _ {T : Type 0} (rows cols : ViewAxis) (cells : List T) (h : HoldsView rows cols (length cells)) (v : ViewValue T) (e : view_value rows cols cells h ≡ v) where
   pub seen_rows : row_count v.rows ≡ rows.count

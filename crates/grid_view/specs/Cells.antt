@@ -1,8 +1,7 @@
 -- What the iterators over all cells of a view keep. No public clause cites this module.
 use Rattle.std.specs.Prelude.{◌≡◌, ℕ, ◌+◌, ◌*◌, ◌^◌, ◌<◌, ◌≤◌, List, length, drop}
+use Rattle.grid_base.specs.Prelude.{row, positions, StandsAt}
 use Rattle.grid_base.specs.declared.order.Order.TheVariants.{RowMajor}
-use Rattle.grid_base.specs.Table.{row}
-use Rattle.grid_base.specs.Positions.{positions, StandsAt}
 
 -- each of the rows that are not begun has `width` cells, and some; and all cells that are left,
 -- with those of the rows begun at either end, are fewer than 2 ^ 64

@@ -1,9 +1,8 @@
 -- What a contract sees of a view. That its rows are a table whose size fits is proved here, from
 -- lemmas of grid_base.
 use Rattle.std.specs.Prelude.{ℕ, ◌+◌, ◌<◌, Bool, true, false, List, length}
+use Rattle.grid_base.specs.Prelude.{row_count, col_count, IsTable, FitsUsize}
 use Rattle.std.proofs.Common.{arith}
-use Rattle.grid_base.specs.Table.{row_count, col_count, IsTable}
-use Rattle.grid_base.specs.GridValue.{FitsUsize}
 use Rattle.grid_base.proofs.TableLemmas.{IsFull, IsSome_within, IsTable-tabulate}
 use Rattle.grid_base.proofs.ViewLemmas.{FitsUsize-tabulate}
 use Rattle.grid_view.specs.declared.axis.ViewAxis.{ViewAxis}

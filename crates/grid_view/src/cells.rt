@@ -1,11 +1,9 @@
 //! An iterator over all cells of a view, row by row.
 ghost use Rattle.std.specs.Prelude.{◌≡◌, ◌+◌, ◌*◌, ◌^◌, ◌<◌, ⊤, length, IfSome, Some};
+ghost use Rattle.grid_base.specs.Prelude.{concat_rows, IsSize, StandsAt, GivesLine, GivesIndexed};
 ghost use Rattle.std.specs.Iterator.{YieldsFirstRef, YieldsLastRef, YieldsFirstBy, YieldsLastBy, item_count, UpTo, at_most};
 ghost use Rattle.std.specs.Iterator.SizeHint.{IsWithinCount};
-ghost use Rattle.grid_base.specs.Table.{concat_rows, IsSize};
 ghost use Rattle.grid_base.specs.declared.order.Order.TheVariants.{RowMajor};
-ghost use Rattle.grid_base.specs.Positions.{StandsAt};
-ghost use Rattle.grid_base.specs.Iterators.{GivesLine, GivesIndexed};
 
 use crate::lines::{ViewLineIter, ViewRowIter, no_cells};
 use crate::view::GridView;

@@ -1,10 +1,8 @@
 //! Iterators over a row or a column of a view, and over its rows and columns.
-ghost use Rattle.std.specs.Prelude.{◌≡◌, ◌+◌, ◌-◌, ◌*◌, ◌<◌, ⊤, [], length, drop, slice_get, IfSome, Some};
-ghost use Rattle.std.specs.Option.{option_copied};
+ghost use Rattle.std.specs.Prelude.{◌≡◌, ◌+◌, ◌-◌, ◌*◌, ◌<◌, ⊤, [], length, drop, slice_get, IfSome, Some, option_copied};
+ghost use Rattle.grid_base.specs.Prelude.{row, row_count, col_count, transposed, GivesLine, GivesLines};
 ghost use Rattle.std.specs.Iterator.{YieldsFirstRef, YieldsLastRef, YieldsFirst, YieldsLast, item_count, UpTo, at_most};
 ghost use Rattle.std.specs.Iterator.SizeHint.{IsWithinCount};
-ghost use Rattle.grid_base.specs.Table.{row, row_count, col_count, transposed};
-ghost use Rattle.grid_base.specs.Iterators.{GivesLine, GivesLines};
 ghost use Rattle.grid_view.specs.Lines.{directed, line_cells};
 
 use crate::axis::ViewAxis;

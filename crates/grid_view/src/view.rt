@@ -1,10 +1,6 @@
 //! A part of a table that a slice stores, seen through a symmetry.
-ghost use Rattle.std.specs.Prelude.{◌≡◌, ◌+◌, ◌<◌, ◌≤◌, IsTrue, ⊤, ◌↔◌, ◌⊎◌, IfSome, Some, [], length};
-ghost use Rattle.std.specs.Option.{option_copied};
-ghost use Rattle.grid_base.specs.Table.{row_count, col_count, cell, transposed, InRange};
-ghost use Rattle.grid_base.specs.Order.{table_of};
-ghost use Rattle.grid_base.specs.GridValue.{HoldsSize};
-ghost use Rattle.grid_base.specs.Symmetry.{act};
+ghost use Rattle.std.specs.Prelude.{◌≡◌, ◌+◌, ◌<◌, ◌≤◌, IsTrue, ⊤, ◌↔◌, ◌⊎◌, IfSome, Some, [], length, option_copied};
+ghost use Rattle.grid_base.specs.Prelude.{row_count, col_count, cell, transposed, InRange, table_of, HoldsSize, act};
 ghost use Rattle.grid_view.specs.View.{offset, sub_table, HoldsView};
 
 use crate::axis::{ViewAxis, crossed};

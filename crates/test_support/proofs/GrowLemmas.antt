@@ -1,16 +1,11 @@
 -- Lists and tables that grow at the end, by a cell, a row or a command.
-use Rattle.std.proofs.Common.{◌≡◌, ℕ, ◌+◌, ◌<◌, Option, List, [], ◌∷◌, ◌++◌, length, map, take, get_or, refl, sym, ◌∙◌, ap, arith}
-use Rattle.std.specs.List.{filter_map, range_with_len, cons_option}
-use Rattle.std.proofs.lemmas.List.{map-id, length-map, get_or-map, take_more}
+use Rattle.std.proofs.Common.{◌≡◌, ℕ, ◌+◌, ◌<◌, Option, List, [], ◌∷◌, ◌++◌, length, map, take, get_or, refl, sym, ◌∙◌, ap, arith, filter_map, map-id}
+use Rattle.grid.specs.Prelude.{row_count, col_count, cell, cells_by, tabulate, source_row, source_col, CommandValue, ReplyValue, step_rows, step_reply, run_rows, run_replies}
+use Rattle.std.specs.List.{range_with_len, cons_option}
+use Rattle.std.proofs.lemmas.List.{length-map, get_or-map, take_more}
 use Rattle.std.proofs.lemmas.List.FromFn.{map-range_with_len_more}
 use Rattle.std.proofs.lemmas.List.Elements.{filter_map-append}
 use Rattle.grid_base.specs.declared.words.Symmetry.{Symmetry}
-use Rattle.grid_base.specs.Table.{row_count, col_count, cell, cells_by, tabulate}
-use Rattle.grid_base.specs.Symmetry.{source_row, source_col}
-use Rattle.grid_commands.specs.Command.{CommandValue}
-use Rattle.grid_commands.specs.Reply.{ReplyValue}
-use Rattle.grid.specs.Step.{step_rows, step_reply}
-use Rattle.grid.specs.Run.{run_rows, run_replies}
 use Rattle.grid.proofs.RunLemmas.{run_rows-more, run_replies-more}
 
 module _ {T : Type 0} where

@@ -1,9 +1,7 @@
 -- What the plain edits of a table leave, row by row.
 use Rattle.std.proofs.Common.{◌≡◌, ℕ, zero, suc, ◌+◌, ◌<◌, ◌≤◌, List, [], ◌∷◌, ◌++◌, length, map, take, drop, replicate, get_or, set, insert, refl, sym, ◌∙◌, ap, arith}
+use Rattle.grid.specs.Prelude.{with_cell, filled, insert_rows, insert_into_rows}
 use Rattle.std.proofs.lemmas.List.{take-map, drop-map, map-append, map-set, get_or-map, get_or_default, length-map, map_more}
-use Rattle.grid_base.specs.Table.{with_cell}
-use Rattle.grid.specs.AllCells.{filled}
-use Rattle.grid.specs.Edits.{insert_rows, insert_into_rows}
 use Rattle.std.proofs.lemmas.Simd.{splat_is_map}
 
 module _ {T : Type 0} where

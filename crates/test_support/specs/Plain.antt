@@ -1,8 +1,7 @@
 -- What a contract sees of a vector of rows.
 use Rattle.std.specs.Prelude.{◌≡◌, ℕ, ◌≤◌, List, Vec, length, map, take}
+use Rattle.grid.specs.Prelude.{CommandValue, run_rows}
 use Rattle.std.specs.declared.alloc.Global.{Global}
-use Rattle.grid_commands.specs.Command.{CommandValue}
-use Rattle.grid.specs.Run.{run_rows}
 
 -- its rows
 abbrev pub items_of_each : {T : Type 0} → Vec (Vec T Global) Global → List (List T)

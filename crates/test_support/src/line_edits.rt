@@ -1,8 +1,7 @@
 //! Calls that put lines. Each tests what the call asks of its caller, and hands a line that does not fit back as too
 //! large.
 ghost use Rattle.std.specs.Prelude.{◌≡◌, IsTrue, All, IfSome, length};
-ghost use Rattle.grid_base.specs.Table.{col_count, IsTable};
-ghost use Rattle.grid_base.specs.Gather.{items_of_each};
+ghost use Rattle.grid.specs.Prelude.{col_count, IsTable, items_of_each};
 
 use grid::{Grid, GridError, LineRefused, LinesRefused};
 use std::alloc::Allocator;

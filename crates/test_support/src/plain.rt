@@ -1,14 +1,7 @@
 //! A plain program beside the library: tables as vectors of rows, written from the definitions with no care for
 //! speed. It shares no code with the library, whose tests compare the two.
-ghost use Rattle.std.specs.Prelude.{◌≡◌, ◌<◌, OnOk, OnErr, IfOk, map, slice_get};
-ghost use Rattle.std.specs.Option.{option_map};
-ghost use Rattle.grid_base.specs.Table.{row_count, col_count, cell, cells_by, concat_rows, transposed};
-ghost use Rattle.grid_base.specs.Order.{storage};
-ghost use Rattle.grid_base.specs.Symmetry.{act, image_rows, image_cols, source_row, source_col};
-ghost use Rattle.grid_commands.specs.Reply.{reply_value};
-ghost use Rattle.grid_commands.specs.Command.{command_value};
-ghost use Rattle.grid.specs.Step.{rows_after, reply_to, step_rows, step_reply};
-ghost use Rattle.grid.specs.Run.{run_rows, run_replies};
+ghost use Rattle.std.specs.Prelude.{◌≡◌, ◌<◌, OnOk, OnErr, IfOk, map, slice_get, option_map};
+ghost use Rattle.grid.specs.Prelude.{row_count, col_count, cell, cells_by, concat_rows, transposed, storage, act, image_rows, image_cols, source_row, source_col, reply_value, command_value, rows_after, reply_to, step_rows, step_reply, run_rows, run_replies};
 ghost use Rattle.test_support.specs.Plain.{items_of_each, AfterSome};
 
 mod cells;

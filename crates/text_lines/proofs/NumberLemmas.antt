@@ -1,9 +1,6 @@
 -- What `parse` reads is the number that the definitions say.
-use Rattle.std.proofs.Common.{◌≡◌, ◌≢◌, ℕ, ◌+◌, ◌<◌, ◌≤◌, ◌^◌, Bool, true, false, ◌&&◌, not, ltb, List, [], ◌∷◌, length, get_or, drop, cond, refl, ap, sym, ◌∙◌, arith, ℤ, pos, neg_ℤ}
-use Rattle.std.specs.Prelude.{Some, None, Result, Ok, Err}
-use Rattle.std.specs.Option.{option_map}
-use Rattle.std.specs.Result.{OkIff, result_ok}
-use Rattle.std.specs.Int.{w64}
+use Rattle.std.proofs.Common.{◌≡◌, ◌≢◌, ℕ, ◌+◌, ◌<◌, ◌≤◌, ◌^◌, Bool, true, false, ◌&&◌, not, ltb, List, [], ◌∷◌, length, get_or, drop, cond, refl, ap, sym, ◌∙◌, arith, ℤ, pos, neg_ℤ, Some, None, Result, Ok, Err, option_map, OkIff, w64}
+use Rattle.std.specs.Result.{result_ok}
 use Rattle.std.specs.Str.{all_ascii_digits}
 use Rattle.std.specs.Str.Parse.{digits_value, ParsesUnsigned, ParsesSigned, starts_with_minus}
 use Rattle.std.proofs.lemmas.Str.Parse.{IsNumeralModel, numerals_by_value, tells_all_ascii_digits, parse_plain, parse_signed_plain, parse_signed_minus}

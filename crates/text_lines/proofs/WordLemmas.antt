@@ -1,8 +1,7 @@
 -- The words of a text, by the part before its first separator and by what follows.
-use Rattle.std.proofs.Common.{◌≡◌, inl, inr, ℕ, ◌+◌, ◌<◌, ◌≤◌, List, [], ◌∷◌, ◌∙◌, length, refl, ap, sym, arith}
-use Rattle.std.specs.List.{before_first, after_first, filter, position_or_len}
+use Rattle.std.proofs.Common.{◌≡◌, inl, inr, ℕ, ◌+◌, ◌<◌, ◌≤◌, List, [], ◌∷◌, ◌∙◌, length, refl, ap, sym, arith, filter, length-drop}
+use Rattle.std.specs.List.{before_first, after_first, position_or_len}
 use Rattle.std.specs.List.{slice_split}
-use Rattle.std.proofs.lemmas.List.{length-drop}
 use Rattle.std.proofs.lemmas.List.Sums.{length-filter, count_by-le-length}
 use Rattle.std.proofs.lemmas.List.Splits.{length-slice_split}
 use Rattle.text_lines.specs.Lines.{separates, is_word, words_of}

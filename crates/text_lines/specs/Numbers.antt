@@ -1,20 +1,5 @@
 -- The numbers that words write.
-use Rattle.std.specs.Prelude.{
-  ℕ,
-  ℤ,
-  pos,
-  neg_ℤ,
-  ◌&&◌,
-  not,
-  nat_lt,
-  if◌then◌else◌,
-  Option,
-  Some,
-  None,
-  List,
-  drop,
-}
-use Rattle.std.specs.Option.{option_map}
+use Rattle.std.specs.Prelude.{ℕ, ℤ, pos, neg_ℤ, ◌&&◌, not, nat_lt, if◌then◌else◌, Option, Some, None, List, drop, option_map}
 use Rattle.std.specs.Str.{all_ascii_digits}
 use Rattle.std.specs.Str.Parse.{starts_with_minus, digits_value}
 use Rattle.text_lines.specs.Lines.{is_word}

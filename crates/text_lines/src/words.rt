@@ -1,10 +1,9 @@
 //! The words of a line.
-ghost use Rattle.std.specs.Prelude.{◌≡◌, ◌<◌, [], ◌∷◌, length, MatchOption, position, slice_index, IfSome};
+ghost use Rattle.std.specs.Prelude.{◌≡◌, ◌<◌, [], ◌∷◌, length, MatchOption, position, slice_index, IfSome, is_some};
 ghost use Rattle.text_lines.specs.Lines.{separates, words_of};
 ghost use Rattle.std.specs.Iterator.{at_most};
 ghost use Rattle.std.specs.List.{before_first, after_first};
 ghost use Rattle.std.specs.Str.{is_utf8};
-ghost use Rattle.std.specs.Option.{is_some};
 
 /// An iterator over the words of a line, which are separated by spaces and tabs. It holds what is behind the words that
 /// came.

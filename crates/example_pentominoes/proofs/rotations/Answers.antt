@@ -1,7 +1,7 @@
 use Rattle.std.proofs.Common.{◌≡◌, ◌∷◌, []}
-use Rattle.grid_base.specs.declared.words.Move.TheVariants as moves
 use Rattle.grid_base.specs.declared.words.Symmetry.TheVariants.{Identity, RotateHalf, RotateLeft, RotateRight}
 use Rattle.grid_base.proofs.GroupLemmas.{normal_is}
+use Rattle.grid_base.specs.declared.words.Move.TheVariants as moves
 use Rattle.example_pentominoes.proofs.rotations.Goals as goal
 
 -- each word has one normal form

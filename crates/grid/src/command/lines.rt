@@ -2,9 +2,7 @@
 //!
 //! A refusal is decided before anything is allocated.
 ghost use Rattle.std.specs.Prelude.{◌≡◌, ◌<◌, IfOk};
-ghost use Rattle.grid_base.specs.Table.{row, row_count};
-ghost use Rattle.grid_base.specs.Gather.{items_of_each};
-ghost use Rattle.grid_base.specs.Clones.{ClonesAreEqual};
+ghost use Rattle.grid_base.specs.Prelude.{row, row_count, items_of_each, ClonesAreEqual};
 ghost use Rattle.grid_commands.specs.Command.{read, insert_at, insert_all};
 ghost use Rattle.grid_commands.specs.LineEdit.{edit_value, pad_edit};
 ghost use Rattle.grid_commands.specs.declared.command.Axis.TheVariants.{Row, Col};

@@ -1,8 +1,6 @@
 //! The step of a grid: one command.
 ghost use Rattle.std.specs.Prelude.{◌≡◌, ◌+◌, ◌≤◌, OnOk, OnErr, IfOk, IsTrue, nat_lt};
-ghost use Rattle.grid_base.specs.Table.{row_count, col_count};
-ghost use Rattle.grid_base.specs.Symmetry.{act, order_after, half};
-ghost use Rattle.grid_base.specs.Clones.{ClonesAreEqual};
+ghost use Rattle.grid_base.specs.Prelude.{row_count, col_count, act, order_after, half, ClonesAreEqual};
 ghost use Rattle.grid_base.specs.declared.words.Symmetry.{Symmetry};
 ghost use Rattle.grid_commands.specs.Command.{command_value, get, set_cell, swap_cells, fill, apply};
 ghost use Rattle.grid_commands.specs.Reply.{reply_value};

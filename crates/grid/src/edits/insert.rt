@@ -1,8 +1,6 @@
 //! Rows and columns that are pushed and inserted, one or several.
 ghost use Rattle.std.specs.Prelude.{◌≡◌, ◌↔◌, ◌+◌, ◌*◌, ◌<◌, ◌≤◌, [], length, insert, All, OnOk, OnErr, IsErrOf};
-ghost use Rattle.grid_base.specs.Table.{row_count, col_count, IsTable};
-ghost use Rattle.grid_base.specs.Gather.{items_of_each};
-ghost use Rattle.grid_base.specs.Order.{table_of};
+ghost use Rattle.grid_base.specs.Prelude.{row_count, col_count, IsTable, items_of_each, table_of};
 ghost use Rattle.grid.specs.Edits.{FitsRow, FitsCol, insert_col, insert_rows, insert_cols};
 ghost use Rattle.grid.specs.EditFails.{LineFails, LinesFail};
 ghost use Rattle.grid.specs.Make.{ExceedsMax};

@@ -1,7 +1,6 @@
 //! Padding: rows and columns of defaults at the end or at the beginning, by counted passes.
 ghost use Rattle.std.specs.Prelude.{◌≡◌, ◌≤◌, OnOk, OnErr};
-ghost use Rattle.grid_base.specs.Table.{row_count, col_count};
-ghost use Rattle.grid_base.specs.Tally.{saturating_count};
+ghost use Rattle.grid_base.specs.Prelude.{row_count, col_count, saturating_count};
 ghost use Rattle.grid.specs.Edits.{PadsRows, PadsCols};
 ghost use Rattle.grid.specs.EditFails.{PaddingFails};
 ghost use Rattle.grid.specs.Shift.{rows_added_shift, cols_added_shift};

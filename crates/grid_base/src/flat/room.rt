@@ -1,6 +1,5 @@
 //! Groups that wait in a room on the stack while the cells of the lines move, each cell once. No tally counts it.
-ghost use Rattle.std.specs.Prelude.{◌≡◌, ◌+◌, ◌*◌, ◌<◌, ◌≤◌, ◌++◌, false, length, take, drop};
-ghost use Rattle.core.specs.List.{slice_range};
+ghost use Rattle.std.specs.Prelude.{◌≡◌, ◌+◌, ◌*◌, ◌<◌, ◌≤◌, ◌++◌, false, length, take, drop, slice_range};
 ghost use Rattle.core.specs.Mem.Slots.Ownership.{Filled, SameOutside};
 ghost use Rattle.core.specs.Mem.Slots.{slots_items, slots_filled, slots_len, SamePlaces, Refills, FitsRoom};
 ghost use Rattle.grid_base.specs.Groups.{Woven};

@@ -1,8 +1,6 @@
 //! Cells of a table: written, exchanged, and all made one value. Each function returns a new table.
 ghost use Rattle.std.specs.Prelude.{◌≡◌, IfOk};
-ghost use Rattle.grid_base.specs.Gather.{items_of_each};
-ghost use Rattle.grid_base.specs.Table.{with_cell, exchanged};
-ghost use Rattle.grid.specs.AllCells.{filled};
+ghost use Rattle.grid.specs.Prelude.{items_of_each, with_cell, exchanged, filled};
 
 use crate::plain::get;
 use crate::plain::rows::{blank_line, copied};

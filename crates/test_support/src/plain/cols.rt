@@ -1,9 +1,7 @@
 //! Columns of a table: put, taken and padded, row by row. Each function returns a new table.
 ghost use Rattle.std.specs.Prelude.{◌≡◌, ◌++◌, [], ◌∷◌, take, drop, map, filter, insert, IfOk};
-ghost use Rattle.grid_base.specs.Gather.{items_of_each};
+ghost use Rattle.grid.specs.Prelude.{items_of_each, insert_into_rows, insert_col, insert_cols, has_cells, expanded_cols, prepended_cols, range_effect, after_effect};
 ghost use Rattle.grid_commands.specs.declared.command.Axis.TheVariants.{Col};
-ghost use Rattle.grid.specs.Edits.{insert_into_rows, insert_col, insert_cols, has_cells, expanded_cols, prepended_cols};
-ghost use Rattle.grid.specs.Step.{range_effect, after_effect};
 
 use crate::plain::rows::{before, blank_line, copied, from, has_lines};
 use std::alloc::{AllocError, Global};

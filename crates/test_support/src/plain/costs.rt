@@ -1,12 +1,6 @@
 //! What commands cost in counted swaps, by formulas on the size of the table.
-ghost use Rattle.std.specs.Prelude.{◌≡◌, ◌*◌, nat_eq, if◌then◌else◌};
-ghost use Rattle.std.specs.Option.{is_none};
-ghost use Rattle.grid_base.specs.Order.{flipped};
-ghost use Rattle.grid_base.specs.Symmetry.{price};
-ghost use Rattle.grid_commands.specs.Command.{command_value};
-ghost use Rattle.grid_commands.specs.Refusal.{pad_refusal};
-ghost use Rattle.grid.specs.Cost.{step_shift};
-ghost use Rattle.grid.specs.Shift.{rows_added_shift, delete_rows_shift};
+ghost use Rattle.std.specs.Prelude.{◌≡◌, ◌*◌, nat_eq, if◌then◌else◌, is_none};
+ghost use Rattle.grid.specs.Prelude.{flipped, price, command_value, pad_refusal, step_shift, rows_added_shift, delete_rows_shift};
 
 use crate::plain::refusals::pad_refusal;
 use grid::{Command, Order, Symmetry};

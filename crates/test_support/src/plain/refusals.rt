@@ -1,9 +1,7 @@
 //! Why a command is refused, from its definition.
 ghost use Rattle.std.specs.Prelude.{◌≡◌, ◌+◌, ◌*◌, length, nat_eq, [], ◌∷◌, if◌then◌else◌};
+ghost use Rattle.grid.specs.Prelude.{items_of_each, command_value, exceeds, in_range, fitting_width, lines_refusal, pad_refusal, command_refusal};
 ghost use Rattle.std.specs.List.{list_any, list_all};
-ghost use Rattle.grid_base.specs.Gather.{items_of_each};
-ghost use Rattle.grid_commands.specs.Command.{command_value};
-ghost use Rattle.grid_commands.specs.Refusal.{exceeds, in_range, fitting_width, lines_refusal, pad_refusal, command_refusal};
 
 use grid::{Command, Refusal};
 

@@ -1,11 +1,7 @@
 //! Rows of a table: copied, put, taken and padded. Each function returns a new table.
-ghost use Rattle.std.specs.Prelude.{◌≡◌, ◌+◌, ◌++◌, [], ◌∷◌, take, drop, not, nat_lt, replicate, slice_get, IfOk, OnOk};
-ghost use Rattle.std.specs.Option.{option_map};
-ghost use Rattle.grid_base.specs.Gather.{items_of_each};
-ghost use Rattle.grid_base.specs.Table.{row_count};
+ghost use Rattle.std.specs.Prelude.{◌≡◌, ◌+◌, ◌++◌, [], ◌∷◌, take, drop, not, nat_lt, replicate, slice_get, IfOk, OnOk, option_map};
+ghost use Rattle.grid.specs.Prelude.{items_of_each, row_count, insert_rows, expanded_rows, prepended_rows, range_effect, after_effect};
 ghost use Rattle.grid_commands.specs.declared.command.Axis.TheVariants.{Row};
-ghost use Rattle.grid.specs.Edits.{insert_rows, expanded_rows, prepended_rows};
-ghost use Rattle.grid.specs.Step.{range_effect, after_effect};
 
 use std::alloc::{AllocError, Global};
 

@@ -1,8 +1,5 @@
-use Rattle.std.proofs.Common.{sym, subst, map, take, arith}
-use Rattle.std.specs.List.{AllZip}
-use Rattle.std.proofs.lemmas.List.{take_all}
-use Rattle.std.proofs.lemmas.List.Elements.{length_all_zip, same_from_all_zip}
-use Rattle.grid_base.specs.Table.{concat_rows}
+use Rattle.std.proofs.Common.{sym, subst, map, take, arith, take_all}
+use Rattle.grid_base.proofs.Common.{AllZip, length_all_zip, same_from_all_zip, concat_rows}
 use Rattle.grid.proofs.ConversionLemmas.{concat_rows_more, AllZip-concat_rows, CanCut-rows, rows_shape, rows_equal}
 use Rattle.grid.proofs.convert.join_clones.Goals as goal
 

@@ -1,6 +1,5 @@
 use Rattle.std.proofs.Common.{map, take}
-use Rattle.std.specs.List.{AllZip}
-use Rattle.grid_base.specs.Table.{concat_rows}
+use Rattle.grid_base.proofs.Common.{AllZip, concat_rows}
 use Rattle.grid.proofs.convert.join_clones.Given as goal
 
 abbrev pub invariant-loop-row : goal.invariant-loop-row

@@ -1,8 +1,5 @@
-use Rattle.std.proofs.Common.{◌≡◌, ◌∙◌, ap, sym, map, arith}
-use Rattle.std.proofs.lemmas.List.{map-id}
-use Rattle.std.proofs.lemmas.Iterator.Adapters.{YieldsList-from_vec}
-use Rattle.std.proofs.lemmas.Iterator.Consumers.{YieldsList-end}
-use Rattle.grid_base.specs.Table.{concat_rows}
+use Rattle.std.proofs.Common.{◌≡◌, ◌∙◌, ap, sym, map, arith, map-id}
+use Rattle.grid_base.proofs.Common.{YieldsList-from_vec, YieldsList-end, concat_rows}
 use Rattle.grid.proofs.convert.join_rows.Goals as goal
 
 pub returns : goal.returns

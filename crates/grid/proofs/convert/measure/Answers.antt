@@ -1,7 +1,5 @@
 use Rattle.std.proofs.Common.{ℕ, ◌≡◌, ◌*◌, ◌^◌, ◌<◌, ◌≤◌, ◌∙◌, ap, sym, length, map, arith, below_more, ⊎_elim}
-use Rattle.std.proofs.lemmas.Bool.{cases_lt}
-use Rattle.std.proofs.lemmas.List.{length-map}
-use Rattle.grid_base.specs.Table.{row_count, col_count, concat_rows}
+use Rattle.grid_base.proofs.Common.{cases_lt, length-map, row_count, col_count, concat_rows}
 use Rattle.grid.specs.Conversion.{AreEven}
 use Rattle.grid.proofs.ConversionLemmas.{row-map, length-even}
 use Rattle.grid.proofs.convert.measure.Goals as goal

@@ -1,6 +1,4 @@
-use Rattle.std.proofs.Common.{◌≡◌, ◌+◌, ◌-◌, ◌*◌, ap, arith}
-use Rattle.std.proofs.lemmas.Bool.{ne_eqb}
-use Rattle.std.proofs.Math.Nat.{mul-le-mul_right}
+use Rattle.std.proofs.Common.{◌≡◌, ◌+◌, ◌-◌, ◌*◌, ap, arith, ne_eqb, mul-le-mul_right}
 use Rattle.grid.proofs.edits.row_groups.Goals.{in-RowMajor, in-ColumnMajor}
 use Rattle.grid.proofs.edits.row_groups.Goals as goal
 

@@ -1,10 +1,8 @@
 use Rattle.std.proofs.Common.{◌∙◌, ◌≡◌, ap, refl, sym, subst, arith}
+use Rattle.grid_base.proofs.Common.{flipped, row_count, col_count, act}
 use Rattle.grid_base.specs.declared.words.Symmetry.TheVariants.{Transpose}
-use Rattle.grid_base.specs.Order.{flipped}
-use Rattle.grid_base.specs.Table.{row_count, col_count}
 use Rattle.grid_base.proofs.ActLemmas.{rows-act, cols-act}
 use Rattle.grid_base.proofs.ViewLemmas.{flipped-flipped}
-use Rattle.grid_base.specs.Symmetry.{act}
 use Rattle.grid.specs.Exchanged.{InRows, PartTaken, held}
 use Rattle.grid.proofs.ColEditLemmas.{across-across}
 use Rattle.grid.proofs.ExchangeLemmas.{part_across}

@@ -1,8 +1,7 @@
-use Rattle.std.proofs.Common.{◌≡◌, ◌∙◌, ap, sym, take}
-use Rattle.std.proofs.lemmas.List.{take_all}
-use Rattle.grid_base.specs.declared.words.Move.TheVariants as moves
+use Rattle.std.proofs.Common.{◌≡◌, ◌∙◌, ap, sym, take, take_all}
 use Rattle.grid_base.specs.Symmetry.{act, test_table}
 use Rattle.grid_base.proofs.GroupLemmas.{word_symmetry, word_symmetry-more, word-acts, alike_normal, then_is, product, IsTable-test}
+use Rattle.grid_base.specs.declared.words.Move.TheVariants as moves
 use Rattle.grid_base.proofs.words.reduce.Goals as goal
 
 -- at the end of the loop

@@ -1,7 +1,6 @@
 use Rattle.std.proofs.Common.{rules, ◌≡◌, ◌∙◌, ◌*◌, ap, length}
+use Rattle.grid.specs.Prelude.{row_count, col_count, storage}
 use Rattle.std.specs.List.{range_with_len}
-use Rattle.grid_base.specs.Table.{row_count, col_count}
-use Rattle.grid_base.specs.Order.{storage}
 use Rattle.grid_base.proofs.StorageLemmas.{length-storage}
 use Rattle.grid_callers.proofs.CountLemmas.{calls_after, numbers_from}
 use Rattle.grid_callers.proofs.chains.number_cells.Goals as goal

@@ -1,6 +1,5 @@
 -- Each call permutes the cells of its row.
-use Rattle.std.proofs.Common.{rules}
-use Rattle.std.specs.List.Sorted.{IsPermutation}
+use Rattle.std.proofs.Common.{rules, IsPermutation}
 use Rattle.grid_lines.proofs.RewriteLemmas.{rewritten_each}
 use Rattle.grid_callers.proofs.lines.sort_cells.Goals as goal
 

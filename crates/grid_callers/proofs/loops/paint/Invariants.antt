@@ -1,5 +1,5 @@
 use Rattle.std.proofs.Common.{◌≡◌}
-use Rattle.grid_base.specs.Table.{row_count, col_count}
+use Rattle.grid.specs.Prelude.{row_count, col_count}
 use Rattle.grid_callers.proofs.loops.paint.Given as goal
 
 abbrev pub invariant-loop-row : goal.invariant-loop-row

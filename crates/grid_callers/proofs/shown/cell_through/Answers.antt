@@ -1,9 +1,8 @@
 use Rattle.std.proofs.Common.{◌≡◌, ◌∙◌, ap, false, IsTrue, Result, Ok, Err, OnOk, OnErr}
-use Rattle.grid_base.specs.Table.{cell}
-use Rattle.grid_base.specs.Symmetry.{act}
-use Rattle.grid.specs.Step as steps
+use Rattle.grid.specs.Prelude.{cell, act}
 use Rattle.grid_deferred.specs.Deferred.{shown}
 use Rattle.grid_base.proofs.GroupLemmas.{act-identity}
+use Rattle.grid.specs.Step as steps
 use Rattle.grid_callers.proofs.shown.cell_through.Goals as goal
 
 -- what can't fail is done

@@ -1,7 +1,5 @@
 use Rattle.std.proofs.Common.{length, nat_eq, rules, tests, sym, ◌∙◌}
-use Rattle.std.proofs.lemmas.Iterator.{YieldsList-from_slice}
-use Rattle.std.proofs.lemmas.Iterator.Search.{all_from_yields_List}
-use Rattle.std.proofs.lemmas.List.Folds.{list_all-map}
+use Rattle.grid_base.proofs.Common.{YieldsList-from_slice, all_from_yields_List, list_all-map}
 use Rattle.grid_commands.proofs.refusals.all_of_length.Goals as goal
 
 pub returns : goal.returns

@@ -1,7 +1,5 @@
 use Rattle.std.proofs.Common.{◌≡◌, Bool, ◌||◌, List, [], ◌∷◌, map, length, nat_eq, rules, tests, refl, sym, ap, ◌∙◌}
-use Rattle.std.proofs.lemmas.Iterator.{YieldsList-from_slice}
-use Rattle.std.proofs.lemmas.Iterator.Search.{any_from_yields_List}
-use Rattle.std.specs.List.{list_any}
+use Rattle.grid_base.proofs.Common.{YieldsList-from_slice, any_from_yields_List, list_any}
 use Rattle.grid_commands.proofs.refusals.any_of_length.Goals as goal
 
 list_any-items : {X Y : Type 0} (p : Y → Bool) (h : X → Y) (xs : List X) → list_any p (map h xs) ≡ list_any (λ x. p (h x)) xs

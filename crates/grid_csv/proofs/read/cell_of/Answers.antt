@@ -1,10 +1,7 @@
 -- A field that is text, and one that is none.
-use Rattle.std.proofs.Common.{◌≡◌, true, false, Result, Ok, Err, Option, refl, IfOk, ℕ, List}
-use denote.Ref.{Bor}
-use Rattle.std.specs.Str.{is_utf8}
+use Rattle.std.proofs.Common.{◌≡◌, true, false, Result, Ok, Err, Option, refl, IfOk, ℕ, List, Bor}
+use Rattle.grid_base.proofs.Common.{is_utf8, false_from_ne_true, IsUtf8-from_is_utf8, is_utf8-from_IsUtf8}
 use Rattle.std.specs.declared.alloc.AllocError.{AllocError}
-use Rattle.std.proofs.lemmas.Bool.{false_from_ne_true}
-use Rattle.std.proofs.lemmas.Str.{IsUtf8-from_is_utf8, is_utf8-from_IsUtf8}
 use Rattle.grid_csv.specs.Reading.{AnswersField}
 use Rattle.grid_csv.proofs.read.cell_of.Goals as goal
 

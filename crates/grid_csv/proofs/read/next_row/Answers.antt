@@ -1,7 +1,5 @@
 -- The record that was found is the first of those that were left.
-use Rattle.std.proofs.Common.{◌≡◌, [], Bool, true, false, Some, List, ℕ}
-use Rattle.std.specs.Bool.{MatchBool}
-use denote.Ref.{Bor}
+use Rattle.std.proofs.Common.{◌≡◌, [], Bool, true, false, Some, List, ℕ, MatchBool, Bor}
 use Rattle.csv.specs.Reading.{ReadRecord, is_flexible, took_first}
 use Rattle.csv.specs.declared.reader.Reader.{Reader}
 use Rattle.grid_csv.specs.Left.{HasLeft, Took}

@@ -1,7 +1,5 @@
 -- The record of all names.
-use Rattle.std.proofs.Common.{◌≡◌, ◌∙◌, ◌<◌, ◌≤◌, IfOk, rules, ℕ, List, [], Vec, Global, ap, length, map, subst, take, arith}
-use Rattle.std.specs.String.{string_bytes}
-use Rattle.std.proofs.lemmas.List.{take_all}
+use Rattle.std.proofs.Common.{◌≡◌, ◌∙◌, ◌<◌, ◌≤◌, IfOk, rules, ℕ, List, [], Vec, Global, ap, length, map, subst, take, arith, string_bytes, take_all}
 use Rattle.std.specs.declared.string.String.{String}
 use Rattle.csv.specs.Writing.{default_writer, row_text}
 use Rattle.csv.specs.declared.writer.Writer.{Writer}

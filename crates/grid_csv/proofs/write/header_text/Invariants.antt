@@ -1,6 +1,5 @@
 -- The names so far.
-use Rattle.std.proofs.Common.{◌≡◌, [], map, take}
-use Rattle.std.specs.String.{string_bytes}
+use Rattle.std.proofs.Common.{◌≡◌, [], map, take, string_bytes}
 use Rattle.csv.specs.Records.{fields_of, partial_of}
 use Rattle.grid_csv.proofs.write.header_text.Given as goal
 

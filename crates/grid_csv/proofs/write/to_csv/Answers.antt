@@ -1,7 +1,6 @@
 -- One record more.
-use Rattle.std.proofs.Common.{ap, ◌∙◌, ◌≡◌, ◌∙◌, [], subst}
+use Rattle.std.proofs.Common.{ap, ◌∙◌, ◌≡◌, [], subst, string_bytes}
 use Rattle.std.specs.List.{AllZip}
-use Rattle.std.specs.String.{string_bytes}
 use Rattle.grid_csv.specs.Left.{HasWritten}
 use Rattle.grid_csv.specs.Writing.{AnswersCell, IsCsv, sheet_text}
 use Rattle.grid_csv.proofs.TextLemmas.{sheet_utf8}

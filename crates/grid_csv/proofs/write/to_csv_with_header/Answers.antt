@@ -1,5 +1,4 @@
-use Rattle.std.proofs.Common.{[], ◌∙◌, ◌++◌, ap, map}
-use Rattle.std.specs.String.{string_bytes}
+use Rattle.std.proofs.Common.{[], ◌∙◌, ◌++◌, ap, map, string_bytes}
 use Rattle.grid_csv.specs.Writing.{sheet_text, below_names}
 use Rattle.grid_csv.proofs.WriteLemmas.{below_joined}
 use Rattle.grid_csv.proofs.write.to_csv_with_header.Goals as goal

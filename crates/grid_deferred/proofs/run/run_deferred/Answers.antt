@@ -1,16 +1,9 @@
-use Rattle.std.proofs.Common.{◌≡◌, ◌<◌, suc, subst, List, ◌++◌, ◌∷◌, [], map, length, rules, Result, Ok, Err, OnOk, OnErr, true, false, refl, inl, sym, ◌∙◌, ap, arith, length-append, append_assoc}
-use Rattle.std.proofs.lemmas.List.{map-append, append-nil, nil_from_length}
-use Rattle.std.specs.Result.{is_err}
-use Rattle.std.specs.Vec.Iter.{into_iter_items}
+use Rattle.std.proofs.Common.{◌≡◌, ◌<◌, suc, subst, List, ◌++◌, ◌∷◌, [], map, length, rules, Result, Ok, Err, OnOk, OnErr, true, false, refl, inl, sym, ◌∙◌, ap, arith, length-append, append_assoc, append-nil, is_err, take}
+use Rattle.grid_base.proofs.Common.{map-append, nil_from_length, into_iter_items, GridValue, Counts}
+use Rattle.grid.specs.Prelude.{CommandValue, command_value, reply_value, MayStop}
 use Rattle.grid_base.proofs.GroupLemmas.{act-identity}
-use Rattle.std.specs.Prelude.{take}
-use Rattle.grid_base.specs.GridValue.{GridValue}
-use Rattle.grid_base.specs.Tally.{Counts}
 use Rattle.grid_commands.specs.declared.command.RunStopped.{RunStopped}
-use Rattle.grid_commands.specs.Command.{CommandValue, command_value}
-use Rattle.grid_commands.specs.Reply.{reply_value}
 use Rattle.grid.proofs.RunLemmas.{take_values, get_value, some_values, may_stop}
-use Rattle.grid.specs.Run.{MayStop}
 use Rattle.grid_deferred.specs.Deferred.{base, pending, shown}
 use Rattle.grid_deferred.specs.Run.{RanDeferred, DeferredRunGives}
 use Rattle.grid_deferred.proofs.RunLemmas.{going_none, going_more, still_going, settled, ran_none}

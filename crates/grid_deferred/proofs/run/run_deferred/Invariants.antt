@@ -1,8 +1,6 @@
-use Rattle.std.proofs.Common.{◌≡◌, ◌++◌, ◌≤◌, length, map, vec_len}
-use Rattle.std.specs.Vec.{vec_capacity}
+use Rattle.std.proofs.Common.{◌≡◌, ◌++◌, ◌≤◌, length, map, vec_len, vec_capacity}
+use Rattle.grid.specs.Prelude.{command_value, reply_value}
 use Rattle.std.specs.Vec.Iter.{into_iter_items}
-use Rattle.grid_commands.specs.Command.{command_value}
-use Rattle.grid_commands.specs.Reply.{reply_value}
 use Rattle.grid_deferred.specs.Deferred.{base, lender, pending}
 use Rattle.grid_deferred.proofs.RunLemmas.{Going}
 use Rattle.grid_deferred.proofs.run.run_deferred.Given as goal

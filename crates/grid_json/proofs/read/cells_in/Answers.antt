@@ -1,5 +1,4 @@
-use Rattle.std.proofs.Common.{rules, ◌≡◌, suc, ◌++◌, ◌∷◌, ◌<◌, [], length, get_or, drop, sym, ap, ◌∙◌, add-one, drop-cons}
-use Rattle.std.specs.Prelude.{Some}
+use Rattle.std.proofs.Common.{rules, ◌≡◌, suc, ◌++◌, ◌∷◌, ◌<◌, [], length, get_or, drop, sym, ap, ◌∙◌, add-one, drop-cons, Some}
 use Rattle.serde_json.specs.View.{view}
 use Rattle.grid_json.proofs.ReadLemmas.{next_cell}
 use Rattle.grid_json.proofs.read.cells_in.Goals as goal

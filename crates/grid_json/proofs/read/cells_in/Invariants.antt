@@ -1,5 +1,4 @@
-use Rattle.std.proofs.Common.{◌≡◌, ◌++◌, map, drop}
-use Rattle.std.specs.Prelude.{Ok}
+use Rattle.std.proofs.Common.{◌≡◌, ◌++◌, map, drop, Ok}
 use Rattle.serde_json.specs.View.{view, items_of, items_view}
 use Rattle.grid_json.specs.Reading.{and_then, cells_from}
 use Rattle.grid_json.proofs.read.cells_in.Given as goal

@@ -1,14 +1,11 @@
 use Rattle.std.proofs.Common.{◌∙◌, ap, refl, sym, subst}
+use Rattle.grid_base.proofs.Common.{flipped, act, IsTable, on_ok_weaker, on_err_weaker}
 use Rattle.grid_base.specs.declared.words.Symmetry.TheVariants.{Transpose}
-use Rattle.grid_base.specs.Order.{flipped}
-use Rattle.grid_base.specs.Symmetry.{act}
 use Rattle.grid_base.proofs.ActLemmas.{rows-act}
-use Rattle.grid_base.specs.Table.{IsTable}
 use Rattle.grid_base.proofs.ViewLemmas.{same_grid_value, flipped-flipped}
 use Rattle.grid.specs.Edits.{insert_col}
 use Rattle.grid.proofs.TransposedEditLemmas.{fits_across, col_inserted, twice_across}
 use Rattle.grid_laws.proofs.grids.insert_col_or_row_across.Goals as goal
-use Rattle.std.proofs.lemmas.Result.{on_ok_weaker, on_err_weaker}
 
 pub insert_row-as_row-requires-clause-nonempty : goal.insert_row-as_row-requires-clause-nonempty
 insert_row-as_row-requires-clause-nonempty g c = rw c.requires.same_line c.requires.nonempty

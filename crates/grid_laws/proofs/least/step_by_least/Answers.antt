@@ -1,6 +1,5 @@
 use Rattle.std.proofs.Common.{refl}
-use Rattle.grid_commands.specs.Command.{command_value}
-use Rattle.grid.specs.Cost.{command_symmetry}
+use Rattle.grid.specs.Prelude.{command_value, command_symmetry}
 use Rattle.grid_laws.proofs.CountLemmas.{grew_by_price, grew_by_shift, on_ok3}
 use Rattle.grid_laws.proofs.EditLemmas.{shift_is_least}
 use Rattle.grid_laws.proofs.ImageLemmas.{price_is_least}

@@ -1,14 +1,7 @@
 -- Each key of a number is asked at its row.
-use Rattle.std.proofs.Common.{rules, ◌≡◌, ◌∙◌, Bool, List, [], ◌∷◌, map, length, refl, ap, subst}
-use Rattle.std.proofs.lemmas.Fn.{answers_by}
-use Rattle.std.proofs.lemmas.List.Sorted.{ranks_by}
-use Rattle.std.specs.Cmp.{IsStrictWeakOrder}
-use Rattle.std.specs.Fn.{AlwaysReturns}
-use Rattle.std.specs.List.Sorted.{IsSortedBy, IsStableBy}
-use Rattle.std.specs.Ordering.{is_lt}
-use denote.Param.Always.{always_mut, mut_next, mut_by}
+use Rattle.std.proofs.Common.{rules, ◌≡◌, ◌∙◌, Bool, List, [], ◌∷◌, map, length, refl, ap, subst, IsSortedBy, is_lt}
+use Rattle.grid_base.proofs.Common.{answers_by, ranks_by, IsStrictWeakOrder, AlwaysReturns, IsStableBy, always_mut, mut_next, mut_by, row}
 use denote.Param.Members.{Called}
-use Rattle.grid_base.specs.Table.{row}
 use Rattle.grid_lines.proofs.OrderLemmas.{both, numbered_all, less_by, sorted_values, stable_values}
 use Rattle.grid_lines.proofs.numbers.numbers_by_key.Goals as goal
 

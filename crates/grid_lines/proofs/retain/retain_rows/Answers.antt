@@ -1,12 +1,11 @@
 -- One row more: it is kept, where it is or further in front, or it isn't.
 use Rattle.std.proofs.Common.{◌≡◌, ◌<◌, ◌≤◌, [], ◌∷◌, ◌∙◌, length, take, get_or, arith, rules}
-use Rattle.std.proofs.lemmas.List.{get_or_default}
+use Rattle.grid_base.proofs.Common.{get_or_default, filter_same}
 use Rattle.grid_base.proofs.StrideLemmas.{lines_in_order}
-use Rattle.std.proofs.lemmas.Fn.{filter_same}
 use Rattle.grid_lines.proofs.RetainLemmas.{filtered_by, retaining_no, retaining_here, retaining_swap, retaining_all, kept_only}
 use Rattle.grid_lines.proofs.retain.retain_rows.Given.{F-step}
-use Rattle.grid_lines.proofs.retain.retain_rows.Goals as goal
 use Rattle.grid_lines.proofs.retain.retain_rows.Goals.{then-f, then-kept-row, else-kept-row, else-f}
+use Rattle.grid_lines.proofs.retain.retain_rows.Goals as goal
 
 pub loop-row-preserved : goal.loop-row-preserved
 loop-row-preserved g c =

@@ -1,9 +1,7 @@
 -- One row more, and in the end all.
 use Rattle.std.proofs.Common.{◌≡◌, ◌∙◌, ◌∷◌, ◌<◌, [], length, refl, sym, ap, subst, arith}
-use borrow.Rule.Slice.PartMut.{mid_of, put_mid}
+use Rattle.grid_base.proofs.Common.{mid_of, put_mid, HoldsSize, table_of}
 use Rattle.grid_base.specs.declared.order.Order.TheVariants.{ColumnMajor}
-use Rattle.grid_base.specs.GridValue.{HoldsSize}
-use Rattle.grid_base.specs.Order.{table_of}
 use Rattle.grid_base.proofs.ViewLemmas.{view-rows}
 use Rattle.grid_lines.specs.Brought.{brought, taken_back}
 use Rattle.grid_lines.proofs.BroughtLemmas.{row_across, across_wide, across_long, across_rewritten}

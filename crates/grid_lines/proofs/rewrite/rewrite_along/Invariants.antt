@@ -1,9 +1,7 @@
 -- The rows before this one are rewritten, and those ahead are as they were.
 use Rattle.std.proofs.Common.{length}
-use Rattle.std.specs.Fn.{CalledAtMut}
+use Rattle.grid_base.proofs.Common.{CalledAtMut, HoldsSize, table_of}
 use Rattle.grid_base.specs.declared.order.Order.TheVariants.{RowMajor}
-use Rattle.grid_base.specs.GridValue.{HoldsSize}
-use Rattle.grid_base.specs.Order.{table_of}
 use Rattle.grid_lines.proofs.RewriteLemmas.{Rewriting}
 use Rattle.grid_lines.proofs.rewrite.rewrite_along.Given as goal
 

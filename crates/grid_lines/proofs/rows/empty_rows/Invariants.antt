@@ -1,6 +1,5 @@
 -- The vectors so far are empty, and have room.
-use Rattle.std.proofs.Common.{◌≡◌, ◌≤◌, vec_len, vec_capacity}
-use Rattle.std.specs.List.{All}
+use Rattle.std.proofs.Common.{◌≡◌, ◌≤◌, vec_len, vec_capacity, All}
 use Rattle.grid_lines.specs.Copied.{IsRoomFor}
 use Rattle.grid_lines.proofs.rows.empty_rows.Given as goal
 

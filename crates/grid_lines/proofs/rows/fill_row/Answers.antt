@@ -1,10 +1,9 @@
 -- One more cell has moved.
-use Rattle.std.proofs.Common.{rules, ◌≡◌, length, ap, arith}
+use Rattle.std.proofs.Common.{rules, ◌≡◌, length, ap, arith, length-take}
 use Rattle.std.specs.Vec.Iter.{into_iter_items}
-use Rattle.std.proofs.lemmas.List.{length-take}
 use Rattle.grid_lines.proofs.CopyLemmas.{moved_more, moved_none}
-use Rattle.grid_lines.proofs.rows.fill_row.Goals as goal
 use Rattle.grid_lines.proofs.rows.fill_row.Goals.{in-Some, in_default}
+use Rattle.grid_lines.proofs.rows.fill_row.Goals as goal
 
 pub push_reserved-requires : goal.push_reserved-requires
 push_reserved-requires g c = omega (arith, ap length c.loop.invariant.row, length-take c.loop.counter (into_iter_items c.args.cells.now))

@@ -1,7 +1,6 @@
 -- The cells so far are cloned.
 use Rattle.std.proofs.Common.{◌≡◌, ◌≤◌, ◌+◌, length, take, drop, vec_len, vec_capacity}
-use Rattle.std.specs.List.{AllZip}
-use Rattle.grid_base.specs.Table.{row}
+use Rattle.grid_base.proofs.Common.{AllZip, row}
 use Rattle.grid_lines.proofs.rows.to_row.Given as goal
 
 abbrev pub invariant-loop-cell : goal.invariant-loop-cell

@@ -1,9 +1,6 @@
 -- One more row, and in the end all.
 use Rattle.std.proofs.Common.{rules, ◌<◌, ◌∷◌, [], length, map, arith}
-use Rattle.std.proofs.lemmas.List.{map-append}
-use Rattle.std.proofs.lemmas.Option.{slice_get-get_or}
-use Rattle.std.specs.List.{AllZip}
-use Rattle.grid_base.specs.Table.{row}
+use Rattle.grid_base.proofs.Common.{map-append, slice_get-get_or, AllZip, row}
 use Rattle.grid_base.proofs.ClosureLemmas.{answers_more}
 use Rattle.grid_lines.proofs.CopyLemmas.{cloned_all}
 use Rattle.grid_lines.proofs.rows.to_rows.Goals as goal

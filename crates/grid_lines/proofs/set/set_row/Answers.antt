@@ -1,9 +1,8 @@
 -- One more cell, and in the end all.
 use Rattle.std.proofs.Common.{◌≡◌, ◌∙◌, [], length, refl, sym, arith}
-use Rattle.grid_base.specs.Table.{row}
+use Rattle.grid_base.proofs.Common.{row, set-get_or}
 use Rattle.grid_lines.proofs.SetLemmas.{row_written, all_written}
 use Rattle.grid_lines.proofs.set.set_row.Goals as goal
-use Rattle.std.proofs.lemmas.List.{set-get_or}
 
 pub loop-col-init : goal.loop-col-init
 loop-col-init g c = record {

@@ -1,8 +1,5 @@
-use Rattle.std.proofs.Common.{◌≡◌, ◌+◌, ◌*◌, ◌<◌, ◌≤◌, false, take, length, vec_len}
-use Rattle.std.specs.Vec.{vec_capacity}
-use Rattle.std.specs.List.{AllZip}
-use Rattle.grid_base.specs.Layout.{lines_of}
-use Rattle.grid_base.specs.ClosureCalls.{ReturnsAtCell}
+use Rattle.std.proofs.Common.{◌≡◌, ◌+◌, ◌*◌, ◌<◌, ◌≤◌, false, take, length, vec_len, vec_capacity}
+use Rattle.grid_base.proofs.Common.{AllZip, lines_of, ReturnsAtCell}
 use Rattle.grid_near.specs.Marks.{MarksBeside, near, table, placed_cells, AnswersCounted}
 use Rattle.grid_near.proofs.counts.map_counts.Given as goal
 

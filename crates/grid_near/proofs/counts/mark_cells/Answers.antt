@@ -1,7 +1,5 @@
-use Rattle.std.proofs.Common.{◌≡◌, ◌+◌, ◌<◌, ℕ, Some, refl, ap, length, arith}
-use Rattle.std.specs.List.{slice_get}
-use Rattle.std.proofs.lemmas.Option.{slice_get_read}
-use Rattle.grid_base.specs.Layout.{lines_of}
+use Rattle.std.proofs.Common.{◌≡◌, ◌+◌, ◌<◌, ℕ, Some, refl, ap, length, arith, slice_get}
+use Rattle.grid_base.proofs.Common.{slice_get_read, lines_of}
 use Rattle.grid_near.proofs.MarkLemmas.{marked_more}
 use Rattle.grid_near.proofs.counts.mark_cells.Goals as goal
 

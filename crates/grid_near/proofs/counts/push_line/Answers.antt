@@ -1,8 +1,5 @@
-use Rattle.std.proofs.Common.{rules}
-use Rattle.std.proofs.Common.{◌≡◌, ◌*◌, ◌+◌, ℕ, arith, ap, refl, sym, ◌∙◌, vec_len}
-use Rattle.std.proofs.lemmas.Option.{slice_get_within, get_or_from_slice_get}
-use Rattle.grid_base.specs.Layout.{lines_of}
-use Rattle.grid_base.specs.Positions.{along}
+use Rattle.std.proofs.Common.{rules, ◌≡◌, ◌*◌, ◌+◌, ℕ, arith, ap, refl, sym, ◌∙◌, vec_len}
+use Rattle.grid_base.proofs.Common.{slice_get_within, get_or_from_slice_get, lines_of, along}
 use Rattle.grid_base.proofs.ClosureLemmas.{answers_more}
 use Rattle.grid_near.specs.Marks.{placed_cells}
 use Rattle.grid_near.proofs.MarkLemmas.{within_board, cell_placed, board_counted}

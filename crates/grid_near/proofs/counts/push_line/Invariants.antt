@@ -1,7 +1,5 @@
-use Rattle.std.proofs.Common.{◌≡◌, ◌+◌, take, vec_len}
-use Rattle.std.specs.Vec.{vec_capacity}
-use Rattle.std.specs.List.{AllZip}
-use Rattle.grid_base.specs.ClosureCalls.{ReturnsAtCell}
+use Rattle.std.proofs.Common.{◌≡◌, ◌+◌, take, vec_len, vec_capacity}
+use Rattle.grid_base.proofs.Common.{AllZip, ReturnsAtCell}
 use Rattle.grid_near.specs.Marks.{near, table, placed_cells, AnswersCounted}
 use Rattle.grid_near.proofs.counts.push_line.Given as goal
 

@@ -1,7 +1,4 @@
-use Rattle.std.proofs.Common.{◌≡◌, ◌-◌, ◌++◌, ◌∷◌, [], Some, length, refl, sym, ap, subst, ◌∙◌, arith, rules}
-use Rattle.std.specs.BinaryHeap.{heap_items}
-use Rattle.std.specs.List.{slice_get}
-use Rattle.std.proofs.lemmas.List.{length-append}
+use Rattle.std.proofs.Common.{◌≡◌, ◌-◌, ◌++◌, ◌∷◌, [], Some, length, refl, sym, ap, subst, ◌∙◌, arith, rules, heap_items, slice_get, length-append}
 use Rattle.grid_paths.specs.Search.{HaveOneSize}
 use Rattle.grid_paths.proofs.StepLemmas.{at_end}
 use Rattle.grid_paths.specs.declared.cheap_path.Settled.{Settled}
@@ -9,8 +6,8 @@ use Rattle.grid_paths.specs.Cheapest.{Holds, IsCheapestPath}
 use Rattle.grid_paths.specs.Trail.{IsTrail}
 use Rattle.grid_paths.proofs.CheapLemmas.{IsCostSearch-settle, its_bound, its_number, few_left, smaller, settled_before, settled_fewer, settled_there, IsLeastCost-first, no_way}
 use Rattle.grid_paths.proofs.TrailLemmas.{IsTrail-start, none_settled, IsTrail-push, IsKept, IsKept-stale, IsKept-push, unlike}
-use Rattle.grid_paths.proofs.cheap_path.path_over.Goals as goal
 use Rattle.grid_paths.proofs.cheap_path.path_over.Goals.{in-Some-cost_of+in_ok-push+else-eq, in_default-cost_of}
+use Rattle.grid_paths.proofs.cheap_path.path_over.Goals as goal
 
 pub settle-requires-clause-small : goal.settle-requires-clause-small
 settle-requires-clause-small g c =

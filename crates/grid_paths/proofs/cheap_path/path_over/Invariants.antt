@@ -1,7 +1,5 @@
-use Rattle.std.proofs.Common.{◌≡◌, ℕ, ◌+◌, ◌*◌, ◌-◌, Some, length}
-use Rattle.std.specs.List.{slice_get}
-use Rattle.std.specs.BinaryHeap.{IsHeap, heap_items}
-use Rattle.grid_base.specs.Table.{row_count, col_count}
+use Rattle.std.proofs.Common.{◌≡◌, ℕ, ◌+◌, ◌*◌, ◌-◌, Some, length, slice_get, heap_items}
+use Rattle.grid_base.proofs.Common.{IsHeap, row_count, col_count}
 use Rattle.grid_paths.specs.Search.{HaveOneSize, unreached}
 use Rattle.grid_paths.specs.Cheapest.{Holds}
 use Rattle.grid_paths.specs.Relaxing.{IsClosed, IsCostSearch, by_sum}

@@ -1,5 +1,4 @@
-use Rattle.std.proofs.Common.{◌≡◌, ℕ, ◌+◌, Some, refl, arith}
-use Rattle.std.specs.BinaryHeap.{heap_items}
+use Rattle.std.proofs.Common.{◌≡◌, ℕ, ◌+◌, Some, refl, arith, heap_items}
 use Rattle.grid_base.specs.Table.{with_cell, InRange}
 use Rattle.grid_paths.proofs.AlikeLemmas.{set_there}
 use Rattle.grid_paths.specs.Cheapest.{Holds}

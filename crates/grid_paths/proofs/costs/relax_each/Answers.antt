@@ -1,6 +1,4 @@
-use Rattle.std.proofs.Common.{◌≡◌, ◌<◌, Some, length, get_or, refl, ◌∙◌, arith}
-use Rattle.std.specs.BinaryHeap.{heap_items}
-use Rattle.std.specs.List.{slice_get}
+use Rattle.std.proofs.Common.{◌≡◌, ◌<◌, Some, length, get_or, refl, ◌∙◌, arith, heap_items, slice_get}
 use Rattle.std.proofs.lemmas.Option.{slice_get-get_or}
 use Rattle.grid_paths.proofs.RelaxLemmas.{RelaxesEach-start, RelaxesEach-next, RelaxesEach-end}
 use Rattle.grid_paths.proofs.costs.relax_each.Goals as goal

@@ -1,5 +1,4 @@
-use Rattle.std.proofs.Common.{◌≡◌, length, refl, ◌∙◌, arith}
-use Rattle.std.specs.BinaryHeap.{heap_items}
+use Rattle.std.proofs.Common.{◌≡◌, length, refl, ◌∙◌, arith, heap_items}
 use Rattle.grid_paths.specs.Search.{HaveOneSize}
 use Rattle.grid_paths.proofs.CheapLemmas.{IsCostSearch-settle, its_bound, few_left, smaller, HasLeastCosts-end}
 use Rattle.grid_paths.proofs.costs.search.Goals as goal

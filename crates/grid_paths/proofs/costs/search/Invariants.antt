@@ -1,6 +1,5 @@
-use Rattle.std.proofs.Common.{◌≡◌, ◌+◌, ◌*◌, ◌-◌, length}
-use Rattle.std.specs.BinaryHeap.{IsHeap, heap_items}
-use Rattle.grid_base.specs.Table.{row_count, col_count}
+use Rattle.std.proofs.Common.{◌≡◌, ◌+◌, ◌*◌, ◌-◌, length, heap_items}
+use Rattle.grid_base.proofs.Common.{IsHeap, row_count, col_count}
 use Rattle.grid_paths.specs.Search.{HaveOneSize, unreached}
 use Rattle.grid_paths.specs.Relaxing.{IsCostSearch, by_sum}
 use Rattle.grid_paths.proofs.costs.search.Given as goal

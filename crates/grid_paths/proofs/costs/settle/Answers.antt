@@ -1,5 +1,4 @@
-use Rattle.std.proofs.Common.{◌≡◌, ℕ, ◌<◌, None, refl, subst, arith, inl, inr}
-use Rattle.std.specs.BinaryHeap.{heap_items}
+use Rattle.std.proofs.Common.{◌≡◌, ℕ, ◌<◌, None, refl, subst, arith, inl, inr, heap_items}
 use Rattle.grid_base.specs.Table.{row_count, col_count, with_cell, InRange}
 use Rattle.grid_paths.specs.Walks.{IsStep}
 use Rattle.grid_paths.proofs.AlikeLemmas.{set_there}

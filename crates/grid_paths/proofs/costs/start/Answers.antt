@@ -1,5 +1,4 @@
-use Rattle.std.proofs.Common.{◌≡◌, Some, refl, sym, subst}
-use Rattle.std.specs.BinaryHeap.{heap_items}
+use Rattle.std.proofs.Common.{◌≡◌, Some, refl, sym, subst, heap_items}
 use Rattle.grid_base.specs.Table.{with_cell, InRange}
 use Rattle.grid_paths.proofs.AlikeLemmas.{set_there}
 use Rattle.grid_paths.specs.Relaxing.{IsCostSearch}

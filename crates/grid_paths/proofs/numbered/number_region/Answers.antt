@@ -1,13 +1,12 @@
 use Rattle.std.proofs.Common.{◌≡◌, ℕ, List, ap, ◌<◌, ◌≤◌, [], ◌∷◌, ◌++◌, Some, None, length, refl, sym, ◌∙◌, subst, arith}
-use Rattle.std.proofs.lemmas.Option.{slice_get_read}
-use Rattle.grid_base.specs.Table.{row_count, col_count, with_cell, InRange}
+use Rattle.grid_base.proofs.Common.{slice_get_read, row_count, col_count, with_cell, InRange}
 use Rattle.grid_paths.specs.Walks.{alike}
 use Rattle.grid_paths.specs.Search.{IsAt, unreached}
 use Rattle.grid_paths.proofs.StepLemmas.{Grew, grown, unreached-with_cell}
 use Rattle.grid_paths.proofs.AlikeLemmas.{set_there}
 use Rattle.grid_paths.proofs.NumberLemmas.{IsNumbering-start, IsNumbering-round, IsNumbered-end}
-use Rattle.grid_paths.proofs.numbered.number_region.Goals as goal
 use Rattle.grid_base.proofs.TableLemmas.{cell_in_range}
+use Rattle.grid_paths.proofs.numbered.number_region.Goals as goal
 
 pub loop-next-init : goal.loop-next-init
 loop-next-init g c =

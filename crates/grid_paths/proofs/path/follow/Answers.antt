@@ -1,10 +1,9 @@
-use Rattle.std.proofs.Common.{◌≡◌, suc, ◌+◌, ◌-◌, [], ◌∷◌, ◌++◌, Some, length, sym, ◌∙◌, ap, subst, arith}
-use Rattle.std.proofs.lemmas.List.{length-append}
+use Rattle.std.proofs.Common.{◌≡◌, suc, ◌+◌, ◌-◌, [], ◌∷◌, ◌++◌, Some, length, sym, ◌∙◌, ap, subst, arith, length-append}
 use Rattle.grid_paths.specs.Walks.{IsPath}
 use Rattle.grid_paths.specs.Search.{IsMarked}
 use Rattle.grid_paths.proofs.PathLemmas.{one_less, open_end, zero_at, IsPath-one, IsPath-push}
-use Rattle.grid_paths.proofs.path.follow.Goals as goal
 use Rattle.grid_base.proofs.TableLemmas.{cell_in_range}
+use Rattle.grid_paths.proofs.path.follow.Goals as goal
 
 pub loop-left-init : goal.loop-left-init
 loop-left-init g c =

@@ -1,7 +1,5 @@
 use Rattle.std.proofs.Common.{◌≡◌, ◌<◌, ◌≤◌, length, refl, ◌∙◌, arith}
-use Rattle.std.proofs.lemmas.List.{length-map}
-use Rattle.std.proofs.lemmas.Option.{slice_get_read}
-use Rattle.grid_base.specs.Table.{row_count, col_count}
+use Rattle.grid_base.proofs.Common.{length-map, slice_get_read, row_count, col_count}
 use Rattle.grid_paths.specs.Taken.{places}
 use Rattle.grid_paths.proofs.AroundLemmas.{Contains-from_get}
 use Rattle.grid_paths.proofs.TakenLemmas.{set_is}

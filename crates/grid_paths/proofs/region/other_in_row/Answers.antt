@@ -1,6 +1,5 @@
 use Rattle.std.proofs.Common.{◌≡◌, ◌+◌, ◌<◌, ◌≤◌, true, Some, sym, ◌∙◌, subst, arith, ⊎_elim}
-use Rattle.std.proofs.lemmas.Bool.{cases_lt}
-use Rattle.grid_base.specs.Table.{cell, col_count}
+use Rattle.grid_base.proofs.Common.{cases_lt, cell, col_count}
 use Rattle.grid_paths.specs.Walks.{IsOpen, alike}
 use Rattle.grid_paths.proofs.AlikeLemmas.{open_alike}
 use Rattle.grid_paths.proofs.RegionLemmas.{outward_at, one_outward}

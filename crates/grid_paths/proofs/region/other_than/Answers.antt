@@ -1,6 +1,5 @@
 use Rattle.std.proofs.Common.{◌≡◌, ◌+◌, ◌<◌, ◌≤◌, sym, subst, arith, ⊎_elim}
-use Rattle.std.proofs.lemmas.Bool.{cases_lt}
-use Rattle.grid_base.specs.Table.{row_count}
+use Rattle.grid_base.proofs.Common.{cases_lt, row_count}
 use Rattle.grid_paths.specs.Walks.{IsOpen, alike}
 use Rattle.grid_paths.proofs.RegionLemmas.{outward_at, one_outward}
 use Rattle.grid_paths.proofs.region.other_than.Goals as goal

@@ -1,8 +1,5 @@
-use Rattle.std.proofs.Common.{◌≡◌, true, ℕ, ◌<◌, ◌≤◌, ◌+◌, ◌*◌, Option, Some, None, length, get_or, [], ◌∷◌, ◌++◌, Contains, refl, sym, ◌∙◌, ap, subst, arith}
-use Rattle.std.specs.List.{slice_get}
-use Rattle.std.proofs.lemmas.List.{length-append}
-use Rattle.std.proofs.lemmas.Option.{slice_get_read, slice_get-get_or}
-use Rattle.grid_base.specs.Table.{row_count, col_count, cell}
+use Rattle.std.proofs.Common.{◌≡◌, true, ℕ, ◌<◌, ◌≤◌, ◌+◌, ◌*◌, Option, Some, None, length, get_or, [], ◌∷◌, ◌++◌, Contains, refl, sym, ◌∙◌, ap, subst, arith, slice_get, length-append}
+use Rattle.grid_base.proofs.Common.{slice_get_read, slice_get-get_or, row_count, col_count, cell}
 use Rattle.grid_base.proofs.StorageLemmas.{length-storage}
 use Rattle.grid_paths.specs.Walks.{IsOpen, HasLeastFrom}
 use Rattle.grid_paths.specs.Search.{IsMarked, IsAt, unreached}
@@ -10,8 +7,8 @@ use Rattle.grid_paths.proofs.SearchLemmas.{IsSearch, HasLeastSteps-one, IsSettle
 use Rattle.grid_paths.proofs.QueueLemmas.{IsTrimmed-start, IsTrimmed-round, IsTrimmed-trim, mark_at, HasLeastFrom-trimmed, unreached_cells}
 use Rattle.grid_paths.proofs.StepLemmas.{none_at, none_marked, IsStarted, IsStarted-empty, IsStarted-reach, started_all, Spread-from_reaches}
 use Rattle.grid_paths.proofs.LeftLemmas.{IsLeft-start}
-use Rattle.grid_paths.proofs.search.search_from.Goals as goal
 use Rattle.grid_base.proofs.TableLemmas.{cell_in_range}
+use Rattle.grid_paths.proofs.search.search_from.Goals as goal
 
 pub loop-start-init : goal.loop-start-init
 loop-start-init g c =

@@ -1,12 +1,10 @@
-use Rattle.std.proofs.Common.{◌≡◌, ◌<◌, ◌≤◌, length, refl, ◌∙◌, ap, subst, arith, Contains, Some}
-use Rattle.std.specs.List.{slice_get}
-use Rattle.std.proofs.lemmas.Option.{slice_get_read}
-use Rattle.grid_base.specs.Table.{row_count, col_count}
+use Rattle.std.proofs.Common.{◌≡◌, ◌<◌, ◌≤◌, length, refl, ◌∙◌, ap, subst, arith, Contains, Some, slice_get}
+use Rattle.grid_base.proofs.Common.{slice_get_read, row_count, col_count}
 use Rattle.grid_paths.specs.Flood.{way_of}
 use Rattle.grid_paths.specs.Taken.{undone, TakesAll}
 use Rattle.grid_paths.proofs.FloodLemmas.{IsTaking-start, IsTaking-round, IsFlood-end, IsWritten-end}
-use Rattle.grid_paths.proofs.taken.take_region.Goals as goal
 use Rattle.grid_base.proofs.TableLemmas.{cell_in_range}
+use Rattle.grid_paths.proofs.taken.take_region.Goals as goal
 
 pub loop-next-init : goal.loop-next-init
 loop-next-init g c =

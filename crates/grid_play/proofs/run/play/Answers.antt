@@ -1,6 +1,5 @@
 -- A good script writes the lines of its replies and its rows, and a bad one fails as it was read.
-use Rattle.std.proofs.Common.{◌∙◌, map, refl, ap}
-use Rattle.std.specs.String.{string_bytes}
+use Rattle.std.proofs.Common.{◌∙◌, map, refl, ap, string_bytes}
 use Rattle.std.proofs.lemmas.Result.{err_from_is_err_and}
 use Rattle.grid_commands.specs.Reply.{reply_value}
 use Rattle.grid_play.specs.ScriptValue.{script_value}

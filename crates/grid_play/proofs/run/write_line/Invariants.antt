@@ -1,6 +1,5 @@
 -- The cells so far, each behind a space.
-use Rattle.std.proofs.Common.{◌≡◌, ◌++◌, take}
-use Rattle.std.specs.String.{string_bytes}
+use Rattle.std.proofs.Common.{◌≡◌, ◌++◌, take, string_bytes}
 use Rattle.grid_play.specs.Output.{line_text}
 use Rattle.grid_play.proofs.run.write_line.Given as goal
 

@@ -1,7 +1,5 @@
 -- The lines of the replies so far.
-use Rattle.std.proofs.Common.{◌≡◌, ◌++◌, take, map}
-use Rattle.std.specs.List.{flat_map}
-use Rattle.std.specs.String.{string_bytes}
+use Rattle.std.proofs.Common.{◌≡◌, ◌++◌, take, map, flat_map, string_bytes}
 use Rattle.grid_commands.specs.Reply.{reply_value}
 use Rattle.grid_play.specs.Output.{reply_line}
 use Rattle.grid_play.proofs.run.write_replies.Given as goal

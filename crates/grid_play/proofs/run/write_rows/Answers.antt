@@ -1,8 +1,6 @@
 -- The debug text of a table, and a line end.
-use Rattle.std.proofs.Common.{ℕ, List, subst}
-use Rattle.std.specs.Prelude.{Option, OnOk}
+use Rattle.std.proofs.Common.{ℕ, List, subst, Option, OnOk, string_bytes}
 use Rattle.std.specs.Fmt.{AppendsText}
-use Rattle.std.specs.String.{string_bytes}
 use Rattle.grid_play.proofs.OutputLemmas.{table_is}
 use Rattle.grid_play.proofs.run.write_rows.Goals as goal
 

@@ -1,6 +1,5 @@
 -- The cells so far, before those of the words that are left.
-use Rattle.std.proofs.Common.{◌≡◌, ◌++◌}
-use Rattle.std.specs.Option.{option_map}
+use Rattle.std.proofs.Common.{◌≡◌, ◌++◌, option_map}
 use Rattle.text_lines.specs.Lines.{words_of}
 use Rattle.grid_play.specs.Commands.{cells_of}
 use Rattle.grid_play.proofs.script.parse_cells.Given as goal

@@ -1,6 +1,5 @@
 -- One line more: a command, none, or the first that is bad.
-use Rattle.std.proofs.Common.{◌≡◌, ◌∙◌, [], ◌∷◌, map, inr, sym, ap, rules, append-nil}
-use Rattle.std.specs.Prelude.{Some, None, Err}
+use Rattle.std.proofs.Common.{◌≡◌, ◌∙◌, [], ◌∷◌, map, inr, sym, ap, rules, append-nil, Some, None, Err}
 use Rattle.grid_commands.specs.Command.{command_value}
 use Rattle.grid_play.specs.declared.fault.ScriptFault.TheVariants.{BadCommand}
 use Rattle.grid_play.specs.Script.{line_commands}

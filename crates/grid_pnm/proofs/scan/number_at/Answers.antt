@@ -1,6 +1,5 @@
 -- The digits are text, and the number that they write is read.
-use Rattle.std.proofs.Common.{◌≡◌, take, drop, rules, Some, None}
-use Rattle.std.specs.Str.{IsUtf8}
+use Rattle.std.proofs.Common.{◌≡◌, take, drop, rules, Some, None, IsUtf8}
 use Rattle.std.proofs.lemmas.Str.{IsUtf8-from_ascii}
 use Rattle.text_lines.specs.Numbers.{index_of}
 use Rattle.grid_pnm.specs.Scan.{number_at, digit_count}

@@ -1,7 +1,6 @@
 -- The samples of the cells so far, and room for those of the others.
-use Rattle.std.proofs.Common.{◌≡◌, ◌+◌, ◌-◌, ◌≤◌, ◌++◌, ℕ, List, map, take, length, vec_len}
+use Rattle.std.proofs.Common.{◌≡◌, ◌+◌, ◌-◌, ◌≤◌, ◌++◌, ℕ, List, map, take, length, vec_len, vec_capacity}
 use Rattle.std.specs.List.{AllZip}
-use Rattle.std.specs.Vec.{vec_capacity}
 use Rattle.grid_pnm.specs.Writing.{WritesBy, AnswersCell}
 use Rattle.grid_pnm.proofs.write.push_all.Given as goal
 

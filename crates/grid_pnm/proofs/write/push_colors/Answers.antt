@@ -1,8 +1,6 @@
 -- One cell more.
-use Rattle.std.proofs.Common.{◌≡◌, ◌++◌, ◌∙◌, ◌∷◌, [], ℕ, List, ap, sym, subst, refl, append-nil, length, rules}
-use Rattle.std.specs.List.{AllZip, flat_map}
-use Rattle.std.proofs.lemmas.Grind.{flat_map-append}
-use Rattle.grid_base.specs.Table.{concat_rows}
+use Rattle.std.proofs.Common.{◌≡◌, ◌++◌, ◌∙◌, ◌∷◌, [], ℕ, List, ap, sym, subst, refl, append-nil, length, rules, flat_map}
+use Rattle.grid_base.proofs.Common.{AllZip, flat_map-append, concat_rows}
 use Rattle.grid_pnm.specs.Writing.{AnswersColor}
 use Rattle.grid_pnm.proofs.WriteLemmas.{part_put, part_may}
 use Rattle.grid_pnm.proofs.write.push_colors.Goals as goal

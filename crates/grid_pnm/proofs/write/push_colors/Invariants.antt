@@ -1,7 +1,6 @@
 -- The samples so far, before those of the cells that are left.
-use Rattle.std.proofs.Common.{◌≡◌, ◌++◌, ℕ, List}
-use Rattle.std.specs.List.{AllZip, flat_map}
-use Rattle.grid_base.specs.Table.{concat_rows}
+use Rattle.std.proofs.Common.{◌≡◌, ◌++◌, ℕ, List, flat_map}
+use Rattle.grid_base.proofs.Common.{AllZip, concat_rows}
 use Rattle.grid_pnm.specs.Writing.{WritesBy, AnswersColor}
 use Rattle.grid_pnm.proofs.write.push_colors.Given as goal
 

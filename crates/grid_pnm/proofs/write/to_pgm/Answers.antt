@@ -1,9 +1,7 @@
 -- One row more; the storage by rows is the rows joined.
-use Rattle.std.proofs.Common.{◌≡◌, ◌∙◌, ◌++◌, [], ℕ, List, ap, sym, subst, refl, map, codes, append-nil, rules}
-use Rattle.std.specs.List.{AllZip, flat_map}
+use Rattle.std.proofs.Common.{◌≡◌, ◌∙◌, ◌++◌, [], ℕ, List, ap, sym, subst, refl, map, codes, append-nil, rules, flat_map}
+use Rattle.grid_base.proofs.Common.{AllZip, row_count, col_count, concat_rows, storage}
 use Rattle.grid_base.specs.declared.order.Order.TheVariants.{RowMajor}
-use Rattle.grid_base.specs.Table.{row_count, col_count, concat_rows}
-use Rattle.grid_base.specs.Order.{storage}
 use Rattle.grid_pnm.specs.Writing.{AnswersCell, MayDrawGrays, raw_picture}
 use Rattle.grid_pnm.proofs.LawLemmas.{flat-mapped}
 use Rattle.grid_pnm.proofs.WriteLemmas.{part_put, part_may}

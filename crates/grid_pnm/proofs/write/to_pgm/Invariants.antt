@@ -1,7 +1,6 @@
 -- The samples so far, before those of the rows that are left.
-use Rattle.std.proofs.Common.{◌≡◌, ◌++◌, ℕ, List, map}
-use Rattle.std.specs.List.{AllZip, flat_map}
-use Rattle.grid_base.specs.Table.{concat_rows}
+use Rattle.std.proofs.Common.{◌≡◌, ◌++◌, ℕ, List, map, flat_map}
+use Rattle.grid_base.proofs.Common.{AllZip, concat_rows}
 use Rattle.grid_pnm.specs.Writing.{WritesBy, AnswersCell, MayDrawGrays, pgm_bytes}
 use Rattle.grid_pnm.proofs.write.to_pgm.Given as goal
 

@@ -1,8 +1,6 @@
 -- One row more.
-use Rattle.std.proofs.Common.{[], ap, sym, subst, append-nil}
-use Rattle.std.specs.List.{AllZip, flat_map}
-use Rattle.std.proofs.lemmas.Grind.{flat_map-append}
-use Rattle.grid_base.specs.Table.{concat_rows}
+use Rattle.std.proofs.Common.{[], ap, sym, subst, append-nil, flat_map}
+use Rattle.grid_base.proofs.Common.{AllZip, flat_map-append, concat_rows}
 use Rattle.grid_pnm.specs.Writing.{AnswersColor, MayDrawColors}
 use Rattle.grid_pnm.proofs.WriteLemmas.{part_put, part_may}
 use Rattle.grid_pnm.proofs.write.to_ppm.Goals as goal

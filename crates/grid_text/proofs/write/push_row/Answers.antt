@@ -1,6 +1,5 @@
 -- One cell more.
-use Rattle.std.proofs.Common.{◌∙◌, [], sym, subst, refl, append-nil, rules}
-use Rattle.std.specs.String.{string_bytes}
+use Rattle.std.proofs.Common.{◌∙◌, [], sym, subst, refl, append-nil, rules, string_bytes}
 use Rattle.grid_text.specs.Writing.{AnswersCell, MayWriteLine}
 use Rattle.grid_text.proofs.WriteLemmas.{cell_put, cell_more}
 use Rattle.grid_text.proofs.write.push_row.Goals as goal

@@ -1,6 +1,5 @@
 -- The cells so far, before those that are left.
-use Rattle.std.proofs.Common.{◌≡◌, ◌++◌, ℕ, List}
-use Rattle.std.specs.String.{string_bytes}
+use Rattle.std.proofs.Common.{◌≡◌, ◌++◌, ℕ, List, string_bytes}
 use Rattle.grid_text.specs.Writing.{WritesBy, AnswersCell, MayWriteLine, line_text}
 use Rattle.grid_text.proofs.write.push_row.Given as goal
 

@@ -1,6 +1,5 @@
 -- One row more, and its line feed.
-use Rattle.std.proofs.Common.{◌≡◌, ◌∙◌, ◌++◌, [], refl, ap, sym, subst, append-nil, rules}
-use Rattle.std.specs.String.{string_bytes}
+use Rattle.std.proofs.Common.{◌≡◌, ◌∙◌, ◌++◌, [], refl, ap, sym, subst, append-nil, rules, string_bytes}
 use Rattle.grid_text.specs.Writing.{AnswersCell, MayWriteRows, line_text}
 use Rattle.grid_text.proofs.WriteLemmas.{row_more, row_may}
 use Rattle.grid_text.proofs.write.to_text.Goals as goal

@@ -1,6 +1,5 @@
 -- The rows so far, before those that are left.
-use Rattle.std.proofs.Common.{◌≡◌, ◌++◌}
-use Rattle.std.specs.String.{string_bytes}
+use Rattle.std.proofs.Common.{◌≡◌, ◌++◌, string_bytes}
 use Rattle.grid.specs.Texts.{numbers}
 use Rattle.grid_text.specs.Writing.{numbers_text}
 use Rattle.grid_text.proofs.write.to_words.Given as goal

@@ -1,8 +1,6 @@
-use Rattle.std.proofs.Common.{◌≡◌, ◌*◌, length, sym, ◌∙◌, ap, arith}
-use Rattle.std.proofs.Math.Nat.{mul_comm}
+use Rattle.std.proofs.Common.{◌≡◌, ◌*◌, length, sym, ◌∙◌, ap, arith, mul_comm}
+use Rattle.grid_base.proofs.Common.{row_count, col_count, concat_rows, storage}
 use Rattle.grid_base.specs.declared.order.Order.TheVariants.{ColumnMajor}
-use Rattle.grid_base.specs.Table.{row_count, col_count, concat_rows}
-use Rattle.grid_base.specs.Order.{storage}
 use Rattle.grid_base.specs.Relaid.{Relaid}
 use Rattle.grid_base.proofs.StorageLemmas.{length-storage}
 use Rattle.grid_base.proofs.RelayLemmas.{relaid_storage}

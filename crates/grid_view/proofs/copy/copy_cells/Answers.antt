@@ -1,6 +1,5 @@
 use Rattle.std.proofs.Common.{rules, ◌<◌, length, sym, ◌∙◌, ap, arith, ◌++◌, ◌∷◌, []}
-use Rattle.std.proofs.lemmas.List.{take_more_set}
-use Rattle.grid_base.specs.Table.{row}
+use Rattle.grid_base.proofs.Common.{take_more_set, row}
 use Rattle.grid_base.proofs.ClosureLemmas.{take_next}
 use Rattle.grid_view.proofs.copy.copy_cells.Goals as goal
 

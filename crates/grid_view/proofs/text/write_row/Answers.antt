@@ -1,10 +1,5 @@
-use Rattle.std.proofs.Common.{sym, rules, ◌≡◌, take, arith, cond, ltb, [], ◌∷◌}
-use Rattle.std.specs.Prelude.{Some}
-use Rattle.std.specs.Fmt.{◌++?◌, comma_space, debug_items, debug_list}
-use Rattle.std.proofs.Debugs.{shows_part_then, shows_from, displays_from, debug_items-take}
-use Rattle.grid_base.specs.Table.{row}
-use Rattle.std.proofs.lemmas.List.{take_all}
-use Rattle.std.proofs.lemmas.Option.{slice_get_within, get_or_from_slice_get}
+use Rattle.std.proofs.Common.{sym, rules, ◌≡◌, take, arith, cond, ltb, [], ◌∷◌, Some, take_all}
+use Rattle.grid_base.proofs.Common.{◌++?◌, comma_space, debug_items, debug_list, shows_part_then, shows_from, displays_from, debug_items-take, row, slice_get_within, get_or_from_slice_get}
 use Rattle.grid_view.proofs.text.write_row.Goals as goal
 
 pub loop-col-preserved : goal.loop-col-preserved

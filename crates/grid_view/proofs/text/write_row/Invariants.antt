@@ -1,7 +1,5 @@
-use Rattle.std.proofs.Common.{[], codes, take}
-use Rattle.std.specs.Prelude.{Some, IfSome}
-use Rattle.std.specs.Fmt.{◌++?◌, HasWritten, IsPlainFormatter, debug_items}
-use Rattle.grid_base.specs.Table.{row}
+use Rattle.std.proofs.Common.{[], codes, take, Some, IfSome}
+use Rattle.grid_base.proofs.Common.{◌++?◌, HasWritten, IsPlainFormatter, debug_items, row}
 use Rattle.grid_view.proofs.text.write_row.Given as goal
 
 abbrev pub invariant-loop-col : goal.invariant-loop-col

@@ -1,9 +1,8 @@
 -- What reads consume adds up to what the reader had, once it has nothing left.
-use Rattle.std.proofs.Common.{◌≡◌, ℕ, ◌<◌, ◌∙◌, List, [], ◌++◌, length, take, Option, Some, None, IfSome, ap, sym, arith, append_assoc}
+use Rattle.std.proofs.Common.{◌≡◌, ℕ, ◌<◌, ◌∙◌, List, [], ◌++◌, length, take, Option, Some, None, IfSome, ap, sym, arith, append_assoc, append-nil}
 use Rattle.std.specs.Io.KnownBytes.{Consumes, Keeps, IsAtEnd}
-use Rattle.std.proofs.lemmas.List.{append-nil}
-use Rattle.gridscript.proofs.input.read_all.Goals as goal
 use Rattle.gridscript.proofs.input.read_all.Goals.{in-Ok+in_ok-extend_from_slice-in-Ok, in-Err}
+use Rattle.gridscript.proofs.input.read_all.Goals as goal
 
 then_consumes : (a b c : Option (List ℕ)) (xs ys : List ℕ) → Consumes a b xs → Consumes b c ys → Consumes a c (xs ++ ys)
 then_consumes None b c xs ys had more = tt

@@ -1,6 +1,6 @@
 use Rattle.std.proofs.Common.{◌<◌, [], length, ◌∙◌, ap, arith}
+use Rattle.grid.specs.Prelude.{items_of_each}
 use Rattle.std.proofs.lemmas.List.{get_or-map}
-use Rattle.grid_base.specs.Gather.{items_of_each}
 use Rattle.grid_base.proofs.GatherLemmas.{rows-vecs}
 use Rattle.grid.proofs.RowEditLemmas.{HasWidth}
 use Rattle.grid.proofs.EditSizeLemmas.{IsTable-width}

@@ -1,7 +1,6 @@
 use Rattle.std.proofs.Common.{◌≡◌, sym, ◌∙◌, ap, arith, map}
+use Rattle.grid.specs.Prelude.{act, image_rows, row_count, col_count}
 use Rattle.std.proofs.lemmas.List.{map-append}
-use Rattle.grid_base.specs.Symmetry.{act, image_rows}
-use Rattle.grid_base.specs.Table.{row_count, col_count}
 use Rattle.test_support.specs.Plain.{items_of_each}
 use Rattle.test_support.proofs.GrowLemmas.{tabulate-none, tabulate-grown, tabulate-at}
 use Rattle.test_support.proofs.plain.act.Goals as goal

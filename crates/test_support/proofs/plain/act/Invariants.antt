@@ -1,6 +1,5 @@
 use Rattle.std.proofs.Common.{◌≡◌}
-use Rattle.grid_base.specs.Table.{row_count, col_count, cell, tabulate}
-use Rattle.grid_base.specs.Symmetry.{image_cols, source_row, source_col}
+use Rattle.grid.specs.Prelude.{row_count, col_count, cell, tabulate, image_cols, source_row, source_col}
 use Rattle.test_support.specs.Plain.{items_of_each}
 use Rattle.test_support.proofs.plain.act.Given as goal
 

@@ -1,4 +1,4 @@
-use Rattle.grid_base.specs.Symmetry.{act}
+use Rattle.grid.specs.Prelude.{act}
 use Rattle.test_support.proofs.plain.col_at.Goals as goal
 
 pub returns : goal.returns

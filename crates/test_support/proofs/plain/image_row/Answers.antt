@@ -1,7 +1,7 @@
 use Rattle.std.proofs.Common.{sym, ◌∙◌, ap, append-nil}
 use Rattle.test_support.proofs.GrowLemmas.{line-none, line-grown, source-read}
-use Rattle.test_support.proofs.plain.image_row.Goals as goal
 use Rattle.test_support.proofs.plain.image_row.Goals.{in-Some+in_ok-push, in_default}
+use Rattle.test_support.proofs.plain.image_row.Goals as goal
 
 pub loop-col-init : goal.loop-col-init
 loop-col-init g c = c.new-cells.ensures.items ∙ sym (line-none _)

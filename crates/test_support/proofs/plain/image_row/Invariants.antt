@@ -1,6 +1,5 @@
 use Rattle.std.proofs.Common.{◌≡◌}
-use Rattle.grid_base.specs.Table.{row_count, col_count, cell, cells_by}
-use Rattle.grid_base.specs.Symmetry.{source_row, source_col}
+use Rattle.grid.specs.Prelude.{row_count, col_count, cell, cells_by, source_row, source_col}
 use Rattle.test_support.specs.Plain.{items_of_each}
 use Rattle.test_support.proofs.plain.image_row.Given as goal
 

@@ -1,5 +1,5 @@
 use Rattle.std.proofs.Common.{◌≡◌, map, take}
-use Rattle.grid_base.specs.Table.{concat_rows}
+use Rattle.grid.specs.Prelude.{concat_rows}
 use Rattle.test_support.proofs.plain.joined_rows.Given as goal
 
 abbrev pub invariant-loop-row : goal.invariant-loop-row

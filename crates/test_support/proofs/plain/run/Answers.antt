@@ -1,7 +1,6 @@
 use Rattle.std.proofs.Common.{Result, Ok, Err, OnErr, ◌+◌, ◌∙◌, ap, map, arith}
+use Rattle.grid.specs.Prelude.{command_value, reply_value}
 use Rattle.std.proofs.lemmas.List.{map-append, length-map}
-use Rattle.grid_commands.specs.Command.{command_value}
-use Rattle.grid_commands.specs.Reply.{reply_value}
 use Rattle.test_support.specs.Plain.{items_of_each}
 use Rattle.test_support.proofs.GrowLemmas.{rows-stepped, replies-stepped}
 use Rattle.test_support.proofs.plain.run.Goals as goal

@@ -1,7 +1,5 @@
 use Rattle.std.proofs.Common.{◌≡◌, map, take}
-use Rattle.grid_commands.specs.Command.{command_value}
-use Rattle.grid_commands.specs.Reply.{reply_value}
-use Rattle.grid.specs.Run.{run_rows, run_replies}
+use Rattle.grid.specs.Prelude.{command_value, reply_value, run_rows, run_replies}
 use Rattle.test_support.specs.Plain.{items_of_each}
 use Rattle.test_support.proofs.plain.run.Given as goal
 

@@ -1,4 +1,4 @@
-use Rattle.grid_base.specs.Symmetry.{act}
+use Rattle.grid.specs.Prelude.{act}
 use Rattle.test_support.proofs.plain.storage.Goals as goal
 
 pub returns-in_ok-columns-in-ColumnMajor : goal.returns-in_ok-columns-in-ColumnMajor

@@ -1,6 +1,5 @@
 use Rattle.std.proofs.Common.{◌≡◌, ◌∙◌, None, rules}
-use Rattle.grid_base.specs.Gather.{items_of_each}
-use Rattle.grid_base.specs.Table.{row_count, col_count}
+use Rattle.grid_base.proofs.Common.{items_of_each, row_count, col_count}
 use Rattle.grid_commands.specs.Command.{insert_all}
 use Rattle.grid_commands.specs.Refusal.{lines_refusal}
 use Rattle.grid.proofs.LineEditLemmas.{done_rows, done_reply, done_edit, refused_edit, insert_all_memory}

@@ -1,7 +1,5 @@
-use Rattle.std.proofs.Common.{◌≡◌, ◌<◌, suc, List, refl, inl, Result, Ok, Err, OnOk, OnErr, true, false, ◌∙◌, ◌++◌, ◌∷◌, [], length, map, sym, ap, arith, length-append, append_assoc}
-use Rattle.std.specs.Result.{is_err}
-use Rattle.std.specs.Vec.Iter.{into_iter_items}
-use Rattle.std.proofs.lemmas.List.{map-append, append-nil, nil_from_length}
+use Rattle.std.proofs.Common.{◌≡◌, ◌<◌, suc, List, refl, inl, Result, Ok, Err, OnOk, OnErr, true, false, ◌∙◌, ◌++◌, ◌∷◌, [], length, map, sym, ap, arith, length-append, append_assoc, is_err, append-nil}
+use Rattle.grid_base.proofs.Common.{into_iter_items, map-append, nil_from_length}
 use Rattle.grid_commands.specs.Command.{command_value}
 use Rattle.grid_commands.specs.Reply.{reply_value}
 use Rattle.grid.proofs.RunLemmas.{running_none, running_more, ran_still, take_values, get_value, some_values, may_stop}

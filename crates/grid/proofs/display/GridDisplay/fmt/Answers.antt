@@ -1,10 +1,6 @@
 -- One more row, behind a line feed where it isn't the first.
-use Rattle.std.proofs.Common.{rules, ◌≡◌, take, arith, cond, ltb, [], ◌∷◌}
-use Rattle.std.specs.Prelude.{Some, Ok}
-use Rattle.std.specs.Fmt.{◌++?◌}
-use Rattle.std.proofs.Debugs.{shows_then, shows_from, displays_from}
-use Rattle.std.proofs.lemmas.List.{take_all, get_or_default}
-use Rattle.grid_base.specs.Table.{row}
+use Rattle.std.proofs.Common.{rules, ◌≡◌, take, arith, cond, ltb, [], ◌∷◌, Some, Ok, take_all}
+use Rattle.grid_base.proofs.Common.{◌++?◌, shows_then, shows_from, displays_from, get_or_default, row}
 use Rattle.grid.specs.DisplayText.{items_text, lines_text}
 use Rattle.grid.proofs.DisplayLemmas.{items-next}
 use Rattle.grid.proofs.display.GridDisplay.fmt.Goals as goal

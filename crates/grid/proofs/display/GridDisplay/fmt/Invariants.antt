@@ -1,6 +1,5 @@
 -- The rows so far.
-use Rattle.std.proofs.Common.{take}
-use Rattle.std.specs.Prelude.{IfSome}
+use Rattle.std.proofs.Common.{take, IfSome}
 use Rattle.std.specs.Fmt.{HasWritten, IsPlainFormatter}
 use Rattle.grid.specs.DisplayText.{lines_text}
 use Rattle.grid.proofs.display.GridDisplay.fmt.Given as goal

@@ -1,7 +1,6 @@
 use Rattle.std.proofs.Common.{◌≡◌, ◌∙◌, sym, ap, arith}
+use Rattle.grid_base.proofs.Common.{act, row_count, col_count}
 use Rattle.grid_base.specs.declared.words.Symmetry.TheVariants.{Transpose}
-use Rattle.grid_base.specs.Symmetry.{act}
-use Rattle.grid_base.specs.Table.{row_count, col_count}
 use Rattle.grid.specs.Edits.{insert_cols}
 use Rattle.grid_base.proofs.ActLemmas.{act_is_transposed}
 use Rattle.grid.proofs.ColEditLemmas.{across-none}

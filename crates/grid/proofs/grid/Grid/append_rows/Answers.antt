@@ -1,6 +1,5 @@
 use Rattle.std.proofs.Common.{rules, ◌≡◌, [], ◌++◌, sym, ◌∙◌, ap, length, length-append, Err, arith}
-use Rattle.grid_base.specs.Table.{row_count, col_count}
-use Rattle.grid_base.specs.Order.{storage}
+use Rattle.grid_base.proofs.Common.{row_count, col_count, storage}
 use Rattle.grid_base.proofs.StorageLemmas.{length-storage}
 use Rattle.grid_base.proofs.ViewLemmas.{same_grid_value}
 use Rattle.grid.proofs.AppendLemmas.{rows_appended, cols_appended}

@@ -1,5 +1,4 @@
-use Rattle.std.proofs.Common.{◌≡◌, ℕ, Option, None, Some, List, arith}
-use Rattle.std.specs.Option.{MatchOption}
+use Rattle.std.proofs.Common.{◌≡◌, ℕ, Option, None, Some, List, arith, MatchOption}
 use Rattle.grid_base.specs.Table.{row_count, col_count, InRange}
 use Rattle.grid_near.specs.Directions.{IsWithin}
 use Rattle.grid.proofs.grid.Grid.beside.Goals as goal

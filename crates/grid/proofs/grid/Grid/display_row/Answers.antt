@@ -1,10 +1,6 @@
 -- One more cell, behind a space where it isn't the first.
-use Rattle.std.proofs.Common.{sym, rules, ◌≡◌, take, arith, cond, ltb, [], ◌∷◌}
-use Rattle.std.specs.Prelude.{Some, Ok}
-use Rattle.std.specs.Fmt.{◌++?◌}
-use Rattle.std.proofs.Debugs.{shows_part_then, shows_from, displays_from}
-use Rattle.std.proofs.lemmas.Option.{slice_get_within, get_or_from_slice_get}
-use Rattle.grid_base.specs.Table.{row}
+use Rattle.std.proofs.Common.{sym, rules, ◌≡◌, take, arith, cond, ltb, [], ◌∷◌, Some, Ok}
+use Rattle.grid_base.proofs.Common.{◌++?◌, shows_part_then, shows_from, displays_from, slice_get_within, get_or_from_slice_get, row}
 use Rattle.grid.specs.DisplayText.{items_text}
 use Rattle.grid.proofs.DisplayLemmas.{items-next}
 use Rattle.grid.proofs.TextLemmas.{whole_row}

@@ -1,8 +1,6 @@
 -- What is before the row, and the cells so far.
-use Rattle.std.proofs.Common.{[], codes, take}
-use Rattle.std.specs.Prelude.{Some, IfSome}
-use Rattle.std.specs.Fmt.{◌++?◌, HasWritten, IsPlainFormatter}
-use Rattle.grid_base.specs.Table.{row}
+use Rattle.std.proofs.Common.{[], codes, take, Some, IfSome}
+use Rattle.grid_base.proofs.Common.{◌++?◌, HasWritten, IsPlainFormatter, row}
 use Rattle.grid.specs.DisplayText.{items_text}
 use Rattle.grid.proofs.grid.Grid.display_row.Given as goal
 

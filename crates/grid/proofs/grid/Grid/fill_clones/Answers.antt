@@ -1,7 +1,5 @@
 use Rattle.std.proofs.Common.{rules, ◌≡◌, replicate, length}
-use Rattle.std.proofs.lemmas.Result.{on_ok_weaker, on_err_weaker}
-use Rattle.grid_base.specs.Clones.{ClonesAreEqual}
-use Rattle.grid_base.specs.Order.{table_of}
+use Rattle.grid_base.proofs.Common.{on_ok_weaker, on_err_weaker, ClonesAreEqual, table_of}
 use Rattle.grid.specs.AllCells.{filled}
 use Rattle.grid.proofs.SeenAllCellsLemmas.{seen_filled, seen_none}
 use Rattle.grid.proofs.SeenLemmas.{seen_same}

@@ -1,5 +1,4 @@
-use Rattle.std.proofs.Common.{◌≤◌, ◌+◌, ◌*◌}
-use Rattle.std.specs.Vec.{vec_capacity}
+use Rattle.std.proofs.Common.{◌≤◌, ◌+◌, ◌*◌, vec_capacity}
 use Rattle.grid.proofs.EmptyingLemmas.{Emptying}
 use Rattle.grid.proofs.grid.Grid.from_arrays.Given as goal
 

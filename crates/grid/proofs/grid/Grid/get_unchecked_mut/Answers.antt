@@ -1,5 +1,4 @@
-use Rattle.std.proofs.Common.{◌∙◌, sym, ap, arith, refl}
-use Rattle.std.specs.List.{slice_get}
+use Rattle.std.proofs.Common.{◌∙◌, sym, ap, arith, refl, slice_get}
 use Rattle.grid_base.proofs.StorageLemmas.{place_within}
 use Rattle.grid_base.proofs.ViewLemmas.{view-cell}
 use Rattle.grid.proofs.SeenLemmas.{seen_row_in, seen_col_in}

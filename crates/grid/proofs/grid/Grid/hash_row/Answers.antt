@@ -1,10 +1,8 @@
-use Rattle.std.proofs.Common.{◌≡◌, take, sym, ap, ◌∙◌, arith}
-use Rattle.std.specs.List.{flat_map, fold}
-use Rattle.std.proofs.lemmas.List.Sums.{fold-append}
-use Rattle.grid_base.specs.Table.{row}
+use Rattle.std.proofs.Common.{◌≡◌, take, sym, ap, ◌∙◌, arith, flat_map, fold}
+use Rattle.grid_base.proofs.Common.{fold-append, row}
 use Rattle.grid.proofs.TextLemmas.{flat_map_push, whole_row}
-use Rattle.grid.proofs.grid.Grid.hash_row.Goals as goal
 use Rattle.grid_base.proofs.ClosureLemmas.{take_next}
+use Rattle.grid.proofs.grid.Grid.hash_row.Goals as goal
 
 pub loop-col-preserved : goal.loop-col-preserved
 loop-col-preserved g c =

@@ -1,5 +1,4 @@
-use Rattle.std.proofs.Common.{◌≡◌, take}
-use Rattle.std.specs.List.{flat_map, fold}
+use Rattle.std.proofs.Common.{◌≡◌, take, flat_map, fold}
 use Rattle.grid_base.specs.Table.{row}
 use Rattle.grid.proofs.grid.Grid.hash_row.Given as goal
 

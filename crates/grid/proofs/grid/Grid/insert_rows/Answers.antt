@@ -1,7 +1,5 @@
 use Rattle.std.proofs.Common.{rules, ◌≡◌, ◌<◌, length, refl, sym, ◌∙◌, ap, arith}
-use Rattle.std.proofs.lemmas.Grind.{common_steps}
-use Rattle.grid_base.specs.Table.{col_count}
-use Rattle.grid_base.specs.Gather.{items_of_each}
+use Rattle.grid_base.proofs.Common.{common_steps, col_count, items_of_each}
 use Rattle.grid_base.proofs.GatherLemmas.{rows-vecs}
 use Rattle.grid_commands.proofs.FactorLemmas.{factor_small}
 use Rattle.grid.proofs.SeenLemmas.{seen_rows, seen_same}

@@ -1,6 +1,5 @@
 use Rattle.std.proofs.Common.{◌<◌, ◌∙◌, ap, length, arith}
-use Rattle.grid_base.specs.Table.{row, row_count}
-use Rattle.grid_base.specs.Order.{table_of}
+use Rattle.grid_base.proofs.Common.{row, row_count, table_of}
 use Rattle.grid_base.proofs.ViewLemmas.{view-rows, view-cols, view-table, HoldsSize-transposed}
 use Rattle.grid.proofs.SeenLemmas.{seen_cols}
 use Rattle.grid.proofs.SeenIteratorLemmas.{seen_transposed}

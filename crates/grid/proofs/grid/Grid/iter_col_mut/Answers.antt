@@ -1,6 +1,5 @@
 use Rattle.std.proofs.Common.{◌∙◌, ap, arith, refl}
-use Rattle.grid_base.specs.Table.{row}
-use Rattle.grid_base.specs.Order.{place, table_of}
+use Rattle.grid_base.proofs.Common.{row, place, table_of}
 use Rattle.grid_base.proofs.ViewLemmas.{HoldsSize-transposed}
 use Rattle.grid.proofs.SeenLemmas.{seen_cols}
 use Rattle.grid.proofs.SeenIteratorLemmas.{seen_written, seen_keeps_from, seen_transposed, place_flipped}

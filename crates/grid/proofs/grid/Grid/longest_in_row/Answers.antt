@@ -1,9 +1,5 @@
-use Rattle.std.proofs.Common.{◌≡◌, ◌++◌, [], map, take, length, max, sym, ap, ◌∙◌, arith, string_bytes}
-use Rattle.std.proofs.Common.{to_z, of_z}
-use Rattle.std.specs.Int.{w128}
-use Rattle.std.proofs.lemmas.Int.{to_z-of_z}
-use Rattle.std.specs.Fmt.{signed_decimal}
-use Rattle.grid_base.specs.Table.{row}
+use Rattle.std.proofs.Common.{◌≡◌, ◌++◌, [], map, take, length, max, sym, ap, ◌∙◌, arith, string_bytes, to_z, of_z}
+use Rattle.grid_base.proofs.Common.{w128, to_z-of_z, signed_decimal, row}
 use Rattle.grid.specs.Texts.{longest}
 use Rattle.grid.proofs.TextLemmas.{longest_next, max_is, whole_row}
 use Rattle.grid.proofs.grid.Grid.longest_in_row.Goals as goal

@@ -1,6 +1,4 @@
-use Rattle.std.proofs.Common.{◌≡◌, map, take, max, sym, ap, ◌∙◌, arith}
-use Rattle.std.specs.List.{flat_map}
-use Rattle.std.proofs.lemmas.List.{take_all}
+use Rattle.std.proofs.Common.{◌≡◌, map, take, max, sym, ap, ◌∙◌, arith, flat_map, take_all}
 use Rattle.grid.specs.Texts.{longest}
 use Rattle.grid.proofs.TextLemmas.{longest_rows, joined_numbers, max_is}
 use Rattle.grid.proofs.grid.Grid.longest_number.Goals as goal

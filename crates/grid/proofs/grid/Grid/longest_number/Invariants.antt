@@ -1,5 +1,4 @@
-use Rattle.std.proofs.Common.{◌≡◌, [], take, map, string_bytes}
-use Rattle.std.specs.List.{flat_map}
+use Rattle.std.proofs.Common.{◌≡◌, [], take, map, string_bytes, flat_map}
 use Rattle.grid.specs.Texts.{longest}
 use Rattle.grid.proofs.grid.Grid.longest_number.Given as goal
 

@@ -1,7 +1,5 @@
 use Rattle.std.proofs.Common.{◌≡◌, ◌*◌, All, length, ap, arith}
-use Rattle.std.proofs.lemmas.List.Elements.{All-append}
-use Rattle.std.proofs.lemmas.Grind.{common_steps}
-use Rattle.grid_base.specs.Table.{row_count}
+use Rattle.grid_base.proofs.Common.{All-append, common_steps, row_count}
 use Rattle.grid.proofs.MadeLemmas.{All-none, length-storage_none, made_size, made_fill}
 use Rattle.grid.proofs.grid.Grid.new_with_order.Goals as goal
 

@@ -1,12 +1,11 @@
 use Rattle.std.proofs.Common.{ap, arith}
+use Rattle.grid_base.proofs.Common.{row_count, on_ok_weaker, on_err_weaker}
 use Rattle.grid_base.specs.declared.words.Symmetry.TheVariants.{Transpose}
-use Rattle.grid_base.specs.Table.{row_count}
 use Rattle.grid_base.proofs.ActLemmas.{rows-act}
 use Rattle.grid.specs.Shift.{rows_added_shift}
 use Rattle.grid.proofs.TransposedEditLemmas.{twice_across}
 use Rattle.grid.proofs.SeenPaddingLemmas.{pads_cols, size_across, none_added, shift_across}
 use Rattle.grid.proofs.grid.Grid.pad_cols_counted.Goals as goal
-use Rattle.std.proofs.lemmas.Result.{on_ok_weaker, on_err_weaker}
 
 pub pad_rows_counted-padded-requires : goal.pad_rows_counted-padded-requires
 pad_rows_counted-padded-requires g c = omega (arith, ap row_count c.transpose.ensures.rows, rows-act Transpose c.args.self.now.rows)

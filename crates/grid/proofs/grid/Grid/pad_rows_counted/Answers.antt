@@ -1,7 +1,5 @@
-use Rattle.std.proofs.Common.{◌≡◌, ◌+◌, ◌*◌, ◌⊎◌, inl, inr, ap, refl, sym, ◌∙◌, arith, rules}
-use Rattle.std.proofs.Math.Nat.{mul-pos}
-use Rattle.grid_base.specs.Table.{row_count, col_count}
-use Rattle.grid_base.specs.Tally.{saturating_count}
+use Rattle.std.proofs.Common.{◌≡◌, ◌+◌, ◌*◌, ◌⊎◌, inl, inr, ap, refl, sym, ◌∙◌, arith, rules, mul-pos}
+use Rattle.grid_base.proofs.Common.{row_count, col_count, saturating_count}
 use Rattle.grid.specs.Edits.{padding_count}
 use Rattle.grid.specs.Shift.{rows_added_shift}
 use Rattle.grid.proofs.SeenPaddingLemmas.{padding_none, pads_none, pad_cols, pad_rows_small, pad_shift, pad_cells, pads_rows, pad_fits}

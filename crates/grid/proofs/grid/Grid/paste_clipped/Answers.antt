@@ -1,6 +1,5 @@
 use Rattle.std.proofs.Common.{◌≡◌, ◌∙◌, arith, to_z, of_z, w64}
-use Rattle.std.proofs.lemmas.Int.{ints, to_z-of_z}
-use Rattle.std.proofs.lemmas.Result.{on_ok_weaker}
+use Rattle.grid_base.proofs.Common.{ints, to_z-of_z, on_ok_weaker}
 use Rattle.grid.proofs.PastedLemmas.{clipped_as, clipped_within, pasted_clipped}
 use Rattle.grid.proofs.grid.Grid.paste_clipped.Goals as goal
 

@@ -1,6 +1,4 @@
-use Rattle.std.proofs.Common.{◌≡◌, ◌≢◌, ◌++◌, map, take, codes, List, ap, ◌∙◌, arith, append_assoc}
-use Rattle.std.specs.List.{flat_map}
-use Rattle.std.proofs.lemmas.List.{take_all}
+use Rattle.std.proofs.Common.{◌≡◌, ◌≢◌, ◌++◌, map, take, codes, List, ap, ◌∙◌, arith, append_assoc, flat_map, take_all}
 use Rattle.grid_base.specs.Table.{row_count}
 use Rattle.grid.specs.Texts.{numbers, row_line, text_in_width}
 use Rattle.grid.proofs.TextLemmas.{text_of_lines}

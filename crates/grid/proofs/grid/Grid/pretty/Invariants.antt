@@ -1,5 +1,4 @@
-use Rattle.std.proofs.Common.{◌≡◌, ◌++◌, take, map, codes, string_bytes}
-use Rattle.std.specs.List.{flat_map}
+use Rattle.std.proofs.Common.{◌≡◌, ◌++◌, take, map, codes, string_bytes, flat_map}
 use Rattle.grid.specs.Texts.{row_line}
 use Rattle.grid.proofs.grid.Grid.pretty.Given as goal
 

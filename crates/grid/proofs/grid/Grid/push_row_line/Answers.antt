@@ -1,9 +1,5 @@
 use Rattle.std.proofs.Common.{rules, ◌≡◌, ◌++◌, [], ◌∷◌, ℤ, map, take, codes, sym, ap, ◌∙◌, arith, string_bytes, to_z, of_z, append_assoc, cond, ltb, ◌^◌, ◌-◌}
-use Rattle.std.specs.Int.{w128}
-use Rattle.std.specs.List.{join_by}
-use Rattle.std.specs.Fmt.{styled_signed_decimal, format_spec}
-use Rattle.std.proofs.lemmas.Int.{to_z-of_z}
-use Rattle.grid_base.specs.Table.{row}
+use Rattle.grid_base.proofs.Common.{w128, join_by, styled_signed_decimal, format_spec, to_z-of_z, row}
 use Rattle.grid.specs.Texts.{right_aligned}
 use Rattle.grid.proofs.TextLemmas.{join_next, aligned, whole_row, ended}
 use Rattle.grid.proofs.grid.Grid.push_row_line.Goals as goal

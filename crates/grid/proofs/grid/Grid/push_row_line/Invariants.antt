@@ -1,6 +1,5 @@
 use Rattle.std.proofs.Common.{◌≡◌, ◌++◌, take, map, codes, string_bytes}
-use Rattle.std.specs.List.{join_by}
-use Rattle.grid_base.specs.Table.{row}
+use Rattle.grid_base.proofs.Common.{join_by, row}
 use Rattle.grid.specs.Texts.{right_aligned}
 use Rattle.grid.proofs.grid.Grid.push_row_line.Given as goal
 

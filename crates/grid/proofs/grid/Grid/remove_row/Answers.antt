@@ -1,6 +1,5 @@
 use Rattle.std.proofs.Common.{◌<◌, [], Some, sym, ◌∙◌, ap, arith, rules}
-use Rattle.std.proofs.lemmas.Option.{slice_get-get_or}
-use Rattle.grid_base.specs.Table.{row_count}
+use Rattle.grid_base.proofs.Common.{slice_get-get_or, row_count}
 use Rattle.grid.proofs.EditViewLemmas.{storage-one}
 use Rattle.grid.proofs.grid.Grid.remove_row.Goals as goal
 

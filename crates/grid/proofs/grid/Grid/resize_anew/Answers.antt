@@ -1,6 +1,5 @@
 use Rattle.std.proofs.Common.{◌⊎◌, ◌<◌, ◌≤◌, ◌*◌, ap, arith, inl, inr, ⊎_elim}
-use Rattle.std.proofs.lemmas.Bool.{cases_lt}
-use Rattle.grid_base.specs.Table.{row_count, col_count}
+use Rattle.grid_base.proofs.Common.{cases_lt, row_count, col_count}
 use Rattle.grid.proofs.ResizeLemmas.{product_some, resized}
 use Rattle.grid.proofs.grid.Grid.resize_anew.Goals as goal
 

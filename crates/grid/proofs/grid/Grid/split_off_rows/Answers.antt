@@ -1,6 +1,5 @@
 use Rattle.std.proofs.Common.{◌≡◌, ◌<◌, ◌-◌, ◌∙◌, sym, ap, arith, length, take, drop, length-drop, rules}
-use Rattle.grid_base.specs.Table.{row_count, col_count}
-use Rattle.grid_base.specs.Order.{storage}
+use Rattle.grid_base.proofs.Common.{row_count, col_count, storage}
 use Rattle.grid.specs.Edits.{without_rows}
 use Rattle.grid.proofs.SplitLemmas.{can_cut_again, same_cut, IsTable-tail, cols-tail, all_taken, take_without}
 use Rattle.grid.proofs.grid.Grid.split_off_rows.Goals as goal

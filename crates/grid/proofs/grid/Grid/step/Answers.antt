@@ -1,6 +1,5 @@
 use Rattle.std.proofs.Common.{◌≡◌, ◌≤◌, sym, ◌∙◌, ap, arith, rules}
-use Rattle.grid_base.specs.Table.{row_count, col_count}
-use Rattle.grid_base.specs.Symmetry.{half, price}
+use Rattle.grid_base.proofs.Common.{row_count, col_count, half, price}
 use Rattle.grid_base.proofs.PriceLemmas.{price_within_half}
 use Rattle.grid_commands.specs.declared.command.Axis.TheVariants.{Row, Col}
 use Rattle.grid_commands.specs.Command.{command_value, lines}

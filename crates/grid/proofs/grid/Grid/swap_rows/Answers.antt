@@ -1,7 +1,5 @@
-use Rattle.std.proofs.Common.{rules, ◌≤◌, ◌+◌, sym, ◌∙◌, ap, arith}
-use Rattle.std.proofs.Math.Nat.{mul-le-mul_right}
-use Rattle.std.proofs.lemmas.List.Edits.{length-swap}
-use Rattle.grid_base.specs.Table.{row_count}
+use Rattle.std.proofs.Common.{rules, ◌≤◌, ◌+◌, sym, ◌∙◌, ap, arith, mul-le-mul_right}
+use Rattle.grid_base.proofs.Common.{length-swap, row_count}
 use Rattle.grid_base.proofs.ViewLemmas.{view-cols}
 use Rattle.grid.proofs.SeenLemmas.{seen_rows, seen_cols}
 use Rattle.grid.proofs.SwapLineLemmas.{rows_by_blocks}

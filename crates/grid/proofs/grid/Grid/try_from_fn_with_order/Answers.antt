@@ -1,7 +1,5 @@
 use Rattle.std.proofs.Common.{Ok, arith, rules}
-use Rattle.grid_base.specs.Table.{IsSize}
-use Rattle.grid_base.specs.Positions.{positions}
-use Rattle.grid_base.specs.ClosureCalls.{PairsUp, FailsFirst}
+use Rattle.grid_base.proofs.Common.{IsSize, positions, PairsUp, FailsFirst}
 use Rattle.grid_base.proofs.ViewLemmas.{FitsUsize-size}
 use Rattle.grid.proofs.CellCallLemmas.{callable_positions, answers_made, seen_made, fails_at}
 use Rattle.grid.proofs.grid.Grid.try_from_fn_with_order.Goals as goal

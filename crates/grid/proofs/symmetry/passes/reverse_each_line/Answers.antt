@@ -1,7 +1,5 @@
-use Rattle.std.proofs.Common.{◌≡◌, ◌+◌, ◌-◌, ◌*◌, ◌∙◌, sym, ap, arith, ⊎_elim}
-use Rattle.std.specs.List.{slice_get}
-use Rattle.std.proofs.lemmas.Bool.{cases_lt}
-use Rattle.std.proofs.lemmas.Nat.{mul-add-lt}
+use Rattle.std.proofs.Common.{◌≡◌, ◌+◌, ◌-◌, ◌*◌, ◌∙◌, sym, ap, arith, ⊎_elim, slice_get}
+use Rattle.grid_base.proofs.Common.{cases_lt, mul-add-lt}
 use Rattle.grid.proofs.symmetry.passes.reverse_each_line.Goals as goal
 
 pub loop-line-preserved : goal.loop-line-preserved

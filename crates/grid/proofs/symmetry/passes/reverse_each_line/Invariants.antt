@@ -1,5 +1,4 @@
-use Rattle.std.proofs.Common.{◌≡◌, ◌≤◌, ℕ, ◌<◌, ◌+◌, ◌-◌, ◌*◌, ◌/◌, length}
-use Rattle.std.specs.List.{slice_get}
+use Rattle.std.proofs.Common.{◌≡◌, ◌≤◌, ℕ, ◌<◌, ◌+◌, ◌-◌, ◌*◌, ◌/◌, length, slice_get}
 use Rattle.grid_base.specs.Tally.{saturating_count}
 use Rattle.grid.proofs.symmetry.passes.reverse_each_line.Given as goal
 

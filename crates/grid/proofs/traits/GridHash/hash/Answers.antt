@@ -1,7 +1,5 @@
-use Rattle.std.proofs.Common.{take, sym, ap, ◌∙◌, arith}
-use Rattle.std.specs.List.{flat_map, fold}
-use Rattle.std.proofs.lemmas.List.Sums.{fold-append}
-use Rattle.grid_base.specs.Table.{row}
+use Rattle.std.proofs.Common.{take, sym, ap, ◌∙◌, arith, flat_map, fold}
+use Rattle.grid_base.proofs.Common.{fold-append, row}
 use Rattle.grid.proofs.TextLemmas.{flat_map_next}
 use Rattle.grid.proofs.traits.GridHash.hash.Goals as goal
 

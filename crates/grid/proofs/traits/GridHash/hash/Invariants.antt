@@ -1,5 +1,4 @@
-use Rattle.std.proofs.Common.{◌≡◌, take}
-use Rattle.std.specs.List.{flat_map, fold}
+use Rattle.std.proofs.Common.{◌≡◌, take, flat_map, fold}
 use Rattle.grid.proofs.traits.GridHash.hash.Given as goal
 
 abbrev pub invariant-loop-row : goal.invariant-loop-row

@@ -1,7 +1,5 @@
 use Rattle.std.proofs.Common.{rules, ◌≡◌, sym, ap, ◌∙◌, arith}
-use lib.Pointwise.{pointwise}
-use Rattle.grid_base.specs.Table.{row_count, col_count}
-use Rattle.grid_base.specs.Order.{storage}
+use Rattle.grid_base.proofs.Common.{pointwise, row_count, col_count, storage}
 use Rattle.grid.proofs.SameLemmas.{same_stored}
 use Rattle.grid.proofs.traits.GridPartialEq.eq.Goals as goal
 

@@ -1,6 +1,5 @@
 use Rattle.std.proofs.Common.{arith}
-use Rattle.grid_base.specs.Table.{col_count}
-use Rattle.grid_base.specs.Gather.{items_of_each}
+use Rattle.grid_base.proofs.Common.{col_count, items_of_each}
 use Rattle.grid_base.proofs.StorageLemmas.{length-concat_rows}
 use Rattle.grid_base.proofs.GatherLemmas.{rows-vecs}
 use Rattle.grid_base.proofs.flat.Flat.append_rows.Goals as goal

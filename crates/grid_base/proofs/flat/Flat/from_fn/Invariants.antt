@@ -1,7 +1,5 @@
-use Rattle.std.proofs.Common.{◌≡◌, ◌≤◌, ◌*◌, take, vec_len}
-use Rattle.std.specs.Vec.{vec_capacity}
-use Rattle.std.specs.List.{AllZip}
-use Rattle.grid_base.specs.Layout.{positions_of, lines_of}
+use Rattle.std.proofs.Common.{◌≡◌, ◌≤◌, ◌*◌, take, vec_len, vec_capacity}
+use Rattle.grid_base.proofs.Common.{AllZip, positions_of, lines_of}
 use Rattle.grid_base.proofs.flat.Flat.from_fn.Given as goal
 
 abbrev pub invariant-loop-line : goal.invariant-loop-line

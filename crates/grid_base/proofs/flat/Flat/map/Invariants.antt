@@ -1,7 +1,5 @@
-use Rattle.std.proofs.Common.{◌≡◌, ◌≤◌, ◌++◌, length, vec_len}
-use Rattle.std.specs.Vec.{vec_capacity}
-use Rattle.std.specs.Vec.Iter.{into_iter_items}
-use Rattle.grid_base.specs.ClosureCalls.{MapsThrough}
+use Rattle.std.proofs.Common.{◌≡◌, ◌≤◌, ◌++◌, length, vec_len, vec_capacity}
+use Rattle.grid_base.proofs.Common.{into_iter_items, MapsThrough}
 use Rattle.grid_base.proofs.flat.Flat.map.Given as goal
 
 abbrev pub invariant-loop-cell : goal.invariant-loop-cell

@@ -1,6 +1,5 @@
 use Rattle.std.proofs.Common.{◌<◌, refl, sym, subst, ◌∙◌, length, arith}
-use Rattle.std.proofs.lemmas.List.{take_more}
-use Rattle.grid_base.specs.ClosureCalls.{CallableAtRefs}
+use Rattle.grid_base.proofs.Common.{take_more, CallableAtRefs}
 use Rattle.grid_base.proofs.ClosureLemmas.{AllZip-append}
 use Rattle.grid_base.proofs.flat.Flat.map_ref.Goals as goal
 

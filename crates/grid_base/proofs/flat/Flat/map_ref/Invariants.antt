@@ -1,7 +1,5 @@
-use Rattle.std.proofs.Common.{◌≡◌, ◌≤◌, length, vec_len, take}
-use Rattle.std.specs.Vec.{vec_capacity}
-use Rattle.std.specs.List.{AllZip}
-use Rattle.std.specs.Fn.{FnReturnsAt}
+use Rattle.std.proofs.Common.{◌≡◌, ◌≤◌, length, vec_len, take, vec_capacity}
+use Rattle.grid_base.proofs.Common.{AllZip, FnReturnsAt}
 use Rattle.grid_base.proofs.flat.Flat.map_ref.Given as goal
 
 abbrev pub invariant-loop-cell : goal.invariant-loop-cell

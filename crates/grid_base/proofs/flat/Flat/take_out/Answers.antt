@@ -1,7 +1,5 @@
-use Rattle.std.proofs.Common.{arith}
-use Rattle.std.proofs.lemmas.Grind.{common_steps}
-use Rattle.std.proofs.Common.{rules, ◌≡◌, ◌*◌, List, take, drop}
-use Rattle.grid_base.specs.Groups.{TakenOut}
+use Rattle.std.proofs.Common.{arith, rules, ◌≡◌, ◌*◌, List, take, drop}
+use Rattle.grid_base.proofs.Common.{common_steps, TakenOut}
 use Rattle.grid_base.proofs.WeaveLemmas.{taken_in_place}
 use Rattle.grid_base.proofs.flat.Flat.take_out.Goals as goal
 

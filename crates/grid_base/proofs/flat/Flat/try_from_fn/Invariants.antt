@@ -1,7 +1,5 @@
-use Rattle.std.proofs.Common.{◌≡◌, ◌≤◌, ◌+◌, ◌++◌, List, Ok, length, vec_len, ℕ}
-use Rattle.std.specs.Vec.{vec_capacity}
-use Rattle.std.specs.List.{AllZip}
-use Rattle.grid_base.specs.Layout.{positions_of}
+use Rattle.std.proofs.Common.{◌≡◌, ◌≤◌, ◌+◌, ◌++◌, List, Ok, length, vec_len, ℕ, vec_capacity}
+use Rattle.grid_base.proofs.Common.{AllZip, positions_of}
 use Rattle.grid_base.proofs.flat.Flat.try_from_fn.Given as goal
 
 abbrev pub invariant-loop-at : goal.invariant-loop-at

@@ -1,8 +1,5 @@
-use Rattle.std.proofs.Common.{◌≡◌, ◌≤◌, ◌*◌, take, vec_len, zip}
-use Rattle.std.specs.Vec.{vec_capacity}
-use Rattle.std.specs.List.{AllZip}
-use Rattle.grid_base.specs.Layout.{positions_of, lines_of}
-use Rattle.grid_base.specs.ClosureCalls.{ReturnsAtCell}
+use Rattle.std.proofs.Common.{◌≡◌, ◌≤◌, ◌*◌, take, vec_len, zip, vec_capacity}
+use Rattle.grid_base.proofs.Common.{AllZip, positions_of, lines_of, ReturnsAtCell}
 use Rattle.grid_base.proofs.flat.all_cells.map_by_line.Given as goal
 
 abbrev pub invariant-loop-line : goal.invariant-loop-line

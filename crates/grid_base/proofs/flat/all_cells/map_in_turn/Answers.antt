@@ -1,6 +1,5 @@
 use Rattle.std.proofs.Common.{◌≡◌, ◌<◌, ◌+◌, arith, refl, sym, ap, ◌∙◌, ◌++◌, ◌∷◌, [], zip, length, drop, append_assoc, append-nil}
-use Rattle.std.proofs.lemmas.List.{drop_all, drop_more}
-use Rattle.grid_base.specs.Layout.{positions_of}
+use Rattle.grid_base.proofs.Common.{drop_all, drop_more, positions_of}
 use Rattle.grid_base.proofs.ClosureLemmas.{AllZip-append, callable_cell}
 use Rattle.grid_base.proofs.PlaceLemmas.{length-places}
 use Rattle.grid_base.proofs.PlacedCellLemmas.{zip_nothing}

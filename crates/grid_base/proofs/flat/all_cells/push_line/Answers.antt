@@ -1,7 +1,5 @@
-use Rattle.std.proofs.Common.{◌≡◌, Some, arith, sym, vec_len, ◌∙◌}
-use Rattle.std.specs.List.{slice_get}
-use Rattle.std.proofs.lemmas.Option.{slice_get_within, get_or_from_slice_get}
-use Rattle.grid_base.specs.Layout.{positions_of}
+use Rattle.std.proofs.Common.{◌≡◌, Some, arith, sym, vec_len, ◌∙◌, slice_get}
+use Rattle.grid_base.proofs.Common.{slice_get_within, get_or_from_slice_get, positions_of}
 use Rattle.grid_base.proofs.ClosureLemmas.{answers_more}
 use Rattle.grid_base.proofs.PlaceLemmas.{get_along, length-places}
 use Rattle.grid_base.proofs.flat.all_cells.push_line.Goals as goal

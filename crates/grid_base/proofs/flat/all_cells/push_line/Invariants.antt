@@ -1,7 +1,5 @@
-use Rattle.std.proofs.Common.{◌≡◌, ◌+◌, take, vec_len}
-use Rattle.std.specs.Vec.{vec_capacity}
-use Rattle.std.specs.List.{AllZip}
-use Rattle.grid_base.specs.Layout.{positions_of}
+use Rattle.std.proofs.Common.{◌≡◌, ◌+◌, take, vec_len, vec_capacity}
+use Rattle.grid_base.proofs.Common.{AllZip, positions_of}
 use Rattle.grid_base.proofs.flat.all_cells.push_line.Given as goal
 
 abbrev pub invariant-loop-k : goal.invariant-loop-k

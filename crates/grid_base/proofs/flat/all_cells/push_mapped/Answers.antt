@@ -1,8 +1,5 @@
-use Rattle.std.proofs.Common.{rules}
-use Rattle.std.proofs.Common.{◌≡◌, ◌<◌, ◌+◌, ◌*◌, ℕ, Some, arith, ap, refl, sym, ◌∙◌, length, vec_len, zip}
-use Rattle.std.specs.List.{slice_get}
-use Rattle.std.proofs.lemmas.Option.{slice_get_within, slice_get_read, get_or_from_slice_get}
-use Rattle.grid_base.specs.Layout.{positions_of}
+use Rattle.std.proofs.Common.{rules, ◌≡◌, ◌<◌, ◌+◌, ◌*◌, ℕ, Some, arith, ap, refl, sym, ◌∙◌, length, vec_len, zip, slice_get}
+use Rattle.grid_base.proofs.Common.{slice_get_within, slice_get_read, get_or_from_slice_get, positions_of}
 use Rattle.grid_base.proofs.ClosureLemmas.{answers_more}
 use Rattle.grid_base.proofs.PlaceLemmas.{get_along, length-places}
 use Rattle.grid_base.proofs.PlacedCellLemmas.{get-zip}

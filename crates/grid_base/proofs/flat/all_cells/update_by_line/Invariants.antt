@@ -1,7 +1,5 @@
 use Rattle.std.proofs.Common.{◌*◌}
-use Rattle.grid_base.specs.Layout.{positions_of, lines_of}
-use Rattle.grid_base.specs.ClosureCalls.{ReturnsAtCell}
-use Rattle.grid_base.specs.Updated.{UpdatedFrom}
+use Rattle.grid_base.proofs.Common.{positions_of, lines_of, ReturnsAtCell, UpdatedFrom}
 use Rattle.grid_base.proofs.flat.all_cells.update_by_line.Given as goal
 
 abbrev pub invariant-loop-line : goal.invariant-loop-line

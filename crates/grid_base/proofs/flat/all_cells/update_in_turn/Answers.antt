@@ -1,6 +1,5 @@
-use Rattle.std.proofs.Common.{get_or, ◌≡◌, ◌<◌, ◌+◌, arith, refl, sym, ap, ◌∙◌, ◌++◌, ◌∷◌, [], zip, length, take, drop, append_assoc, append-nil}
-use Rattle.std.proofs.lemmas.List.{take_more_set, take_all, drop_all, drop_more, drop-set-lt}
-use Rattle.grid_base.specs.Layout.{positions_of}
+use Rattle.std.proofs.Common.{get_or, ◌≡◌, ◌<◌, ◌+◌, arith, refl, sym, ap, ◌∙◌, ◌++◌, ◌∷◌, [], zip, length, take, drop, append_assoc, append-nil, take_all, drop-set-lt}
+use Rattle.grid_base.proofs.Common.{take_more_set, drop_all, drop_more, positions_of}
 use Rattle.grid_base.proofs.ClosureLemmas.{AllZip-append, callable_cell}
 use Rattle.grid_base.proofs.PlaceLemmas.{length-places}
 use Rattle.grid_base.proofs.PlacedCellLemmas.{zip_nothing}

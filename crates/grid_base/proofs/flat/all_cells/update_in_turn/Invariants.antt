@@ -1,7 +1,5 @@
 use Rattle.std.proofs.Common.{◌≡◌, ◌+◌, ◌++◌, ℕ, List, length, zip, take, drop}
-use Rattle.std.specs.List.{AllZip}
-use Rattle.grid_base.specs.Layout.{positions_of}
-use Rattle.grid_base.specs.ClosureCalls.{ReturnsAtCell}
+use Rattle.grid_base.proofs.Common.{AllZip, positions_of, ReturnsAtCell}
 use Rattle.grid_base.proofs.flat.all_cells.update_in_turn.Given as goal
 
 abbrev pub invariant-loop-cell : goal.invariant-loop-cell

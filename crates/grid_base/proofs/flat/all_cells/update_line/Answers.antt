@@ -1,8 +1,5 @@
-use Rattle.std.proofs.lemmas.Grind.{common_steps}
-use Rattle.std.proofs.Common.{rules, ◌≡◌, ◌<◌, ◌+◌, ◌*◌, ℕ, Some, arith, ap, refl, sym, ◌∙◌, length}
-use Rattle.std.specs.List.{slice_get}
-use Rattle.std.proofs.lemmas.Option.{slice_get_within, slice_get_read}
-use Rattle.grid_base.specs.Layout.{positions_of, lines_of}
+use Rattle.std.proofs.Common.{rules, ◌≡◌, ◌<◌, ◌+◌, ◌*◌, ℕ, Some, arith, ap, refl, sym, ◌∙◌, length, slice_get}
+use Rattle.grid_base.proofs.Common.{common_steps, slice_get_within, slice_get_read, positions_of, lines_of}
 use Rattle.grid_base.proofs.PlaceLemmas.{get_along, length-places}
 use Rattle.grid_base.proofs.UpdateLemmas.{updated_cell}
 use Rattle.grid_base.proofs.flat.all_cells.update_line.Goals as goal

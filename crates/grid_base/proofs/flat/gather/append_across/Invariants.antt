@@ -1,6 +1,5 @@
 use Rattle.std.proofs.Common.{◌≡◌, ◌+◌, ◌-◌, ◌*◌, ◌≤◌, ◌++◌, length, take, drop, reverse, map, vec_len, vec_capacity}
-use Rattle.grid_base.specs.Table.{concat_rows, transposed}
-use Rattle.grid_base.specs.Gather.{items_of_each}
+use Rattle.grid_base.proofs.Common.{concat_rows, transposed, items_of_each}
 use Rattle.grid_base.proofs.flat.gather.append_across.Given as goal
 
 abbrev pub invariant-loop : goal.invariant-loop

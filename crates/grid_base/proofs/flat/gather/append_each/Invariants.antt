@@ -1,6 +1,5 @@
 use Rattle.std.proofs.Common.{◌+◌, ◌≤◌, [], length, drop, vec_len, vec_capacity}
-use Rattle.grid_base.specs.Table.{concat_rows}
-use Rattle.grid_base.specs.Gather.{items_of_each}
+use Rattle.grid_base.proofs.Common.{concat_rows, items_of_each}
 use Rattle.grid_base.proofs.GatherLemmas.{Passed}
 use Rattle.grid_base.proofs.flat.gather.append_each.Given as goal
 

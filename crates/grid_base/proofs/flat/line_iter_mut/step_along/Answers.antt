@@ -1,6 +1,5 @@
 use Rattle.std.proofs.Common.{arith, refl}
-use Rattle.std.proofs.lemmas.Grind.{common_steps}
-use Rattle.std.proofs.lemmas.List.{drop_min}
+use Rattle.grid_base.proofs.Common.{common_steps, drop_min}
 use Rattle.grid_base.proofs.flat.line_iter_mut.step_along.Goals as goal
 
 pub returns : goal.returns

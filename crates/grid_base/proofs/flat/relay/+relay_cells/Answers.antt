@@ -1,5 +1,4 @@
-use Rattle.std.proofs.Common.{◌≡◌, ◌*◌, ◌+◌, ◌-◌, refl, ap, arith}
-use Rattle.std.proofs.Math.Nat.{add-mul}
+use Rattle.std.proofs.Common.{◌≡◌, ◌*◌, ◌+◌, ◌-◌, refl, ap, arith, add-mul}
 use Rattle.grid_base.proofs.RelayLemmas.{relaid_by_halves, relaid_back}
 use Rattle.grid_base.proofs.flat.relay.+relay_cells.Goals as goal
 

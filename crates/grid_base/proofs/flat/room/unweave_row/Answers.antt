@@ -1,8 +1,5 @@
-use mathlib.Core.Path.{subst}
-use Rattle.std.proofs.Common.{◌≡◌, ◌+◌, ◌*◌, ◌≤◌, min, max, length, refl, sym, ap, ◌∙◌, arith}
-use Rattle.std.proofs.Math.Nat.{mul-le-mul_right}
-use Rattle.core.specs.Mem.Slots.Ownership.{Filled}
-use Rattle.grid_base.specs.Groups.{Woven}
+use Rattle.std.proofs.Common.{subst, ◌≡◌, ◌+◌, ◌*◌, ◌≤◌, min, max, length, refl, sym, ap, ◌∙◌, arith, mul-le-mul_right}
+use Rattle.grid_base.proofs.Common.{Filled, Woven}
 use Rattle.grid_base.proofs.SpreadLemmas.{first_line}
 use Rattle.grid_base.proofs.InTurnLemmas.{Unweaving, unweaving_none, unweaving_run, unweaving_end}
 use Rattle.grid_base.proofs.RoomLemmas.{with_waiting, unweave_step, none_waits, same_places, places_then, filled_join, filled_part, filled_below, filled_above}

@@ -1,6 +1,5 @@
 use Rattle.std.proofs.Common.{◌≡◌, ◌+◌, ◌*◌, ◌<◌, min}
-use Rattle.core.specs.Mem.Slots.{SamePlaces}
-use Rattle.core.specs.Mem.Slots.Ownership.{Filled}
+use Rattle.grid_base.proofs.Common.{SamePlaces, Filled}
 use Rattle.grid_base.proofs.InTurnLemmas.{Unweaving}
 use Rattle.grid_base.proofs.RoomLemmas.{with_waiting}
 use Rattle.grid_base.proofs.flat.room.unweave_row.Given as goal

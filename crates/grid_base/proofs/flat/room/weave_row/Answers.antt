@@ -1,8 +1,5 @@
-use mathlib.Core.Path.{subst}
-use Rattle.std.proofs.Common.{◌≡◌, ◌+◌, ◌-◌, ◌*◌, ◌≤◌, min, max, length, refl, ap, ◌∙◌, arith}
-use Rattle.std.proofs.Math.Nat.{mul-le-mul_right}
-use Rattle.core.specs.Mem.Slots.Ownership.{Filled}
-use Rattle.grid_base.specs.Groups.{Woven}
+use Rattle.std.proofs.Common.{subst, ◌≡◌, ◌+◌, ◌-◌, ◌*◌, ◌≤◌, min, max, length, refl, ap, ◌∙◌, arith, mul-le-mul_right}
+use Rattle.grid_base.proofs.Common.{Filled, Woven}
 use Rattle.grid_base.proofs.SpreadLemmas.{times_less, first_line}
 use Rattle.grid_base.proofs.InTurnLemmas.{weaving_run, weaving_end}
 use Rattle.grid_base.proofs.RoomLemmas.{with_waiting, weave_step, none_waits, places_then, filled_join, filled_part, filled_below, filled_above}

@@ -1,9 +1,5 @@
-use Rattle.std.proofs.Common.{rules, ◌≡◌, take, arith, [], ◌∷◌}
-use Rattle.std.specs.Prelude.{Some}
-use Rattle.std.specs.Fmt.{debug_list}
-use Rattle.std.proofs.Debugs.{shows_part_then, shows_from, displays_from}
-use Rattle.std.proofs.lemmas.List.{take_all}
-use Rattle.grid_base.specs.Table.{row}
+use Rattle.std.proofs.Common.{rules, ◌≡◌, take, arith, [], ◌∷◌, Some, take_all}
+use Rattle.grid_base.proofs.Common.{debug_list, shows_part_then, shows_from, displays_from, row}
 use Rattle.grid_view.specs.Texts.{rows_text, table_text}
 use Rattle.grid_view.proofs.DebugLemmas.{rows_next}
 use Rattle.grid_view.proofs.text.GridViewDebug.fmt.Goals as goal

@@ -1,5 +1,4 @@
-use Rattle.std.proofs.Common.{codes, take}
-use Rattle.std.specs.Prelude.{Some, IfSome}
+use Rattle.std.proofs.Common.{codes, take, Some, IfSome}
 use Rattle.std.specs.Fmt.{◌++?◌, HasWritten, IsPlainFormatter}
 use Rattle.grid_view.specs.Texts.{rows_text}
 use Rattle.grid_view.proofs.text.GridViewDebug.fmt.Given as goal

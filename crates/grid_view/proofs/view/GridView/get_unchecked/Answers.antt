@@ -1,6 +1,5 @@
-use Rattle.std.proofs.Common.{◌∙◌, sym, ap, refl, arith, ◌<◌, Some}
+use Rattle.std.proofs.Common.{◌∙◌, sym, ap, refl, arith, ◌<◌, Some, slice_get}
 use Rattle.std.proofs.lemmas.Option.{slice_get_read}
-use Rattle.std.specs.List.{slice_get}
 use Rattle.grid_view.proofs.SeenLemmas.{seen_rows, seen_cols, seen_at}
 use Rattle.grid_view.proofs.view.GridView.get_unchecked.Goals as goal
 

@@ -1,5 +1,4 @@
-use Rattle.std.proofs.Common.{◌≡◌, ◌+◌, ◌*◌, ◌-◌, ◌<◌, ◌≤◌, length, take, drop, ◌∙◌, ap, arith, rules, length-drop, length-take}
-use Rattle.std.proofs.lemmas.List.{take_all}
+use Rattle.std.proofs.Common.{◌≡◌, ◌+◌, ◌*◌, ◌-◌, ◌<◌, ◌≤◌, length, take, drop, ◌∙◌, ap, arith, rules, length-drop, length-take, take_all}
 use Rattle.grid_view.specs.View.{sub_table}
 use Rattle.grid_view.proofs.SeenLemmas.{seen_rows, seen_cols, start_of, start_of_row, holds_part, part_within, seen_part, seen_none}
 use Rattle.grid_view.proofs.view.GridView.part.Goals as goal

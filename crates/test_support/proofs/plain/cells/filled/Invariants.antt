@@ -1,6 +1,5 @@
 use Rattle.std.proofs.Common.{◌≡◌, take}
-use Rattle.grid_base.specs.Gather.{items_of_each}
-use Rattle.grid.specs.AllCells.{filled}
+use Rattle.grid.specs.Prelude.{items_of_each, filled}
 use Rattle.test_support.proofs.plain.cells.filled.Given as goal
 
 abbrev pub invariant-loop-row : goal.invariant-loop-row

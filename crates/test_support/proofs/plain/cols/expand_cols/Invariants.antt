@@ -1,6 +1,5 @@
 use Rattle.std.proofs.Common.{◌≡◌, take}
-use Rattle.grid_base.specs.Gather.{items_of_each}
-use Rattle.grid.specs.Edits.{expanded_cols}
+use Rattle.grid.specs.Prelude.{items_of_each, expanded_cols}
 use Rattle.test_support.proofs.plain.cols.expand_cols.Given as goal
 
 abbrev pub invariant-loop-row : goal.invariant-loop-row

@@ -1,7 +1,7 @@
 use Rattle.std.proofs.Common.{◌<◌, ◌≤◌, ◌∙◌, ap, arith, length, map, get_or, insert}
 use Rattle.test_support.proofs.PlainLemmas.{put-grown, put-past}
-use Rattle.test_support.proofs.plain.cols.insert_into_rows.Goals as goal
 use Rattle.test_support.proofs.plain.cols.insert_into_rows.Goals.{in-Some+in_ok-row_with_cell+in_ok-push, in_default}
+use Rattle.test_support.proofs.plain.cols.insert_into_rows.Goals as goal
 
 pub loop-r-preserved : goal.loop-r-preserved
 loop-r-preserved g c =

@@ -1,6 +1,5 @@
 use Rattle.std.proofs.Common.{◌≡◌, take}
-use Rattle.grid_base.specs.Gather.{items_of_each}
-use Rattle.grid.specs.Edits.{insert_into_rows}
+use Rattle.grid.specs.Prelude.{items_of_each, insert_into_rows}
 use Rattle.test_support.proofs.plain.cols.insert_into_rows.Given as goal
 
 abbrev pub invariant-loop-r : goal.invariant-loop-r

@@ -1,6 +1,5 @@
 use Rattle.std.proofs.Common.{◌≡◌, take}
-use Rattle.grid_base.specs.Gather.{items_of_each}
-use Rattle.grid.specs.Edits.{prepended_cols}
+use Rattle.grid.specs.Prelude.{items_of_each, prepended_cols}
 use Rattle.test_support.proofs.plain.cols.prepend_cols.Given as goal
 
 abbrev pub invariant-loop-row : goal.invariant-loop-row

@@ -1,5 +1,5 @@
 use Rattle.std.proofs.Common.{◌≡◌, [], ◌∷◌, map, take}
-use Rattle.grid_base.specs.Gather.{items_of_each}
+use Rattle.grid.specs.Prelude.{items_of_each}
 use Rattle.test_support.proofs.plain.cols.rows_of_one.Given as goal
 
 abbrev pub invariant-loop-cell : goal.invariant-loop-cell

@@ -1,6 +1,5 @@
 use Rattle.std.proofs.Common.{◌≡◌, ◌++◌, map, filter, take, drop}
-use Rattle.grid_base.specs.Gather.{items_of_each}
-use Rattle.grid.specs.Edits.{has_cells}
+use Rattle.grid.specs.Prelude.{items_of_each, has_cells}
 use Rattle.test_support.proofs.plain.cols.without_cols.Given as goal
 
 abbrev pub invariant-loop-row : goal.invariant-loop-row

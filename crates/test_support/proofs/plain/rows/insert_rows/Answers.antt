@@ -1,5 +1,5 @@
-use Rattle.std.proofs.Common.{arith}
-use Rattle.std.proofs.lemmas.List.{take-map, drop-map, append-nil}
+use Rattle.std.proofs.Common.{arith, append-nil}
+use Rattle.std.proofs.lemmas.List.{take-map, drop-map}
 use Rattle.test_support.proofs.plain.rows.insert_rows.Goals as goal
 
 pub returns : goal.returns

@@ -1,5 +1,5 @@
 use Rattle.std.proofs.Common.{◌≡◌, ◌++◌, replicate}
-use Rattle.grid_base.specs.Gather.{items_of_each}
+use Rattle.grid.specs.Prelude.{items_of_each}
 use Rattle.test_support.proofs.plain.rows.push_blank.Given as goal
 
 abbrev pub invariant-loop : goal.invariant-loop

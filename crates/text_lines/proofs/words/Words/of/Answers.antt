@@ -1,7 +1,5 @@
 -- A line is text exactly where the test says so.
-use Rattle.std.proofs.Common.{◌≡◌, false, sym, ◌∙◌, rules}
-use Rattle.std.specs.Option.{is_some}
-use Rattle.std.specs.Str.{IsUtf8}
+use Rattle.std.proofs.Common.{◌≡◌, false, sym, ◌∙◌, rules, is_some, IsUtf8}
 use Rattle.std.proofs.lemmas.Bool.{false_from_ne_true}
 use Rattle.std.proofs.lemmas.Str.{IsUtf8-from_is_utf8, is_utf8-from_IsUtf8}
 use Rattle.text_lines.proofs.words.Words.of.Goals as goal

@@ -1,5 +1,4 @@
-use Rattle.std.proofs.Common.{List, ◌≡◌, ◌∷◌, ◌∙◌, ◌-◌, Some, drop, length, sym, ap, arith}
-use Rattle.std.specs.List.{slice_get}
+use Rattle.std.proofs.Common.{List, ◌≡◌, ◌∷◌, ◌∙◌, ◌-◌, Some, drop, length, sym, ap, arith, slice_get}
 use Rattle.grid_base.specs.Strides.{every}
 use Rattle.grid_base.proofs.StrideLemmas.{line_step}
 use Rattle.grid_base.proofs.flat.line_iter_mut.GridLineIterMutIterator.next.Goals as goal
