@@ -195,10 +195,3 @@ module _ {T : Type 0} (t : List (List T)) (h : IsTable t) where
       ap (λ v. (row_count v + padding_count k v) * col_count v) there
       ∙ (ap (λ x. (x + padding_count k (act Transpose t)) * col_count (act Transpose t)) (rows-across t h)
       ∙ (ap (λ x. (col_count t + x) * col_count (act Transpose t)) (padding_count-across k) ∙ ap (λ x. (col_count t + padding_count k t) * x) (cols-across t h)))
-
-pub shift_across : {T : Type 0} (F : Order → ℕ → ℕ → ℕ → ℕ) (k : ℕ) (old mid : GridValue T) → IsTable old.rows → mid.rows ≡ act Transpose old.rows → mid.order ≡ flipped old.order → F mid.order (row_count mid.rows) (col_count mid.rows) k ≡ F (flipped old.order) (col_count old.rows) (row_count old.rows) k
-shift_across F k old mid h rows order =
-    ap (λ x. F x (row_count mid.rows) (col_count mid.rows) k) order
-    ∙ (ap (λ v. F (flipped old.order) (row_count v) (col_count v) k) rows
-    ∙ (ap (λ x. F (flipped old.order) x (col_count (act Transpose old.rows)) k) (rows-across old.rows h)
-    ∙ ap (λ x. F (flipped old.order) (col_count old.rows) x k) (cols-across old.rows h)))

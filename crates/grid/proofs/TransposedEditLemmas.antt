@@ -6,7 +6,6 @@ use Rattle.grid_base.specs.declared.words.Symmetry.TheVariants.{Transpose}
 use Rattle.grid_base.proofs.ViewLemmas.{same_grid_value, flipped-flipped}
 use Rattle.grid_base.proofs.ActLemmas.{rows-act}
 use Rattle.grid.specs.Edits.{FitsRow, FitsCol, insert_rows, insert_col, insert_cols, without_rows, without_cols}
-use Rattle.grid.specs.Shift.{delete_rows_shift, delete_cols_shift}
 use Rattle.grid.proofs.EditViewLemmas.{put_line, take_line}
 use Rattle.grid.proofs.ColEditLemmas.{across-none, across-across, cols-across, insert_col-across, insert_cols-across, without_cols-across, ColumnFits, ColumnsFit}
 
@@ -62,11 +61,6 @@ module _ {T : Type 0} where
       back ∙ (ap (act Transpose) (taken ∙ ap (without_rows i k) transposed) ∙ sym (without_cols-across i k t h (tests.0 refl)))
   cols_taken i k false t mid less new h tests transposed back taken =
       back ∙ (ap (act Transpose) (taken ∙ transposed) ∙ across-across t h)
-
-  -- the shift is that of the rows of the transposed table
-  pub delete_shift_across : (old mid : GridValue T) (i k : ℕ) → IsTable old.rows → mid.rows ≡ act Transpose old.rows → mid.order ≡ flipped old.order → delete_rows_shift mid.order (row_count mid.rows) (col_count mid.rows) i k ≡ delete_cols_shift old.order (row_count old.rows) (col_count old.rows) i k
-  delete_shift_across old mid i k h rows order =
-      rw (order, rows, rows-act Transpose old.rows, cols-across old.rows h) refl
 
   -- a row taken between two transposes is a column
   pub col_removed : (i : ℕ) (t mid less new : List (List T)) → IsTable t → mid ≡ act Transpose t → new ≡ act Transpose less → less ≡ remove mid i → new ≡ without_cols i 1 t

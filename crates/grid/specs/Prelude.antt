@@ -16,7 +16,7 @@ pub use Rattle.grid.specs.Pasted.{overlaid, part_filled, IsWithin, CallableInPar
 pub use Rattle.grid.specs.Resize.{IsCorner, IsResized, ResizesTo}
 pub use Rattle.grid.specs.Run.{RunGives, run_rows, run_replies, Ran, MayStop, AreKnown}
 pub use Rattle.grid.specs.Same.{same_cells, same_cells_per, same_cells_equiv, table_feed, table_feed_respects}
-pub use Rattle.grid.specs.Shift.{rows_added_shift, rows_taken_shift, delete_rows_shift, delete_cols_shift, cols_added_shift}
+pub use Rattle.grid.specs.Shift.{rows_added_shift, rows_taken_shift, delete_rows_shift}
 pub use Rattle.grid.specs.Slots.{by_order, are_full, AreTaken, HoldCells}
 unfoldable pub use Rattle.grid.specs.Step.{step_rows, step_reply}
 pub use Rattle.grid.specs.Step.{takes_memory, Effect, nothing, inserts, removes, range_effect, effect, after_effect, edit_takes_memory, has_lines, edit_reply, line_at, pads_end, pads_front, RowsAreKnown, EditIsKnown, rows_after, reply_to}

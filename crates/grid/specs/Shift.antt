@@ -2,7 +2,6 @@
 use Rattle.std.specs.Prelude.{ℕ, ◌+◌, ◌-◌, ◌*◌, nat_eq, nat_lt, if◌then◌else◌}
 use Rattle.grid_base.specs.declared.order.Order.{Order}
 use Rattle.grid_base.specs.declared.order.Order.TheVariants.{RowMajor, ColumnMajor}
-use Rattle.grid_base.specs.Order.{flipped}
 
 -- m rows of n cells each, of which k more come before row i: along the storage's lines, and across
 -- them
@@ -20,10 +19,3 @@ abbrev pub delete_rows_shift : Order → ℕ → ℕ → ℕ → ℕ → ℕ
 delete_rows_shift o m n start count =
     if nat_eq count 0 then 0 else (if nat_lt m (start + count) then 0
     else rows_taken_shift o m n start count)
-
--- columns are the rows of the transposed table, which is stored in the other order
-abbrev pub cols_added_shift : Order → ℕ → ℕ → ℕ → ℕ → ℕ
-cols_added_shift o m n i k = rows_added_shift (flipped o) n m i k
-
-abbrev pub delete_cols_shift : Order → ℕ → ℕ → ℕ → ℕ → ℕ
-delete_cols_shift o m n start count = delete_rows_shift (flipped o) n m start count

@@ -2,7 +2,7 @@
 ghost use Rattle.std.specs.Prelude.{◌≡◌, ◌↔◌, ◌+◌, ◌-◌, ◌<◌, ◌≤◌, remove, IsTrue, if◌then◌else◌};
 ghost use Rattle.grid_base.specs.Prelude.{row_count, col_count, saturating_count};
 ghost use Rattle.grid.specs.Edits.{without_rows, without_cols};
-ghost use Rattle.grid.specs.Shift.{rows_taken_shift, delete_rows_shift, delete_cols_shift};
+ghost use Rattle.grid.specs.Shift.{rows_taken_shift, delete_rows_shift};
 
 use super::{cols_if_rows, row_groups};
 use crate::Grid;
@@ -83,8 +83,10 @@ impl<T, A: Allocator> Grid<T, A> {
             ≡ (if result then col_count self.old.rows - count else col_count self.old.rows) }
         ensures order { self.new.order ≡ self.old.order }
     {
-        let mut tally = Tally::new();
-        self.delete_cols_counted(start, count, &mut tally)
+        self.transpose();
+        let found = self.delete_rows(start, count);
+        self.transpose();
+        found
     }
 
     // As `delete_rows`, and adds the cells that stay and move to the shift count of the tally.
@@ -109,33 +111,6 @@ impl<T, A: Allocator> Grid<T, A> {
         if found && count != 0 {
             self.drop_rows(start, count, tally);
         }
-        found
-    }
-
-    // As `delete_cols`, and adds the cells that stay and move to the shift count of the tally.
-    pub(crate) fn delete_cols_counted(
-        &mut self,
-        start: usize,
-        count: usize,
-        tally: &mut Tally,
-    ) -> bool
-    where
-        T: Drop,
-        ensures found { IsTrue result ↔ (start + count ≤ col_count self.old.rows) }
-        ensures rows { self.new.rows
-            ≡ (if result then without_cols start count self.old.rows else self.old.rows) }
-        ensures row_count { 0 < col_count self.new.rows
-            → row_count self.new.rows ≡ row_count self.old.rows }
-        ensures col_count { col_count self.new.rows
-            ≡ (if result then col_count self.old.rows - count else col_count self.old.rows) }
-        ensures order { self.new.order ≡ self.old.order }
-        ensures shift { tally.new.shift ≡ saturating_count tally.old.shift (delete_cols_shift
-            self.old.order (row_count self.old.rows) (col_count self.old.rows) start count) }
-        ensures symmetry { tally.new.symmetry ≡ tally.old.symmetry }
-    {
-        self.transpose();
-        let found = self.delete_rows_counted(start, count, tally);
-        self.transpose();
         found
     }
 

@@ -3,7 +3,7 @@ ghost use Rattle.std.specs.Prelude.{◌≡◌, ◌≤◌, OnOk, OnErr};
 ghost use Rattle.grid_base.specs.Prelude.{row_count, col_count, saturating_count};
 ghost use Rattle.grid.specs.Edits.{PadsRows, PadsCols};
 ghost use Rattle.grid.specs.EditFails.{PaddingFails};
-ghost use Rattle.grid.specs.Shift.{rows_added_shift, cols_added_shift};
+ghost use Rattle.grid.specs.Shift.{rows_added_shift};
 
 use super::{has_room, row_groups};
 use crate::{Grid, GridError};
@@ -52,9 +52,8 @@ impl<T, A: Allocator> Grid<T, A> {
         ensures fails { PaddingFails (col_count self.old.rows) (row_count self.old.rows) count
             self.old self.new result }
     {
-        let mut tally = Tally::new();
         let end = self.cols();
-        self.pad_cols_counted(end, count, &mut tally)
+        self.pad_cols(end, count)
     }
 
     /// Adds `count` rows of defaults at the beginning. The order stays. An empty grid stays empty.
@@ -91,8 +90,7 @@ impl<T, A: Allocator> Grid<T, A> {
         ensures fails { PaddingFails (col_count self.old.rows) (row_count self.old.rows) count
             self.old self.new result }
     {
-        let mut tally = Tally::new();
-        self.pad_cols_counted(0, count, &mut tally)
+        self.pad_cols(0, count)
     }
 
     // Adds `count` rows of defaults before row `at`, and none to an empty grid. Adds the cells that move to the shift
@@ -131,14 +129,8 @@ impl<T, A: Allocator> Grid<T, A> {
         Ok(())
     }
 
-    // Adds `count` columns of defaults before column `at`, and none to an empty grid. Adds the cells that move to the
-    // shift count of the tally.
-    pub(crate) fn pad_cols_counted(
-        &mut self,
-        at: usize,
-        count: usize,
-        tally: &mut Tally,
-    ) -> Result<(), GridError>
+    // Adds `count` columns of defaults before column `at`, and none to an empty grid.
+    fn pad_cols(&mut self, at: usize, count: usize) -> Result<(), GridError>
     where
         T: Default,
         A: Clone,
@@ -147,14 +139,10 @@ impl<T, A: Allocator> Grid<T, A> {
         ensures fails { PaddingFails (col_count self.old.rows) (row_count self.old.rows) count
             self.old self.new result }
         ensures order { self.new.order ≡ self.old.order }
-        ensures shift { OnOk result
-            (tally.new.shift ≡ saturating_count tally.old.shift (cols_added_shift self.old.order
-            (row_count self.old.rows) (col_count self.old.rows) at count)) }
-        ensures symmetry { tally.new.symmetry ≡ tally.old.symmetry }
-        ensures err_shift { OnErr result (tally.new.shift ≡ tally.old.shift) }
     {
+        let mut tally = Tally::new();
         self.transpose();
-        let padded = self.pad_rows_counted(at, count, tally);
+        let padded = self.pad_rows_counted(at, count, &mut tally);
         self.transpose();
         padded
     }

@@ -1,17 +1,12 @@
-use Rattle.std.proofs.Common.{rules}
+use Rattle.grid_base.specs.declared.words.Symmetry.TheVariants.{Transpose}
+use Rattle.grid_base.proofs.ActLemmas.{rows-act}
+use Rattle.grid.proofs.TransposedEditLemmas.{cols_taken}
 use Rattle.grid.proofs.grid.Grid.delete_cols.Goals as goal
 
 pub returns-clause-found : goal.returns-clause-found
-returns-clause-found g c = search rules
+returns-clause-found g c = rw (c.transpose.ensures.rows, rows-act Transpose c.args.self.now.rows) at c.delete_rows-found.ensures.found
 
 pub returns-clause-rows : goal.returns-clause-rows
-returns-clause-rows g c = search rules
-
-pub returns-clause-row_count : goal.returns-clause-row_count
-returns-clause-row_count g c = search rules
-
-pub returns-clause-col_count : goal.returns-clause-col_count
-returns-clause-col_count g c = search rules
-
-pub returns-clause-order : goal.returns-clause-order
-returns-clause-order g c = search rules
+returns-clause-rows g c =
+    let t = c.args.self.now.table in
+    cols_taken c.args.start c.args.count _ _ _ _ _ t (rw (c.transpose.ensures.rows, rows-act Transpose c.args.self.now.rows) at c.delete_rows-found.ensures.found) c.transpose.ensures.rows c.transpose-2.ensures.rows c.delete_rows-found.ensures.rows

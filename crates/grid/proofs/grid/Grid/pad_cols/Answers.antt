@@ -2,10 +2,9 @@ use Rattle.std.proofs.Common.{ap, arith}
 use Rattle.grid_base.proofs.Common.{row_count, on_ok_weaker, on_err_weaker}
 use Rattle.grid_base.specs.declared.words.Symmetry.TheVariants.{Transpose}
 use Rattle.grid_base.proofs.ActLemmas.{rows-act}
-use Rattle.grid.specs.Shift.{rows_added_shift}
 use Rattle.grid.proofs.TransposedEditLemmas.{twice_across}
-use Rattle.grid.proofs.SeenPaddingLemmas.{pads_cols, size_across, none_added, shift_across}
-use Rattle.grid.proofs.grid.Grid.pad_cols_counted.Goals as goal
+use Rattle.grid.proofs.SeenPaddingLemmas.{pads_cols, size_across, none_added}
+use Rattle.grid.proofs.grid.Grid.pad_cols.Goals as goal
 
 pub pad_rows_counted-padded-requires : goal.pad_rows_counted-padded-requires
 pad_rows_counted-padded-requires g c = omega (arith, ap row_count c.transpose.ensures.rows, rows-act Transpose c.args.self.now.rows)
@@ -29,8 +28,3 @@ returns-clause-fails g c =
           (λ same. twice_across _ _ _ _ t c.transpose.ensures.rows c.transpose.ensures.order same c.transpose-2.ensures.rows c.transpose-2.ensures.order)
           fails.unchanged;
     }
-
-pub returns-clause-shift : goal.returns-clause-shift
-returns-clause-shift g c =
-    let t = c.args.self.now.table in
-    rw (shift_across (λ o m n k. rows_added_shift o m n c.args.at k) c.args.count c.args.self.now c.transpose.new.self t c.transpose.ensures.rows c.transpose.ensures.order) at c.pad_rows_counted-padded.ensures.shift
