@@ -61,8 +61,12 @@ impl<T, A: Allocator> Grid<T, A> {
             ≡ (if result then without_rows start count self.old.rows else self.old.rows) }
         ensures order { self.new.order ≡ self.old.order }
     {
-        let mut tally = Tally::new();
-        self.delete_rows_counted(start, count, &mut tally)
+        let rows = self.rows();
+        let found = start <= rows && count <= rows - start;
+        if found && count != 0 {
+            self.drop_rows(start, count);
+        }
+        found
     }
 
     /// Drops `count` columns from column `start` on, and returns whether they were all there; if not, nothing changes.
@@ -109,13 +113,29 @@ impl<T, A: Allocator> Grid<T, A> {
         let rows = self.rows();
         let found = count <= rows && start <= rows - count;
         if found && count != 0 {
-            self.drop_rows(start, count, tally);
+            self.drop_rows_counted(start, count, tally);
         }
         found
     }
 
     // Drops `count` rows, at least one, from row `start` on; all are in range.
-    fn drop_rows(&mut self, start: usize, count: usize, tally: &mut Tally)
+    fn drop_rows(&mut self, start: usize, count: usize)
+    where
+        T: Drop,
+        requires within { start + count ≤ row_count self.old.rows }
+        requires some { 0 < count }
+        ensures rows { self.new.rows ≡ without_rows start count self.old.rows }
+        ensures order { self.new.order ≡ self.old.order }
+    {
+        let rest = self.row_count - count;
+        let groups = row_groups(self.order, rest, self.col_count, start, count);
+        self.flat.drop_groups(groups);
+        self.row_count = rest;
+        self.col_count = cols_if_rows(rest, self.col_count);
+    }
+
+    // As `drop_rows`, and adds the cells that stay and move to the shift count of the tally.
+    fn drop_rows_counted(&mut self, start: usize, count: usize, tally: &mut Tally)
     where
         T: Drop,
         requires within { start + count ≤ row_count self.old.rows }

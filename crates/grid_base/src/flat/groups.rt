@@ -8,7 +8,7 @@
 //! `weave` brings the cells from the first form to the second. `take_out` takes the groups from the second form, and
 //! leaves the lines. Both keep the order of the groups, and no tally counts their moves. `open` goes from the first
 //! form to the second by counted swaps, which keep the order of the lines but not of the cells behind them. `close_up`
-//! takes the groups from the second form by counted swaps, and drops them.
+//! takes the groups from the second form by counted swaps, and drops them; `drop_groups` does so uncounted.
 ghost use Rattle.std.specs.Prelude.{◌≡◌, ◌+◌, ◌-◌, ◌*◌, ◌^◌, ◌<◌, ◌≤◌, ◌⊎◌, length, IfOk, IsFalse, OnErr};
 ghost use Rattle.core.specs.Mem.Slots.{FitsRoom};
 ghost use Rattle.grid_base.specs.declared.flat.groups.Method.TheVariants.{Singly, ThroughRoom, ByHalves};
@@ -156,6 +156,35 @@ impl<T, A: Allocator> Flat<T, A> {
         }
         self.cells.truncate(groups.lines * groups.width);
     }
+
+    /// Closes up the lines without their groups, and drops those, as [`close_up`](Flat::close_up) does. No tally counts the
+    /// moves.
+    ///
+    /// Requires: the vector has the cells of these lines and groups, and the groups are not empty.
+    /// Cost: that of [`weave`](Flat::weave), or of `close_up` where that is faster; no memory.
+    pub fn drop_groups(&mut self, groups: Groups)
+    where
+        T: Drop,
+        requires cells { length self.old ≡ groups.lines * (groups.width + groups.count) }
+        requires has_count { 0 < groups.count }
+        ensures { Closed groups.lines groups.width groups.at groups.count self.new self.old }
+    {
+        if moves_at_once(self.cells.as_slice(), groups) {
+            unweave_cells(self.cells.as_mut_slice(), groups);
+            self.cells.truncate(groups.lines * groups.width);
+        } else {
+            let mut tally = Tally::new();
+            self.close_up(groups, &mut tally);
+        }
+    }
+}
+
+// Whether groups leave their lines faster by moves of whole blocks than by a swap for each cell: there are not few cells,
+// and the groups fit the room.
+fn moves_at_once<T>(cells: &[T], groups: Groups) -> bool
+    requires { length cells.now ≡ groups.lines * (groups.width + groups.count) }
+{
+    size_of_val(cells) >= FEW_BYTES && has_room(cells, groups.lines * groups.count)
 }
 
 // Whether groups that are behind their lines have to move to be in them. Where the lines have no cells, or the group of
