@@ -24,7 +24,7 @@ mod square;
 mod strided_iter;
 
 pub(crate) use counted::Swaps;
-pub use groups::Groups;
+pub use groups::{Groups, weave};
 pub use indexed::{IndexedIntoIter, IndexedIter, IndexedIterMut};
 pub use line_iter::GridLineIter;
 pub use line_iter_mut::GridLineIterMut;

@@ -12,7 +12,7 @@ mod words;
 
 pub use flat::{
     Flat, GridLineIter, GridLineIterMut, GridRowIter, Groups, IndexedIntoIter, IndexedIter,
-    IndexedIterMut, Positions,
+    IndexedIterMut, Positions, weave,
 };
 pub use layout::Layout;
 pub use order::Order;

@@ -167,7 +167,7 @@ impl<T, A: Allocator> Grid<T, A> {
             Ok(()) => {
                 free_empty(lines);
                 let groups = row_groups(self.order, self.row_count, width, at, count);
-                self.flat.weave(groups);
+                grid_base::weave(self.flat.as_mut_slice(), groups);
                 self.row_count += count;
                 self.col_count = width;
                 Ok(())
@@ -242,7 +242,7 @@ impl<T, A: Allocator> Grid<T, A> {
         }
         self.flat.append(cells)?;
         let groups = row_groups(self.order, self.row_count, width, at, count);
-        self.flat.weave(groups);
+        grid_base::weave(self.flat.as_mut_slice(), groups);
         self.row_count += count;
         self.col_count = width;
         Ok(())

@@ -9,9 +9,9 @@
 //! leaves the lines. Both keep the order of the groups, and no tally counts their moves. `open` goes from the first
 //! form to the second by counted swaps, which keep the order of the lines but not of the cells behind them. `close_up`
 //! takes the groups from the second form by counted swaps, and drops them; `drop_groups` does so uncounted.
-ghost use Rattle.std.specs.Prelude.{◌≡◌, ◌+◌, ◌-◌, ◌*◌, ◌^◌, ◌<◌, ◌≤◌, ◌⊎◌, length, IfOk, IsFalse, OnErr};
+ghost use Rattle.std.specs.Prelude.{◌≡◌, ◌+◌, ◌-◌, ◌*◌, ◌^◌, ◌<◌, ◌≤◌, ◌⊎◌, length, IfOk, OnErr};
 ghost use Rattle.core.specs.Mem.Slots.{FitsRoom};
-ghost use Rattle.grid_base.specs.declared.flat.groups.Method.TheVariants.{Singly, ThroughRoom, ByHalves};
+ghost use Rattle.grid_base.specs.declared.flat.groups.Method.TheVariants.{Nothing, Singly, ThroughRoom, ByHalves};
 ghost use Rattle.grid_base.specs.Groups.{Widened, Woven, Opened, Closed, TakenOut};
 ghost use Rattle.grid_base.specs.Tally.{saturating_count};
 
@@ -28,6 +28,9 @@ const FEW_SINGLE_CELLS: usize = 32;
 
 // Two cells into each line of 8: 4 lines take 70 ns without the room; 5 lines 107 to 115 ns, and through it 95 to 104.
 const FEW_LINES: usize = 4;
+
+// A row of 4096 by 4096 bytes, which the cache doesn't hold, takes a tenth longer by a move than by swaps.
+const MANY_BYTES: usize = 1 << 20;
 
 /// A vector's cells as lines with a group in each: `lines` lines of `width` cells, and in each line `count` more cells,
 /// its group, before place `at`.
@@ -62,29 +65,13 @@ impl Groups {
 }
 
 impl<T, A: Allocator> Flat<T, A> {
-    /// Puts the groups that are behind the lines into their lines.
-    ///
-    ///     [1, 2, 3, 4, 5, 6]   weave(1 line of 4, 2 cells before place 2)    [1, 2, 5, 6, 3, 4]
-    ///     [1, 3, 2, 4, 5, 6]   weave(2 lines of 2, 1 cell before place 1)   [1, 5, 3, 2, 6, 4]
-    ///
-    /// Requires: the vector has the cells of these lines and groups.
-    /// Cost: time in the number of cells times log2(lines) + 1 at most, by rotations; no memory.
-    pub fn weave(&mut self, groups: Groups)
-        requires { length self.old ≡ groups.lines * (groups.width + groups.count) }
-        ensures { Woven groups.lines groups.width groups.at groups.count self.old self.new }
-    {
-        if moves_groups(groups) {
-            weave_cells(self.cells.as_mut_slice(), groups);
-        }
-    }
-
     /// Takes the groups out of their lines, and returns them.
     ///
     ///     [1, 5, 3, 2, 6, 4]   take_out(2 lines of 2, 1 cell before place 1)   [5, 6], and [1, 3, 2, 4] stay
     ///
     /// Requires: the vector has the cells of these lines and groups.
     /// Fails: if the allocation for the groups, which comes first, fails; the cells are unchanged.
-    /// Cost: that of [`weave`](Flat::weave).
+    /// Cost: that of [`weave`](super::weave).
     pub fn take_out(&mut self, groups: Groups) -> Result<Vec<T, A>, AllocError>
     where
         A: Clone,
@@ -94,12 +81,12 @@ impl<T, A: Allocator> Flat<T, A> {
         ensures err { OnErr result (self.new ≡ self.old) }
     {
         let kept = groups.lines * groups.width;
-        if !moves_groups(groups) {
+        if let Method::Nothing = method_for(self.cells.as_slice(), groups) {
             return self.cells.split_off(kept);
         }
         let alloc = self.cells.allocator().clone()?;
         let into = Vec::with_capacity(alloc, groups.lines * groups.count)?;
-        unweave_cells(self.cells.as_mut_slice(), groups);
+        unweave(self.cells.as_mut_slice(), groups);
         Ok(self.move_tail(kept, into))
     }
 
@@ -161,7 +148,7 @@ impl<T, A: Allocator> Flat<T, A> {
     /// moves.
     ///
     /// Requires: the vector has the cells of these lines and groups, and the groups are not empty.
-    /// Cost: that of [`weave`](Flat::weave), or of `close_up` where that is faster; no memory.
+    /// Cost: that of [`weave`](super::weave), or of `close_up` where that is faster; no memory.
     pub fn drop_groups(&mut self, groups: Groups)
     where
         T: Drop,
@@ -170,7 +157,7 @@ impl<T, A: Allocator> Flat<T, A> {
         ensures { Closed groups.lines groups.width groups.at groups.count self.new self.old }
     {
         if moves_at_once(self.cells.as_slice(), groups) {
-            unweave_cells(self.cells.as_mut_slice(), groups);
+            unweave(self.cells.as_mut_slice(), groups);
             self.cells.truncate(groups.lines * groups.width);
         } else {
             let mut tally = Tally::new();
@@ -179,26 +166,22 @@ impl<T, A: Allocator> Flat<T, A> {
     }
 }
 
-// Whether groups leave their lines faster by moves of whole blocks than by a swap for each cell: there are not few cells,
-// and the groups fit the room.
+// Whether groups leave their lines faster by moves of whole blocks than by a swap for each cell: the groups fit the room,
+// there are not few cells, and of a single line not many.
 fn moves_at_once<T>(cells: &[T], groups: Groups) -> bool
     requires { length cells.now ≡ groups.lines * (groups.width + groups.count) }
 {
-    size_of_val(cells) >= FEW_BYTES && has_room(cells, groups.lines * groups.count)
-}
-
-// Whether groups that are behind their lines have to move to be in them. Where the lines have no cells, or the group of
-// a single line is at its end, they are there.
-fn moves_groups(groups: Groups) -> bool
-    ensures { IsFalse result
-        → (groups.width ≡ 0) ⊎ ((groups.lines ≤ 1) × (groups.at ≡ groups.width)) }
-{
-    0 < groups.width && (1 < groups.lines || groups.at != groups.width)
+    let bytes = size_of_val(cells);
+    FEW_BYTES <= bytes
+        && (1 < groups.lines || bytes < MANY_BYTES)
+        && has_room(cells, groups.lines * groups.count)
 }
 
 // How groups come to their places among the lines, and how they leave them.
 #[derive(Clone, Copy)]
 enum Method {
+    // None: they are there. The lines have no cells, or the group of a single line is at its end.
+    Nothing,
     // Few single cells, among few cells, one by one.
     Singly,
     // Groups that fit the room on the stack, through it.
@@ -212,12 +195,17 @@ enum Method {
 #[inline(always)]
 fn method_for<T>(cells: &[T], groups: Groups) -> Method
     requires { length cells.now ≡ groups.lines * (groups.width + groups.count) }
+    ensures nothing { result ≡ Nothing
+        → (groups.width ≡ 0) ⊎ ((groups.lines ≤ 1) × (groups.at ≡ groups.width)) }
     ensures single { result ≡ Singly → groups.count ≡ 1 }
     ensures lines { result ≡ ThroughRoom → 0 < groups.lines }
     ensures some { result ≡ ThroughRoom → 0 < length cells.now }
     ensures room { result ≡ ThroughRoom → FitsRoom T.row (groups.lines * groups.count) }
     ensures halves { result ≡ ByHalves → 1 < groups.lines }
 {
+    if groups.width == 0 || (groups.lines < 2 && groups.at == groups.width) {
+        return Method::Nothing;
+    }
     if groups.lines < 2 {
         return Method::InTurn;
     }
@@ -236,12 +224,21 @@ fn method_for<T>(cells: &[T], groups: Groups) -> Method
     }
 }
 
-// By halves, the groups of the first half of the lines come before the lines of the second half; then each half is woven.
-pub(super) fn weave_cells<T>(cells: &mut [T], groups: Groups)
+/// Puts the groups that are behind the lines into their lines.
+///
+///     [1, 2, 3, 4, 5, 6]   weave(1 line of 4, 2 cells before place 2)    [1, 2, 5, 6, 3, 4]
+///     [1, 3, 2, 4, 5, 6]   weave(2 lines of 2, 1 cell before place 1)   [1, 5, 3, 2, 6, 4]
+///
+/// By halves, the groups of the first half of the lines come before the lines of the second half; then each half is woven.
+///
+/// Requires: the slice has the cells of these lines and groups.
+/// Cost: time in the number of cells times log2(lines) + 1 at most, by rotations; no memory.
+pub fn weave<T>(cells: &mut [T], groups: Groups)
     requires { length cells.old ≡ groups.lines * (groups.width + groups.count) }
     ensures { Woven groups.lines groups.width groups.at groups.count cells.old cells.new }
 {
     match method_for(cells, groups) {
+        Method::Nothing => {}
         Method::Singly => weave_singly(cells, groups),
         Method::ThroughRoom => move_through_room(cells, groups, Way::In),
         Method::InTurn => weave_in_turn(cells, groups),
@@ -255,8 +252,8 @@ pub(super) fn weave_cells<T>(cells: &mut [T], groups: Groups)
                 half * groups.count,
             );
             let (front, back) = cells.split_at_mut(half * (groups.width + groups.count));
-            weave_cells(front, groups.in_lines(half));
-            weave_cells(back, groups.in_lines(rest));
+            weave(front, groups.in_lines(half));
+            weave(back, groups.in_lines(rest));
         }
     }
 }
@@ -305,11 +302,12 @@ fn weave_in_turn<T>(cells: &mut [T], groups: Groups)
 }
 
 // By halves, each half is unwoven; then the lines of the second half come before the groups of the first.
-pub(super) fn unweave_cells<T>(cells: &mut [T], groups: Groups)
+pub(super) fn unweave<T>(cells: &mut [T], groups: Groups)
     requires { length cells.old ≡ groups.lines * (groups.width + groups.count) }
     ensures { Woven groups.lines groups.width groups.at groups.count cells.new cells.old }
 {
     match method_for(cells, groups) {
+        Method::Nothing => {}
         Method::Singly => unweave_singly(cells, groups),
         Method::ThroughRoom => move_through_room(cells, groups, Way::Out),
         Method::InTurn => unweave_in_turn(cells, groups),
@@ -317,8 +315,8 @@ pub(super) fn unweave_cells<T>(cells: &mut [T], groups: Groups)
             let half = groups.lines / 2;
             let rest = groups.lines - half;
             let (front, back) = cells.split_at_mut(half * (groups.width + groups.count));
-            unweave_cells(front, groups.in_lines(half));
-            unweave_cells(back, groups.in_lines(rest));
+            unweave(front, groups.in_lines(half));
+            unweave(back, groups.in_lines(rest));
             exchange_blocks(
                 cells,
                 half * groups.width,

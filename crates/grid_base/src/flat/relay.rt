@@ -2,7 +2,7 @@
 ghost use Rattle.std.specs.Prelude.{◌≡◌, ◌*◌, ◌^◌, ◌<◌, length};
 ghost use Rattle.grid_base.specs.Relaid.{Relaid};
 
-use super::groups::{unweave_cells, weave_cells};
+use super::groups::{unweave, weave};
 use super::square::transpose_square;
 use super::{Flat, Groups};
 use std::alloc::Allocator;
@@ -59,7 +59,7 @@ fn relay_cells<T>(cells: &mut [T], lines: usize, width: usize)
             at: part,
             count: rest,
         };
-        weave_cells(cells, groups);
+        weave(cells, groups);
     } else {
         let part = first_part(width, lines);
         let rest = width - part;
@@ -69,7 +69,7 @@ fn relay_cells<T>(cells: &mut [T], lines: usize, width: usize)
             at: part,
             count: rest,
         };
-        unweave_cells(cells, groups);
+        unweave(cells, groups);
         let (front, back) = cells.split_at_mut(lines * part);
         relay_cells(front, lines, part);
         relay_cells(back, lines, rest);

@@ -44,8 +44,8 @@ fn reverse_at_once<T>(cells: &mut [T], start: usize, n: usize)
     cells[start..start + n].reverse();
 }
 
-// Exchanges the `first` cells from `start` on with the `second` cells behind them. `rotate_left` needs no room for a single
-// cell.
+// Exchanges the `first` cells from `start` on with the `second` cells behind them: few by three reversals, which need no
+// room on the stack. `rotate_left` needs none for a single cell.
 pub(super) fn exchange_blocks<T>(cells: &mut [T], start: usize, first: usize, second: usize)
     requires within { start + first + second ≤ length cells.old }
     requires fits { start + first + second < 2 ^ 64 }
@@ -54,28 +54,14 @@ pub(super) fn exchange_blocks<T>(cells: &mut [T], start: usize, first: usize, se
     if first == 0 || second == 0 {
         return;
     }
-    if first != 1 && second != 1 && are_few(cells, first + second) {
-        exchange_by_reversals(cells, start, first, second);
+    let few = first != 1 && second != 1 && mem::size_of_val(&cells[..first + second]) < FEW_BYTES;
+    if few {
+        reverse_part(cells, start, first);
+        reverse_part(cells, start + first, second);
+        reverse_part(cells, start, first + second);
     } else {
         exchange_at_once(cells, start, first, second);
     }
-}
-
-// Whether `n` of the cells are moved faster without a room on the stack.
-fn are_few<T>(cells: &[T], n: usize) -> bool
-    requires { n ≤ length cells.now }
-{
-    mem::size_of_val(&cells[..n]) < FEW_BYTES
-}
-
-fn exchange_by_reversals<T>(cells: &mut [T], start: usize, first: usize, second: usize)
-    requires within { start + first + second ≤ length cells.old }
-    requires fits { start + first + second < 2 ^ 64 }
-    ensures { BlocksExchanged start first second cells.old cells.new }
-{
-    reverse_part(cells, start, first);
-    reverse_part(cells, start + first, second);
-    reverse_part(cells, start, first + second);
 }
 
 // In vector code. Where the one block is known to be a single cell, it is one move of the other.

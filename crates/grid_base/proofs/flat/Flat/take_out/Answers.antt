@@ -1,13 +1,13 @@
-use Rattle.std.proofs.Common.{arith, rules, ◌≡◌, ◌*◌, List, take, drop}
+use Rattle.std.proofs.Common.{arith, rules, refl, ◌≡◌, ◌*◌, List, take, drop}
 use Rattle.grid_base.proofs.Common.{common_steps, TakenOut}
 use Rattle.grid_base.proofs.WeaveLemmas.{taken_in_place}
 use Rattle.grid_base.proofs.flat.Flat.take_out.Goals as goal
 
-pub returns-then-not-moves_groups-clause-taken : goal.returns-then-not-moves_groups-clause-taken
-returns-then-not-moves_groups-clause-taken g c =
+pub returns-in-Nothing-clause-taken : goal.returns-in-Nothing-clause-taken
+returns-in-Nothing-clause-taken g c =
     let groups = c.args.groups in
     let xs = c.args.self.now in
-    let stand = c.moves_groups.ensures c.if-not-moves_groups.true in
+    let stand = c.in-Nothing.ensures.nothing refl in
     let h : (short taken : List g.row.T.Denot) → short ≡ take (groups.lines * groups.width) xs → taken ≡ drop (groups.lines * groups.width) xs → TakenOut groups.lines groups.width groups.at groups.count short taken xs =
     λ short taken front back. taken_in_place _ _ _ _ xs short taken groups.within stand c.requires front back in
     search (rules, h)

@@ -8,7 +8,7 @@ returns-then-width-lines g t c =
     let all : part + (c.args.lines - part) ≡ c.args.lines = omega (arith, c.first_part-part.ensures.less) in
     let split : part * c.args.width + (c.args.lines - part) * c.args.width ≡ c.args.lines * c.args.width = omega (arith, add-mul part (c.args.lines - part) c.args.width, ap (λ x. x * c.args.width) all) in
     relaid_by_halves _ part (c.args.lines - part) _ _ _ _ _ _ _ _ all (omega (arith, c.split_at_mut-front.ensures.front_len))
-    (omega (arith, split, c.split_at_mut-front.ensures.back_len, c.requires.cells)) c.split_at_mut-front.ensures.value refl c.relay_cells.ensures c.relay_cells-then-width-lines.ensures c.weave_cells.ensures
+    (omega (arith, split, c.split_at_mut-front.ensures.back_len, c.requires.cells)) c.split_at_mut-front.ensures.value refl c.relay_cells.ensures c.relay_cells-then-width-lines.ensures c.weave.ensures
 
 pub returns-else-width-lines : goal.returns-else-width-lines
 returns-else-width-lines g t c =
@@ -19,5 +19,5 @@ returns-else-width-lines g t c =
     let second = relaid_back _ _ _ _ c.relay_cells-else-width-lines-2.ensures in
     relaid_back _ _ _ _ (relaid_by_halves _ part (c.args.width - part) _ _ _ _ _ _ _ _ all
     (omega (arith, c.split_at_mut-front-else-width-lines.ensures.front_len, c.relay_cells-else-width-lines.ensures.lengths))
-    (omega (arith, split, c.split_at_mut-front-else-width-lines.ensures.back_len, c.relay_cells-else-width-lines-2.ensures.lengths, c.requires.cells, c.unweave_cells.ensures.lengths))
-    refl c.split_at_mut-front-else-width-lines.ensures.value first second c.unweave_cells.ensures)
+    (omega (arith, split, c.split_at_mut-front-else-width-lines.ensures.back_len, c.relay_cells-else-width-lines-2.ensures.lengths, c.requires.cells, c.unweave.ensures.lengths))
+    refl c.split_at_mut-front-else-width-lines.ensures.value first second c.unweave.ensures)
