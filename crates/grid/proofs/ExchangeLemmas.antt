@@ -1,6 +1,6 @@
 -- A part of a row-major grid that changes places with cells of another, line by line.
 use Rattle.std.proofs.Common.{◌≡◌, ◌⊎◌, ℕ, ◌+◌, ◌*◌, ◌^◌, ◌<◌, ◌≤◌, List, ◌++◌, take, drop, length, refl, sym, ◌∙◌, ap, subst, arith, inl, inr, ⊎_elim, mul-le-mul_right, slice_get}
-use Rattle.grid_base.proofs.Common.{cases_lt, cases_eq, take-append_seam, refill, BlockTaken, GridValue, HoldsSize, table_of, act, row_count, col_count, cell}
+use Rattle.grid_base.proofs.Common.{cases_lt, cases_eq, take-append_seam, refill, BlockTaken, Woven, GridValue, HoldsSize, table_of, act, row_count, col_count, cell}
 use Rattle.grid_base.specs.declared.order.Order.{Order}
 use Rattle.grid_base.specs.declared.order.Order.TheVariants.{RowMajor}
 use Rattle.grid_base.specs.declared.words.Symmetry.TheVariants.{Transpose}
@@ -107,6 +107,12 @@ row_exchanged o u m n p q old new other left h k f l to from seen from_seen orde
 -- a vector whose cells were all written anew through a slice
 pub refilled : {T : Type 0} (xs ws : List T) → length ws ≡ length xs → refill (length xs) xs ws ≡ ws
 refilled xs ws e = ap (λ k. take k (ws ++ drop (length ws) xs)) (sym e) ∙ take-append_seam ws (drop (length ws) xs)
+
+-- groups that are woven in a slice of all cells
+pub woven_lent : {T : Type 0} (p q i k : ℕ) {xs ys zs : List T} → ys ≡ xs → Woven p q i k ys zs → Woven p q i k xs (refill (length xs) xs zs)
+woven_lent p q i k {xs} {ys} {zs} e w =
+    let v : Woven p q i k xs zs = rw e at w in
+    rw (refilled xs zs v.lengths) v
 
 pub row_copied : {T : Type 0} (o : Order) (m n : ℕ) (old cells written : List T) (h : HoldsSize m n (length old)) (k : HoldsSize m n (length (refill (length old) old written))) (to : GridValue T) (u : ViewValue T) → grid_value o m n old h ≡ to → to.order ≡ RowMajor → (at : ℕ × ℕ) (row : ℕ) → at.0 + row < m → at.1 + col_count u.rows ≤ n → cells ≡ old → BlockTaken ((at.0 + row) * n + at.1) 0 (col_count u.rows) cells (table.row u.rows row) written → PartTaken (InRow row (col_count u.rows)) at to (held u) (grid_value o m n (refill (length old) old written) k) (held u)
 row_copied o m n old cells written h k to u seen order at row ls fits same w =

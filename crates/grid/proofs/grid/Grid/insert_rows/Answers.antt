@@ -2,6 +2,7 @@ use Rattle.std.proofs.Common.{rules, ◌≡◌, ◌<◌, length, refl, sym, ◌�
 use Rattle.grid_base.proofs.Common.{common_steps, col_count, items_of_each}
 use Rattle.grid_base.proofs.GatherLemmas.{rows-vecs}
 use Rattle.grid_commands.proofs.FactorLemmas.{factor_small}
+use Rattle.grid.proofs.ExchangeLemmas.{woven_lent}
 use Rattle.grid.proofs.SeenLemmas.{seen_rows, seen_same}
 use Rattle.grid.proofs.SeenEditLemmas.{RowsBehind-lines, put_cells, put_fits, rows_put, no_room, room}
 use Rattle.grid.proofs.grid.Grid.insert_rows.Goals as goal
@@ -27,7 +28,7 @@ weave-requires g c =
     let width : c.first_len-width.result ≡ col_count (items_of_each c.args.lines.items) = c.first_len-width.ensures ∙ ap (λ xs. col_count (items_of_each xs)) c.as_slice.ensures.value in
     let fits = c.requires.fits (omega arith) in
     let behind = RowsBehind-lines c.self.inside.order _ _ _ _ c.requires.table width (omega arith) c.as_mut_slice.ensures.value c.in-Ok.ensures.ok in
-    put_cells _ _ _ _ _ c.self.inside.fits c.self.view_is _ (rw width fits) _ _ _ behind ∙ sym c.row_groups-groups.ensures.cells
+    ap length c.as_mut_slice-in-Ok.ensures.cells ∙ put_cells _ _ _ _ _ c.self.inside.fits c.self.view_is _ (rw width fits) _ _ _ behind ∙ sym c.row_groups-groups.ensures.cells
 
 pub overflow_add-self : goal.overflow_add-self
 overflow_add-self g c =
@@ -42,14 +43,14 @@ invariant_of-self-inside g c =
     let some : 0 < c.len-count.result = omega arith in
     let fits = c.requires.fits (omega arith) in
     let behind = RowsBehind-lines c.self.inside.order _ _ _ _ c.requires.table width (omega arith) c.as_mut_slice.ensures.value c.in-Ok.ensures.ok in
-    (put_fits _ _ _ _ _ c.self.inside.fits c.self.view_is _ (rw width fits) _ _ _ behind _ _ _ _ _ _ c.row_groups-groups.ensures.groups c.weave.ensures some (c.has_room.ensures.0 c.if-not-has_room.false), tt)
+    (put_fits _ _ _ _ _ c.self.inside.fits c.self.view_is _ (rw width fits) _ _ _ behind _ _ _ _ _ _ c.row_groups-groups.ensures.groups (woven_lent _ _ _ _ c.as_mut_slice-in-Ok.ensures.cells c.weave.ensures) some (c.has_room.ensures.0 c.if-not-has_room.false), tt)
 
 pub returns-in-Ok-clause-rows : goal.returns-in-Ok-clause-rows
 returns-in-Ok-clause-rows g c =
     let width : c.first_len-width.result ≡ col_count (items_of_each c.args.lines.items) = c.first_len-width.ensures ∙ ap (λ xs. col_count (items_of_each xs)) c.as_slice.ensures.value in
     let fits = c.requires.fits (omega arith) in
     let behind = RowsBehind-lines c.self.inside.order _ _ _ _ c.requires.table width (omega arith) c.as_mut_slice.ensures.value c.in-Ok.ensures.ok in
-    rows_put _ _ _ _ _ c.self.inside.fits c.self.view_is _ (rw width fits) _ _ _ behind _ _ _ _ _ _ c.row_groups-groups.ensures.groups c.weave.ensures c.requires.point
+    rows_put _ _ _ _ _ c.self.inside.fits c.self.view_is _ (rw width fits) _ _ _ behind _ _ _ _ _ _ c.row_groups-groups.ensures.groups (woven_lent _ _ _ _ c.as_mut_slice-in-Ok.ensures.cells c.weave.ensures) c.requires.point
 
 pub returns-in-Ok-clause-fails : goal.returns-in-Ok-clause-fails
 returns-in-Ok-clause-fails g c =

@@ -1,7 +1,8 @@
-use Rattle.std.proofs.Common.{refl, sym, ◌∙◌, ap, arith}
+use Rattle.std.proofs.Common.{refl, sym, ◌∙◌, ap, arith, length}
 use Rattle.grid_base.specs.Order.{table_of}
 use Rattle.grid_commands.proofs.FactorLemmas.{factor_small}
 use Rattle.grid.specs.Edits.{insert_rows}
+use Rattle.grid.proofs.ExchangeLemmas.{woven_lent}
 use Rattle.grid.proofs.SeenLemmas.{seen_rows, seen_same}
 use Rattle.grid.proofs.TransposedEditLemmas.{either_way}
 use Rattle.grid.proofs.SeenEditLemmas.{RowsBehind-put, put_cells, put_fits, rows_put, no_room, room}
@@ -19,7 +20,7 @@ row_groups-groups-requires-clause-point g c =
 pub weave-requires : goal.weave-requires
 weave-requires g c =
     let behind = RowsBehind-put c.self.inside.order _ _ c.self.inside.row_count _ _ _ c.requires.some c.requires.wide c.requires.cells (c.has_room.ensures.0 c.if-not-has_room.false) c.in_ok-append.ensures.ok in
-    put_cells _ _ _ _ _ c.self.inside.fits c.self.view_is _ c.requires.fits _ _ _ behind ∙ sym c.row_groups-groups.ensures.cells
+    ap length c.as_mut_slice.ensures.cells ∙ put_cells _ _ _ _ _ c.self.inside.fits c.self.view_is _ c.requires.fits _ _ _ behind ∙ sym c.row_groups-groups.ensures.cells
 
 pub overflow_add-self : goal.overflow_add-self
 overflow_add-self g c =
@@ -30,12 +31,12 @@ pub invariant_of-self-inside-2 : goal.invariant_of-self-inside-2
 invariant_of-self-inside-2 g c =
     let small = c.has_room.ensures.0 c.if-not-has_room.false in
     let behind = RowsBehind-put c.self.inside.order _ _ c.self.inside.row_count _ _ _ c.requires.some c.requires.wide c.requires.cells small c.in_ok-append.ensures.ok in
-    (put_fits _ _ _ _ _ c.self.inside.fits c.self.view_is _ c.requires.fits _ _ _ behind _ _ _ _ _ _ c.row_groups-groups.ensures.groups c.weave.ensures c.requires.some small, tt)
+    (put_fits _ _ _ _ _ c.self.inside.fits c.self.view_is _ c.requires.fits _ _ _ behind _ _ _ _ _ _ c.row_groups-groups.ensures.groups (woven_lent _ _ _ _ c.as_mut_slice.ensures.cells c.weave.ensures) c.requires.some small, tt)
 
 pub returns-clause-rows : goal.returns-clause-rows
 returns-clause-rows g c =
     let behind = RowsBehind-put c.self.inside.order _ _ c.self.inside.row_count _ _ _ c.requires.some c.requires.wide c.requires.cells (c.has_room.ensures.0 c.if-not-has_room.false) c.in_ok-append.ensures.ok in
-    rows_put _ _ _ _ _ c.self.inside.fits c.self.view_is _ c.requires.fits _ _ _ behind _ _ _ _ _ _ c.row_groups-groups.ensures.groups c.weave.ensures c.requires.point
+    rows_put _ _ _ _ _ c.self.inside.fits c.self.view_is _ c.requires.fits _ _ _ behind _ _ _ _ _ _ c.row_groups-groups.ensures.groups (woven_lent _ _ _ _ c.as_mut_slice.ensures.cells c.weave.ensures) c.requires.point
     ∙ ap (λ x. insert_rows c.args.at (table_of x.order c.args.count c.args.width c.args.cells.now.items) c.args.self.now.rows) c.self.view_is
 
 pub returns-clause-too_large : goal.returns-clause-too_large
