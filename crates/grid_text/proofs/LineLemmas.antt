@@ -2,7 +2,7 @@
 use Rattle.std.proofs.Common.{◌≡◌, ℕ, ◌+◌, ◌≤◌, true, Option, Some, None, Result, Ok, Err, List, [], ◌∷◌, ◌++◌, length, encode_utf8, IsUtf8, chars, inl, inr, refl, subst, sym, ap, ◌∙◌, arith, append_assoc, append-nil, length-append}
 use Rattle.grid_base.proofs.Common.{scalars, IsScalar, and_parts, nil_from_length, chars-nil, chars_past_char, IsUtf8-past_char, cons_from_encodes, length-encode, len_utf8_bounds}
 use Rattle.grid_text.specs.declared.error.TextError.{TextError}
-use Rattle.grid_text.specs.Reading.{ReadsBy, prepend, cell_before, read_line, bad_char, IsRow, MayReadLine}
+use Rattle.grid_text.specs.Reading.{AnswersChar, prepend, bad_char, IsRow, MayReadLine}
 
 pub prepend-nil : {X E : Type 0} (r : Result (List X) E) → prepend [] r ≡ r
 prepend-nil (Ok ys) = refl
@@ -22,65 +22,51 @@ first_scalar text rest c utf8 is =
     scalar_of cs es e all = (and_parts _ _ (rw e at all)).0
 
 -- the cells of the first parts of a line, `count` of them, before those that are left
-pub record LineSoFar {A T : Type 0} (bad : ℕ → ℕ → A → TextError) (By : (A → Option T) → Type 0) (R : A → Option T → Type 0) (line : ℕ) (all left : List A) (old new : List T) (count : ℕ) : Type 0 where
+pub record LineSoFar {A T : Type 0} (bad : ℕ → ℕ → A → TextError) (R : A → Option T → Type 0) (line : ℕ) (all left : List A) (old new : List T) (count : ℕ) : Type 0 where
   pub row : List T
   pub put : new ≡ old ++ row
   pub len : length row ≡ count
   pub counts : count + length left ≡ length all
-  pub reads : (h : A → Option T) → By h → read_line bad h line 1 all ≡ prepend row (read_line bad h line (count + 1) left)
   pub may : (later : Result (List T) TextError) → MayReadLine bad R line (count + 1) left later → MayReadLine bad R line 1 all (prepend row later)
 
-module _ {A T : Type 0} (bad : ℕ → ℕ → A → TextError) (By : (A → Option T) → Type 0) (R : A → Option T → Type 0) (line : ℕ) (all : List A) (old : List T) where
-  pub line_start : (left : List A) → left ≡ all → LineSoFar bad By R line all left old old 0
+module _ {A T : Type 0} (bad : ℕ → ℕ → A → TextError) (R : A → Option T → Type 0) (line : ℕ) (all : List A) (old : List T) where
+  pub line_start : (left : List A) → left ≡ all → LineSoFar bad R line all left old old 0
   line_start left is = record {
     row = [];
     put = sym (append-nil old);
     len = refl;
     counts = omega (arith, ap length is);
-    reads = λ h by. sym (prepend-nil (read_line bad h line 1 all)) ∙ ap (λ xs. prepend [] (read_line bad h line 1 xs)) (sym is);
     may = λ later m. subst (MayReadLine bad R line 1 all) (sym (prepend-nil later)) (subst (λ xs. MayReadLine bad R line 1 xs later) is m);
   }
 
-  module _ (left later : List A) (new : List T) (count : ℕ) (x : A) (i : LineSoFar bad By R line all left old new count) (next : left ≡ x ∷ later) where
+  module _ (left later : List A) (new : List T) (count : ℕ) (x : A) (i : LineSoFar bad R line all left old new count) (next : left ≡ x ∷ later) where
     pub line_room : count + 1 ≤ length all
     line_room = omega (arith, i.counts, ap length next)
-
-    here : (h : A → Option T) → By h → (cell : Option T) → cell ≡ h x → read_line bad h line 1 all ≡ prepend i.row (cell_before bad line (count + 1) x cell (read_line bad h line (count + 1 + 1) later))
-    here h by cell said =
-        let e : read_line bad h line (count + 1) left ≡ read_line bad h line (count + 1) (x ∷ later) = ap (read_line bad h line (count + 1)) next in
-        let one : cell_before bad line (count + 1) x (h x) (read_line bad h line (count + 1 + 1) later) ≡ cell_before bad line (count + 1) x cell (read_line bad h line (count + 1 + 1) later) =
-        ap (λ o. cell_before bad line (count + 1) x o (read_line bad h line (count + 1 + 1) later)) (sym said) in
-        i.reads h by ∙ ap (prepend i.row) (e ∙ one)
 
     may_here : (read : Result (List T) TextError) → MayReadLine bad R line (count + 1) (x ∷ later) read → MayReadLine bad R line 1 all (prepend i.row read)
     may_here read m = i.may read (subst (λ xs. MayReadLine bad R line (count + 1) xs read) (sym next) m)
 
-    pub line_more : (cell : T) (added : List T) → ((h : A → Option T) → By h → Some cell ≡ h x) → R x (Some cell) → added ≡ new ++ cell ∷ [] → LineSoFar bad By R line all later old added (count + 1)
-    line_more cell added said gave push = record {
+    pub line_more : (cell : T) (added : List T) → R x (Some cell) → added ≡ new ++ cell ∷ [] → LineSoFar bad R line all later old added (count + 1)
+    line_more cell added gave push = record {
       row = i.row ++ cell ∷ [];
       put = push ∙ (ap (λ xs. xs ++ cell ∷ []) i.put ∙ append_assoc old i.row (cell ∷ []));
       len = length-append i.row (cell ∷ []) ∙ ap (λ n. n + 1) i.len;
       counts = omega (arith, i.counts, ap length next);
-      reads = λ h by. here h by (Some cell) (said h by) ∙ prepend-prepend i.row (cell ∷ []) (read_line bad h line (count + 1 + 1) later);
       may = λ read m.
           subst (MayReadLine bad R line 1 all) (prepend-prepend i.row (cell ∷ []) read)
           (may_here (prepend (cell ∷ []) read) (inr (cell, read, gave, m, refl)));
     }
 
-    pub line_bad : ((h : A → Option T) → By h → None ≡ h x) → (h : A → Option T) → By h → read_line bad h line 1 all ≡ Err (bad line (count + 1) x)
-    line_bad said h by = here h by None (said h by)
+    pub line_bad : R x None → MayReadLine bad R line 1 all (Err (bad line (count + 1) x))
+    line_bad gave = may_here (Err (bad line (count + 1) x)) (inl (gave, refl))
 
-    pub line_may_be_bad : R x None → MayReadLine bad R line 1 all (Err (bad line (count + 1) x))
-    line_may_be_bad gave = may_here (Err (bad line (count + 1) x)) (inl (gave, refl))
-
-pub line_end : {A T : Type 0} (parts : List ℕ → List A) (bad : ℕ → ℕ → A → TextError) (By : (A → Option T) → Type 0) (R : A → Option T → Type 0) (line : ℕ) (text : List ℕ) (left : List A) (old new : List T) (count : ℕ) → LineSoFar bad By R line (parts text) left old new count → left ≡ [] → IsRow parts bad By R line text old new count
-line_end parts bad By R line text left old new count i none =
+pub line_end : {A T : Type 0} (parts : List ℕ → List A) (bad : ℕ → ℕ → A → TextError) (R : A → Option T → Type 0) (line : ℕ) (text : List ℕ) (left : List A) (old new : List T) (count : ℕ) → LineSoFar bad R line (parts text) left old new count → left ≡ [] → IsRow parts bad R line text old new count
+line_end parts bad R line text left old new count i none =
     record {
       row = i.row;
       put = i.put;
       counts = i.len ∙ (omega (arith, ap length none, i.counts));
       is_len = sym i.len;
-      reads = λ h by. i.reads h by ∙ (ap (λ xs. prepend i.row (read_line bad h line (count + 1) xs)) none ∙ ap Ok (append-nil i.row));
       may = subst (MayReadLine bad R line 1 (parts text)) (ap Ok (append-nil i.row)) (i.may (Ok []) (subst (λ xs. MayReadLine bad R line (count + 1) xs (Ok [])) (sym none) refl));
     }
 
@@ -88,22 +74,22 @@ line_end parts bad By R line text left old new count i none =
 pub record CharsSoFar {F T : Type 0} (returns : F → ℕ → Option T → Type 0) (read : F) (line : ℕ) (text rest : List ℕ) (old new : List T) (column : ℕ) : Type 0 where
   pub utf8 : IsUtf8 rest
   pub fits : column + length rest ≤ length text
-  pub cells : LineSoFar bad_char (ReadsBy returns read) (returns read) line (chars text) (chars rest) old new column
+  pub cells : LineSoFar bad_char (AnswersChar returns read) line (chars text) (chars rest) old new column
 
 module _ {F T : Type 0} (returns : F → ℕ → Option T → Type 0) (read : F) (line : ℕ) (text : List ℕ) (old : List T) where
   pub chars_start : (rest : List ℕ) → IsUtf8 text → rest ≡ text → CharsSoFar returns read line text rest old old 0
   chars_start rest utf8 is = record {
     utf8 = rw is utf8;
     fits = rw is (omega arith);
-    cells = line_start bad_char (ReadsBy returns read) (returns read) line (chars text) old (chars rest) (ap chars is);
+    cells = line_start bad_char (AnswersChar returns read) line (chars text) old (chars rest) (ap chars is);
   }
 
   module _ (rest later : List ℕ) (new : List T) (column c : ℕ) (i : CharsSoFar returns read line text rest old new column) (next : rest ≡ encode_utf8 c ++ later) where
     chars_are : chars rest ≡ c ∷ chars later
     chars_are = chars_past_char rest later c i.utf8 next
 
-    said : (cell : Option T) → returns read c cell → (h : ℕ → Option T) → ReadsBy returns read h → cell ≡ h c
-    said cell gave h by = by c cell (first_scalar rest later c i.utf8 next) gave
+    said : (cell : Option T) → returns read c cell → AnswersChar returns read c cell
+    said cell gave = (first_scalar rest later c i.utf8 next, gave)
 
     pub chars_room : column + 1 ≤ length text
     chars_room = omega (arith, i.fits, ap length next ∙ length-append (encode_utf8 c) later, length-encode c, (len_utf8_bounds c).0)
@@ -112,15 +98,12 @@ module _ {F T : Type 0} (returns : F → ℕ → Option T → Type 0) (read : F)
     chars_more cell added gave push = record {
       utf8 = IsUtf8-past_char rest later c i.utf8 next;
       fits = omega (arith, i.fits, ap length next ∙ length-append (encode_utf8 c) later, length-encode c, (len_utf8_bounds c).0);
-      cells = line_more bad_char (ReadsBy returns read) (returns read) line (chars text) old (chars rest) (chars later) new column c i.cells chars_are cell added (said (Some cell) gave) gave push;
+      cells = line_more bad_char (AnswersChar returns read) line (chars text) old (chars rest) (chars later) new column c i.cells chars_are cell added (said (Some cell) gave) push;
     }
 
-    pub chars_bad : returns read c None → (h : ℕ → Option T) → ReadsBy returns read h → read_line bad_char h line 1 (chars text) ≡ Err (bad_char line (column + 1) c)
-    chars_bad gave = line_bad bad_char (ReadsBy returns read) (returns read) line (chars text) old (chars rest) (chars later) new column c i.cells chars_are (said None gave)
+    pub chars_bad : returns read c None → MayReadLine bad_char (AnswersChar returns read) line 1 (chars text) (Err (bad_char line (column + 1) c))
+    chars_bad gave = line_bad bad_char (AnswersChar returns read) line (chars text) old (chars rest) (chars later) new column c i.cells chars_are (said None gave)
 
-    pub chars_may_be_bad : returns read c None → MayReadLine bad_char (returns read) line 1 (chars text) (Err (bad_char line (column + 1) c))
-    chars_may_be_bad gave = line_may_be_bad bad_char (ReadsBy returns read) (returns read) line (chars text) old (chars rest) (chars later) new column c i.cells chars_are gave
-
-  pub chars_end : (rest : List ℕ) (new : List T) (column : ℕ) → CharsSoFar returns read line text rest old new column → length rest ≡ 0 → IsRow chars bad_char (ReadsBy returns read) (returns read) line text old new column
+  pub chars_end : (rest : List ℕ) (new : List T) (column : ℕ) → CharsSoFar returns read line text rest old new column → length rest ≡ 0 → IsRow chars bad_char (AnswersChar returns read) line text old new column
   chars_end rest new column i none =
-      line_end chars bad_char (ReadsBy returns read) (returns read) line text (chars rest) old new column i.cells (ap chars (nil_from_length rest none) ∙ chars-nil)
+      line_end chars bad_char (AnswersChar returns read) line text (chars rest) old new column i.cells (ap chars (nil_from_length rest none) ∙ chars-nil)

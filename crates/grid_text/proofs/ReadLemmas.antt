@@ -4,7 +4,7 @@ use Rattle.grid_base.proofs.Common.{position_or_len, nil_from_length, All-push, 
 use Rattle.grid_text.specs.declared.error.TextError.{TextError}
 use Rattle.grid_text.specs.declared.error.TextError.TheVariants.{Ragged, Memory}
 use Rattle.text_lines.specs.Lines.{first_line, later_lines, lines_of}
-use Rattle.grid_text.specs.Reading.{prepend, row_before, read_line, read_lines, rows_of, IsRow, IsBadRow, MayReadLine, MayReadLines, MayReadRows}
+use Rattle.grid_text.specs.Reading.{prepend, row_before, IsRow, IsBadRow, MayReadLine, MayReadLines, MayReadRows}
 use Rattle.text_lines.proofs.LineLemmas.{lines-first, lines-none}
 use Rattle.grid_text.proofs.LineLemmas.{prepend-nil, prepend-prepend}
 
@@ -22,55 +22,10 @@ module _ {T : Type 0} where
       let test : (length row == cols) ≡ true = eq-eqb (length row) cols e in
       rw test refl
 
-  ragged_row : (line cols : ℕ) (row : List T) (later : Result (List (List T)) TextError) → length row ≢ cols → row_before line cols (Ok row) later ≡ Err (Ragged line (length row) cols)
+  pub ragged_row : (line cols : ℕ) (row : List T) (later : Result (List (List T)) TextError) → length row ≢ cols → row_before line cols (Ok row) later ≡ Err (Ragged line (length row) cols)
   ragged_row line cols row later ne =
       let test : (length row == cols) ≡ false = ne_eqb (length row) cols ne in
       rw test refl
-
-module _ {A T : Type 0} (parts : List ℕ → List A) (bad : ℕ → ℕ → A → TextError) (h : A → Option T) where
-  -- the rows of the lines that are left, after this number of lines
-  abbrev pub rows_on : ℕ → ℕ → List (List ℕ) → Result (List (List T)) TextError
-  rows_on zero cols lines = rows_of parts bad h lines
-  rows_on (suc line) cols lines = read_lines parts bad h (suc (suc line)) cols lines
-
-  rows_on-none : (line cols : ℕ) → rows_on line cols [] ≡ Ok []
-  rows_on-none zero cols = refl
-  rows_on-none (suc line) cols = refl
-
-  -- one line more
-  rows_on-next : (line cols width : ℕ) (text : List ℕ) (texts : List (List ℕ)) (row : List T) → read_line bad h (line + 1) 1 (parts text) ≡ Ok row → length row ≡ length (parts text) → length row ≡ width → (0 < line → width ≡ cols) → rows_on line cols (text ∷ texts) ≡ prepend (row ∷ []) (rows_on (line + 1) width texts)
-  rows_on-next zero cols width text texts row reads counts wide same =
-      let read : read_line bad h 1 1 (parts text) ≡ Ok row = reads in
-      let n : ℕ = length (parts text) in
-      ap (λ r. row_before 1 n r (read_lines parts bad h 2 n texts)) read
-      ∙ (good_row 1 n row (read_lines parts bad h 2 n texts) counts ∙ ap (λ k. prepend (row ∷ []) (read_lines parts bad h 2 k texts)) (sym counts ∙ wide))
-  rows_on-next (suc line) cols width text texts row reads counts wide same =
-      let e : suc line + 1 ≡ suc (suc line) = omega arith in
-      let e2 : suc (suc line) + 1 ≡ suc (suc (suc line)) = omega arith in
-      let read : read_line bad h (suc (suc line)) 1 (parts text) ≡ Ok row = ap (λ n. read_line bad h n 1 (parts text)) (sym e) ∙ reads in
-      let is : width ≡ cols = same (omega arith) in
-      ap (λ r. row_before (suc (suc line)) cols r (read_lines parts bad h (suc (suc line) + 1) cols texts)) read
-      ∙ (good_row (suc (suc line)) cols row (read_lines parts bad h (suc (suc line) + 1) cols texts) (wide ∙ is)
-      ∙ (ap (λ n. prepend (row ∷ []) (read_lines parts bad h n cols texts)) e2
-      ∙ (ap (λ n. prepend (row ∷ []) (read_lines parts bad h (suc (suc (suc line))) n texts)) (sym is)
-      ∙ ap (λ n. prepend (row ∷ []) (rows_on n width texts)) (sym e))))
-
-  rows_on-bad : (line cols : ℕ) (text : List ℕ) (texts : List (List ℕ)) (fault : TextError) → read_line bad h (line + 1) 1 (parts text) ≡ Err fault → rows_on line cols (text ∷ texts) ≡ Err fault
-  rows_on-bad zero cols text texts fault reads =
-      let read : read_line bad h 1 1 (parts text) ≡ Err fault = reads in
-      ap (λ r. row_before 1 (length (parts text)) r (read_lines parts bad h 2 (length (parts text)) texts)) read
-  rows_on-bad (suc line) cols text texts fault reads =
-      let e : suc line + 1 ≡ suc (suc line) = omega arith in
-      let read : read_line bad h (suc (suc line)) 1 (parts text) ≡ Err fault = ap (λ n. read_line bad h n 1 (parts text)) (sym e) ∙ reads in
-      ap (λ r. row_before (suc (suc line)) cols r (read_lines parts bad h (suc (suc line) + 1) cols texts)) read
-
-  rows_on-ragged : (line cols : ℕ) (text : List ℕ) (texts : List (List ℕ)) (row : List T) → read_line bad h (line + 1) 1 (parts text) ≡ Ok row → 0 < line → length row ≢ cols → rows_on line cols (text ∷ texts) ≡ Err (Ragged (line + 1) (length row) cols)
-  rows_on-ragged zero cols text texts row reads some ne = absurd (omega arith)
-  rows_on-ragged (suc line) cols text texts row reads some ne =
-      let e : suc line + 1 ≡ suc (suc line) = omega arith in
-      let read : read_line bad h (suc (suc line)) 1 (parts text) ≡ Ok row = ap (λ n. read_line bad h n 1 (parts text)) (sym e) ∙ reads in
-      ap (λ r. row_before (suc (suc line)) cols r (read_lines parts bad h (suc (suc line) + 1) cols texts)) read
-      ∙ (ragged_row (suc (suc line)) cols row (read_lines parts bad h (suc (suc line) + 1) cols texts) ne ∙ ap (λ n. Err (Ragged n (length row) cols)) (sym e))
 
 module _ {A T : Type 0} (parts : List ℕ → List A) (bad : ℕ → ℕ → A → TextError) (R : A → Option T → Type 0) where
   -- the rows that may be read of the lines that are left, after this number of lines
@@ -107,37 +62,32 @@ module _ {A T : Type 0} (parts : List ℕ → List A) (bad : ℕ → ℕ → A �
       (Ok row, now, inr (ne, ap (λ n. Err (Ragged n (length row) cols)) e))
 
 -- the rows of the first lines, `line` of them, of a text of which `rest` is left
-pub record LinesSoFar {A T : Type 0} (parts : List ℕ → List A) (bad : ℕ → ℕ → A → TextError) (By : (A → Option T) → Type 0) (R : A → Option T → Type 0) (text rest : List ℕ) (cells : List T) (line cols : ℕ) : Type 0 where
+pub record LinesSoFar {A T : Type 0} (parts : List ℕ → List A) (bad : ℕ → ℕ → A → TextError) (R : A → Option T → Type 0) (text rest : List ℕ) (cells : List T) (line cols : ℕ) : Type 0 where
   pub rows : List (List T)
   pub stored : cells ≡ concat_rows rows
   pub number : length rows ≡ line
   pub even : All (λ row. length row ≡ cols) rows
   pub fits : line + length rest ≤ length text
-  pub reads : (h : A → Option T) → By h → rows_of parts bad h (lines_of text) ≡ prepend rows (rows_on parts bad h line cols (lines_of rest))
   pub may : (later : Result (List (List T)) TextError) → MayRowsOn parts bad R line cols (lines_of rest) later → MayReadRows parts bad R (lines_of text) (prepend rows later)
 
-module _ {A T : Type 0} (parts : List ℕ → List A) (bad : ℕ → ℕ → A → TextError) (By : (A → Option T) → Type 0) (R : A → Option T → Type 0) (text : List ℕ) where
-  pub lines_start : (cols : ℕ) (cells : List T) → cells ≡ [] → LinesSoFar parts bad By R text text cells 0 cols
+module _ {A T : Type 0} (parts : List ℕ → List A) (bad : ℕ → ℕ → A → TextError) (R : A → Option T → Type 0) (text : List ℕ) where
+  pub lines_start : (cols : ℕ) (cells : List T) → cells ≡ [] → LinesSoFar parts bad R text text cells 0 cols
   lines_start cols cells none = record {
     rows = [];
     stored = none;
     number = refl;
     even = λ k d lt. absurd (omega arith);
     fits = omega arith;
-    reads = λ h by. sym (prepend-nil (rows_of parts bad h (lines_of text)));
     may = λ later m. subst (MayReadRows parts bad R (lines_of text)) (sym (prepend-nil later)) m;
   }
 
-  module _ (rest : List ℕ) (cells : List T) (line cols : ℕ) (i : LinesSoFar parts bad By R text rest cells line cols) where
+  module _ (rest : List ℕ) (cells : List T) (line cols : ℕ) (i : LinesSoFar parts bad R text rest cells line cols) where
     module _ (some : 0 < length rest) where
-      here : (h : A → Option T) → By h → rows_of parts bad h (lines_of text) ≡ prepend i.rows (rows_on parts bad h line cols (first_line rest ∷ lines_of (later_lines rest)))
-      here h by = i.reads h by ∙ ap (λ lines. prepend i.rows (rows_on parts bad h line cols lines)) (lines-next rest some)
-
       may_here : (read : Result (List (List T)) TextError) → MayRowsOn parts bad R line cols (first_line rest ∷ lines_of (later_lines rest)) read → MayReadRows parts bad R (lines_of text) (prepend i.rows read)
       may_here read m = i.may read (subst (λ lines. MayRowsOn parts bad R line cols lines read) (sym (lines-next rest some)) m)
 
       -- the next line is a row
-      pub lines_more : (line_text later : List ℕ) (added : List T) (width len : ℕ) → line_text ≡ first_line rest → later ≡ later_lines rest → IsRow parts bad By R (line + 1) line_text cells added len → width ≡ len → (0 < line → width ≡ cols) → LinesSoFar parts bad By R text later added (line + 1) width
+      pub lines_more : (line_text later : List ℕ) (added : List T) (width len : ℕ) → line_text ≡ first_line rest → later ≡ later_lines rest → IsRow parts bad R (line + 1) line_text cells added len → width ≡ len → (0 < line → width ≡ cols) → LinesSoFar parts bad R text later added (line + 1) width
       lines_more text_of later added width len is follows row wide same =
           let r : List T = row.row in
           let lens : length r ≡ width = sym row.is_len ∙ sym wide in
@@ -147,13 +97,6 @@ module _ {A T : Type 0} (parts : List ℕ → List A) (bad : ℕ → ℕ → A �
             number = length-append i.rows (r ∷ []) ∙ ap (λ n. n + 1) i.number;
             even = by_line line i.number same i.even lens;
             fits = omega (arith, i.fits, later_is_shorter rest some, ap length follows);
-            reads = λ h by.
-                let reads : read_line bad h (line + 1) 1 (parts (first_line rest)) ≡ Ok r = ap (λ x. read_line bad h (line + 1) 1 (parts x)) (sym is) ∙ row.reads h by in
-                let counts : length r ≡ length (parts (first_line rest)) = row.counts ∙ ap (λ x. length (parts x)) is in
-                here h by
-                ∙ (ap (prepend i.rows) (rows_on-next parts bad h line cols width (first_line rest) (lines_of (later_lines rest)) r reads counts lens same)
-                ∙ (prepend-prepend i.rows (r ∷ []) (rows_on parts bad h (line + 1) width (lines_of (later_lines rest)))
-                ∙ ap (λ x. prepend (i.rows ++ r ∷ []) (rows_on parts bad h (line + 1) width (lines_of x))) (sym follows)));
             may = λ read m.
                 let now : MayReadLine bad R (line + 1) 1 (parts (first_line rest)) (Ok r) = subst (λ x. MayReadLine bad R (line + 1) 1 (parts x) (Ok r)) is row.may in
                 let counts : length r ≡ length (parts (first_line rest)) = row.counts ∙ ap (λ x. length (parts x)) is in
@@ -169,37 +112,19 @@ module _ {A T : Type 0} (parts : List ℕ → List A) (bad : ℕ → ℕ → A �
               All-push (λ row. length row ≡ width) i.rows row.row (λ k d lt. even k d lt ∙ sym e) lens
 
       -- the next line is none
-      pub lines_bad : (line_text : List ℕ) (fault : TextError) → line_text ≡ first_line rest → IsBadRow parts bad By R (line + 1) line_text fault → (h : A → Option T) → By h → (fault ≡ Memory) ⊎ (rows_of parts bad h (lines_of text) ≡ Err fault)
-      lines_bad text_of fault is no_row h by = elim no_row [
+      pub lines_bad : (line_text : List ℕ) (fault : TextError) → line_text ≡ first_line rest → IsBadRow parts bad R (line + 1) line_text fault → (fault ≡ Memory) ⊎ MayReadRows parts bad R (lines_of text) (Err fault)
+      lines_bad text_of fault is no_row = elim no_row [
         | inl e ↦ inl e
-        | inr f ↦ inr (here h by ∙ ap (prepend i.rows) (rows_on-bad parts bad h line cols (first_line rest) (lines_of (later_lines rest)) fault (ap (λ x. read_line bad h (line + 1) 1 (parts x)) (sym is) ∙ f.0 h by)))
+        | inr f ↦ inr (may_here (Err fault) (may_rows_on-bad parts bad R line cols (first_line rest) (lines_of (later_lines rest)) fault (subst (λ x. MayReadLine bad R (line + 1) 1 (parts x) (Err fault)) is f)))
       ]
 
-      pub lines_may_be_bad : (line_text : List ℕ) (fault : TextError) → line_text ≡ first_line rest → IsBadRow parts bad By R (line + 1) line_text fault → (fault ≡ Memory) ⊎ MayReadRows parts bad R (lines_of text) (Err fault)
-      lines_may_be_bad text_of fault is no_row = elim no_row [
-        | inl e ↦ inl e
-        | inr f ↦ inr (may_here (Err fault) (may_rows_on-bad parts bad R line cols (first_line rest) (lines_of (later_lines rest)) fault (subst (λ x. MayReadLine bad R (line + 1) 1 (parts x) (Err fault)) is f.1)))
-      ]
-
-      pub lines_ragged : (line_text : List ℕ) (added : List T) (len : ℕ) → line_text ≡ first_line rest → IsRow parts bad By R (line + 1) line_text cells added len → 0 < line → len ≢ cols → (h : A → Option T) → By h → rows_of parts bad h (lines_of text) ≡ Err (Ragged (line + 1) len cols)
-      lines_ragged text_of added len is row others ne h by =
-          let reads : read_line bad h (line + 1) 1 (parts (first_line rest)) ≡ Ok row.row = ap (λ x. read_line bad h (line + 1) 1 (parts x)) (sym is) ∙ row.reads h by in
-          here h by
-          ∙ (ap (prepend i.rows) (rows_on-ragged parts bad h line cols (first_line rest) (lines_of (later_lines rest)) row.row reads others (λ e. ne (row.is_len ∙ e)))
-          ∙ ap (λ n. Err (Ragged (line + 1) n cols)) (sym row.is_len))
-
-      pub lines_may_be_ragged : (line_text : List ℕ) (added : List T) (len : ℕ) → line_text ≡ first_line rest → IsRow parts bad By R (line + 1) line_text cells added len → 0 < line → len ≢ cols → MayReadRows parts bad R (lines_of text) (Err (Ragged (line + 1) len cols))
-      lines_may_be_ragged text_of added len is row others ne =
+      pub lines_ragged : (line_text : List ℕ) (added : List T) (len : ℕ) → line_text ≡ first_line rest → IsRow parts bad R (line + 1) line_text cells added len → 0 < line → len ≢ cols → MayReadRows parts bad R (lines_of text) (Err (Ragged (line + 1) len cols))
+      lines_ragged text_of added len is row others ne =
           let now : MayReadLine bad R (line + 1) 1 (parts (first_line rest)) (Ok row.row) = subst (λ x. MayReadLine bad R (line + 1) 1 (parts x) (Ok row.row)) is row.may in
           subst (λ n. MayReadRows parts bad R (lines_of text) (Err (Ragged (line + 1) n cols))) (sym row.is_len)
           (may_here (Err (Ragged (line + 1) (length row.row) cols)) (may_rows_on-ragged parts bad R line cols (first_line rest) (lines_of (later_lines rest)) row.row now others (λ e. ne (row.is_len ∙ e))))
 
-    pub lines_may_end : length rest ≡ 0 → MayReadRows parts bad R (lines_of text) (Ok i.rows)
-    lines_may_end none =
+    pub lines_end : length rest ≡ 0 → MayReadRows parts bad R (lines_of text) (Ok i.rows)
+    lines_end none =
         let no_lines : lines_of rest ≡ [] = ap lines_of (nil_from_length rest none) ∙ lines-none in
         subst (MayReadRows parts bad R (lines_of text)) (ap Ok (append-nil i.rows)) (i.may (Ok []) (subst (λ lines. MayRowsOn parts bad R line cols lines (Ok [])) (sym no_lines) (may_rows_on-none parts bad R line cols)))
-
-    pub lines_end : length rest ≡ 0 → (h : A → Option T) → By h → rows_of parts bad h (lines_of text) ≡ Ok i.rows
-    lines_end none h by =
-        let no_lines : lines_of rest ≡ [] = ap lines_of (nil_from_length rest none) ∙ lines-none in
-        i.reads h by ∙ (ap (λ lines. prepend i.rows (rows_on parts bad h line cols lines)) no_lines ∙ (ap (prepend i.rows) (rows_on-none parts bad h line cols) ∙ ap Ok (append-nil i.rows)))

@@ -1,12 +1,13 @@
 -- The table that is cut from the rows of a text.
-use Rattle.std.proofs.Common.{◌≡◌, ◌≢◌, ◌⊎◌, inl, inr, ℕ, ◌+◌, ◌<◌, Result, Ok, Err, Option, Some, None, List, [], ◌∷◌, length, All, IfOk, IfErr, refl, sym, ap, ◌∙◌, arith}
+use Rattle.std.proofs.Common.{◌≡◌, ◌≢◌, inl, inr, ℕ, ◌+◌, ◌<◌, Result, Ok, Err, Option, Some, None, List, [], ◌∷◌, length, All, IfOk, IfErr, refl, sym, ap, ◌∙◌, arith}
 use Rattle.grid_base.proofs.Common.{row, row_count, col_count, concat_rows, storage, CanCut, GridValue}
 use Rattle.grid_base.specs.declared.order.Order.TheVariants.{RowMajor}
 use Rattle.grid_base.proofs.StorageLemmas.{length-concat_rows}
 use Rattle.grid_text.specs.declared.error.TextError.{TextError}
 use Rattle.grid_text.specs.declared.error.TextError.TheVariants.{Memory}
-use Rattle.grid_text.specs.Reading.{rows_of, table_read, as_table, IsOrMemory, MayReadLine, MayReadRow, MayReadLines, MayReadRows, MayReadOrMemory, MayReadAs}
+use Rattle.grid_text.specs.Reading.{prepend, cell_before, read_line, row_before, read_lines, rows_of, table_read, as_table, IsOrMemory, MayReadLine, MayReadRow, MayReadLines, MayReadRows, MayReadOrMemory, MayReadAs}
 use Rattle.grid.specs.Conversion.{equal_rows}
+use Rattle.grid_text.proofs.ReadLemmas.{good_row, ragged_row}
 use Rattle.grid.proofs.MadeLemmas.{CanCut-cells}
 use Rattle.grid.proofs.ConversionLemmas.{equal_rows_are}
 
@@ -27,15 +28,33 @@ module _ {T : Type 0} (rows : List (List T)) (cells : List T) (cols : ℕ) (stor
           let first : length x ≡ cols = even 0 [] (omega arith) in
           equal_rows_are (x ∷ xs) g.rows (λ r lt. even r [] lt ∙ sym first) g.table (cut ∙ stored) (λ some. wide (λ none. some (sym (ap length stored) ∙ none)) ∙ sym first)
 
-module _ {A T : Type 0} (parts : List ℕ → List A) (bad : ℕ → ℕ → A → TextError) (h : A → Option T) (lines : List (List ℕ)) where
-  pub fault_is : (e : TextError) → rows_of parts bad h lines ≡ Err e → table_read parts bad h lines ≡ Err e
-  fault_is e is = ap as_table is
+-- where h gives each answer, what may be read is what h reads
+module _ {A T : Type 0} (parts : List ℕ → List A) (bad : ℕ → ℕ → A → TextError) (R : A → Option T → Type 0) (h : A → Option T) (said : (x : A) (cell : Option T) → R x cell → cell ≡ h x) where
+  line_read : (line place : ℕ) (xs : List A) (read : Result (List T) TextError) → MayReadLine bad R line place xs read → read_line bad h line place xs ≡ read
+  line_read line place [] read m = sym m
+  line_read line place (x ∷ xs) read (inl m) = ap (λ o. cell_before bad line place x o (read_line bad h line (place + 1) xs)) (sym (said x None m.0)) ∙ sym m.1
+  line_read line place (x ∷ xs) read (inr m) =
+      ap (λ o. cell_before bad line place x o (read_line bad h line (place + 1) xs)) (sym (said x (Some m.0) m.2))
+      ∙ (ap (prepend (m.0 ∷ [])) (line_read line (place + 1) xs m.1 m.3) ∙ sym m.4)
 
-  pub bad_is : (e : TextError) → (e ≡ Memory) ⊎ (rows_of parts bad h lines ≡ Err e) → IsOrMemory (table_read parts bad h lines) (Err e)
-  bad_is e bad = elim bad [ inl m ↦ inl (ap Err m) | inr f ↦ inr (fault_is e f) ]
+  row_read : (line cols : ℕ) (row : Result (List T) TextError) (P : Result (List (List T)) TextError → Type 0) (later : Result (List (List T)) TextError) → ((read : Result (List (List T)) TextError) → P read → later ≡ read) → (read : Result (List (List T)) TextError) → MayReadRow line cols row P read → row_before line cols row later ≡ read
+  row_read line cols (Err e) P later f read m = sym m
+  row_read line cols (Ok row) P later f read (inl m) = good_row line cols row later m.0 ∙ (ap (prepend (row ∷ [])) (f m.1.0 m.1.1) ∙ sym m.1.2)
+  row_read line cols (Ok row) P later f read (inr m) = ragged_row line cols row later m.0 ∙ sym m.1
 
-  pub table_is : (rows t : List (List T)) → rows_of parts bad h lines ≡ Ok rows → t ≡ equal_rows rows → table_read parts bad h lines ≡ Ok t
-  table_is rows t is cut = ap as_table is ∙ ap Ok (sym cut)
+  lines_read : (line cols : ℕ) (texts : List (List ℕ)) (read : Result (List (List T)) TextError) → MayReadLines parts bad R line cols texts read → read_lines parts bad h line cols texts ≡ read
+  lines_read line cols [] read m = sym m
+  lines_read line cols (text ∷ texts) read m =
+      ap (λ row. row_before line cols row (read_lines parts bad h (line + 1) cols texts)) (line_read line 1 (parts text) m.0 m.1)
+      ∙ row_read line cols m.0 (MayReadLines parts bad R (line + 1) cols texts) (read_lines parts bad h (line + 1) cols texts) (lines_read (line + 1) cols texts) read m.2
+
+  rows_read : (texts : List (List ℕ)) (read : Result (List (List T)) TextError) → MayReadRows parts bad R texts read → rows_of parts bad h texts ≡ read
+  rows_read [] read m = sym m
+  rows_read (text ∷ texts) read m = lines_read 1 (length (parts text)) (text ∷ texts) read m
+
+  pub is_read : (texts : List (List ℕ)) (answer : Result (GridValue T) TextError) → MayReadAs parts bad R texts answer → IsOrMemory (table_read parts bad h texts) answer
+  is_read texts (Ok g) m = inr (ap as_table (rows_read texts (Ok m.read.1.0) m.read.1.1) ∙ ap Ok (sym m.read.1.2), m.read.0)
+  is_read texts (Err e) m = elim m.read [ inl none ↦ inl (ap Err none) | inr f ↦ inr (ap as_table (rows_read texts (Err e) f)) ]
 
 -- what may be read by fewer answers may be read by more
 module _ {A T : Type 0} (parts : List ℕ → List A) (bad : ℕ → ℕ → A → TextError) (R S : A → Option T → Type 0) (more : (x : A) (cell : Option T) → R x cell → S x cell) where

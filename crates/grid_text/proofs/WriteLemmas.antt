@@ -1,6 +1,6 @@
 -- The text of rows, line by line.
 use Rattle.std.proofs.Common.{◌≡◌, ℕ, List, [], ◌∷◌, ◌++◌, encode_utf8, refl, subst, sym, ap, ◌∙◌, arith, append_assoc, flat_map}
-use Rattle.grid_text.specs.Writing.{MayWriteLine, MayWriteRows, line_text}
+use Rattle.grid_text.specs.Writing.{MayWriteLine, MayWriteRows, line_text, table_text}
 use Rattle.std.proofs.lemmas.Str.{encode_ascii}
 
 -- a row more, and its line feed
@@ -12,12 +12,6 @@ row_more line before mid added out left later r so_far next row feed =
     feed ∙ (ap (λ x. x ++ encode_utf8 10) row ∙ (append_assoc before text (encode_utf8 10) ∙ ap (λ x. before ++ (text ++ x)) (encode_ascii 10 (omega arith)))) in
     ap (λ x. x ++ rest) e
     ∙ (append_assoc before (text ++ 10 ∷ []) rest ∙ (ap (λ l. before ++ flat_map (λ row. line row ++ 10 ∷ []) l) (sym next) ∙ so_far))
-
--- a cell more of a row
-pub cell_put : {T : Type 0} (h : T → ℕ) (mid added out : List ℕ) (left later : List T) (x : T) (c : ℕ) → mid ++ line_text h left ≡ out → left ≡ x ∷ later → c ≡ h x → added ≡ mid ++ encode_utf8 c → added ++ line_text h later ≡ out
-cell_put h mid added out left later x c so_far next said push =
-    ap (λ y. y ++ line_text h later) (push ∙ ap (λ k. mid ++ encode_utf8 k) said)
-    ∙ (append_assoc mid (encode_utf8 (h x)) (line_text h later) ∙ (ap (λ l. mid ++ line_text h l) (sym next) ∙ so_far))
 
 -- where R says which characters a cell may be written as
 module _ {T : Type 0} (R : T → ℕ → Type 0) where
@@ -34,3 +28,17 @@ module _ {T : Type 0} (R : T → ℕ → Type 0) where
       sym (ap (λ x. x ++ rest) (feed ∙ (ap (λ x. x ++ encode_utf8 10) put ∙ ap (λ x. (before ++ line) ++ x) (encode_ascii 10 (omega arith))))
       ∙ (append_assoc (before ++ line) (10 ∷ []) rest ∙ append_assoc before line (10 ∷ rest))) in
       subst (MayWriteRows R all) e (so_far (line ++ 10 ∷ rest) (subst (λ xs. MayWriteRows R xs (line ++ 10 ∷ rest)) (sym next) (line, rest, may, m, refl)))
+
+  -- where h gives each character, what may be written is what h writes
+  module _ (h : T → ℕ) (said : (x : T) (c : ℕ) → R x c → c ≡ h x) where
+    line_written : (row : List T) (text : List ℕ) → MayWriteLine R row text → text ≡ line_text h row
+    line_written [] text m = m
+    line_written (x ∷ row) text m =
+        m.4 ∙ (ap (λ c. encode_utf8 c ++ m.1) (said x m.0 m.2) ∙ ap (λ l. encode_utf8 (h x) ++ l) (line_written row m.1 m.3))
+
+    pub rows_written : (rows : List (List T)) (text : List ℕ) → MayWriteRows R rows text → text ≡ table_text h rows
+    rows_written [] text m = m
+    rows_written (row ∷ rows) text m =
+        m.4
+        ∙ (sym (append_assoc m.0 (10 ∷ []) m.1)
+        ∙ (ap (λ l. (l ++ 10 ∷ []) ++ m.1) (line_written row m.0 m.2) ∙ ap (λ t. (line_text h row ++ 10 ∷ []) ++ t) (rows_written rows m.1 m.3)))

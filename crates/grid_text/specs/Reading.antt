@@ -14,6 +14,10 @@ abbrev pub ReadsBy : {F T : Type 0} → (F → ℕ → Option T → Type 0) → 
 ReadsBy {F} {T} returns read h = (c : ℕ) (cell : Option T) → IsScalar c → returns read c cell
     → cell ≡ h c
 
+-- the closure may answer so at a character
+abbrev pub AnswersChar : {F T : Type 0} → (F → ℕ → Option T → Type 0) → F → ℕ → Option T → Type 0
+AnswersChar returns read c cell = IsScalar c × returns read c cell
+
 -- whatever the closure answers at a word, h gives
 abbrev pub ReadsWordsBy : {F T : Type 0} → (F → Bor (List ℕ) → Option T → Type 0) → F
     → (List ℕ → Option T) → Type 0
@@ -148,20 +152,16 @@ module _ {A T : Type 0} (parts : List ℕ → List A) (bad : ℕ → ℕ → A �
   pub record MayReadAs (lines : List (List ℕ)) (answer : Result (GridValue T) TextError) : Type 0 where
     pub read : MayReadOrMemory lines answer
 
--- what came of the cells of one line, behind the cells before it: as many as its parts, those that
--- every h gives of which By holds, and that R lets them be; or the fault that every such h gives;
--- or allocation failed
+-- what came of the cells of one line, behind the cells before it: as many as its parts, those that R
+-- lets them be; or the fault of the first that is none; or allocation failed
 module _ {A T : Type 0} (parts : List ℕ → List A) (bad : ℕ → ℕ → A → TextError)
-    (By : (A → Option T) → Type 0) (R : A → Option T → Type 0) where
+    (R : A → Option T → Type 0) where
   pub record IsRow (line : ℕ) (text : List ℕ) (old new : List T) (len : ℕ) : Type 0 where
     pub row : List T
     pub put : new ≡ old ++ row
     pub counts : length row ≡ length (parts text)
     pub is_len : len ≡ length row
-    pub reads : (h : A → Option T) → By h → read_line bad h line 1 (parts text) ≡ Ok row
     pub may : MayReadLine bad R line 1 (parts text) (Ok row)
 
   abbrev pub IsBadRow : ℕ → List ℕ → TextError → Type 0
-  IsBadRow line text e = (e ≡ Memory)
-      ⊎ (((h : A → Option T) → By h → read_line bad h line 1 (parts text) ≡ Err e)
-      × MayReadLine bad R line 1 (parts text) (Err e))
+  IsBadRow line text e = (e ≡ Memory) ⊎ MayReadLine bad R line 1 (parts text) (Err e)

@@ -1,6 +1,6 @@
 //! Grids read from text.
 ghost use Rattle.std.specs.Prelude.{ℕ, Option, List, MatchResult, chars};
-ghost use Rattle.grid_text.specs.Reading.{ReadsBy, ReadsWordsBy, AnswersWord, TriesWordsBy, TriesWord, MayReadAs, IsOrMemory, IsRow, IsBadRow, bad_char, bad_word, reading, reading_words};
+ghost use Rattle.grid_text.specs.Reading.{ReadsBy, ReadsWordsBy, AnswersWord, TriesWordsBy, AnswersChar, TriesWord, MayReadAs, IsOrMemory, IsRow, IsBadRow, bad_char, bad_word, reading, reading_words};
 ghost use Rattle.text_lines.specs.Lines.{lines_of, words_of};
 
 use super::error::TextError;
@@ -32,49 +32,7 @@ pub fn from_text<T: Drop, A: Allocator, F: Fn(char) -> Option<T>>(
         → IsOrMemory (reading h (lines_of text.now)) result }
     ensures answers { MayReadAs chars bad_char (F.post read) (lines_of text.now) result }
 {
-    let mut cells = Vec::new(alloc);
-    let mut rest = text;
-    let mut line = 0usize;
-    let mut cols = 0usize;
-    while !rest.is_empty() {
-        let (chars, later) = cut_line(rest);
-        line += 1;
-        let len = push_line(&mut cells, line, chars, &read)?;
-        if line > 1 && len != cols {
-            return Err(TextError::Ragged { line, len, cols });
-        }
-        cols = len;
-        rest = later;
-    }
-    Ok(Grid::from_vec(cells, cols))
-}
-
-// Adds the cells of a line, and returns how many they are.
-fn push_line<T: Drop, A: Allocator, F: Fn(char) -> Option<T>>(
-    cells: &mut Vec<T, A>,
-    line: usize,
-    text: &str,
-    read: &F,
-) -> Result<usize, TextError>
-    requires { F.IsAlwaysCallable read.now }
-    ensures { MatchResult result
-        (IsRow chars bad_char (ReadsBy F.post read.now) (F.post read.now) line text.now
-        cells.old.items cells.new.items)
-        (IsBadRow chars bad_char (ReadsBy F.post read.now) (F.post read.now) line text.now) }
-{
-    let mut column = 0usize;
-    for found in text.chars() {
-        column += 1;
-        match read(found) {
-            Some(cell) => cells.push(cell)?,
-            None => return Err(TextError::BadChar {
-                line,
-                column,
-                found,
-            }),
-        }
-    }
-    Ok(column)
+    read_lines(alloc, text, &Chars(read))
 }
 
 /// Returns the row-major grid of a text: each line is a row, and `read` says which cell a word is, or `None` where it
@@ -119,14 +77,48 @@ where
     ensures answers { MayReadAs words_of bad_word
         (TriesWord F.post read) (lines_of text.now) result }
 {
+    read_lines(alloc, text, &Tried(read))
+}
+
+// How a line is cut into pieces, characters or words, and what each may be read as.
+trait Pieces<T, A: Allocator> {
+    ghost use Rattle.grid_text.specs.declared.error.TextError.{TextError};
+
+    ghost Piece: { Type 0 };
+
+    ghost parts: { List ℕ → List Piece };
+
+    ghost bad: { ℕ → ℕ → Piece → TextError };
+
+    ghost answers: { Self → Piece → Option T → Type 0 };
+
+    ghost callable: { Self → Type 0 };
+
+    // Adds the cells of a line, and returns how many they are.
+    fn push_line(&self, cells: &mut Vec<T, A>, line: usize, text: &str) -> Result<usize, TextError>
+        requires { callable self.now }
+        ensures { MatchResult result
+            (IsRow parts bad (answers self.now) line text.now cells.old.items cells.new.items)
+            (IsBadRow parts bad (answers self.now) line text.now) };
+}
+
+// The grid of the lines of a text, in whatever pieces.
+fn read_lines<T: Drop, A: Allocator, P: Pieces<T, A>>(
+    alloc: A,
+    text: &str,
+    pieces: &P,
+) -> Result<Grid<T, A>, TextError>
+    requires { P.callable pieces.now }
+    ensures { MayReadAs P.parts P.bad (P.answers pieces.now) (lines_of text.now) result }
+{
     let mut cells = Vec::new(alloc);
     let mut rest = text;
     let mut line = 0usize;
     let mut cols = 0usize;
     while !rest.is_empty() {
-        let (words, later) = cut_line(rest);
+        let (pieces_text, later) = cut_line(rest);
         line += 1;
-        let len = push_words(&mut cells, line, words, &read)?;
+        let len = pieces.push_line(&mut cells, line, pieces_text)?;
         if line > 1 && len != cols {
             return Err(TextError::Ragged { line, len, cols });
         }
@@ -136,28 +128,77 @@ where
     Ok(Grid::from_vec(cells, cols))
 }
 
-// Adds the cells of the words of a line, and returns how many they are.
-fn push_words<T: Drop, A: Allocator, F>(
-    cells: &mut Vec<T, A>,
-    line: usize,
-    text: &str,
-    read: &F,
-) -> Result<usize, TextError>
+// Characters.
+#[derive(Drop)]
+struct Chars<F>(F);
+
+impl<T: Drop, A: Allocator, F: Fn(char) -> Option<T>> Pieces<T, A> for Chars<F> {
+    ghost Piece = { ℕ };
+
+    ghost parts = { chars };
+
+    ghost bad = { bad_char };
+
+    ghost answers = { λ by. AnswersChar F.post by.0 };
+
+    ghost callable = { λ by. F.IsAlwaysCallable by.0 };
+
+    fn push_line(
+        &self,
+        cells: &mut Vec<T, A>,
+        line: usize,
+        text: &str,
+    ) -> Result<usize, TextError> {
+        let Chars(read) = self;
+        let mut column = 0usize;
+        for found in text.chars() {
+            column += 1;
+            match read(found) {
+                Some(cell) => cells.push(cell)?,
+                None => return Err(TextError::BadChar {
+                    line,
+                    column,
+                    found,
+                }),
+            }
+        }
+        Ok(column)
+    }
+}
+
+// Words, whose closure may fail to allocate.
+#[derive(Drop)]
+struct Tried<F>(F);
+
+impl<T: Drop, A: Allocator, F> Pieces<T, A> for Tried<F>
 where
     F: Fn(&str) -> Result<Option<T>, AllocError>,
-    requires { F.IsAlwaysCallable read.now }
-    ensures { MatchResult result
-        (IsRow words_of bad_word (TriesWordsBy F.post read.now) (TriesWord F.post read.now) line text.now
-        cells.old.items cells.new.items)
-        (IsBadRow words_of bad_word (TriesWordsBy F.post read.now) (TriesWord F.post read.now) line text.now) }
 {
-    let mut word = 0usize;
-    for found in Words(text) {
-        word += 1;
-        match read(found)? {
-            Some(cell) => cells.push(cell)?,
-            None => return Err(TextError::BadWord { line, word }),
+    ghost Piece = { List ℕ };
+
+    ghost parts = { words_of };
+
+    ghost bad = { bad_word };
+
+    ghost answers = { λ by. TriesWord F.post by.0 };
+
+    ghost callable = { λ by. F.IsAlwaysCallable by.0 };
+
+    fn push_line(
+        &self,
+        cells: &mut Vec<T, A>,
+        line: usize,
+        text: &str,
+    ) -> Result<usize, TextError> {
+        let Tried(read) = self;
+        let mut word = 0usize;
+        for found in Words(text) {
+            word += 1;
+            match read(found)? {
+                Some(cell) => cells.push(cell)?,
+                None => return Err(TextError::BadWord { line, word }),
+            }
         }
+        Ok(word)
     }
-    Ok(word)
 }

@@ -1,7 +1,7 @@
 //! Grids written as text.
 ghost use Rattle.std.specs.Prelude.{◌≡◌, ◌++◌, ℕ, map, IfOk, OnOk, string_bytes};
 ghost use Rattle.grid.specs.Texts.{numbers};
-ghost use Rattle.grid_text.specs.Writing.{WritesBy, AnswersCell, MayWriteLine, MayWriteRows, line_text, table_text, line_of_numbers, numbers_text};
+ghost use Rattle.grid_text.specs.Writing.{WritesBy, AnswersCell, MayWriteLine, MayWriteRows, table_text, line_of_numbers, numbers_text};
 
 use grid::{Grid, GridLineIter, Whole};
 use std::alloc::{AllocError, Allocator, Global};
@@ -39,10 +39,7 @@ fn push_row<T, F: Fn(&T) -> char>(
     write: &F,
 ) -> Result<(), AllocError>
     requires { F.IsAlwaysCallable write.now }
-    ensures text { (h : T → ℕ) → WritesBy F.post write.now h
-        → OnOk result (string_bytes text.new ≡ string_bytes text.old ++ line_text h row.entry) }
-    ensures answers { OnOk result ((line : _) × MayWriteLine
-        (AnswersCell F.post write.now) row.entry line
+    ensures { OnOk result ((line : _) × MayWriteLine (AnswersCell F.post write.now) row.entry line
         × (string_bytes text.new ≡ string_bytes text.old ++ line)) }
 {
     for cell in row {

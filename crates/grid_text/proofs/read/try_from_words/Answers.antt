@@ -1,67 +1,9 @@
--- One line more: a row, or the first that is none.
-use Rattle.std.proofs.Common.{◌≡◌, ◌<◌, inr, length, refl, arith, rules}
-use Rattle.std.proofs.lemmas.Result.{err_from_is_err_and}
-use Rattle.text_lines.specs.Lines.{lines_of, words_of}
+-- What may be read is what the closure says of words.
+use Rattle.std.proofs.Common.{sym}
+use Rattle.text_lines.specs.Lines.{words_of, lines_of}
 use Rattle.grid_text.specs.Reading.{TriesWord, bad_word}
-use Rattle.grid_text.proofs.ReadLemmas.{lines_start, lines_more, lines_bad, lines_ragged, lines_may_be_bad, lines_may_be_ragged, lines_may_end, lines_end}
-use Rattle.grid_text.proofs.TableLemmas.{can_cut, cut_rows, fault_is, table_is, bad_is}
+use Rattle.grid_text.proofs.TableLemmas.{is_read}
 use Rattle.grid_text.proofs.read.try_from_words.Goals as goal
-use Rattle.grid_text.proofs.read.try_from_words.Goals.{else-line-gt1-via-then-line-gt1+else-len-cols, else-line-gt1-via-else-line-gt1}
-
-pub loop-rest-init : goal.loop-rest-init
-loop-rest-init g c = record { utf8 = c.utf8.text; lines = lines_start _ _ _ _ _ _ _ c.new-cells.ensures.items }
-
-pub is_empty-requires-text-self : goal.is_empty-requires-text-self
-is_empty-requires-text-self g c κs = c.loop-rest.invariant.utf8
-
-pub returns-in_err-len-clause-reads : goal.returns-in_err-len-clause-reads
-returns-in_err-len-clause-reads g c = λ h by.
-    let some : 0 < length c.loop-rest.rest.now = search rules in
-    let p = err_from_is_err_and c.from_residual.result c.from_residual.ensures.1 in
-    rw (p.1, p.2) (bad_is words_of bad_word h (lines_of c.args.text.now) _ (lines_bad _ _ _ _ _ _ _ _ _ c.loop-rest.invariant.lines some _ _ c.cut_line.ensures.line c.in_err-len.ensures h by))
-
-pub returns-in_err-len-clause-answers : goal.returns-in_err-len-clause-answers
-returns-in_err-len-clause-answers g c =
-    let some : 0 < length c.loop-rest.rest.now = search rules in
-    let p = err_from_is_err_and c.from_residual.result c.from_residual.ensures.1 in
-    rw (p.1, p.2) (record { read = lines_may_be_bad _ _ _ _ _ _ _ _ _ c.loop-rest.invariant.lines some _ _ c.cut_line.ensures.line c.in_err-len.ensures })
-
-pub returns-then-len-cols-clause-reads : goal.returns-then-len-cols-clause-reads
-returns-then-len-cols-clause-reads g c = λ h by.
-    let some : 0 < length c.loop-rest.rest.now = search rules in
-    inr (fault_is words_of bad_word h (lines_of c.args.text.now) _ (lines_ragged _ _ _ _ _ _ _ _ _ c.loop-rest.invariant.lines some _ _ _ c.cut_line.ensures.line c.in_ok-len.ensures (omega arith) c.if-len-cols.true h by))
-
-pub returns-then-len-cols-clause-answers : goal.returns-then-len-cols-clause-answers
-returns-then-len-cols-clause-answers g c =
-    let some : 0 < length c.loop-rest.rest.now = search rules in
-    record { read = inr (lines_may_be_ragged _ _ _ _ _ _ _ _ _ c.loop-rest.invariant.lines some _ _ _ c.cut_line.ensures.line c.in_ok-len.ensures (omega arith) c.if-len-cols.true) }
-
-pub loop-rest-preserved : goal.loop-rest-preserved
-loop-rest-preserved g c =
-    let some : 0 < length c.loop-rest.rest.now = search rules in
-    let same : 0 < c.loop-rest.line → c.in_ok-len.len ≡ c.loop-rest.cols =
-    elim c.else-line-gt1.branch [
-      | else-line-gt1-via-then-line-gt1+else-len-cols w ↦ λ others. omega arith
-      | else-line-gt1-via-else-line-gt1 w ↦ λ others. absurd (omega arith)
-    ] in
-    record {
-      utf8 = c.cut_line.ensures.utf8;
-      lines = lines_more _ _ _ _ _ _ _ _ _ c.loop-rest.invariant.lines some _ _ _ _ _ c.cut_line.ensures.line c.cut_line.ensures.rest c.in_ok-len.ensures refl same;
-    }
-
-pub from_vec-requires : goal.from_vec-requires
-from_vec-requires g c = let i = c.loop-rest.invariant.lines in can_cut i.rows _ _ i.stored i.even
 
 pub returns-clause-reads : goal.returns-clause-reads
-returns-clause-reads g c = λ h by.
-    let none : length c.loop-rest.rest.now ≡ 0 = search rules in
-    let i = c.loop-rest.invariant.lines in
-    let e = c.from_vec.ensures in
-    inr (table_is words_of bad_word h (lines_of c.args.text.now) _ _ (lines_end _ _ _ _ _ _ _ _ _ i none h by) (cut_rows i.rows _ _ i.stored i.even c.from_vec.result e.storage e.cols), e.order)
-
-pub returns-clause-answers : goal.returns-clause-answers
-returns-clause-answers g c =
-    let none : length c.loop-rest.rest.now ≡ 0 = search rules in
-    let i = c.loop-rest.invariant.lines in
-    let e = c.from_vec.ensures in
-    record { read = (e.order, (i.rows, lines_may_end _ _ _ _ _ _ _ _ _ i none, cut_rows i.rows _ _ i.stored i.even c.from_vec.result e.storage e.cols)) }
+returns-clause-reads g c = λ h by. is_read words_of bad_word (TriesWord (goal.F-post g) c.args.read) h (λ x cell said. rw (sym said.1) (by said.0 cell said.2)) (lines_of c.args.text.now) _ c.read_lines.ensures

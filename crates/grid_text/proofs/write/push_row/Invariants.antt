@@ -1,10 +1,8 @@
 -- The cells so far, before those that are left.
 use Rattle.std.proofs.Common.{◌≡◌, ◌++◌, ℕ, List, string_bytes}
-use Rattle.grid_text.specs.Writing.{WritesBy, AnswersCell, MayWriteLine, line_text}
+use Rattle.grid_text.specs.Writing.{AnswersCell, MayWriteLine}
 use Rattle.grid_text.proofs.write.push_row.Given as goal
 
 abbrev pub invariant-loop-cell : goal.invariant-loop-cell
-invariant-loop-cell g l = record {
-  by : (h : _ → ℕ) → WritesBy (goal.F-post g) l.write h → string_bytes l.text ++ line_text h l.cell-iterator ≡ string_bytes l.fn.text ++ line_text h l.fn.row;
-  may : (later : List ℕ) → MayWriteLine (AnswersCell (goal.F-post g) l.write) l.cell-iterator later → (line : List ℕ) × MayWriteLine (AnswersCell (goal.F-post g) l.write) l.fn.row line × (string_bytes l.text ++ later ≡ string_bytes l.fn.text ++ line);
-}
+invariant-loop-cell g l =
+    (later : List ℕ) → MayWriteLine (AnswersCell (goal.F-post g) l.write) l.cell-iterator later → (line : List ℕ) × MayWriteLine (AnswersCell (goal.F-post g) l.write) l.fn.row line × (string_bytes l.text ++ later ≡ string_bytes l.fn.text ++ line)

@@ -1,25 +1,24 @@
 -- One row more, and its line feed.
-use Rattle.std.proofs.Common.{◌≡◌, ◌∙◌, ◌++◌, [], refl, ap, sym, subst, append-nil, rules, string_bytes}
-use Rattle.grid_text.specs.Writing.{AnswersCell, MayWriteRows, line_text}
-use Rattle.grid_text.proofs.WriteLemmas.{row_more, row_may}
+use Rattle.std.proofs.Common.{◌≡◌, ◌∙◌, ◌++◌, [], refl, ap, sym, subst, append-nil, string_bytes}
+use Rattle.grid_text.specs.Writing.{AnswersCell, MayWriteRows}
+use Rattle.grid_text.proofs.WriteLemmas.{row_may, rows_written}
 use Rattle.grid_text.proofs.write.to_text.Goals as goal
 
 pub loop-row-init : goal.loop-row-init
-loop-row-init g c = record {
-  by = search rules;
-  may = λ rest m.
-      let rows : c.into_iter-row-iterator.result ≡ c.args.grid.now.rows = c.into_iter-row-iterator.ensures.into_iter_gives ∙ c.iter_rows-row-items.ensures.gives.0 in
-      let text : rest ≡ string_bytes c.new-text.result ++ rest = ap (λ x. x ++ rest) (sym c.new-text.ensures.bytes) in
-      subst (MayWriteRows (AnswersCell (goal.F-post g) c.args.write) c.args.grid.now.rows) text (subst (λ rows. MayWriteRows (AnswersCell (goal.F-post g) c.args.write) rows rest) rows m);
-}
+loop-row-init g c = λ rest m.
+    let rows : c.into_iter-row-iterator.result ≡ c.args.grid.now.rows = c.into_iter-row-iterator.ensures.into_iter_gives ∙ c.iter_rows-row-items.ensures.gives.0 in
+    let text : rest ≡ string_bytes c.new-text.result ++ rest = ap (λ x. x ++ rest) (sym c.new-text.ensures.bytes) in
+    subst (MayWriteRows (AnswersCell (goal.F-post g) c.args.write) c.args.grid.now.rows) text (subst (λ rows. MayWriteRows (AnswersCell (goal.F-post g) c.args.write) rows rest) rows m)
 
 pub loop-row-preserved : goal.loop-row-preserved
-loop-row-preserved g c = record {
-  by = λ h by. row_more (line_text h) _ _ _ _ _ _ _ (c.loop-row.invariant.by h by) c.in-Some.ensures.steps (c.in_ok-push_row.ensures.text h by) c.in_ok-push.ensures.bytes;
-  may = let line = c.in_ok-push_row.ensures.answers in row_may (AnswersCell (goal.F-post g) c.args.write) _ _ _ _ _ _ _ _ c.loop-row.invariant.may c.in-Some.ensures.steps line.1 line.2 c.in_ok-push.ensures.bytes;
-}
+loop-row-preserved g c =
+    let line = c.in_ok-push_row.ensures in
+    row_may (AnswersCell (goal.F-post g) c.args.write) _ _ _ _ _ _ _ _ c.loop-row.invariant c.in-Some.ensures.steps line.1 line.2 c.in_ok-push.ensures.bytes
 
 pub returns-clause-answers : goal.returns-clause-answers
 returns-clause-answers g c =
-    let all = c.loop-row.invariant.may [] (subst (λ rows. MayWriteRows (AnswersCell (goal.F-post g) c.args.write) rows []) (sym c.in-None.ensures.steps.0) refl) in
+    let all = c.loop-row.invariant [] (subst (λ rows. MayWriteRows (AnswersCell (goal.F-post g) c.args.write) rows []) (sym c.in-None.ensures.steps.0) refl) in
     subst (MayWriteRows (AnswersCell (goal.F-post g) c.args.write) c.args.grid.now.rows) (append-nil (string_bytes c.loop-row.text)) all
+
+pub returns-clause-text : goal.returns-clause-text
+returns-clause-text g c = λ h by. rows_written (AnswersCell (goal.F-post g) c.args.write) h (λ x ch said. by said.0 ch said.2 ∙ ap h said.1) c.args.grid.now.rows _ (returns-clause-answers g c)

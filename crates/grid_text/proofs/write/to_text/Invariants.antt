@@ -1,10 +1,8 @@
 -- The rows so far, before those that are left.
-use Rattle.std.proofs.Common.{◌≡◌, ◌++◌, ℕ, List, string_bytes}
-use Rattle.grid_text.specs.Writing.{WritesBy, AnswersCell, MayWriteRows, table_text}
+use Rattle.std.proofs.Common.{◌++◌, ℕ, List, string_bytes}
+use Rattle.grid_text.specs.Writing.{AnswersCell, MayWriteRows}
 use Rattle.grid_text.proofs.write.to_text.Given as goal
 
 abbrev pub invariant-loop-row : goal.invariant-loop-row
-invariant-loop-row g l = record {
-  by : (h : _ → ℕ) → WritesBy (goal.F-post g) l.write h → string_bytes l.text ++ table_text h l.row-iterator ≡ table_text h l.fn.grid.rows;
-  may : (later : List ℕ) → MayWriteRows (AnswersCell (goal.F-post g) l.write) l.row-iterator later → MayWriteRows (AnswersCell (goal.F-post g) l.write) l.fn.grid.rows (string_bytes l.text ++ later);
-}
+invariant-loop-row g l =
+    (later : List ℕ) → MayWriteRows (AnswersCell (goal.F-post g) l.write) l.row-iterator later → MayWriteRows (AnswersCell (goal.F-post g) l.write) l.fn.grid.rows (string_bytes l.text ++ later)

@@ -1,8 +1,8 @@
 -- One character more: a cell, or the first that is none.
 use Rattle.std.proofs.Common.{inr, ◌≡◌, ◌+◌, ◌≤◌, length, arith, rules}
 use Rattle.std.specs.Str.Iter.{chars_rest}
-use Rattle.grid_text.proofs.LineLemmas.{chars_start, chars_more, chars_bad, chars_may_be_bad, chars_end, chars_room}
-use Rattle.grid_text.proofs.read.push_line.Goals as goal
+use Rattle.grid_text.proofs.LineLemmas.{chars_start, chars_more, chars_bad, chars_end, chars_room}
+use Rattle.grid_text.proofs.read.CharsPieces.push_line.Goals as goal
 
 pub loop-found-init : goal.loop-found-init
 loop-found-init g c =
@@ -19,7 +19,7 @@ loop-found-preserved g c =
     chars_more _ _ _ _ _ _ _ _ _ _ c.loop-found.invariant c.in-Some.ensures.steps.0 _ _ c.in-Some-read.ensures c.in_ok-push-in-Some-read.ensures.items
 
 pub returns-in-None-read : goal.returns-in-None-read
-returns-in-None-read g c = inr (chars_bad _ _ _ _ _ _ _ _ _ _ c.loop-found.invariant c.in-Some.ensures.steps.0 c.in-None-read.ensures, chars_may_be_bad _ _ _ _ _ _ _ _ _ _ c.loop-found.invariant c.in-Some.ensures.steps.0 c.in-None-read.ensures)
+returns-in-None-read g c = inr (chars_bad _ _ _ _ _ _ _ _ _ _ c.loop-found.invariant c.in-Some.ensures.steps.0 c.in-None-read.ensures)
 
 pub returns : goal.returns
 returns g c = chars_end _ _ _ _ _ _ _ _ c.loop-found.invariant c.in-None.ensures.steps.0.0
