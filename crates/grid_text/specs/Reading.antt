@@ -152,6 +152,19 @@ module _ {A T : Type 0} (parts : List ℕ → List A) (bad : ℕ → ℕ → A �
   pub record MayReadAs (lines : List (List ℕ)) (answer : Result (GridValue T) TextError) : Type 0 where
     pub read : MayReadOrMemory lines answer
 
+-- how a line is cut into parts, the fault of a part, and what may be answered of a part
+pub record Cutting (T : Type 0) : Type 1 where
+  pub Part : Type 0
+  pub parts : List ℕ → List Part
+  pub bad : ℕ → ℕ → Part → TextError
+  pub answers : Part → Option T → Type 0
+
+abbrev pub by_chars : {T : Type 0} → (ℕ → Option T → Type 0) → Cutting T
+by_chars R = record { Part = ℕ; parts = chars; bad = bad_char; answers = R }
+
+abbrev pub by_words : {T : Type 0} → (List ℕ → Option T → Type 0) → Cutting T
+by_words R = record { Part = List ℕ; parts = words_of; bad = bad_word; answers = R }
+
 -- what came of the cells of one line, behind the cells before it: as many as its parts, those that R
 -- lets them be; or the fault of the first that is none; or allocation failed
 module _ {A T : Type 0} (parts : List ℕ → List A) (bad : ℕ → ℕ → A → TextError)

@@ -1,6 +1,6 @@
 //! Grids read from text.
 ghost use Rattle.std.specs.Prelude.{ℕ, Option, List, MatchResult, chars};
-ghost use Rattle.grid_text.specs.Reading.{ReadsBy, ReadsWordsBy, AnswersWord, TriesWordsBy, AnswersChar, TriesWord, MayReadAs, IsOrMemory, IsRow, IsBadRow, bad_char, bad_word, reading, reading_words};
+ghost use Rattle.grid_text.specs.Reading.{ReadsBy, ReadsWordsBy, AnswersWord, TriesWordsBy, AnswersChar, TriesWord, Cutting, by_chars, by_words, MayReadAs, IsOrMemory, IsRow, IsBadRow, bad_char, bad_word, reading, reading_words};
 ghost use Rattle.text_lines.specs.Lines.{lines_of, words_of};
 
 use super::error::TextError;
@@ -82,24 +82,16 @@ where
 
 // How a line is cut into pieces, characters or words, and what each may be read as.
 trait Pieces<T, A: Allocator> {
-    ghost use Rattle.grid_text.specs.declared.error.TextError.{TextError};
-
-    ghost Piece: { Type 0 };
-
-    ghost parts: { List ℕ → List Piece };
-
-    ghost bad: { ℕ → ℕ → Piece → TextError };
-
-    ghost answers: { Self → Piece → Option T → Type 0 };
+    ghost cutting: { Self → Cutting T };
 
     ghost callable: { Self → Type 0 };
 
     // Adds the cells of a line, and returns how many they are.
-    fn push_line(&self, cells: &mut Vec<T, A>, line: usize, text: &str) -> Result<usize, TextError>
+    fn push_row(&self, cells: &mut Vec<T, A>, line: usize, text: &str) -> Result<usize, TextError>
         requires { callable self.now }
-        ensures { MatchResult result
-            (IsRow parts bad (answers self.now) line text.now cells.old.items cells.new.items)
-            (IsBadRow parts bad (answers self.now) line text.now) };
+        ensures { let by = cutting self.now in MatchResult result
+            (IsRow by.parts by.bad by.answers line text.now cells.old.items cells.new.items)
+            (IsBadRow by.parts by.bad by.answers line text.now) };
 }
 
 // The grid of the lines of a text, in whatever pieces.
@@ -109,7 +101,8 @@ fn read_lines<T: Drop, A: Allocator, P: Pieces<T, A>>(
     pieces: &P,
 ) -> Result<Grid<T, A>, TextError>
     requires { P.callable pieces.now }
-    ensures { MayReadAs P.parts P.bad (P.answers pieces.now) (lines_of text.now) result }
+    ensures { let by = P.cutting pieces.now in
+        MayReadAs by.parts by.bad by.answers (lines_of text.now) result }
 {
     let mut cells = Vec::new(alloc);
     let mut rest = text;
@@ -118,7 +111,7 @@ fn read_lines<T: Drop, A: Allocator, P: Pieces<T, A>>(
     while !rest.is_empty() {
         let (pieces_text, later) = cut_line(rest);
         line += 1;
-        let len = pieces.push_line(&mut cells, line, pieces_text)?;
+        let len = pieces.push_row(&mut cells, line, pieces_text)?;
         if line > 1 && len != cols {
             return Err(TextError::Ragged { line, len, cols });
         }
@@ -133,22 +126,11 @@ fn read_lines<T: Drop, A: Allocator, P: Pieces<T, A>>(
 struct Chars<F>(F);
 
 impl<T: Drop, A: Allocator, F: Fn(char) -> Option<T>> Pieces<T, A> for Chars<F> {
-    ghost Piece = { ℕ };
-
-    ghost parts = { chars };
-
-    ghost bad = { bad_char };
-
-    ghost answers = { λ by. AnswersChar F.post by.0 };
+    ghost cutting = { λ by. by_chars (AnswersChar F.post by.0) };
 
     ghost callable = { λ by. F.IsAlwaysCallable by.0 };
 
-    fn push_line(
-        &self,
-        cells: &mut Vec<T, A>,
-        line: usize,
-        text: &str,
-    ) -> Result<usize, TextError> {
+    fn push_row(&self, cells: &mut Vec<T, A>, line: usize, text: &str) -> Result<usize, TextError> {
         let Chars(read) = self;
         let mut column = 0usize;
         for found in text.chars() {
@@ -174,22 +156,11 @@ impl<T: Drop, A: Allocator, F> Pieces<T, A> for Tried<F>
 where
     F: Fn(&str) -> Result<Option<T>, AllocError>,
 {
-    ghost Piece = { List ℕ };
-
-    ghost parts = { words_of };
-
-    ghost bad = { bad_word };
-
-    ghost answers = { λ by. TriesWord F.post by.0 };
+    ghost cutting = { λ by. by_words (TriesWord F.post by.0) };
 
     ghost callable = { λ by. F.IsAlwaysCallable by.0 };
 
-    fn push_line(
-        &self,
-        cells: &mut Vec<T, A>,
-        line: usize,
-        text: &str,
-    ) -> Result<usize, TextError> {
+    fn push_row(&self, cells: &mut Vec<T, A>, line: usize, text: &str) -> Result<usize, TextError> {
         let Tried(read) = self;
         let mut word = 0usize;
         for found in Words(text) {

@@ -3,7 +3,7 @@ use Rattle.std.proofs.Common.{inr, Ok, Some, None, subst, ap, ◌∙◌, ◌≡�
 use Rattle.text_lines.specs.Lines.{words_of}
 use Rattle.text_lines.proofs.WordLemmas.{words_fit}
 use Rattle.grid_text.proofs.LineLemmas.{line_start, line_room, line_more, line_bad, line_end}
-use Rattle.grid_text.proofs.read.TriedPieces.push_line.Goals as goal
+use Rattle.grid_text.proofs.read.TriedPieces.push_row.Goals as goal
 
 pub loop-found-init : goal.loop-found-init
 loop-found-init g c =

@@ -2,7 +2,7 @@
 use Rattle.std.proofs.Common.{inr, ◌≡◌, ◌+◌, ◌≤◌, length, arith, rules}
 use Rattle.std.specs.Str.Iter.{chars_rest}
 use Rattle.grid_text.proofs.LineLemmas.{chars_start, chars_more, chars_bad, chars_end, chars_room}
-use Rattle.grid_text.proofs.read.CharsPieces.push_line.Goals as goal
+use Rattle.grid_text.proofs.read.CharsPieces.push_row.Goals as goal
 
 pub loop-found-init : goal.loop-found-init
 loop-found-init g c =

@@ -1,7 +1,7 @@
 -- The cells of the characters so far.
 use Rattle.std.specs.Str.Iter.{chars_rest}
 use Rattle.grid_text.proofs.LineLemmas.{CharsSoFar}
-use Rattle.grid_text.proofs.read.CharsPieces.push_line.Given as goal
+use Rattle.grid_text.proofs.read.CharsPieces.push_row.Given as goal
 
 abbrev pub invariant-loop-found : goal.invariant-loop-found
 invariant-loop-found g l =

@@ -2,7 +2,7 @@
 use Rattle.text_lines.specs.Lines.{words_of}
 use Rattle.grid_text.specs.Reading.{TriesWord, bad_word}
 use Rattle.grid_text.proofs.LineLemmas.{LineSoFar}
-use Rattle.grid_text.proofs.read.TriedPieces.push_line.Given as goal
+use Rattle.grid_text.proofs.read.TriedPieces.push_row.Given as goal
 
 abbrev pub invariant-loop-found : goal.invariant-loop-found
 invariant-loop-found g l =
