@@ -37,7 +37,7 @@ module _ {T X : Type 0} (f : T → X) where
   )
 
 -- the samples of a table are those of its cells
-raster-concat : {T : Type 0} (h : T → List ℕ) (t : List (List T)) → flat_map (λ l. flat_map h l) t ≡ flat_map h (concat_rows t)
+pub raster-concat : {T : Type 0} (h : T → List ℕ) (t : List (List T)) → flat_map (λ l. flat_map h l) t ≡ flat_map h (concat_rows t)
 raster-concat h [] = refl
 raster-concat h (l ∷ t) = ap (λ xs. flat_map h l ++ xs) (raster-concat h t) ∙ sym (flat_map-append h l (concat_rows t))
 

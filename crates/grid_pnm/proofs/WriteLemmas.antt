@@ -1,26 +1,16 @@
 -- The samples of cells, one after another.
-use Rattle.std.proofs.Common.{◌≡◌, ℕ, ◌+◌, List, [], ◌∷◌, ◌++◌, map, take, subst, ap, sym, ◌∙◌, append_assoc}
-use Rattle.grid_base.proofs.Common.{AllZip, map-append}
+use Rattle.std.proofs.Common.{◌≡◌, ℕ, ◌+◌, List, [], ◌∷◌, ◌++◌, map, take, codes, refl, subst, ap, sym, ◌∙◌, append_assoc}
+use Rattle.std.proofs.lemmas.List.Folds.{flat_map-map}
+use Rattle.grid_base.proofs.Common.{AllZip, row_count, col_count, concat_rows}
 use Rattle.grid_base.proofs.ClosureLemmas.{AllZip-append}
 use Rattle.grid.proofs.ConversionLemmas.{AllZip-concat_rows}
+use Rattle.grid_pnm.specs.Writing.{MayDrawGrays, MayDrawColors, raw_picture, pgm_bytes, ppm_bytes}
+use Rattle.grid_pnm.proofs.LawLemmas.{flat-mapped, raster-concat}
 
 -- the sample of one more cell
-pub sample_more : {T : Type 0} (h : T → ℕ) (cells : List T) (i : ℕ) (x : T) (sample : ℕ) (before now next : List ℕ) → take (i + 1) cells ≡ take i cells ++ x ∷ [] → now ≡ before ++ map h (take i cells) → sample ≡ h x → next ≡ now ++ sample ∷ [] → next ≡ before ++ map h (take (i + 1) cells)
-sample_more h cells i x sample before now next more so_far is put =
-    put
-    ∙ (ap (λ y. y ++ sample ∷ []) so_far
-    ∙ (append_assoc before (map h (take i cells)) (sample ∷ [])
-    ∙ ap (λ y. before ++ y) (ap (λ y. map h (take i cells) ++ y ∷ []) is ∙ (sym (map-append h (take i cells) (x ∷ [])) ∙ ap (map h) (sym more)))))
-
--- the same of a sample that R says of the cell
 pub sample_may : {T : Type 0} (R : T → ℕ → Type 0) (cells : List T) (i : ℕ) (x : T) (sample : ℕ) (before now next : List ℕ) → take (i + 1) cells ≡ take i cells ++ x ∷ [] → (samples : List ℕ) × AllZip R (take i cells) samples × (now ≡ before ++ samples) → R x sample → next ≡ now ++ sample ∷ [] → (samples : List ℕ) × AllZip R (take (i + 1) cells) samples × (next ≡ before ++ samples)
 sample_may R cells i x sample before now next more (samples, are, so_far) gave put =
     (samples ++ sample ∷ [], subst (λ xs. AllZip R xs (samples ++ sample ∷ [])) (sym more) (AllZip-append R (take i cells) samples x sample are gave), put ∙ (ap (λ y. y ++ sample ∷ []) so_far ∙ append_assoc before samples (sample ∷ [])))
-
--- a part of the samples that are left
-pub part_put : (before part later left added out : List ℕ) → before ++ left ≡ out → left ≡ part ++ later → added ≡ before ++ part → added ++ later ≡ out
-part_put before part later left added out so_far is put =
-    ap (λ x. x ++ later) put ∙ (append_assoc before part later ∙ (ap (λ x. before ++ x) (sym is) ∙ so_far))
 
 -- where the samples of answers are joined, and so are those of all cells that are left: a part of these
 module _ {T X : Type 0} (R : T → X → Type 0) (joined : List X → List ℕ) (P : List ℕ → Type 0) where
@@ -29,3 +19,21 @@ module _ {T X : Type 0} (R : T → X → Type 0) (joined : List X → List ℕ) 
       let e : before ++ joined (answers ++ rest) ≡ added ++ joined rest =
       ap (λ x. before ++ x) (joins answers rest) ∙ (sym (append_assoc before (joined answers) (joined rest)) ∙ ap (λ x. x ++ joined rest) (sym put)) in
       subst P e (so_far (answers ++ rest) (subst (λ xs. AllZip R xs (answers ++ rest)) (sym is) (AllZip-concat_rows R part later answers rest gave m)))
+
+-- where h gives each answer, the picture that may be drawn is that of h
+module _ {T X : Type 0} (R : T → X → Type 0) (h : T → X) (said : (x : T) (y : X) → R x y → y ≡ h x) where
+  all_said : (xs : List T) (ys : List X) → AllZip R xs ys → ys ≡ map h xs
+  all_said [] [] m = refl
+  all_said [] (y ∷ ys) m = absurd m
+  all_said (x ∷ xs) [] m = absurd m
+  all_said (x ∷ xs) (y ∷ ys) m = ap (λ z. z ∷ ys) (said x y m.0) ∙ ap (λ zs. h x ∷ zs) (all_said xs ys m.1)
+
+pub drawn_grays : {T : Type 0} (R : T → ℕ → Type 0) (h : T → ℕ) → ((x : T) (y : ℕ) → R x y → y ≡ h x) → (rows : List (List T)) (bytes : List ℕ) → MayDrawGrays R rows bytes → bytes ≡ pgm_bytes h rows
+drawn_grays R h said rows bytes drawn =
+    drawn.is_picture ∙ ap (raw_picture (codes "P5") (row_count rows) (col_count rows)) (all_said R h said (concat_rows rows) drawn.samples drawn.are_samples ∙ sym (flat-mapped h rows))
+
+pub drawn_colors : {T : Type 0} (R : T → List ℕ → Type 0) (h : T → List ℕ) → ((x : T) (y : List ℕ) → R x y → y ≡ h x) → (rows : List (List T)) (bytes : List ℕ) → MayDrawColors R rows bytes → bytes ≡ ppm_bytes h rows
+drawn_colors R h said rows bytes drawn =
+    let cells = concat_rows rows in
+    drawn.is_picture
+    ∙ ap (raw_picture (codes "P6") (row_count rows) (col_count rows)) (ap concat_rows (all_said R h said cells drawn.colors drawn.are_colors) ∙ (flat_map-map (λ color. color) h cells ∙ sym (raster-concat h rows)))

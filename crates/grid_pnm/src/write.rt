@@ -1,6 +1,6 @@
 //! Grids written as pictures.
-ghost use Rattle.std.specs.Prelude.{◌≡◌, ◌++◌, ℕ, List, map, IfOk, OnOk};
-ghost use Rattle.std.specs.List.{AllZip, flat_map};
+ghost use Rattle.std.specs.Prelude.{◌≡◌, ◌++◌, ℕ, List, IfOk, OnOk};
+ghost use Rattle.std.specs.List.{AllZip};
 ghost use Rattle.grid_base.specs.Table.{concat_rows};
 ghost use Rattle.grid_pnm.specs.Writing.{WritesBy, AnswersCell, AnswersColor, MayDrawGrays, MayDrawColors, raw_picture, pgm_bytes, ppm_bytes};
 
@@ -81,9 +81,7 @@ fn push_all<T, B: Allocator, F: Fn(&T) -> u8>(
     write: &F,
 ) -> Result<(), AllocError>
     requires { F.IsAlwaysCallable write.now }
-    ensures samples { (h : T → ℕ) → WritesBy F.post write.now h
-        → OnOk result (bytes.new.items ≡ bytes.old.items ++ map h cells.now) }
-    ensures answers { OnOk result ((samples : _)
+    ensures { OnOk result ((samples : _)
         × AllZip (AnswersCell F.post write.now) cells.now samples
         × (bytes.new.items ≡ bytes.old.items ++ samples)) }
 {
@@ -101,9 +99,7 @@ fn push_grays<T, B: Allocator, F: Fn(&T) -> u8>(
     write: &F,
 ) -> Result<(), AllocError>
     requires { F.IsAlwaysCallable write.now }
-    ensures samples { (h : T → ℕ) → WritesBy F.post write.now h
-        → OnOk result (bytes.new.items ≡ bytes.old.items ++ map h row.entry) }
-    ensures answers { OnOk result ((samples : _)
+    ensures { OnOk result ((samples : _)
         × AllZip (AnswersCell F.post write.now) row.entry samples
         × (bytes.new.items ≡ bytes.old.items ++ samples)) }
 {
@@ -120,9 +116,7 @@ fn push_colors<T, B: Allocator, F: Fn(&T) -> [u8; 3]>(
     write: &F,
 ) -> Result<(), AllocError>
     requires { F.IsAlwaysCallable write.now }
-    ensures samples { (h : T → List ℕ) → WritesBy F.post write.now h
-        → OnOk result (bytes.new.items ≡ bytes.old.items ++ flat_map h row.entry) }
-    ensures answers { OnOk result ((colors : _)
+    ensures { OnOk result ((colors : _)
         × AllZip (AnswersColor F.post write.now) row.entry colors
         × (bytes.new.items ≡ bytes.old.items ++ concat_rows colors)) }
 {

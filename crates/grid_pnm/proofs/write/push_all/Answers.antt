@@ -2,7 +2,7 @@
 use Rattle.std.proofs.Common.{◌≡◌, ◌<◌, ◌+◌, ◌++◌, ◌∷◌, [], refl, length, take, arith}
 use Rattle.std.proofs.lemmas.List.{take_more}
 use Rattle.grid_pnm.specs.Writing.{AnswersCell}
-use Rattle.grid_pnm.proofs.WriteLemmas.{sample_more, sample_may}
+use Rattle.grid_pnm.proofs.WriteLemmas.{sample_may}
 use Rattle.grid_pnm.proofs.write.push_all.Goals as goal
 
 pub loop-cell-preserved : goal.loop-cell-preserved
@@ -14,6 +14,5 @@ loop-cell-preserved g c =
     rw (take_more c.args.cells.now c.loop-cell.cell-index c.cell-item.result lt, ← c.cell-item.is) refl in
     record {
       room = grind (arith, p.len, p.capacity, i.room);
-      by = λ h writes. sample_more h c.args.cells.now c.loop-cell.cell-index c.cell-item.result _ _ _ _ more (i.by h writes) (writes _ _ c.write.ensures) p.items;
       may = sample_may (AnswersCell (goal.F-post g) c.args.write.now) c.args.cells.now c.loop-cell.cell-index c.cell-item.result _ _ _ _ more i.may (_, refl, c.write.ensures) p.items;
     }

@@ -1,11 +1,9 @@
 -- The samples so far, before those of the cells that are left.
-use Rattle.std.proofs.Common.{◌≡◌, ◌++◌, ℕ, List, map}
+use Rattle.std.proofs.Common.{◌≡◌, ◌++◌, ℕ, List}
 use Rattle.std.specs.List.{AllZip}
-use Rattle.grid_pnm.specs.Writing.{WritesBy, AnswersCell}
+use Rattle.grid_pnm.specs.Writing.{AnswersCell}
 use Rattle.grid_pnm.proofs.write.push_grays.Given as goal
 
 abbrev pub invariant-loop-cell : goal.invariant-loop-cell
-invariant-loop-cell g l = record {
-  by : (h : _ → ℕ) → WritesBy (goal.F-post g) l.write h → l.bytes.items ++ map h l.cell-iterator ≡ l.fn.bytes.items ++ map h l.fn.row;
-  may : (later : List ℕ) → AllZip (AnswersCell (goal.F-post g) l.write) l.cell-iterator later → (samples : List ℕ) × AllZip (AnswersCell (goal.F-post g) l.write) l.fn.row samples × (l.bytes.items ++ later ≡ l.fn.bytes.items ++ samples);
-}
+invariant-loop-cell g l =
+    (later : List ℕ) → AllZip (AnswersCell (goal.F-post g) l.write) l.cell-iterator later → (samples : List ℕ) × AllZip (AnswersCell (goal.F-post g) l.write) l.fn.row samples × (l.bytes.items ++ later ≡ l.fn.bytes.items ++ samples)

@@ -1,11 +1,9 @@
 -- The samples so far, before those of the rows that are left.
-use Rattle.std.proofs.Common.{◌≡◌, ◌++◌, ℕ, List, map, flat_map}
+use Rattle.std.proofs.Common.{◌++◌, ℕ, List}
 use Rattle.grid_base.proofs.Common.{AllZip, concat_rows}
-use Rattle.grid_pnm.specs.Writing.{WritesBy, AnswersCell, MayDrawGrays, pgm_bytes}
+use Rattle.grid_pnm.specs.Writing.{AnswersCell, MayDrawGrays}
 use Rattle.grid_pnm.proofs.write.to_pgm.Given as goal
 
 abbrev pub invariant-loop-row : goal.invariant-loop-row
-invariant-loop-row g l = record {
-  by : (h : _ → ℕ) → WritesBy (goal.F-post g) l.write h → l.bytes.items ++ flat_map (λ row. map h row) l.row-iterator ≡ pgm_bytes h l.fn.grid.rows;
-  may : (later : List ℕ) → AllZip (AnswersCell (goal.F-post g) l.write) (concat_rows l.row-iterator) later → MayDrawGrays (AnswersCell (goal.F-post g) l.write) l.fn.grid.rows (l.bytes.items ++ later);
-}
+invariant-loop-row g l =
+    (later : List ℕ) → AllZip (AnswersCell (goal.F-post g) l.write) (concat_rows l.row-iterator) later → MayDrawGrays (AnswersCell (goal.F-post g) l.write) l.fn.grid.rows (l.bytes.items ++ later)

@@ -1,11 +1,9 @@
 -- The samples so far, before those of the rows that are left.
-use Rattle.std.proofs.Common.{◌≡◌, ◌++◌, ℕ, List, flat_map}
+use Rattle.std.proofs.Common.{◌++◌, ℕ, List}
 use Rattle.grid_base.proofs.Common.{AllZip, concat_rows}
-use Rattle.grid_pnm.specs.Writing.{WritesBy, AnswersColor, MayDrawColors, ppm_bytes}
+use Rattle.grid_pnm.specs.Writing.{AnswersColor, MayDrawColors}
 use Rattle.grid_pnm.proofs.write.to_ppm.Given as goal
 
 abbrev pub invariant-loop-row : goal.invariant-loop-row
-invariant-loop-row g l = record {
-  by : (h : _ → List ℕ) → WritesBy (goal.F-post g) l.write h → l.bytes.items ++ flat_map (λ row. flat_map h row) l.row-iterator ≡ ppm_bytes h l.fn.grid.rows;
-  may : (later : List (List ℕ)) → AllZip (AnswersColor (goal.F-post g) l.write) (concat_rows l.row-iterator) later → MayDrawColors (AnswersColor (goal.F-post g) l.write) l.fn.grid.rows (l.bytes.items ++ concat_rows later);
-}
+invariant-loop-row g l =
+    (later : List (List ℕ)) → AllZip (AnswersColor (goal.F-post g) l.write) (concat_rows l.row-iterator) later → MayDrawColors (AnswersColor (goal.F-post g) l.write) l.fn.grid.rows (l.bytes.items ++ concat_rows later)
