@@ -44,10 +44,7 @@ impl Cell for u8 {
     }
 
     fn from_cell(_alloc: Global, value: &Value) -> Result<Option<u8>, AllocError> {
-        match value.as_u64() {
-            Some(number) if number < 256 => Ok(Some(number as u8)),
-            _ => Ok(None),
-        }
+        Ok(value.as_u64().and_then(|number| u8::try_from(number).ok()))
     }
 }
 
@@ -61,10 +58,7 @@ impl Cell for u16 {
     }
 
     fn from_cell(_alloc: Global, value: &Value) -> Result<Option<u16>, AllocError> {
-        match value.as_u64() {
-            Some(number) if number < 65536 => Ok(Some(number as u16)),
-            _ => Ok(None),
-        }
+        Ok(value.as_u64().and_then(|number| u16::try_from(number).ok()))
     }
 }
 
@@ -78,10 +72,7 @@ impl Cell for u32 {
     }
 
     fn from_cell(_alloc: Global, value: &Value) -> Result<Option<u32>, AllocError> {
-        match value.as_u64() {
-            Some(number) if number < 4294967296 => Ok(Some(number as u32)),
-            _ => Ok(None),
-        }
+        Ok(value.as_u64().and_then(|number| u32::try_from(number).ok()))
     }
 }
 
@@ -109,10 +100,7 @@ impl Cell for i8 {
     }
 
     fn from_cell(_alloc: Global, value: &Value) -> Result<Option<i8>, AllocError> {
-        match value.as_i64() {
-            Some(number) if -128 <= number && number < 128 => Ok(Some(number as i8)),
-            _ => Ok(None),
-        }
+        Ok(value.as_i64().and_then(|number| i8::try_from(number).ok()))
     }
 }
 
@@ -126,10 +114,7 @@ impl Cell for i16 {
     }
 
     fn from_cell(_alloc: Global, value: &Value) -> Result<Option<i16>, AllocError> {
-        match value.as_i64() {
-            Some(number) if -32768 <= number && number < 32768 => Ok(Some(number as i16)),
-            _ => Ok(None),
-        }
+        Ok(value.as_i64().and_then(|number| i16::try_from(number).ok()))
     }
 }
 
@@ -143,10 +128,7 @@ impl Cell for i32 {
     }
 
     fn from_cell(_alloc: Global, value: &Value) -> Result<Option<i32>, AllocError> {
-        match value.as_i64() {
-            Some(number) if -2147483648 <= number && number < 2147483648 => Ok(Some(number as i32)),
-            _ => Ok(None),
-        }
+        Ok(value.as_i64().and_then(|number| i32::try_from(number).ok()))
     }
 }
 

@@ -72,28 +72,20 @@ fn required(part: Option<&Value>, field: Field) -> Result<&Value, ReadError>
     ensures { Gives (λ found. view found.now) (or_refuse
         (ReadError.MissingField field) (option_map (λ found. view found.now) part.entry)) result }
 {
-    match part {
-        Some(value) => Ok(value),
-        None => Err(ReadError::MissingField(field)),
-    }
+    part.ok_or(ReadError::MissingField(field))
 }
 
 fn cols_in(value: &Value) -> Result<usize, ReadError>
     ensures { result ≡ cols_in (view value.now) }
 {
-    match value.as_u64() {
-        Some(cols) => Ok(cols as usize),
-        None => Err(ReadError::BadCols),
-    }
+    let cols = value.as_u64().ok_or(ReadError::BadCols)?;
+    Ok(cols as usize)
 }
 
 fn items_in(value: &Value) -> Result<&Vec<Value>, ReadError>
     ensures { Gives (λ list. items_view list.now.items) (items_in (view value.now)) result }
 {
-    match value.as_array() {
-        Some(list) => Ok(list),
-        None => Err(ReadError::BadData),
-    }
+    value.as_array().ok_or(ReadError::BadData)
 }
 
 fn cells_in<T: Cell>(alloc: Global, items: &Vec<Value>) -> Result<Vec<T>, ReadError>
@@ -129,13 +121,10 @@ fn order_in(part: Option<&Value>) -> Result<Order, ReadError>
     let Some(value) = part else {
         return Ok(Order::RowMajor);
     };
-    match value.as_str() {
-        Some(name) => match order_named(name) {
-            Some(order) => Ok(order),
-            None => Err(ReadError::BadOrder),
-        },
-        None => Err(ReadError::BadOrder),
-    }
+    value
+        .as_str()
+        .and_then(|name| order_named(name))
+        .ok_or(ReadError::BadOrder)
 }
 
 // The grid of the cells in storage order, in rows of `cols`.
