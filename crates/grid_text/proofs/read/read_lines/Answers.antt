@@ -1,7 +1,7 @@
 -- One line more: a row, or the first that is none.
-use Rattle.std.proofs.Common.{◌≡◌, ◌<◌, inr, length, refl, arith, rules}
+use Rattle.std.proofs.Common.{◌≡◌, ◌<◌, inr, length, arith, rules}
 use Rattle.std.proofs.lemmas.Result.{err_from_is_err_and}
-use Rattle.grid_text.proofs.ReadLemmas.{lines_start, lines_more, lines_bad, lines_ragged, lines_end}
+use Rattle.grid_text.proofs.ReadLemmas.{lines_start, lines_more, lines_bad, lines_ragged, lines_end, even_cols}
 use Rattle.grid_text.proofs.TableLemmas.{can_cut, cut_rows}
 use Rattle.grid_text.proofs.read.read_lines.Goals as goal
 use Rattle.grid_text.proofs.read.read_lines.Goals.{else-line-gt1-via-then-line-gt1+else-len-cols, else-line-gt1-via-else-line-gt1}
@@ -16,12 +16,12 @@ pub returns-in_err-len : goal.returns-in_err-len
 returns-in_err-len g c =
     let some : 0 < length c.loop-rest.rest.now = search rules in
     let p = err_from_is_err_and c.from_residual.result c.from_residual.ensures.1 in
-    rw (p.1, p.2) (record { read = lines_bad _ _ _ _ _ _ _ _ c.loop-rest.invariant.lines some _ _ c.cut_line.ensures.line c.in_err-len.ensures })
+    rw (p.1, p.2) (record { read = lines_bad _ _ _ _ _ _ _ _ c.loop-rest.invariant.lines some _ c.cut_line.ensures.line _ c.in_err-len.ensures })
 
 pub returns-then-len-cols : goal.returns-then-len-cols
 returns-then-len-cols g c =
     let some : 0 < length c.loop-rest.rest.now = search rules in
-    record { read = inr (lines_ragged _ _ _ _ _ _ _ _ c.loop-rest.invariant.lines some _ _ _ c.cut_line.ensures.line c.in_ok-len.ensures (omega arith) c.if-len-cols.true) }
+    record { read = inr (lines_ragged _ _ _ _ _ _ _ _ c.loop-rest.invariant.lines some _ c.cut_line.ensures.line _ _ c.in_ok-len.ensures (omega arith) c.if-len-cols.true) }
 
 pub loop-rest-preserved : goal.loop-rest-preserved
 loop-rest-preserved g c =
@@ -33,15 +33,15 @@ loop-rest-preserved g c =
     ] in
     record {
       utf8 = c.cut_line.ensures.utf8;
-      lines = lines_more _ _ _ _ _ _ _ _ c.loop-rest.invariant.lines some _ _ _ _ _ c.cut_line.ensures.line c.cut_line.ensures.rest c.in_ok-len.ensures refl same;
+      lines = lines_more _ _ _ _ _ _ _ _ c.loop-rest.invariant.lines some _ c.cut_line.ensures.line _ _ c.in_ok-len.ensures _ c.cut_line.ensures.rest same;
     }
 
 pub from_vec-requires : goal.from_vec-requires
-from_vec-requires g c = let i = c.loop-rest.invariant.lines in can_cut i.rows _ _ i.stored i.even
+from_vec-requires g c = let i = c.loop-rest.invariant.lines in can_cut i.rows _ _ i.stored (even_cols _ _ _ _ _ _ _ _ i)
 
 pub returns : goal.returns
 returns g c =
     let none : length c.loop-rest.rest.now ≡ 0 = search rules in
     let i = c.loop-rest.invariant.lines in
     let e = c.from_vec.ensures in
-    record { read = (e.order, (i.rows, lines_end _ _ _ _ _ _ _ _ i none, cut_rows i.rows _ _ i.stored i.even c.from_vec.result e.storage e.cols)) }
+    record { read = (e.order, (i.rows, lines_end _ _ _ _ _ _ _ _ i none, cut_rows i.rows _ _ i.stored (even_cols _ _ _ _ _ _ _ _ i) c.from_vec.result e.storage e.cols)) }
