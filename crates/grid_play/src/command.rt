@@ -24,30 +24,16 @@ pub(crate) fn parse_command<A: Allocator + Clone>(
         ≡ command_of name.now (words_of words.entry.0.now)) }
 {
     match name {
-        "push_row" => match parse_cells(alloc, words)? {
-            Some(line) => Ok(Some(Command::PushRow(line))),
-            None => Ok(None),
-        },
-        "push_col" => match parse_cells(alloc, words)? {
-            Some(line) => Ok(Some(Command::PushCol(line))),
-            None => Ok(None),
-        },
-        "insert_row" => match parse_insert(alloc, words)? {
-            Some(put) => Ok(Some(Command::InsertRow(put.0, put.1))),
-            None => Ok(None),
-        },
-        "insert_col" => match parse_insert(alloc, words)? {
-            Some(put) => Ok(Some(Command::InsertCol(put.0, put.1))),
-            None => Ok(None),
-        },
-        "insert_rows" => match parse_insert_lines(alloc, words)? {
-            Some(put) => Ok(Some(Command::InsertRows(put.0, put.1))),
-            None => Ok(None),
-        },
-        "insert_cols" => match parse_insert_lines(alloc, words)? {
-            Some(put) => Ok(Some(Command::InsertCols(put.0, put.1))),
-            None => Ok(None),
-        },
+        "push_row" => Ok(parse_cells(alloc, words)?.map(|line| Command::PushRow(line))),
+        "push_col" => Ok(parse_cells(alloc, words)?.map(|line| Command::PushCol(line))),
+        "insert_row" => Ok(parse_insert(alloc, words)?.map(|put| Command::InsertRow(put.0, put.1))),
+        "insert_col" => Ok(parse_insert(alloc, words)?.map(|put| Command::InsertCol(put.0, put.1))),
+        "insert_rows" => Ok(parse_insert_lines(alloc, words)?.map(|put| Command::InsertRows(
+            put.0, put.1,
+        ))),
+        "insert_cols" => Ok(parse_insert_lines(alloc, words)?.map(|put| Command::InsertCols(
+            put.0, put.1,
+        ))),
         _ => Ok(cell_command(name, words)),
     }
 }

@@ -47,10 +47,7 @@ fn parse_grid<A: Allocator>(alloc: A, line: &[u8]) -> Result<Grid<i64, A>, Scrip
     let Some(words) = Words::of(line) else {
         return Err(ScriptFault::BadGrid);
     };
-    match grid_of_words(alloc, words)? {
-        Some(grid) => Ok(grid),
-        None => Err(ScriptFault::BadGrid),
-    }
+    grid_of_words(alloc, words)?.ok_or(ScriptFault::BadGrid)
 }
 
 // The order, the number of columns, and the cells in storage order.
@@ -137,8 +134,5 @@ fn parse_line<A: Allocator + Clone>(
     let Some(name) = words.next() else {
         return Ok(Some(None));
     };
-    match parse_command(alloc, name, words)? {
-        Some(command) => Ok(Some(Some(command))),
-        None => Ok(None),
-    }
+    Ok(parse_command(alloc, name, words)?.map(|command| Some(command)))
 }
