@@ -1,9 +1,12 @@
 -- The cells round a cell are cells of the table, at their positions.
-use Rattle.std.proofs.Common.{◌≡◌, ℕ, zero, suc, ◌+◌, ◌<◌, ◌&&◌, Bool, true, false, cond, nat_lt, Option, Some, None, List, [], ◌∷◌, length, refl, subst, sym, arith, filter_map, slice_index_or, option_map, option_and_then}
+use Rattle.std.proofs.Common.{◌≡◌, ℕ, zero, suc, ◌<◌, ◌&&◌, Bool, true, false, cond, nat_lt, Option, Some, None, List, [], ◌∷◌, length, refl, subst, sym, arith, filter_map, slice_index_or, option_map, option_and_then}
 use Rattle.grid_base.proofs.Common.{cons_option, row_count, col_count, cell, IsTable, IsCellAt, GivesCells}
-use Rattle.grid_near.specs.Neighbors.{around4, around8, before, both, round_before, round_after, cell_at, neighbors4, neighbors8, wrapped_neighbors4, wrapped_neighbors8, neighbors_of, wrapped_neighbors_of}
+use Rattle.grid_near.specs.Neighbors.{both, cell_at, neighbors4, neighbors8, wrapped_neighbors4, wrapped_neighbors8, round_of}
+use Rattle.grid_near.specs.Around.{positions}
 use Rattle.grid_near.specs.declared.steps.Steps.{Steps}
 use Rattle.grid_near.specs.declared.steps.Steps.TheVariants.{Sides, All}
+use Rattle.grid_near.specs.declared.board.Edges.{Edges}
+use Rattle.grid_near.specs.declared.board.Edges.TheVariants.{Open, Joined}
 use Rattle.grid.proofs.IndexedIteratorLemmas.{gives_cells_of}
 use Rattle.grid_base.proofs.TableLemmas.{cell_in_range}
 
@@ -43,34 +46,10 @@ module _ {T : Type 0} (t : List (List T)) (h : IsTable t) where
   gives_if true ps s is = gives_from ps s is
   gives_if false ps s is = gives_from [] s is
 
-  module _ (r c : ℕ) (s : List ((ℕ × ℕ) × T)) where
-    gives_neighbors4 : s ≡ neighbors4 t r c → GivesCells t s
-    unfolding neighbors4
-    gives_neighbors4 is = gives_from (around4 (before r) (Some r) (Some (r + 1)) (before c) (Some c) (Some (c + 1))) s is
-
-    gives_neighbors8 : s ≡ neighbors8 t r c → GivesCells t s
-    unfolding neighbors8
-    gives_neighbors8 is = gives_from (around8 (before r) (Some r) (Some (r + 1)) (before c) (Some c) (Some (c + 1))) s is
-
-    gives_wrapped_neighbors4 : s ≡ wrapped_neighbors4 t r c → GivesCells t s
-    unfolding wrapped_neighbors4
-    gives_wrapped_neighbors4 is =
-        let m = row_count t in
-        let n = col_count t in
-        gives_if (nat_lt r m && nat_lt c n) (around4 (Some (round_before m r)) (Some r) (Some (round_after m r)) (Some (round_before n c)) (Some c) (Some (round_after n c))) s is
-
-    gives_wrapped_neighbors8 : s ≡ wrapped_neighbors8 t r c → GivesCells t s
-    unfolding wrapped_neighbors8
-    gives_wrapped_neighbors8 is =
-        let m = row_count t in
-        let n = col_count t in
-        gives_if (nat_lt r m && nat_lt c n) (around8 (Some (round_before m r)) (Some r) (Some (round_after m r)) (Some (round_before n c)) (Some c) (Some (round_after n c))) s is
-
-    -- by the kind of steps
-    pub gives_near : (kind : Steps) → s ≡ neighbors_of kind t r c → GivesCells t s
-    gives_near Sides is = gives_neighbors4 is
-    gives_near All is = gives_neighbors8 is
-
-    pub gives_wrapped : (kind : Steps) → s ≡ wrapped_neighbors_of kind t r c → GivesCells t s
-    gives_wrapped Sides is = gives_wrapped_neighbors4 is
-    gives_wrapped All is = gives_wrapped_neighbors8 is
+  -- by the kind of steps, and by what the edges do
+  pub gives_round : (r c : ℕ) (s : List ((ℕ × ℕ) × T)) (kind : Steps) (e : Edges) → s ≡ round_of kind e t r c → GivesCells t s
+  unfolding neighbors4 neighbors8 wrapped_neighbors4 wrapped_neighbors8
+  gives_round r c s Sides Open is = gives_from (positions Open (row_count t, col_count t) Sides (r, c)) s is
+  gives_round r c s All Open is = gives_from (positions Open (row_count t, col_count t) All (r, c)) s is
+  gives_round r c s Sides Joined is = gives_if (nat_lt r (row_count t) && nat_lt c (col_count t)) (positions Joined (row_count t, col_count t) Sides (r, c)) s is
+  gives_round r c s All Joined is = gives_if (nat_lt r (row_count t) && nat_lt c (col_count t)) (positions Joined (row_count t, col_count t) All (r, c)) s is

@@ -10,7 +10,7 @@ pub use Rattle.grid.specs.Exchanged.{held}
 pub use Rattle.grid.specs.Found.{CallableAtCells, FoundFirst, FoundAll}
 pub use Rattle.grid.specs.GridFails.{GridFails}
 pub use Rattle.grid.specs.Make.{FailsAt, ExceedsMax, FailsBySize, IsMade, EachCellIs, HoldsDefaults, CallableOver, MadeBy, HasSize, IsOnlyDefault}
-pub use Rattle.grid.specs.NearMaps.{CallableRound, ReturnsRound, ReachesRound}
+pub use Rattle.grid.specs.NearMaps.{CallableRound, ReturnsRound, ReachesRound, MapRound, CallableCounted, MapCounts, CallableSummed, MapSums}
 pub use Rattle.grid.specs.Parts.{cols_swapped}
 pub use Rattle.grid.specs.Pasted.{overlaid, part_filled, IsWithin, CallableInPart, CallableInRow, PartUpdated, CellsUpdated}
 pub use Rattle.grid.specs.Resize.{IsCorner, IsResized, ResizesTo}
@@ -47,13 +47,12 @@ pub use Rattle.grid_commands.specs.Errors.{as_shape_error}
 pub use Rattle.grid_commands.specs.LineEdit.{pad_edit, request_value}
 pub use Rattle.grid_commands.specs.Refusal.{in_range, lines_refusal, pad_refusal, edit_refusal, fitting_width, first_width, command_refusal, unless_refused, exceeds}
 pub use Rattle.grid_commands.specs.Reply.{reply_value, ReplyValue, done, size_is, cell_is, line_is, flag_is, refused}
-pub use Rattle.grid_near.specs.Around.{strided_cell, box, IsThere}
+pub use Rattle.grid_near.specs.Around.{strided_cell, box, IsThere, around, side}
 pub use Rattle.grid_near.specs.Directions.{IsBeside, box_of}
-pub use Rattle.grid_near.specs.Marks.{round_of, TakesCounted, AnswersCounted, TakesSummed, AnswersSummed, side, count_round, sum_round, near, table, placed_cells}
+pub use Rattle.grid_near.specs.Marks.{TakesCounted, AnswersCounted, TakesSummed, AnswersSummed, count_round, sum_round, near, table, placed_cells}
 pub use Rattle.grid_near.specs.NearCounts.{CallableNear, CountsNear}
 unfoldable pub use Rattle.grid_near.specs.Neighbors.{neighbors4, neighbors8, wrapped_neighbors4, wrapped_neighbors8}
-pub use Rattle.grid_near.specs.Neighbors.{neighbors_of, wrapped_neighbors_of, step_count, GivesNear, placed, around4, around8, before, cell_at}
-pub use Rattle.grid_near.specs.Wrapped.{around}
+pub use Rattle.grid_near.specs.Neighbors.{neighbors_of, wrapped_neighbors_of, round_of, step_count, GivesNear, placed, around4, around8, before, cell_at}
 pub use Rattle.grid_view.specs.Lines.{directed}
 pub use Rattle.grid_view.specs.Same.{same_view, same_view_per, same_view_equiv}
 pub use Rattle.grid_view.specs.Texts.{table_text, rows_text}

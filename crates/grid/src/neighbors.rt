@@ -1,11 +1,10 @@
 //! Iterators over the cells round a cell, on the grid as it is or with its edges joined.
 ghost use Rattle.std.specs.Prelude.{◌≡◌, ◌≤◌, length, IfOk};
 ghost use Rattle.grid_base.specs.Prelude.{InRange, SameSizeAndOrder, storage, CallableAtRefs, GivesCells};
-ghost use Rattle.grid.specs.AllCells.{MappedBy, CallableAtPositions};
-ghost use Rattle.grid_near.specs.Marks.{round_of, TakesCounted, AnswersCounted, TakesSummed, AnswersSummed};
-ghost use Rattle.grid.specs.NearMaps.{CallableRound, ReturnsRound, ReachesRound};
+ghost use Rattle.grid.specs.NearMaps.{CallableRound, ReachesRound, MapRound, CallableCounted, MapCounts, CallableSummed, MapSums};
 ghost use Rattle.grid_near.specs.NearCounts.{CallableNear, CountsNear};
-ghost use Rattle.grid_near.specs.Neighbors.{neighbors4, neighbors8, wrapped_neighbors4, wrapped_neighbors8, neighbors_of, wrapped_neighbors_of, step_count, GivesNear};
+ghost use Rattle.grid_near.specs.Neighbors.{neighbors4, neighbors8, wrapped_neighbors4, wrapped_neighbors8, round_of, step_count, GivesNear};
+ghost use Rattle.grid_near.specs.declared.board.Edges.TheVariants.{Joined};
 
 use crate::Grid;
 use grid_base::{Flat, Layout};
@@ -24,7 +23,7 @@ impl<T, A: Allocator> Grid<T, A> {
         ensures count { length result ≤ 4 }
         ensures cells { GivesCells self.now.rows result }
     {
-        self.open_round(at, Steps::Sides)
+        self.cells_round(at, Steps::Sides, Edges::Open)
     }
 
     /// Returns an iterator over the cells that touch the cell at this position, at a side or a corner, row by row, each with
@@ -38,7 +37,7 @@ impl<T, A: Allocator> Grid<T, A> {
         ensures count { length result ≤ 8 }
         ensures cells { GivesCells self.now.rows result }
     {
-        self.open_round(at, Steps::All)
+        self.cells_round(at, Steps::All, Edges::Open)
     }
 
     /// Same as [`neighbors4`](Grid::neighbors4), on a grid whose edges meet: the last row is above the first, and the last
@@ -54,7 +53,7 @@ impl<T, A: Allocator> Grid<T, A> {
         ensures at_most { length result ≤ 4 }
         ensures cells { GivesCells self.now.rows result }
     {
-        self.joined_round(at, Steps::Sides)
+        self.cells_round(at, Steps::Sides, Edges::Joined)
     }
 
     /// Same as [`neighbors8`](Grid::neighbors8), on a grid whose edges meet: the last row is above the first, and the last
@@ -70,7 +69,7 @@ impl<T, A: Allocator> Grid<T, A> {
         ensures at_most { length result ≤ 8 }
         ensures cells { GivesCells self.now.rows result }
     {
-        self.joined_round(at, Steps::All)
+        self.cells_round(at, Steps::All, Edges::Joined)
     }
 
     /// Same as [`map_neighbors8`](Grid::map_neighbors8), with the iterator that [`neighbors4`](Grid::neighbors4) gives.
@@ -82,10 +81,9 @@ impl<T, A: Allocator> Grid<T, A> {
         A: Clone,
         requires { CallableRound neighbors4 F.pre f self.now.rows }
         ensures same { IfOk result (SameSizeAndOrder self.now) }
-        ensures cells { IfOk result (λ g. MappedBy
-            (ReturnsRound neighbors4 F.post self.now.rows) f self.now.rows g.rows) }
+        ensures cells { MapRound neighbors4 F.post f self.now.rows result }
     {
-        self.map_open(Steps::Sides, f)
+        self.map_round(Steps::Sides, Edges::Open, f)
     }
 
     /// Returns the grid of what the closure, called in storage order, returns for each position, a reference to the
@@ -105,10 +103,9 @@ impl<T, A: Allocator> Grid<T, A> {
         A: Clone,
         requires { CallableRound neighbors8 F.pre f self.now.rows }
         ensures same { IfOk result (SameSizeAndOrder self.now) }
-        ensures cells { IfOk result (λ g. MappedBy
-            (ReturnsRound neighbors8 F.post self.now.rows) f self.now.rows g.rows) }
+        ensures cells { MapRound neighbors8 F.post f self.now.rows result }
     {
-        self.map_open(Steps::All, f)
+        self.map_round(Steps::All, Edges::Open, f)
     }
 
     /// Same as [`map_neighbors8`](Grid::map_neighbors8), with the iterator that
@@ -121,10 +118,9 @@ impl<T, A: Allocator> Grid<T, A> {
         A: Clone,
         requires { CallableRound wrapped_neighbors4 F.pre f self.now.rows }
         ensures same { IfOk result (SameSizeAndOrder self.now) }
-        ensures cells { IfOk result (λ g. MappedBy
-            (ReturnsRound wrapped_neighbors4 F.post self.now.rows) f self.now.rows g.rows) }
+        ensures cells { MapRound wrapped_neighbors4 F.post f self.now.rows result }
     {
-        self.map_joined(Steps::Sides, f)
+        self.map_round(Steps::Sides, Edges::Joined, f)
     }
 
     /// Same as [`map_neighbors8`](Grid::map_neighbors8), with the iterator that
@@ -137,10 +133,9 @@ impl<T, A: Allocator> Grid<T, A> {
         A: Clone,
         requires { CallableRound wrapped_neighbors8 F.pre f self.now.rows }
         ensures same { IfOk result (SameSizeAndOrder self.now) }
-        ensures cells { IfOk result (λ g. MappedBy
-            (ReturnsRound wrapped_neighbors8 F.post self.now.rows) f self.now.rows g.rows) }
+        ensures cells { MapRound wrapped_neighbors8 F.post f self.now.rows result }
     {
-        self.map_joined(Steps::All, f)
+        self.map_round(Steps::All, Edges::Joined, f)
     }
 
     /// Same as [`count_neighbors8`](Grid::count_neighbors8), of the cells of [`neighbors4`](Grid::neighbors4).
@@ -184,7 +179,7 @@ impl<T, A: Allocator> Grid<T, A> {
         ensures count { CountsNear F.post test (wrapped_neighbors4 self.now.rows at.0 at.1) result }
         ensures at_most { result ≤ 4 }
     {
-        count_wrapped(self.wrapped_neighbors4(at), test)
+        count_near(self.wrapped_neighbors4(at), test)
     }
 
     /// Same as [`count_neighbors8`](Grid::count_neighbors8), of the eight cells of
@@ -199,7 +194,7 @@ impl<T, A: Allocator> Grid<T, A> {
         ensures count { CountsNear F.post test (wrapped_neighbors8 self.now.rows at.0 at.1) result }
         ensures at_most { result ≤ 8 }
     {
-        count_wrapped(self.wrapped_neighbors8(at), test)
+        count_near(self.wrapped_neighbors8(at), test)
     }
 
     /// Returns the grid of what the closure `rule` returns for a reference to each cell and the number of the cells
@@ -222,11 +217,9 @@ impl<T, A: Allocator> Grid<T, A> {
     where
         A: Clone,
         requires tests { CallableAtRefs F.pre test (storage self.now.order self.now.rows) }
-        requires calls { CallableAtPositions (TakesCounted neighbors8 F.post test self.now.rows G.pre)
-            rule self.now.rows }
+        requires calls { CallableCounted neighbors8 F.post test G.pre rule self.now.rows }
         ensures same { IfOk result (SameSizeAndOrder self.now) }
-        ensures cells { IfOk result (λ g. MappedBy
-            (AnswersCounted neighbors8 F.post test self.now.rows G.post) rule self.now.rows g.rows) }
+        ensures cells { MapCounts neighbors8 F.post test G.post rule self.now.rows result }
     {
         self.counts_round(Steps::All, Edges::Open, test, rule)
     }
@@ -248,12 +241,9 @@ impl<T, A: Allocator> Grid<T, A> {
     where
         A: Clone,
         requires tests { CallableAtRefs F.pre test (storage self.now.order self.now.rows) }
-        requires calls { CallableAtPositions
-            (TakesCounted wrapped_neighbors8 F.post test self.now.rows G.pre) rule self.now.rows }
+        requires calls { CallableCounted wrapped_neighbors8 F.post test G.pre rule self.now.rows }
         ensures same { IfOk result (SameSizeAndOrder self.now) }
-        ensures cells { IfOk result (λ g. MappedBy
-            (AnswersCounted wrapped_neighbors8 F.post test self.now.rows G.post) rule self.now.rows
-            g.rows) }
+        ensures cells { MapCounts wrapped_neighbors8 F.post test G.post rule self.now.rows result }
     {
         self.counts_round(Steps::All, Edges::Joined, test, rule)
     }
@@ -274,11 +264,9 @@ impl<T, A: Allocator> Grid<T, A> {
     where
         A: Clone,
         requires weights { CallableAtRefs F.pre weight (storage self.now.order self.now.rows) }
-        requires calls { CallableAtPositions (TakesSummed neighbors8 F.post weight self.now.rows G.pre)
-            rule self.now.rows }
+        requires calls { CallableSummed neighbors8 F.post weight G.pre rule self.now.rows }
         ensures same { IfOk result (SameSizeAndOrder self.now) }
-        ensures cells { IfOk result (λ g. MappedBy
-            (AnswersSummed neighbors8 F.post weight self.now.rows G.post) rule self.now.rows g.rows) }
+        ensures cells { MapSums neighbors8 F.post weight G.post rule self.now.rows result }
     {
         self.sums_round(Steps::All, Edges::Open, weight, rule)
     }
@@ -299,12 +287,9 @@ impl<T, A: Allocator> Grid<T, A> {
     where
         A: Clone,
         requires weights { CallableAtRefs F.pre weight (storage self.now.order self.now.rows) }
-        requires calls { CallableAtPositions
-            (TakesSummed wrapped_neighbors8 F.post weight self.now.rows G.pre) rule self.now.rows }
+        requires calls { CallableSummed wrapped_neighbors8 F.post weight G.pre rule self.now.rows }
         ensures same { IfOk result (SameSizeAndOrder self.now) }
-        ensures cells { IfOk result (λ g. MappedBy
-            (AnswersSummed wrapped_neighbors8 F.post weight self.now.rows G.post) rule self.now.rows
-            g.rows) }
+        ensures cells { MapSums wrapped_neighbors8 F.post weight G.post rule self.now.rows result }
     {
         self.sums_round(Steps::All, Edges::Joined, weight, rule)
     }
@@ -318,11 +303,9 @@ impl<T, A: Allocator> Grid<T, A> {
     where
         A: Clone,
         requires tests { CallableAtRefs F.pre test (storage self.now.order self.now.rows) }
-        requires calls { CallableAtPositions (TakesCounted neighbors4 F.post test self.now.rows G.pre)
-            rule self.now.rows }
+        requires calls { CallableCounted neighbors4 F.post test G.pre rule self.now.rows }
         ensures same { IfOk result (SameSizeAndOrder self.now) }
-        ensures cells { IfOk result (λ g. MappedBy
-            (AnswersCounted neighbors4 F.post test self.now.rows G.post) rule self.now.rows g.rows) }
+        ensures cells { MapCounts neighbors4 F.post test G.post rule self.now.rows result }
     {
         self.counts_round(Steps::Sides, Edges::Open, test, rule)
     }
@@ -336,12 +319,9 @@ impl<T, A: Allocator> Grid<T, A> {
     where
         A: Clone,
         requires tests { CallableAtRefs F.pre test (storage self.now.order self.now.rows) }
-        requires calls { CallableAtPositions
-            (TakesCounted wrapped_neighbors4 F.post test self.now.rows G.pre) rule self.now.rows }
+        requires calls { CallableCounted wrapped_neighbors4 F.post test G.pre rule self.now.rows }
         ensures same { IfOk result (SameSizeAndOrder self.now) }
-        ensures cells { IfOk result (λ g. MappedBy
-            (AnswersCounted wrapped_neighbors4 F.post test self.now.rows G.post) rule self.now.rows
-            g.rows) }
+        ensures cells { MapCounts wrapped_neighbors4 F.post test G.post rule self.now.rows result }
     {
         self.counts_round(Steps::Sides, Edges::Joined, test, rule)
     }
@@ -355,11 +335,9 @@ impl<T, A: Allocator> Grid<T, A> {
     where
         A: Clone,
         requires weights { CallableAtRefs F.pre weight (storage self.now.order self.now.rows) }
-        requires calls { CallableAtPositions (TakesSummed neighbors4 F.post weight self.now.rows G.pre)
-            rule self.now.rows }
+        requires calls { CallableSummed neighbors4 F.post weight G.pre rule self.now.rows }
         ensures same { IfOk result (SameSizeAndOrder self.now) }
-        ensures cells { IfOk result (λ g. MappedBy
-            (AnswersSummed neighbors4 F.post weight self.now.rows G.post) rule self.now.rows g.rows) }
+        ensures cells { MapSums neighbors4 F.post weight G.post rule self.now.rows result }
     {
         self.sums_round(Steps::Sides, Edges::Open, weight, rule)
     }
@@ -373,76 +351,44 @@ impl<T, A: Allocator> Grid<T, A> {
     where
         A: Clone,
         requires weights { CallableAtRefs F.pre weight (storage self.now.order self.now.rows) }
-        requires calls { CallableAtPositions
-            (TakesSummed wrapped_neighbors4 F.post weight self.now.rows G.pre) rule self.now.rows }
+        requires calls { CallableSummed wrapped_neighbors4 F.post weight G.pre rule self.now.rows }
         ensures same { IfOk result (SameSizeAndOrder self.now) }
-        ensures cells { IfOk result (λ g. MappedBy
-            (AnswersSummed wrapped_neighbors4 F.post weight self.now.rows G.post) rule self.now.rows
-            g.rows) }
+        ensures cells { MapSums wrapped_neighbors4 F.post weight G.post rule self.now.rows result }
     {
         self.sums_round(Steps::Sides, Edges::Joined, weight, rule)
     }
 
-    // The cells round a cell, by which steps.
+    // The cells round a cell, by which steps, and by what the edges do.
     #[inline(always)]
-    fn open_round(&self, at: (usize, usize), kind: Steps) -> Neighbors<'_, T>
-        ensures gives { GivesNear (neighbors_of kind self.now.rows at.0 at.1) result }
-        ensures count { length result ≤ step_count kind }
-        ensures cells { GivesCells self.now.rows result }
-    {
-        let size = (self.row_count, self.col_count);
-        grid_near::neighbors_of(self.flat.as_slice(), self.order, size, at, kind)
-    }
-
-    // The same, where edges meet.
-    #[inline(always)]
-    fn joined_round(&self, at: (usize, usize), kind: Steps) -> WrappedNeighbors<'_, T>
-        ensures gives { GivesNear (wrapped_neighbors_of kind self.now.rows at.0 at.1) result }
-        ensures count { InRange self.now.rows at.0 at.1 → length result ≡ step_count kind }
+    fn cells_round(&self, at: (usize, usize), kind: Steps, edges: Edges) -> Neighbors<'_, T>
+        ensures gives { GivesNear (round_of kind edges self.now.rows at.0 at.1) result }
+        ensures count { edges ≡ Joined → InRange self.now.rows at.0 at.1
+            → length result ≡ step_count kind }
         ensures at_most { length result ≤ step_count kind }
         ensures cells { GivesCells self.now.rows result }
     {
-        let size = (self.row_count, self.col_count);
-        grid_near::wrapped_neighbors_of(self.flat.as_slice(), self.order, size, at, kind)
+        let (order, rows, cols) = (self.order, self.row_count, self.col_count);
+        let layout = Layout { order, rows, cols };
+        grid_near::neighbors_of(self.flat.as_slice(), layout, at, kind, edges)
     }
 
     // What the closure returns at each cell and the cells round it.
-    fn map_open<U, F: Fn((usize, usize), &T, Neighbors<'_, T>) -> U>(
+    fn map_round<U, F: Fn((usize, usize), &T, Neighbors<'_, T>) -> U>(
         &self,
         kind: Steps,
+        edges: Edges,
         f: F,
     ) -> Result<Grid<U, A>, AllocError>
     where
         A: Clone,
-        requires { CallableRound (neighbors_of kind) F.pre f self.now.rows }
+        requires { CallableRound (round_of kind edges) F.pre f self.now.rows }
         ensures same { IfOk result (SameSizeAndOrder self.now) }
-        ensures cells { IfOk result (λ g. MappedBy
-            (ReturnsRound (neighbors_of kind) F.post self.now.rows) f self.now.rows g.rows) }
+        ensures cells { MapRound (round_of kind edges) F.post f self.now.rows result }
     {
         self.map_indexed(
             |at, cell|
-                requires { ReachesRound (neighbors_of kind) F.pre f self.now.rows at cell }
-            { f(at, cell, self.open_round(at, kind)) },
-        )
-    }
-
-    // The same, where edges meet.
-    fn map_joined<U, F: Fn((usize, usize), &T, WrappedNeighbors<'_, T>) -> U>(
-        &self,
-        kind: Steps,
-        f: F,
-    ) -> Result<Grid<U, A>, AllocError>
-    where
-        A: Clone,
-        requires { CallableRound (wrapped_neighbors_of kind) F.pre f self.now.rows }
-        ensures same { IfOk result (SameSizeAndOrder self.now) }
-        ensures cells { IfOk result (λ g. MappedBy
-            (ReturnsRound (wrapped_neighbors_of kind) F.post self.now.rows) f self.now.rows g.rows) }
-    {
-        self.map_indexed(
-            |at, cell|
-                requires { ReachesRound (wrapped_neighbors_of kind) F.pre f self.now.rows at cell }
-            { f(at, cell, self.joined_round(at, kind)) },
+                requires { ReachesRound (round_of kind edges) F.pre f self.now.rows at cell }
+            { f(at, cell, self.cells_round(at, kind, edges)) },
         )
     }
 
@@ -457,11 +403,11 @@ impl<T, A: Allocator> Grid<T, A> {
     where
         A: Clone,
         requires tests { CallableAtRefs F.pre test (storage self.now.order self.now.rows) }
-        requires calls { CallableAtPositions
-            (TakesCounted (round_of kind edges) F.post test self.now.rows G.pre) rule self.now.rows }
+        requires calls { CallableCounted (round_of kind edges) F.post test G.pre rule
+            self.now.rows }
         ensures same { IfOk result (SameSizeAndOrder self.now) }
-        ensures cells { IfOk result (λ g. MappedBy
-            (AnswersCounted (round_of kind edges) F.post test self.now.rows G.post) rule self.now.rows g.rows) }
+        ensures cells { MapCounts (round_of kind edges) F.post test G.post rule
+            self.now.rows result }
     {
         let (order, rows, cols) = (self.order, self.row_count, self.col_count);
         let alloc = self.allocator().clone()?;
@@ -493,11 +439,11 @@ impl<T, A: Allocator> Grid<T, A> {
     where
         A: Clone,
         requires weights { CallableAtRefs F.pre weight (storage self.now.order self.now.rows) }
-        requires calls { CallableAtPositions
-            (TakesSummed (round_of kind edges) F.post weight self.now.rows G.pre) rule self.now.rows }
+        requires calls { CallableSummed (round_of kind edges) F.post weight G.pre rule
+            self.now.rows }
         ensures same { IfOk result (SameSizeAndOrder self.now) }
-        ensures cells { IfOk result (λ g. MappedBy
-            (AnswersSummed (round_of kind edges) F.post weight self.now.rows G.post) rule self.now.rows g.rows) }
+        ensures cells { MapSums (round_of kind edges) F.post weight G.post rule
+            self.now.rows result }
     {
         let (order, rows, cols) = (self.order, self.row_count, self.col_count);
         let alloc = self.allocator().clone()?;
@@ -521,22 +467,6 @@ impl<T, A: Allocator> Grid<T, A> {
 
 // For how many of these cells the closure returns `true`.
 fn count_near<T, F: Fn(&T) -> bool>(near: Neighbors<'_, T>, test: F) -> usize
-    requires most { length near ≤ 8 }
-    requires callable { CallableNear F.pre test near }
-    ensures count { CountsNear F.post test near.entry result }
-    ensures at_most { result ≤ length near.entry }
-{
-    let mut count = 0;
-    for (_, cell) in near {
-        if test(cell) {
-            count += 1;
-        }
-    }
-    count
-}
-
-// For how many of these cells the closure returns `true`.
-fn count_wrapped<T, F: Fn(&T) -> bool>(near: WrappedNeighbors<'_, T>, test: F) -> usize
     requires most { length near ≤ 8 }
     requires callable { CallableNear F.pre test near }
     ensures count { CountsNear F.post test near.entry result }

@@ -1,6 +1,6 @@
 -- The steps round a cell, one by one.
 use Rattle.std.proofs.Common.{◌≡◌, ℕ, zero, suc, ◌+◌, ◌-◌, ◌*◌, ◌/◌, ◌%◌, ◌<◌, ◌≤◌, inl, inr, Bool, true, false, cond, Option, Some, None, List, [], ◌∷◌, drop, length, refl, ◌&&◌, nat_lt, sym, ◌∙◌, ap, arith, slice_index_or, lit<, subst, IsSome, filter_map, slice_get, option_map, option_and_then, lt-ltb, le-ltb, ltb-true}
-use Rattle.grid_base.proofs.Common.{cons_option, drop_all, mod_below, cases_lt, slice_get_read, row_count, col_count, cell, IsTable, storage, place, table_of, HoldsSize}
+use Rattle.grid_base.proofs.Common.{cons_option, drop_all, mod_below, mod-mul-add, add-mod_right, cases_lt, slice_get_read, row_count, col_count, cell, IsTable, storage, place, table_of, HoldsSize}
 use Rattle.grid_base.specs.declared.order.Order.{Order}
 use Rattle.grid_base.specs.declared.order.Order.TheVariants.{RowMajor, ColumnMajor}
 use Rattle.grid_base.proofs.ViewLemmas.{view-rows, view-cols, view-table, view-storage}
@@ -8,30 +8,32 @@ use Rattle.grid_base.proofs.TableLemmas.{cell_past_rows, IsSome_within, length_c
 use Rattle.grid_base.proofs.StorageLemmas.{get-storage, length-storage, place_within}
 use Rattle.grid_near.specs.declared.steps.Steps.{Steps}
 use Rattle.grid_near.specs.declared.steps.Steps.TheVariants.{Sides, All}
-use Rattle.grid_near.specs.Neighbors.{step_count, both, cell_at, neighbors4, neighbors8, neighbors_of}
-use Rattle.grid_near.specs.Around.{strided_cell, HoldsCells, box, beside, positions, position_of, cells_from, if_within, strides_of, box_start, IsInner, IsThere, IsRound, positions_from}
+use Rattle.grid_near.specs.declared.board.Edges.{Edges}
+use Rattle.grid_near.specs.declared.board.Edges.TheVariants.{Open, Joined}
+use Rattle.grid_near.specs.Neighbors.{step_count, both, cell_at, neighbors4, neighbors8, wrapped_neighbors4, wrapped_neighbors8, round_of, round_before, round_after}
+use Rattle.grid_near.specs.Around.{strided_cell, HoldsCells, box, beside, around, side, positions, position_of, cells_from, if_within, strides_of, start_of, next_step, IsThere, IsRound, positions_from}
 
 -- the position of a step is the first of those that are left
-pub positions_from_step : (kind : Steps) (at : ℕ × ℕ) (k : ℕ) → k < step_count kind → drop k (positions kind at) ≡ position_of kind at k ∷ drop (k + 1) (positions kind at)
-positions_from_step Sides at zero lt = refl
-positions_from_step Sides at (suc zero) lt = refl
-positions_from_step Sides at (suc (suc zero)) lt = refl
-positions_from_step Sides at (suc (suc (suc zero))) lt = refl
-positions_from_step Sides at (suc (suc (suc (suc k)))) lt = absurd (omega arith)
-positions_from_step All at zero lt = refl
-positions_from_step All at (suc zero) lt = refl
-positions_from_step All at (suc (suc zero)) lt = refl
-positions_from_step All at (suc (suc (suc zero))) lt = refl
-positions_from_step All at (suc (suc (suc (suc zero)))) lt = refl
-positions_from_step All at (suc (suc (suc (suc (suc zero))))) lt = refl
-positions_from_step All at (suc (suc (suc (suc (suc (suc zero)))))) lt = refl
-positions_from_step All at (suc (suc (suc (suc (suc (suc (suc zero))))))) lt = refl
-positions_from_step All at (suc (suc (suc (suc (suc (suc (suc (suc k)))))))) lt = absurd (omega arith)
+pub positions_from_step : (e : Edges) (size : ℕ × ℕ) (kind : Steps) (at : ℕ × ℕ) (k : ℕ) → k < step_count kind → drop k (positions e size kind at) ≡ position_of e size kind at k ∷ drop (k + 1) (positions e size kind at)
+positions_from_step e size Sides at zero lt = refl
+positions_from_step e size Sides at (suc zero) lt = refl
+positions_from_step e size Sides at (suc (suc zero)) lt = refl
+positions_from_step e size Sides at (suc (suc (suc zero))) lt = refl
+positions_from_step e size Sides at (suc (suc (suc (suc k)))) lt = absurd (omega arith)
+positions_from_step e size All at zero lt = refl
+positions_from_step e size All at (suc zero) lt = refl
+positions_from_step e size All at (suc (suc zero)) lt = refl
+positions_from_step e size All at (suc (suc (suc zero))) lt = refl
+positions_from_step e size All at (suc (suc (suc (suc zero)))) lt = refl
+positions_from_step e size All at (suc (suc (suc (suc (suc zero))))) lt = refl
+positions_from_step e size All at (suc (suc (suc (suc (suc (suc zero)))))) lt = refl
+positions_from_step e size All at (suc (suc (suc (suc (suc (suc (suc zero))))))) lt = refl
+positions_from_step e size All at (suc (suc (suc (suc (suc (suc (suc (suc k)))))))) lt = absurd (omega arith)
 
 -- no positions are left
-pub none_left : (kind : Steps) (at : ℕ × ℕ) (k : ℕ) → step_count kind ≤ k → drop k (positions kind at) ≡ []
-none_left Sides at k le = drop_all k _ le
-none_left All at k le = drop_all k _ le
+pub none_left : (e : Edges) (size : ℕ × ℕ) (kind : Steps) (at : ℕ × ℕ) (k : ℕ) → step_count kind ≤ k → drop k (positions e size kind at) ≡ []
+none_left e size Sides at k le = drop_all k _ le
+none_left e size All at k le = drop_all k _ le
 
 module _ {T : Type 0} (cells : List T) (size strides : ℕ × ℕ) where
   abbrev f : ℕ → ℕ → Option T
@@ -54,20 +56,20 @@ module _ {T : Type 0} (cells : List T) (size strides : ℕ × ℕ) where
       cases None e = absurd (cc e)
       cases (Some r) e = some_at r q x (sym e) h
 
-module _ {T : Type 0} (f : ℕ → ℕ → Option T) (kind : Steps) (at : ℕ × ℕ) where
-  pub cells_left : (k : ℕ) → k < step_count kind → cells_from f kind at k ≡ cons_option (cell_at f (position_of kind at k)) (cells_from f kind at (k + 1))
-  cells_left k lt = ap (filter_map (cell_at f)) (positions_from_step kind at k lt)
+module _ {T : Type 0} (f : ℕ → ℕ → Option T) (e : Edges) (size : ℕ × ℕ) (kind : Steps) (at : ℕ × ℕ) where
+  pub cells_left : (k : ℕ) → k < step_count kind → cells_from f e size kind at k ≡ cons_option (cell_at f (position_of e size kind at k)) (cells_from f e size kind at (k + 1))
+  cells_left k lt = ap (filter_map (cell_at f)) (positions_from_step e size kind at k lt)
 
-  pub first_cell : (k : ℕ) (x : (ℕ × ℕ) × T) → k < step_count kind → cell_at f (position_of kind at k) ≡ Some x → cells_from f kind at k ≡ x ∷ cells_from f kind at (k + 1)
-  first_cell k x lt e = cells_left k lt ∙ ap (λ o. cons_option o (cells_from f kind at (k + 1))) e
+  pub first_cell : (k : ℕ) (x : (ℕ × ℕ) × T) → k < step_count kind → cell_at f (position_of e size kind at k) ≡ Some x → cells_from f e size kind at k ≡ x ∷ cells_from f e size kind at (k + 1)
+  first_cell k x lt is = cells_left k lt ∙ ap (λ o. cons_option o (cells_from f e size kind at (k + 1))) is
 
-  pub no_cells : (k : ℕ) → step_count kind ≤ k → cells_from f kind at k ≡ []
-  no_cells k le = ap (filter_map (cell_at f)) (none_left kind at k le)
+  pub no_cells : (k : ℕ) → step_count kind ≤ k → cells_from f e size kind at k ≡ []
+  no_cells k le = ap (filter_map (cell_at f)) (none_left e size kind at k le)
 
 -- steps whose positions aren't in the grid
-pub position_skipped : (size : ℕ × ℕ) (kind : Steps) (at : ℕ × ℕ) (k : ℕ) → k < step_count kind → if_within size (both (position_of kind at k)) ≡ None → positions_from size kind at k ≡ positions_from size kind at (k + 1)
+pub position_skipped : (size : ℕ × ℕ) (kind : Steps) (at : ℕ × ℕ) (k : ℕ) → k < step_count kind → if_within size (both (position_of Open size kind at k)) ≡ None → positions_from size kind at k ≡ positions_from size kind at (k + 1)
 position_skipped size kind at k lt e =
-    ap (filter_map (λ p. if_within size (both p))) (positions_from_step kind at k lt) ∙ ap (λ o. cons_option o (positions_from size kind at (k + 1))) e
+    ap (filter_map (λ p. if_within size (both p))) (positions_from_step Open size kind at k lt) ∙ ap (λ o. cons_option o (positions_from size kind at (k + 1))) e
 
 module _ {T : Type 0} (cells : List T) (size strides : ℕ × ℕ) where
   abbrev position_cell : ℕ × ℕ → Option ((ℕ × ℕ) × T)
@@ -85,9 +87,9 @@ module _ {T : Type 0} (cells : List T) (size strides : ℕ × ℕ) where
   cells_of_positions [] = refl
   cells_of_positions (p ∷ ps) = step_position (both p) _ _ (cells_of_positions ps)
 
-  pub cells_skipped : (kind : Steps) (at : ℕ × ℕ) (k l : ℕ) → positions_from size kind at k ≡ positions_from size kind at l → cells_from (strided_cell cells size strides) kind at k ≡ cells_from (strided_cell cells size strides) kind at l
+  pub cells_skipped : (kind : Steps) (at : ℕ × ℕ) (k l : ℕ) → positions_from size kind at k ≡ positions_from size kind at l → cells_from (strided_cell cells size strides) Open size kind at k ≡ cells_from (strided_cell cells size strides) Open size kind at l
   cells_skipped kind at k l e =
-      cells_of_positions (drop k (positions kind at)) ∙ (ap (filter_map position_cell) e ∙ sym (cells_of_positions (drop l (positions kind at))))
+      cells_of_positions (drop k (positions Open size kind at)) ∙ (ap (filter_map position_cell) e ∙ sym (cells_of_positions (drop l (positions Open size kind at))))
 
 -- one cell for each position
 pub mapped_there : {X Y : Type 0} (f : X → Y) (o : Option X) → IsSome o → IsSome (option_map f o)
@@ -119,8 +121,9 @@ module _ {T : Type 0} (cells : List T) (size strides : ℕ × ℕ) (h : HoldsCel
   length_cells [] = refl
   length_cells (p ∷ ps) = length_step (both p) _ _ (length_cells ps)
 
-  pub length-cells_from : (kind : Steps) (at : ℕ × ℕ) (k : ℕ) → length (cells_from (strided_cell cells size strides) kind at k) ≡ length (positions_from size kind at k)
-  length-cells_from kind at k = length_cells (drop k (positions kind at))
+  pub open_left : (e : Edges) → e ≡ Open → (kind : Steps) (at : ℕ × ℕ) (inner : Bool) (passed tried : ℕ) → length (cells_from (strided_cell cells size strides) e size kind at (next_step e inner passed tried)) ≡ length (positions_from size kind at (cond inner passed tried))
+  open_left Open is kind at inner passed tried = length_cells (drop (cond inner passed tried) (positions Open size kind at))
+  open_left Joined is kind at inner passed tried = absurd (cc is)
 
   pub strided_there : (r c : ℕ) → r < size.0 → c < size.1 → IsSome (strided_cell cells size strides r c)
   strided_there r c lr lc = there (nat_lt r size.0) (nat_lt c size.1) (lt-ltb _ _ lr) (lt-ltb _ _ lc)
@@ -204,10 +207,18 @@ module _ {T : Type 0} (o : Order) (t : List (List T)) (h : IsTable t) where
       past r c true b e = ap (λ b. cond b (slice_get (storage o t) (r * (strides_of o (row_count t, col_count t)).0 + c * (strides_of o (row_count t, col_count t)).1)) None) e
       past r c false b e = refl
 
-pub neighbors_start : {T : Type 0} (t : List (List T)) (kind : Steps) (at : ℕ × ℕ) → cells_from (cell t) kind at 0 ≡ neighbors_of kind t at.0 at.1
-unfolding neighbors4 neighbors8
-neighbors_start t Sides at = refl
-neighbors_start t All at = refl
+-- what an iterator starts from
+module _ {T : Type 0} (t : List (List T)) where
+  joined_start : (b : Bool) (size : ℕ × ℕ) (kind : Steps) (at : ℕ × ℕ) → cells_from (cell t) Joined size kind at (cond b 0 (step_count kind)) ≡ cond b (cells_from (cell t) Joined size kind at 0) []
+  joined_start true size kind at = refl
+  joined_start false size kind at = no_cells (cell t) Joined size kind at (step_count kind) (omega arith)
+
+  round_start : (e : Edges) (kind : Steps) (at : ℕ × ℕ) → let size : ℕ × ℕ = (row_count t, col_count t) in cells_from (cell t) e size kind at (start_of e size kind at) ≡ round_of kind e t at.0 at.1
+  unfolding neighbors4 neighbors8 wrapped_neighbors4 wrapped_neighbors8
+  round_start Open Sides at = refl
+  round_start Open All at = refl
+  round_start Joined Sides at = joined_start (nat_lt at.0 (row_count t) && nat_lt at.1 (col_count t)) (row_count t, col_count t) Sides at
+  round_start Joined All at = joined_start (nat_lt at.0 (row_count t) && nat_lt at.1 (col_count t)) (row_count t, col_count t) All at
 
 -- what an iterator starts from, by what its constructor reads of a grid
 module _ {T : Type 0} (o : Order) (cells : List T) (size strides : ℕ × ℕ) (h : HoldsSize size.0 size.1 (length cells)) (es : strides ≡ strides_of o size) where
@@ -223,15 +234,12 @@ module _ {T : Type 0} (o : Order) (cells : List T) (size strides : ℕ × ℕ) (
   whole_cells : cells ≡ storage o table
   whole_cells = sym (view-storage o size.0 size.1 cells h)
 
-  start_holds : HoldsCells cells size strides
+  pub start_holds : HoldsCells cells size strides
   start_holds =
       let P : List T → Type 0 = λ x. HoldsCells x size strides in
       let Q : ℕ × ℕ → Type 0 = λ x. HoldsCells (storage o table) x strides in
       let R : ℕ × ℕ → Type 0 = λ x. HoldsCells (storage o table) (row_count table, col_count table) x in
       subst P (sym whole_cells) (subst Q (sym whole_size) (subst R (sym whole_strides) (holds_cells o table (view-table o size.0 size.1 cells h))))
-
-  pub start_round : (at : ℕ × ℕ) (first : ℕ) (inner : Bool) → (inner ≡ true → IsInner size at) → (inner ≡ true → first ≡ box_start strides at) → IsRound cells size strides at first inner 0 0
-  start_round at first inner inside place = record { holds = start_holds; inside = inside; first_is = place; behind = λ e. omega arith }
 
   pub same_cells : strided_cell cells size strides ≡ cell table
   same_cells =
@@ -241,21 +249,45 @@ module _ {T : Type 0} (o : Order) (cells : List T) (size strides : ℕ × ℕ) (
       ∙ (ap (strided_cell (storage o table) (row_count table, col_count table)) whole_strides
       ∙ shows))
 
-  same_start : (inner : Bool) → ◌≡◌ {A = ℕ} (cond inner 0 0) 0
-  same_start true = refl
-  same_start false = refl
+  pub start_shown : (e : Edges) (kind : Steps) (at : ℕ × ℕ) (k : ℕ) → k ≡ start_of e size kind at → cells_from (strided_cell cells size strides) e size kind at k ≡ round_of kind e table at.0 at.1
+  start_shown e kind at k is =
+      ap (cells_from (strided_cell cells size strides) e size kind at) is
+      ∙ (ap (λ f. cells_from f e size kind at (start_of e size kind at)) same_cells
+      ∙ (ap (λ s. cells_from (cell table) e s kind at (start_of e s kind at)) whole_size ∙ round_start table e kind at))
 
-  pub start_shown : (kind : Steps) (inner : Bool) (at : ℕ × ℕ) → cells_from (strided_cell cells size strides) kind at (cond inner 0 0) ≡ neighbors_of kind table at.0 at.1
-  start_shown kind inner at =
-      ap (cells_from (strided_cell cells size strides) kind at) (same_start inner) ∙ (ap (λ f. cells_from f kind at 0) same_cells ∙ neighbors_start table kind at)
+-- the step that an iterator goes on with
+pub start_step : (e : Edges) (inner : Bool) (k : ℕ) → next_step e inner k k ≡ k
+start_step Open true k = refl
+start_step Open false k = refl
+start_step Joined inner k = refl
 
--- an item of an iterator whose cells are all there
-beside_inner : (k i : ℕ) → 0 < k → i < 3 → beside k i ≡ Some (k + i - 1)
-beside_inner zero i lk li = absurd (omega arith)
-beside_inner (suc k) zero lk li = ap Some (omega arith)
-beside_inner (suc k) (suc zero) lk li = ap Some (omega arith)
-beside_inner (suc k) (suc (suc zero)) lk li = ap Some (omega arith)
-beside_inner (suc k) (suc (suc (suc i))) lk li = absurd (omega arith)
+pub inner_step : (e : Edges) (inner : Bool) (passed tried : ℕ) → inner ≡ true → next_step e inner passed tried ≡ passed
+inner_step Open inner passed tried is = ap (λ b. cond b passed tried) is
+inner_step Joined inner passed tried is = refl
+
+-- away from the edges
+pub below_mod : (n k : ℕ) → k < n → k % n ≡ k
+below_mod n k lt = let same : k ≡ 0 * n + k = omega arith in ap (λ x. x % n) same ∙ mod-mul-add 0 n k lt
+
+before_inner : (n k : ℕ) → 0 < k → k < n → round_before n k ≡ k - 1
+before_inner n zero lk ln = absurd (omega arith)
+before_inner n (suc k) lk ln =
+    let same : suc k + n - 1 ≡ k + n = omega arith in
+    let low : k ≡ suc k - 1 = omega arith in
+    ap (λ x. x % n) same ∙ (add-mod_right k n ∙ (below_mod n k (omega arith) ∙ low))
+
+after_inner : (n k : ℕ) → k + 1 < n → round_after n k ≡ k + 1
+after_inner n k ln = below_mod n (k + 1) ln
+
+around_inner : (n k i : ℕ) → 0 < k → k + 1 < n → i < 3 → around n k i ≡ k + i - 1
+around_inner n k zero lk ln li = before_inner n k lk (omega arith) ∙ omega arith
+around_inner n k (suc zero) lk ln li = omega arith
+around_inner n k (suc (suc zero)) lk ln li = after_inner n k ln ∙ omega arith
+around_inner n k (suc (suc (suc i))) lk ln li = absurd (omega arith)
+
+side_inner : (e : Edges) (n k i : ℕ) → 0 < k → k + 1 < n → i < 3 → side e n k i ≡ Some (k + i - 1)
+side_inner Open n k i lk ln li = beside_there k i (omega arith) li
+side_inner Joined n k i lk ln li = ap Some (around_inner n k i lk ln li)
 
 pub box_row : (kind : Steps) (k : ℕ) → k < step_count kind → box kind k / 3 < 3
 box_row Sides k lt = omega arith
@@ -275,7 +307,7 @@ there_at size at i j k l ei ej t = record {
 
 pub position_counted : (size at : ℕ × ℕ) (kind : Steps) (k : ℕ) → k < step_count kind → IsThere size at (box kind k / 3) (box kind k % 3) → length (positions_from size kind at k) ≡ suc (length (positions_from size kind at (k + 1)))
 position_counted size at kind k lt t =
-    ap (λ ps. length (filter_map (λ p. if_within size (both p)) ps)) (positions_from_step kind at k lt)
+    ap (λ ps. length (filter_map (λ p. if_within size (both p)) ps)) (positions_from_step Open size kind at k lt)
     ∙ ap (λ o. length (cons_option o (positions_from size kind at (k + 1)))) (sym (position_there size at (box kind k / 3) (box kind k % 3) (box_row kind k lt) (box_col kind k) t))
 
 pub no_position : (size at : ℕ × ℕ) (kind : Steps) (k : ℕ) → k < step_count kind → (IsThere size at (box kind k / 3) (box kind k % 3) → ⊥) → positions_from size kind at k ≡ positions_from size kind at (k + 1)
@@ -283,7 +315,7 @@ no_position size at kind k lt none =
     position_skipped size kind at k lt (position_missing size at (box kind k / 3) (box kind k % 3) (box_row kind k lt) (box_col kind k) none)
 
 pub no_positions : (size at : ℕ × ℕ) (kind : Steps) (k : ℕ) → step_count kind ≤ k → length (positions_from size kind at k) ≡ 0
-no_positions size at kind k le = ap (λ ps. length (filter_map (λ p. if_within size (both p)) ps)) (none_left kind at k le)
+no_positions size at kind k le = ap (λ ps. length (filter_map (λ p. if_within size (both p)) ps)) (none_left Open size kind at k le)
 
 dist : (a b s : ℕ) → (a + b) * s ≡ a * s + b * s
 dist a b s = grind arith
@@ -304,13 +336,13 @@ module _ {T : Type 0} (cells : List T) (size strides at : ℕ × ℕ) (kind : St
   pub position_within : (at.0 + i - 1) * strides.0 + (at.1 + j - 1) * strides.1 < length cells
   position_within = h (at.0 + i - 1) (at.1 + j - 1) (omega (arith, there.above, there.below)) (omega (arith, there.before, there.after))
 
-  pub position_in_size : Some (at.0 + i - 1, at.1 + j - 1) ≡ if_within size (both (position_of kind at k))
+  pub position_in_size : Some (at.0 + i - 1, at.1 + j - 1) ≡ if_within size (both (position_of Open size kind at k))
   position_in_size =
       position_there size at i j (omega (arith, box_row kind k lt, ei)) (omega (arith, box_col kind k, ej)) there
       ∙ (ap (λ (n : ℕ). if_within size (both (beside at.0 n, beside at.1 j))) ei
       ∙ ap (λ (n : ℕ). if_within size (both (beside at.0 (box kind k / 3), beside at.1 n))) ej)
 
-module _ {T : Type 0} (cells : List T) (size strides at : ℕ × ℕ) (first passed tried : ℕ) (inner : Bool) (w : IsRound cells size strides at first inner passed tried) (e : inner ≡ true) (kind : Steps) (k : ℕ) (lt : k < step_count kind) (i j : ℕ) (ei : i ≡ box kind k / 3) (ej : j ≡ box kind k % 3) where
+module _ {T : Type 0} (cells : List T) (size strides at : ℕ × ℕ) (kind : Steps) (edges : Edges) (first : ℕ) (inner : Bool) (passed tried : ℕ) (w : IsRound cells size strides at kind edges first inner passed tried) (e : inner ≡ true) (k : ℕ) (lt : k < step_count kind) (i j : ℕ) (ei : i ≡ box kind k / 3) (ej : j ≡ box kind k % 3) where
   pub within_row : at.0 + i - 1 < size.0
   within_row = omega (arith, box_row kind k lt, (w.inside e).below, (w.inside e).above)
 
@@ -323,17 +355,17 @@ module _ {T : Type 0} (cells : List T) (size strides at : ℕ × ℕ) (first pas
   pub box_within : first + i * strides.0 + j * strides.1 < length cells
   box_within = omega (arith, box_place, w.holds (at.0 + i - 1) (at.1 + j - 1) within_row within_col)
 
-  in_size : Some (at.0 + i - 1, at.1 + j - 1) ≡ if_within size (both (position_of kind at k))
+  in_size : Some (at.0 + i - 1, at.1 + j - 1) ≡ if_within size (both (position_of edges size kind at k))
   in_size =
-      sym (ap (λ (n : ℕ). if_within size (both (beside at.0 n, beside at.1 (box kind k % 3)))) (sym ei)
-      ∙ (ap (λ (n : ℕ). if_within size (both (beside at.0 i, beside at.1 n))) (sym ej)
-      ∙ (ap (λ (o : Option ℕ). if_within size (both (o, beside at.1 j))) (beside_inner at.0 i (w.inside e).above (omega (arith, box_row kind k lt)))
-      ∙ (ap (λ (o : Option ℕ). if_within size (both (Some (at.0 + i - 1), o))) (beside_inner at.1 j (w.inside e).before (omega (arith, box_col kind k)))
+      sym (ap (λ (n : ℕ). if_within size (both (side edges size.0 at.0 n, side edges size.1 at.1 (box kind k % 3)))) (sym ei)
+      ∙ (ap (λ (n : ℕ). if_within size (both (side edges size.0 at.0 i, side edges size.1 at.1 n))) (sym ej)
+      ∙ (ap (λ (o : Option ℕ). if_within size (both (o, side edges size.1 at.1 j))) (side_inner edges size.0 at.0 i (w.inside e).above (w.inside e).below (omega (arith, box_row kind k lt)))
+      ∙ (ap (λ (o : Option ℕ). if_within size (both (Some (at.0 + i - 1), o))) (side_inner edges size.1 at.1 j (w.inside e).before (w.inside e).after (omega (arith, box_col kind k)))
       ∙ (ap (λ b. cond (b && nat_lt (at.1 + j - 1) size.1) (Some (at.0 + i - 1, at.1 + j - 1)) None) (lt-ltb _ _ within_row)
       ∙ ap (λ b. cond b (Some (at.0 + i - 1, at.1 + j - 1)) None) (lt-ltb _ _ within_col))))))
 
-  pub inner_item : (x : T) → x ≡ slice_index_or cells (first + i * strides.0 + j * strides.1) x → cells_from (strided_cell cells size strides) kind at k ≡ ((at.0 + i - 1, at.1 + j - 1), x) ∷ cells_from (strided_cell cells size strides) kind at (k + 1)
+  pub inner_item : (x : T) → x ≡ slice_index_or cells (first + i * strides.0 + j * strides.1) x → cells_from (strided_cell cells size strides) edges size kind at k ≡ ((at.0 + i - 1, at.1 + j - 1), x) ∷ cells_from (strided_cell cells size strides) edges size kind at (k + 1)
   inner_item x read =
-      first_cell (strided_cell cells size strides) kind at k ((at.0 + i - 1, at.1 + j - 1), x) lt
-      (cell_some cells size strides (position_of kind at k) (at.0 + i - 1, at.1 + j - 1) x in_size
+      first_cell (strided_cell cells size strides) edges size kind at k ((at.0 + i - 1, at.1 + j - 1), x) lt
+      (cell_some cells size strides (position_of edges size kind at k) (at.0 + i - 1, at.1 + j - 1) x in_size
       (ap (slice_get cells) (sym box_place) ∙ slice_get_read cells _ _ x refl box_within read))

@@ -12,13 +12,12 @@ use Rattle.grid_near.specs.declared.steps.Steps.TheVariants.{Sides, All}
 use Rattle.grid_near.specs.declared.board.Board.{Board}
 use Rattle.grid_near.specs.declared.board.Edges.{Edges}
 use Rattle.grid_near.specs.declared.board.Edges.TheVariants.{Open, Joined}
-use Rattle.grid_near.specs.Neighbors.{around8, around4, both, cell_at, before, step_count}
-use Rattle.grid_near.specs.Around.{strided_cell, strides_of, beside, if_within}
-use Rattle.grid_near.specs.Wrapped.{around}
+use Rattle.grid_near.specs.Neighbors.{both, cell_at, before, round_of}
+use Rattle.grid_near.specs.Around.{strided_cell, strides_of, beside, around, side, positions, if_within}
 use Rattle.grid_near.specs.NearCounts.{MayAnswer, MayCount, CountsNear, SumsNear}
-use Rattle.grid_near.specs.Marks.{MarkAt, MarksCells, MarksLine, MarksBeside, WithEnds, IsBeyond, side, spot, round_of, near, table, placed_cells, count_round, sum_round}
-use Rattle.grid_near.proofs.AroundLemmas.{cell_some, start_shown}
-use Rattle.grid_near.proofs.WrappedLemmas.{wrapped_start, below_mod, around_within}
+use Rattle.grid_near.specs.Marks.{MarkAt, MarksCells, MarksLine, MarksBeside, WithEnds, IsBeyond, spot, near, table, placed_cells, count_round, sum_round}
+use Rattle.grid_near.proofs.AroundLemmas.{cell_some, start_shown, below_mod}
+use Rattle.grid_near.proofs.WrappedLemmas.{none_done, around_within}
 
 module _ {F T B : Type 0} (blank : B) (returns : F → Bor T → B → Type 0) (f : F) (cells : List T) (start : ℕ) where
   -- one more mark
@@ -150,15 +149,8 @@ module _ {F T B : Type 0} (blank : B) (returns : F → Bor T → B → Type 0) (
       line_marked Open line is ends = subst (λ z. MarksLine blank returns f there o Open w z new) (sym is) (record { at = open_mark ends })
       line_marked Joined line is ends = subst (λ z. MarksLine blank returns f there o Joined w z new) (sym is) (record { at = joined_mark ends })
 
-abbrev near_spots : Steps → Edges → ℕ × ℕ → ℕ × ℕ → List (Option ℕ × Option ℕ)
-near_spots Sides e size at = around4 (side e size.0 at.0 0) (side e size.0 at.0 1) (side e size.0 at.0 2) (side e size.1 at.1 0) (side e size.1 at.1 1) (side e size.1 at.1 2)
-near_spots All e size at = around8 (side e size.0 at.0 0) (side e size.0 at.0 1) (side e size.0 at.0 2) (side e size.1 at.1 0) (side e size.1 at.1 1) (side e size.1 at.1 2)
-
-round_shown : {T : Type 0} (cells : List T) (o : Order) (size : ℕ × ℕ) → HoldsSize size.0 size.1 (length cells) → (e : Edges) (kind : Steps) (at : ℕ × ℕ) → at.0 < size.0 → at.1 < size.1 → filter_map (cell_at (strided_cell cells size (strides_of o size))) (near_spots kind e size at) ≡ round_of kind e (table_of o size.0 size.1 cells) at.0 at.1
-round_shown cells o size h Open Sides at lr lc = start_shown o cells size (strides_of o size) h refl Sides true at
-round_shown cells o size h Open All at lr lc = start_shown o cells size (strides_of o size) h refl All true at
-round_shown cells o size h Joined Sides at lr lc = wrapped_start o cells size (strides_of o size) h refl Sides at 0 (sym (ap (λ b. cond (b && nat_lt at.1 size.1) 0 (step_count Sides)) (lt-ltb _ _ lr) ∙ ap (λ b. cond b 0 (step_count Sides)) (lt-ltb _ _ lc)))
-round_shown cells o size h Joined All at lr lc = wrapped_start o cells size (strides_of o size) h refl All at 0 (sym (ap (λ b. cond (b && nat_lt at.1 size.1) 0 (step_count All)) (lt-ltb _ _ lr) ∙ ap (λ b. cond b 0 (step_count All)) (lt-ltb _ _ lc)))
+round_shown : {T : Type 0} (cells : List T) (o : Order) (size : ℕ × ℕ) → HoldsSize size.0 size.1 (length cells) → (e : Edges) (kind : Steps) (at : ℕ × ℕ) → at.0 < size.0 → at.1 < size.1 → filter_map (cell_at (strided_cell cells size (strides_of o size))) (positions e size kind at) ≡ round_of kind e (table_of o size.0 size.1 cells) at.0 at.1
+round_shown cells o size h e kind at lr lc = start_shown o cells size (strides_of o size) h refl e kind at 0 (sym (none_done size kind at e lr lc))
 
 -- how many are true
 abbrev trues : List Bool → ℕ
@@ -197,36 +189,36 @@ module _ {F T : Type 0} (returns : F → Bor T → Bool → Type 0) (f : F) wher
       let m : (i j : ℕ) → i < 3 → j ≡ k + i → MarkAt false returns f g (side e size.0 l 1, side e size.1 k i) (get_or mid j false) = λ i j li ej. hm.at k i j lk li ej in
       let d : (i j : ℕ) → i < 3 → j ≡ k + i → MarkAt false returns f g (side e size.0 l 2, side e size.1 k i) (get_or down j false) = λ i j li ej. hd.at k i j lk li ej in
       let bs : List Bool = get_or up (k + 1) false ∷ get_or mid k false ∷ get_or mid (k + 2) false ∷ get_or down (k + 1) false ∷ [] in
-      let all = counted g (near_spots Sides e size (l, k)) bs (u 1 (k + 1) (omega arith) (omega arith), (m 0 k (omega arith) (omega arith), (m 2 (k + 2) (omega arith) (omega arith), (d 1 (k + 1) (omega arith) (omega arith), tt)))) in
+      let all = counted g (positions e size Sides (l, k)) bs (u 1 (k + 1) (omega arith) (omega arith), (m 0 k (omega arith) (omega arith), (m 2 (k + 2) (omega arith) (omega arith), (d 1 (k + 1) (omega arith) (omega arith), tt)))) in
       let same : trues bs ≡ count_round Sides up mid down k = omega arith in
-      subst (λ near. CountsNear returns f near (count_round Sides up mid down k)) (round_shown cells RowMajor size h e Sides (l, k) ll lk) (subst (CountsNear returns f (filter_map (cell_at g) (near_spots Sides e size (l, k)))) same all)
+      subst (λ near. CountsNear returns f near (count_round Sides up mid down k)) (round_shown cells RowMajor size h e Sides (l, k) ll lk) (subst (CountsNear returns f (filter_map (cell_at g) (positions e size Sides (l, k)))) same all)
   round_counted cells RowMajor size h e All l k up mid down ll lk hu hm hd =
       let g = strided_cell cells size (size.1, 1) in
       let u : (i j : ℕ) → i < 3 → j ≡ k + i → MarkAt false returns f g (side e size.0 l 0, side e size.1 k i) (get_or up j false) = λ i j li ej. hu.at k i j lk li ej in
       let m : (i j : ℕ) → i < 3 → j ≡ k + i → MarkAt false returns f g (side e size.0 l 1, side e size.1 k i) (get_or mid j false) = λ i j li ej. hm.at k i j lk li ej in
       let d : (i j : ℕ) → i < 3 → j ≡ k + i → MarkAt false returns f g (side e size.0 l 2, side e size.1 k i) (get_or down j false) = λ i j li ej. hd.at k i j lk li ej in
       let bs : List Bool = get_or up k false ∷ get_or up (k + 1) false ∷ get_or up (k + 2) false ∷ get_or mid k false ∷ get_or mid (k + 2) false ∷ get_or down k false ∷ get_or down (k + 1) false ∷ get_or down (k + 2) false ∷ [] in
-      let all = counted g (near_spots All e size (l, k)) bs (u 0 k (omega arith) (omega arith), (u 1 (k + 1) (omega arith) (omega arith), (u 2 (k + 2) (omega arith) (omega arith), (m 0 k (omega arith) (omega arith), (m 2 (k + 2) (omega arith) (omega arith), (d 0 k (omega arith) (omega arith), (d 1 (k + 1) (omega arith) (omega arith), (d 2 (k + 2) (omega arith) (omega arith), tt)))))))) in
+      let all = counted g (positions e size All (l, k)) bs (u 0 k (omega arith) (omega arith), (u 1 (k + 1) (omega arith) (omega arith), (u 2 (k + 2) (omega arith) (omega arith), (m 0 k (omega arith) (omega arith), (m 2 (k + 2) (omega arith) (omega arith), (d 0 k (omega arith) (omega arith), (d 1 (k + 1) (omega arith) (omega arith), (d 2 (k + 2) (omega arith) (omega arith), tt)))))))) in
       let same : trues bs ≡ count_round All up mid down k = omega arith in
-      subst (λ near. CountsNear returns f near (count_round All up mid down k)) (round_shown cells RowMajor size h e All (l, k) ll lk) (subst (CountsNear returns f (filter_map (cell_at g) (near_spots All e size (l, k)))) same all)
+      subst (λ near. CountsNear returns f near (count_round All up mid down k)) (round_shown cells RowMajor size h e All (l, k) ll lk) (subst (CountsNear returns f (filter_map (cell_at g) (positions e size All (l, k)))) same all)
   round_counted cells ColumnMajor size h e Sides l k up mid down ll lk hu hm hd =
       let g = strided_cell cells size (1, size.0) in
       let u : (i j : ℕ) → i < 3 → j ≡ k + i → MarkAt false returns f g (side e size.0 k i, side e size.1 l 0) (get_or up j false) = λ i j li ej. hu.at k i j lk li ej in
       let m : (i j : ℕ) → i < 3 → j ≡ k + i → MarkAt false returns f g (side e size.0 k i, side e size.1 l 1) (get_or mid j false) = λ i j li ej. hm.at k i j lk li ej in
       let d : (i j : ℕ) → i < 3 → j ≡ k + i → MarkAt false returns f g (side e size.0 k i, side e size.1 l 2) (get_or down j false) = λ i j li ej. hd.at k i j lk li ej in
       let bs : List Bool = get_or mid k false ∷ get_or up (k + 1) false ∷ get_or down (k + 1) false ∷ get_or mid (k + 2) false ∷ [] in
-      let all = counted g (near_spots Sides e size (k, l)) bs (m 0 k (omega arith) (omega arith), (u 1 (k + 1) (omega arith) (omega arith), (d 1 (k + 1) (omega arith) (omega arith), (m 2 (k + 2) (omega arith) (omega arith), tt)))) in
+      let all = counted g (positions e size Sides (k, l)) bs (m 0 k (omega arith) (omega arith), (u 1 (k + 1) (omega arith) (omega arith), (d 1 (k + 1) (omega arith) (omega arith), (m 2 (k + 2) (omega arith) (omega arith), tt)))) in
       let same : trues bs ≡ count_round Sides up mid down k = omega arith in
-      subst (λ near. CountsNear returns f near (count_round Sides up mid down k)) (round_shown cells ColumnMajor size h e Sides (k, l) lk ll) (subst (CountsNear returns f (filter_map (cell_at g) (near_spots Sides e size (k, l)))) same all)
+      subst (λ near. CountsNear returns f near (count_round Sides up mid down k)) (round_shown cells ColumnMajor size h e Sides (k, l) lk ll) (subst (CountsNear returns f (filter_map (cell_at g) (positions e size Sides (k, l)))) same all)
   round_counted cells ColumnMajor size h e All l k up mid down ll lk hu hm hd =
       let g = strided_cell cells size (1, size.0) in
       let u : (i j : ℕ) → i < 3 → j ≡ k + i → MarkAt false returns f g (side e size.0 k i, side e size.1 l 0) (get_or up j false) = λ i j li ej. hu.at k i j lk li ej in
       let m : (i j : ℕ) → i < 3 → j ≡ k + i → MarkAt false returns f g (side e size.0 k i, side e size.1 l 1) (get_or mid j false) = λ i j li ej. hm.at k i j lk li ej in
       let d : (i j : ℕ) → i < 3 → j ≡ k + i → MarkAt false returns f g (side e size.0 k i, side e size.1 l 2) (get_or down j false) = λ i j li ej. hd.at k i j lk li ej in
       let bs : List Bool = get_or up k false ∷ get_or mid k false ∷ get_or down k false ∷ get_or up (k + 1) false ∷ get_or down (k + 1) false ∷ get_or up (k + 2) false ∷ get_or mid (k + 2) false ∷ get_or down (k + 2) false ∷ [] in
-      let all = counted g (near_spots All e size (k, l)) bs (u 0 k (omega arith) (omega arith), (m 0 k (omega arith) (omega arith), (d 0 k (omega arith) (omega arith), (u 1 (k + 1) (omega arith) (omega arith), (d 1 (k + 1) (omega arith) (omega arith), (u 2 (k + 2) (omega arith) (omega arith), (m 2 (k + 2) (omega arith) (omega arith), (d 2 (k + 2) (omega arith) (omega arith), tt)))))))) in
+      let all = counted g (positions e size All (k, l)) bs (u 0 k (omega arith) (omega arith), (m 0 k (omega arith) (omega arith), (d 0 k (omega arith) (omega arith), (u 1 (k + 1) (omega arith) (omega arith), (d 1 (k + 1) (omega arith) (omega arith), (u 2 (k + 2) (omega arith) (omega arith), (m 2 (k + 2) (omega arith) (omega arith), (d 2 (k + 2) (omega arith) (omega arith), tt)))))))) in
       let same : trues bs ≡ count_round All up mid down k = omega arith in
-      subst (λ near. CountsNear returns f near (count_round All up mid down k)) (round_shown cells ColumnMajor size h e All (k, l) lk ll) (subst (CountsNear returns f (filter_map (cell_at g) (near_spots All e size (k, l)))) same all)
+      subst (λ near. CountsNear returns f near (count_round All up mid down k)) (round_shown cells ColumnMajor size h e All (k, l) lk ll) (subst (CountsNear returns f (filter_map (cell_at g) (positions e size All (k, l)))) same all)
 
 -- the sum of numbers
 abbrev total : List ℕ → ℕ
@@ -258,36 +250,36 @@ module _ {F T : Type 0} (returns : F → Bor T → ℕ → Type 0) (f : F) where
       let m : (i j : ℕ) → i < 3 → j ≡ k + i → MarkAt 0 returns f g (side e size.0 l 1, side e size.1 k i) (get_or mid j 0) = λ i j li ej. hm.at k i j lk li ej in
       let d : (i j : ℕ) → i < 3 → j ≡ k + i → MarkAt 0 returns f g (side e size.0 l 2, side e size.1 k i) (get_or down j 0) = λ i j li ej. hd.at k i j lk li ej in
       let bs : List ℕ = get_or up (k + 1) 0 ∷ get_or mid k 0 ∷ get_or mid (k + 2) 0 ∷ get_or down (k + 1) 0 ∷ [] in
-      let all = summed g (near_spots Sides e size (l, k)) bs (u 1 (k + 1) (omega arith) (omega arith), (m 0 k (omega arith) (omega arith), (m 2 (k + 2) (omega arith) (omega arith), (d 1 (k + 1) (omega arith) (omega arith), tt)))) in
+      let all = summed g (positions e size Sides (l, k)) bs (u 1 (k + 1) (omega arith) (omega arith), (m 0 k (omega arith) (omega arith), (m 2 (k + 2) (omega arith) (omega arith), (d 1 (k + 1) (omega arith) (omega arith), tt)))) in
       let same : total bs ≡ sum_round Sides up mid down k = omega arith in
-      subst (λ near. SumsNear returns f near (sum_round Sides up mid down k)) (round_shown cells RowMajor size h e Sides (l, k) ll lk) (subst (SumsNear returns f (filter_map (cell_at g) (near_spots Sides e size (l, k)))) same all)
+      subst (λ near. SumsNear returns f near (sum_round Sides up mid down k)) (round_shown cells RowMajor size h e Sides (l, k) ll lk) (subst (SumsNear returns f (filter_map (cell_at g) (positions e size Sides (l, k)))) same all)
   round_summed cells RowMajor size h e All l k up mid down ll lk hu hm hd =
       let g = strided_cell cells size (size.1, 1) in
       let u : (i j : ℕ) → i < 3 → j ≡ k + i → MarkAt 0 returns f g (side e size.0 l 0, side e size.1 k i) (get_or up j 0) = λ i j li ej. hu.at k i j lk li ej in
       let m : (i j : ℕ) → i < 3 → j ≡ k + i → MarkAt 0 returns f g (side e size.0 l 1, side e size.1 k i) (get_or mid j 0) = λ i j li ej. hm.at k i j lk li ej in
       let d : (i j : ℕ) → i < 3 → j ≡ k + i → MarkAt 0 returns f g (side e size.0 l 2, side e size.1 k i) (get_or down j 0) = λ i j li ej. hd.at k i j lk li ej in
       let bs : List ℕ = get_or up k 0 ∷ get_or up (k + 1) 0 ∷ get_or up (k + 2) 0 ∷ get_or mid k 0 ∷ get_or mid (k + 2) 0 ∷ get_or down k 0 ∷ get_or down (k + 1) 0 ∷ get_or down (k + 2) 0 ∷ [] in
-      let all = summed g (near_spots All e size (l, k)) bs (u 0 k (omega arith) (omega arith), (u 1 (k + 1) (omega arith) (omega arith), (u 2 (k + 2) (omega arith) (omega arith), (m 0 k (omega arith) (omega arith), (m 2 (k + 2) (omega arith) (omega arith), (d 0 k (omega arith) (omega arith), (d 1 (k + 1) (omega arith) (omega arith), (d 2 (k + 2) (omega arith) (omega arith), tt)))))))) in
+      let all = summed g (positions e size All (l, k)) bs (u 0 k (omega arith) (omega arith), (u 1 (k + 1) (omega arith) (omega arith), (u 2 (k + 2) (omega arith) (omega arith), (m 0 k (omega arith) (omega arith), (m 2 (k + 2) (omega arith) (omega arith), (d 0 k (omega arith) (omega arith), (d 1 (k + 1) (omega arith) (omega arith), (d 2 (k + 2) (omega arith) (omega arith), tt)))))))) in
       let same : total bs ≡ sum_round All up mid down k = omega arith in
-      subst (λ near. SumsNear returns f near (sum_round All up mid down k)) (round_shown cells RowMajor size h e All (l, k) ll lk) (subst (SumsNear returns f (filter_map (cell_at g) (near_spots All e size (l, k)))) same all)
+      subst (λ near. SumsNear returns f near (sum_round All up mid down k)) (round_shown cells RowMajor size h e All (l, k) ll lk) (subst (SumsNear returns f (filter_map (cell_at g) (positions e size All (l, k)))) same all)
   round_summed cells ColumnMajor size h e Sides l k up mid down ll lk hu hm hd =
       let g = strided_cell cells size (1, size.0) in
       let u : (i j : ℕ) → i < 3 → j ≡ k + i → MarkAt 0 returns f g (side e size.0 k i, side e size.1 l 0) (get_or up j 0) = λ i j li ej. hu.at k i j lk li ej in
       let m : (i j : ℕ) → i < 3 → j ≡ k + i → MarkAt 0 returns f g (side e size.0 k i, side e size.1 l 1) (get_or mid j 0) = λ i j li ej. hm.at k i j lk li ej in
       let d : (i j : ℕ) → i < 3 → j ≡ k + i → MarkAt 0 returns f g (side e size.0 k i, side e size.1 l 2) (get_or down j 0) = λ i j li ej. hd.at k i j lk li ej in
       let bs : List ℕ = get_or mid k 0 ∷ get_or up (k + 1) 0 ∷ get_or down (k + 1) 0 ∷ get_or mid (k + 2) 0 ∷ [] in
-      let all = summed g (near_spots Sides e size (k, l)) bs (m 0 k (omega arith) (omega arith), (u 1 (k + 1) (omega arith) (omega arith), (d 1 (k + 1) (omega arith) (omega arith), (m 2 (k + 2) (omega arith) (omega arith), tt)))) in
+      let all = summed g (positions e size Sides (k, l)) bs (m 0 k (omega arith) (omega arith), (u 1 (k + 1) (omega arith) (omega arith), (d 1 (k + 1) (omega arith) (omega arith), (m 2 (k + 2) (omega arith) (omega arith), tt)))) in
       let same : total bs ≡ sum_round Sides up mid down k = omega arith in
-      subst (λ near. SumsNear returns f near (sum_round Sides up mid down k)) (round_shown cells ColumnMajor size h e Sides (k, l) lk ll) (subst (SumsNear returns f (filter_map (cell_at g) (near_spots Sides e size (k, l)))) same all)
+      subst (λ near. SumsNear returns f near (sum_round Sides up mid down k)) (round_shown cells ColumnMajor size h e Sides (k, l) lk ll) (subst (SumsNear returns f (filter_map (cell_at g) (positions e size Sides (k, l)))) same all)
   round_summed cells ColumnMajor size h e All l k up mid down ll lk hu hm hd =
       let g = strided_cell cells size (1, size.0) in
       let u : (i j : ℕ) → i < 3 → j ≡ k + i → MarkAt 0 returns f g (side e size.0 k i, side e size.1 l 0) (get_or up j 0) = λ i j li ej. hu.at k i j lk li ej in
       let m : (i j : ℕ) → i < 3 → j ≡ k + i → MarkAt 0 returns f g (side e size.0 k i, side e size.1 l 1) (get_or mid j 0) = λ i j li ej. hm.at k i j lk li ej in
       let d : (i j : ℕ) → i < 3 → j ≡ k + i → MarkAt 0 returns f g (side e size.0 k i, side e size.1 l 2) (get_or down j 0) = λ i j li ej. hd.at k i j lk li ej in
       let bs : List ℕ = get_or up k 0 ∷ get_or mid k 0 ∷ get_or down k 0 ∷ get_or up (k + 1) 0 ∷ get_or down (k + 1) 0 ∷ get_or up (k + 2) 0 ∷ get_or mid (k + 2) 0 ∷ get_or down (k + 2) 0 ∷ [] in
-      let all = summed g (near_spots All e size (k, l)) bs (u 0 k (omega arith) (omega arith), (m 0 k (omega arith) (omega arith), (d 0 k (omega arith) (omega arith), (u 1 (k + 1) (omega arith) (omega arith), (d 1 (k + 1) (omega arith) (omega arith), (u 2 (k + 2) (omega arith) (omega arith), (m 2 (k + 2) (omega arith) (omega arith), (d 2 (k + 2) (omega arith) (omega arith), tt)))))))) in
+      let all = summed g (positions e size All (k, l)) bs (u 0 k (omega arith) (omega arith), (m 0 k (omega arith) (omega arith), (d 0 k (omega arith) (omega arith), (u 1 (k + 1) (omega arith) (omega arith), (d 1 (k + 1) (omega arith) (omega arith), (u 2 (k + 2) (omega arith) (omega arith), (m 2 (k + 2) (omega arith) (omega arith), (d 2 (k + 2) (omega arith) (omega arith), tt)))))))) in
       let same : total bs ≡ sum_round All up mid down k = omega arith in
-      subst (λ near. SumsNear returns f near (sum_round All up mid down k)) (round_shown cells ColumnMajor size h e All (k, l) lk ll) (subst (SumsNear returns f (filter_map (cell_at g) (near_spots All e size (k, l)))) same all)
+      subst (λ near. SumsNear returns f near (sum_round All up mid down k)) (round_shown cells ColumnMajor size h e All (k, l) lk ll) (subst (SumsNear returns f (filter_map (cell_at g) (positions e size All (k, l)))) same all)
 
 before-next : (k : ℕ) → before (k + 1) ≡ Some k
 before-next k =

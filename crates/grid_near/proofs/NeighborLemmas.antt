@@ -1,11 +1,11 @@
 -- Iterators over cells with their positions give what they have left.
 use Rattle.std.proofs.Common.{◌≡◌, ◌≤◌, ◌<◌, ℕ, suc, min, drop, Option, None, Some, List, [], ◌∷◌, length, length-drop, map, sym, ◌∙◌, ap, arith, filter_map, Bor}
-use Rattle.grid_base.proofs.Common.{⊤, cons_option, YieldsFirstBy, MakesProgress, at_most, min-eq_left, min-le_left, from_front, map-map, cell}
+use Rattle.grid_base.proofs.Common.{⊤, cons_option, YieldsFirstBy, MakesProgress, at_most, min-eq_left, min-le_left, from_front, map-map}
 use Rattle.grid_near.specs.declared.steps.Steps.{Steps}
 use Rattle.grid_near.specs.declared.steps.Steps.TheVariants.{Sides, All}
-use Rattle.grid_near.specs.Neighbors.{step_count, placed, cell_at, neighbors4, neighbors8, neighbors_of, CellsInOrder, PositionsInOrder}
+use Rattle.grid_near.specs.declared.board.Edges.{Edges}
+use Rattle.grid_near.specs.Neighbors.{step_count, placed, cell_at, CellsInOrder, PositionsInOrder}
 use Rattle.grid_near.specs.Around.{positions, cells_from}
-use Rattle.grid_near.specs.Wrapped.{wrapped_positions, wrapped_from}
 
 pub cells_in_order : (T : Type 0) → CellsInOrder T
 cells_in_order T = from_front (YieldsFirstBy placed (λ (rest : List ((ℕ × ℕ) × T)). rest)) placed (λ rest. rest) (λ s t h. ap length h.0) (λ s x t h. h)
@@ -22,19 +22,14 @@ module _ {X Y : Type 0} where
   length-filter_map f [] = omega arith
   length-filter_map f (x ∷ xs) = omega (arith, length-cons (f x) (filter_map f xs), length-filter_map f xs)
 
-pub few_round : {T : Type 0} (t : List (List T)) (kind : Steps) (at : ℕ × ℕ) → length (neighbors_of kind t at.0 at.1) ≤ step_count kind
-unfolding neighbors4 neighbors8
-few_round t Sides at = length-filter_map (cell_at (cell t)) (positions Sides at)
-few_round t All at = length-filter_map (cell_at (cell t)) (positions All at)
+-- what is left of an iterator: at most as many cells as steps, one fewer after each
+pub few_from : {T : Type 0} (f : ℕ → ℕ → Option T) (e : Edges) (size : ℕ × ℕ) (kind : Steps) (at : ℕ × ℕ) (k : ℕ) → length (cells_from f e size kind at k) ≤ step_count kind
+few_from f e size Sides at k = omega (arith, length-filter_map (cell_at f) (drop k (positions e size Sides at)), length-drop k (positions e size Sides at))
+few_from f e size All at k = omega (arith, length-filter_map (cell_at f) (drop k (positions e size All at)), length-drop k (positions e size All at))
 
--- what is left of an iterator: at most eight cells, one fewer after each
-pub few_left : {T : Type 0} (f : ℕ → ℕ → Option T) (kind : Steps) (at : ℕ × ℕ) (k : ℕ) → length (cells_from f kind at k) ≤ 8
-few_left f Sides at k = omega (arith, length-filter_map (cell_at f) (drop k (positions Sides at)), length-drop k (positions Sides at))
-few_left f All at k = omega (arith, length-filter_map (cell_at f) (drop k (positions All at)), length-drop k (positions All at))
-
-pub wrapped_few_left : {T : Type 0} (f : ℕ → ℕ → Option T) (size : ℕ × ℕ) (kind : Steps) (at : ℕ × ℕ) (k : ℕ) → length (wrapped_from f size kind at k) ≤ 8
-wrapped_few_left f size Sides at k = omega (arith, length-filter_map (cell_at f) (drop k (wrapped_positions size Sides at)), length-drop k (wrapped_positions size Sides at))
-wrapped_few_left f size All at k = omega (arith, length-filter_map (cell_at f) (drop k (wrapped_positions size All at)), length-drop k (wrapped_positions size All at))
+pub few_left : {T : Type 0} (f : ℕ → ℕ → Option T) (e : Edges) (size : ℕ × ℕ) (kind : Steps) (at : ℕ × ℕ) (k : ℕ) (seen : List ((ℕ × ℕ) × T)) → cells_from f e size kind at k ≡ seen → length seen ≤ 8
+few_left f e size Sides at k seen is = omega (arith, few_from f e size Sides at k, ap length is)
+few_left f e size All at k seen is = omega (arith, few_from f e size All at k, ap length is)
 
 pub goes_on : {T : Type 0} (s t : List ((ℕ × ℕ) × T)) (r : Option ((ℕ × ℕ) × Bor T)) → length s ≤ 8 → YieldsFirstBy placed (λ (rest : List ((ℕ × ℕ) × T)). rest) s r t → MakesProgress (λ _. ⊤) (λ (rest : List ((ℕ × ℕ) × T)). at_most (min (length rest) 8)) s r t
 goes_on s t None few gave = record { on = λ _. tt; keeps = tt; rests = λ _. tt }

@@ -5,7 +5,9 @@ use Rattle.grid_base.specs.declared.order.Order.{Order}
 use Rattle.grid_base.specs.declared.order.Order.TheVariants.{RowMajor, ColumnMajor}
 use Rattle.grid_near.specs.declared.steps.Steps.{Steps}
 use Rattle.grid_near.specs.declared.steps.Steps.TheVariants.{Sides, All}
-use Rattle.grid_near.specs.Neighbors.{around8, around4, before, both, cell_at, placed}
+use Rattle.grid_near.specs.declared.board.Edges.{Edges}
+use Rattle.grid_near.specs.declared.board.Edges.TheVariants.{Open, Joined}
+use Rattle.grid_near.specs.Neighbors.{step_count, around8, around4, before, round_before, round_after, both, cell_at, placed}
 
 -- the cell in row r and column c of m rows and n columns whose cells are `down` and `right` apart
 abbrev pub strided_cell : {T : Type 0} → List T → ℕ × ℕ → ℕ × ℕ → ℕ → ℕ → Option T
@@ -33,16 +35,28 @@ beside k zero = before k
 beside k (suc zero) = Some k
 beside k (suc (suc _)) = Some (k + 1)
 
+-- the same round n numbers
+abbrev pub around : ℕ → ℕ → ℕ → ℕ
+around n k zero = round_before n k
+around n k (suc zero) = k
+around n k (suc (suc _)) = round_after n k
+
+-- by what the edges do
+abbrev pub side : Edges → ℕ → ℕ → ℕ → Option ℕ
+side Open n k i = beside k i
+side Joined n k i = Some (around n k i)
+
 -- the positions of the steps round (r, c)
-abbrev pub positions : Steps → ℕ × ℕ → List (Option ℕ × Option ℕ)
-positions Sides at = around4 (before at.0) (Some at.0) (Some (at.0 + 1)) (before at.1) (Some at.1)
-    (Some (at.1 + 1))
-positions All at = around8 (before at.0) (Some at.0) (Some (at.0 + 1)) (before at.1) (Some at.1)
-    (Some (at.1 + 1))
+abbrev pub positions : Edges → ℕ × ℕ → Steps → ℕ × ℕ → List (Option ℕ × Option ℕ)
+positions e size Sides at = around4 (side e size.0 at.0 0) (side e size.0 at.0 1)
+    (side e size.0 at.0 2) (side e size.1 at.1 0) (side e size.1 at.1 1) (side e size.1 at.1 2)
+positions e size All at = around8 (side e size.0 at.0 0) (side e size.0 at.0 1)
+    (side e size.0 at.0 2) (side e size.1 at.1 0) (side e size.1 at.1 1) (side e size.1 at.1 2)
 
 -- the position of step k
-abbrev pub position_of : Steps → ℕ × ℕ → ℕ → Option ℕ × Option ℕ
-position_of kind at k = (beside at.0 (box kind k / 3), beside at.1 (box kind k % 3))
+abbrev pub position_of : Edges → ℕ × ℕ → Steps → ℕ × ℕ → ℕ → Option ℕ × Option ℕ
+position_of e size kind at k =
+    (side e size.0 at.0 (box kind k / 3), side e size.1 at.1 (box kind k % 3))
 
 -- the position, if it is within a size
 abbrev pub if_within : ℕ × ℕ → Option (ℕ × ℕ) → Option (ℕ × ℕ)
@@ -50,13 +64,14 @@ if_within size p =
     option_and_then (λ q. cond (nat_lt q.0 size.0 && nat_lt q.1 size.1) (Some q) None) p
 
 -- the cells from step k on
-abbrev pub cells_from : {T : Type 0} → (ℕ → ℕ → Option T) → Steps → ℕ × ℕ → ℕ → List ((ℕ × ℕ) × T)
-cells_from f kind at k = filter_map (cell_at f) (drop k (positions kind at))
+abbrev pub cells_from : {T : Type 0} → (ℕ → ℕ → Option T) → Edges → ℕ × ℕ → Steps → ℕ × ℕ → ℕ
+    → List ((ℕ × ℕ) × T)
+cells_from f e size kind at k = filter_map (cell_at f) (drop k (positions e size kind at))
 
 -- the positions from step k on that are within a size
 abbrev pub positions_from : ℕ × ℕ → Steps → ℕ × ℕ → ℕ → List (ℕ × ℕ)
 positions_from size kind at k = filter_map (λ p. if_within size (both p))
-    (drop k (positions kind at))
+    (drop k (positions Open size kind at))
 
 -- the cell in row i and column j of the nine cells round a position is within the size
 pub record IsThere (size at : ℕ × ℕ) (i j : ℕ) : Type 0 where
@@ -67,11 +82,18 @@ pub record IsThere (size at : ℕ × ℕ) (i j : ℕ) : Type 0 where
 
 -- a search from step k on found the first of the cells, or that there is none, and went on to a
 -- later step
-abbrev pub FindsFirst : {T : Type 0} → (ℕ → ℕ → Option T) → Steps → ℕ × ℕ → ℕ
+abbrev pub FindsFirst : {T : Type 0} → (ℕ → ℕ → Option T) → ℕ × ℕ → Steps → ℕ × ℕ → ℕ
     → ℕ × Option ((ℕ × ℕ) × Bor T) → Type 0
-FindsFirst f kind at k found =
-    MatchOption found.1 ((cells_from f kind at k ≡ []) × (cells_from f kind at found.0 ≡ []))
-    (λ x. cells_from f kind at k ≡ placed x ∷ cells_from f kind at found.0)
+FindsFirst f size kind at k found =
+    let left : ℕ → List _ = cells_from f Open size kind at in
+    MatchOption found.1 ((left k ≡ []) × (left found.0 ≡ []))
+    (λ x. left k ≡ placed x ∷ left found.0)
+
+-- the cell of step k is the first of those that are left, where edges meet
+abbrev pub IsFirst : {T : Type 0} → (ℕ → ℕ → Option T) → ℕ × ℕ → Steps → ℕ × ℕ → ℕ
+    → (ℕ × ℕ) × Bor T → Type 0
+IsFirst f size kind at k found =
+    cells_from f Joined size kind at k ≡ placed found ∷ cells_from f Joined size kind at (k + 1)
 
 -- all cells round a position are within the size
 pub record IsInner (size at : ℕ × ℕ) : Type 0 where
@@ -84,11 +106,24 @@ pub record IsInner (size at : ℕ × ℕ) : Type 0 where
 abbrev pub box_start : ℕ × ℕ → ℕ × ℕ → ℕ
 box_start strides at = (at.0 - 1) * strides.0 + (at.1 - 1) * strides.1
 
+-- how many steps an iterator has done at its start: all, where edges meet, round a position out of
+-- range
+abbrev pub start_of : Edges → ℕ × ℕ → Steps → ℕ × ℕ → ℕ
+start_of Open size kind at = 0
+start_of Joined size kind at = cond (nat_lt at.0 size.0 && nat_lt at.1 size.1) 0 (step_count kind)
+
+-- the step that an iterator goes on with
+abbrev pub next_step : Edges → Bool → ℕ → ℕ → ℕ
+next_step Open inner passed tried = cond inner passed tried
+next_step Joined inner passed tried = passed
+
 -- what holds of an iterator round the cell at a position, of which `passed` steps are done, and, at
--- the edge, `tried`
-pub record IsRound {T : Type 0} (cells : List T) (size strides at : ℕ × ℕ) (first : ℕ)
-    (inner : Bool) (passed tried : ℕ) : Type 0 where
+-- an edge that is open, `tried`
+pub record IsRound {T : Type 0} (cells : List T) (size strides at : ℕ × ℕ) (kind : Steps)
+    (edges : Edges) (first : ℕ) (inner : Bool) (passed tried : ℕ) : Type 0 where
   pub holds : HoldsCells cells size strides
   pub inside : inner ≡ true → IsInner size at
   pub first_is : inner ≡ true → first ≡ box_start strides at
-  pub behind : inner ≡ false → passed ≤ tried
+  pub behind : edges ≡ Open → inner ≡ false → passed ≤ tried
+  pub row_in : edges ≡ Joined → passed < step_count kind → at.0 < size.0
+  pub col_in : edges ≡ Joined → passed < step_count kind → at.1 < size.1

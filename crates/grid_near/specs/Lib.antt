@@ -3,4 +3,3 @@ pub mod Directions
 pub mod Marks
 pub mod NearCounts
 pub mod Neighbors
-pub mod Wrapped

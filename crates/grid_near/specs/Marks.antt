@@ -10,15 +10,9 @@ use Rattle.grid_near.specs.declared.steps.Steps.TheVariants.{Sides, All}
 use Rattle.grid_near.specs.declared.board.Board.{Board}
 use Rattle.grid_near.specs.declared.board.Edges.{Edges}
 use Rattle.grid_near.specs.declared.board.Edges.TheVariants.{Open, Joined}
-use Rattle.grid_near.specs.Neighbors.{cell_at, neighbors_of, wrapped_neighbors_of}
-use Rattle.grid_near.specs.Around.{beside, strided_cell, strides_of}
-use Rattle.grid_near.specs.Wrapped.{around}
+use Rattle.grid_near.specs.Neighbors.{cell_at, round_of}
+use Rattle.grid_near.specs.Around.{side, strided_cell, strides_of}
 use Rattle.grid_near.specs.NearCounts.{MayAnswer, CountsNear, SumsNear}
-
--- the cells round a cell, by the kind of steps and by what the edges do
-abbrev pub round_of : {T : Type 0} → Steps → Edges → List (List T) → ℕ → ℕ → List ((ℕ × ℕ) × T)
-round_of kind Open = neighbors_of kind
-round_of kind Joined = wrapped_neighbors_of kind
 
 module _ {T F : Type 0} (b : Board T F) where
   -- the table of a board
@@ -32,11 +26,6 @@ module _ {T F : Type 0} (b : Board T F) where
   -- the cells round a cell of a table, by the board's kind of steps and its edges
   abbrev pub near : List (List T) → ℕ → ℕ → List ((ℕ × ℕ) × T)
   near = round_of b.kind b.edges
-
--- the number before k, k, or the number after it, of n numbers, if there may be one
-abbrev pub side : Edges → ℕ → ℕ → ℕ → Option ℕ
-side Open n k i = beside k i
-side Joined n k i = Some (around n k i)
 
 -- the row and the column of a place in a line along the storage
 abbrev pub spot : Order → Option ℕ → Option ℕ → Option ℕ × Option ℕ

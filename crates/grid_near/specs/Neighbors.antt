@@ -5,6 +5,8 @@ use Rattle.std.specs.Iterator.Runs.{EveryRun, ItemsMapTo}
 use Rattle.std.specs.Borrow.{Bor}
 use Rattle.grid_near.specs.declared.steps.Steps.{Steps}
 use Rattle.grid_near.specs.declared.steps.Steps.TheVariants.{Sides, All}
+use Rattle.grid_near.specs.declared.board.Edges.{Edges}
+use Rattle.grid_near.specs.declared.board.Edges.TheVariants.{Open, Joined}
 use Rattle.grid_base.specs.Table.{row_count, col_count, cell}
 
 -- how many cells there are round a cell at most: the four that share a side with it, or all eight
@@ -79,6 +81,11 @@ module _ {T : Type 0} where
   abbrev pub wrapped_neighbors_of : Steps → List (List T) → ℕ → ℕ → List ((ℕ × ℕ) × T)
   wrapped_neighbors_of Sides = wrapped_neighbors4
   wrapped_neighbors_of All = wrapped_neighbors8
+
+  -- and by what the edges do
+  abbrev pub round_of : Steps → Edges → List (List T) → ℕ → ℕ → List ((ℕ × ℕ) × T)
+  round_of kind Open = neighbors_of kind
+  round_of kind Joined = wrapped_neighbors_of kind
 
 -- the item that an iterator gives, with the cell in place of the reference to it
 abbrev pub placed : {T : Type 0} → (ℕ × ℕ) × Bor T → (ℕ × ℕ) × T

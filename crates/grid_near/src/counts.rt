@@ -1,11 +1,11 @@
 //! How many of the cells round each cell pass a test, for all cells of a table at once.
 ghost use Rattle.std.specs.Prelude.{◌≡◌, ℕ, ◌+◌, ◌*◌, ◌<◌, ◌≤◌, length, take, vec_len, vec_capacity, false, slice_index_or, MatchOption, Some, IfOk};
 ghost use Rattle.grid_base.specs.Prelude.{CallableAtRefs, CallableAtCells, ReturnsAtCell, PairsUp, lines_of};
-ghost use Rattle.grid_near.specs.Marks.{side, IsBeyond, count_round, sum_round, MarksBeside, MarksCells, WithEnds, near, table, placed_cells, TakesCounted, AnswersCounted, TakesSummed, AnswersSummed};
+ghost use Rattle.grid_near.specs.Marks.{IsBeyond, count_round, sum_round, MarksBeside, MarksCells, WithEnds, near, table, placed_cells, TakesCounted, AnswersCounted, TakesSummed, AnswersSummed};
+ghost use Rattle.grid_near.specs.Around.{side};
 
 use crate::board::{Board, Edges};
-use crate::steps::Steps;
-use crate::wrapped::around;
+use crate::steps::{Steps, around};
 use std::alloc::{AllocError, Allocator};
 
 // The line before a line, the line, or the one after it, if the table has it.

@@ -8,11 +8,9 @@ mod direction;
 mod neighbors;
 mod steps;
 mod strided;
-mod wrapped;
 
 pub use board::{Board, Edges};
 pub use counts::{map_counts, map_sums};
 pub use direction::Direction;
-pub use neighbors::{Neighbors, neighbors_of};
+pub use neighbors::{Neighbors, WrappedNeighbors, neighbors_of};
 pub use steps::Steps;
-pub use wrapped::{WrappedNeighbors, wrapped_neighbors_of};

@@ -1,14 +1,18 @@
-//! Iterators over the cells round a cell.
-ghost use Rattle.std.specs.Prelude.{◌≡◌, ◌<◌, ◌≤◌, ⊤, length, min, IfSome, Some};
-ghost use Rattle.grid_base.specs.Prelude.{HoldsSize, table_of};
+//! Iterators over the cells round a cell, of a table with edges or of one whose edges meet.
+ghost use Rattle.std.specs.Prelude.{◌≡◌, ◌*◌, ◌<◌, ◌≤◌, ⊤, length, min, IfSome, Some};
+ghost use Rattle.grid_base.specs.Prelude.{table_of};
 ghost use Rattle.std.specs.Iterator.{YieldsFirstBy, UpTo, at_most};
 ghost use Rattle.std.specs.Iterator.SizeHint.{IsWithinCount};
-ghost use Rattle.grid_near.specs.Neighbors.{step_count, placed, neighbors_of, GivesNear};
-ghost use Rattle.grid_near.specs.Around.{HoldsCells, FindsFirst, strided_cell};
+ghost use Rattle.grid_near.specs.Neighbors.{step_count, placed, round_of, GivesNear};
+ghost use Rattle.grid_near.specs.Around.{HoldsCells, FindsFirst, IsFirst, strided_cell, start_of};
+ghost use Rattle.grid_near.specs.declared.board.Edges.TheVariants.{Joined};
 
-use crate::steps::{Steps, count_from, first_from, is_inner, offset, step_count, strides_of};
+use crate::board::Edges;
+use crate::steps::{
+    Steps, around, count_from, first_from, is_inner, offset, step_count, strides_of,
+};
 use crate::strided::Strided;
-use grid_base::Order;
+use grid_base::Layout;
 use std::alloc::AllocError;
 use std::iter::FusedIterator;
 use std::marker::Model;
@@ -16,56 +20,68 @@ use std::marker::Model;
 /// An iterator over the cells round a cell, each with its row and its column, seen as the list of those that remain.
 ///
 /// Away from the edges all of them are there, and each step is one read; at an edge, a step looks for the next that is
-/// in the table. A loop over it ends at a fixed number of steps, so that a short one is unrolled.
+/// in the table, or goes to the other edge, where they meet. A loop over it ends at a fixed number of steps, so that a
+/// short one is unrolled.
 #[derive(Drop)]
 pub struct Neighbors<'a, T> {
     table: Strided<'a, T>,
     at: (usize, usize),
     kind: Steps,
-    // All cells round this one are there, and the place of the first of its box of nine.
+    edges: Edges,
+    // None of the cells round this one is past an edge, and the place of the first of its box of nine.
     inner: bool,
     first: usize,
-    // The number of steps that are done, and, at an edge, of the positions that are passed.
+    // The number of steps that are done, and, at an edge that is open, of the positions that are passed.
     passed: usize,
     tried: usize,
 }
 
+/// An iterator over the cells round a cell of a table whose edges meet.
+pub type WrappedNeighbors<'a, T> = Neighbors<'a, T>;
+
 impl<'a, T> Model for Neighbors<'a, T> {
-    ghost use Rattle.std.specs.Prelude.{◌≡◌, ℕ, List, cond};
-    ghost use Rattle.grid_near.specs.Around.{strided_cell, cells_from, IsRound};
+    ghost use Rattle.std.specs.Prelude.{◌≡◌, ℕ, List};
+    ghost use Rattle.grid_near.specs.Around.{strided_cell, cells_from, next_step, IsRound};
 
     ghost Value = { List ((ℕ × ℕ) × T) };
 
     ghost view = { λ a. cells_from (strided_cell a.table.cells.now a.table.size a.table.strides)
-        a.kind a.at (cond a.inner a.passed a.tried) };
+        a.edges a.table.size a.kind a.at (next_step a.edges a.inner a.passed a.tried) };
 
     ghost invariant = { λ a. IsRound a.table.cells.now a.table.size a.table.strides
-        a.at a.first a.inner a.passed a.tried };
+        a.at a.kind a.edges a.first a.inner a.passed a.tried };
 }
 
-/// Returns an iterator over the cells round cell `at` of the table of `size.0` rows and `size.1` columns that a slice
-/// stores in an order, row by row, each with its row and its column.
+/// Returns an iterator over the cells round cell `at` of the table that a slice stores, row by row, each with its row and
+/// its column.
 ///
-///     [1, 2, 3, 4, 5, 6]   neighbors_of(RowMajor, (2, 3), (0, 2), Sides)   ((0, 1), 2), ((1, 2), 6)
-///     [1, 2, 3, 4, 5, 6]   neighbors_of(RowMajor, (2, 3), (0, 2), All)     ((0, 1), 2), ((1, 1), 5), ((1, 2), 6)
+///     [1, 2, 3, 4, 5, 6] of 2 rows   (0, 2), Sides, Open    ((0, 1), 2), ((1, 2), 6)
+///     [1, 2, 3, 4, 5, 6] of 2 rows   (0, 2), All, Open      ((0, 1), 2), ((1, 1), 5), ((1, 2), 6)
+///     [1, 2, 3, 4] of 1 row          (0, 0), Sides, Joined  1, 4, 2, 1, with their positions
+///     [1, 2, 3, 4] of 1 row          (0, 0), All, Joined    4, 1, 2, 4, 2, 4, 1, 2, with their positions
 ///
-/// Round a position out of range it gives the cells of the table that touch it.
+/// Where edges meet, these are four cells or eight, some of them more than once in a table of one or two rows or columns.
+/// Round a position out of range it gives the cells of the table that touch it, or none where edges meet.
 ///
-/// Requires: the slice has as many cells, and there are rows exactly if there are columns.
+/// Requires: the slice has as many cells as the layout.
 /// Cost: each step takes the same time, in either order; no memory.
 pub fn neighbors_of<T>(
     cells: &[T],
-    order: Order,
-    size: (usize, usize),
+    layout: Layout,
     at: (usize, usize),
     kind: Steps,
+    edges: Edges,
 ) -> Neighbors<'_, T>
-    requires size { HoldsSize size.0 size.1 (length cells.now) }
-    ensures gives { GivesNear
-        (neighbors_of kind (table_of order size.0 size.1 cells.now) at.0 at.1) result }
-    ensures count { length result ≤ step_count kind }
+    requires filled { length cells.now ≡ layout.rows * layout.cols }
+    ensures gives { GivesNear (round_of kind edges
+        (table_of layout.order layout.rows layout.cols cells.now) at.0 at.1) result }
+    ensures count { edges ≡ Joined → at.0 < layout.rows → at.1 < layout.cols
+        → length result ≡ step_count kind }
+    ensures at_most { length result ≤ step_count kind }
 {
-    let strides = strides_of(order, size);
+    let size = (layout.rows, layout.cols);
+    let strides = strides_of(layout.order, size);
+    let passed = done_at_start(size, at, kind, edges);
     let inner = is_inner(size, at);
     let first = if inner {
         (at.0 - 1) * strides.0 + (at.1 - 1) * strides.1
@@ -80,10 +96,11 @@ pub fn neighbors_of<T>(
         },
         at,
         kind,
+        edges,
         inner,
         first,
-        passed: 0,
-        tried: 0,
+        passed,
+        tried: passed,
     }
 }
 
@@ -104,11 +121,15 @@ impl<'a, T> Iterator for Neighbors<'a, T> {
             let (i, j) = offset(self.kind, k);
             let at = (self.at.0 + i - 1, self.at.1 + j - 1);
             let place = self.first + i * self.table.strides.0 + j * self.table.strides.1;
-            Some((at, &self.table.cells[place]))
-        } else {
-            let (tried, found) = find_from(self.table, self.at, self.kind, self.tried);
-            self.tried = tried;
-            found
+            return Some((at, &self.table.cells[place]));
+        }
+        match self.edges {
+            Edges::Open => {
+                let (tried, found) = find_from(self.table, self.at, self.kind, self.tried);
+                self.tried = tried;
+                found
+            }
+            Edges::Joined => Some(joined_cell(self.table, self.at, self.kind, k)),
         }
     }
 
@@ -127,8 +148,13 @@ impl<'a, T> ExactSizeIterator for Neighbors<'a, T> {
         ensures value { result ≡ min (length self.now) 8 }
         ensures exact { result ≡ length self.now }
     {
-        let from = if self.inner { self.passed } else { self.tried };
-        count_from(self.table.size, self.at, self.kind, from)
+        match self.edges {
+            Edges::Open => {
+                let from = if self.inner { self.passed } else { self.tried };
+                count_from(self.table.size, self.at, self.kind, from)
+            }
+            Edges::Joined => step_count(self.kind).saturating_sub(self.passed),
+        }
     }
 }
 
@@ -147,6 +173,20 @@ impl<'a, T> Clone for Neighbors<'a, T> {
     }
 }
 
+// How many steps are done at the start: all, where edges meet, round a position out of range.
+fn done_at_start(size: (usize, usize), at: (usize, usize), kind: Steps, edges: Edges) -> usize
+    ensures { result ≡ start_of edges size kind at }
+{
+    match edges {
+        Edges::Open => 0,
+        Edges::Joined => if at.0 < size.0 && at.1 < size.1 {
+            0
+        } else {
+            step_count(kind)
+        },
+    }
+}
+
 // Finds the first cell that is in the table at step `from` or later, and the number of the step after it.
 #[inline(always)]
 fn find_from<T>(
@@ -157,7 +197,8 @@ fn find_from<T>(
 ) -> (usize, Option<((usize, usize), &T)>)
     requires holds { HoldsCells table.cells.now table.size table.strides }
     ensures found { FindsFirst
-        (strided_cell table.entry.cells.now table.entry.size table.entry.strides) kind at from result }
+        (strided_cell table.entry.cells.now table.entry.size table.entry.strides) table.entry.size
+        kind at from result }
     ensures keeps { from ≤ result.0 }
     ensures on { from < step_count kind → from < result.0 }
 {
@@ -175,4 +216,28 @@ fn find_from<T>(
     let col = at.1 + j - 1;
     let cell = &cells[row * strides.0 + col * strides.1];
     (k + 1, Some(((row, col), cell)))
+}
+
+// The cell of step `k`, where edges meet.
+#[inline(always)]
+fn joined_cell<T>(
+    table: Strided<'_, T>,
+    at: (usize, usize),
+    kind: Steps,
+    k: usize,
+) -> ((usize, usize), &T)
+    requires holds { HoldsCells table.cells.now table.size table.strides }
+    requires step { k < step_count kind }
+    requires row { at.0 < table.size.0 }
+    requires col { at.1 < table.size.1 }
+    ensures { IsFirst (strided_cell table.entry.cells.now table.entry.size table.entry.strides)
+        table.entry.size kind at k result }
+{
+    let (i, j) = offset(kind, k);
+    let row = around(table.size.0, at.0, i);
+    let col = around(table.size.1, at.1, j);
+    (
+        (row, col),
+        &table.cells[row * table.strides.0 + col * table.strides.1],
+    )
 }

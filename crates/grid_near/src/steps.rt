@@ -1,7 +1,7 @@
 //! The steps round a cell: where each of them leads, and which of them are within the size.
 ghost use Rattle.std.specs.Prelude.{◌≡◌, ◌<◌, ◌≤◌, ◌/◌, ◌%◌, IsTrue, ◌↔◌, length};
 ghost use Rattle.grid_near.specs.Neighbors.{step_count};
-ghost use Rattle.grid_near.specs.Around.{box, positions_from, strides_of, IsInner, IsThere};
+ghost use Rattle.grid_near.specs.Around.{around, box, positions_from, strides_of, IsInner, IsThere};
 
 use grid_base::Order;
 
@@ -52,6 +52,19 @@ pub(crate) fn offset(kind: Steps, k: usize) -> (usize, usize)
         Steps::All => k + k / 4,
     };
     (cell / 3, cell % 3)
+}
+
+// The number before `at`, `at`, or the number after it, for `i` 0, 1 or 2, round `len` numbers.
+pub(crate) fn around(len: usize, at: usize, i: usize) -> usize
+    requires { at < len }
+    ensures is { result ≡ around len at i }
+    ensures within { result < len }
+{
+    match i {
+        0 => { if at == 0 { len - 1 } else { at - 1 } }
+        1 => at,
+        _ => { if at + 1 == len { 0 } else { at + 1 } }
+    }
 }
 
 // Whether the cell in row `i` and column `j` of the box of nine cells round a position is within the size.

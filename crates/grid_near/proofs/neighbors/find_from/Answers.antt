@@ -2,6 +2,7 @@ use Rattle.std.proofs.Common.{◌∙◌, ◌<◌, arith, refl}
 use Rattle.std.proofs.lemmas.Option.{slice_get_read}
 use Rattle.grid_near.specs.Neighbors.{step_count}
 use Rattle.grid_near.specs.Around.{strided_cell, position_of}
+use Rattle.grid_near.specs.declared.board.Edges.TheVariants.{Open}
 use Rattle.grid_near.proofs.AroundLemmas.{cells_skipped, no_cells, cell_some, first_cell, position_within, position_in_size}
 use Rattle.grid_near.proofs.neighbors.find_from.Goals as goal
 
@@ -9,7 +10,7 @@ pub returns-then-k-step_count-clause-found : goal.returns-then-k-step_count-clau
 returns-then-k-step_count-clause-found g c =
     let a = c.args in
     let f = strided_cell a.table.cells.now a.table.size a.table.strides in
-    let past = no_cells f a.kind a.at c.first_from-k.result (omega arith) in
+    let past = no_cells f Open a.table.size a.kind a.at c.first_from-k.result (omega arith) in
     (cells_skipped a.table.cells.now a.table.size a.table.strides a.kind a.at a.from c.first_from-k.result c.first_from-k.ensures.skips ∙ past, past)
 
 pub overflow_mul-cell : goal.overflow_mul-cell
@@ -37,4 +38,4 @@ returns-clause-found g c =
     let h = position_within a.table.cells.now a.table.size a.table.strides a.at a.kind k c.offset-i.result.0 c.offset-i.result.1 lt c.requires.holds there c.offset-i.ensures.row c.offset-i.ensures.col in
     let same = position_in_size a.table.cells.now a.table.size a.table.strides a.at a.kind k c.offset-i.result.0 c.offset-i.result.1 lt c.requires.holds there c.offset-i.ensures.row c.offset-i.ensures.col in
     cells_skipped a.table.cells.now a.table.size a.table.strides a.kind a.at a.from k c.first_from-k.ensures.skips
-    ∙ first_cell (strided_cell a.table.cells.now a.table.size a.table.strides) a.kind a.at k _ lt (cell_some a.table.cells.now a.table.size a.table.strides (position_of a.kind a.at k) _ c.index-cells-row.result same (slice_get_read a.table.cells.now _ _ _ refl h c.index-cells-row.is))
+    ∙ first_cell (strided_cell a.table.cells.now a.table.size a.table.strides) Open a.table.size a.kind a.at k _ lt (cell_some a.table.cells.now a.table.size a.table.strides (position_of Open a.table.size a.kind a.at k) _ c.index-cells-row.result same (slice_get_read a.table.cells.now _ _ _ refl h c.index-cells-row.is))

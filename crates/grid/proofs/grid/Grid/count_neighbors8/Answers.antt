@@ -1,5 +1,0 @@
-use Rattle.std.proofs.Common.{rules}
-use Rattle.grid.proofs.grid.Grid.count_neighbors8.Goals as goal
-
-pub returns-clause-count : goal.returns-clause-count
-returns-clause-count = search rules

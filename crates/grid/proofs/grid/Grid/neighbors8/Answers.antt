@@ -1,8 +1,0 @@
-use Rattle.std.proofs.Common.{rules}
-use Rattle.grid.proofs.grid.Grid.neighbors8.Goals as goal
-
-pub returns-clause-gives : goal.returns-clause-gives
-returns-clause-gives = search rules
-
-pub returns-clause-count : goal.returns-clause-count
-returns-clause-count = search rules
