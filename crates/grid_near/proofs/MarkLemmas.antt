@@ -15,7 +15,7 @@ use Rattle.grid_near.specs.declared.board.Edges.TheVariants.{Open, Joined}
 use Rattle.grid_near.specs.Neighbors.{both, cell_at, before, round_of}
 use Rattle.grid_near.specs.Around.{strided_cell, strides_of, beside, around, side, positions, if_within}
 use Rattle.grid_near.specs.NearCounts.{MayAnswer, MayCount, CountsNear, SumsNear}
-use Rattle.grid_near.specs.Marks.{MarkAt, MarksCells, MarksLine, MarksBeside, WithEnds, IsBeyond, spot, near, table, placed_cells, count_round, sum_round}
+use Rattle.grid_near.specs.Marks.{MarkAt, MarksCells, MarksLine, AreBeside, WithEnds, IsBeyond, spot, near, table, placed_cells, count_round, sum_round}
 use Rattle.grid_near.proofs.AroundLemmas.{cell_some, start_shown, below_mod}
 use Rattle.grid_near.proofs.WrappedLemmas.{none_done, around_within}
 
@@ -333,8 +333,8 @@ module _ {T F : Type 0} (b : Board T F) where
   all_placed i e = take_all i (placed_cells b) (omega (arith, zip_even (positions_of b.layout) b.cells.now placed_even, placed_even, e))
 
 -- what the marks round a place of a board say of the cells round it
-pub board_counted : {T F : Type 0} (returns : F → Bor T → Bool → Type 0) (b : Board T F) (l k : ℕ) (up mid down : List Bool) → l < (lines_of b.layout).0 → k < (lines_of b.layout).1 → MarksBeside false returns b l 0 up → MarksBeside false returns b l 1 mid → MarksBeside false returns b l 2 down → CountsNear returns b.mark.now (near b (table b) (along b.layout.order l k).0 (along b.layout.order l k).1) (count_round b.kind up mid down k)
-board_counted returns b = round_counted returns b.mark.now b.cells.now b.layout.order (b.layout.rows, b.layout.cols) (holds_size b) b.edges b.kind
+pub board_counted : {T F : Type 0} (returns : F → Bor T → Bool → Type 0) (b : Board T F) (l k : ℕ) (up mid down : List Bool) → l < (lines_of b.layout).0 → k < (lines_of b.layout).1 → AreBeside false returns b l up mid down → CountsNear returns b.mark.now (near b (table b) (along b.layout.order l k).0 (along b.layout.order l k).1) (count_round b.kind up mid down k)
+board_counted returns b l k up mid down ll lk m = round_counted returns b.mark.now b.cells.now b.layout.order (b.layout.rows, b.layout.cols) (holds_size b) b.edges b.kind l k up mid down ll lk m.before m.here m.after
 
-pub board_summed : {T F : Type 0} (returns : F → Bor T → ℕ → Type 0) (b : Board T F) (l k : ℕ) (up mid down : List ℕ) → l < (lines_of b.layout).0 → k < (lines_of b.layout).1 → MarksBeside 0 returns b l 0 up → MarksBeside 0 returns b l 1 mid → MarksBeside 0 returns b l 2 down → SumsNear returns b.mark.now (near b (table b) (along b.layout.order l k).0 (along b.layout.order l k).1) (sum_round b.kind up mid down k)
-board_summed returns b = round_summed returns b.mark.now b.cells.now b.layout.order (b.layout.rows, b.layout.cols) (holds_size b) b.edges b.kind
+pub board_summed : {T F : Type 0} (returns : F → Bor T → ℕ → Type 0) (b : Board T F) (l k : ℕ) (up mid down : List ℕ) → l < (lines_of b.layout).0 → k < (lines_of b.layout).1 → AreBeside 0 returns b l up mid down → SumsNear returns b.mark.now (near b (table b) (along b.layout.order l k).0 (along b.layout.order l k).1) (sum_round b.kind up mid down k)
+board_summed returns b l k up mid down ll lk m = round_summed returns b.mark.now b.cells.now b.layout.order (b.layout.rows, b.layout.cols) (holds_size b) b.edges b.kind l k up mid down ll lk m.before m.here m.after

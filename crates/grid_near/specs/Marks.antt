@@ -1,6 +1,6 @@
 -- Marks of the cells of a line, and of its two neighbors, with a border: what a closure answered at each of them.
-use Rattle.std.specs.Prelude.{◌≡◌, ⊤, ℕ, ◌+◌, ◌<◌, ◌≤◌, Bool, false, List, Option, Some, MatchOption, slice_get, slice_index_or, zip}
-use Rattle.grid_base.specs.Prelude.{table_of, positions_of, lines_of}
+use Rattle.std.specs.Prelude.{◌≡◌, ⊤, ℕ, ◌+◌, ◌<◌, ◌≤◌, Bool, false, List, Option, Some, MatchOption, length, slice_get, slice_index_or, take, zip}
+use Rattle.grid_base.specs.Prelude.{table_of, positions_of, lines_of, CallableAtCells, ReturnsAtCell, PairsUp}
 use Rattle.std.specs.Int.{from_bool}
 use denote.Ref.{Bor}
 use Rattle.grid_base.specs.declared.order.Order.{Order}
@@ -123,3 +123,37 @@ module _ {F G T : Type 0} (near : List (List T) → ℕ → ℕ → List ((ℕ �
       → Type 0
   AnswersSummed answers g at p y =
       (n : ℕ) × SumsNear returns f (near t at.0 at.1) n × answers g p n y
+
+-- three lines of marks are those of the line before a line of a board, of the line, and of the one
+-- after it
+pub record AreBeside {F T B : Type 0} (blank : B) (returns : F → Bor T → B → Type 0) (b : Board T F)
+    (line : ℕ) (up mid down : List B) : Type 0 where
+  pub before : MarksBeside blank returns b line 0 up
+  pub here : MarksBeside blank returns b line 1 mid
+  pub after : MarksBeside blank returns b line 2 down
+  pub before_len : length up ≡ (lines_of b.layout).1 + 2
+  pub here_len : length mid ≡ (lines_of b.layout).1 + 2
+  pub after_len : length down ≡ (lines_of b.layout).1 + 2
+
+module _ {F G T : Type 0} (b : Board T F) (returns : F → Bor T → Bool → Type 0) where
+  -- the closure g can be called at each cell of a board and how many of those round it are marked
+  abbrev pub CallableOnCounts : (G → Bor T → ℕ → Type 0) → G → Type 0
+  CallableOnCounts takes g =
+      CallableAtCells (TakesCounted (near b) returns b.mark.now (table b) takes) g (placed_cells b)
+
+  -- the items are what g returns so at the first n cells
+  abbrev pub AreCounted : {U : Type 0} → (G → Bor T → ℕ → U → Type 0) → G → ℕ → List U → Type 0
+  AreCounted answers g n made =
+      PairsUp (ReturnsAtCell (AnswersCounted (near b) returns b.mark.now (table b) answers) g)
+      (take n (placed_cells b)) made
+
+module _ {F G T : Type 0} (b : Board T F) (returns : F → Bor T → ℕ → Type 0) where
+  -- the same of the sum of the marks of those round it
+  abbrev pub CallableOnSums : (G → Bor T → ℕ → Type 0) → G → Type 0
+  CallableOnSums takes g =
+      CallableAtCells (TakesSummed (near b) returns b.mark.now (table b) takes) g (placed_cells b)
+
+  abbrev pub AreSummed : {U : Type 0} → (G → Bor T → ℕ → U → Type 0) → G → ℕ → List U → Type 0
+  AreSummed answers g n made =
+      PairsUp (ReturnsAtCell (AnswersSummed (near b) returns b.mark.now (table b) answers) g)
+      (take n (placed_cells b)) made

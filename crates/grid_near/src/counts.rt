@@ -1,7 +1,7 @@
 //! How many of the cells round each cell pass a test, for all cells of a table at once.
-ghost use Rattle.std.specs.Prelude.{◌≡◌, ℕ, ◌+◌, ◌*◌, ◌<◌, ◌≤◌, length, take, vec_len, vec_capacity, false, slice_index_or, MatchOption, Some, IfOk};
-ghost use Rattle.grid_base.specs.Prelude.{CallableAtRefs, CallableAtCells, ReturnsAtCell, PairsUp, lines_of};
-ghost use Rattle.grid_near.specs.Marks.{IsBeyond, count_round, sum_round, MarksBeside, MarksCells, WithEnds, near, table, placed_cells, TakesCounted, AnswersCounted, TakesSummed, AnswersSummed};
+ghost use Rattle.std.specs.Prelude.{◌≡◌, ℕ, ◌+◌, ◌*◌, ◌<◌, ◌≤◌, length, vec_len, vec_capacity, false, slice_index_or, MatchOption, Some, IfOk};
+ghost use Rattle.grid_base.specs.Prelude.{CallableAtRefs, ReturnsAtCell, PairsUp, lines_of};
+ghost use Rattle.grid_near.specs.Marks.{IsBeyond, count_round, sum_round, MarksBeside, MarksCells, WithEnds, near, table, placed_cells, AnswersCounted, AnswersSummed, AreBeside, CallableOnCounts, AreCounted, CallableOnSums, AreSummed};
 ghost use Rattle.grid_near.specs.Around.{side};
 
 use crate::board::{Board, Edges};
@@ -166,25 +166,14 @@ fn push_line<T, U, A: Allocator, F: Fn(&T) -> bool, G: Fn(&T, u8) -> U>(
     rule: &G,
 ) -> Vec<U, A>
     requires line { line < (lines_of board.now.layout).0 }
-    requires up { MarksBeside false F.post board.now line 0 marks.0.now }
-    requires mid { MarksBeside false F.post board.now line 1 marks.1.now }
-    requires down { MarksBeside false F.post board.now line 2 marks.2.now }
-    requires up_len { length marks.0.now ≡ (lines_of board.now.layout).1 + 2 }
-    requires mid_len { length marks.1.now ≡ (lines_of board.now.layout).1 + 2 }
-    requires down_len { length marks.2.now ≡ (lines_of board.now.layout).1 + 2 }
-    requires calls { CallableAtCells
-        (TakesCounted (near board.now) F.post board.now.mark.now (table board.now) G.pre)
-        rule.now (placed_cells board.now) }
+    requires marks { AreBeside false F.post board.now line marks.0.now marks.1.now marks.2.now }
+    requires calls { CallableOnCounts board.now F.post G.pre rule.now }
     requires room { length board.now.cells.now ≤ vec_capacity made }
     requires passed { vec_len made ≡ line * (lines_of board.now.layout).1 }
-    requires answers { PairsUp (ReturnsAtCell
-        (AnswersCounted (near board.now) F.post board.now.mark.now (table board.now) G.post)
-        rule.now) (take (vec_len made) (placed_cells board.now)) made.items }
+    requires answers { AreCounted board.now F.post G.post rule.now (vec_len made) made.items }
     ensures room { vec_capacity result ≡ vec_capacity made }
     ensures passed { vec_len result ≡ vec_len made + (lines_of board.now.layout).1 }
-    ensures answers { PairsUp (ReturnsAtCell
-        (AnswersCounted (near board.now) F.post board.now.mark.now (table board.now) G.post)
-        rule.now) (take (vec_len result) (placed_cells board.now)) result.items }
+    ensures answers { AreCounted board.now F.post G.post rule.now (vec_len result) result.items }
 {
     let (up, mid, down) = marks;
     let (_, width) = board.layout.lines();
@@ -213,9 +202,7 @@ pub fn map_counts<T, U, A: Allocator, F: Fn(&T) -> bool, G: Fn(&T, u8) -> U>(
 where
     A: Clone,
     requires tests { CallableAtRefs F.pre board.now.mark.now board.now.cells.now }
-    requires calls { CallableAtCells
-        (TakesCounted (near board.now) F.post board.now.mark.now (table board.now) G.pre) rule
-        (placed_cells board.now) }
+    requires calls { CallableOnCounts board.now F.post G.pre rule }
     ensures len { IfOk result (λ made. length made.items ≡ length board.now.cells.now) }
     ensures cells { IfOk result (λ made. PairsUp (ReturnsAtCell
         (AnswersCounted (near board.now) F.post board.now.mark.now (table board.now) G.post) rule)
@@ -277,25 +264,14 @@ fn push_sums<T, U, A: Allocator, F: Fn(&T) -> u8, G: Fn(&T, u16) -> U>(
     rule: &G,
 ) -> Vec<U, A>
     requires line { line < (lines_of board.now.layout).0 }
-    requires up { MarksBeside 0 F.post board.now line 0 marks.0.now }
-    requires mid { MarksBeside 0 F.post board.now line 1 marks.1.now }
-    requires down { MarksBeside 0 F.post board.now line 2 marks.2.now }
-    requires up_len { length marks.0.now ≡ (lines_of board.now.layout).1 + 2 }
-    requires mid_len { length marks.1.now ≡ (lines_of board.now.layout).1 + 2 }
-    requires down_len { length marks.2.now ≡ (lines_of board.now.layout).1 + 2 }
-    requires calls { CallableAtCells
-        (TakesSummed (near board.now) F.post board.now.mark.now (table board.now) G.pre)
-        rule.now (placed_cells board.now) }
+    requires marks { AreBeside 0 F.post board.now line marks.0.now marks.1.now marks.2.now }
+    requires calls { CallableOnSums board.now F.post G.pre rule.now }
     requires room { length board.now.cells.now ≤ vec_capacity made }
     requires passed { vec_len made ≡ line * (lines_of board.now.layout).1 }
-    requires answers { PairsUp (ReturnsAtCell
-        (AnswersSummed (near board.now) F.post board.now.mark.now (table board.now) G.post)
-        rule.now) (take (vec_len made) (placed_cells board.now)) made.items }
+    requires answers { AreSummed board.now F.post G.post rule.now (vec_len made) made.items }
     ensures room { vec_capacity result ≡ vec_capacity made }
     ensures passed { vec_len result ≡ vec_len made + (lines_of board.now.layout).1 }
-    ensures answers { PairsUp (ReturnsAtCell
-        (AnswersSummed (near board.now) F.post board.now.mark.now (table board.now) G.post)
-        rule.now) (take (vec_len result) (placed_cells board.now)) result.items }
+    ensures answers { AreSummed board.now F.post G.post rule.now (vec_len result) result.items }
 {
     let (up, mid, down) = marks;
     let (_, width) = board.layout.lines();
@@ -323,9 +299,7 @@ pub fn map_sums<T, U, A: Allocator, F: Fn(&T) -> u8, G: Fn(&T, u16) -> U>(
 where
     A: Clone,
     requires weights { CallableAtRefs F.pre board.now.mark.now board.now.cells.now }
-    requires calls { CallableAtCells
-        (TakesSummed (near board.now) F.post board.now.mark.now (table board.now) G.pre) rule
-        (placed_cells board.now) }
+    requires calls { CallableOnSums board.now F.post G.pre rule }
     ensures len { IfOk result (λ made. length made.items ≡ length board.now.cells.now) }
     ensures cells { IfOk result (λ made. PairsUp (ReturnsAtCell
         (AnswersSummed (near board.now) F.post board.now.mark.now (table board.now) G.post) rule)

@@ -24,18 +24,18 @@ loop-line-init g c =
       answers = rw (c.in_ok-made.ensures.len, c.in_ok-made.ensures.items) tt;
     }
 
-pub push_sums-made-requires-clause-up : goal.push_sums-made-requires-clause-up
-push_sums-made-requires-clause-up g c =
+pub push_sums-made-requires-clause-marks : goal.push_sums-made-requires-clause-marks
+push_sums-made-requires-clause-marks g c =
+    let i = c.loop-line.invariant in
     let lt : c.loop-line.line < (lines_of c.args.board.now.layout).0 = omega (arith, c.loop-line-test.true, ap (λ (p : ℕ × ℕ). p.0) c.lines-lines.ensures) in
-    rw c.as_slice.ensures.value (c.loop-line.invariant.up lt)
-
-pub push_sums-made-requires-clause-mid : goal.push_sums-made-requires-clause-mid
-push_sums-made-requires-clause-mid g c =
-    let lt : c.loop-line.line < (lines_of c.args.board.now.layout).0 = omega (arith, c.loop-line-test.true, ap (λ (p : ℕ × ℕ). p.0) c.lines-lines.ensures) in
-    rw c.as_slice-in-loop-line.ensures.value (c.loop-line.invariant.mid lt)
-
-pub push_sums-made-requires-clause-down : goal.push_sums-made-requires-clause-down
-push_sums-made-requires-clause-down g c = rw c.as_slice-in-loop-line-2.ensures.value c.marked-down.ensures.marks
+    record {
+      before = rw c.as_slice.ensures.value (i.up lt);
+      here = rw c.as_slice-in-loop-line.ensures.value (i.mid lt);
+      after = rw c.as_slice-in-loop-line-2.ensures.value c.marked-down.ensures.marks;
+      before_len = rw c.as_slice.ensures.value i.up_len;
+      here_len = rw c.as_slice-in-loop-line.ensures.value i.mid_len;
+      after_len = rw c.as_slice-in-loop-line-2.ensures.value (c.marked-down.ensures.len ∙ i.down_len);
+    }
 
 pub loop-line-preserved : goal.loop-line-preserved
 loop-line-preserved g c =

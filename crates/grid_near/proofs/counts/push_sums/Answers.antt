@@ -20,7 +20,7 @@ rule-requires g c =
     let lk = rw e at c.loop-k-test.true in
     let passed : i ≡ l * (lines_of b.layout).1 + k = omega (arith, c.requires.passed, c.loop-k.invariant.passed) in
     let here = cell_placed b l k i c.index-cells-start.result c.requires.line lk passed (rw e at c.index-cells-start.is) in
-    let n = board_summed _ b l k c.args.marks.0.now c.args.marks.1.now c.args.marks.2.now c.requires.line lk c.requires.up c.requires.mid c.requires.down in
+    let n = board_summed _ b l k _ _ _ c.requires.line lk c.requires.marks in
     c.requires.calls.at i (along b.layout.order l k) _ (slice_get_within (placed_cells b) i _ here) (sym (get_or_from_slice_get (placed_cells b) i _ _ here)) c.sum_round-sum.result c.sum_round-sum.ensures.most (rw c.sum_round-sum.ensures.sum n)
 
 pub push_reserved-requires : goal.push_reserved-requires
@@ -38,7 +38,7 @@ loop-k-preserved g c =
     let lk = rw e at c.loop-k-test.true in
     let passed : i ≡ l * (lines_of b.layout).1 + k = omega (arith, c.requires.passed, c.loop-k.invariant.passed) in
     let here = cell_placed b l k i c.index-cells-start.result c.requires.line lk passed (rw e at c.index-cells-start.is) in
-    let n = board_summed _ b l k c.args.marks.0.now c.args.marks.1.now c.args.marks.2.now c.requires.line lk c.requires.up c.requires.mid c.requires.down in
+    let n = board_summed _ b l k _ _ _ c.requires.line lk c.requires.marks in
     record {
       room = p.capacity ∙ c.loop-k.invariant.room;
       passed = omega (arith, p.len, c.loop-k.invariant.passed);
