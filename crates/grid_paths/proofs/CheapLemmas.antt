@@ -1,6 +1,6 @@
 -- The search for the least costs: what holds after each step, and what that says at the end.
-use Rattle.std.proofs.Common.{◌≡◌, ℕ, zero, suc, ◌+◌, ◌-◌, ◌*◌, ◌^◌, ◌<◌, ◌≤◌, ◌⊎◌, Option, None, Some, List, [], ◌∷◌, length, set, get_or, refl, sym, ◌∙◌, ap, subst, arith, inl, inr, ⊎_elim, IsPermutation, sum_by}
-use Rattle.grid_base.proofs.Common.{IsUpperBound, sum_by-set, IsPermutation-sym, length_permutation, slice_get_within, get_or_from_slice_get, row, row_count, col_count, cell, with_cell, tabulate, IsTable, InRange}
+use Rattle.std.proofs.Common.{◌≡◌, ℕ, zero, suc, ◌+◌, ◌-◌, ◌*◌, ◌^◌, ◌<◌, ◌≤◌, ◌⊎◌, Option, None, Some, List, [], ◌∷◌, length, set, get_or, refl, sym, ◌∙◌, ap, subst, arith, inl, inr, ⊎_elim, IsPermutation, sum_by, heap_items}
+use Rattle.grid_base.proofs.Common.{IsUpperBound, sum_by-set, IsPermutation-sym, slice_get_within, get_or_from_slice_get, row, row_count, col_count, cell, with_cell, tabulate, IsTable, InRange}
 use Rattle.grid_base.proofs.WriteLemmas.{cell-with_same, cell-with_other, same_or_other}
 use Rattle.grid_near.specs.declared.steps.Steps.{Steps}
 use Rattle.grid_paths.specs.Search.{HaveOneSize, free, unreached}
@@ -9,7 +9,11 @@ use Rattle.grid_paths.proofs.QueueLemmas.{unreached_cells}
 use Rattle.grid_paths.proofs.SearchLemmas.{one_mark}
 use Rattle.grid_paths.proofs.StepLemmas.{none_marked}
 use Rattle.grid_paths.specs.Cheapest.{Holds, CostWalk, IsLeastCost, HasLeastCosts}
-use Rattle.grid_paths.specs.Relaxing.{Entry, by_sum, IsWaiting, HoldsUpTo, IsClosed, Relaxes, Settles, Comes, IsCostSearch}
+use Rattle.grid_paths.specs.Relaxing.{Entry, by_sum, IsWaiting, HoldsUpTo, IsClosed, Relaxes, Comes, IsCostSearch}
+use Rattle.grid_base.specs.GridValue.{GridValue}
+use Rattle.grid_paths.specs.declared.costs.Frontier.{Frontier}
+use Rattle.grid_paths.specs.declared.costs.Settled.{Settled}
+use Rattle.grid_paths.specs.Frontier.{entry, Enters, IsReady, IsNext, IsOver, IsSearching}
 use Rattle.grid_paths.proofs.RelaxLemmas.{left_inside}
 use Rattle.grid_paths.proofs.HeapLemmas as heaps
 
@@ -105,7 +109,7 @@ module _ (kind : Steps) (costs : List (List (Option ℕ))) (from : ℕ × ℕ) (
     its_bound = s.bound x.0.1 x.0.0 its_number
 
     -- and the positions round it are entered
-    module _ (table : IsTable left) (u' : List (List (Option ℕ))) (heap' : List Entry) (r : Relaxes (IsStep kind x.0.1) (with_cell left (x.0.1).0 (x.0.1).1 None) x.0.0 u rest u' heap' 8) where
+    module _ (table : IsTable left) (u' : List (List (Option ℕ))) (heap' : List Entry) (r : Relaxes (IsStep kind x.0.1) (with_cell left (x.0.1).0 (x.0.1).1 None) x.0.0 u rest u' heap') where
       left' : List (List (Option ℕ))
       left' = with_cell left (x.0.1).0 (x.0.1).1 None
 
@@ -263,48 +267,6 @@ module _ (costs left : List (List (Option ℕ))) (table : IsTable left) (size : 
   pub few_left : unreached left ≤ row_count costs * col_count costs
   few_left = let le = unreached_cells left table in let is = same_cells in omega arith
 
--- one step of the search
-module _ (kind : Steps) (left : List (List (Option ℕ))) (table : IsTable left) (u : List (List (Option ℕ))) (heap : List Entry) (x : Entry) (rest : List Entry) (taken : IsPermutation heap (x ∷ rest)) (left' u' : List (List (Option ℕ))) (heap' : List Entry) (step : Settles kind x.0.1 x.0.0 left u rest left' u' heap') where
-  pub IsCostSearch-settle : (costs : List (List (Option ℕ))) (from : ℕ × ℕ) → IsCostSearch kind costs from u left heap → IsUpperBound by_sum x rest → IsCostSearch kind costs from u' left' heap'
-  IsCostSearch-settle costs from s least =
-      ⊎_elim (λ w.
-      subst (λ y. IsCostSearch kind costs from u' left' y) (sym w.3)
-      (subst (λ y. IsCostSearch kind costs from y left' rest) (sym w.2)
-      (subst (λ y. IsCostSearch kind costs from u y rest) (sym w.1) (IsCostSearch-stale kind costs from u left heap s x rest taken w.0))))
-      (λ w.
-      subst (λ y. IsCostSearch kind costs from u' y heap') (sym w.2)
-      (IsCostSearch-round kind costs from u left heap s x rest taken least w.0 w.1 table u' heap' w.3))
-      step
-
-  -- a settled number was settled before, or is the one taken
-  pub settled_before : (costs : List (List (Option ℕ))) (from : ℕ × ℕ) → IsCostSearch kind costs from u left heap → IsUpperBound by_sum x rest → (a : ℕ × ℕ) (m : ℕ) → Holds u' a m → IsClosed left' a → (((k : ℕ) × Holds left x.0.1 k) × (a ≡ x.0.1) × (m ≡ x.0.0)) ⊎ (Holds u a m × IsClosed left a)
-  settled_before costs from s least a m h c =
-      ⊎_elim (λ w. inr (subst (λ t. Holds t a m) w.2 h, subst (λ t. IsClosed t a) w.1 c))
-      (λ w.
-      ⊎_elim (λ e. inl ((w.0, w.1), e.0, e.1)) (λ e. inr e)
-      (settled_was kind costs from u left heap s x rest taken least w.0 w.1 table u' heap' w.3 a m h (subst (λ t. IsClosed t a) w.2 c)))
-      step
-
-  -- what is left was left, and the position taken is not
-  pub settled_fewer : (a : ℕ × ℕ) (k : ℕ) → Holds left' a k → Holds left a k
-  settled_fewer a k h =
-      ⊎_elim (λ w. subst (λ t. Holds t a k) w.1 h) (λ w. closed_fewer left table x.0.1 w.0 w.1 a k (subst (λ t. Holds t a k) w.2 h)) step
-
-  pub settled_there : IsClosed left' x.0.1
-  settled_there =
-      ⊎_elim (λ w. subst (λ t. IsClosed t x.0.1) (sym w.1) w.0) (λ w. subst (λ t. IsClosed t x.0.1) (sym w.2) (closed_there left table x.0.1 w.0 w.1)) step
-
-  pub smaller : (cells : ℕ) → unreached left' ≤ cells → length heap' + 9 * (cells - unreached left') < length heap + 9 * (cells - unreached left)
-  smaller cells le =
-      let long = length_permutation heap (x ∷ rest) taken in
-      ⊎_elim (λ w. let same = ap length w.3 in let left_same = ap unreached w.1 in omega arith)
-      (λ w.
-      let few = w.3.few in
-      let more = unreached-closed left table x.0.1 w.0 w.1 in
-      let is = ap unreached w.2 in
-      omega arith)
-      step
-
 -- the position that comes first from the heap, if it is left, has the least number
 module _ (kind : Steps) (costs : List (List (Option ℕ))) (from : ℕ × ℕ) (u left : List (List (Option ℕ))) (heap : List Entry) (s : IsCostSearch kind costs from u left heap) (x : Entry) (rest : List Entry) (taken : IsPermutation heap (x ∷ rest)) (least : IsUpperBound by_sum x rest) where
   no_less : (n : ℕ) (a : ℕ × ℕ) → IsWaiting heap n a → x.0.0 ≤ n
@@ -346,9 +308,9 @@ module _ (kind : Steps) (costs : List (List (Option ℕ))) (from : ℕ × ℕ) (
       }
 
 -- at the end nothing waits
-module _ (kind : Steps) (costs : List (List (Option ℕ))) (from : ℕ × ℕ) (u left : List (List (Option ℕ))) (heap : List Entry) (s : IsCostSearch kind costs from u left heap) (none : length heap ≡ 0) where
-  nothing : (n : ℕ) (a : ℕ × ℕ) → IsWaiting heap n a → ⊥
-  nothing n a w = let lt : w.1.0 < length heap = w.1.1 in omega arith
+module _ (kind : Steps) (costs : List (List (Option ℕ))) (from : ℕ × ℕ) (u left : List (List (Option ℕ))) (s : IsCostSearch kind costs from u left []) where
+  nothing : (n : ℕ) (a : ℕ × ℕ) → IsWaiting [] n a → ⊥
+  nothing n a w = let lt : w.1.0 < 0 = w.1.1 in omega arith
 
   complete : (n sum : ℕ) (b : ℕ × ℕ) → CostWalk kind costs from b n sum → HoldsUpTo u b sum
   complete zero sum b w =
@@ -457,3 +419,89 @@ module _ (kind : Steps) (costs : List (List (Option ℕ))) (from : ℕ × ℕ) (
     pub IsCostSearch-begun : (u' : List (List (Option ℕ))) → u' ≡ with_cell u from.0 from.1 (Some 0) → IsCostSearch kind costs from u' costs heap
     unfolding t
     IsCostSearch-begun u' e = subst (λ y. IsCostSearch kind costs from y costs heap) (sym e) begun_at
+
+-- the position x is settled
+module _ {A : Type 0} {kind : Steps} {costs : GridValue (Option ℕ)} {from : ℕ × ℕ} {f f' : Frontier A} (s : IsSearching kind costs from f) {x : Settled} (n : IsNext f f' x) where
+  found : IsCostSearch kind costs.rows from f.sums.rows f.left.rows n.heap
+  found = n.enough kind costs.rows from s.search
+
+  pub IsNext-number : Holds f.sums.rows x.at x.sum
+  IsNext-number =
+      its_number kind costs.rows from f.sums.rows f.left.rows n.heap found (entry x) (heap_items f'.heap) n.taken n.first x.cost n.is_left
+
+  pub IsNext-comes : Holds costs.rows x.at x.cost × Comes kind costs.rows from f.sums.rows f.left.rows x.at x.sum
+  IsNext-comes = (found.among x.at x.cost n.is_left, found.comes x.at x.sum IsNext-number)
+
+  pub IsNext-least : IsLeastCost kind costs.rows from x.at x.sum
+  IsNext-least =
+      IsLeastCost-first kind costs.rows from f.sums.rows f.left.rows n.heap found (entry x) (heap_items f'.heap) n.taken n.first x.cost n.is_left
+
+  pub IsNext-ready : IsReady f' x
+  IsNext-ready =
+      let i = left_inside f.left.rows f.left.table x.at x.cost n.is_left in
+      let lr = i.0 in
+      let lc = i.1 in
+      let rows = n.size.rows in
+      let cols = n.size.cols in
+      let lr1 : x.at.0 < row_count f'.left.rows = omega arith in
+      let lc1 : x.at.1 < col_count f'.left.rows = omega arith in
+      let bound = found.bound x.at x.sum IsNext-number in
+      let cells = few_left costs.rows f.left.rows f.left.table s.left in
+      let few = costs.fits.cells in
+      record { inside = (lr1, lc1); small = omega arith; whole = n.whole }
+
+  -- and the positions round it are entered
+  module _ {g : Frontier A} (e : Enters (IsStep kind x.at) x.sum f' g) where
+    left_is : g.left.rows ≡ with_cell f.left.rows x.at.0 x.at.1 None
+    left_is = ap (λ l. l.rows) e.left ∙ n.left
+
+    relaxes : Relaxes (IsStep kind x.at) (with_cell f.left.rows x.at.0 x.at.1 None) x.sum f.sums.rows (heap_items f'.heap) g.sums.rows (heap_items g.heap)
+    relaxes =
+        subst (λ l. Relaxes (IsStep kind x.at) l x.sum f.sums.rows (heap_items f'.heap) g.sums.rows (heap_items g.heap)) n.left
+        (subst (λ u. Relaxes (IsStep kind x.at) f'.left.rows x.sum u.rows (heap_items f'.heap) g.sums.rows (heap_items g.heap)) n.sums e.relaxes)
+
+    round : IsCostSearch kind costs.rows from g.sums.rows (with_cell f.left.rows x.at.0 x.at.1 None) (heap_items g.heap)
+    round =
+        IsCostSearch-round kind costs.rows from f.sums.rows f.left.rows n.heap found (entry x) (heap_items f'.heap) n.taken n.first x.cost n.is_left f.left.table g.sums.rows (heap_items g.heap) relaxes
+
+    pub IsSearching-next : IsSearching kind costs from g
+    IsSearching-next =
+        record {
+          order = e.order ∙ (ap (λ u. u.order) n.sums ∙ s.order);
+          left = record {
+            rows = ap (λ l. row_count l.rows) e.left ∙ (n.size.rows ∙ s.left.rows);
+            cols = ap (λ l. col_count l.rows) e.left ∙ (n.size.cols ∙ s.left.cols);
+          };
+          whole = e.whole;
+          search = subst (λ l. IsCostSearch kind costs.rows from g.sums.rows l (heap_items g.heap)) (sym left_is) round;
+        }
+
+    pub IsSearching-smaller : row_count costs.rows * col_count costs.rows - unreached g.left.rows < row_count costs.rows * col_count costs.rows - unreached f.left.rows
+    IsSearching-smaller =
+        let more = unreached-closed f.left.rows f.left.table x.at x.cost n.is_left in
+        let is = ap unreached left_is in
+        let few = few_left costs.rows g.left.rows g.left.table IsSearching-next.left in
+        omega arith
+
+    -- a settled number was settled before, or is that of x
+    pub settled_before : (a : ℕ × ℕ) (m : ℕ) → Holds g.sums.rows a m → IsClosed g.left.rows a → ((a ≡ x.at) × (m ≡ x.sum)) ⊎ (Holds f.sums.rows a m × IsClosed f.left.rows a)
+    settled_before a m h c =
+        settled_was kind costs.rows from f.sums.rows f.left.rows n.heap found (entry x) (heap_items f'.heap) n.taken n.first x.cost n.is_left f.left.table g.sums.rows (heap_items g.heap) relaxes a m h
+        (subst (λ l. IsClosed l a) left_is c)
+
+    -- what is left was left, and x is not
+    pub settled_fewer : (a : ℕ × ℕ) (k : ℕ) → Holds g.left.rows a k → Holds f.left.rows a k
+    settled_fewer a k h = closed_fewer f.left.rows f.left.table x.at x.cost n.is_left a k (subst (λ l. Holds l a k) left_is h)
+
+    pub settled_there : IsClosed g.left.rows x.at
+    settled_there = subst (λ l. IsClosed l x.at) (sym left_is) (closed_there f.left.rows f.left.table x.at x.cost n.is_left)
+
+-- at the end
+module _ {A : Type 0} {kind : Steps} {costs : GridValue (Option ℕ)} {from : ℕ × ℕ} {f f' : Frontier A} (s : IsSearching kind costs from f) (over : IsOver f f') where
+  pub IsOver-least : HasLeastCosts kind costs.rows from f'.sums.rows
+  IsOver-least =
+      subst (λ u. HasLeastCosts kind costs.rows from u.rows) (sym over.sums)
+      (HasLeastCosts-end kind costs.rows from f.sums.rows f.left.rows (over.enough kind costs.rows from s.search))
+
+  pub IsOver-no_way : (b : ℕ × ℕ) → ((m : ℕ) → Holds f.sums.rows b m → IsClosed f.left.rows b → ⊥) → (n sum : ℕ) → CostWalk kind costs.rows from b n sum → ⊥
+  IsOver-no_way = no_way kind costs.rows from f.sums.rows f.left.rows (over.enough kind costs.rows from s.search)

@@ -1,6 +1,6 @@
 -- One position entered, and the positions round one.
-use Rattle.std.proofs.Common.{◌≡◌, ℕ, ◌+◌, ◌^◌, ◌<◌, ◌≤◌, ◌⊎◌, ◌↔◌, Bool, true, false, IsTrue, is_some, Option, None, Some, List, ◌∷◌, length, Contains, refl, sym, ◌∙◌, subst, arith, inl, inr, ⊎_elim, IsPermutation}
-use Rattle.grid_base.proofs.Common.{cases_lt, length_permutation, row_count, col_count, cell, with_cell, IsTable, InRange}
+use Rattle.std.proofs.Common.{◌≡◌, ℕ, ◌+◌, ◌^◌, ◌<◌, ◌≤◌, ◌⊎◌, ◌↔◌, Option, None, Some, List, ◌∷◌, length, Contains, refl, sym, ◌∙◌, subst, arith, inl, inr, ⊎_elim, IsPermutation, heap_items}
+use Rattle.grid_base.proofs.Common.{cases_lt, row_count, col_count, cell, with_cell, IsTable, InRange}
 use Rattle.grid_base.proofs.WriteLemmas.{cell-with_same, cell-with_other, same_or_other}
 use Rattle.grid_near.specs.declared.steps.Steps.{Steps}
 use Rattle.grid_paths.specs.Around.{AreSteps}
@@ -10,6 +10,8 @@ use Rattle.grid_paths.proofs.AroundLemmas.{Before, before_more, before_last, bef
 use Rattle.grid_paths.proofs.SearchLemmas.{one_mark}
 use Rattle.grid_paths.specs.Cheapest.{Holds}
 use Rattle.grid_paths.specs.Relaxing.{Entry, IsWaiting, HoldsUpTo, IsClosed, IsEntered, Relaxes}
+use Rattle.grid_paths.specs.declared.costs.Frontier.{Frontier}
+use Rattle.grid_paths.specs.Frontier.{IsFrontier, Enters}
 use Rattle.grid_base.proofs.TableLemmas.{cell_in_range}
 use Rattle.grid_paths.proofs.HeapLemmas as heaps
 
@@ -26,14 +28,6 @@ same_size t u table rows cols a k h =
     let lc1 : a.1 < col_count u = omega arith in
     (lr1, lc1)
 
--- a position is left exactly if it has a cost
-pub left_if : (t : List (List (Option ℕ))) (a : ℕ × ℕ) (o : Option ℕ) (b : Bool) → b ≡ is_some o → ((k : ℕ) → (o ≡ Some k) ↔ Holds t a k) → IsTrue b ↔ ((k : ℕ) × Holds t a k)
-left_if t a None b e h = (
-  λ is. absurd (let clash : false ≡ true = sym e ∙ is in cc),
-  λ v. absurd (let clash : ◌≡◌ {A = Option ℕ} None (Some v.0) = (h v.0).1 v.1 in cc),
-)
-left_if t a (Some k) b e h = (λ is. (k, (h k).0 refl), λ v. e)
-
 -- no less than the number there
 pub not_less : (u : List (List (Option ℕ))) (a : ℕ × ℕ) (n : ℕ) → (((m : ℕ) → Holds u a m → n < m) → ⊥) → HoldsUpTo u a n
 not_less u a n contra = of (cell u a.0 a.1) refl
@@ -45,105 +39,74 @@ not_less u a n contra = of (cell u a.0 a.1) refl
     of (Some (Some k)) e =
         ⊎_elim (λ lt. absurd (contra (λ m h. let is : m ≡ k = one_mark u a m k h e in omega arith))) (λ le. (k, e, le)) (cases_lt n k)
 
--- the position b
-module _ (left u : List (List (Option ℕ))) (b : ℕ × ℕ) (sum : ℕ) (heap : List Entry) where
-  -- it isn't left
-  pub Relaxes-closed : IsClosed left b → Relaxes (λ a. b ≡ a) left sum u heap u heap 1
-  Relaxes-closed none =
+-- a lower number is written at the position b
+module _ (left u : List (List (Option ℕ))) (b : ℕ × ℕ) (sum : ℕ) (heap : List Entry) (k : ℕ) (cost : Holds left b k) (table : IsTable u) (small : k < 2 ^ 32) (inside : InRange u b.0 b.1) (less : (m : ℕ) → Holds u b m → sum + k < m) (x : Entry) (heap' : List Entry) (is_sum : x.0.0 ≡ sum + k) (is_at : x.0.1 ≡ b)
+    (p : IsPermutation (x ∷ heap) heap') where
+  t : List (List (Option ℕ))
+  t = with_cell u b.0 b.1 (Some (sum + k))
+
+  there : Holds t b (sum + k)
+  unfolding t
+  there = cell-with_same u table b.0 b.1 (Some (sum + k)) inside.0 inside.1
+
+  there_for : (a : ℕ × ℕ) → a ≡ b → Holds t a (sum + k)
+  there_for a e = subst (λ x. Holds t x (sum + k)) (sym e) there
+
+  lower : (a : ℕ × ℕ) (m : ℕ) → Holds u a m → HoldsUpTo t a m
+  unfolding t
+  lower a m h =
+      ⊎_elim (λ e. let lt = less m (subst (λ x. Holds u x m) e h) in (sum + k, there_for a e, omega arith))
+      (λ other. (m, cell-with_other u b.0 b.1 (Some (sum + k)) a.0 a.1 other ∙ h, omega arith))
+      (same_or_other a b)
+
+  waits : IsWaiting heap' (sum + k) b
+  waits =
+      subst (λ s. IsWaiting heap' s b) is_sum (subst (λ a. IsWaiting heap' x.0.0 a) is_at (heaps.here x heap heap' p))
+
+  fresh : (a : ℕ × ℕ) (m : ℕ) → Holds t a m → Holds u a m ⊎ IsEntered (λ a. b ≡ a) left sum heap' a m
+  unfolding t
+  fresh a m h =
+      ⊎_elim (λ e.
+      let is : m ≡ sum + k = one_mark t a m (sum + k) h (there_for a e) in
+      inr (record {
+        is_near = sym e;
+        cost = k;
+        is_left = subst (λ x. Holds left x k) (sym e) cost;
+        is = is;
+        few = small;
+        waits = subst (λ s. IsWaiting heap' s a) (sym is) (subst (λ y. IsWaiting heap' (sum + k) y) (sym e) waits);
+      }))
+      (λ other. inl (sym (cell-with_other u b.0 b.1 (Some (sum + k)) a.0 a.1 other) ∙ h))
+      (same_or_other a b)
+
+  added : (s : ℕ) (a : ℕ × ℕ) → IsWaiting heap' s a → IsWaiting heap s a ⊎ (HoldsUpTo t a s × (sum ≤ s))
+  added s a w =
+      ⊎_elim (λ e.
+      let same : x.0.0 ≡ s = e.0 in
+      let at : a ≡ b = sym e.1 ∙ is_at in
+      inr ((sum + k, there_for a at, omega arith), omega arith))
+      (λ h. inl h)
+      (heaps.added x heap heap' p s a w)
+
+  wrote : Relaxes (λ a. b ≡ a) left sum u heap t heap'
+  wrote =
       record {
-        lower = λ a m h. (m, h, omega arith);
-        fresh = λ a m h. inl h;
-        kept = λ s a w. w;
-        added = λ s a w. inl w;
-        few = omega arith;
-        around = λ a k e h. absurd (none k (subst (λ x. Holds left x k) (sym e) h));
+        lower = lower;
+        fresh = fresh;
+        kept = λ s a w. heaps.kept x heap heap' p s a w;
+        added = added;
+        around = λ a j e h.
+            let is : j ≡ k = one_mark left b j k (subst (λ y. Holds left y j) (sym e) h) cost in
+            (sum + k, there_for a (sym e), omega arith);
       }
 
-  module _ (k : ℕ) (cost : Holds left b k) where
-    -- its number is low enough
-    pub Relaxes-low : HoldsUpTo u b (sum + k) → Relaxes (λ a. b ≡ a) left sum u heap u heap 1
-    Relaxes-low low =
-        record {
-          lower = λ a m h. (m, h, omega arith);
-          fresh = λ a m h. inl h;
-          kept = λ s a w. w;
-          added = λ s a w. inl w;
-          few = omega arith;
-          around = λ a j e h.
-              let is : j ≡ k = one_mark left b j k (subst (λ x. Holds left x j) (sym e) h) cost in
-              let le : low.0 ≤ sum + k = low.2 in
-              (low.0, subst (λ x. Holds u x low.0) e low.1, omega arith);
-        }
-
-    -- a lower number is written
-    module _ (table : IsTable u) (small : k < 2 ^ 32) (inside : InRange u b.0 b.1) (less : (m : ℕ) → Holds u b m → sum + k < m) (x : Entry) (heap' : List Entry) (is_sum : x.0.0 ≡ sum + k) (is_at : x.0.1 ≡ b)
-        (p : IsPermutation (x ∷ heap) heap') where
-      t : List (List (Option ℕ))
-      t = with_cell u b.0 b.1 (Some (sum + k))
-
-      there : Holds t b (sum + k)
-      unfolding t
-      there = cell-with_same u table b.0 b.1 (Some (sum + k)) inside.0 inside.1
-
-      there_for : (a : ℕ × ℕ) → a ≡ b → Holds t a (sum + k)
-      there_for a e = subst (λ x. Holds t x (sum + k)) (sym e) there
-
-      lower : (a : ℕ × ℕ) (m : ℕ) → Holds u a m → HoldsUpTo t a m
-      unfolding t
-      lower a m h =
-          ⊎_elim (λ e. let lt = less m (subst (λ x. Holds u x m) e h) in (sum + k, there_for a e, omega arith))
-          (λ other. (m, cell-with_other u b.0 b.1 (Some (sum + k)) a.0 a.1 other ∙ h, omega arith))
-          (same_or_other a b)
-
-      waits : IsWaiting heap' (sum + k) b
-      waits =
-          subst (λ s. IsWaiting heap' s b) is_sum (subst (λ a. IsWaiting heap' x.0.0 a) is_at (heaps.here x heap heap' p))
-
-      fresh : (a : ℕ × ℕ) (m : ℕ) → Holds t a m → Holds u a m ⊎ IsEntered (λ a. b ≡ a) left sum heap' a m
-      unfolding t
-      fresh a m h =
-          ⊎_elim (λ e.
-          let is : m ≡ sum + k = one_mark t a m (sum + k) h (there_for a e) in
-          inr (record {
-            is_near = sym e;
-            cost = k;
-            is_left = subst (λ x. Holds left x k) (sym e) cost;
-            is = is;
-            few = small;
-            waits = subst (λ s. IsWaiting heap' s a) (sym is) (subst (λ y. IsWaiting heap' (sum + k) y) (sym e) waits);
-          }))
-          (λ other. inl (sym (cell-with_other u b.0 b.1 (Some (sum + k)) a.0 a.1 other) ∙ h))
-          (same_or_other a b)
-
-      added : (s : ℕ) (a : ℕ × ℕ) → IsWaiting heap' s a → IsWaiting heap s a ⊎ (HoldsUpTo t a s × (sum ≤ s))
-      added s a w =
-          ⊎_elim (λ e.
-          let same : x.0.0 ≡ s = e.0 in
-          let at : a ≡ b = sym e.1 ∙ is_at in
-          inr ((sum + k, there_for a at, omega arith), omega arith))
-          (λ h. inl h)
-          (heaps.added x heap heap' p s a w)
-
-      wrote : Relaxes (λ a. b ≡ a) left sum u heap t heap' 1
-      wrote =
-          record {
-            lower = lower;
-            fresh = fresh;
-            kept = λ s a w. heaps.kept x heap heap' p s a w;
-            added = added;
-            few = let same = length_permutation (x ∷ heap) heap' p in omega arith;
-            around = λ a j e h.
-                let is : j ≡ k = one_mark left b j k (subst (λ y. Holds left y j) (sym e) h) cost in
-                (sum + k, there_for a (sym e), omega arith);
-          }
-
-      pub Relaxes-wrote : (u' : List (List (Option ℕ))) → u' ≡ with_cell u b.0 b.1 (Some (sum + k)) → Relaxes (λ a. b ≡ a) left sum u heap u' heap' 1
-      unfolding t
-      Relaxes-wrote u' e = subst (λ y. Relaxes (λ a. b ≡ a) left sum u heap y heap' 1) (sym e) wrote
+  pub Relaxes-wrote : (u' : List (List (Option ℕ))) → u' ≡ with_cell u b.0 b.1 (Some (sum + k)) → Relaxes (λ a. b ≡ a) left sum u heap u' heap'
+  unfolding t
+  Relaxes-wrote u' e = subst (λ y. Relaxes (λ a. b ≡ a) left sum u heap y heap') (sym e) wrote
 
 -- some positions and then others
 module _ (left : List (List (Option ℕ))) (sum : ℕ) (near0 near1 : ℕ × ℕ → Type 0) (u0 : List (List (Option ℕ))) (h0 : List Entry) (u1 : List (List (Option ℕ))) (h1 : List Entry) (u2 : List (List (Option ℕ))) (h2 : List Entry)
-    (m0 m1 : ℕ) (r : Relaxes near0 left sum u0 h0 u1 h1 m0) (s : Relaxes near1 left sum u1 h1 u2 h2 m1) where
+    (r : Relaxes near0 left sum u0 h0 u1 h1) (s : Relaxes near1 left sum u1 h1 u2 h2) where
   either : ℕ × ℕ → Type 0
   either a = near0 a ⊎ near1 a
 
@@ -167,21 +130,20 @@ module _ (left : List (List (Option ℕ))) (sum : ℕ) (near0 near1 : ℕ × ℕ
   both_added n a w =
       ⊎_elim (λ x. ⊎_elim (λ y. inl y) (λ f. inr (lower2 a n f.0, f.1)) (r.added n a x)) (λ f. inr f) (s.added n a w)
 
-  pub Relaxes-join : Relaxes (λ a. near0 a ⊎ near1 a) left sum u0 h0 u2 h2 (m0 + m1)
+  pub Relaxes-join : Relaxes (λ a. near0 a ⊎ near1 a) left sum u0 h0 u2 h2
   Relaxes-join =
       record {
         lower = λ a m h. lower2 a m (r.lower a m h);
         fresh = both_fresh;
         kept = λ n a w. s.kept n a (r.kept n a w);
         added = both_added;
-        few = let few0 = r.few in let few1 = s.few in omega arith;
         around = λ b k is_near h.
             ⊎_elim (λ n. lower2 b (sum + k) (r.around b k n h)) (λ n. s.around b k n h) is_near;
       }
 
 -- the same seen as positions near in another sense, where they are left
-pub Relaxes-as : (left : List (List (Option ℕ))) (sum : ℕ) (near wide : ℕ × ℕ → Type 0) → ((b : ℕ × ℕ) (k : ℕ) → Holds left b k → near b ↔ wide b) → (u : List (List (Option ℕ))) (h : List Entry) (u' : List (List (Option ℕ))) (h' : List Entry) (m n : ℕ) → m ≤ n → Relaxes near left sum u h u' h' m → Relaxes wide left sum u h u' h' n
-Relaxes-as left sum near wide same u h u' h' m n le r =
+Relaxes-as : (left : List (List (Option ℕ))) (sum : ℕ) (near wide : ℕ × ℕ → Type 0) → ((b : ℕ × ℕ) (k : ℕ) → Holds left b k → near b ↔ wide b) → (u : List (List (Option ℕ))) (h : List Entry) (u' : List (List (Option ℕ))) (h' : List Entry) → Relaxes near left sum u h u' h' → Relaxes wide left sum u h u' h'
+Relaxes-as left sum near wide same u h u' h' r =
     record {
       lower = r.lower;
       fresh = λ a j x.
@@ -190,45 +152,77 @@ Relaxes-as left sum near wide same u h u' h' m n le r =
           (r.fresh a j x);
       kept = r.kept;
       added = r.added;
-      few = let few = r.few in omega arith;
       around = λ b k w x. r.around b k ((same b k x).1 w) x;
     }
 
--- the positions of a list, one after another
-module _ (xs : List (ℕ × ℕ)) (left : List (List (Option ℕ))) (sum : ℕ) (u0 : List (List (Option ℕ))) (h0 : List Entry) where
-  pub RelaxesEach-start : Relaxes (Before xs 0) left sum u0 h0 u0 h0 0
-  RelaxesEach-start =
+module _ {A : Type 0} {sum : ℕ} {f : Frontier A} where
+  -- the same of what the code keeps
+  Enters-as : (near wide : ℕ × ℕ → Type 0) → ((b : ℕ × ℕ) (k : ℕ) → Holds f.left.rows b k → near b ↔ wide b) → (g : Frontier A) → Enters near sum f g → Enters wide sum f g
+  Enters-as near wide same g e =
       record {
-        lower = λ a m h. (m, h, omega arith);
-        fresh = λ a m h. inl h;
-        kept = λ s a w. w;
-        added = λ s a w. inl w;
-        few = omega arith;
-        around = λ b k is_near h. absurd (omega (arith, is_near.early));
+        left = e.left;
+        order = e.order;
+        whole = e.whole;
+        relaxes = Relaxes-as f.left.rows sum near wide same f.sums.rows (heap_items f.heap) g.sums.rows (heap_items g.heap) e.relaxes;
       }
 
-  module _ (i : ℕ) (u1 : List (List (Option ℕ))) (h1 : List Entry) (r : Relaxes (Before xs i) left sum u0 h0 u1 h1 i) where
-    pub RelaxesEach-next : (b : ℕ × ℕ) (u2 : List (List (Option ℕ))) (h2 : List Entry) → IsAt xs i b → Relaxes (λ a. b ≡ a) left sum u1 h1 u2 h2 1 → Relaxes (Before xs (i + 1)) left sum u0 h0 u2 h2 (i + 1)
-    RelaxesEach-next b u2 h2 place s =
-        Relaxes-as left sum (λ a. Before xs i a ⊎ (b ≡ a)) (Before xs (i + 1))
-        (λ a k h. (
+  module _ (near : ℕ × ℕ → Type 0) (whole : IsFrontier f) where
+    -- no position is entered
+    pub Enters-none : ((b : ℕ × ℕ) (k : ℕ) → near b → Holds f.left.rows b k → HoldsUpTo f.sums.rows b (sum + k)) → Enters near sum f f
+    Enters-none around =
+        record {
+          left = refl;
+          order = refl;
+          whole = whole;
+          relaxes = record { lower = λ a m h. (m, h, omega arith); fresh = λ a m h. inl h; kept = λ s a w. w; added = λ s a w. inl w; around = around };
+        }
+
+  -- the position b isn't left
+  pub Enters-closed : (b : ℕ × ℕ) → IsFrontier f → IsClosed f.left.rows b → Enters (λ a. b ≡ a) sum f f
+  Enters-closed b whole none =
+      Enters-none (λ a. b ≡ a) whole (λ a k e h. absurd (none k (subst (λ x. Holds f.left.rows x k) (sym e) h)))
+
+  -- its number is low enough
+  pub Enters-low : (b : ℕ × ℕ) (k : ℕ) → IsFrontier f → Holds f.left.rows b k → HoldsUpTo f.sums.rows b (sum + k) → Enters (λ a. b ≡ a) sum f f
+  Enters-low b k whole cost low =
+      Enters-none (λ a. b ≡ a) whole
+      (λ a j e h.
+      let is : k ≡ j = one_mark f.left.rows b k j cost (subst (λ x. Holds f.left.rows x j) (sym e) h) in
+      subst (λ n. HoldsUpTo f.sums.rows a (sum + n)) is (subst (λ x. HoldsUpTo f.sums.rows x (sum + k)) e low))
+
+  -- the positions of a list, one after another
+  pub Enters-start : (xs : List (ℕ × ℕ)) → IsFrontier f → Enters (Before xs 0) sum f f
+  Enters-start xs whole = Enters-none (Before xs 0) whole (λ b k is_near h. absurd (omega (arith, is_near.early)))
+
+  module _ {xs : List (ℕ × ℕ)} {i : ℕ} {g : Frontier A} (e : Enters (Before xs i) sum f g) where
+    pub Enters-next : {b : ℕ × ℕ} {h : Frontier A} → IsAt xs i b → Enters (λ a. b ≡ a) sum g h → Enters (Before xs (i + 1)) sum f h
+    Enters-next {b = b} {h = h} place s =
+        Enters-as (λ a. Before xs i a ⊎ (b ≡ a)) (Before xs (i + 1))
+        (λ a k is_left. (
           λ w. ⊎_elim (λ v. before_more xs i a v) (λ e. subst (λ x. Before xs (i + 1) x) e (before_last xs i b place)) w,
           λ w. ⊎_elim (λ v. inl v) (λ e. inr (sym e)) (before_cases xs i b place a w),
         ))
-        u0 h0 u2 h2 (i + 1) (i + 1) (omega arith)
-        (Relaxes-join left sum (Before xs i) (λ a. b ≡ a) u0 h0 u1 h1 u2 h2 i 1 r s)
+        h
+        (record {
+          left = s.left ∙ e.left;
+          order = s.order ∙ e.order;
+          whole = s.whole;
+          relaxes = Relaxes-join f.left.rows sum (Before xs i) (λ a. b ≡ a) f.sums.rows (heap_items f.heap) g.sums.rows (heap_items g.heap) h.sums.rows (heap_items h.heap) e.relaxes
+              (subst (λ l. Relaxes (λ a. b ≡ a) l.rows sum g.sums.rows (heap_items g.heap) h.sums.rows (heap_items h.heap)) e.left s.relaxes);
+        })
 
-    pub RelaxesEach-end : length xs ≡ i → Relaxes (λ b. Contains xs b) left sum u0 h0 u1 h1 (length xs)
-    RelaxesEach-end all =
-        Relaxes-as left sum (Before xs i) (λ b. Contains xs b) (λ b k h. before_all xs i (omega arith) b) u0 h0 u1 h1 i (length xs) (omega arith) r
+    pub Enters-end : length xs ≤ i → Enters (λ b. Contains xs b) sum f g
+    Enters-end all = Enters-as (Before xs i) (λ b. Contains xs b) (λ b k h. before_all xs i all b) g e
 
--- positions in range are such as a grid can have
-pub Relaxes-steps : (kind : Steps) (at : ℕ × ℕ) (xs : List (ℕ × ℕ)) (left : List (List (Option ℕ))) (sum : ℕ) (u : List (List (Option ℕ))) (h : List Entry) (u' : List (List (Option ℕ))) (h' : List Entry) → IsTable left → row_count left < 2 ^ 64 → col_count left < 2 ^ 64 → AreSteps kind at xs → length xs ≤ 8 → Relaxes (λ b. Contains xs b) left sum u h u' h' (length xs) → Relaxes (IsStep kind at) left sum u h u' h' 8
-Relaxes-steps kind at xs left sum u h u' h' table rows cols steps few r =
-    Relaxes-as left sum (λ b. Contains xs b) (IsStep kind at)
-    (λ b k x.
-    let i = left_inside left table b k x in
-    let lr = i.0 in
-    let lc = i.1 in
-    steps b (omega arith) (omega arith))
-    u h u' h' (length xs) 8 few r
+  -- positions in range are such as a grid can have
+  pub Enters-steps : (kind : Steps) (at : ℕ × ℕ) (xs : List (ℕ × ℕ)) → AreSteps kind at xs → (g : Frontier A) → Enters (λ b. Contains xs b) sum f g → Enters (IsStep kind at) sum f g
+  Enters-steps kind at xs steps g e =
+      Enters-as (λ b. Contains xs b) (IsStep kind at)
+      (λ b k x.
+      let i = left_inside f.left.rows f.left.table b k x in
+      let lr = i.0 in
+      let lc = i.1 in
+      let rows = f.left.fits.rows in
+      let cols = f.left.fits.cols in
+      steps b (omega arith) (omega arith))
+      g e

@@ -6,7 +6,7 @@ use Rattle.grid_near.specs.declared.steps.Steps.TheVariants.{Sides, All}
 use Rattle.grid_paths.specs.Walks.{DifferByOne, AreBeside, IsStep}
 use Rattle.grid_paths.proofs.SearchLemmas.{one_mark}
 use Rattle.grid_paths.proofs.StepLemmas.{at_push, at_end, at_push_fresh}
-use Rattle.grid_paths.specs.declared.cheap_path.Settled.{Settled}
+use Rattle.grid_paths.specs.declared.costs.Settled.{Settled}
 use Rattle.grid_paths.specs.Cheapest.{Holds, CostWalk, IsCostPath, cost_at}
 use Rattle.grid_paths.specs.Relaxing.{Entry, IsClosed, Comes, IsCostSearch}
 use Rattle.grid_paths.specs.Trail.{ComesBefore, IsTrail, IsTrailOf}
@@ -174,23 +174,38 @@ module _ (kind : Steps) (from : ℕ × ℕ) (costs : List (List (Option ℕ))) (
           passed = λ i c h. let w = behind i c h in (w.0, w.1, w.2, w.3, inl w.4);
         }
 
+-- what is kept of the trail while the search hasn't settled the goal
+pub record IsKept (kind : Steps) (from : ℕ × ℕ) (costs u left : List (List (Option ℕ))) (goal : ℕ × ℕ) (trail : List Settled) : Type 0 where
+  pub is_trail : IsTrail kind from costs trail
+  pub all : IsTrailOf u left trail
+  pub closed : (j : ℕ) (x : Settled) → slice_get trail j ≡ Some x → IsClosed left x.at
+  pub not_yet : (m : ℕ) → Holds u goal m → IsClosed left goal → ⊥
+
 -- at the start nothing is settled
-module _ (kind : Steps) (from : ℕ × ℕ) (costs : List (List (Option ℕ))) where
-  pub IsTrail-start : IsTrail kind from costs []
-  IsTrail-start = record { cost = λ j x e. absurd (cc); before = λ j x e. absurd (cc); once = λ i j x y e f q. absurd (cc) }
+end_cost : (kind : Steps) (costs : List (List (Option ℕ))) (n sum : ℕ) (a b : ℕ × ℕ) → CostWalk kind costs a b n sum → (k : ℕ) × Holds costs b k
+end_cost kind costs zero sum a b w = w.2
+end_cost kind costs (suc n) sum a b w = (w.2, w.5)
 
-  end_cost : (n sum : ℕ) (a b : ℕ × ℕ) → CostWalk kind costs a b n sum → (k : ℕ) × Holds costs b k
-  end_cost zero sum a b w = w.2
-  end_cost (suc n) sum a b w = (w.2, w.5)
-
-  pub none_settled : (u : List (List (Option ℕ))) (heap : List Entry) → IsCostSearch kind costs from u costs heap → (a : ℕ × ℕ) (m : ℕ) → Holds u a m → IsClosed costs a → ⊥
-  none_settled u heap s a m h closed =
-      let w = s.sound a m h in
-      let k = end_cost w.0 m from a w.1 in
-      closed k.0 k.1
+pub IsKept-start : (kind : Steps) (from : ℕ × ℕ) (costs u : List (List (Option ℕ))) (heap : List Entry) (goal : ℕ × ℕ) → IsCostSearch kind costs from u costs heap → IsKept kind from costs u costs goal []
+IsKept-start kind from costs u heap goal s =
+    record {
+      is_trail = record { cost = λ j x e. absurd (cc); before = λ j x e. absurd (cc); once = λ i j x y e f q. absurd (cc) };
+      all = λ a m h closed. absurd (nothing a m h closed);
+      closed = λ j x e. absurd (cc);
+      not_yet = λ m h closed. nothing goal m h closed;
+    }
+  where
+    nothing : (a : ℕ × ℕ) (m : ℕ) → Holds u a m → IsClosed costs a → ⊥
+    nothing a m h closed = let w = s.sound a m h in let k = end_cost kind costs w.0 m from a w.1 in closed k.0 k.1
 
 -- the position x, which isn't there, comes to the trail
-module _ (kind : Steps) (from : ℕ × ℕ) (costs u left : List (List (Option ℕ))) (trail : List Settled) (is_trail : IsTrail kind from costs trail) (all : IsTrailOf u left trail) (x : Settled) (cost : Holds costs x.at x.cost) (comes : Comes kind costs from u left x.at x.sum) (fresh : (j : ℕ) (y : Settled) → slice_get trail j ≡ Some y → y.at ≡ x.at → ⊥) where
+module _ (kind : Steps) (from : ℕ × ℕ) (costs u left : List (List (Option ℕ))) (goal : ℕ × ℕ) (trail : List Settled) (kept : IsKept kind from costs u left goal trail) (x : Settled) (k : ℕ) (is_left : Holds left x.at k) (cost : Holds costs x.at x.cost) (comes : Comes kind costs from u left x.at x.sum) where
+  is_trail : IsTrail kind from costs trail
+  is_trail = kept.is_trail
+
+  fresh : (j : ℕ) (y : Settled) → slice_get trail j ≡ Some y → y.at ≡ x.at → ⊥
+  fresh j y e q = kept.closed j y e k (subst (λ a. Holds left a k) (sym q) is_left)
+
   pub IsTrail-push : IsTrail kind from costs (trail ++ x ∷ [])
   IsTrail-push =
       record {
@@ -210,44 +225,22 @@ module _ (kind : Steps) (from : ℕ × ℕ) (costs u left : List (List (Option �
       here =
           ⊎_elim (λ w. inl w)
           (λ w.
-          let v = all w.0 w.1 w.3 w.4 in
+          let v = kept.all w.0 w.1 w.3 w.4 in
           let k : w.2 ≡ x.cost = one_mark costs x.at w.2 x.cost w.6 cost in
           let sum : v.1.sum ≡ w.1 = v.4 in
           let is : x.sum ≡ w.1 + w.2 = w.7 in
           inr (v.0, v.1, slice_get_within trail v.0 v.1 v.2, at_push trail x v.0 v.1 v.2, subst (λ a. IsStep kind a x.at) (sym v.3) w.5, omega arith))
           comes
 
--- what is kept of the trail while the search hasn't settled the goal
-pub record IsKept (kind : Steps) (from : ℕ × ℕ) (costs u left : List (List (Option ℕ))) (goal : ℕ × ℕ) (trail : List Settled) : Type 0 where
-  pub is_trail : IsTrail kind from costs trail
-  pub all : IsTrailOf u left trail
-  pub closed : (j : ℕ) (x : Settled) → slice_get trail j ≡ Some x → IsClosed left x.at
-  pub not_yet : (m : ℕ) → Holds u goal m → IsClosed left goal → ⊥
-
--- what is on the trail isn't left
-pub unlike : (left : List (List (Option ℕ))) (trail : List Settled) (p : ℕ × ℕ) (k : ℕ) → ((j : ℕ) (x : Settled) → slice_get trail j ≡ Some x → IsClosed left x.at) → Holds left p k → (j : ℕ) (y : Settled) → slice_get trail j ≡ Some y → y.at ≡ p → ⊥
-unlike left trail p k closed is_left j y e q = closed j y e k (subst (λ a. Holds left a k) (sym q) is_left)
-
--- a step of the search: what is settled was settled before, or is the position p with the number n; what is left was left
-module _ (kind : Steps) (from : ℕ × ℕ) (costs u left u' left' : List (List (Option ℕ))) (p : ℕ × ℕ) (n : ℕ) (before : (a : ℕ × ℕ) (m : ℕ) → Holds u' a m → IsClosed left' a → (((k : ℕ) × Holds left p k) × (a ≡ p) × (m ≡ n)) ⊎ (Holds u a m × IsClosed left a)) (fewer : (a : ℕ × ℕ) (k : ℕ) → Holds left' a k → Holds left a k) (goal : ℕ × ℕ) (trail : List Settled) (kept : IsKept kind from costs u left goal trail) where
-  pub IsKept-stale : IsClosed left p → IsKept kind from costs u' left' goal trail
-  IsKept-stale closed =
-      record {
-        is_trail = kept.is_trail;
-        all = λ a m h c. ⊎_elim (λ e. absurd (closed e.0.0 e.0.1)) (λ w. kept.all a m w.0 w.1) (before a m h c);
-        closed = λ j x e k h. kept.closed j x e k (fewer x.at k h);
-        not_yet = λ m h c. ⊎_elim (λ e. closed e.0.0 e.0.1) (λ w. kept.not_yet m w.0 w.1) (before goal m h c);
-      }
-
-  pub IsKept-push : (k : ℕ) → Holds costs p k → Holds left p k → IsClosed left' p → Comes kind costs from u left p n → (goal ≡ p → ⊥) → IsKept kind from costs u' left' goal (trail ++ record { at = p; cost = k; sum = n } ∷ [])
-  IsKept-push k cost is_left gone comes other =
-      let x : Settled = record { at = p; cost = k; sum = n } in
-      record {
-        is_trail = IsTrail-push kind from costs u left trail kept.is_trail kept.all x cost comes (unlike left trail p k kept.closed is_left);
-        all = λ a m h c.
-            ⊎_elim (λ e. (length trail, x, at_end trail x, sym e.1, sym e.2))
-            (λ w. let v = kept.all a m w.0 w.1 in (v.0, v.1, at_push trail x v.0 v.1 v.2, v.3, v.4))
-            (before a m h c);
-        closed = λ j y e. ⊎_elim (λ v. subst (λ z. IsClosed left' z.at) (sym v.1) gone) (λ e0. λ i h. kept.closed j y e0 i (fewer y.at i h)) (at_push_fresh trail x j y e);
-        not_yet = λ m h c. ⊎_elim (λ e. other e.1) (λ w. kept.not_yet m w.0 w.1) (before goal m h c);
-      }
+-- a step of the search: what is settled was settled before, or is x; what is left was left
+pub IsKept-push : (kind : Steps) (from : ℕ × ℕ) (costs u left u' left' : List (List (Option ℕ))) (x : Settled) → ((a : ℕ × ℕ) (m : ℕ) → Holds u' a m → IsClosed left' a → ((a ≡ x.at) × (m ≡ x.sum)) ⊎ (Holds u a m × IsClosed left a)) → ((a : ℕ × ℕ) (k : ℕ) → Holds left' a k → Holds left a k) → (goal : ℕ × ℕ) (trail : List Settled) → IsKept kind from costs u left goal trail → IsTrail kind from costs (trail ++ x ∷ []) → IsClosed left' x.at → (goal ≡ x.at → ⊥) → IsKept kind from costs u' left' goal (trail ++ x ∷ [])
+IsKept-push kind from costs u left u' left' x before fewer goal trail kept is_trail gone other =
+    record {
+      is_trail = is_trail;
+      all = λ a m h c.
+          ⊎_elim (λ e. (length trail, x, at_end trail x, sym e.0, sym e.1))
+          (λ w. let v = kept.all a m w.0 w.1 in (v.0, v.1, at_push trail x v.0 v.1 v.2, v.3, v.4))
+          (before a m h c);
+      closed = λ j y e. ⊎_elim (λ v. subst (λ z. IsClosed left' z.at) (sym v.1) gone) (λ e0. λ i h. kept.closed j y e0 i (fewer y.at i h)) (at_push_fresh trail x j y e);
+      not_yet = λ m h c. ⊎_elim (λ e. other e.0) (λ w. kept.not_yet m w.0 w.1) (before goal m h c);
+    }

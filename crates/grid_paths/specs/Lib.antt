@@ -8,4 +8,5 @@ pub mod Taken
 pub mod Around
 pub mod Cheapest
 pub mod Relaxing
+pub mod Frontier
 pub mod Trail

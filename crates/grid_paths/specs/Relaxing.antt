@@ -1,9 +1,8 @@
 -- What one step of the search for the least costs does. No public clause cites this module.
-use Rattle.std.specs.Prelude.{◌≡◌, ℕ, ◌+◌, ◌*◌, ◌^◌, ◌<◌, ◌≤◌, ◌⊎◌, Option, None, List, length, Contains}
+use Rattle.std.specs.Prelude.{◌≡◌, ℕ, ◌+◌, ◌*◌, ◌^◌, ◌<◌, ◌≤◌, ◌⊎◌, Option, List, Contains}
 use Rattle.std.specs.declared.cmp.Ordering.{Ordering}
 use Rattle.std.specs.declared.cmp.Reverse.{Reverse}
 use Rattle.std.specs.Ordering.{nat_cmp, ordering_then}
-use Rattle.grid_base.specs.Table.{with_cell}
 use Rattle.grid_near.specs.declared.steps.Steps.{Steps}
 use Rattle.grid_paths.specs.Search.{unreached}
 use Rattle.grid_paths.specs.Walks.{IsStep}
@@ -42,28 +41,16 @@ pub record IsEntered (near : ℕ × ℕ → Type 0) (left : List (List (Option �
   pub few : cost < 2 ^ 32
   pub waits : IsWaiting heap m a
 
--- the near positions that are left have a number no greater than the sum and their cost, and at
--- most `most` items were added
+-- the near positions that are left have a number no greater than the sum and their cost
 pub record Relaxes (near : ℕ × ℕ → Type 0) (left : List (List (Option ℕ))) (sum : ℕ)
     (u : List (List (Option ℕ)))
-    (heap : List Entry) (u' : List (List (Option ℕ))) (heap' : List Entry) (most : ℕ) : Type 0 where
+    (heap : List Entry) (u' : List (List (Option ℕ))) (heap' : List Entry) : Type 0 where
   pub lower : (a : ℕ × ℕ) (m : ℕ) → Holds u a m → HoldsUpTo u' a m
   pub fresh : (a : ℕ × ℕ) (m : ℕ) → Holds u' a m → Holds u a m ⊎ IsEntered near left sum heap' a m
   pub kept : (s : ℕ) (a : ℕ × ℕ) → IsWaiting heap s a → IsWaiting heap' s a
   pub added : (s : ℕ) (a : ℕ × ℕ) → IsWaiting heap' s a
       → IsWaiting heap s a ⊎ (HoldsUpTo u' a s × (sum ≤ s))
-  pub few : length heap' ≤ length heap + most
   pub around : (b : ℕ × ℕ) (k : ℕ) → near b → Holds left b k → HoldsUpTo u' b (sum + k)
-
--- a position that is left is closed, and those that a step from it leads to are entered; at another
--- nothing changes
-abbrev pub Settles : Steps → ℕ × ℕ → ℕ → List (List (Option ℕ)) → List (List (Option ℕ))
-    → List Entry
-    → List (List (Option ℕ)) → List (List (Option ℕ)) → List Entry → Type 0
-Settles kind at sum left u heap left' u' heap' =
-    (IsClosed left at × (left' ≡ left) × (u' ≡ u) × (heap' ≡ heap))
-    ⊎ ((k : ℕ) × Holds left at k × (left' ≡ with_cell left at.0 at.1 None)
-    × Relaxes (IsStep kind at) (with_cell left at.0 at.1 None) sum u heap u' heap' 8)
 
 -- the first position, or one whose number comes from that of a settled one
 abbrev pub Comes : Steps → List (List (Option ℕ)) → ℕ × ℕ → List (List (Option ℕ))

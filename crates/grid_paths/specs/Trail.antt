@@ -2,7 +2,7 @@
 use Rattle.std.specs.Prelude.{◌≡◌, ℕ, ◌+◌, ◌<◌, ◌⊎◌, Option, Some, List, slice_get}
 use Rattle.grid_near.specs.declared.steps.Steps.{Steps}
 use Rattle.grid_paths.specs.Walks.{IsStep}
-use Rattle.grid_paths.specs.declared.cheap_path.Settled.{Settled}
+use Rattle.grid_paths.specs.declared.costs.Settled.{Settled}
 use Rattle.grid_paths.specs.Cheapest.{Holds}
 use Rattle.grid_paths.specs.Relaxing.{IsClosed}
 

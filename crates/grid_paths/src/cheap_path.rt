@@ -6,19 +6,10 @@ ghost use Rattle.grid_paths.specs.Cheapest.{CostWalk, IsCheapestPath, IsCostPath
 ghost use Rattle.grid_paths.specs.Trail.{IsTrail};
 
 use super::answers::answers_of;
-use super::costs::{begun, cost_of, settle};
+use super::costs::{Settled, begun};
 use grid::Grid;
 use grid_near::Steps;
 use std::alloc::{AllocError, Allocator};
-use std::cmp::Reverse;
-
-// A position whose number is settled, what it costs to enter it, and its number.
-#[derive(Clone, Copy)]
-pub(crate) struct Settled {
-    at: (usize, usize),
-    cost: u32,
-    sum: u128,
-}
 
 // Whether a step leads from one position to another.
 fn is_step(kind: Steps, from: (usize, usize), to: (usize, usize)) -> bool
@@ -80,18 +71,13 @@ fn path_over<A: Allocator + Clone>(
         (λ path. IsCheapestPath kind costs.rows from to path.0.items path.1)) }
 {
     let mut trail: Vec<Settled, A> = Vec::new(costs.allocator().clone()?);
-    let (mut sums, mut heap) = begun(&costs, from)?;
-    let mut left = costs;
-    while let Some(next) = heap.pop() {
-        let Reverse((sum, at)) = next;
-        if let Some(cost) = cost_of(&left, at) {
-            let here = Settled { at, cost, sum };
-            trail.push(here)?;
-            if at == to {
-                return Ok(Some((follow(kind, &trail, here)?, sum)));
-            }
+    let mut search = begun(costs, from)?;
+    while let Some(here) = search.next() {
+        trail.push(here)?;
+        if here.at == to {
+            return Ok(Some((follow(kind, &trail, here)?, here.sum)));
         }
-        settle(kind, next.0, &mut left, &mut sums, &mut heap)?;
+        search.relax_around(kind, here)?;
     }
     Ok(None)
 }

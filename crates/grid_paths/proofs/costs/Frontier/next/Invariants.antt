@@ -1,0 +1,17 @@
+use Rattle.std.proofs.Common.{◌≡◌, length, heap_items}
+use Rattle.grid_base.proofs.Common.{IsHeap}
+use Rattle.grid_paths.specs.Relaxing.{by_sum}
+use Rattle.grid_paths.specs.Frontier.{IsEnough}
+use Rattle.grid_paths.proofs.costs.Frontier.next.Given as goal
+
+abbrev pub invariant-loop-first : goal.invariant-loop-first
+invariant-loop-first g l =
+    record {
+      left : l.self.left ≡ l.fn.self.left;
+      sums : l.self.sums ≡ l.fn.self.sums;
+      heap_order : IsHeap by_sum (heap_items l.self.heap);
+      enough : IsEnough l.fn.self (heap_items l.self.heap);
+    }
+
+abbrev pub decreases-loop-first : goal.decreases-loop-first
+decreases-loop-first g l = length (heap_items l.self.heap)

@@ -1,0 +1,6 @@
+use Rattle.grid_paths.specs.Frontier.{Enters}
+use Rattle.grid_paths.proofs.AroundLemmas.{Before}
+use Rattle.grid_paths.proofs.costs.Frontier.relax_each.Given as goal
+
+abbrev pub invariant-loop-near : goal.invariant-loop-near
+invariant-loop-near g l = Enters (Before l.at l.near-index) l.sum l.fn.self l.self
