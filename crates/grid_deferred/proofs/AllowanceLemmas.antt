@@ -1,9 +1,9 @@
 -- No command shifts more cells than there are.
 use Rattle.std.proofs.Common.{◌≡◌, ℕ, ◌+◌, ◌-◌, ◌*◌, ◌≤◌, Bool, true, false, List, [], ◌∷◌, if◌then◌else◌, nat_lt, nat_eq, refl, ◌∙◌, ap, arith, mul_comm, mul-le-mul_left, mul-le-mul_right, is_none}
 use Rattle.grid_base.proofs.Common.{row_count, col_count, image_rows, image_cols}
-use Rattle.grid.specs.Prelude.{Edit, read, push, insert_at, insert_all, pop, remove_at, delete_at, delete_range, expand, prepend, CommandValue, size, get, set_cell, swap_cells, lines, fill, clear, apply, line_count, line_width, pad_refusal, step_rows, rows_added_shift, rows_taken_shift, delete_rows_shift, axis_order, edit_shift}
+use Rattle.grid.specs.Prelude.{Edit, pop, delete_at, delete_range, expand, prepend, CommandValue, size, lines, line_count, line_width, pad_refusal, step_rows, rows_added_shift, rows_taken_shift, delete_rows_shift, axis_order, edit_shift}
 use Rattle.grid_base.specs.declared.words.Symmetry.{Symmetry}
-use Rattle.grid_base.specs.declared.words.Symmetry.TheVariants.{Identity, FlipCols, FlipRows, RotateHalf, Transpose, RotateLeft, RotateRight, AntiTranspose}
+use Rattle.grid_base.specs.declared.words.Symmetry.TheVariants.{Identity, Transpose, RotateLeft, RotateRight, AntiTranspose}
 use Rattle.grid_base.specs.declared.order.Order.{Order}
 use Rattle.grid_base.specs.declared.order.Order.TheVariants.{RowMajor, ColumnMajor}
 use Rattle.grid_commands.specs.declared.command.Axis.{Axis}
@@ -40,14 +40,12 @@ line_cells Col m n = mul_comm n m
 
 -- an image has as many cells
 pub image_cells : (s : Symmetry) (m n : ℕ) → image_rows s m n * image_cols s m n ≡ m * n
-image_cells Identity m n = refl
-image_cells FlipCols m n = refl
-image_cells FlipRows m n = refl
-image_cells RotateHalf m n = refl
 image_cells Transpose m n = mul_comm n m
 image_cells RotateLeft m n = mul_comm n m
 image_cells RotateRight m n = mul_comm n m
 image_cells AntiTranspose m n = mul_comm n m
+image_cells Identity m n = refl
+image_cells s m n = refl
 
 module _ {T : Type 0} where
   edit_within : (o : Order) (count width : ℕ) (e : Edit T) → edit_shift o count width e ≤ edit_allowance e (count * width)
@@ -55,25 +53,13 @@ module _ {T : Type 0} where
   edit_within o count width (prepend k) = if_some (is_none (pad_refusal count width k)) _ _ (if_none (nat_eq count 0) _ _ (added_within o count width 0 k))
   edit_within o count width (delete_at i) = deleted_within o count width i 1
   edit_within o count width (delete_range i k) = deleted_within o count width i k
-  edit_within o count width (read i) = omega arith
-  edit_within o count width (push line) = omega arith
-  edit_within o count width (insert_at i line) = omega arith
-  edit_within o count width (insert_all i ls) = omega arith
   edit_within o count width pop = omega arith
-  edit_within o count width (remove_at i) = omega arith
+  edit_within o count width e = omega arith
 
   allowance-mirrored : (b : Bool) (count : ℕ) (e : Edit T) (cells : ℕ) → edit_allowance (mirrored_if b count e) cells ≡ edit_allowance e cells
   allowance-mirrored false count e cells = refl
-  allowance-mirrored true count (expand k) cells = refl
-  allowance-mirrored true count (prepend k) cells = refl
-  allowance-mirrored true count (delete_at i) cells = refl
-  allowance-mirrored true count (delete_range i k) cells = refl
-  allowance-mirrored true count (read i) cells = refl
-  allowance-mirrored true count (push line) cells = refl
-  allowance-mirrored true count (insert_at i line) cells = refl
-  allowance-mirrored true count (insert_all i ls) cells = refl
   allowance-mirrored true count pop cells = refl
-  allowance-mirrored true count (remove_at i) cells = refl
+  allowance-mirrored true count e cells = refl
 
   lines_within : (s : Symmetry) (a : Axis) (e : Edit T) (o : Order) (m n : ℕ) → shift_through s (lines a e) o m n ≤ edit_allowance e (m * n)
   lines_within s a e o m n =
@@ -87,12 +73,7 @@ module _ {T : Type 0} where
   step_within : (s : Symmetry) (x : CommandValue T) (o : Order) (m n : ℕ) → shift_through s x o m n ≤ step_allowance x (m * n)
   step_within s (lines a e) o m n = lines_within s a e o m n
   step_within s size o m n = omega arith
-  step_within s (get r c) o m n = omega arith
-  step_within s (set_cell r c v) o m n = omega arith
-  step_within s (swap_cells p q) o m n = omega arith
-  step_within s (fill v) o m n = omega arith
-  step_within s clear o m n = omega arith
-  step_within s (apply u) o m n = omega arith
+  step_within s x o m n = omega arith
 
   shown_within : (s : Symmetry) (x : CommandValue T) (o : Order) (t : List (List T)) → shown_shift s x o t ≤ step_allowance x (row_count t * col_count t)
   shown_within s x o t =

@@ -1,7 +1,7 @@
 -- Commands through words of the flip of the rows and the transpose.
 use Rattle.std.proofs.Common.{◌≡◌, ℕ, Bool, true, false, not, Option, Some, None, List, reverse, refl, sym, ◌∙◌, ap, subst, option_map}
 use Rattle.grid_base.proofs.Common.{beq, reverse-reverse, row_count, col_count, IsTable, act, image_rows, image_cols}
-use Rattle.grid.specs.Prelude.{CommandValue, size, lines, read, push, axis_of, ReplyValue, done, size_is, cell_is, line_is, flag_is, refused, step_rows, step_reply, takes_memory, step_shift}
+use Rattle.grid.specs.Prelude.{CommandValue, size, lines, read, push, axis_of, ReplyValue, done, size_is, line_is, step_rows, step_reply, takes_memory, step_shift}
 use Rattle.grid_base.specs.declared.words.Symmetry.{Symmetry}
 use Rattle.grid_base.specs.declared.words.Symmetry.TheVariants.{Identity, FlipCols, FlipRows, RotateHalf, Transpose, RotateLeft, RotateRight, AntiTranspose}
 use Rattle.grid_base.specs.declared.order.Order.{Order}
@@ -62,9 +62,7 @@ module _ {T : Type 0} where
   turned-product s u a (size_is m n) = let e = size-product s u m n in rw (e.0, e.1) refl
   turned-product s u a (line_is x) = ap line_is (reversed-twice (reverses_cells u a) (reverses_cells s (base_axis u a)) x ∙ ap (λ b. reversed_if b x) (sym (reverses-product s u a)))
   turned-product s u a done = refl
-  turned-product s u a (cell_is x) = refl
-  turned-product s u a (flag_is b) = refl
-  turned-product s u a (refused r) = refl
+  turned-product s u a q = refl
 
   -- one symmetry after another
   pub through_both : (s u : Symmetry) (x mid y : CommandValue T) (t : List (List T)) → IsTable t → ((a : Axis) → IsAxis y a → IsAxis mid (base_axis u a)) → Through s x mid t → Through u mid y (act s t) → Through (product s u) x y t

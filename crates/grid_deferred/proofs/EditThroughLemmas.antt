@@ -1,7 +1,7 @@
 -- Edits of lines through the flip of the rows and the transpose: what they do, reply and take.
 use Rattle.std.proofs.Common.{◌≡◌, ℕ, zero, suc, ◌+◌, ◌-◌, ◌<◌, ◌≤◌, Bool, true, false, not, ◌&&◌, None, List, [], ◌∷◌, length, map, reverse, nat_eq, nat_lt, if◌then◌else◌, refl, sym, ◌∙◌, ap, subst, arith, ⊎_elim, slice_get, is_none, option_map, ltb-false, lt-ltb, le-ltb}
 use Rattle.grid_base.proofs.Common.{list_any, list_all, length-reverse, length-map, slice_get-map, slice_get_past, cases_lt, row_count, col_count, IsTable, act}
-use Rattle.grid.specs.Prelude.{Edit, read, push, insert_at, insert_all, pop, remove_at, delete_at, delete_range, expand, prepend, line_is, flag_is, lines_refusal, edit_refusal, fitting_width, Effect, nothing, inserts, removes, range_effect, effect, after_effect, edit_takes_memory, has_lines, edit_reply, line_at}
+use Rattle.grid.specs.Prelude.{Edit, read, push, insert_at, insert_all, pop, remove_at, delete_at, delete_range, line_is, flag_is, lines_refusal, edit_refusal, fitting_width, Effect, nothing, inserts, removes, range_effect, effect, after_effect, edit_takes_memory, has_lines, edit_reply, line_at}
 use Rattle.grid_base.specs.declared.words.Symmetry.TheVariants.{FlipRows, Transpose}
 use Rattle.grid_base.proofs.PartLemmas.{get-reverse}
 use Rattle.grid_base.proofs.ActLemmas.{rows-act, cols-act, IsTable-act, act_is_transposed}
@@ -91,7 +91,6 @@ module _ {T : Type 0} where
       ltb-false count i (passed (list_any (λ l. nat_eq (length l) 0) ls) (list_all (λ l. nat_eq (length l) w) ls) (nat_lt count i) _ none).past
 
   pub effect-edit_of_flipped : (count width : ℕ) (e : Edit T) → edit_refusal count width e ≡ None → effect count (edit_of_flipped count e) ≡ flipped_effect count (effect count e)
-  effect-edit_of_flipped count width (read i) none = refl
   effect-edit_of_flipped count width (push line) none = ap (λ i. inserts i (line ∷ [])) (omega arith)
   effect-edit_of_flipped count width (insert_at i line) none = ap (λ i. inserts i (line ∷ [])) (gap-within count i (not-past count width i (line ∷ []) none))
   effect-edit_of_flipped count width (insert_all i ls) none = ap (λ i. inserts i (reverse ls)) (gap-within count i (not-past count width i ls none))
@@ -99,8 +98,8 @@ module _ {T : Type 0} where
   effect-edit_of_flipped count width (remove_at i) none = ap (λ x. range_effect count x 1) (one-start count i) ∙ range_effect-flipped count i 1
   effect-edit_of_flipped count width (delete_at i) none = ap (λ x. range_effect count x 1) (one-start count i) ∙ range_effect-flipped count i 1
   effect-edit_of_flipped count width (delete_range i k) none = range_effect-flipped count i k
-  effect-edit_of_flipped count width (expand k) none = refl
-  effect-edit_of_flipped count width (prepend k) none = refl
+  effect-edit_of_flipped count width (read i) none = refl
+  effect-edit_of_flipped count width e none = refl
 
   range_effect-reversed : (count i k : ℕ) → range_effect {T = T} count i k ≡ reversed_effect (range_effect count i k)
   range_effect-reversed count i k = by (nat_lt count (i + k))

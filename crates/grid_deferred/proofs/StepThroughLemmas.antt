@@ -23,12 +23,7 @@ module _ {T : Type 0} where
   abbrev pub IsAxis : CommandValue T → Axis → Type 0
   IsAxis (lines b e) a = a ≡ b
   IsAxis size a = Unit
-  IsAxis (get r c) a = Unit
-  IsAxis (set_cell r c v) a = Unit
-  IsAxis (swap_cells p q) a = Unit
-  IsAxis (fill v) a = Unit
-  IsAxis clear a = Unit
-  IsAxis (apply s) a = Unit
+  IsAxis y a = Unit
 
   pub IsAxis-axis_of : (y : CommandValue T) → IsAxis y (axis_of y)
   IsAxis-axis_of (lines b e) = refl
@@ -117,8 +112,7 @@ module _ {T : Type 0} where
   rows_after-flipped d (fill v) t h none = fill-flip v t h
   rows_after-flipped d clear t h none = sym none-flip
   rows_after-flipped d (apply u) t h none = apply-through FlipRows u t h refl
-  rows_after-flipped d size t h none = refl
-  rows_after-flipped d (get r c) t h none = refl
+  rows_after-flipped d y t h none = refl
 
   rows_after-transposed : (d : T) (y : CommandValue T) (t : List (List T)) → IsTable t → command_refusal y (col_count t) (row_count t) ≡ None → rows_after d y (act Transpose t) ≡ act Transpose (rows_after d (transposed_command y) t)
   rows_after-transposed d (set_cell r c v) t h none =
@@ -133,30 +127,21 @@ module _ {T : Type 0} where
   rows_after-transposed d (fill v) t h none = fill-cross v t h
   rows_after-transposed d clear t h none = sym across-none
   rows_after-transposed d (apply u) t h none = apply-through Transpose u t h refl
-  rows_after-transposed d size t h none = refl
-  rows_after-transposed d (get r c) t h none = refl
+  rows_after-transposed d y t h none = refl
 
   reply_to-flipped : (y : CommandValue T) (t : List (List T)) → IsTable t → (a : Axis) → IsAxis y a → reply_to y (act FlipRows t) ≡ turned_reply FlipRows a (reply_to (flipped_command (row_count t) y) t)
   reply_to-flipped size t h a k = rw (rows-act FlipRows t, cols-act FlipRows t h) refl
   reply_to-flipped (get r c) t h a k = ap cell_is (cell-flip t h r c)
   reply_to-flipped (lines Row e) t h a k = rw (k, rows-act FlipRows t) (reply-rows_flip t h e)
   reply_to-flipped (lines Col e) t h a k = rw (k, cols-act FlipRows t h) (reply-cols_flip t h e)
-  reply_to-flipped (set_cell r c v) t h a k = refl
-  reply_to-flipped (swap_cells p q) t h a k = refl
-  reply_to-flipped (fill v) t h a k = refl
-  reply_to-flipped clear t h a k = refl
-  reply_to-flipped (apply u) t h a k = refl
+  reply_to-flipped y t h a k = refl
 
   reply_to-transposed : (y : CommandValue T) (t : List (List T)) → IsTable t → (a : Axis) → IsAxis y a → reply_to y (act Transpose t) ≡ turned_reply Transpose a (reply_to (transposed_command y) t)
   reply_to-transposed size t h a k = rw (rows-across t h, cols-across t h) refl
   reply_to-transposed (get r c) t h a k = ap cell_is (cell-cross t h r c)
   reply_to-transposed (lines Row e) t h a k = rw (k, rows-across t h) (reply-rows_cross t h e)
   reply_to-transposed (lines Col e) t h a k = rw (k, cols-across t h) (reply-cols_cross t h e)
-  reply_to-transposed (set_cell r c v) t h a k = refl
-  reply_to-transposed (swap_cells p q) t h a k = refl
-  reply_to-transposed (fill v) t h a k = refl
-  reply_to-transposed clear t h a k = refl
-  reply_to-transposed (apply u) t h a k = refl
+  reply_to-transposed y t h a k = refl
 
   memory-transposed : (m n : ℕ) (y : CommandValue T) → IsSize m n → takes_memory y n m ≡ takes_memory (transposed_command y) m n
   memory-transposed m n (get r c) h = in_range-cross m n (r, c)
@@ -191,8 +176,6 @@ module _ {T : Type 0} where
 
   -- a table stays one
   table-rows_after : (d : T) (x : CommandValue T) (t : List (List T)) → IsTable t → command_refusal x (row_count t) (col_count t) ≡ None → IsTable (rows_after d x t)
-  table-rows_after d size t h none = h
-  table-rows_after d (get r c) t h none = h
   table-rows_after d (set_cell r c v) t h none = IsTable-with_cell t h r c v
   table-rows_after d (swap_cells p q) t h none = IsTable-exchanged t h p q
   table-rows_after d (lines Row e) t h none = table-rows_edit d e t h none
@@ -200,6 +183,7 @@ module _ {T : Type 0} where
   table-rows_after d (fill v) t h none = IsTable-filled v t h
   table-rows_after d clear t h none = record { nonempty = λ r lt. absurd (omega arith); even = λ r lt. absurd (omega arith) }
   table-rows_after d (apply u) t h none = IsTable-act u t h
+  table-rows_after d x t h none = h
 
   pub table-step : (d : T) (x : CommandValue T) (t : List (List T)) → IsTable t → IsTable (step_rows d x t)
   unfolding step_rows
