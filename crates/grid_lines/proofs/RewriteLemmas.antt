@@ -1,6 +1,6 @@
 -- Rows of a stored table that are rewritten one after another.
-use Rattle.std.proofs.Common.{◌≡◌, ◌≢◌, ℕ, zero, suc, ◌+◌, ◌-◌, ◌*◌, ◌^◌, ◌<◌, ◌≤◌, List, [], ◌∷◌, ◌++◌, length, take, drop, get_or, map, set, refl, sym, ap, ◌∙◌, subst, arith, inl, inr, ⊎_elim, add-one, drop-cons, length-append, length-drop, append-nil, length-take, ext_get_or, get_or-set_same, get_or-set_other, length-set, take_all, drop-set-lt, mul-le-mul_right, MutBor, slice_get}
-use Rattle.grid_base.proofs.Common.{cases_lt, eqb_tells, take_more, take_more_set, drop_all, Mut, Called, CalledAtMut, refill, mid_of, put_mid, MapsThrough, MapsTo, GridValue, HoldsSize, place, storage, table_of, row, row_count, col_count}
+use Rattle.std.proofs.Common.{◌≡◌, ◌≢◌, ℕ, zero, suc, ◌+◌, ◌-◌, ◌*◌, ◌^◌, ◌<◌, ◌≤◌, List, [], ◌∷◌, ◌++◌, length, take, drop, get_or, map, set, refl, sym, ap, ◌∙◌, subst, arith, inl, inr, ⊎_elim, add-one, drop-cons, length-append, length-drop, length-take, ext_get_or, get_or-set_same, get_or-set_other, length-set, take_all, drop-set-lt, mul-le-mul_right, MutBor, slice_get}
+use Rattle.grid_base.proofs.Common.{cases_lt, eqb_tells, take_more, take_more_set, Mut, Called, CalledAtMut, refill, mid_of, put_mid, MapsThrough, MapsTo, GridValue, HoldsSize, place, storage, table_of, row, row_count, col_count}
 use Rattle.grid.proofs.ExchangeLemmas.{refilled}
 use Rattle.grid_base.specs.declared.order.Order.{Order}
 use Rattle.grid_base.specs.declared.order.Order.TheVariants.{RowMajor}
