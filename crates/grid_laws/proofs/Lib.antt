@@ -1,4 +1,3 @@
-pub mod RotationLemmas
 pub mod OriginLemmas
 pub mod PigeonLemmas
 pub mod MirrorLemmas

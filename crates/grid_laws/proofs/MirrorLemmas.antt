@@ -10,16 +10,16 @@ pub record HasDifferentItems {T : Type 0} (xs : List T) : Type 0 where
   pub different : (i j : ℕ) → i < length xs → j < length xs → slice_get xs i ≡ slice_get xs j → i ≡ j
 
 -- the pairs f 0, g 0 to f (n - 1), g (n - 1)
-pairs : (ℕ → ℕ) → (ℕ → ℕ) → ℕ → List (ℕ × ℕ)
+pub pairs : (ℕ → ℕ) → (ℕ → ℕ) → ℕ → List (ℕ × ℕ)
 pairs f g zero = []
 pairs f g (suc n) = (f n, g n) ∷ pairs f g n
 
-length-pairs : (f g : ℕ → ℕ) (n : ℕ) → length (pairs f g n) ≡ n
+pub length-pairs : (f g : ℕ → ℕ) (n : ℕ) → length (pairs f g n) ≡ n
 unfolding pairs
 length-pairs f g zero = refl
 length-pairs f g (suc n) = ap suc (length-pairs f g n)
 
-pairs_within : (f g : ℕ → ℕ) (n len : ℕ) → ((x : ℕ) → x < n → f x < len) → ((x : ℕ) → x < n → g x < len) → AreWithin len (pairs f g n)
+pub pairs_within : (f g : ℕ → ℕ) (n len : ℕ) → ((x : ℕ) → x < n → f x < len) → ((x : ℕ) → x < n → g x < len) → AreWithin len (pairs f g n)
 unfolding pairs
 pairs_within f g zero len a b = tt
 pairs_within f g (suc n) len a b =
@@ -30,38 +30,31 @@ record AreApart (n : ℕ) (f g : ℕ → ℕ) : Type 0 where
   pub second : AreDifferent n g
   pub apart : (x y : ℕ) → x < n → y < n → f x ≢ g y
 
-fewer_different : (n : ℕ) (f : ℕ → ℕ) → AreDifferent (suc n) f → AreDifferent n f
-fewer_different n f d = record { different = λ x y p q. d.different x y (omega arith) (omega arith) }
-
-fewer : (n : ℕ) (f g : ℕ → ℕ) → AreApart (suc n) f g → AreApart n f g
-fewer n f g d =
-    record {
-      first = fewer_different n f d.first;
-      second = fewer_different n g d.second;
-      apart = λ x y p q. d.apart x y (omega arith) (omega arith);
-    }
+pub fewer : (n : ℕ) (f : ℕ → ℕ) → AreDifferent (suc n) f → AreDifferent n f
+fewer n f d = record { different = λ x y p q. d.different x y (omega arith) (omega arith) }
 
 module _ (f g : ℕ → ℕ) where
-  origin_other : (n k : ℕ) → ((x : ℕ) → x < n → k ≢ f x) → ((x : ℕ) → x < n → k ≢ g x) → origin (pairs f g n) k ≡ k
+  pub origin_other : (n k : ℕ) → ((x : ℕ) → x < n → k ≢ f x) → ((x : ℕ) → x < n → k ≢ g x) → origin (pairs f g n) k ≡ k
   unfolding origin pairs
   origin_other zero k a b = refl
   origin_other (suc n) k a b =
       ap (turned (f n) (g n)) (origin_other n k (λ x lt. a x (omega arith)) (λ x lt. b x (omega arith)))
       ∙ turned_other (f n) (g n) k (a n (omega arith)) (b n (omega arith))
 
-  origin_first : (n x : ℕ) → AreApart n f g → x < n → origin (pairs f g n) (f x) ≡ g x
+  -- where no first place is a second one of an earlier pair
+  pub origin_first : (n x : ℕ) → AreDifferent n f → AreDifferent n g → ((x y : ℕ) → x < n → y < x → f x ≢ g y) → x < n → origin (pairs f g n) (f x) ≡ g x
   unfolding origin pairs
-  origin_first zero x d lt = absurd (omega arith)
-  origin_first (suc n) x d lt =
+  origin_first zero x d e apart lt = absurd (omega arith)
+  origin_first (suc n) x d e apart lt =
       ⊎_elim (λ low.
-      ap (turned (f n) (g n)) (origin_first n x (fewer n f g d) low)
-      ∙ turned_other (f n) (g n) (g x) (λ e. d.apart n x (omega arith) lt (sym e))
-      (λ e. let same = d.second.different x n lt (omega arith) e in absurd (omega arith)))
+      ap (turned (f n) (g n)) (origin_first n x (fewer n f d) (fewer n g e) (λ x y p q. apart x y (omega arith) q) low)
+      ∙ turned_other (f n) (g n) (g x) (λ is. apart n x (omega arith) low (sym is))
+      (λ is. let same = e.different x n lt (omega arith) is in absurd (omega arith)))
       (λ high.
       let same : x ≡ n = omega arith in
       ap (λ y. turned (f n) (g n) (origin (pairs f g n) (f y))) same
       ∙ (ap (turned (f n) (g n))
-      (origin_other n (f n) (λ y p e. let is = d.first.different n y (omega arith) (omega arith) e in absurd (omega arith)) (λ y p. d.apart n y (omega arith) (omega arith)))
+      (origin_other n (f n) (λ y p is. let same = d.different n y (omega arith) (omega arith) is in absurd (omega arith)) (λ y p. apart n y (omega arith) p))
       ∙ (turned_first (f n) (g n) (f n) refl ∙ ap g (sym same))))
       (cases_lt x n)
 
@@ -70,7 +63,7 @@ module _ (f g : ℕ → ℕ) where
   origin_second zero x d lt = absurd (omega arith)
   origin_second (suc n) x d lt =
       ⊎_elim (λ low.
-      ap (turned (f n) (g n)) (origin_second n x (fewer n f g d) low)
+      ap (turned (f n) (g n)) (origin_second n x (record { first = fewer n f d.first; second = fewer n g d.second; apart = λ x y p q. d.apart x y (omega arith) (omega arith) }) low)
       ∙ turned_other (f n) (g n) (f x)
       (λ e. let same = d.first.different x n lt (omega arith) e in absurd (omega arith)) (d.apart x n lt (omega arith)))
       (λ high.
@@ -119,7 +112,7 @@ module _ (len n : ℕ) (turn f : ℕ → ℕ) (m : IsMirror len n turn f) where
 
   origin_is : (k : ℕ) → k < len → origin (pairs f (λ x. turn (f x)) n) k ≡ turn k
   origin_is k lt =
-      ⊎_elim (λ a. ap (origin (pairs f (λ x. turn (f x)) n)) a.2 ∙ (origin_first f (λ x. turn (f x)) n a.0 apart a.1 ∙ ap turn (sym a.2)))
+      ⊎_elim (λ a. ap (origin (pairs f (λ x. turn (f x)) n)) a.2 ∙ (origin_first f (λ x. turn (f x)) n a.0 apart.first apart.second (λ x y p q. apart.apart x y p (omega arith)) a.1 ∙ ap turn (sym a.2)))
       (λ na.
       ⊎_elim (λ b.
       ap (origin (pairs f (λ x. turn (f x)) n)) b.2

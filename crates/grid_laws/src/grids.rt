@@ -26,9 +26,10 @@ pub fn rotate_left_four_times<T, A: Allocator>(grid: &mut Grid<T, A>)
     ensures law { (t : List (List T))
         → IsTable t → act RotateLeft (act RotateLeft (act RotateLeft (act RotateLeft t))) ≡ t }
 {
-    for _turn in 0..4usize {
-        grid.rotate_left();
-    }
+    grid.rotate_left();
+    grid.rotate_left();
+    grid.rotate_left();
+    grid.rotate_left(); // the fourth
 }
 
 /// Flips the rows and then the columns, which is a half turn.
