@@ -1,7 +1,7 @@
 -- The rows of an array of arrays, item by item.
 use Rattle.std.proofs.Common.{◌≡◌, ◌≢◌, ◌⊎◌, inl, inr, ℕ, ◌+◌, ◌<◌, ◌≤◌, Option, Some, None, List, [], ◌∷◌, ◌++◌, length, map, take, drop, get_or, All, refl, sym, ap, subst, ◌∙◌, arith, append_assoc, append-nil, length-append, length-take, take_all, take-append-drop}
 use Rattle.grid_base.proofs.Common.{map-append, length-map, take_more, All-push, AllZip-long, flat_map-append, col_count, concat_rows, storage, CanCut, GridValue}
-use Rattle.serde_json.specs.Data.{Data, null, boolean, number, string, array, object, Items}
+use Rattle.serde_json.specs.Data.{Data, null, array, Items}
 use Rattle.serde_json.specs.Find.{as_array}
 use Rattle.serde_json.specs.View.{view}
 use Rattle.serde_json.specs.declared.value.Value.{Value}
@@ -17,12 +17,9 @@ use Rattle.grid_json.specs.Rows.{AddsRow, AreCells, AreRows, IsBadCell, IsBadRow
 -- ---- arrays
 
 pub array_is : (d : Data) (xs : Items) → as_array d ≡ Some xs → d ≡ array xs
-array_is null xs e = absurd (cc)
-array_is (boolean b) xs e = absurd (cc)
-array_is (number n) xs e = absurd (cc)
-array_is (string s) xs e = absurd (cc)
 array_is (array ds) xs e = let is : ds ≡ xs = cc in ap array is
-array_is (object ms) xs e = absurd (cc)
+array_is null xs e = absurd (cc)
+array_is d xs e = absurd (cc)
 
 -- ---- the cells of one row
 

@@ -105,12 +105,10 @@ fn cells_in<T: Cell>(alloc: Global, items: &Vec<Value>) -> Result<Vec<T>, ReadEr
 fn order_named(name: &str) -> Option<Order>
     ensures { result ≡ order_named name.now }
 {
-    if name == "RowMajor" {
-        Some(Order::RowMajor)
-    } else if name == "ColumnMajor" {
-        Some(Order::ColumnMajor)
-    } else {
-        None
+    match name {
+        "RowMajor" => Some(Order::RowMajor),
+        "ColumnMajor" => Some(Order::ColumnMajor),
+        _ => None,
     }
 }
 

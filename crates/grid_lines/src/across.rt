@@ -13,8 +13,5 @@ const FEW: usize = 64;
 pub(crate) fn runs_across<T, A: Allocator>(grid: &Grid<T, A>) -> bool
     ensures { IsTrue result → grid.now.order ≡ ColumnMajor }
 {
-    match grid.order() {
-        Order::RowMajor => false,
-        Order::ColumnMajor => FEW <= grid.rows() && FEW <= grid.cols(),
-    }
+    grid.order() == Order::ColumnMajor && FEW <= grid.rows() && FEW <= grid.cols()
 }
