@@ -1,6 +1,6 @@
 -- Which cells equal one: the size of that table, and its cells.
 use Rattle.std.proofs.Common.{◌≡◌, ℕ, ◌+◌, ◌^◌, ◌<◌, Bool, true, Option, None, Some, List, length, refl, sym, ◌∙◌, ap, arith, ⊎_elim, MatchOption, option_map}
-use Rattle.grid_base.proofs.Common.{cases_lt, slice_get_past, row, row_count, col_count, cell, IsTable, InRange, tabulate}
+use Rattle.grid_base.proofs.Common.{cases_lt, slice_get_past, row, row_count, col_count, cell, IsTable, tabulate}
 use Rattle.grid_base.proofs.TableLemmas.{IsFull, IsFull-cells, IsSize-table, rows-tabulate, cols-tabulate, cell-tabulate, cell_past_rows, cell_past_cols}
 use Rattle.grid_base.proofs.TableLemmas.{cell_in_range}
 use Rattle.grid_paths.specs.Walks.{IsOpen, alike}
@@ -61,16 +61,6 @@ module _ {X : Type 0} (eq : X → X → Bool) (x : X) (t : List (List X)) (table
 
   pub alike_open : (a : ℕ × ℕ) → IsOpen (alike eq x t) a → (y : X) × (cell t a.0 a.1 ≡ Some y) × (eq y x ≡ true)
   alike_open a h = some_true (cell t a.0 a.1) (sym (alike-cell a.0 a.1) ∙ h)
-
-  pub alike-range : (r c : ℕ) → InRange t r c → InRange (alike eq x t) r c
-  alike-range r c i =
-      let lr = i.0 in
-      let lc = i.1 in
-      let er = alike-rows in
-      let ec = alike-cols in
-      let lr1 : r < row_count (alike eq x t) = omega arith in
-      let lc1 : c < col_count (alike eq x t) = omega arith in
-      (lr1, lc1)
 
   -- an open position is one that a grid can have
   pub alike_fits : row_count t < 2 ^ 64 → col_count t < 2 ^ 64 → (b : ℕ × ℕ) → IsOpen (alike eq x t) b → (b.0 + 1 < 2 ^ 64) × (b.1 + 1 < 2 ^ 64)

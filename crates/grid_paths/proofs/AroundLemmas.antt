@@ -139,23 +139,21 @@ pub record Before (xs : List (ℕ × ℕ)) (i : ℕ) (b : ℕ × ℕ) : Type 0 w
   pub at : IsAt xs place b
 
 module _ (xs : List (ℕ × ℕ)) (i : ℕ) where
-  pub before_more : (a : ℕ × ℕ) → Before xs i a → Before xs (i + 1) a
-  before_more a h = record { place = h.place; early = omega (arith, h.early); at = h.at }
-
-  pub before_last : (b : ℕ × ℕ) → IsAt xs i b → Before xs (i + 1) b
-  before_last b place = record { place = i; early = omega arith; at = place }
-
-  pub before_cases : (b : ℕ × ℕ) → IsAt xs i b → (a : ℕ × ℕ) → Before xs (i + 1) a → Before xs i a ⊎ (a ≡ b)
-  before_cases b place a h =
-      ⊎_elim (λ less. inl (record { place = h.place; early = less; at = h.at }))
-      (λ ge.
-      let lt = h.early in
-      let is : h.place ≡ i = omega arith in
-      let here : IsAt xs i a = subst (λ x. IsAt xs x a) is h.at in
-      let both : Some a ≡ Some b = sym here ∙ place in
-      let same : a ≡ b = cc in
-      inr same)
-      (cases_lt h.place i)
+  -- the positions before place i, and the one there
+  pub before_either : (b : ℕ × ℕ) → IsAt xs i b → (a : ℕ × ℕ) → (Before xs i a ⊎ (b ≡ a)) ↔ Before xs (i + 1) a
+  before_either b place a = (
+    λ w. ⊎_elim (λ h. record { place = h.place; early = omega (arith, h.early); at = h.at })
+        (λ e. record { place = i; early = omega arith; at = subst (λ x. IsAt xs i x) e place }) w,
+    λ h. ⊎_elim (λ less. inl (record { place = h.place; early = less; at = h.at }))
+        (λ ge.
+        let lt = h.early in
+        let is : h.place ≡ i = omega arith in
+        let here : IsAt xs i a = subst (λ x. IsAt xs x a) is h.at in
+        let both : Some b ≡ Some a = sym place ∙ here in
+        let same : b ≡ a = cc in
+        inr same)
+        (cases_lt h.place i),
+  )
 
   pub before_all : length xs ≤ i → (b : ℕ × ℕ) → Before xs i b ↔ Contains xs b
   before_all all b = (

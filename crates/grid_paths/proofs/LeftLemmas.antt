@@ -1,8 +1,13 @@
 -- The open positions that aren't reached yet, as they are reached.
-use Rattle.std.proofs.Common.{◌≡◌, ℕ, ◌+◌, ◌^◌, ◌<◌, ◌⊎◌, Bool, true, false, Option, None, Some, List, refl, sym, ◌∙◌, subst, arith, inl, inr, ⊎_elim}
+use Rattle.std.proofs.Common.{◌≡◌, ℕ, ◌+◌, ◌^◌, ◌<◌, ◌⊎◌, Bool, true, false, Option, None, Some, List, Contains, refl, sym, ◌∙◌, subst, arith, inl, inr, ⊎_elim}
 use Rattle.grid_base.specs.Table.{row_count, col_count, cell, with_cell, IsTable, InRange}
 use Rattle.grid_base.proofs.WriteLemmas.{cell-with_same, cell-with_other, same_or_other}
-use Rattle.grid_paths.specs.Walks.{IsOpen}
+use Rattle.grid_near.specs.declared.steps.Steps.{Steps}
+use Rattle.grid_paths.specs.declared.search.Search.{Search}
+use Rattle.grid_paths.specs.Around.{AreSteps}
+use Rattle.grid_paths.specs.Walks.{IsOpen, IsStep}
+use Rattle.grid_paths.specs.Wave.{Reaches}
+use Rattle.grid_paths.proofs.StepLemmas.{Spreads-steps}
 use Rattle.grid_paths.specs.Search.{HaveOneSize, IsMarked, IsLeft}
 use Rattle.grid_base.proofs.TableLemmas.{cell_in_range}
 
@@ -10,21 +15,11 @@ module _ (floor : List (List Bool)) (steps : List (List (Option ℕ))) (left : L
   pub free_there : cell steps b.0 b.1 ≡ Some None
   free_there = (l.unreached_yet b is_left).1
 
-  pub inside_steps : InRange steps b.0 b.1
+  inside_steps : InRange steps b.0 b.1
   inside_steps = cell_in_range steps steps_table b.0 b.1 None free_there
 
   pub inside_left : InRange left b.0 b.1
   inside_left = cell_in_range left left_table b.0 b.1 true is_left
-
-  pub inside_floor : InRange floor b.0 b.1
-  inside_floor =
-      let lr = inside_left.0 in
-      let lc = inside_left.1 in
-      let rows = l.size.rows in
-      let cols = l.size.cols in
-      let lr1 : b.0 < row_count floor = omega arith in
-      let lc1 : b.1 < col_count floor = omega arith in
-      (lr1, lc1)
 
   -- the tables with the position reached
   module _ (steps' : List (List (Option ℕ))) (left' : List (List Bool)) (e : steps' ≡ with_cell steps b.0 b.1 (Some k)) (f : left' ≡ with_cell left b.0 b.1 false) (size : HaveOneSize left' left) where
@@ -80,3 +75,10 @@ left_fits floor steps left l table rows cols b o =
     inl (omega arith, omega arith))
     (λ m. inr m)
     (l.all b o)
+
+-- the positions of a list are those that a step leads to
+pub Reaches-steps : {A : Type 0} (kind : Steps) (at : ℕ × ℕ) (xs : List (ℕ × ℕ)) → AreSteps kind at xs → (k : ℕ) (s s' : Search A) → Reaches (λ b. Contains xs b) k s s' → Reaches (IsStep kind at) k s s'
+Reaches-steps kind at xs steps k s s' r =
+    λ floor l.
+    let v = r floor l in
+    (Spreads-steps kind at xs steps (left_fits floor s.steps.numbers.rows s.left.rows l s.left.table s.left.fits.rows s.left.fits.cols) v.0, v.1)

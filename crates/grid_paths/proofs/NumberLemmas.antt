@@ -1,5 +1,5 @@
 -- One region numbered.
-use Rattle.std.proofs.Common.{◌≡◌, ℕ, suc, ◌+◌, ◌<◌, ◌≤◌, ◌⊎◌, Bool, Option, List, length, sym, subst, arith, inl, inr, ⊎_elim}
+use Rattle.std.proofs.Common.{◌≡◌, ℕ, suc, ◌+◌, ◌<◌, ◌≤◌, ◌⊎◌, Bool, Option, List, [], length, sym, subst, arith, inl, inr, ⊎_elim}
 use Rattle.grid_base.proofs.Common.{cases_lt, slice_get_within}
 use Rattle.grid_near.specs.declared.steps.Steps.{Steps}
 use Rattle.grid_paths.specs.Walks.{IsOpen, IsStep, Walk}
@@ -9,100 +9,86 @@ use Rattle.grid_paths.proofs.SearchLemmas.{one_place}
 use Rattle.grid_paths.proofs.StepLemmas.{Grew}
 
 -- a position that got the number while the region was numbered
-pub record IsNew (kind : Steps) (floor : List (List Bool)) (p : ℕ × ℕ) (k base : ℕ) (q : List (ℕ × ℕ)) (a : ℕ × ℕ) (m : ℕ) : Type 0 where
+pub record IsNew (kind : Steps) (floor : List (List Bool)) (p : ℕ × ℕ) (k : ℕ) (q : List (ℕ × ℕ)) (a : ℕ × ℕ) (m : ℕ) : Type 0 where
   pub is : m ≡ k
   pub walk : IsOpen floor p → (n : ℕ) × Walk kind floor p a n
-  pub queued : (j : ℕ) × (base ≤ j) × IsAt q j a
+  pub queued : (j : ℕ) × IsAt q j a
 
--- the region of p is numbered from the positions of the queue before `next`; its part of the queue begins at `base`
-pub record IsNumbering (kind : Steps) (floor : List (List Bool)) (p : ℕ × ℕ) (k base : ℕ) (u0 u : List (List (Option ℕ))) (q : List (ℕ × ℕ)) (next : ℕ) : Type 0 where
+-- the region of p is numbered from the positions of the queue before `next`
+pub record IsNumbering (kind : Steps) (floor : List (List Bool)) (p : ℕ × ℕ) (k : ℕ) (u0 u : List (List (Option ℕ))) (q : List (ℕ × ℕ)) (next : ℕ) : Type 0 where
   pub kept : (a : ℕ × ℕ) (m : ℕ) → IsMarked u0 a m → IsMarked u a m
-  pub fresh : (a : ℕ × ℕ) (m : ℕ) → IsMarked u a m → IsMarked u0 a m ⊎ IsNew kind floor p k base q a m
-  pub queued : (j : ℕ) (a : ℕ × ℕ) → base ≤ j → IsAt q j a → IsMarked u a k
+  pub fresh : (a : ℕ × ℕ) (m : ℕ) → IsMarked u a m → IsMarked u0 a m ⊎ IsNew kind floor p k q a m
+  pub queued : (j : ℕ) (a : ℕ × ℕ) → IsAt q j a → IsMarked u a k
   pub here : IsMarked u p k
-  pub done : (j : ℕ) (a b : ℕ × ℕ) → base ≤ j → j < next → IsAt q j a → IsStep kind a b → IsOpen floor b → (m : ℕ) × IsMarked u b m
-  pub begun : base ≤ next
-  pub some : base < length q
+  pub done : (j : ℕ) (a b : ℕ × ℕ) → j < next → IsAt q j a → IsStep kind a b → IsOpen floor b → (m : ℕ) × IsMarked u b m
+  pub some : 0 < length q
 
-module _ (kind : Steps) (floor : List (List Bool)) (p : ℕ × ℕ) (k : ℕ) (u : List (List (Option ℕ))) (q : List (ℕ × ℕ)) (u' : List (List (Option ℕ))) (q' : List (ℕ × ℕ)) (g : Grew u q u' q' p k) where
-  pub IsNumbering-start : IsNumbering kind floor p k (length q) u u' q' (length q)
-  IsNumbering-start =
-      record {
-        kept = g.kept;
-        fresh = λ a m h.
-            ⊎_elim (λ e.
-            inr (record {
-              is = e.1;
-              walk = λ o. (0, (sym e.0, subst (λ x. IsOpen floor x) (sym e.0) o));
-              queued = (length q, omega arith, subst (λ x. IsAt q' (length q) x) (sym e.0) g.here_at);
-            }))
-            (λ h0. inl h0)
-            (g.fresh a m h);
-        queued = λ j a le h.
-            ⊎_elim (λ e. subst (λ x. IsMarked u' x k) (sym e.1) g.here)
-            (λ h0. let lt = slice_get_within q j a h0 in absurd (omega arith))
-            (g.fresh_at j a h);
-        here = g.here;
-        done = λ j a b le lt. absurd (omega (arith, le, lt));
-        begun = omega arith;
-        some = slice_get_within q' (length q) p g.here_at;
-      }
+pub IsNumbering-start : (kind : Steps) (floor : List (List Bool)) (p : ℕ × ℕ) (k : ℕ) (u u' : List (List (Option ℕ))) (q' : List (ℕ × ℕ)) → Grew u [] u' q' p k → IsNumbering kind floor p k u u' q' 0
+IsNumbering-start kind floor p k u u' q' g =
+    record {
+      kept = g.kept;
+      fresh = λ a m h.
+          ⊎_elim (λ e.
+          inr (record {
+            is = e.1;
+            walk = λ o. (0, (sym e.0, subst (λ x. IsOpen floor x) (sym e.0) o));
+            queued = (0, subst (λ x. IsAt q' 0 x) (sym e.0) g.here_at);
+          }))
+          (λ h0. inl h0)
+          (g.fresh a m h);
+      queued = λ j a h. ⊎_elim (λ e. subst (λ x. IsMarked u' x k) (sym e.1) g.here) (λ h0. absurd (cc)) (g.fresh_at j a h);
+      here = g.here;
+      done = λ j a b lt. absurd (omega (arith, lt));
+      some = slice_get_within q' 0 p g.here_at;
+    }
 
-module _ (kind : Steps) (floor : List (List Bool)) (p : ℕ × ℕ) (k base : ℕ) (u0 u : List (List (Option ℕ))) (q : List (ℕ × ℕ)) (next : ℕ) (s : IsNumbering kind floor p k base u0 u q next)
+module _ (kind : Steps) (floor : List (List Bool)) (p : ℕ × ℕ) (k : ℕ) (u0 u : List (List (Option ℕ))) (q : List (ℕ × ℕ)) (next : ℕ) (s : IsNumbering kind floor p k u0 u q next)
     (below : (a : ℕ × ℕ) (m : ℕ) → IsMarked u0 a m → m < k) where
   -- a position with this number is new
-  pub is_new : (a : ℕ × ℕ) → IsMarked u a k → IsNew kind floor p k base q a k
+  pub is_new : (a : ℕ × ℕ) → IsMarked u a k → IsNew kind floor p k q a k
   is_new a h = ⊎_elim (λ h0. let lt = below a k h0 in absurd (omega arith)) (λ n. n) (s.fresh a k h)
 
   module _ (at : ℕ × ℕ) (u' : List (List (Option ℕ))) (q' : List (ℕ × ℕ)) (place : IsAt q next at) (w : WentRound (IsStep kind at) floor k u q u' q') where
     t : Spread (IsStep kind at) floor k u q u' q'
     t = w.spread
 
-    at_mark : IsMarked u at k
-    at_mark = s.queued next at s.begun place
-
-    fresh' : (a : ℕ × ℕ) (m : ℕ) → IsMarked u' a m → IsMarked u0 a m ⊎ IsNew kind floor p k base q' a m
+    fresh' : (a : ℕ × ℕ) (m : ℕ) → IsMarked u' a m → IsMarked u0 a m ⊎ IsNew kind floor p k q' a m
     fresh' a m h =
         ⊎_elim (λ h1.
         ⊎_elim (λ h0. inl h0)
-        (λ n. let v = n.queued in inr (record { is = n.is; walk = n.walk; queued = (v.0, v.1, t.kept_at v.0 a v.2) }))
+        (λ n. let v = n.queued in inr (record { is = n.is; walk = n.walk; queued = (v.0, t.kept_at v.0 a v.1) }))
         (s.fresh a m h1))
         (λ f.
         let v = f.queued in
-        let n = is_new at at_mark in
-        let some = s.some in
-        let low : length q ≤ v.0 = v.1 in
         inr (record {
           is = f.is;
-          walk = λ o. let y = n.walk o in (suc y.0, (at, y.1, f.is_near, f.is_open));
-          queued = (v.0, omega arith, v.2);
+          walk = λ o. let y = (is_new at (s.queued next at place)).walk o in (suc y.0, (at, y.1, f.is_near, f.is_open));
+          queued = (v.0, v.2);
         }))
         (t.fresh a m h)
 
-    done' : (j : ℕ) (a b : ℕ × ℕ) → base ≤ j → j < next + 1 → IsAt q' j a → IsStep kind a b → IsOpen floor b → (m : ℕ) × IsMarked u' b m
-    done' j a b le lt h beside is_open =
+    done' : (j : ℕ) (a b : ℕ × ℕ) → j < next + 1 → IsAt q' j a → IsStep kind a b → IsOpen floor b → (m : ℕ) × IsMarked u' b m
+    done' j a b lt h beside is_open =
         let in_q : next < length q = slice_get_within q next at place in
         let h0 : IsAt q j a = t.old_at j a (omega arith) h in
-        ⊎_elim (λ less. let v = s.done j a b le less h0 beside is_open in (v.0, t.kept b v.0 v.1))
+        ⊎_elim (λ less. let v = s.done j a b less h0 beside is_open in (v.0, t.kept b v.0 v.1))
         (λ ge.
         let j_is : j ≡ next = omega arith in
         let a_is : a ≡ at = one_place q next a at (subst (λ x. IsAt q x a) j_is h0) place in
         w.around b (subst (λ x. IsStep kind x b) a_is beside) is_open)
         (cases_lt j next)
 
-    pub IsNumbering-round : IsNumbering kind floor p k base u0 u' q' (next + 1)
+    pub IsNumbering-round : IsNumbering kind floor p k u0 u' q' (next + 1)
     IsNumbering-round =
         let some = s.some in
-        let begun = s.begun in
         let longer = t.longer in
         record {
           kept = λ a m h. t.kept a m (s.kept a m h);
           fresh = fresh';
-          queued = λ j a le h.
-              ⊎_elim (λ lt. t.kept a k (s.queued j a le (t.old_at j a lt h))) (λ ge. t.fresh_at j a ge h) (cases_lt j (length q));
+          queued = λ j a h.
+              ⊎_elim (λ lt. t.kept a k (s.queued j a (t.old_at j a lt h))) (λ ge. t.fresh_at j a ge h) (cases_lt j (length q));
           here = t.kept p k s.here;
           done = done';
-          begun = omega arith;
           some = omega arith;
         }
 
@@ -116,6 +102,6 @@ module _ (kind : Steps) (floor : List (List Bool)) (p : ℕ × ℕ) (k base : �
         spread = λ a b h.
             let n = is_new a h in
             let v = n.queued in
-            let lt : v.0 < length q = slice_get_within q v.0 a v.2 in
-            s.done v.0 a b v.1 (omega arith) v.2;
+            let lt : v.0 < length q = slice_get_within q v.0 a v.1 in
+            s.done v.0 a b (omega arith) v.1;
       }

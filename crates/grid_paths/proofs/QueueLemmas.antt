@@ -1,7 +1,7 @@
 -- The queue of a breadth-first search, where the first positions were dropped; and that numbers
 -- stay below the cells.
-use Rattle.std.proofs.Common.{◌≡◌, ℕ, zero, suc, ◌+◌, ◌*◌, ◌<◌, ◌≤◌, ◌⊎◌, Bool, Option, None, Some, List, [], ◌∷◌, ◌++◌, length, Contains, sym, ◌∙◌, ap, subst, arith, inl, inr, ⊎_elim, sum_by, length-append, append_assoc}
-use Rattle.grid_base.proofs.Common.{row_count, col_count, IsTable, concat_rows, sum_by-cons, slice_get_within}
+use Rattle.std.proofs.Common.{◌≡◌, ℕ, zero, suc, ◌+◌, ◌*◌, ◌<◌, ◌≤◌, ◌⊎◌, Bool, Option, None, Some, List, [], ◌∷◌, ◌++◌, length, get_or, Contains, refl, sym, ◌∙◌, ap, subst, arith, inl, inr, ⊎_elim, sum_by, length-append, append_assoc}
+use Rattle.grid_base.proofs.Common.{row_count, col_count, IsTable, concat_rows, sum_by-cons, slice_get_read, slice_get_within}
 use Rattle.grid_base.specs.declared.order.Order.TheVariants.{RowMajor}
 use Rattle.grid_base.proofs.StorageLemmas.{length-storage}
 use Rattle.grid_near.specs.declared.steps.Steps.{Steps}
@@ -92,20 +92,21 @@ pub record IsTrimmed (kind : Steps) (floor : List (List Bool)) (starts : List (�
   pub search : IsSearch kind floor starts steps (front ++ queue) (length front + next)
   pub bound : unreached steps + length (front ++ queue) ≤ cells
 
-module _ (kind : Steps) (floor : List (List Bool)) (starts : List (ℕ × ℕ)) (cells : ℕ) where
+module _ {kind : Steps} {floor : List (List Bool)} {starts : List (ℕ × ℕ)} {cells : ℕ} where
   pub IsTrimmed-start : (steps : List (List (Option ℕ))) (queue : List (ℕ × ℕ)) → IsSearch kind floor starts steps queue 0 → unreached steps + length queue ≤ cells → IsTrimmed kind floor starts steps queue 0 cells
   IsTrimmed-start steps queue s le = record { front = []; search = s; bound = le }
 
-  module _ (steps : List (List (Option ℕ))) (queue : List (ℕ × ℕ)) (next : ℕ) (t : IsTrimmed kind floor starts steps queue next cells) where
-    -- the number of the next position
-    pub mark_at : (a : ℕ × ℕ) → IsAt queue next a → (n : ℕ) × IsMarked steps a n × (n < cells)
-    mark_at a place =
+  module _ {steps : List (List (Option ℕ))} {queue : List (ℕ × ℕ)} {next : ℕ} (t : IsTrimmed kind floor starts steps queue next cells) where
+    -- the next position, which is a, and its number
+    pub next_at : (a : ℕ × ℕ) → next < length queue → a ≡ get_or queue next a → IsAt queue next a × ((n : ℕ) × IsMarked steps a n × (n < cells))
+    next_at a lt0 is =
+        let place : IsAt queue next a = slice_get_read queue (length queue) next a refl lt0 is in
         let at = at_right t.front queue next a place in
         let v = t.search.marked (length t.front + next) a at in
         let lt : length t.front + next < length (t.front ++ queue) = slice_get_within (t.front ++ queue) (length t.front + next) a at in
         let low : v.0 ≤ length t.front + next = v.2 in
         let le = t.bound in
-        (v.0, v.1, omega arith)
+        (place, (v.0, v.1, omega arith))
 
     pub IsTrimmed-round : (steps' : List (List (Option ℕ))) (queue' : List (ℕ × ℕ)) (a : ℕ × ℕ) (n : ℕ) → IsAt queue next a → IsMarked steps a n → WentRound (IsStep kind a) floor (n + 1) steps queue steps' queue' → IsTrimmed kind floor starts steps' queue' (next + 1) cells
     IsTrimmed-round steps' queue' a n place mark w =

@@ -13,7 +13,7 @@ use Rattle.grid_paths.specs.Closures.{answers_by}
 use Rattle.grid_paths.specs.Flood.{IsEntered, IsGoneOn, EnterWalk, IsFlood, way_of}
 use Rattle.grid_paths.specs.Taken.{IsWritten}
 use Rattle.grid_paths.proofs.AlikeLemmas.{open_alike, alike_open}
-use Rattle.grid_paths.proofs.AroundLemmas.{Before, before_more, before_last, before_cases, before_all, Contains-cases, Contains-first}
+use Rattle.grid_paths.proofs.AroundLemmas.{Before, before_either, before_all, Contains-cases, Contains-first}
 use Rattle.grid_paths.proofs.PathLemmas.{open_end, walk_back}
 use Rattle.grid_paths.proofs.CountLemmas.{walk_append}
 use Rattle.grid_paths.proofs.FloodLemmas.{left_by, gone_on_by}
@@ -32,12 +32,12 @@ module _ {T : Type 0} (w : T) (xs : List (ℕ × ℕ)) (t : List (List T)) where
               ∙ ⊎_elim (λ same. subst (λ v. cell (with_cell u b.0 b.1 w) v.0 v.1 ≡ Some w) (sym same) (cell-with_same u table b.0 b.1 w here.0 here.1))
               (λ other.
               cell-with_other u b.0 b.1 w a.0 a.1 other
-              ∙ ⊎_elim (λ n. s.written a n) (λ same. absurd (other (ap (λ v. v.0) same) (ap (λ v. v.1) same))) (before_cases xs i b place a h))
+              ∙ ⊎_elim (λ n. s.written a n) (λ same. absurd (other (ap (λ v. v.0) (sym same)) (ap (λ v. v.1) (sym same)))) ((before_either xs i b place a).1 h))
               (same_or_other a b);
           kept = λ a out.
               ap (λ v. cell v a.0 a.1) e
-              ∙ ⊎_elim (λ same. absurd (out (subst (λ v. Before xs (i + 1) v) (sym same) (before_last xs i b place))))
-              (λ other. cell-with_other u b.0 b.1 w a.0 a.1 other ∙ s.kept a (λ n. out (before_more xs i a n)))
+              ∙ ⊎_elim (λ same. absurd (out ((before_either xs i b place a).0 (inr (sym same)))))
+              (λ other. cell-with_other u b.0 b.1 w a.0 a.1 other ∙ s.kept a (λ n. out ((before_either xs i b place a).0 (inl n))))
               (same_or_other a b);
         }
 

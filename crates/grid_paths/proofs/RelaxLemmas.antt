@@ -6,7 +6,7 @@ use Rattle.grid_near.specs.declared.steps.Steps.{Steps}
 use Rattle.grid_paths.specs.Around.{AreSteps}
 use Rattle.grid_paths.specs.Search.{IsAt}
 use Rattle.grid_paths.specs.Walks.{IsStep}
-use Rattle.grid_paths.proofs.AroundLemmas.{Before, before_more, before_last, before_cases, before_all}
+use Rattle.grid_paths.proofs.AroundLemmas.{Before, before_either, before_all}
 use Rattle.grid_paths.proofs.SearchLemmas.{one_mark}
 use Rattle.grid_paths.specs.Cheapest.{Holds}
 use Rattle.grid_paths.specs.Relaxing.{Entry, IsWaiting, HoldsUpTo, IsClosed, IsEntered, Relaxes}
@@ -198,10 +198,7 @@ module _ {A : Type 0} {sum : ℕ} {f : Frontier A} where
     pub Enters-next : {b : ℕ × ℕ} {h : Frontier A} → IsAt xs i b → Enters (λ a. b ≡ a) sum g h → Enters (Before xs (i + 1)) sum f h
     Enters-next {b = b} {h = h} place s =
         Enters-as (λ a. Before xs i a ⊎ (b ≡ a)) (Before xs (i + 1))
-        (λ a k is_left. (
-          λ w. ⊎_elim (λ v. before_more xs i a v) (λ e. subst (λ x. Before xs (i + 1) x) e (before_last xs i b place)) w,
-          λ w. ⊎_elim (λ v. inl v) (λ e. inr (sym e)) (before_cases xs i b place a w),
-        ))
+        (λ a k is_left. before_either xs i b place a)
         h
         (record {
           left = s.left ∙ e.left;

@@ -1,13 +1,15 @@
--- One position reached, the four round a position reached, and the start.
+-- One position marked, those of a list, those round a position, and the start.
 use Rattle.std.proofs.Common.{◌≡◌, ◌≢◌, ℕ, zero, suc, ◌+◌, ◌^◌, ◌<◌, ◌≤◌, ◌⊎◌, Bool, Option, None, Some, List, [], ◌∷◌, ◌++◌, length, Contains, set, get_or, refl, sym, ◌∙◌, ap, subst, arith, rules, inl, inr, ⊎_elim, ◌↔◌, sum_by, slice_get, length-append}
 use Rattle.grid_base.proofs.Common.{cases_eq, cases_lt, sum_by-set, slice_get_within, slice_get_read, get_or_from_slice_get, row, cell, with_cell, tabulate, IsTable, InRange}
-use Rattle.grid_base.proofs.TableLemmas.{IsFull, cell-tabulate, rows-tabulate, cell_past_rows, cell_past_cols}
+use Rattle.grid_base.proofs.TableLemmas.{IsFull, cell-tabulate, rows-tabulate, cell_past_rows, cell_past_cols, cell_in_range}
 use Rattle.grid_base.proofs.WriteLemmas.{cell-with_same, cell-with_other}
 use Rattle.grid_near.specs.declared.steps.Steps.{Steps}
 use Rattle.grid_paths.specs.Walks.{IsOpen, IsStep, WalkFrom}
-use Rattle.grid_paths.specs.Search.{Reaches, IsMarked, IsAt, IsReached, Spread, WentRound, free, unreached}
+use Rattle.grid_paths.specs.Search.{IsMarked, IsAt, IsReached, Spread, WentRound, free, unreached}
 use Rattle.grid_paths.specs.Around.{AreSteps}
-use Rattle.grid_paths.proofs.AroundLemmas.{same_pair, Before, before_more, before_last, before_cases, before_all, Contains-from_get}
+use Rattle.grid_paths.specs.declared.wave.Wave.{Wave}
+use Rattle.grid_paths.specs.Wave.{Marks, Spreads}
+use Rattle.grid_paths.proofs.AroundLemmas.{same_pair, Before, before_either, before_all, Contains-from_get}
 use Rattle.grid_paths.proofs.SearchLemmas.{IsSearch, one_mark, one_place, IsSearch-spread}
 
 -- a queue with one item more
@@ -79,170 +81,160 @@ module _ (steps : List (List (Option ℕ))) (h : IsTable steps) (queue : List (�
       let rows = sum_by-set (sum_by free) steps b.0 (set xs b.1 (Some k)) [] inside.0 in
       omega arith
 
-Spread-same : (near : ℕ × ℕ → Type 0) (floor : List (List Bool)) (k : ℕ) (u : List (List (Option ℕ))) (q : List (ℕ × ℕ)) → Spread near floor k u q u q
-Spread-same near floor k u q =
-    record {
-      kept = λ a m h. h;
-      fresh = λ a m h. inl h;
-      kept_at = λ j a h. h;
-      old_at = λ j a lt h. h;
-      fresh_at = λ j a le h. let lt = slice_get_within q j a h in absurd (omega arith);
-      longer = omega arith;
-      total = refl;
-    }
+-- a position marked
+module _ {A : Type 0} {b : ℕ × ℕ} {k : ℕ} {w w' : Wave A} (is_free : cell w.numbers.rows b.0 b.1 ≡ Some None) (m : Marks b k w w') where
+  inside : InRange w.numbers.rows b.0 b.1
+  inside = cell_in_range w.numbers.rows w.numbers.table b.0 b.1 None is_free
 
--- one position reached, or found to be closed or reached before
-module _ (near : ℕ × ℕ → Type 0) (floor : List (List Bool)) (b : ℕ × ℕ) (k : ℕ) (u : List (List (Option ℕ))) (q : List (ℕ × ℕ)) (u' : List (List (Option ℕ))) (q' : List (ℕ × ℕ)) (table : IsTable u)
-    (r : Reaches floor b k u q u' q') where
-  grew : InRange u b.0 b.1 → cell u b.0 b.1 ≡ Some None → u' ≡ with_cell u b.0 b.1 (Some k) → q' ≡ q ++ b ∷ [] → Grew u q u' q' b k
-  grew inside is_free e f =
-      subst (λ x. Grew u q u' x b k) (sym f) (subst (λ x. Grew u q x (q ++ b ∷ []) b k) (sym e) (grown u table q b k inside is_free))
+  pub Marks-grew : Grew w.numbers.rows w.queue.items w'.numbers.rows w'.queue.items b k
+  Marks-grew =
+      subst (λ q. Grew w.numbers.rows w.queue.items w'.numbers.rows q b k) (sym m.queue)
+      (subst (λ u. Grew w.numbers.rows w.queue.items u (w.queue.items ++ b ∷ []) b k) (sym m.numbers)
+      (grown w.numbers.rows w.numbers.table w.queue.items b k inside is_free))
 
-  pub here_by : IsOpen floor b → (m : ℕ) × IsMarked u' b m
-  here_by is_open =
-      ⊎_elim (λ w. (k, (grew w.2 w.3 w.4 w.5).here))
-      (λ w. let v = w.0 is_open in (v.0, subst (λ x. IsMarked x b v.0) (sym w.1) v.1))
-      r
+  pub Marks-fewer : unreached w'.numbers.rows + 1 ≡ unreached w.numbers.rows
+  Marks-fewer = ap (λ u. unreached u + 1) m.numbers ∙ unreached-with_cell w.numbers.rows w.numbers.table w.queue.items b k inside is_free
 
-  pub Spread-from_reaches : (InRange floor b.0 b.1 → near b) → Spread near floor k u q u' q'
-  Spread-from_reaches is_near =
-      ⊎_elim (λ w.
-      let g : Grew u q u' q' b k = grew w.2 w.3 w.4 w.5 in
-      let fewer = unreached-with_cell u table q b k w.2 w.3 in
-      let now : unreached u' ≡ unreached (with_cell u b.0 b.1 (Some k)) = ap unreached w.4 in
-      let long : length q' ≡ length q + 1 = ap length w.5 ∙ length-append q (b ∷ []) in
+  pub Spreads-mark : (floor : List (List Bool)) → IsOpen floor b → Spreads (λ a. b ≡ a) floor k w w'
+  Spreads-mark floor is_open =
+      let q = w.queue.items in
+      let q' = w'.queue.items in
+      let g = Marks-grew in
+      let fewer = Marks-fewer in
+      let long : length q' ≡ length q + 1 = ap length m.queue ∙ length-append q (b ∷ []) in
       record {
-        kept = g.kept;
-        fresh = λ a m h.
-            ⊎_elim (λ e.
-            inr (record {
-              is = e.1;
-              is_open = subst (λ x. IsOpen floor x) (sym e.0) w.0;
-              is_near = subst near (sym e.0) (is_near w.1);
-              queued = (length q, omega arith, subst (λ x. IsAt q' (length q) x) (sym e.0) g.here_at);
-            }))
-            (λ h0. inl h0)
-            (g.fresh a m h);
-        kept_at = g.kept_at;
-        old_at = λ j a lt h.
-            ⊎_elim (λ e. let clash : j ≡ length q = e.0 in absurd (omega arith)) (λ h0. h0) (g.fresh_at j a h);
-        fresh_at = λ j a le h.
-            ⊎_elim (λ e. subst (λ x. IsMarked u' x k) (sym e.1) g.here)
-            (λ h0. let lt = slice_get_within q j a h0 in absurd (omega arith))
-            (g.fresh_at j a h);
-        longer = omega arith;
-        total = omega arith;
-      })
-      (λ w. subst (λ x. Spread near floor k u q u' x) (sym w.2) (subst (λ x. Spread near floor k u q x q) (sym w.1) (Spread-same near floor k u q)))
-      r
-
--- the same seen as positions near in a wider sense
-Spread-wider : (near wide : ℕ × ℕ → Type 0) → ((b : ℕ × ℕ) → near b → wide b) → (floor : List (List Bool)) (k : ℕ) (u : List (List (Option ℕ))) (q : List (ℕ × ℕ)) (u' : List (List (Option ℕ))) (q' : List (ℕ × ℕ)) → Spread near floor k u q u' q' → Spread wide floor k u q u' q'
-Spread-wider near wide up floor k u q u' q' s =
-    record {
-      kept = s.kept;
-      fresh = λ a m h.
-          ⊎_elim (λ h0. inl h0)
-          (λ f. inr (record { is = f.is; is_open = f.is_open; is_near = up a f.is_near; queued = f.queued }))
-          (s.fresh a m h);
-      kept_at = s.kept_at;
-      old_at = s.old_at;
-      fresh_at = s.fresh_at;
-      longer = s.longer;
-      total = s.total;
-    }
-
-module _ (near : ℕ × ℕ → Type 0) (floor : List (List Bool)) (k : ℕ) (u0 : List (List (Option ℕ))) (q0 : List (ℕ × ℕ)) (u1 : List (List (Option ℕ))) (q1 : List (ℕ × ℕ)) (u2 : List (List (Option ℕ))) (q2 : List (ℕ × ℕ))
-    (s : Spread near floor k u0 q0 u1 q1) (t : Spread near floor k u1 q1 u2 q2) where
-  fresh : (a : ℕ × ℕ) (m : ℕ) → IsMarked u2 a m → IsMarked u0 a m ⊎ IsReached near floor k q0 q2 a m
-  fresh a m h =
-      let le = s.longer in
-      ⊎_elim (λ h1.
-      ⊎_elim (λ h0. inl h0)
-      (λ f. let v = f.queued in
-      inr (record { is = f.is; is_open = f.is_open; is_near = f.is_near; queued = (v.0, v.1, t.kept_at v.0 a v.2) }))
-      (s.fresh a m h1))
-      (λ f. let v = f.queued in let up : length q1 ≤ v.0 = v.1 in
-      inr (record { is = f.is; is_open = f.is_open; is_near = f.is_near; queued = (v.0, omega arith, v.2) }))
-      (t.fresh a m h)
-
-  Spread-trans : Spread near floor k u0 q0 u2 q2
-  Spread-trans =
-      let le = s.longer in
-      let le2 = t.longer in
-      record {
-        kept = λ a m h. t.kept a m (s.kept a m h);
-        fresh = fresh;
-        kept_at = λ j a h. t.kept_at j a (s.kept_at j a h);
-        old_at = λ j a lt h. s.old_at j a lt (t.old_at j a (omega arith) h);
-        fresh_at = λ j a low h.
-            ⊎_elim (λ lt. t.kept a k (s.fresh_at j a low (t.old_at j a lt h))) (λ ge. t.fresh_at j a ge h) (cases_lt j (length q1));
-        longer = omega arith;
-        total = t.total ∙ s.total;
+        same = m.same;
+        round = record {
+          spread = record {
+            kept = g.kept;
+            fresh = λ a m h.
+                ⊎_elim (λ e.
+                inr (record {
+                  is = e.1;
+                  is_open = subst (λ x. IsOpen floor x) (sym e.0) is_open;
+                  is_near = sym e.0;
+                  queued = (length q, omega arith, subst (λ x. IsAt q' (length q) x) (sym e.0) g.here_at);
+                }))
+                (λ h0. inl h0)
+                (g.fresh a m h);
+            kept_at = g.kept_at;
+            old_at = λ j a lt h.
+                ⊎_elim (λ e. let clash : j ≡ length q = e.0 in absurd (omega arith)) (λ h0. h0) (g.fresh_at j a h);
+            fresh_at = λ j a le h.
+                ⊎_elim (λ e. subst (λ x. IsMarked w'.numbers.rows x k) (sym e.1) g.here)
+                (λ h0. let lt = slice_get_within q j a h0 in absurd (omega arith))
+                (g.fresh_at j a h);
+            longer = omega arith;
+            total = omega arith;
+          };
+          around = λ a is o. (k, subst (λ x. IsMarked w'.numbers.rows x k) is g.here);
+        };
       }
 
--- no position
-pub WentRound-none : (near : ℕ × ℕ → Type 0) (floor : List (List Bool)) (k : ℕ) (u : List (List (Option ℕ))) (q : List (ℕ × ℕ)) → ((b : ℕ × ℕ) → near b → ⊥) → WentRound near floor k u q u q
-WentRound-none near floor k u q none =
-    record { spread = Spread-same near floor k u q; around = λ b h. absurd (none b h) }
-
--- the positions that came first, and one more
-module _ (near wide : ℕ × ℕ → Type 0) (b : ℕ × ℕ) (up : (a : ℕ × ℕ) → near a → wide a) (here : wide b) (cases : (a : ℕ × ℕ) → wide a → near a ⊎ (a ≡ b)) (floor : List (List Bool)) (k : ℕ) (u0 : List (List (Option ℕ))) (q0 : List (ℕ × ℕ)) (u1 : List (List (Option ℕ))) (q1 : List (ℕ × ℕ)) (u2 : List (List (Option ℕ))) (q2 : List (ℕ × ℕ)) where
-  WentRound-next : IsTable u1 → WentRound near floor k u0 q0 u1 q1 → Reaches floor b k u1 q1 u2 q2 → WentRound wide floor k u0 q0 u2 q2
-  WentRound-next table t r =
-      let s = Spread-from_reaches wide floor b k u1 q1 u2 q2 table r (λ _. here) in
+module _ {A : Type 0} {floor : List (List Bool)} {k : ℕ} where
+  -- no position is marked where the near ones that are open have a number
+  pub Spreads-stay : (near : ℕ × ℕ → Type 0) (w : Wave A) → ((b : ℕ × ℕ) → near b → IsOpen floor b → (m : ℕ) × IsMarked w.numbers.rows b m) → Spreads near floor k w w
+  Spreads-stay near w around =
       record {
-        spread = Spread-trans wide floor k u0 q0 u1 q1 u2 q2 (Spread-wider near wide up floor k u0 q0 u1 q1 t.spread) s;
-        around = λ a h o.
-            ⊎_elim (λ n. let v = t.around a n o in (v.0, s.kept a v.0 v.1))
-            (λ e.
-            let v = here_by wide floor b k u1 q1 u2 q2 table r (subst (λ x. IsOpen floor x) e o) in
-            (v.0, subst (λ x. IsMarked u2 x v.0) (sym e) v.1))
-            (cases a h);
+        same = record { rows = refl; cols = refl; order = refl };
+        round = record {
+          spread = record {
+            kept = λ a m h. h;
+            fresh = λ a m h. inl h;
+            kept_at = λ j a h. h;
+            old_at = λ j a lt h. h;
+            fresh_at = λ j a le h. let lt = slice_get_within w.queue.items j a h in absurd (omega arith);
+            longer = omega arith;
+            total = refl;
+          };
+          around = around;
+        };
       }
 
--- the same seen as positions that are near in another sense, where they are open and not reached before
-pub WentRound-as : (near wide : ℕ × ℕ → Type 0) (floor : List (List Bool)) (k : ℕ) (u : List (List (Option ℕ))) (q : List (ℕ × ℕ)) (u' : List (List (Option ℕ))) (q' : List (ℕ × ℕ)) → ((b : ℕ × ℕ) → IsOpen floor b → (near b ↔ wide b) ⊎ ((m : ℕ) × IsMarked u b m)) → WentRound near floor k u q u' q' → WentRound wide floor k u q u' q'
-WentRound-as near wide floor k u q u' q' same t =
-    let s = t.spread in
-    record {
-      spread = record {
-        kept = s.kept;
-        fresh = λ a m h.
-            ⊎_elim (λ h0. inl h0)
-            (λ f.
-            ⊎_elim (λ e. inr (record { is = f.is; is_open = f.is_open; is_near = e.0 f.is_near; queued = f.queued }))
-            (λ old. inl (subst (λ x. IsMarked u a x) (one_mark u' a old.0 m (s.kept a old.0 old.1) h) old.1))
-            (same a f.is_open))
-            (s.fresh a m h);
-        kept_at = s.kept_at;
-        old_at = s.old_at;
-        fresh_at = s.fresh_at;
-        longer = s.longer;
-        total = s.total;
-      };
-      around = λ b h o.
-          ⊎_elim (λ e. t.around b (e.1 h) o) (λ old. (old.0, s.kept b old.0 old.1)) (same b o);
-    }
+  -- some positions and then others
+  module _ {near0 near1 : ℕ × ℕ → Type 0} {w0 w1 w2 : Wave A} (e0 : Spreads near0 floor k w0 w1) (e1 : Spreads near1 floor k w1 w2) where
+    s : Spread near0 floor k w0.numbers.rows w0.queue.items w1.numbers.rows w1.queue.items
+    s = e0.round.spread
 
-module _ (xs : List (ℕ × ℕ)) (floor : List (List Bool)) (k : ℕ) (u0 : List (List (Option ℕ))) (q0 : List (ℕ × ℕ)) where
-  pub RoundEach-start : WentRound (Before xs 0) floor k u0 q0 u0 q0
-  RoundEach-start = WentRound-none (Before xs 0) floor k u0 q0 (λ b h. omega (arith, h.early))
+    t : Spread near1 floor k w1.numbers.rows w1.queue.items w2.numbers.rows w2.queue.items
+    t = e1.round.spread
 
-  module _ (i : ℕ) (u1 : List (List (Option ℕ))) (q1 : List (ℕ × ℕ)) (t : WentRound (Before xs i) floor k u0 q0 u1 q1) where
-    pub RoundEach-next : (b : ℕ × ℕ) (u2 : List (List (Option ℕ))) (q2 : List (ℕ × ℕ)) → IsAt xs i b → IsTable u1 → Reaches floor b k u1 q1 u2 q2 → WentRound (Before xs (i + 1)) floor k u0 q0 u2 q2
-    RoundEach-next b u2 q2 place table r =
-        WentRound-next (Before xs i) (Before xs (i + 1)) b (before_more xs i) (before_last xs i b place) (before_cases xs i b place)
-        floor k u0 q0 u1 q1 u2 q2 table t r
+    fresh : (a : ℕ × ℕ) (m : ℕ) → IsMarked w2.numbers.rows a m → IsMarked w0.numbers.rows a m ⊎ IsReached (λ a. near0 a ⊎ near1 a) floor k w0.queue.items w2.queue.items a m
+    fresh a m h =
+        let le = s.longer in
+        ⊎_elim (λ h1.
+        ⊎_elim (λ h0. inl h0)
+        (λ f. let v = f.queued in
+        inr (record { is = f.is; is_open = f.is_open; is_near = inl f.is_near; queued = (v.0, v.1, t.kept_at v.0 a v.2) }))
+        (s.fresh a m h1))
+        (λ f. let v = f.queued in let up : length w1.queue.items ≤ v.0 = v.1 in
+        inr (record { is = f.is; is_open = f.is_open; is_near = inr f.is_near; queued = (v.0, omega arith, v.2) }))
+        (t.fresh a m h)
 
-    pub RoundEach-end : length xs ≤ i → WentRound (λ b. Contains xs b) floor k u0 q0 u1 q1
-    RoundEach-end all = WentRound-as (Before xs i) (λ b. Contains xs b) floor k u0 q0 u1 q1 (λ b o. inl (before_all xs i all b)) t
+    Spreads-join : Spreads (λ a. near0 a ⊎ near1 a) floor k w0 w2
+    Spreads-join =
+        let le = s.longer in
+        let le2 = t.longer in
+        record {
+          same = record { rows = e1.same.rows ∙ e0.same.rows; cols = e1.same.cols ∙ e0.same.cols; order = e1.same.order ∙ e0.same.order };
+          round = record {
+            spread = record {
+              kept = λ a m h. t.kept a m (s.kept a m h);
+              fresh = fresh;
+              kept_at = λ j a h. t.kept_at j a (s.kept_at j a h);
+              old_at = λ j a lt h. s.old_at j a lt (t.old_at j a (omega arith) h);
+              fresh_at = λ j a low h.
+                  ⊎_elim (λ lt. t.kept a k (s.fresh_at j a low (t.old_at j a lt h))) (λ ge. t.fresh_at j a ge h) (cases_lt j (length w1.queue.items));
+              longer = omega arith;
+              total = t.total ∙ s.total;
+            };
+            around = λ a is o. ⊎_elim (λ n. let v = e0.round.around a n o in (v.0, t.kept a v.0 v.1)) (λ n. e1.round.around a n o) is;
+          };
+        }
 
--- the positions that a grid can have
-pub WentRound-steps : (kind : Steps) (at : ℕ × ℕ) (xs : List (ℕ × ℕ)) (floor : List (List Bool)) (k : ℕ) (u : List (List (Option ℕ))) (q : List (ℕ × ℕ)) (u' : List (List (Option ℕ))) (q' : List (ℕ × ℕ)) → AreSteps kind at xs → ((b : ℕ × ℕ) → IsOpen floor b → ((b.0 + 1 < 2 ^ 64) × (b.1 + 1 < 2 ^ 64)) ⊎ ((m : ℕ) × IsMarked u b m)) → WentRound (λ b. Contains xs b) floor k u q u' q' → WentRound (IsStep kind at) floor k u q u' q'
-WentRound-steps kind at xs floor k u q u' q' steps fits t =
-    WentRound-as (λ b. Contains xs b) (IsStep kind at) floor k u q u' q'
-    (λ b o. ⊎_elim (λ f. inl (steps b f.0 f.1)) (λ old. inr old) (fits b o)) t
+  -- the same seen as positions that are near in another sense, where they are open and not reached before
+  Spreads-as : (near wide : ℕ × ℕ → Type 0) {w w' : Wave A} → ((b : ℕ × ℕ) → IsOpen floor b → (near b ↔ wide b) ⊎ ((m : ℕ) × IsMarked w.numbers.rows b m)) → Spreads near floor k w w' → Spreads wide floor k w w'
+  Spreads-as near wide {w = w} {w' = w'} same e =
+      let s = e.round.spread in
+      record {
+        same = e.same;
+        round = record {
+          spread = record {
+            kept = s.kept;
+            fresh = λ a m h.
+                ⊎_elim (λ h0. inl h0)
+                (λ f.
+                ⊎_elim (λ e. inr (record { is = f.is; is_open = f.is_open; is_near = e.0 f.is_near; queued = f.queued }))
+                (λ old. inl (subst (λ x. IsMarked w.numbers.rows a x) (one_mark w'.numbers.rows a old.0 m (s.kept a old.0 old.1) h) old.1))
+                (same a f.is_open))
+                (s.fresh a m h);
+            kept_at = s.kept_at;
+            old_at = s.old_at;
+            fresh_at = s.fresh_at;
+            longer = s.longer;
+            total = s.total;
+          };
+          around = λ b h o.
+              ⊎_elim (λ v. e.round.around b (v.1 h) o) (λ old. (old.0, s.kept b old.0 old.1)) (same b o);
+        };
+      }
+
+  -- the positions of a list, one after another
+  pub Spreads-start : (xs : List (ℕ × ℕ)) (w : Wave A) → Spreads (Before xs 0) floor k w w
+  Spreads-start xs w = Spreads-stay (Before xs 0) w (λ b h o. absurd (omega (arith, h.early)))
+
+  module _ {xs : List (ℕ × ℕ)} {i : ℕ} {w0 w1 : Wave A} (e : Spreads (Before xs i) floor k w0 w1) where
+    pub Spreads-next : {b : ℕ × ℕ} {w2 : Wave A} → IsAt xs i b → Spreads (λ a. b ≡ a) floor k w1 w2 → Spreads (Before xs (i + 1)) floor k w0 w2
+    Spreads-next {b = b} place s =
+        Spreads-as (λ a. Before xs i a ⊎ (b ≡ a)) (Before xs (i + 1)) (λ a o. inl (before_either xs i b place a)) (Spreads-join e s)
+
+    pub Spreads-end : length xs ≤ i → Spreads (λ b. Contains xs b) floor k w0 w1
+    Spreads-end all = Spreads-as (Before xs i) (λ b. Contains xs b) (λ b o. inl (before_all xs i all b)) e
+
+  -- the positions that a grid can have
+  pub Spreads-steps : (kind : Steps) (at : ℕ × ℕ) (xs : List (ℕ × ℕ)) {w w' : Wave A} → AreSteps kind at xs → ((b : ℕ × ℕ) → IsOpen floor b → ((b.0 + 1 < 2 ^ 64) × (b.1 + 1 < 2 ^ 64)) ⊎ ((m : ℕ) × IsMarked w.numbers.rows b m)) → Spreads (λ b. Contains xs b) floor k w w' → Spreads (IsStep kind at) floor k w w'
+  Spreads-steps kind at xs steps fits e =
+      Spreads-as (λ b. Contains xs b) (IsStep kind at) (λ b o. ⊎_elim (λ f. inl (steps b f.0 f.1)) (λ old. inr old) (fits b o)) e
 
 -- the start: the first positions reached by no step, those that are open
 pub record IsStarted (kind : Steps) (floor : List (List Bool)) (starts : List (ℕ × ℕ)) (steps : List (List (Option ℕ))) (queue : List (ℕ × ℕ)) (done : ℕ) : Type 0 where
@@ -269,27 +261,22 @@ module _ (kind : Steps) (floor : List (List Bool)) (starts : List (ℕ × ℕ)) 
       nowhere : (j : ℕ) (a : ℕ × ℕ) → IsAt [] j a → ⊥
       nowhere j a h = cc
 
-  module _ (q0 : List (ℕ × ℕ)) (done : ℕ) (from : ℕ × ℕ) (d1 : List (List (Option ℕ))) (q1 : List (ℕ × ℕ)) (t0 : IsTable d0) (s : IsStarted kind floor starts d0 q0 done) (place : slice_get starts done ≡ Some from)
-      (r : Reaches floor from 0 d0 q0 d1 q1) where
-    is_from : ℕ × ℕ → Type 0
-    is_from a = from ≡ a
-
-    g : Spread is_from floor 0 d0 q0 d1 q1
-    unfolding is_from
-    g = Spread-from_reaches is_from floor from 0 d0 q0 d1 q1 t0 r (λ _. refl)
+  module _ (q0 : List (ℕ × ℕ)) (done : ℕ) (from : ℕ × ℕ) (d1 : List (List (Option ℕ))) (q1 : List (ℕ × ℕ)) (s : IsStarted kind floor starts d0 q0 done) (place : slice_get starts done ≡ Some from)
+      (r : WentRound (λ a. from ≡ a) floor 0 d0 q0 d1 q1) where
+    g : Spread (λ a. from ≡ a) floor 0 d0 q0 d1 q1
+    g = r.spread
 
     zeros' : (a : ℕ × ℕ) (m : ℕ) → IsMarked d1 a m → m ≡ 0
     zeros' a m h = ⊎_elim (λ h0. s.zeros a m h0) (λ f. f.is) (g.fresh a m h)
 
-    way : (b : ℕ × ℕ) → is_from b → IsOpen floor b → WalkFrom kind floor starts b 0
-    unfolding is_from
+    way : (b : ℕ × ℕ) → from ≡ b → IsOpen floor b → WalkFrom kind floor starts b 0
     way b e is_open =
         let here : IsOpen floor from = subst (λ x. IsOpen floor x) (sym e) is_open in
         (from, Contains-from_get starts done from place, (e, is_open))
 
     search' : IsSearch kind floor starts d1 q1 0
     search' =
-        IsSearch-spread kind floor starts is_from d0 q0 d1 q1 0 0 s.search g (omega arith) way
+        IsSearch-spread kind floor starts (λ a. from ≡ a) d0 q0 d1 q1 0 0 s.search g (omega arith) way
         (λ a m h. let z : m ≡ 0 = s.zeros a m h in omega arith)
         (λ j a n le h m. omega arith) (omega arith)
 
@@ -300,7 +287,7 @@ module _ (kind : Steps) (floor : List (List Bool)) (starts : List (ℕ × ℕ)) 
         let j_is : j ≡ done = omega arith in
         let e1 : slice_get starts done ≡ Some a = subst (λ x. slice_get starts x ≡ Some a) j_is e in
         let a_is : a ≡ from = one_place starts done a from e1 place in
-        let v = here_by is_from floor from 0 d0 q0 d1 q1 t0 r (subst (λ x. IsOpen floor x) a_is is_open) in
+        let v = r.around from refl (subst (λ x. IsOpen floor x) a_is is_open) in
         let z : v.0 ≡ 0 = zeros' from v.0 v.1 in
         subst (λ x. IsMarked d1 x 0) (sym a_is) (subst (λ x. IsMarked d1 from x) z v.1))
         (cases_lt j done)

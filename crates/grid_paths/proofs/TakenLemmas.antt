@@ -11,7 +11,7 @@ use Rattle.grid_paths.specs.Search.{IsAt}
 use Rattle.grid_paths.specs.Taken.{undone, flag, IsLeft, count_left, AreMarked, Takes, TakesNear, TakesAll}
 use Rattle.grid_paths.specs.Around.{AreSteps}
 use Rattle.grid_paths.proofs.StepLemmas.{at_push, at_end, at_push_fresh}
-use Rattle.grid_paths.proofs.AroundLemmas.{Before, before_more, before_last, before_cases, before_all}
+use Rattle.grid_paths.proofs.AroundLemmas.{Before, before_either, before_all}
 
 flag_one : (e : Enter) → e ≢ No → flag e ≡ 1
 flag_one No h = absurd (h refl)
@@ -193,13 +193,13 @@ module _ {T : Type 0} (way : T → Enter) (mark : T) where
         pub TakesEach-next : (b : ℕ × ℕ) (t2 : List (List T)) (q2 : List ((ℕ × ℕ) × T)) → IsAt xs i b → IsTable t1 → Takes way mark b t1 q1 t2 q2 → TakesAll way mark (Before xs (i + 1)) t0 q0 t2 q2
         TakesEach-next b t2 q2 place table r =
             let wide = Before xs (i + 1) in
-            let one : TakesNear way mark wide t1 q1 t2 q2 = TakesNear-from_takes wide b t1 q1 t2 q2 table r (before_last xs i b place) in
+            let one : TakesNear way mark wide t1 q1 t2 q2 = TakesNear-from_takes wide b t1 q1 t2 q2 table r ((before_either xs i b place b).0 (inr refl)) in
             record {
-              takes = TakesNear-trans wide t0 q0 t1 q1 t2 q2 (TakesNear-as (Before xs i) wide t0 q0 t1 q1 (λ a x l h. before_more xs i a h) s.takes) one;
+              takes = TakesNear-trans wide t0 q0 t1 q1 t2 q2 (TakesNear-as (Before xs i) wide t0 q0 t1 q1 (λ a x l h. (before_either xs i b place a).0 (inl h)) s.takes) one;
               around = λ a x h l.
                   ⊎_elim (λ n. s.around a x n (one.fewer a x l))
-                  (λ e. gone_by wide b t1 q1 t2 q2 table r x (subst (λ v. IsLeft way t2 v x) e l))
-                  (before_cases xs i b place a h);
+                  (λ e. gone_by wide b t1 q1 t2 q2 table r x (subst (λ v. IsLeft way t2 v x) (sym e) l))
+                  ((before_either xs i b place a).1 h);
             }
 
         pub TakesEach-end : length xs ≤ i → TakesAll way mark (λ b. Contains xs b) t0 q0 t1 q1

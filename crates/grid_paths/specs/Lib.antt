@@ -10,3 +10,4 @@ pub mod Cheapest
 pub mod Relaxing
 pub mod Frontier
 pub mod Trail
+pub mod Wave

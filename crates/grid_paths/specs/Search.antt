@@ -1,6 +1,6 @@
 -- What one step of the breadth-first search does. Public clauses cite `HaveOneSize` alone.
-use Rattle.std.specs.Prelude.{◌≡◌, ℕ, ◌+◌, ◌<◌, ◌≤◌, ◌⊎◌, Bool, Option, None, Some, List, [], ◌∷◌, ◌++◌, length, slice_get, sum_by}
-use Rattle.grid_base.specs.Table.{row_count, col_count, cell, with_cell, InRange}
+use Rattle.std.specs.Prelude.{◌≡◌, ℕ, ◌+◌, ◌<◌, ◌≤◌, ◌⊎◌, Bool, Option, None, Some, List, length, slice_get, sum_by}
+use Rattle.grid_base.specs.Table.{row_count, col_count, cell}
 use Rattle.grid_near.specs.declared.steps.Steps.{Steps}
 use Rattle.grid_paths.specs.Walks.{IsOpen, Walk, IsLeastSteps}
 
@@ -8,17 +8,6 @@ use Rattle.grid_paths.specs.Walks.{IsOpen, Walk, IsLeastSteps}
 pub record HaveOneSize {T U : Type 0} (t : List (List T)) (u : List (List U)) : Type 0 where
   pub rows : row_count t ≡ row_count u
   pub cols : col_count t ≡ col_count u
-
--- an open position that isn't reached yet is reached by k steps, and comes to the end of the queue;
--- at another nothing changes
-abbrev pub Reaches : List (List Bool) → ℕ × ℕ → ℕ → List (List (Option ℕ)) → List (ℕ × ℕ)
-    → List (List (Option ℕ)) → List (ℕ × ℕ) → Type 0
-Reaches floor at k steps queue steps' queue' =
-    (IsOpen floor at × InRange floor at.0 at.1 × InRange steps at.0 at.1
-    × (cell steps at.0 at.1 ≡ Some None) × (steps' ≡ with_cell steps at.0 at.1 (Some k))
-    × (queue' ≡ queue ++ at ∷ []))
-    ⊎ ((IsOpen floor at → (n : ℕ) × (cell steps at.0 at.1 ≡ Some (Some n)))
-    × (steps' ≡ steps) × (queue' ≡ queue))
 
 -- the position has n steps
 abbrev pub IsMarked : List (List (Option ℕ)) → ℕ × ℕ → ℕ → Type 0

@@ -19,6 +19,7 @@ mod path;
 mod region;
 mod search;
 mod taken;
+mod wave;
 
 pub use cheap_path::cheapest_path;
 pub use costs::cheapest;

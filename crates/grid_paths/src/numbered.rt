@@ -1,15 +1,16 @@
 //! The regions of equal cells, numbered.
-ghost use Rattle.std.specs.Prelude.{◌≡◌, ◌<◌, ◌≤◌, ◌+◌, ◌^◌, ◌↔◌, ℕ, IfOk, OnOk, IsTrue, None, Some, Contains, option_map, unwrap_or};
+ghost use Rattle.std.specs.Prelude.{◌≡◌, ◌<◌, ◌≤◌, ◌+◌, ◌↔◌, ℕ, IfOk, OnOk, IsTrue, None, Some, Contains, option_map, unwrap_or};
 ghost use Rattle.std.specs.Cmp.{IsEquivalence};
+ghost use Rattle.grid.specs.Prelude.{SameSizeAndOrder};
 ghost use Rattle.grid_base.specs.Table.{row_count, col_count, cell, tabulate, InRange};
 ghost use Rattle.grid_paths.specs.Walks.{IsStep, IsOpen, alike};
-ghost use Rattle.grid_paths.specs.Search.{HaveOneSize, IsMarked, Reaches, WentRound, unreached};
+ghost use Rattle.grid_paths.specs.Search.{HaveOneSize, IsMarked, unreached};
 ghost use Rattle.grid_paths.specs.Regions.{AreRegions, AreNumbers};
 ghost use Rattle.grid_paths.specs.Numbers.{IsNumbered, IsScanned};
+ghost use Rattle.grid_paths.specs.Wave.{IsCounting, Spreads};
 
-use super::answers::no_numbers;
 use super::around::around;
-use super::search::ROOM;
+use super::wave::{Wave, new_wave};
 use grid::Grid;
 use grid_near::Steps;
 use std::alloc::{AllocError, Allocator};
@@ -22,110 +23,94 @@ struct Region<'a, T, A: Allocator> {
     number: usize,
 }
 
-// Whether there is a cell at a position that equals this one.
-fn equals_at<T: PartialEq, A: Allocator>(grid: &Grid<T, A>, first: &T, at: (usize, usize)) -> bool
-    ensures equal { IsTrue result ↔ IsOpen (alike T.eq first.now grid.now.rows) at }
-    ensures inside { IsTrue result → InRange grid.now.rows at.0 at.1 }
-{
-    match grid.get(at.0, at.1) {
-        Some(cell) => *cell == *first,
-        None => false,
-    }
-}
-
-// Gives a position the region's number, if its cell is one of those and has no number yet.
-fn number_at<T: PartialEq, A: Allocator>(
-    region: &Region<'_, T, A>,
-    at: (usize, usize),
-    numbers: &mut Grid<Option<usize>, A>,
-    queue: &mut Vec<(usize, usize), A>,
-) -> Result<(), AllocError>
-    requires { HaveOneSize numbers.old.rows region.now.grid.now.rows }
-    ensures order { numbers.new.order ≡ numbers.old.order }
-    ensures size { HaveOneSize numbers.new.rows region.now.grid.now.rows }
-    ensures reaches { OnOk result (Reaches
-        (alike T.eq region.now.first.now region.now.grid.now.rows) at region.now.number
-        numbers.old.rows queue.old.items numbers.new.rows queue.new.items) }
-{
-    if equals_at(region.grid, region.first, at) {
-        if let None = numbers[at] {
-            numbers.set(at.0, at.1, Some(region.number));
-            queue.push(at)?;
+impl<T: PartialEq, A: Allocator> Region<'_, T, A> {
+    // Whether there is a cell at a position that equals the region's.
+    fn has(&self, at: (usize, usize)) -> bool
+        ensures equal { IsTrue result
+            ↔ IsOpen (alike T.eq self.now.first.now self.now.grid.now.rows) at }
+        ensures inside { IsTrue result → InRange self.now.grid.now.rows at.0 at.1 }
+    {
+        match self.grid.get(at.0, at.1) {
+            Some(cell) => *cell == *self.first,
+            None => false,
         }
     }
-    Ok(())
-}
 
-// The same of each of these positions.
-fn number_each<T: PartialEq, A: Allocator>(
-    region: &Region<'_, T, A>,
-    at: &[(usize, usize)],
-    numbers: &mut Grid<Option<usize>, A>,
-    queue: &mut Vec<(usize, usize), A>,
-) -> Result<(), AllocError>
-    requires { HaveOneSize numbers.old.rows region.now.grid.now.rows }
-    ensures order { numbers.new.order ≡ numbers.old.order }
-    ensures size { HaveOneSize numbers.new.rows region.now.grid.now.rows }
-    ensures round { OnOk result (WentRound (λ b. Contains at.now b)
-        (alike T.eq region.now.first.now region.now.grid.now.rows) region.now.number
-        numbers.old.rows queue.old.items numbers.new.rows queue.new.items) }
-{
-    for near in at {
-        number_at(region, *near, numbers, queue)?;
+    // Gives a position the region's number, if its cell is one of those and has no number yet.
+    fn number_at(&self, at: (usize, usize), wave: &mut Wave<A>) -> Result<(), AllocError>
+        requires { HaveOneSize wave.old.numbers.rows self.now.grid.now.rows }
+        ensures { OnOk result (Spreads (λ b. at ≡ b)
+            (alike T.eq self.now.first.now self.now.grid.now.rows) self.now.number
+            wave.old wave.new) }
+    {
+        if self.has(at) {
+            if let None = wave.numbers[at] {
+                wave.mark(at, self.number)?;
+            }
+        }
+        Ok(())
     }
-    Ok(())
-}
 
-// The same of the positions that a step from this one leads to.
-fn number_around<T: PartialEq, A: Allocator>(
-    kind: Steps,
-    region: &Region<'_, T, A>,
-    at: (usize, usize),
-    numbers: &mut Grid<Option<usize>, A>,
-    queue: &mut Vec<(usize, usize), A>,
-) -> Result<(), AllocError>
-    requires size { HaveOneSize numbers.old.rows region.now.grid.now.rows }
-    requires at { InRange region.now.grid.now.rows at.0 at.1 }
-    ensures order { numbers.new.order ≡ numbers.old.order }
-    ensures size { HaveOneSize numbers.new.rows region.now.grid.now.rows }
-    ensures round { OnOk result (WentRound (IsStep kind at)
-        (alike T.eq region.now.first.now region.now.grid.now.rows) region.now.number
-        numbers.old.rows queue.old.items numbers.new.rows queue.new.items) }
-{
-    let near = around(at.0, at.1);
-    match kind {
-        Steps::Sides => number_each(region, &near[..4], numbers, queue),
-        Steps::All => number_each(region, &near, numbers, queue),
+    // The same of each of these positions.
+    fn number_each(&self, at: &[(usize, usize)], wave: &mut Wave<A>) -> Result<(), AllocError>
+        requires { HaveOneSize wave.old.numbers.rows self.now.grid.now.rows }
+        ensures { OnOk result (Spreads (λ b. Contains at.now b)
+            (alike T.eq self.now.first.now self.now.grid.now.rows) self.now.number
+            wave.old wave.new) }
+    {
+        for near in at {
+            self.number_at(*near, wave)?;
+        }
+        Ok(())
     }
-}
 
-// Gives the region of a position its number, which it doesn't have yet. The queue is that of this region alone.
-fn number_region<T: PartialEq, A: Allocator>(
-    kind: Steps,
-    region: &Region<'_, T, A>,
-    at: (usize, usize),
-    numbers: &mut Grid<Option<usize>, A>,
-    queue: &mut Vec<(usize, usize), A>,
-) -> Result<(), AllocError>
-    requires size { HaveOneSize numbers.old.rows region.now.grid.now.rows }
-    requires at { cell numbers.old.rows at.0 at.1 ≡ Some None }
-    requires below { (a : ℕ × ℕ) (m : ℕ) → IsMarked numbers.old.rows a m → m < region.now.number }
-    ensures order { numbers.new.order ≡ numbers.old.order }
-    ensures size { HaveOneSize numbers.new.rows region.now.grid.now.rows }
-    ensures numbered { OnOk result (IsNumbered kind
-        (alike T.eq region.now.first.now region.now.grid.now.rows) at region.now.number
-        numbers.old.rows numbers.new.rows) }
-    ensures fewer { OnOk result (unreached numbers.new.rows + 1 ≤ unreached numbers.old.rows) }
-{
-    let mut next = 0;
-    queue.clear();
-    numbers.set(at.0, at.1, Some(region.number));
-    queue.push(at)?;
-    while next < queue.len() {
-        number_around(kind, region, queue[next], numbers, queue)?;
-        next += 1;
+    // The same of the positions that a step from this one leads to.
+    fn number_around(
+        &self,
+        kind: Steps,
+        at: (usize, usize),
+        wave: &mut Wave<A>,
+    ) -> Result<(), AllocError>
+        requires size { HaveOneSize wave.old.numbers.rows self.now.grid.now.rows }
+        requires at { InRange self.now.grid.now.rows at.0 at.1 }
+        ensures { OnOk result (Spreads (IsStep kind at)
+            (alike T.eq self.now.first.now self.now.grid.now.rows) self.now.number
+            wave.old wave.new) }
+    {
+        let near = around(at.0, at.1);
+        match kind {
+            Steps::Sides => self.number_each(&near[..4], wave),
+            Steps::All => self.number_each(&near, wave),
+        }
     }
-    Ok(())
+
+    // Gives the region of a position its number, which it doesn't have yet. The queue is that of this region alone.
+    fn number_region(
+        &self,
+        kind: Steps,
+        at: (usize, usize),
+        wave: &mut Wave<A>,
+    ) -> Result<(), AllocError>
+        requires size { HaveOneSize wave.old.numbers.rows self.now.grid.now.rows }
+        requires at { cell wave.old.numbers.rows at.0 at.1 ≡ Some None }
+        requires below { (a : ℕ × ℕ) (m : ℕ) → IsMarked wave.old.numbers.rows a m
+            → m < self.now.number }
+        ensures same { OnOk result (SameSizeAndOrder wave.old.numbers wave.new.numbers) }
+        ensures numbered { OnOk result (IsNumbered kind
+            (alike T.eq self.now.first.now self.now.grid.now.rows) at self.now.number
+            wave.old.numbers.rows wave.new.numbers.rows) }
+        ensures fewer { OnOk result (unreached wave.new.numbers.rows + 1
+            ≤ unreached wave.old.numbers.rows) }
+    {
+        let mut next = 0;
+        wave.queue.clear();
+        wave.mark(at, self.number)?;
+        while next < wave.queue.len() {
+            self.number_around(kind, wave.queue[next], wave)?;
+            next += 1;
+        }
+        Ok(())
+    }
 }
 
 // Gives the next number to the region of a position, if it has none yet, and returns the number after it.
@@ -134,20 +119,13 @@ fn number_cell<T: PartialEq, A: Allocator>(
     grid: &Grid<T, A>,
     at: (usize, usize),
     count: usize,
-    numbers: &mut Grid<Option<usize>, A>,
-    queue: &mut Vec<(usize, usize), A>,
+    wave: &mut Wave<A>,
 ) -> Result<usize, AllocError>
-    requires size { HaveOneSize numbers.old.rows grid.now.rows }
     requires at { InRange grid.now.rows at.0 at.1 }
-    requires scanned { IsScanned kind T.eq grid.now.rows numbers.old.rows count at }
-    requires room { count + unreached numbers.old.rows < 2 ^ 64 }
-    ensures order { numbers.new.order ≡ numbers.old.order }
-    ensures size { HaveOneSize numbers.new.rows grid.now.rows }
-    ensures scanned { IfOk result (λ n.
-        IsScanned kind T.eq grid.now.rows numbers.new.rows n (at.0, at.1 + 1)) }
-    ensures room { IfOk result (λ n. n + unreached numbers.new.rows < 2 ^ 64) }
+    requires counting { IsCounting kind T.eq grid.now wave.old count at }
+    ensures { IfOk result (λ n. IsCounting kind T.eq grid.now wave.new n (at.0, at.1 + 1)) }
 {
-    match numbers[at] {
+    match wave.numbers[at] {
         Some(_) => Ok(count),
         None => {
             let region = Region {
@@ -155,7 +133,7 @@ fn number_cell<T: PartialEq, A: Allocator>(
                 first: &grid[at],
                 number: count,
             };
-            number_region(kind, &region, at, numbers, queue)?;
+            region.number_region(kind, at, wave)?;
             Ok(count + 1)
         }
     }
@@ -171,16 +149,14 @@ fn number_all<T: PartialEq, A: Allocator + Clone>(
     ensures scanned { IfOk result (λ found. IsScanned kind T.eq grid.now.rows found.0.rows found.1
         (row_count grid.now.rows, 0)) }
 {
-    let mut numbers = no_numbers(grid)?;
-    let cells = grid.flatten().len();
-    let mut queue = Vec::with_capacity(grid.allocator().clone()?, cells.min(ROOM))?;
+    let mut wave = new_wave(grid)?;
     let mut count = 0;
     for row in 0..grid.rows() {
         for col in 0..grid.cols() {
-            count = number_cell(kind, grid, (row, col), count, &mut numbers, &mut queue)?;
+            count = number_cell(kind, grid, (row, col), count, &mut wave)?;
         }
     }
-    Ok((numbers, count))
+    Ok((wave.numbers, count))
 }
 
 // The numbers where all cells have one.

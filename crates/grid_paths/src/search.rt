@@ -1,12 +1,14 @@
 //! The least number of steps to each cell, by a breadth-first search.
-ghost use Rattle.std.specs.Prelude.{◌≡◌, ◌<◌, ◌≤◌, ◌+◌, ◌^◌, ◌↔◌, List, ℕ, [], ◌∷◌, ◌++◌, length, IfOk, IsTrue, OnOk, Bool, Some, None, Contains};
+ghost use Rattle.std.specs.Prelude.{◌≡◌, ◌<◌, ◌≤◌, ◌+◌, ◌^◌, List, ℕ, [], ◌∷◌, ◌++◌, length, IfOk, IsTrue, OnOk, Some, None, Contains};
 ghost use Rattle.grid_base.specs.Table.{InRange};
-ghost use Rattle.grid_paths.specs.Walks.{IsOpen, IsStep, HasLeastSteps, HasLeastFrom, passing};
+ghost use Rattle.grid_paths.specs.Walks.{IsStep, HasLeastSteps, HasLeastFrom};
 ghost use Rattle.grid_paths.specs.Closures.{HoldsOfAnswers};
-ghost use Rattle.grid_paths.specs.Search.{Reaches, WentRound, HaveOneSize, IsMarked, IsLeft, IsSettled};
+ghost use Rattle.grid_paths.specs.Search.{HaveOneSize, IsMarked, IsSettled};
+ghost use Rattle.grid_paths.specs.Wave.{Reaches};
 
-use super::answers::{answers_of, no_numbers};
+use super::answers::answers_of;
 use super::around::around;
+use super::wave::{Wave, new_wave};
 use grid::Grid;
 use grid_near::Steps;
 use std::alloc::{AllocError, Allocator};
@@ -14,87 +16,54 @@ use std::alloc::{AllocError, Allocator};
 // How many positions of a queue are processed before it drops them.
 const MANY: usize = 2048;
 
-// For how many positions a queue has room from the start.
-pub(crate) const ROOM: usize = 4096;
-
-// Reaches a position by `count` steps, if it is left. `left` are the open positions that aren't reached yet.
-#[inline(always)]
-fn reach<A: Allocator>(
-    at: (usize, usize),
-    count: usize,
-    left: &mut Grid<bool, A>,
-    steps: &mut Grid<Option<usize>, A>,
-    queue: &mut Vec<(usize, usize), A>,
-) -> Result<(), AllocError>
-    ensures order { steps.new.order ≡ steps.old.order }
-    ensures size { HaveOneSize steps.new.rows steps.old.rows }
-    ensures left { HaveOneSize left.new.rows left.old.rows }
-    ensures reaches { OnOk result ((floor : List (List Bool))
-        → IsLeft floor steps.old.rows left.old.rows
-        → Reaches floor at count steps.old.rows queue.old.items steps.new.rows queue.new.items
-        × IsLeft floor steps.new.rows left.new.rows) }
-{
-    let is_left = left.get(at.0, at.1) == Some(&true);
-    if is_left {
-        left.set(at.0, at.1, false);
-        steps.set(at.0, at.1, Some(count));
-        queue.push(at)?;
-    }
-    Ok(())
+// How far the search has come: the open positions that aren't reached yet, and the numbers of steps to the others.
+#[derive(Drop)]
+pub(crate) struct Search<A: Allocator> {
+    left: Grid<bool, A>,
+    steps: Wave<A>,
 }
 
-// Reaches each of these positions.
-#[inline(always)]
-fn reach_each<A: Allocator>(
-    at: &[(usize, usize)],
-    count: usize,
-    left: &mut Grid<bool, A>,
-    steps: &mut Grid<Option<usize>, A>,
-    queue: &mut Vec<(usize, usize), A>,
-) -> Result<(), AllocError>
-    ensures order { steps.new.order ≡ steps.old.order }
-    ensures size { HaveOneSize steps.new.rows steps.old.rows }
-    ensures left { HaveOneSize left.new.rows left.old.rows }
-    ensures round { OnOk result ((floor : List (List Bool))
-        → IsLeft floor steps.old.rows left.old.rows
-        → WentRound (λ b. Contains at.now b) floor count
-        steps.old.rows queue.old.items steps.new.rows queue.new.items
-        × IsLeft floor steps.new.rows left.new.rows) }
-{
-    for near in at {
-        reach(*near, count, left, steps, queue)?;
+impl<A: Allocator> Search<A> {
+    // Reaches a position by `count` steps, if it is left.
+    #[inline(always)]
+    fn reach(&mut self, at: (usize, usize), count: usize) -> Result<(), AllocError>
+        ensures { OnOk result (Reaches (λ b. at ≡ b) count self.old self.new) }
+    {
+        let is_left = self.left.get(at.0, at.1) == Some(&true);
+        if is_left {
+            self.left.set(at.0, at.1, false);
+            self.steps.mark(at, count)?;
+        }
+        Ok(())
     }
-    Ok(())
-}
 
-// Reaches the positions that a step from one that is reached leads to, each by one step more.
-#[inline(always)]
-fn reach_around<A: Allocator>(
-    kind: Steps,
-    at: (usize, usize),
-    left: &mut Grid<bool, A>,
-    steps: &mut Grid<Option<usize>, A>,
-    queue: &mut Vec<(usize, usize), A>,
-) -> Result<(), AllocError>
-    requires inside { InRange left.old.rows at.0 at.1 }
-    requires marked { (m : ℕ) × IsMarked steps.old.rows at m × (m + 1 < 2 ^ 64) }
-    ensures order { steps.new.order ≡ steps.old.order }
-    ensures size { HaveOneSize steps.new.rows steps.old.rows }
-    ensures left { HaveOneSize left.new.rows left.old.rows }
-    ensures round { OnOk result ((floor : List (List Bool)) (m : ℕ) → IsMarked steps.old.rows at m
-        → IsLeft floor steps.old.rows left.old.rows
-        → WentRound (IsStep kind at) floor (m + 1)
-        steps.old.rows queue.old.items steps.new.rows queue.new.items
-        × IsLeft floor steps.new.rows left.new.rows) }
-{
-    let Some(count) = steps[at] else {
-        return Ok(());
-    };
-    let next = count + 1;
-    let near = around(at.0, at.1);
-    match kind {
-        Steps::Sides => reach_each(&near[..4], next, left, steps, queue),
-        Steps::All => reach_each(&near, next, left, steps, queue),
+    // Reaches each of these positions.
+    #[inline(always)]
+    fn reach_each(&mut self, at: &[(usize, usize)], count: usize) -> Result<(), AllocError>
+        ensures { OnOk result (Reaches (λ b. Contains at.now b) count self.old self.new) }
+    {
+        for near in at {
+            self.reach(*near, count)?;
+        }
+        Ok(())
+    }
+
+    // Reaches the positions that a step from one that is reached leads to, each by one step more.
+    #[inline(always)]
+    fn reach_around(&mut self, kind: Steps, at: (usize, usize)) -> Result<(), AllocError>
+        requires inside { InRange self.old.left.rows at.0 at.1 }
+        requires marked { (m : ℕ) × IsMarked self.old.steps.numbers.rows at m × (m + 1 < 2 ^ 64) }
+        ensures { OnOk result ((m : ℕ) → IsMarked self.old.steps.numbers.rows at m
+            → Reaches (IsStep kind at) (m + 1) self.old self.new) }
+    {
+        let Some(count) = self.steps.numbers[at] else {
+            return Ok(());
+        };
+        let near = around(at.0, at.1);
+        match kind {
+            Steps::Sides => self.reach_each(&near[..4], count + 1),
+            Steps::All => self.reach_each(&near, count + 1),
+        }
     }
 }
 
@@ -139,23 +108,23 @@ pub(crate) fn search_from<A: Allocator + Clone>(
     ensures settled { IfOk result (λ steps. (from to : ℕ × ℕ)
         → starts.now ≡ from ∷ [] → goal ≡ Some to → IsSettled kind floor.rows from to steps.rows) }
 {
-    let mut steps = no_numbers(&floor)?;
-    let cells = floor.flatten().len();
-    let mut queue = Vec::with_capacity(floor.allocator().clone()?, cells.min(ROOM))?;
-    let mut left = floor;
+    let steps = new_wave(&floor)?;
+    let mut search = Search { left: floor, steps };
     for start in starts {
-        reach(*start, 0, &mut left, &mut steps, &mut queue)?;
+        search.reach(*start, 0)?;
     }
     let mut next = 0;
-    while next < queue.len() {
-        let at = queue[next];
+    while next < search.steps.queue.len() {
+        let at = search.steps.queue[next];
         if is_goal(goal, at) {
-            return Ok(steps);
+            let steps = search.steps;
+            return Ok(steps.numbers);
         }
-        reach_around(kind, at, &mut left, &mut steps, &mut queue)?;
-        next = trim(&mut queue, next + 1);
+        search.reach_around(kind, at)?;
+        next = trim(&mut search.steps.queue, next + 1);
     }
-    Ok(steps)
+    let steps = search.steps;
+    Ok(steps.numbers)
 }
 
 /// Returns, for each cell, the least number of steps from a position. Each cell on a path passes the test, the first

@@ -9,24 +9,22 @@ use Rattle.grid_paths.proofs.search.search_from.Given as goal
 abbrev pub invariant-loop-start : goal.invariant-loop-start
 invariant-loop-start g l =
     record {
-      size : HaveOneSize l.steps.rows l.fn.floor.rows;
-      order : l.steps.order ≡ l.fn.floor.order;
-      cells : l.cells ≡ row_count l.fn.floor.rows * col_count l.fn.floor.rows;
-      left : IsLeft l.fn.floor.rows l.steps.rows l.left.rows;
-      started : IsStarted l.kind l.fn.floor.rows l.starts l.steps.rows l.queue.items l.start-index;
-      bound : unreached l.steps.rows + length l.queue.items ≤ l.cells;
+      size : HaveOneSize l.search.steps.numbers.rows l.fn.floor.rows;
+      order : l.search.steps.numbers.order ≡ l.fn.floor.order;
+      left : IsLeft l.fn.floor.rows l.search.steps.numbers.rows l.search.left.rows;
+      started : IsStarted l.kind l.fn.floor.rows l.starts l.search.steps.numbers.rows l.search.steps.queue.items l.start-index;
+      bound : unreached l.search.steps.numbers.rows + length l.search.steps.queue.items ≤ row_count l.fn.floor.rows * col_count l.fn.floor.rows;
     }
 
 abbrev pub invariant-loop-next : goal.invariant-loop-next
 invariant-loop-next g l =
     record {
-      size : HaveOneSize l.steps.rows l.fn.floor.rows;
-      order : l.steps.order ≡ l.fn.floor.order;
-      cells : l.cells ≡ row_count l.fn.floor.rows * col_count l.fn.floor.rows;
-      left : IsLeft l.fn.floor.rows l.steps.rows l.left.rows;
-      search : IsTrimmed l.kind l.fn.floor.rows l.fn.starts l.steps.rows l.queue.items l.next l.cells;
-      start : (from : ℕ × ℕ) → Contains l.fn.starts from → IsOpen l.fn.floor.rows from → IsMarked l.steps.rows from 0;
+      size : HaveOneSize l.search.steps.numbers.rows l.fn.floor.rows;
+      order : l.search.steps.numbers.order ≡ l.fn.floor.order;
+      left : IsLeft l.fn.floor.rows l.search.steps.numbers.rows l.search.left.rows;
+      search : IsTrimmed l.kind l.fn.floor.rows l.fn.starts l.search.steps.numbers.rows l.search.steps.queue.items l.next (row_count l.fn.floor.rows * col_count l.fn.floor.rows);
+      start : (from : ℕ × ℕ) → Contains l.fn.starts from → IsOpen l.fn.floor.rows from → IsMarked l.search.steps.numbers.rows from 0;
     }
 
 abbrev pub decreases-loop-next : goal.decreases-loop-next
-decreases-loop-next g l = unreached l.steps.rows + length l.queue.items - l.next
+decreases-loop-next g l = unreached l.search.steps.numbers.rows + length l.search.steps.queue.items - l.next

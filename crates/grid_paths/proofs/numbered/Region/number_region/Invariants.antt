@@ -1,0 +1,17 @@
+use Rattle.std.proofs.Common.{◌≡◌, ◌+◌, ◌-◌, length}
+use Rattle.grid_base.specs.GridValue.{SameSizeAndOrder}
+use Rattle.grid_paths.specs.Walks.{alike}
+use Rattle.grid_paths.specs.Search.{unreached}
+use Rattle.grid_paths.proofs.NumberLemmas.{IsNumbering}
+use Rattle.grid_paths.proofs.numbered.Region.number_region.Given as goal
+
+abbrev pub invariant-loop-next : goal.invariant-loop-next
+invariant-loop-next g l =
+    record {
+      same : SameSizeAndOrder l.fn.wave.numbers l.wave.numbers;
+      numbering : IsNumbering l.kind (alike g.T.PartialEq.eq l.self.first.now l.self.grid.now.rows) l.fn.at l.self.number l.fn.wave.numbers.rows l.wave.numbers.rows l.wave.queue.items l.next;
+      fewer : unreached l.wave.numbers.rows + length l.wave.queue.items ≡ unreached l.fn.wave.numbers.rows;
+    }
+
+abbrev pub decreases-loop-next : goal.decreases-loop-next
+decreases-loop-next g l = unreached l.wave.numbers.rows + length l.wave.queue.items - l.next

@@ -1,0 +1,47 @@
+use Rattle.std.proofs.Common.{◌≡◌, ℕ, ◌+◌, Option, Some, Contains, take, sym, subst, ◌∙◌, ap}
+use Rattle.std.proofs.lemmas.Result.{on_ok_weaker}
+use Rattle.grid_base.proofs.TableLemmas.{cell_in_range}
+use Rattle.grid_paths.specs.Around.{AreSteps}
+use Rattle.grid_paths.specs.Wave.{Reaches}
+use Rattle.grid_paths.proofs.SearchLemmas.{one_mark}
+use Rattle.grid_paths.proofs.LeftLemmas.{Reaches-steps}
+use Rattle.grid_paths.proofs.search.Search.reach_around.Goals as goal
+
+pub index-requires : goal.index-requires
+index-requires g c =
+    let m = c.requires.marked in
+    let u = c.args.self.now.steps.numbers in
+    cell_in_range u.rows u.table c.args.at.0 c.args.at.1 (Some m.0) m.1
+
+pub returns-in_default : goal.returns-in_default
+returns-in_default g c =
+    let m = c.requires.marked in
+    let e : ◌≡◌ {A = Option (Option ℕ)} (Some (Some m.0)) (Some c.index.result.now) = sym m.1 ∙ c.index.ensures in
+    let f : c.index.result.now ≡ Some m.0 = cc in
+    absurd (c.in_default.not-Some m.0 f)
+
+pub returns-in-Sides : goal.returns-in-Sides
+returns-in-Sides g c =
+    let at = c.args.at in
+    let s = c.args.self.now in
+    let new = c.reach_each.new.self in
+    let four = take 4 c.around-near.result in
+    on_ok_weaker c.reach_each.result
+    (λ r m mark.
+    let same = one_mark s.steps.numbers.rows at c.in-Some.count m (c.index.ensures ∙ ap Some c.in-Some.is) mark in
+    Reaches-steps c.args.kind at four (subst (λ kind. AreSteps kind at four) (sym c.in-Sides.is) c.around-near.ensures.sides) (m + 1) s new
+    (subst (λ k. Reaches (λ b. Contains four b) (k + 1) s new) same r))
+    c.reach_each.ensures
+
+pub returns-in-All : goal.returns-in-All
+returns-in-All g c =
+    let at = c.args.at in
+    let s = c.args.self.now in
+    let new = c.reach_each-in-All.new.self in
+    let eight = c.around-near.result in
+    on_ok_weaker c.reach_each-in-All.result
+    (λ r m mark.
+    let same = one_mark s.steps.numbers.rows at c.in-Some.count m (c.index.ensures ∙ ap Some c.in-Some.is) mark in
+    Reaches-steps c.args.kind at eight (subst (λ kind. AreSteps kind at eight) (sym c.in-All.is) c.around-near.ensures.all) (m + 1) s new
+    (subst (λ k. Reaches (λ b. Contains eight b) (k + 1) s new) same r))
+    c.reach_each-in-All.ensures

@@ -1,0 +1,42 @@
+-- Searches that number positions, as the code keeps them. No public clause cites this module.
+use Rattle.std.specs.Prelude.{◌≡◌, ℕ, ◌+◌, ◌^◌, ◌<◌, Bool, None, Some, List, [], ◌∷◌, ◌++◌}
+use Rattle.grid_base.specs.GridValue.{GridValue, SameSizeAndOrder}
+use Rattle.grid_base.specs.Table.{row_count, col_count, with_cell, tabulate}
+use Rattle.grid_near.specs.declared.steps.Steps.{Steps}
+use Rattle.grid_paths.specs.declared.search.Search.{Search}
+use Rattle.grid_paths.specs.declared.wave.Wave.{Wave}
+use Rattle.grid_paths.specs.Search.{HaveOneSize, IsLeft, WentRound, unreached}
+use Rattle.grid_paths.specs.Numbers.{IsScanned}
+
+module _ {A : Type 0} where
+  -- nothing is numbered yet
+  pub record IsBlank {T : Type 0} (grid : GridValue T) (w : Wave A) : Type 0 where
+    pub order : w.numbers.order ≡ grid.order
+    pub size : HaveOneSize w.numbers.rows grid.rows
+    pub none : w.numbers.rows ≡ tabulate (row_count grid.rows) (col_count grid.rows) (λ _ _. Some None)
+    pub queue : w.queue.items ≡ []
+
+  -- the position b got the number k, and came to the end of the queue
+  pub record Marks (b : ℕ × ℕ) (k : ℕ) (w w' : Wave A) : Type 0 where
+    pub same : SameSizeAndOrder w.numbers w'.numbers
+    pub numbers : w'.numbers.rows ≡ with_cell w.numbers.rows b.0 b.1 (Some k)
+    pub queue : w'.queue.items ≡ w.queue.items ++ b ∷ []
+
+  -- the near open positions without a number got the number k
+  pub record Spreads (near : ℕ × ℕ → Type 0) (floor : List (List Bool)) (k : ℕ) (w w' : Wave A)
+      : Type 0 where
+    pub same : SameSizeAndOrder w.numbers w'.numbers
+    pub round : WentRound near floor k w.numbers.rows w.queue.items w'.numbers.rows w'.queue.items
+
+  -- the near ones that are left are reached by k steps
+  abbrev pub Reaches : (ℕ × ℕ → Type 0) → ℕ → Search A → Search A → Type 0
+  Reaches near k s s' = (floor : List (List Bool)) → IsLeft floor s.steps.numbers.rows s.left.rows
+      → Spreads near floor k s.steps s'.steps × IsLeft floor s'.steps.numbers.rows s'.left.rows
+
+  -- the regions of the positions before p are numbered
+  pub record IsCounting {T : Type 0} (kind : Steps) (eq : T → T → Bool) (grid : GridValue T)
+      (w : Wave A) (count : ℕ) (p : ℕ × ℕ) : Type 0 where
+    pub order : w.numbers.order ≡ grid.order
+    pub size : HaveOneSize w.numbers.rows grid.rows
+    pub scanned : IsScanned kind eq grid.rows w.numbers.rows count p
+    pub room : count + unreached w.numbers.rows < 2 ^ 64
