@@ -1,7 +1,6 @@
 -- Items that come to the end of a list one by one, or leave it there.
 use Rattle.std.proofs.Common.{◌≡◌, ℕ, zero, suc, ◌+◌, List, [], ◌∷◌, ◌++◌, length, take, drop, reverse, refl, sym, ◌∙◌, ap, arith, append_assoc, append-nil, All, length-append}
-use Rattle.grid_base.proofs.Common.{length-reverse, reverse-append, All-append, All-nil, take-append_seam, drop-append_seam}
-use Rattle.grid_base.specs.Append.{AppendsEach}
+use Rattle.grid_base.proofs.Common.{length-reverse, reverse-append, All-append, All-nil, take-append_seam, drop-append_seam, AppendsEach}
 
 pub fresh_none : {T : Type 0} (P : T → Type 0) (old now : List T) → now ≡ old → AppendsEach P 0 old now
 fresh_none P old now e = record { fresh = []; number = refl; each = All-nil P; appended = e ∙ sym (append-nil old) }

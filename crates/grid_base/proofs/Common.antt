@@ -1,24 +1,33 @@
 -- The names that most proofs cite, passed on from one place. Declares nothing. Lemmas that
 -- definitions cite import none of it.
+pub use Rattle.core.proofs.slice.Lists.{hd}
 pub use Rattle.core.proofs.slice.Writes.{same_lists}
 pub use Rattle.core.specs.Mem.Slots.{SamePlaces}
 pub use Rattle.core.specs.Mem.Slots.Ownership.{Filled, SameOutside}
+pub use Rattle.grid_base.specs.Append.{AppendsEach}
 unfoldable pub use Rattle.grid_base.specs.Blocks.{swapped_forward, swapped_back}
 pub use Rattle.grid_base.specs.Blocks.{BlocksExchanged, PartReversed, BlocksSwapped, BlockTaken}
 pub use Rattle.grid_base.specs.Clones.{ClonesAreEqual}
 pub use Rattle.grid_base.specs.ClosureCalls.{MapsThrough, MapsTo, PairsUp, CallableAtEach, CallableAtCells, CallableAtItems, CallableAtRefs, ReturnsAtCell, FailsFirst}
 pub use Rattle.grid_base.specs.Flags.{flags_of, from_flags}
+pub use Rattle.grid_base.specs.FlatLends.{written_from}
 pub use Rattle.grid_base.specs.Gather.{items_of_each, last_of, before_last}
+pub use Rattle.grid_base.specs.GridLineIterMut.{line_mut_rest}
 pub use Rattle.grid_base.specs.GridValue.{HoldsSize, GridValue, FitsUsize, SameSizeAndOrder}
 pub use Rattle.grid_base.specs.Groups.{Woven, Widened, Opened, TakenOut, Closed}
 pub use Rattle.grid_base.specs.IndexedIterators.{GivesCells, GivesOwnedCells, GivesMutCells, IsCellAt}
 pub use Rattle.grid_base.specs.Layout.{positions_of, lines_of}
+pub use Rattle.grid_base.specs.LineCells.{cells_left}
 pub use Rattle.grid_base.specs.Move.{of_move, word_image, IsNormalForm, ActAlike}
 pub use Rattle.grid_base.specs.Order.{storage, flipped, place, table_of, CanCut}
 unfoldable pub use Rattle.grid_base.specs.Positions.{positions}
 pub use Rattle.grid_base.specs.Positions.{StandsAt, along}
+pub use Rattle.grid_base.specs.Relaid.{Mirrored, Relaid}
+pub use Rattle.grid_base.specs.Remaining.{IsRemaining, remaining}
+pub use Rattle.grid_base.specs.Span.{IsSpan}
+pub use Rattle.grid_base.specs.Strides.{strided, every, strided_remaining, IsLine, LinesInOrder, LinesInReverse, EachLineInOrder, EachLineInReverse}
 unfoldable pub use Rattle.grid_base.specs.Symmetry.{act, symmetry_of}
-pub use Rattle.grid_base.specs.Symmetry.{source_row, source_col, image_rows, image_cols, transposes, act_all, test_table, symmetries, order_after, IsThen, IsInverse, half, price}
+pub use Rattle.grid_base.specs.Symmetry.{source_row, source_col, image_rows, image_cols, transposes, act_all, test_table, symmetries, order_after, IsThen, IsInverse, half, price, IsUndoneAt}
 unfoldable pub use Rattle.grid_base.specs.Table.{tabulate, cells_by}
 pub use Rattle.grid_base.specs.Table.{row_count, col_count, cell, IsTable, IsSize, transposed, row, concat_rows, InRange, with_cell, with_cell_of, exchanged}
 pub use Rattle.grid_base.specs.Tally.{saturating_count, Counts}
@@ -44,7 +53,7 @@ pub use Rattle.std.proofs.lemmas.Iterator.{YieldsList-from_slice}
 pub use Rattle.std.proofs.lemmas.Iterator.Adapters.{YieldsList-from_vec}
 pub use Rattle.std.proofs.lemmas.Iterator.Consumers.{YieldsList-end}
 pub use Rattle.std.proofs.lemmas.Iterator.Search.{all_from_yields_List, any_from_yields_List}
-pub use Rattle.std.proofs.lemmas.List.{length-reverse, reverse-append, take_more, length-map, map-set, get_or-map, drop_more, map-append, set-append_right, drop_all, get_or-reverse, drop_min, set_split, get_or_append_left, get_or_default, set-append_left, get_or_past, take_more_set, nil_from_length, length-replicate, get_or-replicate, take-map, flat_map_more, take-set-le, set-get_or, set_past, reverse-reverse, drop-map}
+pub use Rattle.std.proofs.lemmas.List.{length-reverse, reverse-append, take_more, length-map, map-set, get_or-map, drop_more, map-append, set-append_right, drop_all, get_or-reverse, drop_min, set_split, get_or_append_left, get_or_default, set-append_left, get_or_past, take_more_set, nil_from_length, length-replicate, get_or-replicate, take-map, flat_map_more, take-set-le, set-get_or, set_past, reverse-reverse, drop-map, drop-take}
 pub use Rattle.std.proofs.lemmas.List.Edits.{length-swap, swapped_from_swap, swap_is, length-insert, Swapped, take-paste, map_over_more}
 pub use Rattle.std.proofs.lemmas.List.Elements.{All-append, All-nil, same_from_all_zip, All-cons, All-head, All-tail, All-get_or, All-from_get_or, All-pop, length_all_zip, filter_agree, All-push, All-map, Contains-get_or}
 pub use Rattle.std.proofs.lemmas.List.Folds.{list_all-map, list_all_at, length-prefix_len, list_all-append, list_any-append}

@@ -1,6 +1,6 @@
 -- What a layout knows of its size.
 use Rattle.std.proofs.Common.{◌≡◌, ◌*◌, ℕ}
-use Rattle.grid_base.specs.GridValue.{HoldsSize}
+use Rattle.grid_base.proofs.Common.{HoldsSize}
 use Rattle.grid_base.specs.declared.layout.Layout.{Layout}
 
 -- as many cells as a layout has fill its table

@@ -1,6 +1,6 @@
 -- Iterators over cells with their positions.
 use Rattle.std.proofs.Common.{◌≡◌, ◌≤◌, ℕ, zero, suc, List, [], ◌∷◌, ◌++◌, Some, length, refl, ap, ◌∙◌, arith, zip, slice_get}
-use Rattle.std.proofs.lemmas.Slice.Zip.{length-zip}
+use Rattle.grid_base.proofs.Common.{length-zip}
 
 -- no pairs without second parts
 pub zip_nothing : {A B : Type 0} (xs : List A) (ys : List B) → length ys ≡ 0 → zip xs ys ≡ []

@@ -2,7 +2,7 @@
 use Rattle.std.proofs.Common.{ℕ, ◌+◌, ◌*◌, ◌/◌, ◌≤◌, arith, mul_comm, mul-le-mul_left}
 use Rattle.grid_base.specs.declared.words.Symmetry.{Symmetry}
 use Rattle.grid_base.specs.declared.words.Symmetry.TheVariants.{Identity, FlipCols, FlipRows, RotateHalf, Transpose, RotateLeft, RotateRight, AntiTranspose}
-use Rattle.grid_base.specs.Symmetry.{half, price}
+use Rattle.grid_base.proofs.Common.{half, price}
 
 half_of_each : (m n : ℕ) → m * (n / 2) ≤ half m n
 half_of_each m n =

@@ -1,7 +1,6 @@
 -- Cells that are laid out anew half by half.
 use Rattle.std.proofs.Common.{◌≡◌, ℕ, ◌+◌, ◌-◌, ◌*◌, ◌<◌, ◌++◌, List, length, sym, ◌∙◌, ap, arith, ⊎_elim, length-append, slice_get}
-use Rattle.grid_base.proofs.Common.{cases_lt, Woven, IsTable, row_count, col_count, storage}
-use Rattle.grid_base.specs.Relaid.{Relaid}
+use Rattle.grid_base.proofs.Common.{cases_lt, Woven, IsTable, row_count, col_count, storage, Relaid}
 use Rattle.grid_base.specs.declared.order.Order.TheVariants.{RowMajor, ColumnMajor}
 use Rattle.grid_base.proofs.StorageLemmas.{get_append_left, get_append_right, get-storage, length-storage, has_place}
 use Rattle.grid_base.proofs.TableLemmas.{same_cells}

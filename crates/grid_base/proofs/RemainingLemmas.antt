@@ -1,7 +1,6 @@
 -- An iterator from both ends of a list.
 use Rattle.std.proofs.Common.{◌≡◌, ℕ, ◌+◌, ◌-◌, ◌<◌, ◌≤◌, List, [], ◌∷◌, ◌++◌, take, drop, length, get_or, sym, ◌∙◌, ap, arith, suc, add-one, length-take, length-drop, min, take_all, get_or-drop, drop-drop, drop-cons}
-use Rattle.std.proofs.lemmas.List.{take_more, drop-take, drop_min}
-use Rattle.grid_base.specs.Remaining.{IsRemaining, remaining}
+use Rattle.grid_base.proofs.Common.{take_more, drop-take, drop_min, IsRemaining, remaining}
 
 module _ {X : Type 0} where
   -- all of a list

@@ -1,10 +1,8 @@
 -- The rows of a stored table as lines of its storage; of this crate alone.
 use Rattle.std.proofs.Common.{◌≡◌, ℕ, ◌+◌, ◌-◌, ◌*◌, ◌/◌, ◌<◌, ◌≤◌, List, length, refl, sym, ◌∙◌, ap, arith, mul-le-mul_right, slice_get}
-use Rattle.grid_base.proofs.Common.{div-mul-add, div_ceil, row, place, table_of, HoldsSize}
+use Rattle.grid_base.proofs.Common.{div-mul-add, div_ceil, row, place, table_of, HoldsSize, strided, IsSpan}
 use Rattle.grid_base.specs.declared.order.Order.{Order}
 use Rattle.grid_base.specs.declared.flat.span.Span.{Span}
-use Rattle.grid_base.specs.Strides.{strided}
-use Rattle.grid_base.specs.Span.{IsSpan}
 use Rattle.grid_base.proofs.TableLemmas.{width-tabulate, same_cells}
 use Rattle.grid_base.proofs.StorageLemmas.{IsFull-table_of}
 use Rattle.grid_base.proofs.StrideLemmas.{get-strided, length-line_of, ceil_is}

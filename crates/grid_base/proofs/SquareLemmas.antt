@@ -1,7 +1,6 @@
 -- A square of cells that is transposed part by part.
 use Rattle.std.proofs.Common.{◌≡◌, ℕ, ◌+◌, ◌*◌, ◌/◌, ◌<◌, ◌≤◌, List, length, sym, ◌∙◌, ap, arith, ⊎_elim, swap}
-use Rattle.grid_base.proofs.Common.{div-mul-add, length-swap, cases_lt}
-use Rattle.grid_base.specs.Relaid.{Mirrored}
+use Rattle.grid_base.proofs.Common.{div-mul-add, length-swap, cases_lt, Mirrored}
 use Rattle.grid_base.proofs.WeaveLemmas.{place_below}
 use Rattle.grid_base.proofs.SwapLemmas.{get-swap_first, get-swap_second, get-swap_other}
 

@@ -1,8 +1,7 @@
 -- The cells of a list at a stride, and the iterators over them.
 use Rattle.std.proofs.Common.{◌≡◌, ℕ, zero, suc, ◌+◌, ◌-◌, ◌*◌, ◌/◌, ◌%◌, ◌<◌, ◌≤◌, List, [], ◌∷◌, ◌++◌, Some, None, take, drop, length, refl, ap, sym, ◌∙◌, arith, get_or, length-drop, length-take, ⊎_elim, slice_get, drop-drop, div-add-mod', unwrap_or, option_copied, Bor}
-use Rattle.grid_base.proofs.Common.{add-div_right, div-eq_of_lt, div_ceil, div-mul-add, mod_below, cases_eq, YieldsFirst, YieldsLast, YieldsFirstRef, YieldsLastRef, from_front, from_back, as_is, as_is_back, unwrap_or-slice_get}
+use Rattle.grid_base.proofs.Common.{add-div_right, div-eq_of_lt, div_ceil, div-mul-add, mod_below, cases_eq, YieldsFirst, YieldsLast, YieldsFirstRef, YieldsLastRef, from_front, from_back, as_is, as_is_back, unwrap_or-slice_get, every, strided, strided_remaining, IsLine, LinesInOrder, LinesInReverse, EachLineInOrder, EachLineInReverse}
 use Rattle.std.specs.declared.option.Option.{Option}
-use Rattle.grid_base.specs.Strides.{every, strided, strided_remaining, IsLine, LinesInOrder, LinesInReverse, EachLineInOrder, EachLineInReverse}
 use Rattle.grid_base.proofs.StorageLemmas.{get-take, get-drop}
 use Rattle.grid_base.proofs.RemainingLemmas.{remaining_all, remaining_next, remaining_next_back}
 

@@ -1,21 +1,30 @@
 -- The words of contracts, passed on from one place. Declares nothing.
+pub use Rattle.core.specs.Mem.Slots.{slots_items, slots_filled, slots_len, SamePlaces, Refills, FitsRoom}
+pub use Rattle.core.specs.Mem.Slots.Ownership.{Filled, SameOutside}
+pub use Rattle.grid_base.specs.Append.{AppendsEach}
+unfoldable pub use Rattle.grid_base.specs.Blocks.{swapped_back, swapped_forward}
 pub use Rattle.grid_base.specs.Blocks.{BlocksExchanged, PartReversed, BlocksSwapped, BlockTaken}
 pub use Rattle.grid_base.specs.Clones.{ClonesAreEqual}
 pub use Rattle.grid_base.specs.ClosureCalls.{MapsThrough, MapsTo, PairsUp, CallableAtEach, CallableAtCells, CallableAtItems, CallableAtRefs, ReturnsAtCell, CallableTimes, Generates, FailsFirst}
 pub use Rattle.grid_base.specs.Flags.{flags_of, from_flags}
-pub use Rattle.grid_base.specs.Gather.{items_of_each}
+pub use Rattle.grid_base.specs.Gather.{items_of_each, last_of, before_last}
 pub use Rattle.grid_base.specs.GridLineIterMut.{line_mut_rest, line_mut_name}
 pub use Rattle.grid_base.specs.GridValue.{HoldsSize, GridValue, FitsUsize, SameSizeAndOrder}
 pub use Rattle.grid_base.specs.Groups.{Woven, Widened, Opened, TakenOut, Closed}
 pub use Rattle.grid_base.specs.IndexedIterators.{GivesCells, GivesOwnedCells, GivesMutCells, IsCellAt}
 pub use Rattle.grid_base.specs.Iterators.{GivesLine, GivesIndexed, GivesLines, GivesRefs, GivesMutRefs, GivesOwned, GivesMutIndexed, GivesOwnedIndexed}
 pub use Rattle.grid_base.specs.Layout.{positions_of, lines_of}
-pub use Rattle.grid_base.specs.Move.{word_image, IsImageByWords}
+pub use Rattle.grid_base.specs.Move.{word_image, IsImageByWords, of_move, IsNormalForm, ActAlike}
 pub use Rattle.grid_base.specs.Order.{storage, flipped, place, table_of, CanCut}
 unfoldable pub use Rattle.grid_base.specs.Positions.{positions}
 pub use Rattle.grid_base.specs.Positions.{StandsAt, along}
+pub use Rattle.grid_base.specs.Relaid.{Relaid, Mirrored, Transposed}
+pub use Rattle.grid_base.specs.Room.{GroupsMoved, HasGroups}
+pub use Rattle.grid_base.specs.Span.{IsSpan}
 unfoldable pub use Rattle.grid_base.specs.Symmetry.{act, symmetry_of}
-pub use Rattle.grid_base.specs.Symmetry.{source_row, source_col, image_rows, image_cols, transposes, order_after, IsThen, IsInverse, half, price, HasImageSize}
+pub use Rattle.grid_base.specs.Symmetry.{source_row, source_col, image_rows, image_cols, transposes, order_after, IsThen, IsInverse, half, price, HasImageSize, IsAssociativeAt, IsNeutralAt, IsUndoneAt}
 unfoldable pub use Rattle.grid_base.specs.Table.{tabulate, cells_by}
 pub use Rattle.grid_base.specs.Table.{row_count, col_count, cell, IsTable, IsSize, transposed, row, concat_rows, InRange, with_cell, with_cell_of, exchanged}
 pub use Rattle.grid_base.specs.Tally.{saturating_count, Counts}
+pub use Rattle.grid_base.specs.Updated.{CallableFrom, UpdatedFrom}
+pub use Rattle.std.specs.Fn.{FnReturnsAt}

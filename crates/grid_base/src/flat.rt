@@ -1,5 +1,5 @@
 //! The vector of a grid's cells.
-ghost use Rattle.std.specs.Prelude.{◌≡◌, ◌<◌, ◌≤◌, ◌+◌, [], length, swap, slice_get, Some, IfOk};
+ghost use Rattle.std.specs.Prelude.{◌≡◌, ◌<◌, ◌≤◌, ◌+◌, [], length, swap, slice_get, Some, IfOk, List};
 ghost use Rattle.std.specs.Borrow.{sem};
 ghost use Rattle.std.specs.Iterator.Runs.{YieldsMutRefsInOrder, YieldsMutRefsInReverse};
 ghost use Rattle.std.specs.Slice.Iter.{iter_mut_rest, iter_mut_steps, iter_mut_steps_back};
@@ -41,8 +41,6 @@ pub struct Flat<T, A: Allocator = Global> {
 }
 
 impl<T, A: Allocator> Model for Flat<T, A> {
-    ghost use Rattle.std.specs.Prelude.{List};
-
     ghost Value = { List T };
 
     ghost view = { λ f. f.cells.items };

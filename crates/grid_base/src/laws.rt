@@ -4,10 +4,9 @@
 //! A law is the clause of that name: it speaks of every table or every symmetry. The other clauses say what a call
 //! returns.
 ghost use Rattle.std.specs.Prelude.{◌≡◌, List, Some, slice_get};
+ghost use Rattle.grid_base.specs.Prelude.{IsTable, act, IsThen, IsInverse, IsAssociativeAt, IsNeutralAt, IsUndoneAt};
 ghost use Rattle.grid_base.specs.declared.words.Symmetry.{Symmetry};
 ghost use Rattle.grid_base.specs.declared.words.Symmetry.TheVariants.{Identity};
-ghost use Rattle.grid_base.specs.Table.{IsTable};
-ghost use Rattle.grid_base.specs.Symmetry.{act, IsThen, IsInverse, IsAssociativeAt, IsNeutralAt, IsUndoneAt};
 
 use crate::Symmetry;
 

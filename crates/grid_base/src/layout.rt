@@ -1,7 +1,7 @@
 //! How a slice stores the cells of a table.
 ghost use Rattle.std.specs.Prelude.{◌≡◌, ◌*◌, ◌^◌, ◌<◌};
-ghost use Rattle.grid_base.specs.Table.{IsSize};
 ghost use Rattle.grid_base.specs.Positions.{along};
+ghost use Rattle.grid_base.specs.Table.{IsSize};
 
 use crate::Order;
 

@@ -1,9 +1,6 @@
 //! The eight symmetries of a table, and words of moves.
 ghost use Rattle.std.specs.Prelude.{◌≡◌, ◌↔◌, ℕ, List};
-ghost use Rattle.grid_base.specs.Table.{IsTable};
-ghost use Rattle.grid_base.specs.Symmetry.{act, IsThen, IsInverse};
-ghost use Rattle.grid_base.specs.Flags.{flags_of, from_flags};
-ghost use Rattle.grid_base.specs.Move.{of_move, word_image, IsNormalForm, ActAlike};
+ghost use Rattle.grid_base.specs.Prelude.{IsTable, act, IsThen, IsInverse, flags_of, from_flags, of_move, word_image, IsNormalForm, ActAlike};
 ghost use Rattle.grid_base.specs.declared.words.Move.{Move};
 
 /// A symmetry of tables. Each is a transpose or none, then a flip of the rows or none, then a flip of the columns

@@ -1,10 +1,6 @@
 //! Calls on all cells of a `Flat`.
 ghost use Rattle.std.specs.Prelude.{[], ◌≡◌, ◌+◌, ◌*◌, ◌<◌, ◌≤◌, length, replicate, take, zip, vec_len, vec_capacity, Ok, IsOk, IfOk, IfErr, OnOk, OnErr};
-ghost use Rattle.std.specs.Fn.{FnReturnsAt};
-ghost use Rattle.grid_base.specs.ClosureCalls.{MapsTo, CallableAtEach, CallableAtRefs, CallableTimes, CallableAtCells, CallableAtItems, ReturnsAtCell, Generates, PairsUp, FailsFirst};
-ghost use Rattle.grid_base.specs.Updated.{CallableFrom, UpdatedFrom};
-ghost use Rattle.grid_base.specs.Layout.{positions_of, lines_of};
-ghost use Rattle.grid_base.specs.Clones.{ClonesAreEqual};
+ghost use Rattle.grid_base.specs.Prelude.{FnReturnsAt, MapsTo, CallableAtEach, CallableAtRefs, CallableTimes, CallableAtCells, CallableAtItems, ReturnsAtCell, Generates, PairsUp, FailsFirst, CallableFrom, UpdatedFrom, positions_of, lines_of, ClonesAreEqual};
 
 use super::Flat;
 use super::positions::Positions;

@@ -1,6 +1,6 @@
 //! Cells that come to the end of a vector, or leave it there.
 ghost use Rattle.std.specs.Prelude.{◌≡◌, ◌+◌, ◌-◌, ◌≤◌, [], ◌++◌, length, take, drop, reverse, OnOk, OnErr, vec_len, vec_capacity};
-ghost use Rattle.grid_base.specs.Append.{AppendsEach};
+ghost use Rattle.grid_base.specs.Prelude.{AppendsEach};
 
 use super::Flat;
 use core::mem::replace_with;

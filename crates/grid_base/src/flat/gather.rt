@@ -1,8 +1,6 @@
 //! Lines of cells that are moved to the end of a vector, in either order.
 ghost use Rattle.std.specs.Prelude.{◌≡◌, ◌+◌, ◌*◌, ◌^◌, ◌<◌, ◌≤◌, [], ◌++◌, length, map, flat_map, reverse, All, OnOk, OnErr, vec_len, vec_capacity};
-ghost use Rattle.grid_base.specs.Table.{row_count, col_count, concat_rows, IsTable};
-ghost use Rattle.grid_base.specs.Order.{storage};
-ghost use Rattle.grid_base.specs.Gather.{items_of_each, last_of, before_last};
+ghost use Rattle.grid_base.specs.Prelude.{row_count, col_count, concat_rows, IsTable, storage, items_of_each, last_of, before_last};
 
 use super::Flat;
 use crate::Order;

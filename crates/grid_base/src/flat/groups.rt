@@ -11,9 +11,9 @@
 //! takes the groups from the second form by counted swaps, and drops them; `drop_groups` does so uncounted.
 ghost use Rattle.std.specs.Prelude.{◌≡◌, ◌+◌, ◌-◌, ◌*◌, ◌^◌, ◌<◌, ◌≤◌, ◌⊎◌, length, IfOk, OnErr};
 ghost use Rattle.core.specs.Mem.Slots.{FitsRoom};
-ghost use Rattle.grid_base.specs.declared.flat.groups.Method.TheVariants.{Nothing, Singly, ThroughRoom, ByHalves};
 ghost use Rattle.grid_base.specs.Groups.{Widened, Woven, Opened, Closed, TakenOut};
 ghost use Rattle.grid_base.specs.Tally.{saturating_count};
+ghost use Rattle.grid_base.specs.declared.flat.groups.Method.TheVariants.{Nothing, Singly, ThroughRoom, ByHalves};
 
 use super::room::{Way, move_through_room};
 use super::rotations::{FEW_BYTES, exchange_at_once, exchange_blocks};

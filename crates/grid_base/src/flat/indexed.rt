@@ -1,10 +1,12 @@
 //! Iterators over all cells with their rows and columns, in storage order: by reference, for writing, and by value.
-ghost use Rattle.std.specs.Prelude.{◌≡◌, ◌*◌, ⊤, length, zip, IfSome, Some};
+ghost use Rattle.std.specs.Prelude.{◌≡◌, ◌*◌, ⊤, length, zip, IfSome, Some, ℕ, ◌≤◌, List};
 ghost use Rattle.std.specs.Borrow.{sem};
 ghost use Rattle.std.specs.Iterator.{YieldsFirst, YieldsFirstBy, YieldsLastBy, item_count, UpTo, at_most};
 ghost use Rattle.std.specs.Iterator.SizeHint.{IsWithinCount};
-ghost use Rattle.grid_base.specs.Layout.{positions_of};
+ghost use Rattle.std.specs.Slice.Iter.{iter_rest};
+ghost use Rattle.std.specs.Vec.Iter.{into_iter_items};
 ghost use Rattle.grid_base.specs.IndexedIterMut.{indexed_mut_rest};
+ghost use Rattle.grid_base.specs.Layout.{positions_of};
 
 use super::Flat;
 use super::positions::Positions;
@@ -67,9 +69,6 @@ pub struct IndexedIter<'a, T> {
 }
 
 impl<'a, T> Model for IndexedIter<'a, T> {
-    ghost use Rattle.std.specs.Prelude.{ℕ, ◌≤◌, List, length, zip};
-    ghost use Rattle.std.specs.Slice.Iter.{iter_rest};
-
     ghost Value = { List ((ℕ × ℕ) × T) };
 
     ghost view = { λ a. zip a.positions (iter_rest a.cells) };
@@ -173,9 +172,6 @@ pub struct IndexedIntoIter<T, A: Allocator = Global> {
 }
 
 impl<T, A: Allocator> Model for IndexedIntoIter<T, A> {
-    ghost use Rattle.std.specs.Prelude.{ℕ, List, zip};
-    ghost use Rattle.std.specs.Vec.Iter.{into_iter_items};
-
     ghost Value = { List ((ℕ × ℕ) × T) };
 
     ghost view = { λ a. zip a.positions (into_iter_items a.owned) };

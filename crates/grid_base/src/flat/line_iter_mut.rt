@@ -3,8 +3,8 @@ ghost use Rattle.std.specs.Prelude.{◌≡◌, ◌-◌, ◌<◌, ◌≤◌, leng
 ghost use Rattle.std.specs.Borrow.{sem};
 ghost use Rattle.std.specs.Iterator.{item_count, UpTo, at_most};
 ghost use Rattle.std.specs.Iterator.SizeHint.{IsWithinCount};
-ghost use Rattle.grid_base.specs.Strides.{strided};
 ghost use Rattle.grid_base.specs.LineStep.{lends_step};
+ghost use Rattle.grid_base.specs.Strides.{strided};
 
 use super::Flat;
 use std::alloc::Allocator;

@@ -2,9 +2,9 @@
 ghost use Rattle.std.specs.Prelude.{◌≡◌, ◌+◌, ◌<◌, ◌∷◌, length, min, slice_get, IfSome, Some};
 ghost use Rattle.std.specs.Iterator.{YieldsFirst, item_count, UpTo, at_most};
 ghost use Rattle.std.specs.Iterator.SizeHint.{IsWithinCount};
+ghost use Rattle.grid_base.specs.Layout.{positions_of};
 ghost use Rattle.grid_base.specs.Order.{place};
 ghost use Rattle.grid_base.specs.Positions.{StandsAt};
-ghost use Rattle.grid_base.specs.Layout.{positions_of};
 
 use crate::{Layout, Order};
 use std::marker::Model;

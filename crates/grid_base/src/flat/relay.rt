@@ -1,6 +1,6 @@
 //! Cells that are laid out anew: lines of a vector that become its columns.
 ghost use Rattle.std.specs.Prelude.{◌≡◌, ◌*◌, ◌^◌, ◌<◌, length};
-ghost use Rattle.grid_base.specs.Relaid.{Relaid};
+ghost use Rattle.grid_base.specs.Prelude.{Relaid};
 
 use super::groups::{unweave, weave};
 use super::square::transpose_square;

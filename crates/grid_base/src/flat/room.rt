@@ -1,9 +1,6 @@
 //! Groups that wait in a room on the stack while the cells of the lines move, each cell once. No tally counts it.
 ghost use Rattle.std.specs.Prelude.{◌≡◌, ◌+◌, ◌*◌, ◌<◌, ◌≤◌, ◌++◌, false, length, take, drop, slice_range};
-ghost use Rattle.core.specs.Mem.Slots.Ownership.{Filled, SameOutside};
-ghost use Rattle.core.specs.Mem.Slots.{slots_items, slots_filled, slots_len, SamePlaces, Refills, FitsRoom};
-ghost use Rattle.grid_base.specs.Groups.{Woven};
-ghost use Rattle.grid_base.specs.Room.{GroupsMoved, HasGroups};
+ghost use Rattle.grid_base.specs.Prelude.{Filled, SameOutside, slots_items, slots_filled, slots_len, SamePlaces, Refills, FitsRoom, Woven, GroupsMoved, HasGroups};
 
 use super::Groups;
 use core::slots::{Slots, with_room, with_slots};

@@ -1,6 +1,6 @@
 //! Parts of a slice that are reversed, and blocks that are side by side and change places. No tally counts it.
 ghost use Rattle.std.specs.Prelude.{◌≡◌, ◌<◌, ◌≤◌, ◌+◌, ◌^◌, ◌++◌, length, take, drop, reverse};
-ghost use Rattle.grid_base.specs.Blocks.{BlocksExchanged, BlockTaken, PartReversed};
+ghost use Rattle.grid_base.specs.Prelude.{BlocksExchanged, BlockTaken, PartReversed};
 
 use std::mem;
 

@@ -3,10 +3,10 @@ ghost use Rattle.std.specs.Prelude.{◌≡◌, ◌+◌, ◌*◌, ◌<◌, ⊤, l
 ghost use Rattle.std.specs.Borrow.{sem};
 ghost use Rattle.std.specs.Iterator.{YieldsFirst, YieldsLast, item_count, UpTo, at_most};
 ghost use Rattle.std.specs.Iterator.SizeHint.{IsWithinCount};
-ghost use Rattle.grid_base.specs.Table.{row};
+ghost use Rattle.grid_base.specs.GridLineIterMut.{line_mut_rest};
 ghost use Rattle.grid_base.specs.Order.{place, table_of};
 ghost use Rattle.grid_base.specs.Strides.{LinesInOrder, LinesInReverse, EachLineInOrder, EachLineInReverse};
-ghost use Rattle.grid_base.specs.GridLineIterMut.{line_mut_rest};
+ghost use Rattle.grid_base.specs.Table.{row};
 
 use super::line_iter::line_of;
 use super::span::row_span;

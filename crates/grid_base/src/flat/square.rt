@@ -1,7 +1,7 @@
 //! A square of cells that is transposed in place, part by part, so that the cells of a part stay in the cache. No tally
 //! counts it.
 ghost use Rattle.std.specs.Prelude.{◌≡◌, ◌+◌, ◌*◌, ◌^◌, ◌<◌, ◌≤◌, length};
-ghost use Rattle.grid_base.specs.Relaid.{Relaid, Mirrored, Transposed};
+ghost use Rattle.grid_base.specs.Prelude.{Relaid, Mirrored, Transposed};
 
 // A part of at most this many rows and columns is swapped cell by cell. A line of a board of 4096 by 4096 is as long as
 // a page, so the lines of a larger part drive each other out of the cache.

@@ -1,6 +1,6 @@
 use Rattle.std.proofs.Common.{◌∙◌, subst, rules}
-use Rattle.grid_base.proofs.GroupLemmas.{then_is, IsThen-product, product_identity, identity_product}
-use Rattle.grid_base.specs.Symmetry.{IsThen}
+use Rattle.grid_base.proofs.Common.{IsThen}
+use Rattle.grid_base.proofs.Lemmas.{then_is, IsThen-product, product_identity, identity_product}
 use Rattle.grid_base.specs.declared.words.Symmetry.TheVariants.{Identity}
 use Rattle.grid_base.proofs.laws.identity_is_neutral.Goals as goal
 

@@ -1,5 +1,5 @@
 use Rattle.std.proofs.Common.{rules}
-use Rattle.grid_base.proofs.GroupLemmas.{inverse_acts}
+use Rattle.grid_base.proofs.Lemmas.{inverse_acts}
 use Rattle.grid_base.proofs.laws.inverse_acts.Goals as goal
 
 pub returns-clause-law : goal.returns-clause-law

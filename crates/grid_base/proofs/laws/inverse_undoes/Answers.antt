@@ -1,6 +1,6 @@
 use Rattle.std.proofs.Common.{◌∙◌, sym, subst}
-use Rattle.grid_base.proofs.GroupLemmas.{then_is, IsThen-product, inverse_is, inverse_left}
-use Rattle.grid_base.specs.Symmetry.{IsThen, IsUndoneAt}
+use Rattle.grid_base.proofs.Common.{IsThen, IsUndoneAt}
+use Rattle.grid_base.proofs.Lemmas.{then_is, IsThen-product, inverse_is, inverse_left}
 use Rattle.grid_base.specs.declared.words.Symmetry.{Symmetry}
 use Rattle.grid_base.proofs.laws.inverse_undoes.Goals as goal
 

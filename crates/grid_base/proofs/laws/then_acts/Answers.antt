@@ -1,5 +1,5 @@
 use Rattle.std.proofs.Common.{rules}
-use Rattle.grid_base.proofs.GroupLemmas.{then_acts}
+use Rattle.grid_base.proofs.Lemmas.{then_acts}
 use Rattle.grid_base.proofs.laws.then_acts.Goals as goal
 
 pub returns-clause-law : goal.returns-clause-law

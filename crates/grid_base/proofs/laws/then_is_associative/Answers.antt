@@ -1,6 +1,6 @@
 use Rattle.std.proofs.Common.{◌≡◌, ◌∙◌, sym, ap, subst}
-use Rattle.grid_base.proofs.GroupLemmas.{product, product_assoc, then_is}
-use Rattle.grid_base.specs.Symmetry.{IsThen}
+use Rattle.grid_base.proofs.Common.{IsThen}
+use Rattle.grid_base.proofs.Lemmas.{product, product_assoc, then_is}
 use Rattle.grid_base.proofs.laws.then_is_associative.Goals as goal
 
 pub returns-clause-left : goal.returns-clause-left

@@ -1,6 +1,6 @@
 use Rattle.std.proofs.Common.{◌≡◌, ◌∙◌, ap, sym, take, take_all}
-use Rattle.grid_base.specs.Symmetry.{act, test_table}
-use Rattle.grid_base.proofs.GroupLemmas.{word_symmetry, word_symmetry-more, word-acts, alike_normal, then_is, product, IsTable-test}
+use Rattle.grid_base.proofs.Common.{act, test_table}
+use Rattle.grid_base.proofs.Lemmas.{word_symmetry, word_symmetry-more, word-acts, alike_normal, then_is, product, IsTable-test}
 use Rattle.grid_base.specs.declared.words.Move.TheVariants as moves
 use Rattle.grid_base.proofs.words.reduce.Goals as goal
 

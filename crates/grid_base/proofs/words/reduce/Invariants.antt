@@ -1,5 +1,5 @@
 use Rattle.std.proofs.Common.{◌≡◌, take}
-use Rattle.grid_base.proofs.GroupLemmas.{word_symmetry}
+use Rattle.grid_base.proofs.Lemmas.{word_symmetry}
 use Rattle.grid_base.proofs.words.reduce.Given as goal
 
 abbrev pub invariant-loop-step : goal.invariant-loop-step

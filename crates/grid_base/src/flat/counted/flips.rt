@@ -1,7 +1,6 @@
 //! Cells that are reversed, and blocks that change places, by counted swaps.
 ghost use Rattle.std.specs.Prelude.{◌≡◌, ◌<◌, ◌≤◌, ◌+◌, ◌/◌, ◌^◌, ◌++◌, length};
-ghost use Rattle.grid_base.specs.Blocks.{BlocksSwapped, PartReversed};
-ghost use Rattle.grid_base.specs.Tally.{saturating_count};
+ghost use Rattle.grid_base.specs.Prelude.{BlocksSwapped, PartReversed, saturating_count};
 
 use super::swaps::{Swaps, swap_for_symmetry};
 use crate::{Flat, Tally};

@@ -1,6 +1,6 @@
 //! Cells that come some places forward or back, by counted swaps.
 ghost use Rattle.std.specs.Prelude.{◌≡◌, ◌<◌, ◌≤◌, ◌+◌, ◌*◌, ◌^◌, length};
-ghost use Rattle.grid_base.specs.Blocks.{swapped_back, swapped_forward};
+ghost use Rattle.grid_base.specs.Prelude.{swapped_back, swapped_forward};
 
 use super::swaps::{Swaps, swap_for_shift};
 use crate::Flat;

@@ -1,7 +1,6 @@
 use Rattle.std.proofs.Common.{arith}
 use Rattle.grid_base.proofs.Common.{col_count, items_of_each}
-use Rattle.grid_base.proofs.StorageLemmas.{length-concat_rows}
-use Rattle.grid_base.proofs.GatherLemmas.{rows-vecs}
+use Rattle.grid_base.proofs.Lemmas.{length-concat_rows, rows-vecs}
 use Rattle.grid_base.proofs.flat.Flat.append_rows.Goals as goal
 
 pub append_each-requires : goal.append_each-requires

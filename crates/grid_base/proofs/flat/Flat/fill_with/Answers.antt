@@ -1,6 +1,7 @@
 use Rattle.std.proofs.Common.{◌≡◌, ◌<◌, ◌∙◌, ap, length, take, arith}
-use Rattle.std.proofs.lemmas.List.{length-take, take_more_set}
-use Rattle.grid_base.proofs.ClosureLemmas.{FoldsTo-append}
+use Rattle.grid_base.proofs.Common.{take_more_set}
+use Rattle.grid_base.proofs.Lemmas.{FoldsTo-append}
+use Rattle.std.proofs.lemmas.List.{length-take}
 use Rattle.grid_base.proofs.flat.Flat.fill_with.Goals as goal
 
 pub loop-cell-preserved : goal.loop-cell-preserved

@@ -1,6 +1,6 @@
 use Rattle.std.proofs.Common.{rules, ◌≡◌, arith, vec_len, take_all}
-use Rattle.grid_base.specs.Layout.{positions_of}
-use Rattle.grid_base.proofs.PlaceLemmas.{all_passed, length-places}
+use Rattle.grid_base.proofs.Common.{positions_of}
+use Rattle.grid_base.proofs.Lemmas.{all_passed, length-places}
 use Rattle.grid_base.proofs.flat.Flat.from_fn.Goals as goal
 
 pub returns-clause-cells : goal.returns-clause-cells

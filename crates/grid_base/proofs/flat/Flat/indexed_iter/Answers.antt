@@ -1,5 +1,5 @@
 use Rattle.std.proofs.Common.{length, ap, arith}
-use Rattle.grid_base.proofs.PlaceLemmas.{length-places}
+use Rattle.grid_base.proofs.Lemmas.{length-places}
 use Rattle.grid_base.proofs.flat.Flat.indexed_iter.Goals as goal
 
 pub invariant_of-result : goal.invariant_of-result

@@ -1,6 +1,6 @@
-use Rattle.std.proofs.lemmas.Grind.{common_steps}
+use Rattle.grid_base.proofs.Common.{common_steps}
+use Rattle.grid_base.proofs.Lemmas.{MapsThrough-append, callable_next}
 use Rattle.std.proofs.Common.{arith, length-append, append_assoc}
-use Rattle.grid_base.proofs.ClosureLemmas.{MapsThrough-append, callable_next}
 use Rattle.grid_base.proofs.flat.Flat.map.Goals as goal
 
 pub loop-cell-preserved : goal.loop-cell-preserved

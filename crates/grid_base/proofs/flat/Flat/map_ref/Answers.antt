@@ -1,6 +1,6 @@
 use Rattle.std.proofs.Common.{◌<◌, refl, sym, subst, ◌∙◌, length, arith}
 use Rattle.grid_base.proofs.Common.{take_more, CallableAtRefs}
-use Rattle.grid_base.proofs.ClosureLemmas.{AllZip-append}
+use Rattle.grid_base.proofs.Lemmas.{AllZip-append}
 use Rattle.grid_base.proofs.flat.Flat.map_ref.Goals as goal
 
 pub loop-cell-preserved : goal.loop-cell-preserved

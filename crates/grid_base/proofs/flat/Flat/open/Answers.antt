@@ -1,6 +1,5 @@
 use Rattle.std.proofs.Common.{◌≡◌, ◌+◌, ◌-◌, ◌*◌, ◌≤◌, refl, ap, arith, mul-le-mul_right}
-use Rattle.grid_base.proofs.ShiftLemmas.{moved_back}
-use Rattle.grid_base.proofs.SpreadLemmas.{opening_none, opening_run, opening_end, times_less, first_line}
+use Rattle.grid_base.proofs.Lemmas.{moved_back, opening_none, opening_run, opening_end, times_less, first_line}
 use Rattle.grid_base.proofs.flat.Flat.open.Goals as goal
 
 pub loop-line-init : goal.loop-line-init

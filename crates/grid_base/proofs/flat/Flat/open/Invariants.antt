@@ -1,5 +1,5 @@
 use Rattle.std.proofs.Common.{◌≡◌, ◌+◌, ◌*◌, ◌≤◌, min}
-use Rattle.grid_base.proofs.SpreadLemmas.{spread, Opening}
+use Rattle.grid_base.proofs.Lemmas.{spread, Opening}
 use Rattle.grid_base.proofs.flat.Flat.open.Given as goal
 
 abbrev pub invariant-loop-line : goal.invariant-loop-line

@@ -1,6 +1,6 @@
 use Rattle.std.proofs.Common.{sym, arith, rules}
-use Rattle.std.proofs.lemmas.Grind.{common_steps}
-use Rattle.grid_base.proofs.PartLemmas.{part_behind}
+use Rattle.grid_base.proofs.Common.{common_steps}
+use Rattle.grid_base.proofs.Lemmas.{part_behind}
 use Rattle.grid_base.proofs.flat.Flat.reverse_for_symmetry.Goals as goal
 
 pub returns-clause-cells : goal.returns-clause-cells

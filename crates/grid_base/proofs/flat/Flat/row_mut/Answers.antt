@@ -1,7 +1,6 @@
 use Rattle.std.proofs.Common.{◌∙◌, arith, refl, ap}
-use Rattle.grid_base.specs.FlatLends.{written_from}
-use Rattle.grid_base.proofs.SpanLemmas.{span_within, row_is, first_place}
-use Rattle.grid_base.proofs.LayoutLemmas.{holds}
+use Rattle.grid_base.proofs.Common.{written_from}
+use Rattle.grid_base.proofs.Lemmas.{span_within, row_is, first_place, holds}
 use Rattle.grid_base.proofs.flat.Flat.row_mut.Goals as goal
 
 pub row_span-span-requires-clause-wide : goal.row_span-span-requires-clause-wide

@@ -1,9 +1,6 @@
 use Rattle.std.proofs.Common.{◌∙◌, ap, sym, arith}
-use Rattle.grid_base.specs.Order.{table_of}
-use Rattle.grid_base.proofs.StrideLemmas.{lines_in_order, lines_in_reverse, each_line_in_order, each_line_in_reverse}
-use Rattle.grid_base.proofs.RemainingLemmas.{remaining_all}
-use Rattle.grid_base.proofs.ViewLemmas.{view-rows}
-use Rattle.grid_base.proofs.LayoutLemmas.{holds}
+use Rattle.grid_base.proofs.Common.{table_of}
+use Rattle.grid_base.proofs.Lemmas.{lines_in_order, lines_in_reverse, each_line_in_order, each_line_in_reverse, remaining_all, view-rows, holds}
 use Rattle.grid_base.proofs.flat.Flat.rows.Goals as goal
 
 pub invariant_of-result : goal.invariant_of-result

@@ -1,6 +1,6 @@
 use Rattle.std.proofs.Common.{arith, rules, refl, ◌≡◌, ◌*◌, List, take, drop}
 use Rattle.grid_base.proofs.Common.{common_steps, TakenOut}
-use Rattle.grid_base.proofs.WeaveLemmas.{taken_in_place}
+use Rattle.grid_base.proofs.Lemmas.{taken_in_place}
 use Rattle.grid_base.proofs.flat.Flat.take_out.Goals as goal
 
 pub returns-in-Nothing-clause-taken : goal.returns-in-Nothing-clause-taken

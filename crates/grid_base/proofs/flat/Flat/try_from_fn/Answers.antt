@@ -1,7 +1,6 @@
 use Rattle.std.proofs.Common.{◌≡◌, arith, ap, ◌∙◌, ◌++◌, ◌∷◌, [], length, append_assoc, append-nil}
-use Rattle.grid_base.specs.Layout.{positions_of}
-use Rattle.grid_base.proofs.ClosureLemmas.{AllZip-append, AllZip-length, callable_item}
-use Rattle.grid_base.proofs.PlaceLemmas.{length-places}
+use Rattle.grid_base.proofs.Common.{positions_of}
+use Rattle.grid_base.proofs.Lemmas.{AllZip-append, AllZip-length, callable_item, length-places}
 use Rattle.grid_base.proofs.flat.Flat.try_from_fn.Goals as goal
 
 pub loop-at-init : goal.loop-at-init

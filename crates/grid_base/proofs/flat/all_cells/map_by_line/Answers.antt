@@ -1,7 +1,6 @@
 use Rattle.std.proofs.Common.{rules, ◌≡◌, arith, sym, ◌∙◌, length, vec_len, zip, take_all}
-use Rattle.grid_base.specs.Layout.{positions_of}
-use Rattle.grid_base.proofs.PlaceLemmas.{all_passed, length-places}
-use Rattle.grid_base.proofs.PlacedCellLemmas.{zip_even}
+use Rattle.grid_base.proofs.Common.{positions_of}
+use Rattle.grid_base.proofs.Lemmas.{all_passed, length-places, zip_even}
 use Rattle.grid_base.proofs.flat.all_cells.map_by_line.Goals as goal
 
 pub returns-clause-cells : goal.returns-clause-cells

@@ -1,8 +1,6 @@
 use Rattle.std.proofs.Common.{◌≡◌, ◌<◌, ◌+◌, arith, refl, sym, ap, ◌∙◌, ◌++◌, ◌∷◌, [], zip, length, drop, append_assoc, append-nil}
 use Rattle.grid_base.proofs.Common.{drop_all, drop_more, positions_of}
-use Rattle.grid_base.proofs.ClosureLemmas.{AllZip-append, callable_cell}
-use Rattle.grid_base.proofs.PlaceLemmas.{length-places}
-use Rattle.grid_base.proofs.PlacedCellLemmas.{zip_nothing}
+use Rattle.grid_base.proofs.Lemmas.{AllZip-append, callable_cell, length-places, zip_nothing}
 use Rattle.grid_base.proofs.flat.all_cells.map_in_turn.Goals as goal
 
 pub loop-cell-init : goal.loop-cell-init

@@ -1,7 +1,6 @@
 use Rattle.std.proofs.Common.{◌≡◌, Some, arith, sym, vec_len, ◌∙◌, slice_get}
 use Rattle.grid_base.proofs.Common.{slice_get_within, get_or_from_slice_get, positions_of}
-use Rattle.grid_base.proofs.ClosureLemmas.{answers_more}
-use Rattle.grid_base.proofs.PlaceLemmas.{get_along, length-places}
+use Rattle.grid_base.proofs.Lemmas.{answers_more, get_along, length-places}
 use Rattle.grid_base.proofs.flat.all_cells.push_line.Goals as goal
 
 pub f-requires : goal.f-requires

@@ -1,8 +1,6 @@
 use Rattle.std.proofs.Common.{rules, ◌≡◌, ◌<◌, ◌+◌, ◌*◌, ℕ, Some, arith, ap, refl, sym, ◌∙◌, length, vec_len, zip, slice_get}
 use Rattle.grid_base.proofs.Common.{slice_get_within, slice_get_read, get_or_from_slice_get, positions_of}
-use Rattle.grid_base.proofs.ClosureLemmas.{answers_more}
-use Rattle.grid_base.proofs.PlaceLemmas.{get_along, length-places}
-use Rattle.grid_base.proofs.PlacedCellLemmas.{get-zip}
+use Rattle.grid_base.proofs.Lemmas.{answers_more, get_along, length-places, get-zip}
 use Rattle.grid_base.proofs.flat.all_cells.push_mapped.Goals as goal
 
 pub bounds-cells-start : goal.bounds-cells-start

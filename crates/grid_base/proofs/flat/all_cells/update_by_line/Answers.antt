@@ -1,7 +1,6 @@
 use Rattle.std.proofs.Common.{◌≡◌, ◌*◌, arith, refl, sym, ◌∙◌, length}
-use Rattle.grid_base.specs.Layout.{positions_of, lines_of}
-use Rattle.grid_base.proofs.PlaceLemmas.{all_passed, length-places}
-use Rattle.grid_base.proofs.UpdateLemmas.{callable_from, updated_join, updated_all}
+use Rattle.grid_base.proofs.Common.{positions_of, lines_of}
+use Rattle.grid_base.proofs.Lemmas.{all_passed, length-places, callable_from, updated_join, updated_all}
 use Rattle.grid_base.proofs.flat.all_cells.update_by_line.Goals as goal
 
 pub update_line-requires-clause-calls : goal.update_line-requires-clause-calls

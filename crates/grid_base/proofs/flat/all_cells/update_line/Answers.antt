@@ -1,7 +1,6 @@
 use Rattle.std.proofs.Common.{rules, ◌≡◌, ◌<◌, ◌+◌, ◌*◌, ℕ, Some, arith, ap, refl, sym, ◌∙◌, length, slice_get}
 use Rattle.grid_base.proofs.Common.{common_steps, slice_get_within, slice_get_read, positions_of, lines_of}
-use Rattle.grid_base.proofs.PlaceLemmas.{get_along, length-places}
-use Rattle.grid_base.proofs.UpdateLemmas.{updated_cell}
+use Rattle.grid_base.proofs.Lemmas.{get_along, length-places, updated_cell}
 use Rattle.grid_base.proofs.flat.all_cells.update_line.Goals as goal
 
 pub bounds-cells-start : goal.bounds-cells-start

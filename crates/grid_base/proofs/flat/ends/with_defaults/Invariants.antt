@@ -1,5 +1,5 @@
 use Rattle.std.proofs.Common.{◌+◌, ◌-◌, ◌≤◌, vec_len, vec_capacity}
-use Rattle.grid_base.specs.Append.{AppendsEach}
+use Rattle.grid_base.proofs.Common.{AppendsEach}
 use Rattle.grid_base.proofs.flat.ends.with_defaults.Given as goal
 
 abbrev pub invariant-loop : goal.invariant-loop

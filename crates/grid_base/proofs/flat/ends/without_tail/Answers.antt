@@ -1,5 +1,5 @@
 use Rattle.std.proofs.Common.{◌≡◌, ◌++◌, take, drop, reverse, ◌∙◌, ap, arith}
-use Rattle.grid_base.proofs.AppendLemmas.{leaving_length, leaving_more, leaving_cells, leaving_tail}
+use Rattle.grid_base.proofs.Lemmas.{leaving_length, leaving_more, leaving_cells, leaving_tail}
 use Rattle.grid_base.proofs.flat.ends.without_tail.Goals as goal
 
 pub returns-clause-cells : goal.returns-clause-cells

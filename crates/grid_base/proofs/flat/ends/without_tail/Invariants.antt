@@ -1,5 +1,5 @@
 use Rattle.std.proofs.Common.{◌+◌, ◌-◌, ◌≤◌, vec_len, vec_capacity}
-use Rattle.grid_base.proofs.AppendLemmas.{Leaving}
+use Rattle.grid_base.proofs.Lemmas.{Leaving}
 use Rattle.grid_base.proofs.flat.ends.without_tail.Given as goal
 
 abbrev pub invariant-loop : goal.invariant-loop

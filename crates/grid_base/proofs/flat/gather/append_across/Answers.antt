@@ -1,6 +1,6 @@
 use Rattle.std.proofs.Common.{◌<◌, ◌++◌, length, flat_map, map, ◌∙◌, ap, arith, length-append}
 use Rattle.grid_base.proofs.Common.{col_count, items_of_each, last_of, before_last}
-use Rattle.grid_base.proofs.GatherLemmas.{left_over, column_left, column_length, columns_given, columns_done, lines_done, none_left, rows-vecs}
+use Rattle.grid_base.proofs.Lemmas.{left_over, column_left, column_length, columns_given, columns_done, lines_done, none_left, rows-vecs}
 use Rattle.grid_base.proofs.flat.gather.append_across.Goals as goal
 
 pub loop-preserved : goal.loop-preserved

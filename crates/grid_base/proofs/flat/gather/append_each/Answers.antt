@@ -1,5 +1,5 @@
 use Rattle.std.proofs.Common.{◌≡◌, ◌+◌, ◌≤◌, length, is_ok, true, refl, sym, ◌∙◌, ap, arith, vec_len, vec_capacity}
-use Rattle.grid_base.proofs.GatherLemmas.{passed_line, passed_step, all_left, left_to_give, none_left}
+use Rattle.grid_base.proofs.Lemmas.{passed_line, passed_step, all_left, left_to_give, none_left}
 use Rattle.grid_base.proofs.flat.gather.append_each.Goals as goal
 
 pub loop-line-preserved : goal.loop-line-preserved

@@ -1,6 +1,6 @@
 use Rattle.std.proofs.Common.{◌+◌, ◌≤◌, [], length, drop, vec_len, vec_capacity}
 use Rattle.grid_base.proofs.Common.{concat_rows, items_of_each}
-use Rattle.grid_base.proofs.GatherLemmas.{Passed}
+use Rattle.grid_base.proofs.Lemmas.{Passed}
 use Rattle.grid_base.proofs.flat.gather.append_each.Given as goal
 
 abbrev pub invariant-loop-line : goal.invariant-loop-line

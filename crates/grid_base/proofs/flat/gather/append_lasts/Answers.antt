@@ -1,5 +1,5 @@
 use Rattle.std.proofs.Common.{◌≡◌, ◌-◌, ◌++◌, append-nil, sym, ◌∙◌, ap, take, arith, option_to_list}
-use Rattle.grid_base.proofs.GatherLemmas.{lasts_step, no_item}
+use Rattle.grid_base.proofs.Lemmas.{lasts_step, no_item}
 use Rattle.grid_base.proofs.flat.gather.append_lasts.Goals.{in-Some, in_default}
 use Rattle.grid_base.proofs.flat.gather.append_lasts.Goals as goal
 

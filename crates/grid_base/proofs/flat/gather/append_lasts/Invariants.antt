@@ -1,6 +1,6 @@
 use Rattle.std.proofs.Common.{◌≡◌, ◌+◌, ◌-◌, ◌≤◌, length, vec_len, vec_capacity}
-use Rattle.grid_base.specs.Gather.{items_of_each, last_of, before_last}
-use Rattle.grid_base.proofs.GatherLemmas.{Passed}
+use Rattle.grid_base.proofs.Common.{items_of_each, last_of, before_last}
+use Rattle.grid_base.proofs.Lemmas.{Passed}
 use Rattle.grid_base.proofs.flat.gather.append_lasts.Given as goal
 
 abbrev pub invariant-loop-line : goal.invariant-loop-line

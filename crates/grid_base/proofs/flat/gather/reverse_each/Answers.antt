@@ -1,5 +1,5 @@
 use Rattle.std.proofs.Common.{[], reverse, refl, sym, ◌∙◌, ap, arith}
-use Rattle.grid_base.proofs.GatherLemmas.{passed_step}
+use Rattle.grid_base.proofs.Lemmas.{passed_step}
 use Rattle.grid_base.proofs.flat.gather.reverse_each.Goals as goal
 
 pub loop-line-preserved : goal.loop-line-preserved

@@ -1,6 +1,6 @@
 use Rattle.std.proofs.Common.{[], reverse}
-use Rattle.grid_base.specs.Gather.{items_of_each}
-use Rattle.grid_base.proofs.GatherLemmas.{Passed}
+use Rattle.grid_base.proofs.Common.{items_of_each}
+use Rattle.grid_base.proofs.Lemmas.{Passed}
 use Rattle.grid_base.proofs.flat.gather.reverse_each.Given as goal
 
 abbrev pub invariant-loop-line : goal.invariant-loop-line

@@ -1,5 +1,5 @@
 use Rattle.std.proofs.Common.{rules, ◌≡◌, ◌+◌, ◌*◌, ◌<◌, length, ◌++◌, ◌-◌, ◌/◌, refl, arith, length-append}
-use Rattle.grid_base.proofs.WeaveLemmas.{woven_by_halves, woven_in_place, exchanged_back, whole_of_halves}
+use Rattle.grid_base.proofs.Lemmas.{woven_by_halves, woven_in_place, exchanged_back, whole_of_halves}
 use Rattle.grid_base.proofs.flat.groups.+unweave.Goals as goal
 
 pub unweave-requires-in-ByHalves : goal.unweave-requires-in-ByHalves

@@ -1,5 +1,5 @@
 use Rattle.std.proofs.Common.{rules, ◌≡◌, ◌+◌, ◌*◌, ◌<◌, length, ◌-◌, ◌/◌, refl, arith}
-use Rattle.grid_base.proofs.WeaveLemmas.{woven_by_halves, woven_in_place, whole_of_halves}
+use Rattle.grid_base.proofs.Lemmas.{woven_by_halves, woven_in_place, whole_of_halves}
 use Rattle.grid_base.proofs.flat.groups.+weave.Goals as goal
 
 pub exchange_blocks-requires-clause-within : goal.exchange_blocks-requires-clause-within

@@ -1,7 +1,6 @@
 use Rattle.std.proofs.Common.{◌≡◌, ◌+◌, ◌*◌, ◌≤◌, refl, ap, arith, ⊎_elim, mul-le-mul_right}
-use Rattle.std.proofs.lemmas.Bool.{cases_eq}
-use Rattle.grid_base.proofs.ShiftLemmas.{moved_forward}
-use Rattle.grid_base.proofs.SpreadLemmas.{closing_none, closing_run, closing_end, first_line}
+use Rattle.grid_base.proofs.Common.{cases_eq}
+use Rattle.grid_base.proofs.Lemmas.{moved_forward, closing_none, closing_run, closing_end, first_line}
 use Rattle.grid_base.proofs.flat.groups.close_lines.Goals as goal
 
 pub loop-line-init : goal.loop-line-init

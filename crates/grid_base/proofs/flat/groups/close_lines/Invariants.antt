@@ -1,5 +1,5 @@
 use Rattle.std.proofs.Common.{◌≡◌, ◌+◌, ◌*◌, ◌<◌, min}
-use Rattle.grid_base.proofs.SpreadLemmas.{spread, Closing}
+use Rattle.grid_base.proofs.Lemmas.{spread, Closing}
 use Rattle.grid_base.proofs.flat.groups.close_lines.Given as goal
 
 abbrev pub invariant-loop-line : goal.invariant-loop-line

@@ -1,6 +1,5 @@
 use Rattle.std.proofs.Common.{◌≡◌, ◌+◌, ◌*◌, ◌≤◌, refl, ap, arith, mul-le-mul_right}
-use Rattle.grid_base.proofs.SpreadLemmas.{first_line}
-use Rattle.grid_base.proofs.InTurnLemmas.{unweaving_none, unweaving_run, unweaving_end}
+use Rattle.grid_base.proofs.Lemmas.{first_line, unweaving_none, unweaving_run, unweaving_end}
 use Rattle.grid_base.proofs.flat.groups.unweave_in_turn.Goals as goal
 
 pub loop-line-init : goal.loop-line-init

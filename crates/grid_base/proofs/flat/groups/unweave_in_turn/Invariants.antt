@@ -1,5 +1,5 @@
 use Rattle.std.proofs.Common.{◌≡◌, ◌+◌, ◌*◌, ◌<◌, min}
-use Rattle.grid_base.proofs.InTurnLemmas.{Unweaving}
+use Rattle.grid_base.proofs.Lemmas.{Unweaving}
 use Rattle.grid_base.proofs.flat.groups.unweave_in_turn.Given as goal
 
 abbrev pub invariant-loop-line : goal.invariant-loop-line

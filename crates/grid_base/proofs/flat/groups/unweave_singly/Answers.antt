@@ -1,5 +1,5 @@
 use Rattle.std.proofs.Common.{◌≡◌, ◌+◌, ◌-◌, ◌*◌, ◌≤◌, arith, ap}
-use Rattle.grid_base.proofs.SinglyLemmas.{sending_none, sending_more, sending_end}
+use Rattle.grid_base.proofs.Lemmas.{sending_none, sending_more, sending_end}
 use Rattle.grid_base.proofs.flat.groups.unweave_singly.Goals as goal
 
 pub loop-line-init : goal.loop-line-init

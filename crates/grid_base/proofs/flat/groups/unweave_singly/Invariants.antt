@@ -1,5 +1,5 @@
 use Rattle.std.proofs.Common.{◌≤◌}
-use Rattle.grid_base.proofs.SinglyLemmas.{Sending}
+use Rattle.grid_base.proofs.Lemmas.{Sending}
 use Rattle.grid_base.proofs.flat.groups.unweave_singly.Given as goal
 
 abbrev pub invariant-loop-line : goal.invariant-loop-line

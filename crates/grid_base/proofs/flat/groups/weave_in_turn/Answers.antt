@@ -1,6 +1,5 @@
 use Rattle.std.proofs.Common.{◌≡◌, ◌+◌, ◌-◌, ◌*◌, ◌≤◌, refl, ap, arith, mul-le-mul_right}
-use Rattle.grid_base.proofs.SpreadLemmas.{times_less, first_line}
-use Rattle.grid_base.proofs.InTurnLemmas.{weaving_run, weaving_end}
+use Rattle.grid_base.proofs.Lemmas.{times_less, first_line, weaving_run, weaving_end}
 use Rattle.grid_base.proofs.flat.groups.weave_in_turn.Goals as goal
 
 pub loop-line-preserved : goal.loop-line-preserved

@@ -1,5 +1,5 @@
 use Rattle.std.proofs.Common.{◌≡◌, ◌+◌, ◌*◌, ◌≤◌, min}
-use Rattle.grid_base.proofs.InTurnLemmas.{Weaving}
+use Rattle.grid_base.proofs.Lemmas.{Weaving}
 use Rattle.grid_base.proofs.flat.groups.weave_in_turn.Given as goal
 
 abbrev pub invariant-loop-line : goal.invariant-loop-line

@@ -1,5 +1,5 @@
 use Rattle.std.proofs.Common.{◌≡◌, ◌+◌, ◌*◌, ◌≤◌, arith, ap}
-use Rattle.grid_base.proofs.SinglyLemmas.{bringing_none, bringing_more, bringing_end}
+use Rattle.grid_base.proofs.Lemmas.{bringing_none, bringing_more, bringing_end}
 use Rattle.grid_base.proofs.flat.groups.weave_singly.Goals as goal
 
 pub loop-line-init : goal.loop-line-init

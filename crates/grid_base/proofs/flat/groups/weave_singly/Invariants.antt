@@ -1,4 +1,4 @@
-use Rattle.grid_base.proofs.SinglyLemmas.{Bringing}
+use Rattle.grid_base.proofs.Lemmas.{Bringing}
 use Rattle.grid_base.proofs.flat.groups.weave_singly.Given as goal
 
 abbrev pub invariant-loop-line : goal.invariant-loop-line

@@ -1,5 +1,5 @@
 use Rattle.std.proofs.Common.{◌≡◌, ◌*◌, ◌+◌, ◌-◌, refl, ap, arith, add-mul}
-use Rattle.grid_base.proofs.RelayLemmas.{relaid_by_halves, relaid_back}
+use Rattle.grid_base.proofs.Lemmas.{relaid_by_halves, relaid_back}
 use Rattle.grid_base.proofs.flat.relay.+relay_cells.Goals as goal
 
 pub returns-then-width-lines : goal.returns-then-width-lines

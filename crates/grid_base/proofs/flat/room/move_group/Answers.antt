@@ -1,6 +1,6 @@
 use Rattle.std.proofs.Common.{◌<◌, length, arith}
-use Rattle.core.proofs.slice.Lists.{hd}
-use Rattle.grid_base.proofs.RoomLemmas.{one_pasted}
+use Rattle.grid_base.proofs.Common.{hd}
+use Rattle.grid_base.proofs.Lemmas.{one_pasted}
 use Rattle.grid_base.proofs.flat.room.move_group.Goals as goal
 
 pub returns-then-count-eq1-clause-items : goal.returns-then-count-eq1-clause-items

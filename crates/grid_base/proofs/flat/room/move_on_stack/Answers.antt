@@ -1,5 +1,5 @@
 use Rattle.std.proofs.Common.{◌<◌, length, arith}
-use Rattle.core.proofs.slice.Lists.{hd}
+use Rattle.grid_base.proofs.Common.{hd}
 use Rattle.grid_base.proofs.flat.room.move_on_stack.Goals as goal
 
 pub with_room-moved-requires-clause-fits : goal.with_room-moved-requires-clause-fits

@@ -1,8 +1,6 @@
 use Rattle.std.proofs.Common.{subst, ◌≡◌, ◌+◌, ◌*◌, ◌≤◌, min, max, length, refl, sym, ap, ◌∙◌, arith, mul-le-mul_right}
 use Rattle.grid_base.proofs.Common.{Filled, Woven}
-use Rattle.grid_base.proofs.SpreadLemmas.{first_line}
-use Rattle.grid_base.proofs.InTurnLemmas.{Unweaving, unweaving_none, unweaving_run, unweaving_end}
-use Rattle.grid_base.proofs.RoomLemmas.{with_waiting, unweave_step, none_waits, same_places, places_then, filled_join, filled_part, filled_below, filled_above}
+use Rattle.grid_base.proofs.Lemmas.{first_line, Unweaving, unweaving_none, unweaving_run, unweaving_end, with_waiting, unweave_step, none_waits, same_places, places_then, filled_join, filled_part, filled_below, filled_above}
 use Rattle.grid_base.proofs.flat.room.unweave_row.Goals as goal
 
 pub loop-line-init : goal.loop-line-init

@@ -1,7 +1,6 @@
 use Rattle.std.proofs.Common.{◌≡◌, ◌+◌, ◌*◌, ◌<◌, min}
 use Rattle.grid_base.proofs.Common.{SamePlaces, Filled}
-use Rattle.grid_base.proofs.InTurnLemmas.{Unweaving}
-use Rattle.grid_base.proofs.RoomLemmas.{with_waiting}
+use Rattle.grid_base.proofs.Lemmas.{Unweaving, with_waiting}
 use Rattle.grid_base.proofs.flat.room.unweave_row.Given as goal
 
 abbrev pub invariant-loop-line : goal.invariant-loop-line

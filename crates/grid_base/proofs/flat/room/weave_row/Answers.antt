@@ -1,8 +1,6 @@
 use Rattle.std.proofs.Common.{subst, ◌≡◌, ◌+◌, ◌-◌, ◌*◌, ◌≤◌, min, max, length, refl, ap, ◌∙◌, arith, mul-le-mul_right}
 use Rattle.grid_base.proofs.Common.{Filled, Woven}
-use Rattle.grid_base.proofs.SpreadLemmas.{times_less, first_line}
-use Rattle.grid_base.proofs.InTurnLemmas.{weaving_run, weaving_end}
-use Rattle.grid_base.proofs.RoomLemmas.{with_waiting, weave_step, none_waits, places_then, filled_join, filled_part, filled_below, filled_above}
+use Rattle.grid_base.proofs.Lemmas.{times_less, first_line, weaving_run, weaving_end, with_waiting, weave_step, none_waits, places_then, filled_join, filled_part, filled_below, filled_above}
 use Rattle.grid_base.proofs.flat.room.weave_row.Goals as goal
 
 pub loop-line-preserved : goal.loop-line-preserved

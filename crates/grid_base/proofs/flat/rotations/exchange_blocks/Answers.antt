@@ -1,4 +1,4 @@
-use Rattle.grid_base.proofs.PartLemmas.{exchanged_by_reversals}
+use Rattle.grid_base.proofs.Lemmas.{exchanged_by_reversals}
 use Rattle.grid_base.proofs.flat.rotations.exchange_blocks.Goals as goal
 
 pub returns-then-few : goal.returns-then-few

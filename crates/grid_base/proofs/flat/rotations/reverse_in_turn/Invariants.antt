@@ -1,4 +1,4 @@
-use Rattle.grid_base.proofs.PartLemmas.{Turning}
+use Rattle.grid_base.proofs.Lemmas.{Turning}
 use Rattle.grid_base.proofs.flat.rotations.reverse_in_turn.Given as goal
 
 abbrev pub invariant-loop-i : goal.invariant-loop-i

@@ -1,6 +1,5 @@
 use Rattle.std.proofs.Common.{sym, ◌∙◌, arith}
-use Rattle.grid_base.proofs.SpanLemmas.{span_within, row_is}
-use Rattle.grid_base.proofs.LayoutLemmas.{holds}
+use Rattle.grid_base.proofs.Lemmas.{span_within, row_is, holds}
 use Rattle.grid_base.proofs.flat.row_iter.row_of.Goals as goal
 
 pub row_span-span-requires-clause-wide : goal.row_span-span-requires-clause-wide

@@ -1,5 +1,5 @@
 use Rattle.std.proofs.Common.{arith}
-use Rattle.grid_base.proofs.SquareLemmas.{mirrored_below}
+use Rattle.grid_base.proofs.Lemmas.{mirrored_below}
 use Rattle.grid_base.proofs.flat.square.+swap_across.Goals as goal
 
 pub loop-row-preserved : goal.loop-row-preserved

@@ -1,5 +1,5 @@
 use Rattle.std.proofs.Common.{◌+◌, ◌-◌}
-use Rattle.grid_base.specs.Relaid.{Mirrored}
+use Rattle.grid_base.proofs.Common.{Mirrored}
 use Rattle.grid_base.proofs.flat.square.+swap_across.Given as goal
 
 abbrev pub decreases-swap_across : goal.decreases-swap_across

@@ -1,6 +1,6 @@
 use Rattle.std.proofs.Common.{◌≡◌, ◌+◌, ◌*◌, ◌≤◌, ◌<◌, length, arith}
-use Rattle.grid_base.specs.Relaid.{Mirrored}
-use Rattle.grid_base.proofs.SquareLemmas.{mirrored_one, mirrored_beside}
+use Rattle.grid_base.proofs.Common.{Mirrored}
+use Rattle.grid_base.proofs.Lemmas.{mirrored_one, mirrored_beside}
 use Rattle.grid_base.proofs.flat.square.swap_row_across.Goals as goal
 
 pub loop-col-preserved : goal.loop-col-preserved

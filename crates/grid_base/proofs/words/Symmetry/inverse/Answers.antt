@@ -1,5 +1,5 @@
 use Rattle.std.proofs.Common.{refl}
-use Rattle.grid_base.proofs.GroupLemmas.{inverse_of, inverse_by_self}
+use Rattle.grid_base.proofs.Lemmas.{inverse_of, inverse_by_self}
 use Rattle.grid_base.proofs.words.Symmetry.inverse.Goals as goal
 
 pub returns-in-RotateLeft : goal.returns-in-RotateLeft

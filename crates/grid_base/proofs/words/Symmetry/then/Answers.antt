@@ -1,5 +1,5 @@
 use Rattle.std.proofs.Common.{◌≡◌, arith}
-use Rattle.grid_base.proofs.GroupLemmas.{product, IsThen-product}
+use Rattle.grid_base.proofs.Lemmas.{product, IsThen-product}
 use Rattle.grid_base.proofs.words.Symmetry.then.Goals as goal
 
 pub returns-then-next_transposes : goal.returns-then-next_transposes

@@ -1,5 +1,5 @@
 use Rattle.std.proofs.Common.{◌++◌, arith, length-append}
-use Rattle.grid_base.proofs.PartLemmas.{blocks_more}
+use Rattle.grid_base.proofs.Lemmas.{blocks_more}
 use Rattle.grid_base.proofs.flat.counted.flips.swap_blocks.Goals as goal
 
 pub loop-k-preserved : goal.loop-k-preserved

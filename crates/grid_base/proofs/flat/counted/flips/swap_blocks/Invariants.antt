@@ -1,5 +1,5 @@
 use Rattle.std.proofs.Common.{◌≡◌, ◌++◌, length}
-use Rattle.grid_base.specs.Blocks.{BlocksSwapped}
+use Rattle.grid_base.proofs.Common.{BlocksSwapped}
 use Rattle.grid_base.proofs.flat.counted.flips.swap_blocks.Given as goal
 
 abbrev pub invariant-loop-k : goal.invariant-loop-k

@@ -1,5 +1,5 @@
 use Rattle.std.proofs.Common.{◌≡◌, ◌+◌, ◌++◌, length}
-use Rattle.grid_base.proofs.PartLemmas.{Turning}
+use Rattle.grid_base.proofs.Lemmas.{Turning}
 use Rattle.grid_base.proofs.flat.counted.flips.swap_mirrored.Given as goal
 
 abbrev pub invariant-loop-k : goal.invariant-loop-k

@@ -1,5 +1,5 @@
 use Rattle.std.proofs.Common.{◌≡◌, ◌+◌, ◌-◌, ◌≤◌}
-use Rattle.grid_base.specs.Blocks.{swapped_back}
+use Rattle.grid_base.proofs.Common.{swapped_back}
 use Rattle.grid_base.proofs.flat.counted.shifts.swap_back.Given as goal
 
 abbrev pub invariant-loop-left : goal.invariant-loop-left

@@ -1,6 +1,6 @@
 use Rattle.std.proofs.Common.{◌≡◌, ◌+◌, sym, ◌∙◌, ap, arith}
-use Rattle.grid_base.specs.Blocks.{swapped_forward}
-use Rattle.grid_base.proofs.ShiftLemmas.{forward_swap}
+use Rattle.grid_base.proofs.Common.{swapped_forward}
+use Rattle.grid_base.proofs.Lemmas.{forward_swap}
 use Rattle.grid_base.proofs.flat.counted.shifts.swap_forward_by.Goals as goal
 
 pub loop-k-preserved : goal.loop-k-preserved

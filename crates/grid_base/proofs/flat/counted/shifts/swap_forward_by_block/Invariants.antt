@@ -1,5 +1,5 @@
 use Rattle.std.proofs.Common.{◌≡◌, ◌+◌, ◌-◌, ◌≤◌}
-use Rattle.grid_base.specs.Blocks.{swapped_forward}
+use Rattle.grid_base.proofs.Common.{swapped_forward}
 use Rattle.grid_base.proofs.flat.counted.shifts.swap_forward_by_block.Given as goal
 
 abbrev pub invariant-loop-done : goal.invariant-loop-done

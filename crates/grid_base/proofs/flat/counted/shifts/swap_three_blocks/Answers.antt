@@ -1,5 +1,5 @@
 use Rattle.std.proofs.Common.{◌∙◌, refl, arith}
-use Rattle.grid_base.proofs.ShiftLemmas.{three_more, three_all}
+use Rattle.grid_base.proofs.Lemmas.{three_more, three_all}
 use Rattle.grid_base.proofs.flat.counted.shifts.swap_three_blocks.Goals as goal
 
 pub loop-k-preserved : goal.loop-k-preserved

@@ -1,5 +1,5 @@
 use Rattle.std.proofs.Common.{◌≡◌, ◌+◌, ◌*◌}
-use Rattle.grid_base.proofs.ShiftLemmas.{ThreeMoved}
+use Rattle.grid_base.proofs.Lemmas.{ThreeMoved}
 use Rattle.grid_base.proofs.flat.counted.shifts.swap_three_blocks.Given as goal
 
 abbrev pub invariant-loop-k : goal.invariant-loop-k

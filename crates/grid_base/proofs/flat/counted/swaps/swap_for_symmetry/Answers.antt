@@ -1,6 +1,6 @@
 use Rattle.std.proofs.Common.{rules, arith}
-use Rattle.std.proofs.lemmas.Grind.{common_steps}
-use Rattle.grid_base.proofs.SwapLemmas.{swap_parts}
+use Rattle.grid_base.proofs.Common.{common_steps}
+use Rattle.grid_base.proofs.Lemmas.{swap_parts}
 use Rattle.grid_base.proofs.flat.counted.swaps.swap_for_symmetry.Goals as goal
 
 pub returns-clause-symmetry : goal.returns-clause-symmetry

@@ -1,6 +1,6 @@
 use Rattle.std.proofs.Common.{arith}
-use Rattle.std.proofs.lemmas.Grind.{common_steps}
-use Rattle.grid_base.proofs.PlacedCellLemmas.{placed_cells, zip_last}
+use Rattle.grid_base.proofs.Common.{common_steps}
+use Rattle.grid_base.proofs.Lemmas.{placed_cells, zip_last}
 use Rattle.grid_base.proofs.flat.indexed.IndexedIterDoubleEndedIterator.next_back.Goals as goal
 
 pub returns-clause-steps : goal.returns-clause-steps

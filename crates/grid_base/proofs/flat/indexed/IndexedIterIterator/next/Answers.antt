@@ -1,6 +1,6 @@
 use Rattle.std.proofs.Common.{arith}
-use Rattle.std.proofs.lemmas.Grind.{common_steps}
-use Rattle.grid_base.proofs.PlacedCellLemmas.{placed_cells}
+use Rattle.grid_base.proofs.Common.{common_steps}
+use Rattle.grid_base.proofs.Lemmas.{placed_cells}
 use Rattle.grid_base.proofs.flat.indexed.IndexedIterIterator.next.Goals as goal
 
 pub returns-in_err-cell-clause-steps : goal.returns-in_err-cell-clause-steps

@@ -1,7 +1,6 @@
 use Rattle.std.proofs.Common.{drop, min, ap, sym, ◌∙◌, ◌≡◌}
-use Rattle.grid_base.specs.LineCells.{cells_left}
-use Rattle.grid_base.proofs.RemainingLemmas.{past_most, part_past_most}
-use Rattle.grid_base.proofs.StrideLemmas.{nth_found}
+use Rattle.grid_base.proofs.Common.{cells_left}
+use Rattle.grid_base.proofs.Lemmas.{past_most, part_past_most, nth_found}
 use Rattle.grid_base.proofs.flat.line_iter.GridLineIter.nth.Goals.{in-Together, in-Apart}
 use Rattle.grid_base.proofs.flat.line_iter.GridLineIter.nth.Goals as goal
 

@@ -1,6 +1,6 @@
 use Rattle.std.proofs.Common.{ap, sym, ◌∙◌}
-use Rattle.grid_base.specs.LineCells.{cells_left}
-use Rattle.grid_base.proofs.StrideLemmas.{lines_in_order, lines_in_reverse, every_one}
+use Rattle.grid_base.proofs.Common.{cells_left}
+use Rattle.grid_base.proofs.Lemmas.{lines_in_order, lines_in_reverse, every_one}
 use Rattle.grid_base.proofs.flat.line_iter.GridLineIter.over.Goals.{then-stride-eq1, else-stride-eq1}
 use Rattle.grid_base.proofs.flat.line_iter.GridLineIter.over.Goals as goal
 

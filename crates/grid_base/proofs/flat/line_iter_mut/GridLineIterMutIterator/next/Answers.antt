@@ -1,6 +1,6 @@
 use Rattle.std.proofs.Common.{List, ◌≡◌, ◌∷◌, ◌∙◌, ◌-◌, Some, drop, length, sym, ap, arith, slice_get}
-use Rattle.grid_base.specs.Strides.{every}
-use Rattle.grid_base.proofs.StrideLemmas.{line_step}
+use Rattle.grid_base.proofs.Common.{every}
+use Rattle.grid_base.proofs.Lemmas.{line_step}
 use Rattle.grid_base.proofs.flat.line_iter_mut.GridLineIterMutIterator.next.Goals as goal
 
 pub returns-clause-steps : goal.returns-clause-steps

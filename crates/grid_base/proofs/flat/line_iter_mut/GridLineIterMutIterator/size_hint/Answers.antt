@@ -1,6 +1,6 @@
 use Rattle.std.proofs.Common.{arith, ap, length, ◌≡◌, ◌∙◌, sym, ℕ, Some}
-use Rattle.grid_base.specs.GridLineIterMut.{line_mut_rest}
-use Rattle.grid_base.proofs.StrideLemmas.{length-strided}
+use Rattle.grid_base.proofs.Common.{line_mut_rest}
+use Rattle.grid_base.proofs.Lemmas.{length-strided}
 use Rattle.grid_base.proofs.flat.line_iter_mut.GridLineIterMutIterator.size_hint.Goals as goal
 
 pub returns-clause-lower : goal.returns-clause-lower

@@ -1,5 +1,5 @@
 use Rattle.std.proofs.Common.{◌-◌, ◌∙◌, slice_get, length, sym, ap, arith}
-use Rattle.grid_base.proofs.PlaceLemmas.{length-left, ahead_wide, get_ahead}
+use Rattle.grid_base.proofs.Lemmas.{length-left, ahead_wide, get_ahead}
 use Rattle.grid_base.proofs.flat.positions.Positions.ahead.Goals as goal
 
 pub overflow_sub-number-2 : goal.overflow_sub-number-2

@@ -1,6 +1,6 @@
 use Rattle.std.proofs.Common.{◌≡◌, ◌-◌, sym, ◌∙◌, ap, length, arith}
-use Rattle.grid_base.specs.Order.{place}
-use Rattle.grid_base.proofs.PlaceLemmas.{within-places, length-left}
+use Rattle.grid_base.proofs.Common.{place}
+use Rattle.grid_base.proofs.Lemmas.{within-places, length-left}
 use Rattle.grid_base.proofs.flat.positions.Positions.len.Goals as goal
 use Rattle.grid_base.proofs.flat.positions.Positions.len.Goals.{in-RowMajor, in-ColumnMajor}
 

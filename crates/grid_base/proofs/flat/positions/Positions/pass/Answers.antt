@@ -1,5 +1,5 @@
 use Rattle.std.proofs.Common.{ap, arith, length, sym, ◌∙◌}
-use Rattle.grid_base.proofs.PlaceLemmas.{place_and_rest, one_left}
+use Rattle.grid_base.proofs.Lemmas.{place_and_rest, one_left}
 use Rattle.grid_base.proofs.flat.positions.Positions.pass.Goals as goal
 
 pub place_after-row-requires-clause-row_in : goal.place_after-row-requires-clause-row_in

@@ -1,5 +1,6 @@
 use Rattle.std.proofs.Common.{◌<◌, arith, ap, length, refl, sym, ◌∙◌}
-use Rattle.grid_base.proofs.PlaceLemmas.{place_and_rest, none_left}
+use Rattle.grid_base.proofs.Lemmas.{place_and_rest}
+use Rattle.grid_base.proofs.PlaceLemmas.{none_left}
 use Rattle.grid_base.proofs.flat.positions.PositionsIterator.next.Goals as goal
 use Rattle.grid_base.proofs.flat.positions.PositionsIterator.next.Goals.{else-self-via-then-self+else-self-2, else-self-via-else-self}
 

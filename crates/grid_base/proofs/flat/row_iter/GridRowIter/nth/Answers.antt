@@ -1,7 +1,5 @@
 use Rattle.std.proofs.Common.{◌-◌, ap, ◌∙◌, arith}
-use Rattle.grid_base.proofs.RemainingLemmas.{rows_passed}
-use Rattle.grid_base.proofs.StrideLemmas.{nth_row_found}
-use Rattle.grid_base.proofs.ViewLemmas.{view-rows}
+use Rattle.grid_base.proofs.Lemmas.{rows_passed, nth_row_found, view-rows}
 use Rattle.grid_base.proofs.flat.row_iter.GridRowIter.nth.Goals as goal
 
 pub returns : goal.returns

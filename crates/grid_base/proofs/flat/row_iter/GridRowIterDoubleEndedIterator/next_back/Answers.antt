@@ -1,6 +1,5 @@
 use Rattle.std.proofs.Common.{sym, ◌∙◌, ap, length, arith, [], length-append}
-use Rattle.grid_base.proofs.RemainingLemmas.{remaining_next_back}
-use Rattle.grid_base.proofs.ViewLemmas.{view-rows}
+use Rattle.grid_base.proofs.Lemmas.{remaining_next_back, view-rows}
 use Rattle.grid_base.proofs.flat.row_iter.GridRowIterDoubleEndedIterator.next_back.Goals as goal
 
 pub returns-clause-steps : goal.returns-clause-steps

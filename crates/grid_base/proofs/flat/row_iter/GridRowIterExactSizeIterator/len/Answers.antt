@@ -1,7 +1,7 @@
 use Rattle.std.proofs.Common.{sym, ◌∙◌, ap, length, arith}
-use Rattle.grid_base.specs.Order.{table_of}
+use Rattle.grid_base.proofs.Common.{table_of}
+use Rattle.grid_base.proofs.Lemmas.{view-rows}
 use Rattle.grid_base.proofs.RemainingLemmas.{length-left}
-use Rattle.grid_base.proofs.ViewLemmas.{view-rows}
 use Rattle.grid_base.proofs.flat.row_iter.GridRowIterExactSizeIterator.len.Goals as goal
 
 pub returns-clause-value : goal.returns-clause-value

@@ -1,6 +1,5 @@
 use Rattle.std.proofs.Common.{sym, ◌∙◌, ap, length, arith, []}
-use Rattle.grid_base.proofs.RemainingLemmas.{remaining_next}
-use Rattle.grid_base.proofs.ViewLemmas.{view-rows}
+use Rattle.grid_base.proofs.Lemmas.{remaining_next, view-rows}
 use Rattle.grid_base.proofs.flat.row_iter.GridRowIterIterator.next.Goals as goal
 
 pub returns-clause-steps : goal.returns-clause-steps

@@ -1,4 +1,4 @@
-use Rattle.grid_base.proofs.StrideLemmas.{line_all, remaining_line}
+use Rattle.grid_base.proofs.Lemmas.{line_all, remaining_line}
 use Rattle.grid_base.proofs.flat.strided_iter.StridedIter.new.Goals as goal
 
 pub invariant_of-result : goal.invariant_of-result

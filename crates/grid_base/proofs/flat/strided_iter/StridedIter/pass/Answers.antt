@@ -1,5 +1,6 @@
 use Rattle.std.proofs.Common.{arith, drop, length, ap, ◌∙◌, ◌-◌, ◌≤◌}
-use Rattle.grid_base.proofs.RemainingLemmas.{remaining_past, length-left}
+use Rattle.grid_base.proofs.Lemmas.{remaining_past}
+use Rattle.grid_base.proofs.RemainingLemmas.{length-left}
 use Rattle.grid_base.proofs.flat.strided_iter.StridedIter.pass.Goals as goal
 
 pub returns : goal.returns

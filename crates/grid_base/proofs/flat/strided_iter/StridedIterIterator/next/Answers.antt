@@ -1,5 +1,5 @@
 use Rattle.std.proofs.Common.{arith, sym, ◌∙◌, rules}
-use Rattle.grid_base.proofs.StrideLemmas.{line_within, line_first}
+use Rattle.grid_base.proofs.Lemmas.{line_within, line_first}
 use Rattle.grid_base.proofs.flat.strided_iter.StridedIterIterator.next.Goals as goal
 
 pub bounds-self-inside-number : goal.bounds-self-inside-number
