@@ -25,6 +25,6 @@ unfoldable pub use Rattle.grid_base.specs.Symmetry.{act, symmetry_of}
 pub use Rattle.grid_base.specs.Symmetry.{source_row, source_col, image_rows, image_cols, transposes, order_after, IsThen, IsInverse, half, price, HasImageSize, IsAssociativeAt, IsNeutralAt, IsUndoneAt}
 unfoldable pub use Rattle.grid_base.specs.Table.{tabulate, cells_by}
 pub use Rattle.grid_base.specs.Table.{row_count, col_count, cell, IsTable, IsSize, transposed, row, concat_rows, InRange, with_cell, with_cell_of, exchanged}
-pub use Rattle.grid_base.specs.Tally.{saturating_count, Counts}
+pub use Rattle.grid_base.specs.Tally.{saturating_count, Counts, CanShift, HasShifted}
 pub use Rattle.grid_base.specs.Updated.{CallableFrom, UpdatedFrom}
 pub use Rattle.std.specs.Fn.{FnReturnsAt}

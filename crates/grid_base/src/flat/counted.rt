@@ -3,4 +3,5 @@ mod flips;
 mod shifts;
 mod swaps;
 
+pub(super) use shifts::{move_back, move_forward};
 pub(crate) use swaps::Swaps;

@@ -15,6 +15,7 @@ ghost use Rattle.grid_base.specs.Groups.{Widened, Woven, Opened, Closed, TakenOu
 ghost use Rattle.grid_base.specs.Tally.{saturating_count};
 ghost use Rattle.grid_base.specs.declared.flat.groups.Method.TheVariants.{Nothing, Singly, ThroughRoom, ByHalves};
 
+use super::counted::{move_back, move_forward};
 use super::room::{Way, move_through_room};
 use super::rotations::{FEW_BYTES, exchange_at_once, exchange_blocks};
 use super::{Flat, Swaps};
@@ -109,13 +110,14 @@ impl<T, A: Allocator> Flat<T, A> {
             ≡ saturating_count tally.old.shift (groups.lines * groups.width - groups.at) }
     {
         // the stretch of cells behind each group, the last first, moves back by that group and those before it
+        let cells = self.cells.as_mut_slice();
         let mut swaps = Swaps::none();
         let mut end = groups.lines * groups.width;
         let mut line = groups.lines;
         while 0 < line {
             line -= 1;
             let start = groups.at + line * groups.width;
-            swaps = self.move_back(start, (line + 1) * groups.count, end - start, swaps);
+            swaps = move_back(cells, start, (line + 1) * groups.count, end - start, swaps);
             end = start;
         }
         tally.take(swaps);
@@ -139,7 +141,7 @@ impl<T, A: Allocator> Flat<T, A> {
     {
         // lines of no cells leave nothing to move
         if groups.width != 0 {
-            close_lines(self, groups, tally);
+            close_lines(self.cells.as_mut_slice(), groups, tally);
         }
         self.cells.truncate(groups.lines * groups.width);
     }
@@ -343,11 +345,11 @@ fn unweave_in_turn<T>(cells: &mut [T], groups: Groups)
 
 // Takes the stretch of kept cells behind each group, from the first on, to its place in the closed lines. It moves
 // forward by the groups before it.
-fn close_lines<T, A: Allocator>(flat: &mut Flat<T, A>, groups: Groups, tally: &mut Tally)
-    requires cells { length flat.old ≡ groups.lines * (groups.width + groups.count) }
+fn close_lines<T>(cells: &mut [T], groups: Groups, tally: &mut Tally)
+    requires cells { length cells.old ≡ groups.lines * (groups.width + groups.count) }
     requires has_count { 0 < groups.count }
-    ensures cells { length flat.new ≡ length flat.old }
-    ensures lines { Widened groups.lines groups.width groups.at groups.count flat.new flat.old }
+    ensures cells { length cells.new ≡ length cells.old }
+    ensures lines { Widened groups.lines groups.width groups.at groups.count cells.new cells.old }
     ensures symmetry { tally.new.symmetry ≡ tally.old.symmetry }
     ensures shift { tally.new.shift
         ≡ saturating_count tally.old.shift (groups.lines * groups.width - groups.at) }
@@ -357,7 +359,7 @@ fn close_lines<T, A: Allocator>(flat: &mut Flat<T, A>, groups: Groups, tally: &m
     let mut start = groups.at;
     for line in 0..groups.lines {
         let stretch = groups.width.min(kept - start);
-        swaps = flat.move_forward(start, (line + 1) * groups.count, stretch, swaps);
+        swaps = move_forward(cells, start, (line + 1) * groups.count, stretch, swaps);
         start += stretch;
     }
     tally.take(swaps);

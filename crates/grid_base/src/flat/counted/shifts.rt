@@ -1,10 +1,8 @@
 //! Cells that come some places forward or back, by counted swaps.
-ghost use Rattle.std.specs.Prelude.{◌≡◌, ◌<◌, ◌≤◌, ◌+◌, ◌*◌, ◌^◌, length};
-ghost use Rattle.grid_base.specs.Prelude.{swapped_back, swapped_forward};
+ghost use Rattle.std.specs.Prelude.{◌≡◌, ◌<◌, ◌*◌, length};
+ghost use Rattle.grid_base.specs.Prelude.{CanShift, HasShifted, swapped_back, swapped_forward};
 
 use super::swaps::{Swaps, swap_for_shift};
-use crate::Flat;
-use std::alloc::Allocator;
 use std::mem;
 
 // Shorter blocks cost more to begin than vector code saves.
@@ -19,60 +17,28 @@ const LONG_SHIFT: usize = 16;
 // As many bytes as one vector of the processor holds.
 const VECTOR: usize = 16;
 
-impl<T, A: Allocator> Flat<T, A> {
-    // Moves the `n` cells that are `shift` places behind `start` there, the first first, by `n` swaps for a shift,
-    // which the run goes on with.
-    //
-    //     [1, 2, 3, 4, 5]   move_forward(0, 2, 3)   [3, 4, 5, 2, 1]   3 swaps
-    //
-    // Requires: these cells are in range, `shift` is not 0, and the run has fewer than 2^64 swaps then.
-    pub(in crate::flat) fn move_forward(
-        &mut self,
-        start: usize,
-        shift: usize,
-        n: usize,
-        swaps: Swaps,
-    ) -> Swaps
-        requires within { start + n + shift ≤ length self.old }
-        requires fits { start + n + shift < 2 ^ 64 }
-        requires moves { 0 < shift }
-        requires room { swaps.for_shift + n < 2 ^ 64 }
-        ensures moved { self.new ≡ swapped_forward start shift n self.old }
-        ensures symmetry { result.for_symmetry ≡ swaps.for_symmetry }
-        ensures shift { result.for_shift ≡ swaps.for_shift + n }
-    {
-        let cells = self.cells.as_mut_slice();
-        match shift {
-            1 => swap_forward_by::<1, T>(cells, start, n, swaps),
-            2 => swap_forward_by::<2, T>(cells, start, n, swaps),
-            _ if shift < LONG_SHIFT => swap_forward_by_block(cells, start, shift, n, swaps),
-            _ => swap_forward(cells, start, shift, n, swaps),
-        }
-    }
-
-    // Moves the `n` cells from `start` on by `shift` places to the back, the last first, by `n` swaps for a shift, which
-    // the run goes on with.
-    //
-    //     [1, 2, 3, 4, 5]   move_back(0, 2, 3)   [5, 4, 1, 2, 3]   3 swaps
-    //
-    // Requires: the places that these cells come to are in range, `shift` is not 0, and the run has fewer than 2^64 swaps
-    // then.
-    pub(in crate::flat) fn move_back(
-        &mut self,
-        start: usize,
-        shift: usize,
-        n: usize,
-        swaps: Swaps,
-    ) -> Swaps
-        requires within { start + n + shift ≤ length self.old }
-        requires fits { start + n + shift < 2 ^ 64 }
-        requires moves { 0 < shift }
-        requires room { swaps.for_shift + n < 2 ^ 64 }
-        ensures moved { self.new ≡ swapped_back start shift n self.old }
-        ensures symmetry { result.for_symmetry ≡ swaps.for_symmetry }
-        ensures shift { result.for_shift ≡ swaps.for_shift + n }
-    {
-        swap_back(self.cells.as_mut_slice(), start, shift, n, swaps)
+// Moves the `n` cells that are `shift` places behind `start` there, the first first, by `n` swaps for a shift, which the
+// run goes on with.
+//
+//     [1, 2, 3, 4, 5]   move_forward(0, 2, 3)   [3, 4, 5, 2, 1]   3 swaps
+//
+// Requires: these cells are in range, `shift` is not 0, and the run has fewer than 2^64 swaps then.
+pub(in crate::flat) fn move_forward<T>(
+    cells: &mut [T],
+    start: usize,
+    shift: usize,
+    n: usize,
+    swaps: Swaps,
+) -> Swaps
+    requires { CanShift start shift n (length cells.old) swaps }
+    ensures cells { cells.new ≡ swapped_forward start shift n cells.old }
+    ensures counted { HasShifted n swaps result }
+{
+    match shift {
+        1 => swap_forward_by::<1, T>(cells, start, n, swaps),
+        2 => swap_forward_by::<2, T>(cells, start, n, swaps),
+        _ if shift < LONG_SHIFT => swap_forward_by_block(cells, start, shift, n, swaps),
+        _ => swap_forward(cells, start, shift, n, swaps),
     }
 }
 
@@ -85,13 +51,9 @@ fn swap_forward_by<const SHIFT: usize, T>(
     n: usize,
     mut swaps: Swaps,
 ) -> Swaps
-    requires within { start + n + SHIFT ≤ length cells.old }
-    requires fits { start + n + SHIFT < 2 ^ 64 }
-    requires moves { 0 < SHIFT }
-    requires room { swaps.for_shift + n < 2 ^ 64 }
+    requires { CanShift start SHIFT n (length cells.old) swaps }
     ensures cells { cells.new ≡ swapped_forward start SHIFT n cells.old }
-    ensures symmetry { result.for_symmetry ≡ swaps.for_symmetry }
-    ensures shift { result.for_shift ≡ swaps.for_shift + n }
+    ensures counted { HasShifted n swaps result }
 {
     let mut done = 0;
     while SWAPS_AT_ONCE <= n - done {
@@ -112,13 +74,9 @@ fn swap_forward_by<const SHIFT: usize, T>(
 #[inline(never)]
 #[tactic(auto, using(crate::proofs::ShiftLemmas::forward_start, crate::proofs::ShiftLemmas::forward_after))]
 fn swap_forward<T>(cells: &mut [T], start: usize, shift: usize, n: usize, mut swaps: Swaps) -> Swaps
-    requires within { start + n + shift ≤ length cells.old }
-    requires fits { start + n + shift < 2 ^ 64 }
-    requires moves { 0 < shift }
-    requires room { swaps.for_shift + n < 2 ^ 64 }
+    requires { CanShift start shift n (length cells.old) swaps }
     ensures cells { cells.new ≡ swapped_forward start shift n cells.old }
-    ensures symmetry { result.for_symmetry ≡ swaps.for_symmetry }
-    ensures shift { result.for_shift ≡ swaps.for_shift + n }
+    ensures counted { HasShifted n swaps result }
 {
     let mut done = 0;
     // as many as cells, where a cell is one byte
@@ -136,13 +94,9 @@ fn swap_forward<T>(cells: &mut [T], start: usize, shift: usize, n: usize, mut sw
 #[inline(never)]
 #[tactic(auto, using(crate::proofs::ShiftLemmas::three_none, crate::proofs::ShiftLemmas::three_all))]
 fn swap_three_blocks<T>(cells: &mut [T], start: usize, shift: usize, mut swaps: Swaps) -> Swaps
-    requires within { start + 4 * shift ≤ length cells.old }
-    requires fits { start + 4 * shift < 2 ^ 64 }
-    requires moves { 0 < shift }
-    requires room { swaps.for_shift + 3 * shift < 2 ^ 64 }
+    requires { CanShift start shift (3 * shift) (length cells.old) swaps }
     ensures cells { cells.new ≡ swapped_forward start shift (3 * shift) cells.old }
-    ensures symmetry { result.for_symmetry ≡ swaps.for_symmetry }
-    ensures shift { result.for_shift ≡ swaps.for_shift + 3 * shift }
+    ensures counted { HasShifted (3 * shift) swaps result }
 {
     for k in 0..shift {
         let first = start + k;
@@ -164,13 +118,9 @@ fn swap_forward_by_block<T>(
     n: usize,
     mut swaps: Swaps,
 ) -> Swaps
-    requires within { start + n + shift ≤ length cells.old }
-    requires fits { start + n + shift < 2 ^ 64 }
-    requires moves { 0 < shift }
-    requires room { swaps.for_shift + n < 2 ^ 64 }
+    requires { CanShift start shift n (length cells.old) swaps }
     ensures cells { cells.new ≡ swapped_forward start shift n cells.old }
-    ensures symmetry { result.for_symmetry ≡ swaps.for_symmetry }
-    ensures shift { result.for_shift ≡ swaps.for_shift + n }
+    ensures counted { HasShifted n swaps result }
 {
     let block = block_of(shift, n);
     let mut done = 0;
@@ -184,29 +134,34 @@ fn swap_forward_by_block<T>(
     swaps
 }
 
+// Moves the `n` cells from `start` on by `shift` places to the back, the last first, by `n` swaps for a shift, which the
+// run goes on with.
+//
+//     [1, 2, 3, 4, 5]   move_back(0, 2, 3)   [5, 4, 1, 2, 3]   3 swaps
+//
+// Requires: the places that these cells come to are in range, `shift` is not 0, and the run has fewer than 2^64 swaps
+// then.
 // Out of line, since the loop over the lines would keep its many running numbers in memory otherwise.
 #[inline(never)]
 #[tactic(auto, using(crate::proofs::ShiftLemmas::back_end, crate::proofs::ShiftLemmas::back_swap))]
-fn swap_back<T>(cells: &mut [T], start: usize, shift: usize, n: usize, mut swaps: Swaps) -> Swaps
-    requires within { start + n + shift ≤ length cells.old }
-    requires fits { start + n + shift < 2 ^ 64 }
-    requires moves { 0 < shift }
-    requires room { swaps.for_shift + n < 2 ^ 64 }
+pub(in crate::flat) fn move_back<T>(
+    cells: &mut [T],
+    start: usize,
+    shift: usize,
+    n: usize,
+    mut swaps: Swaps,
+) -> Swaps
+    requires { CanShift start shift n (length cells.old) swaps }
     ensures cells { cells.new ≡ swapped_back start shift n cells.old }
-    ensures symmetry { result.for_symmetry ≡ swaps.for_symmetry }
-    ensures shift { result.for_shift ≡ swaps.for_shift + n }
+    ensures counted { HasShifted n swaps result }
 {
     let block = block_of(shift, n);
     let mut left = n;
     while 0 < left {
         let stretch = block.min(left);
         for k in 0..stretch {
-            swap_for_shift(
-                cells,
-                start + (left - 1 - k),
-                start + (left - 1 - k) + shift,
-                &mut swaps,
-            );
+            let at = start + (left - 1 - k);
+            swap_for_shift(cells, at, at + shift, &mut swaps);
         }
         left -= stretch;
     }

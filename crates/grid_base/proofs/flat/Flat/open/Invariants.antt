@@ -4,7 +4,7 @@ use Rattle.grid_base.proofs.flat.Flat.open.Given as goal
 
 abbrev pub invariant-loop-line : goal.invariant-loop-line
 invariant-loop-line g l = record {
-  run : Opening (spread l.groups.width l.groups.at l.groups.count) (l.groups.lines * l.groups.width) l.end l.fn.self l.self;
+  run : Opening (spread l.groups.width l.groups.at l.groups.count) (l.groups.lines * l.groups.width) l.end l.fn.self l.cells;
   within : l.line ≤ l.groups.lines;
   place : l.end ≡ min (l.groups.at + l.line * l.groups.width) (l.groups.lines * l.groups.width);
   symmetry : l.swaps.for_symmetry ≡ 0;

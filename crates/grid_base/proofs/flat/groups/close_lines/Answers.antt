@@ -21,7 +21,7 @@ loop-line-preserved g c =
     let here : c.loop-line.start ≡ c.args.groups.at + c.loop-line.line * c.args.groups.width = omega arith in
     let some = first_line (c.loop-line.line + 1) c.args.groups.count (omega arith) in
     let groups = mul-le-mul_right c.args.groups.count line in
-    let moved = moved_forward _ _ _ _ _ (omega arith) (omega (arith, c.loop-line.invariant.run.length_stays)) c.move_forward-swaps.ensures.moved in
+    let moved = moved_forward _ _ _ _ _ (omega arith) (omega (arith, c.loop-line.invariant.run.length_stays)) c.move_forward-swaps.ensures.cells in
     record {
       run = closing_run _ _ _ _ (c.loop-line.line + 1) _ _ _ _ _ _ c.args.groups.within (omega arith) (omega arith) c.min-stretch.ensures c.loop-line.invariant.run moved refl;
       place = λ _. omega arith;
