@@ -1,11 +1,11 @@
 -- The steps round a cell, one by one.
-use Rattle.std.proofs.Common.{◌≡◌, ℕ, zero, suc, ◌+◌, ◌-◌, ◌*◌, ◌/◌, ◌%◌, ◌<◌, ◌≤◌, inl, inr, Bool, true, false, cond, Option, Some, None, List, [], ◌∷◌, drop, length, refl, ◌&&◌, nat_lt, sym, ◌∙◌, ap, arith, slice_index_or, lit<, subst, IsSome, filter_map, slice_get, option_map, option_and_then, lt-ltb, le-ltb, ltb-true}
-use Rattle.grid_base.proofs.Common.{cons_option, drop_all, mod_below, mod-mul-add, add-mod_right, cases_lt, slice_get_read, row_count, col_count, cell, IsTable, storage, place, table_of, HoldsSize}
+use Rattle.std.proofs.Common.{◌≡◌, ℕ, zero, suc, ◌+◌, ◌-◌, ◌*◌, ◌/◌, ◌%◌, ◌<◌, ◌≤◌, inl, inr, Bool, true, false, cond, Option, Some, None, List, [], ◌∷◌, drop, length, refl, ◌&&◌, nat_lt, sym, ◌∙◌, ap, arith, slice_index_or, lit<, IsSome, filter_map, slice_get, option_map, option_and_then, lt-ltb, le-ltb, ltb-true}
+use Rattle.grid_base.proofs.Common.{cons_option, drop_all, mod_below, mod-mul-add, add-mod_right, cases_lt, slice_get_read, row_count, col_count, cell, place, table_of, HoldsSize}
 use Rattle.grid_base.specs.declared.order.Order.{Order}
 use Rattle.grid_base.specs.declared.order.Order.TheVariants.{RowMajor, ColumnMajor}
-use Rattle.grid_base.proofs.ViewLemmas.{view-rows, view-cols, view-table, view-storage}
+use Rattle.grid_base.proofs.ViewLemmas.{view-rows, view-cols, view-table, view-cell}
 use Rattle.grid_base.proofs.TableLemmas.{cell_past_rows, IsSome_within, length_cons, past_cols}
-use Rattle.grid_base.proofs.StorageLemmas.{get-storage, length-storage, place_within}
+use Rattle.grid_base.proofs.StorageLemmas.{place_within}
 use Rattle.grid_near.specs.declared.steps.Steps.{Steps}
 use Rattle.grid_near.specs.declared.steps.Steps.TheVariants.{Sides, All}
 use Rattle.grid_near.specs.declared.board.Edges.{Edges}
@@ -40,31 +40,29 @@ module _ {T : Type 0} (cells : List T) (size strides : ℕ × ℕ) where
   f = strided_cell cells size strides
 
   -- the cell of a position that is in the grid
-  some_at : (q p : ℕ × ℕ) (x : T) → cond (nat_lt q.0 size.0 && nat_lt q.1 size.1) (Some q) None ≡ Some p → slice_get cells (p.0 * strides.0 + p.1 * strides.1) ≡ Some x → option_map {U = (ℕ × ℕ) × T} (λ x. (q, x)) (f q.0 q.1) ≡ Some (p, x)
-  some_at q p x e h = cases (nat_lt q.0 size.0 && nat_lt q.1 size.1) e
-    where
-      cases : (b : Bool) → cond b (Some q) None ≡ Some p → option_map {U = (ℕ × ℕ) × T} (λ x. (q, x)) (cond b (slice_get cells (q.0 * strides.0 + q.1 * strides.1)) None) ≡ Some (p, x)
-      cases true e =
-          let same : q ≡ p = cc in
-          ap (λ (r : ℕ × ℕ). option_map {U = (ℕ × ℕ) × T} (λ x. (r, x)) (slice_get cells (r.0 * strides.0 + r.1 * strides.1))) same ∙ ap (option_map {U = (ℕ × ℕ) × T} (λ x. (p, x))) h
-      cases false e = absurd (cc e)
-
-  pub cell_some : (p : Option ℕ × Option ℕ) (q : ℕ × ℕ) (x : T) → Some q ≡ if_within size (both p) → slice_get cells (q.0 * strides.0 + q.1 * strides.1) ≡ Some x → cell_at f p ≡ Some (q, x)
-  cell_some p q x e h = cases (both p) e
-    where
-      cases : (o : Option (ℕ × ℕ)) → Some q ≡ if_within size o → option_and_then {U = (ℕ × ℕ) × T} (λ q. option_map (λ x. (q, x)) (f q.0 q.1)) o ≡ Some (q, x)
-      cases None e = absurd (cc e)
-      cases (Some r) e = some_at r q x (sym e) h
+  pub cell_here : (r c : ℕ) (x : T) → r < size.0 → c < size.1 → slice_get cells (r * strides.0 + c * strides.1) ≡ Some x → cell_at f (Some r, Some c) ≡ Some ((r, c), x)
+  cell_here r c x lr lc read =
+      ap (λ b. option_map {U = (ℕ × ℕ) × T} (λ x. ((r, c), x)) (cond (b && nat_lt c size.1) (slice_get cells (r * strides.0 + c * strides.1)) None)) (lt-ltb _ _ lr)
+      ∙ (ap (λ b. option_map {U = (ℕ × ℕ) × T} (λ x. ((r, c), x)) (cond b (slice_get cells (r * strides.0 + c * strides.1)) None)) (lt-ltb _ _ lc)
+      ∙ ap (option_map {U = (ℕ × ℕ) × T} (λ x. ((r, c), x))) read)
 
 module _ {T : Type 0} (f : ℕ → ℕ → Option T) (e : Edges) (size : ℕ × ℕ) (kind : Steps) (at : ℕ × ℕ) where
   pub cells_left : (k : ℕ) → k < step_count kind → cells_from f e size kind at k ≡ cons_option (cell_at f (position_of e size kind at k)) (cells_from f e size kind at (k + 1))
   cells_left k lt = ap (filter_map (cell_at f)) (positions_from_step e size kind at k lt)
 
-  pub first_cell : (k : ℕ) (x : (ℕ × ℕ) × T) → k < step_count kind → cell_at f (position_of e size kind at k) ≡ Some x → cells_from f e size kind at k ≡ x ∷ cells_from f e size kind at (k + 1)
+  first_cell : (k : ℕ) (x : (ℕ × ℕ) × T) → k < step_count kind → cell_at f (position_of e size kind at k) ≡ Some x → cells_from f e size kind at k ≡ x ∷ cells_from f e size kind at (k + 1)
   first_cell k x lt is = cells_left k lt ∙ ap (λ o. cons_option o (cells_from f e size kind at (k + 1))) is
 
   pub no_cells : (k : ℕ) → step_count kind ≤ k → cells_from f e size kind at k ≡ []
   no_cells k le = ap (filter_map (cell_at f)) (none_left e size kind at k le)
+
+-- the cell of a step
+pub step_item : {T : Type 0} (cells : List T) (size strides : ℕ × ℕ) (e : Edges) (kind : Steps) (at : ℕ × ℕ) (k r c : ℕ) (x : T) → k < step_count kind → side e size.0 at.0 (box kind k / 3) ≡ Some r → side e size.1 at.1 (box kind k % 3) ≡ Some c → r < size.0 → c < size.1 → slice_get cells (r * strides.0 + c * strides.1) ≡ Some x → cells_from (strided_cell cells size strides) e size kind at k ≡ ((r, c), x) ∷ cells_from (strided_cell cells size strides) e size kind at (k + 1)
+step_item cells size strides e kind at k r c x lt er ec lr lc read =
+    let f = strided_cell cells size strides in
+    first_cell f e size kind at k ((r, c), x) lt
+    (ap (λ (o : Option ℕ). cell_at f (o, side e size.1 at.1 (box kind k % 3))) er
+    ∙ (ap (λ (o : Option ℕ). cell_at f (Some r, o)) ec ∙ cell_here cells size strides r c x lr lc read))
 
 -- steps whose positions aren't in the grid
 pub position_skipped : (size : ℕ × ℕ) (kind : Steps) (at : ℕ × ℕ) (k : ℕ) → k < step_count kind → if_within size (both (position_of Open size kind at k)) ≡ None → positions_from size kind at k ≡ positions_from size kind at (k + 1)
@@ -186,27 +184,6 @@ at_strides : (o : Order) (m n r c : ℕ) → r * (strides_of o (m, n)).0 + c * (
 at_strides RowMajor m n r c = omega arith
 at_strides ColumnMajor m n r c = omega arith
 
-module _ {T : Type 0} (o : Order) (t : List (List T)) (h : IsTable t) where
-  pub holds_cells : HoldsCells (storage o t) (row_count t, col_count t) (strides_of o (row_count t, col_count t))
-  holds_cells r c lr lc = omega (arith, at_strides o (row_count t) (col_count t) r c, place_within o (row_count t) (col_count t) r c lr lc, length-storage o t h)
-
-  shown : (r c : ℕ) → strided_cell (storage o t) (row_count t, col_count t) (strides_of o (row_count t, col_count t)) r c ≡ cell t r c
-  shown r c = elim (cases_lt r (row_count t)) [
-    | inl lr ↦ elim (cases_lt c (col_count t)) [
-      | inl lc ↦
-          ap (λ b. cond (b && nat_lt c (col_count t)) (slice_get (storage o t) (r * (strides_of o (row_count t, col_count t)).0 + c * (strides_of o (row_count t, col_count t)).1)) None) (lt-ltb r (row_count t) lr)
-          ∙ (ap (λ b. cond b (slice_get (storage o t) (r * (strides_of o (row_count t, col_count t)).0 + c * (strides_of o (row_count t, col_count t)).1)) None) (lt-ltb c (col_count t) lc)
-          ∙ (ap (slice_get (storage o t)) (at_strides o (row_count t) (col_count t) r c) ∙ get-storage o t r c h lr lc))
-      | inr gc ↦ past r c (nat_lt r (row_count t)) (nat_lt c (col_count t)) (le-ltb c (col_count t) gc) ∙ sym (past_cols t h r c gc)
-    ]
-    | inr gr ↦
-        ap (λ b. cond (b && nat_lt c (col_count t)) (slice_get (storage o t) (r * (strides_of o (row_count t, col_count t)).0 + c * (strides_of o (row_count t, col_count t)).1)) None) (le-ltb r (row_count t) gr) ∙ sym (cell_past_rows t r c gr)
-  ]
-    where
-      past : (r c : ℕ) (a b : Bool) → b ≡ false → cond (a && b) (slice_get (storage o t) (r * (strides_of o (row_count t, col_count t)).0 + c * (strides_of o (row_count t, col_count t)).1)) None ≡ None
-      past r c true b e = ap (λ b. cond b (slice_get (storage o t) (r * (strides_of o (row_count t, col_count t)).0 + c * (strides_of o (row_count t, col_count t)).1)) None) e
-      past r c false b e = refl
-
 -- what an iterator starts from
 module _ {T : Type 0} (t : List (List T)) where
   joined_start : (b : Bool) (size : ℕ × ℕ) (kind : Steps) (at : ℕ × ℕ) → cells_from (cell t) Joined size kind at (cond b 0 (step_count kind)) ≡ cond b (cells_from (cell t) Joined size kind at 0) []
@@ -225,29 +202,32 @@ module _ {T : Type 0} (o : Order) (cells : List T) (size strides : ℕ × ℕ) (
   abbrev table : List (List T)
   table = table_of o size.0 size.1 cells
 
-  pub whole_size : size ≡ (row_count table, col_count table)
+  whole_size : size ≡ (row_count table, col_count table)
   whole_size = λ i. (sym (view-rows o size.0 size.1 cells h) i, sym (view-cols o size.0 size.1 cells h) i)
 
-  whole_strides : strides ≡ strides_of o (row_count table, col_count table)
-  whole_strides = es ∙ ap (strides_of o) whole_size
-
-  whole_cells : cells ≡ storage o table
-  whole_cells = sym (view-storage o size.0 size.1 cells h)
-
   pub start_holds : HoldsCells cells size strides
-  start_holds =
-      let P : List T → Type 0 = λ x. HoldsCells x size strides in
-      let Q : ℕ × ℕ → Type 0 = λ x. HoldsCells (storage o table) x strides in
-      let R : ℕ × ℕ → Type 0 = λ x. HoldsCells (storage o table) (row_count table, col_count table) x in
-      subst P (sym whole_cells) (subst Q (sym whole_size) (subst R (sym whole_strides) (holds_cells o table (view-table o size.0 size.1 cells h))))
+  start_holds r c lr lc = rw es (omega (arith, at_strides o size.0 size.1 r c, place_within o size.0 size.1 r c lr lc, h.cells))
 
-  pub same_cells : strided_cell cells size strides ≡ cell table
-  same_cells =
-      let shows : strided_cell (storage o table) (row_count table, col_count table) (strides_of o (row_count table, col_count table)) ≡ cell table = λ i r c. shown o table (view-table o size.0 size.1 cells h) r c i in
-      ap (λ x. strided_cell x size strides) whole_cells
-      ∙ (ap (λ x. strided_cell (storage o table) x strides) whole_size
-      ∙ (ap (strided_cell (storage o table) (row_count table, col_count table)) whole_strides
-      ∙ shows))
+  abbrev read : ℕ → ℕ → Option T
+  read r c = slice_get cells (r * (strides_of o size).0 + c * (strides_of o size).1)
+
+  past : (a b : Bool) (x : Option T) → b ≡ false → cond (a && b) x None ≡ None
+  past true b x e = ap (λ b. cond b x None) e
+  past false b x e = refl
+
+  shown : (r c : ℕ) → strided_cell cells size (strides_of o size) r c ≡ cell table r c
+  shown r c = elim (cases_lt r size.0) [
+    | inl lr ↦ elim (cases_lt c size.1) [
+      | inl lc ↦
+          ap (λ b. cond (b && nat_lt c size.1) (read r c) None) (lt-ltb _ _ lr)
+          ∙ (ap (λ b. cond b (read r c) None) (lt-ltb _ _ lc) ∙ (ap (slice_get cells) (at_strides o size.0 size.1 r c) ∙ sym (view-cell o size.0 size.1 cells h r c lr lc)))
+      | inr gc ↦ past (nat_lt r size.0) (nat_lt c size.1) (read r c) (le-ltb _ _ gc) ∙ sym (past_cols table (view-table o size.0 size.1 cells h) r c (omega (arith, gc, view-cols o size.0 size.1 cells h)))
+    ]
+    | inr gr ↦ ap (λ b. cond (b && nat_lt c size.1) (read r c) None) (le-ltb _ _ gr) ∙ sym (cell_past_rows table r c (omega (arith, gr, view-rows o size.0 size.1 cells h)))
+  ]
+
+  same_cells : strided_cell cells size strides ≡ cell table
+  same_cells = ap (strided_cell cells size) es ∙ (λ i r c. shown r c i)
 
   pub start_shown : (e : Edges) (kind : Steps) (at : ℕ × ℕ) (k : ℕ) → k ≡ start_of e size kind at → cells_from (strided_cell cells size strides) e size kind at k ≡ round_of kind e table at.0 at.1
   start_shown e kind at k is =
@@ -326,46 +306,34 @@ moved r i s lt = let same : r + i - 1 ≡ r - 1 + i = omega arith in sym (ap (λ
 -- the position of a step whose cell is in the grid
 module _ {T : Type 0} (cells : List T) (size strides at : ℕ × ℕ) (kind : Steps) (k i j : ℕ) (lt : k < step_count kind) (h : HoldsCells cells size strides) (t : IsThere size at (box kind k / 3) (box kind k % 3)) (ei : i ≡ box kind k / 3) (ej : j ≡ box kind k % 3) where
   there : IsThere size at i j
-  there = record {
-    above = omega (arith, t.above, ei);
-    below = omega (arith, t.below, ei);
-    before = omega (arith, t.before, ej);
-    after = omega (arith, t.after, ej);
-  }
+  there = there_at size at _ _ i j (sym ei) (sym ej) t
 
   pub position_within : (at.0 + i - 1) * strides.0 + (at.1 + j - 1) * strides.1 < length cells
   position_within = h (at.0 + i - 1) (at.1 + j - 1) (omega (arith, there.above, there.below)) (omega (arith, there.before, there.after))
 
-  pub position_in_size : Some (at.0 + i - 1, at.1 + j - 1) ≡ if_within size (both (position_of Open size kind at k))
-  position_in_size =
-      position_there size at i j (omega (arith, box_row kind k lt, ei)) (omega (arith, box_col kind k, ej)) there
-      ∙ (ap (λ (n : ℕ). if_within size (both (beside at.0 n, beside at.1 j))) ei
-      ∙ ap (λ (n : ℕ). if_within size (both (beside at.0 (box kind k / 3), beside at.1 n))) ej)
+  pub position_item : (x : T) → slice_get cells ((at.0 + i - 1) * strides.0 + (at.1 + j - 1) * strides.1) ≡ Some x → cells_from (strided_cell cells size strides) Open size kind at k ≡ ((at.0 + i - 1, at.1 + j - 1), x) ∷ cells_from (strided_cell cells size strides) Open size kind at (k + 1)
+  position_item x read =
+      step_item cells size strides Open kind at k (at.0 + i - 1) (at.1 + j - 1) x lt
+      (ap (beside at.0) (sym ei) ∙ beside_there at.0 i there.above (omega (arith, box_row kind k lt, ei)))
+      (ap (beside at.1) (sym ej) ∙ beside_there at.1 j there.before (omega (arith, box_col kind k, ej)))
+      (omega (arith, there.above, there.below)) (omega (arith, there.before, there.after)) read
 
 module _ {T : Type 0} (cells : List T) (size strides at : ℕ × ℕ) (kind : Steps) (edges : Edges) (first : ℕ) (inner : Bool) (passed tried : ℕ) (w : IsRound cells size strides at kind edges first inner passed tried) (e : inner ≡ true) (k : ℕ) (lt : k < step_count kind) (i j : ℕ) (ei : i ≡ box kind k / 3) (ej : j ≡ box kind k % 3) where
-  pub within_row : at.0 + i - 1 < size.0
+  within_row : at.0 + i - 1 < size.0
   within_row = omega (arith, box_row kind k lt, (w.inside e).below, (w.inside e).above)
 
-  pub within_col : at.1 + j - 1 < size.1
+  within_col : at.1 + j - 1 < size.1
   within_col = omega (arith, box_col kind k, (w.inside e).after, (w.inside e).before)
 
-  pub box_place : first + i * strides.0 + j * strides.1 ≡ (at.0 + i - 1) * strides.0 + (at.1 + j - 1) * strides.1
+  box_place : first + i * strides.0 + j * strides.1 ≡ (at.0 + i - 1) * strides.0 + (at.1 + j - 1) * strides.1
   box_place = omega (arith, w.first_is e, moved at.0 i strides.0 (w.inside e).above, moved at.1 j strides.1 (w.inside e).before)
 
   pub box_within : first + i * strides.0 + j * strides.1 < length cells
   box_within = omega (arith, box_place, w.holds (at.0 + i - 1) (at.1 + j - 1) within_row within_col)
 
-  in_size : Some (at.0 + i - 1, at.1 + j - 1) ≡ if_within size (both (position_of edges size kind at k))
-  in_size =
-      sym (ap (λ (n : ℕ). if_within size (both (side edges size.0 at.0 n, side edges size.1 at.1 (box kind k % 3)))) (sym ei)
-      ∙ (ap (λ (n : ℕ). if_within size (both (side edges size.0 at.0 i, side edges size.1 at.1 n))) (sym ej)
-      ∙ (ap (λ (o : Option ℕ). if_within size (both (o, side edges size.1 at.1 j))) (side_inner edges size.0 at.0 i (w.inside e).above (w.inside e).below (omega (arith, box_row kind k lt)))
-      ∙ (ap (λ (o : Option ℕ). if_within size (both (Some (at.0 + i - 1), o))) (side_inner edges size.1 at.1 j (w.inside e).before (w.inside e).after (omega (arith, box_col kind k)))
-      ∙ (ap (λ b. cond (b && nat_lt (at.1 + j - 1) size.1) (Some (at.0 + i - 1, at.1 + j - 1)) None) (lt-ltb _ _ within_row)
-      ∙ ap (λ b. cond b (Some (at.0 + i - 1, at.1 + j - 1)) None) (lt-ltb _ _ within_col))))))
-
   pub inner_item : (x : T) → x ≡ slice_index_or cells (first + i * strides.0 + j * strides.1) x → cells_from (strided_cell cells size strides) edges size kind at k ≡ ((at.0 + i - 1, at.1 + j - 1), x) ∷ cells_from (strided_cell cells size strides) edges size kind at (k + 1)
   inner_item x read =
-      first_cell (strided_cell cells size strides) edges size kind at k ((at.0 + i - 1, at.1 + j - 1), x) lt
-      (cell_some cells size strides (position_of edges size kind at k) (at.0 + i - 1, at.1 + j - 1) x in_size
-      (ap (slice_get cells) (sym box_place) ∙ slice_get_read cells _ _ x refl box_within read))
+      step_item cells size strides edges kind at k (at.0 + i - 1) (at.1 + j - 1) x lt
+      (ap (side edges size.0 at.0) (sym ei) ∙ side_inner edges size.0 at.0 i (w.inside e).above (w.inside e).below (omega (arith, box_row kind k lt)))
+      (ap (side edges size.1 at.1) (sym ej) ∙ side_inner edges size.1 at.1 j (w.inside e).before (w.inside e).after (omega (arith, box_col kind k)))
+      within_row within_col (ap (slice_get cells) (sym box_place) ∙ slice_get_read cells _ _ x refl box_within read)

@@ -1,5 +1,5 @@
 -- Marks of cells.
-use Rattle.std.proofs.Common.{◌≡◌, ℕ, zero, suc, ◌+◌, ◌-◌, ◌*◌, ◌%◌, ◌<◌, ◌&&◌, inl, inr, Bool, true, false, cond, nat_lt, List, [], ◌∷◌, Option, Some, None, length, refl, sym, subst, ◌∙◌, ap, arith, get_or, set, take, slice_get, filter_map, option_map, MatchOption, get_or-set_other, take_all, lt-ltb, le-ltb, Bor}
+use Rattle.std.proofs.Common.{◌≡◌, ℕ, zero, suc, ◌+◌, ◌-◌, ◌*◌, ◌%◌, ◌<◌, ◌&&◌, inl, inr, Bool, true, false, cond, nat_lt, List, [], ◌∷◌, Option, Some, None, length, refl, sym, subst, ◌∙◌, ap, arith, get_or, set, take, slice_get, filter_map, option_map, MatchOption, get_or-set_other, take_all, le-ltb, Bor}
 use Rattle.grid_base.proofs.Common.{cons_option, AllZip, from_bool, slice_get_read, sum_by-cons, get_or-set_at, cases_lt, add-mod_right, along, table_of, HoldsSize, positions_of, lines_of}
 use Rattle.grid_base.specs.declared.order.Order.{Order}
 use Rattle.grid_base.specs.declared.order.Order.TheVariants.{RowMajor, ColumnMajor}
@@ -12,11 +12,11 @@ use Rattle.grid_near.specs.declared.steps.Steps.TheVariants.{Sides, All}
 use Rattle.grid_near.specs.declared.board.Board.{Board}
 use Rattle.grid_near.specs.declared.board.Edges.{Edges}
 use Rattle.grid_near.specs.declared.board.Edges.TheVariants.{Open, Joined}
-use Rattle.grid_near.specs.Neighbors.{both, cell_at, before, round_of}
-use Rattle.grid_near.specs.Around.{strided_cell, strides_of, beside, around, side, positions, if_within}
+use Rattle.grid_near.specs.Neighbors.{cell_at, before, round_of}
+use Rattle.grid_near.specs.Around.{strided_cell, strides_of, beside, around, side, positions}
 use Rattle.grid_near.specs.NearCounts.{MayAnswer, MayCount, CountsNear, SumsNear}
 use Rattle.grid_near.specs.Marks.{MarkAt, MarksCells, MarksLine, AreBeside, WithEnds, IsBeyond, spot, near, table, placed_cells, count_round, sum_round}
-use Rattle.grid_near.proofs.AroundLemmas.{cell_some, start_shown, below_mod}
+use Rattle.grid_near.proofs.AroundLemmas.{cell_here, start_shown, below_mod}
 use Rattle.grid_near.proofs.WrappedLemmas.{none_done, around_within}
 
 module _ {F T B : Type 0} (blank : B) (returns : F → Bor T → B → Type 0) (f : F) (cells : List T) (start : ℕ) where
@@ -56,20 +56,15 @@ module _ {T : Type 0} (cells : List T) (size strides : ℕ × ℕ) where
       ap (λ b. option_map {U = (ℕ × ℕ) × T} (λ x. ((r, c), x)) (cond (nat_lt r size.0 && b) (slice_get cells (r * strides.0 + c * strides.1)) None)) (le-ltb c size.1 h)
       ∙ ap (option_map {U = (ℕ × ℕ) × T} (λ x. ((r, c), x))) (none_past (nat_lt r size.0) (slice_get cells (r * strides.0 + c * strides.1)))
 
-  found : (r c : ℕ) (x : T) → r < size.0 → c < size.1 → slice_get cells (r * strides.0 + c * strides.1) ≡ Some x → cell_at g (Some r, Some c) ≡ Some ((r, c), x)
-  found r c x lr lc read =
-      let in_size : Some (r, c) ≡ if_within size (both (Some r, Some c)) = sym (ap (λ b. cond (b && nat_lt c size.1) (Some (r, c)) None) (lt-ltb _ _ lr) ∙ ap (λ b. cond b (Some (r, c)) None) (lt-ltb _ _ lc)) in
-      cell_some cells size strides (Some r, Some c) (r, c) x in_size read
-
 spot_place_missing : {T : Type 0} (cells : List T) (o : Order) (size : ℕ × ℕ) (l c : Option ℕ) → IsBeyond (along o size.0 size.1).1 c → cell_at (strided_cell cells size (strides_of o size)) (spot o l c) ≡ None
 spot_place_missing cells RowMajor size l c h = missing_col cells size (size.1, 1) l c h
 spot_place_missing cells ColumnMajor size l c h = missing_row cells size (1, size.0) c l h
 
 spot_found : {T : Type 0} (cells : List T) (o : Order) (size : ℕ × ℕ) (l c : ℕ) (x : T) → l < (along o size.0 size.1).0 → c < (along o size.0 size.1).1 → slice_get cells (l * (along o size.0 size.1).1 + c) ≡ Some x → cell_at (strided_cell cells size (strides_of o size)) (spot o (Some l) (Some c)) ≡ Some (along o l c, x)
 spot_found cells RowMajor size l c x ll lc is =
-    found cells size (size.1, 1) l c x ll lc (ap (slice_get cells) (omega arith) ∙ is)
+    cell_here cells size (size.1, 1) l c x ll lc (ap (slice_get cells) (omega arith) ∙ is)
 spot_found cells ColumnMajor size l c x ll lc is =
-    found cells size (1, size.0) c l x lc ll (ap (slice_get cells) (omega arith) ∙ is)
+    cell_here cells size (1, size.0) c l x lc ll (ap (slice_get cells) (omega arith) ∙ is)
 
 -- a place in a line is within the cells
 line_within : (o : Order) (m n len l c : ℕ) → HoldsSize m n len → l < (along o m n).0 → c < (along o m n).1 → l * (along o m n).1 + c < len

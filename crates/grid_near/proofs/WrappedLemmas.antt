@@ -1,23 +1,13 @@
 -- The steps round a cell on a table whose edges meet.
-use Rattle.std.proofs.Common.{◌≡◌, ℕ, zero, suc, ◌+◌, ◌-◌, ◌*◌, ◌/◌, ◌%◌, ◌<◌, Bool, true, false, Option, Some, None, List, ◌∷◌, cond, nat_lt, ◌&&◌, length, inl, inr, IsSome, refl, sym, ◌∙◌, ap, arith, slice_get, lt-ltb, ltb-true}
+use Rattle.std.proofs.Common.{◌≡◌, ℕ, zero, suc, ◌+◌, ◌-◌, ◌/◌, ◌%◌, ◌<◌, Bool, true, false, Option, cond, nat_lt, ◌&&◌, length, inl, inr, IsSome, refl, ◌∙◌, ap, arith, lt-ltb, ltb-true}
 use Rattle.grid_base.proofs.Common.{mod_below, cases_lt}
 use Rattle.grid_base.proofs.TableLemmas.{length_cons}
 use Rattle.grid_near.specs.declared.steps.Steps.{Steps}
 use Rattle.grid_near.specs.declared.board.Edges.{Edges}
 use Rattle.grid_near.specs.declared.board.Edges.TheVariants.{Open, Joined}
-use Rattle.grid_near.specs.Neighbors.{step_count, both, cell_at}
-use Rattle.grid_near.specs.Around.{around, strided_cell, box, if_within, cells_from, start_of, next_step}
-use Rattle.grid_near.proofs.AroundLemmas.{cell_some, cells_left, first_cell, no_cells, mapped_there}
-
--- the cell of a step
-module _ {T : Type 0} (cells : List T) (size strides at : ℕ × ℕ) (kind : Steps) (k r c : ℕ) (x : T) where
-  pub joined_item : k < step_count kind → r ≡ around size.0 at.0 (box kind k / 3) → c ≡ around size.1 at.1 (box kind k % 3) → r < size.0 → c < size.1 → slice_get cells (r * strides.0 + c * strides.1) ≡ Some x → cells_from (strided_cell cells size strides) Joined size kind at k ≡ ((r, c), x) ∷ cells_from (strided_cell cells size strides) Joined size kind at (k + 1)
-  joined_item lt er ec lr lc read =
-      let f = strided_cell cells size strides in
-      let in_size : Some (r, c) ≡ if_within size (both (Some r, Some c)) = sym (ap (λ b. cond (b && nat_lt c size.1) (Some (r, c)) None) (lt-ltb _ _ lr) ∙ ap (λ b. cond b (Some (r, c)) None) (lt-ltb _ _ lc)) in
-      first_cell f Joined size kind at k ((r, c), x) lt
-      (sym (ap (λ (n : ℕ). cell_at f (Some n, Some c)) er ∙ ap (λ (n : ℕ). cell_at f (Some (around size.0 at.0 (box kind k / 3)), Some n)) ec)
-      ∙ cell_some cells size strides (Some r, Some c) (r, c) x in_size read)
+use Rattle.grid_near.specs.Neighbors.{step_count}
+use Rattle.grid_near.specs.Around.{around, box, cells_from, start_of, next_step}
+use Rattle.grid_near.proofs.AroundLemmas.{cells_left, no_cells, mapped_there}
 
 -- where a position is in range, and where not, by how many steps are done at the start
 module _ (size : ℕ × ℕ) (kind : Steps) (at : ℕ × ℕ) where

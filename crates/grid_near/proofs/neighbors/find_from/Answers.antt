@@ -1,9 +1,9 @@
 use Rattle.std.proofs.Common.{◌∙◌, ◌<◌, arith, refl}
 use Rattle.std.proofs.lemmas.Option.{slice_get_read}
 use Rattle.grid_near.specs.Neighbors.{step_count}
-use Rattle.grid_near.specs.Around.{strided_cell, position_of}
+use Rattle.grid_near.specs.Around.{strided_cell}
 use Rattle.grid_near.specs.declared.board.Edges.TheVariants.{Open}
-use Rattle.grid_near.proofs.AroundLemmas.{cells_skipped, no_cells, cell_some, first_cell, position_within, position_in_size}
+use Rattle.grid_near.proofs.AroundLemmas.{cells_skipped, no_cells, position_within, position_item}
 use Rattle.grid_near.proofs.neighbors.find_from.Goals as goal
 
 pub returns-then-k-step_count-clause-found : goal.returns-then-k-step_count-clause-found
@@ -36,6 +36,5 @@ returns-clause-found g c =
     let lt : k < step_count a.kind = omega arith in
     let there = c.first_from-k.ensures.there lt in
     let h = position_within a.table.cells.now a.table.size a.table.strides a.at a.kind k c.offset-i.result.0 c.offset-i.result.1 lt c.requires.holds there c.offset-i.ensures.row c.offset-i.ensures.col in
-    let same = position_in_size a.table.cells.now a.table.size a.table.strides a.at a.kind k c.offset-i.result.0 c.offset-i.result.1 lt c.requires.holds there c.offset-i.ensures.row c.offset-i.ensures.col in
     cells_skipped a.table.cells.now a.table.size a.table.strides a.kind a.at a.from k c.first_from-k.ensures.skips
-    ∙ first_cell (strided_cell a.table.cells.now a.table.size a.table.strides) Open a.table.size a.kind a.at k _ lt (cell_some a.table.cells.now a.table.size a.table.strides (position_of Open a.table.size a.kind a.at k) _ c.index-cells-row.result same (slice_get_read a.table.cells.now _ _ _ refl h c.index-cells-row.is))
+    ∙ position_item a.table.cells.now a.table.size a.table.strides a.at a.kind k c.offset-i.result.0 c.offset-i.result.1 lt c.requires.holds there c.offset-i.ensures.row c.offset-i.ensures.col c.index-cells-row.result (slice_get_read a.table.cells.now _ _ _ refl h c.index-cells-row.is)

@@ -1,8 +1,8 @@
-use Rattle.std.proofs.Common.{◌+◌, ◌∙◌, ◌∷◌, ap, refl, arith}
+use Rattle.std.proofs.Common.{Some, sym, ◌+◌, ◌∙◌, ◌∷◌, ap, refl, arith}
 use Rattle.std.proofs.lemmas.Option.{slice_get_read}
 use Rattle.grid_near.specs.Around.{around, strided_cell, cells_from}
 use Rattle.grid_near.specs.declared.board.Edges.TheVariants.{Joined}
-use Rattle.grid_near.proofs.WrappedLemmas.{joined_item}
+use Rattle.grid_near.proofs.AroundLemmas.{step_item}
 use Rattle.grid_near.proofs.neighbors.joined_cell.Goals as goal
 
 pub overflow_mul-result : goal.overflow_mul-result
@@ -16,5 +16,5 @@ returns g c =
     let a = c.args in
     let row = c.around-row.ensures in
     let col = c.around-col.ensures in
-    joined_item a.table.cells.now a.table.size a.table.strides a.at a.kind a.k c.around-row.result c.around-col.result c.index-table-row.result c.requires.step (row.is ∙ ap (around a.table.size.0 a.at.0) c.offset-i.ensures.row) (col.is ∙ ap (around a.table.size.1 a.at.1) c.offset-i.ensures.col) row.within col.within (slice_get_read a.table.cells.now _ _ _ refl (c.requires.holds _ _ row.within col.within) c.index-table-row.is)
+    step_item a.table.cells.now a.table.size a.table.strides Joined a.kind a.at a.k c.around-row.result c.around-col.result c.index-table-row.result c.requires.step (ap Some (sym (row.is ∙ ap (around a.table.size.0 a.at.0) c.offset-i.ensures.row))) (ap Some (sym (col.is ∙ ap (around a.table.size.1 a.at.1) c.offset-i.ensures.col))) row.within col.within (slice_get_read a.table.cells.now _ _ _ refl (c.requires.holds _ _ row.within col.within) c.index-table-row.is)
     ∙ ap (λ x. ((c.around-row.result, c.around-col.result), x) ∷ cells_from (strided_cell a.table.cells.now a.table.size a.table.strides) Joined a.table.size a.kind a.at (a.k + 1)) c.index-table-row.is
