@@ -147,10 +147,39 @@ module _ {F T B : Type 0} (blank : B) (returns : F → Bor T → B → Type 0) (
 round_shown : {T : Type 0} (cells : List T) (o : Order) (size : ℕ × ℕ) → HoldsSize size.0 size.1 (length cells) → (e : Edges) (kind : Steps) (at : ℕ × ℕ) → at.0 < size.0 → at.1 < size.1 → filter_map (cell_at (strided_cell cells size (strides_of o size))) (positions e size kind at) ≡ round_of kind e (table_of o size.0 size.1 cells) at.0 at.1
 round_shown cells o size h e kind at lr lc = start_shown o cells size (strides_of o size) h refl e kind at 0 (sym (none_done size kind at e lr lc))
 
+-- the marks round a place of a line, in the order of the positions of the cells
+abbrev marks_round : {B : Type 0} → B → Order → Steps → List B → List B → List B → ℕ → List B
+marks_round blank RowMajor Sides up mid down k = get_or up (k + 1) blank ∷ get_or mid k blank ∷ get_or mid (k + 2) blank ∷ get_or down (k + 1) blank ∷ []
+marks_round blank RowMajor All up mid down k = get_or up k blank ∷ get_or up (k + 1) blank ∷ get_or up (k + 2) blank ∷ get_or mid k blank ∷ get_or mid (k + 2) blank ∷ get_or down k blank ∷ get_or down (k + 1) blank ∷ get_or down (k + 2) blank ∷ []
+marks_round blank ColumnMajor Sides up mid down k = get_or mid k blank ∷ get_or up (k + 1) blank ∷ get_or down (k + 1) blank ∷ get_or mid (k + 2) blank ∷ []
+marks_round blank ColumnMajor All up mid down k = get_or up k blank ∷ get_or mid k blank ∷ get_or down k blank ∷ get_or up (k + 1) blank ∷ get_or down (k + 1) blank ∷ get_or up (k + 2) blank ∷ get_or mid (k + 2) blank ∷ get_or down (k + 2) blank ∷ []
+
+-- what marks tell of cells, they tell so of those round a cell
+module _ {F T B : Type 0} (blank : B) (returns : F → Bor T → B → Type 0) (f : F) (Tells : List ((ℕ × ℕ) × T) → ℕ → Type 0) (sum : List B → ℕ) (told : (g : ℕ → ℕ → Option T) (ps : List (Option ℕ × Option ℕ)) (bs : List B) → AllZip (MarkAt blank returns f g) ps bs → Tells (filter_map (cell_at g) ps) (sum bs)) (cells : List T) where
+  round_told : (o : Order) (size : ℕ × ℕ) → HoldsSize size.0 size.1 (length cells) → (e : Edges) (kind : Steps) (l k : ℕ) (up mid down : List B) → l < (along o size.0 size.1).0 → k < (along o size.0 size.1).1 → MarksLine blank returns f (strided_cell cells size (strides_of o size)) o e (along o size.0 size.1).1 (side e (along o size.0 size.1).0 l 0) up → MarksLine blank returns f (strided_cell cells size (strides_of o size)) o e (along o size.0 size.1).1 (side e (along o size.0 size.1).0 l 1) mid → MarksLine blank returns f (strided_cell cells size (strides_of o size)) o e (along o size.0 size.1).1 (side e (along o size.0 size.1).0 l 2) down → Tells (round_of kind e (table_of o size.0 size.1 cells) (along o l k).0 (along o l k).1) (sum (marks_round blank o kind up mid down k))
+  round_told RowMajor size h e Sides l k up mid down ll lk hu hm hd =
+      subst (λ near. Tells near (sum (marks_round blank RowMajor Sides up mid down k))) (round_shown cells RowMajor size h e Sides (l, k) ll lk)
+      (told (strided_cell cells size (size.1, 1)) (positions e size Sides (l, k)) _ (hu.at k 1 (k + 1) lk (omega arith) (omega arith), (hm.at k 0 k lk (omega arith) (omega arith), (hm.at k 2 (k + 2) lk (omega arith) (omega arith), (hd.at k 1 (k + 1) lk (omega arith) (omega arith), tt)))))
+  round_told RowMajor size h e All l k up mid down ll lk hu hm hd =
+      subst (λ near. Tells near (sum (marks_round blank RowMajor All up mid down k))) (round_shown cells RowMajor size h e All (l, k) ll lk)
+      (told (strided_cell cells size (size.1, 1)) (positions e size All (l, k)) _ (hu.at k 0 k lk (omega arith) (omega arith), (hu.at k 1 (k + 1) lk (omega arith) (omega arith), (hu.at k 2 (k + 2) lk (omega arith) (omega arith), (hm.at k 0 k lk (omega arith) (omega arith), (hm.at k 2 (k + 2) lk (omega arith) (omega arith), (hd.at k 0 k lk (omega arith) (omega arith), (hd.at k 1 (k + 1) lk (omega arith) (omega arith), (hd.at k 2 (k + 2) lk (omega arith) (omega arith), tt)))))))))
+  round_told ColumnMajor size h e Sides l k up mid down ll lk hu hm hd =
+      subst (λ near. Tells near (sum (marks_round blank ColumnMajor Sides up mid down k))) (round_shown cells ColumnMajor size h e Sides (k, l) lk ll)
+      (told (strided_cell cells size (1, size.0)) (positions e size Sides (k, l)) _ (hm.at k 0 k lk (omega arith) (omega arith), (hu.at k 1 (k + 1) lk (omega arith) (omega arith), (hd.at k 1 (k + 1) lk (omega arith) (omega arith), (hm.at k 2 (k + 2) lk (omega arith) (omega arith), tt)))))
+  round_told ColumnMajor size h e All l k up mid down ll lk hu hm hd =
+      subst (λ near. Tells near (sum (marks_round blank ColumnMajor All up mid down k))) (round_shown cells ColumnMajor size h e All (k, l) lk ll)
+      (told (strided_cell cells size (1, size.0)) (positions e size All (k, l)) _ (hu.at k 0 k lk (omega arith) (omega arith), (hm.at k 0 k lk (omega arith) (omega arith), (hd.at k 0 k lk (omega arith) (omega arith), (hu.at k 1 (k + 1) lk (omega arith) (omega arith), (hd.at k 1 (k + 1) lk (omega arith) (omega arith), (hu.at k 2 (k + 2) lk (omega arith) (omega arith), (hm.at k 2 (k + 2) lk (omega arith) (omega arith), (hd.at k 2 (k + 2) lk (omega arith) (omega arith), tt)))))))))
+
 -- how many are true
 abbrev trues : List Bool → ℕ
 trues [] = 0
 trues (b ∷ bs) = from_bool b + trues bs
+
+same_count : (o : Order) (kind : Steps) (up mid down : List Bool) (k : ℕ) → trues (marks_round false o kind up mid down k) ≡ count_round kind up mid down k
+same_count RowMajor Sides up mid down k = omega arith
+same_count RowMajor All up mid down k = omega arith
+same_count ColumnMajor Sides up mid down k = omega arith
+same_count ColumnMajor All up mid down k = omega arith
 
 module _ {F T : Type 0} (returns : F → Bor T → Bool → Type 0) (f : F) where
   counted_step : (o : Option ((ℕ × ℕ) × T)) (b : Bool) (near : List ((ℕ × ℕ) × T)) (n : ℕ) → MatchOption o (b ≡ false) (λ x. MayAnswer returns f x.1 b) → CountsNear returns f near n → CountsNear returns f (cons_option o near) (from_bool b + n)
@@ -178,47 +207,19 @@ module _ {F T : Type 0} (returns : F → Bor T → Bool → Type 0) (f : F) wher
 
   -- the marks round a place say how many of the cells round it pass
   round_counted : (cells : List T) (o : Order) (size : ℕ × ℕ) → HoldsSize size.0 size.1 (length cells) → (e : Edges) (kind : Steps) (l k : ℕ) (up mid down : List Bool) → l < (along o size.0 size.1).0 → k < (along o size.0 size.1).1 → MarksLine false returns f (strided_cell cells size (strides_of o size)) o e (along o size.0 size.1).1 (side e (along o size.0 size.1).0 l 0) up → MarksLine false returns f (strided_cell cells size (strides_of o size)) o e (along o size.0 size.1).1 (side e (along o size.0 size.1).0 l 1) mid → MarksLine false returns f (strided_cell cells size (strides_of o size)) o e (along o size.0 size.1).1 (side e (along o size.0 size.1).0 l 2) down → CountsNear returns f (round_of kind e (table_of o size.0 size.1 cells) (along o l k).0 (along o l k).1) (count_round kind up mid down k)
-  round_counted cells RowMajor size h e Sides l k up mid down ll lk hu hm hd =
-      let g = strided_cell cells size (size.1, 1) in
-      let u : (i j : ℕ) → i < 3 → j ≡ k + i → MarkAt false returns f g (side e size.0 l 0, side e size.1 k i) (get_or up j false) = λ i j li ej. hu.at k i j lk li ej in
-      let m : (i j : ℕ) → i < 3 → j ≡ k + i → MarkAt false returns f g (side e size.0 l 1, side e size.1 k i) (get_or mid j false) = λ i j li ej. hm.at k i j lk li ej in
-      let d : (i j : ℕ) → i < 3 → j ≡ k + i → MarkAt false returns f g (side e size.0 l 2, side e size.1 k i) (get_or down j false) = λ i j li ej. hd.at k i j lk li ej in
-      let bs : List Bool = get_or up (k + 1) false ∷ get_or mid k false ∷ get_or mid (k + 2) false ∷ get_or down (k + 1) false ∷ [] in
-      let all = counted g (positions e size Sides (l, k)) bs (u 1 (k + 1) (omega arith) (omega arith), (m 0 k (omega arith) (omega arith), (m 2 (k + 2) (omega arith) (omega arith), (d 1 (k + 1) (omega arith) (omega arith), tt)))) in
-      let same : trues bs ≡ count_round Sides up mid down k = omega arith in
-      subst (λ near. CountsNear returns f near (count_round Sides up mid down k)) (round_shown cells RowMajor size h e Sides (l, k) ll lk) (subst (CountsNear returns f (filter_map (cell_at g) (positions e size Sides (l, k)))) same all)
-  round_counted cells RowMajor size h e All l k up mid down ll lk hu hm hd =
-      let g = strided_cell cells size (size.1, 1) in
-      let u : (i j : ℕ) → i < 3 → j ≡ k + i → MarkAt false returns f g (side e size.0 l 0, side e size.1 k i) (get_or up j false) = λ i j li ej. hu.at k i j lk li ej in
-      let m : (i j : ℕ) → i < 3 → j ≡ k + i → MarkAt false returns f g (side e size.0 l 1, side e size.1 k i) (get_or mid j false) = λ i j li ej. hm.at k i j lk li ej in
-      let d : (i j : ℕ) → i < 3 → j ≡ k + i → MarkAt false returns f g (side e size.0 l 2, side e size.1 k i) (get_or down j false) = λ i j li ej. hd.at k i j lk li ej in
-      let bs : List Bool = get_or up k false ∷ get_or up (k + 1) false ∷ get_or up (k + 2) false ∷ get_or mid k false ∷ get_or mid (k + 2) false ∷ get_or down k false ∷ get_or down (k + 1) false ∷ get_or down (k + 2) false ∷ [] in
-      let all = counted g (positions e size All (l, k)) bs (u 0 k (omega arith) (omega arith), (u 1 (k + 1) (omega arith) (omega arith), (u 2 (k + 2) (omega arith) (omega arith), (m 0 k (omega arith) (omega arith), (m 2 (k + 2) (omega arith) (omega arith), (d 0 k (omega arith) (omega arith), (d 1 (k + 1) (omega arith) (omega arith), (d 2 (k + 2) (omega arith) (omega arith), tt)))))))) in
-      let same : trues bs ≡ count_round All up mid down k = omega arith in
-      subst (λ near. CountsNear returns f near (count_round All up mid down k)) (round_shown cells RowMajor size h e All (l, k) ll lk) (subst (CountsNear returns f (filter_map (cell_at g) (positions e size All (l, k)))) same all)
-  round_counted cells ColumnMajor size h e Sides l k up mid down ll lk hu hm hd =
-      let g = strided_cell cells size (1, size.0) in
-      let u : (i j : ℕ) → i < 3 → j ≡ k + i → MarkAt false returns f g (side e size.0 k i, side e size.1 l 0) (get_or up j false) = λ i j li ej. hu.at k i j lk li ej in
-      let m : (i j : ℕ) → i < 3 → j ≡ k + i → MarkAt false returns f g (side e size.0 k i, side e size.1 l 1) (get_or mid j false) = λ i j li ej. hm.at k i j lk li ej in
-      let d : (i j : ℕ) → i < 3 → j ≡ k + i → MarkAt false returns f g (side e size.0 k i, side e size.1 l 2) (get_or down j false) = λ i j li ej. hd.at k i j lk li ej in
-      let bs : List Bool = get_or mid k false ∷ get_or up (k + 1) false ∷ get_or down (k + 1) false ∷ get_or mid (k + 2) false ∷ [] in
-      let all = counted g (positions e size Sides (k, l)) bs (m 0 k (omega arith) (omega arith), (u 1 (k + 1) (omega arith) (omega arith), (d 1 (k + 1) (omega arith) (omega arith), (m 2 (k + 2) (omega arith) (omega arith), tt)))) in
-      let same : trues bs ≡ count_round Sides up mid down k = omega arith in
-      subst (λ near. CountsNear returns f near (count_round Sides up mid down k)) (round_shown cells ColumnMajor size h e Sides (k, l) lk ll) (subst (CountsNear returns f (filter_map (cell_at g) (positions e size Sides (k, l)))) same all)
-  round_counted cells ColumnMajor size h e All l k up mid down ll lk hu hm hd =
-      let g = strided_cell cells size (1, size.0) in
-      let u : (i j : ℕ) → i < 3 → j ≡ k + i → MarkAt false returns f g (side e size.0 k i, side e size.1 l 0) (get_or up j false) = λ i j li ej. hu.at k i j lk li ej in
-      let m : (i j : ℕ) → i < 3 → j ≡ k + i → MarkAt false returns f g (side e size.0 k i, side e size.1 l 1) (get_or mid j false) = λ i j li ej. hm.at k i j lk li ej in
-      let d : (i j : ℕ) → i < 3 → j ≡ k + i → MarkAt false returns f g (side e size.0 k i, side e size.1 l 2) (get_or down j false) = λ i j li ej. hd.at k i j lk li ej in
-      let bs : List Bool = get_or up k false ∷ get_or mid k false ∷ get_or down k false ∷ get_or up (k + 1) false ∷ get_or down (k + 1) false ∷ get_or up (k + 2) false ∷ get_or mid (k + 2) false ∷ get_or down (k + 2) false ∷ [] in
-      let all = counted g (positions e size All (k, l)) bs (u 0 k (omega arith) (omega arith), (m 0 k (omega arith) (omega arith), (d 0 k (omega arith) (omega arith), (u 1 (k + 1) (omega arith) (omega arith), (d 1 (k + 1) (omega arith) (omega arith), (u 2 (k + 2) (omega arith) (omega arith), (m 2 (k + 2) (omega arith) (omega arith), (d 2 (k + 2) (omega arith) (omega arith), tt)))))))) in
-      let same : trues bs ≡ count_round All up mid down k = omega arith in
-      subst (λ near. CountsNear returns f near (count_round All up mid down k)) (round_shown cells ColumnMajor size h e All (k, l) lk ll) (subst (CountsNear returns f (filter_map (cell_at g) (positions e size All (k, l)))) same all)
+  round_counted cells o size h e kind l k up mid down ll lk hu hm hd =
+      subst (CountsNear returns f _) (same_count o kind up mid down k) (round_told false returns f (CountsNear returns f) trues counted cells o size h e kind l k up mid down ll lk hu hm hd)
 
 -- the sum of numbers
 abbrev total : List ℕ → ℕ
 total [] = 0
 total (b ∷ bs) = b + total bs
+
+same_sum : (o : Order) (kind : Steps) (up mid down : List ℕ) (k : ℕ) → total (marks_round 0 o kind up mid down k) ≡ sum_round kind up mid down k
+same_sum RowMajor Sides up mid down k = omega arith
+same_sum RowMajor All up mid down k = omega arith
+same_sum ColumnMajor Sides up mid down k = omega arith
+same_sum ColumnMajor All up mid down k = omega arith
 
 module _ {F T : Type 0} (returns : F → Bor T → ℕ → Type 0) (f : F) where
   summed_step : (o : Option ((ℕ × ℕ) × T)) (b : ℕ) (near : List ((ℕ × ℕ) × T)) (n : ℕ) → MatchOption o (b ≡ 0) (λ x. MayAnswer returns f x.1 b) → SumsNear returns f near n → SumsNear returns f (cons_option o near) (b + n)
@@ -239,42 +240,8 @@ module _ {F T : Type 0} (returns : F → Bor T → ℕ → Type 0) (f : F) where
 
   -- the marks round a place have the sum of the cells round it
   round_summed : (cells : List T) (o : Order) (size : ℕ × ℕ) → HoldsSize size.0 size.1 (length cells) → (e : Edges) (kind : Steps) (l k : ℕ) (up mid down : List ℕ) → l < (along o size.0 size.1).0 → k < (along o size.0 size.1).1 → MarksLine 0 returns f (strided_cell cells size (strides_of o size)) o e (along o size.0 size.1).1 (side e (along o size.0 size.1).0 l 0) up → MarksLine 0 returns f (strided_cell cells size (strides_of o size)) o e (along o size.0 size.1).1 (side e (along o size.0 size.1).0 l 1) mid → MarksLine 0 returns f (strided_cell cells size (strides_of o size)) o e (along o size.0 size.1).1 (side e (along o size.0 size.1).0 l 2) down → SumsNear returns f (round_of kind e (table_of o size.0 size.1 cells) (along o l k).0 (along o l k).1) (sum_round kind up mid down k)
-  round_summed cells RowMajor size h e Sides l k up mid down ll lk hu hm hd =
-      let g = strided_cell cells size (size.1, 1) in
-      let u : (i j : ℕ) → i < 3 → j ≡ k + i → MarkAt 0 returns f g (side e size.0 l 0, side e size.1 k i) (get_or up j 0) = λ i j li ej. hu.at k i j lk li ej in
-      let m : (i j : ℕ) → i < 3 → j ≡ k + i → MarkAt 0 returns f g (side e size.0 l 1, side e size.1 k i) (get_or mid j 0) = λ i j li ej. hm.at k i j lk li ej in
-      let d : (i j : ℕ) → i < 3 → j ≡ k + i → MarkAt 0 returns f g (side e size.0 l 2, side e size.1 k i) (get_or down j 0) = λ i j li ej. hd.at k i j lk li ej in
-      let bs : List ℕ = get_or up (k + 1) 0 ∷ get_or mid k 0 ∷ get_or mid (k + 2) 0 ∷ get_or down (k + 1) 0 ∷ [] in
-      let all = summed g (positions e size Sides (l, k)) bs (u 1 (k + 1) (omega arith) (omega arith), (m 0 k (omega arith) (omega arith), (m 2 (k + 2) (omega arith) (omega arith), (d 1 (k + 1) (omega arith) (omega arith), tt)))) in
-      let same : total bs ≡ sum_round Sides up mid down k = omega arith in
-      subst (λ near. SumsNear returns f near (sum_round Sides up mid down k)) (round_shown cells RowMajor size h e Sides (l, k) ll lk) (subst (SumsNear returns f (filter_map (cell_at g) (positions e size Sides (l, k)))) same all)
-  round_summed cells RowMajor size h e All l k up mid down ll lk hu hm hd =
-      let g = strided_cell cells size (size.1, 1) in
-      let u : (i j : ℕ) → i < 3 → j ≡ k + i → MarkAt 0 returns f g (side e size.0 l 0, side e size.1 k i) (get_or up j 0) = λ i j li ej. hu.at k i j lk li ej in
-      let m : (i j : ℕ) → i < 3 → j ≡ k + i → MarkAt 0 returns f g (side e size.0 l 1, side e size.1 k i) (get_or mid j 0) = λ i j li ej. hm.at k i j lk li ej in
-      let d : (i j : ℕ) → i < 3 → j ≡ k + i → MarkAt 0 returns f g (side e size.0 l 2, side e size.1 k i) (get_or down j 0) = λ i j li ej. hd.at k i j lk li ej in
-      let bs : List ℕ = get_or up k 0 ∷ get_or up (k + 1) 0 ∷ get_or up (k + 2) 0 ∷ get_or mid k 0 ∷ get_or mid (k + 2) 0 ∷ get_or down k 0 ∷ get_or down (k + 1) 0 ∷ get_or down (k + 2) 0 ∷ [] in
-      let all = summed g (positions e size All (l, k)) bs (u 0 k (omega arith) (omega arith), (u 1 (k + 1) (omega arith) (omega arith), (u 2 (k + 2) (omega arith) (omega arith), (m 0 k (omega arith) (omega arith), (m 2 (k + 2) (omega arith) (omega arith), (d 0 k (omega arith) (omega arith), (d 1 (k + 1) (omega arith) (omega arith), (d 2 (k + 2) (omega arith) (omega arith), tt)))))))) in
-      let same : total bs ≡ sum_round All up mid down k = omega arith in
-      subst (λ near. SumsNear returns f near (sum_round All up mid down k)) (round_shown cells RowMajor size h e All (l, k) ll lk) (subst (SumsNear returns f (filter_map (cell_at g) (positions e size All (l, k)))) same all)
-  round_summed cells ColumnMajor size h e Sides l k up mid down ll lk hu hm hd =
-      let g = strided_cell cells size (1, size.0) in
-      let u : (i j : ℕ) → i < 3 → j ≡ k + i → MarkAt 0 returns f g (side e size.0 k i, side e size.1 l 0) (get_or up j 0) = λ i j li ej. hu.at k i j lk li ej in
-      let m : (i j : ℕ) → i < 3 → j ≡ k + i → MarkAt 0 returns f g (side e size.0 k i, side e size.1 l 1) (get_or mid j 0) = λ i j li ej. hm.at k i j lk li ej in
-      let d : (i j : ℕ) → i < 3 → j ≡ k + i → MarkAt 0 returns f g (side e size.0 k i, side e size.1 l 2) (get_or down j 0) = λ i j li ej. hd.at k i j lk li ej in
-      let bs : List ℕ = get_or mid k 0 ∷ get_or up (k + 1) 0 ∷ get_or down (k + 1) 0 ∷ get_or mid (k + 2) 0 ∷ [] in
-      let all = summed g (positions e size Sides (k, l)) bs (m 0 k (omega arith) (omega arith), (u 1 (k + 1) (omega arith) (omega arith), (d 1 (k + 1) (omega arith) (omega arith), (m 2 (k + 2) (omega arith) (omega arith), tt)))) in
-      let same : total bs ≡ sum_round Sides up mid down k = omega arith in
-      subst (λ near. SumsNear returns f near (sum_round Sides up mid down k)) (round_shown cells ColumnMajor size h e Sides (k, l) lk ll) (subst (SumsNear returns f (filter_map (cell_at g) (positions e size Sides (k, l)))) same all)
-  round_summed cells ColumnMajor size h e All l k up mid down ll lk hu hm hd =
-      let g = strided_cell cells size (1, size.0) in
-      let u : (i j : ℕ) → i < 3 → j ≡ k + i → MarkAt 0 returns f g (side e size.0 k i, side e size.1 l 0) (get_or up j 0) = λ i j li ej. hu.at k i j lk li ej in
-      let m : (i j : ℕ) → i < 3 → j ≡ k + i → MarkAt 0 returns f g (side e size.0 k i, side e size.1 l 1) (get_or mid j 0) = λ i j li ej. hm.at k i j lk li ej in
-      let d : (i j : ℕ) → i < 3 → j ≡ k + i → MarkAt 0 returns f g (side e size.0 k i, side e size.1 l 2) (get_or down j 0) = λ i j li ej. hd.at k i j lk li ej in
-      let bs : List ℕ = get_or up k 0 ∷ get_or mid k 0 ∷ get_or down k 0 ∷ get_or up (k + 1) 0 ∷ get_or down (k + 1) 0 ∷ get_or up (k + 2) 0 ∷ get_or mid (k + 2) 0 ∷ get_or down (k + 2) 0 ∷ [] in
-      let all = summed g (positions e size All (k, l)) bs (u 0 k (omega arith) (omega arith), (m 0 k (omega arith) (omega arith), (d 0 k (omega arith) (omega arith), (u 1 (k + 1) (omega arith) (omega arith), (d 1 (k + 1) (omega arith) (omega arith), (u 2 (k + 2) (omega arith) (omega arith), (m 2 (k + 2) (omega arith) (omega arith), (d 2 (k + 2) (omega arith) (omega arith), tt)))))))) in
-      let same : total bs ≡ sum_round All up mid down k = omega arith in
-      subst (λ near. SumsNear returns f near (sum_round All up mid down k)) (round_shown cells ColumnMajor size h e All (k, l) lk ll) (subst (SumsNear returns f (filter_map (cell_at g) (positions e size All (k, l)))) same all)
+  round_summed cells o size h e kind l k up mid down ll lk hu hm hd =
+      subst (SumsNear returns f _) (same_sum o kind up mid down k) (round_told 0 returns f (SumsNear returns f) total summed cells o size h e kind l k up mid down ll lk hu hm hd)
 
 before-next : (k : ℕ) → before (k + 1) ≡ Some k
 before-next k =
