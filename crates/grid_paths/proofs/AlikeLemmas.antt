@@ -1,7 +1,7 @@
 -- Which cells equal one: the size of that table, and its cells.
 use Rattle.std.proofs.Common.{◌≡◌, ℕ, ◌+◌, ◌^◌, ◌<◌, Bool, true, Option, None, Some, List, length, refl, sym, ◌∙◌, ap, arith, ⊎_elim, MatchOption, option_map}
 use Rattle.grid_base.proofs.Common.{cases_lt, slice_get_past, row, row_count, col_count, cell, IsTable, tabulate}
-use Rattle.grid_base.proofs.TableLemmas.{IsFull, IsFull-cells, IsSize-table, rows-tabulate, cols-tabulate, cell-tabulate, cell_past_rows, cell_past_cols}
+use Rattle.grid_base.proofs.TableLemmas.{IsFull, IsFull-cells, rows-tabulate, cell-tabulate, cell_past_rows, cell_past_cols}
 use Rattle.grid_base.proofs.TableLemmas.{cell_in_range}
 use Rattle.grid_paths.specs.Walks.{IsOpen, alike}
 use Rattle.grid_near.proofs.AroundLemmas.{mapped_there}
@@ -13,13 +13,6 @@ module _ {X Y : Type 0} (f : X → Y) (t : List (List X)) (table : IsTable t) wh
   full : IsFull (row_count t) (col_count t) answer
   unfolding answer
   full = record { full = λ r c lr lc. mapped_there f (cell t r c) ((IsFull-cells t table).full r c lr lc) }
-
-  cols : col_count (tabulate (row_count t) (col_count t) answer) ≡ col_count t
-  cols = cols-tabulate (row_count t) (col_count t) answer (IsSize-table t table) full
-
-  pub mapped-cols : col_count (tabulate (row_count t) (col_count t) (λ r c. option_map f (cell t r c))) ≡ col_count t
-  unfolding answer
-  mapped-cols = cols
 
   by : (r c : ℕ) → cell (tabulate (row_count t) (col_count t) answer) r c ≡ answer r c
   unfolding answer
@@ -42,12 +35,6 @@ module _ {X Y : Type 0} (f : X → Y) (t : List (List X)) (table : IsTable t) wh
   mapped-cell r c = by r c
 
 module _ {X : Type 0} (eq : X → X → Bool) (x : X) (t : List (List X)) (table : IsTable t) where
-  pub alike-rows : row_count (alike eq x t) ≡ row_count t
-  alike-rows = rows-tabulate (row_count t) (col_count t) (λ r c. option_map (λ y. eq y x) (cell t r c))
-
-  pub alike-cols : col_count (alike eq x t) ≡ col_count t
-  alike-cols = mapped-cols (λ y. eq y x) t table
-
   pub alike-cell : (r c : ℕ) → cell (alike eq x t) r c ≡ option_map (λ y. eq y x) (cell t r c)
   alike-cell r c = mapped-cell (λ y. eq y x) t table r c
 

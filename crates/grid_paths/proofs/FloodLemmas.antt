@@ -56,7 +56,7 @@ pub record IsTaking {T : Type 0} (way : T → Enter) (mark : T) (kind : Steps) (
   pub start : (a : ℕ × ℕ) (x : T) → Contains starts a → IsLeft way t a x → ⊥
   pub marked : AreMarked way mark t q
 
-module _ {T : Type 0} (way : T → Enter) (mark : T) (kind : Steps) (starts : List (ℕ × ℕ)) (t0 : List (List T)) (table : IsTable t0) where
+module _ {T : Type 0} {way : T → Enter} {mark : T} {kind : Steps} {starts : List (ℕ × ℕ)} {t0 : List (List T)} (table : IsTable t0) where
   pub IsTaking-start : (t : List (List T)) (q : List ((ℕ × ℕ) × T)) → TakesAll way mark (λ a. Contains starts a) t0 [] t q → IsTaking way mark kind starts t0 t q 0
   IsTaking-start t q w =
       let s = w.takes in
@@ -71,8 +71,8 @@ module _ {T : Type 0} (way : T → Enter) (mark : T) (kind : Steps) (starts : Li
         marked = s.marked (record { marked = λ j x h. absurd (cc); once = λ i j x y h. absurd (cc) });
       }
 
-  module _ (t : List (List T)) (q : List ((ℕ × ℕ) × T)) (next : ℕ) (s : IsTaking way mark kind starts t0 t q next) where
-    module _ (x : (ℕ × ℕ) × T) (t' : List (List T)) (q' : List ((ℕ × ℕ) × T)) (place : slice_get q next ≡ Some x) (w : TakesAll way mark (λ a. (way x.1 ≡ On) × IsStep kind x.0 a) t q t' q') where
+  module _ {t : List (List T)} {q : List ((ℕ × ℕ) × T)} {next : ℕ} (s : IsTaking way mark kind starts t0 t q next) where
+    module _ {x : (ℕ × ℕ) × T} {t' : List (List T)} {q' : List ((ℕ × ℕ) × T)} (place : slice_get q next ≡ Some x) (w : TakesAll way mark (λ a. (way x.1 ≡ On) × IsStep kind x.0 a) t q t' q') where
       done' : (j : ℕ) (z : (ℕ × ℕ) × T) (b : ℕ × ℕ) (y : T) → j < next + 1 → slice_get q' j ≡ Some z → way z.1 ≡ On → IsStep kind z.0 b → IsLeft way t' b y → ⊥
       done' j z b y lt h on step l =
           ⊎_elim (λ h0.

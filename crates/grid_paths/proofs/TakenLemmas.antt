@@ -1,6 +1,7 @@
 -- Cells taken: one, those at the positions of a list, those that steps lead to; and put back.
-use Rattle.std.proofs.Common.{◌≡◌, ◌≢◌, ℕ, zero, suc, ◌+◌, ◌<◌, ◌≤◌, ◌⊎◌, ◌↔◌, ◌^◌, Option, None, Some, List, [], ◌∷◌, ◌++◌, length, set, get_or, Contains, MatchOption, refl, sym, ◌∙◌, ap, subst, arith, inl, inr, ⊎_elim, slice_get, sum_by, length-append, get_or-set_same}
+use Rattle.std.proofs.Common.{◌≡◌, ◌≢◌, ℕ, zero, suc, ◌+◌, ◌<◌, ◌≤◌, ◌⊎◌, ◌↔◌, Option, None, Some, List, [], ◌∷◌, ◌++◌, length, set, get_or, Contains, MatchOption, refl, sym, ◌∙◌, ap, subst, arith, inl, inr, ⊎_elim, slice_get, sum_by, length-append, get_or-set_same}
 use Rattle.grid_base.proofs.Common.{cases_lt, set_past, set-get_or, sum_by-set, slice_get_within, slice_get-get_or, get_or_from_slice_get, row, row_count, col_count, cell, with_cell, IsTable, InRange}
+use Rattle.grid_base.specs.GridValue.{GridValue}
 use Rattle.grid_base.proofs.TableLemmas.{cell_in_range}
 use Rattle.grid_base.proofs.WriteLemmas.{cell-with_same, cell-with_other, same_or_other}
 use Rattle.grid_near.specs.declared.steps.Steps.{Steps}
@@ -8,7 +9,8 @@ use Rattle.grid_paths.specs.declared.taken.Enter.{Enter}
 use Rattle.grid_paths.specs.declared.taken.Enter.TheVariants.{No, Stop, On}
 use Rattle.grid_paths.specs.Walks.{IsStep}
 use Rattle.grid_paths.specs.Search.{IsAt}
-use Rattle.grid_paths.specs.Taken.{undone, flag, IsLeft, count_left, AreMarked, Takes, TakesNear, TakesAll}
+use Rattle.grid_paths.specs.declared.taken.Taking.{Taking}
+use Rattle.grid_paths.specs.Taken.{undone, flag, IsLeft, count_left, AreMarked, TakesAll, CanUndo}
 use Rattle.grid_paths.specs.Around.{AreSteps}
 use Rattle.grid_paths.proofs.StepLemmas.{at_push, at_end, at_push_fresh}
 use Rattle.grid_paths.proofs.AroundLemmas.{Before, before_either, before_all}
@@ -83,128 +85,111 @@ module _ {T : Type 0} (way : T → Enter) (mark : T) (mark_no : way mark ≡ No)
             (at_push_fresh q (b, x) i y h);
       }
 
-  TakesNear-one : (near : ℕ × ℕ → Type 0) → near b → TakesNear way mark near t q (with_cell t b.0 b.1 mark) (q ++ (b, x) ∷ [])
-  TakesNear-one near is_near =
+  pub TakesAll-one : TakesAll way mark (λ a. b ≡ a) t q (with_cell t b.0 b.1 mark) (q ++ (b, x) ∷ [])
+  TakesAll-one =
       let long : length (q ++ (b, x) ∷ []) ≡ length q + 1 = length-append q ((b, x) ∷ []) in
       let count = count_left-one in
       record {
-        fewer = fewer_one;
-        all = all_one;
-        kept_at = λ j y h. at_push q (b, x) j y h;
-        fresh_at = λ j y h.
-            ⊎_elim (λ e.
-            let low : length q ≤ j = omega (arith, e.0) in
-            let is = sym e.1 in
-            inr (low, subst (λ v. near v.0) is is_near, subst (λ v. IsLeft way t v.0 v.1) is is_left))
-            (λ h0. inl h0)
-            (at_push_fresh q (b, x) j y h);
-        longer = omega arith;
-        total = omega arith;
-        marked = marked_one;
+        takes = record {
+          fewer = fewer_one;
+          all = all_one;
+          kept_at = λ j y h. at_push q (b, x) j y h;
+          fresh_at = λ j y h.
+              ⊎_elim (λ e.
+              let low : length q ≤ j = omega (arith, e.0) in
+              let is = sym e.1 in
+              inr (low, ap (λ v. v.0) is, subst (λ v. IsLeft way t v.0 v.1) is is_left))
+              (λ h0. inl h0)
+              (at_push_fresh q (b, x) j y h);
+          longer = omega arith;
+          total = omega arith;
+          marked = marked_one;
+        };
+        around = λ a y is l. gone_one y (subst (λ z. IsLeft way (with_cell t b.0 b.1 mark) z y) (sym is) l);
       }
 
-module _ {T : Type 0} (way : T → Enter) (mark : T) where
-  TakesNear-same : (near : ℕ × ℕ → Type 0) (t : List (List T)) (q : List ((ℕ × ℕ) × T)) → TakesNear way mark near t q t q
-  TakesNear-same near t q =
+module _ {T : Type 0} {way : T → Enter} {mark : T} where
+  -- none of the near cells is left
+  pub TakesAll-stay : (near : ℕ × ℕ → Type 0) (t : List (List T)) (q : List ((ℕ × ℕ) × T)) → ((a : ℕ × ℕ) (x : T) → near a → IsLeft way t a x → ⊥) → TakesAll way mark near t q t q
+  TakesAll-stay near t q around =
       record {
-        fewer = λ a x h. h;
-        all = λ a x h. inl h;
-        kept_at = λ j x h. h;
-        fresh_at = λ j x h. inl h;
-        longer = omega arith;
-        total = refl;
-        marked = λ o. o;
+        takes = record {
+          fewer = λ a x h. h;
+          all = λ a x h. inl h;
+          kept_at = λ j x h. h;
+          fresh_at = λ j x h. inl h;
+          longer = omega arith;
+          total = refl;
+          marked = λ o. o;
+        };
+        around = around;
       }
 
   -- the same seen as positions that are near in another sense, where they are left
-  TakesNear-as : (near wide : ℕ × ℕ → Type 0) (t : List (List T)) (q : List ((ℕ × ℕ) × T)) (t' : List (List T)) (q' : List ((ℕ × ℕ) × T)) → ((a : ℕ × ℕ) (x : T) → IsLeft way t a x → near a → wide a) → TakesNear way mark near t q t' q' → TakesNear way mark wide t q t' q'
-  TakesNear-as near wide t q t' q' up s =
+  TakesAll-as : (near wide : ℕ × ℕ → Type 0) {t : List (List T)} {q : List ((ℕ × ℕ) × T)} {t' : List (List T)} {q' : List ((ℕ × ℕ) × T)} → ((a : ℕ × ℕ) (x : T) → IsLeft way t a x → near a ↔ wide a) → TakesAll way mark near t q t' q' → TakesAll way mark wide t q t' q'
+  TakesAll-as near wide same e =
+      let s = e.takes in
       record {
-        fewer = s.fewer;
-        all = s.all;
-        kept_at = s.kept_at;
-        fresh_at = λ j x h. ⊎_elim (λ h0. inl h0) (λ w. inr (w.0, up x.0 x.1 w.2 w.1, w.2)) (s.fresh_at j x h);
-        longer = s.longer;
-        total = s.total;
-        marked = s.marked;
+        takes = record {
+          fewer = s.fewer;
+          all = s.all;
+          kept_at = s.kept_at;
+          fresh_at = λ j x h. ⊎_elim (λ h0. inl h0) (λ w. inr (w.0, (same x.0 x.1 w.2).0 w.1, w.2)) (s.fresh_at j x h);
+          longer = s.longer;
+          total = s.total;
+          marked = s.marked;
+        };
+        around = λ a x h l. e.around a x ((same a x (s.fewer a x l)).1 h) l;
       }
 
-  TakesNear-trans : (near : ℕ × ℕ → Type 0) (t0 : List (List T)) (q0 : List ((ℕ × ℕ) × T)) (t1 : List (List T)) (q1 : List ((ℕ × ℕ) × T)) (t2 : List (List T)) (q2 : List ((ℕ × ℕ) × T)) → TakesNear way mark near t0 q0 t1 q1 → TakesNear way mark near t1 q1 t2 q2 → TakesNear way mark near t0 q0 t2 q2
-  TakesNear-trans near t0 q0 t1 q1 t2 q2 s r =
+  -- some positions and then others
+  TakesAll-join : {near0 near1 : ℕ × ℕ → Type 0} {t0 t1 t2 : List (List T)} {q0 q1 q2 : List ((ℕ × ℕ) × T)} → TakesAll way mark near0 t0 q0 t1 q1 → TakesAll way mark near1 t1 q1 t2 q2 → TakesAll way mark (λ a. near0 a ⊎ near1 a) t0 q0 t2 q2
+  TakesAll-join {q0 = q0} {q1 = q1} e0 e1 =
+      let s = e0.takes in
+      let r = e1.takes in
       let le = s.longer in
       let le2 = r.longer in
       record {
-        fewer = λ a x h. s.fewer a x (r.fewer a x h);
-        all = λ a x h. ⊎_elim (λ h1. r.all a x h1) (λ v. inr (v.0, v.1, r.kept_at v.0 (a, v.1) v.2)) (s.all a x h);
-        kept_at = λ j x h. r.kept_at j x (s.kept_at j x h);
-        fresh_at = λ j x h.
-            ⊎_elim (λ h1. s.fresh_at j x h1)
-            (λ w. let low : length q1 ≤ j = w.0 in let up : length q0 ≤ j = omega arith in inr (up, w.1, s.fewer x.0 x.1 w.2))
-            (r.fresh_at j x h);
-        longer = omega arith;
-        total = r.total ∙ s.total;
-        marked = λ o. r.marked (s.marked o);
-      }
-
-  pub TakesAll-none : (near : ℕ × ℕ → Type 0) (t : List (List T)) (q : List ((ℕ × ℕ) × T)) → ((a : ℕ × ℕ) → near a → ⊥) → TakesAll way mark near t q t q
-  TakesAll-none near t q none = record { takes = TakesNear-same near t q; around = λ a x h. absurd (none a h) }
-
-  pub TakesAll-as : (near wide : ℕ × ℕ → Type 0) (t : List (List T)) (q : List ((ℕ × ℕ) × T)) (t' : List (List T)) (q' : List ((ℕ × ℕ) × T)) → ((a : ℕ × ℕ) (x : T) → IsLeft way t a x → near a ↔ wide a) → TakesAll way mark near t q t' q' → TakesAll way mark wide t q t' q'
-  TakesAll-as near wide t q t' q' same s =
-      record {
-        takes = TakesNear-as near wide t q t' q' (λ a x l. (same a x l).0) s.takes;
-        around = λ a x h l. s.around a x ((same a x (s.takes.fewer a x l)).1 h) l;
+        takes = record {
+          fewer = λ a x h. s.fewer a x (r.fewer a x h);
+          all = λ a x h. ⊎_elim (λ h1. r.all a x h1) (λ v. inr (v.0, v.1, r.kept_at v.0 (a, v.1) v.2)) (s.all a x h);
+          kept_at = λ j x h. r.kept_at j x (s.kept_at j x h);
+          fresh_at = λ j x h.
+              ⊎_elim (λ h1. ⊎_elim (λ h0. inl h0) (λ w. inr (w.0, inl w.1, w.2)) (s.fresh_at j x h1))
+              (λ w. let low : length q1 ≤ j = w.0 in let up : length q0 ≤ j = omega arith in inr (up, inr w.1, s.fewer x.0 x.1 w.2))
+              (r.fresh_at j x h);
+          longer = omega arith;
+          total = r.total ∙ s.total;
+          marked = λ o. r.marked (s.marked o);
+        };
+        around = λ a x is l. ⊎_elim (λ n. e0.around a x n (r.fewer a x l)) (λ n. e1.around a x n l) is;
       }
 
   -- the positions that a step leads to, if the search goes on: those in range are such as a grid can have
-  pub TakesAll-steps : (kind : Steps) (from : (ℕ × ℕ) × T) (xs : List (ℕ × ℕ)) (t : List (List T)) (q : List ((ℕ × ℕ) × T)) (t' : List (List T)) (q' : List ((ℕ × ℕ) × T)) → IsTable t → row_count t < 2 ^ 64 → col_count t < 2 ^ 64 → AreSteps kind from.0 xs → way from.1 ≡ On → TakesAll way mark (λ a. Contains xs a) t q t' q' → TakesAll way mark (λ a. (way from.1 ≡ On) × IsStep kind from.0 a) t q t' q'
-  TakesAll-steps kind from xs t q t' q' table rows cols steps on s =
-      TakesAll-as (λ a. Contains xs a) (λ a. (way from.1 ≡ On) × IsStep kind from.0 a) t q t' q'
+  pub TakesAll-steps : (kind : Steps) (from : (ℕ × ℕ) × T) (xs : List (ℕ × ℕ)) (t : GridValue T) {q : List ((ℕ × ℕ) × T)} {t' : List (List T)} {q' : List ((ℕ × ℕ) × T)} → AreSteps kind from.0 xs → way from.1 ≡ On → TakesAll way mark (λ a. Contains xs a) t.rows q t' q' → TakesAll way mark (λ a. (way from.1 ≡ On) × IsStep kind from.0 a) t.rows q t' q'
+  TakesAll-steps kind from xs t steps on s =
+      TakesAll-as (λ a. Contains xs a) (λ a. (way from.1 ≡ On) × IsStep kind from.0 a)
       (λ a x l.
-      let i = cell_in_range t table a.0 a.1 x l.0 in
+      let i = cell_in_range t.rows t.table a.0 a.1 x l.0 in
       let lr = i.0 in
       let lc = i.1 in
+      let rows = t.fits.rows in
+      let cols = t.fits.cols in
       let same : Contains xs a ↔ IsStep kind from.0 a = steps a (omega arith) (omega arith) in
       (λ h. (on, same.0 h), λ h. same.1 h.1))
       s
 
-  -- one position, and those of a list before place i
-  module _ (mark_no : way mark ≡ No) where
-    module _ (near : ℕ × ℕ → Type 0) (b : ℕ × ℕ) (t : List (List T)) (q : List ((ℕ × ℕ) × T)) (t' : List (List T)) (q' : List ((ℕ × ℕ) × T)) (table : IsTable t) (r : Takes way mark b t q t' q') where
-      gone_by : (x : T) → IsLeft way t' b x → ⊥
-      gone_by x h =
-          ⊎_elim (λ w. gone_one way mark mark_no t table q b w.0 w.1 x (subst (λ v. IsLeft way v b x) w.2 h))
-          (λ w. w.0 x (subst (λ v. IsLeft way v b x) w.1 h))
-          r
+  -- the positions of a list, one after another
+  pub TakesEach-start : (xs : List (ℕ × ℕ)) (t : List (List T)) (q : List ((ℕ × ℕ) × T)) → TakesAll way mark (Before xs 0) t q t q
+  TakesEach-start xs t q = TakesAll-stay (Before xs 0) t q (λ a x h l. omega (arith, h.early))
 
-      TakesNear-from_takes : near b → TakesNear way mark near t q t' q'
-      TakesNear-from_takes is_near =
-          ⊎_elim (λ w.
-          subst (λ v. TakesNear way mark near t q t' v) (sym w.3)
-          (subst (λ v. TakesNear way mark near t q v (q ++ (b, w.0) ∷ [])) (sym w.2) (TakesNear-one way mark mark_no t table q b w.0 w.1 near is_near)))
-          (λ w. subst (λ v. TakesNear way mark near t q t' v) (sym w.2) (subst (λ v. TakesNear way mark near t q v q) (sym w.1) (TakesNear-same near t q)))
-          r
+  module _ {xs : List (ℕ × ℕ)} {i : ℕ} {t0 t1 : List (List T)} {q0 q1 : List ((ℕ × ℕ) × T)} (e : TakesAll way mark (Before xs i) t0 q0 t1 q1) where
+    pub TakesEach-next : {b : ℕ × ℕ} {t2 : List (List T)} {q2 : List ((ℕ × ℕ) × T)} → IsAt xs i b → TakesAll way mark (λ a. b ≡ a) t1 q1 t2 q2 → TakesAll way mark (Before xs (i + 1)) t0 q0 t2 q2
+    TakesEach-next {b = b} place r =
+        TakesAll-as (λ a. Before xs i a ⊎ (b ≡ a)) (Before xs (i + 1)) (λ a x l. before_either xs i b place a) (TakesAll-join e r)
 
-    module _ (xs : List (ℕ × ℕ)) (t0 : List (List T)) (q0 : List ((ℕ × ℕ) × T)) where
-      pub TakesEach-start : TakesAll way mark (Before xs 0) t0 q0 t0 q0
-      TakesEach-start = TakesAll-none (Before xs 0) t0 q0 (λ b h. omega (arith, h.early))
-
-      module _ (i : ℕ) (t1 : List (List T)) (q1 : List ((ℕ × ℕ) × T)) (s : TakesAll way mark (Before xs i) t0 q0 t1 q1) where
-        pub TakesEach-next : (b : ℕ × ℕ) (t2 : List (List T)) (q2 : List ((ℕ × ℕ) × T)) → IsAt xs i b → IsTable t1 → Takes way mark b t1 q1 t2 q2 → TakesAll way mark (Before xs (i + 1)) t0 q0 t2 q2
-        TakesEach-next b t2 q2 place table r =
-            let wide = Before xs (i + 1) in
-            let one : TakesNear way mark wide t1 q1 t2 q2 = TakesNear-from_takes wide b t1 q1 t2 q2 table r ((before_either xs i b place b).0 (inr refl)) in
-            record {
-              takes = TakesNear-trans wide t0 q0 t1 q1 t2 q2 (TakesNear-as (Before xs i) wide t0 q0 t1 q1 (λ a x l h. (before_either xs i b place a).0 (inl h)) s.takes) one;
-              around = λ a x h l.
-                  ⊎_elim (λ n. s.around a x n (one.fewer a x l))
-                  (λ e. gone_by wide b t1 q1 t2 q2 table r x (subst (λ v. IsLeft way t2 v x) (sym e) l))
-                  ((before_either xs i b place a).1 h);
-            }
-
-        pub TakesEach-end : length xs ≤ i → TakesAll way mark (λ b. Contains xs b) t0 q0 t1 q1
-        TakesEach-end all =
-            TakesAll-as (Before xs i) (λ b. Contains xs b) t0 q0 t1 q1 (λ b x l. before_all xs i all b) s
+    pub TakesEach-end : length xs ≤ i → TakesAll way mark (λ b. Contains xs b) t0 q0 t1 q1
+    TakesEach-end all = TakesAll-as (Before xs i) (λ b. Contains xs b) (λ b x l. before_all xs i all b) e
 
 -- a write in range is made, and one out of range changes nothing
 module _ {T : Type 0} (t : List (List T)) (table : IsTable t) (r c : ℕ) (w : T) where
@@ -253,3 +238,11 @@ module _ {T : Type 0} where
       cell-with_other (undone q t) (y.0).0 (y.0).1 y.1 b.0 b.1
       (λ e f. none 0 y.1 (let same : ◌≡◌ {A = (ℕ × ℕ) × T} y (b, y.1) = λ i. ((sym e i, sym f i), y.1) in ap Some same))
       ∙ cell-undone_other q t b (λ j x h. none (suc j) x h)
+
+pub CanUndo-trans : {T A : Type 0} {s0 s1 s2 : Taking T A} {t0 t1 t2 : GridValue T} → CanUndo s0 t0 s1 t1 → CanUndo s1 t1 s2 t2 → CanUndo s0 t0 s2 t2
+CanUndo-trans u v =
+    record {
+      cells = v.cells ∙ u.cells;
+      same = record { rows = v.same.rows ∙ u.same.rows; cols = v.same.cols ∙ u.same.cols; order = v.same.order ∙ u.same.order };
+      saves = v.saves ∙ u.saves;
+    }

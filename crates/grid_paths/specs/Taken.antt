@@ -1,7 +1,11 @@
 -- What one step of a search does that marks the cells which it takes. No public clause cites this
 -- module.
-use Rattle.std.specs.Prelude.{◌≡◌, ◌≢◌, ℕ, ◌+◌, ◌≤◌, ◌⊎◌, Some, List, [], ◌∷◌, ◌++◌, length, map, slice_get, sum_by}
+use Rattle.std.specs.Prelude.{◌≡◌, ◌≢◌, ℕ, ◌+◌, ◌≤◌, ◌⊎◌, Bool, Some, List, [], ◌∷◌, length, map, slice_get, sum_by}
+use Rattle.grid_base.specs.GridValue.{GridValue, SameSizeAndOrder}
 use Rattle.grid_base.specs.Table.{cell, with_cell}
+use Rattle.grid_paths.specs.declared.taken.Cells.{Cells}
+use Rattle.grid_paths.specs.declared.taken.Taking.{Taking}
+use Rattle.grid_paths.specs.Flood.{way_of}
 use Rattle.grid_paths.specs.declared.taken.Enter.{Enter}
 use Rattle.grid_paths.specs.declared.taken.Enter.TheVariants.{No, Stop, On}
 
@@ -37,15 +41,6 @@ module _ {T : Type 0} (way : T → Enter) where
   count_left t = sum_by (sum_by (λ x. flag (way x))) t
 
   module _ (mark : T) where
-    -- a cell that is left is marked, and comes to the end of those taken; at another nothing
-    -- changes
-    abbrev pub Takes : ℕ × ℕ → List (List T) → List ((ℕ × ℕ) × T) → List (List T)
-        → List ((ℕ × ℕ) × T) → Type 0
-    Takes at t taken t' taken' =
-        ((x : T) × IsLeft t at x × (t' ≡ with_cell t at.0 at.1 mark)
-        × (taken' ≡ taken ++ (at, x) ∷ []))
-        ⊎ (((x : T) → IsLeft t at x → ⊥) × (t' ≡ t) × (taken' ≡ taken))
-
     -- each position was taken once, and is marked
     pub record AreMarked (t : List (List T)) (taken : List ((ℕ × ℕ) × T)) : Type 0 where
       pub marked : (j : ℕ) (x : (ℕ × ℕ) × T) → slice_get taken j ≡ Some x
@@ -72,3 +67,21 @@ module _ {T : Type 0} (way : T → Enter) where
         (t' : List (List T)) (taken' : List ((ℕ × ℕ) × T)) : Type 0 where
       pub takes : TakesNear near t taken t' taken'
       pub around : (a : ℕ × ℕ) (x : T) → near a → IsLeft t' a x → ⊥
+
+module _ {T : Type 0} (eq : T → T → Bool) where
+  -- the search stays out of a cell
+  abbrev pub IsPassed : Cells T → T → Type 0
+  IsPassed cells x = way_of eq cells.on cells.stop x ≡ No
+
+  -- it takes the near cells
+  abbrev pub Takes : {A : Type 0} → (ℕ × ℕ → Type 0) → Taking T A → GridValue T → Taking T A
+      → GridValue T → Type 0
+  Takes near s t s' t' = TakesAll (way_of eq s.cells.on s.cells.stop) s.cells.mark near t.rows
+      s.taken.items t'.rows s'.taken.items
+
+-- what it took can be put back
+pub record CanUndo {T A : Type 0} (s : Taking T A) (t : GridValue T) (s' : Taking T A)
+    (t' : GridValue T) : Type 0 where
+  pub cells : s'.cells ≡ s.cells
+  pub same : SameSizeAndOrder t t'
+  pub saves : undone s'.taken.items t'.rows ≡ undone s.taken.items t.rows

@@ -3,9 +3,11 @@ use Rattle.std.specs.Prelude.{◌≡◌, ℕ, ◌+◌, ◌^◌, ◌<◌, Bool, N
 use Rattle.grid_base.specs.GridValue.{GridValue, SameSizeAndOrder}
 use Rattle.grid_base.specs.Table.{row_count, col_count, with_cell, tabulate}
 use Rattle.grid_near.specs.declared.steps.Steps.{Steps}
+use Rattle.grid_paths.specs.declared.numbered.Region.{Region}
 use Rattle.grid_paths.specs.declared.search.Search.{Search}
 use Rattle.grid_paths.specs.declared.wave.Wave.{Wave}
 use Rattle.grid_paths.specs.Search.{HaveOneSize, IsLeft, WentRound, unreached}
+use Rattle.grid_paths.specs.Walks.{alike}
 use Rattle.grid_paths.specs.Numbers.{IsScanned}
 
 module _ {A : Type 0} where
@@ -32,6 +34,15 @@ module _ {A : Type 0} where
   abbrev pub Reaches : (ℕ × ℕ → Type 0) → ℕ → Search A → Search A → Type 0
   Reaches near k s s' = (floor : List (List Bool)) → IsLeft floor s.steps.numbers.rows s.left.rows
       → Spreads near floor k s.steps s'.steps × IsLeft floor s'.steps.numbers.rows s'.left.rows
+
+  module _ {T : Type 0} (eq : T → T → Bool) where
+    -- the cells that equal the region's
+    abbrev pub floor_of : Region T A → List (List Bool)
+    floor_of r = alike eq r.first.now r.grid.now.rows
+
+    -- the near ones among them that have no number got the region's
+    abbrev pub Numbers : (ℕ × ℕ → Type 0) → Region T A → Wave A → Wave A → Type 0
+    Numbers near r w w' = Spreads near (floor_of r) r.number w w'
 
   -- the regions of the positions before p are numbered
   pub record IsCounting {T : Type 0} (kind : Steps) (eq : T → T → Bool) (grid : GridValue T)

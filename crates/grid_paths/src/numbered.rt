@@ -3,11 +3,11 @@ ghost use Rattle.std.specs.Prelude.{◌≡◌, ◌<◌, ◌≤◌, ◌+◌, ◌�
 ghost use Rattle.std.specs.Cmp.{IsEquivalence};
 ghost use Rattle.grid.specs.Prelude.{SameSizeAndOrder};
 ghost use Rattle.grid_base.specs.Table.{row_count, col_count, cell, tabulate, InRange};
-ghost use Rattle.grid_paths.specs.Walks.{IsStep, IsOpen, alike};
+ghost use Rattle.grid_paths.specs.Walks.{IsStep, IsOpen};
 ghost use Rattle.grid_paths.specs.Search.{HaveOneSize, IsMarked, unreached};
 ghost use Rattle.grid_paths.specs.Regions.{AreRegions, AreNumbers};
 ghost use Rattle.grid_paths.specs.Numbers.{IsNumbered, IsScanned};
-ghost use Rattle.grid_paths.specs.Wave.{IsCounting, Spreads};
+ghost use Rattle.grid_paths.specs.Wave.{IsCounting, Numbers, floor_of};
 
 use super::around::around;
 use super::wave::{Wave, new_wave};
@@ -15,9 +15,10 @@ use grid::Grid;
 use grid_near::Steps;
 use std::alloc::{AllocError, Allocator};
 
-// A region: the cells of a board that equal one, and the number that they get.
+// A region: the cells of a board that equal one, which steps connect them, and the number that they get.
 #[derive(Drop)]
 struct Region<'a, T, A: Allocator> {
+    kind: Steps,
     grid: &'a Grid<T, A>,
     first: &'a T,
     number: usize,
@@ -26,8 +27,7 @@ struct Region<'a, T, A: Allocator> {
 impl<T: PartialEq, A: Allocator> Region<'_, T, A> {
     // Whether there is a cell at a position that equals the region's.
     fn has(&self, at: (usize, usize)) -> bool
-        ensures equal { IsTrue result
-            ↔ IsOpen (alike T.eq self.now.first.now self.now.grid.now.rows) at }
+        ensures equal { IsTrue result ↔ IsOpen (floor_of T.eq self.now) at }
         ensures inside { IsTrue result → InRange self.now.grid.now.rows at.0 at.1 }
     {
         match self.grid.get(at.0, at.1) {
@@ -39,9 +39,7 @@ impl<T: PartialEq, A: Allocator> Region<'_, T, A> {
     // Gives a position the region's number, if its cell is one of those and has no number yet.
     fn number_at(&self, at: (usize, usize), wave: &mut Wave<A>) -> Result<(), AllocError>
         requires { HaveOneSize wave.old.numbers.rows self.now.grid.now.rows }
-        ensures { OnOk result (Spreads (λ b. at ≡ b)
-            (alike T.eq self.now.first.now self.now.grid.now.rows) self.now.number
-            wave.old wave.new) }
+        ensures { OnOk result (Numbers T.eq (λ b. at ≡ b) self.now wave.old wave.new) }
     {
         if self.has(at) {
             if let None = wave.numbers[at] {
@@ -54,9 +52,7 @@ impl<T: PartialEq, A: Allocator> Region<'_, T, A> {
     // The same of each of these positions.
     fn number_each(&self, at: &[(usize, usize)], wave: &mut Wave<A>) -> Result<(), AllocError>
         requires { HaveOneSize wave.old.numbers.rows self.now.grid.now.rows }
-        ensures { OnOk result (Spreads (λ b. Contains at.now b)
-            (alike T.eq self.now.first.now self.now.grid.now.rows) self.now.number
-            wave.old wave.new) }
+        ensures { OnOk result (Numbers T.eq (λ b. Contains at.now b) self.now wave.old wave.new) }
     {
         for near in at {
             self.number_at(*near, wave)?;
@@ -65,40 +61,27 @@ impl<T: PartialEq, A: Allocator> Region<'_, T, A> {
     }
 
     // The same of the positions that a step from this one leads to.
-    fn number_around(
-        &self,
-        kind: Steps,
-        at: (usize, usize),
-        wave: &mut Wave<A>,
-    ) -> Result<(), AllocError>
+    fn number_around(&self, at: (usize, usize), wave: &mut Wave<A>) -> Result<(), AllocError>
         requires size { HaveOneSize wave.old.numbers.rows self.now.grid.now.rows }
         requires at { InRange self.now.grid.now.rows at.0 at.1 }
-        ensures { OnOk result (Spreads (IsStep kind at)
-            (alike T.eq self.now.first.now self.now.grid.now.rows) self.now.number
-            wave.old wave.new) }
+        ensures { OnOk result (Numbers T.eq (IsStep self.now.kind at) self.now wave.old wave.new) }
     {
         let near = around(at.0, at.1);
-        match kind {
+        match self.kind {
             Steps::Sides => self.number_each(&near[..4], wave),
             Steps::All => self.number_each(&near, wave),
         }
     }
 
     // Gives the region of a position its number, which it doesn't have yet. The queue is that of this region alone.
-    fn number_region(
-        &self,
-        kind: Steps,
-        at: (usize, usize),
-        wave: &mut Wave<A>,
-    ) -> Result<(), AllocError>
+    fn number_region(&self, at: (usize, usize), wave: &mut Wave<A>) -> Result<(), AllocError>
         requires size { HaveOneSize wave.old.numbers.rows self.now.grid.now.rows }
         requires at { cell wave.old.numbers.rows at.0 at.1 ≡ Some None }
         requires below { (a : ℕ × ℕ) (m : ℕ) → IsMarked wave.old.numbers.rows a m
             → m < self.now.number }
         ensures same { OnOk result (SameSizeAndOrder wave.old.numbers wave.new.numbers) }
-        ensures numbered { OnOk result (IsNumbered kind
-            (alike T.eq self.now.first.now self.now.grid.now.rows) at self.now.number
-            wave.old.numbers.rows wave.new.numbers.rows) }
+        ensures numbered { OnOk result (IsNumbered self.now.kind (floor_of T.eq self.now) at
+            self.now.number wave.old.numbers.rows wave.new.numbers.rows) }
         ensures fewer { OnOk result (unreached wave.new.numbers.rows + 1
             ≤ unreached wave.old.numbers.rows) }
     {
@@ -106,7 +89,7 @@ impl<T: PartialEq, A: Allocator> Region<'_, T, A> {
         wave.queue.clear();
         wave.mark(at, self.number)?;
         while next < wave.queue.len() {
-            self.number_around(kind, wave.queue[next], wave)?;
+            self.number_around(wave.queue[next], wave)?;
             next += 1;
         }
         Ok(())
@@ -129,11 +112,12 @@ fn number_cell<T: PartialEq, A: Allocator>(
         Some(_) => Ok(count),
         None => {
             let region = Region {
+                kind,
                 grid,
                 first: &grid[at],
                 number: count,
             };
-            region.number_region(kind, at, wave)?;
+            region.number_region(at, wave)?;
             Ok(count + 1)
         }
     }

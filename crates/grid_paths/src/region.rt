@@ -6,7 +6,7 @@ ghost use Rattle.grid_paths.specs.Closures.{answers_by};
 ghost use Rattle.grid_paths.specs.Flood.{IsFlood, way_of};
 ghost use Rattle.grid_paths.specs.Taken.{places, undone, IsWritten};
 
-use super::taken::{Cells, take_region};
+use super::taken::{Cells, Taking};
 use grid::Grid;
 use grid_near::Steps;
 use std::alloc::{AllocError, Allocator};
@@ -111,11 +111,12 @@ fn mark_region<T: Copy + PartialEq + Drop, A: Allocator + Clone>(
         stop: None,
         mark,
     };
-    let mut taken = Vec::new(grid.allocator().clone()?);
-    match take_region(kind, &[at], &cells, grid, &mut taken) {
-        Ok(()) => Ok(taken),
+    let taken = Vec::new(grid.allocator().clone()?);
+    let mut search = Taking { cells, taken };
+    match search.take_region(kind, &[at], grid) {
+        Ok(()) => Ok(search.taken),
         Err(refused) => {
-            put_back(grid, taken);
+            put_back(grid, search.taken);
             Err(refused)
         }
     }

@@ -4,7 +4,7 @@ ghost use Rattle.grid.specs.Prelude.{InRange, SameSizeAndOrder};
 ghost use Rattle.grid_paths.specs.Walks.{IsStep};
 ghost use Rattle.grid_paths.specs.Closures.{answers_by, HoldsOfAnswers};
 ghost use Rattle.grid_paths.specs.Flood.{IsFlood, way_of};
-ghost use Rattle.grid_paths.specs.Taken.{places, undone, IsWritten, Takes, TakesAll};
+ghost use Rattle.grid_paths.specs.Taken.{places, undone, CanUndo, IsPassed, IsWritten, Takes};
 
 use super::answers::answers_of;
 use super::around::around;
@@ -33,129 +33,121 @@ pub(crate) struct Cells<T> {
     pub(crate) mark: T,
 }
 
-// What the search does at a cell.
-#[inline(always)]
-fn way_at<T: PartialEq>(cells: &Cells<T>, cell: &T) -> Enter
-    ensures { result ≡ way_of T.eq cells.now.on cells.now.stop cell.now }
-{
-    if *cell == cells.on {
-        return Enter::On;
-    }
-    match &cells.stop {
-        Some(stop) => {
-            if *cell == *stop {
-                Enter::Stop
-            } else {
-                Enter::No
-            }
+// A search: which cells it takes, and those that it took, each with its position.
+#[derive(Drop)]
+pub(crate) struct Taking<T, A: Allocator> {
+    pub(crate) cells: Cells<T>,
+    pub(crate) taken: Vec<((usize, usize), T), A>,
+}
+
+impl<T: Copy + PartialEq + Drop, A: Allocator> Taking<T, A> {
+    // What the search does at a cell.
+    #[inline(always)]
+    fn way_at(&self, cell: &T) -> Enter
+        ensures { result ≡ way_of T.eq self.now.cells.on self.now.cells.stop cell.now }
+    {
+        if *cell == self.cells.on {
+            return Enter::On;
         }
-        None => Enter::No,
-    }
-}
-
-// Takes a position, if its cell is one of those: keeps the cell, and writes the mark.
-#[inline(always)]
-fn take<T: Copy + PartialEq + Drop, A: Allocator>(
-    at: (usize, usize),
-    cells: &Cells<T>,
-    grid: &mut Grid<T, A>,
-    taken: &mut Vec<((usize, usize), T), A>,
-) -> Result<(), AllocError>
-    ensures same { SameSizeAndOrder grid.old grid.new }
-    ensures saves { undone taken.new.items grid.new.rows ≡ undone taken.old.items grid.old.rows }
-    ensures takes { OnOk result (Takes (way_of T.eq cells.now.on cells.now.stop) cells.now.mark at
-        grid.old.rows taken.old.items grid.new.rows taken.new.items) }
-{
-    let cell = match grid.get(at.0, at.1) {
-        Some(cell) => *cell,
-        None => return Ok(()),
-    };
-    if let Enter::No = way_at(cells, &cell) {
-        return Ok(());
-    }
-    taken.push((at, cell))?;
-    grid[at] = cells.mark;
-    Ok(())
-}
-
-// Takes each of these positions, if its cell is one of those.
-#[inline(always)]
-fn take_each<T: Copy + PartialEq + Drop, A: Allocator>(
-    at: &[(usize, usize)],
-    cells: &Cells<T>,
-    grid: &mut Grid<T, A>,
-    taken: &mut Vec<((usize, usize), T), A>,
-) -> Result<(), AllocError>
-    requires { way_of T.eq cells.now.on cells.now.stop cells.now.mark ≡ Enter.No }
-    ensures same { SameSizeAndOrder grid.old grid.new }
-    ensures saves { undone taken.new.items grid.new.rows ≡ undone taken.old.items grid.old.rows }
-    ensures takes { OnOk result (TakesAll (way_of T.eq cells.now.on cells.now.stop) cells.now.mark
-        (λ b. Contains at.now b)
-        grid.old.rows taken.old.items grid.new.rows taken.new.items) }
-{
-    for near in at {
-        take(*near, cells, grid, taken)?;
-    }
-    Ok(())
-}
-
-// Takes the positions around one that was taken, if the search goes on from its cell.
-#[inline(always)]
-fn take_around<T: Copy + PartialEq + Drop, A: Allocator>(
-    kind: Steps,
-    from: ((usize, usize), T),
-    cells: &Cells<T>,
-    grid: &mut Grid<T, A>,
-    taken: &mut Vec<((usize, usize), T), A>,
-) -> Result<(), AllocError>
-    requires at { InRange grid.old.rows (from.0).0 (from.0).1 }
-    requires mark { way_of T.eq cells.now.on cells.now.stop cells.now.mark ≡ Enter.No }
-    ensures same { SameSizeAndOrder grid.old grid.new }
-    ensures saves { undone taken.new.items grid.new.rows ≡ undone taken.old.items grid.old.rows }
-    ensures takes { OnOk result (TakesAll (way_of T.eq cells.now.on cells.now.stop) cells.now.mark
-        (λ b. (way_of T.eq cells.now.on cells.now.stop from.1 ≡ Enter.On) × IsStep kind from.0 b)
-        grid.old.rows taken.old.items grid.new.rows taken.new.items) }
-{
-    let (at, cell) = from;
-    match way_at(cells, &cell) {
-        Enter::On => {
-            let near = around(at.0, at.1);
-            match kind {
-                Steps::Sides => take_each(&near[..4], cells, grid, taken),
-                Steps::All => take_each(&near, cells, grid, taken),
+        match &self.cells.stop {
+            Some(stop) => {
+                if *cell == *stop {
+                    Enter::Stop
+                } else {
+                    Enter::No
+                }
             }
+            None => Enter::No,
         }
-        _ => Ok(()),
     }
-}
 
-// Takes the positions that walks from some lead to, as far as their cells are those.
-pub(crate) fn take_region<T: Copy + PartialEq + Drop, A: Allocator>(
-    kind: Steps,
-    starts: &[(usize, usize)],
-    cells: &Cells<T>,
-    grid: &mut Grid<T, A>,
-    taken: &mut Vec<((usize, usize), T), A>,
-) -> Result<(), AllocError>
-    requires none { taken.old.items ≡ [] }
-    requires mark { way_of T.eq cells.now.on cells.now.stop cells.now.mark ≡ Enter.No }
-    ensures same { SameSizeAndOrder grid.old grid.new }
-    ensures saves { undone taken.new.items grid.new.rows ≡ grid.old.rows }
-    ensures flood { OnOk result (IsFlood kind
-        (answers_by (way_of T.eq cells.now.on cells.now.stop) grid.old.rows)
-        starts.now (places taken.new.items)) }
-    ensures written { OnOk result (IsWritten cells.now.mark
-        (λ a. Contains (places taken.new.items) a) grid.old.rows grid.new.rows) }
-{
-    let _size = grid.size();
-    take_each(starts, cells, grid, taken)?;
-    let mut next = 0;
-    while next < taken.len() {
-        let from = taken[next];
-        take_around(kind, from, cells, grid, taken)?;
-        next += 1;
+    // Takes a position, if its cell is one of those: keeps the cell, and writes the mark.
+    #[inline(always)]
+    fn take(&mut self, at: (usize, usize), grid: &mut Grid<T, A>) -> Result<(), AllocError>
+        requires { IsPassed T.eq self.old.cells self.old.cells.mark }
+        ensures kept { CanUndo self.old grid.old self.new grid.new }
+        ensures takes { OnOk result (Takes T.eq (λ b. at ≡ b)
+            self.old grid.old self.new grid.new) }
+    {
+        let cell = match grid.get(at.0, at.1) {
+            Some(cell) => *cell,
+            None => return Ok(()),
+        };
+        if let Enter::No = self.way_at(&cell) {
+            return Ok(());
+        }
+        self.taken.push((at, cell))?;
+        grid[at] = self.cells.mark;
+        Ok(())
     }
-    Ok(())
+
+    // Takes each of these positions, if its cell is one of those.
+    #[inline(always)]
+    fn take_each(&mut self, at: &[(usize, usize)], grid: &mut Grid<T, A>) -> Result<(), AllocError>
+        requires { IsPassed T.eq self.old.cells self.old.cells.mark }
+        ensures kept { CanUndo self.old grid.old self.new grid.new }
+        ensures takes { OnOk result (Takes T.eq (λ b. Contains at.now b)
+            self.old grid.old self.new grid.new) }
+    {
+        for near in at {
+            self.take(*near, grid)?;
+        }
+        Ok(())
+    }
+
+    // Takes the positions around one that was taken, if the search goes on from its cell.
+    #[inline(always)]
+    fn take_around(
+        &mut self,
+        kind: Steps,
+        from: ((usize, usize), T),
+        grid: &mut Grid<T, A>,
+    ) -> Result<(), AllocError>
+        requires at { InRange grid.old.rows (from.0).0 (from.0).1 }
+        requires mark { IsPassed T.eq self.old.cells self.old.cells.mark }
+        ensures kept { CanUndo self.old grid.old self.new grid.new }
+        ensures takes { OnOk result (Takes T.eq (λ b.
+            (way_of T.eq self.old.cells.on self.old.cells.stop from.1 ≡ Enter.On)
+            × IsStep kind from.0 b) self.old grid.old self.new grid.new) }
+    {
+        let (at, cell) = from;
+        let Enter::On = self.way_at(&cell) else {
+            return Ok(());
+        };
+        let near = around(at.0, at.1);
+        match kind {
+            Steps::Sides => self.take_each(&near[..4], grid),
+            Steps::All => self.take_each(&near, grid),
+        }
+    }
+
+    // Takes the positions that walks from some lead to, as far as their cells are those.
+    pub(crate) fn take_region(
+        &mut self,
+        kind: Steps,
+        starts: &[(usize, usize)],
+        grid: &mut Grid<T, A>,
+    ) -> Result<(), AllocError>
+        requires none { self.old.taken.items ≡ [] }
+        requires mark { IsPassed T.eq self.old.cells self.old.cells.mark }
+        ensures same { SameSizeAndOrder grid.old grid.new }
+        ensures saves { undone self.new.taken.items grid.new.rows ≡ grid.old.rows }
+        ensures flood { OnOk result (IsFlood kind
+            (answers_by (way_of T.eq self.old.cells.on self.old.cells.stop) grid.old.rows)
+            starts.now (places self.new.taken.items)) }
+        ensures written { OnOk result (IsWritten self.old.cells.mark
+            (λ a. Contains (places self.new.taken.items) a) grid.old.rows grid.new.rows) }
+    {
+        let _size = grid.size();
+        self.take_each(starts, grid)?;
+        let mut next = 0;
+        while next < self.taken.len() {
+            let from = self.taken[next];
+            self.take_around(kind, from, grid)?;
+            next += 1;
+        }
+        Ok(())
+    }
 }
 
 // The positions alone.
@@ -192,12 +184,13 @@ pub fn flood<T, A: Allocator + Clone, F: Fn(&T) -> Enter>(
         IsFlood kind ways starts.now found.items)) }
 {
     let mut ways = answers_of(grid, enter)?;
-    let mut taken = Vec::new(grid.allocator().clone()?);
+    let taken = Vec::new(grid.allocator().clone()?);
     let cells = Cells {
         on: Enter::On,
         stop: Some(Enter::Stop),
         mark: Enter::No,
     };
-    take_region(kind, starts, &cells, &mut ways, &mut taken)?;
-    places_of(&taken, grid.allocator().clone()?)
+    let mut search = Taking { cells, taken };
+    search.take_region(kind, starts, &mut ways)?;
+    places_of(&search.taken, grid.allocator().clone()?)
 }

@@ -11,7 +11,7 @@ pub returns : goal.returns
 returns g c =
     let flood = c.in_ok-take_region.ensures.flood in
     let ways = c.in_ok-ways.ways in
-    let q = c.take_region.new.taken.items in
+    let q = c.take_region.new.self.taken.items in
     let same : IsFlood c.args.kind ways.rows c.args.starts.now (places q) = subst (λ u. IsFlood c.args.kind u c.args.starts.now (places q)) (answers-same _ (way-same ghosts.eq refl refl refl refl refl) ways.rows ways.table) flood in
     HoldsOfAnswers-if_ok _ _ _ c.places_of.result (λ u found. IsFlood c.args.kind u c.args.starts.now found.items)
     ways.rows c.in_ok-ways.ensures.answers c.in_ok-ways.ensures.cells
