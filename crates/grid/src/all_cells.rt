@@ -88,13 +88,8 @@ impl<T, A: Allocator> Grid<T, A> {
             (λ p x y q. F.step p x y q) f (storage self.order self.rows) (storage g.order g.rows)) }
         ensures refused { IfErr result (λ g. g ≡ self) }
     {
-        let Grid {
-            flat,
-            row_count,
-            col_count,
-            order,
-        } = self;
-        match flat.map(f) {
+        let (row_count, col_count, order) = (self.row_count, self.col_count, self.order);
+        match self.flat.map(f) {
             Ok(flat) => Ok(Grid {
                 flat,
                 row_count,

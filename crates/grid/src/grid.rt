@@ -316,13 +316,7 @@ impl<T, A: Allocator> Grid<T, A> {
     pub fn into_vec(self) -> Vec<T, A>
         ensures { result.items ≡ storage self.order self.rows }
     {
-        let Grid {
-            flat,
-            row_count: _,
-            col_count: _,
-            order: _,
-        } = self;
-        flat.into_vec()
+        self.flat.into_vec()
     }
 }
 

@@ -63,14 +63,8 @@ impl<T, A: Allocator> Grid<T, A> {
     pub fn indexed_into_iter(self) -> IndexedIntoIter<T, A>
         ensures gives { GivesOwnedIndexed self.order self.rows result }
     {
-        let Grid {
-            flat,
-            row_count,
-            col_count,
-            order,
-        } = self;
-        let (rows, cols) = (row_count, col_count);
-        flat.indexed_into_iter(Layout { order, rows, cols })
+        let (order, rows, cols) = (self.order, self.row_count, self.col_count);
+        self.flat.indexed_into_iter(Layout { order, rows, cols })
     }
 }
 

@@ -100,10 +100,8 @@ where
     ensures err_grid { OnErr result (grid.new ≡ grid.old) }
     ensures err_memory { OnErr result (IsTrue (nat_lt 0 (row_count grid.old.rows))) }
 {
-    match grid.fill_clones(value) {
-        Ok(()) => Ok(Reply::Done),
-        Err(refused) => Err(refused),
-    }
+    grid.fill_clones(value)?;
+    Ok(Reply::Done)
 }
 
 impl<T, A: Allocator> Grid<T, A> {

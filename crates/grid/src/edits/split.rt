@@ -66,12 +66,8 @@ impl<T, A: Allocator> Grid<T, A> {
         self.transpose();
         let split = self.split_off_rows(at);
         self.transpose();
-        match split {
-            Ok(mut tail) => {
-                tail.transpose();
-                Ok(tail)
-            }
-            Err(refused) => Err(refused),
-        }
+        let mut tail = split?;
+        tail.transpose();
+        Ok(tail)
     }
 }
