@@ -121,7 +121,7 @@ fn flipped_command<T, A: Allocator>(rows: usize, command: Command<T, A>) -> Comm
         Command::InsertCol(at, line) => Command::InsertCol(at, reversed(line)),
         Command::InsertRows(at, lines) => Command::InsertRows(
             mirrored_insertion(rows, at),
-            reordered(lines),
+            reversed(lines),
         ),
         Command::InsertCols(at, lines) => Command::InsertCols(at, each_reversed(lines)),
         Command::PopRow => Command::RemoveRow(0),
@@ -172,20 +172,11 @@ fn mirrored_start(count: usize, from: usize, len: usize) -> usize
     }
 }
 
-fn reversed<T, A: Allocator>(line: Vec<T, A>) -> Vec<T, A>
+fn reversed<T, A: Allocator>(mut line: Vec<T, A>) -> Vec<T, A>
     ensures { result.items ≡ reverse line.items }
 {
-    let mut line = line;
     line.reverse();
     line
-}
-
-fn reordered<T, A: Allocator>(lines: Vec<Vec<T, A>, A>) -> Vec<Vec<T, A>, A>
-    ensures { items_of_each result.items ≡ reverse (items_of_each lines.items) }
-{
-    let mut lines = lines;
-    lines.reverse();
-    lines
 }
 
 fn each_reversed<T, A: Allocator>(lines: Vec<Vec<T, A>, A>) -> Vec<Vec<T, A>, A>
@@ -213,19 +204,9 @@ pub fn carry_reply<T, A: Allocator>(
     ensures { reply_value result ≡ turned_reply symmetry axis (reply_value reply) }
 {
     match reply {
-        Reply::Size(rows, cols) => {
-            if symmetry.flags().0 {
-                Reply::Size(cols, rows)
-            } else {
-                Reply::Size(rows, cols)
-            }
-        }
-        Reply::Line(Some(line)) => {
-            if reverses_cells(symmetry, axis) {
-                Reply::Line(Some(reversed(line)))
-            } else {
-                Reply::Line(Some(line))
-            }
+        Reply::Size(rows, cols) if symmetry.flags().0 => Reply::Size(cols, rows),
+        Reply::Line(Some(line)) if reverses_cells(symmetry, axis) => {
+            Reply::Line(Some(reversed(line)))
         }
         other => other,
     }
