@@ -9,7 +9,7 @@ use Rattle.grid_csv.specs.declared.error.CsvError.TheVariants.{BadField, Ragged,
 use Rattle.grid_csv.specs.Law.{ReadsBack}
 use Rattle.grid_csv.specs.Reading.{AnswersField, AreCells, AreRows, IsBadRecord, IsFault, MayRead, first_of, records_of}
 use Rattle.grid_csv.specs.Writing.{AnswersCell, MayWrite, WritesBy, sheet_text}
-use Rattle.grid_csv.proofs.ZipLemmas.{zip_left}
+use Rattle.grid_csv.proofs.ZipLemmas.{zip_more, zip_left}
 use Rattle.grid_csv.proofs.WriteLemmas.{field_is, field_utf8, lines_are}
 use Rattle.grid_csv.proofs.BackLemmas.{sheet_back}
 
@@ -106,23 +106,16 @@ module _ {T : Type 0} (w : T → List ℕ) (rows : List (List T)) (table : IsTab
 
 -- rows of which each cell is read as itself, or as one of the same text
 pub same_rows : {T : Type 0} (rows again : List (List T)) → AllZip (AllZip (λ x y. y ≡ x)) rows again → again ≡ rows
-same_rows [] [] all = refl
-same_rows [] (y ∷ ys) all = absurd all
-same_rows (r ∷ rows) [] all = absurd all
-same_rows (r ∷ rows) (y ∷ ys) all = ap (λ x. x ∷ ys) (each_same r y all.0) ∙ ap (λ xs. r ∷ xs) (same_rows rows ys all.1)
+same_rows rows again all = each_same rows again (zip_more (AllZip (λ x y. y ≡ x)) (λ x y. y ≡ x) each_same rows again all)
 
-module _ {T : Type 0} (w : T → List ℕ) where
-  same_line : (row cells : List T) → AllZip (λ x y. w y ≡ w x) row cells → map w cells ≡ map w row
-  same_line [] [] all = refl
-  same_line [] (y ∷ ys) all = absurd all
-  same_line (x ∷ row) [] all = absurd all
-  same_line (x ∷ row) (y ∷ ys) all = ap (λ f. f ∷ map w ys) all.0 ∙ ap (λ fs. w x ∷ fs) (same_line row ys all.1)
+same_maps : {A B : Type 0} (f : A → B) (xs ys : List A) → AllZip (λ x y. f y ≡ f x) xs ys → map f ys ≡ map f xs
+same_maps f [] [] all = refl
+same_maps f [] (y ∷ ys) all = absurd all
+same_maps f (x ∷ xs) [] all = absurd all
+same_maps f (x ∷ xs) (y ∷ ys) all = ap (λ z. z ∷ map f ys) all.0 ∙ ap (λ zs. f x ∷ zs) (same_maps f xs ys all.1)
 
-  pub same_texts : (rows again : List (List T)) → AllZip (AllZip (λ x y. w y ≡ w x)) rows again → map (map w) again ≡ map (map w) rows
-  same_texts [] [] all = refl
-  same_texts [] (y ∷ ys) all = absurd all
-  same_texts (r ∷ rows) [] all = absurd all
-  same_texts (r ∷ rows) (y ∷ ys) all = ap (λ f. f ∷ map (map w) ys) (same_line r y all.0) ∙ ap (λ fs. map w r ∷ fs) (same_texts rows ys all.1)
+pub same_texts : {T : Type 0} (w : T → List ℕ) (rows again : List (List T)) → AllZip (AllZip (λ x y. w y ≡ w x)) rows again → map (map w) again ≡ map (map w) rows
+same_texts w rows again all = same_maps (map w) rows again (zip_more (AllZip (λ x y. w y ≡ w x)) (λ x y. map w y ≡ map w x) (same_maps w) rows again all)
 
 -- a cell that is read back, of a text that is text
 pub gives_back : {F T : Type 0} (w : T → List ℕ) (returns : F → Bor (List ℕ) → Result (Option T) AllocError → Type 0) (read : F) (S : T → T → Type 0) (x : T) → IsUtf8 (w x) → ReadsBack w returns read S x → (cell : Option T) → AnswersField returns read (w x) cell → (y : T) × (cell ≡ Some y) × S x y
