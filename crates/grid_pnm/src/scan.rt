@@ -1,6 +1,6 @@
 //! Numbers between white space and comments.
 ghost use Rattle.std.specs.Prelude.{◌≡◌, ◌≤◌, false, None, Some, Ok, Err, length, IfSome, IfOk, MatchOption, MatchResult};
-ghost use Rattle.grid_pnm.specs.Scan.{is_white, ends_comment, behind_gap, digit_count, number_at, next_number};
+ghost use Rattle.grid_pnm.specs.Scan.{is_white, behind_gap, digit_count, number_at, next_number};
 
 use crate::PnmError;
 use text_lines::index;
@@ -12,13 +12,6 @@ pub(crate) fn is_white(byte: u8) -> bool
     byte == b' ' || byte == b'\t' || byte == b'\n' || byte == b'\r'
 }
 
-// Whether a comment ends with this byte.
-fn ends_comment(byte: u8) -> bool
-    ensures { result ≡ ends_comment byte }
-{
-    byte == b'\n' || byte == b'\r'
-}
-
 // What is behind the white space and the comments at the front.
 pub(crate) fn behind_gap(bytes: &[u8]) -> &[u8]
     ensures rest { result.now ≡ behind_gap false bytes.now }
@@ -28,7 +21,7 @@ pub(crate) fn behind_gap(bytes: &[u8]) -> &[u8]
     let mut comment = false;
     while let Some((byte, later)) = rest.split_first() {
         if comment {
-            comment = !ends_comment(*byte);
+            comment = !(*byte == b'\n' || *byte == b'\r');
         } else if *byte == b'#' {
             comment = true;
         } else if !is_white(*byte) {
