@@ -1,5 +1,6 @@
 -- The commands of lines, one line after another.
 use Rattle.std.proofs.Common.{◌≡◌, ℕ, ◌+◌, ◌<◌, List, [], ◌∷◌, ◌++◌, ◌∙◌, length, map, refl, ap, sym, arith, append_assoc, append-nil, Some, None, Result, Ok, Err, ℤ}
+use Rattle.grid_base.proofs.Common.{map-append}
 use Rattle.grid_commands.specs.declared.command.Command.{Command}
 use Rattle.grid_commands.specs.Command.{CommandValue, command_value}
 use Rattle.grid_play.specs.declared.fault.ScriptFault.{ScriptFault}
@@ -34,5 +35,4 @@ pub no_line : (number : ℕ) (script : List ℕ) (done : List (CommandValue ℤ)
 no_line number script done none = rw (none, lines-none) (ap Ok (append-nil done))
 
 pub pushed_value : {A : Type 0} (old new : List (Command ℤ A)) (x : Command ℤ A) → new ≡ old ++ x ∷ [] → map command_value new ≡ map command_value old ++ command_value x ∷ []
-pushed_value [] new x e = ap (map command_value) e
-pushed_value (y ∷ old) new x e = ap (map command_value) e ∙ ap (λ t. command_value y ∷ t) (pushed_value old (old ++ x ∷ []) x refl)
+pushed_value old new x e = ap (map command_value) e ∙ map-append command_value old (x ∷ [])

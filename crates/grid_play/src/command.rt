@@ -197,20 +197,18 @@ fn alone<A: Allocator>(mut words: Words<'_>, command: Command<i64, A>) -> Option
 fn one_cell(mut words: Words<'_>) -> Option<i64>
     ensures { result ≡ one_cell (words_of words.entry.0.now) }
 {
-    let value = words.next()?;
-    if words.next().is_some() {
+    let (Some(value), None) = (words.next(), words.next()) else {
         return None;
-    }
+    };
     cell(value)
 }
 
 fn one_index(mut words: Words<'_>) -> Option<usize>
     ensures { result ≡ one_index (words_of words.entry.0.now) }
 {
-    let number = words.next()?;
-    if words.next().is_some() {
+    let (Some(number), None) = (words.next(), words.next()) else {
         return None;
-    }
+    };
     index(number)
 }
 
@@ -218,11 +216,9 @@ fn one_index(mut words: Words<'_>) -> Option<usize>
 fn two_indices(mut words: Words<'_>) -> Option<(usize, usize)>
     ensures { result ≡ two_indices (words_of words.entry.0.now) }
 {
-    let first = words.next()?;
-    let second = words.next()?;
-    if words.next().is_some() {
+    let (Some(first), Some(second), None) = (words.next(), words.next(), words.next()) else {
         return None;
-    }
+    };
     Some((index(first)?, index(second)?))
 }
 
