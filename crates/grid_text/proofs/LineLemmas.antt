@@ -1,8 +1,8 @@
 -- The cells of one line, part by part.
-use Rattle.std.proofs.Common.{◌≡◌, ℕ, ◌+◌, ◌≤◌, true, Option, Some, None, Result, Ok, Err, List, [], ◌∷◌, ◌++◌, length, encode_utf8, IsUtf8, chars, inl, inr, refl, subst, sym, ap, ◌∙◌, arith, append_assoc, append-nil, length-append}
-use Rattle.grid_base.proofs.Common.{scalars, IsScalar, and_parts, nil_from_length, chars-nil, chars_past_char, IsUtf8-past_char, cons_from_encodes, length-encode, len_utf8_bounds}
+use Rattle.std.proofs.Common.{◌≡◌, ℕ, ◌+◌, ◌≤◌, true, Option, Some, None, Result, Ok, Err, List, [], ◌∷◌, ◌++◌, length, encode_utf8, IsUtf8, inl, inr, refl, subst, sym, ap, ◌∙◌, arith, append_assoc, append-nil, length-append}
+use Rattle.grid_base.proofs.Common.{scalars, IsScalar, and_parts, cons_from_encodes, length-encode, len_utf8_bounds}
 use Rattle.grid_text.specs.declared.error.TextError.{TextError}
-use Rattle.grid_text.specs.Reading.{AnswersChar, prepend, bad_char, IsRow, MayReadLine}
+use Rattle.grid_text.specs.Reading.{prepend, IsRow, MayReadLine}
 
 pub prepend-nil : {X E : Type 0} (r : Result (List X) E) → prepend [] r ≡ r
 prepend-nil (Ok ys) = refl
@@ -70,40 +70,6 @@ line_end parts bad R line text left old new count i none =
       may = subst (MayReadLine bad R line 1 (parts text)) (ap Ok (append-nil i.row)) (i.may (Ok []) (subst (λ xs. MayReadLine bad R line (count + 1) xs (Ok [])) (sym none) refl));
     }
 
--- the cells of the first characters, `column` of them, of a line of which `rest` is left
-pub record CharsSoFar {F T : Type 0} (returns : F → ℕ → Option T → Type 0) (read : F) (line : ℕ) (text rest : List ℕ) (old new : List T) (column : ℕ) : Type 0 where
-  pub utf8 : IsUtf8 rest
-  pub fits : column + length rest ≤ length text
-  pub cells : LineSoFar bad_char (AnswersChar returns read) line (chars text) (chars rest) old new column
-
-module _ {F T : Type 0} (returns : F → ℕ → Option T → Type 0) (read : F) (line : ℕ) (text : List ℕ) (old : List T) where
-  pub chars_start : (rest : List ℕ) → IsUtf8 text → rest ≡ text → CharsSoFar returns read line text rest old old 0
-  chars_start rest utf8 is = record {
-    utf8 = rw is utf8;
-    fits = rw is (omega arith);
-    cells = line_start bad_char (AnswersChar returns read) line (chars text) old (chars rest) (ap chars is);
-  }
-
-  module _ (rest later : List ℕ) (new : List T) (column c : ℕ) (i : CharsSoFar returns read line text rest old new column) (next : rest ≡ encode_utf8 c ++ later) where
-    chars_are : chars rest ≡ c ∷ chars later
-    chars_are = chars_past_char rest later c i.utf8 next
-
-    said : (cell : Option T) → returns read c cell → AnswersChar returns read c cell
-    said cell gave = (first_scalar rest later c i.utf8 next, gave)
-
-    pub chars_room : column + 1 ≤ length text
-    chars_room = omega (arith, i.fits, ap length next ∙ length-append (encode_utf8 c) later, length-encode c, (len_utf8_bounds c).0)
-
-    pub chars_more : (cell : T) (added : List T) → returns read c (Some cell) → added ≡ new ++ cell ∷ [] → CharsSoFar returns read line text later old added (column + 1)
-    chars_more cell added gave push = record {
-      utf8 = IsUtf8-past_char rest later c i.utf8 next;
-      fits = omega (arith, i.fits, ap length next ∙ length-append (encode_utf8 c) later, length-encode c, (len_utf8_bounds c).0);
-      cells = line_more bad_char (AnswersChar returns read) line (chars text) old (chars rest) (chars later) new column c i.cells chars_are cell added (said (Some cell) gave) push;
-    }
-
-    pub chars_bad : returns read c None → MayReadLine bad_char (AnswersChar returns read) line 1 (chars text) (Err (bad_char line (column + 1) c))
-    chars_bad gave = line_bad bad_char (AnswersChar returns read) line (chars text) old (chars rest) (chars later) new column c i.cells chars_are (said None gave)
-
-  pub chars_end : (rest : List ℕ) (new : List T) (column : ℕ) → CharsSoFar returns read line text rest old new column → length rest ≡ 0 → IsRow chars bad_char (AnswersChar returns read) line text old new column
-  chars_end rest new column i none =
-      line_end chars bad_char (AnswersChar returns read) line text (chars rest) old new column i.cells (ap chars (nil_from_length rest none) ∙ chars-nil)
+-- a character more, of which each takes a byte at least
+pub past_char : (text later : List ℕ) (c column n : ℕ) → column + length text ≤ n → text ≡ encode_utf8 c ++ later → column + 1 + length later ≤ n
+past_char text later c column n fits next = omega (arith, fits, ap length next ∙ length-append (encode_utf8 c) later, length-encode c, (len_utf8_bounds c).0)
