@@ -1,5 +1,5 @@
 -- The cells that stay and move at a delete of rows are the least number of swaps that bring all that stay to their places.
-use Rattle.std.proofs.Common.{◌++◌, ◌≡◌, ℕ, ◌+◌, ◌-◌, ◌*◌, ◌/◌, ◌%◌, ◌<◌, ◌≤◌, cond, ltb, eqb, List, [], length, take, drop, refl, sym, ◌∙◌, ap, subst, arith, ⊎_elim, slice_get, take-append-drop, lt-ltb, le-ltb, eq-eqb, ne_eqb, mul_comm, mul-le-mul_right}
+use Rattle.std.proofs.Common.{◌++◌, ◌≡◌, ℕ, ◌+◌, ◌-◌, ◌*◌, ◌/◌, ◌%◌, ◌<◌, ◌≤◌, cond, ltb, eqb, List, length, take, drop, sym, ◌∙◌, ap, subst, arith, ⊎_elim, slice_get, take-append-drop, lt-ltb, le-ltb, eq-eqb, ne_eqb, mul_comm, mul-le-mul_right}
 use Rattle.grid_base.proofs.Common.{div-mul-add, mod-mul-add, cases_lt, cases_eq, cond-true, cond-false, row, row_count, col_count, cell, InRange, IsTable, storage, place}
 use Rattle.grid.specs.Prelude.{without_rows, rows_taken_shift, delete_rows_shift}
 use Rattle.grid_base.specs.declared.order.Order.{Order}
@@ -8,8 +8,8 @@ use Rattle.grid_base.proofs.StorageLemmas.{length-storage, get-storage, has_plac
 use Rattle.grid.proofs.RowEditLemmas.{row-take_before, row-take_after, rows-take}
 use Rattle.grid.proofs.EditSizeLemmas.{cols-take, IsTable-take}
 use Rattle.grid_laws.specs.Least.{HasDifferentCells, IsLeast}
-use Rattle.grid_laws.proofs.OriginLemmas.{origin, makes}
 use Rattle.grid_laws.proofs.PigeonLemmas.{IsAlone}
+use Rattle.grid_laws.proofs.MirrorLemmas.{none_is_least}
 use Rattle.grid_laws.proofs.PassLemmas.{IsCut, cut, line_before}
 use Rattle.grid_laws.proofs.ChainLemmas.{least_by_chain}
 
@@ -205,16 +205,6 @@ module _ {T : Type 0} (t : List (List T)) (h : IsTable t) (i k rest : ℕ) (d : 
       (length-storage ColumnMajor t h ∙ (ap (λ x. x * n) whole ∙ mul_comm (rest + k) n)) (length_left ColumnMajor ∙ mul_comm rest n)
       (λ c r lc lr. cell_left ColumnMajor r c lr lc ∙ ap (λ m. slice_get (storage ColumnMajor t) (c * m + skip i k r)) whole)
       (λ c r lc lr. subst (λ m. IsAlone (storage ColumnMajor t) (c * m + skip i k r)) whole (alone_at ColumnMajor r c lr lc)))
-
--- nothing is done
-pub none_is_least : {T : Type 0} (xs ys : List T) → ys ≡ xs → IsLeast 0 xs ys
-unfolding origin
-none_is_least xs ys e =
-    let len = ap length e in
-    record {
-      reached = ([], refl, makes [] xs ys tt (omega arith) (λ k lt. ap (λ v. slice_get v k) (sym e)));
-      least = λ qs b. omega arith;
-    }
 
 pub alone_by : {T : Type 0} (t : List (List T)) (i k rest : ℕ) → HasDifferentCells t → row_count t ≡ rest + k → AreAlone t i k rest
 alone_by t i k rest d whole = record {

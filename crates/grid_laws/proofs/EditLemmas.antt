@@ -16,7 +16,8 @@ use Rattle.grid.proofs.LineEditLemmas.{range_rows, delete_rows_one, done_rows, r
 use Rattle.grid_deferred.proofs.StepThroughLemmas.{table-step}
 use Rattle.grid_laws.specs.Least.{IsLeast, HasDifferentCells, Lacks, EditShifts, Shifts, filled_up}
 use Rattle.grid_laws.proofs.ImageLemmas.{storage_across, different_image}
-use Rattle.grid_laws.proofs.DeleteLemmas.{none_is_least, delete_is_least}
+use Rattle.grid_laws.proofs.MirrorLemmas.{none_is_least}
+use Rattle.grid_laws.proofs.DeleteLemmas.{delete_is_least}
 use Rattle.grid_laws.proofs.PaddingLemmas.{padded_is_least}
 
 module _ {T : Type 0} (d : T) where

@@ -9,8 +9,9 @@ use Rattle.grid_base.proofs.StorageLemmas.{length-storage, get-storage, has_plac
 use Rattle.grid_base.proofs.ActLemmas.{source_within, rows-act, cols-act, cell-act, IsTable-act}
 use Rattle.grid_base.proofs.TableLemmas.{same_cells}
 use Rattle.grid_laws.specs.Least.{HasDifferentCells, IsLeast}
-use Rattle.grid_laws.proofs.MirrorLemmas.{HasDifferentItems, least_by_mirror}
-use Rattle.grid_laws.proofs.PassLemmas.{cut, across, across_at, along, along_at, halves, mirror_across, mirror_along, mirror_whole, mirror_none}
+use Rattle.grid_base.proofs.GroupLemmas.{product, act-act, act-identity}
+use Rattle.grid_laws.proofs.MirrorLemmas.{HasDifferentItems, least_by_mirror, none_is_least}
+use Rattle.grid_laws.proofs.PassLemmas.{cut, across, across_at, along, along_at, halves, mirror_across, mirror_along, mirror_whole}
 use Rattle.grid.proofs.SeenIteratorLemmas.{place_flipped}
 use Rattle.grid.proofs.FlipLemmas.{opposite_place}
 
@@ -47,9 +48,6 @@ module _ {T : Type 0} (xs ys : List T) (d : HasDifferentItems xs) where
 
   all_flipped : (n : ℕ) → length xs ≡ n → length ys ≡ n → ((k : ℕ) → k < n → slice_get ys k ≡ slice_get xs (n - 1 - k)) → IsLeast (n / 2) xs ys
   all_flipped n lx ly same = least_by_mirror n (n / 2) (λ k. n - 1 - k) (λ x. x) (mirror_whole n) xs ys lx ly same d
-
-  none_flipped : (n : ℕ) → length xs ≡ n → length ys ≡ n → ((k : ℕ) → k < n → slice_get ys k ≡ slice_get xs k) → IsLeast 0 xs ys
-  none_flipped n lx ly same = least_by_mirror n 0 (λ k. k) (λ x. x) (mirror_none n) xs ys lx ly same d
 
 module _ {T : Type 0} (t : List (List T)) (h : IsTable t) (d : HasDifferentCells t) (ys : List T) (ly : length ys ≡ row_count t * col_count t) where
   -- a storage whose cell at each place is that of another place
@@ -89,13 +87,6 @@ module _ {T : Type 0} (t : List (List T)) (h : IsTable t) (d : HasDifferentCells
       ∙ (sym (get-storage o t (row_count t - 1 - p.r) (col_count t - 1 - p.c) h (omega arith) (omega arith))
       ∙ ap (slice_get (storage o t)) (sym (opposite_place o (row_count t) (col_count t) p.r p.c p.lr p.lc) ∙ ap (λ x. row_count t * col_count t - 1 - x) p.is))))
 
-  not_flipped : (o : Order) → Shows o (λ r. r) (λ c. c) → IsLeast 0 (storage o t) ys
-  not_flipped o same =
-      none_flipped (storage o t) ys (different_storage o t h d) (row_count t * col_count t) (length-storage o t h) ly
-      (λ k lt.
-      let p = has_place o (row_count t) (col_count t) k lt in
-      ap (slice_get ys) (sym p.is) ∙ (same p.r p.c p.lr p.lc ∙ (sym (get-storage o t p.r p.c h p.lr p.lc) ∙ ap (slice_get (storage o t)) p.is)))
-
 -- each cell of the image in its storage
 image_at : {T : Type 0} (s : Symmetry) (o : Order) (t : List (List T)) (i j : ℕ) → IsTable t → i < image_rows s (row_count t) (col_count t) → j < image_cols s (row_count t) (col_count t) → slice_get (storage (order_after s o) (act s t)) (place (order_after s o) (image_rows s (row_count t) (col_count t)) (image_cols s (row_count t) (col_count t)) i j) ≡ cell t (source_row s (row_count t) (col_count t) i j) (source_col s (row_count t) (col_count t) i j)
 image_at s o t i j h p q =
@@ -111,33 +102,6 @@ length-image s o t h =
     length-storage (order_after s o) (act s t) (IsTable-act s t h)
     ∙ (ap (λ x. x * col_count (act s t)) (rows-act s t) ∙ ap (λ x. image_rows s (row_count t) (col_count t) * x) (cols-act s t h))
 
-module _ {T : Type 0} (o : Order) (t : List (List T)) (h : IsTable t) (d : HasDifferentCells t) where
-  abbrev stored : Symmetry → List T
-  stored s = storage (order_after s o) (act s t)
-
-  -- from the place in the order of the table to that in the other
-  through : (s : Symmetry) (r c : ℕ) → slice_get (stored s) (place o (row_count t) (col_count t) r c) ≡ slice_get (stored s) (place (flipped o) (col_count t) (row_count t) c r)
-  through s r c = ap (slice_get (stored s)) (sym (place_flipped o (row_count t) (col_count t) r c))
-
-  pub price_is_least : (s : Symmetry) → IsLeast (price s (row_count t) (col_count t)) (storage o t) (stored s)
-  price_is_least Identity = not_flipped t h d (stored Identity) (length-image Identity o t h) o (λ r c p q. image_at Identity o t r c h p q)
-  price_is_least FlipCols = cols_flipped t h d (stored FlipCols) (length-image FlipCols o t h) o (λ r c p q. image_at FlipCols o t r c h p q)
-  price_is_least FlipRows = rows_flipped t h d (stored FlipRows) (length-image FlipRows o t h) o (λ r c p q. image_at FlipRows o t r c h p q)
-  price_is_least RotateHalf = both_flipped t h d (stored RotateHalf) (length-image RotateHalf o t h) o (λ r c p q. image_at RotateHalf o t r c h p q)
-  price_is_least Transpose =
-      not_flipped t h d (stored Transpose) (length-image Transpose o t h ∙ mul_comm (col_count t) (row_count t)) o
-      (λ r c p q. through Transpose r c ∙ image_at Transpose o t c r h q p)
-  price_is_least RotateLeft =
-      cols_flipped t h d (stored RotateLeft) (length-image RotateLeft o t h ∙ mul_comm (col_count t) (row_count t)) o
-      (λ r c p q. through RotateLeft r c ∙ image_at RotateLeft o t c r h q p)
-  price_is_least RotateRight =
-      subst (λ k. IsLeast k (storage o t) (stored RotateRight)) (mul_comm (row_count t / 2) (col_count t))
-      (rows_flipped t h d (stored RotateRight) (length-image RotateRight o t h ∙ mul_comm (col_count t) (row_count t)) o
-      (λ r c p q. through RotateRight r c ∙ image_at RotateRight o t c r h q p))
-  price_is_least AntiTranspose =
-      both_flipped t h d (stored AntiTranspose) (length-image AntiTranspose o t h ∙ mul_comm (col_count t) (row_count t)) o
-      (λ r c p q. through AntiTranspose r c ∙ image_at AntiTranspose o t c r h q p)
-
 -- a transposed table in the other order has the same storage
 pub storage_across : {T : Type 0} (o : Order) (t : List (List T)) → IsTable t → storage (flipped o) (act Transpose t) ≡ storage o t
 storage_across o t h =
@@ -149,6 +113,35 @@ storage_across o t h =
     ap (slice_get (storage (flipped o) (act Transpose t))) (sym (place_flipped o (row_count t) (col_count t) p.r p.c ∙ p.is))
     ∙ (image_at Transpose o t p.c p.r h p.lc p.lr
     ∙ (sym (get-storage o t p.r p.c h p.lr p.lc) ∙ ap (slice_get (storage o t)) p.is)))
+
+module _ {T : Type 0} (o : Order) (t : List (List T)) (h : IsTable t) (d : HasDifferentCells t) where
+  abbrev stored : Symmetry → List T
+  stored s = storage (order_after s o) (act s t)
+
+  -- a transpose after it moves no cell of the storage
+  then_transposed : (k : ℕ) (s : Symmetry) → IsLeast k (storage o t) (storage o (act s t)) → IsLeast k (storage o t) (storage (flipped o) (act (product s Transpose) t))
+  then_transposed k s least =
+      subst (IsLeast k (storage o t)) (sym (ap (storage (flipped o)) (sym (act-act s Transpose t h)) ∙ storage_across o (act s t) (IsTable-act s t h))) least
+
+  cols_least : IsLeast (price FlipCols (row_count t) (col_count t)) (storage o t) (stored FlipCols)
+  cols_least = cols_flipped t h d (stored FlipCols) (length-image FlipCols o t h) o (λ r c p q. image_at FlipCols o t r c h p q)
+
+  rows_least : IsLeast (price FlipRows (row_count t) (col_count t)) (storage o t) (stored FlipRows)
+  rows_least = rows_flipped t h d (stored FlipRows) (length-image FlipRows o t h) o (λ r c p q. image_at FlipRows o t r c h p q)
+
+  both_least : IsLeast (price RotateHalf (row_count t) (col_count t)) (storage o t) (stored RotateHalf)
+  both_least = both_flipped t h d (stored RotateHalf) (length-image RotateHalf o t h) o (λ r c p q. image_at RotateHalf o t r c h p q)
+
+  pub price_is_least : (s : Symmetry) → IsLeast (price s (row_count t) (col_count t)) (storage o t) (stored s)
+  price_is_least Identity = none_is_least (storage o t) (stored Identity) (ap (storage o) (act-identity t h))
+  price_is_least FlipCols = cols_least
+  price_is_least FlipRows = rows_least
+  price_is_least RotateHalf = both_least
+  price_is_least Transpose = none_is_least (storage o t) (stored Transpose) (storage_across o t h)
+  price_is_least RotateLeft = then_transposed _ FlipCols cols_least
+  price_is_least RotateRight =
+      subst (λ k. IsLeast k (storage o t) (stored RotateRight)) (mul_comm (row_count t / 2) (col_count t)) (then_transposed _ FlipRows rows_least)
+  price_is_least AntiTranspose = then_transposed _ RotateHalf both_least
 
 -- different cells of the image come from different cells
 source_different : (s : Symmetry) (m n r c i j : ℕ) → r < image_rows s m n → c < image_cols s m n → i < image_rows s m n → j < image_cols s m n → source_row s m n r c ≡ source_row s m n i j → source_col s m n r c ≡ source_col s m n i j → (r ≡ i) × (c ≡ j)

@@ -9,6 +9,16 @@ use Rattle.grid_laws.proofs.PigeonLemmas.{AreDifferent, at_least}
 pub record HasDifferentItems {T : Type 0} (xs : List T) : Type 0 where
   pub different : (i j : ℕ) → i < length xs → j < length xs → slice_get xs i ≡ slice_get xs j → i ≡ j
 
+-- nothing is done
+pub none_is_least : {T : Type 0} (xs ys : List T) → ys ≡ xs → IsLeast 0 xs ys
+unfolding origin
+none_is_least xs ys e =
+    let len = ap length e in
+    record {
+      reached = ([], refl, makes [] xs ys tt (omega arith) (λ k lt. ap (λ v. slice_get v k) (sym e)));
+      least = λ qs b. omega arith;
+    }
+
 -- the pairs f 0, g 0 to f (n - 1), g (n - 1)
 pub pairs : (ℕ → ℕ) → (ℕ → ℕ) → ℕ → List (ℕ × ℕ)
 pairs f g zero = []

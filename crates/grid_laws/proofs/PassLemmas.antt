@@ -155,14 +155,3 @@ mirror_whole n = record {
   below = λ x lt. omega arith;
   all = λ k lt up. (k, omega arith, refl);
 }
-
--- nothing is exchanged
-pub mirror_none : (n : ℕ) → IsMirror n 0 (λ k. k) (λ x. x)
-mirror_none n = record {
-  inside = λ k lt. lt;
-  back = λ k lt. refl;
-  different = identity_different 0;
-  earlier = λ x lt. absurd (omega arith);
-  below = λ x lt. absurd (omega arith);
-  all = λ k lt up. absurd (omega arith);
-}
