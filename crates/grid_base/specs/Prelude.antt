@@ -26,5 +26,5 @@ pub use Rattle.grid_base.specs.Symmetry.{source_row, source_col, image_rows, ima
 unfoldable pub use Rattle.grid_base.specs.Table.{tabulate, cells_by}
 pub use Rattle.grid_base.specs.Table.{row_count, col_count, cell, IsTable, IsSize, transposed, row, concat_rows, InRange, with_cell, with_cell_of, exchanged}
 pub use Rattle.grid_base.specs.Tally.{saturating_count, Counts, CanShift, HasShifted}
-pub use Rattle.grid_base.specs.Updated.{CallableFrom, UpdatedFrom}
+pub use Rattle.grid_base.specs.Updated.{CallableFrom, CallableAtTable, PairsUpTable, UpdatedFrom}
 pub use Rattle.std.specs.Fn.{FnReturnsAt}

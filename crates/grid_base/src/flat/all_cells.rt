@@ -1,6 +1,6 @@
 //! Calls on all cells of a `Flat`.
 ghost use Rattle.std.specs.Prelude.{[], ◌≡◌, ◌+◌, ◌*◌, ◌<◌, ◌≤◌, length, replicate, take, zip, vec_len, vec_capacity, Ok, IsOk, IfOk, IfErr, OnOk, OnErr};
-ghost use Rattle.grid_base.specs.Prelude.{FnReturnsAt, MapsTo, CallableAtEach, CallableAtRefs, CallableTimes, CallableAtCells, CallableAtItems, ReturnsAtCell, Generates, PairsUp, FailsFirst, CallableFrom, UpdatedFrom, positions_of, lines_of, ClonesAreEqual};
+ghost use Rattle.grid_base.specs.Prelude.{FnReturnsAt, MapsTo, CallableAtEach, CallableAtRefs, CallableTimes, CallableAtCells, CallableAtItems, ReturnsAtCell, Generates, PairsUp, FailsFirst, CallableFrom, CallableAtTable, PairsUpTable, UpdatedFrom, positions_of, lines_of, ClonesAreEqual};
 
 use super::Flat;
 use super::positions::Positions;
@@ -178,8 +178,13 @@ impl<T, A: Allocator> Flat<T, A> {
     {
         let alloc = self.cells.allocator().clone()?;
         let room = Vec::with_capacity(alloc, self.cells.len())?;
-        let made = mapped(room, self.cells.as_slice(), layout, &f);
-        Ok(Flat { cells: made })
+        let (_, width) = layout.lines();
+        let cells = if width < LONG_LINE {
+            map_in_turn(room, self.cells.as_slice(), layout, &f)
+        } else {
+            map_by_line(room, self.cells.as_slice(), layout, &f)
+        };
+        Ok(Flat { cells })
     }
 
     /// Replaces each cell of a table by what the closure returns at its position and a reference to it, in order.
@@ -208,11 +213,8 @@ impl<T, A: Allocator> Flat<T, A> {
 // Replaces each cell of a table by what the closure returns at its position and a reference to it, in one loop. It is
 // vectorised where the closure doesn't look at the position.
 fn update_in_turn<T: Drop, F: Fn((usize, usize), &T) -> T>(cells: &mut [T], layout: Layout, f: &F)
-    requires cells { length cells.old ≡ layout.rows * layout.cols }
-    requires calls { CallableAtCells F.pre f.now (zip (positions_of layout) cells.old) }
-    ensures len { length cells.new ≡ length cells.old }
-    ensures cells { PairsUp (ReturnsAtCell F.post f.now)
-        (zip (positions_of layout) cells.old) cells.new }
+    requires { CallableAtTable F.pre f.now layout cells.old }
+    ensures { PairsUpTable (ReturnsAtCell F.post f.now) layout cells.old cells.new }
 {
     let mut left = Positions::new(layout);
     for cell in cells.iter_mut() {
@@ -224,11 +226,8 @@ fn update_in_turn<T: Drop, F: Fn((usize, usize), &T) -> T>(cells: &mut [T], layo
 // Does the same, line by line along the storage. Where the closure doesn't look at the position and a cell is a byte,
 // the compiler joins the fills of the lines into one.
 fn update_by_line<T: Drop, F: Fn((usize, usize), &T) -> T>(cells: &mut [T], layout: Layout, f: &F)
-    requires cells { length cells.old ≡ layout.rows * layout.cols }
-    requires calls { CallableAtCells F.pre f.now (zip (positions_of layout) cells.old) }
-    ensures len { length cells.new ≡ length cells.old }
-    ensures cells { PairsUp (ReturnsAtCell F.post f.now)
-        (zip (positions_of layout) cells.old) cells.new }
+    requires { CallableAtTable F.pre f.now layout cells.old }
+    ensures { PairsUpTable (ReturnsAtCell F.post f.now) layout cells.old cells.new }
 {
     let (lines, _) = layout.lines();
     for line in 0..lines {
@@ -285,43 +284,18 @@ fn push_line<T, A: Allocator, F: Fn((usize, usize)) -> T>(
     cells
 }
 
-// Appends what the closure returns at each position and a reference to its cell.
-fn mapped<T, U, A: Allocator, F: Fn((usize, usize), &T) -> U>(
-    made: Vec<U, A>,
-    cells: &[T],
-    layout: Layout,
-    f: &F,
-) -> Vec<U, A>
-    requires cells { length cells.now ≡ layout.rows * layout.cols }
-    requires calls { CallableAtCells F.pre f.now (zip (positions_of layout) cells.now) }
-    requires none { made.items ≡ [] }
-    requires room { length cells.now ≤ vec_capacity made }
-    ensures len { length result.items ≡ length cells.now }
-    ensures cells { PairsUp (ReturnsAtCell F.post f.now)
-        (zip (positions_of layout) cells.now) result.items }
-{
-    let (_, width) = layout.lines();
-    if width < LONG_LINE {
-        map_in_turn(made, cells, layout, f)
-    } else {
-        map_by_line(made, cells, layout, f)
-    }
-}
-
-// Does so in one loop, which is vectorised where the closure doesn't look at the position. By value, as in `with_defaults`.
+// Appends what the closure returns at each position and a reference to its cell, in one loop, which is vectorised where
+// the closure doesn't look at the position. By value, as in `with_defaults`.
 fn map_in_turn<T, U, A: Allocator, F: Fn((usize, usize), &T) -> U>(
     mut made: Vec<U, A>,
     cells: &[T],
     layout: Layout,
     f: &F,
 ) -> Vec<U, A>
-    requires cells { length cells.now ≡ layout.rows * layout.cols }
-    requires calls { CallableAtCells F.pre f.now (zip (positions_of layout) cells.now) }
-    requires none { made.items ≡ [] }
-    requires room { length cells.now ≤ vec_capacity made }
+    requires table { CallableAtTable F.pre f.now layout cells.now }
+    requires room { (made.items ≡ []) × (length cells.now ≤ vec_capacity made) }
     ensures len { length result.items ≡ length cells.now }
-    ensures cells { PairsUp (ReturnsAtCell F.post f.now)
-        (zip (positions_of layout) cells.now) result.items }
+    ensures cells { PairsUpTable (ReturnsAtCell F.post f.now) layout cells.now result.items }
 {
     let mut left = Positions::new(layout);
     for cell in cells {
@@ -338,13 +312,10 @@ fn map_by_line<T, U, A: Allocator, F: Fn((usize, usize), &T) -> U>(
     layout: Layout,
     f: &F,
 ) -> Vec<U, A>
-    requires cells { length cells.now ≡ layout.rows * layout.cols }
-    requires calls { CallableAtCells F.pre f.now (zip (positions_of layout) cells.now) }
-    requires none { made.items ≡ [] }
-    requires room { length cells.now ≤ vec_capacity made }
+    requires table { CallableAtTable F.pre f.now layout cells.now }
+    requires room { (made.items ≡ []) × (length cells.now ≤ vec_capacity made) }
     ensures len { length result.items ≡ length cells.now }
-    ensures cells { PairsUp (ReturnsAtCell F.post f.now)
-        (zip (positions_of layout) cells.now) result.items }
+    ensures cells { PairsUpTable (ReturnsAtCell F.post f.now) layout cells.now result.items }
 {
     let (lines, _) = layout.lines();
     for line in 0..lines {

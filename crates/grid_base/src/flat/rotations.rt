@@ -1,5 +1,5 @@
 //! Parts of a slice that are reversed, and blocks that are side by side and change places. No tally counts it.
-ghost use Rattle.std.specs.Prelude.{◌≡◌, ◌<◌, ◌≤◌, ◌+◌, ◌^◌, ◌++◌, length, take, drop, reverse};
+ghost use Rattle.std.specs.Prelude.{◌<◌, ◌≤◌, ◌+◌, ◌^◌, length};
 ghost use Rattle.grid_base.specs.Prelude.{BlocksExchanged, BlockTaken, PartReversed};
 
 use std::mem;
@@ -12,36 +12,19 @@ const SHORT_PART: usize = 16;
 pub(super) const FEW_BYTES: usize = 1024;
 
 // Reverses the `n` cells from `start` on.
+#[tactic(auto, using(crate::proofs::PartLemmas::turning_none, crate::proofs::PartLemmas::turning_more, crate::proofs::PartLemmas::turning_all))]
 fn reverse_part<T>(cells: &mut [T], start: usize, n: usize)
     requires within { start + n ≤ length cells.old }
     requires fits { start + n < 2 ^ 64 }
     ensures { PartReversed start n cells.old cells.new }
 {
     if n < SHORT_PART {
-        reverse_in_turn(cells, start, n);
+        for i in 0..n / 2 {
+            cells.swap(start + i, start + (n - 1 - i));
+        }
     } else {
-        reverse_at_once(cells, start, n);
+        cells[start..start + n].reverse();
     }
-}
-
-#[tactic(auto, using(crate::proofs::PartLemmas::turning_none, crate::proofs::PartLemmas::turning_more, crate::proofs::PartLemmas::turning_all))]
-fn reverse_in_turn<T>(cells: &mut [T], start: usize, n: usize)
-    requires within { start + n ≤ length cells.old }
-    requires fits { start + n < 2 ^ 64 }
-    ensures { PartReversed start n cells.old cells.new }
-{
-    for i in 0..n / 2 {
-        cells.swap(start + i, start + (n - 1 - i));
-    }
-}
-
-fn reverse_at_once<T>(cells: &mut [T], start: usize, n: usize)
-    requires within { start + n ≤ length cells.old }
-    requires fits { start + n < 2 ^ 64 }
-    ensures { cells.new ≡ take start cells.old
-        ++ reverse (take n (drop start cells.old)) ++ drop (start + n) cells.old }
-{
-    cells[start..start + n].reverse();
 }
 
 // Exchanges the `first` cells from `start` on with the `second` cells behind them: few by three reversals, which need no

@@ -8,10 +8,10 @@ loop-cell-init g c =
     record {
       done = [];
       split = ap (λ l. zip l c.args.cells.now) c.new-left.ensures;
-      positions_left = omega (arith, ap length c.new-left.ensures, length-places c.args.layout.order c.args.layout.rows c.args.layout.cols c.args.layout.size, c.requires.cells);
-      count = omega (arith, ap length c.requires.none);
-      room = c.requires.room;
-      answers = rw c.requires.none tt;
+      positions_left = omega (arith, ap length c.new-left.ensures, length-places c.args.layout.order c.args.layout.rows c.args.layout.cols c.args.layout.size, c.requires.table.0);
+      count = omega (arith, ap length c.requires.room.0);
+      room = c.requires.room.1;
+      answers = rw c.requires.room.0 tt;
     }
 
 pub loop-cell-preserved : goal.loop-cell-preserved
@@ -42,7 +42,7 @@ f-requires g c =
     let s = c.pass-at.ensures in
     let cut = drop_more cells c.loop-cell.cell-index c.cell-item.result lt ∙ ap (λ z. z ∷ drop (c.loop-cell.cell-index + 1) cells) (sym c.cell-item.is) in
     let all = zip (positions_of c.args.layout) cells in
-    callable_cell _ c.args.f.now all i.done _ c.pass-at.result _ c.requires.calls (rw (s, cut) at i.split)
+    callable_cell _ c.args.f.now all i.done _ c.pass-at.result _ c.requires.table.1 (rw (s, cut) at i.split)
 
 pub returns-clause-cells : goal.returns-clause-cells
 returns-clause-cells g c =

@@ -8,7 +8,7 @@ loop-cell-init g c =
     record {
       done = [];
       split = ap (λ l. zip l c.args.cells.now) c.new-left.ensures;
-      positions_left = omega (arith, ap length c.new-left.ensures, length-places c.args.layout.order c.args.layout.rows c.args.layout.cols c.args.layout.size, c.requires.cells);
+      positions_left = omega (arith, ap length c.new-left.ensures, length-places c.args.layout.order c.args.layout.rows c.args.layout.cols c.args.layout.size, c.requires.0);
       answers = tt;
     }
 
@@ -40,10 +40,10 @@ f-requires g c =
     let cut : drop k cells ≡ get_or cells k c.cell-item.result ∷ drop (k + 1) cells =
     drop_more cells k c.cell-item.result lt in
     let all = zip (positions_of c.args.layout) c.args.cells.now in
-    callable_cell _ c.args.f.now all i.done _ c.pass-at.result _ c.requires.calls (rw (s, cut) at i.split)
+    callable_cell _ c.args.f.now all i.done _ c.pass-at.result _ c.requires.1 (rw (s, cut) at i.split)
 
-pub returns-clause-cells : goal.returns-clause-cells
-returns-clause-cells g c =
+pub returns : goal.returns
+returns g c =
     let i = c.loop-cell.invariant in
     let cells = c.loop-cell.cells in
     let k = c.loop-cell.cell-index in
