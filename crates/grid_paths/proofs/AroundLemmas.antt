@@ -6,7 +6,7 @@ use Rattle.grid_near.specs.declared.steps.Steps.TheVariants.{Sides, All}
 use Rattle.grid_paths.specs.Walks.{DifferByOne, AreBeside, AreDiagonal}
 use Rattle.grid_paths.specs.Around.{AreSteps}
 
-pub same_pair : (a b : ℕ × ℕ) → a.0 ≡ b.0 → a.1 ≡ b.1 → a ≡ b
+pub same_pair : {X : Type 0} (a b : X × X) → a.0 ≡ b.0 → a.1 ≡ b.1 → a ≡ b
 same_pair a b p q = λ i. (p i, q i)
 
 pub Contains-cases : {X : Type 0} (x z : X) (xs : List X) → Contains (x ∷ xs) z → (x ≡ z) ⊎ Contains xs z
@@ -19,21 +19,10 @@ Contains-first x z xs e = (0, omega arith, e)
 pub Contains-later : {X : Type 0} (x z : X) (xs : List X) → Contains xs z → Contains (x ∷ xs) z
 Contains-later x z xs c = let lt = c.1 in (suc c.0, omega (arith, lt), c.2)
 
--- one number of a row or a column, the one before it, which wraps below 0, and the one after it
-module _ (at b : ℕ) (small : at + 1 < 2 ^ 64) (fits : b + 1 < 2 ^ 64) where
-  abbrev before : ℕ
-  before = (at + (2 ^ 64 - 1)) % 2 ^ 64
+pub none_in : {X : Type 0} (z : X) → Contains [] z → ⊥
+none_in z c = omega (arith, c.1)
 
-  near : DifferByOne at b → (before ≡ b) ⊎ (at + 1 ≡ b)
-  near d = ⊎_elim (λ e. inr e) (λ e. let is : (at + (2 ^ 64 - 1)) % 2 ^ 64 ≡ b = omega arith in inl is) d
-
-  from_before : before ≡ b → DifferByOne at b
-  from_before e = let is : b + 1 ≡ at = omega arith in inr is
-
-  from_after : at + 1 ≡ b → DifferByOne at b
-  from_after e = inl e
-
--- what is in four and in eight
+-- what is in four
 module _ {X : Type 0} (x1 x2 x3 x4 z : X) (xs : List X) where
   abbrev pub Four : Type 0
   Four = ((x1 ≡ z) ⊎ (x2 ≡ z)) ⊎ ((x3 ≡ z) ⊎ (x4 ≡ z))
@@ -61,6 +50,71 @@ module _ {X : Type 0} (x1 x2 x3 x4 z : X) (xs : List X) where
       (λ l. ⊎_elim (λ e. a1 (a2 (Contains-first x3 z (x4 ∷ xs) e))) (λ e. a1 (a2 (a3 (Contains-first x4 z xs e)))) l)
       h
 
+-- and in eight
+module _ {X : Type 0} (x1 x2 x3 x4 x5 x6 x7 x8 z : X) where
+  pub eight_of : Contains (x1 ∷ x2 ∷ x3 ∷ x4 ∷ x5 ∷ x6 ∷ x7 ∷ x8 ∷ []) z → Four x1 x2 x3 x4 z [] ⊎ Four x5 x6 x7 x8 z []
+  eight_of c =
+      ⊎_elim (λ h. inl h) (λ more. ⊎_elim (λ h. inr h) (λ none. absurd (none_in z none)) (four_of x5 x6 x7 x8 z [] more))
+      (four_of x1 x2 x3 x4 z (x5 ∷ x6 ∷ x7 ∷ x8 ∷ []) c)
+
+  pub of_eight : Four x1 x2 x3 x4 z [] ⊎ Four x5 x6 x7 x8 z [] → Contains (x1 ∷ x2 ∷ x3 ∷ x4 ∷ x5 ∷ x6 ∷ x7 ∷ x8 ∷ []) z
+  of_eight h =
+      ⊎_elim (λ f. of_four x1 x2 x3 x4 z (x5 ∷ x6 ∷ x7 ∷ x8 ∷ []) f) (λ f. later_four x1 x2 x3 x4 z (x5 ∷ x6 ∷ x7 ∷ x8 ∷ []) (of_four x5 x6 x7 x8 z [] f)) h
+
+-- of a row or a column with the number `at`: what stands for the one before it, for itself and for the one after it, and
+-- what for the number b
+pub record Axis {X : Type 0} (at b : ℕ) (before mid after there : X) : Type 0 where
+  pub beside : DifferByOne at b → (before ≡ there) ⊎ (after ≡ there)
+  pub from_before : before ≡ there → DifferByOne at b
+  pub from_after : after ≡ there → DifferByOne at b
+  pub same : at ≡ b → mid ≡ there
+  pub from_same : mid ≡ there → at ≡ b
+
+module _ {X : Type 0} {row col : ℕ} {b : ℕ × ℕ} {up here down left mid right r c : X} (R : Axis row b.0 up here down r) (C : Axis col b.1 left mid right c) where
+  pub sides_of : AreBeside (row, col) b → Four {X = X × X} (up, mid) (here, left) (here, right) (down, mid) (r, c) []
+  sides_of h =
+      ⊎_elim (λ w.
+      let is = R.same w.0 in
+      ⊎_elim (λ e. inl (inr (same_pair (here, left) (r, c) is e))) (λ e. inr (inl (same_pair (here, right) (r, c) is e))) (C.beside w.1))
+      (λ w.
+      let is = C.same w.0 in
+      ⊎_elim (λ e. inl (inl (same_pair (up, mid) (r, c) e is))) (λ e. inr (inr (same_pair (down, mid) (r, c) e is))) (R.beside w.1))
+      h
+
+  pub of_sides : Four {X = X × X} (up, mid) (here, left) (here, right) (down, mid) (r, c) [] → AreBeside (row, col) b
+  of_sides h =
+      ⊎_elim (λ l. ⊎_elim (λ e. inr (C.from_same (ap (λ x. x.1) e), R.from_before (ap (λ x. x.0) e)))
+      (λ e. inl (R.from_same (ap (λ x. x.0) e), C.from_before (ap (λ x. x.1) e))) l)
+      (λ l. ⊎_elim (λ e. inl (R.from_same (ap (λ x. x.0) e), C.from_after (ap (λ x. x.1) e)))
+      (λ e. inr (C.from_same (ap (λ x. x.1) e), R.from_after (ap (λ x. x.0) e))) l)
+      h
+
+  pub corners_of : AreDiagonal (row, col) b → Four {X = X × X} (up, left) (up, right) (down, left) (down, right) (r, c) []
+  corners_of h =
+      let beside = C.beside h.1 in
+      ⊎_elim (λ e. ⊎_elim (λ f. inl (inl (same_pair (up, left) (r, c) e f))) (λ f. inl (inr (same_pair (up, right) (r, c) e f))) beside)
+      (λ e. ⊎_elim (λ f. inr (inl (same_pair (down, left) (r, c) e f))) (λ f. inr (inr (same_pair (down, right) (r, c) e f))) beside)
+      (R.beside h.0)
+
+  pub of_corners : Four {X = X × X} (up, left) (up, right) (down, left) (down, right) (r, c) [] → AreDiagonal (row, col) b
+  of_corners h =
+      ⊎_elim (λ l. ⊎_elim (λ e. (R.from_before (ap (λ x. x.0) e), C.from_before (ap (λ x. x.1) e)))
+      (λ e. (R.from_before (ap (λ x. x.0) e), C.from_after (ap (λ x. x.1) e))) l)
+      (λ l. ⊎_elim (λ e. (R.from_after (ap (λ x. x.0) e), C.from_before (ap (λ x. x.1) e)))
+      (λ e. (R.from_after (ap (λ x. x.0) e), C.from_after (ap (λ x. x.1) e))) l)
+      h
+
+-- the number before one wraps below 0
+wrapped : (at b : ℕ) → at + 1 < 2 ^ 64 → b + 1 < 2 ^ 64 → Axis at b ((at + (2 ^ 64 - 1)) % 2 ^ 64) at (at + 1) b
+wrapped at b small fits =
+    record {
+      beside = λ d. ⊎_elim (λ e. inr e) (λ e. let is : (at + (2 ^ 64 - 1)) % 2 ^ 64 ≡ b = omega arith in inl is) d;
+      from_before = λ e. let is : b + 1 ≡ at = omega arith in inr is;
+      from_after = λ e. inl e;
+      same = λ e. e;
+      from_same = λ e. e;
+    }
+
 module _ (row col : ℕ) (row_in : row + 1 < 2 ^ 64) (col_in : col + 1 < 2 ^ 64) where
   abbrev pub up : ℕ
   up = (row + (2 ^ 64 - 1)) % 2 ^ 64
@@ -68,57 +122,21 @@ module _ (row col : ℕ) (row_in : row + 1 < 2 ^ 64) (col_in : col + 1 < 2 ^ 64)
   abbrev pub left : ℕ
   left = (col + (2 ^ 64 - 1)) % 2 ^ 64
 
-  module _ (b : ℕ × ℕ) (fits0 : b.0 + 1 < 2 ^ 64) (fits1 : b.1 + 1 < 2 ^ 64) where
-    sides_of : AreBeside (row, col) b → Four (up, col) (row, left) (row, col + 1) (row + 1, col) b []
-    sides_of h =
-        ⊎_elim (λ w.
-        ⊎_elim (λ e. inl (inr (same_pair (row, left) b w.0 e))) (λ e. inr (inl (same_pair (row, col + 1) b w.0 e)))
-        (near col b.1 col_in fits1 w.1))
-        (λ w.
-        ⊎_elim (λ e. inl (inl (same_pair (up, col) b e w.0))) (λ e. inr (inr (same_pair (row + 1, col) b e w.0)))
-        (near row b.0 row_in fits0 w.1))
-        h
-
-    of_sides : Four (up, col) (row, left) (row, col + 1) (row + 1, col) b [] → AreBeside (row, col) b
-    of_sides h =
-        ⊎_elim (λ l. ⊎_elim (λ e. inr (ap (λ x. x.1) e, from_before row b.0 row_in fits0 (ap (λ x. x.0) e)))
-        (λ e. inl (ap (λ x. x.0) e, from_before col b.1 col_in fits1 (ap (λ x. x.1) e))) l)
-        (λ l. ⊎_elim (λ e. inl (ap (λ x. x.0) e, from_after col b.1 col_in fits1 (ap (λ x. x.1) e)))
-        (λ e. inr (ap (λ x. x.1) e, from_after row b.0 row_in fits0 (ap (λ x. x.0) e))) l)
-        h
-
-    corners_of : AreDiagonal (row, col) b → Four (up, left) (up, col + 1) (row + 1, left) (row + 1, col + 1) b []
-    corners_of h =
-        let beside = near col b.1 col_in fits1 h.1 in
-        ⊎_elim (λ e. ⊎_elim (λ f. inl (inl (same_pair (up, left) b e f))) (λ f. inl (inr (same_pair (up, col + 1) b e f))) beside)
-        (λ e. ⊎_elim (λ f. inr (inl (same_pair (row + 1, left) b e f))) (λ f. inr (inr (same_pair (row + 1, col + 1) b e f))) beside)
-        (near row b.0 row_in fits0 h.0)
-
-    of_corners : Four (up, left) (up, col + 1) (row + 1, left) (row + 1, col + 1) b [] → AreDiagonal (row, col) b
-    of_corners h =
-        ⊎_elim (λ l. ⊎_elim (λ e. (from_before row b.0 row_in fits0 (ap (λ x. x.0) e), from_before col b.1 col_in fits1 (ap (λ x. x.1) e)))
-        (λ e. (from_before row b.0 row_in fits0 (ap (λ x. x.0) e), from_after col b.1 col_in fits1 (ap (λ x. x.1) e))) l)
-        (λ l. ⊎_elim (λ e. (from_after row b.0 row_in fits0 (ap (λ x. x.0) e), from_before col b.1 col_in fits1 (ap (λ x. x.1) e)))
-        (λ e. (from_after row b.0 row_in fits0 (ap (λ x. x.0) e), from_after col b.1 col_in fits1 (ap (λ x. x.1) e))) l)
-        h
-
-  none_in : {X : Type 0} (z : X) → Contains [] z → ⊥
-  none_in z c = omega (arith, c.1)
-
   pub AreSteps-sides : AreSteps Sides (row, col) ((up, col) ∷ (row, left) ∷ (row, col + 1) ∷ (row + 1, col) ∷ [])
-  AreSteps-sides b fits0 fits1 = (
-    λ c. ⊎_elim (λ h. of_sides b fits0 fits1 h) (λ none. absurd (none_in b none)) (four_of _ _ _ _ b [] c),
-    λ s. of_four _ _ _ _ b [] (sides_of b fits0 fits1 s),
-  )
+  AreSteps-sides b fits0 fits1 =
+      let R = wrapped row b.0 row_in fits0 in
+      let C = wrapped col b.1 col_in fits1 in (
+        λ c. ⊎_elim (λ h. of_sides R C h) (λ none. absurd (none_in b none)) (four_of _ _ _ _ b [] c),
+        λ s. of_four _ _ _ _ b [] (sides_of R C s),
+      )
 
   pub AreSteps-all : AreSteps All (row, col) ((up, col) ∷ (row, left) ∷ (row, col + 1) ∷ (row + 1, col) ∷ (up, left) ∷ (up, col + 1) ∷ (row + 1, left) ∷ (row + 1, col + 1) ∷ [])
-  AreSteps-all b fits0 fits1 = (
-    λ c. ⊎_elim (λ h. inl (of_sides b fits0 fits1 h))
-        (λ more. ⊎_elim (λ h. inr (of_corners b fits0 fits1 h)) (λ none. absurd (none_in b none)) (four_of _ _ _ _ b [] more))
-        (four_of _ _ _ _ b ((up, left) ∷ (up, col + 1) ∷ (row + 1, left) ∷ (row + 1, col + 1) ∷ []) c),
-    λ s. ⊎_elim (λ h. of_four _ _ _ _ b ((up, left) ∷ (up, col + 1) ∷ (row + 1, left) ∷ (row + 1, col + 1) ∷ []) (sides_of b fits0 fits1 h))
-        (λ h. later_four _ _ _ _ b ((up, left) ∷ (up, col + 1) ∷ (row + 1, left) ∷ (row + 1, col + 1) ∷ []) (of_four _ _ _ _ b [] (corners_of b fits0 fits1 h))) s,
-  )
+  AreSteps-all b fits0 fits1 =
+      let R = wrapped row b.0 row_in fits0 in
+      let C = wrapped col b.1 col_in fits1 in (
+        λ c. ⊎_elim (λ h. inl (of_sides R C h)) (λ h. inr (of_corners R C h)) (eight_of _ _ _ _ _ _ _ _ b c),
+        λ s. of_eight _ _ _ _ _ _ _ _ b (⊎_elim (λ h. inl (sides_of R C h)) (λ h. inr (corners_of R C h)) s),
+      )
 
 -- what is read is contained
 pub Contains-from_get : (starts : List (ℕ × ℕ)) (j : ℕ) (a : ℕ × ℕ) → slice_get starts j ≡ Some a → Contains starts a

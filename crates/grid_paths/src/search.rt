@@ -67,16 +67,6 @@ impl<A: Allocator> Search<A> {
     }
 }
 
-// Whether the search is for this position.
-fn is_goal(goal: Option<(usize, usize)>, at: (usize, usize)) -> bool
-    ensures { IsTrue result → goal ≡ Some at }
-{
-    match goal {
-        Some(goal) => goal.0 == at.0 && goal.1 == at.1,
-        None => false,
-    }
-}
-
 // Drops the positions before `next` once they are many, and no fewer than the others; returns the place that `next` has
 // then. So the queue stays short, and there are no more moves than positions.
 fn trim<A: Allocator>(queue: &mut Vec<(usize, usize), A>, next: usize) -> usize
@@ -116,7 +106,7 @@ pub(crate) fn search_from<A: Allocator + Clone>(
     let mut next = 0;
     while next < search.steps.queue.len() {
         let at = search.steps.queue[next];
-        if is_goal(goal, at) {
+        if goal == Some(at) {
             let steps = search.steps;
             return Ok(steps.numbers);
         }

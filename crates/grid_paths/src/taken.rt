@@ -50,14 +50,8 @@ impl<T: Copy + PartialEq + Drop, A: Allocator> Taking<T, A> {
             return Enter::On;
         }
         match &self.cells.stop {
-            Some(stop) => {
-                if *cell == *stop {
-                    Enter::Stop
-                } else {
-                    Enter::No
-                }
-            }
-            None => Enter::No,
+            Some(stop) if *cell == *stop => Enter::Stop,
+            _ => Enter::No,
         }
     }
 

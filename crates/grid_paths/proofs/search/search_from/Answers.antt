@@ -1,4 +1,4 @@
-use Rattle.std.proofs.Common.{◌≡◌, true, ℕ, ◌<◌, ◌≤◌, ◌+◌, ◌*◌, Option, Some, None, length, get_or, [], ◌∷◌, ◌++◌, Contains, refl, sym, ◌∙◌, ap, subst, arith, slice_get, length-append}
+use Rattle.std.proofs.Common.{◌≡◌, true, ℕ, ◌<◌, ◌≤◌, ◌+◌, ◌*◌, Option, Some, None, length, get_or, [], ◌∷◌, ◌++◌, Contains, refl, sym, ◌∙◌, ap, subst, arith, rules, slice_get, length-append}
 use Rattle.grid_base.proofs.Common.{slice_get-get_or, row_count, col_count, cell}
 use Rattle.grid_paths.specs.Walks.{IsOpen, HasLeastFrom}
 use Rattle.grid_paths.specs.Search.{IsMarked}
@@ -125,8 +125,8 @@ returns-clause-settled g c =
     IsSettled-end c.args.kind floor from u
     (HasLeastSteps-one c.args.kind floor from u (subst (λ x. HasLeastFrom c.args.kind floor x u) one least)) to
 
-pub returns-then-is_goal-clause-settled : goal.returns-then-is_goal-clause-settled
-returns-then-is_goal-clause-settled g c =
+pub returns-then-eq-clause-settled : goal.returns-then-eq-clause-settled
+returns-then-eq-clause-settled g c =
     λ from to one is.
     let floor = c.args.floor.rows in
     let l = c.loop-next in
@@ -134,7 +134,7 @@ returns-then-is_goal-clause-settled g c =
     let u = w.numbers.rows in
     let a = c.index-at.result.now in
     let v = next_at l.invariant.search a (omega (arith, w.queue.ok.0)) c.index-at.ensures in
-    let here : c.args.goal ≡ Some a = c.if-is_goal.ensures refl in
+    let here : c.args.goal ≡ Some a = search rules in
     let both : ◌≡◌ {A = Option (ℕ × ℕ)} (Some a) (Some to) = sym here ∙ is in
     let same : a ≡ to = cc in
     let mark : IsMarked u to v.1.0 = subst (λ x. IsMarked u x v.1.0) same v.1.1 in
