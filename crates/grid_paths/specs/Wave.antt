@@ -15,7 +15,8 @@ module _ {A : Type 0} where
   pub record IsBlank {T : Type 0} (grid : GridValue T) (w : Wave A) : Type 0 where
     pub order : w.numbers.order ≡ grid.order
     pub size : HaveOneSize w.numbers.rows grid.rows
-    pub none : w.numbers.rows ≡ tabulate (row_count grid.rows) (col_count grid.rows) (λ _ _. Some None)
+    pub none : w.numbers.rows
+        ≡ tabulate (row_count grid.rows) (col_count grid.rows) (λ _ _. Some None)
     pub queue : w.queue.items ≡ []
 
   -- the position b got the number k, and came to the end of the queue
