@@ -110,10 +110,9 @@ fn write_record(writer: &mut Writer<Vec<u8>>, fields: &ByteRecord) -> Result<(),
     ensures { OnOk result ((bytes : List ℕ) → HasWritten writer.old bytes
         → HasWritten writer.new (bytes ++ row_text default_writer (fields_of fields.now))) }
 {
-    match writer.write_byte_record(fields) {
-        Ok(()) => Ok(()),
-        Err(_) => Err(AllocError),
-    }
+    writer
+        .write_byte_record(fields)
+        .map_err(|_error| AllocError)
 }
 
 // Returns what was written, which is text.

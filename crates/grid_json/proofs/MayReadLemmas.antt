@@ -1,21 +1,29 @@
 -- What may be read by one relation may be read by one that allows more.
-use Rattle.std.proofs.Common.{inl, inr, ℕ, Option, Some, Result, Ok, Err, List, length, None}
-use Rattle.grid_base.proofs.Common.{GridValue}
+use Rattle.std.proofs.Common.{inl, inr, ℕ, Option, Some, Result, Ok, Err, List, [], ◌∷◌, length, None}
+use Rattle.grid_base.proofs.Common.{AllZip, GridValue}
 use Rattle.serde_json.specs.Data.{Data}
 use Rattle.grid_json.specs.declared.error.RowsError.{RowsError}
 use Rattle.grid_json.specs.declared.error.RowsError.TheVariants.{Memory, NotRows, NotRow, BadCell, Ragged}
-use Rattle.grid_json.proofs.RowsLemmas.{zip_more}
 use Rattle.grid_json.specs.Rows.{AreCells, AreRows, IsBadCell, IsBadRow, IsFault, IsRow, MayRead, MayReadItems}
 
 module _ {T : Type 0} (R S : Data → Option T → Type 0) (more : (d : Data) (cell : Option T) → R d cell → S d cell) where
   cells_more : (items : List Data) (row : List T) → AreCells R items row → AreCells S items row
-  cells_more items row are = zip_more (λ d cell. R d (Some cell)) (λ d cell. S d (Some cell)) (λ d cell. more d (Some cell)) items row are
+  cells_more [] [] are = tt
+  cells_more [] (cell ∷ row) are = absurd are
+  cells_more (d ∷ items) [] are = absurd are
+  cells_more (d ∷ items) (cell ∷ row) are = (more d (Some cell) are.0, cells_more items row are.1)
 
   row_more : (d : Data) (row : List T) → IsRow R d row → IsRow S d row
   row_more d row r = record { items = r.items; is = r.is; are_cells = cells_more r.items row r.are_cells }
 
+  lines_more : (items : List Data) (rows : List (List T)) → AllZip (IsRow R) items rows → AllZip (IsRow S) items rows
+  lines_more [] [] are = tt
+  lines_more [] (row ∷ rows) are = absurd are
+  lines_more (d ∷ items) [] are = absurd are
+  lines_more (d ∷ items) (row ∷ rows) are = (row_more d row are.0, lines_more items rows are.1)
+
   rows_more : (items : List Data) (cols : ℕ) (rows : List (List T)) → AreRows R items cols rows → AreRows S items cols rows
-  rows_more items cols rows r = record { are_rows = zip_more (IsRow R) (IsRow S) row_more items rows r.are_rows; even = r.even }
+  rows_more items cols rows r = record { are_rows = lines_more items rows r.are_rows; even = r.even }
 
   bad_cell_more : (d : Data) (col : ℕ) → IsBadCell R d col → IsBadCell S d col
   bad_cell_more d col b = record {

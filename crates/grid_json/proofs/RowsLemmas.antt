@@ -1,6 +1,7 @@
 -- An array of what was written of each item.
 use Rattle.std.proofs.Common.{◌≡◌, List, [], ◌∷◌, ◌++◌, map, sym, ap, subst, ◌∙◌, append_assoc, append-nil}
-use Rattle.grid_base.proofs.Common.{AllZip, AllZip-map, map-append}
+use Rattle.grid_base.proofs.Common.{AllZip, map-append}
+use Rattle.grid_base.proofs.ClosureLemmas.{pairs_pure}
 use Rattle.serde_json.specs.Data.{Data}
 use Rattle.serde_json.specs.View.{view}
 use Rattle.serde_json.specs.declared.value.Value.{Value}
@@ -28,21 +29,14 @@ module _ {X : Type 0} (R : X → Data → Type 0) (all : List X) where
     pub values_end : left ≡ [] → AllZip R all (map view values)
     values_end none = subst (λ xs. AllZip R xs (map view values)) (sym (i.parts ∙ (ap (λ xs. i.before ++ xs) none ∙ append-nil i.before))) i.are
 
-pub zip_more : {A B : Type 0} (R S : A → B → Type 0) → ((x : A) (y : B) → R x y → S x y) → (xs : List A) (ys : List B) → AllZip R xs ys → AllZip S xs ys
-zip_more R S more [] [] all = tt
-zip_more R S more [] (y ∷ ys) all = absurd all
-zip_more R S more (x ∷ xs) [] all = absurd all
-zip_more R S more (x ∷ xs) (y ∷ ys) all = (more x y all.0, zip_more R S more xs ys all.1)
-
 -- what may be written is what a function writes, where it gives whatever may be written
 module _ {T : Type 0} (R : T → Data → Type 0) (h : T → Data) (by : (x : T) (d : Data) → R x d → d ≡ h x) where
   items_are : (row : List T) (items : List Data) → AllZip R row items → items ≡ map h row
-  items_are row items all = AllZip-map h row items (zip_more R (λ x d. d ≡ h x) by row items all)
+  items_are row items all = pairs_pure {R = R} {xs = row} {ys = items} (record { places = all }) h by
 
   rows_are : (rows : List (List T)) (items : List Data) → AllZip (MayBeRow R) rows items → items ≡ map (λ row. array_of (map h row)) rows
   rows_are rows items all =
-      AllZip-map (λ row. array_of (map h row)) rows items
-      (zip_more (MayBeRow R) (λ row d. d ≡ array_of (map h row)) (λ row d m. m.is ∙ ap array_of (items_are row m.items m.are_items)) rows items all)
+      pairs_pure {R = MayBeRow R} {xs = rows} {ys = items} (record { places = all }) (λ row. array_of (map h row)) (λ row d m. m.is ∙ ap array_of (items_are row m.items m.are_items))
 
   pub is_rows : (rows : List (List T)) (d : Data) → MayBeRows R rows d → IsRows h rows d
   is_rows rows d m = record { is = m.is ∙ ap array_of (rows_are rows m.items m.are_items) }
