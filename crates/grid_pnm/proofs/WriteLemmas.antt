@@ -1,8 +1,8 @@
 -- The samples of cells, one after another.
-use Rattle.std.proofs.Common.{◌≡◌, ℕ, ◌+◌, List, [], ◌∷◌, ◌++◌, map, take, codes, refl, subst, ap, sym, ◌∙◌, append_assoc}
+use Rattle.std.proofs.Common.{◌≡◌, ℕ, ◌+◌, List, [], ◌∷◌, ◌++◌, take, codes, subst, ap, sym, ◌∙◌, append_assoc}
 use Rattle.std.proofs.lemmas.List.Folds.{flat_map-map}
 use Rattle.grid_base.proofs.Common.{AllZip, row_count, col_count, concat_rows}
-use Rattle.grid_base.proofs.ClosureLemmas.{AllZip-append}
+use Rattle.grid_base.proofs.ClosureLemmas.{AllZip-append, pairs_pure}
 use Rattle.grid.proofs.ConversionLemmas.{AllZip-concat_rows}
 use Rattle.grid_pnm.specs.Writing.{MayDrawGrays, MayDrawColors, raw_picture, pgm_bytes, ppm_bytes}
 use Rattle.grid_pnm.proofs.LawLemmas.{flat-mapped, raster-concat}
@@ -21,19 +21,12 @@ module _ {T X : Type 0} (R : T → X → Type 0) (joined : List X → List ℕ) 
       subst P e (so_far (answers ++ rest) (subst (λ xs. AllZip R xs (answers ++ rest)) (sym is) (AllZip-concat_rows R part later answers rest gave m)))
 
 -- where h gives each answer, the picture that may be drawn is that of h
-module _ {T X : Type 0} (R : T → X → Type 0) (h : T → X) (said : (x : T) (y : X) → R x y → y ≡ h x) where
-  all_said : (xs : List T) (ys : List X) → AllZip R xs ys → ys ≡ map h xs
-  all_said [] [] m = refl
-  all_said [] (y ∷ ys) m = absurd m
-  all_said (x ∷ xs) [] m = absurd m
-  all_said (x ∷ xs) (y ∷ ys) m = ap (λ z. z ∷ ys) (said x y m.0) ∙ ap (λ zs. h x ∷ zs) (all_said xs ys m.1)
-
 pub drawn_grays : {T : Type 0} (R : T → ℕ → Type 0) (h : T → ℕ) → ((x : T) (y : ℕ) → R x y → y ≡ h x) → (rows : List (List T)) (bytes : List ℕ) → MayDrawGrays R rows bytes → bytes ≡ pgm_bytes h rows
 drawn_grays R h said rows bytes drawn =
-    drawn.is_picture ∙ ap (raw_picture (codes "P5") (row_count rows) (col_count rows)) (all_said R h said (concat_rows rows) drawn.samples drawn.are_samples ∙ sym (flat-mapped h rows))
+    drawn.is_picture ∙ ap (raw_picture (codes "P5") (row_count rows) (col_count rows)) (pairs_pure {R = R} {xs = concat_rows rows} {ys = drawn.samples} (record { places = drawn.are_samples }) h said ∙ sym (flat-mapped h rows))
 
 pub drawn_colors : {T : Type 0} (R : T → List ℕ → Type 0) (h : T → List ℕ) → ((x : T) (y : List ℕ) → R x y → y ≡ h x) → (rows : List (List T)) (bytes : List ℕ) → MayDrawColors R rows bytes → bytes ≡ ppm_bytes h rows
 drawn_colors R h said rows bytes drawn =
     let cells = concat_rows rows in
     drawn.is_picture
-    ∙ ap (raw_picture (codes "P6") (row_count rows) (col_count rows)) (ap concat_rows (all_said R h said cells drawn.colors drawn.are_colors) ∙ (flat_map-map (λ color. color) h cells ∙ sym (raster-concat h rows)))
+    ∙ ap (raw_picture (codes "P6") (row_count rows) (col_count rows)) (ap concat_rows (pairs_pure {R = R} {xs = cells} {ys = drawn.colors} (record { places = drawn.are_colors }) h said) ∙ (flat_map-map (λ color. color) h cells ∙ sym (raster-concat h rows)))
