@@ -333,9 +333,8 @@ fn push_mapped<T, U, A: Allocator, F: Fn((usize, usize), &T) -> U>(
     line: usize,
     f: &F,
 )
-    requires cells { length cells.now ≡ layout.rows * layout.cols }
+    requires table { CallableAtTable F.pre f.now layout cells.now }
     requires line { line < (lines_of layout).0 }
-    requires calls { CallableAtCells F.pre f.now (zip (positions_of layout) cells.now) }
     requires room { layout.rows * layout.cols ≤ vec_capacity mapped.old }
     requires passed { vec_len mapped.old ≡ line * (lines_of layout).1 }
     requires answers { PairsUp (ReturnsAtCell F.post f.now)

@@ -3,7 +3,6 @@ ghost use Rattle.std.specs.Prelude.{◌≡◌, ◌+◌, ◌-◌, ◌≤◌, [], 
 ghost use Rattle.grid_base.specs.Prelude.{AppendsEach};
 
 use super::Flat;
-use core::mem::replace_with;
 use std::alloc::{AllocError, Allocator};
 use std::mem::replace;
 
@@ -41,20 +40,10 @@ impl<T, A: Allocator> Flat<T, A> {
         replace(&mut self.cells, with_defaults(cells, count)).destroy_empty();
         Ok(())
     }
-
-    // Moves the cells from `at` on to the end of `into`, which has room for them, and returns it. Each is moved twice.
-    pub(super) fn move_tail(&mut self, at: usize, into: Vec<T, A>) -> Vec<T, A>
-        requires within { at ≤ length self.old }
-        requires room { vec_len into + (length self.old - at) ≤ vec_capacity into }
-        ensures cells { self.new ≡ take at self.old }
-        ensures tail { result.items ≡ into.items ++ drop at self.old }
-    {
-        replace_with(&mut self.cells, (into, at), without_tail)
-    }
 }
 
 // The cells before `at`, and the vector that takes the others to its end. Both are taken by value, as in `with_defaults`.
-fn without_tail<T, A: Allocator>(
+pub(super) fn without_tail<T, A: Allocator>(
     mut cells: Vec<T, A>,
     to: (Vec<T, A>, usize),
 ) -> (Vec<T, A>, Vec<T, A>)

@@ -16,10 +16,12 @@ ghost use Rattle.grid_base.specs.Tally.{saturating_count};
 ghost use Rattle.grid_base.specs.declared.flat.groups.Method.TheVariants.{Nothing, Singly, ThroughRoom, ByHalves};
 
 use super::counted::{move_back, move_forward};
+use super::ends::without_tail;
 use super::room::{Way, move_through_room};
 use super::rotations::{FEW_BYTES, exchange_at_once, exchange_blocks};
 use super::{Flat, Swaps};
 use crate::Tally;
+use core::mem::replace_with;
 use core::slots::has_room;
 use std::alloc::{AllocError, Allocator};
 use std::mem::size_of_val;
@@ -88,7 +90,7 @@ impl<T, A: Allocator> Flat<T, A> {
         let alloc = self.cells.allocator().clone()?;
         let into = Vec::with_capacity(alloc, groups.lines * groups.count)?;
         unweave(self.cells.as_mut_slice(), groups);
-        Ok(self.move_tail(kept, into))
+        Ok(replace_with(&mut self.cells, (into, kept), without_tail))
     }
 
     /// Spreads the lines that come first, so that each has room for its group. What was behind the lines comes to the

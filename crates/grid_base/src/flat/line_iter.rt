@@ -5,25 +5,11 @@ ghost use Rattle.std.specs.Iterator.{YieldsFirstRef, YieldsLastRef, item_count, 
 ghost use Rattle.std.specs.Iterator.SizeHint.{IsWithinCount};
 ghost use Rattle.grid_base.specs.Strides.{every, strided, LinesInOrder, LinesInReverse};
 
-use super::span::Span;
 use super::strided_iter::StridedIter;
 use std::alloc::AllocError;
 use std::iter::FusedIterator;
 use std::marker::Model;
 use std::slice;
-
-// Returns an iterator over the cells of a slice at the places of a span.
-pub(super) fn line_of<T>(cells: &[T], span: Span) -> GridLineIter<'_, T>
-    requires ordered { span.start ≤ span.end }
-    requires within { span.end ≤ length cells.now }
-    requires steps { 0 < span.stride }
-    requires counted { span.count ≡ div_ceil (span.end - span.start) span.stride }
-    ensures rest { result ≡ strided span.start span.end span.stride cells.now }
-    ensures runs { LinesInOrder T }
-    ensures runs_back { LinesInReverse T }
-{
-    GridLineIter::over(&cells[span.start..span.end], span.stride, span.count)
-}
 
 /// An iterator over a row or a column, from both ends. Each step takes the same time.
 #[derive(Drop)]

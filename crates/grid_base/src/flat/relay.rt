@@ -3,7 +3,7 @@ ghost use Rattle.std.specs.Prelude.{◌≡◌, ◌*◌, ◌^◌, ◌<◌, length
 ghost use Rattle.grid_base.specs.Prelude.{Relaid};
 
 use super::groups::{unweave, weave};
-use super::square::transpose_square;
+use super::square::transpose_within;
 use super::{Flat, Groups};
 use std::alloc::Allocator;
 
@@ -46,7 +46,7 @@ fn relay_cells<T>(cells: &mut [T], lines: usize, width: usize)
         return;
     }
     if lines == width {
-        transpose_square(cells, lines);
+        transpose_within(cells, lines, 0, lines);
     } else if width < lines {
         let part = first_part(lines, width);
         let rest = lines - part;

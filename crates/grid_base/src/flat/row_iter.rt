@@ -8,7 +8,6 @@ ghost use Rattle.grid_base.specs.Order.{place, table_of};
 ghost use Rattle.grid_base.specs.Strides.{LinesInOrder, LinesInReverse, EachLineInOrder, EachLineInReverse};
 ghost use Rattle.grid_base.specs.Table.{row};
 
-use super::line_iter::line_of;
 use super::span::row_span;
 use super::{Flat, GridLineIter, GridLineIterMut};
 use crate::Layout;
@@ -84,7 +83,7 @@ fn row_of<T>(cells: &[T], layout: Layout, r: usize) -> GridLineIter<'_, T>
     ensures runs_back { LinesInReverse T }
 {
     let span = row_span(layout, r);
-    line_of(cells, span)
+    GridLineIter::over(&cells[span.start..span.end], span.stride, span.count)
 }
 
 /// An iterator over the rows of a table, from both ends, seen as the list of the rows that remain.

@@ -1,24 +1,15 @@
 //! A square of cells that is transposed in place, part by part, so that the cells of a part stay in the cache. No tally
 //! counts it.
 ghost use Rattle.std.specs.Prelude.{◌≡◌, ◌+◌, ◌*◌, ◌^◌, ◌<◌, ◌≤◌, length};
-ghost use Rattle.grid_base.specs.Prelude.{Relaid, Mirrored, Transposed};
+ghost use Rattle.grid_base.specs.Prelude.{Mirrored, Transposed};
 
 // A part of at most this many rows and columns is swapped cell by cell. A line of a board of 4096 by 4096 is as long as
 // a page, so the lines of a larger part drive each other out of the cache.
 const SMALL: usize = 8;
 
-// Transposes `side` lines of `side` cells.
-pub(super) fn transpose_square<T>(cells: &mut [T], side: usize)
-    requires cells { length cells.old ≡ side * side }
-    requires fits { side * side < 2 ^ 64 }
-    ensures { Relaid side side cells.old cells.new }
-{
-    transpose_within(cells, side, 0, side);
-}
-
 // Transposes the square of the rows and columns from `from` to before `to`: its two halves on the diagonal, and the part
 // above the diagonal with the one below.
-fn transpose_within<T>(cells: &mut [T], side: usize, from: usize, to: usize)
+pub(super) fn transpose_within<T>(cells: &mut [T], side: usize, from: usize, to: usize)
     requires cells { length cells.old ≡ side * side }
     requires fits { side * side < 2 ^ 64 }
     requires from { from ≤ to }

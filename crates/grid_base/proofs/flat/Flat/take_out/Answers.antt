@@ -12,11 +12,8 @@ returns-in-Nothing-clause-taken g c =
     λ short taken front back. taken_in_place _ _ _ _ xs short taken groups.within stand c.requires front back in
     search (rules, h)
 
-pub move_tail-requires-clause-within : goal.move_tail-requires-clause-within
-move_tail-requires-clause-within g c = grind (arith, common_steps)
-
-pub move_tail-requires-clause-room : goal.move_tail-requires-clause-room
-move_tail-requires-clause-room g c = grind (arith, common_steps)
+pub replace_with-requires : goal.replace_with-requires
+replace_with-requires g c = grind (arith, common_steps)
 
 pub returns-clause-taken : goal.returns-clause-taken
 returns-clause-taken g c = grind (arith, common_steps)

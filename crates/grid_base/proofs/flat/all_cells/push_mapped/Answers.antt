@@ -8,7 +8,7 @@ bounds-cells-start g c =
     let all = positions_of c.args.layout in
     let at = c.at-at.result in
     let here : slice_get all (vec_len c.loop-k.mapped) ≡ Some at = get_along _ _ _ _ _ _ _ _ _ c.args.layout.size c.requires.line c.lines-width.ensures c.loop-k-test.true c.requires.passed c.loop-k.invariant.passed c.at-at.ensures in
-    omega (arith, slice_get_within all _ at here, length-places c.args.layout.order c.args.layout.rows c.args.layout.cols c.args.layout.size, c.requires.cells, c.requires.passed, c.loop-k.invariant.passed, ap (λ (p : ℕ × ℕ). c.args.line * p.1) c.lines-width.ensures)
+    omega (arith, slice_get_within all _ at here, length-places c.args.layout.order c.args.layout.rows c.args.layout.cols c.args.layout.size, c.requires.table.0, c.requires.passed, c.loop-k.invariant.passed, ap (λ (p : ℕ × ℕ). c.args.line * p.1) c.lines-width.ensures)
 
 pub f-requires : goal.f-requires
 f-requires g c =
@@ -18,10 +18,10 @@ f-requires g c =
     let cell = c.index-cells-start.result in
     let here : slice_get all (vec_len c.loop-k.mapped) ≡ Some at = get_along _ _ _ _ _ _ _ _ _ c.args.layout.size c.requires.line c.lines-width.ensures c.loop-k-test.true c.requires.passed c.loop-k.invariant.passed c.at-at.ensures in
     let same : vec_len c.loop-k.mapped ≡ c.args.line * c.lines-width.result.1 + c.loop-k.k = omega (arith, c.requires.passed, c.loop-k.invariant.passed, ap (λ (p : ℕ × ℕ). c.args.line * p.1) c.lines-width.ensures) in
-    let lt : c.args.line * c.lines-width.result.1 + c.loop-k.k < length cells = omega (arith, same, slice_get_within all _ at here, length-places c.args.layout.order c.args.layout.rows c.args.layout.cols c.args.layout.size, c.requires.cells) in
+    let lt : c.args.line * c.lines-width.result.1 + c.loop-k.k < length cells = omega (arith, same, slice_get_within all _ at here, length-places c.args.layout.order c.args.layout.rows c.args.layout.cols c.args.layout.size, c.requires.table.0) in
     let shown : slice_get cells (vec_len c.loop-k.mapped) ≡ Some cell = ap (slice_get cells) same ∙ slice_get_read cells (length cells) _ cell refl lt c.index-cells-start.is in
     let both = get-zip all cells _ at cell here shown in
-    c.requires.calls.at _ at _ (slice_get_within (zip all cells) _ (at, cell) both) (sym (get_or_from_slice_get (zip all cells) _ (at, cell) (at, cell) both))
+    c.requires.table.1.at _ at _ (slice_get_within (zip all cells) _ (at, cell) both) (sym (get_or_from_slice_get (zip all cells) _ (at, cell) (at, cell) both))
 
 pub loop-k-preserved : goal.loop-k-preserved
 loop-k-preserved g c =
@@ -33,7 +33,7 @@ loop-k-preserved g c =
     let p = c.push_reserved.ensures in
     let here : slice_get all (vec_len c.loop-k.mapped) ≡ Some at = get_along _ _ _ _ _ _ _ _ _ c.args.layout.size c.requires.line c.lines-width.ensures c.loop-k-test.true c.requires.passed i.passed c.at-at.ensures in
     let same : vec_len c.loop-k.mapped ≡ c.args.line * c.lines-width.result.1 + c.loop-k.k = omega (arith, c.requires.passed, i.passed, ap (λ (p : ℕ × ℕ). c.args.line * p.1) c.lines-width.ensures) in
-    let lt : c.args.line * c.lines-width.result.1 + c.loop-k.k < length cells = omega (arith, same, slice_get_within all _ at here, length-places c.args.layout.order c.args.layout.rows c.args.layout.cols c.args.layout.size, c.requires.cells) in
+    let lt : c.args.line * c.lines-width.result.1 + c.loop-k.k < length cells = omega (arith, same, slice_get_within all _ at here, length-places c.args.layout.order c.args.layout.rows c.args.layout.cols c.args.layout.size, c.requires.table.0) in
     let shown : slice_get cells (vec_len c.loop-k.mapped) ≡ Some cell = ap (slice_get cells) same ∙ slice_get_read cells (length cells) _ cell refl lt c.index-cells-start.is in
     record {
       room = p.capacity ∙ i.room;

@@ -1,14 +1,9 @@
-use Rattle.std.proofs.Common.{sym, ◌∙◌, arith}
-use Rattle.grid_base.proofs.Lemmas.{span_within, row_is, holds}
+use Rattle.std.proofs.Common.{◌∙◌, arith}
+use Rattle.grid_base.proofs.Lemmas.{row_is, holds}
 use Rattle.grid_base.proofs.flat.row_iter.row_of.Goals as goal
 
 pub row_span-span-requires-clause-wide : goal.row_span-span-requires-clause-wide
 row_span-span-requires-clause-wide g c = c.args.layout.size.has_cols (omega (arith, c.requires.row_in))
 
-pub line_of-requires : goal.line_of-requires
-line_of-requires g c =
-    let s = c.row_span-span.ensures in
-    record { ordered = s.ordered; within = span_within _ _ _ _ (holds c.args.layout _ c.requires.cells) _ _ c.requires.row_in s; steps = s.steps; counted = s.len ∙ sym s.count }
-
 pub returns-clause-rest : goal.returns-clause-rest
-returns-clause-rest g c = c.line_of.ensures.rest ∙ row_is _ _ _ _ (holds c.args.layout _ c.requires.cells) _ _ c.requires.row_in c.row_span-span.ensures
+returns-clause-rest g c = c.over.ensures.rest ∙ row_is _ _ _ _ (holds c.args.layout _ c.requires.cells) _ _ c.requires.row_in c.row_span-span.ensures
