@@ -65,6 +65,7 @@ impl<'a, T> Model for Neighbors<'a, T> {
 ///
 /// Requires: the slice has as many cells as the layout.
 /// Cost: each step takes the same time, in either order; no memory.
+#[inline(always)]
 pub fn neighbors_of<T>(
     cells: &[T],
     layout: Layout,
@@ -111,6 +112,8 @@ impl<'a, T> Iterator for Neighbors<'a, T> {
 
     ghost remaining = { λ rest. at_most (min (length rest) 8) };
 
+    // Its callers know the kind of steps and the edges, so that half of it is gone there.
+    #[inline(always)]
     fn next(&mut self) -> Option<((usize, usize), &'a T)> {
         let k = self.passed;
         if k >= step_count(self.kind) {
