@@ -1,10 +1,6 @@
 //! The vector of a grid's cells.
 ghost use Rattle.std.specs.Prelude.{◌≡◌, ◌<◌, ◌≤◌, ◌+◌, [], length, swap, slice_get, Some, IfOk, List};
-ghost use Rattle.std.specs.Borrow.{sem};
-ghost use Rattle.std.specs.Iterator.Runs.{YieldsMutRefsInOrder, YieldsMutRefsInReverse};
-ghost use Rattle.std.specs.Slice.Iter.{iter_mut_rest, iter_mut_steps, iter_mut_steps_back};
-ghost use Rattle.grid_base.specs.Blocks.{BlocksSwapped, BlockTaken};
-ghost use Rattle.grid_base.specs.Clones.{ClonesAreEqual};
+ghost use Rattle.grid_base.specs.Prelude.{sem, YieldsMutRefsInOrder, YieldsMutRefsInReverse, iter_mut_rest, iter_mut_steps, iter_mut_steps_back, BlocksSwapped, BlockTaken, ClonesAreEqual};
 
 mod all_cells;
 mod counted;

@@ -1,12 +1,6 @@
 //! Iterators over all cells with their rows and columns, in storage order: by reference, for writing, and by value.
 ghost use Rattle.std.specs.Prelude.{◌≡◌, ◌*◌, ⊤, length, zip, IfSome, Some, ℕ, ◌≤◌, List};
-ghost use Rattle.std.specs.Borrow.{sem};
-ghost use Rattle.std.specs.Iterator.{YieldsFirst, YieldsFirstBy, YieldsLastBy, item_count, UpTo, at_most};
-ghost use Rattle.std.specs.Iterator.SizeHint.{IsWithinCount};
-ghost use Rattle.std.specs.Slice.Iter.{iter_rest};
-ghost use Rattle.std.specs.Vec.Iter.{into_iter_items};
-ghost use Rattle.grid_base.specs.IndexedIterMut.{indexed_mut_rest};
-ghost use Rattle.grid_base.specs.Layout.{positions_of};
+ghost use Rattle.grid_base.specs.Prelude.{sem, YieldsFirst, YieldsFirstBy, YieldsLastBy, item_count, UpTo, at_most, IsWithinCount, iter_rest, into_iter_items, indexed_mut_rest, positions_of};
 
 use super::Flat;
 use super::positions::Positions;

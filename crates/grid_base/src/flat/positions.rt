@@ -1,10 +1,6 @@
 //! The positions of a table's cells, one after another.
 ghost use Rattle.std.specs.Prelude.{◌≡◌, ◌+◌, ◌<◌, ◌∷◌, length, min, slice_get, IfSome, Some};
-ghost use Rattle.std.specs.Iterator.{YieldsFirst, item_count, UpTo, at_most};
-ghost use Rattle.std.specs.Iterator.SizeHint.{IsWithinCount};
-ghost use Rattle.grid_base.specs.Layout.{positions_of};
-ghost use Rattle.grid_base.specs.Order.{place};
-ghost use Rattle.grid_base.specs.Positions.{StandsAt};
+ghost use Rattle.grid_base.specs.Prelude.{YieldsFirst, item_count, UpTo, at_most, IsWithinCount, positions_of, place, StandsAt};
 
 use crate::{Layout, Order};
 use std::marker::Model;

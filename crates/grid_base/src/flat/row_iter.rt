@@ -1,12 +1,6 @@
 //! An iterator over the rows of a table that a vector stores, and over one of them.
 ghost use Rattle.std.specs.Prelude.{◌≡◌, ◌+◌, ◌*◌, ◌<◌, ⊤, length, drop, slice_get, IfSome, Some};
-ghost use Rattle.std.specs.Borrow.{sem};
-ghost use Rattle.std.specs.Iterator.{YieldsFirst, YieldsLast, item_count, UpTo, at_most};
-ghost use Rattle.std.specs.Iterator.SizeHint.{IsWithinCount};
-ghost use Rattle.grid_base.specs.GridLineIterMut.{line_mut_rest};
-ghost use Rattle.grid_base.specs.Order.{place, table_of};
-ghost use Rattle.grid_base.specs.Strides.{LinesInOrder, LinesInReverse, EachLineInOrder, EachLineInReverse};
-ghost use Rattle.grid_base.specs.Table.{row};
+ghost use Rattle.grid_base.specs.Prelude.{sem, YieldsFirst, YieldsLast, item_count, UpTo, at_most, IsWithinCount, line_mut_rest, place, table_of, LinesInOrder, LinesInReverse, EachLineInOrder, EachLineInReverse, row};
 
 use super::span::row_span;
 use super::{Flat, GridLineIter, GridLineIterMut};

@@ -21,24 +21,18 @@ pub(super) fn row_span(layout: Layout, r: usize) -> Span
     ensures { IsSpan layout.cols (λ c. place layout.order layout.rows layout.cols r c)
         (layout.rows * layout.cols) result }
 {
-    let Layout {
-        order,
-        rows,
-        cols,
-        ..
-    } = layout;
-    match order {
+    match layout.order {
         Order::RowMajor => Span {
-            start: r * cols,
-            end: r * cols + cols,
+            start: r * layout.cols,
+            end: r * layout.cols + layout.cols,
             stride: 1,
-            count: cols,
+            count: layout.cols,
         },
         Order::ColumnMajor => Span {
             start: r,
-            end: cols * rows,
-            stride: rows,
-            count: cols,
+            end: layout.cols * layout.rows,
+            stride: layout.rows,
+            count: layout.cols,
         },
     }
 }

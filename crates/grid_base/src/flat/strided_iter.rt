@@ -1,8 +1,6 @@
 //! An iterator over the cells of a slice that are a stride apart.
 ghost use Rattle.std.specs.Prelude.{◌≡◌, ◌-◌, ◌<◌, ◌≤◌, ⊤, length, drop};
-ghost use Rattle.std.specs.Int.{div_ceil};
-ghost use Rattle.std.specs.Iterator.{YieldsFirstRef, YieldsLastRef, item_count};
-ghost use Rattle.grid_base.specs.Strides.{every};
+ghost use Rattle.grid_base.specs.Prelude.{div_ceil, YieldsFirstRef, YieldsLastRef, item_count, every};
 
 use std::alloc::AllocError;
 use std::marker::Model;
