@@ -80,20 +80,6 @@ where
     read_lines(alloc, text, &Tried(read))
 }
 
-// How a line is cut into pieces, characters or words, and what each may be read as.
-trait Pieces<T, A: Allocator> {
-    ghost cutting: { Self → Cutting T };
-
-    ghost callable: { Self → Type 0 };
-
-    // Adds the cells of a line, and returns how many they are.
-    fn push_row(&self, cells: &mut Vec<T, A>, line: usize, text: &str) -> Result<usize, TextError>
-        requires { callable self.now }
-        ensures { let by = cutting self.now in MatchResult result
-            (IsRow by.parts by.bad by.answers line text.now cells.old.items cells.new.items)
-            (IsBadRow by.parts by.bad by.answers line text.now) };
-}
-
 // The grid of the lines of a text, in whatever pieces.
 fn read_lines<T: Drop, A: Allocator, P: Pieces<T, A>>(
     alloc: A,
@@ -119,6 +105,20 @@ fn read_lines<T: Drop, A: Allocator, P: Pieces<T, A>>(
         rest = later;
     }
     Ok(Grid::from_vec(cells, cols))
+}
+
+// How a line is cut into pieces, characters or words, and what each may be read as.
+trait Pieces<T, A: Allocator> {
+    ghost cutting: { Self → Cutting T };
+
+    ghost callable: { Self → Type 0 };
+
+    // Adds the cells of a line, and returns how many they are.
+    fn push_row(&self, cells: &mut Vec<T, A>, line: usize, text: &str) -> Result<usize, TextError>
+        requires { callable self.now }
+        ensures { let by = cutting self.now in MatchResult result
+            (IsRow by.parts by.bad by.answers line text.now cells.old.items cells.new.items)
+            (IsBadRow by.parts by.bad by.answers line text.now) };
 }
 
 // Characters.
