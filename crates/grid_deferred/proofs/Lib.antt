@@ -9,5 +9,5 @@ mod CarryLemmas
 mod LineLemmas
 mod PendingLemmas
 mod AllowanceLemmas
-mod RunLemmas
+pub mod RunLemmas
 mod ReadLemmas

@@ -35,10 +35,10 @@ module _ {T : Type 0} where
   deferred_shift-more d o (y ∷ xs) x s t = omega (arith, deferred_shift-more d o xs x (pending_after y s) (step_rows d y t))
 
   -- the size of a base by that of its image
-  rows_back : (s : Symmetry) (t : List (List T)) → IsTable t → image_rows s (row_count (act s t)) (col_count (act s t)) ≡ row_count t
+  pub rows_back : (s : Symmetry) (t : List (List T)) → IsTable t → image_rows s (row_count (act s t)) (col_count (act s t)) ≡ row_count t
   rows_back s t h = rw (rows-act s t, cols-act s t h) (size_back s (row_count t) (col_count t)).0
 
-  cols_back : (s : Symmetry) (t : List (List T)) → IsTable t → image_cols s (row_count (act s t)) (col_count (act s t)) ≡ col_count t
+  pub cols_back : (s : Symmetry) (t : List (List T)) → IsTable t → image_cols s (row_count (act s t)) (col_count (act s t)) ≡ col_count t
   cols_back s t h = rw (rows-act s t, cols-act s t h) (size_back s (row_count t) (col_count t)).1
 
   shift_shown : (s : Symmetry) (x : CommandValue T) (o : Order) (t : List (List T)) → IsTable t → shift_through s x o (row_count t) (col_count t) ≡ shown_shift s x o (act s t)

@@ -1,13 +1,13 @@
 -- The counts of calls, which grow by the price of a symmetry, and by the shift of an edit.
 use Rattle.std.proofs.Common.{◌≡◌, ℕ, List, Result, Ok, Err, OnOk, length, refl, sym, ◌∙◌, ap, subst}
-use Rattle.grid_base.proofs.Common.{GridValue, row_count, col_count, IsTable, Counts, saturating_count, storage, act, order_after, price, image_rows, image_cols, IsInverse}
+use Rattle.grid_base.proofs.Common.{GridValue, row_count, col_count, IsTable, Counts, saturating_count, storage, act, order_after, price, IsInverse}
 use Rattle.grid.specs.Prelude.{CommandValue, ReplyValue, command_symmetry, list_symmetry, step_shift, step_rows}
 use Rattle.grid_base.specs.declared.order.Order.{Order}
 use Rattle.grid_base.specs.declared.words.Symmetry.{Symmetry}
-use Rattle.grid_base.specs.declared.words.Symmetry.TheVariants.{Identity}
-use Rattle.grid_base.proofs.ActLemmas.{rows-act, cols-act, IsTable-act}
+use Rattle.grid_base.proofs.ActLemmas.{IsTable-act}
 use Rattle.grid_base.proofs.GroupLemmas.{act-act, act-identity, inverse_is, inverse_left}
 use Rattle.grid_deferred.specs.Run.{settling_price, RanDeferred}
+use Rattle.grid_deferred.proofs.RunLemmas.{rows_back, cols_back}
 use Rattle.grid_laws.specs.Least.{HasDifferentCells, IsLeast, GrewByLeast, Shifts, filled_up}
 use Rattle.grid_laws.proofs.ImageLemmas.{price_is_least, different_image}
 use Rattle.grid_laws.proofs.EditLemmas.{shift_is_least, order_kept}
@@ -22,16 +22,8 @@ grew_by_price s t new o after_o before after h d rows order grew =
       grew = grew;
     }
 
--- the size before, of that after
-size_back : (s : Symmetry) (m n : ℕ) → price s (image_rows s (image_rows s m n) (image_cols s m n)) (image_cols s (image_rows s m n) (image_cols s m n)) ≡ price s m n
-size_back Identity m n = refl
-size_back s m n = refl
-
 settling_is : {T : Type 0} (s : Symmetry) (t : List (List T)) → IsTable t → settling_price s (act s t) ≡ price s (row_count t) (col_count t)
-settling_is s t h =
-    ap (λ m. price s (image_rows s m (col_count (act s t))) (image_cols s m (col_count (act s t)))) (rows-act s t)
-    ∙ (ap (λ n. price s (image_rows s (image_rows s (row_count t) (col_count t)) n) (image_cols s (image_rows s (row_count t) (col_count t)) n)) (cols-act s t h)
-    ∙ size_back s (row_count t) (col_count t))
+settling_is s t h = rw (rows_back s t h, cols_back s t h) refl
 
 -- the count of a deferred run
 pub grew_deferred : {T : Type 0} (is_clone : T → T → Type 0) (is_default : T → Type 0) (commands : List (CommandValue T)) (old new : GridValue T) (before after : Counts) (answers : List (ReplyValue T)) → RanDeferred is_clone is_default commands old new before after answers → (v : Symmetry) → IsInverse (list_symmetry commands) v → HasDifferentCells new.rows → GrewByLeast before.symmetry after.symmetry (storage old.order (act v new.rows)) (storage new.order new.rows)
