@@ -17,16 +17,20 @@ module _ {F T R : Type 0} (returns : F → Bor T → R → Type 0) (f : F) where
       }
   AreAnswers-mapped v Q q (Err e) same cells says = tt
 
-  -- what holds of a table of answers, as far as a result is Ok
+  -- what holds of a table of answers holds of the answers
+  pub HoldsOfAnswers-is : (t : List (List T)) (P : List (List R) → Type 0) (u : List (List R)) → AreAnswers returns f t u → ((p : T → R) → IsAnswer returns f p → u ≡ answers_by p t) → P u → HoldsOfAnswers returns f t P
+  HoldsOfAnswers-is t P u answers is h = record { some = (u, answers, h); each = λ p q. subst P (is p q) h }
+
+  -- the same, as far as a result is Ok
   pub HoldsOfAnswers-if_ok : {V E : Type 0} (t : List (List T)) (r : Result V E) (P : List (List R) → V → Type 0) (u : List (List R)) → AreAnswers returns f t u → ((p : T → R) → IsAnswer returns f p → u ≡ answers_by p t) → IfOk r (λ v. P u v) → IfOk r (λ v. HoldsOfAnswers returns f t (λ x. P x v))
   HoldsOfAnswers-if_ok t (Ok v) P u answers is h =
-      record { some = (u, answers, h); each = λ p q. subst (λ x. P x v) (is p q) h }
+      HoldsOfAnswers-is t (λ x. P x v) u answers is h
   HoldsOfAnswers-if_ok t (Err e) P u answers is h = tt
 
   -- and as far as something is found
   pub HoldsOfAnswers-if_found : {V E : Type 0} (t : List (List T)) (r : Result (Option V) E) (N : List (List R) → Type 0) (P : List (List R) → V → Type 0) (u : List (List R)) → AreAnswers returns f t u → ((p : T → R) → IsAnswer returns f p → u ≡ answers_by p t) → IfOk r (λ o. MatchOption o (N u) (λ v. P u v)) → IfOk r (λ o. MatchOption o (HoldsOfAnswers returns f t N) (λ v. HoldsOfAnswers returns f t (λ x. P x v)))
   HoldsOfAnswers-if_found t (Ok None) N P u answers is h =
-      record { some = (u, answers, h); each = λ p q. subst N (is p q) h }
+      HoldsOfAnswers-is t N u answers is h
   HoldsOfAnswers-if_found t (Ok (Some v)) N P u answers is h =
-      record { some = (u, answers, h); each = λ p q. subst (λ x. P x v) (is p q) h }
+      HoldsOfAnswers-is t (λ x. P x v) u answers is h
   HoldsOfAnswers-if_found t (Err e) N P u answers is h = tt

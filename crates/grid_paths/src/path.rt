@@ -86,24 +86,6 @@ fn follow<A: Allocator + Clone>(
     Ok(path)
 }
 
-// A shortest path over the open cells, found from its end.
-fn path_over<A: Allocator + Clone>(
-    kind: Steps,
-    floor: Grid<bool, A>,
-    from: (usize, usize),
-    to: (usize, usize),
-) -> Result<Option<Vec<(usize, usize), A>>, AllocError>
-    ensures { IfOk result (λ found. MatchOption found
-        ((n : ℕ) → Walk kind floor.rows from to n → ⊥)
-        (λ path. IsShortestPath kind floor.rows from to path.items)) }
-{
-    let steps = search_from(kind, floor, &[to], Some(from))?;
-    match steps_at(&steps, from) {
-        Some(count) => Ok(Some(follow(&steps, from, count)?)),
-        None => Ok(None),
-    }
-}
-
 /// Returns a shortest path from one position to another. Each cell on a path passes the test, the first and the last
 /// too. Returns `None` exactly where no path leads.
 ///
@@ -129,5 +111,10 @@ pub fn shortest_path<T, A: Allocator + Clone, F: Fn(&T) -> bool>(
         IsShortestPath kind floor from to path.items))) }
 {
     let floor = answers_of(grid, passable)?;
-    path_over(kind, floor, from, to)
+    // found from its end
+    let steps = search_from(kind, floor, &[to], Some(from))?;
+    match steps_at(&steps, from) {
+        Some(count) => Ok(Some(follow(&steps, from, count)?)),
+        None => Ok(None),
+    }
 }
