@@ -13,17 +13,6 @@ use grid::Grid;
 use grid_near::Steps;
 use std::alloc::{AllocError, Allocator};
 
-// The number of steps at a position, if it has one.
-fn steps_at<A: Allocator>(steps: &Grid<Option<usize>, A>, at: (usize, usize)) -> Option<usize>
-    ensures { MatchOption result ((k : ℕ) → IsMarked steps.now.rows at k → ⊥)
-        (λ k. IsMarked steps.now.rows at k) }
-{
-    match steps.get(at.0, at.1) {
-        Some(Some(here)) => Some(*here),
-        _ => None,
-    }
-}
-
 // The first of these positions that has this number of steps.
 fn first_with<A: Allocator>(
     steps: &Grid<Option<usize>, A>,
@@ -113,7 +102,7 @@ pub fn shortest_path<T, A: Allocator + Clone, F: Fn(&T) -> bool>(
     let floor = answers_of(grid, passable)?;
     // found from its end
     let steps = search_from(kind, floor, &[to], Some(from))?;
-    match steps_at(&steps, from) {
+    match steps.get(from.0, from.1).copied().flatten() {
         Some(count) => Ok(Some(follow(&steps, from, count)?)),
         None => Ok(None),
     }

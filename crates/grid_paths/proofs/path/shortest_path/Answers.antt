@@ -1,4 +1,5 @@
-use Rattle.std.proofs.Common.{◌≡◌, ℕ, Some, Ok, None, Option, Result, refl}
+use Rattle.std.proofs.Common.{ℕ, refl, rules}
+use Rattle.grid_paths.specs.Search.{IsMarked}
 use Rattle.grid_paths.specs.Walks.{Walk, IsShortestPath}
 use Rattle.grid_paths.proofs.ClosureLemmas.{HoldsOfAnswers-is}
 use Rattle.grid_paths.proofs.PathLemmas.{IsShortestPath-from_number, no_walk}
@@ -6,19 +7,21 @@ use Rattle.grid_paths.proofs.path.shortest_path.Goals as goal
 
 pub follow-requires-clause-least : goal.follow-requires-clause-least
 follow-requires-clause-least g c =
-    (c.args.kind, c.in_ok-floor.floor.rows, c.args.to, (c.in_ok-steps.ensures.settled c.args.to c.args.from refl refl).found c.in-Some.count c.in-Some.ensures)
+    let marked : IsMarked c.in_ok-steps.steps.rows c.args.from c.in-Some.count = search rules in
+    (c.args.kind, c.in_ok-floor.floor.rows, c.args.to, (c.in_ok-steps.ensures.settled c.args.to c.args.from refl refl).found c.in-Some.count marked)
 
 pub returns-in-Some : goal.returns-in-Some
 returns-in-Some g c =
     let path = c.in_ok-follow-in-Some.field-0.items in
     let floor = c.in_ok-floor.floor.rows in
-    let least = (c.in_ok-steps.ensures.settled c.args.to c.args.from refl refl).found c.in-Some.count c.in-Some.ensures in
+    let marked : IsMarked c.in_ok-steps.steps.rows c.args.from c.in-Some.count = search rules in
+    let least = (c.in_ok-steps.ensures.settled c.args.to c.args.from refl refl).found c.in-Some.count marked in
     HoldsOfAnswers-is _ _ _ (λ x. IsShortestPath c.args.kind x c.args.from c.args.to path) floor c.in_ok-floor.ensures.answers c.in_ok-floor.ensures.cells
     (IsShortestPath-from_number c.args.kind floor c.args.from c.args.to c.in_ok-steps.steps.rows c.in-Some.count path least
-    c.in-Some.ensures (c.in_ok-follow-in-Some.ensures.path c.args.kind floor c.args.to least) c.in_ok-follow-in-Some.ensures.len)
+    marked (c.in_ok-follow-in-Some.ensures.path c.args.kind floor c.args.to least) c.in_ok-follow-in-Some.ensures.len)
 
 pub returns : goal.returns
 returns g c =
     HoldsOfAnswers-is _ _ _ (λ x. (n : ℕ) → Walk c.args.kind x c.args.from c.args.to n → ⊥) c.in_ok-floor.floor.rows c.in_ok-floor.ensures.answers c.in_ok-floor.ensures.cells
     (no_walk c.args.kind c.in_ok-floor.floor.rows c.args.from c.args.to c.in_ok-steps.steps.rows
-    (c.in_ok-steps.ensures.settled c.args.to c.args.from refl refl) c.in-None.ensures)
+    (c.in_ok-steps.ensures.settled c.args.to c.args.from refl refl) (λ k m. search (rules, m)))
