@@ -30,7 +30,7 @@ unfoldable pub use Rattle.grid_base.specs.Symmetry.{act, symmetry_of}
 pub use Rattle.grid_base.specs.Symmetry.{source_row, source_col, image_rows, image_cols, transposes, act_all, test_table, symmetries, order_after, IsThen, IsInverse, half, price, IsUndoneAt}
 unfoldable pub use Rattle.grid_base.specs.Table.{tabulate, cells_by}
 pub use Rattle.grid_base.specs.Table.{row_count, col_count, cell, IsTable, IsSize, transposed, row, concat_rows, InRange, with_cell, with_cell_of, exchanged}
-pub use Rattle.grid_base.specs.Tally.{saturating_count, Counts}
+pub use Rattle.grid_base.specs.Tally.{saturating_count, Counts, HasShifted}
 pub use Rattle.grid_base.specs.Updated.{CallableFrom, UpdatedFrom}
 pub use Rattle.std.proofs.Debugs.{shows_part_then, shows_from, displays_from, debug_items-take, shows_then}
 pub use Rattle.std.proofs.Math.Bool.{and_comm, or_comm, and-true, or-false}

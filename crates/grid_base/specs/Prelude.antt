@@ -33,7 +33,7 @@ pub use Rattle.std.specs.Borrow.{sem}
 pub use Rattle.std.specs.Fn.{FnReturnsAt}
 pub use Rattle.std.specs.Int.{div_ceil}
 pub use Rattle.std.specs.Iterator.{YieldsFirst, YieldsLast, item_count, UpTo, at_most, YieldsFirstRef, YieldsLastRef, YieldsFirstBy, YieldsLastBy}
-pub use Rattle.std.specs.Iterator.SizeHint.{IsWithinCount}
 pub use Rattle.std.specs.Iterator.Runs.{YieldsMutRefsInOrder, YieldsMutRefsInReverse}
+pub use Rattle.std.specs.Iterator.SizeHint.{IsWithinCount}
 pub use Rattle.std.specs.Slice.Iter.{iter_rest, iter_mut_rest, iter_mut_steps, iter_mut_steps_back}
 pub use Rattle.std.specs.Vec.Iter.{into_iter_items}

@@ -1,4 +1,5 @@
--- Cells that a closure replaces, from a place in the storage on. No public clause cites it.
+-- Cells that a closure replaces or maps, of a whole table or from a place in the storage on. No public
+-- clause cites it.
 use Rattle.std.specs.Prelude.{◌≡◌, ◌<◌, ◌≤◌, ◌*◌, ℕ, List, Some, length, zip, slice_get}
 use Rattle.grid_base.specs.declared.layout.Layout.{Layout}
 use Rattle.grid_base.specs.ClosureCalls.{CallableAtCells, PairsUp}

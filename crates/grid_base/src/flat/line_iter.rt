@@ -1,6 +1,6 @@
 //! An iterator over a row or a column.
-ghost use Rattle.std.specs.Prelude.{◌≡◌, ◌+◌, ◌-◌, ◌<◌, ◌≤◌, ⊤, length, drop, slice_get, IfSome, Some, option_copied};
-ghost use Rattle.grid_base.specs.Prelude.{div_ceil, YieldsFirstRef, YieldsLastRef, item_count, UpTo, at_most, IsWithinCount, every, strided, LinesInOrder, LinesInReverse};
+ghost use Rattle.std.specs.Prelude.{◌≡◌, ◌+◌, ◌-◌, ◌<◌, ⊤, length, drop, slice_get, IfSome, Some, option_copied};
+ghost use Rattle.grid_base.specs.Prelude.{div_ceil, YieldsFirstRef, YieldsLastRef, item_count, UpTo, at_most, IsWithinCount, every, LinesInOrder, LinesInReverse};
 
 use super::strided_iter::StridedIter;
 use std::alloc::AllocError;

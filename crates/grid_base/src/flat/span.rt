@@ -1,5 +1,5 @@
 //! Where the cells of a row are in the storage of a table: a start, an end, a stride, and their number.
-ghost use Rattle.std.specs.Prelude.{◌+◌, ◌*◌, ◌^◌, ◌<◌};
+ghost use Rattle.std.specs.Prelude.{◌+◌, ◌*◌, ◌<◌};
 ghost use Rattle.grid_base.specs.Prelude.{place, IsSpan};
 
 use crate::{Layout, Order};

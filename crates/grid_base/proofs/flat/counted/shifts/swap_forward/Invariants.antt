@@ -1,13 +1,12 @@
-use Rattle.std.proofs.Common.{◌≡◌, ◌+◌, ◌-◌, ◌≤◌}
-use Rattle.grid_base.proofs.Common.{swapped_forward}
+use Rattle.std.proofs.Common.{◌≡◌, ◌-◌, ◌≤◌}
+use Rattle.grid_base.proofs.Common.{HasShifted, swapped_forward}
 use Rattle.grid_base.proofs.flat.counted.shifts.swap_forward.Given as goal
 
 abbrev pub invariant-loop-cells : goal.invariant-loop-cells
 invariant-loop-cells g l = record {
   run : l.cells ≡ swapped_forward l.start l.shift l.done l.fn.cells;
   within : l.done ≤ l.n;
-  symmetry : l.swaps.for_symmetry ≡ l.fn.swaps.for_symmetry;
-  shift : l.swaps.for_shift ≡ l.fn.swaps.for_shift + l.done;
+  counted : HasShifted l.done l.fn.swaps l.swaps;
 }
 
 abbrev pub decreases-loop-cells : goal.decreases-loop-cells
