@@ -1,5 +1,5 @@
 //! Cells that come to the end of a vector, or leave it there.
-ghost use Rattle.std.specs.Prelude.{◌≡◌, ◌+◌, ◌-◌, ◌≤◌, [], ◌++◌, length, take, drop, reverse, OnOk, OnErr, vec_len, vec_capacity};
+ghost use Rattle.std.specs.Prelude.{◌≡◌, ◌+◌, ◌-◌, ◌≤◌, [], ◌++◌, length, take, drop, OnOk, OnErr, vec_len, vec_capacity};
 ghost use Rattle.grid_base.specs.Prelude.{AppendsEach};
 
 use super::Flat;
@@ -57,16 +57,8 @@ pub(super) fn without_tail<T, A: Allocator>(
     for _ in at..cells.len() {
         into.push_reserved(cells.take_last());
     }
-    reverse_from(into.as_mut_slice(), start);
+    into.as_mut_slice()[start..].reverse();
     (cells, into)
-}
-
-// Reverses the cells from `start` on.
-fn reverse_from<T>(cells: &mut [T], start: usize)
-    requires { start ≤ length cells.old }
-    ensures { cells.new ≡ take start cells.old ++ reverse (drop start cells.old) }
-{
-    cells[start..].reverse();
 }
 
 // The vector with `count` default cells at its end, for which it has room. By value, so that its length stays in a

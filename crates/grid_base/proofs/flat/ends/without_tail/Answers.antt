@@ -1,4 +1,5 @@
-use Rattle.std.proofs.Common.{◌≡◌, ◌++◌, take, drop, reverse, ◌∙◌, ap, arith}
+use Rattle.std.proofs.Common.{◌≡◌, ◌++◌, length, take, drop, reverse, refl, arith}
+use Rattle.grid_base.proofs.Common.{common_steps}
 use Rattle.grid_base.proofs.Lemmas.{leaving_length, leaving_more, leaving_cells, leaving_tail}
 use Rattle.grid_base.proofs.flat.ends.without_tail.Goals as goal
 
@@ -7,10 +8,12 @@ returns-clause-cells g c = leaving_cells _ _ _ _ _ _ c.loop.invariant.run (omega
 
 pub returns-clause-tail : goal.returns-clause-tail
 returns-clause-tail g c =
-    let transposed : c.reverse_from.new.cells ≡ take c.len-start.result c.loop.into.items ++ reverse (drop c.len-start.result c.loop.into.items) =
-    c.reverse_from.ensures ∙ ap (λ ys. take c.len-start.result ys ++ reverse (drop c.len-start.result ys)) c.as_mut_slice.ensures.value in
-    leaving_tail _ c.args.to.1 c.len-start.result _ _ _ _ _ c.reverse_from.new.cells c.loop.invariant.run (omega (arith, leaving_length _ _ _ _ _ c.loop.invariant.run)) (omega arith) transposed
-    (omega (arith, c.reverse_from.auto.cells))
+    let start = c.len-start.result in
+    let xs = c.loop.into.items in
+    let turned = take start xs ++ reverse (drop start xs) in
+    let len : length turned ≡ length xs = grind (arith, common_steps) in
+    let h = leaving_tail _ c.args.to.1 start c.loop.into.len _ _ _ _ turned c.loop.invariant.run (omega (arith, leaving_length _ _ _ _ _ c.loop.invariant.run)) (omega arith) refl (omega (arith, len)) in
+    grind (arith, common_steps, h)
 
 pub loop-preserved : goal.loop-preserved
 loop-preserved g c =
