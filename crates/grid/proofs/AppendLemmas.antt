@@ -1,8 +1,6 @@
 -- Rows that are appended to those of a grid.
 use Rattle.std.proofs.Common.{◌≡◌, ◌++◌, [], ◌∷◌, ℕ, List, take, drop, length, refl, sym, ◌∙◌, ap, arith, ⊎_elim, take_all, append-nil}
-use Rattle.grid_base.proofs.Common.{drop_all, row_count, col_count, storage, table_of, GridValue}
-use Rattle.grid.specs.Edits.{FitsRow, insert_rows}
-use Rattle.grid_base.proofs.ViewLemmas.{by_storage}
+use Rattle.grid.proofs.Common.{drop_all, row_count, col_count, storage, table_of, GridValue, FitsRow, insert_rows, by_storage}
 
 -- rows put behind the last one
 pub put_last : {T : Type 0} (i : ℕ) (lines t : List (List T)) → i ≡ row_count t → insert_rows i lines t ≡ t ++ lines

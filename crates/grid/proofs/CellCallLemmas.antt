@@ -1,15 +1,7 @@
 -- Calls of a closure at each position of a grid and the cell there.
 use Rattle.std.proofs.Common.{◌≡◌, ℕ, zero, suc, ◌*◌, ◌<◌, ◌≤◌, List, [], ◌∷◌, ◌++◌, Some, Result, Ok, Err, length, zip, refl, sym, subst, ◌∙◌, ap, arith, is_some, IsSomeAnd, Option, None, IfOk, slice_get, unwrap_or, length-append, Bor}
-use Rattle.grid_base.proofs.Common.{AllZip, unwrap_or-slice_get, row_count, col_count, cell, InRange, IsSize, tabulate, table_of, place, positions, PairsUp, CallableAtCells, CallableAtItems, ReturnsAtCell, FailsFirst, GridValue, HoldsSize, FitsUsize}
+use Rattle.grid.proofs.Common.{AllZip, unwrap_or-slice_get, row_count, col_count, cell, InRange, IsSize, tabulate, table_of, place, positions, PairsUp, CallableAtCells, CallableAtItems, ReturnsAtCell, FailsFirst, GridValue, HoldsSize, FitsUsize, IsFull, tabulate-same, cell-tabulate, place_within, has_place, get_append_left, get_append_right, get-places, length-places, zip_within, get-zip, view-rows, view-cols, view-cell, CallableAtPositions, MappedBy, IsMade, CallableOver, MadeBy, FailsAt, grid_value}
 use Rattle.grid_base.specs.declared.order.Order.{Order}
-use Rattle.grid_base.proofs.TableLemmas.{IsFull, tabulate-same, cell-tabulate}
-use Rattle.grid_base.proofs.StorageLemmas.{place_within, has_place, get_append_left, get_append_right}
-use Rattle.grid_base.proofs.PlaceLemmas.{get-places, length-places}
-use Rattle.grid_base.proofs.PlacedCellLemmas.{zip_within, get-zip}
-use Rattle.grid_base.proofs.ViewLemmas.{view-rows, view-cols, view-cell}
-use Rattle.grid.specs.AllCells.{CallableAtPositions, MappedBy}
-use Rattle.grid.specs.Make.{IsMade, CallableOver, MadeBy, FailsAt}
-use Rattle.grid.specs.View.{grid_value}
 use Rattle.grid.proofs.SeenLemmas.{seen_rows, seen_cols}
 
 mul_grows : (m n : ℕ) → 0 < n → m ≤ m * n

@@ -1,10 +1,7 @@
 -- A grid of which one cell is written.
 use Rattle.std.proofs.Common.{◌≡◌, ℕ, ◌<◌, List, length, set, ◌∙◌, ap, swap}
-use Rattle.grid_base.proofs.Common.{exchanged, with_cell, place, table_of, HoldsSize, GridValue}
+use Rattle.grid.proofs.Common.{exchanged, with_cell, place, table_of, HoldsSize, GridValue, same_grid_value, view-write, view-swap, grid_value, with_grid_cell}
 use Rattle.grid_base.specs.declared.order.Order.{Order}
-use Rattle.grid_base.proofs.ViewLemmas.{same_grid_value}
-use Rattle.grid_base.proofs.WriteLemmas.{view-write, view-swap}
-use Rattle.grid.specs.View.{grid_value, with_grid_cell}
 
 -- the same at a position that is known by an equation
 pub seen_written_cell : {T : Type 0} (o : Order) (m n : ℕ) (cells : List T) (s : GridValue T) (r c : ℕ) (w : T) (p : ℕ) → p ≡ place o m n r c → (h : HoldsSize m n (length cells)) (k : HoldsSize m n (length (set cells p w))) → grid_value o m n cells h ≡ s → r < m → c < n → grid_value o m n (set cells p w) k ≡ with_grid_cell s r c w

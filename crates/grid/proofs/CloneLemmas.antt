@@ -1,10 +1,7 @@
 -- Clones of the cells of a storage, seen as a table.
 use Rattle.std.proofs.Common.{◌≡◌, ℕ, zero, suc, ◌+◌, ◌*◌, ◌<◌, ◌≤◌, Option, Some, None, List, [], ◌∷◌, length, map, ap, arith, subst, filter_map, slice_get}
-use Rattle.grid_base.proofs.Common.{range_with_len, cons_option, AllZip, same_from_all_zip, cells_by, tabulate, place, table_of, GridValue, HoldsSize}
+use Rattle.grid.proofs.Common.{range_with_len, cons_option, AllZip, same_from_all_zip, cells_by, tabulate, place, table_of, GridValue, HoldsSize, place_within, grid_value, IsGridClone}
 use Rattle.grid_base.specs.declared.order.Order.{Order}
-use Rattle.grid_base.proofs.StorageLemmas.{place_within}
-use Rattle.grid.specs.View.{grid_value}
-use Rattle.grid.specs.Copies.{IsGridClone}
 use Rattle.grid.proofs.SeenLemmas.{seen_same}
 
 module _ {A B : Type 0} (R : A → B → Type 0) where

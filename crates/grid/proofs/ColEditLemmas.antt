@@ -1,11 +1,7 @@
 -- An edit of columns is the edit of rows of the transposed table.
 use Rattle.std.proofs.Common.{◌≡◌, ℕ, zero, suc, ◌+◌, ◌-◌, ◌<◌, ◌≤◌, List, [], ◌∷◌, ◌++◌, length, get_or, map, take, drop, filter, replicate, refl, sym, ◌∙◌, ap, arith, append_assoc, ⊎_elim, slice_get, insert, length-take-le, append-nil, take_at, drop_at, take_all}
-use Rattle.grid_base.proofs.Common.{length-map, get_or-map, length-replicate, drop_all, length-insert, slice_get-get_or, cases_lt, row, row_count, col_count, cell, transposed, IsTable, tabulate, act}
+use Rattle.grid.proofs.Common.{length-map, get_or-map, length-replicate, drop_all, length-insert, slice_get-get_or, cases_lt, row, row_count, col_count, cell, transposed, IsTable, tabulate, act, get-replicate, same_tables, IsSize-table, past_cols, cell_past_rows, rows-act, cols-act, cell-act, IsTable-act, act_is_transposed, insert_rows, without_rows, insert_into_rows, insert_col, insert_cols, has_cells, without_cols, expanded_rows, prepended_rows, expanded_cols, prepended_cols}
 use Rattle.grid_base.specs.declared.words.Symmetry.TheVariants.{Transpose}
-use Rattle.grid_base.proofs.StorageLemmas.{get-replicate}
-use Rattle.grid_base.proofs.TableLemmas.{same_tables, IsSize-table, past_cols, cell_past_rows}
-use Rattle.grid_base.proofs.ActLemmas.{rows-act, cols-act, cell-act, IsTable-act, act_is_transposed}
-use Rattle.grid.specs.Edits.{insert_rows, without_rows, insert_into_rows, insert_col, insert_cols, has_cells, without_cols, expanded_rows, prepended_rows, expanded_cols, prepended_cols}
 use Rattle.grid.proofs.ListEditLemmas.{get-cut_before, get-cut_after, get-put_before, get-put_new, get-put_after, length-put, length-cut, put_cases}
 use Rattle.grid.proofs.RowEditLemmas.{HasWidth, HasWidth-put, rows-put, rows-take, row-put_before, row-put_new, row-put_after, row-take_before, row-take_after}
 use Rattle.grid.proofs.EditViewLemmas.{IsTable-line}

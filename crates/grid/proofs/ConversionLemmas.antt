@@ -1,13 +1,10 @@
 -- Cells that are joined, and cut into rows.
 use Rattle.std.proofs.Common.{◌≡◌, ◌≢◌, ℕ, suc, ◌+◌, ◌*◌, ◌<◌, ◌==◌, if◌then◌else◌, Bool, true, false, IsTrue, List, [], ◌∷◌, ◌++◌, length, get_or, take, map, Result, Ok, Err, refl, sym, ◌∙◌, ap, arith, ⊎_elim, subst, IsErrAnd, append-nil, eqb-true}
-use Rattle.grid_base.proofs.Common.{AllZip, take_more, map-append, get_or-map, flat_map-append, cases_eq, row, row_count, col_count, concat_rows, IsTable, storage, CanCut, GridValue}
+use Rattle.grid.proofs.Common.{AllZip, take_more, map-append, get_or-map, flat_map-append, cases_eq, row, row_count, col_count, concat_rows, IsTable, storage, CanCut, GridValue, length-concat_rows, same_by_storage, none_by_storage, HasShape, AreEven, CanJoin, equal_rows, CutAnswer}
 use Rattle.grid_base.specs.declared.order.Order.TheVariants.{RowMajor}
-use Rattle.grid_base.proofs.StorageLemmas.{length-concat_rows}
-use Rattle.grid_base.proofs.ViewLemmas.{same_by_storage, none_by_storage}
 use Rattle.grid_commands.specs.declared.error.ShapeError.{ShapeError}
 use Rattle.grid_commands.specs.declared.error.ShapeError.TheVariants.{Memory}
 use Rattle.grid.proofs.MadeLemmas.{CanCut-cells}
-use Rattle.grid.specs.Conversion.{HasShape, AreEven, CanJoin, equal_rows, CutAnswer}
 
 -- a test that failed refuses what it is true of
 pub refused : (len k cols : ℕ) (b : Bool) → k ≡ len → (CanCut k cols → IsTrue b) → b ≡ false → CanCut len cols → ⊥

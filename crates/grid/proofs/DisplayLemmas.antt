@@ -1,7 +1,7 @@
 -- The text of items one after another.
 use Rattle.std.proofs.Common.{◌≡◌, ℕ, suc, ◌+◌, ◌<◌, Bool, true, false, List, [], ◌∷◌, ◌++◌, length, take, get_or, cond, ltb, refl, sym, ap, ◌∙◌, arith, add-one, append-nil, Option, Some, None, take-suc, length-take-le, lt-ltb}
-use Rattle.grid_base.proofs.Common.{◌++?◌, then_text_assoc}
-use Rattle.grid.specs.DisplayText.{items_text}
+use Rattle.grid.proofs.Common.{then_text_assoc, items_text}
+use Rattle.grid_base.proofs.Common.{◌++?◌}
 
 nothing_then : (o : Option (List ℕ)) → Some [] ++? o ≡ o
 nothing_then None = refl

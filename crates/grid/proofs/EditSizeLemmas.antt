@@ -1,7 +1,6 @@
 -- The sizes of tables into which rows are put, and from which rows are taken.
 use Rattle.std.proofs.Common.{◌≡◌, ℕ, ◌+◌, ◌*◌, ◌^◌, ◌<◌, ◌≤◌, List, [], ◌∷◌, ◌++◌, length, take, drop, replicate, refl, sym, ◌∙◌, ap, subst, arith, ⊎_elim, take_all, append-nil, take-append-drop, mul-le-mul_right}
-use Rattle.grid_base.proofs.Common.{length-replicate, get_or-replicate, nil_from_length, drop_all, cases_eq, row, row_count, col_count, IsTable, HoldsSize}
-use Rattle.grid.specs.Edits.{insert_rows, without_rows, expanded_rows, prepended_rows}
+use Rattle.grid.proofs.Common.{length-replicate, get_or-replicate, nil_from_length, drop_all, cases_eq, row, row_count, col_count, IsTable, HoldsSize, insert_rows, without_rows, expanded_rows, prepended_rows}
 use Rattle.grid.proofs.RowEditLemmas.{HasWidth, HasWidth-put, HasWidth-take, rows-put, rows-take}
 
 module _ {T : Type 0} where

@@ -1,14 +1,9 @@
 -- What an edit of the vector by groups of cells does to the rows of its table.
 use Rattle.std.proofs.Common.{◌≡◌, ℕ, zero, suc, ◌+◌, ◌*◌, ◌<◌, ◌≤◌, List, [], ◌∷◌, ◌++◌, length, take, drop, refl, sym, ◌∙◌, ap, arith, append_assoc, length-drop, slice_get, insert, remove, length-take-le}
-use Rattle.grid_base.proofs.Common.{drop_more, row, row_count, col_count, cell, IsTable, tabulate, storage, place, table_of, Woven, Closed}
+use Rattle.grid.proofs.Common.{drop_more, row, row_count, col_count, cell, IsTable, tabulate, storage, place, table_of, Woven, Closed, rows-tabulate, same_cells, by_storage, length-storage, get-storage, place_within, has_place, get_append_left, get_append_right, get-take, get-drop, width-table_of, cell-table_of, insert_rows, without_rows, RowGroups}
 use Rattle.grid_base.specs.declared.order.Order.{Order}
 use Rattle.grid_base.specs.declared.order.Order.TheVariants.{RowMajor, ColumnMajor}
-use Rattle.grid_base.proofs.TableLemmas.{rows-tabulate, same_cells}
-use Rattle.grid_base.proofs.ViewLemmas.{by_storage}
-use Rattle.grid_base.proofs.StorageLemmas.{length-storage, get-storage, place_within, has_place, get_append_left, get_append_right, get-take, get-drop, width-table_of, cell-table_of}
-use Rattle.grid.specs.Edits.{insert_rows, without_rows}
 use Rattle.grid.proofs.ListEditLemmas.{get_or-same}
-use Rattle.grid.specs.RowGroups.{RowGroups}
 use Rattle.grid.proofs.RowEditLemmas.{RowsWidened, rows_widened, rows_woven, table-put, table-take, cells-groups}
 
 place_of_line : (o : Order) (n c : ℕ) → place o 1 n 0 c ≡ c

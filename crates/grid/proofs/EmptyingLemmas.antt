@@ -1,12 +1,8 @@
 -- The slots of an array of rows are emptied one by one, in the order of a storage.
 use Rattle.std.proofs.Common.{◌≡◌, ◌≢◌, ℕ, ◌+◌, ◌*◌, ◌<◌, ◌≤◌, Option, Some, None, List, [], ◌∷◌, ◌++◌, length, get_or, is_some, true, false, refl, sym, ◌∙◌, ap, arith, ⊎_elim, length-append, subst, slice_get, option_map, length-set, mul_comm}
-use Rattle.grid_base.proofs.Common.{list_all, get_or_past, list_all_at, get_or_from_slice_get, slice_get_within, cases_eq, cases_lt, row, cell, with_cell, IsTable, place, storage}
+use Rattle.grid.proofs.Common.{list_all, get_or_past, list_all_at, get_or_from_slice_get, slice_get_within, cases_eq, cases_lt, row, cell, with_cell, IsTable, place, storage, get-storage, place_within, get_append_left, get_append_right, same_place, cell-written, cell-with_other, HasSize, by_order, are_full, HoldCells}
 use Rattle.grid_base.specs.declared.order.Order.{Order}
 use Rattle.grid_base.specs.declared.order.Order.TheVariants.{RowMajor, ColumnMajor}
-use Rattle.grid_base.proofs.StorageLemmas.{get-storage, place_within, get_append_left, get_append_right}
-use Rattle.grid_base.proofs.WriteLemmas.{same_place, cell-written, cell-with_other}
-use Rattle.grid.specs.Make.{HasSize}
-use Rattle.grid.specs.Slots.{by_order, are_full, HoldCells}
 
 -- of m rows of n slots, those whose place in the storage is below k were taken
 pub record Emptying {T : Type 0} (o : Order) (m n k : ℕ) (old now : List (List (Option T))) (taken : List T) : Type 0 where

@@ -1,15 +1,9 @@
 -- A part of a row-major grid that changes places with cells of another, line by line.
 use Rattle.std.proofs.Common.{◌≡◌, ◌⊎◌, ℕ, ◌+◌, ◌*◌, ◌^◌, ◌<◌, ◌≤◌, List, ◌++◌, take, drop, length, refl, sym, ◌∙◌, ap, subst, arith, inl, inr, ⊎_elim, mul-le-mul_right, slice_get}
-use Rattle.grid_base.proofs.Common.{cases_lt, cases_eq, take-append_seam, refill, BlockTaken, Woven, GridValue, HoldsSize, table_of, act, row_count, col_count, cell}
+use Rattle.grid.proofs.Common.{cases_lt, cases_eq, take-append_seam, refill, BlockTaken, Woven, GridValue, HoldsSize, table_of, act, row_count, col_count, cell, rows-act, cols-act, view-rows, view-cols, view-cell, view-past_cols, view-past_rows, grid_value, ViewValue, InRow, InRows, PartTaken, held, factor_small}
 use Rattle.grid_base.specs.declared.order.Order.{Order}
 use Rattle.grid_base.specs.declared.order.Order.TheVariants.{RowMajor}
 use Rattle.grid_base.specs.declared.words.Symmetry.TheVariants.{Transpose}
-use Rattle.grid_base.proofs.ActLemmas.{rows-act, cols-act}
-use Rattle.grid_base.proofs.ViewLemmas.{view-rows, view-cols, view-cell, view-past_cols, view-past_rows}
-use Rattle.grid.specs.View.{grid_value}
-use Rattle.grid_view.specs.Value.{ViewValue}
-use Rattle.grid.specs.Exchanged.{InRow, InRows, PartTaken, held}
-use Rattle.grid_commands.proofs.FactorLemmas.{factor_small}
 use Rattle.grid.proofs.SeenLemmas.{seen_rows, seen_cols}
 use Rattle.grid.proofs.ColEditLemmas.{cell-cross}
 use Rattle.grid_base.specs.Table as table

@@ -1,15 +1,10 @@
 -- What a pass over the cells of a grid makes of its table.
 use Rattle.std.proofs.Common.{◌≡◌, ℕ, ◌+◌, ◌-◌, ◌*◌, ◌/◌, ◌<◌, List, Bool, true, false, length, refl, sym, ◌∙◌, ap, arith, mul_comm, slice_get}
-use Rattle.grid_base.proofs.Common.{row_count, col_count, IsTable, table_of, place, flipped, HoldsSize, act, price, flags_of, from_flags, PartReversed}
+use Rattle.grid.proofs.Common.{row_count, col_count, IsTable, table_of, place, flipped, HoldsSize, act, price, flags_of, from_flags, PartReversed, view-act, view-table, view-transpose, rows-act, cols-act, product, act-act, act-identity, place_within, LinesReversed, EachLineReversed}
 use Rattle.grid_base.specs.declared.order.Order.{Order}
 use Rattle.grid_base.specs.declared.order.Order.TheVariants.{RowMajor, ColumnMajor}
 use Rattle.grid_base.specs.declared.words.Symmetry.TheVariants.{Identity, FlipRows, FlipCols, RotateHalf, Transpose, RotateLeft, RotateRight, AntiTranspose}
-use Rattle.grid_base.proofs.ViewLemmas.{view-act, view-table, view-transpose}
-use Rattle.grid_base.proofs.ActLemmas.{rows-act, cols-act}
-use Rattle.grid_base.proofs.GroupLemmas.{product, act-act, act-identity}
 use Rattle.grid_base.specs.declared.words.Symmetry.{Symmetry}
-use Rattle.grid_base.proofs.StorageLemmas.{place_within}
-use Rattle.grid.specs.Passes.{LinesReversed, EachLineReversed}
 
 module _ {T : Type 0} (m n : ℕ) (old new : List T) (h : HoldsSize m n (length old)) where
   pub flip_rows_by_lines : LinesReversed m n old new → table_of RowMajor m n new ≡ act FlipRows (table_of RowMajor m n old)

@@ -1,11 +1,7 @@
 -- A grid of the cells of a view.
 use Rattle.std.proofs.Common.{◌≡◌, ◌≢◌, ◌⊎◌, ℕ, ◌+◌, ◌*◌, ◌<◌, ◌≤◌, Option, List, [], length, sym, ◌∙◌, ap, subst, arith, inl, inr, ⊎_elim, Result, Ok, Err, IfOk}
-use Rattle.grid_base.proofs.Common.{cases_eq, cases_lt, mul-le, GridValue, row_count, col_count, cell, IsTable, storage}
+use Rattle.grid.proofs.Common.{cases_eq, cases_lt, mul-le, GridValue, row_count, col_count, cell, IsTable, storage, IsFull, IsFull-cells, rows-tabulate, cols-tabulate, same_by_storage, none_by_storage, sub_table, HasSize, IsMade}
 use Rattle.grid_base.specs.declared.order.Order.{Order}
-use Rattle.grid_base.proofs.TableLemmas.{IsFull, IsFull-cells, rows-tabulate, cols-tabulate}
-use Rattle.grid_base.proofs.ViewLemmas.{same_by_storage, none_by_storage}
-use Rattle.grid_view.specs.View.{sub_table}
-use Rattle.grid.specs.Make.{HasSize, IsMade}
 
 -- the table that is cut from the storage of another, at its width, is that table
 pub from_storage : {T : Type 0} (o : Order) (t u : List (List T)) → IsTable t → IsTable u → (cells : List T) (width : ℕ) → cells ≡ storage o t → storage o u ≡ cells → width ≡ col_count t → (length cells ≢ 0 → col_count u ≡ width) → u ≡ t

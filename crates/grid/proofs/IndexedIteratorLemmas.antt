@@ -1,14 +1,9 @@
 -- What iterators over cells with their positions give.
 use Rattle.std.proofs.Common.{◌≡◌, ℕ, ◌^◌, ◌<◌, List, Option, Some, length, zip, sym, subst, ◌∙◌, ap, arith, slice_get, slice_index_or, unwrap_or, Bor, MutBor, MatchOption}
-use Rattle.grid_base.proofs.Common.{YieldsFirst, YieldsFirstBy, EveryRun, EachRunFrom, AllItems, ItemsMapTo, from_front, at_some, at-is, unwrap_or-slice_get, positions, GridValue, HoldsSize, IsCellAt, GivesCells, GivesOwnedCells, GivesMutCells}
+use Rattle.grid.proofs.Common.{YieldsFirst, YieldsFirstBy, EveryRun, EachRunFrom, AllItems, ItemsMapTo, from_front, at_some, at-is, unwrap_or-slice_get, positions, GridValue, HoldsSize, IsCellAt, GivesCells, GivesOwnedCells, GivesMutCells, indexed_mut_rest, has_place, get-places, zip_within, get-zip, grid_value}
 use Rattle.std.proofs.iter.runs.Lists.{slice_get_within}
 use Rattle.grid_base.specs.declared.order.Order.{Order}
 use Rattle.grid_base.specs.declared.flat.indexed.IndexedIterMut.{IndexedIterMut}
-use Rattle.grid_base.specs.IndexedIterMut.{indexed_mut_rest}
-use Rattle.grid_base.proofs.StorageLemmas.{has_place}
-use Rattle.grid_base.proofs.PlaceLemmas.{get-places}
-use Rattle.grid_base.proofs.PlacedCellLemmas.{zip_within, get-zip}
-use Rattle.grid.specs.View.{grid_value}
 use Rattle.grid.proofs.CellCallLemmas.{item_at, seen_cell, seen_in}
 
 module _ {A : Type 0} (t : List (List A)) (whole : List ((ℕ × ℕ) × A)) (each : (k : ℕ) (x : (ℕ × ℕ) × A) → k < length whole → x ≡ slice_index_or whole k x → IsCellAt t x.0 x.1) where

@@ -1,11 +1,9 @@
 -- The rows of cells that are laid out anew.
 use Rattle.std.proofs.Common.{◌≡◌, ◌*◌, ℕ, List, length, ◌∙◌, sym}
 use Rattle.grid_base.specs.declared.order.Order.TheVariants.{RowMajor, ColumnMajor}
+use Rattle.grid.proofs.Common.{Relaid, rows-tabulate, width-table_of, cell-table_of}
 use Rattle.grid_base.specs.Order.{table_of}
-use Rattle.grid_base.specs.Relaid.{Relaid}
 use Rattle.grid.proofs.RowEditLemmas.{table_by_cells}
-use Rattle.grid_base.proofs.TableLemmas.{rows-tabulate}
-use Rattle.grid_base.proofs.StorageLemmas.{width-table_of, cell-table_of}
 
 module _ {T : Type 0} (m n : ℕ) (old new : List T) (len : length old ≡ m * n) where
   pub relaid_rows : Relaid m n old new → table_of ColumnMajor m n new ≡ table_of RowMajor m n old

@@ -1,21 +1,11 @@
 -- Edits of rows as the code of a grid does them, and of columns as those of rows between two transposes.
 use Rattle.std.proofs.Common.{◌≡◌, ℕ, ◌+◌, ◌-◌, ◌<◌, ◌≤◌, Bool, true, false, not, ◌&&◌, Option, Some, None, List, [], ◌∷◌, Vec, nat_lt, if◌then◌else◌, IsTrue, MatchOption, Result, Ok, ◌↔◌, refl, sym, ◌∙◌, ap, subst, arith, ⊎_elim, insert, remove, slice_get, option_map, is_none, lt-ltb, le-ltb}
-use Rattle.grid_base.proofs.Common.{cases_lt, on_ok_weaker, on_err_weaker, IfOk-weaker, slice_get_past, slice_get-get_or, row, row_count, col_count, cell, IsTable, GridValue, items_of_each, flipped, act}
+use Rattle.grid.proofs.Common.{cases_lt, on_ok_weaker, on_err_weaker, IfOk-weaker, slice_get_past, slice_get-get_or, row, row_count, col_count, cell, IsTable, GridValue, items_of_each, flipped, act, past_cols, cell_past_rows, flipped-flipped, Edit, read, push, insert_at, insert_all, pop, remove_at, delete_at, delete_range, expand, prepend, get, lines, ReplyValue, reply_value, done, cell_is, line_is, flag_is, refused, in_range, lines_refusal, pad_refusal, edit_refusal, pad_edit, without_rows, PadsRows, EditIsKnown, nothing, removes, range_effect, effect, after_effect, edit_reply, step_rows, step_reply, memory_at, Edited, Stepped}
 use Rattle.grid_base.specs.declared.words.Symmetry.TheVariants.{Transpose}
-use Rattle.grid_base.proofs.TableLemmas.{past_cols, cell_past_rows}
-use Rattle.grid_base.proofs.ViewLemmas.{flipped-flipped}
 use Rattle.grid_commands.specs.declared.command.Axis.{Axis}
 use Rattle.grid_commands.specs.declared.command.Axis.TheVariants.{Row, Col}
 use Rattle.grid_commands.specs.declared.command.Refusal.{Refusal}
 use Rattle.grid_commands.specs.declared.command.Reply.{Reply}
-use Rattle.grid_commands.specs.Command.{Edit, read, push, insert_at, insert_all, pop, remove_at, delete_at, delete_range, expand, prepend, get, lines}
-use Rattle.grid_commands.specs.Reply.{ReplyValue, reply_value, done, cell_is, line_is, flag_is, refused}
-use Rattle.grid_commands.specs.Refusal.{in_range, lines_refusal, pad_refusal, edit_refusal}
-use Rattle.grid_commands.specs.LineEdit.{pad_edit}
-use Rattle.grid.specs.Edits.{without_rows, PadsRows}
-use Rattle.grid.specs.Step.{EditIsKnown, nothing, removes, range_effect, effect, after_effect, edit_reply, step_rows, step_reply, memory_at}
-use Rattle.grid.specs.Edited.{Edited}
-use Rattle.grid.specs.Stepped.{Stepped}
 use Rattle.grid.proofs.EditViewLemmas.{put_line, take_line}
 use Rattle.grid.proofs.NoneTakenLemmas.{remove-past}
 use Rattle.grid.proofs.ColEditLemmas.{across-across, rows-across, cols-across}

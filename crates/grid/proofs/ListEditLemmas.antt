@@ -1,7 +1,6 @@
 -- Lists into which a part is put, and from which a part is taken.
 use Rattle.std.proofs.Common.{◌≡◌, ℕ, ◌+◌, ◌-◌, ◌<◌, ◌≤◌, List, ◌++◌, length, get_or, take, drop, unwrap_or, refl, sym, ◌∙◌, ap, subst, arith, length-append, length-drop, ⊎_elim, slice_get, length-take-le}
-use Rattle.grid_base.proofs.Common.{unwrap_or-slice_get, cases_lt}
-use Rattle.grid_base.proofs.StorageLemmas.{get_append_left, get_append_right, get-take, get-drop}
+use Rattle.grid.proofs.Common.{unwrap_or-slice_get, cases_lt, get_append_left, get_append_right, get-take, get-drop}
 
 module _ {X : Type 0} where
   -- a list of which the elements from i to n are gone, or are there twice

@@ -1,10 +1,7 @@
 -- What a table that is cut from cells says of its size and of each cell.
 use Rattle.std.proofs.Common.{◌≡◌, ◌≢◌, ℕ, ◌*◌, ◌/◌, ◌%◌, ◌<◌, Some, List, [], length, All, replicate, sym, ◌∙◌, ap, arith, slice_get, mul-div_cancel, inl, inr, ⊎_elim}
-use Rattle.grid_base.proofs.Common.{mul-mod_left, get_or-replicate, length-replicate, slice_get-get_or, cases_eq, row_count, col_count, cell, InRange, IsTable, storage, place, CanCut}
+use Rattle.grid.proofs.Common.{mul-mod_left, get_or-replicate, length-replicate, slice_get-get_or, cases_eq, row_count, col_count, cell, InRange, IsTable, storage, place, CanCut, length-storage, get-storage, place_within, none_by_storage, HasSize, EachCellIs}
 use Rattle.grid_base.specs.declared.order.Order.{Order}
-use Rattle.grid_base.proofs.StorageLemmas.{length-storage, get-storage, place_within}
-use Rattle.grid_base.proofs.ViewLemmas.{none_by_storage}
-use Rattle.grid.specs.Make.{HasSize, EachCellIs}
 
 cancelled : (m k n : ℕ) → n ≢ 0 → m * n ≡ k * n → m ≡ k
 cancelled m k n some e =

@@ -1,10 +1,7 @@
 -- A grid that is made at the size of a table by a closure that is called at the cells there.
 use Rattle.std.proofs.Common.{◌≡◌, ℕ, zero, suc, ◌<◌, List, Some, Option, Result, Ok, Err, IfOk, sym, subst, ◌∙◌, ap, arith, IfErr, Bor}
-use Rattle.grid_base.proofs.Common.{row_count, col_count, cell, InRange, IsSize, tabulate, GridValue, SameSizeAndOrder}
+use Rattle.grid.proofs.Common.{row_count, col_count, cell, InRange, IsSize, tabulate, GridValue, SameSizeAndOrder, IsSize-table, MappedBy, HasSize, IsMade, MadeBy, FailsAt}
 use Rattle.grid_base.specs.declared.order.Order.{Order}
-use Rattle.grid_base.proofs.TableLemmas.{IsSize-table}
-use Rattle.grid.specs.AllCells.{MappedBy}
-use Rattle.grid.specs.Make.{HasSize, IsMade, MadeBy, FailsAt}
 use Rattle.grid.proofs.CellCallLemmas.{some_and_map}
 
 module _ {B : Type 0} where

@@ -1,7 +1,6 @@
 -- A loop that counts the cells round a cell at which a closure answers true.
 use Rattle.std.proofs.Common.{◌≡◌, ℕ, suc, ◌+◌, ◌≤◌, inl, inr, Bool, true, false, cond, List, [], ◌∷◌, length, refl, subst, sym, ◌∙◌, ap, arith, count_by, Bor}
-use Rattle.std.proofs.lemmas.List.Sums.{sum_by-cons}
-use Rattle.grid_near.specs.NearCounts.{CallableNear, MayCount, CountsNear}
+use Rattle.grid.proofs.Common.{sum_by-cons, CallableNear, MayCount, CountsNear}
 
 abbrev weight : Bool → ℕ
 weight b = cond b 1 0

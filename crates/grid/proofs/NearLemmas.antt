@@ -1,14 +1,12 @@
 -- The cells round a cell are cells of the table, at their positions.
 use Rattle.std.proofs.Common.{◌≡◌, ℕ, zero, suc, ◌<◌, ◌&&◌, Bool, true, false, cond, nat_lt, Option, Some, None, List, [], ◌∷◌, length, refl, subst, sym, arith, filter_map, slice_index_or, option_map, option_and_then}
-use Rattle.grid_base.proofs.Common.{cons_option, row_count, col_count, cell, IsTable, IsCellAt, GivesCells}
-use Rattle.grid_near.specs.Neighbors.{both, cell_at, neighbors4, neighbors8, wrapped_neighbors4, wrapped_neighbors8, round_of}
+use Rattle.grid.proofs.Common.{cons_option, row_count, col_count, cell, IsTable, IsCellAt, GivesCells, both, cell_at, neighbors4, neighbors8, wrapped_neighbors4, wrapped_neighbors8, round_of, cell_in_range}
 use Rattle.grid_near.specs.Around.{positions}
 use Rattle.grid_near.specs.declared.steps.Steps.{Steps}
 use Rattle.grid_near.specs.declared.steps.Steps.TheVariants.{Sides, All}
 use Rattle.grid_near.specs.declared.board.Edges.{Edges}
 use Rattle.grid_near.specs.declared.board.Edges.TheVariants.{Open, Joined}
 use Rattle.grid.proofs.IndexedIteratorLemmas.{gives_cells_of}
-use Rattle.grid_base.proofs.TableLemmas.{cell_in_range}
 
 module _ {X Y : Type 0} (P : Y → Type 0) (f : X → Option Y) (found : (x : X) (y : Y) → f x ≡ Some y → P y) where
   one_more : (o : Option Y) (rest : List Y) → ((y : Y) → o ≡ Some y → P y) → ((k : ℕ) (y : Y) → k < length rest → y ≡ slice_index_or rest k y → P y) → (k : ℕ) (y : Y) → k < length (cons_option o rest) → y ≡ slice_index_or (cons_option o rest) k y → P y

@@ -1,7 +1,6 @@
 -- Edits that take nothing.
 use Rattle.std.proofs.Common.{◌≡◌, ℕ, ◌+◌, ◌<◌, ◌≤◌, suc, List, ◌++◌, length, map, filter, take, drop, ◌∙◌, ap, arith, remove, take_all, append-nil, map-id}
-use Rattle.grid_base.proofs.Common.{drop_all, row, row_count, col_count, IsTable}
-use Rattle.grid.specs.Edits.{without_cols, has_cells}
+use Rattle.grid.proofs.Common.{drop_all, row, row_count, col_count, IsTable, without_cols, has_cells}
 use Rattle.grid.proofs.ColEditLemmas.{filter_all, map_same}
 
 cut_past : {X : Type 0} (xs : List X) (i n : ℕ) → length xs ≤ i → i ≤ n → take i xs ++ drop n xs ≡ xs

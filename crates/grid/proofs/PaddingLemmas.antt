@@ -1,11 +1,7 @@
 -- What opened groups of fresh cells are in the table: rows of padding.
 use Rattle.std.proofs.Common.{◌≡◌, ℕ, zero, suc, ◌+◌, ◌*◌, ◌-◌, ◌<◌, ◌≤◌, Option, Some, List, [], ◌∷◌, length, take, drop, replicate, refl, sym, ◌∙◌, ap, subst, arith, is_some, length-drop, slice_get, All, length-take-le}
-use Rattle.grid_base.proofs.Common.{All-nil, All-cons, All-head, All-tail, All-get_or, All-from_get_or, get_or_from_slice_get, row, row_count, cell, tabulate, place, table_of, Opened}
+use Rattle.grid.proofs.Common.{All-nil, All-cons, All-head, All-tail, All-get_or, All-from_get_or, get_or_from_slice_get, row, row_count, cell, tabulate, place, table_of, Opened, rows-tabulate, cell-tabulate, width-tabulate, IsFull, IsSome_within, place_within, get-take, get-drop, width-table_of, cell-table_of, insert_rows, RowGroups}
 use Rattle.grid_base.specs.declared.order.Order.{Order}
-use Rattle.grid_base.proofs.TableLemmas.{rows-tabulate, cell-tabulate, width-tabulate, IsFull, IsSome_within}
-use Rattle.grid_base.proofs.StorageLemmas.{place_within, get-take, get-drop, width-table_of, cell-table_of}
-use Rattle.grid.specs.Edits.{insert_rows}
-use Rattle.grid.specs.RowGroups.{RowGroups}
 use Rattle.grid.proofs.RowEditLemmas.{rows_widened, rows_opened, table-put}
 
 module _ {T : Type 0} (o : Order) (m n i k : ℕ) (old new : List T) where

@@ -1,12 +1,6 @@
 -- A part of a grid that takes the cells of another.
 use Rattle.std.proofs.Common.{subst, ◌≡◌, ◌≢◌, ◌⊎◌, ℕ, ℤ, ◌+◌, ◌-◌, ◌*◌, ◌<◌, ◌≤◌, Bool, true, false, Option, Some, None, List, [], if◌then◌else◌, refl, sym, ◌∙◌, ap, arith, inl, inr, ⊎_elim, pos, IsSome, MatchOption, Decides, Bor, lt-ltb, le-ltb}
-use Rattle.grid_base.proofs.Common.{option_or, nat_tests, cases_lt, cases_eq, mul-le, row_count, col_count, cell, tabulate, with_cell, InRange, IsTable, GridValue}
-use Rattle.grid_base.proofs.TableLemmas.{IsFull, IsFull-cells, tabulate-cells, tabulate-same, cell-tabulate, cell_past_rows, past_cols}
-use Rattle.grid_base.proofs.WriteLemmas.{cell-with_same, cell-with_other}
-use Rattle.grid_view.specs.View.{sub_table}
-use Rattle.grid.specs.Make.{HasSize, EachCellIs}
-use Rattle.grid.specs.Exchanged.{InRows, PartTaken}
-use Rattle.grid.specs.Pasted.{in_part, counted_from, cell_of, overlaid, IsClipped, IsWithin, CellUpdated, CellsUpdated, PartUpdated, part_filled}
+use Rattle.grid.proofs.Common.{option_or, nat_tests, cases_lt, cases_eq, mul-le, row_count, col_count, cell, tabulate, with_cell, InRange, IsTable, GridValue, IsFull, IsFull-cells, tabulate-cells, tabulate-same, cell-tabulate, cell_past_rows, past_cols, cell-with_same, cell-with_other, sub_table, HasSize, EachCellIs, InRows, PartTaken, in_part, counted_from, cell_of, overlaid, IsClipped, IsWithin, CellUpdated, CellsUpdated, PartUpdated, part_filled}
 use Rattle.grid.proofs.FromViewLemmas.{part_size}
 
 -- a cell that a table hasn't

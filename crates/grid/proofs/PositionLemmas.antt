@@ -1,7 +1,6 @@
 -- The cells of a table passed row by row.
 use Rattle.std.proofs.Common.{◌≡◌, ℕ, ◌+◌, ◌<◌, ◌≤◌, ◌⊎◌, inl, inr, Bool, true, false, List, [], ◌∷◌, ◌++◌, length, slice_index_or, refl, subst, sym, ◌∙◌, ap, arith, length-append, Bor}
-use Rattle.grid_base.proofs.Common.{cases_lt, get_or_append_left, get_or-append_seam, row_count, col_count, InRange}
-use Rattle.grid.specs.Found.{Precedes, IsAmong, AnswersAt, FoundAll}
+use Rattle.grid.proofs.Common.{cases_lt, get_or_append_left, get_or-append_seam, row_count, col_count, InRange, Precedes, IsAmong, AnswersAt, FoundAll}
 
 -- P holds of the positions before (r, c)
 module _ {T : Type 0} (t : List (List T)) (P : ℕ × ℕ → Type 0) where

@@ -1,14 +1,8 @@
 -- Cells that are taken over by another grid.
 use Rattle.std.proofs.Common.{◌≡◌, ◌⊎◌, ◌↔◌, ℕ, ◌+◌, ◌-◌, ◌*◌, ◌<◌, ◌≤◌, Bool, true, false, IsTrue, if◌then◌else◌, Option, Some, None, List, [], ◌++◌, take, length, All, refl, sym, ◌∙◌, ap, arith, ⊎_elim, subst, slice_get, unwrap_or, IsSome, length-take-le, get_or-take, append-nil}
-use Rattle.grid_base.proofs.Common.{cases_lt, cases_eq, slice_get_cases, drop_all, nil_from_length, All-get_or, row, row_count, col_count, cell, tabulate, InRange, IsTable, storage, place, GridValue, act}
+use Rattle.grid.proofs.Common.{cases_lt, cases_eq, slice_get_cases, drop_all, nil_from_length, All-get_or, row, row_count, col_count, cell, tabulate, InRange, IsTable, storage, place, GridValue, act, length-storage, get-storage, place_within, HasSize, without_rows, InRows, PartTaken, IsCorner, IsResized, ResizesTo, cell_or, IsFull-cells, rows-tabulate, tabulate-cells, tabulate-same, cell_past_rows}
 use Rattle.grid_base.specs.declared.order.Order.{Order}
-use Rattle.grid_base.proofs.StorageLemmas.{length-storage, get-storage, place_within}
-use Rattle.grid.specs.Make.{HasSize}
-use Rattle.grid.specs.Edits.{without_rows}
-use Rattle.grid.specs.Exchanged.{InRows, PartTaken}
-use Rattle.grid.specs.Resize.{IsCorner, IsResized, ResizesTo, cell_or}
 use Rattle.grid_base.specs.declared.words.Symmetry.TheVariants.{Transpose}
-use Rattle.grid_base.proofs.TableLemmas.{IsFull-cells, rows-tabulate, tabulate-cells, tabulate-same, cell_past_rows}
 use Rattle.grid.proofs.ExchangeLemmas.{corner_taken, corner_kept}
 use Rattle.grid.proofs.SplitLemmas.{times_none}
 use Rattle.grid.proofs.ColEditLemmas.{rows-across, cols-across, cell-cross}

@@ -1,7 +1,6 @@
 -- A pass that reverses the order of p lines of q cells, after it exchanged the outer l on each side.
 use Rattle.std.proofs.Common.{◌≡◌, ℕ, ◌+◌, ◌-◌, ◌*◌, ◌/◌, ◌<◌, ◌≤◌, List, length, refl, sym, ◌∙◌, ap, arith, ⊎_elim, slice_get, mul-le-mul_right}
-use Rattle.grid_base.proofs.Common.{mul-add-lt, cases_lt, BlocksSwapped}
-use Rattle.grid.specs.Passes.{LinesReversed}
+use Rattle.grid.proofs.Common.{mul-add-lt, cases_lt, BlocksSwapped, LinesReversed}
 
 pub record Reversing {T : Type 0} (p q l : ℕ) (old now : List T) : Type 0 where
   pub length_stays : length now ≡ length old

@@ -1,14 +1,9 @@
 -- Rows put into a table and taken out of it, and what the storage has then.
 use Rattle.std.proofs.Common.{◌≡◌, ℕ, ◌+◌, ◌*◌, ◌-◌, ◌<◌, ◌≤◌, Option, List, [], length, refl, sym, ◌∙◌, ap, subst, arith, is_some, ⊎_elim, slice_get, ne_eqb, mul-le-mul_right}
-use Rattle.grid_base.proofs.Common.{mul-add-lt, cases_lt, row, row_count, cell, tabulate, place, table_of, Widened, Woven, Opened}
+use Rattle.grid.proofs.Common.{mul-add-lt, cases_lt, row, row_count, cell, tabulate, place, table_of, Widened, Woven, Opened, rows-tabulate, cell-tabulate, width-tabulate, same_tables, IsFull, IsSome_within, insert_rows, without_rows, RowGroups, rows_added_shift, rows_taken_shift, at_equal}
 use Rattle.grid_base.specs.declared.order.Order.{Order}
 use Rattle.grid_base.specs.declared.order.Order.TheVariants.{RowMajor, ColumnMajor}
-use Rattle.grid_base.proofs.TableLemmas.{rows-tabulate, cell-tabulate, width-tabulate, same_tables, IsFull, IsSome_within}
-use Rattle.grid.specs.Edits.{insert_rows, without_rows}
-use Rattle.grid.specs.RowGroups.{RowGroups}
-use Rattle.grid.specs.Shift.{rows_added_shift, rows_taken_shift}
 use Rattle.grid.proofs.ListEditLemmas.{get-cut_before, get-cut_after, get-put_before, get-put_new, get-put_after, length-put, length-cut, get_or-same, put_cases}
-use Rattle.grid_base.proofs.WeaveLemmas.{at_equal}
 
 -- the lines have the cells of the other rows
 pub cells-groups : (o : Order) (m n i k p q a g : ℕ) → RowGroups o m n i k p q a g → p * q ≡ m * n

@@ -1,14 +1,9 @@
 -- A run of one more command.
 use Rattle.std.proofs.Common.{◌≡◌, ℕ, ◌+◌, ◌<◌, suc, List, [], ◌∷◌, ◌++◌, map, length, take, slice_get, length-append, Some, IsTrue, Result, Ok, Err, OnOk, IfOk, inr, refl, sym, ◌∙◌, ap, subst, arith, All, option_map}
-use Rattle.grid_base.proofs.Common.{map-append, take-map, length-map, All-pop, slice_get-map, take-append_seam, GridValue, row_count, col_count, symmetry_of, order_after, Counts, saturating_count, ClonesAreEqual}
+use Rattle.grid.proofs.Common.{map-append, take-map, length-map, All-pop, slice_get-map, take-append_seam, GridValue, row_count, col_count, symmetry_of, order_after, Counts, ClonesAreEqual, product, symmetry_of-product_from, symmetry_of-more, order_after-order_after, CommandValue, ReplyValue, step_rows, step_reply, takes_memory, RowsAreKnown, command_symmetry, list_symmetry, price_at, shift_at, run_rows, run_replies, run_price, run_shift, LeftByRun, Ran, MayStop}
+use Rattle.grid_base.proofs.Common.{saturating_count}
 use Rattle.grid_base.specs.declared.order.Order.{Order}
 use Rattle.grid_base.specs.declared.words.Symmetry.TheVariants.{Identity}
-use Rattle.grid_base.proofs.GroupLemmas.{product, symmetry_of-product_from, symmetry_of-more, order_after-order_after}
-use Rattle.grid_commands.specs.Command.{CommandValue}
-use Rattle.grid_commands.specs.Reply.{ReplyValue}
-use Rattle.grid.specs.Step.{step_rows, step_reply, takes_memory, RowsAreKnown}
-use Rattle.grid.specs.Cost.{command_symmetry, list_symmetry, price_at, shift_at}
-use Rattle.grid.specs.Run.{run_rows, run_replies, run_price, run_shift, LeftByRun, Ran, MayStop}
 use Rattle.grid.proofs.CellCallLemmas.{at_seam}
 
 module _ {T : Type 0} where

@@ -1,9 +1,7 @@
 -- Tables that are the same cell by cell and storage by storage.
 use Rattle.std.proofs.Common.{◌≡◌, ◌<◌, Bool, true, false, List, length, refl, sym, ap, ◌∙◌, ◌*◌, arith, Some, slice_get}
-use Rattle.grid_base.proofs.Common.{pointwise, row, row_count, col_count, cell, IsTable, storage, place, slice_get_within}
+use Rattle.grid.proofs.Common.{pointwise, row, row_count, col_count, cell, IsTable, storage, place, slice_get_within, length-storage, get-storage, has_place, row_at, row_is, same_at, same_by}
 use Rattle.grid_base.specs.declared.order.Order.{Order}
-use Rattle.grid_base.proofs.StorageLemmas.{length-storage, get-storage, has_place}
-use Rattle.grid_view.proofs.SameLemmas.{row_at, row_is, same_at, same_by}
 
 bool_iff : (a b : Bool) → (a ≡ true → b ≡ true) → (b ≡ true → a ≡ true) → a ≡ b
 bool_iff true b f g = sym (f refl)

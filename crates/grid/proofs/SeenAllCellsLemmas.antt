@@ -1,12 +1,7 @@
 -- What calls on all cells of a grid's vector say of the value that a contract sees.
 use Rattle.std.proofs.Common.{◌≡◌, ℕ, zero, suc, ◌*◌, ◌<◌, List, [], ◌∷◌, Some, length, map, replicate, refl, sym, ◌∙◌, ap, arith, slice_get}
-use Rattle.grid_base.proofs.Common.{get_or-map, length-map, length-replicate, row, table_of, storage, place, GridValue, HoldsSize, SameSizeAndOrder}
+use Rattle.grid.proofs.Common.{get_or-map, length-map, length-replicate, row, table_of, storage, place, GridValue, HoldsSize, SameSizeAndOrder, same_tables, width-tabulate, IsFull-table_of, place_within, get-replicate, view-rows, view-cols, view-storage, view-cell, grid_value, filled}
 use Rattle.grid_base.specs.declared.order.Order.{Order}
-use Rattle.grid_base.proofs.TableLemmas.{same_tables, width-tabulate}
-use Rattle.grid_base.proofs.StorageLemmas.{IsFull-table_of, place_within, get-replicate}
-use Rattle.grid_base.proofs.ViewLemmas.{view-rows, view-cols, view-storage, view-cell}
-use Rattle.grid.specs.View.{grid_value}
-use Rattle.grid.specs.AllCells.{filled}
 use Rattle.grid.proofs.SeenLemmas.{seen_rows, seen_cols}
 
 -- as many other cells in place of a grid's

@@ -1,15 +1,8 @@
 -- What a line edit starts from and leaves, by a grid's fields.
 use Rattle.std.proofs.Common.{◌≡◌, ◌<◌, ◌≤◌, ◌+◌, ◌-◌, ◌*◌, ◌^◌, ◌++◌, [], ℕ, zero, suc, List, Vec, take, drop, length, length-append, refl, sym, ◌∙◌, ap, arith, ⊎_elim, subst, Bool, true, false, IsTrue, ◌↔◌}
-use Rattle.grid_base.proofs.Common.{cases_lt, cases_eq, nil_from_length, take-append_seam, drop-append_seam, eqb-suc-zero, row_count, col_count, IsTable, storage, table_of, items_of_each, GridValue, HoldsSize, Woven, Closed, TakenOut}
+use Rattle.grid.proofs.Common.{cases_lt, cases_eq, nil_from_length, take-append_seam, drop-append_seam, eqb-suc-zero, row_count, col_count, IsTable, storage, table_of, items_of_each, GridValue, HoldsSize, Woven, Closed, TakenOut, rows-vecs, length-storage, FitsRow, insert_rows, without_rows, RowGroups, cols_if_rows, HoldsSize-none, view-rows, view-cols, view-table, view-storage, grid_value, rows_added_shift, rows_taken_shift}
 use Rattle.grid_base.specs.declared.order.Order.{Order}
-use Rattle.grid_base.proofs.GatherLemmas.{rows-vecs}
-use Rattle.grid_base.proofs.StorageLemmas.{length-storage}
-use Rattle.grid.specs.Edits.{FitsRow, insert_rows, without_rows}
-use Rattle.grid.specs.RowGroups.{RowGroups, cols_if_rows}
 use Rattle.grid.proofs.SeenLemmas.{seen_rows, seen_cols}
-use Rattle.grid_base.proofs.ViewLemmas.{HoldsSize-none, view-rows, view-cols, view-table, view-storage}
-use Rattle.grid.specs.View.{grid_value}
-use Rattle.grid.specs.Shift.{rows_added_shift, rows_taken_shift}
 use Rattle.grid.proofs.RowEditLemmas.{cells-groups, shift-taken}
 use Rattle.grid.proofs.EditViewLemmas.{view-without_rows, view-taken_rows, view-close_rows, cells-closed, view-insert_rows, table_of-no_rows}
 use Rattle.grid.proofs.EditSizeLemmas.{HoldsSize-fewer, HoldsSize-filled}

@@ -1,13 +1,8 @@
 -- What iterators over a grid's fields say of the value that a contract sees.
 use Rattle.std.proofs.Common.{◌≡◌, ℕ, List, ◌++◌, length, take, drop, zip, refl, sym, ◌∙◌, ap}
-use Rattle.grid_base.proofs.Common.{refill, length_refill, row_count, col_count, transposed, place, flipped, table_of, positions, GridValue, HoldsSize}
+use Rattle.grid.proofs.Common.{refill, length_refill, row_count, col_count, transposed, place, flipped, table_of, positions, GridValue, HoldsSize, written_from, act_is_transposed, same_grid_value, view-transpose, grid_value, with_cells, stored, refilled, refilled_from, IsSameSize, KeepsSize, KeepsSizeFrom}
 use Rattle.grid_base.specs.declared.order.Order.{Order}
 use Rattle.grid_base.specs.declared.order.Order.TheVariants.{RowMajor, ColumnMajor}
-use Rattle.grid_base.specs.FlatLends.{written_from}
-use Rattle.grid_base.proofs.ActLemmas.{act_is_transposed}
-use Rattle.grid_base.proofs.ViewLemmas.{same_grid_value, view-transpose}
-use Rattle.grid.specs.View.{grid_value, with_cells}
-use Rattle.grid.specs.Iterators.{stored, refilled, refilled_from, IsSameSize, KeepsSize, KeepsSizeFrom}
 use Rattle.grid.proofs.SeenLemmas.{seen_rows, seen_cols, seen_storage}
 
 -- the storage of a table is that of the transposed table in the other order

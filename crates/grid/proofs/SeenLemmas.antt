@@ -1,9 +1,7 @@
 -- What a grid's fields say of the value that a contract sees.
 use Rattle.std.proofs.Common.{◌≡◌, ◌<◌, ℕ, List, [], length, sym, ◌∙◌, ap, arith, ◌↔◌, IsTrue, nat_eq, eqb-true, eq-eqb}
-use Rattle.grid_base.proofs.Common.{row_count, col_count, InRange, table_of, storage, GridValue, HoldsSize, nil_from_length}
+use Rattle.grid.proofs.Common.{row_count, col_count, InRange, table_of, storage, GridValue, HoldsSize, nil_from_length, same_grid_value, view-rows, view-cols, view-storage, grid_value}
 use Rattle.grid_base.specs.declared.order.Order.{Order}
-use Rattle.grid_base.proofs.ViewLemmas.{same_grid_value, view-rows, view-cols, view-storage}
-use Rattle.grid.specs.View.{grid_value}
 
 module _ {T : Type 0} (o : Order) (m n : ℕ) (cells : List T) (s : GridValue T) (h : HoldsSize m n (length cells)) where
   pub seen_rows : grid_value o m n cells h ≡ s → row_count s.rows ≡ m

@@ -1,14 +1,8 @@
 -- What padding starts from and leaves, by a grid's fields, and as columns between two transposes.
 use Rattle.std.proofs.Common.{◌≡◌, ◌<◌, ◌≤◌, ◌+◌, ◌*◌, ◌^◌, ◌⊎◌, ◌∷◌, [], ℕ, List, take, drop, length, refl, sym, ◌∙◌, ap, arith, ⊎_elim, subst, inr, length-append, All, take_at, drop_at, ext_get_or}
-use Rattle.grid_base.proofs.Common.{nil_from_length, length-replicate, All-nil, All-get_or, cases_eq, row, row_count, col_count, IsTable, table_of, flipped, GridValue, HoldsSize, act, Opened}
+use Rattle.grid.proofs.Common.{nil_from_length, length-replicate, All-nil, All-get_or, cases_eq, row, row_count, col_count, IsTable, table_of, GridValue, HoldsSize, act, Opened, grid_value, AppendsEach, factor_small, PadsRows, PadsCols, padding_count, insert_rows, expanded_rows, prepended_rows, IsOnlyDefault, RowGroups}
 use Rattle.grid_base.specs.declared.order.Order.{Order}
 use Rattle.grid_base.specs.declared.words.Symmetry.TheVariants.{Transpose}
-use Rattle.grid.specs.View.{grid_value}
-use Rattle.grid_base.specs.Append.{AppendsEach}
-use Rattle.grid_commands.proofs.FactorLemmas.{factor_small}
-use Rattle.grid.specs.Edits.{PadsRows, PadsCols, padding_count, insert_rows, expanded_rows, prepended_rows}
-use Rattle.grid.specs.Make.{IsOnlyDefault}
-use Rattle.grid.specs.RowGroups.{RowGroups}
 use Rattle.grid.proofs.SeenLemmas.{seen_rows, seen_cols}
 use Rattle.grid.proofs.PaddingLemmas.{RowsOpened, view-open_rows, All-all_fresh, replicate_from_all, All-from_gets, holds_at}
 use Rattle.grid.proofs.EditSizeLemmas.{HoldsSize-filled, IsTable-width, put-no_lines, copies, row-copies, expanded-put, prepended-put}

@@ -1,12 +1,8 @@
 -- Rows that are split off a grid, and cells that are cut into the rows that they had.
 use Rattle.std.proofs.Common.{◌≡◌, ◌≢◌, ◌<◌, ◌≤◌, ◌+◌, ◌-◌, ◌*◌, ◌++◌, [], ℕ, List, take, drop, length, length-drop, sym, ◌∙◌, ap, arith, ⊎_elim, inl, subst, take_all, append-nil}
-use Rattle.grid_base.proofs.Common.{drop_all, cases_eq, row_count, col_count, IsTable, storage, CanCut, act}
+use Rattle.grid.proofs.Common.{drop_all, cases_eq, row_count, col_count, IsTable, storage, CanCut, act, length-storage, same_by_storage, none_by_storage, CanCut-storage, without_rows, without_cols, rows-act}
 use Rattle.grid_base.specs.declared.order.Order.{Order}
-use Rattle.grid_base.proofs.StorageLemmas.{length-storage}
-use Rattle.grid_base.proofs.ViewLemmas.{same_by_storage, none_by_storage, CanCut-storage}
-use Rattle.grid.specs.Edits.{without_rows, without_cols}
 use Rattle.grid_base.specs.declared.words.Symmetry.TheVariants.{Transpose}
-use Rattle.grid_base.proofs.ActLemmas.{rows-act}
 use Rattle.grid.proofs.ColEditLemmas.{without_cols-across}
 use Rattle.grid.proofs.EditSizeLemmas.{IsTable-take, cols-take}
 

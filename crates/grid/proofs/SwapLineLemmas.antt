@@ -1,14 +1,9 @@
 -- Two rows or two columns of a table that change places, cell by cell.
 use Rattle.std.proofs.Common.{◌≡◌, ◌≢◌, ℕ, ◌+◌, ◌*◌, ◌<◌, ◌≤◌, Bool, true, false, nat_eq, if◌then◌else◌, Option, Some, None, List, [], ◌∷◌, length, set, get_or, IsSome, refl, sym, ◌∙◌, ap, arith, ⊎_elim, Decides, slice_get, swap, mul-le-mul_right, length-set}
-use Rattle.grid_base.proofs.Common.{length-map, swap_is, length-swap, slice_get-get_or, cases_lt, nat_tests, row, row_count, col_count, cell, with_cell_of, exchanged, IsTable, table_of, BlocksSwapped, GridValue, HoldsSize, act}
+use Rattle.grid.proofs.Common.{length-map, swap_is, length-swap, slice_get-get_or, cases_lt, nat_tests, row, row_count, col_count, cell, with_cell_of, exchanged, IsTable, table_of, BlocksSwapped, GridValue, HoldsSize, act, cell-act, rows-act, IsSome_within, same_tables, view-rows, view-cols, view-table, view-cell, get-set_same, get-set_other, cell-with_same, cell-with_other, rows-with_cell_of, cols-with_cell_of, IsTable-with_cell_of, cols_swapped}
 use Rattle.std.proofs.Math.ListN.{get_or-map}
 use Rattle.grid_base.specs.declared.order.Order.TheVariants.{RowMajor}
 use Rattle.grid_base.specs.declared.words.Symmetry.TheVariants.{Transpose}
-use Rattle.grid_base.proofs.ActLemmas.{cell-act, rows-act}
-use Rattle.grid_base.proofs.TableLemmas.{IsSome_within, same_tables}
-use Rattle.grid_base.proofs.ViewLemmas.{view-rows, view-cols, view-table, view-cell}
-use Rattle.grid_base.proofs.WriteLemmas.{get-set_same, get-set_other, cell-with_same, cell-with_other, rows-with_cell_of, cols-with_cell_of, IsTable-with_cell_of}
-use Rattle.grid.specs.Parts.{cols_swapped}
 use Rattle.grid.proofs.ListEditLemmas.{get_or-same}
 
 if_cases : {X : Type 0} (P : X → Type 0) (c : Bool) (W : Type 0) (x y : X) → Decides c W → (W → P x) → ((W → ⊥) → P y) → P (if c then x else y)

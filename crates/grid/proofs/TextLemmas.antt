@@ -1,11 +1,9 @@
 -- Texts item by item and row by row.
 use Rattle.std.proofs.Common.{◌≡◌, ℕ, zero, suc, ◌+◌, ◌-◌, ◌^◌, ◌<◌, ◌≤◌, ℤ, pos, negsuc, List, [], ◌∷◌, ◌++◌, length, take, map, replicate, codes, refl, sym, ap, ◌∙◌, arith, append_assoc, append-nil, cond, ltb, max, true, false, ◌≢◌, Some, OnOk, is_ok, if◌then◌else◌, flat_map, slice_get, decimal, take_all, lt-ltb, le-ltb, ne_eqb, nat_cmp}
-use Rattle.grid_base.proofs.Common.{join_by, repeat, signed_decimal, styled_signed_decimal, format_spec, padded_integral, char_count, take_more, map-append, length-map, flat_map_more, nat_tests, ord_max, row, row_count, col_count, IsTable, concat_rows}
+use Rattle.grid.proofs.Common.{join_by, repeat, signed_decimal, styled_signed_decimal, format_spec, padded_integral, char_count, take_more, map-append, length-map, flat_map_more, nat_tests, ord_max, row, row_count, col_count, IsTable, concat_rows, numbers, longest, right_aligned, row_line, text_in_width, take_next}
 use Rattle.std.specs.declared.result.Result.{Result}
 use Rattle.std.specs.declared.result.Result.TheVariants.{Ok, Err}
 use Rattle.std.specs.Char.{encode_utf8}
-use Rattle.grid.specs.Texts.{numbers, longest, right_aligned, row_line, text_in_width}
-use Rattle.grid_base.proofs.ClosureLemmas.{take_next}
 
 pub length_before : {X : Type 0} (xs : List X) (i : ℕ) (x : X) → slice_get xs i ≡ Some x → length (take i xs) ≡ i
 length_before [] i x e = absurd (cc)

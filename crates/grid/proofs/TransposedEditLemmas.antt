@@ -1,11 +1,8 @@
 -- A column edit as the row edit between two transposes.
 use Rattle.std.proofs.Common.{◌≡◌, ◌<◌, ◌≤◌, ℕ, List, length, refl, sym, ◌∙◌, ap, arith, inl, inr, ⊎_elim, Bool, true, false, IsTrue, ◌↔◌, ◌+◌, if◌then◌else◌, Result, Ok, Err, OnErr, insert, remove}
-use Rattle.grid_base.proofs.Common.{cases_lt, row_count, col_count, IsTable, flipped, GridValue, act}
+use Rattle.grid.proofs.Common.{cases_lt, row_count, col_count, IsTable, flipped, GridValue, act, same_grid_value, flipped-flipped, rows-act, FitsRow, FitsCol, insert_rows, insert_col, insert_cols, without_rows, without_cols}
 use Rattle.grid.proofs.NoneTakenLemmas.{remove-past, without_cols-past}
 use Rattle.grid_base.specs.declared.words.Symmetry.TheVariants.{Transpose}
-use Rattle.grid_base.proofs.ViewLemmas.{same_grid_value, flipped-flipped}
-use Rattle.grid_base.proofs.ActLemmas.{rows-act}
-use Rattle.grid.specs.Edits.{FitsRow, FitsCol, insert_rows, insert_col, insert_cols, without_rows, without_cols}
 use Rattle.grid.proofs.EditViewLemmas.{put_line, take_line}
 use Rattle.grid.proofs.ColEditLemmas.{across-none, across-across, cols-across, insert_col-across, insert_cols-across, without_cols-across, ColumnFits, ColumnsFit}
 

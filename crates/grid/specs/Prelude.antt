@@ -1,19 +1,22 @@
 -- The words of contracts, passed on from one place. Declares nothing.
 pub use Rattle.grid.specs.AllCells.{filled, CallableAtPositions, MappedBy, ReachesThere, ReturnsThere}
-pub use Rattle.grid.specs.Conversion.{equal_rows, AreClones, AreClonedRows, RowsFault, RowsAnswer, CutAnswer, AreEven}
+pub use Rattle.grid.specs.Conversion.{equal_rows, AreClones, AreClonedRows, RowsFault, RowsAnswer, CutAnswer, AreEven, CanJoin}
 pub use Rattle.grid.specs.Copies.{IsGridClone}
 pub use Rattle.grid.specs.Cost.{command_symmetry, axis_order, edit_shift, step_shift, list_symmetry, price_at, shift_at}
 pub use Rattle.grid.specs.DisplayText.{items_text, lines_text}
 pub use Rattle.grid.specs.EditFails.{LineFails, LinesFail, PaddingFails}
+pub use Rattle.grid.specs.Edited.{Edited, EditCounted}
 pub use Rattle.grid.specs.Edits.{FitsRow, FitsCol, insert_cols, without_rows, without_cols, insert_col, insert_rows, PadsRows, PadsCols, expanded_rows, prepended_rows, insert_into_rows, expanded_cols, prepended_cols, has_cells}
-pub use Rattle.grid.specs.Exchanged.{held}
+pub use Rattle.grid.specs.Exchanged.{held, InRow, InRows, PartTaken}
 pub use Rattle.grid.specs.Found.{CallableAtCells, FoundFirst, FoundAll}
 pub use Rattle.grid.specs.GridFails.{GridFails}
 pub use Rattle.grid.specs.Make.{FailsAt, ExceedsMax, FailsBySize, IsMade, EachCellIs, HoldsDefaults, CallableOver, MadeBy, HasSize, IsOnlyDefault}
 pub use Rattle.grid.specs.NearMaps.{CallableRound, ReturnsRound, ReachesRound, MapRound, CallableCounted, MapCounts, CallableSummed, MapSums}
 pub use Rattle.grid.specs.Parts.{cols_swapped}
-pub use Rattle.grid.specs.Pasted.{overlaid, part_filled, IsWithin, CallableInPart, CallableInRow, PartUpdated, CellsUpdated}
+pub use Rattle.grid.specs.Passes.{LinesReversed, EachLineReversed}
+pub use Rattle.grid.specs.Pasted.{overlaid, part_filled, IsWithin, CallableInPart, CallableInRow, PartUpdated, CellsUpdated, IsClipped}
 pub use Rattle.grid.specs.Resize.{IsCorner, IsResized, ResizesTo}
+pub use Rattle.grid.specs.RowGroups.{RowGroups, cols_if_rows}
 pub use Rattle.grid.specs.Run.{RunGives, run_rows, run_replies, Ran, MayStop, AreKnown}
 pub use Rattle.grid.specs.Same.{same_cells, same_cells_per, same_cells_equiv, table_feed, table_feed_respects}
 pub use Rattle.grid.specs.Shift.{rows_added_shift, rows_taken_shift, delete_rows_shift}
@@ -43,8 +46,8 @@ unfoldable pub use Rattle.grid_base.specs.Table.{tabulate, cells_by}
 pub use Rattle.grid_base.specs.Table.{row_count, col_count, cell, IsTable, IsSize, transposed, row, concat_rows, InRange, with_cell, with_cell_of, exchanged}
 pub use Rattle.grid_base.specs.Tally.{saturating_count, Counts}
 pub use Rattle.grid_commands.specs.Command.{insert_at, insert_all, command_value, get, fill, apply, axis_of, Edit, read, push, pop, remove_at, delete_at, delete_range, expand, prepend, CommandValue, size, set_cell, swap_cells, lines, clear, line_count, line_width}
-pub use Rattle.grid_commands.specs.Errors.{as_shape_error}
-pub use Rattle.grid_commands.specs.LineEdit.{pad_edit, request_value}
+pub use Rattle.grid_commands.specs.Errors.{as_shape_error, fault_text}
+pub use Rattle.grid_commands.specs.LineEdit.{pad_edit, request_value, edit_value}
 pub use Rattle.grid_commands.specs.Refusal.{in_range, lines_refusal, pad_refusal, edit_refusal, fitting_width, first_width, command_refusal, unless_refused, exceeds}
 pub use Rattle.grid_commands.specs.Reply.{reply_value, ReplyValue, done, size_is, cell_is, line_is, flag_is, refused}
 pub use Rattle.grid_near.specs.Around.{strided_cell, box, IsThere, around, side}
@@ -57,3 +60,6 @@ pub use Rattle.grid_view.specs.Lines.{directed}
 pub use Rattle.grid_view.specs.Same.{same_view, same_view_per, same_view_equiv}
 pub use Rattle.grid_view.specs.Texts.{table_text, rows_text}
 pub use Rattle.grid_view.specs.View.{sub_table, counted, turned, cut, first_of}
+pub use Rattle.std.specs.Borrow.{sem}
+pub use Rattle.std.specs.Fmt.{DisplaysOnOk}
+pub use Rattle.std.specs.Fn.{FnReturnsAt}

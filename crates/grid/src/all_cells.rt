@@ -1,9 +1,6 @@
 //! Calls on all cells of a grid: `fill` and `fill_with`, `map`, `map_ref`, `map_indexed` and `try_map_indexed`, `update`.
 ghost use Rattle.std.specs.Prelude.{◌≡◌, [], ⊤, length, Ok, IsOk, IfOk, IfErr, OnOk, OnErr};
-ghost use Rattle.grid_base.specs.Prelude.{row_count, col_count, SameSizeAndOrder, storage, MapsTo, CallableAtEach, CallableAtRefs, CallableTimes, Generates, PairsUp, ClonesAreEqual};
-ghost use Rattle.std.specs.Fn.{FnReturnsAt};
-ghost use Rattle.grid.specs.AllCells.{filled, CallableAtPositions, MappedBy, ReachesThere, ReturnsThere};
-ghost use Rattle.grid.specs.Make.{FailsAt};
+ghost use Rattle.grid.specs.Prelude.{row_count, col_count, SameSizeAndOrder, storage, MapsTo, CallableAtEach, CallableAtRefs, CallableTimes, Generates, PairsUp, ClonesAreEqual, FnReturnsAt, filled, CallableAtPositions, MappedBy, ReachesThere, ReturnsThere, FailsAt};
 ghost use Rattle.grid_commands.specs.declared.error.GridError.TheVariants.{Memory};
 
 use crate::{Grid, GridError};

@@ -1,7 +1,6 @@
 //! Conversions of vectors into row-major grids: the six `TryFrom`.
 ghost use Rattle.std.specs.Prelude.{◌≡◌, ◌≢◌, ◌↔◌, length, map, IsTrue, MatchResult, IfOk};
-ghost use Rattle.grid_base.specs.Prelude.{col_count, concat_rows, CanCut};
-ghost use Rattle.grid.specs.Conversion.{equal_rows, AreClones, AreClonedRows, CanJoin, RowsFault, RowsAnswer, CutAnswer};
+ghost use Rattle.grid.specs.Prelude.{col_count, concat_rows, CanCut, equal_rows, AreClones, AreClonedRows, CanJoin, RowsFault, RowsAnswer, CutAnswer};
 
 use crate::Grid;
 use grid_commands::{ShapeError, first_len};

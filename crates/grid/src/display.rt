@@ -1,8 +1,7 @@
 //! The text of a grid as lines.
 ghost use Rattle.std.specs.Prelude.{◌<◌, [], codes, Some};
-ghost use Rattle.std.specs.Fmt.{◌++?◌, DisplaysOnOk};
-ghost use Rattle.grid_base.specs.Table.{row, row_count};
-ghost use Rattle.grid.specs.DisplayText.{items_text, lines_text};
+ghost use Rattle.std.specs.Fmt.{◌++?◌};
+ghost use Rattle.grid.specs.Prelude.{DisplaysOnOk, row, row_count, items_text, lines_text};
 
 use crate::Grid;
 use crate::pretty::separator_before;

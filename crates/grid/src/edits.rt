@@ -3,8 +3,7 @@
 //! A row edit sees the vector as lines of cells. A column edit is the row edit between two transposes, which move no
 //! cell.
 ghost use Rattle.std.specs.Prelude.{◌≡◌, ◌+◌, ◌-◌, ◌*◌, ◌^◌, ◌<◌, ◌≤◌, ◌↔◌, IsTrue};
-ghost use Rattle.grid.specs.RowGroups.{RowGroups, cols_if_rows};
-ghost use Rattle.grid.specs.Shift.{rows_added_shift};
+ghost use Rattle.grid.specs.Prelude.{RowGroups, cols_if_rows, rows_added_shift};
 
 mod append;
 mod delete;

@@ -1,8 +1,7 @@
 //! Parts of two grids of one order that change places, and parts that take the cells of a view.
 ghost use Rattle.std.specs.Prelude.{◌≡◌, ◌+◌, ◌<◌, ◌≤◌, length};
-ghost use Rattle.grid_base.specs.Prelude.{BlockTaken, row, row_count, col_count};
+ghost use Rattle.grid.specs.Prelude.{BlockTaken, row, row_count, col_count, InRow, InRows, PartTaken, held};
 ghost use Rattle.grid_base.specs.declared.order.Order.TheVariants.{RowMajor};
-ghost use Rattle.grid.specs.Exchanged.{InRow, InRows, PartTaken, held};
 
 use crate::Grid;
 use grid_base::Order;

@@ -1,7 +1,6 @@
 //! Iterators over the cells of a grid, over one row or column, and over the rows and the columns. No iterator takes
 //! memory, and each may be dropped early.
-ghost use Rattle.grid_base.specs.Prelude.{storage, GivesRefs, GivesMutRefs, GivesOwned, GivesIndexed, GivesMutIndexed, GivesOwnedIndexed};
-ghost use Rattle.std.specs.Borrow.{sem};
+ghost use Rattle.grid.specs.Prelude.{storage, GivesRefs, GivesMutRefs, GivesOwned, GivesIndexed, GivesMutIndexed, GivesOwnedIndexed, sem};
 
 mod lines;
 

@@ -1,9 +1,6 @@
 //! Iterators over the cells round a cell, on the grid as it is or with its edges joined.
 ghost use Rattle.std.specs.Prelude.{◌≡◌, ◌≤◌, length, IfOk};
-ghost use Rattle.grid_base.specs.Prelude.{InRange, SameSizeAndOrder, storage, CallableAtRefs, GivesCells};
-ghost use Rattle.grid.specs.NearMaps.{CallableRound, ReachesRound, MapRound, CallableCounted, MapCounts, CallableSummed, MapSums};
-ghost use Rattle.grid_near.specs.NearCounts.{CallableNear, CountsNear};
-ghost use Rattle.grid_near.specs.Neighbors.{neighbors4, neighbors8, wrapped_neighbors4, wrapped_neighbors8, round_of, step_count, GivesNear};
+ghost use Rattle.grid.specs.Prelude.{InRange, SameSizeAndOrder, storage, CallableAtRefs, GivesCells, CallableRound, ReachesRound, MapRound, CallableCounted, MapCounts, CallableSummed, MapSums, CallableNear, CountsNear, neighbors4, neighbors8, wrapped_neighbors4, wrapped_neighbors8, round_of, step_count, GivesNear};
 ghost use Rattle.grid_near.specs.declared.board.Edges.TheVariants.{Joined};
 
 use crate::Grid;

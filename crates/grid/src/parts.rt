@@ -1,8 +1,7 @@
 //! A part of a grid as a new grid, and rows or columns that change places.
 ghost use Rattle.std.specs.Prelude.{◌≡◌, ◌<◌, ◌≤◌, ◌+◌, ◌*◌, ◌^◌, IfOk, length, swap};
-ghost use Rattle.grid_base.specs.Prelude.{BlocksSwapped, ClonesAreEqual, SameSizeAndOrder, row_count, col_count};
-ghost use Rattle.grid.specs.Make.{IsMade};
-ghost use Rattle.grid.specs.Parts.{sub_table, cols_swapped};
+ghost use Rattle.grid.specs.Parts.{sub_table};
+ghost use Rattle.grid.specs.Prelude.{BlocksSwapped, ClonesAreEqual, SameSizeAndOrder, row_count, col_count, IsMade, cols_swapped};
 
 use crate::Grid;
 use grid_base::{Flat, Order};

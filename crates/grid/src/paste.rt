@@ -1,7 +1,6 @@
 //! Parts of a grid that are written: by the cells of a view, and by a value.
 ghost use Rattle.std.specs.Prelude.{◌≡◌, ◌+◌, ◌<◌, ◌≤◌, pos, OnOk, OnErr};
-ghost use Rattle.grid_base.specs.Prelude.{ClonesAreEqual, row_count, col_count, InRange, SameSizeAndOrder};
-ghost use Rattle.grid.specs.Pasted.{overlaid, part_filled, IsClipped, IsWithin, CallableInPart, CallableInRow, PartUpdated, CellsUpdated};
+ghost use Rattle.grid.specs.Prelude.{ClonesAreEqual, row_count, col_count, InRange, SameSizeAndOrder, overlaid, part_filled, IsClipped, IsWithin, CallableInPart, CallableInRow, PartUpdated, CellsUpdated};
 
 use crate::Grid;
 use crate::exchange::{copy_part, exchange_part};

@@ -1,9 +1,6 @@
 //! Positions as pairs: whether there is a cell, access, a step to the side, and the positions of cells that pass a test.
 ghost use Rattle.std.specs.Prelude.{◌≡◌, ◌↔◌, IsTrue, IfOk, IfSome, MatchOption, is_some, Some, option_copied};
-ghost use Rattle.grid_base.specs.Prelude.{cell, with_cell, InRange, SameSizeAndOrder};
-ghost use Rattle.std.specs.Borrow.{sem};
-ghost use Rattle.grid.specs.Found.{CallableAtCells, FoundFirst, FoundAll};
-ghost use Rattle.grid_near.specs.Directions.{IsBeside};
+ghost use Rattle.grid.specs.Prelude.{cell, with_cell, InRange, SameSizeAndOrder, sem, CallableAtCells, FoundFirst, FoundAll, IsBeside};
 
 use crate::Grid;
 use grid_near::Direction;

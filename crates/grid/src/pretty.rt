@@ -1,7 +1,6 @@
 //! The text of a grid of integers.
 ghost use Rattle.std.specs.Prelude.{◌≡◌, ◌<◌, ◌++◌, [], map, IfOk, OnOk, nat_lt, if◌then◌else◌, string_bytes};
-ghost use Rattle.grid_base.specs.Table.{row, row_count, concat_rows};
-ghost use Rattle.grid.specs.Texts.{numbers, longest, row_line, width_or_longest, pretty_text};
+ghost use Rattle.grid.specs.Prelude.{row, row_count, concat_rows, numbers, longest, row_line, width_or_longest, pretty_text};
 
 use crate::Grid;
 use grid_base::Whole;

@@ -1,6 +1,6 @@
 //! The six moves of a grid, and the eight symmetries.
 ghost use Rattle.std.specs.Prelude.{◌≡◌, ◌*◌, false, length};
-ghost use Rattle.grid_base.specs.Prelude.{row_count, col_count, flipped, storage, table_of, SameSizeAndOrder, act, order_after, price, HasImageSize, IsImageByWords, from_flags, saturating_count};
+ghost use Rattle.grid.specs.Prelude.{row_count, col_count, flipped, storage, table_of, SameSizeAndOrder, act, order_after, price, HasImageSize, IsImageByWords, from_flags, saturating_count};
 ghost use Rattle.grid_base.specs.declared.words.Symmetry.TheVariants.{FlipRows, FlipCols, RotateHalf, Transpose, RotateLeft, RotateRight};
 
 mod passes;

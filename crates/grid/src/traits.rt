@@ -1,8 +1,6 @@
 //! Clones of grids; and their equality, hash and debug text, which speak of the rows and not of the order.
 ghost use Rattle.std.specs.Prelude.{◌≡◌, ◌<◌, IfOk, flat_map, fold};
-ghost use Rattle.grid_base.specs.Prelude.{ClonesAreEqual, row, row_count};
-ghost use Rattle.grid.specs.Copies.{IsGridClone};
-ghost use Rattle.grid.specs.Same.{same_cells, same_cells_per, same_cells_equiv, table_feed, table_feed_respects};
+ghost use Rattle.grid.specs.Prelude.{ClonesAreEqual, row, row_count, IsGridClone, same_cells, same_cells_per, same_cells_equiv, table_feed, table_feed_respects};
 ghost use Rattle.grid.specs.Texts.{table_text};
 
 use crate::Grid;

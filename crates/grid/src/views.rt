@@ -1,7 +1,6 @@
 //! Views of a grid and of its parts, and grids of the cells of a view.
 ghost use Rattle.std.specs.Prelude.{◌≡◌, ◌+◌, ◌<◌, ◌≤◌, ◌⊎◌, [], IfOk};
-ghost use Rattle.grid_base.specs.Prelude.{ClonesAreEqual, row_count, col_count};
-ghost use Rattle.grid_view.specs.View.{sub_table};
+ghost use Rattle.grid.specs.Prelude.{ClonesAreEqual, row_count, col_count, sub_table};
 
 use crate::{Grid, Order};
 use grid_view::GridView;

@@ -1,13 +1,6 @@
 -- The text of records is read as these records.
 use Rattle.std.proofs.Common.{◌≡◌, inl, inr, ℕ, suc, ◌<◌, ◌==◌, Bool, true, false, if◌then◌else◌, List, [], ◌∷◌, ◌++◌, length, All, None, refl, sym, ap, ◌∙◌, arith, append_assoc}
-use Rattle.grid_base.proofs.Common.{list_any, cases_Bool}
-use Rattle.csv.specs.Machine.{next_record}
-use Rattle.csv.specs.Reading.{default_config, is_bom, strip_bom}
-use Rattle.csv.specs.Writing.{default_writer, field_text, fields_text, is_blank, needs_byte, read_back, row_text}
-use Rattle.csv.proofs.RoundTrip.{read-write}
-use Rattle.grid_csv.specs.Left.{records_at}
-use Rattle.grid_csv.specs.Reading.{first_of, records_of}
-use Rattle.grid_csv.specs.Writing.{sheet_text}
+use Rattle.grid_csv.proofs.Common.{list_any, cases_Bool, next_record, default_config, is_bom, strip_bom, default_writer, field_text, fields_text, is_blank, needs_byte, read_back, row_text, read-write, records_at, first_of, records_of, sheet_text}
 use Rattle.grid_csv.proofs.RecordLemmas.{records_first, records_none}
 use Rattle.csv.specs.declared.parser.State.TheVariants as st
 

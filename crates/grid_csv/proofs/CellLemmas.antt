@@ -1,9 +1,6 @@
 -- The cells of one record, field by field.
 use Rattle.std.proofs.Common.{◌≡◌, ℕ, zero, suc, ◌+◌, Option, Some, None, List, [], ◌∷◌, ◌++◌, length, take, refl, sym, ap, subst, ◌∙◌, add-one, append_assoc, append-nil}
-use Rattle.csv.specs.Records.{field_at}
-use Rattle.grid_csv.specs.Reading.{AreCells, IsBadAt}
-use Rattle.grid_csv.specs.Left.{AddsCells}
-use Rattle.grid_base.proofs.ClosureLemmas.{AllZip-append}
+use Rattle.grid_csv.proofs.Common.{field_at, AreCells, IsBadAt, AddsCells, AllZip-append}
 
 -- the field at a place, with those before and after it
 record IsAt (fields : List (List ℕ)) (i : ℕ) (field : List ℕ) : Type 0 where

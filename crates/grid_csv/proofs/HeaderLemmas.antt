@@ -1,12 +1,10 @@
 -- The names in a header, as strings.
 use Rattle.std.proofs.Common.{◌≡◌, ◌≢◌, ◌+◌, ◌<◌, ◌⊎◌, inl, inr, ℕ, Bool, true, false, if◌then◌else◌, Option, Some, None, Result, Ok, Err, List, [], ◌∷◌, ◌++◌, length, map, refl, sym, ap, subst, ◌∙◌, arith, Bor, MatchBool, string_bytes}
-use Rattle.grid_base.proofs.Common.{is_utf8, col_count, storage, GridValue}
+use Rattle.grid_csv.proofs.Common.{is_utf8, col_count, storage, GridValue, AreCells, IsFault, MayRead, MayReadBelow, cell_before, cell_of, read_fields, read_header, AddsCells, AddsRows, IsMemoryOrBad}
 use Rattle.std.specs.declared.string.String.{String}
 use Rattle.grid_csv.specs.declared.error.CsvError.{CsvError}
 use Rattle.grid_csv.specs.declared.error.CsvError.TheVariants.{Memory}
 use Rattle.grid_base.specs.declared.order.Order.TheVariants.{RowMajor}
-use Rattle.grid_csv.specs.Reading.{AreCells, IsFault, MayRead, MayReadBelow, cell_before, cell_of, read_fields, read_header}
-use Rattle.grid_csv.specs.Left.{AddsCells, AddsRows, IsMemoryOrBad}
 use Rattle.grid_csv.proofs.ReadLemmas.{fields_are, bad_at}
 use Rattle.grid_csv.proofs.TableLemmas.{cut_rows}
 

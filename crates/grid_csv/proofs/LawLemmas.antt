@@ -1,14 +1,10 @@
 -- What was written of a table is read as the table.
 use Rattle.std.proofs.Common.{◌≡◌, inl, inr, ℕ, suc, ◌+◌, ◌<◌, true, Option, Some, None, Result, Ok, Err, List, [], ◌∷◌, ◌++◌, length, map, get_or, All, IfOk, IfErr, IsUtf8, refl, sym, ap, subst, ◌∙◌, arith, Bor, MutBor}
-use Rattle.grid_base.proofs.Common.{⊤, AllZip, each_same, is_utf8, length-map, get_or_default, All-map, is_utf8-from_IsUtf8, row, IsTable, GridValue}
+use Rattle.grid_csv.proofs.Common.{⊤, AllZip, each_same, is_utf8, length-map, get_or_default, All-map, is_utf8-from_IsUtf8, row, IsTable, GridValue, strip_bom, ReadsBack, AnswersField, AreCells, AreRows, IsBadRecord, IsFault, MayRead, first_of, records_of, AnswersCell, MayWrite, WritesBy, sheet_text}
 use Rattle.std.specs.declared.string.String.{String}
 use Rattle.std.specs.declared.alloc.AllocError.{AllocError}
-use Rattle.csv.specs.Reading.{strip_bom}
 use Rattle.grid_csv.specs.declared.error.CsvError.{CsvError}
 use Rattle.grid_csv.specs.declared.error.CsvError.TheVariants.{BadField, Ragged, Memory}
-use Rattle.grid_csv.specs.Law.{ReadsBack}
-use Rattle.grid_csv.specs.Reading.{AnswersField, AreCells, AreRows, IsBadRecord, IsFault, MayRead, first_of, records_of}
-use Rattle.grid_csv.specs.Writing.{AnswersCell, MayWrite, WritesBy, sheet_text}
 use Rattle.grid_csv.proofs.ZipLemmas.{zip_more, zip_left}
 use Rattle.grid_csv.proofs.WriteLemmas.{field_is, field_utf8, lines_are}
 use Rattle.grid_csv.proofs.BackLemmas.{sheet_back}

@@ -9,3 +9,5 @@ pub mod TextLemmas
 pub mod WriteLemmas
 pub mod BackLemmas
 pub mod LawLemmas
+pub mod Common
+pub mod Lemmas

@@ -1,10 +1,9 @@
 -- What may be read is what a function reads, where it gives whatever may be answered.
 use Rattle.std.proofs.Common.{◌≡◌, ◌≢◌, inl, inr, ℕ, suc, ◌+◌, ◌==◌, Bool, true, false, if◌then◌else◌, Option, Some, None, Result, Ok, Err, MatchResult, List, [], ◌∷◌, ◌++◌, length, refl, sym, ap, subst, ◌∙◌, arith, Bor, MatchBool, eq-eqb, ne_eqb}
-use Rattle.grid_base.proofs.Common.{is_utf8, AllZip-long, GridValue}
+use Rattle.grid_csv.proofs.Common.{is_utf8, AllZip-long, GridValue, AnswersField, AreCells, AreRows, IsBadAt, IsBadRecord, IsFault, IsOrMemory, MayRead, MayReadBelow, ReadsBy, below_header, cell_before, cell_of, first_of, later_of, prepend, read_fields, read_header, read_records, reading_below, row_before}
 use Rattle.std.specs.declared.alloc.AllocError.{AllocError}
 use Rattle.grid_csv.specs.declared.error.CsvError.{CsvError}
 use Rattle.grid_csv.specs.declared.error.CsvError.TheVariants.{BadField, Ragged, Memory}
-use Rattle.grid_csv.specs.Reading.{AnswersField, AreCells, AreRows, IsBadAt, IsBadRecord, IsFault, IsOrMemory, MayRead, MayReadBelow, ReadsBy, below_header, cell_before, cell_of, first_of, later_of, prepend, read_fields, read_header, read_records, reading_below, row_before}
 
 -- what the closure answers at a field, the function gives
 pub cell_is : {F T : Type 0} (returns : F → Bor (List ℕ) → Result (Option T) AllocError → Type 0) (read : F) (h : List ℕ → Option T) → ReadsBy returns read h → (field : List ℕ) (cell : Option T) → AnswersField returns read field cell → cell ≡ cell_of h field

@@ -1,13 +1,10 @@
 -- The records of bytes, one after the other.
 use Rattle.std.proofs.Common.{◌≡◌, ◌⊎◌, inl, inr, if◌then◌else◌, add-one, length-append, ◌<◌, ◌+◌, ℕ, zero, suc, Bool, true, false, Option, Some, None, List, [], ◌∷◌, ◌++◌, length, refl, sym, ap, ◌∙◌, arith, Bor}
-use Rattle.csv.specs.Machine.{Read, next_record, step, is_end, ends_at_end, fields_after, field_after}
-use Rattle.csv.specs.Reading.{ReadRecord, Reached, default_config, is_flexible, took_first, records_from, records_next}
+use Rattle.grid_csv.proofs.Common.{Read, next_record, step, is_end, ends_at_end, fields_after, field_after, ReadRecord, Reached, default_config, is_flexible, took_first, records_from, records_next, rows-end, rows-more, HasLeft, Took, records_at}
 use Rattle.csv.specs.declared.parser.Config.{Config}
 use Rattle.csv.specs.declared.parser.State.{State}
 use Rattle.csv.specs.declared.parser.Action.{Action}
 use Rattle.csv.specs.declared.reader.Reader.{Reader}
-use Rattle.csv.proofs.ReadFacts.{rows-end, rows-more}
-use Rattle.grid_csv.specs.Left.{HasLeft, Took, records_at}
 use Rattle.csv.specs.declared.parser.Action.TheVariants as act
 use Rattle.csv.specs.declared.parser.State.TheVariants as st
 

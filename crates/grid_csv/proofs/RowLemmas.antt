@@ -1,11 +1,8 @@
 -- The rows of records, one after the other.
 use Rattle.std.proofs.Common.{◌≡◌, ◌≢◌, ◌⊎◌, inl, inr, ℕ, ◌+◌, Option, List, [], ◌∷◌, ◌++◌, length, refl, sym, ap, subst, ◌∙◌, arith, append_assoc, append-nil, length-append}
-use Rattle.grid_base.proofs.Common.{AllZip-long, flat_map-append, concat_rows}
+use Rattle.grid_csv.proofs.Common.{AllZip-long, flat_map-append, concat_rows, AreCells, AreRows, IsBadRecord, IsFault, AddsCells, AddsRows, IsMemoryOrBad, AllZip-append}
 use Rattle.grid_csv.specs.declared.error.CsvError.{CsvError}
 use Rattle.grid_csv.specs.declared.error.CsvError.TheVariants.{BadField, Ragged, Memory}
-use Rattle.grid_csv.specs.Reading.{AreCells, AreRows, IsBadRecord, IsFault}
-use Rattle.grid_csv.specs.Left.{AddsCells, AddsRows, IsMemoryOrBad}
-use Rattle.grid_base.proofs.ClosureLemmas.{AllZip-append}
 
 module _ {T : Type 0} (R : List ℕ → Option T → Type 0) (first cols : ℕ) (all : List (List (List ℕ))) (old : List T) where
   -- the rows of the records before that of this number; those that are left come after them

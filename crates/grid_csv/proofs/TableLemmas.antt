@@ -1,14 +1,9 @@
 -- The table that is cut from the rows of records.
 use Rattle.std.proofs.Common.{◌≡◌, ◌≢◌, ◌⊎◌, inl, inr, ℕ, ◌*◌, ◌<◌, Option, Result, Ok, Err, List, [], ◌∷◌, ◌++◌, length, All, refl, sym, ap, subst, ◌∙◌, arith}
-use Rattle.grid_base.proofs.Common.{AllZip-long, col_count, concat_rows, IsTable, storage, CanCut, GridValue}
+use Rattle.grid_csv.proofs.Common.{AllZip-long, col_count, concat_rows, IsTable, storage, CanCut, GridValue, length-concat_rows, same_by_storage, none_by_storage, CanCut-cells, AreCells, AreRows, IsBadRecord, IsFault, MayRead, first_of, AddsCells, AddsRows, IsMemoryOrBad}
 use Rattle.grid_base.specs.declared.order.Order.TheVariants.{RowMajor}
-use Rattle.grid_base.proofs.StorageLemmas.{length-concat_rows}
-use Rattle.grid_base.proofs.ViewLemmas.{same_by_storage, none_by_storage}
-use Rattle.grid.proofs.MadeLemmas.{CanCut-cells}
 use Rattle.grid_csv.specs.declared.error.CsvError.{CsvError}
 use Rattle.grid_csv.specs.declared.error.CsvError.TheVariants.{Memory}
-use Rattle.grid_csv.specs.Reading.{AreCells, AreRows, IsBadRecord, IsFault, MayRead, first_of}
-use Rattle.grid_csv.specs.Left.{AddsCells, AddsRows, IsMemoryOrBad}
 use Rattle.grid_csv.proofs.ZipLemmas.{zip_right}
 
 -- rows of cols cells, cut from the vector of their cells

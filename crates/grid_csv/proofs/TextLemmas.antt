@@ -1,8 +1,6 @@
 -- The text of records of texts is text.
 use Rattle.std.proofs.Common.{◌≡◌, inl, inr, ℕ, suc, ◌<◌, ◌==◌, Bool, true, false, if◌then◌else◌, List, [], ◌∷◌, ◌++◌, get_or, All, IsUtf8, encode_utf8, encode_utf8_all, refl, sym, ap, subst, ◌∙◌, arith, append-nil, eqb-true, ne_eqb}
-use Rattle.grid_base.proofs.Common.{scalars, IsScalar, list_any, NoCharPasses, and_parts, cases_Bool, cases_lt, get_or_default, IsUtf8-append, IsUtf8-encode, IsUtf8-nil, NoCharPasses-byte, encode_ascii}
-use Rattle.csv.specs.Writing.{default_writer, escaped, field_text, fields_text, is_blank, needs_byte, row_text}
-use Rattle.grid_csv.specs.Writing.{sheet_text}
+use Rattle.grid_csv.proofs.Common.{scalars, IsScalar, list_any, NoCharPasses, and_parts, cases_Bool, cases_lt, get_or_default, IsUtf8-append, IsUtf8-encode, IsUtf8-nil, NoCharPasses-byte, encode_ascii, default_writer, escaped, field_text, fields_text, is_blank, needs_byte, row_text, sheet_text}
 
 -- one ASCII character
 utf8_one : (c : ℕ) → IsScalar c → c < 128 → IsUtf8 (c ∷ [])

@@ -1,12 +1,9 @@
 -- What a writer has written, and what is written of rows.
 use Rattle.std.proofs.Common.{◌≡◌, ℕ, false, List, [], ◌∷◌, ◌++◌, map, get_or, All, Vec, Global, Result, IfOk, Ok, Err, IsUtf8, ◌<◌, length, arith, refl, sym, ap, subst, ◌∙◌, append-nil, Bor, MutBor, string_bytes}
-use Rattle.grid_base.proofs.Common.{⊤, AllZip, flat_map-append, All-map, AllZip-map, IsUtf8-string_bytes}
+use Rattle.grid_csv.proofs.Common.{⊤, AllZip, flat_map-append, All-map, AllZip-map, IsUtf8-string_bytes, default_writer, fields_written, has_written, row_text, writer_pending, writer_setup, writer_under, HasWritten, AnswersCell, WritesBy, below_names, sheet_text}
 use Rattle.std.specs.declared.string.String.{String}
 use Rattle.std.specs.declared.alloc.AllocError.{AllocError}
-use Rattle.csv.specs.Writing.{default_writer, fields_written, has_written, row_text, writer_pending, writer_setup, writer_under}
 use Rattle.csv.specs.declared.writer.Writer.{Writer}
-use Rattle.grid_csv.specs.Left.{HasWritten}
-use Rattle.grid_csv.specs.Writing.{AnswersCell, WritesBy, below_names, sheet_text}
 use Rattle.grid_csv.proofs.ZipLemmas.{zip_more, zip_right}
 
 pub writer_start : (w : Writer (Vec ℕ Global)) (v : Vec ℕ Global) → writer_under w ≡ v → v.items ≡ [] → writer_pending w ≡ [] → writer_setup w ≡ default_writer → fields_written w ≡ 0 → has_written w ≡ false → HasWritten w []

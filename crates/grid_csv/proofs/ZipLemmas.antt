@@ -1,7 +1,6 @@
 -- Two lists of which a relation holds place by place.
 use Rattle.std.proofs.Common.{◌≡◌, List, [], ◌∷◌, ◌++◌, All, sym, ap, subst, ◌∙◌, arith, append_assoc, append-nil}
-use Rattle.grid_base.proofs.Common.{AllZip, All-cons}
-use Rattle.grid_base.proofs.ClosureLemmas.{AllZip-append}
+use Rattle.grid_csv.proofs.Common.{AllZip, All-cons, AllZip-append}
 
 pub zip_more : {A B : Type 0} (R S : A → B → Type 0) → ((x : A) (y : B) → R x y → S x y) → (xs : List A) (ys : List B) → AllZip R xs ys → AllZip S xs ys
 zip_more R S more [] [] all = tt

@@ -1,7 +1,6 @@
 //! The law of CSV as a public call.
 ghost use Rattle.std.specs.Prelude.{◌≡◌, ℕ, List, All, IfOk, IfErr, map};
-ghost use Rattle.grid_csv.specs.Law.{ReadsBack};
-ghost use Rattle.grid_csv.specs.Writing.{WritesBy};
+ghost use Rattle.grid_csv.specs.Prelude.{ReadsBack, WritesBy};
 ghost use Rattle.grid_csv.specs.declared.error.CsvError.TheVariants.{Memory};
 
 use crate::{CsvError, from_csv, to_csv};

@@ -1,8 +1,6 @@
 //! Grids read from CSV.
 ghost use Rattle.std.specs.Prelude.{◌≡◌, ◌⊎◌, [], ℕ, List, Option, IfOk, IfErr, Ok, Err, MatchResult, Some, length, map, MatchBool, string_bytes};
-ghost use Rattle.csv.specs.Records.{fields_of};
-ghost use Rattle.grid_csv.specs.Left.{HasLeft, Took, AddsCells, AddsRows, IsMemoryOrBad};
-ghost use Rattle.grid_csv.specs.Reading.{AnswersField, IsFault, IsOrMemory, MayRead, MayReadBelow, ReadsBy, first_of, read_header, reading, reading_below, records_of, without_header};
+ghost use Rattle.grid_csv.specs.Prelude.{fields_of, HasLeft, Took, AddsCells, AddsRows, IsMemoryOrBad, AnswersField, IsFault, IsOrMemory, MayRead, MayReadBelow, ReadsBy, first_of, read_header, reading, reading_below, records_of, without_header};
 ghost use Rattle.grid_csv.specs.declared.error.CsvError.TheVariants.{Memory};
 
 use super::error::CsvError;

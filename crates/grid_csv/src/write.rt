@@ -1,10 +1,6 @@
 //! Grids written as CSV.
 ghost use Rattle.std.specs.Prelude.{◌≡◌, ◌++◌, [], ℕ, List, map, IfOk, OnOk, IsUtf8, string_bytes};
-ghost use Rattle.std.specs.List.{AllZip};
-ghost use Rattle.csv.specs.Records.{fields_of};
-ghost use Rattle.csv.specs.Writing.{default_writer, row_text};
-ghost use Rattle.grid_csv.specs.Left.{HasWritten};
-ghost use Rattle.grid_csv.specs.Writing.{AnswersCell, IsCsv, MayWrite, MayWriteBelow, WritesBy, below_names, sheet_text};
+ghost use Rattle.grid_csv.specs.Prelude.{AllZip, fields_of, default_writer, row_text, HasWritten, AnswersCell, IsCsv, MayWrite, MayWriteBelow, WritesBy, below_names, sheet_text};
 
 use csv::{ByteRecord, Writer};
 use grid::{Grid, GridLineIter};

@@ -1,17 +1,12 @@
 -- No command shifts more cells than there are.
 use Rattle.std.proofs.Common.{◌≡◌, ℕ, ◌+◌, ◌-◌, ◌*◌, ◌≤◌, Bool, true, false, List, [], ◌∷◌, if◌then◌else◌, nat_lt, nat_eq, refl, ◌∙◌, ap, arith, mul_comm, mul-le-mul_left, mul-le-mul_right, is_none}
-use Rattle.grid_base.proofs.Common.{row_count, col_count, image_rows, image_cols}
-use Rattle.grid.specs.Prelude.{Edit, pop, delete_at, delete_range, expand, prepend, CommandValue, size, lines, line_count, line_width, pad_refusal, step_rows, rows_added_shift, rows_taken_shift, delete_rows_shift, axis_order, edit_shift}
+use Rattle.grid_deferred.proofs.Common.{row_count, col_count, image_rows, image_cols, Edit, pop, delete_at, delete_range, expand, prepend, CommandValue, size, lines, line_count, line_width, pad_refusal, step_rows, rows_added_shift, rows_taken_shift, delete_rows_shift, axis_order, edit_shift, base_axis, reverses_lines, mirrored_if, shift_through, pending_after, shown_shift, deferred_shift, edit_allowance, step_allowance, run_allowance}
 use Rattle.grid_base.specs.declared.words.Symmetry.{Symmetry}
 use Rattle.grid_base.specs.declared.words.Symmetry.TheVariants.{Identity, Transpose, RotateLeft, RotateRight, AntiTranspose}
 use Rattle.grid_base.specs.declared.order.Order.{Order}
 use Rattle.grid_base.specs.declared.order.Order.TheVariants.{RowMajor, ColumnMajor}
 use Rattle.grid_commands.specs.declared.command.Axis.{Axis}
 use Rattle.grid_commands.specs.declared.command.Axis.TheVariants.{Row, Col}
-use Rattle.grid_deferred.specs.Through.{base_axis}
-use Rattle.grid_deferred.specs.Carry.{reverses_lines, mirrored_if, shift_through}
-use Rattle.grid_deferred.specs.Deferred.{pending_after}
-use Rattle.grid_deferred.specs.Run.{shown_shift, deferred_shift, edit_allowance, step_allowance, run_allowance}
 
 if_some : (b : Bool) (k c : ℕ) → k ≤ c → (if b then k else 0) ≤ c
 if_some true k c h = h

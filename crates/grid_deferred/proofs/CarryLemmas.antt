@@ -1,18 +1,12 @@
 -- Commands through words of the flip of the rows and the transpose.
 use Rattle.std.proofs.Common.{◌≡◌, ℕ, Bool, true, false, not, Option, Some, None, List, reverse, refl, sym, ◌∙◌, ap, subst, option_map}
-use Rattle.grid_base.proofs.Common.{beq, reverse-reverse, row_count, col_count, IsTable, act, image_rows, image_cols}
-use Rattle.grid.specs.Prelude.{CommandValue, size, lines, read, push, axis_of, ReplyValue, done, size_is, line_is, step_rows, step_reply, takes_memory, step_shift}
+use Rattle.grid_deferred.proofs.Common.{beq, reverse-reverse, row_count, col_count, IsTable, act, image_rows, image_cols, CommandValue, size, lines, read, push, axis_of, ReplyValue, done, size_is, line_is, step_rows, step_reply, takes_memory, step_shift, rows-act, IsTable-act, product, act-act, act-identity, other_axis, reverses_cells, base_axis, reversed_if, turned_reply, transposed_command, flipped_command, shift_through, Carries, is_apply, carried}
 use Rattle.grid_base.specs.declared.words.Symmetry.{Symmetry}
 use Rattle.grid_base.specs.declared.words.Symmetry.TheVariants.{Identity, FlipCols, FlipRows, RotateHalf, Transpose, RotateLeft, RotateRight, AntiTranspose}
 use Rattle.grid_base.specs.declared.order.Order.{Order}
-use Rattle.grid_base.proofs.ActLemmas.{rows-act, IsTable-act}
-use Rattle.grid_base.proofs.GroupLemmas.{product, act-act, act-identity}
 use Rattle.grid_commands.specs.declared.command.Axis.{Axis}
 use Rattle.grid_commands.specs.declared.command.Axis.TheVariants.{Row, Col}
-use Rattle.grid_deferred.specs.Through.{other_axis, reverses_cells, base_axis, reversed_if, turned_reply, transposed_command, flipped_command}
 use Rattle.grid_deferred.proofs.StepThroughLemmas.{IsAxis, IsAxis-axis_of, Through, through_flip, through_cross, table-step}
-use Rattle.grid_deferred.specs.Carry.{shift_through, Carries, is_apply}
-use Rattle.grid_deferred.specs.Carried.{carried}
 
 module _ {T : Type 0} where
   option-twice : (x : Option (List T)) → option_map reverse (option_map reverse x) ≡ x

@@ -1,16 +1,8 @@
 -- Cells read, written, exchanged and filled, through the flip of the rows and the transpose.
 use Rattle.std.proofs.Common.{◌≡◌, ℕ, ◌-◌, ◌<◌, Option, Some, None, List, [], ◌∷◌, ◌++◌, length, map, reverse, replicate, set, get_or, refl, sym, ◌∙◌, ap, arith, ⊎_elim, slice_get, length-set, get_or-set_same, get_or-set_other, lt-ltb, le-ltb}
-use Rattle.grid_base.proofs.Common.{length-reverse, length-map, get_or-reverse, get_or-map, get_or_past, reverse-append, length-replicate, map-append, cases_lt, cases_eq, row, row_count, col_count, cell, IsTable, with_cell, with_cell_of, exchanged, tabulate, act, symmetry_of, splat_is_map}
-use Rattle.std.proofs.lemmas.List.{same_lists}
+use Rattle.grid_deferred.proofs.Common.{length-reverse, length-map, get_or-reverse, get_or-map, get_or_past, reverse-append, length-replicate, map-append, cases_lt, cases_eq, row, row_count, col_count, cell, IsTable, with_cell, with_cell_of, exchanged, tabulate, act, symmetry_of, splat_is_map, same_lists, get-replicate, IsTable-act, rows-written, widths-written, cols-with_cell, IsTable-with_cell, cell-with_same, cell-with_other, rows-with_cell_of, cols-with_cell_of, IsTable-with_cell_of, product, act-act, act-identity, act_all-is, symmetry_of-product_from, filled, rows-across, cols-across, cell-cross, across_by_cells, mirrored_line}
 use Rattle.grid_base.specs.declared.words.Symmetry.{Symmetry}
 use Rattle.grid_base.specs.declared.words.Symmetry.TheVariants.{Identity, FlipRows, Transpose}
-use Rattle.grid_base.proofs.StorageLemmas.{get-replicate}
-use Rattle.grid_base.proofs.ActLemmas.{IsTable-act}
-use Rattle.grid_base.proofs.WriteLemmas.{rows-written, widths-written, cols-with_cell, IsTable-with_cell, cell-with_same, cell-with_other, rows-with_cell_of, cols-with_cell_of, IsTable-with_cell_of}
-use Rattle.grid_base.proofs.GroupLemmas.{product, act-act, act-identity, act_all-is, symmetry_of-product_from}
-use Rattle.grid.specs.AllCells.{filled}
-use Rattle.grid.proofs.ColEditLemmas.{rows-across, cols-across, cell-cross, across_by_cells}
-use Rattle.grid_deferred.specs.Through.{mirrored_line}
 use Rattle.grid_deferred.proofs.MirrorLemmas.{flip_rows-is}
 
 -- an element written to a reversed list

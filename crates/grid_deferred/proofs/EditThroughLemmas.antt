@@ -1,14 +1,8 @@
 -- Edits of lines through the flip of the rows and the transpose: what they do, reply and take.
 use Rattle.std.proofs.Common.{◌≡◌, ℕ, zero, suc, ◌+◌, ◌-◌, ◌<◌, ◌≤◌, Bool, true, false, not, ◌&&◌, None, List, [], ◌∷◌, length, map, reverse, nat_eq, nat_lt, if◌then◌else◌, refl, sym, ◌∙◌, ap, subst, arith, ⊎_elim, slice_get, is_none, option_map, ltb-false, lt-ltb, le-ltb}
-use Rattle.grid_base.proofs.Common.{list_any, list_all, length-reverse, length-map, slice_get-map, slice_get_past, cases_lt, row_count, col_count, IsTable, act}
-use Rattle.grid.specs.Prelude.{Edit, read, push, insert_at, insert_all, pop, remove_at, delete_at, delete_range, line_is, flag_is, lines_refusal, edit_refusal, fitting_width, Effect, nothing, inserts, removes, range_effect, effect, after_effect, edit_takes_memory, has_lines, edit_reply, line_at}
+use Rattle.grid_deferred.proofs.Common.{list_any, list_all, length-reverse, length-map, slice_get-map, slice_get_past, cases_lt, row_count, col_count, IsTable, act, Edit, read, push, insert_at, insert_all, pop, remove_at, delete_at, delete_range, line_is, flag_is, lines_refusal, edit_refusal, fitting_width, Effect, nothing, inserts, removes, range_effect, effect, after_effect, edit_takes_memory, has_lines, edit_reply, line_at, get-reverse, rows-act, cols-act, IsTable-act, act_is_transposed, across-across, rows-across, cols-across, IsApplicable, passed, applicable-edit, table-after, line-across, turned_reply, mirrored_line, mirrored_insertion, mirrored_start, edit_of_flipped, edit_of_reversed}
 use Rattle.grid_base.specs.declared.words.Symmetry.TheVariants.{FlipRows, Transpose}
-use Rattle.grid_base.proofs.PartLemmas.{get-reverse}
-use Rattle.grid_base.proofs.ActLemmas.{rows-act, cols-act, IsTable-act, act_is_transposed}
 use Rattle.grid_commands.specs.declared.command.Axis.TheVariants.{Row, Col}
-use Rattle.grid.proofs.ColEditLemmas.{across-across, rows-across, cols-across}
-use Rattle.grid.proofs.EditAcrossLemmas.{IsApplicable, passed, applicable-edit, table-after, line-across}
-use Rattle.grid_deferred.specs.Through.{turned_reply, mirrored_line, mirrored_insertion, mirrored_start, edit_of_flipped, edit_of_reversed}
 use Rattle.grid_deferred.proofs.MirrorLemmas.{flip_rows-is, flip_cols-is}
 use Rattle.grid_deferred.proofs.EffectLemmas.{flipped_effect, reversed_effect}
 use Rattle.grid_deferred.proofs.ThroughLemmas.{rows-flip, cols-flip, cols-transpose, flip-across}

@@ -1,12 +1,8 @@
 -- What is put into a table, taken out of it and padded, through the flips and the transpose.
 use Rattle.std.proofs.Common.{◌≡◌, ℕ, ◌-◌, ◌<◌, ◌≤◌, List, [], ◌∷◌, ◌++◌, length, map, take, drop, reverse, replicate, refl, sym, ◌∙◌, ap, arith}
-use Rattle.grid_base.proofs.Common.{map-append, length-reverse, row_count, col_count, IsTable}
-use Rattle.grid.specs.Prelude.{insert_rows, expanded_rows, prepended_rows, Effect, nothing, inserts, removes, pads_end, pads_front, after_effect}
+use Rattle.grid_deferred.proofs.Common.{map-append, length-reverse, row_count, col_count, IsTable, insert_rows, expanded_rows, prepended_rows, Effect, nothing, inserts, removes, pads_end, pads_front, after_effect, cols-act, copies, expanded-put, prepended-put, IsApplicable}
 use Rattle.grid_base.specs.declared.words.Symmetry.TheVariants.{FlipRows}
-use Rattle.grid_base.proofs.ActLemmas.{cols-act}
 use Rattle.grid_commands.specs.declared.command.Axis.TheVariants.{Row}
-use Rattle.grid.proofs.EditSizeLemmas.{copies, expanded-put, prepended-put}
-use Rattle.grid.proofs.EditAcrossLemmas.{IsApplicable}
 use Rattle.grid_deferred.proofs.MirrorLemmas.{put-reversed, take-reversed, reverse-replicate, map-replicate, flip_rows-is, put-mapped, take-mapped, map-reverse-reverse}
 
 module _ {T : Type 0} where

@@ -11,3 +11,5 @@ mod PendingLemmas
 mod AllowanceLemmas
 pub mod RunLemmas
 mod ReadLemmas
+pub mod Common
+pub mod Lemmas

@@ -1,8 +1,7 @@
 -- What the code of `carry` needs.
 use Rattle.std.proofs.Common.{◌≡◌, ℕ, ◌+◌, ◌<◌, List, Vec, [], ◌∷◌, ◌++◌, length, map, take, drop, set, get_or, reverse, sym, ◌∙◌, ap, arith, length-append, length-drop, length-take}
-use Rattle.grid_base.proofs.Common.{length-map, map-set, get_or-map, map_over_more, items_of_each, IsThen, symmetry_of}
+use Rattle.grid_deferred.proofs.Common.{length-map, map-set, get_or-map, map_over_more, items_of_each, IsThen, symmetry_of, product, then_is, symmetry_of-product_from, identity_product}
 use Rattle.grid_base.specs.declared.words.Symmetry.{Symmetry}
-use Rattle.grid_base.proofs.GroupLemmas.{product, then_is, symmetry_of-product_from, identity_product}
 use Rattle.grid_commands.specs.Command.{CommandValue, apply}
 
 -- a symmetry between two others, joined one by one

@@ -1,11 +1,8 @@
 -- The flips of a table as lists reversed, and edits of its rows in between.
 use Rattle.std.proofs.Common.{◌≡◌, ℕ, zero, suc, ◌+◌, ◌-◌, ◌<◌, ◌≤◌, List, [], ◌∷◌, ◌++◌, length, map, take, drop, reverse, replicate, refl, sym, ◌∙◌, ap, arith, append_assoc, take-append-drop, take_at, drop_at, slice_get, length-drop}
-use Rattle.grid_base.proofs.Common.{reverse-append, reverse-reverse, length-reverse, get_or-reverse, take-map, drop-map, map-append, length-map, get_or-map, row, row_count, col_count, IsTable, act}
+use Rattle.grid_deferred.proofs.Common.{reverse-append, reverse-reverse, length-reverse, get_or-reverse, take-map, drop-map, map-append, length-map, get_or-map, row, row_count, col_count, IsTable, act, get-reverse, same_tables, rows-act, cols-act, cell-act, IsTable-act, without_rows}
 use Rattle.grid_base.specs.declared.words.Symmetry.TheVariants.{FlipRows, FlipCols}
-use Rattle.grid_base.proofs.PartLemmas.{get-reverse}
-use Rattle.grid_base.proofs.TableLemmas.{same_tables}
-use Rattle.grid_base.proofs.ActLemmas.{rows-act, cols-act, cell-act, IsTable-act}
-use Rattle.grid.specs.Edits.{insert_rows, without_rows}
+use Rattle.grid.specs.Edits.{insert_rows}
 
 module _ {X : Type 0} where
   -- a list in two parts, reversed

@@ -1,20 +1,13 @@
 -- What is pending after a command, and what a carried command rests on.
 use Rattle.std.proofs.Common.{◌≡◌, List, [], ◌∷◌, Bool, true, false, refl, sym, ◌∙◌, ap, Some, IsTrue, ℕ, Result, Ok, Err, OnOk}
-use Rattle.grid_base.proofs.Common.{row_count, col_count, cell, IsTable, saturating_count, act, IsThen}
-use Rattle.grid.specs.Prelude.{CommandValue, Edit, command_value, size, get, lines, apply, axis_of, read, pop, ReplyValue, done, in_range, step_rows, step_reply, takes_memory, RowsAreKnown, EditIsKnown, command_symmetry, step_shift}
+use Rattle.grid_deferred.proofs.Common.{row_count, col_count, cell, IsTable, saturating_count, act, IsThen, CommandValue, Edit, command_value, size, get, lines, apply, axis_of, read, pop, ReplyValue, done, in_range, step_rows, step_reply, takes_memory, RowsAreKnown, EditIsKnown, command_symmetry, step_shift, product, then_is, act-act, symmetry_of-product_from, identity_product, product_identity, cell_past, turned_reply, edit_of_flipped, edit_of_reversed, transposed_command, flipped_command, shift_through, CarriesAt, is_apply, carried, pending_after}
 use Rattle.grid_base.specs.declared.words.Symmetry.{Symmetry}
 use Rattle.grid_base.specs.declared.words.Symmetry.TheVariants.{Identity, FlipCols, FlipRows, RotateHalf, Transpose, RotateLeft, RotateRight, AntiTranspose}
 use Rattle.grid_base.specs.declared.order.Order.{Order}
-use Rattle.grid_base.proofs.GroupLemmas.{product, then_is, act-act, symmetry_of-product_from, identity_product, product_identity}
 use Rattle.grid_commands.specs.declared.command.Axis.{Axis}
 use Rattle.grid_commands.specs.declared.command.Axis.TheVariants.{Row, Col}
 use Rattle.grid_commands.specs.declared.command.Command.{Command}
 use Rattle.grid_commands.specs.declared.command.Command.TheVariants.{Apply, Size}
-use Rattle.grid.proofs.LineEditLemmas.{cell_past}
-use Rattle.grid_deferred.specs.Through.{turned_reply, edit_of_flipped, edit_of_reversed, transposed_command, flipped_command}
-use Rattle.grid_deferred.specs.Carry.{shift_through, CarriesAt, is_apply}
-use Rattle.grid_deferred.specs.Carried.{carried}
-use Rattle.grid_deferred.specs.Deferred.{pending_after}
 use Rattle.grid_deferred.proofs.CarryLemmas.{carries, applies}
 
 -- a fact that holds anyway, where there is an outcome

@@ -1,12 +1,9 @@
 -- What a read of a line replies.
 use Rattle.std.proofs.Common.{◌≡◌, ℕ, ◌<◌, ◌≤◌, None, Some, List, [], IsTrue, nat_lt, refl, sym, ◌∙◌, ap, arith, slice_get, lt-ltb}
-use Rattle.grid_base.proofs.Common.{slice_get-get_or, slice_get_past, row, row_count, col_count, act}
-use Rattle.grid.specs.Prelude.{read, lines, line_count, line_is, step_reply, line_at}
+use Rattle.grid_deferred.proofs.Common.{slice_get-get_or, slice_get_past, row, row_count, col_count, act, read, lines, line_count, line_is, step_reply, line_at, along, rows-act}
 use Rattle.grid_base.specs.declared.words.Symmetry.TheVariants.{Transpose}
 use Rattle.grid_commands.specs.declared.command.Axis.{Axis}
 use Rattle.grid_commands.specs.declared.command.Axis.TheVariants.{Row, Col}
-use Rattle.grid_deferred.specs.Deferred.{along}
-use Rattle.grid_base.proofs.ActLemmas.{rows-act}
 
 module _ {T : Type 0} (t : List (List T)) where
   line-along : (a : Axis) (at : ℕ) → slice_get (along a t) at ≡ line_at a at t

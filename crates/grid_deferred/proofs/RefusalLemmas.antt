@@ -1,10 +1,7 @@
 -- Refusals of edits through the flips.
 use Rattle.std.proofs.Common.{◌≡◌, ℕ, zero, suc, ◌+◌, ◌-◌, ◌*◌, ◌<◌, Bool, true, false, not, ◌&&◌, ◌||◌, Some, None, List, [], ◌∷◌, length, map, reverse, nat_eq, nat_lt, if◌then◌else◌, refl, sym, ◌∙◌, ap, arith, ⊎_elim, eqb-true, lt-ltb, le-ltb}
-use Rattle.grid_base.proofs.Common.{and_comm, or_comm, and-true, or-false, list_any, list_all, length-reverse, length-map, reverse-append, reverse-reverse, get_or-reverse, list_all-append, list_any-append, cases_Bool, cases_lt, both_ways, false_from_ne_true, row}
-use Rattle.grid.specs.Prelude.{Edit, read, push, insert_at, insert_all, first_width, fitting_width, lines_refusal, edit_refusal}
+use Rattle.grid_deferred.proofs.Common.{and_comm, or_comm, and-true, or-false, list_any, list_all, length-reverse, length-map, reverse-append, reverse-reverse, get_or-reverse, list_all-append, list_any-append, cases_Bool, cases_lt, both_ways, false_from_ne_true, row, Edit, read, push, insert_at, insert_all, first_width, fitting_width, lines_refusal, edit_refusal, all-at, fitting-some, mirrored_insertion, edit_of_flipped, edit_of_reversed}
 use Rattle.grid_commands.specs.declared.command.Refusal.TheVariants.{EmptyLine, Length, Index, TooLarge}
-use Rattle.grid.proofs.EditAcrossLemmas.{all-at, fitting-some}
-use Rattle.grid_deferred.specs.Through.{mirrored_insertion, edit_of_flipped, edit_of_reversed}
 
 module _ {X : Type 0} (p : X → Bool) where
   pub list_all-reverse : (xs : List X) → list_all p (reverse xs) ≡ list_all p xs

@@ -1,17 +1,9 @@
 -- A deferred run of one more command.
 use Rattle.std.proofs.Common.{◌≡◌, ℕ, suc, ◌+◌, ◌/◌, ◌≤◌, List, [], ◌∷◌, ◌++◌, length, length-append, Some, Result, Ok, Err, IfOk, OnOk, refl, sym, ◌∙◌, ap, subst, arith, All}
-use Rattle.grid_base.proofs.Common.{All-pop, GridValue, row_count, col_count, IsTable, Counts, saturating_count, ClonesAreEqual, act, order_after, price, half, image_rows, image_cols}
-use Rattle.grid.specs.Prelude.{CommandValue, ReplyValue, step_rows, step_reply, RowsAreKnown, command_symmetry, list_symmetry, run_rows, run_replies, Ran}
+use Rattle.grid_deferred.proofs.Common.{All-pop, GridValue, row_count, col_count, IsTable, Counts, saturating_count, ClonesAreEqual, act, order_after, price, half, image_rows, image_cols, CommandValue, ReplyValue, step_rows, step_reply, RowsAreKnown, command_symmetry, list_symmetry, run_rows, run_replies, Ran, rows-act, cols-act, product, act-identity, price_within_half, run_rows-more, run_replies-more, list_symmetry-more, list_symmetry-none, saturating_count-none, count_more, shift_through, pending_after, settling_price, shown_shift, deferred_shift, RanDeferred}
 use Rattle.grid_base.specs.declared.words.Symmetry.{Symmetry}
 use Rattle.grid_base.specs.declared.words.Symmetry.TheVariants.{Identity}
 use Rattle.grid_base.specs.declared.order.Order.{Order}
-use Rattle.grid_base.proofs.ActLemmas.{rows-act, cols-act}
-use Rattle.grid_base.proofs.GroupLemmas.{product, act-identity}
-use Rattle.grid_base.proofs.PriceLemmas.{price_within_half}
-use Rattle.grid.proofs.RunLemmas.{run_rows-more, run_replies-more, list_symmetry-more, list_symmetry-none, saturating_count-none, count_more}
-use Rattle.grid_deferred.specs.Carry.{shift_through}
-use Rattle.grid_deferred.specs.Deferred.{pending_after}
-use Rattle.grid_deferred.specs.Run.{settling_price, shown_shift, deferred_shift, RanDeferred}
 use Rattle.grid_deferred.proofs.PendingLemmas.{pending-product}
 use Rattle.grid_deferred.proofs.AllowanceLemmas.{image_cells, run_within}
 

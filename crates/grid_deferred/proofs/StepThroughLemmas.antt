@@ -1,19 +1,12 @@
 -- Commands through the flip of the rows and the transpose, and through words of these.
 use Rattle.std.proofs.Common.{◌≡◌, ℕ, zero, suc, ◌<◌, ◌≤◌, Bool, true, false, ◌&&◌, Option, Some, None, List, nat_lt, if◌then◌else◌, refl, sym, ◌∙◌, ap, arith, ⊎_elim, ltb-true, lt-ltb, le-ltb}
-use Rattle.grid_base.proofs.Common.{and_comm, cases_lt, and_parts, row_count, col_count, IsTable, IsSize, act}
-use Rattle.grid.specs.Prelude.{rows_after, reply_to, step_rows, step_reply, takes_memory, CommandValue, size, get, set_cell, swap_cells, lines, fill, clear, apply, axis_of, ReplyValue, cell_is, refused, in_range, command_refusal, unless_refused}
+use Rattle.grid_deferred.proofs.Common.{and_comm, cases_lt, and_parts, row_count, col_count, IsTable, IsSize, act, rows_after, reply_to, step_rows, step_reply, takes_memory, CommandValue, size, get, set_cell, swap_cells, lines, fill, clear, apply, axis_of, ReplyValue, cell_is, refused, in_range, command_refusal, unless_refused, IsTable-with_cell, IsSize-table, turned_reply, mirrored_line, transposed_command, flipped_command, rows-act, cols-act, IsTable-act, across-none, rows-across, cols-across, cell-cross, rows-edit_across, table-cols_edit, unless_refused-table}
 use Rattle.grid_base.specs.declared.words.Symmetry.{Symmetry}
 use Rattle.grid_base.specs.declared.words.Symmetry.TheVariants.{FlipRows, Transpose}
-use Rattle.grid_base.proofs.WriteLemmas.{IsTable-with_cell}
-use Rattle.grid_base.proofs.TableLemmas.{IsSize-table}
-use Rattle.grid_deferred.specs.Through.{turned_reply, mirrored_line, transposed_command, flipped_command}
-use Rattle.grid_base.proofs.ActLemmas.{rows-act, cols-act, IsTable-act}
 use Rattle.grid_commands.specs.declared.command.Axis.{Axis}
 use Rattle.grid_commands.specs.declared.command.Axis.TheVariants.{Row, Col}
 use Rattle.grid_commands.specs.declared.command.Refusal.{Refusal}
 use Rattle.grid_commands.specs.declared.command.Refusal.TheVariants.{Index}
-use Rattle.grid.proofs.ColEditLemmas.{across-none, rows-across, cols-across, cell-cross}
-use Rattle.grid.proofs.EditAcrossLemmas.{rows-edit_across, table-cols_edit, unless_refused-table}
 use Rattle.grid_deferred.proofs.RefusalLemmas.{command_refusal-edit_of_flipped, command_refusal-edit_of_reversed}
 use Rattle.grid_deferred.proofs.EditThroughLemmas.{place_past, memory-edit_of_flipped, memory-edit_of_reversed, rows-edit_flipped, cols-edit_flipped, cols-edit_across, table-rows_edit, reply-rows_flip, reply-cols_flip, reply-rows_cross, reply-cols_cross}
 use Rattle.grid_deferred.proofs.CellThroughLemmas.{cell-flip, set-flip, set-cross, swap-flip, swap-cross, fill-flip, fill-cross, none-flip, apply-through, IsTable-exchanged, IsTable-filled}

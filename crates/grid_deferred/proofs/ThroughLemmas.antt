@@ -1,13 +1,9 @@
 -- Effects on lines through the flip of the rows and the transpose; every other symmetry is a word of these.
 use Rattle.std.proofs.Common.{◌≡◌, List, map, reverse, sym, ◌∙◌, ap, subst, arith}
-use Rattle.grid_base.proofs.Common.{length-reverse, length-map, row_count, col_count, IsTable, act}
+use Rattle.grid_deferred.proofs.Common.{length-reverse, length-map, row_count, col_count, IsTable, act, cols-act, IsTable-act, act-act, across-across, IsApplicable, table-after, effect-across}
 use Rattle.grid_base.specs.declared.words.Symmetry.TheVariants.{FlipRows, FlipCols, Transpose}
-use Rattle.grid_base.proofs.ActLemmas.{cols-act, IsTable-act}
-use Rattle.grid_base.proofs.GroupLemmas.{act-act}
 use Rattle.grid_commands.specs.declared.command.Axis.TheVariants.{Row, Col}
-use Rattle.grid.proofs.ColEditLemmas.{across-across}
 use Rattle.grid.specs.Step.{Effect, nothing, inserts, removes, pads_end, pads_front, after_effect}
-use Rattle.grid.proofs.EditAcrossLemmas.{IsApplicable, table-after, effect-across}
 use Rattle.grid_deferred.proofs.MirrorLemmas.{flip_rows-is, flip_cols-is}
 use Rattle.grid_deferred.proofs.EffectLemmas.{flipped_effect, reversed_effect, effect-flipped, effect-reversed, cols-flipped}
 

@@ -3,3 +3,4 @@ pub mod Carry
 pub mod Carried
 pub mod Deferred
 pub mod Run
+pub mod Prelude

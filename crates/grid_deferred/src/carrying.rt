@@ -3,9 +3,7 @@
 //! Each symmetry is a word of transposes and flips of the rows, so a command is carried by these two.
 ghost use Rattle.std.specs.Prelude.{◌≡◌, map, reverse};
 ghost use Rattle.grid.specs.Prelude.{items_of_each, command_value, reply_value};
-ghost use Rattle.grid_deferred.specs.Through.{turned_reply, reverses_cells, mirrored_line, mirrored_insertion, mirrored_start, transposed_command, flipped_command};
-ghost use Rattle.grid_deferred.specs.Carry.{Carries, is_apply};
-ghost use Rattle.grid_deferred.specs.Carried.{carried};
+ghost use Rattle.grid_deferred.specs.Prelude.{turned_reply, reverses_cells, mirrored_line, mirrored_insertion, mirrored_start, transposed_command, flipped_command, Carries, is_apply, carried};
 
 use grid::{Axis, Command, Reply};
 use grid_base::Symmetry;

@@ -1,12 +1,10 @@
 //! A grid seen through a symmetry that isn't applied yet.
 ghost use Rattle.std.specs.Prelude.{◌≡◌, ◌<◌, OnOk, OnErr, IfOk, IsTrue, false, nat_lt, option_copied};
 ghost use Rattle.grid.specs.Prelude.{row, row_count, col_count, cell, transposed, IsTable, act, order_after, price, saturating_count, ClonesAreEqual, command_value, get, lines, read, apply, line_count, reply_value, in_range, step_reply, Stepped};
-ghost use Rattle.grid_base.specs.Strides.{LinesInOrder};
+ghost use Rattle.grid_deferred.specs.Prelude.{LinesInOrder, shift_through_at, is_apply, pending_after, along};
 ghost use Rattle.grid_base.specs.declared.words.Symmetry.{Symmetry};
 ghost use Rattle.grid_base.specs.declared.words.Symmetry.TheVariants.{Identity};
 ghost use Rattle.grid_commands.specs.declared.command.Axis.TheVariants.{Row, Col};
-ghost use Rattle.grid_deferred.specs.Carry.{shift_through_at, is_apply};
-ghost use Rattle.grid_deferred.specs.Deferred.{pending_after, along};
 
 use crate::carrying::{carried, carry_reply};
 use grid::{Axis, Command, Grid, Reply, Tally};

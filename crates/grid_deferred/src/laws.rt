@@ -1,7 +1,7 @@
 //! Laws of deferred runs as public calls: each makes the calls that its name says, and ensures what they leave.
 ghost use Rattle.std.specs.Prelude.{◌≡◌, IfOk, OnOk, List, map};
 ghost use Rattle.grid.specs.Prelude.{ClonesAreEqual, CommandValue, command_value, ReplyValue, reply_value, Ran, RunGives, AreKnown, GridValue, Counts};
-ghost use Rattle.grid_deferred.specs.Run.{RanDeferred, DeferredRunGives};
+ghost use Rattle.grid_deferred.specs.Prelude.{RanDeferred, DeferredRunGives};
 
 use crate::run_deferred;
 use grid::{Command, Grid, Reply, RunStopped, Tally, run};

@@ -1,7 +1,6 @@
 //! A run that defers its symmetries.
 ghost use Rattle.std.specs.Prelude.{◌≤◌, map};
-ghost use Rattle.grid_commands.specs.Command.{command_value};
-ghost use Rattle.grid_deferred.specs.Run.{DeferredRunGives};
+ghost use Rattle.grid_deferred.specs.Prelude.{command_value, DeferredRunGives};
 
 use crate::Deferred;
 use grid::{Command, Grid, Reply, RunStopped, Tally};

@@ -1,10 +1,8 @@
 -- What may be read by one relation may be read by one that allows more.
 use Rattle.std.proofs.Common.{inl, inr, ℕ, Option, Some, Result, Ok, Err, List, [], ◌∷◌, length, None}
-use Rattle.grid_base.proofs.Common.{AllZip, GridValue}
-use Rattle.serde_json.specs.Data.{Data}
+use Rattle.grid_json.proofs.Common.{AllZip, GridValue, Data, AreCells, AreRows, IsBadCell, IsBadRow, IsFault, IsRow, MayRead, MayReadItems}
 use Rattle.grid_json.specs.declared.error.RowsError.{RowsError}
 use Rattle.grid_json.specs.declared.error.RowsError.TheVariants.{Memory, NotRows, NotRow, BadCell, Ragged}
-use Rattle.grid_json.specs.Rows.{AreCells, AreRows, IsBadCell, IsBadRow, IsFault, IsRow, MayRead, MayReadItems}
 
 module _ {T : Type 0} (R S : Data → Option T → Type 0) (more : (d : Data) (cell : Option T) → R d cell → S d cell) where
   cells_more : (items : List Data) (row : List T) → AreCells R items row → AreCells S items row

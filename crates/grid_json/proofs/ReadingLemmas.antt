@@ -1,12 +1,8 @@
 -- The reading of a value, test by test, and of the value of a grid.
 use Rattle.std.proofs.Common.{◌≡◌, ℕ, ◌^◌, ◌<◌, List, length, map, codes, All, refl, sym, ap, ◌∙◌, Option, Some, Ok}
-use Rattle.grid_base.proofs.Common.{col_count, IsTable, storage, GridValue, length-map, map-map}
-use Rattle.serde_json.specs.Data.{Data, Items, number, unsigned, string, array, object, member, no_members}
-use Rattle.serde_json.specs.View.{items_of}
+use Rattle.grid_json.proofs.Common.{col_count, IsTable, storage, GridValue, length-map, map-map, Data, Items, number, unsigned, string, array, object, member, no_members, items_of, Content, written, contents, Parts, or_refuse, parts_of, cols_in, items_in, cells_from, order_in, order_name, cut, reading, value_of}
 use Rattle.grid_base.specs.declared.order.Order.{Order}
 use Rattle.grid_json.specs.declared.error.ReadError.TheVariants.{MissingField}
-use Rattle.grid_json.specs.Content.{Content, written, contents}
-use Rattle.grid_json.specs.Reading.{Parts, or_refuse, parts_of, cols_in, items_in, cells_from, order_in, order_name, cut, reading, value_of}
 use Rattle.grid_json.proofs.TableLemmas.{table_map, storage_map, cut_of_table, cols_map}
 use Rattle.grid_json.proofs.ReadLemmas.{read_back, order_back}
 use Rattle.grid_json.specs.declared.error.Field.TheVariants as fields

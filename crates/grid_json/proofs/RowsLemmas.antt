@@ -1,12 +1,7 @@
 -- An array of what was written of each item.
 use Rattle.std.proofs.Common.{◌≡◌, List, [], ◌∷◌, ◌++◌, map, sym, ap, subst, ◌∙◌, append_assoc, append-nil}
-use Rattle.grid_base.proofs.Common.{AllZip, map-append}
-use Rattle.grid_base.proofs.ClosureLemmas.{pairs_pure}
-use Rattle.serde_json.specs.Data.{Data}
-use Rattle.serde_json.specs.View.{view}
+use Rattle.grid_json.proofs.Common.{AllZip, map-append, pairs_pure, Data, view, AllZip-concat_rows, IsRows, MayBeRow, MayBeRows, array_of}
 use Rattle.serde_json.specs.declared.value.Value.{Value}
-use Rattle.grid.proofs.ConversionLemmas.{AllZip-concat_rows}
-use Rattle.grid_json.specs.Rows.{IsRows, MayBeRow, MayBeRows, array_of}
 
 -- the values of the items before those that are left
 pub record ValuesSoFar {X : Type 0} (R : X → Data → Type 0) (all left : List X) (values : List Value) : Type 0 where

@@ -1,18 +1,10 @@
 -- The rows of an array of arrays, item by item.
 use Rattle.std.proofs.Common.{◌≡◌, ◌≢◌, ◌⊎◌, inl, inr, ℕ, ◌+◌, ◌<◌, ◌≤◌, Option, Some, None, List, [], ◌∷◌, ◌++◌, length, map, take, drop, get_or, All, refl, sym, ap, subst, ◌∙◌, arith, append_assoc, append-nil, length-append, length-take, take_all, take-append-drop}
-use Rattle.grid_base.proofs.Common.{map-append, length-map, take_more, All-push, AllZip-long, flat_map-append, col_count, concat_rows, storage, CanCut, GridValue}
-use Rattle.serde_json.specs.Data.{Data, null, array, Items}
-use Rattle.serde_json.specs.Find.{as_array}
-use Rattle.serde_json.specs.View.{view}
+use Rattle.grid_json.proofs.Common.{map-append, length-map, take_more, All-push, AllZip-long, flat_map-append, col_count, concat_rows, storage, CanCut, GridValue, Data, null, array, Items, as_array, view, length-concat_rows, equal_rows, AllZip-concat_rows, equal_rows_are, CanCut-cells, AddsRow, AreCells, AreRows, IsBadCell, IsBadRow, IsFault, IsMemoryOrBad, IsRow, array_of}
 use Rattle.serde_json.specs.declared.value.Value.{Value}
 use Rattle.grid_base.specs.declared.order.Order.TheVariants.{RowMajor}
-use Rattle.grid_base.proofs.StorageLemmas.{length-concat_rows}
-use Rattle.grid.specs.Conversion.{equal_rows}
-use Rattle.grid.proofs.ConversionLemmas.{AllZip-concat_rows, equal_rows_are}
-use Rattle.grid.proofs.MadeLemmas.{CanCut-cells}
 use Rattle.grid_json.specs.declared.error.RowsError.{RowsError}
 use Rattle.grid_json.specs.declared.error.RowsError.TheVariants.{Memory, Ragged}
-use Rattle.grid_json.specs.Rows.{AddsRow, AreCells, AreRows, IsBadCell, IsBadRow, IsFault, IsMemoryOrBad, IsRow, array_of}
 
 -- ---- arrays
 

@@ -1,6 +1,6 @@
 //! A law of JSON values as a public call.
 ghost use Rattle.std.specs.Prelude.{◌≡◌, IfOk, IfErr};
-ghost use Rattle.grid_json.specs.Content.{contents};
+ghost use Rattle.grid_json.specs.Prelude.{contents};
 ghost use Rattle.grid_json.specs.declared.error.ReadError.TheVariants.{Memory};
 
 use crate::{Cell, ReadError, from_value, to_value};

@@ -1,8 +1,6 @@
 //! Reading a grid from a JSON value.
 ghost use Rattle.std.specs.Prelude.{◌≡◌, map, option_map};
-ghost use Rattle.serde_json.specs.View.{view, items_view, members_view};
-ghost use Rattle.grid_json.specs.Content.{contents, layout};
-ghost use Rattle.grid_json.specs.Reading.{is_field, has_unknown, parts_of, or_refuse, cols_in, items_in, cells_from, order_named, order_in, cut, reading, Gives, GivesOrMemory};
+ghost use Rattle.grid_json.specs.Prelude.{view, items_view, members_view, contents, layout, is_field, has_unknown, parts_of, or_refuse, cols_in, items_in, cells_from, order_named, order_in, cut, reading, Gives, GivesOrMemory};
 
 use crate::{Cell, Field, ReadError};
 use grid::{Grid, Order, can_cut};

@@ -1,8 +1,6 @@
 //! Rows as JSON that other programs read: an array of arrays.
 ghost use Rattle.std.specs.Prelude.{Option, IfOk, MatchResult};
-ghost use Rattle.serde_json.specs.Data.{Data};
-ghost use Rattle.serde_json.specs.View.{view};
-ghost use Rattle.grid_json.specs.Rows.{AddsRow, AnswersCell, AnswersItem, IsMemoryOrBad, IsRead, IsRows, MayBeRow, MayBeRows, MayRead, ReadsBy, WritesBy};
+ghost use Rattle.grid_json.specs.Prelude.{Data, view, AddsRow, AnswersCell, AnswersItem, IsMemoryOrBad, IsRead, IsRows, MayBeRow, MayBeRows, MayRead, ReadsBy, WritesBy};
 
 use crate::RowsError;
 use crate::write::array_of;

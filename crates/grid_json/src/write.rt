@@ -1,9 +1,6 @@
 //! Writing a grid as a JSON value.
 ghost use Rattle.std.specs.Prelude.{◌≡◌, IfOk, Ok, codes};
-ghost use Rattle.serde_json.specs.Data.{number, unsigned, string, array, object, member, no_members};
-ghost use Rattle.serde_json.specs.View.{view, items_view};
-ghost use Rattle.grid_json.specs.Content.{contents};
-ghost use Rattle.grid_json.specs.Reading.{order_name, value_of, reading};
+ghost use Rattle.grid_json.specs.Prelude.{number, unsigned, string, array, object, member, no_members, view, items_view, contents, order_name, value_of, reading};
 
 use crate::Cell;
 use grid::{Grid, Order};

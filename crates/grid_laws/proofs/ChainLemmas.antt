@@ -1,8 +1,7 @@
 -- Lists whose items from a place on come from later places, in their order: as many swaps as such items bring them
 -- there, and no fewer do.
 use Rattle.std.proofs.Common.{◌≡◌, ℕ, ◌+◌, ◌-◌, ◌<◌, ◌≤◌, List, length, sym, ◌∙◌, ap, arith, ⊎_elim, slice_get}
-use Rattle.std.proofs.lemmas.Bool.{cases_lt}
-use Rattle.grid_laws.specs.Least.{IsLeast}
+use Rattle.grid_laws.proofs.Common.{cases_lt, IsLeast}
 use Rattle.grid_laws.proofs.OriginLemmas.{origin, makes}
 use Rattle.grid_laws.proofs.PigeonLemmas.{AreDifferent, IsAlone, at_least}
 use Rattle.grid_laws.proofs.MirrorLemmas.{pairs, length-pairs, pairs_within, origin_other, origin_first}

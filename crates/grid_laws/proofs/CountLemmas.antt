@@ -1,14 +1,8 @@
 -- The counts of calls, which grow by the price of a symmetry, and by the shift of an edit.
 use Rattle.std.proofs.Common.{◌≡◌, ℕ, List, Result, Ok, Err, OnOk, length, refl, sym, ◌∙◌, ap, subst}
-use Rattle.grid_base.proofs.Common.{GridValue, row_count, col_count, IsTable, Counts, saturating_count, storage, act, order_after, price, IsInverse}
-use Rattle.grid.specs.Prelude.{CommandValue, ReplyValue, command_symmetry, list_symmetry, step_shift, step_rows}
+use Rattle.grid_laws.proofs.Common.{GridValue, row_count, col_count, IsTable, Counts, saturating_count, storage, act, order_after, price, IsInverse, CommandValue, ReplyValue, command_symmetry, list_symmetry, step_shift, step_rows, IsTable-act, act-act, act-identity, inverse_is, inverse_left, settling_price, RanDeferred, rows_back, cols_back, HasDifferentCells, IsLeast, GrewByLeast, Shifts, filled_up}
 use Rattle.grid_base.specs.declared.order.Order.{Order}
 use Rattle.grid_base.specs.declared.words.Symmetry.{Symmetry}
-use Rattle.grid_base.proofs.ActLemmas.{IsTable-act}
-use Rattle.grid_base.proofs.GroupLemmas.{act-act, act-identity, inverse_is, inverse_left}
-use Rattle.grid_deferred.specs.Run.{settling_price, RanDeferred}
-use Rattle.grid_deferred.proofs.RunLemmas.{rows_back, cols_back}
-use Rattle.grid_laws.specs.Least.{HasDifferentCells, IsLeast, GrewByLeast, Shifts, filled_up}
 use Rattle.grid_laws.proofs.ImageLemmas.{price_is_least, different_image}
 use Rattle.grid_laws.proofs.EditLemmas.{shift_is_least, order_kept}
 

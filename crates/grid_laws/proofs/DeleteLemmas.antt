@@ -1,13 +1,8 @@
 -- The cells that stay and move at a delete of rows are the least number of swaps that bring all that stay to their places.
 use Rattle.std.proofs.Common.{◌++◌, ◌≡◌, ℕ, ◌+◌, ◌-◌, ◌*◌, ◌/◌, ◌%◌, ◌<◌, ◌≤◌, cond, ltb, eqb, List, length, take, drop, sym, ◌∙◌, ap, subst, arith, ⊎_elim, slice_get, take-append-drop, lt-ltb, le-ltb, eq-eqb, ne_eqb, mul_comm, mul-le-mul_right}
-use Rattle.grid_base.proofs.Common.{div-mul-add, mod-mul-add, cases_lt, cases_eq, cond-true, cond-false, row, row_count, col_count, cell, InRange, IsTable, storage, place}
-use Rattle.grid.specs.Prelude.{without_rows, rows_taken_shift, delete_rows_shift}
+use Rattle.grid_laws.proofs.Common.{div-mul-add, mod-mul-add, cases_lt, cases_eq, cond-true, cond-false, row, row_count, col_count, cell, InRange, IsTable, storage, place, without_rows, rows_taken_shift, delete_rows_shift, length-storage, get-storage, has_place, row-take_before, row-take_after, rows-take, cols-take, IsTable-take, HasDifferentCells, IsLeast}
 use Rattle.grid_base.specs.declared.order.Order.{Order}
 use Rattle.grid_base.specs.declared.order.Order.TheVariants.{RowMajor, ColumnMajor}
-use Rattle.grid_base.proofs.StorageLemmas.{length-storage, get-storage, has_place}
-use Rattle.grid.proofs.RowEditLemmas.{row-take_before, row-take_after, rows-take}
-use Rattle.grid.proofs.EditSizeLemmas.{cols-take, IsTable-take}
-use Rattle.grid_laws.specs.Least.{HasDifferentCells, IsLeast}
 use Rattle.grid_laws.proofs.PigeonLemmas.{IsAlone}
 use Rattle.grid_laws.proofs.MirrorLemmas.{none_is_least}
 use Rattle.grid_laws.proofs.PassLemmas.{IsCut, cut, line_before}

@@ -1,20 +1,11 @@
 -- What an edit costs in shifts is the least number of swaps that do it, of rows, of columns, and of a command.
 use Rattle.std.proofs.Common.{◌≡◌, ℕ, ◌+◌, ◌-◌, ◌*◌, ◌<◌, ◌≤◌, true, false, Option, Some, None, ltb, eqb, List, [], ◌++◌, length, replicate, if◌then◌else◌, refl, sym, ◌∙◌, ap, subst, arith, ⊎_elim, nat_eq, is_none, append-nil, lt-ltb, eq-eqb, ne_eqb, mul-le-mul_right}
-use Rattle.grid_base.proofs.Common.{nil_from_length, cases_lt, cases_eq, cond-true, cond-false, row_count, col_count, IsTable, storage, flipped, act, order_after}
-use Rattle.grid.specs.Prelude.{Edit, delete_at, delete_range, expand, prepend, CommandValue, lines, pad_refusal, edit_refusal, command_symmetry, edit_shift, step_shift, insert_rows, without_rows, expanded_rows, prepended_rows, rows_added_shift, delete_rows_shift, effect, after_effect, step_rows}
+use Rattle.grid_laws.proofs.Common.{nil_from_length, cases_lt, cases_eq, cond-true, cond-false, row_count, col_count, IsTable, storage, flipped, act, order_after, Edit, delete_at, delete_range, expand, prepend, CommandValue, lines, pad_refusal, edit_refusal, command_symmetry, edit_shift, step_shift, insert_rows, without_rows, expanded_rows, prepended_rows, rows_added_shift, delete_rows_shift, effect, after_effect, step_rows, length-storage, rows-act, cols-act, cell-act, IsTable-act, flipped-flipped, copies, expanded-put, prepended-put, put-no_lines, IsTable-take, cols-take, rows-take, range_rows, delete_rows_one, done_rows, refused_rows, crossed_rows, table-step, IsLeast, HasDifferentCells, Lacks, EditShifts, Shifts, filled_up}
 use Rattle.grid_base.specs.declared.order.Order.{Order}
 use Rattle.grid_base.specs.declared.order.Order.TheVariants.{RowMajor, ColumnMajor}
 use Rattle.grid_base.specs.declared.words.Symmetry.TheVariants.{Transpose}
-use Rattle.grid_base.proofs.StorageLemmas.{length-storage}
-use Rattle.grid_base.proofs.ActLemmas.{rows-act, cols-act, cell-act, IsTable-act}
-use Rattle.grid_base.proofs.ViewLemmas.{flipped-flipped}
 use Rattle.grid_commands.specs.declared.command.Axis.TheVariants.{Row, Col}
 use Rattle.grid_commands.specs.declared.command.Refusal.{Refusal}
-use Rattle.grid.proofs.EditSizeLemmas.{copies, expanded-put, prepended-put, put-no_lines, IsTable-take, cols-take}
-use Rattle.grid.proofs.RowEditLemmas.{rows-take}
-use Rattle.grid.proofs.LineEditLemmas.{range_rows, delete_rows_one, done_rows, refused_rows, crossed_rows}
-use Rattle.grid_deferred.proofs.StepThroughLemmas.{table-step}
-use Rattle.grid_laws.specs.Least.{IsLeast, HasDifferentCells, Lacks, EditShifts, Shifts, filled_up}
 use Rattle.grid_laws.proofs.ImageLemmas.{storage_across, different_image}
 use Rattle.grid_laws.proofs.MirrorLemmas.{none_is_least}
 use Rattle.grid_laws.proofs.DeleteLemmas.{delete_is_least}

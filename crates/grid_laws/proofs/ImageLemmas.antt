@@ -1,19 +1,12 @@
 -- The price of a symmetry is the least number of swaps that make the storage of the image of that of the table.
 use Rattle.std.proofs.Common.{◌≡◌, ℕ, ◌+◌, ◌-◌, ◌*◌, ◌/◌, ◌<◌, List, length, sym, ◌∙◌, ap, subst, arith, slice_get, mul_comm}
-use Rattle.grid_base.proofs.Common.{row_count, col_count, cell, IsTable, storage, place, flipped, act, order_after, price, image_rows, image_cols, source_row, source_col}
+use Rattle.grid_laws.proofs.Common.{row_count, col_count, cell, IsTable, storage, place, flipped, act, order_after, price, image_rows, image_cols, source_row, source_col, length-storage, get-storage, has_place, source_within, rows-act, cols-act, cell-act, IsTable-act, same_cells, HasDifferentCells, IsLeast, product, act-act, act-identity, place_flipped, opposite_place}
 use Rattle.grid_base.specs.declared.order.Order.{Order}
 use Rattle.grid_base.specs.declared.order.Order.TheVariants.{RowMajor, ColumnMajor}
 use Rattle.grid_base.specs.declared.words.Symmetry.{Symmetry}
 use Rattle.grid_base.specs.declared.words.Symmetry.TheVariants.{Identity, FlipRows, FlipCols, RotateHalf, Transpose, RotateLeft, RotateRight, AntiTranspose}
-use Rattle.grid_base.proofs.StorageLemmas.{length-storage, get-storage, has_place}
-use Rattle.grid_base.proofs.ActLemmas.{source_within, rows-act, cols-act, cell-act, IsTable-act}
-use Rattle.grid_base.proofs.TableLemmas.{same_cells}
-use Rattle.grid_laws.specs.Least.{HasDifferentCells, IsLeast}
-use Rattle.grid_base.proofs.GroupLemmas.{product, act-act, act-identity}
 use Rattle.grid_laws.proofs.MirrorLemmas.{HasDifferentItems, least_by_mirror, none_is_least}
 use Rattle.grid_laws.proofs.PassLemmas.{cut, across, across_at, along, along_at, halves, mirror_across, mirror_along, mirror_whole}
-use Rattle.grid.proofs.SeenIteratorLemmas.{place_flipped}
-use Rattle.grid.proofs.FlipLemmas.{opposite_place}
 
 -- the items of the storage of a table of different cells
 pub different_storage : {T : Type 0} (o : Order) (t : List (List T)) → IsTable t → HasDifferentCells t → HasDifferentItems (storage o t)

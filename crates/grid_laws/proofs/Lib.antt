@@ -8,3 +8,5 @@ pub mod DeleteLemmas
 pub mod PaddingLemmas
 pub mod EditLemmas
 pub mod CountLemmas
+pub mod Common
+pub mod Lemmas

@@ -1,7 +1,6 @@
 -- Lists whose items are exchanged in pairs: as many swaps as pairs make the one of the other, and no fewer do.
 use Rattle.std.proofs.Common.{◌≡◌, ◌≢◌, ℕ, zero, suc, ◌<◌, List, [], ◌∷◌, length, refl, sym, ◌∙◌, ap, subst, arith, inl, inr, ⊎_elim, ◌⊎◌, slice_get}
-use Rattle.std.proofs.lemmas.Bool.{cases_lt, cases_eq}
-use Rattle.grid_laws.specs.Least.{AreWithin, IsLeast}
+use Rattle.grid_laws.proofs.Common.{cases_lt, cases_eq, AreWithin, IsLeast}
 use Rattle.grid_laws.proofs.OriginLemmas.{turned, turned_first, turned_second, turned_other, origin, makes}
 use Rattle.grid_laws.proofs.PigeonLemmas.{AreDifferent, at_least}
 

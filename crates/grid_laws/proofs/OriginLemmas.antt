@@ -1,9 +1,6 @@
 -- Where swaps one after another bring the items of a list from.
 use Rattle.std.proofs.Common.{◌≡◌, ◌≢◌, ℕ, suc, ◌<◌, ◌≤◌, min, cond, eqb, Option, List, [], ◌∷◌, ◌++◌, length, take, refl, sym, ◌∙◌, ap, subst, arith, inl, inr, ⊎_elim, ◌⊎◌, slice_get, swap, length-take-le, length-append, eq-eqb, ne_eqb}
-use Rattle.grid_base.proofs.Common.{swapped_from_swap, length-swap, slice_get-get_or, slice_get_past, cases_lt, cases_eq, cond-true, cond-false}
-use Rattle.grid_base.proofs.TableLemmas.{same_cells}
-use Rattle.grid_base.proofs.StorageLemmas.{get-take}
-use Rattle.grid_laws.specs.Least.{AreWithin, swapped_all, Makes}
+use Rattle.grid_laws.proofs.Common.{swapped_from_swap, length-swap, slice_get-get_or, slice_get_past, cases_lt, cases_eq, cond-true, cond-false, same_cells, get-take, AreWithin, swapped_all, Makes}
 
 -- the place that a swap of the items at i and j brings the item at place k from
 pub turned : ℕ → ℕ → ℕ → ℕ

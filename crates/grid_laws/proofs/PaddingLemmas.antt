@@ -1,13 +1,7 @@
 -- Padding is a delete backwards: the swaps that take the new rows out again, in opposite order, put them in.
 use Rattle.std.proofs.Common.{◌≡◌, ℕ, ◌+◌, ◌-◌, ◌*◌, ◌<◌, ◌≤◌, ◌⊎◌, inl, inr, ⊎_elim, Some, List, length, replicate, sym, ◌∙◌, ap, subst, arith, slice_get, length-append}
-use Rattle.grid_base.proofs.Common.{length-replicate, cases_lt, row, row_count, col_count, cell, IsTable, storage, place}
-use Rattle.grid.specs.Prelude.{insert_rows, without_rows, rows_added_shift, rows_taken_shift}
+use Rattle.grid_laws.proofs.Common.{length-replicate, cases_lt, row, row_count, col_count, cell, IsTable, storage, place, insert_rows, without_rows, rows_added_shift, rows_taken_shift, same_tables, get_append_left, get_append_right, length-storage, get-storage, has_place, place_within, get-replicate, row-put_before, row-put_new, row-put_after, rows-put, row-take_before, row-take_after, rows-take, shift-taken, LinesFit, IsTable-put, IsTable-width, cols-put_lines, copies, row-copies, HasWidth-copies, AreWithin, Makes, IsLeast, HasDifferentCells, Lacks, filled_up}
 use Rattle.grid_base.specs.declared.order.Order.{Order}
-use Rattle.grid_base.proofs.TableLemmas.{same_tables}
-use Rattle.grid_base.proofs.StorageLemmas.{get_append_left, get_append_right, length-storage, get-storage, has_place, place_within, get-replicate}
-use Rattle.grid.proofs.RowEditLemmas.{row-put_before, row-put_new, row-put_after, rows-put, row-take_before, row-take_after, rows-take, shift-taken}
-use Rattle.grid.proofs.EditSizeLemmas.{LinesFit, IsTable-put, IsTable-width, cols-put_lines, copies, row-copies, HasWidth-copies}
-use Rattle.grid_laws.specs.Least.{AreWithin, Makes, IsLeast, HasDifferentCells, Lacks, filled_up}
 use Rattle.grid_laws.proofs.OriginLemmas.{origin, origin_within, origin_different, makes, made, undoing, length-undoing, undoing_within, origin_undone}
 use Rattle.grid_laws.proofs.PigeonLemmas.{IsAlone}
 use Rattle.grid_laws.proofs.DeleteLemmas.{skip, skip_before, skip_after, skip_below, AreAlone, alone_at, taken_is_least}

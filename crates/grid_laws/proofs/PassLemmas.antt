@@ -1,7 +1,7 @@
 -- The three forms in which a flip exchanges the places of p lines of q items each: lines, each
 -- line, or all.
 use Rattle.std.proofs.Common.{◌≡◌, ℕ, zero, suc, ◌+◌, ◌-◌, ◌*◌, ◌/◌, ◌%◌, ◌<◌, ◌≤◌, refl, sym, ◌∙◌, ap, arith, ⊎_elim, div-add-mod', mul-le-mul_right}
-use Rattle.grid_base.proofs.Common.{mul-add-lt, div_below, mod_below, div-mul-add, mod-mul-add, same_from_place, cases_lt}
+use Rattle.grid_laws.proofs.Common.{mul-add-lt, div_below, mod_below, div-mul-add, mod-mul-add, same_from_place, cases_lt}
 use Rattle.grid_laws.proofs.PigeonLemmas.{AreDifferent}
 use Rattle.grid_laws.proofs.MirrorLemmas.{IsMirror}
 

@@ -1,7 +1,6 @@
 -- A list that has n different numbers has at least n items, and so n items that come from later places take n swaps.
 use Rattle.std.proofs.Common.{◌≡◌, ◌≢◌, ℕ, zero, suc, ◌<◌, ◌≤◌, cond, eqb, List, [], ◌∷◌, length, sym, ◌∙◌, ap, subst, arith, inl, inr, ⊎_elim, eq-eqb, ne_eqb, slice_get}
-use Rattle.std.proofs.lemmas.Bool.{cases_eq, cond-true, cond-false}
-use Rattle.grid_laws.specs.Least.{Makes}
+use Rattle.grid_laws.proofs.Common.{cases_eq, cond-true, cond-false, Makes}
 use Rattle.grid_laws.proofs.OriginLemmas.{In, origin, origin_within, made, length-lowered, in_lowered}
 
 -- the list without its first a

@@ -3,3 +3,4 @@ pub mod Copied
 pub mod LineAnswers
 pub mod Rewritten
 pub mod SortedLines
+pub mod Prelude

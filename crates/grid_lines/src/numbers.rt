@@ -1,10 +1,6 @@
 //! The numbers of the rows, in the order in which the rows are wanted.
 ghost use Rattle.std.specs.Prelude.{◌≡◌, Bool, List, IfOk, IsPermutation, IsSortedBy, map};
-ghost use Rattle.std.specs.Cmp.{IsStrictWeakOrder};
-ghost use Rattle.std.specs.List.{range_with_len};
-ghost use Rattle.std.specs.List.Sorted.{IsStableBy, IsSortedByKey, IsStableByKey};
-ghost use Rattle.grid_base.specs.Table.{row, row_count};
-ghost use Rattle.grid_lines.specs.SortedLines.{ComparesLinesAs, GivesLineKey};
+ghost use Rattle.grid_lines.specs.Prelude.{IsStrictWeakOrder, range_with_len, IsStableBy, IsSortedByKey, IsStableByKey, row, row_count, ComparesLinesAs, GivesLineKey};
 
 use grid::{Grid, GridLineIter};
 use std::alloc::{AllocError, Allocator};

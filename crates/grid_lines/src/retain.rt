@@ -1,9 +1,6 @@
 //! Rows and columns that are kept where a test says so.
 ghost use Rattle.std.specs.Prelude.{◌≡◌, Bool, List, filter};
-ghost use Rattle.std.specs.List.Retain.{IsFiltered};
-ghost use Rattle.grid_base.specs.Table.{transposed};
-ghost use Rattle.grid_base.specs.Strides.{LinesInOrder};
-ghost use Rattle.grid_lines.specs.LineAnswers.{AnswersAlways, AnswersBy};
+ghost use Rattle.grid_lines.specs.Prelude.{IsFiltered, transposed, LinesInOrder, AnswersAlways, AnswersBy};
 
 use grid::{Grid, GridLineIter};
 use std::alloc::Allocator;

@@ -1,9 +1,8 @@
 //! Rows and columns that a closure rewrites, each as a slice.
 ghost use Rattle.std.specs.Prelude.{◌≡◌, ◌<◌, ◌*◌, List, length, map};
 ghost use Rattle.grid.specs.Prelude.{HoldsSize, table_of, row_count, col_count, transposed};
+ghost use Rattle.grid_lines.specs.Prelude.{brought, taken_back, AreRewritten, RewritesBy};
 ghost use Rattle.grid_base.specs.declared.order.Order.TheVariants.{RowMajor, ColumnMajor};
-ghost use Rattle.grid_lines.specs.Brought.{brought, taken_back};
-ghost use Rattle.grid_lines.specs.Rewritten.{AreRewritten, RewritesBy};
 
 use crate::across::runs_across;
 use grid::{Grid, Order};

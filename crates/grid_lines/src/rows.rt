@@ -1,9 +1,6 @@
 //! A grid as a vector of its rows, moved or cloned: what `TryFrom` takes.
 ghost use Rattle.std.specs.Prelude.{◌≡◌, ◌<◌, map, take, drop, vec_len, IfOk, IfErr};
-ghost use Rattle.std.specs.List.{All, AllZip};
-ghost use Rattle.std.specs.Vec.Iter.{into_iter_items};
-ghost use Rattle.grid_base.specs.Table.{row, row_count, col_count};
-ghost use Rattle.grid_lines.specs.Copied.{AreCopied, IsRoomFor};
+ghost use Rattle.grid_lines.specs.Prelude.{All, AllZip, into_iter_items, row, row_count, col_count, AreCopied, IsRoomFor};
 
 use grid::{Grid, Order};
 use std::alloc::{AllocError, Allocator};

@@ -1,6 +1,6 @@
 //! Rows and columns that are written as a whole.
 ghost use Rattle.std.specs.Prelude.{◌≡◌, ◌<◌, length, slice_set};
-ghost use Rattle.grid_base.specs.Table.{row_count, col_count, transposed};
+ghost use Rattle.grid_lines.specs.Prelude.{row_count, col_count, transposed};
 
 use grid::Grid;
 use std::alloc::Allocator;

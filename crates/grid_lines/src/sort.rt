@@ -1,10 +1,6 @@
 //! Rows and columns that are sorted, by a comparison or by a key of each, stably and by swaps.
 ghost use Rattle.std.specs.Prelude.{◌≡◌, ℕ, List, OnOk, OnErr, IsPermutation, map};
-ghost use Rattle.std.specs.List.{range_with_len};
-ghost use Rattle.grid_base.specs.Strides.{LinesInOrder};
-ghost use Rattle.grid_base.specs.Table.{row, row_count, col_count, transposed};
-ghost use Rattle.grid_lines.specs.LineAnswers.{AnswersBy};
-ghost use Rattle.grid_lines.specs.SortedLines.{AlwaysComparesNumbers, AreSortedLines, AreStableLines, AscendBy, ComparesNumbers, AreSortedByKey, AreStableByKey, AscendByKey};
+ghost use Rattle.grid_lines.specs.Prelude.{range_with_len, LinesInOrder, row, row_count, col_count, transposed, AnswersBy, AlwaysComparesNumbers, AreSortedLines, AreStableLines, AscendBy, ComparesNumbers, AreSortedByKey, AreStableByKey, AscendByKey};
 
 use crate::across::runs_across;
 use crate::numbers::{numbers_by, numbers_by_key, row_numbers};

@@ -1,17 +1,12 @@
 -- The steps round a cell, one by one.
 use Rattle.std.proofs.Common.{◌≡◌, ℕ, zero, suc, ◌+◌, ◌-◌, ◌*◌, ◌/◌, ◌%◌, ◌<◌, ◌≤◌, inl, inr, Bool, true, false, cond, Option, Some, None, List, [], ◌∷◌, drop, length, refl, ◌&&◌, nat_lt, sym, ◌∙◌, ap, arith, slice_index_or, lit<, IsSome, filter_map, slice_get, option_map, option_and_then, lt-ltb, le-ltb, ltb-true}
-use Rattle.grid_base.proofs.Common.{cons_option, drop_all, mod_below, mod-mul-add, add-mod_right, cases_lt, slice_get_read, row_count, col_count, cell, place, table_of, HoldsSize}
+use Rattle.grid_near.proofs.Common.{cons_option, drop_all, mod_below, mod-mul-add, add-mod_right, cases_lt, slice_get_read, row_count, col_count, cell, place, table_of, HoldsSize, view-rows, view-cols, view-table, view-cell, cell_past_rows, IsSome_within, length_cons, past_cols, place_within, step_count, both, cell_at, neighbors4, neighbors8, wrapped_neighbors4, wrapped_neighbors8, round_of, round_before, round_after, strided_cell, HoldsCells, box, beside, around, side, positions, position_of, cells_from, if_within, strides_of, start_of, next_step, IsThere, IsRound, positions_from}
 use Rattle.grid_base.specs.declared.order.Order.{Order}
 use Rattle.grid_base.specs.declared.order.Order.TheVariants.{RowMajor, ColumnMajor}
-use Rattle.grid_base.proofs.ViewLemmas.{view-rows, view-cols, view-table, view-cell}
-use Rattle.grid_base.proofs.TableLemmas.{cell_past_rows, IsSome_within, length_cons, past_cols}
-use Rattle.grid_base.proofs.StorageLemmas.{place_within}
 use Rattle.grid_near.specs.declared.steps.Steps.{Steps}
 use Rattle.grid_near.specs.declared.steps.Steps.TheVariants.{Sides, All}
 use Rattle.grid_near.specs.declared.board.Edges.{Edges}
 use Rattle.grid_near.specs.declared.board.Edges.TheVariants.{Open, Joined}
-use Rattle.grid_near.specs.Neighbors.{step_count, both, cell_at, neighbors4, neighbors8, wrapped_neighbors4, wrapped_neighbors8, round_of, round_before, round_after}
-use Rattle.grid_near.specs.Around.{strided_cell, HoldsCells, box, beside, around, side, positions, position_of, cells_from, if_within, strides_of, start_of, next_step, IsThere, IsRound, positions_from}
 
 -- the position of a step is the first of those that are left
 pub positions_from_step : (e : Edges) (size : ℕ × ℕ) (kind : Steps) (at : ℕ × ℕ) (k : ℕ) → k < step_count kind → drop k (positions e size kind at) ≡ position_of e size kind at k ∷ drop (k + 1) (positions e size kind at)

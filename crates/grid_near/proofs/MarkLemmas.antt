@@ -1,21 +1,13 @@
 -- Marks of cells.
 use Rattle.std.proofs.Common.{◌≡◌, ℕ, zero, suc, ◌+◌, ◌-◌, ◌*◌, ◌%◌, ◌<◌, ◌&&◌, inl, inr, Bool, true, false, cond, nat_lt, List, [], ◌∷◌, Option, Some, None, length, refl, sym, subst, ◌∙◌, ap, arith, get_or, set, take, slice_get, filter_map, option_map, MatchOption, get_or-set_other, take_all, le-ltb, Bor}
-use Rattle.grid_base.proofs.Common.{cons_option, AllZip, from_bool, slice_get_read, sum_by-cons, get_or-set_at, cases_lt, add-mod_right, along, table_of, HoldsSize, positions_of, lines_of}
+use Rattle.grid_near.proofs.Common.{cons_option, AllZip, from_bool, slice_get_read, sum_by-cons, get_or-set_at, cases_lt, add-mod_right, along, table_of, HoldsSize, positions_of, lines_of, holds, get_along, all_passed, length-places, get-zip, zip_even, place_within, cell_at, before, round_of, strided_cell, strides_of, beside, around, side, positions, MayAnswer, MayCount, CountsNear, SumsNear, MarkAt, MarksCells, MarksLine, AreBeside, WithEnds, IsBeyond, spot, near, table, placed_cells, count_round, sum_round}
 use Rattle.grid_base.specs.declared.order.Order.{Order}
 use Rattle.grid_base.specs.declared.order.Order.TheVariants.{RowMajor, ColumnMajor}
-use Rattle.grid_base.proofs.LayoutLemmas.{holds}
-use Rattle.grid_base.proofs.PlaceLemmas.{get_along, all_passed, length-places}
-use Rattle.grid_base.proofs.PlacedCellLemmas.{get-zip, zip_even}
-use Rattle.grid_base.proofs.StorageLemmas.{place_within}
 use Rattle.grid_near.specs.declared.steps.Steps.{Steps}
 use Rattle.grid_near.specs.declared.steps.Steps.TheVariants.{Sides, All}
 use Rattle.grid_near.specs.declared.board.Board.{Board}
 use Rattle.grid_near.specs.declared.board.Edges.{Edges}
 use Rattle.grid_near.specs.declared.board.Edges.TheVariants.{Open, Joined}
-use Rattle.grid_near.specs.Neighbors.{cell_at, before, round_of}
-use Rattle.grid_near.specs.Around.{strided_cell, strides_of, beside, around, side, positions}
-use Rattle.grid_near.specs.NearCounts.{MayAnswer, MayCount, CountsNear, SumsNear}
-use Rattle.grid_near.specs.Marks.{MarkAt, MarksCells, MarksLine, AreBeside, WithEnds, IsBeyond, spot, near, table, placed_cells, count_round, sum_round}
 use Rattle.grid_near.proofs.AroundLemmas.{cell_here, start_shown, below_mod}
 use Rattle.grid_near.proofs.WrappedLemmas.{none_done, around_within}
 

@@ -1,11 +1,9 @@
 -- Iterators over cells with their positions give what they have left.
 use Rattle.std.proofs.Common.{◌≡◌, ◌≤◌, ◌<◌, ℕ, suc, min, drop, Option, None, Some, List, [], ◌∷◌, length, length-drop, map, sym, ◌∙◌, ap, arith, filter_map, Bor}
-use Rattle.grid_base.proofs.Common.{⊤, cons_option, YieldsFirstBy, MakesProgress, at_most, min-eq_left, min-le_left, from_front, map-map}
+use Rattle.grid_near.proofs.Common.{⊤, cons_option, YieldsFirstBy, MakesProgress, at_most, min-eq_left, min-le_left, from_front, map-map, step_count, placed, cell_at, CellsInOrder, PositionsInOrder, positions, cells_from}
 use Rattle.grid_near.specs.declared.steps.Steps.{Steps}
 use Rattle.grid_near.specs.declared.steps.Steps.TheVariants.{Sides, All}
 use Rattle.grid_near.specs.declared.board.Edges.{Edges}
-use Rattle.grid_near.specs.Neighbors.{step_count, placed, cell_at, CellsInOrder, PositionsInOrder}
-use Rattle.grid_near.specs.Around.{positions, cells_from}
 
 pub cells_in_order : (T : Type 0) → CellsInOrder T
 cells_in_order T = from_front (YieldsFirstBy placed (λ (rest : List ((ℕ × ℕ) × T)). rest)) placed (λ rest. rest) (λ s t h. ap length h.0) (λ s x t h. h)

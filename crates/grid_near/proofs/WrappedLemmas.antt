@@ -1,12 +1,9 @@
 -- The steps round a cell on a table whose edges meet.
 use Rattle.std.proofs.Common.{◌≡◌, ℕ, zero, suc, ◌+◌, ◌-◌, ◌/◌, ◌%◌, ◌<◌, Bool, true, false, Option, cond, nat_lt, ◌&&◌, length, inl, inr, IsSome, refl, ◌∙◌, ap, arith, lt-ltb, ltb-true}
-use Rattle.grid_base.proofs.Common.{mod_below, cases_lt}
-use Rattle.grid_base.proofs.TableLemmas.{length_cons}
+use Rattle.grid_near.proofs.Common.{mod_below, cases_lt, length_cons, step_count, around, box, cells_from, start_of, next_step}
 use Rattle.grid_near.specs.declared.steps.Steps.{Steps}
 use Rattle.grid_near.specs.declared.board.Edges.{Edges}
 use Rattle.grid_near.specs.declared.board.Edges.TheVariants.{Open, Joined}
-use Rattle.grid_near.specs.Neighbors.{step_count}
-use Rattle.grid_near.specs.Around.{around, box, cells_from, start_of, next_step}
 use Rattle.grid_near.proofs.AroundLemmas.{cells_left, no_cells, mapped_there}
 
 -- where a position is in range, and where not, by how many steps are done at the start

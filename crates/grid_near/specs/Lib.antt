@@ -3,3 +3,4 @@ pub mod Directions
 pub mod Marks
 pub mod NearCounts
 pub mod Neighbors
+pub mod Prelude

@@ -1,8 +1,6 @@
 //! How many of the cells round each cell pass a test, for all cells of a table at once.
 ghost use Rattle.std.specs.Prelude.{◌≡◌, ℕ, ◌+◌, ◌*◌, ◌<◌, ◌≤◌, length, vec_len, vec_capacity, false, slice_index_or, MatchOption, Some, IfOk};
-ghost use Rattle.grid_base.specs.Prelude.{CallableAtRefs, ReturnsAtCell, PairsUp, lines_of};
-ghost use Rattle.grid_near.specs.Marks.{IsBeyond, count_round, sum_round, MarksBeside, MarksCells, WithEnds, near, table, placed_cells, AnswersCounted, AnswersSummed, AreBeside, CallableOnCounts, AreCounted, CallableOnSums, AreSummed};
-ghost use Rattle.grid_near.specs.Around.{side};
+ghost use Rattle.grid_near.specs.Prelude.{CallableAtRefs, ReturnsAtCell, PairsUp, lines_of, IsBeyond, count_round, sum_round, MarksBeside, MarksCells, WithEnds, near, table, placed_cells, AnswersCounted, AnswersSummed, AreBeside, CallableOnCounts, AreCounted, CallableOnSums, AreSummed, side};
 
 use crate::board::{Board, Edges};
 use crate::steps::{Steps, around};

@@ -1,6 +1,6 @@
 //! Directions, and the positions beside a position.
 ghost use Rattle.std.specs.Prelude.{◌≡◌, ◌≤◌, MatchOption};
-ghost use Rattle.grid_near.specs.Directions.{box_of, IsBeside, IsWithin};
+ghost use Rattle.grid_near.specs.Prelude.{box_of, IsBeside, IsWithin};
 
 use crate::steps::is_there;
 

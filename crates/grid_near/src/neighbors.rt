@@ -3,8 +3,8 @@ ghost use Rattle.std.specs.Prelude.{◌≡◌, ◌*◌, ◌<◌, ◌≤◌, ⊤,
 ghost use Rattle.grid_base.specs.Prelude.{table_of};
 ghost use Rattle.std.specs.Iterator.{YieldsFirstBy, UpTo, at_most};
 ghost use Rattle.std.specs.Iterator.SizeHint.{IsWithinCount};
-ghost use Rattle.grid_near.specs.Neighbors.{step_count, placed, round_of, GivesNear};
 ghost use Rattle.grid_near.specs.Around.{HoldsCells, FindsFirst, IsFirst, strided_cell, start_of};
+ghost use Rattle.grid_near.specs.Neighbors.{step_count, placed, round_of, GivesNear};
 ghost use Rattle.grid_near.specs.declared.board.Edges.TheVariants.{Joined};
 
 use crate::board::Edges;

@@ -1,7 +1,6 @@
 //! The steps round a cell: where each of them leads, and which of them are within the size.
 ghost use Rattle.std.specs.Prelude.{◌≡◌, ◌<◌, ◌≤◌, ◌/◌, ◌%◌, IsTrue, ◌↔◌, length};
-ghost use Rattle.grid_near.specs.Neighbors.{step_count};
-ghost use Rattle.grid_near.specs.Around.{around, box, positions_from, strides_of, IsInner, IsThere};
+ghost use Rattle.grid_near.specs.Prelude.{step_count, around, box, positions_from, strides_of, IsInner, IsThere};
 
 use grid_base::Order;
 

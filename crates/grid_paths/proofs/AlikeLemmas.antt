@@ -1,10 +1,6 @@
 -- Which cells equal one: the size of that table, and its cells.
 use Rattle.std.proofs.Common.{◌≡◌, ℕ, ◌+◌, ◌^◌, ◌<◌, Bool, true, Option, None, Some, List, length, refl, sym, ◌∙◌, ap, arith, ⊎_elim, MatchOption, option_map}
-use Rattle.grid_base.proofs.Common.{cases_lt, slice_get_past, row, row_count, col_count, cell, IsTable, tabulate}
-use Rattle.grid_base.proofs.TableLemmas.{IsFull, IsFull-cells, rows-tabulate, cell-tabulate, cell_past_rows, cell_past_cols}
-use Rattle.grid_base.proofs.TableLemmas.{cell_in_range}
-use Rattle.grid_paths.specs.Walks.{IsOpen, alike}
-use Rattle.grid_near.proofs.AroundLemmas.{mapped_there}
+use Rattle.grid_paths.proofs.Common.{cases_lt, slice_get_past, row, row_count, col_count, cell, IsTable, tabulate, IsFull, IsFull-cells, rows-tabulate, cell-tabulate, cell_past_rows, cell_past_cols, cell_in_range, IsOpen, alike, mapped_there}
 
 module _ {X Y : Type 0} (f : X → Y) (t : List (List X)) (table : IsTable t) where
   answer : ℕ → ℕ → Option Y

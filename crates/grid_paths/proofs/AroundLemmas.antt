@@ -1,10 +1,7 @@
 -- The list of the eight positions round one.
 use Rattle.std.proofs.Common.{◌≡◌, ℕ, zero, suc, ◌+◌, ◌-◌, ◌%◌, ◌^◌, ◌<◌, ◌⊎◌, ◌↔◌, List, [], ◌∷◌, Contains, length, Some, ◌≤◌, refl, sym, ◌∙◌, ap, subst, arith, inl, inr, ⊎_elim, slice_get}
-use Rattle.grid_base.proofs.Common.{cases_lt, Contains-get_or, slice_get_within, slice_get_read, get_or_from_slice_get}
-use Rattle.grid_paths.specs.Search.{IsAt}
+use Rattle.grid_paths.proofs.Common.{cases_lt, Contains-get_or, slice_get_within, slice_get_read, get_or_from_slice_get, IsAt, DifferByOne, AreBeside, AreDiagonal, AreSteps}
 use Rattle.grid_near.specs.declared.steps.Steps.TheVariants.{Sides, All}
-use Rattle.grid_paths.specs.Walks.{DifferByOne, AreBeside, AreDiagonal}
-use Rattle.grid_paths.specs.Around.{AreSteps}
 
 pub same_pair : {X : Type 0} (a b : X × X) → a.0 ≡ b.0 → a.1 ≡ b.1 → a ≡ b
 same_pair a b p q = λ i. (p i, q i)

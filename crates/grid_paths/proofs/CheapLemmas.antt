@@ -1,19 +1,13 @@
 -- The search for the least costs: what holds after each step, and what that says at the end.
 use Rattle.std.proofs.Common.{◌≡◌, ℕ, zero, suc, ◌+◌, ◌-◌, ◌*◌, ◌^◌, ◌<◌, ◌≤◌, ◌⊎◌, Option, None, Some, List, [], ◌∷◌, length, set, get_or, refl, sym, ◌∙◌, ap, subst, arith, inl, inr, ⊎_elim, IsPermutation, sum_by, heap_items}
-use Rattle.grid_base.proofs.Common.{IsUpperBound, sum_by-set, IsPermutation-sym, slice_get_within, get_or_from_slice_get, row, row_count, col_count, cell, with_cell, tabulate, IsTable, InRange}
-use Rattle.grid_base.proofs.WriteLemmas.{cell-with_same, cell-with_other, same_or_other}
+use Rattle.grid_paths.proofs.Common.{IsUpperBound, sum_by-set, IsPermutation-sym, slice_get_within, get_or_from_slice_get, row, row_count, col_count, cell, with_cell, tabulate, IsTable, cell-with_same, cell-with_other, same_or_other, HaveOneSize, free, unreached, IsStep, Holds, CostWalk, IsLeastCost, HasLeastCosts, Entry, by_sum, IsWaiting, HoldsUpTo, IsClosed, Relaxes, Comes, IsCostSearch, GridValue, entry, Enters, IsReady, IsNext, IsOver, IsSearching}
+use Rattle.grid_base.proofs.Common.{InRange}
 use Rattle.grid_near.specs.declared.steps.Steps.{Steps}
-use Rattle.grid_paths.specs.Search.{HaveOneSize, free, unreached}
-use Rattle.grid_paths.specs.Walks.{IsStep}
 use Rattle.grid_paths.proofs.QueueLemmas.{unreached_cells}
 use Rattle.grid_paths.proofs.SearchLemmas.{one_mark}
 use Rattle.grid_paths.proofs.StepLemmas.{none_marked}
-use Rattle.grid_paths.specs.Cheapest.{Holds, CostWalk, IsLeastCost, HasLeastCosts}
-use Rattle.grid_paths.specs.Relaxing.{Entry, by_sum, IsWaiting, HoldsUpTo, IsClosed, Relaxes, Comes, IsCostSearch}
-use Rattle.grid_base.specs.GridValue.{GridValue}
 use Rattle.grid_paths.specs.declared.costs.Frontier.{Frontier}
 use Rattle.grid_paths.specs.declared.costs.Settled.{Settled}
-use Rattle.grid_paths.specs.Frontier.{entry, Enters, IsReady, IsNext, IsOver, IsSearching}
 use Rattle.grid_paths.proofs.RelaxLemmas.{left_inside}
 use Rattle.grid_paths.proofs.HeapLemmas as heaps
 

@@ -1,9 +1,6 @@
 -- Tables of what a closure returns.
 use Rattle.std.proofs.Common.{◌≡◌, ℕ, List, Option, None, Some, MatchOption, Result, Ok, Err, IfOk, subst, Bor}
-use Rattle.grid_base.proofs.Common.{GridValue, SameSizeAndOrder, cell}
-use Rattle.grid.specs.AllCells.{MappedBy}
-use Rattle.grid.proofs.CellCallLemmas.{some_and_map}
-use Rattle.grid_paths.specs.Closures.{answers_by, IsAnswer, AreAnswers, HoldsOfAnswers}
+use Rattle.grid_paths.proofs.Common.{GridValue, SameSizeAndOrder, cell, MappedBy, some_and_map, answers_by, IsAnswer, AreAnswers, HoldsOfAnswers}
 
 module _ {F T R : Type 0} (returns : F → Bor T → R → Type 0) (f : F) where
   -- the grid that a closure q makes, which returns what f may return

@@ -1,16 +1,12 @@
 -- The regions before a position, row by row: the next one, the end of a row, and what holds at the end.
 use Rattle.std.proofs.Common.{◌≡◌, ℕ, zero, suc, ◌+◌, ◌<◌, ◌≤◌, ◌⊎◌, Bool, true, Option, None, Some, List, refl, sym, ◌∙◌, ap, subst, arith, inl, inr, ⊎_elim, option_map, unwrap_or}
-use Rattle.grid_base.proofs.Common.{IsEquivalence, cases_lt, row_count, col_count, cell, tabulate, IsTable, InRange}
+use Rattle.grid_paths.proofs.Common.{IsEquivalence, cases_lt, row_count, col_count, cell, tabulate, IsTable, IsOpen, IsStep, Walk, alike, IsMarked, HaveOneSize, AreJoined, AreRegions, ComesBefore, AreNumbers, IsNumbered, AreEqual, AreParts, IsScanned, cell_in_range}
+use Rattle.grid_base.proofs.Common.{InRange}
 use Rattle.grid_near.specs.declared.steps.Steps.{Steps}
-use Rattle.grid_paths.specs.Walks.{IsOpen, IsStep, Walk, alike}
-use Rattle.grid_paths.specs.Search.{IsMarked, HaveOneSize}
-use Rattle.grid_paths.specs.Regions.{AreJoined, AreRegions, ComesBefore, AreNumbers}
-use Rattle.grid_paths.specs.Numbers.{IsNumbered, AreEqual, AreParts, IsScanned}
 use Rattle.grid_paths.proofs.SearchLemmas.{one_mark}
 use Rattle.grid_paths.proofs.AroundLemmas.{same_pair}
 use Rattle.grid_paths.proofs.PathLemmas.{step_back, walk_back, open_end}
 use Rattle.grid_paths.proofs.AlikeLemmas.{open_alike, alike_open, mapped-cell}
-use Rattle.grid_base.proofs.TableLemmas.{cell_in_range}
 
 -- open positions of one table that are open in another
 walk_map : (kind : Steps) (F G : List (List Bool)) → ((a : ℕ × ℕ) → IsOpen F a → IsOpen G a) → (n : ℕ) (a b : ℕ × ℕ) → Walk kind F a b n → Walk kind G a b n

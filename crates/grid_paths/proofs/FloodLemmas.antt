@@ -1,14 +1,9 @@
 -- A search that goes on from what it took, until it has gone round all: what it took is a flood.
 use Rattle.std.proofs.Common.{◌≡◌, ℕ, zero, suc, ◌+◌, ◌<◌, ◌≤◌, ◌⊎◌, Bool, true, false, cond, Option, None, Some, List, [], length, Contains, refl, sym, ◌∙◌, ap, subst, arith, inr, ⊎_elim, option_map, slice_get}
-use Rattle.grid_base.proofs.Common.{cases_lt, slice_get_within, slice_get-map, cell, row_count, col_count, IsTable}
-use Rattle.grid_base.proofs.TableLemmas.{tabulate-same, tabulate-cells, IsFull-cells}
+use Rattle.grid_paths.proofs.Common.{cases_lt, slice_get_within, slice_get-map, cell, row_count, col_count, IsTable, tabulate-same, tabulate-cells, IsFull-cells, IsStep, answers_by, IsEntered, IsGoneOn, EnterWalk, IsFlood, way_of, places, IsLeft, undone, AreMarked, IsWritten, TakesAll}
 use Rattle.grid_near.specs.declared.steps.Steps.{Steps}
 use Rattle.grid_paths.specs.declared.taken.Enter.{Enter}
 use Rattle.grid_paths.specs.declared.taken.Enter.TheVariants.{No, Stop, On}
-use Rattle.grid_paths.specs.Walks.{IsStep}
-use Rattle.grid_paths.specs.Closures.{answers_by}
-use Rattle.grid_paths.specs.Flood.{IsEntered, IsGoneOn, EnterWalk, IsFlood, way_of}
-use Rattle.grid_paths.specs.Taken.{places, IsLeft, undone, AreMarked, IsWritten, TakesAll}
 use Rattle.grid_paths.proofs.AlikeLemmas.{mapped-cell}
 use Rattle.grid_paths.proofs.AroundLemmas.{Contains-from_get, place_of}
 use Rattle.grid_paths.proofs.TakenLemmas.{cell-undone_other}

@@ -1,9 +1,8 @@
 -- What waits in the heap, after a push and after a pop.
 use Rattle.std.proofs.Common.{◌≡◌, ℕ, ◌<◌, ◌≤◌, ◌⊎◌, false, List, [], ◌∷◌, Contains, refl, ◌∙◌, ap, subst, arith, inl, inr, ⊎_elim, IsPermutation, Some, is_lt}
-use Rattle.grid_base.proofs.Common.{IsUpperBound, ordering_then, Contains-permutation, IsPermutation-sym, ge_from_not_lt}
+use Rattle.grid_paths.proofs.Common.{IsUpperBound, ordering_then, Contains-permutation, IsPermutation-sym, ge_from_not_lt, Entry, by_sum, IsWaiting}
 use Rattle.std.specs.declared.cmp.Ordering.{Ordering}
 use Rattle.std.specs.declared.cmp.Ordering.TheVariants.{Less, Equal, Greater}
-use Rattle.grid_paths.specs.Relaxing.{Entry, by_sum, IsWaiting}
 use Rattle.grid_paths.proofs.AroundLemmas.{Contains-cases}
 use Rattle.grid_paths.proofs.NearLemmas.{Contains-more}
 

@@ -1,15 +1,11 @@
 -- The open positions that aren't reached yet, as they are reached.
 use Rattle.std.proofs.Common.{◌≡◌, ℕ, ◌+◌, ◌^◌, ◌<◌, ◌⊎◌, Bool, true, false, Option, None, Some, List, Contains, refl, sym, ◌∙◌, subst, arith, inl, inr, ⊎_elim}
-use Rattle.grid_base.specs.Table.{row_count, col_count, cell, with_cell, IsTable, InRange}
-use Rattle.grid_base.proofs.WriteLemmas.{cell-with_same, cell-with_other, same_or_other}
+use Rattle.grid_paths.proofs.Common.{with_cell, IsTable, InRange, cell-with_same, cell-with_other, same_or_other, AreSteps, IsOpen, IsStep, Reaches, HaveOneSize, IsMarked, cell_in_range}
+use Rattle.grid_base.specs.Table.{row_count, col_count, cell}
 use Rattle.grid_near.specs.declared.steps.Steps.{Steps}
 use Rattle.grid_paths.specs.declared.search.Search.{Search}
-use Rattle.grid_paths.specs.Around.{AreSteps}
-use Rattle.grid_paths.specs.Walks.{IsOpen, IsStep}
-use Rattle.grid_paths.specs.Wave.{Reaches}
 use Rattle.grid_paths.proofs.StepLemmas.{Spreads-steps}
-use Rattle.grid_paths.specs.Search.{HaveOneSize, IsMarked, IsLeft}
-use Rattle.grid_base.proofs.TableLemmas.{cell_in_range}
+use Rattle.grid_paths.specs.Search.{IsLeft}
 
 module _ (floor : List (List Bool)) (steps : List (List (Option ℕ))) (left : List (List Bool)) (l : IsLeft floor steps left) (steps_table : IsTable steps) (left_table : IsTable left) (b : ℕ × ℕ) (k : ℕ) (is_left : IsOpen left b) where
   pub free_there : cell steps b.0 b.1 ≡ Some None

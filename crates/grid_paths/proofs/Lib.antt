@@ -16,3 +16,5 @@ pub mod CheapLemmas
 pub mod TrailLemmas
 pub mod TakenLemmas
 pub mod FloodLemmas
+pub mod Common
+pub mod Lemmas

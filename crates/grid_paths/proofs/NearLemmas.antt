@@ -1,9 +1,7 @@
 -- A step leads to a neighbor.
 use Rattle.std.proofs.Common.{◌≡◌, ℕ, zero, suc, ◌+◌, ◌<◌, ◌↔◌, Option, None, Some, List, [], ◌∷◌, length, Contains, refl, sym, ◌∙◌, ap, subst, arith, inl, inr, ⊎_elim, filter_map, option_map}
-use Rattle.grid_base.proofs.Common.{cons_option, cell}
-use Rattle.grid_near.specs.Neighbors.{around4, around8, before, cell_at, neighbors4, neighbors8}
+use Rattle.grid_paths.proofs.Common.{cons_option, cell, around4, around8, before, cell_at, neighbors4, neighbors8, DifferByOne, IsStep}
 use Rattle.grid_near.specs.declared.steps.Steps.TheVariants.{Sides, All}
-use Rattle.grid_paths.specs.Walks.{DifferByOne, IsStep}
 use Rattle.grid_paths.proofs.AroundLemmas.{Contains-cases, Axis, none_in, four_of, of_four, eight_of, of_eight, sides_of, of_sides, corners_of, of_corners}
 
 pub Contains-more : {X : Type 0} (o : Option X) (xs : List X) (x : X) → Contains xs x → Contains (cons_option o xs) x

@@ -1,10 +1,7 @@
 -- One region numbered.
 use Rattle.std.proofs.Common.{◌≡◌, ℕ, suc, ◌+◌, ◌<◌, ◌≤◌, ◌⊎◌, Bool, Option, List, [], length, sym, subst, arith, inl, inr, ⊎_elim}
-use Rattle.grid_base.proofs.Common.{cases_lt, slice_get_within}
+use Rattle.grid_paths.proofs.Common.{cases_lt, slice_get_within, IsOpen, IsStep, Walk, IsMarked, IsAt, Spread, WentRound, IsNumbered}
 use Rattle.grid_near.specs.declared.steps.Steps.{Steps}
-use Rattle.grid_paths.specs.Walks.{IsOpen, IsStep, Walk}
-use Rattle.grid_paths.specs.Search.{IsMarked, IsAt, Spread, WentRound}
-use Rattle.grid_paths.specs.Numbers.{IsNumbered}
 use Rattle.grid_paths.proofs.SearchLemmas.{one_place}
 use Rattle.grid_paths.proofs.StepLemmas.{Grew}
 

@@ -1,12 +1,8 @@
 -- Walks turned round, paths and walks, and a path that follows the numbers down.
 use Rattle.std.proofs.Common.{◌≡◌, ℕ, zero, suc, ◌+◌, ◌-◌, ◌<◌, ◌≤◌, Bool, Option, Some, List, [], ◌∷◌, ◌++◌, length, refl, sym, subst, arith, inl, inr, ⊎_elim, add-one, ◌^◌, take, Contains, MatchOption, None, slice_get, length-append, unwrap_or}
-use Rattle.grid_base.proofs.Common.{slice_get_within, row_count, col_count, IsTable}
-use Rattle.grid_base.proofs.TableLemmas.{cell_in_range}
-use Rattle.grid_paths.specs.Around.{AreSteps}
+use Rattle.grid_paths.proofs.Common.{slice_get_within, row_count, col_count, IsTable, cell_in_range, AreSteps, IsOpen, DifferByOne, AreBeside, IsStep, Walk, IsLeastSteps, IsPath, IsShortestPath, IsMarked, IsAt, HasLeastUpTo, IsSettled}
 use Rattle.grid_near.specs.declared.steps.Steps.{Steps}
 use Rattle.grid_near.specs.declared.steps.Steps.TheVariants.{Sides, All}
-use Rattle.grid_paths.specs.Walks.{IsOpen, DifferByOne, AreBeside, IsStep, Walk, IsLeastSteps, IsPath, IsShortestPath}
-use Rattle.grid_paths.specs.Search.{IsMarked, IsAt, HasLeastUpTo, IsSettled}
 use Rattle.grid_paths.proofs.SearchLemmas.{one_place}
 use Rattle.grid_paths.proofs.StepLemmas.{at_push, at_end, at_push_fresh}
 

@@ -1,12 +1,9 @@
 -- The queue of a breadth-first search, where the first positions were dropped; and that numbers
 -- stay below the cells.
 use Rattle.std.proofs.Common.{◌≡◌, ℕ, zero, suc, ◌+◌, ◌*◌, ◌<◌, ◌≤◌, ◌⊎◌, Bool, Option, None, Some, List, [], ◌∷◌, ◌++◌, length, get_or, Contains, refl, sym, ◌∙◌, ap, subst, arith, inl, inr, ⊎_elim, sum_by, length-append, append_assoc}
-use Rattle.grid_base.proofs.Common.{row_count, col_count, IsTable, concat_rows, sum_by-cons, slice_get_read, slice_get_within}
+use Rattle.grid_paths.proofs.Common.{row_count, col_count, IsTable, concat_rows, sum_by-cons, slice_get_read, slice_get_within, length-storage, IsOpen, IsStep, HasLeastFrom, IsMarked, IsAt, IsReached, Spread, WentRound, free, unreached}
 use Rattle.grid_base.specs.declared.order.Order.TheVariants.{RowMajor}
-use Rattle.grid_base.proofs.StorageLemmas.{length-storage}
 use Rattle.grid_near.specs.declared.steps.Steps.{Steps}
-use Rattle.grid_paths.specs.Walks.{IsOpen, IsStep, HasLeastFrom}
-use Rattle.grid_paths.specs.Search.{IsMarked, IsAt, IsReached, Spread, WentRound, free, unreached}
 use Rattle.grid_paths.proofs.SearchLemmas.{IsSearch, IsSearch-round, HasLeastFrom-end}
 
 -- places of one list after another

@@ -1,17 +1,10 @@
 -- The cells of a region filled: of those that were taken, or of a whole board.
 use Rattle.std.proofs.Common.{◌≡◌, ℕ, zero, suc, ◌+◌, ◌-◌, ◌<◌, ◌≤◌, Bool, true, false, cond, Option, None, Some, List, [], ◌∷◌, length, Contains, IsSomeAnd, refl, sym, ◌∙◌, ap, subst, arith, inl, inr, ⊎_elim, add-one, Bor}
-use Rattle.grid_base.proofs.Common.{cases_lt, row_count, col_count, cell, with_cell, IsTable, InRange}
-use Rattle.grid.specs.AllCells.{MappedBy}
-use Rattle.grid_base.proofs.TableLemmas.{cell_in_range, cell_past_rows, past_cols}
-use Rattle.grid_base.proofs.WriteLemmas.{cell-with_same, cell-with_other, same_or_other}
+use Rattle.grid_paths.proofs.Common.{cases_lt, row_count, col_count, cell, with_cell, IsTable, MappedBy, cell_in_range, cell_past_rows, past_cols, cell-with_same, cell-with_other, same_or_other, IsOpen, IsStep, AreBeside, Walk, IsFilled, alike, HaveOneSize, IsAt, answers_by, IsEntered, IsGoneOn, EnterWalk, IsFlood, way_of, IsWritten}
+use Rattle.grid_base.proofs.Common.{InRange}
 use Rattle.grid_near.specs.declared.steps.Steps.{Steps}
 use Rattle.grid_near.specs.declared.steps.Steps.TheVariants.{Sides, All}
 use Rattle.grid_paths.specs.declared.taken.Enter.TheVariants.{No, On}
-use Rattle.grid_paths.specs.Walks.{IsOpen, IsStep, AreBeside, Walk, IsFilled, alike}
-use Rattle.grid_paths.specs.Search.{HaveOneSize, IsAt}
-use Rattle.grid_paths.specs.Closures.{answers_by}
-use Rattle.grid_paths.specs.Flood.{IsEntered, IsGoneOn, EnterWalk, IsFlood, way_of}
-use Rattle.grid_paths.specs.Taken.{IsWritten}
 use Rattle.grid_paths.proofs.AlikeLemmas.{open_alike, alike_open}
 use Rattle.grid_paths.proofs.AroundLemmas.{Before, before_either, before_all, Contains-cases, Contains-first}
 use Rattle.grid_paths.proofs.PathLemmas.{open_end, walk_back}

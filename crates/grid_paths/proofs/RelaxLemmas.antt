@@ -1,18 +1,12 @@
 -- One position entered, and the positions round one.
 use Rattle.std.proofs.Common.{◌≡◌, ℕ, ◌+◌, ◌^◌, ◌<◌, ◌≤◌, ◌⊎◌, ◌↔◌, Option, None, Some, List, ◌∷◌, length, Contains, refl, sym, ◌∙◌, subst, arith, inl, inr, ⊎_elim, IsPermutation, heap_items}
-use Rattle.grid_base.proofs.Common.{cases_lt, row_count, col_count, cell, with_cell, IsTable, InRange}
-use Rattle.grid_base.proofs.WriteLemmas.{cell-with_same, cell-with_other, same_or_other}
+use Rattle.grid_paths.proofs.Common.{cases_lt, row_count, col_count, cell, with_cell, IsTable, cell-with_same, cell-with_other, same_or_other, AreSteps, IsAt, IsStep, Holds, Entry, IsWaiting, HoldsUpTo, IsClosed, Relaxes, IsFrontier, Enters, cell_in_range}
+use Rattle.grid_base.proofs.Common.{InRange}
 use Rattle.grid_near.specs.declared.steps.Steps.{Steps}
-use Rattle.grid_paths.specs.Around.{AreSteps}
-use Rattle.grid_paths.specs.Search.{IsAt}
-use Rattle.grid_paths.specs.Walks.{IsStep}
 use Rattle.grid_paths.proofs.AroundLemmas.{Before, before_either, before_all}
 use Rattle.grid_paths.proofs.SearchLemmas.{one_mark}
-use Rattle.grid_paths.specs.Cheapest.{Holds}
-use Rattle.grid_paths.specs.Relaxing.{Entry, IsWaiting, HoldsUpTo, IsClosed, IsEntered, Relaxes}
+use Rattle.grid_paths.specs.Relaxing.{IsEntered}
 use Rattle.grid_paths.specs.declared.costs.Frontier.{Frontier}
-use Rattle.grid_paths.specs.Frontier.{IsFrontier, Enters}
-use Rattle.grid_base.proofs.TableLemmas.{cell_in_range}
 use Rattle.grid_paths.proofs.HeapLemmas as heaps
 
 pub left_inside : (t : List (List (Option ℕ))) → IsTable t → (a : ℕ × ℕ) (k : ℕ) → Holds t a k → InRange t a.0 a.1

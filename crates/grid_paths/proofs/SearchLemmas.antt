@@ -1,9 +1,7 @@
 -- The breadth-first search: what holds after each step, and what that says at the end.
 use Rattle.std.proofs.Common.{◌≡◌, ℕ, zero, suc, ◌+◌, ◌<◌, ◌≤◌, Bool, Option, Some, List, [], ◌∷◌, length, Contains, refl, sym, ◌∙◌, subst, arith, ⊎_elim}
-use Rattle.grid_base.proofs.Common.{cases_lt, slice_get_within}
+use Rattle.grid_paths.proofs.Common.{cases_lt, slice_get_within, IsOpen, IsStep, Walk, WalkFrom, IsLeastSteps, HasLeastSteps, IsLeastFrom, HasLeastFrom, IsMarked, IsAt, Spread, WentRound, HasLeastUpTo, IsSettled}
 use Rattle.grid_near.specs.declared.steps.Steps.{Steps}
-use Rattle.grid_paths.specs.Walks.{IsOpen, IsStep, Walk, WalkFrom, IsLeastSteps, HasLeastSteps, IsLeastFrom, HasLeastFrom}
-use Rattle.grid_paths.specs.Search.{IsMarked, IsAt, Spread, WentRound, HasLeastUpTo, IsSettled}
 
 -- the search has found these steps, and gone on from the positions of the queue before `next`
 pub record IsSearch (kind : Steps) (floor : List (List Bool)) (starts : List (ℕ × ℕ))

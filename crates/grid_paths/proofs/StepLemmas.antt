@@ -1,14 +1,9 @@
 -- One position marked, those of a list, those round a position, and the start.
 use Rattle.std.proofs.Common.{◌≡◌, ◌≢◌, ℕ, zero, suc, ◌+◌, ◌^◌, ◌<◌, ◌≤◌, ◌⊎◌, Bool, Option, None, Some, List, [], ◌∷◌, ◌++◌, length, Contains, set, get_or, refl, sym, ◌∙◌, ap, subst, arith, rules, inl, inr, ⊎_elim, ◌↔◌, sum_by, slice_get, length-append}
-use Rattle.grid_base.proofs.Common.{cases_eq, cases_lt, sum_by-set, slice_get_within, slice_get_read, get_or_from_slice_get, row, cell, with_cell, tabulate, IsTable, InRange}
-use Rattle.grid_base.proofs.TableLemmas.{IsFull, cell-tabulate, rows-tabulate, cell_past_rows, cell_past_cols, cell_in_range}
-use Rattle.grid_base.proofs.WriteLemmas.{cell-with_same, cell-with_other}
+use Rattle.grid_paths.proofs.Common.{cases_eq, cases_lt, sum_by-set, slice_get_within, slice_get_read, get_or_from_slice_get, row, cell, with_cell, tabulate, IsTable, IsFull, cell-tabulate, rows-tabulate, cell_past_rows, cell_past_cols, cell_in_range, cell-with_same, cell-with_other, IsOpen, IsStep, WalkFrom, IsMarked, IsAt, IsReached, Spread, WentRound, free, unreached, AreSteps, Marks, Spreads}
+use Rattle.grid_base.proofs.Common.{InRange}
 use Rattle.grid_near.specs.declared.steps.Steps.{Steps}
-use Rattle.grid_paths.specs.Walks.{IsOpen, IsStep, WalkFrom}
-use Rattle.grid_paths.specs.Search.{IsMarked, IsAt, IsReached, Spread, WentRound, free, unreached}
-use Rattle.grid_paths.specs.Around.{AreSteps}
 use Rattle.grid_paths.specs.declared.wave.Wave.{Wave}
-use Rattle.grid_paths.specs.Wave.{Marks, Spreads}
 use Rattle.grid_paths.proofs.AroundLemmas.{same_pair, Before, before_either, before_all, Contains-from_get}
 use Rattle.grid_paths.proofs.SearchLemmas.{IsSearch, one_mark, one_place, IsSearch-spread}
 

@@ -1,17 +1,11 @@
 -- Cells taken: one, those at the positions of a list, those that steps lead to; and put back.
 use Rattle.std.proofs.Common.{◌≡◌, ◌≢◌, ℕ, zero, suc, ◌+◌, ◌<◌, ◌≤◌, ◌⊎◌, ◌↔◌, Option, None, Some, List, [], ◌∷◌, ◌++◌, length, set, get_or, Contains, MatchOption, refl, sym, ◌∙◌, ap, subst, arith, inl, inr, ⊎_elim, slice_get, sum_by, length-append, get_or-set_same}
-use Rattle.grid_base.proofs.Common.{cases_lt, set_past, set-get_or, sum_by-set, slice_get_within, slice_get-get_or, get_or_from_slice_get, row, row_count, col_count, cell, with_cell, IsTable, InRange}
-use Rattle.grid_base.specs.GridValue.{GridValue}
-use Rattle.grid_base.proofs.TableLemmas.{cell_in_range}
-use Rattle.grid_base.proofs.WriteLemmas.{cell-with_same, cell-with_other, same_or_other}
+use Rattle.grid_paths.proofs.Common.{cases_lt, set_past, set-get_or, sum_by-set, slice_get_within, slice_get-get_or, get_or_from_slice_get, row, row_count, col_count, cell, with_cell, IsTable, GridValue, cell_in_range, cell-with_same, cell-with_other, same_or_other, IsStep, IsAt, undone, flag, IsLeft, count_left, AreMarked, TakesAll, CanUndo, AreSteps}
+use Rattle.grid_base.proofs.Common.{InRange}
 use Rattle.grid_near.specs.declared.steps.Steps.{Steps}
 use Rattle.grid_paths.specs.declared.taken.Enter.{Enter}
 use Rattle.grid_paths.specs.declared.taken.Enter.TheVariants.{No, Stop, On}
-use Rattle.grid_paths.specs.Walks.{IsStep}
-use Rattle.grid_paths.specs.Search.{IsAt}
 use Rattle.grid_paths.specs.declared.taken.Taking.{Taking}
-use Rattle.grid_paths.specs.Taken.{undone, flag, IsLeft, count_left, AreMarked, TakesAll, CanUndo}
-use Rattle.grid_paths.specs.Around.{AreSteps}
 use Rattle.grid_paths.proofs.StepLemmas.{at_push, at_end, at_push_fresh}
 use Rattle.grid_paths.proofs.AroundLemmas.{Before, before_either, before_all}
 

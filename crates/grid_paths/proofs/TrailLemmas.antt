@@ -1,15 +1,12 @@
 -- The trail of the settled positions, and the path that follows it back.
 use Rattle.std.proofs.Common.{◌≡◌, ℕ, zero, suc, ◌+◌, ◌-◌, ◌<◌, ◌≤◌, ◌⊎◌, Option, None, Some, List, [], ◌∷◌, ◌++◌, length, reverse, refl, sym, ◌∙◌, ap, subst, arith, inl, inr, ⊎_elim, slice_get, sum_by, unwrap_or}
-use Rattle.grid_base.proofs.Common.{cases_eq, reverse-append, sum_by-cons, slice_get_within}
+use Rattle.grid_paths.proofs.Common.{cases_eq, reverse-append, sum_by-cons, slice_get_within, DifferByOne, AreBeside, IsStep, Holds, CostWalk, IsCostPath, cost_at, Entry, IsClosed, Comes, IsCostSearch, IsTrail, IsTrailOf}
 use Rattle.grid_near.specs.declared.steps.Steps.{Steps}
 use Rattle.grid_near.specs.declared.steps.Steps.TheVariants.{Sides, All}
-use Rattle.grid_paths.specs.Walks.{DifferByOne, AreBeside, IsStep}
 use Rattle.grid_paths.proofs.SearchLemmas.{one_mark}
 use Rattle.grid_paths.proofs.StepLemmas.{at_push, at_end, at_push_fresh}
 use Rattle.grid_paths.specs.declared.costs.Settled.{Settled}
-use Rattle.grid_paths.specs.Cheapest.{Holds, CostWalk, IsCostPath, cost_at}
-use Rattle.grid_paths.specs.Relaxing.{Entry, IsClosed, Comes, IsCostSearch}
-use Rattle.grid_paths.specs.Trail.{ComesBefore, IsTrail, IsTrailOf}
+use Rattle.grid_paths.specs.Trail.{ComesBefore}
 
 one_item : (trail : List Settled) (j : ℕ) (x y : Settled) → slice_get trail j ≡ Some x → slice_get trail j ≡ Some y → x ≡ y
 one_item trail j x y e f = let q : ◌≡◌ {A = Option Settled} (Some x) (Some y) = sym e ∙ f in ap (λ o. unwrap_or o x) q

@@ -11,3 +11,4 @@ pub mod Relaxing
 pub mod Frontier
 pub mod Trail
 pub mod Wave
+pub mod Prelude

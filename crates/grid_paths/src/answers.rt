@@ -1,8 +1,6 @@
 //! Grids of the size and the order of another: of what a closure returns at its cells, and of nothing yet.
 ghost use Rattle.std.specs.Prelude.{◌≡◌, IfOk, None, Some};
-ghost use Rattle.grid_base.specs.Table.{row_count, col_count, tabulate};
-ghost use Rattle.grid_paths.specs.Closures.{answers_by, IsAnswer, AreAnswers};
-ghost use Rattle.grid_paths.specs.Search.{HaveOneSize};
+ghost use Rattle.grid_paths.specs.Prelude.{row_count, col_count, tabulate, answers_by, IsAnswer, AreAnswers, HaveOneSize};
 
 use grid::Grid;
 use std::alloc::{AllocError, Allocator};

@@ -1,7 +1,7 @@
 //! The positions round one.
 ghost use Rattle.std.specs.Prelude.{◌≡◌, ◌<◌, ◌+◌, ◌^◌, length, take};
+ghost use Rattle.grid_paths.specs.Prelude.{AreSteps};
 ghost use Rattle.grid_near.specs.declared.steps.Steps.TheVariants.{Sides, All};
-ghost use Rattle.grid_paths.specs.Around.{AreSteps};
 
 // The positions that share a side with this one, and then those that share a corner. Below the first row or column the
 // index wraps to one that no grid has.

@@ -1,9 +1,6 @@
 //! A cheapest path between two cells.
 ghost use Rattle.std.specs.Prelude.{◌≡◌, ◌+◌, ◌-◌, ◌↔◌, ℕ, IfOk, IsTrue, MatchOption, Some, length, slice_get};
-ghost use Rattle.grid_paths.specs.Closures.{HoldsOfAnswers};
-ghost use Rattle.grid_paths.specs.Walks.{IsStep};
-ghost use Rattle.grid_paths.specs.Cheapest.{CostWalk, IsCheapestPath, IsCostPath};
-ghost use Rattle.grid_paths.specs.Trail.{IsTrail};
+ghost use Rattle.grid_paths.specs.Prelude.{HoldsOfAnswers, IsStep, CostWalk, IsCheapestPath, IsCostPath, IsTrail};
 
 use super::answers::answers_of;
 use super::costs::{Settled, begun};

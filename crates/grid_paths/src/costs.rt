@@ -1,11 +1,6 @@
 //! The least sum of costs to each cell, by Dijkstra's search.
 ghost use Rattle.std.specs.Prelude.{◌≡◌, ◌<◌, ◌≤◌, ◌+◌, ◌^◌, ◌↔◌, ℕ, Contains, IfOk, IsTrue, MatchOption, OnOk, Some};
-ghost use Rattle.grid_base.specs.Table.{InRange};
-ghost use Rattle.grid_paths.specs.Closures.{HoldsOfAnswers};
-ghost use Rattle.grid_paths.specs.Walks.{IsStep};
-ghost use Rattle.grid_paths.specs.Search.{HaveOneSize};
-ghost use Rattle.grid_paths.specs.Cheapest.{Holds, HasLeastCosts};
-ghost use Rattle.grid_paths.specs.Frontier.{IsFrontier, Enters, IsReady, IsNext, IsOver, IsSearching};
+ghost use Rattle.grid_paths.specs.Prelude.{InRange, HoldsOfAnswers, IsStep, HaveOneSize, Holds, HasLeastCosts, IsFrontier, Enters, IsReady, IsNext, IsOver, IsSearching};
 
 use super::answers::{answers_of, no_numbers};
 use super::around::around;

@@ -1,8 +1,8 @@
 //! Laws of steps, as calls.
 ghost use Rattle.std.specs.Prelude.{◌≡◌, ◌↔◌, ℕ, Some, Contains};
 ghost use Rattle.grid.specs.Prelude.{cell, neighbors4, neighbors8, GivesNear};
+ghost use Rattle.grid_paths.specs.Prelude.{IsStep};
 ghost use Rattle.grid_near.specs.declared.steps.Steps.TheVariants.{Sides, All};
-ghost use Rattle.grid_paths.specs.Walks.{IsStep};
 
 use grid::Grid;
 use grid_near::Neighbors;

@@ -1,13 +1,7 @@
 //! The regions of equal cells, numbered.
 ghost use Rattle.std.specs.Prelude.{◌≡◌, ◌<◌, ◌≤◌, ◌+◌, ◌↔◌, ℕ, IfOk, OnOk, IsTrue, None, Some, Contains, option_map, unwrap_or};
-ghost use Rattle.std.specs.Cmp.{IsEquivalence};
 ghost use Rattle.grid.specs.Prelude.{SameSizeAndOrder};
-ghost use Rattle.grid_base.specs.Table.{row_count, col_count, cell, tabulate, InRange};
-ghost use Rattle.grid_paths.specs.Walks.{IsStep, IsOpen};
-ghost use Rattle.grid_paths.specs.Search.{HaveOneSize, IsMarked, unreached};
-ghost use Rattle.grid_paths.specs.Regions.{AreRegions, AreNumbers};
-ghost use Rattle.grid_paths.specs.Numbers.{IsNumbered, IsScanned};
-ghost use Rattle.grid_paths.specs.Wave.{IsCounting, Numbers, floor_of};
+ghost use Rattle.grid_paths.specs.Prelude.{IsEquivalence, row_count, col_count, cell, tabulate, InRange, IsStep, IsOpen, HaveOneSize, IsMarked, unreached, AreRegions, AreNumbers, IsNumbered, IsScanned, IsCounting, Numbers, floor_of};
 
 use super::around::around;
 use super::wave::{Wave, new_wave};

@@ -1,10 +1,7 @@
 //! A shortest path between two cells.
 ghost use Rattle.std.specs.Prelude.{◌≡◌, Bool, List, ◌+◌, ◌↔◌, ℕ, IfOk, IsTrue, MatchOption, Contains, length};
-ghost use Rattle.grid_base.specs.Table.{InRange};
+ghost use Rattle.grid_paths.specs.Prelude.{InRange, IsStep, IsPath, Walk, IsShortestPath, HoldsOfAnswers, IsMarked, HasLeastUpTo};
 ghost use Rattle.grid_near.specs.declared.steps.Steps.{Steps};
-ghost use Rattle.grid_paths.specs.Walks.{IsStep, IsPath, Walk, IsShortestPath};
-ghost use Rattle.grid_paths.specs.Closures.{HoldsOfAnswers};
-ghost use Rattle.grid_paths.specs.Search.{IsMarked, HasLeastUpTo};
 
 use super::answers::answers_of;
 use super::around::around;

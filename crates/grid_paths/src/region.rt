@@ -1,10 +1,7 @@
 //! A region of equal cells, filled.
 ghost use Rattle.std.specs.Prelude.{◌≡◌, ◌<◌, ◌≤◌, ◌+◌, ℕ, [], ◌∷◌, false, IfOk, OnOk, OnErr, None, Some, MatchOption, Contains};
 ghost use Rattle.grid.specs.Prelude.{col_count, cell, InRange, SameSizeAndOrder};
-ghost use Rattle.grid_paths.specs.Walks.{IsOpen, IsFilled, alike};
-ghost use Rattle.grid_paths.specs.Closures.{answers_by};
-ghost use Rattle.grid_paths.specs.Flood.{IsFlood, way_of};
-ghost use Rattle.grid_paths.specs.Taken.{places, undone, IsWritten};
+ghost use Rattle.grid_paths.specs.Prelude.{IsOpen, IsFilled, alike, answers_by, IsFlood, way_of, places, undone, IsWritten};
 
 use super::taken::{Cells, Taking};
 use grid::Grid;

@@ -1,10 +1,6 @@
 //! The least number of steps to each cell, by a breadth-first search.
 ghost use Rattle.std.specs.Prelude.{◌≡◌, ◌<◌, ◌≤◌, ◌+◌, ◌^◌, List, ℕ, [], ◌∷◌, ◌++◌, length, IfOk, IsTrue, OnOk, Some, None, Contains};
-ghost use Rattle.grid_base.specs.Table.{InRange};
-ghost use Rattle.grid_paths.specs.Walks.{IsStep, HasLeastSteps, HasLeastFrom};
-ghost use Rattle.grid_paths.specs.Closures.{HoldsOfAnswers};
-ghost use Rattle.grid_paths.specs.Search.{HaveOneSize, IsMarked, IsSettled};
-ghost use Rattle.grid_paths.specs.Wave.{Reaches};
+ghost use Rattle.grid_paths.specs.Prelude.{InRange, IsStep, HasLeastSteps, HasLeastFrom, HoldsOfAnswers, HaveOneSize, IsMarked, IsSettled, Reaches};
 
 use super::answers::answers_of;
 use super::around::around;

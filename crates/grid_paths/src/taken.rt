@@ -1,10 +1,7 @@
 //! A search that marks the cells which it takes, and floods.
 ghost use Rattle.std.specs.Prelude.{◌≡◌, [], IfOk, OnOk, Contains};
 ghost use Rattle.grid.specs.Prelude.{InRange, SameSizeAndOrder};
-ghost use Rattle.grid_paths.specs.Walks.{IsStep};
-ghost use Rattle.grid_paths.specs.Closures.{answers_by, HoldsOfAnswers};
-ghost use Rattle.grid_paths.specs.Flood.{IsFlood, way_of};
-ghost use Rattle.grid_paths.specs.Taken.{places, undone, CanUndo, IsPassed, IsWritten, Takes};
+ghost use Rattle.grid_paths.specs.Prelude.{IsStep, answers_by, HoldsOfAnswers, IsFlood, way_of, places, undone, CanUndo, IsPassed, IsWritten, Takes};
 
 use super::answers::answers_of;
 use super::around::around;

@@ -1,7 +1,6 @@
 //! Numbers at positions, and the queue of the positions that got one.
 ghost use Rattle.std.specs.Prelude.{◌≡◌, IfOk, None, OnOk, Some};
-ghost use Rattle.grid_base.specs.Table.{cell};
-ghost use Rattle.grid_paths.specs.Wave.{IsBlank, Marks};
+ghost use Rattle.grid_paths.specs.Prelude.{cell, IsBlank, Marks};
 
 use super::answers::no_numbers;
 use grid::Grid;

@@ -1,8 +1,7 @@
 //! The commands of a script: a name, and the words after it.
 ghost use Rattle.std.specs.Prelude.{◌≡◌, ◌++◌, Some, IfOk, option_map};
 ghost use Rattle.grid.specs.Prelude.{items_of_each, command_value};
-ghost use Rattle.text_lines.specs.Lines.{words_of};
-ghost use Rattle.grid_play.specs.Commands.{alone, bare_forms, cell_forms, count_forms, index_forms, form_among, command_among, command_of, with_no_word, one_cell, one_index, two_indices, position_and_cell, two_positions, index_and_line, index_and_lines, lines_of_length};
+ghost use Rattle.grid_play.specs.Prelude.{words_of, alone, bare_forms, cell_forms, count_forms, index_forms, form_among, command_among, command_of, with_no_word, one_cell, one_index, two_indices, position_and_cell, two_positions, index_and_line, index_and_lines, lines_of_length};
 
 use crate::script::parse_cells;
 use grid::{Command, Symmetry, can_cut};

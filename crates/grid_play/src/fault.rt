@@ -1,6 +1,6 @@
 //! What can be wrong with a script.
 ghost use Rattle.std.specs.Prelude.{◌≡◌, Some};
-ghost use Rattle.grid_play.specs.ScriptFault.{fault_status, fault_text};
+ghost use Rattle.grid_play.specs.Prelude.{fault_status, fault_text};
 ghost use Rattle.grid_play.specs.declared.fault.ScriptFault.TheVariants.{Memory};
 
 use std::alloc::{AllocError, AllocFailed};

@@ -1,7 +1,6 @@
 //! A law of scripts as a public call: it makes the calls that its name says, and ensures what they return.
 ghost use Rattle.std.specs.Prelude.{◌≡◌, string_bytes, IfOk};
-ghost use Rattle.grid_play.specs.Script.{IsOrMemory};
-ghost use Rattle.grid_play.specs.Output.{script_output};
+ghost use Rattle.grid_play.specs.Prelude.{IsOrMemory, script_output};
 
 use crate::{ScriptFault, play};
 use std::alloc::Allocator;

@@ -1,11 +1,7 @@
 //! Scripts: a grid on the first line, then at most one command on a line.
 ghost use Rattle.std.specs.Prelude.{◌≡◌, ◌+◌, IfOk, map, option_map, option_to_list};
-ghost use Rattle.grid_commands.specs.Command.{command_value};
+ghost use Rattle.grid_play.specs.Prelude.{command_value, words_of, lines_of, IsOrMemory, or_fault, order_of, layout, grid_of, grid_of_words, line_commands, commands_from, script_of, script_value, cells_of};
 ghost use Rattle.grid_play.specs.declared.fault.ScriptFault.TheVariants.{BadGrid};
-ghost use Rattle.text_lines.specs.Lines.{words_of, lines_of};
-ghost use Rattle.grid_play.specs.Script.{IsOrMemory, or_fault, order_of, layout, grid_of, grid_of_words, line_commands, commands_from, script_of};
-ghost use Rattle.grid_play.specs.ScriptValue.{script_value};
-ghost use Rattle.grid_play.specs.Commands.{cells_of};
 
 use crate::command::parse_command;
 use crate::fault::ScriptFault;

@@ -4,3 +4,4 @@ pub mod Samples
 pub mod Reading
 pub mod Writing
 pub mod Enlarging
+pub mod Prelude

@@ -1,7 +1,7 @@
 //! Small boards made large, to be seen.
 ghost use Rattle.std.specs.Prelude.{◌≡◌, ◌*◌, IfOk};
 ghost use Rattle.grid.specs.Prelude.{row_count, col_count, FailsBySize};
-ghost use Rattle.grid_pnm.specs.Enlarging.{enlarged};
+ghost use Rattle.grid_pnm.specs.Prelude.{enlarged};
 
 use grid::{Grid, GridError, Order};
 use std::alloc::Allocator;

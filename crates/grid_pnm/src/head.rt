@@ -1,6 +1,6 @@
 //! The header of a picture.
 ghost use Rattle.std.specs.Prelude.{◌≡◌, ◌+◌, ◌-◌, ◌≤◌, ◌<◌, length, IfOk, IfSome};
-ghost use Rattle.grid_pnm.specs.Header.{magic_of, header_by, header_of};
+ghost use Rattle.grid_pnm.specs.Prelude.{magic_of, header_by, header_of};
 
 use crate::PnmError;
 use crate::scan::{is_white, next_number};

@@ -1,6 +1,6 @@
 //! The laws of pictures as public calls.
 ghost use Rattle.std.specs.Prelude.{◌≡◌, ℕ, List, All, IfOk, MatchResult, length};
-ghost use Rattle.grid_pnm.specs.Writing.{WritesBy, table_map};
+ghost use Rattle.grid_pnm.specs.Prelude.{WritesBy, table_map};
 ghost use Rattle.grid_pnm.specs.declared.error.PnmError.TheVariants.{Memory};
 
 use crate::{PnmError, from_pgm, from_ppm, to_pgm, to_ppm};

@@ -1,8 +1,6 @@
 //! Grids read from pictures.
 ghost use Rattle.std.specs.Prelude.{◌≡◌, ◌⊎◌, ◌/◌, ◌≤◌, ℕ, List, Ok, Err, length, IfOk, MatchResult};
-ghost use Rattle.std.specs.Simd.{first_chunks};
-ghost use Rattle.grid_pnm.specs.Samples.{sample_count, samples_of};
-ghost use Rattle.grid_pnm.specs.Reading.{pgm_of, ppm_of, IsOrMemory};
+ghost use Rattle.grid_pnm.specs.Prelude.{first_chunks, sample_count, samples_of, pgm_of, ppm_of, IsOrMemory};
 ghost use Rattle.grid_pnm.specs.declared.error.PnmError.TheVariants.{Memory};
 
 use crate::samples::{plain_samples, raster, raw_samples};

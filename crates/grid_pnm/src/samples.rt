@@ -1,6 +1,6 @@
 //! The samples of a picture.
 ghost use Rattle.std.specs.Prelude.{◌≡◌, ◌⊎◌, ◌+◌, ◌^◌, ◌<◌, ◌≤◌, Ok, Err, length, drop, nat_lt, position, IfSome, MatchOption, MatchResult};
-ghost use Rattle.grid_pnm.specs.Samples.{next_sample, plain_samples, raw_samples, sample_count};
+ghost use Rattle.grid_pnm.specs.Prelude.{next_sample, plain_samples, raw_samples, sample_count};
 ghost use Rattle.grid_pnm.specs.declared.error.PnmError.TheVariants.{Short, Memory};
 
 use crate::scan::{behind_gap, next_number};

@@ -1,6 +1,6 @@
 //! Numbers between white space and comments.
 ghost use Rattle.std.specs.Prelude.{◌≡◌, ◌≤◌, false, None, Some, Ok, Err, length, IfSome, IfOk, MatchOption, MatchResult};
-ghost use Rattle.grid_pnm.specs.Scan.{is_white, behind_gap, digit_count, number_at, next_number};
+ghost use Rattle.grid_pnm.specs.Prelude.{is_white, behind_gap, digit_count, number_at, next_number};
 
 use crate::PnmError;
 use text_lines::index;

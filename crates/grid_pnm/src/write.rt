@@ -1,8 +1,6 @@
 //! Grids written as pictures.
 ghost use Rattle.std.specs.Prelude.{◌≡◌, ◌++◌, ℕ, List, IfOk, OnOk};
-ghost use Rattle.std.specs.List.{AllZip};
-ghost use Rattle.grid_base.specs.Table.{concat_rows};
-ghost use Rattle.grid_pnm.specs.Writing.{WritesBy, AnswersCell, AnswersColor, MayDrawGrays, MayDrawColors, raw_picture, pgm_bytes, ppm_bytes};
+ghost use Rattle.grid_pnm.specs.Prelude.{AllZip, concat_rows, WritesBy, AnswersCell, AnswersColor, MayDrawGrays, MayDrawColors, raw_picture, pgm_bytes, ppm_bytes};
 
 use grid::{Grid, GridLineIter, Order};
 use std::alloc::{AllocError, Allocator};

@@ -1,9 +1,7 @@
 -- A text of lines is read as the rows that the lines write.
 use Rattle.std.proofs.Common.{◌≡◌, ◌≢◌, ℕ, suc, ◌+◌, ◌-◌, ◌<◌, ◌==◌, false, Option, Some, Ok, List, [], ◌∷◌, ◌++◌, length, map, drop, get_or, All, bytes_eq, refl, sym, ap, ◌∙◌, arith, append_assoc, length-drop, flat_map, ne_eqb, get_or-drop}
-use Rattle.grid_base.proofs.Common.{slice_split, eqb-false, false_from_ne_true, get_or_default, length-map, slice_split_at, bytes_eq-Decides, row, IsTable}
+use Rattle.grid_text.proofs.Common.{slice_split, eqb-false, false_from_ne_true, get_or_default, length-map, slice_split_at, bytes_eq-Decides, row, IsTable, without_return, without_empty_end, lines_of, cell_before, read_line, read_lines, row_before, rows_of, prepend, as_table, table_read}
 use Rattle.grid_text.specs.declared.error.TextError.{TextError}
-use Rattle.text_lines.specs.Lines.{without_return, without_empty_end, lines_of}
-use Rattle.grid_text.specs.Reading.{cell_before, read_line, read_lines, row_before, rows_of, prepend, as_table, table_read}
 use Rattle.grid_text.proofs.ReadLemmas.{good_row}
 
 -- a line keeps its end where no byte is a carriage return

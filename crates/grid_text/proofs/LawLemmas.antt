@@ -1,10 +1,6 @@
 -- A text that was written of a table is read as the table.
 use Rattle.std.proofs.Common.{◌≡◌, ◌≢◌, ℕ, suc, ◌<◌, ◌≤◌, ◌==◌, true, false, Option, Ok, List, [], ◌∷◌, map, get_or, All, chars, encode_utf8_all, refl, arith, ⊎_elim, ne_eqb}
-use Rattle.grid_base.proofs.Common.{scalars, NonePass, NoCharPasses, cases_lt, get_or_default, NoCharPasses-byte, chars-encodes, IsTable}
-use Rattle.text_lines.specs.Lines.{lines_of}
-use Rattle.grid_text.specs.Reading.{bad_char, reading}
-use Rattle.grid_text.specs.Writing.{line_text, table_text}
-use Rattle.grid_text.specs.Law.{ReadsBack}
+use Rattle.grid_text.proofs.Common.{scalars, NonePass, NoCharPasses, cases_lt, get_or_default, NoCharPasses-byte, chars-encodes, IsTable, lines_of, bad_char, reading, line_text, table_text, ReadsBack}
 use Rattle.grid_text.proofs.BackLemmas.{IsWritten, table_back}
 
 -- a text has no byte of an ASCII character that it doesn't have

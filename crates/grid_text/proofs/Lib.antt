@@ -5,3 +5,5 @@ pub mod LawLemmas
 pub mod WriteLemmas
 pub mod NumberTextLemmas
 pub mod TableLemmas
+pub mod Common
+pub mod Lemmas

@@ -1,8 +1,7 @@
 -- The cells of one line, part by part.
 use Rattle.std.proofs.Common.{◌≡◌, ℕ, ◌+◌, ◌≤◌, true, Option, Some, None, Result, Ok, Err, List, [], ◌∷◌, ◌++◌, length, encode_utf8, IsUtf8, inl, inr, refl, subst, sym, ap, ◌∙◌, arith, append_assoc, append-nil, length-append}
-use Rattle.grid_base.proofs.Common.{scalars, IsScalar, and_parts, cons_from_encodes, length-encode, len_utf8_bounds}
+use Rattle.grid_text.proofs.Common.{scalars, IsScalar, and_parts, cons_from_encodes, length-encode, len_utf8_bounds, prepend, IsRow, MayReadLine}
 use Rattle.grid_text.specs.declared.error.TextError.{TextError}
-use Rattle.grid_text.specs.Reading.{prepend, IsRow, MayReadLine}
 
 pub prepend-nil : {X E : Type 0} (r : Result (List X) E) → prepend [] r ≡ r
 prepend-nil (Ok ys) = refl

@@ -1,11 +1,6 @@
 -- The words of a line of numbers are their decimals.
 use Rattle.std.proofs.Common.{◌≡◌, ℕ, ℤ, pos, negsuc, suc, ◌+◌, ◌%◌, ◌<◌, ◌≤◌, ◌^◌, ◌==◌, zero, true, false, Option, Ok, List, [], ◌∷◌, ◌++◌, length, map, get_or, All, refl, ap, ◌∙◌, arith, append-nil, flat_map, filter, decimal, ne_eqb}
-use Rattle.grid_base.proofs.Common.{mag, slice_split, signed_decimal, decimal_by_steps_wide, All-append, All-push, slice_split_at, slice_split_none, IsTable}
-use Rattle.grid.specs.Texts.{numbers}
-use Rattle.text_lines.specs.Lines.{separates, is_word, words_of, lines_of}
-use Rattle.grid_text.specs.Law.{ReadsNumber}
-use Rattle.grid_text.specs.Reading.{bad_word, reading_words}
-use Rattle.grid_text.specs.Writing.{line_of_numbers, numbers_text}
+use Rattle.grid_text.proofs.Common.{mag, slice_split, signed_decimal, decimal_by_steps_wide, All-append, All-push, slice_split_at, slice_split_none, IsTable, numbers, separates, is_word, words_of, lines_of, ReadsNumber, bad_word, reading_words, line_of_numbers, numbers_text}
 use Rattle.grid_text.proofs.BackLemmas.{IsLine, IsWritten, table_back}
 
 -- what stands for a number: a minus or digits, and at least one

@@ -1,11 +1,8 @@
 -- The rows of the lines of a text, line by line.
 use Rattle.std.proofs.Common.{◌≡◌, ◌≢◌, ◌⊎◌, inl, inr, ℕ, ◌+◌, ◌<◌, ◌≤◌, ◌==◌, true, false, Option, Result, Ok, Err, List, [], ◌∷◌, ◌++◌, length, All, refl, subst, sym, ap, ◌∙◌, arith, ⊎_elim, append-nil, length-append, length-drop, eq-eqb, ne_eqb}
-use Rattle.grid_base.proofs.Common.{cases_eq, position_or_len, nil_from_length, All-push, flat_map-append, concat_rows}
+use Rattle.grid_text.proofs.Common.{cases_eq, position_or_len, nil_from_length, All-push, flat_map-append, concat_rows, first_line, later_lines, lines_of, prepend, row_before, IsRow, IsBadRow, MayReadLine, MayReadRow, MayReadLines, MayReadRows, lines-first, lines-none}
 use Rattle.grid_text.specs.declared.error.TextError.{TextError}
 use Rattle.grid_text.specs.declared.error.TextError.TheVariants.{Ragged, Memory}
-use Rattle.text_lines.specs.Lines.{first_line, later_lines, lines_of}
-use Rattle.grid_text.specs.Reading.{prepend, row_before, IsRow, IsBadRow, MayReadLine, MayReadRow, MayReadLines, MayReadRows}
-use Rattle.text_lines.proofs.LineLemmas.{lines-first, lines-none}
 use Rattle.grid_text.proofs.LineLemmas.{prepend-nil, prepend-prepend}
 
 -- what follows the first line is shorter

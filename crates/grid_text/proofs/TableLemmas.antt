@@ -1,15 +1,10 @@
 -- The table that is cut from the rows of a text.
 use Rattle.std.proofs.Common.{◌≡◌, ◌≢◌, inl, inr, ℕ, ◌+◌, ◌<◌, Result, Ok, Err, Option, Some, None, List, [], ◌∷◌, length, All, IfOk, IfErr, refl, sym, ap, ◌∙◌, arith}
-use Rattle.grid_base.proofs.Common.{row, row_count, col_count, concat_rows, storage, CanCut, GridValue}
+use Rattle.grid_text.proofs.Common.{row, row_count, col_count, concat_rows, storage, CanCut, GridValue, length-concat_rows, prepend, cell_before, read_line, row_before, read_lines, rows_of, table_read, as_table, IsOrMemory, MayReadLine, MayReadRow, MayReadLines, MayReadRows, MayReadOrMemory, MayReadAs, equal_rows, CanCut-cells, equal_rows_are}
 use Rattle.grid_base.specs.declared.order.Order.TheVariants.{RowMajor}
-use Rattle.grid_base.proofs.StorageLemmas.{length-concat_rows}
 use Rattle.grid_text.specs.declared.error.TextError.{TextError}
 use Rattle.grid_text.specs.declared.error.TextError.TheVariants.{Memory}
-use Rattle.grid_text.specs.Reading.{prepend, cell_before, read_line, row_before, read_lines, rows_of, table_read, as_table, IsOrMemory, MayReadLine, MayReadRow, MayReadLines, MayReadRows, MayReadOrMemory, MayReadAs}
-use Rattle.grid.specs.Conversion.{equal_rows}
 use Rattle.grid_text.proofs.ReadLemmas.{good_row, ragged_row}
-use Rattle.grid.proofs.MadeLemmas.{CanCut-cells}
-use Rattle.grid.proofs.ConversionLemmas.{equal_rows_are}
 
 module _ {T : Type 0} (rows : List (List T)) (cells : List T) (cols : ℕ) (stored : cells ≡ concat_rows rows) (even : All (λ row. length row ≡ cols) rows) where
   widths : (r : ℕ) → r < row_count rows → length (row rows r) ≡ cols

@@ -1,7 +1,6 @@
 -- The text of rows, line by line.
 use Rattle.std.proofs.Common.{◌≡◌, ℕ, List, [], ◌∷◌, ◌++◌, encode_utf8, refl, subst, sym, ap, ◌∙◌, arith, append_assoc, flat_map}
-use Rattle.grid_text.specs.Writing.{MayWriteLine, MayWriteRows, line_text, table_text}
-use Rattle.std.proofs.lemmas.Str.{encode_ascii}
+use Rattle.grid_text.proofs.Common.{MayWriteLine, MayWriteRows, line_text, table_text, encode_ascii}
 
 -- a row more, and its line feed
 pub row_more : {X : Type 0} (line : X → List ℕ) (before mid added out : List ℕ) (left later : List X) (r : X) → before ++ flat_map (λ row. line row ++ 10 ∷ []) left ≡ out → left ≡ r ∷ later → mid ≡ before ++ line r → added ≡ mid ++ encode_utf8 10 → added ++ flat_map (λ row. line row ++ 10 ∷ []) later ≡ out

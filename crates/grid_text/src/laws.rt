@@ -1,8 +1,6 @@
 //! The laws of texts as public calls.
 ghost use Rattle.std.specs.Prelude.{◌≡◌, ℕ, Option, List, All, IfOk, IfErr};
-ghost use Rattle.grid_text.specs.Reading.{ReadsBy, ReadsWordsBy};
-ghost use Rattle.grid_text.specs.Writing.{WritesBy};
-ghost use Rattle.grid_text.specs.Law.{ReadsBack, ReadsNumber};
+ghost use Rattle.grid_text.specs.Prelude.{ReadsBy, ReadsWordsBy, WritesBy, ReadsBack, ReadsNumber};
 ghost use Rattle.grid_text.specs.declared.error.TextError.TheVariants.{Memory};
 
 use crate::{TextError, from_text, from_words, to_text, to_words};

@@ -1,7 +1,7 @@
 //! Grids read from text.
 ghost use Rattle.std.specs.Prelude.{ℕ, Option, List, MatchResult, chars};
-ghost use Rattle.grid_text.specs.Reading.{ReadsBy, ReadsWordsBy, AnswersWord, TriesWordsBy, AnswersChar, TriesWord, Cutting, by_chars, by_words, MayReadAs, IsOrMemory, IsRow, IsBadRow, bad_char, bad_word, reading, reading_words};
 ghost use Rattle.text_lines.specs.Lines.{lines_of, words_of};
+ghost use Rattle.grid_text.specs.Reading.{ReadsBy, ReadsWordsBy, AnswersWord, TriesWordsBy, AnswersChar, TriesWord, Cutting, by_chars, by_words, MayReadAs, IsOrMemory, IsRow, IsBadRow, bad_char, bad_word, reading, reading_words};
 
 use super::error::TextError;
 use grid::Grid;

@@ -1,7 +1,6 @@
 //! Grids written as text.
 ghost use Rattle.std.specs.Prelude.{◌≡◌, ◌++◌, ℕ, map, IfOk, OnOk, string_bytes};
-ghost use Rattle.grid.specs.Texts.{numbers};
-ghost use Rattle.grid_text.specs.Writing.{WritesBy, AnswersCell, MayWriteLine, MayWriteRows, table_text, line_of_numbers, numbers_text};
+ghost use Rattle.grid_text.specs.Prelude.{numbers, WritesBy, AnswersCell, MayWriteLine, MayWriteRows, table_text, line_of_numbers, numbers_text};
 
 use grid::{Grid, GridLineIter, Whole};
 use std::alloc::{AllocError, Allocator, Global};

@@ -1,12 +1,9 @@
 -- The lines of a view.
-use Rattle.std.proofs.Common.{◌≡◌, ℕ, suc, ◌+◌, ◌-◌, ◌*◌, ◌/◌, ◌<◌, ◌≤◌, Bool, true, false, Option, None, Some, Bor, List, [], ◌∷◌, length, take, drop, min, reverse, slice_get, refl, sym, ◌∙◌, ap, arith, length-drop, option_copied, drop-drop}
-use Rattle.grid_base.proofs.Common.{div_ceil, YieldsFirst, YieldsFirstRef, YieldsLastRef, Yields, SkipsThenYields, length-reverse, reverse-append, drop_all, div-mul-add, mul-le, row, row_count}
+use Rattle.std.proofs.Common.{◌≡◌, ℕ, suc, ◌+◌, ◌-◌, ◌*◌, ◌/◌, ◌<◌, ◌≤◌, Bool, true, false, Option, None, Some, Bor, List, [], ◌∷◌, length, take, drop, reverse, slice_get, refl, sym, ◌∙◌, ap, arith, length-drop, option_copied}
+use Rattle.grid_base.proofs.Common.{div_ceil, YieldsFirstRef, YieldsLastRef, Yields, SkipsThenYields, length-reverse, reverse-append, drop_all, div-mul-add, mul-le, row, row_count}
 use Rattle.grid_base.proofs.PartLemmas.{get-reverse}
 use Rattle.grid_base.proofs.TableLemmas.{same_cells}
 use Rattle.grid_base.proofs.StrideLemmas.{get-strided, length-line_of, ceil_is, every_one, nth_found}
-use Rattle.grid_base.specs.Remaining.{IsRemaining, remaining}
-use Rattle.grid_base.proofs.RemainingLemmas.{remaining_past, past_most, length-left}
-use Rattle.grid_base.proofs.StorageLemmas.{get-drop}
 use Rattle.grid_view.specs.declared.axis.ViewAxis.{ViewAxis}
 use Rattle.grid_view.specs.View.{counted, offset, HoldsView}
 use Rattle.grid_view.specs.Value.{ViewValue, view_value, counted_within}

@@ -4,3 +4,4 @@ pub mod Lines
 pub mod Cells
 pub mod Same
 pub mod Texts
+pub mod Prelude

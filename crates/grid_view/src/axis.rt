@@ -1,6 +1,6 @@
 //! One direction of a view: how many lines there are, how far apart they are, and whether they come from the last.
 ghost use Rattle.std.specs.Prelude.{◌≡◌, ◌+◌, ◌<◌, ◌≤◌};
-ghost use Rattle.grid_view.specs.View.{counted, turned, cut, first_of, crossed};
+ghost use Rattle.grid_view.specs.Prelude.{counted, turned, cut, first_of, crossed};
 
 // The lines of a view in one direction.
 #[derive(Clone, Copy)]

@@ -1,6 +1,6 @@
 //! Clones of the cells of a view.
 ghost use Rattle.std.specs.Prelude.{◌≡◌, ◌+◌, ◌*◌, ◌<◌, ◌≤◌, ◌++◌, length, IfOk, IfSome, OnOk, vec_len, vec_capacity};
-ghost use Rattle.grid_base.specs.Prelude.{ClonesAreEqual, row, row_count, col_count, concat_rows, storage};
+ghost use Rattle.grid_view.specs.Prelude.{ClonesAreEqual, row, row_count, col_count, concat_rows, storage};
 
 use crate::lines::ViewLineIter;
 use crate::view::GridView;

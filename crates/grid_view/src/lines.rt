@@ -1,6 +1,7 @@
 //! Iterators over a row or a column of a view, and over its rows and columns.
-ghost use Rattle.std.specs.Prelude.{◌≡◌, ◌+◌, ◌-◌, ◌*◌, ◌<◌, ⊤, [], length, drop, slice_get, IfSome, Some, option_copied};
+ghost use Rattle.std.specs.Prelude.{◌≡◌, ◌+◌, ◌-◌, ◌*◌, ◌<◌, ⊤, [], length, drop, slice_get, IfSome, Some, option_copied, List};
 ghost use Rattle.grid_base.specs.Prelude.{row, row_count, col_count, transposed, GivesLine, GivesLines};
+ghost use Rattle.grid_base.specs.Remaining.{remaining, IsRemaining};
 ghost use Rattle.std.specs.Iterator.{YieldsFirstRef, YieldsLastRef, YieldsFirst, YieldsLast, item_count, UpTo, at_most};
 ghost use Rattle.std.specs.Iterator.SizeHint.{IsWithinCount};
 ghost use Rattle.grid_view.specs.Lines.{directed, line_cells};
@@ -197,9 +198,6 @@ pub struct ViewRowIter<'a, T> {
 }
 
 impl<'a, T> Model for ViewRowIter<'a, T> {
-    ghost use Rattle.std.specs.Prelude.{List, length};
-    ghost use Rattle.grid_base.specs.Remaining.{remaining, IsRemaining};
-
     ghost Value = { List (List T) };
 
     ghost view = { λ a. remaining a.ahead.start a.ahead.end a.view.rows };

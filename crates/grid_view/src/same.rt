@@ -1,7 +1,6 @@
 //! Equality of views.
 ghost use Rattle.std.specs.Prelude.{◌≡◌, ◌+◌, ◌<◌, ◌≤◌, ◌↔◌, IsTrue};
-ghost use Rattle.grid_base.specs.Table.{row_count, col_count};
-ghost use Rattle.grid_view.specs.Same.{AreSame, same_view, same_view_per, same_view_equiv};
+ghost use Rattle.grid_view.specs.Prelude.{row_count, col_count, AreSame, same_view, same_view_per, same_view_equiv};
 
 use crate::view::GridView;
 

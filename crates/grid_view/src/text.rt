@@ -1,8 +1,6 @@
 //! The debug text of a view.
 ghost use Rattle.std.specs.Prelude.{◌≡◌, ◌<◌, [], nat_lt, if◌then◌else◌};
-ghost use Rattle.std.specs.Fmt.{DisplaysOnOk, comma_space, debug_list};
-ghost use Rattle.grid_base.specs.Table.{row, row_count};
-ghost use Rattle.grid_view.specs.Texts.{table_text};
+ghost use Rattle.grid_view.specs.Prelude.{DisplaysOnOk, comma_space, debug_list, row, row_count, table_text};
 
 use crate::view::GridView;
 use std::fmt;

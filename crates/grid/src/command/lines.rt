@@ -2,11 +2,8 @@
 //!
 //! A refusal is decided before anything is allocated.
 ghost use Rattle.std.specs.Prelude.{◌≡◌, ◌<◌, IfOk};
-ghost use Rattle.grid_base.specs.Prelude.{row, row_count, items_of_each, ClonesAreEqual};
-ghost use Rattle.grid_commands.specs.Command.{read, insert_at, insert_all};
-ghost use Rattle.grid_commands.specs.LineEdit.{edit_value, pad_edit};
+ghost use Rattle.grid.specs.Prelude.{row, row_count, items_of_each, ClonesAreEqual, read, insert_at, insert_all, edit_value, pad_edit, Edited, EditCounted};
 ghost use Rattle.grid_commands.specs.declared.command.Axis.TheVariants.{Row, Col};
-ghost use Rattle.grid.specs.Edited.{Edited, EditCounted};
 
 use crate::Grid;
 use grid_base::Tally;

@@ -1,7 +1,6 @@
 //! Runs of commands.
 ghost use Rattle.std.specs.Prelude.{◌≤◌, map};
-ghost use Rattle.grid_commands.specs.Command.{command_value};
-ghost use Rattle.grid.specs.Run.{RunGives};
+ghost use Rattle.grid.specs.Prelude.{command_value, RunGives};
 
 use crate::Grid;
 use grid_base::Tally;

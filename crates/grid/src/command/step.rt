@@ -1,13 +1,7 @@
 //! The step of a grid: one command.
 ghost use Rattle.std.specs.Prelude.{◌≡◌, ◌+◌, ◌≤◌, OnOk, OnErr, IfOk, IsTrue, nat_lt};
-ghost use Rattle.grid_base.specs.Prelude.{row_count, col_count, act, order_after, half, ClonesAreEqual};
+ghost use Rattle.grid.specs.Prelude.{row_count, col_count, act, order_after, half, ClonesAreEqual, command_value, get, set_cell, swap_cells, fill, apply, reply_value, in_range, step_rows, step_reply, Stepped, StepCounted, command_symmetry};
 ghost use Rattle.grid_base.specs.declared.words.Symmetry.{Symmetry};
-ghost use Rattle.grid_commands.specs.Command.{command_value, get, set_cell, swap_cells, fill, apply};
-ghost use Rattle.grid_commands.specs.Reply.{reply_value};
-ghost use Rattle.grid_commands.specs.Refusal.{in_range};
-ghost use Rattle.grid.specs.Step.{step_rows, step_reply};
-ghost use Rattle.grid.specs.Stepped.{Stepped, StepCounted};
-ghost use Rattle.grid.specs.Cost.{command_symmetry};
 
 use super::lines::{edit_cols, edit_rows};
 use crate::Grid;

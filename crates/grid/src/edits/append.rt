@@ -1,8 +1,6 @@
 //! Grids that are appended to one another.
-ghost use Rattle.std.specs.Prelude.{◌≡◌, ◌+◌, ◌<◌, ◌++◌, OnOk};
-ghost use Rattle.grid_base.specs.Table.{row_count, col_count, transposed};
-ghost use Rattle.grid.specs.Edits.{FitsRow, FitsCol, insert_cols};
-ghost use Rattle.grid.specs.GridFails.{GridFails};
+ghost use Rattle.std.specs.Prelude.{◌≡◌, ◌+◌, ◌<◌, ◌++◌, OnOk, Some};
+ghost use Rattle.grid.specs.Prelude.{row_count, col_count, transposed, FitsRow, FitsCol, insert_cols, GridFails, fault_text};
 
 use crate::{Grid, GridError};
 use std::alloc::{Allocator, Global};
@@ -21,9 +19,6 @@ pub struct GridRefused<T, A: Allocator = Global> {
 
 /// Writes the fault, and nothing of the grid.
 impl<T, A: Allocator> fmt::Display for GridRefused<T, A> {
-    ghost use Rattle.std.specs.Prelude.{Some};
-    ghost use Rattle.grid_commands.specs.Errors.{fault_text};
-
     ghost output = { λ refused. Some (fault_text refused.fault) };
 
     fn fmt<W: fmt::Write>(&self, f: &mut fmt::Formatter<W>) -> fmt::Result {

@@ -1,8 +1,6 @@
 //! Rows and columns that are deleted, one or several: the lines are dropped, and a command counts the moves.
 ghost use Rattle.std.specs.Prelude.{◌≡◌, ◌↔◌, ◌+◌, ◌-◌, ◌<◌, ◌≤◌, remove, IsTrue, if◌then◌else◌};
-ghost use Rattle.grid_base.specs.Prelude.{row_count, col_count, saturating_count};
-ghost use Rattle.grid.specs.Edits.{without_rows, without_cols};
-ghost use Rattle.grid.specs.Shift.{rows_taken_shift, delete_rows_shift};
+ghost use Rattle.grid.specs.Prelude.{row_count, col_count, saturating_count, without_rows, without_cols, rows_taken_shift, delete_rows_shift};
 
 use super::{cols_if_rows, row_groups};
 use crate::Grid;

@@ -1,9 +1,6 @@
 //! Rows and columns that are pushed and inserted, one or several.
 ghost use Rattle.std.specs.Prelude.{◌≡◌, ◌↔◌, ◌+◌, ◌*◌, ◌<◌, ◌≤◌, [], length, insert, All, OnOk, OnErr, IsErrOf};
-ghost use Rattle.grid_base.specs.Prelude.{row_count, col_count, IsTable, items_of_each, table_of};
-ghost use Rattle.grid.specs.Edits.{FitsRow, FitsCol, insert_col, insert_rows, insert_cols};
-ghost use Rattle.grid.specs.EditFails.{LineFails, LinesFail};
-ghost use Rattle.grid.specs.Make.{ExceedsMax};
+ghost use Rattle.grid.specs.Prelude.{row_count, col_count, IsTable, items_of_each, table_of, FitsRow, FitsCol, insert_col, insert_rows, insert_cols, LineFails, LinesFail, ExceedsMax};
 
 use super::{has_room, row_groups};
 use crate::{Grid, GridError, LineRefused, LinesRefused};

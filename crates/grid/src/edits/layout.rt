@@ -1,6 +1,6 @@
 //! The order of a grid, which changes while the rows stay.
 ghost use Rattle.std.specs.Prelude.{◌≡◌, ◌*◌, ◌^◌, ◌<◌, length};
-ghost use Rattle.grid_base.specs.Order.{flipped, table_of};
+ghost use Rattle.grid.specs.Prelude.{flipped, table_of};
 
 use crate::Grid;
 use grid_base::{Flat, Order};

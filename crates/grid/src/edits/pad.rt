@@ -1,9 +1,6 @@
 //! Padding: rows and columns of defaults at the end or at the beginning, by counted passes.
 ghost use Rattle.std.specs.Prelude.{◌≡◌, ◌≤◌, OnOk, OnErr};
-ghost use Rattle.grid_base.specs.Prelude.{row_count, col_count, saturating_count};
-ghost use Rattle.grid.specs.Edits.{PadsRows, PadsCols};
-ghost use Rattle.grid.specs.EditFails.{PaddingFails};
-ghost use Rattle.grid.specs.Shift.{rows_added_shift};
+ghost use Rattle.grid.specs.Prelude.{row_count, col_count, saturating_count, PadsRows, PadsCols, PaddingFails, rows_added_shift};
 
 use super::{has_room, row_groups};
 use crate::{Grid, GridError};

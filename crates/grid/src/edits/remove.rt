@@ -1,7 +1,6 @@
 //! Rows and columns that are popped and removed: the call returns the line, and no tally counts its moves.
 ghost use Rattle.std.specs.Prelude.{[], ◌≡◌, ◌+◌, ◌-◌, ◌<◌, ◌≤◌, take, drop, remove, slice_get, Some, OnOk, OnErr, IfOk, MatchOption};
-ghost use Rattle.grid_base.specs.Prelude.{row_count, col_count, transposed, storage};
-ghost use Rattle.grid.specs.Edits.{without_rows, without_cols};
+ghost use Rattle.grid.specs.Prelude.{row_count, col_count, transposed, storage, without_rows, without_cols};
 
 use super::{cols_if_rows, row_groups};
 use crate::Grid;

@@ -1,8 +1,6 @@
 //! Grids that are brought to another size.
 ghost use Rattle.std.specs.Prelude.{◌≡◌, ◌<◌, ◌≤◌, IsOk, OnOk, OnErr};
-ghost use Rattle.grid_base.specs.Table.{row_count, col_count};
-ghost use Rattle.grid.specs.Make.{FailsBySize};
-ghost use Rattle.grid.specs.Resize.{IsCorner, IsResized, ResizesTo};
+ghost use Rattle.grid.specs.Prelude.{row_count, col_count, FailsBySize, IsCorner, IsResized, ResizesTo};
 
 use super::has_room;
 use crate::exchange::exchange_part;

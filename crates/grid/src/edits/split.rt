@@ -1,7 +1,6 @@
 //! Rows and columns that are split off, as a grid of their own.
 ghost use Rattle.std.specs.Prelude.{◌≡◌, ◌-◌, ◌<◌, ◌≤◌, take, drop, OnOk, OnErr, IfOk};
-ghost use Rattle.grid_base.specs.Table.{row_count, col_count};
-ghost use Rattle.grid.specs.Edits.{without_cols};
+ghost use Rattle.grid.specs.Prelude.{row_count, col_count, without_cols};
 
 use crate::Grid;
 use std::alloc::{AllocError, Allocator};

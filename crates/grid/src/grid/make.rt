@@ -1,7 +1,6 @@
 //! Constructors of a grid by its size.
 ghost use Rattle.std.specs.Prelude.{◌≡◌, [], Ok, IfOk, IfErr};
-ghost use Rattle.grid_base.specs.Clones.{ClonesAreEqual};
-ghost use Rattle.grid.specs.Make.{IsMade, FailsBySize, EachCellIs, HoldsDefaults, CallableOver, MadeBy, FailsAt};
+ghost use Rattle.grid.specs.Prelude.{ClonesAreEqual, IsMade, FailsBySize, EachCellIs, HoldsDefaults, CallableOver, MadeBy, FailsAt};
 
 use crate::{Grid, GridError};
 use grid_base::{Flat, Layout, Order};

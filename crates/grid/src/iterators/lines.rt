@@ -1,8 +1,7 @@
 //! Iterators over one row or column, and over the rows and the columns. The columns of a grid are the rows of the table
 //! that the same vector stores in the other order.
 ghost use Rattle.std.specs.Prelude.{◌≡◌, ◌<◌};
-ghost use Rattle.grid_base.specs.Prelude.{row, row_count, col_count, transposed, GivesLine, GivesLines, line_mut_rest};
-ghost use Rattle.std.specs.Borrow.{sem};
+ghost use Rattle.grid.specs.Prelude.{row, row_count, col_count, transposed, GivesLine, GivesLines, line_mut_rest, sem};
 
 use crate::Grid;
 use grid_base::{GridLineIter, GridLineIterMut, GridRowIter, Layout};

@@ -1,7 +1,6 @@
 //! Passes of counted swaps over lines of cells, which are contiguous in the vector.
 ghost use Rattle.std.specs.Prelude.{◌≡◌, ◌*◌, ◌/◌, ◌^◌, ◌<◌, length};
-ghost use Rattle.grid_base.specs.Tally.{saturating_count};
-ghost use Rattle.grid.specs.Passes.{LinesReversed, EachLineReversed};
+ghost use Rattle.grid.specs.Prelude.{saturating_count, LinesReversed, EachLineReversed};
 
 use grid_base::{Flat, Tally};
 use std::alloc::Allocator;

@@ -1,7 +1,7 @@
 use Rattle.std.proofs.Common.{◌≡◌, sym, refl, subst, length, arith}
-use Rattle.std.proofs.lemmas.List.Elements.{length_all_zip, same_from_all_zip}
-use Rattle.grid.specs.Conversion.{AreClones}
-use Rattle.grid.proofs.ConversionLemmas.{refused, CanCut-same, cut_memory, cut_shape}
+use Rattle.grid.proofs.Common.{length_all_zip, same_from_all_zip, AreClones}
+use Rattle.grid.proofs.Lemmas.{CanCut-same, cut_memory, cut_shape}
+use Rattle.grid.proofs.ConversionLemmas.{refused}
 use Rattle.grid.proofs.convert.cut_clones.Goals as goal
 
 pub returns-in_err-copies : goal.returns-in_err-copies

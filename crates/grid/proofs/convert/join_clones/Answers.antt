@@ -1,6 +1,6 @@
 use Rattle.std.proofs.Common.{sym, subst, map, take, arith, take_all}
-use Rattle.grid_base.proofs.Common.{AllZip, length_all_zip, same_from_all_zip, concat_rows}
-use Rattle.grid.proofs.ConversionLemmas.{concat_rows_more, AllZip-concat_rows, CanCut-rows, rows_shape, rows_equal}
+use Rattle.grid.proofs.Common.{AllZip, length_all_zip, same_from_all_zip, concat_rows}
+use Rattle.grid.proofs.Lemmas.{concat_rows_more, AllZip-concat_rows, CanCut-rows, rows_shape, rows_equal}
 use Rattle.grid.proofs.convert.join_clones.Goals as goal
 
 pub loop-row-preserved : goal.loop-row-preserved

@@ -1,5 +1,5 @@
 use Rattle.std.proofs.Common.{map, take}
-use Rattle.grid_base.proofs.Common.{AllZip, concat_rows}
+use Rattle.grid.proofs.Common.{AllZip, concat_rows}
 use Rattle.grid.proofs.convert.join_clones.Given as goal
 
 abbrev pub invariant-loop-row : goal.invariant-loop-row

@@ -1,5 +1,5 @@
 use Rattle.std.proofs.Common.{◌≡◌, ◌∙◌, ap, sym, map, arith, map-id}
-use Rattle.grid_base.proofs.Common.{YieldsList-from_vec, YieldsList-end, concat_rows}
+use Rattle.grid.proofs.Common.{YieldsList-from_vec, YieldsList-end, concat_rows}
 use Rattle.grid.proofs.convert.join_rows.Goals as goal
 
 pub returns : goal.returns

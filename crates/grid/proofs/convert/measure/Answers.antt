@@ -1,7 +1,6 @@
 use Rattle.std.proofs.Common.{ℕ, ◌≡◌, ◌*◌, ◌^◌, ◌<◌, ◌≤◌, ◌∙◌, ap, sym, length, map, arith, below_more, ⊎_elim}
-use Rattle.grid_base.proofs.Common.{cases_lt, length-map, row_count, col_count, concat_rows}
-use Rattle.grid.specs.Conversion.{AreEven}
-use Rattle.grid.proofs.ConversionLemmas.{row-map, length-even}
+use Rattle.grid.proofs.Common.{cases_lt, length-map, row_count, col_count, concat_rows, AreEven}
+use Rattle.grid.proofs.Lemmas.{row-map, length-even}
 use Rattle.grid.proofs.convert.measure.Goals as goal
 
 not_less : (m n : ℕ) → (m < n → ⊥) → n ≤ m

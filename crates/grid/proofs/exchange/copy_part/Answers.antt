@@ -1,11 +1,7 @@
 use Rattle.std.proofs.Common.{◌∙◌, ◌≡◌, ap, refl, sym, subst, arith}
-use Rattle.grid_base.proofs.Common.{flipped, row_count, col_count, act}
+use Rattle.grid.proofs.Common.{flipped, row_count, col_count, act, rows-act, cols-act, flipped-flipped, InRows, PartTaken, held}
+use Rattle.grid.proofs.Lemmas.{across-across, part_across}
 use Rattle.grid_base.specs.declared.words.Symmetry.TheVariants.{Transpose}
-use Rattle.grid_base.proofs.ActLemmas.{rows-act, cols-act}
-use Rattle.grid_base.proofs.ViewLemmas.{flipped-flipped}
-use Rattle.grid.specs.Exchanged.{InRows, PartTaken, held}
-use Rattle.grid.proofs.ColEditLemmas.{across-across}
-use Rattle.grid.proofs.ExchangeLemmas.{part_across}
 use Rattle.grid.proofs.exchange.copy_part.Goals as goal
 
 pub copy_rows-requires-in-ColumnMajor-clause-to_rows : goal.copy_rows-requires-in-ColumnMajor-clause-to_rows

@@ -1,5 +1,5 @@
 use Rattle.std.proofs.Common.{arith, ap, length}
-use Rattle.grid.proofs.ExchangeLemmas.{stretch_row, stretch_cols, stretch_within, stretch_below, row_copied}
+use Rattle.grid.proofs.Lemmas.{stretch_row, stretch_cols, stretch_within, stretch_below, row_copied}
 use Rattle.grid.proofs.exchange.copy_row.Goals as goal
 
 pub overflow_mul-start : goal.overflow_mul-start

@@ -1,5 +1,5 @@
+use Rattle.grid.proofs.Common.{InRows, PartTaken, held}
 use Rattle.grid_base.specs.Table.{col_count}
-use Rattle.grid.specs.Exchanged.{InRows, PartTaken, held}
 use Rattle.grid.proofs.exchange.copy_rows.Given as goal
 
 abbrev pub invariant-loop-row : goal.invariant-loop-row

@@ -1,7 +1,7 @@
 use Rattle.std.proofs.Common.{◌∙◌, ap}
+use Rattle.grid.proofs.Common.{flipped-flipped}
+use Rattle.grid.proofs.Lemmas.{part_across}
 use Rattle.grid_base.specs.Order.{flipped}
-use Rattle.grid_base.proofs.ViewLemmas.{flipped-flipped}
-use Rattle.grid.proofs.ExchangeLemmas.{part_across}
 use Rattle.grid.proofs.exchange.exchange_part.Goals as goal
 
 pub returns-in-ColumnMajor : goal.returns-in-ColumnMajor

@@ -1,5 +1,5 @@
 use Rattle.std.proofs.Common.{arith}
-use Rattle.grid.proofs.ExchangeLemmas.{stretch_row, stretch_cols, stretch_within, stretch_below, row_exchanged}
+use Rattle.grid.proofs.Lemmas.{stretch_row, stretch_cols, stretch_within, stretch_below, row_exchanged}
 use Rattle.grid.proofs.exchange.exchange_row.Goals as goal
 
 pub overflow_add-start : goal.overflow_add-start

@@ -1,4 +1,4 @@
-use Rattle.grid.specs.Exchanged.{InRows, PartTaken}
+use Rattle.grid.proofs.Common.{InRows, PartTaken}
 use Rattle.grid.proofs.exchange.exchange_rows.Given as goal
 
 abbrev pub invariant-loop-row : goal.invariant-loop-row

@@ -1,5 +1,5 @@
 use Rattle.std.proofs.Common.{◌≡◌, ◌≢◌, ◌%◌, arith, ⊎_elim}
-use Rattle.grid_base.proofs.ViewLemmas.{HoldsSize-none, HoldsSize-cut}
+use Rattle.grid.proofs.Common.{HoldsSize-none, HoldsSize-cut}
 use Rattle.grid.proofs.grid.size_of_cut.Goals as goal
 
 pub returns-then-len-eq0-clause-holds : goal.returns-then-len-eq0-clause-holds

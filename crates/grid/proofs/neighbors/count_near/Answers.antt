@@ -1,4 +1,4 @@
-use Rattle.grid.proofs.NearCountLemmas.{counting_takes, counting_yes, counting_no, counting_ended}
+use Rattle.grid.proofs.Lemmas.{counting_takes, counting_yes, counting_no, counting_ended}
 use Rattle.grid.proofs.neighbors.count_near.Goals as goal
 
 pub test-requires : goal.test-requires

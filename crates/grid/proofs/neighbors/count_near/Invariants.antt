@@ -1,4 +1,4 @@
-use Rattle.grid.proofs.NearCountLemmas.{Counting}
+use Rattle.grid.proofs.Lemmas.{Counting}
 use Rattle.grid.proofs.neighbors.count_near.Given as goal
 
 abbrev pub invariant-loop-cell : goal.invariant-loop-cell

@@ -1,5 +1,5 @@
-use Rattle.grid_base.proofs.LayoutLemmas.{holds}
-use Rattle.grid.proofs.FlipLemmas.{flip_rows_by_lines, flip_rows_by_each}
+use Rattle.grid.proofs.Common.{holds}
+use Rattle.grid.proofs.Lemmas.{flip_rows_by_lines, flip_rows_by_each}
 use Rattle.grid.proofs.symmetry.flip_stored.Goals as goal
 
 pub returns-in-RowMajor-clause-rows : goal.returns-in-RowMajor-clause-rows

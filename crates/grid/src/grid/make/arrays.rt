@@ -1,8 +1,6 @@
 //! The constructor from an array of rows.
 ghost use Rattle.std.specs.Prelude.{◌≡◌, ◌≢◌, ◌<◌, Some, None, IsTrue, IfOk, OnErr, slice_get, slice_set};
-ghost use Rattle.grid_base.specs.Table.{cell, with_cell};
-ghost use Rattle.grid.specs.Make.{IsMade, FailsBySize};
-ghost use Rattle.grid.specs.Slots.{by_order, are_full, AreTaken};
+ghost use Rattle.grid.specs.Prelude.{cell, with_cell, IsMade, FailsBySize, by_order, are_full, AreTaken};
 
 use crate::{Grid, GridError};
 use grid_base::Order;

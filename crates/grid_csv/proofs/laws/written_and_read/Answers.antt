@@ -1,8 +1,7 @@
 -- What was written is read back.
 use Rattle.std.proofs.Common.{◌≡◌, map}
 use Rattle.std.specs.List.{AllZip}
-use Rattle.grid_csv.proofs.LawLemmas.{read_ok, read_err, same_rows, same_texts}
-use Rattle.grid_csv.proofs.WriteLemmas.{ok_more}
+use Rattle.grid_csv.proofs.Lemmas.{read_ok, read_err, same_rows, same_texts, ok_more}
 use Rattle.grid_csv.proofs.laws.written_and_read.Goals as goal
 
 pub returns-clause-same : goal.returns-clause-same

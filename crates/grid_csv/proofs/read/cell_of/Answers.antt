@@ -1,8 +1,7 @@
 -- A field that is text, and one that is none.
 use Rattle.std.proofs.Common.{◌≡◌, true, false, Result, Ok, Err, Option, refl, IfOk, ℕ, List, Bor}
-use Rattle.grid_base.proofs.Common.{is_utf8, false_from_ne_true, IsUtf8-from_is_utf8, is_utf8-from_IsUtf8}
+use Rattle.grid_csv.proofs.Common.{is_utf8, false_from_ne_true, IsUtf8-from_is_utf8, is_utf8-from_IsUtf8, AnswersField}
 use Rattle.std.specs.declared.alloc.AllocError.{AllocError}
-use Rattle.grid_csv.specs.Reading.{AnswersField}
 use Rattle.grid_csv.proofs.read.cell_of.Goals as goal
 
 answered : {F T : Type 0} (returns : F → Bor (List ℕ) → Result (Option T) AllocError → Type 0) (read : F) (field : List ℕ) (text : Bor (List ℕ)) (r : Result (Option T) AllocError) → is_utf8 field ≡ true → text.now ≡ field → returns read text r → IfOk r (λ cell. AnswersField returns read field cell)

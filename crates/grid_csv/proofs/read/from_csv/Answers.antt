@@ -1,9 +1,7 @@
 -- What is answered of the first record and of those below it.
 use Rattle.std.proofs.Common.{◌≡◌, true, false, rules}
-use Rattle.std.proofs.lemmas.Result.{err_from_is_err_and}
-use Rattle.grid_csv.specs.Reading.{AnswersField}
-use Rattle.grid_csv.proofs.ReadLemmas.{cell_is, reading_is}
-use Rattle.grid_csv.proofs.TableLemmas.{may_be_bad, may_be_bad_below, may_cut, may_be}
+use Rattle.grid_csv.proofs.Common.{err_from_is_err_and, AnswersField}
+use Rattle.grid_csv.proofs.Lemmas.{cell_is, reading_is, may_be_bad, may_be_bad_below, may_cut, may_be}
 use Rattle.grid_csv.proofs.read.from_csv.Goals as goal
 
 pub returns-then-not-branch-clause-answers : goal.returns-then-not-branch-clause-answers

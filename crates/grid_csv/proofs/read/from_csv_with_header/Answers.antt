@@ -1,10 +1,7 @@
 -- What is answered of the header and of the records below it.
 use Rattle.std.proofs.Common.{◌≡◌, ◌∙◌, inr, true, false, ap, refl, rules, sym}
-use Rattle.std.proofs.lemmas.Result.{err_from_is_err_and}
-use Rattle.grid_csv.specs.Reading.{AnswersField, first_of, records_of}
-use Rattle.grid_csv.proofs.ReadLemmas.{cell_is, reading_below_is}
-use Rattle.grid_csv.proofs.TableLemmas.{can_cut}
-use Rattle.grid_csv.proofs.HeaderLemmas.{below_bad_header, below_bad, below_rows, header_names}
+use Rattle.grid_csv.proofs.Common.{err_from_is_err_and, AnswersField, first_of, records_of}
+use Rattle.grid_csv.proofs.Lemmas.{cell_is, reading_below_is, can_cut, below_bad_header, below_bad, below_rows, header_names}
 use Rattle.grid_csv.proofs.read.from_csv_with_header.Goals as goal
 
 pub returns-then-not-branch-clause-header : goal.returns-then-not-branch-clause-header

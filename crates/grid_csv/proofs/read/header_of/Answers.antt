@@ -1,6 +1,6 @@
 -- The names, and the first field that isn't text.
-use Rattle.std.proofs.lemmas.Result.{err_from_is_err_and}
-use Rattle.grid_csv.proofs.HeaderLemmas.{header_is, header_bad}
+use Rattle.grid_csv.proofs.Common.{err_from_is_err_and}
+use Rattle.grid_csv.proofs.Lemmas.{header_is, header_bad}
 use Rattle.grid_csv.proofs.read.header_of.Goals as goal
 
 pub returns-in_err-push_fields : goal.returns-in_err-push_fields

@@ -1,9 +1,8 @@
 -- The record that was found is the first of those that were left.
 use Rattle.std.proofs.Common.{◌≡◌, [], Bool, true, false, Some, List, ℕ, MatchBool, Bor}
-use Rattle.csv.specs.Reading.{ReadRecord, is_flexible, took_first}
+use Rattle.grid_csv.proofs.Common.{ReadRecord, is_flexible, took_first, HasLeft, Took}
+use Rattle.grid_csv.proofs.Lemmas.{found_one, found_none}
 use Rattle.csv.specs.declared.reader.Reader.{Reader}
-use Rattle.grid_csv.specs.Left.{HasLeft, Took}
-use Rattle.grid_csv.proofs.RecordLemmas.{found_one, found_none}
 use Rattle.grid_csv.proofs.read.next_row.Goals as goal
 
 by_found : (old new : Reader (Bor (List ℕ))) (fields : List (List ℕ)) (left : List (List (List ℕ))) (found : Bool) → HasLeft old left → is_flexible new ≡ is_flexible old → ReadRecord (λ s. Some s.now) old new found fields → took_first new ≡ true → MatchBool found (Took left fields new) (left ≡ [])

@@ -1,8 +1,7 @@
 -- One field more: a cell, or the first that is none.
 use Rattle.std.proofs.Common.{◌≡◌, ◌∙◌, ◌+◌, inr, Some, sym, ap, refl}
-use Rattle.csv.specs.Records.{field_at, fields_of}
-use Rattle.grid_csv.specs.Reading.{AnswersField}
-use Rattle.grid_csv.proofs.CellLemmas.{cells_start, cells_more, cells_bad, cells_end}
+use Rattle.grid_csv.proofs.Common.{field_at, fields_of, AnswersField}
+use Rattle.grid_csv.proofs.Lemmas.{cells_start, cells_more, cells_bad, cells_end}
 use Rattle.grid_csv.proofs.read.push_fields.Goals as goal
 
 pub loop-index-init : goal.loop-index-init

@@ -1,8 +1,7 @@
 -- The cells of the fields so far.
 use Rattle.std.proofs.Common.{◌≡◌}
-use Rattle.csv.specs.Records.{fields_of}
-use Rattle.grid_csv.specs.Reading.{AnswersField}
-use Rattle.grid_csv.proofs.CellLemmas.{CellsSoFar}
+use Rattle.grid_csv.proofs.Common.{fields_of, AnswersField}
+use Rattle.grid_csv.proofs.Lemmas.{CellsSoFar}
 use Rattle.grid_csv.proofs.read.push_fields.Given as goal
 
 abbrev pub invariant-loop-index : goal.invariant-loop-index

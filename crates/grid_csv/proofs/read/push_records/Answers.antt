@@ -1,8 +1,7 @@
 -- One record more: a row, or the first that is none.
 use Rattle.std.proofs.Common.{◌≡◌, inr, true, false, rules}
-use Rattle.std.proofs.lemmas.Result.{err_from_is_err_and}
-use Rattle.grid_csv.specs.Reading.{AnswersField}
-use Rattle.grid_csv.proofs.RowLemmas.{rows_start, rows_more, rows_bad, rows_ragged, rows_end}
+use Rattle.grid_csv.proofs.Common.{err_from_is_err_and, AnswersField}
+use Rattle.grid_csv.proofs.Lemmas.{rows_start, rows_more, rows_bad, rows_ragged, rows_end}
 use Rattle.grid_csv.proofs.read.push_records.Goals as goal
 
 pub loop-number-init : goal.loop-number-init

@@ -1,8 +1,7 @@
 -- The rows of the records so far.
 use Rattle.std.proofs.Common.{ℕ, List}
-use Rattle.grid_csv.specs.Left.{HasLeft}
-use Rattle.grid_csv.specs.Reading.{AnswersField}
-use Rattle.grid_csv.proofs.RowLemmas.{RowsSoFar}
+use Rattle.grid_csv.proofs.Common.{HasLeft, AnswersField}
+use Rattle.grid_csv.proofs.Lemmas.{RowsSoFar}
 use Rattle.grid_csv.proofs.read.push_records.Given as goal
 
 abbrev pub invariant-loop-number : goal.invariant-loop-number

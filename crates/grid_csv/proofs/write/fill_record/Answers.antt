@@ -1,8 +1,7 @@
 -- One field more.
 use Rattle.std.proofs.Common.{◌≡◌, ◌∙◌, ◌++◌, [], ◌∷◌, ap, sym, refl}
-use Rattle.csv.specs.Records.{fields_of, partial_of}
-use Rattle.grid_csv.specs.Writing.{AnswersCell}
-use Rattle.grid_csv.proofs.ZipLemmas.{zip_next}
+use Rattle.grid_csv.proofs.Common.{fields_of, partial_of, AnswersCell}
+use Rattle.grid_csv.proofs.Lemmas.{zip_next}
 use Rattle.grid_csv.proofs.write.fill_record.Goals as goal
 
 pub loop-cell-preserved : goal.loop-cell-preserved

@@ -1,8 +1,7 @@
 -- The fields so far, of the cells before those that are left.
 use Rattle.std.proofs.Common.{◌≡◌, []}
-use Rattle.csv.specs.Records.{fields_of, partial_of}
-use Rattle.grid_csv.specs.Writing.{AnswersCell}
-use Rattle.grid_csv.proofs.ZipLemmas.{ZipSoFar}
+use Rattle.grid_csv.proofs.Common.{fields_of, partial_of, AnswersCell}
+use Rattle.grid_csv.proofs.Lemmas.{ZipSoFar}
 use Rattle.grid_csv.proofs.write.fill_record.Given as goal
 
 abbrev pub invariant-loop-cell : goal.invariant-loop-cell

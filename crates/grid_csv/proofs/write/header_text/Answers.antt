@@ -1,11 +1,9 @@
 -- The record of all names.
 use Rattle.std.proofs.Common.{◌≡◌, ◌∙◌, ◌<◌, ◌≤◌, IfOk, rules, ℕ, List, [], Vec, Global, ap, length, map, subst, take, arith, string_bytes, take_all}
 use Rattle.std.specs.declared.string.String.{String}
-use Rattle.csv.specs.Writing.{default_writer, row_text}
+use Rattle.grid_csv.proofs.Common.{default_writer, row_text, HasWritten}
+use Rattle.grid_csv.proofs.Lemmas.{row_utf8, writer_start, written_text, strings_utf8, some_names}
 use Rattle.csv.specs.declared.writer.Writer.{Writer}
-use Rattle.grid_csv.specs.Left.{HasWritten}
-use Rattle.grid_csv.proofs.TextLemmas.{row_utf8}
-use Rattle.grid_csv.proofs.WriteLemmas.{writer_start, written_text, strings_utf8, some_names}
 use Rattle.grid_csv.proofs.write.header_text.Goals as goal
 
 -- the writer has written the names, as all were taken

@@ -1,6 +1,6 @@
 -- The names so far.
 use Rattle.std.proofs.Common.{◌≡◌, [], map, take, string_bytes}
-use Rattle.csv.specs.Records.{fields_of, partial_of}
+use Rattle.grid_csv.proofs.Common.{fields_of, partial_of}
 use Rattle.grid_csv.proofs.write.header_text.Given as goal
 
 abbrev pub invariant-loop-name : goal.invariant-loop-name

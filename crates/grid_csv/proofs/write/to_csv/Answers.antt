@@ -1,11 +1,8 @@
 -- One record more.
 use Rattle.std.proofs.Common.{ap, ◌∙◌, ◌≡◌, [], subst, string_bytes}
 use Rattle.std.specs.List.{AllZip}
-use Rattle.grid_csv.specs.Left.{HasWritten}
-use Rattle.grid_csv.specs.Writing.{AnswersCell, IsCsv, sheet_text}
-use Rattle.grid_csv.proofs.TextLemmas.{sheet_utf8}
-use Rattle.grid_csv.proofs.WriteLemmas.{ok_more, writer_start, written_text, sheet_more, records_utf8, field_is, lines_are}
-use Rattle.grid_csv.proofs.ZipLemmas.{zip_start, zip_next, zip_end}
+use Rattle.grid_csv.proofs.Common.{HasWritten, AnswersCell, IsCsv, sheet_text}
+use Rattle.grid_csv.proofs.Lemmas.{sheet_utf8, ok_more, writer_start, written_text, sheet_more, records_utf8, field_is, lines_are, zip_start, zip_next, zip_end}
 use Rattle.grid_csv.proofs.write.to_csv.Goals as goal
 
 pub loop-row-init : goal.loop-row-init

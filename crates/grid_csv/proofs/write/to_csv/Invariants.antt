@@ -1,9 +1,8 @@
 -- The records so far, of the rows before those that are left.
 use Rattle.std.proofs.Common.{ℕ, List}
 use Rattle.std.specs.List.{AllZip}
-use Rattle.grid_csv.specs.Left.{HasWritten}
-use Rattle.grid_csv.specs.Writing.{AnswersCell, sheet_text}
-use Rattle.grid_csv.proofs.ZipLemmas.{ZipSoFar}
+use Rattle.grid_csv.proofs.Common.{HasWritten, AnswersCell, sheet_text}
+use Rattle.grid_csv.proofs.Lemmas.{ZipSoFar}
 use Rattle.grid_csv.proofs.write.to_csv.Given as goal
 
 abbrev pub invariant-loop-row : goal.invariant-loop-row

@@ -1,6 +1,6 @@
 use Rattle.std.proofs.Common.{[], ◌∙◌, ◌++◌, ap, map, string_bytes}
-use Rattle.grid_csv.specs.Writing.{sheet_text, below_names}
-use Rattle.grid_csv.proofs.WriteLemmas.{below_joined}
+use Rattle.grid_csv.proofs.Common.{sheet_text, below_names}
+use Rattle.grid_csv.proofs.Lemmas.{below_joined}
 use Rattle.grid_csv.proofs.write.to_csv_with_header.Goals as goal
 
 pub returns-clause-text : goal.returns-clause-text

@@ -1,5 +1,5 @@
 use Rattle.std.proofs.Common.{◌<◌, length, arith}
-use Rattle.grid_deferred.proofs.LineLemmas.{each_more}
+use Rattle.grid_deferred.proofs.Lemmas.{each_more}
 use Rattle.grid_deferred.proofs.carrying.each_reversed.Goals as goal
 
 pub loop-line-preserved : goal.loop-line-preserved

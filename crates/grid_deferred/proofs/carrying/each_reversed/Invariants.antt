@@ -1,5 +1,5 @@
 use Rattle.std.proofs.Common.{◌≡◌, ◌++◌, map, reverse, take, drop}
-use Rattle.grid_base.specs.Gather.{items_of_each}
+use Rattle.grid_deferred.proofs.Common.{items_of_each}
 use Rattle.grid_deferred.proofs.carrying.each_reversed.Given as goal
 
 abbrev pub invariant-loop-line : goal.invariant-loop-line

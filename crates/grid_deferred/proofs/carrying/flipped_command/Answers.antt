@@ -1,7 +1,6 @@
 use Rattle.std.proofs.Common.{refl, ap, ◌∙◌}
-use Rattle.grid_deferred.proofs.CellThroughLemmas.{map-reversed}
+use Rattle.grid_deferred.proofs.Lemmas.{map-reversed, between}
 use Rattle.grid.specs.Prelude.{items_of_each}
-use Rattle.grid_deferred.proofs.LineLemmas.{between}
 use Rattle.grid_deferred.proofs.carrying.flipped_command.Goals as goal
 
 pub returns-in-Apply : goal.returns-in-Apply

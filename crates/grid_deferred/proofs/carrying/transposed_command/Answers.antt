@@ -1,4 +1,4 @@
-use Rattle.grid_deferred.proofs.LineLemmas.{between}
+use Rattle.grid_deferred.proofs.Lemmas.{between}
 use Rattle.grid_deferred.proofs.carrying.transposed_command.Goals as goal
 
 pub returns-in-Apply : goal.returns-in-Apply

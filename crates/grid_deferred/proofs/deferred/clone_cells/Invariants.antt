@@ -1,5 +1,5 @@
 use Rattle.std.proofs.Common.{◌≡◌, ◌≤◌, ◌+◌, ◌++◌, length, vec_len, vec_capacity}
-use Rattle.grid_base.specs.Clones.{ClonesAreEqual}
+use Rattle.grid_deferred.proofs.Common.{ClonesAreEqual}
 use Rattle.grid_deferred.proofs.deferred.clone_cells.Given as goal
 
 abbrev pub invariant-loop-cell : goal.invariant-loop-cell

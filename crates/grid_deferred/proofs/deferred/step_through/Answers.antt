@@ -1,5 +1,5 @@
+use Rattle.grid_deferred.proofs.Lemmas.{carried_known, through-rows, through-reply, through-shift, through-memory}
 use Rattle.grid_commands.specs.Command.{command_value}
-use Rattle.grid_deferred.proofs.PendingLemmas.{carried_known, through-rows, through-reply, through-shift, through-memory}
 use Rattle.grid_deferred.proofs.deferred.step_through.Goals as goal
 
 pub returns-in-Ok-clause-stepped : goal.returns-in-Ok-clause-stepped

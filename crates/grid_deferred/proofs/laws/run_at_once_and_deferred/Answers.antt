@@ -1,5 +1,5 @@
 use Rattle.std.proofs.Common.{refl}
-use Rattle.grid_deferred.proofs.RunLemmas.{agree_rows, agree_order, agree_replies, on_both_ok, if_both_ok}
+use Rattle.grid_deferred.proofs.Lemmas.{agree_rows, agree_order, agree_replies, on_both_ok, if_both_ok}
 use Rattle.grid_deferred.proofs.laws.run_at_once_and_deferred.Goals as goal
 
 pub returns-clause-same_rows : goal.returns-clause-same_rows

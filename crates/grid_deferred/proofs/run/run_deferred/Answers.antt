@@ -1,12 +1,7 @@
 use Rattle.std.proofs.Common.{◌≡◌, ◌<◌, suc, subst, List, ◌++◌, ◌∷◌, [], map, length, rules, Result, Ok, Err, OnOk, OnErr, true, false, refl, inl, sym, ◌∙◌, ap, arith, length-append, append_assoc, append-nil, is_err, take}
-use Rattle.grid_base.proofs.Common.{map-append, nil_from_length, into_iter_items, GridValue, Counts}
-use Rattle.grid.specs.Prelude.{CommandValue, command_value, reply_value, MayStop}
-use Rattle.grid_base.proofs.GroupLemmas.{act-identity}
+use Rattle.grid_deferred.proofs.Common.{map-append, nil_from_length, into_iter_items, GridValue, Counts, CommandValue, command_value, reply_value, MayStop, act-identity, take_values, get_value, some_values, may_stop, base, pending, shown, RanDeferred, DeferredRunGives}
+use Rattle.grid_deferred.proofs.Lemmas.{going_none, going_more, still_going, settled, ran_none}
 use Rattle.grid_commands.specs.declared.command.RunStopped.{RunStopped}
-use Rattle.grid.proofs.RunLemmas.{take_values, get_value, some_values, may_stop}
-use Rattle.grid_deferred.specs.Deferred.{base, pending, shown}
-use Rattle.grid_deferred.specs.Run.{RanDeferred, DeferredRunGives}
-use Rattle.grid_deferred.proofs.RunLemmas.{going_none, going_more, still_going, settled, ran_none}
 use Rattle.grid_deferred.proofs.run.run_deferred.Goals as goal
 
 on_ok : {T E : Type 0} (r : Result T E) (P : Type 0) → is_err r ≡ false → OnOk r P → P

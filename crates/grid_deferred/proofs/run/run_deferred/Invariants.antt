@@ -1,8 +1,7 @@
 use Rattle.std.proofs.Common.{◌≡◌, ◌++◌, ◌≤◌, length, map, vec_len, vec_capacity}
-use Rattle.grid.specs.Prelude.{command_value, reply_value}
+use Rattle.grid_deferred.proofs.Common.{command_value, reply_value, base, lender, pending}
+use Rattle.grid_deferred.proofs.Lemmas.{Going}
 use Rattle.std.specs.Vec.Iter.{into_iter_items}
-use Rattle.grid_deferred.specs.Deferred.{base, lender, pending}
-use Rattle.grid_deferred.proofs.RunLemmas.{Going}
 use Rattle.grid_deferred.proofs.run.run_deferred.Given as goal
 
 abbrev pub invariant-loop-command : goal.invariant-loop-command

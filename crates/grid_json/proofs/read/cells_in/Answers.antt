@@ -1,6 +1,6 @@
 use Rattle.std.proofs.Common.{rules, ◌≡◌, suc, ◌++◌, ◌∷◌, ◌<◌, [], length, get_or, drop, sym, ap, ◌∙◌, add-one, drop-cons, Some}
-use Rattle.serde_json.specs.View.{view}
-use Rattle.grid_json.proofs.ReadLemmas.{next_cell}
+use Rattle.grid_json.proofs.Common.{view}
+use Rattle.grid_json.proofs.Lemmas.{next_cell}
 use Rattle.grid_json.proofs.read.cells_in.Goals as goal
 
 pub loop-index-preserved : goal.loop-index-preserved

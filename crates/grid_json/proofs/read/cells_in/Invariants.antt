@@ -1,6 +1,5 @@
 use Rattle.std.proofs.Common.{◌≡◌, ◌++◌, map, drop, Ok}
-use Rattle.serde_json.specs.View.{view, items_of, items_view}
-use Rattle.grid_json.specs.Reading.{and_then, cells_from}
+use Rattle.grid_json.proofs.Common.{view, items_of, items_view, and_then, cells_from}
 use Rattle.grid_json.proofs.read.cells_in.Given as goal
 
 abbrev pub invariant-loop-index : goal.invariant-loop-index

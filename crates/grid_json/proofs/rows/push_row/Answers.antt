@@ -1,7 +1,7 @@
 -- One cell more, or the first item that is none.
 use Rattle.std.proofs.Common.{◌≡◌, ◌<◌, ◌≤◌, inr, length, get_or, ap, arith, refl, sym}
-use Rattle.grid_json.specs.Rows.{AnswersItem}
-use Rattle.grid_json.proofs.RowsReadLemmas.{array_is, cells_more, cells_bad, cells_end}
+use Rattle.grid_json.proofs.Common.{AnswersItem}
+use Rattle.grid_json.proofs.Lemmas.{array_is, cells_more, cells_bad, cells_end}
 use Rattle.grid_json.proofs.rows.push_row.Goals as goal
 
 pub returns-in-None : goal.returns-in-None

@@ -1,6 +1,6 @@
 -- The cells so far.
-use Rattle.grid_json.specs.Rows.{AnswersItem}
-use Rattle.grid_json.proofs.RowsReadLemmas.{CellsSoFar}
+use Rattle.grid_json.proofs.Common.{AnswersItem}
+use Rattle.grid_json.proofs.Lemmas.{CellsSoFar}
 use Rattle.grid_json.proofs.rows.push_row.Given as goal
 
 abbrev pub invariant-loop-col : goal.invariant-loop-col

@@ -1,9 +1,7 @@
 -- One row more, or the first item that is none.
 use Rattle.std.proofs.Common.{◌≡◌, ◌<◌, ◌∙◌, inr, map, ap, arith, sym}
-use Rattle.std.proofs.lemmas.Result.{err_from_is_err_and}
-use Rattle.serde_json.specs.View.{view}
-use Rattle.grid_json.specs.Rows.{AnswersItem, array_of}
-use Rattle.grid_json.proofs.RowsReadLemmas.{array_is, rows_start, rows_more, rows_bad, rows_ragged, rows_end, rows_can_cut, rows_cut}
+use Rattle.grid_json.proofs.Common.{err_from_is_err_and, view, AnswersItem, array_of}
+use Rattle.grid_json.proofs.Lemmas.{array_is, rows_start, rows_more, rows_bad, rows_ragged, rows_end, rows_can_cut, rows_cut}
 use Rattle.grid_json.proofs.rows.read_rows.Goals as goal
 use Rattle.grid_json.proofs.rows.read_rows.Goals.{else-row-gt0-via-then-row-gt0+else-len-cols, else-row-gt0-via-else-row-gt0}
 

@@ -1,6 +1,6 @@
 -- The rows so far.
-use Rattle.grid_json.specs.Rows.{AnswersItem}
-use Rattle.grid_json.proofs.RowsReadLemmas.{RowsSoFar}
+use Rattle.grid_json.proofs.Common.{AnswersItem}
+use Rattle.grid_json.proofs.Lemmas.{RowsSoFar}
 use Rattle.grid_json.proofs.rows.read_rows.Given as goal
 
 abbrev pub invariant-loop-row : goal.invariant-loop-row

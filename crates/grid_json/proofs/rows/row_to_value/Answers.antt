@@ -1,7 +1,7 @@
 -- The value of one cell more.
 use Rattle.std.proofs.Common.{refl}
-use Rattle.grid_json.specs.Rows.{AnswersCell}
-use Rattle.grid_json.proofs.RowsLemmas.{values_start, values_next, values_end}
+use Rattle.grid_json.proofs.Common.{AnswersCell}
+use Rattle.grid_json.proofs.Lemmas.{values_start, values_next, values_end}
 use Rattle.grid_json.proofs.rows.row_to_value.Goals as goal
 
 pub loop-cell-init : goal.loop-cell-init

@@ -1,6 +1,6 @@
 -- The values of the cells so far.
-use Rattle.grid_json.specs.Rows.{AnswersCell}
-use Rattle.grid_json.proofs.RowsLemmas.{ValuesSoFar}
+use Rattle.grid_json.proofs.Common.{AnswersCell}
+use Rattle.grid_json.proofs.Lemmas.{ValuesSoFar}
 use Rattle.grid_json.proofs.rows.row_to_value.Given as goal
 
 abbrev pub invariant-loop-cell : goal.invariant-loop-cell

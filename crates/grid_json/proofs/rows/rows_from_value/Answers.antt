@@ -1,7 +1,7 @@
 -- What the closure answers is what the function gives.
 use Rattle.std.proofs.Common.{◌∙◌, ap}
-use Rattle.grid_json.specs.Rows.{AnswersItem, GivenBy}
-use Rattle.grid_json.proofs.MayReadLemmas.{may_more}
+use Rattle.grid_json.proofs.Common.{AnswersItem, GivenBy}
+use Rattle.grid_json.proofs.Lemmas.{may_more}
 use Rattle.grid_json.proofs.rows.rows_from_value.Goals as goal
 
 pub returns-clause-reads : goal.returns-clause-reads

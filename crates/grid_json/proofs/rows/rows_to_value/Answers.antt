@@ -1,7 +1,7 @@
 -- The value of one row more.
 use Rattle.std.proofs.Common.{sym, ap, ◌∙◌}
-use Rattle.grid_json.specs.Rows.{AnswersCell, MayBeRow}
-use Rattle.grid_json.proofs.RowsLemmas.{values_start, values_next, values_end, is_rows}
+use Rattle.grid_json.proofs.Common.{AnswersCell, MayBeRow}
+use Rattle.grid_json.proofs.Lemmas.{values_start, values_next, values_end, is_rows}
 use Rattle.grid_json.proofs.rows.rows_to_value.Goals as goal
 
 pub loop-row-init : goal.loop-row-init

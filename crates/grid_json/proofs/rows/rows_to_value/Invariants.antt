@@ -1,6 +1,6 @@
 -- The values of the rows so far.
-use Rattle.grid_json.specs.Rows.{AnswersCell, MayBeRow}
-use Rattle.grid_json.proofs.RowsLemmas.{ValuesSoFar}
+use Rattle.grid_json.proofs.Common.{AnswersCell, MayBeRow}
+use Rattle.grid_json.proofs.Lemmas.{ValuesSoFar}
 use Rattle.grid_json.proofs.rows.rows_to_value.Given as goal
 
 abbrev pub invariant-loop-row : goal.invariant-loop-row

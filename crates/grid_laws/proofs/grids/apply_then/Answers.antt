@@ -1,6 +1,5 @@
 use Rattle.std.proofs.Common.{◌∙◌, ap, sym}
-use Rattle.grid_base.specs.Symmetry.{order_after}
-use Rattle.grid_base.proofs.GroupLemmas.{then_is, order_after-order_after}
+use Rattle.grid_laws.proofs.Common.{order_after, then_is, order_after-order_after}
 use Rattle.grid_laws.proofs.grids.apply_then.Goals as goal
 
 pub returns-clause-rows : goal.returns-clause-rows

@@ -1,7 +1,5 @@
 use Rattle.std.proofs.Common.{◌∙◌, ap}
-use Rattle.grid_base.specs.Symmetry.{act, order_after}
-use Rattle.grid_base.proofs.GroupLemmas.{inverse_is, inverse_acts, order_after-order_after}
-use Rattle.grid_base.proofs.ViewLemmas.{same_grid_value}
+use Rattle.grid_laws.proofs.Common.{act, order_after, inverse_is, inverse_acts, order_after-order_after, same_grid_value}
 use Rattle.grid_laws.proofs.grids.apply_then_inverse.Goals as goal
 
 pub returns-clause-same : goal.returns-clause-same

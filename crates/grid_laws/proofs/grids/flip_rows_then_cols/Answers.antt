@@ -1,7 +1,6 @@
 use Rattle.std.proofs.Common.{◌∙◌, ap}
 use Rattle.grid_base.specs.declared.words.Symmetry.TheVariants.{FlipCols, FlipRows}
-use Rattle.grid_base.specs.Symmetry.{act}
-use Rattle.grid_base.proofs.GroupLemmas.{act-act}
+use Rattle.grid_laws.proofs.Common.{act, act-act}
 use Rattle.grid_laws.proofs.grids.flip_rows_then_cols.Goals as goal
 
 pub returns-clause-rows : goal.returns-clause-rows

@@ -1,10 +1,6 @@
 use Rattle.std.proofs.Common.{◌∙◌, ap, refl, sym, subst}
-use Rattle.grid_base.proofs.Common.{flipped, act, IsTable, on_ok_weaker, on_err_weaker}
+use Rattle.grid_laws.proofs.Common.{flipped, act, IsTable, on_ok_weaker, on_err_weaker, rows-act, same_grid_value, flipped-flipped, insert_col, fits_across, col_inserted, twice_across}
 use Rattle.grid_base.specs.declared.words.Symmetry.TheVariants.{Transpose}
-use Rattle.grid_base.proofs.ActLemmas.{rows-act}
-use Rattle.grid_base.proofs.ViewLemmas.{same_grid_value, flipped-flipped}
-use Rattle.grid.specs.Edits.{insert_col}
-use Rattle.grid.proofs.TransposedEditLemmas.{fits_across, col_inserted, twice_across}
 use Rattle.grid_laws.proofs.grids.insert_col_or_row_across.Goals as goal
 
 pub insert_row-as_row-requires-clause-nonempty : goal.insert_row-as_row-requires-clause-nonempty

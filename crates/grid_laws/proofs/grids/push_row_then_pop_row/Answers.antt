@@ -1,6 +1,5 @@
 use Rattle.std.proofs.Common.{rules, arith}
-use Rattle.grid_base.proofs.Common.{common_steps, on_ok_weaker}
-use Rattle.grid_base.proofs.ViewLemmas.{same_grid_value}
+use Rattle.grid_laws.proofs.Common.{common_steps, on_ok_weaker, same_grid_value}
 use Rattle.grid_laws.proofs.grids.push_row_then_pop_row.Goals as goal
 
 pub returns-clause-grid : goal.returns-clause-grid

@@ -1,6 +1,5 @@
 use Rattle.std.proofs.Common.{◌≡◌, ◌∙◌, length, sym, ap, ⊎_elim}
-use Rattle.grid_base.proofs.Common.{cases_eq, storage}
-use Rattle.grid_base.proofs.ViewLemmas.{same_grid_value, same_by_storage, none_by_storage, CanCut-storage}
+use Rattle.grid_laws.proofs.Common.{cases_eq, storage, same_grid_value, same_by_storage, none_by_storage, CanCut-storage}
 use Rattle.grid_laws.proofs.grids.rebuilt.Goals as goal
 
 pub from_vec_with_order-requires : goal.from_vec_with_order-requires

@@ -1,8 +1,6 @@
 use Rattle.std.proofs.Common.{◌∙◌, ap}
-use Rattle.grid_base.proofs.Common.{act}
+use Rattle.grid_laws.proofs.Common.{act, act-act, act-identity, same_grid_value, flipped-flipped}
 use Rattle.grid_base.specs.declared.words.Symmetry.TheVariants.{RotateLeft}
-use Rattle.grid_base.proofs.GroupLemmas.{act-act, act-identity}
-use Rattle.grid_base.proofs.ViewLemmas.{same_grid_value, flipped-flipped}
 use Rattle.grid_laws.proofs.grids.rotate_left_four_times.Goals as goal
 
 pub returns-clause-law : goal.returns-clause-law

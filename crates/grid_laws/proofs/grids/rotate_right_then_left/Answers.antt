@@ -1,8 +1,6 @@
 use Rattle.std.proofs.Common.{◌∙◌, ap}
-use Rattle.grid_base.proofs.Common.{flipped, act}
+use Rattle.grid_laws.proofs.Common.{flipped, act, act-act, act-identity, same_grid_value, flipped-flipped}
 use Rattle.grid_base.specs.declared.words.Symmetry.TheVariants.{RotateLeft, RotateRight}
-use Rattle.grid_base.proofs.GroupLemmas.{act-act, act-identity}
-use Rattle.grid_base.proofs.ViewLemmas.{same_grid_value, flipped-flipped}
 use Rattle.grid_laws.proofs.grids.rotate_right_then_left.Goals as goal
 
 pub returns-clause-same : goal.returns-clause-same

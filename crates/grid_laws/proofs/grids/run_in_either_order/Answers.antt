@@ -1,6 +1,5 @@
 use Rattle.std.proofs.Common.{map, ap, sym, ◌∙◌}
-use Rattle.grid.specs.Prelude.{reply_value, run_rows, run_replies}
-use Rattle.grid.proofs.RunLemmas.{same_run_rows, same_run_replies}
+use Rattle.grid_laws.proofs.Common.{reply_value, run_rows, run_replies, same_run_rows, same_run_replies}
 use Rattle.grid_laws.proofs.grids.run_in_either_order.Goals as goal
 
 pub returns-clause-same_rows : goal.returns-clause-same_rows

@@ -1,5 +1,5 @@
-use Rattle.std.proofs.lemmas.Result.{IfOk-weaker, IfErr-weaker}
-use Rattle.grid_laws.proofs.CountLemmas.{grew_deferred}
+use Rattle.grid_laws.proofs.Common.{IfOk-weaker, IfErr-weaker}
+use Rattle.grid_laws.proofs.Lemmas.{grew_deferred}
 use Rattle.grid_laws.proofs.least.run_deferred_by_least.Goals as goal
 
 pub returns-clause-least : goal.returns-clause-least

@@ -1,8 +1,6 @@
 use Rattle.std.proofs.Common.{refl}
-use Rattle.grid.specs.Prelude.{command_value, command_symmetry}
-use Rattle.grid_laws.proofs.CountLemmas.{grew_by_price, grew_by_shift, on_ok3}
-use Rattle.grid_laws.proofs.EditLemmas.{shift_is_least}
-use Rattle.grid_laws.proofs.ImageLemmas.{price_is_least}
+use Rattle.grid_laws.proofs.Common.{command_value, command_symmetry}
+use Rattle.grid_laws.proofs.Lemmas.{grew_by_price, grew_by_shift, on_ok3, shift_is_least, price_is_least}
 use Rattle.grid_laws.proofs.least.step_by_least.Goals as goal
 
 pub returns-clause-gives : goal.returns-clause-gives

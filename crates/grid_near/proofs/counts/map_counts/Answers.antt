@@ -1,7 +1,6 @@
 use Rattle.std.proofs.Common.{◌≡◌, ◌<◌, ℕ, arith, ap, sym, ◌∙◌, length, vec_len}
-use Rattle.grid_base.proofs.Common.{common_steps, positions_of, lines_of}
-use Rattle.grid_base.proofs.PlacedCellLemmas.{zip_nothing}
-use Rattle.grid_near.proofs.MarkLemmas.{side_first, side_second, board_passed, all_placed}
+use Rattle.grid_near.proofs.Common.{common_steps, positions_of, lines_of, zip_nothing}
+use Rattle.grid_near.proofs.Lemmas.{side_first, side_second, board_passed, all_placed}
 use Rattle.grid_near.proofs.counts.map_counts.Goals as goal
 
 pub returns-then-lines-eq0-clause-cells : goal.returns-then-lines-eq0-clause-cells

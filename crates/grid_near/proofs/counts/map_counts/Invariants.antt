@@ -1,6 +1,5 @@
 use Rattle.std.proofs.Common.{◌≡◌, ◌+◌, ◌*◌, ◌<◌, ◌≤◌, false, take, length, vec_len, vec_capacity}
-use Rattle.grid_base.proofs.Common.{AllZip, lines_of, ReturnsAtCell}
-use Rattle.grid_near.specs.Marks.{MarksBeside, near, table, placed_cells, AnswersCounted}
+use Rattle.grid_near.proofs.Common.{AllZip, lines_of, ReturnsAtCell, MarksBeside, near, table, placed_cells, AnswersCounted}
 use Rattle.grid_near.proofs.counts.map_counts.Given as goal
 
 abbrev pub invariant-loop-line : goal.invariant-loop-line

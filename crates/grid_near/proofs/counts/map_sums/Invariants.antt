@@ -1,6 +1,5 @@
 use Rattle.std.proofs.Common.{◌≡◌, ◌+◌, ◌*◌, ◌<◌, ◌≤◌, take, length, vec_len, vec_capacity}
-use Rattle.grid_base.proofs.Common.{AllZip, lines_of, ReturnsAtCell}
-use Rattle.grid_near.specs.Marks.{MarksBeside, near, table, placed_cells, AnswersSummed}
+use Rattle.grid_near.proofs.Common.{AllZip, lines_of, ReturnsAtCell, MarksBeside, near, table, placed_cells, AnswersSummed}
 use Rattle.grid_near.proofs.counts.map_sums.Given as goal
 
 abbrev pub invariant-loop-line : goal.invariant-loop-line

@@ -1,6 +1,6 @@
 use Rattle.std.proofs.Common.{◌≡◌, ◌+◌, ◌<◌, ℕ, Some, refl, ap, length, arith, slice_get}
-use Rattle.grid_base.proofs.Common.{slice_get_read, lines_of}
-use Rattle.grid_near.proofs.MarkLemmas.{marked_more}
+use Rattle.grid_near.proofs.Common.{slice_get_read, lines_of}
+use Rattle.grid_near.proofs.Lemmas.{marked_more}
 use Rattle.grid_near.proofs.counts.mark_cells.Goals as goal
 
 pub mark-requires : goal.mark-requires

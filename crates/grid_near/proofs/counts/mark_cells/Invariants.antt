@@ -1,4 +1,4 @@
-use Rattle.grid_near.specs.Marks.{MarksCells}
+use Rattle.grid_near.proofs.Common.{MarksCells}
 use Rattle.grid_near.proofs.counts.mark_cells.Given as goal
 
 abbrev pub invariant-loop-k : goal.invariant-loop-k

@@ -1,4 +1,4 @@
-use Rattle.grid_near.proofs.MarkLemmas.{holds_size, line_marked}
+use Rattle.grid_near.proofs.Lemmas.{holds_size, line_marked}
 use Rattle.grid_near.proofs.counts.mark_line.Goals as goal
 
 pub returns-in-Some-clause-marks : goal.returns-in-Some-clause-marks

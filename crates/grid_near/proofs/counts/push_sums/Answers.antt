@@ -1,8 +1,6 @@
 use Rattle.std.proofs.Common.{rules, ◌≡◌, ◌*◌, ◌+◌, ℕ, arith, ap, refl, sym, ◌∙◌, vec_len}
-use Rattle.grid_base.proofs.Common.{slice_get_within, get_or_from_slice_get, lines_of, along}
-use Rattle.grid_base.proofs.ClosureLemmas.{answers_more}
-use Rattle.grid_near.specs.Marks.{placed_cells}
-use Rattle.grid_near.proofs.MarkLemmas.{within_board, cell_placed, board_summed}
+use Rattle.grid_near.proofs.Common.{slice_get_within, get_or_from_slice_get, lines_of, along, answers_more, placed_cells}
+use Rattle.grid_near.proofs.Lemmas.{within_board, cell_placed, board_summed}
 use Rattle.grid_near.proofs.counts.push_sums.Goals as goal
 
 pub bounds-cells-start : goal.bounds-cells-start

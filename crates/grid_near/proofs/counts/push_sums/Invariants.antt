@@ -1,6 +1,5 @@
 use Rattle.std.proofs.Common.{◌≡◌, ◌+◌, take, vec_len, vec_capacity}
-use Rattle.grid_base.proofs.Common.{AllZip, ReturnsAtCell}
-use Rattle.grid_near.specs.Marks.{near, table, placed_cells, AnswersSummed}
+use Rattle.grid_near.proofs.Common.{AllZip, ReturnsAtCell, near, table, placed_cells, AnswersSummed}
 use Rattle.grid_near.proofs.counts.push_sums.Given as goal
 
 abbrev pub invariant-loop-k : goal.invariant-loop-k

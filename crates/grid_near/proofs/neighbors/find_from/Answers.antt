@@ -1,9 +1,7 @@
 use Rattle.std.proofs.Common.{◌∙◌, ◌<◌, arith, refl}
-use Rattle.std.proofs.lemmas.Option.{slice_get_read}
-use Rattle.grid_near.specs.Neighbors.{step_count}
-use Rattle.grid_near.specs.Around.{strided_cell}
+use Rattle.grid_near.proofs.Common.{slice_get_read, step_count, strided_cell}
+use Rattle.grid_near.proofs.Lemmas.{cells_skipped, no_cells, position_within, position_item}
 use Rattle.grid_near.specs.declared.board.Edges.TheVariants.{Open}
-use Rattle.grid_near.proofs.AroundLemmas.{cells_skipped, no_cells, position_within, position_item}
 use Rattle.grid_near.proofs.neighbors.find_from.Goals as goal
 
 pub returns-then-k-step_count-clause-found : goal.returns-then-k-step_count-clause-found

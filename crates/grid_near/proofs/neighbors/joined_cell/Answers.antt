@@ -1,8 +1,7 @@
 use Rattle.std.proofs.Common.{Some, sym, ◌+◌, ◌∙◌, ◌∷◌, ap, refl, arith}
-use Rattle.std.proofs.lemmas.Option.{slice_get_read}
-use Rattle.grid_near.specs.Around.{around, strided_cell, cells_from}
+use Rattle.grid_near.proofs.Common.{slice_get_read, around, strided_cell, cells_from}
+use Rattle.grid_near.proofs.Lemmas.{step_item}
 use Rattle.grid_near.specs.declared.board.Edges.TheVariants.{Joined}
-use Rattle.grid_near.proofs.AroundLemmas.{step_item}
 use Rattle.grid_near.proofs.neighbors.joined_cell.Goals as goal
 
 pub overflow_mul-result : goal.overflow_mul-result

@@ -1,11 +1,7 @@
 use Rattle.std.proofs.Common.{◌≡◌, ℕ, ◌<◌, ◌∙◌, ap, length, arith}
-use Rattle.grid_base.proofs.LayoutLemmas.{holds}
-use Rattle.grid_near.specs.Neighbors.{step_count}
-use Rattle.grid_near.specs.Around.{cells_from}
+use Rattle.grid_near.proofs.Common.{holds, step_count, cells_from}
+use Rattle.grid_near.proofs.Lemmas.{start_holds, start_shown, start_step, strided_there, cells_in_order, positions_in_order, few_from, not_done, none_done, joined_left}
 use Rattle.grid_near.specs.declared.board.Edges.TheVariants.{Joined}
-use Rattle.grid_near.proofs.AroundLemmas.{start_holds, start_shown, start_step, strided_there}
-use Rattle.grid_near.proofs.NeighborLemmas.{cells_in_order, positions_in_order, few_from}
-use Rattle.grid_near.proofs.WrappedLemmas.{not_done, none_done, joined_left}
 use Rattle.grid_near.proofs.neighbors.neighbors_of.Goals as goal
 use Rattle.grid_near.proofs.neighbors.neighbors_of.Goals.{then-inner, else-inner}
 

@@ -1,7 +1,6 @@
 use Rattle.std.proofs.Common.{◌<◌, ◌/◌, ◌%◌, sym, ap, length, arith}
-use Rattle.grid_near.specs.Neighbors.{step_count}
-use Rattle.grid_near.specs.Around.{box, IsThere}
-use Rattle.grid_near.proofs.AroundLemmas.{there_at, position_counted, no_position, no_positions}
+use Rattle.grid_near.proofs.Common.{step_count, box, IsThere}
+use Rattle.grid_near.proofs.Lemmas.{there_at, position_counted, no_position, no_positions}
 use Rattle.grid_near.proofs.steps.count_from.Goals as goal
 use Rattle.grid_near.proofs.steps.count_from.Goals.{then-is_there, else-is_there}
 

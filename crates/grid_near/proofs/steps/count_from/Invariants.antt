@@ -1,5 +1,5 @@
 use Rattle.std.proofs.Common.{◌≡◌, ◌≤◌, ◌+◌, length}
-use Rattle.grid_near.specs.Around.{positions_from}
+use Rattle.grid_near.proofs.Common.{positions_from}
 use Rattle.grid_near.proofs.steps.count_from.Given as goal
 
 abbrev pub invariant-loop-k : goal.invariant-loop-k

@@ -1,6 +1,6 @@
 use Rattle.std.proofs.Common.{◌∙◌, ◌<◌, sym, arith}
-use Rattle.grid_near.specs.Neighbors.{step_count}
-use Rattle.grid_near.proofs.AroundLemmas.{there_at, no_position}
+use Rattle.grid_near.proofs.Common.{step_count}
+use Rattle.grid_near.proofs.Lemmas.{there_at, no_position}
 use Rattle.grid_near.proofs.steps.first_from.Goals as goal
 
 pub loop-k-preserved : goal.loop-k-preserved

@@ -1,5 +1,5 @@
 use Rattle.std.proofs.Common.{rules}
-use Rattle.grid_paths.proofs.ClosureLemmas.{AreAnswers-mapped}
+use Rattle.grid_paths.proofs.Lemmas.{AreAnswers-mapped}
 use Rattle.grid_paths.proofs.answers.answers_of.Goals as goal
 
 pub returns-clause-answers : goal.returns-clause-answers

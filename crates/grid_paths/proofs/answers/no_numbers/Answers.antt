@@ -1,5 +1,5 @@
 use Rattle.std.proofs.Common.{Some, None, rules}
-use Rattle.std.proofs.lemmas.Result.{IfOk-weaker}
+use Rattle.grid_paths.proofs.Common.{IfOk-weaker}
 use Rattle.grid_paths.proofs.answers.no_numbers.Goals as goal
 
 pub returns-clause-none : goal.returns-clause-none

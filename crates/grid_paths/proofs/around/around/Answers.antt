@@ -1,4 +1,4 @@
-use Rattle.grid_paths.proofs.AroundLemmas.{AreSteps-sides, AreSteps-all}
+use Rattle.grid_paths.proofs.Lemmas.{AreSteps-sides, AreSteps-all}
 use Rattle.grid_paths.proofs.around.around.Goals as goal
 
 pub returns-clause-sides : goal.returns-clause-sides

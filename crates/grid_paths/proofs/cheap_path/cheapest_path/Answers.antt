@@ -1,6 +1,6 @@
 use Rattle.std.proofs.Common.{ℕ}
-use Rattle.grid_paths.proofs.ClosureLemmas.{HoldsOfAnswers-if_found}
-use Rattle.grid_paths.specs.Cheapest.{CostWalk, IsCheapestPath}
+use Rattle.grid_paths.proofs.Common.{CostWalk, IsCheapestPath}
+use Rattle.grid_paths.proofs.Lemmas.{HoldsOfAnswers-if_found}
 use Rattle.grid_paths.proofs.cheap_path.cheapest_path.Goals as goal
 
 pub returns : goal.returns

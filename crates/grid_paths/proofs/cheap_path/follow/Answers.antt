@@ -1,6 +1,6 @@
 use Rattle.std.proofs.Common.{◌≡◌, suc, ◌-◌, ◌++◌, ◌∷◌, [], Some, length, subst, sym, ap, ◌∙◌, refl, arith, slice_get}
-use Rattle.std.proofs.lemmas.Option.{slice_get_within, slice_get_read}
-use Rattle.grid_paths.proofs.TrailLemmas.{IsFollowed, IsFollowed-start, IsFollowed-found, IsFollowed-past}
+use Rattle.grid_paths.proofs.Common.{slice_get_within, slice_get_read}
+use Rattle.grid_paths.proofs.Lemmas.{IsFollowed, IsFollowed-start, IsFollowed-found, IsFollowed-past}
 use Rattle.grid_paths.proofs.cheap_path.follow.Goals as goal
 
 pub loop-left-init : goal.loop-left-init

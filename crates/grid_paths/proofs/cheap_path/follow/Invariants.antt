@@ -1,6 +1,6 @@
 use Rattle.std.proofs.Common.{ℕ, ◌≤◌, List, Option, length}
-use Rattle.grid_paths.specs.Trail.{IsTrail}
-use Rattle.grid_paths.proofs.TrailLemmas.{IsFollowed}
+use Rattle.grid_paths.proofs.Common.{IsTrail}
+use Rattle.grid_paths.proofs.Lemmas.{IsFollowed}
 use Rattle.grid_paths.proofs.cheap_path.follow.Given as goal
 
 abbrev pub invariant-loop-left : goal.invariant-loop-left

@@ -1,10 +1,6 @@
 use Rattle.std.proofs.Common.{◌≡◌, ◌-◌, ◌++◌, ◌∷◌, [], Some, length, sym, ap, subst, ◌∙◌, arith, rules, slice_get, heap_items, length-append}
-use Rattle.grid_paths.proofs.StepLemmas.{at_end}
-use Rattle.grid_paths.specs.Cheapest.{IsCheapestPath}
-use Rattle.grid_paths.specs.Relaxing.{IsCostSearch}
-use Rattle.grid_paths.specs.Trail.{IsTrail}
-use Rattle.grid_paths.proofs.CheapLemmas.{IsNext-ready, IsNext-comes, IsNext-least, IsSearching-next, IsSearching-smaller, settled_before, settled_fewer, settled_there, IsOver-no_way}
-use Rattle.grid_paths.proofs.TrailLemmas.{IsKept, IsKept-start, IsTrail-push, IsKept-push}
+use Rattle.grid_paths.proofs.Common.{IsCheapestPath, IsCostSearch, IsTrail}
+use Rattle.grid_paths.proofs.Lemmas.{at_end, IsNext-ready, IsNext-comes, IsNext-least, IsSearching-next, IsSearching-smaller, settled_before, settled_fewer, settled_there, IsOver-no_way, IsKept, IsKept-start, IsTrail-push, IsKept-push}
 use Rattle.grid_paths.proofs.cheap_path.path_over.Goals as goal
 
 pub loop-here-init : goal.loop-here-init

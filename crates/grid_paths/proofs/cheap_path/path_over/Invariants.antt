@@ -1,8 +1,6 @@
 use Rattle.std.proofs.Common.{◌*◌, ◌-◌}
-use Rattle.grid_base.proofs.Common.{row_count, col_count}
-use Rattle.grid_paths.specs.Search.{unreached}
-use Rattle.grid_paths.specs.Frontier.{IsSearching}
-use Rattle.grid_paths.proofs.TrailLemmas.{IsKept}
+use Rattle.grid_paths.proofs.Common.{row_count, col_count, unreached, IsSearching}
+use Rattle.grid_paths.proofs.Lemmas.{IsKept}
 use Rattle.grid_paths.proofs.cheap_path.path_over.Given as goal
 
 abbrev pub invariant-loop-here : goal.invariant-loop-here

@@ -1,11 +1,7 @@
 use Rattle.std.proofs.Common.{◌≡◌, Some, refl, ◌∙◌, sym, subst, heap_items}
-use Rattle.grid_base.specs.Table.{row_count, col_count, with_cell, InRange}
-use Rattle.grid_paths.proofs.AlikeLemmas.{set_there}
-use Rattle.grid_paths.specs.Cheapest.{Holds}
-use Rattle.grid_paths.specs.Relaxing.{IsCostSearch}
-use Rattle.grid_paths.specs.Frontier.{IsSearching}
-use Rattle.grid_paths.proofs.RelaxLemmas.{same_size}
-use Rattle.grid_paths.proofs.CheapLemmas.{no_number, IsCostSearch-closed, IsCostSearch-begun}
+use Rattle.grid_paths.proofs.Common.{with_cell, InRange, Holds, IsCostSearch, IsSearching}
+use Rattle.grid_paths.proofs.Lemmas.{set_there, same_size, no_number, IsCostSearch-closed, IsCostSearch-begun}
+use Rattle.grid_base.specs.Table.{row_count, col_count}
 use Rattle.grid_paths.proofs.costs.begun.Goals.{in-Some+in_ok-push, in_default}
 use Rattle.grid_paths.proofs.costs.begun.Goals as goal
 

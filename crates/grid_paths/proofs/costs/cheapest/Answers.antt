@@ -1,5 +1,5 @@
-use Rattle.grid_paths.proofs.ClosureLemmas.{HoldsOfAnswers-if_ok}
-use Rattle.grid_paths.specs.Cheapest.{HasLeastCosts}
+use Rattle.grid_paths.proofs.Common.{HasLeastCosts}
+use Rattle.grid_paths.proofs.Lemmas.{HoldsOfAnswers-if_ok}
 use Rattle.grid_paths.proofs.costs.cheapest.Goals as goal
 
 pub returns-clause-least : goal.returns-clause-least

@@ -1,4 +1,4 @@
-use Rattle.grid_paths.proofs.CheapLemmas.{IsNext-ready, IsSearching-next, IsSearching-smaller, IsOver-least}
+use Rattle.grid_paths.proofs.Lemmas.{IsNext-ready, IsSearching-next, IsSearching-smaller, IsOver-least}
 use Rattle.grid_paths.proofs.costs.search.Goals as goal
 
 pub loop-here-init : goal.loop-here-init

@@ -1,7 +1,5 @@
 use Rattle.std.proofs.Common.{◌*◌, ◌-◌}
-use Rattle.grid_base.proofs.Common.{row_count, col_count}
-use Rattle.grid_paths.specs.Search.{unreached}
-use Rattle.grid_paths.specs.Frontier.{IsSearching}
+use Rattle.grid_paths.proofs.Common.{row_count, col_count, unreached, IsSearching}
 use Rattle.grid_paths.proofs.costs.search.Given as goal
 
 abbrev pub invariant-loop-here : goal.invariant-loop-here

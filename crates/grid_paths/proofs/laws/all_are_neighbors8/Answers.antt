@@ -1,7 +1,7 @@
 use Rattle.std.proofs.Common.{◌↔◌, Contains, sym, subst}
 use Rattle.grid_near.specs.declared.steps.Steps.TheVariants.{All}
-use Rattle.grid_paths.specs.Walks.{IsStep}
-use Rattle.grid_paths.proofs.NearLemmas.{all-near}
+use Rattle.grid_paths.proofs.Common.{IsStep}
+use Rattle.grid_paths.proofs.Lemmas.{all-near}
 use Rattle.grid_paths.proofs.laws.all_are_neighbors8.Goals as goal
 
 pub returns : goal.returns

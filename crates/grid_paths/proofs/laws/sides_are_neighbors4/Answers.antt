@@ -1,7 +1,7 @@
 use Rattle.std.proofs.Common.{◌↔◌, Contains, sym, subst}
 use Rattle.grid_near.specs.declared.steps.Steps.TheVariants.{Sides}
-use Rattle.grid_paths.specs.Walks.{IsStep}
-use Rattle.grid_paths.proofs.NearLemmas.{sides-near}
+use Rattle.grid_paths.proofs.Common.{IsStep}
+use Rattle.grid_paths.proofs.Lemmas.{sides-near}
 use Rattle.grid_paths.proofs.laws.sides_are_neighbors4.Goals as goal
 
 pub returns : goal.returns

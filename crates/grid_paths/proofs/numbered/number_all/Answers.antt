@@ -1,10 +1,7 @@
 use Rattle.std.proofs.Common.{◌≡◌, ℕ, ◌*◌, ◌≤◌, ap, ◌∙◌, subst, arith}
+use Rattle.grid_paths.proofs.Common.{IsMarked, IsScanned}
+use Rattle.grid_paths.proofs.Lemmas.{unreached_cells, none_marked, IsScanned-start, IsScanned-row}
 use Rattle.grid_base.specs.Table.{row_count, col_count}
-use Rattle.grid_paths.specs.Search.{IsMarked}
-use Rattle.grid_paths.specs.Numbers.{IsScanned}
-use Rattle.grid_paths.proofs.QueueLemmas.{unreached_cells}
-use Rattle.grid_paths.proofs.StepLemmas.{none_marked}
-use Rattle.grid_paths.proofs.CountLemmas.{IsScanned-start, IsScanned-row}
 use Rattle.grid_paths.proofs.numbered.number_all.Goals as goal
 
 pub loop-row-init : goal.loop-row-init

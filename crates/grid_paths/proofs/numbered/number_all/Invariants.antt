@@ -1,6 +1,6 @@
 use Rattle.std.proofs.Common.{◌≡◌}
+use Rattle.grid_paths.proofs.Common.{IsCounting}
 use Rattle.grid_base.specs.Table.{row_count, col_count}
-use Rattle.grid_paths.specs.Wave.{IsCounting}
 use Rattle.grid_paths.proofs.numbered.number_all.Given as goal
 
 abbrev pub invariant-loop-row : goal.invariant-loop-row

@@ -1,6 +1,6 @@
 use Rattle.std.proofs.Common.{Some, ◌∙◌, ap, arith}
-use Rattle.grid_paths.specs.Search.{IsMarked, HaveOneSize}
-use Rattle.grid_paths.proofs.CountLemmas.{IsScanned-marked, IsScanned-numbered}
+use Rattle.grid_paths.proofs.Common.{IsMarked, HaveOneSize}
+use Rattle.grid_paths.proofs.Lemmas.{IsScanned-marked, IsScanned-numbered}
 use Rattle.grid_paths.proofs.numbered.number_cell.Goals as goal
 
 pub number_region-requires : goal.number_region-requires

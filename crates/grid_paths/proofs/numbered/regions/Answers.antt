@@ -1,6 +1,6 @@
 use Rattle.std.proofs.Common.{sym, subst}
-use Rattle.grid_paths.proofs.CountLemmas.{AreNumbers-end, AreRegions-end}
-use Rattle.grid_paths.specs.Regions.{AreRegions, AreNumbers}
+use Rattle.grid_paths.proofs.Common.{AreRegions, AreNumbers}
+use Rattle.grid_paths.proofs.Lemmas.{AreNumbers-end, AreRegions-end}
 use Rattle.grid_paths.proofs.numbered.regions.Goals as goal
 
 pub returns-clause-numbers : goal.returns-clause-numbers

@@ -1,6 +1,6 @@
 use Rattle.std.proofs.Common.{ℕ}
-use Rattle.grid_paths.specs.Search.{IsMarked}
-use Rattle.grid_paths.proofs.AroundLemmas.{Before}
+use Rattle.grid_paths.proofs.Common.{IsMarked}
+use Rattle.grid_paths.proofs.Lemmas.{Before}
 use Rattle.grid_paths.proofs.path.first_with.Given as goal
 
 abbrev pub invariant-loop-near : goal.invariant-loop-near

@@ -1,8 +1,6 @@
 use Rattle.std.proofs.Common.{◌≡◌, suc, ◌+◌, ◌-◌, [], ◌∷◌, ◌++◌, Some, length, sym, ◌∙◌, ap, subst, arith, length-append}
-use Rattle.grid_paths.specs.Walks.{IsPath}
-use Rattle.grid_paths.specs.Search.{IsMarked}
-use Rattle.grid_paths.proofs.PathLemmas.{one_less, open_end, zero_at, IsPath-one, IsPath-push}
-use Rattle.grid_base.proofs.TableLemmas.{cell_in_range}
+use Rattle.grid_paths.proofs.Common.{IsPath, IsMarked, cell_in_range}
+use Rattle.grid_paths.proofs.Lemmas.{one_less, open_end, zero_at, IsPath-one, IsPath-push}
 use Rattle.grid_paths.proofs.path.follow.Goals as goal
 
 pub loop-left-init : goal.loop-left-init

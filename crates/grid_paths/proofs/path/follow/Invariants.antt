@@ -1,7 +1,6 @@
 use Rattle.std.proofs.Common.{◌≡◌, ℕ, Bool, List, ◌≤◌, ◌+◌, length}
 use Rattle.grid_near.specs.declared.steps.Steps.{Steps}
-use Rattle.grid_paths.specs.Walks.{IsPath}
-use Rattle.grid_paths.specs.Search.{IsMarked, HasLeastUpTo}
+use Rattle.grid_paths.proofs.Common.{IsPath, IsMarked, HasLeastUpTo}
 use Rattle.grid_paths.proofs.path.follow.Given as goal
 
 abbrev pub invariant-loop-left : goal.invariant-loop-left

@@ -1,7 +1,6 @@
 use Rattle.std.proofs.Common.{subst, sym}
-use Rattle.grid_paths.specs.Walks.{IsStep}
-use Rattle.grid_paths.specs.Search.{IsMarked}
-use Rattle.grid_paths.proofs.PathLemmas.{step_side, step_any}
+use Rattle.grid_paths.proofs.Common.{IsStep, IsMarked}
+use Rattle.grid_paths.proofs.Lemmas.{step_side, step_any}
 use Rattle.grid_paths.proofs.path.next_with.Goals as goal
 
 pub returns-in-Some : goal.returns-in-Some

@@ -1,8 +1,6 @@
 use Rattle.std.proofs.Common.{ℕ, refl, rules}
-use Rattle.grid_paths.specs.Search.{IsMarked}
-use Rattle.grid_paths.specs.Walks.{Walk, IsShortestPath}
-use Rattle.grid_paths.proofs.ClosureLemmas.{HoldsOfAnswers-is}
-use Rattle.grid_paths.proofs.PathLemmas.{IsShortestPath-from_number, no_walk}
+use Rattle.grid_paths.proofs.Common.{IsMarked, Walk, IsShortestPath}
+use Rattle.grid_paths.proofs.Lemmas.{HoldsOfAnswers-is, IsShortestPath-from_number, no_walk}
 use Rattle.grid_paths.proofs.path.shortest_path.Goals as goal
 
 pub follow-requires-clause-least : goal.follow-requires-clause-least

@@ -1,10 +1,6 @@
 use Rattle.std.proofs.Common.{◌≡◌, ◌<◌, ◌≤◌, length, refl, ◌∙◌, arith}
-use Rattle.grid_base.proofs.Common.{length-map, slice_get_read, row_count, col_count}
-use Rattle.grid_paths.specs.Taken.{places}
-use Rattle.grid_paths.proofs.AroundLemmas.{Contains-from_get}
-use Rattle.grid_paths.proofs.TakenLemmas.{set_is}
-use Rattle.grid_paths.proofs.FloodLemmas.{places_at}
-use Rattle.grid_paths.proofs.RegionLemmas.{IsWritten-start, IsWritten-next, IsWritten-all}
+use Rattle.grid_paths.proofs.Common.{length-map, slice_get_read, row_count, col_count, places}
+use Rattle.grid_paths.proofs.Lemmas.{Contains-from_get, set_is, places_at, IsWritten-start, IsWritten-next, IsWritten-all}
 use Rattle.grid_paths.proofs.region.fill_all.Goals as goal
 
 pub loop-x-init : goal.loop-x-init

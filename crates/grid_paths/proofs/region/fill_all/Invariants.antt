@@ -1,6 +1,5 @@
-use Rattle.grid_base.specs.GridValue.{SameSizeAndOrder}
-use Rattle.grid_paths.specs.Taken.{places, IsWritten}
-use Rattle.grid_paths.proofs.AroundLemmas.{Before}
+use Rattle.grid_paths.proofs.Common.{SameSizeAndOrder, places, IsWritten}
+use Rattle.grid_paths.proofs.Lemmas.{Before}
 use Rattle.grid_paths.proofs.region.fill_all.Given as goal
 
 abbrev pub invariant-loop-x : goal.invariant-loop-x

@@ -1,9 +1,6 @@
 use Rattle.std.proofs.Common.{◌≡◌, ℕ, Some, Contains, ◌∙◌, sym, subst, rules}
-use Rattle.grid_base.specs.Table.{InRange}
-use Rattle.grid_base.proofs.TableLemmas.{cell_in_range}
-use Rattle.grid_paths.specs.Walks.{IsFilled, alike}
-use Rattle.grid_paths.specs.Taken.{places, IsWritten}
-use Rattle.grid_paths.proofs.RegionLemmas.{IsFilled-flood, IsFilled-board, cells_mapped}
+use Rattle.grid_paths.proofs.Common.{InRange, cell_in_range, IsFilled, alike, places, IsWritten}
+use Rattle.grid_paths.proofs.Lemmas.{IsFilled-flood, IsFilled-board, cells_mapped}
 use Rattle.grid_paths.proofs.region.fill_region.Goals as goal
 
 pub fill_all-requires : goal.fill_all-requires

@@ -1,5 +1,5 @@
 use Rattle.std.proofs.Common.{◌∙◌}
-use Rattle.grid_base.proofs.ViewLemmas.{same_grid_value}
+use Rattle.grid_paths.proofs.Common.{same_grid_value}
 use Rattle.grid_paths.proofs.region.mark_region.Goals as goal
 
 pub returns-in-Err-clause-err : goal.returns-in-Err-clause-err

@@ -1,8 +1,6 @@
 use Rattle.std.proofs.Common.{◌≡◌, ◌+◌, ◌<◌, ◌≤◌, true, Some, sym, ◌∙◌, subst, arith, ⊎_elim}
-use Rattle.grid_base.proofs.Common.{cases_lt, cell, col_count}
-use Rattle.grid_paths.specs.Walks.{IsOpen, alike}
-use Rattle.grid_paths.proofs.AlikeLemmas.{open_alike}
-use Rattle.grid_paths.proofs.RegionLemmas.{outward_at, one_outward}
+use Rattle.grid_paths.proofs.Common.{cases_lt, cell, col_count, IsOpen, alike}
+use Rattle.grid_paths.proofs.Lemmas.{open_alike, outward_at, one_outward}
 use Rattle.grid_paths.proofs.region.other_in_row.Goals as goal
 
 pub loop-i-preserved : goal.loop-i-preserved

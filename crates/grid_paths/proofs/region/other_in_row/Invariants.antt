@@ -1,5 +1,5 @@
 use Rattle.std.proofs.Common.{◌≡◌, ℕ, ◌+◌, ◌<◌, ◌≤◌}
-use Rattle.grid_paths.specs.Walks.{IsOpen, alike}
+use Rattle.grid_paths.proofs.Common.{IsOpen, alike}
 use Rattle.grid_paths.proofs.region.other_in_row.Given as goal
 
 abbrev pub invariant-loop-i : goal.invariant-loop-i

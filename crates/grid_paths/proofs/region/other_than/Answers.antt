@@ -1,7 +1,6 @@
 use Rattle.std.proofs.Common.{◌≡◌, ◌+◌, ◌<◌, ◌≤◌, sym, subst, arith, ⊎_elim}
-use Rattle.grid_base.proofs.Common.{cases_lt, row_count}
-use Rattle.grid_paths.specs.Walks.{IsOpen, alike}
-use Rattle.grid_paths.proofs.RegionLemmas.{outward_at, one_outward}
+use Rattle.grid_paths.proofs.Common.{cases_lt, row_count, IsOpen, alike}
+use Rattle.grid_paths.proofs.Lemmas.{outward_at, one_outward}
 use Rattle.grid_paths.proofs.region.other_than.Goals as goal
 
 pub loop-i-preserved : goal.loop-i-preserved

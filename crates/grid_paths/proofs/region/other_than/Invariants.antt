@@ -1,6 +1,5 @@
 use Rattle.std.proofs.Common.{◌≡◌, ℕ, ◌+◌, ◌<◌, ◌≤◌}
-use Rattle.grid_base.specs.Table.{InRange}
-use Rattle.grid_paths.specs.Walks.{IsOpen, alike}
+use Rattle.grid_paths.proofs.Common.{InRange, IsOpen, alike}
 use Rattle.grid_paths.proofs.region.other_than.Given as goal
 
 abbrev pub invariant-loop-i : goal.invariant-loop-i

@@ -1,7 +1,6 @@
 use Rattle.std.proofs.Common.{◌≡◌, [], ◌∷◌, ◌++◌, sym, ◌∙◌, ap}
-use Rattle.grid_base.specs.Table.{with_cell}
-use Rattle.grid_paths.specs.Taken.{undone}
-use Rattle.grid_paths.proofs.TakenLemmas.{set_is, undone-push}
+use Rattle.grid_paths.proofs.Common.{with_cell, undone}
+use Rattle.grid_paths.proofs.Lemmas.{set_is, undone-push}
 use Rattle.grid_paths.proofs.region.put_back.Goals as goal
 
 pub loop-x-preserved : goal.loop-x-preserved

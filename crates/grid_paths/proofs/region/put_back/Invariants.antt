@@ -1,6 +1,5 @@
 use Rattle.std.proofs.Common.{◌≡◌, length}
-use Rattle.grid_base.specs.GridValue.{SameSizeAndOrder}
-use Rattle.grid_paths.specs.Taken.{undone}
+use Rattle.grid_paths.proofs.Common.{SameSizeAndOrder, undone}
 use Rattle.grid_paths.proofs.region.put_back.Given as goal
 
 abbrev pub invariant-loop-x : goal.invariant-loop-x

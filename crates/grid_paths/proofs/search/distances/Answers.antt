@@ -1,8 +1,6 @@
 use Rattle.std.proofs.Common.{refl}
-use Rattle.std.proofs.lemmas.Result.{IfOk-weaker}
-use Rattle.grid_paths.specs.Walks.{HasLeastSteps}
-use Rattle.grid_paths.proofs.ClosureLemmas.{HoldsOfAnswers-if_ok}
-use Rattle.grid_paths.proofs.SearchLemmas.{HasLeastSteps-one}
+use Rattle.grid_paths.proofs.Common.{IfOk-weaker, HasLeastSteps}
+use Rattle.grid_paths.proofs.Lemmas.{HoldsOfAnswers-if_ok, HasLeastSteps-one}
 use Rattle.grid_paths.proofs.search.distances.Goals as goal
 
 pub returns-clause-least : goal.returns-clause-least

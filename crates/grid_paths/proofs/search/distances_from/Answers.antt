@@ -1,6 +1,6 @@
 use Rattle.std.proofs.Common.{rules}
-use Rattle.grid_paths.specs.Walks.{HasLeastFrom}
-use Rattle.grid_paths.proofs.ClosureLemmas.{HoldsOfAnswers-if_ok}
+use Rattle.grid_paths.proofs.Common.{HasLeastFrom}
+use Rattle.grid_paths.proofs.Lemmas.{HoldsOfAnswers-if_ok}
 use Rattle.grid_paths.proofs.search.distances_from.Goals as goal
 
 pub returns-clause-least : goal.returns-clause-least

@@ -1,12 +1,6 @@
 use Rattle.std.proofs.Common.{◌≡◌, true, ℕ, ◌<◌, ◌≤◌, ◌+◌, ◌*◌, Option, Some, None, length, get_or, [], ◌∷◌, ◌++◌, Contains, refl, sym, ◌∙◌, ap, subst, arith, rules, slice_get, length-append}
-use Rattle.grid_base.proofs.Common.{slice_get-get_or, row_count, col_count, cell}
-use Rattle.grid_paths.specs.Walks.{IsOpen, HasLeastFrom}
-use Rattle.grid_paths.specs.Search.{IsMarked}
-use Rattle.grid_paths.proofs.SearchLemmas.{IsSearch, HasLeastSteps-one, IsSettled-end, IsSettled-found}
-use Rattle.grid_paths.proofs.QueueLemmas.{IsTrimmed-start, IsTrimmed-round, IsTrimmed-trim, next_at, HasLeastFrom-trimmed, unreached_cells}
-use Rattle.grid_paths.proofs.StepLemmas.{none_at, none_marked, IsStarted, IsStarted-empty, IsStarted-reach, started_all}
-use Rattle.grid_paths.proofs.LeftLemmas.{IsLeft-start}
-use Rattle.grid_base.proofs.TableLemmas.{cell_in_range}
+use Rattle.grid_paths.proofs.Common.{slice_get-get_or, row_count, col_count, cell, IsOpen, HasLeastFrom, IsMarked, cell_in_range}
+use Rattle.grid_paths.proofs.Lemmas.{IsSearch, HasLeastSteps-one, IsSettled-end, IsSettled-found, IsTrimmed-start, IsTrimmed-round, IsTrimmed-trim, next_at, HasLeastFrom-trimmed, unreached_cells, none_at, none_marked, IsStarted, IsStarted-empty, IsStarted-reach, started_all, IsLeft-start}
 use Rattle.grid_paths.proofs.search.search_from.Goals as goal
 
 pub loop-start-init : goal.loop-start-init

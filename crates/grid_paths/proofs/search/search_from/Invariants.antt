@@ -1,9 +1,8 @@
 use Rattle.std.proofs.Common.{◌≡◌, ℕ, ◌+◌, ◌*◌, ◌-◌, ◌≤◌, length, Contains}
+use Rattle.grid_paths.proofs.Common.{IsOpen, IsMarked, HaveOneSize, unreached}
+use Rattle.grid_paths.proofs.Lemmas.{IsTrimmed, IsStarted}
 use Rattle.grid_base.specs.Table.{row_count, col_count}
-use Rattle.grid_paths.specs.Walks.{IsOpen}
-use Rattle.grid_paths.specs.Search.{IsMarked, IsLeft, HaveOneSize, unreached}
-use Rattle.grid_paths.proofs.QueueLemmas.{IsTrimmed}
-use Rattle.grid_paths.proofs.StepLemmas.{IsStarted}
+use Rattle.grid_paths.specs.Search.{IsLeft}
 use Rattle.grid_paths.proofs.search.search_from.Given as goal
 
 abbrev pub invariant-loop-start : goal.invariant-loop-start

@@ -1,5 +1,5 @@
 use Rattle.std.proofs.Common.{◌≡◌, ◌+◌, ◌-◌, ◌++◌, length, take, drop, sym, ap, ◌∙◌, arith, length-drop, length-take-le, take_all, take-append-drop}
-use Rattle.grid_base.proofs.Common.{paste, take-paste}
+use Rattle.grid_paths.proofs.Common.{paste, take-paste}
 use Rattle.grid_paths.proofs.search.trim.Goals as goal
 
 pub returns : goal.returns

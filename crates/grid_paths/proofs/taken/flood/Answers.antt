@@ -1,10 +1,7 @@
 use Rattle.std.proofs.Common.{refl, sym, ◌∙◌, ap, subst}
-use Rattle.std.proofs.lemmas.Result.{IfOk-weaker}
-use Rattle.grid_paths.specs.Flood.{IsFlood}
-use Rattle.grid_paths.specs.Taken.{places}
+use Rattle.grid_paths.proofs.Common.{IfOk-weaker, IsFlood, places}
+use Rattle.grid_paths.proofs.Lemmas.{HoldsOfAnswers-if_ok, answers-same, way-same}
 use Rattle.grid_paths.specs.contracts.taken.EnterPartialEq.TheImpl.{ghosts}
-use Rattle.grid_paths.proofs.ClosureLemmas.{HoldsOfAnswers-if_ok}
-use Rattle.grid_paths.proofs.FloodLemmas.{answers-same, way-same}
 use Rattle.grid_paths.proofs.taken.flood.Goals as goal
 
 pub returns : goal.returns

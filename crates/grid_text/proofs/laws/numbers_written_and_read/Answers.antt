@@ -1,11 +1,7 @@
 -- What is read of the text of a table of numbers is the table.
 use Rattle.std.proofs.Common.{◌≡◌, ◌∙◌, ap, Ok}
-use Rattle.text_lines.specs.Lines.{lines_of}
-use Rattle.grid.specs.Texts.{numbers}
-use Rattle.grid_text.specs.Reading.{reading_words}
-use Rattle.grid_text.specs.Writing.{numbers_text}
-use Rattle.grid_text.proofs.NumberTextLemmas.{numbers_back}
-use Rattle.grid_text.proofs.TableLemmas.{back_ok, back_err}
+use Rattle.grid_text.proofs.Common.{lines_of, numbers, reading_words, numbers_text}
+use Rattle.grid_text.proofs.Lemmas.{numbers_back, back_ok, back_err}
 use Rattle.grid_text.proofs.laws.numbers_written_and_read.Goals as goal
 
 pub returns-clause-ok : goal.returns-clause-ok

@@ -1,10 +1,7 @@
 -- What is read of the text of a table is the table.
 use Rattle.std.proofs.Common.{◌≡◌, ◌∙◌, ap, Ok}
-use Rattle.text_lines.specs.Lines.{lines_of}
-use Rattle.grid_text.specs.Reading.{reading}
-use Rattle.grid_text.specs.Writing.{table_text}
-use Rattle.grid_text.proofs.LawLemmas.{reads_back}
-use Rattle.grid_text.proofs.TableLemmas.{back_ok, back_err}
+use Rattle.grid_text.proofs.Common.{lines_of, reading, table_text}
+use Rattle.grid_text.proofs.Lemmas.{reads_back, back_ok, back_err}
 use Rattle.grid_text.proofs.laws.written_and_read.Goals as goal
 
 pub returns-clause-ok : goal.returns-clause-ok

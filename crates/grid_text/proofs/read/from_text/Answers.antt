@@ -1,8 +1,7 @@
 -- What may be read is what the closure says of characters.
 use Rattle.std.proofs.Common.{chars}
-use Rattle.text_lines.specs.Lines.{lines_of}
-use Rattle.grid_text.specs.Reading.{AnswersChar, bad_char}
-use Rattle.grid_text.proofs.TableLemmas.{is_read, fewer_read}
+use Rattle.grid_text.proofs.Common.{lines_of, AnswersChar, bad_char}
+use Rattle.grid_text.proofs.Lemmas.{is_read, fewer_read}
 use Rattle.grid_text.proofs.read.from_text.Goals as goal
 
 pub returns-clause-reads : goal.returns-clause-reads

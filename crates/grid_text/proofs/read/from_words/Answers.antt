@@ -1,7 +1,6 @@
 use Rattle.std.proofs.Common.{rules}
-use Rattle.text_lines.specs.Lines.{words_of, lines_of}
-use Rattle.grid_text.specs.Reading.{bad_word}
-use Rattle.grid_text.proofs.TableLemmas.{fewer_read}
+use Rattle.grid_text.proofs.Common.{words_of, lines_of, bad_word}
+use Rattle.grid_text.proofs.Lemmas.{fewer_read}
 use Rattle.grid_text.proofs.read.from_words.Goals as goal
 
 pub returns-clause-answers : goal.returns-clause-answers

@@ -1,8 +1,7 @@
 -- One line more: a row, or the first that is none.
 use Rattle.std.proofs.Common.{◌≡◌, ◌<◌, inr, length, arith, rules}
-use Rattle.std.proofs.lemmas.Result.{err_from_is_err_and}
-use Rattle.grid_text.proofs.ReadLemmas.{lines_start, lines_more, lines_bad, lines_ragged, lines_end, even_cols}
-use Rattle.grid_text.proofs.TableLemmas.{can_cut, cut_rows}
+use Rattle.grid_text.proofs.Common.{err_from_is_err_and}
+use Rattle.grid_text.proofs.Lemmas.{lines_start, lines_more, lines_bad, lines_ragged, lines_end, even_cols, can_cut, cut_rows}
 use Rattle.grid_text.proofs.read.read_lines.Goals as goal
 use Rattle.grid_text.proofs.read.read_lines.Goals.{else-line-gt1-via-then-line-gt1+else-len-cols, else-line-gt1-via-else-line-gt1}
 

@@ -1,6 +1,6 @@
 -- The rows of the lines so far, before a text that is left.
 use Rattle.std.proofs.Common.{length, IsUtf8}
-use Rattle.grid_text.proofs.ReadLemmas.{LinesSoFar}
+use Rattle.grid_text.proofs.Lemmas.{LinesSoFar}
 use Rattle.grid_text.proofs.read.read_lines.Given as goal
 
 abbrev pub invariant-loop-rest : goal.invariant-loop-rest

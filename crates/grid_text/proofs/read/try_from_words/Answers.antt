@@ -1,8 +1,7 @@
 -- What may be read is what the closure says of words.
 use Rattle.std.proofs.Common.{sym}
-use Rattle.text_lines.specs.Lines.{words_of, lines_of}
-use Rattle.grid_text.specs.Reading.{TriesWord, bad_word}
-use Rattle.grid_text.proofs.TableLemmas.{is_read}
+use Rattle.grid_text.proofs.Common.{words_of, lines_of, TriesWord, bad_word}
+use Rattle.grid_text.proofs.Lemmas.{is_read}
 use Rattle.grid_text.proofs.read.try_from_words.Goals as goal
 
 pub returns-clause-reads : goal.returns-clause-reads

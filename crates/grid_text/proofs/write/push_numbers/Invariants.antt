@@ -1,7 +1,7 @@
 -- The numbers so far, before those that are left, each behind a space.
 use Rattle.std.proofs.Common.{◌≡◌, ◌++◌, ◌∷◌, map, flat_map, string_bytes}
 use Rattle.std.specs.Fmt.{signed_decimal}
-use Rattle.grid_text.specs.Writing.{line_of_numbers}
+use Rattle.grid_text.proofs.Common.{line_of_numbers}
 use Rattle.grid_text.proofs.write.push_numbers.Given as goal
 
 abbrev pub invariant-loop-cell : goal.invariant-loop-cell

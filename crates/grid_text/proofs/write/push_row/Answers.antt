@@ -1,7 +1,7 @@
 -- One cell more.
 use Rattle.std.proofs.Common.{◌∙◌, [], sym, subst, refl, append-nil, string_bytes}
-use Rattle.grid_text.specs.Writing.{AnswersCell, MayWriteLine}
-use Rattle.grid_text.proofs.WriteLemmas.{cell_more}
+use Rattle.grid_text.proofs.Common.{AnswersCell, MayWriteLine}
+use Rattle.grid_text.proofs.Lemmas.{cell_more}
 use Rattle.grid_text.proofs.write.push_row.Goals as goal
 
 pub loop-cell-init : goal.loop-cell-init

@@ -1,6 +1,6 @@
 -- The cells so far, before those that are left.
 use Rattle.std.proofs.Common.{◌≡◌, ◌++◌, ℕ, List, string_bytes}
-use Rattle.grid_text.specs.Writing.{AnswersCell, MayWriteLine}
+use Rattle.grid_text.proofs.Common.{AnswersCell, MayWriteLine}
 use Rattle.grid_text.proofs.write.push_row.Given as goal
 
 abbrev pub invariant-loop-cell : goal.invariant-loop-cell

@@ -1,7 +1,7 @@
 -- One row more, and its line feed.
 use Rattle.std.proofs.Common.{◌≡◌, ◌∙◌, ◌++◌, [], refl, ap, sym, subst, append-nil, string_bytes}
-use Rattle.grid_text.specs.Writing.{AnswersCell, MayWriteRows}
-use Rattle.grid_text.proofs.WriteLemmas.{row_may, rows_written}
+use Rattle.grid_text.proofs.Common.{AnswersCell, MayWriteRows}
+use Rattle.grid_text.proofs.Lemmas.{row_may, rows_written}
 use Rattle.grid_text.proofs.write.to_text.Goals as goal
 
 pub loop-row-init : goal.loop-row-init

@@ -1,6 +1,6 @@
 -- The rows so far, before those that are left.
 use Rattle.std.proofs.Common.{◌++◌, ℕ, List, string_bytes}
-use Rattle.grid_text.specs.Writing.{AnswersCell, MayWriteRows}
+use Rattle.grid_text.proofs.Common.{AnswersCell, MayWriteRows}
 use Rattle.grid_text.proofs.write.to_text.Given as goal
 
 abbrev pub invariant-loop-row : goal.invariant-loop-row

@@ -1,8 +1,7 @@
 -- One row more, and its line feed.
 use Rattle.std.proofs.Common.{ap}
-use Rattle.grid.specs.Texts.{numbers}
-use Rattle.grid_text.specs.Writing.{line_of_numbers}
-use Rattle.grid_text.proofs.WriteLemmas.{row_more}
+use Rattle.grid_text.proofs.Common.{numbers, line_of_numbers}
+use Rattle.grid_text.proofs.Lemmas.{row_more}
 use Rattle.grid_text.proofs.write.to_words.Goals as goal
 
 pub loop-row-preserved : goal.loop-row-preserved

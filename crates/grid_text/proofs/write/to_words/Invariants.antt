@@ -1,7 +1,6 @@
 -- The rows so far, before those that are left.
 use Rattle.std.proofs.Common.{◌≡◌, ◌++◌, string_bytes}
-use Rattle.grid.specs.Texts.{numbers}
-use Rattle.grid_text.specs.Writing.{numbers_text}
+use Rattle.grid_text.proofs.Common.{numbers, numbers_text}
 use Rattle.grid_text.proofs.write.to_words.Given as goal
 
 abbrev pub invariant-loop-row : goal.invariant-loop-row

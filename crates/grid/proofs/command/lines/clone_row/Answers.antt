@@ -1,8 +1,8 @@
 use Rattle.std.proofs.Common.{◌≡◌, ◌++◌, [], ◌∷◌, take, sym, ap, ◌∙◌, arith}
+use Rattle.grid.proofs.Common.{take_next}
+use Rattle.grid.proofs.Lemmas.{whole_row}
 use Rattle.grid_base.specs.Table.{row}
-use Rattle.grid.proofs.TextLemmas.{whole_row}
 use Rattle.grid.proofs.command.lines.clone_row.Goals as goal
-use Rattle.grid_base.proofs.ClosureLemmas.{take_next}
 
 pub loop-col-preserved : goal.loop-col-preserved
 loop-col-preserved g c = record {

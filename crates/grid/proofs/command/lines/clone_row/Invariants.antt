@@ -1,5 +1,5 @@
 use Rattle.std.proofs.Common.{◌≡◌, ◌≤◌, take, vec_len, vec_capacity}
-use Rattle.grid_base.proofs.Common.{row, ClonesAreEqual}
+use Rattle.grid.proofs.Common.{row, ClonesAreEqual}
 use Rattle.grid.proofs.command.lines.clone_row.Given as goal
 
 abbrev pub invariant-loop-col : goal.invariant-loop-col

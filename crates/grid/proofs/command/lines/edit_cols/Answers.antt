@@ -1,5 +1,4 @@
-use Rattle.grid.proofs.ColEditLemmas.{rows-across, cols-across}
-use Rattle.grid.proofs.LineEditLemmas.{crossed_edit}
+use Rattle.grid.proofs.Lemmas.{rows-across, cols-across, crossed_edit}
 use Rattle.grid.proofs.command.lines.edit_cols.Goals as goal
 
 pub returns-clause-edited : goal.returns-clause-edited

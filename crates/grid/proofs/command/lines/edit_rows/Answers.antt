@@ -1,5 +1,5 @@
 use Rattle.std.proofs.Common.{◌∙◌}
-use Rattle.grid.proofs.LineEditLemmas.{done_edit, pushed_edit, removed_rows, removed_reply, popped_rows, popped_reply, range_rows, range_reply, delete_rows_one, delete_reply_one}
+use Rattle.grid.proofs.Lemmas.{done_edit, pushed_edit, removed_rows, removed_reply, popped_rows, popped_reply, range_rows, range_reply, delete_rows_one, delete_reply_one}
 use Rattle.grid.proofs.command.lines.edit_rows.Goals as goal
 
 pub returns-in-Push-clause-edited : goal.returns-in-Push-clause-edited

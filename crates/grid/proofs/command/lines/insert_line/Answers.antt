@@ -1,4 +1,4 @@
-use Rattle.grid.proofs.LineEditLemmas.{refused_edit}
+use Rattle.grid.proofs.Lemmas.{refused_edit}
 use Rattle.grid.proofs.command.lines.insert_line.Goals as goal
 
 pub returns-in-Some : goal.returns-in-Some

@@ -1,8 +1,6 @@
 use Rattle.std.proofs.Common.{◌≡◌, ◌∙◌, None, rules}
-use Rattle.grid_base.proofs.Common.{items_of_each, row_count, col_count}
-use Rattle.grid_commands.specs.Command.{insert_all}
-use Rattle.grid_commands.specs.Refusal.{lines_refusal}
-use Rattle.grid.proofs.LineEditLemmas.{done_rows, done_reply, done_edit, refused_edit, insert_all_memory}
+use Rattle.grid.proofs.Common.{items_of_each, row_count, col_count, insert_all, lines_refusal}
+use Rattle.grid.proofs.Lemmas.{done_rows, done_reply, done_edit, refused_edit, insert_all_memory}
 use Rattle.grid.proofs.command.lines.insert_lines.Goals.{in-Ok, in-Err}
 use Rattle.grid.proofs.command.lines.insert_lines.Goals as goal
 

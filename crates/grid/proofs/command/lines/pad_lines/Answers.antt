@@ -1,7 +1,7 @@
 use Rattle.std.proofs.Common.{◌≡◌, Some, None, if◌then◌else◌, ◌∙◌, rules}
+use Rattle.grid.proofs.Common.{pad_refusal}
+use Rattle.grid.proofs.Lemmas.{refused_edit, pad_none, padded_rows, padded_reply}
 use Rattle.grid_base.specs.Table.{row_count, col_count}
-use Rattle.grid_commands.specs.Refusal.{pad_refusal}
-use Rattle.grid.proofs.LineEditLemmas.{refused_edit, pad_none, padded_rows, padded_reply}
 use Rattle.grid.proofs.command.lines.pad_lines.Goals.{then-at_end, else-at_end}
 use Rattle.grid.proofs.command.lines.pad_lines.Goals as goal
 

@@ -1,6 +1,6 @@
 use Rattle.std.proofs.Common.{Some, ap, ◌∙◌, refl, arith}
-use Rattle.grid_commands.specs.Reply.{line_is}
-use Rattle.grid.proofs.LineEditLemmas.{read_rows, read_some, read_none}
+use Rattle.grid.proofs.Common.{line_is}
+use Rattle.grid.proofs.Lemmas.{read_rows, read_some, read_none}
 use Rattle.grid.proofs.command.lines.read_row.Goals as goal
 
 pub returns-then-at-rows : goal.returns-then-at-rows

@@ -1,8 +1,6 @@
 use Rattle.std.proofs.Common.{◌≡◌, ◌<◌, suc, List, refl, inl, Result, Ok, Err, OnOk, OnErr, true, false, ◌∙◌, ◌++◌, ◌∷◌, [], length, map, sym, ap, arith, length-append, append_assoc, is_err, append-nil}
-use Rattle.grid_base.proofs.Common.{into_iter_items, map-append, nil_from_length}
-use Rattle.grid_commands.specs.Command.{command_value}
-use Rattle.grid_commands.specs.Reply.{reply_value}
-use Rattle.grid.proofs.RunLemmas.{running_none, running_more, ran_still, take_values, get_value, some_values, may_stop}
+use Rattle.grid.proofs.Common.{into_iter_items, map-append, nil_from_length, command_value, reply_value}
+use Rattle.grid.proofs.Lemmas.{running_none, running_more, ran_still, take_values, get_value, some_values, may_stop}
 use Rattle.grid.proofs.command.runs.run.Goals as goal
 
 on_ok : {T E : Type 0} (r : Result T E) (P : Type 0) → is_err r ≡ false → OnOk r P → P

@@ -1,8 +1,7 @@
 use Rattle.std.proofs.Common.{◌≡◌, ◌++◌, ◌≤◌, length, map, vec_len, vec_capacity}
 use Rattle.std.specs.Vec.Iter.{into_iter_items}
-use Rattle.grid_commands.specs.Command.{command_value}
-use Rattle.grid_commands.specs.Reply.{reply_value}
-use Rattle.grid.proofs.RunLemmas.{Running}
+use Rattle.grid.proofs.Common.{command_value, reply_value}
+use Rattle.grid.proofs.Lemmas.{Running}
 use Rattle.grid.proofs.command.runs.run.Given as goal
 
 abbrev pub invariant-loop-command : goal.invariant-loop-command

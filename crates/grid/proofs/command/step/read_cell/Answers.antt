@@ -1,5 +1,5 @@
 use Rattle.std.proofs.Common.{sym, ◌∙◌}
-use Rattle.grid.proofs.LineEditLemmas.{get_past}
+use Rattle.grid.proofs.Lemmas.{get_past}
 use Rattle.grid.proofs.command.step.read_cell.Goals as goal
 
 pub returns-then-not-has_cell-clause-reply : goal.returns-then-not-has_cell-clause-reply

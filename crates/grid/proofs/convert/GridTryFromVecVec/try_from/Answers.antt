@@ -1,5 +1,5 @@
 use Rattle.std.proofs.Common.{ap, length, map, List}
-use Rattle.grid.proofs.ConversionLemmas.{CanCut-rows, rows_shape, rows_equal}
+use Rattle.grid.proofs.Lemmas.{CanCut-rows, rows_shape, rows_equal}
 use Rattle.grid.proofs.convert.GridTryFromVecVec.try_from.Goals as goal
 
 pub from_vec-requires : goal.from_vec-requires

@@ -1,8 +1,8 @@
 -- One more row, behind a line feed where it isn't the first.
 use Rattle.std.proofs.Common.{rules, ◌≡◌, take, arith, cond, ltb, [], ◌∷◌, Some, Ok, take_all}
-use Rattle.grid_base.proofs.Common.{◌++?◌, shows_then, shows_from, displays_from, get_or_default, row}
-use Rattle.grid.specs.DisplayText.{items_text, lines_text}
-use Rattle.grid.proofs.DisplayLemmas.{items-next}
+use Rattle.grid.proofs.Common.{shows_then, shows_from, displays_from, get_or_default, row, items_text, lines_text}
+use Rattle.grid.proofs.Lemmas.{items-next}
+use Rattle.grid_base.proofs.Common.{◌++?◌}
 use Rattle.grid.proofs.display.GridDisplay.fmt.Goals as goal
 
 pub loop-row-preserved : goal.loop-row-preserved

@@ -1,7 +1,7 @@
 -- The rows so far.
 use Rattle.std.proofs.Common.{take, IfSome}
 use Rattle.std.specs.Fmt.{HasWritten, IsPlainFormatter}
-use Rattle.grid.specs.DisplayText.{lines_text}
+use Rattle.grid.proofs.Common.{lines_text}
 use Rattle.grid.proofs.display.GridDisplay.fmt.Given as goal
 
 abbrev pub invariant-loop-row : goal.invariant-loop-row

@@ -1,4 +1,4 @@
-use Rattle.grid.proofs.LayoutLemmas.{relaid_rows, relaid_cols}
+use Rattle.grid.proofs.Lemmas.{relaid_rows, relaid_cols}
 use Rattle.grid.proofs.edits.layout.relay.Goals as goal
 
 pub returns-in-RowMajor-clause-table : goal.returns-in-RowMajor-clause-table

@@ -1,11 +1,7 @@
 use Rattle.std.proofs.Common.{◌≡◌, ◌∙◌, sym, ap, arith}
-use Rattle.grid_base.proofs.Common.{act, row_count, col_count}
+use Rattle.grid.proofs.Common.{act, row_count, col_count, insert_cols, act_is_transposed}
+use Rattle.grid.proofs.Lemmas.{across-none, fits_across, cols_inserted, twice_across, put_last}
 use Rattle.grid_base.specs.declared.words.Symmetry.TheVariants.{Transpose}
-use Rattle.grid.specs.Edits.{insert_cols}
-use Rattle.grid_base.proofs.ActLemmas.{act_is_transposed}
-use Rattle.grid.proofs.ColEditLemmas.{across-none}
-use Rattle.grid.proofs.TransposedEditLemmas.{fits_across, cols_inserted, twice_across}
-use Rattle.grid.proofs.AppendLemmas.{put_last}
 use Rattle.grid.proofs.grid.Grid.append_cols.Goals as goal
 
 pub append_rows-appended-requires : goal.append_rows-appended-requires

@@ -1,9 +1,6 @@
 use Rattle.std.proofs.Common.{rules, ◌≡◌, [], ◌++◌, sym, ◌∙◌, ap, length, length-append, Err, arith}
-use Rattle.grid_base.proofs.Common.{row_count, col_count, storage}
-use Rattle.grid_base.proofs.StorageLemmas.{length-storage}
-use Rattle.grid_base.proofs.ViewLemmas.{same_grid_value}
-use Rattle.grid.proofs.AppendLemmas.{rows_appended, cols_appended}
-use Rattle.grid.proofs.SplitLemmas.{times_none, same_cut, can_cut_again}
+use Rattle.grid.proofs.Common.{row_count, col_count, storage, length-storage, same_grid_value}
+use Rattle.grid.proofs.Lemmas.{rows_appended, cols_appended, times_none, same_cut, can_cut_again}
 use Rattle.grid.proofs.grid.Grid.append_rows.Goals as goal
 
 pub destroy_empty-requires : goal.destroy_empty-requires

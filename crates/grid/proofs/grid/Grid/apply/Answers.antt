@@ -1,5 +1,5 @@
 use Rattle.std.proofs.Common.{rules, ◌∙◌, sym}
-use Rattle.grid_base.proofs.GroupLemmas.{normal-acts}
+use Rattle.grid.proofs.Common.{normal-acts}
 use Rattle.grid.proofs.grid.Grid.apply.Goals as goal
 
 pub returns-clause-words : goal.returns-clause-words

@@ -1,7 +1,7 @@
 use Rattle.std.proofs.Common.{rules, ◌∙◌, ap}
+use Rattle.grid.proofs.Common.{rows-act, cols-act}
+use Rattle.grid.proofs.Lemmas.{after_transpose, from_its_flags, transpose_then_flips, price_of_flips, transposed_rows, transposed_cols}
 use Rattle.grid_base.specs.Table.{row_count, col_count}
-use Rattle.grid_base.proofs.ActLemmas.{rows-act, cols-act}
-use Rattle.grid.proofs.FlipLemmas.{after_transpose, from_its_flags, transpose_then_flips, price_of_flips, transposed_rows, transposed_cols}
 use Rattle.grid.proofs.grid.Grid.apply_counted.Goals.{then-transposes, else-transposes}
 use Rattle.grid.proofs.grid.Grid.apply_counted.Goals as goal
 

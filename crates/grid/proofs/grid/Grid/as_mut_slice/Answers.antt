@@ -1,6 +1,5 @@
 use Rattle.std.proofs.Common.{◌∙◌, sym, refl}
-use Rattle.grid.proofs.SeenLemmas.{seen_storage}
-use Rattle.grid.proofs.SeenIteratorLemmas.{seen_refilled, seen_keeps}
+use Rattle.grid.proofs.Lemmas.{seen_storage, seen_refilled, seen_keeps}
 use Rattle.grid.proofs.grid.Grid.as_mut_slice.Goals as goal
 
 pub returns : goal.returns

@@ -1,5 +1,5 @@
 use Rattle.std.proofs.Common.{sym, ◌∙◌}
-use Rattle.grid.proofs.SeenLemmas.{seen_storage}
+use Rattle.grid.proofs.Lemmas.{seen_storage}
 use Rattle.grid.proofs.grid.Grid.as_slice.Goals as goal
 
 pub returns : goal.returns

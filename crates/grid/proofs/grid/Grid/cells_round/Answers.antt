@@ -1,7 +1,6 @@
 use Rattle.std.proofs.Common.{◌∙◌, ap}
-use Rattle.grid_near.specs.Neighbors.{round_of}
-use Rattle.grid.proofs.NearLemmas.{gives_round}
-use Rattle.grid.proofs.SeenLemmas.{seen_row_in, seen_col_in}
+use Rattle.grid.proofs.Common.{round_of}
+use Rattle.grid.proofs.Lemmas.{gives_round, seen_row_in, seen_col_in}
 use Rattle.grid.proofs.grid.Grid.cells_round.Goals as goal
 
 pub returns-clause-gives : goal.returns-clause-gives

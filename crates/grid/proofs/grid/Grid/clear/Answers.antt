@@ -1,5 +1,5 @@
 use Rattle.std.proofs.Common.{rules}
-use Rattle.grid_base.proofs.ViewLemmas.{table_of-none}
+use Rattle.grid.proofs.Common.{table_of-none}
 use Rattle.grid.proofs.grid.Grid.clear.Goals as goal
 
 pub returns-clause-rows : goal.returns-clause-rows

@@ -1,5 +1,5 @@
 use Rattle.std.proofs.Common.{rules}
-use Rattle.grid.proofs.SeenLemmas.{seen_same}
+use Rattle.grid.proofs.Lemmas.{seen_same}
 use Rattle.grid.proofs.grid.Grid.clone.Goals as goal
 
 pub returns : goal.returns

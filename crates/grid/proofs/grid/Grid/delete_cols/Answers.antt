@@ -1,6 +1,6 @@
 use Rattle.grid_base.specs.declared.words.Symmetry.TheVariants.{Transpose}
-use Rattle.grid_base.proofs.ActLemmas.{rows-act}
-use Rattle.grid.proofs.TransposedEditLemmas.{cols_taken}
+use Rattle.grid.proofs.Common.{rows-act}
+use Rattle.grid.proofs.Lemmas.{cols_taken}
 use Rattle.grid.proofs.grid.Grid.delete_cols.Goals as goal
 
 pub returns-clause-found : goal.returns-clause-found

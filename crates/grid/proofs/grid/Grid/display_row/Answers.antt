@@ -1,9 +1,8 @@
 -- One more cell, behind a space where it isn't the first.
 use Rattle.std.proofs.Common.{sym, rules, ◌≡◌, take, arith, cond, ltb, [], ◌∷◌, Some, Ok}
-use Rattle.grid_base.proofs.Common.{◌++?◌, shows_part_then, shows_from, displays_from, slice_get_within, get_or_from_slice_get, row}
-use Rattle.grid.specs.DisplayText.{items_text}
-use Rattle.grid.proofs.DisplayLemmas.{items-next}
-use Rattle.grid.proofs.TextLemmas.{whole_row}
+use Rattle.grid.proofs.Common.{shows_part_then, shows_from, displays_from, slice_get_within, get_or_from_slice_get, row, items_text}
+use Rattle.grid.proofs.Lemmas.{items-next, whole_row}
+use Rattle.grid_base.proofs.Common.{◌++?◌}
 use Rattle.grid.proofs.grid.Grid.display_row.Goals as goal
 
 pub loop-col-preserved : goal.loop-col-preserved

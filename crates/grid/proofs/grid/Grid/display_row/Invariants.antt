@@ -1,7 +1,7 @@
 -- What is before the row, and the cells so far.
 use Rattle.std.proofs.Common.{[], codes, take, Some, IfSome}
-use Rattle.grid_base.proofs.Common.{◌++?◌, HasWritten, IsPlainFormatter, row}
-use Rattle.grid.specs.DisplayText.{items_text}
+use Rattle.grid.proofs.Common.{HasWritten, IsPlainFormatter, row, items_text}
+use Rattle.grid_base.proofs.Common.{◌++?◌}
 use Rattle.grid.proofs.grid.Grid.display_row.Given as goal
 
 abbrev pub invariant-loop-col : goal.invariant-loop-col

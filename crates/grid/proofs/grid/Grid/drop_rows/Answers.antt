@@ -1,5 +1,5 @@
-use Rattle.std.proofs.Common.{sym, ◌∙◌, ap, arith, mul-pos}
-use Rattle.grid.proofs.SeenEditLemmas.{taken_in, taken_wide, taken_cells, taken_small, closed, rows_taken_out, taken_fits}
+use Rattle.std.proofs.Common.{sym, ◌∙◌, arith, mul-pos}
+use Rattle.grid.proofs.Lemmas.{taken_in, taken_wide, taken_cells, taken_small, closed, rows_taken_out, taken_fits}
 use Rattle.grid.proofs.grid.Grid.drop_rows.Goals as goal
 
 pub overflow_sub-rest : goal.overflow_sub-rest

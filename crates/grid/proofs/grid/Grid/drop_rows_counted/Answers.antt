@@ -1,6 +1,6 @@
 use Rattle.std.proofs.Common.{sym, ◌∙◌, ap, arith, mul-pos}
-use Rattle.grid_base.specs.Tally.{saturating_count}
-use Rattle.grid.proofs.SeenEditLemmas.{taken_in, taken_wide, taken_cells, taken_small, closed, rows_taken_out, taken_fits, taken_shift}
+use Rattle.grid.proofs.Common.{saturating_count}
+use Rattle.grid.proofs.Lemmas.{taken_in, taken_wide, taken_cells, taken_small, closed, rows_taken_out, taken_fits, taken_shift}
 use Rattle.grid.proofs.grid.Grid.drop_rows_counted.Goals as goal
 
 pub overflow_sub-rest : goal.overflow_sub-rest

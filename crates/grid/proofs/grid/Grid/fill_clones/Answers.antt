@@ -1,8 +1,6 @@
 use Rattle.std.proofs.Common.{rules, ◌≡◌, replicate, length}
-use Rattle.grid_base.proofs.Common.{on_ok_weaker, on_err_weaker, ClonesAreEqual, table_of}
-use Rattle.grid.specs.AllCells.{filled}
-use Rattle.grid.proofs.SeenAllCellsLemmas.{seen_filled, seen_none}
-use Rattle.grid.proofs.SeenLemmas.{seen_same}
+use Rattle.grid.proofs.Common.{on_ok_weaker, on_err_weaker, ClonesAreEqual, table_of, filled}
+use Rattle.grid.proofs.Lemmas.{seen_filled, seen_none, seen_same}
 use Rattle.grid.proofs.grid.Grid.fill_clones.Goals as goal
 
 pub returns-clause-ok : goal.returns-clause-ok

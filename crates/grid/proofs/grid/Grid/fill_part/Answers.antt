@@ -1,4 +1,4 @@
-use Rattle.grid.proofs.PastedLemmas.{filled_part}
+use Rattle.grid.proofs.Lemmas.{filled_part}
 use Rattle.grid.proofs.grid.Grid.fill_part.Goals as goal
 
 pub returns-clause-rows : goal.returns-clause-rows

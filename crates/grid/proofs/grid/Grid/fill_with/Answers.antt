@@ -1,7 +1,6 @@
 use Rattle.std.proofs.Common.{length, subst, ap}
-use Rattle.grid_base.specs.ClosureCalls.{CallableTimes}
-use Rattle.grid.proofs.SeenLemmas.{seen_storage}
-use Rattle.grid.proofs.SeenAllCellsLemmas.{whole_same, whole_cells}
+use Rattle.grid.proofs.Common.{CallableTimes}
+use Rattle.grid.proofs.Lemmas.{seen_storage, whole_same, whole_cells}
 use Rattle.grid.proofs.grid.Grid.fill_with.Goals as goal
 
 pub returns-clause-cells : goal.returns-clause-cells

@@ -1,8 +1,6 @@
 use Rattle.std.proofs.Common.{sym}
-use Rattle.grid_base.proofs.GroupLemmas.{act-identity}
-use Rattle.grid_base.proofs.ViewLemmas.{HoldsSize-transposed}
-use Rattle.grid.proofs.FlipLemmas.{flip_cols_across, price_across, rotate_half_by_part}
-use Rattle.grid.proofs.SeenLemmas.{seen_rows, seen_cols}
+use Rattle.grid.proofs.Common.{act-identity, HoldsSize-transposed}
+use Rattle.grid.proofs.Lemmas.{flip_cols_across, price_across, rotate_half_by_part, seen_rows, seen_cols}
 use Rattle.grid.proofs.grid.Grid.flip_counted.Goals as goal
 
 pub flip_stored-requires-in-false-true : goal.flip_stored-requires-in-false-true

@@ -1,8 +1,6 @@
 use Rattle.std.proofs.Common.{rules, ◌≡◌, ◌+◌, ◌*◌, ◌++◌, [], ◌∷◌, ◌∙◌, ap, sym, length, arith}
-use Rattle.std.proofs.lemmas.Grind.{common_steps}
-use Rattle.grid_base.proofs.StorageLemmas.{place_within}
-use Rattle.grid.proofs.MadeLemmas.{CanCut-cells, made_size}
-use Rattle.grid.proofs.EmptyingLemmas.{slot_by_order, product_by_order, emptying_none, emptying_at, emptying_next, held_all, full_slot}
+use Rattle.grid.proofs.Common.{common_steps, place_within}
+use Rattle.grid.proofs.Lemmas.{CanCut-cells, made_size, slot_by_order, product_by_order, emptying_none, emptying_at, emptying_next, held_all, full_slot}
 use Rattle.grid.proofs.grid.Grid.from_arrays.Goals as goal
 
 pub loop-i-init : goal.loop-i-init

@@ -1,5 +1,5 @@
 use Rattle.std.proofs.Common.{◌≤◌, ◌+◌, ◌*◌, vec_capacity}
-use Rattle.grid.proofs.EmptyingLemmas.{Emptying}
+use Rattle.grid.proofs.Lemmas.{Emptying}
 use Rattle.grid.proofs.grid.Grid.from_arrays.Given as goal
 
 abbrev pub invariant-loop-i : goal.invariant-loop-i

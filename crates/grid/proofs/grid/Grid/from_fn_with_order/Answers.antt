@@ -1,7 +1,7 @@
 use Rattle.std.proofs.Common.{arith, rules}
+use Rattle.grid.proofs.Common.{FitsUsize-size}
+use Rattle.grid.proofs.Lemmas.{callable_positions, answers_made, seen_made}
 use Rattle.grid_base.specs.Table.{IsSize}
-use Rattle.grid_base.proofs.ViewLemmas.{FitsUsize-size}
-use Rattle.grid.proofs.CellCallLemmas.{callable_positions, answers_made, seen_made}
 use Rattle.grid.proofs.grid.Grid.from_fn_with_order.Goals as goal
 
 pub from_fn-requires : goal.from_fn-requires

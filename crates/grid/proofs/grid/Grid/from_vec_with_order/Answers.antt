@@ -1,6 +1,6 @@
 use Rattle.std.proofs.Common.{rules, ◌≡◌, ◌∙◌, ap, length, arith}
+use Rattle.grid.proofs.Common.{view-cols, view-storage}
 use Rattle.grid_base.specs.GridValue.{HoldsSize}
-use Rattle.grid_base.proofs.ViewLemmas.{view-cols, view-storage}
 use Rattle.grid.proofs.grid.Grid.from_vec_with_order.Goals as goal
 
 -- the size fits the vector

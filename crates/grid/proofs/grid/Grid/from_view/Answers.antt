@@ -1,6 +1,6 @@
 use Rattle.std.proofs.Common.{rules}
-use Rattle.grid_base.proofs.ViewLemmas.{CanCut-storage}
-use Rattle.grid.proofs.FromViewLemmas.{from_storage}
+use Rattle.grid.proofs.Common.{CanCut-storage}
+use Rattle.grid.proofs.Lemmas.{from_storage}
 use Rattle.grid.proofs.grid.Grid.from_view.Goals as goal
 
 pub from_vec_with_order-requires : goal.from_vec_with_order-requires

@@ -1,5 +1,5 @@
 use Rattle.std.proofs.Common.{rules, sym, arith}
-use Rattle.grid_base.proofs.TableLemmas.{past_cols, cell_past_rows}
+use Rattle.grid.proofs.Common.{past_cols, cell_past_rows}
 use Rattle.grid.proofs.grid.Grid.get.Goals as goal
 use Rattle.grid.proofs.grid.Grid.get.Goals.{else-row-rows-via-then-row-rows+else-col-cols, else-row-rows-via-else-row-rows}
 

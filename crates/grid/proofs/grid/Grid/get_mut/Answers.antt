@@ -1,8 +1,8 @@
 use Rattle.std.proofs.Common.{rules, ◌≡◌, sym, ap, inr, is_some, None, arith}
+use Rattle.grid.proofs.Common.{past_cols, cell_past_rows}
 use Rattle.grid_base.specs.Table.{cell}
 use Rattle.grid.proofs.grid.Grid.get_mut.Goals as goal
 use Rattle.grid.proofs.grid.Grid.get_mut.Goals.{else-row-rows-via-then-row-rows+else-col-cols, else-row-rows-via-else-row-rows}
-use Rattle.grid_base.proofs.TableLemmas.{past_cols, cell_past_rows}
 
 pub returns-else-row-rows : goal.returns-else-row-rows
 returns-else-row-rows g c =

@@ -1,7 +1,6 @@
 use Rattle.std.proofs.Common.{◌∙◌, sym, ap, arith, slice_get}
-use Rattle.grid_base.proofs.StorageLemmas.{place_within}
-use Rattle.grid_base.proofs.ViewLemmas.{view-cell}
-use Rattle.grid.proofs.SeenLemmas.{seen_row_in, seen_col_in}
+use Rattle.grid.proofs.Common.{place_within, view-cell}
+use Rattle.grid.proofs.Lemmas.{seen_row_in, seen_col_in}
 use Rattle.grid.proofs.grid.Grid.get_unchecked.Goals as goal
 
 pub place-place-requires-clause-row_in : goal.place-place-requires-clause-row_in

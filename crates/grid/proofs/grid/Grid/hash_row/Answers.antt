@@ -1,7 +1,6 @@
 use Rattle.std.proofs.Common.{◌≡◌, take, sym, ap, ◌∙◌, arith, flat_map, fold}
-use Rattle.grid_base.proofs.Common.{fold-append, row}
-use Rattle.grid.proofs.TextLemmas.{flat_map_push, whole_row}
-use Rattle.grid_base.proofs.ClosureLemmas.{take_next}
+use Rattle.grid.proofs.Common.{fold-append, row, take_next}
+use Rattle.grid.proofs.Lemmas.{flat_map_push, whole_row}
 use Rattle.grid.proofs.grid.Grid.hash_row.Goals as goal
 
 pub loop-col-preserved : goal.loop-col-preserved

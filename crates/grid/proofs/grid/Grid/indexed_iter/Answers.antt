@@ -1,6 +1,5 @@
 use Rattle.std.proofs.Common.{◌∙◌}
-use Rattle.grid.proofs.SeenIteratorLemmas.{seen_indexed}
-use Rattle.grid.proofs.IndexedIteratorLemmas.{gives_cells, indexed_fits}
+use Rattle.grid.proofs.Lemmas.{seen_indexed, gives_cells, indexed_fits}
 use Rattle.grid.proofs.grid.Grid.indexed_iter.Goals as goal
 
 pub returns : goal.returns

@@ -1,6 +1,5 @@
 use Rattle.std.proofs.Common.{◌∙◌, refl}
-use Rattle.grid.proofs.SeenIteratorLemmas.{seen_indexed, seen_refilled, seen_keeps}
-use Rattle.grid.proofs.IndexedIteratorLemmas.{gives_mut_cells, indexed_fits}
+use Rattle.grid.proofs.Lemmas.{seen_indexed, seen_refilled, seen_keeps, gives_mut_cells, indexed_fits}
 use Rattle.grid.proofs.grid.Grid.indexed_iter_mut.Goals as goal
 
 pub returns : goal.returns

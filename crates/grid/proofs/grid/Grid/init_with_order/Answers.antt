@@ -1,5 +1,5 @@
 use Rattle.std.proofs.Common.{◌≡◌, ◌*◌, All, length, replicate, arith}
-use Rattle.grid.proofs.MadeLemmas.{All-replicate, made_size, made_fill}
+use Rattle.grid.proofs.Lemmas.{All-replicate, made_size, made_fill}
 use Rattle.grid.proofs.grid.Grid.init_with_order.Goals as goal
 
 pub returns-clause-made : goal.returns-clause-made

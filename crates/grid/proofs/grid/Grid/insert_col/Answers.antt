@@ -1,8 +1,7 @@
 use Rattle.grid_base.specs.declared.words.Symmetry.TheVariants.{Transpose}
-use Rattle.grid_base.proofs.ActLemmas.{rows-act}
-use Rattle.grid.proofs.TransposedEditLemmas.{fits_across, col_inserted, twice_across}
+use Rattle.grid.proofs.Common.{rows-act, on_ok_weaker, on_err_weaker}
+use Rattle.grid.proofs.Lemmas.{fits_across, col_inserted, twice_across}
 use Rattle.grid.proofs.grid.Grid.insert_col.Goals as goal
-use Rattle.std.proofs.lemmas.Result.{on_ok_weaker, on_err_weaker}
 
 pub insert_row-inserted-requires-clause-fits : goal.insert_row-inserted-requires-clause-fits
 insert_row-inserted-requires-clause-fits g c =

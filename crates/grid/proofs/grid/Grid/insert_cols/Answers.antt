@@ -1,10 +1,8 @@
 use Rattle.std.proofs.Common.{arith}
 use Rattle.grid_base.specs.declared.words.Symmetry.TheVariants.{Transpose}
-use Rattle.grid_base.proofs.ActLemmas.{rows-act}
-use Rattle.grid_base.proofs.GatherLemmas.{rows-vecs}
-use Rattle.grid.proofs.TransposedEditLemmas.{fits_across, cols_inserted, twice_across}
+use Rattle.grid.proofs.Common.{rows-act, rows-vecs, on_ok_weaker, on_err_weaker}
+use Rattle.grid.proofs.Lemmas.{fits_across, cols_inserted, twice_across}
 use Rattle.grid.proofs.grid.Grid.insert_cols.Goals as goal
-use Rattle.std.proofs.lemmas.Result.{on_ok_weaker, on_err_weaker}
 
 pub insert_rows-inserted-requires-clause-fits : goal.insert_rows-inserted-requires-clause-fits
 insert_rows-inserted-requires-clause-fits g c some =

@@ -1,7 +1,7 @@
 use Rattle.std.proofs.Common.{◌≡◌, length, ◌∙◌, ap, arith}
+use Rattle.grid.proofs.Common.{insert_rows}
+use Rattle.grid.proofs.Lemmas.{table_of-line, put_line}
 use Rattle.grid_base.specs.Order.{table_of}
-use Rattle.grid.specs.Edits.{insert_rows}
-use Rattle.grid.proofs.EditViewLemmas.{table_of-line, put_line}
 use Rattle.grid.proofs.grid.Grid.insert_row.Goals as goal
 
 pub returns-in-Ok-clause-rows : goal.returns-in-Ok-clause-rows

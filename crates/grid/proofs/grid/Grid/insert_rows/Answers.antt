@@ -1,10 +1,6 @@
 use Rattle.std.proofs.Common.{rules, ◌≡◌, ◌<◌, length, refl, sym, ◌∙◌, ap, arith}
-use Rattle.grid_base.proofs.Common.{common_steps, col_count, items_of_each}
-use Rattle.grid_base.proofs.GatherLemmas.{rows-vecs}
-use Rattle.grid_commands.proofs.FactorLemmas.{factor_small}
-use Rattle.grid.proofs.ExchangeLemmas.{woven_lent}
-use Rattle.grid.proofs.SeenLemmas.{seen_rows, seen_same}
-use Rattle.grid.proofs.SeenEditLemmas.{RowsBehind-lines, put_cells, put_fits, rows_put, no_room, room}
+use Rattle.grid.proofs.Common.{common_steps, col_count, items_of_each, rows-vecs, factor_small}
+use Rattle.grid.proofs.Lemmas.{woven_lent, seen_rows, seen_same, RowsBehind-lines, put_cells, put_fits, rows_put, no_room, room}
 use Rattle.grid.proofs.grid.Grid.insert_rows.Goals as goal
 
 pub returns-then-not-has_room-clause-fails : goal.returns-then-not-has_room-clause-fails

@@ -1,4 +1,4 @@
-use Rattle.grid.proofs.SeenLemmas.{seen_empty}
+use Rattle.grid.proofs.Lemmas.{seen_empty}
 use Rattle.grid.proofs.grid.Grid.is_empty.Goals as goal
 
 pub returns : goal.returns

@@ -1,8 +1,6 @@
 use Rattle.std.proofs.Common.{◌<◌, ◌∙◌, ap, length, arith}
-use Rattle.grid_base.proofs.Common.{row, row_count, table_of}
-use Rattle.grid_base.proofs.ViewLemmas.{view-rows, view-cols, view-table, HoldsSize-transposed}
-use Rattle.grid.proofs.SeenLemmas.{seen_cols}
-use Rattle.grid.proofs.SeenIteratorLemmas.{seen_transposed}
+use Rattle.grid.proofs.Common.{row, row_count, table_of, view-rows, view-cols, view-table, HoldsSize-transposed}
+use Rattle.grid.proofs.Lemmas.{seen_cols, seen_transposed}
 use Rattle.grid.proofs.grid.Grid.iter_col.Goals as goal
 
 pub row-requires-clause-cells : goal.row-requires-clause-cells

@@ -1,8 +1,6 @@
 use Rattle.std.proofs.Common.{◌∙◌, ap, arith, refl}
-use Rattle.grid_base.proofs.Common.{row, place, table_of}
-use Rattle.grid_base.proofs.ViewLemmas.{HoldsSize-transposed}
-use Rattle.grid.proofs.SeenLemmas.{seen_cols}
-use Rattle.grid.proofs.SeenIteratorLemmas.{seen_written, seen_keeps_from, seen_transposed, place_flipped}
+use Rattle.grid.proofs.Common.{row, place, table_of, HoldsSize-transposed}
+use Rattle.grid.proofs.Lemmas.{seen_cols, seen_written, seen_keeps_from, seen_transposed, place_flipped}
 use Rattle.grid.proofs.grid.Grid.iter_col_mut.Goals as goal
 
 pub row_mut-requires-clause-cells : goal.row_mut-requires-clause-cells

@@ -1,7 +1,7 @@
 use Rattle.std.proofs.Common.{◌∙◌, ap, length, arith}
+use Rattle.grid.proofs.Common.{view-rows, HoldsSize-transposed}
+use Rattle.grid.proofs.Lemmas.{seen_transposed}
 use Rattle.grid_base.specs.Order.{table_of}
-use Rattle.grid_base.proofs.ViewLemmas.{view-rows, HoldsSize-transposed}
-use Rattle.grid.proofs.SeenIteratorLemmas.{seen_transposed}
 use Rattle.grid.proofs.grid.Grid.iter_cols.Goals as goal
 
 pub rows-requires : goal.rows-requires

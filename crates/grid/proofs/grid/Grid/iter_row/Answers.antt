@@ -1,6 +1,6 @@
 use Rattle.std.proofs.Common.{◌∙◌, ap, length, arith}
+use Rattle.grid.proofs.Lemmas.{seen_rows, seen_cols}
 use Rattle.grid_base.specs.Table.{row}
-use Rattle.grid.proofs.SeenLemmas.{seen_rows, seen_cols}
 use Rattle.grid.proofs.grid.Grid.iter_row.Goals as goal
 
 pub row-requires-clause-row_in : goal.row-requires-clause-row_in

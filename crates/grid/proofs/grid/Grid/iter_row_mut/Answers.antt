@@ -1,7 +1,6 @@
 use Rattle.std.proofs.Common.{◌∙◌, ap, arith, refl}
+use Rattle.grid.proofs.Lemmas.{seen_rows, seen_written, seen_keeps_from}
 use Rattle.grid_base.specs.Table.{row}
-use Rattle.grid.proofs.SeenLemmas.{seen_rows}
-use Rattle.grid.proofs.SeenIteratorLemmas.{seen_written, seen_keeps_from}
 use Rattle.grid.proofs.grid.Grid.iter_row_mut.Goals as goal
 
 pub row_mut-requires-clause-row_in : goal.row_mut-requires-clause-row_in

@@ -1,5 +1,5 @@
 use Rattle.std.proofs.Common.{◌∙◌, ap, length, arith}
-use Rattle.grid_base.proofs.ViewLemmas.{view-rows}
+use Rattle.grid.proofs.Common.{view-rows}
 use Rattle.grid.proofs.grid.Grid.iter_rows.Goals as goal
 
 pub returns : goal.returns

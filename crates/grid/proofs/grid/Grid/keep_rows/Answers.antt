@@ -1,6 +1,6 @@
 -- The first rows are kept.
 use Rattle.std.proofs.Common.{arith}
-use Rattle.grid.proofs.ResizeLemmas.{corner_rows}
+use Rattle.grid.proofs.Lemmas.{corner_rows}
 use Rattle.grid.proofs.grid.Grid.keep_rows.Goals as goal
 
 pub returns-clause-corner : goal.returns-clause-corner

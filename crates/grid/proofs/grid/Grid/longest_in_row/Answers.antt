@@ -1,7 +1,6 @@
 use Rattle.std.proofs.Common.{◌≡◌, ◌++◌, [], map, take, length, max, sym, ap, ◌∙◌, arith, string_bytes, to_z, of_z}
-use Rattle.grid_base.proofs.Common.{w128, to_z-of_z, signed_decimal, row}
-use Rattle.grid.specs.Texts.{longest}
-use Rattle.grid.proofs.TextLemmas.{longest_next, max_is, whole_row}
+use Rattle.grid.proofs.Common.{w128, to_z-of_z, signed_decimal, row, longest}
+use Rattle.grid.proofs.Lemmas.{longest_next, max_is, whole_row}
 use Rattle.grid.proofs.grid.Grid.longest_in_row.Goals as goal
 
 pub loop-col-preserved : goal.loop-col-preserved

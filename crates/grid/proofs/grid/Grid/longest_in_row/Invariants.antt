@@ -1,6 +1,6 @@
 use Rattle.std.proofs.Common.{◌≡◌, [], take, map, string_bytes}
+use Rattle.grid.proofs.Common.{longest}
 use Rattle.grid_base.specs.Table.{row}
-use Rattle.grid.specs.Texts.{longest}
 use Rattle.grid.proofs.grid.Grid.longest_in_row.Given as goal
 
 abbrev pub invariant-loop-col : goal.invariant-loop-col

@@ -1,6 +1,6 @@
 use Rattle.std.proofs.Common.{◌≡◌, map, take, max, sym, ap, ◌∙◌, arith, flat_map, take_all}
-use Rattle.grid.specs.Texts.{longest}
-use Rattle.grid.proofs.TextLemmas.{longest_rows, joined_numbers, max_is}
+use Rattle.grid.proofs.Common.{longest}
+use Rattle.grid.proofs.Lemmas.{longest_rows, joined_numbers, max_is}
 use Rattle.grid.proofs.grid.Grid.longest_number.Goals as goal
 
 pub loop-row-preserved : goal.loop-row-preserved

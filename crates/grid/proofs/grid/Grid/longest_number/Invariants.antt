@@ -1,5 +1,5 @@
 use Rattle.std.proofs.Common.{◌≡◌, [], take, map, string_bytes, flat_map}
-use Rattle.grid.specs.Texts.{longest}
+use Rattle.grid.proofs.Common.{longest}
 use Rattle.grid.proofs.grid.Grid.longest_number.Given as goal
 
 abbrev pub invariant-loop-row : goal.invariant-loop-row

@@ -1,7 +1,6 @@
 use Rattle.std.proofs.Common.{subst}
-use Rattle.grid_base.specs.ClosureCalls.{CallableAtEach}
-use Rattle.grid.proofs.SeenLemmas.{seen_storage, seen_same}
-use Rattle.grid.proofs.SeenAllCellsLemmas.{whole_same, whole_cells}
+use Rattle.grid.proofs.Common.{CallableAtEach}
+use Rattle.grid.proofs.Lemmas.{seen_storage, seen_same, whole_same, whole_cells}
 use Rattle.grid.proofs.grid.Grid.map.Goals as goal
 
 pub returns-in-Ok-clause-cells : goal.returns-in-Ok-clause-cells

@@ -1,5 +1,5 @@
 use Rattle.std.proofs.Common.{rules}
-use Rattle.grid.proofs.CellCallLemmas.{mapped_as}
+use Rattle.grid.proofs.Lemmas.{mapped_as}
 use Rattle.grid.proofs.grid.Grid.map_round.Goals as goal
 
 pub returns-clause-cells : goal.returns-clause-cells

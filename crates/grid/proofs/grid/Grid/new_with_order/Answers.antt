@@ -1,6 +1,6 @@
 use Rattle.std.proofs.Common.{◌≡◌, ◌*◌, All, length, ap, arith}
-use Rattle.grid_base.proofs.Common.{All-append, common_steps, row_count}
-use Rattle.grid.proofs.MadeLemmas.{All-none, length-storage_none, made_size, made_fill}
+use Rattle.grid.proofs.Common.{All-append, common_steps, row_count}
+use Rattle.grid.proofs.Lemmas.{All-none, length-storage_none, made_size, made_fill}
 use Rattle.grid.proofs.grid.Grid.new_with_order.Goals as goal
 
 pub returns-then-rows-eq0-clause-defaults : goal.returns-then-rows-eq0-clause-defaults

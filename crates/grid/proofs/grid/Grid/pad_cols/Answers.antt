@@ -1,9 +1,7 @@
 use Rattle.std.proofs.Common.{ap, arith}
-use Rattle.grid_base.proofs.Common.{row_count, on_ok_weaker, on_err_weaker}
+use Rattle.grid.proofs.Common.{row_count, on_ok_weaker, on_err_weaker, rows-act}
+use Rattle.grid.proofs.Lemmas.{twice_across, pads_cols, size_across, none_added}
 use Rattle.grid_base.specs.declared.words.Symmetry.TheVariants.{Transpose}
-use Rattle.grid_base.proofs.ActLemmas.{rows-act}
-use Rattle.grid.proofs.TransposedEditLemmas.{twice_across}
-use Rattle.grid.proofs.SeenPaddingLemmas.{pads_cols, size_across, none_added}
 use Rattle.grid.proofs.grid.Grid.pad_cols.Goals as goal
 
 pub pad_rows_counted-padded-requires : goal.pad_rows_counted-padded-requires

@@ -1,10 +1,7 @@
 use Rattle.std.proofs.Common.{◌≡◌, ◌+◌, ◌*◌, ◌⊎◌, inl, inr, ap, refl, sym, ◌∙◌, arith, rules, mul-pos}
-use Rattle.grid_base.proofs.Common.{row_count, col_count, saturating_count}
-use Rattle.grid.specs.Edits.{padding_count}
-use Rattle.grid.specs.Shift.{rows_added_shift}
-use Rattle.grid.proofs.SeenPaddingLemmas.{padding_none, pads_none, pad_cols, pad_rows_small, pad_shift, pad_cells, pads_rows, pad_fits}
-use Rattle.grid.proofs.SeenLemmas.{seen_same}
-use Rattle.grid.proofs.TransposedEditLemmas.{either_way}
+use Rattle.grid.proofs.Common.{row_count, col_count, padding_count, rows_added_shift}
+use Rattle.grid.proofs.Lemmas.{padding_none, pads_none, pad_cols, pad_rows_small, pad_shift, pad_cells, pads_rows, pad_fits, seen_same, either_way}
+use Rattle.grid_base.proofs.Common.{saturating_count}
 use Rattle.grid.proofs.grid.Grid.pad_rows_counted.Goals.{then-count-eq0-via-then-count-eq0, then-count-eq0-via-else-count-eq0+then-rows-eq0}
 use Rattle.grid.proofs.grid.Grid.pad_rows_counted.Goals as goal
 

@@ -1,6 +1,6 @@
 use Rattle.std.proofs.Common.{◌∙◌, ap, arith}
+use Rattle.grid.proofs.Common.{sub_table}
 use Rattle.grid_base.specs.Table.{row_count, col_count}
-use Rattle.grid_view.specs.View.{sub_table}
 use Rattle.grid.proofs.grid.Grid.part.Goals as goal
 
 pub part-requires : goal.part-requires

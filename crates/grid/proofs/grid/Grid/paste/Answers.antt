@@ -1,5 +1,5 @@
 use Rattle.std.proofs.Common.{refl}
-use Rattle.grid.proofs.PastedLemmas.{pasted}
+use Rattle.grid.proofs.Lemmas.{pasted}
 use Rattle.grid.proofs.grid.Grid.paste.Goals as goal
 
 pub returns-clause-rows : goal.returns-clause-rows

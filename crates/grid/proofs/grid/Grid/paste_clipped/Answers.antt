@@ -1,6 +1,6 @@
 use Rattle.std.proofs.Common.{◌≡◌, ◌∙◌, arith, to_z, of_z, w64}
-use Rattle.grid_base.proofs.Common.{ints, to_z-of_z, on_ok_weaker}
-use Rattle.grid.proofs.PastedLemmas.{clipped_as, clipped_within, pasted_clipped}
+use Rattle.grid.proofs.Common.{ints, to_z-of_z, on_ok_weaker}
+use Rattle.grid.proofs.Lemmas.{clipped_as, clipped_within, pasted_clipped}
 use Rattle.grid.proofs.grid.Grid.paste_clipped.Goals as goal
 
 pub paste-requires-clause-rows_in : goal.paste-requires-clause-rows_in

@@ -1,6 +1,6 @@
 use Rattle.std.proofs.Common.{refl}
-use Rattle.grid.specs.Exchanged.{held}
-use Rattle.grid.proofs.PastedLemmas.{pasted}
+use Rattle.grid.proofs.Common.{held}
+use Rattle.grid.proofs.Lemmas.{pasted}
 use Rattle.grid.proofs.grid.Grid.paste_copied.Goals as goal
 
 pub returns-clause-rows : goal.returns-clause-rows

@@ -1,6 +1,6 @@
 use Rattle.std.proofs.Common.{false, arith}
-use Rattle.grid.specs.Found.{AnswersAt}
-use Rattle.grid.proofs.PositionLemmas.{before_none, before_next, before_row, before_all}
+use Rattle.grid.proofs.Common.{AnswersAt}
+use Rattle.grid.proofs.Lemmas.{before_none, before_next, before_row, before_all}
 use Rattle.grid.proofs.grid.Grid.position.Goals as goal
 
 pub loop-row-init : goal.loop-row-init

@@ -1,6 +1,6 @@
 use Rattle.std.proofs.Common.{false}
-use Rattle.grid.specs.Found.{AnswersAt}
-use Rattle.grid.proofs.PositionLemmas.{HoldsBefore}
+use Rattle.grid.proofs.Common.{AnswersAt}
+use Rattle.grid.proofs.Lemmas.{HoldsBefore}
 use Rattle.grid.proofs.grid.Grid.position.Given as goal
 
 abbrev pub invariant-loop-row : goal.invariant-loop-row

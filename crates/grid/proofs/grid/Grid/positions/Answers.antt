@@ -1,6 +1,6 @@
 use Rattle.std.proofs.Common.{◌+◌, ◌∙◌, subst, sym, ap, arith}
+use Rattle.grid.proofs.Lemmas.{FoundBefore, found_none, found_next, found_one, found_row, found_all}
 use Rattle.grid_base.specs.Table.{InRange}
-use Rattle.grid.proofs.PositionLemmas.{FoundBefore, found_none, found_next, found_one, found_row, found_all}
 use Rattle.grid.proofs.grid.Grid.positions.Goals as goal
 use Rattle.grid.proofs.grid.Grid.positions.Goals.{then-test+in_ok-push, else-test}
 

@@ -1,4 +1,4 @@
-use Rattle.grid.proofs.PositionLemmas.{FoundBefore}
+use Rattle.grid.proofs.Lemmas.{FoundBefore}
 use Rattle.grid.proofs.grid.Grid.positions.Given as goal
 
 abbrev pub invariant-loop-row : goal.invariant-loop-row

@@ -1,7 +1,7 @@
 use Rattle.std.proofs.Common.{◌≡◌, ◌≢◌, ◌++◌, map, take, codes, List, ap, ◌∙◌, arith, append_assoc, flat_map, take_all}
+use Rattle.grid.proofs.Common.{numbers, row_line, text_in_width}
+use Rattle.grid.proofs.Lemmas.{text_of_lines}
 use Rattle.grid_base.specs.Table.{row_count}
-use Rattle.grid.specs.Texts.{numbers, row_line, text_in_width}
-use Rattle.grid.proofs.TextLemmas.{text_of_lines}
 use Rattle.grid.proofs.grid.Grid.pretty.Goals as goal
 
 pub returns : goal.returns

@@ -1,5 +1,5 @@
 use Rattle.std.proofs.Common.{◌≡◌, ◌++◌, take, map, codes, string_bytes, flat_map}
-use Rattle.grid.specs.Texts.{row_line}
+use Rattle.grid.proofs.Common.{row_line}
 use Rattle.grid.proofs.grid.Grid.pretty.Given as goal
 
 abbrev pub invariant-loop-row : goal.invariant-loop-row

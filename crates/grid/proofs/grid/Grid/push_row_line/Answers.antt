@@ -1,7 +1,6 @@
 use Rattle.std.proofs.Common.{rules, ◌≡◌, ◌++◌, [], ◌∷◌, ℤ, map, take, codes, sym, ap, ◌∙◌, arith, string_bytes, to_z, of_z, append_assoc, cond, ltb, ◌^◌, ◌-◌}
-use Rattle.grid_base.proofs.Common.{w128, join_by, styled_signed_decimal, format_spec, to_z-of_z, row}
-use Rattle.grid.specs.Texts.{right_aligned}
-use Rattle.grid.proofs.TextLemmas.{join_next, aligned, whole_row, ended}
+use Rattle.grid.proofs.Common.{w128, join_by, styled_signed_decimal, format_spec, to_z-of_z, row, right_aligned}
+use Rattle.grid.proofs.Lemmas.{join_next, aligned, whole_row, ended}
 use Rattle.grid.proofs.grid.Grid.push_row_line.Goals as goal
 
 pub loop-col-preserved : goal.loop-col-preserved

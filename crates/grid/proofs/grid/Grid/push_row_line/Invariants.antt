@@ -1,6 +1,5 @@
 use Rattle.std.proofs.Common.{◌≡◌, ◌++◌, take, map, codes, string_bytes}
-use Rattle.grid_base.proofs.Common.{join_by, row}
-use Rattle.grid.specs.Texts.{right_aligned}
+use Rattle.grid.proofs.Common.{join_by, row, right_aligned}
 use Rattle.grid.proofs.grid.Grid.push_row_line.Given as goal
 
 abbrev pub invariant-loop-col : goal.invariant-loop-col

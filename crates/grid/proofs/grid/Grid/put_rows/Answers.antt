@@ -1,11 +1,7 @@
 use Rattle.std.proofs.Common.{refl, sym, ◌∙◌, ap, arith, length}
+use Rattle.grid.proofs.Common.{factor_small, insert_rows}
+use Rattle.grid.proofs.Lemmas.{woven_lent, seen_rows, seen_same, either_way, RowsBehind-put, put_cells, put_fits, rows_put, no_room, room}
 use Rattle.grid_base.specs.Order.{table_of}
-use Rattle.grid_commands.proofs.FactorLemmas.{factor_small}
-use Rattle.grid.specs.Edits.{insert_rows}
-use Rattle.grid.proofs.ExchangeLemmas.{woven_lent}
-use Rattle.grid.proofs.SeenLemmas.{seen_rows, seen_same}
-use Rattle.grid.proofs.TransposedEditLemmas.{either_way}
-use Rattle.grid.proofs.SeenEditLemmas.{RowsBehind-put, put_cells, put_fits, rows_put, no_room, room}
 use Rattle.grid.proofs.grid.Grid.put_rows.Goals as goal
 
 pub returns-then-not-has_room-clause-too_large : goal.returns-then-not-has_room-clause-too_large

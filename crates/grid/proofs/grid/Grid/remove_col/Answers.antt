@@ -1,8 +1,7 @@
 use Rattle.grid_base.specs.declared.words.Symmetry.TheVariants.{Transpose}
-use Rattle.grid_base.proofs.ActLemmas.{rows-act, act_is_transposed}
-use Rattle.grid.proofs.TransposedEditLemmas.{col_removed, twice_across}
+use Rattle.grid.proofs.Common.{rows-act, act_is_transposed, on_ok_weaker, on_err_weaker}
+use Rattle.grid.proofs.Lemmas.{col_removed, twice_across}
 use Rattle.grid.proofs.grid.Grid.remove_col.Goals as goal
-use Rattle.std.proofs.lemmas.Result.{on_ok_weaker, on_err_weaker}
 
 pub returns-clause-rows : goal.returns-clause-rows
 returns-clause-rows g c =

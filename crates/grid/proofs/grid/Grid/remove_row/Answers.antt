@@ -1,6 +1,6 @@
 use Rattle.std.proofs.Common.{◌<◌, [], Some, sym, ◌∙◌, ap, arith, rules}
-use Rattle.grid_base.proofs.Common.{slice_get-get_or, row_count}
-use Rattle.grid.proofs.EditViewLemmas.{storage-one}
+use Rattle.grid.proofs.Common.{slice_get-get_or, row_count}
+use Rattle.grid.proofs.Lemmas.{storage-one}
 use Rattle.grid.proofs.grid.Grid.remove_row.Goals as goal
 
 pub returns-clause-line : goal.returns-clause-line

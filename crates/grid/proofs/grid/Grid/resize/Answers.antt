@@ -1,8 +1,7 @@
 -- The empty table, the first rows and columns, or a new table.
 use Rattle.std.proofs.Common.{arith, rules}
-use Rattle.std.proofs.lemmas.Result.{on_ok_weaker}
-use Rattle.grid.specs.Resize.{IsResized}
-use Rattle.grid.proofs.ResizeLemmas.{corner_resized, resizes_to}
+use Rattle.grid.proofs.Common.{on_ok_weaker, IsResized}
+use Rattle.grid.proofs.Lemmas.{corner_resized, resizes_to}
 use Rattle.grid.proofs.grid.Grid.resize.Goals as goal
 
 pub returns-then-rows-eq0-clause-resized : goal.returns-then-rows-eq0-clause-resized

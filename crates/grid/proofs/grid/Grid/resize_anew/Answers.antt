@@ -1,6 +1,6 @@
 use Rattle.std.proofs.Common.{◌⊎◌, ◌<◌, ◌≤◌, ◌*◌, ap, arith, inl, inr, ⊎_elim}
-use Rattle.grid_base.proofs.Common.{cases_lt, row_count, col_count}
-use Rattle.grid.proofs.ResizeLemmas.{product_some, resized}
+use Rattle.grid.proofs.Common.{cases_lt, row_count, col_count}
+use Rattle.grid.proofs.Lemmas.{product_some, resized}
 use Rattle.grid.proofs.grid.Grid.resize_anew.Goals as goal
 
 pub exchange_part-requires-clause-to_rows : goal.exchange_part-requires-clause-to_rows

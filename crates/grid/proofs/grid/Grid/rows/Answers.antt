@@ -1,5 +1,5 @@
 use Rattle.std.proofs.Common.{sym}
-use Rattle.grid.proofs.SeenLemmas.{seen_rows}
+use Rattle.grid.proofs.Lemmas.{seen_rows}
 use Rattle.grid.proofs.grid.Grid.rows.Goals as goal
 
 pub returns : goal.returns

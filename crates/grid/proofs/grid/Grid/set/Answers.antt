@@ -1,7 +1,7 @@
 use Rattle.std.proofs.Common.{sym, arith, rules}
 use Rattle.grid.proofs.grid.Grid.set.Goals as goal
 use Rattle.grid.proofs.grid.Grid.set.Goals.{else-row-rows-via-then-row-rows+else-col-cols, else-row-rows-via-else-row-rows}
-use Rattle.grid_base.proofs.TableLemmas.{past_cols, cell_past_rows}
+use Rattle.grid.proofs.Common.{past_cols, cell_past_rows}
 
 pub returns-else-row-rows-clause-cell : goal.returns-else-row-rows-clause-cell
 returns-else-row-rows-clause-cell g c =

@@ -1,5 +1,5 @@
 -- The first rows, and of the transposed table again.
-use Rattle.grid.proofs.ResizeLemmas.{corner_both}
+use Rattle.grid.proofs.Lemmas.{corner_both}
 use Rattle.grid.proofs.grid.Grid.shrink.Goals as goal
 
 pub returns-clause-corner : goal.returns-clause-corner

@@ -1,5 +1,5 @@
 use Rattle.std.proofs.Common.{sym}
-use Rattle.grid.proofs.SeenLemmas.{seen_rows, seen_cols}
+use Rattle.grid.proofs.Lemmas.{seen_rows, seen_cols}
 use Rattle.grid.proofs.grid.Grid.size.Goals as goal
 
 pub returns-clause-rows : goal.returns-clause-rows

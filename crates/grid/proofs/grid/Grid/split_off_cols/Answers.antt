@@ -1,5 +1,4 @@
-use Rattle.grid.proofs.TransposedEditLemmas.{either_way, twice_across}
-use Rattle.grid.proofs.SplitLemmas.{cols_kept, cols_split}
+use Rattle.grid.proofs.Lemmas.{either_way, twice_across, cols_kept, cols_split}
 use Rattle.grid.proofs.grid.Grid.split_off_cols.Goals as goal
 
 pub returns-clause-rows : goal.returns-clause-rows

@@ -1,7 +1,6 @@
 use Rattle.std.proofs.Common.{◌≡◌, ◌<◌, ◌-◌, ◌∙◌, sym, ap, arith, length, take, drop, length-drop, rules}
-use Rattle.grid_base.proofs.Common.{row_count, col_count, storage}
-use Rattle.grid.specs.Edits.{without_rows}
-use Rattle.grid.proofs.SplitLemmas.{can_cut_again, same_cut, IsTable-tail, cols-tail, all_taken, take_without}
+use Rattle.grid.proofs.Common.{row_count, col_count, storage, without_rows}
+use Rattle.grid.proofs.Lemmas.{can_cut_again, same_cut, IsTable-tail, cols-tail, all_taken, take_without}
 use Rattle.grid.proofs.grid.Grid.split_off_rows.Goals as goal
 
 pub from_vec_with_order-requires : goal.from_vec_with_order-requires

@@ -1,10 +1,7 @@
 use Rattle.std.proofs.Common.{◌≡◌, ◌≤◌, sym, ◌∙◌, ap, arith, rules}
-use Rattle.grid_base.proofs.Common.{row_count, col_count, half, price}
-use Rattle.grid_base.proofs.PriceLemmas.{price_within_half}
+use Rattle.grid.proofs.Common.{row_count, col_count, half, price, price_within_half, command_value, lines, edit_value, request_value}
+use Rattle.grid.proofs.Lemmas.{stepped_edit}
 use Rattle.grid_commands.specs.declared.command.Axis.TheVariants.{Row, Col}
-use Rattle.grid_commands.specs.Command.{command_value, lines}
-use Rattle.grid_commands.specs.LineEdit.{edit_value, request_value}
-use Rattle.grid.proofs.LineEditLemmas.{stepped_edit}
 use Rattle.grid.proofs.grid.Grid.step.Goals as goal
 
 pub returns-in-Apply-clause-half : goal.returns-in-Apply-clause-half

@@ -1,7 +1,6 @@
 use Rattle.std.proofs.Common.{◌≡◌, ◌<◌, ◌∙◌, ap}
-use Rattle.std.proofs.lemmas.Result.{IfOk-weaker}
-use Rattle.grid_view.specs.View.{sub_table}
-use Rattle.grid.proofs.FromViewLemmas.{part_size, made_part}
+use Rattle.grid.proofs.Common.{IfOk-weaker, sub_table}
+use Rattle.grid.proofs.Lemmas.{part_size, made_part}
 use Rattle.grid.proofs.grid.Grid.sub_grid.Goals as goal
 
 pub returns-clause-made : goal.returns-clause-made

@@ -1,8 +1,6 @@
 use Rattle.std.proofs.Common.{◌∙◌, ap, subst, length}
-use Rattle.grid_base.specs.ClosureCalls.{CallableAtRefs}
-use Rattle.grid.proofs.SeenLemmas.{seen_storage}
-use Rattle.grid.proofs.CellCallLemmas.{seen_callable, seen_mapped}
-use Rattle.grid.proofs.SeenAllCellsLemmas.{whole_same}
+use Rattle.grid.proofs.Common.{CallableAtRefs}
+use Rattle.grid.proofs.Lemmas.{seen_storage, seen_callable, seen_mapped, whole_same}
 use Rattle.grid.proofs.grid.Grid.sums_round.Goals as goal
 
 pub map_sums-requires-clause-weights : goal.map_sums-requires-clause-weights

@@ -1,9 +1,7 @@
 use Rattle.std.proofs.Common.{rules, arith, ap, ◌∙◌}
+use Rattle.grid.proofs.Common.{place_within, rows-exchanged, cols-exchanged}
+use Rattle.grid.proofs.Lemmas.{seen_row_in, seen_col_in, rows_swapped}
 use Rattle.grid_base.specs.Table.{row_count, col_count}
-use Rattle.grid_base.proofs.StorageLemmas.{place_within}
-use Rattle.grid_base.proofs.WriteLemmas.{rows-exchanged, cols-exchanged}
-use Rattle.grid.proofs.SeenLemmas.{seen_row_in, seen_col_in}
-use Rattle.grid.proofs.CellWriteLemmas.{rows_swapped}
 use Rattle.grid.proofs.grid.Grid.swap.Goals as goal
 
 pub place-i-requires-clause-row_in : goal.place-i-requires-clause-row_in

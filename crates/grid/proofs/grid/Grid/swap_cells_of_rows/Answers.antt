@@ -1,5 +1,5 @@
 use Rattle.std.proofs.Common.{rules, arith}
-use Rattle.grid.proofs.SwapLineLemmas.{rows_next, rows_done}
+use Rattle.grid.proofs.Lemmas.{rows_next, rows_done}
 use Rattle.grid.proofs.grid.Grid.swap_cells_of_rows.Goals as goal
 
 pub loop-col-preserved : goal.loop-col-preserved

@@ -1,4 +1,4 @@
-use Rattle.grid.proofs.SwapLineLemmas.{RowsSwapping}
+use Rattle.grid.proofs.Lemmas.{RowsSwapping}
 use Rattle.grid.proofs.grid.Grid.swap_cells_of_rows.Given as goal
 
 abbrev pub invariant-loop-col : goal.invariant-loop-col

@@ -1,5 +1,5 @@
 use Rattle.std.proofs.Common.{rules}
-use Rattle.grid.proofs.SwapLineLemmas.{cols_by_rows}
+use Rattle.grid.proofs.Lemmas.{cols_by_rows}
 use Rattle.grid.proofs.grid.Grid.swap_cols.Goals as goal
 
 pub returns-clause-rows : goal.returns-clause-rows

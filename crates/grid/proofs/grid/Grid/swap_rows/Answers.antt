@@ -1,8 +1,6 @@
 use Rattle.std.proofs.Common.{rules, ◌≤◌, ◌+◌, sym, ◌∙◌, ap, arith, mul-le-mul_right}
-use Rattle.grid_base.proofs.Common.{length-swap, row_count}
-use Rattle.grid_base.proofs.ViewLemmas.{view-cols}
-use Rattle.grid.proofs.SeenLemmas.{seen_rows, seen_cols}
-use Rattle.grid.proofs.SwapLineLemmas.{rows_by_blocks}
+use Rattle.grid.proofs.Common.{length-swap, row_count, view-cols}
+use Rattle.grid.proofs.Lemmas.{seen_rows, seen_cols, rows_by_blocks}
 use Rattle.grid.proofs.grid.Grid.swap_rows.Goals as goal
 
 pub swap_lines-requires-clause-a_in : goal.swap_lines-requires-clause-a_in

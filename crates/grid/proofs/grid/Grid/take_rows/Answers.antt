@@ -1,7 +1,5 @@
 use Rattle.std.proofs.Common.{sym, ◌∙◌, arith}
-use Rattle.grid.proofs.SeenLemmas.{seen_same}
-use Rattle.grid.proofs.TransposedEditLemmas.{either_way}
-use Rattle.grid.proofs.SeenEditLemmas.{taken_in, taken_cells, taken_small, taken_out, rows_taken_out, taken_fits, taken_storage}
+use Rattle.grid.proofs.Lemmas.{seen_same, either_way, taken_in, taken_cells, taken_small, taken_out, rows_taken_out, taken_fits, taken_storage}
 use Rattle.grid.proofs.grid.Grid.take_rows.Goals as goal
 
 pub overflow_sub-rest : goal.overflow_sub-rest

@@ -1,7 +1,6 @@
 use Rattle.std.proofs.Common.{rules, sym, ◌∙◌, ap}
+use Rattle.grid.proofs.Common.{rows-act, cols-act, view-transpose, view-storage, HoldsSize-transposed}
 use Rattle.grid_base.specs.Table.{row_count, col_count}
-use Rattle.grid_base.proofs.ActLemmas.{rows-act, cols-act}
-use Rattle.grid_base.proofs.ViewLemmas.{view-transpose, view-storage, HoldsSize-transposed}
 use Rattle.grid.proofs.grid.Grid.transpose.Goals as goal
 
 pub returns-clause-rows : goal.returns-clause-rows

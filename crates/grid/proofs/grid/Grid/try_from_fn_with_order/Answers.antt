@@ -1,7 +1,6 @@
 use Rattle.std.proofs.Common.{Ok, arith, rules}
-use Rattle.grid_base.proofs.Common.{IsSize, positions, PairsUp, FailsFirst}
-use Rattle.grid_base.proofs.ViewLemmas.{FitsUsize-size}
-use Rattle.grid.proofs.CellCallLemmas.{callable_positions, answers_made, seen_made, fails_at}
+use Rattle.grid.proofs.Common.{IsSize, positions, PairsUp, FailsFirst, FitsUsize-size}
+use Rattle.grid.proofs.Lemmas.{callable_positions, answers_made, seen_made, fails_at}
 use Rattle.grid.proofs.grid.Grid.try_from_fn_with_order.Goals as goal
 
 pub try_from_fn-requires : goal.try_from_fn-requires

@@ -1,5 +1,5 @@
 use Rattle.std.proofs.Common.{rules, Ok}
-use Rattle.grid.proofs.MadeLikeLemmas.{like_same, like_mapped, like_fault}
+use Rattle.grid.proofs.Lemmas.{like_same, like_mapped, like_fault}
 use Rattle.grid.proofs.grid.Grid.try_map_indexed.Goals as goal
 
 pub returns-in-Ok-clause-same : goal.returns-in-Ok-clause-same

@@ -1,5 +1,4 @@
-use Rattle.grid.proofs.CellCallLemmas.{seen_callable, seen_mapped}
-use Rattle.grid.proofs.SeenAllCellsLemmas.{whole_same}
+use Rattle.grid.proofs.Lemmas.{seen_callable, seen_mapped, whole_same}
 use Rattle.grid.proofs.grid.Grid.update.Goals as goal
 
 pub update-requires-clause-calls : goal.update-requires-clause-calls

@@ -1,5 +1,5 @@
 use Rattle.std.proofs.Common.{arith}
-use Rattle.grid.proofs.PastedLemmas.{updated_cell, set_wrote}
+use Rattle.grid.proofs.Lemmas.{updated_cell, set_wrote}
 use Rattle.grid.proofs.grid.Grid.update_cell.Goals as goal
 
 pub f-new-requires : goal.f-new-requires

@@ -1,6 +1,6 @@
 use Rattle.std.proofs.Common.{◌≡◌, ◌+◌, ◌∙◌, sym, subst, arith}
-use Rattle.grid.specs.Pasted.{IsWithin, CellsUpdated}
-use Rattle.grid.proofs.PastedLemmas.{updated_none, updated_col}
+use Rattle.grid.proofs.Common.{IsWithin, CellsUpdated}
+use Rattle.grid.proofs.Lemmas.{updated_none, updated_col}
 use Rattle.grid.proofs.grid.Grid.update_in_row.Goals as goal
 
 pub loop-col-init : goal.loop-col-init

@@ -1,5 +1,5 @@
 use Rattle.std.proofs.Common.{◌+◌}
-use Rattle.grid.specs.Pasted.{IsWithin, CellsUpdated}
+use Rattle.grid.proofs.Common.{IsWithin, CellsUpdated}
 use Rattle.grid.proofs.grid.Grid.update_in_row.Given as goal
 
 abbrev pub invariant-loop-col : goal.invariant-loop-col

@@ -1,6 +1,6 @@
 use Rattle.std.proofs.Common.{◌≡◌, ◌+◌, ◌∙◌, sym, subst, arith}
-use Rattle.grid.specs.Pasted.{IsWithin, CellsUpdated}
-use Rattle.grid.proofs.PastedLemmas.{updated_none, updated_row, updated_part, in_part_within}
+use Rattle.grid.proofs.Common.{IsWithin, CellsUpdated}
+use Rattle.grid.proofs.Lemmas.{updated_none, updated_row, updated_part, in_part_within}
 use Rattle.grid.proofs.grid.Grid.update_part.Goals as goal
 
 pub loop-row-init : goal.loop-row-init

@@ -1,5 +1,5 @@
 use Rattle.std.proofs.Common.{◌+◌}
-use Rattle.grid.specs.Pasted.{IsWithin, CellsUpdated}
+use Rattle.grid.proofs.Common.{IsWithin, CellsUpdated}
 use Rattle.grid.proofs.grid.Grid.update_part.Given as goal
 
 abbrev pub invariant-loop-row : goal.invariant-loop-row

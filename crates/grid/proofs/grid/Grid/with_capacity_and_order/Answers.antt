@@ -1,5 +1,5 @@
 use Rattle.std.proofs.Common.{◌∙◌, ap, length}
-use Rattle.grid_base.proofs.ViewLemmas.{none_by_storage}
+use Rattle.grid.proofs.Common.{none_by_storage}
 use Rattle.grid.proofs.grid.Grid.with_capacity_and_order.Goals as goal
 
 pub returns-clause-rows : goal.returns-clause-rows

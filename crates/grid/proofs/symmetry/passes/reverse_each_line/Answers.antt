@@ -1,5 +1,5 @@
 use Rattle.std.proofs.Common.{◌≡◌, ◌+◌, ◌-◌, ◌*◌, ◌∙◌, sym, ap, arith, ⊎_elim, slice_get}
-use Rattle.grid_base.proofs.Common.{cases_lt, mul-add-lt}
+use Rattle.grid.proofs.Common.{cases_lt, mul-add-lt}
 use Rattle.grid.proofs.symmetry.passes.reverse_each_line.Goals as goal
 
 pub loop-line-preserved : goal.loop-line-preserved

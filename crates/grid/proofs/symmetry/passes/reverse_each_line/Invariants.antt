@@ -1,5 +1,5 @@
 use Rattle.std.proofs.Common.{◌≡◌, ◌≤◌, ℕ, ◌<◌, ◌+◌, ◌-◌, ◌*◌, ◌/◌, length, slice_get}
-use Rattle.grid_base.specs.Tally.{saturating_count}
+use Rattle.grid.proofs.Common.{saturating_count}
 use Rattle.grid.proofs.symmetry.passes.reverse_each_line.Given as goal
 
 abbrev pub invariant-loop-line : goal.invariant-loop-line

@@ -1,5 +1,5 @@
 use Rattle.std.proofs.Common.{refl, arith}
-use Rattle.grid.proofs.ReverseLemmas.{reversing_none, reversing_more, reversing_all, lines_apart, lines_within}
+use Rattle.grid.proofs.Lemmas.{reversing_none, reversing_more, reversing_all, lines_apart, lines_within}
 use Rattle.grid.proofs.symmetry.passes.reverse_lines.Goals as goal
 
 pub loop-line-init : goal.loop-line-init

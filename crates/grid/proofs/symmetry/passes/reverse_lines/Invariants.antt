@@ -1,6 +1,6 @@
 use Rattle.std.proofs.Common.{◌≡◌, ◌*◌}
-use Rattle.grid_base.specs.Tally.{saturating_count}
-use Rattle.grid.proofs.ReverseLemmas.{Reversing}
+use Rattle.grid.proofs.Common.{saturating_count}
+use Rattle.grid.proofs.Lemmas.{Reversing}
 use Rattle.grid.proofs.symmetry.passes.reverse_lines.Given as goal
 
 abbrev pub invariant-loop-line : goal.invariant-loop-line

@@ -1,5 +1,5 @@
 use Rattle.std.specs.List.{AllZip}
-use Rattle.grid.proofs.CloneLemmas.{clone_seen}
+use Rattle.grid.proofs.Lemmas.{clone_seen}
 use Rattle.grid.proofs.traits.GridClone.clone.Goals as goal
 
 pub returns : goal.returns

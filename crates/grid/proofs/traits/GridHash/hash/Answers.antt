@@ -1,6 +1,6 @@
 use Rattle.std.proofs.Common.{take, sym, ap, ◌∙◌, arith, flat_map, fold}
-use Rattle.grid_base.proofs.Common.{fold-append, row}
-use Rattle.grid.proofs.TextLemmas.{flat_map_next}
+use Rattle.grid.proofs.Common.{fold-append, row}
+use Rattle.grid.proofs.Lemmas.{flat_map_next}
 use Rattle.grid.proofs.traits.GridHash.hash.Goals as goal
 
 pub loop-row-preserved : goal.loop-row-preserved

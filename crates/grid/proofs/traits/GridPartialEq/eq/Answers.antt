@@ -1,6 +1,6 @@
 use Rattle.std.proofs.Common.{rules, ◌≡◌, sym, ap, ◌∙◌, arith}
-use Rattle.grid_base.proofs.Common.{pointwise, row_count, col_count, storage}
-use Rattle.grid.proofs.SameLemmas.{same_stored}
+use Rattle.grid.proofs.Common.{pointwise, row_count, col_count, storage}
+use Rattle.grid.proofs.Lemmas.{same_stored}
 use Rattle.grid.proofs.traits.GridPartialEq.eq.Goals as goal
 
 pub returns-then-eq : goal.returns-then-eq

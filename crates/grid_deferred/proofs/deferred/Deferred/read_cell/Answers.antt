@@ -1,8 +1,6 @@
 use Rattle.std.proofs.Common.{sym, ◌∙◌, ap, option_copied}
-use Rattle.grid_deferred.specs.Deferred.{shown}
-use Rattle.grid_deferred.proofs.PendingLemmas.{in_range_some}
-use Rattle.grid.proofs.TransposedEditLemmas.{either_way}
-use Rattle.grid_base.proofs.ActLemmas.{IsTable-act}
+use Rattle.grid_deferred.proofs.Common.{shown, either_way, IsTable-act}
+use Rattle.grid_deferred.proofs.Lemmas.{in_range_some}
 use Rattle.grid_deferred.proofs.deferred.Deferred.read_cell.Goals as goal
 
 pub returns-in_err-copy-in-Some-clause-err_memory : goal.returns-in_err-copy-in-Some-clause-err_memory

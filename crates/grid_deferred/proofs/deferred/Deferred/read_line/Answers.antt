@@ -1,8 +1,7 @@
 use Rattle.std.proofs.Common.{Some, ap, ◌∙◌, arith}
+use Rattle.grid_deferred.proofs.Common.{shown, either_way}
+use Rattle.grid_deferred.proofs.Lemmas.{read_some, read_none, read_takes}
 use Rattle.grid_commands.specs.Reply.{line_is}
-use Rattle.grid_deferred.specs.Deferred.{shown}
-use Rattle.grid.proofs.TransposedEditLemmas.{either_way}
-use Rattle.grid_deferred.proofs.ReadLemmas.{read_some, read_none, read_takes}
 use Rattle.grid_deferred.proofs.deferred.Deferred.read_line.Goals as goal
 
 pub returns-then-at-size-clause-reply : goal.returns-then-at-size-clause-reply

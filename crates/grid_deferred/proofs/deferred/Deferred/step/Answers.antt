@@ -1,10 +1,8 @@
 use Rattle.std.proofs.Common.{◌≡◌, refl, rules}
-use Rattle.grid.specs.Prelude.{command_value, apply, step_rows, RowsAreKnown}
+use Rattle.grid_deferred.proofs.Common.{command_value, apply, step_rows, RowsAreKnown, base, shown, either_way}
+use Rattle.grid_deferred.proofs.Lemmas.{always_ok, pending-then, shown-then, reply-then, pending-still, applies-none, none_applied, get-rows, line-rows}
 use Rattle.grid_base.specs.declared.words.Symmetry.{Symmetry}
 use Rattle.grid_commands.specs.declared.command.Axis.TheVariants.{Row, Col}
-use Rattle.grid_deferred.specs.Deferred.{base, shown}
-use Rattle.grid_deferred.proofs.PendingLemmas.{always_ok, pending-then, shown-then, reply-then, pending-still, applies-none, none_applied, get-rows, line-rows}
-use Rattle.grid.proofs.TransposedEditLemmas.{either_way}
 use Rattle.grid_deferred.proofs.deferred.Deferred.step.Goals as goal
 
 pub returns-in-Apply-clause-stepped : goal.returns-in-Apply-clause-stepped

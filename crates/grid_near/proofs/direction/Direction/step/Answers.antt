@@ -1,5 +1,5 @@
 use Rattle.std.proofs.Common.{arith}
-use Rattle.std.proofs.lemmas.Grind.{common_steps}
+use Rattle.grid_near.proofs.Common.{common_steps}
 use Rattle.grid_near.proofs.direction.Direction.step.Goals as goal
 
 pub returns-then-is_there : goal.returns-then-is_there

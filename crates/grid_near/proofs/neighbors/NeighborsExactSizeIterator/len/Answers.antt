@@ -1,9 +1,7 @@
 use Rattle.std.proofs.Common.{◌≡◌, ◌∙◌, sym, ap, length, cond, arith}
 use Rattle.std.proofs.Math.Nat.{min-eq_left}
-use Rattle.grid_near.specs.Around.{positions_from}
-use Rattle.grid_near.proofs.AroundLemmas.{open_left, strided_there}
-use Rattle.grid_near.proofs.NeighborLemmas.{few_left}
-use Rattle.grid_near.proofs.WrappedLemmas.{joined_left}
+use Rattle.grid_near.proofs.Common.{positions_from}
+use Rattle.grid_near.proofs.Lemmas.{open_left, strided_there, few_left, joined_left}
 use Rattle.grid_near.proofs.neighbors.NeighborsExactSizeIterator.len.Goals as goal
 use Rattle.grid_near.proofs.neighbors.NeighborsExactSizeIterator.len.Goals.{then-self, else-self}
 

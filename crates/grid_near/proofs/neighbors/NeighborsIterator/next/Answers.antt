@@ -1,7 +1,6 @@
 use Rattle.std.proofs.Common.{◌+◌, ◌-◌, ◌*◌, ◌<◌, ◌∙◌, ◌∷◌, length, ap, sym, slice_index_or, arith, rules}
-use Rattle.grid_near.specs.Around.{strided_cell, cells_from}
-use Rattle.grid_near.proofs.AroundLemmas.{box_within, inner_item, inner_step}
-use Rattle.grid_near.proofs.NeighborLemmas.{few_left, goes_on}
+use Rattle.grid_near.proofs.Common.{strided_cell, cells_from}
+use Rattle.grid_near.proofs.Lemmas.{box_within, inner_item, inner_step, few_left, goes_on}
 use Rattle.grid_near.proofs.neighbors.NeighborsIterator.next.Goals as goal
 
 within : (g : _) (c : goal.After-offset-i g) → c.self.inside.first + c.offset-i.result.0 * c.self.inside.table.strides.0 + c.offset-i.result.1 * c.self.inside.table.strides.1 < length c.self.inside.table.cells.now

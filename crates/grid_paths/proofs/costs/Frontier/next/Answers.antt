@@ -1,10 +1,7 @@
 use Rattle.std.proofs.Common.{◌≡◌, None, ◌∙◌, sym, ap, subst, rules, heap_items}
-use Rattle.grid_base.specs.Table.{row_count, col_count, with_cell, InRange}
-use Rattle.grid_paths.proofs.AlikeLemmas.{set_there}
-use Rattle.grid_paths.specs.Cheapest.{Holds}
-use Rattle.grid_paths.specs.Relaxing.{IsClosed}
-use Rattle.grid_paths.proofs.RelaxLemmas.{left_inside}
-use Rattle.grid_paths.proofs.CheapLemmas.{IsCostSearch-stale}
+use Rattle.grid_paths.proofs.Common.{with_cell, InRange, Holds, IsClosed}
+use Rattle.grid_paths.proofs.Lemmas.{set_there, left_inside, IsCostSearch-stale}
+use Rattle.grid_base.specs.Table.{row_count, col_count}
 use Rattle.grid_paths.proofs.costs.Frontier.next.Goals as goal
 
 pub loop-first-preserved : goal.loop-first-preserved

@@ -1,7 +1,5 @@
 use Rattle.std.proofs.Common.{◌≡◌, length, heap_items}
-use Rattle.grid_base.proofs.Common.{IsHeap}
-use Rattle.grid_paths.specs.Relaxing.{by_sum}
-use Rattle.grid_paths.specs.Frontier.{IsEnough}
+use Rattle.grid_paths.proofs.Common.{IsHeap, by_sum, IsEnough}
 use Rattle.grid_paths.proofs.costs.Frontier.next.Given as goal
 
 abbrev pub invariant-loop-first : goal.invariant-loop-first

@@ -1,8 +1,6 @@
 use Rattle.std.proofs.Common.{◌≡◌, ℕ, ◌+◌, Some, refl, ◌∙◌, arith, heap_items}
-use Rattle.grid_base.specs.Table.{with_cell, InRange}
-use Rattle.grid_paths.proofs.AlikeLemmas.{set_there}
-use Rattle.grid_paths.specs.Cheapest.{Holds}
-use Rattle.grid_paths.proofs.RelaxLemmas.{Enters-closed, Enters-low, Relaxes-wrote, same_size, not_less}
+use Rattle.grid_paths.proofs.Common.{with_cell, InRange, Holds}
+use Rattle.grid_paths.proofs.Lemmas.{set_there, Enters-closed, Enters-low, Relaxes-wrote, same_size, not_less}
 use Rattle.grid_paths.proofs.costs.Frontier.relax.Goals as goal
 
 pub is_less-requires : goal.is_less-requires

@@ -1,9 +1,7 @@
 use Rattle.std.proofs.Common.{take, sym, subst}
-use Rattle.std.proofs.lemmas.Result.{on_ok_weaker}
+use Rattle.grid_paths.proofs.Common.{on_ok_weaker, IsStep, Enters}
+use Rattle.grid_paths.proofs.Lemmas.{Enters-steps}
 use Rattle.grid_near.specs.declared.steps.Steps.TheVariants.{Sides, All}
-use Rattle.grid_paths.specs.Walks.{IsStep}
-use Rattle.grid_paths.specs.Frontier.{Enters}
-use Rattle.grid_paths.proofs.RelaxLemmas.{Enters-steps}
 use Rattle.grid_paths.proofs.costs.Frontier.relax_around.Goals as goal
 
 pub returns-in-Sides : goal.returns-in-Sides

@@ -1,6 +1,6 @@
 use Rattle.std.proofs.Common.{◌≡◌, ◌<◌, ◌≤◌, Some, length, get_or, arith, slice_get}
-use Rattle.std.proofs.lemmas.Option.{slice_get-get_or}
-use Rattle.grid_paths.proofs.RelaxLemmas.{Enters-start, Enters-next, Enters-end}
+use Rattle.grid_paths.proofs.Common.{slice_get-get_or}
+use Rattle.grid_paths.proofs.Lemmas.{Enters-start, Enters-next, Enters-end}
 use Rattle.grid_paths.proofs.costs.Frontier.relax_each.Goals as goal
 
 pub loop-near-init : goal.loop-near-init

@@ -1,5 +1,5 @@
-use Rattle.grid_paths.specs.Frontier.{Enters}
-use Rattle.grid_paths.proofs.AroundLemmas.{Before}
+use Rattle.grid_paths.proofs.Common.{Enters}
+use Rattle.grid_paths.proofs.Lemmas.{Before}
 use Rattle.grid_paths.proofs.costs.Frontier.relax_each.Given as goal
 
 abbrev pub invariant-loop-near : goal.invariant-loop-near

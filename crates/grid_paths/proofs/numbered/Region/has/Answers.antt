@@ -1,6 +1,6 @@
 use Rattle.std.proofs.Common.{◌≡◌, Some, None, true, sym, ◌∙◌, subst}
+use Rattle.grid_paths.proofs.Lemmas.{open_alike, alike_open}
 use Rattle.grid_base.specs.Table.{cell}
-use Rattle.grid_paths.proofs.AlikeLemmas.{open_alike, alike_open}
 use Rattle.grid_paths.proofs.numbered.Region.has.Goals as goal
 
 pub returns-in-Some-clause-equal : goal.returns-in-Some-clause-equal

@@ -1,10 +1,7 @@
 use Rattle.std.proofs.Common.{take, sym, subst, inl}
-use Rattle.std.proofs.lemmas.Result.{on_ok_weaker}
+use Rattle.grid_paths.proofs.Common.{on_ok_weaker, IsStep, alike, Spreads}
+use Rattle.grid_paths.proofs.Lemmas.{Spreads-steps, alike_fits}
 use Rattle.grid_near.specs.declared.steps.Steps.TheVariants.{Sides, All}
-use Rattle.grid_paths.specs.Walks.{IsStep, alike}
-use Rattle.grid_paths.specs.Wave.{Spreads}
-use Rattle.grid_paths.proofs.StepLemmas.{Spreads-steps}
-use Rattle.grid_paths.proofs.AlikeLemmas.{alike_fits}
 use Rattle.grid_paths.proofs.numbered.Region.number_around.Goals as goal
 
 pub returns-in-Sides : goal.returns-in-Sides

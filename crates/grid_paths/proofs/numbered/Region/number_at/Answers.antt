@@ -1,7 +1,7 @@
 use Rattle.std.proofs.Common.{◌≡◌, Some, None, refl, ◌∙◌, ap}
+use Rattle.grid_paths.proofs.Common.{alike}
+use Rattle.grid_paths.proofs.Lemmas.{Spreads-mark}
 use Rattle.grid_base.specs.Table.{cell}
-use Rattle.grid_paths.specs.Walks.{alike}
-use Rattle.grid_paths.proofs.StepLemmas.{Spreads-mark}
 use Rattle.grid_paths.proofs.numbered.Region.number_at.Goals as goal
 
 pub returns-in_ok-mark : goal.returns-in_ok-mark

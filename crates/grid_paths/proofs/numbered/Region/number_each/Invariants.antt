@@ -1,6 +1,5 @@
-use Rattle.grid_paths.specs.Walks.{alike}
-use Rattle.grid_paths.specs.Wave.{Spreads}
-use Rattle.grid_paths.proofs.AroundLemmas.{Before}
+use Rattle.grid_paths.proofs.Common.{alike, Spreads}
+use Rattle.grid_paths.proofs.Lemmas.{Before}
 use Rattle.grid_paths.proofs.numbered.Region.number_each.Given as goal
 
 abbrev pub invariant-loop-near : goal.invariant-loop-near

@@ -1,10 +1,6 @@
 use Rattle.std.proofs.Common.{◌≡◌, ap, ◌<◌, ◌≤◌, [], ◌∷◌, ◌++◌, Some, length, refl, ◌∙◌, subst, arith}
-use Rattle.grid_base.proofs.Common.{slice_get_read, row_count, col_count}
-use Rattle.grid_paths.specs.Walks.{alike}
-use Rattle.grid_paths.specs.Search.{IsAt}
-use Rattle.grid_paths.proofs.StepLemmas.{Grew, Marks-grew, Marks-fewer}
-use Rattle.grid_paths.proofs.NumberLemmas.{IsNumbering-start, IsNumbering-round, IsNumbered-end}
-use Rattle.grid_base.proofs.TableLemmas.{cell_in_range}
+use Rattle.grid_paths.proofs.Common.{slice_get_read, row_count, col_count, alike, IsAt, cell_in_range}
+use Rattle.grid_paths.proofs.Lemmas.{Grew, Marks-grew, Marks-fewer, IsNumbering-start, IsNumbering-round, IsNumbered-end}
 use Rattle.grid_paths.proofs.numbered.Region.number_region.Goals as goal
 
 pub loop-next-init : goal.loop-next-init

@@ -1,8 +1,6 @@
 use Rattle.std.proofs.Common.{◌≡◌, ◌+◌, ◌-◌, length}
-use Rattle.grid_base.specs.GridValue.{SameSizeAndOrder}
-use Rattle.grid_paths.specs.Walks.{alike}
-use Rattle.grid_paths.specs.Search.{unreached}
-use Rattle.grid_paths.proofs.NumberLemmas.{IsNumbering}
+use Rattle.grid_paths.proofs.Common.{SameSizeAndOrder, alike, unreached}
+use Rattle.grid_paths.proofs.Lemmas.{IsNumbering}
 use Rattle.grid_paths.proofs.numbered.Region.number_region.Given as goal
 
 abbrev pub invariant-loop-next : goal.invariant-loop-next

@@ -1,9 +1,6 @@
 use Rattle.std.proofs.Common.{rules, ◌≡◌, false, sym, subst, ⊎_elim}
-use Rattle.grid_base.specs.Table.{with_cell, InRange}
-use Rattle.grid_paths.specs.Walks.{IsOpen}
-use Rattle.grid_paths.proofs.AlikeLemmas.{set_there}
-use Rattle.grid_paths.proofs.LeftLemmas.{free_there, inside_left, IsLeft-reach}
-use Rattle.grid_paths.proofs.StepLemmas.{Spreads-mark, Spreads-stay}
+use Rattle.grid_paths.proofs.Common.{with_cell, InRange, IsOpen}
+use Rattle.grid_paths.proofs.Lemmas.{set_there, free_there, inside_left, IsLeft-reach, Spreads-mark, Spreads-stay}
 use Rattle.grid_paths.proofs.search.Search.reach.Goals as goal
 
 pub returns-in_ok-mark : goal.returns-in_ok-mark

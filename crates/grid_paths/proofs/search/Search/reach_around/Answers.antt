@@ -1,10 +1,6 @@
 use Rattle.std.proofs.Common.{◌≡◌, ℕ, ◌+◌, Option, Some, Contains, take, sym, subst, ◌∙◌, ap}
-use Rattle.std.proofs.lemmas.Result.{on_ok_weaker}
-use Rattle.grid_base.proofs.TableLemmas.{cell_in_range}
-use Rattle.grid_paths.specs.Around.{AreSteps}
-use Rattle.grid_paths.specs.Wave.{Reaches}
-use Rattle.grid_paths.proofs.SearchLemmas.{one_mark}
-use Rattle.grid_paths.proofs.LeftLemmas.{Reaches-steps}
+use Rattle.grid_paths.proofs.Common.{on_ok_weaker, cell_in_range, AreSteps, Reaches}
+use Rattle.grid_paths.proofs.Lemmas.{one_mark, Reaches-steps}
 use Rattle.grid_paths.proofs.search.Search.reach_around.Goals as goal
 
 pub index-requires : goal.index-requires

@@ -1,5 +1,5 @@
-use Rattle.grid_paths.specs.Wave.{Reaches}
-use Rattle.grid_paths.proofs.AroundLemmas.{Before}
+use Rattle.grid_paths.proofs.Common.{Reaches}
+use Rattle.grid_paths.proofs.Lemmas.{Before}
 use Rattle.grid_paths.proofs.search.Search.reach_each.Given as goal
 
 abbrev pub invariant-loop-near : goal.invariant-loop-near

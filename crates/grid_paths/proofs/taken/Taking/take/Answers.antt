@@ -1,9 +1,8 @@
 use Rattle.std.proofs.Common.{◌≡◌, ◌≢◌, Some, None, sym, ◌∙◌, ap, refl, rules, subst}
-use Rattle.grid_base.specs.Table.{cell, with_cell}
+use Rattle.grid_paths.proofs.Common.{with_cell, way_of, undone, TakesAll}
+use Rattle.grid_paths.proofs.Lemmas.{TakesAll-one, TakesAll-stay, undone-taken}
+use Rattle.grid_base.specs.Table.{cell}
 use Rattle.grid_paths.specs.declared.taken.Enter.TheVariants.{No}
-use Rattle.grid_paths.specs.Flood.{way_of}
-use Rattle.grid_paths.specs.Taken.{undone, TakesAll}
-use Rattle.grid_paths.proofs.TakenLemmas.{TakesAll-one, TakesAll-stay, undone-taken}
 use Rattle.grid_paths.proofs.taken.Taking.take.Goals as goal
 
 pub returns-in-None-clause-takes : goal.returns-in-None-clause-takes

@@ -1,9 +1,7 @@
 use Rattle.std.proofs.Common.{◌≡◌, take, sym, ◌∙◌, subst}
-use Rattle.std.proofs.lemmas.Result.{on_ok_weaker}
+use Rattle.grid_paths.proofs.Common.{on_ok_weaker, AreSteps, way_of}
+use Rattle.grid_paths.proofs.Lemmas.{TakesAll-steps}
 use Rattle.grid_paths.specs.declared.taken.Enter.TheVariants.{On}
-use Rattle.grid_paths.specs.Around.{AreSteps}
-use Rattle.grid_paths.specs.Flood.{way_of}
-use Rattle.grid_paths.proofs.TakenLemmas.{TakesAll-steps}
 use Rattle.grid_paths.proofs.taken.Taking.take_around.Goals as goal
 
 pub returns-in-Sides-clause-takes : goal.returns-in-Sides-clause-takes

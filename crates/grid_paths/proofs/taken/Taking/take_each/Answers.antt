@@ -1,8 +1,6 @@
 use Rattle.std.proofs.Common.{◌≡◌, ◌<◌, ◌≤◌, Some, length, get_or, refl, sym, subst, arith, slice_get}
-use Rattle.std.proofs.lemmas.Option.{slice_get-get_or}
-use Rattle.grid_paths.specs.Flood.{way_of}
-use Rattle.grid_paths.specs.Taken.{IsPassed, TakesAll}
-use Rattle.grid_paths.proofs.TakenLemmas.{CanUndo-trans, TakesEach-start, TakesEach-next, TakesEach-end}
+use Rattle.grid_paths.proofs.Common.{slice_get-get_or, way_of, IsPassed, TakesAll}
+use Rattle.grid_paths.proofs.Lemmas.{CanUndo-trans, TakesEach-start, TakesEach-next, TakesEach-end}
 use Rattle.grid_paths.proofs.taken.Taking.take_each.Goals as goal
 
 pub loop-near-init : goal.loop-near-init

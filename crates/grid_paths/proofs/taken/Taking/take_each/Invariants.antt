@@ -1,5 +1,5 @@
-use Rattle.grid_paths.specs.Taken.{CanUndo, Takes}
-use Rattle.grid_paths.proofs.AroundLemmas.{Before}
+use Rattle.grid_paths.proofs.Common.{CanUndo, Takes}
+use Rattle.grid_paths.proofs.Lemmas.{Before}
 use Rattle.grid_paths.proofs.taken.Taking.take_each.Given as goal
 
 abbrev pub invariant-loop-near : goal.invariant-loop-near

@@ -1,12 +1,7 @@
 use Rattle.std.proofs.Common.{◌≡◌, ◌<◌, length, refl, ◌∙◌, ap, sym, subst, arith, Contains, Some, slice_get}
-use Rattle.grid_base.proofs.Common.{slice_get_read, row_count, col_count}
-use Rattle.grid_paths.specs.Flood.{way_of}
-use Rattle.grid_paths.specs.Taken.{undone, count_left, IsPassed, TakesAll}
-use Rattle.grid_paths.specs.Walks.{IsStep}
+use Rattle.grid_paths.proofs.Common.{slice_get_read, row_count, col_count, way_of, undone, count_left, IsPassed, TakesAll, IsStep, cell_in_range}
+use Rattle.grid_paths.proofs.Lemmas.{CanUndo-trans, IsTaking-start, IsTaking-round, IsFlood-end, IsWritten-end}
 use Rattle.grid_paths.specs.declared.taken.Enter.TheVariants.{On}
-use Rattle.grid_paths.proofs.TakenLemmas.{CanUndo-trans}
-use Rattle.grid_paths.proofs.FloodLemmas.{IsTaking-start, IsTaking-round, IsFlood-end, IsWritten-end}
-use Rattle.grid_base.proofs.TableLemmas.{cell_in_range}
 use Rattle.grid_paths.proofs.taken.Taking.take_region.Goals as goal
 
 pub loop-next-init : goal.loop-next-init

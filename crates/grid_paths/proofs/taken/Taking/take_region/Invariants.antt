@@ -1,7 +1,6 @@
 use Rattle.std.proofs.Common.{◌+◌, ◌-◌, length}
-use Rattle.grid_paths.specs.Flood.{way_of}
-use Rattle.grid_paths.specs.Taken.{CanUndo, count_left}
-use Rattle.grid_paths.proofs.FloodLemmas.{IsTaking}
+use Rattle.grid_paths.proofs.Common.{way_of, CanUndo, count_left}
+use Rattle.grid_paths.proofs.Lemmas.{IsTaking}
 use Rattle.grid_paths.proofs.taken.Taking.take_region.Given as goal
 
 abbrev pub invariant-loop-next : goal.invariant-loop-next

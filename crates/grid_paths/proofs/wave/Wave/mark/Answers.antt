@@ -1,7 +1,6 @@
 use Rattle.std.proofs.Common.{None}
-use Rattle.grid_base.specs.Table.{InRange}
-use Rattle.grid_base.proofs.TableLemmas.{cell_in_range}
-use Rattle.grid_paths.proofs.AlikeLemmas.{set_there}
+use Rattle.grid_paths.proofs.Common.{InRange, cell_in_range}
+use Rattle.grid_paths.proofs.Lemmas.{set_there}
 use Rattle.grid_paths.proofs.wave.Wave.mark.Goals as goal
 
 pub returns : goal.returns

@@ -1,8 +1,8 @@
 -- One character more: a cell, or the first that is none.
 use Rattle.std.proofs.Common.{inr, ap, chars, ◌≡◌, ◌∙◌, arith, rules}
 use Rattle.std.specs.Str.Iter.{chars_rest}
-use Rattle.grid_base.proofs.Common.{nil_from_length, chars-nil, chars_past_char, IsUtf8-past_char}
-use Rattle.grid_text.proofs.LineLemmas.{first_scalar, past_char, line_start, line_more, line_bad, line_end}
+use Rattle.grid_text.proofs.Common.{nil_from_length, chars-nil, chars_past_char, IsUtf8-past_char}
+use Rattle.grid_text.proofs.Lemmas.{first_scalar, past_char, line_start, line_more, line_bad, line_end}
 use Rattle.grid_text.proofs.read.CharsPieces.push_row.Goals as goal
 
 pub loop-found-init : goal.loop-found-init

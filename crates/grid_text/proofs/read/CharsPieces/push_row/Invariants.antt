@@ -1,8 +1,8 @@
 -- The cells of the characters so far.
 use Rattle.std.proofs.Common.{chars, IsUtf8, ◌+◌, ◌≤◌, length}
 use Rattle.std.specs.Str.Iter.{chars_rest}
-use Rattle.grid_text.specs.Reading.{AnswersChar, bad_char}
-use Rattle.grid_text.proofs.LineLemmas.{LineSoFar}
+use Rattle.grid_text.proofs.Common.{AnswersChar, bad_char}
+use Rattle.grid_text.proofs.Lemmas.{LineSoFar}
 use Rattle.grid_text.proofs.read.CharsPieces.push_row.Given as goal
 
 abbrev pub invariant-loop-found : goal.invariant-loop-found

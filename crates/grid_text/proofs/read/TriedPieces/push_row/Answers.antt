@@ -1,8 +1,7 @@
 -- One word more: a cell, or the first that is none.
 use Rattle.std.proofs.Common.{inr, Ok, Some, None, subst, ap, ◌∙◌, ◌≡◌, ◌+◌, ◌≤◌, length, refl, arith, rules}
-use Rattle.text_lines.specs.Lines.{words_of}
-use Rattle.text_lines.proofs.WordLemmas.{words_fit}
-use Rattle.grid_text.proofs.LineLemmas.{line_start, line_room, line_more, line_bad, line_end}
+use Rattle.grid_text.proofs.Common.{words_of, words_fit}
+use Rattle.grid_text.proofs.Lemmas.{line_start, line_room, line_more, line_bad, line_end}
 use Rattle.grid_text.proofs.read.TriedPieces.push_row.Goals as goal
 
 pub loop-found-init : goal.loop-found-init

@@ -1,7 +1,6 @@
 -- The cells of the words so far.
-use Rattle.text_lines.specs.Lines.{words_of}
-use Rattle.grid_text.specs.Reading.{TriesWord, bad_word}
-use Rattle.grid_text.proofs.LineLemmas.{LineSoFar}
+use Rattle.grid_text.proofs.Common.{words_of, TriesWord, bad_word}
+use Rattle.grid_text.proofs.Lemmas.{LineSoFar}
 use Rattle.grid_text.proofs.read.TriedPieces.push_row.Given as goal
 
 abbrev pub invariant-loop-found : goal.invariant-loop-found
