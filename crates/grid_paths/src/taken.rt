@@ -129,6 +129,7 @@ impl<T: Copy + PartialEq + Drop, A: Allocator> Taking<T, A> {
         ensures written { OnOk result (IsWritten self.old.cells.mark
             (λ a. Contains (places self.new.taken.items) a) grid.old.rows grid.new.rows) }
     {
+        // For the proof: it says that the rows are a table.
         let _size = grid.size();
         self.take_each(starts, grid)?;
         let mut next = 0;

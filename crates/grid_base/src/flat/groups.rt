@@ -1,6 +1,6 @@
 //! Groups of cells that are among the lines of a vector, and how they are put there or taken out.
 //!
-//! All four calls see the cells as lines, here 2 of 3 cells, and each line's group, here 2 cells before place 1:
+//! All these calls see the cells as lines, here 2 of 3 cells, and each line's group, here 2 cells before place 1:
 //!
 //!     groups behind the lines   [a b c | d e f | 1 2 | 3 4]
 //!     groups in the lines       [a 1 2 b c | d 3 4 e f]
@@ -233,8 +233,6 @@ fn method_for<T>(cells: &[T], groups: Groups) -> Method
 ///     [1, 2, 3, 4, 5, 6]   weave(1 line of 4, 2 cells before place 2)    [1, 2, 5, 6, 3, 4]
 ///     [1, 3, 2, 4, 5, 6]   weave(2 lines of 2, 1 cell before place 1)   [1, 5, 3, 2, 6, 4]
 ///
-/// By halves, the groups of the first half of the lines come before the lines of the second half; then each half is woven.
-///
 /// Requires: the slice has the cells of these lines and groups.
 /// Cost: time in the number of cells times log2(lines) + 1 at most, by rotations; no memory.
 pub fn weave<T>(cells: &mut [T], groups: Groups)
@@ -246,6 +244,7 @@ pub fn weave<T>(cells: &mut [T], groups: Groups)
         Method::Singly => weave_singly(cells, groups),
         Method::ThroughRoom => move_through_room(cells, groups, Way::In),
         Method::InTurn => weave_in_turn(cells, groups),
+        // The groups of the first half of the lines come before the lines of the second half; then each half is woven.
         Method::ByHalves => {
             let half = groups.lines / 2;
             let rest = groups.lines - half;
