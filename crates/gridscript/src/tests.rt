@@ -120,19 +120,12 @@ impl Print for Process {
 }
 
 const BROKEN: Source = Err(io::ErrorKind::BrokenPipe);
-
 const REFUSED: Source = Err(io::ErrorKind::OutOfMemory);
-
 const SCRIPT: Source = Ok(b"RowMajor 2 1 2 3 4\nflip_rows\n");
-
 const EMPTY: Source = Ok(b"");
-
 const BAD: Source = Ok(b"RowMajor 0\nsize\nsizes\n");
-
 const DEFERRED: Option<&'static [u8]> = Some(b"deferred");
-
 const USAGE: &str = "usage: gridscript [deferred]";
-
 const TRANSFER: &str = "input or output failed";
 
 // An argument or none, the input, whether output is taken; the status, and the text where no output is written. Bad arguments end

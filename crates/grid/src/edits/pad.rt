@@ -26,9 +26,8 @@ impl<T, A: Allocator> Grid<T, A> {
         ensures fails { PaddingFails (row_count self.old.rows) (col_count self.old.rows) count
             self.old self.new result }
     {
-        let mut tally = Tally::new();
         let end = self.rows();
-        self.pad_rows_counted(end, count, &mut tally)
+        self.pad_rows_counted(end, count, &mut Tally::new())
     }
 
     /// Adds `count` columns of defaults at the end. The order stays. An empty grid stays empty.
@@ -68,8 +67,7 @@ impl<T, A: Allocator> Grid<T, A> {
         ensures fails { PaddingFails (row_count self.old.rows) (col_count self.old.rows) count
             self.old self.new result }
     {
-        let mut tally = Tally::new();
-        self.pad_rows_counted(0, count, &mut tally)
+        self.pad_rows_counted(0, count, &mut Tally::new())
     }
 
     /// Adds `count` columns of defaults at the beginning. The order stays. An empty grid stays empty.
@@ -137,9 +135,8 @@ impl<T, A: Allocator> Grid<T, A> {
             self.old self.new result }
         ensures order { self.new.order ≡ self.old.order }
     {
-        let mut tally = Tally::new();
         self.transpose();
-        let padded = self.pad_rows_counted(at, count, &mut tally);
+        let padded = self.pad_rows_counted(at, count, &mut Tally::new());
         self.transpose();
         padded
     }

@@ -25,10 +25,15 @@ impl<T, A: Allocator> Flat<T, A> {
         ensures len { IfOk result (λ g. length g ≡ layout.rows * layout.cols) }
         ensures cells { IfOk result (λ g. PairsUp (F.post f) (positions_of layout) g) }
     {
-        let (lines, _) = layout.lines();
+        let (lines, width) = layout.lines();
         let mut cells = Vec::with_capacity(alloc, layout.len())?;
         for line in 0..lines {
-            cells = push_line(cells, layout, line, &f);
+            // lines of one or two cells, whose number is a constant, become one loop, in vector code
+            cells = match width {
+                1 => push_line(cells, layout, line, 1, &f),
+                2 => push_line(cells, layout, line, 2, &f),
+                _ => push_line(cells, layout, line, width, &f),
+            };
         }
         Ok(Flat { cells })
     }
@@ -263,9 +268,11 @@ fn push_line<T, A: Allocator, F: Fn((usize, usize)) -> T>(
     mut cells: Vec<T, A>,
     layout: Layout,
     line: usize,
+    width: usize,
     f: &F,
 ) -> Vec<T, A>
     requires line { line < (lines_of layout).0 }
+    requires width { width ≡ (lines_of layout).1 }
     requires calls { CallableAtItems F.pre f.now (positions_of layout) }
     requires room { layout.rows * layout.cols ≤ vec_capacity cells }
     requires passed { vec_len cells ≡ line * (lines_of layout).1 }
@@ -276,7 +283,6 @@ fn push_line<T, A: Allocator, F: Fn((usize, usize)) -> T>(
     ensures answers { PairsUp
         (F.post f.now) (take (vec_len result) (positions_of layout)) result.items }
 {
-    let (_, width) = layout.lines();
     for k in 0..width {
         let at = layout.at(line, k);
         cells.push_reserved(f(at));

@@ -164,8 +164,7 @@ impl<T, A: Allocator> Flat<T, A> {
             unweave(self.cells.as_mut_slice(), groups);
             self.cells.truncate(groups.lines * groups.width);
         } else {
-            let mut tally = Tally::new();
-            self.close_up(groups, &mut tally);
+            self.close_up(groups, &mut Tally::new());
         }
     }
 }

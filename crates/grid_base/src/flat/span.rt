@@ -22,6 +22,13 @@ pub(super) fn row_span(layout: Layout, r: usize) -> Span
         (layout.rows * layout.cols) result }
 {
     match layout.order {
+        // with no number of cells to read, so that a loop over such rows has no loop within
+        _ if layout.cols == 1 => Span {
+            start: r,
+            end: r + 1,
+            stride: 1,
+            count: 1,
+        },
         Order::RowMajor => Span {
             start: r * layout.cols,
             end: r * layout.cols + layout.cols,

@@ -8,7 +8,7 @@ use std::mem;
 // Shorter blocks cost more to begin than vector code saves.
 const SHORT_BLOCK: usize = 8;
 
-// At a distance of one or two this many swaps are code without a loop.
+// At a distance that is a constant in the code this many swaps are code without a loop.
 const SWAPS_AT_ONCE: usize = 32;
 
 // At shorter distances nothing is gained by three blocks at once.
@@ -139,12 +139,56 @@ fn swap_forward_by_block<T>(
 //
 //     [1, 2, 3, 4, 5]   move_back(0, 2, 3)   [5, 4, 1, 2, 3]   3 swaps
 //
-// Requires: the places that these cells come to are in range, `shift` is not 0, and the run has fewer than 2^64 swaps
-// then.
-// Out of line, since the loop over the lines would keep its many running numbers in memory otherwise.
+// Requires: the places that they come to are in range, `shift` is not 0, and the run has fewer than 2^64 swaps then.
+pub(in crate::flat) fn move_back<T>(
+    cells: &mut [T],
+    start: usize,
+    shift: usize,
+    n: usize,
+    swaps: Swaps,
+) -> Swaps
+    requires { CanShift start shift n (length cells.old) swaps }
+    ensures cells { cells.new ≡ swapped_back start shift n cells.old }
+    ensures counted { HasShifted n swaps result }
+{
+    match shift {
+        _ if n == 0 => swaps,
+        1 => swap_back_by::<1, T>(cells, start, n, swaps),
+        2 => swap_back_by::<2, T>(cells, start, n, swaps),
+        8 => swap_back_by::<8, T>(cells, start, n, swaps),
+        _ => swap_back_by_block(cells, start, shift, n, swaps),
+    }
+}
+
+// As `move_back`, with constants in the code as in `swap_forward_by`. Out of line, since the loop over the lines would keep
+// its many running numbers in memory otherwise.
 #[inline(never)]
 #[tactic(auto, using(crate::proofs::ShiftLemmas::back_end, crate::proofs::ShiftLemmas::back_swap))]
-pub(in crate::flat) fn move_back<T>(
+fn swap_back_by<const SHIFT: usize, T>(
+    cells: &mut [T],
+    start: usize,
+    n: usize,
+    mut swaps: Swaps,
+) -> Swaps
+    requires { CanShift start SHIFT n (length cells.old) swaps }
+    ensures cells { cells.new ≡ swapped_back start SHIFT n cells.old }
+    ensures counted { HasShifted n swaps result }
+{
+    let mut left = n;
+    while SWAPS_AT_ONCE <= left {
+        for k in 0..SWAPS_AT_ONCE {
+            let at = start + (left - 1 - k);
+            swap_for_shift(cells, at, at + SHIFT, &mut swaps);
+        }
+        left -= SWAPS_AT_ONCE;
+    }
+    swap_back_by_block(cells, start, SHIFT, left, swaps)
+}
+
+// As `move_back`, one block after another. Out of line for the same reason.
+#[inline(never)]
+#[tactic(auto, using(crate::proofs::ShiftLemmas::back_end, crate::proofs::ShiftLemmas::back_swap))]
+fn swap_back_by_block<T>(
     cells: &mut [T],
     start: usize,
     shift: usize,

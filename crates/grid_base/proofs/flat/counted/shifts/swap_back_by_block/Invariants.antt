@@ -1,6 +1,6 @@
 use Rattle.std.proofs.Common.{◌≡◌, ◌+◌, ◌-◌, ◌≤◌}
 use Rattle.grid_base.proofs.Common.{swapped_back}
-use Rattle.grid_base.proofs.flat.counted.shifts.move_back.Given as goal
+use Rattle.grid_base.proofs.flat.counted.shifts.swap_back_by_block.Given as goal
 
 abbrev pub invariant-loop-left : goal.invariant-loop-left
 invariant-loop-left g l = record {
