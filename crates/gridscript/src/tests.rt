@@ -53,11 +53,8 @@ struct Process {
 
 impl Process {
     fn write(&self) -> io::Result<()> {
-        if self.takes_output {
-            Ok(())
-        } else {
-            Err(io::Error::from(io::ErrorKind::BrokenPipe))
-        }
+        let refused = io::Error::from(io::ErrorKind::BrokenPipe);
+        self.takes_output.then_some(()).ok_or(refused)
     }
 }
 
@@ -120,12 +117,17 @@ impl Print for Process {
 }
 
 const BROKEN: Source = Err(io::ErrorKind::BrokenPipe);
+
 const REFUSED: Source = Err(io::ErrorKind::OutOfMemory);
+
 const SCRIPT: Source = Ok(b"RowMajor 2 1 2 3 4\nflip_rows\n");
-const EMPTY: Source = Ok(b"");
+
 const BAD: Source = Ok(b"RowMajor 0\nsize\nsizes\n");
+
 const DEFERRED: Option<&'static [u8]> = Some(b"deferred");
+
 const USAGE: &str = "usage: gridscript [deferred]";
+
 const TRANSFER: &str = "input or output failed";
 
 // An argument or none, the input, whether output is taken; the status, and the text where no output is written. Bad arguments end
@@ -143,7 +145,7 @@ const PROCESSES: [(Option<&'static [u8]>, Source, bool, u8, &str); 14] = [
     (None, BROKEN, false, 4, TRANSFER),
     (DEFERRED, BROKEN, false, 4, TRANSFER),
     (None, REFUSED, false, 3, "out of memory"),
-    (None, EMPTY, false, 2, "line 1: bad grid"),
+    (None, Ok(b""), false, 2, "line 1: bad grid"),
     (None, BAD, false, 2, "line 3: bad command"),
 ];
 
