@@ -5,7 +5,8 @@ ghost use Rattle.std.specs.Iterator.{YieldsFirstRef, YieldsLastRef, YieldsFirstB
 ghost use Rattle.std.specs.Iterator.SizeHint.{IsWithinCount};
 ghost use Rattle.grid_base.specs.declared.order.Order.TheVariants.{RowMajor};
 
-use crate::lines::{ViewLineIter, ViewRowIter, no_cells};
+use crate::lines::ViewRowIter;
+use crate::stepped::SteppedIter;
 use crate::view::GridView;
 use std::alloc::AllocError;
 use std::iter::FusedIterator;
@@ -19,9 +20,9 @@ impl<'a, T> GridView<'a, T> {
         ensures gives { GivesLine (concat_rows self.now.rows) result }
     {
         ViewIter {
-            line: no_cells(self.cells),
+            line: SteppedIter::none(self.cells),
             rows: self.iter_rows(),
-            last: no_cells(self.cells),
+            last: SteppedIter::none(self.cells),
             width: self.cols.count,
         }
     }
@@ -47,9 +48,9 @@ impl<'a, T> GridView<'a, T> {
 #[derive(Drop)]
 pub struct ViewIter<'a, T> {
     // What is left of the row that is begun, the rows that aren't, and what is left of the row begun from its end.
-    line: ViewLineIter<'a, T>,
+    line: SteppedIter<'a, T>,
     rows: ViewRowIter<'a, T>,
-    last: ViewLineIter<'a, T>,
+    last: SteppedIter<'a, T>,
     width: usize,
 }
 
@@ -75,7 +76,7 @@ impl<'a, T> Iterator for ViewIter<'a, T> {
     fn next(&mut self) -> Option<&'a T> {
         match self.line.next() {
             Some(cell) => Some(cell),
-            None => match self.rows.next() {
+            None => match self.rows.next_stepped() {
                 Some(line) => {
                     self.line = line;
                     self.line.next()
@@ -101,7 +102,7 @@ impl<'a, T> DoubleEndedIterator for ViewIter<'a, T> {
     fn next_back(&mut self) -> Option<&'a T> {
         match self.last.next_back() {
             Some(cell) => Some(cell),
-            None => match self.rows.next_back() {
+            None => match self.rows.next_back_stepped() {
                 Some(line) => {
                     self.last = line;
                     self.last.next_back()

@@ -3,7 +3,7 @@ ghost use Rattle.std.specs.Prelude.{◌≡◌, ◌+◌, ◌*◌, ◌<◌, ◌≤
 ghost use Rattle.grid_view.specs.Prelude.{ClonesAreEqual, row, row_count, col_count, concat_rows, storage};
 
 use crate::lines::ViewLineIter;
-use crate::view::GridView;
+use crate::view::{GridView, row_start};
 use grid_base::{Flat, Order};
 use std::alloc::{AllocError, Allocator};
 
@@ -107,7 +107,7 @@ impl<'a, T> GridView<'a, T> {
         if self.cols.stride != 1 || self.cols.backwards {
             return None;
         }
-        let start = self.rows.number(r) * self.rows.stride;
+        let start = row_start(self.rows, self.cols, self.cells.len(), r);
         Some(&self.cells[start..start + self.cols.count])
     }
 

@@ -7,6 +7,7 @@ mod cells;
 mod copy;
 mod lines;
 mod same;
+mod stepped;
 mod text;
 mod view;
 

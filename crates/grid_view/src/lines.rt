@@ -7,7 +7,8 @@ ghost use Rattle.std.specs.Iterator.SizeHint.{IsWithinCount};
 ghost use Rattle.grid_view.specs.Lines.{directed, line_cells};
 
 use crate::axis::ViewAxis;
-use crate::view::GridView;
+use crate::stepped::SteppedIter;
+use crate::view::{GridView, row_start};
 use grid_base::GridLineIter;
 use std::alloc::AllocError;
 use std::iter::FusedIterator;
@@ -28,16 +29,6 @@ fn line_of<T>(cells: &[T], start: usize, axis: ViewAxis) -> ViewLineIter<'_, T>
     }
 }
 
-// Returns an iterator over no cells.
-pub(crate) fn no_cells<T>(cells: &[T]) -> ViewLineIter<'_, T>
-    ensures { result ≡ [] }
-{
-    ViewLineIter {
-        line: GridLineIter::over(&cells[..0], 1, 0),
-        backwards: false,
-    }
-}
-
 impl<'a, T> GridView<'a, T> {
     /// Returns an iterator over the cells of row `r`, from both ends.
     ///
@@ -49,8 +40,17 @@ impl<'a, T> GridView<'a, T> {
         requires { r < row_count self.now.rows }
         ensures gives { GivesLine (row self.now.rows r) result }
     {
-        let start = self.rows.number(r) * self.rows.stride;
+        let start = row_start(self.rows, self.cols, self.cells.len(), r);
         line_of(self.cells, start, self.cols)
+    }
+
+    // As `iter_row`, by steps that test nothing of the row.
+    fn step_row(&self, r: usize) -> SteppedIter<'a, T>
+        requires { r < row_count self.now.rows }
+        ensures { result ≡ row self.now.rows r }
+    {
+        let start = row_start(self.rows, self.cols, self.cells.len(), r);
+        SteppedIter::over(self.cells, start, self.cols)
     }
 
     /// Returns an iterator over the cells of column `c`, from both ends.
@@ -218,6 +218,22 @@ impl<'a, T> ViewRowIter<'a, T> {
         let left = self.len().saturating_sub(n);
         self.ahead.start = self.ahead.end - left;
         self.next()
+    }
+
+    // As `next`, by steps that test nothing of the row.
+    pub(crate) fn next_stepped(&mut self) -> Option<SteppedIter<'a, T>>
+        ensures { YieldsFirst (λ rest. rest) self.old result self.new }
+    {
+        let number = self.ahead.next()?;
+        Some(self.view.step_row(number))
+    }
+
+    // As `next_back`, by steps that test nothing of the row.
+    pub(crate) fn next_back_stepped(&mut self) -> Option<SteppedIter<'a, T>>
+        ensures { YieldsLast (λ rest. rest) self.old result self.new }
+    {
+        let number = self.ahead.next_back()?;
+        Some(self.view.step_row(number))
     }
 }
 

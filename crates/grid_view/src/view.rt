@@ -1,5 +1,5 @@
 //! A part of a table that a slice stores, seen through a symmetry.
-ghost use Rattle.std.specs.Prelude.{◌≡◌, ◌+◌, ◌<◌, ◌≤◌, IsTrue, ⊤, ◌↔◌, ◌⊎◌, IfSome, Some, [], length, option_copied};
+ghost use Rattle.std.specs.Prelude.{◌≡◌, ◌+◌, ◌-◌, ◌*◌, ◌<◌, ◌≤◌, IsTrue, ⊤, ◌↔◌, ◌⊎◌, IfSome, Some, [], length, option_copied};
 ghost use Rattle.grid_base.specs.Prelude.{row_count, col_count, cell, transposed, InRange, table_of, HoldsSize, act};
 ghost use Rattle.grid_view.specs.View.{offset, sub_table, HoldsView};
 
@@ -37,6 +37,18 @@ fn place(rows: ViewAxis, cols: ViewAxis, len: usize, r: usize, c: usize) -> usiz
     ensures within { result < len }
 {
     rows.number(r) * rows.stride + cols.number(c) * cols.stride
+}
+
+// Returns the place of the first cell of a row, as the storage has them.
+pub(crate) fn row_start(rows: ViewAxis, cols: ViewAxis, len: usize, r: usize) -> usize
+    requires holds { HoldsView rows cols len }
+    requires row_in { r < rows.count }
+    ensures start { result ≡ offset rows r }
+    ensures some { 0 < cols.count }
+    ensures steps { 0 < cols.stride }
+    ensures within { result + (cols.count - 1) * cols.stride < len }
+{
+    rows.number(r) * rows.stride
 }
 
 impl<'a, T> GridView<'a, T> {

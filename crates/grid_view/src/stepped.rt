@@ -1,0 +1,118 @@
+//! An iterator over cells whose places are a step apart, forward or back.
+ghost use Rattle.std.specs.Prelude.{◌≡◌, ◌<◌, ◌+◌, ◌-◌, ◌*◌, ⊤, [], length};
+ghost use Rattle.std.specs.Iterator.{YieldsFirstRef, YieldsLastRef, item_count};
+ghost use Rattle.grid_view.specs.Lines.{directed, line_cells};
+
+use crate::axis::ViewAxis;
+use std::alloc::AllocError;
+use std::marker::Model;
+
+// An iterator over cells whose places are a step apart, from both ends. A step back is one modulo 2^64, so that no step
+// tests which way it goes.
+#[derive(Drop)]
+pub(crate) struct SteppedIter<'a, T> {
+    cells: &'a [T],
+    // The place of the first cell that is left, from there to the next, and how many are left.
+    place: usize,
+    step: usize,
+    left: usize,
+}
+
+impl<'a, T> Model for SteppedIter<'a, T> {
+    ghost use Rattle.std.specs.Prelude.{List, length};
+    ghost use Rattle.grid_view.specs.Stepped.{stepped_cells, AreStepped};
+
+    ghost Value = { List T };
+
+    ghost view = { λ a. stepped_cells a.place a.step a.left a.cells.now };
+
+    ghost invariant = { λ a. AreStepped a.place a.step a.left (length a.cells.now) };
+}
+
+impl<'a, T> SteppedIter<'a, T> {
+    // Returns an iterator over the cells of an axis from a place on.
+    pub(crate) fn over(cells: &'a [T], start: usize, axis: ViewAxis) -> SteppedIter<'a, T>
+        requires some { 0 < axis.count }
+        requires steps { 0 < axis.stride }
+        requires within { start + (axis.count - 1) * axis.stride < length cells.now }
+        ensures { result ≡ directed axis.backwards (line_cells start axis.count axis.stride cells.now) }
+    {
+        let first = if axis.backwards {
+            let last = start + (axis.count - 1) * axis.stride;
+            (last, axis.stride.wrapping_neg())
+        } else {
+            (start, axis.stride)
+        };
+        SteppedIter {
+            cells,
+            place: first.0,
+            step: first.1,
+            left: axis.count,
+        }
+    }
+
+    // Returns an iterator over no cells.
+    pub(crate) fn none(cells: &'a [T]) -> SteppedIter<'a, T>
+        ensures { result ≡ [] }
+    {
+        SteppedIter {
+            cells,
+            place: 0,
+            step: 0,
+            left: 0,
+        }
+    }
+}
+
+impl<'a, T> Iterator for SteppedIter<'a, T> {
+    type Item = &'a T;
+
+    ghost next_gives = { YieldsFirstRef (λ rest. rest) };
+
+    ghost remaining = { item_count (λ rest. rest) };
+
+    fn next(&mut self) -> Option<&'a T> {
+        if self.left == 0 {
+            return None;
+        }
+        let cell = &self.cells[self.place];
+        self.place = self.place.wrapping_add(self.step);
+        self.left -= 1;
+        Some(cell)
+    }
+}
+
+impl<'a, T> DoubleEndedIterator for SteppedIter<'a, T> {
+    ghost next_back_gives = { YieldsLastRef (λ rest. rest) };
+
+    fn next_back(&mut self) -> Option<&'a T> {
+        if self.left == 0 {
+            return None;
+        }
+        self.left -= 1;
+        let last = self.place.wrapping_add(self.left.wrapping_mul(self.step));
+        Some(&self.cells[last])
+    }
+}
+
+impl<'a, T> ExactSizeIterator for SteppedIter<'a, T> {
+    fn len(&self) -> usize {
+        self.left
+    }
+}
+
+// Returns an iterator over the same remaining cells.
+impl<'a, T> Clone for SteppedIter<'a, T> {
+    ghost is_clone = { λ it copy. copy ≡ it };
+
+    ghost is_infallible = { λ _. ⊤ };
+
+    fn clone(&self) -> Result<Self, AllocError> {
+        Ok(SteppedIter {
+            cells: self.cells,
+            place: self.place,
+            step: self.step,
+            left: self.left,
+        })
+    }
+}
