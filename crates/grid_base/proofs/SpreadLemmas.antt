@@ -1,6 +1,6 @@
 -- Where the cells of lines are once each line has room for a group.
 use Rattle.std.proofs.Common.{◌≡◌, ◌≢◌, ℕ, ◌+◌, ◌-◌, ◌*◌, ◌/◌, ◌%◌, ◌<◌, ◌≤◌, List, length, min, refl, sym, ◌∙◌, ap, arith, ⊎_elim, slice_get, div-add-mod', mul-le-mul_right}
-use Rattle.grid_base.proofs.Common.{div-mul-add, mod_below, same_from_place, le-div, cases_lt, cases_eq, Widened, Opened}
+use Rattle.grid_base.proofs.Common.{div-mul-add, mod_below, same_from_place, le-div, cases_lt, cases_eq, PartReversed, Widened, Opened}
 use Rattle.grid_base.proofs.WeaveLemmas.{place_below}
 use Rattle.grid_base.proofs.ShiftLemmas.{MovedForward, MovedBack}
 
@@ -166,3 +166,19 @@ closing_run p q i k g x m z old now new le e lx em h mv ez =
 pub closing_end : {T : Type 0} (p q i k x : ℕ) (old now : List T) → i ≤ q → p * q ≤ x → Closing (spread q i k) (p * q) x old now → Widened p q i k now old
 closing_end p q i k x old now le end h =
     widened_by_spread p q i k now old le (λ y lt. sym (h.placed y (omega arith)))
+
+-- a single line, whose group is reversed with the cells behind it, which are then reversed alone
+pub closed_by_reversals : {T : Type 0} (p q i k : ℕ) (old one new : List T) → p ≡ 1 → i ≤ q → PartReversed i (k + (q - i)) old one → PartReversed i (q - i) one new → Widened p q i k new old
+closed_by_reversals p q i k old one new single le h again =
+    record {
+      before = λ l j lt lq li. ap (slice_get old) (first l lt (q + k) j) ∙ sym (ap (slice_get new) (first l lt q j) ∙ (again.others j (λ lo. absurd (omega arith)) ∙ h.others j (λ lo. absurd (omega arith))));
+      after = λ l j lt lq li.
+          let there : i + (j - i) ≡ j = omega arith in
+          let behind : i + (k + (q - i) - 1 - (q - i - 1 - (j - i))) ≡ k + j = omega arith in
+          ap (slice_get old) (first l lt (q + k) (k + j) ∙ sym behind)
+          ∙ sym (ap (slice_get new) (first l lt q j ∙ sym there)
+          ∙ (again.moved (j - i) (omega arith) ∙ h.moved (q - i - 1 - (j - i)) (omega arith)));
+    }
+  where
+    first : (l : ℕ) → l < p → (w j : ℕ) → l * w + j ≡ j
+    first l lt w j = let none : l ≡ 0 = omega arith in ap (λ x. x * w + j) none ∙ omega arith

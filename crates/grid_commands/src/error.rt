@@ -50,20 +50,20 @@ pub enum ShapeError {
 #[derive(Drop)]
 #[derive_where(Debug, PartialEq; T)]
 pub struct LineRefused<T, A: Allocator = Global> {
-    /// Why it was refused.
-    pub fault: GridError,
     /// The line, unchanged.
     pub line: Vec<T, A>,
+    /// Why it was refused.
+    pub fault: GridError,
 }
 
 /// The error of a call that inserts several lines: the lines, which come back, and why. The grid is unchanged.
 #[derive(Drop)]
 #[derive_where(Debug, PartialEq; T)]
 pub struct LinesRefused<T, A: Allocator = Global> {
-    /// Why they were refused.
-    pub fault: GridError,
     /// The lines, unchanged.
     pub lines: Vec<Vec<T, A>, A>,
+    /// Why they were refused.
+    pub fault: GridError,
 }
 
 /// Writes `too many cells` or `out of memory`.

@@ -2,6 +2,7 @@
 ghost use Rattle.std.specs.Prelude.{◌≡◌, ◌+◌, ◌*◌, ◌<◌, ◌≤◌, ◌++◌, length, IfOk, IfSome, OnOk, vec_len, vec_capacity};
 ghost use Rattle.grid_view.specs.Prelude.{ClonesAreEqual, row, row_count, col_count, concat_rows, storage};
 
+use crate::cells::ViewIter;
 use crate::lines::ViewLineIter;
 use crate::view::{GridView, row_start};
 use grid_base::{Flat, Order};
@@ -22,6 +23,22 @@ fn push_line<T: Clone, A: Allocator>(
         copies.push_reserved(copy);
     }
     Ok(())
+}
+
+// Returns a vector that has room for them with clones of these cells at its end.
+fn with_clones<T: Clone, A: Allocator>(
+    mut copies: Vec<T, A>,
+    cells: ViewIter<'_, T>,
+) -> Result<Vec<T, A>, AllocError>
+    requires clones { ClonesAreEqual T.is_clone }
+    requires room { vec_len copies + length cells ≤ vec_capacity copies }
+    ensures { IfOk result (λ made. made.items ≡ copies.items ++ cells.entry) }
+{
+    for cell in cells {
+        let copy = cell.clone()?;
+        copies.push_reserved(copy);
+    }
+    Ok(copies)
 }
 
 // Adds clones of the cells of row `r` to a vector that has room for them, at once where they are side by side.
@@ -56,6 +73,9 @@ fn copy_cells<T: Copy>(view: &GridView<'_, T>, r: usize, to: &mut [T])
 // A row of fewer cells stays in the cache with those beside it, also where it runs across the storage.
 const LONG: usize = 1024;
 
+// To begin a row of fewer cells costs more than to go over them with the rows beside them.
+const SHORT_ROW: usize = 16;
+
 // Returns clones of the cells of a view, row by row, and goes over it so.
 fn clones_in_turn<T: Clone, A: Allocator>(
     alloc: A,
@@ -66,6 +86,9 @@ fn clones_in_turn<T: Clone, A: Allocator>(
 {
     let (rows, cols) = view.size();
     let mut copies = Vec::with_capacity(alloc, rows * cols)?;
+    if cols < SHORT_ROW {
+        return with_clones(copies, view.iter());
+    }
     for r in 0..rows {
         push_row(&mut copies, view, r)?;
     }

@@ -10,6 +10,9 @@ use std::{env, io};
 // The number of reads within which an input has to end.
 const READS: u32 = 1_048_576;
 
+// How many bytes a read asks for.
+const READ_LEN: usize = 4096;
+
 /// Returns the arguments after the program's name. One that isn't text ends the program as bad arguments do.
 pub fn arguments<R: Env + AllocGlobal>(rt: &R) -> Result<Vec<String>, Ending> {
     match env::args(rt) {
@@ -39,7 +42,7 @@ pub fn read_all<A: Allocator, R: Read>(alloc: A, reader: &mut R) -> io::Result<V
     ensures { IfOk result (λ bytes. IfSome (R.remaining reader.old) (λ left. bytes.items ≡ left)) }
 {
     let mut bytes = Vec::new(alloc);
-    let mut buf = [0u8; 4096];
+    let mut buf = [0u8; READ_LEN];
     for _ in 0..READS {
         match reader.read(&mut buf) {
             Ok(0) => return Ok(bytes),

@@ -6,14 +6,15 @@ use crate::{Grid, GridError};
 use std::alloc::{Allocator, Global};
 use std::fmt;
 
-/// The error of a call that appends a grid: that grid, which comes back, and why. The other is unchanged.
+/// The error of a call that appends a grid: that grid, which comes back, and why. The grid to which it was to be appended
+/// is unchanged.
 #[derive(Drop)]
 #[derive_where(Debug, PartialEq; T)]
 pub struct GridRefused<T, A: Allocator = Global> {
-    /// Why it was refused.
-    pub fault: GridError,
     /// The grid, unchanged.
     pub grid: Grid<T, A>,
+    /// Why it was refused.
+    pub fault: GridError,
 }
 
 /// Writes the fault, and nothing of the grid.

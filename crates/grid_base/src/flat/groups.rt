@@ -18,7 +18,7 @@ ghost use Rattle.grid_base.specs.declared.flat.groups.Method.TheVariants.{Nothin
 use super::counted::{move_back, move_forward};
 use super::ends::without_tail;
 use super::room::{Way, move_through_room};
-use super::rotations::{FEW_BYTES, exchange_at_once, exchange_blocks};
+use super::rotations::{FEW_BYTES, exchange_at_once, exchange_blocks, reverse_part};
 use super::{Flat, Swaps};
 use crate::Tally;
 use core::mem::replace_with;
@@ -163,6 +163,9 @@ impl<T, A: Allocator> Flat<T, A> {
         if moves_at_once(self.cells.as_slice(), groups) {
             unweave(self.cells.as_mut_slice(), groups);
             self.cells.truncate(groups.lines * groups.width);
+        } else if groups.lines == 1 && size_of_val(self.cells.as_slice()) < FEW_BYTES {
+            close_line(self.cells.as_mut_slice(), groups);
+            self.cells.truncate(groups.width);
         } else {
             self.close_up(groups, &mut Tally::new());
         }
@@ -341,6 +344,18 @@ fn unweave_in_turn<T>(cells: &mut [T], groups: Groups)
         exchange_blocks(cells, start, (line + 1) * groups.count, stretch);
         start += stretch;
     }
+}
+
+// Takes the cells behind the group of a single line to its place: they are reversed with the group, and then alone.
+fn close_line<T>(cells: &mut [T], groups: Groups)
+    requires single { groups.lines ≡ 1 }
+    requires cells { length cells.old ≡ groups.lines * (groups.width + groups.count) }
+    ensures cells { length cells.new ≡ length cells.old }
+    ensures lines { Widened groups.lines groups.width groups.at groups.count cells.new cells.old }
+{
+    let behind = groups.width - groups.at;
+    reverse_part(cells, groups.at, groups.count + behind);
+    reverse_part(cells, groups.at, behind);
 }
 
 // Takes the stretch of kept cells behind each group, from the first on, to its place in the closed lines. It moves

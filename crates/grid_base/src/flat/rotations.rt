@@ -13,7 +13,7 @@ pub(super) const FEW_BYTES: usize = 1024;
 
 // Reverses the `n` cells from `start` on.
 #[tactic(auto, using(crate::proofs::PartLemmas::turning_none, crate::proofs::PartLemmas::turning_more, crate::proofs::PartLemmas::turning_all))]
-fn reverse_part<T>(cells: &mut [T], start: usize, n: usize)
+pub(super) fn reverse_part<T>(cells: &mut [T], start: usize, n: usize)
     requires within { start + n ≤ length cells.old }
     requires fits { start + n < 2 ^ 64 }
     ensures { PartReversed start n cells.old cells.new }

@@ -8,8 +8,8 @@
 //!   the tally's two counts.
 //! - The fields of `Swaps` are private to this module, so no other code can write a number.
 //!
-//! Flips, half turns, expand, prepend and delete move cells by these two swaps alone. Push, insert, pop and remove are
-//! not counted, and may move cells in any way.
+//! Flips, half turns, expand, prepend, and deletes by a command move cells by these two swaps alone. Push, insert, pop,
+//! remove and the other deletes are not counted, and may move cells in any way.
 ghost use Rattle.std.specs.Prelude.{◌≡◌, ◌<◌, ◌+◌, ◌-◌, ◌^◌, ◌++◌, length, swap};
 
 use std::mem;
