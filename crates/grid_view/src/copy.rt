@@ -25,7 +25,7 @@ fn push_line<T: Clone, A: Allocator>(
     Ok(())
 }
 
-// Returns a vector that has room for them with clones of these cells at its end.
+// Returns the vector, which has room for them, with clones of these cells at its end.
 fn with_clones<T: Clone, A: Allocator>(
     mut copies: Vec<T, A>,
     cells: ViewIter<'_, T>,
@@ -73,7 +73,7 @@ fn copy_cells<T: Copy>(view: &GridView<'_, T>, r: usize, to: &mut [T])
 // A row of fewer cells stays in the cache with those beside it, also where it runs across the storage.
 const LONG: usize = 1024;
 
-// To begin a row of fewer cells costs more than to go over them with the rows beside them.
+// To begin a row of fewer cells costs more than to clone them with those of the other rows, one by one.
 const SHORT_ROW: usize = 16;
 
 // Returns clones of the cells of a view, row by row, and goes over it so.

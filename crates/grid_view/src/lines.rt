@@ -44,7 +44,7 @@ impl<'a, T> GridView<'a, T> {
         line_of(self.cells, start, self.cols)
     }
 
-    // As `iter_row`, by steps that test nothing of the row.
+    // As `iter_row`, but a step tests only whether cells are left.
     fn step_row(&self, r: usize) -> SteppedIter<'a, T>
         requires { r < row_count self.now.rows }
         ensures { result ≡ row self.now.rows r }
@@ -220,7 +220,7 @@ impl<'a, T> ViewRowIter<'a, T> {
         self.next()
     }
 
-    // As `next`, by steps that test nothing of the row.
+    // As `next`, but a step along the row tests only whether cells are left.
     pub(crate) fn next_stepped(&mut self) -> Option<SteppedIter<'a, T>>
         ensures { YieldsFirst (λ rest. rest) self.old result self.new }
     {
@@ -228,7 +228,7 @@ impl<'a, T> ViewRowIter<'a, T> {
         Some(self.view.step_row(number))
     }
 
-    // As `next_back`, by steps that test nothing of the row.
+    // As `next_back`, but a step along the row tests only whether cells are left.
     pub(crate) fn next_back_stepped(&mut self) -> Option<SteppedIter<'a, T>>
         ensures { YieldsLast (λ rest. rest) self.old result self.new }
     {

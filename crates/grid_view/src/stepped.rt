@@ -7,8 +7,8 @@ use crate::axis::ViewAxis;
 use std::alloc::AllocError;
 use std::marker::Model;
 
-// An iterator over cells whose places are a step apart, from both ends. A step back is one modulo 2^64, so that no step
-// tests which way it goes.
+// An iterator over cells whose places are a step apart, from both ends. A step back is a step forward modulo 2^64, so no
+// step tests which way it goes.
 #[derive(Drop)]
 pub(crate) struct SteppedIter<'a, T> {
     cells: &'a [T],
@@ -35,7 +35,8 @@ impl<'a, T> SteppedIter<'a, T> {
         requires some { 0 < axis.count }
         requires steps { 0 < axis.stride }
         requires within { start + (axis.count - 1) * axis.stride < length cells.now }
-        ensures { result ≡ directed axis.backwards (line_cells start axis.count axis.stride cells.now) }
+        ensures { result
+            ≡ directed axis.backwards (line_cells start axis.count axis.stride cells.now) }
     {
         let first = if axis.backwards {
             let last = start + (axis.count - 1) * axis.stride;
