@@ -144,6 +144,39 @@ pub fn best_row(board: &Grid<u32>) -> Option<u32> {
     board.iter_rows().map(product).max()
 }
 
+// The total of a line, or `u32::MAX` where it is more.
+fn line_total(line: GridLineIter<'_, u32>) -> u32 {
+    line.copied().fold(0, u32::saturating_add)
+}
+
+/// Adds a row with the totals of the columns, and then a column with those of the rows.
+///
+///     [[1, 2], [3, 4]]   add_totals()   [[1, 2, 3], [3, 4, 7], [4, 6, 10]]
+pub fn add_totals(alloc: Global, sheet: &mut Grid<u32>) -> Result<(), GridError> {
+    let totals: Vec<u32> = sheet.iter_cols().map(line_total).collect(alloc)?;
+    if !totals.is_empty() && sheet.fits_row(totals.len()) {
+        sheet.push_row(totals)?;
+    }
+    let totals: Vec<u32> = sheet.iter_rows().map(line_total).collect(alloc)?;
+    if !totals.is_empty() && sheet.fits_col(totals.len()) {
+        sheet.push_col(totals)?;
+    }
+    Ok(())
+}
+
+/// Returns the text of a sheet and its totals, each number as wide as the longest.
+///
+///     [[1, 20], [3, 4]]   totals_text()   [
+///                                             [  1, 20, 21]
+///                                             [  3,  4,  7]
+///                                             [  4, 24, 28]
+///                                         ]
+pub fn totals_text(alloc: Global, mut sheet: Grid<u32>) -> Result<String, GridError> {
+    add_totals(alloc, &mut sheet)?;
+    let text = sheet.pretty(alloc, None)?;
+    Ok(text)
+}
+
 /// A cell of an own type.
 #[derive(Clone, Copy, Debug, Default, PartialEq)]
 pub enum Piece {
