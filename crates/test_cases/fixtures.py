@@ -1,6 +1,6 @@
 #!/usr/bin/env python3
-"""Makes data/, and writes the cases of the section `files` of stdin, by other programs: netpbm 11, Python's csv and json, and
-LibreOffice Calc 7, if there is one.
+"""Makes the pictures and sheets in data/, and writes the cases of data/files.cases below its head, by other programs: netpbm 11,
+Python's csv and json, and LibreOffice Calc 7, or else the sheets of Calc's that are in data/.
 
     fixtures.py           in the folder of the crate
 
@@ -163,6 +163,9 @@ def calc():
     """A sheet as Calc writes it from its own format, with the default words and with all texts in quotes."""
     office = shutil.which("libreoffice")
     if not office:
+        for made in "calc.csv", "calc_quotes.csv":
+            with open(f"data/{made}", "rb") as file:
+                headed(made, file.read())
         return
     cell = lambda text: "<table:table-cell office:value-type='string'>" + "".join(
         f"<text:p>{part.replace('&', '&amp;').replace('<', '&lt;')}</text:p>" for part in text.split("\n")
@@ -335,4 +338,7 @@ os.makedirs("data", exist_ok=True)
 pictures()
 sheets()
 texts()
-print(*OUT, sep="\n")
+with open("data/files.cases", encoding="utf-8", newline="") as file:
+    head = file.read().partition("== ")[0]
+with open("data/files.cases", "w", encoding="utf-8", newline="") as file:
+    print(head + OUT[0], *OUT[1:], sep="\n", file=file)

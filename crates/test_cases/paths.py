@@ -1,5 +1,12 @@
-# Writes the cases of the section `paths` of stdin: numbers, and sums of costs, are lowered over all cells at once until none changes.
+"""Writes the cases of data/paths.cases below its head: numbers, and sums of costs, are lowered over all cells at once until
+none changes.
+
+    paths.py              in the folder of the crate
+"""
 import random
+
+FILE = 'data/paths.cases'
+OUT = []
 
 random.seed(52)
 
@@ -50,7 +57,7 @@ for k in range(200):
                     ('fill_region', at[:1], table(filled, '')), ('flood', at, f'{len(entered)}\n' + table(flooded, '')), ('regions', [], f'{len(order)}\n' + table(numbers, ','))]
     for call, positions, answer in answers:
         asked = ' '.join(['==', call, kind] + [f'{r} {c}' for r, c in positions])
-        print(asked, *board, '--', answer, sep='\n', end='')
+        OUT.extend([asked, *board, '--', *answer.splitlines()])
 
 # Digits are what it costs to enter a cell.
 for k in range(60):
@@ -70,6 +77,11 @@ for k in range(60):
         if new == known:
             break
         known = new
-    print(f'== cheapest {kind} {start[0]} {start[1]}', *board, '--', sep='\n')
+    OUT.extend([f'== cheapest {kind} {start[0]} {start[1]}', *board, '--'])
     for r in range(m):
-        print(''.join(f'{known.get((r, c), ".")},' for c in range(n)))
+        OUT.append(''.join(f'{known.get((r, c), ".")},' for c in range(n)))
+
+with open(FILE) as file:
+    head = file.read().partition('== ')[0]
+with open(FILE, 'w') as file:
+    print(head + OUT[0], *OUT[1:], sep='\n', file=file)

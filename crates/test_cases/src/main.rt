@@ -1,67 +1,88 @@
-//! Reads cases from standard input, and counts those that hold: scripts with what they write, scripts with the swaps
-//! that they count, JSON and texts with the boards that they are, calls whose requests for memory are refused, maps with
-//! what calls of `grid_paths` return, and pictures and sheets with what they are. A case that doesn't hold is printed.
+//! Compares what calls return with what is expected of them, case by case.
 //!
-//! A section is a line `#### NAME`, some words, and its cases. Each case begins with `== `. The head of each module has the form of its cases.
+//! Standard input has the names of sections, a line each. The file `NAME.cases` has the cases of a section: some words, and
+//! cases, each of which begins with `== `. A case is a title, given lines, a line `--` and the expected lines, as the module of
+//! its section says; or one line, `TITLE => EXPECTED`. Of a case whose actual text isn't the expected one, the program
+//! prints both; of each section, how many cases are as expected. It fails if one isn't.
 #![tactic(auto)]
 
-mod counts;
-mod files;
-mod json;
-mod paths;
-mod refused;
-mod scripts;
-mod texts;
+mod ask;
+mod case;
+mod sections;
+mod shown;
 
-use anyhow::Result;
-use std::io;
+use anyhow::{Context, Result};
+use case::{Case, CaseError};
+use sections::actual;
+use shown::shown_actual;
 use std::process::ExitCode;
 use std::rt::Files;
+use std::{fs, io};
 
-// Whether a case of a section holds.
-fn holds<R: Files + AllocGlobal>(rt: &R, section: &str, case: &str) -> Result<bool> {
-    let alloc = rt.alloc();
-    Ok(match section {
-        "scripts" => scripts::holds(alloc, case)?,
-        "counts" => counts::holds(alloc, case)?,
-        "json" => json::holds(alloc, case)?,
-        "paths" => paths::holds(alloc, case)?,
-        "texts" => texts::holds(alloc, case)?,
-        "refused" => refused::holds(alloc, case)?,
-        "files" => files::holds(rt, case)?,
-        _ => false,
-    })
+// Whether the actual text of a case is the expected one. If not, both are printed.
+fn is_expected<R: Print + AllocGlobal>(
+    rt: &R,
+    section: &str,
+    case: Case<'_>,
+    actual: Result<String, CaseError>,
+) -> io::Result<bool> {
+    let Case {
+        title,
+        given,
+        expected,
+    } = case;
+    let actual = shown_actual(rt.alloc(), actual)?;
+    if actual.as_str() == expected {
+        return Ok(true);
+    }
+    println!(rt;
+        "MISMATCH in {section}: {title}\n{given}expected:\n{expected}\nactual:\n{actual}"
+    )?;
+    Ok(false)
 }
 
-// Counts the cases of a section that hold, and prints the others.
-fn held<R: Print + Files + AllocGlobal>(rt: &R, section: &str, cases: &str) -> Result<u64> {
-    let mut held = 0u64;
-    for case in cases.split("== ").skip(1) {
-        if holds(rt, section, case)? {
-            held = held.saturating_add(1);
-        } else {
-            println!(rt; "FAILED {case}")?;
+// Counts the cases of a section whose actual text is the expected one, and all.
+fn count<R: Print + Files + AllocGlobal>(
+    rt: &R,
+    section: &str,
+    text: &str,
+) -> io::Result<(u64, u64)> {
+    let (mut as_expected, mut cases) = (0u64, 0u64);
+    for text in text.split("== ").skip(1) {
+        let case = Case::of(text);
+        cases = cases.saturating_add(1);
+        if is_expected(rt, section, case, actual(rt, section, case))? {
+            as_expected = as_expected.saturating_add(1);
         }
     }
-    Ok(held)
+    Ok((as_expected, cases))
 }
 
-fn run<R: Input + Print + Files + AllocGlobal>(rt: &R) -> Result<()> {
-    let text = io::read_to_string(rt.alloc(), rt.reader())?;
-    for part in text.split("#### ").skip(1) {
-        if let Some((section, cases)) = part.split_once("\n") {
-            let held = held(rt, section, cases)?;
-            println!(rt; "{section}: {held} cases hold")?;
-        }
+// The text of the cases of a section.
+fn read<R: Files + AllocGlobal>(rt: &R, section: &str) -> Result<String> {
+    let name = format!(in rt.alloc(); "{section}.cases")?;
+    fs::read_to_string(rt, name.as_str()).context(format_args!("{section}.cases"))
+}
+
+// Compares the cases of each section, and returns whether there is no mismatch.
+fn run<R: Input + Print + Files + AllocGlobal>(rt: &R) -> Result<bool> {
+    let names = io::read_to_string(rt.alloc(), rt.reader())?;
+    let mut all_expected = true;
+    for section in names.lines() {
+        let text = read(rt, section)?;
+        let (as_expected, cases) = count(rt, section, text.as_str())?;
+        println!(rt; "{section}: {as_expected} of {cases} cases as expected")?;
+        all_expected = all_expected && as_expected == cases;
     }
-    Ok(())
+    Ok(all_expected)
 }
 
 fn main(rt: HostRuntime) -> ExitCode {
     match run(&rt) {
-        Ok(()) => ExitCode::SUCCESS,
+        Ok(true) => ExitCode::SUCCESS,
+        Ok(false) => ExitCode::FAILURE,
         Err(error) => {
-            let _ = eprintln!(rt; "{error}");
+            let _ = eprintln!(rt; "{error:#}");
             ExitCode::FAILURE
         }
     }

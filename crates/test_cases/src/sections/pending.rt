@@ -1,0 +1,73 @@
+//! A board that is seen through a symmetry, which stays pending or is settled.
+use crate::ask::Ask;
+use crate::case::CaseError;
+use crate::shown::{shown, text};
+use grid::{Axis, Command, Grid, Reply, Tally};
+use grid_deferred::{Deferred, carry_reply};
+use std::alloc::Global;
+
+// The cells of a row or a column.
+fn line(alloc: Global, deferred: &Deferred<'_, i64>, ask: Ask<'_>) -> Result<String, CaseError> {
+    let (at, (rows, cols)) = (ask.number(1), deferred.size());
+    match ask.call {
+        "iter_row" if at < rows => {
+            shown(alloc, deferred.iter_row(at).collect::<Vec<&i64>>(alloc)?)
+        }
+        "iter_col" if at < cols => {
+            shown(alloc, deferred.iter_col(at).collect::<Vec<&i64>>(alloc)?)
+        }
+        _ => text(alloc, "no such line"),
+    }
+}
+
+fn seen(alloc: Global, deferred: &Deferred<'_, i64>, ask: Ask<'_>) -> Result<String, CaseError> {
+    match ask.call {
+        "size" => shown(alloc, deferred.size()),
+        "get" => shown(alloc, deferred.get(ask.number(1), ask.number(2))),
+        "view" => shown(alloc, deferred.view()),
+        "pending" => shown(alloc, deferred.pending()),
+        _ => line(alloc, deferred, ask),
+    }
+}
+
+// What is seen through a symmetry, which isn't applied in the end.
+fn released(alloc: Global, board: &mut Grid<i64>, ask: Ask<'_>) -> Result<String, CaseError> {
+    let mut deferred = Deferred::over(board);
+    let turned = deferred.step(Command::Apply(ask.symmetry(0)), &mut Tally::new());
+    let text = seen(alloc, &deferred, ask);
+    deferred.release();
+    match turned {
+        Ok(_) => text,
+        Err(error) => Err(error.into()),
+    }
+}
+
+// The swaps for which a symmetry is settled.
+fn settled(alloc: Global, board: &mut Grid<i64>, ask: Ask<'_>) -> Result<String, CaseError> {
+    let mut tally = Tally::new();
+    let mut deferred = Deferred::over(board);
+    let turned = deferred.step(Command::Apply(ask.symmetry(0)), &mut tally);
+    deferred.settle(&mut tally);
+    match turned {
+        Ok(_) => shown(alloc, (tally.symmetry(), tally.shift())),
+        Err(error) => Err(error.into()),
+    }
+}
+
+// A reply of a row, or of a size.
+fn carried(alloc: Global, ask: Ask<'_>) -> Result<String, CaseError> {
+    let reply = match ask.call {
+        "carry_row" => Reply::Line(Some(ask.line(alloc)?)),
+        _ => Reply::Size(ask.number(1), ask.number(2)),
+    };
+    shown(alloc, carry_reply(ask.symmetry(0), Axis::Row, reply))
+}
+
+/// Returns what a call through a symmetry returned.
+pub fn actual(alloc: Global, board: &mut Grid<i64>, ask: Ask<'_>) -> Result<String, CaseError> {
+    match ask.call {
+        "settle" => settled(alloc, board, ask),
+        "carry_row" | "carry_size" => carried(alloc, ask),
+        _ => released(alloc, board, ask),
+    }
+}
