@@ -12,7 +12,7 @@ mod sections;
 mod shown;
 
 use anyhow::{Context, Result};
-use case::{Case, CaseError};
+use case::Case;
 use sections::actual;
 use shown::shown_actual;
 use std::process::ExitCode;
@@ -20,19 +20,13 @@ use std::rt::Files;
 use std::{fs, io};
 
 // Whether the actual text of a case is the expected one. If not, both are printed.
-fn is_expected<R: Print + AllocGlobal>(
-    rt: &R,
-    section: &str,
-    case: Case<'_>,
-    actual: Result<String, CaseError>,
-) -> io::Result<bool> {
+fn is_expected<R: Print>(rt: &R, section: &str, case: Case<'_>, actual: &str) -> io::Result<bool> {
     let Case {
         title,
         given,
         expected,
     } = case;
-    let actual = shown_actual(rt.alloc(), actual)?;
-    if actual.as_str() == expected {
+    if actual == expected {
         return Ok(true);
     }
     println!(rt;
@@ -41,38 +35,49 @@ fn is_expected<R: Print + AllocGlobal>(
     Ok(false)
 }
 
+// Compares a case, which is read first.
+fn compare<R: Print + Files + AllocGlobal>(rt: &R, section: &str, text: &str) -> io::Result<bool> {
+    let case = Case::of(text);
+    let actual = shown_actual(rt.alloc(), actual(rt, section, case))?;
+    is_expected(rt, section, case, actual.as_str())
+}
+
 // Counts the cases of a section whose actual text is the expected one, and all.
 fn count<R: Print + Files + AllocGlobal>(
     rt: &R,
     section: &str,
-    text: &str,
+    cases: &str,
 ) -> io::Result<(u64, u64)> {
-    let (mut as_expected, mut cases) = (0u64, 0u64);
-    for text in text.split("== ").skip(1) {
-        let case = Case::of(text);
-        cases = cases.saturating_add(1);
-        if is_expected(rt, section, case, actual(rt, section, case))? {
+    let (mut as_expected, mut all) = (0u64, 0u64);
+    for text in cases.split("== ").skip(1) {
+        all = all.saturating_add(1);
+        if compare(rt, section, text)? {
             as_expected = as_expected.saturating_add(1);
         }
     }
-    Ok((as_expected, cases))
+    Ok((as_expected, all))
 }
 
-// The text of the cases of a section.
+// The text of the file of a section.
 fn read<R: Files + AllocGlobal>(rt: &R, section: &str) -> Result<String> {
     let name = format!(in rt.alloc(); "{section}.cases")?;
     fs::read_to_string(rt, name.as_str()).context(format_args!("{section}.cases"))
 }
 
-// Compares the cases of each section, and returns whether there is no mismatch.
+// Compares the cases of a section, and returns whether all are as expected.
+fn run_section<R: Print + Files + AllocGlobal>(rt: &R, section: &str) -> Result<bool> {
+    let text = read(rt, section)?;
+    let (as_expected, all) = count(rt, section, text.as_str())?;
+    println!(rt; "{section}: {as_expected} of {all} cases as expected")?;
+    Ok(as_expected == all)
+}
+
+// The same of each section that standard input names.
 fn run<R: Input + Print + Files + AllocGlobal>(rt: &R) -> Result<bool> {
     let names = io::read_to_string(rt.alloc(), rt.reader())?;
     let mut all_expected = true;
     for section in names.lines() {
-        let text = read(rt, section)?;
-        let (as_expected, cases) = count(rt, section, text.as_str())?;
-        println!(rt; "{section}: {as_expected} of {cases} cases as expected")?;
-        all_expected = all_expected && as_expected == cases;
+        all_expected = run_section(rt, section)? && all_expected;
     }
     Ok(all_expected)
 }

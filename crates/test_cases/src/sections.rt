@@ -62,6 +62,12 @@ fn in_turn<F: Fn(Global, &mut Grid<i64>, Ask<'_>) -> Result<String, CaseError>>(
     Ok(lines)
 }
 
+// The lines, and a board.
+fn with_board(alloc: Global, mut lines: String, board: &Grid<i64>) -> Result<String, CaseError> {
+    add_line(&mut lines, shown_board(alloc, board)?.as_str())?;
+    Ok(lines)
+}
+
 // The same of a board that is read first, and the board then.
 fn on_board<F: Fn(Global, &mut Grid<i64>, Ask<'_>) -> Result<String, CaseError>>(
     alloc: Global,
@@ -72,9 +78,8 @@ fn on_board<F: Fn(Global, &mut Grid<i64>, Ask<'_>) -> Result<String, CaseError>>
 {
     let (board, calls) = case.given.split_once("\n").unwrap_or((case.given, ""));
     let mut board = board_of(alloc, board)?;
-    let mut lines = in_turn(alloc, &mut board, calls, make)?;
-    add_line(&mut lines, shown_board(alloc, &board)?.as_str())?;
-    Ok(lines)
+    let lines = in_turn(alloc, &mut board, calls, make)?;
+    with_board(alloc, lines, &board)
 }
 
 // The sections whose calls have a board.

@@ -3,7 +3,7 @@ use crate::ask::Ask;
 use crate::case::CaseError;
 use crate::shown::{shown, shown_made};
 use grid::{Grid, can_cut};
-use std::alloc::Global;
+use std::alloc::{AllocError, Global};
 use std::convert::TryFrom;
 
 // The cells, moved or lent, in rows of some length.
@@ -20,12 +20,12 @@ fn pair(alloc: Global, ask: Ask<'_>) -> Result<String, CaseError> {
 
 // The rows, each lent, in this order or last first.
 fn rows_lent(alloc: Global, rows: &Vec<Vec<i64>>, last_first: bool) -> Result<String, CaseError> {
-    let lent: Vec<&Vec<i64>> = if last_first {
-        rows.iter().rev().collect(alloc)?
+    let lent: Result<Vec<&Vec<i64>>, AllocError> = if last_first {
+        rows.iter().rev().collect(alloc)
     } else {
-        rows.iter().collect(alloc)?
+        rows.iter().collect(alloc)
     };
-    shown_made(alloc, Grid::try_from(&lent))
+    shown_made(alloc, Grid::try_from(&lent?))
 }
 
 // The rows, lent as a list or one by one.

@@ -1,38 +1,48 @@
 //! Lines that are put, taken, padded and deleted, each by its own call.
 use crate::ask::Ask;
 use crate::case::CaseError;
-use crate::shown::shown;
+use crate::shown::{shown, shown_ok};
 use grid::Grid;
 use std::alloc::Global;
 use test_support::line_edits::{LineAt, insert, insert_several, push_col, push_row};
 
-fn put(alloc: Global, board: &mut Grid<i64>, ask: Ask<'_>) -> Result<String, CaseError> {
+// Puts a line.
+fn put_line(
+    alloc: Global,
+    board: &mut Grid<i64>,
+    ask: Ask<'_>,
+    line: Vec<i64>,
+) -> Result<String, CaseError> {
     let at = ask.number(0);
     match ask.call {
-        "push_row" => shown(alloc, push_row(board, ask.line(alloc)?)),
-        "push_col" => shown(alloc, push_col(board, ask.line(alloc)?)),
-        "insert_row" => shown(alloc, insert(board, LineAt::Row(at), ask.line(alloc)?)),
-        "insert_col" => shown(alloc, insert(board, LineAt::Col(at), ask.line(alloc)?)),
-        "insert_rows" => shown(
-            alloc,
-            insert_several(board, LineAt::Row(at), ask.lines(alloc)?),
-        ),
-        "insert_cols" => shown(
-            alloc,
-            insert_several(board, LineAt::Col(at), ask.lines(alloc)?),
-        ),
+        "push_row" => shown(alloc, push_row(board, line)),
+        "push_col" => shown(alloc, push_col(board, line)),
+        "insert_row" => shown(alloc, insert(board, LineAt::Row(at), line)),
+        "insert_col" => shown(alloc, insert(board, LineAt::Col(at), line)),
         _ => Err(CaseError::UnknownCall),
+    }
+}
+
+// Puts several lines.
+fn put_lines(alloc: Global, board: &mut Grid<i64>, ask: Ask<'_>) -> Result<String, CaseError> {
+    let lines = ask.lines(alloc)?;
+    let at = ask.number(0);
+    if ask.call == "insert_rows" {
+        shown(alloc, insert_several(board, LineAt::Row(at), lines))
+    } else {
+        shown(alloc, insert_several(board, LineAt::Col(at), lines))
     }
 }
 
 fn take(alloc: Global, board: &mut Grid<i64>, ask: Ask<'_>) -> Result<String, CaseError> {
     let at = ask.number(0);
     match ask.call {
-        "pop_row" => shown(alloc, board.pop_row()?),
-        "pop_col" => shown(alloc, board.pop_col()?),
-        "remove_row" => shown(alloc, board.remove_row(at)?),
-        "remove_col" => shown(alloc, board.remove_col(at)?),
-        _ => put(alloc, board, ask),
+        "pop_row" => shown_ok(alloc, board.pop_row()),
+        "pop_col" => shown_ok(alloc, board.pop_col()),
+        "remove_row" => shown_ok(alloc, board.remove_row(at)),
+        "remove_col" => shown_ok(alloc, board.remove_col(at)),
+        "insert_rows" | "insert_cols" => put_lines(alloc, board, ask),
+        _ => put_line(alloc, board, ask, ask.line(alloc)?),
     }
 }
 

@@ -1,7 +1,7 @@
 //! The cells round a cell, and lines that change places.
 use crate::ask::Ask;
 use crate::case::CaseError;
-use crate::shown::{shown, shown_made};
+use crate::shown::{shown, shown_made, shown_ok};
 use grid::{Grid, Neighbors, WrappedNeighbors};
 use std::alloc::Global;
 
@@ -10,20 +10,16 @@ type Near<'a> = Vec<((usize, usize), &'a i64)>;
 fn listed(alloc: Global, board: &Grid<i64>, ask: Ask<'_>) -> Result<String, CaseError> {
     let at = ask.position(0);
     match ask.call {
-        "neighbors4" => shown(alloc, board.neighbors4(at).collect::<Near<'_>>(alloc)?),
-        "neighbors8" => shown(alloc, board.neighbors8(at).collect::<Near<'_>>(alloc)?),
-        "wrapped_neighbors4" => {
-            shown(
-                alloc,
-                board.wrapped_neighbors4(at).collect::<Near<'_>>(alloc)?,
-            )
-        }
-        "wrapped_neighbors8" => {
-            shown(
-                alloc,
-                board.wrapped_neighbors8(at).collect::<Near<'_>>(alloc)?,
-            )
-        }
+        "neighbors4" => shown_ok(alloc, board.neighbors4(at).collect::<Near<'_>>(alloc)),
+        "neighbors8" => shown_ok(alloc, board.neighbors8(at).collect::<Near<'_>>(alloc)),
+        "wrapped_neighbors4" => shown_ok(
+            alloc,
+            board.wrapped_neighbors4(at).collect::<Near<'_>>(alloc),
+        ),
+        "wrapped_neighbors8" => shown_ok(
+            alloc,
+            board.wrapped_neighbors8(at).collect::<Near<'_>>(alloc),
+        ),
         _ => Err(CaseError::UnknownCall),
     }
 }
@@ -32,26 +28,32 @@ fn count_of(_: &i64, count: u8) -> i64 {
     i64::from(count)
 }
 
-// How many cells round a position, or round each one, are above a number.
+// How many cells round a position are above a number.
 fn counted(alloc: Global, board: &Grid<i64>, ask: Ask<'_>) -> Result<String, CaseError> {
     let at = ask.position(0);
-    let number = if ask.call.starts_with("map") {
-        ask.cell(0)
-    } else {
-        ask.cell(2)
-    };
+    let number = ask.cell(2);
     let is_above = |cell: &i64| number < *cell;
     match ask.call {
         "count_neighbors4" => shown(alloc, board.count_neighbors4(at, is_above)),
         "count_neighbors8" => shown(alloc, board.count_neighbors8(at, is_above)),
         "count_wrapped_neighbors4" => shown(alloc, board.count_wrapped_neighbors4(at, is_above)),
         "count_wrapped_neighbors8" => shown(alloc, board.count_wrapped_neighbors8(at, is_above)),
-        "map_counts4" => shown_made(alloc, board.map_counts4(is_above, count_of)),
-        "map_counts8" => shown_made(alloc, board.map_counts8(is_above, count_of)),
-        "map_wrapped_counts4" => shown_made(alloc, board.map_wrapped_counts4(is_above, count_of)),
-        "map_wrapped_counts8" => shown_made(alloc, board.map_wrapped_counts8(is_above, count_of)),
         _ => listed(alloc, board, ask),
     }
+}
+
+// How many cells round each one are above a number.
+fn map_counts(alloc: Global, board: &Grid<i64>, ask: Ask<'_>) -> Result<String, CaseError> {
+    let number = ask.cell(0);
+    let is_above = |cell: &i64| number < *cell;
+    let made = match ask.call {
+        "map_counts4" => board.map_counts4(is_above, count_of),
+        "map_counts8" => board.map_counts8(is_above, count_of),
+        "map_wrapped_counts4" => board.map_wrapped_counts4(is_above, count_of),
+        "map_wrapped_counts8" => board.map_wrapped_counts8(is_above, count_of),
+        _ => return counted(alloc, board, ask),
+    };
+    shown_made(alloc, made)
 }
 
 // The sum of a cell and those round it.
@@ -78,7 +80,7 @@ fn mapped(alloc: Global, board: &Grid<i64>, ask: Ask<'_>) -> Result<String, Case
         "map_neighbors8" => board.map_neighbors8(sum),
         "map_wrapped_neighbors4" => board.map_wrapped_neighbors4(wrapped_sum),
         "map_wrapped_neighbors8" => board.map_wrapped_neighbors8(wrapped_sum),
-        _ => return counted(alloc, board, ask),
+        _ => return map_counts(alloc, board, ask),
     };
     shown_made(alloc, made)
 }

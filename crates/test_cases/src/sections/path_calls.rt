@@ -1,7 +1,7 @@
 //! Cheapest paths and their sums, over boards of costs, of which those below 0 can't be entered.
 use crate::ask::Ask;
 use crate::case::CaseError;
-use crate::shown::shown;
+use crate::shown::shown_ok;
 use grid::Grid;
 use grid_paths::{Steps, cheapest, cheapest_path};
 use std::alloc::Global;
@@ -18,8 +18,8 @@ pub fn actual(alloc: Global, board: &mut Grid<i64>, ask: Ask<'_>) -> Result<Stri
         _ => Steps::Sides,
     };
     match ask.call {
-        "cheapest" => shown(alloc, cheapest(board, from, steps, cost)?),
-        "cheapest_path" => shown(alloc, cheapest_path(board, from, to, steps, cost)?),
+        "cheapest" => shown_ok(alloc, cheapest(board, from, steps, cost)),
+        "cheapest_path" => shown_ok(alloc, cheapest_path(board, from, to, steps, cost)),
         _ => Err(CaseError::UnknownCall),
     }
 }

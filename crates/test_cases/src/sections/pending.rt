@@ -1,7 +1,7 @@
 //! A board that is seen through a symmetry, which stays pending or is settled.
 use crate::ask::Ask;
 use crate::case::CaseError;
-use crate::shown::{shown, text};
+use crate::shown::{shown, shown_ok, text};
 use grid::{Axis, Command, Grid, Reply, Tally};
 use grid_deferred::{Deferred, carry_reply};
 use std::alloc::Global;
@@ -11,10 +11,10 @@ fn line(alloc: Global, deferred: &Deferred<'_, i64>, ask: Ask<'_>) -> Result<Str
     let (at, (rows, cols)) = (ask.number(1), deferred.size());
     match ask.call {
         "iter_row" if at < rows => {
-            shown(alloc, deferred.iter_row(at).collect::<Vec<&i64>>(alloc)?)
+            shown_ok(alloc, deferred.iter_row(at).collect::<Vec<&i64>>(alloc))
         }
         "iter_col" if at < cols => {
-            shown(alloc, deferred.iter_col(at).collect::<Vec<&i64>>(alloc)?)
+            shown_ok(alloc, deferred.iter_col(at).collect::<Vec<&i64>>(alloc))
         }
         _ => text(alloc, "no such line"),
     }

@@ -1,7 +1,7 @@
 //! Lines that are kept, rolled, written, rewritten, sorted and taken out.
 use crate::ask::Ask;
 use crate::case::CaseError;
-use crate::shown::shown;
+use crate::shown::{shown, shown_ok};
 use grid::{Grid, GridLineIter};
 use grid_lines::{
     into_rows, retain_cols, retain_rows, rewrite_cols, rewrite_rows, roll_cols, roll_rows, set_col,
@@ -109,7 +109,7 @@ fn taken(alloc: Global, board: &mut Grid<i64>) -> Result<String, CaseError> {
 pub fn actual(alloc: Global, board: &mut Grid<i64>, ask: Ask<'_>) -> Result<String, CaseError> {
     match ask.call {
         "retain_rows" => rows_kept(alloc, board, (ask.cell(0), ask.cell(1))),
-        "to_rows" => shown(alloc, to_rows(board)?),
+        "to_rows" => shown_ok(alloc, to_rows(board)),
         "into_rows" => taken(alloc, board),
         call if call.starts_with("sort_") => shown(alloc, sorted(board, call)?),
         _ => shown(alloc, changed(board, ask, ask.line(alloc)?.as_slice())?),

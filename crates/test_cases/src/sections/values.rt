@@ -1,12 +1,12 @@
 //! What values print, and how they compare.
 use crate::ask::{Ask, move_of};
 use crate::case::CaseError;
-use crate::shown::shown;
+use crate::shown::{shown, shown_ok};
 use grid::{
     Command, GridError, LineRefused, LinesRefused, Move, Order, Reply, RunStopped, ShapeError,
 };
 use std::alloc::{AllocError, Global};
-use std::fmt::Display;
+use std::fmt::{Debug, Display};
 use std::hash::{DefaultHasher, Hash, Hasher};
 
 fn printed<T: Display + Drop>(alloc: Global, value: T) -> Result<String, CaseError> {
@@ -66,21 +66,45 @@ fn stopped_after(alloc: Global, done: usize) -> RunStopped<i64> {
     }
 }
 
-// The texts of values that own memory.
-fn shown_owner(alloc: Global, ask: Ask<'_>) -> Result<String, CaseError> {
+fn shown_owner<T: Debug + Drop>(
+    alloc: Global,
+    value: Result<T, CaseError>,
+) -> Result<String, CaseError> {
+    shown(alloc, value?)
+}
+
+fn printed_owner<T: Display + Drop>(
+    alloc: Global,
+    value: Result<T, CaseError>,
+) -> Result<String, CaseError> {
+    printed(alloc, value?)
+}
+
+// The texts for users of values that own memory.
+fn printed_owners(alloc: Global, ask: Ask<'_>) -> Result<String, CaseError> {
     match ask.call {
-        "line_refused" => shown(alloc, line_refused(alloc, ask)?),
-        "lines_refused" => shown(alloc, lines_refused(alloc, ask)?),
-        "run_stopped" => shown(alloc, stopped(alloc, ask.position(0))?),
-        "line_refused_text" => printed(alloc, line_refused(alloc, ask)?),
-        "lines_refused_text" => printed(alloc, lines_refused(alloc, ask)?),
+        "line_refused_text" => printed_owner(alloc, line_refused(alloc, ask)),
+        "lines_refused_text" => printed_owner(alloc, lines_refused(alloc, ask)),
         "run_stopped_text" => printed(alloc, stopped_after(alloc, ask.number(0))),
-        "command_get" => {
-            let (row, col) = ask.position(0);
-            shown(alloc, Command::<i64>::Get(row, col))
-        }
-        "reply_cell" => shown(alloc, Reply::<i64>::Cell(Some(ask.cell(0)))),
         _ => Err(CaseError::UnknownCall),
+    }
+}
+
+// A command that gets a cell.
+fn get_command(ask: Ask<'_>, at: usize) -> Command<i64> {
+    let (row, col) = ask.position(at);
+    Command::Get(row, col)
+}
+
+// The texts for programmers of values that own memory.
+fn shown_owners(alloc: Global, ask: Ask<'_>) -> Result<String, CaseError> {
+    match ask.call {
+        "line_refused" => shown_owner(alloc, line_refused(alloc, ask)),
+        "lines_refused" => shown_owner(alloc, lines_refused(alloc, ask)),
+        "run_stopped" => shown_ok(alloc, stopped(alloc, ask.position(0))),
+        "command_get" => shown(alloc, get_command(ask, 0)),
+        "reply_cell" => shown(alloc, Reply::<i64>::Cell(Some(ask.cell(0)))),
+        _ => printed_owners(alloc, ask),
     }
 }
 
@@ -96,14 +120,6 @@ fn compared<T: PartialEq + Drop>(alloc: Global, one: T, other: T) -> Result<Stri
     Ok(format!(in alloc; "equal {equal}, different {different}")?)
 }
 
-// Two commands that get a cell.
-fn compared_gets(alloc: Global, ask: Ask<'_>) -> Result<String, CaseError> {
-    let (row, col) = ask.position(0);
-    let (other_row, other_col) = ask.position(2);
-    let other = Command::Get(other_row, other_col);
-    compared(alloc, Command::<i64>::Get(row, col), other)
-}
-
 fn compared_replies(alloc: Global, ask: Ask<'_>) -> Result<String, CaseError> {
     let cell = Reply::<i64>::Cell(Some(ask.cell(0)));
     match ask.word(1) {
@@ -112,21 +128,23 @@ fn compared_replies(alloc: Global, ask: Ask<'_>) -> Result<String, CaseError> {
     }
 }
 
+// Two runs that stopped after one command.
+fn compared_stopped(alloc: Global, ask: Ask<'_>) -> Result<String, CaseError> {
+    let run = stopped(alloc, ask.position(0))?;
+    compared(alloc, run, stopped(alloc, ask.position(2))?)
+}
+
 fn compared_owners(alloc: Global, ask: Ask<'_>) -> Result<String, CaseError> {
     match ask.call {
-        "compare_gets" => compared_gets(alloc, ask),
+        "compare_gets" => compared(alloc, get_command(ask, 0), get_command(ask, 2)),
         "compare_size_with" => compared(
             alloc,
             Command::<i64>::Size,
             Command::Apply(ask.symmetry(0)),
         ),
         "compare_replies" => compared_replies(alloc, ask),
-        "compare_stopped" => compared(
-            alloc,
-            stopped(alloc, ask.position(0))?,
-            stopped(alloc, ask.position(2))?,
-        ),
-        _ => shown_owner(alloc, ask),
+        "compare_stopped" => compared_stopped(alloc, ask),
+        _ => shown_owners(alloc, ask),
     }
 }
 
@@ -134,12 +152,20 @@ fn step(ask: Ask<'_>, at: usize) -> Result<Move, CaseError> {
     move_of(ask.word(at)).ok_or(CaseError::BadArgument)
 }
 
+fn compared_moves(
+    alloc: Global,
+    one: Result<Move, CaseError>,
+    other: Result<Move, CaseError>,
+) -> Result<String, CaseError> {
+    compared(alloc, one?, other?)
+}
+
 // Of two names: how the values compare.
 fn compared_names(alloc: Global, ask: Ask<'_>) -> Result<String, CaseError> {
     match ask.call {
         "compare_orders" => compared(alloc, ask.order(0), ask.order(1)),
         "compare_symmetries" => compared(alloc, ask.symmetry(0), ask.symmetry(1)),
-        "compare_moves" => compared(alloc, step(ask, 0)?, step(ask, 1)?),
+        "compare_moves" => compared_moves(alloc, step(ask, 0), step(ask, 1)),
         "hash_orders" => shown(alloc, hash_of(ask.order(0)) == hash_of(ask.order(1))),
         _ => compared_owners(alloc, ask),
     }
@@ -150,10 +176,10 @@ pub fn actual(alloc: Global, ask: Ask<'_>) -> Result<String, CaseError> {
     match ask.call {
         "grid_error" => printed(alloc, grid_error(ask.word(0))),
         "shape_error" => printed(alloc, shape_error(ask)),
-        "order" => shown(alloc, ask.order(0).clone()?),
+        "order" => shown_ok(alloc, ask.order(0).clone()),
         "default_order" => shown(alloc, Order::default()),
-        "symmetry" => shown(alloc, ask.symmetry(0).clone()?),
-        "move" => shown(alloc, step(ask, 0)?.clone()?),
+        "symmetry" => shown_ok(alloc, ask.symmetry(0).clone()),
+        "move" => shown_ok(alloc, step(ask, 0)?.clone()),
         _ => compared_names(alloc, ask),
     }
 }

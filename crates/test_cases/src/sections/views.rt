@@ -4,7 +4,7 @@ ghost use Rattle.grid_base.specs.Table.{row_count, col_count};
 
 use crate::ask::Ask;
 use crate::case::{CaseError, shape_error};
-use crate::shown::{shown, shown_made, text};
+use crate::shown::{shown, shown_made, shown_ok, text};
 use grid::{Grid, GridView, ViewLineIter, ViewRowIter};
 use std::alloc::{AllocError, Global};
 use std::convert::TryFrom;
@@ -75,17 +75,17 @@ fn iterated(alloc: Global, view: &GridView<'_, i64>, ask: Ask<'_>) -> Result<Str
     let at = ask.number(5);
     match ask.call {
         "iter_row" if at < view.rows() => {
-            shown(alloc, view.iter_row(at).collect::<Vec<&i64>>(alloc)?)
+            shown_ok(alloc, view.iter_row(at).collect::<Vec<&i64>>(alloc))
         }
         "iter_col" if at < view.cols() => {
-            shown(alloc, view.iter_col(at).collect::<Vec<&i64>>(alloc)?)
+            shown_ok(alloc, view.iter_col(at).collect::<Vec<&i64>>(alloc))
         }
         "nth_of_rows" => nth(alloc, view.iter_rows(), ask.position(5)),
         "nth_of_cols" => nth(alloc, view.iter_cols(), ask.position(5)),
-        "indexed_iter" => shown(
+        "indexed_iter" => shown_ok(
             alloc,
             view.indexed_iter()
-                .collect::<Vec<((usize, usize), &i64)>>(alloc)?,
+                .collect::<Vec<((usize, usize), &i64)>>(alloc),
         ),
         _ => Err(CaseError::UnknownCall),
     }
@@ -101,8 +101,8 @@ fn read(alloc: Global, board: &Grid<i64>, ask: Ask<'_>) -> Result<String, CaseEr
     match ask.call {
         "sub_grid" => shown_made(alloc, board.sub_grid(at, size)),
         "from_view" => shown_made(alloc, Grid::from_view(alloc, ask.order(5), &view)),
-        "to_vec" => shown(alloc, view.to_vec(alloc, ask.order(5))?),
-        "copy_row" => shown(alloc, copied(alloc, &view, ask.number(5))?),
+        "to_vec" => shown_ok(alloc, view.to_vec(alloc, ask.order(5))),
+        "copy_row" => shown_ok(alloc, copied(alloc, &view, ask.number(5))),
         "get_unchecked" => shown(alloc, cell_of(&view, ask.position(5))),
         _ => iterated(alloc, &view, ask),
     }
