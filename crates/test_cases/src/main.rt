@@ -11,16 +11,17 @@ mod case;
 mod sections;
 mod shown;
 
-use anyhow::{Context, Result};
+use anyhow::Context;
 use case::Case;
 use sections::actual;
 use shown::shown_actual;
+use std::alloc::AllocError;
 use std::process::ExitCode;
 use std::rt::Files;
 use std::{fs, io};
 
-// Whether the actual text of a case is the expected one. If not, both are printed.
-fn is_expected<R: Print>(rt: &R, section: &str, case: Case<'_>, actual: &str) -> io::Result<bool> {
+// Whether the actual text of a case is the expected one. If not, both are added to a report.
+fn is_expected(report: &mut String, case: Case<'_>, actual: &str) -> Result<bool, AllocError> {
     let Case {
         title,
         given,
@@ -29,29 +30,36 @@ fn is_expected<R: Print>(rt: &R, section: &str, case: Case<'_>, actual: &str) ->
     if actual == expected {
         return Ok(true);
     }
-    println!(rt;
-        "MISMATCH in {section}: {title}\n{given}expected:\n{expected}\nactual:\n{actual}"
+    write!(
+        report,
+        "MISMATCH: {title}\n{given}expected:\n{expected}\nactual:\n{actual}\n"
     )?;
     Ok(false)
 }
 
 // Compares a case, which is read first.
-fn compare<R: Print + Files + AllocGlobal>(rt: &R, section: &str, text: &str) -> io::Result<bool> {
+fn compare<R: Files + AllocGlobal>(
+    rt: &R,
+    report: &mut String,
+    section: &str,
+    text: &str,
+) -> Result<bool, AllocError> {
     let case = Case::of(text);
     let actual = shown_actual(rt.alloc(), actual(rt, section, case))?;
-    is_expected(rt, section, case, actual.as_str())
+    is_expected(report, case, actual.as_str())
 }
 
 // Counts the cases of a section whose actual text is the expected one, and all.
-fn count<R: Print + Files + AllocGlobal>(
+fn count<R: Files + AllocGlobal>(
     rt: &R,
+    report: &mut String,
     section: &str,
     cases: &str,
-) -> io::Result<(u64, u64)> {
+) -> Result<(u64, u64), AllocError> {
     let (mut as_expected, mut all) = (0u64, 0u64);
     for text in cases.split("== ").skip(1) {
         all = all.saturating_add(1);
-        if compare(rt, section, text)? {
+        if compare(rt, report, section, text)? {
             as_expected = as_expected.saturating_add(1);
         }
     }
@@ -59,31 +67,40 @@ fn count<R: Print + Files + AllocGlobal>(
 }
 
 // The text of the file of a section.
-fn read<R: Files + AllocGlobal>(rt: &R, section: &str) -> Result<String> {
+fn read<R: Files + AllocGlobal>(rt: &R, section: &str) -> anyhow::Result<String> {
     let name = format!(in rt.alloc(); "{section}.cases")?;
     fs::read_to_string(rt, name.as_str()).context(format_args!("{section}.cases"))
 }
 
-// Compares the cases of a section, and returns whether all are as expected.
-fn run_section<R: Print + Files + AllocGlobal>(rt: &R, section: &str) -> Result<bool> {
-    let text = read(rt, section)?;
-    let (as_expected, all) = count(rt, section, text.as_str())?;
-    println!(rt; "{section}: {as_expected} of {all} cases as expected")?;
+// Compares the cases of a section, prints the mismatches and the counts, and returns whether all are as expected.
+fn run_section<R: Print + Files + AllocGlobal>(
+    rt: &R,
+    section: &str,
+    cases: &str,
+) -> io::Result<bool> {
+    let mut report = String::new(rt.alloc());
+    let (as_expected, all) = count(rt, &mut report, section, cases)?;
+    println!(rt; "{report}{section}: {as_expected} of {all} cases as expected")?;
     Ok(as_expected == all)
 }
 
-// The same of each section that standard input names.
-fn run<R: Input + Print + Files + AllocGlobal>(rt: &R) -> Result<bool> {
-    let names = io::read_to_string(rt.alloc(), rt.reader())?;
+// The same of each section that is named.
+fn run<R: Print + Files + AllocGlobal>(rt: &R, sections: &str) -> anyhow::Result<bool> {
     let mut all_expected = true;
-    for section in names.lines() {
-        all_expected = run_section(rt, section)? && all_expected;
+    for section in sections.lines() {
+        let cases = read(rt, section)?;
+        all_expected = run_section(rt, section, cases.as_str())? && all_expected;
     }
     Ok(all_expected)
 }
 
+fn read_and_run<R: Input + Print + Files + AllocGlobal>(rt: &R) -> anyhow::Result<bool> {
+    let sections = io::read_to_string(rt.alloc(), rt.reader())?;
+    run(rt, sections.as_str())
+}
+
 fn main(rt: HostRuntime) -> ExitCode {
-    match run(&rt) {
+    match read_and_run(&rt) {
         Ok(true) => ExitCode::SUCCESS,
         Ok(false) => ExitCode::FAILURE,
         Err(error) => {

@@ -67,6 +67,15 @@ fn started<'a>(heap: &'a Heap, script: &str) -> Result<Script<&'a Heap>, CaseErr
     Ok(Script { grid, commands })
 }
 
+// Adds the swaps of a run.
+fn with_swaps(attempt: Attempt, tally: &Tally) -> Result<Attempt, AllocError> {
+    let Attempt { done, mut line } = attempt;
+    let swaps = (tally.symmetry(), tally.shift());
+    write!(&mut line, " swaps {swaps:?}")?;
+    Ok(Attempt { done, line })
+}
+
+// What a run on a grid comes to.
 fn run_on<'a>(
     alloc: Global,
     heap: &'a Heap,
@@ -80,10 +89,7 @@ fn run_on<'a>(
     } else {
         run(heap, grid, commands, &mut tally)
     };
-    let Attempt { done, mut line } = outcome_of(alloc, ran)?;
-    let swaps = (tally.symmetry(), tally.shift());
-    write!(&mut line, " swaps {swaps:?}")?;
-    with_grid(Attempt { done, line }, grid)
+    with_grid(with_swaps(outcome_of(alloc, ran)?, &tally)?, grid)
 }
 
 fn try_run(
@@ -132,21 +138,25 @@ fn try_call(alloc: Global, case: Case<'_>, granted: u64) -> Result<Attempt, Case
     }
 }
 
+// Adds a line, unless it is the last one.
+fn add_line(lines: &mut String, line: &str) -> Result<(), AllocError> {
+    if lines.lines().last() == Some(line) {
+        return Ok(());
+    }
+    lines.push_str(line)?;
+    lines.push('\n')
+}
+
 /// Returns the lines that a call comes to in turn, each once where several attempts come to the same.
 pub fn actual(alloc: Global, case: Case<'_>) -> Result<String, CaseError> {
     let mut lines = String::new(alloc);
-    let mut last = String::new(alloc);
     for granted in 0..REQUESTS {
         let Attempt { done, line } = try_call(alloc, case, granted)?;
-        if line.as_str() != last.as_str() {
-            lines.push_str(line.as_str())?;
-            lines.push_str("\n")?;
-        }
-        last = line;
+        add_line(&mut lines, line.as_str())?;
         if done {
             return Ok(lines);
         }
     }
-    lines.push_str("never done\n")?;
+    add_line(&mut lines, "never done")?;
     Ok(lines)
 }

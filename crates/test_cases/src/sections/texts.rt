@@ -42,30 +42,34 @@ fn refused(alloc: Global, error: TextError) -> Result<String, CaseError> {
     }
 }
 
+fn add_text(texts: &mut String, text: Result<String, AllocError>) -> Result<(), AllocError> {
+    texts.push_str(text?.as_str())
+}
+
 // A board of letters as text, and that of the transposed board.
-fn letter_texts(alloc: Global, mut board: Grid<u8>) -> Result<String, AllocError> {
+fn letter_texts(alloc: Global, board: &mut Grid<u8>) -> Result<String, AllocError> {
     let mut texts = format!(in alloc; "{board:?}\n")?;
-    texts.push_str(to_text(alloc, &board, letter)?.as_str())?;
+    add_text(&mut texts, to_text(alloc, board, letter))?;
     board.transpose();
-    texts.push_str(to_text(alloc, &board, letter)?.as_str())?;
+    add_text(&mut texts, to_text(alloc, board, letter))?;
     Ok(texts)
 }
 
 // The same of a board of numbers.
 fn number_texts<T: Whole + Debug + Drop>(
     alloc: Global,
-    mut board: Grid<T>,
+    board: &mut Grid<T>,
 ) -> Result<String, AllocError> {
     let mut texts = format!(in alloc; "{board:?}\n")?;
-    texts.push_str(to_words(alloc, &board)?.as_str())?;
+    add_text(&mut texts, to_words(alloc, board))?;
     board.transpose();
-    texts.push_str(to_words(alloc, &board)?.as_str())?;
+    add_text(&mut texts, to_words(alloc, board))?;
     Ok(texts)
 }
 
 fn letters(alloc: Global, read: Result<Grid<u8>, TextError>) -> Result<String, CaseError> {
     match read {
-        Ok(board) => Ok(letter_texts(alloc, board)?),
+        Ok(mut board) => Ok(letter_texts(alloc, &mut board)?),
         Err(error) => refused(alloc, error),
     }
 }
@@ -75,7 +79,7 @@ fn numbers<T: Whole + Debug + Drop>(
     read: Result<Grid<T>, TextError>,
 ) -> Result<String, CaseError> {
     match read {
-        Ok(board) => Ok(number_texts(alloc, board)?),
+        Ok(mut board) => Ok(number_texts(alloc, &mut board)?),
         Err(error) => refused(alloc, error),
     }
 }

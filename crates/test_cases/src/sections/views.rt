@@ -108,25 +108,43 @@ fn read(alloc: Global, board: &Grid<i64>, ask: Ask<'_>) -> Result<String, CaseEr
     }
 }
 
-// How the view of a board and that of another through a symmetry compare, and the text of the other.
-fn compared(alloc: Global, board: &Grid<i64>, ask: Ask<'_>) -> Result<String, CaseError> {
-    let other = stamp(alloc, ask, 0)?;
-    let (view, turned) = (board.view(), turned(&other.view(), ask, 1));
-    let (equal, different) = (view == turned, view != turned);
-    Ok(format!(in alloc; "equal {equal}, different {different}, {turned:?}")?)
+// How two views compare, and the text of the other.
+fn compared_views(
+    alloc: Global,
+    view: &GridView<'_, i64>,
+    other: &GridView<'_, i64>,
+) -> Result<String, CaseError> {
+    let (equal, different) = (*view == *other, *view != *other);
+    Ok(format!(in alloc; "equal {equal}, different {different}, {other:?}")?)
 }
 
-fn paste(alloc: Global, board: &mut Grid<i64>, ask: Ask<'_>) -> Result<String, CaseError> {
-    let stamp = stamp(alloc, ask, 2)?;
-    let (at, view) = (ask.position(0), turned(&stamp.view(), ask, 3));
+// The same of a board and of another through a symmetry.
+fn compared(alloc: Global, board: &Grid<i64>, ask: Ask<'_>) -> Result<String, CaseError> {
+    let other = stamp(alloc, ask, 0)?;
+    compared_views(alloc, &board.view(), &turned(&other.view(), ask, 1))
+}
+
+// Pastes a view. `paste_copied` returns nothing.
+fn paste_view(
+    alloc: Global,
+    board: &mut Grid<i64>,
+    ask: Ask<'_>,
+    view: &GridView<'_, i64>,
+) -> Result<String, CaseError> {
+    let at = ask.position(0);
     if !is_within(board, at, view.size()) {
         return text(alloc, "out of range");
     }
     if ask.call == "paste_copied" {
-        board.paste_copied(at, &view);
+        board.paste_copied(at, view);
         return text(alloc, "copied");
     }
-    shown(alloc, board.paste(at, &view))
+    shown(alloc, board.paste(at, view))
+}
+
+fn paste(alloc: Global, board: &mut Grid<i64>, ask: Ask<'_>) -> Result<String, CaseError> {
+    let stamp = stamp(alloc, ask, 2)?;
+    paste_view(alloc, board, ask, &turned(&stamp.view(), ask, 3))
 }
 
 fn paste_clipped(alloc: Global, board: &mut Grid<i64>, ask: Ask<'_>) -> Result<String, CaseError> {

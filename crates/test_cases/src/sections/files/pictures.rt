@@ -36,13 +36,15 @@ fn gray_rows(alloc: Global, grid: &Grid<u8>) -> Result<String> {
     Ok(to_csv(alloc, grid, put_gray)?)
 }
 
+fn described_gray(alloc: Global, bytes: &[u8], grid: &Grid<u8>) -> Result<String> {
+    let rows = gray_rows(alloc, grid)?;
+    described(alloc, bytes, grid.size(), rows.as_str())
+}
+
 /// Returns the rows of a gray picture, or what is wrong with it.
 pub fn gray(alloc: Global, bytes: &[u8]) -> Result<String> {
     match from_pgm(alloc, bytes) {
-        Ok(grid) => {
-            let rows = gray_rows(alloc, &grid)?;
-            described(alloc, bytes, grid.size(), rows.as_str())
-        }
+        Ok(grid) => described_gray(alloc, bytes, &grid),
         Err(error) => Ok(format!(in alloc; "{error}\n")?),
     }
 }
@@ -55,13 +57,15 @@ fn colored_rows(alloc: Global, grid: &Grid<[u8; 3]>) -> Result<String> {
     Ok(to_csv(alloc, grid, put_color)?)
 }
 
+fn described_colored(alloc: Global, bytes: &[u8], grid: &Grid<[u8; 3]>) -> Result<String> {
+    let rows = colored_rows(alloc, grid)?;
+    described(alloc, bytes, grid.size(), rows.as_str())
+}
+
 /// Returns the rows of a colored picture, or what is wrong with it.
 pub fn colored(alloc: Global, bytes: &[u8]) -> Result<String> {
     match from_ppm(alloc, bytes) {
-        Ok(grid) => {
-            let rows = colored_rows(alloc, &grid)?;
-            described(alloc, bytes, grid.size(), rows.as_str())
-        }
+        Ok(grid) => described_colored(alloc, bytes, &grid),
         Err(error) => Ok(format!(in alloc; "{error}\n")?),
     }
 }
@@ -76,8 +80,8 @@ fn cut(grid: Grid<u8>) -> Result<Grid<u8>, GridError> {
     Ok(part)
 }
 
-// What a call makes of a board.
-fn turned<T: Copy>(alloc: Global, call: &str, mut grid: Grid<T>) -> Result<Grid<T>> {
+// Turns a board.
+fn turn<T>(call: &str, grid: &mut Grid<T>) -> Result<(), CaseError> {
     match call {
         "copied" => {}
         "rotate_right" => grid.rotate_right(),
@@ -86,11 +90,21 @@ fn turned<T: Copy>(alloc: Global, call: &str, mut grid: Grid<T>) -> Result<Grid<
         "flip_rows" => grid.flip_rows(),
         "flip_cols" => grid.flip_cols(),
         "transpose" => grid.transpose(),
-        "enlarged_0" => return Ok(enlarged(alloc, &grid, 0)?),
-        "enlarged_3" => return Ok(enlarged(alloc, &grid, 3)?),
-        _ => return Err(CaseError::UnknownCall.into()),
+        _ => return Err(CaseError::UnknownCall),
     }
-    Ok(grid)
+    Ok(())
+}
+
+// What a call makes of a board.
+fn turned<T: Copy>(alloc: Global, call: &str, mut grid: Grid<T>) -> Result<Grid<T>> {
+    match call {
+        "enlarged_0" => Ok(enlarged(alloc, &grid, 0)?),
+        "enlarged_3" => Ok(enlarged(alloc, &grid, 3)?),
+        _ => {
+            turn(call, &mut grid)?;
+            Ok(grid)
+        }
+    }
 }
 
 /// Returns the gray picture that a call makes of one.

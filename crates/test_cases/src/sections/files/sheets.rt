@@ -37,44 +37,66 @@ fn read(
     }
 }
 
-// The rows as JSON. They are read back from their CSV and from their JSON.
-fn described(alloc: Global, grid: &Grid<String>) -> Result<String> {
-    let value = rows_to_value(alloc, grid, to_json)?;
+// The rows of a sheet.
+fn rows(alloc: Global, bytes: &[u8]) -> Result<Grid<String>, CsvError> {
+    let (_, grid) = read(alloc, bytes, false)?;
+    Ok(grid)
+}
+
+// The rows must be those that are read back from their CSV.
+fn check_csv(alloc: Global, grid: &Grid<String>) -> Result<()> {
     let again = written_and_read(
         alloc,
         grid,
         put,
         |field| Ok(Some(String::from_str(alloc, field)?)),
     )?;
-    if again != *grid || rows_from_value(alloc, &value, from_json)? != *grid {
-        bail!("the rows are not read back");
+    if again != *grid {
+        bail!("the rows are not read back from their CSV");
     }
-    let text = value.to_string(alloc)?;
-    Ok(format!(in alloc; "{text}\n")?)
+    Ok(())
+}
+
+// The same from their JSON.
+fn check_json(alloc: Global, grid: &Grid<String>, value: &Value) -> Result<()> {
+    if rows_from_value(alloc, value, from_json)? != *grid {
+        bail!("the rows are not read back from their JSON");
+    }
+    Ok(())
+}
+
+// The rows as JSON, which are read back.
+fn described(alloc: Global, grid: &Grid<String>) -> Result<String> {
+    check_csv(alloc, grid)?;
+    let value = rows_to_value(alloc, grid, to_json)?;
+    check_json(alloc, grid, &value)?;
+    Ok(format!(in alloc; "{}\n", value.to_string(alloc)?)?)
 }
 
 /// Returns the rows of a sheet, or what is wrong with it.
 pub fn sheet(alloc: Global, bytes: &[u8]) -> Result<String> {
-    match read(alloc, bytes, false) {
-        Ok((_, grid)) => described(alloc, &grid),
+    match rows(alloc, bytes) {
+        Ok(grid) => described(alloc, &grid),
         Err(error) => Ok(format!(in alloc; "{error}\n")?),
     }
+}
+
+fn with_header(alloc: Global, header: &Vec<String>, grid: &Grid<String>) -> Result<String> {
+    let rows = described(alloc, grid)?;
+    Ok(format!(in alloc; "{header:?}\n{rows}")?)
 }
 
 /// Returns the header and the rows of a sheet that has one, or what is wrong with it.
 pub fn headed(alloc: Global, bytes: &[u8]) -> Result<String> {
     match read(alloc, bytes, true) {
-        Ok((header, grid)) => {
-            let rows = described(alloc, &grid)?;
-            Ok(format!(in alloc; "{header:?}\n{rows}")?)
-        }
+        Ok((header, grid)) => with_header(alloc, &header, &grid),
         Err(error) => Ok(format!(in alloc; "{error}\n")?),
     }
 }
 
 /// Returns the sheet of the rows of a sheet.
 pub fn sheet_again(alloc: Global, bytes: &[u8]) -> Result<Vec<u8>> {
-    let (_, grid) = read(alloc, bytes, false)?;
+    let grid = rows(alloc, bytes)?;
     let text = to_csv(alloc, &grid, put)?;
     Ok(text.into_bytes())
 }
@@ -88,7 +110,7 @@ pub fn headed_again(alloc: Global, bytes: &[u8]) -> Result<Vec<u8>> {
 
 /// Returns the sheet of the columns of a sheet.
 pub fn sheet_transposed(alloc: Global, bytes: &[u8]) -> Result<Vec<u8>> {
-    let (_, mut grid) = read(alloc, bytes, false)?;
+    let mut grid = rows(alloc, bytes)?;
     grid.transpose();
     let text = to_csv(alloc, &grid, put)?;
     Ok(text.into_bytes())
@@ -96,7 +118,7 @@ pub fn sheet_transposed(alloc: Global, bytes: &[u8]) -> Result<Vec<u8>> {
 
 /// Returns the columns of a sheet.
 pub fn transposed(alloc: Global, bytes: &[u8]) -> Result<String> {
-    let (_, mut grid) = read(alloc, bytes, false)?;
+    let mut grid = rows(alloc, bytes)?;
     grid.transpose();
     described(alloc, &grid)
 }
