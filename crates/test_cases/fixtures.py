@@ -6,7 +6,7 @@ Python's csv and json, and LibreOffice Calc 7, or else the sheets of Calc's that
 
 A picture's rows are what netpbm writes of it as plain text; a turned or cut picture is netpbm's. A sheet's rows are what
 Python's csv reads, and its text again is what that writes. The texts of faults are given here, and what is made of the
-short texts at the end, which were found by hand: for each call, the text and the answer.
+short texts at the end, which were found by hand: for each call, the text and what is expected.
 """
 import csv
 import io
@@ -209,7 +209,7 @@ def sheets():
     say("transposed excel.csv", as_json(list(zip(*read(excel)))))
     sheet("excel.csv", excel)
     sheet("no_header.csv", written(ROWS))
-    # the first name is in quotes behind the mark
+    # the first name is in quotes after the mark
     headed("mark_and_quotes.csv", written([["a, b", "c"], ["1", "2"]], mark=True))
     headed("all_quotes.csv", written([HEADER, *ROWS], mark=True, quoting=csv.QUOTE_ALL))
     sheet("no_last_end.csv", written(ROWS)[:-2])
@@ -227,7 +227,7 @@ def sheets():
     say("headed latin.csv", "record 2, field 1 is no cell")
 
 
-# ---- short texts. Behind a fault stand later ones: in the same row, and in the next.
+# ---- short texts. After a fault are later ones: in the same row, and in the next.
 
 GRAY = [
     # comments and white space, as in what GIMP writes, and wherever they may stand
@@ -236,7 +236,7 @@ GRAY = [
     (b"P5#1\r#2 2\n\t 2# 9\n#\r\n1\r\n255\rAB", 255, ["65,66"]),
     (b"P2 2 1 9 1# 5\n#\n7", 9, ["1,7"]),
     (b"P2 2 1 9 001\t09", 9, ["1,9"]),
-    # a raster starts behind one byte of white space, and what stands behind it isn't read
+    # a raster starts after one byte of white space, and what is after it isn't read
     (b"P5 2 1 255 \n ", 255, ["10,32"]),
     (b"P5 1 2 255 ABP5 9", 255, ["65", "66"]),
     (b"P2 1 1 9 5 x", 9, ["5"]),
