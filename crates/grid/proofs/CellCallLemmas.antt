@@ -1,12 +1,8 @@
 -- Calls of a closure at each position of a grid and the cell there.
 use Rattle.std.proofs.Common.{◌≡◌, ℕ, zero, suc, ◌*◌, ◌<◌, ◌≤◌, List, [], ◌∷◌, ◌++◌, Some, Result, Ok, Err, length, zip, refl, sym, subst, ◌∙◌, ap, arith, is_some, IsSomeAnd, Option, None, IfOk, slice_get, unwrap_or, length-append, Bor}
-use Rattle.grid.proofs.Common.{AllZip, unwrap_or-slice_get, row_count, col_count, cell, InRange, IsSize, tabulate, table_of, place, positions, PairsUp, CallableAtCells, CallableAtItems, ReturnsAtCell, FailsFirst, GridValue, HoldsSize, FitsUsize, IsFull, tabulate-same, cell-tabulate, place_within, has_place, get_append_left, get_append_right, get-places, length-places, zip_within, get-zip, view-rows, view-cols, view-cell, CallableAtPositions, MappedBy, IsMade, CallableOver, MadeBy, FailsAt, grid_value}
+use Rattle.grid.proofs.Common.{AllZip, unwrap_or-slice_get, row_count, col_count, cell, InRange, IsSize, tabulate, table_of, place, positions, PairsUp, CallableAtCells, CallableAtItems, ReturnsAtCell, FailsFirst, GridValue, HoldsSize, FitsUsize, IsFull, tabulate-same, cell-tabulate, place_within, has_place, mul-le, get_append_left, get_append_right, get-places, length-places, zip_within, get-zip, view-rows, view-cols, view-cell, CallableAtPositions, MappedBy, IsMade, CallableOver, MadeBy, FailsAt, grid_value}
 use Rattle.grid_base.specs.declared.order.Order.{Order}
 use Rattle.grid.proofs.SeenLemmas.{seen_rows, seen_cols}
-
-mul_grows : (m n : ℕ) → 0 < n → m ≤ m * n
-mul_grows zero n h = omega arith
-mul_grows (suc m) n h = omega (arith, mul_grows m n h)
 
 pub record ItemAt {T : Type 0} (xs : List T) (k : ℕ) : Type 0 where
   pub x : T
@@ -175,7 +171,7 @@ pub seen_made : {T : Type 0} (o : Order) (m n : ℕ) (cells : List T) (h : Holds
 seen_made o m n cells h some_rows some_cols = record {
   order = refl;
   size = record {
-    none = λ e. absurd (omega (arith, mul_grows m n some_cols));
+    none = λ e. absurd (omega (arith, mul-le m 1 m n (omega arith) (omega (arith, some_cols))));
     rows = λ _. view-rows o m n cells h;
     cols = λ _. view-cols o m n cells h;
   };

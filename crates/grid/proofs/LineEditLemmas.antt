@@ -20,7 +20,8 @@ found_is false a b h = sym (ap not (⊎_elim {C = nat_lt b a ≡ true} (λ lt. l
     true_is : IsTrue false → ⊥
     true_is e = cc e
 
-one_past : (at n : ℕ) → not (nat_lt n (at + 1)) ≡ nat_lt at n
+-- the line after one is past the end where that one is the last
+pub one_past : (at n : ℕ) → not (nat_lt n (at + 1)) ≡ nat_lt at n
 one_past at n =
     ⊎_elim {C = not (nat_lt n (at + 1)) ≡ nat_lt at n}
     (λ lt. rw (lt-ltb n (at + 1) lt, le-ltb at n (omega arith)) refl)
@@ -84,6 +85,11 @@ module _ {T : Type 0} where
 
   pub read_rows : (d : T) (at : ℕ) (t : List (List T)) → t ≡ step_rows d (lines Row (read at)) t
   read_rows d at t = done_rows d (read at) t refl
+
+  pub read_kept : (d : T) (a : Axis) (at : ℕ) (t : List (List T)) → t ≡ step_rows d (lines a (read at)) t
+  unfolding step_rows
+  read_kept d Row at t = refl
+  read_kept d Col at t = refl
 
   -- a line that is inserted
   pub insert_done : (d : T) (at : ℕ) (line : List T) (t : List (List T)) → lines_refusal (row_count t) (col_count t) at (line ∷ []) ≡ None → insert t at line ≡ step_rows d (lines Row (insert_at at line)) t

@@ -1,5 +1,7 @@
 -- The cells of a table passed row by row.
 use Rattle.std.proofs.Common.{◌≡◌, ℕ, ◌+◌, ◌<◌, ◌≤◌, ◌⊎◌, inl, inr, Bool, true, false, List, [], ◌∷◌, ◌++◌, length, slice_index_or, refl, subst, sym, ◌∙◌, ap, arith, length-append, Bor}
+use Rattle.std.specs.List.{All}
+use Rattle.grid.proofs.IndexedIteratorLemmas.{same_at}
 use Rattle.grid.proofs.Common.{cases_lt, get_or_append_left, get_or-append_seam, row_count, col_count, InRange, Precedes, IsAmong, AnswersAt, FoundAll}
 
 -- P holds of the positions before (r, c)
@@ -143,3 +145,8 @@ module _ {F T : Type 0} (returns : F → Bor T → Bool → Type 0) (f : F) (t :
 
   pub found_all : (found : List (ℕ × ℕ)) (r : ℕ) → row_count t ≤ r → FoundBefore found r 0 → FoundAll returns f t found
   found_all found r le h = record { in_range = h.in_range; in_order = h.in_order; each = before_all t (Sorted found) r le h.each }
+
+  -- each of them is in range
+  pub found_in_range : (found : List (ℕ × ℕ)) → FoundAll returns f t found → All (λ at. InRange t at.0 at.1) found
+  found_in_range found h k d lt =
+      h.in_range k (slice_index_or found k d) lt (same_at found k d (slice_index_or found k d) lt)

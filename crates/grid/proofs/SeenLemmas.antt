@@ -1,7 +1,21 @@
 -- What a grid's fields say of the value that a contract sees.
-use Rattle.std.proofs.Common.{◌≡◌, ◌<◌, ℕ, List, [], length, sym, ◌∙◌, ap, arith, ◌↔◌, IsTrue, nat_eq, eqb-true, eq-eqb}
+use Rattle.std.proofs.Common.{◌≡◌, ◌<◌, ◌≤◌, ◌*◌, ◌^◌, ℕ, zero, suc, List, [], length, sym, ◌∙◌, ap, arith, lit<, mul_comm, ◌↔◌, IsTrue, nat_eq, eqb-true, eq-eqb}
 use Rattle.grid.proofs.Common.{row_count, col_count, InRange, table_of, storage, GridValue, HoldsSize, nil_from_length, same_grid_value, view-rows, view-cols, view-storage, grid_value}
 use Rattle.grid_base.specs.declared.order.Order.{Order}
+
+grows : (m n : ℕ) → 0 < n → m ≤ m * n
+grows zero n h = omega arith
+grows (suc m) n h = omega (arith, grows m n h)
+
+-- fewer than 2^63 cells have fewer rows and fewer columns
+pub sides_small : (m n len : ℕ) → HoldsSize m n len → len < 2 ^ 63 → (m < 2 ^ 63) × (n < 2 ^ 63)
+sides_small zero zero len h lt = (lit< tt, lit< tt)
+sides_small zero (suc n) len h lt = absurd (omega (arith, h.size.has_rows (omega arith)))
+sides_small (suc m) zero len h lt = absurd (omega (arith, h.size.has_cols (omega arith)))
+sides_small (suc m) (suc n) len h lt = (
+  omega (arith, grows (suc m) (suc n) (omega arith), h.cells, lt),
+  omega (arith, grows (suc n) (suc m) (omega arith), mul_comm (suc m) (suc n), h.cells, lt),
+)
 
 module _ {T : Type 0} (o : Order) (m n : ℕ) (cells : List T) (s : GridValue T) (h : HoldsSize m n (length cells)) where
   pub seen_rows : grid_value o m n cells h ≡ s → row_count s.rows ≡ m

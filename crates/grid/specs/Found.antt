@@ -1,7 +1,11 @@
 -- The positions of cells at which a closure answers true.
-use Rattle.std.specs.Prelude.{◌≡◌, ◌<◌, ◌⊎◌, ℕ, Bool, true, false, Option, Some, List, length, slice_index_or, MatchOption}
+use Rattle.std.specs.Prelude.{◌≡◌, ◌^◌, ◌<◌, ◌⊎◌, ℕ, ℤ, pos, ◌+ℤ◌, Bool, true, false, Option, Some, List, length, slice_index_or, MatchOption}
+use Rattle.std.specs.Iterator.{YieldsFirst}
+use Rattle.std.specs.Iterator.Runs.{EachRunFrom, AllItems}
 use denote.Ref.{Bor}
-use Rattle.grid_base.specs.Table.{cell, InRange}
+use Rattle.grid_base.specs.Table.{row_count, col_count, cell, InRange}
+use Rattle.grid_base.specs.Positions.{positions}
+use Rattle.grid_base.specs.declared.order.Order.TheVariants.{RowMajor}
 
 -- a position comes before another, row by row
 abbrev pub Precedes : ℕ × ℕ → ℕ × ℕ → Type 0
@@ -39,3 +43,14 @@ module _ {F T : Type 0} (returns : F → Bor T → Bool → Type 0) (f : F) (t :
         → a ≡ slice_index_or found i a → b ≡ slice_index_or found j b → Precedes a b
     pub each : (r c : ℕ) → InRange t r c → (IsAmong found (r, c) × AnswersAt (r, c) true)
         ⊎ ((IsAmong found (r, c) → ⊥) × AnswersAt (r, c) false)
+
+-- `to` is by.0 rows down and by.1 columns to the right of `at`
+abbrev pub IsOffset : ℕ × ℕ → ℤ × ℤ → ℕ × ℕ → Type 0
+IsOffset at by to = (pos to.0 ≡ pos at.0 +ℤ by.0) × (pos to.1 ≡ pos at.1 +ℤ by.1)
+
+-- an iterator gives the positions of a table, row by row, and each is in range
+abbrev pub GivesIndices : {T : Type 0} → List (List T) → List (ℕ × ℕ) → Type 0
+GivesIndices t it = (it ≡ positions RowMajor (row_count t) (col_count t))
+    × EachRunFrom (YieldsFirst (λ (rest : List (ℕ × ℕ)). rest)) it
+    (λ p. AllItems p (λ at. InRange t at.0 at.1))
+    × (length it < 2 ^ 64)

@@ -8,7 +8,7 @@ pub use Rattle.grid.specs.EditFails.{LineFails, LinesFail, PaddingFails}
 pub use Rattle.grid.specs.Edited.{Edited, EditCounted}
 pub use Rattle.grid.specs.Edits.{FitsRow, FitsCol, insert_cols, without_rows, without_cols, insert_col, insert_rows, PadsRows, PadsCols, expanded_rows, prepended_rows, insert_into_rows, expanded_cols, prepended_cols, has_cells}
 pub use Rattle.grid.specs.Exchanged.{held, InRow, InRows, PartTaken}
-pub use Rattle.grid.specs.Found.{CallableAtCells, FoundFirst, FoundAll}
+pub use Rattle.grid.specs.Found.{CallableAtCells, FoundFirst, FoundAll, IsOffset, GivesIndices}
 pub use Rattle.grid.specs.GridFails.{GridFails}
 pub use Rattle.grid.specs.Make.{FailsAt, ExceedsMax, FailsBySize, IsMade, EachCellIs, HoldsDefaults, CallableOver, MadeBy, HasSize, IsOnlyDefault}
 pub use Rattle.grid.specs.NearMaps.{CallableRound, ReturnsRound, ReachesRound, MapRound, CallableCounted, MapCounts, CallableSummed, MapSums}

@@ -1,5 +1,5 @@
 //! A grid, its constructors from a vector, and access to its cells.
-ghost use Rattle.std.specs.Prelude.{◌≡◌, ◌≢◌, ◌↔◌, [], length, IsTrue, IfSome, MatchOption, Some, is_some, option_copied};
+ghost use Rattle.std.specs.Prelude.{◌≡◌, ◌≢◌, ◌↔◌, ◌<◌, ◌^◌, [], length, IsTrue, IfSome, MatchOption, Some, is_some, option_copied};
 ghost use Rattle.grid_base.specs.Prelude.{row_count, col_count, cell, with_cell, exchanged, InRange, HoldsSize, SameSizeAndOrder, storage, place, CanCut};
 ghost use Rattle.std.specs.Borrow.{sem};
 ghost use Rattle.grid.specs.Edits.{FitsRow, FitsCol};
@@ -96,7 +96,10 @@ impl<T, A: Allocator> Grid<T, A> {
     pub fn size(&self) -> (usize, usize)
         ensures rows { result.0 ≡ row_count self.now.rows }
         ensures cols { result.1 ≡ col_count self.now.rows }
+        ensures small { (result.0 < 2 ^ 63) × (result.1 < 2 ^ 63) }
     {
+        // For the proof: a vector has fewer than 2^63 cells.
+        let _len = self.flat.as_vec().len();
         (self.row_count, self.col_count)
     }
 
@@ -110,8 +113,9 @@ impl<T, A: Allocator> Grid<T, A> {
     ///     [[1, 2, 3], [4, 5, 6]]   rows()   2
     pub fn rows(&self) -> usize
         ensures rows { result ≡ row_count self.now.rows }
+        ensures small { result < 2 ^ 63 }
     {
-        self.row_count
+        self.size().0
     }
 
     /// Returns the number of columns.
@@ -119,8 +123,9 @@ impl<T, A: Allocator> Grid<T, A> {
     ///     [[1, 2, 3], [4, 5, 6]]   cols()   3
     pub fn cols(&self) -> usize
         ensures cols { result ≡ col_count self.now.rows }
+        ensures small { result < 2 ^ 63 }
     {
-        self.col_count
+        self.size().1
     }
 
     /// Returns whether a row of this length fits: as many cells as there are columns, or any number in an empty grid.

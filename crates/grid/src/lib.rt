@@ -62,11 +62,11 @@ pub use edits::GridRefused;
 pub use grid::Grid;
 pub use grid_base::{
     GridLineIter, GridLineIterMut, GridRowIter, IndexedIntoIter, IndexedIter, IndexedIterMut, Move,
-    Order, Symmetry, Tally, Whole, reduce,
+    Order, Positions, Symmetry, Tally, Whole, reduce,
 };
 pub use grid_commands::{
     Axis, Command, GridError, LineRefused, LinesRefused, Refusal, Reply, RunStopped, ShapeError,
 };
 pub use grid_near::{Direction, Neighbors, WrappedNeighbors};
-pub use grid_view::{GridView, ViewIndexedIter, ViewIter, ViewLineIter, ViewRowIter};
+pub use grid_view::{AsView, GridView, ViewIndexedIter, ViewIter, ViewLineIter, ViewRowIter};
 pub use iterators::GridColIter;

@@ -1,8 +1,10 @@
 //! Positions as pairs: whether there is a cell, access, a step to the side, and the positions of cells that pass a test.
 ghost use Rattle.std.specs.Prelude.{◌≡◌, ◌↔◌, IsTrue, IfOk, IfSome, MatchOption, is_some, Some, option_copied};
-ghost use Rattle.grid.specs.Prelude.{cell, with_cell, InRange, SameSizeAndOrder, sem, CallableAtCells, FoundFirst, FoundAll, IsBeside};
+ghost use Rattle.grid.specs.Prelude.{cell, with_cell, InRange, SameSizeAndOrder, sem, CallableAtCells, FoundFirst, FoundAll, IsBeside, IsOffset, GivesIndices};
+ghost use Rattle.std.specs.List.{All};
 
 use crate::Grid;
+use grid_base::{Layout, Order, Positions};
 use grid_near::Direction;
 use std::alloc::{AllocError, Allocator};
 
@@ -72,6 +74,43 @@ impl<T, A: Allocator> Grid<T, A> {
         way.step(self.size(), at)
     }
 
+    /// Returns the position that is `by.0` rows down and `by.1` columns to the right of `at`, if there is a cell. Negative
+    /// numbers go up and to the left.
+    ///
+    ///     [[1, 2, 3], [4, 5, 6]]   offset((0, 0), (1, 2))    Some((1, 2))
+    ///     [[1, 2, 3], [4, 5, 6]]   offset((0, 0), (1, -1))   None
+    ///
+    /// Cost: constant.
+    pub fn offset(&self, at: (usize, usize), by: (isize, isize)) -> Option<(usize, usize)>
+        ensures { MatchOption result
+            ((to : _) → IsOffset at by to → InRange self.now.rows to.0 to.1 → ⊥)
+            (λ to. IsOffset at by to × InRange self.now.rows to.0 to.1) }
+    {
+        let to = (
+            at.0.checked_add_signed(by.0)?,
+            at.1.checked_add_signed(by.1)?,
+        );
+        if self.contains(to) { Some(to) } else { None }
+    }
+
+    /// Returns an iterator over all positions, row by row.
+    ///
+    ///     [[1, 2], [3, 4]]   indices()   (0, 0), (0, 1), (1, 0), (1, 1)
+    ///
+    /// It doesn't borrow the grid, which may be written while it runs.
+    ///
+    /// Cost: constant; no memory.
+    pub fn indices(&self) -> Positions
+        ensures gives { GivesIndices self.now.rows result }
+    {
+        let (rows, cols) = self.size();
+        Positions::new(Layout {
+            order: Order::RowMajor,
+            rows,
+            cols,
+        })
+    }
+
     /// Returns the position of the first cell, row by row, for which the closure returns true.
     ///
     ///     [[1, 2], [3, 2]]   position(|x| *x == 2)   Some((0, 1))
@@ -106,7 +145,9 @@ impl<T, A: Allocator> Grid<T, A> {
         test: F,
     ) -> Result<Vec<(usize, usize), B>, AllocError>
         requires { CallableAtCells F.pre test self.now.rows }
-        ensures { IfOk result (λ found. FoundAll F.post test self.now.rows found.items) }
+        ensures found { IfOk result (λ found. FoundAll F.post test self.now.rows found.items) }
+        ensures in_range { IfOk result (λ found.
+            All (λ at. InRange self.now.rows at.0 at.1) found.items) }
     {
         let mut found = Vec::new(alloc);
         let (rows, cols) = self.size();

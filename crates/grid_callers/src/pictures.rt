@@ -1,4 +1,4 @@
-//! Callers of `grid_pnm`, with no proof file.
+//! Callers of `grid_pnm`, all but the last with no proof file.
 ghost use Rattle.std.specs.Prelude.{◌≡◌, ◌-◌, ◌∷◌, [], IfOk, MatchResult, if◌then◌else◌};
 ghost use Rattle.grid_pnm.specs.Writing.{pgm_bytes, ppm_bytes, table_map};
 ghost use Rattle.grid_pnm.specs.declared.error.PnmError.TheVariants.{Memory};

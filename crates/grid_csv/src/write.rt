@@ -1,37 +1,33 @@
-//! Grids written as CSV.
+//! Boards written as CSV.
 ghost use Rattle.std.specs.Prelude.{◌≡◌, ◌++◌, [], ℕ, List, map, IfOk, OnOk, IsUtf8, string_bytes};
 ghost use Rattle.grid_csv.specs.Prelude.{AllZip, fields_of, default_writer, row_text, HasWritten, AnswersCell, IsCsv, MayWrite, MayWriteBelow, WritesBy, below_names, sheet_text};
 
 use csv::{ByteRecord, Writer};
-use grid::{Grid, GridLineIter};
-use std::alloc::{AllocError, Allocator, Global};
+use grid_view::{AsView, ViewLineIter};
+use std::alloc::{AllocError, Global};
 
-/// Returns the CSV of the grid: a record for each row, and in it a field for each cell, the text that `write` appends.
-/// Fields are in quotes where they have to be, with commas between them, and each record ends in a line feed. The empty
-/// grid is the empty text.
+/// Returns the CSV of a grid or of a view: a record for each row, and in it a field for each cell, the text that `write`
+/// appends. Fields are in quotes where they have to be, with commas between them, and each record ends in a line feed.
+/// No rows are the empty text.
 ///
-///     [[1, 2], [3, 4]]   to_csv(alloc, grid, |cell, text| write!(text, "{cell}"))   "1,2\n3,4\n"
+///     [[1, 2], [3, 4]]   to_csv(alloc, board, |cell, text| write!(text, "{cell}"))   "1,2\n3,4\n"
 ///
 /// Requires: `write` can be called at every cell.
 /// Fails: if allocation fails, also in `write`.
 /// Cost: one call for each cell.
-pub fn to_csv<T, A: Allocator, F>(
-    alloc: Global,
-    grid: &Grid<T, A>,
-    write: F,
-) -> Result<String, AllocError>
+pub fn to_csv<T, V: AsView<T>, F>(alloc: Global, board: &V, write: F) -> Result<String, AllocError>
 where
     F: Fn(&T, &mut String) -> Result<(), AllocError>,
     requires { F.IsAlwaysCallable write }
     ensures text { (h : T → List ℕ) → WritesBy F.post write h
-        → IfOk result (λ text. IsCsv h [] grid.now.rows (string_bytes text)) }
+        → IfOk result (λ text. IsCsv h [] (V.rows board.now) (string_bytes text)) }
     ensures answers { IfOk result (λ text.
-        MayWrite (AnswersCell F.post write) grid.now.rows (string_bytes text)) }
+        MayWrite (AnswersCell F.post write) (V.rows board.now) (string_bytes text)) }
 {
     let mut writer = Writer::from_writer(Vec::new(alloc));
     let mut fields = ByteRecord::new(alloc);
     let mut text = String::new(alloc);
-    for row in grid.iter_rows() {
+    for row in board.as_view().iter_rows() {
         fill_record(&mut fields, &mut text, row, &write)?;
         write_record(&mut writer, &fields)?;
     }
@@ -40,25 +36,25 @@ where
 
 /// Same as [`to_csv`], below a record of these names.
 ///
-///     [[1, 2]]   to_csv_with_header(alloc, ["x", "y"], grid, |cell, text| write!(text, "{cell}"))   "x,y\n1,2\n"
+///     [[1, 2]]   to_csv_with_header(alloc, ["x", "y"], board, |cell, text| write!(text, "{cell}"))   "x,y\n1,2\n"
 ///
-/// Without names it is the CSV of the grid. More or fewer names than columns make records of different lengths.
-pub fn to_csv_with_header<T, A: Allocator, F>(
+/// Without names it is the CSV of the board. More or fewer names than columns make records of different lengths.
+pub fn to_csv_with_header<T, V: AsView<T>, F>(
     alloc: Global,
     header: &[String],
-    grid: &Grid<T, A>,
+    board: &V,
     write: F,
 ) -> Result<String, AllocError>
 where
     F: Fn(&T, &mut String) -> Result<(), AllocError>,
     requires { F.IsAlwaysCallable write }
     ensures text { (h : T → List ℕ) → WritesBy F.post write h → IfOk result
-        (λ text. IsCsv h (map string_bytes header.now) grid.now.rows (string_bytes text)) }
+        (λ text. IsCsv h (map string_bytes header.now) (V.rows board.now) (string_bytes text)) }
     ensures answers { IfOk result (λ text. MayWriteBelow (AnswersCell F.post write)
-        (map string_bytes header.now) grid.now.rows (string_bytes text)) }
+        (map string_bytes header.now) (V.rows board.now) (string_bytes text)) }
 {
     let mut text = header_text(alloc, header)?;
-    text.push_str(to_csv(alloc, grid, write)?.as_str())?;
+    text.push_str(to_csv(alloc, board, write)?.as_str())?;
     Ok(text)
 }
 
@@ -83,7 +79,7 @@ fn header_text(alloc: Global, header: &[String]) -> Result<String, AllocError>
 fn fill_record<T, F>(
     fields: &mut ByteRecord,
     text: &mut String,
-    row: GridLineIter<'_, T>,
+    row: ViewLineIter<'_, T>,
     write: &F,
 ) -> Result<(), AllocError>
 where

@@ -48,11 +48,6 @@ module _ {T : Type 0} where
   unfolding step_rows
   get-rows d r c t = refl
 
-  pub line-rows : (d : T) (a : Axis) (at : ℕ) (t : List (List T)) → t ≡ step_rows d (lines a (read at)) t
-  unfolding step_rows
-  line-rows d Row at t = refl
-  line-rows d Col at t = refl
-
   pub none_applied : (y : CommandValue T) → is_apply y ≡ false → (u : Symmetry) → y ≡ apply u → ⊥
   none_applied y h u e = absurd (cc (h, ap is_apply e))
 

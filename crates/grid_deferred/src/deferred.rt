@@ -9,7 +9,7 @@ ghost use Rattle.grid_commands.specs.declared.command.Axis.TheVariants.{Row, Col
 use crate::carrying::{carried, carry_reply};
 use grid::{Axis, Command, Grid, Reply, Tally};
 use grid_base::Symmetry;
-use grid_view::{GridView, ViewLineIter};
+use grid_view::{AsView, GridView, ViewLineIter};
 use std::alloc::{AllocError, Allocator, Global};
 
 /// An iterator over a row or a column of a grid as seen through a pending symmetry. Each step takes the same time.
@@ -284,5 +284,19 @@ impl<'a, T, A: Allocator> Deferred<'a, T, A> {
     {
         let Deferred { base: _, pending } = self;
         pending
+    }
+}
+
+/// A deferred grid lends its rows as seen through the pending symmetry.
+impl<'a, T, A: Allocator> AsView<T> for Deferred<'a, T, A> {
+    ghost use Rattle.grid_base.proofs.ActLemmas.{IsTable-act};
+    ghost use Rattle.grid_deferred.specs.Deferred.{shown, base, pending};
+
+    ghost rows = { shown };
+
+    ghost table = { λ board. IsTable-act (pending board) (base board).rows (base board).table };
+
+    fn as_view(&self) -> GridView<'_, T> {
+        self.view()
     }
 }

@@ -4,32 +4,34 @@ ghost use Rattle.grid_json.specs.Prelude.{Data, view, AddsRow, AnswersCell, Answ
 
 use crate::RowsError;
 use crate::write::array_of;
-use grid::{Grid, GridLineIter};
+use grid::Grid;
+use grid_view::{AsView, ViewLineIter};
 use serde_json::Value;
-use std::alloc::{AllocError, Allocator, Global};
+use std::alloc::{AllocError, Global};
 
-/// Returns an array of an array for each row, of the values that `write` returns at its cells. The empty grid is `[]`.
+/// Returns an array of an array for each row of a grid or of a view, of the values that `write` returns at its cells. No
+/// rows are `[]`.
 ///
-///     [[1, 2], [3, 4]]   rows_to_value(alloc, grid, |cell| Ok(Value::from(*cell)))   [[1,2],[3,4]]
+///     [[1, 2], [3, 4]]   rows_to_value(alloc, board, |cell| Ok(Value::from(*cell)))   [[1,2],[3,4]]
 ///
 /// Requires: `write` can be called at every cell.
 /// Fails: if allocation fails, also in `write`.
 /// Cost: one call for each cell.
-pub fn rows_to_value<T, A: Allocator, F>(
+pub fn rows_to_value<T, V: AsView<T>, F>(
     alloc: Global,
-    grid: &Grid<T, A>,
+    board: &V,
     write: F,
 ) -> Result<Value, AllocError>
 where
     F: Fn(&T) -> Result<Value, AllocError>,
     requires { F.IsAlwaysCallable write }
     ensures value { (h : T → Data) → WritesBy F.post write h
-        → IfOk result (λ value. IsRows h grid.now.rows (view value)) }
+        → IfOk result (λ value. IsRows h (V.rows board.now) (view value)) }
     ensures answers { IfOk result (λ value.
-        MayBeRows (AnswersCell F.post write) grid.now.rows (view value)) }
+        MayBeRows (AnswersCell F.post write) (V.rows board.now) (view value)) }
 {
     let mut list = Vec::new(alloc);
-    for row in grid.iter_rows() {
+    for row in board.as_view().iter_rows() {
         list.push(row_to_value(alloc, row, &write)?)?;
     }
     Ok(array_of(list))
@@ -38,7 +40,7 @@ where
 // An array of the values of the cells of a row.
 fn row_to_value<T, F>(
     alloc: Global,
-    row: GridLineIter<'_, T>,
+    row: ViewLineIter<'_, T>,
     write: &F,
 ) -> Result<Value, AllocError>
 where

@@ -14,6 +14,17 @@ box_of DownLeft = (2, 0)
 box_of Left = (1, 0)
 box_of UpLeft = (0, 0)
 
+-- the number of a direction, clockwise from the one up
+abbrev pub clockwise : Direction → ℕ
+clockwise Up = 0
+clockwise UpRight = 1
+clockwise Right = 2
+clockwise DownRight = 3
+clockwise Down = 4
+clockwise DownLeft = 5
+clockwise Left = 6
+clockwise UpLeft = 7
+
 -- `to` is one step from `at` in a direction
 abbrev pub IsBeside : Direction → ℕ × ℕ → ℕ × ℕ → Type 0
 IsBeside way at to = (to.0 + 1 ≡ at.0 + (box_of way).0) × (to.1 + 1 ≡ at.1 + (box_of way).1)

@@ -1,6 +1,6 @@
 //! Directions, and the positions beside a position.
-ghost use Rattle.std.specs.Prelude.{◌≡◌, ◌≤◌, MatchOption};
-ghost use Rattle.grid_near.specs.Prelude.{box_of, IsBeside, IsWithin};
+ghost use Rattle.std.specs.Prelude.{◌≡◌, ◌+◌, ◌<◌, ◌≤◌, ◌%◌, ℕ, MatchOption};
+ghost use Rattle.grid_near.specs.Prelude.{box_of, clockwise, IsBeside, IsWithin};
 
 use crate::steps::is_there;
 
@@ -37,6 +37,69 @@ impl Direction {
         Direction::Left,
         Direction::UpLeft,
     ];
+
+    /// The directions to the cells that share only a corner with a cell.
+    pub const DIAGONALS: [Direction; 4] = [
+        Direction::UpRight,
+        Direction::DownRight,
+        Direction::DownLeft,
+        Direction::UpLeft,
+    ];
+
+    /// Returns the opposite direction.
+    ///
+    ///     UpRight.opposite()   DownLeft
+    pub fn opposite(self) -> Direction
+        ensures { (a b : ℕ × ℕ) → IsBeside self a b → IsBeside result b a }
+    {
+        match self {
+            Direction::Up => Direction::Down,
+            Direction::UpRight => Direction::DownLeft,
+            Direction::Right => Direction::Left,
+            Direction::DownRight => Direction::UpLeft,
+            Direction::Down => Direction::Up,
+            Direction::DownLeft => Direction::UpRight,
+            Direction::Left => Direction::Right,
+            Direction::UpLeft => Direction::DownRight,
+        }
+    }
+
+    /// Returns the direction that is so many eighths of a turn on, clockwise: 2 are a quarter to the right, 6 a quarter to
+    /// the left.
+    ///
+    ///     Up.turned(1)     UpRight
+    ///     Left.turned(2)   Up
+    pub fn turned(self, eighths: usize) -> Direction
+        ensures { clockwise result ≡ (clockwise self + eighths) % 8 }
+    {
+        match (self.number() + eighths % 8) % 8 {
+            0 => Direction::Up,
+            1 => Direction::UpRight,
+            2 => Direction::Right,
+            3 => Direction::DownRight,
+            4 => Direction::Down,
+            5 => Direction::DownLeft,
+            6 => Direction::Left,
+            _ => Direction::UpLeft,
+        }
+    }
+
+    // The number of a direction, clockwise from the one up.
+    fn number(self) -> usize
+        ensures is { result ≡ clockwise self }
+        ensures below { result < 8 }
+    {
+        match self {
+            Direction::Up => 0,
+            Direction::UpRight => 1,
+            Direction::Right => 2,
+            Direction::DownRight => 3,
+            Direction::Down => 4,
+            Direction::DownLeft => 5,
+            Direction::Left => 6,
+            Direction::UpLeft => 7,
+        }
+    }
 
     /// Returns the position that is one step from `at`, if it is within `size.0` rows and `size.1` columns.
     ///

@@ -10,6 +10,7 @@ pub use Rattle.grid_paths.proofs.NearLemmas.{all-near, sides-near}
 pub use Rattle.grid_paths.proofs.NumberLemmas.{IsNumbering-start, IsNumbering-round, IsNumbered-end, IsNumbering}
 pub use Rattle.grid_paths.proofs.PathLemmas.{open_end, one_less, zero_at, IsPath-one, IsPath-push, step_side, step_any, IsShortestPath-from_number, no_walk}
 pub use Rattle.grid_paths.proofs.QueueLemmas.{unreached_cells, IsTrimmed-start, IsTrimmed-round, IsTrimmed-trim, next_at, HasLeastFrom-trimmed, IsTrimmed}
+pub use Rattle.grid_paths.proofs.RangeLemmas.{flood_in_range, path_in_range, found_in_range}
 pub use Rattle.grid_paths.proofs.RegionLemmas.{outward_at, one_outward, IsWritten-start, IsWritten-next, IsWritten-all, IsFilled-flood, IsFilled-board, cells_mapped}
 pub use Rattle.grid_paths.proofs.RelaxLemmas.{left_inside, same_size, Enters-closed, Enters-low, Relaxes-wrote, not_less, Enters-steps, Enters-start, Enters-next, Enters-end}
 pub use Rattle.grid_paths.proofs.SearchLemmas.{one_mark, IsSearch, HasLeastSteps-one, IsSettled-end, IsSettled-found}

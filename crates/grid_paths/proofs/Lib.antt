@@ -16,5 +16,6 @@ pub mod CheapLemmas
 pub mod TrailLemmas
 pub mod TakenLemmas
 pub mod FloodLemmas
+pub mod RangeLemmas
 pub mod Common
 pub mod Lemmas

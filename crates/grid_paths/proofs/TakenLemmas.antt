@@ -1,7 +1,8 @@
 -- Cells taken: one, those at the positions of a list, those that steps lead to; and put back.
-use Rattle.std.proofs.Common.{◌≡◌, ◌≢◌, ℕ, zero, suc, ◌+◌, ◌<◌, ◌≤◌, ◌⊎◌, ◌↔◌, Option, None, Some, List, [], ◌∷◌, ◌++◌, length, set, get_or, Contains, MatchOption, refl, sym, ◌∙◌, ap, subst, arith, inl, inr, ⊎_elim, slice_get, sum_by, length-append, get_or-set_same}
-use Rattle.grid_paths.proofs.Common.{cases_lt, set_past, set-get_or, sum_by-set, slice_get_within, slice_get-get_or, get_or_from_slice_get, row, row_count, col_count, cell, with_cell, IsTable, GridValue, cell_in_range, cell-with_same, cell-with_other, same_or_other, IsStep, IsAt, undone, flag, IsLeft, count_left, AreMarked, TakesAll, CanUndo, AreSteps}
+use Rattle.std.proofs.Common.{◌≡◌, ◌≢◌, ℕ, suc, ◌+◌, ◌<◌, ◌≤◌, ◌⊎◌, ◌↔◌, Option, None, Some, List, [], ◌∷◌, ◌++◌, length, set, get_or, Contains, MatchOption, refl, sym, ◌∙◌, ap, subst, arith, inl, inr, ⊎_elim, slice_get, sum_by, length-append}
+use Rattle.grid_paths.proofs.Common.{cases_lt, set_past, set-get_or, sum_by-set, slice_get_within, get_or_from_slice_get, row, row_count, col_count, cell, with_cell, IsTable, GridValue, cell_in_range, cell-with_same, cell-with_other, same_or_other, IsStep, IsAt, undone, flag, IsLeft, count_left, AreMarked, TakesAll, CanUndo, AreSteps}
 use Rattle.grid_base.proofs.Common.{InRange}
+use Rattle.grid.proofs.CellWriteLemmas.{with_cell_back}
 use Rattle.grid_near.specs.declared.steps.Steps.{Steps}
 use Rattle.grid_paths.specs.declared.taken.Enter.{Enter}
 use Rattle.grid_paths.specs.declared.taken.Enter.TheVariants.{No, Stop, On}
@@ -202,24 +203,12 @@ module _ {T : Type 0} (t : List (List T)) (table : IsTable t) (r c : ℕ) (w : T
   set_is u None past same = same ∙ sym (with_cell_past past)
   set_is u (Some x) there e = e
 
--- a list of which an item was replaced and put back
-set_back : {X : Type 0} (xs : List X) (i : ℕ) (w x : X) → slice_get xs i ≡ Some x → set (set xs i w) i x ≡ xs
-set_back [] i w x h = refl
-set_back (y ∷ xs) zero w x h = let e : x ≡ y = cc in ap (λ v. v ∷ xs) e
-set_back (y ∷ xs) (suc i) w x h = ap (λ v. y ∷ v) (set_back xs i w x h)
-
 module _ {T : Type 0} where
   pub undone-push : (q : List ((ℕ × ℕ) × T)) (x : (ℕ × ℕ) × T) (t : List (List T)) → undone (q ++ x ∷ []) t ≡ undone q (with_cell t (x.0).0 (x.0).1 x.1)
   undone-push [] x t = refl
   undone-push (y ∷ q) x t = ap (λ v. with_cell v (y.0).0 (y.0).1 y.1) (undone-push q x t)
 
   -- a cell marked and put back
-  with_cell_back : (t : List (List T)) (r c : ℕ) (w x : T) → r < row_count t → cell t r c ≡ Some x → with_cell (with_cell t r c w) r c x ≡ t
-  with_cell_back t r c w x lr h =
-      ap (λ v. set (with_cell t r c w) r (set v c x)) (get_or-set_same t r (set (row t r) c w) [] lr)
-      ∙ (ap (λ v. set (with_cell t r c w) r v) (set_back (row t r) c w x h)
-      ∙ set_back t r (set (row t r) c w) (row t r) (slice_get-get_or t r [] lr))
-
   pub undone-taken : (q : List ((ℕ × ℕ) × T)) (t : List (List T)) → IsTable t → (b : ℕ × ℕ) (w x : T) → cell t b.0 b.1 ≡ Some x → undone (q ++ (b, x) ∷ []) (with_cell t b.0 b.1 w) ≡ undone q t
   undone-taken q t table b w x h =
       undone-push q (b, x) (with_cell t b.0 b.1 w)

@@ -1,6 +1,7 @@
 //! A cheapest path between two cells.
-ghost use Rattle.std.specs.Prelude.{◌≡◌, ◌+◌, ◌-◌, ◌↔◌, ℕ, IfOk, IsTrue, MatchOption, Some, length, slice_get};
-ghost use Rattle.grid_paths.specs.Prelude.{HoldsOfAnswers, IsStep, CostWalk, IsCheapestPath, IsCostPath, IsTrail};
+ghost use Rattle.std.specs.Prelude.{◌≡◌, ◌+◌, ◌-◌, ◌↔◌, ℕ, IfOk, IfSome, IsTrue, MatchOption, Some, length, slice_get};
+ghost use Rattle.std.specs.List.{All};
+ghost use Rattle.grid_paths.specs.Prelude.{InRange, HoldsOfAnswers, IsStep, CostWalk, IsCheapestPath, IsCostPath, IsTrail};
 
 use super::answers::answers_of;
 use super::costs::{Settled, begun};
@@ -96,11 +97,13 @@ pub fn cheapest_path<T, A: Allocator + Clone, F: Fn(&T) -> Option<u32>>(
     cost: F,
 ) -> Result<Option<(Vec<(usize, usize), A>, u128)>, AllocError>
     requires { F.IsAlwaysCallable cost }
-    ensures { IfOk result (λ found. MatchOption found
+    ensures cheapest { IfOk result (λ found. MatchOption found
         (HoldsOfAnswers F.post cost grid.now.rows (λ costs.
         (n sum : ℕ) → CostWalk kind costs from to n sum → ⊥))
         (λ path. HoldsOfAnswers F.post cost grid.now.rows (λ costs.
         IsCheapestPath kind costs from to path.0.items path.1))) }
+    ensures in_range { IfOk result (λ found. IfSome found (λ path.
+        All (λ at. InRange grid.now.rows at.0 at.1) path.0.items)) }
 {
     let costs = answers_of(grid, cost)?;
     path_over(kind, costs, from, to)

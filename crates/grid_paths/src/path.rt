@@ -1,5 +1,6 @@
 //! A shortest path between two cells.
-ghost use Rattle.std.specs.Prelude.{◌≡◌, Bool, List, ◌+◌, ◌↔◌, ℕ, IfOk, IsTrue, MatchOption, Contains, length};
+ghost use Rattle.std.specs.Prelude.{◌≡◌, Bool, List, ◌+◌, ◌↔◌, ℕ, IfOk, IfSome, IsTrue, MatchOption, Contains, length};
+ghost use Rattle.std.specs.List.{All};
 ghost use Rattle.grid_paths.specs.Prelude.{InRange, IsStep, IsPath, Walk, IsShortestPath, HoldsOfAnswers, IsMarked, HasLeastUpTo};
 ghost use Rattle.grid_near.specs.declared.steps.Steps.{Steps};
 
@@ -90,11 +91,13 @@ pub fn shortest_path<T, A: Allocator + Clone, F: Fn(&T) -> bool>(
     passable: F,
 ) -> Result<Option<Vec<(usize, usize), A>>, AllocError>
     requires { F.IsAlwaysCallable passable }
-    ensures { IfOk result (λ found. MatchOption found
+    ensures shortest { IfOk result (λ found. MatchOption found
         (HoldsOfAnswers F.post passable grid.now.rows (λ floor.
         (n : ℕ) → Walk kind floor from to n → ⊥))
         (λ path. HoldsOfAnswers F.post passable grid.now.rows (λ floor.
         IsShortestPath kind floor from to path.items))) }
+    ensures in_range { IfOk result (λ found. IfSome found (λ path.
+        All (λ at. InRange grid.now.rows at.0 at.1) path.items)) }
 {
     let floor = answers_of(grid, passable)?;
     // found from its end

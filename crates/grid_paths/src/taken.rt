@@ -1,5 +1,6 @@
 //! A search that marks the cells which it takes, and floods.
 ghost use Rattle.std.specs.Prelude.{◌≡◌, [], IfOk, OnOk, Contains};
+ghost use Rattle.std.specs.List.{All};
 ghost use Rattle.grid.specs.Prelude.{InRange, SameSizeAndOrder};
 ghost use Rattle.grid_paths.specs.Prelude.{IsStep, answers_by, HoldsOfAnswers, IsFlood, way_of, places, undone, CanUndo, IsPassed, IsWritten, Takes};
 
@@ -172,8 +173,10 @@ pub fn flood<T, A: Allocator + Clone, F: Fn(&T) -> Enter>(
     enter: F,
 ) -> Result<Vec<(usize, usize), A>, AllocError>
     requires { F.IsAlwaysCallable enter }
-    ensures { IfOk result (λ found. HoldsOfAnswers F.post enter grid.now.rows (λ ways.
+    ensures flood { IfOk result (λ found. HoldsOfAnswers F.post enter grid.now.rows (λ ways.
         IsFlood kind ways starts.now found.items)) }
+    ensures in_range { IfOk result (λ found.
+        All (λ at. InRange grid.now.rows at.0 at.1) found.items) }
 {
     let mut ways = answers_of(grid, enter)?;
     let taken = Vec::new(grid.allocator().clone()?);

@@ -5,43 +5,44 @@ ghost use Rattle.grid_pnm.specs.declared.error.PnmError.TheVariants.{Memory};
 
 use crate::{PnmError, from_pgm, from_ppm, to_pgm, to_ppm};
 use grid::{Grid, Order};
-use std::alloc::{Allocator, Global};
+use grid_view::AsView;
+use std::alloc::Global;
 
-/// Writes a grid as a gray picture, and returns the row-major grid that is read from it. Its cells are the samples that
+/// Writes a board as a gray picture, and returns the row-major grid that is read from it. Its cells are the samples that
 /// `write` returns, each in the place of its cell.
 ///
 /// Requires: `write` can always be called.
 /// Fails: `Memory`, and no other error.
-pub fn pgm_written_and_read<T, A: Allocator, F: Fn(&T) -> u8>(
+pub fn pgm_written_and_read<T, V: AsView<T>, F: Fn(&T) -> u8>(
     alloc: Global,
-    grid: &Grid<T, A>,
+    board: &V,
     write: F,
 ) -> Result<Grid<u8>, PnmError>
     requires { F.IsAlwaysCallable write }
     ensures rows { (h : T → ℕ) → WritesBy F.post write h → MatchResult result
-        (λ again. again.rows ≡ table_map h grid.now.rows) (λ e. e ≡ Memory) }
+        (λ again. again.rows ≡ table_map h (V.rows board.now)) (λ e. e ≡ Memory) }
     ensures order { IfOk result (λ again. again.order ≡ Order.RowMajor) }
 {
-    let bytes = to_pgm(alloc, grid, write)?;
+    let bytes = to_pgm(alloc, board, write)?;
     from_pgm(alloc, bytes.as_slice())
 }
 
-/// Writes a grid as a colored picture, and returns the row-major grid that is read from it. Its cells are the samples
+/// Writes a board as a colored picture, and returns the row-major grid that is read from it. Its cells are the samples
 /// that `write` returns, each three in the place of their cell.
 ///
 /// Requires: `write` can always be called.
 /// Fails: `Memory`, and no other error.
-pub fn ppm_written_and_read<T, A: Allocator, F: Fn(&T) -> [u8; 3]>(
+pub fn ppm_written_and_read<T, V: AsView<T>, F: Fn(&T) -> [u8; 3]>(
     alloc: Global,
-    grid: &Grid<T, A>,
+    board: &V,
     write: F,
 ) -> Result<Grid<[u8; 3]>, PnmError>
     requires { F.IsAlwaysCallable write }
     ensures rows { (h : T → List ℕ) → WritesBy F.post write h
-        → All (λ row. All (λ x. length (h x) ≡ 3) row) grid.now.rows → MatchResult result
-        (λ again. again.rows ≡ table_map h grid.now.rows) (λ e. e ≡ Memory) }
+        → All (λ row. All (λ x. length (h x) ≡ 3) row) (V.rows board.now) → MatchResult result
+        (λ again. again.rows ≡ table_map h (V.rows board.now)) (λ e. e ≡ Memory) }
     ensures order { IfOk result (λ again. again.order ≡ Order.RowMajor) }
 {
-    let bytes = to_ppm(alloc, grid, write)?;
+    let bytes = to_ppm(alloc, board, write)?;
     from_ppm(alloc, bytes.as_slice())
 }

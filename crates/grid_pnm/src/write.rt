@@ -1,61 +1,65 @@
-//! Grids written as pictures.
+//! Boards written as pictures.
 ghost use Rattle.std.specs.Prelude.{◌≡◌, ◌++◌, ℕ, List, IfOk, OnOk};
 ghost use Rattle.grid_pnm.specs.Prelude.{AllZip, concat_rows, WritesBy, AnswersCell, AnswersColor, MayDrawGrays, MayDrawColors, raw_picture, pgm_bytes, ppm_bytes};
 
-use grid::{Grid, GridLineIter, Order};
+use grid_view::{AsView, ViewLineIter};
 use std::alloc::{AllocError, Allocator};
 
-/// Returns the bytes of a gray picture (raw PGM, `P5`) of the grid: for each cell the sample that `write` says, 0 for
-/// black and 255 for white.
+/// Returns the bytes of a gray picture (raw PGM, `P5`) of a grid or of a view: for each cell the sample that `write`
+/// says, 0 for black and 255 for white.
 ///
-///     [[0, 65], [66, 67]]   to_pgm(alloc, grid, |x| *x)   "P5\n2 2\n255\n\0ABC"
+///     [[0, 65], [66, 67]]   to_pgm(alloc, board, |x| *x)   "P5\n2 2\n255\n\0ABC"
 ///
 /// Requires: `write` can be called at every cell.
 /// Fails: if allocation fails.
-/// Cost: one call for each cell; the vector grows as it is filled, and of a row-major grid to its end at once.
-pub fn to_pgm<T, A: Allocator, B: Allocator, F: Fn(&T) -> u8>(
+/// Cost: one call for each cell; the vector grows to its end at once.
+pub fn to_pgm<T, V: AsView<T>, B: Allocator, F: Fn(&T) -> u8>(
     alloc: B,
-    grid: &Grid<T, A>,
+    board: &V,
     write: F,
 ) -> Result<Vec<u8, B>, AllocError>
     requires { F.IsAlwaysCallable write }
     ensures picture { (h : T → ℕ) → WritesBy F.post write h
-        → IfOk result (λ bytes. bytes.items ≡ pgm_bytes h grid.now.rows) }
+        → IfOk result (λ bytes. bytes.items ≡ pgm_bytes h (V.rows board.now)) }
     ensures answers { IfOk result (λ bytes.
-        MayDrawGrays (AnswersCell F.post write) grid.now.rows bytes.items) }
+        MayDrawGrays (AnswersCell F.post write) (V.rows board.now) bytes.items) }
 {
-    let mut bytes = head(alloc, "P5", grid.size())?;
-    if grid.order() == Order::RowMajor {
-        push_all(&mut bytes, grid.as_slice(), &write)?;
+    let view = board.as_view();
+    let (rows, cols) = view.size();
+    let mut bytes = head(alloc, "P5", (rows, cols))?;
+    if let Some(cells) = view.as_slice() {
+        push_all(&mut bytes, cells, &write)?;
         return Ok(bytes);
     }
-    for row in grid.iter_rows() {
+    bytes.reserve(rows.saturating_mul(cols))?;
+    for row in view.iter_rows() {
         push_grays(&mut bytes, row, &write)?;
     }
     Ok(bytes)
 }
 
-/// Returns the bytes of a colored picture (raw PPM, `P6`) of the grid: for each cell the red, green and blue sample that
-/// `write` says, each up to 255.
+/// Returns the bytes of a colored picture (raw PPM, `P6`) of a grid or of a view: for each cell the red, green and blue
+/// sample that `write` says, each up to 255.
 ///
-///     [[1], [0]]   to_ppm(alloc, grid, |x| [*x, 65, 66])   "P6\n1 2\n255\n\x01AB\0AB"
+///     [[1], [0]]   to_ppm(alloc, board, |x| [*x, 65, 66])   "P6\n1 2\n255\n\x01AB\0AB"
 ///
 /// Requires: `write` can be called at every cell.
 /// Fails: if allocation fails.
 /// Cost: one call for each cell; the vector grows as it is filled.
-pub fn to_ppm<T, A: Allocator, B: Allocator, F: Fn(&T) -> [u8; 3]>(
+pub fn to_ppm<T, V: AsView<T>, B: Allocator, F: Fn(&T) -> [u8; 3]>(
     alloc: B,
-    grid: &Grid<T, A>,
+    board: &V,
     write: F,
 ) -> Result<Vec<u8, B>, AllocError>
     requires { F.IsAlwaysCallable write }
     ensures picture { (h : T → List ℕ) → WritesBy F.post write h
-        → IfOk result (λ bytes. bytes.items ≡ ppm_bytes h grid.now.rows) }
+        → IfOk result (λ bytes. bytes.items ≡ ppm_bytes h (V.rows board.now)) }
     ensures answers { IfOk result (λ bytes.
-        MayDrawColors (AnswersColor F.post write) grid.now.rows bytes.items) }
+        MayDrawColors (AnswersColor F.post write) (V.rows board.now) bytes.items) }
 {
-    let mut bytes = head(alloc, "P6", grid.size())?;
-    for row in grid.iter_rows() {
+    let view = board.as_view();
+    let mut bytes = head(alloc, "P6", view.size())?;
+    for row in view.iter_rows() {
         push_colors(&mut bytes, row, &write)?;
     }
     Ok(bytes)
@@ -93,7 +97,7 @@ fn push_all<T, B: Allocator, F: Fn(&T) -> u8>(
 // Adds the sample of each cell of a row.
 fn push_grays<T, B: Allocator, F: Fn(&T) -> u8>(
     bytes: &mut Vec<u8, B>,
-    row: GridLineIter<'_, T>,
+    row: ViewLineIter<'_, T>,
     write: &F,
 ) -> Result<(), AllocError>
     requires { F.IsAlwaysCallable write.now }
@@ -101,8 +105,9 @@ fn push_grays<T, B: Allocator, F: Fn(&T) -> u8>(
         × AllZip (AnswersCell F.post write.now) row.entry samples
         × (bytes.new.items ≡ bytes.old.items ++ samples)) }
 {
+    bytes.reserve(row.len())?;
     for cell in row {
-        bytes.push(write(cell))?;
+        bytes.push_reserved(write(cell));
     }
     Ok(())
 }
@@ -110,7 +115,7 @@ fn push_grays<T, B: Allocator, F: Fn(&T) -> u8>(
 // Adds the samples of each cell of a row.
 fn push_colors<T, B: Allocator, F: Fn(&T) -> [u8; 3]>(
     bytes: &mut Vec<u8, B>,
-    row: GridLineIter<'_, T>,
+    row: ViewLineIter<'_, T>,
     write: &F,
 ) -> Result<(), AllocError>
     requires { F.IsAlwaysCallable write.now }

@@ -1,30 +1,31 @@
-//! Grids written as text.
+//! Boards written as text.
 ghost use Rattle.std.specs.Prelude.{◌≡◌, ◌++◌, ℕ, map, IfOk, OnOk, string_bytes};
 ghost use Rattle.grid_text.specs.Prelude.{numbers, WritesBy, AnswersCell, MayWriteLine, MayWriteRows, table_text, line_of_numbers, numbers_text};
 
-use grid::{Grid, GridLineIter, Whole};
-use std::alloc::{AllocError, Allocator, Global};
+use grid::Whole;
+use grid_view::{AsView, ViewLineIter};
+use std::alloc::{AllocError, Global};
 
-/// Returns a text of the grid: a line for each row, and in it the character that `write` says for each cell. Each line
-/// ends in a line feed; the empty grid is the empty text.
+/// Returns a text of a grid or of a view: a line for each row, and in it the character that `write` says for each cell.
+/// Each line ends in a line feed; no rows are the empty text.
 ///
-///     [[1, 0], [0, 1]]   to_text(alloc, grid, |x| if *x == 1 { '#' } else { '.' })   "#.\n.#\n"
+///     [[1, 0], [0, 1]]   to_text(alloc, board, |x| if *x == 1 { '#' } else { '.' })   "#.\n.#\n"
 ///
 /// Requires: `write` can be called at every cell.
 /// Fails: if allocation fails.
-pub fn to_text<T, A: Allocator, F: Fn(&T) -> char>(
+pub fn to_text<T, V: AsView<T>, F: Fn(&T) -> char>(
     alloc: Global,
-    grid: &Grid<T, A>,
+    board: &V,
     write: F,
 ) -> Result<String, AllocError>
     requires { F.IsAlwaysCallable write }
     ensures text { (h : T → ℕ) → WritesBy F.post write h
-        → IfOk result (λ text. string_bytes text ≡ table_text h grid.now.rows) }
+        → IfOk result (λ text. string_bytes text ≡ table_text h (V.rows board.now)) }
     ensures answers { IfOk result (λ text.
-        MayWriteRows (AnswersCell F.post write) grid.now.rows (string_bytes text)) }
+        MayWriteRows (AnswersCell F.post write) (V.rows board.now) (string_bytes text)) }
 {
     let mut text = String::new(alloc);
-    for row in grid.iter_rows() {
+    for row in board.as_view().iter_rows() {
         push_row(&mut text, row, &write)?;
         text.push('\n')?;
     }
@@ -34,7 +35,7 @@ pub fn to_text<T, A: Allocator, F: Fn(&T) -> char>(
 // Adds the characters of a row.
 fn push_row<T, F: Fn(&T) -> char>(
     text: &mut String,
-    row: GridLineIter<'_, T>,
+    row: ViewLineIter<'_, T>,
     write: &F,
 ) -> Result<(), AllocError>
     requires { F.IsAlwaysCallable write.now }
@@ -47,21 +48,18 @@ fn push_row<T, F: Fn(&T) -> char>(
     Ok(())
 }
 
-/// Returns a text of a grid of integers: a line for each row, and in it the decimals of its cells, with a space
-/// between two. Each line ends in a line feed; the empty grid is the empty text.
+/// Returns a text of a grid or of a view of integers: a line for each row, and in it the decimals of its cells, with a
+/// space between two. Each line ends in a line feed; no rows are the empty text.
 ///
-///     [[1, -20], [3, 4]]   to_words(alloc, grid)   "1 -20\n3 4\n"
+///     [[1, -20], [3, 4]]   to_words(alloc, board)   "1 -20\n3 4\n"
 ///
 /// Fails: if allocation fails.
-pub fn to_words<T: Whole, A: Allocator>(
-    alloc: Global,
-    grid: &Grid<T, A>,
-) -> Result<String, AllocError>
+pub fn to_words<T: Whole, V: AsView<T>>(alloc: Global, board: &V) -> Result<String, AllocError>
     ensures { IfOk result
-        (λ text. string_bytes text ≡ numbers_text (numbers T.whole grid.now.rows)) }
+        (λ text. string_bytes text ≡ numbers_text (numbers T.whole (V.rows board.now))) }
 {
     let mut text = String::new(alloc);
-    for row in grid.iter_rows() {
+    for row in board.as_view().iter_rows() {
         push_numbers(&mut text, row)?;
         text.push('\n')?;
     }
@@ -69,7 +67,7 @@ pub fn to_words<T: Whole, A: Allocator>(
 }
 
 // Adds the decimals of the cells of a row, with a space between two.
-fn push_numbers<T: Whole>(text: &mut String, row: GridLineIter<'_, T>) -> Result<(), AllocError>
+fn push_numbers<T: Whole>(text: &mut String, row: ViewLineIter<'_, T>) -> Result<(), AllocError>
     ensures { OnOk result (string_bytes text.new
         ≡ string_bytes text.old ++ line_of_numbers (map T.whole row.entry)) }
 {

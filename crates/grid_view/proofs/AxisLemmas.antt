@@ -1,5 +1,5 @@
 -- The numbers along an axis.
-use Rattle.std.proofs.Common.{◌≡◌, ℕ, ◌+◌, ◌*◌, ◌<◌, ◌≤◌, Bool, true, false, refl, ap, arith, mul_comm, mul-le-mul_right}
+use Rattle.std.proofs.Common.{◌≡◌, ℕ, zero, suc, ◌+◌, ◌*◌, ◌<◌, ◌≤◌, Bool, true, false, refl, ap, arith, mul_comm, mul-le-mul_right}
 use Rattle.grid_view.specs.declared.axis.ViewAxis.{ViewAxis}
 use Rattle.grid_view.specs.View.{counted, offset, other, turned, first_of}
 
@@ -31,3 +31,9 @@ row_major_within m n i j li lj = let more : (i + 1) * n ≤ m * n = mul-le-mul_r
 
 pub col_major_within : (m n i j : ℕ) → i < m → j < n → i * 1 + j * m < m * n
 col_major_within m n i j li lj = let more : (j + 1) * m ≤ n * m = mul-le-mul_right m (omega arith) in omega (arith, more, mul_comm m n)
+
+-- the cells of m rows of n, side by side
+pub all_within : (m n len : ℕ) → ((i j : ℕ) → i < m → j < n → i * n + j < len) → m * n ≤ len
+all_within zero n len h = omega arith
+all_within (suc m) zero len h = omega arith
+all_within (suc m) (suc n) len h = omega (arith, h m n (omega arith) (omega arith))

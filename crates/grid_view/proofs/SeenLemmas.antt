@@ -1,15 +1,15 @@
 -- What the fields of a view say of the rows that a contract sees.
-use Rattle.std.proofs.Common.{◌≡◌, IsTrue, ◌↔◌, nat_eq, ℕ, ◌+◌, ◌-◌, ◌*◌, ◌<◌, ◌≤◌, Bool, true, false, None, List, [], length, drop, slice_get, is_some, refl, sym, ◌∙◌, ap, arith, eqb-true, eq-eqb}
-use Rattle.grid_base.proofs.Common.{PathP, is_prop→PathP, mul-le, row_count, col_count, cell, tabulate, IsTable, table_of, HoldsSize, FitsUsize, act, source_row, source_col, image_rows, image_cols, flags_of, nil_from_length}
+use Rattle.std.proofs.Common.{◌≡◌, IsTrue, ◌↔◌, nat_eq, ℕ, ◌+◌, ◌-◌, ◌*◌, ◌<◌, ◌≤◌, Bool, true, false, None, List, [], length, take, drop, slice_get, is_some, refl, sym, ◌∙◌, ap, arith, length-take-le, eqb-true, eq-eqb}
+use Rattle.grid_base.proofs.Common.{PathP, is_prop→PathP, mul-le, row_count, col_count, cell, concat_rows, tabulate, IsTable, table_of, HoldsSize, FitsUsize, act, source_row, source_col, image_rows, image_cols, flags_of, nil_from_length}
 use Rattle.grid_base.specs.declared.order.Order.TheVariants.{RowMajor, ColumnMajor}
 use Rattle.grid_base.specs.declared.words.Symmetry.{Symmetry}
 use Rattle.grid_base.specs.declared.words.Symmetry.TheVariants.{Identity, FlipCols, FlipRows, RotateHalf, Transpose, RotateLeft, RotateRight, AntiTranspose}
 use Rattle.grid_base.proofs.TableLemmas.{rows-tabulate, cols-tabulate, cell-tabulate, tabulate-same, cell_past_rows, cell_past_cols}
 use Rattle.grid_base.proofs.ActLemmas.{act-tabulate, IsFull-image}
-use Rattle.grid_base.proofs.StorageLemmas.{IsFull-table_of, get-drop}
+use Rattle.grid_base.proofs.StorageLemmas.{IsFull-table_of, storage-table_of, get-take, get-drop}
 use Rattle.grid_view.specs.declared.axis.ViewAxis.{ViewAxis}
 use Rattle.grid_view.specs.View.{counted, offset, turned, cut, crossed, first_of, seen, seen_cell, sub_table, HoldsView}
-use Rattle.grid_view.specs.Value.{ViewValue, view_value, IsFull-seen}
+use Rattle.grid_view.specs.Value.{ViewValue, view_value, IsFull-seen, place_within}
 use Rattle.grid_base.proofs.ViewLemmas.{IsTable-prop, FitsUsize-prop}
 use Rattle.grid_view.proofs.AxisLemmas as axis
 
@@ -51,6 +51,23 @@ module _ {T : Type 0} (m n : ℕ) (cells : List T) (h : HoldsSize m n (length ce
 
   pub seen_by_cols : seen (lines m 1) (lines n m) cells ≡ table_of ColumnMajor m n cells
   seen_by_cols = tabulate-same m n _ _ (λ r c lr lc. ap (slice_get cells) (omega arith)) (IsFull-table_of ColumnMajor m n cells h.cells)
+
+-- rows that lie one after another, without a gap
+module _ {T : Type 0} (rows cols : ViewAxis) (cells : List T) (h : HoldsView rows cols (length cells)) (row_at : (r : ℕ) → r < rows.count → offset rows r ≡ r * cols.count) (col_at : (c : ℕ) → c < cols.count → offset cols c ≡ c * 1) where
+  pub cells_within : rows.count * cols.count ≤ length cells
+  cells_within = axis.all_within rows.count cols.count (length cells) (λ r c lr lc. omega (arith, place_within rows cols (length cells) h r c lr lc, row_at r lr, col_at c lc))
+
+  pub seen_in_turn : take (rows.count * cols.count) cells ≡ concat_rows (seen rows cols cells)
+  seen_in_turn =
+      let m = rows.count in
+      let n = cols.count in
+      let all = take (m * n) cells in
+      let len : length all ≡ m * n = length-take-le (m * n) cells cells_within in
+      let at : (r c : ℕ) → r < m → c < n → slice_get all (r * n + c) ≡ slice_get cells (offset rows r + offset cols c) =
+      λ r c lr lc.
+      let same : r * n + c ≡ offset rows r + offset cols c = omega (arith, row_at r lr, col_at c lc) in
+      get-take (m * n) cells (r * n + c) (omega (arith, axis.row_major_within m n r c lr lc)) ∙ ap (slice_get cells) same in
+      sym (storage-table_of RowMajor m n all h.size len) ∙ ap concat_rows (tabulate-same m n _ _ at (IsFull-seen rows cols cells h))
 
 -- a view that is turned
 pub HoldsView-crossed : (rows cols : ViewAxis) (len : ℕ) → HoldsView rows cols len → HoldsView cols rows len

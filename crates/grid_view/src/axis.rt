@@ -1,6 +1,6 @@
 //! One direction of a view: how many lines there are, how far apart they are, and whether they come from the last.
-ghost use Rattle.std.specs.Prelude.{◌≡◌, ◌+◌, ◌<◌, ◌≤◌};
-ghost use Rattle.grid_view.specs.Prelude.{counted, turned, cut, first_of, crossed};
+ghost use Rattle.std.specs.Prelude.{◌≡◌, ℕ, ◌+◌, ◌*◌, ◌<◌, ◌≤◌, IsTrue};
+ghost use Rattle.grid_view.specs.Prelude.{counted, offset, turned, cut, first_of, crossed};
 
 // The lines of a view in one direction.
 #[derive(Clone, Copy)]
@@ -34,6 +34,13 @@ impl ViewAxis {
         } else {
             at
         }
+    }
+
+    // Returns whether each line is `distance` places after the one before. One line alone is.
+    pub(crate) fn steps_by(self, distance: usize) -> bool
+        ensures { IsTrue result → (k : ℕ) → k < self.count → offset self k ≡ k * distance }
+    {
+        self.count <= 1 || (self.stride == distance && !self.backwards)
     }
 
     // Returns the axis whose lines come in the reversed order, or in the same.

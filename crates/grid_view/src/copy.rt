@@ -122,8 +122,13 @@ impl<'a, T> GridView<'a, T> {
             && LONG <= self.cols.count
     }
 
-    // Returns the cells of row `r` as a slice, or `None` where they aren't side by side, the first first.
-    fn row_slice(&self, r: usize) -> Option<&'a [T]>
+    /// Returns the cells of row `r` as a slice, or `None` where they aren't side by side in the storage, the first first.
+    ///
+    ///     row-major [[1, 2], [3, 4]]   row_slice(1)   Some([3, 4])
+    ///
+    /// Requires: there is such a row.
+    /// Cost: constant; no cell is copied, and no memory is taken.
+    pub fn row_slice(&self, r: usize) -> Option<&'a [T]>
         requires { r < row_count self.now.rows }
         ensures { IfSome result (λ line. line.now ≡ row self.now.rows r) }
     {

@@ -2,6 +2,7 @@
 //! Users make them with a grid's `view` and `part`.
 #![tactic(auto)]
 
+mod as_view;
 mod axis;
 mod cells;
 mod copy;
@@ -11,6 +12,7 @@ mod stepped;
 mod text;
 mod view;
 
+pub use as_view::AsView;
 pub use cells::{ViewIndexedIter, ViewIter};
 pub use lines::{ViewLineIter, ViewRowIter};
 pub use view::GridView;

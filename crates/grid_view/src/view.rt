@@ -1,6 +1,6 @@
 //! A part of a table that a slice stores, seen through a symmetry.
 ghost use Rattle.std.specs.Prelude.{◌≡◌, ◌+◌, ◌-◌, ◌*◌, ◌<◌, ◌≤◌, IsTrue, ⊤, ◌↔◌, ◌⊎◌, IfSome, Some, [], length, option_copied};
-ghost use Rattle.grid_base.specs.Prelude.{row_count, col_count, cell, transposed, InRange, table_of, HoldsSize, act};
+ghost use Rattle.grid_base.specs.Prelude.{row_count, col_count, cell, concat_rows, transposed, InRange, table_of, HoldsSize, act};
 ghost use Rattle.grid_view.specs.View.{offset, sub_table, HoldsView};
 
 use crate::axis::{ViewAxis, crossed};
@@ -153,6 +153,26 @@ impl<'a, T> GridView<'a, T> {
     {
         let at = place(self.rows, self.cols, self.cells.len(), row, col);
         &self.cells[at]
+    }
+
+    /// Returns the cells row by row as one slice, or `None` where they don't lie so in the storage.
+    ///
+    ///     [[1, 2], [3, 4]], of a row-major grid      as_slice()   Some([1, 2, 3, 4])
+    ///     [[1, 2], [3, 4]], of a column-major grid   as_slice()   None
+    ///
+    /// It is `Some` for the view of a row-major grid, for whole rows of it side by side, for a part of one row, and for
+    /// what is as these by another way, as the transposed view of a column-major grid. The contract doesn't say so: a
+    /// contract sees the rows of a view, and not where they lie.
+    ///
+    /// Cost: constant; no cell is copied.
+    pub fn as_slice(&self) -> Option<&'a [T]>
+        ensures { IfSome result (λ cells. cells.now ≡ concat_rows self.now.rows) }
+    {
+        if self.rows.steps_by(self.cols.count) && self.cols.steps_by(1) {
+            Some(&self.cells[..self.rows.count * self.cols.count])
+        } else {
+            None
+        }
     }
 
     /// Returns the view of the `size.0` rows and `size.1` columns from position `at` on. Without rows or without columns

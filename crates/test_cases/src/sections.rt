@@ -8,12 +8,14 @@
 //! line, `CALL => EXPECTED`. `ask` reads a call.
 
 mod cells;
+mod changes;
 mod commands;
 mod convert;
 mod counted;
 mod counts;
 mod edits;
 mod files;
+mod images;
 mod integers;
 mod json;
 mod lines;
@@ -21,12 +23,15 @@ mod macros;
 mod make;
 mod moves;
 mod near;
+mod pairs;
 mod path_calls;
 mod paths;
 mod pending;
+mod rays;
 mod rearranged;
 mod refused;
 mod scripts;
+mod tested;
 mod texts;
 mod values;
 mod views;
@@ -96,6 +101,11 @@ fn actual_on_board(alloc: Global, section: &str, case: Case<'_>) -> Result<Strin
         "rearranged" => on_board(alloc, case, rearranged::actual),
         "pending" => on_board(alloc, case, pending::actual),
         "path_calls" => on_board(alloc, case, path_calls::actual),
+        "images" => on_board(alloc, case, images::actual),
+        "rays" => on_board(alloc, case, rays::actual),
+        "changes" => on_board(alloc, case, changes::actual),
+        "pairs" => on_board(alloc, case, pairs::actual),
+        "tested" => on_board(alloc, case, tested::actual),
         _ => Err(CaseError::UnknownSection),
     }
 }
@@ -105,6 +115,7 @@ fn actual_alone(alloc: Global, section: &str, case: Case<'_>) -> Result<String, 
     let ask = Ask::of(case.title);
     match section {
         "words" => words::actual(alloc, ask),
+        "directions" => rays::actual_alone(alloc, ask),
         "make" => make::actual(alloc, ask),
         "convert" => convert::actual(alloc, ask),
         "values" => values::actual(alloc, ask),

@@ -1,6 +1,8 @@
 //! A call on all small boards, with all memory and with each request refused in turn.
 use crate::state::{Answer, Board, Call, Start, is_board, made as made_of};
-use crate::{commands, copies, csv, edits, json, lines, makers, maps, paths, pictures, texts};
+use crate::{
+    changes, commands, copies, csv, edits, json, lines, makers, maps, paths, pictures, texts,
+};
 use grid::Order;
 use std::alloc::{AllocError, Global};
 use std::io;
@@ -10,6 +12,7 @@ use test_support::line_edits::push_row;
 // The modules that make the calls.
 #[derive(Clone, Copy)]
 pub enum Group {
+    Changes,
     Commands,
     Copies,
     Csv,
@@ -66,6 +69,7 @@ fn called<'a>(
     name: &str,
 ) -> Result<Answer, AllocError> {
     match group {
+        Group::Changes => changes::call(start, board, name),
         Group::Commands => commands::call(start, board, name),
         Group::Copies => copies::call(start, board, name),
         Group::Csv => csv::call(start, name),

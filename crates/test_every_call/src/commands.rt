@@ -15,7 +15,7 @@ use test_support::counted::Counted;
 use test_support::fixtures::{Heap, SYMMETRIES};
 
 // How many commands are tried.
-const COMMANDS: usize = 16;
+pub const COMMANDS: usize = 16;
 
 pub const CALLS: [Call; 12] = [
     Call("Grid::step", COMMANDS, None, None),
@@ -32,10 +32,13 @@ pub const CALLS: [Call; 12] = [
     Call("grid_play::plays_alike", 5, None, None),
 ];
 
-type Given<'a> = Command<Counted<'a>, &'a Heap>;
+pub type Given<'a> = Command<Counted<'a>, &'a Heap>;
 
 // The command of a case, for a board of this size. `test_command_lists` has all commands, with memory for all.
-fn command<'a>(start: &'a Start, (rows, cols): (usize, usize)) -> Result<Given<'a>, AllocError> {
+pub fn command<'a>(
+    start: &'a Start,
+    (rows, cols): (usize, usize),
+) -> Result<Given<'a>, AllocError> {
     Ok(match start.case % COMMANDS {
         0 => Command::Fill(start.given(7)),
         1 => Command::PushRow(start.line(fitting(cols))?),

@@ -8,6 +8,7 @@
 #![tactic(auto)]
 
 mod attempts;
+mod changes;
 mod commands;
 mod copies;
 mod csv;
@@ -27,6 +28,7 @@ use std::io;
 use std::process::ExitCode;
 
 fn run<R: Print + AllocGlobal>(rt: &R) -> io::Result<()> {
+    attempts::try_all(rt, Group::Changes, changes::CALLS.as_slice())?;
     attempts::try_all(rt, Group::Commands, commands::CALLS.as_slice())?;
     attempts::try_all(rt, Group::Copies, copies::CALLS.as_slice())?;
     attempts::try_all(rt, Group::Csv, csv::CALLS.as_slice())?;

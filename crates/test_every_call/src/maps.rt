@@ -1,11 +1,14 @@
-//! Maps of a whole board, with what is round each cell, and the positions of cells.
+//! Maps of a whole board, with what is round each cell or of two boards, the positions of cells, what is seen from one, and
+//! a value for each line.
 use crate::state::{Answer, Board, Call, Start, both_came, came};
 use grid::{Neighbors, Order, WrappedNeighbors};
+use grid_pairs::{fold_cols, fold_rows, zip_with};
+use grid_rays::field_of_view;
 use std::alloc::AllocError;
 use std::cell::Cell;
 use test_support::counted::Counted;
 
-pub const CALLS: [Call; 16] = [
+pub const CALLS: [Call; 20] = [
     Call("Grid::map_ref", 1, Some(1), Some(1)),
     Call("Grid::map_indexed", 1, Some(1), Some(1)),
     Call("Grid::try_map_indexed", 1, Some(1), Some(1)),
@@ -22,6 +25,10 @@ pub const CALLS: [Call; 16] = [
     Call("Grid::map_wrapped_sums4", 1, Some(4), Some(1)),
     Call("Grid::map_wrapped_sums8", 1, Some(4), Some(1)),
     Call("Grid::positions", 4, None, Some(1)),
+    Call("grid_rays::field_of_view", 3, Some(1), None),
+    Call("grid_pairs::zip_with", 2, Some(1), Some(1)),
+    Call("grid_pairs::fold_rows", 1, Some(1), Some(1)),
+    Call("grid_pairs::fold_cols", 1, Some(1), Some(1)),
 ];
 
 fn is_odd(cell: &Counted<'_>) -> bool {
@@ -93,6 +100,41 @@ fn positions<'a>(start: &'a Start, board: &Board<'a>) -> Answer {
     }))
 }
 
+// What is seen from the first cell where the odd ones are clear: all, up to two steps away, or nothing, from out of range.
+fn seen<'a>(start: &'a Start, board: &Board<'a>) -> Answer {
+    let from = if start.case == 2 { start.size } else { (0, 0) };
+    let radius = if start.case == 1 { Some(2) } else { None };
+    came(field_of_view(board, from, radius, |cell| {
+        start.called();
+        is_odd(cell)
+    }))
+}
+
+// The board joined with itself, in either order.
+fn joined<'a>(start: &'a Start, board: &Board<'a>) -> Answer {
+    let order = if start.case == 0 {
+        Order::RowMajor
+    } else {
+        Order::ColumnMajor
+    };
+    came(zip_with(&start.heap, order, board, board, |cell, other| {
+        start.visited(order, cell.value());
+        start.cell(cell.value().wrapping_add(other.value()))
+    }))
+}
+
+// A sum for each line.
+fn folded<'a>(start: &'a Start, board: &Board<'a>, name: &str) -> Answer {
+    let add = |sum: u32, cell: &Counted<'_>| {
+        start.called();
+        sum.wrapping_add(cell.value())
+    };
+    match name {
+        "grid_pairs::fold_rows" => came(fold_rows(&start.heap, board, 0, add)),
+        _ => came(fold_cols(&start.heap, board, 0, add)),
+    }
+}
+
 fn round<'a>(start: &'a Start, board: &Board<'a>, name: &str) -> Answer {
     let open = |_: (usize, usize), cell: &Counted<'_>, _: Neighbors<'_, Counted<'_>>| {
         start.visit(cell.value())
@@ -121,6 +163,9 @@ pub fn call<'a>(start: &'a Start, board: &mut Board<'a>, name: &str) -> Result<A
             }))
         }
         "Grid::positions" => positions(start, board),
+        "grid_rays::field_of_view" => seen(start, board),
+        "grid_pairs::zip_with" => joined(start, board),
+        "grid_pairs::fold_rows" | "grid_pairs::fold_cols" => folded(start, board, name),
         name => round(start, board, name),
     })
 }

@@ -1,6 +1,7 @@
 //! Iterators over one row or column, and over the rows and the columns. The columns of a grid are the rows of the table
 //! that the same vector stores in the other order.
-ghost use Rattle.std.specs.Prelude.{◌≡◌, ◌<◌};
+ghost use Rattle.std.specs.Prelude.{◌≡◌, ◌<◌, ◌≤◌, length, IfSome, MatchOption};
+ghost use Rattle.std.specs.List.{All};
 ghost use Rattle.grid.specs.Prelude.{row, row_count, col_count, transposed, GivesLine, GivesLines, line_mut_rest, sem};
 
 use crate::Grid;
@@ -22,6 +23,7 @@ impl<T, A: Allocator> Grid<T, A> {
     pub fn iter_row(&self, r: usize) -> GridLineIter<'_, T>
         requires { r < row_count self.now.rows }
         ensures gives { GivesLine (row self.now.rows r) result }
+        ensures len { length result ≡ col_count self.now.rows }
     {
         let (order, rows, cols) = (self.order, self.row_count, self.col_count);
         self.flat.row(Layout { order, rows, cols }, r)
@@ -36,9 +38,44 @@ impl<T, A: Allocator> Grid<T, A> {
     pub fn iter_col(&self, c: usize) -> GridLineIter<'_, T>
         requires { c < col_count self.now.rows }
         ensures gives { GivesLine (row (transposed self.now.rows) c) result }
+        ensures len { length result ≡ row_count self.now.rows }
     {
         let (order, rows, cols) = (self.order.flipped(), self.col_count, self.row_count);
         self.flat.row(Layout { order, rows, cols }, c)
+    }
+
+    /// Same as [`iter_row`](Grid::iter_row), or `None` out of range.
+    ///
+    ///     [[1, 2], [3, 4]]   get_row(1)   Some of 3, 4
+    ///     [[1, 2], [3, 4]]   get_row(2)   None
+    pub fn get_row(&self, r: usize) -> Option<GridLineIter<'_, T>>
+        ensures in_range { MatchOption result (row_count self.now.rows ≤ r)
+            (λ _. r < row_count self.now.rows) }
+        ensures gives { IfSome result (GivesLine (row self.now.rows r)) }
+        ensures len { IfSome result (λ line. length line ≡ col_count self.now.rows) }
+    {
+        if r < self.rows() {
+            Some(self.iter_row(r))
+        } else {
+            None
+        }
+    }
+
+    /// Same as [`iter_col`](Grid::iter_col), or `None` out of range.
+    ///
+    ///     [[1, 2], [3, 4]]   get_col(1)   Some of 2, 4
+    ///     [[1, 2], [3, 4]]   get_col(2)   None
+    pub fn get_col(&self, c: usize) -> Option<GridLineIter<'_, T>>
+        ensures in_range { MatchOption result (col_count self.now.rows ≤ c)
+            (λ _. c < col_count self.now.rows) }
+        ensures gives { IfSome result (GivesLine (row (transposed self.now.rows) c)) }
+        ensures len { IfSome result (λ line. length line ≡ row_count self.now.rows) }
+    {
+        if c < self.cols() {
+            Some(self.iter_col(c))
+        } else {
+            None
+        }
     }
 
     /// Returns an iterator over the cells of row `r`, for writing. The size and the order stay.
@@ -78,6 +115,7 @@ impl<T, A: Allocator> Grid<T, A> {
     ///     [[1, 2], [3, 4]]   iter_rows()   1, 2; then 3, 4
     pub fn iter_rows(&self) -> GridRowIter<'_, T>
         ensures gives { GivesLines self.now.rows result }
+        ensures widths { All (λ line. length line ≡ col_count self.now.rows) result }
     {
         let (order, rows, cols) = (self.order, self.row_count, self.col_count);
         self.flat.rows(Layout { order, rows, cols })
@@ -88,6 +126,7 @@ impl<T, A: Allocator> Grid<T, A> {
     ///     [[1, 2], [3, 4]]   iter_cols()   1, 3; then 2, 4
     pub fn iter_cols(&self) -> GridColIter<'_, T>
         ensures gives { GivesLines (transposed self.now.rows) result }
+        ensures heights { All (λ line. length line ≡ row_count self.now.rows) result }
     {
         let (order, rows, cols) = (self.order.flipped(), self.col_count, self.row_count);
         let across = Layout { order, rows, cols };

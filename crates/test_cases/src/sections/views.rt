@@ -5,7 +5,7 @@ ghost use Rattle.grid_base.specs.Table.{row_count, col_count};
 use crate::ask::Ask;
 use crate::case::{CaseError, shape_error};
 use crate::shown::{shown, shown_made, shown_ok, text};
-use grid::{Grid, GridView, ViewLineIter, ViewRowIter};
+use grid::{AsView, Grid, GridView, ViewLineIter, ViewRowIter};
 use std::alloc::{AllocError, Global};
 use std::convert::TryFrom;
 
@@ -18,8 +18,8 @@ fn is_within(board: &Grid<i64>, at: (usize, usize), size: (usize, usize)) -> boo
     at.0 <= rows && size.0 <= rows - at.0 && at.1 <= cols && size.1 <= cols - at.1
 }
 
-// The board of the lines of a call, in an order.
-fn stamp(alloc: Global, ask: Ask<'_>, at: usize) -> Result<Grid<i64>, CaseError> {
+/// Returns the board of the lines of a call, in an order.
+pub fn stamp(alloc: Global, ask: Ask<'_>, at: usize) -> Result<Grid<i64>, CaseError> {
     match Grid::try_from(ask.lines(alloc)?) {
         Ok(mut stamp) => {
             stamp.lay_out(ask.order(at));
@@ -102,6 +102,7 @@ fn read(alloc: Global, board: &Grid<i64>, ask: Ask<'_>) -> Result<String, CaseEr
         "sub_grid" => shown_made(alloc, board.sub_grid(at, size)),
         "from_view" => shown_made(alloc, Grid::from_view(alloc, ask.order(5), &view)),
         "to_vec" => shown_ok(alloc, view.to_vec(alloc, ask.order(5))),
+        "as_slice" => shown(alloc, view.as_slice()),
         "copy_row" => shown_ok(alloc, copied(alloc, &view, ask.number(5))),
         "get_unchecked" => shown(alloc, cell_of(&view, ask.position(5))),
         _ => iterated(alloc, &view, ask),
@@ -176,6 +177,7 @@ fn write(alloc: Global, board: &mut Grid<i64>, ask: Ask<'_>) -> Result<String, C
 /// Returns what a call on a part returned.
 pub fn actual(alloc: Global, board: &mut Grid<i64>, ask: Ask<'_>) -> Result<String, CaseError> {
     match ask.call {
+        "as_view" => shown(alloc, board.as_view()),
         "compare" => compared(alloc, board, ask),
         "paste" | "paste_copied" => paste(alloc, board, ask),
         "paste_clipped" => paste_clipped(alloc, board, ask),

@@ -6,4 +6,4 @@ use Rattle.grid_csv.proofs.Lemmas.{ZipSoFar}
 use Rattle.grid_csv.proofs.write.to_csv.Given as goal
 
 abbrev pub invariant-loop-row : goal.invariant-loop-row
-invariant-loop-row g l = (records : List (List (List ℕ))) × ZipSoFar (AllZip (AnswersCell (goal.F-post g) l.write)) l.fn.grid.rows l.row-iterator records × HasWritten l.writer (sheet_text records)
+invariant-loop-row g l = (records : List (List (List ℕ))) × ZipSoFar (AllZip (AnswersCell (goal.F-post g) l.write)) (g.V.AsView.rows l.fn.board) l.row-iterator records × HasWritten l.writer (sheet_text records)

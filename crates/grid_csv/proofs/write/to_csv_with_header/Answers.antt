@@ -10,5 +10,5 @@ returns-clause-text g c = λ h by.
     record {
       is = c.in_ok-push_str.ensures.bytes
           ∙ (ap (λ xs. xs ++ c.as_str.result.now) c.in_ok-text.ensures
-          ∙ (ap (λ xs. sheet_text (below_names names []) ++ xs) (c.as_str.ensures.value ∙ rows.is) ∙ below_joined names (map (map h) c.args.grid.now.rows)));
+          ∙ (ap (λ xs. sheet_text (below_names names []) ++ xs) (c.as_str.ensures.value ∙ rows.is) ∙ below_joined names (map (map h) (g.V.AsView.rows c.args.board.now))));
     }

@@ -5,7 +5,7 @@ use Rattle.grid_json.proofs.Lemmas.{values_start, values_next, values_end, is_ro
 use Rattle.grid_json.proofs.rows.rows_to_value.Goals as goal
 
 pub loop-row-init : goal.loop-row-init
-loop-row-init g c = values_start (MayBeRow (AnswersCell (goal.F-post g) c.args.write)) _ _ _ (c.into_iter-row-iterator.ensures.into_iter_gives ∙ c.iter_rows-row-items.ensures.gives.0) c.new-list.ensures.items
+loop-row-init g c = values_start (MayBeRow (AnswersCell (goal.F-post g) c.args.write)) _ _ _ (c.into_iter-row-iterator.ensures.into_iter_gives ∙ c.iter_rows-row-items.ensures.gives.0 ∙ c.as_view.ensures) c.new-list.ensures.items
 
 pub loop-row-preserved : goal.loop-row-preserved
 loop-row-preserved g c =

@@ -6,4 +6,4 @@ use Rattle.grid_pnm.proofs.write.to_pgm.Given as goal
 
 abbrev pub invariant-loop-row : goal.invariant-loop-row
 invariant-loop-row g l =
-    (later : List ℕ) → AllZip (AnswersCell (goal.F-post g) l.write) (concat_rows l.row-iterator) later → MayDrawGrays (AnswersCell (goal.F-post g) l.write) l.fn.grid.rows (l.bytes.items ++ later)
+    (later : List ℕ) → AllZip (AnswersCell (goal.F-post g) l.write) (concat_rows l.row-iterator) later → MayDrawGrays (AnswersCell (goal.F-post g) l.write) (g.V.AsView.rows l.fn.board) (l.bytes.items ++ later)

@@ -6,9 +6,9 @@ use Rattle.grid_text.proofs.write.to_text.Goals as goal
 
 pub loop-row-init : goal.loop-row-init
 loop-row-init g c = λ rest m.
-    let rows : c.into_iter-row-iterator.result ≡ c.args.grid.now.rows = c.into_iter-row-iterator.ensures.into_iter_gives ∙ c.iter_rows-row-items.ensures.gives.0 in
+    let rows : c.into_iter-row-iterator.result ≡ (g.V.AsView.rows c.args.board.now) = c.into_iter-row-iterator.ensures.into_iter_gives ∙ c.iter_rows-row-items.ensures.gives.0 ∙ c.as_view.ensures in
     let text : rest ≡ string_bytes c.new-text.result ++ rest = ap (λ x. x ++ rest) (sym c.new-text.ensures.bytes) in
-    subst (MayWriteRows (AnswersCell (goal.F-post g) c.args.write) c.args.grid.now.rows) text (subst (λ rows. MayWriteRows (AnswersCell (goal.F-post g) c.args.write) rows rest) rows m)
+    subst (MayWriteRows (AnswersCell (goal.F-post g) c.args.write) (g.V.AsView.rows c.args.board.now)) text (subst (λ rows. MayWriteRows (AnswersCell (goal.F-post g) c.args.write) rows rest) rows m)
 
 pub loop-row-preserved : goal.loop-row-preserved
 loop-row-preserved g c =
@@ -18,7 +18,7 @@ loop-row-preserved g c =
 pub returns-clause-answers : goal.returns-clause-answers
 returns-clause-answers g c =
     let all = c.loop-row.invariant [] (subst (λ rows. MayWriteRows (AnswersCell (goal.F-post g) c.args.write) rows []) (sym c.in-None.ensures.steps.0) refl) in
-    subst (MayWriteRows (AnswersCell (goal.F-post g) c.args.write) c.args.grid.now.rows) (append-nil (string_bytes c.loop-row.text)) all
+    subst (MayWriteRows (AnswersCell (goal.F-post g) c.args.write) (g.V.AsView.rows c.args.board.now)) (append-nil (string_bytes c.loop-row.text)) all
 
 pub returns-clause-text : goal.returns-clause-text
-returns-clause-text g c = λ h by. rows_written (AnswersCell (goal.F-post g) c.args.write) h (λ x ch said. by said.0 ch said.2 ∙ ap h said.1) c.args.grid.now.rows _ (returns-clause-answers g c)
+returns-clause-text g c = λ h by. rows_written (AnswersCell (goal.F-post g) c.args.write) h (λ x ch said. by said.0 ch said.2 ∙ ap h said.1) (g.V.AsView.rows c.args.board.now) _ (returns-clause-answers g c)

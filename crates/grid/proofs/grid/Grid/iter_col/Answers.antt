@@ -1,6 +1,6 @@
 use Rattle.std.proofs.Common.{◌<◌, ◌∙◌, ap, length, arith}
 use Rattle.grid.proofs.Common.{row, row_count, table_of, view-rows, view-cols, view-table, HoldsSize-transposed}
-use Rattle.grid.proofs.Lemmas.{seen_cols, seen_transposed}
+use Rattle.grid.proofs.Lemmas.{seen_rows, seen_cols, seen_transposed}
 use Rattle.grid.proofs.grid.Grid.iter_col.Goals as goal
 
 pub row-requires-clause-cells : goal.row-requires-clause-cells
@@ -24,4 +24,5 @@ returns g c =
         c.row.ensures.runs_back,
         omega (arith, ap length c.row.ensures.rest, (view-table o s.col_count s.row_count s.flat fits).even c.args.c within, view-cols o s.col_count s.row_count s.flat fits),
       );
+      len = omega (arith, ap length c.row.ensures.rest, (view-table o s.col_count s.row_count s.flat fits).even c.args.c within, view-cols o s.col_count s.row_count s.flat fits, seen_rows _ _ _ _ _ s.fits c.self.view_is);
     }

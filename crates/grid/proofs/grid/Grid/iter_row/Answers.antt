@@ -15,4 +15,5 @@ returns g c =
         c.row.ensures.runs_back,
         omega (arith, ap length rest, c.args.self.now.table.even c.args.r c.requires, seen_cols _ _ _ _ _ c.self.inside.fits c.self.view_is),
       );
+      len = omega (arith, ap length rest, c.args.self.now.table.even c.args.r c.requires);
     }

@@ -1,5 +1,5 @@
 use Rattle.std.proofs.Common.{◌+◌, ◌∙◌, subst, sym, ap, arith}
-use Rattle.grid.proofs.Lemmas.{FoundBefore, found_none, found_next, found_one, found_row, found_all}
+use Rattle.grid.proofs.Lemmas.{FoundBefore, found_none, found_next, found_one, found_row, found_all, found_in_range}
 use Rattle.grid_base.specs.Table.{InRange}
 use Rattle.grid.proofs.grid.Grid.positions.Goals as goal
 use Rattle.grid.proofs.grid.Grid.positions.Goals.{then-test+in_ok-push, else-test}
@@ -29,4 +29,5 @@ loop-row-preserved g c =
 
 pub returns : goal.returns
 returns g c =
-    found_all (goal.F-post g) c.args.test c.args.self.now.rows c.loop-row.found.items c.loop-row.row (omega (arith, c.loop-row-test.false, c.size-rows.ensures.rows)) c.loop-row.invariant
+    let all = found_all (goal.F-post g) c.args.test c.args.self.now.rows c.loop-row.found.items c.loop-row.row (omega (arith, c.loop-row-test.false, c.size-rows.ensures.rows)) c.loop-row.invariant in
+    record { found = all; in_range = found_in_range (goal.F-post g) c.args.test c.args.self.now.rows c.loop-row.found.items all }

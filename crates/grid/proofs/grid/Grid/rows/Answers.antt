@@ -1,6 +1,4 @@
-use Rattle.std.proofs.Common.{sym}
-use Rattle.grid.proofs.Lemmas.{seen_rows}
 use Rattle.grid.proofs.grid.Grid.rows.Goals as goal
 
 pub returns : goal.returns
-returns g c = record { rows = sym (seen_rows _ _ _ _ _ c.self.inside.fits c.self.view_is) }
+returns g c = record { rows = c.size.ensures.rows; small = c.size.ensures.small.0 }

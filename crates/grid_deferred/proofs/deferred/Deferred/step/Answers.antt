@@ -1,6 +1,7 @@
 use Rattle.std.proofs.Common.{◌≡◌, refl, rules}
 use Rattle.grid_deferred.proofs.Common.{command_value, apply, step_rows, RowsAreKnown, base, shown, either_way}
-use Rattle.grid_deferred.proofs.Lemmas.{always_ok, pending-then, shown-then, reply-then, pending-still, applies-none, none_applied, get-rows, line-rows}
+use Rattle.grid_deferred.proofs.Lemmas.{always_ok, pending-then, shown-then, reply-then, pending-still, applies-none, none_applied, get-rows}
+use Rattle.grid.proofs.LineEditLemmas.{read_kept}
 use Rattle.grid_base.specs.declared.words.Symmetry.{Symmetry}
 use Rattle.grid_commands.specs.declared.command.Axis.TheVariants.{Row, Col}
 use Rattle.grid_deferred.proofs.deferred.Deferred.step.Goals as goal
@@ -27,7 +28,7 @@ returns-in-Get-clause-pending g c = always_ok _ (pending-still (command_value c.
 pub returns-in-Row-clause-stepped : goal.returns-in-Row-clause-stepped
 returns-in-Row-clause-stepped g c =
     let p : (d : g.row.T.Denot) → RowsAreKnown g.T.Default.is_default g.T.Clone.is_clone d (command_value c.args.command) → shown c.args.self.now ≡ step_rows d (command_value c.args.command) (shown c.args.self.now) =
-    λ d h. rw c.in-Row.is (line-rows d Row _ _) in
+    λ d h. rw c.in-Row.is (read_kept d Row _ _) in
     record { rows = always_ok _ p; reply = search rules; err_memory = search rules }
 
 pub returns-in-Row-clause-pending : goal.returns-in-Row-clause-pending
@@ -36,7 +37,7 @@ returns-in-Row-clause-pending g c = always_ok _ (pending-still (command_value c.
 pub returns-in-Col-clause-stepped : goal.returns-in-Col-clause-stepped
 returns-in-Col-clause-stepped g c =
     let p : (d : g.row.T.Denot) → RowsAreKnown g.T.Default.is_default g.T.Clone.is_clone d (command_value c.args.command) → shown c.args.self.now ≡ step_rows d (command_value c.args.command) (shown c.args.self.now) =
-    λ d h. rw c.in-Col.is (line-rows d Col _ _) in
+    λ d h. rw c.in-Col.is (read_kept d Col _ _) in
     record { rows = always_ok _ p; reply = search rules; err_memory = search rules }
 
 pub returns-in-Col-clause-pending : goal.returns-in-Col-clause-pending

@@ -1,0 +1,27 @@
+-- The cells in which one table differs from another.
+use Rattle.std.specs.Prelude.{◌≡◌, ℕ, Bool, false, not, IsTrue, Option, None, Some, List, map, filter}
+use Rattle.grid.specs.Prelude.{cell, CommandValue, set_cell}
+use Rattle.grid_base.specs.Iterators.{indexed_cells}
+use Rattle.grid_base.specs.declared.order.Order.TheVariants.{RowMajor}
+
+module _ {T : Type 0} (same : T → T → Bool) where
+  -- whether there is a cell, and it is the same as x
+  abbrev pub is_cell : Option T → T → Bool
+  is_cell None x = false
+  is_cell (Some y) x = same y x
+
+  -- those of a list of cells with their positions that table t doesn't have there
+  abbrev pub new_cells : List (List T) → List ((ℕ × ℕ) × T) → List ((ℕ × ℕ) × T)
+  new_cells t cells = filter (λ p. not (is_cell (cell t (p.0).0 (p.0).1) p.1)) cells
+
+  -- the cells of u that t doesn't have at their positions, row by row
+  abbrev pub changed_cells : List (List T) → List (List T) → List ((ℕ × ℕ) × T)
+  changed_cells t u = new_cells t (indexed_cells RowMajor u)
+
+-- cells that are the same by a test are equal
+abbrev pub SameAreEqual : {T : Type 0} → (T → T → Bool) → Type 0
+SameAreEqual {T} same = (x y : T) → IsTrue (same x y) → x ≡ y
+
+-- the commands that write cells at their positions
+abbrev pub writes : {T : Type 0} → List ((ℕ × ℕ) × T) → List (CommandValue T)
+writes cells = map (λ p. set_cell (p.0).0 (p.0).1 p.1) cells

@@ -1,0 +1,114 @@
+//! The cells in which one board differs from another.
+ghost use Rattle.std.specs.Prelude.{◌≡◌, map, IfOk};
+ghost use Rattle.std.specs.Iterator.{YieldsFirstBy, item_count};
+ghost use Rattle.grid.specs.Prelude.{row_count, col_count, cell, ClonesAreEqual, command_value, run_rows};
+ghost use Rattle.grid_changes.specs.Differences.{is_cell, changed_cells, writes, SameAreEqual};
+
+use grid::{Command, GridView, ViewIndexedIter};
+use std::alloc::{AllocError, Allocator};
+use std::marker::Model;
+
+/// An iterator over the cells of a board that another board doesn't have at their positions, row by row, each with its
+/// row and its column. It is seen as the list of those that remain.
+#[derive(Drop)]
+pub struct ChangeIter<'a, T: PartialEq> {
+    old: GridView<'a, T>,
+    cells: ViewIndexedIter<'a, T>,
+}
+
+impl<'a, T: PartialEq> Model for ChangeIter<'a, T> {
+    ghost use Rattle.std.specs.Prelude.{ℕ, List};
+    ghost use Rattle.grid_changes.specs.Differences.{new_cells};
+
+    ghost Value = { List ((ℕ × ℕ) × T) };
+
+    ghost view = { λ a. new_cells T.eq a.old.rows a.cells };
+}
+
+/// Returns an iterator over the cells of `new` that differ from the cells of `old` at their positions, row by row.
+///
+///     changes([[1, 2], [3, 4]], [[1, 7], [3, 4]])   ((0, 1), 7)
+///     changes([[1]], [[1, 2]])                      ((0, 1), 2)
+///
+/// Where `old` has no cell at a position, the cell of `new` is a change. What only `old` has isn't listed.
+///
+/// Cost: constant; no memory. The iterator compares each cell of `new` once.
+pub fn changes<'a, T: PartialEq>(old: &GridView<'a, T>, new: &GridView<'a, T>) -> ChangeIter<'a, T>
+    ensures { result ≡ changed_cells T.eq old.now.rows new.now.rows }
+{
+    ChangeIter {
+        old: old.view(),
+        cells: new.indexed_iter(),
+    }
+}
+
+// Whether a view has a cell at a position, and it is the same as this one.
+fn has_cell<T: PartialEq>(view: &GridView<'_, T>, at: (usize, usize), value: &T) -> bool
+    ensures { result ≡ is_cell T.eq (cell view.now.rows at.0 at.1) value.now }
+{
+    match view.get(at.0, at.1) {
+        Some(there) => there == value,
+        None => false,
+    }
+}
+
+impl<'a, T: PartialEq> Iterator for ChangeIter<'a, T> {
+    type Item = ((usize, usize), &'a T);
+
+    ghost next_gives = { YieldsFirstBy (λ item. (item.0, item.1.now)) (λ rest. rest) };
+
+    ghost remaining = { item_count (λ rest. rest) };
+
+    fn next(&mut self) -> Option<((usize, usize), &'a T)> {
+        while let Some((at, cell)) = self.cells.next() {
+            if !has_cell(&self.old, at, cell) {
+                return Some((at, cell));
+            }
+        }
+        None
+    }
+}
+
+/// Returns the commands that write the cells of `new` that differ from those of `old` at their positions: a `Set` for
+/// each of [`changes`], row by row.
+///
+///     change_commands([[1, 2], [3, 4]], [[1, 7], [3, 4]])   [Set(0, 1, 7)]
+///
+/// Where both have one size, running them on the one makes it the other.
+///
+/// Fails: if allocation fails, for the list or in a clone.
+/// Cost: one comparison for each cell of `new`, one clone for each command.
+pub fn change_commands<T, A: Allocator>(
+    alloc: A,
+    old: &GridView<'_, T>,
+    new: &GridView<'_, T>,
+) -> Result<Vec<Command<T, A>, A>, AllocError>
+where
+    T: PartialEq + Clone + Drop,
+    ensures commands { IfOk result (λ commands. ClonesAreEqual T.is_clone → map command_value
+        commands.items ≡ writes (changed_cells T.eq old.now.rows new.now.rows)) }
+    ensures runs { IfOk result (λ commands. (d : T) → ClonesAreEqual T.is_clone
+        → SameAreEqual T.eq → row_count old.now.rows ≡ row_count new.now.rows
+        → col_count old.now.rows ≡ col_count new.now.rows
+        → run_rows d (map command_value commands.items) old.now.rows ≡ new.now.rows) }
+{
+    sets_of(alloc, changes(old, new))
+}
+
+// A `Set` for each cell that an iterator gives.
+fn sets_of<T, A: Allocator>(
+    alloc: A,
+    cells: ChangeIter<'_, T>,
+) -> Result<Vec<Command<T, A>, A>, AllocError>
+where
+    T: PartialEq + Clone + Drop,
+    ensures { IfOk result (λ commands. ClonesAreEqual T.is_clone
+        → map command_value commands.items ≡ writes cells.entry) }
+{
+    let mut commands = Vec::new(alloc);
+    for (at, cell) in cells {
+        let copy = cell.clone()?;
+        commands.push(Command::Set(at.0, at.1, copy))?;
+    }
+    Ok(commands)
+}

@@ -1,0 +1,258 @@
+//! A grid with the boards before it and those undone.
+ghost use Rattle.std.specs.Prelude.{◌≡◌, ◌<◌, [], ◌∷◌, length, OnOk, OnErr, IfOk, MatchBool, IsTrue, ◌↔◌};
+ghost use Rattle.grid.specs.Prelude.{act, order_after, ClonesAreEqual, command_value, command_symmetry, apply, reply_value, step_rows, step_reply, RowsAreKnown};
+ghost use Rattle.grid_changes.specs.Timeline.{board_of, IsStepOn, IsStepBack, Recorded};
+ghost use Rattle.grid_changes.specs.Change.{Fits, after};
+ghost use Rattle.grid_changes.specs.Steps.{FitsAt, HasTurned};
+ghost use Rattle.grid_base.specs.declared.words.Symmetry.{Symmetry};
+
+use crate::asked::{Asked, asked_of};
+use crate::change::{Change, make};
+use grid::{Command, Grid, Reply, Symmetry};
+use std::alloc::{AllocError, Allocator, Global};
+use std::marker::Model;
+use std::mem;
+
+/// A grid that takes back what its commands did, and does it again: the grid as it is, the boards before it, and those
+/// that were undone.
+///
+/// It keeps no boards, but what takes each step back: the cell that was written over, the lines that were taken out.
+/// Only a `Fill` and a `Clear` leave the board that was there. Cells are moved and never cloned, so a board that comes
+/// back is exactly the one that was, also of cells whose clones may differ.
+#[derive(Drop)]
+pub struct History<T, A: Allocator = Global> {
+    grid: Grid<T, A>,
+    // What takes the steps back that were done, the oldest first; behind these, what does those again that were undone,
+    // the last undone first.
+    steps: Vec<Change<T, A>, A>,
+    done: usize,
+}
+
+impl<T, A: Allocator> Model for History<T, A> {
+    ghost use Rattle.grid_changes.specs.Timeline.{Timeline};
+
+    ghost Value = { Timeline T };
+
+    ghost use Rattle.grid_changes.specs.Steps.{timeline_of, AreSteps};
+
+    ghost view = { λ h. timeline_of h.grid h.steps.items h.done };
+
+    ghost invariant = { λ h. AreSteps h.grid h.steps.items h.done };
+}
+
+// Does the step at a place of a list, and leaves there what takes it back.
+fn turn<T, A: Allocator>(
+    grid: &mut Grid<T, A>,
+    steps: &mut Vec<Change<T, A>, A>,
+    at: usize,
+) -> Result<(), AllocError>
+where
+    T: Drop,
+    A: Clone,
+    requires within { at < length steps.old.items }
+    requires fits { FitsAt steps.old.items at grid.old }
+    ensures turned { OnOk result (HasTurned at grid.old steps.old.items grid.new steps.new.items) }
+    ensures steps { OnErr result (steps.new.items ≡ steps.old.items) }
+    ensures grid { OnErr result (grid.new ≡ grid.old) }
+{
+    let change = mem::replace(&mut steps[at], Change::Turn(Symmetry::Identity));
+    match make(grid, change) {
+        Ok(back) => {
+            steps[at] = back;
+            Ok(())
+        }
+        Err(same) => {
+            steps[at] = same;
+            Err(AllocError)
+        }
+    }
+}
+
+impl<T, A: Allocator> History<T, A> {
+    /// Returns the history of a grid to which nothing was done. The allocator is that of the list of steps.
+    ///
+    ///     [[1, 2]]   over(alloc, grid)   undo_count() 0, redo_count() 0
+    ///
+    /// Cost: constant; no memory.
+    pub fn over(alloc: A, grid: Grid<T, A>) -> History<T, A>
+        ensures grid { result.grid ≡ grid }
+        ensures past { result.past ≡ [] }
+        ensures future { result.future ≡ [] }
+    {
+        History {
+            grid,
+            steps: Vec::new(alloc),
+            done: 0,
+        }
+    }
+
+    /// Returns the grid as it is now.
+    ///
+    ///     over(alloc, [[1, 2]]), then step(Set(0, 0, 5))   grid()   [[5, 2]]
+    pub fn grid(&self) -> &Grid<T, A>
+        ensures { result.now ≡ self.now.grid }
+    {
+        &self.grid
+    }
+
+    /// Returns the grid as it is now. What takes the steps back, and does those undone again, is dropped.
+    ///
+    ///     over(alloc, [[1, 2]]), then step(Set(0, 0, 5))   into_grid()   [[5, 2]]
+    ///
+    /// Cost: one drop for each step, and for each cell that it keeps; no memory.
+    pub fn into_grid(self) -> Grid<T, A>
+    where
+        T: Drop,
+        ensures { result ≡ self.grid }
+    {
+        let History { grid, .. } = self;
+        grid
+    }
+
+    /// Returns how many steps can be taken back.
+    ///
+    ///     over(alloc, [[1, 2]]), then step(Clear) and step(Size)   undo_count()   1
+    pub fn undo_count(&self) -> usize
+        ensures { result ≡ length self.now.past }
+    {
+        self.done
+    }
+
+    /// Returns how many of the steps that were taken back can be done again.
+    ///
+    ///     over(alloc, [[1, 2]]), then step(Clear) and undo()   redo_count()   1
+    pub fn redo_count(&self) -> usize
+        ensures { result ≡ length self.now.future }
+    {
+        self.steps.len() - self.done
+    }
+
+    /// Executes a command, and returns its reply, both as [`Grid::step`] does.
+    ///
+    ///     [[1, 2]]   step(PushRow([3, 4]))   Done             [[1, 2], [3, 4]], a step
+    ///     [[1, 2]]   step(PushRow([3]))      Refused(Length)  [[1, 2]], no step
+    ///
+    /// A command is a step if it isn't refused and writes cells, applies a symmetry, or puts lines in or takes lines out,
+    /// also where the board happens to be as before; then the board that was is the first of the past, and what was
+    /// undone can't be done again. Any other command, as a read, leaves the history as it was. So do a removal and a
+    /// delete of lines that aren't there, padding that adds none, and a list of no lines.
+    ///
+    /// Fails: if allocation fails; the history is unchanged, and the command is dropped.
+    /// Cost: an edit of lines in the middle, up to four swaps for each cell; at the end, row-major, time in the line, as
+    /// for columns, column-major. A removed line is cloned for the reply. A `Fill` makes a new board. The others as
+    /// `Grid::step`. What is kept: a cell of a `Set`, the lines that were taken out, the board before a `Fill` or a
+    /// `Clear`.
+    pub fn step(&mut self, command: Command<T, A>) -> Result<Reply<T, A>, AllocError>
+    where
+        T: Clone + Default + Drop,
+        A: Clone,
+        ensures rows { OnOk result ((d : T)
+            → RowsAreKnown T.is_default T.is_clone d (command_value command)
+            → self.new.grid.rows ≡ step_rows d (command_value command) self.old.grid.rows) }
+        ensures reply { IfOk result (λ reply. ClonesAreEqual T.is_clone
+            → reply_value reply ≡ step_reply (command_value command) self.old.grid.rows) }
+        ensures applied { OnOk result ((s : Symmetry) → command_value command ≡ apply s
+            → self.new.grid.rows ≡ act s self.old.grid.rows) }
+        ensures order { OnOk result (self.new.grid.order
+            ≡ order_after (command_symmetry (command_value command)) self.old.grid.order) }
+        ensures recorded { OnOk result (Recorded (command_value command) self.old self.new) }
+        ensures err { OnErr result (self.new ≡ self.old) }
+    {
+        match asked_of(&self.grid, command)? {
+            Asked::Answer(reply) => Ok(reply),
+            Asked::Making(change, reply) => {
+                self.record(change)?;
+                Ok(reply)
+            }
+        }
+    }
+
+    // Does a change, in place of those that were undone.
+    fn record(&mut self, change: Change<T, A>) -> Result<(), AllocError>
+    where
+        T: Drop,
+        A: Clone,
+        requires fits { Fits change (board_of self.old.grid) }
+        ensures made { OnOk result
+            (board_of self.new.grid ≡ after change (board_of self.old.grid)) }
+        ensures recorded { OnOk result (IsStepOn self.old self.new) }
+        ensures err { OnErr result (self.new ≡ self.old) }
+    {
+        if self.done == self.steps.len() {
+            self.steps.reserve(1)?;
+        }
+        let Ok(back) = make(&mut self.grid, change) else {
+            return Err(AllocError);
+        };
+        self.steps.truncate(self.done);
+        self.steps.push_reserved(back);
+        self.done += 1;
+        Ok(())
+    }
+
+    /// Takes the last step back, and returns whether there was one. The board is exactly the one before it.
+    ///
+    ///     over(alloc, [[1, 2]]), then step(Set(0, 0, 5))   undo()   true   [[1, 2]]
+    ///
+    /// Fails: if allocation fails, which comes only where lines come back or are taken out; the history is unchanged.
+    /// Cost: constant for a cell, two cells, a `Fill` and a `Clear`; a symmetry, its swaps; lines, as
+    /// [`step`](History::step). No cell is cloned.
+    pub fn undo(&mut self) -> Result<bool, AllocError>
+    where
+        T: Drop,
+        A: Clone,
+        ensures found { IfOk result (λ found. IsTrue found ↔ (0 < length self.old.past)) }
+        ensures back { IfOk result
+            (λ found. MatchBool found (IsStepBack self.old self.new) (self.new ≡ self.old)) }
+        ensures err { OnErr result (self.new ≡ self.old) }
+    {
+        if self.done == 0 {
+            return Ok(false);
+        }
+        let at = self.done - 1;
+        turn(&mut self.grid, &mut self.steps, at)?;
+        self.done = at;
+        Ok(true)
+    }
+
+    /// Does the step again that was taken back last, and returns whether there was one. The board is exactly the one
+    /// after it.
+    ///
+    ///     over(alloc, [[1, 2]]), then step(Set(0, 0, 5)) and undo()   redo()   true   [[5, 2]]
+    ///
+    /// Fails: as [`undo`](History::undo).
+    /// Cost: as `undo`.
+    pub fn redo(&mut self) -> Result<bool, AllocError>
+    where
+        T: Drop,
+        A: Clone,
+        ensures found { IfOk result (λ found. IsTrue found ↔ (0 < length self.old.future)) }
+        ensures ahead { IfOk result
+            (λ found. MatchBool found (IsStepBack self.new self.old) (self.new ≡ self.old)) }
+        ensures err { OnErr result (self.new ≡ self.old) }
+    {
+        if self.done == self.steps.len() {
+            return Ok(false);
+        }
+        let at = self.done;
+        turn(&mut self.grid, &mut self.steps, at)?;
+        self.done = at + 1;
+        Ok(true)
+    }
+
+    /// Drops what takes steps back or does them again. The grid stays.
+    ///
+    ///     over(alloc, [[1, 2]]), then step(Clear)   forget()   undo_count() 0, redo_count() 0
+    ///
+    /// Cost: one drop for each step, and for each cell that it keeps.
+    pub fn forget(&mut self)
+    where
+        T: Drop,
+        ensures grid { self.new.grid ≡ self.old.grid }
+        ensures past { self.new.past ≡ [] }
+        ensures future { self.new.future ≡ [] }
+    {
+        self.steps.clear();
+        self.done = 0;
+    }
+}

@@ -1,0 +1,28 @@
+use Rattle.std.proofs.Common.{◌≡◌, ◌<◌, ◌+◌, sym, ◌∙◌, subst, arith}
+use Rattle.std.specs.Ordering.{is_lt}
+use Rattle.grid_base.proofs.Common.{act}
+use Rattle.grid_images.specs.Images.{symmetry_at}
+use Rattle.grid_images.specs.TableOrder.{table_cmp}
+use Rattle.grid_images.proofs.LeastLemmas.{IsLeastOf, least_one, least_new, least_old, least_all}
+use Rattle.grid_images.proofs.least.least_image.Goals as goal
+use Rattle.grid_images.proofs.least.least_image.Goals.{then-is_lt, else-is_lt}
+
+pub loop-i-init : goal.loop-i-init
+loop-i-init g c = least_one g.T.Ord.cmp g.met.T.Ord.total c.args.board.now.rows
+
+pub loop-i-preserved : goal.loop-i-preserved
+loop-i-preserved g c =
+    let t = c.args.board.now.rows in
+    let i = c.loop-i.i in
+    let s = c.loop-i.least in
+    let small : i < 8 = omega arith in
+    let told : is_lt (table_cmp g.T.Ord.cmp (act (symmetry_at i) t) (act s t)) ≡ c.is_lt.result = cc in
+    elim c.if-is_lt.branch [
+      | then-is_lt w ↦ subst (IsLeastOf g.T.Ord.cmp t (i + 1)) (sym w.least-is) (least_new g.T.Ord.cmp g.met.T.Ord.total t i s small c.loop-i.invariant (told ∙ w.if-is_lt.true))
+      | else-is_lt w ↦ subst (IsLeastOf g.T.Ord.cmp t (i + 1)) (sym w.least-is) (least_old g.T.Ord.cmp g.met.T.Ord.total t i s small c.loop-i.invariant (told ∙ w.if-is_lt.false))
+    ]
+
+pub returns : goal.returns
+returns g c =
+    let at_end : c.loop-i.i ≡ 8 = omega arith in
+    least_all g.T.Ord.cmp g.met.T.Ord.total c.args.board.now.rows c.loop-i.least (subst (λ i. IsLeastOf g.T.Ord.cmp c.args.board.now.rows i c.loop-i.least) at_end c.loop-i.invariant)

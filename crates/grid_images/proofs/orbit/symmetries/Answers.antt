@@ -1,0 +1,41 @@
+use Rattle.std.proofs.Common.{◌≡◌, ◌<◌, ◌∙◌, ◌↔◌, IsTrue, Contains, [], ◌∷◌, ◌++◌, sym, ap, subst, arith}
+use Rattle.grid_base.specs.declared.words.Symmetry.TheVariants.{Identity}
+use Rattle.grid_images.specs.Images.{IsGroup, fixing, takes, symmetry_at}
+use Rattle.grid_images.proofs.OrbitLemmas.{has_room, kept_first, kept_more, left_out, all_kept, has_fixing, IsGroup-fixing, takes_identity}
+use Rattle.grid_images.proofs.orbit.symmetries.Goals as goal
+use Rattle.grid_images.proofs.orbit.symmetries.Goals.{then-eq, else-eq}
+
+pub loop-i-init : goal.loop-i-init
+loop-i-init g c =
+    let t = c.args.board.now in
+    kept_first (takes g.T.PartialEq.eq t.rows t.rows) (takes_identity g.met.T.Eq.laws t.rows t.table) c.push.new.self (c.push.ensures ∙ ap (λ xs. xs ++ Identity ∷ []) c.new-fixing.ensures)
+
+pub push-requires-then-eq : goal.push-requires-then-eq
+push-requires-then-eq g c =
+    has_room (takes g.T.PartialEq.eq c.args.board.now.rows c.args.board.now.rows) c.loop-i.i c.loop-i-test.true c.loop-i.fixing c.loop-i.invariant
+
+pub loop-i-preserved : goal.loop-i-preserved
+loop-i-preserved g c =
+    let t = c.args.board.now.rows in
+    let p = takes g.T.PartialEq.eq t t in
+    let i = c.loop-i.i in
+    let small : i < 8 = c.loop-i-test.true in
+    let told : p (symmetry_at i) ≡ c.eq.result = cc in
+    elim c.if-eq.branch [
+      | then-eq w ↦ w.fixing-is ∙ kept_more p i small c.loop-i.fixing w.push-then-eq.new.self c.loop-i.invariant (told ∙ w.if-eq.true) w.push-then-eq.ensures
+      | else-eq w ↦ w.fixing-is ∙ left_out p i small c.loop-i.fixing c.loop-i.invariant (told ∙ w.if-eq.false)
+    ]
+
+pub returns-clause-members : goal.returns-clause-members
+unfolding fixing
+returns-clause-members g c =
+    all_kept (takes g.T.PartialEq.eq c.args.board.now.rows c.args.board.now.rows) c.loop-i.i (omega arith) c.loop-i.fixing c.loop-i.invariant
+
+pub returns-clause-each : goal.returns-clause-each
+returns-clause-each g c = λ s.
+    let t = c.args.board.now.rows in
+    subst (λ ss. Contains ss s ↔ IsTrue (takes g.T.PartialEq.eq t t s)) (sym (returns-clause-members g c)) (has_fixing g.T.PartialEq.eq t s)
+
+pub returns-clause-group : goal.returns-clause-group
+returns-clause-group g c =
+    subst IsGroup (sym (returns-clause-members g c)) (IsGroup-fixing g.met.T.Eq.laws c.args.board.now.rows c.args.board.now.table)

@@ -1,0 +1,3 @@
+pub mod TableOrder
+pub mod Images
+pub mod Prelude

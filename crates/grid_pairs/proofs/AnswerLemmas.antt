@@ -1,0 +1,77 @@
+-- What a closure answers at two lines, one item after another, and line by line.
+use Rattle.std.proofs.Common.{◌≡◌, ℕ, ◌+◌, ◌*◌, ◌<◌, List, [], ◌∷◌, ◌++◌, Some, IsSomeAnd, length, set, sym, subst, ◌∙◌, arith, inl, inr, ⊎_elim, length-append, length-set, slice_get, Bor}
+use Rattle.grid_base.proofs.Common.{cases_lt, col_count, cell, row}
+use Rattle.grid_base.proofs.StorageLemmas.{get_append_left, get_append_right}
+use Rattle.grid_base.proofs.WriteLemmas.{get-set_same, get-set_other}
+use Rattle.grid_base.proofs.WeaveLemmas.{place_below}
+use Rattle.grid_pairs.specs.Joined.{Joins}
+use Rattle.grid_pairs.specs.Answered.{Appended, RowsJoined, Replaced, RowsReplaced}
+
+module _ {F A B C : Type 0} (returns : F → Bor A → Bor B → C → Type 0) (f : F) where
+  -- one more answer
+  pub appended_more : (n : ℕ) (xs : List A) (ys : List B) (old now : List C) (z : C) → Appended returns f n xs ys old now → Joins returns f (slice_get xs n) (slice_get ys n) z → Appended returns f (n + 1) xs ys old (now ++ z ∷ [])
+  appended_more n xs ys old now z a j =
+      let here : slice_get (now ++ z ∷ []) (length old + n) ≡ Some z = get_append_right now (z ∷ []) (length old + n) 0 (omega (arith, a.len)) in
+      record {
+        len = omega (arith, length-append now (z ∷ []), a.len);
+        kept = λ k lt. get_append_left now (z ∷ []) k (omega (arith, a.len)) ∙ a.kept k lt;
+        answers = λ k lt. ⊎_elim
+            (λ low. subst (λ o. IsSomeAnd o (Joins returns f (slice_get xs k) (slice_get ys k))) (sym (get_append_left now (z ∷ []) (length old + k) (omega (arith, a.len)))) (a.answers k low))
+            (λ past.
+            let e : n ≡ k = omega arith in
+            subst (λ i. IsSomeAnd (slice_get (now ++ z ∷ []) (length old + i)) (Joins returns f (slice_get xs i) (slice_get ys i))) e
+            (subst (λ o. IsSomeAnd o (Joins returns f (slice_get xs n) (slice_get ys n))) (sym here) j))
+            (cases_lt k n);
+      }
+
+  -- one more row
+  pub joined_more : (r : ℕ) (t : List (List A)) (u : List (List B)) (old new : List C) → RowsJoined returns f r t u old → Appended returns f (col_count t) (row t r) (row u r) old new → RowsJoined returns f (r + 1) t u new
+  joined_more r t u old new w a =
+      let n = col_count t in
+      record {
+        len = omega (arith, a.len, w.len);
+        answers = λ i j li lj. ⊎_elim
+            (λ low. subst (λ o. IsSomeAnd o (Joins returns f (cell t i j) (cell u i j))) (sym (a.kept (i * n + j) (omega (arith, w.len, place_below i n j r low lj)))) (w.answers i j low lj))
+            (λ past.
+            let e : r ≡ i = omega arith in
+            subst (λ k. IsSomeAnd (slice_get new (k * n + j)) (Joins returns f (cell t k j) (cell u k j))) e
+            (subst (λ k. IsSomeAnd (slice_get new (k + j)) (Joins returns f (cell t r j) (cell u r j))) w.len (a.answers j lj)))
+            (cases_lt i r);
+      }
+
+module _ {F A B : Type 0} (returns : F → Bor A → Bor B → A → Type 0) (f : F) where
+  -- one more item
+  pub replaced_more : (start n : ℕ) (ys : List B) (old now : List A) (z : A) → Replaced returns f start n ys old now → start + n < length now → Joins returns f (slice_get now (start + n)) (slice_get ys n) z → Replaced returns f start (n + 1) ys old (set now (start + n) z)
+  replaced_more start n ys old now z a lt j =
+      let same : slice_get now (start + n) ≡ slice_get old (start + n) = a.others (start + n) (inr (omega arith)) in
+      let here : slice_get (set now (start + n) z) (start + n) ≡ Some z = get-set_same now (start + n) z lt in
+      record {
+        len = length-set now (start + n) z ∙ a.len;
+        others = λ k out.
+            let ne : k ≡ start + n → ⊥ = λ e. ⊎_elim (λ low. absurd (omega arith)) (λ high. absurd (omega arith)) out in
+            get-set_other now (start + n) k z ne ∙ a.others k (⊎_elim (λ low. inl low) (λ high. inr (omega arith)) out);
+        answers = λ k lk. ⊎_elim
+            (λ low. subst (λ o. IsSomeAnd o (Joins returns f (slice_get old (start + k)) (slice_get ys k))) (sym (get-set_other now (start + n) (start + k) z (λ e. absurd (omega arith)))) (a.answers k low))
+            (λ past.
+            let e : n ≡ k = omega arith in
+            subst (λ i. IsSomeAnd (slice_get (set now (start + n) z) (start + i)) (Joins returns f (slice_get old (start + i)) (slice_get ys i))) e
+            (subst (λ o. IsSomeAnd o (Joins returns f (slice_get old (start + n)) (slice_get ys n))) (sym here) (subst (λ x. Joins returns f x (slice_get ys n) z) same j)))
+            (cases_lt k n);
+      }
+
+  -- one more row
+  pub rows_more : (r : ℕ) (u : List (List B)) (old now new : List A) → RowsReplaced returns f r u old now → Replaced returns f (r * col_count u) (col_count u) (row u r) now new → RowsReplaced returns f (r + 1) u old new
+  rows_more r u old now new w a =
+      let n = col_count u in
+      record {
+        len = a.len ∙ w.len;
+        others = λ k out. a.others k (inr (omega arith)) ∙ w.others k (omega arith);
+        answers = λ i j li lj. ⊎_elim
+            (λ low. subst (λ o. IsSomeAnd o (Joins returns f (slice_get old (i * n + j)) (cell u i j))) (sym (a.others (i * n + j) (inl (place_below i n j r low lj)))) (w.answers i j low lj))
+            (λ past.
+            let e : r ≡ i = omega arith in
+            let same : slice_get now (r * n + j) ≡ slice_get old (r * n + j) = w.others (r * n + j) (omega arith) in
+            subst (λ k. IsSomeAnd (slice_get new (k * n + j)) (Joins returns f (slice_get old (k * n + j)) (cell u k j))) e
+            (subst (λ x. IsSomeAnd (slice_get new (r * n + j)) (Joins returns f x (cell u r j))) same (a.answers j lj)))
+            (cases_lt i r);
+      }

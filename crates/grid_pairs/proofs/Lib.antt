@@ -1,0 +1,5 @@
+pub mod AnswerLemmas
+pub mod JoinLemmas
+pub mod PartLemmas
+pub mod FoldLemmas
+pub mod FindLemmas

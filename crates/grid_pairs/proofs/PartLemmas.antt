@@ -1,0 +1,120 @@
+-- Parts of a table, row by row, and the iterator over them.
+use Rattle.std.proofs.Common.{ext_get_or, drop-drop, length-drop, mod-lt, ◌≡◌, ℕ, ◌+◌, ◌-◌, ◌*◌, ◌/◌, ◌%◌, ◌^◌, ◌<◌, ◌≤◌, min, List, [], ◌∷◌, length, get_or, drop, Option, None, Some, refl, sym, ◌∙◌, ap, arith, ⊎_elim, mul-le-mul_right, slice_get, MatchOption}
+use Rattle.std.proofs.lemmas.List.FromFn.{get_or-map-range_with_len, length-map-range_with_len}
+use Rattle.std.proofs.lemmas.Grind.{div_ceil_times}
+use Rattle.std.proofs.lemmas.Nat.{div_below}
+use Rattle.std.specs.Int.{div_ceil}
+use Rattle.std.specs.Iterator.{YieldsFirstBy, YieldsLastBy}
+use Rattle.grid_base.proofs.Common.{cases_lt, mul-le, from_front, from_back, row_count, col_count, remaining}
+use Rattle.grid_base.proofs.StorageLemmas.{get-drop}
+use Rattle.grid_base.proofs.RemainingLemmas.{remaining_all}
+use Rattle.grid_view.specs.Value.{ViewValue}
+use Rattle.grid_view.specs.View.{sub_table}
+use Rattle.grid_pairs.specs.Parts.{in_turn, part_of, parts_at, tiles, windows, ArePartsLeft, PartsInOrder, PartsInReverse, GivesParts}
+
+module _ {X : Type 0} (p q : ℕ) (f : ℕ → ℕ → X) where
+  pub length-in_turn : length (in_turn p q f) ≡ p * q
+  length-in_turn = length-map-range_with_len _ 0 (p * q)
+
+  pub get_in_turn : (k : ℕ) (d : X) → k < p * q → get_or (in_turn p q f) k d ≡ f (k / q) (k % q)
+  get_in_turn k d lt = get_or-map-range_with_len (λ k. f (k / q) (k % q)) 0 (p * q) k k d lt (omega arith)
+
+-- the same said of each row and column
+pub in_turn_same : {X : Type 0} (p q : ℕ) (f g : ℕ → ℕ → X) (d : X) → ((i j : ℕ) → i < p → j < q → f i j ≡ g i j) → in_turn p q f ≡ in_turn p q g
+in_turn_same p q f g d same =
+    ext_get_or d (in_turn p q f) (in_turn p q g) (length-in_turn p q f ∙ sym (length-in_turn p q g))
+    (λ k l.
+    let lt : k < p * q = omega (arith, length-in_turn p q f) in
+    let some : 0 < q = ⊎_elim {C = 0 < q} (λ some. some)
+    (λ none. let e : q ≡ 0 = omega (arith, none) in let z : p * q ≡ 0 = ap (λ x. p * x) e ∙ omega arith in absurd (omega (arith, lt, z)))
+    (cases_lt 0 q) in
+    get_in_turn p q f k d lt ∙ (same (k / q) (k % q) (div_below k q p some lt) (mod-lt k some) ∙ sym (get_in_turn p q g k d lt)))
+
+module _ {T : Type 0} (t : List (List T)) (step size count : ℕ × ℕ) where
+  pub length-parts : length (parts_at t step size count) ≡ count.0 * count.1
+  length-parts = length-in_turn count.0 count.1 (λ i j. part_of t (i * step.0, j * step.1) size)
+
+  pub get_parts : (k : ℕ) → k < count.0 * count.1 → get_or (parts_at t step size count) k [] ≡ part_of t (k / count.1 * step.0, k % count.1 * step.1) size
+  get_parts k lt = get_in_turn count.0 count.1 (λ i j. part_of t (i * step.0, j * step.1) size) k [] lt
+
+-- a tile begins within a line, so that there are no more of them than cells
+pub tile_begins : (n h i : ℕ) → 0 < h → i < div_ceil n h → i * h < n
+tile_begins n h i some lt =
+    let w : (i + 1) * h ≤ div_ceil n h * h = mul-le-mul_right h (omega arith) in
+    omega (arith, w, (div_ceil_times n h some).1)
+
+pub tile_count : (n h : ℕ) → 0 < h → div_ceil n h ≤ n
+tile_count n h some = ⊎_elim {C = div_ceil n h ≤ n}
+    (λ lt.
+    let i = div_ceil n h - 1 in
+    let one : i * 1 ≤ i * h = mul-le i 1 i h (omega arith) (omega arith) in
+    omega (arith, tile_begins n h i some (omega arith), one))
+    (λ none. omega arith) (cases_lt 0 (div_ceil n h))
+
+module _ {T : Type 0} (t : List (List T)) (h w : ℕ) (tall : 0 < h) (wide : 0 < w) (below : row_count t * col_count t < 2 ^ 64) where
+  abbrev tile_counts : ℕ × ℕ
+  tile_counts = (div_ceil (row_count t) h, div_ceil (col_count t) w)
+
+  abbrev window_counts : ℕ × ℕ
+  window_counts = (row_count t + 1 - h, col_count t + 1 - w)
+
+  pub tiles_fit : div_ceil (row_count t) h * div_ceil (col_count t) w < 2 ^ 64
+  tiles_fit = omega (arith, below, mul-le (div_ceil (row_count t) h) (div_ceil (col_count t) w) (row_count t) (col_count t) (tile_count (row_count t) h tall) (tile_count (col_count t) w wide))
+
+  pub windows_fit : (row_count t + 1 - h) * (col_count t + 1 - w) < 2 ^ 64
+  windows_fit = omega (arith, below, mul-le (row_count t + 1 - h) (col_count t + 1 - w) (row_count t) (col_count t) (omega arith) (omega arith))
+
+  pub tiles_left : ArePartsLeft t (h, w) (h, w) tile_counts 0 (tile_counts.0 * tile_counts.1)
+  tiles_left = record {
+    tall = tall;
+    wide = wide;
+    down = λ i lt. tile_begins (row_count t) h i tall lt;
+    across = λ j lt. tile_begins (col_count t) w j wide lt;
+    below = tiles_fit;
+    left = record { ordered = omega arith; within = omega arith };
+  }
+
+  -- parts that begin at each position, and end within the table
+  window_part : (i j : ℕ) → i < row_count t + 1 - h → j < col_count t + 1 - w → part_of t (i * 1, j * 1) (h, w) ≡ sub_table t (i, j) (h, w)
+  window_part i j li lj =
+      let m = row_count t in
+      let n = col_count t in
+      let ei : i * 1 ≡ i = omega arith in
+      let ej : j * 1 ≡ j = omega arith in
+      let eh : min h (m - i) ≡ h = omega arith in
+      let ew : min w (n - j) ≡ w = omega arith in
+      ap (λ a. sub_table t (a, j * 1) (min h (m - a), min w (n - j * 1))) ei
+      ∙ (ap (λ b. sub_table t (i, b) (min h (m - i), min w (n - b))) ej
+      ∙ (ap (λ x. sub_table t (i, j) (x, min w (n - j))) eh ∙ ap (λ y. sub_table t (i, j) (h, y)) ew))
+
+  pub windows_at : parts_at t (1, 1) (h, w) window_counts ≡ windows t h w
+  windows_at = in_turn_same (row_count t + 1 - h) (col_count t + 1 - w) _ _ [] window_part
+
+module _ {T : Type 0} where
+  pub parts_in_order : PartsInOrder T
+  parts_in_order = from_front (YieldsFirstBy (λ (part : ViewValue T). part.rows) (λ rest. rest)) (λ part. part.rows) (λ rest. rest) (λ s t h. ap length h.0) (λ s x t h. h)
+
+  pub parts_in_reverse : PartsInReverse T
+  parts_in_reverse = from_back (YieldsLastBy (λ (part : ViewValue T). part.rows) (λ rest. rest)) (λ part. part.rows) (λ rest. rest) (λ s t h. ap length h.0) (λ s x t h. h)
+
+  -- an iterator that has all of n parts left
+  pub gives_parts : (n : ℕ) (all parts : List (List (List T))) → length all ≡ n → n < 2 ^ 64 → all ≡ parts → GivesParts parts (remaining 0 n all)
+  gives_parts n all parts len fits same =
+      let whole : remaining 0 n all ≡ all = remaining_all n all (sym len) in
+      (whole ∙ same, parts_in_order, parts_in_reverse, omega (arith, ap length whole, len))
+
+module _ {T : Type 0} (t s : List (List T)) (h w down across : ℕ) (tall : 0 < h) (wide : 0 < w) (below : row_count t * col_count t < 2 ^ 64) (same : s ≡ t) where
+  pub gives_tiles : down ≡ div_ceil (row_count t) h → across ≡ div_ceil (col_count t) w → GivesParts (tiles t h w) (remaining 0 (down * across) (parts_at s (h, w) (h, w) (down, across)))
+  gives_tiles ed ea = rw (ed, ea, same) (gives_parts (div_ceil (row_count t) h * div_ceil (col_count t) w) (tiles t h w) (tiles t h w) (length-parts t (h, w) (h, w) (div_ceil (row_count t) h, div_ceil (col_count t) w)) (tiles_fit t h w tall wide below) refl)
+
+  pub gives_windows : down ≡ row_count t + 1 - h → across ≡ col_count t + 1 - w → GivesParts (windows t h w) (remaining 0 (down * across) (parts_at s (1, 1) (h, w) (down, across)))
+  gives_windows ed ea = rw (ed, ea, same) (gives_parts ((row_count t + 1 - h) * (col_count t + 1 - w)) (parts_at t (1, 1) (h, w) (row_count t + 1 - h, col_count t + 1 - w)) (windows t h w) (length-parts t (1, 1) (h, w) (row_count t + 1 - h, col_count t + 1 - w)) (windows_fit t h w tall wide below) (windows_at t h w tall wide below))
+
+-- what a step gives past n items
+pub nth_part_found : {T X : Type 0} (view : T → X) (n : ℕ) (xs mid rest : List X) (r : Option T) → mid ≡ drop n xs → YieldsFirstBy view (λ (l : List X). l) mid r rest → MatchOption r (length xs ≤ n) (λ x. slice_get xs n ≡ Some (view x)) × (rest ≡ drop (n + 1) xs)
+nth_part_found view n xs mid rest None e h =
+    let l : [] ≡ drop n xs = sym h.0 ∙ e in
+    (omega (arith, ap length l, length-drop n xs), h.1 ∙ (ap (drop 1) l ∙ drop-drop 1 n xs))
+nth_part_found view n xs mid rest (Some x) e h =
+    let l : view x ∷ rest ≡ drop n xs = sym h ∙ e in
+    (sym (ap (λ l. slice_get l 0) l ∙ get-drop n xs n 0 (omega arith)), ap (drop 1) l ∙ drop-drop 1 n xs)

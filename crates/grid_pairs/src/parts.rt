@@ -1,0 +1,195 @@
+//! Iterators over the tiles of a board, and over its windows.
+ghost use Rattle.std.specs.Prelude.{◌≡◌, ◌+◌, ◌-◌, ◌*◌, ◌/◌, ◌%◌, ◌^◌, ◌<◌, ◌≤◌, ⊤, length, drop, slice_get, IfSome, MatchOption, Some};
+ghost use Rattle.std.specs.Iterator.{YieldsFirstBy, YieldsLastBy, item_count, UpTo, at_most};
+ghost use Rattle.std.specs.Iterator.SizeHint.{IsWithinCount};
+ghost use Rattle.grid_pairs.specs.Prelude.{row_count, col_count, tiles, windows, GivesParts};
+ghost use Rattle.grid_pairs.specs.Parts.{part_of, parts_at};
+
+use grid_view::{AsView, GridView};
+use std::alloc::AllocError;
+use std::iter::FusedIterator;
+use std::marker::Model;
+use std::ops::Range;
+
+/// Returns an iterator over the tiles of this size, row by row, from both ends, each as a view: the parts into which the
+/// board is cut from its first corner on. Those at its end are smaller where the size doesn't divide that of the board.
+///
+///     [[1, 2, 3], [4, 5, 6]]   tiles(board, 2, 2)   [[1, 2], [4, 5]]; then [[3], [6]]
+///
+/// Requires: `rows` and `cols` aren't 0.
+/// Cost: each step takes the same time; no cell is copied, and no memory is taken.
+pub fn tiles<'a, T, V: AsView<T>>(board: &'a V, rows: usize, cols: usize) -> PartIter<'a, T>
+    requires tall { 0 < rows }
+    requires wide { 0 < cols }
+    ensures gives { GivesParts (tiles (V.rows board.now) rows cols) result }
+{
+    let board = board.as_view();
+    let (row_count, col_count) = board.size();
+    let count = (row_count.div_ceil(rows), col_count.div_ceil(cols));
+    PartIter {
+        board,
+        step: (rows, cols),
+        size: (rows, cols),
+        count,
+        ahead: 0..count.0 * count.1,
+    }
+}
+
+/// Returns an iterator over the windows of this size, row by row, from both ends, each as a view: every part of the board
+/// that has this size.
+///
+///     [[1, 2, 3], [4, 5, 6]]   windows(board, 2, 2)   [[1, 2], [4, 5]]; then [[2, 3], [5, 6]]
+///
+/// Requires: `rows` and `cols` aren't 0.
+/// Cost: each step takes the same time; no cell is copied, and no memory is taken.
+pub fn windows<'a, T, V: AsView<T>>(board: &'a V, rows: usize, cols: usize) -> PartIter<'a, T>
+    requires tall { 0 < rows }
+    requires wide { 0 < cols }
+    ensures gives { GivesParts (windows (V.rows board.now) rows cols) result }
+{
+    let board = board.as_view();
+    let (row_count, col_count) = board.size();
+    let count = (starts(row_count, rows), starts(col_count, cols));
+    PartIter {
+        board,
+        step: (1, 1),
+        size: (rows, cols),
+        count,
+        ahead: 0..count.0 * count.1,
+    }
+}
+
+// Returns at how many places of a line of `len` cells a stretch of `size` cells begins.
+fn starts(len: usize, size: usize) -> usize
+    requires { 0 < size }
+    ensures { result ≡ len + 1 - size }
+{
+    if size <= len { len - size + 1 } else { 0 }
+}
+
+/// An iterator over parts of a board, row by row, from both ends, seen as the list of the rows of each that remains. Each
+/// step takes a division.
+#[derive(Drop)]
+pub struct PartIter<'a, T> {
+    board: GridView<'a, T>,
+    // How far the first corners are apart, and the size of a part that isn't at the end.
+    step: (usize, usize),
+    size: (usize, usize),
+    // How many parts come below one another, and side by side.
+    count: (usize, usize),
+    // The numbers of the parts that are left.
+    ahead: Range<usize>,
+}
+
+impl<'a, T> Model for PartIter<'a, T> {
+    ghost use Rattle.std.specs.Prelude.{List};
+    ghost use Rattle.grid_base.specs.Remaining.{remaining};
+    ghost use Rattle.grid_pairs.specs.Parts.{parts_at, ArePartsLeft};
+
+    ghost Value = { List (List (List T)) };
+
+    ghost view = { λ a. remaining a.ahead.start a.ahead.end
+        (parts_at a.board.rows a.step a.size a.count) };
+
+    ghost invariant = { λ a. ArePartsLeft a.board.rows a.step a.size a.count
+        a.ahead.start a.ahead.end };
+}
+
+// Returns the part from a position on, of this size or as much of it as there is.
+fn part_from<'a, T>(
+    board: &GridView<'a, T>,
+    at: (usize, usize),
+    size: (usize, usize),
+) -> GridView<'a, T>
+    requires tall { 0 < size.0 }
+    requires wide { 0 < size.1 }
+    requires row_in { at.0 < row_count board.now.rows }
+    requires col_in { at.1 < col_count board.now.rows }
+    ensures { result.rows ≡ part_of board.now.rows at size }
+{
+    let (rows, cols) = board.size();
+    board.part(at, (size.0.min(rows - at.0), size.1.min(cols - at.1)))
+}
+
+impl<'a, T> PartIter<'a, T> {
+    /// Skips `n` parts and returns the next, or `None` if fewer remain.
+    ///
+    ///     [[1, 2, 3], [4, 5, 6]]   tiles(board, 1, 2), then nth(1)   [[3]]; and [[4, 5]], [[6]] remain
+    ///
+    /// Cost: the same time at every `n`.
+    pub fn nth(&mut self, n: usize) -> Option<GridView<'a, T>>
+        ensures item { MatchOption result (length self.old ≤ n)
+            (λ part. slice_get self.old n ≡ Some part.rows) }
+        ensures rest { self.new ≡ drop (n + 1) self.old }
+    {
+        let left = self.len().saturating_sub(n);
+        self.ahead.start = self.ahead.end - left;
+        self.next()
+    }
+}
+
+impl<'a, T> Iterator for PartIter<'a, T> {
+    type Item = GridView<'a, T>;
+
+    ghost next_gives = { YieldsFirstBy (λ part. part.rows) (λ rest. rest) };
+
+    ghost remaining = { item_count (λ rest. rest) };
+
+    fn next(&mut self) -> Option<GridView<'a, T>> {
+        let k = self.ahead.next()?;
+        let at = (
+            k / self.count.1 * self.step.0,
+            k % self.count.1 * self.step.1,
+        );
+        Some(part_from(&self.board, at, self.size))
+    }
+
+    fn size_hint(&self) -> (usize, Option<usize>)
+        ensures lower { IsWithinCount result.0 (at_most (length self.now)) }
+        ensures upper { IfSome result.1 (UpTo (at_most (length self.now))) }
+        ensures exact { result ≡ (length self.now, Some (length self.now)) }
+    {
+        let left = self.len();
+        (left, Some(left))
+    }
+}
+
+impl<'a, T> DoubleEndedIterator for PartIter<'a, T> {
+    ghost next_back_gives = { YieldsLastBy (λ part. part.rows) (λ rest. rest) };
+
+    fn next_back(&mut self) -> Option<GridView<'a, T>> {
+        let k = self.ahead.next_back()?;
+        let at = (
+            k / self.count.1 * self.step.0,
+            k % self.count.1 * self.step.1,
+        );
+        Some(part_from(&self.board, at, self.size))
+    }
+}
+
+impl<'a, T> ExactSizeIterator for PartIter<'a, T> {
+    fn len(&self) -> usize {
+        self.ahead.len()
+    }
+}
+
+impl<'a, T> FusedIterator for PartIter<'a, T> {}
+
+/// Returns an iterator over the same remaining parts.
+///
+/// Cost: constant; it is always `Ok`, and takes no memory.
+impl<'a, T> Clone for PartIter<'a, T> {
+    ghost is_clone = { λ it copy. copy ≡ it };
+
+    ghost is_infallible = { λ _. ⊤ };
+
+    fn clone(&self) -> Result<Self, AllocError> {
+        Ok(PartIter {
+            board: self.board.view(),
+            step: self.step,
+            size: self.size,
+            count: self.count,
+            ahead: self.ahead.start..self.ahead.end,
+        })
+    }
+}

@@ -1,0 +1,63 @@
+//! Where a pattern stands in a board.
+ghost use Rattle.std.specs.Prelude.{◌≡◌, ◌+◌, ◌<◌, ◌≤◌, ℕ, MatchOption};
+ghost use Rattle.grid_pairs.specs.Prelude.{row_count, col_count, FoundFirst};
+ghost use Rattle.grid_pairs.specs.Found.{StandsIn, StandsFirstIn};
+
+use grid_view::{AsView, GridView};
+
+/// Returns the row and the column of the first part of a board, row by row, that is the pattern, or `None` where none is.
+/// The empty pattern is found at (0, 0).
+///
+///     [[1, 2, 1], [2, 1, 2]]   find(board, [[2, 1]])   Some((0, 1))
+///     [[1, 2, 1], [2, 1, 2]]   find(board, [[2, 2]])   None
+///
+/// Cost: at each position, comparisons of cells up to the first two that differ; no memory.
+pub fn find<T: PartialEq, V: AsView<T>, P: AsView<T>>(
+    board: &V,
+    pattern: &P,
+) -> Option<(usize, usize)>
+    ensures { FoundFirst T.eq (V.rows board.now) (P.rows pattern.now) result }
+{
+    found(&board.as_view(), &pattern.as_view())
+}
+
+// Returns the position of the first part of a view that is the pattern.
+fn found<T: PartialEq>(board: &GridView<'_, T>, pattern: &GridView<'_, T>) -> Option<(usize, usize)>
+    ensures { FoundFirst T.eq board.now.rows pattern.now.rows result }
+{
+    if pattern.is_empty() {
+        return Some((0, 0));
+    }
+    let (rows, cols) = board.size();
+    let (height, width) = pattern.size();
+    if rows < height || cols < width {
+        return None;
+    }
+    for row in 0..rows - height + 1 {
+        if let Some(col) = find_in_row(board, pattern, row) {
+            return Some((row, col));
+        }
+    }
+    None
+}
+
+// Returns the first column of a row where the pattern stands in the board.
+fn find_in_row<T: PartialEq>(
+    board: &GridView<'_, T>,
+    pattern: &GridView<'_, T>,
+    row: usize,
+) -> Option<usize>
+    requires some { 0 < col_count pattern.now.rows }
+    requires rows_in { row + row_count pattern.now.rows ≤ row_count board.now.rows }
+    requires cols_in { col_count pattern.now.rows ≤ col_count board.now.rows }
+    ensures { MatchOption result
+        ((c : ℕ) → StandsIn T.eq board.now.rows pattern.now.rows row c → ⊥)
+        (StandsFirstIn T.eq board.now.rows pattern.now.rows row) }
+{
+    for col in 0..board.cols() - pattern.cols() + 1 {
+        if board.part((row, col), pattern.size()) == *pattern {
+            return Some(col);
+        }
+    }
+    None
+}

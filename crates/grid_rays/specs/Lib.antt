@@ -1,0 +1,6 @@
+pub mod Segments
+pub mod Drawn
+pub mod Rays
+pub mod Steps
+pub mod Along
+pub mod Sight
