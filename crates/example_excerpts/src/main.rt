@@ -3,7 +3,7 @@
 #![tactic(auto)]
 
 use anyhow::{Result, bail};
-use grid::{Command, Grid, GridView, Symmetry, Tally, grid};
+use grid::{Command, Grid, Symmetry, Tally, grid};
 use grid_csv::to_csv;
 use grid_deferred::Deferred;
 use grid_pnm::to_pgm;
@@ -18,22 +18,11 @@ fn ground((row, col): (usize, usize)) -> char {
     }
 }
 
-// Returns the part, where the board has it.
-fn excerpt<'a, T>(
-    board: &'a Grid<T>,
-    at: (usize, usize),
-    size: (usize, usize),
-) -> Result<GridView<'a, T>> {
-    let (rows, cols) = board.size();
-    if rows < size.0 || cols < size.1 || at.0 > rows - size.0 || at.1 > cols - size.1 {
-        bail!("the board has no such part");
-    }
-    Ok(board.part(at, size))
-}
-
 fn print_map<R: Print + AllocGlobal>(rt: &R) -> Result<()> {
     let map = Grid::from_fn(rt.alloc(), 6, 12, ground)?;
-    let part = excerpt(&map, (1, 2), (3, 5))?;
+    let Some(part) = map.get_part((1, 2), (3, 5)) else {
+        bail!("the map has no such part");
+    };
     println!(rt; "the map\n{}", to_text(rt.alloc(), &map, |cell| *cell)?)?;
     println!(rt;
         "a part of it\n{}",
@@ -60,7 +49,9 @@ fn put(cell: &i64, text: &mut String) -> Result<(), AllocError> {
 fn print_sheet<R: Print + AllocGlobal>(rt: &R) -> Result<()> {
     let alloc = rt.alloc();
     let mut sheet = grid!(alloc; [1, 250, 12] [2, -75, 4] [3, 990, 1])?;
-    let columns = excerpt(&sheet, (0, 1), (3, 2))?;
+    let Some(columns) = sheet.get_part((0, 1), (3, 2)) else {
+        bail!("the sheet has no such columns");
+    };
     println!(rt; "two columns\n{}", to_csv(alloc, &columns, put)?)?;
     println!(rt;
         "all rows as columns\n{}",

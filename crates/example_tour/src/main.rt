@@ -17,7 +17,7 @@ fn main(rt: HostRuntime) -> Result<()> {
 
     let seven = board.position(|cell| *cell == 7);
     let near = board.count_neighbors8((1, 1), |cell| 0 < *cell);
-    println!(rt; "7 is at {seven:?}; {near} cells round the middle aren't 0")?;
+    println!(rt; "7 is at {seven:?}; {near} cells around the middle aren't 0")?;
 
     // One generation of Life.
     let live = board.map_ref(|cell| 0 < *cell)?;

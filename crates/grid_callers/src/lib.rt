@@ -13,6 +13,7 @@ pub mod joins;
 pub mod lines;
 pub mod loops;
 pub mod near;
+pub mod pairs;
 pub mod parts;
 pub mod paths;
 pub mod pictures;

@@ -1,6 +1,7 @@
 -- The cells of a board that differ from another's, written one after another: the other becomes the board.
-use Rattle.std.proofs.Common.{◌≡◌, ℕ, zero, suc, ◌*◌, ◌<◌, Bool, true, false, not, IsTrue, Option, Some, None, List, [], ◌∷◌, length, get_or, refl, sym, ◌∙◌, ap, subst, arith, ◌⊎◌, inl, inr, ⊎_elim, slice_get, filter, cond}
-use Rattle.grid.proofs.Common.{slice_get-get_or, row_count, col_count, cell, IsTable, InRange, with_cell, storage, place, positions, same_tables, cell-with_same, cell-with_other, has_place, get-places, get-zip, get-storage, length-storage, IsSize-table}
+use Rattle.std.proofs.Common.{◌≡◌, ℕ, zero, suc, ◌*◌, ◌<◌, Bool, true, false, not, IsTrue, Option, Some, None, List, [], ◌∷◌, length, get_or, refl, sym, ◌∙◌, ap, subst, arith, ◌⊎◌, inl, inr, ⊎_elim, slice_get, slice_index_or, filter, cond}
+use Rattle.grid.proofs.Common.{slice_get-get_or, row_count, col_count, cell, IsTable, InRange, with_cell, storage, place, positions, same_tables, cell-with_same, cell-with_other, has_place, get-places, get-zip, get-storage, length-storage, IsSize-table, GivesCells, IsCellAt}
+use Rattle.grid.proofs.IndexedIteratorLemmas.{gives_cells_of}
 use Rattle.grid.specs.Prelude.{set_cell, run_rows, step_rows}
 use Rattle.grid_base.proofs.PlacedCellLemmas.{zip_within}
 use Rattle.grid_base.proofs.StorageLemmas.{place_within}
@@ -159,3 +160,36 @@ module _ {T : Type 0} (d : T) (u : List (List T)) (hu : IsTable u) where
     -- written one after another, they make t be u
     pub writes_make : run_rows d (writes (changed_cells same t u)) t ≡ u
     writes_make = written (changed_cells same t u) t (each_kept IsOwn is_new all own_all) near
+
+-- each item that tells where a table differs from another is a position of the table, and the cell there
+module _ {T : Type 0} (u : List (List T)) (hu : IsTable u) where
+  each_get : (P : (ℕ × ℕ) × T → Type 0) (xs : List ((ℕ × ℕ) × T)) (k : ℕ) (d : (ℕ × ℕ) × T) → k < length xs → Each P xs → P (get_or xs k d)
+  each_get P [] k d lt h = absurd (omega (arith, lt))
+  each_get P (x ∷ xs) zero d lt h = h.0
+  each_get P (x ∷ xs) (suc k) d lt h = each_get P xs k d (omega (arith, lt)) h.1
+
+  is_own : (k : ℕ) (p : (ℕ × ℕ) × T) → slice_get (indexed_cells RowMajor u) k ≡ Some p → IsCellAt u p.0 p.1
+  is_own k p e =
+      let m = row_count u in
+      let n = col_count u in
+      let cells = storage RowMajor u in
+      let lt : k < length cells = omega (arith, at_within (indexed_cells RowMajor u) k p e, zip_within (positions RowMajor m n) cells) in
+      let w = has_place RowMajor m n k (omega (arith, lt, length-storage RowMajor u hu)) in
+      let x = get_or cells k p.1 in
+      let found : slice_get cells k ≡ Some x = slice_get-get_or cells k p.1 lt in
+      let there : slice_get (positions RowMajor m n) k ≡ Some (w.r, w.c) =
+      ap (slice_get (positions RowMajor m n)) (sym w.is) ∙ get-places RowMajor m n w.r w.c (IsSize-table u hu) w.lr w.lc in
+      let stored : slice_get cells k ≡ cell u w.r w.c = ap (slice_get cells) (sym w.is) ∙ get-storage RowMajor u w.r w.c hu w.lr w.lc in
+      let both : ◌≡◌ {A = Option ((ℕ × ℕ) × T)} (Some p) (Some ((w.r, w.c), x)) = sym e ∙ get-zip (positions RowMajor m n) cells k (w.r, w.c) x there found in
+      let is : ◌≡◌ {A = (ℕ × ℕ) × T} p ((w.r, w.c), x) = cc both in
+      subst (λ (z : (ℕ × ℕ) × T). IsCellAt u z.0 z.1) (sym is) ((w.lr, w.lc), sym stored ∙ found)
+
+  pub gives_changes : (same : T → T → Bool) (t : List (List T)) (s : List ((ℕ × ℕ) × T)) → s ≡ changed_cells same t u → GivesCells u s
+  gives_changes same t s is = gives_cells_of u (changed_cells same t u) each s is
+    where
+      each : (k : ℕ) (x : (ℕ × ℕ) × T) → k < length (changed_cells same t u) → x ≡ slice_index_or (changed_cells same t u) k x → IsCellAt u x.0 x.1
+      each k x lt e =
+          subst (λ (z : (ℕ × ℕ) × T). IsCellAt u z.0 z.1) (sym e)
+          (each_get (λ z. IsCellAt u z.0 z.1) (changed_cells same t u) k x lt
+          (each_kept (λ z. IsCellAt u z.0 z.1) (λ p. not (is_cell same (cell t (p.0).0 (p.0).1) p.1)) (indexed_cells RowMajor u)
+          (each_at (λ z. IsCellAt u z.0 z.1) (indexed_cells RowMajor u) is_own)))

@@ -1,7 +1,7 @@
 //! The cells in which one board differs from another.
 ghost use Rattle.std.specs.Prelude.{◌≡◌, map, IfOk};
 ghost use Rattle.std.specs.Iterator.{YieldsFirstBy, item_count};
-ghost use Rattle.grid.specs.Prelude.{row_count, col_count, cell, ClonesAreEqual, command_value, run_rows};
+ghost use Rattle.grid.specs.Prelude.{row_count, col_count, cell, GivesCells, ClonesAreEqual, command_value, run_rows};
 ghost use Rattle.grid_changes.specs.Differences.{is_cell, changed_cells, writes, SameAreEqual};
 
 use grid::{Command, GridView, ViewIndexedIter};
@@ -34,7 +34,8 @@ impl<'a, T: PartialEq> Model for ChangeIter<'a, T> {
 ///
 /// Cost: constant; no memory. The iterator compares each cell of `new` once.
 pub fn changes<'a, T: PartialEq>(old: &GridView<'a, T>, new: &GridView<'a, T>) -> ChangeIter<'a, T>
-    ensures { result ≡ changed_cells T.eq old.now.rows new.now.rows }
+    ensures cells { result ≡ changed_cells T.eq old.now.rows new.now.rows }
+    ensures gives { GivesCells new.now.rows result }
 {
     ChangeIter {
         old: old.view(),

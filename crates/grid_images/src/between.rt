@@ -10,7 +10,7 @@ use grid_view::GridView;
 ///
 ///     [[1, 2], [3, 4]]   symmetry_between(it, [[2, 4], [1, 3]])   Some(RotateLeft)
 ///
-/// Cost: eight comparisons of boards by `==`; no memory.
+/// Cost: at most eight comparisons of boards by `==`; no memory.
 pub fn symmetry_between<T: PartialEq>(
     board: &GridView<'_, T>,
     other: &GridView<'_, T>,

@@ -18,6 +18,7 @@ pub fn symmetries<T: Eq>(board: &GridView<'_, T>) -> SymmetrySet
     ensures each { (s : Symmetry)
         → Contains result s ↔ IsTrue (takes T.eq board.now.rows board.now.rows s) }
     ensures group { IsGroup result }
+    ensures some { 0 < length result }
 {
     let mut fixing = SymmetrySet::new();
     fixing.push(Symmetry::Identity);
@@ -42,6 +43,7 @@ pub fn images<T: Eq>(board: &GridView<'_, T>) -> SymmetrySet
     ensures members { result ≡ first_images T.eq board.now.rows }
     ensures each { GivesEachImageOnce T.eq board.now.rows result }
     ensures count { length result * length (fixing T.eq board.now.rows) ≡ 8 }
+    ensures some { 0 < length result }
 {
     let mut found = SymmetrySet::new();
     for i in 0..8usize {
@@ -52,7 +54,7 @@ pub fn images<T: Eq>(board: &GridView<'_, T>) -> SymmetrySet
     found
 }
 
-// Whether one of the first `i` symmetries gives the same image as the one behind them.
+// Whether one of the first `i` symmetries gives the same image as the one after them.
 fn comes_before<T: PartialEq>(board: &GridView<'_, T>, i: usize) -> bool
     requires { i < 8 }
     ensures { result ≡ list_any

@@ -1,16 +1,18 @@
 -- Parts of a table, row by row, and the iterator over them.
-use Rattle.std.proofs.Common.{ext_get_or, drop-drop, length-drop, mod-lt, ◌≡◌, ℕ, ◌+◌, ◌-◌, ◌*◌, ◌/◌, ◌%◌, ◌^◌, ◌<◌, ◌≤◌, min, List, [], ◌∷◌, length, get_or, drop, Option, None, Some, refl, sym, ◌∙◌, ap, arith, ⊎_elim, mul-le-mul_right, slice_get, MatchOption}
+use Rattle.std.proofs.Common.{ext_get_or, drop-drop, length-drop, mod-lt, ◌≡◌, ℕ, ◌+◌, ◌-◌, ◌*◌, ◌/◌, ◌%◌, ◌^◌, ◌<◌, ◌≤◌, min, List, [], ◌∷◌, length, get_or, drop, Option, None, Some, refl, sym, ◌∙◌, ap, arith, ⊎_elim, mul-le-mul_right, slice_get, slice_index_or, subst, MatchOption}
 use Rattle.std.proofs.lemmas.List.FromFn.{get_or-map-range_with_len, length-map-range_with_len}
 use Rattle.std.proofs.lemmas.Grind.{div_ceil_times}
 use Rattle.std.proofs.lemmas.Nat.{div_below}
 use Rattle.std.specs.Int.{div_ceil}
 use Rattle.std.specs.Iterator.{YieldsFirstBy, YieldsLastBy}
-use Rattle.grid_base.proofs.Common.{cases_lt, mul-le, from_front, from_back, row_count, col_count, remaining}
+use Rattle.std.specs.Iterator.Runs.{EachRunFrom, AllItems}
+use Rattle.grid_base.proofs.Common.{cases_lt, mul-le, from_front, from_back, row_count, col_count, cell, remaining, at_some, at-is, slice_get_within, IsTable}
+use Rattle.grid_base.proofs.TableLemmas.{rows-tabulate, cols-tabulate, IsFull-cells}
 use Rattle.grid_base.proofs.StorageLemmas.{get-drop}
 use Rattle.grid_base.proofs.RemainingLemmas.{remaining_all}
 use Rattle.grid_view.specs.Value.{ViewValue}
 use Rattle.grid_view.specs.View.{sub_table}
-use Rattle.grid_pairs.specs.Parts.{in_turn, part_of, parts_at, tiles, windows, ArePartsLeft, PartsInOrder, PartsInReverse, GivesParts}
+use Rattle.grid_pairs.specs.Parts.{in_turn, part_of, parts_at, tiles, windows, ArePartsLeft, PartsInOrder, PartsInReverse, GivesParts, GivesSize, GivesUpTo}
 
 module _ {X : Type 0} (p q : ℕ) (f : ℕ → ℕ → X) where
   pub length-in_turn : length (in_turn p q f) ≡ p * q
@@ -118,3 +120,46 @@ nth_part_found view n xs mid rest None e h =
 nth_part_found view n xs mid rest (Some x) e h =
     let l : view x ∷ rest ≡ drop n xs = sym h ∙ e in
     (sym (ap (λ l. slice_get l 0) l ∙ get-drop n xs n 0 (omega arith)), ap (drop 1) l ∙ drop-drop 1 n xs)
+
+-- the size of a part within a table
+pub size_of_part : {T : Type 0} (t : List (List T)) (i j h w : ℕ) → IsTable t → 0 < h → 0 < w → i + h ≤ row_count t → j + w ≤ col_count t → (row_count (sub_table t (i, j) (h, w)) ≡ h) × (col_count (sub_table t (i, j) (h, w)) ≡ w)
+size_of_part t i j h w table tall wide down across = (
+  rows-tabulate h w (λ r c. cell t (i + r) (j + c)),
+  cols-tabulate h w (λ r c. cell t (i + r) (j + c)) (record { has_cols = λ a. wide; has_rows = λ a. tall }) (record { full = λ r c lr lc. (IsFull-cells t table).full (i + r) (j + c) (omega (arith, down, lr)) (omega (arith, across, lc)) }),
+)
+
+-- what holds of the part of each row and column holds of each part that an iterator gives
+module _ {T : Type 0} (P : List (List T) → Type 0) (p q : ℕ) (f : ℕ → ℕ → List (List T)) (each : (i j : ℕ) → i < p → j < q → P (f i j)) where
+  part_at : (k : ℕ) (x : List (List T)) → k < length (in_turn p q f) → x ≡ slice_index_or (in_turn p q f) k x → P x
+  part_at k x l is =
+      let lt : k < p * q = omega (arith, length-in_turn p q f, l) in
+      let some : 0 < q = ⊎_elim {C = 0 < q} (λ some. some)
+      (λ none. let e : q ≡ 0 = omega (arith, none) in let z : p * q ≡ 0 = ap (λ x. p * x) e ∙ omega arith in absurd (omega (arith, lt, z)))
+      (cases_lt 0 q) in
+      subst P (sym (is ∙ get_in_turn p q f k x lt)) (each (k / q) (k % q) (div_below k q p some lt) (mod-lt k some))
+
+  pub each_part : (it : List (List (List T))) → it ≡ in_turn p q f → EachRunFrom (YieldsFirstBy (λ (part : ViewValue T). part.rows) (λ rest. rest)) it (λ r. AllItems r (λ part. P part.rows))
+  each_part it is r g from k =
+      let maps = parts_in_order r g in
+      let cut : r.from ≡ in_turn p q f = from ∙ is in
+      at_some (r.at k) _ (λ x there.
+      let inside : k < r.len = omega (arith, r.long, slice_get_within r.items k x (sym (at-is r k) ∙ there)) in
+      let at : x.rows ≡ slice_index_or r.from k x.rows = subst (λ z. MatchOption z (Unit {0}) (λ y. y.rows ≡ slice_index_or r.from k y.rows)) there (maps.8 k) in
+      part_at k x.rows (omega (arith, maps.0, ap length cut)) (at ∙ ap (λ l. slice_index_or l k x.rows) cut))
+
+module _ {T : Type 0} (t s : List (List T)) (h w down across : ℕ) (tall : 0 < h) (wide : 0 < w) (below : row_count t * col_count t < 2 ^ 64) (same : s ≡ t) (table : IsTable t) where
+  pub windows_size : down ≡ row_count t + 1 - h → across ≡ col_count t + 1 - w → GivesSize h w (remaining 0 (down * across) (parts_at s (1, 1) (h, w) (down, across)))
+  windows_size ed ea =
+      each_part (λ u. (row_count u ≡ h) × (col_count u ≡ w)) (row_count t + 1 - h) (col_count t + 1 - w) (λ i j. sub_table t (i, j) (h, w))
+      (λ i j li lj. size_of_part t i j h w table tall wide (omega (arith, li)) (omega (arith, lj)))
+      _ (gives_windows t s h w down across tall wide below same ed ea).0
+
+  pub tiles_size : down ≡ div_ceil (row_count t) h → across ≡ div_ceil (col_count t) w → GivesUpTo h w (remaining 0 (down * across) (parts_at s (h, w) (h, w) (down, across)))
+  tiles_size ed ea =
+      each_part (λ u. (0 < row_count u) × (row_count u ≤ h) × (0 < col_count u) × (col_count u ≤ w)) (div_ceil (row_count t) h) (div_ceil (col_count t) w) (λ i j. part_of t (i * h, j * w) (h, w))
+      (λ i j li lj.
+      let bi = tile_begins (row_count t) h i tall li in
+      let bj = tile_begins (col_count t) w j wide lj in
+      let z = size_of_part t (i * h) (j * w) (min h (row_count t - i * h)) (min w (col_count t - j * w)) table (omega (arith, bi, tall)) (omega (arith, bj, wide)) (omega (arith, bi)) (omega (arith, bj)) in
+      (omega (arith, z.0, bi, tall), omega (arith, z.0), omega (arith, z.1, bj, wide), omega (arith, z.1)))
+      _ (gives_tiles t s h w down across tall wide below same ed ea).0

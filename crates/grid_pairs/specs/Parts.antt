@@ -1,8 +1,8 @@
 -- The tiles and the windows of a table, row by row.
-use Rattle.std.specs.Prelude.{◌≡◌, ℕ, ◌+◌, ◌-◌, ◌*◌, ◌/◌, ◌%◌, ◌^◌, ◌<◌, min, List, length, map}
+use Rattle.std.specs.Prelude.{◌≡◌, ℕ, ◌+◌, ◌-◌, ◌*◌, ◌/◌, ◌%◌, ◌^◌, ◌<◌, ◌≤◌, min, List, length, map}
 use Rattle.std.specs.Int.{div_ceil}
 use Rattle.std.specs.Iterator.{YieldsFirstBy, YieldsLastBy}
-use Rattle.std.specs.Iterator.Runs.{EveryRun, ItemsMapTo, ItemsMapToReversed}
+use Rattle.std.specs.Iterator.Runs.{EveryRun, EachRunFrom, AllItems, ItemsMapTo, ItemsMapToReversed}
 use Rattle.std.specs.List.{range_with_len}
 use Rattle.grid_base.specs.Table.{row_count, col_count}
 use Rattle.grid_base.specs.Remaining.{IsRemaining}
@@ -59,3 +59,14 @@ module _ (T : Type 0) where
 -- an iterator over parts gives these, whose number fits a `usize`
 abbrev pub GivesParts : {T : Type 0} → List (List (List T)) → List (List (List T)) → Type 0
 GivesParts {T} parts it = (it ≡ parts) × PartsInOrder T × PartsInReverse T × (length it < 2 ^ 64)
+
+-- each part that an iterator gives has h rows and w columns
+abbrev pub GivesSize : {T : Type 0} → ℕ → ℕ → List (List (List T)) → Type 0
+GivesSize {T} h w it = EachRunFrom (YieldsFirstBy (λ (part : ViewValue T). part.rows) (λ rest. rest)) it
+    (λ p. AllItems p (λ part. (row_count part.rows ≡ h) × (col_count part.rows ≡ w)))
+
+-- each part that an iterator gives has cells, in at most h rows and w columns
+abbrev pub GivesUpTo : {T : Type 0} → ℕ → ℕ → List (List (List T)) → Type 0
+GivesUpTo {T} h w it = EachRunFrom (YieldsFirstBy (λ (part : ViewValue T). part.rows) (λ rest. rest)) it
+    (λ p. AllItems p (λ part. (0 < row_count part.rows) × (row_count part.rows ≤ h)
+    × (0 < col_count part.rows) × (col_count part.rows ≤ w)))

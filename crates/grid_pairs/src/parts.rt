@@ -2,7 +2,7 @@
 ghost use Rattle.std.specs.Prelude.{◌≡◌, ◌+◌, ◌-◌, ◌*◌, ◌/◌, ◌%◌, ◌^◌, ◌<◌, ◌≤◌, ⊤, length, drop, slice_get, IfSome, MatchOption, Some};
 ghost use Rattle.std.specs.Iterator.{YieldsFirstBy, YieldsLastBy, item_count, UpTo, at_most};
 ghost use Rattle.std.specs.Iterator.SizeHint.{IsWithinCount};
-ghost use Rattle.grid_pairs.specs.Prelude.{row_count, col_count, tiles, windows, GivesParts};
+ghost use Rattle.grid_pairs.specs.Prelude.{row_count, col_count, tiles, windows, GivesParts, GivesSize, GivesUpTo};
 ghost use Rattle.grid_pairs.specs.Parts.{part_of, parts_at};
 
 use grid_view::{AsView, GridView};
@@ -22,6 +22,7 @@ pub fn tiles<'a, T, V: AsView<T>>(board: &'a V, rows: usize, cols: usize) -> Par
     requires tall { 0 < rows }
     requires wide { 0 < cols }
     ensures gives { GivesParts (tiles (V.rows board.now) rows cols) result }
+    ensures sizes { GivesUpTo rows cols result }
 {
     let board = board.as_view();
     let (row_count, col_count) = board.size();
@@ -46,6 +47,7 @@ pub fn windows<'a, T, V: AsView<T>>(board: &'a V, rows: usize, cols: usize) -> P
     requires tall { 0 < rows }
     requires wide { 0 < cols }
     ensures gives { GivesParts (windows (V.rows board.now) rows cols) result }
+    ensures sizes { GivesSize rows cols result }
 {
     let board = board.as_view();
     let (row_count, col_count) = board.size();

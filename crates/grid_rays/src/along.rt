@@ -1,5 +1,5 @@
 //! What is found along a ray: the first cell that passes a test, cells alike, and rows of them.
-ghost use Rattle.std.specs.Prelude.{◌≡◌, ◌↔◌, ◌<◌, IsTrue};
+ghost use Rattle.std.specs.Prelude.{◌≡◌, ◌↔◌, ◌^◌, ◌<◌, IsTrue};
 ghost use Rattle.grid.specs.Prelude.{CallableAtCells, InRange};
 ghost use Rattle.grid_rays.specs.Along.{FoundAlong, AreAlikeAlong, HasRun, HasRunAlong};
 
@@ -43,7 +43,8 @@ pub fn alike_along<T: PartialEq, A: Allocator>(
     at: (usize, usize),
     way: Direction,
 ) -> usize
-    ensures { AreAlikeAlong T.eq grid.now.rows at way result }
+    ensures alike { AreAlikeAlong T.eq grid.now.rows at way result }
+    ensures small { result < 2 ^ 63 }
 {
     let Some(here) = grid.get_at(at) else {
         return 0;

@@ -50,7 +50,7 @@ impl<'a, T> Model for RayIter<'a, T> {
 pub fn ray<T, A: Allocator>(grid: &Grid<T, A>, at: (usize, usize), way: Direction) -> RayIter<'_, T>
     ensures gives { GivesRay grid.now.rows way at result }
     ensures ray { IsRay grid.now.rows way at result }
-    ensures fits { length result < 2 ^ 64 }
+    ensures small { length result < 2 ^ 63 }
 {
     RayIter {
         view: grid.view(),

@@ -1,5 +1,5 @@
 //! The positions of a straight line between two.
-ghost use Rattle.std.specs.Prelude.{◌≡◌, ◌+◌, ◌-◌, ◌*◌, ◌/◌, ◌^◌, ◌<◌, ◌≤◌, ⊤, length, IfSome, Some};
+ghost use Rattle.std.specs.Prelude.{◌≡◌, ◌+◌, ◌-◌, ◌*◌, ◌/◌, ◌^◌, ◌<◌, ◌≤◌, ⊤, length, IfSome, None, Some};
 ghost use Rattle.std.specs.Int.{abs_diff};
 ghost use Rattle.std.specs.Iterator.{YieldsFirst, item_count, UpTo, at_most};
 ghost use Rattle.std.specs.Iterator.SizeHint.{IsWithinCount};
@@ -65,7 +65,8 @@ impl Course {
     }
 }
 
-/// An iterator over the positions of a line, from the first to the last, seen as the list of those that remain.
+/// An iterator over the positions of a line, from the first to the last, seen as the list of those that remain. There can be
+/// 2^64, so it has no `len`.
 #[derive(Drop)]
 pub struct SegmentIter {
     rows: Course,
@@ -141,6 +142,7 @@ impl Iterator for SegmentIter {
         ensures upper { IfSome result.1 (UpTo (at_most (length self.now))) }
         ensures exact { length self.now < 2 ^ 64
             → result ≡ (length self.now, Some (length self.now)) }
+        ensures longest { 2 ^ 64 ≤ length self.now → result ≡ (2 ^ 64 - 1, None) }
     {
         if self.ended {
             return (0, Some(0));

@@ -1,5 +1,5 @@
 //! How far it is to the edge.
-ghost use Rattle.std.specs.Prelude.{◌≡◌, ◌+◌, ◌<◌, ◌≤◌, ℕ};
+ghost use Rattle.std.specs.Prelude.{◌≡◌, ◌+◌, ◌^◌, ◌<◌, ◌≤◌, ℕ};
 ghost use Rattle.grid_near.specs.Directions.{box_of, IsWithin};
 ghost use Rattle.grid_rays.specs.Steps.{HasSteps, Reaches};
 
@@ -27,6 +27,7 @@ pub(crate) fn steps_to_edge(size: (usize, usize), at: (usize, usize), way: Direc
     ensures beyond { IsWithin size at → (k : ℕ) → result < k → Reaches size (box_of way) at k → ⊥ }
     ensures within { 0 < result → IsWithin size at }
     ensures few { result ≤ size.0 + size.1 }
+    ensures small { size.0 < 2 ^ 63 → size.1 < 2 ^ 63 → result < 2 ^ 63 }
 {
     if at.0 >= size.0 || at.1 >= size.1 {
         return 0;

@@ -1,9 +1,10 @@
 //! Boards written as text.
-ghost use Rattle.std.specs.Prelude.{◌≡◌, ◌++◌, ℕ, map, IfOk, OnOk, string_bytes};
+ghost use Rattle.std.specs.Prelude.{◌≡◌, ◌++◌, ◌<◌, ℕ, map, IfOk, OnOk, string_bytes};
+ghost use Rattle.grid_base.specs.Table.{row, row_count};
 ghost use Rattle.grid_text.specs.Prelude.{numbers, WritesBy, AnswersCell, MayWriteLine, MayWriteRows, table_text, line_of_numbers, numbers_text};
 
 use grid::Whole;
-use grid_view::{AsView, ViewLineIter};
+use grid_view::{AsView, GridView, ViewLineIter};
 use std::alloc::{AllocError, Global};
 
 /// Returns a text of a grid or of a view: a line for each row, and in it the character that `write` says for each cell.
@@ -24,16 +25,52 @@ pub fn to_text<T, V: AsView<T>, F: Fn(&T) -> char>(
     ensures answers { IfOk result (λ text.
         MayWriteRows (AnswersCell F.post write) (V.rows board.now) (string_bytes text)) }
 {
+    let view = board.as_view();
     let mut text = String::new(alloc);
-    for row in board.as_view().iter_rows() {
-        push_row(&mut text, row, &write)?;
+    for r in 0..view.rows() {
+        push_row(&mut text, &view, r, &write)?;
         text.push('\n')?;
     }
     Ok(text)
 }
 
-// Adds the characters of a row.
+// Adds the characters of row `r`: of its slice, where it has one, in a loop that tests nothing else.
 fn push_row<T, F: Fn(&T) -> char>(
+    text: &mut String,
+    view: &GridView<'_, T>,
+    r: usize,
+    write: &F,
+) -> Result<(), AllocError>
+    requires row_in { r < row_count view.now.rows }
+    requires calls { F.IsAlwaysCallable write.now }
+    ensures { OnOk result ((line : _)
+        × MayWriteLine (AnswersCell F.post write.now) (row view.now.rows r) line
+        × (string_bytes text.new ≡ string_bytes text.old ++ line)) }
+{
+    match view.row_slice(r) {
+        Some(cells) => push_stored(text, cells, write),
+        None => push_seen(text, view.iter_row(r), write),
+    }
+}
+
+// Adds the characters of the cells of a slice.
+fn push_stored<T, F: Fn(&T) -> char>(
+    text: &mut String,
+    cells: &[T],
+    write: &F,
+) -> Result<(), AllocError>
+    requires { F.IsAlwaysCallable write.now }
+    ensures { OnOk result ((line : _) × MayWriteLine (AnswersCell F.post write.now) cells.now line
+        × (string_bytes text.new ≡ string_bytes text.old ++ line)) }
+{
+    for cell in cells {
+        text.push(write(cell))?;
+    }
+    Ok(())
+}
+
+// Adds the characters of a row.
+fn push_seen<T, F: Fn(&T) -> char>(
     text: &mut String,
     row: ViewLineIter<'_, T>,
     write: &F,

@@ -1,4 +1,5 @@
-//! Iterators for writing, on all small boards in both orders: what they write, and that nothing else changes. No clause says
+//! Iterators for writing, on all small boards and some larger ones in both orders: what they write, also where they are
+//! dropped early, and that nothing else changes. No clause says
 //! what a board holds after a loop that wrote through one.
 use grid::{Grid, Order};
 use std::alloc::Global;
@@ -6,15 +7,29 @@ use std::process::Abort;
 use std::test::Fail;
 use test_support::fixtures::{ORDERS, SIZES};
 
-// The number at a position.
+// Boards whose lines across the storage have several cells of other lines between theirs, and long ones.
+const LARGER: [(usize, usize); 3] = [(5, 8), (1, 40), (40, 1)];
+
+// How many cells of a line are written: some, or all.
+const COUNTS: [usize; 5] = [0, 1, 2, 3, 50];
+
+// The number at a position, another at each.
 fn number((row, col): (usize, usize)) -> u32 {
-    (row % 10 * 10 + col % 10) as u32
+    (row % 50 * 50 + col % 50) as u32
 }
 
 // The number at a position once the first `rows` rows and the first `cols` columns are written, `count` cells of each.
 fn written(at: (usize, usize), (rows, cols): (usize, usize), count: usize) -> u32 {
-    let by_row = if at.0 < rows && at.1 < count { 100 } else { 0 };
-    let by_col = if at.1 < cols && at.0 < count { 1000 } else { 0 };
+    let by_row = if at.0 < rows && at.1 < count {
+        10_000
+    } else {
+        0
+    };
+    let by_col = if at.1 < cols && at.0 < count {
+        1_000_000
+    } else {
+        0
+    };
     number(at).wrapping_add(by_row).wrapping_add(by_col)
 }
 
@@ -30,20 +45,20 @@ fn holds(grid: &Grid<u32>, size: (usize, usize), lines: (usize, usize), count: u
     grid.size() == size
 }
 
-// Adds 100 to the first `count` cells of a row.
+// Adds 10,000 to the first `count` cells of a row.
 fn write_row(grid: &mut Grid<u32>, row: usize, count: usize) {
     if row < grid.rows() {
         for cell in grid.iter_row_mut(row).take(count) {
-            *cell = cell.wrapping_add(100);
+            *cell = cell.wrapping_add(10_000);
         }
     }
 }
 
-// Adds 1000 to the first `count` cells of a column.
+// Adds 1,000,000 to the first `count` cells of a column.
 fn write_col(grid: &mut Grid<u32>, col: usize, count: usize) {
     if col < grid.cols() {
         for cell in grid.iter_col_mut(col).take(count) {
-            *cell = cell.wrapping_add(1000);
+            *cell = cell.wrapping_add(1_000_000);
         }
     }
 }
@@ -83,7 +98,7 @@ fn are_numbered(grid: &mut Grid<u32>) -> bool {
 }
 
 fn check(rt: &impl Abort, alloc: Global, size: (usize, usize), order: Order) -> Result<(), Fail> {
-    for count in 0..4 {
+    for count in COUNTS {
         let mut grid = Grid::from_fn_with_order(alloc, size.0, size.1, order, |at| number(at))?;
         let lines = are_written(&mut grid, size, count);
         let all = are_numbered(&mut grid);
@@ -96,12 +111,20 @@ fn check(rt: &impl Abort, alloc: Global, size: (usize, usize), order: Order) -> 
     Ok(())
 }
 
+fn check_orders(rt: &impl Abort, alloc: Global, size: (usize, usize)) -> Result<(), Fail> {
+    for order in ORDERS {
+        check(rt, alloc, size, order)?;
+    }
+    Ok(())
+}
+
 #[test]
 fn writes_nothing_else(rt: HostRuntime) -> Result<(), Fail> {
     for size in SIZES {
-        for order in ORDERS {
-            check(&rt, rt.alloc(), size, order)?;
-        }
+        check_orders(&rt, rt.alloc(), size)?;
+    }
+    for size in LARGER {
+        check_orders(&rt, rt.alloc(), size)?;
     }
     Ok(())
 }

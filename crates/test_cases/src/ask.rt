@@ -89,13 +89,18 @@ impl<'a> Ask<'a> {
 
     /// Returns a word as a symmetry.
     pub fn symmetry(&self, at: usize) -> Symmetry {
-        match self.word(at) {
-            "Identity" => Symmetry::Identity,
-            word => match move_of(word) {
-                Some(step) => Symmetry::of(step),
-                None => Symmetry::AntiTranspose,
-            },
-        }
+        symmetry_of(self.word(at))
+    }
+}
+
+/// Returns the symmetry of this name.
+pub fn symmetry_of(word: &str) -> Symmetry {
+    match word {
+        "Identity" => Symmetry::Identity,
+        word => match move_of(word) {
+            Some(step) => Symmetry::of(step),
+            None => Symmetry::AntiTranspose,
+        },
     }
 }
 

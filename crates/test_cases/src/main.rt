@@ -84,13 +84,16 @@ fn run_section<R: Print + Files + AllocGlobal>(
     Ok(as_expected == all)
 }
 
-// The same of each section that is named.
+// The same of each section that is named. Prints how many lines end in a carriage return too: an editor that strips them
+// would leave the cases as expected.
 fn run<R: Print + Files + AllocGlobal>(rt: &R, sections: &str) -> anyhow::Result<bool> {
-    let mut all_expected = true;
+    let (mut all_expected, mut returns) = (true, 0u64);
     for section in sections.lines() {
         let cases = read(rt, section)?;
+        returns = returns.saturating_add(cases.matches("\r\n").count() as u64);
         all_expected = run_section(rt, section, cases.as_str())? && all_expected;
     }
+    println!(rt; "{returns} lines end in a carriage return")?;
     Ok(all_expected)
 }
 

@@ -117,7 +117,8 @@ fn joined<'a>(start: &'a Start, board: &Board<'a>) -> Answer {
     } else {
         Order::ColumnMajor
     };
-    came(zip_with(&start.heap, order, board, board, |cell, other| {
+    let other = board.view();
+    came(zip_with(&start.heap, order, board, &other, |cell, other| {
         start.visited(order, cell.value());
         start.cell(cell.value().wrapping_add(other.value()))
     }))

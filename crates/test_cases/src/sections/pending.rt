@@ -1,10 +1,10 @@
 //! A board that is seen through a symmetry, which stays pending or is settled.
-use crate::ask::Ask;
+use crate::ask::{Ask, symmetry_of};
 use crate::case::CaseError;
 use crate::shown::{shown, shown_ok, text};
 use grid::{Axis, Command, Grid, Reply, Tally};
 use grid_deferred::{Deferred, carry_reply};
-use std::alloc::Global;
+use std::alloc::{AllocError, Global};
 
 // The cells of a row or a column.
 fn line(alloc: Global, deferred: &Deferred<'_, i64>, ask: Ask<'_>) -> Result<String, CaseError> {
@@ -30,14 +30,45 @@ fn seen(alloc: Global, deferred: &Deferred<'_, i64>, ask: Ask<'_>) -> Result<Str
     }
 }
 
-// What is seen through a symmetry, which isn't applied in the end.
+// Applies the symmetries of the first word, between which a plus sign stands, in turn.
+fn turn(deferred: &mut Deferred<'_, i64>, ask: Ask<'_>) -> Result<(), AllocError> {
+    for name in ask.word(0).split('+') {
+        deferred.step(Command::Apply(symmetry_of(name)), &mut Tally::new())?;
+    }
+    Ok(())
+}
+
+// The reply to a command, and the symmetry that is pending after it.
+fn stepped(
+    alloc: Global,
+    deferred: &mut Deferred<'_, i64>,
+    command: Command<i64>,
+) -> Result<String, CaseError> {
+    let reply = deferred.step(command, &mut Tally::new())?;
+    Ok(format!(in alloc; "{reply:?}, {:?} is pending", deferred.pending())?)
+}
+
+// What is seen through a symmetry, or what a command replies.
+fn seen_or_stepped(
+    alloc: Global,
+    deferred: &mut Deferred<'_, i64>,
+    ask: Ask<'_>,
+) -> Result<String, CaseError> {
+    match ask.call {
+        "step_push_row" => stepped(alloc, deferred, Command::PushRow(ask.line(alloc)?)),
+        "step_row" => stepped(alloc, deferred, Command::Row(ask.number(1))),
+        _ => seen(alloc, deferred, ask),
+    }
+}
+
+// The same of a board whose symmetry isn't applied in the end.
 fn released(alloc: Global, board: &mut Grid<i64>, ask: Ask<'_>) -> Result<String, CaseError> {
     let mut deferred = Deferred::over(board);
-    let turned = deferred.step(Command::Apply(ask.symmetry(0)), &mut Tally::new());
-    let text = seen(alloc, &deferred, ask);
+    let turned = turn(&mut deferred, ask);
+    let text = seen_or_stepped(alloc, &mut deferred, ask);
     deferred.release();
     match turned {
-        Ok(_) => text,
+        Ok(()) => text,
         Err(error) => Err(error.into()),
     }
 }

@@ -11,6 +11,6 @@ returns-clause-runs g c =
     let u = c.args.new.now in
     IfOk-weaker c.sets_of.result _ _
     (λ commands are d same equal rows cols.
-    ap (λ xs. run_rows d xs t.rows) (are same ∙ ap writes c.changes.ensures)
+    ap (λ xs. run_rows d xs t.rows) (are same ∙ ap writes c.changes.ensures.cells)
     ∙ writes_make d u.rows u.table g.T.PartialEq.eq t.rows t.table rows cols equal)
     c.sets_of.ensures

@@ -1,4 +1,5 @@
 use Rattle.std.proofs.Common.{◌<◌, ◌∙◌, not, sym, ap, subst, length, ◌*◌, arith}
+use Rattle.grid_base.specs.declared.words.Symmetry.TheVariants.{Identity}
 use Rattle.grid_images.specs.Images.{GivesEachImageOnce, first_images, fixing, is_first}
 use Rattle.grid_images.proofs.OrbitLemmas.{has_room, each_once, orbit_count, kept_more, left_out, all_kept, first_told}
 use Rattle.grid_images.proofs.orbit.images.Goals as goal
@@ -32,3 +33,8 @@ returns-clause-each g c =
 pub returns-clause-count : goal.returns-clause-count
 returns-clause-count g c =
     ap (λ ss. length ss * length (fixing g.T.PartialEq.eq c.args.board.now.rows)) (returns-clause-members g c) ∙ orbit_count g.met.T.Eq.laws c.args.board.now.rows c.args.board.now.table
+
+pub returns-clause-some : goal.returns-clause-some
+returns-clause-some g c =
+    let here = (returns-clause-each g c).each Identity in
+    omega (arith, here.1.1)

@@ -39,3 +39,8 @@ returns-clause-each g c = λ s.
 pub returns-clause-group : goal.returns-clause-group
 returns-clause-group g c =
     subst IsGroup (sym (returns-clause-members g c)) (IsGroup-fixing g.met.T.Eq.laws c.args.board.now.rows c.args.board.now.table)
+
+pub returns-clause-some : goal.returns-clause-some
+returns-clause-some g c =
+    let here = (returns-clause-group g c).identity in
+    omega (arith, here.1)

@@ -15,8 +15,8 @@ loop-cell-init g c =
     let is = subst (IsRay t c.args.way c.args.at) gives c.ray-cell-items.ensures.ray in
     (tt, tt, IsCounting-start t c.args.way c.args.at (ray t c.args.way c.args.at) is g.T.PartialEq.eq c.in-Some.here.now (sym c.in-Some.ensures.cell) c.into_iter-cell-iterator.result (c.into_iter-cell-iterator.ensures.into_iter_gives ∙ gives))
 
-pub returns-then-ne : goal.returns-then-ne
-returns-then-ne g c =
+pub returns-then-ne-clause-alike : goal.returns-then-ne-clause-alike
+returns-then-ne-clause-alike g c =
     let t = c.args.grid.now.rows in
     let is = subst (IsRay t c.args.way c.args.at) c.ray-cell-items.ensures.gives.0 c.ray-cell-items.ensures.ray in
     IsCounting-stop t c.args.way c.args.at (ray t c.args.way c.args.at) is g.T.PartialEq.eq c.in-Some.here.now (sym c.in-Some.ensures.cell) c.args.grid.now.table c.loop-cell.cell-iterator c.next.new.self c.in-Some-2.field-0-0 c.in-Some-2.cell.now c.in-Some-2.ensures.steps c.loop-cell.count c.loop-cell.invariant.2 (λ e. false≢true (sym (c.if-ne.ensures ∙ ap not e)))
@@ -33,10 +33,18 @@ loop-cell-preserved g c = (tt, tt, counted g c)
 pub overflow_add-count : goal.overflow_add-count
 overflow_add-count g c =
     let made = counted g c in
-    omega (arith, made.few, ap length c.ray-cell-items.ensures.gives.0, c.ray-cell-items.ensures.fits)
+    omega (arith, made.few, ap length c.ray-cell-items.ensures.gives.0, c.ray-cell-items.ensures.small)
 
-pub returns : goal.returns
-returns g c =
+pub returns-clause-alike : goal.returns-clause-alike
+returns-clause-alike g c =
     let t = c.args.grid.now.rows in
     let is = subst (IsRay t c.args.way c.args.at) c.ray-cell-items.ensures.gives.0 c.ray-cell-items.ensures.ray in
     IsCounting-end t c.args.way c.args.at (ray t c.args.way c.args.at) is g.T.PartialEq.eq c.in-Some.here.now (sym c.in-Some.ensures.cell) c.args.grid.now.table c.loop-cell.cell-iterator c.loop-cell.count c.loop-cell.invariant.2 c.in-None.ensures.steps.0
+
+pub returns-then-ne-clause-small : goal.returns-then-ne-clause-small
+returns-then-ne-clause-small g c =
+    omega (arith, c.loop-cell.invariant.2.few, ap length c.ray-cell-items.ensures.gives.0, c.ray-cell-items.ensures.small)
+
+pub returns-clause-small : goal.returns-clause-small
+returns-clause-small g c =
+    omega (arith, c.loop-cell.invariant.2.few, ap length c.ray-cell-items.ensures.gives.0, c.ray-cell-items.ensures.small)

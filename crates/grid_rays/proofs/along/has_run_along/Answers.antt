@@ -11,6 +11,6 @@ returns g c =
     let opposite = AreOpposite-beside c.args.way back c.opposite.ensures in
     let ahead = c.alike_along-ahead.result in
     let behind = c.alike_along-behind.result in (
-      λ e. run_there eq t c.args.at c.args.way back opposite ahead behind c.alike_along-ahead.ensures c.alike_along-behind.ensures c.args.n c.requires.inside c.requires.some (omega (arith, leb-true c.args.n c.saturating_add-2.result e)),
-      λ h. le-leb c.args.n c.saturating_add-2.result (omega (arith, run_fits eq t c.args.at c.args.way back opposite ahead behind c.alike_along-ahead.ensures c.alike_along-behind.ensures h.0 c.args.n h.1 h.2)),
+      λ e. run_there eq t c.args.at c.args.way back opposite ahead behind c.alike_along-ahead.ensures.alike c.alike_along-behind.ensures.alike c.args.n c.requires.inside c.requires.some (omega (arith, leb-true c.args.n c.saturating_add-2.result e)),
+      λ h. le-leb c.args.n c.saturating_add-2.result (omega (arith, run_fits eq t c.args.at c.args.way back opposite ahead behind c.alike_along-ahead.ensures.alike c.alike_along-behind.ensures.alike h.0 c.args.n h.1 h.2)),
     )

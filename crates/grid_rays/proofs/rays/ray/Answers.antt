@@ -26,10 +26,10 @@ returns-clause-ray g c =
     let beyond = beyond_size c.size.result (box_of c.args.way) c.args.at (row_count t) (col_count t) size.rows size.cols left edge.beyond in
     rw (c.view.ensures, c.step_of.ensures) (IsRay-cells t c.args.grid.now.table c.args.way c.args.at left steps (λ some. let in_size = edge.within some in (omega (arith, in_size.0, size.rows), omega (arith, in_size.1, size.cols))) beyond)
 
-pub returns-clause-fits : goal.returns-clause-fits
-returns-clause-fits g c =
+pub returns-clause-small : goal.returns-clause-small
+returns-clause-small g c =
     let t = c.args.grid.now.rows in
     let left = c.steps_to_edge.result in
     let size = c.size.ensures in
     let steps = HasSteps-size c.size.result (box_of c.args.way) c.args.at (row_count t) (col_count t) size.rows size.cols left c.steps_to_edge.ensures.reaches in
-    rw (c.view.ensures, c.step_of.ensures) (omega (arith, length-cells_ahead t c.args.grid.now.table (box_of c.args.way) c.args.at left steps))
+    rw (c.view.ensures, c.step_of.ensures) (omega (arith, length-cells_ahead t c.args.grid.now.table (box_of c.args.way) c.args.at left steps, c.steps_to_edge.ensures.small size.small.0 size.small.1))

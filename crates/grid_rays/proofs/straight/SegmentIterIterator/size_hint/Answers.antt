@@ -17,3 +17,8 @@ pub returns-clause-exact : goal.returns-clause-exact
 returns-clause-exact c =
     let e : length c.args.self.now ≡ c.self.inside.left + 1 = sym (ap length c.self.view_is) ∙ length-left _ _ _ _ _ c.if-self.false in
     grind (arith, common_steps)
+
+pub returns-clause-longest : goal.returns-clause-longest
+returns-clause-longest c =
+    let e : length c.args.self.now ≡ c.self.inside.left + 1 = sym (ap length c.self.view_is) ∙ length-left _ _ _ _ _ c.if-self.false in
+    grind (arith, common_steps)

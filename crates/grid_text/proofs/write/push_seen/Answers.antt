@@ -2,7 +2,7 @@
 use Rattle.std.proofs.Common.{◌∙◌, [], sym, subst, refl, append-nil, string_bytes}
 use Rattle.grid_text.proofs.Common.{AnswersCell, MayWriteLine}
 use Rattle.grid_text.proofs.Lemmas.{cell_more}
-use Rattle.grid_text.proofs.write.push_row.Goals as goal
+use Rattle.grid_text.proofs.write.push_seen.Goals as goal
 
 pub loop-cell-init : goal.loop-cell-init
 loop-cell-init g c = λ rest m. (rest, subst (λ row. MayWriteLine (AnswersCell (goal.F-post g) c.args.write.now) row rest) c.into_iter-cell-iterator.ensures.into_iter_gives m, refl)

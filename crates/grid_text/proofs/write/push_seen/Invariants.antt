@@ -1,7 +1,7 @@
 -- The cells so far, before those that are left.
 use Rattle.std.proofs.Common.{◌≡◌, ◌++◌, ℕ, List, string_bytes}
 use Rattle.grid_text.proofs.Common.{AnswersCell, MayWriteLine}
-use Rattle.grid_text.proofs.write.push_row.Given as goal
+use Rattle.grid_text.proofs.write.push_seen.Given as goal
 
 abbrev pub invariant-loop-cell : goal.invariant-loop-cell
 invariant-loop-cell g l =

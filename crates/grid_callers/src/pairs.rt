@@ -1,0 +1,67 @@
+//! Two boards at once, the parts of a board in turn, and runs of equal cells.
+use grid::{Direction, Grid, GridView, Order, can_cut};
+use grid_pairs::{tiles, windows, zip_with};
+use grid_rays::alike_along;
+use std::alloc::{AllocError, Global};
+
+/// Returns the higher of two boards at each cell, if they have one size.
+pub fn higher(
+    alloc: Global,
+    before: &Grid<u8>,
+    after: &Grid<u8>,
+) -> Result<Option<Grid<u8>>, AllocError> {
+    if before.size() != after.size() {
+        return Ok(None);
+    }
+    let highest = zip_with(
+        alloc,
+        Order::RowMajor,
+        before,
+        after,
+        |old, new| *old.max(new),
+    )?;
+    Ok(Some(highest))
+}
+
+/// Returns how many windows of two by two have a lower first cell than last. An index in them needs no test.
+pub fn rising(heights: &Grid<u8>) -> usize {
+    let mut count = 0usize;
+    for window in windows(heights, 2, 2) {
+        if window[(0, 0)] < window[(1, 1)] {
+            count = count.saturating_add(1);
+        }
+    }
+    count
+}
+
+/// Returns the first cell of each tile of eight by eight, which has one.
+pub fn corners(alloc: Global, board: &Grid<u8>) -> Result<Vec<u8>, AllocError> {
+    let mut corners = Vec::new(alloc);
+    for tile in tiles(board, 8, 8) {
+        corners.push(tile[(0, 0)])?;
+    }
+    Ok(corners)
+}
+
+fn highest(window: &GridView<'_, u8>) -> u8 {
+    window.iter().copied().max().unwrap_or(0)
+}
+
+/// Returns the highest cell of each window of three by three, as a board, or `None` where it has no columns. What is done with
+/// a window is a function of its own: with its chain inside the closure, the check takes minutes.
+pub fn maxima(alloc: Global, heights: &Grid<u8>) -> Result<Option<Grid<u8>>, AllocError> {
+    let most: Vec<u8> = windows(heights, 3, 3)
+        .map(|window| highest(&window))
+        .collect(alloc)?;
+    let cols = heights.cols().saturating_sub(2);
+    if !can_cut(most.len(), cols) {
+        return Ok(None);
+    }
+    Ok(Some(Grid::from_vec(most, cols)))
+}
+
+/// Returns how many equal cells next to each other the cell at a position is one of, there and back in a direction. The sum
+/// fits.
+pub fn run_through(board: &Grid<char>, at: (usize, usize), way: Direction) -> usize {
+    alike_along(board, at, way) + alike_along(board, at, way.opposite()) + 1
+}
