@@ -57,7 +57,7 @@ fn text_of(alloc: Global, line: &Grid<char>) -> Result<String> {
 // The columns to draw, each with its character.
 fn drawn(alloc: Global, shown: &Grid<char>, line: &Grid<char>) -> Result<String> {
     let mut text = String::new(alloc);
-    for (at, character) in changes(&shown.view(), &line.view()) {
+    for (at, character) in changes(shown, line) {
         let one = format!(in alloc; " {}{}", at.1, character)?;
         text.push_str(one.as_str())?;
     }
@@ -80,7 +80,7 @@ fn main(rt: HostRuntime) -> Result<()> {
     for _ in 2..history.undo_count() {
         history.undo()?;
     }
-    let writes = change_commands(alloc, &typed.view(), &history.grid().view())?;
+    let writes = change_commands(alloc, &typed, history.grid())?;
     println!(rt;
         "back at 2 steps, {} ahead: {writes:?}",
         history.redo_count()

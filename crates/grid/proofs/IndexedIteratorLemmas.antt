@@ -1,11 +1,12 @@
 -- What iterators over cells with their positions give.
 use Rattle.std.proofs.Common.{◌≡◌, ℕ, ◌^◌, ◌*◌, ◌<◌, List, Option, Some, length, zip, refl, sym, subst, ◌∙◌, ap, arith, slice_get, slice_index_or, unwrap_or, Bor, MutBor, MatchOption}
-use Rattle.grid.specs.Found.{GivesIndices}
+use Rattle.grid.specs.Positions.{GivesIndices}
 use Rattle.grid.proofs.Common.{YieldsFirst, YieldsFirstBy, EveryRun, EachRunFrom, AllItems, ItemsMapTo, from_front, at_some, at-is, unwrap_or-slice_get, positions, GridValue, HoldsSize, IsCellAt, GivesCells, GivesOwnedCells, GivesMutCells, indexed_mut_rest, has_place, get-places, length-places, IsSize, IsTable, FitsUsize, IsSize-table, row_count, col_count, InRange, zip_within, get-zip, grid_value}
 use Rattle.std.proofs.iter.runs.Lists.{slice_get_within}
 use Rattle.grid_base.specs.declared.order.Order.{Order}
 use Rattle.grid_base.specs.declared.order.Order.TheVariants.{RowMajor}
 use Rattle.grid_base.specs.declared.flat.indexed.IndexedIterMut.{IndexedIterMut}
+pub use Rattle.grid_near.proofs.GivenLemmas.{gives, gives_cells_of}
 use Rattle.grid.proofs.CellCallLemmas.{item_at, seen_cell, seen_in}
 
 -- of a place within a list, the element doesn't depend on the default
@@ -13,22 +14,6 @@ pub same_at : {A : Type 0} (xs : List A) (k : ℕ) (d e : A) → k < length xs �
 same_at xs k d e lt =
     let i = item_at xs k lt in
     sym (unwrap_or-slice_get xs k d) ∙ (ap (λ z. unwrap_or z d) i.is ∙ (sym (ap (λ z. unwrap_or z e) i.is) ∙ unwrap_or-slice_get xs k e))
-
-module _ {A : Type 0} (t : List (List A)) (whole : List ((ℕ × ℕ) × A)) (each : (k : ℕ) (x : (ℕ × ℕ) × A) → k < length whole → x ≡ slice_index_or whole k x → IsCellAt t x.0 x.1) where
-  module _ {S B : Type 0} (steps : S → Option B → S → Type 0) (view : B → (ℕ × ℕ) × A) (shown : S → List ((ℕ × ℕ) × A)) (all : EveryRun steps (λ p. ItemsMapTo p view (shown p.from))) where
-    -- each item of a run from all of them
-    pub gives : (s : S) → shown s ≡ whole → EachRunFrom steps s (λ p. AllItems p (λ x. IsCellAt t (view x).0 (view x).1))
-    gives s is p t from k =
-        let maps = all p t in
-        let cut : shown p.from ≡ whole = ap shown from ∙ is in
-        at_some (p.at k) _ (λ x there.
-        let inside : k < p.len = omega (arith, p.long, slice_get_within p.items k x (sym (at-is p k) ∙ there)) in
-        let at : view x ≡ slice_index_or (shown p.from) k (view x) = subst (λ z. MatchOption z (Unit {0}) (λ y. view y ≡ slice_index_or (shown p.from) k (view y))) there (maps.8 k) in
-        each k (view x) (omega (arith, maps.0, ap length cut)) (at ∙ ap (λ l. slice_index_or l k (view x)) cut))
-
-  pub gives_cells_of : (s : List ((ℕ × ℕ) × A)) → s ≡ whole → GivesCells t s
-  gives_cells_of s is = gives (YieldsFirstBy (λ (item : (ℕ × ℕ) × Bor A). (item.0, item.1.now)) (λ rest. rest)) (λ item. (item.0, item.1.now)) (λ rest. rest)
-      (from_front (YieldsFirstBy (λ (item : (ℕ × ℕ) × Bor A). (item.0, item.1.now)) (λ rest. rest)) (λ item. (item.0, item.1.now)) (λ rest. rest) (λ s t h. ap length h.0) (λ s x t h. h)) s is
 
 -- the positions of a table, row by row
 module _ {T : Type 0} (t : List (List T)) (m n : ℕ) (size : IsSize m n) (rows : row_count t ≡ m) (cols : col_count t ≡ n) where

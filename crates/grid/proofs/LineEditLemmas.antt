@@ -6,6 +6,7 @@ use Rattle.grid_commands.specs.declared.command.Axis.{Axis}
 use Rattle.grid_commands.specs.declared.command.Axis.TheVariants.{Row, Col}
 use Rattle.grid_commands.specs.declared.command.Refusal.{Refusal}
 use Rattle.grid_commands.specs.declared.command.Reply.{Reply}
+use Rattle.grid.proofs.KnownLemmas.{by_clones}
 use Rattle.grid.proofs.EditViewLemmas.{put_line, take_line}
 use Rattle.grid.proofs.NoneTakenLemmas.{remove-past}
 use Rattle.grid.proofs.ColEditLemmas.{across-across, rows-across, cols-across}
@@ -191,4 +192,4 @@ module _ {T : Type 0} where
 
 -- an edit of lines is a step of its command
 pub stepped_edit : {T A E : Type 0} {P : T → Type 0} {C : T → T → Type 0} {a : Axis} {e : Edit T} {old new : GridValue T} {r : Result (Reply T A) E} → Edited P C a e old new r → Stepped P C (lines a e) old.rows new.rows r
-stepped_edit h = record { rows = h.rows; reply = h.reply; err_memory = h.err_memory }
+stepped_edit {C} {a} {e} {r} h = record { rows = h.rows; reply = h.reply; reply_by_clones = by_clones C (lines a e) r _ h.reply; err_memory = h.err_memory }

@@ -1,10 +1,11 @@
 -- A run of one more command.
 use Rattle.std.proofs.Common.{◌≡◌, ℕ, ◌+◌, ◌<◌, suc, List, [], ◌∷◌, ◌++◌, map, length, take, slice_get, length-append, Some, IsTrue, Result, Ok, Err, OnOk, IfOk, inr, refl, sym, ◌∙◌, ap, subst, arith, All, option_map}
-use Rattle.grid.proofs.Common.{map-append, take-map, length-map, All-pop, slice_get-map, take-append_seam, GridValue, row_count, col_count, symmetry_of, order_after, Counts, ClonesAreEqual, product, symmetry_of-product_from, symmetry_of-more, order_after-order_after, CommandValue, ReplyValue, step_rows, step_reply, takes_memory, RowsAreKnown, command_symmetry, list_symmetry, price_at, shift_at, run_rows, run_replies, run_price, run_shift, LeftByRun, Ran, MayStop}
+use Rattle.grid.proofs.Common.{map-append, take-map, length-map, All-pop, slice_get-map, take-append_seam, GridValue, row_count, col_count, symmetry_of, order_after, Counts, ClonesAreEqual, product, symmetry_of-product_from, symmetry_of-more, order_after-order_after, CommandValue, ReplyValue, step_rows, step_reply, takes_memory, RowsAreKnown, ReplyIsKnown, AreDue, command_symmetry, list_symmetry, price_at, shift_at, run_rows, run_replies, run_price, run_shift, LeftByRun, Ran, MayStop}
 use Rattle.grid_base.proofs.Common.{saturating_count}
 use Rattle.grid_base.specs.declared.order.Order.{Order}
 use Rattle.grid_base.specs.declared.words.Symmetry.TheVariants.{Identity}
 use Rattle.grid.proofs.CellCallLemmas.{at_seam}
+use Rattle.grid.proofs.KnownLemmas.{reply_known}
 
 module _ {T : Type 0} where
   -- the order after a list of commands, one after another
@@ -23,6 +24,13 @@ module _ {T : Type 0} where
   pub run_replies-more : (d : T) (xs : List (CommandValue T)) (x : CommandValue T) (t : List (List T)) → run_replies d (xs ++ x ∷ []) t ≡ run_replies d xs t ++ step_reply x (run_rows d xs t) ∷ []
   run_replies-more d [] x t = refl
   run_replies-more d (y ∷ xs) x t = ap (λ rs. step_reply y t ∷ rs) (run_replies-more d xs x (step_rows d y t))
+
+  -- one more reply that is due
+  pub due-more : (C : T → T → Type 0) (d : T) (xs : List (CommandValue T)) (x : CommandValue T) (t : List (List T)) (answers : List (ReplyValue T)) (q : ReplyValue T) → AreDue C d xs t answers → length answers ≡ length xs → (ReplyIsKnown C x → q ≡ step_reply x (run_rows d xs t)) → AreDue C d (xs ++ x ∷ []) t (answers ++ q ∷ [])
+  due-more C d [] x t [] q h e known = (known, tt)
+  due-more C d [] x t (p ∷ answers) q h e known = absurd (omega (arith, e))
+  due-more C d (y ∷ xs) x t [] q h e known = absurd (omega (arith, e))
+  due-more C d (y ∷ xs) x t (p ∷ answers) q h e known = (h.0, due-more C d xs x (step_rows d y t) answers q h.1 (omega (arith, e)) known)
 
   run_price-more : (d : T) (xs : List (CommandValue T)) (x : CommandValue T) (t : List (List T)) → run_price d (xs ++ x ∷ []) t ≡ run_price d xs t + price_at x (run_rows d xs t)
   run_price-more d [] x t = omega arith
@@ -64,24 +72,29 @@ module _ {T : Type 0} (is_clone : T → T → Type 0) (is_default : T → Type 0
       count = refl;
       order = ap (λ x. order_after x s.order) (sym list_symmetry-none);
       left = λ d known. record { rows = refl; symmetry = saturating_count-none t.symmetry; shift = saturating_count-none t.shift };
+      due = λ d known. tt;
       replies = λ d known same. refl;
     };
     ordered = refl;
   }
 
-  module _ (xs : List (CommandValue T)) (x : CommandValue T) (old mid new : GridValue T) (first between last : Counts) (answers more : List (ReplyValue T)) where
-    pub running_more : Running is_clone is_default xs old mid first between answers → ((d : T) → RowsAreKnown is_default is_clone d x → new.rows ≡ step_rows d x mid.rows) → length more ≡ suc (length answers) → (ClonesAreEqual is_clone → more ≡ answers ++ step_reply x mid.rows ∷ []) → new.order ≡ order_after (command_symmetry x) mid.order → last.symmetry ≡ saturating_count between.symmetry (price_at x mid.rows) → last.shift ≡ saturating_count between.shift (shift_at x mid.order mid.rows) → Running is_clone is_default (xs ++ x ∷ []) old new first last more
-    running_more r rows count reply order symmetry shift = record {
+  module _ (xs : List (CommandValue T)) (x : CommandValue T) (old mid new : GridValue T) (first between last : Counts) (answers more : List (ReplyValue T)) (q : ReplyValue T) where
+    pub running_more : Running is_clone is_default xs old mid first between answers → ((d : T) → RowsAreKnown is_default is_clone d x → new.rows ≡ step_rows d x mid.rows) → more ≡ answers ++ q ∷ [] → (ReplyIsKnown is_clone x → q ≡ step_reply x mid.rows) → new.order ≡ order_after (command_symmetry x) mid.order → last.symmetry ≡ saturating_count between.symmetry (price_at x mid.rows) → last.shift ≡ saturating_count between.shift (shift_at x mid.order mid.rows) → Running is_clone is_default (xs ++ x ∷ []) old new first last more
+    running_more r rows appended reply order symmetry shift = record {
       ran = record {
-        count = omega (arith, count, r.ran.count, length-append xs (x ∷ []));
+        count = omega (arith, ap length appended, length-append answers (q ∷ []), r.ran.count, length-append xs (x ∷ []));
         order = order ∙ (ap (order_after (command_symmetry x)) r.ran.order ∙ sym (order-more xs x old.order));
         left = λ d known. all_left d (All-pop (RowsAreKnown is_default is_clone d) (xs ++ x ∷ []) xs (Some x) refl known);
+        due = λ d known.
+            let before = (All-pop (RowsAreKnown is_default is_clone d) (xs ++ x ∷ []) xs (Some x) refl known).0 in
+            rw appended (due-more is_clone d xs x old.rows answers q (r.ran.due d before) r.ran.count (λ k. reply k ∙ ap (step_reply x) (r.ran.left d before).rows));
         replies = λ d known same.
             let before = (All-pop (RowsAreKnown is_default is_clone d) (xs ++ x ∷ []) xs (Some x) refl known).0 in
             let l = r.ran.left d before in
-            reply same
+            appended
+            ∙ (ap (λ p. answers ++ p ∷ []) (reply (reply_known is_clone same x))
             ∙ (ap (λ rs. rs ++ step_reply x mid.rows ∷ []) (r.ran.replies d before same)
-            ∙ (ap (λ t. run_replies d xs old.rows ++ step_reply x t ∷ []) l.rows ∙ sym (run_replies-more d xs x old.rows)));
+            ∙ (ap (λ t. run_replies d xs old.rows ++ step_reply x t ∷ []) l.rows ∙ sym (run_replies-more d xs x old.rows))));
       };
       ordered = order ∙ (ap (order_after (command_symmetry x)) r.ordered ∙ sym (run_order-more xs x old.order));
     }
@@ -103,6 +116,7 @@ module _ {T : Type 0} (is_clone : T → T → Type 0) (is_default : T → Type 0
     left = λ d known.
         let l = h.left d known in
         record { rows = ap (λ s. s.rows) same ∙ l.rows; symmetry = symmetry ∙ l.symmetry; shift = shift ∙ l.shift };
+    due = h.due;
     replies = h.replies;
   }
 

@@ -64,3 +64,9 @@ module _ {T : Type 0} (o : Order) (m n : ℕ) (cells : List T) (v : GridValue T)
       size_kept (written_from start cells ws) (refilled_from v r c ws)
       (sym (length_refill (length cells) cells (take start cells ++ (ws ++ drop (length ws) (drop start cells))) refl))
       (seen_written start r c ws _ refl)
+
+  -- where what is written is what was there, the rows are as they were
+  pub seen_held : (start r c : ℕ) (ws : List T) → start ≡ place o m n r c → written_from start cells ws ≡ cells → (refilled_from v r c ws).rows ≡ v.rows
+  seen_held start r c ws s same =
+      ap (λ x. x.rows) (sym (seen_written start r c ws (fits_of (written_from start cells ws) (ap length same)) s))
+      ∙ (ap (table_of o m n) same ∙ ap (λ x. x.rows) e)

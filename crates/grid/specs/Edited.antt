@@ -1,12 +1,12 @@
 -- What an edit of rows or columns makes of a grid and a tally. Only private clauses cite these two:
 -- those of `Grid::step` say the same of any command.
 use Rattle.std.specs.Prelude.{◌≡◌, Result, OnOk, OnErr, IfOk, IsTrue}
-use Rattle.grid_base.specs.Prelude.{GridValue, Counts, saturating_count, ClonesAreEqual}
+use Rattle.grid_base.specs.Prelude.{GridValue, Counts, saturating_count}
 use Rattle.grid_commands.specs.declared.command.Axis.{Axis}
 use Rattle.grid_commands.specs.declared.command.Reply.{Reply}
 use Rattle.grid_commands.specs.Command.{Edit, lines}
 use Rattle.grid_commands.specs.Reply.{reply_value}
-use Rattle.grid.specs.Step.{step_rows, step_reply, memory_at, EditIsKnown}
+use Rattle.grid.specs.Step.{step_rows, step_reply, memory_at, EditIsKnown, EditReplyIsKnown}
 use Rattle.grid.specs.Cost.{shift_at}
 
 module _ {T A E : Type 0} where
@@ -15,7 +15,7 @@ module _ {T A E : Type 0} where
       (old new : GridValue T) (result : Result (Reply T A) E) : Type 0 where
     pub rows : OnOk result ((d : T) → EditIsKnown is_default d e
         → new.rows ≡ step_rows d (lines a e) old.rows)
-    pub reply : IfOk result (λ reply. ClonesAreEqual is_clone
+    pub reply : IfOk result (λ reply. EditReplyIsKnown is_clone e
         → reply_value reply ≡ step_reply (lines a e) old.rows)
     pub order : new.order ≡ old.order
     pub err_grid : OnErr result (new ≡ old)

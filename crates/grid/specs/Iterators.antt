@@ -1,6 +1,6 @@
 -- What a grid ends as, once a slice or an iterator for writing has ended.
 use Rattle.std.specs.Prelude.{◌≡◌, ℕ, List, ◌++◌, length, take, drop, refl}
-use Rattle.grid_base.specs.Prelude.{row_count, col_count, storage, place, GridValue, line_mut_name}
+use Rattle.grid_base.specs.Prelude.{row_count, col_count, storage, place, GridValue, line_mut_cells, line_mut_name}
 use Rattle.std.proofs.Common.{sym}
 use Rattle.std.specs.List.{refill, length_refill}
 use Rattle.std.specs.Borrow.{follows, Lends, Fml, RattleType, MutBor, Array}
@@ -31,6 +31,11 @@ module _ {T : Type 0} (s : GridValue T) where
       with_cells s (written_from start stored ws)
       (sym (length_refill (length stored) stored
       (take start stored ++ (ws ++ drop (length ws) (drop start stored))) refl))
+
+  -- with all that the iterator holds written over them from the place of cell (r, c) on, the rows
+  -- are as they were
+  abbrev pub HoldsRowsFrom : ℕ → ℕ → GridLineIterMut T → Type 0
+  HoldsRowsFrom r c it = (refilled_from r c (line_mut_cells it)).rows ≡ s.rows
 
   -- a table of the same size
   abbrev pub IsSameSize : List (List T) → Type 0

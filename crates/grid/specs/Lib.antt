@@ -1,6 +1,6 @@
 pub mod Prelude
 pub mod View
-pub mod Found
+pub mod Positions
 pub mod Grid
 pub mod Make
 pub mod Slots
@@ -17,7 +17,6 @@ pub mod Shift
 pub mod Iterators
 pub mod AllCells
 pub mod Same
-pub mod Texts
 pub mod EditFails
 pub mod Parts
 pub mod NearMaps
@@ -25,5 +24,4 @@ pub mod Pasted
 pub mod Copies
 pub mod GridFails
 pub mod Resize
-pub mod DisplayText
 pub mod Exchanged

@@ -3,28 +3,26 @@ pub use Rattle.grid.specs.AllCells.{filled, CallableAtPositions, MappedBy, Reach
 pub use Rattle.grid.specs.Conversion.{equal_rows, AreClones, AreClonedRows, RowsFault, RowsAnswer, CutAnswer, AreEven, CanJoin}
 pub use Rattle.grid.specs.Copies.{IsGridClone}
 pub use Rattle.grid.specs.Cost.{command_symmetry, axis_order, edit_shift, step_shift, list_symmetry, price_at, shift_at}
-pub use Rattle.grid.specs.DisplayText.{items_text, lines_text}
 pub use Rattle.grid.specs.EditFails.{LineFails, LinesFail, PaddingFails}
 pub use Rattle.grid.specs.Edited.{Edited, EditCounted}
 pub use Rattle.grid.specs.Edits.{FitsRow, FitsCol, insert_cols, without_rows, without_cols, insert_col, insert_rows, PadsRows, PadsCols, expanded_rows, prepended_rows, insert_into_rows, expanded_cols, prepended_cols, has_cells}
 pub use Rattle.grid.specs.Exchanged.{held, InRow, InRows, PartTaken}
-pub use Rattle.grid.specs.Found.{CallableAtCells, FoundFirst, FoundAll, IsOffset, GivesIndices}
 pub use Rattle.grid.specs.GridFails.{GridFails}
 pub use Rattle.grid.specs.Make.{FailsAt, ExceedsMax, FailsBySize, IsMade, EachCellIs, HoldsDefaults, CallableOver, MadeBy, HasSize, IsOnlyDefault}
 pub use Rattle.grid.specs.NearMaps.{CallableRound, ReturnsRound, ReachesRound, MapRound, CallableCounted, MapCounts, CallableSummed, MapSums}
 pub use Rattle.grid.specs.Parts.{cols_swapped}
 pub use Rattle.grid.specs.Passes.{LinesReversed, EachLineReversed}
 pub use Rattle.grid.specs.Pasted.{overlaid, part_filled, IsWithin, CallableInPart, CallableInRow, PartUpdated, CellsUpdated, IsClipped}
+pub use Rattle.grid.specs.Positions.{IsOffset, GivesIndices}
 pub use Rattle.grid.specs.Resize.{IsCorner, IsResized, ResizesTo}
 pub use Rattle.grid.specs.RowGroups.{RowGroups, cols_if_rows}
-pub use Rattle.grid.specs.Run.{RunGives, run_rows, run_replies, Ran, MayStop, AreKnown}
+pub use Rattle.grid.specs.Run.{RunGives, run_rows, run_replies, Ran, MayStop, AreKnown, AreDue}
 pub use Rattle.grid.specs.Same.{same_cells, same_cells_per, same_cells_equiv, table_feed, table_feed_respects}
 pub use Rattle.grid.specs.Shift.{rows_added_shift, rows_taken_shift, delete_rows_shift}
 pub use Rattle.grid.specs.Slots.{by_order, are_full, AreTaken, HoldCells}
 unfoldable pub use Rattle.grid.specs.Step.{step_rows, step_reply}
-pub use Rattle.grid.specs.Step.{takes_memory, Effect, nothing, inserts, removes, range_effect, effect, after_effect, edit_takes_memory, has_lines, edit_reply, line_at, pads_end, pads_front, RowsAreKnown, EditIsKnown, rows_after, reply_to}
+pub use Rattle.grid.specs.Step.{takes_memory, Effect, nothing, inserts, removes, range_effect, effect, after_effect, edit_takes_memory, has_lines, edit_reply, line_at, pads_end, pads_front, RowsAreKnown, EditIsKnown, ReplyIsKnown, EditReplyIsKnown, rows_after, reply_to}
 pub use Rattle.grid.specs.Stepped.{Stepped, StepCounted}
-pub use Rattle.grid.specs.Texts.{numbers, longest, row_line, width_or_longest, pretty_text}
 pub use Rattle.grid_base.specs.Blocks.{BlocksExchanged, PartReversed, BlocksSwapped, BlockTaken}
 pub use Rattle.grid_base.specs.Clones.{ClonesAreEqual}
 pub use Rattle.grid_base.specs.ClosureCalls.{MapsThrough, MapsTo, PairsUp, CallableAtEach, CallableAtItems, CallableAtRefs, ReturnsAtCell, CallableTimes, Generates, FailsFirst}
@@ -56,9 +54,10 @@ pub use Rattle.grid_near.specs.Marks.{TakesCounted, AnswersCounted, TakesSummed,
 pub use Rattle.grid_near.specs.NearCounts.{CallableNear, CountsNear}
 unfoldable pub use Rattle.grid_near.specs.Neighbors.{neighbors4, neighbors8, wrapped_neighbors4, wrapped_neighbors8}
 pub use Rattle.grid_near.specs.Neighbors.{neighbors_of, wrapped_neighbors_of, round_of, step_count, GivesNear, placed, around4, around8, before, cell_at}
+pub use Rattle.grid_view.specs.Found.{CallableAtCells, AnswersAt, FoundFirst, FoundAll}
 pub use Rattle.grid_view.specs.Lines.{directed}
-pub use Rattle.grid_view.specs.Same.{same_view, same_view_per, same_view_equiv}
-pub use Rattle.grid_view.specs.Texts.{table_text, rows_text}
+pub use Rattle.grid_view.specs.Same.{same_rows, same_view, same_view_per, same_view_equiv}
+pub use Rattle.grid_view.specs.Texts.{table_text, rows_text, items_text, lines_text, numbers, longest, row_line, width_or_longest, pretty_text}
 pub use Rattle.grid_view.specs.View.{sub_table, counted, turned, cut, first_of}
 pub use Rattle.std.specs.Borrow.{sem}
 pub use Rattle.std.specs.Fmt.{DisplaysOnOk}

@@ -1,12 +1,12 @@
 -- What a list of commands does to a table and replies: the plain run. And what it costs.
-use Rattle.std.specs.Prelude.{◌≡◌, ◌⊎◌, ℕ, ◌+◌, ◌<◌, List, [], ◌∷◌, length, slice_get, take, map, All, IsSomeAnd, IsTrue, Result, IfOk, IfErr, Vec}
+use Rattle.std.specs.Prelude.{◌≡◌, ◌⊎◌, ℕ, ◌+◌, ◌<◌, ⊤, List, [], ◌∷◌, length, slice_get, take, map, All, IsSomeAnd, IsTrue, Result, IfOk, IfErr, Vec}
 use Rattle.grid_base.specs.Prelude.{GridValue, order_after, Counts, saturating_count, ClonesAreEqual}
 use Rattle.grid_base.specs.declared.order.Order.{Order}
 use Rattle.grid_commands.specs.declared.command.Reply.{Reply}
 use Rattle.grid_commands.specs.declared.command.RunStopped.{RunStopped}
 use Rattle.grid_commands.specs.Command.{CommandValue}
 use Rattle.grid_commands.specs.Reply.{ReplyValue, reply_value}
-use Rattle.grid.specs.Step.{step_rows, step_reply, memory_at, RowsAreKnown}
+use Rattle.grid.specs.Step.{step_rows, step_reply, memory_at, RowsAreKnown, ReplyIsKnown}
 use Rattle.grid.specs.Cost.{command_symmetry, list_symmetry, price_at, shift_at}
 
 module _ {T : Type 0} where
@@ -23,6 +23,15 @@ module _ {T : Type 0} where
   abbrev pub run_replies : T → List (CommandValue T) → List (List T) → List (ReplyValue T)
   run_replies d [] t = []
   run_replies d (x ∷ xs) t = step_reply x t ∷ run_replies d xs (step_rows d x t)
+
+  -- where they are known, the replies so far are those that are due
+  abbrev pub AreDue : (T → T → Type 0) → T → List (CommandValue T) → List (List T)
+      → List (ReplyValue T) → Type 0
+  AreDue is_clone d (x ∷ xs) t (answer ∷ answers) =
+      (ReplyIsKnown is_clone x → answer ≡ step_reply x t)
+      × AreDue is_clone d xs (step_rows d x t) answers
+  -- no more commands, or no more replies
+  AreDue is_clone d xs t answers = ⊤
 
   -- how many swaps for symmetries they cost, each at the table before it
   abbrev pub run_price : T → List (CommandValue T) → List (List T) → ℕ
@@ -46,7 +55,8 @@ module _ {T : Type 0} where
         (run_shift d commands old.order old.rows)
 
   -- what a run of these commands makes of a grid and a tally, and what it replies: a reply a
-  -- command, and where the rows are known and clones equal their source, what is due
+  -- command, and where the rows are known, what is due: at a command whose reply is known, and at
+  -- all of them where clones equal their source
   pub record Ran (is_clone : T → T → Type 0) (is_default : T → Type 0)
       (commands : List (CommandValue T)) (old new : GridValue T) (before after : Counts)
       (answers : List (ReplyValue T)) : Type 0 where
@@ -54,6 +64,8 @@ module _ {T : Type 0} where
     pub order : new.order ≡ order_after (list_symmetry commands) old.order
     pub left : (d : T) → AreKnown is_default is_clone d commands
         → LeftByRun d commands old new before after
+    pub due : (d : T) → AreKnown is_default is_clone d commands
+        → AreDue is_clone d commands old.rows answers
     pub replies : (d : T) → AreKnown is_default is_clone d commands
         → ClonesAreEqual is_clone → answers ≡ run_replies d commands old.rows
 

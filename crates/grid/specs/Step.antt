@@ -138,3 +138,17 @@ module _ {T : Type 0} where
   RowsAreKnown is_default is_clone d (fill v) = ClonesAreEqual is_clone
   -- every command but an edit of lines and a fill
   RowsAreKnown is_default is_clone d x = ⊤
+
+  -- what the reply to an edit of lines rests on: a read clones the cells of its line
+  abbrev pub EditReplyIsKnown : (T → T → Type 0) → Edit T → Type 0
+  EditReplyIsKnown is_clone (read i) = ClonesAreEqual is_clone
+  -- every edit but a read
+  EditReplyIsKnown is_clone e = ⊤
+
+  -- what the reply to a command rests on: that of a cell or of a line that stays, that clones equal
+  -- their source
+  abbrev pub ReplyIsKnown : (T → T → Type 0) → CommandValue T → Type 0
+  ReplyIsKnown is_clone (get r c) = ClonesAreEqual is_clone
+  ReplyIsKnown is_clone (lines a e) = EditReplyIsKnown is_clone e
+  -- every command but a get and an edit of lines
+  ReplyIsKnown is_clone x = ⊤

@@ -1,35 +1,9 @@
 //! The text of a grid as lines.
-ghost use Rattle.std.specs.Prelude.{◌<◌, [], codes, Some};
-ghost use Rattle.std.specs.Fmt.{◌++?◌};
-ghost use Rattle.grid.specs.Prelude.{DisplaysOnOk, row, row_count, items_text, lines_text};
+ghost use Rattle.grid.specs.Prelude.{lines_text};
 
 use crate::Grid;
-use crate::pretty::separator_before;
 use std::alloc::Allocator;
 use std::fmt;
-
-impl<T: fmt::Display, A: Allocator> Grid<T, A> {
-    // Writes what comes before row `r`, which is in range, and its cells, with a space between two.
-    fn display_row<W: fmt::Write>(
-        &self,
-        before: &str,
-        r: usize,
-        f: &mut fmt::Formatter<W>,
-    ) -> fmt::Result
-        requires { r < row_count self.now.rows }
-        ensures { DisplaysOnOk W.write_str_gives f.old result (Some before.now
-            ++? items_text T.output (codes " ") [] (row self.now.rows r)) f.new }
-    {
-        let (_, cols) = self.size();
-        write!(f, "{before}")?;
-        for col in 0..cols {
-            let space = separator_before(col, " ");
-            let cell = self.get_unchecked(r, col);
-            write!(f, "{space}{cell}")?;
-        }
-        Ok(())
-    }
-}
 
 /// Writes each row as a line: the text of each cell, with a space between two. There is no line end after the last
 /// row, and the empty grid writes nothing. The text is the same in either order.
@@ -39,11 +13,6 @@ impl<T: fmt::Display, A: Allocator> fmt::Display for Grid<T, A> {
     ghost output = { λ grid. lines_text T.output grid.rows };
 
     fn fmt<W: fmt::Write>(&self, f: &mut fmt::Formatter<W>) -> fmt::Result {
-        let (rows, _) = self.size();
-        for row in 0..rows {
-            let before = separator_before(row, "\n");
-            self.display_row(before, row, f)?;
-        }
-        Ok(())
+        fmt::Display::fmt(&self.view(), f)
     }
 }

@@ -27,9 +27,10 @@
 //! - the cells round a cell: `neighbors4`, `neighbors8`, `wrapped_neighbors4`, `wrapped_neighbors8`; how many pass a test,
 //!   as `count_neighbors8`; a grid of what a closure makes of them, as `map_neighbors8`, or, many times faster, of their
 //!   counts and sums, as `map_counts8` and `map_sums8`
-//! - views, which copy no cell: `view` and `part`, and `turned`, `get`, `iter_row` and more on a [`GridView`]
-//! - parts: `sub_grid`, `from_view`, `paste`, `paste_copied`, `paste_clipped`, `fill_part`, `update_part`, `swap_rows`,
-//!   `swap_cols`
+//! - views, which copy no cell: `view` and `part`, and `turned`, `get`, `iter_row` and more on a [`GridView`]; [`same_cells`]
+//!   of two boards of any kind
+//! - parts: `sub_grid`, `from_view`, `map_view`, `paste`, `paste_copied`, `paste_clipped`, `fill_part`, `update_part`,
+//!   `swap_rows`, `swap_cols`
 //! - the whole grid: `map`, `map_ref`, `map_indexed`, `try_map_indexed`, `update`, `clone`, `==`, `Hash`, `Debug`,
 //!   `Display`, `pretty`
 //! - turn: `transpose`, `flip_rows`, `flip_cols`, `rotate_left`, `rotate_right`, `rotate_half`; `apply` and
@@ -68,5 +69,7 @@ pub use grid_commands::{
     Axis, Command, GridError, LineRefused, LinesRefused, Refusal, Reply, RunStopped, ShapeError,
 };
 pub use grid_near::{Direction, Neighbors, WrappedNeighbors};
-pub use grid_view::{AsView, GridView, ViewIndexedIter, ViewIter, ViewLineIter, ViewRowIter};
+pub use grid_view::{
+    AsView, GridView, ViewIndexedIter, ViewIter, ViewLineIter, ViewRowIter, same_cells,
+};
 pub use iterators::GridColIter;

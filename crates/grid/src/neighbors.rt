@@ -146,7 +146,7 @@ impl<T, A: Allocator> Grid<T, A> {
         ensures count { CountsNear F.post test (neighbors4 self.now.rows at.0 at.1) result }
         ensures at_most { result ≤ 4 }
     {
-        count_near(self.neighbors4(at), test)
+        grid_near::count_near(self.neighbors4(at), test)
     }
 
     /// Returns for how many of the cells that touch the cell at this position the closure returns `true`. It counts as
@@ -161,7 +161,7 @@ impl<T, A: Allocator> Grid<T, A> {
         ensures count { CountsNear F.post test (neighbors8 self.now.rows at.0 at.1) result }
         ensures at_most { result ≤ 8 }
     {
-        count_near(self.neighbors8(at), test)
+        grid_near::count_near(self.neighbors8(at), test)
     }
 
     /// Same as [`count_neighbors8`](Grid::count_neighbors8), of the four cells of
@@ -176,7 +176,7 @@ impl<T, A: Allocator> Grid<T, A> {
         ensures count { CountsNear F.post test (wrapped_neighbors4 self.now.rows at.0 at.1) result }
         ensures at_most { result ≤ 4 }
     {
-        count_near(self.wrapped_neighbors4(at), test)
+        grid_near::count_near(self.wrapped_neighbors4(at), test)
     }
 
     /// Same as [`count_neighbors8`](Grid::count_neighbors8), of the eight cells of
@@ -191,7 +191,7 @@ impl<T, A: Allocator> Grid<T, A> {
         ensures count { CountsNear F.post test (wrapped_neighbors8 self.now.rows at.0 at.1) result }
         ensures at_most { result ≤ 8 }
     {
-        count_near(self.wrapped_neighbors8(at), test)
+        grid_near::count_near(self.wrapped_neighbors8(at), test)
     }
 
     /// Returns the grid of what the closure `rule` returns for a reference to each cell and the number of the cells
@@ -460,20 +460,4 @@ impl<T, A: Allocator> Grid<T, A> {
             order,
         })
     }
-}
-
-// For how many of these cells the closure returns `true`.
-fn count_near<T, F: Fn(&T) -> bool>(near: Neighbors<'_, T>, test: F) -> usize
-    requires most { length near ≤ 8 }
-    requires callable { CallableNear F.pre test near }
-    ensures count { CountsNear F.post test near.entry result }
-    ensures at_most { result ≤ length near.entry }
-{
-    let mut count = 0;
-    for (_, cell) in near {
-        if test(cell) {
-            count += 1;
-        }
-    }
-    count
 }

@@ -1,7 +1,7 @@
 //! Clones of grids; and their equality, hash and debug text, which speak of the rows and not of the order.
 ghost use Rattle.std.specs.Prelude.{◌≡◌, ◌<◌, IfOk, flat_map, fold};
 ghost use Rattle.grid.specs.Prelude.{ClonesAreEqual, row, row_count, IsGridClone, same_cells, same_cells_per, same_cells_equiv, table_feed, table_feed_respects};
-ghost use Rattle.grid.specs.Texts.{table_text};
+ghost use Rattle.grid.specs.Prelude.{table_text};
 
 use crate::Grid;
 use grid_base::Flat;
@@ -116,6 +116,6 @@ impl<T: fmt::Debug, A: Allocator> fmt::Debug for Grid<T, A> {
     ghost debug_output = { λ grid. table_text T.debug_output grid.rows };
 
     fn fmt<W: fmt::Write>(&self, f: &mut fmt::Formatter<W>) -> fmt::Result {
-        self.view().fmt(f)
+        fmt::Debug::fmt(&self.view(), f)
     }
 }

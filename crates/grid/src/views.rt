@@ -1,6 +1,6 @@
 //! Views of a grid and of its parts, and grids of the cells of a view.
-ghost use Rattle.std.specs.Prelude.{◌≡◌, ◌+◌, ◌<◌, ◌≤◌, ◌⊎◌, [], IfOk, IfSome, MatchOption};
-ghost use Rattle.grid.specs.Prelude.{ClonesAreEqual, row_count, col_count, sub_table};
+ghost use Rattle.std.specs.Prelude.{◌≡◌, ◌+◌, ◌<◌, ◌≤◌, ◌⊎◌, ◌==◌, if◌then◌else◌, [], IfOk, IfSome, MatchOption};
+ghost use Rattle.grid.specs.Prelude.{ClonesAreEqual, row_count, col_count, sub_table, CallableAtPositions, MappedBy, ReachesThere, ReturnsThere};
 
 use crate::{Grid, Order};
 use grid_view::{AsView, GridView};
@@ -33,6 +33,8 @@ impl<T, A: Allocator> Grid<T, A> {
         requires cols_in { at.1 + size.1 ≤ col_count self.now.rows }
         ensures rows { 0 < size.0 → 0 < size.1 → result.rows ≡ sub_table self.now.rows at size }
         ensures none { (size.0 ≡ 0) ⊎ (size.1 ≡ 0) → result.rows ≡ [] }
+        ensures row_count { row_count result.rows ≡ (if size.1 == 0 then 0 else size.0) }
+        ensures col_count { col_count result.rows ≡ (if size.0 == 0 then 0 else size.1) }
     {
         self.view().part(at, size)
     }
@@ -49,15 +51,12 @@ impl<T, A: Allocator> Grid<T, A> {
         ensures rows { IfSome result (λ view. 0 < size.0 → 0 < size.1
             → view.rows ≡ sub_table self.now.rows at size) }
         ensures none { IfSome result (λ view. (size.0 ≡ 0) ⊎ (size.1 ≡ 0) → view.rows ≡ []) }
+        ensures row_count { IfSome result
+            (λ view. row_count view.rows ≡ (if size.1 == 0 then 0 else size.0)) }
+        ensures col_count { IfSome result
+            (λ view. col_count view.rows ≡ (if size.0 == 0 then 0 else size.1)) }
     {
-        let (rows, cols) = self.size();
-        let fits_rows = at.0 <= rows && size.0 <= rows - at.0;
-        let fits_cols = at.1 <= cols && size.1 <= cols - at.1;
-        if fits_rows && fits_cols {
-            Some(self.part(at, size))
-        } else {
-            None
-        }
+        self.view().get_part(at, size)
     }
 
     /// Returns the grid of clones of the cells of a view, in an order.
@@ -80,6 +79,62 @@ impl<T, A: Allocator> Grid<T, A> {
     {
         let cells = view.to_vec(alloc, order)?;
         Ok(Grid::from_vec_with_order(cells, view.cols(), order))
+    }
+
+    /// Returns the grid, in an order, of what the closure, called in storage order, returns for each position of a board
+    /// and a reference to the cell there. The board is a grid, a part, a turned or a deferred one; it is not copied.
+    ///
+    ///     map_view(ColumnMajor, [[1, 2], [3, 4]], |(row, col), x| row * 10 + col + *x)   [[1, 3], [13, 15]]
+    ///
+    /// It is for any board what [`map_indexed`](Grid::map_indexed) is for a grid. A search over a part begins with it: make the
+    /// grid of what the search asks of each cell, and hand it that.
+    ///
+    /// Requires: the closure can be called at each position and a reference to the cell there.
+    /// Fails: if allocation fails; the closure wasn't called.
+    /// Cost: one call for each cell; one allocation, before the first call.
+    pub fn map_view<U, V: AsView<U>, F: Fn((usize, usize), &U) -> T>(
+        alloc: A,
+        order: Order,
+        board: &V,
+        f: F,
+    ) -> Result<Grid<T, A>, AllocError>
+        requires { CallableAtPositions F.pre f (V.rows board.now) }
+        ensures rows { IfOk result (λ g. row_count g.rows ≡ row_count (V.rows board.now)) }
+        ensures cols { IfOk result (λ g. col_count g.rows ≡ col_count (V.rows board.now)) }
+        ensures order { IfOk result (λ g. g.order ≡ order) }
+        ensures cells { IfOk result (λ g. MappedBy F.post f (V.rows board.now) g.rows) }
+    {
+        Grid::map_cells(alloc, order, &board.as_view(), f)
+    }
+
+    // Returns the grid of what the closure returns for each position of a view and the cell there.
+    fn map_cells<U, F: Fn((usize, usize), &U) -> T>(
+        alloc: A,
+        order: Order,
+        view: &GridView<'_, U>,
+        f: F,
+    ) -> Result<Grid<T, A>, AllocError>
+        requires { CallableAtPositions F.pre f view.now.rows }
+        ensures rows { IfOk result (λ g. row_count g.rows ≡ row_count view.now.rows) }
+        ensures cols { IfOk result (λ g. col_count g.rows ≡ col_count view.now.rows) }
+        ensures order { IfOk result (λ g. g.order ≡ order) }
+        ensures cells { IfOk result (λ g. MappedBy F.post f view.now.rows g.rows) }
+    {
+        let (rows, cols) = view.size();
+        let made = Grid::from_fn_with_order(
+            alloc,
+            rows,
+            cols,
+            order,
+            |at|
+                requires { ReachesThere F.pre f view.now.rows at }
+                ensures { ReturnsThere F.post f view.entry.now.rows at result }
+            { f(at, view.get_unchecked(at.0, at.1)) },
+        );
+        match made {
+            Ok(made) => Ok(made),
+            Err(_) => Err(AllocError),
+        }
     }
 }
 

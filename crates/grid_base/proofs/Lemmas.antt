@@ -13,7 +13,7 @@ pub use Rattle.grid_base.proofs.RemainingLemmas.{remaining_all, remaining_next, 
 pub use Rattle.grid_base.proofs.RoomLemmas.{with_waiting, none_waits, places_then, filled_join, filled_part, filled_below, filled_above, one_pasted, unweave_step, same_places, weave_step}
 pub use Rattle.grid_base.proofs.ShiftLemmas.{moved_back, forward_swap, three_more, three_all, ThreeMoved, moved_forward}
 pub use Rattle.grid_base.proofs.SinglyLemmas.{sending_none, sending_more, sending_end, Sending, bringing_none, bringing_more, bringing_end, Bringing}
-pub use Rattle.grid_base.proofs.SpanLemmas.{span_within, row_is, first_place}
+pub use Rattle.grid_base.proofs.SpanLemmas.{span_within, row_is, first_place, span_written_back}
 pub use Rattle.grid_base.proofs.SpreadLemmas.{first_line, spread, times_less, opening_none, opening_run, opening_end, Opening, closing_none, closing_run, closing_end, Closing, closed_by_reversals}
 pub use Rattle.grid_base.proofs.SquareLemmas.{mirrored_below, mirrored_one, mirrored_beside}
 pub use Rattle.grid_base.proofs.StorageLemmas.{length-concat_rows}

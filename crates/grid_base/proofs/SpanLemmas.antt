@@ -1,6 +1,6 @@
 -- The rows of a stored table as lines of its storage; of this crate alone.
-use Rattle.std.proofs.Common.{◌≡◌, ℕ, ◌+◌, ◌-◌, ◌*◌, ◌/◌, ◌<◌, ◌≤◌, List, length, refl, sym, ◌∙◌, ap, arith, mul-le-mul_right, slice_get}
-use Rattle.grid_base.proofs.Common.{div-mul-add, div_ceil, row, place, table_of, HoldsSize, strided, IsSpan}
+use Rattle.std.proofs.Common.{◌≡◌, ℕ, ◌+◌, ◌-◌, ◌*◌, ◌/◌, ◌<◌, ◌≤◌, List, ◌++◌, length, take, drop, refl, sym, ◌∙◌, ap, arith, mul-le-mul_right, take-append-drop, length-drop, length-take-le, slice_get}
+use Rattle.grid_base.proofs.Common.{take-append_seam, refill, written_from, div-mul-add, div_ceil, row, place, table_of, HoldsSize, strided, IsSpan}
 use Rattle.grid_base.specs.declared.order.Order.{Order}
 use Rattle.grid_base.specs.declared.flat.span.Span.{Span}
 use Rattle.grid_base.proofs.TableLemmas.{width-tabulate, same_cells}
@@ -49,6 +49,14 @@ across_is p q i some h =
 pub first_place : (n : ℕ) (at : ℕ → ℕ) (len : ℕ) (s : Span) → IsSpan n at len s → 0 < n → s.start ≡ at 0
 first_place n at len s h some = let first = h.places 0 some in omega (arith, first)
 
+-- cells that are written back where they were change nothing
+written_back : {T : Type 0} (start k : ℕ) (xs : List T) → start + k ≤ length xs → written_from start xs (take k (drop start xs)) ≡ xs
+written_back start k xs h =
+    let ws = take k (drop start xs) in
+    let long : length ws ≡ k = length-take-le k (drop start xs) (omega (arith, length-drop start xs)) in
+    let all : take start xs ++ (ws ++ drop (length ws) (drop start xs)) ≡ xs = ap (λ n. take start xs ++ (ws ++ drop n (drop start xs))) long ∙ (ap (λ ys. take start xs ++ ys) (take-append-drop k (drop start xs)) ∙ take-append-drop start xs) in
+    ap (refill (length xs) xs) all ∙ take-append_seam xs (drop (length xs) xs)
+
 -- the cells of a line, if it is a row of the table that is stored
 module _ {T : Type 0} (o : Order) (m n : ℕ) (cells : List T) (fits : HoldsSize m n (length cells)) (s : Span) (r : ℕ) (lr : r < m) (h : IsSpan n (λ c. place o m n r c) (m * n) s) where
   pub span_within : s.end ≤ length cells
@@ -61,3 +69,10 @@ module _ {T : Type 0} (o : Order) (m n : ℕ) (cells : List T) (fits : HoldsSize
       (λ c lt.
       let lc : c < n = omega (arith, len) in
       get-strided s.start s.end s.stride c cells h.steps (h.inside c lc) ∙ (ap (slice_get cells) (h.places c lc) ∙ sym (view-cell o m n cells fits r c lr lc)))
+
+  -- the cells from its first to its end, written back
+  pub span_written_back : 0 < n → written_from (place o m n r 0) cells (take (s.end - s.start) (drop s.start cells)) ≡ cells
+  span_written_back some =
+      let inside : s.start + (s.end - s.start) ≤ length cells = omega (arith, h.ordered, span_within) in
+      ap (λ x. written_from x cells (take (s.end - s.start) (drop s.start cells))) (sym (first_place n _ _ s h some))
+      ∙ written_back s.start (s.end - s.start) cells inside

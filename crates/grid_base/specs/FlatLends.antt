@@ -1,5 +1,5 @@
 -- What a `Flat` ends as, once a slice or an iterator for writing has ended.
-use Rattle.std.specs.Prelude.{ℕ, List, ◌++◌, take, drop, length}
+use Rattle.std.specs.Prelude.{◌≡◌, ℕ, List, ◌++◌, take, drop, length}
 use Rattle.std.specs.List.{refill}
 use Rattle.std.specs.Borrow.{follows, Lends, Fml, RattleType, MutBor, Array}
 use Rattle.std.specs.Slice.Iter.{iter_mut_name}
@@ -8,13 +8,17 @@ use Rattle.std.specs.declared.alloc.Allocator.{Ghosts}
 use Rattle.grid_base.specs.contracts.flat.Flat.{the_row}
 use Rattle.grid_base.specs.declared.flat.line_iter_mut.GridLineIterMut.{GridLineIterMut}
 use Rattle.grid_base.specs.declared.flat.indexed.IndexedIterMut.{IndexedIterMut}
-use Rattle.grid_base.specs.GridLineIterMut.{line_mut_name}
+use Rattle.grid_base.specs.GridLineIterMut.{line_mut_name, line_mut_cells}
 use Rattle.grid_base.specs.IndexedIterMut.{indexed_mut_name}
 
 -- cells with ws written over them from start on, as far as there are cells
 abbrev pub written_from : {X : Type 0} → ℕ → List X → List X → List X
 written_from start xs ws = refill (length xs) xs
     (take start xs ++ (ws ++ drop (length ws) (drop start xs)))
+
+-- with all that the iterator holds written over them from start on, the cells are as they were
+abbrev pub HoldsFrom : {X : Type 0} → ℕ → List X → GridLineIterMut X → Type 0
+HoldsFrom start xs it = written_from start xs (line_mut_cells it) ≡ xs
 
 module _ (T A : RattleType) (alloc : Ghosts A.Denot) (v : MutBor (List T.Denot)) where
   -- once the slice has ended, the cells are those that it was left with

@@ -7,7 +7,6 @@ pub mod Move
 pub mod Tally
 pub mod GridValue
 pub mod Flat
-pub mod LineStep
 pub mod Groups
 pub mod Room
 pub mod Blocks

@@ -8,7 +8,7 @@ pub use Rattle.grid_base.specs.Clones.{ClonesAreEqual}
 pub use Rattle.grid_base.specs.ClosureCalls.{MapsThrough, MapsTo, PairsUp, CallableAtEach, CallableAtCells, CallableAtItems, CallableAtRefs, ReturnsAtCell, CallableTimes, Generates, FailsFirst}
 pub use Rattle.grid_base.specs.Flags.{flags_of, from_flags}
 pub use Rattle.grid_base.specs.Gather.{items_of_each, last_of, before_last}
-pub use Rattle.grid_base.specs.GridLineIterMut.{line_mut_rest, line_mut_name}
+pub use Rattle.grid_base.specs.GridLineIterMut.{line_mut_rest, line_mut_cells, line_mut_name}
 pub use Rattle.grid_base.specs.GridValue.{HoldsSize, GridValue, FitsUsize, SameSizeAndOrder}
 pub use Rattle.grid_base.specs.Groups.{Woven, Widened, Opened, TakenOut, Closed}
 pub use Rattle.grid_base.specs.IndexedIterMut.{indexed_mut_rest}

@@ -1,5 +1,5 @@
 //! Callers of `grid`.
-ghost use Rattle.std.specs.Prelude.{◌≡◌, ◌↔◌, IsTrue, IsSome, IfSome, IfErr, OnOk, OnErr, insert, length, remove};
+ghost use Rattle.std.specs.Prelude.{◌≡◌, ◌↔◌, IsTrue, IsSome, IfSome, IfOk, IfErr, OnOk, OnErr, insert, length, nat_lt, option_map, remove, slice_get};
 ghost use Rattle.grid.specs.Prelude.{row_count, col_count, exchanged, InRange, storage, CanCut, lines, push, insert_at, command_refusal, step_rows};
 ghost use Rattle.grid_commands.specs.declared.command.Axis.TheVariants.{Row};
 
@@ -87,6 +87,50 @@ where
     match grid.step(Command::PushRow(line), tally)? {
         Reply::Refused(refusal) => Ok(Some(refusal)),
         _ => Ok(None),
+    }
+}
+
+/// Takes out a row by a command, and returns it, or `None` where there is no such row. Its cells are moved, so it is known
+/// of cells of any type.
+///
+///     [[1, 2], [3, 4]]   take_by_command(0)   Some([1, 2])      [[3, 4]]
+///
+/// Fails: if the allocation of the line fails; the grid is unchanged.
+#[tactic(auto, unfolding(grid::specs::Step::step_reply))]
+pub fn take_by_command<T, A>(
+    grid: &mut Grid<T, A>,
+    at: usize,
+    tally: &mut Tally,
+) -> Result<Option<Vec<T, A>>, AllocError>
+where
+    T: Clone + Default + Drop,
+    A: Allocator + Clone,
+    ensures row { IfOk result (λ row. option_map (λ line. line.items) row
+        ≡ slice_get grid.old.rows at) }
+    ensures err { OnErr result (grid.new ≡ grid.old) }
+{
+    match grid.step(Command::RemoveRow(at), tally)? {
+        Reply::Line(row) => Ok(row),
+        _ => Ok(None),
+    }
+}
+
+/// Drops a row of texts by a command, and returns whether there is such a row.
+///
+///     [["a"], ["b"]]   drop_by_command(1)   true       [["a"]]
+///
+/// Fails: never.
+#[tactic(auto, unfolding(grid::specs::Step::step_reply))]
+pub fn drop_by_command<A: Allocator + Clone>(
+    grid: &mut Grid<Option<String>, A>,
+    at: usize,
+    tally: &mut Tally,
+) -> Result<bool, AllocError>
+    ensures found { IfOk result (λ found. found ≡ nat_lt at (row_count grid.old.rows)) }
+{
+    match grid.step(Command::DeleteRow(at), tally)? {
+        Reply::Flag(found) => Ok(found),
+        _ => Ok(false),
     }
 }
 

@@ -17,6 +17,7 @@ pub mod pairs;
 pub mod parts;
 pub mod paths;
 pub mod pictures;
+pub mod recursion;
 pub mod sheets;
 pub mod shown;
 pub mod sizes;

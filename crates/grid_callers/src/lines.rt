@@ -113,8 +113,11 @@ pub fn unpack<A: Allocator + Clone>(board: Grid<u8, A>) -> Result<Vec<Vec<u8, A>
 }
 
 /// Returns a copy of the rows as vectors.
-pub fn rows_of<A: Allocator + Clone>(board: &Grid<u8, A>) -> Result<Vec<Vec<u8, A>, A>, AllocError>
+pub fn rows_of<A: Allocator + Clone>(
+    alloc: A,
+    board: &Grid<u8, A>,
+) -> Result<Vec<Vec<u8, A>, A>, AllocError>
     ensures { IfOk result (λ rows. map (λ row. row.items) rows.items ≡ board.now.rows) }
 {
-    to_rows(board)
+    to_rows(alloc, board)
 }

@@ -1,6 +1,6 @@
 //! Two boards at once, the parts of a board in turn, and runs of equal cells.
 use grid::{Direction, Grid, GridView, Order, can_cut};
-use grid_pairs::{tiles, windows, zip_with};
+use grid_pairs::{find, tiles, windows, zip_with};
 use grid_rays::alike_along;
 use std::alloc::{AllocError, Global};
 
@@ -23,6 +23,20 @@ pub fn higher(
     Ok(Some(highest))
 }
 
+/// Returns where two boards differ in a window, or `None` where it isn't within both. Two parts of one size need no test.
+pub fn changed_in(
+    alloc: Global,
+    (before, after): (&Grid<u8>, &Grid<u8>),
+    at: (usize, usize),
+    size: (usize, usize),
+) -> Result<Option<Grid<bool>>, AllocError> {
+    let (Some(old), Some(new)) = (before.get_part(at, size), after.get_part(at, size)) else {
+        return Ok(None);
+    };
+    let changed = zip_with(alloc, Order::RowMajor, &old, &new, |old, new| old != new)?;
+    Ok(Some(changed))
+}
+
 /// Returns how many windows of two by two have a lower first cell than last. An index in them needs no test.
 pub fn rising(heights: &Grid<u8>) -> usize {
     let mut count = 0usize;
@@ -41,6 +55,32 @@ pub fn corners(alloc: Global, board: &Grid<u8>) -> Result<Vec<u8>, AllocError> {
         corners.push(tile[(0, 0)])?;
     }
     Ok(corners)
+}
+
+/// Returns the cell of a board where a pattern stands first, if it has cells. The position is in range.
+pub fn first_of(board: &Grid<char>, pattern: &Grid<char>) -> Option<char> {
+    if pattern.rows() == 0 {
+        return None;
+    }
+    let at = find(board, pattern)?;
+    Some(board[at])
+}
+
+/// Returns how many cells of the part where a pattern stands are blank. The part fits.
+pub fn blanks_where(board: &Grid<char>, pattern: &Grid<char>) -> Option<usize> {
+    let at = find(board, pattern)?;
+    let part = board.part(at, pattern.size());
+    Some(part.iter().filter(|cell| **cell == ' ').count())
+}
+
+/// Returns the tiles of two by two of a board without its edge, as views that last as long as the board is lent.
+pub fn inner_tiles(alloc: Global, board: &Grid<u8>) -> Result<Vec<GridView<'_, u8>>, AllocError> {
+    let (rows, cols) = board.size();
+    if rows < 2 || cols < 2 {
+        return Ok(Vec::new(alloc));
+    }
+    let tiles = tiles(board.part((1, 1), (rows - 2, cols - 2)), 2, 2);
+    tiles.collect(alloc)
 }
 
 fn highest(window: &GridView<'_, u8>) -> u8 {

@@ -2,7 +2,7 @@
 ghost use Rattle.std.specs.Prelude.{◌≡◌, ◌-◌, IfSome, swap};
 ghost use Rattle.grid.specs.Prelude.{row_count, InRange, sub_table};
 
-use grid::Grid;
+use grid::{Grid, GridView, Order, Symmetry};
 
 /// Returns the upper left corner of two rows and three columns, or `None` where the board is smaller, or if allocation
 /// fails.
@@ -39,4 +39,37 @@ pub fn swap_ends(grid: &mut Grid<u8>)
     if !grid.is_empty() {
         grid.swap_rows(0, grid.rows() - 1);
     }
+}
+
+/// Returns how many cells of a window are free, or `None` where it isn't within the board. An index within the size that was
+/// asked for needs no test.
+pub fn free_in_window(
+    board: &Grid<bool>,
+    at: (usize, usize),
+    size: (usize, usize),
+) -> Option<usize> {
+    let window = board.get_part(at, size)?;
+    let mut count = 0usize;
+    for row in 0..size.0 {
+        for col in 0..size.1 {
+            if window[(row, col)] {
+                count = count.saturating_add(1);
+            }
+        }
+    }
+    Some(count)
+}
+
+/// Returns the cell that is in the lower right corner of a window of three rows and four columns once it is turned to the left.
+///
+///     [[1, 2, 3, 4], [5, 6, 7, 8], [9, 0, 1, 2]]   corner_turned((0, 0))   Some(9)
+pub fn corner_turned(board: &Grid<u8>, at: (usize, usize)) -> Option<u8> {
+    let window = board.get_part(at, (3, 4))?;
+    Some(window.turned(Symmetry::RotateLeft)[(3, 2)])
+}
+
+/// Returns the first cell of a buffer that holds rows of eight, once these are turned to the right; `None` where they aren't whole.
+pub fn first_turned(buffer: &[u8]) -> Option<u8> {
+    let board = GridView::from_slice(buffer, Order::RowMajor, 8)?;
+    board.turned(Symmetry::RotateRight).get(0, 0).copied()
 }

@@ -5,7 +5,7 @@ ghost use Rattle.grid_near.specs.declared.steps.Steps.TheVariants.{Sides, All};
 ghost use Rattle.grid_paths.specs.Walks.{HasLeastSteps, HasLeastFrom, IsFilled, passing};
 ghost use Rattle.grid_paths.specs.Regions.{AreNumbers};
 
-use grid::Grid;
+use grid::{Grid, Order};
 use grid_paths::{
     Steps, cheapest_path, distances, distances_from, fill_region, regions, shortest_path,
 };
@@ -17,6 +17,21 @@ pub fn steps_from(maze: &Grid<u8>, from: (usize, usize)) -> Result<Grid<Option<u
         HasLeastSteps Sides (passing (λ x. x == 46) maze.now.rows) from steps.rows) }
 {
     distances(maze, from, Steps::Sides, |cell| *cell == b'.')
+}
+
+/// Returns the least number of steps from a position of a room to each free cell, `.`, of it, or `None` where the room isn't
+/// within the map. A room is a part of the map, which isn't copied; its walls are its edges too.
+pub fn steps_in_room(
+    alloc: Global,
+    map: &Grid<u8>,
+    (at, size): ((usize, usize), (usize, usize)),
+    from: (usize, usize),
+) -> Result<Option<Grid<Option<usize>>>, AllocError> {
+    let Some(room) = map.get_part(at, size) else {
+        return Ok(None);
+    };
+    let floor = Grid::map_view(alloc, Order::RowMajor, &room, |_, cell| *cell == b'.')?;
+    Ok(Some(distances(&floor, from, Steps::Sides, |free| *free)?))
 }
 
 // Whether a cell of a board is free.

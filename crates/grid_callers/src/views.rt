@@ -1,6 +1,6 @@
 //! Views: what a caller's contract says by the rows that are seen, with no proof file.
 ghost use Rattle.std.specs.Prelude.{◌≡◌, ◌<◌, ◌≤◌, ◌==◌, ◌↔◌, IsTrue, IfSome, OnOk, OnErr, Some, Any, sum, count_by};
-ghost use Rattle.grid.specs.Prelude.{row, row_count, col_count, transposed, cell, act, sub_table, overlaid};
+ghost use Rattle.grid.specs.Prelude.{row, row_count, col_count, transposed, cell, act, sub_table, overlaid, neighbors8};
 
 use grid::{Grid, GridView, Symmetry};
 use std::alloc::{AllocError, Global};
@@ -25,6 +25,20 @@ pub fn position_of(view: &GridView<'_, u32>, x: u32) -> Option<(usize, usize)>
 {
     let (at, _) = view.indexed_iter().find(|(_, cell)| **cell == x)?;
     Some(at)
+}
+
+/// Returns how many of the cells that touch a cell of a part are `x`, and where the first of them is in the part.
+pub fn count_in_part(
+    part: &GridView<'_, u8>,
+    at: (usize, usize),
+    x: u8,
+) -> (usize, Option<(usize, usize)>)
+    ensures count { result.0
+        ≡ count_by (λ near. near.1 == x) (neighbors8 part.now.rows at.0 at.1) }
+    ensures first { IfSome result.1 (λ at. cell part.now.rows at.0 at.1 ≡ Some x) }
+{
+    let is_x = |cell: &u8| *cell == x;
+    (part.count_neighbors8(at, is_x), part.position(is_x))
 }
 
 /// Returns the part of two rows and two columns, seen with its columns flipped.

@@ -21,7 +21,7 @@ use Rattle.grid_commands.specs.declared.command.Axis.TheVariants.{Row, Col}
 use Rattle.grid_commands.specs.declared.command.Refusal.{Refusal}
 use Rattle.grid_commands.specs.declared.command.Refusal.TheVariants.{Index}
 use Rattle.grid_commands.specs.declared.command.Reply.{Reply}
-use Rattle.grid_changes.specs.Entry.{is_step}
+use Rattle.grid_changes.specs.Entry.{is_step, AnswerIsKnown, EditAnswerIsKnown}
 use Rattle.grid_changes.specs.Timeline.{Board}
 use Rattle.grid_changes.specs.Change.{lines_of, with_lines, less_lines, FitsLines}
 use Rattle.grid_changes.specs.Asked.{IsDue, IsAsked}
@@ -72,7 +72,7 @@ module _ {T : Type 0} where
 
 module _ {T A : Type 0} (is_default : T → Type 0) (is_clone : T → T → Type 0) where
   -- what is said of an edit of lines, from its rows and its reply
-  pub due_lines : (a : Axis) (e : Edit T) (old new : Board T) (reply : Reply T A) (b : Bool) → new.order ≡ old.order → ((d : T) → EditIsKnown is_default d e → new.rows ≡ step_rows d (lines a e) old.rows) → (ClonesAreEqual is_clone → reply_value reply ≡ step_reply (lines a e) old.rows) → is_step (lines a e) old.rows ≡ b → IsDue is_default is_clone (lines a e) old new reply b
+  pub due_lines : (a : Axis) (e : Edit T) (old new : Board T) (reply : Reply T A) (b : Bool) → new.order ≡ old.order → ((d : T) → EditIsKnown is_default d e → new.rows ≡ step_rows d (lines a e) old.rows) → (EditAnswerIsKnown is_clone e → reply_value reply ≡ step_reply (lines a e) old.rows) → is_step (lines a e) old.rows ≡ b → IsDue is_default is_clone (lines a e) old new reply b
   due_lines a e old new reply b order rows replied one = record {
     leaves = record { rows = rows; applied = λ s k. cc k; order = order; is_one = one };
     replied = replied;
@@ -87,11 +87,11 @@ module _ {T : Type 0} where
     pub lines_fit : LinesFit i ls (lines_of a t)
     lines_fit = lines-fit i ls (lines_of a t) (IsTable-lines a t h) none_by_rows
 
-    pub put_fits : FitsLines a i ls t
-    put_fits = record {
+    pub put_fits : 0 < row_count ls → FitsLines a i ls t
+    put_fits more = record {
+      some = more;
       point = lines_fit.in_rows;
-      width = λ more.
-          ⊎_elim (λ e. inl (nil_from_length (lines_of a t) e)) (λ some. inr (lines_fit.width (omega (arith, some)) more)) (cases_eq (row_count (lines_of a t)) 0);
+      width = ⊎_elim (λ e. inl (nil_from_length (lines_of a t) e)) (λ some. inr (lines_fit.width (omega (arith, some)) more)) (cases_eq (row_count (lines_of a t)) 0);
     }
 
     pub put_rows : (d : T) → with_lines a i ls t ≡ step_rows d (lines a (insert_all i ls)) t
@@ -302,8 +302,9 @@ module _ {T : Type 0} where
 
     pub defaults_fit : FitsLines a i g.rows t
     defaults_fit = record {
+      some = omega (arith, made.size.rows cells_made, more);
       point = within at_end place;
-      width = λ _. inr (made.size.cols cells_made ∙ sym (cols-lines a t h));
+      width = inr (made.size.cols cells_made ∙ sym (cols-lines a t h));
     }
       where
         within : (b : Bool) → i ≡ (if b then line_count a (row_count t) (col_count t) else 0) → i ≤ row_count (lines_of a t)
@@ -409,22 +410,22 @@ module _ {T A : Type 0} (is_default : T → Type 0) (is_clone : T → T → Type
       due_lines is_default is_clone a e b b (the.Refused r) false refl (λ d known. refused_step d (lines a e) b.rows r some) (λ same. refused_replied (lines a e) b.rows r some) (refused_none (lines a e) b.rows r some)
 
   -- an edit that does what another does
-  due_edit : (a : Axis) (e f : Edit T) (old new : Board T) (reply : Reply T A) (b : Bool) → ((d : T) → EditIsKnown is_default d f → EditIsKnown is_default d e) → ((d : T) → step_rows d (lines a e) old.rows ≡ step_rows d (lines a f) old.rows) → step_reply (lines a e) old.rows ≡ step_reply (lines a f) old.rows → is_step (lines a e) old.rows ≡ is_step (lines a f) old.rows → IsDue is_default is_clone (lines a e) old new reply b → IsDue is_default is_clone (lines a f) old new reply b
-  due_edit a e f old new reply b known rows replied steps h =
-      due_lines is_default is_clone a f old new reply b h.leaves.order (λ d k. h.leaves.rows d (known d k) ∙ rows d) (λ same. h.replied same ∙ replied) (sym steps ∙ h.leaves.is_one)
+  due_edit : (a : Axis) (e f : Edit T) (old new : Board T) (reply : Reply T A) (b : Bool) → ((d : T) → EditIsKnown is_default d f → EditIsKnown is_default d e) → (EditAnswerIsKnown is_clone f → EditAnswerIsKnown is_clone e) → ((d : T) → step_rows d (lines a e) old.rows ≡ step_rows d (lines a f) old.rows) → step_reply (lines a e) old.rows ≡ step_reply (lines a f) old.rows → is_step (lines a e) old.rows ≡ is_step (lines a f) old.rows → IsDue is_default is_clone (lines a e) old new reply b → IsDue is_default is_clone (lines a f) old new reply b
+  due_edit a e f old new reply b known answers rows replied steps h =
+      due_lines is_default is_clone a f old new reply b h.leaves.order (λ d k. h.leaves.rows d (known d k) ∙ rows d) (λ k. h.replied (answers k) ∙ replied) (sym steps ∙ h.leaves.is_one)
 
-  asked_edit : (a : Axis) (e f : Edit T) (old : Board T) (asked : Asked T A) → ((d : T) → EditIsKnown is_default d f → EditIsKnown is_default d e) → ((d : T) → step_rows d (lines a e) old.rows ≡ step_rows d (lines a f) old.rows) → step_reply (lines a e) old.rows ≡ step_reply (lines a f) old.rows → is_step (lines a e) old.rows ≡ is_step (lines a f) old.rows → IsAsked is_default is_clone (lines a e) old asked → IsAsked is_default is_clone (lines a f) old asked
-  asked_edit a e f old (an.Answer reply) known rows replied steps h = due_edit a e f old old reply false known rows replied steps h
-  asked_edit a e f old (an.Making change reply) known rows replied steps h = (h.0, due_edit a e f old _ reply true known rows replied steps h.1)
+  asked_edit : (a : Axis) (e f : Edit T) (old : Board T) (asked : Asked T A) → ((d : T) → EditIsKnown is_default d f → EditIsKnown is_default d e) → (EditAnswerIsKnown is_clone f → EditAnswerIsKnown is_clone e) → ((d : T) → step_rows d (lines a e) old.rows ≡ step_rows d (lines a f) old.rows) → step_reply (lines a e) old.rows ≡ step_reply (lines a f) old.rows → is_step (lines a e) old.rows ≡ is_step (lines a f) old.rows → IsAsked is_default is_clone (lines a e) old asked → IsAsked is_default is_clone (lines a f) old asked
+  asked_edit a e f old (an.Answer reply) known answers rows replied steps h = due_edit a e f old old reply false known answers rows replied steps h
+  asked_edit a e f old (an.Making change reply) known answers rows replied steps h = (h.0, due_edit a e f old _ reply true known answers rows replied steps h.1)
 
   pub pushed_asked : (a : Axis) (i : ℕ) (line : List T) (old : Board T) (asked : Asked T A) → i ≡ line_count a (row_count old.rows) (col_count old.rows) → IsAsked is_default is_clone (lines a (insert_at i line)) old asked → IsAsked is_default is_clone (lines a (push line)) old asked
-  pushed_asked a i line old asked e h = asked_edit a (insert_at i line) (push line) old asked (λ d k. k) (λ d. push_rows d a i line old.rows e) (push_replied a i line old.rows e) (push_steps a i line old.rows e) h
+  pushed_asked a i line old asked e h = asked_edit a (insert_at i line) (push line) old asked (λ d k. k) (λ k. k) (λ d. push_rows d a i line old.rows e) (push_replied a i line old.rows e) (push_steps a i line old.rows e) h
 
   pub popped_asked : (a : Axis) (i : ℕ) (old : Board T) (asked : Asked T A) → i ≡ line_count a (row_count old.rows) (col_count old.rows) - 1 → IsAsked is_default is_clone (lines a (remove_at i)) old asked → IsAsked is_default is_clone (lines a pop) old asked
-  popped_asked a i old asked e h = asked_edit a (remove_at i) pop old asked (λ d k. k) (λ d. pop_rows d a i old.rows e) (pop_replied a i old.rows e) (pop_steps a i old.rows e) h
+  popped_asked a i old asked e h = asked_edit a (remove_at i) pop old asked (λ d k. k) (λ k. k) (λ d. pop_rows d a i old.rows e) (pop_replied a i old.rows e) (pop_steps a i old.rows e) h
 
   pub deleted_asked : (a : Axis) (i : ℕ) (old : Board T) (asked : Asked T A) → IsAsked is_default is_clone (lines a (delete_range i 1)) old asked → IsAsked is_default is_clone (lines a (delete_at i)) old asked
-  deleted_asked a i old asked h = asked_edit a (delete_range i 1) (delete_at i) old asked (λ d k. k) (λ d. delete_one_rows d a i old.rows) (delete_one_replied a i old.rows) (delete_steps a i old.rows) h
+  deleted_asked a i old asked h = asked_edit a (delete_range i 1) (delete_at i) old asked (λ d k. k) (λ k. k) (λ d. delete_one_rows d a i old.rows) (delete_one_replied a i old.rows) (delete_steps a i old.rows) h
 
 -- a command on cells, or on the whole board
 module _ {T A : Type 0} (is_default : T → Type 0) (is_clone : T → T → Type 0) where
@@ -495,3 +496,11 @@ module _ {T A : Type 0} (is_default : T → Type 0) (is_clone : T → T → Type
     leaves = record { rows = λ d k. refl; applied = λ u k. let e : s ≡ u = cc k in ap (λ x. act x b.rows) e; order = refl; is_one = refl };
     replied = λ same. refl;
   }
+
+-- where clones equal their source, every reply of a history is known
+pub answer_known : {T : Type 0} (is_clone : T → T → Type 0) (x : CommandValue T) → ClonesAreEqual is_clone → AnswerIsKnown is_clone x
+answer_known is_clone (get r c) same = same
+answer_known is_clone (lines a (read i)) same = same
+answer_known is_clone (lines a pop) same = same
+answer_known is_clone (lines a (remove_at i)) same = same
+answer_known is_clone x same = tt

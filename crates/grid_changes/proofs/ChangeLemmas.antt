@@ -1,11 +1,13 @@
 -- Changes of a board that are taken back: a cell, two cells, lines, a symmetry.
-use Rattle.std.proofs.Common.{◌≡◌, ℕ, ◌+◌, ◌*◌, ◌<◌, ◌≤◌, Some, List, [], length, take, drop, refl, sym, ◌∙◌, ap, subst, arith, inl, inr, ⊎_elim, slice_get, swap, length-take-le, length-drop, Result, Ok, Err, OnOk, IfOk}
-use Rattle.grid.proofs.Common.{row_count, col_count, cell, with_cell, exchanged, IsTable, InRange, GridValue, HoldsSize, storage, place, table_of, act, cases_eq, nil_from_length, by_storage, length-storage, place_within, view-swap, same_cells, IsSize-table, IsTable-act, FitsRow, insert_rows, without_rows, order_after-order_after, get-take, get-drop}
+use Rattle.std.proofs.Common.{◌≡◌, ◌≢◌, ℕ, ◌+◌, ◌-◌, ◌*◌, ◌<◌, ◌≤◌, ◌⊎◌, IsTrue, Some, List, [], length, take, drop, refl, sym, ◌∙◌, ap, subst, arith, inl, inr, ⊎_elim, slice_get, swap, length-take-le, length-drop, Result, Ok, Err, OnOk, IfOk}
+use Rattle.std.proofs.Math.Nat.{add-mul, mul_comm, mul-le-mul, zero-mul}
+use Rattle.grid.proofs.Common.{row_count, col_count, rows-act, cols-act, cell, with_cell, exchanged, IsTable, InRange, GridValue, HoldsSize, storage, place, table_of, act, cases_eq, nil_from_length, by_storage, length-storage, place_within, view-swap, same_cells, IsSize-table, IsTable-act, FitsRow, insert_rows, without_rows, order_after-order_after, get-take, get-drop}
 use Rattle.grid.proofs.CellWriteLemmas.{with_cell_back}
 use Rattle.grid.proofs.ListEditLemmas.{get_or-same}
 use Rattle.grid.proofs.ColEditLemmas.{across-across}
-use Rattle.grid.proofs.EditSizeLemmas.{LinesFit, cols-take, IsTable-take, IsTable-put}
+use Rattle.grid.proofs.EditSizeLemmas.{LinesFit, cols-put_lines, cols-take, IsTable-take, IsTable-put}
 use Rattle.grid.proofs.RowEditLemmas.{rows-take}
+use Rattle.grid.proofs.SplitLemmas.{IsTable-tail, take_without}
 use Rattle.grid_base.proofs.SwapLemmas.{get-swap_first, get-swap_second, get-swap_other}
 use Rattle.std.proofs.lemmas.List.Edits.{length-swap}
 use Rattle.grid_base.proofs.GroupLemmas.{inverse_acts, inverse_is}
@@ -18,9 +20,10 @@ use Rattle.grid_base.specs.declared.words.Symmetry.{Symmetry}
 use Rattle.grid_base.specs.declared.words.Symmetry.TheVariants.{Transpose}
 use Rattle.grid_commands.specs.declared.command.Axis.{Axis}
 use Rattle.grid_commands.specs.declared.command.Axis.TheVariants.{Row, Col}
+use Rattle.grid_changes.specs.declared.change.Change.{Change}
 use Rattle.grid_changes.specs.declared.change.Change.TheVariants as the
-use Rattle.grid_changes.specs.Timeline.{Board, board_of}
-use Rattle.grid_changes.specs.Change.{lines_of, with_lines, less_lines, FitsLines, HasLines, Inverts}
+use Rattle.grid_changes.specs.Timeline.{Board, board_of, cell_count}
+use Rattle.grid_changes.specs.Change.{Fits, after, is_of_lines, lines_of, with_lines, less_lines, FitsLines, HasLines, Inverts}
 use Rattle.grid_changes.proofs.RollLemmas.{part_back, out_again, length_put}
 
 -- a list of which two items changed places twice
@@ -40,6 +43,16 @@ swap_back xs i j li lj =
     (λ nf. get-swap_other (swap xs i j) i j k ki kj ne nf ∙ get-swap_other xs i j k li lj ne nf)
     (cases_eq k j))
     (cases_eq k i))
+
+-- more lines, or lines where there were none, are more cells
+cells_more : (m k n p : ℕ) → 0 < k → 0 < p → (m ≡ 0) ⊎ (n ≡ p) → m * n < (m + k) * p
+cells_more m k n p some wide e =
+    let more : 0 < k * p = mul-le-mul some wide in
+    let sum : (m + k) * p ≡ m * p + k * p = add-mul m k p in
+    ⊎_elim {C = m * n < (m + k) * p}
+    (λ none. let zero : m * n ≡ 0 = ap (λ x. x * n) none ∙ zero-mul n in omega (arith, zero, sum, more))
+    (λ same. let equal : m * n ≡ m * p = ap (λ x. m * x) same in omega (arith, equal, sum, more))
+    e
 
 -- a symmetry is taken back
 pub order_back : (s v : Symmetry) (o : Order) → IsInverse s v → order_after v (order_after s o) ≡ o
@@ -80,7 +93,7 @@ module _ {T : Type 0} where
   has_put a i ls t u h e k f =
       let v = lines_of a t in
       let back : lines_of a u ≡ insert_rows i ls v = ap (lines_of a) e ∙ lines-lines a (insert_rows i ls v) k in
-      record { within = omega (arith, f.point, ap length back, length_put i (row_count ls) v ls f.point refl) }
+      record { some = f.some; within = omega (arith, f.point, ap length back, length_put i (row_count ls) v ls f.point refl) }
 
   pub put_taken : (a : Axis) (i k : ℕ) (ls t u : List (List T)) → IsTable t → u ≡ with_lines a i ls t → IsTable (insert_rows i ls (lines_of a t)) → FitsLines a i ls t → k ≡ row_count ls → less_lines a i k u ≡ t
   put_taken a i k ls t u h e table f count =
@@ -109,14 +122,18 @@ module _ {T : Type 0} where
     lines_left : lines_of a u ≡ without_rows i k (lines_of a t)
     lines_left = ap (lines_of a) less ∙ lines-lines a (without_rows i k (lines_of a t)) (IsTable-take i k (lines_of a t) (IsTable-lines a t h) w.within)
 
+    part_count : row_count (take k (drop i (lines_of a t))) ≡ k
+    part_count = length-take-le k (drop i (lines_of a t)) (omega (arith, w.within, length-drop i (lines_of a t)))
+
     pub taken_fits : FitsLines a i ls u
-    taken_fits = record {
-      point = omega (arith, w.within, ap length lines_left, rows-take i k (lines_of a t) w.within);
-      width = λ some.
-          let more : 0 < row_count (take k (drop i (lines_of a t))) = omega (arith, ap length taken, some) in
-          let fits : FitsRow (without_rows i k (lines_of a t)) (col_count ls) = subst (λ x. FitsRow (without_rows i k (lines_of a t)) (col_count x)) (sym taken) (part_fits i k (lines_of a t) (IsTable-lines a t h) w.within more) in
-          subst (λ x. FitsRow x (col_count ls)) (sym lines_left) fits;
-    }
+    taken_fits =
+        let more : 0 < row_count (take k (drop i (lines_of a t))) = omega (arith, part_count, w.some) in
+        let fits : FitsRow (without_rows i k (lines_of a t)) (col_count ls) = subst (λ x. FitsRow (without_rows i k (lines_of a t)) (col_count x)) (sym taken) (part_fits i k (lines_of a t) (IsTable-lines a t h) w.within more) in
+        record {
+          some = omega (arith, ap length taken, more);
+          point = omega (arith, w.within, ap length lines_left, rows-take i k (lines_of a t) w.within);
+          width = subst (λ x. FitsRow x (col_count ls)) (sym lines_left) fits;
+        }
 
     pub taken_back : with_lines a i ls u ≡ t
     taken_back =
@@ -125,15 +142,52 @@ module _ {T : Type 0} where
         ∙ (ap (lines_of a) (part_back i k (lines_of a t) w.within) ∙ lines-lines a t h))
 
   -- rows that fit leave a table
+  lines_that_fit : (a : Axis) (i : ℕ) (ls t : List (List T)) → IsTable t → IsTable ls → FitsLines a i ls t → LinesFit i ls (lines_of a t)
+  lines_that_fit a i ls t h k f = record {
+    in_rows = f.point;
+    old = IsTable-lines a t h;
+    new = k;
+    width = λ some more. ⊎_elim (λ none. absurd (omega (arith, ap row_count none, some))) (λ e. e) f.width;
+  }
+
   pub IsTable-with_lines : (a : Axis) (i : ℕ) (ls t : List (List T)) → IsTable t → IsTable ls → FitsLines a i ls t → IsTable (insert_rows i ls (lines_of a t))
-  IsTable-with_lines a i ls t h k f =
-      let fit : LinesFit i ls (lines_of a t) = record {
-        in_rows = f.point;
-        old = IsTable-lines a t h;
-        new = k;
-        width = λ some more. ⊎_elim (λ none. absurd (omega (arith, ap row_count none, some))) (λ e. e) (f.width more);
-      } in
-      IsTable-put i ls (lines_of a t) fit
+  IsTable-with_lines a i ls t h k f = IsTable-put i ls (lines_of a t) (lines_that_fit a i ls t h k f)
+
+  -- lines that are a part of a table
+  IsTable-part : (i k : ℕ) (v : List (List T)) → IsTable v → i + k ≤ row_count v → IsTable (take k (drop i v))
+  IsTable-part i k v h le =
+      let count : row_count (drop i v) ≡ row_count v - i = length-drop i v in
+      let tail : IsTable (drop i v) = IsTable-tail v h i (omega (arith, le)) in
+      subst IsTable (sym (take_without k (drop i v) (omega (arith, le, count))))
+      (IsTable-take k (row_count (drop i v) - k) (drop i v) tail (omega (arith, le, count)))
+
+  -- lines that are put in or taken out change how many cells there are
+  cells-lines : (a : Axis) (t : List (List T)) → IsTable t → cell_count (lines_of a t) ≡ cell_count t
+  cells-lines Row t h = refl
+  cells-lines Col t h = (λ i. rows-act Transpose t i * cols-act Transpose t h i) ∙ mul_comm (col_count t) (row_count t)
+
+  pub more_cells : (a : Axis) (i : ℕ) (ls t : List (List T)) → IsTable t → IsTable ls → FitsLines a i ls t → cell_count t < cell_count (with_lines a i ls t)
+  more_cells a i ls t h k f =
+      let v = lines_of a t in
+      let new = insert_rows i ls v in
+      let fit = lines_that_fit a i ls t h k f in
+      let rows : row_count new ≡ row_count v + row_count ls = length_put i (row_count ls) v ls f.point refl in
+      let cols : col_count new ≡ col_count ls = cols-put_lines i ls v fit f.some in
+      let less : cell_count v < (row_count v + row_count ls) * col_count ls =
+      cells_more (row_count v) (row_count ls) (col_count v) (col_count ls) f.some (k.nonempty 0 f.some) (⊎_elim (λ none. inl (ap length none)) (λ e. inr (sym e)) f.width) in
+      let there : cell_count new ≡ (row_count v + row_count ls) * col_count ls = λ j. rows j * cols j in
+      omega (arith, less, there, cells-lines a t h, cells-lines a new (IsTable-with_lines a i ls t h k f))
+
+  pub fewer_cells : (a : Axis) (i k : ℕ) (t : List (List T)) → IsTable t → HasLines a i k t → cell_count (less_lines a i k t) < cell_count t
+  fewer_cells a i k t h w =
+      let v = lines_of a t in
+      let u = less_lines a i k t in
+      let ls = take k (drop i v) in
+      let table = IsTable-lines a t h in
+      let left : IsTable u = IsTable-lines a (without_rows i k v) (IsTable-take i k v table w.within) in
+      let back : with_lines a i ls u ≡ t = taken_back a i k ls t u h w refl refl in
+      let more = more_cells a i ls u left (IsTable-part i k v table w.within) (taken_fits a i k ls t u h w refl refl) in
+      omega (arith, more, ap cell_count back)
 
 -- what holds of an answer, by what holds beside it and of it
 pub ok_both : {X E : Type 0} {Q : Type 0} {P R : X → Type 0} (r : Result X E) → OnOk r Q → IfOk r P → ((x : X) → Q → P x → R x) → IfOk r R
@@ -173,3 +227,13 @@ module _ {T A : Type 0} (g : GridValue T) where
       fits = tt;
       leads = same_board _ _ (ap (act v) rows ∙ inverse_acts s v e g.rows g.table) (ap (order_after v) order ∙ order_back s v g.order e);
     }
+
+-- a change of lines changes how many cells there are
+module _ {T A : Type 0} where
+  pub other_count : (x : Change T A) (g : GridValue T) → Fits x (board_of g) → IsTrue (is_of_lines x) → cell_count (after x (board_of g)).rows ≢ cell_count g.rows
+  other_count (the.Put a i ls) g f is = λ e. omega (arith, e, more_cells a i ls.rows g.rows g.table ls.table f)
+  other_count (the.Take a i k) g f is = λ e. omega (arith, e, fewer_cells a i k g.rows g.table f)
+  other_count (the.Write r c v) g f is = absurd (cc is)
+  other_count (the.Exchange p q) g f is = absurd (cc is)
+  other_count (the.Turn s) g f is = absurd (cc is)
+  other_count (the.Replace b) g f is = absurd (cc is)

@@ -1,6 +1,6 @@
 pub mod RollLemmas
-pub mod StepLemmas
 pub mod ChangeLemmas
+pub mod StepLemmas
 pub mod AskedLemmas
 pub mod DifferenceLemmas
 pub mod WriteLemmas

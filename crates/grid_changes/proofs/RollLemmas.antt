@@ -5,7 +5,7 @@ use Rattle.std.proofs.lemmas.List.{drop-drop}
 
 module _ {X : Type 0} where
   -- a list that is cut at its seam
-  take_seam : (n : ℕ) (xs ys : List X) → n ≡ length xs → take n (xs ++ ys) ≡ xs
+  pub take_seam : (n : ℕ) (xs ys : List X) → n ≡ length xs → take n (xs ++ ys) ≡ xs
   take_seam n xs ys e = ap (λ k. take k (xs ++ ys)) e ∙ take-append_seam xs ys
 
   drop_seam : (n : ℕ) (xs ys : List X) → n ≡ length xs → drop n (xs ++ ys) ≡ ys

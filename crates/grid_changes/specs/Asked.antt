@@ -1,11 +1,11 @@
 -- What a command comes to at a board. No public clause cites this module.
 use Rattle.std.specs.Prelude.{◌≡◌, Bool, true, false}
-use Rattle.grid.specs.Prelude.{ClonesAreEqual, CommandValue, apply, reply_value, act, order_after, command_symmetry, step_rows, step_reply, RowsAreKnown}
+use Rattle.grid.specs.Prelude.{CommandValue, apply, reply_value, act, order_after, command_symmetry, step_rows, step_reply, RowsAreKnown}
 use Rattle.grid_base.specs.declared.words.Symmetry.{Symmetry}
 use Rattle.grid_commands.specs.declared.command.Reply.{Reply}
 use Rattle.grid_changes.specs.declared.asked.Asked.{Asked}
 use Rattle.grid_changes.specs.declared.asked.Asked.TheVariants as an
-use Rattle.grid_changes.specs.Entry.{is_step}
+use Rattle.grid_changes.specs.Entry.{is_step, AnswerIsKnown}
 use Rattle.grid_changes.specs.Timeline.{Board}
 use Rattle.grid_changes.specs.Change.{Fits, after}
 
@@ -22,7 +22,7 @@ module _ {T A : Type 0} (is_default : T → Type 0) (is_clone : T → T → Type
   pub record IsDue (x : CommandValue T) (old new : Board T) (reply : Reply T A) (step : Bool)
       : Type 0 where
     pub leaves : Leaves is_default is_clone x old new step
-    pub replied : ClonesAreEqual is_clone → reply_value reply ≡ step_reply x old.rows
+    pub replied : AnswerIsKnown is_clone x → reply_value reply ≡ step_reply x old.rows
 
   abbrev pub IsAsked : CommandValue T → Board T → Asked T A → Type 0
   IsAsked x old (an.Answer reply) = IsDue x old old reply false

@@ -1,5 +1,5 @@
 -- Changes of a board, and which of them fit a board. No public clause cites this module.
-use Rattle.std.specs.Prelude.{◌≡◌, ⊤, ℕ, ◌+◌, ◌<◌, ◌≤◌, List}
+use Rattle.std.specs.Prelude.{◌≡◌, ⊤, ℕ, ◌+◌, ◌<◌, ◌≤◌, List, Bool, true, false}
 use Rattle.grid.specs.Prelude.{row_count, col_count, with_cell, exchanged, InRange, FitsRow, insert_rows, without_rows, act, order_after}
 use Rattle.grid_base.specs.declared.words.Symmetry.TheVariants.{Transpose}
 use Rattle.grid_commands.specs.declared.command.Axis.{Axis}
@@ -21,13 +21,15 @@ module _ {T : Type 0} where
   abbrev pub less_lines : Axis → ℕ → ℕ → List (List T) → List (List T)
   less_lines x i k t = lines_of x (without_rows i k (lines_of x t))
 
-  -- these lines fit before line i of an axis
+  -- these lines, of which there are some, fit before line i of an axis
   pub record FitsLines (x : Axis) (i : ℕ) (ls t : List (List T)) : Type 0 where
+    pub some : 0 < row_count ls
     pub point : i ≤ row_count (lines_of x t)
-    pub width : 0 < row_count ls → FitsRow (lines_of x t) (col_count ls)
+    pub width : FitsRow (lines_of x t) (col_count ls)
 
-  -- there are k lines of an axis from i on
+  -- there are k lines of an axis from i on, and k isn't 0
   pub record HasLines (x : Axis) (i k : ℕ) (t : List (List T)) : Type 0 where
+    pub some : 0 < k
     pub within : i + k ≤ row_count (lines_of x t)
 
 module _ {T A : Type 0} where
@@ -48,6 +50,13 @@ module _ {T A : Type 0} where
   after (a.Take x i k) b = record b { rows = less_lines x i k b.rows }
   after (a.Turn s) b = record { rows = act s b.rows; order = order_after s b.order }
   after (a.Replace g) b = board_of g
+
+  -- whether a change puts lines in or takes lines out
+  abbrev pub is_of_lines : Change T A → Bool
+  is_of_lines (a.Put x i ls) = true
+  is_of_lines (a.Take x i k) = true
+  -- every other change
+  is_of_lines x = false
 
   -- a change leads from one board to the other
   pub record Inverts (x : Change T A) (from to : Board T) : Type 0 where

@@ -1,7 +1,8 @@
 -- The cells in which one table differs from another.
 use Rattle.std.specs.Prelude.{◌≡◌, ℕ, Bool, false, not, IsTrue, Option, None, Some, List, map, filter}
-use Rattle.grid.specs.Prelude.{cell, CommandValue, set_cell}
+use Rattle.grid.specs.Prelude.{cell, CommandValue, command_value, set_cell}
 use Rattle.grid_base.specs.Iterators.{indexed_cells}
+use Rattle.grid_commands.specs.declared.command.Command.{Command}
 use Rattle.grid_base.specs.declared.order.Order.TheVariants.{RowMajor}
 
 module _ {T : Type 0} (same : T → T → Bool) where
@@ -25,3 +26,10 @@ SameAreEqual {T} same = (x y : T) → IsTrue (same x y) → x ≡ y
 -- the commands that write cells at their positions
 abbrev pub writes : {T : Type 0} → List ((ℕ × ℕ) × T) → List (CommandValue T)
 writes cells = map (λ p. set_cell (p.0).0 (p.0).1 p.1) cells
+
+-- a command writes a clone of a cell at its position
+pub record WritesClone {T A : Type 0} (is_clone : T → T → Type 0) (p : (ℕ × ℕ) × T)
+    (x : Command T A) : Type 0 where
+  pub copy : T
+  pub is_copy : is_clone p.1 copy
+  pub is : command_value x ≡ set_cell (p.0).0 (p.0).1 copy

@@ -1,6 +1,8 @@
--- Which commands a history keeps as a step.
-use Rattle.std.specs.Prelude.{ℕ, ◌+◌, Bool, true, false, not, ◌&&◌, List, nat_lt, is_none}
-use Rattle.grid.specs.Prelude.{row_count, col_count, Edit, read, insert_all, pop, remove_at, delete_at, delete_range, expand, prepend, CommandValue, size, get, lines, line_count, command_refusal, has_lines}
+-- Which commands a history keeps as a step, which may want memory, and which it replies to with
+-- clones.
+use Rattle.std.specs.Prelude.{ℕ, ◌+◌, ⊤, Bool, true, false, not, ◌&&◌, ◌||◌, List, nat_lt, is_none}
+use Rattle.grid.specs.Prelude.{row_count, col_count, ClonesAreEqual, Edit, read, insert_all, pop, remove_at, delete_at, delete_range, expand, prepend, CommandValue, size, get, lines, line_count, command_refusal, has_lines}
+use Rattle.grid.specs.Step.{memory_at}
 
 module _ {T : Type 0} where
   -- whether an edit of `count` lines that isn't refused puts lines in or takes lines out
@@ -28,3 +30,24 @@ module _ {T : Type 0} where
   abbrev pub is_step : CommandValue T → List (List T) → Bool
   is_step x t = is_none (command_refusal x (row_count t) (col_count t))
       && changes_board x (row_count t) (col_count t)
+
+  -- what the reply of a history to an edit of lines rests on: it clones the cells of a line that it
+  -- replies, also of one that it takes out
+  abbrev pub EditAnswerIsKnown : (T → T → Type 0) → Edit T → Type 0
+  EditAnswerIsKnown is_clone (read i) = ClonesAreEqual is_clone
+  EditAnswerIsKnown is_clone pop = ClonesAreEqual is_clone
+  EditAnswerIsKnown is_clone (remove_at i) = ClonesAreEqual is_clone
+  -- every edit but a read, a pop and a remove
+  EditAnswerIsKnown is_clone e = ⊤
+
+  -- what the reply of a history to a command rests on
+  abbrev pub AnswerIsKnown : (T → T → Type 0) → CommandValue T → Type 0
+  AnswerIsKnown is_clone (get r c) = ClonesAreEqual is_clone
+  AnswerIsKnown is_clone (lines a e) = EditAnswerIsKnown is_clone e
+  -- every command but a get and an edit of lines
+  AnswerIsKnown is_clone x = ⊤
+
+  -- whether a history may want memory for a command: for a step and for what is kept of it, or for
+  -- the reply to a read
+  abbrev pub wants_memory : CommandValue T → List (List T) → Bool
+  wants_memory x t = is_step x t || memory_at x t

@@ -1,7 +1,8 @@
 //! Commands as a history reads them: an answer, or a change with its reply.
-ghost use Rattle.std.specs.Prelude.{◌≡◌, ◌≤◌, ◌+◌, ◌↔◌, IsTrue, IfOk};
+ghost use Rattle.std.specs.Prelude.{◌≡◌, ◌<◌, ◌≤◌, ◌+◌, ◌↔◌, IsTrue, IfOk, OnErr};
 ghost use Rattle.grid.specs.Prelude.{row_count, col_count, ClonesAreEqual, filled, items_of_each, command_value, reply_value, lines, edit_value, pad_edit, insert_at, insert_all, remove_at, delete_range, line_is, line_at, line_count, line_width};
 ghost use Rattle.grid_changes.specs.Asked.{IsAsked};
+ghost use Rattle.grid_changes.specs.Entry.{wants_memory};
 ghost use Rattle.grid_changes.specs.Timeline.{board_of};
 
 use crate::change::Change;
@@ -54,8 +55,10 @@ fn read_line<T, A: Allocator>(
 where
     T: Clone + Drop,
     A: Clone,
-    ensures { IfOk result (λ reply. ClonesAreEqual T.is_clone
+    ensures reply { IfOk result (λ reply. ClonesAreEqual T.is_clone
         → reply_value reply ≡ line_is (line_at axis at grid.now.rows)) }
+    ensures err_memory { OnErr result
+        (at < line_count axis (row_count grid.now.rows) (col_count grid.now.rows)) }
 {
     let (count, _) = measure(grid, axis);
     if at >= count {
@@ -105,8 +108,10 @@ fn put_several<T, A: Allocator>(
 where
     T: Clone + Default + Drop,
     A: Clone,
-    ensures { IfOk result (IsAsked T.is_default T.is_clone
+    ensures asked { IfOk result (IsAsked T.is_default T.is_clone
         (lines axis (insert_all at (items_of_each several.items))) (board_of grid.now)) }
+    ensures err_memory { OnErr result (IsTrue (wants_memory
+        (lines axis (insert_all at (items_of_each several.items))) grid.now.rows)) }
 {
     let (count, width) = measure(grid, axis);
     if let Some(refusal) = lines_refusal(count, width, at, several.as_slice()) {
@@ -131,8 +136,10 @@ fn put_defaults<T, A: Allocator>(
 where
     T: Clone + Default + Drop,
     A: Clone,
-    ensures { IfOk result (IsAsked T.is_default T.is_clone
+    ensures asked { IfOk result (IsAsked T.is_default T.is_clone
         (lines axis (pad_edit at_end more)) (board_of grid.now)) }
+    ensures err_memory { OnErr result (IsTrue (wants_memory
+        (lines axis (pad_edit at_end more)) grid.now.rows)) }
 {
     let (count, width) = measure(grid, axis);
     if let Some(refusal) = pad_refusal(count, width, more) {
@@ -158,8 +165,10 @@ fn take_line<T, A: Allocator>(
 where
     T: Clone + Default + Drop,
     A: Clone,
-    ensures { IfOk result (IsAsked T.is_default T.is_clone
+    ensures asked { IfOk result (IsAsked T.is_default T.is_clone
         (lines axis (remove_at at)) (board_of grid.now)) }
+    ensures err_memory { OnErr result (IsTrue (wants_memory
+        (lines axis (remove_at at)) grid.now.rows)) }
 {
     let reply = read_line(grid, axis, at)?;
     if at < measure(grid, axis).0 {
@@ -205,8 +214,10 @@ fn asked_of_lines<T, A: Allocator>(
 where
     T: Clone + Default + Drop,
     A: Clone,
-    ensures { IfOk result (IsAsked T.is_default T.is_clone
+    ensures asked { IfOk result (IsAsked T.is_default T.is_clone
         (lines axis (edit_value edit)) (board_of grid.now)) }
+    ensures err_memory { OnErr result (IsTrue (wants_memory
+        (lines axis (edit_value edit)) grid.now.rows)) }
 {
     let (count, _) = measure(grid, axis);
     match edit {
@@ -251,8 +262,10 @@ pub(crate) fn asked_of<T, A: Allocator>(
 where
     T: Clone + Default + Drop,
     A: Clone,
-    ensures { IfOk result (IsAsked T.is_default T.is_clone
+    ensures asked { IfOk result (IsAsked T.is_default T.is_clone
         (command_value command) (board_of grid.now)) }
+    ensures err_memory { OnErr result (IsTrue (wants_memory
+        (command_value command) grid.now.rows)) }
 {
     match request_of(command) {
         Request::Size => {

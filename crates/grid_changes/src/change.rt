@@ -1,7 +1,7 @@
 //! Changes of a grid, each of which gives the one that takes it back. Cells are moved, and never cloned.
-ghost use Rattle.std.specs.Prelude.{◌≡◌, ◌+◌, ◌≤◌, ◌<◌, take, drop, OnOk, OnErr, IfOk, IfErr};
+ghost use Rattle.std.specs.Prelude.{◌≡◌, ◌+◌, ◌≤◌, ◌<◌, take, drop, OnOk, OnErr, IfOk, IfErr, IsTrue};
 ghost use Rattle.grid.specs.Prelude.{row_count, col_count, FitsRow, insert_rows, without_rows};
-ghost use Rattle.grid_changes.specs.Change.{Fits, after, Inverts, FitsLines, HasLines, with_lines, less_lines};
+ghost use Rattle.grid_changes.specs.Change.{Fits, after, is_of_lines, Inverts, FitsLines, HasLines, with_lines, less_lines};
 ghost use Rattle.grid_changes.specs.Timeline.{board_of};
 
 use grid::{Axis, Grid, Symmetry};
@@ -16,9 +16,9 @@ pub(crate) enum Change<T, A: Allocator> {
     Write(usize, usize, T),
     // Exchanges two cells.
     Exchange((usize, usize), (usize, usize)),
-    // Puts lines before one; they are the rows of a grid.
+    // Puts lines before one; they are the rows of a grid, which isn't empty.
     Put(Axis, usize, Grid<T, A>),
-    // Takes a number of lines out, from one on.
+    // Takes a number of lines out, from one on; it isn't 0.
     Take(Axis, usize, usize),
     // Applies a symmetry.
     Turn(Symmetry),
@@ -26,8 +26,8 @@ pub(crate) enum Change<T, A: Allocator> {
     Replace(Grid<T, A>),
 }
 
-// Does a change, and returns the one that takes it back. If memory is refused, the grid is unchanged, and the change
-// comes back.
+// Does a change, and returns the one that takes it back. If memory is refused, which comes only where lines are put in or
+// taken out, the grid is unchanged, and the change comes back.
 pub(crate) fn make<T, A: Allocator>(
     grid: &mut Grid<T, A>,
     change: Change<T, A>,
@@ -40,6 +40,7 @@ where
     ensures inverse { IfOk result (λ back. Inverts back (board_of grid.new) (board_of grid.old)) }
     ensures change_back { IfErr result (λ same. same ≡ change) }
     ensures unchanged { OnErr result (grid.new ≡ grid.old) }
+    ensures err_lines { OnErr result (IsTrue (is_of_lines change)) }
 {
     match change {
         Change::Write(row, col, value) => {

@@ -2,9 +2,10 @@
 ghost use Rattle.std.specs.Prelude.{◌≡◌, map, IfOk};
 ghost use Rattle.std.specs.Iterator.{YieldsFirstBy, item_count};
 ghost use Rattle.grid.specs.Prelude.{row_count, col_count, cell, GivesCells, ClonesAreEqual, command_value, run_rows};
-ghost use Rattle.grid_changes.specs.Differences.{is_cell, changed_cells, writes, SameAreEqual};
+ghost use Rattle.grid_changes.specs.Differences.{is_cell, changed_cells, writes, SameAreEqual, WritesClone};
+ghost use Rattle.std.specs.List.{AllZip};
 
-use grid::{Command, GridView, ViewIndexedIter};
+use grid::{AsView, Command, GridView, ViewIndexedIter};
 use std::alloc::{AllocError, Allocator};
 use std::marker::Model;
 
@@ -33,13 +34,17 @@ impl<'a, T: PartialEq> Model for ChangeIter<'a, T> {
 /// Where `old` has no cell at a position, the cell of `new` is a change. What only `old` has isn't listed.
 ///
 /// Cost: constant; no memory. The iterator compares each cell of `new` once.
-pub fn changes<'a, T: PartialEq>(old: &GridView<'a, T>, new: &GridView<'a, T>) -> ChangeIter<'a, T>
-    ensures cells { result ≡ changed_cells T.eq old.now.rows new.now.rows }
-    ensures gives { GivesCells new.now.rows result }
+pub fn changes<'a, T, V, W>(old: &'a V, new: &'a W) -> ChangeIter<'a, T>
+where
+    T: PartialEq,
+    V: AsView<T>,
+    W: AsView<T>,
+    ensures cells { result ≡ changed_cells T.eq (V.rows old.now) (W.rows new.now) }
+    ensures gives { GivesCells (W.rows new.now) result }
 {
     ChangeIter {
-        old: old.view(),
-        cells: new.indexed_iter(),
+        old: old.as_view(),
+        cells: new.as_view().indexed_iter(),
     }
 }
 
@@ -79,19 +84,23 @@ impl<'a, T: PartialEq> Iterator for ChangeIter<'a, T> {
 ///
 /// Fails: if allocation fails, for the list or in a clone.
 /// Cost: one comparison for each cell of `new`, one clone for each command.
-pub fn change_commands<T, A: Allocator>(
+pub fn change_commands<T, A: Allocator, V, W>(
     alloc: A,
-    old: &GridView<'_, T>,
-    new: &GridView<'_, T>,
+    old: &V,
+    new: &W,
 ) -> Result<Vec<Command<T, A>, A>, AllocError>
 where
     T: PartialEq + Clone + Drop,
+    V: AsView<T>,
+    W: AsView<T>,
+    ensures clones { IfOk result (λ commands. AllZip (WritesClone T.is_clone)
+        (changed_cells T.eq (V.rows old.now) (W.rows new.now)) commands.items) }
     ensures commands { IfOk result (λ commands. ClonesAreEqual T.is_clone → map command_value
-        commands.items ≡ writes (changed_cells T.eq old.now.rows new.now.rows)) }
+        commands.items ≡ writes (changed_cells T.eq (V.rows old.now) (W.rows new.now))) }
     ensures runs { IfOk result (λ commands. (d : T) → ClonesAreEqual T.is_clone
-        → SameAreEqual T.eq → row_count old.now.rows ≡ row_count new.now.rows
-        → col_count old.now.rows ≡ col_count new.now.rows
-        → run_rows d (map command_value commands.items) old.now.rows ≡ new.now.rows) }
+        → SameAreEqual T.eq → row_count (V.rows old.now) ≡ row_count (W.rows new.now)
+        → col_count (V.rows old.now) ≡ col_count (W.rows new.now)
+        → run_rows d (map command_value commands.items) (V.rows old.now) ≡ W.rows new.now) }
 {
     sets_of(alloc, changes(old, new))
 }
@@ -103,7 +112,9 @@ fn sets_of<T, A: Allocator>(
 ) -> Result<Vec<Command<T, A>, A>, AllocError>
 where
     T: PartialEq + Clone + Drop,
-    ensures { IfOk result (λ commands. ClonesAreEqual T.is_clone
+    ensures clones { IfOk result (λ commands.
+        AllZip (WritesClone T.is_clone) cells.entry commands.items) }
+    ensures commands { IfOk result (λ commands. ClonesAreEqual T.is_clone
         → map command_value commands.items ≡ writes cells.entry) }
 {
     let mut commands = Vec::new(alloc);

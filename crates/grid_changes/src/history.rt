@@ -1,9 +1,11 @@
 //! A grid with the boards before it and those undone.
-ghost use Rattle.std.specs.Prelude.{◌≡◌, ◌<◌, [], ◌∷◌, length, OnOk, OnErr, IfOk, MatchBool, IsTrue, ◌↔◌};
+ghost use Rattle.std.specs.Prelude.{◌≡◌, ◌<◌, ◌≤◌, ◌-◌, ℕ, [], ◌∷◌, length, take, slice_get, OnOk, OnErr, IfOk, IsSomeAnd, MatchBool, IsTrue, ◌↔◌};
 ghost use Rattle.grid.specs.Prelude.{act, order_after, ClonesAreEqual, command_value, command_symmetry, apply, reply_value, step_rows, step_reply, RowsAreKnown};
-ghost use Rattle.grid_changes.specs.Timeline.{board_of, IsStepOn, IsStepBack, Recorded};
-ghost use Rattle.grid_changes.specs.Change.{Fits, after};
+ghost use Rattle.grid_changes.specs.Timeline.{board_of, FirstHasOtherCount, IsBackBy, IsStepOn, IsStepBack, Recorded};
+ghost use Rattle.grid_changes.specs.Change.{Fits, after, is_of_lines};
+ghost use Rattle.grid_changes.specs.Entry.{wants_memory};
 ghost use Rattle.grid_changes.specs.Steps.{FitsAt, HasTurned};
+ghost use Rattle.grid_changes.specs.Entry.{AnswerIsKnown};
 ghost use Rattle.grid_base.specs.declared.words.Symmetry.{Symmetry};
 
 use crate::asked::{Asked, asked_of};
@@ -17,8 +19,8 @@ use std::mem;
 /// that were undone.
 ///
 /// It keeps no boards, but what takes each step back: the cell that was written over, the lines that were taken out.
-/// Only a `Fill` and a `Clear` leave the board that was there. Cells are moved and never cloned, so a board that comes
-/// back is exactly the one that was, also of cells whose clones may differ.
+/// Only a `Fill`, a `Clear` and [`step_to`](History::step_to) leave the board that was there. Cells are moved and never
+/// cloned, so a board that comes back is exactly the one that was, also of cells whose clones may differ.
 #[derive(Drop)]
 pub struct History<T, A: Allocator = Global> {
     grid: Grid<T, A>,
@@ -54,6 +56,8 @@ where
     ensures turned { OnOk result (HasTurned at grid.old steps.old.items grid.new steps.new.items) }
     ensures steps { OnErr result (steps.new.items ≡ steps.old.items) }
     ensures grid { OnErr result (grid.new ≡ grid.old) }
+    ensures err_lines { OnErr result (IsSomeAnd (slice_get steps.old.items at)
+        (λ change. IsTrue (is_of_lines change))) }
 {
     let change = mem::replace(&mut steps[at], Change::Turn(Symmetry::Identity));
     match make(grid, change) {
@@ -137,11 +141,13 @@ impl<T, A: Allocator> History<T, A> {
     /// undone can't be done again. Any other command, as a read, leaves the history as it was. So do a removal and a
     /// delete of lines that aren't there, padding that adds none, and a list of no lines.
     ///
-    /// Fails: if allocation fails; the history is unchanged, and the command is dropped.
+    /// Fails: if allocation fails, which comes only at a step, and at a read of a cell or of a line that is there; the
+    /// history is unchanged, and the command is dropped.
     /// Cost: an edit of lines in the middle, up to four swaps for each cell; at the end, row-major, time in the line, as
     /// for columns, column-major. A removed line is cloned for the reply. A `Fill` makes a new board. The others as
     /// `Grid::step`. What is kept: a cell of a `Set`, the lines that were taken out, the board before a `Fill` or a
     /// `Clear`.
+    #[tactic(auto, using(crate::proofs::AskedLemmas::answer_known))]
     pub fn step(&mut self, command: Command<T, A>) -> Result<Reply<T, A>, AllocError>
     where
         T: Clone + Default + Drop,
@@ -149,7 +155,9 @@ impl<T, A: Allocator> History<T, A> {
         ensures rows { OnOk result ((d : T)
             → RowsAreKnown T.is_default T.is_clone d (command_value command)
             → self.new.grid.rows ≡ step_rows d (command_value command) self.old.grid.rows) }
-        ensures reply { IfOk result (λ reply. ClonesAreEqual T.is_clone
+        ensures reply { IfOk result (λ reply. AnswerIsKnown T.is_clone (command_value command)
+            → reply_value reply ≡ step_reply (command_value command) self.old.grid.rows) }
+        ensures reply_by_clones { IfOk result (λ reply. ClonesAreEqual T.is_clone
             → reply_value reply ≡ step_reply (command_value command) self.old.grid.rows) }
         ensures applied { OnOk result ((s : Symmetry) → command_value command ≡ apply s
             → self.new.grid.rows ≡ act s self.old.grid.rows) }
@@ -157,6 +165,8 @@ impl<T, A: Allocator> History<T, A> {
             ≡ order_after (command_symmetry (command_value command)) self.old.grid.order) }
         ensures recorded { OnOk result (Recorded (command_value command) self.old self.new) }
         ensures err { OnErr result (self.new ≡ self.old) }
+        ensures err_memory { OnErr result
+            (IsTrue (wants_memory (command_value command) self.old.grid.rows)) }
     {
         match asked_of(&self.grid, command)? {
             Asked::Answer(reply) => Ok(reply),
@@ -165,6 +175,24 @@ impl<T, A: Allocator> History<T, A> {
                 Ok(reply)
             }
         }
+    }
+
+    /// Makes another board the grid: a step, which keeps the board that was. So any edit of the grid is recorded: the
+    /// caller edits a copy of it, and hands that in.
+    ///
+    ///     over(alloc, [[1, 2]])   step_to([[5], [6]])   [[5], [6]]; then undo()   true   [[1, 2]]
+    ///
+    /// Fails: if allocation fails; the history is unchanged, and the board is dropped.
+    /// Cost: constant.
+    pub fn step_to(&mut self, board: Grid<T, A>) -> Result<(), AllocError>
+    where
+        T: Drop,
+        A: Clone,
+        ensures grid { OnOk result (self.new.grid ≡ board) }
+        ensures recorded { OnOk result (IsStepOn self.old self.new) }
+        ensures err { OnErr result (self.new ≡ self.old) }
+    {
+        self.record(Change::Replace(board))
     }
 
     // Does a change, in place of those that were undone.
@@ -194,7 +222,8 @@ impl<T, A: Allocator> History<T, A> {
     ///
     ///     over(alloc, [[1, 2]]), then step(Set(0, 0, 5))   undo()   true   [[1, 2]]
     ///
-    /// Fails: if allocation fails, which comes only where lines come back or are taken out; the history is unchanged.
+    /// Fails: if allocation fails, which comes only where lines come back or are taken out, so only where the board that
+    /// comes back has another number of cells; the history is unchanged.
     /// Cost: constant for a cell, two cells, a `Fill` and a `Clear`; a symmetry, its swaps; lines, as
     /// [`step`](History::step). No cell is cloned.
     pub fn undo(&mut self) -> Result<bool, AllocError>
@@ -205,6 +234,8 @@ impl<T, A: Allocator> History<T, A> {
         ensures back { IfOk result
             (λ found. MatchBool found (IsStepBack self.old self.new) (self.new ≡ self.old)) }
         ensures err { OnErr result (self.new ≡ self.old) }
+        ensures err_memory { OnErr result
+            (FirstHasOtherCount self.old.past (board_of self.old.grid)) }
     {
         if self.done == 0 {
             return Ok(false);
@@ -213,6 +244,34 @@ impl<T, A: Allocator> History<T, A> {
         turn(&mut self.grid, &mut self.steps, at)?;
         self.done = at;
         Ok(true)
+    }
+
+    /// Takes steps back until no more than `count` are left to take back, and returns how many it took back. So a move of
+    /// several commands is taken back whole, by the [`undo_count`](History::undo_count) from before it, also where some of
+    /// the commands were no steps.
+    ///
+    ///     over(alloc, [[1, 2]]), then step(Set(0, 0, 5)), step(Size) and step(Clear)   undo_to(0)   2   [[1, 2]]
+    ///
+    /// Fails: if allocation fails, at a step that [`undo`](History::undo) can't take back; those after it are taken back,
+    /// and can be done again, and the others stay.
+    /// Cost: that of an `undo` for each step that is taken back.
+    pub fn undo_to(&mut self, count: usize) -> Result<usize, AllocError>
+    where
+        T: Drop,
+        A: Clone,
+        ensures steps { IfOk result (λ steps. steps ≡ length self.old.past - count) }
+        ensures back { IfOk result (λ steps. IsBackBy steps self.old self.new) }
+        ensures kept { OnOk result (length self.old.past ≤ count → self.new ≡ self.old) }
+        ensures err { OnErr result ((steps : ℕ) × (steps < length self.old.past - count)
+            × IsBackBy steps self.old self.new) }
+        ensures err_memory { OnErr result
+            (FirstHasOtherCount self.new.past (board_of self.new.grid)) }
+    {
+        let steps = self.undo_count().saturating_sub(count);
+        for _taken in 0..steps {
+            self.undo()?;
+        }
+        Ok(steps)
     }
 
     /// Does the step again that was taken back last, and returns whether there was one. The board is exactly the one
@@ -230,6 +289,8 @@ impl<T, A: Allocator> History<T, A> {
         ensures ahead { IfOk result
             (λ found. MatchBool found (IsStepBack self.new self.old) (self.new ≡ self.old)) }
         ensures err { OnErr result (self.new ≡ self.old) }
+        ensures err_memory { OnErr result
+            (FirstHasOtherCount self.old.future (board_of self.old.grid)) }
     {
         if self.done == self.steps.len() {
             return Ok(false);
@@ -238,6 +299,25 @@ impl<T, A: Allocator> History<T, A> {
         turn(&mut self.grid, &mut self.steps, at)?;
         self.done = at + 1;
         Ok(true)
+    }
+
+    /// Drops what takes the older steps back, so that no more than the last `count` can be taken back. The grid stays, and
+    /// so does what was undone. It sets no limit for later steps: a caller that wants one calls it after each step.
+    ///
+    ///     over(alloc, [[1, 2]]), then step(Set(0, 0, 5)) and step(Clear)   keep(1)   undo_count() 1
+    ///
+    /// Cost: one drop for each step that is dropped, and for each cell that it keeps; where one is dropped, time in the
+    /// number of steps that stay.
+    pub fn keep(&mut self, count: usize)
+    where
+        T: Drop,
+        ensures grid { self.new.grid ≡ self.old.grid }
+        ensures past { self.new.past ≡ take count self.old.past }
+        ensures future { self.new.future ≡ self.old.future }
+    {
+        let dropped = self.done.saturating_sub(count);
+        self.steps.drain(..dropped);
+        self.done -= dropped;
     }
 
     /// Drops what takes steps back or does them again. The grid stays.

@@ -1,6 +1,6 @@
 -- What is pending after a command, and what a carried command rests on.
 use Rattle.std.proofs.Common.{◌≡◌, List, [], ◌∷◌, Bool, true, false, refl, sym, ◌∙◌, ap, Some, IsTrue, ℕ, Result, Ok, Err, OnOk}
-use Rattle.grid_deferred.proofs.Common.{row_count, col_count, cell, IsTable, saturating_count, act, IsThen, CommandValue, Edit, command_value, size, get, lines, apply, axis_of, read, pop, ReplyValue, done, in_range, step_rows, step_reply, takes_memory, RowsAreKnown, EditIsKnown, command_symmetry, step_shift, product, then_is, act-act, symmetry_of-product_from, identity_product, product_identity, cell_past, turned_reply, edit_of_flipped, edit_of_reversed, transposed_command, flipped_command, shift_through, CarriesAt, is_apply, carried, pending_after}
+use Rattle.grid_deferred.proofs.Common.{row_count, col_count, cell, IsTable, saturating_count, act, IsThen, CommandValue, Edit, command_value, size, get, lines, apply, axis_of, read, pop, ReplyValue, done, in_range, step_rows, step_reply, takes_memory, RowsAreKnown, EditIsKnown, ReplyIsKnown, EditReplyIsKnown, command_symmetry, step_shift, product, then_is, act-act, symmetry_of-product_from, identity_product, product_identity, cell_past, turned_reply, edit_of_flipped, edit_of_reversed, transposed_command, flipped_command, shift_through, CarriesAt, is_apply, carried, pending_after}
 use Rattle.grid_base.specs.declared.words.Symmetry.{Symmetry}
 use Rattle.grid_base.specs.declared.words.Symmetry.TheVariants.{Identity, FlipCols, FlipRows, RotateHalf, Transpose, RotateLeft, RotateRight, AntiTranspose}
 use Rattle.grid_base.specs.declared.order.Order.{Order}
@@ -96,6 +96,39 @@ module _ {T : Type 0} (is_default : T → Type 0) (is_clone : T → T → Type 0
 
   pub carried_known : (s : Symmetry) (m n : ℕ) (x y : CommandValue T) → x ≡ carried s m n y → RowsAreKnown is_default is_clone d y → RowsAreKnown is_default is_clone d x
   carried_known s m n x y e h = rw e (known-carried s m n y h)
+
+-- and for its reply
+module _ {T : Type 0} (is_clone : T → T → Type 0) where
+  reply-transposed : (y : CommandValue T) → ReplyIsKnown is_clone y → ReplyIsKnown is_clone (transposed_command y)
+  reply-transposed size h = h
+  reply-transposed y h = h
+
+  reply_of_flipped : (m : ℕ) (e : Edit T) → EditReplyIsKnown is_clone e → EditReplyIsKnown is_clone (edit_of_flipped m e)
+  reply_of_flipped m pop h = h
+  reply_of_flipped m e h = h
+
+  reply_of_reversed : (e : Edit T) → EditReplyIsKnown is_clone e → EditReplyIsKnown is_clone (edit_of_reversed e)
+  reply_of_reversed pop h = h
+  reply_of_reversed e h = h
+
+  reply-flipped : (m : ℕ) (y : CommandValue T) → ReplyIsKnown is_clone y → ReplyIsKnown is_clone (flipped_command m y)
+  reply-flipped m (lines Row e) h = reply_of_flipped m e h
+  reply-flipped m (lines Col e) h = reply_of_reversed e h
+  reply-flipped m size h = h
+  reply-flipped m y h = h
+
+  reply-carried : (s : Symmetry) (m n : ℕ) (y : CommandValue T) → ReplyIsKnown is_clone y → ReplyIsKnown is_clone (carried s m n y)
+  reply-carried Identity m n y h = h
+  reply-carried Transpose m n y h = reply-transposed y h
+  reply-carried FlipRows m n y h = reply-flipped m y h
+  reply-carried RotateLeft m n y h = reply-transposed _ (reply-flipped n y h)
+  reply-carried RotateRight m n y h = reply-flipped m _ (reply-transposed y h)
+  reply-carried FlipCols m n y h = reply-transposed _ (reply-flipped n _ (reply-transposed y h))
+  reply-carried AntiTranspose m n y h = reply-flipped m _ (reply-transposed _ (reply-flipped n y h))
+  reply-carried RotateHalf m n y h = reply-transposed _ (reply-flipped n _ (reply-transposed _ (reply-flipped m y h)))
+
+  pub carried_reply_known : (s : Symmetry) (m n : ℕ) (x y : CommandValue T) → x ≡ carried s m n y → ReplyIsKnown is_clone y → ReplyIsKnown is_clone x
+  carried_reply_known s m n x y e h = rw e (reply-carried s m n y h)
 
 -- what a carried command does, at a base of m rows and n columns
 module _ {T : Type 0} (s : Symmetry) (m n : ℕ) (x y : CommandValue T) (t : List (List T)) (h : IsTable t) (rows : m ≡ row_count t) (cols : n ≡ col_count t) (is : x ≡ carried s m n y) where

@@ -1,9 +1,10 @@
 -- A deferred run of one more command.
 use Rattle.std.proofs.Common.{◌≡◌, ℕ, suc, ◌+◌, ◌/◌, ◌≤◌, List, [], ◌∷◌, ◌++◌, length, length-append, Some, Result, Ok, Err, IfOk, OnOk, refl, sym, ◌∙◌, ap, subst, arith, All}
-use Rattle.grid_deferred.proofs.Common.{All-pop, GridValue, row_count, col_count, IsTable, Counts, saturating_count, ClonesAreEqual, act, order_after, price, half, image_rows, image_cols, CommandValue, ReplyValue, step_rows, step_reply, RowsAreKnown, command_symmetry, list_symmetry, run_rows, run_replies, Ran, rows-act, cols-act, product, act-identity, price_within_half, run_rows-more, run_replies-more, list_symmetry-more, list_symmetry-none, saturating_count-none, count_more, shift_through, pending_after, settling_price, shown_shift, deferred_shift, RanDeferred}
+use Rattle.grid_deferred.proofs.Common.{All-pop, GridValue, row_count, col_count, IsTable, Counts, saturating_count, ClonesAreEqual, act, order_after, price, half, image_rows, image_cols, CommandValue, ReplyValue, step_rows, step_reply, RowsAreKnown, ReplyIsKnown, AreDue, command_symmetry, list_symmetry, run_rows, run_replies, Ran, rows-act, cols-act, product, act-identity, price_within_half, due-more, run_rows-more, run_replies-more, list_symmetry-more, list_symmetry-none, saturating_count-none, count_more, shift_through, pending_after, settling_price, shown_shift, deferred_shift, RanDeferred}
 use Rattle.grid_base.specs.declared.words.Symmetry.{Symmetry}
 use Rattle.grid_base.specs.declared.words.Symmetry.TheVariants.{Identity}
 use Rattle.grid_base.specs.declared.order.Order.{Order}
+use Rattle.grid.proofs.KnownLemmas.{reply_known}
 use Rattle.grid_deferred.proofs.PendingLemmas.{pending-product}
 use Rattle.grid_deferred.proofs.AllowanceLemmas.{image_cells, run_within}
 
@@ -49,6 +50,7 @@ pub record Going {T : Type 0} (is_clone : T → T → Type 0) (is_default : T �
   pub joins : pending ≡ list_symmetry xs
   pub count : length answers ≡ length xs
   pub left : (d : T) → All (RowsAreKnown is_default is_clone d) xs → GoingRows d xs first base pending before after
+  pub due : (d : T) → All (RowsAreKnown is_default is_clone d) xs → AreDue is_clone d xs first.rows answers
   pub replies : (d : T) → All (RowsAreKnown is_default is_clone d) xs → ClonesAreEqual is_clone → answers ≡ run_replies d xs first.rows
 
 module _ {T : Type 0} (is_clone : T → T → Type 0) (is_default : T → Type 0) where
@@ -60,24 +62,29 @@ module _ {T : Type 0} (is_clone : T → T → Type 0) (is_default : T → Type 0
     joins = sym list_symmetry-none;
     count = refl;
     left = λ d known. record { rows = e; shift = saturating_count-none n };
+    due = λ d known. tt;
     replies = λ d known same. refl;
   }
 
-  module _ (xs : List (CommandValue T)) (x : CommandValue T) (first base next : GridValue T) (s u : Symmetry) (before between after : ℕ) (answers more : List (ReplyValue T)) where
-    pub going_more : Going is_clone is_default xs first base s before between answers → IsTable next.rows → next.order ≡ base.order → ((d : T) → RowsAreKnown is_default is_clone d x → act u next.rows ≡ step_rows d x (act s base.rows)) → u ≡ pending_after x s → after ≡ saturating_count between (shift_through s x base.order (row_count base.rows) (col_count base.rows)) → length more ≡ suc (length answers) → (ClonesAreEqual is_clone → more ≡ answers ++ step_reply x (act s base.rows) ∷ []) → Going is_clone is_default (xs ++ x ∷ []) first next u before after more
-    going_more g table order rows pends shift count reply = record {
+  module _ (xs : List (CommandValue T)) (x : CommandValue T) (first base next : GridValue T) (s u : Symmetry) (before between after : ℕ) (answers more : List (ReplyValue T)) (q : ReplyValue T) where
+    pub going_more : Going is_clone is_default xs first base s before between answers → IsTable next.rows → next.order ≡ base.order → ((d : T) → RowsAreKnown is_default is_clone d x → act u next.rows ≡ step_rows d x (act s base.rows)) → u ≡ pending_after x s → after ≡ saturating_count between (shift_through s x base.order (row_count base.rows) (col_count base.rows)) → more ≡ answers ++ q ∷ [] → (ReplyIsKnown is_clone x → q ≡ step_reply x (act s base.rows)) → Going is_clone is_default (xs ++ x ∷ []) first next u before after more
+    going_more g table order rows pends shift appended reply = record {
       table = table;
       order = order ∙ g.order;
       pends = pends ∙ (ap (pending_after x) g.pends ∙ sym (run_pending-more xs x Identity));
       joins = pends ∙ (pending-product x s ∙ (ap (λ p. product p (command_symmetry x)) g.joins ∙ sym (list_symmetry-more xs x)));
-      count = omega (arith, count, g.count, length-append xs (x ∷ []));
+      count = omega (arith, ap length appended, length-append answers (q ∷ []), g.count, length-append xs (x ∷ []));
       left = λ d known. all_left d (All-pop (RowsAreKnown is_default is_clone d) (xs ++ x ∷ []) xs (Some x) refl known);
+      due = λ d known.
+          let before = (All-pop (RowsAreKnown is_default is_clone d) (xs ++ x ∷ []) xs (Some x) refl known).0 in
+          rw appended (due-more is_clone d xs x first.rows answers q (g.due d before) g.count (λ k. reply k ∙ ap (step_reply x) (g.left d before).rows));
       replies = λ d known same.
           let before = (All-pop (RowsAreKnown is_default is_clone d) (xs ++ x ∷ []) xs (Some x) refl known).0 in
           let l = g.left d before in
-          reply same
+          appended
+          ∙ (ap (λ p. answers ++ p ∷ []) (reply (reply_known is_clone same x))
           ∙ (ap (λ rs. rs ++ step_reply x (act s base.rows) ∷ []) (g.replies d before same)
-          ∙ (ap (λ t. run_replies d xs first.rows ++ step_reply x t ∷ []) l.rows ∙ sym (run_replies-more d xs x first.rows)));
+          ∙ (ap (λ t. run_replies d xs first.rows ++ step_reply x t ∷ []) l.rows ∙ sym (run_replies-more d xs x first.rows))));
     }
       where
         by : (d : T) → GoingRows d xs first base s before between → shift_through s x base.order (row_count base.rows) (col_count base.rows) ≡ shown_shift (run_pending xs Identity) x first.order (run_rows d xs first.rows)
@@ -109,6 +116,7 @@ module _ {T : Type 0} (is_clone : T → T → Type 0) (is_default : T → Type 0
       left = λ d known.
           let l = g.left d known in
           record { rows = rows ∙ l.rows; shift = shift ∙ l.shift; allowance = omega (arith, shift, l.shift, run_within d first.order xs Identity first.rows) };
+      due = g.due;
       replies = g.replies;
     }
       where

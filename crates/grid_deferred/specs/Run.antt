@@ -1,6 +1,6 @@
 -- What a deferred run of a list of commands leaves and costs.
 use Rattle.std.specs.Prelude.{◌≡◌, ℕ, ◌+◌, ◌*◌, ◌≤◌, List, [], ◌∷◌, length, map, take, Vec, Result, IfOk, IfErr}
-use Rattle.grid.specs.Prelude.{GridValue, row_count, col_count, Counts, saturating_count, ClonesAreEqual, order_after, price, half, image_rows, image_cols, Edit, delete_at, delete_range, expand, prepend, CommandValue, lines, ReplyValue, reply_value, step_rows, list_symmetry, run_rows, run_replies, AreKnown, MayStop}
+use Rattle.grid.specs.Prelude.{GridValue, row_count, col_count, Counts, saturating_count, ClonesAreEqual, order_after, price, half, image_rows, image_cols, Edit, delete_at, delete_range, expand, prepend, CommandValue, lines, ReplyValue, reply_value, step_rows, list_symmetry, run_rows, run_replies, AreKnown, AreDue, MayStop}
 use Rattle.grid_base.specs.declared.words.Symmetry.{Symmetry}
 use Rattle.grid_base.specs.declared.words.Symmetry.TheVariants.{Identity}
 use Rattle.grid_base.specs.declared.order.Order.{Order}
@@ -59,7 +59,8 @@ module _ {T : Type 0} where
     pub allowance : after ≤ before + run_allowance d commands old.rows
 
   -- what a deferred run of these commands makes of a grid and a tally, and what it replies: a reply
-  -- a command, and where the rows are known and clones equal their source, what is due
+  -- a command, and where the rows are known, what is due: at a command whose reply is known, and at
+  -- all of them where clones equal their source
   pub record RanDeferred (is_clone : T → T → Type 0) (is_default : T → Type 0)
       (commands : List (CommandValue T)) (old new : GridValue T) (before after : Counts)
       (answers : List (ReplyValue T)) : Type 0 where
@@ -70,6 +71,8 @@ module _ {T : Type 0} where
     pub half : after.symmetry ≤ before.symmetry + half (row_count new.rows) (col_count new.rows)
     pub left : (d : T) → AreKnown is_default is_clone d commands
         → LeftByDeferred d commands old new before.shift after.shift
+    pub due : (d : T) → AreKnown is_default is_clone d commands
+        → AreDue is_clone d commands old.rows answers
     pub replies : (d : T) → AreKnown is_default is_clone d commands
         → ClonesAreEqual is_clone → answers ≡ run_replies d commands old.rows
 

@@ -1,6 +1,6 @@
 -- The symmetries of a table are a group, and its different images are each given once.
-use Rattle.std.proofs.Common.{◌≡◌, ℕ, zero, suc, ◌+◌, ◌*◌, ◌<◌, ◌≤◌, ◌↔◌, IsTrue, Bool, true, false, not, List, [], ◌∷◌, ◌++◌, length, take, get_or, inl, inr, refl, sym, ◌∙◌, ap, arith}
-use Rattle.std.specs.Cmp.{IsEquivalence}
+use Rattle.std.proofs.Common.{◌≡◌, ℕ, zero, suc, ◌+◌, ◌*◌, ◌<◌, ◌≤◌, ◌↔◌, IsTrue, Bool, true, false, not, List, [], ◌∷◌, ◌++◌, length, take, get_or, inl, inr, refl, sym, ◌∙◌, ap, subst, arith}
+use Rattle.std.specs.Cmp.{IsEquivalence, both_ways}
 use Rattle.std.specs.List.{Contains, filter, list_any}
 use Rattle.std.specs.Prelude.{cond, find, Some, None}
 use Rattle.std.proofs.lemmas.Bool.{cases_lt}
@@ -8,16 +8,16 @@ use Rattle.std.proofs.lemmas.List.{append-nil, length-take-le}
 use Rattle.std.proofs.lemmas.List.Elements.{filter_agree, filter_more}
 use Rattle.std.proofs.lemmas.List.Filters.{length-filter_both}
 use Rattle.grid_base.proofs.ActLemmas.{IsTable-act}
-use Rattle.grid_base.proofs.GroupLemmas.{act-identity, then_acts, inverse_acts, IsThen-product}
+use Rattle.grid_base.proofs.GroupLemmas.{act-identity, then_acts, then_is, inverse_acts, inverse_is, inverse_of, identity_product, product_assoc, product_identity, IsThen-product}
 use Rattle.grid_base.proofs.Lemmas.{product}
 use Rattle.grid_base.specs.Symmetry.{act, symmetries, IsThen, IsInverse}
 use Rattle.grid_base.specs.Table.{IsTable}
 use Rattle.grid_base.specs.declared.words.Symmetry.{Symmetry}
 use Rattle.grid_base.specs.declared.words.Symmetry.TheVariants.{Identity}
-use Rattle.grid_images.specs.Images.{GivesEachImageOnce, IsGroup, first_images, first_taking, fixing, give_one_image, is_first, number, same_table, symmetry_at, takes}
+use Rattle.grid_images.specs.Images.{DiffersBy, GivesEachImageOnce, IsGroup, first_images, first_taking, fixing, give_one_image, is_first, number, same_table, symmetry_at, takes}
 use Rattle.grid_images.proofs.CountLemmas.{is_new, times_eight}
 use Rattle.grid_images.proofs.ImageLemmas.{images_same, tables_equiv, one_image}
-use Rattle.grid_images.proofs.NumberLemmas.{Contains-filter, any_before, one_before, each_there, number_small, number-at, passes_kept, same_number}
+use Rattle.grid_images.proofs.NumberLemmas.{Contains-filter, any_before, at-number, one_before, each_there, number_small, number-at, passes_kept, same_number, undoing, undone, undone_before}
 
 module _ {T : Type 0} (eq : T → T → Bool) where
   -- what leaves a table as it is
@@ -28,6 +28,19 @@ module _ {T : Type 0} (eq : T → T → Bool) where
   pub has_first : (t : List (List T)) (s : Symmetry) → Contains (first_images eq t) s ↔ IsTrue (is_first eq t s)
   unfolding first_images
   has_first t s = (passes_kept (is_first eq t) symmetries s, Contains-filter (is_first eq t) symmetries s (each_there s))
+
+-- what undoes a symmetry, and what joins two, is one symmetry
+undoing_is : (s v : Symmetry) → IsInverse s v → v ≡ undoing s
+undoing_is s v h =
+    sym (identity_product v)
+    ∙ (ap (λ x. product x v) (sym (undone_before s))
+    ∙ (product_assoc (undoing s) s v ∙ (ap (product (undoing s)) (inverse_is s v h) ∙ product_identity (undoing s))))
+
+pub member_joined : (ss : List Symmetry) (s u v w : Symmetry) → IsInverse u v → IsThen s v w → DiffersBy ss s u → Contains ss w
+member_joined ss s u v w undoes joins d =
+    let back : d.back ≡ v = undoing_is u d.back d.undoes ∙ sym (undoing_is u v undoes) in
+    let joined : d.joined ≡ w = then_is s d.back d.joined d.joins ∙ (ap (product s) back ∙ sym (then_is s v w joins)) in
+    subst (Contains ss) joined d.member
 
 module _ {T : Type 0} {eq : T → T → Bool} (laws : IsEquivalence eq) (t : List (List T)) (h : IsTable t) where
   pub takes_identity : takes eq t t Identity ≡ true
@@ -99,6 +112,37 @@ module _ {T : Type 0} {eq : T → T → Bool} (laws : IsEquivalence eq) (t : Lis
       let one = λ (s : Symmetry). ap not (λ i. list_any (λ u. one_image laws u s t h i) (take (number s) symmetries)) in
       ap (λ ss. length ss * length (filter (takes eq t t) symmetries)) (filter_agree (is_first eq t) (is_new (takes eq t t)) one symmetries)
       ∙ times_eight (takes eq t t) (record { identity = takes_identity; joined = λ s u a b. both_take s u (product s u) a b (IsThen-product s u) })
+
+  -- ---- two symmetries that give one image
+
+  pub differs_told : (i : ℕ) (b : Bool) → i < 8 → IsTrue b ↔ ((k : ℕ) × (k < i) × DiffersBy (fixing eq t) (symmetry_at i) (symmetry_at k)) → b ≡ list_any (λ s. give_one_image eq t s (symmetry_at i)) (take i symmetries)
+  differs_told i b lt is = both_ways _ _ there here
+    where
+      there : b ≡ true → list_any (λ s. give_one_image eq t s (symmetry_at i)) (take i symmetries) ≡ true
+      there e =
+          let found = is.0 e in
+          let u = symmetry_at found.0 in
+          let d = found.2 in
+          let joined : d.joined ≡ product (symmetry_at i) (undoing u) = then_is (symmetry_at i) d.back d.joined d.joins ∙ ap (product (symmetry_at i)) (undoing_is u d.back d.undoes) in
+          let passes : give_one_image eq t u (symmetry_at i) ≡ true = one_image laws u (symmetry_at i) t h ∙ (ap (takes eq t t) (sym joined) ∙ (has_fixing eq t d.joined).0 d.member) in
+          any_before (λ s. give_one_image eq t s (symmetry_at i)) u i (omega (arith, number-at found.0 (omega (arith, found.1, lt)), found.1)) (omega (arith, lt)) passes
+
+      here : list_any (λ s. give_one_image eq t s (symmetry_at i)) (take i symmetries) ≡ true → b ≡ true
+      here e =
+          let found = one_before (λ s. give_one_image eq t s (symmetry_at i)) i (omega (arith, lt)) e in
+          let u = symmetry_at (number found.0) in
+          let passes : give_one_image eq t u (symmetry_at i) ≡ true = ap (λ s. give_one_image eq t s (symmetry_at i)) (at-number found.0) ∙ found.2 in
+          is.1 (
+            number found.0,
+            found.1,
+            record {
+              back = undoing u;
+              joined = product (symmetry_at i) (undoing u);
+              undoes = inverse_of u (undoing u) (undone u);
+              joins = IsThen-product (symmetry_at i) (undoing u);
+              member = (has_fixing eq t (product (symmetry_at i) (undoing u))).1 (sym (one_image laws u (symmetry_at i) t h) ∙ passes);
+            },
+          )
 
 -- ---- the loops
 

@@ -1,7 +1,7 @@
 -- The images of a table: which are the same, which is the least.
-use Rattle.std.specs.Prelude.{◌≡◌, ℕ, ◌<◌, Bool, IsTrue, not, Option, List, Contains, slice_index_or, take, filter, find}
+use Rattle.std.specs.Prelude.{◌≡◌, ℕ, ◌<◌, Bool, IsTrue, not, Option, List, Contains, nat_eq, slice_index_or, take, filter, find}
 use Rattle.std.specs.List.{list_any}
-use Rattle.std.specs.Ordering.{is_le}
+use Rattle.std.specs.Ordering.{is_le, on}
 use Rattle.std.specs.declared.cmp.Ordering.{Ordering}
 use Rattle.std.specs.declared.cmp.Ordering.TheVariants.{Less}
 use lib.Pointwise.{pointwise}
@@ -24,6 +24,10 @@ number Transpose = 4
 number RotateLeft = 5
 number RotateRight = 6
 number AntiTranspose = 7
+
+-- whether two lists have the same symmetries, one by one
+abbrev pub same_symmetries : List Symmetry → List Symmetry → Bool
+same_symmetries ss us = pointwise (on number nat_eq) ss us
 
 -- the image of t under s is the least of the eight, and less than those of the symmetries before s
 pub record IsLeastImage {T : Type 0} (cmp : T → T → Ordering) (t : List (List T)) (s : Symmetry)
@@ -71,6 +75,14 @@ module _ {T : Type 0} (eq : T → T → Bool) where
         → (u : Symmetry) × Contains ss u × IsTrue (give_one_image t u s)
     pub once : (s u : Symmetry) → Contains ss s → Contains ss u
         → IsTrue (give_one_image t s u) → s ≡ u
+
+-- s and then the inverse of u are one of these symmetries
+pub record DiffersBy (ss : List Symmetry) (s u : Symmetry) : Type 0 where
+  pub back : Symmetry
+  pub joined : Symmetry
+  pub undoes : IsInverse u back
+  pub joins : IsThen s back joined
+  pub member : Contains ss joined
 
 -- symmetries that are a group
 pub record IsGroup (ss : List Symmetry) : Type 0 where

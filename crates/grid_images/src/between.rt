@@ -3,7 +3,7 @@ ghost use Rattle.std.specs.Prelude.{◌≡◌, ◌↔◌, IsTrue, IsSome, IfSome
 ghost use Rattle.grid_images.specs.Prelude.{AreAlike, first_taking, takes};
 
 use grid::Symmetry;
-use grid_view::GridView;
+use grid_view::AsView;
 
 /// Returns the first symmetry, in [`Symmetry::ALL`], under which the image of a board equals another, or `None` if no
 /// image does.
@@ -11,16 +11,20 @@ use grid_view::GridView;
 ///     [[1, 2], [3, 4]]   symmetry_between(it, [[2, 4], [1, 3]])   Some(RotateLeft)
 ///
 /// Cost: at most eight comparisons of boards by `==`; no memory.
-pub fn symmetry_between<T: PartialEq>(
-    board: &GridView<'_, T>,
-    other: &GridView<'_, T>,
-) -> Option<Symmetry>
-    ensures first { result ≡ first_taking T.eq board.now.rows other.now.rows }
-    ensures takes { IfSome result (λ s. IsTrue (takes T.eq board.now.rows other.now.rows s)) }
-    ensures some { IsSome result ↔ AreAlike T.eq board.now.rows other.now.rows }
+pub fn symmetry_between<T, V, W>(board: &V, other: &W) -> Option<Symmetry>
+where
+    T: PartialEq,
+    V: AsView<T>,
+    W: AsView<T>,
+    ensures first { result ≡ first_taking T.eq (V.rows board.now) (W.rows other.now) }
+    ensures takes { IfSome result
+        (λ s. IsTrue (takes T.eq (V.rows board.now) (W.rows other.now) s)) }
+    ensures some { IsSome result ↔ AreAlike T.eq (V.rows board.now) (W.rows other.now) }
 {
+    let view = board.as_view();
+    let other_view = other.as_view();
     for symmetry in &Symmetry::ALL {
-        if board.turned(*symmetry) == *other {
+        if view.turned(*symmetry) == other_view {
             return Some(*symmetry);
         }
     }

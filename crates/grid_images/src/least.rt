@@ -5,7 +5,7 @@ ghost use Rattle.grid_base.specs.declared.words.Symmetry.TheVariants.{Identity};
 
 use crate::order::compare;
 use grid::{Grid, Symmetry};
-use grid_view::GridView;
+use grid_view::AsView;
 use std::alloc::Allocator;
 
 /// Returns the symmetry under which the image of a board is the least of the eight, by [`compare`]. Where several give
@@ -17,13 +17,14 @@ use std::alloc::Allocator;
 /// other.
 ///
 /// Cost: seven comparisons of boards, each up to the first cell that differs; no memory, and no cell is copied.
-pub fn least_image<T: Ord>(board: &GridView<'_, T>) -> Symmetry
-    ensures { IsLeastImage T.cmp board.now.rows result }
+pub fn least_image<T: Ord, V: AsView<T>>(board: &V) -> Symmetry
+    ensures { IsLeastImage T.cmp (V.rows board.now) result }
 {
+    let view = board.as_view();
     let mut least = Symmetry::Identity;
     for i in 1..8usize {
         let symmetry = Symmetry::ALL[i];
-        if compare(&board.turned(symmetry), &board.turned(least)).is_lt() {
+        if compare(&view.turned(symmetry), &view.turned(least)).is_lt() {
             least = symmetry;
         }
     }
@@ -48,7 +49,7 @@ pub fn canonicalize<T: Ord, A: Allocator>(grid: &mut Grid<T, A>) -> Symmetry
     ensures key { (form : List (List T)) → IsTable form → IsLeastImage T.cmp form Identity
         → IsTrue (same_table T.eq grid.new.rows form) ↔ AreAlike T.eq grid.old.rows form }
 {
-    let symmetry = least_image(&grid.view());
+    let symmetry = least_image(grid);
     grid.apply(symmetry);
     symmetry
 }

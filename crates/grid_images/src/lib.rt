@@ -8,7 +8,8 @@
 //! - What leaves a board as it is, its stabilizer: [`symmetries`]. Its different images, its orbit: [`images`].
 //! - What takes one board to another: [`symmetry_between`].
 //!
-//! None of them takes memory. A board is a view ([`grid_view`]), as `grid.view()` gives it, so a part of a grid is one too.
+//! None of them takes memory. What only reads takes any board by reference ([`AsView`](grid_view::AsView)): a grid, a part
+//! or a turned board, a deferred one.
 #![tactic(auto)]
 
 mod between;

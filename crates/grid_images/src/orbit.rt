@@ -1,11 +1,11 @@
 //! The symmetries of a board, and its different images.
-ghost use Rattle.std.specs.Prelude.{◌≡◌, ◌*◌, ◌<◌, ◌↔◌, IsTrue, Contains, length, take};
-ghost use Rattle.grid_images.specs.Prelude.{GivesEachImageOnce, IsGroup, first_images, fixing, give_one_image, list_any, symmetries, symmetry_at, takes};
+ghost use Rattle.std.specs.Prelude.{◌≡◌, ℕ, ◌*◌, ◌<◌, ◌↔◌, IsTrue, Contains, length};
+ghost use Rattle.grid_images.specs.Prelude.{DiffersBy, GivesEachImageOnce, IsGroup, first_images, fixing, symmetry_at, takes};
 ghost use Rattle.grid_base.specs.declared.words.Symmetry.{Symmetry};
 
 use crate::set::SymmetrySet;
 use grid::Symmetry;
-use grid_view::GridView;
+use grid_view::AsView;
 
 /// Returns the symmetries that leave a board as it is, its stabilizer: those under which it equals its image. `Identity`
 /// is one; so are the inverse of each, and any two joined.
@@ -13,18 +13,19 @@ use grid_view::GridView;
 ///     [[1, 2], [1, 2]]   symmetries(it)   Identity, FlipRows
 ///
 /// Cost: seven comparisons of boards by `==`; no memory.
-pub fn symmetries<T: Eq>(board: &GridView<'_, T>) -> SymmetrySet
-    ensures members { result ≡ fixing T.eq board.now.rows }
+pub fn symmetries<T: Eq, V: AsView<T>>(board: &V) -> SymmetrySet
+    ensures members { result ≡ fixing T.eq (V.rows board.now) }
     ensures each { (s : Symmetry)
-        → Contains result s ↔ IsTrue (takes T.eq board.now.rows board.now.rows s) }
+        → Contains result s ↔ IsTrue (takes T.eq (V.rows board.now) (V.rows board.now) s) }
     ensures group { IsGroup result }
     ensures some { 0 < length result }
 {
+    let view = board.as_view();
     let mut fixing = SymmetrySet::new();
     fixing.push(Symmetry::Identity);
     for i in 1..8usize {
         let symmetry = Symmetry::ALL[i];
-        if board.turned(symmetry) == *board {
+        if view.turned(symmetry) == view {
             fixing.push(symmetry);
         }
     }
@@ -38,31 +39,33 @@ pub fn symmetries<T: Eq>(board: &GridView<'_, T>) -> SymmetrySet
 ///
 /// `board.turned(symmetry)` then shows the image, and [`Grid::apply`](grid::Grid::apply) makes it.
 ///
-/// Cost: at most 28 comparisons of boards by `==`; no memory.
-pub fn images<T: Eq>(board: &GridView<'_, T>) -> SymmetrySet
-    ensures members { result ≡ first_images T.eq board.now.rows }
-    ensures each { GivesEachImageOnce T.eq board.now.rows result }
-    ensures count { length result * length (fixing T.eq board.now.rows) ≡ 8 }
+/// Cost: that of [`symmetries`], seven comparisons of boards: two symmetries give the same image exactly if the one, and
+/// then the inverse of the other, leaves the board as it is. No memory.
+pub fn images<T: Eq, V: AsView<T>>(board: &V) -> SymmetrySet
+    ensures members { result ≡ first_images T.eq (V.rows board.now) }
+    ensures each { GivesEachImageOnce T.eq (V.rows board.now) result }
+    ensures count { length result * length (fixing T.eq (V.rows board.now)) ≡ 8 }
     ensures some { 0 < length result }
 {
+    let fixing = symmetries(board);
     let mut found = SymmetrySet::new();
     for i in 0..8usize {
-        if !comes_before(board, i) {
+        if !comes_before(&fixing, i) {
             found.push(Symmetry::ALL[i]);
         }
     }
     found
 }
 
-// Whether one of the first `i` symmetries gives the same image as the one after them.
-fn comes_before<T: PartialEq>(board: &GridView<'_, T>, i: usize) -> bool
+// Whether the symmetry after the first `i` differs from one of these by a symmetry of a set.
+fn comes_before(fixing: &SymmetrySet, i: usize) -> bool
     requires { i < 8 }
-    ensures { result ≡ list_any
-        (λ s. give_one_image T.eq board.now.rows s (symmetry_at i)) (take i symmetries) }
+    ensures { IsTrue result ↔
+        ((k : ℕ) × (k < i) × DiffersBy fixing.now (symmetry_at i) (symmetry_at k)) }
 {
-    let image = board.turned(Symmetry::ALL[i]);
+    let symmetry = Symmetry::ALL[i];
     for k in 0..i {
-        if board.turned(Symmetry::ALL[k]) == image {
+        if fixing.contains(symmetry.then(Symmetry::ALL[k].inverse())) {
             return true;
         }
     }

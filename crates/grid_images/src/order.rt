@@ -1,8 +1,8 @@
 //! The order of boards.
 ghost use Rattle.std.specs.Prelude.{◌≡◌};
-ghost use Rattle.grid_images.specs.Prelude.{IsTotalOrder, is_eq, same_view, table_cmp};
+ghost use Rattle.grid_images.specs.Prelude.{IsTotalOrder, is_eq, same_table, table_cmp};
 
-use grid_view::GridView;
+use grid_view::{AsView, GridView};
 use std::cmp::Ordering;
 
 /// Compares two boards: the one with fewer rows is less; of as many rows, the one with fewer columns; of one size, the one
@@ -13,9 +13,18 @@ use std::cmp::Ordering;
 /// It is a total order, so a closure that calls it sorts boards.
 ///
 /// Cost: constant, where the sizes differ; else a comparison for each cell up to the first that differs; no memory.
-pub fn compare<T: Ord>(board: &GridView<'_, T>, other: &GridView<'_, T>) -> Ordering
+pub fn compare<T: Ord, V: AsView<T>, W: AsView<T>>(board: &V, other: &W) -> Ordering
+    ensures ordering { result ≡ table_cmp T.cmp (V.rows board.now) (W.rows other.now) }
+    ensures equal { is_eq result ≡ same_table T.eq (V.rows board.now) (W.rows other.now) }
+    ensures total { IsTotalOrder (table_cmp T.cmp) }
+{
+    compare_views(&board.as_view(), &other.as_view())
+}
+
+// Compares two views.
+fn compare_views<T: Ord>(board: &GridView<'_, T>, other: &GridView<'_, T>) -> Ordering
     ensures ordering { result ≡ table_cmp T.cmp board.now.rows other.now.rows }
-    ensures equal { is_eq result ≡ same_view T.eq board.now other.now }
+    ensures equal { is_eq result ≡ same_table T.eq board.now.rows other.now.rows }
     ensures total { IsTotalOrder (table_cmp T.cmp) }
 {
     let sizes = board.size().cmp(&other.size());

@@ -1,8 +1,9 @@
-//! A grid as a vector of its rows, moved or cloned: what `TryFrom` takes.
+//! A board as a vector of its rows, moved or cloned: what `TryFrom` takes.
 ghost use Rattle.std.specs.Prelude.{◌≡◌, ◌<◌, map, take, drop, vec_len, IfOk, IfErr};
 ghost use Rattle.grid_lines.specs.Prelude.{All, AllZip, into_iter_items, row, row_count, col_count, AreCopied, IsRoomFor};
 
 use grid::{Grid, Order};
+use grid_view::{AsView, GridView};
 use std::alloc::{AllocError, Allocator};
 use std::vec;
 
@@ -62,35 +63,50 @@ fn fill_row<T, A: Allocator>(row: &mut Vec<T, A>, cells: &mut vec::IntoIter<T, A
 
 /// Returns clones of the rows, each as a vector of its cells. Where clones equal their source, they are the rows.
 ///
-///     [[1, 2], [3, 4]]   to_rows(&grid)   [1, 2] and [3, 4]
+///     [[1, 2], [3, 4]]   to_rows(alloc, &grid)   [1, 2] and [3, 4]
+///
+/// The board is a grid, a part, a turned or a deferred one.
 ///
 /// Fails: if allocation fails, for the vectors or in a clone.
 /// Cost: one clone for each cell; one allocation, and one for each row.
-pub fn to_rows<T: Clone, A: Allocator + Clone>(
-    grid: &Grid<T, A>,
+pub fn to_rows<T: Clone, V: AsView<T>, A: Allocator + Clone>(
+    alloc: A,
+    board: &V,
 ) -> Result<Vec<Vec<T, A>, A>, AllocError>
     ensures { IfOk result (λ rows.
-        AreCopied T.is_clone grid.now.rows (map (λ row. row.items) rows.items)) }
+        AreCopied T.is_clone (V.rows board.now) (map (λ row. row.items) rows.items)) }
 {
-    let count = grid.rows();
-    let mut rows = Vec::with_capacity(grid.allocator().clone()?, count)?;
+    copied_rows(alloc, &board.as_view())
+}
+
+// Returns clones of the rows of a view.
+fn copied_rows<T: Clone, A: Allocator + Clone>(
+    alloc: A,
+    view: &GridView<'_, T>,
+) -> Result<Vec<Vec<T, A>, A>, AllocError>
+    ensures { IfOk result (λ rows.
+        AreCopied T.is_clone view.now.rows (map (λ row. row.items) rows.items)) }
+{
+    let count = view.rows();
+    let mut rows = Vec::with_capacity(alloc, count)?;
     for r in 0..count {
-        let row = to_row(grid, r)?;
+        let row = copied_row(rows.allocator().clone()?, view, r)?;
         rows.push_reserved(row);
     }
     Ok(rows)
 }
 
 // Returns clones of the cells of a row.
-fn to_row<T: Clone, A: Allocator + Clone>(
-    grid: &Grid<T, A>,
+fn copied_row<T: Clone, A: Allocator>(
+    alloc: A,
+    view: &GridView<'_, T>,
     r: usize,
 ) -> Result<Vec<T, A>, AllocError>
-    requires { r < row_count grid.now.rows }
-    ensures { IfOk result (λ copy. AllZip T.is_clone (row grid.now.rows r) copy.items) }
+    requires { r < row_count view.now.rows }
+    ensures { IfOk result (λ copy. AllZip T.is_clone (row view.now.rows r) copy.items) }
 {
-    let mut copy = Vec::with_capacity(grid.allocator().clone()?, grid.cols())?;
-    for cell in grid.iter_row(r) {
+    let mut copy = Vec::with_capacity(alloc, view.cols())?;
+    for cell in view.iter_row(r) {
         let cell = cell.clone()?;
         copy.push_reserved(cell);
     }

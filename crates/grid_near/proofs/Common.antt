@@ -5,7 +5,7 @@ pub use Rattle.grid_base.proofs.Lemmas.{holds, zip_nothing, answers_more, view-r
 pub use Rattle.grid_base.proofs.StorageLemmas.{place_within}
 pub use Rattle.grid_base.proofs.TableLemmas.{length_cons, cell_past_rows, IsSome_within, past_cols}
 pub use Rattle.grid_base.proofs.ViewLemmas.{view-cols, view-table, view-cell}
-pub use Rattle.grid_near.specs.Around.{cells_from, strided_cell, positions, beside, start_of, next_step, HoldsCells, position_of, if_within, IsRound}
+pub use Rattle.grid_near.specs.Around.{cells_from, strided_cell, cell_by, by_strides, by_steps, strided_table, positions, beside, start_of, next_step, HoldsCells, position_of, if_within, IsRound}
 pub use Rattle.grid_near.specs.Marks.{MarkAt, MarksLine, spot}
 pub use Rattle.grid_near.specs.NearCounts.{MayAnswer, MayCount, CountsNear, SumsNear}
 unfoldable pub use Rattle.grid_near.specs.Neighbors.{neighbors4, neighbors8, wrapped_neighbors4, wrapped_neighbors8}

@@ -2,5 +2,8 @@ pub mod AroundLemmas
 pub mod NeighborLemmas
 pub mod WrappedLemmas
 pub mod MarkLemmas
+pub mod GivenLemmas
+pub mod NearLemmas
+pub mod NearCountLemmas
 pub mod Common
 pub mod Lemmas

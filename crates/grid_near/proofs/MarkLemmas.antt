@@ -1,6 +1,6 @@
 -- Marks of cells.
 use Rattle.std.proofs.Common.{◌≡◌, ℕ, zero, suc, ◌+◌, ◌-◌, ◌*◌, ◌%◌, ◌<◌, ◌&&◌, inl, inr, Bool, true, false, cond, nat_lt, List, [], ◌∷◌, Option, Some, None, length, refl, sym, subst, ◌∙◌, ap, arith, get_or, set, take, slice_get, filter_map, option_map, MatchOption, get_or-set_other, take_all, le-ltb, Bor}
-use Rattle.grid_near.proofs.Common.{cons_option, AllZip, from_bool, slice_get_read, sum_by-cons, get_or-set_at, cases_lt, add-mod_right, along, table_of, HoldsSize, positions_of, lines_of, holds, get_along, all_passed, length-places, get-zip, zip_even, place_within, cell_at, before, round_of, strided_cell, strides_of, beside, around, side, positions, MayAnswer, MayCount, CountsNear, SumsNear, MarkAt, MarksCells, MarksLine, AreBeside, WithEnds, IsBeyond, spot, near, table, placed_cells, count_round, sum_round}
+use Rattle.grid_near.proofs.Common.{cons_option, AllZip, from_bool, slice_get_read, sum_by-cons, get_or-set_at, cases_lt, add-mod_right, along, table_of, HoldsSize, positions_of, lines_of, holds, get_along, all_passed, length-places, get-zip, zip_even, place_within, cell_at, before, round_of, strided_cell, by_strides, strides_of, view-rows, view-cols, view-table, view-cell, beside, around, side, positions, MayAnswer, MayCount, CountsNear, SumsNear, MarkAt, MarksCells, MarksLine, AreBeside, WithEnds, IsBeyond, spot, near, table, placed_cells, count_round, sum_round}
 use Rattle.grid_base.specs.declared.order.Order.{Order}
 use Rattle.grid_base.specs.declared.order.Order.TheVariants.{RowMajor, ColumnMajor}
 use Rattle.grid_near.specs.declared.steps.Steps.{Steps}
@@ -8,7 +8,7 @@ use Rattle.grid_near.specs.declared.steps.Steps.TheVariants.{Sides, All}
 use Rattle.grid_near.specs.declared.board.Board.{Board}
 use Rattle.grid_near.specs.declared.board.Edges.{Edges}
 use Rattle.grid_near.specs.declared.board.Edges.TheVariants.{Open, Joined}
-use Rattle.grid_near.proofs.AroundLemmas.{cell_here, start_shown, below_mod}
+use Rattle.grid_near.proofs.AroundLemmas.{cell_here, start_shown, at_strides, below_mod}
 use Rattle.grid_near.proofs.WrappedLemmas.{none_done, around_within}
 
 module _ {F T B : Type 0} (blank : B) (returns : F → Bor T → B → Type 0) (f : F) (cells : List T) (start : ℕ) where
@@ -54,9 +54,9 @@ spot_place_missing cells ColumnMajor size l c h = missing_row cells size (1, siz
 
 spot_found : {T : Type 0} (cells : List T) (o : Order) (size : ℕ × ℕ) (l c : ℕ) (x : T) → l < (along o size.0 size.1).0 → c < (along o size.0 size.1).1 → slice_get cells (l * (along o size.0 size.1).1 + c) ≡ Some x → cell_at (strided_cell cells size (strides_of o size)) (spot o (Some l) (Some c)) ≡ Some (along o l c, x)
 spot_found cells RowMajor size l c x ll lc is =
-    cell_here cells size (size.1, 1) l c x ll lc (ap (slice_get cells) (omega arith) ∙ is)
+    cell_here cells size (by_strides (size.1, 1)) l c x ll lc (ap (slice_get cells) (omega arith) ∙ is)
 spot_found cells ColumnMajor size l c x ll lc is =
-    cell_here cells size (1, size.0) c l x lc ll (ap (slice_get cells) (omega arith) ∙ is)
+    cell_here cells size (by_strides (1, size.0)) c l x lc ll (ap (slice_get cells) (omega arith) ∙ is)
 
 -- a place in a line is within the cells
 line_within : (o : Order) (m n len l c : ℕ) → HoldsSize m n len → l < (along o m n).0 → c < (along o m n).1 → l * (along o m n).1 + c < len
@@ -137,7 +137,9 @@ module _ {F T B : Type 0} (blank : B) (returns : F → Bor T → B → Type 0) (
       line_marked Joined line is ends = subst (λ z. MarksLine blank returns f there o Joined w z new) (sym is) (record { at = joined_mark ends })
 
 round_shown : {T : Type 0} (cells : List T) (o : Order) (size : ℕ × ℕ) → HoldsSize size.0 size.1 (length cells) → (e : Edges) (kind : Steps) (at : ℕ × ℕ) → at.0 < size.0 → at.1 < size.1 → filter_map (cell_at (strided_cell cells size (strides_of o size))) (positions e size kind at) ≡ round_of kind e (table_of o size.0 size.1 cells) at.0 at.1
-round_shown cells o size h e kind at lr lc = start_shown o cells size (strides_of o size) h refl e kind at 0 (sym (none_done size kind at e lr lc))
+round_shown cells o size h e kind at lr lc =
+    start_shown (table_of o size.0 size.1 cells) (view-table o size.0 size.1 cells h) cells size (by_strides (strides_of o size)) (sym (view-rows o size.0 size.1 cells h)) (sym (view-cols o size.0 size.1 cells h))
+    (λ r c lr lc. ap (slice_get cells) (at_strides o size.0 size.1 r c) ∙ sym (view-cell o size.0 size.1 cells h r c lr lc)) e kind at 0 (sym (none_done size kind at e lr lc))
 
 -- the marks round a place of a line, in the order of the positions of the cells
 abbrev marks_round : {B : Type 0} → B → Order → Steps → List B → List B → List B → ℕ → List B

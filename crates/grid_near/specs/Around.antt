@@ -1,6 +1,7 @@
 -- How the iterators round a cell count their steps.
-use Rattle.std.specs.Prelude.{◌≡◌, ℕ, zero, suc, ◌+◌, ◌-◌, ◌*◌, ◌/◌, ◌%◌, ◌<◌, ◌≤◌, ◌&&◌, Bool, true, false, cond, nat_lt, Option, None, Some, List, [], ◌∷◌, drop, length, slice_get, MatchOption, filter_map, option_and_then}
+use Rattle.std.specs.Prelude.{◌≡◌, ℕ, zero, suc, ◌+◌, ◌-◌, ◌*◌, ◌/◌, ◌%◌, ◌^◌, ◌<◌, ◌≤◌, ◌&&◌, Bool, true, false, cond, nat_lt, Option, None, Some, List, [], ◌∷◌, drop, length, slice_get, MatchOption, filter_map, option_and_then}
 use Rattle.std.specs.Borrow.{Bor}
+use Rattle.grid_base.specs.Table.{tabulate}
 use Rattle.grid_base.specs.declared.order.Order.{Order}
 use Rattle.grid_base.specs.declared.order.Order.TheVariants.{RowMajor, ColumnMajor}
 use Rattle.grid_near.specs.declared.steps.Steps.{Steps}
@@ -9,10 +10,27 @@ use Rattle.grid_near.specs.declared.board.Edges.{Edges}
 use Rattle.grid_near.specs.declared.board.Edges.TheVariants.{Open, Joined}
 use Rattle.grid_near.specs.Neighbors.{step_count, around8, around4, before, round_before, round_after, both, cell_at, placed}
 
--- the cell in row r and column c of m rows and n columns whose cells are `down` and `right` apart
+-- the cell in row r and column c of a size, where `place_of` says where each cell is
+abbrev pub cell_by : {T : Type 0} → List T → ℕ × ℕ → (ℕ → ℕ → ℕ) → ℕ → ℕ → Option T
+cell_by cells size place_of r c =
+    cond (nat_lt r size.0 && nat_lt c size.1) (slice_get cells (place_of r c)) None
+
+-- the place of the cell in row r and column c, where those of a column are strides.0 apart, and
+-- those of a row strides.1
+abbrev pub by_strides : ℕ × ℕ → ℕ → ℕ → ℕ
+by_strides strides r c = r * strides.0 + c * strides.1
+
+-- the same from a place on, modulo 2 ^ 64, so that a stride may go back
+abbrev pub by_steps : ℕ → ℕ × ℕ → ℕ → ℕ → ℕ
+by_steps start strides r c = (start + r * strides.0 + c * strides.1) % 2 ^ 64
+
 abbrev pub strided_cell : {T : Type 0} → List T → ℕ × ℕ → ℕ × ℕ → ℕ → ℕ → Option T
-strided_cell cells size strides r c =
-    cond (nat_lt r size.0 && nat_lt c size.1) (slice_get cells (r * strides.0 + c * strides.1)) None
+strided_cell cells size strides = cell_by cells size (by_strides strides)
+
+-- the table of these cells
+abbrev pub strided_table : {T : Type 0} → List T → ℕ × ℕ → ℕ → ℕ × ℕ → List (List T)
+strided_table cells size start strides =
+    tabulate size.0 size.1 (λ r c. slice_get cells (by_steps start strides r c))
 
 -- the strides of a grid in an order
 abbrev pub strides_of : Order → ℕ × ℕ → ℕ × ℕ
@@ -20,9 +38,9 @@ strides_of RowMajor size = (size.1, 1)
 strides_of ColumnMajor size = (1, size.0)
 
 -- each of them is there
-abbrev pub HoldsCells : {T : Type 0} → List T → ℕ × ℕ → ℕ × ℕ → Type 0
-HoldsCells cells size strides =
-    (r c : ℕ) → r < size.0 → c < size.1 → r * strides.0 + c * strides.1 < length cells
+abbrev pub HoldsCells : {T : Type 0} → List T → ℕ × ℕ → (ℕ → ℕ → ℕ) → Type 0
+HoldsCells cells size place_of =
+    (r c : ℕ) → r < size.0 → c < size.1 → place_of r c < length cells
 
 -- the number of the cell of step k, of the nine cells of three rows, row by row
 abbrev pub box : Steps → ℕ → ℕ
@@ -102,10 +120,6 @@ pub record IsInner (size at : ℕ × ℕ) : Type 0 where
   pub below : at.0 + 1 < size.0
   pub after : at.1 + 1 < size.1
 
--- where the first of the nine cells round a position is
-abbrev pub box_start : ℕ × ℕ → ℕ × ℕ → ℕ
-box_start strides at = (at.0 - 1) * strides.0 + (at.1 - 1) * strides.1
-
 -- how many steps an iterator has done at its start: all, where edges meet, round a position out of
 -- range
 abbrev pub start_of : Edges → ℕ × ℕ → Steps → ℕ × ℕ → ℕ
@@ -119,11 +133,11 @@ next_step Joined inner passed tried = passed
 
 -- what holds of an iterator round the cell at a position, of which `passed` steps are done, and, at
 -- an edge that is open, `tried`
-pub record IsRound {T : Type 0} (cells : List T) (size strides at : ℕ × ℕ) (kind : Steps)
-    (edges : Edges) (first : ℕ) (inner : Bool) (passed tried : ℕ) : Type 0 where
-  pub holds : HoldsCells cells size strides
+pub record IsRound {T : Type 0} (cells : List T) (size : ℕ × ℕ) (start : ℕ) (strides at : ℕ × ℕ)
+    (kind : Steps) (edges : Edges) (first : ℕ) (inner : Bool) (passed tried : ℕ) : Type 0 where
+  pub holds : HoldsCells cells size (by_steps start strides)
   pub inside : inner ≡ true → IsInner size at
-  pub first_is : inner ≡ true → first ≡ box_start strides at
+  pub first_is : inner ≡ true → first ≡ by_steps start strides (at.0 - 1) (at.1 - 1)
   pub behind : edges ≡ Open → inner ≡ false → passed ≤ tried
   pub row_in : edges ≡ Joined → passed < step_count kind → at.0 < size.0
   pub col_in : edges ≡ Joined → passed < step_count kind → at.1 < size.1

@@ -85,7 +85,7 @@ impl Direction {
     }
 
     // The number of a direction, clockwise from the one up.
-    fn number(self) -> usize
+    pub(crate) fn number(self) -> usize
         ensures is { result ≡ clockwise self }
         ensures below { result < 8 }
     {

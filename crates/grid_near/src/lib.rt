@@ -3,14 +3,18 @@
 #![tactic(auto)]
 
 mod board;
+mod count;
 mod counts;
 mod direction;
+pub mod laws;
 mod neighbors;
 mod steps;
 mod strided;
 
 pub use board::{Board, Edges};
+pub use count::count_near;
 pub use counts::{map_counts, map_sums};
 pub use direction::Direction;
-pub use neighbors::{Neighbors, WrappedNeighbors, neighbors_of};
+pub use neighbors::{Neighbors, WrappedNeighbors, neighbors_in, neighbors_of};
 pub use steps::Steps;
+pub use strided::Strided;

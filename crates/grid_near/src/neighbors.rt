@@ -1,9 +1,9 @@
 //! Iterators over the cells round a cell, of a table with edges or of one whose edges meet.
 ghost use Rattle.std.specs.Prelude.{◌≡◌, ◌*◌, ◌<◌, ◌≤◌, ⊤, length, min, IfSome, Some};
-ghost use Rattle.grid_base.specs.Prelude.{table_of};
+ghost use Rattle.grid_base.specs.Prelude.{table_of, IsSize};
 ghost use Rattle.std.specs.Iterator.{YieldsFirstBy, UpTo, at_most};
 ghost use Rattle.std.specs.Iterator.SizeHint.{IsWithinCount};
-ghost use Rattle.grid_near.specs.Around.{HoldsCells, FindsFirst, IsFirst, strided_cell, start_of};
+ghost use Rattle.grid_near.specs.Around.{HoldsCells, FindsFirst, IsFirst, cell_by, by_steps, strided_table, start_of};
 ghost use Rattle.grid_near.specs.Neighbors.{step_count, placed, round_of, GivesNear};
 ghost use Rattle.grid_near.specs.declared.board.Edges.TheVariants.{Joined};
 
@@ -11,7 +11,7 @@ use crate::board::Edges;
 use crate::steps::{
     Steps, around, count_from, first_from, is_inner, offset, step_count, strides_of,
 };
-use crate::strided::Strided;
+use crate::strided::{Strided, place_from};
 use grid_base::Layout;
 use std::alloc::AllocError;
 use std::iter::FusedIterator;
@@ -41,15 +41,16 @@ pub type WrappedNeighbors<'a, T> = Neighbors<'a, T>;
 
 impl<'a, T> Model for Neighbors<'a, T> {
     ghost use Rattle.std.specs.Prelude.{◌≡◌, ℕ, List};
-    ghost use Rattle.grid_near.specs.Around.{strided_cell, cells_from, next_step, IsRound};
+    ghost use Rattle.grid_near.specs.Around.{cell_by, by_steps, cells_from, next_step, IsRound};
 
     ghost Value = { List ((ℕ × ℕ) × T) };
 
-    ghost view = { λ a. cells_from (strided_cell a.table.cells.now a.table.size a.table.strides)
+    ghost view = { λ a. cells_from
+        (cell_by a.table.cells.now a.table.size (by_steps a.table.start a.table.strides))
         a.edges a.table.size a.kind a.at (next_step a.edges a.inner a.passed a.tried) };
 
-    ghost invariant = { λ a. IsRound a.table.cells.now a.table.size a.table.strides
-        a.at a.kind a.edges a.first a.inner a.passed a.tried };
+    ghost invariant = { λ a. IsRound a.table.cells.now a.table.size a.table.start
+        a.table.strides a.at a.kind a.edges a.first a.inner a.passed a.tried };
 }
 
 /// Returns an iterator over the cells round cell `at` of the table that a slice stores, row by row, each with its row and
@@ -81,20 +82,43 @@ pub fn neighbors_of<T>(
     ensures at_most { length result ≤ step_count kind }
 {
     let size = (layout.rows, layout.cols);
-    let strides = strides_of(layout.order, size);
-    let passed = done_at_start(size, at, kind, edges);
-    let inner = is_inner(size, at);
+    let table = Strided {
+        cells,
+        size,
+        start: 0,
+        strides: strides_of(layout.order, size),
+    };
+    neighbors_in(table, at, kind, edges)
+}
+
+/// Same as [`neighbors_of`], of a table whose cells are at even distances.
+///
+/// Requires: there are rows exactly if there are columns, and the cells are within the slice.
+#[inline(always)]
+pub fn neighbors_in<T>(
+    table: Strided<'_, T>,
+    at: (usize, usize),
+    kind: Steps,
+    edges: Edges,
+) -> Neighbors<'_, T>
+    requires size { IsSize table.size.0 table.size.1 }
+    requires holds { HoldsCells table.cells.now table.size (by_steps table.start table.strides) }
+    ensures gives { GivesNear (round_of kind edges (strided_table
+        table.entry.cells.now table.entry.size table.entry.start table.entry.strides) at.0 at.1)
+        result }
+    ensures count { edges ≡ Joined → at.0 < table.entry.size.0 → at.1 < table.entry.size.1
+        → length result ≡ step_count kind }
+    ensures at_most { length result ≤ step_count kind }
+{
+    let passed = done_at_start(table.size, at, kind, edges);
+    let inner = is_inner(table.size, at);
     let first = if inner {
-        (at.0 - 1) * strides.0 + (at.1 - 1) * strides.1
+        place_from(table.start, table.strides, at.0 - 1, at.1 - 1)
     } else {
         0
     };
     Neighbors {
-        table: Strided {
-            cells,
-            size,
-            strides,
-        },
+        table,
         at,
         kind,
         edges,
@@ -123,7 +147,7 @@ impl<'a, T> Iterator for Neighbors<'a, T> {
         if self.inner {
             let (i, j) = offset(self.kind, k);
             let at = (self.at.0 + i - 1, self.at.1 + j - 1);
-            let place = self.first + i * self.table.strides.0 + j * self.table.strides.1;
+            let place = place_from(self.first, self.table.strides, i, j);
             return Some((at, &self.table.cells[place]));
         }
         match self.edges {
@@ -198,16 +222,16 @@ fn find_from<T>(
     kind: Steps,
     from: usize,
 ) -> (usize, Option<((usize, usize), &T)>)
-    requires holds { HoldsCells table.cells.now table.size table.strides }
-    ensures found { FindsFirst
-        (strided_cell table.entry.cells.now table.entry.size table.entry.strides) table.entry.size
-        kind at from result }
+    requires holds { HoldsCells table.cells.now table.size (by_steps table.start table.strides) }
+    ensures found { FindsFirst (cell_by table.entry.cells.now table.entry.size
+        (by_steps table.entry.start table.entry.strides)) table.entry.size kind at from result }
     ensures keeps { from ≤ result.0 }
     ensures on { from < step_count kind → from < result.0 }
 {
     let Strided {
         cells,
         size,
+        start,
         strides,
     } = table;
     let k = first_from(size, at, kind, from);
@@ -217,7 +241,7 @@ fn find_from<T>(
     let (i, j) = offset(kind, k);
     let row = at.0 + i - 1;
     let col = at.1 + j - 1;
-    let cell = &cells[row * strides.0 + col * strides.1];
+    let cell = &cells[place_from(start, strides, row, col)];
     (k + 1, Some(((row, col), cell)))
 }
 
@@ -229,18 +253,16 @@ fn joined_cell<T>(
     kind: Steps,
     k: usize,
 ) -> ((usize, usize), &T)
-    requires holds { HoldsCells table.cells.now table.size table.strides }
+    requires holds { HoldsCells table.cells.now table.size (by_steps table.start table.strides) }
     requires step { k < step_count kind }
     requires row { at.0 < table.size.0 }
     requires col { at.1 < table.size.1 }
-    ensures { IsFirst (strided_cell table.entry.cells.now table.entry.size table.entry.strides)
-        table.entry.size kind at k result }
+    ensures { IsFirst (cell_by table.entry.cells.now table.entry.size
+        (by_steps table.entry.start table.entry.strides)) table.entry.size kind at k result }
 {
     let (i, j) = offset(kind, k);
     let row = around(table.size.0, at.0, i);
     let col = around(table.size.1, at.1, j);
-    (
-        (row, col),
-        &table.cells[row * table.strides.0 + col * table.strides.1],
-    )
+    let place = place_from(table.start, table.strides, row, col);
+    ((row, col), &table.cells[place])
 }

@@ -16,7 +16,7 @@ mod update;
 mod zip;
 
 pub use fold::{fold_cols, fold_rows};
-pub use parts::{PartIter, tiles, windows};
+pub use parts::{IntoView, PartIter, tiles, windows};
 pub use search::find;
 pub use update::update_with;
 pub use zip::zip_with;

@@ -1,5 +1,5 @@
 //! Iterators over the tiles of a board, and over its windows.
-ghost use Rattle.std.specs.Prelude.{◌≡◌, ◌+◌, ◌-◌, ◌*◌, ◌/◌, ◌%◌, ◌^◌, ◌<◌, ◌≤◌, ⊤, length, drop, slice_get, IfSome, MatchOption, Some};
+ghost use Rattle.std.specs.Prelude.{◌≡◌, ◌+◌, ◌-◌, ◌*◌, ◌/◌, ◌%◌, ◌^◌, ◌<◌, ◌≤◌, ⊤, List, length, drop, slice_get, IfSome, MatchOption, Some};
 ghost use Rattle.std.specs.Iterator.{YieldsFirstBy, YieldsLastBy, item_count, UpTo, at_most};
 ghost use Rattle.std.specs.Iterator.SizeHint.{IsWithinCount};
 ghost use Rattle.grid_pairs.specs.Prelude.{row_count, col_count, tiles, windows, GivesParts, GivesSize, GivesUpTo};
@@ -11,6 +11,37 @@ use std::iter::FusedIterator;
 use std::marker::Model;
 use std::ops::Range;
 
+/// What lends a view for as long as its cells are lent: a reference to what lends itself as a view, or a view by value. So
+/// the parts of a view that is made on the spot may be kept: `tiles(board.part(at, size), 2, 2)`.
+pub trait IntoView<'a, T> {
+    // The rows that are lent.
+    ghost rows: { Self → List (List T) };
+
+    /// Returns the view.
+    ///
+    /// Cost: constant; no cell is copied, and no memory is taken.
+    fn into_view(self) -> GridView<'a, T>
+        ensures { result.rows ≡ rows self };
+}
+
+/// A reference lends the rows of what it refers to.
+impl<'a, T, V: AsView<T>> IntoView<'a, T> for &'a V {
+    ghost rows = { λ board. V.rows board.now };
+
+    fn into_view(self) -> GridView<'a, T> {
+        self.as_view()
+    }
+}
+
+/// A view lends the rows that it shows.
+impl<'a, T> IntoView<'a, T> for GridView<'a, T> {
+    ghost rows = { λ view. view.rows };
+
+    fn into_view(self) -> GridView<'a, T> {
+        self
+    }
+}
+
 /// Returns an iterator over the tiles of this size, row by row, from both ends, each as a view: the parts into which the
 /// board is cut from its first corner on. Those at its end are smaller where the size doesn't divide that of the board.
 ///
@@ -18,13 +49,13 @@ use std::ops::Range;
 ///
 /// Requires: `rows` and `cols` aren't 0.
 /// Cost: each step takes the same time; no cell is copied, and no memory is taken.
-pub fn tiles<'a, T, V: AsView<T>>(board: &'a V, rows: usize, cols: usize) -> PartIter<'a, T>
+pub fn tiles<'a, T, V: IntoView<'a, T>>(board: V, rows: usize, cols: usize) -> PartIter<'a, T>
     requires tall { 0 < rows }
     requires wide { 0 < cols }
-    ensures gives { GivesParts (tiles (V.rows board.now) rows cols) result }
+    ensures gives { GivesParts (tiles (V.rows board) rows cols) result }
     ensures sizes { GivesUpTo rows cols result }
 {
-    let board = board.as_view();
+    let board = board.into_view();
     let (row_count, col_count) = board.size();
     let count = (row_count.div_ceil(rows), col_count.div_ceil(cols));
     PartIter {
@@ -43,13 +74,13 @@ pub fn tiles<'a, T, V: AsView<T>>(board: &'a V, rows: usize, cols: usize) -> Par
 ///
 /// Requires: `rows` and `cols` aren't 0.
 /// Cost: each step takes the same time; no cell is copied, and no memory is taken.
-pub fn windows<'a, T, V: AsView<T>>(board: &'a V, rows: usize, cols: usize) -> PartIter<'a, T>
+pub fn windows<'a, T, V: IntoView<'a, T>>(board: V, rows: usize, cols: usize) -> PartIter<'a, T>
     requires tall { 0 < rows }
     requires wide { 0 < cols }
-    ensures gives { GivesParts (windows (V.rows board.now) rows cols) result }
+    ensures gives { GivesParts (windows (V.rows board) rows cols) result }
     ensures sizes { GivesSize rows cols result }
 {
-    let board = board.as_view();
+    let board = board.into_view();
     let (row_count, col_count) = board.size();
     let count = (starts(row_count, rows), starts(col_count, cols));
     PartIter {

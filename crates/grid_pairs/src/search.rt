@@ -1,12 +1,13 @@
 //! Where a pattern stands in a board.
-ghost use Rattle.std.specs.Prelude.{◌≡◌, ◌+◌, ◌<◌, ◌≤◌, ℕ, MatchOption};
-ghost use Rattle.grid_pairs.specs.Prelude.{row_count, col_count, FoundFirst};
+ghost use Rattle.std.specs.Prelude.{◌≡◌, ◌+◌, ◌<◌, ◌≤◌, ℕ, IfSome, MatchOption};
+ghost use Rattle.grid_pairs.specs.Prelude.{row_count, col_count, InRange, FoundFirst};
 ghost use Rattle.grid_pairs.specs.Found.{StandsIn, StandsFirstIn};
 
 use grid_view::{AsView, GridView};
 
 /// Returns the row and the column of the first part of a board, row by row, that is the pattern, or `None` where none is.
-/// The empty pattern is found at (0, 0).
+/// The empty pattern is found at (0, 0). There the part fits, so that `board.part(at, pattern.size())` needs no test, and where
+/// the pattern has cells, neither does `board[at]`.
 ///
 ///     [[1, 2, 1], [2, 1, 2]]   find(board, [[2, 1]])   Some((0, 1))
 ///     [[1, 2, 1], [2, 1, 2]]   find(board, [[2, 2]])   None
@@ -16,14 +17,24 @@ pub fn find<T: PartialEq, V: AsView<T>, P: AsView<T>>(
     board: &V,
     pattern: &P,
 ) -> Option<(usize, usize)>
-    ensures { FoundFirst T.eq (V.rows board.now) (P.rows pattern.now) result }
+    ensures first { FoundFirst T.eq (V.rows board.now) (P.rows pattern.now) result }
+    ensures fits { IfSome result (λ at.
+        (at.0 + row_count (P.rows pattern.now) ≤ row_count (V.rows board.now))
+        × (at.1 + col_count (P.rows pattern.now) ≤ col_count (V.rows board.now))) }
+    ensures in_range { IfSome result (λ at. 0 < row_count (P.rows pattern.now)
+        → InRange (V.rows board.now) at.0 at.1) }
 {
     found(&board.as_view(), &pattern.as_view())
 }
 
 // Returns the position of the first part of a view that is the pattern.
 fn found<T: PartialEq>(board: &GridView<'_, T>, pattern: &GridView<'_, T>) -> Option<(usize, usize)>
-    ensures { FoundFirst T.eq board.now.rows pattern.now.rows result }
+    ensures first { FoundFirst T.eq board.now.rows pattern.now.rows result }
+    ensures fits { IfSome result (λ at.
+        (at.0 + row_count pattern.now.rows ≤ row_count board.now.rows)
+        × (at.1 + col_count pattern.now.rows ≤ col_count board.now.rows)) }
+    ensures in_range { IfSome result (λ at. 0 < row_count pattern.now.rows
+        → InRange board.now.rows at.0 at.1) }
 {
     if pattern.is_empty() {
         return Some((0, 0));

@@ -115,7 +115,9 @@ fn push_row<T, U, V, A: Allocator, F: Fn(&T, &U) -> V>(
 {
     match (board.row_slice(r), other.row_slice(r)) {
         (Some(cells), Some(others)) => push_stored(made, cells, others, f),
-        _ => push_seen(made, board, other, r, f),
+        (Some(cells), None) => push_with_slice(made, cells, other, r, f),
+        (None, Some(others)) => push_beside_slice(made, board, r, others, f),
+        (None, None) => push_seen(made, board, other, r, f),
     }
 }
 
@@ -135,6 +137,50 @@ fn push_stored<T, U, V, A: Allocator, F: Fn(&T, &U) -> V>(
 {
     for k in 0..cells.len() {
         made.push_reserved(f(&cells[k], &others[k]));
+    }
+    made
+}
+
+// Appends the same, of a slice and a row of a board.
+fn push_with_slice<T, U, V, A: Allocator, F: Fn(&T, &U) -> V>(
+    mut made: Vec<V, A>,
+    cells: &[T],
+    other: &GridView<'_, U>,
+    r: usize,
+    f: &F,
+) -> Vec<V, A>
+    requires row_in { r < row_count other.now.rows }
+    requires len { length cells.now ≡ col_count other.now.rows }
+    requires calls { CallableAtRow F.pre f.now 0 cells.now (row other.now.rows r) }
+    requires room { vec_len made + length cells.now ≤ vec_capacity made }
+    ensures room { vec_capacity result ≡ vec_capacity made }
+    ensures items { Appended F.post f.now (length cells.now)
+        cells.now (row other.now.rows r) made.items result.items }
+{
+    for col in 0..cells.len() {
+        made.push_reserved(f(&cells[col], other.get_unchecked(r, col)));
+    }
+    made
+}
+
+// Appends the same, of a row of a board and a slice.
+fn push_beside_slice<T, U, V, A: Allocator, F: Fn(&T, &U) -> V>(
+    mut made: Vec<V, A>,
+    board: &GridView<'_, T>,
+    r: usize,
+    others: &[U],
+    f: &F,
+) -> Vec<V, A>
+    requires row_in { r < row_count board.now.rows }
+    requires len { length others.now ≡ col_count board.now.rows }
+    requires calls { CallableAtRow F.pre f.now 0 (row board.now.rows r) others.now }
+    requires room { vec_len made + length others.now ≤ vec_capacity made }
+    ensures room { vec_capacity result ≡ vec_capacity made }
+    ensures items { Appended F.post f.now (length others.now)
+        (row board.now.rows r) others.now made.items result.items }
+{
+    for col in 0..others.len() {
+        made.push_reserved(f(board.get_unchecked(r, col), &others[col]));
     }
     made
 }

@@ -2,7 +2,7 @@
 use Rattle.std.proofs.Common.{◌≡◌, ◌⊎◌, inl, inr, ℕ, List, [], ◌∷◌, ◌++◌, refl, ap, ℤ, pos, append_assoc, Option, Some, Ok, Err, codes, flat_map}
 use Rattle.grid.specs.Prelude.{run_rows, run_replies, CommandValue, ReplyValue}
 use Rattle.std.specs.Fmt.{debug_items, debug_list, signed_decimal, with_newline}
-use Rattle.grid.specs.Texts.{rows_text, table_text}
+use Rattle.grid.specs.Prelude.{rows_text, table_text}
 use Rattle.grid_play.specs.declared.fault.ScriptFault.{ScriptFault}
 use Rattle.grid_play.specs.declared.fault.ScriptFault.TheVariants.{Memory}
 use Rattle.grid_play.specs.Script.{ScriptValue, script_of}

@@ -6,7 +6,7 @@ use Rattle.std.proofs.lemmas.Bool.{cases_lt, false≢true, eq-eqb, eqb-true}
 use Rattle.std.proofs.lemmas.Option.{slice_get_within}
 use Rattle.grid_base.specs.Table.{InRange}
 use Rattle.grid_base.proofs.PartLemmas.{get-reverse}
-use Rattle.grid.specs.Found.{AnswersAt}
+use Rattle.grid.specs.Prelude.{AnswersAt}
 use Rattle.grid_rays.specs.Segments.{nearest, steps_between, point, segment}
 use Rattle.grid_rays.specs.Sight.{IsBetween, IsSeen, Passes, Sees, IsTest, TellsSeen}
 use Rattle.grid_rays.proofs.SegmentLemmas.{nearest_is}

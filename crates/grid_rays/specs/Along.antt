@@ -3,7 +3,7 @@ use Rattle.std.specs.Prelude.{◌≡◌, ℕ, ◌+◌, ◌<◌, ◌≤◌, Bool,
 use denote.Ref.{Bor}
 use Rattle.grid_base.specs.Table.{cell, InRange}
 use Rattle.grid_near.specs.declared.direction.Direction.{Direction}
-use Rattle.grid.specs.Found.{AnswersAt}
+use Rattle.grid.specs.Prelude.{AnswersAt}
 use Rattle.grid_rays.specs.Rays.{IsAhead}
 
 module _ {F T : Type 0} (returns : F → Bor T → Bool → Type 0) (f : F) (t : List (List T))

@@ -2,7 +2,7 @@
 use Rattle.std.specs.Prelude.{◌≡◌, ℕ, ◌<◌, ◌≤◌, Bool, IsTrue, true, false, Option, None, Some, List, MatchBool, slice_get}
 use denote.Ref.{Bor}
 use Rattle.grid_base.specs.Table.{cell, InRange}
-use Rattle.grid.specs.Found.{AnswersAt}
+use Rattle.grid.specs.Prelude.{AnswersAt}
 use Rattle.grid_rays.specs.Segments.{steps_between, segment}
 
 -- `at` is on the straight line from a to b, strictly between the two

@@ -6,3 +6,7 @@ pub mod SteppedLemmas
 pub mod SameLemmas
 pub mod DebugLemmas
 pub mod PlacedLemmas
+pub mod PositionLemmas
+pub mod StridedLemmas
+pub mod TextLemmas
+pub mod DisplayLemmas

@@ -1,12 +1,13 @@
 -- The lines of a view.
-use Rattle.std.proofs.Common.{◌≡◌, ℕ, suc, ◌+◌, ◌-◌, ◌*◌, ◌/◌, ◌<◌, ◌≤◌, Bool, true, false, Option, None, Some, Bor, List, [], ◌∷◌, length, take, drop, reverse, slice_get, refl, sym, ◌∙◌, ap, arith, length-drop, option_copied}
+use Rattle.std.proofs.Common.{◌≡◌, ℕ, suc, ◌+◌, ◌-◌, ◌*◌, ◌/◌, ◌<◌, ◌≤◌, Bool, true, false, Option, None, Some, Bor, List, [], ◌∷◌, length, take, drop, reverse, slice_get, refl, sym, ◌∙◌, ap, arith, length-drop, length-take-le, option_copied}
 use Rattle.grid_base.proofs.Common.{div_ceil, YieldsFirstRef, YieldsLastRef, Yields, SkipsThenYields, length-reverse, reverse-append, drop_all, div-mul-add, mul-le, row, row_count}
 use Rattle.grid_base.proofs.PartLemmas.{get-reverse}
 use Rattle.grid_base.proofs.TableLemmas.{same_cells}
-use Rattle.grid_base.proofs.StrideLemmas.{get-strided, length-line_of, ceil_is, every_one, nth_found}
+use Rattle.grid_base.proofs.StorageLemmas.{get-take, get-drop}
+use Rattle.grid_base.proofs.StrideLemmas.{get-strided, length-line_of, ceil_is, nth_found}
 use Rattle.grid_view.specs.declared.axis.ViewAxis.{ViewAxis}
 use Rattle.grid_view.specs.View.{counted, offset, HoldsView}
-use Rattle.grid_view.specs.Value.{ViewValue, view_value, counted_within}
+use Rattle.grid_view.specs.Value.{ViewValue, view_value, counted_within, place_within}
 use Rattle.grid_view.specs.Lines.{directed, line_cells}
 use Rattle.grid_view.proofs.SeenLemmas.{seen_rows, seen_cols, seen_at}
 
@@ -64,12 +65,6 @@ module _ {T : Type 0} where
       let below : k * stride ≤ (count - 1) * stride = mul-le k stride (count - 1) stride (omega arith) (omega arith) in
       get-strided start (start + (count - 1) * stride + 1) stride k cells steps (omega arith)
 
-  -- the cells of a line, where they are side by side
-  pub together : (b : Bool) (start count stride : ℕ) (cells : List T) → b ≡ false → stride ≡ 1 → 0 < count → take (start + count - start) (drop start cells) ≡ directed b (line_cells start count stride cells)
-  together b start count stride cells forwards one some =
-      let end : start + count ≡ start + (count - 1) * stride + 1 = omega (arith, ap (λ x. (count - 1) * x) one) in
-      ap (λ x. take (x - start) (drop start cells)) end ∙ (sym (every_one stride _ one) ∙ ap (λ x. directed x (line_cells start count stride cells)) (sym forwards))
-
   -- a row of a view
   module _ (rows cols : ViewAxis) (cells : List T) (h : HoldsView rows cols (length cells)) (v : ViewValue T) (e : view_value rows cols cells h ≡ v) (r : ℕ) (lr : r < rows.count) where
     pub row_some : 0 < cols.count
@@ -92,3 +87,25 @@ module _ {T : Type 0} where
         get-directed cols.backwards line cols.count c len lc
         ∙ (get-line_cells start cols.count cols.stride (counted cols.backwards cols.count c) cells (counted_within cols.backwards cols.count c lc) steps
         ∙ (ap (λ x. slice_get cells (x + offset cols c)) same ∙ sym (seen_at rows cols cells h v e r c lr lc))))
+
+    -- the cells of a row that are side by side, the first first
+    module _ (start : ℕ) (same : start ≡ offset rows r) (steps : (c : ℕ) → c < cols.count → offset cols c ≡ c * 1) where
+      pub side_within : start + cols.count ≤ length cells
+      side_within =
+          let last : cols.count - 1 < cols.count = omega (arith, row_some) in
+          omega (arith, place_within rows cols (length cells) h r (cols.count - 1) lr last, steps (cols.count - 1) last)
+
+      pub side_by_side : take (start + cols.count - start) (drop start cells) ≡ row v.rows r
+      side_by_side =
+          let n : start + cols.count - start ≡ cols.count = omega arith in
+          let side = take cols.count (drop start cells) in
+          let in_rows : r < row_count v.rows = omega (arith, seen_rows rows cols cells h v e) in
+          let width : length (row v.rows r) ≡ cols.count = v.table.even r in_rows ∙ seen_cols rows cols cells h v e in
+          let long : length side ≡ cols.count = length-take-le cols.count (drop start cells) (omega (arith, length-drop start cells, side_within)) in
+          ap (λ k. take k (drop start cells)) n
+          ∙ same_cells side (row v.rows r) (long ∙ sym width)
+          (λ c lt.
+          let lc : c < cols.count = omega (arith, long) in
+          let at : start + c ≡ offset rows r + offset cols c = omega (arith, steps c lc) in
+          get-take cols.count (drop start cells) c lc
+          ∙ (get-drop start cells (start + c) c refl ∙ (ap (slice_get cells) at ∙ sym (seen_at rows cols cells h v e r c lr lc))))

@@ -1,10 +1,11 @@
 -- What the fields of a view say of the rows that a contract sees.
-use Rattle.std.proofs.Common.{◌≡◌, IsTrue, ◌↔◌, nat_eq, ℕ, ◌+◌, ◌-◌, ◌*◌, ◌<◌, ◌≤◌, Bool, true, false, None, List, [], length, take, drop, slice_get, is_some, refl, sym, ◌∙◌, ap, arith, length-take-le, eqb-true, eq-eqb}
+use Rattle.std.proofs.Common.{◌≡◌, ◌⊎◌, IsTrue, ◌↔◌, ◌==◌, if◌then◌else◌, nat_eq, ℕ, ◌+◌, ◌-◌, ◌*◌, ◌<◌, ◌≤◌, Bool, true, false, None, List, [], length, take, drop, slice_get, is_some, refl, sym, ◌∙◌, ap, arith, length-take-le, eqb-true, eq-eqb}
+use Rattle.std.proofs.lemmas.Bool.Decides.{nat_tests}
 use Rattle.grid_base.proofs.Common.{PathP, is_prop→PathP, mul-le, row_count, col_count, cell, concat_rows, tabulate, IsTable, table_of, HoldsSize, FitsUsize, act, source_row, source_col, image_rows, image_cols, flags_of, nil_from_length}
 use Rattle.grid_base.specs.declared.order.Order.TheVariants.{RowMajor, ColumnMajor}
 use Rattle.grid_base.specs.declared.words.Symmetry.{Symmetry}
 use Rattle.grid_base.specs.declared.words.Symmetry.TheVariants.{Identity, FlipCols, FlipRows, RotateHalf, Transpose, RotateLeft, RotateRight, AntiTranspose}
-use Rattle.grid_base.proofs.TableLemmas.{rows-tabulate, cols-tabulate, cell-tabulate, tabulate-same, cell_past_rows, cell_past_cols}
+use Rattle.grid_base.proofs.TableLemmas.{rows-tabulate, cols-tabulate, cell-tabulate, tabulate-same, IsFull-cells, cell_past_rows, cell_past_cols}
 use Rattle.grid_base.proofs.ActLemmas.{act-tabulate, IsFull-image}
 use Rattle.grid_base.proofs.StorageLemmas.{IsFull-table_of, storage-table_of, get-take, get-drop}
 use Rattle.grid_view.specs.declared.axis.ViewAxis.{ViewAxis}
@@ -173,6 +174,18 @@ seen_part rows cols cells h at size rows_in cols_in rest e =
     ap (λ x. slice_get x p) e
     ∙ (get-drop s cells (s + p) p refl ∙ (ap (slice_get cells) same ∙ sym (there rows cols cells h (at.0 + r) (at.1 + c) (omega arith) (omega arith)))))
     (record { full = λ r c lr lc. ap is_some (there rows cols cells h (at.0 + r) (at.1 + c) (omega arith) (omega arith)) ∙ (IsFull-seen rows cols cells h).full (at.0 + r) (at.1 + c) (omega arith) (omega arith) })
+
+pub cols-sub_table : {T : Type 0} (t : List (List T)) (at size : ℕ × ℕ) → IsTable t → at.0 + size.0 ≤ row_count t → at.1 + size.1 ≤ col_count t → 0 < size.0 → 0 < size.1 → col_count (sub_table t at size) ≡ size.1
+cols-sub_table t at size h rows_in cols_in some_rows some_cols =
+    cols-tabulate size.0 size.1 _ (record { has_cols = λ _. some_cols; has_rows = λ _. some_rows })
+    (record { full = λ r c lr lc. (IsFull-cells t h).full (at.0 + r) (at.1 + c) (omega (arith, rows_in, lr)) (omega (arith, cols_in, lc)) })
+
+-- the number of lines of a part, which has none where it has none of the others
+pub part_some : (m n : ℕ) → 0 < n → m ≡ (if n == 0 then 0 else m)
+part_some m n some = grind (arith, nat_tests)
+
+pub part_none : (m n : ℕ) → (m ≡ 0) ⊎ (n ≡ 0) → 0 ≡ (if n == 0 then 0 else m)
+part_none m n none = grind (arith, nat_tests)
 
 -- no rows, by their number
 pub empty_by_test : {T : Type 0} (t : List (List T)) → IsTrue (nat_eq (row_count t) 0) ↔ (t ≡ [])

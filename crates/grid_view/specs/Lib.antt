@@ -5,4 +5,5 @@ pub mod Cells
 pub mod Same
 pub mod Stepped
 pub mod Texts
+pub mod Found
 pub mod Prelude

@@ -8,8 +8,12 @@ use Rattle.grid_view.specs.Value.{ViewValue}
 
 module _ {T : Type 0} where
   -- the tables have as many rows, each as many cells, and each cell is the other's
+  abbrev pub same_rows : (T → T → Bool) → List (List T) → List (List T) → Bool
+  same_rows same t u = pointwise (pointwise same) t u
+
+  -- the same of views
   abbrev pub same_view : (T → T → Bool) → ViewValue T → ViewValue T → Bool
-  same_view same a b = pointwise (pointwise same) a.rows b.rows
+  same_view same a b = same_rows same a.rows b.rows
 
   pub same_view_per : {same : T → T → Bool} → IsPartialEquivalence same
       → IsPartialEquivalence (same_view same)

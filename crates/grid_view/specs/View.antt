@@ -1,5 +1,5 @@
 -- A part of a stored table, seen through a symmetry: two axes over the cells.
-use Rattle.std.specs.Prelude.{ℕ, ◌+◌, ◌-◌, ◌*◌, ◌^◌, ◌<◌, Bool, true, false, Option, List, slice_get}
+use Rattle.std.specs.Prelude.{◌≡◌, ℕ, ◌+◌, ◌-◌, ◌*◌, ◌^◌, ◌<◌, Bool, true, false, Option, List, slice_get}
 use Rattle.grid_base.specs.Table.{IsSize, cell, tabulate}
 use Rattle.grid_view.specs.declared.axis.ViewAxis.{ViewAxis}
 
@@ -11,6 +11,11 @@ counted false n k = k
 -- how far line k of an axis is from the first cell
 abbrev pub offset : ViewAxis → ℕ → ℕ
 offset a k = counted a.backwards a.count k * a.stride
+
+-- line k of an axis is k steps from the first, modulo 2 ^ 64
+pub record IsStepped (a : ViewAxis) (first step : ℕ) : Type 0 where
+  pub turns : ℕ
+  pub at : (k : ℕ) → k < a.count → first + k * step ≡ offset a k + k * turns * 2 ^ 64
 
 -- one of two flags, and not both
 abbrev pub other : Bool → Bool → Bool

@@ -1,6 +1,7 @@
 //! One direction of a view: how many lines there are, how far apart they are, and whether they come from the last.
-ghost use Rattle.std.specs.Prelude.{◌≡◌, ℕ, ◌+◌, ◌*◌, ◌<◌, ◌≤◌, IsTrue};
+ghost use Rattle.std.specs.Prelude.{◌≡◌, ℕ, ◌+◌, ◌-◌, ◌*◌, ◌^◌, ◌<◌, ◌≤◌, IsTrue};
 ghost use Rattle.grid_view.specs.Prelude.{counted, offset, turned, cut, first_of, crossed};
+ghost use Rattle.grid_view.specs.View.{IsStepped};
 
 // The lines of a view in one direction.
 #[derive(Clone, Copy)]
@@ -38,9 +39,24 @@ impl ViewAxis {
 
     // Returns whether each line is `distance` places after the one before. One line alone is.
     pub(crate) fn steps_by(self, distance: usize) -> bool
-        ensures { IsTrue result → (k : ℕ) → k < self.count → offset self k ≡ k * distance }
+        ensures steps { IsTrue result → (k : ℕ) → k < self.count → offset self k ≡ k * distance }
+        ensures alone { self.count ≤ 1 → IsTrue result }
     {
         self.count <= 1 || (self.stride == distance && !self.backwards)
+    }
+
+    // Returns the place of the first line, and how far it is to the next: a step back is one modulo 2^64.
+    pub(crate) fn steps(self) -> (usize, usize)
+        requires some { 0 < self.count }
+        requires fits { (self.count - 1) * self.stride < 2 ^ 64 }
+        ensures steps { IsStepped self result.0 result.1 }
+        ensures within { result.0 ≤ (self.count - 1) * self.stride }
+    {
+        if self.backwards {
+            ((self.count - 1) * self.stride, self.stride.wrapping_neg())
+        } else {
+            (0, self.stride)
+        }
     }
 
     // Returns the axis whose lines come in the reversed order, or in the same.

@@ -1,5 +1,5 @@
 //! Clones of the cells of a view.
-ghost use Rattle.std.specs.Prelude.{◌≡◌, ◌+◌, ◌*◌, ◌<◌, ◌≤◌, ◌++◌, length, IfOk, IfSome, OnOk, vec_len, vec_capacity};
+ghost use Rattle.std.specs.Prelude.{◌≡◌, ◌+◌, ◌*◌, ◌<◌, ◌≤◌, ◌++◌, length, IfOk, IfSome, IsSome, OnOk, vec_len, vec_capacity};
 ghost use Rattle.grid_view.specs.Prelude.{ClonesAreEqual, row, row_count, col_count, concat_rows, storage};
 
 use crate::cells::ViewIter;
@@ -124,15 +124,23 @@ impl<'a, T> GridView<'a, T> {
 
     /// Returns the cells of row `r` as a slice, or `None` where they aren't side by side in the storage, the first first.
     ///
-    ///     row-major [[1, 2], [3, 4]]   row_slice(1)   Some([3, 4])
+    ///     [[1, 2], [3, 4]], of a row-major grid      row_slice(1)   Some([3, 4])
+    ///     [[1, 2], [3, 4]], of a column-major grid   row_slice(1)   None
+    ///     [[1], [2]], of any grid, turned or not     row_slice(1)   Some([2])
+    ///
+    /// It is `Some` for a view of a row-major grid and for its parts, also upside down, and for what is as these by another
+    /// way, as the transposed view of a column-major grid; and wherever there is one column. Elsewhere it is `None`, so it is
+    /// one answer for all rows of a view. Of this the contract says the case of one column: a contract sees the rows of a
+    /// view, and not where they lie.
     ///
     /// Requires: there is such a row.
     /// Cost: constant; no cell is copied, and no memory is taken.
     pub fn row_slice(&self, r: usize) -> Option<&'a [T]>
         requires { r < row_count self.now.rows }
-        ensures { IfSome result (λ line. line.now ≡ row self.now.rows r) }
+        ensures cells { IfSome result (λ line. line.now ≡ row self.now.rows r) }
+        ensures narrow { col_count self.now.rows ≤ 1 → IsSome result }
     {
-        if self.cols.stride != 1 || self.cols.backwards {
+        if !self.cols.steps_by(1) {
             return None;
         }
         let start = row_start(self.rows, self.cols, self.cells.len(), r);

@@ -1,5 +1,5 @@
 //! Iterators over a row or a column of a view, and over its rows and columns.
-ghost use Rattle.std.specs.Prelude.{◌≡◌, ◌+◌, ◌-◌, ◌*◌, ◌<◌, ⊤, [], length, drop, slice_get, IfSome, Some, option_copied, List};
+ghost use Rattle.std.specs.Prelude.{◌≡◌, ◌+◌, ◌-◌, ◌*◌, ◌<◌, ◌≤◌, ⊤, [], length, drop, slice_get, IfSome, MatchOption, Some, option_copied, List};
 ghost use Rattle.grid_base.specs.Prelude.{row, row_count, col_count, transposed, GivesLine, GivesLines};
 ghost use Rattle.grid_base.specs.Remaining.{remaining, IsRemaining};
 ghost use Rattle.std.specs.Iterator.{YieldsFirstRef, YieldsLastRef, YieldsFirst, YieldsLast, item_count, UpTo, at_most};
@@ -39,6 +39,7 @@ impl<'a, T> GridView<'a, T> {
     pub fn iter_row(&self, r: usize) -> ViewLineIter<'a, T>
         requires { r < row_count self.now.rows }
         ensures gives { GivesLine (row self.now.rows r) result }
+        ensures len { length result ≡ col_count self.now.rows }
     {
         let start = row_start(self.rows, self.cols, self.cells.len(), r);
         line_of(self.cells, start, self.cols)
@@ -62,8 +63,43 @@ impl<'a, T> GridView<'a, T> {
     pub fn iter_col(&self, c: usize) -> ViewLineIter<'a, T>
         requires { c < col_count self.now.rows }
         ensures gives { GivesLine (row (transposed self.now.rows) c) result }
+        ensures len { length result ≡ row_count self.now.rows }
     {
         self.transposed().iter_row(c)
+    }
+
+    /// Same as [`iter_row`](GridView::iter_row), or `None` out of range.
+    ///
+    ///     [[1, 2], [3, 4]]   get_row(1)   Some of 3, 4
+    ///     [[1, 2], [3, 4]]   get_row(2)   None
+    pub fn get_row(&self, r: usize) -> Option<ViewLineIter<'a, T>>
+        ensures in_range { MatchOption result (row_count self.now.rows ≤ r)
+            (λ _. r < row_count self.now.rows) }
+        ensures gives { IfSome result (GivesLine (row self.now.rows r)) }
+        ensures len { IfSome result (λ line. length line ≡ col_count self.now.rows) }
+    {
+        if r < self.rows() {
+            Some(self.iter_row(r))
+        } else {
+            None
+        }
+    }
+
+    /// Same as [`iter_col`](GridView::iter_col), or `None` out of range.
+    ///
+    ///     [[1, 2], [3, 4]]   get_col(1)   Some of 2, 4
+    ///     [[1, 2], [3, 4]]   get_col(2)   None
+    pub fn get_col(&self, c: usize) -> Option<ViewLineIter<'a, T>>
+        ensures in_range { MatchOption result (col_count self.now.rows ≤ c)
+            (λ _. c < col_count self.now.rows) }
+        ensures gives { IfSome result (GivesLine (row (transposed self.now.rows) c)) }
+        ensures len { IfSome result (λ line. length line ≡ row_count self.now.rows) }
+    {
+        if c < self.cols() {
+            Some(self.iter_col(c))
+        } else {
+            None
+        }
     }
 
     /// Returns an iterator over the rows, from both ends, each as [`iter_row`](GridView::iter_row) gives it.

@@ -1,7 +1,8 @@
 //! Equality of views.
 ghost use Rattle.std.specs.Prelude.{◌≡◌, ◌+◌, ◌<◌, ◌≤◌, ◌↔◌, IsTrue};
-ghost use Rattle.grid_view.specs.Prelude.{row_count, col_count, AreSame, same_view, same_view_per, same_view_equiv};
+ghost use Rattle.grid_view.specs.Prelude.{row_count, col_count, AreSame, same_rows, same_view, same_view_per, same_view_equiv};
 
+use crate::as_view::AsView;
 use crate::view::GridView;
 
 // A part of at most this many rows and columns is compared cell by cell. Where one view runs along the storage and the
@@ -118,4 +119,16 @@ impl<'a, T: PartialEq> PartialEq for GridView<'a, T> {
 
 impl<'a, T: Eq> Eq for GridView<'a, T> {
     ghost laws = { same_view_equiv T.Eq.laws };
+}
+
+/// Returns whether two boards have the same rows, whatever they are: a grid, a part, a turned or a deferred one. `==` does
+/// so of two of one type.
+///
+///     same_cells(&[[1, 2], [3, 4]], &[[1, 3], [2, 4]] transposed)   true
+///
+/// Cost: the sizes are compared first; then each cell is read once at most from either board. No memory.
+pub fn same_cells<T: PartialEq, P: AsView<T>, Q: AsView<T>>(board: &P, other: &Q) -> bool
+    ensures { result ≡ same_rows T.eq (P.rows board.now) (Q.rows other.now) }
+{
+    board.as_view() == other.as_view()
 }

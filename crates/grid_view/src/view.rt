@@ -1,6 +1,6 @@
 //! A part of a table that a slice stores, seen through a symmetry.
-ghost use Rattle.std.specs.Prelude.{◌≡◌, ◌+◌, ◌-◌, ◌*◌, ◌<◌, ◌≤◌, IsTrue, ⊤, ◌↔◌, ◌⊎◌, IfSome, Some, [], length, option_copied};
-ghost use Rattle.grid_base.specs.Prelude.{row_count, col_count, cell, concat_rows, transposed, InRange, table_of, HoldsSize, act};
+ghost use Rattle.std.specs.Prelude.{◌≡◌, ◌≢◌, ◌+◌, ◌-◌, ◌*◌, ◌<◌, ◌≤◌, IsTrue, ⊤, ◌↔◌, ◌⊎◌, ◌==◌, if◌then◌else◌, IfSome, MatchOption, Some, [], length, option_copied};
+ghost use Rattle.grid_base.specs.Prelude.{row_count, col_count, cell, concat_rows, transposed, InRange, table_of, HoldsSize, HasImageSize, CanCut, act, storage};
 ghost use Rattle.grid_view.specs.View.{offset, sub_table, HoldsView};
 
 use crate::axis::{ViewAxis, crossed};
@@ -79,6 +79,30 @@ impl<'a, T> GridView<'a, T> {
                 backwards: false,
             },
         }
+    }
+
+    /// Returns the view of a slice's cells, cut into rows of `cols`, where the slice is the storage in an order; or `None` where
+    /// they can't be cut so. An empty slice gives an empty view.
+    ///
+    ///     from_slice([1, 2, 3, 4, 5, 6], RowMajor, 3)      Some([[1, 2, 3], [4, 5, 6]])
+    ///     from_slice([1, 2, 3, 4, 5, 6], ColumnMajor, 3)   Some([[1, 3, 5], [2, 4, 6]])
+    ///     from_slice([1, 2, 3, 4, 5, 6], RowMajor, 4)      None
+    ///
+    /// Cost: constant; no cell is copied, and no memory is taken.
+    pub fn from_slice(cells: &'a [T], order: Order, cols: usize) -> Option<GridView<'a, T>>
+        ensures fits { MatchOption result
+            (CanCut (length cells.now) cols → ⊥) (λ _. CanCut (length cells.now) cols) }
+        ensures storage { IfSome result (λ view. storage order view.rows ≡ cells.now) }
+        ensures cols { IfSome result
+            (λ view. length cells.now ≢ 0 → col_count view.rows ≡ cols) }
+    {
+        if cells.is_empty() {
+            return Some(GridView::over(cells, order, 0, 0));
+        }
+        if cols == 0 || cells.len() % cols != 0 {
+            return None;
+        }
+        Some(GridView::over(cells, order, cells.len() / cols, cols))
     }
 
     /// Returns the number of rows and the number of columns.
@@ -187,6 +211,8 @@ impl<'a, T> GridView<'a, T> {
         requires cols_in { at.1 + size.1 ≤ col_count self.now.rows }
         ensures rows { 0 < size.0 → 0 < size.1 → result.rows ≡ sub_table self.now.rows at size }
         ensures none { (size.0 ≡ 0) ⊎ (size.1 ≡ 0) → result.rows ≡ [] }
+        ensures row_count { row_count result.rows ≡ (if size.1 == 0 then 0 else size.0) }
+        ensures col_count { col_count result.rows ≡ (if size.0 == 0 then 0 else size.1) }
     {
         if size.0 == 0 || size.1 == 0 {
             GridView {
@@ -206,13 +232,41 @@ impl<'a, T> GridView<'a, T> {
         }
     }
 
+    /// Same as [`part`](GridView::part), or `None` where the part isn't within the view.
+    ///
+    ///     [[1, 2, 3], [4, 5, 6]]   get_part((0, 1), (2, 2))   Some([[2, 3], [5, 6]])
+    ///     [[1, 2, 3], [4, 5, 6]]   get_part((0, 2), (2, 2))   None
+    pub fn get_part(&self, at: (usize, usize), size: (usize, usize)) -> Option<GridView<'a, T>>
+        ensures in_range { MatchOption result
+            (at.0 + size.0 ≤ row_count self.now.rows → at.1 + size.1 ≤ col_count self.now.rows → ⊥)
+            (λ _. (at.0 + size.0 ≤ row_count self.now.rows)
+            × (at.1 + size.1 ≤ col_count self.now.rows)) }
+        ensures rows { IfSome result (λ view. 0 < size.0 → 0 < size.1
+            → view.rows ≡ sub_table self.now.rows at size) }
+        ensures none { IfSome result (λ view. (size.0 ≡ 0) ⊎ (size.1 ≡ 0) → view.rows ≡ []) }
+        ensures row_count { IfSome result
+            (λ view. row_count view.rows ≡ (if size.1 == 0 then 0 else size.0)) }
+        ensures col_count { IfSome result
+            (λ view. col_count view.rows ≡ (if size.0 == 0 then 0 else size.1)) }
+    {
+        let (rows, cols) = self.size();
+        let fits_rows = at.0 <= rows && size.0 <= rows - at.0;
+        let fits_cols = at.1 <= cols && size.1 <= cols - at.1;
+        if fits_rows && fits_cols {
+            Some(self.part(at, size))
+        } else {
+            None
+        }
+    }
+
     /// Returns the view through a symmetry.
     ///
     ///     [[1, 2], [3, 4]]   turned(RotateLeft)   [[2, 4], [1, 3]]
     ///
     /// Cost: constant; no cell moves.
     pub fn turned(&self, symmetry: Symmetry) -> GridView<'a, T>
-        ensures { result.rows ≡ act symmetry self.now.rows }
+        ensures rows { result.rows ≡ act symmetry self.now.rows }
+        ensures size { HasImageSize symmetry self.now.rows result.rows }
     {
         let (transposes, flips_rows, flips_cols) = symmetry.flags();
         let (rows, cols) = crossed(transposes, self.rows, self.cols);
@@ -231,6 +285,7 @@ impl<'a, T> GridView<'a, T> {
     pub fn transposed(&self) -> GridView<'a, T>
         ensures rows { result.rows ≡ transposed self.now.rows }
         ensures act { result.rows ≡ act Symmetry.Transpose self.now.rows }
+        ensures size { HasImageSize Symmetry.Transpose self.now.rows result.rows }
     {
         GridView {
             cells: self.cells,

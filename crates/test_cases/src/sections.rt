@@ -31,6 +31,8 @@ mod rays;
 mod rearranged;
 mod refused;
 mod scripts;
+mod seen;
+mod sums;
 mod tested;
 mod texts;
 mod values;
@@ -95,6 +97,7 @@ fn actual_on_board(alloc: Global, section: &str, case: Case<'_>) -> Result<Strin
         "whole" => on_board(alloc, case, whole::actual),
         "near" => on_board(alloc, case, near::actual),
         "views" => on_board(alloc, case, views::actual),
+        "seen" => on_board(alloc, case, seen::actual),
         "lines" => on_board(alloc, case, lines::actual),
         "moves" => on_board(alloc, case, moves::actual),
         "commands" => on_board(alloc, case, commands::actual),
@@ -105,6 +108,7 @@ fn actual_on_board(alloc: Global, section: &str, case: Case<'_>) -> Result<Strin
         "rays" => on_board(alloc, case, rays::actual),
         "changes" => on_board(alloc, case, changes::actual),
         "pairs" => on_board(alloc, case, pairs::actual),
+        "sums" => on_board(alloc, case, sums::actual),
         "tested" => on_board(alloc, case, tested::actual),
         _ => Err(CaseError::UnknownSection),
     }

@@ -161,6 +161,19 @@ pub fn copies(alloc: Global, commands: &[Command<u32>]) -> Result<Vec<Command<u3
     Ok(copied)
 }
 
+/// Returns copies of all commands, from one of them on; the first follows the last.
+pub fn all_from(
+    alloc: Global,
+    commands: &[Command<u32>],
+    first: usize,
+) -> Result<Vec<Command<u32>>, AllocError> {
+    let mut list = copies(alloc, &commands[first.min(commands.len())..])?;
+    for command in commands.iter().take(first) {
+        list.push(copy(alloc, command)?)?;
+    }
+    Ok(list)
+}
+
 fn copy_line(alloc: Global, line: &Vec<u32>) -> Result<Vec<u32>, AllocError> {
     Vec::from_slice(alloc, line.as_slice())
 }

@@ -8,9 +8,11 @@ use std::mem;
 use test_support::counted::Counted;
 use test_support::fixtures::Heap;
 
-pub const CALLS: [Call; 4] = [
+pub const CALLS: [Call; 6] = [
     Call("History::step", COMMANDS, None, None),
+    Call("History::step_to", 1, None, None),
     Call("History::undo", COMMANDS, None, None),
+    Call("History::undo_to", COMMANDS, None, None),
     Call("History::redo", COMMANDS, None, None),
     Call("grid_changes::change_commands", 3, None, None),
 ];
@@ -38,6 +40,21 @@ fn stepped<'a>(start: &'a Start, board: &mut Board<'a>) -> Result<Answer, AllocE
     })
 }
 
+// A step to another board, which leaves all as it was where it is refused.
+fn stepped_to<'a>(start: &'a Start, board: &mut Board<'a>) -> Result<Answer, AllocError> {
+    let other = board.clone()?;
+    let mut history = over(start, board);
+    start.ready();
+    let answer = came(history.step_to(other));
+    let kept = history.undo_count();
+    *board = history.into_grid();
+    Ok(if answer == Answer::Refused && kept != 0 {
+        Answer::Wrong
+    } else {
+        answer
+    })
+}
+
 // The history of the board after a step.
 fn after_step<'a>(start: &'a Start, board: &mut Board<'a>) -> Result<Past<'a>, AllocError> {
     let command = command(start, start.size)?;
@@ -46,13 +63,22 @@ fn after_step<'a>(start: &'a Start, board: &mut Board<'a>) -> Result<Past<'a>, A
     Ok(history)
 }
 
+// Takes the last step back by one of two calls.
+fn take_back(history: &mut Past<'_>, name: &str) -> Answer {
+    if name == "History::undo" {
+        came(history.undo())
+    } else {
+        came(history.undo_to(0))
+    }
+}
+
 // A step is taken back, and the board is the one before. Where that is refused the step is still there, and is taken back
 // once there is memory.
-fn undone<'a>(start: &'a Start, board: &mut Board<'a>) -> Result<Answer, AllocError> {
+fn undone<'a>(start: &'a Start, board: &mut Board<'a>, name: &str) -> Result<Answer, AllocError> {
     let mut history = after_step(start, board)?;
     let steps = history.undo_count();
     start.ready();
-    let answer = came(history.undo());
+    let answer = take_back(&mut history, name);
     let left = history.undo_count();
     if answer == Answer::Refused {
         start.prepare();
@@ -91,7 +117,7 @@ fn changed(start: &Start) -> Result<Answer, AllocError> {
         }
     }
     start.ready();
-    Ok(came(change_commands(&start.heap, &board.view(), &other.view())))
+    Ok(came(change_commands(&start.heap, &board, &other)))
 }
 
 // A number that no cell of a board of numbers has.
@@ -102,7 +128,8 @@ fn one_hundred() -> u32 {
 pub fn call<'a>(start: &'a Start, board: &mut Board<'a>, name: &str) -> Result<Answer, AllocError> {
     match name {
         "History::step" => stepped(start, board),
-        "History::undo" => undone(start, board),
+        "History::step_to" => stepped_to(start, board),
+        "History::undo" | "History::undo_to" => undone(start, board, name),
         "History::redo" => redone(start, board),
         _ => changed(start),
     }

@@ -1,8 +1,7 @@
-//! Larger inputs: texts, sheets and rows of JSON with a fault at each line and word, a path of 77 steps, searches that
-//! outgrow the room they begin with, and the words of a failed allocation.
-use crate::state::{Answer, Start, came, made, number_of};
-use crate::texts::{DIGIT, letters_read, numbers_read};
-use crate::{copies, csv, json, makers};
+//! Larger inputs: a path of 77 steps, searches that outgrow the room they begin with, and the words of a failed allocation.
+use crate::state::{Answer, Start, came, made};
+use crate::texts::DIGIT;
+use crate::{copies, makers};
 use grid::{Grid, GridError, GridLineIter, Order, ShapeError};
 use grid_csv::CsvError;
 use grid_json::{ReadError, RowsError};
@@ -13,7 +12,6 @@ use grid_paths::{
 use grid_play::ScriptFault;
 use grid_pnm::PnmError;
 use grid_text::TextError;
-use serde_json::Value;
 use std::alloc::{AllocError, Global};
 use std::cell::Cell;
 use std::cmp::Ordering;
@@ -23,217 +21,11 @@ use std::io;
 use test_support::fixtures::{Heap, ORDERS};
 use test_support::fuse::Fuse;
 
-// How many lines a text has, and how many words each of them.
-const LINES: usize = 4;
-
-const WORDS: usize = 4;
-
-// What is wrong in one line of a text: a word isn't a number, the last word is missing, there is one more, or there is none.
-#[derive(Clone, Copy, PartialEq, Eq)]
-enum Flaw {
-    Bad(usize),
-    Short,
-    Long,
-    Blank,
-}
-
-// How many words a line with a flaw has.
-fn len_of(flaw: Flaw) -> usize {
-    match flaw {
-        Flaw::Bad(_) => WORDS,
-        Flaw::Short => WORDS - 1,
-        Flaw::Long => WORDS + 1,
-        Flaw::Blank => 0,
-    }
-}
-
-// Adds a line of words that are numbers, but for the flaw.
-fn add_line(text: &mut String, between: &str, flaw: Option<Flaw>) -> Result<(), AllocError> {
-    for word in 0..flaw.map_or(WORDS, len_of) {
-        if word > 0 {
-            text.push_str(between)?;
-        }
-        text.push_str(if flaw == Some(Flaw::Bad(word)) {
-            "x"
-        } else {
-            "7"
-        })?;
-    }
-    text.push('\n')
-}
-
-// The text whose line of this number, counted from 0, has a flaw.
-fn flawed(alloc: Global, between: &str, line: usize, flaw: Flaw) -> Result<String, AllocError> {
-    let mut text = String::new(alloc);
-    for number in 0..LINES {
-        add_line(
-            &mut text,
-            between,
-            if number == line { Some(flaw) } else { None },
-        )?;
-    }
-    Ok(text)
-}
-
-// The fault of words with a flaw.
-fn word_fault(line: usize, flaw: Flaw) -> TextError {
-    let line = line.saturating_add(1);
-    match flaw {
-        Flaw::Bad(word) => TextError::BadWord {
-            line,
-            word: word.saturating_add(1),
-        },
-        flaw => TextError::Ragged {
-            line,
-            len: len_of(flaw),
-            cols: WORDS,
-        },
-    }
-}
-
-// The fault of characters with a flaw.
-fn char_fault(line: usize, flaw: Flaw) -> TextError {
-    match flaw {
-        Flaw::Bad(column) => TextError::BadChar {
-            line: line.saturating_add(1),
-            column: column.saturating_add(1),
-            found: 'x',
-        },
-        flaw => word_fault(line, flaw),
-    }
-}
-
-// Whether a call that read something with a flaw refused it by this fault.
-fn is_told<T: Drop, E: PartialEq + Drop>(read: Result<T, E>, wanted: E) -> bool {
-    match read {
-        Ok(_) => false,
-        Err(fault) => fault == wanted,
-    }
-}
-
-// Whether the calls that read words tell of this flaw.
-fn is_told_of_words(start: &Start, line: usize, flaw: Flaw) -> Result<bool, AllocError> {
-    let words = flawed(start.alloc, " ", line, flaw)?;
-    let read = numbers_read(start, "grid_text::from_words", words.as_str());
-    let tried = numbers_read(start, "grid_text::try_from_words", words.as_str());
-    Ok(is_told(read, word_fault(line, flaw)) && is_told(tried, word_fault(line, flaw)))
-}
-
-// The same of characters, which are read once up to the flaw.
-fn is_told_of_letters(start: &Start, line: usize, flaw: Flaw) -> Result<bool, AllocError> {
-    let letters = flawed(start.alloc, "", line, flaw)?;
-    let read = letters_read(start, letters.as_str());
-    let most = match flaw {
-        Flaw::Bad(word) => line.wrapping_mul(WORDS).wrapping_add(word).wrapping_add(1),
-        _ => usize::MAX,
-    };
-    Ok(is_told(read, char_fault(line, flaw)) && start.calls.get() <= most as u64)
-}
-
-// The same of a sheet, whose first line has no flaw where it is a header. Its cells are counted, since its memory isn't.
-fn is_told_of_sheet(start: &Start, line: usize, flaw: Flaw) -> Result<bool, AllocError> {
-    let sheet = flawed(start.alloc, ",", line, flaw)?;
-    let bytes = sheet.as_str().as_bytes();
-    let read = csv::cells_of(start, "grid_csv::from_csv", bytes);
-    let below = csv::cells_of(start, "grid_csv::from_csv_with_header", bytes);
-    if below.is_ok() != (line == 0) {
-        return Ok(false);
-    }
-    let record = line.saturating_add(1);
-    let wanted = match flaw {
-        Flaw::Bad(word) => CsvError::BadField {
-            record,
-            field: word.saturating_add(1),
-        },
-        flaw => CsvError::Ragged {
-            record,
-            len: len_of(flaw),
-            cols: WORDS,
-        },
-    };
-    Ok(is_told(read, wanted))
-}
-
-// The words as rows of JSON, where one that isn't a number is null.
-fn flawed_rows(alloc: Global, row: usize, flaw: Flaw) -> Result<Value, AllocError> {
-    let text = flawed(alloc, ",", row, flaw)?;
-    let mut rows = Vec::new(alloc);
-    for line in text.as_str().lines() {
-        let mut cells = Vec::new(alloc);
-        for word in line.split(",") {
-            cells.push(match number_of(word) {
-                Some(number) => Value::from(number),
-                None => Value::Null,
-            })?;
-        }
-        rows.push(Value::Array(cells))?;
-    }
-    Ok(Value::Array(rows))
-}
-
-// The same of rows of JSON.
-fn is_told_of_rows(start: &Start, row: usize, flaw: Flaw) -> Result<bool, AllocError> {
-    let rows = flawed_rows(start.alloc, row, flaw)?;
-    let read = json::cells_of(start, &rows);
-    let wanted = match flaw {
-        Flaw::Bad(col) => RowsError::BadCell { row, col },
-        flaw => RowsError::Ragged {
-            row,
-            len: len_of(flaw),
-            cols: WORDS,
-        },
-    };
-    Ok(is_told(read, wanted))
-}
-
-// What is read where a flaw is.
-const READ: [&str; 4] = ["words", "letters", "a sheet", "rows of JSON"];
-
-fn is_told_of(start: &Start, read: &str, line: usize, flaw: Flaw) -> Result<bool, AllocError> {
-    match read {
-        // (a blank line of a sheet has one field)
-        "a sheet" | "rows of JSON" if flaw == Flaw::Blank => Ok(true),
-        "words" => is_told_of_words(start, line, flaw),
-        "letters" => is_told_of_letters(start, line, flaw),
-        "a sheet" => is_told_of_sheet(start, line, flaw),
-        _ => is_told_of_rows(start, line, flaw),
-    }
-}
-
 // What a call starts from that has memory for all, beside a board of this size.
 fn ready(alloc: Global, size: (usize, usize)) -> Start {
     let start = Start::new(alloc, size, Order::RowMajor, DIGIT, u64::MAX);
     start.ready();
     start
-}
-
-// Reads what has this flaw. Its fault is told, and nothing is held then.
-fn try_flaw<R: Print + AllocGlobal>(rt: &R, line: usize, flaw: Flaw) -> io::Result<u64> {
-    let mut told = 0u64;
-    for read in READ {
-        let start = ready(rt.alloc(), (0, 0));
-        if is_told_of(&start, read, line, flaw)? && start.heap.held() == 0 {
-            told = told.saturating_add(1);
-        } else {
-            println!(rt; "FAILED a flaw in line {line} of {read}")?;
-        }
-    }
-    Ok(told)
-}
-
-fn try_flaws<R: Print + AllocGlobal>(rt: &R) -> io::Result<()> {
-    let mut told = 0u64;
-    for line in 0..LINES {
-        for word in 0..WORDS {
-            told = told.saturating_add(try_flaw(rt, line, Flaw::Bad(word))?);
-        }
-        if line > 0 {
-            told = told.saturating_add(try_flaw(rt, line, Flaw::Short)?);
-            told = told.saturating_add(try_flaw(rt, line, Flaw::Long)?);
-            told = told.saturating_add(try_flaw(rt, line, Flaw::Blank)?);
-        }
-    }
-    println!(rt; "flaws of what is read: {told} are told")
 }
 
 // The side of the board of the long path, and where the path ends.
@@ -432,7 +224,6 @@ fn try_lines<R: Print + AllocGlobal>(rt: &R) -> io::Result<()> {
 }
 
 pub fn try_all<R: Print + AllocGlobal>(rt: &R) -> io::Result<()> {
-    try_flaws(rt)?;
     try_lines(rt)?;
     try_searches(rt)?;
     if are_out_of_memory(rt.alloc())? {

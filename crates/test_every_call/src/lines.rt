@@ -109,7 +109,7 @@ pub fn call<'a>(start: &'a Start, board: &mut Board<'a>, name: &str) -> Result<A
         "grid_lines::sort_rows_by_key" => sort_by_key(start, board, true),
         "grid_lines::sort_cols_by_key" => sort_by_key(start, board, false),
         "grid_lines::into_rows" => moved(board),
-        "grid_lines::to_rows" => came(to_rows(board)),
+        "grid_lines::to_rows" => came(to_rows(&start.heap, board)),
         _ => Answer::Wrong,
     })
 }

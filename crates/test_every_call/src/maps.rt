@@ -1,17 +1,19 @@
 //! Maps of a whole board, with what is round each cell or of two boards, the positions of cells, what is seen from one, and
 //! a value for each line.
 use crate::state::{Answer, Board, Call, Start, both_came, came};
-use grid::{Neighbors, Order, WrappedNeighbors};
+use grid::{Grid, GridView, Neighbors, Order, WrappedNeighbors};
 use grid_pairs::{fold_cols, fold_rows, zip_with};
 use grid_rays::field_of_view;
+use grid_sums::Sums;
 use std::alloc::AllocError;
 use std::cell::Cell;
 use test_support::counted::Counted;
 
-pub const CALLS: [Call; 20] = [
+pub const CALLS: [Call; 24] = [
     Call("Grid::map_ref", 1, Some(1), Some(1)),
     Call("Grid::map_indexed", 1, Some(1), Some(1)),
     Call("Grid::try_map_indexed", 1, Some(1), Some(1)),
+    Call("Grid::map_view", 2, Some(1), Some(1)),
     Call("Grid::map_neighbors4", 1, Some(1), Some(1)),
     Call("Grid::map_neighbors8", 1, Some(1), Some(1)),
     Call("Grid::map_wrapped_neighbors4", 1, Some(1), Some(1)),
@@ -25,10 +27,14 @@ pub const CALLS: [Call; 20] = [
     Call("Grid::map_wrapped_sums4", 1, Some(4), Some(1)),
     Call("Grid::map_wrapped_sums8", 1, Some(4), Some(1)),
     Call("Grid::positions", 4, None, Some(1)),
+    Call("GridView::positions", 4, None, Some(1)),
     Call("grid_rays::field_of_view", 3, Some(1), None),
     Call("grid_pairs::zip_with", 2, Some(1), Some(1)),
     Call("grid_pairs::fold_rows", 1, Some(1), Some(1)),
     Call("grid_pairs::fold_cols", 1, Some(1), Some(1)),
+    // One request on the empty board too, for the one corner that it has.
+    Call("Sums::of", 1, None, None),
+    Call("Sums::of_by", 1, None, Some(1)),
 ];
 
 fn is_odd(cell: &Counted<'_>) -> bool {
@@ -86,9 +92,9 @@ fn counted<'a>(start: &'a Start, board: &Board<'a>, name: &str) -> Answer {
 }
 
 // The positions of all cells, of none, of those that are odd, or of the last, by the case.
-fn positions<'a>(start: &'a Start, board: &Board<'a>) -> Answer {
+fn positions<'a>(start: &'a Start, board: &Board<'a>, name: &str) -> Answer {
     let cells = start.size.0.wrapping_mul(start.size.1) as u64;
-    came(board.positions(&start.heap, |cell| {
+    let test = |cell: &Counted<'_>| {
         start.called();
         start.visited(Order::RowMajor, cell.value());
         match start.case {
@@ -97,6 +103,23 @@ fn positions<'a>(start: &'a Start, board: &Board<'a>) -> Answer {
             2 => is_odd(cell),
             _ => start.calls.get() == cells,
         }
+    };
+    match name {
+        "Grid::positions" => came(board.positions(&start.heap, test)),
+        _ => came(board.view().positions(&start.heap, test)),
+    }
+}
+
+// The board mapped into either order.
+fn map_view<'a>(start: &'a Start, board: &Board<'a>) -> Answer {
+    let order = if start.case == 0 {
+        Order::RowMajor
+    } else {
+        Order::ColumnMajor
+    };
+    came(Grid::map_view(&start.heap, order, board, |_, cell: &Counted<'_>| {
+        start.visited(order, cell.value());
+        start.cell(cell.value())
     }))
 }
 
@@ -136,6 +159,20 @@ fn folded<'a>(start: &'a Start, board: &Board<'a>, name: &str) -> Answer {
     }
 }
 
+// Cells that are copied.
+const SMALL: [i32; 6] = [1, -2, 3, -4, 5, -6];
+
+// The sums of numbers that the closure returns for the cells of the board, or of cells that are copied.
+fn summed<'a>(start: &'a Start, board: &Board<'a>, name: &str) -> Answer {
+    match name {
+        "Sums::of" => came(Sums::of(&start.heap, &GridView::over(&SMALL, start.order, 2, 3))),
+        _ => came(Sums::of_by(&start.heap, board, |cell| {
+            start.called();
+            i64::from(cell.value())
+        })),
+    }
+}
+
 fn round<'a>(start: &'a Start, board: &Board<'a>, name: &str) -> Answer {
     let open = |_: (usize, usize), cell: &Counted<'_>, _: Neighbors<'_, Counted<'_>>| {
         start.visit(cell.value())
@@ -163,10 +200,12 @@ pub fn call<'a>(start: &'a Start, board: &mut Board<'a>, name: &str) -> Result<A
                 start.try_cell(cell.value())
             }))
         }
-        "Grid::positions" => positions(start, board),
+        "Grid::map_view" => map_view(start, board),
+        "Grid::positions" | "GridView::positions" => positions(start, board, name),
         "grid_rays::field_of_view" => seen(start, board),
         "grid_pairs::zip_with" => joined(start, board),
         "grid_pairs::fold_rows" | "grid_pairs::fold_cols" => folded(start, board, name),
+        "Sums::of" | "Sums::of_by" => summed(start, board, name),
         name => round(start, board, name),
     })
 }

@@ -4,8 +4,9 @@ use grid_text::laws::{numbers_written_and_read, written_and_read};
 use grid_text::{TextError, from_text, from_words, to_text, to_words, try_from_words};
 use std::alloc::AllocError;
 
-pub const CALLS: [Call; 8] = [
+pub const CALLS: [Call; 9] = [
     Call("Grid::pretty", 4, None, None),
+    Call("GridView::pretty", 4, None, None),
     Call("grid_text::to_text", 4, None, None),
     Call("grid_text::to_words", 3, None, None),
     Call("grid_text::from_text", 3, None, Some(1)),
@@ -108,6 +109,8 @@ fn written<'a>(start: &'a Start, board: &Numbers<'a>, name: &str) -> Result<Answ
     Ok(match name {
         "Grid::pretty" if start.case == 0 => came(board.pretty(heap, None)),
         "Grid::pretty" => came(board.pretty(heap, Some(start.case.wrapping_sub(1)))),
+        "GridView::pretty" if start.case == 0 => came(board.view().pretty(heap, None)),
+        "GridView::pretty" => came(board.view().pretty(heap, Some(start.case.wrapping_sub(1)))),
         "grid_text::to_text" => came(to_text(alloc, board, put)),
         "grid_text::to_words" => came(to_words(alloc, board)),
         "grid_text::from_text" => {

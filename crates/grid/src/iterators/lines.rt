@@ -12,7 +12,7 @@ use std::alloc::Allocator;
 pub type GridColIter<'a, T> = GridRowIter<'a, T>;
 
 impl<T, A: Allocator> Grid<T, A> {
-    ghost use Rattle.grid.specs.Iterators.{lends_row, lends_col, KeepsSizeFrom};
+    ghost use Rattle.grid.specs.Iterators.{lends_row, lends_col, KeepsSizeFrom, HoldsRowsFrom};
 
     /// Returns an iterator over the cells of row `r`, from both ends.
     ///
@@ -89,6 +89,7 @@ impl<T, A: Allocator> Grid<T, A> {
         ensures* writes_back { sem 𝓛 (lends_row T.row A.row A.Allocator self.entry r result) }
         ensures keeps { KeepsSizeFrom self.old r 0 }
         ensures rest { line_mut_rest result ≡ row self.old.rows r }
+        ensures cells { HoldsRowsFrom self.old r 0 result }
     {
         let (order, rows, cols) = (self.order, self.row_count, self.col_count);
         self.flat.row_mut(Layout { order, rows, cols }, r)
@@ -105,6 +106,7 @@ impl<T, A: Allocator> Grid<T, A> {
         ensures* writes_back { sem 𝓛 (lends_col T.row A.row A.Allocator self.entry c result) }
         ensures keeps { KeepsSizeFrom self.old 0 c }
         ensures rest { line_mut_rest result ≡ row (transposed self.old.rows) c }
+        ensures cells { HoldsRowsFrom self.old 0 c result }
     {
         let (order, rows, cols) = (self.order.flipped(), self.col_count, self.row_count);
         self.flat.row_mut(Layout { order, rows, cols }, c)

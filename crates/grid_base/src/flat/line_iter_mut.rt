@@ -3,7 +3,6 @@ ghost use Rattle.std.specs.Prelude.{◌≡◌, ◌-◌, ◌<◌, ◌≤◌, leng
 ghost use Rattle.std.specs.Borrow.{sem};
 ghost use Rattle.std.specs.Iterator.{item_count, UpTo, at_most};
 ghost use Rattle.std.specs.Iterator.SizeHint.{IsWithinCount};
-ghost use Rattle.grid_base.specs.LineStep.{lends_step};
 ghost use Rattle.grid_base.specs.Strides.{strided};
 
 use super::Flat;
@@ -30,6 +29,7 @@ impl<T, A: Allocator> Flat<T, A> {
         ensures cells { line_mut_cells result ≡ take (end - start) (drop start self.old) }
     {
         GridLineIterMut {
+            passed: Default::default(),
             rest: self.cells.slice_mut(start..end),
             stride,
         }
@@ -39,6 +39,8 @@ impl<T, A: Allocator> Flat<T, A> {
 /// An iterator over a row or a column, for writing. Each step takes the same time.
 #[derive(Drop)]
 pub struct GridLineIterMut<'a, T> {
+    // The cells that the last step passed over, for reading: no later step writes them.
+    passed: &'a [T],
     rest: &'a mut [T],
     stride: usize,
     ghost steps: { 0 < stride },
@@ -58,7 +60,8 @@ impl<'a, T> Iterator for GridLineIterMut<'a, T> {
         if rest.is_empty() {
             return None;
         }
-        let (cell, others) = step_along(rest, self.stride);
+        let (cell, passed, others) = step_along(rest, self.stride);
+        self.passed = passed;
         self.rest = others;
         Some(cell)
     }
@@ -74,15 +77,17 @@ impl<'a, T> Iterator for GridLineIterMut<'a, T> {
     }
 }
 
-// The first cell, and the cells that are left after a stride. Those between them stay as they are.
-fn step_along<T>(cells: &mut [T], stride: usize) -> (&mut T, &mut [T])
+// The first cell, for writing; those that a stride passes over, for reading, so that nothing writes them any more; and the
+// cells that are left after it.
+fn step_along<T>(cells: &mut [T], stride: usize) -> (&mut T, &[T], &mut [T])
     requires some { 0 < length cells.old }
     requires steps { 0 < stride }
-    ensures* writes_back { sem 𝓛 (lends_step T.row cells.entry stride result) }
     ensures first { slice_get cells.old 0 ≡ Some result.0.now }
-    ensures rest { result.1.now ≡ drop stride cells.old }
+    ensures passed { result.1.now ≡ drop 1 (take stride cells.old) }
+    ensures rest { result.2.now ≡ drop stride cells.old }
 {
     let step = stride.min(cells.len());
-    let (passed, rest) = cells.split_at_mut(step);
-    (&mut passed[0], rest)
+    let (front, rest) = cells.split_at_mut(step);
+    let (first, passed) = front.split_at_mut(1);
+    (&mut first[0], passed, rest)
 }

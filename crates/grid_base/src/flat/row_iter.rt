@@ -11,7 +11,7 @@ use std::marker::Model;
 use std::ops::Range;
 
 impl<T, A: Allocator> Flat<T, A> {
-    ghost use Rattle.grid_base.specs.FlatLends.{lends_line};
+    ghost use Rattle.grid_base.specs.FlatLends.{lends_line, HoldsFrom};
 
     /// Returns an iterator over the cells of row `r` of the table that the vector stores.
     ///
@@ -41,6 +41,7 @@ impl<T, A: Allocator> Flat<T, A> {
         ensures* writes_back { sem 𝓛 (lends_line T.row A.row A.Allocator self.entry
             (place layout.order layout.rows layout.cols r 0) result) }
         ensures rest { line_mut_rest result ≡ row (table_of layout.order layout.rows layout.cols self.old) r }
+        ensures cells { HoldsFrom (place layout.order layout.rows layout.cols r 0) self.old result }
     {
         let span = row_span(layout, r);
         self.line_mut(span.start, span.end, span.stride)

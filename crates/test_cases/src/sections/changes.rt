@@ -33,6 +33,12 @@ fn command_of(alloc: Global, name: &str, ask: Ask<'_>) -> Result<Command<i64>, C
     })
 }
 
+// Keeps the last steps of a history.
+fn kept(alloc: Global, history: &mut History<i64>, count: usize) -> Result<String, CaseError> {
+    history.keep(count);
+    text(alloc, "kept")
+}
+
 // What one step of a history returned: a reply, or whether there was a step to undo or to redo.
 fn step(
     alloc: Global,
@@ -46,6 +52,19 @@ fn step(
         "forget" => {
             history.forget();
             text(alloc, "forgotten")
+        }
+        "undo_to_0" => shown_ok(alloc, history.undo_to(0)),
+        "undo_to_1" => shown_ok(alloc, history.undo_to(1)),
+        "undo_to_2" => shown_ok(alloc, history.undo_to(2)),
+        "undo_to_3" => shown_ok(alloc, history.undo_to(3)),
+        "undo_to_5" => shown_ok(alloc, history.undo_to(5)),
+        "keep_0" => kept(alloc, history, 0),
+        "keep_1" => kept(alloc, history, 1),
+        "keep_2" => kept(alloc, history, 2),
+        "keep_5" => kept(alloc, history, 5),
+        "step_to" => {
+            let cells = vec![in alloc; 8]?;
+            shown_ok(alloc, history.step_to(Grid::from_vec(cells, 1)))
         }
         _ => shown_ok(alloc, history.step(command_of(alloc, name, ask)?)),
     }
@@ -80,13 +99,12 @@ fn differences(
     new: &Grid<i64>,
     ask: Ask<'_>,
 ) -> Result<String, CaseError> {
-    let (old, new) = (old.view(), new.view());
     match ask.call {
         "changes" => shown_ok(
             alloc,
-            changes(&old, &new).collect::<Vec<((usize, usize), &i64)>>(alloc),
+            changes(old, new).collect::<Vec<((usize, usize), &i64)>>(alloc),
         ),
-        "change_commands" => shown_ok(alloc, change_commands(alloc, &old, &new)),
+        "change_commands" => shown_ok(alloc, change_commands(alloc, old, new)),
         _ => Err(CaseError::UnknownCall),
     }
 }

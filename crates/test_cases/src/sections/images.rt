@@ -20,6 +20,7 @@ fn compared(
         "compare" => shown(alloc, compare(&board, &other)),
         "symmetry_between" => shown(alloc, symmetry_between(&board, &other)),
         "least_images_agree" => shown(alloc, least_images_agree(&board, &other)),
+        "same_symmetries" => shown(alloc, symmetries(&board) == symmetries(&other)),
         _ => Err(CaseError::UnknownCall),
     }
 }
@@ -27,12 +28,13 @@ fn compared(
 /// Returns what a call on a board up to symmetry returned.
 pub fn actual(alloc: Global, board: &mut Grid<i64>, ask: Ask<'_>) -> Result<String, CaseError> {
     match ask.call {
-        "least_image" => shown(alloc, least_image(&board.view())),
+        "least_image" => shown(alloc, least_image(board)),
         "canonicalize" => shown(alloc, canonicalize(board)),
-        "symmetries" => shown(alloc, symmetries(&board.view()).as_slice()),
-        "images" => shown(alloc, images(&board.view()).as_slice()),
-        "count" => shown(alloc, symmetries(&board.view()).len()),
-        "contains" => shown(alloc, symmetries(&board.view()).contains(ask.symmetry(0))),
+        "symmetries" => shown(alloc, symmetries(board)),
+        "images" => shown(alloc, images(board).as_slice()),
+        "count" => shown(alloc, symmetries(board).len()),
+        "is_empty" => shown(alloc, symmetries(board).is_empty()),
+        "contains" => shown(alloc, symmetries(board).contains(ask.symmetry(0))),
         _ => match Grid::try_from(ask.lines(alloc)?) {
             Ok(other) => compared(alloc, board, &other, ask),
             Err(error) => Err(shape_error(error, CaseError::BadArgument)),

@@ -4,7 +4,9 @@ use crate::case::CaseError;
 use crate::sections::views::stamp;
 use crate::shown::{shown, shown_made, shown_ok, text};
 use grid::{Grid, GridView};
-use grid_pairs::{PartIter, find, fold_cols, fold_rows, tiles, update_with, windows, zip_with};
+use grid_pairs::{
+    IntoView, PartIter, find, fold_cols, fold_rows, tiles, update_with, windows, zip_with,
+};
 use std::alloc::Global;
 
 // The two cells as the digits of a number.
@@ -28,6 +30,16 @@ fn parts(alloc: Global, mut parts: PartIter<'_, i64>, ask: Ask<'_>) -> Result<St
     }
 }
 
+// The tiles of a board without its edge, whose view isn't kept.
+fn inner_tiles(alloc: Global, board: &Grid<i64>) -> Result<String, CaseError> {
+    let (rows, cols) = board.size();
+    if rows < 2 || cols < 2 {
+        return text(alloc, "no inside");
+    }
+    let inner = tiles(board.part((1, 1), (rows - 2, cols - 2)), 2, 2);
+    shown_ok(alloc, inner.collect::<Vec<GridView<'_, i64>>>(alloc))
+}
+
 // What a call on a board alone returned.
 fn alone(alloc: Global, board: &Grid<i64>, ask: Ask<'_>) -> Result<String, CaseError> {
     let (rows, cols) = ask.position(0);
@@ -35,8 +47,10 @@ fn alone(alloc: Global, board: &Grid<i64>, ask: Ask<'_>) -> Result<String, CaseE
         "fold_rows" => shown_ok(alloc, fold_rows(alloc, board, 0i64, digits)),
         "fold_cols" => shown_ok(alloc, fold_cols(alloc, board, 0i64, digits)),
         "row_slice" if rows < board.rows() => shown(alloc, board.view().row_slice(rows)),
+        "into_view" => shown(alloc, board.into_view()),
+        "inner_tiles" => inner_tiles(alloc, board),
         "tiles" if 0 < rows && 0 < cols => parts(alloc, tiles(board, rows, cols), ask),
-        "windows" if 0 < rows && 0 < cols => parts(alloc, windows(board, rows, cols), ask),
+        "windows" if 0 < rows && 0 < cols => parts(alloc, windows(board.view(), rows, cols), ask),
         _ => Err(CaseError::UnknownCall),
     }
 }

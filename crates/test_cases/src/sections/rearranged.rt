@@ -109,7 +109,7 @@ fn taken(alloc: Global, board: &mut Grid<i64>) -> Result<String, CaseError> {
 pub fn actual(alloc: Global, board: &mut Grid<i64>, ask: Ask<'_>) -> Result<String, CaseError> {
     match ask.call {
         "retain_rows" => rows_kept(alloc, board, (ask.cell(0), ask.cell(1))),
-        "to_rows" => shown_ok(alloc, to_rows(board)),
+        "to_rows" => shown_ok(alloc, to_rows(alloc, board)),
         "into_rows" => taken(alloc, board),
         call if call.starts_with("sort_") => shown(alloc, sorted(board, call)?),
         _ => shown(alloc, changed(board, ask, ask.line(alloc)?.as_slice())?),

@@ -9,8 +9,8 @@ use grid::{AsView, Grid, GridView, ViewLineIter, ViewRowIter};
 use std::alloc::{AllocError, Global};
 use std::convert::TryFrom;
 
-// Whether a board has `size.0` rows and `size.1` columns from a position on.
-fn is_within(board: &Grid<i64>, at: (usize, usize), size: (usize, usize)) -> bool
+/// Returns whether a board has `size.0` rows and `size.1` columns from a position on.
+pub fn is_within(board: &Grid<i64>, at: (usize, usize), size: (usize, usize)) -> bool
     ensures { IsTrue result → at.0 + size.0 ≤ row_count board.now.rows
         × at.1 + size.1 ≤ col_count board.now.rows }
 {
@@ -156,8 +156,8 @@ fn paste_clipped(alloc: Global, board: &mut Grid<i64>, ask: Ask<'_>) -> Result<S
     )
 }
 
-// Ten times a cell, and 1 more above the diagonal.
-fn by_place((row, col): (usize, usize), cell: &i64) -> i64 {
+/// Returns ten times a cell, and 1 more above the diagonal.
+pub fn by_place((row, col): (usize, usize), cell: &i64) -> i64 {
     let above = if row < col { 1 } else { 0 };
     cell.wrapping_mul(10).wrapping_add(above)
 }

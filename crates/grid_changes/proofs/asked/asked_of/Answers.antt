@@ -4,35 +4,35 @@ use Rattle.grid_changes.proofs.AskedLemmas.{size_due, get_due, set_due, set_refu
 use Rattle.grid_changes.proofs.asked.asked_of.Goals.{else-contains-2-via-then-contains-2+else-contains-3, else-contains-2-via-else-contains-2}
 use Rattle.grid_changes.proofs.asked.asked_of.Goals as goal
 
-pub returns-in-Size : goal.returns-in-Size
-returns-in-Size g c = rw (← c.in-Size.ensures) (size_due _ _ _ _ _ c.size-rows.ensures.rows c.size-rows.ensures.cols)
+pub returns-in-Size-clause-asked : goal.returns-in-Size-clause-asked
+returns-in-Size-clause-asked g c = rw (← c.in-Size.ensures) (size_due _ _ _ _ _ c.size-rows.ensures.rows c.size-rows.ensures.cols)
 
-pub returns-in_ok-copy-in-Some : goal.returns-in_ok-copy-in-Some
-returns-in_ok-copy-in-Some g c =
+pub returns-in_ok-copy-in-Some-clause-asked : goal.returns-in_ok-copy-in-Some-clause-asked
+returns-in_ok-copy-in-Some-clause-asked g c =
     rw (← c.in-Get.ensures)
     (get_due _ _ _ c.in-Get.row c.in-Get.col _
     (λ same. ap Some (same _ _ c.in_ok-copy-in-Some.ensures.cases) ∙ c.in-Some.ensures.cell))
 
-pub returns-in-None : goal.returns-in-None
-returns-in-None g c = rw (← c.in-Get.ensures) (get_due _ _ _ c.in-Get.row c.in-Get.col _ (λ same. c.in-None.ensures.cell))
+pub returns-in-None-clause-asked : goal.returns-in-None-clause-asked
+returns-in-None-clause-asked g c = rw (← c.in-Get.ensures) (get_due _ _ _ c.in-Get.row c.in-Get.col _ (λ same. c.in-None.ensures.cell))
 
-pub returns-then-contains : goal.returns-then-contains
-returns-then-contains g c =
+pub returns-then-contains-clause-asked : goal.returns-then-contains-clause-asked
+returns-then-contains-clause-asked g c =
     let within = c.contains.ensures.0 c.if-contains.true in
     (within, rw (← c.in-Set.ensures) (set_due _ _ _ c.in-Set.row c.in-Set.col c.in-Set.value within))
 
-pub returns-else-contains : goal.returns-else-contains
-returns-else-contains g c =
+pub returns-else-contains-clause-asked : goal.returns-else-contains-clause-asked
+returns-else-contains-clause-asked g c =
     rw (← c.in-Set.ensures) (set_refused _ _ _ c.in-Set.row c.in-Set.col c.in-Set.value (λ within. cc (c.contains.ensures.1 within, c.if-contains.false)))
 
-pub returns-then-contains-3 : goal.returns-then-contains-3
-returns-then-contains-3 g c =
+pub returns-then-contains-3-clause-asked : goal.returns-then-contains-3-clause-asked
+returns-then-contains-3-clause-asked g c =
     let one = c.contains-in-Swap.ensures.0 c.if-contains-2.true in
     let other = c.contains-then-contains-2.ensures.0 c.if-contains-3.true in
     ((one, other), rw (← c.in-Swap.ensures) (swap_due _ _ _ c.in-Swap.a c.in-Swap.b one other))
 
-pub returns-else-contains-2 : goal.returns-else-contains-2
-returns-else-contains-2 g c =
+pub returns-else-contains-2-clause-asked : goal.returns-else-contains-2-clause-asked
+returns-else-contains-2-clause-asked g c =
     rw (← c.in-Swap.ensures)
     (swap_refused _ _ _ c.in-Swap.a c.in-Swap.b
     (elim c.else-contains-2.branch [
@@ -40,17 +40,17 @@ returns-else-contains-2 g c =
       | else-contains-2-via-else-contains-2 w ↦ inl (λ within. cc (c.contains-in-Swap.ensures.1 within, w.if-contains-2.false))
     ]))
 
-pub returns-in_ok-filled-in-Fill : goal.returns-in_ok-filled-in-Fill
-returns-in_ok-filled-in-Fill g c =
+pub returns-in_ok-filled-in-Fill-clause-asked : goal.returns-in_ok-filled-in-Fill-clause-asked
+returns-in_ok-filled-in-Fill-clause-asked g c =
     (tt, rw (← c.in-Fill.ensures) (fill_due _ _ _ _ c.in-Fill.value c.in_ok-filled-in-Fill.ensures.rows c.in_ok-filled-in-Fill.ensures.order))
 
-pub returns-in_ok-alloc-in-Clear : goal.returns-in_ok-alloc-in-Clear
-returns-in_ok-alloc-in-Clear g c =
+pub returns-in_ok-alloc-in-Clear-clause-asked : goal.returns-in_ok-alloc-in-Clear-clause-asked
+returns-in_ok-alloc-in-Clear-clause-asked g c =
     let empty = c.from_vec_with_order-empty in (
       tt,
       rw (← c.in-Clear.ensures)
           (clear_due _ _ _ _ (none_by_storage _ empty.result.rows empty.result.table (ap length (empty.ensures.storage ∙ c.new.ensures.items))) (empty.ensures.order ∙ c.order.ensures)),
     )
 
-pub returns-in-Apply : goal.returns-in-Apply
-returns-in-Apply g c = (tt, rw (← c.in-Apply.ensures) (apply_due _ _ _ c.in-Apply.symmetry))
+pub returns-in-Apply-clause-asked : goal.returns-in-Apply-clause-asked
+returns-in-Apply-clause-asked g c = (tt, rw (← c.in-Apply.ensures) (apply_due _ _ _ c.in-Apply.symmetry))

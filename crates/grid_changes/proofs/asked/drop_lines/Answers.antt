@@ -22,7 +22,7 @@ returns g c =
     let t = c.args.grid.now.rows in
     let table = c.args.grid.now.table in
     let le : c.args.start + c.args.several ≤ line_count c.args.axis (row_count t) (col_count t) = omega (arith, c.is_within-found.ensures.0 c.if-not-found.false, c.measure-count.ensures.count) in (
-      record { within = omega (arith, rows-lines c.args.axis t, le) },
+      record { some = omega (arith, c.if-several-eq0.false); within = omega (arith, rows-lines c.args.axis t, le) },
       due_lines _ _ c.args.axis (delete_range c.args.start c.args.several) _ _ (the.Flag true) true refl
           (λ d known. range_taken d c.args.axis c.args.start c.args.several t table le)
           (λ same. range_replied c.args.axis c.args.start c.args.several t table true (λ _. le, λ _. refl))

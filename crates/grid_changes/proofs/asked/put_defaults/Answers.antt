@@ -7,15 +7,15 @@ use Rattle.grid_changes.proofs.AskedLemmas.{due_lines, refused_due, padded_none,
 use Rattle.grid_changes.proofs.asked.put_defaults.Goals.{then-at_end, else-at_end}
 use Rattle.grid_changes.proofs.asked.put_defaults.Goals as goal
 
-pub returns-in-Some : goal.returns-in-Some
-returns-in-Some g c =
+pub returns-in-Some-clause-asked : goal.returns-in-Some-clause-asked
+returns-in-Some-clause-asked g c =
     let t = c.args.grid.now.rows in
     let some : pad_refusal (line_count c.args.axis (row_count t) (col_count t)) (line_width c.args.axis (row_count t) (col_count t)) c.args.more ≡ Some c.in-Some.refusal =
     rw (← c.measure-count.ensures.count, ← c.measure-count.ensures.width, ← c.pad_refusal.ensures) c.in-Some.is in
     refused_due _ _ c.args.axis (pad_edit c.args.at_end c.args.more) _ c.in-Some.refusal (pad_none _ c.args.at_end _ _ c.args.more ∙ some)
 
-pub returns-then-count-eq0 : goal.returns-then-count-eq0
-returns-then-count-eq0 g c =
+pub returns-then-count-eq0-clause-asked : goal.returns-then-count-eq0-clause-asked
+returns-then-count-eq0-clause-asked g c =
     let t = c.args.grid.now.rows in
     let table = c.args.grid.now.table in
     let none : pad_refusal (line_count c.args.axis (row_count t) (col_count t)) (line_width c.args.axis (row_count t) (col_count t)) c.args.more ≡ None =
@@ -26,8 +26,8 @@ returns-then-count-eq0 g c =
     (λ same. padded_replied c.args.axis c.args.at_end c.args.more t table none)
     (pad_no_step c.args.axis c.args.at_end c.args.more t either)
 
-pub returns-in-Ok : goal.returns-in-Ok
-returns-in-Ok g c =
+pub returns-in-Ok-clause-asked : goal.returns-in-Ok-clause-asked
+returns-in-Ok-clause-asked g c =
     let t = c.args.grid.now.rows in
     let table = c.args.grid.now.table in
     let none : pad_refusal (line_count c.args.axis (row_count t) (col_count t)) (line_width c.args.axis (row_count t) (col_count t)) c.args.more ≡ None =

@@ -22,7 +22,7 @@ returns-in-None g c =
     let some : 0 < length line = (lines_fit c.args.axis c.args.at (line ∷ []) t table none).new.nonempty 0 (omega arith) in
     let wide : col_count c.from_vec.result.rows ≡ length line = omega (arith, c.from_vec.ensures.cols (λ e. omega (arith, e, some)), c.len-len.ensures) in
     let is : c.from_vec.result.rows ≡ line ∷ [] = one_line line c.from_vec.result.rows c.from_vec.result.table some c.from_vec.ensures.storage wide in
-    let fits : FitsLines c.args.axis c.args.at c.from_vec.result.rows t = subst (λ v. FitsLines c.args.axis c.args.at v t) (sym is) (put_fits c.args.axis c.args.at (line ∷ []) t table none) in (
+    let fits : FitsLines c.args.axis c.args.at c.from_vec.result.rows t = subst (λ v. FitsLines c.args.axis c.args.at v t) (sym is) (put_fits c.args.axis c.args.at (line ∷ []) t table none (omega arith)) in (
       fits,
       due_lines _ _ c.args.axis (insert_at c.args.at line) _ _ the.Done true refl
           (λ d known. ap (λ v. with_lines c.args.axis c.args.at v t) is ∙ (put_rows c.args.axis c.args.at (line ∷ []) t table none d ∙ one_rows d c.args.axis c.args.at line t))

@@ -6,16 +6,16 @@ use Rattle.grid_changes.specs.Change.{FitsLines, with_lines}
 use Rattle.grid_changes.proofs.AskedLemmas.{due_lines, refused_due, lines_fit, put_fits, put_rows, put_replied, nothing_put, nothing_no_step, several_step, joined_lines}
 use Rattle.grid_changes.proofs.asked.put_several.Goals as goal
 
-pub returns-in-Some : goal.returns-in-Some
-returns-in-Some g c =
+pub returns-in-Some-clause-asked : goal.returns-in-Some-clause-asked
+returns-in-Some-clause-asked g c =
     let t = c.args.grid.now.rows in
     let ls = items_of_each c.args.several.items in
     let some : lines_refusal (line_count c.args.axis (row_count t) (col_count t)) (line_width c.args.axis (row_count t) (col_count t)) c.args.at ls ≡ Some c.in-Some.refusal =
     rw (← c.as_slice.ensures.value, ← c.measure-count.ensures.count, ← c.measure-count.ensures.width, ← c.lines_refusal.ensures) c.in-Some.is in
     refused_due _ _ c.args.axis (insert_all c.args.at ls) _ c.in-Some.refusal some
 
-pub returns-then-len-eq0 : goal.returns-then-len-eq0
-returns-then-len-eq0 g c =
+pub returns-then-len-eq0-clause-asked : goal.returns-then-len-eq0-clause-asked
+returns-then-len-eq0-clause-asked g c =
     let t = c.args.grid.now.rows in
     let table = c.args.grid.now.table in
     let ls = items_of_each c.args.several.items in
@@ -27,8 +27,8 @@ returns-then-len-eq0 g c =
     (λ same. put_replied c.args.axis c.args.at ls t table none)
     (nothing_no_step c.args.axis c.args.at ls t empty)
 
-pub returns-in-Ok : goal.returns-in-Ok
-returns-in-Ok g c =
+pub returns-in-Ok-clause-asked : goal.returns-in-Ok-clause-asked
+returns-in-Ok-clause-asked g c =
     let t = c.args.grid.now.rows in
     let table = c.args.grid.now.table in
     let ls = items_of_each c.args.several.items in
@@ -37,7 +37,7 @@ returns-in-Ok g c =
     let count : length ls ≡ length c.args.several.items = length-map c.args.several.items (λ v. v.items) in
     let some : 0 < row_count ls = omega (arith, count, c.if-len-eq0.false, c.len.ensures) in
     let is : c.in-Ok.lines.rows ≡ ls = joined_lines ls c.in-Ok.lines.rows (lines_fit c.args.axis c.args.at ls t table none).new some c.in-Ok.ensures.2 in
-    let fits : FitsLines c.args.axis c.args.at c.in-Ok.lines.rows t = subst (λ v. FitsLines c.args.axis c.args.at v t) (sym is) (put_fits c.args.axis c.args.at ls t table none) in (
+    let fits : FitsLines c.args.axis c.args.at c.in-Ok.lines.rows t = subst (λ v. FitsLines c.args.axis c.args.at v t) (sym is) (put_fits c.args.axis c.args.at ls t table none some) in (
       fits,
       due_lines _ _ c.args.axis (insert_all c.args.at ls) _ _ the.Done true refl
           (λ d known. ap (λ v. with_lines c.args.axis c.args.at v t) is ∙ put_rows c.args.axis c.args.at ls t table none d)

@@ -5,11 +5,11 @@ use Rattle.grid_changes.proofs.AskedLemmas.{line_past, col_there}
 use Rattle.grid_changes.proofs.asked.read_line.Goals.{in-Row, in-Col}
 use Rattle.grid_changes.proofs.asked.read_line.Goals as goal
 
-pub returns-then-at-count : goal.returns-then-at-count
-returns-then-at-count g c same = ap line_is (line_past c.args.axis c.args.at c.args.grid.now.rows (omega (arith, c.if-at-count.true, c.measure-count.ensures.count)))
+pub returns-then-at-count-clause-reply : goal.returns-then-at-count-clause-reply
+returns-then-at-count-clause-reply g c same = ap line_is (line_past c.args.axis c.args.at c.args.grid.now.rows (omega (arith, c.if-at-count.true, c.measure-count.ensures.count)))
 
-pub returns : goal.returns
-returns g c same =
+pub returns-clause-reply : goal.returns-clause-reply
+returns-clause-reply g c same =
     let t = c.args.grid.now.rows in
     let there : Some c.match-axis.line ≡ line_at c.args.axis c.args.at t =
     elim c.match-axis.branch [

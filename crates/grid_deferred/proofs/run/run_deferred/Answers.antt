@@ -12,9 +12,6 @@ on_err : {T E : Type 0} (r : Result T E) (P : Type 0) → is_err r ≡ true → 
 on_err (Ok x) P h p = absurd (cc)
 on_err (Err e) P h p = p
 
-one_more : {X Y : Type 0} (f : X → Y) (xs all : List X) (x : X) → all ≡ xs ++ x ∷ [] → length (map f all) ≡ suc (length (map f xs))
-one_more f xs all x e = rw e (omega (arith, ap length (map-append f xs (x ∷ [])), length-append (map f xs) (f x ∷ [])))
-
 pub loop-command-init : goal.loop-command-init
 loop-command-init g c =
     let none = c.reserve_exact.ensures.items ∙ c.new-replies.ensures.items in
@@ -44,9 +41,9 @@ loop-command-preserved g c =
       symmetry = c.step.ensures.symmetry ∙ i.symmetry;
       going =
           rw (map-append command_value c.loop-command.yielded (c.in-Some.command ∷ []))
-          (going_more _ _ _ (command_value c.in-Some.command) _ _ _ _ _ _ _ _ _ _ i.going c.step.new.self.base.now.table c.step.ensures.order e.stepped.rows e.pending e.shift
-          (one_more reply_value _ _ _ p.items)
-          (λ same. ap (map reply_value) p.items ∙ (map-append reply_value _ _ ∙ ap (λ x. map reply_value c.loop-command.replies.items ++ x ∷ []) (e.stepped.reply same))));
+          (going_more _ _ _ (command_value c.in-Some.command) _ _ _ _ _ _ _ _ _ _ _ i.going c.step.new.self.base.now.table c.step.ensures.order e.stepped.rows e.pending e.shift
+          (ap (map reply_value) p.items ∙ map-append reply_value _ _)
+          e.stepped.reply);
       shift_grows = omega (arith, e.shift, i.shift_grows);
       count = grind (arith, p.len, i.count, length-append);
       room = grind (arith, p.capacity, i.room);

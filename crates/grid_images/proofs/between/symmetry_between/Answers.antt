@@ -5,18 +5,18 @@ use Rattle.grid_images.proofs.between.symmetry_between.Goals as goal
 
 pub returns-then-eq-clause-first : goal.returns-then-eq-clause-first
 returns-then-eq-clause-first g c =
-    let t = c.args.board.now.rows in
-    let u = c.args.other.now.rows in
+    let t = g.V.AsView.rows c.args.board.now in
+    let u = g.W.AsView.rows c.args.other.now in
     let passes : takes g.T.PartialEq.eq t u (symmetry_at c.loop-symmetry.symmetry-index) ≡ true = cc in
     taking_here g.T.PartialEq.eq t u c.loop-symmetry.symmetry-index c.loop-symmetry-test.true c.loop-symmetry.invariant passes
 
 pub returns-then-eq-clause-some : goal.returns-then-eq-clause-some
 returns-then-eq-clause-some g c =
-    let t = c.args.board.now.rows in
-    let u = c.args.other.now.rows in
+    let t = g.V.AsView.rows c.args.board.now in
+    let u = g.W.AsView.rows c.args.other.now in
     let passes : takes g.T.PartialEq.eq t u (symmetry_at c.loop-symmetry.symmetry-index) ≡ true = cc in
     ((λ _. record { by = symmetry_at c.loop-symmetry.symmetry-index; is_image = passes }), λ _. refl)
 
 pub returns-clause-first : goal.returns-clause-first
 returns-clause-first g c =
-    taking_none g.T.PartialEq.eq c.args.board.now.rows c.args.other.now.rows (λ j lt. c.loop-symmetry.invariant j (omega arith))
+    taking_none g.T.PartialEq.eq (g.V.AsView.rows c.args.board.now) (g.W.AsView.rows c.args.other.now) (λ j lt. c.loop-symmetry.invariant j (omega arith))

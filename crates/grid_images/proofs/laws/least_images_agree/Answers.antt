@@ -10,8 +10,8 @@ returns-clause-law g c = λ t u h k s v least least_too.
 
 pub returns-clause-alike : goal.returns-clause-alike
 returns-clause-alike g c =
-    let t = c.args.board.now in
-    let u = c.args.other.now in
-    let told : same_table g.T.PartialEq.eq (act c.least_image.result t.rows) (act c.least_image-2.result u.rows) ≡ c.eq.result = cc in
-    subst (λ b. IsTrue b ↔ AreAlike g.T.PartialEq.eq t.rows u.rows) told
-    (least_alike g.T.Ord.cmp g.met.T.Ord.total g.T.PartialEq.eq g.met.T.Eq.laws g.met.T.Ord.matches_eq t.rows u.rows t.table u.table _ _ c.least_image.ensures c.least_image-2.ensures)
+    let t = g.V.AsView.rows c.args.board.now in
+    let u = g.W.AsView.rows c.args.other.now in
+    let told : same_table g.T.PartialEq.eq (act c.least_image.result t) (act c.least_image-2.result u) ≡ c.eq.result = cc in
+    subst (λ b. IsTrue b ↔ AreAlike g.T.PartialEq.eq t u) told
+    (least_alike g.T.Ord.cmp g.met.T.Ord.total g.T.PartialEq.eq g.met.T.Eq.laws g.met.T.Ord.matches_eq t u (g.met.V.AsView.table c.args.board.now) (g.met.W.AsView.table c.args.other.now) _ _ c.least_image.ensures c.least_image-2.ensures)

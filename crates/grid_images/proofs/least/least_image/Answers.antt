@@ -8,11 +8,11 @@ use Rattle.grid_images.proofs.least.least_image.Goals as goal
 use Rattle.grid_images.proofs.least.least_image.Goals.{then-is_lt, else-is_lt}
 
 pub loop-i-init : goal.loop-i-init
-loop-i-init g c = least_one g.T.Ord.cmp g.met.T.Ord.total c.args.board.now.rows
+loop-i-init g c = least_one g.T.Ord.cmp g.met.T.Ord.total (g.V.AsView.rows c.args.board.now)
 
 pub loop-i-preserved : goal.loop-i-preserved
 loop-i-preserved g c =
-    let t = c.args.board.now.rows in
+    let t = g.V.AsView.rows c.args.board.now in
     let i = c.loop-i.i in
     let s = c.loop-i.least in
     let small : i < 8 = omega arith in
@@ -25,4 +25,4 @@ loop-i-preserved g c =
 pub returns : goal.returns
 returns g c =
     let at_end : c.loop-i.i ≡ 8 = omega arith in
-    least_all g.T.Ord.cmp g.met.T.Ord.total c.args.board.now.rows c.loop-i.least (subst (λ i. IsLeastOf g.T.Ord.cmp c.args.board.now.rows i c.loop-i.least) at_end c.loop-i.invariant)
+    least_all g.T.Ord.cmp g.met.T.Ord.total (g.V.AsView.rows c.args.board.now) c.loop-i.least (subst (λ i. IsLeastOf g.T.Ord.cmp (g.V.AsView.rows c.args.board.now) i c.loop-i.least) at_end c.loop-i.invariant)

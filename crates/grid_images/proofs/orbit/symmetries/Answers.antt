@@ -7,16 +7,16 @@ use Rattle.grid_images.proofs.orbit.symmetries.Goals.{then-eq, else-eq}
 
 pub loop-i-init : goal.loop-i-init
 loop-i-init g c =
-    let t = c.args.board.now in
-    kept_first (takes g.T.PartialEq.eq t.rows t.rows) (takes_identity g.met.T.Eq.laws t.rows t.table) c.push.new.self (c.push.ensures ∙ ap (λ xs. xs ++ Identity ∷ []) c.new-fixing.ensures)
+    let t = g.V.AsView.rows c.args.board.now in
+    kept_first (takes g.T.PartialEq.eq t t) (takes_identity g.met.T.Eq.laws t (g.met.V.AsView.table c.args.board.now)) c.push.new.self (◌∙◌ {b = c.new-fixing.result ++ Identity ∷ []} c.push.ensures (ap (λ xs. xs ++ Identity ∷ []) c.new-fixing.ensures))
 
 pub push-requires-then-eq : goal.push-requires-then-eq
 push-requires-then-eq g c =
-    has_room (takes g.T.PartialEq.eq c.args.board.now.rows c.args.board.now.rows) c.loop-i.i c.loop-i-test.true c.loop-i.fixing c.loop-i.invariant
+    has_room (takes g.T.PartialEq.eq (g.V.AsView.rows c.args.board.now) (g.V.AsView.rows c.args.board.now)) c.loop-i.i c.loop-i-test.true c.loop-i.fixing c.loop-i.invariant
 
 pub loop-i-preserved : goal.loop-i-preserved
 loop-i-preserved g c =
-    let t = c.args.board.now.rows in
+    let t = g.V.AsView.rows c.args.board.now in
     let p = takes g.T.PartialEq.eq t t in
     let i = c.loop-i.i in
     let small : i < 8 = c.loop-i-test.true in
@@ -29,16 +29,16 @@ loop-i-preserved g c =
 pub returns-clause-members : goal.returns-clause-members
 unfolding fixing
 returns-clause-members g c =
-    all_kept (takes g.T.PartialEq.eq c.args.board.now.rows c.args.board.now.rows) c.loop-i.i (omega arith) c.loop-i.fixing c.loop-i.invariant
+    all_kept (takes g.T.PartialEq.eq (g.V.AsView.rows c.args.board.now) (g.V.AsView.rows c.args.board.now)) c.loop-i.i (omega arith) c.loop-i.fixing c.loop-i.invariant
 
 pub returns-clause-each : goal.returns-clause-each
 returns-clause-each g c = λ s.
-    let t = c.args.board.now.rows in
+    let t = g.V.AsView.rows c.args.board.now in
     subst (λ ss. Contains ss s ↔ IsTrue (takes g.T.PartialEq.eq t t s)) (sym (returns-clause-members g c)) (has_fixing g.T.PartialEq.eq t s)
 
 pub returns-clause-group : goal.returns-clause-group
 returns-clause-group g c =
-    subst IsGroup (sym (returns-clause-members g c)) (IsGroup-fixing g.met.T.Eq.laws c.args.board.now.rows c.args.board.now.table)
+    subst IsGroup (sym (returns-clause-members g c)) (IsGroup-fixing g.met.T.Eq.laws (g.V.AsView.rows c.args.board.now) (g.met.V.AsView.table c.args.board.now))
 
 pub returns-clause-some : goal.returns-clause-some
 returns-clause-some g c =

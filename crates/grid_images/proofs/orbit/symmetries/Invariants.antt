@@ -4,4 +4,4 @@ use Rattle.grid_images.specs.Prelude.{symmetries, takes}
 use Rattle.grid_images.proofs.orbit.symmetries.Given as goal
 
 abbrev pub invariant-loop-i : goal.invariant-loop-i
-invariant-loop-i g l = l.fixing ≡ filter (takes g.T.PartialEq.eq l.board.rows l.board.rows) (take l.i symmetries)
+invariant-loop-i g l = l.fixing ≡ filter (takes g.T.PartialEq.eq (g.V.AsView.rows l.fn.board) (g.V.AsView.rows l.fn.board)) (take l.i symmetries)

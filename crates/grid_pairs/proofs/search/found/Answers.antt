@@ -4,8 +4,8 @@ use Rattle.grid_pairs.specs.Found.{StandsIn}
 use Rattle.grid_pairs.proofs.FindLemmas.{empty_first}
 use Rattle.grid_pairs.proofs.search.found.Goals as goal
 
-pub returns-then-is_empty : goal.returns-then-is_empty
-returns-then-is_empty g c = empty_first _ _ _ (c.is_empty.ensures.0 c.if-is_empty.true)
+pub returns-then-is_empty-clause-first : goal.returns-then-is_empty-clause-first
+returns-then-is_empty-clause-first g c = empty_first _ _ _ (c.is_empty.ensures.0 c.if-is_empty.true)
 
 pub loop-row-preserved : goal.loop-row-preserved
 loop-row-preserved g c = λ r k lt s. ⊎_elim

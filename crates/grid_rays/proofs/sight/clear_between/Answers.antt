@@ -1,6 +1,6 @@
 use Rattle.std.proofs.Common.{inl, inr, true, ◌∙◌}
 use Rattle.grid_base.specs.Table.{row_count, col_count}
-use Rattle.grid.specs.Found.{AnswersAt}
+use Rattle.grid.specs.Prelude.{AnswersAt}
 use Rattle.grid_rays.proofs.SightLemmas.{IsLooking-start, IsLooking-end, IsLooking-next, IsBetween-here, in_view, IsSeen-end, differs, same_position}
 use Rattle.grid_rays.proofs.sight.clear_between.Goals as goal
 use Rattle.grid_rays.proofs.sight.clear_between.Goals.{else-ne-via-then-ne+then-ne-2+else-not-is_clear, else-ne-via-then-ne+else-ne-2, else-ne-via-else-ne}

@@ -1,5 +1,5 @@
 use Rattle.std.proofs.Common.{true}
-use Rattle.grid.specs.Found.{AnswersAt}
+use Rattle.grid.specs.Prelude.{AnswersAt}
 use Rattle.grid_rays.proofs.SightLemmas.{IsLooking}
 use Rattle.grid_rays.proofs.sight.clear_between.Given as goal
 

@@ -11,9 +11,6 @@ on_err : {T E : Type 0} (r : Result T E) (P : Type 0) → is_err r ≡ true → 
 on_err (Ok x) P h p = absurd (cc)
 on_err (Err e) P h p = p
 
-one_more : {X Y : Type 0} (f : X → Y) (xs all : List X) (x : X) → all ≡ xs ++ x ∷ [] → length (map f all) ≡ suc (length (map f xs))
-one_more f xs all x e = rw e (omega (arith, ap length (map-append f xs (x ∷ [])), length-append (map f xs) (f x ∷ [])))
-
 pub loop-command-init : goal.loop-command-init
 loop-command-init g c = record {
   can = tt;
@@ -46,9 +43,9 @@ loop-command-preserved g c =
       rest = rw append_assoc (rw s.0 at i.rest);
       running =
           rw (map-append command_value c.loop-command.yielded (c.in-Some.command ∷ []))
-          (running_more _ _ _ (command_value c.in-Some.command) _ _ _ _ _ _ _ _ i.running e.stepped.rows
-          (one_more reply_value _ _ _ p.items)
-          (λ same. ap (map reply_value) p.items ∙ (map-append reply_value _ _ ∙ ap (λ x. map reply_value c.loop-command.replies.items ++ x ∷ []) (e.stepped.reply same)))
+          (running_more _ _ _ (command_value c.in-Some.command) _ _ _ _ _ _ _ _ _ i.running e.stepped.rows
+          (ap (map reply_value) p.items ∙ map-append reply_value _ _)
+          e.stepped.reply
           e.order e.counted.symmetry e.counted.shift);
       symmetry_grows = omega (arith, e.counted.symmetry, i.symmetry_grows);
       shift_grows = omega (arith, e.counted.shift, i.shift_grows);

@@ -1,6 +1,6 @@
 use Rattle.std.proofs.Common.{◌∙◌, ap, arith, refl}
 use Rattle.grid.proofs.Common.{row, place, table_of, HoldsSize-transposed}
-use Rattle.grid.proofs.Lemmas.{seen_cols, seen_written, seen_keeps_from, seen_transposed, place_flipped}
+use Rattle.grid.proofs.Lemmas.{seen_cols, seen_written, seen_held, seen_keeps_from, seen_transposed, place_flipped}
 use Rattle.grid.proofs.grid.Grid.iter_col_mut.Goals as goal
 
 pub row_mut-requires-clause-cells : goal.row_mut-requires-clause-cells
@@ -21,5 +21,6 @@ returns g c =
             c.row_mut.ensures.rest
             ∙ (ap (λ o. row (table_of o s.col_count s.row_count s.flat) c.args.c) c.flipped-order.ensures
             ∙ ap (λ t. row t c.args.c) (seen_transposed _ _ _ _ _ c.self.inside.fits c.self.view_is));
+        cells = seen_held _ _ _ _ _ c.self.inside.fits c.self.view_is _ _ _ _ first c.row_mut.ensures.cells;
       },
     )

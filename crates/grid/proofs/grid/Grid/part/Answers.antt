@@ -13,4 +13,6 @@ pub returns : goal.returns
 returns g c = record {
   rows = λ a b. c.part.ensures.rows a b ∙ ap (λ t. sub_table t c.args.at c.args.size) c.view.ensures;
   none = c.part.ensures.none;
+  row_count = c.part.ensures.row_count;
+  col_count = c.part.ensures.col_count;
 }

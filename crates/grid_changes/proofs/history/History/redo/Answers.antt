@@ -1,7 +1,8 @@
 use Rattle.std.proofs.Common.{◌+◌, length, refl, ap, ◌∙◌, subst, arith}
-use Rattle.grid_changes.specs.Timeline.{IsStepBack}
+use Rattle.grid.proofs.TransposedEditLemmas.{either_way}
+use Rattle.grid_changes.specs.Timeline.{IsStepBack, board_of, FirstHasOtherCount}
 use Rattle.grid_changes.specs.Steps.{timeline_of}
-use Rattle.grid_changes.proofs.StepLemmas.{future_count, fits_on, steps_on, stepped_on_again}
+use Rattle.grid_changes.proofs.StepLemmas.{future_count, fits_on, steps_on, stepped_on_again, on_differs}
 use Rattle.grid_changes.proofs.history.History.redo.Goals as goal
 
 pub turn-requires-clause-fits : goal.turn-requires-clause-fits
@@ -25,3 +26,10 @@ returns-clause-ahead g c =
     let s = c.self.inside in
     subst (λ v. IsStepBack (timeline_of c.turn.new.grid c.turn.new.steps.items (s.done + 1)) v) c.self.view_is
     (stepped_on_again s.done s.grid c.turn.new.grid s.steps.items c.turn.new.steps.items c.in_ok-turn.ensures.turned)
+
+pub returns-in_err-turn-clause-err_memory : goal.returns-in_err-turn-clause-err_memory
+returns-in_err-turn-clause-err_memory g c =
+    let s = c.self.inside in
+    either_way _
+    (subst (λ v. FirstHasOtherCount v.future (board_of v.grid)) c.self.view_is
+    (on_differs s.grid s.steps.items s.done c.self.invariant c.in_err-turn.ensures.err_lines))

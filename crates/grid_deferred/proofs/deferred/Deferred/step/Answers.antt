@@ -10,6 +10,7 @@ pub returns-in-Apply-clause-stepped : goal.returns-in-Apply-clause-stepped
 returns-in-Apply-clause-stepped g c = record {
   rows = λ d h. rw c.in-Apply.is (shown-then d _ _ _ _ c.then-self.ensures c.args.self.now.base.now.table);
   reply = λ h. rw c.in-Apply.is (reply-then _ _);
+  reply_by_clones = λ h. rw c.in-Apply.is (reply-then _ _);
   err_memory = tt;
 }
 
@@ -20,7 +21,7 @@ pub returns-in-Get-clause-stepped : goal.returns-in-Get-clause-stepped
 returns-in-Get-clause-stepped g c =
     let p : (d : g.row.T.Denot) → RowsAreKnown g.T.Default.is_default g.T.Clone.is_clone d (command_value c.args.command) → shown c.args.self.now ≡ step_rows d (command_value c.args.command) (shown c.args.self.now) =
     λ d h. rw c.in-Get.is (get-rows d _ _ _) in
-    record { rows = always_ok _ p; reply = search rules; err_memory = search rules }
+    record { rows = always_ok _ p; reply = rw c.in-Get.is (search rules); reply_by_clones = search rules; err_memory = search rules }
 
 pub returns-in-Get-clause-pending : goal.returns-in-Get-clause-pending
 returns-in-Get-clause-pending g c = always_ok _ (pending-still (command_value c.args.command) _ (rw c.in-Get.is refl))
@@ -29,7 +30,7 @@ pub returns-in-Row-clause-stepped : goal.returns-in-Row-clause-stepped
 returns-in-Row-clause-stepped g c =
     let p : (d : g.row.T.Denot) → RowsAreKnown g.T.Default.is_default g.T.Clone.is_clone d (command_value c.args.command) → shown c.args.self.now ≡ step_rows d (command_value c.args.command) (shown c.args.self.now) =
     λ d h. rw c.in-Row.is (read_kept d Row _ _) in
-    record { rows = always_ok _ p; reply = search rules; err_memory = search rules }
+    record { rows = always_ok _ p; reply = rw c.in-Row.is (search rules); reply_by_clones = search rules; err_memory = search rules }
 
 pub returns-in-Row-clause-pending : goal.returns-in-Row-clause-pending
 returns-in-Row-clause-pending g c = always_ok _ (pending-still (command_value c.args.command) _ (rw c.in-Row.is refl))
@@ -38,7 +39,7 @@ pub returns-in-Col-clause-stepped : goal.returns-in-Col-clause-stepped
 returns-in-Col-clause-stepped g c =
     let p : (d : g.row.T.Denot) → RowsAreKnown g.T.Default.is_default g.T.Clone.is_clone d (command_value c.args.command) → shown c.args.self.now ≡ step_rows d (command_value c.args.command) (shown c.args.self.now) =
     λ d h. rw c.in-Col.is (read_kept d Col _ _) in
-    record { rows = always_ok _ p; reply = search rules; err_memory = search rules }
+    record { rows = always_ok _ p; reply = rw c.in-Col.is (search rules); reply_by_clones = search rules; err_memory = search rules }
 
 pub returns-in-Col-clause-pending : goal.returns-in-Col-clause-pending
 returns-in-Col-clause-pending g c = always_ok _ (pending-still (command_value c.args.command) _ (rw c.in-Col.is refl))

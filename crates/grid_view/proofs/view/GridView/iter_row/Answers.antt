@@ -17,4 +17,5 @@ returns g c =
         lines_in_reverse _,
         omega (arith, ap length rest, c.args.self.now.table.even c.args.r c.requires, c.args.self.now.fits.cols),
       );
+      len = ap length rest ∙ c.args.self.now.table.even c.args.r c.requires;
     }

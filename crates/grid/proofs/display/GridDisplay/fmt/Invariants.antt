@@ -1,9 +1,0 @@
--- The rows so far.
-use Rattle.std.proofs.Common.{take, IfSome}
-use Rattle.std.specs.Fmt.{HasWritten, IsPlainFormatter}
-use Rattle.grid.proofs.Common.{lines_text}
-use Rattle.grid.proofs.display.GridDisplay.fmt.Given as goal
-
-abbrev pub invariant-loop-row : goal.invariant-loop-row
-invariant-loop-row g l =
-    IsPlainFormatter l.fn.f → IfSome (lines_text g.T.Display.output (take l.row l.self.rows)) (λ bs. HasWritten g.W.Write.write_str_gives l.fn.f bs l.f)

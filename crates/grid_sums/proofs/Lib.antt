@@ -1,0 +1,3 @@
+pub mod SumLemmas
+pub mod BuildLemmas
+pub mod MeanLemmas
