@@ -1,6 +1,6 @@
 //! Two boards at once, the parts of a board in turn, and runs of equal cells.
 use grid::{Direction, Grid, GridView, Order, can_cut};
-use grid_pairs::{find, tiles, windows, zip_with};
+use grid_pairs::{find, fold_cells, tiles, windows, zip_with};
 use grid_rays::alike_along;
 use std::alloc::{AllocError, Global};
 
@@ -55,6 +55,12 @@ pub fn corners(alloc: Global, board: &Grid<u8>) -> Result<Vec<u8>, AllocError> {
         corners.push(tile[(0, 0)])?;
     }
     Ok(corners)
+}
+
+/// Returns the highest cell of a part of a board, at least 0, or `None` where the part isn't within it.
+pub fn highest_in(heights: &Grid<u8>, at: (usize, usize), size: (usize, usize)) -> Option<u8> {
+    let part = heights.get_part(at, size)?;
+    Some(fold_cells(&part, 0u8, |highest, cell| highest.max(*cell)))
 }
 
 /// Returns the cell of a board where a pattern stands first, if it has cells. The position is in range.

@@ -6,7 +6,7 @@ use Rattle.grid_base.proofs.ClosureLemmas.{FoldsTo-append, take_next}
 use Rattle.grid_base.proofs.TableLemmas.{same_cells}
 use Rattle.grid_base.proofs.StorageLemmas.{get_append_left, get_append_right}
 use Rattle.grid_base.proofs.WriteLemmas.{get-set_same, get-set_other}
-use Rattle.grid_pairs.specs.Folded.{AreCopies, FoldsOn, FoldsOver, FoldsAlways, GoesOn, AreFolds, AreFoldsOf, FoldsMore, FoldsMoreOf, CallableInRows, CallableAtCol}
+use Rattle.grid_pairs.specs.Folded.{AreCopies, FoldsOn, FoldsOver, FoldsOverRows, FoldsAlways, IsFold, GoesOn, AreFolds, AreFoldsOf, FoldsMore, FoldsMoreOf, CallableInRows, CallableAtCol}
 use Rattle.grid_pairs.proofs.JoinLemmas.{transposed_cell}
 
 module _ {F S A : Type 0} (returns : F → S → Bor A → S → Type 0) (f : F) where
@@ -31,6 +31,22 @@ module _ {F S A : Type 0} (returns : F → S → Bor A → S → Type 0) (f : F)
   fold_is h says init z (x ∷ xs) w =
       let one : w.0 ≡ h init x = says init w.1.0 w.0 w.1.2 ∙ ap (λ y. h init y) w.1.1 in
       fold_is h says w.0 z xs w.2 ∙ ap (λ s. fold h s xs) one
+
+  -- one more row, of those that are folded into one value
+  pub rows_more : (init s z : S) (t : List (List A)) (r : ℕ) → r < length t → FoldsOverRows returns f init (take r t) s → FoldsOver returns f s (row t r) z → FoldsOverRows returns f init (take (r + 1) t) z
+  rows_more init s z t r lt w one =
+      rw (take_next t r (row t r) (slice_get-get_or t r [] lt)) (FoldsTo-append (FoldsOver returns f) init s z (take r t) (row t r) w one)
+
+  -- all rows, folded into one value
+  pub rows_all : (init z : S) (t : List (List A)) (k : ℕ) → length t ≤ k → FoldsOverRows returns f init (take k t) z → IsFold returns f init t z
+  rows_all init z t k le w =
+      let all : FoldsOverRows returns f init t z = subst (λ l. FoldsOverRows returns f init l z) (take_all k t le) w in
+      record { over = all; pure = λ h says. rows_are h says init z t all }
+    where
+      rows_are : (h : S → A → S) → FoldsAlways returns f h → (init z : S) (t : List (List A)) → FoldsOverRows returns f init t z → z ≡ fold (fold h) init t
+      rows_are h says init z [] w = sym w
+      rows_are h says init z (line ∷ t) w =
+          rows_are h says w.0 z t w.2 ∙ ap (λ s. fold (fold h) s t) (fold_is h says init w.0 line w.1)
 
   -- one more line
   pub folds_more : (init z : S) (m : ℕ) (line : ℕ → List A) (zs : List S) → AreFoldsOf returns f init m line zs → FoldsOver returns f init (line m) z → AreFoldsOf returns f init (m + 1) line (zs ++ z ∷ [])

@@ -24,6 +24,16 @@ module _ {F S A : Type 0} (returns : F → S → Bor A → S → Type 0) (f : F)
     pub each : (r : ℕ) → r < row_count t → IsSomeAnd (slice_get zs r) (FoldsOver init (row t r))
     pub pure : (h : S → A → S) → FoldsAlways h → zs ≡ map (fold h init) t
 
+  -- from s the closure f may come to z over the cells of these rows, row by row
+  abbrev pub FoldsOverRows : S → List (List A) → S → Type 0
+  FoldsOverRows s t z = FoldsTo FoldsOver s t z
+
+  -- z is what f comes to over the cells of t, row by row: where it goes on to h of the value and the
+  -- cell, the fold by h
+  pub record IsFold (init : S) (t : List (List A)) (z : S) : Type 0 where
+    pub over : FoldsOverRows init t z
+    pub pure : (h : S → A → S) → FoldsAlways h → z ≡ fold (fold h) init t
+
   -- z is what f goes on to from this value at this cell, which are there
   abbrev pub GoesOn : Option S → Option A → S → Type 0
   GoesOn s x z = (y : S) × (p : Bor A) × (s ≡ Some y) × (x ≡ Some p.now) × returns f y p z
@@ -70,3 +80,11 @@ abbrev pub CallableInRows : {F S A : Type 0} → (F → S → Bor A → Type 0)
 CallableInRows {S = S} {A} takes returns f init t = (r c : ℕ) (s : S) (p : Bor A)
     → InRange t r c → cell t r c ≡ Some p.now → FoldsOver returns f init (take c (row t r)) s
     → takes f s p
+
+-- the closure f can be called at each cell of t, and a value that it comes to over the cells before it,
+-- row by row
+abbrev pub CallableInCells : {F S A : Type 0} → (F → S → Bor A → Type 0)
+    → (F → S → Bor A → S → Type 0) → F → S → List (List A) → Type 0
+CallableInCells {S = S} {A} takes returns f init t = (r c : ℕ) (s z : S) (p : Bor A)
+    → cell t r c ≡ Some p.now → FoldsOverRows returns f init (take r t) s
+    → FoldsOver returns f s (take c (row t r)) z → takes f z p

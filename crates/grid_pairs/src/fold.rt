@@ -1,7 +1,7 @@
-//! One value for each row of a board, or for each column, folded from its cells.
+//! One value for each row of a board, for each column, or for the whole board, folded from its cells.
 ghost use Rattle.std.specs.Prelude.{◌≡◌, ◌<◌, ◌≤◌, ◌+◌, length, vec_len, IfOk};
-ghost use Rattle.grid_pairs.specs.Prelude.{row, row_count, col_count, transposed, CallableInRows, AreFolds};
-ghost use Rattle.grid_pairs.specs.Folded.{AreCopies, FoldsOver, FoldsMore, CallableInRow, CallableAtCol};
+ghost use Rattle.grid_pairs.specs.Prelude.{row, row_count, col_count, transposed, CallableInRows, CallableInCells, AreFolds, IsFold};
+ghost use Rattle.grid_pairs.specs.Folded.{AreCopies, FoldsOver, FoldsOverRows, FoldsMore, CallableInRow, CallableAtCol};
 
 use grid_view::{AsView, GridView};
 use std::alloc::{AllocError, Allocator};
@@ -44,6 +44,34 @@ pub fn fold_cols<T, V: AsView<T>, S: Copy, A: Allocator, F: Fn(S, &T) -> S>(
         AreFolds F.post f init (transposed (V.rows board.now)) folds.items) }
 {
     folded(alloc, &board.as_view().transposed(), init, &f)
+}
+
+/// Returns what the closure comes to from `init` on, called with the value so far and a reference to each cell of the board,
+/// row by row.
+///
+///     [[1, 2], [3, 4]]   fold_cells(board, 0, |sum, x| sum + *x)   10
+///
+/// A loop over the cells of a part, as for a sum, a count or a maximum, is as fast by it as over slices of the rows.
+///
+/// Requires: the closure can be called at each cell, and a value that it comes to over the cells before it.
+/// Cost: one call for each cell, each row as a slice where it is one in the storage; no memory.
+pub fn fold_cells<T, V: AsView<T>, S: Copy, F: Fn(S, &T) -> S>(board: &V, init: S, f: F) -> S
+    requires calls { CallableInCells F.pre F.post f init (V.rows board.now) }
+    ensures fold { IsFold F.post f init (V.rows board.now) result }
+{
+    fold_view(&board.as_view(), init, &f)
+}
+
+// The same, of a view.
+fn fold_view<T, S: Copy, F: Fn(S, &T) -> S>(board: &GridView<'_, T>, init: S, f: &F) -> S
+    requires calls { CallableInCells F.pre F.post f.now init board.now.rows }
+    ensures fold { IsFold F.post f.now init board.now.rows result }
+{
+    let mut folded = init;
+    for r in 0..board.rows() {
+        folded = fold_row(board, r, folded, f);
+    }
+    folded
 }
 
 // Returns a value for each row of a view.

@@ -111,7 +111,9 @@ fn update_seen<T: Drop, U, F: Fn(&T, &U) -> T>(
     ensures { Replaced F.post f.now start (col_count other.now.rows) (row other.now.rows r)
         cells.old cells.new }
 {
-    for col in 0..other.cols() {
-        cells[start + col] = f(&cells[start + col], other.get_unchecked(r, col));
+    // a copy that no write to the cells can change, so that it stays in registers
+    let seen = other.view();
+    for col in 0..seen.cols() {
+        cells[start + col] = f(&cells[start + col], seen.get_unchecked(r, col));
     }
 }

@@ -1,10 +1,10 @@
 //! What is found along a ray: the first cell that passes a test, cells alike, and rows of them.
 ghost use Rattle.std.specs.Prelude.{◌≡◌, ◌↔◌, ◌^◌, ◌<◌, IsTrue};
-ghost use Rattle.grid.specs.Prelude.{CallableAtCells, InRange};
+ghost use Rattle.grid.specs.Prelude.{CallableAtCells, InRange, row_count, col_count};
 ghost use Rattle.grid_rays.specs.Along.{FoundAlong, AreAlikeAlong, HasRun, HasRunAlong};
 
-use crate::rays::ray;
-use grid::{Direction, Grid};
+use crate::rays::ray_of;
+use grid::{AsView, Direction, Grid, GridView};
 use std::alloc::Allocator;
 
 /// Returns the position of the first cell beyond a position in a direction for which the closure returns true.
@@ -14,16 +14,29 @@ use std::alloc::Allocator;
 ///
 /// Requires: the closure can be called at a reference to each cell.
 /// Cost: one call for each cell up to the first; no memory.
-pub fn first_along<T, A: Allocator, F: Fn(&T) -> bool>(
-    grid: &Grid<T, A>,
+pub fn first_along<T, V: AsView<T>, F: Fn(&T) -> bool>(
+    board: &V,
     at: (usize, usize),
     way: Direction,
     test: F,
 ) -> Option<(usize, usize)>
-    requires { CallableAtCells F.pre test grid.now.rows }
-    ensures { FoundAlong F.post test grid.now.rows way at result }
+    requires { CallableAtCells F.pre test (V.rows board.now) }
+    ensures { FoundAlong F.post test (V.rows board.now) way at result }
 {
-    for (to, cell) in ray(grid, at, way) {
+    first_in(&board.as_view(), at, way, &test)
+}
+
+// The same, of a view.
+fn first_in<T, F: Fn(&T) -> bool>(
+    board: &GridView<'_, T>,
+    at: (usize, usize),
+    way: Direction,
+    test: &F,
+) -> Option<(usize, usize)>
+    requires { CallableAtCells F.pre test.now board.now.rows }
+    ensures { FoundAlong F.post test.now board.now.rows way at result }
+{
+    for (to, cell) in ray_of(board.view(), board.size(), at, way) {
         if test(cell) {
             return Some(to);
         }
@@ -46,11 +59,26 @@ pub fn alike_along<T: PartialEq, A: Allocator>(
     ensures alike { AreAlikeAlong T.eq grid.now.rows at way result }
     ensures small { result < 2 ^ 63 }
 {
-    let Some(here) = grid.get_at(at) else {
+    alike_in(&grid.view(), grid.size(), at, way)
+}
+
+// The same, of a view of this size.
+fn alike_in<T: PartialEq>(
+    board: &GridView<'_, T>,
+    size: (usize, usize),
+    at: (usize, usize),
+    way: Direction,
+) -> usize
+    requires rows { size.0 ≡ row_count board.now.rows }
+    requires cols { size.1 ≡ col_count board.now.rows }
+    ensures alike { AreAlikeAlong T.eq board.now.rows at way result }
+    ensures small { size.0 < 2 ^ 63 → size.1 < 2 ^ 63 → result < 2 ^ 63 }
+{
+    let Some(here) = board.get(at.0, at.1) else {
         return 0;
     };
     let mut count = 0;
-    for (_, cell) in ray(grid, at, way) {
+    for (_, cell) in ray_of(board.view(), size, at, way) {
         if *cell != *here {
             return count;
         }
@@ -66,30 +94,45 @@ pub fn alike_along<T: PartialEq, A: Allocator>(
 ///     [[1, 2, 1], [2, 1, 2], [1, 2, 2]]   has_run((0, 0), 3)   false
 ///
 /// Cost: one comparison for each cell that is equal, and eight; no memory.
-pub fn has_run<T: PartialEq, A: Allocator>(grid: &Grid<T, A>, at: (usize, usize), n: usize) -> bool
-    ensures { IsTrue result ↔ HasRun T.eq grid.now.rows at n }
+pub fn has_run<T: PartialEq, V: AsView<T>>(board: &V, at: (usize, usize), n: usize) -> bool
+    ensures { IsTrue result ↔ HasRun T.eq (V.rows board.now) at n }
 {
-    if n == 0 || !grid.contains(at) {
+    has_run_in(&board.as_view(), at, n)
+}
+
+// The same, of a view.
+fn has_run_in<T: PartialEq>(board: &GridView<'_, T>, at: (usize, usize), n: usize) -> bool
+    ensures { IsTrue result ↔ HasRun T.eq board.now.rows at n }
+{
+    if n == 0 || !contains(board, at) {
         return false;
     }
-    has_run_along(grid, at, Direction::Right, n)
-        || has_run_along(grid, at, Direction::DownRight, n)
-        || has_run_along(grid, at, Direction::Down, n)
-        || has_run_along(grid, at, Direction::DownLeft, n)
+    has_run_along(board, at, Direction::Right, n)
+        || has_run_along(board, at, Direction::DownRight, n)
+        || has_run_along(board, at, Direction::Down, n)
+        || has_run_along(board, at, Direction::DownLeft, n)
 }
 
 // Whether there are `n` in a row in a direction and the opposite one together.
-fn has_run_along<T: PartialEq, A: Allocator>(
-    grid: &Grid<T, A>,
+fn has_run_along<T: PartialEq>(
+    board: &GridView<'_, T>,
     at: (usize, usize),
     way: Direction,
     n: usize,
 ) -> bool
-    requires inside { InRange grid.now.rows at.0 at.1 }
+    requires inside { InRange board.now.rows at.0 at.1 }
     requires some { 0 < n }
-    ensures { IsTrue result ↔ HasRunAlong T.eq grid.now.rows at way n }
+    ensures { IsTrue result ↔ HasRunAlong T.eq board.now.rows at way n }
 {
-    let ahead = alike_along(grid, at, way);
-    let behind = alike_along(grid, at, way.opposite());
+    let ahead = alike_in(board, board.size(), at, way);
+    let behind = alike_in(board, board.size(), at, way.opposite());
     n <= ahead.saturating_add(behind).saturating_add(1)
+}
+
+// Whether a view has a cell at a position.
+pub(crate) fn contains<T>(board: &GridView<'_, T>, at: (usize, usize)) -> bool
+    ensures { IsTrue result ↔ InRange board.now.rows at.0 at.1 }
+{
+    let (rows, cols) = board.size();
+    at.0 < rows && at.1 < cols
 }

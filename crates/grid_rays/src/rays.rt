@@ -2,6 +2,7 @@
 ghost use Rattle.std.specs.Prelude.{◌≡◌, ◌<◌, ◌≤◌, ◌+◌, ◌^◌, ⊤, length, IfSome, Some};
 ghost use Rattle.std.specs.Iterator.{YieldsFirstBy, item_count, UpTo, at_most};
 ghost use Rattle.std.specs.Iterator.SizeHint.{IsWithinCount};
+ghost use Rattle.grid.specs.Prelude.{row_count, col_count};
 ghost use Rattle.grid_near.specs.Neighbors.{placed};
 ghost use Rattle.grid_rays.specs.Rays.{GivesRay, IsRay};
 
@@ -52,11 +53,28 @@ pub fn ray<T, A: Allocator>(grid: &Grid<T, A>, at: (usize, usize), way: Directio
     ensures ray { IsRay grid.now.rows way at result }
     ensures small { length result < 2 ^ 63 }
 {
+    ray_of(grid.view(), grid.size(), at, way)
+}
+
+// The same, of a view of this size.
+pub(crate) fn ray_of<T>(
+    view: GridView<'_, T>,
+    size: (usize, usize),
+    at: (usize, usize),
+    way: Direction,
+) -> RayIter<'_, T>
+    requires rows { size.0 ≡ row_count view.rows }
+    requires cols { size.1 ≡ col_count view.rows }
+    ensures gives { GivesRay view.entry.rows way at result }
+    ensures ray { IsRay view.entry.rows way at result }
+    ensures small { size.0 < 2 ^ 63 → size.1 < 2 ^ 63 → length result < 2 ^ 63 }
+    ensures below { length result < 2 ^ 64 }
+{
     RayIter {
-        view: grid.view(),
+        view,
         step: step_of(way),
         at,
-        left: steps_to_edge(grid.size(), at, way),
+        left: steps_to_edge(size, at, way),
     }
 }
 

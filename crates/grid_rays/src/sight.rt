@@ -3,8 +3,9 @@ ghost use Rattle.std.specs.Prelude.{◌≡◌, ◌↔◌, ℕ, IsTrue, IfOk, Som
 ghost use Rattle.grid.specs.Prelude.{CallableAtCells, SameSizeAndOrder, cell};
 ghost use Rattle.grid_rays.specs.Sight.{Sees, IsTest, TellsSeen, IsNearby, TellsInView};
 
+use crate::along::contains;
 use crate::straight::segment;
-use grid::Grid;
+use grid::{AsView, Grid, GridView};
 use std::alloc::{AllocError, Allocator};
 
 /// Returns whether one cell is seen from another: the closure returns true for each cell strictly between the two on
@@ -16,37 +17,37 @@ use std::alloc::{AllocError, Allocator};
 ///
 /// Requires: the closure can be called at a reference to each cell.
 /// Cost: at most one call for each cell between; no memory.
-pub fn sees<T, A: Allocator, F: Fn(&T) -> bool>(
-    grid: &Grid<T, A>,
+pub fn sees<T, V: AsView<T>, F: Fn(&T) -> bool>(
+    board: &V,
     from: (usize, usize),
     to: (usize, usize),
     is_clear: F,
 ) -> bool
-    requires { CallableAtCells F.pre is_clear grid.now.rows }
-    ensures tells { TellsSeen F.post is_clear grid.now.rows from to result }
+    requires { CallableAtCells F.pre is_clear (V.rows board.now) }
+    ensures tells { TellsSeen F.post is_clear (V.rows board.now) from to result }
     ensures seen { (p : _) → IsTest F.post is_clear p
-        → IsTrue result ↔ Sees p grid.now.rows from to }
+        → IsTrue result ↔ Sees p (V.rows board.now) from to }
     ensures back { (p : _) → IsTest F.post is_clear p
-        → IsTrue result ↔ Sees p grid.now.rows to from }
+        → IsTrue result ↔ Sees p (V.rows board.now) to from }
 {
-    clear_between(grid, from, to, &is_clear)
+    clear_between(&board.as_view(), from, to, &is_clear)
 }
 
 // Whether both positions are in range and the closure returns true for each cell strictly between.
-fn clear_between<T, A: Allocator, F: Fn(&T) -> bool>(
-    grid: &Grid<T, A>,
+fn clear_between<T, F: Fn(&T) -> bool>(
+    board: &GridView<'_, T>,
     from: (usize, usize),
     to: (usize, usize),
     is_clear: &F,
 ) -> bool
-    requires { CallableAtCells F.pre is_clear.now grid.now.rows }
-    ensures { TellsSeen F.post is_clear.now grid.now.rows from to result }
+    requires { CallableAtCells F.pre is_clear.now board.now.rows }
+    ensures { TellsSeen F.post is_clear.now board.now.rows from to result }
 {
-    if !grid.contains(from) || !grid.contains(to) {
+    if !contains(board, from) || !contains(board, to) {
         return false;
     }
     for at in segment(from, to) {
-        if at != from && at != to && !is_clear(grid.get_unchecked(at.0, at.1)) {
+        if at != from && at != to && !is_clear(board.get_unchecked(at.0, at.1)) {
             return false;
         }
     }
@@ -90,23 +91,24 @@ pub fn field_of_view<T, A: Allocator + Clone, F: Fn(&T) -> bool>(
         → IfOk result (λ view. (at : ℕ × ℕ) → (cell view.rows at.0 at.1 ≡ Some true)
         ↔ (IsNearby radius from at × Sees p grid.now.rows from at)) }
 {
+    let board = grid.view();
     grid.map_indexed(
         |at, _|
-            requires { CallableAtCells F.pre is_clear grid.now.rows }
-        { is_in_view(grid, from, radius, at, &is_clear) },
+            requires { CallableAtCells F.pre is_clear board.rows }
+        { is_in_view(&board, from, radius, at, &is_clear) },
     )
 }
 
 // Whether a position is near enough and seen.
-fn is_in_view<T, A: Allocator, F: Fn(&T) -> bool>(
-    grid: &Grid<T, A>,
+fn is_in_view<T, F: Fn(&T) -> bool>(
+    board: &GridView<'_, T>,
     from: (usize, usize),
     radius: Option<usize>,
     at: (usize, usize),
     is_clear: &F,
 ) -> bool
-    requires { CallableAtCells F.pre is_clear.now grid.now.rows }
-    ensures { TellsInView F.post is_clear.now grid.now.rows radius from at result }
+    requires { CallableAtCells F.pre is_clear.now board.now.rows }
+    ensures { TellsInView F.post is_clear.now board.now.rows radius from at result }
 {
-    is_nearby(radius, from, at) && clear_between(grid, from, at, is_clear)
+    is_nearby(radius, from, at) && clear_between(board, from, at, is_clear)
 }

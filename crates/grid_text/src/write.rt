@@ -14,6 +14,7 @@ use std::alloc::{AllocError, Global};
 ///
 /// Requires: `write` can be called at every cell.
 /// Fails: if allocation fails.
+/// Cost: one call for each cell; room for a byte a cell is made at once.
 pub fn to_text<T, V: AsView<T>, F: Fn(&T) -> char>(
     alloc: Global,
     board: &V,
@@ -26,8 +27,9 @@ pub fn to_text<T, V: AsView<T>, F: Fn(&T) -> char>(
         MayWriteRows (AnswersCell F.post write) (V.rows board.now) (string_bytes text)) }
 {
     let view = board.as_view();
-    let mut text = String::new(alloc);
-    for r in 0..view.rows() {
+    let (rows, cols) = view.size();
+    let mut text = String::with_capacity(alloc, rows.saturating_mul(cols.saturating_add(1)))?;
+    for r in 0..rows {
         push_row(&mut text, &view, r, &write)?;
         text.push('\n')?;
     }

@@ -7,6 +7,7 @@ use std::process::Abort;
 use std::test::Fail;
 use test_support::fixtures::Heap;
 use test_support::fuse::Fuse;
+use test_support::line_edits::push_row;
 
 // How often the board of the script is turned. At once that would take minutes, a million cells each time.
 const TURNS: usize = 90_000;
@@ -54,11 +55,7 @@ fn long_values_are_read(rt: HostRuntime) -> Result<(), Fail> {
 fn makes_room(heap: &Heap) -> Result<bool, Fail> {
     let mut grid = Grid::with_capacity(heap, 5, 80)?;
     for _ in 0..5 {
-        let line = Vec::from_elem(heap, 1u8, 80)?;
-        if line.is_empty() || !grid.fits_row(line.len()) {
-            return Ok(false);
-        }
-        grid.push_row(line)?;
+        push_row(&mut grid, Vec::from_elem(heap, 1u8, 80)?)?;
     }
     Ok(heap.granted() == 6)
 }

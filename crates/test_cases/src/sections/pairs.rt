@@ -5,7 +5,7 @@ use crate::sections::views::stamp;
 use crate::shown::{shown, shown_made, shown_ok, text};
 use grid::{Grid, GridView};
 use grid_pairs::{
-    IntoView, PartIter, find, fold_cols, fold_rows, tiles, update_with, windows, zip_with,
+    IntoView, PartIter, find, fold_cells, fold_cols, fold_rows, tiles, update_with, windows, zip_with,
 };
 use std::alloc::Global;
 
@@ -46,6 +46,8 @@ fn alone(alloc: Global, board: &Grid<i64>, ask: Ask<'_>) -> Result<String, CaseE
     match ask.call {
         "fold_rows" => shown_ok(alloc, fold_rows(alloc, board, 0i64, digits)),
         "fold_cols" => shown_ok(alloc, fold_cols(alloc, board, 0i64, digits)),
+        "fold_cells" => shown(alloc, fold_cells(board, 0i64, digits)),
+        "fold_cells_turned" => shown(alloc, fold_cells(&board.view().transposed(), 0i64, digits)),
         "row_slice" if rows < board.rows() => shown(alloc, board.view().row_slice(rows)),
         "into_view" => shown(alloc, board.into_view()),
         "inner_tiles" => inner_tiles(alloc, board),

@@ -5,12 +5,12 @@ use Rattle.grid_rays.proofs.along.has_run_along.Goals as goal
 
 pub returns : goal.returns
 returns g c =
-    let t = c.args.grid.now.rows in
+    let t = c.args.board.now.rows in
     let eq = g.T.PartialEq.eq in
     let back = c.opposite.result in
     let opposite = AreOpposite-beside c.args.way back c.opposite.ensures in
-    let ahead = c.alike_along-ahead.result in
-    let behind = c.alike_along-behind.result in (
-      λ e. run_there eq t c.args.at c.args.way back opposite ahead behind c.alike_along-ahead.ensures.alike c.alike_along-behind.ensures.alike c.args.n c.requires.inside c.requires.some (omega (arith, leb-true c.args.n c.saturating_add-2.result e)),
-      λ h. le-leb c.args.n c.saturating_add-2.result (omega (arith, run_fits eq t c.args.at c.args.way back opposite ahead behind c.alike_along-ahead.ensures.alike c.alike_along-behind.ensures.alike h.0 c.args.n h.1 h.2)),
+    let ahead = c.alike_in-ahead.result in
+    let behind = c.alike_in-behind.result in (
+      λ e. run_there eq t c.args.at c.args.way back opposite ahead behind c.alike_in-ahead.ensures.alike c.alike_in-behind.ensures.alike c.args.n c.requires.inside c.requires.some (omega (arith, leb-true c.args.n c.saturating_add-2.result e)),
+      λ h. le-leb c.args.n c.saturating_add-2.result (omega (arith, run_fits eq t c.args.at c.args.way back opposite ahead behind c.alike_in-ahead.ensures.alike c.alike_in-behind.ensures.alike h.0 c.args.n h.1 h.2)),
     )
