@@ -2,8 +2,6 @@
 ghost use Rattle.std.specs.Prelude.{◌≡◌, ◌+◌, ◌<◌, ◌≤◌, ◌%◌, ℕ, MatchOption};
 ghost use Rattle.grid_near.specs.Prelude.{box_of, clockwise, IsBeside, IsWithin};
 
-use crate::steps::is_there;
-
 /// A direction from a cell to one that touches it. The first row is up, and the first column left.
 #[derive(Clone, Copy, Debug, PartialEq, Eq)]
 pub enum Direction {
@@ -113,11 +111,11 @@ impl Direction {
             (λ to. IsBeside self at to × IsWithin size to) }
     {
         let (i, j) = self.in_box();
-        if is_there(size, at, i, j) {
-            Some((at.0 + i - 1, at.1 + j - 1))
-        } else {
-            None
-        }
+        let to = (
+            at.0.checked_add(i)?.checked_sub(1)?,
+            at.1.checked_add(j)?.checked_sub(1)?,
+        );
+        if to.0 < size.0 && to.1 < size.1 { Some(to) } else { None }
     }
 
     // The row and the column of the cell in this direction, of three rows and columns.

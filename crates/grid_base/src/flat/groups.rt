@@ -75,7 +75,24 @@ impl<T, A: Allocator> Flat<T, A> {
     /// Requires: the vector has the cells of these lines and groups.
     /// Fails: if the allocation for the groups, which comes first, fails; the cells are unchanged.
     /// Cost: that of [`weave`](super::weave).
+    #[inline(always)]
     pub fn take_out(&mut self, groups: Groups) -> Result<Vec<T, A>, AllocError>
+    where
+        A: Clone,
+        requires { length self.old ≡ groups.lines * (groups.width + groups.count) }
+        ensures taken { IfOk result (λ taken. TakenOut groups.lines groups.width groups.at groups.count
+            self.new taken.items self.old) }
+        ensures err { OnErr result (self.new ≡ self.old) }
+    {
+        // the group after the only line leaves the end of the vector
+        if groups.lines == 1 && groups.at == groups.width {
+            return self.cells.split_off(groups.width);
+        }
+        self.take_from_lines(groups)
+    }
+
+    // The same, by the fastest way for these lines and groups.
+    fn take_from_lines(&mut self, groups: Groups) -> Result<Vec<T, A>, AllocError>
     where
         A: Clone,
         requires { length self.old ≡ groups.lines * (groups.width + groups.count) }
@@ -237,7 +254,20 @@ fn method_for<T>(cells: &[T], groups: Groups) -> Method
 ///
 /// Requires: the slice has the cells of these lines and groups.
 /// Cost: time in the number of cells times log2(lines) + 1 at most, by rotations; no memory.
+#[inline(always)]
 pub fn weave<T>(cells: &mut [T], groups: Groups)
+    requires { length cells.old ≡ groups.lines * (groups.width + groups.count) }
+    ensures { Woven groups.lines groups.width groups.at groups.count cells.old cells.new }
+{
+    // A group after the only line is there, so a push at the end of the vector makes no call.
+    if groups.lines == 1 && groups.at == groups.width {
+        return;
+    }
+    weave_lines(cells, groups);
+}
+
+// The same, by the fastest way for these lines and groups.
+fn weave_lines<T>(cells: &mut [T], groups: Groups)
     requires { length cells.old ≡ groups.lines * (groups.width + groups.count) }
     ensures { Woven groups.lines groups.width groups.at groups.count cells.old cells.new }
 {
@@ -257,8 +287,8 @@ pub fn weave<T>(cells: &mut [T], groups: Groups)
                 half * groups.count,
             );
             let (front, back) = cells.split_at_mut(half * (groups.width + groups.count));
-            weave(front, groups.in_lines(half));
-            weave(back, groups.in_lines(rest));
+            weave_lines(front, groups.in_lines(half));
+            weave_lines(back, groups.in_lines(rest));
         }
     }
 }
