@@ -8,7 +8,7 @@ use Rattle.grid_text.proofs.write.to_text.Goals as goal
 
 pub loop-r-init : goal.loop-r-init
 loop-r-init g c = λ rest m.
-    let text : rest ≡ string_bytes c.in_ok-text.result ++ rest = ap (λ x. x ++ rest) (sym c.in_ok-text.ensures.bytes) in
+    let text : rest ≡ string_bytes c.in_ok-text.text ++ rest = ap (λ x. x ++ rest) (sym c.in_ok-text.ensures.bytes) in
     subst (MayWriteRows (AnswersCell (goal.F-post g) c.args.write) c.as_view-view.result.rows) text m
 
 pub loop-r-preserved : goal.loop-r-preserved
