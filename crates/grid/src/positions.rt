@@ -1,6 +1,6 @@
 //! Positions as pairs: whether there is a cell, access, a step to the side, and the positions of cells that pass a test.
-ghost use Rattle.std.specs.Prelude.{◌≡◌, ◌↔◌, IsTrue, IfOk, IfSome, MatchOption, is_some, Some, option_copied};
-ghost use Rattle.grid.specs.Prelude.{cell, with_cell, InRange, SameSizeAndOrder, sem, CallableAtCells, FoundFirst, FoundAll, IsBeside, IsOffset, GivesIndices};
+ghost use Rattle.std.specs.Prelude.{◌≡◌, ◌↔◌, ◌<◌, IsTrue, IfOk, IfSome, IsSome, MatchOption, is_some, Some, option_copied};
+ghost use Rattle.grid.specs.Prelude.{row_count, col_count, cell, nearest_below, with_cell, InRange, SameSizeAndOrder, sem, CallableAtCells, FoundFirst, FoundAll, IsBeside, IsOffset, GivesIndices};
 ghost use Rattle.std.specs.List.{All};
 
 use crate::Grid;
@@ -29,6 +29,22 @@ impl<T, A: Allocator> Grid<T, A> {
         ensures in_range { IfSome result (λ _. InRange self.now.rows at.0 at.1) }
     {
         self.get(at.0, at.1)
+    }
+
+    /// Returns the cell at a signed position, or, where a number is out of range, at the nearest one in range: 0 in place of
+    /// a negative one, the last in place of one that is too large. It is `None` exactly where there are no cells.
+    ///
+    ///     [[1, 2], [3, 4]]   get_clamped((0, 1))    Some(2)
+    ///     [[1, 2], [3, 4]]   get_clamped((-1, 5))   Some(2)
+    ///
+    /// Cost: constant.
+    pub fn get_clamped(&self, at: (isize, isize)) -> Option<&T>
+        ensures cell { option_copied result ≡ cell self.now.rows
+            (nearest_below at.0 (row_count self.now.rows))
+            (nearest_below at.1 (col_count self.now.rows)) }
+        ensures some { IsSome result ↔ (0 < row_count self.now.rows) }
+    {
+        self.view().get_clamped(at)
     }
 
     /// Same as [`get_mut`](Grid::get_mut), at a position.

@@ -1,6 +1,6 @@
 //! The cells round a cell: chains and loops over them, and counts, with no proof file.
-ghost use Rattle.std.specs.Prelude.{◌≡◌, ◌<◌, ◌≤◌, ◌+◌, ◌==◌, ◌&&◌, ◌||◌, IsTrue, IfOk, All, Any, count_by, fold, map, min, option_map};
-ghost use Rattle.grid.specs.Prelude.{row_count, col_count, cell, tabulate, neighbors4, neighbors8, wrapped_neighbors4, wrapped_neighbors8};
+ghost use Rattle.std.specs.Prelude.{◌≡◌, ◌<◌, ◌≤◌, ◌+◌, ◌==◌, ◌&&◌, ◌||◌, IsTrue, IfOk, All, Any, Some, count_by, fold, map, min, option_map};
+ghost use Rattle.grid.specs.Prelude.{row_count, col_count, cell, tabulate, nearest_below, neighbors4, neighbors8, wrapped_neighbors4, wrapped_neighbors8};
 
 use grid::{Direction, Grid};
 use std::alloc::{AllocError, Global};
@@ -126,6 +126,28 @@ pub fn mean_of_nine(grid: &Grid<u8>) -> Result<Grid<u8>, AllocError> {
             requires { sum ≤ 2040 }
         { ((u16::from(*cell) + sum) / 9) as u8 },
     )
+}
+
+/// Returns how far apart the cells to the left and to the right of each cell are. At an edge the cell itself stands for the
+/// one that is missing.
+///
+///     [[1, 4, 9]]   contrasts()   [[3, 8, 5]]
+pub fn contrasts(grid: &Grid<u8>) -> Result<Grid<u8>, AllocError> {
+    grid.map_indexed(|(row, col), cell| {
+        let (row, col) = (row as isize, col as isize);
+        let left = grid.get_clamped((row, col - 1)).unwrap_or(cell);
+        let right = grid.get_clamped((row, col + 1)).unwrap_or(cell);
+        left.abs_diff(*right)
+    })
+}
+
+/// Returns the cell nearest to a signed position, of a board that has cells.
+pub fn nearest_cell(grid: &Grid<u8>, at: (isize, isize)) -> u8
+    requires { 0 < row_count grid.now.rows }
+    ensures { cell grid.now.rows (nearest_below at.0 (row_count grid.now.rows))
+        (nearest_below at.1 (col_count grid.now.rows)) ≡ Some result }
+{
+    *grid.get_clamped(at).unwrap()
 }
 
 // The cell itself.

@@ -1,5 +1,6 @@
 pub mod View
 pub mod Value
+pub mod Nearest
 pub mod Lines
 pub mod Cells
 pub mod Same

@@ -1,6 +1,6 @@
 //! One direction of a view: how many lines there are, how far apart they are, and whether they come from the last.
 ghost use Rattle.std.specs.Prelude.{◌≡◌, ℕ, ◌+◌, ◌-◌, ◌*◌, ◌^◌, ◌<◌, ◌≤◌, IsTrue};
-ghost use Rattle.grid_view.specs.Prelude.{counted, offset, turned, cut, first_of, crossed};
+ghost use Rattle.grid_view.specs.Prelude.{counted, offset, turned, cut, first_of, crossed, nearest_below};
 ghost use Rattle.grid_view.specs.View.{IsStepped};
 
 // The lines of a view in one direction.
@@ -22,6 +22,18 @@ impl ViewAxis {
             self.count - 1 - k
         } else {
             k
+        }
+    }
+
+    // Returns the number of the line that is nearest to a signed number, or 0 where there are no lines.
+    pub(crate) fn nearest(self, at: isize) -> usize
+        ensures nearest { result ≡ nearest_below at self.count }
+        ensures within { 0 < self.count → result < self.count }
+    {
+        if at < 0 {
+            0
+        } else {
+            (at as usize).min(self.count.saturating_sub(1))
         }
     }
 

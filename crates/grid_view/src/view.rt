@@ -1,7 +1,8 @@
 //! A part of a table that a slice stores, seen through a symmetry.
-ghost use Rattle.std.specs.Prelude.{◌≡◌, ◌≢◌, ◌+◌, ◌-◌, ◌*◌, ◌<◌, ◌≤◌, IsTrue, ⊤, ◌↔◌, ◌⊎◌, ◌==◌, if◌then◌else◌, IfSome, MatchOption, Some, [], length, option_copied};
+ghost use Rattle.std.specs.Prelude.{◌≡◌, ◌≢◌, ◌+◌, ◌-◌, ◌*◌, ◌<◌, ◌≤◌, IsTrue, ⊤, ◌↔◌, ◌⊎◌, ◌==◌, if◌then◌else◌, IfSome, IsSome, MatchOption, Some, [], length, option_copied};
 ghost use Rattle.grid_base.specs.Prelude.{row_count, col_count, cell, concat_rows, transposed, InRange, table_of, HoldsSize, HasImageSize, CanCut, act, storage};
 ghost use Rattle.grid_view.specs.View.{offset, sub_table, HoldsView};
+ghost use Rattle.grid_view.specs.Nearest.{nearest_below};
 
 use crate::axis::{ViewAxis, crossed};
 use grid_base::{Order, Symmetry};
@@ -177,6 +178,26 @@ impl<'a, T> GridView<'a, T> {
     {
         let at = place(self.rows, self.cols, self.cells.len(), row, col);
         &self.cells[at]
+    }
+
+    /// Returns the cell at a signed position, or, where a number is out of range, at the nearest one in range: 0 in place of
+    /// a negative one, the last in place of one that is too large. It is `None` exactly where there are no cells.
+    ///
+    ///     [[1, 2], [3, 4]]   get_clamped((0, 1))    Some(2)
+    ///     [[1, 2], [3, 4]]   get_clamped((-1, 5))   Some(2)
+    ///
+    /// Cost: constant.
+    pub fn get_clamped(&self, at: (isize, isize)) -> Option<&'a T>
+        ensures cell { option_copied result ≡ cell self.now.rows
+            (nearest_below at.0 (row_count self.now.rows))
+            (nearest_below at.1 (col_count self.now.rows)) }
+        ensures some { IsSome result ↔ (0 < row_count self.now.rows) }
+    {
+        if self.is_empty() {
+            return None;
+        }
+        let nearest = (self.rows.nearest(at.0), self.cols.nearest(at.1));
+        Some(self.get_unchecked(nearest.0, nearest.1))
     }
 
     /// Returns the cells row by row as one slice, or `None` where they don't lie so in the storage.

@@ -89,6 +89,7 @@ fn of_part(alloc: Global, board: &Grid<i64>, ask: Ask<'_>) -> Result<String, Cas
     let view = board.part(at, size).turned(ask.symmetry(4));
     match ask.call {
         "get_part" => shown(alloc, view.get_part(ask.position(5), ask.position(7))),
+        "get_clamped" => shown(alloc, view.get_clamped((ask.signed(5), ask.signed(6)))),
         "get_row" => line_of(alloc, view.get_row(ask.number(5))),
         "get_col" => line_of(alloc, view.get_col(ask.number(5))),
         "position" | "positions" => found(alloc, &view, ask),
