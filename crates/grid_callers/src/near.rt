@@ -134,9 +134,10 @@ pub fn mean_of_nine(grid: &Grid<u8>) -> Result<Grid<u8>, AllocError> {
 ///     [[1, 4, 9]]   contrasts()   [[3, 8, 5]]
 pub fn contrasts(grid: &Grid<u8>) -> Result<Grid<u8>, AllocError> {
     grid.map_indexed(|(row, col), cell| {
-        let (row, col) = (row as isize, col as isize);
-        let left = grid.get_clamped((row, col - 1)).unwrap_or(cell);
-        let right = grid.get_clamped((row, col + 1)).unwrap_or(cell);
+        let (row, col) = (row.cast_signed(), col.cast_signed());
+        let (before, after) = (col.saturating_sub(1), col.saturating_add(1));
+        let left = grid.get_clamped((row, before)).unwrap_or(cell);
+        let right = grid.get_clamped((row, after)).unwrap_or(cell);
         left.abs_diff(*right)
     })
 }
