@@ -1,6 +1,7 @@
 -- The search for the least costs: what holds after each step, and what that says at the end.
-use Rattle.std.proofs.Common.{◌≡◌, ℕ, zero, suc, ◌+◌, ◌-◌, ◌*◌, ◌^◌, ◌<◌, ◌≤◌, ◌⊎◌, Option, None, Some, List, [], ◌∷◌, length, set, get_or, refl, sym, ◌∙◌, ap, subst, arith, inl, inr, ⊎_elim, IsPermutation, sum_by, heap_items}
-use Rattle.grid_paths.proofs.Common.{IsUpperBound, sum_by-set, IsPermutation-sym, slice_get_within, get_or_from_slice_get, row, row_count, col_count, cell, with_cell, tabulate, IsTable, cell-with_same, cell-with_other, same_or_other, HaveOneSize, free, unreached, IsStep, Holds, CostWalk, IsLeastCost, HasLeastCosts, Entry, by_sum, IsWaiting, HoldsUpTo, IsClosed, Relaxes, Comes, IsCostSearch, GridValue, entry, Enters, IsReady, IsNext, IsOver, IsSearching}
+use Rattle.std.proofs.Common.{◌≡◌, ℕ, zero, suc, ◌+◌, ◌-◌, ◌*◌, ◌^◌, ◌<◌, ◌≤◌, ◌⊎◌, Option, None, Some, List, [], ◌∷◌, length, set, get_or, refl, sym, ◌∙◌, ap, subst, arith, inl, inr, ⊎_elim, IsPermutation, sum_by}
+use Rattle.grid_paths.proofs.Common.{sum_by-set, IsPermutation-sym, slice_get_within, get_or_from_slice_get, row, row_count, col_count, cell, with_cell, tabulate, IsTable, cell-with_same, cell-with_other, same_or_other, HaveOneSize, free, unreached, IsStep, Holds, CostWalk, IsLeastCost, HasLeastCosts, Entry, IsFirst, IsWaiting, HoldsUpTo, IsClosed, Relaxes, Comes, IsCostSearch, GridValue, entry, Enters, IsReady, IsNext, IsOver, IsSearching, IsFrontier, Puts, Reading, HasRoom, numbers, sums_of, waiting}
+use Rattle.std.specs.declared.cmp.Ordering.{Ordering}
 use Rattle.grid_base.proofs.Common.{InRange}
 use Rattle.grid_near.specs.declared.steps.Steps.{Steps}
 use Rattle.grid_paths.proofs.QueueLemmas.{unreached_cells}
@@ -8,7 +9,8 @@ use Rattle.grid_paths.proofs.SearchLemmas.{one_mark}
 use Rattle.grid_paths.proofs.StepLemmas.{none_marked}
 use Rattle.grid_paths.specs.declared.costs.Frontier.{Frontier}
 use Rattle.grid_paths.specs.declared.costs.Settled.{Settled}
-use Rattle.grid_paths.proofs.RelaxLemmas.{left_inside}
+use Rattle.grid_paths.proofs.RelaxLemmas.{left_inside, same_size, Puts-whole}
+use Rattle.grid_paths.proofs.WidthLemmas.{numbers-inside, numbers-table}
 use Rattle.grid_paths.proofs.HeapLemmas as heaps
 
 -- a position has a number, or none
@@ -87,14 +89,14 @@ module _ (kind : Steps) (costs : List (List (Option ℕ))) (from : ℕ × ℕ) (
       }
 
   -- its position is left, and has this number
-  module _ (least : IsUpperBound by_sum x rest) (k : ℕ) (is_left : Holds left x.0.1 k) where
+  module _ (least : IsFirst x rest) (k : ℕ) (is_left : Holds left x.0.1 k) where
     pub its_number : Holds u x.0.1 x.0.0
     its_number =
         let v = s.numbered x.0.0 x.0.1 first in
         let low : v.0 ≤ x.0.0 = v.2 in
         let w = s.waits x.0.1 k v.0 is_left v.1 in
         ⊎_elim (λ e. let is : x.0.0 ≡ v.0 = e.0 in subst (λ n. Holds u x.0.1 n) (sym is) v.1)
-        (λ w. let up : x.0.0 ≤ v.0 = heaps.least_first x rest least v.0 x.0.1 w in
+        (λ w. let up : x.0.0 ≤ v.0 = least v.0 x.0.1 w in
         let is : v.0 ≡ x.0.0 = omega arith in
         subst (λ n. Holds u x.0.1 n) is v.1)
         (heaps.added x rest heap back v.0 x.0.1 w)
@@ -203,7 +205,7 @@ module _ (kind : Steps) (costs : List (List (Option ℕ))) (from : ℕ × ℕ) (
       unfolding left'
       ordered' a m n b h c w =
           let up : m ≤ x.0.0 = most a m (same a m h c) c in
-          ⊎_elim (λ y. let low : x.0.0 ≤ n = heaps.least_first x rest least n b y in omega arith)
+          ⊎_elim (λ y. let low : x.0.0 ≤ n = least n b y in omega arith)
           (λ f. let low : x.0.0 ≤ n = f.1 in omega arith)
           (r.added n b w)
 
@@ -262,10 +264,10 @@ module _ (costs left : List (List (Option ℕ))) (table : IsTable left) (size : 
   few_left = let le = unreached_cells left table in let is = same_cells in omega arith
 
 -- the position that comes first from the heap, if it is left, has the least number
-module _ (kind : Steps) (costs : List (List (Option ℕ))) (from : ℕ × ℕ) (u left : List (List (Option ℕ))) (heap : List Entry) (s : IsCostSearch kind costs from u left heap) (x : Entry) (rest : List Entry) (taken : IsPermutation heap (x ∷ rest)) (least : IsUpperBound by_sum x rest) where
+module _ (kind : Steps) (costs : List (List (Option ℕ))) (from : ℕ × ℕ) (u left : List (List (Option ℕ))) (heap : List Entry) (s : IsCostSearch kind costs from u left heap) (x : Entry) (rest : List Entry) (taken : IsPermutation heap (x ∷ rest)) (least : IsFirst x rest) where
   no_less : (n : ℕ) (a : ℕ × ℕ) → IsWaiting heap n a → x.0.0 ≤ n
   no_less n a w =
-      ⊎_elim (λ e. let is : x.0.0 ≡ n = e.0 in omega arith) (λ w. heaps.least_first x rest least n a w)
+      ⊎_elim (λ e. let is : x.0.0 ≡ n = e.0 in omega arith) (λ w. least n a w)
       (heaps.added x rest heap (IsPermutation-sym heap (x ∷ rest) taken) n a w)
 
   -- a walk costs no less than x, or its end has a number already
@@ -389,8 +391,8 @@ module _ (kind : Steps) (costs : List (List (Option ℕ))) (from : ℕ × ℕ) (
         let o = only a m h in
         (0, (sym o.0, o.1, (k, subst (λ y. Holds costs y k) (sym o.0) cost)))
 
-    waiting : (n : ℕ) (a : ℕ × ℕ) → IsWaiting heap n a → HoldsUpTo t a n
-    waiting n a w =
+    known_there : (n : ℕ) (a : ℕ × ℕ) → IsWaiting heap n a → HoldsUpTo t a n
+    known_there n a w =
         ⊎_elim (λ e. (0, subst (λ y. Holds t y 0) (sym is_at ∙ e.1) there, omega arith))
         (λ y. absurd (let lt : y.1.0 < 0 = y.1.1 in omega arith))
         (heaps.added x [] heap pushed n a w)
@@ -403,7 +405,7 @@ module _ (kind : Steps) (costs : List (List (Option ℕ))) (from : ℕ × ℕ) (
           sound = walk;
           comes = λ a m h. inl (only a m h);
           waits = λ a j m l h. begins a m h;
-          numbered = waiting;
+          numbered = known_there;
           ordered = λ a m n b h c w. let o = (only a m h).1 in omega arith;
           relaxed = λ a m b j h c. absurd (c k (subst (λ y. Holds costs y k) (sym (only a m h).0) cost));
           start = λ j h. (0, there, omega arith);
@@ -414,23 +416,55 @@ module _ (kind : Steps) (costs : List (List (Option ℕ))) (from : ℕ × ℕ) (
     unfolding t
     IsCostSearch-begun u' e = subst (λ y. IsCostSearch kind costs from y costs heap) (sym e) begun_at
 
+-- the search begins
+module _ {N A : Type 0} {cmp : N → N → Ordering} {w : Reading N} (kind : Steps) (costs : GridValue (Option ℕ)) (from : ℕ × ℕ) (f : Frontier N A) (whole : IsFrontier cmp w f) (room : HasRoom w costs.rows) (is_left : f.left ≡ costs) (order : f.sums.order ≡ costs.order) (empty : (a : ℕ × ℕ) (m : ℕ) → Holds (sums_of w f) a m → ⊥) (nothing : waiting w f ≡ []) where
+  size : HaveOneSize f.left.rows costs.rows
+  size = record { rows = ap (λ l. row_count l.rows) is_left; cols = ap (λ l. col_count l.rows) is_left }
+
+  pub IsSearching-closed : IsClosed costs.rows from → IsSearching cmp w kind costs from f
+  IsSearching-closed closed =
+      record {
+        order = order;
+        left = size;
+        room = room;
+        whole = whole;
+        search = subst (λ h. IsCostSearch kind costs.rows from (sums_of w f) f.left.rows h) (sym nothing)
+            (subst (λ l. IsCostSearch kind costs.rows from (sums_of w f) l.rows []) (sym is_left)
+            (IsCostSearch-closed kind costs.rows from (sums_of w f) empty closed));
+      }
+
+  pub IsSearching-begun : (g : Frontier N A) (k : ℕ) → Holds costs.rows from k → Puts cmp w from 0 f g → IsSearching cmp w kind costs from g
+  IsSearching-begun g k cost p =
+      let here : Holds f.left.rows from k = subst (λ l. Holds l.rows from k) (sym is_left) cost in
+      let inside = same_size f.left.rows f.sums.rows f.left.table whole.size.rows whole.size.cols from k here in
+      let left = p.left ∙ is_left in
+      record {
+        order = p.same.order ∙ order;
+        left = record { rows = ap (λ l. row_count l.rows) left; cols = ap (λ l. col_count l.rows) left };
+        room = room;
+        whole = Puts-whole whole p;
+        search = subst (λ l. IsCostSearch kind costs.rows from (sums_of w g) l.rows (waiting w g)) (sym left)
+            (IsCostSearch-begun kind costs.rows from (sums_of w f) empty (numbers-table w f.sums.rows f.sums.table) (numbers-inside w f.sums.rows from inside) k cost
+            (record { 0 = (0, from) }) (waiting w g) refl refl (waiting w f) nothing p.waits (sums_of w g) p.sums);
+      }
+
 -- the position x is settled
-module _ {A : Type 0} {kind : Steps} {costs : GridValue (Option ℕ)} {from : ℕ × ℕ} {f f' : Frontier A} (s : IsSearching kind costs from f) {x : Settled} (n : IsNext f f' x) where
-  found : IsCostSearch kind costs.rows from f.sums.rows f.left.rows n.heap
+module _ {N A : Type 0} {cmp : N → N → Ordering} {w : Reading N} {kind : Steps} {costs : GridValue (Option ℕ)} {from : ℕ × ℕ} {f f' : Frontier N A} (s : IsSearching cmp w kind costs from f) {x : Settled} (n : IsNext cmp w f f' x) where
+  found : IsCostSearch kind costs.rows from (sums_of w f) f.left.rows n.heap
   found = n.enough kind costs.rows from s.search
 
-  pub IsNext-number : Holds f.sums.rows x.at x.sum
+  pub IsNext-number : Holds (sums_of w f) x.at x.sum
   IsNext-number =
-      its_number kind costs.rows from f.sums.rows f.left.rows n.heap found (entry x) (heap_items f'.heap) n.taken n.first x.cost n.is_left
+      its_number kind costs.rows from (sums_of w f) f.left.rows n.heap found (entry x) (waiting w f') n.taken n.first x.cost n.is_left
 
-  pub IsNext-comes : Holds costs.rows x.at x.cost × Comes kind costs.rows from f.sums.rows f.left.rows x.at x.sum
+  pub IsNext-comes : Holds costs.rows x.at x.cost × Comes kind costs.rows from (sums_of w f) f.left.rows x.at x.sum
   IsNext-comes = (found.among x.at x.cost n.is_left, found.comes x.at x.sum IsNext-number)
 
   pub IsNext-least : IsLeastCost kind costs.rows from x.at x.sum
   IsNext-least =
-      IsLeastCost-first kind costs.rows from f.sums.rows f.left.rows n.heap found (entry x) (heap_items f'.heap) n.taken n.first x.cost n.is_left
+      IsLeastCost-first kind costs.rows from (sums_of w f) f.left.rows n.heap found (entry x) (waiting w f') n.taken n.first x.cost n.is_left
 
-  pub IsNext-ready : IsReady f' x
+  pub IsNext-ready : IsReady cmp w f' x
   IsNext-ready =
       let i = left_inside f.left.rows f.left.table x.at x.cost n.is_left in
       let lr = i.0 in
@@ -442,23 +476,24 @@ module _ {A : Type 0} {kind : Steps} {costs : GridValue (Option ℕ)} {from : �
       let bound = found.bound x.at x.sum IsNext-number in
       let cells = few_left costs.rows f.left.rows f.left.table s.left in
       let few = costs.fits.cells in
-      record { inside = (lr1, lc1); small = omega arith; whole = n.whole }
+      let room = s.room.sums in
+      record { inside = (lr1, lc1); small = omega arith; below = omega arith; whole = n.whole }
 
   -- and the positions round it are entered
-  module _ {g : Frontier A} (e : Enters (IsStep kind x.at) x.sum f' g) where
+  module _ {g : Frontier N A} (e : Enters cmp w (IsStep kind x.at) x.sum f' g) where
     left_is : g.left.rows ≡ with_cell f.left.rows x.at.0 x.at.1 None
     left_is = ap (λ l. l.rows) e.left ∙ n.left
 
-    relaxes : Relaxes (IsStep kind x.at) (with_cell f.left.rows x.at.0 x.at.1 None) x.sum f.sums.rows (heap_items f'.heap) g.sums.rows (heap_items g.heap)
+    relaxes : Relaxes (IsStep kind x.at) (with_cell f.left.rows x.at.0 x.at.1 None) x.sum (sums_of w f) (waiting w f') (sums_of w g) (waiting w g)
     relaxes =
-        subst (λ l. Relaxes (IsStep kind x.at) l x.sum f.sums.rows (heap_items f'.heap) g.sums.rows (heap_items g.heap)) n.left
-        (subst (λ u. Relaxes (IsStep kind x.at) f'.left.rows x.sum u.rows (heap_items f'.heap) g.sums.rows (heap_items g.heap)) n.sums e.relaxes)
+        subst (λ l. Relaxes (IsStep kind x.at) l x.sum (sums_of w f) (waiting w f') (sums_of w g) (waiting w g)) n.left
+        (subst (λ u. Relaxes (IsStep kind x.at) f'.left.rows x.sum (numbers w u.rows) (waiting w f') (sums_of w g) (waiting w g)) n.sums e.relaxes)
 
-    round : IsCostSearch kind costs.rows from g.sums.rows (with_cell f.left.rows x.at.0 x.at.1 None) (heap_items g.heap)
+    round : IsCostSearch kind costs.rows from (sums_of w g) (with_cell f.left.rows x.at.0 x.at.1 None) (waiting w g)
     round =
-        IsCostSearch-round kind costs.rows from f.sums.rows f.left.rows n.heap found (entry x) (heap_items f'.heap) n.taken n.first x.cost n.is_left f.left.table g.sums.rows (heap_items g.heap) relaxes
+        IsCostSearch-round kind costs.rows from (sums_of w f) f.left.rows n.heap found (entry x) (waiting w f') n.taken n.first x.cost n.is_left f.left.table (sums_of w g) (waiting w g) relaxes
 
-    pub IsSearching-next : IsSearching kind costs from g
+    pub IsSearching-next : IsSearching cmp w kind costs from g
     IsSearching-next =
         record {
           order = e.order ∙ (ap (λ u. u.order) n.sums ∙ s.order);
@@ -466,8 +501,9 @@ module _ {A : Type 0} {kind : Steps} {costs : GridValue (Option ℕ)} {from : �
             rows = ap (λ l. row_count l.rows) e.left ∙ (n.size.rows ∙ s.left.rows);
             cols = ap (λ l. col_count l.rows) e.left ∙ (n.size.cols ∙ s.left.cols);
           };
+          room = s.room;
           whole = e.whole;
-          search = subst (λ l. IsCostSearch kind costs.rows from g.sums.rows l (heap_items g.heap)) (sym left_is) round;
+          search = subst (λ l. IsCostSearch kind costs.rows from (sums_of w g) l (waiting w g)) (sym left_is) round;
         }
 
     pub IsSearching-smaller : row_count costs.rows * col_count costs.rows - unreached g.left.rows < row_count costs.rows * col_count costs.rows - unreached f.left.rows
@@ -478,9 +514,9 @@ module _ {A : Type 0} {kind : Steps} {costs : GridValue (Option ℕ)} {from : �
         omega arith
 
     -- a settled number was settled before, or is that of x
-    pub settled_before : (a : ℕ × ℕ) (m : ℕ) → Holds g.sums.rows a m → IsClosed g.left.rows a → ((a ≡ x.at) × (m ≡ x.sum)) ⊎ (Holds f.sums.rows a m × IsClosed f.left.rows a)
+    pub settled_before : (a : ℕ × ℕ) (m : ℕ) → Holds (sums_of w g) a m → IsClosed g.left.rows a → ((a ≡ x.at) × (m ≡ x.sum)) ⊎ (Holds (sums_of w f) a m × IsClosed f.left.rows a)
     settled_before a m h c =
-        settled_was kind costs.rows from f.sums.rows f.left.rows n.heap found (entry x) (heap_items f'.heap) n.taken n.first x.cost n.is_left f.left.table g.sums.rows (heap_items g.heap) relaxes a m h
+        settled_was kind costs.rows from (sums_of w f) f.left.rows n.heap found (entry x) (waiting w f') n.taken n.first x.cost n.is_left f.left.table (sums_of w g) (waiting w g) relaxes a m h
         (subst (λ l. IsClosed l a) left_is c)
 
     -- what is left was left, and x is not
@@ -491,11 +527,11 @@ module _ {A : Type 0} {kind : Steps} {costs : GridValue (Option ℕ)} {from : �
     settled_there = subst (λ l. IsClosed l x.at) (sym left_is) (closed_there f.left.rows f.left.table x.at x.cost n.is_left)
 
 -- at the end
-module _ {A : Type 0} {kind : Steps} {costs : GridValue (Option ℕ)} {from : ℕ × ℕ} {f f' : Frontier A} (s : IsSearching kind costs from f) (over : IsOver f f') where
-  pub IsOver-least : HasLeastCosts kind costs.rows from f'.sums.rows
+module _ {N A : Type 0} {cmp : N → N → Ordering} {w : Reading N} {kind : Steps} {costs : GridValue (Option ℕ)} {from : ℕ × ℕ} {f f' : Frontier N A} (s : IsSearching cmp w kind costs from f) (over : IsOver w f f') where
+  pub IsOver-least : HasLeastCosts kind costs.rows from (sums_of w f')
   IsOver-least =
-      subst (λ u. HasLeastCosts kind costs.rows from u.rows) (sym over.sums)
-      (HasLeastCosts-end kind costs.rows from f.sums.rows f.left.rows (over.enough kind costs.rows from s.search))
+      subst (λ u. HasLeastCosts kind costs.rows from (numbers w u.rows)) (sym over.sums)
+      (HasLeastCosts-end kind costs.rows from (sums_of w f) f.left.rows (over.enough kind costs.rows from s.search))
 
-  pub IsOver-no_way : (b : ℕ × ℕ) → ((m : ℕ) → Holds f.sums.rows b m → IsClosed f.left.rows b → ⊥) → (n sum : ℕ) → CostWalk kind costs.rows from b n sum → ⊥
-  IsOver-no_way = no_way kind costs.rows from f.sums.rows f.left.rows (over.enough kind costs.rows from s.search)
+  pub IsOver-no_way : (b : ℕ × ℕ) → ((m : ℕ) → Holds (sums_of w f) b m → IsClosed f.left.rows b → ⊥) → (n sum : ℕ) → CostWalk kind costs.rows from b n sum → ⊥
+  IsOver-no_way = no_way kind costs.rows from (sums_of w f) f.left.rows (over.enough kind costs.rows from s.search)

@@ -13,11 +13,11 @@ unfoldable pub use Rattle.grid_near.specs.Neighbors.{neighbors4, neighbors8}
 pub use Rattle.grid_near.specs.Neighbors.{around4, around8, before, cell_at}
 pub use Rattle.grid_paths.specs.Cheapest.{IsLeastCost, cost_at}
 pub use Rattle.grid_paths.specs.Flood.{IsEntered, IsGoneOn, EnterWalk}
-pub use Rattle.grid_paths.specs.Frontier.{entry, IsEnough}
+pub use Rattle.grid_paths.specs.Frontier.{entry, IsEnough, by_sum, entry_of}
 pub use Rattle.grid_paths.specs.Numbers.{AreEqual, AreParts}
-pub use Rattle.grid_paths.specs.Prelude.{IsStep, IsOpen, IsMarked, alike, AreSteps, InRange, unreached, way_of, HaveOneSize, Holds, Walk, undone, places, Enters, IsSearching, IsWritten, HasLeastFrom, CostWalk, answers_by, IsFlood, Reaches, IsPath, HasLeastUpTo, CanUndo, IsTrail, HasLeastCosts, AreRegions, AreNumbers, IsNumbered, IsScanned, IsShortestPath, IsSettled, IsFilled, HasLeastSteps, IsCheapestPath, IsPassed, IsReady, IsNext, IsOver, IsAnswer, AreAnswers, HoldsOfAnswers, IsFrontier, Marks, IsCostPath, IsCounting, Takes}
+pub use Rattle.grid_paths.specs.Prelude.{IsStep, IsOpen, IsMarked, alike, AreSteps, InRange, unreached, way_of, HaveOneSize, Holds, Walk, undone, places, Enters, IsSearching, IsWritten, HasLeastFrom, CostWalk, answers_by, IsFlood, Reaches, IsPath, HasLeastUpTo, CanUndo, IsTrail, HasLeastCosts, AreRegions, AreNumbers, IsNumbered, IsScanned, IsShortestPath, IsSettled, IsFilled, HasLeastSteps, IsCheapestPath, IsPassed, IsReady, IsNext, IsOver, Puts, Pops, IsEmptied, sums_of, waiting, Reading, narrow, wide, numbers, HasRoom, IsAnswer, AreAnswers, HoldsOfAnswers, IsFrontier, Marks, IsCostPath, IsCounting, Takes}
 pub use Rattle.grid_paths.specs.Regions.{AreJoined, ComesBefore}
-pub use Rattle.grid_paths.specs.Relaxing.{Entry, IsClosed, IsCostSearch, by_sum, IsWaiting, HoldsUpTo, Relaxes, Comes}
+pub use Rattle.grid_paths.specs.Relaxing.{Entry, IsClosed, IsCostSearch, IsFirst, IsWaiting, HoldsUpTo, Relaxes, Comes}
 pub use Rattle.grid_paths.specs.Search.{IsAt, Spread, WentRound, free, IsReached}
 pub use Rattle.grid_paths.specs.Taken.{TakesAll, count_left, IsLeft, AreMarked, flag}
 pub use Rattle.grid_paths.specs.Trail.{IsTrailOf}

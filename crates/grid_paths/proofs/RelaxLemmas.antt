@@ -1,6 +1,7 @@
 -- One position entered, and the positions round one.
-use Rattle.std.proofs.Common.{◌≡◌, ℕ, ◌+◌, ◌^◌, ◌<◌, ◌≤◌, ◌⊎◌, ◌↔◌, Option, None, Some, List, ◌∷◌, length, Contains, refl, sym, ◌∙◌, subst, arith, inl, inr, ⊎_elim, IsPermutation, heap_items}
-use Rattle.grid_paths.proofs.Common.{cases_lt, row_count, col_count, cell, with_cell, IsTable, cell-with_same, cell-with_other, same_or_other, AreSteps, IsAt, IsStep, Holds, Entry, IsWaiting, HoldsUpTo, IsClosed, Relaxes, IsFrontier, Enters, cell_in_range}
+use Rattle.std.proofs.Common.{◌≡◌, ℕ, ◌+◌, ◌^◌, ◌<◌, ◌≤◌, ◌⊎◌, ◌↔◌, Option, None, Some, List, ◌∷◌, length, Contains, refl, sym, ◌∙◌, ap, subst, arith, inl, inr, ⊎_elim, IsPermutation}
+use Rattle.grid_paths.proofs.Common.{cases_lt, row_count, col_count, cell, with_cell, IsTable, cell-with_same, cell-with_other, same_or_other, AreSteps, IsAt, IsStep, Holds, Entry, IsWaiting, HoldsUpTo, IsClosed, Relaxes, IsFrontier, Enters, cell_in_range, Reading, Puts, sums_of, waiting}
+use Rattle.std.specs.declared.cmp.Ordering.{Ordering}
 use Rattle.grid_base.proofs.Common.{InRange}
 use Rattle.grid_near.specs.declared.steps.Steps.{Steps}
 use Rattle.grid_paths.proofs.AroundLemmas.{Before, before_either, before_all}
@@ -8,12 +9,13 @@ use Rattle.grid_paths.proofs.SearchLemmas.{one_mark}
 use Rattle.grid_paths.specs.Relaxing.{IsEntered}
 use Rattle.grid_paths.specs.declared.costs.Frontier.{Frontier}
 use Rattle.grid_paths.proofs.HeapLemmas as heaps
+use Rattle.grid_paths.proofs.WidthLemmas.{numbers-inside, numbers-table}
 
 pub left_inside : (t : List (List (Option ℕ))) → IsTable t → (a : ℕ × ℕ) (k : ℕ) → Holds t a k → InRange t a.0 a.1
 left_inside t table a k h = cell_in_range t table a.0 a.1 (Some k) h
 
 -- a position of one table is in range of another of its size
-pub same_size : (t u : List (List (Option ℕ))) → IsTable t → row_count u ≡ row_count t → col_count u ≡ col_count t → (a : ℕ × ℕ) (k : ℕ) → Holds t a k → InRange u a.0 a.1
+pub same_size : {X : Type 0} (t : List (List (Option ℕ))) (u : List (List X)) → IsTable t → row_count u ≡ row_count t → col_count u ≡ col_count t → (a : ℕ × ℕ) (k : ℕ) → Holds t a k → InRange u a.0 a.1
 same_size t u table rows cols a k h =
     let i = left_inside t table a k h in
     let lr = i.0 in
@@ -149,20 +151,32 @@ Relaxes-as left sum near wide same u h u' h' r =
       around = λ b k w x. r.around b k ((same b k x).1 w) x;
     }
 
-module _ {A : Type 0} {sum : ℕ} {f : Frontier A} where
+-- a number is put: the tables keep their size, and the heap its order
+pub Puts-whole : {N A : Type 0} {cmp : N → N → Ordering} {w : Reading N} {b : ℕ × ℕ} {m : ℕ} {f g : Frontier N A} → IsFrontier cmp w f → Puts cmp w b m f g → IsFrontier cmp w g
+Puts-whole whole p =
+    let rows = ap (λ l. row_count l.rows) p.left in
+    let cols = ap (λ l. col_count l.rows) p.left in
+    record {
+      size = record { rows = p.same.rows ∙ (whole.size.rows ∙ sym rows); cols = p.same.cols ∙ (whole.size.cols ∙ sym cols) };
+      rows = omega (arith, rows, whole.rows);
+      cols = omega (arith, cols, whole.cols);
+      heap_order = p.heap_order whole.heap_order;
+    }
+
+module _ {N A : Type 0} {cmp : N → N → Ordering} {w : Reading N} {sum : ℕ} {f : Frontier N A} where
   -- the same of what the code keeps
-  Enters-as : (near wide : ℕ × ℕ → Type 0) → ((b : ℕ × ℕ) (k : ℕ) → Holds f.left.rows b k → near b ↔ wide b) → (g : Frontier A) → Enters near sum f g → Enters wide sum f g
+  Enters-as : (near wide : ℕ × ℕ → Type 0) → ((b : ℕ × ℕ) (k : ℕ) → Holds f.left.rows b k → near b ↔ wide b) → (g : Frontier N A) → Enters cmp w near sum f g → Enters cmp w wide sum f g
   Enters-as near wide same g e =
       record {
         left = e.left;
         order = e.order;
         whole = e.whole;
-        relaxes = Relaxes-as f.left.rows sum near wide same f.sums.rows (heap_items f.heap) g.sums.rows (heap_items g.heap) e.relaxes;
+        relaxes = Relaxes-as f.left.rows sum near wide same (sums_of w f) (waiting w f) (sums_of w g) (waiting w g) e.relaxes;
       }
 
-  module _ (near : ℕ × ℕ → Type 0) (whole : IsFrontier f) where
+  module _ (near : ℕ × ℕ → Type 0) (whole : IsFrontier cmp w f) where
     -- no position is entered
-    pub Enters-none : ((b : ℕ × ℕ) (k : ℕ) → near b → Holds f.left.rows b k → HoldsUpTo f.sums.rows b (sum + k)) → Enters near sum f f
+    pub Enters-none : ((b : ℕ × ℕ) (k : ℕ) → near b → Holds f.left.rows b k → HoldsUpTo (sums_of w f) b (sum + k)) → Enters cmp w near sum f f
     Enters-none around =
         record {
           left = refl;
@@ -172,24 +186,36 @@ module _ {A : Type 0} {sum : ℕ} {f : Frontier A} where
         }
 
   -- the position b isn't left
-  pub Enters-closed : (b : ℕ × ℕ) → IsFrontier f → IsClosed f.left.rows b → Enters (λ a. b ≡ a) sum f f
+  pub Enters-closed : (b : ℕ × ℕ) → IsFrontier cmp w f → IsClosed f.left.rows b → Enters cmp w (λ a. b ≡ a) sum f f
   Enters-closed b whole none =
       Enters-none (λ a. b ≡ a) whole (λ a k e h. absurd (none k (subst (λ x. Holds f.left.rows x k) (sym e) h)))
 
   -- its number is low enough
-  pub Enters-low : (b : ℕ × ℕ) (k : ℕ) → IsFrontier f → Holds f.left.rows b k → HoldsUpTo f.sums.rows b (sum + k) → Enters (λ a. b ≡ a) sum f f
+  pub Enters-low : (b : ℕ × ℕ) (k : ℕ) → IsFrontier cmp w f → Holds f.left.rows b k → HoldsUpTo (sums_of w f) b (sum + k) → Enters cmp w (λ a. b ≡ a) sum f f
   Enters-low b k whole cost low =
       Enters-none (λ a. b ≡ a) whole
       (λ a j e h.
       let is : k ≡ j = one_mark f.left.rows b k j cost (subst (λ x. Holds f.left.rows x j) (sym e) h) in
-      subst (λ n. HoldsUpTo f.sums.rows a (sum + n)) is (subst (λ x. HoldsUpTo f.sums.rows x (sum + k)) e low))
+      subst (λ n. HoldsUpTo (sums_of w f) a (sum + n)) is (subst (λ x. HoldsUpTo (sums_of w f) x (sum + k)) e low))
+
+  -- it gets a lower one
+  pub Enters-put : (b : ℕ × ℕ) (k : ℕ) (g : Frontier N A) → IsFrontier cmp w f → Holds f.left.rows b k → k < 2 ^ 32 → ((m : ℕ) → Holds (sums_of w f) b m → sum + k < m) → Puts cmp w b (sum + k) f g → Enters cmp w (λ a. b ≡ a) sum f g
+  Enters-put b k g whole cost small less p =
+      let inside = same_size f.left.rows f.sums.rows f.left.table whole.size.rows whole.size.cols b k cost in
+      record {
+        left = p.left;
+        order = p.same.order;
+        whole = Puts-whole whole p;
+        relaxes = Relaxes-wrote f.left.rows (sums_of w f) b sum (waiting w f) k cost (numbers-table w f.sums.rows f.sums.table) small (numbers-inside w f.sums.rows b inside) less
+            (record { 0 = (sum + k, b) }) (waiting w g) refl refl p.waits (sums_of w g) p.sums;
+      }
 
   -- the positions of a list, one after another
-  pub Enters-start : (xs : List (ℕ × ℕ)) → IsFrontier f → Enters (Before xs 0) sum f f
+  pub Enters-start : (xs : List (ℕ × ℕ)) → IsFrontier cmp w f → Enters cmp w (Before xs 0) sum f f
   Enters-start xs whole = Enters-none (Before xs 0) whole (λ b k is_near h. absurd (omega (arith, is_near.early)))
 
-  module _ {xs : List (ℕ × ℕ)} {i : ℕ} {g : Frontier A} (e : Enters (Before xs i) sum f g) where
-    pub Enters-next : {b : ℕ × ℕ} {h : Frontier A} → IsAt xs i b → Enters (λ a. b ≡ a) sum g h → Enters (Before xs (i + 1)) sum f h
+  module _ {xs : List (ℕ × ℕ)} {i : ℕ} {g : Frontier N A} (e : Enters cmp w (Before xs i) sum f g) where
+    pub Enters-next : {b : ℕ × ℕ} {h : Frontier N A} → IsAt xs i b → Enters cmp w (λ a. b ≡ a) sum g h → Enters cmp w (Before xs (i + 1)) sum f h
     Enters-next {b = b} {h = h} place s =
         Enters-as (λ a. Before xs i a ⊎ (b ≡ a)) (Before xs (i + 1))
         (λ a k is_left. before_either xs i b place a)
@@ -198,15 +224,15 @@ module _ {A : Type 0} {sum : ℕ} {f : Frontier A} where
           left = s.left ∙ e.left;
           order = s.order ∙ e.order;
           whole = s.whole;
-          relaxes = Relaxes-join f.left.rows sum (Before xs i) (λ a. b ≡ a) f.sums.rows (heap_items f.heap) g.sums.rows (heap_items g.heap) h.sums.rows (heap_items h.heap) e.relaxes
-              (subst (λ l. Relaxes (λ a. b ≡ a) l.rows sum g.sums.rows (heap_items g.heap) h.sums.rows (heap_items h.heap)) e.left s.relaxes);
+          relaxes = Relaxes-join f.left.rows sum (Before xs i) (λ a. b ≡ a) (sums_of w f) (waiting w f) (sums_of w g) (waiting w g) (sums_of w h) (waiting w h) e.relaxes
+              (subst (λ l. Relaxes (λ a. b ≡ a) l.rows sum (sums_of w g) (waiting w g) (sums_of w h) (waiting w h)) e.left s.relaxes);
         })
 
-    pub Enters-end : length xs ≤ i → Enters (λ b. Contains xs b) sum f g
+    pub Enters-end : length xs ≤ i → Enters cmp w (λ b. Contains xs b) sum f g
     Enters-end all = Enters-as (Before xs i) (λ b. Contains xs b) (λ b k h. before_all xs i all b) g e
 
   -- positions in range are such as a grid can have
-  pub Enters-steps : (kind : Steps) (at : ℕ × ℕ) (xs : List (ℕ × ℕ)) → AreSteps kind at xs → (g : Frontier A) → Enters (λ b. Contains xs b) sum f g → Enters (IsStep kind at) sum f g
+  pub Enters-steps : (kind : Steps) (at : ℕ × ℕ) (xs : List (ℕ × ℕ)) → AreSteps kind at xs → (g : Frontier N A) → Enters cmp w (λ b. Contains xs b) sum f g → Enters cmp w (IsStep kind at) sum f g
   Enters-steps kind at xs steps g e =
       Enters-as (λ b. Contains xs b) (IsStep kind at)
       (λ b k x.

@@ -8,6 +8,7 @@ pub mod Taken
 pub mod Around
 pub mod Cheapest
 pub mod Relaxing
+pub mod Width
 pub mod Frontier
 pub mod Trail
 pub mod Wave

@@ -5,7 +5,7 @@ pub use Rattle.grid_paths.specs.Around.{AreSteps}
 pub use Rattle.grid_paths.specs.Cheapest.{CostWalk, IsCheapestPath, IsCostPath, Holds, HasLeastCosts}
 pub use Rattle.grid_paths.specs.Closures.{answers_by, IsAnswer, AreAnswers, HoldsOfAnswers}
 pub use Rattle.grid_paths.specs.Flood.{IsFlood, way_of}
-pub use Rattle.grid_paths.specs.Frontier.{IsFrontier, Enters, IsReady, IsNext, IsOver, IsSearching}
+pub use Rattle.grid_paths.specs.Frontier.{sums_of, waiting, Puts, Pops, IsEmptied, IsFrontier, Enters, IsReady, IsNext, IsOver, IsSearching}
 pub use Rattle.grid_paths.specs.Numbers.{IsNumbered, IsScanned}
 pub use Rattle.grid_paths.specs.Regions.{AreRegions, AreNumbers}
 pub use Rattle.grid_paths.specs.Search.{HaveOneSize, IsMarked, unreached, HasLeastUpTo, IsSettled}
@@ -13,4 +13,5 @@ pub use Rattle.grid_paths.specs.Taken.{places, undone, IsWritten, CanUndo, IsPas
 pub use Rattle.grid_paths.specs.Trail.{IsTrail}
 pub use Rattle.grid_paths.specs.Walks.{IsStep, IsOpen, IsPath, Walk, IsShortestPath, IsFilled, alike, HasLeastSteps, HasLeastFrom}
 pub use Rattle.grid_paths.specs.Wave.{IsCounting, Numbers, floor_of, Reaches, IsBlank, Marks}
+pub use Rattle.grid_paths.specs.Width.{Reading, narrow, wide, numbers, HasRoom, limit_of, side_of}
 pub use Rattle.std.specs.Cmp.{IsEquivalence}

@@ -1,26 +1,22 @@
 -- What one step of the search for the least costs does. No public clause cites this module.
 use Rattle.std.specs.Prelude.{◌≡◌, ℕ, ◌+◌, ◌*◌, ◌^◌, ◌<◌, ◌≤◌, ◌⊎◌, Option, List, Contains}
-use Rattle.std.specs.declared.cmp.Ordering.{Ordering}
 use Rattle.std.specs.declared.cmp.Reverse.{Reverse}
-use Rattle.std.specs.Ordering.{nat_cmp, ordering_then}
 use Rattle.grid_near.specs.declared.steps.Steps.{Steps}
 use Rattle.grid_paths.specs.Search.{unreached}
 use Rattle.grid_paths.specs.Walks.{IsStep}
 use Rattle.grid_paths.specs.Cheapest.{Holds, CostWalk}
 
--- an item of the heap: a sum and a position
+-- what waits in the heap: a sum and a position
 abbrev pub Entry : Type 0
 Entry = Reverse (ℕ × (ℕ × ℕ))
-
--- the order of the items: of the least sum first
-abbrev pub by_sum : Entry → Entry → Ordering
-by_sum x y =
-    ordering_then (nat_cmp y.0.0 x.0.0)
-    (ordering_then (nat_cmp y.0.1.0 x.0.1.0) (nat_cmp y.0.1.1 x.0.1.1))
 
 -- the position a waits in the heap with the sum s
 abbrev pub IsWaiting : List Entry → ℕ → ℕ × ℕ → Type 0
 IsWaiting heap s a = (w : Entry) × Contains heap w × (w.0.0 ≡ s) × (w.0.1 ≡ a)
+
+-- no position waits with a lesser sum than x
+abbrev pub IsFirst : Entry → List Entry → Type 0
+IsFirst x heap = (s : ℕ) (a : ℕ × ℕ) → IsWaiting heap s a → x.0.0 ≤ s
 
 -- the number at a is at most m
 abbrev pub HoldsUpTo : List (List (Option ℕ)) → ℕ × ℕ → ℕ → Type 0

@@ -1,7 +1,8 @@
 //! Grids of the size and the order of another: of what a closure returns at its cells, and of nothing yet.
-ghost use Rattle.std.specs.Prelude.{◌≡◌, IfOk, None, Some};
-ghost use Rattle.grid_paths.specs.Prelude.{row_count, col_count, tabulate, answers_by, IsAnswer, AreAnswers, HaveOneSize};
+ghost use Rattle.std.specs.Prelude.{◌≡◌, ℕ, IfOk, None, Some};
+ghost use Rattle.grid_paths.specs.Prelude.{row_count, col_count, tabulate, answers_by, IsAnswer, AreAnswers, HaveOneSize, Holds, numbers};
 
+use super::width::Width;
 use grid::Grid;
 use std::alloc::{AllocError, Allocator};
 
@@ -30,4 +31,28 @@ pub(crate) fn no_numbers<T, N, A: Allocator + Clone>(
         ≡ tabulate (row_count grid.now.rows) (col_count grid.now.rows) (λ _ _. Some None)) }
 {
     grid.map_indexed(|_, _| None)
+}
+
+// No sum at each cell.
+pub(crate) fn no_sums<T, N: Width, A: Allocator + Clone>(
+    grid: &Grid<T, A>,
+) -> Result<Grid<N, A>, AllocError>
+    ensures order { IfOk result (λ made. made.order ≡ grid.now.order) }
+    ensures size { IfOk result (λ made. HaveOneSize made.rows grid.now.rows) }
+    ensures none { IfOk result (λ made. (a : ℕ × ℕ) (k : ℕ)
+        → Holds (numbers N.reads made.rows) a k → ⊥) }
+{
+    let none = N::of_none();
+    grid.map_indexed(|_, _| none)
+}
+
+// The sums that numbers stand for.
+pub(crate) fn all_sums<N: Width, A: Allocator + Clone>(
+    sums: &Grid<N, A>,
+) -> Result<Grid<Option<u128>, A>, AllocError>
+    ensures order { IfOk result (λ made. made.order ≡ sums.now.order) }
+    ensures size { IfOk result (λ made. HaveOneSize made.rows sums.now.rows) }
+    ensures cells { IfOk result (λ made. made.rows ≡ numbers N.reads sums.now.rows) }
+{
+    sums.map_indexed(|_, number| number.sum())
 }

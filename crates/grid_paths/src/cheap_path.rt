@@ -1,10 +1,11 @@
 //! A cheapest path between two cells.
 ghost use Rattle.std.specs.Prelude.{◌≡◌, ◌+◌, ◌-◌, ◌↔◌, ℕ, IfOk, IfSome, IsTrue, MatchOption, Some, length, slice_get};
 ghost use Rattle.std.specs.List.{All};
-ghost use Rattle.grid_paths.specs.Prelude.{InRange, HoldsOfAnswers, IsStep, CostWalk, IsCheapestPath, IsCostPath, IsTrail};
+ghost use Rattle.grid_paths.specs.Prelude.{InRange, HoldsOfAnswers, IsStep, CostWalk, IsCheapestPath, IsCostPath, IsTrail, HasRoom};
 
 use super::answers::answers_of;
-use super::costs::{Settled, begun};
+use super::costs::{Frontier, Settled, begun, is_small};
+use super::width::Width;
 use grid::Grid;
 use grid_near::Steps;
 use std::alloc::{AllocError, Allocator};
@@ -57,7 +58,32 @@ fn follow<A: Allocator + Clone>(
     Ok(path)
 }
 
-// A cheapest path over positions with a cost, and its sum. The search stops once it settles the end.
+// A cheapest path over positions with a cost, and its sum, by numbers of one width. The search stops once it settles the
+// end.
+fn path_by<N: Width, A: Allocator + Clone>(
+    kind: Steps,
+    costs: Grid<Option<u32>, A>,
+    from: (usize, usize),
+    to: (usize, usize),
+) -> Result<Option<(Vec<(usize, usize), A>, u128)>, AllocError>
+    requires { HasRoom N.reads costs.rows }
+    ensures { IfOk result (λ found. MatchOption found
+        ((n sum : ℕ) → CostWalk kind costs.rows from to n sum → ⊥)
+        (λ path. IsCheapestPath kind costs.rows from to path.0.items path.1)) }
+{
+    let mut trail: Vec<Settled, A> = Vec::new(costs.allocator().clone()?);
+    let mut search: Frontier<N, A> = begun(costs, from)?;
+    while let Some(here) = search.next() {
+        trail.push(here)?;
+        if here.at == to {
+            return Ok(Some((follow(kind, &trail, here)?, here.sum)));
+        }
+        search.relax_around(kind, here)?;
+    }
+    Ok(None)
+}
+
+// A cheapest path over positions with a cost, and its sum.
 fn path_over<A: Allocator + Clone>(
     kind: Steps,
     costs: Grid<Option<u32>, A>,
@@ -68,16 +94,11 @@ fn path_over<A: Allocator + Clone>(
         ((n sum : ℕ) → CostWalk kind costs.rows from to n sum → ⊥)
         (λ path. IsCheapestPath kind costs.rows from to path.0.items path.1)) }
 {
-    let mut trail: Vec<Settled, A> = Vec::new(costs.allocator().clone()?);
-    let mut search = begun(costs, from)?;
-    while let Some(here) = search.next() {
-        trail.push(here)?;
-        if here.at == to {
-            return Ok(Some((follow(kind, &trail, here)?, here.sum)));
-        }
-        search.relax_around(kind, here)?;
+    if is_small(&costs) {
+        path_by::<u64, A>(kind, costs, from, to)
+    } else {
+        path_by::<u128, A>(kind, costs, from, to)
     }
-    Ok(None)
 }
 
 /// Returns a cheapest path from one position to another, and the sum of its costs: of the cells that it enters, as

@@ -1,9 +1,10 @@
 //! The least sum of costs to each cell, by Dijkstra's search.
 ghost use Rattle.std.specs.Prelude.{◌≡◌, ◌<◌, ◌≤◌, ◌+◌, ◌^◌, ◌↔◌, ℕ, Contains, IfOk, IsTrue, MatchOption, OnOk, Some};
-ghost use Rattle.grid_paths.specs.Prelude.{InRange, HoldsOfAnswers, IsStep, HaveOneSize, Holds, HasLeastCosts, IsFrontier, Enters, IsReady, IsNext, IsOver, IsSearching};
+ghost use Rattle.grid_paths.specs.Prelude.{InRange, cell, HoldsOfAnswers, IsStep, HaveOneSize, Holds, HasLeastCosts, sums_of, Puts, Pops, IsEmptied, IsFrontier, Enters, IsReady, IsNext, IsOver, IsSearching, HasRoom, narrow, limit_of, side_of};
 
-use super::answers::{answers_of, no_numbers};
+use super::answers::{all_sums, answers_of, no_sums};
 use super::around::around;
+use super::width::Width;
 use grid::Grid;
 use grid_near::Steps;
 use std::alloc::{AllocError, Allocator};
@@ -12,6 +13,9 @@ use std::collections::BinaryHeap;
 
 // For how many waiting positions there is room from the start.
 const MANY: usize = 1024;
+
+// A board of fewer cells than this is searched with numbers of 64 bits.
+const FEW: usize = 4294967295;
 
 // A position whose number is settled, what it costs to enter it, and its number.
 #[derive(Clone, Copy)]
@@ -23,17 +27,18 @@ pub(crate) struct Settled {
 
 // How far the search has come.
 #[derive(Drop)]
-pub(crate) struct Frontier<A: Allocator> {
+pub(crate) struct Frontier<N: Width, A: Allocator> {
     // The costs of the positions whose number isn't settled yet.
     left: Grid<Option<u32>, A>,
     // The least sums that were found.
-    sums: Grid<Option<u128>, A>,
-    // The positions that wait, each with a sum.
-    heap: BinaryHeap<Reverse<(u128, (usize, usize))>, A>,
+    sums: Grid<N, A>,
+    // The positions that wait, each behind its sum.
+    heap: BinaryHeap<Reverse<(N, N)>, A>,
 }
 
-impl<A: Allocator> Frontier<A> {
+impl<N: Width, A: Allocator> Frontier<N, A> {
     // What it costs to enter a position, if it is left.
+    #[inline(always)]
     fn cost_of(&self, at: (usize, usize)) -> Option<u32>
         ensures { (k : ℕ) → (result ≡ Some k) ↔ Holds self.now.left.rows at k }
     {
@@ -43,14 +48,54 @@ impl<A: Allocator> Frontier<A> {
         }
     }
 
+    // The number at a position.
+    #[inline(always)]
+    fn number_at(&self, at: (usize, usize)) -> Option<u128>
+        requires { InRange self.now.sums.rows at.0 at.1 }
+        ensures { cell (sums_of N.reads self.now) at.0 at.1 ≡ Some result }
+    {
+        self.sums[at].sum()
+    }
+
     // Whether a sum is less than the number at a position, or there is none.
+    #[inline(always)]
     fn is_less(&self, at: (usize, usize), sum: u128) -> bool
         requires { InRange self.now.sums.rows at.0 at.1 }
-        ensures { IsTrue result ↔ ((m : ℕ) → Holds self.now.sums.rows at m → sum < m) }
+        ensures { IsTrue result ↔ ((m : ℕ) → Holds (sums_of N.reads self.now) at m → sum < m) }
     {
-        match self.sums[at] {
+        match self.number_at(at) {
             Some(old) => sum < old,
             None => true,
+        }
+    }
+
+    // Gives a position a number, with which it waits.
+    #[inline(always)]
+    fn put(&mut self, at: (usize, usize), sum: u128) -> Result<(), AllocError>
+        requires inside { InRange self.old.sums.rows at.0 at.1 }
+        requires row { at.0 < side_of N.reads }
+        requires col { at.1 < side_of N.reads }
+        requires small { sum < limit_of N.reads }
+        ensures { OnOk result (Puts N.cmp N.reads at sum self.old self.new) }
+    {
+        let number = N::of_sum(sum);
+        self.sums.set(at.0, at.1, number);
+        self.heap.push(Reverse((number, N::of_position(at))))?;
+        Ok(())
+    }
+
+    // Takes out what comes first of those that wait, a sum and a position.
+    #[inline(always)]
+    fn pop(&mut self) -> Option<(u128, (usize, usize))>
+        ensures { MatchOption result (IsEmptied N.reads self.old self.new)
+            (λ first. Pops N.cmp N.reads first self.old self.new) }
+    {
+        match self.heap.pop() {
+            Some(first) => {
+                let Reverse((number, place)) = first;
+                Some((number.value(), place.position()))
+            }
+            None => None,
         }
     }
 
@@ -59,14 +104,14 @@ impl<A: Allocator> Frontier<A> {
     #[inline(always)]
     fn relax(&mut self, at: (usize, usize), sum: u128) -> Result<(), AllocError>
         requires small { sum + 2 ^ 32 ≤ 2 ^ 128 }
-        requires whole { IsFrontier self.old }
-        ensures { OnOk result (Enters (λ b. at ≡ b) sum self.old self.new) }
+        requires below { sum + 2 ^ 32 ≤ limit_of N.reads }
+        requires whole { IsFrontier N.cmp N.reads self.old }
+        ensures { OnOk result (Enters N.cmp N.reads (λ b. at ≡ b) sum self.old self.new) }
     {
         if let Some(cost) = self.cost_of(at) {
             let next = sum + cost as u128;
             if self.is_less(at, next) {
-                self.sums.set(at.0, at.1, Some(next));
-                self.heap.push(Reverse((next, at)))?;
+                self.put(at, next)?;
             }
         }
         Ok(())
@@ -75,8 +120,9 @@ impl<A: Allocator> Frontier<A> {
     // Enters each of these positions, as far as it is left.
     fn relax_each(&mut self, at: &[(usize, usize)], sum: u128) -> Result<(), AllocError>
         requires small { sum + 2 ^ 32 ≤ 2 ^ 128 }
-        requires whole { IsFrontier self.old }
-        ensures { OnOk result (Enters (λ b. Contains at.now b) sum self.old self.new) }
+        requires below { sum + 2 ^ 32 ≤ limit_of N.reads }
+        requires whole { IsFrontier N.cmp N.reads self.old }
+        ensures { OnOk result (Enters N.cmp N.reads (λ b. Contains at.now b) sum self.old self.new) }
     {
         for near in at {
             self.relax(*near, sum)?;
@@ -86,8 +132,8 @@ impl<A: Allocator> Frontier<A> {
 
     // Enters the positions that a step from a settled one leads to.
     pub(crate) fn relax_around(&mut self, kind: Steps, from: Settled) -> Result<(), AllocError>
-        requires { IsReady self.old from }
-        ensures { OnOk result (Enters (IsStep kind from.at) from.sum self.old self.new) }
+        requires { IsReady N.cmp N.reads self.old from }
+        ensures { OnOk result (Enters N.cmp N.reads (IsStep kind from.at) from.sum self.old self.new) }
     {
         let near = around(from.at.0, from.at.1);
         match kind {
@@ -99,12 +145,12 @@ impl<A: Allocator> Frontier<A> {
     // Settles the position that comes first of those that wait and are left. A position may wait several times; it is
     // settled when it comes first, with the least number of all that wait.
     pub(crate) fn next(&mut self) -> Option<Settled>
-        requires { IsFrontier self.old }
-        ensures { MatchOption result (IsOver self.old self.new)
-            (λ here. IsNext self.old self.new here) }
+        requires { IsFrontier N.cmp N.reads self.old }
+        ensures { MatchOption result (IsOver N.reads self.old self.new)
+            (λ here. IsNext N.cmp N.reads self.old self.new here) }
     {
-        while let Some(first) = self.heap.pop() {
-            let Reverse((sum, at)) = first;
+        while let Some(first) = self.pop() {
+            let (sum, at) = first;
             if let Some(cost) = self.cost_of(at) {
                 self.left.set(at.0, at.1, None);
                 return Some(Settled { at, cost, sum });
@@ -115,14 +161,16 @@ impl<A: Allocator> Frontier<A> {
 }
 
 // The search at the start: the first position has the number 0, and waits, if it can be entered.
-pub(crate) fn begun<A: Allocator + Clone>(
+pub(crate) fn begun<N: Width, A: Allocator + Clone>(
     costs: Grid<Option<u32>, A>,
     from: (usize, usize),
-) -> Result<Frontier<A>, AllocError>
+) -> Result<Frontier<N, A>, AllocError>
+    requires { HasRoom N.reads costs.rows }
     ensures left { IfOk result (λ search. search.left ≡ costs) }
-    ensures search { IfOk result (λ search. (kind : Steps) → IsSearching kind costs from search) }
+    ensures search { IfOk result (λ search.
+        (kind : Steps) → IsSearching N.cmp N.reads kind costs from search) }
 {
-    let sums = no_numbers(&costs)?;
+    let sums = no_sums(&costs)?;
     let cells = costs.flatten().len();
     let heap = BinaryHeap::with_capacity(costs.allocator().clone()?, cells.min(MANY))?;
     let mut search = Frontier {
@@ -131,10 +179,34 @@ pub(crate) fn begun<A: Allocator + Clone>(
         heap,
     };
     if let Some(_) = search.cost_of(from) {
-        search.sums.set(from.0, from.1, Some(0));
-        search.heap.push(Reverse((0, from)))?;
+        search.put(from, 0)?;
     }
     Ok(search)
+}
+
+// Whether numbers of 64 bits suffice for a board: no sum of the costs of its cells exceeds them.
+pub(crate) fn is_small<A: Allocator>(costs: &Grid<Option<u32>, A>) -> bool
+    ensures { IsTrue result → HasRoom narrow costs.now.rows }
+{
+    costs.flatten().len() < FEW
+}
+
+// The least sum of costs to each position, by numbers of one width.
+fn search_by<N: Width, A: Allocator + Clone>(
+    kind: Steps,
+    costs: Grid<Option<u32>, A>,
+    from: (usize, usize),
+) -> Result<Grid<Option<u128>, A>, AllocError>
+    requires { HasRoom N.reads costs.rows }
+    ensures order { IfOk result (λ sums. sums.order ≡ costs.order) }
+    ensures size { IfOk result (λ sums. HaveOneSize sums.rows costs.rows) }
+    ensures least { IfOk result (λ sums. HasLeastCosts kind costs.rows from sums.rows) }
+{
+    let mut search: Frontier<N, A> = begun(costs, from)?;
+    while let Some(here) = search.next() {
+        search.relax_around(kind, here)?;
+    }
+    all_sums(&search.sums)
 }
 
 // The least sum of costs to each position.
@@ -147,11 +219,11 @@ fn search<A: Allocator + Clone>(
     ensures size { IfOk result (λ sums. HaveOneSize sums.rows costs.rows) }
     ensures least { IfOk result (λ sums. HasLeastCosts kind costs.rows from sums.rows) }
 {
-    let mut search = begun(costs, from)?;
-    while let Some(here) = search.next() {
-        search.relax_around(kind, here)?;
+    if is_small(&costs) {
+        search_by::<u64, A>(kind, costs, from)
+    } else {
+        search_by::<u128, A>(kind, costs, from)
     }
-    Ok(search.sums)
 }
 
 /// Returns, for each cell, the least sum of costs of a path from a position. `cost` says what it costs to enter a cell,
@@ -163,8 +235,9 @@ fn search<A: Allocator + Clone>(
 ///
 /// Requires: the closure can be called at every cell.
 /// Fails: if allocation fails.
-/// Cost: one call for each cell; a number of steps for each cell that grows as the logarithm of the number of cells; three
-/// allocations, and those of the heap where more than 1,024 positions wait, each at most once for each step to it.
+/// Cost: one call for each cell; a number of steps for each cell that grows as the logarithm of the number of cells; four
+/// allocations, and those of the heap where more than 1,024 positions wait, each at most once for each step to it. The
+/// search takes 16 bytes for each cell, and 16 for each position that waits; from 2^32 - 1 cells on 24, and 32.
 pub fn cheapest<T, A: Allocator + Clone, F: Fn(&T) -> Option<u32>>(
     grid: &Grid<T, A>,
     from: (usize, usize),

@@ -20,6 +20,7 @@ mod region;
 mod search;
 mod taken;
 mod wave;
+mod width;
 
 pub use cheap_path::cheapest_path;
 pub use costs::cheapest;

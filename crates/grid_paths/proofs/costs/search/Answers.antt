@@ -1,17 +1,13 @@
-use Rattle.grid_paths.proofs.Lemmas.{IsNext-ready, IsSearching-next, IsSearching-smaller, IsOver-least}
+use Rattle.std.proofs.Common.{refl, arith}
 use Rattle.grid_paths.proofs.costs.search.Goals as goal
 
-pub loop-here-init : goal.loop-here-init
-loop-here-init g c = c.in_ok-search.ensures.search c.args.kind
+pub search_by-requires : goal.search_by-requires
+search_by-requires g c = c.if-is_small.ensures refl
 
-pub relax_around-requires : goal.relax_around-requires
-relax_around-requires g c = IsNext-ready c.loop-here.invariant c.in-Some.ensures
-
-pub loop-here-smaller : goal.loop-here-smaller
-loop-here-smaller g c = IsSearching-smaller c.loop-here.invariant c.in-Some.ensures c.in_ok-relax_around.ensures
-
-pub loop-here-preserved : goal.loop-here-preserved
-loop-here-preserved g c = IsSearching-next c.loop-here.invariant c.in-Some.ensures c.in_ok-relax_around.ensures
-
-pub returns-clause-least : goal.returns-clause-least
-returns-clause-least g c = IsOver-least c.loop-here.invariant c.in_default.ensures
+pub search_by-requires-else-is_small : goal.search_by-requires-else-is_small
+search_by-requires-else-is_small g c =
+    let fits = c.args.costs.fits in
+    let rows = fits.rows in
+    let cols = fits.cols in
+    let cells = fits.cells in
+    record { rows = omega arith; cols = omega arith; sums = omega arith }

@@ -1,49 +1,71 @@
-use Rattle.std.proofs.Common.{◌≡◌, None, ◌∙◌, sym, ap, subst, rules, heap_items}
-use Rattle.grid_paths.proofs.Common.{with_cell, InRange, Holds, IsClosed}
+use Rattle.std.proofs.Common.{◌≡◌, ◌<◌, None, length, ◌∙◌, sym, ap, subst, arith, heap_items}
+use Rattle.grid_paths.proofs.Common.{with_cell, InRange, Holds, IsClosed, IsEnough, Entry, sums_of, waiting}
 use Rattle.grid_paths.proofs.Lemmas.{set_there, left_inside, IsCostSearch-stale}
 use Rattle.grid_base.specs.Table.{row_count, col_count}
 use Rattle.grid_paths.proofs.costs.Frontier.next.Goals as goal
 
+pub loop-first-smaller : goal.loop-first-smaller
+loop-first-smaller g c = let fewer = c.in-Some.ensures.fewer in omega arith
+
 pub loop-first-preserved : goal.loop-first-preserved
 loop-first-preserved g c =
+    let w = g.N.Width.reads in
     let f = c.args.self.now in
     let l = c.loop-first in
-    let x = c.in-Some.first in
-    let closed : IsClosed f.left.rows x.0.1 = subst (λ t. IsClosed t.rows x.0.1) l.invariant.left (λ k h. c.in_default-cost_of.not-Some k ((c.cost_of.ensures k).1 h)) in
+    let p = c.in-Some.ensures in
+    let x : Entry = record { 0 = c.in-Some.first } in
+    let was = p.left ∙ l.invariant.left in
+    let closed : IsClosed f.left.rows x.0.1 = subst (λ t. IsClosed t.rows x.0.1) was (λ k h. c.in_default-cost_of.not-Some k ((c.cost_of.ensures k).1 h)) in
     record {
-      left = l.invariant.left;
-      sums = l.invariant.sums;
-      heap_order = search rules;
+      left = was;
+      sums = p.sums ∙ l.invariant.sums;
+      heap_order = p.heap_order l.invariant.heap_order;
       enough = λ kind costs from s.
-          IsCostSearch-stale kind costs from f.sums.rows f.left.rows (heap_items l.self.heap) (l.invariant.enough kind costs from s) x (heap_items c.pop.new.self) c.in-Some.ensures.permutation closed;
+          IsCostSearch-stale kind costs from (sums_of w f) f.left.rows (waiting w l.self) (l.invariant.enough kind costs from s) x (waiting w c.pop.new.self) p.taken closed;
     }
 
 pub returns-in-Some-cost_of : goal.returns-in-Some-cost_of
 returns-in-Some-cost_of g c =
+    let w = g.N.Width.reads in
     let l = c.loop-first in
-    let t = l.self.left in
-    let at = c.in-Some.first.0.1 in
+    let p = c.in-Some.ensures in
+    let t = c.pop.new.self.left in
+    let at = c.in-Some.first.1 in
     let k = c.in-Some-cost_of.cost in
     let is_left : Holds t.rows at k = (c.cost_of.ensures k).0 c.in-Some-cost_of.is in
     let i = left_inside t.rows t.table at k is_left in
     let wrote : c.set.new.self.rows ≡ with_cell t.rows at.0 at.1 None = set_there c.set.result (InRange t.rows at.0 at.1) _ _ i c.set.ensures.in_range c.set.ensures.rows in
     let same = c.set.ensures.same in
-    let size = c.requires.size in
-    let was = l.invariant.left in
+    let whole = c.requires in
+    let was = p.left ∙ l.invariant.left in
+    let sums = p.sums ∙ l.invariant.sums in
+    let rows = same.rows ∙ ap (λ t. row_count t.rows) was in
+    let cols = same.cols ∙ ap (λ t. col_count t.rows) was in
     record {
       is_left = subst (λ t. Holds t.rows at k) was is_left;
       left = wrote ∙ ap (λ t. with_cell t.rows at.0 at.1 None) was;
-      size = record { rows = same.rows ∙ ap (λ t. row_count t.rows) was; cols = same.cols ∙ ap (λ t. col_count t.rows) was };
-      sums = l.invariant.sums;
-      heap = heap_items l.self.heap;
+      size = record { rows = rows; cols = cols };
+      sums = sums;
+      heap = waiting w l.self;
       enough = l.invariant.enough;
-      taken = c.in-Some.ensures.permutation;
-      first = c.in-Some.ensures.below_top l.invariant.heap_order;
+      taken = p.taken;
+      first = p.first l.invariant.heap_order;
       whole = record {
         size = record {
-          rows = ap (λ u. row_count u.rows) l.invariant.sums ∙ (size.rows ∙ sym (same.rows ∙ ap (λ t. row_count t.rows) was));
-          cols = ap (λ u. col_count u.rows) l.invariant.sums ∙ (size.cols ∙ sym (same.cols ∙ ap (λ t. col_count t.rows) was));
+          rows = ap (λ u. row_count u.rows) sums ∙ (whole.size.rows ∙ sym rows);
+          cols = ap (λ u. col_count u.rows) sums ∙ (whole.size.cols ∙ sym cols);
         };
-        heap_order = search rules;
+        rows = omega (arith, rows, whole.rows);
+        cols = omega (arith, cols, whole.cols);
+        heap_order = p.heap_order l.invariant.heap_order;
       };
+    }
+
+pub returns : goal.returns
+returns g c =
+    let l = c.loop-first in
+    let e = c.in_default.ensures in
+    record {
+      sums = e.sums ∙ l.invariant.sums;
+      enough = subst (λ h. IsEnough g.N.Width.reads c.args.self.now h) e.empty l.invariant.enough;
     }

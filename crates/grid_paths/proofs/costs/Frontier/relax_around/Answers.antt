@@ -9,7 +9,7 @@ returns-in-Sides g c =
     let x = c.args.from in
     let new = c.relax_each.new.self in
     on_ok_weaker c.relax_each.result
-    (λ e. subst (λ kind. Enters (IsStep kind x.at) x.sum c.args.self.now new) (sym c.in-Sides.is)
+    (λ e. subst (λ kind. Enters g.N.Ord.cmp g.N.Width.reads (IsStep kind x.at) x.sum c.args.self.now new) (sym c.in-Sides.is)
     (Enters-steps Sides x.at (take 4 c.around-near.result) c.around-near.ensures.sides new e))
     c.relax_each.ensures
 
@@ -18,6 +18,6 @@ returns-in-All g c =
     let x = c.args.from in
     let new = c.relax_each-in-All.new.self in
     on_ok_weaker c.relax_each-in-All.result
-    (λ e. subst (λ kind. Enters (IsStep kind x.at) x.sum c.args.self.now new) (sym c.in-All.is)
+    (λ e. subst (λ kind. Enters g.N.Ord.cmp g.N.Width.reads (IsStep kind x.at) x.sum c.args.self.now new) (sym c.in-All.is)
     (Enters-steps All x.at c.around-near.result c.around-near.ensures.all new e))
     c.relax_each-in-All.ensures
