@@ -15,6 +15,7 @@ pub mod HeapLemmas
 pub mod RelaxLemmas
 pub mod CheapLemmas
 pub mod TrailLemmas
+pub mod KeptLemmas
 pub mod TakenLemmas
 pub mod FloodLemmas
 pub mod RangeLemmas

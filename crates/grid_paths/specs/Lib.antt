@@ -11,5 +11,6 @@ pub mod Relaxing
 pub mod Width
 pub mod Frontier
 pub mod Trail
+pub mod Kept
 pub mod Wave
 pub mod Prelude

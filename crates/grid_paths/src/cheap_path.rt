@@ -1,10 +1,11 @@
 //! A cheapest path between two cells.
 ghost use Rattle.std.specs.Prelude.{◌≡◌, ◌+◌, ◌-◌, ◌↔◌, ℕ, IfOk, IfSome, IsTrue, MatchOption, Some, length, slice_get};
 ghost use Rattle.std.specs.List.{All};
+ghost use Rattle.grid_paths.specs.Kept.{trail_of};
 ghost use Rattle.grid_paths.specs.Prelude.{InRange, HoldsOfAnswers, IsStep, CostWalk, IsCheapestPath, IsCostPath, IsTrail, HasRoom};
 
 use super::answers::answers_of;
-use super::costs::{Frontier, Settled, begun, is_small};
+use super::costs::{Frontier, Kept, Settled, begun, is_small};
 use super::width::Width;
 use grid::Grid;
 use grid_near::Steps;
@@ -33,13 +34,14 @@ fn comes_from(kind: Steps, here: Settled, before: Settled) -> bool
 
 // The path to the last of the settled positions, found from its end: each number comes from that of a position which was
 // settled before.
-fn follow<A: Allocator + Clone>(
+fn follow<N: Width, A: Allocator + Clone>(
     kind: Steps,
-    trail: &Vec<Settled, A>,
+    trail: &Vec<Kept<N>, A>,
     last: Settled,
 ) -> Result<Vec<(usize, usize), A>, AllocError>
-    requires { slice_get trail.now.items (length trail.now.items - 1) ≡ Some last }
-    ensures { IfOk result (λ path. (costs : _) (from : ℕ × ℕ) → IsTrail kind from costs trail.now.items
+    requires { slice_get (trail_of N.reads trail.now.items) (length trail.now.items - 1) ≡ Some last }
+    ensures { IfOk result (λ path. (costs : _) (from : ℕ × ℕ)
+        → IsTrail kind from costs (trail_of N.reads trail.now.items)
         → IsCostPath kind costs from last.at path.items last.sum) }
 {
     let mut path = Vec::new(trail.allocator().clone()?);
@@ -48,7 +50,7 @@ fn follow<A: Allocator + Clone>(
     let mut left = trail.len();
     while left > 0 {
         left -= 1;
-        let before = trail[left];
+        let before = trail[left].settled();
         if comes_from(kind, here, before) {
             path.push(before.at)?;
             here = before;
@@ -71,10 +73,10 @@ fn path_by<N: Width, A: Allocator + Clone>(
         ((n sum : ℕ) → CostWalk kind costs.rows from to n sum → ⊥)
         (λ path. IsCheapestPath kind costs.rows from to path.0.items path.1)) }
 {
-    let mut trail: Vec<Settled, A> = Vec::new(costs.allocator().clone()?);
+    let mut trail: Vec<Kept<N>, A> = Vec::new(costs.allocator().clone()?);
     let mut search: Frontier<N, A> = begun(costs, from)?;
     while let Some(here) = search.next() {
-        trail.push(here)?;
+        trail.push(search.keep(here))?;
         if here.at == to {
             return Ok(Some((follow(kind, &trail, here)?, here.sum)));
         }

@@ -1,5 +1,6 @@
 //! The least sum of costs to each cell, by Dijkstra's search.
 ghost use Rattle.std.specs.Prelude.{◌≡◌, ◌<◌, ◌≤◌, ◌+◌, ◌^◌, ◌↔◌, ℕ, Contains, IfOk, IsTrue, MatchOption, OnOk, Some};
+ghost use Rattle.grid_paths.specs.Kept.{settled_of};
 ghost use Rattle.grid_paths.specs.Prelude.{InRange, cell, HoldsOfAnswers, IsStep, HaveOneSize, Holds, HasLeastCosts, sums_of, Puts, Pops, IsEmptied, IsFrontier, Enters, IsReady, IsNext, IsOver, IsSearching, HasRoom, narrow, limit_of, side_of};
 
 use super::answers::{all_sums, answers_of, no_sums};
@@ -23,6 +24,28 @@ pub(crate) struct Settled {
     pub(crate) at: (usize, usize),
     pub(crate) cost: u32,
     pub(crate) sum: u128,
+}
+
+// A settled position in numbers of one width, as a path keeps it.
+#[derive(Clone, Copy)]
+pub(crate) struct Kept<N: Width> {
+    sum: N,
+    place: N,
+    cost: u32,
+}
+
+impl<N: Width> Kept<N> {
+    // The settled position.
+    #[inline(always)]
+    pub(crate) fn settled(self) -> Settled
+        ensures { result ≡ settled_of N.reads self }
+    {
+        Settled {
+            at: self.place.position(),
+            cost: self.cost,
+            sum: self.sum.value(),
+        }
+    }
 }
 
 // How far the search has come.
@@ -96,6 +119,19 @@ impl<N: Width, A: Allocator> Frontier<N, A> {
                 Some((number.value(), place.position()))
             }
             None => None,
+        }
+    }
+
+    // A settled position as it is kept.
+    #[inline(always)]
+    pub(crate) fn keep(&self, here: Settled) -> Kept<N>
+        requires { IsReady N.cmp N.reads self.now here }
+        ensures { settled_of N.reads result ≡ here }
+    {
+        Kept {
+            sum: N::of_sum(here.sum),
+            place: N::of_position(here.at),
+            cost: here.cost,
         }
     }
 

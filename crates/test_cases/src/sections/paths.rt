@@ -66,7 +66,8 @@ fn growths(len: usize) -> u64 {
 }
 
 // How many requests for memory are made: for which cells may be walked on or entered, for the numbers, and for the queue;
-// for a path, if there is one; and for the text of regions. What is taken takes more as it grows.
+// for a path, if there is one; for sums of costs, as they are returned; and for the text of regions. What is taken takes
+// more as it grows.
 fn requests(call: &str, expected: &str) -> u64 {
     let (mut marks, mut others) = (0usize, 0usize);
     for letter in expected.chars() {
@@ -78,6 +79,7 @@ fn requests(call: &str, expected: &str) -> u64 {
     }
     match call {
         "shortest_path" if expected != ".\n" => 4,
+        "cheapest" => 4,
         "regions" => 4,
         // (the region is the board)
         "fill_region" if others == 0 => 0,
