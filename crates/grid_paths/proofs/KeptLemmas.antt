@@ -1,5 +1,5 @@
 -- The settled positions that a path keeps.
-use Rattle.std.proofs.Common.{◌≡◌, ℕ, Option, Some, List, [], ◌∷◌, ◌++◌, sym, ◌∙◌, ap, slice_get, option_map}
+use Rattle.std.proofs.Common.{◌≡◌, ℕ, Some, List, [], ◌∷◌, ◌++◌, sym, ◌∙◌, ap, slice_get, option_map}
 use Rattle.std.proofs.lemmas.List.{map-append}
 use Rattle.grid_paths.proofs.Common.{slice_get-map, Reading}
 use Rattle.grid_paths.specs.Kept.{settled_of, trail_of}

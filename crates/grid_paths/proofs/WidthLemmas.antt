@@ -1,5 +1,5 @@
 -- The sums that a table of numbers holds, and what waits after a push and after a pop.
-use Rattle.std.proofs.Common.{◌≡◌, ℕ, ◌+◌, ◌*◌, ◌<◌, ◌≤◌, Option, None, Some, List, [], ◌∷◌, length, set, refl, sym, ◌∙◌, ap, subst, arith, map, option_map, slice_get, IsPermutation, IsSomeAnd, Result, Ok, Err, IfOk, Bor}
+use Rattle.std.proofs.Common.{◌≡◌, ℕ, ◌*◌, ◌<◌, ◌≤◌, Option, None, Some, List, [], ◌∷◌, length, set, refl, sym, ◌∙◌, ap, subst, arith, map, option_map, slice_get, IsPermutation, IsSomeAnd, Result, Ok, Err, IfOk, Bor}
 use Rattle.std.proofs.Math.ListN.{get_or-map}
 use Rattle.std.proofs.lemmas.Nat.{mul-le}
 use Rattle.std.proofs.lemmas.List.{map-set}

@@ -1,4 +1,4 @@
-use Rattle.std.proofs.Common.{◌≡◌, None, ap, ◌∙◌, rules}
+use Rattle.std.proofs.Common.{◌≡◌, ap, ◌∙◌, rules}
 use Rattle.grid_paths.proofs.Lemmas.{numbers-none_made}
 use Rattle.grid_paths.proofs.answers.no_sums.Goals as goal
 

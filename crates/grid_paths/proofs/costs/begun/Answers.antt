@@ -1,4 +1,4 @@
-use Rattle.std.proofs.Common.{◌≡◌, Some, [], refl, sym, subst, ap, map, arith}
+use Rattle.std.proofs.Common.{refl, sym, subst, ap, map, arith}
 use Rattle.grid_paths.proofs.Common.{Holds, IsSearching, entry_of}
 use Rattle.grid_paths.proofs.Lemmas.{same_size, left_inside, IsSearching-closed, IsSearching-begun}
 use Rattle.grid_paths.proofs.costs.begun.Goals.{in-Some+in_ok-put, in_default}

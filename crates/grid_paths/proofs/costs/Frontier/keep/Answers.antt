@@ -1,5 +1,4 @@
-use Rattle.std.proofs.Common.{◌≡◌, arith}
-use Rattle.grid_paths.specs.declared.costs.Settled.{Settled}
+use Rattle.std.proofs.Common.{arith}
 use Rattle.grid_paths.proofs.costs.Frontier.keep.Goals as goal
 
 pub of_sum-requires : goal.of_sum-requires

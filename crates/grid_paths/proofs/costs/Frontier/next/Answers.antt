@@ -1,4 +1,4 @@
-use Rattle.std.proofs.Common.{◌≡◌, ◌<◌, None, length, ◌∙◌, sym, ap, subst, arith, heap_items}
+use Rattle.std.proofs.Common.{◌≡◌, None, ◌∙◌, sym, ap, subst, arith}
 use Rattle.grid_paths.proofs.Common.{with_cell, InRange, Holds, IsClosed, IsEnough, Entry, sums_of, waiting}
 use Rattle.grid_paths.proofs.Lemmas.{set_there, left_inside, IsCostSearch-stale}
 use Rattle.grid_base.specs.Table.{row_count, col_count}

@@ -1,4 +1,4 @@
-use Rattle.std.proofs.Common.{◌≡◌, ◌≤◌, [], refl, sym, ap, subst, heap_items, map, length, arith}
+use Rattle.std.proofs.Common.{◌≡◌, ◌≤◌, refl, sym, ap, subst, heap_items, map, length, arith}
 use Rattle.std.proofs.lemmas.List.{nil_from_length}
 use Rattle.grid_paths.proofs.Common.{entry_of}
 use Rattle.grid_paths.proofs.Lemmas.{waits_no_more, least_first}

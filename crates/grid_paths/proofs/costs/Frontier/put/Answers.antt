@@ -1,4 +1,4 @@
-use Rattle.std.proofs.Common.{◌≡◌, Some, ap, refl, ◌∙◌, heap_items}
+use Rattle.std.proofs.Common.{◌≡◌, ap, refl, ◌∙◌, heap_items}
 use Rattle.grid_paths.proofs.Common.{with_cell, InRange, numbers}
 use Rattle.grid_paths.proofs.Lemmas.{set_there, numbers-with, waits_too}
 use Rattle.grid_paths.proofs.costs.Frontier.put.Goals as goal

@@ -1,4 +1,4 @@
-use Rattle.std.proofs.Common.{◌≡◌, ℕ, ◌+◌, Some, refl, arith}
+use Rattle.std.proofs.Common.{◌+◌, refl, arith}
 use Rattle.grid_paths.proofs.Common.{Holds}
 use Rattle.grid_paths.proofs.Lemmas.{Enters-closed, Enters-low, Enters-put, left_inside, same_size, not_less}
 use Rattle.grid_paths.proofs.costs.Frontier.relax.Goals as goal
