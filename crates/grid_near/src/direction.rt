@@ -115,7 +115,11 @@ impl Direction {
             at.0.checked_add(i)?.checked_sub(1)?,
             at.1.checked_add(j)?.checked_sub(1)?,
         );
-        if to.0 < size.0 && to.1 < size.1 { Some(to) } else { None }
+        if to.0 < size.0 && to.1 < size.1 {
+            Some(to)
+        } else {
+            None
+        }
     }
 
     // The row and the column of the cell in this direction, of three rows and columns.

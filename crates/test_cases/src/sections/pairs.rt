@@ -5,7 +5,8 @@ use crate::sections::views::stamp;
 use crate::shown::{shown, shown_made, shown_ok, text};
 use grid::{Grid, GridView};
 use grid_pairs::{
-    IntoView, PartIter, find, fold_cells, fold_cols, fold_rows, tiles, update_with, windows, zip_with,
+    IntoView, PartIter, find, fold_cells, fold_cols, fold_rows, tiles, update_with, windows,
+    zip_with,
 };
 use std::alloc::Global;
 
