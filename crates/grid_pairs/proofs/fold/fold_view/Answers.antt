@@ -1,5 +1,4 @@
 use Rattle.std.proofs.Common.{arith}
-use Rattle.grid_base.proofs.Common.{row, row_count}
 use Rattle.grid_pairs.proofs.FoldLemmas.{rows_more, rows_all}
 use Rattle.grid_pairs.proofs.fold.fold_view.Goals as goal
 

@@ -1,8 +1,8 @@
 -- One row more, and its line feed.
-use Rattle.std.proofs.Common.{◌≡◌, ◌∙◌, ◌<◌, ◌≤◌, ◌+◌, ◌++◌, ◌∷◌, [], refl, ap, sym, subst, append-nil, drop, length, arith, string_bytes}
+use Rattle.std.proofs.Common.{◌≡◌, ◌∙◌, ◌<◌, ◌≤◌, ◌++◌, [], refl, ap, sym, subst, append-nil, arith, string_bytes}
 use Rattle.std.proofs.Math.ListN.{drop_of_length-le}
 use Rattle.std.proofs.lemmas.List.{drop_more}
-use Rattle.grid_text.proofs.Common.{AnswersCell, MayWriteRows, row, row_count}
+use Rattle.grid_text.proofs.Common.{AnswersCell, MayWriteRows, row_count}
 use Rattle.grid_text.proofs.Lemmas.{row_may, rows_written}
 use Rattle.grid_text.proofs.write.to_text.Goals as goal
 
