@@ -1,12 +1,11 @@
 -- The search for the least costs: what holds after each step, and what that says at the end.
 use Rattle.std.proofs.Common.{◌≡◌, ℕ, zero, suc, ◌+◌, ◌-◌, ◌*◌, ◌^◌, ◌<◌, ◌≤◌, ◌⊎◌, Option, None, Some, List, [], ◌∷◌, length, set, get_or, refl, sym, ◌∙◌, ap, subst, arith, inl, inr, ⊎_elim, IsPermutation, sum_by}
-use Rattle.grid_paths.proofs.Common.{sum_by-set, IsPermutation-sym, slice_get_within, get_or_from_slice_get, row, row_count, col_count, cell, with_cell, tabulate, IsTable, cell-with_same, cell-with_other, same_or_other, HaveOneSize, free, unreached, IsStep, Holds, CostWalk, IsLeastCost, HasLeastCosts, Entry, IsFirst, IsWaiting, HoldsUpTo, IsClosed, Relaxes, Comes, IsCostSearch, GridValue, entry, Enters, IsReady, IsNext, IsOver, IsSearching, IsFrontier, Puts, Reading, HasRoom, numbers, sums_of, waiting}
+use Rattle.grid_paths.proofs.Common.{sum_by-set, IsPermutation-sym, slice_get_within, get_or_from_slice_get, row, row_count, col_count, cell, with_cell, IsTable, cell-with_same, cell-with_other, same_or_other, HaveOneSize, free, unreached, IsStep, Holds, CostWalk, IsLeastCost, HasLeastCosts, Entry, IsFirst, IsWaiting, HoldsUpTo, IsClosed, Relaxes, Comes, IsCostSearch, GridValue, entry, Enters, IsReady, IsNext, IsOver, IsSearching, IsFrontier, Puts, Reading, HasRoom, numbers, sums_of, waiting}
 use Rattle.std.specs.declared.cmp.Ordering.{Ordering}
 use Rattle.grid_base.proofs.Common.{InRange}
 use Rattle.grid_near.specs.declared.steps.Steps.{Steps}
 use Rattle.grid_paths.proofs.QueueLemmas.{unreached_cells}
 use Rattle.grid_paths.proofs.SearchLemmas.{one_mark}
-use Rattle.grid_paths.proofs.StepLemmas.{none_marked}
 use Rattle.grid_paths.specs.declared.costs.Frontier.{Frontier}
 use Rattle.grid_paths.specs.declared.costs.Settled.{Settled}
 use Rattle.grid_paths.proofs.RelaxLemmas.{left_inside, same_size, Puts-whole}
@@ -21,10 +20,6 @@ left_or_closed t a = of (cell t a.0 a.1) refl
     of None e = inr (λ k h. let clash : ◌≡◌ {A = Option (Option ℕ)} None (Some (Some k)) = sym e ∙ h in cc)
     of (Some None) e = inr (λ k h. let clash : ◌≡◌ {A = Option (Option ℕ)} (Some None) (Some (Some k)) = sym e ∙ h in cc)
     of (Some (Some k)) e = inl (k, e)
-
--- there is no number in an empty table
-pub no_number : (m n : ℕ) (u : List (List (Option ℕ))) → u ≡ tabulate m n (λ r c. Some None) → (a : ℕ × ℕ) (k : ℕ) → Holds u a k → ⊥
-no_number m n u e a k h = none_marked m n a k (subst (λ x. Holds x a k) e h)
 
 -- the position p is closed in the table
 module _ (left : List (List (Option ℕ))) (table : IsTable left) (p : ℕ × ℕ) (k : ℕ) (is_left : Holds left p k) where
