@@ -51,7 +51,7 @@ pub fn fold_cols<T, V: AsView<T>, S: Copy, A: Allocator, F: Fn(S, &T) -> S>(
 ///
 ///     [[1, 2], [3, 4]]   fold_cells(board, 0, |sum, x| sum + *x)   10
 ///
-/// A loop over the cells of a part, as for a sum, a count or a maximum, is as fast by it as over slices of the rows.
+/// A sum, a count or a maximum over a large part is as fast by it as by a loop over slices of its rows.
 ///
 /// Requires: the closure can be called at each cell, and a value that it comes to over the cells before it.
 /// Cost: one call for each cell, each row as a slice where it is one in the storage; no memory.

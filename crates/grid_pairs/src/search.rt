@@ -1,5 +1,5 @@
 //! Where a pattern stands in a board.
-ghost use Rattle.std.specs.Prelude.{◌≡◌, ◌+◌, ◌<◌, ◌≤◌, ℕ, IfSome, MatchOption};
+ghost use Rattle.std.specs.Prelude.{◌≡◌, ◌+◌, ◌<◌, ◌≤◌, ◌↔◌, ℕ, IsTrue, IfSome, MatchOption};
 ghost use Rattle.grid_pairs.specs.Prelude.{row_count, col_count, InRange, FoundFirst};
 ghost use Rattle.grid_pairs.specs.Found.{StandsIn, StandsFirstIn};
 
@@ -66,9 +66,25 @@ fn find_in_row<T: PartialEq>(
         (StandsFirstIn T.eq board.now.rows pattern.now.rows row) }
 {
     for col in 0..board.cols() - pattern.cols() + 1 {
-        if board.part((row, col), pattern.size()) == *pattern {
+        if stands_at(board, pattern, row, col) {
             return Some(col);
         }
     }
     None
+}
+
+// Whether the pattern stands at a position. Most positions differ in the first cell, which is read before a part is made.
+fn stands_at<T: PartialEq>(
+    board: &GridView<'_, T>,
+    pattern: &GridView<'_, T>,
+    row: usize,
+    col: usize,
+) -> bool
+    requires some { 0 < col_count pattern.now.rows }
+    requires rows_in { row + row_count pattern.now.rows ≤ row_count board.now.rows }
+    requires cols_in { col + col_count pattern.now.rows ≤ col_count board.now.rows }
+    ensures { IsTrue result ↔ StandsIn T.eq board.now.rows pattern.now.rows row col }
+{
+    board.get_unchecked(row, col) == pattern.get_unchecked(0, 0)
+        && board.part((row, col), pattern.size()) == *pattern
 }

@@ -1,0 +1,12 @@
+use Rattle.std.proofs.Common.{◌≡◌, true}
+use Rattle.grid_pairs.proofs.FindLemmas.{first_same}
+use Rattle.grid_pairs.proofs.search.stands_at.Goals as goal
+
+pub returns-else-eq : goal.returns-else-eq
+returns-else-eq g c = (
+  λ e. absurd (cc),
+  λ s.
+      let yes = first_same g.T.PartialEq.eq _ _ c.args.row c.args.col _ _ c.args.board.now.table c.requires.some s c.get_unchecked.ensures c.get_unchecked-2.ensures in
+      let not = c.if-eq.ensures in
+      absurd (cc),
+)
