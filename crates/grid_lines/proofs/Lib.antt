@@ -8,3 +8,4 @@ pub mod NumberLemmas
 pub mod RewriteLemmas
 pub mod BroughtLemmas
 pub mod CopyLemmas
+pub mod WrittenLemmas

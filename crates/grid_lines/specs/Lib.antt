@@ -3,4 +3,5 @@ pub mod Copied
 pub mod LineAnswers
 pub mod Rewritten
 pub mod SortedLines
+pub mod Written
 pub mod Prelude

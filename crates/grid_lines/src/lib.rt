@@ -9,6 +9,7 @@ mod roll;
 mod rows;
 mod set;
 mod sort;
+mod write;
 
 pub use retain::{retain_cols, retain_rows};
 pub use rewrite::{rewrite_cols, rewrite_rows};
@@ -16,3 +17,4 @@ pub use roll::{roll_cols, roll_rows};
 pub use rows::{into_rows, to_rows};
 pub use set::{set_col, set_row};
 pub use sort::{sort_cols_by, sort_cols_by_key, sort_rows_by, sort_rows_by_key};
+pub use write::{write_col, write_row};
