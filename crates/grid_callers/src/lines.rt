@@ -1,13 +1,15 @@
 //! Callers of `grid_lines`, of which only `sort_cells` has a proof file.
 ghost use Rattle.std.specs.Prelude.{◌≡◌, ◌<◌, ℕ, nat_lt, not, count_by, filter, map, reverse, slice_index_or, OnOk, OnErr, IfOk, IsPermutation};
-ghost use Rattle.grid.specs.Prelude.{row, row_count};
+ghost use Rattle.grid.specs.Prelude.{row, row_count, col_count};
 ghost use Rattle.std.specs.Ordering.{nat_cmp};
 ghost use Rattle.grid_callers.specs.Score.{full_rows};
 ghost use Rattle.grid_lines.specs.SortedLines.{AscendBy, AscendByKey};
+ghost use Rattle.grid_lines.specs.Written.{with_first_cells};
 
 use grid::{Grid, GridLineIter};
 use grid_lines::{
     into_rows, retain_rows, rewrite_rows, sort_cols_by, sort_rows_by, sort_rows_by_key, to_rows,
+    write_row,
 };
 use std::alloc::{AllocError, Allocator};
 use std::cmp::Ordering;
@@ -103,6 +105,17 @@ pub fn sort_cells<A: Allocator>(board: &mut Grid<u32, A>)
         → IsPermutation (row board.old.rows r) (row board.new.rows r) }
 {
     rewrite_rows(board, sorted);
+}
+
+/// Writes cells into the first row, as far as it goes, and returns how many. Where they are fewer than the columns, they are
+/// all written.
+///
+///     [[1, 2, 3], [4, 5, 6]]   put_first([8, 9])   2   [[8, 9, 3], [4, 5, 6]]
+pub fn put_first<A: Allocator>(board: &mut Grid<u8, A>, cells: Vec<u8>) -> usize
+    ensures { result < col_count board.old.rows
+        → board.new.rows ≡ with_first_cells board.old.rows 0 cells.items }
+{
+    write_row(board, 0, cells.into_iter())
 }
 
 /// Returns the rows as vectors, or the board if allocation fails.
