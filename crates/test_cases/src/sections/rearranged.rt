@@ -5,7 +5,8 @@ use crate::shown::{shown, shown_ok};
 use grid::{Grid, GridLineIter};
 use grid_lines::{
     into_rows, retain_cols, retain_rows, rewrite_cols, rewrite_rows, roll_cols, roll_rows, set_col,
-    set_row, sort_cols_by, sort_cols_by_key, sort_rows_by, sort_rows_by_key, to_rows,
+    set_row, sort_cols_by, sort_cols_by_key, sort_rows_by, sort_rows_by_key, to_rows, write_col,
+    write_row,
 };
 use std::alloc::Global;
 use std::cmp::Ordering;
@@ -52,6 +53,40 @@ fn changed(board: &mut Grid<i64>, ask: Ask<'_>, cells: &[i64]) -> Result<(), Cas
         _ => return Err(CaseError::UnknownCall),
     }
     Ok(())
+}
+
+// Writes cells into each row in turn, and returns those that are left.
+fn written_in_turn(
+    alloc: Global,
+    board: &mut Grid<i64>,
+    cells: &[i64],
+) -> Result<String, CaseError> {
+    let mut items = cells.iter().copied();
+    for row in 0..board.rows() {
+        write_row(board, row, &mut items);
+    }
+    shown(alloc, items.collect::<Vec<i64>>(alloc)?)
+}
+
+// Writes cells into a line, as far as they go, and returns how many; or into each row in turn.
+fn written(
+    alloc: Global,
+    board: &mut Grid<i64>,
+    ask: Ask<'_>,
+    cells: &[i64],
+) -> Result<String, CaseError> {
+    match ask.call {
+        "write_row" => shown(
+            alloc,
+            write_row(board, ask.number(0), cells.iter().copied()),
+        ),
+        "write_col" => shown(
+            alloc,
+            write_col(board, ask.number(0), cells.iter().copied()),
+        ),
+        "write_rows_in_turn" => written_in_turn(alloc, board, cells),
+        _ => Err(CaseError::UnknownCall),
+    }
 }
 
 fn by_first(mut one: GridLineIter<'_, i64>, mut other: GridLineIter<'_, i64>) -> Ordering {
@@ -111,6 +146,9 @@ pub fn actual(alloc: Global, board: &mut Grid<i64>, ask: Ask<'_>) -> Result<Stri
         "retain_rows" => rows_kept(alloc, board, (ask.cell(0), ask.cell(1))),
         "to_rows" => shown_ok(alloc, to_rows(alloc, board)),
         "into_rows" => taken(alloc, board),
+        call if call.starts_with("write_") => {
+            written(alloc, board, ask, ask.line(alloc)?.as_slice())
+        }
         call if call.starts_with("sort_") => shown(alloc, sorted(board, call)?),
         _ => shown(alloc, changed(board, ask, ask.line(alloc)?.as_slice())?),
     }
