@@ -10,3 +10,4 @@ pub mod PositionLemmas
 pub mod StridedLemmas
 pub mod TextLemmas
 pub mod DisplayLemmas
+pub mod PartLemmas

@@ -7,4 +7,6 @@ pub mod Same
 pub mod Stepped
 pub mod Texts
 pub mod Found
+pub mod Part
+pub mod ViewMut
 pub mod Prelude

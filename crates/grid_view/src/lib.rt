@@ -15,9 +15,11 @@ mod search;
 mod stepped;
 mod text;
 mod view;
+mod view_mut;
 
 pub use as_view::AsView;
 pub use cells::{ViewIndexedIter, ViewIter};
 pub use lines::{ViewLineIter, ViewRowIter};
 pub use same::same_cells;
 pub use view::GridView;
+pub use view_mut::GridViewMut;
