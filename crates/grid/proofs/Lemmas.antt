@@ -24,7 +24,7 @@ pub use Rattle.grid.proofs.RunLemmas.{running_none, running_more, ran_still, tak
 pub use Rattle.grid.proofs.SameLemmas.{same_stored}
 pub use Rattle.grid.proofs.SeenAllCellsLemmas.{whole_same, whole_cells, seen_filled, seen_none}
 pub use Rattle.grid.proofs.SeenEditLemmas.{taken_in, taken_cells, taken_small, rows_taken_out, taken_fits, taken_wide, closed, put_cells, put_fits, rows_put, no_room, room, taken_shift, RowsBehind-lines, RowsBehind-put, taken_out, taken_storage}
-pub use Rattle.grid.proofs.SeenIteratorLemmas.{seen_refilled, seen_keeps, seen_indexed, seen_transposed, seen_written, seen_held, seen_keeps_from, place_flipped}
+pub use Rattle.grid.proofs.SeenIteratorLemmas.{seen_given_back, seen_refilled, seen_keeps, seen_indexed, seen_transposed, seen_written, seen_held, seen_keeps_from, place_flipped}
 pub use Rattle.grid.proofs.SeenLemmas.{sides_small, seen_rows, seen_cols, seen_storage, seen_same, seen_row_in, seen_col_in, seen_empty}
 pub use Rattle.grid.proofs.SeenPaddingLemmas.{pads_cols, size_across, none_added, padding_none, pads_none, pad_cols, pad_rows_small, pad_shift, pad_cells, pads_rows, pad_fits}
 pub use Rattle.grid.proofs.SplitLemmas.{times_none, same_cut, can_cut_again, cols_kept, cols_split, IsTable-tail, cols-tail, all_taken, take_without}

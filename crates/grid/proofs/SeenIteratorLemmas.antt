@@ -1,6 +1,7 @@
 -- What iterators over a grid's fields say of the value that a contract sees.
-use Rattle.std.proofs.Common.{◌≡◌, ℕ, List, ◌++◌, length, take, drop, zip, refl, sym, ◌∙◌, ap}
-use Rattle.grid.proofs.Common.{refill, length_refill, row_count, col_count, transposed, place, flipped, table_of, positions, GridValue, HoldsSize, written_from, act_is_transposed, same_grid_value, view-transpose, grid_value, with_cells, stored, refilled, refilled_from, IsSameSize, KeepsSize, KeepsSizeFrom}
+use Rattle.std.proofs.Common.{◌≡◌, ℕ, ◌*◌, List, ◌++◌, length, take, drop, zip, refl, sym, ◌∙◌, ap}
+use Rattle.grid_base.specs.declared.layout.Layout.{Layout}
+use Rattle.grid.proofs.Common.{take-append_seam, refill, length_refill, row_count, col_count, transposed, place, flipped, table_of, positions, GridValue, HoldsSize, written_from, act_is_transposed, same_grid_value, view-transpose, grid_value, with_cells, stored, refilled, refilled_from, IsSameSize, KeepsSize, KeepsSizeFrom}
 use Rattle.grid_base.specs.declared.order.Order.{Order}
 use Rattle.grid_base.specs.declared.order.Order.TheVariants.{RowMajor, ColumnMajor}
 use Rattle.grid.proofs.SeenLemmas.{seen_rows, seen_cols, seen_storage}
@@ -70,3 +71,12 @@ module _ {T : Type 0} (o : Order) (m n : ℕ) (cells : List T) (v : GridValue T)
   seen_held start r c ws s same =
       ap (λ x. x.rows) (sym (seen_written start r c ws (fits_of (written_from start cells ws) (ap length same)) s))
       ∙ (ap (table_of o m n) same ∙ ap (λ x. x.rows) e)
+
+  -- where all cells are written, the grid has their rows
+  pub seen_given_back : (b : Layout) (ws : List T) → b.order ≡ o → b.rows ≡ m → b.cols ≡ n → length ws ≡ b.rows * b.cols → (refilled v ws).rows ≡ table_of b.order b.rows b.cols ws
+  seen_given_back b ws order rows cols long =
+      let full : length ws ≡ length cells = long ∙ (ap (λ x. x * b.cols) rows ∙ (ap (λ x. m * x) cols ∙ sym h.cells)) in
+      let all : refill (length cells) cells ws ≡ ws = ap (λ k. take k (ws ++ drop (length ws) cells)) (sym full) ∙ take-append_seam ws (drop (length ws) cells) in
+      ap (λ x. x.rows) (sym (seen_refilled ws (fits_of (refill (length cells) cells ws) (ap length all ∙ full))))
+      ∙ (ap (table_of o m n) all
+      ∙ sym (ap (λ x. table_of x b.rows b.cols ws) order ∙ (ap (λ x. table_of o x b.cols ws) rows ∙ ap (λ x. table_of o m x ws) cols)))

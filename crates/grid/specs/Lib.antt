@@ -25,3 +25,4 @@ pub mod Copies
 pub mod GridFails
 pub mod Resize
 pub mod Exchanged
+pub mod PartMut

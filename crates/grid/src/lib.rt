@@ -50,6 +50,7 @@ mod grid;
 mod iterators;
 mod macros;
 mod neighbors;
+mod part_mut;
 mod parts;
 mod paste;
 mod positions;
@@ -71,6 +72,6 @@ pub use grid_commands::{
 };
 pub use grid_near::{Direction, Neighbors, WrappedNeighbors};
 pub use grid_view::{
-    AsView, GridView, ViewIndexedIter, ViewIter, ViewLineIter, ViewRowIter, same_cells,
+    AsView, GridView, GridViewMut, ViewIndexedIter, ViewIter, ViewLineIter, ViewRowIter, same_cells,
 };
 pub use iterators::GridColIter;

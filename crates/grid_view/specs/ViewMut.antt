@@ -32,9 +32,8 @@ module _ {T : Type 0} where
   abbrev pub part_rows : GridViewMut T → List (List T)
   part_rows v = sub_table (board_rows v) v.at v.size
 
-  -- the same part of the same board, through the same reference; the cells may be others
+  -- the same part of a board of the same layout; the cells may be others
   pub record IsSamePart (old new : GridViewMut T) : Type 0 where
-    pub reference : lender new ≡ lender old
     pub layout : board_layout new ≡ board_layout old
     pub at : part_at new ≡ part_at old
     pub size : part_size new ≡ part_size old

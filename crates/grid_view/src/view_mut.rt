@@ -11,10 +11,9 @@ use std::mem;
 /// A part of a board, for writing, without a copy of its cells.
 ///
 /// It holds the slice of the cells, the size and the order of the board, and the place and the size of the part, by value:
-/// a loop that writes through a local variable of this type keeps them in registers. What it wrote is in the board once it
-/// ends.
-// It has no model, so that a contract can follow the loan.
-#[derive(Drop)]
+/// a local variable of this type is what a loop writes through that is to keep them in registers. What was written is in
+/// the board once the value ends.
+// It has no model, and a `drop` that says what it leaves, so that a contract can follow the loan.
 pub struct GridViewMut<'a, T> {
     cells: &'a mut [T],
     board: Layout,
@@ -71,7 +70,7 @@ impl<'a, T> GridViewMut<'a, T> {
         ensures rows { result.0 ≡ row_count (part_rows self.now) }
         ensures cols { result.1 ≡ col_count (part_rows self.now) }
     {
-        self.size
+        (self.size.0, self.size.1)
     }
 
     // Returns the place of the cell in a row and a column of the part.
@@ -124,6 +123,7 @@ impl<'a, T> GridViewMut<'a, T> {
         ensures board { MatchOption result (board_rows self.new ≡ board_rows self.old)
             (λ _. board_rows self.new ≡ with_cell (board_rows self.old)
             ((part_at self.old).0 + row) ((part_at self.old).1 + col) value) }
+        ensures same_reference { lender self.new ≡ lender self.old }
         ensures same { IsSamePart self.old self.new }
     {
         if row < self.size.0 && col < self.size.1 {
@@ -149,6 +149,7 @@ impl<'a, T> GridViewMut<'a, T> {
         ensures board { MatchOption result (board_rows self.new ≡ board_rows self.old)
             (λ _. board_rows self.new ≡ with_cell (board_rows self.old)
             ((part_at self.old).0 + at.0) ((part_at self.old).1 + at.1) value) }
+        ensures same_reference { lender self.new ≡ lender self.old }
         ensures same { IsSamePart self.old self.new }
     {
         self.set(at.0, at.1, value)
@@ -163,6 +164,22 @@ impl<'a, T> GridViewMut<'a, T> {
         let board = self.board;
         let all = GridView::over(self.cells, board.order, board.rows, board.cols);
         all.part(self.at, self.size)
+    }
+}
+
+/// The cells stay as they are.
+impl<'a, T> Drop for GridViewMut<'a, T> {
+    ghost use Rattle.grid_view.specs.ViewMut.{board_cells};
+
+    fn drop(self)
+        ensures { self.exit.0.now ≡ board_cells self.entry }
+    {
+        let GridViewMut {
+            cells: _,
+            board: _,
+            at: _,
+            size: _,
+        } = self;
     }
 }
 
