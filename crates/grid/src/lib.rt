@@ -20,7 +20,7 @@
 //!   `grid[(row, col)]`, `flatten`, `as_slice`, `into_vec`; `contains`, `position`, `positions`, `beside`; `can_cut`,
 //!   `fits_row`, `fits_col`, `allocator`
 //! - write: `set`, `set_at`, `get_mut`, `get_mut_at`, `get_unchecked_mut`, `grid[(row, col)] = x`, `as_mut_slice`, `swap`,
-//!   `fill`, `fill_with`, `clear`
+//!   `fill`, `fill_with`, `clear`; `view_mut` and `part_mut`, values that a loop writes through
 //! - rows and columns: `push_*`, `insert_*`, `pop_*`, `remove_*`, `delete_*`, `expand_*`, `prepend_*`, `append_*`,
 //!   `split_off_*`, `resize`
 //! - iterate: `iter`, `iter_row`, `iter_col` and their forms for writing, `iter_rows`, `iter_cols`, `indexed_iter`,

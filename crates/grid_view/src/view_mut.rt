@@ -24,7 +24,7 @@ pub struct GridViewMut<'a, T> {
 }
 
 impl<'a, T> GridViewMut<'a, T> {
-    ghost use Rattle.grid_view.specs.ViewMut.{lender, board_layout, board_rows, part_at, part_size, part_rows, IsSamePart};
+    ghost use Rattle.grid_view.specs.ViewMut.{lender, board_cells, board_layout, board_rows, part_at, part_size, part_rows, IsSamePart};
 
     /// Returns the part of `size.0` rows and `size.1` columns, from position `at` on, of the board that a slice stores in
     /// this layout. Without rows or without columns it is empty.
@@ -43,6 +43,7 @@ impl<'a, T> GridViewMut<'a, T> {
         requires rows_in { at.0 + size.0 ≤ board.rows }
         requires cols_in { at.1 + size.1 ≤ board.cols }
         ensures same_reference { lender result ≡ cells.entry.ghost_name }
+        ensures cells { board_cells result ≡ cells.old }
         ensures board { board_rows result ≡ table_of board.order board.rows board.cols cells.old }
         ensures layout { board_layout result ≡ board }
         ensures at { part_at result ≡ at }
