@@ -5,7 +5,7 @@ ghost use Rattle.grid_base.specs.Table.{row_count, col_count};
 use crate::ask::Ask;
 use crate::case::{CaseError, shape_error};
 use crate::shown::{shown, shown_made, shown_ok, text};
-use grid::{AsView, Grid, GridView, ViewLineIter, ViewRowIter};
+use grid::{AsView, Grid, GridView, GridViewMut, ViewLineIter, ViewRowIter};
 use std::alloc::{AllocError, Global};
 use std::convert::TryFrom;
 
@@ -162,6 +162,20 @@ pub fn by_place((row, col): (usize, usize), cell: &i64) -> i64 {
     cell.wrapping_mul(10).wrapping_add(above)
 }
 
+// A cell of a part before a write to it, after it, and before another, and the part then.
+fn written_through(
+    alloc: Global,
+    mut part: GridViewMut<'_, i64>,
+    at: (usize, usize),
+    cell: i64,
+) -> Result<String, CaseError> {
+    let old = part.set_at(at, cell);
+    let new = part.get(at.0, at.1).copied();
+    let again = part.set(at.0, at.1, cell);
+    let (size, rows) = (part.size(), part.view());
+    Ok(format!(in alloc; "{old:?} is {new:?} and {again:?}, {size:?} {rows:?}")?)
+}
+
 fn write(alloc: Global, board: &mut Grid<i64>, ask: Ask<'_>) -> Result<String, CaseError> {
     let (at, size) = (ask.position(0), ask.position(2));
     if !is_within(board, at, size) {
@@ -170,6 +184,12 @@ fn write(alloc: Global, board: &mut Grid<i64>, ask: Ask<'_>) -> Result<String, C
     match ask.call {
         "fill_part" => shown(alloc, board.fill_part(at, size, ask.cell(4))),
         "update_part" => shown(alloc, board.update_part(at, size, by_place)),
+        "part_mut" => written_through(
+            alloc,
+            board.part_mut(at, size),
+            ask.position(4),
+            ask.cell(6),
+        ),
         _ => read(alloc, board, ask),
     }
 }
@@ -178,6 +198,7 @@ fn write(alloc: Global, board: &mut Grid<i64>, ask: Ask<'_>) -> Result<String, C
 pub fn actual(alloc: Global, board: &mut Grid<i64>, ask: Ask<'_>) -> Result<String, CaseError> {
     match ask.call {
         "as_view" => shown(alloc, board.as_view()),
+        "view_mut" => written_through(alloc, board.view_mut(), ask.position(0), ask.cell(2)),
         "compare" => compared(alloc, board, ask),
         "paste" | "paste_copied" => paste(alloc, board, ask),
         "paste_clipped" => paste_clipped(alloc, board, ask),
