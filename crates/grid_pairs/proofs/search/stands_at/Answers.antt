@@ -1,4 +1,3 @@
-use Rattle.std.proofs.Common.{◌≡◌, true}
 use Rattle.grid_pairs.proofs.FindLemmas.{first_same}
 use Rattle.grid_pairs.proofs.search.stands_at.Goals as goal
 
