@@ -1,6 +1,6 @@
 //! Loops over a board: what proves with no proof file, and the one loop, [`paint`], that wants lines of its own.
 ghost use Rattle.std.specs.Prelude.{◌≡◌, IfSome, Some};
-ghost use Rattle.grid.specs.Prelude.{cell};
+ghost use Rattle.grid.specs.Prelude.{row_count, col_count, cell};
 
 use grid::Grid;
 use std::alloc::{AllocError, Global};
@@ -80,6 +80,28 @@ pub fn paint(grid: &mut Grid<u8>, x: u8) {
             grid[(row, col)] = x;
         }
     }
+}
+
+/// Clears the cells that are `x`, by index through a value that holds the slice, and returns how many there were. The size of
+/// the board stays, which no loop with `set_at` on the board itself says without a proof file.
+pub fn clear_equal(board: &mut Grid<u8>, x: u8) -> usize
+    ensures rows { row_count board.new.rows ≡ row_count board.old.rows }
+    ensures cols { col_count board.new.rows ≡ col_count board.old.rows }
+{
+    let mut all = board.view_mut();
+    let (rows, cols) = all.size();
+    let mut count = 0usize;
+    for row in 0..rows {
+        for col in 0..cols {
+            if let Some(old) = all.get(row, col).copied() {
+                if old == x {
+                    all.set(row, col, 0);
+                    count = count.saturating_add(1);
+                }
+            }
+        }
+    }
+    count
 }
 
 /// Returns the board of these lines, or `None` where a line has no cells or another length, or if allocation fails: the
