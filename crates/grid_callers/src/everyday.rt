@@ -31,6 +31,22 @@ pub fn put(board: &mut Grid<Piece>, at: (usize, usize), piece: Piece) -> bool {
     false
 }
 
+/// Takes the piece off a square and returns it: `None` where there is none, and out of range.
+pub fn take_off(board: &mut Grid<Option<Piece>>, at: (usize, usize)) -> Option<Piece> {
+    board.set_at(at, None).flatten()
+}
+
+/// Sets the trees beside a cell on fire. Their positions are collected first, since the loop writes to the board.
+pub fn spread(alloc: Global, wood: &mut Grid<char>, at: (usize, usize)) -> Result<(), AllocError> {
+    let near: Vec<(usize, usize)> = wood.neighbors4(at).map(|(to, _)| to).collect(alloc)?;
+    for to in near {
+        if wood.get_at(to) == Some(&'T') {
+            wood.set_at(to, '*');
+        }
+    }
+    Ok(())
+}
+
 /// Adds 1 to the counter at a position, if there is one.
 pub fn count_up(counters: &mut Grid<u32>, at: (usize, usize)) {
     if let Some(counter) = counters.get_mut_at(at) {
