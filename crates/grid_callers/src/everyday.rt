@@ -31,6 +31,13 @@ pub fn put(board: &mut Grid<Piece>, at: (usize, usize), piece: Piece) -> bool {
     false
 }
 
+/// Adds 1 to the counter at a position, if there is one.
+pub fn count_up(counters: &mut Grid<u32>, at: (usize, usize)) {
+    if let Some(counter) = counters.get_mut_at(at) {
+        *counter = counter.saturating_add(1);
+    }
+}
+
 /// Takes the piece off a square and returns it: `None` where there is none, and out of range.
 pub fn take_off(board: &mut Grid<Option<Piece>>, at: (usize, usize)) -> Option<Piece> {
     board.set_at(at, None).flatten()
@@ -45,13 +52,6 @@ pub fn spread(alloc: Global, wood: &mut Grid<char>, at: (usize, usize)) -> Resul
         }
     }
     Ok(())
-}
-
-/// Adds 1 to the counter at a position, if there is one.
-pub fn count_up(counters: &mut Grid<u32>, at: (usize, usize)) {
-    if let Some(counter) = counters.get_mut_at(at) {
-        *counter = counter.saturating_add(1);
-    }
 }
 
 /// Moves the player, `@`, by one step, if the cell there is free; returns whether it was.
