@@ -162,18 +162,36 @@ pub fn by_place((row, col): (usize, usize), cell: &i64) -> i64 {
     cell.wrapping_mul(10).wrapping_add(above)
 }
 
-// A cell of a part before a write to it, after it, and before another, and the part then.
-fn written_through(
+// What a part for writing shows, and a cell of it before a write, after it, and before another.
+fn written(
     alloc: Global,
-    mut part: GridViewMut<'_, i64>,
-    at: (usize, usize),
-    cell: i64,
+    part: &GridViewMut<'_, i64>,
+    cells: [Option<i64>; 3],
 ) -> Result<String, CaseError> {
-    let old = part.set_at(at, cell);
-    let new = part.get(at.0, at.1).copied();
-    let again = part.set(at.0, at.1, cell);
-    let (size, rows) = (part.size(), part.view());
+    let ([old, new, again], size, rows) = (cells, part.size(), part.view());
     Ok(format!(in alloc; "{old:?} is {new:?} and {again:?}, {size:?} {rows:?}")?)
+}
+
+fn write_whole(alloc: Global, board: &mut Grid<i64>, ask: Ask<'_>) -> Result<String, CaseError> {
+    let ((row, col), cell) = (ask.position(0), ask.cell(2));
+    let mut whole = board.view_mut();
+    let old = whole.set_at((row, col), cell);
+    let new = whole.get(row, col).copied();
+    let again = whole.set(row, col, cell);
+    written(alloc, &whole, [old, new, again])
+}
+
+fn write_part(alloc: Global, board: &mut Grid<i64>, ask: Ask<'_>) -> Result<String, CaseError> {
+    let (at, size) = (ask.position(0), ask.position(2));
+    if !is_within(board, at, size) {
+        return text(alloc, "out of range");
+    }
+    let ((row, col), cell) = (ask.position(4), ask.cell(6));
+    let mut part = board.part_mut(at, size);
+    let old = part.set_at((row, col), cell);
+    let new = part.get(row, col).copied();
+    let again = part.set(row, col, cell);
+    written(alloc, &part, [old, new, again])
 }
 
 fn write(alloc: Global, board: &mut Grid<i64>, ask: Ask<'_>) -> Result<String, CaseError> {
@@ -184,12 +202,7 @@ fn write(alloc: Global, board: &mut Grid<i64>, ask: Ask<'_>) -> Result<String, C
     match ask.call {
         "fill_part" => shown(alloc, board.fill_part(at, size, ask.cell(4))),
         "update_part" => shown(alloc, board.update_part(at, size, by_place)),
-        "part_mut" => written_through(
-            alloc,
-            board.part_mut(at, size),
-            ask.position(4),
-            ask.cell(6),
-        ),
+        "part_mut" => write_part(alloc, board, ask),
         _ => read(alloc, board, ask),
     }
 }
@@ -198,7 +211,7 @@ fn write(alloc: Global, board: &mut Grid<i64>, ask: Ask<'_>) -> Result<String, C
 pub fn actual(alloc: Global, board: &mut Grid<i64>, ask: Ask<'_>) -> Result<String, CaseError> {
     match ask.call {
         "as_view" => shown(alloc, board.as_view()),
-        "view_mut" => written_through(alloc, board.view_mut(), ask.position(0), ask.cell(2)),
+        "view_mut" => write_whole(alloc, board, ask),
         "compare" => compared(alloc, board, ask),
         "paste" | "paste_copied" => paste(alloc, board, ask),
         "paste_clipped" => paste_clipped(alloc, board, ask),
