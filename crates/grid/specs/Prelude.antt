@@ -49,7 +49,7 @@ pub use Rattle.grid_commands.specs.LineEdit.{pad_edit, request_value, edit_value
 pub use Rattle.grid_commands.specs.Refusal.{in_range, lines_refusal, pad_refusal, edit_refusal, fitting_width, first_width, command_refusal, unless_refused, exceeds}
 pub use Rattle.grid_commands.specs.Reply.{reply_value, ReplyValue, done, size_is, cell_is, line_is, flag_is, refused}
 pub use Rattle.grid_near.specs.Around.{strided_cell, box, IsThere, around, side}
-pub use Rattle.grid_near.specs.Directions.{IsBeside, box_of}
+pub use Rattle.grid_near.specs.Directions.{IsBeside, box_of, wrapped_beside}
 pub use Rattle.grid_near.specs.Marks.{TakesCounted, AnswersCounted, TakesSummed, AnswersSummed, count_round, sum_round, near, table, placed_cells}
 pub use Rattle.grid_near.specs.NearCounts.{CallableNear, CountsNear}
 unfoldable pub use Rattle.grid_near.specs.Neighbors.{neighbors4, neighbors8, wrapped_neighbors4, wrapped_neighbors8}

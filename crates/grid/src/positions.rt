@@ -1,6 +1,6 @@
 //! Positions as pairs: whether there is a cell, access, a step to the side, and the positions of cells that pass a test.
 ghost use Rattle.std.specs.Prelude.{◌≡◌, ◌↔◌, ◌<◌, IsTrue, IfOk, IfSome, IsSome, MatchOption, is_some, Some, option_copied};
-ghost use Rattle.grid.specs.Prelude.{row_count, col_count, cell, nearest_below, with_cell, InRange, SameSizeAndOrder, sem, CallableAtCells, FoundFirst, FoundAll, IsBeside, IsOffset, GivesIndices};
+ghost use Rattle.grid.specs.Prelude.{row_count, col_count, cell, nearest_below, with_cell, InRange, SameSizeAndOrder, sem, CallableAtCells, FoundFirst, FoundAll, IsBeside, IsOffset, GivesIndices, wrapped_beside};
 ghost use Rattle.std.specs.List.{All};
 
 use crate::Grid;
@@ -88,6 +88,22 @@ impl<T, A: Allocator> Grid<T, A> {
             (λ to. IsBeside way at to × InRange self.now.rows to.0 to.1) }
     {
         way.step(self.size(), at)
+    }
+
+    /// Returns the position that is one step from `at` on a board whose edges meet: the first row comes after the last, and so
+    /// do the columns. Returns `None` exactly where `at` is out of range.
+    ///
+    ///     [[1, 2, 3], [4, 5, 6]]   wrapped_beside((0, 2), Right)    Some((0, 0))
+    ///     [[1, 2, 3], [4, 5, 6]]   wrapped_beside((0, 0), UpLeft)   Some((1, 2))
+    ///
+    /// Cost: constant; no division.
+    pub fn wrapped_beside(&self, at: (usize, usize), way: Direction) -> Option<(usize, usize)>
+        ensures to { MatchOption result (InRange self.now.rows at.0 at.1 → ⊥)
+            (λ to. InRange self.now.rows at.0 at.1 × (to ≡ wrapped_beside way
+            (row_count self.now.rows, col_count self.now.rows) at)) }
+        ensures in_range { IfSome result (λ to. InRange self.now.rows to.0 to.1) }
+    {
+        way.wrapped_step(self.size(), at)
     }
 
     /// Returns the position that is `by.0` rows down and `by.1` columns to the right of `at`, if there is a cell. Negative

@@ -43,7 +43,7 @@ pub fn take_off(board: &mut Grid<Option<Piece>>, at: (usize, usize)) -> Option<P
     board.set_at(at, None).flatten()
 }
 
-/// Sets the trees beside a cell on fire. Their positions are collected first, since the loop writes to the board.
+/// Sets the trees next to a cell on fire. Their positions are collected first, since the loop writes to the board.
 pub fn spread(alloc: Global, wood: &mut Grid<char>, at: (usize, usize)) -> Result<(), AllocError> {
     let near: Vec<(usize, usize)> = wood.neighbors4(at).map(|(to, _)| to).collect(alloc)?;
     for to in near {
@@ -79,6 +79,47 @@ pub fn shoot(board: &mut Grid<char>, from: (usize, usize), way: Direction) {
                 at = next;
             }
             _ => return,
+        }
+    }
+}
+
+/// Langton's ant, on a board whose edges meet: turns by the color of its cell, flips it and goes a step, so many times.
+/// Returns where it is then.
+pub fn ant(black: &mut Grid<bool>, from: (usize, usize), steps: usize) -> (usize, usize) {
+    let (mut at, mut way) = (from, Direction::Up);
+    for _ in 0..steps {
+        let is_black = black.get_at(at) == Some(&true);
+        way = way.turned(if is_black { 6 } else { 2 });
+        black.set_at(at, !is_black);
+        at = black.wrapped_beside(at, way).unwrap_or(at);
+    }
+    at
+}
+
+/// A level: its walls, and in a second board what lies on its floor.
+#[derive(Drop)]
+pub struct Level {
+    pub walls: Grid<bool>,
+    pub items: Grid<Option<char>>,
+}
+
+/// Takes what lies on the cells of a level that are walls, and returns how many had something.
+pub fn clear_walls(level: &mut Level) -> usize {
+    let mut found = 0usize;
+    for at in level.walls.indices() {
+        if level.walls[at] && level.items.set_at(at, None).flatten().is_some() {
+            found = found.saturating_add(1);
+        }
+    }
+    found
+}
+
+/// Sorts each column so that what falls lies at the end: swaps a cell that is full with an empty one below it.
+pub fn fall(board: &mut Grid<bool>) {
+    for (row, col) in board.indices() {
+        let (here, below) = ((row, col), (row.saturating_add(1), col));
+        if board.get_at(here) == Some(&true) && board.get_at(below) == Some(&false) {
+            board.swap(here, below);
         }
     }
 }

@@ -83,7 +83,7 @@ pub fn paint(grid: &mut Grid<u8>, x: u8) {
 }
 
 /// Clears the cells that are `x`, by index through a value that holds the slice, and returns how many there were. The size of
-/// the board stays, which no loop with `set_at` on the board itself says without a proof file.
+/// the board stays.
 pub fn clear_equal(board: &mut Grid<u8>, x: u8) -> usize
     ensures rows { row_count board.new.rows ≡ row_count board.old.rows }
     ensures cols { col_count board.new.rows ≡ col_count board.old.rows }

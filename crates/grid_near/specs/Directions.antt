@@ -1,5 +1,6 @@
 -- Positions one step apart.
 use Rattle.std.specs.Prelude.{◌≡◌, ℕ, ◌+◌, ◌<◌}
+use Rattle.grid_near.specs.Around.{around}
 use Rattle.grid_near.specs.declared.direction.Direction.{Direction}
 use Rattle.grid_near.specs.declared.direction.Direction.TheVariants.{Up, UpRight, Right, DownRight, Down, DownLeft, Left, UpLeft}
 
@@ -28,6 +29,11 @@ clockwise UpLeft = 7
 -- `to` is one step from `at` in a direction
 abbrev pub IsBeside : Direction → ℕ × ℕ → ℕ × ℕ → Type 0
 IsBeside way at to = (to.0 + 1 ≡ at.0 + (box_of way).0) × (to.1 + 1 ≡ at.1 + (box_of way).1)
+
+-- the position one step from `at` in a direction, within a size whose edges meet
+abbrev pub wrapped_beside : Direction → ℕ × ℕ → ℕ × ℕ → ℕ × ℕ
+wrapped_beside way size at =
+    (around size.0 at.0 (box_of way).0, around size.1 at.1 (box_of way).1)
 
 -- a position is within a size
 abbrev pub IsWithin : ℕ × ℕ → ℕ × ℕ → Type 0

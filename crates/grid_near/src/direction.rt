@@ -1,6 +1,8 @@
 //! Directions, and the positions beside a position.
-ghost use Rattle.std.specs.Prelude.{◌≡◌, ◌+◌, ◌<◌, ◌≤◌, ◌%◌, ℕ, MatchOption};
-ghost use Rattle.grid_near.specs.Prelude.{box_of, clockwise, IsBeside, IsWithin};
+ghost use Rattle.std.specs.Prelude.{◌≡◌, ◌+◌, ◌<◌, ◌≤◌, ◌%◌, ℕ, MatchOption, IfSome};
+ghost use Rattle.grid_near.specs.Prelude.{box_of, clockwise, wrapped_beside, IsBeside, IsWithin};
+
+use crate::steps::around;
 
 /// A direction from a cell to one that touches it. The first row is up, and the first column left.
 #[derive(Clone, Copy, Debug, PartialEq, Eq)]
@@ -120,6 +122,26 @@ impl Direction {
         } else {
             None
         }
+    }
+
+    /// Returns the position that is one step from `at` on a board of `size.0` rows and `size.1` columns whose edges meet:
+    /// the first row comes after the last, and so do the columns. Returns `None` exactly where `at` is out of range.
+    ///
+    ///     Right.wrapped_step((2, 3), (0, 1))    Some((0, 2))
+    ///     Right.wrapped_step((2, 3), (0, 2))    Some((0, 0))
+    ///     UpLeft.wrapped_step((2, 3), (0, 0))   Some((1, 2))
+    ///
+    /// Cost: constant; no division.
+    pub fn wrapped_step(self, size: (usize, usize), at: (usize, usize)) -> Option<(usize, usize)>
+        ensures to { MatchOption result (IsWithin size at → ⊥)
+            (λ to. IsWithin size at × (to ≡ wrapped_beside self size at)) }
+        ensures in_range { IfSome result (IsWithin size) }
+    {
+        if size.0 <= at.0 || size.1 <= at.1 {
+            return None;
+        }
+        let (i, j) = self.in_box();
+        Some((around(size.0, at.0, i), around(size.1, at.1, j)))
     }
 
     // The row and the column of the cell in this direction, of three rows and columns.

@@ -10,9 +10,8 @@ use std::mem;
 
 /// A part of a board, for writing, without a copy of its cells.
 ///
-/// It holds the slice of the cells, the size and the order of the board, and the place and the size of the part, by value:
-/// a local variable of this type is what a loop writes through that is to keep them in registers. What was written is in
-/// the board once the value ends.
+/// It holds the slice of the cells, the size and the order of the board, and the position and the size of the part, by
+/// value. What was written is in the board once the value ends.
 // It has no model, and a `drop` that says what it leaves, so that a contract can follow the loan.
 pub struct GridViewMut<'a, T> {
     cells: &'a mut [T],

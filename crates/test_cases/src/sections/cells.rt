@@ -71,6 +71,10 @@ pub fn actual(alloc: Global, board: &mut Grid<i64>, ask: Ask<'_>) -> Result<Stri
         "get_at" => shown(alloc, board.get_at((row, col))),
         "get_clamped" => shown(alloc, board.get_clamped((ask.signed(0), ask.signed(1)))),
         "beside" => shown(alloc, board.beside((row, col), direction(ask.word(2)))),
+        "wrapped_beside" => shown(
+            alloc,
+            board.wrapped_beside((row, col), direction(ask.word(2))),
+        ),
         _ => write(alloc, board, ask),
     }
 }
