@@ -17,8 +17,8 @@
 //! - make one: `empty`; `new`, `init`, `from_fn`, `try_from_fn`, `with_capacity`, `from_vec`, `from_arrays`, each in
 //!   either order; `grid!`, `grid_cm!`; `TryFrom` a vector and a number of columns, or a list of rows
 //! - read: `size`, `rows`, `cols`, `order`, `is_empty`, `get`, `get_at`, `get_clamped`, `get_unchecked`,
-//!   `grid[(row, col)]`, `flatten`, `as_slice`, `into_vec`; `contains`, `position`, `positions`, `beside`; `can_cut`,
-//!   `fits_row`, `fits_col`, `allocator`
+//!   `grid[(row, col)]`, `flatten`, `as_slice`, `into_vec`; `contains`, `position`, `positions`, `beside`,
+//!   `wrapped_beside`; `can_cut`, `fits_row`, `fits_col`, `allocator`
 //! - write: `set`, `set_at`, `get_mut`, `get_mut_at`, `get_unchecked_mut`, `grid[(row, col)] = x`, `as_mut_slice`, `swap`,
 //!   `fill`, `fill_with`, `clear`; `view_mut` and `part_mut`, values that a loop writes through
 //! - rows and columns: `push_*`, `insert_*`, `pop_*`, `remove_*`, `delete_*`, `expand_*`, `prepend_*`, `append_*`,
