@@ -6,7 +6,7 @@
 
 use anyhow::{Result, bail};
 use grid::Grid;
-use grid_paths::{Enter, Steps, flood};
+use grid_paths::{Enter, Connectivity, flood};
 use grid_text::{from_text, to_text};
 use std::alloc::{AllocError, Global};
 use std::io;
@@ -59,7 +59,7 @@ fn read_move(line: &str) -> Option<(&str, (usize, usize))> {
 
 // Opens a cell, and round each that no mine touches all others, as far as these lead.
 fn open(field: &mut Grid<Cell>, at: (usize, usize)) -> Result<(), AllocError> {
-    let opened = flood(field, &[at], Steps::All, |cell| match cell.near {
+    let opened = flood(field, &[at], Connectivity::Eight, |cell| match cell.near {
         _ if cell.shown == Shown::Flag => Enter::No,
         0 if !cell.is_mine => Enter::On,
         _ => Enter::Stop,

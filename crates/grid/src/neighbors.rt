@@ -5,7 +5,7 @@ ghost use Rattle.grid_near.specs.declared.board.Edges.TheVariants.{Joined};
 
 use crate::Grid;
 use grid_base::{Flat, Layout};
-use grid_near::{Board, Edges, Neighbors, Steps, WrappedNeighbors};
+use grid_near::{Board, Edges, Neighbors, Connectivity, WrappedNeighbors};
 use std::alloc::{AllocError, Allocator};
 
 impl<T, A: Allocator> Grid<T, A> {
@@ -20,7 +20,7 @@ impl<T, A: Allocator> Grid<T, A> {
         ensures count { length result ≤ 4 }
         ensures cells { GivesCells self.now.rows result }
     {
-        self.cells_round(at, Steps::Sides, Edges::Open)
+        self.cells_round(at, Connectivity::Four, Edges::Open)
     }
 
     /// Returns an iterator over the cells that touch the cell at this position, at a side or a corner, row by row, each with
@@ -34,7 +34,7 @@ impl<T, A: Allocator> Grid<T, A> {
         ensures count { length result ≤ 8 }
         ensures cells { GivesCells self.now.rows result }
     {
-        self.cells_round(at, Steps::All, Edges::Open)
+        self.cells_round(at, Connectivity::Eight, Edges::Open)
     }
 
     /// Same as [`neighbors4`](Grid::neighbors4), on a grid whose edges meet: the last row is above the first, and the last
@@ -50,7 +50,7 @@ impl<T, A: Allocator> Grid<T, A> {
         ensures at_most { length result ≤ 4 }
         ensures cells { GivesCells self.now.rows result }
     {
-        self.cells_round(at, Steps::Sides, Edges::Joined)
+        self.cells_round(at, Connectivity::Four, Edges::Joined)
     }
 
     /// Same as [`neighbors8`](Grid::neighbors8), on a grid whose edges meet: the last row is above the first, and the last
@@ -66,7 +66,7 @@ impl<T, A: Allocator> Grid<T, A> {
         ensures at_most { length result ≤ 8 }
         ensures cells { GivesCells self.now.rows result }
     {
-        self.cells_round(at, Steps::All, Edges::Joined)
+        self.cells_round(at, Connectivity::Eight, Edges::Joined)
     }
 
     /// Same as [`map_neighbors8`](Grid::map_neighbors8), with the iterator that [`neighbors4`](Grid::neighbors4) gives.
@@ -80,7 +80,7 @@ impl<T, A: Allocator> Grid<T, A> {
         ensures same { IfOk result (SameSizeAndOrder self.now) }
         ensures cells { MapRound neighbors4 F.post f self.now.rows result }
     {
-        self.map_round(Steps::Sides, Edges::Open, f)
+        self.map_round(Connectivity::Four, Edges::Open, f)
     }
 
     /// Returns the grid of what the closure, called in storage order, returns for each position, a reference to the
@@ -102,7 +102,7 @@ impl<T, A: Allocator> Grid<T, A> {
         ensures same { IfOk result (SameSizeAndOrder self.now) }
         ensures cells { MapRound neighbors8 F.post f self.now.rows result }
     {
-        self.map_round(Steps::All, Edges::Open, f)
+        self.map_round(Connectivity::Eight, Edges::Open, f)
     }
 
     /// Same as [`map_neighbors8`](Grid::map_neighbors8), with the iterator that
@@ -117,7 +117,7 @@ impl<T, A: Allocator> Grid<T, A> {
         ensures same { IfOk result (SameSizeAndOrder self.now) }
         ensures cells { MapRound wrapped_neighbors4 F.post f self.now.rows result }
     {
-        self.map_round(Steps::Sides, Edges::Joined, f)
+        self.map_round(Connectivity::Four, Edges::Joined, f)
     }
 
     /// Same as [`map_neighbors8`](Grid::map_neighbors8), with the iterator that
@@ -132,7 +132,7 @@ impl<T, A: Allocator> Grid<T, A> {
         ensures same { IfOk result (SameSizeAndOrder self.now) }
         ensures cells { MapRound wrapped_neighbors8 F.post f self.now.rows result }
     {
-        self.map_round(Steps::All, Edges::Joined, f)
+        self.map_round(Connectivity::Eight, Edges::Joined, f)
     }
 
     /// Same as [`count_neighbors8`](Grid::count_neighbors8), of the cells of [`neighbors4`](Grid::neighbors4).
@@ -218,7 +218,7 @@ impl<T, A: Allocator> Grid<T, A> {
         ensures same { IfOk result (SameSizeAndOrder self.now) }
         ensures cells { MapCounts neighbors8 F.post test G.post rule self.now.rows result }
     {
-        self.counts_round(Steps::All, Edges::Open, test, rule)
+        self.counts_round(Connectivity::Eight, Edges::Open, test, rule)
     }
 
     /// Same as [`map_counts8`](Grid::map_counts8), on a grid whose edges meet, as
@@ -242,7 +242,7 @@ impl<T, A: Allocator> Grid<T, A> {
         ensures same { IfOk result (SameSizeAndOrder self.now) }
         ensures cells { MapCounts wrapped_neighbors8 F.post test G.post rule self.now.rows result }
     {
-        self.counts_round(Steps::All, Edges::Joined, test, rule)
+        self.counts_round(Connectivity::Eight, Edges::Joined, test, rule)
     }
 
     /// Same as [`map_counts8`](Grid::map_counts8), with the sum of what the closure `weight` returns at the cells that
@@ -265,7 +265,7 @@ impl<T, A: Allocator> Grid<T, A> {
         ensures same { IfOk result (SameSizeAndOrder self.now) }
         ensures cells { MapSums neighbors8 F.post weight G.post rule self.now.rows result }
     {
-        self.sums_round(Steps::All, Edges::Open, weight, rule)
+        self.sums_round(Connectivity::Eight, Edges::Open, weight, rule)
     }
 
     /// Same as [`map_sums8`](Grid::map_sums8), on a grid whose edges meet.
@@ -288,7 +288,7 @@ impl<T, A: Allocator> Grid<T, A> {
         ensures same { IfOk result (SameSizeAndOrder self.now) }
         ensures cells { MapSums wrapped_neighbors8 F.post weight G.post rule self.now.rows result }
     {
-        self.sums_round(Steps::All, Edges::Joined, weight, rule)
+        self.sums_round(Connectivity::Eight, Edges::Joined, weight, rule)
     }
 
     /// Same as [`map_counts8`](Grid::map_counts8), of the four cells that share a side with a cell.
@@ -304,7 +304,7 @@ impl<T, A: Allocator> Grid<T, A> {
         ensures same { IfOk result (SameSizeAndOrder self.now) }
         ensures cells { MapCounts neighbors4 F.post test G.post rule self.now.rows result }
     {
-        self.counts_round(Steps::Sides, Edges::Open, test, rule)
+        self.counts_round(Connectivity::Four, Edges::Open, test, rule)
     }
 
     /// Same as [`map_wrapped_counts8`](Grid::map_wrapped_counts8), of the four cells that share a side with a cell.
@@ -320,7 +320,7 @@ impl<T, A: Allocator> Grid<T, A> {
         ensures same { IfOk result (SameSizeAndOrder self.now) }
         ensures cells { MapCounts wrapped_neighbors4 F.post test G.post rule self.now.rows result }
     {
-        self.counts_round(Steps::Sides, Edges::Joined, test, rule)
+        self.counts_round(Connectivity::Four, Edges::Joined, test, rule)
     }
 
     /// Same as [`map_sums8`](Grid::map_sums8), of the four cells that share a side with a cell.
@@ -336,7 +336,7 @@ impl<T, A: Allocator> Grid<T, A> {
         ensures same { IfOk result (SameSizeAndOrder self.now) }
         ensures cells { MapSums neighbors4 F.post weight G.post rule self.now.rows result }
     {
-        self.sums_round(Steps::Sides, Edges::Open, weight, rule)
+        self.sums_round(Connectivity::Four, Edges::Open, weight, rule)
     }
 
     /// Same as [`map_wrapped_sums8`](Grid::map_wrapped_sums8), of the four cells that share a side with a cell.
@@ -352,47 +352,48 @@ impl<T, A: Allocator> Grid<T, A> {
         ensures same { IfOk result (SameSizeAndOrder self.now) }
         ensures cells { MapSums wrapped_neighbors4 F.post weight G.post rule self.now.rows result }
     {
-        self.sums_round(Steps::Sides, Edges::Joined, weight, rule)
+        self.sums_round(Connectivity::Four, Edges::Joined, weight, rule)
     }
 
     // The cells round a cell, by which steps, and by what the edges do.
     #[inline(always)]
-    fn cells_round(&self, at: (usize, usize), kind: Steps, edges: Edges) -> Neighbors<'_, T>
-        ensures gives { GivesNear (round_of kind edges self.now.rows at.0 at.1) result }
+    fn cells_round(&self, at: (usize, usize), connectivity: Connectivity, edges: Edges) -> Neighbors<'_, T>
+        ensures gives { GivesNear (round_of connectivity edges self.now.rows at.0 at.1) result }
         ensures count { edges ≡ Joined → InRange self.now.rows at.0 at.1
-            → length result ≡ step_count kind }
-        ensures at_most { length result ≤ step_count kind }
+            → length result ≡ step_count connectivity }
+        ensures at_most { length result ≤ step_count connectivity }
         ensures cells { GivesCells self.now.rows result }
     {
         let (order, rows, cols) = (self.order, self.row_count, self.col_count);
         let layout = Layout { order, rows, cols };
-        grid_near::neighbors_of(self.flat.as_slice(), layout, at, kind, edges)
+        grid_near::neighbors_of(self.flat.as_slice(), layout, at, connectivity, edges)
     }
 
     // What the closure returns at each cell and the cells round it.
     fn map_round<U, F: Fn((usize, usize), &T, Neighbors<'_, T>) -> U>(
         &self,
-        kind: Steps,
+        connectivity: Connectivity,
         edges: Edges,
         f: F,
     ) -> Result<Grid<U, A>, AllocError>
     where
         A: Clone,
-        requires { CallableRound (round_of kind edges) F.pre f self.now.rows }
+        requires { CallableRound (round_of connectivity edges) F.pre f self.now.rows }
         ensures same { IfOk result (SameSizeAndOrder self.now) }
-        ensures cells { MapRound (round_of kind edges) F.post f self.now.rows result }
+        ensures cells { MapRound (round_of connectivity edges) F.post f self.now.rows result }
     {
         self.map_indexed(
             |at, cell|
-                requires { ReachesRound (round_of kind edges) F.pre f self.now.rows at cell }
-            { f(at, cell, self.cells_round(at, kind, edges)) },
+                requires { ReachesRound (round_of connectivity edges) F.pre f self.now.rows at
+                    cell }
+            { f(at, cell, self.cells_round(at, connectivity, edges)) },
         )
     }
 
     // What the closure returns at each cell and how many of the cells round it pass.
     fn counts_round<U, F: Fn(&T) -> bool, G: Fn(&T, u8) -> U>(
         &self,
-        kind: Steps,
+        connectivity: Connectivity,
         edges: Edges,
         test: F,
         rule: G,
@@ -400,10 +401,10 @@ impl<T, A: Allocator> Grid<T, A> {
     where
         A: Clone,
         requires tests { CallableAtRefs F.pre test (storage self.now.order self.now.rows) }
-        requires calls { CallableCounted (round_of kind edges) F.post test G.pre rule
+        requires calls { CallableCounted (round_of connectivity edges) F.post test G.pre rule
             self.now.rows }
         ensures same { IfOk result (SameSizeAndOrder self.now) }
-        ensures cells { MapCounts (round_of kind edges) F.post test G.post rule
+        ensures cells { MapCounts (round_of connectivity edges) F.post test G.post rule
             self.now.rows result }
     {
         let (order, rows, cols) = (self.order, self.row_count, self.col_count);
@@ -413,7 +414,7 @@ impl<T, A: Allocator> Grid<T, A> {
             cells,
             layout: Layout { order, rows, cols },
             edges,
-            kind,
+            connectivity,
             mark: &test,
         };
         let made = grid_near::map_counts(alloc, &board, rule)?;
@@ -428,7 +429,7 @@ impl<T, A: Allocator> Grid<T, A> {
     // What the closure returns at each cell and the sum of those round it.
     fn sums_round<U, F: Fn(&T) -> u8, G: Fn(&T, u16) -> U>(
         &self,
-        kind: Steps,
+        connectivity: Connectivity,
         edges: Edges,
         weight: F,
         rule: G,
@@ -436,10 +437,10 @@ impl<T, A: Allocator> Grid<T, A> {
     where
         A: Clone,
         requires weights { CallableAtRefs F.pre weight (storage self.now.order self.now.rows) }
-        requires calls { CallableSummed (round_of kind edges) F.post weight G.pre rule
+        requires calls { CallableSummed (round_of connectivity edges) F.post weight G.pre rule
             self.now.rows }
         ensures same { IfOk result (SameSizeAndOrder self.now) }
-        ensures cells { MapSums (round_of kind edges) F.post weight G.post rule
+        ensures cells { MapSums (round_of connectivity edges) F.post weight G.post rule
             self.now.rows result }
     {
         let (order, rows, cols) = (self.order, self.row_count, self.col_count);
@@ -449,7 +450,7 @@ impl<T, A: Allocator> Grid<T, A> {
             cells,
             layout: Layout { order, rows, cols },
             edges,
-            kind,
+            connectivity,
             mark: &weight,
         };
         let made = grid_near::map_sums(alloc, &board, rule)?;

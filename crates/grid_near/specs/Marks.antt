@@ -5,8 +5,8 @@ use Rattle.std.specs.Int.{from_bool}
 use denote.Ref.{Bor}
 use Rattle.grid_base.specs.declared.order.Order.{Order}
 use Rattle.grid_base.specs.declared.order.Order.TheVariants.{RowMajor, ColumnMajor}
-use Rattle.grid_near.specs.declared.steps.Steps.{Steps}
-use Rattle.grid_near.specs.declared.steps.Steps.TheVariants.{Sides, All}
+use Rattle.grid_near.specs.declared.steps.Connectivity.{Connectivity}
+use Rattle.grid_near.specs.declared.steps.Connectivity.TheVariants.{Four, Eight}
 use Rattle.grid_near.specs.declared.board.Board.{Board}
 use Rattle.grid_near.specs.declared.board.Edges.{Edges}
 use Rattle.grid_near.specs.declared.board.Edges.TheVariants.{Open, Joined}
@@ -23,9 +23,9 @@ module _ {T F : Type 0} (b : Board T F) where
   abbrev pub placed_cells : List ((ℕ × ℕ) × T)
   placed_cells = zip (positions_of b.layout) b.cells.now
 
-  -- the cells round a cell of a table, by the board's kind of steps and its edges
+  -- the cells round a cell of a table, by the board's connectivity and its edges
   abbrev pub near : List (List T) → ℕ → ℕ → List ((ℕ × ℕ) × T)
-  near = round_of b.kind b.edges
+  near = round_of b.connectivity b.edges
 
 -- the row and the column of a place in a line along the storage
 abbrev pub spot : Order → Option ℕ → Option ℕ → Option ℕ × Option ℕ
@@ -49,12 +49,12 @@ pub record WithEnds {B : Type 0} (blank : B) (e : Edges) (w : ℕ) (old new : Li
   pub last : slice_index_or new (w + 1) blank ≡ end_mark blank e (slice_index_or old 1 blank)
 
 -- how many of the marks round place k of the middle one of three lines are true
-abbrev pub count_round : Steps → List Bool → List Bool → List Bool → ℕ → ℕ
-count_round Sides up mid down k =
+abbrev pub count_round : Connectivity → List Bool → List Bool → List Bool → ℕ → ℕ
+count_round Four up mid down k =
     from_bool (slice_index_or up (k + 1) false) + from_bool (slice_index_or mid k false)
     + from_bool (slice_index_or mid (k + 2) false)
     + from_bool (slice_index_or down (k + 1) false)
-count_round All up mid down k =
+count_round Eight up mid down k =
     from_bool (slice_index_or up k false) + from_bool (slice_index_or up (k + 1) false)
     + from_bool (slice_index_or up (k + 2) false) + (from_bool (slice_index_or mid k false)
     + from_bool (slice_index_or mid (k + 2) false)) + (from_bool (slice_index_or down k false)
@@ -62,11 +62,11 @@ count_round All up mid down k =
     + from_bool (slice_index_or down (k + 2) false))
 
 -- the sum of the marks round place k
-abbrev pub sum_round : Steps → List ℕ → List ℕ → List ℕ → ℕ → ℕ
-sum_round Sides up mid down k =
+abbrev pub sum_round : Connectivity → List ℕ → List ℕ → List ℕ → ℕ → ℕ
+sum_round Four up mid down k =
     slice_index_or up (k + 1) 0 + slice_index_or mid k 0 + slice_index_or mid (k + 2) 0
     + slice_index_or down (k + 1) 0
-sum_round All up mid down k =
+sum_round Eight up mid down k =
     slice_index_or up k 0 + slice_index_or up (k + 1) 0 + slice_index_or up (k + 2) 0
     + (slice_index_or mid k 0 + slice_index_or mid (k + 2) 0)
     + (slice_index_or down k 0 + slice_index_or down (k + 1) 0 + slice_index_or down (k + 2) 0)

@@ -3,16 +3,16 @@ use Rattle.std.specs.Prelude.{◌≡◌, ℕ, zero, suc, ◌+◌, ◌-◌, ◌%�
 use Rattle.std.specs.Iterator.{YieldsFirstBy}
 use Rattle.std.specs.Iterator.Runs.{EveryRun, ItemsMapTo}
 use Rattle.std.specs.Borrow.{Bor}
-use Rattle.grid_near.specs.declared.steps.Steps.{Steps}
-use Rattle.grid_near.specs.declared.steps.Steps.TheVariants.{Sides, All}
+use Rattle.grid_near.specs.declared.steps.Connectivity.{Connectivity}
+use Rattle.grid_near.specs.declared.steps.Connectivity.TheVariants.{Four, Eight}
 use Rattle.grid_near.specs.declared.board.Edges.{Edges}
 use Rattle.grid_near.specs.declared.board.Edges.TheVariants.{Open, Joined}
 use Rattle.grid_base.specs.Table.{row_count, col_count, cell}
 
 -- how many cells there are round a cell at most: the four that share a side with it, or all eight
-abbrev pub step_count : Steps → ℕ
-step_count Sides = 4
-step_count All = 8
+abbrev pub step_count : Connectivity → ℕ
+step_count Four = 4
+step_count Eight = 8
 
 -- the eight round the middle of three rows and three columns, row by row
 abbrev pub around8 : {X : Type 0} → X → X → X → X → X → X → List (X × X)
@@ -73,19 +73,19 @@ module _ {T : Type 0} where
       (Some r) (Some (round_after m r)) (Some (round_before n c)) (Some c)
       (Some (round_after n c)))) []
 
-  -- by the kind of steps
-  abbrev pub neighbors_of : Steps → List (List T) → ℕ → ℕ → List ((ℕ × ℕ) × T)
-  neighbors_of Sides = neighbors4
-  neighbors_of All = neighbors8
+  -- by the connectivity
+  abbrev pub neighbors_of : Connectivity → List (List T) → ℕ → ℕ → List ((ℕ × ℕ) × T)
+  neighbors_of Four = neighbors4
+  neighbors_of Eight = neighbors8
 
-  abbrev pub wrapped_neighbors_of : Steps → List (List T) → ℕ → ℕ → List ((ℕ × ℕ) × T)
-  wrapped_neighbors_of Sides = wrapped_neighbors4
-  wrapped_neighbors_of All = wrapped_neighbors8
+  abbrev pub wrapped_neighbors_of : Connectivity → List (List T) → ℕ → ℕ → List ((ℕ × ℕ) × T)
+  wrapped_neighbors_of Four = wrapped_neighbors4
+  wrapped_neighbors_of Eight = wrapped_neighbors8
 
   -- and by what the edges do
-  abbrev pub round_of : Steps → Edges → List (List T) → ℕ → ℕ → List ((ℕ × ℕ) × T)
-  round_of kind Open = neighbors_of kind
-  round_of kind Joined = wrapped_neighbors_of kind
+  abbrev pub round_of : Connectivity → Edges → List (List T) → ℕ → ℕ → List ((ℕ × ℕ) × T)
+  round_of connectivity Open = neighbors_of connectivity
+  round_of connectivity Joined = wrapped_neighbors_of connectivity
 
 -- the item that an iterator gives, with the cell in place of the reference to it
 abbrev pub placed : {T : Type 0} → (ℕ × ℕ) × Bor T → (ℕ × ℕ) × T

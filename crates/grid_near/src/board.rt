@@ -1,7 +1,7 @@
 //! Tables whose cells are marked.
 ghost use Rattle.std.specs.Prelude.{◌≡◌, ◌*◌, length};
 
-use crate::steps::Steps;
+use crate::steps::Connectivity;
 use grid_base::Layout;
 
 /// What is beside the cells at an edge of a table.
@@ -21,7 +21,7 @@ pub struct Board<'a, T, F> {
     pub cells: &'a [T],
     pub layout: Layout,
     pub edges: Edges,
-    pub kind: Steps,
+    pub connectivity: Connectivity,
     pub mark: &'a F,
     pub ghost filled: { length cells.now ≡ layout.rows * layout.cols },
 }

@@ -3,7 +3,7 @@ ghost use Rattle.std.specs.Prelude.{◌≡◌, ℕ, ◌+◌, ◌*◌, ◌<◌, �
 ghost use Rattle.grid_near.specs.Prelude.{CallableAtRefs, ReturnsAtCell, PairsUp, lines_of, IsBeyond, count_round, sum_round, MarksBeside, MarksCells, WithEnds, near, table, placed_cells, AnswersCounted, AnswersSummed, AreBeside, CallableOnCounts, AreCounted, CallableOnSums, AreSummed, side};
 
 use crate::board::{Board, Edges};
-use crate::steps::{Steps, around};
+use crate::steps::{Connectivity, around};
 use std::alloc::{AllocError, Allocator};
 
 // The line before a line, the line, or the one after it, if the table has it.
@@ -32,7 +32,7 @@ fn count_eight(up: &[bool], mid: &[bool], down: &[bool], k: usize) -> u8
     requires up { k + 2 < length up.now }
     requires mid { k + 2 < length mid.now }
     requires down { k + 2 < length down.now }
-    ensures count { result ≡ count_round Steps.All up.now mid.now down.now k }
+    ensures count { result ≡ count_round Connectivity.Eight up.now mid.now down.now k }
     ensures most { result ≤ 8 }
 {
     let above = u8::from(up[k]) + u8::from(up[k + 1]) + u8::from(up[k + 2]);
@@ -46,23 +46,23 @@ fn count_four(up: &[bool], mid: &[bool], down: &[bool], k: usize) -> u8
     requires up { k + 2 < length up.now }
     requires mid { k + 2 < length mid.now }
     requires down { k + 2 < length down.now }
-    ensures count { result ≡ count_round Steps.Sides up.now mid.now down.now k }
+    ensures count { result ≡ count_round Connectivity.Four up.now mid.now down.now k }
     ensures most { result ≤ 8 }
 {
     u8::from(up[k + 1]) + u8::from(mid[k]) + u8::from(mid[k + 2]) + u8::from(down[k + 1])
 }
 
 // The number of the marks round place `k` of the middle line that are true.
-fn count_round(kind: Steps, up: &[bool], mid: &[bool], down: &[bool], k: usize) -> u8
+fn count_round(connectivity: Connectivity, up: &[bool], mid: &[bool], down: &[bool], k: usize) -> u8
     requires up { k + 2 < length up.now }
     requires mid { k + 2 < length mid.now }
     requires down { k + 2 < length down.now }
-    ensures count { result ≡ count_round kind up.now mid.now down.now k }
+    ensures count { result ≡ count_round connectivity up.now mid.now down.now k }
     ensures most { result ≤ 8 }
 {
-    match kind {
-        Steps::Sides => count_four(up, mid, down, k),
-        Steps::All => count_eight(up, mid, down, k),
+    match connectivity {
+        Connectivity::Four => count_four(up, mid, down, k),
+        Connectivity::Eight => count_eight(up, mid, down, k),
     }
 }
 
@@ -176,10 +176,10 @@ fn push_line<T, U, A: Allocator, F: Fn(&T) -> bool, G: Fn(&T, u8) -> U>(
     let (up, mid, down) = marks;
     let (_, width) = board.layout.lines();
     let cells = board.cells;
-    let kind = board.kind;
+    let connectivity = board.connectivity;
     let start = line * width;
     for k in 0..width {
-        let count = count_round(kind, up, mid, down, k);
+        let count = count_round(connectivity, up, mid, down, k);
         made.push_reserved(rule(&cells[start + k], count));
     }
     made
@@ -232,19 +232,19 @@ where
 }
 
 // The sum of the marks round place `k` of the middle line.
-fn sum_round(kind: Steps, up: &[u8], mid: &[u8], down: &[u8], k: usize) -> u16
+fn sum_round(connectivity: Connectivity, up: &[u8], mid: &[u8], down: &[u8], k: usize) -> u16
     requires up { k + 2 < length up.now }
     requires mid { k + 2 < length mid.now }
     requires down { k + 2 < length down.now }
-    ensures sum { result ≡ sum_round kind up.now mid.now down.now k }
+    ensures sum { result ≡ sum_round connectivity up.now mid.now down.now k }
     ensures most { result ≤ 2040 }
 {
-    match kind {
-        Steps::Sides => u16::from(up[k + 1])
+    match connectivity {
+        Connectivity::Four => u16::from(up[k + 1])
             + u16::from(mid[k])
             + u16::from(mid[k + 2])
             + u16::from(down[k + 1]),
-        Steps::All => {
+        Connectivity::Eight => {
             let above = u16::from(up[k]) + u16::from(up[k + 1]) + u16::from(up[k + 2]);
             let beside = u16::from(mid[k]) + u16::from(mid[k + 2]);
             let below = u16::from(down[k]) + u16::from(down[k + 1]) + u16::from(down[k + 2]);
@@ -274,10 +274,10 @@ fn push_sums<T, U, A: Allocator, F: Fn(&T) -> u8, G: Fn(&T, u16) -> U>(
     let (up, mid, down) = marks;
     let (_, width) = board.layout.lines();
     let cells = board.cells;
-    let kind = board.kind;
+    let connectivity = board.connectivity;
     let start = line * width;
     for k in 0..width {
-        let sum = sum_round(kind, up, mid, down, k);
+        let sum = sum_round(connectivity, up, mid, down, k);
         made.push_reserved(rule(&cells[start + k], sum));
     }
     made

@@ -16,5 +16,5 @@ pub use count::count_near;
 pub use counts::{map_counts, map_sums};
 pub use direction::Direction;
 pub use neighbors::{Neighbors, WrappedNeighbors, neighbors_in, neighbors_of};
-pub use steps::Steps;
+pub use steps::Connectivity;
 pub use strided::Strided;

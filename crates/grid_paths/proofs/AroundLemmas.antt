@@ -1,7 +1,7 @@
 -- The list of the eight positions round one.
 use Rattle.std.proofs.Common.{◌≡◌, ℕ, zero, suc, ◌+◌, ◌-◌, ◌%◌, ◌^◌, ◌<◌, ◌⊎◌, ◌↔◌, List, [], ◌∷◌, Contains, length, Some, ◌≤◌, refl, sym, ◌∙◌, ap, subst, arith, inl, inr, ⊎_elim, slice_get}
 use Rattle.grid_paths.proofs.Common.{cases_lt, Contains-get_or, slice_get_within, slice_get_read, get_or_from_slice_get, IsAt, DifferByOne, AreBeside, AreDiagonal, AreSteps}
-use Rattle.grid_near.specs.declared.steps.Steps.TheVariants.{Sides, All}
+use Rattle.grid_near.specs.declared.steps.Connectivity.TheVariants.{Four, Eight}
 
 pub same_pair : {X : Type 0} (a b : X × X) → a.0 ≡ b.0 → a.1 ≡ b.1 → a ≡ b
 same_pair a b p q = λ i. (p i, q i)
@@ -119,7 +119,7 @@ module _ (row col : ℕ) (row_in : row + 1 < 2 ^ 64) (col_in : col + 1 < 2 ^ 64)
   abbrev pub left : ℕ
   left = (col + (2 ^ 64 - 1)) % 2 ^ 64
 
-  pub AreSteps-sides : AreSteps Sides (row, col) ((up, col) ∷ (row, left) ∷ (row, col + 1) ∷ (row + 1, col) ∷ [])
+  pub AreSteps-sides : AreSteps Four (row, col) ((up, col) ∷ (row, left) ∷ (row, col + 1) ∷ (row + 1, col) ∷ [])
   AreSteps-sides b fits0 fits1 =
       let R = wrapped row b.0 row_in fits0 in
       let C = wrapped col b.1 col_in fits1 in (
@@ -127,7 +127,7 @@ module _ (row col : ℕ) (row_in : row + 1 < 2 ^ 64) (col_in : col + 1 < 2 ^ 64)
         λ s. of_four _ _ _ _ b [] (sides_of R C s),
       )
 
-  pub AreSteps-all : AreSteps All (row, col) ((up, col) ∷ (row, left) ∷ (row, col + 1) ∷ (row + 1, col) ∷ (up, left) ∷ (up, col + 1) ∷ (row + 1, left) ∷ (row + 1, col + 1) ∷ [])
+  pub AreSteps-all : AreSteps Eight (row, col) ((up, col) ∷ (row, left) ∷ (row, col + 1) ∷ (row + 1, col) ∷ (up, left) ∷ (up, col + 1) ∷ (row + 1, left) ∷ (row + 1, col + 1) ∷ [])
   AreSteps-all b fits0 fits1 =
       let R = wrapped row b.0 row_in fits0 in
       let C = wrapped col b.1 col_in fits1 in (

@@ -2,7 +2,7 @@
 use Rattle.std.proofs.Common.{◌≡◌, ℕ, ◌+◌, ◌^◌, ◌<◌, ◌⊎◌, Bool, true, false, Option, None, Some, List, Contains, refl, sym, ◌∙◌, subst, arith, inl, inr, ⊎_elim}
 use Rattle.grid_paths.proofs.Common.{with_cell, IsTable, InRange, cell-with_same, cell-with_other, same_or_other, AreSteps, IsOpen, IsStep, Reaches, HaveOneSize, IsMarked, cell_in_range}
 use Rattle.grid_base.specs.Table.{row_count, col_count, cell}
-use Rattle.grid_near.specs.declared.steps.Steps.{Steps}
+use Rattle.grid_near.specs.declared.steps.Connectivity.{Connectivity}
 use Rattle.grid_paths.specs.declared.search.Search.{Search}
 use Rattle.grid_paths.proofs.StepLemmas.{Spreads-steps}
 use Rattle.grid_paths.specs.Search.{IsLeft}
@@ -73,8 +73,8 @@ left_fits floor steps left l table rows cols b o =
     (l.all b o)
 
 -- the positions of a list are those that a step leads to
-pub Reaches-steps : {A : Type 0} (kind : Steps) (at : ℕ × ℕ) (xs : List (ℕ × ℕ)) → AreSteps kind at xs → (k : ℕ) (s s' : Search A) → Reaches (λ b. Contains xs b) k s s' → Reaches (IsStep kind at) k s s'
-Reaches-steps kind at xs steps k s s' r =
+pub Reaches-steps : {A : Type 0} (connectivity : Connectivity) (at : ℕ × ℕ) (xs : List (ℕ × ℕ)) → AreSteps connectivity at xs → (k : ℕ) (s s' : Search A) → Reaches (λ b. Contains xs b) k s s' → Reaches (IsStep connectivity at) k s s'
+Reaches-steps connectivity at xs steps k s s' r =
     λ floor l.
     let v = r floor l in
-    (Spreads-steps kind at xs steps (left_fits floor s.steps.numbers.rows s.left.rows l s.left.table s.left.fits.rows s.left.fits.cols) v.0, v.1)
+    (Spreads-steps connectivity at xs steps (left_fits floor s.steps.numbers.rows s.left.rows l s.left.table s.left.fits.rows s.left.fits.cols) v.0, v.1)

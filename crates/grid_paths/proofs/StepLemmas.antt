@@ -2,7 +2,7 @@
 use Rattle.std.proofs.Common.{◌≡◌, ◌≢◌, ℕ, zero, suc, ◌+◌, ◌^◌, ◌<◌, ◌≤◌, ◌⊎◌, Bool, Option, None, Some, List, [], ◌∷◌, ◌++◌, length, Contains, set, get_or, refl, sym, ◌∙◌, ap, subst, arith, rules, inl, inr, ⊎_elim, ◌↔◌, sum_by, slice_get, length-append}
 use Rattle.grid_paths.proofs.Common.{cases_eq, cases_lt, sum_by-set, slice_get_within, slice_get_read, get_or_from_slice_get, row, cell, with_cell, tabulate, IsTable, IsFull, cell-tabulate, rows-tabulate, cell_past_rows, cell_past_cols, cell_in_range, cell-with_same, cell-with_other, IsOpen, IsStep, WalkFrom, IsMarked, IsAt, IsReached, Spread, WentRound, free, unreached, AreSteps, Marks, Spreads}
 use Rattle.grid_base.proofs.Common.{InRange}
-use Rattle.grid_near.specs.declared.steps.Steps.{Steps}
+use Rattle.grid_near.specs.declared.steps.Connectivity.{Connectivity}
 use Rattle.grid_paths.specs.declared.wave.Wave.{Wave}
 use Rattle.grid_paths.proofs.AroundLemmas.{same_pair, Before, before_either, before_all, Contains-from_get}
 use Rattle.grid_paths.proofs.SearchLemmas.{IsSearch, one_mark, one_place, IsSearch-spread}
@@ -227,18 +227,18 @@ module _ {A : Type 0} {floor : List (List Bool)} {k : ℕ} where
     Spreads-end all = Spreads-as (Before xs i) (λ b. Contains xs b) (λ b o. inl (before_all xs i all b)) e
 
   -- the positions that a grid can have
-  pub Spreads-steps : (kind : Steps) (at : ℕ × ℕ) (xs : List (ℕ × ℕ)) {w w' : Wave A} → AreSteps kind at xs → ((b : ℕ × ℕ) → IsOpen floor b → ((b.0 + 1 < 2 ^ 64) × (b.1 + 1 < 2 ^ 64)) ⊎ ((m : ℕ) × IsMarked w.numbers.rows b m)) → Spreads (λ b. Contains xs b) floor k w w' → Spreads (IsStep kind at) floor k w w'
-  Spreads-steps kind at xs steps fits e =
-      Spreads-as (λ b. Contains xs b) (IsStep kind at) (λ b o. ⊎_elim (λ f. inl (steps b f.0 f.1)) (λ old. inr old) (fits b o)) e
+  pub Spreads-steps : (connectivity : Connectivity) (at : ℕ × ℕ) (xs : List (ℕ × ℕ)) {w w' : Wave A} → AreSteps connectivity at xs → ((b : ℕ × ℕ) → IsOpen floor b → ((b.0 + 1 < 2 ^ 64) × (b.1 + 1 < 2 ^ 64)) ⊎ ((m : ℕ) × IsMarked w.numbers.rows b m)) → Spreads (λ b. Contains xs b) floor k w w' → Spreads (IsStep connectivity at) floor k w w'
+  Spreads-steps connectivity at xs steps fits e =
+      Spreads-as (λ b. Contains xs b) (IsStep connectivity at) (λ b o. ⊎_elim (λ f. inl (steps b f.0 f.1)) (λ old. inr old) (fits b o)) e
 
 -- the start: the first positions reached by no step, those that are open
-pub record IsStarted (kind : Steps) (floor : List (List Bool)) (starts : List (ℕ × ℕ)) (steps : List (List (Option ℕ))) (queue : List (ℕ × ℕ)) (done : ℕ) : Type 0 where
-  pub search : IsSearch kind floor starts steps queue 0
+pub record IsStarted (connectivity : Connectivity) (floor : List (List Bool)) (starts : List (ℕ × ℕ)) (steps : List (List (Option ℕ))) (queue : List (ℕ × ℕ)) (done : ℕ) : Type 0 where
+  pub search : IsSearch connectivity floor starts steps queue 0
   pub zeros : (a : ℕ × ℕ) (m : ℕ) → IsMarked steps a m → m ≡ 0
   pub start : (j : ℕ) (from : ℕ × ℕ) → j < done → slice_get starts j ≡ Some from → IsOpen floor from → IsMarked steps from 0
 
-module _ (kind : Steps) (floor : List (List Bool)) (starts : List (ℕ × ℕ)) (d0 : List (List (Option ℕ))) where
-  pub IsStarted-empty : ((a : ℕ × ℕ) (m : ℕ) → IsMarked d0 a m → ⊥) → IsStarted kind floor starts d0 [] 0
+module _ (connectivity : Connectivity) (floor : List (List Bool)) (starts : List (ℕ × ℕ)) (d0 : List (List (Option ℕ))) where
+  pub IsStarted-empty : ((a : ℕ × ℕ) (m : ℕ) → IsMarked d0 a m → ⊥) → IsStarted connectivity floor starts d0 [] 0
   IsStarted-empty none =
       record {
         search = record {
@@ -256,7 +256,7 @@ module _ (kind : Steps) (floor : List (List Bool)) (starts : List (ℕ × ℕ)) 
       nowhere : (j : ℕ) (a : ℕ × ℕ) → IsAt [] j a → ⊥
       nowhere j a h = cc
 
-  module _ (q0 : List (ℕ × ℕ)) (done : ℕ) (from : ℕ × ℕ) (d1 : List (List (Option ℕ))) (q1 : List (ℕ × ℕ)) (s : IsStarted kind floor starts d0 q0 done) (place : slice_get starts done ≡ Some from)
+  module _ (q0 : List (ℕ × ℕ)) (done : ℕ) (from : ℕ × ℕ) (d1 : List (List (Option ℕ))) (q1 : List (ℕ × ℕ)) (s : IsStarted connectivity floor starts d0 q0 done) (place : slice_get starts done ≡ Some from)
       (r : WentRound (λ a. from ≡ a) floor 0 d0 q0 d1 q1) where
     g : Spread (λ a. from ≡ a) floor 0 d0 q0 d1 q1
     g = r.spread
@@ -264,14 +264,14 @@ module _ (kind : Steps) (floor : List (List Bool)) (starts : List (ℕ × ℕ)) 
     zeros' : (a : ℕ × ℕ) (m : ℕ) → IsMarked d1 a m → m ≡ 0
     zeros' a m h = ⊎_elim (λ h0. s.zeros a m h0) (λ f. f.is) (g.fresh a m h)
 
-    way : (b : ℕ × ℕ) → from ≡ b → IsOpen floor b → WalkFrom kind floor starts b 0
+    way : (b : ℕ × ℕ) → from ≡ b → IsOpen floor b → WalkFrom connectivity floor starts b 0
     way b e is_open =
         let here : IsOpen floor from = subst (λ x. IsOpen floor x) (sym e) is_open in
         (from, Contains-from_get starts done from place, (e, is_open))
 
-    search' : IsSearch kind floor starts d1 q1 0
+    search' : IsSearch connectivity floor starts d1 q1 0
     search' =
-        IsSearch-spread kind floor starts (λ a. from ≡ a) d0 q0 d1 q1 0 0 s.search g (omega arith) way
+        IsSearch-spread connectivity floor starts (λ a. from ≡ a) d0 q0 d1 q1 0 0 s.search g (omega arith) way
         (λ a m h. let z : m ≡ 0 = s.zeros a m h in omega arith)
         (λ j a n le h m. omega arith) (omega arith)
 
@@ -287,12 +287,12 @@ module _ (kind : Steps) (floor : List (List Bool)) (starts : List (ℕ × ℕ)) 
         subst (λ x. IsMarked d1 x 0) (sym a_is) (subst (λ x. IsMarked d1 from x) z v.1))
         (cases_lt j done)
 
-    pub IsStarted-reach : IsStarted kind floor starts d1 q1 (done + 1)
+    pub IsStarted-reach : IsStarted connectivity floor starts d1 q1 (done + 1)
     IsStarted-reach = record { search = search'; zeros = zeros'; start = start' }
 
 -- once all are reached
-pub started_all : (kind : Steps) (floor : List (List Bool)) (starts : List (ℕ × ℕ)) (steps : List (List (Option ℕ))) (queue : List (ℕ × ℕ)) (done : ℕ) → IsStarted kind floor starts steps queue done → length starts ≤ done → (from : ℕ × ℕ) → Contains starts from → IsOpen floor from → IsMarked steps from 0
-started_all kind floor starts steps queue done s le from is is_open =
+pub started_all : (connectivity : Connectivity) (floor : List (List Bool)) (starts : List (ℕ × ℕ)) (steps : List (List (Option ℕ))) (queue : List (ℕ × ℕ)) (done : ℕ) → IsStarted connectivity floor starts steps queue done → length starts ≤ done → (from : ℕ × ℕ) → Contains starts from → IsOpen floor from → IsMarked steps from 0
+started_all connectivity floor starts steps queue done s le from is is_open =
     let lt : is.0 < length starts = is.1 in
     let e : slice_get starts is.0 ≡ Some from = slice_get_read starts (length starts) is.0 from refl lt (sym is.2) in
     s.start is.0 from (omega arith) e is_open

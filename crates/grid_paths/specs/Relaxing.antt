@@ -1,7 +1,7 @@
 -- What one step of the search for the least costs does. No public clause cites this module.
 use Rattle.std.specs.Prelude.{◌≡◌, ℕ, ◌+◌, ◌*◌, ◌^◌, ◌<◌, ◌≤◌, ◌⊎◌, Option, List, Contains}
 use Rattle.std.specs.declared.cmp.Reverse.{Reverse}
-use Rattle.grid_near.specs.declared.steps.Steps.{Steps}
+use Rattle.grid_near.specs.declared.steps.Connectivity.{Connectivity}
 use Rattle.grid_paths.specs.Search.{unreached}
 use Rattle.grid_paths.specs.Walks.{IsStep}
 use Rattle.grid_paths.specs.Cheapest.{Holds, CostWalk}
@@ -49,28 +49,29 @@ pub record Relaxes (near : ℕ × ℕ → Type 0) (left : List (List (Option ℕ
   pub around : (b : ℕ × ℕ) (k : ℕ) → near b → Holds left b k → HoldsUpTo u' b (sum + k)
 
 -- the first position, or one whose number comes from that of a settled one
-abbrev pub Comes : Steps → List (List (Option ℕ)) → ℕ × ℕ → List (List (Option ℕ))
+abbrev pub Comes : Connectivity → List (List (Option ℕ)) → ℕ × ℕ → List (List (Option ℕ))
     → List (List (Option ℕ)) → ℕ × ℕ → ℕ → Type 0
-Comes kind costs from u left a m =
+Comes connectivity costs from u left a m =
     ((a ≡ from) × (m ≡ 0))
-    ⊎ ((c : ℕ × ℕ) × (s : ℕ) × (k : ℕ) × Holds u c s × IsClosed left c × IsStep kind c a
+    ⊎ ((c : ℕ × ℕ) × (s : ℕ) × (k : ℕ) × Holds u c s × IsClosed left c × IsStep connectivity c a
     × Holds costs a k × (m ≡ s + k))
 
 -- the search has found these numbers; those of the positions that aren't left are settled
-pub record IsCostSearch (kind : Steps) (costs : List (List (Option ℕ))) (from : ℕ × ℕ)
+pub record IsCostSearch (connectivity : Connectivity) (costs : List (List (Option ℕ)))
+    (from : ℕ × ℕ)
     (u left : List (List (Option ℕ)))
     (heap : List Entry) : Type 0 where
   pub among : (a : ℕ × ℕ) (k : ℕ) → Holds left a k → Holds costs a k
   pub all : (a : ℕ × ℕ) (k : ℕ) → Holds costs a k
       → Holds left a k ⊎ ((m : ℕ) × Holds u a m × IsClosed left a)
-  pub sound : (a : ℕ × ℕ) (m : ℕ) → Holds u a m → (n : ℕ) × CostWalk kind costs from a n m
-  pub comes : (a : ℕ × ℕ) (m : ℕ) → Holds u a m → Comes kind costs from u left a m
+  pub sound : (a : ℕ × ℕ) (m : ℕ) → Holds u a m → (n : ℕ) × CostWalk connectivity costs from a n m
+  pub comes : (a : ℕ × ℕ) (m : ℕ) → Holds u a m → Comes connectivity costs from u left a m
   pub waits : (a : ℕ × ℕ) (k m : ℕ) → Holds left a k → Holds u a m → IsWaiting heap m a
   pub numbered : (s : ℕ) (a : ℕ × ℕ) → IsWaiting heap s a → HoldsUpTo u a s
   pub ordered : (a : ℕ × ℕ) (m s : ℕ) (b : ℕ × ℕ) → Holds u a m → IsClosed left a
       → IsWaiting heap s b → m ≤ s
   pub relaxed : (a : ℕ × ℕ) (m : ℕ) (b : ℕ × ℕ) (k : ℕ) → Holds u a m → IsClosed left a
-      → IsStep kind a b
+      → IsStep connectivity a b
       → Holds costs b k → HoldsUpTo u b (m + k)
   pub start : (k : ℕ) → Holds costs from k → HoldsUpTo u from 0
   pub bound : (a : ℕ × ℕ) (m : ℕ) → Holds u a m → m ≤ 2 ^ 32 * unreached left

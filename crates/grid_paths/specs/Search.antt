@@ -1,7 +1,7 @@
 -- What one step of the breadth-first search does. Public clauses cite `HaveOneSize` alone.
 use Rattle.std.specs.Prelude.{◌≡◌, ℕ, ◌+◌, ◌<◌, ◌≤◌, ◌⊎◌, Bool, Option, None, Some, List, length, slice_get, sum_by}
 use Rattle.grid_base.specs.Table.{row_count, col_count, cell}
-use Rattle.grid_near.specs.declared.steps.Steps.{Steps}
+use Rattle.grid_near.specs.declared.steps.Connectivity.{Connectivity}
 use Rattle.grid_paths.specs.Walks.{IsOpen, Walk, IsLeastSteps}
 
 -- two tables have one size
@@ -26,17 +26,18 @@ pub record IsLeft (floor : List (List Bool)) (steps : List (List (Option ℕ)))
   pub all : (a : ℕ × ℕ) → IsOpen floor a → IsOpen left a ⊎ ((m : ℕ) × IsMarked steps a m)
 
 -- the numbers up to d are the least numbers of steps, and each position fewer steps away has one
-pub record HasLeastUpTo (kind : Steps) (floor : List (List Bool)) (from : ℕ × ℕ)
+pub record HasLeastUpTo (connectivity : Connectivity) (floor : List (List Bool)) (from : ℕ × ℕ)
     (u : List (List (Option ℕ))) (d : ℕ) : Type 0 where
-  pub found : (at : ℕ × ℕ) (n : ℕ) → n < d → Walk kind floor from at n
+  pub found : (at : ℕ × ℕ) (n : ℕ) → n < d → Walk connectivity floor from at n
       → (k : ℕ) × IsMarked u at k × (k ≤ n)
-  pub least : (at : ℕ × ℕ) (k : ℕ) → k ≤ d → IsMarked u at k → IsLeastSteps kind floor from at k
+  pub least : (at : ℕ × ℕ) (k : ℕ) → k ≤ d → IsMarked u at k
+      → IsLeastSteps connectivity floor from at k
 
 -- the numbers up to that of the goal are known; where it has none, no walk leads to it
-pub record IsSettled (kind : Steps) (floor : List (List Bool)) (from goal : ℕ × ℕ)
+pub record IsSettled (connectivity : Connectivity) (floor : List (List Bool)) (from goal : ℕ × ℕ)
     (u : List (List (Option ℕ))) : Type 0 where
-  pub found : (d : ℕ) → IsMarked u goal d → HasLeastUpTo kind floor from u d
-  pub none : ((d : ℕ) → IsMarked u goal d → ⊥) → (n : ℕ) → Walk kind floor from goal n → ⊥
+  pub found : (d : ℕ) → IsMarked u goal d → HasLeastUpTo connectivity floor from u d
+  pub none : ((d : ℕ) → IsMarked u goal d → ⊥) → (n : ℕ) → Walk connectivity floor from goal n → ⊥
 
 -- how many cells aren't reached yet
 abbrev pub free : Option ℕ → ℕ

@@ -2,7 +2,7 @@
 use Rattle.std.specs.Prelude.{◌≡◌, ℕ, ◌+◌, ◌^◌, ◌<◌, Bool, None, Some, List, [], ◌∷◌, ◌++◌}
 use Rattle.grid_base.specs.GridValue.{GridValue, SameSizeAndOrder}
 use Rattle.grid_base.specs.Table.{row_count, col_count, with_cell, tabulate}
-use Rattle.grid_near.specs.declared.steps.Steps.{Steps}
+use Rattle.grid_near.specs.declared.steps.Connectivity.{Connectivity}
 use Rattle.grid_paths.specs.declared.numbered.Region.{Region}
 use Rattle.grid_paths.specs.declared.search.Search.{Search}
 use Rattle.grid_paths.specs.declared.wave.Wave.{Wave}
@@ -46,9 +46,10 @@ module _ {A : Type 0} where
     Numbers near r w w' = Spreads near (floor_of r) r.number w w'
 
   -- the regions of the positions before p are numbered
-  pub record IsCounting {T : Type 0} (kind : Steps) (eq : T → T → Bool) (grid : GridValue T)
+  pub record IsCounting {T : Type 0} (connectivity : Connectivity) (eq : T → T → Bool)
+      (grid : GridValue T)
       (w : Wave A) (count : ℕ) (p : ℕ × ℕ) : Type 0 where
     pub order : w.numbers.order ≡ grid.order
     pub size : HaveOneSize w.numbers.rows grid.rows
-    pub scanned : IsScanned kind eq grid.rows w.numbers.rows count p
+    pub scanned : IsScanned connectivity eq grid.rows w.numbers.rows count p
     pub room : count + unreached w.numbers.rows < 2 ^ 64

@@ -7,7 +7,7 @@ use super::answers::{all_sums, answers_of, no_sums};
 use super::around::around;
 use super::width::Width;
 use grid::Grid;
-use grid_near::Steps;
+use grid_near::Connectivity;
 use std::alloc::{AllocError, Allocator};
 use std::cmp::Reverse;
 use std::collections::BinaryHeap;
@@ -167,14 +167,15 @@ impl<N: Width, A: Allocator> Frontier<N, A> {
     }
 
     // Enters the positions that a step from a settled one leads to.
-    pub(crate) fn relax_around(&mut self, kind: Steps, from: Settled) -> Result<(), AllocError>
+    pub(crate) fn relax_around(&mut self, connectivity: Connectivity, from: Settled) -> Result<(), AllocError>
         requires { IsReady N.cmp N.reads self.old from }
-        ensures { OnOk result (Enters N.cmp N.reads (IsStep kind from.at) from.sum self.old self.new) }
+        ensures { OnOk result (Enters N.cmp N.reads (IsStep connectivity from.at) from.sum self.old
+            self.new) }
     {
         let near = around(from.at.0, from.at.1);
-        match kind {
-            Steps::Sides => self.relax_each(&near[..4], from.sum),
-            Steps::All => self.relax_each(&near, from.sum),
+        match connectivity {
+            Connectivity::Four => self.relax_each(&near[..4], from.sum),
+            Connectivity::Eight => self.relax_each(&near, from.sum),
         }
     }
 
@@ -204,7 +205,7 @@ pub(crate) fn begun<N: Width, A: Allocator + Clone>(
     requires { HasRoom N.reads costs.rows }
     ensures left { IfOk result (λ search. search.left ≡ costs) }
     ensures search { IfOk result (λ search.
-        (kind : Steps) → IsSearching N.cmp N.reads kind costs from search) }
+        (connectivity : Connectivity) → IsSearching N.cmp N.reads connectivity costs from search) }
 {
     let sums = no_sums(&costs)?;
     let cells = costs.flatten().len();
@@ -229,36 +230,36 @@ pub(crate) fn is_small<A: Allocator>(costs: &Grid<Option<u32>, A>) -> bool
 
 // The least sum of costs to each position, by numbers of one width.
 fn search_by<N: Width, A: Allocator + Clone>(
-    kind: Steps,
+    connectivity: Connectivity,
     costs: Grid<Option<u32>, A>,
     from: (usize, usize),
 ) -> Result<Grid<Option<u128>, A>, AllocError>
     requires { HasRoom N.reads costs.rows }
     ensures order { IfOk result (λ sums. sums.order ≡ costs.order) }
     ensures size { IfOk result (λ sums. HaveOneSize sums.rows costs.rows) }
-    ensures least { IfOk result (λ sums. HasLeastCosts kind costs.rows from sums.rows) }
+    ensures least { IfOk result (λ sums. HasLeastCosts connectivity costs.rows from sums.rows) }
 {
     let mut search: Frontier<N, A> = begun(costs, from)?;
     while let Some(here) = search.next() {
-        search.relax_around(kind, here)?;
+        search.relax_around(connectivity, here)?;
     }
     all_sums(&search.sums)
 }
 
 // The least sum of costs to each position.
 fn search<A: Allocator + Clone>(
-    kind: Steps,
+    connectivity: Connectivity,
     costs: Grid<Option<u32>, A>,
     from: (usize, usize),
 ) -> Result<Grid<Option<u128>, A>, AllocError>
     ensures order { IfOk result (λ sums. sums.order ≡ costs.order) }
     ensures size { IfOk result (λ sums. HaveOneSize sums.rows costs.rows) }
-    ensures least { IfOk result (λ sums. HasLeastCosts kind costs.rows from sums.rows) }
+    ensures least { IfOk result (λ sums. HasLeastCosts connectivity costs.rows from sums.rows) }
 {
     if is_small(&costs) {
-        search_by::<u64, A>(kind, costs, from)
+        search_by::<u64, A>(connectivity, costs, from)
     } else {
-        search_by::<u128, A>(kind, costs, from)
+        search_by::<u128, A>(connectivity, costs, from)
     }
 }
 
@@ -266,8 +267,10 @@ fn search<A: Allocator + Clone>(
 /// 0 too, or `None` for a cell that can't be entered. The first cell's own cost doesn't count, but it has to have one.
 /// A cell gets `None` exactly where no path leads to it.
 ///
-///     [[1, 9, 1], [1, 1, 1]]   cheapest((0, 0), Steps::Sides, |x| Some(*x))   [[Some(0), Some(9), Some(4)], [Some(1), Some(2), Some(3)]]
-///     [[1, 9, 1], [1, 1, 1]]   cheapest((0, 0), Steps::All, |x| Some(*x))     [[Some(0), Some(9), Some(2)], [Some(1), Some(1), Some(2)]]
+///     [[1, 9, 1], [1, 1, 1]]   cheapest((0, 0), Connectivity::Four, |x| Some(*x))
+///         [[Some(0), Some(9), Some(4)], [Some(1), Some(2), Some(3)]]
+///     [[1, 9, 1], [1, 1, 1]]   cheapest((0, 0), Connectivity::Eight, |x| Some(*x))
+///         [[Some(0), Some(9), Some(2)], [Some(1), Some(1), Some(2)]]
 ///
 /// Requires: the closure can be called at every cell.
 /// Fails: if allocation fails.
@@ -277,15 +280,15 @@ fn search<A: Allocator + Clone>(
 pub fn cheapest<T, A: Allocator + Clone, F: Fn(&T) -> Option<u32>>(
     grid: &Grid<T, A>,
     from: (usize, usize),
-    kind: Steps,
+    connectivity: Connectivity,
     cost: F,
 ) -> Result<Grid<Option<u128>, A>, AllocError>
     requires { F.IsAlwaysCallable cost }
     ensures order { IfOk result (λ sums. sums.order ≡ grid.now.order) }
     ensures size { IfOk result (λ sums. HaveOneSize sums.rows grid.now.rows) }
     ensures least { IfOk result (λ sums. HoldsOfAnswers F.post cost grid.now.rows (λ costs.
-        HasLeastCosts kind costs from sums.rows)) }
+        HasLeastCosts connectivity costs from sums.rows)) }
 {
     let costs = answers_of(grid, cost)?;
-    search(kind, costs, from)
+    search(connectivity, costs, from)
 }

@@ -6,13 +6,13 @@ ghost use Rattle.grid_paths.specs.Prelude.{IsEquivalence, row_count, col_count, 
 use super::around::around;
 use super::wave::{Wave, new_wave};
 use grid::Grid;
-use grid_near::Steps;
+use grid_near::Connectivity;
 use std::alloc::{AllocError, Allocator};
 
 // A region: the cells of a board that equal one, which steps connect them, and the number that they get.
 #[derive(Drop)]
 struct Region<'a, T, A: Allocator> {
-    kind: Steps,
+    connectivity: Connectivity,
     grid: &'a Grid<T, A>,
     first: &'a T,
     number: usize,
@@ -58,12 +58,13 @@ impl<T: PartialEq, A: Allocator> Region<'_, T, A> {
     fn number_around(&self, at: (usize, usize), wave: &mut Wave<A>) -> Result<(), AllocError>
         requires size { HaveOneSize wave.old.numbers.rows self.now.grid.now.rows }
         requires at { InRange self.now.grid.now.rows at.0 at.1 }
-        ensures { OnOk result (Numbers T.eq (IsStep self.now.kind at) self.now wave.old wave.new) }
+        ensures { OnOk result (Numbers T.eq (IsStep self.now.connectivity at) self.now wave.old
+            wave.new) }
     {
         let near = around(at.0, at.1);
-        match self.kind {
-            Steps::Sides => self.number_each(&near[..4], wave),
-            Steps::All => self.number_each(&near, wave),
+        match self.connectivity {
+            Connectivity::Four => self.number_each(&near[..4], wave),
+            Connectivity::Eight => self.number_each(&near, wave),
         }
     }
 
@@ -74,7 +75,7 @@ impl<T: PartialEq, A: Allocator> Region<'_, T, A> {
         requires below { (a : ℕ × ℕ) (m : ℕ) → IsMarked wave.old.numbers.rows a m
             → m < self.now.number }
         ensures same { OnOk result (SameSizeAndOrder wave.old.numbers wave.new.numbers) }
-        ensures numbered { OnOk result (IsNumbered self.now.kind (floor_of T.eq self.now) at
+        ensures numbered { OnOk result (IsNumbered self.now.connectivity (floor_of T.eq self.now) at
             self.now.number wave.old.numbers.rows wave.new.numbers.rows) }
         ensures fewer { OnOk result (unreached wave.new.numbers.rows + 1
             ≤ unreached wave.old.numbers.rows) }
@@ -92,21 +93,21 @@ impl<T: PartialEq, A: Allocator> Region<'_, T, A> {
 
 // Gives the next number to the region of a position, if it has none yet, and returns the number after it.
 fn number_cell<T: PartialEq, A: Allocator>(
-    kind: Steps,
+    connectivity: Connectivity,
     grid: &Grid<T, A>,
     at: (usize, usize),
     count: usize,
     wave: &mut Wave<A>,
 ) -> Result<usize, AllocError>
     requires at { InRange grid.now.rows at.0 at.1 }
-    requires counting { IsCounting kind T.eq grid.now wave.old count at }
-    ensures { IfOk result (λ n. IsCounting kind T.eq grid.now wave.new n (at.0, at.1 + 1)) }
+    requires counting { IsCounting connectivity T.eq grid.now wave.old count at }
+    ensures { IfOk result (λ n. IsCounting connectivity T.eq grid.now wave.new n (at.0, at.1 + 1)) }
 {
     match wave.numbers[at] {
         Some(_) => Ok(count),
         None => {
             let region = Region {
-                kind,
+                connectivity,
                 grid,
                 first: &grid[at],
                 number: count,
@@ -119,19 +120,19 @@ fn number_cell<T: PartialEq, A: Allocator>(
 
 // The numbers of all regions, and their count.
 fn number_all<T: PartialEq, A: Allocator + Clone>(
-    kind: Steps,
+    connectivity: Connectivity,
     grid: &Grid<T, A>,
 ) -> Result<(Grid<Option<usize>, A>, usize), AllocError>
     ensures order { IfOk result (λ found. found.0.order ≡ grid.now.order) }
     ensures size { IfOk result (λ found. HaveOneSize found.0.rows grid.now.rows) }
-    ensures scanned { IfOk result (λ found. IsScanned kind T.eq grid.now.rows found.0.rows found.1
-        (row_count grid.now.rows, 0)) }
+    ensures scanned { IfOk result (λ found. IsScanned connectivity T.eq grid.now.rows
+        found.0.rows found.1 (row_count grid.now.rows, 0)) }
 {
     let mut wave = new_wave(grid)?;
     let mut count = 0;
     for row in 0..grid.rows() {
         for col in 0..grid.cols() {
-            count = number_cell(kind, grid, (row, col), count, &mut wave)?;
+            count = number_cell(connectivity, grid, (row, col), count, &mut wave)?;
         }
     }
     Ok((wave.numbers, count))
@@ -154,26 +155,26 @@ fn all_numbers<A: Allocator + Clone>(
 /// number exactly if a walk over cells equal to the first joins them. The numbers are those below the count, and come in
 /// the order of the regions' first cells, row by row, whatever the storage order.
 ///
-///     [[7, 7, 8], [8, 7, 7]]   regions(Steps::Sides)   ([[0, 0, 1], [2, 0, 0]], 3)
-///     [[7, 8], [8, 7]]         regions(Steps::All)     ([[0, 1], [1, 0]], 2)
+///     [[7, 7, 8], [8, 7, 7]]   regions(Connectivity::Four)    ([[0, 0, 1], [2, 0, 0]], 3)
+///     [[7, 8], [8, 7]]         regions(Connectivity::Eight)   ([[0, 1], [1, 0]], 2)
 ///
 /// That the numbers are the regions is said where `==` is an equivalence, as at integers (not at floats, where `NaN` is
 /// unequal to itself).
 ///
 /// Fails: if allocation fails.
-/// Cost: at most four comparisons, or eight by `Steps::All`, and a constant number of steps for each cell; three
-/// allocations, and those of the queue where a region has more than 4,096 cells.
+/// Cost: at most four comparisons, or eight by `Connectivity::Eight`, and a constant number of steps for each cell;
+/// three allocations, and those of the queue where a region has more than 4,096 cells.
 pub fn regions<T: PartialEq, A: Allocator + Clone>(
     grid: &Grid<T, A>,
-    kind: Steps,
+    connectivity: Connectivity,
 ) -> Result<(Grid<usize, A>, usize), AllocError>
     ensures order { IfOk result (λ found. found.0.order ≡ grid.now.order) }
     ensures size { IfOk result (λ found. HaveOneSize found.0.rows grid.now.rows) }
     ensures numbers { IfOk result (λ found. AreNumbers found.0.rows found.1) }
     ensures regions { IfOk result (λ found.
-        IsEquivalence T.eq → AreRegions kind T.eq grid.now.rows found.0.rows) }
+        IsEquivalence T.eq → AreRegions connectivity T.eq grid.now.rows found.0.rows) }
 {
-    let (numbers, count) = number_all(kind, grid)?;
+    let (numbers, count) = number_all(connectivity, grid)?;
     let plain = all_numbers(&numbers)?;
     Ok((plain, count))
 }

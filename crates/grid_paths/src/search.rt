@@ -6,7 +6,7 @@ use super::answers::answers_of;
 use super::around::around;
 use super::wave::{Wave, new_wave};
 use grid::Grid;
-use grid_near::Steps;
+use grid_near::Connectivity;
 use std::alloc::{AllocError, Allocator};
 
 // How many positions of a queue are processed before it drops them.
@@ -46,19 +46,19 @@ impl<A: Allocator> Search<A> {
 
     // Reaches the positions that a step from one that is reached leads to, each by one step more.
     #[inline(always)]
-    fn reach_around(&mut self, kind: Steps, at: (usize, usize)) -> Result<(), AllocError>
+    fn reach_around(&mut self, connectivity: Connectivity, at: (usize, usize)) -> Result<(), AllocError>
         requires inside { InRange self.old.left.rows at.0 at.1 }
         requires marked { (m : ℕ) × IsMarked self.old.steps.numbers.rows at m × (m + 1 < 2 ^ 64) }
         ensures { OnOk result ((m : ℕ) → IsMarked self.old.steps.numbers.rows at m
-            → Reaches (IsStep kind at) (m + 1) self.old self.new) }
+            → Reaches (IsStep connectivity at) (m + 1) self.old self.new) }
     {
         let Some(count) = self.steps.numbers[at] else {
             return Ok(());
         };
         let near = around(at.0, at.1);
-        match kind {
-            Steps::Sides => self.reach_each(&near[..4], count + 1),
-            Steps::All => self.reach_each(&near, count + 1),
+        match connectivity {
+            Connectivity::Four => self.reach_each(&near[..4], count + 1),
+            Connectivity::Eight => self.reach_each(&near, count + 1),
         }
     }
 }
@@ -82,7 +82,7 @@ fn trim<A: Allocator>(queue: &mut Vec<(usize, usize), A>, next: usize) -> usize
 // The least number of steps to each open position, from the nearest of several; with a goal the search stops once it
 // goes on from it.
 pub(crate) fn search_from<A: Allocator + Clone>(
-    kind: Steps,
+    connectivity: Connectivity,
     floor: Grid<bool, A>,
     starts: &[(usize, usize)],
     goal: Option<(usize, usize)>,
@@ -90,9 +90,10 @@ pub(crate) fn search_from<A: Allocator + Clone>(
     ensures order { IfOk result (λ steps. steps.order ≡ floor.order) }
     ensures size { IfOk result (λ steps. HaveOneSize steps.rows floor.rows) }
     ensures least { IfOk result (λ steps.
-        goal ≡ None → HasLeastFrom kind floor.rows starts.now steps.rows) }
+        goal ≡ None → HasLeastFrom connectivity floor.rows starts.now steps.rows) }
     ensures settled { IfOk result (λ steps. (from to : ℕ × ℕ)
-        → starts.now ≡ from ∷ [] → goal ≡ Some to → IsSettled kind floor.rows from to steps.rows) }
+        → starts.now ≡ from ∷ [] → goal ≡ Some to
+        → IsSettled connectivity floor.rows from to steps.rows) }
 {
     let steps = new_wave(&floor)?;
     let mut search = Search { left: floor, steps };
@@ -106,7 +107,7 @@ pub(crate) fn search_from<A: Allocator + Clone>(
             let steps = search.steps;
             return Ok(steps.numbers);
         }
-        search.reach_around(kind, at)?;
+        search.reach_around(connectivity, at)?;
         next = trim(&mut search.steps.queue, next + 1);
     }
     let steps = search.steps;
@@ -116,8 +117,10 @@ pub(crate) fn search_from<A: Allocator + Clone>(
 /// Returns, for each cell, the least number of steps from a position. Each cell on a path passes the test, the first
 /// and the last too. A cell gets `None` exactly where no path leads to it.
 ///
-///     [[1, 1, 0], [0, 1, 1]]   distances((0, 0), Steps::Sides, |x| *x == 1)   [[Some(0), Some(1), None], [None, Some(2), Some(3)]]
-///     [[1, 1, 0], [0, 1, 1]]   distances((0, 0), Steps::All, |x| *x == 1)     [[Some(0), Some(1), None], [None, Some(1), Some(2)]]
+///     [[1, 1, 0], [0, 1, 1]]   distances((0, 0), Connectivity::Four, |x| *x == 1)
+///         [[Some(0), Some(1), None], [None, Some(2), Some(3)]]
+///     [[1, 1, 0], [0, 1, 1]]   distances((0, 0), Connectivity::Eight, |x| *x == 1)
+///         [[Some(0), Some(1), None], [None, Some(1), Some(2)]]
 ///
 /// Requires: the test can be called at every cell.
 /// Fails: if allocation fails.
@@ -126,24 +129,25 @@ pub(crate) fn search_from<A: Allocator + Clone>(
 pub fn distances<T, A: Allocator + Clone, F: Fn(&T) -> bool>(
     grid: &Grid<T, A>,
     from: (usize, usize),
-    kind: Steps,
+    connectivity: Connectivity,
     passable: F,
 ) -> Result<Grid<Option<usize>, A>, AllocError>
     requires { F.IsAlwaysCallable passable }
     ensures order { IfOk result (λ steps. steps.order ≡ grid.now.order) }
     ensures size { IfOk result (λ steps. HaveOneSize steps.rows grid.now.rows) }
     ensures least { IfOk result (λ steps. HoldsOfAnswers F.post passable grid.now.rows (λ floor.
-        HasLeastSteps kind floor from steps.rows)) }
+        HasLeastSteps connectivity floor from steps.rows)) }
 {
     let floor = answers_of(grid, passable)?;
-    search_from(kind, floor, &[from], None)
+    search_from(connectivity, floor, &[from], None)
 }
 
 /// Returns, for each cell, the least number of steps from the nearest of several positions, as [`distances`] counts
 /// them. Positions out of range and those whose cell does not pass the test are ignored; one that comes twice
 /// counts once.
 ///
-///     [[1, 1, 0], [1, 1, 1]]   distances_from(&[(0, 0), (1, 2)], Steps::Sides, |x| *x == 1)   [[Some(0), Some(1), None], [Some(1), Some(1), Some(0)]]
+///     [[1, 1, 0], [1, 1, 1]]   distances_from(&[(0, 0), (1, 2)], Connectivity::Four, |x| *x == 1)
+///         [[Some(0), Some(1), None], [Some(1), Some(1), Some(0)]]
 ///
 /// Requires: the test can be called at every cell.
 /// Fails: if allocation fails.
@@ -152,15 +156,15 @@ pub fn distances<T, A: Allocator + Clone, F: Fn(&T) -> bool>(
 pub fn distances_from<T, A: Allocator + Clone, F: Fn(&T) -> bool>(
     grid: &Grid<T, A>,
     starts: &[(usize, usize)],
-    kind: Steps,
+    connectivity: Connectivity,
     passable: F,
 ) -> Result<Grid<Option<usize>, A>, AllocError>
     requires { F.IsAlwaysCallable passable }
     ensures order { IfOk result (λ steps. steps.order ≡ grid.now.order) }
     ensures size { IfOk result (λ steps. HaveOneSize steps.rows grid.now.rows) }
     ensures least { IfOk result (λ steps. HoldsOfAnswers F.post passable grid.now.rows (λ floor.
-        HasLeastFrom kind floor starts.now steps.rows)) }
+        HasLeastFrom connectivity floor starts.now steps.rows)) }
 {
     let floor = answers_of(grid, passable)?;
-    search_from(kind, floor, starts, None)
+    search_from(connectivity, floor, starts, None)
 }

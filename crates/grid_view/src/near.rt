@@ -7,7 +7,7 @@ ghost use Rattle.grid_near.specs.Neighbors.{neighbors4, neighbors8, wrapped_neig
 ghost use Rattle.grid_near.specs.declared.board.Edges.TheVariants.{Joined};
 
 use crate::view::GridView;
-use grid_near::{Edges, Neighbors, Steps, Strided, WrappedNeighbors, count_near, neighbors_in};
+use grid_near::{Edges, Neighbors, Connectivity, Strided, WrappedNeighbors, count_near, neighbors_in};
 
 impl<'a, T> GridView<'a, T> {
     /// Returns an iterator over the cells that share a side with the cell at this position, row by row, each with its
@@ -21,7 +21,7 @@ impl<'a, T> GridView<'a, T> {
         ensures count { length result ≤ 4 }
         ensures cells { GivesCells self.now.rows result }
     {
-        self.cells_round(at, Steps::Sides, Edges::Open)
+        self.cells_round(at, Connectivity::Four, Edges::Open)
     }
 
     /// Returns an iterator over the cells that touch the cell at this position, at a side or a corner, row by row, each with
@@ -35,7 +35,7 @@ impl<'a, T> GridView<'a, T> {
         ensures count { length result ≤ 8 }
         ensures cells { GivesCells self.now.rows result }
     {
-        self.cells_round(at, Steps::All, Edges::Open)
+        self.cells_round(at, Connectivity::Eight, Edges::Open)
     }
 
     /// Same as [`neighbors4`](GridView::neighbors4), on a view whose edges meet: the last row is above the first, and the last
@@ -51,7 +51,7 @@ impl<'a, T> GridView<'a, T> {
         ensures at_most { length result ≤ 4 }
         ensures cells { GivesCells self.now.rows result }
     {
-        self.cells_round(at, Steps::Sides, Edges::Joined)
+        self.cells_round(at, Connectivity::Four, Edges::Joined)
     }
 
     /// Same as [`neighbors8`](GridView::neighbors8), on a view whose edges meet. It gives exactly eight cells; with one row or
@@ -66,7 +66,7 @@ impl<'a, T> GridView<'a, T> {
         ensures at_most { length result ≤ 8 }
         ensures cells { GivesCells self.now.rows result }
     {
-        self.cells_round(at, Steps::All, Edges::Joined)
+        self.cells_round(at, Connectivity::Eight, Edges::Joined)
     }
 
     /// Same as [`count_neighbors8`](GridView::count_neighbors8), of the cells of [`neighbors4`](GridView::neighbors4).
@@ -129,14 +129,14 @@ impl<'a, T> GridView<'a, T> {
 
     // The cells round a cell, by which steps, and by what the edges do.
     #[inline(always)]
-    fn cells_round(&self, at: (usize, usize), kind: Steps, edges: Edges) -> Neighbors<'a, T>
-        ensures gives { GivesNear (round_of kind edges self.now.rows at.0 at.1) result }
+    fn cells_round(&self, at: (usize, usize), connectivity: Connectivity, edges: Edges) -> Neighbors<'a, T>
+        ensures gives { GivesNear (round_of connectivity edges self.now.rows at.0 at.1) result }
         ensures count { edges ≡ Joined → InRange self.now.rows at.0 at.1
-            → length result ≡ step_count kind }
-        ensures at_most { length result ≤ step_count kind }
+            → length result ≡ step_count connectivity }
+        ensures at_most { length result ≤ step_count connectivity }
         ensures cells { GivesCells self.now.rows result }
     {
-        neighbors_in(self.strided(), at, kind, edges)
+        neighbors_in(self.strided(), at, connectivity, edges)
     }
 
     // The table by the steps between its cells, where a step back is one modulo 2^64.

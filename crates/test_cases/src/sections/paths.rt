@@ -12,7 +12,7 @@ use crate::case::{Case, CaseError};
 use crate::shown::text;
 use answer::{Search, answer};
 use grid::{Grid, Order};
-use grid_paths::Steps;
+use grid_paths::Connectivity;
 use grid_text::{TextError, from_text};
 use std::alloc::{AllocError, Global};
 use test_support::fixtures::Heap;
@@ -44,10 +44,10 @@ fn search_of<'a>(alloc: Global, case: Case<'a>) -> Result<Search<'a>, AllocError
     let (steps, numbers) = rest.split_once(" ").unwrap_or((rest, ""));
     Ok(Search {
         call,
-        steps: if steps == "All" {
-            Steps::All
+        steps: if steps == "Eight" {
+            Connectivity::Eight
         } else {
-            Steps::Sides
+            Connectivity::Four
         },
         at: positions(alloc, numbers)?,
     })

@@ -16,7 +16,7 @@ returns-in-Some g c =
     record {
       order = counting.order;
       size = counting.size;
-      scanned = IsScanned-marked c.args.kind g.T.PartialEq.eq c.args.grid.now.rows u c.args.count c.args.at c.in-Some.field-0 mark counting.scanned;
+      scanned = IsScanned-marked c.args.connectivity g.T.PartialEq.eq c.args.grid.now.rows u c.args.count c.args.at c.in-Some.field-0 mark counting.scanned;
       room = counting.room;
     }
 
@@ -31,7 +31,7 @@ returns-in_ok-number_region-in-None g c =
     record {
       order = done.same.order ∙ counting.order;
       size = size;
-      scanned = IsScanned-numbered c.args.kind g.T.PartialEq.eq c.args.grid.now.rows c.args.grid.now.table c.args.wave.now.numbers.rows new.rows new.table size
+      scanned = IsScanned-numbered c.args.connectivity g.T.PartialEq.eq c.args.grid.now.rows c.args.grid.now.table c.args.wave.now.numbers.rows new.rows new.table size
           c.args.count c.args.at c.index-in-None.result.now c.index-in-None.ensures counting.scanned done.numbered;
       room = omega arith;
     }

@@ -21,7 +21,7 @@ loop-start-init g c =
       size = blank.size;
       order = blank.order;
       left = IsLeft-start floor u empty;
-      started = subst (λ q. IsStarted c.args.kind floor c.args.starts.now u q 0) (sym blank.queue) (IsStarted-empty c.args.kind floor c.args.starts.now u none);
+      started = subst (λ q. IsStarted c.args.connectivity floor c.args.starts.now u q 0) (sym blank.queue) (IsStarted-empty c.args.connectivity floor c.args.starts.now u none);
       bound = omega arith;
     }
 
@@ -45,7 +45,7 @@ loop-start-preserved g c =
       size = record { rows = same.rows ∙ l.invariant.size.rows; cols = same.cols ∙ l.invariant.size.cols };
       left = r.1;
       order = same.order ∙ l.invariant.order;
-      started = IsStarted-reach c.args.kind floor starts w.numbers.rows w.queue.items i from new.numbers.rows new.queue.items l.invariant.started place r.0.round;
+      started = IsStarted-reach c.args.connectivity floor starts w.numbers.rows w.queue.items i from new.numbers.rows new.queue.items l.invariant.started place r.0.round;
     }
 
 pub loop-next-init : goal.loop-next-init
@@ -58,7 +58,7 @@ loop-next-init g c =
       order = l.invariant.order;
       left = l.invariant.left;
       search = IsTrimmed-start w.numbers.rows w.queue.items l.invariant.started.search l.invariant.bound;
-      start = started_all c.args.kind c.args.floor.rows c.args.starts.now w.numbers.rows w.queue.items l.start-index l.invariant.started le;
+      start = started_all c.args.connectivity c.args.floor.rows c.args.starts.now w.numbers.rows w.queue.items l.start-index l.invariant.started le;
     }
 
 pub reach_around-requires : goal.reach_around-requires
@@ -116,8 +116,8 @@ returns-clause-settled g c =
     let u = l.search.steps.numbers.rows in
     let floor = c.args.floor.rows in
     let least = HasLeastFrom-trimmed l.invariant.search l.invariant.start (omega (arith, l.search.steps.queue.ok.0)) in
-    IsSettled-end c.args.kind floor from u
-    (HasLeastSteps-one c.args.kind floor from u (subst (λ x. HasLeastFrom c.args.kind floor x u) one least)) to
+    IsSettled-end c.args.connectivity floor from u
+    (HasLeastSteps-one c.args.connectivity floor from u (subst (λ x. HasLeastFrom c.args.connectivity floor x u) one least)) to
 
 pub returns-then-eq-clause-settled : goal.returns-then-eq-clause-settled
 returns-then-eq-clause-settled g c =
@@ -133,9 +133,9 @@ returns-then-eq-clause-settled g c =
     let same : a ≡ to = cc in
     let mark : IsMarked u to v.1.0 = subst (λ x. IsMarked u x v.1.0) same v.1.1 in
     let t = l.invariant.search in
-    let search : IsSearch c.args.kind floor (from ∷ []) u (t.front ++ w.queue.items) (length t.front + l.next) = subst (λ x. IsSearch c.args.kind floor x u (t.front ++ w.queue.items) (length t.front + l.next)) one t.search in
+    let search : IsSearch c.args.connectivity floor (from ∷ []) u (t.front ++ w.queue.items) (length t.front + l.next) = subst (λ x. IsSearch c.args.connectivity floor x u (t.front ++ w.queue.items) (length t.front + l.next)) one t.search in
     let first : Contains c.args.starts.now from = subst (λ x. Contains x from) (sym one) (0, omega arith, refl) in
-    IsSettled-found c.args.kind floor from u (t.front ++ w.queue.items) (length t.front + l.next) search (λ o. l.invariant.start from first o) to v.1.0 mark
+    IsSettled-found c.args.connectivity floor from u (t.front ++ w.queue.items) (length t.front + l.next) search (λ o. l.invariant.start from first o) to v.1.0 mark
 
 pub loop-next-smaller : goal.loop-next-smaller
 loop-next-smaller g c =

@@ -11,7 +11,7 @@ invariant-loop-start g l =
       size : HaveOneSize l.search.steps.numbers.rows l.fn.floor.rows;
       order : l.search.steps.numbers.order ≡ l.fn.floor.order;
       left : IsLeft l.fn.floor.rows l.search.steps.numbers.rows l.search.left.rows;
-      started : IsStarted l.kind l.fn.floor.rows l.starts l.search.steps.numbers.rows l.search.steps.queue.items l.start-index;
+      started : IsStarted l.connectivity l.fn.floor.rows l.starts l.search.steps.numbers.rows l.search.steps.queue.items l.start-index;
       bound : unreached l.search.steps.numbers.rows + length l.search.steps.queue.items ≤ row_count l.fn.floor.rows * col_count l.fn.floor.rows;
     }
 
@@ -21,7 +21,7 @@ invariant-loop-next g l =
       size : HaveOneSize l.search.steps.numbers.rows l.fn.floor.rows;
       order : l.search.steps.numbers.order ≡ l.fn.floor.order;
       left : IsLeft l.fn.floor.rows l.search.steps.numbers.rows l.search.left.rows;
-      search : IsTrimmed l.kind l.fn.floor.rows l.fn.starts l.search.steps.numbers.rows l.search.steps.queue.items l.next (row_count l.fn.floor.rows * col_count l.fn.floor.rows);
+      search : IsTrimmed l.connectivity l.fn.floor.rows l.fn.starts l.search.steps.numbers.rows l.search.steps.queue.items l.next (row_count l.fn.floor.rows * col_count l.fn.floor.rows);
       start : (from : ℕ × ℕ) → Contains l.fn.starts from → IsOpen l.fn.floor.rows from → IsMarked l.search.steps.numbers.rows from 0;
     }
 

@@ -5,13 +5,13 @@ use Rattle.grid.proofs.grid.Grid.cells_round.Goals as goal
 
 pub returns-clause-gives : goal.returns-clause-gives
 returns-clause-gives g c = (
-  (rw c.as_slice.ensures at c.neighbors_of.ensures.gives.0) ∙ ap (λ x. round_of c.args.kind c.args.edges x.rows c.args.at.0 c.args.at.1) c.self.view_is,
+  (rw c.as_slice.ensures at c.neighbors_of.ensures.gives.0) ∙ ap (λ x. round_of c.args.connectivity c.args.edges x.rows c.args.at.0 c.args.at.1) c.self.view_is,
   c.neighbors_of.ensures.gives.1,
   c.neighbors_of.ensures.gives.2,
 )
 
 pub returns-clause-cells : goal.returns-clause-cells
-returns-clause-cells g c = gives_round c.args.self.now.rows c.args.self.now.table c.args.at.0 c.args.at.1 c.neighbors_of.result c.args.kind c.args.edges (returns-clause-gives g c).0
+returns-clause-cells g c = gives_round c.args.self.now.rows c.args.self.now.table c.args.at.0 c.args.at.1 c.neighbors_of.result c.args.connectivity c.args.edges (returns-clause-gives g c).0
 
 pub returns-clause-count : goal.returns-clause-count
 returns-clause-count g c = λ e h.

@@ -14,7 +14,7 @@ loop-next-init g c =
     let fewer = Marks-fewer c.requires.at marks in
     record {
       same = marks.same;
-      numbering = IsNumbering-start c.args.self.now.kind floor c.args.at k u new.numbers.rows new.queue.items
+      numbering = IsNumbering-start c.args.self.now.connectivity floor c.args.at k u new.numbers.rows new.queue.items
           (subst (λ q. Grew u q new.numbers.rows new.queue.items c.args.at k) c.clear.ensures.items (Marks-grew c.requires.at marks));
       fewer = omega arith;
     }
@@ -51,7 +51,7 @@ loop-next-preserved g c =
     let before = l.invariant.same in
     record {
       same = record { rows = e.same.rows ∙ before.rows; cols = e.same.cols ∙ before.cols; order = e.same.order ∙ before.order };
-      numbering = IsNumbering-round c.args.self.now.kind floor c.args.at c.args.self.now.number c.args.wave.now.numbers.rows l.wave.numbers.rows queue.items l.next l.invariant.numbering c.requires.below
+      numbering = IsNumbering-round c.args.self.now.connectivity floor c.args.at c.args.self.now.number c.args.wave.now.numbers.rows l.wave.numbers.rows queue.items l.next l.invariant.numbering c.requires.below
           a new.numbers.rows new.queue.items place e.round;
       fewer = e.round.spread.total ∙ l.invariant.fewer;
     }
@@ -69,7 +69,7 @@ returns-clause-numbered g c =
     let l = c.loop-next in
     let queue = l.wave.queue in
     let all : length queue.items ≤ l.next = omega (arith, queue.ok.0) in
-    IsNumbered-end c.args.self.now.kind floor c.args.at c.args.self.now.number c.args.wave.now.numbers.rows l.wave.numbers.rows queue.items l.next l.invariant.numbering c.requires.below all
+    IsNumbered-end c.args.self.now.connectivity floor c.args.at c.args.self.now.number c.args.wave.now.numbers.rows l.wave.numbers.rows queue.items l.next l.invariant.numbering c.requires.below all
 
 pub returns-clause-fewer : goal.returns-clause-fewer
 returns-clause-fewer g c =

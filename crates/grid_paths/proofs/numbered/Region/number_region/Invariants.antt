@@ -7,7 +7,7 @@ abbrev pub invariant-loop-next : goal.invariant-loop-next
 invariant-loop-next g l =
     record {
       same : SameSizeAndOrder l.fn.wave.numbers l.wave.numbers;
-      numbering : IsNumbering l.self.kind (alike g.T.PartialEq.eq l.self.first.now l.self.grid.now.rows) l.fn.at l.self.number l.fn.wave.numbers.rows l.wave.numbers.rows l.wave.queue.items l.next;
+      numbering : IsNumbering l.self.connectivity (alike g.T.PartialEq.eq l.self.first.now l.self.grid.now.rows) l.fn.at l.self.number l.fn.wave.numbers.rows l.wave.numbers.rows l.wave.queue.items l.next;
       fewer : unreached l.wave.numbers.rows + length l.wave.queue.items ≡ unreached l.fn.wave.numbers.rows;
     }
 
