@@ -15,7 +15,7 @@ pub use Rattle.grid.proofs.LayoutLemmas.{relaid_rows, relaid_cols}
 pub use Rattle.grid.proofs.LineEditLemmas.{refused_edit, done_edit, crossed_edit, pushed_edit, removed_rows, removed_reply, popped_rows, popped_reply, range_rows, range_reply, delete_rows_one, delete_reply_one, done_rows, done_reply, insert_all_memory, pad_none, padded_rows, padded_reply, read_rows, read_some, read_none, get_past, stepped_edit}
 pub use Rattle.grid.proofs.MadeLemmas.{made_size, CanCut-cells, made_fill, All-replicate, All-none, length-storage_none}
 pub use Rattle.grid.proofs.MadeLikeLemmas.{like_same, like_mapped, like_fault}
-pub use Rattle.grid_near.proofs.NearLemmas.{gives_round}
+pub use Rattle.grid_near.proofs.NearLemmas.{gives_around}
 pub use Rattle.grid.proofs.PastedLemmas.{pasted, updated_none, filled_part, clipped_as, clipped_within, pasted_clipped, updated_cell, set_wrote, updated_col, updated_row, updated_part, in_part_within}
 pub use Rattle.grid_view.proofs.PositionLemmas.{FoundBefore, before_none, before_next, before_row, before_all, HoldsBefore, found_none, found_next, found_one, found_row, found_all, found_in_range}
 pub use Rattle.grid.proofs.ResizeLemmas.{corner_rows, corner_resized, resizes_to, product_some, resized, corner_both}

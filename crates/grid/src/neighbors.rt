@@ -1,6 +1,6 @@
 //! Iterators over the cells round a cell, on the grid as it is or with its edges joined.
 ghost use Rattle.std.specs.Prelude.{◌≡◌, ◌≤◌, length, IfOk};
-ghost use Rattle.grid.specs.Prelude.{InRange, SameSizeAndOrder, storage, CallableAtRefs, GivesCells, CallableRound, ReachesRound, MapRound, CallableCounted, MapCounts, CallableSummed, MapSums, CallableNear, CountsNear, neighbors4, neighbors8, wrapped_neighbors4, wrapped_neighbors8, round_of, step_count, GivesNear};
+ghost use Rattle.grid.specs.Prelude.{InRange, SameSizeAndOrder, storage, CallableAtRefs, GivesCells, CallableAround, ReachesAround, MapAround, CallableCounted, MapCounts, CallableSummed, MapSums, CallableNear, CountsNear, neighbors4, neighbors8, wrapped_neighbors4, wrapped_neighbors8, around_of, step_count, GivesNear};
 ghost use Rattle.grid_near.specs.declared.board.Edges.TheVariants.{Joined};
 
 use crate::Grid;
@@ -20,7 +20,7 @@ impl<T, A: Allocator> Grid<T, A> {
         ensures count { length result ≤ 4 }
         ensures cells { GivesCells self.now.rows result }
     {
-        self.cells_round(at, Connectivity::Four, Edges::Open)
+        self.cells_around(at, Connectivity::Four, Edges::Open)
     }
 
     /// Returns an iterator over the cells that touch the cell at this position, at a side or a corner, row by row, each with
@@ -34,7 +34,7 @@ impl<T, A: Allocator> Grid<T, A> {
         ensures count { length result ≤ 8 }
         ensures cells { GivesCells self.now.rows result }
     {
-        self.cells_round(at, Connectivity::Eight, Edges::Open)
+        self.cells_around(at, Connectivity::Eight, Edges::Open)
     }
 
     /// Same as [`neighbors4`](Grid::neighbors4), on a grid whose edges meet: the last row is above the first, and the last
@@ -50,7 +50,7 @@ impl<T, A: Allocator> Grid<T, A> {
         ensures at_most { length result ≤ 4 }
         ensures cells { GivesCells self.now.rows result }
     {
-        self.cells_round(at, Connectivity::Four, Edges::Joined)
+        self.cells_around(at, Connectivity::Four, Edges::Joined)
     }
 
     /// Same as [`neighbors8`](Grid::neighbors8), on a grid whose edges meet: the last row is above the first, and the last
@@ -66,7 +66,7 @@ impl<T, A: Allocator> Grid<T, A> {
         ensures at_most { length result ≤ 8 }
         ensures cells { GivesCells self.now.rows result }
     {
-        self.cells_round(at, Connectivity::Eight, Edges::Joined)
+        self.cells_around(at, Connectivity::Eight, Edges::Joined)
     }
 
     /// Same as [`map_neighbors8`](Grid::map_neighbors8), with the iterator that [`neighbors4`](Grid::neighbors4) gives.
@@ -76,11 +76,11 @@ impl<T, A: Allocator> Grid<T, A> {
     ) -> Result<Grid<U, A>, AllocError>
     where
         A: Clone,
-        requires { CallableRound neighbors4 F.pre f self.now.rows }
+        requires { CallableAround neighbors4 F.pre f self.now.rows }
         ensures same { IfOk result (SameSizeAndOrder self.now) }
-        ensures cells { MapRound neighbors4 F.post f self.now.rows result }
+        ensures cells { MapAround neighbors4 F.post f self.now.rows result }
     {
-        self.map_round(Connectivity::Four, Edges::Open, f)
+        self.map_around(Connectivity::Four, Edges::Open, f)
     }
 
     /// Returns the grid of what the closure, called in storage order, returns for each position, a reference to the
@@ -98,11 +98,11 @@ impl<T, A: Allocator> Grid<T, A> {
     ) -> Result<Grid<U, A>, AllocError>
     where
         A: Clone,
-        requires { CallableRound neighbors8 F.pre f self.now.rows }
+        requires { CallableAround neighbors8 F.pre f self.now.rows }
         ensures same { IfOk result (SameSizeAndOrder self.now) }
-        ensures cells { MapRound neighbors8 F.post f self.now.rows result }
+        ensures cells { MapAround neighbors8 F.post f self.now.rows result }
     {
-        self.map_round(Connectivity::Eight, Edges::Open, f)
+        self.map_around(Connectivity::Eight, Edges::Open, f)
     }
 
     /// Same as [`map_neighbors8`](Grid::map_neighbors8), with the iterator that
@@ -113,11 +113,11 @@ impl<T, A: Allocator> Grid<T, A> {
     ) -> Result<Grid<U, A>, AllocError>
     where
         A: Clone,
-        requires { CallableRound wrapped_neighbors4 F.pre f self.now.rows }
+        requires { CallableAround wrapped_neighbors4 F.pre f self.now.rows }
         ensures same { IfOk result (SameSizeAndOrder self.now) }
-        ensures cells { MapRound wrapped_neighbors4 F.post f self.now.rows result }
+        ensures cells { MapAround wrapped_neighbors4 F.post f self.now.rows result }
     {
-        self.map_round(Connectivity::Four, Edges::Joined, f)
+        self.map_around(Connectivity::Four, Edges::Joined, f)
     }
 
     /// Same as [`map_neighbors8`](Grid::map_neighbors8), with the iterator that
@@ -128,11 +128,11 @@ impl<T, A: Allocator> Grid<T, A> {
     ) -> Result<Grid<U, A>, AllocError>
     where
         A: Clone,
-        requires { CallableRound wrapped_neighbors8 F.pre f self.now.rows }
+        requires { CallableAround wrapped_neighbors8 F.pre f self.now.rows }
         ensures same { IfOk result (SameSizeAndOrder self.now) }
-        ensures cells { MapRound wrapped_neighbors8 F.post f self.now.rows result }
+        ensures cells { MapAround wrapped_neighbors8 F.post f self.now.rows result }
     {
-        self.map_round(Connectivity::Eight, Edges::Joined, f)
+        self.map_around(Connectivity::Eight, Edges::Joined, f)
     }
 
     /// Same as [`count_neighbors8`](Grid::count_neighbors8), of the cells of [`neighbors4`](Grid::neighbors4).
@@ -218,7 +218,7 @@ impl<T, A: Allocator> Grid<T, A> {
         ensures same { IfOk result (SameSizeAndOrder self.now) }
         ensures cells { MapCounts neighbors8 F.post test G.post rule self.now.rows result }
     {
-        self.counts_round(Connectivity::Eight, Edges::Open, test, rule)
+        self.counts_around(Connectivity::Eight, Edges::Open, test, rule)
     }
 
     /// Same as [`map_counts8`](Grid::map_counts8), on a grid whose edges meet, as
@@ -242,7 +242,7 @@ impl<T, A: Allocator> Grid<T, A> {
         ensures same { IfOk result (SameSizeAndOrder self.now) }
         ensures cells { MapCounts wrapped_neighbors8 F.post test G.post rule self.now.rows result }
     {
-        self.counts_round(Connectivity::Eight, Edges::Joined, test, rule)
+        self.counts_around(Connectivity::Eight, Edges::Joined, test, rule)
     }
 
     /// Same as [`map_counts8`](Grid::map_counts8), with the sum of what the closure `weight` returns at the cells that
@@ -265,7 +265,7 @@ impl<T, A: Allocator> Grid<T, A> {
         ensures same { IfOk result (SameSizeAndOrder self.now) }
         ensures cells { MapSums neighbors8 F.post weight G.post rule self.now.rows result }
     {
-        self.sums_round(Connectivity::Eight, Edges::Open, weight, rule)
+        self.sums_around(Connectivity::Eight, Edges::Open, weight, rule)
     }
 
     /// Same as [`map_sums8`](Grid::map_sums8), on a grid whose edges meet.
@@ -288,7 +288,7 @@ impl<T, A: Allocator> Grid<T, A> {
         ensures same { IfOk result (SameSizeAndOrder self.now) }
         ensures cells { MapSums wrapped_neighbors8 F.post weight G.post rule self.now.rows result }
     {
-        self.sums_round(Connectivity::Eight, Edges::Joined, weight, rule)
+        self.sums_around(Connectivity::Eight, Edges::Joined, weight, rule)
     }
 
     /// Same as [`map_counts8`](Grid::map_counts8), of the four cells that share a side with a cell.
@@ -304,7 +304,7 @@ impl<T, A: Allocator> Grid<T, A> {
         ensures same { IfOk result (SameSizeAndOrder self.now) }
         ensures cells { MapCounts neighbors4 F.post test G.post rule self.now.rows result }
     {
-        self.counts_round(Connectivity::Four, Edges::Open, test, rule)
+        self.counts_around(Connectivity::Four, Edges::Open, test, rule)
     }
 
     /// Same as [`map_wrapped_counts8`](Grid::map_wrapped_counts8), of the four cells that share a side with a cell.
@@ -320,7 +320,7 @@ impl<T, A: Allocator> Grid<T, A> {
         ensures same { IfOk result (SameSizeAndOrder self.now) }
         ensures cells { MapCounts wrapped_neighbors4 F.post test G.post rule self.now.rows result }
     {
-        self.counts_round(Connectivity::Four, Edges::Joined, test, rule)
+        self.counts_around(Connectivity::Four, Edges::Joined, test, rule)
     }
 
     /// Same as [`map_sums8`](Grid::map_sums8), of the four cells that share a side with a cell.
@@ -336,7 +336,7 @@ impl<T, A: Allocator> Grid<T, A> {
         ensures same { IfOk result (SameSizeAndOrder self.now) }
         ensures cells { MapSums neighbors4 F.post weight G.post rule self.now.rows result }
     {
-        self.sums_round(Connectivity::Four, Edges::Open, weight, rule)
+        self.sums_around(Connectivity::Four, Edges::Open, weight, rule)
     }
 
     /// Same as [`map_wrapped_sums8`](Grid::map_wrapped_sums8), of the four cells that share a side with a cell.
@@ -352,13 +352,13 @@ impl<T, A: Allocator> Grid<T, A> {
         ensures same { IfOk result (SameSizeAndOrder self.now) }
         ensures cells { MapSums wrapped_neighbors4 F.post weight G.post rule self.now.rows result }
     {
-        self.sums_round(Connectivity::Four, Edges::Joined, weight, rule)
+        self.sums_around(Connectivity::Four, Edges::Joined, weight, rule)
     }
 
     // The cells round a cell, by which steps, and by what the edges do.
     #[inline(always)]
-    fn cells_round(&self, at: (usize, usize), connectivity: Connectivity, edges: Edges) -> Neighbors<'_, T>
-        ensures gives { GivesNear (round_of connectivity edges self.now.rows at.0 at.1) result }
+    fn cells_around(&self, at: (usize, usize), connectivity: Connectivity, edges: Edges) -> Neighbors<'_, T>
+        ensures gives { GivesNear (around_of connectivity edges self.now.rows at.0 at.1) result }
         ensures count { edges ≡ Joined → InRange self.now.rows at.0 at.1
             → length result ≡ step_count connectivity }
         ensures at_most { length result ≤ step_count connectivity }
@@ -370,7 +370,7 @@ impl<T, A: Allocator> Grid<T, A> {
     }
 
     // What the closure returns at each cell and the cells round it.
-    fn map_round<U, F: Fn((usize, usize), &T, Neighbors<'_, T>) -> U>(
+    fn map_around<U, F: Fn((usize, usize), &T, Neighbors<'_, T>) -> U>(
         &self,
         connectivity: Connectivity,
         edges: Edges,
@@ -378,20 +378,20 @@ impl<T, A: Allocator> Grid<T, A> {
     ) -> Result<Grid<U, A>, AllocError>
     where
         A: Clone,
-        requires { CallableRound (round_of connectivity edges) F.pre f self.now.rows }
+        requires { CallableAround (around_of connectivity edges) F.pre f self.now.rows }
         ensures same { IfOk result (SameSizeAndOrder self.now) }
-        ensures cells { MapRound (round_of connectivity edges) F.post f self.now.rows result }
+        ensures cells { MapAround (around_of connectivity edges) F.post f self.now.rows result }
     {
         self.map_indexed(
             |at, cell|
-                requires { ReachesRound (round_of connectivity edges) F.pre f self.now.rows at
+                requires { ReachesAround (around_of connectivity edges) F.pre f self.now.rows at
                     cell }
-            { f(at, cell, self.cells_round(at, connectivity, edges)) },
+            { f(at, cell, self.cells_around(at, connectivity, edges)) },
         )
     }
 
     // What the closure returns at each cell and how many of the cells round it pass.
-    fn counts_round<U, F: Fn(&T) -> bool, G: Fn(&T, u8) -> U>(
+    fn counts_around<U, F: Fn(&T) -> bool, G: Fn(&T, u8) -> U>(
         &self,
         connectivity: Connectivity,
         edges: Edges,
@@ -401,10 +401,10 @@ impl<T, A: Allocator> Grid<T, A> {
     where
         A: Clone,
         requires tests { CallableAtRefs F.pre test (storage self.now.order self.now.rows) }
-        requires calls { CallableCounted (round_of connectivity edges) F.post test G.pre rule
+        requires calls { CallableCounted (around_of connectivity edges) F.post test G.pre rule
             self.now.rows }
         ensures same { IfOk result (SameSizeAndOrder self.now) }
-        ensures cells { MapCounts (round_of connectivity edges) F.post test G.post rule
+        ensures cells { MapCounts (around_of connectivity edges) F.post test G.post rule
             self.now.rows result }
     {
         let (order, rows, cols) = (self.order, self.row_count, self.col_count);
@@ -427,7 +427,7 @@ impl<T, A: Allocator> Grid<T, A> {
     }
 
     // What the closure returns at each cell and the sum of those round it.
-    fn sums_round<U, F: Fn(&T) -> u8, G: Fn(&T, u16) -> U>(
+    fn sums_around<U, F: Fn(&T) -> u8, G: Fn(&T, u16) -> U>(
         &self,
         connectivity: Connectivity,
         edges: Edges,
@@ -437,10 +437,10 @@ impl<T, A: Allocator> Grid<T, A> {
     where
         A: Clone,
         requires weights { CallableAtRefs F.pre weight (storage self.now.order self.now.rows) }
-        requires calls { CallableSummed (round_of connectivity edges) F.post weight G.pre rule
+        requires calls { CallableSummed (around_of connectivity edges) F.post weight G.pre rule
             self.now.rows }
         ensures same { IfOk result (SameSizeAndOrder self.now) }
-        ensures cells { MapSums (round_of connectivity edges) F.post weight G.post rule
+        ensures cells { MapSums (around_of connectivity edges) F.post weight G.post rule
             self.now.rows result }
     {
         let (order, rows, cols) = (self.order, self.row_count, self.col_count);

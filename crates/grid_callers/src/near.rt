@@ -7,8 +7,8 @@ use std::alloc::{AllocError, Global};
 
 /// Returns how many of the cells that touch a cell are `x`, and how many on a board whose edges meet.
 ///
-///     [[1, 2, 1], [1, 1, 2]]   count_round(1, 1, 1)   (3, 5)
-pub fn count_round(grid: &Grid<u8>, row: usize, col: usize, x: u8) -> (usize, usize)
+///     [[1, 2, 1], [1, 1, 2]]   count_around(1, 1, 1)   (3, 5)
+pub fn count_around(grid: &Grid<u8>, row: usize, col: usize, x: u8) -> (usize, usize)
     ensures open { result.0 ≡ count_by (λ near. near.1 == x) (neighbors8 grid.now.rows row col) }
     ensures joined { result.1
         ≡ count_by (λ near. near.1 == x) (wrapped_neighbors8 grid.now.rows row col) }
@@ -19,7 +19,7 @@ pub fn count_round(grid: &Grid<u8>, row: usize, col: usize, x: u8) -> (usize, us
     (open, joined)
 }
 
-/// Same as [`count_round`], of the cells that share a side, by a chain.
+/// Same as [`count_around`], of the cells that share a side, by a chain.
 pub fn count_beside(grid: &Grid<u8>, row: usize, col: usize, x: u8) -> usize
     ensures { result ≡ count_by (λ near. near.1 == x) (neighbors4 grid.now.rows row col) }
 {
@@ -56,8 +56,8 @@ pub fn are_below(grid: &Grid<u8>, row: usize, col: usize, height: u8) -> (bool, 
 
 /// Returns the positions round a position.
 ///
-///     [[1, 2, 3], [4, 5, 6]]   positions_round(0, 0)   [(0, 1), (1, 0), (1, 1)]
-pub fn positions_round(
+///     [[1, 2, 3], [4, 5, 6]]   positions_around(0, 0)   [(0, 1), (1, 0), (1, 1)]
+pub fn positions_around(
     alloc: Global,
     grid: &Grid<u8>,
     row: usize,
@@ -77,7 +77,7 @@ fn plus(total: u32, near: ((usize, usize), &u32)) -> u32
 }
 
 /// Returns the sum of the cells round a cell, on a board whose edges meet.
-pub fn sum_round(grid: &Grid<u32>, row: usize, col: usize) -> u32
+pub fn sum_around(grid: &Grid<u32>, row: usize, col: usize) -> u32
     ensures { result ≡ fold (λ total near. min (total + near.1) u32.MAX) 0
         (wrapped_neighbors8 grid.now.rows row col) }
 {

@@ -1,6 +1,6 @@
 -- The steps round a cell, one by one.
 use Rattle.std.proofs.Common.{◌≡◌, ℕ, zero, suc, ◌+◌, ◌-◌, ◌*◌, ◌/◌, ◌%◌, ◌^◌, ◌<◌, ◌≤◌, inl, inr, Bool, true, false, cond, Option, Some, None, List, [], ◌∷◌, drop, length, refl, ◌&&◌, nat_lt, sym, ◌∙◌, ap, arith, slice_index_or, lit<, IsSome, filter_map, slice_get, option_map, option_and_then, lt-ltb, le-ltb, ltb-true}
-use Rattle.grid_near.proofs.Common.{cons_option, drop_all, mod_below, mod-mul-add, add-mod_right, cases_lt, slice_get_read, row_count, col_count, cell, place, table_of, HoldsSize, cell_past_rows, IsSome_within, length_cons, past_cols, place_within, step_count, both, cell_at, neighbors4, neighbors8, wrapped_neighbors4, wrapped_neighbors8, round_of, round_before, round_after, cell_by, by_strides, by_steps, strided_table, HoldsCells, box, beside, around, side, positions, position_of, cells_from, if_within, strides_of, start_of, next_step, IsThere, IsRound, positions_from}
+use Rattle.grid_near.proofs.Common.{cons_option, drop_all, mod_below, mod-mul-add, add-mod_right, cases_lt, slice_get_read, row_count, col_count, cell, place, table_of, HoldsSize, cell_past_rows, IsSome_within, length_cons, past_cols, place_within, step_count, both, cell_at, neighbors4, neighbors8, wrapped_neighbors4, wrapped_neighbors8, around_of, around_before, around_after, cell_by, by_strides, by_steps, strided_table, HoldsCells, box, beside, around, side, positions, position_of, cells_from, if_within, strides_of, start_of, next_step, IsThere, IsAround, positions_from}
 use Rattle.std.proofs.Math.Nat.{mod-add-mod}
 use Rattle.grid_base.specs.Table.{IsSize, IsTable, tabulate}
 use Rattle.grid_base.proofs.StorageLemmas.{IsFull-table_of}
@@ -184,12 +184,12 @@ module _ {T : Type 0} (t : List (List T)) where
   joined_start true size connectivity at = refl
   joined_start false size connectivity at = no_cells (cell t) Joined size connectivity at (step_count connectivity) (omega arith)
 
-  round_start : (e : Edges) (connectivity : Connectivity) (at : ℕ × ℕ) → let size : ℕ × ℕ = (row_count t, col_count t) in cells_from (cell t) e size connectivity at (start_of e size connectivity at) ≡ round_of connectivity e t at.0 at.1
+  around_start : (e : Edges) (connectivity : Connectivity) (at : ℕ × ℕ) → let size : ℕ × ℕ = (row_count t, col_count t) in cells_from (cell t) e size connectivity at (start_of e size connectivity at) ≡ around_of connectivity e t at.0 at.1
   unfolding neighbors4 neighbors8 wrapped_neighbors4 wrapped_neighbors8
-  round_start Open Four at = refl
-  round_start Open Eight at = refl
-  round_start Joined Four at = joined_start (nat_lt at.0 (row_count t) && nat_lt at.1 (col_count t)) (row_count t, col_count t) Four at
-  round_start Joined Eight at = joined_start (nat_lt at.0 (row_count t) && nat_lt at.1 (col_count t)) (row_count t, col_count t) Eight at
+  around_start Open Four at = refl
+  around_start Open Eight at = refl
+  around_start Joined Four at = joined_start (nat_lt at.0 (row_count t) && nat_lt at.1 (col_count t)) (row_count t, col_count t) Four at
+  around_start Joined Eight at = joined_start (nat_lt at.0 (row_count t) && nat_lt at.1 (col_count t)) (row_count t, col_count t) Eight at
 
 -- a number below another
 pub below_mod : (n k : ℕ) → k < n → k % n ≡ k
@@ -218,11 +218,11 @@ module _ {T : Type 0} (t : List (List T)) (h : IsTable t) (cells : List T) (size
   whole_size : size ≡ (row_count t, col_count t)
   whole_size = λ i. (rows i, cols i)
 
-  pub start_shown : (e : Edges) (connectivity : Connectivity) (at : ℕ × ℕ) (k : ℕ) → k ≡ start_of e size connectivity at → cells_from (cell_by cells size place_of) e size connectivity at k ≡ round_of connectivity e t at.0 at.1
+  pub start_shown : (e : Edges) (connectivity : Connectivity) (at : ℕ × ℕ) (k : ℕ) → k ≡ start_of e size connectivity at → cells_from (cell_by cells size place_of) e size connectivity at k ≡ around_of connectivity e t at.0 at.1
   start_shown e connectivity at k first =
       ap (cells_from (cell_by cells size place_of) e size connectivity at) first
       ∙ (ap (λ f. cells_from f e size connectivity at (start_of e size connectivity at)) (λ i r c. shown r c i)
-      ∙ (ap (λ s. cells_from (cell t) e s connectivity at (start_of e s connectivity at)) whole_size ∙ round_start t e connectivity at))
+      ∙ (ap (λ s. cells_from (cell t) e s connectivity at (start_of e s connectivity at)) whole_size ∙ around_start t e connectivity at))
 
 -- a grid's cells, by their strides
 pub at_strides : (o : Order) (m n r c : ℕ) → by_strides (strides_of o (m, n)) r c ≡ place o m n r c
@@ -249,7 +249,7 @@ module _ {T : Type 0} (cells : List T) (size : ℕ × ℕ) (start : ℕ) (stride
   full : IsFull size.0 size.1 read_step
   full = record { full = λ r c lr lc. IsSome_within cells (by_steps start strides r c) (h r c lr lc) }
 
-  pub steps_shown : (e : Edges) (connectivity : Connectivity) (at : ℕ × ℕ) (k : ℕ) → k ≡ start_of e size connectivity at → cells_from (cell_by cells size (by_steps start strides)) e size connectivity at k ≡ round_of connectivity e (strided_table cells size start strides) at.0 at.1
+  pub steps_shown : (e : Edges) (connectivity : Connectivity) (at : ℕ × ℕ) (k : ℕ) → k ≡ start_of e size connectivity at → cells_from (cell_by cells size (by_steps start strides)) e size connectivity at k ≡ around_of connectivity e (strided_table cells size start strides) at.0 at.1
   steps_shown =
       start_shown (strided_table cells size start strides) (IsTable-tabulate size.0 size.1 read_step s full) cells size (by_steps start strides) (sym (rows-tabulate size.0 size.1 read_step)) (sym (cols-tabulate size.0 size.1 read_step s full))
       (λ r c lr lc. sym (cell-tabulate size.0 size.1 read_step r c full lr lc))
@@ -265,14 +265,14 @@ inner_step Open inner passed tried is = ap (λ b. cond b passed tried) is
 inner_step Joined inner passed tried is = refl
 
 -- away from the edges
-before_inner : (n k : ℕ) → 0 < k → k < n → round_before n k ≡ k - 1
+before_inner : (n k : ℕ) → 0 < k → k < n → around_before n k ≡ k - 1
 before_inner n zero lk ln = absurd (omega arith)
 before_inner n (suc k) lk ln =
     let same : suc k + n - 1 ≡ k + n = omega arith in
     let low : k ≡ suc k - 1 = omega arith in
     ap (λ x. x % n) same ∙ (add-mod_right k n ∙ (below_mod n k (omega arith) ∙ low))
 
-after_inner : (n k : ℕ) → k + 1 < n → round_after n k ≡ k + 1
+after_inner : (n k : ℕ) → k + 1 < n → around_after n k ≡ k + 1
 after_inner n k ln = below_mod n (k + 1) ln
 
 around_inner : (n k i : ℕ) → 0 < k → k + 1 < n → i < 3 → around n k i ≡ k + i - 1
@@ -343,7 +343,7 @@ module _ {T : Type 0} (cells : List T) (size : ℕ × ℕ) (place_of : ℕ → �
       (ap (beside at.1) (sym ej) ∙ beside_there at.1 j there.before (omega (arith, box_col connectivity k, ej)))
       (omega (arith, there.above, there.below)) (omega (arith, there.before, there.after)) read
 
-module _ {T : Type 0} (cells : List T) (size : ℕ × ℕ) (start : ℕ) (strides at : ℕ × ℕ) (connectivity : Connectivity) (edges : Edges) (first : ℕ) (inner : Bool) (passed tried : ℕ) (w : IsRound cells size start strides at connectivity edges first inner passed tried) (e : inner ≡ true) (k : ℕ) (lt : k < step_count connectivity) (i j : ℕ) (ei : i ≡ box connectivity k / 3) (ej : j ≡ box connectivity k % 3) where
+module _ {T : Type 0} (cells : List T) (size : ℕ × ℕ) (start : ℕ) (strides at : ℕ × ℕ) (connectivity : Connectivity) (edges : Edges) (first : ℕ) (inner : Bool) (passed tried : ℕ) (w : IsAround cells size start strides at connectivity edges first inner passed tried) (e : inner ≡ true) (k : ℕ) (lt : k < step_count connectivity) (i j : ℕ) (ei : i ≡ box connectivity k / 3) (ej : j ≡ box connectivity k % 3) where
   within_row : at.0 + i - 1 < size.0
   within_row = omega (arith, box_row connectivity k lt, (w.inside e).below, (w.inside e).above)
 

@@ -2,7 +2,7 @@
 use Rattle.std.proofs.Common.{◌≡◌, ℕ, zero, suc, ◌<◌, ◌&&◌, Bool, true, false, cond, nat_lt, Option, Some, None, List, [], ◌∷◌, length, refl, subst, sym, arith, filter_map, slice_index_or, option_map, option_and_then}
 use Rattle.grid_base.proofs.Common.{IsTable, IsCellAt, GivesCells}
 use Rattle.grid_base.proofs.TableLemmas.{cell_in_range}
-use Rattle.grid_near.proofs.Common.{cons_option, row_count, col_count, cell, both, cell_at, neighbors4, neighbors8, wrapped_neighbors4, wrapped_neighbors8, round_of}
+use Rattle.grid_near.proofs.Common.{cons_option, row_count, col_count, cell, both, cell_at, neighbors4, neighbors8, wrapped_neighbors4, wrapped_neighbors8, around_of}
 use Rattle.grid_near.specs.Around.{positions}
 use Rattle.grid_near.specs.declared.steps.Connectivity.{Connectivity}
 use Rattle.grid_near.specs.declared.steps.Connectivity.TheVariants.{Four, Eight}
@@ -47,9 +47,9 @@ module _ {T : Type 0} (t : List (List T)) (h : IsTable t) where
   gives_if false ps s is = gives_from [] s is
 
   -- by the connectivity, and by what the edges do
-  pub gives_round : (r c : ℕ) (s : List ((ℕ × ℕ) × T)) (connectivity : Connectivity) (e : Edges) → s ≡ round_of connectivity e t r c → GivesCells t s
+  pub gives_around : (r c : ℕ) (s : List ((ℕ × ℕ) × T)) (connectivity : Connectivity) (e : Edges) → s ≡ around_of connectivity e t r c → GivesCells t s
   unfolding neighbors4 neighbors8 wrapped_neighbors4 wrapped_neighbors8
-  gives_round r c s Four Open is = gives_from (positions Open (row_count t, col_count t) Four (r, c)) s is
-  gives_round r c s Eight Open is = gives_from (positions Open (row_count t, col_count t) Eight (r, c)) s is
-  gives_round r c s Four Joined is = gives_if (nat_lt r (row_count t) && nat_lt c (col_count t)) (positions Joined (row_count t, col_count t) Four (r, c)) s is
-  gives_round r c s Eight Joined is = gives_if (nat_lt r (row_count t) && nat_lt c (col_count t)) (positions Joined (row_count t, col_count t) Eight (r, c)) s is
+  gives_around r c s Four Open is = gives_from (positions Open (row_count t, col_count t) Four (r, c)) s is
+  gives_around r c s Eight Open is = gives_from (positions Open (row_count t, col_count t) Eight (r, c)) s is
+  gives_around r c s Four Joined is = gives_if (nat_lt r (row_count t) && nat_lt c (col_count t)) (positions Joined (row_count t, col_count t) Four (r, c)) s is
+  gives_around r c s Eight Joined is = gives_if (nat_lt r (row_count t) && nat_lt c (col_count t)) (positions Joined (row_count t, col_count t) Eight (r, c)) s is

@@ -8,7 +8,7 @@ use Rattle.grid_near.specs.declared.steps.Connectivity.{Connectivity}
 use Rattle.grid_near.specs.declared.steps.Connectivity.TheVariants.{Four, Eight}
 use Rattle.grid_near.specs.declared.board.Edges.{Edges}
 use Rattle.grid_near.specs.declared.board.Edges.TheVariants.{Open, Joined}
-use Rattle.grid_near.specs.Neighbors.{step_count, around8, around4, before, round_before, round_after, both, cell_at, placed}
+use Rattle.grid_near.specs.Neighbors.{step_count, around8, around4, before, around_before, around_after, both, cell_at, placed}
 
 -- the cell in row r and column c of a size, where `place_of` says where each cell is
 abbrev pub cell_by : {T : Type 0} → List T → ℕ × ℕ → (ℕ → ℕ → ℕ) → ℕ → ℕ → Option T
@@ -55,9 +55,9 @@ beside k (suc (suc _)) = Some (k + 1)
 
 -- the same round n numbers
 abbrev pub around : ℕ → ℕ → ℕ → ℕ
-around n k zero = round_before n k
+around n k zero = around_before n k
 around n k (suc zero) = k
-around n k (suc (suc _)) = round_after n k
+around n k (suc (suc _)) = around_after n k
 
 -- by what the edges do
 abbrev pub side : Edges → ℕ → ℕ → ℕ → Option ℕ
@@ -136,7 +136,7 @@ next_step Joined inner passed tried = passed
 
 -- what holds of an iterator round the cell at a position, of which `passed` steps are done, and, at
 -- an edge that is open, `tried`
-pub record IsRound {T : Type 0} (cells : List T) (size : ℕ × ℕ) (start : ℕ) (strides at : ℕ × ℕ)
+pub record IsAround {T : Type 0} (cells : List T) (size : ℕ × ℕ) (start : ℕ) (strides at : ℕ × ℕ)
     (connectivity : Connectivity) (edges : Edges) (first : ℕ) (inner : Bool) (passed tried : ℕ)
     : Type 0 where
   pub holds : HoldsCells cells size (by_steps start strides)

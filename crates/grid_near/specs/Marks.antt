@@ -10,7 +10,7 @@ use Rattle.grid_near.specs.declared.steps.Connectivity.TheVariants.{Four, Eight}
 use Rattle.grid_near.specs.declared.board.Board.{Board}
 use Rattle.grid_near.specs.declared.board.Edges.{Edges}
 use Rattle.grid_near.specs.declared.board.Edges.TheVariants.{Open, Joined}
-use Rattle.grid_near.specs.Neighbors.{cell_at, round_of}
+use Rattle.grid_near.specs.Neighbors.{cell_at, around_of}
 use Rattle.grid_near.specs.Around.{side, strided_cell, strides_of}
 use Rattle.grid_near.specs.NearCounts.{MayAnswer, CountsNear, SumsNear}
 
@@ -25,7 +25,7 @@ module _ {T F : Type 0} (b : Board T F) where
 
   -- the cells round a cell of a table, by the board's connectivity and its edges
   abbrev pub near : List (List T) → ℕ → ℕ → List ((ℕ × ℕ) × T)
-  near = round_of b.connectivity b.edges
+  near = around_of b.connectivity b.edges
 
 -- the row and the column of a place in a line along the storage
 abbrev pub spot : Order → Option ℕ → Option ℕ → Option ℕ × Option ℕ
@@ -49,12 +49,12 @@ pub record WithEnds {B : Type 0} (blank : B) (e : Edges) (w : ℕ) (old new : Li
   pub last : slice_index_or new (w + 1) blank ≡ end_mark blank e (slice_index_or old 1 blank)
 
 -- how many of the marks round place k of the middle one of three lines are true
-abbrev pub count_round : Connectivity → List Bool → List Bool → List Bool → ℕ → ℕ
-count_round Four up mid down k =
+abbrev pub count_around : Connectivity → List Bool → List Bool → List Bool → ℕ → ℕ
+count_around Four up mid down k =
     from_bool (slice_index_or up (k + 1) false) + from_bool (slice_index_or mid k false)
     + from_bool (slice_index_or mid (k + 2) false)
     + from_bool (slice_index_or down (k + 1) false)
-count_round Eight up mid down k =
+count_around Eight up mid down k =
     from_bool (slice_index_or up k false) + from_bool (slice_index_or up (k + 1) false)
     + from_bool (slice_index_or up (k + 2) false) + (from_bool (slice_index_or mid k false)
     + from_bool (slice_index_or mid (k + 2) false)) + (from_bool (slice_index_or down k false)
@@ -62,11 +62,11 @@ count_round Eight up mid down k =
     + from_bool (slice_index_or down (k + 2) false))
 
 -- the sum of the marks round place k
-abbrev pub sum_round : Connectivity → List ℕ → List ℕ → List ℕ → ℕ → ℕ
-sum_round Four up mid down k =
+abbrev pub sum_around : Connectivity → List ℕ → List ℕ → List ℕ → ℕ → ℕ
+sum_around Four up mid down k =
     slice_index_or up (k + 1) 0 + slice_index_or mid k 0 + slice_index_or mid (k + 2) 0
     + slice_index_or down (k + 1) 0
-sum_round Eight up mid down k =
+sum_around Eight up mid down k =
     slice_index_or up k 0 + slice_index_or up (k + 1) 0 + slice_index_or up (k + 2) 0
     + (slice_index_or mid k 0 + slice_index_or mid (k + 2) 0)
     + (slice_index_or down k 0 + slice_index_or down (k + 1) 0 + slice_index_or down (k + 2) 0)

@@ -30,11 +30,11 @@ before zero = None
 before (suc k) = Some k
 
 -- the numbers before and after k, round n numbers: the last comes before 0, and 0 after the last
-abbrev pub round_before : ℕ → ℕ → ℕ
-round_before n k = (k + n - 1) % n
+abbrev pub around_before : ℕ → ℕ → ℕ
+around_before n k = (k + n - 1) % n
 
-abbrev pub round_after : ℕ → ℕ → ℕ
-round_after n k = (k + 1) % n
+abbrev pub around_after : ℕ → ℕ → ℕ
+around_after n k = (k + 1) % n
 
 -- both numbers, if both are there
 abbrev pub both : Option ℕ × Option ℕ → Option (ℕ × ℕ)
@@ -61,17 +61,17 @@ module _ {T : Type 0} where
   wrapped_neighbors8 t r c =
       let m = row_count t in
       let n = col_count t in
-      cond (nat_lt r m && nat_lt c n) (filter_map (cell_at (cell t)) (around8 (Some (round_before m r))
-      (Some r) (Some (round_after m r)) (Some (round_before n c)) (Some c)
-      (Some (round_after n c)))) []
+      cond (nat_lt r m && nat_lt c n) (filter_map (cell_at (cell t)) (around8 (Some (around_before m r))
+      (Some r) (Some (around_after m r)) (Some (around_before n c)) (Some c)
+      (Some (around_after n c)))) []
 
   unfoldable pub wrapped_neighbors4 : List (List T) → ℕ → ℕ → List ((ℕ × ℕ) × T)
   wrapped_neighbors4 t r c =
       let m = row_count t in
       let n = col_count t in
-      cond (nat_lt r m && nat_lt c n) (filter_map (cell_at (cell t)) (around4 (Some (round_before m r))
-      (Some r) (Some (round_after m r)) (Some (round_before n c)) (Some c)
-      (Some (round_after n c)))) []
+      cond (nat_lt r m && nat_lt c n) (filter_map (cell_at (cell t)) (around4 (Some (around_before m r))
+      (Some r) (Some (around_after m r)) (Some (around_before n c)) (Some c)
+      (Some (around_after n c)))) []
 
   -- by the connectivity
   abbrev pub neighbors_of : Connectivity → List (List T) → ℕ → ℕ → List ((ℕ × ℕ) × T)
@@ -83,9 +83,9 @@ module _ {T : Type 0} where
   wrapped_neighbors_of Eight = wrapped_neighbors8
 
   -- and by what the edges do
-  abbrev pub round_of : Connectivity → Edges → List (List T) → ℕ → ℕ → List ((ℕ × ℕ) × T)
-  round_of connectivity Open = neighbors_of connectivity
-  round_of connectivity Joined = wrapped_neighbors_of connectivity
+  abbrev pub around_of : Connectivity → Edges → List (List T) → ℕ → ℕ → List ((ℕ × ℕ) × T)
+  around_of connectivity Open = neighbors_of connectivity
+  around_of connectivity Joined = wrapped_neighbors_of connectivity
 
 -- the item that an iterator gives, with the cell in place of the reference to it
 abbrev pub placed : {T : Type 0} → (ℕ × ℕ) × Bor T → (ℕ × ℕ) × T

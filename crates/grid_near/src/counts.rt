@@ -1,6 +1,6 @@
 //! How many of the cells round each cell pass a test, for all cells of a table at once.
 ghost use Rattle.std.specs.Prelude.{◌≡◌, ℕ, ◌+◌, ◌*◌, ◌<◌, ◌≤◌, length, vec_len, vec_capacity, false, slice_index_or, MatchOption, Some, IfOk};
-ghost use Rattle.grid_near.specs.Prelude.{CallableAtRefs, ReturnsAtCell, PairsUp, lines_of, IsBeyond, count_round, sum_round, MarksBeside, MarksCells, WithEnds, near, table, placed_cells, AnswersCounted, AnswersSummed, AreBeside, CallableOnCounts, AreCounted, CallableOnSums, AreSummed, side};
+ghost use Rattle.grid_near.specs.Prelude.{CallableAtRefs, ReturnsAtCell, PairsUp, lines_of, IsBeyond, count_around, sum_around, MarksBeside, MarksCells, WithEnds, near, table, placed_cells, AnswersCounted, AnswersSummed, AreBeside, CallableOnCounts, AreCounted, CallableOnSums, AreSummed, side};
 
 use crate::board::{Board, Edges};
 use crate::steps::{Connectivity, around};
@@ -32,7 +32,7 @@ fn count_eight(up: &[bool], mid: &[bool], down: &[bool], k: usize) -> u8
     requires up { k + 2 < length up.now }
     requires mid { k + 2 < length mid.now }
     requires down { k + 2 < length down.now }
-    ensures count { result ≡ count_round Connectivity.Eight up.now mid.now down.now k }
+    ensures count { result ≡ count_around Connectivity.Eight up.now mid.now down.now k }
     ensures most { result ≤ 8 }
 {
     let above = u8::from(up[k]) + u8::from(up[k + 1]) + u8::from(up[k + 2]);
@@ -46,18 +46,18 @@ fn count_four(up: &[bool], mid: &[bool], down: &[bool], k: usize) -> u8
     requires up { k + 2 < length up.now }
     requires mid { k + 2 < length mid.now }
     requires down { k + 2 < length down.now }
-    ensures count { result ≡ count_round Connectivity.Four up.now mid.now down.now k }
+    ensures count { result ≡ count_around Connectivity.Four up.now mid.now down.now k }
     ensures most { result ≤ 8 }
 {
     u8::from(up[k + 1]) + u8::from(mid[k]) + u8::from(mid[k + 2]) + u8::from(down[k + 1])
 }
 
 // The number of the marks round place `k` of the middle line that are true.
-fn count_round(connectivity: Connectivity, up: &[bool], mid: &[bool], down: &[bool], k: usize) -> u8
+fn count_around(connectivity: Connectivity, up: &[bool], mid: &[bool], down: &[bool], k: usize) -> u8
     requires up { k + 2 < length up.now }
     requires mid { k + 2 < length mid.now }
     requires down { k + 2 < length down.now }
-    ensures count { result ≡ count_round connectivity up.now mid.now down.now k }
+    ensures count { result ≡ count_around connectivity up.now mid.now down.now k }
     ensures most { result ≤ 8 }
 {
     match connectivity {
@@ -179,7 +179,7 @@ fn push_line<T, U, A: Allocator, F: Fn(&T) -> bool, G: Fn(&T, u8) -> U>(
     let connectivity = board.connectivity;
     let start = line * width;
     for k in 0..width {
-        let count = count_round(connectivity, up, mid, down, k);
+        let count = count_around(connectivity, up, mid, down, k);
         made.push_reserved(rule(&cells[start + k], count));
     }
     made
@@ -232,11 +232,11 @@ where
 }
 
 // The sum of the marks round place `k` of the middle line.
-fn sum_round(connectivity: Connectivity, up: &[u8], mid: &[u8], down: &[u8], k: usize) -> u16
+fn sum_around(connectivity: Connectivity, up: &[u8], mid: &[u8], down: &[u8], k: usize) -> u16
     requires up { k + 2 < length up.now }
     requires mid { k + 2 < length mid.now }
     requires down { k + 2 < length down.now }
-    ensures sum { result ≡ sum_round connectivity up.now mid.now down.now k }
+    ensures sum { result ≡ sum_around connectivity up.now mid.now down.now k }
     ensures most { result ≤ 2040 }
 {
     match connectivity {
@@ -277,7 +277,7 @@ fn push_sums<T, U, A: Allocator, F: Fn(&T) -> u8, G: Fn(&T, u16) -> U>(
     let connectivity = board.connectivity;
     let start = line * width;
     for k in 0..width {
-        let sum = sum_round(connectivity, up, mid, down, k);
+        let sum = sum_around(connectivity, up, mid, down, k);
         made.push_reserved(rule(&cells[start + k], sum));
     }
     made

@@ -4,7 +4,7 @@ ghost use Rattle.grid_base.specs.Prelude.{table_of, IsSize};
 ghost use Rattle.std.specs.Iterator.{YieldsFirstBy, UpTo, at_most};
 ghost use Rattle.std.specs.Iterator.SizeHint.{IsWithinCount};
 ghost use Rattle.grid_near.specs.Around.{HoldsCells, FindsFirst, IsFirst, cell_by, by_steps, strided_table, start_of};
-ghost use Rattle.grid_near.specs.Neighbors.{step_count, placed, round_of, GivesNear};
+ghost use Rattle.grid_near.specs.Neighbors.{step_count, placed, around_of, GivesNear};
 ghost use Rattle.grid_near.specs.declared.board.Edges.TheVariants.{Joined};
 
 use crate::board::Edges;
@@ -41,7 +41,7 @@ pub type WrappedNeighbors<'a, T> = Neighbors<'a, T>;
 
 impl<'a, T> Model for Neighbors<'a, T> {
     ghost use Rattle.std.specs.Prelude.{◌≡◌, ℕ, List};
-    ghost use Rattle.grid_near.specs.Around.{cell_by, by_steps, cells_from, next_step, IsRound};
+    ghost use Rattle.grid_near.specs.Around.{cell_by, by_steps, cells_from, next_step, IsAround};
 
     ghost Value = { List ((ℕ × ℕ) × T) };
 
@@ -49,7 +49,7 @@ impl<'a, T> Model for Neighbors<'a, T> {
         (cell_by a.table.cells.now a.table.size (by_steps a.table.start a.table.strides))
         a.edges a.table.size a.connectivity a.at (next_step a.edges a.inner a.passed a.tried) };
 
-    ghost invariant = { λ a. IsRound a.table.cells.now a.table.size a.table.start
+    ghost invariant = { λ a. IsAround a.table.cells.now a.table.size a.table.start
         a.table.strides a.at a.connectivity a.edges a.first a.inner a.passed a.tried };
 }
 
@@ -75,7 +75,7 @@ pub fn neighbors_of<T>(
     edges: Edges,
 ) -> Neighbors<'_, T>
     requires filled { length cells.now ≡ layout.rows * layout.cols }
-    ensures gives { GivesNear (round_of connectivity edges
+    ensures gives { GivesNear (around_of connectivity edges
         (table_of layout.order layout.rows layout.cols cells.now) at.0 at.1) result }
     ensures count { edges ≡ Joined → at.0 < layout.rows → at.1 < layout.cols
         → length result ≡ step_count connectivity }
@@ -103,7 +103,7 @@ pub fn neighbors_in<T>(
 ) -> Neighbors<'_, T>
     requires size { IsSize table.size.0 table.size.1 }
     requires holds { HoldsCells table.cells.now table.size (by_steps table.start table.strides) }
-    ensures gives { GivesNear (round_of connectivity edges (strided_table
+    ensures gives { GivesNear (around_of connectivity edges (strided_table
         table.entry.cells.now table.entry.size table.entry.start table.entry.strides) at.0 at.1)
         result }
     ensures count { edges ≡ Joined → at.0 < table.entry.size.0 → at.1 < table.entry.size.1

@@ -1,6 +1,6 @@
 -- One region numbered.
 use Rattle.std.proofs.Common.{◌≡◌, ℕ, suc, ◌+◌, ◌<◌, ◌≤◌, ◌⊎◌, Bool, Option, List, [], length, sym, subst, arith, inl, inr, ⊎_elim}
-use Rattle.grid_paths.proofs.Common.{cases_lt, slice_get_within, IsOpen, IsStep, Walk, IsMarked, IsAt, Spread, WentRound, IsNumbered}
+use Rattle.grid_paths.proofs.Common.{cases_lt, slice_get_within, IsOpen, IsStep, Walk, IsMarked, IsAt, Spread, WentAround, IsNumbered}
 use Rattle.grid_near.specs.declared.steps.Connectivity.{Connectivity}
 use Rattle.grid_paths.proofs.SearchLemmas.{one_place}
 use Rattle.grid_paths.proofs.StepLemmas.{Grew}
@@ -45,7 +45,7 @@ module _ (connectivity : Connectivity) (floor : List (List Bool)) (p : ℕ × �
   pub is_new : (a : ℕ × ℕ) → IsMarked u a k → IsNew connectivity floor p k q a k
   is_new a h = ⊎_elim (λ h0. let lt = below a k h0 in absurd (omega arith)) (λ n. n) (s.fresh a k h)
 
-  module _ (at : ℕ × ℕ) (u' : List (List (Option ℕ))) (q' : List (ℕ × ℕ)) (place : IsAt q next at) (w : WentRound (IsStep connectivity at) floor k u q u' q') where
+  module _ (at : ℕ × ℕ) (u' : List (List (Option ℕ))) (q' : List (ℕ × ℕ)) (place : IsAt q next at) (w : WentAround (IsStep connectivity at) floor k u q u' q') where
     t : Spread (IsStep connectivity at) floor k u q u' q'
     t = w.spread
 

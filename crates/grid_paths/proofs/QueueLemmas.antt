@@ -1,7 +1,7 @@
 -- The queue of a breadth-first search, where the first positions were dropped; and that numbers
 -- stay below the cells.
 use Rattle.std.proofs.Common.{◌≡◌, ℕ, zero, suc, ◌+◌, ◌*◌, ◌<◌, ◌≤◌, ◌⊎◌, Bool, Option, None, Some, List, [], ◌∷◌, ◌++◌, length, get_or, Contains, refl, sym, ◌∙◌, ap, subst, arith, inl, inr, ⊎_elim, sum_by, length-append, append_assoc}
-use Rattle.grid_paths.proofs.Common.{row_count, col_count, IsTable, concat_rows, sum_by-cons, slice_get_read, slice_get_within, length-storage, IsOpen, IsStep, HasLeastFrom, IsMarked, IsAt, IsReached, Spread, WentRound, free, unreached}
+use Rattle.grid_paths.proofs.Common.{row_count, col_count, IsTable, concat_rows, sum_by-cons, slice_get_read, slice_get_within, length-storage, IsOpen, IsStep, HasLeastFrom, IsMarked, IsAt, IsReached, Spread, WentAround, free, unreached}
 use Rattle.grid_base.specs.declared.order.Order.TheVariants.{RowMajor}
 use Rattle.grid_near.specs.declared.steps.Connectivity.{Connectivity}
 use Rattle.grid_paths.proofs.SearchLemmas.{IsSearch, IsSearch-round, HasLeastFrom-end}
@@ -27,7 +27,7 @@ at_either (x ∷ g) q (suc j) a h =
     (at_either g q j a h)
 
 -- what is reached behind a queue is reached behind a longer one
-module _ (near : ℕ × ℕ → Type 0) (floor : List (List Bool)) (k : ℕ) (u : List (List (Option ℕ))) (q : List (ℕ × ℕ)) (u' : List (List (Option ℕ))) (q' g : List (ℕ × ℕ)) (w : WentRound near floor k u q u' q') where
+module _ (near : ℕ × ℕ → Type 0) (floor : List (List Bool)) (k : ℕ) (u : List (List (Option ℕ))) (q : List (ℕ × ℕ)) (u' : List (List (Option ℕ))) (q' g : List (ℕ × ℕ)) (w : WentAround near floor k u q u' q') where
   s : Spread near floor k u q u' q'
   s = w.spread
 
@@ -64,8 +64,8 @@ module _ (near : ℕ × ℕ → Type 0) (floor : List (List Bool)) (k : ℕ) (u 
       inr (record { is = f.is; is_open = f.is_open; is_near = f.is_near; queued = (length g + v.0, omega arith, at_right g q' v.0 a v.2) }))
       (s.fresh a m h)
 
-  pub WentRound-behind : WentRound near floor k u (g ++ q) u' (g ++ q')
-  WentRound-behind =
+  pub WentAround-after : WentAround near floor k u (g ++ q) u' (g ++ q')
+  WentAround-after =
       let long : length (g ++ q) ≡ length g + length q = length-append g q in
       let long' : length (g ++ q') ≡ length g + length q' = length-append g q' in
       let up = s.longer in
@@ -105,10 +105,10 @@ module _ {connectivity : Connectivity} {floor : List (List Bool)} {starts : List
         let le = t.bound in
         (place, (v.0, v.1, omega arith))
 
-    pub IsTrimmed-round : (steps' : List (List (Option ℕ))) (queue' : List (ℕ × ℕ)) (a : ℕ × ℕ) (n : ℕ) → IsAt queue next a → IsMarked steps a n → WentRound (IsStep connectivity a) floor (n + 1) steps queue steps' queue' → IsTrimmed connectivity floor starts steps' queue' (next + 1) cells
+    pub IsTrimmed-round : (steps' : List (List (Option ℕ))) (queue' : List (ℕ × ℕ)) (a : ℕ × ℕ) (n : ℕ) → IsAt queue next a → IsMarked steps a n → WentAround (IsStep connectivity a) floor (n + 1) steps queue steps' queue' → IsTrimmed connectivity floor starts steps' queue' (next + 1) cells
     IsTrimmed-round steps' queue' a n place mark w =
         let g = t.front in
-        let behind = WentRound-behind (IsStep connectivity a) floor (n + 1) steps queue steps' queue' g w in
+        let behind = WentAround-after (IsStep connectivity a) floor (n + 1) steps queue steps' queue' g w in
         let s = IsSearch-round connectivity floor starts steps (g ++ queue) steps' (g ++ queue') a n (length g + next) t.search (at_right g queue next a place) mark behind in
         let place_is : length g + next + 1 ≡ length g + (next + 1) = omega arith in
         let total = behind.spread.total in

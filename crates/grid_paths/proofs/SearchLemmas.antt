@@ -1,6 +1,6 @@
 -- The breadth-first search: what holds after each step, and what that says at the end.
 use Rattle.std.proofs.Common.{◌≡◌, ℕ, zero, suc, ◌+◌, ◌<◌, ◌≤◌, Bool, Option, Some, List, [], ◌∷◌, length, Contains, refl, sym, ◌∙◌, subst, arith, ⊎_elim}
-use Rattle.grid_paths.proofs.Common.{cases_lt, slice_get_within, IsOpen, IsStep, Walk, WalkFrom, IsLeastSteps, HasLeastSteps, IsLeastFrom, HasLeastFrom, IsMarked, IsAt, Spread, WentRound, HasLeastUpTo, IsSettled}
+use Rattle.grid_paths.proofs.Common.{cases_lt, slice_get_within, IsOpen, IsStep, Walk, WalkFrom, IsLeastSteps, HasLeastSteps, IsLeastFrom, HasLeastFrom, IsMarked, IsAt, Spread, WentAround, HasLeastUpTo, IsSettled}
 use Rattle.grid_near.specs.declared.steps.Connectivity.{Connectivity}
 
 -- the search has found these steps, and gone on from the positions of the queue before `next`
@@ -115,7 +115,7 @@ went_on connectivity floor starts steps queue a next s place around =
         (v.0, v.1, s.close b v.0 next c n (omega arith) v.1 here mark))
         (cases_lt j next)
 
-pub IsSearch-round : (connectivity : Connectivity) (floor : List (List Bool)) (starts : List (ℕ × ℕ)) (steps : List (List (Option ℕ))) (queue : List (ℕ × ℕ)) (steps' : List (List (Option ℕ))) (queue' : List (ℕ × ℕ)) (a : ℕ × ℕ) (n next : ℕ) → IsSearch connectivity floor starts steps queue next → IsAt queue next a → IsMarked steps a n → WentRound (IsStep connectivity a) floor (n + 1) steps queue steps' queue' → IsSearch connectivity floor starts steps' queue' (next + 1)
+pub IsSearch-round : (connectivity : Connectivity) (floor : List (List Bool)) (starts : List (ℕ × ℕ)) (steps : List (List (Option ℕ))) (queue : List (ℕ × ℕ)) (steps' : List (List (Option ℕ))) (queue' : List (ℕ × ℕ)) (a : ℕ × ℕ) (n next : ℕ) → IsSearch connectivity floor starts steps queue next → IsAt queue next a → IsMarked steps a n → WentAround (IsStep connectivity a) floor (n + 1) steps queue steps' queue' → IsSearch connectivity floor starts steps' queue' (next + 1)
 IsSearch-round connectivity floor starts steps queue steps' queue' a n next s place mark w =
     let lt : next < length queue = slice_get_within queue next a place in
     let v = s.marked next a place in

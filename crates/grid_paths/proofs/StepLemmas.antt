@@ -1,6 +1,6 @@
 -- One position marked, those of a list, those round a position, and the start.
 use Rattle.std.proofs.Common.{◌≡◌, ◌≢◌, ℕ, zero, suc, ◌+◌, ◌^◌, ◌<◌, ◌≤◌, ◌⊎◌, Bool, Option, None, Some, List, [], ◌∷◌, ◌++◌, length, Contains, set, get_or, refl, sym, ◌∙◌, ap, subst, arith, rules, inl, inr, ⊎_elim, ◌↔◌, sum_by, slice_get, length-append}
-use Rattle.grid_paths.proofs.Common.{cases_eq, cases_lt, sum_by-set, slice_get_within, slice_get_read, get_or_from_slice_get, row, cell, with_cell, tabulate, IsTable, IsFull, cell-tabulate, rows-tabulate, cell_past_rows, cell_past_cols, cell_in_range, cell-with_same, cell-with_other, IsOpen, IsStep, WalkFrom, IsMarked, IsAt, IsReached, Spread, WentRound, free, unreached, AreSteps, Marks, Spreads}
+use Rattle.grid_paths.proofs.Common.{cases_eq, cases_lt, sum_by-set, slice_get_within, slice_get_read, get_or_from_slice_get, row, cell, with_cell, tabulate, IsTable, IsFull, cell-tabulate, rows-tabulate, cell_past_rows, cell_past_cols, cell_in_range, cell-with_same, cell-with_other, IsOpen, IsStep, WalkFrom, IsMarked, IsAt, IsReached, Spread, WentAround, free, unreached, AreSteps, Marks, Spreads}
 use Rattle.grid_base.proofs.Common.{InRange}
 use Rattle.grid_near.specs.declared.steps.Connectivity.{Connectivity}
 use Rattle.grid_paths.specs.declared.wave.Wave.{Wave}
@@ -257,7 +257,7 @@ module _ (connectivity : Connectivity) (floor : List (List Bool)) (starts : List
       nowhere j a h = cc
 
   module _ (q0 : List (ℕ × ℕ)) (done : ℕ) (from : ℕ × ℕ) (d1 : List (List (Option ℕ))) (q1 : List (ℕ × ℕ)) (s : IsStarted connectivity floor starts d0 q0 done) (place : slice_get starts done ≡ Some from)
-      (r : WentRound (λ a. from ≡ a) floor 0 d0 q0 d1 q1) where
+      (r : WentAround (λ a. from ≡ a) floor 0 d0 q0 d1 q1) where
     g : Spread (λ a. from ≡ a) floor 0 d0 q0 d1 q1
     g = r.spread
 

@@ -70,7 +70,7 @@ pub record Spread (near : ℕ × ℕ → Type 0) (floor : List (List Bool)) (k :
   pub total : unreached u' + length queue' ≡ unreached u + length queue
 
 -- and all open ones that are near have a number
-pub record WentRound (near : ℕ × ℕ → Type 0) (floor : List (List Bool)) (k : ℕ)
+pub record WentAround (near : ℕ × ℕ → Type 0) (floor : List (List Bool)) (k : ℕ)
     (u : List (List (Option ℕ)))
     (queue : List (ℕ × ℕ)) (u' : List (List (Option ℕ))) (queue' : List (ℕ × ℕ)) : Type 0 where
   pub spread : Spread near floor k u queue u' queue'

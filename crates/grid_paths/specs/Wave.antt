@@ -6,7 +6,7 @@ use Rattle.grid_near.specs.declared.steps.Connectivity.{Connectivity}
 use Rattle.grid_paths.specs.declared.numbered.Region.{Region}
 use Rattle.grid_paths.specs.declared.search.Search.{Search}
 use Rattle.grid_paths.specs.declared.wave.Wave.{Wave}
-use Rattle.grid_paths.specs.Search.{HaveOneSize, IsLeft, WentRound, unreached}
+use Rattle.grid_paths.specs.Search.{HaveOneSize, IsLeft, WentAround, unreached}
 use Rattle.grid_paths.specs.Walks.{alike}
 use Rattle.grid_paths.specs.Numbers.{IsScanned}
 
@@ -29,7 +29,7 @@ module _ {A : Type 0} where
   pub record Spreads (near : ℕ × ℕ → Type 0) (floor : List (List Bool)) (k : ℕ) (w w' : Wave A)
       : Type 0 where
     pub same : SameSizeAndOrder w.numbers w'.numbers
-    pub round : WentRound near floor k w.numbers.rows w.queue.items w'.numbers.rows w'.queue.items
+    pub round : WentAround near floor k w.numbers.rows w.queue.items w'.numbers.rows w'.queue.items
 
   -- the near ones that are left are reached by k steps
   abbrev pub Reaches : (ℕ × ℕ → Type 0) → ℕ → Search A → Search A → Type 0

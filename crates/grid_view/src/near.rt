@@ -3,7 +3,7 @@ ghost use Rattle.std.specs.Prelude.{◌≡◌, ◌≤◌, length};
 ghost use Rattle.grid_base.specs.Prelude.{InRange, IsSize, GivesCells, row_count, col_count};
 ghost use Rattle.grid_near.specs.Around.{HoldsCells, by_steps, strided_table};
 ghost use Rattle.grid_near.specs.NearCounts.{CallableNear, CountsNear};
-ghost use Rattle.grid_near.specs.Neighbors.{neighbors4, neighbors8, wrapped_neighbors4, wrapped_neighbors8, round_of, step_count, GivesNear};
+ghost use Rattle.grid_near.specs.Neighbors.{neighbors4, neighbors8, wrapped_neighbors4, wrapped_neighbors8, around_of, step_count, GivesNear};
 ghost use Rattle.grid_near.specs.declared.board.Edges.TheVariants.{Joined};
 
 use crate::view::GridView;
@@ -21,7 +21,7 @@ impl<'a, T> GridView<'a, T> {
         ensures count { length result ≤ 4 }
         ensures cells { GivesCells self.now.rows result }
     {
-        self.cells_round(at, Connectivity::Four, Edges::Open)
+        self.cells_around(at, Connectivity::Four, Edges::Open)
     }
 
     /// Returns an iterator over the cells that touch the cell at this position, at a side or a corner, row by row, each with
@@ -35,7 +35,7 @@ impl<'a, T> GridView<'a, T> {
         ensures count { length result ≤ 8 }
         ensures cells { GivesCells self.now.rows result }
     {
-        self.cells_round(at, Connectivity::Eight, Edges::Open)
+        self.cells_around(at, Connectivity::Eight, Edges::Open)
     }
 
     /// Same as [`neighbors4`](GridView::neighbors4), on a view whose edges meet: the last row is above the first, and the last
@@ -51,7 +51,7 @@ impl<'a, T> GridView<'a, T> {
         ensures at_most { length result ≤ 4 }
         ensures cells { GivesCells self.now.rows result }
     {
-        self.cells_round(at, Connectivity::Four, Edges::Joined)
+        self.cells_around(at, Connectivity::Four, Edges::Joined)
     }
 
     /// Same as [`neighbors8`](GridView::neighbors8), on a view whose edges meet. It gives exactly eight cells; with one row or
@@ -66,7 +66,7 @@ impl<'a, T> GridView<'a, T> {
         ensures at_most { length result ≤ 8 }
         ensures cells { GivesCells self.now.rows result }
     {
-        self.cells_round(at, Connectivity::Eight, Edges::Joined)
+        self.cells_around(at, Connectivity::Eight, Edges::Joined)
     }
 
     /// Same as [`count_neighbors8`](GridView::count_neighbors8), of the cells of [`neighbors4`](GridView::neighbors4).
@@ -129,8 +129,8 @@ impl<'a, T> GridView<'a, T> {
 
     // The cells round a cell, by which steps, and by what the edges do.
     #[inline(always)]
-    fn cells_round(&self, at: (usize, usize), connectivity: Connectivity, edges: Edges) -> Neighbors<'a, T>
-        ensures gives { GivesNear (round_of connectivity edges self.now.rows at.0 at.1) result }
+    fn cells_around(&self, at: (usize, usize), connectivity: Connectivity, edges: Edges) -> Neighbors<'a, T>
+        ensures gives { GivesNear (around_of connectivity edges self.now.rows at.0 at.1) result }
         ensures count { edges ≡ Joined → InRange self.now.rows at.0 at.1
             → length result ≡ step_count connectivity }
         ensures at_most { length result ≤ step_count connectivity }

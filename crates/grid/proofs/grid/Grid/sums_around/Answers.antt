@@ -1,7 +1,7 @@
 use Rattle.std.proofs.Common.{◌∙◌, ap, subst, length}
 use Rattle.grid.proofs.Common.{CallableAtRefs}
 use Rattle.grid.proofs.Lemmas.{seen_storage, seen_callable, seen_mapped, whole_same}
-use Rattle.grid.proofs.grid.Grid.sums_round.Goals as goal
+use Rattle.grid.proofs.grid.Grid.sums_around.Goals as goal
 
 pub map_sums-requires-clause-weights : goal.map_sums-requires-clause-weights
 map_sums-requires-clause-weights g c =

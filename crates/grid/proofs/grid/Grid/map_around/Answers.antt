@@ -1,6 +1,6 @@
 use Rattle.std.proofs.Common.{rules}
 use Rattle.grid.proofs.Lemmas.{mapped_as}
-use Rattle.grid.proofs.grid.Grid.map_round.Goals as goal
+use Rattle.grid.proofs.grid.Grid.map_around.Goals as goal
 
 pub returns-clause-cells : goal.returns-clause-cells
 returns-clause-cells g c =
