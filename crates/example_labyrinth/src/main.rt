@@ -93,7 +93,13 @@ fn color(cell: &Cell) -> [u8; 3] {
 fn mark_path(maze: &mut Grid<Cell>) -> Result<(), AllocError> {
     let from = farthest(maze, (1, 1))?;
     let to = farthest(maze, from)?;
-    let path = shortest_path(maze, from, to, Connectivity::Four, |cell| *cell != Cell::Wall)?;
+    let path = shortest_path(
+        maze,
+        from,
+        to,
+        Connectivity::Four,
+        |cell| *cell != Cell::Wall,
+    )?;
     for at in path.iter().flatten() {
         maze.set_at(*at, Cell::Path);
     }

@@ -6,7 +6,7 @@
 
 use anyhow::{Result, bail};
 use grid::Grid;
-use grid_paths::{Enter, Connectivity, flood};
+use grid_paths::{Connectivity, Enter, flood};
 use grid_text::{from_text, to_text};
 use std::alloc::{AllocError, Global};
 use std::io;

@@ -9,7 +9,8 @@ use Rattle.grid.specs.AllCells.{CallableAtPositions, MappedBy}
 module _ {F T : Type 0} (near : List (List T) → ℕ → ℕ → List ((ℕ × ℕ) × T)) where
   -- the closure f can be called at this position of the table t, a reference to the cell there, and
   -- the cells near it
-  abbrev pub ReachesAround : (F → ℕ × ℕ → Bor T → List ((ℕ × ℕ) × T) → Type 0) → F → List (List T) → ℕ × ℕ
+  abbrev pub ReachesAround : (F → ℕ × ℕ → Bor T → List ((ℕ × ℕ) × T) → Type 0) → F → List (List T)
+      → ℕ × ℕ
       → Bor T → Type 0
   ReachesAround takes f t at p = InRange t at.0 at.1 × takes f at p (near t at.0 at.1)
 

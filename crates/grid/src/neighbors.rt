@@ -5,7 +5,7 @@ ghost use Rattle.grid_near.specs.declared.board.Edges.TheVariants.{Joined};
 
 use crate::Grid;
 use grid_base::{Flat, Layout};
-use grid_near::{Board, Edges, Neighbors, Connectivity, WrappedNeighbors};
+use grid_near::{Board, Connectivity, Edges, Neighbors, WrappedNeighbors};
 use std::alloc::{AllocError, Allocator};
 
 impl<T, A: Allocator> Grid<T, A> {
@@ -357,7 +357,12 @@ impl<T, A: Allocator> Grid<T, A> {
 
     // The cells round a cell, by which steps, and by what the edges do.
     #[inline(always)]
-    fn cells_around(&self, at: (usize, usize), connectivity: Connectivity, edges: Edges) -> Neighbors<'_, T>
+    fn cells_around(
+        &self,
+        at: (usize, usize),
+        connectivity: Connectivity,
+        edges: Edges,
+    ) -> Neighbors<'_, T>
         ensures gives { GivesNear (around_of connectivity edges self.now.rows at.0 at.1) result }
         ensures count { edges ≡ Joined → InRange self.now.rows at.0 at.1
             → length result ≡ step_count connectivity }

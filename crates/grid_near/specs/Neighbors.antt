@@ -61,17 +61,17 @@ module _ {T : Type 0} where
   wrapped_neighbors8 t r c =
       let m = row_count t in
       let n = col_count t in
-      cond (nat_lt r m && nat_lt c n) (filter_map (cell_at (cell t)) (around8 (Some (around_before m r))
-      (Some r) (Some (around_after m r)) (Some (around_before n c)) (Some c)
-      (Some (around_after n c)))) []
+      cond (nat_lt r m && nat_lt c n) (filter_map (cell_at (cell t))
+      (around8 (Some (around_before m r)) (Some r) (Some (around_after m r))
+      (Some (around_before n c)) (Some c) (Some (around_after n c)))) []
 
   unfoldable pub wrapped_neighbors4 : List (List T) → ℕ → ℕ → List ((ℕ × ℕ) × T)
   wrapped_neighbors4 t r c =
       let m = row_count t in
       let n = col_count t in
-      cond (nat_lt r m && nat_lt c n) (filter_map (cell_at (cell t)) (around4 (Some (around_before m r))
-      (Some r) (Some (around_after m r)) (Some (around_before n c)) (Some c)
-      (Some (around_after n c)))) []
+      cond (nat_lt r m && nat_lt c n) (filter_map (cell_at (cell t))
+      (around4 (Some (around_before m r)) (Some r) (Some (around_after m r))
+      (Some (around_before n c)) (Some c) (Some (around_after n c)))) []
 
   -- by the connectivity
   abbrev pub neighbors_of : Connectivity → List (List T) → ℕ → ℕ → List ((ℕ × ℕ) × T)

@@ -53,7 +53,13 @@ fn count_four(up: &[bool], mid: &[bool], down: &[bool], k: usize) -> u8
 }
 
 // The number of the marks round place `k` of the middle line that are true.
-fn count_around(connectivity: Connectivity, up: &[bool], mid: &[bool], down: &[bool], k: usize) -> u8
+fn count_around(
+    connectivity: Connectivity,
+    up: &[bool],
+    mid: &[bool],
+    down: &[bool],
+    k: usize,
+) -> u8
     requires up { k + 2 < length up.now }
     requires mid { k + 2 < length mid.now }
     requires down { k + 2 < length down.now }
@@ -155,7 +161,8 @@ fn marked<T, M: Copy, A: Allocator, F: Fn(&T) -> M>(
     marks
 }
 
-// Appends what the closure `rule` returns at each cell of the next line, and the number of the cells round it that pass.
+// Appends what the closure `rule` returns at each cell of the next line, and the number of the cells round it that
+// pass.
 fn push_line<T, U, A: Allocator, F: Fn(&T) -> bool, G: Fn(&T, u8) -> U>(
     mut made: Vec<U, A>,
     marks: (&[bool], &[bool], &[bool]),
@@ -185,13 +192,13 @@ fn push_line<T, U, A: Allocator, F: Fn(&T) -> bool, G: Fn(&T, u8) -> U>(
     made
 }
 
-/// Returns what the closure `rule` returns for a reference to each cell of a board, and the number of the cells round it,
-/// at a side or all eight, that the board marks with `true`.
+/// Returns what the closure `rule` returns for a reference to each cell of a board, and the number of the cells round
+/// it, at a side or all eight, that the board marks with `true`.
 ///
 /// Requires: the closures can be called with these arguments.
 /// Fails: if allocation fails; neither closure was called.
-/// Cost: one call of each for each cell, and, where the edges are joined, one more of `mark` for each cell of the first line
-/// and of the last; one allocation, and three of a line of `bool`s.
+/// Cost: one call of each for each cell, and, where the edges are joined, one more of `mark` for each cell of the first
+/// line and of the last; one allocation, and three of a line of `bool`s.
 pub fn map_counts<T, U, A: Allocator, F: Fn(&T) -> bool, G: Fn(&T, u8) -> U>(
     alloc: A,
     board: &Board<'_, T, F>,

@@ -62,8 +62,8 @@ impl Direction {
         }
     }
 
-    /// Returns the direction that is so many eighths of a turn on, clockwise: 2 are a quarter to the right, 6 a quarter to
-    /// the left.
+    /// Returns the direction that is so many eighths of a turn on, clockwise: 2 are a quarter to the right, 6 a quarter
+    /// to the left.
     ///
     ///     Up.turned(1)     UpRight
     ///     Left.turned(2)   Up

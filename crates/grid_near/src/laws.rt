@@ -15,8 +15,8 @@ pub fn stands_in_all(way: Direction) -> usize
     way.number()
 }
 
-/// Returns where [`Direction::SIDES`] or [`Direction::DIAGONALS`] has a direction: both come clockwise, from the first that
-/// is up.
+/// Returns where [`Direction::SIDES`] or [`Direction::DIAGONALS`] has a direction: both come clockwise, from the first
+/// that is up.
 ///
 ///     stands_among_four(Right)      1
 ///     stands_among_four(DownLeft)   2

@@ -53,16 +53,16 @@ impl<'a, T> Model for Neighbors<'a, T> {
         a.table.strides a.at a.connectivity a.edges a.first a.inner a.passed a.tried };
 }
 
-/// Returns an iterator over the cells round cell `at` of the table that a slice stores, row by row, each with its row and
-/// its column.
+/// Returns an iterator over the cells round cell `at` of the table that a slice stores, row by row, each with its row
+/// and its column.
 ///
 ///     [1, 2, 3, 4, 5, 6] of 2 rows   (0, 2), Sides, Open    ((0, 1), 2), ((1, 2), 6)
 ///     [1, 2, 3, 4, 5, 6] of 2 rows   (0, 2), All, Open      ((0, 1), 2), ((1, 1), 5), ((1, 2), 6)
 ///     [1, 2, 3, 4] of 1 row          (0, 0), Sides, Joined  1, 4, 2, 1, with their positions
 ///     [1, 2, 3, 4] of 1 row          (0, 0), All, Joined    4, 1, 2, 4, 2, 4, 1, 2, with their positions
 ///
-/// Where edges meet, these are four cells or eight, some of them more than once in a table of one or two rows or columns.
-/// Round a position out of range it gives the cells of the table that touch it, or none where edges meet.
+/// Where edges meet, these are four cells or eight, some of them more than once in a table of one or two rows or
+/// columns. Round a position out of range it gives the cells of the table that touch it, or none where edges meet.
 ///
 /// Requires: the slice has as many cells as the layout.
 /// Cost: each step takes the same time, in either order; no memory.
@@ -201,7 +201,12 @@ impl<'a, T> Clone for Neighbors<'a, T> {
 }
 
 // How many steps are done at the start: all, where edges meet, round a position out of range.
-fn done_at_start(size: (usize, usize), at: (usize, usize), connectivity: Connectivity, edges: Edges) -> usize
+fn done_at_start(
+    size: (usize, usize),
+    at: (usize, usize),
+    connectivity: Connectivity,
+    edges: Edges,
+) -> usize
     ensures { result ≡ start_of edges size connectivity at }
 {
     match edges {

@@ -22,4 +22,4 @@ pub use Rattle.grid_paths.specs.Search.{IsAt, Spread, WentAround, free, IsReache
 pub use Rattle.grid_paths.specs.Taken.{TakesAll, count_left, IsLeft, AreMarked, flag}
 pub use Rattle.grid_paths.specs.Trail.{IsTrailOf}
 pub use Rattle.grid_paths.specs.Walks.{DifferByOne, AreBeside, IsLeastSteps, WalkFrom, AreDiagonal, IsLeastFrom}
-pub use Rattle.grid_paths.specs.Wave.{Spreads}
+pub use Rattle.grid_paths.specs.Bfs.{Spreads}

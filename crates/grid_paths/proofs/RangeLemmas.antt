@@ -32,7 +32,7 @@ module _ {F T : Type 0} (f : F) (t : List (List T)) (connectivity : Connectivity
       let e = entered connectivity h.some.0 w.0 at w.1 w.3 in
       in_answers returns f t h.some.0 h.some.1 at.0 at.1 e.0 e.1
 
-  pub path_in_range : (returns : F → Bor T → Bool → Type 0) (from to : ℕ × ℕ) (path : List (ℕ × ℕ)) → HoldsOfAnswers returns f t (λ floor. IsShortestPath connectivity floor from to path) → All (λ at. InRange t at.0 at.1) path
+  pub path_in_range : (returns : F → Bor T → Bool → Type 0) (from to : ℕ × ℕ) (path : List (ℕ × ℕ)) → HoldsOfAnswers returns f t (λ mask. IsShortestPath connectivity mask from to path) → All (λ at. InRange t at.0 at.1) path
   path_in_range returns from to path h =
       all_in_range returns f t h.some.0 h.some.1 path (λ k a e. (Bool.true, h.some.2.leads.all_open k a e))
 

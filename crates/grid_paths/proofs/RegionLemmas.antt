@@ -94,9 +94,9 @@ beside_step : (connectivity : Connectivity) (a b : ℕ × ℕ) → AreBeside a b
 beside_step Four a b h = h
 beside_step Eight a b h = inl h
 
-module _ (connectivity : Connectivity) (floor : List (List Bool)) where
-  module _ (rows cols : ℕ) (all : (a : ℕ × ℕ) → a.0 < rows → a.1 < cols → IsOpen floor a) where
-    from_corner : (r c : ℕ) → r < rows → c < cols → (k : ℕ) × Walk connectivity floor (0, 0) (r, c) k
+module _ (connectivity : Connectivity) (mask : List (List Bool)) where
+  module _ (rows cols : ℕ) (all : (a : ℕ × ℕ) → a.0 < rows → a.1 < cols → IsOpen mask a) where
+    from_corner : (r c : ℕ) → r < rows → c < cols → (k : ℕ) × Walk connectivity mask (0, 0) (r, c) k
     from_corner zero zero lr lc = (0, (refl, all (0, 0) lr lc))
     from_corner zero (suc c) lr lc =
         let v = from_corner zero c lr (omega arith) in
@@ -105,11 +105,11 @@ module _ (connectivity : Connectivity) (floor : List (List Bool)) where
         let v = from_corner r c (omega arith) lc in
         (suc v.0, ((r, c), v.1, beside_step connectivity (r, c) (suc r, c) (inr (refl, inl (add-one r))), all (suc r, c) lr lc))
 
-    everywhere : (a b : ℕ × ℕ) → a.0 < rows → a.1 < cols → b.0 < rows → b.1 < cols → (k : ℕ) × Walk connectivity floor a b k
+    everywhere : (a b : ℕ × ℕ) → a.0 < rows → a.1 < cols → b.0 < rows → b.1 < cols → (k : ℕ) × Walk connectivity mask a b k
     everywhere a b ar ac br bc =
         let v = from_corner a.0 a.1 ar ac in
         let w = from_corner b.0 b.1 br bc in
-        walk_append connectivity floor v.0 w.0 a (0, 0) b (walk_back connectivity floor v.0 (0, 0) a v.1) w.1
+        walk_append connectivity mask v.0 w.0 a (0, 0) b (walk_back connectivity mask v.0 (0, 0) a v.1) w.1
 
 -- a whole board of cells equal to x, written
 pub IsFilled-board : {T : Type 0} (eq : T → T → Bool) (x : T) (connectivity : Connectivity) (at : ℕ × ℕ) (w : T) (t u : List (List T)) → IsTable t → IsTable u → HaveOneSize u t → InRange t at.0 at.1 → ((a : ℕ × ℕ) → InRange t a.0 a.1 → IsOpen (alike eq x t) a) → ((a : ℕ × ℕ) → InRange t a.0 a.1 → cell u a.0 a.1 ≡ Some w) → IsFilled connectivity (alike eq x t) at w t u

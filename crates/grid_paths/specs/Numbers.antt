@@ -8,14 +8,14 @@ use Rattle.grid_paths.specs.Search.{IsMarked}
 use Rattle.grid_paths.specs.Regions.{AreJoined, ComesBefore}
 
 -- the positions that an open walk from p leads to over positions without a number got the number k
-pub record IsNumbered (connectivity : Connectivity) (floor : List (List Bool)) (p : ℕ × ℕ) (k : ℕ)
+pub record IsNumbered (connectivity : Connectivity) (mask : List (List Bool)) (p : ℕ × ℕ) (k : ℕ)
     (u u' : List (List (Option ℕ))) : Type 0 where
   pub kept : (a : ℕ × ℕ) (m : ℕ) → IsMarked u a m → IsMarked u' a m
   pub is : (a : ℕ × ℕ) (m : ℕ) → IsMarked u' a m → IsMarked u a m ⊎ (m ≡ k)
-  pub walk : (a : ℕ × ℕ) → IsMarked u' a k → IsOpen floor p
-      → (n : ℕ) × Walk connectivity floor p a n
+  pub walk : (a : ℕ × ℕ) → IsMarked u' a k → IsOpen mask p
+      → (n : ℕ) × Walk connectivity mask p a n
   pub here : IsMarked u' p k
-  pub spread : (a b : ℕ × ℕ) → IsMarked u' a k → IsStep connectivity a b → IsOpen floor b
+  pub spread : (a b : ℕ × ℕ) → IsMarked u' a k → IsStep connectivity a b → IsOpen mask b
       → (m : ℕ) × IsMarked u' b m
 
 module _ {T : Type 0} (eq : T → T → Bool) (t : List (List T)) where

@@ -25,13 +25,13 @@ IsStep Eight a b = AreBeside a b ⊎ AreDiagonal a b
 
 -- an open position of the table
 abbrev pub IsOpen : List (List Bool) → ℕ × ℕ → Type 0
-IsOpen floor at = cell floor at.0 at.1 ≡ Some true
+IsOpen mask at = cell mask at.0 at.1 ≡ Some true
 
-module _ (connectivity : Connectivity) (floor : List (List Bool)) where
+module _ (connectivity : Connectivity) (mask : List (List Bool)) where
   -- a walk of n steps from a to b over open positions
   abbrev pub Walk : ℕ × ℕ → ℕ × ℕ → ℕ → Type 0
-  Walk a b zero = (a ≡ b) × IsOpen floor b
-  Walk a b (suc n) = (c : ℕ × ℕ) × Walk a c n × IsStep connectivity c b × IsOpen floor b
+  Walk a b zero = (a ≡ b) × IsOpen mask b
+  Walk a b (suc n) = (c : ℕ × ℕ) × Walk a c n × IsStep connectivity c b × IsOpen mask b
 
   -- there is a walk of k steps, and none of fewer
   pub record IsLeastSteps (a b : ℕ × ℕ) (k : ℕ) : Type 0 where
@@ -65,22 +65,22 @@ abbrev pub passing : {T : Type 0} → (T → Bool) → List (List T) → List (L
 passing p t = answers_by p t
 
 -- a list of positions from one to another: each is open, and a step leads to it from the one before
-pub record IsPath (connectivity : Connectivity) (floor : List (List Bool)) (from to : ℕ × ℕ)
+pub record IsPath (connectivity : Connectivity) (mask : List (List Bool)) (from to : ℕ × ℕ)
     (path : List (ℕ × ℕ))
     : Type 0 where
   pub first : slice_get path 0 ≡ Some from
   pub last : slice_get path (length path - 1) ≡ Some to
-  pub all_open : (j : ℕ) (a : ℕ × ℕ) → slice_get path j ≡ Some a → IsOpen floor a
+  pub all_open : (j : ℕ) (a : ℕ × ℕ) → slice_get path j ≡ Some a → IsOpen mask a
   pub each_step : (j : ℕ) (a b : ℕ × ℕ) → slice_get path j ≡ Some a
       → slice_get path (j + 1) ≡ Some b
       → IsStep connectivity a b
 
 -- and none is shorter
-pub record IsShortestPath (connectivity : Connectivity) (floor : List (List Bool)) (from to : ℕ × ℕ)
+pub record IsShortestPath (connectivity : Connectivity) (mask : List (List Bool)) (from to : ℕ × ℕ)
     (path : List (ℕ × ℕ)) : Type 0
   where
-    pub leads : IsPath connectivity floor from to path
-    pub shortest : (other : List (ℕ × ℕ)) → IsPath connectivity floor from to other
+    pub leads : IsPath connectivity mask from to path
+    pub shortest : (other : List (ℕ × ℕ)) → IsPath connectivity mask from to other
         → length path ≤ length other
 
 -- which cells equal x
@@ -88,10 +88,10 @@ abbrev pub alike : {T : Type 0} → (T → T → Bool) → T → List (List T) �
 alike eq x t = passing (λ y. eq y x) t
 
 -- u is t with w at each position that a walk from `at` leads to
-pub record IsFilled {T : Type 0} (connectivity : Connectivity) (floor : List (List Bool))
+pub record IsFilled {T : Type 0} (connectivity : Connectivity) (mask : List (List Bool))
     (at : ℕ × ℕ) (w : T)
     (t u : List (List T)) : Type 0
   where
-    pub filled : (b : ℕ × ℕ) (n : ℕ) → Walk connectivity floor at b n → cell u b.0 b.1 ≡ Some w
-    pub kept : (b : ℕ × ℕ) → ((n : ℕ) → Walk connectivity floor at b n → ⊥)
+    pub filled : (b : ℕ × ℕ) (n : ℕ) → Walk connectivity mask at b n → cell u b.0 b.1 ≡ Some w
+    pub kept : (b : ℕ × ℕ) → ((n : ℕ) → Walk connectivity mask at b n → ⊥)
         → cell u b.0 b.1 ≡ cell t b.0 b.1

@@ -33,8 +33,8 @@ fn comes_from(connectivity: Connectivity, here: Settled, before: Settled) -> boo
         && here.sum - before.sum == here.cost as u128
 }
 
-// The path to the last of the settled positions, found from its end: each number comes from that of a position which was
-// settled before.
+// The path to the last of the settled positions, found from its end: each number comes from that of a position which
+// was settled before.
 fn follow<N: Width, A: Allocator + Clone>(
     connectivity: Connectivity,
     trail: &Vec<Kept<N>, A>,
@@ -61,8 +61,8 @@ fn follow<N: Width, A: Allocator + Clone>(
     Ok(path)
 }
 
-// A cheapest path over positions with a cost, and its sum, by numbers of one width. The search stops once it settles the
-// end.
+// A cheapest path over positions with a cost, and its sum, by numbers of one width. The search stops once it settles
+// the end.
 fn path_by<N: Width, A: Allocator + Clone>(
     connectivity: Connectivity,
     costs: Grid<Option<u32>, A>,
@@ -112,8 +112,8 @@ fn path_over<A: Allocator + Clone>(
 ///
 /// Requires: the closure can be called at every cell.
 /// Fails: if allocation fails.
-/// Cost: at most that of `cheapest`, whose search stops here once it settles the end; then a constant number of steps for
-/// each settled cell, and memory for it.
+/// Cost: at most that of `cheapest`, whose search stops here once it settles the end; then a constant number of steps
+/// for each settled cell, and memory for it.
 pub fn cheapest_path<T, A: Allocator + Clone, F: Fn(&T) -> Option<u32>>(
     grid: &Grid<T, A>,
     from: (usize, usize),

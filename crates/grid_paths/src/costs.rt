@@ -12,11 +12,12 @@ use std::alloc::{AllocError, Allocator};
 use std::cmp::Reverse;
 use std::collections::BinaryHeap;
 
-// For how many waiting positions there is room from the start.
-const MANY: usize = 1024;
+// How many positions a heap has room for from the start. Any number of this size does: the heap grows where more wait.
+const HEAP_ROOM: usize = 1024;
 
-// A board of fewer cells than this is searched with numbers of 64 bits.
-const FEW: usize = 4294967295;
+// Below so many cells, 2^32 - 1, 64-bit sums can't overflow: a cheapest path enters each cell at most once, and each
+// costs less than 2^32.
+const NARROW_BELOW: usize = 4294967295;
 
 // A position whose number is settled, what it costs to enter it, and its number.
 #[derive(Clone, Copy)]
@@ -167,7 +168,11 @@ impl<N: Width, A: Allocator> Frontier<N, A> {
     }
 
     // Enters the positions that a step from a settled one leads to.
-    pub(crate) fn relax_around(&mut self, connectivity: Connectivity, from: Settled) -> Result<(), AllocError>
+    pub(crate) fn relax_around(
+        &mut self,
+        connectivity: Connectivity,
+        from: Settled,
+    ) -> Result<(), AllocError>
         requires { IsReady N.cmp N.reads self.old from }
         ensures { OnOk result (Enters N.cmp N.reads (IsStep connectivity from.at) from.sum self.old
             self.new) }
@@ -209,7 +214,7 @@ pub(crate) fn begun<N: Width, A: Allocator + Clone>(
 {
     let sums = no_sums(&costs)?;
     let cells = costs.flatten().len();
-    let heap = BinaryHeap::with_capacity(costs.allocator().clone()?, cells.min(MANY))?;
+    let heap = BinaryHeap::with_capacity(costs.allocator().clone()?, cells.min(HEAP_ROOM))?;
     let mut search = Frontier {
         left: costs,
         sums,
@@ -225,7 +230,7 @@ pub(crate) fn begun<N: Width, A: Allocator + Clone>(
 pub(crate) fn is_small<A: Allocator>(costs: &Grid<Option<u32>, A>) -> bool
     ensures { IsTrue result → HasRoom narrow costs.now.rows }
 {
-    costs.flatten().len() < FEW
+    costs.flatten().len() < NARROW_BELOW
 }
 
 // The least sum of costs to each position, by numbers of one width.
@@ -274,9 +279,9 @@ fn search<A: Allocator + Clone>(
 ///
 /// Requires: the closure can be called at every cell.
 /// Fails: if allocation fails.
-/// Cost: one call for each cell; a number of steps for each cell that grows as the logarithm of the number of cells; four
-/// allocations, and those of the heap where more than 1,024 positions wait, each at most once for each step to it. The
-/// search takes 16 bytes for each cell, and 16 for each position that waits; from 2^32 - 1 cells on 24, and 32.
+/// Cost: one call for each cell; a number of steps for each cell that grows as the logarithm of the number of cells;
+/// four allocations, and those of the heap where more than 1,024 positions wait, each at most once for each step to it.
+/// The search takes 16 bytes for each cell, and 16 for each position that waits; from 2^32 - 1 cells on 24, and 32.
 pub fn cheapest<T, A: Allocator + Clone, F: Fn(&T) -> Option<u32>>(
     grid: &Grid<T, A>,
     from: (usize, usize),

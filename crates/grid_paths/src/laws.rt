@@ -21,8 +21,8 @@ pub fn sides_are_neighbors4<T, A: Allocator>(
     grid.neighbors4(from)
 }
 
-/// The cells that a step by [`Connectivity::Eight`](super::Connectivity::Eight) leads to are those of `neighbors8`, which
-/// gives them in order, each once.
+/// The cells that a step by [`Connectivity::Eight`](super::Connectivity::Eight) leads to are those of `neighbors8`,
+/// which gives them in order, each once.
 pub fn all_are_neighbors8<T, A: Allocator>(
     grid: &Grid<T, A>,
     from: (usize, usize),

@@ -53,13 +53,13 @@ fn follow<A: Allocator + Clone>(
     from: (usize, usize),
     count: usize,
 ) -> Result<Vec<(usize, usize), A>, AllocError>
-    requires least { (connectivity : Connectivity) × (floor : List (List Bool)) × (to : ℕ × ℕ)
-        × HasLeastUpTo connectivity floor to steps.now.rows count }
+    requires least { (connectivity : Connectivity) × (mask : List (List Bool)) × (to : ℕ × ℕ)
+        × HasLeastUpTo connectivity mask to steps.now.rows count }
     requires mark { IsMarked steps.now.rows from count }
-    ensures path { IfOk result (λ path. (connectivity : Connectivity) (floor : List (List Bool))
+    ensures path { IfOk result (λ path. (connectivity : Connectivity) (mask : List (List Bool))
         (to : ℕ × ℕ)
-        → HasLeastUpTo connectivity floor to steps.now.rows count
-        → IsPath connectivity floor from to path.items) }
+        → HasLeastUpTo connectivity mask to steps.now.rows count
+        → IsPath connectivity mask from to path.items) }
     ensures len { IfOk result (λ path. length path.items ≡ count + 1) }
 {
     let cells = steps.rows().saturating_mul(steps.cols());
@@ -86,8 +86,8 @@ fn follow<A: Allocator + Clone>(
 ///
 /// Requires: the test can be called at every cell.
 /// Fails: if allocation fails.
-/// Cost: at most that of `distances`, whose search stops here once it reaches the start; then a constant number of steps
-/// for each cell of the path, and one allocation.
+/// Cost: at most that of `distances`, whose search stops here once it reaches the start; then a constant number of
+/// steps for each cell of the path, and one allocation.
 pub fn shortest_path<T, A: Allocator + Clone, F: Fn(&T) -> bool>(
     grid: &Grid<T, A>,
     from: (usize, usize),
@@ -97,16 +97,16 @@ pub fn shortest_path<T, A: Allocator + Clone, F: Fn(&T) -> bool>(
 ) -> Result<Option<Vec<(usize, usize), A>>, AllocError>
     requires { F.IsAlwaysCallable passable }
     ensures shortest { IfOk result (λ found. MatchOption found
-        (HoldsOfAnswers F.post passable grid.now.rows (λ floor.
-        (n : ℕ) → Walk connectivity floor from to n → ⊥))
-        (λ path. HoldsOfAnswers F.post passable grid.now.rows (λ floor.
-        IsShortestPath connectivity floor from to path.items))) }
+        (HoldsOfAnswers F.post passable grid.now.rows (λ mask.
+        (n : ℕ) → Walk connectivity mask from to n → ⊥))
+        (λ path. HoldsOfAnswers F.post passable grid.now.rows (λ mask.
+        IsShortestPath connectivity mask from to path.items))) }
     ensures in_range { IfOk result (λ found. IfSome found (λ path.
         All (λ at. InRange grid.now.rows at.0 at.1) path.items)) }
 {
-    let floor = answers_of(grid, passable)?;
+    let mask = answers_of(grid, passable)?;
     // found from its end
-    let steps = search_from(connectivity, floor, &[to], Some(from))?;
+    let steps = search_from(connectivity, mask, &[to], Some(from))?;
     match steps.get(from.0, from.1).copied().flatten() {
         Some(count) => Ok(Some(follow(&steps, from, count)?)),
         None => Ok(None),

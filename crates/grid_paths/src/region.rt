@@ -125,8 +125,9 @@ fn mark_region<T: Copy + PartialEq + Drop, A: Allocator + Clone>(
 ///     [[1, 1, 2], [2, 1, 1]]   fill_region((0, 0), Connectivity::Four, 7)   [[7, 7, 2], [2, 7, 7]]
 ///
 /// Fails: if allocation fails; the grid is unchanged.
-/// Cost: at most seven comparisons, or eleven by `Connectivity::Eight`, and a constant number of steps for each cell of the
-/// region; memory for these cells and their positions, unless they are the whole board. The rest of the board costs nothing.
+/// Cost: at most seven comparisons, or eleven by `Connectivity::Eight`, and a constant number of steps for each cell of
+/// the region; memory for these cells and their positions, unless they are the whole board. The rest of the board costs
+/// nothing.
 pub fn fill_region<T: Copy + PartialEq + Drop, A: Allocator + Clone>(
     grid: &mut Grid<T, A>,
     at: (usize, usize),

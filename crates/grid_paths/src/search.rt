@@ -4,19 +4,20 @@ ghost use Rattle.grid_paths.specs.Prelude.{InRange, IsStep, HasLeastSteps, HasLe
 
 use super::answers::answers_of;
 use super::around::around;
-use super::wave::{Wave, new_wave};
+use super::bfs::{Bfs, new_bfs};
 use grid::Grid;
 use grid_near::Connectivity;
 use std::alloc::{AllocError, Allocator};
 
-// How many positions of a queue are processed before it drops them.
-const MANY: usize = 2048;
+// Compact the queue once its read prefix is this long. It is half of the room that a queue has from the start, so that
+// the queue doesn't grow while no more than so many positions wait.
+const COMPACT_AT: usize = 2048;
 
 // How far the search has come: the open positions that aren't reached yet, and the numbers of steps to the others.
 #[derive(Drop)]
 pub(crate) struct Search<A: Allocator> {
     left: Grid<bool, A>,
-    steps: Wave<A>,
+    steps: Bfs<A>,
 }
 
 impl<A: Allocator> Search<A> {
@@ -46,7 +47,11 @@ impl<A: Allocator> Search<A> {
 
     // Reaches the positions that a step from one that is reached leads to, each by one step more.
     #[inline(always)]
-    fn reach_around(&mut self, connectivity: Connectivity, at: (usize, usize)) -> Result<(), AllocError>
+    fn reach_around(
+        &mut self,
+        connectivity: Connectivity,
+        at: (usize, usize),
+    ) -> Result<(), AllocError>
         requires inside { InRange self.old.left.rows at.0 at.1 }
         requires marked { (m : ℕ) × IsMarked self.old.steps.numbers.rows at m × (m + 1 < 2 ^ 64) }
         ensures { OnOk result ((m : ℕ) → IsMarked self.old.steps.numbers.rows at m
@@ -63,15 +68,15 @@ impl<A: Allocator> Search<A> {
     }
 }
 
-// Drops the positions before `next` once they are many, and no fewer than the others; returns the place that `next` has
-// then. So the queue stays short, and there are no more moves than positions.
+// Compacts the queue: drops the positions before `next` once they are many, and no fewer than the others; returns the
+// index that `next` has then. So the queue stays short, and no more positions are moved than were read.
 fn trim<A: Allocator>(queue: &mut Vec<(usize, usize), A>, next: usize) -> usize
     requires { next ≤ length queue.old.items }
     ensures { (front : List (ℕ × ℕ)) × (queue.old.items ≡ front ++ queue.new.items)
         × (next ≡ length front + result) }
 {
     let len = queue.len();
-    if next < MANY || next < len - next {
+    if next < COMPACT_AT || next < len - next {
         return next;
     }
     queue.copy_within(next..len, 0);
@@ -83,20 +88,20 @@ fn trim<A: Allocator>(queue: &mut Vec<(usize, usize), A>, next: usize) -> usize
 // goes on from it.
 pub(crate) fn search_from<A: Allocator + Clone>(
     connectivity: Connectivity,
-    floor: Grid<bool, A>,
+    mask: Grid<bool, A>,
     starts: &[(usize, usize)],
     goal: Option<(usize, usize)>,
 ) -> Result<Grid<Option<usize>, A>, AllocError>
-    ensures order { IfOk result (λ steps. steps.order ≡ floor.order) }
-    ensures size { IfOk result (λ steps. HaveOneSize steps.rows floor.rows) }
+    ensures order { IfOk result (λ steps. steps.order ≡ mask.order) }
+    ensures size { IfOk result (λ steps. HaveOneSize steps.rows mask.rows) }
     ensures least { IfOk result (λ steps.
-        goal ≡ None → HasLeastFrom connectivity floor.rows starts.now steps.rows) }
+        goal ≡ None → HasLeastFrom connectivity mask.rows starts.now steps.rows) }
     ensures settled { IfOk result (λ steps. (from to : ℕ × ℕ)
         → starts.now ≡ from ∷ [] → goal ≡ Some to
-        → IsSettled connectivity floor.rows from to steps.rows) }
+        → IsSettled connectivity mask.rows from to steps.rows) }
 {
-    let steps = new_wave(&floor)?;
-    let mut search = Search { left: floor, steps };
+    let steps = new_bfs(&mask)?;
+    let mut search = Search { left: mask, steps };
     for start in starts {
         search.reach(*start, 0)?;
     }
@@ -135,11 +140,11 @@ pub fn distances<T, A: Allocator + Clone, F: Fn(&T) -> bool>(
     requires { F.IsAlwaysCallable passable }
     ensures order { IfOk result (λ steps. steps.order ≡ grid.now.order) }
     ensures size { IfOk result (λ steps. HaveOneSize steps.rows grid.now.rows) }
-    ensures least { IfOk result (λ steps. HoldsOfAnswers F.post passable grid.now.rows (λ floor.
-        HasLeastSteps connectivity floor from steps.rows)) }
+    ensures least { IfOk result (λ steps. HoldsOfAnswers F.post passable grid.now.rows (λ mask.
+        HasLeastSteps connectivity mask from steps.rows)) }
 {
-    let floor = answers_of(grid, passable)?;
-    search_from(connectivity, floor, &[from], None)
+    let mask = answers_of(grid, passable)?;
+    search_from(connectivity, mask, &[from], None)
 }
 
 /// Returns, for each cell, the least number of steps from the nearest of several positions, as [`distances`] counts
@@ -162,9 +167,9 @@ pub fn distances_from<T, A: Allocator + Clone, F: Fn(&T) -> bool>(
     requires { F.IsAlwaysCallable passable }
     ensures order { IfOk result (λ steps. steps.order ≡ grid.now.order) }
     ensures size { IfOk result (λ steps. HaveOneSize steps.rows grid.now.rows) }
-    ensures least { IfOk result (λ steps. HoldsOfAnswers F.post passable grid.now.rows (λ floor.
-        HasLeastFrom connectivity floor starts.now steps.rows)) }
+    ensures least { IfOk result (λ steps. HoldsOfAnswers F.post passable grid.now.rows (λ mask.
+        HasLeastFrom connectivity mask starts.now steps.rows)) }
 {
-    let floor = answers_of(grid, passable)?;
-    search_from(connectivity, floor, starts, None)
+    let mask = answers_of(grid, passable)?;
+    search_from(connectivity, mask, starts, None)
 }

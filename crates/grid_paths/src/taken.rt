@@ -153,9 +153,9 @@ fn places_of<T: Copy, A: Allocator>(
     taken.iter().map(|(at, _)| *at).collect(alloc)
 }
 
-/// Returns the positions that walks from some positions lead to. The closure says of each cell whether a walk enters it,
-/// and whether it goes on from there. Positions out of range and those of cells that aren't entered lead nowhere; none
-/// is returned twice.
+/// Returns the positions that walks from some positions lead to. The closure says of each cell whether a walk enters
+/// it, and whether it goes on from there. Positions out of range and those of cells that aren't entered lead nowhere;
+/// none is returned twice.
 ///
 ///     [[0, 0, 1, 0], [1, 1, 1, 0]]   flood(&[(0, 0)], Connectivity::Four, way)
 ///     [(0, 0), (0, 1), (1, 0), (1, 1), (0, 2)], in some order

@@ -7,7 +7,9 @@ ghost use Rattle.grid_near.specs.Neighbors.{neighbors4, neighbors8, wrapped_neig
 ghost use Rattle.grid_near.specs.declared.board.Edges.TheVariants.{Joined};
 
 use crate::view::GridView;
-use grid_near::{Edges, Neighbors, Connectivity, Strided, WrappedNeighbors, count_near, neighbors_in};
+use grid_near::{
+    Connectivity, Edges, Neighbors, Strided, WrappedNeighbors, count_near, neighbors_in,
+};
 
 impl<'a, T> GridView<'a, T> {
     /// Returns an iterator over the cells that share a side with the cell at this position, row by row, each with its
@@ -129,7 +131,12 @@ impl<'a, T> GridView<'a, T> {
 
     // The cells round a cell, by which steps, and by what the edges do.
     #[inline(always)]
-    fn cells_around(&self, at: (usize, usize), connectivity: Connectivity, edges: Edges) -> Neighbors<'a, T>
+    fn cells_around(
+        &self,
+        at: (usize, usize),
+        connectivity: Connectivity,
+        edges: Edges,
+    ) -> Neighbors<'a, T>
         ensures gives { GivesNear (around_of connectivity edges self.now.rows at.0 at.1) result }
         ensures count { edges ≡ Joined → InRange self.now.rows at.0 at.1
             → length result ≡ step_count connectivity }

@@ -1,8 +1,8 @@
 //! Paths and regions, on boards of numbers that are copied.
 use crate::state::{Answer, Call, Numbers, Start, are_numbers, came, number};
 use grid_paths::{
-    Enter, Connectivity, cheapest, cheapest_path, distances, distances_from, fill_region, flood, regions,
-    shortest_path,
+    Connectivity, Enter, cheapest, cheapest_path, distances, distances_from, fill_region, flood,
+    regions, shortest_path,
 };
 use std::alloc::AllocError;
 

@@ -7,7 +7,7 @@ abbrev pub invariant-loop-left : goal.invariant-loop-left
 invariant-loop-left g l =
     record {
       mark : IsMarked l.steps.rows l.at l.left;
-      path : (connectivity : Connectivity) (floor : List (List Bool)) (to : ℕ × ℕ) → HasLeastUpTo connectivity floor to l.steps.rows l.initial.left → IsPath connectivity floor l.fn.from l.at l.path.items;
+      path : (connectivity : Connectivity) (mask : List (List Bool)) (to : ℕ × ℕ) → HasLeastUpTo connectivity mask to l.steps.rows l.initial.left → IsPath connectivity mask l.fn.from l.at l.path.items;
       most : l.left ≤ l.initial.left;
       len : length l.path.items + l.left ≡ l.initial.left + 1;
     }

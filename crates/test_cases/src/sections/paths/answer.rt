@@ -3,7 +3,8 @@ use crate::case::CaseError;
 use crate::shown::text;
 use grid::Grid;
 use grid_paths::{
-    Enter, Connectivity, cheapest, distances, distances_from, fill_region, flood, regions, shortest_path,
+    Connectivity, Enter, cheapest, distances, distances_from, fill_region, flood, regions,
+    shortest_path,
 };
 use grid_text::to_text;
 use std::alloc::{AllocError, Allocator, Global};

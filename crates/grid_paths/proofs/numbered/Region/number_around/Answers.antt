@@ -10,7 +10,7 @@ returns-in-Four g c =
     let x = c.args.self.now.first.now in
     let at = c.args.at in
     on_ok_weaker c.number_each.result
-    (λ e. subst (λ connectivity. Spreads (IsStep connectivity at) (alike g.T.PartialEq.eq x t.rows) c.args.self.now.number c.args.wave.now c.number_each.new.wave) (sym c.in-Four.is)
+    (λ e. subst (λ connectivity. Spreads (IsStep connectivity at) (alike g.T.PartialEq.eq x t.rows) c.args.self.now.number c.args.bfs.now c.number_each.new.bfs) (sym c.in-Four.is)
     (Spreads-steps Four at (take 4 c.around-near.result) c.around-near.ensures.sides (λ b o. inl (alike_fits g.T.PartialEq.eq x t.rows t.table t.fits.rows t.fits.cols b o)) e))
     c.number_each.ensures
 
@@ -20,6 +20,6 @@ returns-in-Eight g c =
     let x = c.args.self.now.first.now in
     let at = c.args.at in
     on_ok_weaker c.number_each-in-Eight.result
-    (λ e. subst (λ connectivity. Spreads (IsStep connectivity at) (alike g.T.PartialEq.eq x t.rows) c.args.self.now.number c.args.wave.now c.number_each-in-Eight.new.wave) (sym c.in-Eight.is)
+    (λ e. subst (λ connectivity. Spreads (IsStep connectivity at) (alike g.T.PartialEq.eq x t.rows) c.args.self.now.number c.args.bfs.now c.number_each-in-Eight.new.bfs) (sym c.in-Eight.is)
     (Spreads-steps Eight at c.around-near.result c.around-near.ensures.all (λ b o. inl (alike_fits g.T.PartialEq.eq x t.rows t.table t.fits.rows t.fits.cols b o)) e))
     c.number_each-in-Eight.ensures

@@ -1,7 +1,7 @@
 use Rattle.std.proofs.Common.{None}
 use Rattle.grid_paths.proofs.Common.{InRange, cell_in_range}
 use Rattle.grid_paths.proofs.Lemmas.{set_there}
-use Rattle.grid_paths.proofs.wave.Wave.mark.Goals as goal
+use Rattle.grid_paths.proofs.bfs.Bfs.mark.Goals as goal
 
 pub returns : goal.returns
 returns g c =

@@ -1,4 +1,4 @@
-//! Numbers at positions, and the queue of the positions that got one.
+//! The state of a breadth-first search: the step counts, or labels, and the queue.
 ghost use Rattle.std.specs.Prelude.{◌≡◌, IfOk, None, OnOk, Some};
 ghost use Rattle.grid_paths.specs.Prelude.{cell, IsBlank, Marks};
 
@@ -6,17 +6,18 @@ use super::answers::no_numbers;
 use grid::Grid;
 use std::alloc::{AllocError, Allocator};
 
-// For how many positions a queue has room from the start.
+// How many positions a queue has room for from the start. Any number of this size does: the queue grows where it needs
+// to.
 const ROOM: usize = 4096;
 
-// How far a search has come that numbers positions: the numbers, and the positions from which it goes on.
+// The state of a breadth-first search: the step count or label of each position, and the queue of those to go on from.
 #[derive(Drop)]
-pub(crate) struct Wave<A: Allocator> {
+pub(crate) struct Bfs<A: Allocator> {
     pub(crate) numbers: Grid<Option<usize>, A>,
     pub(crate) queue: Vec<(usize, usize), A>,
 }
 
-impl<A: Allocator> Wave<A> {
+impl<A: Allocator> Bfs<A> {
     // Gives a position this number, and puts it at the end of the queue.
     #[inline(always)]
     pub(crate) fn mark(&mut self, at: (usize, usize), number: usize) -> Result<(), AllocError>
@@ -29,12 +30,12 @@ impl<A: Allocator> Wave<A> {
     }
 }
 
-// No number at each cell, and an empty queue.
-pub(crate) fn new_wave<T, A: Allocator + Clone>(grid: &Grid<T, A>) -> Result<Wave<A>, AllocError>
-    ensures { IfOk result (λ wave. IsBlank grid.now wave) }
+// Nothing reached yet, and an empty queue.
+pub(crate) fn new_bfs<T, A: Allocator + Clone>(grid: &Grid<T, A>) -> Result<Bfs<A>, AllocError>
+    ensures { IfOk result (λ bfs. IsBlank grid.now bfs) }
 {
     let numbers = no_numbers(grid)?;
     let cells = grid.flatten().len();
     let queue = Vec::with_capacity(grid.allocator().clone()?, cells.min(ROOM))?;
-    Ok(Wave { numbers, queue })
+    Ok(Bfs { numbers, queue })
 }
