@@ -29,7 +29,7 @@ fn next(random: &mut u32) -> usize {
     *random as usize
 }
 
-// The cell beside a room, and the room behind it, if that isn't dug yet.
+// The cell next to a room, and the room past it, if that isn't dug yet.
 fn beyond(maze: &Grid<Cell>, at: At, way: Direction) -> Option<(At, At)> {
     let door = maze.beside(at, way)?;
     let room = maze.beside(door, way)?;

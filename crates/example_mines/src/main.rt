@@ -1,6 +1,6 @@
 //! Plays Minesweeper: reads a field of mines and moves on standard input, and draws the field after each move.
 //!
-//! A field is lines of `*` (a mine) and `.`. Behind a line `--` each line is a move: `open 2 3` or `flag 2 3`, with a row and
+//! A field is lines of `*` (a mine) and `.`. After a line `--` each line is a move: `open 2 3` or `flag 2 3`, with a row and
 //! a column.
 #![tactic(auto)]
 
@@ -57,7 +57,7 @@ fn read_move(line: &str) -> Option<(&str, (usize, usize))> {
     Some((word, (index(words.next()?)?, index(words.next()?)?)))
 }
 
-// Opens a cell, and round each that no mine touches all others, as far as these lead.
+// Opens a cell, and around each that no mine touches all others, as far as these lead.
 fn open(field: &mut Grid<Cell>, at: (usize, usize)) -> Result<(), AllocError> {
     let opened = flood(field, &[at], Connectivity::Eight, |cell| match cell.near {
         _ if cell.shown == Shown::Flag => Enter::No,

@@ -1,4 +1,4 @@
--- What a closure answers at a cell and the cells round it.
+-- What a closure answers at a cell and the cells around it.
 use Rattle.std.specs.Prelude.{◌≡◌, ℕ, Some, Bool, List, Result, IfOk}
 use denote.Ref.{Bor}
 use Rattle.grid_base.specs.Prelude.{GridValue}

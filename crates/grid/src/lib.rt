@@ -25,7 +25,7 @@
 //!   `split_off_*`, `resize`
 //! - iterate: `iter`, `iter_row`, `iter_col` and their forms for writing, `iter_rows`, `iter_cols`, `indexed_iter`,
 //!   `indexed_iter_mut`, `indexed_into_iter`, and a `for` over a grid
-//! - the cells round a cell: `neighbors4`, `neighbors8`, `wrapped_neighbors4`, `wrapped_neighbors8`; how many pass a test,
+//! - the cells around a cell: `neighbors4`, `neighbors8`, `wrapped_neighbors4`, `wrapped_neighbors8`; how many pass a test,
 //!   as `count_neighbors8`; a grid of what a closure makes of them, as `map_neighbors8`, or, many times faster, of their
 //!   counts and sums, as `map_counts8` and `map_sums8`
 //! - views, which copy no cell: `view` and `part`, and `turned`, `get`, `iter_row` and more on a [`GridView`]; [`same_cells`]

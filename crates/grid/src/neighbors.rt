@@ -1,4 +1,4 @@
-//! Iterators over the cells round a cell, on the grid as it is or with its edges joined.
+//! Iterators over the cells around a cell, on the grid as it is or with its edges joined.
 ghost use Rattle.std.specs.Prelude.{◌≡◌, ◌≤◌, length, IfOk};
 ghost use Rattle.grid.specs.Prelude.{InRange, SameSizeAndOrder, storage, CallableAtRefs, GivesCells, CallableAround, ReachesAround, MapAround, CallableCounted, MapCounts, CallableSummed, MapSums, CallableNear, CountsNear, neighbors4, neighbors8, wrapped_neighbors4, wrapped_neighbors8, around_of, step_count, GivesNear};
 ghost use Rattle.grid_near.specs.declared.board.Edges.TheVariants.{Joined};
@@ -89,7 +89,7 @@ impl<T, A: Allocator> Grid<T, A> {
     ///     [[1, 2, 3], [4, 5, 6]]   map_neighbors8(|_, x, near| near.fold(*x, |sum, (_, y)| sum + *y))
     ///                              [[12, 21, 16], [12, 21, 16]]
     ///
-    /// Requires: the closure can be called at each position, a reference to the cell there, and the cells round it.
+    /// Requires: the closure can be called at each position, a reference to the cell there, and the cells around it.
     /// Fails: if allocation fails; the closure wasn't called.
     /// Cost: one call for each cell; one allocation, before the first call.
     pub fn map_neighbors8<U, F: Fn((usize, usize), &T, Neighbors<'_, T>) -> U>(
@@ -355,7 +355,7 @@ impl<T, A: Allocator> Grid<T, A> {
         self.sums_around(Connectivity::Four, Edges::Joined, weight, rule)
     }
 
-    // The cells round a cell, by which steps, and by what the edges do.
+    // The cells around a cell, by their connectivity and by what the edges do.
     #[inline(always)]
     fn cells_around(
         &self,
@@ -374,7 +374,7 @@ impl<T, A: Allocator> Grid<T, A> {
         grid_near::neighbors_of(self.flat.as_slice(), layout, at, connectivity, edges)
     }
 
-    // What the closure returns at each cell and the cells round it.
+    // What the closure returns at each cell and the cells around it.
     fn map_around<U, F: Fn((usize, usize), &T, Neighbors<'_, T>) -> U>(
         &self,
         connectivity: Connectivity,
@@ -395,7 +395,7 @@ impl<T, A: Allocator> Grid<T, A> {
         )
     }
 
-    // What the closure returns at each cell and how many of the cells round it pass.
+    // What the closure returns at each cell and how many of the cells around it pass.
     fn counts_around<U, F: Fn(&T) -> bool, G: Fn(&T, u8) -> U>(
         &self,
         connectivity: Connectivity,
@@ -431,7 +431,7 @@ impl<T, A: Allocator> Grid<T, A> {
         })
     }
 
-    // What the closure returns at each cell and the sum of those round it.
+    // What the closure returns at each cell and the sum of those around it.
     fn sums_around<U, F: Fn(&T) -> u8, G: Fn(&T, u16) -> U>(
         &self,
         connectivity: Connectivity,

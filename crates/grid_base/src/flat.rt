@@ -136,7 +136,7 @@ impl<T, A: Allocator> Flat<T, A> {
     ///
     ///     [1, 2, 3, 4, 5]   swap_blocks(0, 3, 2)   [4, 5, 3, 1, 2]
     ///
-    /// Requires: both blocks are in range, and the second begins behind the first.
+    /// Requires: both blocks are in range, and the second begins after the first.
     pub fn swap_blocks(&mut self, i: usize, j: usize, n: usize)
         requires apart { i + n ≤ j }
         requires within { j + n ≤ length self.old }

@@ -27,7 +27,7 @@ pub fn then_is_associative(
     )
 }
 
-/// Returns `Identity` joined before a symmetry, and behind it. Both are the symmetry.
+/// Returns `Identity` joined before a symmetry, and after it. Both are the symmetry.
 pub fn identity_is_neutral(symmetry: Symmetry) -> (Symmetry, Symmetry)
     ensures before { IsThen Identity symmetry result.0 }
     ensures behind { IsThen symmetry Identity result.1 }
@@ -41,7 +41,7 @@ pub fn identity_is_neutral(symmetry: Symmetry) -> (Symmetry, Symmetry)
     )
 }
 
-/// Returns a symmetry joined before its inverse, and behind it. Both are `Identity`.
+/// Returns a symmetry joined before its inverse, and after it. Both are `Identity`.
 pub fn inverse_undoes(symmetry: Symmetry) -> (Symmetry, Symmetry)
     ensures before { (v : Symmetry) → IsInverse symmetry v → IsThen symmetry v result.0 }
     ensures behind { (v : Symmetry) → IsInverse symmetry v → IsThen v symmetry result.1 }

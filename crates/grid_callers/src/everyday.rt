@@ -43,7 +43,7 @@ pub fn take_off(board: &mut Grid<Option<Piece>>, at: (usize, usize)) -> Option<P
     board.set_at(at, None).flatten()
 }
 
-/// Sets the trees beside a cell on fire. Their positions are collected first, since the loop writes to the board.
+/// Sets the trees next to a cell on fire. Their positions are collected first, since the loop writes to the board.
 pub fn spread(alloc: Global, wood: &mut Grid<char>, at: (usize, usize)) -> Result<(), AllocError> {
     let near: Vec<(usize, usize)> = wood.neighbors4(at).map(|(to, _)| to).collect(alloc)?;
     for to in near {

@@ -156,7 +156,7 @@ where
     Ok(())
 }
 
-// Adds the rows of the records that are left, behind the first; each has as many cells.
+// Adds the rows of the records that are left, after the first; each has as many cells.
 fn push_records<T: Drop, F>(
     cells: &mut Vec<T>,
     reader: &mut Reader<&[u8]>,

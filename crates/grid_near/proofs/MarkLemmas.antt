@@ -141,14 +141,14 @@ around_shown cells o size h e connectivity at lr lc =
     start_shown (table_of o size.0 size.1 cells) (view-table o size.0 size.1 cells h) cells size (by_strides (strides_of o size)) (sym (view-rows o size.0 size.1 cells h)) (sym (view-cols o size.0 size.1 cells h))
     (λ r c lr lc. ap (slice_get cells) (at_strides o size.0 size.1 r c) ∙ sym (view-cell o size.0 size.1 cells h r c lr lc)) e connectivity at 0 (sym (none_done size connectivity at e lr lc))
 
--- the marks round a place of a line, in the order of the positions of the cells
+-- the marks around a place of a line, in the order of the positions of the cells
 abbrev marks_around : {B : Type 0} → B → Order → Connectivity → List B → List B → List B → ℕ → List B
 marks_around blank RowMajor Four up mid down k = get_or up (k + 1) blank ∷ get_or mid k blank ∷ get_or mid (k + 2) blank ∷ get_or down (k + 1) blank ∷ []
 marks_around blank RowMajor Eight up mid down k = get_or up k blank ∷ get_or up (k + 1) blank ∷ get_or up (k + 2) blank ∷ get_or mid k blank ∷ get_or mid (k + 2) blank ∷ get_or down k blank ∷ get_or down (k + 1) blank ∷ get_or down (k + 2) blank ∷ []
 marks_around blank ColumnMajor Four up mid down k = get_or mid k blank ∷ get_or up (k + 1) blank ∷ get_or down (k + 1) blank ∷ get_or mid (k + 2) blank ∷ []
 marks_around blank ColumnMajor Eight up mid down k = get_or up k blank ∷ get_or mid k blank ∷ get_or down k blank ∷ get_or up (k + 1) blank ∷ get_or down (k + 1) blank ∷ get_or up (k + 2) blank ∷ get_or mid (k + 2) blank ∷ get_or down (k + 2) blank ∷ []
 
--- what marks tell of cells, they tell so of those round a cell
+-- what marks tell of cells, they tell so of those around a cell
 module _ {F T B : Type 0} (blank : B) (returns : F → Bor T → B → Type 0) (f : F) (Tells : List ((ℕ × ℕ) × T) → ℕ → Type 0) (sum : List B → ℕ) (told : (g : ℕ → ℕ → Option T) (ps : List (Option ℕ × Option ℕ)) (bs : List B) → AllZip (MarkAt blank returns f g) ps bs → Tells (filter_map (cell_at g) ps) (sum bs)) (cells : List T) where
   around_told : (o : Order) (size : ℕ × ℕ) → HoldsSize size.0 size.1 (length cells) → (e : Edges) (connectivity : Connectivity) (l k : ℕ) (up mid down : List B) → l < (along o size.0 size.1).0 → k < (along o size.0 size.1).1 → MarksLine blank returns f (strided_cell cells size (strides_of o size)) o e (along o size.0 size.1).1 (side e (along o size.0 size.1).0 l 0) up → MarksLine blank returns f (strided_cell cells size (strides_of o size)) o e (along o size.0 size.1).1 (side e (along o size.0 size.1).0 l 1) mid → MarksLine blank returns f (strided_cell cells size (strides_of o size)) o e (along o size.0 size.1).1 (side e (along o size.0 size.1).0 l 2) down → Tells (around_of connectivity e (table_of o size.0 size.1 cells) (along o l k).0 (along o l k).1) (sum (marks_around blank o connectivity up mid down k))
   around_told RowMajor size h e Four l k up mid down ll lk hu hm hd =
@@ -199,7 +199,7 @@ module _ {F T : Type 0} (returns : F → Bor T → Bool → Type 0) (f : F) wher
     counted (p ∷ ps) [] a = absurd a
     counted (p ∷ ps) (b ∷ bs) a = counted_step (cell_at g p) b (filter_map (cell_at g) ps) (trues bs) a.0 (counted ps bs a.1)
 
-  -- the marks round a place say how many of the cells round it pass
+  -- the marks around a place say how many of the cells around it pass
   around_counted : (cells : List T) (o : Order) (size : ℕ × ℕ) → HoldsSize size.0 size.1 (length cells) → (e : Edges) (connectivity : Connectivity) (l k : ℕ) (up mid down : List Bool) → l < (along o size.0 size.1).0 → k < (along o size.0 size.1).1 → MarksLine false returns f (strided_cell cells size (strides_of o size)) o e (along o size.0 size.1).1 (side e (along o size.0 size.1).0 l 0) up → MarksLine false returns f (strided_cell cells size (strides_of o size)) o e (along o size.0 size.1).1 (side e (along o size.0 size.1).0 l 1) mid → MarksLine false returns f (strided_cell cells size (strides_of o size)) o e (along o size.0 size.1).1 (side e (along o size.0 size.1).0 l 2) down → CountsNear returns f (around_of connectivity e (table_of o size.0 size.1 cells) (along o l k).0 (along o l k).1) (count_around connectivity up mid down k)
   around_counted cells o size h e connectivity l k up mid down ll lk hu hm hd =
       subst (CountsNear returns f _) (same_count o connectivity up mid down k) (around_told false returns f (CountsNear returns f) trues counted cells o size h e connectivity l k up mid down ll lk hu hm hd)
@@ -232,7 +232,7 @@ module _ {F T : Type 0} (returns : F → Bor T → ℕ → Type 0) (f : F) where
     summed (p ∷ ps) [] a = absurd a
     summed (p ∷ ps) (b ∷ bs) a = summed_step (cell_at g p) b (filter_map (cell_at g) ps) (total bs) a.0 (summed ps bs a.1)
 
-  -- the marks round a place have the sum of the cells round it
+  -- the marks around a place have the sum of the cells around it
   around_summed : (cells : List T) (o : Order) (size : ℕ × ℕ) → HoldsSize size.0 size.1 (length cells) → (e : Edges) (connectivity : Connectivity) (l k : ℕ) (up mid down : List ℕ) → l < (along o size.0 size.1).0 → k < (along o size.0 size.1).1 → MarksLine 0 returns f (strided_cell cells size (strides_of o size)) o e (along o size.0 size.1).1 (side e (along o size.0 size.1).0 l 0) up → MarksLine 0 returns f (strided_cell cells size (strides_of o size)) o e (along o size.0 size.1).1 (side e (along o size.0 size.1).0 l 1) mid → MarksLine 0 returns f (strided_cell cells size (strides_of o size)) o e (along o size.0 size.1).1 (side e (along o size.0 size.1).0 l 2) down → SumsNear returns f (around_of connectivity e (table_of o size.0 size.1 cells) (along o l k).0 (along o l k).1) (sum_around connectivity up mid down k)
   around_summed cells o size h e connectivity l k up mid down ll lk hu hm hd =
       subst (SumsNear returns f _) (same_sum o connectivity up mid down k) (around_told 0 returns f (SumsNear returns f) total summed cells o size h e connectivity l k up mid down ll lk hu hm hd)
@@ -288,7 +288,7 @@ module _ {T F : Type 0} (b : Board T F) where
   pub all_placed : (i : ℕ) → i ≡ length b.cells.now → take i (placed_cells b) ≡ placed_cells b
   all_placed i e = take_all i (placed_cells b) (omega (arith, zip_even (positions_of b.layout) b.cells.now placed_even, placed_even, e))
 
--- what the marks round a place of a board say of the cells round it
+-- what the marks around a place of a board say of the cells around it
 pub board_counted : {T F : Type 0} (returns : F → Bor T → Bool → Type 0) (b : Board T F) (l k : ℕ) (up mid down : List Bool) → l < (lines_of b.layout).0 → k < (lines_of b.layout).1 → AreBeside false returns b l up mid down → CountsNear returns b.mark.now (near b (table b) (along b.layout.order l k).0 (along b.layout.order l k).1) (count_around b.connectivity up mid down k)
 board_counted returns b l k up mid down ll lk m = around_counted returns b.mark.now b.cells.now b.layout.order (b.layout.rows, b.layout.cols) (holds_size b) b.edges b.connectivity l k up mid down ll lk m.before m.here m.after
 

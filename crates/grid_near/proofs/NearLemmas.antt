@@ -1,4 +1,4 @@
--- The cells round a cell are cells of the table, at their positions.
+-- The cells around a cell are cells of the table, at their positions.
 use Rattle.std.proofs.Common.{◌≡◌, ℕ, zero, suc, ◌<◌, ◌&&◌, Bool, true, false, cond, nat_lt, Option, Some, None, List, [], ◌∷◌, length, refl, subst, sym, arith, filter_map, slice_index_or, option_map, option_and_then}
 use Rattle.grid_base.proofs.Common.{IsTable, IsCellAt, GivesCells}
 use Rattle.grid_base.proofs.TableLemmas.{cell_in_range}

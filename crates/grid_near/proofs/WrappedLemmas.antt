@@ -1,4 +1,4 @@
--- The steps round a cell on a table whose edges meet.
+-- The steps around a cell on a table whose edges meet.
 use Rattle.std.proofs.Common.{◌≡◌, ℕ, zero, suc, ◌+◌, ◌-◌, ◌/◌, ◌%◌, ◌<◌, Bool, true, false, Option, cond, nat_lt, ◌&&◌, length, inl, inr, IsSome, refl, ◌∙◌, ap, arith, lt-ltb, ltb-true}
 use Rattle.grid_near.proofs.Common.{mod_below, cases_lt, length_cons, step_count, around, box, cells_from, start_of, next_step}
 use Rattle.grid_near.specs.declared.steps.Connectivity.{Connectivity}

@@ -1,4 +1,4 @@
--- How the iterators round a cell count their steps.
+-- How the iterators around a cell count their steps.
 use Rattle.std.specs.Prelude.{◌≡◌, ℕ, zero, suc, ◌+◌, ◌-◌, ◌*◌, ◌/◌, ◌%◌, ◌^◌, ◌<◌, ◌≤◌, ◌&&◌, Bool, true, false, cond, nat_lt, Option, None, Some, List, [], ◌∷◌, drop, length, slice_get, MatchOption, filter_map, option_and_then}
 use Rattle.std.specs.Borrow.{Bor}
 use Rattle.grid_base.specs.Table.{tabulate}
@@ -42,18 +42,18 @@ abbrev pub HoldsCells : {T : Type 0} → List T → ℕ × ℕ → (ℕ → ℕ 
 HoldsCells cells size place_of =
     (r c : ℕ) → r < size.0 → c < size.1 → place_of r c < length cells
 
--- the number of the cell of step k, of the nine cells of three rows, row by row
+-- the index of the cell of step k among the nine cells of three rows, row by row
 abbrev pub box : Connectivity → ℕ → ℕ
 box Four k = 2 * k + 1
 box Eight k = k + k / 4
 
--- the number before k, k, or the number after it
+-- k - 1, if there is one, k, or k + 1
 abbrev pub beside : ℕ → ℕ → Option ℕ
 beside k zero = before k
 beside k (suc zero) = Some k
 beside k (suc (suc _)) = Some (k + 1)
 
--- the same round n numbers
+-- the same modulo n
 abbrev pub around : ℕ → ℕ → ℕ → ℕ
 around n k zero = around_before n k
 around n k (suc zero) = k
@@ -64,7 +64,7 @@ abbrev pub side : Edges → ℕ → ℕ → ℕ → Option ℕ
 side Open n k i = beside k i
 side Joined n k i = Some (around n k i)
 
--- the positions of the steps round (r, c)
+-- the positions of the steps around (r, c)
 abbrev pub positions : Edges → ℕ × ℕ → Connectivity → ℕ × ℕ → List (Option ℕ × Option ℕ)
 positions e size Four at = around4 (side e size.0 at.0 0) (side e size.0 at.0 1)
     (side e size.0 at.0 2) (side e size.1 at.1 0) (side e size.1 at.1 1) (side e size.1 at.1 2)
@@ -92,7 +92,7 @@ abbrev pub positions_from : ℕ × ℕ → Connectivity → ℕ × ℕ → ℕ �
 positions_from size connectivity at k = filter_map (λ p. if_within size (both p))
     (drop k (positions Open size connectivity at))
 
--- the cell in row i and column j of the nine cells round a position is within the size
+-- the cell in row i and column j of the nine cells around a position is within the size
 pub record IsThere (size at : ℕ × ℕ) (i j : ℕ) : Type 0 where
   pub above : 0 < at.0 + i
   pub below : at.0 + i ≤ size.0
@@ -115,14 +115,14 @@ IsFirst f size connectivity at k found =
     cells_from f Joined size connectivity at k
     ≡ placed found ∷ cells_from f Joined size connectivity at (k + 1)
 
--- all cells round a position are within the size
+-- all cells around a position are within the size
 pub record IsInner (size at : ℕ × ℕ) : Type 0 where
   pub above : 0 < at.0
   pub before : 0 < at.1
   pub below : at.0 + 1 < size.0
   pub after : at.1 + 1 < size.1
 
--- how many steps an iterator has done at its start: all, where edges meet, round a position out of
+-- how many steps an iterator has done at its start: all, where edges meet, around a position out of
 -- range
 abbrev pub start_of : Edges → ℕ × ℕ → Connectivity → ℕ × ℕ → ℕ
 start_of Open size connectivity at = 0
@@ -134,7 +134,7 @@ abbrev pub next_step : Edges → Bool → ℕ → ℕ → ℕ
 next_step Open inner passed tried = cond inner passed tried
 next_step Joined inner passed tried = passed
 
--- what holds of an iterator round the cell at a position, of which `passed` steps are done, and, at
+-- what holds of an iterator around the cell at a position, of which `passed` steps are done, and, at
 -- an edge that is open, `tried`
 pub record IsAround {T : Type 0} (cells : List T) (size : ℕ × ℕ) (start : ℕ) (strides at : ℕ × ℕ)
     (connectivity : Connectivity) (edges : Edges) (first : ℕ) (inner : Bool) (passed tried : ℕ)

@@ -1,4 +1,4 @@
-//! How many of the cells round each cell pass a test, for all cells of a table at once.
+//! How many of the cells around each cell pass a test, for all cells of a table at once.
 ghost use Rattle.std.specs.Prelude.{◌≡◌, ℕ, ◌+◌, ◌*◌, ◌<◌, ◌≤◌, length, vec_len, vec_capacity, false, slice_index_or, MatchOption, Some, IfOk};
 ghost use Rattle.grid_near.specs.Prelude.{CallableAtRefs, ReturnsAtCell, PairsUp, lines_of, IsBeyond, count_around, sum_around, MarksBeside, MarksCells, WithEnds, near, table, placed_cells, AnswersCounted, AnswersSummed, AreBeside, CallableOnCounts, AreCounted, CallableOnSums, AreSummed, side};
 
@@ -27,7 +27,7 @@ fn line_beside(edges: Edges, lines: usize, line: usize, step: usize) -> Option<u
     }
 }
 
-// The number of the eight marks round place `k` of the middle line that are true.
+// How many of the eight marks around place `k` of the middle line are true.
 fn count_eight(up: &[bool], mid: &[bool], down: &[bool], k: usize) -> u8
     requires up { k + 2 < length up.now }
     requires mid { k + 2 < length mid.now }
@@ -41,7 +41,7 @@ fn count_eight(up: &[bool], mid: &[bool], down: &[bool], k: usize) -> u8
     above + beside + below
 }
 
-// The same of the four at its sides.
+// How many of the four at its sides are true.
 fn count_four(up: &[bool], mid: &[bool], down: &[bool], k: usize) -> u8
     requires up { k + 2 < length up.now }
     requires mid { k + 2 < length mid.now }
@@ -52,7 +52,7 @@ fn count_four(up: &[bool], mid: &[bool], down: &[bool], k: usize) -> u8
     u8::from(up[k + 1]) + u8::from(mid[k]) + u8::from(mid[k + 2]) + u8::from(down[k + 1])
 }
 
-// The number of the marks round place `k` of the middle line that are true.
+// How many of the marks around place `k` of the middle line are true.
 fn count_around(
     connectivity: Connectivity,
     up: &[bool],
@@ -161,7 +161,7 @@ fn marked<T, M: Copy, A: Allocator, F: Fn(&T) -> M>(
     marks
 }
 
-// Appends what the closure `rule` returns at each cell of the next line, and the number of the cells round it that
+// Appends what the closure `rule` returns at each cell of the next line, and the number of the cells around it that
 // pass.
 fn push_line<T, U, A: Allocator, F: Fn(&T) -> bool, G: Fn(&T, u8) -> U>(
     mut made: Vec<U, A>,
@@ -192,7 +192,7 @@ fn push_line<T, U, A: Allocator, F: Fn(&T) -> bool, G: Fn(&T, u8) -> U>(
     made
 }
 
-/// Returns what the closure `rule` returns for a reference to each cell of a board, and the number of the cells round
+/// Returns what the closure `rule` returns for a reference to each cell of a board, and the number of the cells around
 /// it, at a side or all eight, that the board marks with `true`.
 ///
 /// Requires: the closures can be called with these arguments.
@@ -238,7 +238,7 @@ where
     Ok(made)
 }
 
-// The sum of the marks round place `k` of the middle line.
+// The sum of the marks around place `k` of the middle line.
 fn sum_around(connectivity: Connectivity, up: &[u8], mid: &[u8], down: &[u8], k: usize) -> u16
     requires up { k + 2 < length up.now }
     requires mid { k + 2 < length mid.now }
@@ -260,7 +260,7 @@ fn sum_around(connectivity: Connectivity, up: &[u8], mid: &[u8], down: &[u8], k:
     }
 }
 
-// Appends what the closure `rule` returns at each cell of the next line, and the sum of the marks round it.
+// Appends what the closure `rule` returns at each cell of the next line, and the sum of the marks around it.
 fn push_sums<T, U, A: Allocator, F: Fn(&T) -> u8, G: Fn(&T, u16) -> U>(
     mut made: Vec<U, A>,
     marks: (&[u8], &[u8], &[u8]),
@@ -290,7 +290,7 @@ fn push_sums<T, U, A: Allocator, F: Fn(&T) -> u8, G: Fn(&T, u16) -> U>(
     made
 }
 
-/// Same as [`map_counts`], with the sum of the marks of the cells round a cell in place of the number of those that are
+/// Same as [`map_counts`], with the sum of the marks of the cells around a cell in place of the number of those that are
 /// `true`.
 ///
 /// Requires: as `map_counts`.

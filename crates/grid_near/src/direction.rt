@@ -1,4 +1,4 @@
-//! Directions, and the positions beside a position.
+//! Directions, and the positions next to a position.
 ghost use Rattle.std.specs.Prelude.{◌≡◌, ◌+◌, ◌<◌, ◌≤◌, ◌%◌, ℕ, MatchOption};
 ghost use Rattle.grid_near.specs.Prelude.{box_of, clockwise, IsBeside, IsWithin};
 
@@ -82,7 +82,7 @@ impl Direction {
         }
     }
 
-    // The number of a direction, clockwise from the one up.
+    // The index of a direction, clockwise from the one up.
     pub(crate) fn number(self) -> usize
         ensures is { result ≡ clockwise self }
         ensures below { result < 8 }

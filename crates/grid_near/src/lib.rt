@@ -1,4 +1,4 @@
-//! The cells round a cell of a table that a slice stores, row by row, on a table with edges or on one whose edges meet.
+//! The cells around a cell of a table that a slice stores, row by row, on a table with edges or on one whose edges meet.
 //! Users call them as methods of a grid.
 #![tactic(auto)]
 

@@ -1,4 +1,4 @@
-//! Iterators over the cells round a cell, of a table with edges or of one whose edges meet.
+//! Iterators over the cells around a cell, of a table with edges or of one whose edges meet.
 ghost use Rattle.std.specs.Prelude.{◌≡◌, ◌*◌, ◌<◌, ◌≤◌, ⊤, length, min, IfSome, Some};
 ghost use Rattle.grid_base.specs.Prelude.{table_of, IsSize};
 ghost use Rattle.std.specs.Iterator.{YieldsFirstBy, UpTo, at_most};
@@ -17,7 +17,7 @@ use std::alloc::AllocError;
 use std::iter::FusedIterator;
 use std::marker::Model;
 
-/// An iterator over the cells round a cell, each with its row and its column, seen as the list of those that remain.
+/// An iterator over the cells around a cell, each with its row and its column, seen as the list of those that remain.
 ///
 /// Away from the edges all of them are there, and each step is one read; at an edge, a step looks for the next that is
 /// in the table, or goes to the other edge, where they meet. A loop over it ends at a fixed number of steps, so that a
@@ -28,7 +28,7 @@ pub struct Neighbors<'a, T> {
     at: (usize, usize),
     connectivity: Connectivity,
     edges: Edges,
-    // None of the cells round this one is past an edge, and the place of the first of its box of nine.
+    // None of the cells around this one is past an edge, and the place of the first of its box of nine.
     inner: bool,
     first: usize,
     // The number of steps that are done, and, at an edge that is open, of the positions that are passed.
@@ -36,7 +36,7 @@ pub struct Neighbors<'a, T> {
     tried: usize,
 }
 
-/// An iterator over the cells round a cell of a table whose edges meet.
+/// An iterator over the cells around a cell of a table whose edges meet.
 pub type WrappedNeighbors<'a, T> = Neighbors<'a, T>;
 
 impl<'a, T> Model for Neighbors<'a, T> {
@@ -53,7 +53,7 @@ impl<'a, T> Model for Neighbors<'a, T> {
         a.table.strides a.at a.connectivity a.edges a.first a.inner a.passed a.tried };
 }
 
-/// Returns an iterator over the cells round cell `at` of the table that a slice stores, row by row, each with its row
+/// Returns an iterator over the cells around cell `at` of the table that a slice stores, row by row, each with its row
 /// and its column.
 ///
 ///     [1, 2, 3, 4, 5, 6] of 2 rows   (0, 2), Sides, Open    ((0, 1), 2), ((1, 2), 6)
@@ -62,7 +62,7 @@ impl<'a, T> Model for Neighbors<'a, T> {
 ///     [1, 2, 3, 4] of 1 row          (0, 0), All, Joined    4, 1, 2, 4, 2, 4, 1, 2, with their positions
 ///
 /// Where edges meet, these are four cells or eight, some of them more than once in a table of one or two rows or
-/// columns. Round a position out of range it gives the cells of the table that touch it, or none where edges meet.
+/// columns. Around a position out of range it gives the cells of the table that touch it, or none where edges meet.
 ///
 /// Requires: the slice has as many cells as the layout.
 /// Cost: each step takes the same time, in either order; no memory.
@@ -136,7 +136,7 @@ impl<'a, T> Iterator for Neighbors<'a, T> {
 
     ghost remaining = { λ rest. at_most (min (length rest) 8) };
 
-    // Its callers know the connectivity and the edges, so that half of it is gone there.
+    // Its callers know the connectivity and the edges, so that half of it is compiled away there.
     #[inline(always)]
     fn next(&mut self) -> Option<((usize, usize), &'a T)> {
         let k = self.passed;
@@ -200,7 +200,7 @@ impl<'a, T> Clone for Neighbors<'a, T> {
     }
 }
 
-// How many steps are done at the start: all, where edges meet, round a position out of range.
+// How many steps are done at the start: all, where edges meet, around a position out of range.
 fn done_at_start(
     size: (usize, usize),
     at: (usize, usize),
@@ -219,7 +219,7 @@ fn done_at_start(
     }
 }
 
-// Finds the first cell that is in the table at step `from` or later, and the number of the step after it.
+// Finds the first cell that is in the table at step `from` or later, and the index of the step after it.
 #[inline(always)]
 fn find_from<T>(
     table: Strided<'_, T>,

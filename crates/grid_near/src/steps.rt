@@ -1,4 +1,4 @@
-//! The steps round a cell: where each of them leads, and which of them are within the size.
+//! The steps around a cell: where each of them leads, and which of them are within the size.
 ghost use Rattle.std.specs.Prelude.{◌≡◌, ◌<◌, ◌≤◌, ◌/◌, ◌%◌, IsTrue, ◌↔◌, length};
 ghost use Rattle.grid_near.specs.Prelude.{step_count, around, box, positions_from, strides_of, IsInner, IsThere};
 
@@ -23,14 +23,14 @@ pub(crate) fn strides_of(order: Order, size: (usize, usize)) -> (usize, usize)
     }
 }
 
-// Whether all cells round a position are within the size.
+// Whether all cells around a position are within the size.
 pub(crate) fn is_inner(size: (usize, usize), at: (usize, usize)) -> bool
     ensures { IsTrue result ↔ IsInner size at }
 {
     at.0 > 0 && at.1 > 0 && at.0 < size.0.saturating_sub(1) && at.1 < size.1.saturating_sub(1)
 }
 
-// The number of steps round a cell.
+// The number of steps around a cell.
 pub(crate) fn step_count(connectivity: Connectivity) -> usize
     ensures { result ≡ step_count connectivity }
 {
@@ -53,7 +53,7 @@ pub(crate) fn offset(connectivity: Connectivity, k: usize) -> (usize, usize)
     (cell / 3, cell % 3)
 }
 
-// The number before `at`, `at`, or the number after it, for `i` 0, 1 or 2, round `len` numbers.
+// `at - 1`, `at` or `at + 1`, modulo `len`, for `i` 0, 1 or 2.
 pub(crate) fn around(len: usize, at: usize, i: usize) -> usize
     requires { at < len }
     ensures is { result ≡ around len at i }
@@ -66,7 +66,7 @@ pub(crate) fn around(len: usize, at: usize, i: usize) -> usize
     }
 }
 
-// Whether the cell in row `i` and column `j` of the box of nine cells round a position is within the size.
+// Whether the cell in row `i` and column `j` of the box of nine cells around a position is within the size.
 pub(crate) fn is_there(size: (usize, usize), at: (usize, usize), i: usize, j: usize) -> bool
     ensures { IsTrue result ↔ IsThere size at i j }
 {

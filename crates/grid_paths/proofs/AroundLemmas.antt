@@ -1,4 +1,4 @@
--- The list of the eight positions round one.
+-- The list of the eight positions around one.
 use Rattle.std.proofs.Common.{◌≡◌, ℕ, zero, suc, ◌+◌, ◌-◌, ◌%◌, ◌^◌, ◌<◌, ◌⊎◌, ◌↔◌, List, [], ◌∷◌, Contains, length, Some, ◌≤◌, refl, sym, ◌∙◌, ap, subst, arith, inl, inr, ⊎_elim, slice_get}
 use Rattle.grid_paths.proofs.Common.{cases_lt, Contains-get_or, slice_get_within, slice_get_read, get_or_from_slice_get, IsAt, DifferByOne, AreBeside, AreDiagonal, AreSteps}
 use Rattle.grid_near.specs.declared.steps.Connectivity.TheVariants.{Four, Eight}

@@ -99,7 +99,7 @@ module _ (connectivity : Connectivity) (costs : List (List (Option ℕ))) (from 
     pub its_bound : x.0.0 ≤ 2 ^ 32 * unreached left
     its_bound = s.bound x.0.1 x.0.0 its_number
 
-    -- and the positions round it are entered
+    -- and the positions around it are entered
     module _ (table : IsTable left) (u' : List (List (Option ℕ))) (heap' : List Entry) (r : Relaxes (IsStep connectivity x.0.1) (with_cell left (x.0.1).0 (x.0.1).1 None) x.0.0 u rest u' heap') where
       left' : List (List (Option ℕ))
       left' = with_cell left (x.0.1).0 (x.0.1).1 None
@@ -474,7 +474,7 @@ module _ {N A : Type 0} {cmp : N → N → Ordering} {w : Reading N} {connectivi
       let room = s.room.sums in
       record { inside = (lr1, lc1); small = omega arith; below = omega arith; whole = n.whole }
 
-  -- and the positions round it are entered
+  -- and the positions around it are entered
   module _ {g : Frontier N A} (e : Enters cmp w (IsStep connectivity x.at) x.sum f' g) where
     left_is : g.left.rows ≡ with_cell f.left.rows x.at.0 x.at.1 None
     left_is = ap (λ l. l.rows) e.left ∙ n.left

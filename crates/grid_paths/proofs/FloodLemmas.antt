@@ -1,4 +1,4 @@
--- A search that goes on from what it took, until it has gone round all: what it took is a flood.
+-- A search that goes on from what it took, until it has gone around all: what it took is a flood.
 use Rattle.std.proofs.Common.{◌≡◌, ℕ, zero, suc, ◌+◌, ◌<◌, ◌≤◌, ◌⊎◌, Bool, true, false, cond, Option, None, Some, List, [], length, Contains, refl, sym, ◌∙◌, ap, subst, arith, inr, ⊎_elim, option_map, slice_get}
 use Rattle.grid_paths.proofs.Common.{cases_lt, slice_get_within, slice_get-map, cell, row_count, col_count, IsTable, tabulate-same, tabulate-cells, IsFull-cells, IsStep, answers_by, IsEntered, IsGoneOn, EnterWalk, IsFlood, way_of, places, IsLeft, undone, AreMarked, IsWritten, TakesAll}
 use Rattle.grid_near.specs.declared.steps.Connectivity.{Connectivity}
@@ -41,7 +41,7 @@ module _ {T : Type 0} (way : T → Enter) (t0 : List (List T)) (table : IsTable 
       let v = map_some way (cell t0 a.0 a.1) On (sym (mapped-cell way t0 table a.0 a.1) ∙ h) in
       ap way (one_cell (cell t0 a.0 a.1) x v.0 e v.1) ∙ v.2
 
--- the flood from some positions, gone round what was taken before `next`
+-- the flood from some positions, gone around what was taken before `next`
 pub record IsTaking {T : Type 0} (way : T → Enter) (mark : T) (connectivity : Connectivity) (starts : List (ℕ × ℕ)) (t0 t : List (List T)) (q : List ((ℕ × ℕ) × T)) (next : ℕ) : Type 0 where
   pub inside : (a : ℕ × ℕ) (x : T) → IsLeft way t a x → IsLeft way t0 a x
   pub all : (a : ℕ × ℕ) (x : T) → IsLeft way t0 a x → IsLeft way t a x ⊎ ((j : ℕ) × (y : T) × (slice_get q j ≡ Some (a, y)))

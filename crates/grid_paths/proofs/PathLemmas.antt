@@ -1,4 +1,4 @@
--- Walks turned round, paths and walks, and a path that follows the numbers down.
+-- Walks reversed, paths and walks, and a path that follows the numbers down.
 use Rattle.std.proofs.Common.{◌≡◌, ℕ, zero, suc, ◌+◌, ◌-◌, ◌<◌, ◌≤◌, Bool, Option, Some, List, [], ◌∷◌, ◌++◌, length, refl, sym, subst, arith, inl, inr, ⊎_elim, add-one, ◌^◌, take, Contains, MatchOption, None, slice_get, length-append, unwrap_or}
 use Rattle.grid_paths.proofs.Common.{slice_get_within, row_count, col_count, IsTable, cell_in_range, AreSteps, IsOpen, DifferByOne, AreBeside, IsStep, Walk, IsLeastSteps, IsPath, IsShortestPath, IsMarked, IsAt, HasLeastUpTo, IsSettled}
 use Rattle.grid_near.specs.declared.steps.Connectivity.{Connectivity}
@@ -116,7 +116,7 @@ module _ (connectivity : Connectivity) (mask : List (List Bool)) where
           (at_push_fresh path b j c e))
           (at_push_fresh path b (j + 1) d f)
 
-  -- beside a position whose number isn't 0 there is one whose number is one less
+  -- next to a position whose step count isn't 0 there is one whose count is one less
   pub one_less : (from : ℕ × ℕ) (u : List (List (Option ℕ))) (d : ℕ) → HasLeastUpTo connectivity mask from u d → (a : ℕ × ℕ) (k : ℕ) → suc k ≤ d → IsMarked u a (suc k) → (b : ℕ × ℕ) × IsStep connectivity a b × IsMarked u b k
   one_less from u d h a k le mark =
       let s = h.least a (suc k) le mark in

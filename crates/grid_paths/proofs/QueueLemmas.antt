@@ -26,7 +26,7 @@ at_either (x ∷ g) q (suc j) a h =
     (λ w. let j_is : j ≡ length g + w.0 = w.1 in let e : suc j ≡ length (x ∷ g) + w.0 = omega arith in inr (w.0, e, w.2))
     (at_either g q j a h)
 
--- what is reached behind a queue is reached behind a longer one
+-- what is reached after a queue is reached after a longer one
 module _ (near : ℕ × ℕ → Type 0) (mask : List (List Bool)) (k : ℕ) (u : List (List (Option ℕ))) (q : List (ℕ × ℕ)) (u' : List (List (Option ℕ))) (q' g : List (ℕ × ℕ)) (w : WentAround near mask k u q u' q') where
   s : Spread near mask k u q u' q'
   s = w.spread

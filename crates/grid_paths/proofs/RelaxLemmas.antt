@@ -1,4 +1,4 @@
--- One position entered, and the positions round one.
+-- One position entered, and the positions around one.
 use Rattle.std.proofs.Common.{◌≡◌, ℕ, ◌+◌, ◌^◌, ◌<◌, ◌≤◌, ◌⊎◌, ◌↔◌, Option, None, Some, List, ◌∷◌, length, Contains, refl, sym, ◌∙◌, ap, subst, arith, inl, inr, ⊎_elim, IsPermutation}
 use Rattle.grid_paths.proofs.Common.{cases_lt, row_count, col_count, cell, with_cell, IsTable, cell-with_same, cell-with_other, same_or_other, AreSteps, IsAt, IsStep, Holds, Entry, IsWaiting, HoldsUpTo, IsClosed, Relaxes, IsFrontier, Enters, cell_in_range, Reading, Puts, sums_of, waiting}
 use Rattle.std.specs.declared.cmp.Ordering.{Ordering}

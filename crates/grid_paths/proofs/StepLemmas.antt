@@ -1,4 +1,4 @@
--- One position marked, those of a list, those round a position, and the start.
+-- One position marked, those of a list, those around a position, and the start.
 use Rattle.std.proofs.Common.{◌≡◌, ◌≢◌, ℕ, zero, suc, ◌+◌, ◌^◌, ◌<◌, ◌≤◌, ◌⊎◌, Bool, Option, None, Some, List, [], ◌∷◌, ◌++◌, length, Contains, set, get_or, refl, sym, ◌∙◌, ap, subst, arith, rules, inl, inr, ⊎_elim, ◌↔◌, sum_by, slice_get, length-append}
 use Rattle.grid_paths.proofs.Common.{cases_eq, cases_lt, sum_by-set, slice_get_within, slice_get_read, get_or_from_slice_get, row, cell, with_cell, tabulate, IsTable, IsFull, cell-tabulate, rows-tabulate, cell_past_rows, cell_past_cols, cell_in_range, cell-with_same, cell-with_other, IsOpen, IsStep, WalkFrom, IsMarked, IsAt, IsReached, Spread, WentAround, free, unreached, AreSteps, Marks, Spreads}
 use Rattle.grid_base.proofs.Common.{InRange}

@@ -91,7 +91,7 @@ module _ (connectivity : Connectivity) (costs : List (List (Option ℕ))) where
       once (suc i) zero d e f = let q : c ≡ d = cc in absurd (fresh i (subst (λ y. slice_get (x ∷ path) i ≡ Some y) (sym q) e))
       once (suc i) (suc n) d e f = ap suc (p.once i n d e f)
 
--- a position of the path is on the trail: at place n or behind it, or it is `here`, just before
+-- a position of the path is on the trail: at place n or after it, or it is `here`, just before
 -- that place
 abbrev pub IsPassed : List Settled → Settled → ℕ → ℕ × ℕ → Type 0
 IsPassed trail here n c = (j : ℕ) × (x : Settled) × (slice_get trail j ≡ Some x) × (x.at ≡ c) × ((n ≤ j) ⊎ ((c ≡ here.at) × (n ≤ j + 1)))
@@ -123,7 +123,7 @@ module _ (connectivity : Connectivity) (from : ℕ × ℕ) (costs : List (List (
       passed (suc i) c h = absurd (cc)
 
   module _ (here : Settled) (n : ℕ) (path : List (ℕ × ℕ)) (f : IsFollowed connectivity from costs trail last here (suc n) path) (y : Settled) (at : slice_get trail n ≡ Some y) where
-    -- of the path, all is behind y, or is `here`
+    -- of the path, all is after y, or is `here`
     behind : (i : ℕ) (c : ℕ × ℕ) → slice_get (reverse path) i ≡ Some c → (j : ℕ) × (x : Settled) × (slice_get trail j ≡ Some x) × (x.at ≡ c) × (n ≤ j) × ((suc n ≤ j) ⊎ (c ≡ here.at))
     behind i c h =
         let w = f.passed i c h in

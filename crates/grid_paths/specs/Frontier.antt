@@ -89,7 +89,7 @@ module _ {N A : Type 0} (cmp : N → N → Ordering) (w : Reading N) where
     pub relaxes : Relaxes near f.left.rows sum (sums_of w f) (waiting w f) (sums_of w f')
         (waiting w f')
 
-  -- those round x can be entered
+  -- those around x can be entered
   pub record IsReady (f : Frontier N A) (x : Settled) : Type 0 where
     pub inside : InRange f.left.rows x.at.0 x.at.1
     pub small : x.sum + 2 ^ 32 ≤ 2 ^ 128

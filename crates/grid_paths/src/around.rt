@@ -1,4 +1,4 @@
-//! The positions round one.
+//! The positions around one.
 ghost use Rattle.std.specs.Prelude.{◌≡◌, ◌<◌, ◌+◌, ◌^◌, length, take};
 ghost use Rattle.grid_paths.specs.Prelude.{AreSteps};
 ghost use Rattle.grid_near.specs.declared.steps.Connectivity.TheVariants.{Four, Eight};

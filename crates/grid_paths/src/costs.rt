@@ -56,7 +56,7 @@ pub(crate) struct Frontier<N: Width, A: Allocator> {
     left: Grid<Option<u32>, A>,
     // The least sums that were found.
     sums: Grid<N, A>,
-    // The positions that wait, each behind its sum.
+    // The positions that wait, keyed by their sums.
     heap: BinaryHeap<Reverse<(N, N)>, A>,
 }
 

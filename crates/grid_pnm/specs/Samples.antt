@@ -11,7 +11,7 @@ abbrev pub prepend : List ℕ → Result (List ℕ) PnmError → Result (List �
 prepend samples (Err e) = Err e
 prepend samples (Ok later) = Ok (samples ++ later)
 
--- the sample that the number behind white space and comments is, and what is behind it, in a
+-- the sample that the number after white space and comments is, and what is after it, in a
 -- picture of len bytes
 abbrev pub next_sample : ℕ → ℕ → List ℕ → Result (ℕ × List ℕ) PnmError
 next_sample len max bytes = and_then (next_number len bytes) (λ sample.
@@ -38,7 +38,7 @@ raw_samples at max bytes = if max == 255 then Ok bytes
 abbrev pub sample_count : ℕ → Header → ℕ
 sample_count channels header = header.rows * header.cols * channels
 
--- the samples of a picture of this header: the bytes behind it, or the numbers that these write; there
+-- the samples of a picture of this header: the bytes after it, or the numbers that these write; there
 -- are at least as many bytes as samples
 unfoldable pub samples_of : ℕ → List ℕ → Header → Result (List ℕ) PnmError
 samples_of channels bytes header = let raster = drop header.raster bytes in

@@ -12,7 +12,7 @@ pub(crate) fn is_white(byte: u8) -> bool
     byte == b' ' || byte == b'\t' || byte == b'\n' || byte == b'\r'
 }
 
-// What is behind the white space and the comments at the front.
+// What is after the white space and the comments at the front.
 pub(crate) fn behind_gap(bytes: &[u8]) -> &[u8]
     ensures rest { result.now ≡ behind_gap false bytes.now }
     ensures shorter { length result.now ≤ length bytes.now }
@@ -44,7 +44,7 @@ fn digit_count(bytes: &[u8]) -> usize
         .count()
 }
 
-// The number that the digits at the front write, and what is behind them.
+// The number that the digits at the front write, and what is after them.
 pub(crate) fn number_at(bytes: &[u8]) -> Option<(usize, &[u8])>
     ensures number { MatchOption result (number_at bytes.now ≡ None)
         (λ number. number_at bytes.now ≡ Some (number.0, number.1.now)) }
@@ -55,7 +55,7 @@ pub(crate) fn number_at(bytes: &[u8]) -> Option<(usize, &[u8])>
     Some((index(word)?, rest))
 }
 
-// The number behind white space and comments, and what is behind it, in a picture of `len` bytes.
+// The number after white space and comments, and what is after it, in a picture of `len` bytes.
 #[tactic(auto, unfolding(crate::specs::Scan::next_number))]
 pub(crate) fn next_number(len: usize, bytes: &[u8]) -> Result<(usize, &[u8]), PnmError>
     ensures number { MatchResult result

@@ -70,7 +70,7 @@ fn copy_cells<T: Copy>(view: &GridView<'_, T>, r: usize, to: &mut [T])
     }
 }
 
-// A row of fewer cells stays in the cache with those beside it, also where it runs across the storage.
+// A row of fewer cells stays in the cache with those next to it, also where it runs across the storage.
 const LONG: usize = 1024;
 
 // To begin a row of fewer cells costs more than to clone them with those of the other rows, one by one.

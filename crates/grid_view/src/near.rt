@@ -1,4 +1,4 @@
-//! Iterators over the cells round a cell of a view, and counts of them. They are those of a grid.
+//! Iterators over the cells around a cell of a view, and counts of them. They are those of a grid.
 ghost use Rattle.std.specs.Prelude.{◌≡◌, ◌≤◌, length};
 ghost use Rattle.grid_base.specs.Prelude.{InRange, IsSize, GivesCells, row_count, col_count};
 ghost use Rattle.grid_near.specs.Around.{HoldsCells, by_steps, strided_table};
@@ -129,7 +129,7 @@ impl<'a, T> GridView<'a, T> {
         count_near(self.wrapped_neighbors8(at), test)
     }
 
-    // The cells round a cell, by which steps, and by what the edges do.
+    // The cells around a cell, by their connectivity and by what the edges do.
     #[inline(always)]
     fn cells_around(
         &self,

@@ -6,7 +6,7 @@ use crate::as_view::AsView;
 use crate::view::GridView;
 
 // A part of at most this many rows and columns is compared cell by cell. Where one view runs along the storage and the
-// other across it, the cells of a small part stay in the cache until the lines beside them are read. Boards of 4096 by
+// other across it, the cells of a small part stay in the cache until the lines next to them are read. Boards of 4096 by
 // 4096 take twice as long by parts of 8 or of 32.
 const SMALL: usize = 16;
 

@@ -21,7 +21,7 @@ use std::io;
 use test_support::fixtures::{Heap, ORDERS};
 use test_support::fuse::Fuse;
 
-// What a call starts from that has memory for all, beside a board of this size.
+// What a call starts from that has memory for all, and a board of this size.
 fn ready(alloc: Global, size: (usize, usize)) -> Start {
     let start = Start::new(alloc, size, Order::RowMajor, DIGIT, u64::MAX);
     start.ready();

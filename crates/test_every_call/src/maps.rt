@@ -1,4 +1,4 @@
-//! Maps of a whole board, with what is round each cell or of two boards, the positions of cells, what is seen from one, and
+//! Maps of a whole board, with what is around each cell or of two boards, the positions of cells, what is seen from one, and
 //! a value for each line.
 use crate::state::{Answer, Board, Call, Start, both_came, came};
 use grid::{Grid, GridView, Neighbors, Order, WrappedNeighbors};

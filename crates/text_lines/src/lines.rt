@@ -11,7 +11,7 @@ ghost use Rattle.text_lines.specs.Lines.{first_line, later_lines, without_return
 ///     Lines::of(b"ab\r\n\nc")   (1, "ab"), (2, ""), (3, "c")
 #[derive(Drop)]
 pub struct Lines<'a> {
-    /// What is behind the lines that came.
+    /// What is after the lines that came.
     pub rest: &'a [u8],
     /// How many lines came.
     pub count: usize,
@@ -69,7 +69,7 @@ fn bytes_without_return(line: &[u8]) -> &[u8]
     line.strip_suffix(b"\r").unwrap_or(line)
 }
 
-/// Returns the first line of a text, without its end, and what is behind it.
+/// Returns the first line of a text, without its end, and what is after it.
 ///
 ///     cut_line("ab\r\n\nc")   ("ab", "\nc")
 pub fn cut_line(text: &str) -> (&str, &str)

@@ -36,7 +36,7 @@ fn first_part(lines: usize, width: usize) -> usize
 }
 
 // A square is transposed. Of more lines, the first part and the rest are laid out anew, and then the lines of the rest
-// go behind those of the first part. Fewer lines are laid out by the reverse steps.
+// go after those of the first part. Fewer lines are laid out by the reverse steps.
 fn relay_cells<T>(cells: &mut [T], lines: usize, width: usize)
     requires cells { length cells.old ≡ lines * width }
     requires fits { lines * width < 2 ^ 64 }

@@ -17,7 +17,7 @@ const LONG_SHIFT: usize = 16;
 // As many bytes as one vector of the processor holds.
 const VECTOR: usize = 16;
 
-// Moves the `n` cells that are `shift` places behind `start` there, the first first, by `n` swaps for a shift, which the
+// Moves the `n` cells that are `shift` places after `start` there, the first first, by `n` swaps for a shift, which the
 // run goes on with.
 //
 //     [1, 2, 3, 4, 5]   move_forward(0, 2, 3)   [3, 4, 5, 2, 1]   3 swaps

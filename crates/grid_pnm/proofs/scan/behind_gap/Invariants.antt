@@ -1,4 +1,4 @@
--- What is behind the gap is behind the rest of it.
+-- What is after the gap is after the rest of it.
 use Rattle.std.proofs.Common.{◌≡◌, ◌≤◌, false, length}
 use Rattle.grid_pnm.specs.Scan.{behind_gap}
 use Rattle.grid_pnm.proofs.scan.behind_gap.Given as goal
