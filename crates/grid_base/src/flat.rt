@@ -11,13 +11,13 @@ mod indexed;
 mod line_iter;
 mod line_iter_mut;
 mod positions;
-mod relay;
 mod room;
 mod rotations;
 mod row_iter;
 mod span;
 mod square;
 mod strided_iter;
+mod transpose;
 
 pub(crate) use counted::Swaps;
 pub use groups::{Groups, weave};

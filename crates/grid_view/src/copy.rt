@@ -96,7 +96,7 @@ fn clones_in_turn<T: Clone, A: Allocator>(
 }
 
 // Returns clones of the cells of a view, row by row. Where long rows run across the storage, each cell of them would be
-// fetched from memory by itself; so the cells are cloned along the storage, and laid out anew.
+// fetched from memory by itself; so the cells are cloned along the storage, and then transposed in place.
 fn clones_of<T: Clone, A: Allocator>(
     alloc: A,
     view: &GridView<'_, T>,
@@ -109,7 +109,7 @@ fn clones_of<T: Clone, A: Allocator>(
     }
     let (rows, cols) = view.size();
     let mut flat = Flat::from_vec(clones_in_turn(alloc, &view.transposed())?);
-    flat.relay(cols, rows);
+    flat.transpose_in_place(cols, rows);
     Ok(flat.into_vec())
 }
 

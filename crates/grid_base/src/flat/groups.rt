@@ -190,7 +190,7 @@ impl<T, A: Allocator> Flat<T, A> {
 }
 
 // Whether groups leave their lines faster by moves of whole blocks than by a swap for each cell: the groups fit the room,
-// there are not few cells, and of a single line not many.
+// the cells take at least `FEW_BYTES`, and those of a single line less than `MANY_BYTES`.
 fn moves_at_once<T>(cells: &[T], groups: Groups) -> bool
     requires { length cells.now ≡ groups.lines * (groups.width + groups.count) }
 {
