@@ -10,7 +10,7 @@ use grid_paths::{Connectivity, Enter, flood};
 use grid_text::{from_text, to_text};
 use std::alloc::{AllocError, Global};
 use std::io;
-use text_lines::{Words, index};
+use text_lines::{Words, parse_index};
 
 #[derive(Clone, Copy, PartialEq)]
 enum Shown {
@@ -54,7 +54,10 @@ fn field(alloc: Global, text: &str) -> Result<Grid<Cell>> {
 fn read_move(line: &str) -> Option<(&str, (usize, usize))> {
     let mut words = Words::of(line.as_bytes())?;
     let word = words.next()?;
-    Some((word, (index(words.next()?)?, index(words.next()?)?)))
+    Some((
+        word,
+        (parse_index(words.next()?)?, parse_index(words.next()?)?),
+    ))
 }
 
 // Opens a cell, and around each that no mine touches all others, as far as these lead.

@@ -2,7 +2,7 @@
 #![tactic(auto)]
 
 mod across;
-mod numbers;
+mod indices;
 mod retain;
 mod rewrite;
 mod roll;

@@ -92,7 +92,7 @@ pub(crate) fn plain_samples<A: Allocator>(
     Ok(samples)
 }
 
-// The sample that the number after white space and comments is, and what is after it.
+// The sample that the number after white space and comments is, and the rest after it.
 fn next_sample(len: usize, max: u8, bytes: &[u8]) -> Result<(u8, &[u8]), PnmError>
     ensures { MatchResult result
         (λ sample. next_sample len max bytes.now ≡ Ok (sample.0, sample.1.now))

@@ -15,7 +15,7 @@ use text_lines::{Words, cut_line};
 ///     [[1, 0, 0], [0, 1, 0]]
 ///
 /// A line ends at a line feed, with or without a carriage return before it, or at the end of the text. A line feed at
-/// the end of the text adds no row. A blank line is a row without cells: beside a row with cells it is ragged, and a
+/// the end of the text adds no row. A blank line is a row without cells: among rows with cells it is ragged, and a
 /// text of blank lines is the empty grid.
 ///
 /// Requires: `read` can be called at every character.

@@ -1,9 +1,9 @@
--- Each comparison of two numbers is a call at their rows, so an order of the rows is one of their numbers.
+-- Each comparison of two indices is a call at their rows, so an order of the rows is one of their indices.
 use Rattle.std.proofs.Common.{rules, ◌≡◌, ◌∙◌, [], ◌∷◌, map, length, refl, ap, subst, IsSortedBy, is_lt}
 use Rattle.grid_base.proofs.Common.{answers_by, AlwaysReturns, IsStableBy, always_mut, mut_next, mut_by, row}
 use denote.Param.Members.{Called}
 use Rattle.grid_lines.proofs.OrderLemmas.{both, numbered_all, less_by, order_by, sorted_values, stable_values}
-use Rattle.grid_lines.proofs.numbers.numbers_by.Goals as goal
+use Rattle.grid_lines.proofs.indices.sorted_indices_by.Goals as goal
 
 pub sort_by-requires : goal.sort_by-requires
 sort_by-requires g c = mut_by _ (λ s. always_mut g.F.FnMut s.0.now) (λ s a h. search rules)
@@ -15,9 +15,9 @@ sort_by-requires g c = mut_by _ (λ s. always_mut g.F.FnMut s.0.now) (λ s a h. 
 pub returns-clause-ordered : goal.returns-clause-ordered
 returns-clause-ordered g c = λ lt o h.
     let rows = c.args.grid.now.rows in
-    let start = c.in_ok-numbers.numbers.items in
+    let start = c.in_ok-indices.indices.items in
     let items = c.sort_by.new.self.items in
-    let all : map (row rows) start ≡ rows = ap (map (row rows)) c.in_ok-numbers.ensures ∙ numbered_all rows (length rows) [] refl in
+    let all : map (row rows) start ≡ rows = ap (map (row rows)) c.in_ok-indices.ensures ∙ numbered_all rows (length rows) [] refl in
     let sorts : IsSortedBy (less_by (row rows) lt) items × IsStableBy (less_by (row rows) lt) start items =
     both (c.in_ok-sort_by.ensures.sorted (less_by (row rows) lt) (order_by (row rows) lt o)) (c.in_ok-sort_by.ensures.stable (less_by (row rows) lt) (order_by (row rows) lt o))
     (answers_by _ _ (λ s. AlwaysReturns g.F.FnMut (λ a r. is_lt r ≡ lt a.0 a.1.0) s.0.now × (s.1.now.rows ≡ rows))

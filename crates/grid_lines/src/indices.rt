@@ -1,4 +1,4 @@
-//! The numbers of the rows, in the order in which the rows are wanted.
+//! The indices of the rows, in the order in which the rows are wanted.
 ghost use Rattle.std.specs.Prelude.{◌≡◌, Bool, List, IfOk, IsPermutation, IsSortedBy, map};
 ghost use Rattle.grid_lines.specs.Prelude.{IsStrictWeakOrder, range_with_len, IsStableBy, IsSortedByKey, IsStableByKey, row, row_count, ComparesLinesAs, GivesLineKey};
 
@@ -6,12 +6,12 @@ use grid::{Grid, GridLineIter};
 use std::alloc::{AllocError, Allocator};
 use std::cmp::Ordering;
 
-// Returns the numbers of the rows, from 0 on.
-pub(crate) fn row_numbers<T, A: Allocator + Clone>(
+// Returns the indices of the rows, from 0 on.
+pub(crate) fn row_indices<T, A: Allocator + Clone>(
     grid: &Grid<T, A>,
 ) -> Result<Vec<usize, A>, AllocError>
-    ensures { IfOk result (λ numbers.
-        numbers.items ≡ range_with_len 0 (row_count grid.now.rows)) }
+    ensures { IfOk result (λ indices.
+        indices.items ≡ range_with_len 0 (row_count grid.now.rows)) }
 {
     (0..grid.rows()).collect(grid.allocator().clone()?)
 }
@@ -27,53 +27,53 @@ fn line<T, A: Allocator>(grid: &Grid<T, A>, r: usize) -> GridLineIter<'_, T>
     }
 }
 
-// Returns the numbers of the rows, sorted by what `compare` returns for them.
-pub(crate) fn numbers_by<T, A: Allocator + Clone, F>(
+// Returns the indices of the rows, sorted by what `compare` returns for them.
+pub(crate) fn sorted_indices_by<T, A: Allocator + Clone, F>(
     grid: &Grid<T, A>,
     mut compare: F,
 ) -> Result<Vec<usize, A>, AllocError>
 where
     F: FnMut(GridLineIter<'_, T>, GridLineIter<'_, T>) -> Ordering,
     requires { F.IsAlwaysCallable compare }
-    ensures permutation { IfOk result (λ numbers.
-        IsPermutation (range_with_len 0 (row_count grid.now.rows)) numbers.items) }
-    ensures ordered { IfOk result (λ numbers. (lt : List T → List T → Bool)
+    ensures permutation { IfOk result (λ indices.
+        IsPermutation (range_with_len 0 (row_count grid.now.rows)) indices.items) }
+    ensures ordered { IfOk result (λ indices. (lt : List T → List T → Bool)
         → IsStrictWeakOrder lt → ComparesLinesAs F.FnMut lt compare
-        → IsSortedBy lt (map (row grid.now.rows) numbers.items)
-        × IsStableBy lt grid.now.rows (map (row grid.now.rows) numbers.items)) }
+        → IsSortedBy lt (map (row grid.now.rows) indices.items)
+        × IsStableBy lt grid.now.rows (map (row grid.now.rows) indices.items)) }
 {
-    let mut numbers = row_numbers(grid)?;
-    numbers.sort_by(
+    let mut indices = row_indices(grid)?;
+    indices.sort_by(
         |a: &usize, b: &usize| -> Ordering
             requires { F.IsAlwaysCallable compare }
             ensures { F.step compare.entry (row grid.entry.now.rows a.now)
                 (row grid.entry.now.rows b.now) result compare.exit }
         { compare(line(grid, *a), line(grid, *b)) },
     )?;
-    Ok(numbers)
+    Ok(indices)
 }
 
-// Returns the numbers of the rows, sorted by the keys that `key` returns for them; it is called once for each.
-pub(crate) fn numbers_by_key<T, K: Ord + Drop, A: Allocator + Clone, F>(
+// Returns the indices of the rows, sorted by the keys that `key` returns for them; it is called once for each.
+pub(crate) fn sorted_indices_by_key<T, K: Ord + Drop, A: Allocator + Clone, F>(
     grid: &Grid<T, A>,
     mut key: F,
 ) -> Result<Vec<usize, A>, AllocError>
 where
     F: FnMut(GridLineIter<'_, T>) -> K,
     requires { F.IsAlwaysCallable key }
-    ensures permutation { IfOk result (λ numbers.
-        IsPermutation (range_with_len 0 (row_count grid.now.rows)) numbers.items) }
-    ensures ordered { IfOk result (λ numbers. (given : List T → K)
+    ensures permutation { IfOk result (λ indices.
+        IsPermutation (range_with_len 0 (row_count grid.now.rows)) indices.items) }
+    ensures ordered { IfOk result (λ indices. (given : List T → K)
         → GivesLineKey F.FnMut given key
-        → IsSortedByKey given K.cmp (map (row grid.now.rows) numbers.items)
-        × IsStableByKey given K.cmp grid.now.rows (map (row grid.now.rows) numbers.items)) }
+        → IsSortedByKey given K.cmp (map (row grid.now.rows) indices.items)
+        × IsStableByKey given K.cmp grid.now.rows (map (row grid.now.rows) indices.items)) }
 {
-    let mut numbers = row_numbers(grid)?;
-    numbers.sort_by_cached_key(
+    let mut indices = row_indices(grid)?;
+    indices.sort_by_cached_key(
         |a: &usize| -> K
             requires { F.IsAlwaysCallable key }
             ensures { F.step key.entry (row grid.entry.now.rows a.now) result key.exit }
         { key(line(grid, *a)) },
     )?;
-    Ok(numbers)
+    Ok(indices)
 }

@@ -3,7 +3,7 @@ use Rattle.std.proofs.Common.{rules, ◌≡◌, ◌∙◌, Bool, List, [], ◌�
 use Rattle.grid_base.proofs.Common.{answers_by, ranks_by, IsStrictWeakOrder, AlwaysReturns, IsStableBy, always_mut, mut_next, mut_by, row}
 use denote.Param.Members.{Called}
 use Rattle.grid_lines.proofs.OrderLemmas.{both, numbered_all, less_by, sorted_values, stable_values}
-use Rattle.grid_lines.proofs.numbers.numbers_by_key.Goals as goal
+use Rattle.grid_lines.proofs.indices.sorted_indices_by_key.Goals as goal
 
 pub sort_by_cached_key-requires : goal.sort_by_cached_key-requires
 sort_by_cached_key-requires g c = mut_by _ (λ s. always_mut g.F.FnMut s.0.now) (λ s a h. search rules)
@@ -15,9 +15,9 @@ sort_by_cached_key-requires g c = mut_by _ (λ s. always_mut g.F.FnMut s.0.now) 
 pub returns-clause-ordered : goal.returns-clause-ordered
 returns-clause-ordered g c = λ given h.
     let rows = c.args.grid.now.rows in
-    let start = c.in_ok-numbers.numbers.items in
+    let start = c.in_ok-indices.indices.items in
     let items = c.sort_by_cached_key.new.self.items in
-    let all : map (row rows) start ≡ rows = ap (map (row rows)) c.in_ok-numbers.ensures ∙ numbered_all rows (length rows) [] refl in
+    let all : map (row rows) start ≡ rows = ap (map (row rows)) c.in_ok-indices.ensures ∙ numbered_all rows (length rows) [] refl in
     let lt : List g.row.T.Denot → List g.row.T.Denot → Bool = λ x y. is_lt (g.K.Ord.cmp (given x) (given y)) in
     let o : IsStrictWeakOrder lt = ranks_by g.met.K.Ord.total given in
     let sorts : IsSortedBy (less_by (row rows) lt) items × IsStableBy (less_by (row rows) lt) start items =

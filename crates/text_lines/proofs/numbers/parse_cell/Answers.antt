@@ -1,7 +1,7 @@
 -- What `parse` reads of a word without a plus.
 use Rattle.std.proofs.Common.{◌≡◌, ◌≢◌, get_or, sym, ◌∙◌, rules}
 use Rattle.text_lines.proofs.NumberLemmas.{cell_plus, cell_from}
-use Rattle.text_lines.proofs.numbers.cell.Goals as goal
+use Rattle.text_lines.proofs.numbers.parse_cell.Goals as goal
 
 pub returns-then-starts_with : goal.returns-then-starts_with
 returns-then-starts_with c =

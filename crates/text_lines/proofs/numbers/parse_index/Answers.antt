@@ -1,7 +1,7 @@
 -- What `parse` reads of a word without a plus.
 use Rattle.std.proofs.Common.{◌≡◌, ◌≢◌, get_or, sym, ◌∙◌, rules}
 use Rattle.text_lines.proofs.NumberLemmas.{index_plus, index_from}
-use Rattle.text_lines.proofs.numbers.index.Goals as goal
+use Rattle.text_lines.proofs.numbers.parse_index.Goals as goal
 
 pub returns-then-starts_with : goal.returns-then-starts_with
 returns-then-starts_with c =
