@@ -1,4 +1,4 @@
-//! The indices of the rows, in the order in which the rows are wanted.
+//! The indices of the rows in sorted order: an argsort.
 ghost use Rattle.std.specs.Prelude.{◌≡◌, Bool, List, IfOk, IsPermutation, IsSortedBy, map};
 ghost use Rattle.grid_lines.specs.Prelude.{IsStrictWeakOrder, range_with_len, IsStableBy, IsSortedByKey, IsStableByKey, row, row_count, ComparesLinesAs, GivesLineKey};
 
@@ -27,7 +27,7 @@ fn line<T, A: Allocator>(grid: &Grid<T, A>, r: usize) -> GridLineIter<'_, T>
     }
 }
 
-// Returns the indices of the rows, sorted by what `compare` returns for them.
+// Returns the indices of the rows, stably sorted by what `compare` returns for the rows.
 pub(crate) fn sorted_indices_by<T, A: Allocator + Clone, F>(
     grid: &Grid<T, A>,
     mut compare: F,
@@ -53,7 +53,8 @@ where
     Ok(indices)
 }
 
-// Returns the indices of the rows, sorted by the keys that `key` returns for them; it is called once for each.
+// Returns the indices of the rows, stably sorted by the keys that `key` returns for the rows; it is called once for
+// each.
 pub(crate) fn sorted_indices_by_key<T, K: Ord + Drop, A: Allocator + Clone, F>(
     grid: &Grid<T, A>,
     mut key: F,

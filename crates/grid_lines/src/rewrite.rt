@@ -4,7 +4,7 @@ ghost use Rattle.grid.specs.Prelude.{HoldsSize, table_of, row_count, col_count, 
 ghost use Rattle.grid_lines.specs.Prelude.{brought, taken_back, AreRewritten, RewritesBy};
 ghost use Rattle.grid_base.specs.declared.order.Order.TheVariants.{RowMajor, ColumnMajor};
 
-use crate::across::runs_across;
+use crate::across::is_worth_laying_out;
 use grid::{Grid, Order};
 use std::alloc::Allocator;
 
@@ -25,7 +25,7 @@ pub fn rewrite_rows<T, A: Allocator, F: FnMut(&mut [T])>(grid: &mut Grid<T, A>, 
     ensures col_count { col_count grid.new.rows ≡ col_count grid.old.rows }
     ensures order { grid.new.order ≡ grid.old.order }
 {
-    if runs_across(grid) {
+    if is_worth_laying_out(grid) {
         grid.lay_out(Order::RowMajor);
         rewrite_stored(grid, f);
         grid.lay_out(Order::ColumnMajor);

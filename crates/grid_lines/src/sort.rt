@@ -2,7 +2,7 @@
 ghost use Rattle.std.specs.Prelude.{◌≡◌, ℕ, List, OnOk, OnErr, IsPermutation, map};
 ghost use Rattle.grid_lines.specs.Prelude.{range_with_len, LinesInOrder, row, row_count, col_count, transposed, AnswersBy, AlwaysComparesNumbers, AreSortedLines, AreStableLines, AscendBy, ComparesNumbers, AreSortedByKey, AreStableByKey, AscendByKey};
 
-use crate::across::runs_across;
+use crate::across::is_worth_laying_out;
 use crate::indices::{row_indices, sorted_indices_by, sorted_indices_by_key};
 use grid::{Grid, GridLineIter, Order};
 use std::alloc::{AllocError, Allocator};
@@ -164,7 +164,7 @@ fn put_in_order<T, A: Allocator + Clone>(
 {
     let mut holds = row_indices(grid)?;
     let mut places = row_indices(grid)?;
-    if runs_across(grid) {
+    if is_worth_laying_out(grid) {
         grid.lay_out(Order::RowMajor);
         arrange(grid, wanted, &mut holds, &mut places);
         grid.lay_out(Order::ColumnMajor);

@@ -8,7 +8,7 @@ use std::alloc::{AllocError, Allocator};
 
 // How many positions a queue has room for from the start. Any number of this size does: the queue grows where it needs
 // to.
-const ROOM: usize = 4096;
+const QUEUE_ROOM: usize = 4096;
 
 // The state of a breadth-first search: the step count or label of each position, and the queue of those to go on from.
 #[derive(Drop)]
@@ -36,6 +36,6 @@ pub(crate) fn new_bfs<T, A: Allocator + Clone>(grid: &Grid<T, A>) -> Result<Bfs<
 {
     let numbers = no_numbers(grid)?;
     let cells = grid.flatten().len();
-    let queue = Vec::with_capacity(grid.allocator().clone()?, cells.min(ROOM))?;
+    let queue = Vec::with_capacity(grid.allocator().clone()?, cells.min(QUEUE_ROOM))?;
     Ok(Bfs { numbers, queue })
 }

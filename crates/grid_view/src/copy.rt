@@ -104,7 +104,7 @@ fn clones_of<T: Clone, A: Allocator>(
     requires { ClonesAreEqual T.is_clone }
     ensures { IfOk result (λ copies. copies.items ≡ concat_rows view.now.rows) }
 {
-    if !view.runs_across() {
+    if !view.has_long_rows_across() {
         return clones_in_turn(alloc, view);
     }
     let (rows, cols) = view.size();
@@ -115,7 +115,7 @@ fn clones_of<T: Clone, A: Allocator>(
 
 impl<'a, T> GridView<'a, T> {
     // Whether long rows run across the storage, and the columns are long too.
-    fn runs_across(&self) -> bool {
+    fn has_long_rows_across(&self) -> bool {
         self.rows.stride == 1
             && self.cols.stride != 1
             && LONG <= self.rows.count

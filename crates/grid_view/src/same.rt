@@ -7,8 +7,8 @@ use crate::view::GridView;
 
 // A part of at most this many rows and columns is compared cell by cell. Where one view runs along the storage and the
 // other across it, the cells of a small part stay in the cache until the lines next to them are read. Boards of 4096 by
-// 4096 take twice as long by parts of 8 or of 32.
-const SMALL: usize = 16;
+// 4096, as in `bench/beside orders`, take twice as long by parts of 8 or of 32.
+const COMPARE_BLOCK: usize = 16;
 
 // Whether the cells of row `r` are the same in two views, in the columns from the first number to before the second.
 fn has_same_cells<T: PartialEq>(
@@ -70,7 +70,7 @@ fn has_same_halves<T: PartialEq>(
 {
     let height = rows.1 - rows.0;
     let width = cols.1 - cols.0;
-    if height <= SMALL && width <= SMALL {
+    if height <= COMPARE_BLOCK && width <= COMPARE_BLOCK {
         return has_same_rows(view, other, rows, cols);
     }
     if height < width {

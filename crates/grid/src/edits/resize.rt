@@ -2,7 +2,7 @@
 ghost use Rattle.std.specs.Prelude.{◌≡◌, ◌<◌, ◌≤◌, IsOk, OnOk, OnErr};
 ghost use Rattle.grid.specs.Prelude.{row_count, col_count, FailsBySize, IsCorner, IsResized, ResizesTo};
 
-use super::has_room;
+use super::fits_usize;
 use crate::exchange::exchange_part;
 use crate::{Grid, GridError};
 use std::alloc::Allocator;
@@ -54,7 +54,7 @@ impl<T, A: Allocator> Grid<T, A> {
         ensures fails { FailsBySize rows cols result }
         ensures unchanged { OnErr result (self.new ≡ self.old) }
     {
-        if !has_room(0, rows, cols) {
+        if !fits_usize(0, rows, cols) {
             return Err(GridError::TooLarge);
         }
         let alloc = self.flat.allocator().clone()?;

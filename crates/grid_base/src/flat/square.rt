@@ -5,7 +5,7 @@ ghost use Rattle.grid_base.specs.Prelude.{Mirrored, Transposed};
 
 // A part of at most this many rows and columns is swapped cell by cell. A line of a board of 4096 by 4096 is as long as
 // a page, so the lines of a larger part drive each other out of the cache.
-const SMALL: usize = 8;
+const SWAP_BLOCK: usize = 8;
 
 // Transposes the square of the rows and columns from `from` to before `to`: its two halves on the diagonal, and the part
 // above the diagonal with the one below.
@@ -38,7 +38,7 @@ fn swap_across<T>(cells: &mut [T], side: usize, rows: (usize, usize), cols: (usi
 {
     let height = rows.1 - rows.0;
     let width = cols.1 - cols.0;
-    if height <= SMALL && width <= SMALL {
+    if height <= SWAP_BLOCK && width <= SWAP_BLOCK {
         for row in rows.0..rows.1 {
             swap_row_across(cells, side, row, cols);
         }

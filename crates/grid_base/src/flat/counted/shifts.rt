@@ -14,7 +14,7 @@ const SWAPS_AT_ONCE: usize = 32;
 // At shorter distances nothing is gained by three blocks at once.
 const LONG_SHIFT: usize = 16;
 
-// As many bytes as one vector of the processor holds.
+// The bytes of a vector register that each x86-64 and each ARM64 has.
 const VECTOR: usize = 16;
 
 // Moves the `n` cells that are `shift` places after `start` there, the first first, by `n` swaps for a shift, which the
