@@ -23,8 +23,8 @@ impl<T, A: Allocator> Grid<T, A> {
         self.cells_around(at, Connectivity::Four, Edges::Open)
     }
 
-    /// Returns an iterator over the cells that touch the cell at this position, at a side or a corner, row by row, each with
-    /// its position.
+    /// Returns an iterator over the cells that touch the cell at this position, at a side or a corner, row by row, each
+    /// with its position.
     ///
     ///     [[1, 2, 3], [4, 5, 6]]   neighbors8((0, 2))   ((0, 1), 2), ((1, 1), 5), ((1, 2), 6)
     ///
@@ -37,9 +37,9 @@ impl<T, A: Allocator> Grid<T, A> {
         self.cells_around(at, Connectivity::Eight, Edges::Open)
     }
 
-    /// Same as [`neighbors4`](Grid::neighbors4), on a grid whose edges meet: the last row is above the first, and the last
-    /// column left of the first. It gives exactly four cells; with one row or column, or two, some of them come twice. Out of
-    /// range it gives none.
+    /// Same as [`neighbors4`](Grid::neighbors4), on a grid whose edges meet: the last row is above the first, and the
+    /// last column left of the first. It gives exactly four cells; with one row or column, or two, some of them come
+    /// twice. Out of range it gives none.
     ///
     ///     [[1, 2, 3], [4, 5, 6]]   wrapped_neighbors4((0, 2))   ((1, 2), 6), ((0, 1), 2), ((0, 0), 1), ((1, 2), 6)
     ///
@@ -53,9 +53,9 @@ impl<T, A: Allocator> Grid<T, A> {
         self.cells_around(at, Connectivity::Four, Edges::Joined)
     }
 
-    /// Same as [`neighbors8`](Grid::neighbors8), on a grid whose edges meet: the last row is above the first, and the last
-    /// column left of the first. It gives exactly eight cells; with one row or column, or two, some of them come more than
-    /// once, and the cell itself can be one of them. Out of range it gives none.
+    /// Same as [`neighbors8`](Grid::neighbors8), on a grid whose edges meet: the last row is above the first, and the
+    /// last column left of the first. It gives exactly eight cells; with one row or column, or two, some of them come
+    /// more than once, and the cell itself can be one of them. Out of range it gives none.
     ///
     ///     [[1, 2, 3], [4, 5, 6], [7, 8, 9]]   wrapped_neighbors8((0, 0))   9, 7, 8, 3, 2, 6, 4, 5, each with its position
     ///
@@ -194,18 +194,20 @@ impl<T, A: Allocator> Grid<T, A> {
         grid_near::count_near(self.wrapped_neighbors8(at), test)
     }
 
-    /// Returns the grid of what the closure `rule` returns for a reference to each cell and the number of the cells
+    /// Returns the grid of what the closure `rule` returns for a reference to each cell and how many of the cells
     /// that touch it, at a side or a corner, for which the closure `test` returns `true`. The size and the order are
     /// the same.
     ///
     ///     [[1, 2, 3], [4, 5, 6]]   map_counts8(|x| 4 < *x, |_, n| n)   [[1, 2, 2], [1, 1, 1]]
     ///
-    /// It takes a tenth of the time of [`map_indexed`](Grid::map_indexed) with [`count_neighbors8`](Grid::count_neighbors8),
-    /// or less, where `rule` has no branch: write `|` and `&` in it, and not `||` and `&&`.
+    /// It takes a tenth of the time of [`map_indexed`](Grid::map_indexed) with
+    /// [`count_neighbors8`](Grid::count_neighbors8), or less, where `rule` has no branch: write `|` and `&` in it, and
+    /// not `||` and `&&`.
     ///
     /// Requires: the closures can be called with these arguments.
     /// Fails: if allocation fails; neither closure was called.
-    /// Cost: one call of each closure for each cell; one allocation, and three of a line of `bool`s, before the first call.
+    /// Cost: one call of each closure for each cell; one allocation, and three of a line of `bool`s, before the first
+    /// call.
     pub fn map_counts8<U, F: Fn(&T) -> bool, G: Fn(&T, u8) -> U>(
         &self,
         test: F,
@@ -228,8 +230,8 @@ impl<T, A: Allocator> Grid<T, A> {
     ///
     /// Requires: the closures can be called with these arguments.
     /// Fails: if allocation fails; neither closure was called.
-    /// Cost: one call of each closure for each cell, and one more of `test` for each cell of two lines; one allocation, and
-    /// three of a line of `bool`s, before the first call.
+    /// Cost: one call of each closure for each cell, and one more of `test` for each cell of two lines; one allocation,
+    /// and three of a line of `bool`s, before the first call.
     pub fn map_wrapped_counts8<U, F: Fn(&T) -> bool, G: Fn(&T, u8) -> U>(
         &self,
         test: F,
@@ -252,7 +254,8 @@ impl<T, A: Allocator> Grid<T, A> {
     ///
     /// Requires: the closures can be called with these arguments.
     /// Fails: if allocation fails; neither closure was called.
-    /// Cost: one call of each closure for each cell; one allocation, and three of a line of `u8`s, before the first call.
+    /// Cost: one call of each closure for each cell; one allocation, and three of a line of `u8`s, before the first
+    /// call.
     pub fn map_sums8<U, F: Fn(&T) -> u8, G: Fn(&T, u16) -> U>(
         &self,
         weight: F,
@@ -274,8 +277,8 @@ impl<T, A: Allocator> Grid<T, A> {
     ///
     /// Requires: the closures can be called with these arguments.
     /// Fails: if allocation fails; neither closure was called.
-    /// Cost: one call of each closure for each cell, and one more of `weight` for each cell of two lines; one allocation, and
-    /// three of a line of `u8`s, before the first call.
+    /// Cost: one call of each closure for each cell, and one more of `weight` for each cell of two lines; one
+    /// allocation, and three of a line of `u8`s, before the first call.
     pub fn map_wrapped_sums8<U, F: Fn(&T) -> u8, G: Fn(&T, u16) -> U>(
         &self,
         weight: F,

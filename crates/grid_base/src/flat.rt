@@ -146,7 +146,8 @@ impl<T, A: Allocator> Flat<T, A> {
         front[i..i + n].swap_with_slice(&mut back[..n]);
     }
 
-    /// Exchanges the `n` cells from `i` on with those of another vector from `j` on, in vector code. No tally counts it.
+    /// Exchanges the `n` cells from `i` on with those of another vector from `j` on, in vector code. No tally counts
+    /// it.
     ///
     ///     [1, 2, 3, 4]   swap_with(1, [5, 6], 0, 2)   [1, 5, 6, 4], and [2, 3]
     ///

@@ -19,8 +19,8 @@ pub fn steps_from(maze: &Grid<u8>, from: (usize, usize)) -> Result<Grid<Option<u
     distances(maze, from, Connectivity::Four, |cell| *cell == b'.')
 }
 
-/// Returns the least number of steps from a position of a room to each free cell, `.`, of it, or `None` where the room isn't
-/// within the map. A room is a part of the map, which isn't copied; its walls are its edges too.
+/// Returns the least number of steps from a position of a room to each free cell, `.`, of it, or `None` where the room
+/// isn't within the map. A room is a part of the map, which isn't copied; its walls are its edges too.
 pub fn steps_in_room(
     alloc: Global,
     map: &Grid<u8>,
@@ -73,7 +73,7 @@ pub fn paint(
     Ok(picture[other])
 }
 
-/// Returns the numbers of the regions of a picture, and that of one cell.
+/// Returns the labels of the regions of a picture, and that of one cell.
 pub fn region_of(picture: &Grid<u8>, at: (usize, usize)) -> Result<(Grid<usize>, usize), AllocError>
     requires { InRange picture.now.rows at.0 at.1 }
     ensures numbers { IfOk result (λ found. (count : ℕ) × AreNumbers found.0.rows count) }
@@ -123,7 +123,7 @@ pub fn cheapest_way(
     cheapest_path(map, from, to, Connectivity::Four, cost)
 }
 
-/// Returns how many cells each region of equal cells has, in the order of the regions' numbers.
+/// Returns how many cells each region of equal cells has, in the order of the regions' labels.
 ///
 ///     [[7, 7, 8], [8, 7, 7]]   sizes_of_regions()   [4, 1, 1]
 pub fn sizes_of_regions(alloc: Global, picture: &Grid<u8>) -> Result<Vec<usize>, AllocError> {

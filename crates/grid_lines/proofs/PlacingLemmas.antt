@@ -1,4 +1,4 @@
--- Items that are put into a wanted order by swaps, where each item is named by its number.
+-- Items that are put into a wanted order by swaps, where each item is named by its index.
 use Rattle.std.proofs.Common.{◌≡◌, ◌≢◌, ℕ, ◌+◌, ◌<◌, ◌≤◌, ◌⊎◌, inl, inr, List, length, get_or, map, refl, sym, ap, ◌∙◌, arith, ext_get_or, swap, IsPermutation}
 use Rattle.grid_base.proofs.Common.{eqb_tells, get_or-map, length-map, Swapped, swapped_from_swap, length-swap, length-range_with_len, get_or-range_with_len, IsPermutation-keeps, range_with_len}
 

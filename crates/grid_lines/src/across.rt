@@ -8,8 +8,8 @@ use std::alloc::Allocator;
 // A board of fewer rows or columns isn't worth laying out twice.
 const LAID_OUT_FROM: usize = 64;
 
-// Whether the rows run across the storage, and there are so many rows and columns that it is faster to lay the board out
-// row by row first, and back in the end.
+// Whether the rows run across the storage, and there are so many rows and columns that it is faster to lay the board
+// out row by row first, and back in the end.
 pub(crate) fn is_worth_laying_out<T, A: Allocator>(grid: &Grid<T, A>) -> bool
     ensures { IsTrue result → grid.now.order ≡ ColumnMajor }
 {

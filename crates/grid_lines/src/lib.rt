@@ -1,4 +1,5 @@
-//! Rows and columns by their content: kept, sorted, rolled, written, rewritten one by one; a grid as vectors of its rows.
+//! Rows and columns by their content: kept, sorted, rolled, written, rewritten one by one; a grid as vectors of its
+//! rows.
 #![tactic(auto)]
 
 mod across;

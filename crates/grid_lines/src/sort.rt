@@ -17,8 +17,8 @@ use std::cmp::Ordering;
 ///
 /// Requires: the closure can always be called.
 /// Fails: if allocation fails; the grid is unchanged.
-/// Cost: `rows * log(rows)` calls, at most `rows * cols` swaps, and memory for four indices for each row. A column-major
-/// grid of 64 rows and columns or more is laid out row by row for the swaps, and back.
+/// Cost: `rows * log(rows)` calls, at most `rows * cols` swaps, and memory for four indices for each row. A
+/// column-major grid of 64 rows and columns or more is laid out row by row for the swaps, and back.
 pub fn sort_rows_by<T, A: Allocator + Clone, F>(
     grid: &mut Grid<T, A>,
     compare: F,
@@ -90,8 +90,9 @@ where
 ///
 /// Requires: the closure can always be called.
 /// Fails: if allocation fails; the grid is unchanged.
-/// Cost: `rows` calls, `rows * log(rows)` comparisons, at most `rows * cols` swaps, and memory for a key and four indices
-/// for each row. A column-major grid of 64 rows and columns or more is laid out row by row for the swaps, and back.
+/// Cost: `rows` calls, `rows * log(rows)` comparisons, at most `rows * cols` swaps, and memory for a key and four
+/// indices for each row. A column-major grid of 64 rows and columns or more is laid out row by row for the swaps, and
+/// back.
 pub fn sort_rows_by_key<T, K: Ord + Drop, A: Allocator + Clone, F>(
     grid: &mut Grid<T, A>,
     key: F,

@@ -13,8 +13,9 @@ pub enum Edges {
     Joined,
 }
 
-/// What [`map_counts`](crate::map_counts) and [`map_sums`](crate::map_sums) are called with: the cells and their layout, the
-/// connectivity, what the edges do, and a closure that marks each cell. The slice has as many cells as the layout.
+/// What [`map_counts`](crate::map_counts) and [`map_sums`](crate::map_sums) are called with: the cells and their
+/// layout, the connectivity, what the edges do, and a closure that marks each cell. The slice has as many cells as the
+/// layout.
 #[derive(Drop)]
 pub struct Board<'a, T, F> {
     pub cells: &'a [T],

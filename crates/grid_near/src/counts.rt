@@ -161,7 +161,7 @@ fn marked<T, M: Copy, A: Allocator, F: Fn(&T) -> M>(
     marks
 }
 
-// Appends what the closure `rule` returns at each cell of the next line, and the number of the cells around it that
+// Appends what the closure `rule` returns at each cell of the next line, and how many of the cells around it
 // pass.
 fn push_line<T, U, A: Allocator, F: Fn(&T) -> bool, G: Fn(&T, u8) -> U>(
     mut made: Vec<U, A>,
@@ -192,8 +192,8 @@ fn push_line<T, U, A: Allocator, F: Fn(&T) -> bool, G: Fn(&T, u8) -> U>(
     made
 }
 
-/// Returns what the closure `rule` returns for a reference to each cell of a board, and the number of the cells around
-/// it, at a side or all eight, that the board marks with `true`.
+/// Returns what the closure `rule` returns for a reference to each cell of a board, and how many of the four or the
+/// eight cells around it the board marks with `true`.
 ///
 /// Requires: the closures can be called with these arguments.
 /// Fails: if allocation fails; neither closure was called.
@@ -290,7 +290,7 @@ fn push_sums<T, U, A: Allocator, F: Fn(&T) -> u8, G: Fn(&T, u16) -> U>(
     made
 }
 
-/// Same as [`map_counts`], with the sum of the marks of the cells around a cell in place of the number of those that are
+/// Same as [`map_counts`], with the sum of the marks of the cells around a cell in place of how many of them are
 /// `true`.
 ///
 /// Requires: as `map_counts`.

@@ -1,5 +1,5 @@
-//! The cells around a cell of a table that a slice stores, row by row, on a table with edges or on one whose edges meet.
-//! Users call them as methods of a grid.
+//! The cells around a cell of a table that a slice stores, row by row, on a table with edges or on one whose edges
+//! meet. Users call them as methods of a grid.
 #![tactic(auto)]
 
 mod board;

@@ -28,7 +28,7 @@ pub struct Neighbors<'a, T> {
     at: (usize, usize),
     connectivity: Connectivity,
     edges: Edges,
-    // None of the cells around this one is past an edge, and the place of the first of its box of nine.
+    // Whether none of the cells around this one is past an edge; if so, the place of the first of its box of nine.
     inner: bool,
     first: usize,
     // The number of steps that are done, and, at an edge that is open, of the positions that are passed.

@@ -30,7 +30,7 @@ pub(crate) fn is_inner(size: (usize, usize), at: (usize, usize)) -> bool
     at.0 > 0 && at.1 > 0 && at.0 < size.0.saturating_sub(1) && at.1 < size.1.saturating_sub(1)
 }
 
-// The number of steps around a cell.
+// How many steps there are from a cell.
 pub(crate) fn step_count(connectivity: Connectivity) -> usize
     ensures { result ≡ step_count connectivity }
 {

@@ -1,4 +1,4 @@
--- Walks reversed, paths and walks, and a path that follows the numbers down.
+-- Walks reversed, paths and walks, and a path that follows the step counts down.
 use Rattle.std.proofs.Common.{◌≡◌, ℕ, zero, suc, ◌+◌, ◌-◌, ◌<◌, ◌≤◌, Bool, Option, Some, List, [], ◌∷◌, ◌++◌, length, refl, sym, subst, arith, inl, inr, ⊎_elim, add-one, ◌^◌, take, Contains, MatchOption, None, slice_get, length-append, unwrap_or}
 use Rattle.grid_paths.proofs.Common.{slice_get_within, row_count, col_count, IsTable, cell_in_range, AreSteps, IsOpen, DifferByOne, AreBeside, IsStep, Walk, IsLeastSteps, IsPath, IsShortestPath, IsMarked, IsAt, HasLeastUpTo, IsSettled}
 use Rattle.grid_near.specs.declared.steps.Connectivity.{Connectivity}

@@ -19,13 +19,13 @@ module _ {A : Type 0} where
         ≡ tabulate (row_count grid.rows) (col_count grid.rows) (λ _ _. Some None)
     pub queue : w.queue.items ≡ []
 
-  -- the position b got the number k, and came to the end of the queue
+  -- the position b got k, and came to the end of the queue
   pub record Marks (b : ℕ × ℕ) (k : ℕ) (w w' : Bfs A) : Type 0 where
     pub same : SameSizeAndOrder w.numbers w'.numbers
     pub numbers : w'.numbers.rows ≡ with_cell w.numbers.rows b.0 b.1 (Some k)
     pub queue : w'.queue.items ≡ w.queue.items ++ b ∷ []
 
-  -- the near open positions without a number got the number k
+  -- the near open positions that had no step count or label got k
   pub record Spreads (near : ℕ × ℕ → Type 0) (mask : List (List Bool)) (k : ℕ) (w w' : Bfs A)
       : Type 0 where
     pub same : SameSizeAndOrder w.numbers w'.numbers
@@ -41,7 +41,7 @@ module _ {A : Type 0} where
     abbrev pub mask_of : Region T A → List (List Bool)
     mask_of r = alike eq r.first.now r.grid.now.rows
 
-    -- the near ones among them that have no number got the region's
+    -- the near ones among them that have no label got the region's
     abbrev pub Numbers : (ℕ × ℕ → Type 0) → Region T A → Bfs A → Bfs A → Type 0
     Numbers near r w w' = Spreads near (mask_of r) r.number w w'
 

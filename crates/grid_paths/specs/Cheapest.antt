@@ -4,7 +4,7 @@ use Rattle.grid_base.specs.Table.{cell}
 use Rattle.grid_near.specs.declared.steps.Connectivity.{Connectivity}
 use Rattle.grid_paths.specs.Walks.{IsStep}
 
--- the number k is in the table at a
+-- the table has k at a
 abbrev pub Holds : List (List (Option ℕ)) → ℕ × ℕ → ℕ → Type 0
 Holds t a k = cell t a.0 a.1 ≡ Some (Some k)
 
@@ -26,7 +26,7 @@ module _ (connectivity : Connectivity) (costs : List (List (Option ℕ))) where
     pub walk : (n : ℕ) × CostWalk a b n k
     pub least : (n sum : ℕ) → CostWalk a b n sum → k ≤ sum
 
-  -- u has a number at each position that a walk leads to, the least sum of costs; it has None at
+  -- u has a sum at each position that a walk leads to, the least sum of costs; it has None at
   -- the others
   pub record HasLeastCosts (from : ℕ × ℕ) (u : List (List (Option ℕ))) : Type 0 where
     pub found : (at : ℕ × ℕ) (n sum : ℕ) → CostWalk from at n sum → (k : ℕ) × Holds u at k

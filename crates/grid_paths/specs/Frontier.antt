@@ -61,7 +61,7 @@ module _ {N A : Type 0} (cmp : N → N → Ordering) (w : Reading N) where
     pub cols : col_count f.left.rows < w.side
     pub heap_order : IsHeap (by_sum cmp) (heap_items f.heap)
 
-  -- the position `at` got the number `sum`, and waits with it
+  -- the position `at` got the sum `sum`, and waits with it
   pub record Puts (at : ℕ × ℕ) (sum : ℕ) (f f' : Frontier N A) : Type 0 where
     pub left : f'.left ≡ f.left
     pub same : SameSizeAndOrder f.sums f'.sums

@@ -7,7 +7,7 @@ use Rattle.grid_paths.specs.Walks.{IsOpen, IsStep, Walk}
 use Rattle.grid_paths.specs.Search.{IsMarked}
 use Rattle.grid_paths.specs.Regions.{AreJoined, ComesBefore}
 
--- the positions that an open walk from p leads to over positions without a number got the number k
+-- the positions that an open walk from p leads to over positions without a label got the label k
 pub record IsNumbered (connectivity : Connectivity) (mask : List (List Bool)) (p : ℕ × ℕ) (k : ℕ)
     (u u' : List (List (Option ℕ))) : Type 0 where
   pub kept : (a : ℕ × ℕ) (m : ℕ) → IsMarked u a m → IsMarked u' a m
@@ -28,7 +28,7 @@ module _ {T : Type 0} (eq : T → T → Bool) (t : List (List T)) where
     pub equal : eq y x ≡ true
 
 module _ (connectivity : Connectivity) {T : Type 0} (eq : T → T → Bool) (t : List (List T)) where
-  -- each number is one whole region
+  -- each label is one whole region
   pub record AreParts (u : List (List (Option ℕ))) : Type 0 where
     pub closed : (a b : ℕ × ℕ) (m : ℕ) → IsStep connectivity a b → AreEqual eq t a b
         → IsMarked u a m
@@ -36,7 +36,7 @@ module _ (connectivity : Connectivity) {T : Type 0} (eq : T → T → Bool) (t :
     pub one : (a b : ℕ × ℕ) (m : ℕ) → IsMarked u a m → IsMarked u b m
         → AreJoined connectivity eq t a b
 
-  -- the regions of the positions before p, row by row, have the numbers below the count
+  -- the regions of the positions before p, row by row, have the labels below the count
   pub record IsScanned (u : List (List (Option ℕ))) (count : ℕ) (p : ℕ × ℕ) : Type 0 where
     pub below : (a : ℕ × ℕ) (m : ℕ) → IsMarked u a m → m < count
     pub used : (k : ℕ) → k < count → (b : ℕ × ℕ) × ComesBefore b p × IsMarked u b k

@@ -10,7 +10,7 @@ abbrev pub AreJoined : {T : Type 0} → Connectivity → (T → T → Bool) → 
 AreJoined {T = T} connectivity eq t a b = (x : T) × (n : ℕ) × (cell t a.0 a.1 ≡ Some x)
     × Walk connectivity (alike eq x t) a b n
 
--- two positions have one number exactly if they are joined
+-- two positions have one label exactly if they are joined
 pub record AreRegions {T : Type 0} (connectivity : Connectivity) (eq : T → T → Bool)
     (t : List (List T))
     (u : List (List ℕ)) : Type 0 where
@@ -23,8 +23,8 @@ pub record AreRegions {T : Type 0} (connectivity : Connectivity) (eq : T → T �
 abbrev pub ComesBefore : ℕ × ℕ → ℕ × ℕ → Type 0
 ComesBefore a b = (a.0 < b.0) ⊎ ((a.0 ≡ b.0) × (a.1 < b.1))
 
--- the numbers are exactly those below the count, and come in the order of their first cells, row by
--- row
+-- the labels are exactly the numbers below the count, and come in the order of their first cells,
+-- row by row
 pub record AreNumbers (u : List (List ℕ)) (count : ℕ) : Type 0 where
   pub below : (a : ℕ × ℕ) (k : ℕ) → cell u a.0 a.1 ≡ Some k → k < count
   pub used : (k : ℕ) → k < count → (a : ℕ × ℕ) × (cell u a.0 a.1 ≡ Some k)

@@ -18,15 +18,15 @@ IsWaiting heap s a = (w : Entry) × Contains heap w × (w.0.0 ≡ s) × (w.0.1 �
 abbrev pub IsFirst : Entry → List Entry → Type 0
 IsFirst x heap = (s : ℕ) (a : ℕ × ℕ) → IsWaiting heap s a → x.0.0 ≤ s
 
--- the number at a is at most m
+-- the sum at a is at most m
 abbrev pub HoldsUpTo : List (List (Option ℕ)) → ℕ × ℕ → ℕ → Type 0
 HoldsUpTo u a m = (k : ℕ) × Holds u a k × (k ≤ m)
 
--- there is no number at a
+-- there is no sum at a
 abbrev pub IsClosed : List (List (Option ℕ)) → ℕ × ℕ → Type 0
 IsClosed t a = (k : ℕ) → Holds t a k → ⊥
 
--- a near position that was left got the number m, from a sum, and waits with it
+-- a near position that was left got the sum m, from another, and waits with it
 pub record IsEntered (near : ℕ × ℕ → Type 0) (left : List (List (Option ℕ))) (sum : ℕ)
     (heap : List Entry)
     (a : ℕ × ℕ) (m : ℕ) : Type 0 where
@@ -37,7 +37,7 @@ pub record IsEntered (near : ℕ × ℕ → Type 0) (left : List (List (Option �
   pub few : cost < 2 ^ 32
   pub waits : IsWaiting heap m a
 
--- the near positions that are left have a number no greater than the sum and their cost
+-- the near positions that are left have a sum no greater than the sum and their cost
 pub record Relaxes (near : ℕ × ℕ → Type 0) (left : List (List (Option ℕ))) (sum : ℕ)
     (u : List (List (Option ℕ)))
     (heap : List Entry) (u' : List (List (Option ℕ))) (heap' : List Entry) : Type 0 where
@@ -48,7 +48,7 @@ pub record Relaxes (near : ℕ × ℕ → Type 0) (left : List (List (Option ℕ
       → IsWaiting heap s a ⊎ (HoldsUpTo u' a s × (sum ≤ s))
   pub around : (b : ℕ × ℕ) (k : ℕ) → near b → Holds left b k → HoldsUpTo u' b (sum + k)
 
--- the first position, or one whose number comes from that of a settled one
+-- the first position, or one whose sum comes from that of a settled one
 abbrev pub Comes : Connectivity → List (List (Option ℕ)) → ℕ × ℕ → List (List (Option ℕ))
     → List (List (Option ℕ)) → ℕ × ℕ → ℕ → Type 0
 Comes connectivity costs from u left a m =
@@ -56,7 +56,7 @@ Comes connectivity costs from u left a m =
     ⊎ ((c : ℕ × ℕ) × (s : ℕ) × (k : ℕ) × Holds u c s × IsClosed left c × IsStep connectivity c a
     × Holds costs a k × (m ≡ s + k))
 
--- the search has found these numbers; those of the positions that aren't left are settled
+-- the search has found these sums; those of the positions that aren't left are settled
 pub record IsCostSearch (connectivity : Connectivity) (costs : List (List (Option ℕ)))
     (from : ℕ × ℕ)
     (u left : List (List (Option ℕ)))

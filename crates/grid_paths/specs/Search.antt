@@ -25,7 +25,7 @@ pub record IsLeft (mask : List (List Bool)) (steps : List (List (Option ℕ)))
       → IsOpen mask a × (cell steps a.0 a.1 ≡ Some None)
   pub all : (a : ℕ × ℕ) → IsOpen mask a → IsOpen left a ⊎ ((m : ℕ) × IsMarked steps a m)
 
--- the numbers up to d are the least numbers of steps, and each position fewer steps away has one
+-- the step counts up to d are the least, and each position fewer steps away has one
 pub record HasLeastUpTo (connectivity : Connectivity) (mask : List (List Bool)) (from : ℕ × ℕ)
     (u : List (List (Option ℕ))) (d : ℕ) : Type 0 where
   pub found : (at : ℕ × ℕ) (n : ℕ) → n < d → Walk connectivity mask from at n
@@ -33,7 +33,7 @@ pub record HasLeastUpTo (connectivity : Connectivity) (mask : List (List Bool)) 
   pub least : (at : ℕ × ℕ) (k : ℕ) → k ≤ d → IsMarked u at k
       → IsLeastSteps connectivity mask from at k
 
--- the numbers up to that of the goal are known; where it has none, no walk leads to it
+-- the step counts up to that of the goal are known; where it has none, no walk leads to it
 pub record IsSettled (connectivity : Connectivity) (mask : List (List Bool)) (from goal : ℕ × ℕ)
     (u : List (List (Option ℕ))) : Type 0 where
   pub found : (d : ℕ) → IsMarked u goal d → HasLeastUpTo connectivity mask from u d
@@ -47,7 +47,7 @@ free (Some n) = 0
 abbrev pub unreached : List (List (Option ℕ)) → ℕ
 unreached steps = sum_by (sum_by free) steps
 
--- a position that got the number k, and came to the end of the queue
+-- a position that got k, and came to the end of the queue
 pub record IsReached (near : ℕ × ℕ → Type 0) (mask : List (List Bool)) (k : ℕ)
     (queue queue' : List (ℕ × ℕ))
     (a : ℕ × ℕ) (m : ℕ) : Type 0 where
@@ -56,7 +56,7 @@ pub record IsReached (near : ℕ × ℕ → Type 0) (mask : List (List Bool)) (k
   pub is_near : near a
   pub queued : (j : ℕ) × (length queue ≤ j) × IsAt queue' j a
 
--- some near positions got the number k, and came to the end of the queue
+-- some near positions got k, and came to the end of the queue
 pub record Spread (near : ℕ × ℕ → Type 0) (mask : List (List Bool)) (k : ℕ)
     (u : List (List (Option ℕ)))
     (queue : List (ℕ × ℕ)) (u' : List (List (Option ℕ))) (queue' : List (ℕ × ℕ)) : Type 0 where
@@ -69,7 +69,7 @@ pub record Spread (near : ℕ × ℕ → Type 0) (mask : List (List Bool)) (k : 
   pub longer : length queue ≤ length queue'
   pub total : unreached u' + length queue' ≡ unreached u + length queue
 
--- and all open ones that are near have a number
+-- and all open ones that are near have one
 pub record WentAround (near : ℕ × ℕ → Type 0) (mask : List (List Bool)) (k : ℕ)
     (u : List (List (Option ℕ)))
     (queue : List (ℕ × ℕ)) (u' : List (List (Option ℕ))) (queue' : List (ℕ × ℕ)) : Type 0 where

@@ -7,7 +7,7 @@ use Rattle.grid_paths.specs.Cheapest.{Holds}
 use Rattle.grid_paths.specs.Relaxing.{IsClosed}
 
 module _ (connectivity : Connectivity) (from : ℕ × ℕ) where
-  -- the first position, or one whose number comes from that of a position at a place before n
+  -- the first position, or one whose sum comes from that of a position at a place before n
   abbrev pub ComesBefore : List Settled → ℕ → Settled → Type 0
   ComesBefore trail n x =
       ((x.at ≡ from) × (x.sum ≡ 0))
@@ -16,7 +16,7 @@ module _ (connectivity : Connectivity) (from : ℕ × ℕ) where
       × (x.sum ≡ y.sum + x.cost))
 
   module _ (costs : List (List (Option ℕ))) where
-    -- each number comes from that of a position before it, and no position is there twice
+    -- each sum comes from that of a position before it, and no position is there twice
     pub record IsTrail (trail : List Settled) : Type 0 where
       pub cost : (j : ℕ) (x : Settled) → slice_get trail j ≡ Some x → Holds costs x.at x.cost
       pub before : (j : ℕ) (x : Settled) → slice_get trail j ≡ Some x → ComesBefore trail j x

@@ -6,7 +6,7 @@ use Rattle.grid_near.specs.declared.steps.Connectivity.{Connectivity}
 use Rattle.grid_near.specs.declared.steps.Connectivity.TheVariants.{Four, Eight}
 use Rattle.grid_paths.specs.Closures.{answers_by}
 
--- two numbers differ by one
+-- two indices differ by one
 abbrev pub DifferByOne : ℕ → ℕ → Type 0
 DifferByOne m n = (m + 1 ≡ n) ⊎ (n + 1 ≡ m)
 
@@ -38,8 +38,7 @@ module _ (connectivity : Connectivity) (mask : List (List Bool)) where
     pub walk : Walk a b k
     pub least : (n : ℕ) → Walk a b n → k ≤ n
 
-  -- u has a number at each position that a walk leads to, the least number of steps; it has None at
-  -- the others
+  -- u has a step count at each position that a walk leads to, the least; it has None at the others
   pub record HasLeastSteps (from : ℕ × ℕ) (u : List (List (Option ℕ))) : Type 0 where
     pub found : (at : ℕ × ℕ) (n : ℕ) → Walk from at n → (k : ℕ) × (cell u at.0 at.1 ≡ Some (Some k))
     pub least : (at : ℕ × ℕ) (k : ℕ) → cell u at.0 at.1 ≡ Some (Some k) → IsLeastSteps from at k
@@ -53,8 +52,8 @@ module _ (connectivity : Connectivity) (mask : List (List Bool)) where
     pub walk : WalkFrom starts at k
     pub least : (n : ℕ) → WalkFrom starts at n → k ≤ n
 
-  -- u has a number at each position that a walk from one of them leads to, the least number of
-  -- steps from any of them; it has None at the others
+  -- u has a step count at each position that a walk from one of them leads to, the least from any
+  -- of them; it has None at the others
   pub record HasLeastFrom (starts : List (ℕ × ℕ)) (u : List (List (Option ℕ))) : Type 0 where
     pub found : (at : ℕ × ℕ) (n : ℕ) → WalkFrom starts at n
         → (k : ℕ) × (cell u at.0 at.1 ≡ Some (Some k))

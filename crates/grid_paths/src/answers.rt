@@ -21,7 +21,7 @@ pub(crate) fn answers_of<T, U, A: Allocator + Clone, F: Fn(&T) -> U>(
     grid.map_indexed(|_, cell| f(cell))
 }
 
-// No number at each cell.
+// No step count or label at each cell.
 pub(crate) fn no_numbers<T, N, A: Allocator + Clone>(
     grid: &Grid<T, A>,
 ) -> Result<Grid<Option<N>, A>, AllocError>
@@ -46,7 +46,7 @@ pub(crate) fn no_sums<T, N: Width, A: Allocator + Clone>(
     grid.map_indexed(|_, _| none)
 }
 
-// The sums that numbers stand for.
+// The sums that these integers stand for.
 pub(crate) fn all_sums<N: Width, A: Allocator + Clone>(
     sums: &Grid<N, A>,
 ) -> Result<Grid<Option<u128>, A>, AllocError>

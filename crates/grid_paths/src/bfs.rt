@@ -18,7 +18,7 @@ pub(crate) struct Bfs<A: Allocator> {
 }
 
 impl<A: Allocator> Bfs<A> {
-    // Gives a position this number, and puts it at the end of the queue.
+    // Gives a position this step count or label, and puts it at the end of the queue.
     #[inline(always)]
     pub(crate) fn mark(&mut self, at: (usize, usize), number: usize) -> Result<(), AllocError>
         ensures { OnOk result (cell self.old.numbers.rows at.0 at.1 ≡ Some None

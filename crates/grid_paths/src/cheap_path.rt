@@ -23,7 +23,7 @@ fn is_step(connectivity: Connectivity, from: (usize, usize), to: (usize, usize))
     }
 }
 
-// Whether the number of a position can come from that of another.
+// Whether the sum of a position can come from that of another.
 fn comes_from(connectivity: Connectivity, here: Settled, before: Settled) -> bool
     ensures { IsTrue result ↔ (IsStep connectivity before.at here.at
         × (here.sum ≡ before.sum + here.cost)) }
@@ -33,7 +33,7 @@ fn comes_from(connectivity: Connectivity, here: Settled, before: Settled) -> boo
         && here.sum - before.sum == here.cost as u128
 }
 
-// The path to the last of the settled positions, found from its end: each number comes from that of a position which
+// The path to the last of the settled positions, found from its end: each sum comes from that of a position which
 // was settled before.
 fn follow<N: Width, A: Allocator + Clone>(
     connectivity: Connectivity,
@@ -61,7 +61,7 @@ fn follow<N: Width, A: Allocator + Clone>(
     Ok(path)
 }
 
-// A cheapest path over positions with a cost, and its sum, by numbers of one width. The search stops once it settles
+// A cheapest path over positions with a cost, and its sum, in integers of one width. The search stops once it settles
 // the end.
 fn path_by<N: Width, A: Allocator + Clone>(
     connectivity: Connectivity,

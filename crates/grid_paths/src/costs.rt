@@ -19,7 +19,7 @@ const HEAP_ROOM: usize = 1024;
 // costs less than 2^32.
 const NARROW_BELOW: usize = 4294967295;
 
-// A position whose number is settled, what it costs to enter it, and its number.
+// A settled position: its sum is the least; and what it costs to enter it.
 #[derive(Clone, Copy)]
 pub(crate) struct Settled {
     pub(crate) at: (usize, usize),
@@ -27,7 +27,7 @@ pub(crate) struct Settled {
     pub(crate) sum: u128,
 }
 
-// A settled position in numbers of one width, as a path keeps it.
+// A settled position as a path keeps it, in integers of one width.
 #[derive(Clone, Copy)]
 pub(crate) struct Kept<N: Width> {
     sum: N,
@@ -52,7 +52,7 @@ impl<N: Width> Kept<N> {
 // How far the search has come.
 #[derive(Drop)]
 pub(crate) struct Frontier<N: Width, A: Allocator> {
-    // The costs of the positions whose number isn't settled yet.
+    // The costs of the positions that aren't settled yet.
     left: Grid<Option<u32>, A>,
     // The least sums that were found.
     sums: Grid<N, A>,
@@ -72,7 +72,7 @@ impl<N: Width, A: Allocator> Frontier<N, A> {
         }
     }
 
-    // The number at a position.
+    // The least sum that was found to a position.
     #[inline(always)]
     fn number_at(&self, at: (usize, usize)) -> Option<u128>
         requires { InRange self.now.sums.rows at.0 at.1 }
@@ -81,7 +81,7 @@ impl<N: Width, A: Allocator> Frontier<N, A> {
         self.sums[at].sum()
     }
 
-    // Whether a sum is less than the number at a position, or there is none.
+    // Whether a sum is less than the one at a position, or there is none.
     #[inline(always)]
     fn is_less(&self, at: (usize, usize), sum: u128) -> bool
         requires { InRange self.now.sums.rows at.0 at.1 }
@@ -93,7 +93,7 @@ impl<N: Width, A: Allocator> Frontier<N, A> {
         }
     }
 
-    // Gives a position a number, with which it waits.
+    // Gives a position this sum, and puts it into the heap.
     #[inline(always)]
     fn put(&mut self, at: (usize, usize), sum: u128) -> Result<(), AllocError>
         requires inside { InRange self.old.sums.rows at.0 at.1 }
@@ -136,8 +136,8 @@ impl<N: Width, A: Allocator> Frontier<N, A> {
         }
     }
 
-    // Enters a position, if it is left, from another of this sum: a lesser number than before is written, and the
-    // position waits with it.
+    // Enters a position, if it is left, from another of this sum: a lesser sum than before is written, and the
+    // position goes into the heap with it.
     #[inline(always)]
     fn relax(&mut self, at: (usize, usize), sum: u128) -> Result<(), AllocError>
         requires small { sum + 2 ^ 32 ≤ 2 ^ 128 }
@@ -185,7 +185,7 @@ impl<N: Width, A: Allocator> Frontier<N, A> {
     }
 
     // Settles the position that comes first of those that wait and are left. A position may wait several times; it is
-    // settled when it comes first, with the least number of all that wait.
+    // settled when it comes first, with the least sum of all that wait.
     pub(crate) fn next(&mut self) -> Option<Settled>
         requires { IsFrontier N.cmp N.reads self.old }
         ensures { MatchOption result (IsOver N.reads self.old self.new)
@@ -202,7 +202,7 @@ impl<N: Width, A: Allocator> Frontier<N, A> {
     }
 }
 
-// The search at the start: the first position has the number 0, and waits, if it can be entered.
+// The search at the start: the first position has the sum 0, and is in the heap, if it can be entered.
 pub(crate) fn begun<N: Width, A: Allocator + Clone>(
     costs: Grid<Option<u32>, A>,
     from: (usize, usize),
@@ -226,14 +226,14 @@ pub(crate) fn begun<N: Width, A: Allocator + Clone>(
     Ok(search)
 }
 
-// Whether numbers of 64 bits suffice for a board: no sum of the costs of its cells exceeds them.
+// Whether 64 bits suffice for a board: no sum of the costs of its cells overflows them.
 pub(crate) fn is_small<A: Allocator>(costs: &Grid<Option<u32>, A>) -> bool
     ensures { IsTrue result → HasRoom narrow costs.now.rows }
 {
     costs.flatten().len() < NARROW_BELOW
 }
 
-// The least sum of costs to each position, by numbers of one width.
+// The least sum of costs to each position, in integers of one width.
 fn search_by<N: Width, A: Allocator + Clone>(
     connectivity: Connectivity,
     costs: Grid<Option<u32>, A>,

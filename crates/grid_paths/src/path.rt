@@ -11,7 +11,7 @@ use grid::Grid;
 use grid_near::Connectivity;
 use std::alloc::{AllocError, Allocator};
 
-// The first of these positions that has this number of steps.
+// The first of these positions that has this step count.
 fn first_with<A: Allocator>(
     steps: &Grid<Option<usize>, A>,
     at: &[(usize, usize)],
@@ -29,7 +29,7 @@ fn first_with<A: Allocator>(
     None
 }
 
-// A position that a step from this one leads to and that has this number of steps, if there is one.
+// A position that a step from this one leads to and that has this step count, if there is one.
 fn next_with<A: Allocator>(
     steps: &Grid<Option<usize>, A>,
     at: (usize, usize),
@@ -47,7 +47,7 @@ fn next_with<A: Allocator>(
     first_with(steps, &near, count).unwrap_or(at)
 }
 
-// The path from a position down the numbers to the one with 0, each with the number one less a step away.
+// The path from a position down the step counts to the one with 0: each position has one step less.
 fn follow<A: Allocator + Clone>(
     steps: &Grid<Option<usize>, A>,
     from: (usize, usize),

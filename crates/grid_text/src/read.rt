@@ -19,7 +19,7 @@ use text_lines::{Words, cut_line};
 /// text of blank lines is the empty grid.
 ///
 /// Requires: `read` can be called at every character.
-/// Fails: `BadChar` or `Ragged` of the first line that isn't a row; its characters are tested before their number.
+/// Fails: `BadChar` or `Ragged` of the first line that isn't a row; its characters are tested before their count.
 /// `Memory` if allocation fails.
 /// Cost: one call for each character; the vector of cells grows as it is filled.
 pub fn from_text<T: Drop, A: Allocator, F: Fn(char) -> Option<T>>(
@@ -43,7 +43,7 @@ pub fn from_text<T: Drop, A: Allocator, F: Fn(char) -> Option<T>>(
 /// Lines end as in [`from_text`]. A line without words is a row without cells.
 ///
 /// Requires: `read` can be called at every word.
-/// Fails: `BadWord` or `Ragged` of the first line that isn't a row; its words are tested before their number. `Memory`
+/// Fails: `BadWord` or `Ragged` of the first line that isn't a row; its words are tested before their count. `Memory`
 /// if allocation fails.
 /// Cost: one call for each word; the vector of cells grows as it is filled.
 pub fn from_words<T: Drop, A: Allocator, F: Fn(&str) -> Option<T>>(

@@ -73,10 +73,10 @@ fn copy_cells<T: Copy>(view: &GridView<'_, T>, r: usize, to: &mut [T])
 // A row of fewer cells stays in the cache with those next to it, also where it runs across the storage.
 const LONG: usize = 1024;
 
-// To begin a row of fewer cells costs more than to clone them with those of the other rows, one by one.
+// Below this length a loop for each row costs more to start than it costs to clone all cells one by one.
 const SHORT_ROW: usize = 16;
 
-// Returns clones of the cells of a view, row by row, and goes over it so.
+// Returns clones of the cells of a view, row by row, and reads it in that order.
 fn clones_in_turn<T: Clone, A: Allocator>(
     alloc: A,
     view: &GridView<'_, T>,
@@ -122,16 +122,16 @@ impl<'a, T> GridView<'a, T> {
             && LONG <= self.cols.count
     }
 
-    /// Returns the cells of row `r` as a slice, or `None` where they aren't side by side in the storage, the first first.
+    /// Returns the cells of row `r` as a slice, or `None` where they aren't side by side and in order in the storage.
     ///
     ///     [[1, 2], [3, 4]], of a row-major grid      row_slice(1)   Some([3, 4])
     ///     [[1, 2], [3, 4]], of a column-major grid   row_slice(1)   None
     ///     [[1], [2]], of any grid, turned or not     row_slice(1)   Some([2])
     ///
-    /// It is `Some` for a view of a row-major grid and for its parts, also upside down, and for what is as these by another
-    /// way, as the transposed view of a column-major grid; and wherever there is one column. Elsewhere it is `None`, so it is
-    /// one answer for all rows of a view. Of this the contract says the case of one column: a contract sees the rows of a
-    /// view, and not where they lie.
+    /// It is `Some` for a view of a row-major grid and for its parts, also upside down, and for views that lie in
+    /// memory as these do, as the transposed view of a column-major grid; and wherever there is one column. Elsewhere
+    /// it is `None`: all rows of a view have the same answer. Of this the contract says the case of one column: a
+    /// contract sees the rows of a view, and not where they lie.
     ///
     /// Requires: there is such a row.
     /// Cost: constant; no cell is copied, and no memory is taken.

@@ -26,8 +26,8 @@ impl<'a, T> GridView<'a, T> {
         self.cells_around(at, Connectivity::Four, Edges::Open)
     }
 
-    /// Returns an iterator over the cells that touch the cell at this position, at a side or a corner, row by row, each with
-    /// its position.
+    /// Returns an iterator over the cells that touch the cell at this position, at a side or a corner, row by row, each
+    /// with its position.
     ///
     ///     [[1, 2, 3], [4, 5, 6]]   neighbors8((0, 2))   ((0, 1), 2), ((1, 1), 5), ((1, 2), 6)
     ///
@@ -40,9 +40,9 @@ impl<'a, T> GridView<'a, T> {
         self.cells_around(at, Connectivity::Eight, Edges::Open)
     }
 
-    /// Same as [`neighbors4`](GridView::neighbors4), on a view whose edges meet: the last row is above the first, and the last
-    /// column left of the first. It gives exactly four cells; with one row or column, or two, some of them come twice. Out of
-    /// range it gives none.
+    /// Same as [`neighbors4`](GridView::neighbors4), on a view whose edges meet: the last row is above the first, and
+    /// the last column left of the first. It gives exactly four cells; with one row or column, or two, some of them
+    /// come twice. Out of range it gives none.
     ///
     ///     [[1, 2, 3], [4, 5, 6]]   wrapped_neighbors4((0, 2))   ((1, 2), 6), ((0, 1), 2), ((0, 0), 1), ((1, 2), 6)
     ///
@@ -56,8 +56,9 @@ impl<'a, T> GridView<'a, T> {
         self.cells_around(at, Connectivity::Four, Edges::Joined)
     }
 
-    /// Same as [`neighbors8`](GridView::neighbors8), on a view whose edges meet. It gives exactly eight cells; with one row or
-    /// column, or two, some of them come more than once, and the cell itself can be one of them. Out of range it gives none.
+    /// Same as [`neighbors8`](GridView::neighbors8), on a view whose edges meet. It gives exactly eight cells; with one
+    /// row or column, or two, some of them come more than once, and the cell itself can be one of them. Out of range it
+    /// gives none.
     ///
     ///     [[1, 2, 3], [4, 5, 6], [7, 8, 9]]   wrapped_neighbors8((0, 0))   9, 7, 8, 3, 2, 6, 4, 5, each with its position
     ///

@@ -10,7 +10,7 @@ use crate::view::GridView;
 // 4096, as in `bench/beside orders`, take twice as long by parts of 8 or of 32.
 const COMPARE_BLOCK: usize = 16;
 
-// Whether the cells of row `r` are the same in two views, in the columns from the first number to before the second.
+// Whether the cells of row `r` are the same in two views, in the columns from the first index to before the second.
 fn has_same_cells<T: PartialEq>(
     view: &GridView<'_, T>,
     other: &GridView<'_, T>,
@@ -31,8 +31,8 @@ fn has_same_cells<T: PartialEq>(
     true
 }
 
-// Whether the cells of a part are the same in two views. The part has the rows from the first number to before the second,
-// and such columns.
+// Whether the cells of a part are the same in two views. The part has the rows from the first index to before the
+// second, and such columns.
 fn has_same_rows<T: PartialEq>(
     view: &GridView<'_, T>,
     other: &GridView<'_, T>,
@@ -121,8 +121,8 @@ impl<'a, T: Eq> Eq for GridView<'a, T> {
     ghost laws = { same_view_equiv T.Eq.laws };
 }
 
-/// Returns whether two boards have the same rows, whatever they are: a grid, a part, a turned or a deferred one. `==` does
-/// so of two of one type.
+/// Returns whether two boards have the same rows, whatever they are: a grid, a part, a turned or a deferred one. `==`
+/// does so of two of one type.
 ///
 ///     same_cells(&[[1, 2], [3, 4]], &[[1, 3], [2, 4]] transposed)   true
 ///

@@ -2,7 +2,7 @@
 //!
 //! All these calls see the cells as lines, here 2 of 3 cells, and each line's group, here 2 cells before place 1:
 //!
-//!     groups after the lines   [a b c | d e f | 1 2 | 3 4]
+//!     groups after the lines    [a b c | d e f | 1 2 | 3 4]
 //!     groups in the lines       [a 1 2 b c | d 3 4 e f]
 //!
 //! `weave` brings the cells from the first form to the second. `take_out` takes the groups from the second form, and
@@ -165,8 +165,8 @@ impl<T, A: Allocator> Flat<T, A> {
         self.cells.truncate(groups.lines * groups.width);
     }
 
-    /// Closes up the lines without their groups, and drops those, as [`close_up`](Flat::close_up) does. No tally counts the
-    /// moves.
+    /// Closes up the lines without their groups, and drops those, as [`close_up`](Flat::close_up) does. No tally counts
+    /// the moves.
     ///
     /// Requires: the vector has the cells of these lines and groups, and the groups are not empty.
     /// Cost: that of [`weave`](super::weave), or of `close_up` where that is faster; no memory.
@@ -189,8 +189,8 @@ impl<T, A: Allocator> Flat<T, A> {
     }
 }
 
-// Whether groups leave their lines faster by moves of whole blocks than by a swap for each cell: the groups fit the room,
-// the cells take at least `FEW_BYTES`, and those of a single line less than `MANY_BYTES`.
+// Whether groups leave their lines faster by moves of whole blocks than by a swap for each cell: the groups fit the
+// room, the cells take at least `FEW_BYTES`, and those of a single line less than `MANY_BYTES`.
 fn moves_at_once<T>(cells: &[T], groups: Groups) -> bool
     requires { length cells.now ≡ groups.lines * (groups.width + groups.count) }
 {
@@ -203,7 +203,7 @@ fn moves_at_once<T>(cells: &[T], groups: Groups) -> bool
 // How groups come to their places among the lines, and how they leave them.
 #[derive(Clone, Copy)]
 enum Method {
-    // None: they are there. The lines have no cells, or the group of a single line is at its end.
+    // Nothing moves: the lines have no cells, or the group of a single line is at its end.
     Nothing,
     // Few single cells, among few cells, one by one.
     Singly,

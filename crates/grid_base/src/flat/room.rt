@@ -41,7 +41,7 @@ fn move_on_stack<T>(row: Slots<T>, state: (), job: (Groups, Way)) -> (Slots<T>, 
     (moved, state, ())
 }
 
-// `move_run`, but a single value goes without a call of the C library.
+// `move_run`, but a single value moves without a call of `memmove`.
 fn move_group<T>(from: &mut Slots<T>, at: usize, other: &mut Slots<T>, to: usize, count: usize)
     requires from { at + count ≤ slots_len from.old }
     requires to { to + count ≤ slots_len other.old }

@@ -12,7 +12,7 @@ pub(super) struct StridedIter<'a, T> {
     // From the first cell on.
     cells: &'a [T],
     stride: usize,
-    // The numbers of the cells that are left.
+    // The indices of the cells that are left.
     ahead: Range<usize>,
 }
 

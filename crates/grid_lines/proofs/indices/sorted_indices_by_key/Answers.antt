@@ -1,4 +1,4 @@
--- Each key of a number is asked at its row.
+-- Each key of an index is asked at its row.
 use Rattle.std.proofs.Common.{rules, ◌≡◌, ◌∙◌, Bool, List, [], ◌∷◌, map, length, refl, ap, subst, IsSortedBy, is_lt}
 use Rattle.grid_base.proofs.Common.{answers_by, ranks_by, IsStrictWeakOrder, AlwaysReturns, IsStableBy, always_mut, mut_next, mut_by, row}
 use denote.Param.Members.{Called}
