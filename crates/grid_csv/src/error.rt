@@ -1,4 +1,4 @@
-//! Why bytes are no grid.
+//! The errors of reading CSV.
 ghost use Rattle.std.specs.Prelude.{◌≡◌};
 ghost use Rattle.grid_csv.specs.declared.error.CsvError.TheVariants.{Memory};
 

@@ -70,7 +70,7 @@ impl Direction {
     pub fn turned(self, eighths: usize) -> Direction
         ensures { clockwise result ≡ (clockwise self + eighths) % 8 }
     {
-        match (self.number() + eighths % 8) % 8 {
+        match (self.index() + eighths % 8) % 8 {
             0 => Direction::Up,
             1 => Direction::UpRight,
             2 => Direction::Right,
@@ -83,7 +83,7 @@ impl Direction {
     }
 
     // The index of a direction, clockwise from the one up.
-    pub(crate) fn number(self) -> usize
+    pub(crate) fn index(self) -> usize
         ensures is { result ≡ clockwise self }
         ensures below { result < 8 }
     {

@@ -49,7 +49,7 @@ impl<N: Width> Kept<N> {
     }
 }
 
-// How far the search has come.
+// The state of the search.
 #[derive(Drop)]
 pub(crate) struct Frontier<N: Width, A: Allocator> {
     // The costs of the positions that aren't settled yet.
@@ -108,7 +108,7 @@ impl<N: Width, A: Allocator> Frontier<N, A> {
         Ok(())
     }
 
-    // Takes out what comes first of those that wait, a sum and a position.
+    // Pops the least sum off the heap, with its position.
     #[inline(always)]
     fn pop(&mut self) -> Option<(u128, (usize, usize))>
         ensures { MatchOption result (IsEmptied N.reads self.old self.new)
@@ -184,8 +184,8 @@ impl<N: Width, A: Allocator> Frontier<N, A> {
         }
     }
 
-    // Settles the position that comes first of those that wait and are left. A position may wait several times; it is
-    // settled when it comes first, with the least sum of all that wait.
+    // Settles the position with the least sum of those in the heap that aren't settled. A position may be in the heap
+    // several times: it is settled when it first comes out, with its least sum.
     pub(crate) fn next(&mut self) -> Option<Settled>
         requires { IsFrontier N.cmp N.reads self.old }
         ensures { MatchOption result (IsOver N.reads self.old self.new)

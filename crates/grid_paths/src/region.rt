@@ -8,7 +8,7 @@ use grid::Grid;
 use grid_near::Connectivity;
 use std::alloc::{AllocError, Allocator};
 
-// The index of a line that comes at place `i` where one begins at `from`, goes down to 0, and then on from there up.
+// The index at place `i` of the order `from`, `from - 1`, .., 0, `from + 1`, `from + 2`, ..
 fn outward(from: usize, i: usize) -> usize
     ensures down { i ≤ from → result + i ≡ from }
     ensures up { from < i → result ≡ i }

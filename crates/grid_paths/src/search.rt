@@ -13,7 +13,7 @@ use std::alloc::{AllocError, Allocator};
 // the queue doesn't grow while no more than so many positions wait.
 const COMPACT_AT: usize = 2048;
 
-// How far the search has come: the open positions that aren't reached yet, and the step counts of the others.
+// The state of the search: the open positions that aren't reached yet, and the step counts of the others.
 #[derive(Drop)]
 pub(crate) struct Search<A: Allocator> {
     left: Grid<bool, A>,

@@ -1,4 +1,4 @@
-//! Why a text isn't a grid.
+//! The errors of reading text.
 ghost use Rattle.std.specs.Prelude.{◌≡◌};
 ghost use Rattle.grid_text.specs.declared.error.TextError.TheVariants.{Memory};
 

@@ -80,7 +80,7 @@ where
     read_lines(alloc, text, &Tried(read))
 }
 
-// The grid of the lines of a text, in whatever pieces.
+// The grid of the lines of a text, each cut into characters or into words.
 fn read_lines<T: Drop, A: Allocator, P: Pieces<T, A>>(
     alloc: A,
     text: &str,
