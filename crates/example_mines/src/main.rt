@@ -1,7 +1,7 @@
 //! Plays Minesweeper: reads a field of mines and moves on standard input, and draws the field after each move.
 //!
-//! A field is lines of `*` (a mine) and `.`. After a line `--` each line is a move: `open 2 3` or `flag 2 3`, with a row and
-//! a column.
+//! A field is lines of `*` (a mine) and `.`. After a line `--` each line is a move: `open 2 3` or `flag 2 3`, with a
+//! row and a column.
 #![tactic(auto)]
 
 use anyhow::{Result, bail};

@@ -134,8 +134,8 @@ abbrev pub next_step : Edges → Bool → ℕ → ℕ → ℕ
 next_step Open inner passed tried = cond inner passed tried
 next_step Joined inner passed tried = passed
 
--- what holds of an iterator around the cell at a position, of which `passed` steps are done, and, at
--- an edge that is open, `tried`
+-- what holds of an iterator around the cell at a position, of which `passed` steps are done, and,
+-- at an edge that is open, `tried`
 pub record IsAround {T : Type 0} (cells : List T) (size : ℕ × ℕ) (start : ℕ) (strides at : ℕ × ℕ)
     (connectivity : Connectivity) (edges : Edges) (first : ℕ) (inner : Bool) (passed tried : ℕ)
     : Type 0 where

@@ -3,7 +3,7 @@ ghost use Rattle.std.specs.Prelude.{◌≡◌, ◌⊎◌, ◌+◌, ◌^◌, ◌<
 ghost use Rattle.grid_pnm.specs.Prelude.{next_sample, plain_samples, raw_samples, sample_count};
 ghost use Rattle.grid_pnm.specs.declared.error.PnmError.TheVariants.{Short, Memory};
 
-use crate::scan::{behind_gap, next_number};
+use crate::scan::{after_gap, next_number};
 use crate::{Header, PnmError};
 use std::alloc::Allocator;
 
@@ -100,7 +100,7 @@ fn next_sample(len: usize, max: u8, bytes: &[u8]) -> Result<(u8, &[u8]), PnmErro
 {
     let (sample, rest) = next_number(len, bytes)?;
     if sample > max as usize {
-        let at = len.saturating_sub(behind_gap(bytes).len());
+        let at = len.saturating_sub(after_gap(bytes).len());
         return Err(PnmError::AboveMax { sample, at, max });
     }
     Ok((sample as u8, rest))

@@ -1,6 +1,6 @@
 //! Numbers between white space and comments.
 ghost use Rattle.std.specs.Prelude.{◌≡◌, ◌≤◌, false, None, Some, Ok, Err, length, IfSome, IfOk, MatchOption, MatchResult};
-ghost use Rattle.grid_pnm.specs.Prelude.{is_white, behind_gap, digit_count, number_at, next_number};
+ghost use Rattle.grid_pnm.specs.Prelude.{is_white, after_gap, digit_count, number_at, next_number};
 
 use crate::PnmError;
 use text_lines::parse_index;
@@ -13,8 +13,8 @@ pub(crate) fn is_white(byte: u8) -> bool
 }
 
 // The rest after the white space and the comments at the front.
-pub(crate) fn behind_gap(bytes: &[u8]) -> &[u8]
-    ensures rest { result.now ≡ behind_gap false bytes.now }
+pub(crate) fn after_gap(bytes: &[u8]) -> &[u8]
+    ensures rest { result.now ≡ after_gap false bytes.now }
     ensures shorter { length result.now ≤ length bytes.now }
 {
     let mut rest = bytes;
@@ -63,7 +63,7 @@ pub(crate) fn next_number(len: usize, bytes: &[u8]) -> Result<(usize, &[u8]), Pn
         (λ e. next_number len bytes.now ≡ Err e) }
     ensures shorter { IfOk result (λ number. length number.1.now ≤ length bytes.now) }
 {
-    let here = behind_gap(bytes);
+    let here = after_gap(bytes);
     match number_at(here) {
         Some(number) => Ok(number),
         None => Err(PnmError::BadNumber {

@@ -1,4 +1,5 @@
-//! Calls on a part that is seen through a symmetry: the positions of cells, its parts and lines, the cells around one, and maps.
+//! Calls on a part that is seen through a symmetry: the positions of cells, its parts and lines, the cells around one,
+//! and maps.
 use crate::ask::Ask;
 use crate::case::CaseError;
 use crate::sections::views::{by_place, is_within, stamp};
