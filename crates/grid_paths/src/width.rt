@@ -5,7 +5,7 @@ ghost use Rattle.grid_paths.specs.Width.{Reading, narrow, wide, value_of, number
 
 // An integer that stands for a sum of costs or for none, and one that stands for a position.
 pub(crate) trait Width: Ord + Copy + Drop {
-    // What it stands for.
+    // What an integer stands for.
     ghost reads: { Reading Self };
 
     // The integer that stands for a sum.
@@ -18,7 +18,7 @@ pub(crate) trait Width: Ord + Copy + Drop {
     fn of_none() -> Self
         ensures { number_of reads result ≡ None };
 
-    // The value.
+    // The value of the integer.
     fn value(self) -> u128
         ensures { result ≡ value_of reads self };
 
@@ -36,7 +36,7 @@ pub(crate) trait Width: Ord + Copy + Drop {
     fn position(self) -> (usize, usize)
         ensures { result ≡ position_of reads self };
 
-    // Numbers are compared.
+    // The integers are ordered by their values.
     ghost ordered: { (x y : Self) → Self.cmp x y ≡ nat_cmp (value_of reads x) (value_of reads y) };
 }
 

@@ -5,8 +5,7 @@ ghost use Rattle.std.specs.Iterator.{at_most};
 ghost use Rattle.std.specs.List.{before_first, after_first};
 ghost use Rattle.std.specs.Str.{is_utf8};
 
-/// An iterator over the words of a line, which are separated by spaces and tabs. It holds the unread
-/// rest.
+/// An iterator over the words of a line, which are separated by spaces and tabs. It holds the unread rest.
 ///
 ///     Words(" 7\t -8 ")   "7", "-8"
 #[derive(Drop)]

@@ -293,7 +293,7 @@ fn weave_lines<T>(cells: &mut [T], groups: Groups)
     }
 }
 
-// The groups are single cells. Each comes to its place, the first first, past all cells that are there and after.
+// The groups are single cells. Each comes to its place, the first first, past all cells from there on.
 fn weave_singly<T>(cells: &mut [T], groups: Groups)
     requires single { groups.count ≡ 1 }
     requires cells { length cells.old ≡ groups.lines * (groups.width + groups.count) }
