@@ -13,7 +13,7 @@ random.seed(52)
 
 def near(a, kind):
     all_steps = [(i, j) for i in (-1, 0, 1) for j in (-1, 0, 1)]
-    return [(a[0] + i, a[1] + j) for i, j in all_steps if (i or j) and (kind == 'All' or not (i and j))]
+    return [(a[0] + i, a[1] + j) for i, j in all_steps if (i or j) and (kind == 'Eight' or not (i and j))]
 
 
 def lowered(cells, known, cost, kind):
@@ -36,7 +36,7 @@ for k in range(200):
     cells = {(r, c): board[r][c] for r in range(m) for c in range(n)}
     floor = {a: x for a, x in cells.items() if x == '.'}
     at = [(random.randrange(m), random.randrange(n)) for _ in range(3)] + [(m, 0)]
-    kind = ('Sides', 'All', 'Sides')[k % 3]
+    kind = ('Four', 'Eight', 'Four')[k % 3]
     steps = lowered(floor, {a: 0 for a in at[:1] if a in floor}, 1, kind)
     nearest = lowered(floor, {a: 0 for a in at if a in floor}, 1, kind)
     labels = lowered(cells, {a: i for i, a in enumerate(sorted(cells))}, 0, kind)
@@ -66,7 +66,7 @@ for k in range(60):
     board = [''.join(random.choice(letters) for _ in range(n)) for _ in range(m)]
     costs = {(r, c): int(board[r][c]) for r in range(m) for c in range(n) if board[r][c] != '#'}
     start = (random.randrange(m), random.randrange(n)) if k % 20 else (m, 0)
-    kind = ('Sides', 'All', 'Sides')[k % 3]
+    kind = ('Four', 'Eight', 'Four')[k % 3]
     known = {start: 0} if start in costs else {}
     while True:
         new = dict(known)

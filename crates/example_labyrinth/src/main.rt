@@ -3,7 +3,7 @@
 
 use anyhow::Result;
 use grid::{Direction, Grid, GridError};
-use grid_paths::{Steps, distances, shortest_path};
+use grid_paths::{Connectivity, distances, shortest_path};
 use grid_pnm::{enlarged, to_ppm};
 use std::alloc::{AllocError, Global};
 use std::io::{self, Write};
@@ -29,7 +29,7 @@ fn next(random: &mut u32) -> usize {
     *random as usize
 }
 
-// The cell beside a room, and the room behind it, if that isn't dug yet.
+// The cell next to a room, and the room past it, if that isn't dug yet.
 fn beyond(maze: &Grid<Cell>, at: At, way: Direction) -> Option<(At, At)> {
     let door = maze.beside(at, way)?;
     let room = maze.beside(door, way)?;
@@ -70,7 +70,7 @@ fn dug(alloc: Global, mut random: u32) -> Result<Grid<Cell>, GridError> {
 
 // The first room that is farthest from a position.
 fn farthest(maze: &Grid<Cell>, from: At) -> Result<At, AllocError> {
-    let steps = distances(maze, from, Steps::Sides, |cell| *cell != Cell::Wall)?;
+    let steps = distances(maze, from, Connectivity::Four, |cell| *cell != Cell::Wall)?;
     let mut best = (from, 0);
     for (at, count) in steps.indexed_iter() {
         let count = count.unwrap_or(0);
@@ -93,7 +93,13 @@ fn color(cell: &Cell) -> [u8; 3] {
 fn mark_path(maze: &mut Grid<Cell>) -> Result<(), AllocError> {
     let from = farthest(maze, (1, 1))?;
     let to = farthest(maze, from)?;
-    let path = shortest_path(maze, from, to, Steps::Sides, |cell| *cell != Cell::Wall)?;
+    let path = shortest_path(
+        maze,
+        from,
+        to,
+        Connectivity::Four,
+        |cell| *cell != Cell::Wall,
+    )?;
     for at in path.iter().flatten() {
         maze.set_at(*at, Cell::Path);
     }

@@ -1,6 +1,6 @@
 //! Conway's Life on a board whose edges meet. A glider crosses the corner and comes home.
 //!
-//! In four generations a glider goes one row down and one column right, so in 32 it goes once round the 8 rows and 8
+//! In four generations a glider goes one row down and one column right, so in 32 it goes once around the 8 rows and 8
 //! columns.
 #![tactic(auto)]
 

@@ -7,7 +7,7 @@
 
 use anyhow::{Result, bail};
 use grid::Grid;
-use grid_paths::{Steps, shortest_path};
+use grid_paths::{Connectivity, shortest_path};
 use grid_text::{from_text, to_text};
 use std::alloc::Global;
 use std::io::Read;
@@ -52,7 +52,7 @@ fn draw(maze: &mut Grid<char>, path: &[(usize, usize)]) {
 fn solve(alloc: Global, maze: &mut Grid<char>) -> Result<String> {
     let start = find(maze, 'S')?;
     let goal = find(maze, 'G')?;
-    match shortest_path(maze, start, goal, Steps::Sides, |cell| *cell != '#')? {
+    match shortest_path(maze, start, goal, Connectivity::Four, |cell| *cell != '#')? {
         Some(path) => {
             draw(maze, path.as_slice());
             Ok(format!(in alloc; "steps: {}", path.len().saturating_sub(1))?)

@@ -1,16 +1,16 @@
 //! Plays Minesweeper: reads a field of mines and moves on standard input, and draws the field after each move.
 //!
-//! A field is lines of `*` (a mine) and `.`. Behind a line `--` each line is a move: `open 2 3` or `flag 2 3`, with a row and
-//! a column.
+//! A field is lines of `*` (a mine) and `.`. After a line `--` each line is a move: `open 2 3` or `flag 2 3`, with a
+//! row and a column.
 #![tactic(auto)]
 
 use anyhow::{Result, bail};
 use grid::Grid;
-use grid_paths::{Enter, Steps, flood};
+use grid_paths::{Connectivity, Enter, flood};
 use grid_text::{from_text, to_text};
 use std::alloc::{AllocError, Global};
 use std::io;
-use text_lines::{Words, index};
+use text_lines::{Words, parse_index};
 
 #[derive(Clone, Copy, PartialEq)]
 enum Shown {
@@ -54,12 +54,15 @@ fn field(alloc: Global, text: &str) -> Result<Grid<Cell>> {
 fn read_move(line: &str) -> Option<(&str, (usize, usize))> {
     let mut words = Words::of(line.as_bytes())?;
     let word = words.next()?;
-    Some((word, (index(words.next()?)?, index(words.next()?)?)))
+    Some((
+        word,
+        (parse_index(words.next()?)?, parse_index(words.next()?)?),
+    ))
 }
 
-// Opens a cell, and round each that no mine touches all others, as far as these lead.
+// Opens a cell, and around each that no mine touches all others, as far as these lead.
 fn open(field: &mut Grid<Cell>, at: (usize, usize)) -> Result<(), AllocError> {
-    let opened = flood(field, &[at], Steps::All, |cell| match cell.near {
+    let opened = flood(field, &[at], Connectivity::Eight, |cell| match cell.near {
         _ if cell.shown == Shown::Flag => Enter::No,
         0 if !cell.is_mine => Enter::On,
         _ => Enter::Stop,

@@ -14,7 +14,7 @@ fn other(player: char) -> char {
     if player == 'x' { 'o' } else { 'x' }
 }
 
-// The end of the discs that a move turns in one direction: a disc of the player, behind some of the other one's.
+// The end of the discs that a move turns in one direction: a disc of the player, after some of the other one's.
 fn turned_to(
     board: &Grid<char>,
     at: (usize, usize),

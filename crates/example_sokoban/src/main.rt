@@ -1,7 +1,7 @@
 //! Plays Sokoban: reads a level and moves on standard input, and draws the level after them.
 //!
 //! A level is lines of `#` (a wall), `-` (a floor), `.` (a goal), `@` (the man) and `$` (a box); on a goal the man is
-//! `+` and a box `*`. Behind a line `--` come the moves `u`, `r`, `d` and `l`; `z` takes one back.
+//! `+` and a box `*`. After a line `--` come the moves `u`, `r`, `d` and `l`; `z` takes one back.
 #![tactic(auto)]
 
 use anyhow::{Result, bail};

@@ -1,7 +1,7 @@
 //! A line that is typed, and what a screen has to draw after each key: only the characters that changed.
 //!
 //! The keys are on standard input: `<` takes the last one back and `>` does it again, `-` deletes the last character,
-//! `!` turns the line round, `*` blinks, and any other character is typed.
+//! `!` turns the line around, `*` blinks, and any other character is typed.
 #![tactic(auto)]
 
 ghost use Rattle.std.specs.Prelude.{◌≡◌, OnOk};

@@ -36,7 +36,7 @@ fn ground((row, col): (usize, usize)) -> char {
     }
 }
 
-// How far a place is behind another, less than 0 before it.
+// How far a place is past another; less than 0 if it comes before.
 fn distance(place: usize, from: usize) -> isize {
     let behind = isize::try_from(place).unwrap_or(isize::MAX);
     behind.saturating_sub(isize::try_from(from).unwrap_or(isize::MAX))

@@ -2,7 +2,7 @@
 use Rattle.std.proofs.Common.{◌≡◌, ◌++◌, [], ◌∷◌, ℕ, List, take, drop, length, refl, sym, ◌∙◌, ap, arith, ⊎_elim, take_all, append-nil}
 use Rattle.grid.proofs.Common.{drop_all, row_count, col_count, storage, table_of, GridValue, FitsRow, insert_rows, by_storage}
 
--- rows put behind the last one
+-- rows put after the last one
 pub put_last : {T : Type 0} (i : ℕ) (lines t : List (List T)) → i ≡ row_count t → insert_rows i lines t ≡ t ++ lines
 put_last i lines t e =
     let front : take i t ≡ t = take_all i t (omega (arith, e)) in

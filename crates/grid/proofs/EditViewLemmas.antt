@@ -50,7 +50,7 @@ module _ {T : Type 0} where
 
   -- the table that is cut from m * n cells
   module _ (o : Order) (m n : ℕ) (cells : List T) (len : length cells ≡ m * n) where
-    -- lines that were behind the cells and are woven into them are rows
+    -- lines that were after the cells and are woven into them are rows
     pub view-insert_rows : (i k p q a g : ℕ) (lines : List (List T)) (new : List T) → RowGroups o m n i k p q a g → IsTable lines → row_count lines ≡ k → col_count lines ≡ n → i ≤ m → Woven p q a g (cells ++ storage o lines) new → table_of o (m + k) n new ≡ insert_rows i lines (table_of o m n cells)
     view-insert_rows i k p q a g lines new e h em en le w =
         let behind = storage o lines in
@@ -120,7 +120,7 @@ module _ {T : Type 0} where
     length_old : length old ≡ (rest + k) * n
     length_old = len ∙ ap (λ x. x * n) (sym size)
 
-    -- the groups go behind the lines
+    -- the groups go after the lines
     pub view-without_rows : (p q a g : ℕ) (after : List T) → RowGroups o rest n i k p q a g → Woven p q a g after old → table_of o rest n (take (rest * n) after) ≡ without_rows i k (table_of o m n old)
     view-without_rows p q a g after e w =
         cut_from o n i k rest old length_old (omega arith) after (rows_widened o rest n i k p q a g after old e w.lines) (take (rest * n) after) (λ x lt. get-take (rest * n) after x lt)

@@ -8,7 +8,7 @@ use Rattle.grid.proofs.SeenLemmas.{seen_rows, seen_cols}
 use Rattle.grid.proofs.ColEditLemmas.{cell-cross}
 use Rattle.grid_base.specs.Table as table
 
--- of the rows of n cells, the cells behind a stretch of row s
+-- of the rows of n cells, the cells after a stretch of row s
 behind : (n s c cols i j : ℕ) → c + cols ≤ n → j < n → (i ≡ s → c ≤ j → c + cols ≤ j) → s * n + c ≤ i * n + j → s * n + c + cols ≤ i * n + j
 behind n s c cols i j fits lj out le =
     ⊎_elim {C = s * n + c + cols ≤ i * n + j} (λ (lt : i < s). let below : i + 1 ≤ s = omega arith in absurd (omega (arith, mul-le-mul_right n below)))

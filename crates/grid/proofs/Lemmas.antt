@@ -11,11 +11,11 @@ pub use Rattle.grid.proofs.ExchangeLemmas.{part_across, stretch_row, stretch_col
 pub use Rattle.grid.proofs.FlipLemmas.{after_transpose, from_its_flags, transpose_then_flips, price_of_flips, transposed_rows, transposed_cols, flip_cols_across, price_across, rotate_half_by_part, flip_rows_by_lines, flip_rows_by_each}
 pub use Rattle.grid.proofs.FromViewLemmas.{part_size, from_storage, made_part}
 pub use Rattle.grid.proofs.IndexedIteratorLemmas.{same_at, gives_indices_of, indexed_fits, gives_owned_cells, gives_cells, gives_mut_cells}
-pub use Rattle.grid.proofs.LayoutLemmas.{relaid_rows, relaid_cols}
+pub use Rattle.grid.proofs.LayoutLemmas.{in_place_rows, in_place_cols}
 pub use Rattle.grid.proofs.LineEditLemmas.{refused_edit, done_edit, crossed_edit, pushed_edit, removed_rows, removed_reply, popped_rows, popped_reply, range_rows, range_reply, delete_rows_one, delete_reply_one, done_rows, done_reply, insert_all_memory, pad_none, padded_rows, padded_reply, read_rows, read_some, read_none, get_past, stepped_edit}
 pub use Rattle.grid.proofs.MadeLemmas.{made_size, CanCut-cells, made_fill, All-replicate, All-none, length-storage_none}
 pub use Rattle.grid.proofs.MadeLikeLemmas.{like_same, like_mapped, like_fault}
-pub use Rattle.grid_near.proofs.NearLemmas.{gives_round}
+pub use Rattle.grid_near.proofs.NearLemmas.{gives_around}
 pub use Rattle.grid.proofs.PastedLemmas.{pasted, updated_none, filled_part, clipped_as, clipped_within, pasted_clipped, updated_cell, set_wrote, updated_col, updated_row, updated_part, in_part_within}
 pub use Rattle.grid_view.proofs.PositionLemmas.{FoundBefore, before_none, before_next, before_row, before_all, HoldsBefore, found_none, found_next, found_one, found_row, found_all, found_in_range}
 pub use Rattle.grid.proofs.ResizeLemmas.{corner_rows, corner_resized, resizes_to, product_some, resized, corner_both}

@@ -5,7 +5,7 @@ use Rattle.grid_base.specs.declared.order.Order.{Order}
 use Rattle.grid.proofs.RowEditLemmas.{rows_widened, rows_opened, table-put}
 
 module _ {T : Type 0} (o : Order) (m n i k : ℕ) (old new : List T) where
-  -- k rows of cells that were behind a table of m rows and n columns are put before its row i
+  -- k rows of cells that were after a table of m rows and n columns are put before its row i
   pub record RowsOpened : Type 0 where
     pub lengths : length new ≡ length old
     pub fresh : List (List T)
@@ -36,7 +36,7 @@ module _ {T : Type 0} where
       let rest : xs ≡ replicate n d = replicate_from_all d xs n (All-tail (λ x. x ≡ d) x xs all) (omega arith) in
       cc
 
-  -- groups that are opened are rows of cells from behind the first m * n
+  -- groups that are opened are rows of the cells after the first m * n
   module _ (o : Order) (m n i k p q a g : ℕ) (before new : List T) (e : RowGroups o m n i k p q a g) (len : m * n ≤ length before) (le : i ≤ m) (h : Opened p q a g before new) where
     pub view-open_rows : RowsOpened o m n i k before new
     view-open_rows =
@@ -66,7 +66,7 @@ module _ {T : Type 0} where
         }
 
   module _ (o : Order) (m n i k : ℕ) (before new : List T) (h : RowsOpened o m n i k before new) where
-    -- what holds of each cell behind holds of each fresh one
+    -- what holds of each cell after the table holds of each fresh one
     pub All-fresh : (P : T → Type 0) → All P (drop (m * n) before) → (j : ℕ) → j < k → All P (row h.fresh j)
     All-fresh P all j lj =
         let wide : length (row h.fresh j) ≡ n = h.widths j (omega (arith, h.rows)) in

@@ -49,7 +49,7 @@ module _ {T : Type 0} where
   rows_widened ColumnMajor m n i k p q a g short long e h =
       widened_by_cols m n i k short long (at_groups (λ p q a g. Widened p q a g short long) p q a g n m i k e.0 e.1 e.2 e.3 h)
 
-  -- the groups are behind the lines, as the storage of the rows
+  -- the groups are after the lines, as the storage of the rows
   pub rows_woven : (o : Order) (m n i k p q a g : ℕ) (short long : List T) → RowGroups o m n i k p q a g → Woven p q a g short long → (j c : ℕ) → j < k → c < n → slice_get long (place o (m + k) n (i + j) c) ≡ slice_get short (m * n + place o k n j c)
   rows_woven RowMajor m n i k p q a g short long e h j c lj lc =
       let w : Woven 1 (m * n) (i * n) (k * n) short long = at_groups (λ p q a g. Woven p q a g short long) p q a g 1 (m * n) (i * n) (k * n) e.0 e.1 e.2 e.3 h in
@@ -60,7 +60,7 @@ module _ {T : Type 0} where
       at_equal long short (c * (m + k) + (i + j)) (c * (m + k) + (i + j)) (m * n + (c * k + j)) (n * m + (c * k + j)) refl (omega arith)
       (w.groups c j lc lj)
 
-  -- each place of a group has a cell from behind the lines
+  -- each place of a group has a cell from after the lines
   pub rows_opened : (o : Order) (m n i k p q a g : ℕ) (short long : List T) → RowGroups o m n i k p q a g → Opened p q a g short long → (j c : ℕ) → j < k → c < n → (x : ℕ) × (m * n ≤ x) × (x < length short) × (slice_get long (place o (m + k) n (i + j) c) ≡ slice_get short x)
   rows_opened RowMajor m n i k p q a g short long e h j c lj lc =
       let w : Opened 1 (m * n) (i * n) (k * n) short long = at_groups (λ p q a g. Opened p q a g short long) p q a g 1 (m * n) (i * n) (k * n) e.0 e.1 e.2 e.3 h in

@@ -7,7 +7,7 @@ use Rattle.grid.proofs.RowEditLemmas.{cells-groups, shift-taken}
 use Rattle.grid.proofs.EditViewLemmas.{view-without_rows, view-taken_rows, view-close_rows, cells-closed, view-insert_rows, table_of-no_rows}
 use Rattle.grid.proofs.EditSizeLemmas.{HoldsSize-fewer, HoldsSize-filled}
 
--- the cells of k lines of w cells are behind others
+-- the cells of k lines of w cells are after others
 pub record RowsBehind {T : Type 0} (o : Order) (w k : ℕ) (cells : List T) (lines : List (List T)) (grown : List T) : Type 0 where
   pub table : IsTable lines
   pub count : row_count lines ≡ k

@@ -1,4 +1,4 @@
--- What a closure answers at a cell and the cells round it.
+-- What a closure answers at a cell and the cells around it.
 use Rattle.std.specs.Prelude.{◌≡◌, ℕ, Some, Bool, List, Result, IfOk}
 use denote.Ref.{Bor}
 use Rattle.grid_base.specs.Prelude.{GridValue}
@@ -9,26 +9,27 @@ use Rattle.grid.specs.AllCells.{CallableAtPositions, MappedBy}
 module _ {F T : Type 0} (near : List (List T) → ℕ → ℕ → List ((ℕ × ℕ) × T)) where
   -- the closure f can be called at this position of the table t, a reference to the cell there, and
   -- the cells near it
-  abbrev pub ReachesRound : (F → ℕ × ℕ → Bor T → List ((ℕ × ℕ) × T) → Type 0) → F → List (List T) → ℕ × ℕ
+  abbrev pub ReachesAround : (F → ℕ × ℕ → Bor T → List ((ℕ × ℕ) × T) → Type 0) → F → List (List T)
+      → ℕ × ℕ
       → Bor T → Type 0
-  ReachesRound takes f t at p = InRange t at.0 at.1 × takes f at p (near t at.0 at.1)
+  ReachesAround takes f t at p = InRange t at.0 at.1 × takes f at p (near t at.0 at.1)
 
   -- it can be called so at each position
-  abbrev pub CallableRound : (F → ℕ × ℕ → Bor T → List ((ℕ × ℕ) × T) → Type 0) → F → List (List T)
+  abbrev pub CallableAround : (F → ℕ × ℕ → Bor T → List ((ℕ × ℕ) × T) → Type 0) → F → List (List T)
       → Type 0
-  CallableRound takes f t = (r c : ℕ) (p : Bor T) → InRange t r c → cell t r c ≡ Some p.now
+  CallableAround takes f t = (r c : ℕ) (p : Bor T) → InRange t r c → cell t r c ≡ Some p.now
       → takes f (r, c) p (near t r c)
 
   -- y is something that the closure f may return at a position of the table t, a reference to the
   -- cell there, and the cells near it
-  abbrev pub ReturnsRound : {B : Type 0} → (F → ℕ × ℕ → Bor T → List ((ℕ × ℕ) × T) → B → Type 0)
+  abbrev pub ReturnsAround : {B : Type 0} → (F → ℕ × ℕ → Bor T → List ((ℕ × ℕ) × T) → B → Type 0)
       → List (List T) → F → ℕ × ℕ → Bor T → B → Type 0
-  ReturnsRound returns t f at p y = returns f at p (near t at.0 at.1) y
+  ReturnsAround returns t f at p y = returns f at p (near t at.0 at.1) y
 
   -- a grid that was made is what f returns so at each position
-  abbrev pub MapRound : {B E : Type 0} → (F → ℕ × ℕ → Bor T → List ((ℕ × ℕ) × T) → B → Type 0) → F
+  abbrev pub MapAround : {B E : Type 0} → (F → ℕ × ℕ → Bor T → List ((ℕ × ℕ) × T) → B → Type 0) → F
       → List (List T) → Result (GridValue B) E → Type 0
-  MapRound returns f t made = IfOk made (λ v. MappedBy (ReturnsRound returns t) f t v.rows)
+  MapAround returns f t made = IfOk made (λ v. MappedBy (ReturnsAround returns t) f t v.rows)
 
 module _ {F G T : Type 0} (near : List (List T) → ℕ → ℕ → List ((ℕ × ℕ) × T))
     (returns : F → Bor T → Bool → Type 0) (f : F) where

@@ -4,7 +4,7 @@ use Rattle.grid_base.specs.Prelude.{row_count, col_count, cell, InRange, tabulat
 use Rattle.std.specs.Option.{option_or}
 use denote.Ref.{Bor}
 
--- number i counted from a signed number on; None before it
+-- index i counted from a signed index on; None before it
 abbrev pub counted_from : ℤ → ℕ → Option ℕ
 counted_from (pos a) i = if nat_lt i a then None else Some (i - a)
 counted_from (negsuc a) i = Some (i + (a + 1))
@@ -78,8 +78,8 @@ pub record CellsUpdated {A : Type 0} (P : ℕ → ℕ → Type 0) (returns : ℕ
   pub updated : (i j : ℕ) → P i j → CellUpdated returns old.rows new.rows i j
   pub others : (i j : ℕ) → (P i j → ⊥) → cell new.rows i j ≡ cell old.rows i j
 
--- a line of `len` cells that begins at a signed number, and `limit` numbers: of the line `count`
--- cells from number `skipped` on are over the numbers from `start` on
+-- a line of `len` cells that begins at a signed index, clipped to the indices below `limit`: its
+-- `count` cells from cell `skipped` on are at the indices from `start` on
 pub record IsClipped (at : ℤ) (len limit skipped start count : ℕ) : Type 0 where
   pub of_line : skipped + count ≤ len
   pub within : start + count ≤ limit

@@ -9,7 +9,7 @@ pub use Rattle.grid.specs.Edits.{FitsRow, FitsCol, insert_cols, without_rows, wi
 pub use Rattle.grid.specs.Exchanged.{held, InRow, InRows, PartTaken}
 pub use Rattle.grid.specs.GridFails.{GridFails}
 pub use Rattle.grid.specs.Make.{FailsAt, ExceedsMax, FailsBySize, IsMade, EachCellIs, HoldsDefaults, CallableOver, MadeBy, HasSize, IsOnlyDefault}
-pub use Rattle.grid.specs.NearMaps.{CallableRound, ReturnsRound, ReachesRound, MapRound, CallableCounted, MapCounts, CallableSummed, MapSums}
+pub use Rattle.grid.specs.NearMaps.{CallableAround, ReturnsAround, ReachesAround, MapAround, CallableCounted, MapCounts, CallableSummed, MapSums}
 pub use Rattle.grid.specs.Parts.{cols_swapped}
 pub use Rattle.grid.specs.Passes.{LinesReversed, EachLineReversed}
 pub use Rattle.grid.specs.Pasted.{overlaid, part_filled, IsWithin, CallableInPart, CallableInRow, PartUpdated, CellsUpdated, IsClipped}
@@ -50,10 +50,10 @@ pub use Rattle.grid_commands.specs.Refusal.{in_range, lines_refusal, pad_refusal
 pub use Rattle.grid_commands.specs.Reply.{reply_value, ReplyValue, done, size_is, cell_is, line_is, flag_is, refused}
 pub use Rattle.grid_near.specs.Around.{strided_cell, box, IsThere, around, side}
 pub use Rattle.grid_near.specs.Directions.{IsBeside, box_of, wrapped_beside}
-pub use Rattle.grid_near.specs.Marks.{TakesCounted, AnswersCounted, TakesSummed, AnswersSummed, count_round, sum_round, near, table, placed_cells}
+pub use Rattle.grid_near.specs.Marks.{TakesCounted, AnswersCounted, TakesSummed, AnswersSummed, count_around, sum_around, near, table, placed_cells}
 pub use Rattle.grid_near.specs.NearCounts.{CallableNear, CountsNear}
 unfoldable pub use Rattle.grid_near.specs.Neighbors.{neighbors4, neighbors8, wrapped_neighbors4, wrapped_neighbors8}
-pub use Rattle.grid_near.specs.Neighbors.{neighbors_of, wrapped_neighbors_of, round_of, step_count, GivesNear, placed, around4, around8, before, cell_at}
+pub use Rattle.grid_near.specs.Neighbors.{neighbors_of, wrapped_neighbors_of, around_of, step_count, GivesNear, placed, around4, around8, before, cell_at}
 pub use Rattle.grid_view.specs.Found.{CallableAtCells, AnswersAt, FoundFirst, FoundAll}
 pub use Rattle.grid_view.specs.Lines.{directed}
 pub use Rattle.grid_view.specs.Nearest.{nearest_below}

@@ -50,8 +50,8 @@ fn row_groups(order: Order, rows: usize, cols: usize, at: usize, count: usize) -
     }
 }
 
-// Whether `rows` rows and `count` more, each of `width` cells, have at most `usize::MAX` cells.
-fn has_room(rows: usize, count: usize, width: usize) -> bool
+// Whether a `usize` can count the cells of `rows` rows and `count` more, each of `width` cells.
+fn fits_usize(rows: usize, count: usize, width: usize) -> bool
     requires { 0 < width }
     ensures { IsTrue result ↔ ((rows + count) * width < 2 ^ 64) }
 {

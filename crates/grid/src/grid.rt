@@ -17,7 +17,7 @@ use std::ops::{Index, IndexMut};
 /// There are rows exactly if there are columns, and the vector holds rows times columns cells.
 #[derive(Drop)]
 pub struct Grid<T, A: Allocator = Global> {
-    // Before the numbers: a byte at the end would be moved with its padding through memory, which takes 4 ns.
+    // Before the counts: a byte at the end would be moved with its padding through memory, which takes 4 ns.
     pub(crate) order: Order,
     pub(crate) flat: Flat<T, A>,
     pub(crate) row_count: usize,
@@ -34,7 +34,7 @@ impl<T, A: Allocator> Model for Grid<T, A> {
     ghost view = { λ g. grid_value g.order g.row_count g.col_count g.flat g.fits };
 }
 
-// The numbers of rows and columns of `len` cells that are cut into rows of `cols`.
+// How many rows and columns there are of `len` cells that are cut into rows of `cols`.
 fn size_of_cut(len: usize, cols: usize) -> (usize, usize)
     requires { CanCut len cols }
     ensures holds { HoldsSize result.0 result.1 len }
@@ -223,8 +223,8 @@ impl<T, A: Allocator> Grid<T, A> {
         self.flat.at_mut(place)
     }
 
-    /// Writes a cell, and returns the one that was there. Returns `None` exactly out of range, where nothing changes and
-    /// the value is dropped.
+    /// Writes a cell, and returns the one that was there. Returns `None` exactly out of range, where nothing changes
+    /// and the value is dropped.
     ///
     ///     [[1, 2], [3, 4]]   set(1, 0, 9)   Some(3)   [[1, 2], [9, 4]]
     ///     [[1, 2], [3, 4]]   set(2, 0, 9)   None      [[1, 2], [3, 4]]

@@ -19,17 +19,17 @@
 //! - read: `size`, `rows`, `cols`, `order`, `is_empty`, `get`, `get_at`, `get_clamped`, `get_unchecked`,
 //!   `grid[(row, col)]`, `flatten`, `as_slice`, `into_vec`; `contains`, `position`, `positions`, `beside`,
 //!   `wrapped_beside`; `can_cut`, `fits_row`, `fits_col`, `allocator`
-//! - write: `set`, `set_at`, `get_mut`, `get_mut_at`, `get_unchecked_mut`, `grid[(row, col)] = x`, `as_mut_slice`, `swap`,
-//!   `fill`, `fill_with`, `clear`; `view_mut` and `part_mut`, values that a loop writes through
+//! - write: `set`, `set_at`, `get_mut`, `get_mut_at`, `get_unchecked_mut`, `grid[(row, col)] = x`, `as_mut_slice`,
+//!   `swap`, `fill`, `fill_with`, `clear`; `view_mut` and `part_mut`, values that a loop writes through
 //! - rows and columns: `push_*`, `insert_*`, `pop_*`, `remove_*`, `delete_*`, `expand_*`, `prepend_*`, `append_*`,
 //!   `split_off_*`, `resize`
 //! - iterate: `iter`, `iter_row`, `iter_col` and their forms for writing, `iter_rows`, `iter_cols`, `indexed_iter`,
 //!   `indexed_iter_mut`, `indexed_into_iter`, and a `for` over a grid
-//! - the cells round a cell: `neighbors4`, `neighbors8`, `wrapped_neighbors4`, `wrapped_neighbors8`; how many pass a test,
-//!   as `count_neighbors8`; a grid of what a closure makes of them, as `map_neighbors8`, or, many times faster, of their
-//!   counts and sums, as `map_counts8` and `map_sums8`
-//! - views, which copy no cell: `view` and `part`, and `turned`, `get`, `iter_row` and more on a [`GridView`]; [`same_cells`]
-//!   of two boards of any kind
+//! - the cells around a cell: `neighbors4`, `neighbors8`, `wrapped_neighbors4`, `wrapped_neighbors8`; how many pass a
+//!   test, as `count_neighbors8`; a grid of what a closure makes of them, as `map_neighbors8`, or, many times faster,
+//!   of their counts and sums, as `map_counts8` and `map_sums8`
+//! - views, which copy no cell: `view` and `part`, and `turned`, `get`, `iter_row` and more on a [`GridView`];
+//!   [`same_cells`] of two boards of any kind
 //! - parts: `sub_grid`, `from_view`, `map_view`, `paste`, `paste_copied`, `paste_clipped`, `fill_part`, `update_part`,
 //!   `swap_rows`, `swap_cols`
 //! - the whole grid: `map`, `map_ref`, `map_indexed`, `try_map_indexed`, `update`, `clone`, `==`, `Hash`, `Debug`,

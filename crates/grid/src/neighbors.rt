@@ -1,11 +1,11 @@
-//! Iterators over the cells round a cell, on the grid as it is or with its edges joined.
+//! Iterators over the cells around a cell, on the grid as it is or with its edges joined.
 ghost use Rattle.std.specs.Prelude.{◌≡◌, ◌≤◌, length, IfOk};
-ghost use Rattle.grid.specs.Prelude.{InRange, SameSizeAndOrder, storage, CallableAtRefs, GivesCells, CallableRound, ReachesRound, MapRound, CallableCounted, MapCounts, CallableSummed, MapSums, CallableNear, CountsNear, neighbors4, neighbors8, wrapped_neighbors4, wrapped_neighbors8, round_of, step_count, GivesNear};
+ghost use Rattle.grid.specs.Prelude.{InRange, SameSizeAndOrder, storage, CallableAtRefs, GivesCells, CallableAround, ReachesAround, MapAround, CallableCounted, MapCounts, CallableSummed, MapSums, CallableNear, CountsNear, neighbors4, neighbors8, wrapped_neighbors4, wrapped_neighbors8, around_of, step_count, GivesNear};
 ghost use Rattle.grid_near.specs.declared.board.Edges.TheVariants.{Joined};
 
 use crate::Grid;
 use grid_base::{Flat, Layout};
-use grid_near::{Board, Edges, Neighbors, Steps, WrappedNeighbors};
+use grid_near::{Board, Connectivity, Edges, Neighbors, WrappedNeighbors};
 use std::alloc::{AllocError, Allocator};
 
 impl<T, A: Allocator> Grid<T, A> {
@@ -20,11 +20,11 @@ impl<T, A: Allocator> Grid<T, A> {
         ensures count { length result ≤ 4 }
         ensures cells { GivesCells self.now.rows result }
     {
-        self.cells_round(at, Steps::Sides, Edges::Open)
+        self.cells_around(at, Connectivity::Four, Edges::Open)
     }
 
-    /// Returns an iterator over the cells that touch the cell at this position, at a side or a corner, row by row, each with
-    /// its position.
+    /// Returns an iterator over the cells that touch the cell at this position, at a side or a corner, row by row, each
+    /// with its position.
     ///
     ///     [[1, 2, 3], [4, 5, 6]]   neighbors8((0, 2))   ((0, 1), 2), ((1, 1), 5), ((1, 2), 6)
     ///
@@ -34,12 +34,12 @@ impl<T, A: Allocator> Grid<T, A> {
         ensures count { length result ≤ 8 }
         ensures cells { GivesCells self.now.rows result }
     {
-        self.cells_round(at, Steps::All, Edges::Open)
+        self.cells_around(at, Connectivity::Eight, Edges::Open)
     }
 
-    /// Same as [`neighbors4`](Grid::neighbors4), on a grid whose edges meet: the last row is above the first, and the last
-    /// column left of the first. It gives exactly four cells; with one row or column, or two, some of them come twice. Out of
-    /// range it gives none.
+    /// Same as [`neighbors4`](Grid::neighbors4), on a grid whose edges meet: the last row is above the first, and the
+    /// last column left of the first. It gives exactly four cells; with one row or column, or two, some of them come
+    /// twice. Out of range it gives none.
     ///
     ///     [[1, 2, 3], [4, 5, 6]]   wrapped_neighbors4((0, 2))   ((1, 2), 6), ((0, 1), 2), ((0, 0), 1), ((1, 2), 6)
     ///
@@ -50,12 +50,12 @@ impl<T, A: Allocator> Grid<T, A> {
         ensures at_most { length result ≤ 4 }
         ensures cells { GivesCells self.now.rows result }
     {
-        self.cells_round(at, Steps::Sides, Edges::Joined)
+        self.cells_around(at, Connectivity::Four, Edges::Joined)
     }
 
-    /// Same as [`neighbors8`](Grid::neighbors8), on a grid whose edges meet: the last row is above the first, and the last
-    /// column left of the first. It gives exactly eight cells; with one row or column, or two, some of them come more than
-    /// once, and the cell itself can be one of them. Out of range it gives none.
+    /// Same as [`neighbors8`](Grid::neighbors8), on a grid whose edges meet: the last row is above the first, and the
+    /// last column left of the first. It gives exactly eight cells; with one row or column, or two, some of them come
+    /// more than once, and the cell itself can be one of them. Out of range it gives none.
     ///
     ///     [[1, 2, 3], [4, 5, 6], [7, 8, 9]]   wrapped_neighbors8((0, 0))   9, 7, 8, 3, 2, 6, 4, 5, each with its position
     ///
@@ -66,7 +66,7 @@ impl<T, A: Allocator> Grid<T, A> {
         ensures at_most { length result ≤ 8 }
         ensures cells { GivesCells self.now.rows result }
     {
-        self.cells_round(at, Steps::All, Edges::Joined)
+        self.cells_around(at, Connectivity::Eight, Edges::Joined)
     }
 
     /// Same as [`map_neighbors8`](Grid::map_neighbors8), with the iterator that [`neighbors4`](Grid::neighbors4) gives.
@@ -76,11 +76,11 @@ impl<T, A: Allocator> Grid<T, A> {
     ) -> Result<Grid<U, A>, AllocError>
     where
         A: Clone,
-        requires { CallableRound neighbors4 F.pre f self.now.rows }
+        requires { CallableAround neighbors4 F.pre f self.now.rows }
         ensures same { IfOk result (SameSizeAndOrder self.now) }
-        ensures cells { MapRound neighbors4 F.post f self.now.rows result }
+        ensures cells { MapAround neighbors4 F.post f self.now.rows result }
     {
-        self.map_round(Steps::Sides, Edges::Open, f)
+        self.map_around(Connectivity::Four, Edges::Open, f)
     }
 
     /// Returns the grid of what the closure, called in storage order, returns for each position, a reference to the
@@ -89,7 +89,7 @@ impl<T, A: Allocator> Grid<T, A> {
     ///     [[1, 2, 3], [4, 5, 6]]   map_neighbors8(|_, x, near| near.fold(*x, |sum, (_, y)| sum + *y))
     ///                              [[12, 21, 16], [12, 21, 16]]
     ///
-    /// Requires: the closure can be called at each position, a reference to the cell there, and the cells round it.
+    /// Requires: the closure can be called at each position, a reference to the cell there, and the cells around it.
     /// Fails: if allocation fails; the closure wasn't called.
     /// Cost: one call for each cell; one allocation, before the first call.
     pub fn map_neighbors8<U, F: Fn((usize, usize), &T, Neighbors<'_, T>) -> U>(
@@ -98,11 +98,11 @@ impl<T, A: Allocator> Grid<T, A> {
     ) -> Result<Grid<U, A>, AllocError>
     where
         A: Clone,
-        requires { CallableRound neighbors8 F.pre f self.now.rows }
+        requires { CallableAround neighbors8 F.pre f self.now.rows }
         ensures same { IfOk result (SameSizeAndOrder self.now) }
-        ensures cells { MapRound neighbors8 F.post f self.now.rows result }
+        ensures cells { MapAround neighbors8 F.post f self.now.rows result }
     {
-        self.map_round(Steps::All, Edges::Open, f)
+        self.map_around(Connectivity::Eight, Edges::Open, f)
     }
 
     /// Same as [`map_neighbors8`](Grid::map_neighbors8), with the iterator that
@@ -113,11 +113,11 @@ impl<T, A: Allocator> Grid<T, A> {
     ) -> Result<Grid<U, A>, AllocError>
     where
         A: Clone,
-        requires { CallableRound wrapped_neighbors4 F.pre f self.now.rows }
+        requires { CallableAround wrapped_neighbors4 F.pre f self.now.rows }
         ensures same { IfOk result (SameSizeAndOrder self.now) }
-        ensures cells { MapRound wrapped_neighbors4 F.post f self.now.rows result }
+        ensures cells { MapAround wrapped_neighbors4 F.post f self.now.rows result }
     {
-        self.map_round(Steps::Sides, Edges::Joined, f)
+        self.map_around(Connectivity::Four, Edges::Joined, f)
     }
 
     /// Same as [`map_neighbors8`](Grid::map_neighbors8), with the iterator that
@@ -128,11 +128,11 @@ impl<T, A: Allocator> Grid<T, A> {
     ) -> Result<Grid<U, A>, AllocError>
     where
         A: Clone,
-        requires { CallableRound wrapped_neighbors8 F.pre f self.now.rows }
+        requires { CallableAround wrapped_neighbors8 F.pre f self.now.rows }
         ensures same { IfOk result (SameSizeAndOrder self.now) }
-        ensures cells { MapRound wrapped_neighbors8 F.post f self.now.rows result }
+        ensures cells { MapAround wrapped_neighbors8 F.post f self.now.rows result }
     {
-        self.map_round(Steps::All, Edges::Joined, f)
+        self.map_around(Connectivity::Eight, Edges::Joined, f)
     }
 
     /// Same as [`count_neighbors8`](Grid::count_neighbors8), of the cells of [`neighbors4`](Grid::neighbors4).
@@ -194,18 +194,20 @@ impl<T, A: Allocator> Grid<T, A> {
         grid_near::count_near(self.wrapped_neighbors8(at), test)
     }
 
-    /// Returns the grid of what the closure `rule` returns for a reference to each cell and the number of the cells
+    /// Returns the grid of what the closure `rule` returns for a reference to each cell and how many of the cells
     /// that touch it, at a side or a corner, for which the closure `test` returns `true`. The size and the order are
     /// the same.
     ///
     ///     [[1, 2, 3], [4, 5, 6]]   map_counts8(|x| 4 < *x, |_, n| n)   [[1, 2, 2], [1, 1, 1]]
     ///
-    /// It takes a tenth of the time of [`map_indexed`](Grid::map_indexed) with [`count_neighbors8`](Grid::count_neighbors8),
-    /// or less, where `rule` has no branch: write `|` and `&` in it, and not `||` and `&&`.
+    /// It takes a tenth of the time of [`map_indexed`](Grid::map_indexed) with
+    /// [`count_neighbors8`](Grid::count_neighbors8), or less, where `rule` has no branch: write `|` and `&` in it, and
+    /// not `||` and `&&`.
     ///
     /// Requires: the closures can be called with these arguments.
     /// Fails: if allocation fails; neither closure was called.
-    /// Cost: one call of each closure for each cell; one allocation, and three of a line of `bool`s, before the first call.
+    /// Cost: one call of each closure for each cell; one allocation, and three of a line of `bool`s, before the first
+    /// call.
     pub fn map_counts8<U, F: Fn(&T) -> bool, G: Fn(&T, u8) -> U>(
         &self,
         test: F,
@@ -218,7 +220,7 @@ impl<T, A: Allocator> Grid<T, A> {
         ensures same { IfOk result (SameSizeAndOrder self.now) }
         ensures cells { MapCounts neighbors8 F.post test G.post rule self.now.rows result }
     {
-        self.counts_round(Steps::All, Edges::Open, test, rule)
+        self.counts_around(Connectivity::Eight, Edges::Open, test, rule)
     }
 
     /// Same as [`map_counts8`](Grid::map_counts8), on a grid whose edges meet, as
@@ -228,8 +230,8 @@ impl<T, A: Allocator> Grid<T, A> {
     ///
     /// Requires: the closures can be called with these arguments.
     /// Fails: if allocation fails; neither closure was called.
-    /// Cost: one call of each closure for each cell, and one more of `test` for each cell of two lines; one allocation, and
-    /// three of a line of `bool`s, before the first call.
+    /// Cost: one call of each closure for each cell, and one more of `test` for each cell of two lines; one allocation,
+    /// and three of a line of `bool`s, before the first call.
     pub fn map_wrapped_counts8<U, F: Fn(&T) -> bool, G: Fn(&T, u8) -> U>(
         &self,
         test: F,
@@ -242,7 +244,7 @@ impl<T, A: Allocator> Grid<T, A> {
         ensures same { IfOk result (SameSizeAndOrder self.now) }
         ensures cells { MapCounts wrapped_neighbors8 F.post test G.post rule self.now.rows result }
     {
-        self.counts_round(Steps::All, Edges::Joined, test, rule)
+        self.counts_around(Connectivity::Eight, Edges::Joined, test, rule)
     }
 
     /// Same as [`map_counts8`](Grid::map_counts8), with the sum of what the closure `weight` returns at the cells that
@@ -252,7 +254,8 @@ impl<T, A: Allocator> Grid<T, A> {
     ///
     /// Requires: the closures can be called with these arguments.
     /// Fails: if allocation fails; neither closure was called.
-    /// Cost: one call of each closure for each cell; one allocation, and three of a line of `u8`s, before the first call.
+    /// Cost: one call of each closure for each cell; one allocation, and three of a line of `u8`s, before the first
+    /// call.
     pub fn map_sums8<U, F: Fn(&T) -> u8, G: Fn(&T, u16) -> U>(
         &self,
         weight: F,
@@ -265,7 +268,7 @@ impl<T, A: Allocator> Grid<T, A> {
         ensures same { IfOk result (SameSizeAndOrder self.now) }
         ensures cells { MapSums neighbors8 F.post weight G.post rule self.now.rows result }
     {
-        self.sums_round(Steps::All, Edges::Open, weight, rule)
+        self.sums_around(Connectivity::Eight, Edges::Open, weight, rule)
     }
 
     /// Same as [`map_sums8`](Grid::map_sums8), on a grid whose edges meet.
@@ -274,8 +277,8 @@ impl<T, A: Allocator> Grid<T, A> {
     ///
     /// Requires: the closures can be called with these arguments.
     /// Fails: if allocation fails; neither closure was called.
-    /// Cost: one call of each closure for each cell, and one more of `weight` for each cell of two lines; one allocation, and
-    /// three of a line of `u8`s, before the first call.
+    /// Cost: one call of each closure for each cell, and one more of `weight` for each cell of two lines; one
+    /// allocation, and three of a line of `u8`s, before the first call.
     pub fn map_wrapped_sums8<U, F: Fn(&T) -> u8, G: Fn(&T, u16) -> U>(
         &self,
         weight: F,
@@ -288,7 +291,7 @@ impl<T, A: Allocator> Grid<T, A> {
         ensures same { IfOk result (SameSizeAndOrder self.now) }
         ensures cells { MapSums wrapped_neighbors8 F.post weight G.post rule self.now.rows result }
     {
-        self.sums_round(Steps::All, Edges::Joined, weight, rule)
+        self.sums_around(Connectivity::Eight, Edges::Joined, weight, rule)
     }
 
     /// Same as [`map_counts8`](Grid::map_counts8), of the four cells that share a side with a cell.
@@ -304,7 +307,7 @@ impl<T, A: Allocator> Grid<T, A> {
         ensures same { IfOk result (SameSizeAndOrder self.now) }
         ensures cells { MapCounts neighbors4 F.post test G.post rule self.now.rows result }
     {
-        self.counts_round(Steps::Sides, Edges::Open, test, rule)
+        self.counts_around(Connectivity::Four, Edges::Open, test, rule)
     }
 
     /// Same as [`map_wrapped_counts8`](Grid::map_wrapped_counts8), of the four cells that share a side with a cell.
@@ -320,7 +323,7 @@ impl<T, A: Allocator> Grid<T, A> {
         ensures same { IfOk result (SameSizeAndOrder self.now) }
         ensures cells { MapCounts wrapped_neighbors4 F.post test G.post rule self.now.rows result }
     {
-        self.counts_round(Steps::Sides, Edges::Joined, test, rule)
+        self.counts_around(Connectivity::Four, Edges::Joined, test, rule)
     }
 
     /// Same as [`map_sums8`](Grid::map_sums8), of the four cells that share a side with a cell.
@@ -336,7 +339,7 @@ impl<T, A: Allocator> Grid<T, A> {
         ensures same { IfOk result (SameSizeAndOrder self.now) }
         ensures cells { MapSums neighbors4 F.post weight G.post rule self.now.rows result }
     {
-        self.sums_round(Steps::Sides, Edges::Open, weight, rule)
+        self.sums_around(Connectivity::Four, Edges::Open, weight, rule)
     }
 
     /// Same as [`map_wrapped_sums8`](Grid::map_wrapped_sums8), of the four cells that share a side with a cell.
@@ -352,47 +355,53 @@ impl<T, A: Allocator> Grid<T, A> {
         ensures same { IfOk result (SameSizeAndOrder self.now) }
         ensures cells { MapSums wrapped_neighbors4 F.post weight G.post rule self.now.rows result }
     {
-        self.sums_round(Steps::Sides, Edges::Joined, weight, rule)
+        self.sums_around(Connectivity::Four, Edges::Joined, weight, rule)
     }
 
-    // The cells round a cell, by which steps, and by what the edges do.
+    // The cells around a cell, by their connectivity and by what the edges do.
     #[inline(always)]
-    fn cells_round(&self, at: (usize, usize), kind: Steps, edges: Edges) -> Neighbors<'_, T>
-        ensures gives { GivesNear (round_of kind edges self.now.rows at.0 at.1) result }
+    fn cells_around(
+        &self,
+        at: (usize, usize),
+        connectivity: Connectivity,
+        edges: Edges,
+    ) -> Neighbors<'_, T>
+        ensures gives { GivesNear (around_of connectivity edges self.now.rows at.0 at.1) result }
         ensures count { edges ≡ Joined → InRange self.now.rows at.0 at.1
-            → length result ≡ step_count kind }
-        ensures at_most { length result ≤ step_count kind }
+            → length result ≡ step_count connectivity }
+        ensures at_most { length result ≤ step_count connectivity }
         ensures cells { GivesCells self.now.rows result }
     {
         let (order, rows, cols) = (self.order, self.row_count, self.col_count);
         let layout = Layout { order, rows, cols };
-        grid_near::neighbors_of(self.flat.as_slice(), layout, at, kind, edges)
+        grid_near::neighbors_of(self.flat.as_slice(), layout, at, connectivity, edges)
     }
 
-    // What the closure returns at each cell and the cells round it.
-    fn map_round<U, F: Fn((usize, usize), &T, Neighbors<'_, T>) -> U>(
+    // What the closure returns at each cell and the cells around it.
+    fn map_around<U, F: Fn((usize, usize), &T, Neighbors<'_, T>) -> U>(
         &self,
-        kind: Steps,
+        connectivity: Connectivity,
         edges: Edges,
         f: F,
     ) -> Result<Grid<U, A>, AllocError>
     where
         A: Clone,
-        requires { CallableRound (round_of kind edges) F.pre f self.now.rows }
+        requires { CallableAround (around_of connectivity edges) F.pre f self.now.rows }
         ensures same { IfOk result (SameSizeAndOrder self.now) }
-        ensures cells { MapRound (round_of kind edges) F.post f self.now.rows result }
+        ensures cells { MapAround (around_of connectivity edges) F.post f self.now.rows result }
     {
         self.map_indexed(
             |at, cell|
-                requires { ReachesRound (round_of kind edges) F.pre f self.now.rows at cell }
-            { f(at, cell, self.cells_round(at, kind, edges)) },
+                requires { ReachesAround (around_of connectivity edges) F.pre f self.now.rows at
+                    cell }
+            { f(at, cell, self.cells_around(at, connectivity, edges)) },
         )
     }
 
-    // What the closure returns at each cell and how many of the cells round it pass.
-    fn counts_round<U, F: Fn(&T) -> bool, G: Fn(&T, u8) -> U>(
+    // What the closure returns at each cell and how many of the cells around it pass.
+    fn counts_around<U, F: Fn(&T) -> bool, G: Fn(&T, u8) -> U>(
         &self,
-        kind: Steps,
+        connectivity: Connectivity,
         edges: Edges,
         test: F,
         rule: G,
@@ -400,10 +409,10 @@ impl<T, A: Allocator> Grid<T, A> {
     where
         A: Clone,
         requires tests { CallableAtRefs F.pre test (storage self.now.order self.now.rows) }
-        requires calls { CallableCounted (round_of kind edges) F.post test G.pre rule
+        requires calls { CallableCounted (around_of connectivity edges) F.post test G.pre rule
             self.now.rows }
         ensures same { IfOk result (SameSizeAndOrder self.now) }
-        ensures cells { MapCounts (round_of kind edges) F.post test G.post rule
+        ensures cells { MapCounts (around_of connectivity edges) F.post test G.post rule
             self.now.rows result }
     {
         let (order, rows, cols) = (self.order, self.row_count, self.col_count);
@@ -413,7 +422,7 @@ impl<T, A: Allocator> Grid<T, A> {
             cells,
             layout: Layout { order, rows, cols },
             edges,
-            kind,
+            connectivity,
             mark: &test,
         };
         let made = grid_near::map_counts(alloc, &board, rule)?;
@@ -425,10 +434,10 @@ impl<T, A: Allocator> Grid<T, A> {
         })
     }
 
-    // What the closure returns at each cell and the sum of those round it.
-    fn sums_round<U, F: Fn(&T) -> u8, G: Fn(&T, u16) -> U>(
+    // What the closure returns at each cell and the sum of those around it.
+    fn sums_around<U, F: Fn(&T) -> u8, G: Fn(&T, u16) -> U>(
         &self,
-        kind: Steps,
+        connectivity: Connectivity,
         edges: Edges,
         weight: F,
         rule: G,
@@ -436,10 +445,10 @@ impl<T, A: Allocator> Grid<T, A> {
     where
         A: Clone,
         requires weights { CallableAtRefs F.pre weight (storage self.now.order self.now.rows) }
-        requires calls { CallableSummed (round_of kind edges) F.post weight G.pre rule
+        requires calls { CallableSummed (around_of connectivity edges) F.post weight G.pre rule
             self.now.rows }
         ensures same { IfOk result (SameSizeAndOrder self.now) }
-        ensures cells { MapSums (round_of kind edges) F.post weight G.post rule
+        ensures cells { MapSums (around_of connectivity edges) F.post weight G.post rule
             self.now.rows result }
     {
         let (order, rows, cols) = (self.order, self.row_count, self.col_count);
@@ -449,7 +458,7 @@ impl<T, A: Allocator> Grid<T, A> {
             cells,
             layout: Layout { order, rows, cols },
             edges,
-            kind,
+            connectivity,
             mark: &weight,
         };
         let made = grid_near::map_sums(alloc, &board, rule)?;

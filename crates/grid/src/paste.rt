@@ -7,8 +7,8 @@ use crate::exchange::{copy_part, exchange_part};
 use grid_view::GridView;
 use std::alloc::{AllocError, Allocator};
 
-// Returns which cells of a line of `len` cells are over `limit` numbers, where the first is over a signed number: how
-// many come before them, over which number the first of them is, and how many there are.
+// Clips a line of `len` cells that begins at a signed index to `0..limit`: how many cells are cut off before, the index
+// of the first that is left, and how many are left.
 fn clipped(at: isize, len: usize, limit: usize) -> (usize, usize, usize)
     ensures { IsClipped at len limit result.0 result.1 result.2 }
 {
@@ -48,8 +48,8 @@ impl<T, A: Allocator> Grid<T, A> {
         Ok(())
     }
 
-    /// Writes copies of the cells of a view over the cells from position `at` on, of cells that are `Copy`. The call can't
-    /// fail: [`paste`](Grid::paste) makes all clones before its first change.
+    /// Writes copies of the cells of a view over the cells from position `at` on, of cells that are `Copy`. The call
+    /// can't fail: [`paste`](Grid::paste) makes all clones before its first change.
     ///
     ///     [[1, 2, 3], [4, 5, 6]]   paste_copied((0, 1), [[7, 8]])   [[1, 7, 8], [4, 5, 6]]
     ///
@@ -129,8 +129,8 @@ impl<T, A: Allocator> Grid<T, A> {
         Ok(())
     }
 
-    /// Replaces each cell of a part by what the closure returns at its position in the grid and a reference to it, row by
-    /// row: the `size.0` rows and `size.1` columns from position `at` on.
+    /// Replaces each cell of a part by what the closure returns at its position in the grid and a reference to it, row
+    /// by row: the `size.0` rows and `size.1` columns from position `at` on.
     ///
     ///     [[1, 2, 3], [4, 5, 6]]   update_part((0, 1), (2, 1), |_, x| *x * 10)   [[1, 20, 3], [4, 50, 6]]
     ///

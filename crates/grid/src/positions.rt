@@ -1,4 +1,5 @@
-//! Positions as pairs: whether there is a cell, access, a step to the side, and the positions of cells that pass a test.
+//! Positions as pairs: whether there is a cell, access, a step to the side, and the positions of cells that pass a
+//! test.
 ghost use Rattle.std.specs.Prelude.{◌≡◌, ◌↔◌, ◌<◌, IsTrue, IfOk, IfSome, IsSome, MatchOption, is_some, Some, option_copied};
 ghost use Rattle.grid.specs.Prelude.{row_count, col_count, cell, nearest_below, with_cell, InRange, SameSizeAndOrder, sem, CallableAtCells, FoundFirst, FoundAll, IsBeside, IsOffset, GivesIndices, wrapped_beside};
 ghost use Rattle.std.specs.List.{All};
@@ -31,8 +32,9 @@ impl<T, A: Allocator> Grid<T, A> {
         self.get(at.0, at.1)
     }
 
-    /// Returns the cell at a signed position, or, where a number is out of range, at the nearest one in range: 0 in place of
-    /// a negative one, the last in place of one that is too large. It is `None` exactly where there are no cells.
+    /// Returns the cell at a signed position, or, where an index is out of range, at the nearest one in range: 0 in
+    /// place of a negative one, the last in place of one that is too large. It is `None` exactly where there are no
+    /// cells.
     ///
     ///     [[1, 2], [3, 4]]   get_clamped((0, 1))    Some(2)
     ///     [[1, 2], [3, 4]]   get_clamped((-1, 5))   Some(2)
@@ -90,8 +92,8 @@ impl<T, A: Allocator> Grid<T, A> {
         way.step(self.size(), at)
     }
 
-    /// Returns the position that is one step from `at` on a board whose edges meet: the first row comes after the last, and so
-    /// do the columns. Returns `None` exactly where `at` is out of range.
+    /// Returns the position that is one step from `at` on a board whose edges meet: the first row comes after the last,
+    /// and so do the columns. Returns `None` exactly where `at` is out of range.
     ///
     ///     [[1, 2, 3], [4, 5, 6]]   wrapped_beside((0, 2), Right)    Some((0, 0))
     ///     [[1, 2, 3], [4, 5, 6]]   wrapped_beside((0, 0), UpLeft)   Some((1, 2))
@@ -106,8 +108,8 @@ impl<T, A: Allocator> Grid<T, A> {
         way.wrapped_step(self.size(), at)
     }
 
-    /// Returns the position that is `by.0` rows down and `by.1` columns to the right of `at`, if there is a cell. Negative
-    /// numbers go up and to the left.
+    /// Returns the position that is `by.0` rows down and `by.1` columns to the right of `at`, if there is a cell.
+    /// Negative offsets go up and to the left.
     ///
     ///     [[1, 2, 3], [4, 5, 6]]   offset((0, 0), (1, 2))    Some((1, 2))
     ///     [[1, 2, 3], [4, 5, 6]]   offset((0, 0), (1, -1))   None

@@ -22,7 +22,7 @@ pub use Rattle.grid_base.specs.Move.{of_move, word_image, IsNormalForm, ActAlike
 pub use Rattle.grid_base.specs.Order.{storage, flipped, place, table_of, CanCut}
 unfoldable pub use Rattle.grid_base.specs.Positions.{positions}
 pub use Rattle.grid_base.specs.Positions.{StandsAt, along}
-pub use Rattle.grid_base.specs.Relaid.{Mirrored, Relaid}
+pub use Rattle.grid_base.specs.InPlace.{Mirrored, TransposedInPlace}
 pub use Rattle.grid_base.specs.Remaining.{IsRemaining, remaining}
 pub use Rattle.grid_base.specs.Span.{IsSpan}
 pub use Rattle.grid_base.specs.Strides.{strided, every, strided_remaining, IsLine, LinesInOrder, LinesInReverse, EachLineInOrder, EachLineInReverse}

@@ -50,7 +50,7 @@ weaving_end p q i k g x old now le none some w =
       groups = λ l j a b. w.woven l j (omega arith) a b;
     }
 
--- the cells before x are at their places in the closed lines, the groups before line g are at x, and the cells behind
+-- the cells before x are at their places in the closed lines, the groups before line g are at x, and the cells after
 -- those have not moved
 pub record Unweaving {T : Type 0} (p q i k g x : ℕ) (old now : List T) : Type 0 where
   pub length_stays : length now ≡ length old

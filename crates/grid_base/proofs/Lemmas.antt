@@ -8,7 +8,7 @@ pub use Rattle.grid_base.proofs.LayoutLemmas.{holds}
 pub use Rattle.grid_base.proofs.PartLemmas.{Turning, part_behind, blocks_behind, blocks_more, turning_more, exchanged_by_reversals}
 pub use Rattle.grid_base.proofs.PlaceLemmas.{length-places, all_passed, get_along, length-left, place_and_rest, ahead_wide, get_ahead, within-places, one_left}
 pub use Rattle.grid_base.proofs.PlacedCellLemmas.{get-zip, zip_nothing, placed_cells, zip_even, zip_last}
-pub use Rattle.grid_base.proofs.RelayLemmas.{relaid_by_halves, relaid_back}
+pub use Rattle.grid_base.proofs.TransposeLemmas.{in_place_by_halves, in_place_back}
 pub use Rattle.grid_base.proofs.RemainingLemmas.{remaining_all, remaining_next, remaining_next_back, past_most, part_past_most, rows_passed, remaining_past}
 pub use Rattle.grid_base.proofs.RoomLemmas.{with_waiting, none_waits, places_then, filled_join, filled_part, filled_below, filled_above, one_pasted, unweave_step, same_places, weave_step}
 pub use Rattle.grid_base.proofs.ShiftLemmas.{moved_back, forward_swap, three_more, three_all, ThreeMoved, moved_forward}

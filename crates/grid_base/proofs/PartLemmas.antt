@@ -58,7 +58,7 @@ blocks_more i j n old now new apart within h e =
       others = λ k a b. grind (arith, h.others k, get-swap_other now _ _ k p q);
     })
 
--- a cell behind others
+-- a cell after others
 behind : {T : Type 0} (i u v x y : ℕ) (ps old new : List T) → i ≡ length ps → u ≡ i + x → v ≡ i + y → slice_get new x ≡ slice_get old y → slice_get (ps ++ new) u ≡ slice_get (ps ++ old) v
 behind i u v x y ps old new e a b is =
     get_append_right ps new u x (omega arith) ∙ (is ∙ sym (get_append_right ps old v y (omega arith)))
@@ -68,7 +68,7 @@ kept_behind i k ps old new e h =
     ⊎_elim (λ lt. get_append_left ps new k (omega arith) ∙ sym (get_append_left ps old k (omega arith)))
     (λ ge. behind i k k (k - i) (k - i) ps old new e (omega arith) (omega arith) (h ge)) (cases_lt k i)
 
--- the same behind other cells
+-- the same after other cells
 pub blocks_behind : {T : Type 0} (i j d n : ℕ) (ps old new : List T) → i ≡ length ps → j ≡ i + d → BlocksSwapped 0 d n old new → BlocksSwapped i j n (ps ++ old) (ps ++ new)
 blocks_behind i j d n ps old new e f h =
     record {

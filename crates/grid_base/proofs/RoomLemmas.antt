@@ -67,7 +67,7 @@ none_waits row room at le =
     let long = pasted_length room row v 0 at 0 refl (omega arith) (omega arith) in
     same_lists v row long (λ k d h. ⊎_elim (λ lt. pasted_below room row v 0 at 0 refl (omega arith) (omega arith) k d lt) (λ ge. pasted_above room row v 0 at 0 refl (omega arith) (omega arith) k d (omega arith)) (cases_lt k at))
 
--- a run moves behind the groups that wait, and the last of them comes to its place
+-- a run moves after the groups that wait, and the last of them comes to its place
 weave_step_at : {X : Type 0} (row room row1 row2 : List X) (start run few c end all n : ℕ) → end ≡ start + run → all ≡ few + c → n ≡ few + c → length row1 ≡ length row → few + c ≤ length room → start + run + (few + c) ≤ length row
     → ((k : ℕ) (d : X) → k < run → get_or row1 (start + (few + c) + k) d ≡ get_or row (start + k) d)
     → ((d : X) → SameOutside d row row1 (start + (few + c)) (start + (few + c) + run))
@@ -114,7 +114,7 @@ pub weave_step : {X : Type 0} (row room room2 row1 row2 : List X) (start run few
 weave_step row room room2 row1 row2 start run few c end all n same ee ea en l1 p q moved stays is =
     subst (λ r. BlocksExchanged start run n (with_waiting row room end all) (with_waiting row2 r start few)) (sym same) (weave_step_at row room row1 row2 start run few c end all n ee ea en l1 p q moved stays is)
 
--- a group joins those that wait, and the run behind it moves to the front of them
+-- a group joins those that wait, and the run after it moves to the front of them
 unweave_step_at : {X : Type 0} (row room room1 row2 : List X) (start run few c n : ℕ) → n ≡ few + c → length row2 ≡ length row → few + c ≤ length room → start + run + (few + c) ≤ length row
     → room1 ≡ take few room ++ slice_range row (start + few) (start + few + c) ++ drop (few + c) room
     → ((k : ℕ) (d : X) → k < run → get_or row2 (start + k) d ≡ get_or row (start + (few + c) + k) d)

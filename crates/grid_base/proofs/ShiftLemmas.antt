@@ -26,7 +26,7 @@ forward_more x s n old now some within h =
       behind = λ y ge. get-swap_other now _ _ y p q (λ e. omega arith) (λ e. omega arith) ∙ h.behind y (omega arith);
     }
 
--- each of the n cells from x on has come s places back, the last of them first; what was behind them came before them
+-- each of the n cells from x on has come s places back, the last of them first; what was after them came before them
 pub record MovedBack {T : Type 0} (x s n : ℕ) (old new : List T) : Type 0 where
   pub length_stays : length new ≡ length old
   pub placed : (y : ℕ) → x ≤ y → y < x + n → slice_get new (y + s) ≡ slice_get old y
@@ -98,7 +98,7 @@ forward_moves x s zero xs some within =
 forward_moves x s (suc n) xs some within =
     forward_more x s n xs (swapped_forward x s n xs) some (omega arith) (forward_moves x s n xs some (omega arith))
 
--- where the first s cells come, round and round
+-- where the first s cells come, cyclically
 forward_gap : {T : Type 0} (x s n z : ℕ) (xs : List T) → 0 < s → x + n + s ≤ length xs → n ≤ z → z < n + s → slice_get (swapped_forward x s n xs) (x + z) ≡ slice_get xs (x + z % s)
 unfolding swapped_forward
 forward_gap x s zero z xs some within lo hi = ap (λ k. slice_get xs (x + k)) (sym (mod-eq_of_lt (omega arith)))

@@ -4,7 +4,7 @@ use Rattle.grid_base.proofs.Common.{cases_lt, cases_eq, BlocksExchanged, Woven}
 use Rattle.grid_base.proofs.SpreadLemmas.{spread, spread_start, spread_run, widened_by_spread}
 
 -- the groups before line g are at their places, and so are the cells of the lines up to there; the other cells of the lines
--- are behind them, and the other groups have not moved
+-- are after them, and the other groups have not moved
 pub record Bringing {T : Type 0} (p q i k g : ℕ) (old now : List T) : Type 0 where
   pub length_stays : length now ≡ length old
   pub placed : (y : ℕ) → y < p * q → y < i + g * q → (spread q i k y < i + g * (q + k)) × (slice_get now (spread q i k y) ≡ slice_get old y)
@@ -61,7 +61,7 @@ bringing_end p q i k g old now le all w =
       groups = λ l j a b. w.woven l j (omega arith) b;
     }
 
--- the groups from line g on are behind the lines, after the cells of the lines behind them; the cells before them have
+-- the groups from line g on are after the lines, after the cells of the lines after them; the cells before them have
 -- not moved
 pub record Sending {T : Type 0} (p q i k g : ℕ) (old now : List T) : Type 0 where
   pub length_stays : length now ≡ length old

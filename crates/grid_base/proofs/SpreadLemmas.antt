@@ -9,7 +9,7 @@ pub spread : (q i k x : ℕ) → ℕ
 spread q i k x = x + (x + (q - i)) / q * k
 
 module _ (q i k : ℕ) (le : i ≤ q) where
-  -- behind g groups
+  -- after g groups
   pub spread-behind : (g r x : ℕ) → x + (q - i) ≡ g * q + r → r < q → spread q i k x ≡ x + g * k
   unfolding spread
   spread-behind g r x e lt =
@@ -49,7 +49,7 @@ module _ (q i k : ℕ) (le : i ≤ q) where
 pub spread_start : (q i k y : ℕ) → i ≤ q → y < i → spread q i k y ≡ y
 spread_start q i k y le lt = sym (ap (spread q i k) (omega arith)) ∙ (spread-before q i k le 0 y (omega arith) lt ∙ omega arith)
 
--- cells before and behind place i of each line, from where each cell is
+-- cells before and after place i of each line, from where each cell is
 pub widened_by_spread : {T : Type 0} (p q i k : ℕ) (short long : List T) → i ≤ q → ((y : ℕ) → y < p * q → slice_get long (spread q i k y) ≡ slice_get short y) → Widened p q i k short long
 widened_by_spread p q i k short long le at =
     record {
@@ -57,7 +57,7 @@ widened_by_spread p q i k short long le at =
       after = λ l j a b c. ap (slice_get long) (sym (spread-after q i k le l j b c)) ∙ at (l * q + j) (place_below l q j p a b);
     }
 
--- the cells from x on below n are at their new places, the others from x on are some of those that were behind
+-- the cells from x on below n are at their new places, the others from x on are some of those that were after
 pub record Opening {T : Type 0} (f : ℕ → ℕ) (n x : ℕ) (old now : List T) : Type 0 where
   pub length_stays : length now ≡ length old
   pub placed : (y : ℕ) → x ≤ y → y < n → slice_get now (f y) ≡ slice_get old y
@@ -82,11 +82,11 @@ pub times_less : (g q : ℕ) → 0 < g → g * q ≡ (g - 1) * q + q
 times_less g q some = let e : g ≡ g - 1 + 1 = omega arith in ap (λ v. v * q) e ∙ omega arith
 
 module _ (p q i k x g : ℕ) (le : i ≤ q) (e : x + (q - i) ≡ g * q) where
-  -- the run of cells behind g groups, from x on
+  -- the run of cells after g groups, from x on
   pub spread_run : (y : ℕ) → x ≤ y → y < x + q → spread q i k y ≡ y + g * k
   spread_run y lo hi = spread-behind q i k le g (y - x) y (omega arith) (omega arith)
 
-  -- the cells behind that run
+  -- the cells after that run
   pub spread_later : (z y : ℕ) → 0 < q → z ≡ x + q → z ≤ y → z + g * k ≤ spread q i k y
   spread_later z y some ez lo =
       let first : spread q i k z ≡ z + (g + 1) * k = spread-behind q i k le (g + 1) 0 z (omega arith) some in
@@ -167,7 +167,7 @@ pub closing_end : {T : Type 0} (p q i k x : ℕ) (old now : List T) → i ≤ q 
 closing_end p q i k x old now le end h =
     widened_by_spread p q i k now old le (λ y lt. sym (h.placed y (omega arith)))
 
--- a single line, whose group is reversed with the cells behind it, which are then reversed alone
+-- a single line, whose group is reversed with the cells after it, which are then reversed alone
 pub closed_by_reversals : {T : Type 0} (p q i k : ℕ) (old one new : List T) → p ≡ 1 → i ≤ q → PartReversed i (k + (q - i)) old one → PartReversed i (q - i) one new → Widened p q i k new old
 closed_by_reversals p q i k old one new single le h again =
     record {

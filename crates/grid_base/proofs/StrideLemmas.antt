@@ -53,7 +53,7 @@ length-strided stride xs p =
     let n : length xs + (stride - 1) - 0 ≡ length xs + (stride - 1) = omega arith in
     length-every 0 (stride - 1) xs (omega arith) ∙ (ap (λ k. k / (stride - 1 + 1)) n ∙ (ceil_is (length xs) (stride - 1) ∙ ap (div_ceil (length xs)) one))
 
--- the first of them, and those behind it
+-- the first of them, and those after it
 pub line_step : {X : Type 0} (n : ℕ) (xs : List X) (x : X) → 0 < n → slice_get xs 0 ≡ Some x → every 0 (n - 1) xs ≡ x ∷ every 0 (n - 1) (drop n xs)
 line_step n [] x p e = absurd (cc)
 line_step n (y ∷ ys) x p e =

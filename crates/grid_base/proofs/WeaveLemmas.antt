@@ -127,7 +127,7 @@ woven_in_place p q i k xs le stand =
           ap (slice_get xs) (omega (arith, s.1, ap (λ v. v * q) one, ap (λ v. v * (q + k)) first, ap (λ v. v * k) first));
     }) stand
 
--- groups that are behind their lines are the rest
+-- groups that are after their lines are the rest
 pub taken_in_place : {T : Type 0} (p q i k : ℕ) (xs short taken : List T) → i ≤ q → (q ≡ 0) ⊎ ((p ≤ 1) × (i ≡ q)) → length xs ≡ p * (q + k) → short ≡ take (p * q) xs → taken ≡ drop (p * q) xs → TakenOut p q i k short taken xs
 taken_in_place p q i k xs short taken le stand len front back =
     let whole : short ++ taken ≡ xs = ap (λ v. v ++ taken) front ∙ (ap (λ v. take (p * q) xs ++ v) back ∙ take-append-drop (p * q) xs) in

@@ -2,7 +2,7 @@
 -- the cells that is reversed.
 use Rattle.std.specs.Prelude.{◌≡◌, ℕ, zero, suc, ◌+◌, ◌-◌, ◌<◌, ◌≤◌, List, length, slice_get, swap}
 
--- the m cells from place a on, and the n cells behind them
+-- the m cells from place a on, and the n cells after them
 pub record BlocksExchanged {T : Type 0} (a m n : ℕ) (old new : List T) : Type 0 where
   pub length_stays : length new ≡ length old
   pub before : (x : ℕ) → x < a → slice_get new x ≡ slice_get old x

@@ -10,7 +10,7 @@ module _ {X : Type 0} where
   abbrev pub line_mut_rest : GridLineIterMut X → List X
   line_mut_rest it = every 0 (it.stride - 1) it.rest.now
 
-  -- these and the cells of other lines between them and behind them
+  -- these and the cells of other lines between them and after them
   abbrev pub line_mut_cells : GridLineIterMut X → List X
   line_mut_cells it = it.rest.now
 

@@ -12,14 +12,14 @@ module _ {T : Type 0} (p q i k : ℕ) (short long : List T) where
     pub after : (l j : ℕ) → l < p → j < q → i ≤ j
         → slice_get long (l * (q + k) + (k + j)) ≡ slice_get short (l * q + j)
 
-  -- the groups are behind the lines in the one vector, and each in its line in the other
+  -- the groups are after the lines in the one vector, and each in its line in the other
   pub record Woven : Type 0 where
     pub lengths : length long ≡ length short
     pub lines : Widened
     pub groups : (l j : ℕ) → l < p → j < k
         → slice_get long (l * (q + k) + (i + j)) ≡ slice_get short (p * q + (l * k + j))
 
-  -- each place of a group has one of the cells that were behind the lines
+  -- each place of a group has one of the cells that were after the lines
   pub record Opened : Type 0 where
     pub lengths : length long ≡ length short
     pub lines : Widened

@@ -34,11 +34,11 @@ module _ {T : Type 0} where
       × YieldsInOrder (into_iter_steps {X = T} {Z = A}) into_iter_items
       × YieldsInReverse (into_iter_steps_back {X = T} {Z = A}) into_iter_items
 
-  -- an iterator along a line gives these cells, whose number fits a `usize`
+  -- an iterator along a line gives these cells, whose count fits a `usize`
   abbrev pub GivesLine : List T → List T → Type 0
   GivesLine xs it = (it ≡ xs) × LinesInOrder T × LinesInReverse T × (length it < 2 ^ 64)
 
-  -- an iterator over lines gives these lines, whose number fits a `usize`, and each line its cells
+  -- an iterator over lines gives these lines, whose count fits a `usize`, and each line its cells
   abbrev pub GivesLines : List (List T) → List (List T) → Type 0
   GivesLines lines it = (it ≡ lines) × EachLineInOrder T × EachLineInReverse T × LinesInOrder T
       × LinesInReverse T × (length it < 2 ^ 64)
@@ -48,7 +48,7 @@ module _ {T : Type 0} (o : Order) (t : List (List T)) where
   abbrev pub indexed_cells : List ((ℕ × ℕ) × T)
   indexed_cells = zip (positions o (row_count t) (col_count t)) (storage o t)
 
-  -- an iterator over cells with their positions gives these, whose number fits a `usize`
+  -- an iterator over cells with their positions gives these, whose count fits a `usize`
   abbrev pub GivesIndexed : List ((ℕ × ℕ) × T) → Type 0
   GivesIndexed it = (it ≡ indexed_cells) × GivesCells t it × (length it < 2 ^ 64)
 

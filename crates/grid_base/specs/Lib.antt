@@ -25,6 +25,6 @@ pub mod ClosureCalls
 pub mod Updated
 pub mod Gather
 pub mod Clones
-pub mod Relaid
+pub mod InPlace
 pub mod IndexedIterators
 pub mod Iterators

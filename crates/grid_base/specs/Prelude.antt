@@ -19,7 +19,7 @@ pub use Rattle.grid_base.specs.Move.{word_image, IsImageByWords, of_move, IsNorm
 pub use Rattle.grid_base.specs.Order.{storage, flipped, place, table_of, CanCut}
 unfoldable pub use Rattle.grid_base.specs.Positions.{positions}
 pub use Rattle.grid_base.specs.Positions.{StandsAt, along}
-pub use Rattle.grid_base.specs.Relaid.{Relaid, Mirrored, Transposed}
+pub use Rattle.grid_base.specs.InPlace.{TransposedInPlace, Mirrored, Transposed}
 pub use Rattle.grid_base.specs.Room.{GroupsMoved, HasGroups}
 pub use Rattle.grid_base.specs.Span.{IsSpan}
 pub use Rattle.grid_base.specs.Strides.{LinesInOrder, LinesInReverse, EachLineInOrder, EachLineInReverse, every, strided}

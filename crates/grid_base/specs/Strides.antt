@@ -15,11 +15,11 @@ module _ {X : Type 0} where
   abbrev pub strided : ℕ → ℕ → ℕ → List X → List X
   strided start end stride xs = every 0 (stride - 1) (take (end - start) (drop start xs))
 
-  -- of the cells that are a stride apart, those from number `first` on and before number `past`
+  -- of the cells that are a stride apart, those from index `first` on and before index `past`
   abbrev pub strided_remaining : ℕ → ℕ → ℕ → List X → List X
   strided_remaining stride first past xs = remaining first past (every 0 (stride - 1) xs)
 
--- the stride is not 0, and there are cells of these numbers
+-- the stride is not 0, and there are cells of these indices
 pub record IsLine {X : Type 0} (stride first past : ℕ) (xs : List X) : Type 0 where
   pub steps : 0 < stride
   pub remaining : IsRemaining first past (length (every 0 (stride - 1) xs))

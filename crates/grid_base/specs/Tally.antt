@@ -11,8 +11,8 @@ pub record Counts : Type 0 where
 abbrev pub saturating_count : ℕ → ℕ → ℕ
 saturating_count n k = n + min k (340282366920938463463374607431768211455 - n)
 
--- among `len` cells, the n cells from start on and those `by` places behind them can be swapped, and a
--- run can go on with n swaps
+-- among `len` cells, the n cells from start on and those `by` places after them can be swapped, and
+-- a run can go on with n swaps
 abbrev pub CanShift : ℕ → ℕ → ℕ → ℕ → Swaps → Type 0
 CanShift start by n len swaps = (start + n + by ≤ len) × (start + n + by < 2 ^ 64) × (0 < by)
     × (swaps.for_shift + n < 2 ^ 64)

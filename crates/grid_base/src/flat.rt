@@ -11,13 +11,13 @@ mod indexed;
 mod line_iter;
 mod line_iter_mut;
 mod positions;
-mod relay;
 mod room;
 mod rotations;
 mod row_iter;
 mod span;
 mod square;
 mod strided_iter;
+mod transpose;
 
 pub(crate) use counted::Swaps;
 pub use groups::{Groups, weave};
@@ -136,7 +136,7 @@ impl<T, A: Allocator> Flat<T, A> {
     ///
     ///     [1, 2, 3, 4, 5]   swap_blocks(0, 3, 2)   [4, 5, 3, 1, 2]
     ///
-    /// Requires: both blocks are in range, and the second begins behind the first.
+    /// Requires: both blocks are in range, and the second begins after the first.
     pub fn swap_blocks(&mut self, i: usize, j: usize, n: usize)
         requires apart { i + n ≤ j }
         requires within { j + n ≤ length self.old }
@@ -146,7 +146,8 @@ impl<T, A: Allocator> Flat<T, A> {
         front[i..i + n].swap_with_slice(&mut back[..n]);
     }
 
-    /// Exchanges the `n` cells from `i` on with those of another vector from `j` on, in vector code. No tally counts it.
+    /// Exchanges the `n` cells from `i` on with those of another vector from `j` on, in vector code. No tally counts
+    /// it.
     ///
     ///     [1, 2, 3, 4]   swap_with(1, [5, 6], 0, 2)   [1, 5, 6, 4], and [2, 3]
     ///

@@ -27,12 +27,12 @@ pub fn then_is_associative(
     )
 }
 
-/// Returns `Identity` joined before a symmetry, and behind it. Both are the symmetry.
+/// Returns `Identity` joined before a symmetry, and after it. Both are the symmetry.
 pub fn identity_is_neutral(symmetry: Symmetry) -> (Symmetry, Symmetry)
     ensures before { IsThen Identity symmetry result.0 }
-    ensures behind { IsThen symmetry Identity result.1 }
+    ensures after { IsThen symmetry Identity result.1 }
     ensures same_before { result.0 ≡ symmetry }
-    ensures same_behind { result.1 ≡ symmetry }
+    ensures same_after { result.1 ≡ symmetry }
     ensures law { IsNeutralAt symmetry }
 {
     (
@@ -41,12 +41,12 @@ pub fn identity_is_neutral(symmetry: Symmetry) -> (Symmetry, Symmetry)
     )
 }
 
-/// Returns a symmetry joined before its inverse, and behind it. Both are `Identity`.
+/// Returns a symmetry joined before its inverse, and after it. Both are `Identity`.
 pub fn inverse_undoes(symmetry: Symmetry) -> (Symmetry, Symmetry)
     ensures before { (v : Symmetry) → IsInverse symmetry v → IsThen symmetry v result.0 }
-    ensures behind { (v : Symmetry) → IsInverse symmetry v → IsThen v symmetry result.1 }
+    ensures after { (v : Symmetry) → IsInverse symmetry v → IsThen v symmetry result.1 }
     ensures same_before { result.0 ≡ Identity }
-    ensures same_behind { result.1 ≡ Identity }
+    ensures same_after { result.1 ≡ Identity }
     ensures law { IsUndoneAt symmetry }
 {
     let inverse = symmetry.inverse();

@@ -1,15 +1,15 @@
 //! The two counts of swaps.
 //!
-//! A count is raised by `Tally::take` alone, which consumes a run of counted swaps, `Swaps`, and adds its numbers. The
-//! two counts stop at `u128::MAX`. The fields of `Tally` are private to this module, so no other code can write a count.
-//! `flat/counted/swaps.rt` has the swaps and says who can call them.
+//! A count is raised by `Tally::take` alone, which consumes a run of counted swaps, `Swaps`, and adds its counts. The
+//! two counts stop at `u128::MAX`. The fields of `Tally` are private to this module, so no other code can write a
+//! count. `flat/counted/swaps.rt` has the swaps and says who can call them.
 ghost use Rattle.std.specs.Prelude.{◌≡◌};
 ghost use Rattle.grid_base.specs.Tally.{saturating_count};
 
 use crate::flat::Swaps;
 use std::marker::Model;
 
-/// The numbers of swaps that were done: for symmetries, and for shifts in expand, prepend and delete.
+/// How many swaps were done: for symmetries, and for shifts in expand, prepend and delete.
 ///
 /// Only the two counted swaps of a [`Flat`](crate::Flat)'s cells raise a count, by one for each pair of cells that is
 /// exchanged. A count stops at `u128::MAX`, and no call lowers it.

@@ -84,7 +84,7 @@ pub fn last_in_row<A: Allocator>(grid: &Grid<u32, A>, r: usize) -> Option<u32>
     grid.iter_row(r).next_back().copied()
 }
 
-/// Returns cell number `k` of column `c`, if there is one.
+/// Returns cell `k` of column `c`, if there is one.
 pub fn cell_of_column<A: Allocator>(grid: &Grid<u32, A>, c: usize, k: usize) -> Option<u32>
     requires { c < col_count grid.now.rows }
     ensures { result ≡ slice_get (row (transposed grid.now.rows) c) k }
@@ -92,7 +92,7 @@ pub fn cell_of_column<A: Allocator>(grid: &Grid<u32, A>, c: usize, k: usize) -> 
     grid.iter_col(c).nth(k).copied()
 }
 
-/// Returns, for each column, the number of its cells that are `x`.
+/// Returns, for each column, how many of its cells are `x`.
 pub fn count_in_columns<A: Allocator>(
     alloc: Global,
     grid: &Grid<u32, A>,

@@ -141,7 +141,7 @@ pub fn mine_map(mines: &Grid<bool>) -> Result<Grid<char>, AllocError> {
 }
 
 /// Returns the largest cell of each cell's surroundings.
-pub fn highest_round(board: &Grid<u8>) -> Result<Grid<u8>, AllocError> {
+pub fn highest_around(board: &Grid<u8>) -> Result<Grid<u8>, AllocError> {
     board.map_neighbors8(|_, cell, near| near.fold(*cell, |most, (_, x)| most.max(*x)))
 }
 

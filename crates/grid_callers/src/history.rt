@@ -6,8 +6,9 @@ use grid::Command;
 use grid_changes::History;
 use std::alloc::AllocError;
 
-/// Makes a move, as a search does: puts a piece at a position and returns how many like it are round it, or `None` where
-/// the position isn't on the board. Then the move is taken back, and the board and what can be undone are as before.
+/// Makes a move, as a search does: puts a piece at a position and returns how many like it are around it, or `None`
+/// where the position isn't on the board. Then the move is taken back, and the board and what can be undone are as
+/// before.
 ///
 ///     [[1, 1], [0, 0]]   after_move((1, 0), 1)   Some(2)
 pub fn after_move(

@@ -18,7 +18,7 @@ pub fn stack<A: Allocator>(board: &mut Grid<u8, A>, under: Grid<u8, A>) -> Resul
     Ok(true)
 }
 
-/// Puts a board beside another, and marks its last cell there; the board comes back if allocation fails.
+/// Puts a board next to another, and marks its last cell there; the board comes back if allocation fails.
 ///
 ///     [[1], [2]]   extend([[3], [4]])   [[1, 3], [2, 9]]
 pub fn extend<A: Allocator>(

@@ -1,4 +1,4 @@
-//! The cells round a cell: chains and loops over them, and counts, with no proof file.
+//! The cells around a cell: chains and loops over them, and counts, with no proof file.
 ghost use Rattle.std.specs.Prelude.{◌≡◌, ◌<◌, ◌≤◌, ◌+◌, ◌==◌, ◌&&◌, ◌||◌, IsTrue, IfOk, All, Any, Some, count_by, fold, map, min, option_map};
 ghost use Rattle.grid.specs.Prelude.{row_count, col_count, cell, tabulate, nearest_below, neighbors4, neighbors8, wrapped_neighbors4, wrapped_neighbors8};
 
@@ -7,8 +7,8 @@ use std::alloc::{AllocError, Global};
 
 /// Returns how many of the cells that touch a cell are `x`, and how many on a board whose edges meet.
 ///
-///     [[1, 2, 1], [1, 1, 2]]   count_round(1, 1, 1)   (3, 5)
-pub fn count_round(grid: &Grid<u8>, row: usize, col: usize, x: u8) -> (usize, usize)
+///     [[1, 2, 1], [1, 1, 2]]   count_around(1, 1, 1)   (3, 5)
+pub fn count_around(grid: &Grid<u8>, row: usize, col: usize, x: u8) -> (usize, usize)
     ensures open { result.0 ≡ count_by (λ near. near.1 == x) (neighbors8 grid.now.rows row col) }
     ensures joined { result.1
         ≡ count_by (λ near. near.1 == x) (wrapped_neighbors8 grid.now.rows row col) }
@@ -19,7 +19,7 @@ pub fn count_round(grid: &Grid<u8>, row: usize, col: usize, x: u8) -> (usize, us
     (open, joined)
 }
 
-/// Same as [`count_round`], of the cells that share a side, by a chain.
+/// Same as [`count_around`], of the cells that share a side, by a chain.
 pub fn count_beside(grid: &Grid<u8>, row: usize, col: usize, x: u8) -> usize
     ensures { result ≡ count_by (λ near. near.1 == x) (neighbors4 grid.now.rows row col) }
 {
@@ -28,7 +28,7 @@ pub fn count_beside(grid: &Grid<u8>, row: usize, col: usize, x: u8) -> usize
         .count()
 }
 
-// Whether a cell beside another isn't 0.
+// Whether a cell next to another isn't 0.
 fn is_set((_, cell): &((usize, usize), &u8)) -> bool {
     **cell != 0
 }
@@ -54,10 +54,10 @@ pub fn are_below(grid: &Grid<u8>, row: usize, col: usize, height: u8) -> (bool, 
     )
 }
 
-/// Returns the positions round a position.
+/// Returns the positions around a position.
 ///
-///     [[1, 2, 3], [4, 5, 6]]   positions_round(0, 0)   [(0, 1), (1, 0), (1, 1)]
-pub fn positions_round(
+///     [[1, 2, 3], [4, 5, 6]]   positions_around(0, 0)   [(0, 1), (1, 0), (1, 1)]
+pub fn positions_around(
     alloc: Global,
     grid: &Grid<u8>,
     row: usize,
@@ -76,8 +76,8 @@ fn plus(total: u32, near: ((usize, usize), &u32)) -> u32
     total.saturating_add(*near.1)
 }
 
-/// Returns the sum of the cells round a cell, on a board whose edges meet.
-pub fn sum_round(grid: &Grid<u32>, row: usize, col: usize) -> u32
+/// Returns the sum of the cells around a cell, on a board whose edges meet.
+pub fn sum_around(grid: &Grid<u32>, row: usize, col: usize) -> u32
     ensures { result ≡ fold (λ total near. min (total + near.1) u32.MAX) 0
         (wrapped_neighbors8 grid.now.rows row col) }
 {
@@ -99,7 +99,7 @@ pub fn count_peaks(grid: &Grid<u8>) -> usize {
     peaks
 }
 
-/// Returns the next generation of Life: a cell lives with three live cells round it, or with two if it lives now.
+/// Returns the next generation of Life: a cell lives with three live cells around it, or with two if it lives now.
 ///
 ///     [[true, true], [true, false]]   next_life()   [[true, true], [true, true]]
 pub fn next_life(grid: &Grid<bool>) -> Result<Grid<bool>, AllocError>
@@ -156,7 +156,7 @@ fn same<T: Copy>(cell: &T) -> T {
     *cell
 }
 
-// The sum or the count that was found round a cell.
+// The sum or the count that was found around a cell.
 fn found<T, N>(_cell: &T, number: N) -> N {
     number
 }
@@ -179,7 +179,7 @@ pub fn walls_beside(walls: &Grid<bool>) -> Result<(Grid<u8>, Grid<u8>), AllocErr
     Ok((open, joined))
 }
 
-/// Returns the position beside one on a board of this size, without the board.
+/// Returns the position next to one on a board of this size, without the board.
 ///
 ///     ahead((2, 3), (0, 1), Down)   Some((1, 1))
 pub fn ahead(size: (usize, usize), at: (usize, usize), way: Direction) -> Option<(usize, usize)> {

@@ -1,26 +1,26 @@
 //! Distances and regions, with no proof file.
 ghost use Rattle.std.specs.Prelude.{◌≡◌, ◌==◌, ℕ, IfOk, OnOk, Some};
 ghost use Rattle.grid.specs.Prelude.{cell, InRange};
-ghost use Rattle.grid_near.specs.declared.steps.Steps.TheVariants.{Sides, All};
+ghost use Rattle.grid_near.specs.declared.steps.Connectivity.TheVariants.{Four, Eight};
 ghost use Rattle.grid_paths.specs.Walks.{HasLeastSteps, HasLeastFrom, IsFilled, passing};
 ghost use Rattle.grid_paths.specs.Regions.{AreNumbers};
 
 use grid::{Grid, Order};
 use grid_paths::{
-    Steps, cheapest_path, distances, distances_from, fill_region, regions, shortest_path,
+    Connectivity, cheapest_path, distances, distances_from, fill_region, regions, shortest_path,
 };
 use std::alloc::{AllocError, Global};
 
 /// Returns the least number of steps from a position to each free cell, `.`, of a maze.
 pub fn steps_from(maze: &Grid<u8>, from: (usize, usize)) -> Result<Grid<Option<usize>>, AllocError>
     ensures { IfOk result (λ steps.
-        HasLeastSteps Sides (passing (λ x. x == 46) maze.now.rows) from steps.rows) }
+        HasLeastSteps Four (passing (λ x. x == 46) maze.now.rows) from steps.rows) }
 {
-    distances(maze, from, Steps::Sides, |cell| *cell == b'.')
+    distances(maze, from, Connectivity::Four, |cell| *cell == b'.')
 }
 
-/// Returns the least number of steps from a position of a room to each free cell, `.`, of it, or `None` where the room isn't
-/// within the map. A room is a part of the map, which isn't copied; its walls are its edges too.
+/// Returns the least number of steps from a position of a room to each free cell, `.`, of it, or `None` where the room
+/// isn't within the map. A room is a part of the map, which isn't copied; its walls are its edges too.
 pub fn steps_in_room(
     alloc: Global,
     map: &Grid<u8>,
@@ -31,7 +31,7 @@ pub fn steps_in_room(
         return Ok(None);
     };
     let floor = Grid::map_view(alloc, Order::RowMajor, &room, |_, cell| *cell == b'.')?;
-    Ok(Some(distances(&floor, from, Steps::Sides, |free| *free)?))
+    Ok(Some(distances(&floor, from, Connectivity::Four, |free| *free)?))
 }
 
 // Whether a cell of a board is free.
@@ -49,10 +49,10 @@ pub fn steps_of_kings(
 ) -> Result<(Grid<Option<usize>>, Option<usize>), AllocError>
     requires { InRange board.now.rows at.0 at.1 }
     ensures least { IfOk result (λ found.
-        HasLeastFrom All (passing (λ x. x) board.now.rows) kings.now found.0.rows) }
+        HasLeastFrom Eight (passing (λ x. x) board.now.rows) kings.now found.0.rows) }
     ensures at { IfOk result (λ found. cell found.0.rows at.0 at.1 ≡ Some found.1) }
 {
-    let steps = distances_from(board, kings, Steps::All, is_free)?;
+    let steps = distances_from(board, kings, Connectivity::Eight, is_free)?;
     let here = steps[at];
     Ok((steps, here))
 }
@@ -66,20 +66,20 @@ pub fn paint(
 ) -> Result<u8, AllocError>
     requires { InRange picture.old.rows other.0 other.1 }
     ensures { OnOk result ((x : ℕ) → cell picture.old.rows at.0 at.1 ≡ Some x
-        → IsFilled Sides (passing (λ y. y == x) picture.old.rows) at color
+        → IsFilled Four (passing (λ y. y == x) picture.old.rows) at color
         picture.old.rows picture.new.rows) }
 {
-    fill_region(picture, at, Steps::Sides, color)?;
+    fill_region(picture, at, Connectivity::Four, color)?;
     Ok(picture[other])
 }
 
-/// Returns the numbers of the regions of a picture, and that of one cell.
+/// Returns the labels of the regions of a picture, and that of one cell.
 pub fn region_of(picture: &Grid<u8>, at: (usize, usize)) -> Result<(Grid<usize>, usize), AllocError>
     requires { InRange picture.now.rows at.0 at.1 }
     ensures numbers { IfOk result (λ found. (count : ℕ) × AreNumbers found.0.rows count) }
     ensures at { IfOk result (λ found. cell found.0.rows at.0 at.1 ≡ Some found.1) }
 {
-    let (numbers, _) = regions(picture, Steps::Sides)?;
+    let (numbers, _) = regions(picture, Connectivity::Four)?;
     let number = numbers[at];
     Ok((numbers, number))
 }
@@ -93,7 +93,7 @@ pub fn draw_way(
     from: (usize, usize),
     to: (usize, usize),
 ) -> Result<Option<usize>, AllocError> {
-    let Some(path) = shortest_path(maze, from, to, Steps::Sides, |cell| *cell != '#')? else {
+    let Some(path) = shortest_path(maze, from, to, Connectivity::Four, |cell| *cell != '#')? else {
         return Ok(None);
     };
     for at in path.as_slice() {
@@ -120,14 +120,14 @@ pub fn cheapest_way(
     from: (usize, usize),
     to: (usize, usize),
 ) -> Result<Option<(Vec<(usize, usize)>, u128)>, AllocError> {
-    cheapest_path(map, from, to, Steps::Sides, cost)
+    cheapest_path(map, from, to, Connectivity::Four, cost)
 }
 
-/// Returns how many cells each region of equal cells has, in the order of the regions' numbers.
+/// Returns how many cells each region of equal cells has, in the order of the regions' labels.
 ///
 ///     [[7, 7, 8], [8, 7, 7]]   sizes_of_regions()   [4, 1, 1]
 pub fn sizes_of_regions(alloc: Global, picture: &Grid<u8>) -> Result<Vec<usize>, AllocError> {
-    let (numbers, count) = regions(picture, Steps::Sides)?;
+    let (numbers, count) = regions(picture, Connectivity::Four)?;
     let mut sizes = vec![in alloc; 0usize; count]?;
     for number in numbers.iter() {
         if let Some(size) = sizes.get_mut(*number) {
@@ -144,6 +144,6 @@ pub fn farthest_from(
     map: &Grid<char>,
     wells: &[(usize, usize)],
 ) -> Result<Option<usize>, AllocError> {
-    let steps = distances_from(map, wells, Steps::Sides, |cell| *cell == '.')?;
+    let steps = distances_from(map, wells, Connectivity::Four, |cell| *cell == '.')?;
     Ok(steps.iter().copied().max().flatten())
 }

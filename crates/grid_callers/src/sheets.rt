@@ -9,13 +9,13 @@ use grid::Grid;
 use grid_csv::laws::written_and_read;
 use grid_csv::{CsvError, from_csv, from_csv_with_header, to_csv, to_csv_with_header};
 use std::alloc::{AllocError, Allocator, Global};
-use text_lines::cell;
+use text_lines::parse_cell;
 
 // The number that a field writes, if it is one.
 fn number(field: &str) -> Result<Option<i64>, AllocError>
     ensures { result ≡ Ok (cell_of field.now) }
 {
-    Ok(cell(field))
+    Ok(parse_cell(field))
 }
 
 /// Reads a sheet of numbers.

@@ -11,7 +11,7 @@ use grid::{Grid, Symmetry};
 use grid_deferred::Deferred;
 use grid_text::{TextError, from_text, from_words, to_text, try_from_words};
 use std::alloc::{AllocError, Allocator, Global};
-use text_lines::cell;
+use text_lines::parse_cell;
 
 /// Reads a map of walls, `#`, and free cells, `.`.
 pub fn walls(alloc: Global, text: &str) -> Result<Grid<bool>, TextError>
@@ -68,7 +68,7 @@ pub fn shown_text<A: Allocator>(
 pub fn sheet(alloc: Global, text: &str) -> Result<Grid<i64>, TextError>
     ensures { IsOrMemory (reading_words cell_of (lines_of text.now)) result }
 {
-    from_words(alloc, text, |word| cell(word))
+    from_words(alloc, text, |word| parse_cell(word))
 }
 
 /// Reads a sheet of names: cells that take memory.

@@ -57,7 +57,7 @@ kept_before (a ∷ b ∷ c ∷ x) t rest kept p =
     let m : is_bom a b c ≡ false = marked a b c x (is_bom a b c) kept in
     rw m refl
 
--- what is behind the first field of a record begins with a comma, a quote or a line feed
+-- what is after the first field of a record begins with a comma, a quote or a line feed
 record Begins (text : List ℕ) : Type 0 where
   byte : ℕ
   rest : List ℕ

@@ -50,7 +50,7 @@ pub some_names : {Z : Type 0} (header : List (String Z)) → 0 < length header �
 some_names [] some = absurd (omega arith)
 some_names (name ∷ header) some = sym (append-nil (row_text default_writer (map string_bytes (name ∷ header))))
 
--- records behind their header
+-- records after their header
 pub below_joined : (names : List (List ℕ)) (records : List (List (List ℕ))) → sheet_text (below_names names []) ++ sheet_text records ≡ sheet_text (below_names names records)
 below_joined [] records = refl
 below_joined (name ∷ names) records = ap (λ xs. xs ++ sheet_text records) (append-nil (row_text default_writer (name ∷ names)))

@@ -42,7 +42,7 @@ module _ {T : Type 0} (R : List ℕ → Option T → Type 0) where
     pub put : new ≡ old ++ row
     pub are_cells : AreCells R fields row
 
-  -- allocation failed, or a field of the record of this number may be no cell
+  -- allocation failed, or a field of the record of this index may be no cell
   abbrev pub IsMemoryOrBad : ℕ → List (List ℕ) → CsvError → Type 0
   IsMemoryOrBad number fields e = (e ≡ Memory)
       ⊎ ((place : ℕ) × (e ≡ BadField number place) × IsBadAt R fields place)

@@ -19,7 +19,7 @@ abbrev pub first_of : List (List (List ℕ)) → List (List ℕ)
 first_of [] = []
 first_of (fields ∷ later) = fields
 
--- the records behind the first
+-- the records after the first
 abbrev pub later_of : List (List (List ℕ)) → List (List (List ℕ))
 later_of [] = []
 later_of (fields ∷ later) = later

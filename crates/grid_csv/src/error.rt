@@ -1,4 +1,4 @@
-//! Why bytes are no grid.
+//! The errors of reading CSV.
 ghost use Rattle.std.specs.Prelude.{◌≡◌};
 ghost use Rattle.grid_csv.specs.declared.error.CsvError.TheVariants.{Memory};
 
@@ -6,7 +6,7 @@ use std::alloc::{AllocError, AllocFailed};
 use thiserror::Error;
 
 /// Why CSV could not be read as a grid: the first record that isn't a row. In a record the fields are tested first,
-/// then their number.
+/// then their count.
 #[derive(Clone, Copy, Debug, PartialEq, Eq, Error)]
 pub enum CsvError {
     /// A field isn't a cell, or isn't text.
@@ -22,9 +22,9 @@ pub enum CsvError {
     Ragged {
         /// The record, counted from 1; a header is record 1.
         record: usize,
-        /// The number of its fields.
+        /// How many fields it has.
         len: usize,
-        /// The number of those of record 1.
+        /// How many record 1 has.
         cols: usize,
     },
     /// Allocation failed.

@@ -14,10 +14,11 @@ use std::str;
 ///
 ///     from_csv(alloc, b"1,\"2\"\n3,4\n", |field| Ok(field.parse::<i64>().ok()))   [[1, 2], [3, 4]]
 ///
-/// A byte order mark at the start, as spreadsheets write one, belongs to no field. Without records it is the empty grid.
+/// A byte order mark at the start, as spreadsheets write one, belongs to no field. Without records it is the empty
+/// grid.
 ///
 /// Requires: `read` can be called at every field.
-/// Fails: `BadField` or `Ragged` of the first record that isn't a row; its fields are tested before their number.
+/// Fails: `BadField` or `Ragged` of the first record that isn't a row; its fields are tested before their count.
 /// `Memory` if allocation fails, also in `read`.
 /// Cost: one call for each field; the vector of cells grows as it is filled.
 pub fn from_csv<T: Drop, F>(alloc: Global, bytes: &[u8], read: F) -> Result<Grid<T>, CsvError>
@@ -156,7 +157,7 @@ where
     Ok(())
 }
 
-// Adds the rows of the records that are left, behind the first; each has as many cells.
+// Adds the rows of the records that are left, after the first; each has as many cells.
 fn push_records<T: Drop, F>(
     cells: &mut Vec<T>,
     reader: &mut Reader<&[u8]>,

@@ -95,7 +95,7 @@ module _ {T : Type 0} (R : Data → Option T → Type 0) where
     pub are_cells : AreCells before cells
     pub no_cell : R bad None
 
-  -- why the data of this index, behind rows of cols cells, may be no row
+  -- why the data of this index, after rows of cols cells, may be no row
   abbrev pub IsBadRow : ℕ → ℕ → Data → RowsError → Type 0
   IsBadRow index cols d NotRows = ⊥
   IsBadRow index cols d (NotRow row) = (row ≡ index) × NoArray d

@@ -14,7 +14,7 @@ module _ {T : Type 0} (d : T) (xs ys : List T) (le : length ys ≤ length xs) (e
   filled_front : (k : ℕ) → k < length ys → slice_get (filled_up d (length xs) ys) k ≡ slice_get ys k
   filled_front k lt = get_append_left ys (replicate (length xs - length ys) d) k lt
 
-  -- swaps that take the items d out bring them behind the others
+  -- swaps that take the items d out bring them after the others
   filled_is : (ps : List (ℕ × ℕ)) → Makes ps xs ys → (k : ℕ) → k < length xs → slice_get (filled_up d (length xs) ys) k ≡ slice_get xs (origin ps k)
   filled_is ps m k lt =
       ⊎_elim (λ low. filled_front k low ∙ sym (made ps xs ys m k low))

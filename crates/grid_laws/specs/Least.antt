@@ -15,7 +15,7 @@ module _ {T : Type 0} where
   swapped_all (p ∷ ps) xs = swapped_all ps (swap xs p.0 p.1)
 
   -- these swaps bring the items of the new list to its places; what a longer old list has besides
-  -- is behind them
+  -- is after them
   pub record Makes (swaps : List (ℕ × ℕ)) (old new : List T) : Type 0 where
     pub within : AreWithin (length old) swaps
     pub front : take (length new) (swapped_all swaps old) ≡ new
@@ -40,7 +40,7 @@ module _ {T : Type 0} where
   pub record Lacks (d : T) (t : List (List T)) : Type 0 where
     pub lacks : (r c : ℕ) → InRange t r c → cell t r c ≢ Some d
 
-  -- a list and, behind it, as many items d as it has fewer than n
+  -- a list and, after it, as many items d as it has fewer than n
   abbrev pub filled_up : T → ℕ → List T → List T
   filled_up d n xs = xs ++ replicate (n - length xs) d
 

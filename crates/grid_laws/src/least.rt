@@ -24,7 +24,7 @@ use std::alloc::{AllocError, Allocator};
 ///
 /// The symmetry count grows by the least that make the storage of the image of that of the table; a command that
 /// applies no symmetry takes none. At a delete the shift count grows by the least that bring every cell that stays to
-/// its place. At an expand or a prepend the swaps begin with the new cells behind the old ones, and bring each to its
+/// its place. At an expand or a prepend the swaps begin with the new cells after the old ones, and bring each to its
 /// place; the new cells may be the same, but none of the old ones.
 ///
 /// The clauses `price_law` and `shift_law` say it of every table with different cells, in both orders: what the command

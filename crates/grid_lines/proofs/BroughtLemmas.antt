@@ -11,7 +11,7 @@ use Rattle.grid_lines.proofs.RewriteLemmas.{row_rewritten}
 use Rattle.grid_lines.specs.Brought.{brought, taken_back}
 
 module _ (m n r : ℕ) (lr : r < m) where
-  -- the places of the row: each is at or behind the place at the front, and they differ
+  -- the places of the row: each is at or after the place at the front, and they differ
   pub behind_front : (c : ℕ) → c ≤ c * m + r
   behind_front c = let w : c * 1 ≤ c * m = mul-le-mul_left c (omega arith) in omega (arith, w)
 

@@ -1,4 +1,4 @@
--- Values that are named by others, as rows by their numbers: what a sort of the names says of the values.
+-- Values that are named by others, as rows by their indices: what a sort of the names says of the values.
 use Rattle.std.proofs.Common.{◌≡◌, ℕ, ◌+◌, ◌⊎◌, inl, inr, Bool, true, false, true≢false, not, ◌&&◌, List, [], ◌∷◌, length, get_or, map, filter, cond, refl, sym, ap, ◌∙◌, subst, arith, IsPermutation, IsSortedBy}
 use Rattle.grid_base.proofs.Common.{get_or-map, length-map, filter_agree, fill_by_all, IsPermutation-map, IsStrictWeakOrder, range_with_len, IsStableBy, ties}
 
@@ -73,7 +73,7 @@ module _ {A X : Type 0} (f : A → X) (lt : X → X → Bool) where
 pub both : {P Q R : Type 0} → (P → Q) → (P → R) → P → Q × R
 both f g p = (f p, g p)
 
--- the values of all numbers are the list, and in another order they are its values in another order
+-- the values at all indices are the list, and in another order they are its values in another order
 pub numbered_all : {X : Type 0} (xs : List X) (n : ℕ) (d : X) → n ≡ length xs → map (λ r. get_or xs r d) (range_with_len 0 n) ≡ xs
 numbered_all xs n d e = sym (fill_by_all (λ r. get_or xs r d) xs n d (sym e) (λ k lt. refl))
 

@@ -1,8 +1,8 @@
--- Items that are put into a wanted order by swaps, where each item is named by its number.
+-- Items that are put into a wanted order by swaps, where each item is named by its index.
 use Rattle.std.proofs.Common.{◌≡◌, ◌≢◌, ℕ, ◌+◌, ◌<◌, ◌≤◌, ◌⊎◌, inl, inr, List, length, get_or, map, refl, sym, ap, ◌∙◌, arith, ext_get_or, swap, IsPermutation}
 use Rattle.grid_base.proofs.Common.{eqb_tells, get_or-map, length-map, Swapped, swapped_from_swap, length-swap, length-range_with_len, get_or-range_with_len, IsPermutation-keeps, range_with_len}
 
--- the numbers below n, each once
+-- the indices below n, each once
 pub record IsNumbering (n : ℕ) (ns : List ℕ) : Type 0 where
   pub long : length ns ≡ n
   pub below : (k : ℕ) → k < n → get_or ns k 0 < n
@@ -155,7 +155,7 @@ module _ {X : Type 0} (old : List X) (d : X) (wanted : List ℕ) where
         placed = placed_more i q x _ _ _ names at_q x_is (λ k low e. let same = w.apart k i (omega (arith, low, lt)) lt e in absurd (omega (arith, same, low))) s.placed;
       }
 
-  -- the three numbers of a step are below the lengths
+  -- the three indices of a step are below the lengths
   module _ (i : ℕ) (now : List X) (holds places : List ℕ) (w : IsNumbering (length old) wanted) (s : Placing i now holds places) (lt : i < length wanted) where
     pub place_fits : i < length old
     place_fits = omega (arith, w.long)

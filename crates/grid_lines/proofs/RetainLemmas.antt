@@ -110,7 +110,7 @@ module _ {X P : Type 0} (R : P → X → Bool → P → Type 0) where
       let none : drop row old ≡ [] = drop_all row old all in
       subst (IsFiltered R p old) (append-nil (take kept now)) (i.goes [] (subst (λ zs. IsFiltered R q zs []) (sym none) (filtered_none q)))
 
--- the rows behind those that were kept are dropped
+-- the rows after those that were kept are dropped
 pub kept_only : {X : Type 0} (b : Bool) (kept rows : ℕ) (t new : List X) → IsTrue b ↔ (kept + (rows - kept) ≤ length t) → new ≡ (if b then take kept t ++ drop (kept + (rows - kept)) t else t) → kept ≤ rows → length t ≡ rows → new ≡ take kept t
 kept_only true kept rows t new found is le count =
     is ∙ (ap (λ x. take kept t ++ x) (drop_all (kept + (rows - kept)) t (omega arith)) ∙ append-nil (take kept t))

@@ -13,7 +13,7 @@ rolled {X} m n old new count e =
     front : length (take m old) ≡ m
     front = omega (arith, length-take m old)
 
-    -- a place of old is in the first m items or behind them
+    -- a place of old is in the first m items or after them
     behind : (k : ℕ) → slice_get old (m + k) ≡ slice_get (drop m old) k
     behind k = ap (λ xs. slice_get xs (m + k)) (sym (take-append-drop m old)) ∙ get_append_right (take m old) (drop m old) (m + k) k (omega (arith, front))
 

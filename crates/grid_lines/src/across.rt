@@ -6,12 +6,14 @@ use grid::{Grid, Order};
 use std::alloc::Allocator;
 
 // A board of fewer rows or columns isn't worth laying out twice.
-const FEW: usize = 64;
+const LAID_OUT_FROM: usize = 64;
 
-// Whether the rows run across the storage, and rows and columns are so many that it is faster to lay the board out row by
-// row first, and back in the end.
-pub(crate) fn runs_across<T, A: Allocator>(grid: &Grid<T, A>) -> bool
+// Whether the rows run across the storage, and there are so many rows and columns that it is faster to lay the board
+// out row by row first, and back in the end.
+pub(crate) fn is_worth_laying_out<T, A: Allocator>(grid: &Grid<T, A>) -> bool
     ensures { IsTrue result → grid.now.order ≡ ColumnMajor }
 {
-    grid.order() == Order::ColumnMajor && FEW <= grid.rows() && FEW <= grid.cols()
+    grid.order() == Order::ColumnMajor
+        && LAID_OUT_FROM <= grid.rows()
+        && LAID_OUT_FROM <= grid.cols()
 }

@@ -1,8 +1,9 @@
-//! Rows and columns by their content: kept, sorted, rolled, written, rewritten one by one; a grid as vectors of its rows.
+//! Rows and columns by their content: kept, sorted, rolled, written, rewritten one by one; a grid as vectors of its
+//! rows.
 #![tactic(auto)]
 
 mod across;
-mod numbers;
+mod indices;
 mod retain;
 mod rewrite;
 mod roll;

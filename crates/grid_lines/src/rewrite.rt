@@ -4,7 +4,7 @@ ghost use Rattle.grid.specs.Prelude.{HoldsSize, table_of, row_count, col_count, 
 ghost use Rattle.grid_lines.specs.Prelude.{brought, taken_back, AreRewritten, RewritesBy};
 ghost use Rattle.grid_base.specs.declared.order.Order.TheVariants.{RowMajor, ColumnMajor};
 
-use crate::across::runs_across;
+use crate::across::is_worth_laying_out;
 use grid::{Grid, Order};
 use std::alloc::Allocator;
 
@@ -14,8 +14,8 @@ use std::alloc::Allocator;
 ///     [[3, 1, 2], [6, 5, 4]]   rewrite_rows(grid, |row| row.reverse())   [[2, 1, 3], [4, 5, 6]]
 ///
 /// Requires: the closure can always be called.
-/// Cost: one call for each row; no memory. In a column-major grid also two swaps for each cell, by which each row comes to
-/// the front of the storage and goes back, or, of 64 rows and columns or more, two times [`lay_out`](Grid::lay_out).
+/// Cost: one call for each row; no memory. In a column-major grid also two swaps for each cell, by which each row comes
+/// to the front of the storage and goes back, or, of 64 rows and columns or more, two times [`lay_out`](Grid::lay_out).
 pub fn rewrite_rows<T, A: Allocator, F: FnMut(&mut [T])>(grid: &mut Grid<T, A>, f: F)
     requires { F.IsAlwaysCallable f }
     ensures rows { AreRewritten F.FnMut f grid.old.rows grid.new.rows }
@@ -25,7 +25,7 @@ pub fn rewrite_rows<T, A: Allocator, F: FnMut(&mut [T])>(grid: &mut Grid<T, A>, 
     ensures col_count { col_count grid.new.rows ≡ col_count grid.old.rows }
     ensures order { grid.new.order ≡ grid.old.order }
 {
-    if runs_across(grid) {
+    if is_worth_laying_out(grid) {
         grid.lay_out(Order::RowMajor);
         rewrite_stored(grid, f);
         grid.lay_out(Order::ColumnMajor);

@@ -1,4 +1,4 @@
-//! Rows and columns that move round: the first ones go to the end.
+//! Rows and columns that are rolled: the first ones go to the end.
 ghost use Rattle.std.specs.Prelude.{◌≡◌, ◌<◌, ◌≤◌, ◌+◌, ◌^◌, ◌++◌, take, drop};
 ghost use Rattle.grid.specs.Prelude.{row_count, col_count, transposed, PartReversed};
 

@@ -2,8 +2,8 @@
 ghost use Rattle.std.specs.Prelude.{◌≡◌, ℕ, List, OnOk, OnErr, IsPermutation, map};
 ghost use Rattle.grid_lines.specs.Prelude.{range_with_len, LinesInOrder, row, row_count, col_count, transposed, AnswersBy, AlwaysComparesNumbers, AreSortedLines, AreStableLines, AscendBy, ComparesNumbers, AreSortedByKey, AreStableByKey, AscendByKey};
 
-use crate::across::runs_across;
-use crate::numbers::{numbers_by, numbers_by_key, row_numbers};
+use crate::across::is_worth_laying_out;
+use crate::indices::{row_indices, sorted_indices_by, sorted_indices_by_key};
 use grid::{Grid, GridLineIter, Order};
 use std::alloc::{AllocError, Allocator};
 use std::cmp::Ordering;
@@ -13,12 +13,12 @@ use std::cmp::Ordering;
 ///
 ///     [[3, 1], [2, 2], [3, 0]]   sort_rows_by(grid, |mut a, mut b| a.next().cmp(&b.next()))   [[2, 2], [3, 1], [3, 0]]
 ///
-/// Where the results follow no order, the rows end in some order.
+/// If the comparison is no strict weak order, the order of the rows is unspecified.
 ///
 /// Requires: the closure can always be called.
 /// Fails: if allocation fails; the grid is unchanged.
-/// Cost: `rows * log(rows)` calls, at most `rows * cols` swaps, and memory for four numbers for each row. A column-major
-/// grid of 64 rows and columns or more is laid out row by row for the swaps, and back.
+/// Cost: `rows * log(rows)` calls, at most `rows * cols` swaps, and memory for four indices for each row. A
+/// column-major grid of 64 rows and columns or more is laid out row by row for the swaps, and back.
 pub fn sort_rows_by<T, A: Allocator + Clone, F>(
     grid: &mut Grid<T, A>,
     compare: F,
@@ -39,7 +39,7 @@ where
     ensures col_count { col_count grid.new.rows ≡ col_count grid.old.rows }
     ensures order { grid.new.order ≡ grid.old.order }
 {
-    let wanted = numbers_by(grid, compare)?;
+    let wanted = sorted_indices_by(grid, compare)?;
     put_in_order(grid, &wanted)?;
     Ok(())
 }
@@ -49,7 +49,7 @@ where
 ///
 ///     [[3, 2, 3], [1, 2, 0]]   sort_cols_by(grid, |mut a, mut b| a.next().cmp(&b.next()))   [[2, 3, 3], [2, 1, 0]]
 ///
-/// Where the results follow no order, the columns end in some order.
+/// If the comparison is no strict weak order, the order of the columns is unspecified.
 ///
 /// Requires: the closure can always be called.
 /// Fails: if allocation fails; the grid is unchanged.
@@ -86,12 +86,13 @@ where
 ///
 ///     [[3, 1], [2, 2], [3, 0]]   sort_rows_by_key(grid, |row| row.copied().sum::<u32>())   [[3, 0], [3, 1], [2, 2]]
 ///
-/// Where its keys are not a function of the row, the rows end in some order.
+/// If the keys are not a function of the row, the order of the rows is unspecified.
 ///
 /// Requires: the closure can always be called.
 /// Fails: if allocation fails; the grid is unchanged.
-/// Cost: `rows` calls, `rows * log(rows)` comparisons, at most `rows * cols` swaps, and memory for a key and four numbers
-/// for each row. A column-major grid of 64 rows and columns or more is laid out row by row for the swaps, and back.
+/// Cost: `rows` calls, `rows * log(rows)` comparisons, at most `rows * cols` swaps, and memory for a key and four
+/// indices for each row. A column-major grid of 64 rows and columns or more is laid out row by row for the swaps, and
+/// back.
 pub fn sort_rows_by_key<T, K: Ord + Drop, A: Allocator + Clone, F>(
     grid: &mut Grid<T, A>,
     key: F,
@@ -110,7 +111,7 @@ where
     ensures col_count { col_count grid.new.rows ≡ col_count grid.old.rows }
     ensures order { grid.new.order ≡ grid.old.order }
 {
-    let wanted = numbers_by_key(grid, key)?;
+    let wanted = sorted_indices_by_key(grid, key)?;
     put_in_order(grid, &wanted)?;
     Ok(())
 }
@@ -120,7 +121,7 @@ where
 ///
 ///     [[3, 2, 3], [1, 2, 0]]   sort_cols_by_key(grid, |col| col.copied().sum::<u32>())   [[3, 3, 2], [0, 1, 2]]
 ///
-/// Where its keys are not a function of the column, the columns end in some order.
+/// If the keys are not a function of the column, the order of the columns is unspecified.
 ///
 /// Requires: the closure can always be called.
 /// Fails: if allocation fails; the grid is unchanged.
@@ -162,9 +163,9 @@ fn put_in_order<T, A: Allocator + Clone>(
     ensures col_count { col_count grid.new.rows ≡ col_count grid.old.rows }
     ensures order { grid.new.order ≡ grid.old.order }
 {
-    let mut holds = row_numbers(grid)?;
-    let mut places = row_numbers(grid)?;
-    if runs_across(grid) {
+    let mut holds = row_indices(grid)?;
+    let mut places = row_indices(grid)?;
+    if is_worth_laying_out(grid) {
         grid.lay_out(Order::RowMajor);
         arrange(grid, wanted, &mut holds, &mut places);
         grid.lay_out(Order::ColumnMajor);
@@ -174,7 +175,8 @@ fn put_in_order<T, A: Allocator + Clone>(
     Ok(())
 }
 
-// The same. Place `p` holds the old row `holds[p]`, and the old row `r` is at `places[r]`; both count up at the start.
+// Puts the rows into the wanted order by swaps. Row `p` now is the old row `holds[p]`, and the old row `r` is now at
+// `places[r]`; both are the identity at the start.
 fn arrange<T, A: Allocator>(
     grid: &mut Grid<T, A>,
     wanted: &[usize],

@@ -1,38 +1,38 @@
--- The steps round a cell, one by one.
+-- The steps around a cell, one by one.
 use Rattle.std.proofs.Common.{◌≡◌, ℕ, zero, suc, ◌+◌, ◌-◌, ◌*◌, ◌/◌, ◌%◌, ◌^◌, ◌<◌, ◌≤◌, inl, inr, Bool, true, false, cond, Option, Some, None, List, [], ◌∷◌, drop, length, refl, ◌&&◌, nat_lt, sym, ◌∙◌, ap, arith, slice_index_or, lit<, IsSome, filter_map, slice_get, option_map, option_and_then, lt-ltb, le-ltb, ltb-true}
-use Rattle.grid_near.proofs.Common.{cons_option, drop_all, mod_below, mod-mul-add, add-mod_right, cases_lt, slice_get_read, row_count, col_count, cell, place, table_of, HoldsSize, cell_past_rows, IsSome_within, length_cons, past_cols, place_within, step_count, both, cell_at, neighbors4, neighbors8, wrapped_neighbors4, wrapped_neighbors8, round_of, round_before, round_after, cell_by, by_strides, by_steps, strided_table, HoldsCells, box, beside, around, side, positions, position_of, cells_from, if_within, strides_of, start_of, next_step, IsThere, IsRound, positions_from}
+use Rattle.grid_near.proofs.Common.{cons_option, drop_all, mod_below, mod-mul-add, add-mod_right, cases_lt, slice_get_read, row_count, col_count, cell, place, table_of, HoldsSize, cell_past_rows, IsSome_within, length_cons, past_cols, place_within, step_count, both, cell_at, neighbors4, neighbors8, wrapped_neighbors4, wrapped_neighbors8, around_of, around_before, around_after, cell_by, by_strides, by_steps, strided_table, HoldsCells, box, beside, around, side, positions, position_of, cells_from, if_within, strides_of, start_of, next_step, IsThere, IsAround, positions_from}
 use Rattle.std.proofs.Math.Nat.{mod-add-mod}
 use Rattle.grid_base.specs.Table.{IsSize, IsTable, tabulate}
 use Rattle.grid_base.proofs.StorageLemmas.{IsFull-table_of}
 use Rattle.grid_base.proofs.TableLemmas.{IsFull, IsTable-tabulate, rows-tabulate, cols-tabulate, cell-tabulate, tabulate-same}
 use Rattle.grid_base.specs.declared.order.Order.{Order}
 use Rattle.grid_base.specs.declared.order.Order.TheVariants.{RowMajor, ColumnMajor}
-use Rattle.grid_near.specs.declared.steps.Steps.{Steps}
-use Rattle.grid_near.specs.declared.steps.Steps.TheVariants.{Sides, All}
+use Rattle.grid_near.specs.declared.steps.Connectivity.{Connectivity}
+use Rattle.grid_near.specs.declared.steps.Connectivity.TheVariants.{Four, Eight}
 use Rattle.grid_near.specs.declared.board.Edges.{Edges}
 use Rattle.grid_near.specs.declared.board.Edges.TheVariants.{Open, Joined}
 
 -- the position of a step is the first of those that are left
-pub positions_from_step : (e : Edges) (size : ℕ × ℕ) (kind : Steps) (at : ℕ × ℕ) (k : ℕ) → k < step_count kind → drop k (positions e size kind at) ≡ position_of e size kind at k ∷ drop (k + 1) (positions e size kind at)
-positions_from_step e size Sides at zero lt = refl
-positions_from_step e size Sides at (suc zero) lt = refl
-positions_from_step e size Sides at (suc (suc zero)) lt = refl
-positions_from_step e size Sides at (suc (suc (suc zero))) lt = refl
-positions_from_step e size Sides at (suc (suc (suc (suc k)))) lt = absurd (omega arith)
-positions_from_step e size All at zero lt = refl
-positions_from_step e size All at (suc zero) lt = refl
-positions_from_step e size All at (suc (suc zero)) lt = refl
-positions_from_step e size All at (suc (suc (suc zero))) lt = refl
-positions_from_step e size All at (suc (suc (suc (suc zero)))) lt = refl
-positions_from_step e size All at (suc (suc (suc (suc (suc zero))))) lt = refl
-positions_from_step e size All at (suc (suc (suc (suc (suc (suc zero)))))) lt = refl
-positions_from_step e size All at (suc (suc (suc (suc (suc (suc (suc zero))))))) lt = refl
-positions_from_step e size All at (suc (suc (suc (suc (suc (suc (suc (suc k)))))))) lt = absurd (omega arith)
+pub positions_from_step : (e : Edges) (size : ℕ × ℕ) (connectivity : Connectivity) (at : ℕ × ℕ) (k : ℕ) → k < step_count connectivity → drop k (positions e size connectivity at) ≡ position_of e size connectivity at k ∷ drop (k + 1) (positions e size connectivity at)
+positions_from_step e size Four at zero lt = refl
+positions_from_step e size Four at (suc zero) lt = refl
+positions_from_step e size Four at (suc (suc zero)) lt = refl
+positions_from_step e size Four at (suc (suc (suc zero))) lt = refl
+positions_from_step e size Four at (suc (suc (suc (suc k)))) lt = absurd (omega arith)
+positions_from_step e size Eight at zero lt = refl
+positions_from_step e size Eight at (suc zero) lt = refl
+positions_from_step e size Eight at (suc (suc zero)) lt = refl
+positions_from_step e size Eight at (suc (suc (suc zero))) lt = refl
+positions_from_step e size Eight at (suc (suc (suc (suc zero)))) lt = refl
+positions_from_step e size Eight at (suc (suc (suc (suc (suc zero))))) lt = refl
+positions_from_step e size Eight at (suc (suc (suc (suc (suc (suc zero)))))) lt = refl
+positions_from_step e size Eight at (suc (suc (suc (suc (suc (suc (suc zero))))))) lt = refl
+positions_from_step e size Eight at (suc (suc (suc (suc (suc (suc (suc (suc k)))))))) lt = absurd (omega arith)
 
 -- no positions are left
-pub none_left : (e : Edges) (size : ℕ × ℕ) (kind : Steps) (at : ℕ × ℕ) (k : ℕ) → step_count kind ≤ k → drop k (positions e size kind at) ≡ []
-none_left e size Sides at k le = drop_all k _ le
-none_left e size All at k le = drop_all k _ le
+pub none_left : (e : Edges) (size : ℕ × ℕ) (connectivity : Connectivity) (at : ℕ × ℕ) (k : ℕ) → step_count connectivity ≤ k → drop k (positions e size connectivity at) ≡ []
+none_left e size Four at k le = drop_all k _ le
+none_left e size Eight at k le = drop_all k _ le
 
 module _ {T : Type 0} (cells : List T) (size : ℕ × ℕ) (place_of : ℕ → ℕ → ℕ) where
   abbrev f : ℕ → ℕ → Option T
@@ -45,28 +45,28 @@ module _ {T : Type 0} (cells : List T) (size : ℕ × ℕ) (place_of : ℕ → �
       ∙ (ap (λ b. option_map {U = (ℕ × ℕ) × T} (λ x. ((r, c), x)) (cond b (slice_get cells (place_of r c)) None)) (lt-ltb _ _ lc)
       ∙ ap (option_map {U = (ℕ × ℕ) × T} (λ x. ((r, c), x))) read)
 
-module _ {T : Type 0} (f : ℕ → ℕ → Option T) (e : Edges) (size : ℕ × ℕ) (kind : Steps) (at : ℕ × ℕ) where
-  pub cells_left : (k : ℕ) → k < step_count kind → cells_from f e size kind at k ≡ cons_option (cell_at f (position_of e size kind at k)) (cells_from f e size kind at (k + 1))
-  cells_left k lt = ap (filter_map (cell_at f)) (positions_from_step e size kind at k lt)
+module _ {T : Type 0} (f : ℕ → ℕ → Option T) (e : Edges) (size : ℕ × ℕ) (connectivity : Connectivity) (at : ℕ × ℕ) where
+  pub cells_left : (k : ℕ) → k < step_count connectivity → cells_from f e size connectivity at k ≡ cons_option (cell_at f (position_of e size connectivity at k)) (cells_from f e size connectivity at (k + 1))
+  cells_left k lt = ap (filter_map (cell_at f)) (positions_from_step e size connectivity at k lt)
 
-  first_cell : (k : ℕ) (x : (ℕ × ℕ) × T) → k < step_count kind → cell_at f (position_of e size kind at k) ≡ Some x → cells_from f e size kind at k ≡ x ∷ cells_from f e size kind at (k + 1)
-  first_cell k x lt is = cells_left k lt ∙ ap (λ o. cons_option o (cells_from f e size kind at (k + 1))) is
+  first_cell : (k : ℕ) (x : (ℕ × ℕ) × T) → k < step_count connectivity → cell_at f (position_of e size connectivity at k) ≡ Some x → cells_from f e size connectivity at k ≡ x ∷ cells_from f e size connectivity at (k + 1)
+  first_cell k x lt is = cells_left k lt ∙ ap (λ o. cons_option o (cells_from f e size connectivity at (k + 1))) is
 
-  pub no_cells : (k : ℕ) → step_count kind ≤ k → cells_from f e size kind at k ≡ []
-  no_cells k le = ap (filter_map (cell_at f)) (none_left e size kind at k le)
+  pub no_cells : (k : ℕ) → step_count connectivity ≤ k → cells_from f e size connectivity at k ≡ []
+  no_cells k le = ap (filter_map (cell_at f)) (none_left e size connectivity at k le)
 
 -- the cell of a step
-pub step_item : {T : Type 0} (cells : List T) (size : ℕ × ℕ) (place_of : ℕ → ℕ → ℕ) (e : Edges) (kind : Steps) (at : ℕ × ℕ) (k r c : ℕ) (x : T) → k < step_count kind → side e size.0 at.0 (box kind k / 3) ≡ Some r → side e size.1 at.1 (box kind k % 3) ≡ Some c → r < size.0 → c < size.1 → slice_get cells (place_of r c) ≡ Some x → cells_from (cell_by cells size place_of) e size kind at k ≡ ((r, c), x) ∷ cells_from (cell_by cells size place_of) e size kind at (k + 1)
-step_item cells size place_of e kind at k r c x lt er ec lr lc read =
+pub step_item : {T : Type 0} (cells : List T) (size : ℕ × ℕ) (place_of : ℕ → ℕ → ℕ) (e : Edges) (connectivity : Connectivity) (at : ℕ × ℕ) (k r c : ℕ) (x : T) → k < step_count connectivity → side e size.0 at.0 (box connectivity k / 3) ≡ Some r → side e size.1 at.1 (box connectivity k % 3) ≡ Some c → r < size.0 → c < size.1 → slice_get cells (place_of r c) ≡ Some x → cells_from (cell_by cells size place_of) e size connectivity at k ≡ ((r, c), x) ∷ cells_from (cell_by cells size place_of) e size connectivity at (k + 1)
+step_item cells size place_of e connectivity at k r c x lt er ec lr lc read =
     let f = cell_by cells size place_of in
-    first_cell f e size kind at k ((r, c), x) lt
-    (ap (λ (o : Option ℕ). cell_at f (o, side e size.1 at.1 (box kind k % 3))) er
+    first_cell f e size connectivity at k ((r, c), x) lt
+    (ap (λ (o : Option ℕ). cell_at f (o, side e size.1 at.1 (box connectivity k % 3))) er
     ∙ (ap (λ (o : Option ℕ). cell_at f (Some r, o)) ec ∙ cell_here cells size place_of r c x lr lc read))
 
 -- steps whose positions aren't in the grid
-pub position_skipped : (size : ℕ × ℕ) (kind : Steps) (at : ℕ × ℕ) (k : ℕ) → k < step_count kind → if_within size (both (position_of Open size kind at k)) ≡ None → positions_from size kind at k ≡ positions_from size kind at (k + 1)
-position_skipped size kind at k lt e =
-    ap (filter_map (λ p. if_within size (both p))) (positions_from_step Open size kind at k lt) ∙ ap (λ o. cons_option o (positions_from size kind at (k + 1))) e
+pub position_skipped : (size : ℕ × ℕ) (connectivity : Connectivity) (at : ℕ × ℕ) (k : ℕ) → k < step_count connectivity → if_within size (both (position_of Open size connectivity at k)) ≡ None → positions_from size connectivity at k ≡ positions_from size connectivity at (k + 1)
+position_skipped size connectivity at k lt e =
+    ap (filter_map (λ p. if_within size (both p))) (positions_from_step Open size connectivity at k lt) ∙ ap (λ o. cons_option o (positions_from size connectivity at (k + 1))) e
 
 module _ {T : Type 0} (cells : List T) (size : ℕ × ℕ) (place_of : ℕ → ℕ → ℕ) where
   abbrev position_cell : ℕ × ℕ → Option ((ℕ × ℕ) × T)
@@ -84,9 +84,9 @@ module _ {T : Type 0} (cells : List T) (size : ℕ × ℕ) (place_of : ℕ → �
   cells_of_positions [] = refl
   cells_of_positions (p ∷ ps) = step_position (both p) _ _ (cells_of_positions ps)
 
-  pub cells_skipped : (kind : Steps) (at : ℕ × ℕ) (k l : ℕ) → positions_from size kind at k ≡ positions_from size kind at l → cells_from (cell_by cells size place_of) Open size kind at k ≡ cells_from (cell_by cells size place_of) Open size kind at l
-  cells_skipped kind at k l e =
-      cells_of_positions (drop k (positions Open size kind at)) ∙ (ap (filter_map position_cell) e ∙ sym (cells_of_positions (drop l (positions Open size kind at))))
+  pub cells_skipped : (connectivity : Connectivity) (at : ℕ × ℕ) (k l : ℕ) → positions_from size connectivity at k ≡ positions_from size connectivity at l → cells_from (cell_by cells size place_of) Open size connectivity at k ≡ cells_from (cell_by cells size place_of) Open size connectivity at l
+  cells_skipped connectivity at k l e =
+      cells_of_positions (drop k (positions Open size connectivity at)) ∙ (ap (filter_map position_cell) e ∙ sym (cells_of_positions (drop l (positions Open size connectivity at))))
 
 -- one cell for each position
 pub mapped_there : {X Y : Type 0} (f : X → Y) (o : Option X) → IsSome o → IsSome (option_map f o)
@@ -118,9 +118,9 @@ module _ {T : Type 0} (cells : List T) (size : ℕ × ℕ) (place_of : ℕ → �
   length_cells [] = refl
   length_cells (p ∷ ps) = length_step (both p) _ _ (length_cells ps)
 
-  pub open_left : (e : Edges) → e ≡ Open → (kind : Steps) (at : ℕ × ℕ) (inner : Bool) (passed tried : ℕ) → length (cells_from (cell_by cells size place_of) e size kind at (next_step e inner passed tried)) ≡ length (positions_from size kind at (cond inner passed tried))
-  open_left Open is kind at inner passed tried = length_cells (drop (cond inner passed tried) (positions Open size kind at))
-  open_left Joined is kind at inner passed tried = absurd (cc is)
+  pub open_left : (e : Edges) → e ≡ Open → (connectivity : Connectivity) (at : ℕ × ℕ) (inner : Bool) (passed tried : ℕ) → length (cells_from (cell_by cells size place_of) e size connectivity at (next_step e inner passed tried)) ≡ length (positions_from size connectivity at (cond inner passed tried))
+  open_left Open is connectivity at inner passed tried = length_cells (drop (cond inner passed tried) (positions Open size connectivity at))
+  open_left Joined is connectivity at inner passed tried = absurd (cc is)
 
   pub strided_there : (r c : ℕ) → r < size.0 → c < size.1 → IsSome (cell_by cells size place_of r c)
   strided_there r c lr lc = there (nat_lt r size.0) (nat_lt c size.1) (lt-ltb _ _ lr) (lt-ltb _ _ lc)
@@ -180,16 +180,16 @@ module _ (size at : ℕ × ℕ) (i j : ℕ) (li : i < 3) (lj : j < 3) where
 
 -- what an iterator starts from
 module _ {T : Type 0} (t : List (List T)) where
-  joined_start : (b : Bool) (size : ℕ × ℕ) (kind : Steps) (at : ℕ × ℕ) → cells_from (cell t) Joined size kind at (cond b 0 (step_count kind)) ≡ cond b (cells_from (cell t) Joined size kind at 0) []
-  joined_start true size kind at = refl
-  joined_start false size kind at = no_cells (cell t) Joined size kind at (step_count kind) (omega arith)
+  joined_start : (b : Bool) (size : ℕ × ℕ) (connectivity : Connectivity) (at : ℕ × ℕ) → cells_from (cell t) Joined size connectivity at (cond b 0 (step_count connectivity)) ≡ cond b (cells_from (cell t) Joined size connectivity at 0) []
+  joined_start true size connectivity at = refl
+  joined_start false size connectivity at = no_cells (cell t) Joined size connectivity at (step_count connectivity) (omega arith)
 
-  round_start : (e : Edges) (kind : Steps) (at : ℕ × ℕ) → let size : ℕ × ℕ = (row_count t, col_count t) in cells_from (cell t) e size kind at (start_of e size kind at) ≡ round_of kind e t at.0 at.1
+  around_start : (e : Edges) (connectivity : Connectivity) (at : ℕ × ℕ) → let size : ℕ × ℕ = (row_count t, col_count t) in cells_from (cell t) e size connectivity at (start_of e size connectivity at) ≡ around_of connectivity e t at.0 at.1
   unfolding neighbors4 neighbors8 wrapped_neighbors4 wrapped_neighbors8
-  round_start Open Sides at = refl
-  round_start Open All at = refl
-  round_start Joined Sides at = joined_start (nat_lt at.0 (row_count t) && nat_lt at.1 (col_count t)) (row_count t, col_count t) Sides at
-  round_start Joined All at = joined_start (nat_lt at.0 (row_count t) && nat_lt at.1 (col_count t)) (row_count t, col_count t) All at
+  around_start Open Four at = refl
+  around_start Open Eight at = refl
+  around_start Joined Four at = joined_start (nat_lt at.0 (row_count t) && nat_lt at.1 (col_count t)) (row_count t, col_count t) Four at
+  around_start Joined Eight at = joined_start (nat_lt at.0 (row_count t) && nat_lt at.1 (col_count t)) (row_count t, col_count t) Eight at
 
 -- a number below another
 pub below_mod : (n k : ℕ) → k < n → k % n ≡ k
@@ -218,11 +218,11 @@ module _ {T : Type 0} (t : List (List T)) (h : IsTable t) (cells : List T) (size
   whole_size : size ≡ (row_count t, col_count t)
   whole_size = λ i. (rows i, cols i)
 
-  pub start_shown : (e : Edges) (kind : Steps) (at : ℕ × ℕ) (k : ℕ) → k ≡ start_of e size kind at → cells_from (cell_by cells size place_of) e size kind at k ≡ round_of kind e t at.0 at.1
-  start_shown e kind at k first =
-      ap (cells_from (cell_by cells size place_of) e size kind at) first
-      ∙ (ap (λ f. cells_from f e size kind at (start_of e size kind at)) (λ i r c. shown r c i)
-      ∙ (ap (λ s. cells_from (cell t) e s kind at (start_of e s kind at)) whole_size ∙ round_start t e kind at))
+  pub start_shown : (e : Edges) (connectivity : Connectivity) (at : ℕ × ℕ) (k : ℕ) → k ≡ start_of e size connectivity at → cells_from (cell_by cells size place_of) e size connectivity at k ≡ around_of connectivity e t at.0 at.1
+  start_shown e connectivity at k first =
+      ap (cells_from (cell_by cells size place_of) e size connectivity at) first
+      ∙ (ap (λ f. cells_from f e size connectivity at (start_of e size connectivity at)) (λ i r c. shown r c i)
+      ∙ (ap (λ s. cells_from (cell t) e s connectivity at (start_of e s connectivity at)) whole_size ∙ around_start t e connectivity at))
 
 -- a grid's cells, by their strides
 pub at_strides : (o : Order) (m n r c : ℕ) → by_strides (strides_of o (m, n)) r c ≡ place o m n r c
@@ -249,7 +249,7 @@ module _ {T : Type 0} (cells : List T) (size : ℕ × ℕ) (start : ℕ) (stride
   full : IsFull size.0 size.1 read_step
   full = record { full = λ r c lr lc. IsSome_within cells (by_steps start strides r c) (h r c lr lc) }
 
-  pub steps_shown : (e : Edges) (kind : Steps) (at : ℕ × ℕ) (k : ℕ) → k ≡ start_of e size kind at → cells_from (cell_by cells size (by_steps start strides)) e size kind at k ≡ round_of kind e (strided_table cells size start strides) at.0 at.1
+  pub steps_shown : (e : Edges) (connectivity : Connectivity) (at : ℕ × ℕ) (k : ℕ) → k ≡ start_of e size connectivity at → cells_from (cell_by cells size (by_steps start strides)) e size connectivity at k ≡ around_of connectivity e (strided_table cells size start strides) at.0 at.1
   steps_shown =
       start_shown (strided_table cells size start strides) (IsTable-tabulate size.0 size.1 read_step s full) cells size (by_steps start strides) (sym (rows-tabulate size.0 size.1 read_step)) (sym (cols-tabulate size.0 size.1 read_step s full))
       (λ r c lr lc. sym (cell-tabulate size.0 size.1 read_step r c full lr lc))
@@ -265,14 +265,14 @@ inner_step Open inner passed tried is = ap (λ b. cond b passed tried) is
 inner_step Joined inner passed tried is = refl
 
 -- away from the edges
-before_inner : (n k : ℕ) → 0 < k → k < n → round_before n k ≡ k - 1
+before_inner : (n k : ℕ) → 0 < k → k < n → around_before n k ≡ k - 1
 before_inner n zero lk ln = absurd (omega arith)
 before_inner n (suc k) lk ln =
     let same : suc k + n - 1 ≡ k + n = omega arith in
     let low : k ≡ suc k - 1 = omega arith in
     ap (λ x. x % n) same ∙ (add-mod_right k n ∙ (below_mod n k (omega arith) ∙ low))
 
-after_inner : (n k : ℕ) → k + 1 < n → round_after n k ≡ k + 1
+after_inner : (n k : ℕ) → k + 1 < n → around_after n k ≡ k + 1
 after_inner n k ln = below_mod n (k + 1) ln
 
 around_inner : (n k i : ℕ) → 0 < k → k + 1 < n → i < 3 → around n k i ≡ k + i - 1
@@ -285,12 +285,12 @@ side_inner : (e : Edges) (n k i : ℕ) → 0 < k → k + 1 < n → i < 3 → sid
 side_inner Open n k i lk ln li = beside_there k i (omega arith) li
 side_inner Joined n k i lk ln li = ap Some (around_inner n k i lk ln li)
 
-pub box_row : (kind : Steps) (k : ℕ) → k < step_count kind → box kind k / 3 < 3
-box_row Sides k lt = omega arith
-box_row All k lt = omega arith
+pub box_row : (connectivity : Connectivity) (k : ℕ) → k < step_count connectivity → box connectivity k / 3 < 3
+box_row Four k lt = omega arith
+box_row Eight k lt = omega arith
 
-pub box_col : (kind : Steps) (k : ℕ) → box kind k % 3 < 3
-box_col kind k = mod_below (box kind k) 3 (lit< tt)
+pub box_col : (connectivity : Connectivity) (k : ℕ) → box connectivity k % 3 < 3
+box_col connectivity k = mod_below (box connectivity k) 3 (lit< tt)
 
 -- how many positions are left
 pub there_at : (size at : ℕ × ℕ) (i j k l : ℕ) → i ≡ k → j ≡ l → IsThere size at i j → IsThere size at k l
@@ -301,17 +301,17 @@ there_at size at i j k l ei ej t = record {
   after = omega (arith, t.after, ej);
 }
 
-pub position_counted : (size at : ℕ × ℕ) (kind : Steps) (k : ℕ) → k < step_count kind → IsThere size at (box kind k / 3) (box kind k % 3) → length (positions_from size kind at k) ≡ suc (length (positions_from size kind at (k + 1)))
-position_counted size at kind k lt t =
-    ap (λ ps. length (filter_map (λ p. if_within size (both p)) ps)) (positions_from_step Open size kind at k lt)
-    ∙ ap (λ o. length (cons_option o (positions_from size kind at (k + 1)))) (sym (position_there size at (box kind k / 3) (box kind k % 3) (box_row kind k lt) (box_col kind k) t))
+pub position_counted : (size at : ℕ × ℕ) (connectivity : Connectivity) (k : ℕ) → k < step_count connectivity → IsThere size at (box connectivity k / 3) (box connectivity k % 3) → length (positions_from size connectivity at k) ≡ suc (length (positions_from size connectivity at (k + 1)))
+position_counted size at connectivity k lt t =
+    ap (λ ps. length (filter_map (λ p. if_within size (both p)) ps)) (positions_from_step Open size connectivity at k lt)
+    ∙ ap (λ o. length (cons_option o (positions_from size connectivity at (k + 1)))) (sym (position_there size at (box connectivity k / 3) (box connectivity k % 3) (box_row connectivity k lt) (box_col connectivity k) t))
 
-pub no_position : (size at : ℕ × ℕ) (kind : Steps) (k : ℕ) → k < step_count kind → (IsThere size at (box kind k / 3) (box kind k % 3) → ⊥) → positions_from size kind at k ≡ positions_from size kind at (k + 1)
-no_position size at kind k lt none =
-    position_skipped size kind at k lt (position_missing size at (box kind k / 3) (box kind k % 3) (box_row kind k lt) (box_col kind k) none)
+pub no_position : (size at : ℕ × ℕ) (connectivity : Connectivity) (k : ℕ) → k < step_count connectivity → (IsThere size at (box connectivity k / 3) (box connectivity k % 3) → ⊥) → positions_from size connectivity at k ≡ positions_from size connectivity at (k + 1)
+no_position size at connectivity k lt none =
+    position_skipped size connectivity at k lt (position_missing size at (box connectivity k / 3) (box connectivity k % 3) (box_row connectivity k lt) (box_col connectivity k) none)
 
-pub no_positions : (size at : ℕ × ℕ) (kind : Steps) (k : ℕ) → step_count kind ≤ k → length (positions_from size kind at k) ≡ 0
-no_positions size at kind k le = ap (λ ps. length (filter_map (λ p. if_within size (both p)) ps)) (none_left Open size kind at k le)
+pub no_positions : (size at : ℕ × ℕ) (connectivity : Connectivity) (k : ℕ) → step_count connectivity ≤ k → length (positions_from size connectivity at k) ≡ 0
+no_positions size at connectivity k le = ap (λ ps. length (filter_map (λ p. if_within size (both p)) ps)) (none_left Open size connectivity at k le)
 
 dist : (a b s : ℕ) → (a + b) * s ≡ a * s + b * s
 dist a b s = grind arith
@@ -329,26 +329,26 @@ steps_on start strides at i j above before =
     ap (λ y. y % 2 ^ 64) grouped ∙ (mod-add-mod x (2 ^ 64) more ∙ ap (λ y. y % 2 ^ 64) all)
 
 -- the position of a step whose cell is in the grid
-module _ {T : Type 0} (cells : List T) (size : ℕ × ℕ) (place_of : ℕ → ℕ → ℕ) (at : ℕ × ℕ) (kind : Steps) (k i j : ℕ) (lt : k < step_count kind) (h : HoldsCells cells size place_of) (t : IsThere size at (box kind k / 3) (box kind k % 3)) (ei : i ≡ box kind k / 3) (ej : j ≡ box kind k % 3) where
+module _ {T : Type 0} (cells : List T) (size : ℕ × ℕ) (place_of : ℕ → ℕ → ℕ) (at : ℕ × ℕ) (connectivity : Connectivity) (k i j : ℕ) (lt : k < step_count connectivity) (h : HoldsCells cells size place_of) (t : IsThere size at (box connectivity k / 3) (box connectivity k % 3)) (ei : i ≡ box connectivity k / 3) (ej : j ≡ box connectivity k % 3) where
   there : IsThere size at i j
   there = there_at size at _ _ i j (sym ei) (sym ej) t
 
   pub position_within : place_of (at.0 + i - 1) (at.1 + j - 1) < length cells
   position_within = h (at.0 + i - 1) (at.1 + j - 1) (omega (arith, there.above, there.below)) (omega (arith, there.before, there.after))
 
-  pub position_item : (x : T) → slice_get cells (place_of (at.0 + i - 1) (at.1 + j - 1)) ≡ Some x → cells_from (cell_by cells size place_of) Open size kind at k ≡ ((at.0 + i - 1, at.1 + j - 1), x) ∷ cells_from (cell_by cells size place_of) Open size kind at (k + 1)
+  pub position_item : (x : T) → slice_get cells (place_of (at.0 + i - 1) (at.1 + j - 1)) ≡ Some x → cells_from (cell_by cells size place_of) Open size connectivity at k ≡ ((at.0 + i - 1, at.1 + j - 1), x) ∷ cells_from (cell_by cells size place_of) Open size connectivity at (k + 1)
   position_item x read =
-      step_item cells size place_of Open kind at k (at.0 + i - 1) (at.1 + j - 1) x lt
-      (ap (beside at.0) (sym ei) ∙ beside_there at.0 i there.above (omega (arith, box_row kind k lt, ei)))
-      (ap (beside at.1) (sym ej) ∙ beside_there at.1 j there.before (omega (arith, box_col kind k, ej)))
+      step_item cells size place_of Open connectivity at k (at.0 + i - 1) (at.1 + j - 1) x lt
+      (ap (beside at.0) (sym ei) ∙ beside_there at.0 i there.above (omega (arith, box_row connectivity k lt, ei)))
+      (ap (beside at.1) (sym ej) ∙ beside_there at.1 j there.before (omega (arith, box_col connectivity k, ej)))
       (omega (arith, there.above, there.below)) (omega (arith, there.before, there.after)) read
 
-module _ {T : Type 0} (cells : List T) (size : ℕ × ℕ) (start : ℕ) (strides at : ℕ × ℕ) (kind : Steps) (edges : Edges) (first : ℕ) (inner : Bool) (passed tried : ℕ) (w : IsRound cells size start strides at kind edges first inner passed tried) (e : inner ≡ true) (k : ℕ) (lt : k < step_count kind) (i j : ℕ) (ei : i ≡ box kind k / 3) (ej : j ≡ box kind k % 3) where
+module _ {T : Type 0} (cells : List T) (size : ℕ × ℕ) (start : ℕ) (strides at : ℕ × ℕ) (connectivity : Connectivity) (edges : Edges) (first : ℕ) (inner : Bool) (passed tried : ℕ) (w : IsAround cells size start strides at connectivity edges first inner passed tried) (e : inner ≡ true) (k : ℕ) (lt : k < step_count connectivity) (i j : ℕ) (ei : i ≡ box connectivity k / 3) (ej : j ≡ box connectivity k % 3) where
   within_row : at.0 + i - 1 < size.0
-  within_row = omega (arith, box_row kind k lt, (w.inside e).below, (w.inside e).above)
+  within_row = omega (arith, box_row connectivity k lt, (w.inside e).below, (w.inside e).above)
 
   within_col : at.1 + j - 1 < size.1
-  within_col = omega (arith, box_col kind k, (w.inside e).after, (w.inside e).before)
+  within_col = omega (arith, box_col connectivity k, (w.inside e).after, (w.inside e).before)
 
   box_place : by_steps first strides i j ≡ by_steps start strides (at.0 + i - 1) (at.1 + j - 1)
   box_place =
@@ -357,10 +357,10 @@ module _ {T : Type 0} (cells : List T) (size : ℕ × ℕ) (start : ℕ) (stride
   pub box_within : by_steps first strides i j < length cells
   box_within = omega (arith, box_place, w.holds (at.0 + i - 1) (at.1 + j - 1) within_row within_col)
 
-  pub inner_item : (x : T) (p : ℕ) → p ≡ by_steps first strides i j → x ≡ slice_index_or cells p x → cells_from (cell_by cells size (by_steps start strides)) edges size kind at k ≡ ((at.0 + i - 1, at.1 + j - 1), x) ∷ cells_from (cell_by cells size (by_steps start strides)) edges size kind at (k + 1)
+  pub inner_item : (x : T) (p : ℕ) → p ≡ by_steps first strides i j → x ≡ slice_index_or cells p x → cells_from (cell_by cells size (by_steps start strides)) edges size connectivity at k ≡ ((at.0 + i - 1, at.1 + j - 1), x) ∷ cells_from (cell_by cells size (by_steps start strides)) edges size connectivity at (k + 1)
   inner_item x p there read =
       let same : p ≡ by_steps start strides (at.0 + i - 1) (at.1 + j - 1) = there ∙ box_place in
-      step_item cells size (by_steps start strides) edges kind at k (at.0 + i - 1) (at.1 + j - 1) x lt
-      (ap (side edges size.0 at.0) (sym ei) ∙ side_inner edges size.0 at.0 i (w.inside e).above (w.inside e).below (omega (arith, box_row kind k lt)))
-      (ap (side edges size.1 at.1) (sym ej) ∙ side_inner edges size.1 at.1 j (w.inside e).before (w.inside e).after (omega (arith, box_col kind k)))
+      step_item cells size (by_steps start strides) edges connectivity at k (at.0 + i - 1) (at.1 + j - 1) x lt
+      (ap (side edges size.0 at.0) (sym ei) ∙ side_inner edges size.0 at.0 i (w.inside e).above (w.inside e).below (omega (arith, box_row connectivity k lt)))
+      (ap (side edges size.1 at.1) (sym ej) ∙ side_inner edges size.1 at.1 j (w.inside e).before (w.inside e).after (omega (arith, box_col connectivity k)))
       within_row within_col (ap (slice_get cells) (sym same) ∙ slice_get_read cells _ _ x refl (omega (arith, there, box_within)) read)

@@ -5,9 +5,9 @@ pub use Rattle.grid_base.proofs.Lemmas.{holds, zip_nothing, answers_more, view-r
 pub use Rattle.grid_base.proofs.StorageLemmas.{place_within}
 pub use Rattle.grid_base.proofs.TableLemmas.{length_cons, cell_past_rows, IsSome_within, past_cols}
 pub use Rattle.grid_base.proofs.ViewLemmas.{view-cols, view-table, view-cell}
-pub use Rattle.grid_near.specs.Around.{cells_from, strided_cell, cell_by, by_strides, by_steps, strided_table, positions, beside, start_of, next_step, HoldsCells, position_of, if_within, IsRound}
+pub use Rattle.grid_near.specs.Around.{cells_from, strided_cell, cell_by, by_strides, by_steps, strided_table, positions, beside, start_of, next_step, HoldsCells, position_of, if_within, IsAround}
 pub use Rattle.grid_near.specs.Marks.{MarkAt, MarksLine, spot}
 pub use Rattle.grid_near.specs.NearCounts.{MayAnswer, MayCount, CountsNear, SumsNear}
 unfoldable pub use Rattle.grid_near.specs.Neighbors.{neighbors4, neighbors8, wrapped_neighbors4, wrapped_neighbors8}
-pub use Rattle.grid_near.specs.Neighbors.{cell_at, round_of, both, round_before, round_after, before, placed, CellsInOrder, PositionsInOrder}
-pub use Rattle.grid_near.specs.Prelude.{step_count, placed_cells, near, table, around, positions_from, box, side, strides_of, IsThere, MarksCells, MarksBeside, AnswersCounted, AnswersSummed, AreBeside, WithEnds, IsBeyond, count_round, sum_round}
+pub use Rattle.grid_near.specs.Neighbors.{cell_at, around_of, both, around_before, around_after, before, placed, CellsInOrder, PositionsInOrder}
+pub use Rattle.grid_near.specs.Prelude.{step_count, placed_cells, near, table, around, positions_from, box, side, strides_of, IsThere, MarksCells, MarksBeside, AnswersCounted, AnswersSummed, AreBeside, WithEnds, IsBeyond, count_around, sum_around}

@@ -1,10 +1,10 @@
 -- Marks of cells.
 use Rattle.std.proofs.Common.{◌≡◌, ℕ, zero, suc, ◌+◌, ◌-◌, ◌*◌, ◌%◌, ◌<◌, ◌&&◌, inl, inr, Bool, true, false, cond, nat_lt, List, [], ◌∷◌, Option, Some, None, length, refl, sym, subst, ◌∙◌, ap, arith, get_or, set, take, slice_get, filter_map, option_map, MatchOption, get_or-set_other, take_all, le-ltb, Bor}
-use Rattle.grid_near.proofs.Common.{cons_option, AllZip, from_bool, slice_get_read, sum_by-cons, get_or-set_at, cases_lt, add-mod_right, along, table_of, HoldsSize, positions_of, lines_of, holds, get_along, all_passed, length-places, get-zip, zip_even, place_within, cell_at, before, round_of, strided_cell, by_strides, strides_of, view-rows, view-cols, view-table, view-cell, beside, around, side, positions, MayAnswer, MayCount, CountsNear, SumsNear, MarkAt, MarksCells, MarksLine, AreBeside, WithEnds, IsBeyond, spot, near, table, placed_cells, count_round, sum_round}
+use Rattle.grid_near.proofs.Common.{cons_option, AllZip, from_bool, slice_get_read, sum_by-cons, get_or-set_at, cases_lt, add-mod_right, along, table_of, HoldsSize, positions_of, lines_of, holds, get_along, all_passed, length-places, get-zip, zip_even, place_within, cell_at, before, around_of, strided_cell, by_strides, strides_of, view-rows, view-cols, view-table, view-cell, beside, around, side, positions, MayAnswer, MayCount, CountsNear, SumsNear, MarkAt, MarksCells, MarksLine, AreBeside, WithEnds, IsBeyond, spot, near, table, placed_cells, count_around, sum_around}
 use Rattle.grid_base.specs.declared.order.Order.{Order}
 use Rattle.grid_base.specs.declared.order.Order.TheVariants.{RowMajor, ColumnMajor}
-use Rattle.grid_near.specs.declared.steps.Steps.{Steps}
-use Rattle.grid_near.specs.declared.steps.Steps.TheVariants.{Sides, All}
+use Rattle.grid_near.specs.declared.steps.Connectivity.{Connectivity}
+use Rattle.grid_near.specs.declared.steps.Connectivity.TheVariants.{Four, Eight}
 use Rattle.grid_near.specs.declared.board.Board.{Board}
 use Rattle.grid_near.specs.declared.board.Edges.{Edges}
 use Rattle.grid_near.specs.declared.board.Edges.TheVariants.{Open, Joined}
@@ -136,44 +136,44 @@ module _ {F T B : Type 0} (blank : B) (returns : F → Bor T → B → Type 0) (
       line_marked Open line is ends = subst (λ z. MarksLine blank returns f there o Open w z new) (sym is) (record { at = open_mark ends })
       line_marked Joined line is ends = subst (λ z. MarksLine blank returns f there o Joined w z new) (sym is) (record { at = joined_mark ends })
 
-round_shown : {T : Type 0} (cells : List T) (o : Order) (size : ℕ × ℕ) → HoldsSize size.0 size.1 (length cells) → (e : Edges) (kind : Steps) (at : ℕ × ℕ) → at.0 < size.0 → at.1 < size.1 → filter_map (cell_at (strided_cell cells size (strides_of o size))) (positions e size kind at) ≡ round_of kind e (table_of o size.0 size.1 cells) at.0 at.1
-round_shown cells o size h e kind at lr lc =
+around_shown : {T : Type 0} (cells : List T) (o : Order) (size : ℕ × ℕ) → HoldsSize size.0 size.1 (length cells) → (e : Edges) (connectivity : Connectivity) (at : ℕ × ℕ) → at.0 < size.0 → at.1 < size.1 → filter_map (cell_at (strided_cell cells size (strides_of o size))) (positions e size connectivity at) ≡ around_of connectivity e (table_of o size.0 size.1 cells) at.0 at.1
+around_shown cells o size h e connectivity at lr lc =
     start_shown (table_of o size.0 size.1 cells) (view-table o size.0 size.1 cells h) cells size (by_strides (strides_of o size)) (sym (view-rows o size.0 size.1 cells h)) (sym (view-cols o size.0 size.1 cells h))
-    (λ r c lr lc. ap (slice_get cells) (at_strides o size.0 size.1 r c) ∙ sym (view-cell o size.0 size.1 cells h r c lr lc)) e kind at 0 (sym (none_done size kind at e lr lc))
+    (λ r c lr lc. ap (slice_get cells) (at_strides o size.0 size.1 r c) ∙ sym (view-cell o size.0 size.1 cells h r c lr lc)) e connectivity at 0 (sym (none_done size connectivity at e lr lc))
 
--- the marks round a place of a line, in the order of the positions of the cells
-abbrev marks_round : {B : Type 0} → B → Order → Steps → List B → List B → List B → ℕ → List B
-marks_round blank RowMajor Sides up mid down k = get_or up (k + 1) blank ∷ get_or mid k blank ∷ get_or mid (k + 2) blank ∷ get_or down (k + 1) blank ∷ []
-marks_round blank RowMajor All up mid down k = get_or up k blank ∷ get_or up (k + 1) blank ∷ get_or up (k + 2) blank ∷ get_or mid k blank ∷ get_or mid (k + 2) blank ∷ get_or down k blank ∷ get_or down (k + 1) blank ∷ get_or down (k + 2) blank ∷ []
-marks_round blank ColumnMajor Sides up mid down k = get_or mid k blank ∷ get_or up (k + 1) blank ∷ get_or down (k + 1) blank ∷ get_or mid (k + 2) blank ∷ []
-marks_round blank ColumnMajor All up mid down k = get_or up k blank ∷ get_or mid k blank ∷ get_or down k blank ∷ get_or up (k + 1) blank ∷ get_or down (k + 1) blank ∷ get_or up (k + 2) blank ∷ get_or mid (k + 2) blank ∷ get_or down (k + 2) blank ∷ []
+-- the marks around a place of a line, in the order of the positions of the cells
+abbrev marks_around : {B : Type 0} → B → Order → Connectivity → List B → List B → List B → ℕ → List B
+marks_around blank RowMajor Four up mid down k = get_or up (k + 1) blank ∷ get_or mid k blank ∷ get_or mid (k + 2) blank ∷ get_or down (k + 1) blank ∷ []
+marks_around blank RowMajor Eight up mid down k = get_or up k blank ∷ get_or up (k + 1) blank ∷ get_or up (k + 2) blank ∷ get_or mid k blank ∷ get_or mid (k + 2) blank ∷ get_or down k blank ∷ get_or down (k + 1) blank ∷ get_or down (k + 2) blank ∷ []
+marks_around blank ColumnMajor Four up mid down k = get_or mid k blank ∷ get_or up (k + 1) blank ∷ get_or down (k + 1) blank ∷ get_or mid (k + 2) blank ∷ []
+marks_around blank ColumnMajor Eight up mid down k = get_or up k blank ∷ get_or mid k blank ∷ get_or down k blank ∷ get_or up (k + 1) blank ∷ get_or down (k + 1) blank ∷ get_or up (k + 2) blank ∷ get_or mid (k + 2) blank ∷ get_or down (k + 2) blank ∷ []
 
--- what marks tell of cells, they tell so of those round a cell
+-- what marks tell of cells, they tell so of those around a cell
 module _ {F T B : Type 0} (blank : B) (returns : F → Bor T → B → Type 0) (f : F) (Tells : List ((ℕ × ℕ) × T) → ℕ → Type 0) (sum : List B → ℕ) (told : (g : ℕ → ℕ → Option T) (ps : List (Option ℕ × Option ℕ)) (bs : List B) → AllZip (MarkAt blank returns f g) ps bs → Tells (filter_map (cell_at g) ps) (sum bs)) (cells : List T) where
-  round_told : (o : Order) (size : ℕ × ℕ) → HoldsSize size.0 size.1 (length cells) → (e : Edges) (kind : Steps) (l k : ℕ) (up mid down : List B) → l < (along o size.0 size.1).0 → k < (along o size.0 size.1).1 → MarksLine blank returns f (strided_cell cells size (strides_of o size)) o e (along o size.0 size.1).1 (side e (along o size.0 size.1).0 l 0) up → MarksLine blank returns f (strided_cell cells size (strides_of o size)) o e (along o size.0 size.1).1 (side e (along o size.0 size.1).0 l 1) mid → MarksLine blank returns f (strided_cell cells size (strides_of o size)) o e (along o size.0 size.1).1 (side e (along o size.0 size.1).0 l 2) down → Tells (round_of kind e (table_of o size.0 size.1 cells) (along o l k).0 (along o l k).1) (sum (marks_round blank o kind up mid down k))
-  round_told RowMajor size h e Sides l k up mid down ll lk hu hm hd =
-      subst (λ near. Tells near (sum (marks_round blank RowMajor Sides up mid down k))) (round_shown cells RowMajor size h e Sides (l, k) ll lk)
-      (told (strided_cell cells size (size.1, 1)) (positions e size Sides (l, k)) _ (hu.at k 1 (k + 1) lk (omega arith) (omega arith), (hm.at k 0 k lk (omega arith) (omega arith), (hm.at k 2 (k + 2) lk (omega arith) (omega arith), (hd.at k 1 (k + 1) lk (omega arith) (omega arith), tt)))))
-  round_told RowMajor size h e All l k up mid down ll lk hu hm hd =
-      subst (λ near. Tells near (sum (marks_round blank RowMajor All up mid down k))) (round_shown cells RowMajor size h e All (l, k) ll lk)
-      (told (strided_cell cells size (size.1, 1)) (positions e size All (l, k)) _ (hu.at k 0 k lk (omega arith) (omega arith), (hu.at k 1 (k + 1) lk (omega arith) (omega arith), (hu.at k 2 (k + 2) lk (omega arith) (omega arith), (hm.at k 0 k lk (omega arith) (omega arith), (hm.at k 2 (k + 2) lk (omega arith) (omega arith), (hd.at k 0 k lk (omega arith) (omega arith), (hd.at k 1 (k + 1) lk (omega arith) (omega arith), (hd.at k 2 (k + 2) lk (omega arith) (omega arith), tt)))))))))
-  round_told ColumnMajor size h e Sides l k up mid down ll lk hu hm hd =
-      subst (λ near. Tells near (sum (marks_round blank ColumnMajor Sides up mid down k))) (round_shown cells ColumnMajor size h e Sides (k, l) lk ll)
-      (told (strided_cell cells size (1, size.0)) (positions e size Sides (k, l)) _ (hm.at k 0 k lk (omega arith) (omega arith), (hu.at k 1 (k + 1) lk (omega arith) (omega arith), (hd.at k 1 (k + 1) lk (omega arith) (omega arith), (hm.at k 2 (k + 2) lk (omega arith) (omega arith), tt)))))
-  round_told ColumnMajor size h e All l k up mid down ll lk hu hm hd =
-      subst (λ near. Tells near (sum (marks_round blank ColumnMajor All up mid down k))) (round_shown cells ColumnMajor size h e All (k, l) lk ll)
-      (told (strided_cell cells size (1, size.0)) (positions e size All (k, l)) _ (hu.at k 0 k lk (omega arith) (omega arith), (hm.at k 0 k lk (omega arith) (omega arith), (hd.at k 0 k lk (omega arith) (omega arith), (hu.at k 1 (k + 1) lk (omega arith) (omega arith), (hd.at k 1 (k + 1) lk (omega arith) (omega arith), (hu.at k 2 (k + 2) lk (omega arith) (omega arith), (hm.at k 2 (k + 2) lk (omega arith) (omega arith), (hd.at k 2 (k + 2) lk (omega arith) (omega arith), tt)))))))))
+  around_told : (o : Order) (size : ℕ × ℕ) → HoldsSize size.0 size.1 (length cells) → (e : Edges) (connectivity : Connectivity) (l k : ℕ) (up mid down : List B) → l < (along o size.0 size.1).0 → k < (along o size.0 size.1).1 → MarksLine blank returns f (strided_cell cells size (strides_of o size)) o e (along o size.0 size.1).1 (side e (along o size.0 size.1).0 l 0) up → MarksLine blank returns f (strided_cell cells size (strides_of o size)) o e (along o size.0 size.1).1 (side e (along o size.0 size.1).0 l 1) mid → MarksLine blank returns f (strided_cell cells size (strides_of o size)) o e (along o size.0 size.1).1 (side e (along o size.0 size.1).0 l 2) down → Tells (around_of connectivity e (table_of o size.0 size.1 cells) (along o l k).0 (along o l k).1) (sum (marks_around blank o connectivity up mid down k))
+  around_told RowMajor size h e Four l k up mid down ll lk hu hm hd =
+      subst (λ near. Tells near (sum (marks_around blank RowMajor Four up mid down k))) (around_shown cells RowMajor size h e Four (l, k) ll lk)
+      (told (strided_cell cells size (size.1, 1)) (positions e size Four (l, k)) _ (hu.at k 1 (k + 1) lk (omega arith) (omega arith), (hm.at k 0 k lk (omega arith) (omega arith), (hm.at k 2 (k + 2) lk (omega arith) (omega arith), (hd.at k 1 (k + 1) lk (omega arith) (omega arith), tt)))))
+  around_told RowMajor size h e Eight l k up mid down ll lk hu hm hd =
+      subst (λ near. Tells near (sum (marks_around blank RowMajor Eight up mid down k))) (around_shown cells RowMajor size h e Eight (l, k) ll lk)
+      (told (strided_cell cells size (size.1, 1)) (positions e size Eight (l, k)) _ (hu.at k 0 k lk (omega arith) (omega arith), (hu.at k 1 (k + 1) lk (omega arith) (omega arith), (hu.at k 2 (k + 2) lk (omega arith) (omega arith), (hm.at k 0 k lk (omega arith) (omega arith), (hm.at k 2 (k + 2) lk (omega arith) (omega arith), (hd.at k 0 k lk (omega arith) (omega arith), (hd.at k 1 (k + 1) lk (omega arith) (omega arith), (hd.at k 2 (k + 2) lk (omega arith) (omega arith), tt)))))))))
+  around_told ColumnMajor size h e Four l k up mid down ll lk hu hm hd =
+      subst (λ near. Tells near (sum (marks_around blank ColumnMajor Four up mid down k))) (around_shown cells ColumnMajor size h e Four (k, l) lk ll)
+      (told (strided_cell cells size (1, size.0)) (positions e size Four (k, l)) _ (hm.at k 0 k lk (omega arith) (omega arith), (hu.at k 1 (k + 1) lk (omega arith) (omega arith), (hd.at k 1 (k + 1) lk (omega arith) (omega arith), (hm.at k 2 (k + 2) lk (omega arith) (omega arith), tt)))))
+  around_told ColumnMajor size h e Eight l k up mid down ll lk hu hm hd =
+      subst (λ near. Tells near (sum (marks_around blank ColumnMajor Eight up mid down k))) (around_shown cells ColumnMajor size h e Eight (k, l) lk ll)
+      (told (strided_cell cells size (1, size.0)) (positions e size Eight (k, l)) _ (hu.at k 0 k lk (omega arith) (omega arith), (hm.at k 0 k lk (omega arith) (omega arith), (hd.at k 0 k lk (omega arith) (omega arith), (hu.at k 1 (k + 1) lk (omega arith) (omega arith), (hd.at k 1 (k + 1) lk (omega arith) (omega arith), (hu.at k 2 (k + 2) lk (omega arith) (omega arith), (hm.at k 2 (k + 2) lk (omega arith) (omega arith), (hd.at k 2 (k + 2) lk (omega arith) (omega arith), tt)))))))))
 
 -- how many are true
 abbrev trues : List Bool → ℕ
 trues [] = 0
 trues (b ∷ bs) = from_bool b + trues bs
 
-same_count : (o : Order) (kind : Steps) (up mid down : List Bool) (k : ℕ) → trues (marks_round false o kind up mid down k) ≡ count_round kind up mid down k
-same_count RowMajor Sides up mid down k = omega arith
-same_count RowMajor All up mid down k = omega arith
-same_count ColumnMajor Sides up mid down k = omega arith
-same_count ColumnMajor All up mid down k = omega arith
+same_count : (o : Order) (connectivity : Connectivity) (up mid down : List Bool) (k : ℕ) → trues (marks_around false o connectivity up mid down k) ≡ count_around connectivity up mid down k
+same_count RowMajor Four up mid down k = omega arith
+same_count RowMajor Eight up mid down k = omega arith
+same_count ColumnMajor Four up mid down k = omega arith
+same_count ColumnMajor Eight up mid down k = omega arith
 
 module _ {F T : Type 0} (returns : F → Bor T → Bool → Type 0) (f : F) where
   counted_step : (o : Option ((ℕ × ℕ) × T)) (b : Bool) (near : List ((ℕ × ℕ) × T)) (n : ℕ) → MatchOption o (b ≡ false) (λ x. MayAnswer returns f x.1 b) → CountsNear returns f near n → CountsNear returns f (cons_option o near) (from_bool b + n)
@@ -199,21 +199,21 @@ module _ {F T : Type 0} (returns : F → Bor T → Bool → Type 0) (f : F) wher
     counted (p ∷ ps) [] a = absurd a
     counted (p ∷ ps) (b ∷ bs) a = counted_step (cell_at g p) b (filter_map (cell_at g) ps) (trues bs) a.0 (counted ps bs a.1)
 
-  -- the marks round a place say how many of the cells round it pass
-  round_counted : (cells : List T) (o : Order) (size : ℕ × ℕ) → HoldsSize size.0 size.1 (length cells) → (e : Edges) (kind : Steps) (l k : ℕ) (up mid down : List Bool) → l < (along o size.0 size.1).0 → k < (along o size.0 size.1).1 → MarksLine false returns f (strided_cell cells size (strides_of o size)) o e (along o size.0 size.1).1 (side e (along o size.0 size.1).0 l 0) up → MarksLine false returns f (strided_cell cells size (strides_of o size)) o e (along o size.0 size.1).1 (side e (along o size.0 size.1).0 l 1) mid → MarksLine false returns f (strided_cell cells size (strides_of o size)) o e (along o size.0 size.1).1 (side e (along o size.0 size.1).0 l 2) down → CountsNear returns f (round_of kind e (table_of o size.0 size.1 cells) (along o l k).0 (along o l k).1) (count_round kind up mid down k)
-  round_counted cells o size h e kind l k up mid down ll lk hu hm hd =
-      subst (CountsNear returns f _) (same_count o kind up mid down k) (round_told false returns f (CountsNear returns f) trues counted cells o size h e kind l k up mid down ll lk hu hm hd)
+  -- the marks around a place say how many of the cells around it pass
+  around_counted : (cells : List T) (o : Order) (size : ℕ × ℕ) → HoldsSize size.0 size.1 (length cells) → (e : Edges) (connectivity : Connectivity) (l k : ℕ) (up mid down : List Bool) → l < (along o size.0 size.1).0 → k < (along o size.0 size.1).1 → MarksLine false returns f (strided_cell cells size (strides_of o size)) o e (along o size.0 size.1).1 (side e (along o size.0 size.1).0 l 0) up → MarksLine false returns f (strided_cell cells size (strides_of o size)) o e (along o size.0 size.1).1 (side e (along o size.0 size.1).0 l 1) mid → MarksLine false returns f (strided_cell cells size (strides_of o size)) o e (along o size.0 size.1).1 (side e (along o size.0 size.1).0 l 2) down → CountsNear returns f (around_of connectivity e (table_of o size.0 size.1 cells) (along o l k).0 (along o l k).1) (count_around connectivity up mid down k)
+  around_counted cells o size h e connectivity l k up mid down ll lk hu hm hd =
+      subst (CountsNear returns f _) (same_count o connectivity up mid down k) (around_told false returns f (CountsNear returns f) trues counted cells o size h e connectivity l k up mid down ll lk hu hm hd)
 
 -- the sum of numbers
 abbrev total : List ℕ → ℕ
 total [] = 0
 total (b ∷ bs) = b + total bs
 
-same_sum : (o : Order) (kind : Steps) (up mid down : List ℕ) (k : ℕ) → total (marks_round 0 o kind up mid down k) ≡ sum_round kind up mid down k
-same_sum RowMajor Sides up mid down k = omega arith
-same_sum RowMajor All up mid down k = omega arith
-same_sum ColumnMajor Sides up mid down k = omega arith
-same_sum ColumnMajor All up mid down k = omega arith
+same_sum : (o : Order) (connectivity : Connectivity) (up mid down : List ℕ) (k : ℕ) → total (marks_around 0 o connectivity up mid down k) ≡ sum_around connectivity up mid down k
+same_sum RowMajor Four up mid down k = omega arith
+same_sum RowMajor Eight up mid down k = omega arith
+same_sum ColumnMajor Four up mid down k = omega arith
+same_sum ColumnMajor Eight up mid down k = omega arith
 
 module _ {F T : Type 0} (returns : F → Bor T → ℕ → Type 0) (f : F) where
   summed_step : (o : Option ((ℕ × ℕ) × T)) (b : ℕ) (near : List ((ℕ × ℕ) × T)) (n : ℕ) → MatchOption o (b ≡ 0) (λ x. MayAnswer returns f x.1 b) → SumsNear returns f near n → SumsNear returns f (cons_option o near) (b + n)
@@ -232,10 +232,10 @@ module _ {F T : Type 0} (returns : F → Bor T → ℕ → Type 0) (f : F) where
     summed (p ∷ ps) [] a = absurd a
     summed (p ∷ ps) (b ∷ bs) a = summed_step (cell_at g p) b (filter_map (cell_at g) ps) (total bs) a.0 (summed ps bs a.1)
 
-  -- the marks round a place have the sum of the cells round it
-  round_summed : (cells : List T) (o : Order) (size : ℕ × ℕ) → HoldsSize size.0 size.1 (length cells) → (e : Edges) (kind : Steps) (l k : ℕ) (up mid down : List ℕ) → l < (along o size.0 size.1).0 → k < (along o size.0 size.1).1 → MarksLine 0 returns f (strided_cell cells size (strides_of o size)) o e (along o size.0 size.1).1 (side e (along o size.0 size.1).0 l 0) up → MarksLine 0 returns f (strided_cell cells size (strides_of o size)) o e (along o size.0 size.1).1 (side e (along o size.0 size.1).0 l 1) mid → MarksLine 0 returns f (strided_cell cells size (strides_of o size)) o e (along o size.0 size.1).1 (side e (along o size.0 size.1).0 l 2) down → SumsNear returns f (round_of kind e (table_of o size.0 size.1 cells) (along o l k).0 (along o l k).1) (sum_round kind up mid down k)
-  round_summed cells o size h e kind l k up mid down ll lk hu hm hd =
-      subst (SumsNear returns f _) (same_sum o kind up mid down k) (round_told 0 returns f (SumsNear returns f) total summed cells o size h e kind l k up mid down ll lk hu hm hd)
+  -- the marks around a place have the sum of the cells around it
+  around_summed : (cells : List T) (o : Order) (size : ℕ × ℕ) → HoldsSize size.0 size.1 (length cells) → (e : Edges) (connectivity : Connectivity) (l k : ℕ) (up mid down : List ℕ) → l < (along o size.0 size.1).0 → k < (along o size.0 size.1).1 → MarksLine 0 returns f (strided_cell cells size (strides_of o size)) o e (along o size.0 size.1).1 (side e (along o size.0 size.1).0 l 0) up → MarksLine 0 returns f (strided_cell cells size (strides_of o size)) o e (along o size.0 size.1).1 (side e (along o size.0 size.1).0 l 1) mid → MarksLine 0 returns f (strided_cell cells size (strides_of o size)) o e (along o size.0 size.1).1 (side e (along o size.0 size.1).0 l 2) down → SumsNear returns f (around_of connectivity e (table_of o size.0 size.1 cells) (along o l k).0 (along o l k).1) (sum_around connectivity up mid down k)
+  around_summed cells o size h e connectivity l k up mid down ll lk hu hm hd =
+      subst (SumsNear returns f _) (same_sum o connectivity up mid down k) (around_told 0 returns f (SumsNear returns f) total summed cells o size h e connectivity l k up mid down ll lk hu hm hd)
 
 before-next : (k : ℕ) → before (k + 1) ≡ Some k
 before-next k =
@@ -288,9 +288,9 @@ module _ {T F : Type 0} (b : Board T F) where
   pub all_placed : (i : ℕ) → i ≡ length b.cells.now → take i (placed_cells b) ≡ placed_cells b
   all_placed i e = take_all i (placed_cells b) (omega (arith, zip_even (positions_of b.layout) b.cells.now placed_even, placed_even, e))
 
--- what the marks round a place of a board say of the cells round it
-pub board_counted : {T F : Type 0} (returns : F → Bor T → Bool → Type 0) (b : Board T F) (l k : ℕ) (up mid down : List Bool) → l < (lines_of b.layout).0 → k < (lines_of b.layout).1 → AreBeside false returns b l up mid down → CountsNear returns b.mark.now (near b (table b) (along b.layout.order l k).0 (along b.layout.order l k).1) (count_round b.kind up mid down k)
-board_counted returns b l k up mid down ll lk m = round_counted returns b.mark.now b.cells.now b.layout.order (b.layout.rows, b.layout.cols) (holds_size b) b.edges b.kind l k up mid down ll lk m.before m.here m.after
+-- what the marks around a place of a board say of the cells around it
+pub board_counted : {T F : Type 0} (returns : F → Bor T → Bool → Type 0) (b : Board T F) (l k : ℕ) (up mid down : List Bool) → l < (lines_of b.layout).0 → k < (lines_of b.layout).1 → AreBeside false returns b l up mid down → CountsNear returns b.mark.now (near b (table b) (along b.layout.order l k).0 (along b.layout.order l k).1) (count_around b.connectivity up mid down k)
+board_counted returns b l k up mid down ll lk m = around_counted returns b.mark.now b.cells.now b.layout.order (b.layout.rows, b.layout.cols) (holds_size b) b.edges b.connectivity l k up mid down ll lk m.before m.here m.after
 
-pub board_summed : {T F : Type 0} (returns : F → Bor T → ℕ → Type 0) (b : Board T F) (l k : ℕ) (up mid down : List ℕ) → l < (lines_of b.layout).0 → k < (lines_of b.layout).1 → AreBeside 0 returns b l up mid down → SumsNear returns b.mark.now (near b (table b) (along b.layout.order l k).0 (along b.layout.order l k).1) (sum_round b.kind up mid down k)
-board_summed returns b l k up mid down ll lk m = round_summed returns b.mark.now b.cells.now b.layout.order (b.layout.rows, b.layout.cols) (holds_size b) b.edges b.kind l k up mid down ll lk m.before m.here m.after
+pub board_summed : {T F : Type 0} (returns : F → Bor T → ℕ → Type 0) (b : Board T F) (l k : ℕ) (up mid down : List ℕ) → l < (lines_of b.layout).0 → k < (lines_of b.layout).1 → AreBeside 0 returns b l up mid down → SumsNear returns b.mark.now (near b (table b) (along b.layout.order l k).0 (along b.layout.order l k).1) (sum_around b.connectivity up mid down k)
+board_summed returns b l k up mid down ll lk m = around_summed returns b.mark.now b.cells.now b.layout.order (b.layout.rows, b.layout.cols) (holds_size b) b.edges b.connectivity l k up mid down ll lk m.before m.here m.after

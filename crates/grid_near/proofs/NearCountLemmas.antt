@@ -1,4 +1,4 @@
--- A loop that counts the cells round a cell at which a closure answers true.
+-- A loop that counts the cells around a cell at which a closure answers true.
 use Rattle.std.proofs.Common.{◌≡◌, ℕ, suc, ◌+◌, ◌≤◌, inl, inr, Bool, true, false, cond, List, [], ◌∷◌, length, refl, subst, sym, ◌∙◌, ap, arith, count_by, Bor}
 use Rattle.grid_near.proofs.Common.{sum_by-cons, MayCount, CountsNear}
 use Rattle.grid_near.specs.NearCounts.{CallableNear}

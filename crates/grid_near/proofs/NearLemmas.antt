@@ -1,11 +1,11 @@
--- The cells round a cell are cells of the table, at their positions.
+-- The cells around a cell are cells of the table, at their positions.
 use Rattle.std.proofs.Common.{◌≡◌, ℕ, zero, suc, ◌<◌, ◌&&◌, Bool, true, false, cond, nat_lt, Option, Some, None, List, [], ◌∷◌, length, refl, subst, sym, arith, filter_map, slice_index_or, option_map, option_and_then}
 use Rattle.grid_base.proofs.Common.{IsTable, IsCellAt, GivesCells}
 use Rattle.grid_base.proofs.TableLemmas.{cell_in_range}
-use Rattle.grid_near.proofs.Common.{cons_option, row_count, col_count, cell, both, cell_at, neighbors4, neighbors8, wrapped_neighbors4, wrapped_neighbors8, round_of}
+use Rattle.grid_near.proofs.Common.{cons_option, row_count, col_count, cell, both, cell_at, neighbors4, neighbors8, wrapped_neighbors4, wrapped_neighbors8, around_of}
 use Rattle.grid_near.specs.Around.{positions}
-use Rattle.grid_near.specs.declared.steps.Steps.{Steps}
-use Rattle.grid_near.specs.declared.steps.Steps.TheVariants.{Sides, All}
+use Rattle.grid_near.specs.declared.steps.Connectivity.{Connectivity}
+use Rattle.grid_near.specs.declared.steps.Connectivity.TheVariants.{Four, Eight}
 use Rattle.grid_near.specs.declared.board.Edges.{Edges}
 use Rattle.grid_near.specs.declared.board.Edges.TheVariants.{Open, Joined}
 use Rattle.grid_near.proofs.GivenLemmas.{gives_cells_of}
@@ -46,10 +46,10 @@ module _ {T : Type 0} (t : List (List T)) (h : IsTable t) where
   gives_if true ps s is = gives_from ps s is
   gives_if false ps s is = gives_from [] s is
 
-  -- by the kind of steps, and by what the edges do
-  pub gives_round : (r c : ℕ) (s : List ((ℕ × ℕ) × T)) (kind : Steps) (e : Edges) → s ≡ round_of kind e t r c → GivesCells t s
+  -- by the connectivity, and by what the edges do
+  pub gives_around : (r c : ℕ) (s : List ((ℕ × ℕ) × T)) (connectivity : Connectivity) (e : Edges) → s ≡ around_of connectivity e t r c → GivesCells t s
   unfolding neighbors4 neighbors8 wrapped_neighbors4 wrapped_neighbors8
-  gives_round r c s Sides Open is = gives_from (positions Open (row_count t, col_count t) Sides (r, c)) s is
-  gives_round r c s All Open is = gives_from (positions Open (row_count t, col_count t) All (r, c)) s is
-  gives_round r c s Sides Joined is = gives_if (nat_lt r (row_count t) && nat_lt c (col_count t)) (positions Joined (row_count t, col_count t) Sides (r, c)) s is
-  gives_round r c s All Joined is = gives_if (nat_lt r (row_count t) && nat_lt c (col_count t)) (positions Joined (row_count t, col_count t) All (r, c)) s is
+  gives_around r c s Four Open is = gives_from (positions Open (row_count t, col_count t) Four (r, c)) s is
+  gives_around r c s Eight Open is = gives_from (positions Open (row_count t, col_count t) Eight (r, c)) s is
+  gives_around r c s Four Joined is = gives_if (nat_lt r (row_count t) && nat_lt c (col_count t)) (positions Joined (row_count t, col_count t) Four (r, c)) s is
+  gives_around r c s Eight Joined is = gives_if (nat_lt r (row_count t) && nat_lt c (col_count t)) (positions Joined (row_count t, col_count t) Eight (r, c)) s is

@@ -1,8 +1,8 @@
 -- Iterators over cells with their positions give what they have left.
 use Rattle.std.proofs.Common.{◌≡◌, ◌≤◌, ◌<◌, ℕ, suc, min, drop, Option, None, Some, List, [], ◌∷◌, length, length-drop, map, sym, ◌∙◌, ap, arith, filter_map, Bor}
 use Rattle.grid_near.proofs.Common.{⊤, cons_option, YieldsFirstBy, MakesProgress, at_most, min-eq_left, min-le_left, from_front, map-map, step_count, placed, cell_at, CellsInOrder, PositionsInOrder, positions, cells_from}
-use Rattle.grid_near.specs.declared.steps.Steps.{Steps}
-use Rattle.grid_near.specs.declared.steps.Steps.TheVariants.{Sides, All}
+use Rattle.grid_near.specs.declared.steps.Connectivity.{Connectivity}
+use Rattle.grid_near.specs.declared.steps.Connectivity.TheVariants.{Four, Eight}
 use Rattle.grid_near.specs.declared.board.Edges.{Edges}
 
 pub cells_in_order : (T : Type 0) → CellsInOrder T
@@ -21,13 +21,13 @@ module _ {X Y : Type 0} where
   length-filter_map f (x ∷ xs) = omega (arith, length-cons (f x) (filter_map f xs), length-filter_map f xs)
 
 -- what is left of an iterator: at most as many cells as steps, one fewer after each
-pub few_from : {T : Type 0} (f : ℕ → ℕ → Option T) (e : Edges) (size : ℕ × ℕ) (kind : Steps) (at : ℕ × ℕ) (k : ℕ) → length (cells_from f e size kind at k) ≤ step_count kind
-few_from f e size Sides at k = omega (arith, length-filter_map (cell_at f) (drop k (positions e size Sides at)), length-drop k (positions e size Sides at))
-few_from f e size All at k = omega (arith, length-filter_map (cell_at f) (drop k (positions e size All at)), length-drop k (positions e size All at))
+pub few_from : {T : Type 0} (f : ℕ → ℕ → Option T) (e : Edges) (size : ℕ × ℕ) (connectivity : Connectivity) (at : ℕ × ℕ) (k : ℕ) → length (cells_from f e size connectivity at k) ≤ step_count connectivity
+few_from f e size Four at k = omega (arith, length-filter_map (cell_at f) (drop k (positions e size Four at)), length-drop k (positions e size Four at))
+few_from f e size Eight at k = omega (arith, length-filter_map (cell_at f) (drop k (positions e size Eight at)), length-drop k (positions e size Eight at))
 
-pub few_left : {T : Type 0} (f : ℕ → ℕ → Option T) (e : Edges) (size : ℕ × ℕ) (kind : Steps) (at : ℕ × ℕ) (k : ℕ) (seen : List ((ℕ × ℕ) × T)) → cells_from f e size kind at k ≡ seen → length seen ≤ 8
-few_left f e size Sides at k seen is = omega (arith, few_from f e size Sides at k, ap length is)
-few_left f e size All at k seen is = omega (arith, few_from f e size All at k, ap length is)
+pub few_left : {T : Type 0} (f : ℕ → ℕ → Option T) (e : Edges) (size : ℕ × ℕ) (connectivity : Connectivity) (at : ℕ × ℕ) (k : ℕ) (seen : List ((ℕ × ℕ) × T)) → cells_from f e size connectivity at k ≡ seen → length seen ≤ 8
+few_left f e size Four at k seen is = omega (arith, few_from f e size Four at k, ap length is)
+few_left f e size Eight at k seen is = omega (arith, few_from f e size Eight at k, ap length is)
 
 pub goes_on : {T : Type 0} (s t : List ((ℕ × ℕ) × T)) (r : Option ((ℕ × ℕ) × Bor T)) → length s ≤ 8 → YieldsFirstBy placed (λ (rest : List ((ℕ × ℕ) × T)). rest) s r t → MakesProgress (λ _. ⊤) (λ (rest : List ((ℕ × ℕ) × T)). at_most (min (length rest) 8)) s r t
 goes_on s t None few gave = record { on = λ _. tt; keeps = tt; rests = λ _. tt }

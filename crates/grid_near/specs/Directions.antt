@@ -15,7 +15,7 @@ box_of DownLeft = (2, 0)
 box_of Left = (1, 0)
 box_of UpLeft = (0, 0)
 
--- the number of a direction, clockwise from the one up
+-- the index of a direction, clockwise from the one up
 abbrev pub clockwise : Direction → ℕ
 clockwise Up = 0
 clockwise UpRight = 1

@@ -5,12 +5,12 @@ use Rattle.std.specs.Int.{from_bool}
 use denote.Ref.{Bor}
 use Rattle.grid_base.specs.declared.order.Order.{Order}
 use Rattle.grid_base.specs.declared.order.Order.TheVariants.{RowMajor, ColumnMajor}
-use Rattle.grid_near.specs.declared.steps.Steps.{Steps}
-use Rattle.grid_near.specs.declared.steps.Steps.TheVariants.{Sides, All}
+use Rattle.grid_near.specs.declared.steps.Connectivity.{Connectivity}
+use Rattle.grid_near.specs.declared.steps.Connectivity.TheVariants.{Four, Eight}
 use Rattle.grid_near.specs.declared.board.Board.{Board}
 use Rattle.grid_near.specs.declared.board.Edges.{Edges}
 use Rattle.grid_near.specs.declared.board.Edges.TheVariants.{Open, Joined}
-use Rattle.grid_near.specs.Neighbors.{cell_at, round_of}
+use Rattle.grid_near.specs.Neighbors.{cell_at, around_of}
 use Rattle.grid_near.specs.Around.{side, strided_cell, strides_of}
 use Rattle.grid_near.specs.NearCounts.{MayAnswer, CountsNear, SumsNear}
 
@@ -23,9 +23,9 @@ module _ {T F : Type 0} (b : Board T F) where
   abbrev pub placed_cells : List ((ℕ × ℕ) × T)
   placed_cells = zip (positions_of b.layout) b.cells.now
 
-  -- the cells round a cell of a table, by the board's kind of steps and its edges
+  -- the cells around a cell of a table, by the board's connectivity and its edges
   abbrev pub near : List (List T) → ℕ → ℕ → List ((ℕ × ℕ) × T)
-  near = round_of b.kind b.edges
+  near = around_of b.connectivity b.edges
 
 -- the row and the column of a place in a line along the storage
 abbrev pub spot : Order → Option ℕ → Option ℕ → Option ℕ × Option ℕ
@@ -48,25 +48,25 @@ pub record WithEnds {B : Type 0} (blank : B) (e : Edges) (w : ℕ) (old new : Li
   pub first : slice_index_or new 0 blank ≡ end_mark blank e (slice_index_or old w blank)
   pub last : slice_index_or new (w + 1) blank ≡ end_mark blank e (slice_index_or old 1 blank)
 
--- how many of the marks round place k of the middle one of three lines are true
-abbrev pub count_round : Steps → List Bool → List Bool → List Bool → ℕ → ℕ
-count_round Sides up mid down k =
+-- how many of the marks around place k of the middle one of three lines are true
+abbrev pub count_around : Connectivity → List Bool → List Bool → List Bool → ℕ → ℕ
+count_around Four up mid down k =
     from_bool (slice_index_or up (k + 1) false) + from_bool (slice_index_or mid k false)
     + from_bool (slice_index_or mid (k + 2) false)
     + from_bool (slice_index_or down (k + 1) false)
-count_round All up mid down k =
+count_around Eight up mid down k =
     from_bool (slice_index_or up k false) + from_bool (slice_index_or up (k + 1) false)
     + from_bool (slice_index_or up (k + 2) false) + (from_bool (slice_index_or mid k false)
     + from_bool (slice_index_or mid (k + 2) false)) + (from_bool (slice_index_or down k false)
     + from_bool (slice_index_or down (k + 1) false)
     + from_bool (slice_index_or down (k + 2) false))
 
--- the sum of the marks round place k
-abbrev pub sum_round : Steps → List ℕ → List ℕ → List ℕ → ℕ → ℕ
-sum_round Sides up mid down k =
+-- the sum of the marks around place k
+abbrev pub sum_around : Connectivity → List ℕ → List ℕ → List ℕ → ℕ → ℕ
+sum_around Four up mid down k =
     slice_index_or up (k + 1) 0 + slice_index_or mid k 0 + slice_index_or mid (k + 2) 0
     + slice_index_or down (k + 1) 0
-sum_round All up mid down k =
+sum_around Eight up mid down k =
     slice_index_or up k 0 + slice_index_or up (k + 1) 0 + slice_index_or up (k + 2) 0
     + (slice_index_or mid k 0 + slice_index_or mid (k + 2) 0)
     + (slice_index_or down k 0 + slice_index_or down (k + 1) 0 + slice_index_or down (k + 2) 0)
@@ -76,7 +76,7 @@ module _ {F T B : Type 0} (blank : B) (returns : F → Bor T → B → Type 0) (
   abbrev pub MarkAt : (ℕ → ℕ → Option T) → Option ℕ × Option ℕ → B → Type 0
   MarkAt g p b = MatchOption (cell_at g p) (b ≡ blank) (λ n. MayAnswer returns f n.1 b)
 
-  -- the marks of a line of w cells: those beside place k are at k, k + 1 and k + 2
+  -- the marks of a line of w cells: those next to place k are at k, k + 1 and k + 2
   pub record MarksLine (g : ℕ → ℕ → Option T) (o : Order) (e : Edges) (w : ℕ) (line : Option ℕ)
       (marks : List B) : Type 0 where
     pub at : (k i l : ℕ) → k < w → i < 3 → l ≡ k + i
@@ -136,7 +136,7 @@ pub record AreBeside {F T B : Type 0} (blank : B) (returns : F → Bor T → B �
   pub after_len : length down ≡ (lines_of b.layout).1 + 2
 
 module _ {F G T : Type 0} (b : Board T F) (returns : F → Bor T → Bool → Type 0) where
-  -- the closure g can be called at each cell of a board and how many of those round it are marked
+  -- the closure g can be called at each cell of a board and how many of those around it are marked
   abbrev pub CallableOnCounts : (G → Bor T → ℕ → Type 0) → G → Type 0
   CallableOnCounts takes g =
       CallableAtCells (TakesCounted (near b) returns b.mark.now (table b) takes) g (placed_cells b)
@@ -148,7 +148,7 @@ module _ {F G T : Type 0} (b : Board T F) (returns : F → Bor T → Bool → Ty
       (take n (placed_cells b)) made
 
 module _ {F G T : Type 0} (b : Board T F) (returns : F → Bor T → ℕ → Type 0) where
-  -- the same of the sum of the marks of those round it
+  -- the same of the sum of the marks of those around it
   abbrev pub CallableOnSums : (G → Bor T → ℕ → Type 0) → G → Type 0
   CallableOnSums takes g =
       CallableAtCells (TakesSummed (near b) returns b.mark.now (table b) takes) g (placed_cells b)

@@ -1,4 +1,4 @@
--- How many of the cells round a cell pass a test.
+-- How many of the cells around a cell pass a test.
 use Rattle.std.specs.Prelude.{◌≡◌, ◌⊎◌, ℕ, suc, ◌+◌, Bool, true, false, List, [], ◌∷◌, map, count_by, sum_by}
 use denote.Ref.{Bor}
 use Rattle.grid_base.specs.ClosureCalls.{CallableAtRefs}

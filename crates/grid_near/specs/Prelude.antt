@@ -3,5 +3,5 @@ pub use Rattle.grid_base.specs.ClosureCalls.{CallableAtRefs, ReturnsAtCell, Pair
 pub use Rattle.grid_base.specs.Layout.{lines_of}
 pub use Rattle.grid_near.specs.Around.{side, around, box, positions_from, strides_of, IsInner, IsThere}
 pub use Rattle.grid_near.specs.Directions.{box_of, clockwise, wrapped_beside, IsBeside, IsWithin}
-pub use Rattle.grid_near.specs.Marks.{IsBeyond, count_round, sum_round, MarksBeside, MarksCells, WithEnds, near, table, placed_cells, AnswersCounted, AnswersSummed, AreBeside, CallableOnCounts, AreCounted, CallableOnSums, AreSummed}
+pub use Rattle.grid_near.specs.Marks.{IsBeyond, count_around, sum_around, MarksBeside, MarksCells, WithEnds, near, table, placed_cells, AnswersCounted, AnswersSummed, AreBeside, CallableOnCounts, AreCounted, CallableOnSums, AreSummed}
 pub use Rattle.grid_near.specs.Neighbors.{step_count}

@@ -1,10 +1,10 @@
-//! Tables whose cells are marked.
+//! What the counts and the sums over all cells are called with.
 ghost use Rattle.std.specs.Prelude.{◌≡◌, ◌*◌, length};
 
-use crate::steps::Steps;
+use crate::steps::Connectivity;
 use grid_base::Layout;
 
-/// What is beside the cells at an edge of a table.
+/// What is next to the cells at an edge of a table.
 #[derive(Clone, Copy, Debug, PartialEq, Eq)]
 pub enum Edges {
     /// Nothing.
@@ -13,15 +13,15 @@ pub enum Edges {
     Joined,
 }
 
-/// A table that a slice stores, which cells are round a cell of it, and a closure that marks each cell.
-///
-/// The slice has as many cells as the layout.
+/// What [`map_counts`](crate::map_counts) and [`map_sums`](crate::map_sums) are called with: the cells and their
+/// layout, the connectivity, what the edges do, and a closure that marks each cell. The slice has as many cells as the
+/// layout.
 #[derive(Drop)]
 pub struct Board<'a, T, F> {
     pub cells: &'a [T],
     pub layout: Layout,
     pub edges: Edges,
-    pub kind: Steps,
+    pub connectivity: Connectivity,
     pub mark: &'a F,
     pub ghost filled: { length cells.now ≡ layout.rows * layout.cols },
 }

@@ -1,4 +1,4 @@
-//! How many of the cells round a cell pass a test.
+//! How many of the cells around a cell pass a test.
 ghost use Rattle.std.specs.Prelude.{◌≤◌, length};
 ghost use Rattle.grid_near.specs.NearCounts.{CallableNear, CountsNear};
 

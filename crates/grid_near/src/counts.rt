@@ -1,9 +1,9 @@
-//! How many of the cells round each cell pass a test, for all cells of a table at once.
+//! How many of the cells around each cell pass a test, for all cells of a table at once.
 ghost use Rattle.std.specs.Prelude.{◌≡◌, ℕ, ◌+◌, ◌*◌, ◌<◌, ◌≤◌, length, vec_len, vec_capacity, false, slice_index_or, MatchOption, Some, IfOk};
-ghost use Rattle.grid_near.specs.Prelude.{CallableAtRefs, ReturnsAtCell, PairsUp, lines_of, IsBeyond, count_round, sum_round, MarksBeside, MarksCells, WithEnds, near, table, placed_cells, AnswersCounted, AnswersSummed, AreBeside, CallableOnCounts, AreCounted, CallableOnSums, AreSummed, side};
+ghost use Rattle.grid_near.specs.Prelude.{CallableAtRefs, ReturnsAtCell, PairsUp, lines_of, IsBeyond, count_around, sum_around, MarksBeside, MarksCells, WithEnds, near, table, placed_cells, AnswersCounted, AnswersSummed, AreBeside, CallableOnCounts, AreCounted, CallableOnSums, AreSummed, side};
 
 use crate::board::{Board, Edges};
-use crate::steps::{Steps, around};
+use crate::steps::{Connectivity, around};
 use std::alloc::{AllocError, Allocator};
 
 // The line before a line, the line, or the one after it, if the table has it.
@@ -27,12 +27,12 @@ fn line_beside(edges: Edges, lines: usize, line: usize, step: usize) -> Option<u
     }
 }
 
-// The number of the eight marks round place `k` of the middle line that are true.
+// How many of the eight marks around place `k` of the middle line are true.
 fn count_eight(up: &[bool], mid: &[bool], down: &[bool], k: usize) -> u8
     requires up { k + 2 < length up.now }
     requires mid { k + 2 < length mid.now }
     requires down { k + 2 < length down.now }
-    ensures count { result ≡ count_round Steps.All up.now mid.now down.now k }
+    ensures count { result ≡ count_around Connectivity.Eight up.now mid.now down.now k }
     ensures most { result ≤ 8 }
 {
     let above = u8::from(up[k]) + u8::from(up[k + 1]) + u8::from(up[k + 2]);
@@ -41,28 +41,34 @@ fn count_eight(up: &[bool], mid: &[bool], down: &[bool], k: usize) -> u8
     above + beside + below
 }
 
-// The same of the four at its sides.
+// How many of the four at its sides are true.
 fn count_four(up: &[bool], mid: &[bool], down: &[bool], k: usize) -> u8
     requires up { k + 2 < length up.now }
     requires mid { k + 2 < length mid.now }
     requires down { k + 2 < length down.now }
-    ensures count { result ≡ count_round Steps.Sides up.now mid.now down.now k }
+    ensures count { result ≡ count_around Connectivity.Four up.now mid.now down.now k }
     ensures most { result ≤ 8 }
 {
     u8::from(up[k + 1]) + u8::from(mid[k]) + u8::from(mid[k + 2]) + u8::from(down[k + 1])
 }
 
-// The number of the marks round place `k` of the middle line that are true.
-fn count_round(kind: Steps, up: &[bool], mid: &[bool], down: &[bool], k: usize) -> u8
+// How many of the marks around place `k` of the middle line are true.
+fn count_around(
+    connectivity: Connectivity,
+    up: &[bool],
+    mid: &[bool],
+    down: &[bool],
+    k: usize,
+) -> u8
     requires up { k + 2 < length up.now }
     requires mid { k + 2 < length mid.now }
     requires down { k + 2 < length down.now }
-    ensures count { result ≡ count_round kind up.now mid.now down.now k }
+    ensures count { result ≡ count_around connectivity up.now mid.now down.now k }
     ensures most { result ≤ 8 }
 {
-    match kind {
-        Steps::Sides => count_four(up, mid, down, k),
-        Steps::All => count_eight(up, mid, down, k),
+    match connectivity {
+        Connectivity::Four => count_four(up, mid, down, k),
+        Connectivity::Eight => count_eight(up, mid, down, k),
     }
 }
 
@@ -155,7 +161,8 @@ fn marked<T, M: Copy, A: Allocator, F: Fn(&T) -> M>(
     marks
 }
 
-// Appends what the closure `rule` returns at each cell of the next line, and the number of the cells round it that pass.
+// Appends what the closure `rule` returns at each cell of the next line, and how many of the cells around it
+// pass.
 fn push_line<T, U, A: Allocator, F: Fn(&T) -> bool, G: Fn(&T, u8) -> U>(
     mut made: Vec<U, A>,
     marks: (&[bool], &[bool], &[bool]),
@@ -176,22 +183,22 @@ fn push_line<T, U, A: Allocator, F: Fn(&T) -> bool, G: Fn(&T, u8) -> U>(
     let (up, mid, down) = marks;
     let (_, width) = board.layout.lines();
     let cells = board.cells;
-    let kind = board.kind;
+    let connectivity = board.connectivity;
     let start = line * width;
     for k in 0..width {
-        let count = count_round(kind, up, mid, down, k);
+        let count = count_around(connectivity, up, mid, down, k);
         made.push_reserved(rule(&cells[start + k], count));
     }
     made
 }
 
-/// Returns what the closure `rule` returns for a reference to each cell of a board, and the number of the cells round it,
-/// at a side or all eight, that the board marks with `true`.
+/// Returns what the closure `rule` returns for a reference to each cell of a board, and how many of the four or the
+/// eight cells around it the board marks with `true`.
 ///
 /// Requires: the closures can be called with these arguments.
 /// Fails: if allocation fails; neither closure was called.
-/// Cost: one call of each for each cell, and, where the edges are joined, one more of `mark` for each cell of the first line
-/// and of the last; one allocation, and three of a line of `bool`s.
+/// Cost: one call of each for each cell, and, where the edges are joined, one more of `mark` for each cell of the first
+/// line and of the last; one allocation, and three of a line of `bool`s.
 pub fn map_counts<T, U, A: Allocator, F: Fn(&T) -> bool, G: Fn(&T, u8) -> U>(
     alloc: A,
     board: &Board<'_, T, F>,
@@ -231,20 +238,20 @@ where
     Ok(made)
 }
 
-// The sum of the marks round place `k` of the middle line.
-fn sum_round(kind: Steps, up: &[u8], mid: &[u8], down: &[u8], k: usize) -> u16
+// The sum of the marks around place `k` of the middle line.
+fn sum_around(connectivity: Connectivity, up: &[u8], mid: &[u8], down: &[u8], k: usize) -> u16
     requires up { k + 2 < length up.now }
     requires mid { k + 2 < length mid.now }
     requires down { k + 2 < length down.now }
-    ensures sum { result ≡ sum_round kind up.now mid.now down.now k }
+    ensures sum { result ≡ sum_around connectivity up.now mid.now down.now k }
     ensures most { result ≤ 2040 }
 {
-    match kind {
-        Steps::Sides => u16::from(up[k + 1])
+    match connectivity {
+        Connectivity::Four => u16::from(up[k + 1])
             + u16::from(mid[k])
             + u16::from(mid[k + 2])
             + u16::from(down[k + 1]),
-        Steps::All => {
+        Connectivity::Eight => {
             let above = u16::from(up[k]) + u16::from(up[k + 1]) + u16::from(up[k + 2]);
             let beside = u16::from(mid[k]) + u16::from(mid[k + 2]);
             let below = u16::from(down[k]) + u16::from(down[k + 1]) + u16::from(down[k + 2]);
@@ -253,7 +260,7 @@ fn sum_round(kind: Steps, up: &[u8], mid: &[u8], down: &[u8], k: usize) -> u16
     }
 }
 
-// Appends what the closure `rule` returns at each cell of the next line, and the sum of the marks round it.
+// Appends what the closure `rule` returns at each cell of the next line, and the sum of the marks around it.
 fn push_sums<T, U, A: Allocator, F: Fn(&T) -> u8, G: Fn(&T, u16) -> U>(
     mut made: Vec<U, A>,
     marks: (&[u8], &[u8], &[u8]),
@@ -274,16 +281,16 @@ fn push_sums<T, U, A: Allocator, F: Fn(&T) -> u8, G: Fn(&T, u16) -> U>(
     let (up, mid, down) = marks;
     let (_, width) = board.layout.lines();
     let cells = board.cells;
-    let kind = board.kind;
+    let connectivity = board.connectivity;
     let start = line * width;
     for k in 0..width {
-        let sum = sum_round(kind, up, mid, down, k);
+        let sum = sum_around(connectivity, up, mid, down, k);
         made.push_reserved(rule(&cells[start + k], sum));
     }
     made
 }
 
-/// Same as [`map_counts`], with the sum of the marks of the cells round a cell in place of the number of those that are
+/// Same as [`map_counts`], with the sum of the marks of the cells around a cell in place of how many of them are
 /// `true`.
 ///
 /// Requires: as `map_counts`.

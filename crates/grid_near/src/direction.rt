@@ -1,4 +1,4 @@
-//! Directions, and the positions beside a position.
+//! Directions, and the positions next to a position.
 ghost use Rattle.std.specs.Prelude.{◌≡◌, ◌+◌, ◌<◌, ◌≤◌, ◌%◌, ℕ, MatchOption, IfSome};
 ghost use Rattle.grid_near.specs.Prelude.{box_of, clockwise, wrapped_beside, IsBeside, IsWithin};
 
@@ -64,15 +64,15 @@ impl Direction {
         }
     }
 
-    /// Returns the direction that is so many eighths of a turn on, clockwise: 2 are a quarter to the right, 6 a quarter to
-    /// the left.
+    /// Returns the direction that is so many eighths of a turn on, clockwise: 2 are a quarter to the right, 6 a quarter
+    /// to the left.
     ///
     ///     Up.turned(1)     UpRight
     ///     Left.turned(2)   Up
     pub fn turned(self, eighths: usize) -> Direction
         ensures { clockwise result ≡ (clockwise self + eighths) % 8 }
     {
-        match (self.number() + eighths % 8) % 8 {
+        match (self.index() + eighths % 8) % 8 {
             0 => Direction::Up,
             1 => Direction::UpRight,
             2 => Direction::Right,
@@ -84,8 +84,8 @@ impl Direction {
         }
     }
 
-    // The number of a direction, clockwise from the one up.
-    pub(crate) fn number(self) -> usize
+    // The index of a direction, clockwise from the one up.
+    pub(crate) fn index(self) -> usize
         ensures is { result ≡ clockwise self }
         ensures below { result < 8 }
     {

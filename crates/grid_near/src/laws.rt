@@ -12,11 +12,11 @@ pub fn stands_in_all(way: Direction) -> usize
     ensures place { slice_get Direction.ALL result ≡ Some way }
     ensures clockwise { result ≡ clockwise way }
 {
-    way.number()
+    way.index()
 }
 
-/// Returns where [`Direction::SIDES`] or [`Direction::DIAGONALS`] has a direction: both come clockwise, from the first that
-/// is up.
+/// Returns where [`Direction::SIDES`] or [`Direction::DIAGONALS`] has a direction: both come clockwise, from the first
+/// that is up.
 ///
 ///     stands_among_four(Right)      1
 ///     stands_among_four(DownLeft)   2

@@ -1,5 +1,5 @@
-//! The cells round a cell of a table that a slice stores, row by row, on a table with edges or on one whose edges meet.
-//! Users call them as methods of a grid.
+//! The cells around a cell of a table that a slice stores, row by row, on a table with edges or on one whose edges
+//! meet. Users call them as methods of a grid.
 #![tactic(auto)]
 
 mod board;
@@ -16,5 +16,5 @@ pub use count::count_near;
 pub use counts::{map_counts, map_sums};
 pub use direction::Direction;
 pub use neighbors::{Neighbors, WrappedNeighbors, neighbors_in, neighbors_of};
-pub use steps::Steps;
+pub use steps::Connectivity;
 pub use strided::Strided;

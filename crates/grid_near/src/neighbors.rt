@@ -1,15 +1,15 @@
-//! Iterators over the cells round a cell, of a table with edges or of one whose edges meet.
+//! Iterators over the cells around a cell, of a table with edges or of one whose edges meet.
 ghost use Rattle.std.specs.Prelude.{◌≡◌, ◌*◌, ◌<◌, ◌≤◌, ⊤, length, min, IfSome, Some};
 ghost use Rattle.grid_base.specs.Prelude.{table_of, IsSize};
 ghost use Rattle.std.specs.Iterator.{YieldsFirstBy, UpTo, at_most};
 ghost use Rattle.std.specs.Iterator.SizeHint.{IsWithinCount};
 ghost use Rattle.grid_near.specs.Around.{HoldsCells, FindsFirst, IsFirst, cell_by, by_steps, strided_table, start_of};
-ghost use Rattle.grid_near.specs.Neighbors.{step_count, placed, round_of, GivesNear};
+ghost use Rattle.grid_near.specs.Neighbors.{step_count, placed, around_of, GivesNear};
 ghost use Rattle.grid_near.specs.declared.board.Edges.TheVariants.{Joined};
 
 use crate::board::Edges;
 use crate::steps::{
-    Steps, around, count_from, first_from, is_inner, offset, step_count, strides_of,
+    Connectivity, around, count_from, first_from, is_inner, offset, step_count, strides_of,
 };
 use crate::strided::{Strided, place_from};
 use grid_base::Layout;
@@ -17,7 +17,7 @@ use std::alloc::AllocError;
 use std::iter::FusedIterator;
 use std::marker::Model;
 
-/// An iterator over the cells round a cell, each with its row and its column, seen as the list of those that remain.
+/// An iterator over the cells around a cell, each with its row and its column, seen as the list of those that remain.
 ///
 /// Away from the edges all of them are there, and each step is one read; at an edge, a step looks for the next that is
 /// in the table, or goes to the other edge, where they meet. A loop over it ends at a fixed number of steps, so that a
@@ -26,9 +26,9 @@ use std::marker::Model;
 pub struct Neighbors<'a, T> {
     table: Strided<'a, T>,
     at: (usize, usize),
-    kind: Steps,
+    connectivity: Connectivity,
     edges: Edges,
-    // None of the cells round this one is past an edge, and the place of the first of its box of nine.
+    // Whether none of the cells around this one is past an edge; if so, the place of the first of its box of nine.
     inner: bool,
     first: usize,
     // The number of steps that are done, and, at an edge that is open, of the positions that are passed.
@@ -36,33 +36,33 @@ pub struct Neighbors<'a, T> {
     tried: usize,
 }
 
-/// An iterator over the cells round a cell of a table whose edges meet.
+/// An iterator over the cells around a cell of a table whose edges meet.
 pub type WrappedNeighbors<'a, T> = Neighbors<'a, T>;
 
 impl<'a, T> Model for Neighbors<'a, T> {
     ghost use Rattle.std.specs.Prelude.{◌≡◌, ℕ, List};
-    ghost use Rattle.grid_near.specs.Around.{cell_by, by_steps, cells_from, next_step, IsRound};
+    ghost use Rattle.grid_near.specs.Around.{cell_by, by_steps, cells_from, next_step, IsAround};
 
     ghost Value = { List ((ℕ × ℕ) × T) };
 
     ghost view = { λ a. cells_from
         (cell_by a.table.cells.now a.table.size (by_steps a.table.start a.table.strides))
-        a.edges a.table.size a.kind a.at (next_step a.edges a.inner a.passed a.tried) };
+        a.edges a.table.size a.connectivity a.at (next_step a.edges a.inner a.passed a.tried) };
 
-    ghost invariant = { λ a. IsRound a.table.cells.now a.table.size a.table.start
-        a.table.strides a.at a.kind a.edges a.first a.inner a.passed a.tried };
+    ghost invariant = { λ a. IsAround a.table.cells.now a.table.size a.table.start
+        a.table.strides a.at a.connectivity a.edges a.first a.inner a.passed a.tried };
 }
 
-/// Returns an iterator over the cells round cell `at` of the table that a slice stores, row by row, each with its row and
-/// its column.
+/// Returns an iterator over the cells around cell `at` of the table that a slice stores, row by row, each with its row
+/// and its column.
 ///
 ///     [1, 2, 3, 4, 5, 6] of 2 rows   (0, 2), Sides, Open    ((0, 1), 2), ((1, 2), 6)
 ///     [1, 2, 3, 4, 5, 6] of 2 rows   (0, 2), All, Open      ((0, 1), 2), ((1, 1), 5), ((1, 2), 6)
 ///     [1, 2, 3, 4] of 1 row          (0, 0), Sides, Joined  1, 4, 2, 1, with their positions
 ///     [1, 2, 3, 4] of 1 row          (0, 0), All, Joined    4, 1, 2, 4, 2, 4, 1, 2, with their positions
 ///
-/// Where edges meet, these are four cells or eight, some of them more than once in a table of one or two rows or columns.
-/// Round a position out of range it gives the cells of the table that touch it, or none where edges meet.
+/// Where edges meet, these are four cells or eight, some of them more than once in a table of one or two rows or
+/// columns. Around a position out of range it gives the cells of the table that touch it, or none where edges meet.
 ///
 /// Requires: the slice has as many cells as the layout.
 /// Cost: each step takes the same time, in either order; no memory.
@@ -71,15 +71,15 @@ pub fn neighbors_of<T>(
     cells: &[T],
     layout: Layout,
     at: (usize, usize),
-    kind: Steps,
+    connectivity: Connectivity,
     edges: Edges,
 ) -> Neighbors<'_, T>
     requires filled { length cells.now ≡ layout.rows * layout.cols }
-    ensures gives { GivesNear (round_of kind edges
+    ensures gives { GivesNear (around_of connectivity edges
         (table_of layout.order layout.rows layout.cols cells.now) at.0 at.1) result }
     ensures count { edges ≡ Joined → at.0 < layout.rows → at.1 < layout.cols
-        → length result ≡ step_count kind }
-    ensures at_most { length result ≤ step_count kind }
+        → length result ≡ step_count connectivity }
+    ensures at_most { length result ≤ step_count connectivity }
 {
     let size = (layout.rows, layout.cols);
     let table = Strided {
@@ -88,7 +88,7 @@ pub fn neighbors_of<T>(
         start: 0,
         strides: strides_of(layout.order, size),
     };
-    neighbors_in(table, at, kind, edges)
+    neighbors_in(table, at, connectivity, edges)
 }
 
 /// Same as [`neighbors_of`], of a table whose cells are at even distances.
@@ -98,19 +98,19 @@ pub fn neighbors_of<T>(
 pub fn neighbors_in<T>(
     table: Strided<'_, T>,
     at: (usize, usize),
-    kind: Steps,
+    connectivity: Connectivity,
     edges: Edges,
 ) -> Neighbors<'_, T>
     requires size { IsSize table.size.0 table.size.1 }
     requires holds { HoldsCells table.cells.now table.size (by_steps table.start table.strides) }
-    ensures gives { GivesNear (round_of kind edges (strided_table
+    ensures gives { GivesNear (around_of connectivity edges (strided_table
         table.entry.cells.now table.entry.size table.entry.start table.entry.strides) at.0 at.1)
         result }
     ensures count { edges ≡ Joined → at.0 < table.entry.size.0 → at.1 < table.entry.size.1
-        → length result ≡ step_count kind }
-    ensures at_most { length result ≤ step_count kind }
+        → length result ≡ step_count connectivity }
+    ensures at_most { length result ≤ step_count connectivity }
 {
-    let passed = done_at_start(table.size, at, kind, edges);
+    let passed = done_at_start(table.size, at, connectivity, edges);
     let inner = is_inner(table.size, at);
     let first = if inner {
         place_from(table.start, table.strides, at.0 - 1, at.1 - 1)
@@ -120,7 +120,7 @@ pub fn neighbors_in<T>(
     Neighbors {
         table,
         at,
-        kind,
+        connectivity,
         edges,
         inner,
         first,
@@ -136,27 +136,27 @@ impl<'a, T> Iterator for Neighbors<'a, T> {
 
     ghost remaining = { λ rest. at_most (min (length rest) 8) };
 
-    // Its callers know the kind of steps and the edges, so that half of it is gone there.
+    // Its callers know the connectivity and the edges, so that half of it is compiled away there.
     #[inline(always)]
     fn next(&mut self) -> Option<((usize, usize), &'a T)> {
         let k = self.passed;
-        if k >= step_count(self.kind) {
+        if k >= step_count(self.connectivity) {
             return None;
         }
         self.passed = k + 1;
         if self.inner {
-            let (i, j) = offset(self.kind, k);
+            let (i, j) = offset(self.connectivity, k);
             let at = (self.at.0 + i - 1, self.at.1 + j - 1);
             let place = place_from(self.first, self.table.strides, i, j);
             return Some((at, &self.table.cells[place]));
         }
         match self.edges {
             Edges::Open => {
-                let (tried, found) = find_from(self.table, self.at, self.kind, self.tried);
+                let (tried, found) = find_from(self.table, self.at, self.connectivity, self.tried);
                 self.tried = tried;
                 found
             }
-            Edges::Joined => Some(joined_cell(self.table, self.at, self.kind, k)),
+            Edges::Joined => Some(joined_cell(self.table, self.at, self.connectivity, k)),
         }
     }
 
@@ -178,9 +178,9 @@ impl<'a, T> ExactSizeIterator for Neighbors<'a, T> {
         match self.edges {
             Edges::Open => {
                 let from = if self.inner { self.passed } else { self.tried };
-                count_from(self.table.size, self.at, self.kind, from)
+                count_from(self.table.size, self.at, self.connectivity, from)
             }
-            Edges::Joined => step_count(self.kind).saturating_sub(self.passed),
+            Edges::Joined => step_count(self.connectivity).saturating_sub(self.passed),
         }
     }
 }
@@ -200,33 +200,39 @@ impl<'a, T> Clone for Neighbors<'a, T> {
     }
 }
 
-// How many steps are done at the start: all, where edges meet, round a position out of range.
-fn done_at_start(size: (usize, usize), at: (usize, usize), kind: Steps, edges: Edges) -> usize
-    ensures { result ≡ start_of edges size kind at }
+// How many steps are done at the start: all, where edges meet, around a position out of range.
+fn done_at_start(
+    size: (usize, usize),
+    at: (usize, usize),
+    connectivity: Connectivity,
+    edges: Edges,
+) -> usize
+    ensures { result ≡ start_of edges size connectivity at }
 {
     match edges {
         Edges::Open => 0,
         Edges::Joined => if at.0 < size.0 && at.1 < size.1 {
             0
         } else {
-            step_count(kind)
+            step_count(connectivity)
         },
     }
 }
 
-// Finds the first cell that is in the table at step `from` or later, and the number of the step after it.
+// Finds the first cell that is in the table at step `from` or later, and the index of the step after it.
 #[inline(always)]
 fn find_from<T>(
     table: Strided<'_, T>,
     at: (usize, usize),
-    kind: Steps,
+    connectivity: Connectivity,
     from: usize,
 ) -> (usize, Option<((usize, usize), &T)>)
     requires holds { HoldsCells table.cells.now table.size (by_steps table.start table.strides) }
     ensures found { FindsFirst (cell_by table.entry.cells.now table.entry.size
-        (by_steps table.entry.start table.entry.strides)) table.entry.size kind at from result }
+        (by_steps table.entry.start table.entry.strides)) table.entry.size connectivity at from
+        result }
     ensures keeps { from ≤ result.0 }
-    ensures on { from < step_count kind → from < result.0 }
+    ensures on { from < step_count connectivity → from < result.0 }
 {
     let Strided {
         cells,
@@ -234,11 +240,11 @@ fn find_from<T>(
         start,
         strides,
     } = table;
-    let k = first_from(size, at, kind, from);
-    if k >= step_count(kind) {
+    let k = first_from(size, at, connectivity, from);
+    if k >= step_count(connectivity) {
         return (k, None);
     }
-    let (i, j) = offset(kind, k);
+    let (i, j) = offset(connectivity, k);
     let row = at.0 + i - 1;
     let col = at.1 + j - 1;
     let cell = &cells[place_from(start, strides, row, col)];
@@ -250,17 +256,18 @@ fn find_from<T>(
 fn joined_cell<T>(
     table: Strided<'_, T>,
     at: (usize, usize),
-    kind: Steps,
+    connectivity: Connectivity,
     k: usize,
 ) -> ((usize, usize), &T)
     requires holds { HoldsCells table.cells.now table.size (by_steps table.start table.strides) }
-    requires step { k < step_count kind }
+    requires step { k < step_count connectivity }
     requires row { at.0 < table.size.0 }
     requires col { at.1 < table.size.1 }
     ensures { IsFirst (cell_by table.entry.cells.now table.entry.size
-        (by_steps table.entry.start table.entry.strides)) table.entry.size kind at k result }
+        (by_steps table.entry.start table.entry.strides)) table.entry.size connectivity at k
+        result }
 {
-    let (i, j) = offset(kind, k);
+    let (i, j) = offset(connectivity, k);
     let row = around(table.size.0, at.0, i);
     let col = around(table.size.1, at.1, j);
     let place = place_from(table.start, table.strides, row, col);

@@ -1,16 +1,16 @@
-//! The steps round a cell: where each of them leads, and which of them are within the size.
+//! The steps around a cell: where each of them leads, and which of them are within the size.
 ghost use Rattle.std.specs.Prelude.{◌≡◌, ◌<◌, ◌≤◌, ◌/◌, ◌%◌, IsTrue, ◌↔◌, length};
 ghost use Rattle.grid_near.specs.Prelude.{step_count, around, box, positions_from, strides_of, IsInner, IsThere};
 
 use grid_base::Order;
 
-/// Which steps there are from a cell.
+/// Which cells are next to a cell.
 #[derive(Clone, Copy, Debug, PartialEq, Eq)]
-pub enum Steps {
-    /// To the cells that share a side with it: at most four.
-    Sides,
-    /// To the cells that share a side or a corner with it: at most eight.
-    All,
+pub enum Connectivity {
+    /// 4-connectivity: the cells that share a side with it, at most four.
+    Four,
+    /// 8-connectivity: the cells that share a side or a corner with it, at most eight.
+    Eight,
 }
 
 // How far apart the cells of a column and of a row are.
@@ -23,37 +23,37 @@ pub(crate) fn strides_of(order: Order, size: (usize, usize)) -> (usize, usize)
     }
 }
 
-// Whether all cells round a position are within the size.
+// Whether all cells around a position are within the size.
 pub(crate) fn is_inner(size: (usize, usize), at: (usize, usize)) -> bool
     ensures { IsTrue result ↔ IsInner size at }
 {
     at.0 > 0 && at.1 > 0 && at.0 < size.0.saturating_sub(1) && at.1 < size.1.saturating_sub(1)
 }
 
-// The number of steps round a cell.
-pub(crate) fn step_count(kind: Steps) -> usize
-    ensures { result ≡ step_count kind }
+// How many steps there are from a cell.
+pub(crate) fn step_count(connectivity: Connectivity) -> usize
+    ensures { result ≡ step_count connectivity }
 {
-    match kind {
-        Steps::Sides => 4,
-        Steps::All => 8,
+    match connectivity {
+        Connectivity::Four => 4,
+        Connectivity::Eight => 8,
     }
 }
 
 // The row and the column of step `k` in the box of nine cells.
-pub(crate) fn offset(kind: Steps, k: usize) -> (usize, usize)
-    requires { k < step_count kind }
-    ensures row { result.0 ≡ box kind k / 3 }
-    ensures col { result.1 ≡ box kind k % 3 }
+pub(crate) fn offset(connectivity: Connectivity, k: usize) -> (usize, usize)
+    requires { k < step_count connectivity }
+    ensures row { result.0 ≡ box connectivity k / 3 }
+    ensures col { result.1 ≡ box connectivity k % 3 }
 {
-    let cell = match kind {
-        Steps::Sides => 2 * k + 1,
-        Steps::All => k + k / 4,
+    let cell = match connectivity {
+        Connectivity::Four => 2 * k + 1,
+        Connectivity::Eight => k + k / 4,
     };
     (cell / 3, cell % 3)
 }
 
-// The number before `at`, `at`, or the number after it, for `i` 0, 1 or 2, round `len` numbers.
+// `at - 1`, `at` or `at + 1`, modulo `len`, for `i` 0, 1 or 2.
 pub(crate) fn around(len: usize, at: usize, i: usize) -> usize
     requires { at < len }
     ensures is { result ≡ around len at i }
@@ -66,7 +66,7 @@ pub(crate) fn around(len: usize, at: usize, i: usize) -> usize
     }
 }
 
-// Whether the cell in row `i` and column `j` of the box of nine cells round a position is within the size.
+// Whether the cell in row `i` and column `j` of the box of nine cells around a position is within the size.
 pub(crate) fn is_there(size: (usize, usize), at: (usize, usize), i: usize, j: usize) -> bool
     ensures { IsTrue result ↔ IsThere size at i j }
 {
@@ -84,35 +84,36 @@ pub(crate) fn is_there(size: (usize, usize), at: (usize, usize), i: usize, j: us
 pub(crate) fn first_from(
     size: (usize, usize),
     at: (usize, usize),
-    kind: Steps,
+    connectivity: Connectivity,
     from: usize,
 ) -> usize
     ensures keeps { from ≤ result }
-    ensures skips { positions_from size kind at from ≡ positions_from size kind at result }
-    ensures there { result < step_count kind
-        → IsThere size at (box kind result / 3) (box kind result % 3) }
+    ensures skips { positions_from size connectivity at from
+        ≡ positions_from size connectivity at result }
+    ensures there { result < step_count connectivity
+        → IsThere size at (box connectivity result / 3) (box connectivity result % 3) }
 {
-    for k in from..step_count(kind) {
-        let (i, j) = offset(kind, k);
+    for k in from..step_count(connectivity) {
+        let (i, j) = offset(connectivity, k);
         if is_there(size, at, i, j) {
             return k;
         }
     }
-    step_count(kind).max(from)
+    step_count(connectivity).max(from)
 }
 
 // Counts the steps, from this one on, whose cells are within the size.
 pub(crate) fn count_from(
     size: (usize, usize),
     at: (usize, usize),
-    kind: Steps,
+    connectivity: Connectivity,
     from: usize,
 ) -> usize
-    ensures { result ≡ length (positions_from size kind at from) }
+    ensures { result ≡ length (positions_from size connectivity at from) }
 {
     let mut count = 0;
-    for k in from..step_count(kind) {
-        let (i, j) = offset(kind, k);
+    for k in from..step_count(connectivity) {
+        let (i, j) = offset(connectivity, k);
         if is_there(size, at, i, j) {
             count += 1;
         }

@@ -12,7 +12,7 @@ pub struct Strided<'a, T> {
     pub strides: (usize, usize),
 }
 
-// Returns the place so many rows and columns from a place on.
+// Returns the place that is so many rows and columns after a place.
 #[inline(always)]
 pub(crate) fn place_from(start: usize, strides: (usize, usize), down: usize, right: usize) -> usize
     ensures { result ≡ by_steps start strides down right }

@@ -1,7 +1,7 @@
--- The list of the eight positions round one.
+-- The list of the eight positions around one.
 use Rattle.std.proofs.Common.{◌≡◌, ℕ, zero, suc, ◌+◌, ◌-◌, ◌%◌, ◌^◌, ◌<◌, ◌⊎◌, ◌↔◌, List, [], ◌∷◌, Contains, length, Some, ◌≤◌, refl, sym, ◌∙◌, ap, subst, arith, inl, inr, ⊎_elim, slice_get}
 use Rattle.grid_paths.proofs.Common.{cases_lt, Contains-get_or, slice_get_within, slice_get_read, get_or_from_slice_get, IsAt, DifferByOne, AreBeside, AreDiagonal, AreSteps}
-use Rattle.grid_near.specs.declared.steps.Steps.TheVariants.{Sides, All}
+use Rattle.grid_near.specs.declared.steps.Connectivity.TheVariants.{Four, Eight}
 
 pub same_pair : {X : Type 0} (a b : X × X) → a.0 ≡ b.0 → a.1 ≡ b.1 → a ≡ b
 same_pair a b p q = λ i. (p i, q i)
@@ -21,10 +21,10 @@ none_in z c = omega (arith, c.1)
 
 -- what is in four
 module _ {X : Type 0} (x1 x2 x3 x4 z : X) (xs : List X) where
-  abbrev pub Four : Type 0
-  Four = ((x1 ≡ z) ⊎ (x2 ≡ z)) ⊎ ((x3 ≡ z) ⊎ (x4 ≡ z))
+  abbrev pub IsOneOfFour : Type 0
+  IsOneOfFour = ((x1 ≡ z) ⊎ (x2 ≡ z)) ⊎ ((x3 ≡ z) ⊎ (x4 ≡ z))
 
-  pub four_of : Contains (x1 ∷ x2 ∷ x3 ∷ x4 ∷ xs) z → Four ⊎ Contains xs z
+  pub four_of : Contains (x1 ∷ x2 ∷ x3 ∷ x4 ∷ xs) z → IsOneOfFour ⊎ Contains xs z
   four_of c =
       ⊎_elim (λ e. inl (inl (inl e)))
       (λ c1. ⊎_elim (λ e. inl (inl (inr e)))
@@ -38,7 +38,7 @@ module _ {X : Type 0} (x1 x2 x3 x4 z : X) (xs : List X) where
   later_four c =
       Contains-later x1 z (x2 ∷ x3 ∷ x4 ∷ xs) (Contains-later x2 z (x3 ∷ x4 ∷ xs) (Contains-later x3 z (x4 ∷ xs) (Contains-later x4 z xs c)))
 
-  pub of_four : Four → Contains (x1 ∷ x2 ∷ x3 ∷ x4 ∷ xs) z
+  pub of_four : IsOneOfFour → Contains (x1 ∷ x2 ∷ x3 ∷ x4 ∷ xs) z
   of_four h =
       let a1 : Contains (x2 ∷ x3 ∷ x4 ∷ xs) z → Contains (x1 ∷ x2 ∷ x3 ∷ x4 ∷ xs) z = Contains-later x1 z (x2 ∷ x3 ∷ x4 ∷ xs) in
       let a2 : Contains (x3 ∷ x4 ∷ xs) z → Contains (x2 ∷ x3 ∷ x4 ∷ xs) z = Contains-later x2 z (x3 ∷ x4 ∷ xs) in
@@ -49,17 +49,17 @@ module _ {X : Type 0} (x1 x2 x3 x4 z : X) (xs : List X) where
 
 -- and in eight
 module _ {X : Type 0} (x1 x2 x3 x4 x5 x6 x7 x8 z : X) where
-  pub eight_of : Contains (x1 ∷ x2 ∷ x3 ∷ x4 ∷ x5 ∷ x6 ∷ x7 ∷ x8 ∷ []) z → Four x1 x2 x3 x4 z [] ⊎ Four x5 x6 x7 x8 z []
+  pub eight_of : Contains (x1 ∷ x2 ∷ x3 ∷ x4 ∷ x5 ∷ x6 ∷ x7 ∷ x8 ∷ []) z → IsOneOfFour x1 x2 x3 x4 z [] ⊎ IsOneOfFour x5 x6 x7 x8 z []
   eight_of c =
       ⊎_elim (λ h. inl h) (λ more. ⊎_elim (λ h. inr h) (λ none. absurd (none_in z none)) (four_of x5 x6 x7 x8 z [] more))
       (four_of x1 x2 x3 x4 z (x5 ∷ x6 ∷ x7 ∷ x8 ∷ []) c)
 
-  pub of_eight : Four x1 x2 x3 x4 z [] ⊎ Four x5 x6 x7 x8 z [] → Contains (x1 ∷ x2 ∷ x3 ∷ x4 ∷ x5 ∷ x6 ∷ x7 ∷ x8 ∷ []) z
+  pub of_eight : IsOneOfFour x1 x2 x3 x4 z [] ⊎ IsOneOfFour x5 x6 x7 x8 z [] → Contains (x1 ∷ x2 ∷ x3 ∷ x4 ∷ x5 ∷ x6 ∷ x7 ∷ x8 ∷ []) z
   of_eight h =
       ⊎_elim (λ f. of_four x1 x2 x3 x4 z (x5 ∷ x6 ∷ x7 ∷ x8 ∷ []) f) (λ f. later_four x1 x2 x3 x4 z (x5 ∷ x6 ∷ x7 ∷ x8 ∷ []) (of_four x5 x6 x7 x8 z [] f)) h
 
--- of a row or a column with the number `at`: what stands for the one before it, for itself and for the one after it, and
--- what for the number b
+-- of a row or a column with the number `at`: what stands for the one before it, for itself and for the one after it,
+-- and what for the number b
 pub record Axis {X : Type 0} (at b : ℕ) (before mid after there : X) : Type 0 where
   pub beside : DifferByOne at b → (before ≡ there) ⊎ (after ≡ there)
   pub from_before : before ≡ there → DifferByOne at b
@@ -68,7 +68,7 @@ pub record Axis {X : Type 0} (at b : ℕ) (before mid after there : X) : Type 0 
   pub from_same : mid ≡ there → at ≡ b
 
 module _ {X : Type 0} {row col : ℕ} {b : ℕ × ℕ} {up here down left mid right r c : X} (R : Axis row b.0 up here down r) (C : Axis col b.1 left mid right c) where
-  pub sides_of : AreBeside (row, col) b → Four {X = X × X} (up, mid) (here, left) (here, right) (down, mid) (r, c) []
+  pub sides_of : AreBeside (row, col) b → IsOneOfFour {X = X × X} (up, mid) (here, left) (here, right) (down, mid) (r, c) []
   sides_of h =
       ⊎_elim (λ w.
       let is = R.same w.0 in
@@ -78,7 +78,7 @@ module _ {X : Type 0} {row col : ℕ} {b : ℕ × ℕ} {up here down left mid ri
       ⊎_elim (λ e. inl (inl (same_pair (up, mid) (r, c) e is))) (λ e. inr (inr (same_pair (down, mid) (r, c) e is))) (R.beside w.1))
       h
 
-  pub of_sides : Four {X = X × X} (up, mid) (here, left) (here, right) (down, mid) (r, c) [] → AreBeside (row, col) b
+  pub of_sides : IsOneOfFour {X = X × X} (up, mid) (here, left) (here, right) (down, mid) (r, c) [] → AreBeside (row, col) b
   of_sides h =
       ⊎_elim (λ l. ⊎_elim (λ e. inr (C.from_same (ap (λ x. x.1) e), R.from_before (ap (λ x. x.0) e)))
       (λ e. inl (R.from_same (ap (λ x. x.0) e), C.from_before (ap (λ x. x.1) e))) l)
@@ -86,14 +86,14 @@ module _ {X : Type 0} {row col : ℕ} {b : ℕ × ℕ} {up here down left mid ri
       (λ e. inr (C.from_same (ap (λ x. x.1) e), R.from_after (ap (λ x. x.0) e))) l)
       h
 
-  pub corners_of : AreDiagonal (row, col) b → Four {X = X × X} (up, left) (up, right) (down, left) (down, right) (r, c) []
+  pub corners_of : AreDiagonal (row, col) b → IsOneOfFour {X = X × X} (up, left) (up, right) (down, left) (down, right) (r, c) []
   corners_of h =
       let beside = C.beside h.1 in
       ⊎_elim (λ e. ⊎_elim (λ f. inl (inl (same_pair (up, left) (r, c) e f))) (λ f. inl (inr (same_pair (up, right) (r, c) e f))) beside)
       (λ e. ⊎_elim (λ f. inr (inl (same_pair (down, left) (r, c) e f))) (λ f. inr (inr (same_pair (down, right) (r, c) e f))) beside)
       (R.beside h.0)
 
-  pub of_corners : Four {X = X × X} (up, left) (up, right) (down, left) (down, right) (r, c) [] → AreDiagonal (row, col) b
+  pub of_corners : IsOneOfFour {X = X × X} (up, left) (up, right) (down, left) (down, right) (r, c) [] → AreDiagonal (row, col) b
   of_corners h =
       ⊎_elim (λ l. ⊎_elim (λ e. (R.from_before (ap (λ x. x.0) e), C.from_before (ap (λ x. x.1) e)))
       (λ e. (R.from_before (ap (λ x. x.0) e), C.from_after (ap (λ x. x.1) e))) l)
@@ -119,7 +119,7 @@ module _ (row col : ℕ) (row_in : row + 1 < 2 ^ 64) (col_in : col + 1 < 2 ^ 64)
   abbrev pub left : ℕ
   left = (col + (2 ^ 64 - 1)) % 2 ^ 64
 
-  pub AreSteps-sides : AreSteps Sides (row, col) ((up, col) ∷ (row, left) ∷ (row, col + 1) ∷ (row + 1, col) ∷ [])
+  pub AreSteps-sides : AreSteps Four (row, col) ((up, col) ∷ (row, left) ∷ (row, col + 1) ∷ (row + 1, col) ∷ [])
   AreSteps-sides b fits0 fits1 =
       let R = wrapped row b.0 row_in fits0 in
       let C = wrapped col b.1 col_in fits1 in (
@@ -127,7 +127,7 @@ module _ (row col : ℕ) (row_in : row + 1 < 2 ^ 64) (col_in : col + 1 < 2 ^ 64)
         λ s. of_four _ _ _ _ b [] (sides_of R C s),
       )
 
-  pub AreSteps-all : AreSteps All (row, col) ((up, col) ∷ (row, left) ∷ (row, col + 1) ∷ (row + 1, col) ∷ (up, left) ∷ (up, col + 1) ∷ (row + 1, left) ∷ (row + 1, col + 1) ∷ [])
+  pub AreSteps-all : AreSteps Eight (row, col) ((up, col) ∷ (row, left) ∷ (row, col + 1) ∷ (row + 1, col) ∷ (up, left) ∷ (up, col + 1) ∷ (row + 1, left) ∷ (row + 1, col + 1) ∷ [])
   AreSteps-all b fits0 fits1 =
       let R = wrapped row b.0 row_in fits0 in
       let C = wrapped col b.1 col_in fits1 in (

@@ -3,7 +3,7 @@ use Rattle.std.proofs.Common.{◌≡◌, ℕ, zero, suc, ◌+◌, ◌-◌, ◌*�
 use Rattle.grid_paths.proofs.Common.{sum_by-set, IsPermutation-sym, slice_get_within, get_or_from_slice_get, row, row_count, col_count, cell, with_cell, IsTable, cell-with_same, cell-with_other, same_or_other, HaveOneSize, free, unreached, IsStep, Holds, CostWalk, IsLeastCost, HasLeastCosts, Entry, IsFirst, IsWaiting, HoldsUpTo, IsClosed, Relaxes, Comes, IsCostSearch, GridValue, entry, Enters, IsReady, IsNext, IsOver, IsSearching, IsFrontier, Puts, Reading, HasRoom, numbers, sums_of, waiting}
 use Rattle.std.specs.declared.cmp.Ordering.{Ordering}
 use Rattle.grid_base.proofs.Common.{InRange}
-use Rattle.grid_near.specs.declared.steps.Steps.{Steps}
+use Rattle.grid_near.specs.declared.steps.Connectivity.{Connectivity}
 use Rattle.grid_paths.proofs.QueueLemmas.{unreached_cells}
 use Rattle.grid_paths.proofs.SearchLemmas.{one_mark}
 use Rattle.grid_paths.specs.declared.costs.Frontier.{Frontier}
@@ -50,7 +50,7 @@ module _ (left : List (List (Option ℕ))) (table : IsTable left) (p : ℕ × �
       omega arith
 
 -- the entry x is taken from the heap
-module _ (kind : Steps) (costs : List (List (Option ℕ))) (from : ℕ × ℕ) (u left : List (List (Option ℕ))) (heap : List Entry) (s : IsCostSearch kind costs from u left heap) (x : Entry) (rest : List Entry) (taken : IsPermutation heap (x ∷ rest)) where
+module _ (connectivity : Connectivity) (costs : List (List (Option ℕ))) (from : ℕ × ℕ) (u left : List (List (Option ℕ))) (heap : List Entry) (s : IsCostSearch connectivity costs from u left heap) (x : Entry) (rest : List Entry) (taken : IsPermutation heap (x ∷ rest)) where
   p : ℕ × ℕ
   p = x.0.1
 
@@ -68,7 +68,7 @@ module _ (kind : Steps) (costs : List (List (Option ℕ))) (from : ℕ × ℕ) (
   others a n w ne = ⊎_elim (λ e. absurd (ne e.1)) (λ w. w) (heaps.added x rest heap back n a w)
 
   -- its position is settled
-  pub IsCostSearch-stale : IsClosed left x.0.1 → IsCostSearch kind costs from u left rest
+  pub IsCostSearch-stale : IsClosed left x.0.1 → IsCostSearch connectivity costs from u left rest
   IsCostSearch-stale closed =
       record {
         among = s.among;
@@ -99,8 +99,8 @@ module _ (kind : Steps) (costs : List (List (Option ℕ))) (from : ℕ × ℕ) (
     pub its_bound : x.0.0 ≤ 2 ^ 32 * unreached left
     its_bound = s.bound x.0.1 x.0.0 its_number
 
-    -- and the positions round it are entered
-    module _ (table : IsTable left) (u' : List (List (Option ℕ))) (heap' : List Entry) (r : Relaxes (IsStep kind x.0.1) (with_cell left (x.0.1).0 (x.0.1).1 None) x.0.0 u rest u' heap') where
+    -- and the positions around it are entered
+    module _ (table : IsTable left) (u' : List (List (Option ℕ))) (heap' : List Entry) (r : Relaxes (IsStep connectivity x.0.1) (with_cell left (x.0.1).0 (x.0.1).1 None) x.0.0 u rest u' heap') where
       left' : List (List (Option ℕ))
       left' = with_cell left (x.0.1).0 (x.0.1).1 None
 
@@ -161,7 +161,7 @@ module _ (kind : Steps) (costs : List (List (Option ℕ))) (from : ℕ × ℕ) (
           (λ c. let v = r.lower a c.0 c.1 in inr (v.0, v.1, λ n h. c.2 n (fewer a n h)))
           (s.all a j h)
 
-      sound' : (a : ℕ × ℕ) (m : ℕ) → Holds u' a m → (n : ℕ) × CostWalk kind costs from a n m
+      sound' : (a : ℕ × ℕ) (m : ℕ) → Holds u' a m → (n : ℕ) × CostWalk connectivity costs from a n m
       unfolding left'
       sound' a m h =
           ⊎_elim (λ y. s.sound a m y)
@@ -170,7 +170,7 @@ module _ (kind : Steps) (costs : List (List (Option ℕ))) (from : ℕ × ℕ) (
           (suc v.0, (x.0.1, x.0.0, f.cost, v.1, f.is_near, among' a f.cost f.is_left, f.is)))
           (r.fresh a m h)
 
-      comes' : (a : ℕ × ℕ) (m : ℕ) → Holds u' a m → Comes kind costs from u' left' a m
+      comes' : (a : ℕ × ℕ) (m : ℕ) → Holds u' a m → Comes connectivity costs from u' left' a m
       unfolding left'
       comes' a m h =
           ⊎_elim (λ y.
@@ -204,13 +204,13 @@ module _ (kind : Steps) (costs : List (List (Option ℕ))) (from : ℕ × ℕ) (
           (λ f. let low : x.0.0 ≤ n = f.1 in omega arith)
           (r.added n b w)
 
-      relaxed' : (a : ℕ × ℕ) (m : ℕ) (b : ℕ × ℕ) (j : ℕ) → Holds u' a m → IsClosed left' a → IsStep kind a b → Holds costs b j → HoldsUpTo u' b (m + j)
+      relaxed' : (a : ℕ × ℕ) (m : ℕ) (b : ℕ × ℕ) (j : ℕ) → Holds u' a m → IsClosed left' a → IsStep connectivity a b → Holds costs b j → HoldsUpTo u' b (m + j)
       unfolding left'
       relaxed' a m b j h c step cost =
           let was = same a m h c in
           ⊎_elim (λ e.
           let is : m ≡ x.0.0 = its a m e was in
-          let step1 : IsStep kind x.0.1 b = subst (λ y. IsStep kind y b) e step in
+          let step1 : IsStep connectivity x.0.1 b = subst (λ y. IsStep connectivity y b) e step in
           ⊎_elim (λ l. subst (λ n. HoldsUpTo u' b (n + j)) (sym is) (r.around b j step1 l))
           (λ d.
           let low : d.0 ≤ x.0.0 = most b d.0 (same b d.0 d.1 d.2) d.2 in
@@ -234,7 +234,7 @@ module _ (kind : Steps) (costs : List (List (Option ℕ))) (from : ℕ × ℕ) (
           let was = same a m h c in
           ⊎_elim (λ e. inl (e, its a m e was)) (λ none. inr (was, none)) (settled a c)
 
-      pub IsCostSearch-round : IsCostSearch kind costs from u' (with_cell left (x.0.1).0 (x.0.1).1 None) heap'
+      pub IsCostSearch-round : IsCostSearch connectivity costs from u' (with_cell left (x.0.1).0 (x.0.1).1 None) heap'
       unfolding left'
       IsCostSearch-round =
           record {
@@ -259,14 +259,14 @@ module _ (costs left : List (List (Option ℕ))) (table : IsTable left) (size : 
   few_left = let le = unreached_cells left table in let is = same_cells in omega arith
 
 -- the position that comes first from the heap, if it is left, has the least number
-module _ (kind : Steps) (costs : List (List (Option ℕ))) (from : ℕ × ℕ) (u left : List (List (Option ℕ))) (heap : List Entry) (s : IsCostSearch kind costs from u left heap) (x : Entry) (rest : List Entry) (taken : IsPermutation heap (x ∷ rest)) (least : IsFirst x rest) where
+module _ (connectivity : Connectivity) (costs : List (List (Option ℕ))) (from : ℕ × ℕ) (u left : List (List (Option ℕ))) (heap : List Entry) (s : IsCostSearch connectivity costs from u left heap) (x : Entry) (rest : List Entry) (taken : IsPermutation heap (x ∷ rest)) (least : IsFirst x rest) where
   no_less : (n : ℕ) (a : ℕ × ℕ) → IsWaiting heap n a → x.0.0 ≤ n
   no_less n a w =
       ⊎_elim (λ e. let is : x.0.0 ≡ n = e.0 in omega arith) (λ w. least n a w)
       (heaps.added x rest heap (IsPermutation-sym heap (x ∷ rest) taken) n a w)
 
   -- a walk costs no less than x, or its end has a number already
-  known : (n sum : ℕ) (b : ℕ × ℕ) → CostWalk kind costs from b n sum → HoldsUpTo u b sum ⊎ (x.0.0 ≤ sum)
+  known : (n sum : ℕ) (b : ℕ × ℕ) → CostWalk connectivity costs from b n sum → HoldsUpTo u b sum ⊎ (x.0.0 ≤ sum)
   known zero sum b w =
       let v = s.start w.2.0 (subst (λ x. Holds costs x w.2.0) (sym w.0) w.2.1) in
       let le : v.0 ≤ 0 = v.2 in
@@ -284,9 +284,9 @@ module _ (kind : Steps) (costs : List (List (Option ℕ))) (from : ℕ × ℕ) (
       (λ low. inr (omega arith))
       (known n w.1 w.0 w.3)
 
-  pub IsLeastCost-first : (k : ℕ) → Holds left x.0.1 k → IsLeastCost kind costs from x.0.1 x.0.0
+  pub IsLeastCost-first : (k : ℕ) → Holds left x.0.1 k → IsLeastCost connectivity costs from x.0.1 x.0.0
   IsLeastCost-first k is_left =
-      let its = its_number kind costs from u left heap s x rest taken least k is_left in
+      let its = its_number connectivity costs from u left heap s x rest taken least k is_left in
       record {
         walk = s.sound x.0.1 x.0.0 its;
         least = λ n sum w.
@@ -299,11 +299,11 @@ module _ (kind : Steps) (costs : List (List (Option ℕ))) (from : ℕ × ℕ) (
       }
 
 -- at the end nothing waits
-module _ (kind : Steps) (costs : List (List (Option ℕ))) (from : ℕ × ℕ) (u left : List (List (Option ℕ))) (s : IsCostSearch kind costs from u left []) where
+module _ (connectivity : Connectivity) (costs : List (List (Option ℕ))) (from : ℕ × ℕ) (u left : List (List (Option ℕ))) (s : IsCostSearch connectivity costs from u left []) where
   nothing : (n : ℕ) (a : ℕ × ℕ) → IsWaiting [] n a → ⊥
   nothing n a w = let lt : w.1.0 < 0 = w.1.1 in omega arith
 
-  complete : (n sum : ℕ) (b : ℕ × ℕ) → CostWalk kind costs from b n sum → HoldsUpTo u b sum
+  complete : (n sum : ℕ) (b : ℕ × ℕ) → CostWalk connectivity costs from b n sum → HoldsUpTo u b sum
   complete zero sum b w =
       let v = s.start w.2.0 (subst (λ x. Holds costs x w.2.0) (sym w.0) w.2.1) in
       let le : v.0 ≤ 0 = v.2 in
@@ -319,12 +319,12 @@ module _ (kind : Steps) (costs : List (List (Option ℕ))) (from : ℕ × ℕ) (
       (y.0, y.1, omega arith))
       (left_or_closed left w.0)
 
-  pub no_way : (b : ℕ × ℕ) → ((m : ℕ) → Holds u b m → IsClosed left b → ⊥) → (n sum : ℕ) → CostWalk kind costs from b n sum → ⊥
+  pub no_way : (b : ℕ × ℕ) → ((m : ℕ) → Holds u b m → IsClosed left b → ⊥) → (n sum : ℕ) → CostWalk connectivity costs from b n sum → ⊥
   no_way b not_yet n sum w =
       let v = complete n sum b w in
       ⊎_elim (λ l. nothing v.0 b (s.waits b l.0 v.0 l.1 v.1)) (λ closed. not_yet v.0 v.1 closed) (left_or_closed left b)
 
-  pub HasLeastCosts-end : HasLeastCosts kind costs from u
+  pub HasLeastCosts-end : HasLeastCosts connectivity costs from u
   HasLeastCosts-end =
       record {
         found = λ at n sum w. let v = complete n sum at w in (v.0, v.1);
@@ -339,8 +339,8 @@ module _ (kind : Steps) (costs : List (List (Option ℕ))) (from : ℕ × ℕ) (
       }
 
 -- at the start nothing has a number, or the first position alone
-module _ (kind : Steps) (costs : List (List (Option ℕ))) (from : ℕ × ℕ) (u : List (List (Option ℕ))) (empty : (a : ℕ × ℕ) (m : ℕ) → Holds u a m → ⊥) where
-  pub IsCostSearch-closed : IsClosed costs from → IsCostSearch kind costs from u costs []
+module _ (connectivity : Connectivity) (costs : List (List (Option ℕ))) (from : ℕ × ℕ) (u : List (List (Option ℕ))) (empty : (a : ℕ × ℕ) (m : ℕ) → Holds u a m → ⊥) where
+  pub IsCostSearch-closed : IsClosed costs from → IsCostSearch connectivity costs from u costs []
   IsCostSearch-closed closed =
       record {
         among = λ a k h. h;
@@ -381,7 +381,7 @@ module _ (kind : Steps) (costs : List (List (Option ℕ))) (from : ℕ × ℕ) (
         let o = only a m h in
         subst (λ n. IsWaiting heap n a) (sym o.1) (subst (λ y. IsWaiting heap 0 y) (sym o.0) begun)
 
-    walk : (a : ℕ × ℕ) (m : ℕ) → Holds t a m → (n : ℕ) × CostWalk kind costs from a n m
+    walk : (a : ℕ × ℕ) (m : ℕ) → Holds t a m → (n : ℕ) × CostWalk connectivity costs from a n m
     walk a m h =
         let o = only a m h in
         (0, (sym o.0, o.1, (k, subst (λ y. Holds costs y k) (sym o.0) cost)))
@@ -392,7 +392,7 @@ module _ (kind : Steps) (costs : List (List (Option ℕ))) (from : ℕ × ℕ) (
         (λ y. absurd (let lt : y.1.0 < 0 = y.1.1 in omega arith))
         (heaps.added x [] heap pushed n a w)
 
-    begun_at : IsCostSearch kind costs from t costs heap
+    begun_at : IsCostSearch connectivity costs from t costs heap
     begun_at =
         record {
           among = λ a k h. h;
@@ -407,28 +407,28 @@ module _ (kind : Steps) (costs : List (List (Option ℕ))) (from : ℕ × ℕ) (
           bound = λ a m h. let o = (only a m h).1 in omega arith;
         }
 
-    pub IsCostSearch-begun : (u' : List (List (Option ℕ))) → u' ≡ with_cell u from.0 from.1 (Some 0) → IsCostSearch kind costs from u' costs heap
+    pub IsCostSearch-begun : (u' : List (List (Option ℕ))) → u' ≡ with_cell u from.0 from.1 (Some 0) → IsCostSearch connectivity costs from u' costs heap
     unfolding t
-    IsCostSearch-begun u' e = subst (λ y. IsCostSearch kind costs from y costs heap) (sym e) begun_at
+    IsCostSearch-begun u' e = subst (λ y. IsCostSearch connectivity costs from y costs heap) (sym e) begun_at
 
 -- the search begins
-module _ {N A : Type 0} {cmp : N → N → Ordering} {w : Reading N} (kind : Steps) (costs : GridValue (Option ℕ)) (from : ℕ × ℕ) (f : Frontier N A) (whole : IsFrontier cmp w f) (room : HasRoom w costs.rows) (is_left : f.left ≡ costs) (order : f.sums.order ≡ costs.order) (empty : (a : ℕ × ℕ) (m : ℕ) → Holds (sums_of w f) a m → ⊥) (nothing : waiting w f ≡ []) where
+module _ {N A : Type 0} {cmp : N → N → Ordering} {w : Reading N} (connectivity : Connectivity) (costs : GridValue (Option ℕ)) (from : ℕ × ℕ) (f : Frontier N A) (whole : IsFrontier cmp w f) (room : HasRoom w costs.rows) (is_left : f.left ≡ costs) (order : f.sums.order ≡ costs.order) (empty : (a : ℕ × ℕ) (m : ℕ) → Holds (sums_of w f) a m → ⊥) (nothing : waiting w f ≡ []) where
   size : HaveOneSize f.left.rows costs.rows
   size = record { rows = ap (λ l. row_count l.rows) is_left; cols = ap (λ l. col_count l.rows) is_left }
 
-  pub IsSearching-closed : IsClosed costs.rows from → IsSearching cmp w kind costs from f
+  pub IsSearching-closed : IsClosed costs.rows from → IsSearching cmp w connectivity costs from f
   IsSearching-closed closed =
       record {
         order = order;
         left = size;
         room = room;
         whole = whole;
-        search = subst (λ h. IsCostSearch kind costs.rows from (sums_of w f) f.left.rows h) (sym nothing)
-            (subst (λ l. IsCostSearch kind costs.rows from (sums_of w f) l.rows []) (sym is_left)
-            (IsCostSearch-closed kind costs.rows from (sums_of w f) empty closed));
+        search = subst (λ h. IsCostSearch connectivity costs.rows from (sums_of w f) f.left.rows h) (sym nothing)
+            (subst (λ l. IsCostSearch connectivity costs.rows from (sums_of w f) l.rows []) (sym is_left)
+            (IsCostSearch-closed connectivity costs.rows from (sums_of w f) empty closed));
       }
 
-  pub IsSearching-begun : (g : Frontier N A) (k : ℕ) → Holds costs.rows from k → Puts cmp w from 0 f g → IsSearching cmp w kind costs from g
+  pub IsSearching-begun : (g : Frontier N A) (k : ℕ) → Holds costs.rows from k → Puts cmp w from 0 f g → IsSearching cmp w connectivity costs from g
   IsSearching-begun g k cost p =
       let here : Holds f.left.rows from k = subst (λ l. Holds l.rows from k) (sym is_left) cost in
       let inside = same_size f.left.rows f.sums.rows f.left.table whole.size.rows whole.size.cols from k here in
@@ -438,26 +438,26 @@ module _ {N A : Type 0} {cmp : N → N → Ordering} {w : Reading N} (kind : Ste
         left = record { rows = ap (λ l. row_count l.rows) left; cols = ap (λ l. col_count l.rows) left };
         room = room;
         whole = Puts-whole whole p;
-        search = subst (λ l. IsCostSearch kind costs.rows from (sums_of w g) l.rows (waiting w g)) (sym left)
-            (IsCostSearch-begun kind costs.rows from (sums_of w f) empty (numbers-table w f.sums.rows f.sums.table) (numbers-inside w f.sums.rows from inside) k cost
+        search = subst (λ l. IsCostSearch connectivity costs.rows from (sums_of w g) l.rows (waiting w g)) (sym left)
+            (IsCostSearch-begun connectivity costs.rows from (sums_of w f) empty (numbers-table w f.sums.rows f.sums.table) (numbers-inside w f.sums.rows from inside) k cost
             (record { 0 = (0, from) }) (waiting w g) refl refl (waiting w f) nothing p.waits (sums_of w g) p.sums);
       }
 
 -- the position x is settled
-module _ {N A : Type 0} {cmp : N → N → Ordering} {w : Reading N} {kind : Steps} {costs : GridValue (Option ℕ)} {from : ℕ × ℕ} {f f' : Frontier N A} (s : IsSearching cmp w kind costs from f) {x : Settled} (n : IsNext cmp w f f' x) where
-  found : IsCostSearch kind costs.rows from (sums_of w f) f.left.rows n.heap
-  found = n.enough kind costs.rows from s.search
+module _ {N A : Type 0} {cmp : N → N → Ordering} {w : Reading N} {connectivity : Connectivity} {costs : GridValue (Option ℕ)} {from : ℕ × ℕ} {f f' : Frontier N A} (s : IsSearching cmp w connectivity costs from f) {x : Settled} (n : IsNext cmp w f f' x) where
+  found : IsCostSearch connectivity costs.rows from (sums_of w f) f.left.rows n.heap
+  found = n.enough connectivity costs.rows from s.search
 
   pub IsNext-number : Holds (sums_of w f) x.at x.sum
   IsNext-number =
-      its_number kind costs.rows from (sums_of w f) f.left.rows n.heap found (entry x) (waiting w f') n.taken n.first x.cost n.is_left
+      its_number connectivity costs.rows from (sums_of w f) f.left.rows n.heap found (entry x) (waiting w f') n.taken n.first x.cost n.is_left
 
-  pub IsNext-comes : Holds costs.rows x.at x.cost × Comes kind costs.rows from (sums_of w f) f.left.rows x.at x.sum
+  pub IsNext-comes : Holds costs.rows x.at x.cost × Comes connectivity costs.rows from (sums_of w f) f.left.rows x.at x.sum
   IsNext-comes = (found.among x.at x.cost n.is_left, found.comes x.at x.sum IsNext-number)
 
-  pub IsNext-least : IsLeastCost kind costs.rows from x.at x.sum
+  pub IsNext-least : IsLeastCost connectivity costs.rows from x.at x.sum
   IsNext-least =
-      IsLeastCost-first kind costs.rows from (sums_of w f) f.left.rows n.heap found (entry x) (waiting w f') n.taken n.first x.cost n.is_left
+      IsLeastCost-first connectivity costs.rows from (sums_of w f) f.left.rows n.heap found (entry x) (waiting w f') n.taken n.first x.cost n.is_left
 
   pub IsNext-ready : IsReady cmp w f' x
   IsNext-ready =
@@ -474,21 +474,21 @@ module _ {N A : Type 0} {cmp : N → N → Ordering} {w : Reading N} {kind : Ste
       let room = s.room.sums in
       record { inside = (lr1, lc1); small = omega arith; below = omega arith; whole = n.whole }
 
-  -- and the positions round it are entered
-  module _ {g : Frontier N A} (e : Enters cmp w (IsStep kind x.at) x.sum f' g) where
+  -- and the positions around it are entered
+  module _ {g : Frontier N A} (e : Enters cmp w (IsStep connectivity x.at) x.sum f' g) where
     left_is : g.left.rows ≡ with_cell f.left.rows x.at.0 x.at.1 None
     left_is = ap (λ l. l.rows) e.left ∙ n.left
 
-    relaxes : Relaxes (IsStep kind x.at) (with_cell f.left.rows x.at.0 x.at.1 None) x.sum (sums_of w f) (waiting w f') (sums_of w g) (waiting w g)
+    relaxes : Relaxes (IsStep connectivity x.at) (with_cell f.left.rows x.at.0 x.at.1 None) x.sum (sums_of w f) (waiting w f') (sums_of w g) (waiting w g)
     relaxes =
-        subst (λ l. Relaxes (IsStep kind x.at) l x.sum (sums_of w f) (waiting w f') (sums_of w g) (waiting w g)) n.left
-        (subst (λ u. Relaxes (IsStep kind x.at) f'.left.rows x.sum (numbers w u.rows) (waiting w f') (sums_of w g) (waiting w g)) n.sums e.relaxes)
+        subst (λ l. Relaxes (IsStep connectivity x.at) l x.sum (sums_of w f) (waiting w f') (sums_of w g) (waiting w g)) n.left
+        (subst (λ u. Relaxes (IsStep connectivity x.at) f'.left.rows x.sum (numbers w u.rows) (waiting w f') (sums_of w g) (waiting w g)) n.sums e.relaxes)
 
-    round : IsCostSearch kind costs.rows from (sums_of w g) (with_cell f.left.rows x.at.0 x.at.1 None) (waiting w g)
+    round : IsCostSearch connectivity costs.rows from (sums_of w g) (with_cell f.left.rows x.at.0 x.at.1 None) (waiting w g)
     round =
-        IsCostSearch-round kind costs.rows from (sums_of w f) f.left.rows n.heap found (entry x) (waiting w f') n.taken n.first x.cost n.is_left f.left.table (sums_of w g) (waiting w g) relaxes
+        IsCostSearch-round connectivity costs.rows from (sums_of w f) f.left.rows n.heap found (entry x) (waiting w f') n.taken n.first x.cost n.is_left f.left.table (sums_of w g) (waiting w g) relaxes
 
-    pub IsSearching-next : IsSearching cmp w kind costs from g
+    pub IsSearching-next : IsSearching cmp w connectivity costs from g
     IsSearching-next =
         record {
           order = e.order ∙ (ap (λ u. u.order) n.sums ∙ s.order);
@@ -498,7 +498,7 @@ module _ {N A : Type 0} {cmp : N → N → Ordering} {w : Reading N} {kind : Ste
           };
           room = s.room;
           whole = e.whole;
-          search = subst (λ l. IsCostSearch kind costs.rows from (sums_of w g) l (waiting w g)) (sym left_is) round;
+          search = subst (λ l. IsCostSearch connectivity costs.rows from (sums_of w g) l (waiting w g)) (sym left_is) round;
         }
 
     pub IsSearching-smaller : row_count costs.rows * col_count costs.rows - unreached g.left.rows < row_count costs.rows * col_count costs.rows - unreached f.left.rows
@@ -511,7 +511,7 @@ module _ {N A : Type 0} {cmp : N → N → Ordering} {w : Reading N} {kind : Ste
     -- a settled number was settled before, or is that of x
     pub settled_before : (a : ℕ × ℕ) (m : ℕ) → Holds (sums_of w g) a m → IsClosed g.left.rows a → ((a ≡ x.at) × (m ≡ x.sum)) ⊎ (Holds (sums_of w f) a m × IsClosed f.left.rows a)
     settled_before a m h c =
-        settled_was kind costs.rows from (sums_of w f) f.left.rows n.heap found (entry x) (waiting w f') n.taken n.first x.cost n.is_left f.left.table (sums_of w g) (waiting w g) relaxes a m h
+        settled_was connectivity costs.rows from (sums_of w f) f.left.rows n.heap found (entry x) (waiting w f') n.taken n.first x.cost n.is_left f.left.table (sums_of w g) (waiting w g) relaxes a m h
         (subst (λ l. IsClosed l a) left_is c)
 
     -- what is left was left, and x is not
@@ -522,11 +522,11 @@ module _ {N A : Type 0} {cmp : N → N → Ordering} {w : Reading N} {kind : Ste
     settled_there = subst (λ l. IsClosed l x.at) (sym left_is) (closed_there f.left.rows f.left.table x.at x.cost n.is_left)
 
 -- at the end
-module _ {N A : Type 0} {cmp : N → N → Ordering} {w : Reading N} {kind : Steps} {costs : GridValue (Option ℕ)} {from : ℕ × ℕ} {f f' : Frontier N A} (s : IsSearching cmp w kind costs from f) (over : IsOver w f f') where
-  pub IsOver-least : HasLeastCosts kind costs.rows from (sums_of w f')
+module _ {N A : Type 0} {cmp : N → N → Ordering} {w : Reading N} {connectivity : Connectivity} {costs : GridValue (Option ℕ)} {from : ℕ × ℕ} {f f' : Frontier N A} (s : IsSearching cmp w connectivity costs from f) (over : IsOver w f f') where
+  pub IsOver-least : HasLeastCosts connectivity costs.rows from (sums_of w f')
   IsOver-least =
-      subst (λ u. HasLeastCosts kind costs.rows from (numbers w u.rows)) (sym over.sums)
-      (HasLeastCosts-end kind costs.rows from (sums_of w f) f.left.rows (over.enough kind costs.rows from s.search))
+      subst (λ u. HasLeastCosts connectivity costs.rows from (numbers w u.rows)) (sym over.sums)
+      (HasLeastCosts-end connectivity costs.rows from (sums_of w f) f.left.rows (over.enough connectivity costs.rows from s.search))
 
-  pub IsOver-no_way : (b : ℕ × ℕ) → ((m : ℕ) → Holds (sums_of w f) b m → IsClosed f.left.rows b → ⊥) → (n sum : ℕ) → CostWalk kind costs.rows from b n sum → ⊥
-  IsOver-no_way = no_way kind costs.rows from (sums_of w f) f.left.rows (over.enough kind costs.rows from s.search)
+  pub IsOver-no_way : (b : ℕ × ℕ) → ((m : ℕ) → Holds (sums_of w f) b m → IsClosed f.left.rows b → ⊥) → (n sum : ℕ) → CostWalk connectivity costs.rows from b n sum → ⊥
+  IsOver-no_way = no_way connectivity costs.rows from (sums_of w f) f.left.rows (over.enough connectivity costs.rows from s.search)

@@ -18,8 +18,8 @@ pub use Rattle.grid_paths.specs.Numbers.{AreEqual, AreParts}
 pub use Rattle.grid_paths.specs.Prelude.{IsStep, IsOpen, IsMarked, alike, AreSteps, InRange, unreached, way_of, HaveOneSize, Holds, Walk, undone, places, Enters, IsSearching, IsWritten, HasLeastFrom, CostWalk, answers_by, IsFlood, Reaches, IsPath, HasLeastUpTo, CanUndo, IsTrail, HasLeastCosts, AreRegions, AreNumbers, IsNumbered, IsScanned, IsShortestPath, IsSettled, IsFilled, HasLeastSteps, IsCheapestPath, IsPassed, IsReady, IsNext, IsOver, Puts, Pops, IsEmptied, sums_of, waiting, Reading, narrow, wide, numbers, HasRoom, IsAnswer, AreAnswers, HoldsOfAnswers, IsFrontier, Marks, IsCostPath, IsCounting, Takes}
 pub use Rattle.grid_paths.specs.Regions.{AreJoined, ComesBefore}
 pub use Rattle.grid_paths.specs.Relaxing.{Entry, IsClosed, IsCostSearch, IsFirst, IsWaiting, HoldsUpTo, Relaxes, Comes}
-pub use Rattle.grid_paths.specs.Search.{IsAt, Spread, WentRound, free, IsReached}
+pub use Rattle.grid_paths.specs.Search.{IsAt, Spread, WentAround, free, IsReached}
 pub use Rattle.grid_paths.specs.Taken.{TakesAll, count_left, IsLeft, AreMarked, flag}
 pub use Rattle.grid_paths.specs.Trail.{IsTrailOf}
 pub use Rattle.grid_paths.specs.Walks.{DifferByOne, AreBeside, IsLeastSteps, WalkFrom, AreDiagonal, IsLeastFrom}
-pub use Rattle.grid_paths.specs.Wave.{Spreads}
+pub use Rattle.grid_paths.specs.Bfs.{Spreads}

@@ -2,23 +2,23 @@
 use Rattle.std.proofs.Common.{◌≡◌, ℕ, zero, suc, ◌+◌, ◌<◌, ◌≤◌, ◌⊎◌, Bool, true, Option, None, Some, List, refl, sym, ◌∙◌, ap, subst, arith, inl, inr, ⊎_elim, option_map, unwrap_or}
 use Rattle.grid_paths.proofs.Common.{IsEquivalence, cases_lt, row_count, col_count, cell, tabulate, IsTable, IsOpen, IsStep, Walk, alike, IsMarked, HaveOneSize, AreJoined, AreRegions, ComesBefore, AreNumbers, IsNumbered, AreEqual, AreParts, IsScanned, cell_in_range}
 use Rattle.grid_base.proofs.Common.{InRange}
-use Rattle.grid_near.specs.declared.steps.Steps.{Steps}
+use Rattle.grid_near.specs.declared.steps.Connectivity.{Connectivity}
 use Rattle.grid_paths.proofs.SearchLemmas.{one_mark}
 use Rattle.grid_paths.proofs.AroundLemmas.{same_pair}
 use Rattle.grid_paths.proofs.PathLemmas.{step_back, walk_back, open_end}
 use Rattle.grid_paths.proofs.AlikeLemmas.{open_alike, alike_open, mapped-cell}
 
 -- open positions of one table that are open in another
-walk_map : (kind : Steps) (F G : List (List Bool)) → ((a : ℕ × ℕ) → IsOpen F a → IsOpen G a) → (n : ℕ) (a b : ℕ × ℕ) → Walk kind F a b n → Walk kind G a b n
-walk_map kind F G h zero a b w = (w.0, h b w.1)
-walk_map kind F G h (suc n) a b w = (w.0, walk_map kind F G h n a w.0 w.1, w.2, h b w.3)
+walk_map : (connectivity : Connectivity) (F G : List (List Bool)) → ((a : ℕ × ℕ) → IsOpen F a → IsOpen G a) → (n : ℕ) (a b : ℕ × ℕ) → Walk connectivity F a b n → Walk connectivity G a b n
+walk_map connectivity F G h zero a b w = (w.0, h b w.1)
+walk_map connectivity F G h (suc n) a b w = (w.0, walk_map connectivity F G h n a w.0 w.1, w.2, h b w.3)
 
 -- one walk and then another
-pub walk_append : (kind : Steps) (F : List (List Bool)) (m n : ℕ) (a b c : ℕ × ℕ) → Walk kind F a b m → Walk kind F b c n → (k : ℕ) × Walk kind F a c k
-walk_append kind F m zero a b c v w = (m, subst (λ x. Walk kind F a x m) w.0 v)
-walk_append kind F m (suc n) a b c v w = let y = walk_append kind F m n a b w.0 v w.1 in (suc y.0, (w.0, y.1, w.2, w.3))
+pub walk_append : (connectivity : Connectivity) (F : List (List Bool)) (m n : ℕ) (a b c : ℕ × ℕ) → Walk connectivity F a b m → Walk connectivity F b c n → (k : ℕ) × Walk connectivity F a c k
+walk_append connectivity F m zero a b c v w = (m, subst (λ x. Walk connectivity F a x m) w.0 v)
+walk_append connectivity F m (suc n) a b c v w = let y = walk_append connectivity F m n a b w.0 v w.1 in (suc y.0, (w.0, y.1, w.2, w.3))
 
-module _ (kind : Steps) {X : Type 0} (eq : X → X → Bool) (t : List (List X)) (table : IsTable t) (e : IsEquivalence eq) where
+module _ (connectivity : Connectivity) {X : Type 0} (eq : X → X → Bool) (t : List (List X)) (table : IsTable t) (e : IsEquivalence eq) where
   turn : (x y : X) → eq y x ≡ true → eq x y ≡ true
   turn x y p = e.symm x y ∙ p
 
@@ -49,34 +49,34 @@ module _ (kind : Steps) {X : Type 0} (eq : X → X → Bool) (t : List (List X))
       open_alike eq y t table a v.0 v.1 (join y x v.0 v.2 (turn x y p))
 
   -- two positions that walks from one lead to are joined
-  joined : (x : X) (p a b : ℕ × ℕ) (m n : ℕ) → Walk kind (alike eq x t) p a m → Walk kind (alike eq x t) p b n → AreJoined kind eq t a b
+  joined : (x : X) (p a b : ℕ × ℕ) (m n : ℕ) → Walk connectivity (alike eq x t) p a m → Walk connectivity (alike eq x t) p b n → AreJoined connectivity eq t a b
   joined x p a b m n v w =
       let F = alike eq x t in
-      let y = alike_open eq x t table a (open_end kind F m p a v) in
-      let k = walk_append kind F m n a p b (walk_back kind F m p a v) w in
-      (y.0, k.0, y.1, walk_map kind F (alike eq y.0 t) (reopen x y.0 y.2) k.0 a b k.1)
+      let y = alike_open eq x t table a (open_end connectivity F m p a v) in
+      let k = walk_append connectivity F m n a p b (walk_back connectivity F m p a v) w in
+      (y.0, k.0, y.1, walk_map connectivity F (alike eq y.0 t) (reopen x y.0 y.2) k.0 a b k.1)
 
   -- the numbers are the same along a walk over equal cells
-  along : (u : List (List (Option ℕ))) → AreParts kind eq t u → (x : X) (k n : ℕ) (a b : ℕ × ℕ) → Walk kind (alike eq x t) a b n → IsMarked u a k → IsMarked u b k
+  along : (u : List (List (Option ℕ))) → AreParts connectivity eq t u → (x : X) (k n : ℕ) (a b : ℕ × ℕ) → Walk connectivity (alike eq x t) a b n → IsMarked u a k → IsMarked u b k
   along u P x k zero a b w h = subst (λ y. IsMarked u y k) w.0 h
   along u P x k (suc n) a b w h =
-      P.closed w.0 b k w.2 (both_open x w.0 b (open_end kind (alike eq x t) n a w.0 w.1) w.3) (along u P x k n a w.0 w.1 h)
+      P.closed w.0 b k w.2 (both_open x w.0 b (open_end connectivity (alike eq x t) n a w.0 w.1) w.3) (along u P x k n a w.0 w.1 h)
 
-  module _ (u u' : List (List (Option ℕ))) (k : ℕ) (p : ℕ × ℕ) (x : X) (at : cell t p.0 p.1 ≡ Some x) (P : AreParts kind eq t u) (low : (a : ℕ × ℕ) (m : ℕ) → IsMarked u a m → m < k)
-      (n : IsNumbered kind (alike eq x t) p k u u') where
+  module _ (u u' : List (List (Option ℕ))) (k : ℕ) (p : ℕ × ℕ) (x : X) (at : cell t p.0 p.1 ≡ Some x) (P : AreParts connectivity eq t u) (low : (a : ℕ × ℕ) (m : ℕ) → IsMarked u a m → m < k)
+      (n : IsNumbered connectivity (alike eq x t) p k u u') where
     o : IsOpen (alike eq x t) p
     o = open_alike eq x t table p x at (e.refl x)
 
-    closed : (a b : ℕ × ℕ) (m : ℕ) → IsStep kind a b → AreEqual eq t a b → IsMarked u' a m → IsMarked u' b m
+    closed : (a b : ℕ × ℕ) (m : ℕ) → IsStep connectivity a b → AreEqual eq t a b → IsMarked u' a m → IsMarked u' b m
     closed a b m beside equal h =
         ⊎_elim (λ h0. n.kept b m (P.closed a b m beside equal h0))
         (λ is.
         let h1 : IsMarked u' a k = subst (λ y. IsMarked u' a y) is h in
         let w = n.walk a h1 o in
-        let ob = open_equal x a b (open_end kind (alike eq x t) w.0 p a w.1) equal in
+        let ob = open_equal x a b (open_end connectivity (alike eq x t) w.0 p a w.1) equal in
         let v = n.spread a b h1 beside ob in
         ⊎_elim (λ old.
-        let back : IsMarked u' a v.0 = n.kept a v.0 (P.closed b a v.0 (step_back kind a b beside) (equal_back a b equal) old) in
+        let back : IsMarked u' a v.0 = n.kept a v.0 (P.closed b a v.0 (step_back connectivity a b beside) (equal_back a b equal) old) in
         let same : v.0 ≡ k = one_mark u' a v.0 k back h1 in
         let lt : v.0 < k = low b v.0 old in
         absurd (omega arith))
@@ -84,7 +84,7 @@ module _ (kind : Steps) {X : Type 0} (eq : X → X → Bool) (t : List (List X))
         (n.is b v.0 v.1))
         (n.is a m h)
 
-    one : (a b : ℕ × ℕ) (m : ℕ) → IsMarked u' a m → IsMarked u' b m → AreJoined kind eq t a b
+    one : (a b : ℕ × ℕ) (m : ℕ) → IsMarked u' a m → IsMarked u' b m → AreJoined connectivity eq t a b
     one a b m ha hb =
         ⊎_elim (λ ha0.
         ⊎_elim (λ hb0. P.one a b m ha0 hb0)
@@ -96,7 +96,7 @@ module _ (kind : Steps) {X : Type 0} (eq : X → X → Bool) (t : List (List X))
         joined x p a b v.0 w.0 v.1 w.1)
         (n.is a m ha)
 
-    pub AreParts-numbered : AreParts kind eq t u'
+    pub AreParts-numbered : AreParts connectivity eq t u'
     AreParts-numbered = record { closed = closed; one = one }
 
 -- positions in row order
@@ -137,9 +137,9 @@ not_before a p =
     (cases_lt p.0 a.0))
     (cases_lt a.0 p.0)
 
-module _ (kind : Steps) {X : Type 0} (eq : X → X → Bool) (t : List (List X)) where
+module _ (connectivity : Connectivity) {X : Type 0} (eq : X → X → Bool) (t : List (List X)) where
   -- no position is before the first
-  pub IsScanned-start : (u : List (List (Option ℕ))) → ((a : ℕ × ℕ) (m : ℕ) → IsMarked u a m → ⊥) → IsScanned kind eq t u 0 (0, 0)
+  pub IsScanned-start : (u : List (List (Option ℕ))) → ((a : ℕ × ℕ) (m : ℕ) → IsMarked u a m → ⊥) → IsScanned connectivity eq t u 0 (0, 0)
   IsScanned-start u none =
       record {
         below = λ a m h. absurd (none a m h);
@@ -153,7 +153,7 @@ module _ (kind : Steps) {X : Type 0} (eq : X → X → Bool) (t : List (List X))
       nowhere a h = ⊎_elim (λ l. omega (arith, l)) (λ w. let l = w.1 in omega (arith, l)) h
 
   -- a position that has a number
-  pub IsScanned-marked : (u : List (List (Option ℕ))) (count : ℕ) (p : ℕ × ℕ) (m : ℕ) → IsMarked u p m → IsScanned kind eq t u count p → IsScanned kind eq t u count (p.0, p.1 + 1)
+  pub IsScanned-marked : (u : List (List (Option ℕ))) (count : ℕ) (p : ℕ × ℕ) (m : ℕ) → IsMarked u p m → IsScanned connectivity eq t u count p → IsScanned connectivity eq t u count (p.0, p.1 + 1)
   IsScanned-marked u count p m mark s =
       record {
         below = s.below;
@@ -165,7 +165,7 @@ module _ (kind : Steps) {X : Type 0} (eq : X → X → Bool) (t : List (List X))
       }
 
   -- the end of a row
-  pub IsScanned-row : (u : List (List (Option ℕ))) (count r c : ℕ) → col_count t ≤ c → IsScanned kind eq t u count (r, c) → IsScanned kind eq t u count (r + 1, 0)
+  pub IsScanned-row : (u : List (List (Option ℕ))) (count r c : ℕ) → col_count t ≤ c → IsScanned connectivity eq t u count (r, c) → IsScanned connectivity eq t u count (r + 1, 0)
   IsScanned-row u count r c le s =
       record {
         below = s.below;
@@ -186,8 +186,8 @@ module _ (kind : Steps) {X : Type 0} (eq : X → X → Bool) (t : List (List X))
           ⊎_elim (λ lt. inl lt) (λ ge. let e : a.0 ≡ r = omega arith in let q : a.1 < c = omega arith in inr (e, q)) (cases_lt a.0 r)
 
   -- a position that had none, whose region is numbered
-  module _ (table : IsTable t) (u u' : List (List (Option ℕ))) (table' : IsTable u') (size : HaveOneSize u' t) (k : ℕ) (p : ℕ × ℕ) (x : X) (at : cell t p.0 p.1 ≡ Some x) (s : IsScanned kind eq t u k p)
-      (n : IsNumbered kind (alike eq x t) p k u u') where
+  module _ (table : IsTable t) (u u' : List (List (Option ℕ))) (table' : IsTable u') (size : HaveOneSize u' t) (k : ℕ) (p : ℕ × ℕ) (x : X) (at : cell t p.0 p.1 ≡ Some x) (s : IsScanned connectivity eq t u k p)
+      (n : IsNumbered connectivity (alike eq x t) p k u u') where
     below' : (a : ℕ × ℕ) (m : ℕ) → IsMarked u' a m → m < k + 1
     below' a m h =
         ⊎_elim (λ h0. let lt = s.below a m h0 in omega arith) (λ is. let e : m ≡ k = is in omega arith) (n.is a m h)
@@ -229,18 +229,18 @@ module _ (kind : Steps) {X : Type 0} (eq : X → X → Bool) (t : List (List X))
         (not_before a p))
         (n.is a m h)
 
-    pub IsScanned-numbered : IsScanned kind eq t u' (k + 1) (p.0, p.1 + 1)
+    pub IsScanned-numbered : IsScanned connectivity eq t u' (k + 1) (p.0, p.1 + 1)
     IsScanned-numbered =
         record {
           below = below';
           used = used';
           seen = seen';
           ordered = ordered';
-          parts = λ e. AreParts-numbered kind eq t table e u u' k p x at (s.parts e) s.below n;
+          parts = λ e. AreParts-numbered connectivity eq t table e u u' k p x at (s.parts e) s.below n;
         }
 
   -- at the end
-  module _ (table : IsTable t) (u : List (List (Option ℕ))) (u_table : IsTable u) (size : HaveOneSize u t) (count : ℕ) (s : IsScanned kind eq t u count (row_count t, 0)) where
+  module _ (table : IsTable t) (u : List (List (Option ℕ))) (u_table : IsTable u) (size : HaveOneSize u t) (count : ℕ) (s : IsScanned connectivity eq t u count (row_count t, 0)) where
     plain : List (List ℕ)
     plain = tabulate (row_count u) (col_count u) (λ r c. option_map (λ number. unwrap_or number 0) (cell u r c))
 
@@ -278,11 +278,11 @@ module _ (kind : Steps) {X : Type 0} (eq : X → X → Bool) (t : List (List X))
           ordered = λ a k j h lt. let v = s.ordered a k j (back a k h) lt in (v.0, v.1, to v.0 j v.2);
         }
 
-    pub AreRegions-end : IsEquivalence eq → AreRegions kind eq t (tabulate (row_count u) (col_count u) (λ r c. option_map (λ number. unwrap_or number 0) (cell u r c)))
+    pub AreRegions-end : IsEquivalence eq → AreRegions connectivity eq t (tabulate (row_count u) (col_count u) (λ r c. option_map (λ number. unwrap_or number 0) (cell u r c)))
     unfolding plain
     AreRegions-end e =
         let P = s.parts e in
         record {
           one = λ a b k ha hb. P.one a b k (back a k ha) (back b k hb);
-          whole = λ a b k h j. to b k (along kind eq t table e u P j.0 k j.1 a b j.3 (back a k h));
+          whole = λ a b k h j. to b k (along connectivity eq t table e u P j.0 k j.1 a b j.3 (back a k h));
         }

@@ -1,7 +1,7 @@
--- A search that goes on from what it took, until it has gone round all: what it took is a flood.
+-- A search that goes on from what it took, until it has gone around all: what it took is a flood.
 use Rattle.std.proofs.Common.{◌≡◌, ℕ, zero, suc, ◌+◌, ◌<◌, ◌≤◌, ◌⊎◌, Bool, true, false, cond, Option, None, Some, List, [], length, Contains, refl, sym, ◌∙◌, ap, subst, arith, inr, ⊎_elim, option_map, slice_get}
 use Rattle.grid_paths.proofs.Common.{cases_lt, slice_get_within, slice_get-map, cell, row_count, col_count, IsTable, tabulate-same, tabulate-cells, IsFull-cells, IsStep, answers_by, IsEntered, IsGoneOn, EnterWalk, IsFlood, way_of, places, IsLeft, undone, AreMarked, IsWritten, TakesAll}
-use Rattle.grid_near.specs.declared.steps.Steps.{Steps}
+use Rattle.grid_near.specs.declared.steps.Connectivity.{Connectivity}
 use Rattle.grid_paths.specs.declared.taken.Enter.{Enter}
 use Rattle.grid_paths.specs.declared.taken.Enter.TheVariants.{No, Stop, On}
 use Rattle.grid_paths.proofs.AlikeLemmas.{mapped-cell}
@@ -41,18 +41,18 @@ module _ {T : Type 0} (way : T → Enter) (t0 : List (List T)) (table : IsTable 
       let v = map_some way (cell t0 a.0 a.1) On (sym (mapped-cell way t0 table a.0 a.1) ∙ h) in
       ap way (one_cell (cell t0 a.0 a.1) x v.0 e v.1) ∙ v.2
 
--- the flood from some positions, gone round what was taken before `next`
-pub record IsTaking {T : Type 0} (way : T → Enter) (mark : T) (kind : Steps) (starts : List (ℕ × ℕ)) (t0 t : List (List T)) (q : List ((ℕ × ℕ) × T)) (next : ℕ) : Type 0 where
+-- the flood from some positions, gone around what was taken before `next`
+pub record IsTaking {T : Type 0} (way : T → Enter) (mark : T) (connectivity : Connectivity) (starts : List (ℕ × ℕ)) (t0 t : List (List T)) (q : List ((ℕ × ℕ) × T)) (next : ℕ) : Type 0 where
   pub inside : (a : ℕ × ℕ) (x : T) → IsLeft way t a x → IsLeft way t0 a x
   pub all : (a : ℕ × ℕ) (x : T) → IsLeft way t0 a x → IsLeft way t a x ⊎ ((j : ℕ) × (y : T) × (slice_get q j ≡ Some (a, y)))
   pub was : (j : ℕ) (x : (ℕ × ℕ) × T) → slice_get q j ≡ Some x → IsLeft way t0 x.0 x.1
-  pub walk : (j : ℕ) (x : (ℕ × ℕ) × T) → slice_get q j ≡ Some x → (from : ℕ × ℕ) × (n : ℕ) × Contains starts from × EnterWalk kind (answers_by way t0) from x.0 n
-  pub done : (j : ℕ) (x : (ℕ × ℕ) × T) (b : ℕ × ℕ) (y : T) → j < next → slice_get q j ≡ Some x → way x.1 ≡ On → IsStep kind x.0 b → IsLeft way t b y → ⊥
+  pub walk : (j : ℕ) (x : (ℕ × ℕ) × T) → slice_get q j ≡ Some x → (from : ℕ × ℕ) × (n : ℕ) × Contains starts from × EnterWalk connectivity (answers_by way t0) from x.0 n
+  pub done : (j : ℕ) (x : (ℕ × ℕ) × T) (b : ℕ × ℕ) (y : T) → j < next → slice_get q j ≡ Some x → way x.1 ≡ On → IsStep connectivity x.0 b → IsLeft way t b y → ⊥
   pub start : (a : ℕ × ℕ) (x : T) → Contains starts a → IsLeft way t a x → ⊥
   pub marked : AreMarked way mark t q
 
-module _ {T : Type 0} {way : T → Enter} {mark : T} {kind : Steps} {starts : List (ℕ × ℕ)} {t0 : List (List T)} (table : IsTable t0) where
-  pub IsTaking-start : (t : List (List T)) (q : List ((ℕ × ℕ) × T)) → TakesAll way mark (λ a. Contains starts a) t0 [] t q → IsTaking way mark kind starts t0 t q 0
+module _ {T : Type 0} {way : T → Enter} {mark : T} {connectivity : Connectivity} {starts : List (ℕ × ℕ)} {t0 : List (List T)} (table : IsTable t0) where
+  pub IsTaking-start : (t : List (List T)) (q : List ((ℕ × ℕ) × T)) → TakesAll way mark (λ a. Contains starts a) t0 [] t q → IsTaking way mark connectivity starts t0 t q 0
   IsTaking-start t q w =
       let s = w.takes in
       record {
@@ -66,16 +66,16 @@ module _ {T : Type 0} {way : T → Enter} {mark : T} {kind : Steps} {starts : Li
         marked = s.marked (record { marked = λ j x h. absurd (cc); once = λ i j x y h. absurd (cc) });
       }
 
-  module _ {t : List (List T)} {q : List ((ℕ × ℕ) × T)} {next : ℕ} (s : IsTaking way mark kind starts t0 t q next) where
-    module _ {x : (ℕ × ℕ) × T} {t' : List (List T)} {q' : List ((ℕ × ℕ) × T)} (place : slice_get q next ≡ Some x) (w : TakesAll way mark (λ a. (way x.1 ≡ On) × IsStep kind x.0 a) t q t' q') where
-      done' : (j : ℕ) (z : (ℕ × ℕ) × T) (b : ℕ × ℕ) (y : T) → j < next + 1 → slice_get q' j ≡ Some z → way z.1 ≡ On → IsStep kind z.0 b → IsLeft way t' b y → ⊥
+  module _ {t : List (List T)} {q : List ((ℕ × ℕ) × T)} {next : ℕ} (s : IsTaking way mark connectivity starts t0 t q next) where
+    module _ {x : (ℕ × ℕ) × T} {t' : List (List T)} {q' : List ((ℕ × ℕ) × T)} (place : slice_get q next ≡ Some x) (w : TakesAll way mark (λ a. (way x.1 ≡ On) × IsStep connectivity x.0 a) t q t' q') where
+      done' : (j : ℕ) (z : (ℕ × ℕ) × T) (b : ℕ × ℕ) (y : T) → j < next + 1 → slice_get q' j ≡ Some z → way z.1 ≡ On → IsStep connectivity z.0 b → IsLeft way t' b y → ⊥
       done' j z b y lt h on step l =
           ⊎_elim (λ h0.
           ⊎_elim (λ less. s.done j z b y less h0 on step (w.takes.fewer b y l))
           (λ ge.
           let j_is : j ≡ next = omega arith in
           let same : z ≡ x = one_cell (slice_get q next) z x (subst (λ v. slice_get q v ≡ Some z) j_is h0) place in
-          w.around b y (subst (λ v. (way v.1 ≡ On) × IsStep kind v.0 b) same (on, step)) l)
+          w.around b y (subst (λ v. (way v.1 ≡ On) × IsStep connectivity v.0 b) same (on, step)) l)
           (cases_lt j next))
           (λ v.
           let low : length q ≤ j = v.0 in
@@ -83,7 +83,7 @@ module _ {T : Type 0} {way : T → Enter} {mark : T} {kind : Steps} {starts : Li
           absurd (omega arith))
           (w.takes.fresh_at j z h)
 
-      pub IsTaking-round : IsTaking way mark kind starts t0 t' q' (next + 1)
+      pub IsTaking-round : IsTaking way mark connectivity starts t0 t' q' (next + 1)
       IsTaking-round =
           record {
             inside = λ a y l. s.inside a y (w.takes.fewer a y l);
@@ -102,7 +102,7 @@ module _ {T : Type 0} {way : T → Enter} {mark : T} {kind : Steps} {starts : Li
           }
 
     module _ (end : length q ≤ next) where
-      found : (from a : ℕ × ℕ) (n : ℕ) → Contains starts from → EnterWalk kind (answers_by way t0) from a n → (j : ℕ) × (y : T) × (slice_get q j ≡ Some (a, y))
+      found : (from a : ℕ × ℕ) (n : ℕ) → Contains starts from → EnterWalk connectivity (answers_by way t0) from a n → (j : ℕ) × (y : T) × (slice_get q j ≡ Some (a, y))
       found from a zero c w =
           let v = left_by way t0 table a w.1 in
           ⊎_elim (λ l. absurd (s.start a v.0 (subst (λ b. Contains starts b) w.0 c) l)) (λ h. h) (s.all a v.0 v.1)
@@ -113,13 +113,13 @@ module _ {T : Type 0} {way : T → Enter} {mark : T} {kind : Steps} {starts : Li
           let on = on_by way t0 table w.0 u.1 (s.was u.0 (w.0, u.1) u.2).0 w.2 in
           ⊎_elim (λ l. absurd (s.done u.0 (w.0, u.1) a v.0 (omega arith) u.2 on w.3 l)) (λ h. h) (s.all a v.0 v.1)
 
-      pub IsFlood-end : IsFlood kind (answers_by way t0) starts (places q)
+      pub IsFlood-end : IsFlood connectivity (answers_by way t0) starts (places q)
       IsFlood-end =
           record {
             walk = λ a c.
                 let v = place_of (places q) a c in
                 let x = at_places q v.0 a v.1 in
-                subst (λ b. (from : ℕ × ℕ) × (n : ℕ) × Contains starts from × EnterWalk kind (answers_by way t0) from b n) x.2 (s.walk v.0 x.0 x.1);
+                subst (λ b. (from : ℕ × ℕ) × (n : ℕ) × Contains starts from × EnterWalk connectivity (answers_by way t0) from b n) x.2 (s.walk v.0 x.0 x.1);
             whole = λ from a n c w.
                 let v = found from a n c w in Contains-from_get (places q) v.0 a (places_at q v.0 (a, v.1) v.2);
             once = λ i j a h k.

@@ -2,12 +2,12 @@
 use Rattle.std.proofs.Common.{◌≡◌, ℕ, ◌+◌, ◌^◌, ◌<◌, ◌⊎◌, Bool, true, false, Option, None, Some, List, Contains, refl, sym, ◌∙◌, subst, arith, inl, inr, ⊎_elim}
 use Rattle.grid_paths.proofs.Common.{with_cell, IsTable, InRange, cell-with_same, cell-with_other, same_or_other, AreSteps, IsOpen, IsStep, Reaches, HaveOneSize, IsMarked, cell_in_range}
 use Rattle.grid_base.specs.Table.{row_count, col_count, cell}
-use Rattle.grid_near.specs.declared.steps.Steps.{Steps}
+use Rattle.grid_near.specs.declared.steps.Connectivity.{Connectivity}
 use Rattle.grid_paths.specs.declared.search.Search.{Search}
 use Rattle.grid_paths.proofs.StepLemmas.{Spreads-steps}
 use Rattle.grid_paths.specs.Search.{IsLeft}
 
-module _ (floor : List (List Bool)) (steps : List (List (Option ℕ))) (left : List (List Bool)) (l : IsLeft floor steps left) (steps_table : IsTable steps) (left_table : IsTable left) (b : ℕ × ℕ) (k : ℕ) (is_left : IsOpen left b) where
+module _ (mask : List (List Bool)) (steps : List (List (Option ℕ))) (left : List (List Bool)) (l : IsLeft mask steps left) (steps_table : IsTable steps) (left_table : IsTable left) (b : ℕ × ℕ) (k : ℕ) (is_left : IsOpen left b) where
   pub free_there : cell steps b.0 b.1 ≡ Some None
   free_there = (l.unreached_yet b is_left).1
 
@@ -19,7 +19,7 @@ module _ (floor : List (List Bool)) (steps : List (List (Option ℕ))) (left : L
 
   -- the tables with the position reached
   module _ (steps' : List (List (Option ℕ))) (left' : List (List Bool)) (e : steps' ≡ with_cell steps b.0 b.1 (Some k)) (f : left' ≡ with_cell left b.0 b.1 false) (size : HaveOneSize left' left) where
-    unreached_yet' : (a : ℕ × ℕ) → IsOpen (with_cell left b.0 b.1 false) a → IsOpen floor a × (cell (with_cell steps b.0 b.1 (Some k)) a.0 a.1 ≡ Some None)
+    unreached_yet' : (a : ℕ × ℕ) → IsOpen (with_cell left b.0 b.1 false) a → IsOpen mask a × (cell (with_cell steps b.0 b.1 (Some k)) a.0 a.1 ≡ Some None)
     unreached_yet' a h =
         ⊎_elim (λ same.
         let here : cell (with_cell left b.0 b.1 false) b.0 b.1 ≡ Some true = subst (λ x. IsOpen (with_cell left b.0 b.1 false) x) same h in
@@ -30,7 +30,7 @@ module _ (floor : List (List Bool)) (steps : List (List (Option ℕ))) (left : L
         (v.0, cell-with_other steps b.0 b.1 (Some k) a.0 a.1 other ∙ v.1))
         (same_or_other a b)
 
-    all' : (a : ℕ × ℕ) → IsOpen floor a → IsOpen (with_cell left b.0 b.1 false) a ⊎ ((m : ℕ) × IsMarked (with_cell steps b.0 b.1 (Some k)) a m)
+    all' : (a : ℕ × ℕ) → IsOpen mask a → IsOpen (with_cell left b.0 b.1 false) a ⊎ ((m : ℕ) × IsMarked (with_cell steps b.0 b.1 (Some k)) a m)
     all' a o =
         ⊎_elim (λ same.
         let here : IsMarked (with_cell steps b.0 b.1 (Some k)) b k = cell-with_same steps steps_table b.0 b.1 (Some k) inside_steps.0 inside_steps.1 in
@@ -41,20 +41,20 @@ module _ (floor : List (List Bool)) (steps : List (List (Option ℕ))) (left : L
         (l.all a o))
         (same_or_other a b)
 
-    pub IsLeft-reach : IsLeft floor steps' left'
+    pub IsLeft-reach : IsLeft mask steps' left'
     IsLeft-reach =
         record {
           size = record { rows = size.rows ∙ l.size.rows; cols = size.cols ∙ l.size.cols };
           unreached_yet = λ a h.
-              subst (λ x. IsOpen floor a × (cell x a.0 a.1 ≡ Some None)) (sym e) (unreached_yet' a (subst (λ x. IsOpen x a) f h));
+              subst (λ x. IsOpen mask a × (cell x a.0 a.1 ≡ Some None)) (sym e) (unreached_yet' a (subst (λ x. IsOpen x a) f h));
           all = λ a o.
               subst (λ x. IsOpen left' a ⊎ ((m : ℕ) × IsMarked x a m)) (sym e)
               (subst (λ x. IsOpen x a ⊎ ((m : ℕ) × IsMarked (with_cell steps b.0 b.1 (Some k)) a m)) (sym f) (all' a o));
         }
 
 -- before anything is reached all open positions are left
-pub IsLeft-start : (floor : List (List Bool)) (steps : List (List (Option ℕ))) → ((a : ℕ × ℕ) → IsOpen floor a → cell steps a.0 a.1 ≡ Some None) → IsLeft floor steps floor
-IsLeft-start floor steps none =
+pub IsLeft-start : (mask : List (List Bool)) (steps : List (List (Option ℕ))) → ((a : ℕ × ℕ) → IsOpen mask a → cell steps a.0 a.1 ≡ Some None) → IsLeft mask steps mask
+IsLeft-start mask steps none =
     record {
       size = record { rows = refl; cols = refl };
       unreached_yet = λ a h. (h, none a h);
@@ -62,8 +62,8 @@ IsLeft-start floor steps none =
     }
 
 -- an open position is one that a grid can have, or is reached
-pub left_fits : (floor : List (List Bool)) (steps : List (List (Option ℕ))) (left : List (List Bool)) → IsLeft floor steps left → IsTable left → row_count left < 2 ^ 64 → col_count left < 2 ^ 64 → (b : ℕ × ℕ) → IsOpen floor b → ((b.0 + 1 < 2 ^ 64) × (b.1 + 1 < 2 ^ 64)) ⊎ ((m : ℕ) × IsMarked steps b m)
-left_fits floor steps left l table rows cols b o =
+pub left_fits : (mask : List (List Bool)) (steps : List (List (Option ℕ))) (left : List (List Bool)) → IsLeft mask steps left → IsTable left → row_count left < 2 ^ 64 → col_count left < 2 ^ 64 → (b : ℕ × ℕ) → IsOpen mask b → ((b.0 + 1 < 2 ^ 64) × (b.1 + 1 < 2 ^ 64)) ⊎ ((m : ℕ) × IsMarked steps b m)
+left_fits mask steps left l table rows cols b o =
     ⊎_elim (λ h.
     let i = cell_in_range left table b.0 b.1 true h in
     let lr = i.0 in
@@ -73,8 +73,8 @@ left_fits floor steps left l table rows cols b o =
     (l.all b o)
 
 -- the positions of a list are those that a step leads to
-pub Reaches-steps : {A : Type 0} (kind : Steps) (at : ℕ × ℕ) (xs : List (ℕ × ℕ)) → AreSteps kind at xs → (k : ℕ) (s s' : Search A) → Reaches (λ b. Contains xs b) k s s' → Reaches (IsStep kind at) k s s'
-Reaches-steps kind at xs steps k s s' r =
-    λ floor l.
-    let v = r floor l in
-    (Spreads-steps kind at xs steps (left_fits floor s.steps.numbers.rows s.left.rows l s.left.table s.left.fits.rows s.left.fits.cols) v.0, v.1)
+pub Reaches-steps : {A : Type 0} (connectivity : Connectivity) (at : ℕ × ℕ) (xs : List (ℕ × ℕ)) → AreSteps connectivity at xs → (k : ℕ) (s s' : Search A) → Reaches (λ b. Contains xs b) k s s' → Reaches (IsStep connectivity at) k s s'
+Reaches-steps connectivity at xs steps k s s' r =
+    λ mask l.
+    let v = r mask l in
+    (Spreads-steps connectivity at xs steps (left_fits mask s.steps.numbers.rows s.left.rows l s.left.table s.left.fits.rows s.left.fits.cols) v.0, v.1)

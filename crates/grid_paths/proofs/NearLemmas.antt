@@ -1,7 +1,7 @@
 -- A step leads to a neighbor.
 use Rattle.std.proofs.Common.{◌≡◌, ℕ, zero, suc, ◌+◌, ◌<◌, ◌↔◌, Option, None, Some, List, [], ◌∷◌, length, Contains, refl, sym, ◌∙◌, ap, subst, arith, inl, inr, ⊎_elim, filter_map, option_map}
 use Rattle.grid_paths.proofs.Common.{cons_option, cell, around4, around8, before, cell_at, neighbors4, neighbors8, DifferByOne, IsStep}
-use Rattle.grid_near.specs.declared.steps.Steps.TheVariants.{Sides, All}
+use Rattle.grid_near.specs.declared.steps.Connectivity.TheVariants.{Four, Eight}
 use Rattle.grid_paths.proofs.AroundLemmas.{Contains-cases, Axis, none_in, four_of, of_four, eight_of, of_eight, sides_of, of_sides, corners_of, of_corners}
 
 pub Contains-more : {X : Type 0} (o : Option X) (xs : List X) (x : X) → Contains xs x → Contains (cons_option o xs) x
@@ -81,7 +81,7 @@ module _ {X : Type 0} (t : List (List X)) (r c : ℕ) (b : ℕ × ℕ) (x : X) w
     λ h. let v = given_by (cell_at (cell t)) xs (b, x) h in subst (λ p. Contains xs p) (is_at v.0 v.2) v.1,
   )
 
-  pub sides-near : cell t b.0 b.1 ≡ Some x → IsStep Sides (r, c) b ↔ Contains (neighbors4 t r c) (b, x)
+  pub sides-near : cell t b.0 b.1 ≡ Some x → IsStep Four (r, c) b ↔ Contains (neighbors4 t r c) (b, x)
   unfolding neighbors4 at
   sides-near e =
       let same = listed (around4 (before r) (Some r) (Some (r + 1)) (before c) (Some c) (Some (c + 1))) e in (
@@ -89,7 +89,7 @@ module _ {X : Type 0} (t : List (List X)) (r c : ℕ) (b : ℕ × ℕ) (x : X) w
         λ h. ⊎_elim (λ f. of_sides R C f) (λ none. absurd (none_in (Some b.0, Some b.1) none)) (four_of _ _ _ _ (Some b.0, Some b.1) [] (same.1 h)),
       )
 
-  pub all-near : cell t b.0 b.1 ≡ Some x → IsStep All (r, c) b ↔ Contains (neighbors8 t r c) (b, x)
+  pub all-near : cell t b.0 b.1 ≡ Some x → IsStep Eight (r, c) b ↔ Contains (neighbors8 t r c) (b, x)
   unfolding neighbors8 at
   all-near e =
       let same = listed (around8 (before r) (Some r) (Some (r + 1)) (before c) (Some c) (Some (c + 1))) e in (

@@ -1,34 +1,34 @@
 -- One region numbered.
 use Rattle.std.proofs.Common.{◌≡◌, ℕ, suc, ◌+◌, ◌<◌, ◌≤◌, ◌⊎◌, Bool, Option, List, [], length, sym, subst, arith, inl, inr, ⊎_elim}
-use Rattle.grid_paths.proofs.Common.{cases_lt, slice_get_within, IsOpen, IsStep, Walk, IsMarked, IsAt, Spread, WentRound, IsNumbered}
-use Rattle.grid_near.specs.declared.steps.Steps.{Steps}
+use Rattle.grid_paths.proofs.Common.{cases_lt, slice_get_within, IsOpen, IsStep, Walk, IsMarked, IsAt, Spread, WentAround, IsNumbered}
+use Rattle.grid_near.specs.declared.steps.Connectivity.{Connectivity}
 use Rattle.grid_paths.proofs.SearchLemmas.{one_place}
 use Rattle.grid_paths.proofs.StepLemmas.{Grew}
 
 -- a position that got the number while the region was numbered
-pub record IsNew (kind : Steps) (floor : List (List Bool)) (p : ℕ × ℕ) (k : ℕ) (q : List (ℕ × ℕ)) (a : ℕ × ℕ) (m : ℕ) : Type 0 where
+pub record IsNew (connectivity : Connectivity) (mask : List (List Bool)) (p : ℕ × ℕ) (k : ℕ) (q : List (ℕ × ℕ)) (a : ℕ × ℕ) (m : ℕ) : Type 0 where
   pub is : m ≡ k
-  pub walk : IsOpen floor p → (n : ℕ) × Walk kind floor p a n
+  pub walk : IsOpen mask p → (n : ℕ) × Walk connectivity mask p a n
   pub queued : (j : ℕ) × IsAt q j a
 
 -- the region of p is numbered from the positions of the queue before `next`
-pub record IsNumbering (kind : Steps) (floor : List (List Bool)) (p : ℕ × ℕ) (k : ℕ) (u0 u : List (List (Option ℕ))) (q : List (ℕ × ℕ)) (next : ℕ) : Type 0 where
+pub record IsNumbering (connectivity : Connectivity) (mask : List (List Bool)) (p : ℕ × ℕ) (k : ℕ) (u0 u : List (List (Option ℕ))) (q : List (ℕ × ℕ)) (next : ℕ) : Type 0 where
   pub kept : (a : ℕ × ℕ) (m : ℕ) → IsMarked u0 a m → IsMarked u a m
-  pub fresh : (a : ℕ × ℕ) (m : ℕ) → IsMarked u a m → IsMarked u0 a m ⊎ IsNew kind floor p k q a m
+  pub fresh : (a : ℕ × ℕ) (m : ℕ) → IsMarked u a m → IsMarked u0 a m ⊎ IsNew connectivity mask p k q a m
   pub queued : (j : ℕ) (a : ℕ × ℕ) → IsAt q j a → IsMarked u a k
   pub here : IsMarked u p k
-  pub done : (j : ℕ) (a b : ℕ × ℕ) → j < next → IsAt q j a → IsStep kind a b → IsOpen floor b → (m : ℕ) × IsMarked u b m
+  pub done : (j : ℕ) (a b : ℕ × ℕ) → j < next → IsAt q j a → IsStep connectivity a b → IsOpen mask b → (m : ℕ) × IsMarked u b m
   pub some : 0 < length q
 
-pub IsNumbering-start : (kind : Steps) (floor : List (List Bool)) (p : ℕ × ℕ) (k : ℕ) (u u' : List (List (Option ℕ))) (q' : List (ℕ × ℕ)) → Grew u [] u' q' p k → IsNumbering kind floor p k u u' q' 0
-IsNumbering-start kind floor p k u u' q' g =
+pub IsNumbering-start : (connectivity : Connectivity) (mask : List (List Bool)) (p : ℕ × ℕ) (k : ℕ) (u u' : List (List (Option ℕ))) (q' : List (ℕ × ℕ)) → Grew u [] u' q' p k → IsNumbering connectivity mask p k u u' q' 0
+IsNumbering-start connectivity mask p k u u' q' g =
     record {
       kept = g.kept;
       fresh = λ a m h.
           ⊎_elim (λ e.
           inr (record {
             is = e.1;
-            walk = λ o. (0, (sym e.0, subst (λ x. IsOpen floor x) (sym e.0) o));
+            walk = λ o. (0, (sym e.0, subst (λ x. IsOpen mask x) (sym e.0) o));
             queued = (0, subst (λ x. IsAt q' 0 x) (sym e.0) g.here_at);
           }))
           (λ h0. inl h0)
@@ -39,17 +39,17 @@ IsNumbering-start kind floor p k u u' q' g =
       some = slice_get_within q' 0 p g.here_at;
     }
 
-module _ (kind : Steps) (floor : List (List Bool)) (p : ℕ × ℕ) (k : ℕ) (u0 u : List (List (Option ℕ))) (q : List (ℕ × ℕ)) (next : ℕ) (s : IsNumbering kind floor p k u0 u q next)
+module _ (connectivity : Connectivity) (mask : List (List Bool)) (p : ℕ × ℕ) (k : ℕ) (u0 u : List (List (Option ℕ))) (q : List (ℕ × ℕ)) (next : ℕ) (s : IsNumbering connectivity mask p k u0 u q next)
     (below : (a : ℕ × ℕ) (m : ℕ) → IsMarked u0 a m → m < k) where
   -- a position with this number is new
-  pub is_new : (a : ℕ × ℕ) → IsMarked u a k → IsNew kind floor p k q a k
+  pub is_new : (a : ℕ × ℕ) → IsMarked u a k → IsNew connectivity mask p k q a k
   is_new a h = ⊎_elim (λ h0. let lt = below a k h0 in absurd (omega arith)) (λ n. n) (s.fresh a k h)
 
-  module _ (at : ℕ × ℕ) (u' : List (List (Option ℕ))) (q' : List (ℕ × ℕ)) (place : IsAt q next at) (w : WentRound (IsStep kind at) floor k u q u' q') where
-    t : Spread (IsStep kind at) floor k u q u' q'
+  module _ (at : ℕ × ℕ) (u' : List (List (Option ℕ))) (q' : List (ℕ × ℕ)) (place : IsAt q next at) (w : WentAround (IsStep connectivity at) mask k u q u' q') where
+    t : Spread (IsStep connectivity at) mask k u q u' q'
     t = w.spread
 
-    fresh' : (a : ℕ × ℕ) (m : ℕ) → IsMarked u' a m → IsMarked u0 a m ⊎ IsNew kind floor p k q' a m
+    fresh' : (a : ℕ × ℕ) (m : ℕ) → IsMarked u' a m → IsMarked u0 a m ⊎ IsNew connectivity mask p k q' a m
     fresh' a m h =
         ⊎_elim (λ h1.
         ⊎_elim (λ h0. inl h0)
@@ -64,7 +64,7 @@ module _ (kind : Steps) (floor : List (List Bool)) (p : ℕ × ℕ) (k : ℕ) (u
         }))
         (t.fresh a m h)
 
-    done' : (j : ℕ) (a b : ℕ × ℕ) → j < next + 1 → IsAt q' j a → IsStep kind a b → IsOpen floor b → (m : ℕ) × IsMarked u' b m
+    done' : (j : ℕ) (a b : ℕ × ℕ) → j < next + 1 → IsAt q' j a → IsStep connectivity a b → IsOpen mask b → (m : ℕ) × IsMarked u' b m
     done' j a b lt h beside is_open =
         let in_q : next < length q = slice_get_within q next at place in
         let h0 : IsAt q j a = t.old_at j a (omega arith) h in
@@ -72,10 +72,10 @@ module _ (kind : Steps) (floor : List (List Bool)) (p : ℕ × ℕ) (k : ℕ) (u
         (λ ge.
         let j_is : j ≡ next = omega arith in
         let a_is : a ≡ at = one_place q next a at (subst (λ x. IsAt q x a) j_is h0) place in
-        w.around b (subst (λ x. IsStep kind x b) a_is beside) is_open)
+        w.around b (subst (λ x. IsStep connectivity x b) a_is beside) is_open)
         (cases_lt j next)
 
-    pub IsNumbering-round : IsNumbering kind floor p k u0 u' q' (next + 1)
+    pub IsNumbering-round : IsNumbering connectivity mask p k u0 u' q' (next + 1)
     IsNumbering-round =
         let some = s.some in
         let longer = t.longer in
@@ -89,7 +89,7 @@ module _ (kind : Steps) (floor : List (List Bool)) (p : ℕ × ℕ) (k : ℕ) (u
           some = omega arith;
         }
 
-  pub IsNumbered-end : length q ≤ next → IsNumbered kind floor p k u0 u
+  pub IsNumbered-end : length q ≤ next → IsNumbered connectivity mask p k u0 u
   IsNumbered-end all =
       record {
         kept = s.kept;

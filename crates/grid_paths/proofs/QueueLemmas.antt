@@ -1,9 +1,9 @@
 -- The queue of a breadth-first search, where the first positions were dropped; and that numbers
 -- stay below the cells.
 use Rattle.std.proofs.Common.{◌≡◌, ℕ, zero, suc, ◌+◌, ◌*◌, ◌<◌, ◌≤◌, ◌⊎◌, Bool, Option, None, Some, List, [], ◌∷◌, ◌++◌, length, get_or, Contains, refl, sym, ◌∙◌, ap, subst, arith, inl, inr, ⊎_elim, sum_by, length-append, append_assoc}
-use Rattle.grid_paths.proofs.Common.{row_count, col_count, IsTable, concat_rows, sum_by-cons, slice_get_read, slice_get_within, length-storage, IsOpen, IsStep, HasLeastFrom, IsMarked, IsAt, IsReached, Spread, WentRound, free, unreached}
+use Rattle.grid_paths.proofs.Common.{row_count, col_count, IsTable, concat_rows, sum_by-cons, slice_get_read, slice_get_within, length-storage, IsOpen, IsStep, HasLeastFrom, IsMarked, IsAt, IsReached, Spread, WentAround, free, unreached}
 use Rattle.grid_base.specs.declared.order.Order.TheVariants.{RowMajor}
-use Rattle.grid_near.specs.declared.steps.Steps.{Steps}
+use Rattle.grid_near.specs.declared.steps.Connectivity.{Connectivity}
 use Rattle.grid_paths.proofs.SearchLemmas.{IsSearch, IsSearch-round, HasLeastFrom-end}
 
 -- places of one list after another
@@ -26,9 +26,9 @@ at_either (x ∷ g) q (suc j) a h =
     (λ w. let j_is : j ≡ length g + w.0 = w.1 in let e : suc j ≡ length (x ∷ g) + w.0 = omega arith in inr (w.0, e, w.2))
     (at_either g q j a h)
 
--- what is reached behind a queue is reached behind a longer one
-module _ (near : ℕ × ℕ → Type 0) (floor : List (List Bool)) (k : ℕ) (u : List (List (Option ℕ))) (q : List (ℕ × ℕ)) (u' : List (List (Option ℕ))) (q' g : List (ℕ × ℕ)) (w : WentRound near floor k u q u' q') where
-  s : Spread near floor k u q u' q'
+-- what is reached after a queue is reached after a longer one
+module _ (near : ℕ × ℕ → Type 0) (mask : List (List Bool)) (k : ℕ) (u : List (List (Option ℕ))) (q : List (ℕ × ℕ)) (u' : List (List (Option ℕ))) (q' g : List (ℕ × ℕ)) (w : WentAround near mask k u q u' q') where
+  s : Spread near mask k u q u' q'
   s = w.spread
 
   kept_at' : (j : ℕ) (a : ℕ × ℕ) → IsAt (g ++ q) j a → IsAt (g ++ q') j a
@@ -54,7 +54,7 @@ module _ (near : ℕ × ℕ → Type 0) (floor : List (List Bool)) (k : ℕ) (u 
       (λ v. let j_is : j ≡ length g + v.0 = v.1 in s.fresh_at v.0 a (omega arith) v.2)
       (at_either g q' j a h)
 
-  fresh' : (a : ℕ × ℕ) (m : ℕ) → IsMarked u' a m → IsMarked u a m ⊎ IsReached near floor k (g ++ q) (g ++ q') a m
+  fresh' : (a : ℕ × ℕ) (m : ℕ) → IsMarked u' a m → IsMarked u a m ⊎ IsReached near mask k (g ++ q) (g ++ q') a m
   fresh' a m h =
       let long : length (g ++ q) ≡ length g + length q = length-append g q in
       ⊎_elim (λ h0. inl h0)
@@ -64,8 +64,8 @@ module _ (near : ℕ × ℕ → Type 0) (floor : List (List Bool)) (k : ℕ) (u 
       inr (record { is = f.is; is_open = f.is_open; is_near = f.is_near; queued = (length g + v.0, omega arith, at_right g q' v.0 a v.2) }))
       (s.fresh a m h)
 
-  pub WentRound-behind : WentRound near floor k u (g ++ q) u' (g ++ q')
-  WentRound-behind =
+  pub WentAround-after : WentAround near mask k u (g ++ q) u' (g ++ q')
+  WentAround-after =
       let long : length (g ++ q) ≡ length g + length q = length-append g q in
       let long' : length (g ++ q') ≡ length g + length q' = length-append g q' in
       let up = s.longer in
@@ -84,16 +84,16 @@ module _ (near : ℕ × ℕ → Type 0) (floor : List (List Bool)) (k : ℕ) (u 
       }
 
 -- the search, where the first positions of the queue were dropped
-pub record IsTrimmed (kind : Steps) (floor : List (List Bool)) (starts : List (ℕ × ℕ)) (steps : List (List (Option ℕ))) (queue : List (ℕ × ℕ)) (next cells : ℕ) : Type 0 where
+pub record IsTrimmed (connectivity : Connectivity) (mask : List (List Bool)) (starts : List (ℕ × ℕ)) (steps : List (List (Option ℕ))) (queue : List (ℕ × ℕ)) (next cells : ℕ) : Type 0 where
   pub front : List (ℕ × ℕ)
-  pub search : IsSearch kind floor starts steps (front ++ queue) (length front + next)
+  pub search : IsSearch connectivity mask starts steps (front ++ queue) (length front + next)
   pub bound : unreached steps + length (front ++ queue) ≤ cells
 
-module _ {kind : Steps} {floor : List (List Bool)} {starts : List (ℕ × ℕ)} {cells : ℕ} where
-  pub IsTrimmed-start : (steps : List (List (Option ℕ))) (queue : List (ℕ × ℕ)) → IsSearch kind floor starts steps queue 0 → unreached steps + length queue ≤ cells → IsTrimmed kind floor starts steps queue 0 cells
+module _ {connectivity : Connectivity} {mask : List (List Bool)} {starts : List (ℕ × ℕ)} {cells : ℕ} where
+  pub IsTrimmed-start : (steps : List (List (Option ℕ))) (queue : List (ℕ × ℕ)) → IsSearch connectivity mask starts steps queue 0 → unreached steps + length queue ≤ cells → IsTrimmed connectivity mask starts steps queue 0 cells
   IsTrimmed-start steps queue s le = record { front = []; search = s; bound = le }
 
-  module _ {steps : List (List (Option ℕ))} {queue : List (ℕ × ℕ)} {next : ℕ} (t : IsTrimmed kind floor starts steps queue next cells) where
+  module _ {steps : List (List (Option ℕ))} {queue : List (ℕ × ℕ)} {next : ℕ} (t : IsTrimmed connectivity mask starts steps queue next cells) where
     -- the next position, which is a, and its number
     pub next_at : (a : ℕ × ℕ) → next < length queue → a ≡ get_or queue next a → IsAt queue next a × ((n : ℕ) × IsMarked steps a n × (n < cells))
     next_at a lt0 is =
@@ -105,17 +105,17 @@ module _ {kind : Steps} {floor : List (List Bool)} {starts : List (ℕ × ℕ)} 
         let le = t.bound in
         (place, (v.0, v.1, omega arith))
 
-    pub IsTrimmed-round : (steps' : List (List (Option ℕ))) (queue' : List (ℕ × ℕ)) (a : ℕ × ℕ) (n : ℕ) → IsAt queue next a → IsMarked steps a n → WentRound (IsStep kind a) floor (n + 1) steps queue steps' queue' → IsTrimmed kind floor starts steps' queue' (next + 1) cells
+    pub IsTrimmed-round : (steps' : List (List (Option ℕ))) (queue' : List (ℕ × ℕ)) (a : ℕ × ℕ) (n : ℕ) → IsAt queue next a → IsMarked steps a n → WentAround (IsStep connectivity a) mask (n + 1) steps queue steps' queue' → IsTrimmed connectivity mask starts steps' queue' (next + 1) cells
     IsTrimmed-round steps' queue' a n place mark w =
         let g = t.front in
-        let behind = WentRound-behind (IsStep kind a) floor (n + 1) steps queue steps' queue' g w in
-        let s = IsSearch-round kind floor starts steps (g ++ queue) steps' (g ++ queue') a n (length g + next) t.search (at_right g queue next a place) mark behind in
+        let behind = WentAround-after (IsStep connectivity a) mask (n + 1) steps queue steps' queue' g w in
+        let s = IsSearch-round connectivity mask starts steps (g ++ queue) steps' (g ++ queue') a n (length g + next) t.search (at_right g queue next a place) mark behind in
         let place_is : length g + next + 1 ≡ length g + (next + 1) = omega arith in
         let total = behind.spread.total in
         let le = t.bound in
-        record { front = g; search = subst (λ x. IsSearch kind floor starts steps' (g ++ queue') x) place_is s; bound = omega arith }
+        record { front = g; search = subst (λ x. IsSearch connectivity mask starts steps' (g ++ queue') x) place_is s; bound = omega arith }
 
-    pub IsTrimmed-trim : (queue' : List (ℕ × ℕ)) (next' : ℕ) → (front : List (ℕ × ℕ)) × (queue ≡ front ++ queue') × (next ≡ length front + next') → IsTrimmed kind floor starts steps queue' next' cells
+    pub IsTrimmed-trim : (queue' : List (ℕ × ℕ)) (next' : ℕ) → (front : List (ℕ × ℕ)) × (queue ≡ front ++ queue') × (next ≡ length front + next') → IsTrimmed connectivity mask starts steps queue' next' cells
     IsTrimmed-trim queue' next' w =
         let g = t.front in
         let f = w.0 in
@@ -125,14 +125,14 @@ module _ {kind : Steps} {floor : List (List Bool)} {starts : List (ℕ × ℕ)} 
         let place_is : length g + next ≡ length (g ++ f) + next' = omega arith in
         record {
           front = g ++ f;
-          search = subst (λ x. IsSearch kind floor starts steps ((g ++ f) ++ queue') x) place_is (subst (λ x. IsSearch kind floor starts steps x (length g + next)) whole t.search);
+          search = subst (λ x. IsSearch connectivity mask starts steps ((g ++ f) ++ queue') x) place_is (subst (λ x. IsSearch connectivity mask starts steps x (length g + next)) whole t.search);
           bound = subst (λ x. unreached steps + length x ≤ cells) whole t.bound;
         }
 
-    pub HasLeastFrom-trimmed : ((from : ℕ × ℕ) → Contains starts from → IsOpen floor from → IsMarked steps from 0) → length queue ≤ next → HasLeastFrom kind floor starts steps
+    pub HasLeastFrom-trimmed : ((from : ℕ × ℕ) → Contains starts from → IsOpen mask from → IsMarked steps from 0) → length queue ≤ next → HasLeastFrom connectivity mask starts steps
     HasLeastFrom-trimmed start all =
         let long : length (t.front ++ queue) ≡ length t.front + length queue = length-append t.front queue in
-        HasLeastFrom-end kind floor starts steps (t.front ++ queue) (length t.front + next) t.search start (omega arith)
+        HasLeastFrom-end connectivity mask starts steps (t.front ++ queue) (length t.front + next) t.search start (omega arith)
 
 -- there are no more unreached cells than cells
 free_one : (x : Option ℕ) → free x ≤ 1

@@ -2,8 +2,8 @@
 use Rattle.std.proofs.Common.{◌≡◌, ℕ, zero, suc, ◌+◌, ◌-◌, ◌<◌, ◌≤◌, Bool, true, false, cond, Option, None, Some, List, [], ◌∷◌, length, Contains, IsSomeAnd, refl, sym, ◌∙◌, ap, subst, arith, inl, inr, ⊎_elim, add-one, Bor}
 use Rattle.grid_paths.proofs.Common.{cases_lt, row_count, col_count, cell, with_cell, IsTable, MappedBy, cell_in_range, cell_past_rows, past_cols, cell-with_same, cell-with_other, same_or_other, IsOpen, IsStep, AreBeside, Walk, IsFilled, alike, HaveOneSize, IsAt, answers_by, IsEntered, IsGoneOn, EnterWalk, IsFlood, way_of, IsWritten}
 use Rattle.grid_base.proofs.Common.{InRange}
-use Rattle.grid_near.specs.declared.steps.Steps.{Steps}
-use Rattle.grid_near.specs.declared.steps.Steps.TheVariants.{Sides, All}
+use Rattle.grid_near.specs.declared.steps.Connectivity.{Connectivity}
+use Rattle.grid_near.specs.declared.steps.Connectivity.TheVariants.{Four, Eight}
 use Rattle.grid_paths.specs.declared.taken.Enter.TheVariants.{No, On}
 use Rattle.grid_paths.proofs.AlikeLemmas.{open_alike, alike_open}
 use Rattle.grid_paths.proofs.AroundLemmas.{Before, before_either, before_all, Contains-cases, Contains-first}
@@ -66,64 +66,64 @@ module _ {T : Type 0} (eq : T → T → Bool) (x : T) (t : List (List T)) (table
   entered_open : (a : ℕ × ℕ) → IsOpen (alike eq x t) a → IsEntered (answers_by (way_of eq x None) t) a
   entered_open a o = (On, on_open a o, λ e. absurd (cc))
 
-  walk_entered : (kind : Steps) (n : ℕ) (a b : ℕ × ℕ) → EnterWalk kind (answers_by (way_of eq x None) t) a b n → Walk kind (alike eq x t) a b n
-  walk_entered kind zero a b w = (w.0, open_entered b w.1)
-  walk_entered kind (suc n) a b w = (w.0, walk_entered kind n a w.0 w.1, w.3, open_entered b w.4)
+  walk_entered : (connectivity : Connectivity) (n : ℕ) (a b : ℕ × ℕ) → EnterWalk connectivity (answers_by (way_of eq x None) t) a b n → Walk connectivity (alike eq x t) a b n
+  walk_entered connectivity zero a b w = (w.0, open_entered b w.1)
+  walk_entered connectivity (suc n) a b w = (w.0, walk_entered connectivity n a w.0 w.1, w.3, open_entered b w.4)
 
-  entered_walk : (kind : Steps) (n : ℕ) (a b : ℕ × ℕ) → Walk kind (alike eq x t) a b n → EnterWalk kind (answers_by (way_of eq x None) t) a b n
-  entered_walk kind zero a b w = (w.0, entered_open b w.1)
-  entered_walk kind (suc n) a b w =
-      (w.0, entered_walk kind n a w.0 w.1, on_open w.0 (open_end kind (alike eq x t) n a w.0 w.1), w.2, entered_open b w.3)
+  entered_walk : (connectivity : Connectivity) (n : ℕ) (a b : ℕ × ℕ) → Walk connectivity (alike eq x t) a b n → EnterWalk connectivity (answers_by (way_of eq x None) t) a b n
+  entered_walk connectivity zero a b w = (w.0, entered_open b w.1)
+  entered_walk connectivity (suc n) a b w =
+      (w.0, entered_walk connectivity n a w.0 w.1, on_open w.0 (open_end connectivity (alike eq x t) n a w.0 w.1), w.2, entered_open b w.3)
 
   one_start : (a b : ℕ × ℕ) → Contains (a ∷ []) b → b ≡ a
   one_start a b c = ⊎_elim (λ e. sym e) (λ none. absurd (let lt : none.0 < 0 = none.1 in omega arith)) (Contains-cases a b [] c)
 
   -- the region of a position, written
-  pub IsFilled-flood : (kind : Steps) (at : ℕ × ℕ) (xs : List (ℕ × ℕ)) (w : T) (u : List (List T)) → IsFlood kind (answers_by (way_of eq x None) t) (at ∷ []) xs → IsWritten w (λ a. Contains xs a) t u → IsFilled kind (alike eq x t) at w t u
-  IsFilled-flood kind at xs w u flood written =
+  pub IsFilled-flood : (connectivity : Connectivity) (at : ℕ × ℕ) (xs : List (ℕ × ℕ)) (w : T) (u : List (List T)) → IsFlood connectivity (answers_by (way_of eq x None) t) (at ∷ []) xs → IsWritten w (λ a. Contains xs a) t u → IsFilled connectivity (alike eq x t) at w t u
+  IsFilled-flood connectivity at xs w u flood written =
       record {
-        filled = λ b n walk. written.written b (flood.whole at b n (Contains-first at at [] refl) (entered_walk kind n at b walk));
+        filled = λ b n walk. written.written b (flood.whole at b n (Contains-first at at [] refl) (entered_walk connectivity n at b walk));
         kept = λ b none.
             written.kept b (λ c.
             let v = flood.walk b c in
-            none v.1 (walk_entered kind v.1 at b (subst (λ a. EnterWalk kind (answers_by (way_of eq x None) t) a b v.1) (one_start at v.0 v.2) v.3)));
+            none v.1 (walk_entered connectivity v.1 at b (subst (λ a. EnterWalk connectivity (answers_by (way_of eq x None) t) a b v.1) (one_start at v.0 v.2) v.3)));
       }
 
 -- walks over a board whose cells are all open lead everywhere
-beside_step : (kind : Steps) (a b : ℕ × ℕ) → AreBeside a b → IsStep kind a b
-beside_step Sides a b h = h
-beside_step All a b h = inl h
+beside_step : (connectivity : Connectivity) (a b : ℕ × ℕ) → AreBeside a b → IsStep connectivity a b
+beside_step Four a b h = h
+beside_step Eight a b h = inl h
 
-module _ (kind : Steps) (floor : List (List Bool)) where
-  module _ (rows cols : ℕ) (all : (a : ℕ × ℕ) → a.0 < rows → a.1 < cols → IsOpen floor a) where
-    from_corner : (r c : ℕ) → r < rows → c < cols → (k : ℕ) × Walk kind floor (0, 0) (r, c) k
+module _ (connectivity : Connectivity) (mask : List (List Bool)) where
+  module _ (rows cols : ℕ) (all : (a : ℕ × ℕ) → a.0 < rows → a.1 < cols → IsOpen mask a) where
+    from_corner : (r c : ℕ) → r < rows → c < cols → (k : ℕ) × Walk connectivity mask (0, 0) (r, c) k
     from_corner zero zero lr lc = (0, (refl, all (0, 0) lr lc))
     from_corner zero (suc c) lr lc =
         let v = from_corner zero c lr (omega arith) in
-        (suc v.0, ((0, c), v.1, beside_step kind (0, c) (0, suc c) (inl (refl, inl (add-one c))), all (0, suc c) lr lc))
+        (suc v.0, ((0, c), v.1, beside_step connectivity (0, c) (0, suc c) (inl (refl, inl (add-one c))), all (0, suc c) lr lc))
     from_corner (suc r) c lr lc =
         let v = from_corner r c (omega arith) lc in
-        (suc v.0, ((r, c), v.1, beside_step kind (r, c) (suc r, c) (inr (refl, inl (add-one r))), all (suc r, c) lr lc))
+        (suc v.0, ((r, c), v.1, beside_step connectivity (r, c) (suc r, c) (inr (refl, inl (add-one r))), all (suc r, c) lr lc))
 
-    everywhere : (a b : ℕ × ℕ) → a.0 < rows → a.1 < cols → b.0 < rows → b.1 < cols → (k : ℕ) × Walk kind floor a b k
+    everywhere : (a b : ℕ × ℕ) → a.0 < rows → a.1 < cols → b.0 < rows → b.1 < cols → (k : ℕ) × Walk connectivity mask a b k
     everywhere a b ar ac br bc =
         let v = from_corner a.0 a.1 ar ac in
         let w = from_corner b.0 b.1 br bc in
-        walk_append kind floor v.0 w.0 a (0, 0) b (walk_back kind floor v.0 (0, 0) a v.1) w.1
+        walk_append connectivity mask v.0 w.0 a (0, 0) b (walk_back connectivity mask v.0 (0, 0) a v.1) w.1
 
 -- a whole board of cells equal to x, written
-pub IsFilled-board : {T : Type 0} (eq : T → T → Bool) (x : T) (kind : Steps) (at : ℕ × ℕ) (w : T) (t u : List (List T)) → IsTable t → IsTable u → HaveOneSize u t → InRange t at.0 at.1 → ((a : ℕ × ℕ) → InRange t a.0 a.1 → IsOpen (alike eq x t) a) → ((a : ℕ × ℕ) → InRange t a.0 a.1 → cell u a.0 a.1 ≡ Some w) → IsFilled kind (alike eq x t) at w t u
-IsFilled-board eq x kind at w t u table table' size here all cells =
+pub IsFilled-board : {T : Type 0} (eq : T → T → Bool) (x : T) (connectivity : Connectivity) (at : ℕ × ℕ) (w : T) (t u : List (List T)) → IsTable t → IsTable u → HaveOneSize u t → InRange t at.0 at.1 → ((a : ℕ × ℕ) → InRange t a.0 a.1 → IsOpen (alike eq x t) a) → ((a : ℕ × ℕ) → InRange t a.0 a.1 → cell u a.0 a.1 ≡ Some w) → IsFilled connectivity (alike eq x t) at w t u
+IsFilled-board eq x connectivity at w t u table table' size here all cells =
     record {
       filled = λ b n walk.
-          let v = alike_open eq x t table b (open_end kind (alike eq x t) n at b walk) in
+          let v = alike_open eq x t table b (open_end connectivity (alike eq x t) n at b walk) in
           cells b (cell_in_range t table b.0 b.1 v.0 v.1);
       kept = λ b none.
           let er = size.rows in
           let ec = size.cols in
           ⊎_elim (λ lr.
           ⊎_elim (λ lc.
-          let v = everywhere kind (alike eq x t) (row_count t) (col_count t) (λ a r c. all a (r, c)) at b here.0 here.1 lr lc in
+          let v = everywhere connectivity (alike eq x t) (row_count t) (col_count t) (λ a r c. all a (r, c)) at b here.0 here.1 lr lc in
           absurd (none v.0 v.1))
           (λ ge. past_cols u table' b.0 b.1 (omega arith) ∙ sym (past_cols t table b.0 b.1 ge))
           (cases_lt b.1 (col_count t)))

@@ -1,9 +1,9 @@
--- One position entered, and the positions round one.
+-- One position entered, and the positions around one.
 use Rattle.std.proofs.Common.{◌≡◌, ℕ, ◌+◌, ◌^◌, ◌<◌, ◌≤◌, ◌⊎◌, ◌↔◌, Option, None, Some, List, ◌∷◌, length, Contains, refl, sym, ◌∙◌, ap, subst, arith, inl, inr, ⊎_elim, IsPermutation}
 use Rattle.grid_paths.proofs.Common.{cases_lt, row_count, col_count, cell, with_cell, IsTable, cell-with_same, cell-with_other, same_or_other, AreSteps, IsAt, IsStep, Holds, Entry, IsWaiting, HoldsUpTo, IsClosed, Relaxes, IsFrontier, Enters, cell_in_range, Reading, Puts, sums_of, waiting}
 use Rattle.std.specs.declared.cmp.Ordering.{Ordering}
 use Rattle.grid_base.proofs.Common.{InRange}
-use Rattle.grid_near.specs.declared.steps.Steps.{Steps}
+use Rattle.grid_near.specs.declared.steps.Connectivity.{Connectivity}
 use Rattle.grid_paths.proofs.AroundLemmas.{Before, before_either, before_all}
 use Rattle.grid_paths.proofs.SearchLemmas.{one_mark}
 use Rattle.grid_paths.specs.Relaxing.{IsEntered}
@@ -232,9 +232,9 @@ module _ {N A : Type 0} {cmp : N → N → Ordering} {w : Reading N} {sum : ℕ}
     Enters-end all = Enters-as (Before xs i) (λ b. Contains xs b) (λ b k h. before_all xs i all b) g e
 
   -- positions in range are such as a grid can have
-  pub Enters-steps : (kind : Steps) (at : ℕ × ℕ) (xs : List (ℕ × ℕ)) → AreSteps kind at xs → (g : Frontier N A) → Enters cmp w (λ b. Contains xs b) sum f g → Enters cmp w (IsStep kind at) sum f g
-  Enters-steps kind at xs steps g e =
-      Enters-as (λ b. Contains xs b) (IsStep kind at)
+  pub Enters-steps : (connectivity : Connectivity) (at : ℕ × ℕ) (xs : List (ℕ × ℕ)) → AreSteps connectivity at xs → (g : Frontier N A) → Enters cmp w (λ b. Contains xs b) sum f g → Enters cmp w (IsStep connectivity at) sum f g
+  Enters-steps connectivity at xs steps g e =
+      Enters-as (λ b. Contains xs b) (IsStep connectivity at)
       (λ b k x.
       let i = left_inside f.left.rows f.left.table b k x in
       let lr = i.0 in

@@ -1,9 +1,9 @@
--- One position marked, those of a list, those round a position, and the start.
+-- One position marked, those of a list, those around a position, and the start.
 use Rattle.std.proofs.Common.{◌≡◌, ◌≢◌, ℕ, zero, suc, ◌+◌, ◌^◌, ◌<◌, ◌≤◌, ◌⊎◌, Bool, Option, None, Some, List, [], ◌∷◌, ◌++◌, length, Contains, set, get_or, refl, sym, ◌∙◌, ap, subst, arith, rules, inl, inr, ⊎_elim, ◌↔◌, sum_by, slice_get, length-append}
-use Rattle.grid_paths.proofs.Common.{cases_eq, cases_lt, sum_by-set, slice_get_within, slice_get_read, get_or_from_slice_get, row, cell, with_cell, tabulate, IsTable, IsFull, cell-tabulate, rows-tabulate, cell_past_rows, cell_past_cols, cell_in_range, cell-with_same, cell-with_other, IsOpen, IsStep, WalkFrom, IsMarked, IsAt, IsReached, Spread, WentRound, free, unreached, AreSteps, Marks, Spreads}
+use Rattle.grid_paths.proofs.Common.{cases_eq, cases_lt, sum_by-set, slice_get_within, slice_get_read, get_or_from_slice_get, row, cell, with_cell, tabulate, IsTable, IsFull, cell-tabulate, rows-tabulate, cell_past_rows, cell_past_cols, cell_in_range, cell-with_same, cell-with_other, IsOpen, IsStep, WalkFrom, IsMarked, IsAt, IsReached, Spread, WentAround, free, unreached, AreSteps, Marks, Spreads}
 use Rattle.grid_base.proofs.Common.{InRange}
-use Rattle.grid_near.specs.declared.steps.Steps.{Steps}
-use Rattle.grid_paths.specs.declared.wave.Wave.{Wave}
+use Rattle.grid_near.specs.declared.steps.Connectivity.{Connectivity}
+use Rattle.grid_paths.specs.declared.bfs.Bfs.{Bfs}
 use Rattle.grid_paths.proofs.AroundLemmas.{same_pair, Before, before_either, before_all, Contains-from_get}
 use Rattle.grid_paths.proofs.SearchLemmas.{IsSearch, one_mark, one_place, IsSearch-spread}
 
@@ -77,7 +77,7 @@ module _ (steps : List (List (Option ℕ))) (h : IsTable steps) (queue : List (�
       omega arith
 
 -- a position marked
-module _ {A : Type 0} {b : ℕ × ℕ} {k : ℕ} {w w' : Wave A} (is_free : cell w.numbers.rows b.0 b.1 ≡ Some None) (m : Marks b k w w') where
+module _ {A : Type 0} {b : ℕ × ℕ} {k : ℕ} {w w' : Bfs A} (is_free : cell w.numbers.rows b.0 b.1 ≡ Some None) (m : Marks b k w w') where
   inside : InRange w.numbers.rows b.0 b.1
   inside = cell_in_range w.numbers.rows w.numbers.table b.0 b.1 None is_free
 
@@ -90,8 +90,8 @@ module _ {A : Type 0} {b : ℕ × ℕ} {k : ℕ} {w w' : Wave A} (is_free : cell
   pub Marks-fewer : unreached w'.numbers.rows + 1 ≡ unreached w.numbers.rows
   Marks-fewer = ap (λ u. unreached u + 1) m.numbers ∙ unreached-with_cell w.numbers.rows w.numbers.table w.queue.items b k inside is_free
 
-  pub Spreads-mark : (floor : List (List Bool)) → IsOpen floor b → Spreads (λ a. b ≡ a) floor k w w'
-  Spreads-mark floor is_open =
+  pub Spreads-mark : (mask : List (List Bool)) → IsOpen mask b → Spreads (λ a. b ≡ a) mask k w w'
+  Spreads-mark mask is_open =
       let q = w.queue.items in
       let q' = w'.queue.items in
       let g = Marks-grew in
@@ -106,7 +106,7 @@ module _ {A : Type 0} {b : ℕ × ℕ} {k : ℕ} {w w' : Wave A} (is_free : cell
                 ⊎_elim (λ e.
                 inr (record {
                   is = e.1;
-                  is_open = subst (λ x. IsOpen floor x) (sym e.0) is_open;
+                  is_open = subst (λ x. IsOpen mask x) (sym e.0) is_open;
                   is_near = sym e.0;
                   queued = (length q, omega arith, subst (λ x. IsAt q' (length q) x) (sym e.0) g.here_at);
                 }))
@@ -126,9 +126,9 @@ module _ {A : Type 0} {b : ℕ × ℕ} {k : ℕ} {w w' : Wave A} (is_free : cell
         };
       }
 
-module _ {A : Type 0} {floor : List (List Bool)} {k : ℕ} where
+module _ {A : Type 0} {mask : List (List Bool)} {k : ℕ} where
   -- no position is marked where the near ones that are open have a number
-  pub Spreads-stay : (near : ℕ × ℕ → Type 0) (w : Wave A) → ((b : ℕ × ℕ) → near b → IsOpen floor b → (m : ℕ) × IsMarked w.numbers.rows b m) → Spreads near floor k w w
+  pub Spreads-stay : (near : ℕ × ℕ → Type 0) (w : Bfs A) → ((b : ℕ × ℕ) → near b → IsOpen mask b → (m : ℕ) × IsMarked w.numbers.rows b m) → Spreads near mask k w w
   Spreads-stay near w around =
       record {
         same = record { rows = refl; cols = refl; order = refl };
@@ -147,14 +147,14 @@ module _ {A : Type 0} {floor : List (List Bool)} {k : ℕ} where
       }
 
   -- some positions and then others
-  module _ {near0 near1 : ℕ × ℕ → Type 0} {w0 w1 w2 : Wave A} (e0 : Spreads near0 floor k w0 w1) (e1 : Spreads near1 floor k w1 w2) where
-    s : Spread near0 floor k w0.numbers.rows w0.queue.items w1.numbers.rows w1.queue.items
+  module _ {near0 near1 : ℕ × ℕ → Type 0} {w0 w1 w2 : Bfs A} (e0 : Spreads near0 mask k w0 w1) (e1 : Spreads near1 mask k w1 w2) where
+    s : Spread near0 mask k w0.numbers.rows w0.queue.items w1.numbers.rows w1.queue.items
     s = e0.round.spread
 
-    t : Spread near1 floor k w1.numbers.rows w1.queue.items w2.numbers.rows w2.queue.items
+    t : Spread near1 mask k w1.numbers.rows w1.queue.items w2.numbers.rows w2.queue.items
     t = e1.round.spread
 
-    fresh : (a : ℕ × ℕ) (m : ℕ) → IsMarked w2.numbers.rows a m → IsMarked w0.numbers.rows a m ⊎ IsReached (λ a. near0 a ⊎ near1 a) floor k w0.queue.items w2.queue.items a m
+    fresh : (a : ℕ × ℕ) (m : ℕ) → IsMarked w2.numbers.rows a m → IsMarked w0.numbers.rows a m ⊎ IsReached (λ a. near0 a ⊎ near1 a) mask k w0.queue.items w2.queue.items a m
     fresh a m h =
         let le = s.longer in
         ⊎_elim (λ h1.
@@ -166,7 +166,7 @@ module _ {A : Type 0} {floor : List (List Bool)} {k : ℕ} where
         inr (record { is = f.is; is_open = f.is_open; is_near = inr f.is_near; queued = (v.0, omega arith, v.2) }))
         (t.fresh a m h)
 
-    Spreads-join : Spreads (λ a. near0 a ⊎ near1 a) floor k w0 w2
+    Spreads-join : Spreads (λ a. near0 a ⊎ near1 a) mask k w0 w2
     Spreads-join =
         let le = s.longer in
         let le2 = t.longer in
@@ -188,7 +188,7 @@ module _ {A : Type 0} {floor : List (List Bool)} {k : ℕ} where
         }
 
   -- the same seen as positions that are near in another sense, where they are open and not reached before
-  Spreads-as : (near wide : ℕ × ℕ → Type 0) {w w' : Wave A} → ((b : ℕ × ℕ) → IsOpen floor b → (near b ↔ wide b) ⊎ ((m : ℕ) × IsMarked w.numbers.rows b m)) → Spreads near floor k w w' → Spreads wide floor k w w'
+  Spreads-as : (near wide : ℕ × ℕ → Type 0) {w w' : Bfs A} → ((b : ℕ × ℕ) → IsOpen mask b → (near b ↔ wide b) ⊎ ((m : ℕ) × IsMarked w.numbers.rows b m)) → Spreads near mask k w w' → Spreads wide mask k w w'
   Spreads-as near wide {w = w} {w' = w'} same e =
       let s = e.round.spread in
       record {
@@ -215,30 +215,30 @@ module _ {A : Type 0} {floor : List (List Bool)} {k : ℕ} where
       }
 
   -- the positions of a list, one after another
-  pub Spreads-start : (xs : List (ℕ × ℕ)) (w : Wave A) → Spreads (Before xs 0) floor k w w
+  pub Spreads-start : (xs : List (ℕ × ℕ)) (w : Bfs A) → Spreads (Before xs 0) mask k w w
   Spreads-start xs w = Spreads-stay (Before xs 0) w (λ b h o. absurd (omega (arith, h.early)))
 
-  module _ {xs : List (ℕ × ℕ)} {i : ℕ} {w0 w1 : Wave A} (e : Spreads (Before xs i) floor k w0 w1) where
-    pub Spreads-next : {b : ℕ × ℕ} {w2 : Wave A} → IsAt xs i b → Spreads (λ a. b ≡ a) floor k w1 w2 → Spreads (Before xs (i + 1)) floor k w0 w2
+  module _ {xs : List (ℕ × ℕ)} {i : ℕ} {w0 w1 : Bfs A} (e : Spreads (Before xs i) mask k w0 w1) where
+    pub Spreads-next : {b : ℕ × ℕ} {w2 : Bfs A} → IsAt xs i b → Spreads (λ a. b ≡ a) mask k w1 w2 → Spreads (Before xs (i + 1)) mask k w0 w2
     Spreads-next {b = b} place s =
         Spreads-as (λ a. Before xs i a ⊎ (b ≡ a)) (Before xs (i + 1)) (λ a o. inl (before_either xs i b place a)) (Spreads-join e s)
 
-    pub Spreads-end : length xs ≤ i → Spreads (λ b. Contains xs b) floor k w0 w1
+    pub Spreads-end : length xs ≤ i → Spreads (λ b. Contains xs b) mask k w0 w1
     Spreads-end all = Spreads-as (Before xs i) (λ b. Contains xs b) (λ b o. inl (before_all xs i all b)) e
 
   -- the positions that a grid can have
-  pub Spreads-steps : (kind : Steps) (at : ℕ × ℕ) (xs : List (ℕ × ℕ)) {w w' : Wave A} → AreSteps kind at xs → ((b : ℕ × ℕ) → IsOpen floor b → ((b.0 + 1 < 2 ^ 64) × (b.1 + 1 < 2 ^ 64)) ⊎ ((m : ℕ) × IsMarked w.numbers.rows b m)) → Spreads (λ b. Contains xs b) floor k w w' → Spreads (IsStep kind at) floor k w w'
-  Spreads-steps kind at xs steps fits e =
-      Spreads-as (λ b. Contains xs b) (IsStep kind at) (λ b o. ⊎_elim (λ f. inl (steps b f.0 f.1)) (λ old. inr old) (fits b o)) e
+  pub Spreads-steps : (connectivity : Connectivity) (at : ℕ × ℕ) (xs : List (ℕ × ℕ)) {w w' : Bfs A} → AreSteps connectivity at xs → ((b : ℕ × ℕ) → IsOpen mask b → ((b.0 + 1 < 2 ^ 64) × (b.1 + 1 < 2 ^ 64)) ⊎ ((m : ℕ) × IsMarked w.numbers.rows b m)) → Spreads (λ b. Contains xs b) mask k w w' → Spreads (IsStep connectivity at) mask k w w'
+  Spreads-steps connectivity at xs steps fits e =
+      Spreads-as (λ b. Contains xs b) (IsStep connectivity at) (λ b o. ⊎_elim (λ f. inl (steps b f.0 f.1)) (λ old. inr old) (fits b o)) e
 
 -- the start: the first positions reached by no step, those that are open
-pub record IsStarted (kind : Steps) (floor : List (List Bool)) (starts : List (ℕ × ℕ)) (steps : List (List (Option ℕ))) (queue : List (ℕ × ℕ)) (done : ℕ) : Type 0 where
-  pub search : IsSearch kind floor starts steps queue 0
+pub record IsStarted (connectivity : Connectivity) (mask : List (List Bool)) (starts : List (ℕ × ℕ)) (steps : List (List (Option ℕ))) (queue : List (ℕ × ℕ)) (done : ℕ) : Type 0 where
+  pub search : IsSearch connectivity mask starts steps queue 0
   pub zeros : (a : ℕ × ℕ) (m : ℕ) → IsMarked steps a m → m ≡ 0
-  pub start : (j : ℕ) (from : ℕ × ℕ) → j < done → slice_get starts j ≡ Some from → IsOpen floor from → IsMarked steps from 0
+  pub start : (j : ℕ) (from : ℕ × ℕ) → j < done → slice_get starts j ≡ Some from → IsOpen mask from → IsMarked steps from 0
 
-module _ (kind : Steps) (floor : List (List Bool)) (starts : List (ℕ × ℕ)) (d0 : List (List (Option ℕ))) where
-  pub IsStarted-empty : ((a : ℕ × ℕ) (m : ℕ) → IsMarked d0 a m → ⊥) → IsStarted kind floor starts d0 [] 0
+module _ (connectivity : Connectivity) (mask : List (List Bool)) (starts : List (ℕ × ℕ)) (d0 : List (List (Option ℕ))) where
+  pub IsStarted-empty : ((a : ℕ × ℕ) (m : ℕ) → IsMarked d0 a m → ⊥) → IsStarted connectivity mask starts d0 [] 0
   IsStarted-empty none =
       record {
         search = record {
@@ -256,43 +256,43 @@ module _ (kind : Steps) (floor : List (List Bool)) (starts : List (ℕ × ℕ)) 
       nowhere : (j : ℕ) (a : ℕ × ℕ) → IsAt [] j a → ⊥
       nowhere j a h = cc
 
-  module _ (q0 : List (ℕ × ℕ)) (done : ℕ) (from : ℕ × ℕ) (d1 : List (List (Option ℕ))) (q1 : List (ℕ × ℕ)) (s : IsStarted kind floor starts d0 q0 done) (place : slice_get starts done ≡ Some from)
-      (r : WentRound (λ a. from ≡ a) floor 0 d0 q0 d1 q1) where
-    g : Spread (λ a. from ≡ a) floor 0 d0 q0 d1 q1
+  module _ (q0 : List (ℕ × ℕ)) (done : ℕ) (from : ℕ × ℕ) (d1 : List (List (Option ℕ))) (q1 : List (ℕ × ℕ)) (s : IsStarted connectivity mask starts d0 q0 done) (place : slice_get starts done ≡ Some from)
+      (r : WentAround (λ a. from ≡ a) mask 0 d0 q0 d1 q1) where
+    g : Spread (λ a. from ≡ a) mask 0 d0 q0 d1 q1
     g = r.spread
 
     zeros' : (a : ℕ × ℕ) (m : ℕ) → IsMarked d1 a m → m ≡ 0
     zeros' a m h = ⊎_elim (λ h0. s.zeros a m h0) (λ f. f.is) (g.fresh a m h)
 
-    way : (b : ℕ × ℕ) → from ≡ b → IsOpen floor b → WalkFrom kind floor starts b 0
+    way : (b : ℕ × ℕ) → from ≡ b → IsOpen mask b → WalkFrom connectivity mask starts b 0
     way b e is_open =
-        let here : IsOpen floor from = subst (λ x. IsOpen floor x) (sym e) is_open in
+        let here : IsOpen mask from = subst (λ x. IsOpen mask x) (sym e) is_open in
         (from, Contains-from_get starts done from place, (e, is_open))
 
-    search' : IsSearch kind floor starts d1 q1 0
+    search' : IsSearch connectivity mask starts d1 q1 0
     search' =
-        IsSearch-spread kind floor starts (λ a. from ≡ a) d0 q0 d1 q1 0 0 s.search g (omega arith) way
+        IsSearch-spread connectivity mask starts (λ a. from ≡ a) d0 q0 d1 q1 0 0 s.search g (omega arith) way
         (λ a m h. let z : m ≡ 0 = s.zeros a m h in omega arith)
         (λ j a n le h m. omega arith) (omega arith)
 
-    start' : (j : ℕ) (a : ℕ × ℕ) → j < done + 1 → slice_get starts j ≡ Some a → IsOpen floor a → IsMarked d1 a 0
+    start' : (j : ℕ) (a : ℕ × ℕ) → j < done + 1 → slice_get starts j ≡ Some a → IsOpen mask a → IsMarked d1 a 0
     start' j a lt e is_open =
         ⊎_elim (λ less. g.kept a 0 (s.start j a less e is_open))
         (λ ge.
         let j_is : j ≡ done = omega arith in
         let e1 : slice_get starts done ≡ Some a = subst (λ x. slice_get starts x ≡ Some a) j_is e in
         let a_is : a ≡ from = one_place starts done a from e1 place in
-        let v = r.around from refl (subst (λ x. IsOpen floor x) a_is is_open) in
+        let v = r.around from refl (subst (λ x. IsOpen mask x) a_is is_open) in
         let z : v.0 ≡ 0 = zeros' from v.0 v.1 in
         subst (λ x. IsMarked d1 x 0) (sym a_is) (subst (λ x. IsMarked d1 from x) z v.1))
         (cases_lt j done)
 
-    pub IsStarted-reach : IsStarted kind floor starts d1 q1 (done + 1)
+    pub IsStarted-reach : IsStarted connectivity mask starts d1 q1 (done + 1)
     IsStarted-reach = record { search = search'; zeros = zeros'; start = start' }
 
 -- once all are reached
-pub started_all : (kind : Steps) (floor : List (List Bool)) (starts : List (ℕ × ℕ)) (steps : List (List (Option ℕ))) (queue : List (ℕ × ℕ)) (done : ℕ) → IsStarted kind floor starts steps queue done → length starts ≤ done → (from : ℕ × ℕ) → Contains starts from → IsOpen floor from → IsMarked steps from 0
-started_all kind floor starts steps queue done s le from is is_open =
+pub started_all : (connectivity : Connectivity) (mask : List (List Bool)) (starts : List (ℕ × ℕ)) (steps : List (List (Option ℕ))) (queue : List (ℕ × ℕ)) (done : ℕ) → IsStarted connectivity mask starts steps queue done → length starts ≤ done → (from : ℕ × ℕ) → Contains starts from → IsOpen mask from → IsMarked steps from 0
+started_all connectivity mask starts steps queue done s le from is is_open =
     let lt : is.0 < length starts = is.1 in
     let e : slice_get starts is.0 ≡ Some from = slice_get_read starts (length starts) is.0 from refl lt (sym is.2) in
     s.start is.0 from (omega arith) e is_open

@@ -3,7 +3,7 @@ use Rattle.std.proofs.Common.{◌≡◌, ◌≢◌, ℕ, suc, ◌+◌, ◌<◌, 
 use Rattle.grid_paths.proofs.Common.{cases_lt, set_past, set-get_or, sum_by-set, slice_get_within, get_or_from_slice_get, row, row_count, col_count, cell, with_cell, IsTable, GridValue, cell_in_range, cell-with_same, cell-with_other, same_or_other, IsStep, IsAt, undone, flag, IsLeft, count_left, AreMarked, TakesAll, CanUndo, AreSteps}
 use Rattle.grid_base.proofs.Common.{InRange}
 use Rattle.grid.proofs.CellWriteLemmas.{with_cell_back}
-use Rattle.grid_near.specs.declared.steps.Steps.{Steps}
+use Rattle.grid_near.specs.declared.steps.Connectivity.{Connectivity}
 use Rattle.grid_paths.specs.declared.taken.Enter.{Enter}
 use Rattle.grid_paths.specs.declared.taken.Enter.TheVariants.{No, Stop, On}
 use Rattle.grid_paths.specs.declared.taken.Taking.{Taking}
@@ -161,16 +161,16 @@ module _ {T : Type 0} {way : T → Enter} {mark : T} where
       }
 
   -- the positions that a step leads to, if the search goes on: those in range are such as a grid can have
-  pub TakesAll-steps : (kind : Steps) (from : (ℕ × ℕ) × T) (xs : List (ℕ × ℕ)) (t : GridValue T) {q : List ((ℕ × ℕ) × T)} {t' : List (List T)} {q' : List ((ℕ × ℕ) × T)} → AreSteps kind from.0 xs → way from.1 ≡ On → TakesAll way mark (λ a. Contains xs a) t.rows q t' q' → TakesAll way mark (λ a. (way from.1 ≡ On) × IsStep kind from.0 a) t.rows q t' q'
-  TakesAll-steps kind from xs t steps on s =
-      TakesAll-as (λ a. Contains xs a) (λ a. (way from.1 ≡ On) × IsStep kind from.0 a)
+  pub TakesAll-steps : (connectivity : Connectivity) (from : (ℕ × ℕ) × T) (xs : List (ℕ × ℕ)) (t : GridValue T) {q : List ((ℕ × ℕ) × T)} {t' : List (List T)} {q' : List ((ℕ × ℕ) × T)} → AreSteps connectivity from.0 xs → way from.1 ≡ On → TakesAll way mark (λ a. Contains xs a) t.rows q t' q' → TakesAll way mark (λ a. (way from.1 ≡ On) × IsStep connectivity from.0 a) t.rows q t' q'
+  TakesAll-steps connectivity from xs t steps on s =
+      TakesAll-as (λ a. Contains xs a) (λ a. (way from.1 ≡ On) × IsStep connectivity from.0 a)
       (λ a x l.
       let i = cell_in_range t.rows t.table a.0 a.1 x l.0 in
       let lr = i.0 in
       let lc = i.1 in
       let rows = t.fits.rows in
       let cols = t.fits.cols in
-      let same : Contains xs a ↔ IsStep kind from.0 a = steps a (omega arith) (omega arith) in
+      let same : Contains xs a ↔ IsStep connectivity from.0 a = steps a (omega arith) (omega arith) in
       (λ h. (on, same.0 h), λ h. same.1 h.1))
       s
 

@@ -1,7 +1,7 @@
 -- Walks that go on from some cells, and end at others.
 use Rattle.std.specs.Prelude.{◌≡◌, ◌≢◌, ℕ, zero, suc, Bool, cond, Option, None, Some, List, Contains, slice_get}
 use Rattle.grid_base.specs.Table.{cell}
-use Rattle.grid_near.specs.declared.steps.Steps.{Steps}
+use Rattle.grid_near.specs.declared.steps.Connectivity.{Connectivity}
 use Rattle.grid_paths.specs.declared.taken.Enter.{Enter}
 use Rattle.grid_paths.specs.declared.taken.Enter.TheVariants.{No, Stop, On}
 use Rattle.grid_paths.specs.Walks.{IsStep}
@@ -14,11 +14,11 @@ IsEntered ways at = (way : Enter) × (cell ways at.0 at.1 ≡ Some way) × (way 
 abbrev pub IsGoneOn : List (List Enter) → ℕ × ℕ → Type 0
 IsGoneOn ways at = cell ways at.0 at.1 ≡ Some On
 
-module _ (kind : Steps) (ways : List (List Enter)) where
+module _ (connectivity : Connectivity) (ways : List (List Enter)) where
   -- a walk of n steps from a to b: all positions are entered, and those before b gone on from
   abbrev pub EnterWalk : ℕ × ℕ → ℕ × ℕ → ℕ → Type 0
   EnterWalk a b zero = (a ≡ b) × IsEntered ways b
-  EnterWalk a b (suc n) = (c : ℕ × ℕ) × EnterWalk a c n × IsGoneOn ways c × IsStep kind c b
+  EnterWalk a b (suc n) = (c : ℕ × ℕ) × EnterWalk a c n × IsGoneOn ways c × IsStep connectivity c b
       × IsEntered ways b
 
   -- the positions that such a walk from one of the starts leads to, each once

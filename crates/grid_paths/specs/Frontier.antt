@@ -7,7 +7,7 @@ use Rattle.std.specs.declared.cmp.Reverse.{Reverse}
 use Rattle.std.specs.Ordering.{ordering_then}
 use Rattle.grid_base.specs.GridValue.{GridValue, SameSizeAndOrder}
 use Rattle.grid_base.specs.Table.{row_count, col_count, with_cell, InRange}
-use Rattle.grid_near.specs.declared.steps.Steps.{Steps}
+use Rattle.grid_near.specs.declared.steps.Connectivity.{Connectivity}
 use Rattle.grid_paths.specs.declared.costs.Frontier.{Frontier}
 use Rattle.grid_paths.specs.declared.costs.Settled.{Settled}
 use Rattle.grid_paths.specs.Search.{HaveOneSize}
@@ -39,9 +39,9 @@ module _ {N A : Type 0} where
 
   -- what waits in f and not in `heap` was settled before
   abbrev pub IsEnough : Reading N → Frontier N A → List Entry → Type 0
-  IsEnough w f heap = (kind : Steps) (costs : List (List (Option ℕ))) (from : ℕ × ℕ)
-      → IsCostSearch kind costs from (sums_of w f) f.left.rows (waiting w f)
-      → IsCostSearch kind costs from (sums_of w f) f.left.rows heap
+  IsEnough w f heap = (connectivity : Connectivity) (costs : List (List (Option ℕ))) (from : ℕ × ℕ)
+      → IsCostSearch connectivity costs from (sums_of w f) f.left.rows (waiting w f)
+      → IsCostSearch connectivity costs from (sums_of w f) f.left.rows heap
 
   -- nothing waited
   pub record IsEmptied (w : Reading N) (f f' : Frontier N A) : Type 0 where
@@ -61,7 +61,7 @@ module _ {N A : Type 0} (cmp : N → N → Ordering) (w : Reading N) where
     pub cols : col_count f.left.rows < w.side
     pub heap_order : IsHeap (by_sum cmp) (heap_items f.heap)
 
-  -- the position `at` got the number `sum`, and waits with it
+  -- the position `at` got the sum `sum`, and waits with it
   pub record Puts (at : ℕ × ℕ) (sum : ℕ) (f f' : Frontier N A) : Type 0 where
     pub left : f'.left ≡ f.left
     pub same : SameSizeAndOrder f.sums f'.sums
@@ -89,7 +89,7 @@ module _ {N A : Type 0} (cmp : N → N → Ordering) (w : Reading N) where
     pub relaxes : Relaxes near f.left.rows sum (sums_of w f) (waiting w f) (sums_of w f')
         (waiting w f')
 
-  -- those round x can be entered
+  -- those around x can be entered
   pub record IsReady (f : Frontier N A) (x : Settled) : Type 0 where
     pub inside : InRange f.left.rows x.at.0 x.at.1
     pub small : x.sum + 2 ^ 32 ≤ 2 ^ 128
@@ -109,10 +109,10 @@ module _ {N A : Type 0} (cmp : N → N → Ordering) (w : Reading N) where
     pub whole : IsFrontier f'
 
   -- the search has come so far
-  pub record IsSearching (kind : Steps) (costs : GridValue (Option ℕ)) (from : ℕ × ℕ)
+  pub record IsSearching (connectivity : Connectivity) (costs : GridValue (Option ℕ)) (from : ℕ × ℕ)
       (f : Frontier N A) : Type 0 where
     pub order : f.sums.order ≡ costs.order
     pub left : HaveOneSize f.left.rows costs.rows
     pub room : HasRoom w costs.rows
     pub whole : IsFrontier f
-    pub search : IsCostSearch kind costs.rows from (sums_of w f) f.left.rows (waiting w f)
+    pub search : IsCostSearch connectivity costs.rows from (sums_of w f) f.left.rows (waiting w f)

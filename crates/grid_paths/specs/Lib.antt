@@ -12,5 +12,5 @@ pub mod Width
 pub mod Frontier
 pub mod Trail
 pub mod Kept
-pub mod Wave
+pub mod Bfs
 pub mod Prelude

@@ -2,19 +2,20 @@
 use Rattle.std.specs.Prelude.{◌≡◌, ℕ, ◌<◌, ◌⊎◌, Bool, true, Option, Some, List}
 use Rattle.std.specs.Cmp.{IsEquivalence}
 use Rattle.grid_base.specs.Table.{cell, InRange}
-use Rattle.grid_near.specs.declared.steps.Steps.{Steps}
+use Rattle.grid_near.specs.declared.steps.Connectivity.{Connectivity}
 use Rattle.grid_paths.specs.Walks.{IsOpen, IsStep, Walk}
 use Rattle.grid_paths.specs.Search.{IsMarked}
 use Rattle.grid_paths.specs.Regions.{AreJoined, ComesBefore}
 
--- the positions that an open walk from p leads to over positions without a number got the number k
-pub record IsNumbered (kind : Steps) (floor : List (List Bool)) (p : ℕ × ℕ) (k : ℕ)
+-- the positions that an open walk from p leads to over positions without a label got the label k
+pub record IsNumbered (connectivity : Connectivity) (mask : List (List Bool)) (p : ℕ × ℕ) (k : ℕ)
     (u u' : List (List (Option ℕ))) : Type 0 where
   pub kept : (a : ℕ × ℕ) (m : ℕ) → IsMarked u a m → IsMarked u' a m
   pub is : (a : ℕ × ℕ) (m : ℕ) → IsMarked u' a m → IsMarked u a m ⊎ (m ≡ k)
-  pub walk : (a : ℕ × ℕ) → IsMarked u' a k → IsOpen floor p → (n : ℕ) × Walk kind floor p a n
+  pub walk : (a : ℕ × ℕ) → IsMarked u' a k → IsOpen mask p
+      → (n : ℕ) × Walk connectivity mask p a n
   pub here : IsMarked u' p k
-  pub spread : (a b : ℕ × ℕ) → IsMarked u' a k → IsStep kind a b → IsOpen floor b
+  pub spread : (a b : ℕ × ℕ) → IsMarked u' a k → IsStep connectivity a b → IsOpen mask b
       → (m : ℕ) × IsMarked u' b m
 
 module _ {T : Type 0} (eq : T → T → Bool) (t : List (List T)) where
@@ -26,14 +27,16 @@ module _ {T : Type 0} (eq : T → T → Bool) (t : List (List T)) where
     pub second : cell t b.0 b.1 ≡ Some y
     pub equal : eq y x ≡ true
 
-module _ (kind : Steps) {T : Type 0} (eq : T → T → Bool) (t : List (List T)) where
-  -- each number is one whole region
+module _ (connectivity : Connectivity) {T : Type 0} (eq : T → T → Bool) (t : List (List T)) where
+  -- each label is one whole region
   pub record AreParts (u : List (List (Option ℕ))) : Type 0 where
-    pub closed : (a b : ℕ × ℕ) (m : ℕ) → IsStep kind a b → AreEqual eq t a b → IsMarked u a m
+    pub closed : (a b : ℕ × ℕ) (m : ℕ) → IsStep connectivity a b → AreEqual eq t a b
+        → IsMarked u a m
         → IsMarked u b m
-    pub one : (a b : ℕ × ℕ) (m : ℕ) → IsMarked u a m → IsMarked u b m → AreJoined kind eq t a b
+    pub one : (a b : ℕ × ℕ) (m : ℕ) → IsMarked u a m → IsMarked u b m
+        → AreJoined connectivity eq t a b
 
-  -- the regions of the positions before p, row by row, have the numbers below the count
+  -- the regions of the positions before p, row by row, have the labels below the count
   pub record IsScanned (u : List (List (Option ℕ))) (count : ℕ) (p : ℕ × ℕ) : Type 0 where
     pub below : (a : ℕ × ℕ) (m : ℕ) → IsMarked u a m → m < count
     pub used : (k : ℕ) → k < count → (b : ℕ × ℕ) × ComesBefore b p × IsMarked u b k

@@ -12,6 +12,6 @@ pub use Rattle.grid_paths.specs.Search.{HaveOneSize, IsMarked, unreached, HasLea
 pub use Rattle.grid_paths.specs.Taken.{places, undone, IsWritten, CanUndo, IsPassed, Takes}
 pub use Rattle.grid_paths.specs.Trail.{IsTrail}
 pub use Rattle.grid_paths.specs.Walks.{IsStep, IsOpen, IsPath, Walk, IsShortestPath, IsFilled, alike, HasLeastSteps, HasLeastFrom}
-pub use Rattle.grid_paths.specs.Wave.{IsCounting, Numbers, floor_of, Reaches, IsBlank, Marks}
+pub use Rattle.grid_paths.specs.Bfs.{IsCounting, Numbers, mask_of, Reaches, IsBlank, Marks}
 pub use Rattle.grid_paths.specs.Width.{Reading, narrow, wide, numbers, HasRoom, limit_of, side_of}
 pub use Rattle.std.specs.Cmp.{IsEquivalence}

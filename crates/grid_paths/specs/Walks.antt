@@ -2,11 +2,11 @@
 -- touches.
 use Rattle.std.specs.Prelude.{◌≡◌, ℕ, zero, suc, ◌+◌, ◌-◌, ◌≤◌, ◌⊎◌, Bool, true, Option, Some, List, length, Contains, slice_get}
 use Rattle.grid_base.specs.Table.{cell}
-use Rattle.grid_near.specs.declared.steps.Steps.{Steps}
-use Rattle.grid_near.specs.declared.steps.Steps.TheVariants.{Sides, All}
+use Rattle.grid_near.specs.declared.steps.Connectivity.{Connectivity}
+use Rattle.grid_near.specs.declared.steps.Connectivity.TheVariants.{Four, Eight}
 use Rattle.grid_paths.specs.Closures.{answers_by}
 
--- two numbers differ by one
+-- two indices differ by one
 abbrev pub DifferByOne : ℕ → ℕ → Type 0
 DifferByOne m n = (m + 1 ≡ n) ⊎ (n + 1 ≡ m)
 
@@ -19,27 +19,26 @@ abbrev pub AreDiagonal : ℕ × ℕ → ℕ × ℕ → Type 0
 AreDiagonal a b = DifferByOne a.0 b.0 × DifferByOne a.1 b.1
 
 -- a step leads from one position to the other
-abbrev pub IsStep : Steps → ℕ × ℕ → ℕ × ℕ → Type 0
-IsStep Sides a b = AreBeside a b
-IsStep All a b = AreBeside a b ⊎ AreDiagonal a b
+abbrev pub IsStep : Connectivity → ℕ × ℕ → ℕ × ℕ → Type 0
+IsStep Four a b = AreBeside a b
+IsStep Eight a b = AreBeside a b ⊎ AreDiagonal a b
 
 -- an open position of the table
 abbrev pub IsOpen : List (List Bool) → ℕ × ℕ → Type 0
-IsOpen floor at = cell floor at.0 at.1 ≡ Some true
+IsOpen mask at = cell mask at.0 at.1 ≡ Some true
 
-module _ (kind : Steps) (floor : List (List Bool)) where
+module _ (connectivity : Connectivity) (mask : List (List Bool)) where
   -- a walk of n steps from a to b over open positions
   abbrev pub Walk : ℕ × ℕ → ℕ × ℕ → ℕ → Type 0
-  Walk a b zero = (a ≡ b) × IsOpen floor b
-  Walk a b (suc n) = (c : ℕ × ℕ) × Walk a c n × IsStep kind c b × IsOpen floor b
+  Walk a b zero = (a ≡ b) × IsOpen mask b
+  Walk a b (suc n) = (c : ℕ × ℕ) × Walk a c n × IsStep connectivity c b × IsOpen mask b
 
   -- there is a walk of k steps, and none of fewer
   pub record IsLeastSteps (a b : ℕ × ℕ) (k : ℕ) : Type 0 where
     pub walk : Walk a b k
     pub least : (n : ℕ) → Walk a b n → k ≤ n
 
-  -- u has a number at each position that a walk leads to, the least number of steps; it has None at
-  -- the others
+  -- u has a step count at each position that a walk leads to, the least; it has None at the others
   pub record HasLeastSteps (from : ℕ × ℕ) (u : List (List (Option ℕ))) : Type 0 where
     pub found : (at : ℕ × ℕ) (n : ℕ) → Walk from at n → (k : ℕ) × (cell u at.0 at.1 ≡ Some (Some k))
     pub least : (at : ℕ × ℕ) (k : ℕ) → cell u at.0 at.1 ≡ Some (Some k) → IsLeastSteps from at k
@@ -53,8 +52,8 @@ module _ (kind : Steps) (floor : List (List Bool)) where
     pub walk : WalkFrom starts at k
     pub least : (n : ℕ) → WalkFrom starts at n → k ≤ n
 
-  -- u has a number at each position that a walk from one of them leads to, the least number of
-  -- steps from any of them; it has None at the others
+  -- u has a step count at each position that a walk from one of them leads to, the least from any
+  -- of them; it has None at the others
   pub record HasLeastFrom (starts : List (ℕ × ℕ)) (u : List (List (Option ℕ))) : Type 0 where
     pub found : (at : ℕ × ℕ) (n : ℕ) → WalkFrom starts at n
         → (k : ℕ) × (cell u at.0 at.1 ≡ Some (Some k))
@@ -65,21 +64,22 @@ abbrev pub passing : {T : Type 0} → (T → Bool) → List (List T) → List (L
 passing p t = answers_by p t
 
 -- a list of positions from one to another: each is open, and a step leads to it from the one before
-pub record IsPath (kind : Steps) (floor : List (List Bool)) (from to : ℕ × ℕ) (path : List (ℕ × ℕ))
+pub record IsPath (connectivity : Connectivity) (mask : List (List Bool)) (from to : ℕ × ℕ)
+    (path : List (ℕ × ℕ))
     : Type 0 where
   pub first : slice_get path 0 ≡ Some from
   pub last : slice_get path (length path - 1) ≡ Some to
-  pub all_open : (j : ℕ) (a : ℕ × ℕ) → slice_get path j ≡ Some a → IsOpen floor a
+  pub all_open : (j : ℕ) (a : ℕ × ℕ) → slice_get path j ≡ Some a → IsOpen mask a
   pub each_step : (j : ℕ) (a b : ℕ × ℕ) → slice_get path j ≡ Some a
       → slice_get path (j + 1) ≡ Some b
-      → IsStep kind a b
+      → IsStep connectivity a b
 
 -- and none is shorter
-pub record IsShortestPath (kind : Steps) (floor : List (List Bool)) (from to : ℕ × ℕ)
+pub record IsShortestPath (connectivity : Connectivity) (mask : List (List Bool)) (from to : ℕ × ℕ)
     (path : List (ℕ × ℕ)) : Type 0
   where
-    pub leads : IsPath kind floor from to path
-    pub shortest : (other : List (ℕ × ℕ)) → IsPath kind floor from to other
+    pub leads : IsPath connectivity mask from to path
+    pub shortest : (other : List (ℕ × ℕ)) → IsPath connectivity mask from to other
         → length path ≤ length other
 
 -- which cells equal x
@@ -87,9 +87,10 @@ abbrev pub alike : {T : Type 0} → (T → T → Bool) → T → List (List T) �
 alike eq x t = passing (λ y. eq y x) t
 
 -- u is t with w at each position that a walk from `at` leads to
-pub record IsFilled {T : Type 0} (kind : Steps) (floor : List (List Bool)) (at : ℕ × ℕ) (w : T)
+pub record IsFilled {T : Type 0} (connectivity : Connectivity) (mask : List (List Bool))
+    (at : ℕ × ℕ) (w : T)
     (t u : List (List T)) : Type 0
   where
-    pub filled : (b : ℕ × ℕ) (n : ℕ) → Walk kind floor at b n → cell u b.0 b.1 ≡ Some w
-    pub kept : (b : ℕ × ℕ) → ((n : ℕ) → Walk kind floor at b n → ⊥)
+    pub filled : (b : ℕ × ℕ) (n : ℕ) → Walk connectivity mask at b n → cell u b.0 b.1 ≡ Some w
+    pub kept : (b : ℕ × ℕ) → ((n : ℕ) → Walk connectivity mask at b n → ⊥)
         → cell u b.0 b.1 ≡ cell t b.0 b.1

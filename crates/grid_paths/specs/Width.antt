@@ -1,9 +1,9 @@
--- The numbers in which a search for the least costs counts. No public clause cites this module.
+-- The integers in which a search for the least costs counts. No public clause cites this module.
 use Rattle.std.specs.Prelude.{ℕ, ◌+◌, ◌*◌, ◌/◌, ◌%◌, ◌^◌, ◌<◌, ◌≤◌, ◌==◌, Option, None, Some, List, map, cond}
 use Rattle.grid_base.specs.Table.{row_count, col_count}
 
--- what numbers of a type stand for: each has a value, and is a sum or none, and a position. Sums are
--- below `limit`, and rows and columns below `side`
+-- what integers of a type stand for: each has a value, and is a sum or none, and a position. Sums
+-- are below `limit`, and rows and columns below `side`
 pub record Reading (N : Type 0) : Type 0 where
   pub value : N → ℕ
   pub number : N → Option ℕ
@@ -11,7 +11,7 @@ pub record Reading (N : Type 0) : Type 0 where
   pub limit : ℕ
   pub side : ℕ
 
--- in 64 bits, where the greatest number stands for no sum
+-- in 64 bits, where the greatest integer stands for no sum
 abbrev pub narrow : Reading ℕ
 narrow =
     record {

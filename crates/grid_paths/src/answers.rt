@@ -1,4 +1,4 @@
-//! Grids of the size and the order of another: of what a closure returns at its cells, and of nothing yet.
+//! Grids of the same size and order as another: of what a closure returns at its cells, and blank ones.
 ghost use Rattle.std.specs.Prelude.{◌≡◌, ℕ, IfOk, None, Some};
 ghost use Rattle.grid_paths.specs.Prelude.{row_count, col_count, tabulate, answers_by, IsAnswer, AreAnswers, HaveOneSize, Holds, numbers};
 
@@ -21,7 +21,7 @@ pub(crate) fn answers_of<T, U, A: Allocator + Clone, F: Fn(&T) -> U>(
     grid.map_indexed(|_, cell| f(cell))
 }
 
-// No number at each cell.
+// `None` at each cell: it has no step count or label yet.
 pub(crate) fn no_numbers<T, N, A: Allocator + Clone>(
     grid: &Grid<T, A>,
 ) -> Result<Grid<Option<N>, A>, AllocError>
@@ -33,7 +33,7 @@ pub(crate) fn no_numbers<T, N, A: Allocator + Clone>(
     grid.map_indexed(|_, _| None)
 }
 
-// No sum at each cell.
+// No sum at each cell yet.
 pub(crate) fn no_sums<T, N: Width, A: Allocator + Clone>(
     grid: &Grid<T, A>,
 ) -> Result<Grid<N, A>, AllocError>
@@ -46,7 +46,7 @@ pub(crate) fn no_sums<T, N: Width, A: Allocator + Clone>(
     grid.map_indexed(|_, _| none)
 }
 
-// The sums that numbers stand for.
+// The sums that these integers stand for.
 pub(crate) fn all_sums<N: Width, A: Allocator + Clone>(
     sums: &Grid<N, A>,
 ) -> Result<Grid<Option<u128>, A>, AllocError>

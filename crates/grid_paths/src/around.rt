@@ -1,7 +1,7 @@
-//! The positions round one.
+//! The positions around one.
 ghost use Rattle.std.specs.Prelude.{◌≡◌, ◌<◌, ◌+◌, ◌^◌, length, take};
 ghost use Rattle.grid_paths.specs.Prelude.{AreSteps};
-ghost use Rattle.grid_near.specs.declared.steps.Steps.TheVariants.{Sides, All};
+ghost use Rattle.grid_near.specs.declared.steps.Connectivity.TheVariants.{Four, Eight};
 
 // The positions that share a side with this one, and then those that share a corner. Below the first row or column the
 // index wraps to one that no grid has.
@@ -10,8 +10,8 @@ pub(crate) fn around(row: usize, col: usize) -> [(usize, usize); 8]
     requires row_in { row + 1 < 2 ^ 64 }
     requires col_in { col + 1 < 2 ^ 64 }
     ensures len { length result ≡ 8 }
-    ensures sides { AreSteps Sides (row, col) (take 4 result) }
-    ensures all { AreSteps All (row, col) result }
+    ensures sides { AreSteps Four (row, col) (take 4 result) }
+    ensures all { AreSteps Eight (row, col) result }
 {
     let (up, left) = (row.wrapping_sub(1), col.wrapping_sub(1));
     [

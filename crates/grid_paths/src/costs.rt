@@ -7,18 +7,19 @@ use super::answers::{all_sums, answers_of, no_sums};
 use super::around::around;
 use super::width::Width;
 use grid::Grid;
-use grid_near::Steps;
+use grid_near::Connectivity;
 use std::alloc::{AllocError, Allocator};
 use std::cmp::Reverse;
 use std::collections::BinaryHeap;
 
-// For how many waiting positions there is room from the start.
-const MANY: usize = 1024;
+// How many positions a heap has room for from the start. Any number of this size does: the heap grows where more wait.
+const HEAP_ROOM: usize = 1024;
 
-// A board of fewer cells than this is searched with numbers of 64 bits.
-const FEW: usize = 4294967295;
+// Below so many cells, 2^32 - 1, 64-bit sums can't overflow: a cheapest path enters each cell at most once, and each
+// costs less than 2^32.
+const NARROW_BELOW: usize = 4294967295;
 
-// A position whose number is settled, what it costs to enter it, and its number.
+// A settled position: its sum is the least; and what it costs to enter it.
 #[derive(Clone, Copy)]
 pub(crate) struct Settled {
     pub(crate) at: (usize, usize),
@@ -26,7 +27,7 @@ pub(crate) struct Settled {
     pub(crate) sum: u128,
 }
 
-// A settled position in numbers of one width, as a path keeps it.
+// A settled position as a path keeps it, in integers of one width.
 #[derive(Clone, Copy)]
 pub(crate) struct Kept<N: Width> {
     sum: N,
@@ -48,14 +49,14 @@ impl<N: Width> Kept<N> {
     }
 }
 
-// How far the search has come.
+// The state of the search.
 #[derive(Drop)]
 pub(crate) struct Frontier<N: Width, A: Allocator> {
-    // The costs of the positions whose number isn't settled yet.
+    // The costs of the positions that aren't settled yet.
     left: Grid<Option<u32>, A>,
     // The least sums that were found.
     sums: Grid<N, A>,
-    // The positions that wait, each behind its sum.
+    // The positions that wait, keyed by their sums.
     heap: BinaryHeap<Reverse<(N, N)>, A>,
 }
 
@@ -71,7 +72,7 @@ impl<N: Width, A: Allocator> Frontier<N, A> {
         }
     }
 
-    // The number at a position.
+    // The least sum that was found to a position.
     #[inline(always)]
     fn number_at(&self, at: (usize, usize)) -> Option<u128>
         requires { InRange self.now.sums.rows at.0 at.1 }
@@ -80,7 +81,7 @@ impl<N: Width, A: Allocator> Frontier<N, A> {
         self.sums[at].sum()
     }
 
-    // Whether a sum is less than the number at a position, or there is none.
+    // Whether a sum is less than the one at a position, or there is none.
     #[inline(always)]
     fn is_less(&self, at: (usize, usize), sum: u128) -> bool
         requires { InRange self.now.sums.rows at.0 at.1 }
@@ -92,7 +93,7 @@ impl<N: Width, A: Allocator> Frontier<N, A> {
         }
     }
 
-    // Gives a position a number, with which it waits.
+    // Gives a position this sum, and puts it into the heap.
     #[inline(always)]
     fn put(&mut self, at: (usize, usize), sum: u128) -> Result<(), AllocError>
         requires inside { InRange self.old.sums.rows at.0 at.1 }
@@ -107,7 +108,7 @@ impl<N: Width, A: Allocator> Frontier<N, A> {
         Ok(())
     }
 
-    // Takes out what comes first of those that wait, a sum and a position.
+    // Pops the least sum off the heap, with its position.
     #[inline(always)]
     fn pop(&mut self) -> Option<(u128, (usize, usize))>
         ensures { MatchOption result (IsEmptied N.reads self.old self.new)
@@ -135,8 +136,8 @@ impl<N: Width, A: Allocator> Frontier<N, A> {
         }
     }
 
-    // Enters a position, if it is left, from another of this sum: a lesser number than before is written, and the
-    // position waits with it.
+    // Enters a position, if it is left, from another of this sum: a lesser sum than before is written, and the
+    // position goes into the heap with it.
     #[inline(always)]
     fn relax(&mut self, at: (usize, usize), sum: u128) -> Result<(), AllocError>
         requires small { sum + 2 ^ 32 ≤ 2 ^ 128 }
@@ -167,19 +168,24 @@ impl<N: Width, A: Allocator> Frontier<N, A> {
     }
 
     // Enters the positions that a step from a settled one leads to.
-    pub(crate) fn relax_around(&mut self, kind: Steps, from: Settled) -> Result<(), AllocError>
+    pub(crate) fn relax_around(
+        &mut self,
+        connectivity: Connectivity,
+        from: Settled,
+    ) -> Result<(), AllocError>
         requires { IsReady N.cmp N.reads self.old from }
-        ensures { OnOk result (Enters N.cmp N.reads (IsStep kind from.at) from.sum self.old self.new) }
+        ensures { OnOk result (Enters N.cmp N.reads (IsStep connectivity from.at) from.sum self.old
+            self.new) }
     {
         let near = around(from.at.0, from.at.1);
-        match kind {
-            Steps::Sides => self.relax_each(&near[..4], from.sum),
-            Steps::All => self.relax_each(&near, from.sum),
+        match connectivity {
+            Connectivity::Four => self.relax_each(&near[..4], from.sum),
+            Connectivity::Eight => self.relax_each(&near, from.sum),
         }
     }
 
-    // Settles the position that comes first of those that wait and are left. A position may wait several times; it is
-    // settled when it comes first, with the least number of all that wait.
+    // Settles the position with the least sum of those in the heap that aren't settled. A position may be in the heap
+    // several times: it is settled when it first comes out, with its least sum.
     pub(crate) fn next(&mut self) -> Option<Settled>
         requires { IsFrontier N.cmp N.reads self.old }
         ensures { MatchOption result (IsOver N.reads self.old self.new)
@@ -196,7 +202,7 @@ impl<N: Width, A: Allocator> Frontier<N, A> {
     }
 }
 
-// The search at the start: the first position has the number 0, and waits, if it can be entered.
+// The search at the start: the first position has the sum 0, and is in the heap, if it can be entered.
 pub(crate) fn begun<N: Width, A: Allocator + Clone>(
     costs: Grid<Option<u32>, A>,
     from: (usize, usize),
@@ -204,11 +210,11 @@ pub(crate) fn begun<N: Width, A: Allocator + Clone>(
     requires { HasRoom N.reads costs.rows }
     ensures left { IfOk result (λ search. search.left ≡ costs) }
     ensures search { IfOk result (λ search.
-        (kind : Steps) → IsSearching N.cmp N.reads kind costs from search) }
+        (connectivity : Connectivity) → IsSearching N.cmp N.reads connectivity costs from search) }
 {
     let sums = no_sums(&costs)?;
     let cells = costs.flatten().len();
-    let heap = BinaryHeap::with_capacity(costs.allocator().clone()?, cells.min(MANY))?;
+    let heap = BinaryHeap::with_capacity(costs.allocator().clone()?, cells.min(HEAP_ROOM))?;
     let mut search = Frontier {
         left: costs,
         sums,
@@ -220,45 +226,45 @@ pub(crate) fn begun<N: Width, A: Allocator + Clone>(
     Ok(search)
 }
 
-// Whether numbers of 64 bits suffice for a board: no sum of the costs of its cells exceeds them.
+// Whether 64 bits suffice for a board: no sum of the costs of its cells overflows them.
 pub(crate) fn is_small<A: Allocator>(costs: &Grid<Option<u32>, A>) -> bool
     ensures { IsTrue result → HasRoom narrow costs.now.rows }
 {
-    costs.flatten().len() < FEW
+    costs.flatten().len() < NARROW_BELOW
 }
 
-// The least sum of costs to each position, by numbers of one width.
+// The least sum of costs to each position, in integers of one width.
 fn search_by<N: Width, A: Allocator + Clone>(
-    kind: Steps,
+    connectivity: Connectivity,
     costs: Grid<Option<u32>, A>,
     from: (usize, usize),
 ) -> Result<Grid<Option<u128>, A>, AllocError>
     requires { HasRoom N.reads costs.rows }
     ensures order { IfOk result (λ sums. sums.order ≡ costs.order) }
     ensures size { IfOk result (λ sums. HaveOneSize sums.rows costs.rows) }
-    ensures least { IfOk result (λ sums. HasLeastCosts kind costs.rows from sums.rows) }
+    ensures least { IfOk result (λ sums. HasLeastCosts connectivity costs.rows from sums.rows) }
 {
     let mut search: Frontier<N, A> = begun(costs, from)?;
     while let Some(here) = search.next() {
-        search.relax_around(kind, here)?;
+        search.relax_around(connectivity, here)?;
     }
     all_sums(&search.sums)
 }
 
 // The least sum of costs to each position.
 fn search<A: Allocator + Clone>(
-    kind: Steps,
+    connectivity: Connectivity,
     costs: Grid<Option<u32>, A>,
     from: (usize, usize),
 ) -> Result<Grid<Option<u128>, A>, AllocError>
     ensures order { IfOk result (λ sums. sums.order ≡ costs.order) }
     ensures size { IfOk result (λ sums. HaveOneSize sums.rows costs.rows) }
-    ensures least { IfOk result (λ sums. HasLeastCosts kind costs.rows from sums.rows) }
+    ensures least { IfOk result (λ sums. HasLeastCosts connectivity costs.rows from sums.rows) }
 {
     if is_small(&costs) {
-        search_by::<u64, A>(kind, costs, from)
+        search_by::<u64, A>(connectivity, costs, from)
     } else {
-        search_by::<u128, A>(kind, costs, from)
+        search_by::<u128, A>(connectivity, costs, from)
     }
 }
 
@@ -266,26 +272,28 @@ fn search<A: Allocator + Clone>(
 /// 0 too, or `None` for a cell that can't be entered. The first cell's own cost doesn't count, but it has to have one.
 /// A cell gets `None` exactly where no path leads to it.
 ///
-///     [[1, 9, 1], [1, 1, 1]]   cheapest((0, 0), Steps::Sides, |x| Some(*x))   [[Some(0), Some(9), Some(4)], [Some(1), Some(2), Some(3)]]
-///     [[1, 9, 1], [1, 1, 1]]   cheapest((0, 0), Steps::All, |x| Some(*x))     [[Some(0), Some(9), Some(2)], [Some(1), Some(1), Some(2)]]
+///     [[1, 9, 1], [1, 1, 1]]   cheapest((0, 0), Connectivity::Four, |x| Some(*x))
+///         [[Some(0), Some(9), Some(4)], [Some(1), Some(2), Some(3)]]
+///     [[1, 9, 1], [1, 1, 1]]   cheapest((0, 0), Connectivity::Eight, |x| Some(*x))
+///         [[Some(0), Some(9), Some(2)], [Some(1), Some(1), Some(2)]]
 ///
 /// Requires: the closure can be called at every cell.
 /// Fails: if allocation fails.
-/// Cost: one call for each cell; a number of steps for each cell that grows as the logarithm of the number of cells; four
-/// allocations, and those of the heap where more than 1,024 positions wait, each at most once for each step to it. The
-/// search takes 16 bytes for each cell, and 16 for each position that waits; from 2^32 - 1 cells on 24, and 32.
+/// Cost: one call for each cell; a number of steps for each cell that grows as the logarithm of the number of cells;
+/// four allocations, and those of the heap where more than 1,024 positions wait, each at most once for each step to it.
+/// The search takes 16 bytes for each cell, and 16 for each position that waits; from 2^32 - 1 cells on 24, and 32.
 pub fn cheapest<T, A: Allocator + Clone, F: Fn(&T) -> Option<u32>>(
     grid: &Grid<T, A>,
     from: (usize, usize),
-    kind: Steps,
+    connectivity: Connectivity,
     cost: F,
 ) -> Result<Grid<Option<u128>, A>, AllocError>
     requires { F.IsAlwaysCallable cost }
     ensures order { IfOk result (λ sums. sums.order ≡ grid.now.order) }
     ensures size { IfOk result (λ sums. HaveOneSize sums.rows grid.now.rows) }
     ensures least { IfOk result (λ sums. HoldsOfAnswers F.post cost grid.now.rows (λ costs.
-        HasLeastCosts kind costs from sums.rows)) }
+        HasLeastCosts connectivity costs from sums.rows)) }
 {
     let costs = answers_of(grid, cost)?;
-    search(kind, costs, from)
+    search(connectivity, costs, from)
 }

@@ -5,12 +5,13 @@
 //! - Where each cell has a cost: [`cheapest`], [`cheapest_path`].
 //! - What is connected: [`regions`], [`fill_region`]; with a border, [`flood`].
 //!
-//! [`Steps`] says which steps there are: to the cells that share a side, or to all that touch. [`laws`] ties them to
-//! `neighbors4` and `neighbors8`.
+//! [`Connectivity`] says which steps there are: to the four cells that share a side with a cell, or to the eight that
+//! share a side or a corner. [`laws`] ties them to `neighbors4` and `neighbors8`.
 #![tactic(auto)]
 
 mod answers;
 mod around;
+mod bfs;
 mod cheap_path;
 mod costs;
 pub mod laws;
@@ -19,12 +20,11 @@ mod path;
 mod region;
 mod search;
 mod taken;
-mod wave;
 mod width;
 
 pub use cheap_path::cheapest_path;
 pub use costs::cheapest;
-pub use grid_near::Steps;
+pub use grid_near::Connectivity;
 pub use numbered::regions;
 pub use path::shortest_path;
 pub use region::fill_region;

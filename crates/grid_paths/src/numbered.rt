@@ -1,18 +1,18 @@
-//! The regions of equal cells, numbered.
+//! The regions of equal cells, labeled: connected components.
 ghost use Rattle.std.specs.Prelude.{◌≡◌, ◌<◌, ◌≤◌, ◌+◌, ◌↔◌, ℕ, IfOk, OnOk, IsTrue, None, Some, Contains, option_map, unwrap_or};
 ghost use Rattle.grid.specs.Prelude.{SameSizeAndOrder};
-ghost use Rattle.grid_paths.specs.Prelude.{IsEquivalence, row_count, col_count, cell, tabulate, InRange, IsStep, IsOpen, HaveOneSize, IsMarked, unreached, AreRegions, AreNumbers, IsNumbered, IsScanned, IsCounting, Numbers, floor_of};
+ghost use Rattle.grid_paths.specs.Prelude.{IsEquivalence, row_count, col_count, cell, tabulate, InRange, IsStep, IsOpen, HaveOneSize, IsMarked, unreached, AreRegions, AreNumbers, IsNumbered, IsScanned, IsCounting, Numbers, mask_of};
 
 use super::around::around;
-use super::wave::{Wave, new_wave};
+use super::bfs::{Bfs, new_bfs};
 use grid::Grid;
-use grid_near::Steps;
+use grid_near::Connectivity;
 use std::alloc::{AllocError, Allocator};
 
-// A region: the cells of a board that equal one, which steps connect them, and the number that they get.
+// A region: the cells of a board that equal one, their connectivity, and the label that they get.
 #[derive(Drop)]
 struct Region<'a, T, A: Allocator> {
-    kind: Steps,
+    connectivity: Connectivity,
     grid: &'a Grid<T, A>,
     first: &'a T,
     number: usize,
@@ -21,7 +21,7 @@ struct Region<'a, T, A: Allocator> {
 impl<T: PartialEq, A: Allocator> Region<'_, T, A> {
     // Whether there is a cell at a position that equals the region's.
     fn has(&self, at: (usize, usize)) -> bool
-        ensures equal { IsTrue result ↔ IsOpen (floor_of T.eq self.now) at }
+        ensures equal { IsTrue result ↔ IsOpen (mask_of T.eq self.now) at }
         ensures inside { IsTrue result → InRange self.now.grid.now.rows at.0 at.1 }
     {
         match self.grid.get(at.0, at.1) {
@@ -30,114 +30,115 @@ impl<T: PartialEq, A: Allocator> Region<'_, T, A> {
         }
     }
 
-    // Gives a position the region's number, if its cell is one of those and has no number yet.
-    fn number_at(&self, at: (usize, usize), wave: &mut Wave<A>) -> Result<(), AllocError>
-        requires { HaveOneSize wave.old.numbers.rows self.now.grid.now.rows }
-        ensures { OnOk result (Numbers T.eq (λ b. at ≡ b) self.now wave.old wave.new) }
+    // Labels a position, if its cell is in the region and has no label yet.
+    fn number_at(&self, at: (usize, usize), bfs: &mut Bfs<A>) -> Result<(), AllocError>
+        requires { HaveOneSize bfs.old.numbers.rows self.now.grid.now.rows }
+        ensures { OnOk result (Numbers T.eq (λ b. at ≡ b) self.now bfs.old bfs.new) }
     {
         if self.has(at) {
-            if let None = wave.numbers[at] {
-                wave.mark(at, self.number)?;
+            if let None = bfs.numbers[at] {
+                bfs.mark(at, self.number)?;
             }
         }
         Ok(())
     }
 
-    // The same of each of these positions.
-    fn number_each(&self, at: &[(usize, usize)], wave: &mut Wave<A>) -> Result<(), AllocError>
-        requires { HaveOneSize wave.old.numbers.rows self.now.grid.now.rows }
-        ensures { OnOk result (Numbers T.eq (λ b. Contains at.now b) self.now wave.old wave.new) }
+    // Labels each of these positions that is in the region and has no label yet.
+    fn number_each(&self, at: &[(usize, usize)], bfs: &mut Bfs<A>) -> Result<(), AllocError>
+        requires { HaveOneSize bfs.old.numbers.rows self.now.grid.now.rows }
+        ensures { OnOk result (Numbers T.eq (λ b. Contains at.now b) self.now bfs.old bfs.new) }
     {
         for near in at {
-            self.number_at(*near, wave)?;
+            self.number_at(*near, bfs)?;
         }
         Ok(())
     }
 
-    // The same of the positions that a step from this one leads to.
-    fn number_around(&self, at: (usize, usize), wave: &mut Wave<A>) -> Result<(), AllocError>
-        requires size { HaveOneSize wave.old.numbers.rows self.now.grid.now.rows }
+    // Labels the neighbors of a position that are in the region and have no label yet.
+    fn number_around(&self, at: (usize, usize), bfs: &mut Bfs<A>) -> Result<(), AllocError>
+        requires size { HaveOneSize bfs.old.numbers.rows self.now.grid.now.rows }
         requires at { InRange self.now.grid.now.rows at.0 at.1 }
-        ensures { OnOk result (Numbers T.eq (IsStep self.now.kind at) self.now wave.old wave.new) }
+        ensures { OnOk result (Numbers T.eq (IsStep self.now.connectivity at) self.now bfs.old
+            bfs.new) }
     {
         let near = around(at.0, at.1);
-        match self.kind {
-            Steps::Sides => self.number_each(&near[..4], wave),
-            Steps::All => self.number_each(&near, wave),
+        match self.connectivity {
+            Connectivity::Four => self.number_each(&near[..4], bfs),
+            Connectivity::Eight => self.number_each(&near, bfs),
         }
     }
 
-    // Gives the region of a position its number, which it doesn't have yet. The queue is that of this region alone.
-    fn number_region(&self, at: (usize, usize), wave: &mut Wave<A>) -> Result<(), AllocError>
-        requires size { HaveOneSize wave.old.numbers.rows self.now.grid.now.rows }
-        requires at { cell wave.old.numbers.rows at.0 at.1 ≡ Some None }
-        requires below { (a : ℕ × ℕ) (m : ℕ) → IsMarked wave.old.numbers.rows a m
+    // Labels the region of a position, which has no label yet. The queue is that of this region alone.
+    fn number_region(&self, at: (usize, usize), bfs: &mut Bfs<A>) -> Result<(), AllocError>
+        requires size { HaveOneSize bfs.old.numbers.rows self.now.grid.now.rows }
+        requires at { cell bfs.old.numbers.rows at.0 at.1 ≡ Some None }
+        requires below { (a : ℕ × ℕ) (m : ℕ) → IsMarked bfs.old.numbers.rows a m
             → m < self.now.number }
-        ensures same { OnOk result (SameSizeAndOrder wave.old.numbers wave.new.numbers) }
-        ensures numbered { OnOk result (IsNumbered self.now.kind (floor_of T.eq self.now) at
-            self.now.number wave.old.numbers.rows wave.new.numbers.rows) }
-        ensures fewer { OnOk result (unreached wave.new.numbers.rows + 1
-            ≤ unreached wave.old.numbers.rows) }
+        ensures same { OnOk result (SameSizeAndOrder bfs.old.numbers bfs.new.numbers) }
+        ensures numbered { OnOk result (IsNumbered self.now.connectivity (mask_of T.eq self.now) at
+            self.now.number bfs.old.numbers.rows bfs.new.numbers.rows) }
+        ensures fewer { OnOk result (unreached bfs.new.numbers.rows + 1
+            ≤ unreached bfs.old.numbers.rows) }
     {
         let mut next = 0;
-        wave.queue.clear();
-        wave.mark(at, self.number)?;
-        while next < wave.queue.len() {
-            self.number_around(wave.queue[next], wave)?;
+        bfs.queue.clear();
+        bfs.mark(at, self.number)?;
+        while next < bfs.queue.len() {
+            self.number_around(bfs.queue[next], bfs)?;
             next += 1;
         }
         Ok(())
     }
 }
 
-// Gives the next number to the region of a position, if it has none yet, and returns the number after it.
+// Gives the next label to the region of a position, if it has none yet, and returns the next label then.
 fn number_cell<T: PartialEq, A: Allocator>(
-    kind: Steps,
+    connectivity: Connectivity,
     grid: &Grid<T, A>,
     at: (usize, usize),
     count: usize,
-    wave: &mut Wave<A>,
+    bfs: &mut Bfs<A>,
 ) -> Result<usize, AllocError>
     requires at { InRange grid.now.rows at.0 at.1 }
-    requires counting { IsCounting kind T.eq grid.now wave.old count at }
-    ensures { IfOk result (λ n. IsCounting kind T.eq grid.now wave.new n (at.0, at.1 + 1)) }
+    requires counting { IsCounting connectivity T.eq grid.now bfs.old count at }
+    ensures { IfOk result (λ n. IsCounting connectivity T.eq grid.now bfs.new n (at.0, at.1 + 1)) }
 {
-    match wave.numbers[at] {
+    match bfs.numbers[at] {
         Some(_) => Ok(count),
         None => {
             let region = Region {
-                kind,
+                connectivity,
                 grid,
                 first: &grid[at],
                 number: count,
             };
-            region.number_region(at, wave)?;
+            region.number_region(at, bfs)?;
             Ok(count + 1)
         }
     }
 }
 
-// The numbers of all regions, and their count.
+// The labels of all regions, and how many there are.
 fn number_all<T: PartialEq, A: Allocator + Clone>(
-    kind: Steps,
+    connectivity: Connectivity,
     grid: &Grid<T, A>,
 ) -> Result<(Grid<Option<usize>, A>, usize), AllocError>
     ensures order { IfOk result (λ found. found.0.order ≡ grid.now.order) }
     ensures size { IfOk result (λ found. HaveOneSize found.0.rows grid.now.rows) }
-    ensures scanned { IfOk result (λ found. IsScanned kind T.eq grid.now.rows found.0.rows found.1
-        (row_count grid.now.rows, 0)) }
+    ensures scanned { IfOk result (λ found. IsScanned connectivity T.eq grid.now.rows
+        found.0.rows found.1 (row_count grid.now.rows, 0)) }
 {
-    let mut wave = new_wave(grid)?;
+    let mut bfs = new_bfs(grid)?;
     let mut count = 0;
     for row in 0..grid.rows() {
         for col in 0..grid.cols() {
-            count = number_cell(kind, grid, (row, col), count, &mut wave)?;
+            count = number_cell(connectivity, grid, (row, col), count, &mut bfs)?;
         }
     }
-    Ok((wave.numbers, count))
+    Ok((bfs.numbers, count))
 }
 
-// The numbers where all cells have one.
+// The labels alone, where all cells have one.
 fn all_numbers<A: Allocator + Clone>(
     numbers: &Grid<Option<usize>, A>,
 ) -> Result<Grid<usize, A>, AllocError>
@@ -150,30 +151,30 @@ fn all_numbers<A: Allocator + Clone>(
     numbers.map_indexed(|_, number| number.unwrap_or(0))
 }
 
-/// Returns the number of each cell's region, and the count of the regions. A region is connected: two cells have one
-/// number exactly if a walk over cells equal to the first joins them. The numbers are those below the count, and come in
-/// the order of the regions' first cells, row by row, whatever the storage order.
+/// Returns the label of each cell's region, and how many regions there are. Regions are connected components: two cells
+/// have one label exactly if a walk over cells equal to the first joins them. The labels are the numbers below the
+/// count, in the order of the regions' first cells, row by row, whatever the storage order.
 ///
-///     [[7, 7, 8], [8, 7, 7]]   regions(Steps::Sides)   ([[0, 0, 1], [2, 0, 0]], 3)
-///     [[7, 8], [8, 7]]         regions(Steps::All)     ([[0, 1], [1, 0]], 2)
+///     [[7, 7, 8], [8, 7, 7]]   regions(Connectivity::Four)    ([[0, 0, 1], [2, 0, 0]], 3)
+///     [[7, 8], [8, 7]]         regions(Connectivity::Eight)   ([[0, 1], [1, 0]], 2)
 ///
-/// That the numbers are the regions is said where `==` is an equivalence, as at integers (not at floats, where `NaN` is
+/// That the labels are the regions is said where `==` is an equivalence, as at integers (not at floats, where `NaN` is
 /// unequal to itself).
 ///
 /// Fails: if allocation fails.
-/// Cost: at most four comparisons, or eight by `Steps::All`, and a constant number of steps for each cell; three
-/// allocations, and those of the queue where a region has more than 4,096 cells.
+/// Cost: at most four comparisons, or eight by `Connectivity::Eight`, and a constant number of steps for each cell;
+/// three allocations, and those of the queue where a region has more than 4,096 cells.
 pub fn regions<T: PartialEq, A: Allocator + Clone>(
     grid: &Grid<T, A>,
-    kind: Steps,
+    connectivity: Connectivity,
 ) -> Result<(Grid<usize, A>, usize), AllocError>
     ensures order { IfOk result (λ found. found.0.order ≡ grid.now.order) }
     ensures size { IfOk result (λ found. HaveOneSize found.0.rows grid.now.rows) }
     ensures numbers { IfOk result (λ found. AreNumbers found.0.rows found.1) }
     ensures regions { IfOk result (λ found.
-        IsEquivalence T.eq → AreRegions kind T.eq grid.now.rows found.0.rows) }
+        IsEquivalence T.eq → AreRegions connectivity T.eq grid.now.rows found.0.rows) }
 {
-    let (numbers, count) = number_all(kind, grid)?;
+    let (numbers, count) = number_all(connectivity, grid)?;
     let plain = all_numbers(&numbers)?;
     Ok((plain, count))
 }

@@ -5,10 +5,10 @@ ghost use Rattle.grid_paths.specs.Prelude.{IsOpen, IsFilled, alike, answers_by, 
 
 use super::taken::{Cells, Taking};
 use grid::Grid;
-use grid_near::Steps;
+use grid_near::Connectivity;
 use std::alloc::{AllocError, Allocator};
 
-// The index of a line that comes at place `i` where one begins at `from`, goes down to 0, and then on from there up.
+// The index at place `i` of the order `from`, `from - 1`, .., 0, `from + 1`, `from + 2`, ..
 fn outward(from: usize, i: usize) -> usize
     ensures down { i ≤ from → result + i ≡ from }
     ensures up { from < i → result ≡ i }
@@ -91,13 +91,13 @@ fn fill_all<T: Copy + Drop, A: Allocator>(
 fn mark_region<T: Copy + PartialEq + Drop, A: Allocator + Clone>(
     grid: &mut Grid<T, A>,
     at: (usize, usize),
-    kind: Steps,
+    connectivity: Connectivity,
     first: T,
     mark: T,
 ) -> Result<Vec<((usize, usize), T), A>, AllocError>
     requires { T.eq mark first ≡ false }
     ensures same { SameSizeAndOrder grid.old grid.new }
-    ensures flood { IfOk result (λ taken. IsFlood kind
+    ensures flood { IfOk result (λ taken. IsFlood connectivity
         (answers_by (way_of T.eq first None) grid.old.rows) (at ∷ []) (places taken.items)) }
     ensures written { IfOk result (λ taken. IsWritten mark (λ a. Contains (places taken.items) a)
         grid.old.rows grid.new.rows) }
@@ -110,7 +110,7 @@ fn mark_region<T: Copy + PartialEq + Drop, A: Allocator + Clone>(
     };
     let taken = Vec::new(grid.allocator().clone()?);
     let mut search = Taking { cells, taken };
-    match search.take_region(kind, &[at], grid) {
+    match search.take_region(connectivity, &[at], grid) {
         Ok(()) => Ok(search.taken),
         Err(refused) => {
             put_back(grid, search.taken);
@@ -122,20 +122,21 @@ fn mark_region<T: Copy + PartialEq + Drop, A: Allocator + Clone>(
 /// Replaces the cell at a position, and those that a walk over cells equal to it leads to, by a value. The other cells
 /// stay; out of range nothing changes.
 ///
-///     [[1, 1, 2], [2, 1, 1]]   fill_region((0, 0), Steps::Sides, 7)   [[7, 7, 2], [2, 7, 7]]
+///     [[1, 1, 2], [2, 1, 1]]   fill_region((0, 0), Connectivity::Four, 7)   [[7, 7, 2], [2, 7, 7]]
 ///
 /// Fails: if allocation fails; the grid is unchanged.
-/// Cost: at most seven comparisons, or eleven by `Steps::All`, and a constant number of steps for each cell of the region;
-/// memory for these cells and their positions, unless they are the whole board. The rest of the board costs nothing.
+/// Cost: at most seven comparisons, or eleven by `Connectivity::Eight`, and a constant number of steps for each cell of
+/// the region; memory for these cells and their positions, unless they are the whole board. The rest of the board costs
+/// nothing.
 pub fn fill_region<T: Copy + PartialEq + Drop, A: Allocator + Clone>(
     grid: &mut Grid<T, A>,
     at: (usize, usize),
-    kind: Steps,
+    connectivity: Connectivity,
     value: T,
 ) -> Result<(), AllocError>
     ensures same { SameSizeAndOrder grid.old grid.new }
     ensures filled { OnOk result ((x : T) → cell grid.old.rows at.0 at.1 ≡ Some x
-        → IsFilled kind (alike T.eq x grid.old.rows) at value grid.old.rows grid.new.rows) }
+        → IsFilled connectivity (alike T.eq x grid.old.rows) at value grid.old.rows grid.new.rows) }
     ensures outside { (InRange grid.old.rows at.0 at.1 → ⊥) → grid.new ≡ grid.old }
     ensures err { OnErr result (grid.new ≡ grid.old) }
 {
@@ -148,11 +149,11 @@ pub fn fill_region<T: Copy + PartialEq + Drop, A: Allocator + Clone>(
         None => grid.update(|_, _| value),
         // the value can't mark the cells that it equals
         Some(other) if value == first => {
-            let taken = mark_region(grid, at, kind, first, other)?;
+            let taken = mark_region(grid, at, connectivity, first, other)?;
             fill_all(grid, &taken, value);
         }
         Some(_) => {
-            let _taken = mark_region(grid, at, kind, first, value)?;
+            let _taken = mark_region(grid, at, connectivity, first, value)?;
         }
     }
     Ok(())

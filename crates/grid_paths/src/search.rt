@@ -4,19 +4,20 @@ ghost use Rattle.grid_paths.specs.Prelude.{InRange, IsStep, HasLeastSteps, HasLe
 
 use super::answers::answers_of;
 use super::around::around;
-use super::wave::{Wave, new_wave};
+use super::bfs::{Bfs, new_bfs};
 use grid::Grid;
-use grid_near::Steps;
+use grid_near::Connectivity;
 use std::alloc::{AllocError, Allocator};
 
-// How many positions of a queue are processed before it drops them.
-const MANY: usize = 2048;
+// Compact the queue once its read prefix is this long. It is half of the room that a queue has from the start, so that
+// the queue doesn't grow while no more than so many positions wait.
+const COMPACT_AT: usize = 2048;
 
-// How far the search has come: the open positions that aren't reached yet, and the numbers of steps to the others.
+// The state of the search: the open positions that aren't reached yet, and the step counts of the others.
 #[derive(Drop)]
 pub(crate) struct Search<A: Allocator> {
     left: Grid<bool, A>,
-    steps: Wave<A>,
+    steps: Bfs<A>,
 }
 
 impl<A: Allocator> Search<A> {
@@ -46,32 +47,36 @@ impl<A: Allocator> Search<A> {
 
     // Reaches the positions that a step from one that is reached leads to, each by one step more.
     #[inline(always)]
-    fn reach_around(&mut self, kind: Steps, at: (usize, usize)) -> Result<(), AllocError>
+    fn reach_around(
+        &mut self,
+        connectivity: Connectivity,
+        at: (usize, usize),
+    ) -> Result<(), AllocError>
         requires inside { InRange self.old.left.rows at.0 at.1 }
         requires marked { (m : ℕ) × IsMarked self.old.steps.numbers.rows at m × (m + 1 < 2 ^ 64) }
         ensures { OnOk result ((m : ℕ) → IsMarked self.old.steps.numbers.rows at m
-            → Reaches (IsStep kind at) (m + 1) self.old self.new) }
+            → Reaches (IsStep connectivity at) (m + 1) self.old self.new) }
     {
         let Some(count) = self.steps.numbers[at] else {
             return Ok(());
         };
         let near = around(at.0, at.1);
-        match kind {
-            Steps::Sides => self.reach_each(&near[..4], count + 1),
-            Steps::All => self.reach_each(&near, count + 1),
+        match connectivity {
+            Connectivity::Four => self.reach_each(&near[..4], count + 1),
+            Connectivity::Eight => self.reach_each(&near, count + 1),
         }
     }
 }
 
-// Drops the positions before `next` once they are many, and no fewer than the others; returns the place that `next` has
-// then. So the queue stays short, and there are no more moves than positions.
+// Compacts the queue: drops the positions before `next` once they are many, and no fewer than the others; returns the
+// index that `next` has then. So the queue stays short, and no more positions are moved than were read.
 fn trim<A: Allocator>(queue: &mut Vec<(usize, usize), A>, next: usize) -> usize
     requires { next ≤ length queue.old.items }
     ensures { (front : List (ℕ × ℕ)) × (queue.old.items ≡ front ++ queue.new.items)
         × (next ≡ length front + result) }
 {
     let len = queue.len();
-    if next < MANY || next < len - next {
+    if next < COMPACT_AT || next < len - next {
         return next;
     }
     queue.copy_within(next..len, 0);
@@ -82,20 +87,21 @@ fn trim<A: Allocator>(queue: &mut Vec<(usize, usize), A>, next: usize) -> usize
 // The least number of steps to each open position, from the nearest of several; with a goal the search stops once it
 // goes on from it.
 pub(crate) fn search_from<A: Allocator + Clone>(
-    kind: Steps,
-    floor: Grid<bool, A>,
+    connectivity: Connectivity,
+    mask: Grid<bool, A>,
     starts: &[(usize, usize)],
     goal: Option<(usize, usize)>,
 ) -> Result<Grid<Option<usize>, A>, AllocError>
-    ensures order { IfOk result (λ steps. steps.order ≡ floor.order) }
-    ensures size { IfOk result (λ steps. HaveOneSize steps.rows floor.rows) }
+    ensures order { IfOk result (λ steps. steps.order ≡ mask.order) }
+    ensures size { IfOk result (λ steps. HaveOneSize steps.rows mask.rows) }
     ensures least { IfOk result (λ steps.
-        goal ≡ None → HasLeastFrom kind floor.rows starts.now steps.rows) }
+        goal ≡ None → HasLeastFrom connectivity mask.rows starts.now steps.rows) }
     ensures settled { IfOk result (λ steps. (from to : ℕ × ℕ)
-        → starts.now ≡ from ∷ [] → goal ≡ Some to → IsSettled kind floor.rows from to steps.rows) }
+        → starts.now ≡ from ∷ [] → goal ≡ Some to
+        → IsSettled connectivity mask.rows from to steps.rows) }
 {
-    let steps = new_wave(&floor)?;
-    let mut search = Search { left: floor, steps };
+    let steps = new_bfs(&mask)?;
+    let mut search = Search { left: mask, steps };
     for start in starts {
         search.reach(*start, 0)?;
     }
@@ -106,7 +112,7 @@ pub(crate) fn search_from<A: Allocator + Clone>(
             let steps = search.steps;
             return Ok(steps.numbers);
         }
-        search.reach_around(kind, at)?;
+        search.reach_around(connectivity, at)?;
         next = trim(&mut search.steps.queue, next + 1);
     }
     let steps = search.steps;
@@ -116,8 +122,10 @@ pub(crate) fn search_from<A: Allocator + Clone>(
 /// Returns, for each cell, the least number of steps from a position. Each cell on a path passes the test, the first
 /// and the last too. A cell gets `None` exactly where no path leads to it.
 ///
-///     [[1, 1, 0], [0, 1, 1]]   distances((0, 0), Steps::Sides, |x| *x == 1)   [[Some(0), Some(1), None], [None, Some(2), Some(3)]]
-///     [[1, 1, 0], [0, 1, 1]]   distances((0, 0), Steps::All, |x| *x == 1)     [[Some(0), Some(1), None], [None, Some(1), Some(2)]]
+///     [[1, 1, 0], [0, 1, 1]]   distances((0, 0), Connectivity::Four, |x| *x == 1)
+///         [[Some(0), Some(1), None], [None, Some(2), Some(3)]]
+///     [[1, 1, 0], [0, 1, 1]]   distances((0, 0), Connectivity::Eight, |x| *x == 1)
+///         [[Some(0), Some(1), None], [None, Some(1), Some(2)]]
 ///
 /// Requires: the test can be called at every cell.
 /// Fails: if allocation fails.
@@ -126,24 +134,25 @@ pub(crate) fn search_from<A: Allocator + Clone>(
 pub fn distances<T, A: Allocator + Clone, F: Fn(&T) -> bool>(
     grid: &Grid<T, A>,
     from: (usize, usize),
-    kind: Steps,
+    connectivity: Connectivity,
     passable: F,
 ) -> Result<Grid<Option<usize>, A>, AllocError>
     requires { F.IsAlwaysCallable passable }
     ensures order { IfOk result (λ steps. steps.order ≡ grid.now.order) }
     ensures size { IfOk result (λ steps. HaveOneSize steps.rows grid.now.rows) }
-    ensures least { IfOk result (λ steps. HoldsOfAnswers F.post passable grid.now.rows (λ floor.
-        HasLeastSteps kind floor from steps.rows)) }
+    ensures least { IfOk result (λ steps. HoldsOfAnswers F.post passable grid.now.rows (λ mask.
+        HasLeastSteps connectivity mask from steps.rows)) }
 {
-    let floor = answers_of(grid, passable)?;
-    search_from(kind, floor, &[from], None)
+    let mask = answers_of(grid, passable)?;
+    search_from(connectivity, mask, &[from], None)
 }
 
 /// Returns, for each cell, the least number of steps from the nearest of several positions, as [`distances`] counts
 /// them. Positions out of range and those whose cell does not pass the test are ignored; one that comes twice
 /// counts once.
 ///
-///     [[1, 1, 0], [1, 1, 1]]   distances_from(&[(0, 0), (1, 2)], Steps::Sides, |x| *x == 1)   [[Some(0), Some(1), None], [Some(1), Some(1), Some(0)]]
+///     [[1, 1, 0], [1, 1, 1]]   distances_from(&[(0, 0), (1, 2)], Connectivity::Four, |x| *x == 1)
+///         [[Some(0), Some(1), None], [Some(1), Some(1), Some(0)]]
 ///
 /// Requires: the test can be called at every cell.
 /// Fails: if allocation fails.
@@ -152,15 +161,15 @@ pub fn distances<T, A: Allocator + Clone, F: Fn(&T) -> bool>(
 pub fn distances_from<T, A: Allocator + Clone, F: Fn(&T) -> bool>(
     grid: &Grid<T, A>,
     starts: &[(usize, usize)],
-    kind: Steps,
+    connectivity: Connectivity,
     passable: F,
 ) -> Result<Grid<Option<usize>, A>, AllocError>
     requires { F.IsAlwaysCallable passable }
     ensures order { IfOk result (λ steps. steps.order ≡ grid.now.order) }
     ensures size { IfOk result (λ steps. HaveOneSize steps.rows grid.now.rows) }
-    ensures least { IfOk result (λ steps. HoldsOfAnswers F.post passable grid.now.rows (λ floor.
-        HasLeastFrom kind floor starts.now steps.rows)) }
+    ensures least { IfOk result (λ steps. HoldsOfAnswers F.post passable grid.now.rows (λ mask.
+        HasLeastFrom connectivity mask starts.now steps.rows)) }
 {
-    let floor = answers_of(grid, passable)?;
-    search_from(kind, floor, starts, None)
+    let mask = answers_of(grid, passable)?;
+    search_from(connectivity, mask, starts, None)
 }

@@ -7,7 +7,7 @@ ghost use Rattle.grid_paths.specs.Prelude.{IsStep, answers_by, HoldsOfAnswers, I
 use super::answers::answers_of;
 use super::around::around;
 use grid::Grid;
-use grid_near::Steps;
+use grid_near::Connectivity;
 use std::alloc::{AllocError, Allocator};
 
 /// What [`flood`] does at a cell.
@@ -91,7 +91,7 @@ impl<T: Copy + PartialEq + Drop, A: Allocator> Taking<T, A> {
     #[inline(always)]
     fn take_around(
         &mut self,
-        kind: Steps,
+        connectivity: Connectivity,
         from: ((usize, usize), T),
         grid: &mut Grid<T, A>,
     ) -> Result<(), AllocError>
@@ -100,23 +100,23 @@ impl<T: Copy + PartialEq + Drop, A: Allocator> Taking<T, A> {
         ensures kept { CanUndo self.old grid.old self.new grid.new }
         ensures takes { OnOk result (Takes T.eq (λ b.
             (way_of T.eq self.old.cells.on self.old.cells.stop from.1 ≡ Enter.On)
-            × IsStep kind from.0 b) self.old grid.old self.new grid.new) }
+            × IsStep connectivity from.0 b) self.old grid.old self.new grid.new) }
     {
         let (at, cell) = from;
         let Enter::On = self.way_at(&cell) else {
             return Ok(());
         };
         let near = around(at.0, at.1);
-        match kind {
-            Steps::Sides => self.take_each(&near[..4], grid),
-            Steps::All => self.take_each(&near, grid),
+        match connectivity {
+            Connectivity::Four => self.take_each(&near[..4], grid),
+            Connectivity::Eight => self.take_each(&near, grid),
         }
     }
 
     // Takes the positions that walks from some lead to, as far as their cells are those.
     pub(crate) fn take_region(
         &mut self,
-        kind: Steps,
+        connectivity: Connectivity,
         starts: &[(usize, usize)],
         grid: &mut Grid<T, A>,
     ) -> Result<(), AllocError>
@@ -124,7 +124,7 @@ impl<T: Copy + PartialEq + Drop, A: Allocator> Taking<T, A> {
         requires mark { IsPassed T.eq self.old.cells self.old.cells.mark }
         ensures same { SameSizeAndOrder grid.old grid.new }
         ensures saves { undone self.new.taken.items grid.new.rows ≡ grid.old.rows }
-        ensures flood { OnOk result (IsFlood kind
+        ensures flood { OnOk result (IsFlood connectivity
             (answers_by (way_of T.eq self.old.cells.on self.old.cells.stop) grid.old.rows)
             starts.now (places self.new.taken.items)) }
         ensures written { OnOk result (IsWritten self.old.cells.mark
@@ -136,7 +136,7 @@ impl<T: Copy + PartialEq + Drop, A: Allocator> Taking<T, A> {
         let mut next = 0;
         while next < self.taken.len() {
             let from = self.taken[next];
-            self.take_around(kind, from, grid)?;
+            self.take_around(connectivity, from, grid)?;
             next += 1;
         }
         Ok(())
@@ -153,11 +153,11 @@ fn places_of<T: Copy, A: Allocator>(
     taken.iter().map(|(at, _)| *at).collect(alloc)
 }
 
-/// Returns the positions that walks from some positions lead to. The closure says of each cell whether a walk enters it,
-/// and whether it goes on from there. Positions out of range and those of cells that aren't entered lead nowhere; none
-/// is returned twice.
+/// Returns the positions that walks from some positions lead to. The closure says of each cell whether a walk enters
+/// it, and whether it goes on from there. Positions out of range and those of cells that aren't entered lead nowhere;
+/// none is returned twice.
 ///
-///     [[0, 0, 1, 0], [1, 1, 1, 0]]   flood(&[(0, 0)], Steps::Sides, |x| if *x == 0 { Enter::On } else { Enter::Stop })
+///     [[0, 0, 1, 0], [1, 1, 1, 0]]   flood(&[(0, 0)], Connectivity::Four, way)
 ///     [(0, 0), (0, 1), (1, 0), (1, 1), (0, 2)], in some order
 ///
 /// Minesweeper does this: a field that no mine touches opens those around it, a numbered one opens alone.
@@ -169,12 +169,12 @@ fn places_of<T: Copy, A: Allocator>(
 pub fn flood<T, A: Allocator + Clone, F: Fn(&T) -> Enter>(
     grid: &Grid<T, A>,
     starts: &[(usize, usize)],
-    kind: Steps,
+    connectivity: Connectivity,
     enter: F,
 ) -> Result<Vec<(usize, usize), A>, AllocError>
     requires { F.IsAlwaysCallable enter }
     ensures flood { IfOk result (λ found. HoldsOfAnswers F.post enter grid.now.rows (λ ways.
-        IsFlood kind ways starts.now found.items)) }
+        IsFlood connectivity ways starts.now found.items)) }
     ensures in_range { IfOk result (λ found.
         All (λ at. InRange grid.now.rows at.0 at.1) found.items) }
 {
@@ -186,6 +186,6 @@ pub fn flood<T, A: Allocator + Clone, F: Fn(&T) -> Enter>(
         mark: Enter::No,
     };
     let mut search = Taking { cells, taken };
-    search.take_region(kind, starts, &mut ways)?;
+    search.take_region(connectivity, starts, &mut ways)?;
     places_of(&search.taken, grid.allocator().clone()?)
 }

@@ -1,14 +1,14 @@
-//! The numbers in which a search for the least costs counts: of 64 bits, or of 128 where these might not suffice.
+//! The integers in which a search for the least costs counts: of 64 bits, or of 128 where these might not suffice.
 ghost use Rattle.std.specs.Prelude.{◌≡◌, ◌<◌, Some, None, refl};
 ghost use Rattle.std.specs.Ordering.{nat_cmp};
 ghost use Rattle.grid_paths.specs.Width.{Reading, narrow, wide, value_of, number_of, position_of, limit_of, side_of};
 
-// A number that stands for a sum of costs or for none, and one that stands for a position.
+// An integer that stands for a sum of costs or for none, and one that stands for a position.
 pub(crate) trait Width: Ord + Copy + Drop {
-    // What it stands for.
+    // What an integer stands for.
     ghost reads: { Reading Self };
 
-    // The number that stands for a sum.
+    // The integer that stands for a sum.
     fn of_sum(sum: u128) -> Self
         requires { sum < limit_of reads }
         ensures value { value_of reads result ≡ sum }
@@ -18,7 +18,7 @@ pub(crate) trait Width: Ord + Copy + Drop {
     fn of_none() -> Self
         ensures { number_of reads result ≡ None };
 
-    // The number as it is.
+    // The value of the integer.
     fn value(self) -> u128
         ensures { result ≡ value_of reads self };
 
@@ -26,7 +26,7 @@ pub(crate) trait Width: Ord + Copy + Drop {
     fn sum(self) -> Option<u128>
         ensures { result ≡ number_of reads self };
 
-    // The number that stands for a position.
+    // The integer that stands for a position.
     fn of_position(at: (usize, usize)) -> Self
         requires row { at.0 < side_of reads }
         requires col { at.1 < side_of reads }
@@ -36,7 +36,7 @@ pub(crate) trait Width: Ord + Copy + Drop {
     fn position(self) -> (usize, usize)
         ensures { result ≡ position_of reads self };
 
-    // Numbers are compared.
+    // The integers are ordered by their values.
     ghost ordered: { (x y : Self) → Self.cmp x y ≡ nat_cmp (value_of reads x) (value_of reads y) };
 }
 

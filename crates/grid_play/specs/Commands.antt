@@ -1,4 +1,4 @@
--- The commands of a script: a name, and what the words behind it say.
+-- The commands of a script: a name, and what the words after it say.
 use Rattle.std.specs.Prelude.{ℕ, ◌/◌, ◌%◌, ◌==◌, ◌||◌, ◌&&◌, not, zero, suc, ℤ, Bool, if◌then◌else◌, Option, None, Some, List, [], ◌∷◌, ◌++◌, length, take, drop, codes, bytes_eq, option_and_then, option_map}
 use Rattle.grid_base.specs.declared.words.Symmetry.TheVariants.{Identity, FlipCols, FlipRows, RotateHalf, Transpose, RotateLeft, RotateRight, AntiTranspose}
 use Rattle.grid_commands.specs.declared.command.Axis.TheVariants.{Row, Col}
@@ -32,7 +32,7 @@ abbrev pub lines_of_length : ℕ → List ℤ → Option (List (List ℤ))
 lines_of_length len cells = if can_be_cut (length cells) len
     then Some (cut (length cells / len) len cells) else None
 
--- what the words behind a name say, and the command that comes of it
+-- what the words after a name say, and the command that comes of it
 pub data Form : Type 0 where
   alone : CommandValue ℤ → Form
   with_cell : (ℤ → CommandValue ℤ) → Form
@@ -113,7 +113,7 @@ form_among [] name = None
 form_among (entry ∷ entries) name = if bytes_eq name entry.0 then Some entry.1
     else form_among entries name
 
--- the words behind a name, by form: each stands for one number, and there are no more
+-- the words after a name, by form: each stands for one number, and there are no more
 abbrev pub with_no_word : List (List ℕ) → CommandValue ℤ → Option (CommandValue ℤ)
 with_no_word [] command = Some command
 with_no_word (word ∷ words) command = None
@@ -179,7 +179,7 @@ read_form (with_line f) words = option_map f (cells_of words)
 read_form (with_index_and_line f) words = option_map (λ p. f p.0 p.1) (index_and_line words)
 read_form (with_index_and_lines f) words = option_map (λ p. f p.0 p.1) (index_and_lines words)
 
--- the command of a name and the words behind it, by these entries
+-- the command of a name and the words after it, by these entries
 abbrev pub command_among : List (List ℕ × Form) → List ℕ → List (List ℕ) → Option (CommandValue ℤ)
 command_among entries name words = do
   form ← form_among entries name

@@ -15,7 +15,7 @@ reason_text Length = codes "length"
 reason_text Index = codes "index"
 reason_text TooLarge = codes "too large"
 
--- a line of cells, each behind a space
+-- a line of cells, each after a space
 abbrev pub line_text : List ℤ → List ℕ
 line_text cells = codes "line" ++ flat_map (λ cell. codes " " ++ signed_decimal cell) cells
 

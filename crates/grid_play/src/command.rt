@@ -6,7 +6,7 @@ ghost use Rattle.grid_play.specs.Prelude.{words_of, alone, bare_forms, cell_form
 use crate::script::parse_cells;
 use grid::{Command, Symmetry, can_cut};
 use std::alloc::{AllocError, Allocator};
-use text_lines::{Words, cell, index};
+use text_lines::{Words, parse_cell, parse_index};
 
 /// Returns the command of a name and all words after it, or `None` where they are none.
 ///
@@ -134,7 +134,7 @@ fn parse_insert<A: Allocator>(
     ensures { IfOk result (λ read. option_map (λ p. (p.0, p.1.items)) read
         ≡ index_and_line (words_of words.entry.0.now)) }
 {
-    let Some(at) = words.next().and_then(|word| index(word)) else {
+    let Some(at) = words.next().and_then(|word| parse_index(word)) else {
         return Ok(None);
     };
     Ok(parse_cells(alloc, words)?.map(|line| (at, line)))
@@ -152,7 +152,7 @@ fn parse_insert_lines<A: Allocator + Clone>(
     let (Some(at), Some(len)) = (words.next(), words.next()) else {
         return Ok(None);
     };
-    let (Some(at), Some(len)) = (index(at), index(len)) else {
+    let (Some(at), Some(len)) = (parse_index(at), parse_index(len)) else {
         return Ok(None);
     };
     let Some(cells) = parse_cells(alloc.clone()?, words)? else {
@@ -199,7 +199,7 @@ fn one_cell(mut words: Words<'_>) -> Option<i64>
     let (Some(value), None) = (words.next(), words.next()) else {
         return None;
     };
-    cell(value)
+    parse_cell(value)
 }
 
 fn one_index(mut words: Words<'_>) -> Option<usize>
@@ -208,7 +208,7 @@ fn one_index(mut words: Words<'_>) -> Option<usize>
     let (Some(number), None) = (words.next(), words.next()) else {
         return None;
     };
-    index(number)
+    parse_index(number)
 }
 
 #[tactic(auto, unfolding(crate::specs::Commands::two_indices))]
@@ -218,7 +218,7 @@ fn two_indices(mut words: Words<'_>) -> Option<(usize, usize)>
     let (Some(first), Some(second), None) = (words.next(), words.next(), words.next()) else {
         return None;
     };
-    Some((index(first)?, index(second)?))
+    Some((parse_index(first)?, parse_index(second)?))
 }
 
 // A position and a cell: `R C V`.
@@ -232,7 +232,7 @@ fn position_and_cell(mut words: Words<'_>) -> Option<(usize, usize, i64)>
     if words.next().is_some() {
         return None;
     }
-    Some((index(row)?, index(col)?, cell(value)?))
+    Some((parse_index(row)?, parse_index(col)?, parse_cell(value)?))
 }
 
 // Two positions: `R C R C`.
@@ -248,7 +248,7 @@ fn two_positions(mut words: Words<'_>) -> Option<((usize, usize), (usize, usize)
         return None;
     }
     Some((
-        (index(first_row)?, index(first_col)?),
-        (index(second_row)?, index(second_col)?),
+        (parse_index(first_row)?, parse_index(first_col)?),
+        (parse_index(second_row)?, parse_index(second_col)?),
     ))
 }

@@ -11,7 +11,7 @@ use std::fmt;
 pub enum ScriptFault {
     /// The first line isn't a grid.
     BadGrid,
-    /// The line of this number, counted from 1, isn't a command.
+    /// The line of this index, counted from 1, isn't a command.
     BadCommand(usize),
     /// Allocation failed.
     Memory,

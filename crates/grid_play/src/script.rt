@@ -7,7 +7,7 @@ use crate::command::parse_command;
 use crate::fault::ScriptFault;
 use grid::{Command, Grid, Order, can_cut};
 use std::alloc::{AllocError, Allocator, Global};
-use text_lines::{Lines, Words, cell, index};
+use text_lines::{Lines, Words, parse_cell, parse_index};
 
 /// A script that was read.
 #[derive(Drop)]
@@ -57,7 +57,7 @@ fn grid_of_words<A: Allocator>(
     let (Some(order), Some(cols)) = (words.next(), words.next()) else {
         return Ok(None);
     };
-    let (Some(order), Some(cols)) = (order_of(order), index(cols)) else {
+    let (Some(order), Some(cols)) = (order_of(order), parse_index(cols)) else {
         return Ok(None);
     };
     let Some(cells) = parse_cells(alloc, words)? else {
@@ -89,7 +89,7 @@ pub(crate) fn parse_cells<A: Allocator>(
 {
     let mut cells = Vec::new(alloc);
     for word in words {
-        match cell(word) {
+        match parse_cell(word) {
             Some(cell) => cells.push(cell)?,
             None => return Ok(None),
         }

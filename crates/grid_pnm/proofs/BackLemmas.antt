@@ -3,7 +3,7 @@ use Rattle.std.proofs.Common.{◌≡◌, ℕ, ◌+◌, ◌-◌, ◌*◌, ◌<◌
 use Rattle.grid_base.proofs.Common.{is_ascii_digit, all_ascii_digits, digits_value, nat_tests, digits_decimal, digits_value-decimal, decimal_nonempty, take-append_seam, drop-append_seam, drop-append-add, IsNumeralModel, numerals_by_value, tells_all_ascii_digits}
 use Rattle.text_lines.specs.Numbers.{number_up_to, index_of}
 use Rattle.grid_pnm.specs.declared.head.Header.{Header}
-use Rattle.grid_pnm.specs.Scan.{is_white, behind_gap, digit_count, number_at, next_number}
+use Rattle.grid_pnm.specs.Scan.{is_white, after_gap, digit_count, number_at, next_number}
 use Rattle.grid_pnm.specs.Header.{header_by, header_after}
 use Rattle.grid_pnm.specs.Samples.{samples_of}
 use Rattle.grid_pnm.proofs.ScanLemmas.{number_is}
@@ -29,7 +29,7 @@ count_is (d ∷ ds) b rest digits end =
     rw digit (omega (arith, count_is ds b rest others end))
 
 -- no white space and no comment is before digits
-no_gap : (ds rest : List ℕ) → 0 < length ds → all_ascii_digits ds ≡ true → behind_gap false (ds ++ rest) ≡ ds ++ rest
+no_gap : (ds rest : List ℕ) → 0 < length ds → all_ascii_digits ds ≡ true → after_gap false (ds ++ rest) ≡ ds ++ rest
 no_gap [] rest some digits = absurd (omega (arith, some))
 no_gap (d ∷ ds) rest some digits =
     let digit : is_ascii_digit d ≡ true = grind (arith, nat_tests) in

@@ -8,7 +8,7 @@ prepend-prepend : (xs ys : List ℕ) (r : Result (List ℕ) PnmError) → prepen
 prepend-prepend xs ys (Err e) = refl
 prepend-prepend xs ys (Ok later) = ap Ok (sym (append_assoc xs ys later))
 
--- where some samples are left, behind those before
+-- where some samples are left, after those before
 module _ (len max count : ℕ) (before rest : List ℕ) (read : Result (List ℕ) PnmError) (some : length before < count)
     (so_far : read ≡ prepend before (plain_samples len max (count - length before) rest)) where
   next_is : (n : Result (ℕ × List ℕ) PnmError) → next_sample len max rest ≡ n → read ≡ prepend before (and_then n (λ sample. prepend (sample.0 ∷ []) (plain_samples len max (count - length before - 1) sample.1)))

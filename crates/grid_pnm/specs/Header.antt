@@ -23,7 +23,7 @@ starts_white [] = false
 starts_white (byte ∷ bytes) = is_white byte
 
 -- the header of these numbers, if the greatest sample is from 1 to 255, and there is white space
--- behind it; the raster begins behind that
+-- after it; the raster begins after that
 unfoldable pub header_by : ℕ → Bool × Bool → ℕ → ℕ → ℕ → List ℕ → Result Header PnmError
 header_by len kind cols rows max rest = let at = len - length rest in
     if max == 0 || nat_lt 255 max then Err (BadMax max at)

@@ -7,7 +7,7 @@ pub use Rattle.grid_pnm.specs.Reading.{pgm_of, ppm_of, IsOrMemory}
 unfoldable pub use Rattle.grid_pnm.specs.Samples.{samples_of}
 pub use Rattle.grid_pnm.specs.Samples.{sample_count, next_sample, plain_samples, raw_samples}
 unfoldable pub use Rattle.grid_pnm.specs.Scan.{number_at, next_number}
-pub use Rattle.grid_pnm.specs.Scan.{is_white, behind_gap, digit_count}
+pub use Rattle.grid_pnm.specs.Scan.{is_white, after_gap, digit_count}
 pub use Rattle.grid_pnm.specs.Writing.{WritesBy, table_map, AnswersCell, AnswersColor, MayDrawGrays, MayDrawColors, raw_picture, pgm_bytes, ppm_bytes}
 pub use Rattle.std.specs.List.{AllZip}
 pub use Rattle.std.specs.Simd.{first_chunks}

@@ -1,4 +1,4 @@
-//! Why bytes are no picture.
+//! The errors of reading pictures.
 ghost use Rattle.std.specs.Prelude.{◌≡◌};
 ghost use Rattle.grid_pnm.specs.declared.error.PnmError.TheVariants.{Memory};
 

@@ -3,11 +3,11 @@ ghost use Rattle.std.specs.Prelude.{◌≡◌, ◌⊎◌, ◌+◌, ◌^◌, ◌<
 ghost use Rattle.grid_pnm.specs.Prelude.{next_sample, plain_samples, raw_samples, sample_count};
 ghost use Rattle.grid_pnm.specs.declared.error.PnmError.TheVariants.{Short, Memory};
 
-use crate::scan::{behind_gap, next_number};
+use crate::scan::{after_gap, next_number};
 use crate::{Header, PnmError};
 use std::alloc::Allocator;
 
-// The bytes behind the header, and how many samples they are to have, `channels` for each cell.
+// The bytes after the header, and how many samples they are to have, `channels` for each cell.
 pub(crate) fn raster<'a>(
     bytes: &'a [u8],
     header: &Header,
@@ -69,7 +69,7 @@ fn first_above(max: u8, bytes: &[u8]) -> Option<usize>
     bytes.iter().position(|sample| *sample > max)
 }
 
-// `count` samples in decimals, the first behind the front of these bytes, which end a picture of `len` bytes.
+// `count` samples in decimals, the first after the front of these bytes, which end a picture of `len` bytes.
 pub(crate) fn plain_samples<A: Allocator>(
     alloc: A,
     len: usize,
@@ -92,7 +92,7 @@ pub(crate) fn plain_samples<A: Allocator>(
     Ok(samples)
 }
 
-// The sample that the number behind white space and comments is, and what is behind it.
+// The sample that the number after white space and comments is, and the rest after it.
 fn next_sample(len: usize, max: u8, bytes: &[u8]) -> Result<(u8, &[u8]), PnmError>
     ensures { MatchResult result
         (λ sample. next_sample len max bytes.now ≡ Ok (sample.0, sample.1.now))
@@ -100,7 +100,7 @@ fn next_sample(len: usize, max: u8, bytes: &[u8]) -> Result<(u8, &[u8]), PnmErro
 {
     let (sample, rest) = next_number(len, bytes)?;
     if sample > max as usize {
-        let at = len.saturating_sub(behind_gap(bytes).len());
+        let at = len.saturating_sub(after_gap(bytes).len());
         return Err(PnmError::AboveMax { sample, at, max });
     }
     Ok((sample as u8, rest))

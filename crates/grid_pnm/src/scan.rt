@@ -1,9 +1,9 @@
 //! Numbers between white space and comments.
 ghost use Rattle.std.specs.Prelude.{◌≡◌, ◌≤◌, false, None, Some, Ok, Err, length, IfSome, IfOk, MatchOption, MatchResult};
-ghost use Rattle.grid_pnm.specs.Prelude.{is_white, behind_gap, digit_count, number_at, next_number};
+ghost use Rattle.grid_pnm.specs.Prelude.{is_white, after_gap, digit_count, number_at, next_number};
 
 use crate::PnmError;
-use text_lines::index;
+use text_lines::parse_index;
 
 // White space: a space, a tab, a line feed or a carriage return.
 pub(crate) fn is_white(byte: u8) -> bool
@@ -12,9 +12,9 @@ pub(crate) fn is_white(byte: u8) -> bool
     byte == b' ' || byte == b'\t' || byte == b'\n' || byte == b'\r'
 }
 
-// What is behind the white space and the comments at the front.
-pub(crate) fn behind_gap(bytes: &[u8]) -> &[u8]
-    ensures rest { result.now ≡ behind_gap false bytes.now }
+// The rest after the white space and the comments at the front.
+pub(crate) fn after_gap(bytes: &[u8]) -> &[u8]
+    ensures rest { result.now ≡ after_gap false bytes.now }
     ensures shorter { length result.now ≤ length bytes.now }
 {
     let mut rest = bytes;
@@ -44,7 +44,7 @@ fn digit_count(bytes: &[u8]) -> usize
         .count()
 }
 
-// The number that the digits at the front write, and what is behind them.
+// The number that the digits at the front write, and the rest after them.
 pub(crate) fn number_at(bytes: &[u8]) -> Option<(usize, &[u8])>
     ensures number { MatchOption result (number_at bytes.now ≡ None)
         (λ number. number_at bytes.now ≡ Some (number.0, number.1.now)) }
@@ -52,10 +52,10 @@ pub(crate) fn number_at(bytes: &[u8]) -> Option<(usize, &[u8])>
 {
     let (digits, rest) = bytes.split_at(digit_count(bytes));
     let word = str::from_utf8(digits).ok()?;
-    Some((index(word)?, rest))
+    Some((parse_index(word)?, rest))
 }
 
-// The number behind white space and comments, and what is behind it, in a picture of `len` bytes.
+// The number after white space and comments, and the rest after it, in a picture of `len` bytes.
 #[tactic(auto, unfolding(crate::specs::Scan::next_number))]
 pub(crate) fn next_number(len: usize, bytes: &[u8]) -> Result<(usize, &[u8]), PnmError>
     ensures number { MatchResult result
@@ -63,7 +63,7 @@ pub(crate) fn next_number(len: usize, bytes: &[u8]) -> Result<(usize, &[u8]), Pn
         (λ e. next_number len bytes.now ≡ Err e) }
     ensures shorter { IfOk result (λ number. length number.1.now ≤ length bytes.now) }
 {
-    let here = behind_gap(bytes);
+    let here = after_gap(bytes);
     match number_at(here) {
         Some(number) => Ok(number),
         None => Err(PnmError::BadNumber {

@@ -76,7 +76,7 @@ fn head<B: Allocator>(alloc: B, magic: &str, size: (usize, usize)) -> Result<Vec
     Ok(text.into_bytes())
 }
 
-// Adds the sample of each of these cells, with room for all from the first on.
+// Appends the sample of each of these cells, with room for all of them reserved.
 fn push_all<T, B: Allocator, F: Fn(&T) -> u8>(
     bytes: &mut Vec<u8, B>,
     cells: &[T],

@@ -45,7 +45,7 @@ small_more sums y old new = record {
       (cases_lt k (length sums));
 }
 
--- one more 0 behind zeros
+-- one more 0 after zeros
 pub zeros_more : (sums : List ℤ) → ((k : ℕ) → k < length sums → get_or sums k (pos 0) ≡ pos 0) → (k : ℕ) → k < length (sums ++ pos 0 ∷ []) → get_or (sums ++ pos 0 ∷ []) k (pos 0) ≡ pos 0
 zeros_more sums zero k lt =
     ⊎_elim (λ l. before sums (pos 0) k l ∙ zero k l) (λ ge. last_of sums (pos 0) k (omega (arith, length_more sums (pos 0)))) (cases_lt k (length sums))

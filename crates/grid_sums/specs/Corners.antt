@@ -49,7 +49,7 @@ module _ {F A : Type 0} (returns : F → Bor A → ℤ → Type 0) (f : F) where
     pub grown : (r c : ℕ) → r < m → c < col_count t
         → Returns (cell t r c) (growth (col_count t + 1) sums r c)
 
-  -- behind the old sums come 0, and those of the first n numbers of row r, whose own sum is z
+  -- after the old sums come 0, and those of the first n numbers of row r, whose own sum is z
   pub record RowSummed (r : ℕ) (t : List (List A)) (old : List ℤ) (n : ℕ) (z : ℤ) (sums : List ℤ) : Type 0
     where
       pub count : length sums ≡ length old + 1 + n

@@ -7,7 +7,7 @@ use grid_view::{AsView, GridView};
 use std::alloc::{AllocError, Allocator, Global};
 use std::marker::Model;
 
-// How many sums a vector can hold.
+// How many sums a vector can hold: one of at most `isize::MAX` bytes.
 const MOST: usize = isize::MAX as usize / size_of::<i128>();
 
 /// The sums of a board of whole numbers, from which that of any part comes in four reads. It is seen as the table of the

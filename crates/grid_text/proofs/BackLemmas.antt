@@ -21,7 +21,7 @@ pub record IsLine (line : List ℕ) : Type 0 where
   pub no_feed : All (λ b. (b == 10) ≡ false) line
   pub no_return : All (λ b. (b == 13) ≡ false) line
 
--- the lines of a text in which a line feed is behind the line of each row
+-- the lines of a text in which a line feed is after the line of each row
 module _ {X : Type 0} (line_text : X → List ℕ) where
   parts_are : (rows : List X) → All (λ r. IsLine (line_text r)) rows → slice_split (λ b. b == 10) (flat_map (λ row. line_text row ++ 10 ∷ []) rows) ≡ map line_text rows ++ [] ∷ []
   parts_are [] all = refl

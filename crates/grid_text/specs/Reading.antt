@@ -165,7 +165,7 @@ by_chars R = record { Part = ℕ; parts = chars; bad = bad_char; answers = R }
 abbrev pub by_words : {T : Type 0} → (List ℕ → Option T → Type 0) → Cutting T
 by_words R = record { Part = List ℕ; parts = words_of; bad = bad_word; answers = R }
 
--- what came of the cells of one line, behind the cells before it: as many as its parts, those that R
+-- what came of the cells of one line, after the cells before it: as many as its parts, those that R
 -- lets them be; or the fault of the first that is none; or allocation failed
 module _ {A T : Type 0} (parts : List ℕ → List A) (bad : ℕ → ℕ → A → TextError)
     (R : A → Option T → Type 0) where

@@ -1,4 +1,4 @@
-//! Why a text isn't a grid.
+//! The errors of reading text.
 ghost use Rattle.std.specs.Prelude.{◌≡◌};
 ghost use Rattle.grid_text.specs.declared.error.TextError.TheVariants.{Memory};
 
@@ -6,7 +6,7 @@ use std::alloc::{AllocError, AllocFailed};
 use thiserror::Error;
 
 /// Why a text could not be read as a grid: the first line that isn't a row. In a line the characters or words are
-/// tested first, then their number.
+/// tested first, then their count.
 #[derive(Clone, Copy, Debug, PartialEq, Eq, Error)]
 pub enum TextError {
     /// A character isn't a cell.
@@ -32,9 +32,9 @@ pub enum TextError {
     Ragged {
         /// The line, counted from 1.
         line: usize,
-        /// The number of its characters or words.
+        /// How many characters or words it has.
         len: usize,
-        /// The number of those of line 1.
+        /// How many line 1 has.
         cols: usize,
     },
     /// Allocation failed.

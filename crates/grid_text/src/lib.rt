@@ -2,7 +2,7 @@
 //!
 //! A line ends at a line feed, with or without a carriage return before it, or at the end of the text. A line feed at
 //! the end of the text adds no row. A blank line is a row without cells, as an empty list is in [`Grid`](grid::Grid)'s
-//! `TryFrom`: beside a row with cells it is ragged, and a text of blank lines is the empty grid.
+//! `TryFrom`: among rows with cells it is ragged, and a text of blank lines is the empty grid.
 #![tactic(auto)]
 
 mod error;

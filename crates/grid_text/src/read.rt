@@ -15,11 +15,11 @@ use text_lines::{Words, cut_line};
 ///     [[1, 0, 0], [0, 1, 0]]
 ///
 /// A line ends at a line feed, with or without a carriage return before it, or at the end of the text. A line feed at
-/// the end of the text adds no row. A blank line is a row without cells: beside a row with cells it is ragged, and a
+/// the end of the text adds no row. A blank line is a row without cells: among rows with cells it is ragged, and a
 /// text of blank lines is the empty grid.
 ///
 /// Requires: `read` can be called at every character.
-/// Fails: `BadChar` or `Ragged` of the first line that isn't a row; its characters are tested before their number.
+/// Fails: `BadChar` or `Ragged` of the first line that isn't a row; its characters are tested before their count.
 /// `Memory` if allocation fails.
 /// Cost: one call for each character; the vector of cells grows as it is filled.
 pub fn from_text<T: Drop, A: Allocator, F: Fn(char) -> Option<T>>(
@@ -43,7 +43,7 @@ pub fn from_text<T: Drop, A: Allocator, F: Fn(char) -> Option<T>>(
 /// Lines end as in [`from_text`]. A line without words is a row without cells.
 ///
 /// Requires: `read` can be called at every word.
-/// Fails: `BadWord` or `Ragged` of the first line that isn't a row; its words are tested before their number. `Memory`
+/// Fails: `BadWord` or `Ragged` of the first line that isn't a row; its words are tested before their count. `Memory`
 /// if allocation fails.
 /// Cost: one call for each word; the vector of cells grows as it is filled.
 pub fn from_words<T: Drop, A: Allocator, F: Fn(&str) -> Option<T>>(
@@ -80,7 +80,7 @@ where
     read_lines(alloc, text, &Tried(read))
 }
 
-// The grid of the lines of a text, in whatever pieces.
+// The grid of the lines of a text, each cut into characters or into words.
 fn read_lines<T: Drop, A: Allocator, P: Pieces<T, A>>(
     alloc: A,
     text: &str,

@@ -93,7 +93,7 @@ fn read_lines(rt: &impl Abort, grid: &Grid<String>, text: &mut String) -> Result
     add_ends(text, Some(grid.iter_col(1)))
 }
 
-// Reads the first of the cells round the second cell of the first row.
+// Reads the first of the cells around the second cell of the first row.
 fn read_near(rt: &impl Abort, grid: &Grid<String>, text: &mut String) -> Result<(), AllocError> {
     let there = 0 < grid.rows() && 1 < grid.cols();
     assert!(rt; there);

@@ -1,6 +1,6 @@
 //! Regions of cells that equal one another and are different.
 use grid::{Grid, Order};
-use grid_paths::{Steps, fill_region};
+use grid_paths::{Connectivity, fill_region};
 use std::process::Abort;
 use std::test::Fail;
 
@@ -14,7 +14,7 @@ fn assert_filled<R: AllocGlobal + Abort>(
     for order in [Order::RowMajor, Order::ColumnMajor] {
         let mut grid = Grid::from_vec(Vec::from_array(rt.alloc(), cells)?, 3);
         grid.lay_out(order);
-        fill_region(&mut grid, at, Steps::Sides, -0.0)?;
+        fill_region(&mut grid, at, Connectivity::Four, -0.0)?;
         assert_eq!(rt; format!(in rt.alloc(); "{grid:?}")?.as_str(), want);
     }
     Ok(())

@@ -39,7 +39,7 @@ fn put_lines<'a>(
     }
 }
 
-// Puts a board behind the last line, and returns whether it was put.
+// Puts a board after the last line, and returns whether it was put.
 fn put_board<'a>(board: &mut Board<'a>, other: Board<'a>, call: usize) -> bool {
     if call == 6 {
         board.fits_row(other.cols()) && board.append_rows(other).is_ok()

@@ -46,7 +46,7 @@ fn keeps_what_is_turned_back(rt: HostRuntime) -> Result<(), Fail> {
     Ok(())
 }
 
-// Of the cells round (0, 2) the first is (0, 1).
+// Of the cells around (0, 2) the first is (0, 1).
 #[test]
 fn steps_lead_to_neighbors(rt: HostRuntime) -> Result<(), Fail> {
     let grid = grid_with(rt.alloc(), WIDE, Order::ColumnMajor)?;

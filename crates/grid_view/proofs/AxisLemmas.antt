@@ -1,4 +1,4 @@
--- The numbers along an axis.
+-- The indices along an axis.
 use Rattle.std.proofs.Common.{◌≡◌, ℕ, zero, suc, ◌+◌, ◌*◌, ◌<◌, ◌≤◌, Bool, true, false, refl, ap, arith, mul_comm, mul-le-mul_right}
 use Rattle.grid_view.specs.declared.axis.ViewAxis.{ViewAxis}
 use Rattle.grid_view.specs.View.{counted, offset, other, turned, first_of}

@@ -33,7 +33,7 @@ module _ {T : Type 0} (t : List (List T)) (P : ℕ × ℕ → Type 0) where
   pub before_all : (r : ℕ) → row_count t ≤ r → HoldsBefore r 0 → (i j : ℕ) → InRange t i j → P (i, j)
   before_all r le h i j within = h i j within (inl (omega (arith, within.0, le)))
 
--- a position that is put behind others
+-- a position that is put after others
 module _ (xs : List (ℕ × ℕ)) (x : ℕ × ℕ) where
   put_old : (k : ℕ) (a : ℕ × ℕ) → k < length xs → a ≡ slice_index_or xs k a → a ≡ slice_index_or (xs ++ x ∷ []) k a
   put_old k a lt e = e ∙ sym (get_or_append_left xs (x ∷ []) a k lt)

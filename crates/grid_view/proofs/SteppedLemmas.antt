@@ -15,7 +15,7 @@ stepped_is : (place step k at q : ℕ) → place + k * step ≡ at + q * 2 ^ 64 
 stepped_is place step k at q e fits =
     ap (λ n. n % 2 ^ 64) e ∙ (add-mul-mod_self_right at q (2 ^ 64) ∙ mod-eq_of_lt fits)
 
--- a step, and those behind it
+-- a step, and those after it
 stepped_on : (place step k : ℕ) → stepped ((place + step) % 2 ^ 64) step k ≡ stepped place step (suc k)
 stepped_on place step k =
     mod-add-mod (place + step) (2 ^ 64) (k * step) ∙ ap (λ n. n % 2 ^ 64) more
@@ -36,7 +36,7 @@ module _ {T : Type 0} (place step left : ℕ) (cells : List T) (h : AreStepped p
   pub first_within : place < 2 ^ 64 → 0 < left → place < length cells
   first_within fits some = omega (arith, h.within 0 some, stepped_is place step 0 place 0 (omega arith) fits)
 
--- the first of the cells, and those behind it; the last, and those before it
+-- the first of the cells, and those after it; the last, and those before it
 module _ {T : Type 0} (place step left : ℕ) (cells : List T) (h : AreStepped place step left (length cells)) (x : T) (less : ℕ) (one : left ≡ suc less) where
   pub stepped_before : AreStepped place step less (length cells)
   stepped_before = record { within = λ k lt. h.within k (omega arith) }

@@ -24,7 +24,7 @@ join_by_push f lead [] x = append-nil (f x)
 join_by_push f lead (y ∷ ys) x =
     rw (lt-ltb 0 (suc (length ys)) (omega arith)) (ap (λ l. f y ++ l) (flat_map_push (λ z. lead ++ f z) ys x) ∙ sym (append_assoc (f y) _ _))
 
--- one more item behind its lead
+-- one more item after its lead
 pub join_next : {X Y B : Type 0} (w : X → Y) (f : Y → List B) (lead : List B) (xs : List X) (i : ℕ) (x : X) → slice_get xs i ≡ Some x
     → join_by f lead (map w (take (i + 1) xs)) ≡ join_by f lead (map w (take i xs)) ++ (cond (ltb 0 i) lead [] ++ f (w x))
 join_next w f lead xs i x e =

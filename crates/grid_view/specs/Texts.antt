@@ -15,7 +15,7 @@ module _ {T : Type 0} (text : T → Option (List ℕ)) where
   table_text t = Some (codes "[") ++? rows_text t ++? Some (codes "]")
 
 module _ {X : Type 0} (text : X → Option (List ℕ)) (between : List ℕ) where
-  -- the text of each item, the first behind `lead` and each other behind what is between two
+  -- the text of each item, the first after `lead` and each other after what is between two
   abbrev pub items_text : List ℕ → List X → Option (List ℕ)
   items_text lead [] = Some []
   items_text lead (x ∷ xs) = Some lead ++? text x ++? items_text between xs
@@ -33,11 +33,11 @@ abbrev pub longest : List ℤ → ℕ
 longest [] = 0
 longest (z ∷ zs) = max (length (signed_decimal z)) (longest zs)
 
--- a number behind as many spaces as fill the width; a longer one is written in full
+-- a number after as many spaces as fill the width; a longer one is written in full
 abbrev pub right_aligned : ℕ → ℤ → List ℕ
 right_aligned width z = replicate (width - length (signed_decimal z)) 32 ++ signed_decimal z
 
--- the line of a row: four spaces, `[`, each number behind a space and with a comma between two, `]`
+-- the line of a row: four spaces, `[`, each number after a space and with a comma between two, `]`
 -- and a line end
 abbrev pub row_line : ℕ → List ℤ → List ℕ
 row_line width zs = codes "    [" ++ join_by (λ z. codes " " ++ right_aligned width z) (codes ",")

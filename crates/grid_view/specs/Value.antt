@@ -14,7 +14,7 @@ pub record ViewValue (T : Type 0) : Type 0 where
   pub table : IsTable rows
   pub fits : FitsUsize (row_count rows) (col_count rows)
 
--- a number that is counted is within
+-- an index that is counted is within
 pub counted_within : (b : Bool) (n k : ℕ) → k < n → counted b n k < n
 counted_within true n k lt = omega arith
 counted_within false n k lt = lt

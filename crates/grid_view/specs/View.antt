@@ -3,7 +3,7 @@ use Rattle.std.specs.Prelude.{◌≡◌, ℕ, ◌+◌, ◌-◌, ◌*◌, ◌^◌
 use Rattle.grid_base.specs.Table.{IsSize, cell, tabulate}
 use Rattle.grid_view.specs.declared.axis.ViewAxis.{ViewAxis}
 
--- number k of n, counted from the end or not
+-- index k of n, counted from the end or not
 abbrev pub counted : Bool → ℕ → ℕ → ℕ
 counted true n k = n - 1 - k
 counted false n k = k
@@ -35,7 +35,7 @@ turned a reversed = record {
 abbrev pub cut : ViewAxis → ℕ → ViewAxis
 cut a count = record { count = count; stride = a.stride; backwards = a.backwards }
 
--- the first, as the storage has them, of the `count` lines from number `at` on of n
+-- the first, as the storage has them, of the `count` lines from index `at` on of n
 abbrev pub first_of : Bool → ℕ → ℕ → ℕ → ℕ
 first_of true n at count = n - at - count
 first_of false n at count = at

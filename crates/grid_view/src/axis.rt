@@ -12,7 +12,7 @@ pub(crate) struct ViewAxis {
 }
 
 impl ViewAxis {
-    // Returns the number of line `k` as the storage has them.
+    // Returns the index of line `k` in the storage.
     pub(crate) fn number(self, k: usize) -> usize
         requires { k < self.count }
         ensures number { result ≡ counted self.backwards self.count k }
@@ -25,7 +25,7 @@ impl ViewAxis {
         }
     }
 
-    // Returns the number of the line that is nearest to a signed number, or 0 where there are no lines.
+    // Returns the index of the line that is nearest to a signed index, or 0 where there are no lines.
     pub(crate) fn nearest(self, at: isize) -> usize
         ensures nearest { result ≡ nearest_below at self.count }
         ensures within { 0 < self.count → result < self.count }
@@ -37,7 +37,7 @@ impl ViewAxis {
         }
     }
 
-    // Returns the number, as the storage has them, of the first of the `count` lines from line `at` on.
+    // Returns the index in the storage of the first, there, of the `count` lines from line `at` on.
     pub(crate) fn first_of(self, at: usize, count: usize) -> usize
         requires { at + count ≤ self.count }
         ensures { result ≡ first_of self.backwards self.count at count }

@@ -70,13 +70,13 @@ fn copy_cells<T: Copy>(view: &GridView<'_, T>, r: usize, to: &mut [T])
     }
 }
 
-// A row of fewer cells stays in the cache with those beside it, also where it runs across the storage.
+// A row of fewer cells stays in the cache with those next to it, also where it runs across the storage.
 const LONG: usize = 1024;
 
-// To begin a row of fewer cells costs more than to clone them with those of the other rows, one by one.
+// Below this length a loop for each row costs more to start than it costs to clone all cells one by one.
 const SHORT_ROW: usize = 16;
 
-// Returns clones of the cells of a view, row by row, and goes over it so.
+// Returns clones of the cells of a view, row by row, and reads it in that order.
 fn clones_in_turn<T: Clone, A: Allocator>(
     alloc: A,
     view: &GridView<'_, T>,
@@ -96,7 +96,7 @@ fn clones_in_turn<T: Clone, A: Allocator>(
 }
 
 // Returns clones of the cells of a view, row by row. Where long rows run across the storage, each cell of them would be
-// fetched from memory by itself; so the cells are cloned along the storage, and laid out anew.
+// fetched from memory by itself; so the cells are cloned along the storage, and then transposed in place.
 fn clones_of<T: Clone, A: Allocator>(
     alloc: A,
     view: &GridView<'_, T>,
@@ -104,34 +104,34 @@ fn clones_of<T: Clone, A: Allocator>(
     requires { ClonesAreEqual T.is_clone }
     ensures { IfOk result (λ copies. copies.items ≡ concat_rows view.now.rows) }
 {
-    if !view.runs_across() {
+    if !view.has_long_rows_across() {
         return clones_in_turn(alloc, view);
     }
     let (rows, cols) = view.size();
     let mut flat = Flat::from_vec(clones_in_turn(alloc, &view.transposed())?);
-    flat.relay(cols, rows);
+    flat.transpose_in_place(cols, rows);
     Ok(flat.into_vec())
 }
 
 impl<'a, T> GridView<'a, T> {
     // Whether long rows run across the storage, and the columns are long too.
-    fn runs_across(&self) -> bool {
+    fn has_long_rows_across(&self) -> bool {
         self.rows.stride == 1
             && self.cols.stride != 1
             && LONG <= self.rows.count
             && LONG <= self.cols.count
     }
 
-    /// Returns the cells of row `r` as a slice, or `None` where they aren't side by side in the storage, the first first.
+    /// Returns the cells of row `r` as a slice, or `None` where they aren't side by side and in order in the storage.
     ///
     ///     [[1, 2], [3, 4]], of a row-major grid      row_slice(1)   Some([3, 4])
     ///     [[1, 2], [3, 4]], of a column-major grid   row_slice(1)   None
     ///     [[1], [2]], of any grid, turned or not     row_slice(1)   Some([2])
     ///
-    /// It is `Some` for a view of a row-major grid and for its parts, also upside down, and for what is as these by another
-    /// way, as the transposed view of a column-major grid; and wherever there is one column. Elsewhere it is `None`, so it is
-    /// one answer for all rows of a view. Of this the contract says the case of one column: a contract sees the rows of a
-    /// view, and not where they lie.
+    /// It is `Some` for a view of a row-major grid and for its parts, also upside down, and for views that lie in
+    /// memory as these do, as the transposed view of a column-major grid; and wherever there is one column. Elsewhere
+    /// it is `None`: all rows of a view have the same answer. Of this the contract says the case of one column: a
+    /// contract sees the rows of a view, and not where they lie.
     ///
     /// Requires: there is such a row.
     /// Cost: constant; no cell is copied, and no memory is taken.

@@ -229,7 +229,7 @@ impl<'a, T> Clone for ViewLineIter<'a, T> {
 #[derive(Drop)]
 pub struct ViewRowIter<'a, T> {
     view: GridView<'a, T>,
-    // The numbers of the rows that are left.
+    // The indices of the rows that are left.
     ahead: Range<usize>,
 }
 

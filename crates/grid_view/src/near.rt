@@ -1,13 +1,15 @@
-//! Iterators over the cells round a cell of a view, and counts of them. They are those of a grid.
+//! Iterators over the cells around a cell of a view, and counts of them. They are those of a grid.
 ghost use Rattle.std.specs.Prelude.{◌≡◌, ◌≤◌, length};
 ghost use Rattle.grid_base.specs.Prelude.{InRange, IsSize, GivesCells, row_count, col_count};
 ghost use Rattle.grid_near.specs.Around.{HoldsCells, by_steps, strided_table};
 ghost use Rattle.grid_near.specs.NearCounts.{CallableNear, CountsNear};
-ghost use Rattle.grid_near.specs.Neighbors.{neighbors4, neighbors8, wrapped_neighbors4, wrapped_neighbors8, round_of, step_count, GivesNear};
+ghost use Rattle.grid_near.specs.Neighbors.{neighbors4, neighbors8, wrapped_neighbors4, wrapped_neighbors8, around_of, step_count, GivesNear};
 ghost use Rattle.grid_near.specs.declared.board.Edges.TheVariants.{Joined};
 
 use crate::view::GridView;
-use grid_near::{Edges, Neighbors, Steps, Strided, WrappedNeighbors, count_near, neighbors_in};
+use grid_near::{
+    Connectivity, Edges, Neighbors, Strided, WrappedNeighbors, count_near, neighbors_in,
+};
 
 impl<'a, T> GridView<'a, T> {
     /// Returns an iterator over the cells that share a side with the cell at this position, row by row, each with its
@@ -21,11 +23,11 @@ impl<'a, T> GridView<'a, T> {
         ensures count { length result ≤ 4 }
         ensures cells { GivesCells self.now.rows result }
     {
-        self.cells_round(at, Steps::Sides, Edges::Open)
+        self.cells_around(at, Connectivity::Four, Edges::Open)
     }
 
-    /// Returns an iterator over the cells that touch the cell at this position, at a side or a corner, row by row, each with
-    /// its position.
+    /// Returns an iterator over the cells that touch the cell at this position, at a side or a corner, row by row, each
+    /// with its position.
     ///
     ///     [[1, 2, 3], [4, 5, 6]]   neighbors8((0, 2))   ((0, 1), 2), ((1, 1), 5), ((1, 2), 6)
     ///
@@ -35,12 +37,12 @@ impl<'a, T> GridView<'a, T> {
         ensures count { length result ≤ 8 }
         ensures cells { GivesCells self.now.rows result }
     {
-        self.cells_round(at, Steps::All, Edges::Open)
+        self.cells_around(at, Connectivity::Eight, Edges::Open)
     }
 
-    /// Same as [`neighbors4`](GridView::neighbors4), on a view whose edges meet: the last row is above the first, and the last
-    /// column left of the first. It gives exactly four cells; with one row or column, or two, some of them come twice. Out of
-    /// range it gives none.
+    /// Same as [`neighbors4`](GridView::neighbors4), on a view whose edges meet: the last row is above the first, and
+    /// the last column left of the first. It gives exactly four cells; with one row or column, or two, some of them
+    /// come twice. Out of range it gives none.
     ///
     ///     [[1, 2, 3], [4, 5, 6]]   wrapped_neighbors4((0, 2))   ((1, 2), 6), ((0, 1), 2), ((0, 0), 1), ((1, 2), 6)
     ///
@@ -51,11 +53,12 @@ impl<'a, T> GridView<'a, T> {
         ensures at_most { length result ≤ 4 }
         ensures cells { GivesCells self.now.rows result }
     {
-        self.cells_round(at, Steps::Sides, Edges::Joined)
+        self.cells_around(at, Connectivity::Four, Edges::Joined)
     }
 
-    /// Same as [`neighbors8`](GridView::neighbors8), on a view whose edges meet. It gives exactly eight cells; with one row or
-    /// column, or two, some of them come more than once, and the cell itself can be one of them. Out of range it gives none.
+    /// Same as [`neighbors8`](GridView::neighbors8), on a view whose edges meet. It gives exactly eight cells; with one
+    /// row or column, or two, some of them come more than once, and the cell itself can be one of them. Out of range it
+    /// gives none.
     ///
     ///     [[1, 2, 3], [4, 5, 6], [7, 8, 9]]   wrapped_neighbors8((0, 0))   9, 7, 8, 3, 2, 6, 4, 5, each with its position
     ///
@@ -66,7 +69,7 @@ impl<'a, T> GridView<'a, T> {
         ensures at_most { length result ≤ 8 }
         ensures cells { GivesCells self.now.rows result }
     {
-        self.cells_round(at, Steps::All, Edges::Joined)
+        self.cells_around(at, Connectivity::Eight, Edges::Joined)
     }
 
     /// Same as [`count_neighbors8`](GridView::count_neighbors8), of the cells of [`neighbors4`](GridView::neighbors4).
@@ -127,16 +130,21 @@ impl<'a, T> GridView<'a, T> {
         count_near(self.wrapped_neighbors8(at), test)
     }
 
-    // The cells round a cell, by which steps, and by what the edges do.
+    // The cells around a cell, by their connectivity and by what the edges do.
     #[inline(always)]
-    fn cells_round(&self, at: (usize, usize), kind: Steps, edges: Edges) -> Neighbors<'a, T>
-        ensures gives { GivesNear (round_of kind edges self.now.rows at.0 at.1) result }
+    fn cells_around(
+        &self,
+        at: (usize, usize),
+        connectivity: Connectivity,
+        edges: Edges,
+    ) -> Neighbors<'a, T>
+        ensures gives { GivesNear (around_of connectivity edges self.now.rows at.0 at.1) result }
         ensures count { edges ≡ Joined → InRange self.now.rows at.0 at.1
-            → length result ≡ step_count kind }
-        ensures at_most { length result ≤ step_count kind }
+            → length result ≡ step_count connectivity }
+        ensures at_most { length result ≤ step_count connectivity }
         ensures cells { GivesCells self.now.rows result }
     {
-        neighbors_in(self.strided(), at, kind, edges)
+        neighbors_in(self.strided(), at, connectivity, edges)
     }
 
     // The table by the steps between its cells, where a step back is one modulo 2^64.

@@ -69,7 +69,7 @@ impl<'a, T: Whole> GridView<'a, T> {
         }
     }
 
-    // Writes the line of row `r`, which is in range, behind the text.
+    // Writes the line of row `r`, which is in range, after the text.
     fn push_row_line<B: Allocator>(
         &self,
         text: &mut String<B>,

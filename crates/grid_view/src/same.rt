@@ -6,11 +6,11 @@ use crate::as_view::AsView;
 use crate::view::GridView;
 
 // A part of at most this many rows and columns is compared cell by cell. Where one view runs along the storage and the
-// other across it, the cells of a small part stay in the cache until the lines beside them are read. Boards of 4096 by
-// 4096 take twice as long by parts of 8 or of 32.
-const SMALL: usize = 16;
+// other across it, the cells of a small part stay in the cache until the lines next to them are read. Boards of 4096 by
+// 4096, as in `bench/beside orders`, take twice as long by parts of 8 or of 32.
+const COMPARE_BLOCK: usize = 16;
 
-// Whether the cells of row `r` are the same in two views, in the columns from the first number to before the second.
+// Whether the cells of row `r` are the same in two views, in the columns from the first index to before the second.
 fn has_same_cells<T: PartialEq>(
     view: &GridView<'_, T>,
     other: &GridView<'_, T>,
@@ -31,8 +31,8 @@ fn has_same_cells<T: PartialEq>(
     true
 }
 
-// Whether the cells of a part are the same in two views. The part has the rows from the first number to before the second,
-// and such columns.
+// Whether the cells of a part are the same in two views. The part has the rows from the first index to before the
+// second, and such columns.
 fn has_same_rows<T: PartialEq>(
     view: &GridView<'_, T>,
     other: &GridView<'_, T>,
@@ -70,7 +70,7 @@ fn has_same_halves<T: PartialEq>(
 {
     let height = rows.1 - rows.0;
     let width = cols.1 - cols.0;
-    if height <= SMALL && width <= SMALL {
+    if height <= COMPARE_BLOCK && width <= COMPARE_BLOCK {
         return has_same_rows(view, other, rows, cols);
     }
     if height < width {
@@ -121,8 +121,8 @@ impl<'a, T: Eq> Eq for GridView<'a, T> {
     ghost laws = { same_view_equiv T.Eq.laws };
 }
 
-/// Returns whether two boards have the same rows, whatever they are: a grid, a part, a turned or a deferred one. `==` does
-/// so of two of one type.
+/// Returns whether two boards have the same rows, whatever they are: a grid, a part, a turned or a deferred one. `==`
+/// does so of two of one type.
 ///
 ///     same_cells(&[[1, 2], [3, 4]], &[[1, 3], [2, 4]] transposed)   true
 ///

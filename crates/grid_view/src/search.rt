@@ -12,7 +12,7 @@ impl<'a, T> GridView<'a, T> {
     ///
     ///     [[1, 2], [3, 2]]   position(|x| *x == 2)   Some((0, 1))
     ///
-    /// It is a position of the view. In a grid, that of a part from `at` on is `at` further.
+    /// It is a position of the view: of a part that begins at `at`, add `at` for the position in the grid.
     ///
     /// Requires: the closure can be called at a reference to each cell.
     /// Cost: one call for each cell up to the first, row by row; no memory.

@@ -82,8 +82,8 @@ impl<'a, T> GridView<'a, T> {
         }
     }
 
-    /// Returns the view of a slice's cells, cut into rows of `cols`, where the slice is the storage in an order; or `None` where
-    /// they can't be cut so. An empty slice gives an empty view.
+    /// Returns the view of a slice's cells, cut into rows of `cols`, where the slice is the storage in an order; or
+    /// `None` where they can't be cut so. An empty slice gives an empty view.
     ///
     ///     from_slice([1, 2, 3, 4, 5, 6], RowMajor, 3)      Some([[1, 2, 3], [4, 5, 6]])
     ///     from_slice([1, 2, 3, 4, 5, 6], ColumnMajor, 3)   Some([[1, 3, 5], [2, 4, 6]])
@@ -180,8 +180,9 @@ impl<'a, T> GridView<'a, T> {
         &self.cells[at]
     }
 
-    /// Returns the cell at a signed position, or, where a number is out of range, at the nearest one in range: 0 in place of
-    /// a negative one, the last in place of one that is too large. It is `None` exactly where there are no cells.
+    /// Returns the cell at a signed position, or, where an index is out of range, at the nearest one in range: 0 in
+    /// place of a negative one, the last in place of one that is too large. It is `None` exactly where there are no
+    /// cells.
     ///
     ///     [[1, 2], [3, 4]]   get_clamped((0, 1))    Some(2)
     ///     [[1, 2], [3, 4]]   get_clamped((-1, 5))   Some(2)
@@ -206,8 +207,8 @@ impl<'a, T> GridView<'a, T> {
     ///     [[1, 2], [3, 4]], of a column-major grid   as_slice()   None
     ///
     /// It is `Some` for the view of a row-major grid, for whole rows of it side by side, for a part of one row, and for
-    /// what is as these by another way, as the transposed view of a column-major grid. The contract doesn't say so: a
-    /// contract sees the rows of a view, and not where they lie.
+    /// views that lie in memory as these do, as the transposed view of a column-major grid. The contract doesn't say
+    /// so: a contract sees the rows of a view, and not where they lie.
     ///
     /// Cost: constant; no cell is copied.
     pub fn as_slice(&self) -> Option<&'a [T]>
@@ -220,8 +221,8 @@ impl<'a, T> GridView<'a, T> {
         }
     }
 
-    /// Returns the view of the `size.0` rows and `size.1` columns from position `at` on. Without rows or without columns
-    /// it is empty.
+    /// Returns the view of the `size.0` rows and `size.1` columns from position `at` on. Without rows or without
+    /// columns it is empty.
     ///
     ///     [[1, 2, 3], [4, 5, 6]]   part((0, 1), (2, 2))   [[2, 3], [5, 6]]
     ///

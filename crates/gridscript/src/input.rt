@@ -7,10 +7,10 @@ use std::io::Read;
 use std::rt::Env;
 use std::{env, io};
 
-// The number of reads within which an input has to end.
+// Within how many reads an input has to end, 4 GiB where each read is full. Any number of this size does.
 const READS: u32 = 1_048_576;
 
-// How many bytes a read asks for.
+// How many bytes a read asks for. Any number of this size does.
 const READ_LEN: usize = 4096;
 
 /// Returns the arguments after the program's name. One that isn't text ends the program as bad arguments do.

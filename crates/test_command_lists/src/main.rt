@@ -1,6 +1,7 @@
 //! Runs every list of up to two commands after each of the eight symmetries, over small tables in both orders, at once,
-//! deferred and step by step, beside the plain program. Counts the lists on which all agree, and names the others. Then it
-//! runs lists of all commands, which begin at one of them and go on with the first after the last, over larger tables too.
+//! deferred and step by step, against the plain program. Counts the lists on which all agree, and names the others.
+//! Then it runs lists of all commands, which begin at one of them and go on with the first after the last, over larger
+//! tables too.
 //!
 //! With 172 commands there are 1 + 172 + 172 * 172 lists after a symmetry, 476112 at a size with its two orders.
 #![tactic(auto)]

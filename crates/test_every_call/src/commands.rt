@@ -135,7 +135,7 @@ const SCRIPTS: [&[u8]; 5] = [
     b"RowMajor 1 5\nget 9 9\nset 9 9 1\nrow 9\npush_row 1 2\nremove_row 9\npop_row\npop_row\n",
 ];
 
-// Scripts with a fault behind something that was read: a line that isn't a command, one whose cells can't be cut, a cell
+// Scripts with a fault after something that was read: a line that isn't a command, one whose cells can't be cut, a cell
 // that isn't a number, and cells that can't be cut into rows.
 const BAD_SCRIPTS: [(&[u8], ScriptFault); 4] = [
     (

@@ -19,7 +19,7 @@ fn put(cell: &u32, field: &mut String) -> Result<(), AllocError> {
     write!(field, "{cell}")
 }
 
-// Writes it behind forty zeros.
+// Writes it after forty zeros.
 fn put_long(cell: &u32, field: &mut String) -> Result<(), AllocError> {
     field.push_str("0000000000000000000000000000000000000000")?;
     put(cell, field)
@@ -89,7 +89,7 @@ fn csv_read<'a>(start: &'a Start, name: &str) -> Result<Answer, AllocError> {
     Ok(came(cells_of(start, name, text.as_str().as_bytes())))
 }
 
-// A field that isn't UTF-8, behind one that was read.
+// A field that isn't UTF-8, after one that was read.
 fn bad_csv_read<'a>(start: &'a Start, name: &str) -> Answer {
     if start.size != (1, 1) {
         return Answer::Skipped;
@@ -107,7 +107,7 @@ fn bad_csv_read<'a>(start: &'a Start, name: &str) -> Answer {
     }
 }
 
-// Four quoted fields and line ends of two bytes, a field behind a byte order mark, or a header without records.
+// Four quoted fields and line ends of two bytes, a field after a byte order mark, or a header without records.
 fn plain_read<'a>(start: &'a Start, name: &str) -> Answer {
     let sheet: &[u8] = match start.size {
         (2, 2) if start.case == 3 => b"\"1\",\"2\"\r\n3,\"4\"",

@@ -43,7 +43,7 @@ fn line_put<'a>(start: &'a Start, board: &mut Board<'a>, name: &str) -> Result<A
     Ok(line_came(put, len))
 }
 
-// No line that fits, one or two, put before the first line, behind the last, or between.
+// No line that fits, one or two, put before the first line, after the last, or between.
 fn several_put<'a>(
     start: &'a Start,
     board: &mut Board<'a>,
@@ -66,7 +66,7 @@ fn several_put<'a>(
     Ok(lines_came(put, count, len))
 }
 
-// Another board of two lines, or of one, behind the last line: in the same order, in the other order, or empty.
+// Another board of two lines, or of one, after the last line: in the same order, in the other order, or empty.
 fn joined<'a>(start: &'a Start, board: &mut Board<'a>, name: &str) -> Result<Answer, AllocError> {
     let by_rows = name == "Grid::append_rows";
     let count = if start.case == 2 { 1 } else { 2 };

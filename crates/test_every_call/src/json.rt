@@ -112,7 +112,7 @@ fn no_cell_read(start: &Start) -> Result<Answer, AllocError> {
     })
 }
 
-// The rows of the board, and in case 1 an item behind them that isn't a row, which is told when all cells are read.
+// The rows of the board, and in case 1 an item after them that isn't a row, which is told when all cells are read.
 fn rows_read(start: &Start) -> Result<Answer, AllocError> {
     let board = start.numbers()?;
     let mut value = rows_of(start, &board)?;

@@ -7,7 +7,7 @@ use grid_csv::CsvError;
 use grid_json::{ReadError, RowsError};
 use grid_lines::sort_rows_by;
 use grid_paths::{
-    Steps, cheapest, cheapest_path, distances, distances_from, regions, shortest_path,
+    Connectivity, cheapest, cheapest_path, distances, distances_from, regions, shortest_path,
 };
 use grid_play::ScriptFault;
 use grid_pnm::PnmError;
@@ -21,7 +21,7 @@ use std::io;
 use test_support::fixtures::{Heap, ORDERS};
 use test_support::fuse::Fuse;
 
-// What a call starts from that has memory for all, beside a board of this size.
+// What a call starts from that has memory for all, and a board of this size.
 fn ready(alloc: Global, size: (usize, usize)) -> Start {
     let start = Start::new(alloc, size, Order::RowMajor, DIGIT, u64::MAX);
     start.ready();
@@ -53,18 +53,18 @@ fn is_found(maze: &Grid<bool, &Heap>, name: &str) -> Result<bool, AllocError> {
     };
     Ok(match name {
         "distances" => {
-            let steps = distances(maze, (0, 0), Steps::Sides, test)?;
+            let steps = distances(maze, (0, 0), Connectivity::Four, test)?;
             steps.get_at(END) == Some(&Some(77)) && calls.get() == 144
         }
         "cheapest" => {
-            let sums = cheapest(maze, (0, 0), Steps::Sides, cost)?;
+            let sums = cheapest(maze, (0, 0), Connectivity::Four, cost)?;
             sums.get_at(END) == Some(&Some(154)) && calls.get() == 144
         }
-        "shortest_path" => match shortest_path(maze, (0, 0), END, Steps::Sides, test)? {
+        "shortest_path" => match shortest_path(maze, (0, 0), END, Connectivity::Four, test)? {
             Some(path) => path.len() == 78 && calls.get() <= 144,
             None => false,
         },
-        _ => match cheapest_path(maze, (0, 0), END, Steps::Sides, cost)? {
+        _ => match cheapest_path(maze, (0, 0), END, Connectivity::Four, cost)? {
             Some((path, sum)) => path.len() == 78 && sum == 154 && calls.get() <= 144,
             None => false,
         },
@@ -117,10 +117,10 @@ fn outgrown(heap: &Heap, name: &str, granted: u64) -> Result<Answer, AllocError>
     };
     heap.grant(granted);
     Ok(match name {
-        "all sums" => came(cheapest(&wide, (0, 0), Steps::Sides, cost_of)),
-        "a dear path" => came(cheapest_path(&wide, (0, 0), (1, 0), Steps::Sides, cost_of)),
-        "a region" => came(regions(&wide, Steps::Sides)),
-        _ => came(distances_from(&wide, &starts, Steps::Sides, is_any)),
+        "all sums" => came(cheapest(&wide, (0, 0), Connectivity::Four, cost_of)),
+        "a dear path" => came(cheapest_path(&wide, (0, 0), (1, 0), Connectivity::Four, cost_of)),
+        "a region" => came(regions(&wide, Connectivity::Four)),
+        _ => came(distances_from(&wide, &starts, Connectivity::Four, is_any)),
     })
 }
 

@@ -1,5 +1,5 @@
-//! Maps of a whole board, with what is round each cell or of two boards, the positions of cells, what is seen from one, and
-//! a value for each line.
+//! Maps of a whole board, with what is around each cell or of two boards, the positions of cells, what is seen from
+//! one, and a value for each line.
 use crate::state::{Answer, Board, Call, Start, both_came, came};
 use grid::{Grid, GridView, Neighbors, Order, WrappedNeighbors};
 use grid_pairs::{fold_cols, fold_rows, zip_with};
@@ -45,8 +45,8 @@ fn low(cell: &Counted<'_>) -> u8 {
     (cell.value() % 200) as u8
 }
 
-// Whether a test is called as often as is promised: once for each cell, and where the edges are joined at most once more
-// at those of the first line along the storage and of the last, but never where the call is refused.
+// Whether a test is called as often as is promised: once for each cell, and where the edges are joined at most once
+// more at those of the first line along the storage and of the last, but never where the call is refused.
 fn keeps_tests(start: &Start, name: &str, answer: Answer, tests: u64) -> bool {
     let (lines, width) = match start.order {
         Order::RowMajor => start.size,
@@ -123,7 +123,8 @@ fn map_view<'a>(start: &'a Start, board: &Board<'a>) -> Answer {
     }))
 }
 
-// What is seen from the first cell where the odd ones are clear: all, up to two steps away, or nothing, from out of range.
+// What is seen from the first cell where the odd ones are clear: all, up to two steps away, or nothing, from out of
+// range.
 fn seen<'a>(start: &'a Start, board: &Board<'a>) -> Answer {
     let from = if start.case == 2 { start.size } else { (0, 0) };
     let radius = if start.case == 1 { Some(2) } else { None };

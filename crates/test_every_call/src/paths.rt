@@ -1,8 +1,8 @@
 //! Paths and regions, on boards of numbers that are copied.
 use crate::state::{Answer, Call, Numbers, Start, are_numbers, came, number};
 use grid_paths::{
-    Enter, Steps, cheapest, cheapest_path, distances, distances_from, fill_region, flood, regions,
-    shortest_path,
+    Connectivity, Enter, cheapest, cheapest_path, distances, distances_from, fill_region, flood,
+    regions, shortest_path,
 };
 use std::alloc::AllocError;
 
@@ -18,11 +18,11 @@ pub const CALLS: [Call; 8] = [
 ];
 
 // The steps of a case: to the sides, or to the corners too.
-fn steps(start: &Start) -> Steps {
+fn steps(start: &Start) -> Connectivity {
     if start.case % 2 == 0 {
-        Steps::Sides
+        Connectivity::Four
     } else {
-        Steps::All
+        Connectivity::Eight
     }
 }
 
@@ -78,7 +78,7 @@ fn searched(start: &Start, board: &Numbers<'_>, name: &str) -> Answer {
     let answer = match name {
         "grid_paths::distances" => came(distances(board, from, steps(start), free)),
         "grid_paths::distances_from" => {
-            came(distances_from(board, starts(start), Steps::All, free))
+            came(distances_from(board, starts(start), Connectivity::Eight, free))
         }
         "grid_paths::cheapest" => came(cheapest(board, from, steps(start), cost)),
         "grid_paths::shortest_path" => came(shortest_path(board, from, to, steps(start), free)),

@@ -128,7 +128,7 @@ impl Start {
         }
     }
 
-    // Notes that a closure is called at the cell of this number, which comes behind the last one in this order.
+    // Notes that a closure is called at the cell of this number, which comes after the last one in this order.
     pub fn visited(&self, order: Order, number: u32) {
         let (row, col) = (number.wrapping_sub(1) / 10, number.wrapping_sub(1) % 10);
         let rank = u64::from(match order {

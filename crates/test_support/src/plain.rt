@@ -1,5 +1,5 @@
-//! A plain program beside the library: tables as vectors of rows, written from the definitions with no care for
-//! speed. It shares no code with the library, whose tests compare the two.
+//! A plain program to compare the library with: tables as vectors of rows, written from the definitions with no care
+//! for speed. It shares no code with the library, whose tests compare the two.
 ghost use Rattle.std.specs.Prelude.{◌≡◌, ◌<◌, OnOk, OnErr, IfOk, map, slice_get, option_map};
 ghost use Rattle.grid.specs.Prelude.{row_count, col_count, cell, cells_by, concat_rows, transposed, storage, act, image_rows, image_cols, source_row, source_col, reply_value, command_value, rows_after, reply_to, step_rows, step_reply, run_rows, run_replies};
 ghost use Rattle.test_support.specs.Plain.{items_of_each, AfterSome};

@@ -14,7 +14,7 @@ number_up_to most word =
 unfoldable pub index_of : List ℕ → Option ℕ
 index_of word = number_up_to 18446744073709551615 word
 
--- a cell: an `i64`, behind a minus where it is negative
+-- a cell: an `i64`, after a minus where it is negative
 unfoldable pub cell_of : List ℕ → Option ℤ
 cell_of word =
     if starts_with_minus word then option_map (λ n. neg_ℤ (pos n))

@@ -9,5 +9,5 @@ mod numbers;
 mod words;
 
 pub use lines::{Lines, cut_line};
-pub use numbers::{cell, index};
+pub use numbers::{parse_cell, parse_index};
 pub use words::Words;

@@ -11,9 +11,9 @@ ghost use Rattle.text_lines.specs.Lines.{first_line, later_lines, without_return
 ///     Lines::of(b"ab\r\n\nc")   (1, "ab"), (2, ""), (3, "c")
 #[derive(Drop)]
 pub struct Lines<'a> {
-    /// What is behind the lines that came.
+    /// The unread rest.
     pub rest: &'a [u8],
-    /// How many lines came.
+    /// How many lines were read.
     pub count: usize,
     ghost countable: { count + length rest.now < 2 ^ 64 },
 }
@@ -69,7 +69,7 @@ fn bytes_without_return(line: &[u8]) -> &[u8]
     line.strip_suffix(b"\r").unwrap_or(line)
 }
 
-/// Returns the first line of a text, without its end, and what is behind it.
+/// Returns the first line of a text, without its end, and the rest.
 ///
 ///     cut_line("ab\r\n\nc")   ("ab", "\nc")
 pub fn cut_line(text: &str) -> (&str, &str)

@@ -5,8 +5,7 @@ ghost use Rattle.std.specs.Iterator.{at_most};
 ghost use Rattle.std.specs.List.{before_first, after_first};
 ghost use Rattle.std.specs.Str.{is_utf8};
 
-/// An iterator over the words of a line, which are separated by spaces and tabs. It holds what is behind the words that
-/// came.
+/// An iterator over the words of a line, which are separated by spaces and tabs. It holds the unread rest.
 ///
 ///     Words(" 7\t -8 ")   "7", "-8"
 #[derive(Drop)]
@@ -43,7 +42,7 @@ impl<'a> Iterator for Words<'a> {
     }
 }
 
-// What is before the first separator, and what is after it.
+// The text before the first separator, and the rest after it.
 fn cut_word(text: &str) -> (&str, &str)
     ensures word { result.0.now ≡ before_first separates text.now }
     ensures rest { result.1.now ≡ after_first separates text.now }

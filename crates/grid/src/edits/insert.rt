@@ -2,7 +2,7 @@
 ghost use Rattle.std.specs.Prelude.{◌≡◌, ◌↔◌, ◌+◌, ◌*◌, ◌<◌, ◌≤◌, [], length, insert, All, OnOk, OnErr, IsErrOf};
 ghost use Rattle.grid.specs.Prelude.{row_count, col_count, IsTable, items_of_each, table_of, FitsRow, FitsCol, insert_col, insert_rows, insert_cols, LineFails, LinesFail, ExceedsMax};
 
-use super::{has_room, row_groups};
+use super::{fits_usize, row_groups};
 use crate::{Grid, GridError, LineRefused, LinesRefused};
 use grid_commands::first_len;
 use std::alloc::Allocator;
@@ -151,7 +151,7 @@ impl<T, A: Allocator> Grid<T, A> {
             return Ok(());
         }
         let width = first_len(lines.as_slice());
-        if !has_room(self.row_count, count, width) {
+        if !fits_usize(self.row_count, count, width) {
             return Err(LinesRefused {
                 lines,
                 fault: GridError::TooLarge,
@@ -234,7 +234,7 @@ impl<T, A: Allocator> Grid<T, A> {
         ensures unchanged { OnErr result (self.new ≡ self.old) }
         ensures cells_stay { OnErr result (cells.new.items ≡ cells.old.items) }
     {
-        if !has_room(self.row_count, count, width) {
+        if !fits_usize(self.row_count, count, width) {
             return Err(GridError::TooLarge);
         }
         self.flat.append(cells)?;

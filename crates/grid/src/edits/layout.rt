@@ -7,15 +7,15 @@ use grid_base::{Flat, Order};
 use std::alloc::Allocator;
 
 // Lays the cells of a table out in the other order.
-fn relay<T, A: Allocator>(flat: &mut Flat<T, A>, order: Order, rows: usize, cols: usize)
+fn transpose_storage<T, A: Allocator>(flat: &mut Flat<T, A>, order: Order, rows: usize, cols: usize)
     requires cells { length flat.old ≡ rows * cols }
     requires fits { rows * cols < 2 ^ 64 }
     ensures len { length flat.new ≡ rows * cols }
     ensures table { table_of (flipped order) rows cols flat.new ≡ table_of order rows cols flat.old }
 {
     match order {
-        Order::RowMajor => flat.relay(rows, cols),
-        Order::ColumnMajor => flat.relay(cols, rows),
+        Order::RowMajor => flat.transpose_in_place(rows, cols),
+        Order::ColumnMajor => flat.transpose_in_place(cols, rows),
     }
 }
 
@@ -43,7 +43,7 @@ impl<T, A: Allocator> Grid<T, A> {
         ensures rows { self.new.rows ≡ self.old.rows }
         ensures order { self.new.order ≡ flipped self.old.order }
     {
-        relay(&mut self.flat, self.order, self.row_count, self.col_count);
+        transpose_storage(&mut self.flat, self.order, self.row_count, self.col_count);
         self.order = self.order.flipped();
     }
 }

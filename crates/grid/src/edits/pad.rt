@@ -2,7 +2,7 @@
 ghost use Rattle.std.specs.Prelude.{◌≡◌, ◌≤◌, OnOk, OnErr};
 ghost use Rattle.grid.specs.Prelude.{row_count, col_count, saturating_count, PadsRows, PadsCols, PaddingFails, rows_added_shift};
 
-use super::{has_room, row_groups};
+use super::{fits_usize, row_groups};
 use crate::{Grid, GridError};
 use grid_base::Tally;
 use std::alloc::Allocator;
@@ -114,7 +114,7 @@ impl<T, A: Allocator> Grid<T, A> {
         if count == 0 || rows == 0 {
             return Ok(());
         }
-        if !has_room(rows, count, cols) {
+        if !fits_usize(rows, count, cols) {
             return Err(GridError::TooLarge);
         }
         self.flat.append_defaults(count * cols)?;

@@ -2,21 +2,21 @@
 ghost use Rattle.std.specs.Prelude.{◌≡◌, ◌<◌, ◌≤◌, IsOk, OnOk, OnErr};
 ghost use Rattle.grid.specs.Prelude.{row_count, col_count, FailsBySize, IsCorner, IsResized, ResizesTo};
 
-use super::has_room;
+use super::fits_usize;
 use crate::exchange::exchange_part;
 use crate::{Grid, GridError};
 use std::alloc::Allocator;
 
 impl<T, A: Allocator> Grid<T, A> {
-    /// Brings the grid to `rows` rows and `cols` columns. The cells at positions that stay in range stay there, those that
-    /// are no longer in range are dropped, and new ones are defaults. The order stays. Without rows or without columns it
-    /// becomes the empty grid.
+    /// Brings the grid to `rows` rows and `cols` columns. The cells at positions that stay in range stay there, those
+    /// that are no longer in range are dropped, and new ones are defaults. The order stays. Without rows or without
+    /// columns it becomes the empty grid.
     ///
     ///     [[1, 2], [3, 4]]   resize(3, 1)   [[1], [3], [0]]
     ///
     /// Fails: `TooLarge` where `rows * cols` exceeds `usize::MAX`, else `Memory`, before the first change; the grid is
-    /// unchanged. Where neither number grows, and without rows or without columns, it takes no memory and never fails.
-    /// Cost: where neither number grows, that of [`delete_rows`](Grid::delete_rows) and
+    /// unchanged. Where neither count grows, and without rows or without columns, it takes no memory and never fails.
+    /// Cost: where neither count grows, that of [`delete_rows`](Grid::delete_rows) and
     /// [`delete_cols`](Grid::delete_cols). Else one default for each cell, one swap for each cell that stays, and one
     /// allocation, of a second vector.
     pub fn resize(&mut self, rows: usize, cols: usize) -> Result<(), GridError>
@@ -54,7 +54,7 @@ impl<T, A: Allocator> Grid<T, A> {
         ensures fails { FailsBySize rows cols result }
         ensures unchanged { OnErr result (self.new ≡ self.old) }
     {
-        if !has_room(0, rows, cols) {
+        if !fits_usize(0, rows, cols) {
             return Err(GridError::TooLarge);
         }
         let alloc = self.flat.allocator().clone()?;

@@ -7,7 +7,7 @@ use super::positions::Positions;
 use crate::Layout;
 use std::alloc::{AllocError, Allocator};
 
-// In shorter lines the start of a loop costs more than the steps of a position.
+// Below this length a loop for each line costs more to start than it costs to step a position for each cell.
 const LONG_LINE: usize = 32;
 
 impl<T, A: Allocator> Flat<T, A> {
@@ -28,7 +28,7 @@ impl<T, A: Allocator> Flat<T, A> {
         let (lines, width) = layout.lines();
         let mut cells = Vec::with_capacity(alloc, layout.len())?;
         for line in 0..lines {
-            // lines of one or two cells, whose number is a constant, become one loop, in vector code
+            // lines of one or two cells, whose count is a constant, become one loop, in vector code
             cells = match width {
                 1 => push_line(cells, layout, line, 1, &f),
                 2 => push_line(cells, layout, line, 2, &f),
@@ -165,7 +165,8 @@ impl<T, A: Allocator> Flat<T, A> {
 
     /// Returns what the closure returns at each position of a table, and a reference to the cell there.
     ///
-    /// Requires: the vector has as many cells as the layout, and the closure can be called at each position and its cell.
+    /// Requires: the vector has as many cells as the layout, and the closure can be called at each position and its
+    /// cell.
     /// Fails: if allocation fails; the closure wasn't called.
     /// Cost: one call for each cell; one allocation, before the first call.
     pub fn map_indexed<U, F: Fn((usize, usize), &T) -> U>(
@@ -194,7 +195,8 @@ impl<T, A: Allocator> Flat<T, A> {
 
     /// Replaces each cell of a table by what the closure returns at its position and a reference to it, in order.
     ///
-    /// Requires: the vector has as many cells as the layout, and the closure can be called at each position and its cell.
+    /// Requires: the vector has as many cells as the layout, and the closure can be called at each position and its
+    /// cell.
     /// Cost: one call for each cell; no memory.
     pub fn update<F: Fn((usize, usize), &T) -> T>(&mut self, layout: Layout, f: F)
     where

@@ -2,12 +2,12 @@
 //!
 //! All these calls see the cells as lines, here 2 of 3 cells, and each line's group, here 2 cells before place 1:
 //!
-//!     groups behind the lines   [a b c | d e f | 1 2 | 3 4]
+//!     groups after the lines    [a b c | d e f | 1 2 | 3 4]
 //!     groups in the lines       [a 1 2 b c | d 3 4 e f]
 //!
 //! `weave` brings the cells from the first form to the second. `take_out` takes the groups from the second form, and
 //! leaves the lines. Both keep the order of the groups, and no tally counts their moves. `open` goes from the first
-//! form to the second by counted swaps, which keep the order of the lines but not of the cells behind them. `close_up`
+//! form to the second by counted swaps, which keep the order of the lines but not of the cells after them. `close_up`
 //! takes the groups from the second form by counted swaps, and drops them; `drop_groups` does so uncounted.
 ghost use Rattle.std.specs.Prelude.{◌≡◌, ◌+◌, ◌-◌, ◌*◌, ◌^◌, ◌<◌, ◌≤◌, ◌⊎◌, length, IfOk, OnErr};
 ghost use Rattle.core.specs.Mem.Slots.{FitsRoom};
@@ -110,7 +110,7 @@ impl<T, A: Allocator> Flat<T, A> {
         Ok(replace_with(&mut self.cells, (into, kept), without_tail))
     }
 
-    /// Spreads the lines that come first, so that each has room for its group. What was behind the lines comes to the
+    /// Spreads the lines that come first, so that each has room for its group. What was after the lines comes to the
     /// room, in any order.
     ///
     ///     [1, 3, 2, 4, 0, 0]   open(2 lines of 2, 1 cell before place 1)   [1, 0, 3, 2, 0, 4]
@@ -128,7 +128,7 @@ impl<T, A: Allocator> Flat<T, A> {
         ensures shift { tally.new.shift
             ≡ saturating_count tally.old.shift (groups.lines * groups.width - groups.at) }
     {
-        // the stretch of cells behind each group, the last first, moves back by that group and those before it
+        // the stretch of cells after each group, the last first, moves back by that group and those before it
         let cells = self.cells.as_mut_slice();
         let mut swaps = Swaps::none();
         let mut end = groups.lines * groups.width;
@@ -165,8 +165,8 @@ impl<T, A: Allocator> Flat<T, A> {
         self.cells.truncate(groups.lines * groups.width);
     }
 
-    /// Closes up the lines without their groups, and drops those, as [`close_up`](Flat::close_up) does. No tally counts the
-    /// moves.
+    /// Closes up the lines without their groups, and drops those, as [`close_up`](Flat::close_up) does. No tally counts
+    /// the moves.
     ///
     /// Requires: the vector has the cells of these lines and groups, and the groups are not empty.
     /// Cost: that of [`weave`](super::weave), or of `close_up` where that is faster; no memory.
@@ -189,8 +189,8 @@ impl<T, A: Allocator> Flat<T, A> {
     }
 }
 
-// Whether groups leave their lines faster by moves of whole blocks than by a swap for each cell: the groups fit the room,
-// there are not few cells, and of a single line not many.
+// Whether groups leave their lines faster by moves of whole blocks than by a swap for each cell: the groups fit the
+// room, the cells take at least `FEW_BYTES`, and those of a single line less than `MANY_BYTES`.
 fn moves_at_once<T>(cells: &[T], groups: Groups) -> bool
     requires { length cells.now ≡ groups.lines * (groups.width + groups.count) }
 {
@@ -203,13 +203,13 @@ fn moves_at_once<T>(cells: &[T], groups: Groups) -> bool
 // How groups come to their places among the lines, and how they leave them.
 #[derive(Clone, Copy)]
 enum Method {
-    // None: they are there. The lines have no cells, or the group of a single line is at its end.
+    // Nothing moves: the lines have no cells, or the group of a single line is at its end.
     Nothing,
     // Few single cells, among few cells, one by one.
     Singly,
     // Groups that fit the room on the stack, through it.
     ThroughRoom,
-    // Lines that are long beside the groups in turn, since then each round moves little more than a line.
+    // In turn where lines are long compared with the groups: then each round moves little more than a line.
     InTurn,
     // Others by halves of the lines.
     ByHalves,
@@ -247,7 +247,7 @@ fn method_for<T>(cells: &[T], groups: Groups) -> Method
     }
 }
 
-/// Puts the groups that are behind the lines into their lines.
+/// Puts the groups that are after the lines into their lines.
 ///
 ///     [1, 2, 3, 4, 5, 6]   weave(1 line of 4, 2 cells before place 2)    [1, 2, 5, 6, 3, 4]
 ///     [1, 3, 2, 4, 5, 6]   weave(2 lines of 2, 1 cell before place 1)   [1, 5, 3, 2, 6, 4]
@@ -293,7 +293,7 @@ fn weave_lines<T>(cells: &mut [T], groups: Groups)
     }
 }
 
-// The groups are single cells. Each comes to its place, the first first, past all cells that are there and behind.
+// The groups are single cells. Each comes to its place, the first first, past all cells from there on.
 fn weave_singly<T>(cells: &mut [T], groups: Groups)
     requires single { groups.count ≡ 1 }
     requires cells { length cells.old ≡ groups.lines * (groups.width + groups.count) }
@@ -306,7 +306,7 @@ fn weave_singly<T>(cells: &mut [T], groups: Groups)
     }
 }
 
-// The groups are single cells. Each goes behind the lines, the last first, past all cells that are there.
+// The groups are single cells. Each goes after the lines, the last first, past all cells that are there.
 fn unweave_singly<T>(cells: &mut [T], groups: Groups)
     requires single { groups.count ≡ 1 }
     requires cells { length cells.old ≡ groups.lines * (groups.width + groups.count) }
@@ -321,7 +321,7 @@ fn unweave_singly<T>(cells: &mut [T], groups: Groups)
     }
 }
 
-// The cells behind the place of each group, the last first, change places with that group and all before it.
+// The cells after the place of each group, the last first, change places with that group and all before it.
 fn weave_in_turn<T>(cells: &mut [T], groups: Groups)
     requires { length cells.old ≡ groups.lines * (groups.width + groups.count) }
     ensures { Woven groups.lines groups.width groups.at groups.count cells.old cells.new }
@@ -362,7 +362,7 @@ pub(super) fn unweave<T>(cells: &mut [T], groups: Groups)
     }
 }
 
-// The stretch of cells behind each group, from the first on, changes places with that group and all before it.
+// The stretch of cells after each group, from the first on, changes places with that group and all before it.
 fn unweave_in_turn<T>(cells: &mut [T], groups: Groups)
     requires { length cells.old ≡ groups.lines * (groups.width + groups.count) }
     ensures { Woven groups.lines groups.width groups.at groups.count cells.new cells.old }
@@ -376,7 +376,7 @@ fn unweave_in_turn<T>(cells: &mut [T], groups: Groups)
     }
 }
 
-// Takes the cells behind the group of a single line to its place: they are reversed with the group, and then alone.
+// Takes the cells after the group of a single line to its place: they are reversed with the group, and then alone.
 fn close_line<T>(cells: &mut [T], groups: Groups)
     requires single { groups.lines ≡ 1 }
     requires cells { length cells.old ≡ groups.lines * (groups.width + groups.count) }
@@ -388,7 +388,7 @@ fn close_line<T>(cells: &mut [T], groups: Groups)
     reverse_part(cells, groups.at, behind);
 }
 
-// Takes the stretch of kept cells behind each group, from the first on, to its place in the closed lines. It moves
+// Takes the stretch of kept cells after each group, from the first on, to its place in the closed lines. It moves
 // forward by the groups before it.
 fn close_lines<T>(cells: &mut [T], groups: Groups, tally: &mut Tally)
     requires cells { length cells.old ≡ groups.lines * (groups.width + groups.count) }

@@ -32,7 +32,7 @@ impl<'a, T> Model for GridLineIter<'a, T> {
 }
 
 impl<'a, T> GridLineIter<'a, T> {
-    /// Returns an iterator over the first cell of a slice and those behind it, each `stride` places after the last,
+    /// Returns an iterator over the first cell of a slice and those after it, each `stride` places after the last,
     /// `count` in all.
     ///
     ///     [1, 2, 3, 4, 5]   over(2, 3)   1, 3, 5

@@ -5,7 +5,7 @@ ghost use Rattle.grid_base.specs.Prelude.{Filled, SameOutside, slots_items, slot
 use super::Groups;
 use core::slots::{Slots, with_room, with_slots};
 
-// Which way groups move: from behind the lines into them, or out of them.
+// Which way groups move: into the lines, from their end on, or out of the lines.
 #[derive(Clone, Copy)]
 pub(super) enum Way {
     In,
@@ -41,7 +41,7 @@ fn move_on_stack<T>(row: Slots<T>, state: (), job: (Groups, Way)) -> (Slots<T>, 
     (moved, state, ())
 }
 
-// `move_run`, but a single value goes without a call of the C library.
+// `move_run`, but a single value moves without a call of `memmove`.
 fn move_group<T>(from: &mut Slots<T>, at: usize, other: &mut Slots<T>, to: usize, count: usize)
     requires from { at + count ≤ slots_len from.old }
     requires to { to + count ≤ slots_len other.old }
@@ -62,7 +62,7 @@ fn move_group<T>(from: &mut Slots<T>, at: usize, other: &mut Slots<T>, to: usize
     }
 }
 
-// All groups go to the room. Then the cells behind the place of each group, the last first, move to the back, and the
+// All groups go to the room. Then the cells after the place of each group, the last first, move to the back, and the
 // group comes to its place.
 fn weave_row<T>(mut room: Slots<T>, job: (Slots<T>, Groups)) -> (Slots<T>, Slots<T>)
     requires row { HasGroups job.1 job.0 }
@@ -87,7 +87,7 @@ fn weave_row<T>(mut room: Slots<T>, job: (Slots<T>, Groups)) -> (Slots<T>, Slots
     (room, row)
 }
 
-// Each group goes to the room, from the first on, and the cells behind it move to the front. Then all groups come behind
+// Each group goes to the room, from the first on, and the cells after it move to the front. Then all groups come after
 // the lines.
 fn unweave_row<T>(mut room: Slots<T>, job: (Slots<T>, Groups)) -> (Slots<T>, Slots<T>)
     requires row { HasGroups job.1 job.0 }

@@ -27,7 +27,7 @@ pub(super) fn reverse_part<T>(cells: &mut [T], start: usize, n: usize)
     }
 }
 
-// Exchanges the `first` cells from `start` on with the `second` cells behind them: few by three reversals, which need no
+// Exchanges the `first` cells from `start` on with the `second` cells after them: few by three reversals, which need no
 // room on the stack. `rotate_left` needs none for a single cell.
 pub(super) fn exchange_blocks<T>(cells: &mut [T], start: usize, first: usize, second: usize)
     requires within { start + first + second ≤ length cells.old }

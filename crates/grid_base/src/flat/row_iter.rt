@@ -86,7 +86,7 @@ fn row_of<T>(cells: &[T], layout: Layout, r: usize) -> GridLineIter<'_, T>
 pub struct GridRowIter<'a, T> {
     cells: &'a [T],
     layout: Layout,
-    // The numbers of the rows that are left.
+    // The indices of the rows that are left.
     ahead: Range<usize>,
 }
 

@@ -1,4 +1,4 @@
-//! Where the cells of a row are in the storage of a table: a start, an end, a stride, and their number.
+//! Where the cells of a row are in the storage of a table: a start, an end, a stride, and a count.
 ghost use Rattle.std.specs.Prelude.{◌+◌, ◌*◌, ◌<◌};
 ghost use Rattle.grid_base.specs.Prelude.{place, IsSpan};
 
@@ -22,7 +22,7 @@ pub(super) fn row_span(layout: Layout, r: usize) -> Span
         (layout.rows * layout.cols) result }
 {
     match layout.order {
-        // with no number of cells to read, so that a loop over such rows has no loop within
+        // the count is a constant here, so that a loop over such rows has no inner loop
         _ if layout.cols == 1 => Span {
             start: r,
             end: r + 1,

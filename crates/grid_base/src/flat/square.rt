@@ -3,12 +3,12 @@
 ghost use Rattle.std.specs.Prelude.{◌≡◌, ◌+◌, ◌*◌, ◌^◌, ◌<◌, ◌≤◌, length};
 ghost use Rattle.grid_base.specs.Prelude.{Mirrored, Transposed};
 
-// A part of at most this many rows and columns is swapped cell by cell. A line of a board of 4096 by 4096 is as long as
-// a page, so the lines of a larger part drive each other out of the cache.
-const SMALL: usize = 8;
+// A part of at most this many rows and columns is swapped cell by cell. The lines of a board of 4096 by 4096 are a
+// page apart, so those of a larger part evict each other from the cache.
+const SWAP_BLOCK: usize = 8;
 
-// Transposes the square of the rows and columns from `from` to before `to`: its two halves on the diagonal, and the part
-// above the diagonal with the one below.
+// Transposes the square of the rows and columns from `from` to before `to`: its two halves on the diagonal, and the
+// part above the diagonal with the one below.
 pub(super) fn transpose_within<T>(cells: &mut [T], side: usize, from: usize, to: usize)
     requires cells { length cells.old ≡ side * side }
     requires fits { side * side < 2 ^ 64 }
@@ -25,8 +25,8 @@ pub(super) fn transpose_within<T>(cells: &mut [T], side: usize, from: usize, to:
     swap_across(cells, side, (from, mid), (mid, to));
 }
 
-// Swaps each cell of a part above the diagonal with the one across it. The part has the rows from the first number to before
-// the second, and such columns.
+// Swaps each cell of a part above the diagonal with the one across it. The part has the rows from the first index to
+// before the second, and such columns.
 fn swap_across<T>(cells: &mut [T], side: usize, rows: (usize, usize), cols: (usize, usize))
     requires cells { length cells.old ≡ side * side }
     requires fits { side * side < 2 ^ 64 }
@@ -38,7 +38,7 @@ fn swap_across<T>(cells: &mut [T], side: usize, rows: (usize, usize), cols: (usi
 {
     let height = rows.1 - rows.0;
     let width = cols.1 - cols.0;
-    if height <= SMALL && width <= SMALL {
+    if height <= SWAP_BLOCK && width <= SWAP_BLOCK {
         for row in rows.0..rows.1 {
             swap_row_across(cells, side, row, cols);
         }
@@ -53,8 +53,8 @@ fn swap_across<T>(cells: &mut [T], side: usize, rows: (usize, usize), cols: (usi
     }
 }
 
-// Swaps the cells of a row above the diagonal, in the columns from the first number to before the second, with those across
-// it.
+// Swaps the cells of a row above the diagonal, in the columns from the first index to before the second, with those
+// across it.
 #[inline(always)]
 fn swap_row_across<T>(cells: &mut [T], side: usize, row: usize, cols: (usize, usize))
     requires cells { length cells.old ≡ side * side }

@@ -12,7 +12,7 @@ pub(super) struct StridedIter<'a, T> {
     // From the first cell on.
     cells: &'a [T],
     stride: usize,
-    // The numbers of the cells that are left.
+    // The indices of the cells that are left.
     ahead: Range<usize>,
 }
 
@@ -28,7 +28,7 @@ impl<'a, T> Model for StridedIter<'a, T> {
 }
 
 impl<'a, T> StridedIter<'a, T> {
-    // Returns an iterator over the first cell and those behind it, each `stride` places after the last, `count` in all.
+    // Returns an iterator over the first cell and those after it, each `stride` places after the last, `count` in all.
     pub(super) fn new(cells: &'a [T], stride: usize, count: usize) -> StridedIter<'a, T>
         requires steps { 0 < stride }
         requires counted { count ≡ div_ceil (length cells.now) stride }

@@ -1,6 +1,6 @@
 //! Floods and paths, as indexes.
 use grid::Grid;
-use grid_near::Steps;
+use grid_near::Connectivity;
 use grid_paths::{Enter, cheapest_path, flood, shortest_path};
 use std::alloc::AllocError;
 
@@ -10,7 +10,7 @@ pub fn largest_near(board: &Grid<u8>, at: (usize, usize)) -> Result<u8, AllocErr
     for near in flood(
         board,
         &[at],
-        Steps::Sides,
+        Connectivity::Four,
         |x| if *x == 0 { Enter::No } else { Enter::On },
     )? {
         most = most.max(board[near]);
@@ -24,7 +24,7 @@ pub fn path_top(
     from: (usize, usize),
     to: (usize, usize),
 ) -> Result<Option<u8>, AllocError> {
-    let Some(path) = shortest_path(board, from, to, Steps::Sides, |x| *x != 0)? else {
+    let Some(path) = shortest_path(board, from, to, Connectivity::Four, |x| *x != 0)? else {
         return Ok(None);
     };
     Ok(path.iter().map(|at| board[*at]).max())
@@ -41,7 +41,7 @@ pub fn cost_of(
         board,
         from,
         to,
-        Steps::Sides,
+        Connectivity::Four,
         |x| Some(u32::from(*x)),
     )? {
         for at in path {

@@ -24,7 +24,8 @@ pub fn top_of(alloc: Global, board: &Grid<u8>) -> Result<u8, AllocError> {
     Ok(top)
 }
 
-/// Returns the sum of the neighbors that aren't 0, which are kept first. By value, as `for near in near`, it is not proved.
+/// Returns the sum of the neighbors that aren't 0, which are kept first. By value, as `for near in near`, it is not
+/// proved.
 pub fn near_sum(alloc: Global, board: &Grid<u8>, at: (usize, usize)) -> Result<u64, AllocError> {
     let near: Vec<(usize, usize)> = board
         .neighbors4(at)
@@ -51,7 +52,7 @@ pub fn falls(alloc: Global, board: &Grid<u8>) -> Result<Vec<(usize, usize)>, All
     Ok(falls)
 }
 
-/// Returns where a knight can go that stands at a position: free cells, and the number of cells that it would take.
+/// Returns where a knight can go that stands at a position: free cells, and how many cells it would take.
 pub fn knight_moves(board: &Grid<u8>, at: (usize, usize)) -> (usize, u8) {
     let mut free = 0usize;
     let mut most = 0;

@@ -1,4 +1,4 @@
-//! The cells round a cell, and lines that change places.
+//! The cells around a cell, and lines that change places.
 use crate::ask::Ask;
 use crate::case::CaseError;
 use crate::shown::{shown, shown_made, shown_ok};
@@ -28,7 +28,7 @@ fn count_of(_: &i64, count: u8) -> i64 {
     i64::from(count)
 }
 
-// How many cells round a position are above a number.
+// How many cells around a position are above a number.
 fn counted(alloc: Global, board: &Grid<i64>, ask: Ask<'_>) -> Result<String, CaseError> {
     let at = ask.position(0);
     let number = ask.cell(2);
@@ -42,7 +42,7 @@ fn counted(alloc: Global, board: &Grid<i64>, ask: Ask<'_>) -> Result<String, Cas
     }
 }
 
-// How many cells round each one are above a number.
+// How many cells around each one are above a number.
 fn map_counts(alloc: Global, board: &Grid<i64>, ask: Ask<'_>) -> Result<String, CaseError> {
     let number = ask.cell(0);
     let is_above = |cell: &i64| number < *cell;
@@ -56,7 +56,7 @@ fn map_counts(alloc: Global, board: &Grid<i64>, ask: Ask<'_>) -> Result<String, 
     shown_made(alloc, made)
 }
 
-// The sum of a cell and those round it.
+// The sum of a cell and those around it.
 fn sum(_: (usize, usize), cell: &i64, near: Neighbors<'_, i64>) -> i64 {
     let mut sum = *cell;
     for (_, cell) in near {
@@ -73,7 +73,7 @@ fn wrapped_sum(_: (usize, usize), cell: &i64, near: WrappedNeighbors<'_, i64>) -
     sum
 }
 
-// The sums of each cell and those round it.
+// The sums of each cell and those around it.
 fn mapped(alloc: Global, board: &Grid<i64>, ask: Ask<'_>) -> Result<String, CaseError> {
     let made = match ask.call {
         "map_neighbors4" => board.map_neighbors4(sum),
@@ -94,7 +94,7 @@ fn added(cell: &i64, sum: u16) -> i64 {
     cell.wrapping_add(i64::from(sum))
 }
 
-// The sums of each cell and of those round it, as bytes.
+// The sums of each cell and of those around it, as bytes.
 fn map_sums(alloc: Global, board: &Grid<i64>, ask: Ask<'_>) -> Result<String, CaseError> {
     let made = match ask.call {
         "map_sums4" => board.map_sums4(weight, added),
@@ -119,7 +119,7 @@ fn swap_lines(board: &mut Grid<i64>, call: &str, (a, b): (usize, usize)) -> bool
     false
 }
 
-/// Returns what a call on cells round others or on two lines returned.
+/// Returns what a call on cells around others or on two lines returned.
 pub fn actual(alloc: Global, board: &mut Grid<i64>, ask: Ask<'_>) -> Result<String, CaseError> {
     match ask.call {
         "swap_rows" | "swap_cols" => shown(alloc, swap_lines(board, ask.call, ask.position(0))),

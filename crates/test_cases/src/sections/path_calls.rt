@@ -3,7 +3,7 @@ use crate::ask::Ask;
 use crate::case::CaseError;
 use crate::shown::shown_ok;
 use grid::Grid;
-use grid_paths::{Steps, cheapest, cheapest_path};
+use grid_paths::{Connectivity, cheapest, cheapest_path};
 use std::alloc::Global;
 
 fn cost(cell: &i64) -> Option<u32> {
@@ -14,8 +14,8 @@ fn cost(cell: &i64) -> Option<u32> {
 pub fn actual(alloc: Global, board: &mut Grid<i64>, ask: Ask<'_>) -> Result<String, CaseError> {
     let (from, to) = (ask.position(1), ask.position(3));
     let steps = match ask.word(0) {
-        "All" => Steps::All,
-        _ => Steps::Sides,
+        "Eight" => Connectivity::Eight,
+        _ => Connectivity::Four,
     };
     match ask.call {
         "cheapest" => shown_ok(alloc, cheapest(board, from, steps, cost)),

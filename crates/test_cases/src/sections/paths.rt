@@ -1,10 +1,10 @@
 //! Makes each call of `grid_paths` for the cases, on maps stored by rows and by columns: it returns the expected text.
 //! Each request of a call for memory is refused once: then the map stays as it was.
 //!
-//! A case is a line `== CALL STEPS NUMBERS`, where the numbers are rows and columns of positions; the map, in which `.`
-//! may be walked on, or at `cheapest` a digit is the cost; a line `--`; and the expected text: a line of numbers for each row
-//! (`.` where there is none), or of cells. Below `regions` and `flood` the count comes first; below `shortest_path`
-//! only the number of steps. `paths.py` made the cases.
+//! A case is a line `== CALL CONNECTIVITY NUMBERS`, where the numbers are rows and columns of positions; the map, in
+//! which `.` may be walked on, or at `cheapest` a digit is the cost; a line `--`; and the expected text: a line of
+//! numbers for each row (`.` where there is none), or of cells. Below `regions` and `flood` the count comes first;
+//! below `shortest_path` only the number of steps. `paths.py` made the cases.
 
 mod answer;
 
@@ -12,7 +12,7 @@ use crate::case::{Case, CaseError};
 use crate::shown::text;
 use answer::{Search, answer};
 use grid::{Grid, Order};
-use grid_paths::Steps;
+use grid_paths::Connectivity;
 use grid_text::{TextError, from_text};
 use std::alloc::{AllocError, Global};
 use test_support::fixtures::Heap;
@@ -44,10 +44,10 @@ fn search_of<'a>(alloc: Global, case: Case<'a>) -> Result<Search<'a>, AllocError
     let (steps, numbers) = rest.split_once(" ").unwrap_or((rest, ""));
     Ok(Search {
         call,
-        steps: if steps == "All" {
-            Steps::All
+        steps: if steps == "Eight" {
+            Connectivity::Eight
         } else {
-            Steps::Sides
+            Connectivity::Four
         },
         at: positions(alloc, numbers)?,
     })
@@ -65,9 +65,9 @@ fn growths(len: usize) -> u64 {
     count
 }
 
-// How many requests for memory are made: for which cells may be walked on or entered, for the numbers, and for the queue;
-// for a path, if there is one; for sums of costs, as they are returned; and for the text of regions. What is taken takes
-// more as it grows.
+// How many requests for memory are made: for which cells may be walked on or entered, for the numbers, and for the
+// queue; for a path, if there is one; for sums of costs, as they are returned; and for the text of regions. What is
+// taken takes more as it grows.
 fn requests(call: &str, expected: &str) -> u64 {
     let (mut marks, mut others) = (0usize, 0usize);
     for letter in expected.chars() {

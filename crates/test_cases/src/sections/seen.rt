@@ -1,4 +1,5 @@
-//! Calls on a part that is seen through a symmetry: the positions of cells, its parts and lines, the cells round one, and maps.
+//! Calls on a part that is seen through a symmetry: the positions of cells, its parts and lines, the cells around one,
+//! and maps.
 use crate::ask::Ask;
 use crate::case::CaseError;
 use crate::sections::views::{by_place, is_within, stamp};
@@ -54,7 +55,7 @@ fn cut(alloc: Global, board: &Grid<i64>, ask: Ask<'_>) -> Result<String, CaseErr
     )
 }
 
-// The cells round a position.
+// The cells around a position.
 fn near(alloc: Global, view: &GridView<'_, i64>, ask: Ask<'_>) -> Result<String, CaseError> {
     let at = ask.position(5);
     match ask.call {
@@ -66,7 +67,7 @@ fn near(alloc: Global, view: &GridView<'_, i64>, ask: Ask<'_>) -> Result<String,
     }
 }
 
-// How many cells round a position are above a number.
+// How many cells around a position are above a number.
 fn counted(alloc: Global, view: &GridView<'_, i64>, ask: Ask<'_>) -> Result<String, CaseError> {
     let at = ask.position(5);
     let number = ask.cell(7);

@@ -6,7 +6,7 @@ use crate::{Grid, GridError};
 use grid_base::Order;
 use std::alloc::Allocator;
 
-// Returns the outer number and the inner one: row and column, or column and row.
+// Returns the outer index and the inner one: row and column, or column and row.
 fn by_order(order: Order, i: usize, j: usize) -> (usize, usize)
     ensures { result ≡ by_order order i j }
 {
@@ -46,8 +46,8 @@ fn take_cell<T, const R: usize, const C: usize>(
 
 impl<T, A: Allocator> Grid<T, A> {
     /// Returns the grid in this order whose row i has the cells of row i of the slots, and leaves every slot `None`.
-    /// Without rows or without columns it is the empty grid. [`grid!`](crate::grid) and [`grid_cm!`](crate::grid_cm) call
-    /// it: a grid that is written out is made by one of these.
+    /// Without rows or without columns it is the empty grid. [`grid!`](crate::grid) and [`grid_cm!`](crate::grid_cm)
+    /// call it: a grid that is written out is made by one of these.
     ///
     ///     from_arrays(alloc, RowMajor, [[Some(1), Some(2)], [Some(3), Some(4)]])   [[1, 2], [3, 4]]
     ///

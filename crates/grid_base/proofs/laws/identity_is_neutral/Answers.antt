@@ -7,8 +7,8 @@ use Rattle.grid_base.proofs.laws.identity_is_neutral.Goals as goal
 pub returns-clause-same_before : goal.returns-clause-same_before
 returns-clause-same_before c = then_is _ _ _ c.then.ensures ∙ identity_product c.args.symmetry
 
-pub returns-clause-same_behind : goal.returns-clause-same_behind
-returns-clause-same_behind c = then_is _ _ _ c.then-2.ensures ∙ product_identity c.args.symmetry
+pub returns-clause-same_after : goal.returns-clause-same_after
+returns-clause-same_after c = then_is _ _ _ c.then-2.ensures ∙ product_identity c.args.symmetry
 
 pub returns-clause-law : goal.returns-clause-law
 returns-clause-law c =

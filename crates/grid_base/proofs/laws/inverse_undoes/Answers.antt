@@ -12,15 +12,15 @@ undone s v h =
 pub returns-clause-same_before : goal.returns-clause-same_before
 returns-clause-same_before c = then_is _ _ _ c.then.ensures ∙ inverse_is _ _ c.inverse-inverse.ensures
 
-pub returns-clause-same_behind : goal.returns-clause-same_behind
-returns-clause-same_behind c = then_is _ _ _ c.then-2.ensures ∙ inverse_left _ _ (inverse_is _ _ c.inverse-inverse.ensures)
+pub returns-clause-same_after : goal.returns-clause-same_after
+returns-clause-same_after c = then_is _ _ _ c.then-2.ensures ∙ inverse_left _ _ (inverse_is _ _ c.inverse-inverse.ensures)
 
 pub returns-clause-before : goal.returns-clause-before
 returns-clause-before c v h =
     subst (λ x. IsThen c.args.symmetry v x) (sym (then_is _ _ _ c.then.ensures ∙ inverse_is _ _ c.inverse-inverse.ensures)) (undone c.args.symmetry v h).0
 
-pub returns-clause-behind : goal.returns-clause-behind
-returns-clause-behind c v h =
+pub returns-clause-after : goal.returns-clause-after
+returns-clause-after c v h =
     subst (λ x. IsThen v c.args.symmetry x) (sym (then_is _ _ _ c.then-2.ensures ∙ inverse_left _ _ (inverse_is _ _ c.inverse-inverse.ensures))) (undone c.args.symmetry v h).1
 
 pub returns-clause-law : goal.returns-clause-law

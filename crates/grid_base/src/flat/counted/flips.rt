@@ -29,7 +29,7 @@ impl<T, A: Allocator> Flat<T, A> {
     ///
     ///     [1, 2, 3, 4, 5]   swap_blocks_for_symmetry(0, 3, 2)   [4, 5, 3, 1, 2]   2 swaps
     ///
-    /// Requires: both blocks are in range, and the second begins behind the first.
+    /// Requires: both blocks are in range, and the second begins after the first.
     pub fn swap_blocks_for_symmetry(&mut self, i: usize, j: usize, n: usize, tally: &mut Tally)
         requires apart { i + n ≤ j }
         requires within { j + n ≤ length self.old }

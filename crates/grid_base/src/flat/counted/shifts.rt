@@ -5,20 +5,20 @@ ghost use Rattle.grid_base.specs.Prelude.{CanShift, HasShifted, swapped_back, sw
 use super::swaps::{Swaps, swap_for_shift};
 use std::mem;
 
-// Shorter blocks cost more to begin than vector code saves.
+// Vector code for a shorter block costs more to set up than it saves.
 const SHORT_BLOCK: usize = 8;
 
-// At a distance that is a constant in the code this many swaps are code without a loop.
+// At a distance known at compile time this many swaps are unrolled.
 const SWAPS_AT_ONCE: usize = 32;
 
 // At shorter distances nothing is gained by three blocks at once.
 const LONG_SHIFT: usize = 16;
 
-// As many bytes as one vector of the processor holds.
+// The bytes of a vector register that each x86-64 and each ARM64 has.
 const VECTOR: usize = 16;
 
-// Moves the `n` cells that are `shift` places behind `start` there, the first first, by `n` swaps for a shift, which the
-// run goes on with.
+// Moves the `n` cells that are `shift` places after `start` to `start`, first to last, by `n` swaps for a shift, which
+// are added to the run.
 //
 //     [1, 2, 3, 4, 5]   move_forward(0, 2, 3)   [3, 4, 5, 2, 1]   3 swaps
 //
@@ -42,7 +42,7 @@ pub(in crate::flat) fn move_forward<T>(
     }
 }
 
-// As `swap_forward`. The distance and how many swaps are done at once are constants in the code, so that a cell goes
+// As `swap_forward`. The distance and how many swaps are done at once are known at compile time, so that a cell goes
 // from swap to swap in a register, and the cells between are read and written as vectors.
 #[tactic(auto, using(crate::proofs::ShiftLemmas::forward_start, crate::proofs::ShiftLemmas::forward_swap))]
 fn swap_forward_by<const SHIFT: usize, T>(
@@ -69,8 +69,8 @@ fn swap_forward_by<const SHIFT: usize, T>(
     swaps
 }
 
-// Swaps three blocks of `shift` cells at once while there are as many, and the rest block by block. Only bytes gain: the
-// compiler can't tell for wider cells that their places differ. Out of line, so that short shifts stay as fast.
+// Swaps three blocks of `shift` cells at once while there are as many, and the rest block by block. Only bytes gain:
+// the compiler can't tell for wider cells that their places differ. Out of line, so that short shifts stay as fast.
 #[inline(never)]
 #[tactic(auto, using(crate::proofs::ShiftLemmas::forward_start, crate::proofs::ShiftLemmas::forward_after))]
 fn swap_forward<T>(cells: &mut [T], start: usize, shift: usize, n: usize, mut swaps: Swaps) -> Swaps
@@ -134,8 +134,8 @@ fn swap_forward_by_block<T>(
     swaps
 }
 
-// Moves the `n` cells from `start` on by `shift` places to the back, the last first, by `n` swaps for a shift, which the
-// run goes on with.
+// Moves the `n` cells from `start` on by `shift` places to the back, last to first, by `n` swaps for a shift, which are
+// added to the run.
 //
 //     [1, 2, 3, 4, 5]   move_back(0, 2, 3)   [5, 4, 1, 2, 3]   3 swaps
 //
@@ -160,8 +160,8 @@ pub(in crate::flat) fn move_back<T>(
     }
 }
 
-// As `move_back`, with constants in the code as in `swap_forward_by`. Out of line, since the loop over the lines would keep
-// its many running numbers in memory otherwise.
+// As `move_back`, with constants as in `swap_forward_by`. Out of line, since the loop over the lines would keep
+// its many running indices in memory otherwise.
 #[inline(never)]
 #[tactic(auto, using(crate::proofs::ShiftLemmas::back_end, crate::proofs::ShiftLemmas::back_swap))]
 fn swap_back_by<const SHIFT: usize, T>(
@@ -212,8 +212,8 @@ fn swap_back_by_block<T>(
     swaps
 }
 
-// How many cells are swapped as one block: no more than come to places where none of them is, so that the block is
-// vector code, and whole vectors where cells are bytes and it is longer than one.
+// How many cells are swapped as one block: no more than the distance, so that the block and the places that it goes to
+// don't overlap and the loop is vector code; and of bytes whole vectors, where it is longer than one.
 fn block_of(shift: usize, n: usize) -> usize
     requires moves { 0 < shift }
     ensures some { 0 < n → 0 < result }

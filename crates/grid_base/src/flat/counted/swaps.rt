@@ -2,11 +2,12 @@
 //!
 //! The rule: a counted swap exchanges the cells of two different places and adds one. Nothing else adds to a count.
 //!
-//! - `swap_for_symmetry` and `swap_for_shift` are the only counted swaps. Each adds its one to a run, `Swaps`. They can be
-//!   called in this module's parent alone, by the passes of `flips.rt` and `shifts.rt`, which call them on cells of a `Flat`.
-//! - A run starts empty (`Swaps::none`) and can't be dropped. `Tally::take` ends it (`Swaps::end`) and adds its numbers to
-//!   the tally's two counts.
-//! - The fields of `Swaps` are private to this module, so no other code can write a number.
+//! - `swap_for_symmetry` and `swap_for_shift` are the only counted swaps. Each adds its one to a run, `Swaps`. They can
+//!   be called in this module's parent alone, by the passes of `flips.rt` and `shifts.rt`, which call them on cells of
+//!   a `Flat`.
+//! - A run starts empty (`Swaps::none`) and can't be dropped. `Tally::take` ends it (`Swaps::end`) and adds its counts
+//!   to the tally's two counts.
+//! - The fields of `Swaps` are private to this module, so no other code can write a count.
 //!
 //! Flips, half turns, expand, prepend, and deletes by a command move cells by these two swaps alone. Push, insert, pop,
 //! remove and the other deletes are not counted, and may move cells in any way.
@@ -14,7 +15,7 @@ ghost use Rattle.std.specs.Prelude.{◌≡◌, ◌<◌, ◌+◌, ◌-◌, ◌^�
 
 use std::mem;
 
-// The swaps of one run so far. A run has fewer than 2^64 swaps, so its numbers never stop short. They are held by value
+// The swaps of one run so far. A run has fewer than 2^64 swaps, so its counts never saturate. They are held by value
 // and not behind the tally's reference, so that the compiler makes vector code of the loop.
 pub(crate) struct Swaps {
     for_symmetry: usize,

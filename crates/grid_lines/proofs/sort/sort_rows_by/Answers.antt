@@ -1,4 +1,4 @@
--- The rows of the sorted numbers.
+-- The rows of the sorted indices.
 use Rattle.std.proofs.Common.{[], refl}
 use Rattle.grid_base.proofs.StrideLemmas.{lines_in_order}
 use Rattle.grid_lines.proofs.OrderLemmas.{shuffled}

@@ -19,7 +19,7 @@ rule-requires g c =
     let passed : i ≡ l * (lines_of b.layout).1 + k = omega (arith, c.requires.passed, c.loop-k.invariant.passed) in
     let here = cell_placed b l k i c.index-cells-start.result c.requires.line lk passed (rw e at c.index-cells-start.is) in
     let n = board_summed _ b l k _ _ _ c.requires.line lk c.requires.marks in
-    c.requires.calls.at i (along b.layout.order l k) _ (slice_get_within (placed_cells b) i _ here) (sym (get_or_from_slice_get (placed_cells b) i _ _ here)) c.sum_round-sum.result c.sum_round-sum.ensures.most (rw c.sum_round-sum.ensures.sum n)
+    c.requires.calls.at i (along b.layout.order l k) _ (slice_get_within (placed_cells b) i _ here) (sym (get_or_from_slice_get (placed_cells b) i _ _ here)) c.sum_around-sum.result c.sum_around-sum.ensures.most (rw c.sum_around-sum.ensures.sum n)
 
 pub push_reserved-requires : goal.push_reserved-requires
 push_reserved-requires g c =
@@ -40,7 +40,7 @@ loop-k-preserved g c =
     record {
       room = p.capacity ∙ c.loop-k.invariant.room;
       passed = omega (arith, p.len, c.loop-k.invariant.passed);
-      answers = rw (p.len, p.items) (answers_more _ (placed_cells b) _ _ _ c.rule.result here c.loop-k.invariant.answers (record { shown = _; shows = refl; says = (c.sum_round-sum.result, rw c.sum_round-sum.ensures.sum n, c.rule.ensures) }));
+      answers = rw (p.len, p.items) (answers_more _ (placed_cells b) _ _ _ c.rule.result here c.loop-k.invariant.answers (record { shown = _; shows = refl; says = (c.sum_around-sum.result, rw c.sum_around-sum.ensures.sum n, c.rule.ensures) }));
     }
 
 pub offset_bounds-cells-start : goal.offset_bounds-cells-start

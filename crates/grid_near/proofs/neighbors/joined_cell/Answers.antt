@@ -12,6 +12,6 @@ returns g c =
     let row = c.around-row.ensures in
     let col = c.around-col.ensures in
     let within = c.requires.holds _ _ row.within col.within in
-    step_item cells a.table.size where_is Joined a.kind a.at a.k c.around-row.result c.around-col.result c.index-table-place.result c.requires.step (ap Some (sym (row.is ∙ ap (around a.table.size.0 a.at.0) c.offset-i.ensures.row))) (ap Some (sym (col.is ∙ ap (around a.table.size.1 a.at.1) c.offset-i.ensures.col))) row.within col.within
+    step_item cells a.table.size where_is Joined a.connectivity a.at a.k c.around-row.result c.around-col.result c.index-table-place.result c.requires.step (ap Some (sym (row.is ∙ ap (around a.table.size.0 a.at.0) c.offset-i.ensures.row))) (ap Some (sym (col.is ∙ ap (around a.table.size.1 a.at.1) c.offset-i.ensures.col))) row.within col.within
     (ap (slice_get cells) (sym c.place_from-place.ensures) ∙ slice_get_read cells _ _ _ refl (omega (arith, c.place_from-place.ensures, within)) c.index-table-place.is)
-    ∙ ap (λ x. ((c.around-row.result, c.around-col.result), x) ∷ cells_from (cell_by cells a.table.size where_is) Joined a.table.size a.kind a.at (a.k + 1)) c.index-table-place.is
+    ∙ ap (λ x. ((c.around-row.result, c.around-col.result), x) ∷ cells_from (cell_by cells a.table.size where_is) Joined a.table.size a.connectivity a.at (a.k + 1)) c.index-table-place.is

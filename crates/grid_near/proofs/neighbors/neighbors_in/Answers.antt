@@ -9,8 +9,8 @@ pub invariant_of-result : goal.invariant_of-result
 invariant_of-result g c =
     let a = c.args in
     let size = a.table.size in
-    let within : a.edges ≡ Joined → c.done_at_start-passed.result < step_count a.kind → (a.at.0 < size.0) × (a.at.1 < size.1) =
-    λ e lt. not_done size a.kind a.at a.edges e (rw c.done_at_start-passed.ensures at lt) in
+    let within : a.edges ≡ Joined → c.done_at_start-passed.result < step_count a.connectivity → (a.at.0 < size.0) × (a.at.1 < size.1) =
+    λ e lt. not_done size a.connectivity a.at a.edges e (rw c.done_at_start-passed.ensures at lt) in
     record {
       holds = c.requires.holds;
       inside = c.is_inner-inner.ensures.0;
@@ -23,8 +23,8 @@ invariant_of-result g c =
 pub returns-clause-gives : goal.returns-clause-gives
 returns-clause-gives g c =
     let a = c.args in (
-      ap (cells_from _ a.edges _ a.kind a.at) (start_step a.edges c.is_inner-inner.result c.done_at_start-passed.result)
-          ∙ steps_shown a.table.cells.now a.table.size a.table.start a.table.strides c.requires.size c.requires.holds a.edges a.kind a.at c.done_at_start-passed.result c.done_at_start-passed.ensures,
+      ap (cells_from _ a.edges _ a.connectivity a.at) (start_step a.edges c.is_inner-inner.result c.done_at_start-passed.result)
+          ∙ steps_shown a.table.cells.now a.table.size a.table.start a.table.strides c.requires.size c.requires.holds a.edges a.connectivity a.at c.done_at_start-passed.result c.done_at_start-passed.ensures,
       cells_in_order _,
       positions_in_order _,
     )
@@ -33,8 +33,8 @@ pub returns-clause-count : goal.returns-clause-count
 returns-clause-count g c = λ e lr lc.
     let a = c.args in
     let size = a.table.size in
-    let none = c.done_at_start-passed.ensures ∙ none_done size a.kind a.at a.edges lr lc in
-    joined_left _ size a.at (strided_there a.table.cells.now size (by_steps a.table.start a.table.strides) c.requires.holds) a.kind a.edges e _ _ _ (λ _. lr) (λ _. lc) ∙ omega arith
+    let none = c.done_at_start-passed.ensures ∙ none_done size a.connectivity a.at a.edges lr lc in
+    joined_left _ size a.at (strided_there a.table.cells.now size (by_steps a.table.start a.table.strides) c.requires.holds) a.connectivity a.edges e _ _ _ (λ _. lr) (λ _. lc) ∙ omega arith
 
 pub returns-clause-at_most : goal.returns-clause-at_most
-returns-clause-at_most g c = few_from _ c.args.edges _ c.args.kind c.args.at _
+returns-clause-at_most g c = few_from _ c.args.edges _ c.args.connectivity c.args.at _

@@ -19,9 +19,9 @@ loop-left-init g c =
     record {
       within = omega (arith, len);
       follows = λ costs from h.
-          subst (λ x. IsFollowed c.args.kind from costs xs last last c.len-left.result x) (sym items)
-          (subst (λ n. IsFollowed c.args.kind from costs xs last last n (last.at ∷ [])) len
-          (IsFollowed-start c.args.kind from costs xs h last ends (omega arith)));
+          subst (λ x. IsFollowed c.args.connectivity from costs xs last last c.len-left.result x) (sym items)
+          (subst (λ n. IsFollowed c.args.connectivity from costs xs last last n (last.at ∷ [])) len
+          (IsFollowed-start c.args.connectivity from costs xs h last ends (omega arith)));
     }
 
 pub loop-left-preserved : goal.loop-left-preserved
@@ -39,8 +39,8 @@ loop-left-preserved g c =
       within = omega arith;
       follows = λ costs from h.
           let kept = slice_get_read trail.items (length trail.items) left c.index.result.now refl (omega arith) c.index.ensures in
-          IsFollowed-past c.args.kind from costs xs h c.args.last here left path
-          (subst (λ n. IsFollowed c.args.kind from costs xs c.args.last here n path) is (c.loop-left.invariant.follows costs from h))
+          IsFollowed-past c.args.connectivity from costs xs h c.args.last here left path
+          (subst (λ n. IsFollowed c.args.connectivity from costs xs c.args.last here n path) is (c.loop-left.invariant.follows costs from h))
           y (trail_at w trail.items left c.index.result.now y kept c.settled-before.ensures) (λ w. let is = c.if-comes_from.ensures.1 w in cc);
     }
 
@@ -60,9 +60,9 @@ loop-left-preserved-then-comes_from g c =
       within = omega arith;
       follows = λ costs from h.
           let kept = slice_get_read trail.items (length trail.items) left c.index.result.now refl (omega arith) c.index.ensures in
-          subst (λ p. IsFollowed c.args.kind from costs xs c.args.last y left p) (sym c.in_ok-push-2.ensures.items)
-          (IsFollowed-found c.args.kind from costs xs h c.args.last here left path
-          (subst (λ n. IsFollowed c.args.kind from costs xs c.args.last here n path) is (c.loop-left.invariant.follows costs from h))
+          subst (λ p. IsFollowed c.args.connectivity from costs xs c.args.last y left p) (sym c.in_ok-push-2.ensures.items)
+          (IsFollowed-found c.args.connectivity from costs xs h c.args.last here left path
+          (subst (λ n. IsFollowed c.args.connectivity from costs xs c.args.last here n path) is (c.loop-left.invariant.follows costs from h))
           y (trail_at w trail.items left c.index.result.now y kept c.settled-before.ensures) comes.0 comes.1);
     }
 

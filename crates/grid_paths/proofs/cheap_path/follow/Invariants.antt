@@ -8,7 +8,7 @@ abbrev pub invariant-loop-left : goal.invariant-loop-left
 invariant-loop-left g l =
     record {
       within : l.left ≤ length l.trail.items;
-      follows : (costs : List (List (Option ℕ))) (from : ℕ × ℕ) → IsTrail l.kind from costs (trail_of g.N.Width.reads l.trail.items) → IsFollowed l.kind from costs (trail_of g.N.Width.reads l.trail.items) l.fn.last l.here l.left l.path.items;
+      follows : (costs : List (List (Option ℕ))) (from : ℕ × ℕ) → IsTrail l.connectivity from costs (trail_of g.N.Width.reads l.trail.items) → IsFollowed l.connectivity from costs (trail_of g.N.Width.reads l.trail.items) l.fn.last l.here l.left l.path.items;
     }
 
 abbrev pub decreases-loop-left : goal.decreases-loop-left

@@ -30,13 +30,13 @@ loop-here-init g c =
     let f = c.in_ok-search.search in
     let costs = c.args.costs.rows in
     let left = c.in_ok-search.ensures.left in
-    let search = c.in_ok-search.ensures.search c.args.kind in
+    let search = c.in_ok-search.ensures.search c.args.connectivity in
     record {
       search = search;
-      kept = subst (λ xs. IsKept c.args.kind c.args.from costs (sums_of w f) f.left.rows c.args.to xs) (sym (ap (trail_of w) c.new-trail.ensures.items))
-          (subst (λ t. IsKept c.args.kind c.args.from costs (sums_of w f) t.rows c.args.to []) (sym left)
-          (IsKept-start c.args.kind c.args.from costs (sums_of w f) (waiting w f) c.args.to
-          (subst (λ t. IsCostSearch c.args.kind costs c.args.from (sums_of w f) t.rows (waiting w f)) left search.search)));
+      kept = subst (λ xs. IsKept c.args.connectivity c.args.from costs (sums_of w f) f.left.rows c.args.to xs) (sym (ap (trail_of w) c.new-trail.ensures.items))
+          (subst (λ t. IsKept c.args.connectivity c.args.from costs (sums_of w f) t.rows c.args.to []) (sym left)
+          (IsKept-start c.args.connectivity c.args.from costs (sums_of w f) (waiting w f) c.args.to
+          (subst (λ t. IsCostSearch c.args.connectivity costs c.args.from (sums_of w f) t.rows (waiting w f)) left search.search)));
     }
 
 pub keep-requires : goal.keep-requires
@@ -67,12 +67,12 @@ returns-then-eq g c =
     let here = c.in-Some.here in
     let n = c.in-Some.ensures in
     let comes = IsNext-comes l.invariant.search n in
-    let trail = IsTrail-push c.args.kind c.args.from c.args.costs.rows (sums_of w l.search) l.search.left.rows c.args.to (trail_of w l.trail.items) l.invariant.kept here here.cost n.is_left comes.0 comes.1 in
+    let trail = IsTrail-push c.args.connectivity c.args.from c.args.costs.rows (sums_of w l.search) l.search.left.rows c.args.to (trail_of w l.trail.items) l.invariant.kept here here.cost n.is_left comes.0 comes.1 in
     let to = same_at here.at c.args.to (sym c.eq.ensures ∙ c.if-eq.true) in
     let now = trail-push w l.trail.items c.push.new.self.items c.keep.result here c.in_ok-push.ensures.items c.keep.ensures in
-    subst (λ b. IsCheapestPath c.args.kind c.args.costs.rows c.args.from b c.in_ok-follow.field-0.items here.sum) to
+    subst (λ b. IsCheapestPath c.args.connectivity c.args.costs.rows c.args.from b c.in_ok-follow.field-0.items here.sum) to
     (record {
-      leads = c.in_ok-follow.ensures c.args.costs.rows c.args.from (subst (λ xs. IsTrail c.args.kind c.args.from c.args.costs.rows xs) (sym now) trail);
+      leads = c.in_ok-follow.ensures c.args.costs.rows c.args.from (subst (λ xs. IsTrail c.args.connectivity c.args.from c.args.costs.rows xs) (sym now) trail);
       least = IsNext-least l.invariant.search n;
     })
 
@@ -89,13 +89,13 @@ loop-here-preserved g c =
     let e = c.in_ok-relax_around.ensures in
     let comes = IsNext-comes s n in
     let xs = trail_of w l.trail.items in
-    let trail = IsTrail-push c.args.kind c.args.from c.args.costs.rows u left c.args.to xs l.invariant.kept here here.cost n.is_left comes.0 comes.1 in
+    let trail = IsTrail-push c.args.connectivity c.args.from c.args.costs.rows u left c.args.to xs l.invariant.kept here here.cost n.is_left comes.0 comes.1 in
     let other = is_other here.at c.args.to (sym c.eq.ensures ∙ c.if-eq.false) in
     let now = trail-push w l.trail.items c.push.new.self.items c.keep.result here c.in_ok-push.ensures.items c.keep.ensures in
     record {
       search = IsSearching-next s n e;
-      kept = subst (λ xs. IsKept c.args.kind c.args.from c.args.costs.rows (sums_of w new) new.left.rows c.args.to xs) (sym now)
-          (IsKept-push c.args.kind c.args.from c.args.costs.rows u left (sums_of w new) new.left.rows here (settled_before s n e) (settled_fewer s n e) c.args.to xs l.invariant.kept trail (settled_there s n e) other);
+      kept = subst (λ xs. IsKept c.args.connectivity c.args.from c.args.costs.rows (sums_of w new) new.left.rows c.args.to xs) (sym now)
+          (IsKept-push c.args.connectivity c.args.from c.args.costs.rows u left (sums_of w new) new.left.rows here (settled_before s n e) (settled_fewer s n e) c.args.to xs l.invariant.kept trail (settled_there s n e) other);
     }
 
 pub returns : goal.returns

@@ -26,7 +26,7 @@ put-requires g c =
 
 pub returns-clause-search : goal.returns-clause-search
 returns-clause-search g c =
-    λ kind.
+    λ connectivity.
     let w = g.N.Width.reads in
     let costs = c.args.costs in
     let from = c.args.from in
@@ -37,13 +37,13 @@ returns-clause-search g c =
     elim c.match-cost_of.branch [
       | in-Some+in_ok-put b ↦
           let k = b.in-Some.field-0 in
-          subst (λ f. IsSearching g.N.Ord.cmp w kind costs from f) (sym b.search-is)
-          (IsSearching-begun kind costs from (record { left = costs; sums = sums; heap = heap })
+          subst (λ f. IsSearching g.N.Ord.cmp w connectivity costs from f) (sym b.search-is)
+          (IsSearching-begun connectivity costs from (record { left = costs; sums = sums; heap = heap })
           (record { size = made.size; rows = c.requires.rows; cols = c.requires.cols; heap_order = c.in_ok-heap.ensures.heap_order })
           c.requires refl made.order made.none nothing b.put.new.self k ((c.cost_of.ensures k).0 b.in-Some.is) b.in_ok-put.ensures)
       | in_default b ↦
-          subst (λ f. IsSearching g.N.Ord.cmp w kind costs from f) (sym b.search-is)
-          (IsSearching-closed kind costs from (record { left = costs; sums = sums; heap = heap })
+          subst (λ f. IsSearching g.N.Ord.cmp w connectivity costs from f) (sym b.search-is)
+          (IsSearching-closed connectivity costs from (record { left = costs; sums = sums; heap = heap })
           (record { size = made.size; rows = c.requires.rows; cols = c.requires.cols; heap_order = c.in_ok-heap.ensures.heap_order })
           c.requires refl made.order made.none nothing (λ k h. b.in_default.not-Some k ((c.cost_of.ensures k).1 h)))
     ]

@@ -4,7 +4,7 @@ use Rattle.grid_paths.proofs.Lemmas.{IsNext-ready, IsSearching-next, IsSearching
 use Rattle.grid_paths.proofs.costs.search_by.Goals as goal
 
 pub loop-here-init : goal.loop-here-init
-loop-here-init g c = c.in_ok-search.ensures.search c.args.kind
+loop-here-init g c = c.in_ok-search.ensures.search c.args.connectivity
 
 pub relax_around-requires : goal.relax_around-requires
 relax_around-requires g c = IsNext-ready c.loop-here.invariant c.in-Some.ensures
@@ -17,8 +17,8 @@ loop-here-preserved g c = IsSearching-next c.loop-here.invariant c.in-Some.ensur
 
 pub returns-clause-least : goal.returns-clause-least
 returns-clause-least g c =
-    IfOk-weaker c.all_sums.result _ (λ sums. HasLeastCosts c.args.kind c.args.costs.rows c.args.from sums.rows)
-    (λ made is. subst (λ u. HasLeastCosts c.args.kind c.args.costs.rows c.args.from u) (sym is) (IsOver-least c.loop-here.invariant c.in_default.ensures))
+    IfOk-weaker c.all_sums.result _ (λ sums. HasLeastCosts c.args.connectivity c.args.costs.rows c.args.from sums.rows)
+    (λ made is. subst (λ u. HasLeastCosts c.args.connectivity c.args.costs.rows c.args.from u) (sym is) (IsOver-least c.loop-here.invariant c.in_default.ensures))
     c.all_sums.ensures.cells
 
 pub returns-clause-order : goal.returns-clause-order

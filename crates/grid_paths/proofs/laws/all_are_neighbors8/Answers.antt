@@ -1,5 +1,5 @@
 use Rattle.std.proofs.Common.{◌↔◌, Contains, sym, subst}
-use Rattle.grid_near.specs.declared.steps.Steps.TheVariants.{All}
+use Rattle.grid_near.specs.declared.steps.Connectivity.TheVariants.{Eight}
 use Rattle.grid_paths.proofs.Common.{IsStep}
 use Rattle.grid_paths.proofs.Lemmas.{all-near}
 use Rattle.grid_paths.proofs.laws.all_are_neighbors8.Goals as goal
@@ -9,6 +9,6 @@ returns g c =
     record {
       gives = c.neighbors8.ensures.gives;
       law = λ at x e.
-          subst (λ list. IsStep All c.args.from at ↔ Contains list (at, x)) (sym c.neighbors8.ensures.gives.0)
+          subst (λ list. IsStep Eight c.args.from at ↔ Contains list (at, x)) (sym c.neighbors8.ensures.gives.0)
           (all-near c.args.grid.now.rows c.args.from.0 c.args.from.1 at x e);
     }

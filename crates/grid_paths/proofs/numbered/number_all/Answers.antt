@@ -7,8 +7,8 @@ use Rattle.grid_paths.proofs.numbered.number_all.Goals as goal
 pub loop-row-init : goal.loop-row-init
 loop-row-init g c =
     let t = c.args.grid.now in
-    let u = c.in_ok-wave.wave.numbers in
-    let blank = c.in_ok-wave.ensures in
+    let u = c.in_ok-bfs.bfs.numbers in
+    let blank = c.in_ok-bfs.ensures in
     let none : (a : ℕ × ℕ) (m : ℕ) → IsMarked u.rows a m → ⊥ = λ a m w.
     none_marked (row_count t.rows) (col_count t.rows) a m (subst (λ x. IsMarked x a m) blank.none w) in
     let few = unreached_cells u.rows u.table in
@@ -18,7 +18,7 @@ loop-row-init g c =
       counting = record {
         order = blank.order;
         size = blank.size;
-        scanned = IsScanned-start c.args.kind g.T.PartialEq.eq t.rows u.rows none;
+        scanned = IsScanned-start c.args.connectivity g.T.PartialEq.eq t.rows u.rows none;
         room = omega arith;
       };
       end = c.rows-row-end.ensures.rows;
@@ -39,7 +39,7 @@ loop-row-preserved g c =
       counting = record {
         order = counting.order;
         size = counting.size;
-        scanned = IsScanned-row c.args.kind g.T.PartialEq.eq t l.wave.numbers.rows l.count c.loop-row.row l.col le counting.scanned;
+        scanned = IsScanned-row c.args.connectivity g.T.PartialEq.eq t l.bfs.numbers.rows l.count c.loop-row.row l.col le counting.scanned;
         room = counting.room;
       };
       end = c.loop-row.invariant.end;
@@ -53,4 +53,4 @@ returns-clause-scanned g c =
     let below = l.auto.row-end in
     let past : c.rows-row-end.result ≤ l.row = c.loop-row-test.false in
     let is : l.row ≡ row_count t = omega arith in
-    subst (λ r. IsScanned c.args.kind g.T.PartialEq.eq t l.wave.numbers.rows l.count (r, 0)) is l.invariant.counting.scanned
+    subst (λ r. IsScanned c.args.connectivity g.T.PartialEq.eq t l.bfs.numbers.rows l.count (r, 0)) is l.invariant.counting.scanned

@@ -10,19 +10,19 @@ number_region-requires g c =
 
 pub returns-in-Some : goal.returns-in-Some
 returns-in-Some g c =
-    let u = c.args.wave.now.numbers.rows in
+    let u = c.args.bfs.now.numbers.rows in
     let counting = c.requires.counting in
     let mark : IsMarked u c.args.at c.in-Some.field-0 = c.index.ensures ∙ ap Some c.in-Some.is in
     record {
       order = counting.order;
       size = counting.size;
-      scanned = IsScanned-marked c.args.kind g.T.PartialEq.eq c.args.grid.now.rows u c.args.count c.args.at c.in-Some.field-0 mark counting.scanned;
+      scanned = IsScanned-marked c.args.connectivity g.T.PartialEq.eq c.args.grid.now.rows u c.args.count c.args.at c.in-Some.field-0 mark counting.scanned;
       room = counting.room;
     }
 
 pub returns-in_ok-number_region-in-None : goal.returns-in_ok-number_region-in-None
 returns-in_ok-number_region-in-None g c =
-    let new = c.number_region.new.wave.numbers in
+    let new = c.number_region.new.bfs.numbers in
     let counting = c.requires.counting in
     let done = c.in_ok-number_region-in-None.ensures in
     let size : HaveOneSize new.rows c.args.grid.now.rows = record { rows = done.same.rows ∙ counting.size.rows; cols = done.same.cols ∙ counting.size.cols } in
@@ -31,7 +31,7 @@ returns-in_ok-number_region-in-None g c =
     record {
       order = done.same.order ∙ counting.order;
       size = size;
-      scanned = IsScanned-numbered c.args.kind g.T.PartialEq.eq c.args.grid.now.rows c.args.grid.now.table c.args.wave.now.numbers.rows new.rows new.table size
+      scanned = IsScanned-numbered c.args.connectivity g.T.PartialEq.eq c.args.grid.now.rows c.args.grid.now.table c.args.bfs.now.numbers.rows new.rows new.table size
           c.args.count c.args.at c.index-in-None.result.now c.index-in-None.ensures counting.scanned done.numbered;
       room = omega arith;
     }

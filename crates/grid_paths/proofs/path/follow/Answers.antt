@@ -10,9 +10,9 @@ loop-left-init g c =
     let long : length c.push.new.self.items ≡ 1 = ap length items in
     record {
       mark = c.requires.mark;
-      path = λ kind floor to h.
+      path = λ connectivity mask to h.
           let s = h.least from c.args.count (omega arith) c.requires.mark in
-          subst (λ x. IsPath kind floor from from x) (sym items) (IsPath-one kind floor from (open_end kind floor c.args.count to from s.walk));
+          subst (λ x. IsPath connectivity mask from from x) (sym items) (IsPath-one connectivity mask from (open_end connectivity mask c.args.count to from s.walk));
       most = omega arith;
       len = omega arith;
     }
@@ -39,22 +39,22 @@ loop-left-preserved g c =
     let found = c.next_with-at.ensures w.0 b.0 b.1 b.2 in
     record {
       mark = found.1;
-      path = λ kind floor to h.
-          let b = one_less kind floor to steps c.args.count h at (left - 1) (omega arith) mark in
-          let v = c.next_with-at.ensures kind b.0 b.1 b.2 in
+      path = λ connectivity mask to h.
+          let b = one_less connectivity mask to steps c.args.count h at (left - 1) (omega arith) mark in
+          let v = c.next_with-at.ensures connectivity b.0 b.1 b.2 in
           let s = h.least next (left - 1) (omega arith) v.1 in
-          subst (λ x. IsPath kind floor from next x) (sym items)
-          (IsPath-push kind floor from at next old (c.loop-left.invariant.path kind floor to h) v.0 (open_end kind floor (left - 1) to next s.walk));
+          subst (λ x. IsPath connectivity mask from next x) (sym items)
+          (IsPath-push connectivity mask from at next old (c.loop-left.invariant.path connectivity mask to h) v.0 (open_end connectivity mask (left - 1) to next s.walk));
       most = omega arith;
       len = omega arith;
     }
 
 pub returns-clause-path : goal.returns-clause-path
 returns-clause-path g c =
-    λ kind floor to h.
+    λ connectivity mask to h.
     let steps = c.args.steps.now.rows in
     let at = c.loop-left.at in
     let none : c.loop-left.left ≡ 0 = omega arith in
     let mark = subst (λ x. IsMarked steps at x) none c.loop-left.invariant.mark in
-    let e : at ≡ to = zero_at kind floor to steps c.args.count h at mark in
-    subst (λ x. IsPath kind floor c.args.from x c.loop-left.path.items) e (c.loop-left.invariant.path kind floor to h)
+    let e : at ≡ to = zero_at connectivity mask to steps c.args.count h at mark in
+    subst (λ x. IsPath connectivity mask c.args.from x c.loop-left.path.items) e (c.loop-left.invariant.path connectivity mask to h)

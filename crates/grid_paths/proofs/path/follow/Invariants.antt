@@ -1,5 +1,5 @@
 use Rattle.std.proofs.Common.{◌≡◌, ℕ, Bool, List, ◌≤◌, ◌+◌, length}
-use Rattle.grid_near.specs.declared.steps.Steps.{Steps}
+use Rattle.grid_near.specs.declared.steps.Connectivity.{Connectivity}
 use Rattle.grid_paths.proofs.Common.{IsPath, IsMarked, HasLeastUpTo}
 use Rattle.grid_paths.proofs.path.follow.Given as goal
 
@@ -7,7 +7,7 @@ abbrev pub invariant-loop-left : goal.invariant-loop-left
 invariant-loop-left g l =
     record {
       mark : IsMarked l.steps.rows l.at l.left;
-      path : (kind : Steps) (floor : List (List Bool)) (to : ℕ × ℕ) → HasLeastUpTo kind floor to l.steps.rows l.initial.left → IsPath kind floor l.fn.from l.at l.path.items;
+      path : (connectivity : Connectivity) (mask : List (List Bool)) (to : ℕ × ℕ) → HasLeastUpTo connectivity mask to l.steps.rows l.initial.left → IsPath connectivity mask l.fn.from l.at l.path.items;
       most : l.left ≤ l.initial.left;
       len : length l.path.items + l.left ≡ l.initial.left + 1;
     }

@@ -18,8 +18,8 @@ returns-in-None-other_than-clause-filled g c =
     let first = c.in-Some.first.now in
     let both : Some first ≡ Some x = c.in-Some.ensures.cell ∙ e in
     let first_is : first ≡ x = cc in
-    subst (λ y. IsFilled c.args.kind (alike g.T.PartialEq.eq y t.rows) c.args.at c.args.value t.rows u.rows) first_is
-    (IsFilled-board g.T.PartialEq.eq first c.args.kind c.args.at c.args.value t.rows u.rows t.table u.table
+    subst (λ y. IsFilled c.args.connectivity (alike g.T.PartialEq.eq y t.rows) c.args.at c.args.value t.rows u.rows) first_is
+    (IsFilled-board g.T.PartialEq.eq first c.args.connectivity c.args.at c.args.value t.rows u.rows t.table u.table
     (record { rows = same.rows; cols = same.cols }) (cell_in_range t.rows t.table c.args.at.0 c.args.at.1 x e) c.in-None-other_than.ensures
     (cells_mapped _ _ t.rows u.rows c.args.value c.update.ensures.cells (λ b p y h. search rules)))
 
@@ -34,8 +34,8 @@ returns-in_ok-taken-in-Some-other_than-clause-filled g c =
     let first = c.in-Some.first.now in
     let both : Some first ≡ Some x = c.in-Some.ensures.cell ∙ e in
     let first_is : first ≡ x = cc in
-    subst (λ y. IsFilled c.args.kind (alike g.T.PartialEq.eq y t.rows) c.args.at c.args.value t.rows u) first_is
-    (IsFilled-flood g.T.PartialEq.eq first t.rows t.table c.args.kind c.args.at xs c.args.value u c.in_ok-taken-in-Some-other_than.ensures.flood
+    subst (λ y. IsFilled c.args.connectivity (alike g.T.PartialEq.eq y t.rows) c.args.at c.args.value t.rows u) first_is
+    (IsFilled-flood g.T.PartialEq.eq first t.rows t.table c.args.connectivity c.args.at xs c.args.value u c.in_ok-taken-in-Some-other_than.ensures.flood
     (record { written = filled.written; kept = λ a out. filled.kept a out ∙ marked.kept a out }))
 
 pub returns-in_ok-_taken-in-Some-2-clause-filled : goal.returns-in_ok-_taken-in-Some-2-clause-filled
@@ -46,6 +46,6 @@ returns-in_ok-_taken-in-Some-2-clause-filled g c =
     let first = c.in-Some.first.now in
     let both : Some first ≡ Some x = c.in-Some.ensures.cell ∙ e in
     let first_is : first ≡ x = cc in
-    subst (λ y. IsFilled c.args.kind (alike eq y t.rows) c.args.at c.args.value t.rows c.mark_region-in-Some-2.new.grid.rows) first_is
-    (IsFilled-flood eq first t.rows t.table c.args.kind c.args.at (places c.in_ok-_taken-in-Some-2._taken.items) c.args.value c.mark_region-in-Some-2.new.grid.rows
+    subst (λ y. IsFilled c.args.connectivity (alike eq y t.rows) c.args.at c.args.value t.rows c.mark_region-in-Some-2.new.grid.rows) first_is
+    (IsFilled-flood eq first t.rows t.table c.args.connectivity c.args.at (places c.in_ok-_taken-in-Some-2._taken.items) c.args.value c.mark_region-in-Some-2.new.grid.rows
     c.in_ok-_taken-in-Some-2.ensures.flood c.in_ok-_taken-in-Some-2.ensures.written)

@@ -5,7 +5,7 @@ use Rattle.grid_paths.proofs.search.distances.Goals as goal
 
 pub returns-clause-least : goal.returns-clause-least
 returns-clause-least g c =
-    let floor = c.in_ok-floor.floor.rows in
-    HoldsOfAnswers-if_ok _ _ _ c.search_from.result (λ floor steps. HasLeastSteps c.args.kind floor c.args.from steps.rows)
-    floor c.in_ok-floor.ensures.answers c.in_ok-floor.ensures.cells
-    (IfOk-weaker c.search_from.result _ _ (λ steps h. HasLeastSteps-one c.args.kind floor c.args.from steps.rows (h refl)) c.search_from.ensures.least)
+    let mask = c.in_ok-mask.mask.rows in
+    HoldsOfAnswers-if_ok _ _ _ c.search_from.result (λ mask steps. HasLeastSteps c.args.connectivity mask c.args.from steps.rows)
+    mask c.in_ok-mask.ensures.answers c.in_ok-mask.ensures.cells
+    (IfOk-weaker c.search_from.result _ _ (λ steps h. HasLeastSteps-one c.args.connectivity mask c.args.from steps.rows (h refl)) c.search_from.ensures.least)

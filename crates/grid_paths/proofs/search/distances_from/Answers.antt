@@ -5,5 +5,5 @@ use Rattle.grid_paths.proofs.search.distances_from.Goals as goal
 
 pub returns-clause-least : goal.returns-clause-least
 returns-clause-least g c =
-    HoldsOfAnswers-if_ok _ _ _ c.search_from.result (λ floor steps. HasLeastFrom c.args.kind floor c.args.starts.now steps.rows)
-    c.in_ok-floor.floor.rows c.in_ok-floor.ensures.answers c.in_ok-floor.ensures.cells (search rules)
+    HoldsOfAnswers-if_ok _ _ _ c.search_from.result (λ mask steps. HasLeastFrom c.args.connectivity mask c.args.starts.now steps.rows)
+    c.in_ok-mask.mask.rows c.in_ok-mask.ensures.answers c.in_ok-mask.ensures.cells (search rules)

@@ -5,29 +5,29 @@ use Rattle.grid_paths.proofs.search.search_from.Goals as goal
 
 pub loop-start-init : goal.loop-start-init
 loop-start-init g c =
-    let floor = c.args.floor.rows in
+    let mask = c.args.mask.rows in
     let w = c.in_ok-steps.steps in
     let u = w.numbers.rows in
     let blank = c.in_ok-steps.ensures in
     let none : (a : ℕ × ℕ) (m : ℕ) → IsMarked u a m → ⊥ = λ a m h.
-    none_marked (row_count floor) (col_count floor) a m (subst (λ x. IsMarked x a m) blank.none h) in
-    let empty : (a : ℕ × ℕ) → IsOpen floor a → cell u a.0 a.1 ≡ Some None = λ a o.
-    let i = cell_in_range floor c.args.floor.table a.0 a.1 true o in
-    ap (λ x. cell x a.0 a.1) blank.none ∙ none_at (row_count floor) (col_count floor) a.0 a.1 i.0 i.1 in
+    none_marked (row_count mask) (col_count mask) a m (subst (λ x. IsMarked x a m) blank.none h) in
+    let empty : (a : ℕ × ℕ) → IsOpen mask a → cell u a.0 a.1 ≡ Some None = λ a o.
+    let i = cell_in_range mask c.args.mask.table a.0 a.1 true o in
+    ap (λ x. cell x a.0 a.1) blank.none ∙ none_at (row_count mask) (col_count mask) a.0 a.1 i.0 i.1 in
     let few = unreached_cells u w.numbers.table in
-    let size : row_count u * col_count u ≡ row_count floor * col_count floor = ap (λ n. n * col_count u) blank.size.rows ∙ ap (λ n. row_count floor * n) blank.size.cols in
+    let size : row_count u * col_count u ≡ row_count mask * col_count mask = ap (λ n. n * col_count u) blank.size.rows ∙ ap (λ n. row_count mask * n) blank.size.cols in
     let nothing : length w.queue.items ≡ 0 = ap length blank.queue in
     record {
       size = blank.size;
       order = blank.order;
-      left = IsLeft-start floor u empty;
-      started = subst (λ q. IsStarted c.args.kind floor c.args.starts.now u q 0) (sym blank.queue) (IsStarted-empty c.args.kind floor c.args.starts.now u none);
+      left = IsLeft-start mask u empty;
+      started = subst (λ q. IsStarted c.args.connectivity mask c.args.starts.now u q 0) (sym blank.queue) (IsStarted-empty c.args.connectivity mask c.args.starts.now u none);
       bound = omega arith;
     }
 
 pub loop-start-preserved : goal.loop-start-preserved
 loop-start-preserved g c =
-    let floor = c.args.floor.rows in
+    let mask = c.args.mask.rows in
     let starts = c.args.starts.now in
     let l = c.loop-start in
     let i = l.start-index in
@@ -36,7 +36,7 @@ loop-start-preserved g c =
     let place : slice_get starts i ≡ Some from = slice_get-get_or starts i (0, 0) lt in
     let w = l.search.steps in
     let new = c.reach.new.self.steps in
-    let r = c.in_ok-reach.ensures floor l.invariant.left in
+    let r = c.in_ok-reach.ensures mask l.invariant.left in
     let same = r.0.same in
     let total = r.0.round.spread.total in
     let le = l.invariant.bound in
@@ -45,7 +45,7 @@ loop-start-preserved g c =
       size = record { rows = same.rows ∙ l.invariant.size.rows; cols = same.cols ∙ l.invariant.size.cols };
       left = r.1;
       order = same.order ∙ l.invariant.order;
-      started = IsStarted-reach c.args.kind floor starts w.numbers.rows w.queue.items i from new.numbers.rows new.queue.items l.invariant.started place r.0.round;
+      started = IsStarted-reach c.args.connectivity mask starts w.numbers.rows w.queue.items i from new.numbers.rows new.queue.items l.invariant.started place r.0.round;
     }
 
 pub loop-next-init : goal.loop-next-init
@@ -58,7 +58,7 @@ loop-next-init g c =
       order = l.invariant.order;
       left = l.invariant.left;
       search = IsTrimmed-start w.numbers.rows w.queue.items l.invariant.started.search l.invariant.bound;
-      start = started_all c.args.kind c.args.floor.rows c.args.starts.now w.numbers.rows w.queue.items l.start-index l.invariant.started le;
+      start = started_all c.args.connectivity c.args.mask.rows c.args.starts.now w.numbers.rows w.queue.items l.start-index l.invariant.started le;
     }
 
 pub reach_around-requires : goal.reach_around-requires
@@ -75,7 +75,7 @@ reach_around-requires g c =
     let lr : a.0 < row_count l.search.left.rows = omega arith in
     let lc : a.1 < col_count l.search.left.rows = omega arith in
     let low = v.1.2 in
-    let few = c.args.floor.fits.cells in
+    let few = c.args.mask.fits.cells in
     record { inside = (lr, lc); marked = (v.1.0, v.1.1, omega arith) }
 
 pub trim-next-requires : goal.trim-next-requires
@@ -83,7 +83,7 @@ trim-next-requires g c =
     let l = c.loop-next in
     let lt : l.next < length l.search.steps.queue.items = omega (arith, l.search.steps.queue.ok.0) in
     let v = next_at l.invariant.search c.index-at.result.now lt c.index-at.ensures in
-    let longer = (c.in_ok-reach_around.ensures v.1.0 v.1.1 c.args.floor.rows l.invariant.left).0.round.spread.longer in
+    let longer = (c.in_ok-reach_around.ensures v.1.0 v.1.1 c.args.mask.rows l.invariant.left).0.round.spread.longer in
     omega arith
 
 pub loop-next-preserved : goal.loop-next-preserved
@@ -91,7 +91,7 @@ loop-next-preserved g c =
     let l = c.loop-next in
     let a = c.index-at.result.now in
     let v = next_at l.invariant.search a (omega (arith, l.search.steps.queue.ok.0)) c.index-at.ensures in
-    let both = c.in_ok-reach_around.ensures v.1.0 v.1.1 c.args.floor.rows l.invariant.left in
+    let both = c.in_ok-reach_around.ensures v.1.0 v.1.1 c.args.mask.rows l.invariant.left in
     let new = c.reach_around.new.self.steps in
     let same = both.0.same in
     record {
@@ -114,15 +114,15 @@ returns-clause-settled g c =
     λ from to one is.
     let l = c.loop-next in
     let u = l.search.steps.numbers.rows in
-    let floor = c.args.floor.rows in
+    let mask = c.args.mask.rows in
     let least = HasLeastFrom-trimmed l.invariant.search l.invariant.start (omega (arith, l.search.steps.queue.ok.0)) in
-    IsSettled-end c.args.kind floor from u
-    (HasLeastSteps-one c.args.kind floor from u (subst (λ x. HasLeastFrom c.args.kind floor x u) one least)) to
+    IsSettled-end c.args.connectivity mask from u
+    (HasLeastSteps-one c.args.connectivity mask from u (subst (λ x. HasLeastFrom c.args.connectivity mask x u) one least)) to
 
 pub returns-then-eq-clause-settled : goal.returns-then-eq-clause-settled
 returns-then-eq-clause-settled g c =
     λ from to one is.
-    let floor = c.args.floor.rows in
+    let mask = c.args.mask.rows in
     let l = c.loop-next in
     let w = l.search.steps in
     let u = w.numbers.rows in
@@ -133,9 +133,9 @@ returns-then-eq-clause-settled g c =
     let same : a ≡ to = cc in
     let mark : IsMarked u to v.1.0 = subst (λ x. IsMarked u x v.1.0) same v.1.1 in
     let t = l.invariant.search in
-    let search : IsSearch c.args.kind floor (from ∷ []) u (t.front ++ w.queue.items) (length t.front + l.next) = subst (λ x. IsSearch c.args.kind floor x u (t.front ++ w.queue.items) (length t.front + l.next)) one t.search in
+    let search : IsSearch c.args.connectivity mask (from ∷ []) u (t.front ++ w.queue.items) (length t.front + l.next) = subst (λ x. IsSearch c.args.connectivity mask x u (t.front ++ w.queue.items) (length t.front + l.next)) one t.search in
     let first : Contains c.args.starts.now from = subst (λ x. Contains x from) (sym one) (0, omega arith, refl) in
-    IsSettled-found c.args.kind floor from u (t.front ++ w.queue.items) (length t.front + l.next) search (λ o. l.invariant.start from first o) to v.1.0 mark
+    IsSettled-found c.args.connectivity mask from u (t.front ++ w.queue.items) (length t.front + l.next) search (λ o. l.invariant.start from first o) to v.1.0 mark
 
 pub loop-next-smaller : goal.loop-next-smaller
 loop-next-smaller g c =
@@ -145,5 +145,5 @@ loop-next-smaller g c =
     let trimmed = c.trim-next.ensures in
     let long = ap length trimmed.1 ∙ length-append trimmed.0 c.trim-next.new.queue.items in
     let next_is = trimmed.2 in
-    let total = (c.in_ok-reach_around.ensures v.1.0 v.1.1 c.args.floor.rows l.invariant.left).0.round.spread.total in
+    let total = (c.in_ok-reach_around.ensures v.1.0 v.1.1 c.args.mask.rows l.invariant.left).0.round.spread.total in
     omega arith

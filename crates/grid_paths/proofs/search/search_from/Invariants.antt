@@ -8,21 +8,21 @@ use Rattle.grid_paths.proofs.search.search_from.Given as goal
 abbrev pub invariant-loop-start : goal.invariant-loop-start
 invariant-loop-start g l =
     record {
-      size : HaveOneSize l.search.steps.numbers.rows l.fn.floor.rows;
-      order : l.search.steps.numbers.order ≡ l.fn.floor.order;
-      left : IsLeft l.fn.floor.rows l.search.steps.numbers.rows l.search.left.rows;
-      started : IsStarted l.kind l.fn.floor.rows l.starts l.search.steps.numbers.rows l.search.steps.queue.items l.start-index;
-      bound : unreached l.search.steps.numbers.rows + length l.search.steps.queue.items ≤ row_count l.fn.floor.rows * col_count l.fn.floor.rows;
+      size : HaveOneSize l.search.steps.numbers.rows l.fn.mask.rows;
+      order : l.search.steps.numbers.order ≡ l.fn.mask.order;
+      left : IsLeft l.fn.mask.rows l.search.steps.numbers.rows l.search.left.rows;
+      started : IsStarted l.connectivity l.fn.mask.rows l.starts l.search.steps.numbers.rows l.search.steps.queue.items l.start-index;
+      bound : unreached l.search.steps.numbers.rows + length l.search.steps.queue.items ≤ row_count l.fn.mask.rows * col_count l.fn.mask.rows;
     }
 
 abbrev pub invariant-loop-next : goal.invariant-loop-next
 invariant-loop-next g l =
     record {
-      size : HaveOneSize l.search.steps.numbers.rows l.fn.floor.rows;
-      order : l.search.steps.numbers.order ≡ l.fn.floor.order;
-      left : IsLeft l.fn.floor.rows l.search.steps.numbers.rows l.search.left.rows;
-      search : IsTrimmed l.kind l.fn.floor.rows l.fn.starts l.search.steps.numbers.rows l.search.steps.queue.items l.next (row_count l.fn.floor.rows * col_count l.fn.floor.rows);
-      start : (from : ℕ × ℕ) → Contains l.fn.starts from → IsOpen l.fn.floor.rows from → IsMarked l.search.steps.numbers.rows from 0;
+      size : HaveOneSize l.search.steps.numbers.rows l.fn.mask.rows;
+      order : l.search.steps.numbers.order ≡ l.fn.mask.order;
+      left : IsLeft l.fn.mask.rows l.search.steps.numbers.rows l.search.left.rows;
+      search : IsTrimmed l.connectivity l.fn.mask.rows l.fn.starts l.search.steps.numbers.rows l.search.steps.queue.items l.next (row_count l.fn.mask.rows * col_count l.fn.mask.rows);
+      start : (from : ℕ × ℕ) → Contains l.fn.starts from → IsOpen l.fn.mask.rows from → IsMarked l.search.steps.numbers.rows from 0;
     }
 
 abbrev pub decreases-loop-next : goal.decreases-loop-next

@@ -9,14 +9,14 @@ returns g c =
     let walked = c.in_ok-take_region.ensures.flood in
     let ways = c.in_ok-ways.ways in
     let q = c.take_region.new.self.taken.items in
-    let same : IsFlood c.args.kind ways.rows c.args.starts.now (places q) = subst (λ u. IsFlood c.args.kind u c.args.starts.now (places q)) (answers-same _ (way-same ghosts.eq refl refl refl refl refl) ways.rows ways.table) walked in
+    let same : IsFlood c.args.connectivity ways.rows c.args.starts.now (places q) = subst (λ u. IsFlood c.args.connectivity u c.args.starts.now (places q)) (answers-same _ (way-same ghosts.eq refl refl refl refl refl) ways.rows ways.table) walked in
     let flood =
-    HoldsOfAnswers-if_ok _ _ _ c.places_of.result (λ u found. IsFlood c.args.kind u c.args.starts.now found.items)
+    HoldsOfAnswers-if_ok _ _ _ c.places_of.result (λ u found. IsFlood c.args.connectivity u c.args.starts.now found.items)
     ways.rows c.in_ok-ways.ensures.answers c.in_ok-ways.ensures.cells
     (IfOk-weaker c.places_of.result _ _
-    (λ found e. subst (λ xs. IsFlood c.args.kind ways.rows c.args.starts.now xs) (sym (e ∙ ap places c.deref.ensures.value)) same)
+    (λ found e. subst (λ xs. IsFlood c.args.connectivity ways.rows c.args.starts.now xs) (sym (e ∙ ap places c.deref.ensures.value)) same)
     c.places_of.ensures) in
     record {
       flood = flood;
-      in_range = IfOk-weaker c.places_of.result _ _ (λ found h. flood_in_range _ _ c.args.kind _ c.args.starts.now found.items h) flood;
+      in_range = IfOk-weaker c.places_of.result _ _ (λ found h. flood_in_range _ _ c.args.connectivity _ c.args.starts.now found.items h) flood;
     }

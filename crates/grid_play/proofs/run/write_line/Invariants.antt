@@ -1,4 +1,4 @@
--- The cells so far, each behind a space.
+-- The cells so far, each after a space.
 use Rattle.std.proofs.Common.{◌≡◌, ◌++◌, take, string_bytes}
 use Rattle.grid_play.specs.Output.{line_text}
 use Rattle.grid_play.proofs.run.write_line.Given as goal

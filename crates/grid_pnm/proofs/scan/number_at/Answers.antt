@@ -12,17 +12,17 @@ returns-in_err-word-clause-number c =
     let text : IsUtf8 c.split_at.result.0.now = rw front (IsUtf8-from_ascii _ (digits_are_ascii c.args.bytes.now)) in
     absurd (search rules)
 
-pub returns-in_err-index-clause-number : goal.returns-in_err-index-clause-number
-returns-in_err-index-clause-number c =
+pub returns-in_err-parse_index-clause-number : goal.returns-in_err-parse_index-clause-number
+returns-in_err-parse_index-clause-number c =
     let front : c.split_at.result.0.now ≡ take (digit_count c.args.bytes.now) c.args.bytes.now = search rules in
     let back : c.split_at.result.1.now ≡ drop (digit_count c.args.bytes.now) c.args.bytes.now = search rules in
     let none : index_of c.split_at.result.0.now ≡ None = search rules in
     let is : number_at c.args.bytes.now ≡ None = number_none _ _ _ front back none in
-    rw c.from_residual-in_err-index.ensures is
+    rw c.from_residual-in_err-parse_index.ensures is
 
 pub returns-clause-number : goal.returns-clause-number
 returns-clause-number c =
     let front : c.split_at.result.0.now ≡ take (digit_count c.args.bytes.now) c.args.bytes.now = search rules in
     let back : c.split_at.result.1.now ≡ drop (digit_count c.args.bytes.now) c.args.bytes.now = search rules in
-    let some : index_of c.split_at.result.0.now ≡ Some c.in_ok-index.field-0 = search rules in
+    let some : index_of c.split_at.result.0.now ≡ Some c.in_ok-parse_index.field-0 = search rules in
     number_is _ _ _ front back _ some

@@ -1,4 +1,4 @@
--- The numbers so far, before those that are left, each behind a space.
+-- The numbers so far, before those that are left, each after a space.
 use Rattle.std.proofs.Common.{◌≡◌, ◌++◌, ◌∷◌, map, flat_map, string_bytes}
 use Rattle.std.specs.Fmt.{signed_decimal}
 use Rattle.grid_text.proofs.Common.{line_of_numbers}

@@ -3,7 +3,8 @@ use crate::case::CaseError;
 use crate::shown::text;
 use grid::Grid;
 use grid_paths::{
-    Enter, Steps, cheapest, distances, distances_from, fill_region, flood, regions, shortest_path,
+    Connectivity, Enter, cheapest, distances, distances_from, fill_region, flood, regions,
+    shortest_path,
 };
 use grid_text::to_text;
 use std::alloc::{AllocError, Allocator, Global};
@@ -13,7 +14,7 @@ use std::fmt::Display;
 #[derive(Drop)]
 pub struct Search<'a> {
     pub call: &'a str,
-    pub steps: Steps,
+    pub steps: Connectivity,
     pub at: Vec<(usize, usize)>,
 }
 
@@ -71,7 +72,7 @@ fn table<N: Display + Drop, A: Allocator>(
 fn regions_text<A: Allocator + Clone>(
     alloc: Global,
     map: &Grid<char, A>,
-    steps: Steps,
+    steps: Connectivity,
 ) -> Result<String, CaseError> {
     let (numbers, count) = regions(map, steps)?;
     let text = numbers_text(alloc, &numbers.map_ref(some)?)?;
@@ -82,7 +83,7 @@ fn path_text<A: Allocator + Clone>(
     alloc: Global,
     map: &Grid<char, A>,
     ends: &[(usize, usize)],
-    steps: Steps,
+    steps: Connectivity,
 ) -> Result<String, CaseError> {
     match ends {
         [from, to, ..] => match shortest_path(map, *from, *to, steps, is_free)? {
@@ -97,7 +98,7 @@ fn filled_text<A: Allocator + Clone>(
     alloc: Global,
     map: &mut Grid<char, A>,
     at: (usize, usize),
-    steps: Steps,
+    steps: Connectivity,
 ) -> Result<String, CaseError> {
     fill_region(map, at, steps, 'x')?;
     Ok(to_text(alloc, map, same)?)
@@ -108,7 +109,7 @@ fn flooded_text<A: Allocator + Clone>(
     alloc: Global,
     map: &mut Grid<char, A>,
     starts: &[(usize, usize)],
-    steps: Steps,
+    steps: Connectivity,
 ) -> Result<String, CaseError> {
     let found = flood(map, starts, steps, enter)?;
     for at in &found {

@@ -3,12 +3,12 @@ use Rattle.grid.proofs.Common.{common_steps, col_count, items_of_each, rows-vecs
 use Rattle.grid.proofs.Lemmas.{woven_lent, seen_rows, seen_same, RowsBehind-lines, put_cells, put_fits, rows_put, no_room, room}
 use Rattle.grid.proofs.grid.Grid.insert_rows.Goals as goal
 
-pub returns-then-not-has_room-clause-fails : goal.returns-then-not-has_room-clause-fails
-returns-then-not-has_room-clause-fails g c =
+pub returns-then-not-fits_usize-clause-fails : goal.returns-then-not-fits_usize-clause-fails
+returns-then-not-fits_usize-clause-fails g c =
     let width : c.first_len-width.result ≡ col_count (items_of_each c.args.lines.items) = c.first_len-width.ensures ∙ ap (λ xs. col_count (items_of_each xs)) c.as_slice.ensures.value in
     let count : c.len-count.result ≡ length c.args.lines.items = omega arith in
     record {
-      too_large = rw (sym count) (λ _. no_room _ _ _ _ _ _ (seen_rows _ _ _ _ _ c.self.inside.fits c.self.view_is) width c.has_room.ensures c.if-not-has_room.true, λ _. refl);
+      too_large = rw (sym count) (λ _. no_room _ _ _ _ _ _ (seen_rows _ _ _ _ _ c.self.inside.fits c.self.view_is) width c.fits_usize.ensures c.if-not-fits_usize.true, λ _. refl);
       none = λ e. (search rules);
       lines_back = (search rules);
       unchanged = refl;
@@ -30,7 +30,7 @@ pub overflow_add-self : goal.overflow_add-self
 overflow_add-self g c =
     let width : c.first_len-width.result ≡ col_count (items_of_each c.args.lines.items) = c.first_len-width.ensures ∙ ap (λ xs. col_count (items_of_each xs)) c.as_slice.ensures.value in
     let some : 0 < c.first_len-width.result = omega (arith, width, c.requires.table.nonempty 0 (omega (arith, rows-vecs c.args.lines.items))) in
-    let small = factor_small _ _ some (c.has_room.ensures.0 c.if-not-has_room.false) in
+    let small = factor_small _ _ some (c.fits_usize.ensures.0 c.if-not-fits_usize.false) in
     omega (arith, small)
 
 pub invariant_of-self-inside : goal.invariant_of-self-inside
@@ -39,7 +39,7 @@ invariant_of-self-inside g c =
     let some : 0 < c.len-count.result = omega arith in
     let fits = c.requires.fits (omega arith) in
     let behind = RowsBehind-lines c.self.inside.order _ _ _ _ c.requires.table width (omega arith) c.as_mut_slice.ensures.value c.in-Ok.ensures.ok in
-    (put_fits _ _ _ _ _ c.self.inside.fits c.self.view_is _ (rw width fits) _ _ _ behind _ _ _ _ _ _ c.row_groups-groups.ensures.groups (woven_lent _ _ _ _ c.as_mut_slice-in-Ok.ensures.cells c.weave.ensures) some (c.has_room.ensures.0 c.if-not-has_room.false), tt)
+    (put_fits _ _ _ _ _ c.self.inside.fits c.self.view_is _ (rw width fits) _ _ _ behind _ _ _ _ _ _ c.row_groups-groups.ensures.groups (woven_lent _ _ _ _ c.as_mut_slice-in-Ok.ensures.cells c.weave.ensures) some (c.fits_usize.ensures.0 c.if-not-fits_usize.false), tt)
 
 pub returns-in-Ok-clause-rows : goal.returns-in-Ok-clause-rows
 returns-in-Ok-clause-rows g c =
@@ -53,7 +53,7 @@ returns-in-Ok-clause-fails g c =
     let width : c.first_len-width.result ≡ col_count (items_of_each c.args.lines.items) = c.first_len-width.ensures ∙ ap (λ xs. col_count (items_of_each xs)) c.as_slice.ensures.value in
     let count : c.len-count.result ≡ length c.args.lines.items = omega arith in
     record {
-      too_large = rw (sym count) (λ h. absurd h, λ large. room _ _ _ _ _ _ (seen_rows _ _ _ _ _ c.self.inside.fits c.self.view_is) width c.has_room.ensures c.if-not-has_room.false large);
+      too_large = rw (sym count) (λ h. absurd h, λ large. room _ _ _ _ _ _ (seen_rows _ _ _ _ _ c.self.inside.fits c.self.view_is) width c.fits_usize.ensures c.if-not-fits_usize.false large);
       none = λ e. (search rules);
       lines_back = (search rules);
       unchanged = (search rules);
@@ -64,7 +64,7 @@ returns-in-Err-clause-fails g c =
     let width : c.first_len-width.result ≡ col_count (items_of_each c.args.lines.items) = c.first_len-width.ensures ∙ ap (λ xs. col_count (items_of_each xs)) c.as_slice.ensures.value in
     let count : c.len-count.result ≡ length c.args.lines.items = omega arith in
     record {
-      too_large = rw (sym count) (λ h. absurd (cc h), λ large. absurd (room _ _ _ _ _ _ (seen_rows _ _ _ _ _ c.self.inside.fits c.self.view_is) width c.has_room.ensures c.if-not-has_room.false large));
+      too_large = rw (sym count) (λ h. absurd (cc h), λ large. absurd (room _ _ _ _ _ _ (seen_rows _ _ _ _ _ c.self.inside.fits c.self.view_is) width c.fits_usize.ensures c.if-not-fits_usize.false large));
       none = λ e. (search rules);
       lines_back = grind (arith, common_steps);
       unchanged = seen_same _ _ _ _ _ c.self.inside.fits c.self.view_is _ _ c.in-Err.ensures.err;

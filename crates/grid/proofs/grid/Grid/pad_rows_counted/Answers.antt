@@ -26,10 +26,10 @@ returns-then-count-eq0-clause-fails g c =
 pub open-requires : goal.open-requires
 open-requires g c =
     let groups = c.row_groups-groups.ensures in
-    let wide = pad_cols _ _ _ _ _ c.self.inside.fits c.self.view_is _ _ _ c.size-rows.ensures.rows c.size-rows.ensures.cols c.if-rows-eq0.false (c.if-not-has_room.ensures.0 refl) in
+    let wide = pad_cols _ _ _ _ _ c.self.inside.fits c.self.view_is _ _ _ c.size-rows.ensures.rows c.size-rows.ensures.cols c.if-rows-eq0.false (c.if-not-fits_usize.ensures.0 refl) in
     record {
       cells =
-          pad_cells _ _ _ _ _ c.self.inside.fits c.self.view_is _ _ _ c.size-rows.ensures.rows c.size-rows.ensures.cols c.if-rows-eq0.false (c.if-not-has_room.ensures.0 refl) _ _ c.in_ok-append_defaults.ensures.ok
+          pad_cells _ _ _ _ _ c.self.inside.fits c.self.view_is _ _ _ c.size-rows.ensures.rows c.size-rows.ensures.cols c.if-rows-eq0.false (c.if-not-fits_usize.ensures.0 refl) _ _ c.in_ok-append_defaults.ensures.ok
           ∙ sym groups.cells;
       has_lines = groups.has_lines wide;
       has_width = groups.has_width (mul-pos (omega (arith, c.if-rows-eq0.false)) wide);
@@ -37,19 +37,19 @@ open-requires g c =
     }
 
 pub overflow_add-self : goal.overflow_add-self
-overflow_add-self g c = let small = pad_rows_small _ _ _ _ _ c.self.inside.fits c.self.view_is _ _ _ c.size-rows.ensures.rows c.size-rows.ensures.cols c.if-rows-eq0.false (c.if-not-has_room.ensures.0 refl) in omega (arith, small)
+overflow_add-self g c = let small = pad_rows_small _ _ _ _ _ c.self.inside.fits c.self.view_is _ _ _ c.size-rows.ensures.rows c.size-rows.ensures.cols c.if-rows-eq0.false (c.if-not-fits_usize.ensures.0 refl) in omega (arith, small)
 
 pub invariant_of-self-inside-2 : goal.invariant_of-self-inside-2
 invariant_of-self-inside-2 g c =
-    (pad_fits _ _ _ _ _ c.self.inside.fits c.self.view_is _ _ _ c.size-rows.ensures.rows c.size-rows.ensures.cols c.if-rows-eq0.false (c.if-not-has_room.ensures.0 refl) _ _ c.in_ok-append_defaults.ensures.ok c.args.at _ _ _ _ _ c.row_groups-groups.ensures.groups c.requires.point c.open.ensures.opened, tt)
+    (pad_fits _ _ _ _ _ c.self.inside.fits c.self.view_is _ _ _ c.size-rows.ensures.rows c.size-rows.ensures.cols c.if-rows-eq0.false (c.if-not-fits_usize.ensures.0 refl) _ _ c.in_ok-append_defaults.ensures.ok c.args.at _ _ _ _ _ c.row_groups-groups.ensures.groups c.requires.point c.open.ensures.opened, tt)
 
 pub returns-clause-padded : goal.returns-clause-padded
 returns-clause-padded g c =
-    pads_rows _ _ _ _ _ c.self.inside.fits c.self.view_is _ _ _ c.size-rows.ensures.rows c.size-rows.ensures.cols c.if-rows-eq0.false (c.if-not-has_room.ensures.0 refl) _ _ c.in_ok-append_defaults.ensures.ok c.args.at _ _ _ _ _ c.row_groups-groups.ensures.groups c.requires.point c.open.ensures.opened
+    pads_rows _ _ _ _ _ c.self.inside.fits c.self.view_is _ _ _ c.size-rows.ensures.rows c.size-rows.ensures.cols c.if-rows-eq0.false (c.if-not-fits_usize.ensures.0 refl) _ _ c.in_ok-append_defaults.ensures.ok c.args.at _ _ _ _ _ c.row_groups-groups.ensures.groups c.requires.point c.open.ensures.opened
 
 pub returns-clause-shift : goal.returns-clause-shift
 returns-clause-shift g c =
-    rw (pad_shift _ _ _ _ _ c.self.inside.fits c.self.view_is _ _ _ c.size-rows.ensures.rows c.size-rows.ensures.cols c.if-rows-eq0.false (c.if-not-has_room.ensures.0 refl) (λ o m n k. rows_added_shift o m n c.args.at k))
+    rw (pad_shift _ _ _ _ _ c.self.inside.fits c.self.view_is _ _ _ c.size-rows.ensures.rows c.size-rows.ensures.cols c.if-rows-eq0.false (c.if-not-fits_usize.ensures.0 refl) (λ o m n k. rows_added_shift o m n c.args.at k))
     (c.open.ensures.shift ∙ ap (saturating_count c.args.tally.now.shift) (c.row_groups-groups.ensures.shift (omega (arith, c.if-count-eq0.false))))
 
 pub returns-in_err-append_defaults-clause-fails : goal.returns-in_err-append_defaults-clause-fails

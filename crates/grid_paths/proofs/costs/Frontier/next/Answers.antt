@@ -20,8 +20,8 @@ loop-first-preserved g c =
       left = was;
       sums = p.sums ∙ l.invariant.sums;
       heap_order = p.heap_order l.invariant.heap_order;
-      enough = λ kind costs from s.
-          IsCostSearch-stale kind costs from (sums_of w f) f.left.rows (waiting w l.self) (l.invariant.enough kind costs from s) x (waiting w c.pop.new.self) p.taken closed;
+      enough = λ connectivity costs from s.
+          IsCostSearch-stale connectivity costs from (sums_of w f) f.left.rows (waiting w l.self) (l.invariant.enough connectivity costs from s) x (waiting w c.pop.new.self) p.taken closed;
     }
 
 pub returns-in-Some-cost_of : goal.returns-in-Some-cost_of

@@ -4,7 +4,7 @@ use Rattle.grid_paths.proofs.Lemmas.{Spreads-start, Spreads-next, Spreads-end}
 use Rattle.grid_paths.proofs.numbered.Region.number_each.Goals as goal
 
 pub loop-near-init : goal.loop-near-init
-loop-near-init g c = Spreads-start c.args.at.now c.args.wave.now
+loop-near-init g c = Spreads-start c.args.at.now c.args.bfs.now
 
 pub number_at-requires : goal.number_at-requires
 number_at-requires g c =

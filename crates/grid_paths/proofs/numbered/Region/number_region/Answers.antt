@@ -5,8 +5,8 @@ use Rattle.grid_paths.proofs.numbered.Region.number_region.Goals as goal
 
 pub loop-next-init : goal.loop-next-init
 loop-next-init g c =
-    let floor = alike g.T.PartialEq.eq c.args.self.now.first.now c.args.self.now.grid.now.rows in
-    let u = c.args.wave.now.numbers.rows in
+    let mask = alike g.T.PartialEq.eq c.args.self.now.first.now c.args.self.now.grid.now.rows in
+    let u = c.args.bfs.now.numbers.rows in
     let k = c.args.self.now.number in
     let new = c.mark.new.self in
     let marks = c.in_ok-mark.ensures c.requires.at in
@@ -14,7 +14,7 @@ loop-next-init g c =
     let fewer = Marks-fewer c.requires.at marks in
     record {
       same = marks.same;
-      numbering = IsNumbering-start c.args.self.now.kind floor c.args.at k u new.numbers.rows new.queue.items
+      numbering = IsNumbering-start c.args.self.now.connectivity mask c.args.at k u new.numbers.rows new.queue.items
           (subst (λ q. Grew u q new.numbers.rows new.queue.items c.args.at k) c.clear.ensures.items (Marks-grew c.requires.at marks));
       fewer = omega arith;
     }
@@ -22,12 +22,12 @@ loop-next-init g c =
 pub number_around-requires : goal.number_around-requires
 number_around-requires g c =
     let l = c.loop-next in
-    let queue = l.wave.queue in
+    let queue = l.bfs.queue in
     let a = c.index.result.now in
     let lt : l.next < length queue.items = omega (arith, queue.ok.0) in
     let place : IsAt queue.items l.next a = slice_get_read queue.items (length queue.items) l.next a refl lt c.index.ensures in
     let v = l.invariant.numbering.queued l.next a place in
-    let i = cell_in_range l.wave.numbers.rows l.wave.numbers.table a.0 a.1 (Some c.args.self.now.number) v in
+    let i = cell_in_range l.bfs.numbers.rows l.bfs.numbers.table a.0 a.1 (Some c.args.self.now.number) v in
     let lr0 = i.0 in
     let lc0 = i.1 in
     let same = l.invariant.same in
@@ -40,36 +40,36 @@ number_around-requires g c =
 
 pub loop-next-preserved : goal.loop-next-preserved
 loop-next-preserved g c =
-    let floor = alike g.T.PartialEq.eq c.args.self.now.first.now c.args.self.now.grid.now.rows in
+    let mask = alike g.T.PartialEq.eq c.args.self.now.first.now c.args.self.now.grid.now.rows in
     let l = c.loop-next in
-    let queue = l.wave.queue in
+    let queue = l.bfs.queue in
     let a = c.index.result.now in
     let lt : l.next < length queue.items = omega (arith, queue.ok.0) in
     let place : IsAt queue.items l.next a = slice_get_read queue.items (length queue.items) l.next a refl lt c.index.ensures in
-    let new = c.number_around.new.wave in
+    let new = c.number_around.new.bfs in
     let e = c.in_ok-number_around.ensures in
     let before = l.invariant.same in
     record {
       same = record { rows = e.same.rows ∙ before.rows; cols = e.same.cols ∙ before.cols; order = e.same.order ∙ before.order };
-      numbering = IsNumbering-round c.args.self.now.kind floor c.args.at c.args.self.now.number c.args.wave.now.numbers.rows l.wave.numbers.rows queue.items l.next l.invariant.numbering c.requires.below
+      numbering = IsNumbering-round c.args.self.now.connectivity mask c.args.at c.args.self.now.number c.args.bfs.now.numbers.rows l.bfs.numbers.rows queue.items l.next l.invariant.numbering c.requires.below
           a new.numbers.rows new.queue.items place e.round;
       fewer = e.round.spread.total ∙ l.invariant.fewer;
     }
 
 pub loop-next-smaller : goal.loop-next-smaller
 loop-next-smaller g c =
-    let queue = c.loop-next.wave.queue in
+    let queue = c.loop-next.bfs.queue in
     let lt : c.loop-next.next < length queue.items = omega (arith, queue.ok.0) in
     let total = c.in_ok-number_around.ensures.round.spread.total in
     omega arith
 
 pub returns-clause-numbered : goal.returns-clause-numbered
 returns-clause-numbered g c =
-    let floor = alike g.T.PartialEq.eq c.args.self.now.first.now c.args.self.now.grid.now.rows in
+    let mask = alike g.T.PartialEq.eq c.args.self.now.first.now c.args.self.now.grid.now.rows in
     let l = c.loop-next in
-    let queue = l.wave.queue in
+    let queue = l.bfs.queue in
     let all : length queue.items ≤ l.next = omega (arith, queue.ok.0) in
-    IsNumbered-end c.args.self.now.kind floor c.args.at c.args.self.now.number c.args.wave.now.numbers.rows l.wave.numbers.rows queue.items l.next l.invariant.numbering c.requires.below all
+    IsNumbered-end c.args.self.now.connectivity mask c.args.at c.args.self.now.number c.args.bfs.now.numbers.rows l.bfs.numbers.rows queue.items l.next l.invariant.numbering c.requires.below all
 
 pub returns-clause-fewer : goal.returns-clause-fewer
 returns-clause-fewer g c =

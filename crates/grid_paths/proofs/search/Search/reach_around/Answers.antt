@@ -16,8 +16,8 @@ returns-in_default g c =
     let f : c.index.result.now ≡ Some m.0 = cc in
     absurd (c.in_default.not-Some m.0 f)
 
-pub returns-in-Sides : goal.returns-in-Sides
-returns-in-Sides g c =
+pub returns-in-Four : goal.returns-in-Four
+returns-in-Four g c =
     let at = c.args.at in
     let s = c.args.self.now in
     let new = c.reach_each.new.self in
@@ -25,19 +25,19 @@ returns-in-Sides g c =
     on_ok_weaker c.reach_each.result
     (λ r m mark.
     let same = one_mark s.steps.numbers.rows at c.in-Some.count m (c.index.ensures ∙ ap Some c.in-Some.is) mark in
-    Reaches-steps c.args.kind at four (subst (λ kind. AreSteps kind at four) (sym c.in-Sides.is) c.around-near.ensures.sides) (m + 1) s new
+    Reaches-steps c.args.connectivity at four (subst (λ connectivity. AreSteps connectivity at four) (sym c.in-Four.is) c.around-near.ensures.sides) (m + 1) s new
     (subst (λ k. Reaches (λ b. Contains four b) (k + 1) s new) same r))
     c.reach_each.ensures
 
-pub returns-in-All : goal.returns-in-All
-returns-in-All g c =
+pub returns-in-Eight : goal.returns-in-Eight
+returns-in-Eight g c =
     let at = c.args.at in
     let s = c.args.self.now in
-    let new = c.reach_each-in-All.new.self in
+    let new = c.reach_each-in-Eight.new.self in
     let eight = c.around-near.result in
-    on_ok_weaker c.reach_each-in-All.result
+    on_ok_weaker c.reach_each-in-Eight.result
     (λ r m mark.
     let same = one_mark s.steps.numbers.rows at c.in-Some.count m (c.index.ensures ∙ ap Some c.in-Some.is) mark in
-    Reaches-steps c.args.kind at eight (subst (λ kind. AreSteps kind at eight) (sym c.in-All.is) c.around-near.ensures.all) (m + 1) s new
+    Reaches-steps c.args.connectivity at eight (subst (λ connectivity. AreSteps connectivity at eight) (sym c.in-Eight.is) c.around-near.ensures.all) (m + 1) s new
     (subst (λ k. Reaches (λ b. Contains eight b) (k + 1) s new) same r))
-    c.reach_each-in-All.ensures
+    c.reach_each-in-Eight.ensures

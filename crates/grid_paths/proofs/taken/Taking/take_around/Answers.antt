@@ -4,20 +4,20 @@ use Rattle.grid_paths.proofs.Lemmas.{TakesAll-steps}
 use Rattle.grid_paths.specs.declared.taken.Enter.TheVariants.{On}
 use Rattle.grid_paths.proofs.taken.Taking.take_around.Goals as goal
 
-pub returns-in-Sides-clause-takes : goal.returns-in-Sides-clause-takes
-returns-in-Sides-clause-takes g c =
+pub returns-in-Four-clause-takes : goal.returns-in-Four-clause-takes
+returns-in-Four-clause-takes g c =
     let cells = c.args.self.now.cells in
     let from = c.args.from in
     let on : way_of g.T.PartialEq.eq cells.on cells.stop from.1 ≡ On = sym c.way_at.ensures ∙ c.in-On.is in
     let four = take 4 c.around-near.result in
-    let steps = subst (λ kind. AreSteps kind from.0 four) (sym c.in-Sides.is) c.around-near.ensures.sides in
-    on_ok_weaker c.take_each.result (λ w. TakesAll-steps c.args.kind from four c.args.grid.now steps on w) c.take_each.ensures.takes
+    let steps = subst (λ connectivity. AreSteps connectivity from.0 four) (sym c.in-Four.is) c.around-near.ensures.sides in
+    on_ok_weaker c.take_each.result (λ w. TakesAll-steps c.args.connectivity from four c.args.grid.now steps on w) c.take_each.ensures.takes
 
-pub returns-in-All-clause-takes : goal.returns-in-All-clause-takes
-returns-in-All-clause-takes g c =
+pub returns-in-Eight-clause-takes : goal.returns-in-Eight-clause-takes
+returns-in-Eight-clause-takes g c =
     let cells = c.args.self.now.cells in
     let from = c.args.from in
     let on : way_of g.T.PartialEq.eq cells.on cells.stop from.1 ≡ On = sym c.way_at.ensures ∙ c.in-On.is in
     let eight = c.around-near.result in
-    let steps = subst (λ kind. AreSteps kind from.0 eight) (sym c.in-All.is) c.around-near.ensures.all in
-    on_ok_weaker c.take_each-in-All.result (λ w. TakesAll-steps c.args.kind from eight c.args.grid.now steps on w) c.take_each-in-All.ensures.takes
+    let steps = subst (λ connectivity. AreSteps connectivity from.0 eight) (sym c.in-Eight.is) c.around-near.ensures.all in
+    on_ok_weaker c.take_each-in-Eight.result (λ w. TakesAll-steps c.args.connectivity from eight c.args.grid.now steps on w) c.take_each-in-Eight.ensures.takes

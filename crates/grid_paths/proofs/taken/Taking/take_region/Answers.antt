@@ -42,7 +42,7 @@ loop-next-preserved g c =
     record {
       kept = CanUndo-trans l.invariant.kept c.in_ok-take_around.ensures.kept;
       taking = IsTaking-round c.args.grid.now.table l.invariant.taking place
-          (subst (λ k. TakesAll (way_of g.T.PartialEq.eq k.on k.stop) k.mark (λ b. (way_of g.T.PartialEq.eq k.on k.stop x.1 ≡ On) × IsStep c.args.kind x.0 b) l.grid.rows taken.items new.grid.rows new.self.taken.items) l.invariant.kept.cells c.in_ok-take_around.ensures.takes);
+          (subst (λ k. TakesAll (way_of g.T.PartialEq.eq k.on k.stop) k.mark (λ b. (way_of g.T.PartialEq.eq k.on k.stop x.1 ≡ On) × IsStep c.args.connectivity x.0 b) l.grid.rows taken.items new.grid.rows new.self.taken.items) l.invariant.kept.cells c.in_ok-take_around.ensures.takes);
     }
 
 pub loop-next-smaller : goal.loop-next-smaller

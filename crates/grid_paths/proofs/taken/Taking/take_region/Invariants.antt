@@ -7,7 +7,7 @@ abbrev pub invariant-loop-next : goal.invariant-loop-next
 invariant-loop-next g l =
     record {
       kept : CanUndo l.fn.self l.fn.grid l.self l.grid;
-      taking : IsTaking (way_of g.T.PartialEq.eq l.fn.self.cells.on l.fn.self.cells.stop) l.fn.self.cells.mark l.kind l.starts l.fn.grid.rows l.grid.rows l.self.taken.items l.next;
+      taking : IsTaking (way_of g.T.PartialEq.eq l.fn.self.cells.on l.fn.self.cells.stop) l.fn.self.cells.mark l.connectivity l.starts l.fn.grid.rows l.grid.rows l.self.taken.items l.next;
     }
 
 abbrev pub decreases-loop-next : goal.decreases-loop-next

@@ -1,4 +1,4 @@
--- One more row, behind a line feed where it isn't the first.
+-- One more row, after a line feed where it isn't the first.
 use Rattle.std.proofs.Common.{rules, ◌≡◌, take, arith, cond, ltb, [], ◌∷◌, Some, Ok, take_all}
 use Rattle.grid_base.proofs.Common.{shows_then, shows_from, displays_from, get_or_default, row}
 use Rattle.grid_view.specs.Texts.{items_text, lines_text}

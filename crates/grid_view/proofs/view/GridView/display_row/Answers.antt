@@ -1,4 +1,4 @@
--- One more cell, behind a space where it isn't the first.
+-- One more cell, after a space where it isn't the first.
 use Rattle.std.proofs.Common.{sym, rules, ◌≡◌, take, arith, cond, ltb, [], ◌∷◌, Some, Ok}
 use Rattle.grid_base.proofs.Common.{shows_part_then, shows_from, displays_from, slice_get_within, get_or_from_slice_get, row}
 use Rattle.grid_view.specs.Texts.{items_text}

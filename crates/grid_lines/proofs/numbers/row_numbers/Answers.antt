@@ -1,7 +1,0 @@
--- The numbers of the range.
-use Rattle.std.proofs.Common.{refl, arith}
-use Rattle.std.proofs.lemmas.Iterator.{items_from_collect, YieldsList-from_range}
-use Rattle.grid_lines.proofs.numbers.row_numbers.Goals as goal
-
-pub returns : goal.returns
-returns g c = items_from_collect _ c.collect.ensures.ran (YieldsList-from_range 0 _ _ refl (omega arith))
