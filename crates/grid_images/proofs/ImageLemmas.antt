@@ -17,6 +17,11 @@ use Rattle.grid_images.specs.Images.{same_table, takes, give_one_image}
 use Rattle.grid_images.proofs.NumberLemmas.{undoing, undone, undone_before}
 
 module _ {T : Type 0} (eq : T → T → Bool) where
+  -- of tables that are the same each cell is
+  pub cells_agree : (t u : List (List T)) (r c : ℕ) (x y : T) → r < row_count t → r < row_count u → cell t r c ≡ Some x → cell u r c ≡ Some y → same_table eq t u ≡ true → eq x y ≡ true
+  cells_agree t u r c x y lt lt_too p q same =
+      same_at eq (row t r) (row u r) c x y (same_at (pointwise eq) t u r (row t r) (row u r) same (row_at t r lt) (row_at u r lt_too)) p q
+
   cells_same : (s : Symmetry) (t u : List (List T)) (h : IsTable t) (k : IsTable u) (same : same_table eq t u ≡ true) → AreSame eq (act s t) (act s u) (0, row_count (act s t)) (0, col_count (act s t))
   cells_same s t u h k same =
       let sizes = sizes_agree eq t u same in

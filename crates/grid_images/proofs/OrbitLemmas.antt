@@ -29,6 +29,18 @@ module _ {T : Type 0} (eq : T → T → Bool) where
   unfolding first_images
   has_first t s = (passes_kept (is_first eq t) symmetries s, Contains-filter (is_first eq t) symmetries s (each_there s))
 
+short : (p : Symmetry → Bool) (xs : List Symmetry) → length (filter p xs) ≤ length xs
+short p xs = omega (arith, length-filter_both p (λ x. not (p x)) (λ x. refl) xs)
+
+-- what keeps as many items keeps all
+filter_full : (p : Symmetry → Bool) (xs : List Symmetry) → length (filter p xs) ≡ length xs → filter p xs ≡ xs
+filter_full p [] e = refl
+filter_full p (x ∷ xs) e = by (p x) (filter_full p xs) e
+  where
+    by : (b : Bool) → (length (filter p xs) ≡ length xs → filter p xs ≡ xs) → length (cond b (x ∷ filter p xs) (filter p xs)) ≡ suc (length xs) → cond b (x ∷ filter p xs) (filter p xs) ≡ x ∷ xs
+    by true rest e = ap (λ ys. x ∷ ys) (rest (omega (arith, e)))
+    by false rest e = absurd (omega (arith, e, short p xs))
+
 -- what undoes a symmetry, and what joins two, is one symmetry
 undoing_is : (s v : Symmetry) → IsInverse s v → v ≡ undoing s
 undoing_is s v h =
@@ -36,11 +48,38 @@ undoing_is s v h =
     ∙ (ap (λ x. product x v) (sym (undone_before s))
     ∙ (product_assoc (undoing s) s v ∙ (ap (product (undoing s)) (inverse_is s v h) ∙ product_identity (undoing s))))
 
-pub member_joined : (ss : List Symmetry) (s u v w : Symmetry) → IsInverse u v → IsThen s v w → DiffersBy ss s u → Contains ss w
-member_joined ss s u v w undoes joins d =
-    let back : d.back ≡ v = undoing_is u d.back d.undoes ∙ sym (undoing_is u v undoes) in
-    let joined : d.joined ≡ w = then_is s d.back d.joined d.joins ∙ (ap (product s) back ∙ sym (then_is s v w joins)) in
-    subst (Contains ss) joined d.member
+-- s and then what undoes u are f, exactly if what undoes f and then s are u
+module _ (f s u : Symmetry) where
+  quotient_after : product (undoing f) s ≡ u → product s (undoing u) ≡ f
+  quotient_after e =
+      let whole : s ≡ product f u = sym (identity_product s) ∙ (ap (λ x. product x s) (sym (undone f)) ∙ (product_assoc f (undoing f) s ∙ ap (product f) e)) in
+      ap (λ x. product x (undoing u)) whole ∙ (product_assoc f u (undoing u) ∙ (ap (product f) (undone u) ∙ product_identity f))
+
+  quotient_before : product s (undoing u) ≡ f → product (undoing f) s ≡ u
+  quotient_before e =
+      let whole : s ≡ product f u = sym (product_identity s) ∙ (ap (product s) (sym (undone_before u)) ∙ (sym (product_assoc s (undoing u) u) ∙ ap (λ x. product x u) e)) in
+      ap (product (undoing f)) whole ∙ (sym (product_assoc (undoing f) f u) ∙ (ap (λ x. product x u) (undone_before f) ∙ identity_product u))
+
+pub undone_then : (f s v u : Symmetry) → IsInverse f v → IsThen v s u → product (undoing f) s ≡ u
+undone_then f s v u undoes joins = ap (λ x. product x s) (sym (undoing_is f v undoes)) ∙ sym (then_is v s u joins)
+
+-- what undoes a member, and then s, differs from s by a member
+pub member_differs : (ss : List Symmetry) (f s v u : Symmetry) → Contains ss f → IsInverse f v → IsThen v s u → DiffersBy ss s u
+member_differs ss f s v u member undoes joins =
+    let is = undone_then f s v u undoes joins in
+    record {
+      back = undoing u;
+      joined = f;
+      undoes = inverse_of u (undoing u) (undone u);
+      joins = subst (IsThen s (undoing u)) (quotient_after f s u is) (IsThen-product s (undoing u));
+      member = member;
+    }
+
+-- and each is found so
+pub differs_member : (ss : List Symmetry) (s u : Symmetry) → DiffersBy ss s u → (f : Symmetry) × Contains ss f × (product (undoing f) s ≡ u)
+differs_member ss s u d =
+    let joined : product s (undoing u) ≡ d.joined = ap (product s) (sym (undoing_is u d.back d.undoes)) ∙ sym (then_is s d.back d.joined d.joins) in
+    (d.joined, d.member, quotient_before d.joined s u joined)
 
 module _ {T : Type 0} {eq : T → T → Bool} (laws : IsEquivalence eq) (t : List (List T)) (h : IsTable t) where
   pub takes_identity : takes eq t t Identity ≡ true
@@ -113,6 +152,13 @@ module _ {T : Type 0} {eq : T → T → Bool} (laws : IsEquivalence eq) (t : Lis
       ap (λ ss. length ss * length (filter (takes eq t t) symmetries)) (filter_agree (is_first eq t) (is_new (takes eq t t)) one symmetries)
       ∙ times_eight (takes eq t t) (record { identity = takes_identity; joined = λ s u a b. both_take s u (product s u) a b (IsThen-product s u) })
 
+  -- where only Identity leaves the table as it is, each symmetry gives another image
+  pub all_first : length (fixing eq t) ≡ 1 → symmetries ≡ first_images eq t
+  unfolding first_images
+  all_first one =
+      let count = ap (λ n. length (first_images eq t) * n) (sym one) ∙ orbit_count in
+      sym (filter_full (is_first eq t) symmetries (omega (arith, count)))
+
   -- ---- two symmetries that give one image
 
   pub differs_told : (i : ℕ) (b : Bool) → i < 8 → IsTrue b ↔ ((k : ℕ) × (k < i) × DiffersBy (fixing eq t) (symmetry_at i) (symmetry_at k)) → b ≡ list_any (λ s. give_one_image eq t s (symmetry_at i)) (take i symmetries)
@@ -145,9 +191,6 @@ module _ {T : Type 0} {eq : T → T → Bool} (laws : IsEquivalence eq) (t : Lis
           )
 
 -- ---- the loops
-
-short : (p : Symmetry → Bool) (xs : List Symmetry) → length (filter p xs) ≤ length xs
-short p xs = omega (arith, length-filter_both p (λ x. not (p x)) (λ x. refl) xs)
 
 module _ (p : Symmetry → Bool) where
   -- not all are kept yet

@@ -1,22 +1,16 @@
--- The order of tables: it is total, tables that tie are the same, and cells row by row decide.
-use Rattle.std.proofs.Common.{◌≡◌, ℕ, suc, ◌<◌, Bool, true, false, List, [], ◌∷◌, ◌++◌, length, refl, sym, ◌∙◌, ap, arith}
+-- The order of tables: it is total, tables that tie are the same, and the first cells that differ decide.
+use Rattle.std.proofs.Common.{◌≡◌, ℕ, zero, suc, ◌+◌, ◌<◌, ◌≤◌, Bool, true, false, List, [], ◌∷◌, length, slice_get, Some, inl, inr, refl, sym, ◌∙◌, ap, arith}
 use Rattle.std.specs.Cmp.{IsTotalOrder}
 use Rattle.std.specs.Cmp.Lexicographic.{slice_cmp, lists_ties}
-use Rattle.std.specs.Iterator.{AlwaysYields, YieldsFirstRef}
 use Rattle.std.specs.Ordering.{nat_cmp, ordering_then, is_eq, is_ne, eq_by_cmp}
 use Rattle.std.specs.declared.cmp.Ordering.{Ordering}
 use Rattle.std.specs.declared.cmp.Ordering.TheVariants.{Less, Equal, Greater}
+use Rattle.std.proofs.lemmas.Bool.{cases_lt}
 use Rattle.std.proofs.lemmas.Cmp.{ranked, nat_cmp_total, on_total, then_total, lists_total, tied_itself}
-use Rattle.std.proofs.lemmas.Iterator.{YieldsList}
 use Rattle.grid.specs.Same.{sizes_agree}
-use Rattle.grid_base.specs.Table.{row, row_count, col_count, concat_rows, IsTable}
+use Rattle.grid_base.specs.Table.{row_count, col_count}
 use Rattle.grid_images.specs.Images.{same_table}
 use Rattle.grid_images.specs.TableOrder.{table_cmp}
-
-then_assoc : (p c l : Ordering) → ordering_then p (ordering_then c l) ≡ ordering_then (ordering_then p c) l
-then_assoc Less c l = refl
-then_assoc Equal c l = refl
-then_assoc Greater c l = refl
 
 -- two orderings before a third change no tie, if they tie where it does
 tied_behind : (a b c : Ordering) → (c ≡ Equal → a ≡ Equal) → (c ≡ Equal → b ≡ Equal) → is_eq (ordering_then a (ordering_then b c)) ≡ is_eq c
@@ -55,37 +49,63 @@ module _ {T : Type 0} (cmp : T → T → Ordering) where
         (λ e. same_nat (col_count t) (col_count u) (sizes_agree eq t u (same e)).1)
         ∙ sym (cells_tie t u)
 
-  parts_cmp : (xs ys : List T) → length xs ≡ length ys → (v w : List T) → slice_cmp cmp (xs ++ v) (ys ++ w) ≡ ordering_then (slice_cmp cmp xs ys) (slice_cmp cmp v w)
-  parts_cmp [] [] e v w = refl
-  parts_cmp [] (y ∷ ys) e v w = absurd (omega (arith, e))
-  parts_cmp (x ∷ xs) [] e v w = absurd (omega (arith, e))
-  parts_cmp (x ∷ xs) (y ∷ ys) e v w =
-      ap (ordering_then (cmp x y)) (parts_cmp xs ys (omega (arith, e)) v w) ∙ then_assoc (cmp x y) (slice_cmp cmp xs ys) (slice_cmp cmp v w)
-
-  -- the first cells that differ, of rows that are as long, are in the first rows that differ
-  rows_cmp : (t u : List (List T)) → length t ≡ length u → ((r : ℕ) → r < length t → length (row t r) ≡ length (row u r)) → slice_cmp cmp (concat_rows t) (concat_rows u) ≡ slice_cmp (slice_cmp cmp) t u
-  rows_cmp [] [] e h = refl
-  rows_cmp [] (y ∷ u) e h = absurd (omega (arith, e))
-  rows_cmp (x ∷ t) [] e h = absurd (omega (arith, e))
-  rows_cmp (x ∷ t) (y ∷ u) e h =
-      parts_cmp x y (h 0 (omega arith)) (concat_rows t) (concat_rows u)
-      ∙ ap (ordering_then (slice_cmp cmp x y)) (rows_cmp t u (omega (arith, e)) (λ r lt. h (suc r) (omega arith)))
-
-  -- tables of one size are compared cell by cell
-  pub by_cells : (t u : List (List T)) → IsTable t → IsTable u → row_count t ≡ row_count u → col_count t ≡ col_count u → table_cmp cmp t u ≡ slice_cmp cmp (concat_rows t) (concat_rows u)
+  -- tables of one size are compared row by row
+  pub by_rows : (t u : List (List T)) → row_count t ≡ row_count u → col_count t ≡ col_count u → table_cmp cmp t u ≡ slice_cmp (slice_cmp cmp) t u
   unfolding table_cmp
-  by_cells t u h k rows cols =
-      let even = λ (r : ℕ) (lt : r < length t). h.even r lt ∙ (cols ∙ sym (k.even r (omega (arith, rows, lt)))) in
+  by_rows t u rows cols =
       ap (λ o. ordering_then o (ordering_then (nat_cmp (col_count t) (col_count u)) (slice_cmp (slice_cmp cmp) t u))) (same_nat (row_count t) (row_count u) rows)
-      ∙ (ap (λ o. ordering_then o (slice_cmp (slice_cmp cmp) t u)) (same_nat (col_count t) (col_count u) cols) ∙ sym (rows_cmp t u rows even))
+      ∙ ap (λ o. ordering_then o (slice_cmp (slice_cmp cmp) t u)) (same_nat (col_count t) (col_count u) cols)
 
-refs_from : {T : Type 0} (xs s : List T) → s ≡ xs → AlwaysYields (YieldsFirstRef (λ (rest : List T). rest)) (λ y. y.now) s xs
-refs_from [] s e = λ x j p. absurd (cc)
-refs_from (y ∷ ys) s e = ((λ j p. absurd (cc)), λ x j p. let first : x.now ≡ y = cc in let rest : j ≡ ys = cc in (first, refs_from ys j rest))
+-- ---- lists compared item by item
 
--- an iterator over the cells that are left gives them
-pub YieldsList-from_refs : {T : Type 0} {s : List T} (xs : List T) → s ≡ xs → YieldsList (YieldsFirstRef (λ (rest : List T). rest)) (λ y. y.now) s xs
-YieldsList-from_refs {T} {s} xs e = record { runs = refs_from xs s e }
+decided : (o r : Ordering) → is_ne o ≡ true → ordering_then o r ≡ o
+decided Less r d = refl
+decided Greater r d = refl
+decided Equal r d = absurd (cc)
+
+is_tied : (o : Ordering) → is_ne o ≡ false → o ≡ Equal
+is_tied Equal d = refl
+is_tied Less d = absurd (cc)
+is_tied Greater d = absurd (cc)
+
+module _ {X : Type 0} (cmp : X → X → Ordering) where
+  -- the first k items tie
+  abbrev pub AreTied : ℕ → List X → List X → Type 0
+  AreTied k xs ys = (j : ℕ) (v w : X) → j < k → slice_get xs j ≡ Some v → slice_get ys j ≡ Some w → cmp v w ≡ Equal
+
+  -- the first items that don't tie decide
+  pub first_decides : (xs ys : List X) (k : ℕ) (x y : X) → AreTied k xs ys → slice_get xs k ≡ Some x → slice_get ys k ≡ Some y → is_ne (cmp x y) ≡ true → cmp x y ≡ slice_cmp cmp xs ys
+  first_decides [] ys k x y ties p q d = absurd (cc)
+  first_decides (a ∷ xs) [] k x y ties p q d = absurd (cc)
+  first_decides (a ∷ xs) (b ∷ ys) zero x y ties p q d =
+      let x_is : x ≡ a = cc in
+      let y_is : y ≡ b = cc in
+      sym (decided (cmp x y) (slice_cmp cmp xs ys) d) ∙ (λ i. ordering_then (cmp (x_is i) (y_is i)) (slice_cmp cmp xs ys))
+  first_decides (a ∷ xs) (b ∷ ys) (suc k) x y ties p q d =
+      first_decides xs ys k x y (λ j v w lt e f. ties (suc j) v w (omega arith) e f) p q d
+      ∙ ap (λ o. ordering_then o (slice_cmp cmp xs ys)) (sym (ties 0 a b (omega arith) refl refl))
+
+  -- lists of one length whose items tie
+  pub all_tie : (xs ys : List X) (k : ℕ) → length xs ≡ length ys → length xs ≤ k → AreTied k xs ys → Equal ≡ slice_cmp cmp xs ys
+  all_tie [] [] k e all ties = refl
+  all_tie [] (y ∷ ys) k e all ties = absurd (omega (arith, e))
+  all_tie (x ∷ xs) [] k e all ties = absurd (omega (arith, e))
+  all_tie (x ∷ xs) (y ∷ ys) zero e all ties = absurd (omega (arith, all))
+  all_tie (x ∷ xs) (y ∷ ys) (suc k) e all ties =
+      all_tie xs ys k (omega (arith, e)) (omega (arith, all)) (λ j v w lt p q. ties (suc j) v w (omega arith) p q)
+      ∙ ap (λ o. ordering_then o (slice_cmp cmp xs ys)) (sym (ties 0 x y (omega arith) refl refl))
+
+  -- one more item ties
+  pub AreTied-next : (k : ℕ) (xs ys : List X) (x y : X) → AreTied k xs ys → slice_get xs k ≡ Some x → slice_get ys k ≡ Some y → is_ne (cmp x y) ≡ false → AreTied (k + 1) xs ys
+  AreTied-next k xs ys x y ties p q d j v w lt e f =
+      elim (cases_lt j k) [
+        | inl old ↦ ties j v w old e f
+        | inr new ↦ (
+            let same : k ≡ j = omega arith in
+            let x_is : x ≡ v = cc (p, ap (slice_get xs) same, e) in
+            let y_is : y ≡ w = cc (q, ap (slice_get ys) same, f) in
+            (λ i. cmp (sym x_is i) (sym y_is i)) ∙ is_tied (cmp x y) d)
+      ]
 
 settled : (a b c : Ordering) → is_ne (ordering_then a b) ≡ true → ordering_then a b ≡ ordering_then a (ordering_then b c)
 settled Less b c d = refl

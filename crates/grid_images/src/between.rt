@@ -2,6 +2,7 @@
 ghost use Rattle.std.specs.Prelude.{◌≡◌, ◌↔◌, IsTrue, IsSome, IfSome};
 ghost use Rattle.grid_images.specs.Prelude.{AreAlike, first_taking, takes};
 
+use crate::same::are_same;
 use grid::Symmetry;
 use grid_view::AsView;
 
@@ -10,7 +11,7 @@ use grid_view::AsView;
 ///
 ///     [[1, 2], [3, 4]]   symmetry_between(it, [[2, 4], [1, 3]])   Some(RotateLeft)
 ///
-/// Cost: at most eight comparisons of boards by `==`; no memory.
+/// Cost: at most eight comparisons of boards, of their first rows and then by `==`; no memory.
 pub fn symmetry_between<T, V, W>(board: &V, other: &W) -> Option<Symmetry>
 where
     T: PartialEq,
@@ -24,7 +25,7 @@ where
     let view = board.as_view();
     let other_view = other.as_view();
     for symmetry in &Symmetry::ALL {
-        if view.turned(*symmetry) == other_view {
+        if are_same(&view.turned(*symmetry), &other_view) {
             return Some(*symmetry);
         }
     }

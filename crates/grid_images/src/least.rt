@@ -3,13 +3,13 @@ ghost use Rattle.std.specs.Prelude.{◌≡◌, ◌↔◌, IsTrue, List};
 ghost use Rattle.grid_images.specs.Prelude.{AreAlike, IsLeastImage, IsTable, act, order_after, same_table};
 ghost use Rattle.grid_base.specs.declared.words.Symmetry.TheVariants.{Identity};
 
-use crate::order::compare;
+use crate::order::compare_views;
 use grid::{Grid, Symmetry};
 use grid_view::AsView;
 use std::alloc::Allocator;
 
-/// Returns the symmetry under which the image of a board is the least of the eight, by [`compare`]. Where several give
-/// it, it is the first of them in [`Symmetry::ALL`].
+/// Returns the symmetry under which the image of a board is the least of the eight, by [`compare`](crate::compare).
+/// Where several give it, it is the first of them in [`Symmetry::ALL`].
 ///
 ///     [[3, 4], [1, 2]]   least_image(it)   FlipRows
 ///
@@ -22,10 +22,13 @@ pub fn least_image<T: Ord, V: AsView<T>>(board: &V) -> Symmetry
 {
     let view = board.as_view();
     let mut least = Symmetry::Identity;
+    let mut least_view = view.view();
     for i in 1..8usize {
         let symmetry = Symmetry::ALL[i];
-        if compare(&view.turned(symmetry), &view.turned(least)).is_lt() {
+        let image = view.turned(symmetry);
+        if compare_views(&image, &least_view).is_lt() {
             least = symmetry;
+            least_view = image;
         }
     }
     least

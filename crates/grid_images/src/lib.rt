@@ -17,6 +17,7 @@ pub mod laws;
 mod least;
 mod orbit;
 mod order;
+mod same;
 mod set;
 
 pub use between::symmetry_between;

@@ -1,8 +1,9 @@
 //! The symmetries of a board, and its different images.
 ghost use Rattle.std.specs.Prelude.{◌≡◌, ℕ, ◌*◌, ◌<◌, ◌↔◌, IsTrue, Contains, length};
-ghost use Rattle.grid_images.specs.Prelude.{DiffersBy, GivesEachImageOnce, IsGroup, first_images, fixing, symmetry_at, takes};
+ghost use Rattle.grid_images.specs.Prelude.{DiffersBy, GivesEachImageOnce, IsGroup, first_images, fixing, number, symmetry_at, takes};
 ghost use Rattle.grid_base.specs.declared.words.Symmetry.{Symmetry};
 
+use crate::same::are_same;
 use crate::set::SymmetrySet;
 use grid::Symmetry;
 use grid_view::AsView;
@@ -12,7 +13,7 @@ use grid_view::AsView;
 ///
 ///     [[1, 2], [1, 2]]   symmetries(it)   Identity, FlipRows
 ///
-/// Cost: seven comparisons of boards by `==`; no memory.
+/// Cost: seven comparisons of boards, of their first rows and then by `==`; no memory.
 pub fn symmetries<T: Eq, V: AsView<T>>(board: &V) -> SymmetrySet
     ensures members { result ≡ fixing T.eq (V.rows board.now) }
     ensures each { (s : Symmetry)
@@ -25,7 +26,7 @@ pub fn symmetries<T: Eq, V: AsView<T>>(board: &V) -> SymmetrySet
     fixing.push(Symmetry::Identity);
     for i in 1..8usize {
         let symmetry = Symmetry::ALL[i];
-        if view.turned(symmetry) == view {
+        if are_same(&view.turned(symmetry), &view) {
             fixing.push(symmetry);
         }
     }
@@ -48,6 +49,9 @@ pub fn images<T: Eq, V: AsView<T>>(board: &V) -> SymmetrySet
     ensures some { 0 < length result }
 {
     let fixing = symmetries(board);
+    if fixing.len() == 1 {
+        return SymmetrySet::all();
+    }
     let mut found = SymmetrySet::new();
     for i in 0..8usize {
         if !comes_before(&fixing, i) {
@@ -64,10 +68,26 @@ fn comes_before(fixing: &SymmetrySet, i: usize) -> bool
         ((k : ℕ) × (k < i) × DiffersBy fixing.now (symmetry_at i) (symmetry_at k)) }
 {
     let symmetry = Symmetry::ALL[i];
-    for k in 0..i {
-        if fixing.contains(symmetry.then(Symmetry::ALL[k].inverse())) {
+    for member in fixing.as_slice() {
+        if number_of(member.inverse().then(symmetry)) < i {
             return true;
         }
     }
     false
+}
+
+// How many symmetries come before one in `Symmetry::ALL`.
+fn number_of(symmetry: Symmetry) -> usize
+    ensures { result ≡ number symmetry }
+{
+    match symmetry {
+        Symmetry::Identity => 0,
+        Symmetry::FlipCols => 1,
+        Symmetry::FlipRows => 2,
+        Symmetry::RotateHalf => 3,
+        Symmetry::Transpose => 4,
+        Symmetry::RotateLeft => 5,
+        Symmetry::RotateRight => 6,
+        Symmetry::AntiTranspose => 7,
+    }
 }

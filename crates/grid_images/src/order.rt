@@ -1,5 +1,7 @@
 //! The order of boards.
-ghost use Rattle.std.specs.Prelude.{◌≡◌};
+ghost use Rattle.std.specs.Prelude.{◌≡◌, ◌<◌};
+ghost use Rattle.std.specs.Cmp.Lexicographic.{slice_cmp};
+ghost use Rattle.grid_base.specs.Table.{row, row_count, col_count};
 ghost use Rattle.grid_images.specs.Prelude.{IsTotalOrder, is_eq, same_table, table_cmp};
 
 use grid_view::{AsView, GridView};
@@ -22,7 +24,7 @@ pub fn compare<T: Ord, V: AsView<T>, W: AsView<T>>(board: &V, other: &W) -> Orde
 }
 
 // Compares two views.
-fn compare_views<T: Ord>(board: &GridView<'_, T>, other: &GridView<'_, T>) -> Ordering
+pub(crate) fn compare_views<T: Ord>(board: &GridView<'_, T>, other: &GridView<'_, T>) -> Ordering
     ensures ordering { result ≡ table_cmp T.cmp board.now.rows other.now.rows }
     ensures equal { is_eq result ≡ same_table T.eq board.now.rows other.now.rows }
     ensures total { IsTotalOrder (table_cmp T.cmp) }
@@ -31,5 +33,34 @@ fn compare_views<T: Ord>(board: &GridView<'_, T>, other: &GridView<'_, T>) -> Or
     if sizes.is_ne() {
         return sizes;
     }
-    board.iter().cmp(other.iter())
+    let (rows, cols) = board.size();
+    for r in 0..rows {
+        let ordering = compare_rows(board, other, r, cols);
+        if ordering.is_ne() {
+            return ordering;
+        }
+    }
+    Ordering::Equal
+}
+
+// Compares row `r` of two views of so many columns.
+fn compare_rows<T: Ord>(
+    board: &GridView<'_, T>,
+    other: &GridView<'_, T>,
+    r: usize,
+    cols: usize,
+) -> Ordering
+    requires here { r < row_count board.now.rows }
+    requires there { r < row_count other.now.rows }
+    requires cols_here { cols ≡ col_count board.now.rows }
+    requires cols_there { cols ≡ col_count other.now.rows }
+    ensures { result ≡ slice_cmp T.cmp (row board.now.rows r) (row other.now.rows r) }
+{
+    for c in 0..cols {
+        let ordering = board.get_unchecked(r, c).cmp(other.get_unchecked(r, c));
+        if ordering.is_ne() {
+            return ordering;
+        }
+    }
+    Ordering::Equal
 }

@@ -2,7 +2,7 @@
 ghost use Rattle.std.specs.Prelude.{◌≡◌, ◌↔◌, ◌<◌, ◌≤◌, ◌++◌, ◌∷◌, [], ⊤, IsTrue, Contains, length};
 ghost use Rattle.std.specs.Cmp.{nat_eq_equiv, on_equiv, on_per, partial_equiv_from_equiv};
 ghost use Rattle.std.specs.Cmp.Lexicographic.{lists_equiv, lists_per};
-ghost use Rattle.grid_images.specs.Prelude.{number, same_symmetries};
+ghost use Rattle.grid_images.specs.Prelude.{number, same_symmetries, symmetries};
 ghost use Rattle.grid_base.specs.Iterators.{GivesRefs};
 
 use grid::Symmetry;
@@ -36,6 +36,16 @@ impl SymmetrySet {
         SymmetrySet {
             members: Symmetry::ALL,
             len: 0,
+        }
+    }
+
+    // Returns the set of all eight.
+    pub(crate) fn all() -> SymmetrySet
+        ensures { result ≡ symmetries }
+    {
+        SymmetrySet {
+            members: Symmetry::ALL,
+            len: 8,
         }
     }
 

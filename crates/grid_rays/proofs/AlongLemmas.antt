@@ -1,12 +1,14 @@
--- The items of a ray passed one by one: up to the first that passes a test, and while they are alike.
-use Rattle.std.proofs.Common.{◌≡◌, ℕ, suc, ◌+◌, ◌-◌, ◌<◌, ◌≤◌, Bool, IsTrue, true, false, Some, List, [], ◌∷◌, length, drop, get_or, slice_get, sym, ◌∙◌, ap, subst, arith, add-one, drop-cons, length-drop, Bor, ⊎_elim}
+-- The cells of a ray passed one by one: up to the first that passes a test, and while they are alike.
+use Rattle.std.proofs.Common.{◌≡◌, ℕ, suc, min, ◌+◌, ◌-◌, ◌<◌, ◌≤◌, Bool, IsTrue, true, false, Some, List, [], ◌∷◌, length, drop, get_or, slice_get, sym, ◌∙◌, ap, subst, arith, add-one, drop-cons, length-drop, Bor, ⊎_elim}
 use Rattle.std.proofs.lemmas.Bool.{cases_lt}
 use Rattle.std.proofs.lemmas.Option.{slice_get-get_or, slice_get_within}
-use Rattle.grid_base.specs.Table.{cell, IsTable, InRange}
+use Rattle.grid_base.specs.Table.{cell, row_count, col_count, IsTable, InRange}
 use Rattle.grid_base.proofs.TableLemmas.{cell_in_range}
 use Rattle.grid_near.specs.declared.direction.Direction.{Direction}
+use Rattle.grid_near.specs.Directions.{box_of, IsWithin}
 use Rattle.grid_rays.specs.Rays.{IsAhead, IsRay}
-use Rattle.grid_rays.specs.Along.{IsFirstAlong, NoneWithin, IsAlike, AreAlikeAlong}
+use Rattle.grid_rays.specs.Along.{IsFirstAlong, NoneWithin, IsAlike, AreAlikeUpTo}
+use Rattle.grid_rays.specs.Steps.{Reaches}
 
 -- a list of which `done` items are passed
 module _ {X : Type 0} (whole : List X) (done : ℕ) (x : X) (rest after : List X) (left : drop done whole ≡ rest) (first : rest ≡ x ∷ after) where
@@ -39,12 +41,6 @@ pub record IsPassing {F T : Type 0} (whole : List ((ℕ × ℕ) × T)) (returns 
   pub left : drop done whole ≡ rest
   pub none : (k : ℕ) (x : (ℕ × ℕ) × T) → k < done → slice_get whole k ≡ Some x
       → (p : Bor T) × (p.now ≡ x.1) × returns f p false
-
--- those before `rest` were counted, and each is alike
-pub record IsCounting {T : Type 0} (whole : List ((ℕ × ℕ) × T)) (eq : T → T → Bool) (here : T) (rest : List ((ℕ × ℕ) × T)) (count : ℕ) : Type 0 where
-  pub left : drop count whole ≡ rest
-  pub alike : (k : ℕ) (x : (ℕ × ℕ) × T) → k < count → slice_get whole k ≡ Some x → IsTrue (eq x.1 here)
-  pub few : count ≤ length whole
 
 module _ {T : Type 0} (t : List (List T)) (way : Direction) (at : ℕ × ℕ) (whole : List ((ℕ × ℕ) × T)) (ray : IsRay t way at whole) where
   -- the item at a position that way
@@ -112,68 +108,49 @@ module _ {T : Type 0} (t : List (List T)) (way : Direction) (at : ℕ × ℕ) (w
         let in_ray = ray.all (k - 1) to inside ahead_one in_range in
         none_before h.done h.none inside k to some (omega (arith, in_ray, all_passed whole h.done (h.left ∙ none))) ahead in_range
 
-  -- a count of the cells alike
-  module _ (eq : T → T → Bool) (here : T) (at_here : cell t at.0 at.1 ≡ Some here) where
-    pub IsCounting-start : (s : List ((ℕ × ℕ) × T)) → s ≡ whole → IsCounting whole eq here s 0
-    IsCounting-start s is = record { left = sym is; alike = λ k x lt e. absurd (omega arith); few = omega arith }
+-- a count of the cells alike has come to a position
+pub record IsCounting {T : Type 0} (eq : T → T → Bool) (t : List (List T)) (way : Direction) (at : ℕ × ℕ) (count : ℕ) (to : ℕ × ℕ) : Type 0 where
+  pub ahead : IsAhead way count at to
+  pub each : (k : ℕ) → 0 < k → k ≤ count → (p : ℕ × ℕ) × IsAhead way k at p × IsAlike eq t at p
 
-    each_alike : (rest : List ((ℕ × ℕ) × T)) (count : ℕ) → IsCounting whole eq here rest count → (k : ℕ) → 0 < k → k ≤ count → (to : ℕ × ℕ) × IsAhead way k at to × IsAlike eq t at to
-    each_alike rest count h k some le = found (some_item whole (k - 1) (omega (arith, h.few)))
-      where
-        some_item : (xs : List ((ℕ × ℕ) × T)) (j : ℕ) → j < length xs → (x : (ℕ × ℕ) × T) × (slice_get xs j ≡ Some x)
-        some_item [] j lt = absurd (omega arith)
-        some_item (x ∷ xs) j lt = (get_or (x ∷ xs) j x, slice_get-get_or (x ∷ xs) j x lt)
+module _ {T : Type 0} (eq : T → T → Bool) (t : List (List T)) (way : Direction) (at : ℕ × ℕ) where
+  -- the next position, where it is within the table
+  module _ (count i j : ℕ) (h : IsCounting eq t way at count (i, j)) (m n : ℕ) (r : Reaches (m, n) (box_of way) at (count + 1)) where
+    pub next_row : (1 ≤ i + (box_of way).0) × (i + (box_of way).0 - 1 < m)
+    next_row = (omega (arith, h.ahead.0, r.above), omega (arith, h.ahead.0, r.above, r.below))
 
-        one : k - 1 + 1 ≡ k
-        one = omega arith
+    pub next_col : (1 ≤ j + (box_of way).1) × (j + (box_of way).1 - 1 < n)
+    next_col = (omega (arith, h.ahead.1, r.before), omega (arith, h.ahead.1, r.before, r.after))
 
-        found : (x : (ℕ × ℕ) × T) × (slice_get whole (k - 1) ≡ Some x) → (to : ℕ × ℕ) × IsAhead way k at to × IsAlike eq t at to
-        found w = (
-          w.0.0,
-          subst (λ n. IsAhead way n at w.0.0) one (ray.ahead (k - 1) w.0 w.1),
-          record {
-            here = here;
-            there = w.0.1;
-            at_here = at_here;
-            at_there = (ray.there (k - 1) w.0 w.1).1;
-            equal = h.alike (k - 1) w.0 (omega arith) w.1;
-          },
-        )
+    next_ahead : IsAhead way (count + 1) at (i + (box_of way).0 - 1, j + (box_of way).1 - 1)
+    next_ahead = (omega (arith, h.ahead.0, r.above), omega (arith, h.ahead.1, r.before))
 
-    module _ (h' : IsTable t) where
-      ends_of : (count : ℕ) → ((x : T) (to : ℕ × ℕ) → slice_get whole count ≡ Some (to, x) → IsTrue (eq x here) → ⊥) → (to : ℕ × ℕ) → IsAhead way (count + 1) at to → IsAlike eq t at to → ⊥
-      ends_of count others to ahead alike =
-          let inside = cell_in_range t h' at.0 at.1 here at_here in
-          let there = cell_in_range t h' to.0 to.1 alike.there alike.at_there in
-          let w = item_at count to inside ahead there in
-          let same_there : w.0 ≡ alike.there = cc (w.2, alike.at_there) in
-          let same_here : here ≡ alike.here = cc (at_here, alike.at_here) in
-          others w.0 to w.1 (subst (λ x. IsTrue (eq x here)) (sym same_there) (subst (λ y. IsTrue (eq alike.there y)) (sym same_here) alike.equal))
-
-      pub IsCounting-end : (rest : List ((ℕ × ℕ) × T)) (count : ℕ) → IsCounting whole eq here rest count → rest ≡ [] → AreAlikeAlong eq t at way count
-      IsCounting-end rest count h none = record {
-        each = each_alike rest count h;
-        ends = ends_of count (λ x to e alike. omega (arith, slice_get_within whole count (to, x) e, all_passed whole count (h.left ∙ none)));
+    module _ (here there : T) (at_here : cell t at.0 at.1 ≡ Some here) (at_there : cell t (i + (box_of way).0 - 1) (j + (box_of way).1 - 1) ≡ Some there) where
+      pub IsCounting-next : IsTrue (eq there here) → IsCounting eq t way at (count + 1) (i + (box_of way).0 - 1, j + (box_of way).1 - 1)
+      IsCounting-next equal = record {
+        ahead = next_ahead;
+        each = λ k some le.
+            ⊎_elim (λ (old : k < count + 1). h.each k some (omega arith))
+            (λ (new : count + 1 ≤ k).
+            let same : count + 1 ≡ k = omega arith in (
+              (i + (box_of way).0 - 1, j + (box_of way).1 - 1),
+              subst (λ l. IsAhead way l at (i + (box_of way).0 - 1, j + (box_of way).1 - 1)) same next_ahead,
+              record { here = here; there = there; at_here = at_here; at_there = at_there; equal = equal },
+            ))
+            (cases_lt k (count + 1));
       }
 
-      module _ (rest after : List ((ℕ × ℕ) × T)) (to : ℕ × ℕ) (x : T) (first : rest ≡ (to, x) ∷ after) (count : ℕ) (h : IsCounting whole eq here rest count) where
-        pub IsCounting-stop : (IsTrue (eq x here) → ⊥) → AreAlikeAlong eq t at way count
-        IsCounting-stop other = record {
-          each = each_alike rest count h;
-          ends = ends_of count (λ y p e alike.
-              let same : ◌≡◌ {A = (ℕ × ℕ) × T} (to, x) (p, y) = cc (item_there whole count (to, x) rest after h.left first, e) in
-              other (subst (λ (z : (ℕ × ℕ) × T). IsTrue (eq z.1 here)) (sym same) alike));
-        }
-
-        pub IsCounting-next : IsTrue (eq x here) → IsCounting whole eq here after (count + 1)
-        IsCounting-next equal = record {
-          left = one_more whole count (to, x) rest after h.left first;
-          alike = λ k y lt e.
-              ⊎_elim (λ (old : k < count). h.alike k y old e)
-              (λ (new : count ≤ k).
-              let same_place : count ≡ k = omega arith in
-              let same : ◌≡◌ {A = (ℕ × ℕ) × T} (to, x) y = cc (item_there whole count (to, x) rest after h.left first, ap (slice_get whole) same_place, e) in
-              subst (λ (z : (ℕ × ℕ) × T). IsTrue (eq z.1 here)) same equal)
-              (cases_lt k count);
-          few = omega (arith, within whole count (to, x) rest after h.left first);
-        }
+  -- at the edge, or at the limit
+  pub IsCounting-end : (h' : IsTable t) (m n : ℕ) → m ≡ row_count t → n ≡ col_count t → IsWithin (m, n) at → (steps most count left : ℕ) (to : ℕ × ℕ) → left ≡ min steps most → count ≡ left → (IsWithin (m, n) at → (k : ℕ) → steps < k → Reaches (m, n) (box_of way) at k → ⊥) → IsCounting eq t way at count to → AreAlikeUpTo eq t at most way left
+  IsCounting-end h' m n rows cols inside steps most count left to is all beyond h = record {
+    each = λ k some le. h.each k some (omega arith);
+    few = omega arith;
+    ends = λ more p ahead alike.
+        let in_range = cell_in_range t h' p.0 p.1 alike.there alike.at_there in
+        beyond inside (left + 1) (omega arith) (record {
+          above = omega (arith, ahead.0);
+          below = omega (arith, ahead.0, in_range.0, rows);
+          before = omega (arith, ahead.1);
+          after = omega (arith, ahead.1, in_range.1, cols);
+        });
+  }

@@ -6,7 +6,7 @@ use Rattle.grid_near.specs.declared.direction.Direction.{Direction}
 use Rattle.grid_near.specs.declared.direction.Direction.TheVariants.{Up, UpRight, Right, DownRight, Down, DownLeft, Left, UpLeft}
 use Rattle.grid_near.specs.Directions.{box_of, IsBeside}
 use Rattle.grid_rays.specs.Rays.{IsAhead}
-use Rattle.grid_rays.specs.Along.{AreAlikeAlong, IsRun, HasRunAlong, HasRun}
+use Rattle.grid_rays.specs.Along.{AreAlikeUpTo, IsAlike, IsRun, HasRunAlong, HasRun}
 
 -- two directions are opposite
 pub record AreOpposite (way back : Direction) : Type 0 where
@@ -66,13 +66,13 @@ module _ (way back : Direction) (opposite : AreOpposite way back) (s at p : ℕ 
 
 module _ {T : Type 0} (eq : T → T → Bool) (t : List (List T)) (at : ℕ × ℕ) (way back : Direction) (opposite : AreOpposite way back) where
   -- a run has no more on either side than are alike there
-  module _ (ahead behind : ℕ) (a : AreAlikeAlong eq t at way ahead) (b : AreAlikeAlong eq t at back behind) where
+  module _ (ahead behind : ℕ) (a : (to : ℕ × ℕ) → IsAhead way (ahead + 1) at to → IsAlike eq t at to → ⊥) (b : (to : ℕ × ℕ) → IsAhead back (behind + 1) at to → IsAlike eq t at to → ⊥) where
     not_behind : (start : ℕ × ℕ) (n i : ℕ) → IsRun eq t at way start n i → i ≤ behind
     not_behind start n i r =
         ⊎_elim (λ (less : behind < i).
         let k = i - (behind + 1) in
         let w = r.others k (omega (arith, r.within)) (λ e. omega arith) in
-        absurd (b.ends w.0 (IsAhead-to_back way back opposite start at w.0 k (behind + 1) i (omega arith) r.here w.1) w.2))
+        absurd (b w.0 (IsAhead-to_back way back opposite start at w.0 k (behind + 1) i (omega arith) r.here w.1) w.2))
         (λ (le : i ≤ behind). le)
         (cases_lt behind i)
 
@@ -81,16 +81,24 @@ module _ {T : Type 0} (eq : T → T → Bool) (t : List (List T)) (at : ℕ × �
         ⊎_elim (λ (less : i + 1 + ahead < n).
         let k = i + (ahead + 1) in
         let w = r.others k (omega arith) (λ e. omega arith) in
-        absurd (a.ends w.0 (IsAhead-to_ahead way back opposite start at w.0 i (ahead + 1) k refl r.here w.1) w.2))
+        absurd (a w.0 (IsAhead-to_ahead way back opposite start at w.0 i (ahead + 1) k refl r.here w.1) w.2))
         (λ (le : n ≤ i + 1 + ahead). le)
         (cases_lt (i + 1 + ahead) n)
 
-    pub run_fits : (start : ℕ × ℕ) (n i : ℕ) → IsRun eq t at way start n i → n ≤ ahead + behind + 1
+    run_fits : (start : ℕ × ℕ) (n i : ℕ) → IsRun eq t at way start n i → n ≤ ahead + behind + 1
     run_fits start n i r = omega (arith, not_behind start n i r, not_ahead start n i r)
 
-    -- and where there are as many, there is a run
+  -- the same of those that are counted as far as they matter
+  pub run_counted : (ahead behind n : ℕ) → AreAlikeUpTo eq t at (n - 1) way ahead → AreAlikeUpTo eq t at (n - 1 - ahead) back behind → ahead < n - 1 → (start : ℕ × ℕ) (i : ℕ) → IsRun eq t at way start n i → n - 1 ≤ ahead + behind
+  run_counted ahead behind n a b short start i r =
+      ⊎_elim (λ (few : behind < n - 1 - ahead). omega (arith, run_fits ahead behind (a.ends short) (b.ends few) start n i r))
+      (λ (all : n - 1 - ahead ≤ behind). omega arith)
+      (cases_lt behind (n - 1 - ahead))
+
+  -- and where there are as many, there is a run
+  module _ (ahead behind : ℕ) (a : (k : ℕ) → 0 < k → k ≤ ahead → (to : ℕ × ℕ) × IsAhead way k at to × IsAlike eq t at to) (b : (k : ℕ) → 0 < k → k ≤ behind → (to : ℕ × ℕ) × IsAhead back k at to × IsAlike eq t at to) where
     start_of : (i : ℕ) → i ≤ behind → (start : ℕ × ℕ) × IsAhead back i at start
-    start_of i le = ⊎_elim (λ (some : 0 < i). let w = b.each i some le in (w.0, w.1)) (λ (none : i ≤ 0).
+    start_of i le = ⊎_elim (λ (some : 0 < i). let w = b i some le in (w.0, w.1)) (λ (none : i ≤ 0).
         let zero_steps : i ≡ 0 = omega arith in
         (at, (omega (arith, ap (λ z. z * (box_of back).0) zero_steps), omega (arith, ap (λ z. z * (box_of back).1) zero_steps))))
         (cases_lt 0 i)
@@ -106,11 +114,11 @@ module _ {T : Type 0} (eq : T → T → Bool) (t : List (List T)) (at : ℕ × �
             in_range = inside;
             others = λ k less other.
                 ⊎_elim (λ (before : k < i).
-                let p = b.each (i - k) (omega arith) (omega arith) in
+                let p = b (i - k) (omega arith) (omega arith) in
                 (p.0, IsAhead-from_back way back opposite w.0 at p.0 k (i - k) i (omega arith) w.1 p.1, p.2))
                 (λ (after : i ≤ k).
                 let past : i < k = ⊎_elim (λ (l : i < k). l) (λ (g : k ≤ i). let same : k ≡ i = omega arith in absurd (other same)) (cases_lt i k) in
-                let p = a.each (k - i) (omega arith) (omega arith) in
+                let p = a (k - i) (omega arith) (omega arith) in
                 (p.0, IsAhead-from_ahead way back opposite w.0 at p.0 i (k - i) k (omega arith) here p.1, p.2))
                 (cases_lt k i);
           },
@@ -125,6 +133,10 @@ module _ {T : Type 0} (eq : T → T → Bool) (t : List (List T)) (at : ℕ × �
         let w = run_of n (n - 1) inside (omega arith) (omega arith) (omega arith) in
         (w.0, n - 1, w.1))
         (cases_lt behind n)
+
+  -- where enough are alike on one side, the other doesn't matter
+  pub run_ahead : (ahead : ℕ) → ((k : ℕ) → 0 < k → k ≤ ahead → (to : ℕ × ℕ) × IsAhead way k at to × IsAlike eq t at to) → (n : ℕ) → InRange t at.0 at.1 → 0 < n → n ≤ ahead + 1 → (start : ℕ × ℕ) × (i : ℕ) × IsRun eq t at way start n i
+  run_ahead ahead a n inside some fits = run_there ahead 0 a (λ k some le. absurd (omega arith)) n inside some (omega arith)
 
   -- the same run from its other end
   pub run_back : (start : ℕ × ℕ) (n i : ℕ) → IsRun eq t at way start n i → (end : ℕ × ℕ) × IsRun eq t at back end n (n - 1 - i)

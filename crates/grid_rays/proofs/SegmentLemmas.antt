@@ -57,7 +57,7 @@ nearest_is a b (suc i) j x past h =
     same = omega (arith, h.sum)
 
 -- the position that a line has come to is the first that is left, and the last
-reached_at : (a b at past : ℕ × ℕ) (i j : ℕ) → IsDrawn a b at past i j → point a b i j ≡ at
+pub reached_at : (a b at past : ℕ × ℕ) (i j : ℕ) → IsDrawn a b at past i j → point a b i j ≡ at
 reached_at a b at past i j h =
     let row = nearest_is a.0 b.0 i j at.0 past.0 h.rows in
     let col = nearest_is a.1 b.1 i j at.1 past.1 h.cols in

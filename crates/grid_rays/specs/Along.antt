@@ -45,6 +45,12 @@ module _ {T : Type 0} (eq : T → T → Bool) (t : List (List T)) (at : ℕ × �
     pub each : (k : ℕ) → 0 < k → k ≤ count → (to : ℕ × ℕ) × IsAhead way k at to × IsAlike to
     pub ends : (to : ℕ × ℕ) → IsAhead way (count + 1) at to → IsAlike to → ⊥
 
+  -- the same of those that are counted up to `most`: if there are so many, more may be alike
+  pub record AreAlikeUpTo (most : ℕ) (way : Direction) (count : ℕ) : Type 0 where
+    pub each : (k : ℕ) → 0 < k → k ≤ count → (to : ℕ × ℕ) × IsAhead way k at to × IsAlike to
+    pub few : count ≤ most
+    pub ends : count < most → (to : ℕ × ℕ) → IsAhead way (count + 1) at to → IsAlike to → ⊥
+
   -- n positions in a row, from `start` on, of which `at` is number i, and the cell at each other
   -- equals the one at `at`
   pub record IsRun (way : Direction) (start : ℕ × ℕ) (n i : ℕ) : Type 0 where

@@ -1,9 +1,10 @@
 //! What is found along a ray: the first cell that passes a test, cells alike, and rows of them.
 ghost use Rattle.std.specs.Prelude.{◌≡◌, ◌↔◌, ◌^◌, ◌<◌, IsTrue};
 ghost use Rattle.grid.specs.Prelude.{CallableAtCells, InRange, row_count, col_count};
-ghost use Rattle.grid_rays.specs.Along.{FoundAlong, AreAlikeAlong, HasRun, HasRunAlong};
+ghost use Rattle.grid_rays.specs.Along.{FoundAlong, AreAlikeAlong, AreAlikeUpTo, HasRun, HasRunAlong};
 
 use crate::rays::ray_of;
+use crate::ways::{step_of, steps_to_edge};
 use grid::{AsView, Direction, Grid, GridView};
 use std::alloc::Allocator;
 
@@ -59,32 +60,37 @@ pub fn alike_along<T: PartialEq, A: Allocator>(
     ensures alike { AreAlikeAlong T.eq grid.now.rows at way result }
     ensures small { result < 2 ^ 63 }
 {
-    alike_in(&grid.view(), grid.size(), at, way)
+    alike_in(&grid.view(), grid.size(), at, way, usize::MAX)
 }
 
-// The same, of a view of this size.
+// The same, of a view of this size, up to a limit.
+#[inline(always)]
 fn alike_in<T: PartialEq>(
     board: &GridView<'_, T>,
     size: (usize, usize),
     at: (usize, usize),
     way: Direction,
+    most: usize,
 ) -> usize
     requires rows { size.0 ≡ row_count board.now.rows }
     requires cols { size.1 ≡ col_count board.now.rows }
-    ensures alike { AreAlikeAlong T.eq board.now.rows at way result }
+    ensures alike { AreAlikeUpTo T.eq board.now.rows at most way result }
     ensures small { size.0 < 2 ^ 63 → size.1 < 2 ^ 63 → result < 2 ^ 63 }
 {
     let Some(here) = board.get(at.0, at.1) else {
         return 0;
     };
-    let mut count = 0;
-    for (_, cell) in ray_of(board.view(), size, at, way) {
-        if *cell != *here {
+    let (down, right) = step_of(way);
+    let left = steps_to_edge(size, at, way).min(most);
+    let (mut row, mut col) = at;
+    for count in 0..left {
+        row = row + down - 1;
+        col = col + right - 1;
+        if *board.get_unchecked(row, col) != *here {
             return count;
         }
-        count += 1;
     }
-    count
+    left
 }
 
 /// Returns whether the cell at a position is one of `n` equal cells next to each other, in a row, a column or a
@@ -114,6 +120,7 @@ fn has_run_in<T: PartialEq>(board: &GridView<'_, T>, at: (usize, usize), n: usiz
 }
 
 // Whether there are `n` in a row in a direction and the opposite one together.
+#[inline(always)]
 fn has_run_along<T: PartialEq>(
     board: &GridView<'_, T>,
     at: (usize, usize),
@@ -124,9 +131,13 @@ fn has_run_along<T: PartialEq>(
     requires some { 0 < n }
     ensures { IsTrue result ↔ HasRunAlong T.eq board.now.rows at way n }
 {
-    let ahead = alike_in(board, board.size(), at, way);
-    let behind = alike_in(board, board.size(), at, way.opposite());
-    n <= ahead.saturating_add(behind).saturating_add(1)
+    let (back, most) = (way.opposite(), n - 1);
+    let ahead = alike_in(board, board.size(), at, way, most);
+    if ahead == most {
+        return true;
+    }
+    let behind = alike_in(board, board.size(), at, back, most - ahead);
+    most <= ahead + behind
 }
 
 // Whether a view has a cell at a position.

@@ -4,7 +4,7 @@ ghost use Rattle.grid.specs.Prelude.{CallableAtCells, SameSizeAndOrder, cell};
 ghost use Rattle.grid_rays.specs.Sight.{Sees, IsTest, TellsSeen, IsNearby, TellsInView};
 
 use crate::along::contains;
-use crate::straight::segment;
+use crate::straight::{Course, steps_between};
 use grid::{AsView, Grid, GridView};
 use std::alloc::{AllocError, Allocator};
 
@@ -46,8 +46,13 @@ fn clear_between<T, F: Fn(&T) -> bool>(
     if !contains(board, from) || !contains(board, to) {
         return false;
     }
-    for at in segment(from, to) {
-        if at != from && at != to && !is_clear(board.get_unchecked(at.0, at.1)) {
+    let steps = steps_between(from, to);
+    let mut rows = Course::new(from.0, to.0, steps);
+    let mut cols = Course::new(from.1, to.1, steps);
+    for done in 0..steps.saturating_sub(1) {
+        rows = rows.stepped(done, steps - done);
+        cols = cols.stepped(done, steps - done);
+        if !is_clear(board.get_unchecked(rows.at, cols.at)) {
             return false;
         }
     }

@@ -3,7 +3,7 @@ ghost use Rattle.std.specs.Prelude.{◌≡◌, ◌+◌, ◌-◌, ◌*◌, ◌/�
 ghost use Rattle.std.specs.Int.{abs_diff};
 ghost use Rattle.std.specs.Iterator.{YieldsFirst, item_count, UpTo, at_most};
 ghost use Rattle.std.specs.Iterator.SizeHint.{IsWithinCount};
-ghost use Rattle.grid_rays.specs.Segments.{segment, IsStraight};
+ghost use Rattle.grid_rays.specs.Segments.{segment, steps_between, IsStraight};
 ghost use Rattle.grid_rays.specs.Drawn.{IsReached};
 
 use std::alloc::AllocError;
@@ -13,16 +13,16 @@ use std::marker::Model;
 // The rows of a straight line, or its columns: the first and the last, the one that it has come to, and what the
 // rounding to that one took off, in parts of which as many as there are steps make one.
 #[derive(Clone, Copy)]
-struct Course {
+pub(crate) struct Course {
     from: usize,
     to: usize,
-    at: usize,
+    pub(crate) at: usize,
     past: usize,
 }
 
 impl Course {
     // Returns the start of the course of a line of so many steps.
-    fn new(from: usize, to: usize, steps: usize) -> Course
+    pub(crate) fn new(from: usize, to: usize, steps: usize) -> Course
         ensures from { result.from ≡ from }
         ensures to { result.to ≡ to }
         ensures reached { IsReached from to 0 steps result.at result.past }
@@ -36,7 +36,7 @@ impl Course {
     }
 
     // Returns the course one step on, of a line of which so many steps are done and left.
-    fn stepped(self, done: usize, left: usize) -> Course
+    pub(crate) fn stepped(self, done: usize, left: usize) -> Course
         requires some { 0 < left }
         requires fits { done + left < 2 ^ 64 }
         requires near { abs_diff self.from self.to ≤ done + left }
@@ -63,6 +63,13 @@ impl Course {
         };
         Course { at, past, ..self }
     }
+}
+
+// Returns how many steps lead from one position to another, where a step goes to any cell that touches.
+pub(crate) fn steps_between(from: (usize, usize), to: (usize, usize)) -> usize
+    ensures { result ≡ steps_between from to }
+{
+    from.0.abs_diff(to.0).max(from.1.abs_diff(to.1))
 }
 
 /// An iterator over the positions of a line, from the first to the last, seen as the list of those that remain. There can be
@@ -104,7 +111,7 @@ pub fn segment(from: (usize, usize), to: (usize, usize)) -> SegmentIter
     ensures positions { result ≡ segment from to }
     ensures straight { IsStraight from to result }
 {
-    let steps = from.0.abs_diff(to.0).max(from.1.abs_diff(to.1));
+    let steps = steps_between(from, to);
     SegmentIter {
         rows: Course::new(from.0, to.0, steps),
         cols: Course::new(from.1, to.1, steps),

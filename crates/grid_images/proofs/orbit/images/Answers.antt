@@ -1,7 +1,7 @@
 use Rattle.std.proofs.Common.{ℕ, ◌<◌, ◌↔◌, IsTrue, ◌∙◌, not, sym, ap, subst, length, ◌*◌, arith}
 use Rattle.grid_base.specs.declared.words.Symmetry.TheVariants.{Identity}
 use Rattle.grid_images.specs.Images.{DiffersBy, GivesEachImageOnce, first_images, fixing, is_first, symmetry_at}
-use Rattle.grid_images.proofs.OrbitLemmas.{has_room, each_once, orbit_count, kept_more, left_out, all_kept, first_told, differs_told}
+use Rattle.grid_images.proofs.OrbitLemmas.{all_first, has_room, each_once, orbit_count, kept_more, left_out, all_kept, first_told, differs_told}
 use Rattle.grid_images.proofs.orbit.images.Goals as goal
 use Rattle.grid_images.proofs.orbit.images.Goals.{then-not-comes_before, else-not-comes_before}
 
@@ -22,6 +22,15 @@ loop-i-preserved g c =
       | then-not-comes_before w ↦ w.found-is ∙ kept_more p i small c.loop-i.found w.push.new.self c.loop-i.invariant (told ∙ ap not w.if-not-comes_before.true) w.push.ensures
       | else-not-comes_before w ↦ w.found-is ∙ left_out p i small c.loop-i.found c.loop-i.invariant (told ∙ ap not w.if-not-comes_before.false)
     ]
+
+pub returns-then-len-eq1-clause-members : goal.returns-then-len-eq1-clause-members
+returns-then-len-eq1-clause-members g c =
+    let one = ap length (sym c.symmetries-fixing.ensures.members) ∙ (sym c.len.ensures.len ∙ c.if-len-eq1.true) in
+    c.all.ensures ∙ all_first g.met.T.Eq.laws (g.V.AsView.rows c.args.board.now) (g.met.V.AsView.table c.args.board.now) one
+
+pub returns-then-len-eq1-clause-each : goal.returns-then-len-eq1-clause-each
+returns-then-len-eq1-clause-each g c =
+    subst (GivesEachImageOnce g.T.PartialEq.eq (g.V.AsView.rows c.args.board.now)) (sym (returns-then-len-eq1-clause-members g c)) (each_once g.met.T.Eq.laws (g.V.AsView.rows c.args.board.now) (g.met.V.AsView.table c.args.board.now))
 
 pub returns-clause-members : goal.returns-clause-members
 unfolding first_images

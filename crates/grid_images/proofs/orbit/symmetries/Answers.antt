@@ -3,15 +3,15 @@ use Rattle.grid_base.specs.declared.words.Symmetry.TheVariants.{Identity}
 use Rattle.grid_images.specs.Images.{IsGroup, fixing, takes, symmetry_at}
 use Rattle.grid_images.proofs.OrbitLemmas.{has_room, kept_first, kept_more, left_out, all_kept, has_fixing, IsGroup-fixing, takes_identity}
 use Rattle.grid_images.proofs.orbit.symmetries.Goals as goal
-use Rattle.grid_images.proofs.orbit.symmetries.Goals.{then-eq, else-eq}
+use Rattle.grid_images.proofs.orbit.symmetries.Goals.{then-are_same, else-are_same}
 
 pub loop-i-init : goal.loop-i-init
 loop-i-init g c =
     let t = g.V.AsView.rows c.args.board.now in
     kept_first (takes g.T.PartialEq.eq t t) (takes_identity g.met.T.Eq.laws t (g.met.V.AsView.table c.args.board.now)) c.push.new.self (◌∙◌ {b = c.new-fixing.result ++ Identity ∷ []} c.push.ensures (ap (λ xs. xs ++ Identity ∷ []) c.new-fixing.ensures))
 
-pub push-requires-then-eq : goal.push-requires-then-eq
-push-requires-then-eq g c =
+pub push-requires-then-are_same : goal.push-requires-then-are_same
+push-requires-then-are_same g c =
     has_room (takes g.T.PartialEq.eq (g.V.AsView.rows c.args.board.now) (g.V.AsView.rows c.args.board.now)) c.loop-i.i c.loop-i-test.true c.loop-i.fixing c.loop-i.invariant
 
 pub loop-i-preserved : goal.loop-i-preserved
@@ -20,10 +20,10 @@ loop-i-preserved g c =
     let p = takes g.T.PartialEq.eq t t in
     let i = c.loop-i.i in
     let small : i < 8 = c.loop-i-test.true in
-    let told : p (symmetry_at i) ≡ c.eq.result = cc in
-    elim c.if-eq.branch [
-      | then-eq w ↦ w.fixing-is ∙ kept_more p i small c.loop-i.fixing w.push-then-eq.new.self c.loop-i.invariant (told ∙ w.if-eq.true) w.push-then-eq.ensures
-      | else-eq w ↦ w.fixing-is ∙ left_out p i small c.loop-i.fixing c.loop-i.invariant (told ∙ w.if-eq.false)
+    let told : p (symmetry_at i) ≡ c.are_same.result = cc in
+    elim c.if-are_same.branch [
+      | then-are_same w ↦ w.fixing-is ∙ kept_more p i small c.loop-i.fixing w.push-then-are_same.new.self c.loop-i.invariant (told ∙ w.if-are_same.true) w.push-then-are_same.ensures
+      | else-are_same w ↦ w.fixing-is ∙ left_out p i small c.loop-i.fixing c.loop-i.invariant (told ∙ w.if-are_same.false)
     ]
 
 pub returns-clause-members : goal.returns-clause-members
