@@ -43,8 +43,8 @@ pub(crate) fn write<T, A: Allocator>(
     Change::Write(row, col, old)
 }
 
-// Does a change, and makes it the one that takes it back. If memory is refused, which comes only where lines are put in or
-// taken out, the grid and the change are as they were.
+// Does a change, and makes it the one that takes it back. If memory is refused, which comes only where lines are put in
+// or taken out, the grid and the change are as they were.
 pub(crate) fn make<T, A: Allocator>(
     grid: &mut Grid<T, A>,
     change: &mut Change<T, A>,

@@ -138,6 +138,7 @@ impl<T, A: Allocator> History<T, A> {
     /// for columns, column-major. A removed line is cloned for the reply. A `Fill` makes a new board. The others as
     /// `Grid::step`. What is kept: a cell of a `Set`, the lines that were taken out, the board before a `Fill` or a
     /// `Clear`.
+    #[inline(always)]
     #[tactic(auto, using(crate::proofs::AskedLemmas::answer_known))]
     pub fn step(&mut self, command: Command<T, A>) -> Result<Reply<T, A>, AllocError>
     where

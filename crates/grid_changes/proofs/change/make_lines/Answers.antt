@@ -1,4 +1,4 @@
-use Rattle.std.proofs.Common.{subst, sym, ap, ◌∙◌, rules}
+use Rattle.std.proofs.Common.{subst, sym, ◌∙◌}
 use Rattle.grid_changes.specs.Timeline.{board_of}
 use Rattle.grid_changes.specs.Change.{Fits}
 use Rattle.grid_changes.proofs.ChangeLemmas.{put_inverts}
