@@ -1,5 +1,5 @@
 -- What a command comes to: no change, or a change that leaves what the command leaves.
-use Rattle.std.proofs.Common.{◌≡◌, ℕ, suc, ◌+◌, ◌-◌, ◌<◌, ◌≤◌, Bool, true, false, ◌&&◌, not, Option, Some, None, List, [], ◌∷◌, ◌++◌, length, take, drop, replicate, IsTrue, ◌↔◌, nat_lt, if◌then◌else◌, is_none, refl, sym, ◌∙◌, ap, arith, ◌⊎◌, inl, inr, ⊎_elim, slice_get, lt-ltb, le-ltb, append-nil, take-append-drop, map, ◌*◌, ◌≢◌, ne_eqb}
+use Rattle.std.proofs.Common.{◌≡◌, ℕ, suc, ◌+◌, ◌-◌, ◌<◌, ◌≤◌, Bool, true, false, ◌&&◌, not, Option, Some, None, List, [], ◌∷◌, ◌++◌, length, take, drop, replicate, IsTrue, ◌↔◌, nat_lt, if◌then◌else◌, is_none, refl, sym, ◌∙◌, ap, arith, ◌⊎◌, inl, inr, ⊎_elim, slice_get, lt-ltb, le-ltb, append-nil, take-append-drop, map, ◌*◌, ◌≢◌, ne_eqb, subst, MatchBool}
 use Rattle.std.proofs.Math.Nat.{mul-le-mul}
 use Rattle.grid.proofs.Common.{row_count, col_count, cell, row, IsTable, InRange, GridValue, act, cases_lt, cases_eq, nil_from_length, rows-act, cols-act, same_tables, same_by_storage, storage, length-replicate, get-replicate, Edit, read, push, insert_at, insert_all, pop, remove_at, delete_at, delete_range, expand, prepend, lines, line_is, flag_is, done, refused, lines_refusal, pad_refusal, edit_refusal, insert_rows, without_rows, expanded_rows, prepended_rows, step_rows, step_reply, EditIsKnown, HasSize, EachCellIs, pad_edit, IsMade, IsSize-table}
 use Rattle.grid.specs.Make.{IsOnlyDefault, HoldsDefaults}
@@ -22,12 +22,12 @@ use Rattle.grid_commands.specs.declared.command.Refusal.{Refusal}
 use Rattle.grid_commands.specs.declared.command.Refusal.TheVariants.{Index}
 use Rattle.grid_commands.specs.declared.command.Reply.{Reply}
 use Rattle.grid_changes.specs.Entry.{is_step, AnswerIsKnown, EditAnswerIsKnown}
-use Rattle.grid_changes.specs.Timeline.{Board}
+use Rattle.grid_changes.specs.Timeline.{Board, Timeline, board_of, IsStepOn}
 use Rattle.grid_changes.specs.Change.{lines_of, with_lines, less_lines, FitsLines}
-use Rattle.grid_changes.specs.Asked.{IsDue, IsAsked}
+use Rattle.grid_changes.specs.Asked.{IsDue, IsAsked, HasStepped}
 use Rattle.grid_changes.specs.declared.asked.Asked.{Asked}
 use Rattle.grid_changes.specs.declared.asked.Asked.TheVariants as an
-use Rattle.grid_changes.proofs.ChangeLemmas.{lines-lines, IsTable-lines}
+use Rattle.grid_changes.proofs.ChangeLemmas.{lines-lines, IsTable-lines, same_board}
 
 module _ {T : Type 0} where
   -- how many lines of an axis there are, and how long they are
@@ -504,3 +504,22 @@ answer_known is_clone (lines a (read i)) same = same
 answer_known is_clone (lines a pop) same = same
 answer_known is_clone (lines a (remove_at i)) same = same
 answer_known is_clone x same = tt
+
+-- what is said of a command that is no step, and of one that is
+module _ {T A : Type 0} (is_default : T → Type 0) (is_clone : T → T → Type 0) (x : CommandValue T) (old : Timeline T) (reply : Reply T A) where
+  pub stepped_none : IsDue is_default is_clone x (board_of old.grid) (board_of old.grid) reply false → HasStepped is_default is_clone x old old reply
+  stepped_none h =
+      let none : is_step x old.grid.rows ≡ false = h.leaves.is_one in
+      record {
+        due = subst (IsDue is_default is_clone x (board_of old.grid) (board_of old.grid) reply) (sym none) h;
+        recorded = subst (λ b. MatchBool b (IsStepOn old old) (old ≡ old)) (sym none) refl;
+      }
+
+  pub stepped_on : (b : Board T) (new : Timeline T) → IsDue is_default is_clone x (board_of old.grid) b reply true → new.grid.rows ≡ b.rows → new.grid.order ≡ b.order → IsStepOn old new → HasStepped is_default is_clone x old new reply
+  stepped_on b new h rows order on =
+      let one : is_step x old.grid.rows ≡ true = h.leaves.is_one in
+      let same : board_of new.grid ≡ b = same_board (board_of new.grid) b rows order in
+      record {
+        due = subst (IsDue is_default is_clone x (board_of old.grid) (board_of new.grid) reply) (sym one) (subst (λ v. IsDue is_default is_clone x (board_of old.grid) v reply true) (sym same) h);
+        recorded = subst (λ v. MatchBool v (IsStepOn old new) (new ≡ old)) (sym one) on;
+      }

@@ -195,7 +195,7 @@ ok_both (Ok x) q p h = h x q p
 ok_both (Err e) q p h = tt
 
 -- two boards of one order with the same rows
-same_board : {T : Type 0} (b c : Board T) → b.rows ≡ c.rows → b.order ≡ c.order → b ≡ c
+pub same_board : {T : Type 0} (b c : Board T) → b.rows ≡ c.rows → b.order ≡ c.order → b ≡ c
 same_board b c rows order = λ i. record { rows = rows i; order = order i }
 
 -- what takes each change back

@@ -4,3 +4,4 @@ pub mod StepLemmas
 pub mod AskedLemmas
 pub mod DifferenceLemmas
 pub mod WriteLemmas
+pub mod ChangedCellLemmas

@@ -21,7 +21,7 @@ module _ {X : Type 0} where
   take_one (y ∷ xs) zero x e = let s : y ≡ x = cc in ap (λ v. v ∷ []) s
   take_one (y ∷ xs) (suc i) x e = ap (λ v. y ∷ v) (take_one xs i x e)
 
-  drop_one : (xs : List X) (i : ℕ) (x : X) → slice_get xs i ≡ Some x → drop i xs ≡ x ∷ drop (suc i) xs
+  pub drop_one : (xs : List X) (i : ℕ) (x : X) → slice_get xs i ≡ Some x → drop i xs ≡ x ∷ drop (suc i) xs
   drop_one [] i x e = cc
   drop_one (y ∷ xs) zero x e = let s : y ≡ x = cc in ap (λ v. v ∷ xs) s
   drop_one (y ∷ xs) (suc i) x e = drop_one xs i x e

@@ -6,7 +6,7 @@ use Rattle.grid_commands.specs.declared.command.Reply.{Reply}
 use Rattle.grid_changes.specs.declared.asked.Asked.{Asked}
 use Rattle.grid_changes.specs.declared.asked.Asked.TheVariants as an
 use Rattle.grid_changes.specs.Entry.{is_step, AnswerIsKnown}
-use Rattle.grid_changes.specs.Timeline.{Board}
+use Rattle.grid_changes.specs.Timeline.{Board, Timeline, board_of, Recorded}
 use Rattle.grid_changes.specs.Change.{Fits, after}
 
 -- a command leaves this board, and is a step or none
@@ -28,3 +28,10 @@ module _ {T A : Type 0} (is_default : T → Type 0) (is_clone : T → T → Type
   IsAsked x old (an.Answer reply) = IsDue x old old reply false
   IsAsked x old (an.Making change reply) = Fits change old
       × IsDue x old (after change old) reply true
+
+-- what a history says of a command that it executed, and of the reply
+pub record HasStepped {T A : Type 0} (is_default : T → Type 0) (is_clone : T → T → Type 0)
+    (x : CommandValue T) (old new : Timeline T) (reply : Reply T A) : Type 0 where
+  pub due : IsDue is_default is_clone x (board_of old.grid) (board_of new.grid) reply
+      (is_step x old.grid.rows)
+  pub recorded : Recorded x old new

@@ -1,6 +1,6 @@
 //! Changes of a grid, each of which gives the one that takes it back. Cells are moved, and never cloned.
 ghost use Rattle.std.specs.Prelude.{◌≡◌, ◌+◌, ◌≤◌, ◌<◌, take, drop, OnOk, OnErr, IfOk, IfErr, IsTrue};
-ghost use Rattle.grid.specs.Prelude.{row_count, col_count, FitsRow, insert_rows, without_rows};
+ghost use Rattle.grid.specs.Prelude.{row_count, col_count, FitsRow, insert_rows, without_rows, InRange, with_cell};
 ghost use Rattle.grid_changes.specs.Change.{Fits, after, is_of_lines, Inverts, FitsLines, HasLines, with_lines, less_lines};
 ghost use Rattle.grid_changes.specs.Timeline.{board_of};
 
@@ -26,47 +26,101 @@ pub(crate) enum Change<T, A: Allocator> {
     Replace(Grid<T, A>),
 }
 
-// Does a change, and returns the one that takes it back. If memory is refused, which comes only where lines are put in or
-// taken out, the grid is unchanged, and the change comes back.
+// Writes a cell, and returns the change that takes it back.
+#[inline(always)]
+pub(crate) fn write<T, A: Allocator>(
+    grid: &mut Grid<T, A>,
+    row: usize,
+    col: usize,
+    value: T,
+) -> Change<T, A>
+    requires within { InRange grid.old.rows row col }
+    ensures rows { grid.new.rows ≡ with_cell grid.old.rows row col value }
+    ensures order { grid.new.order ≡ grid.old.order }
+    ensures inverse { Inverts result (board_of grid.new) (board_of grid.old) }
+{
+    let old = mem::replace(grid.get_unchecked_mut(row, col), value);
+    Change::Write(row, col, old)
+}
+
+// Does a change, and makes it the one that takes it back. If memory is refused, which comes only where lines are put in
+// or taken out, the grid and the change are as they were.
 pub(crate) fn make<T, A: Allocator>(
     grid: &mut Grid<T, A>,
-    change: Change<T, A>,
-) -> Result<Change<T, A>, Change<T, A>>
+    change: &mut Change<T, A>,
+) -> Result<(), AllocError>
 where
     T: Drop,
     A: Clone,
-    requires fits { Fits change (board_of grid.old) }
-    ensures made { OnOk result (board_of grid.new ≡ after change (board_of grid.old)) }
-    ensures inverse { IfOk result (λ back. Inverts back (board_of grid.new) (board_of grid.old)) }
-    ensures change_back { IfErr result (λ same. same ≡ change) }
+    requires fits { Fits change.old (board_of grid.old) }
+    ensures made { OnOk result (board_of grid.new ≡ after change.old (board_of grid.old)) }
+    ensures inverse { OnOk result (Inverts change.new (board_of grid.new) (board_of grid.old)) }
+    ensures same { OnErr result (change.new ≡ change.old) }
     ensures unchanged { OnErr result (grid.new ≡ grid.old) }
-    ensures err_lines { OnErr result (IsTrue (is_of_lines change)) }
+    ensures err_lines { OnErr result (IsTrue (is_of_lines change.old)) }
 {
     match change {
         Change::Write(row, col, value) => {
-            let old = mem::replace(grid.get_unchecked_mut(row, col), value);
-            Ok(Change::Write(row, col, old))
+            mem::swap(grid.get_unchecked_mut(*row, *col), value);
+            Ok(())
         }
         Change::Exchange(a, b) => {
-            grid.swap(a, b);
-            Ok(Change::Exchange(a, b))
+            grid.swap(*a, *b);
+            Ok(())
         }
+        Change::Turn(symmetry) => {
+            grid.apply(*symmetry);
+            *symmetry = symmetry.inverse();
+            Ok(())
+        }
+        Change::Replace(board) => {
+            mem::swap(grid, board);
+            Ok(())
+        }
+        _ => make_lines(grid, change),
+    }
+}
+
+// As `make`, where lines are put in or taken out.
+fn make_lines<T, A: Allocator>(
+    grid: &mut Grid<T, A>,
+    change: &mut Change<T, A>,
+) -> Result<(), AllocError>
+where
+    T: Drop,
+    A: Clone,
+    requires fits { Fits change.old (board_of grid.old) }
+    requires lines { IsTrue (is_of_lines change.old) }
+    ensures made { OnOk result (board_of grid.new ≡ after change.old (board_of grid.old)) }
+    ensures inverse { OnOk result (Inverts change.new (board_of grid.new) (board_of grid.old)) }
+    ensures same { OnErr result (change.new ≡ change.old) }
+    ensures unchanged { OnErr result (grid.new ≡ grid.old) }
+{
+    match mem::replace(change, Change::Turn(Symmetry::Identity)) {
         Change::Put(axis, at, lines) => {
             let count = lines.rows();
             match put_lines(grid, axis, at, lines) {
-                Ok(()) => Ok(Change::Take(axis, at, count)),
-                Err(lines) => Err(Change::Put(axis, at, lines)),
+                Ok(()) => {
+                    *change = Change::Take(axis, at, count);
+                    Ok(())
+                }
+                Err(lines) => {
+                    *change = Change::Put(axis, at, lines);
+                    Err(AllocError)
+                }
             }
         }
         Change::Take(axis, at, count) => match take_lines(grid, axis, at, count) {
-            Ok(lines) => Ok(Change::Put(axis, at, lines)),
-            Err(_) => Err(Change::Take(axis, at, count)),
+            Ok(lines) => {
+                *change = Change::Put(axis, at, lines);
+                Ok(())
+            }
+            Err(_) => {
+                *change = Change::Take(axis, at, count);
+                Err(AllocError)
+            }
         },
-        Change::Turn(symmetry) => {
-            grid.apply(symmetry);
-            Ok(Change::Turn(symmetry.inverse()))
-        }
-        Change::Replace(board) => Ok(Change::Replace(mem::replace(grid, board))),
+        _ => unreachable!(),
     }
 }
 

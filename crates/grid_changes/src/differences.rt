@@ -1,11 +1,11 @@
 //! The cells in which one board differs from another.
-ghost use Rattle.std.specs.Prelude.{◌≡◌, map, IfOk};
+ghost use Rattle.std.specs.Prelude.{◌≡◌, ◌<◌, ◌≤◌, length, map, IfOk};
 ghost use Rattle.std.specs.Iterator.{YieldsFirstBy, item_count};
-ghost use Rattle.grid.specs.Prelude.{row_count, col_count, cell, GivesCells, ClonesAreEqual, command_value, run_rows};
-ghost use Rattle.grid_changes.specs.Differences.{is_cell, changed_cells, writes, SameAreEqual, WritesClone};
+ghost use Rattle.grid.specs.Prelude.{row, row_count, col_count, cell, GivesCells, ClonesAreEqual, command_value, run_rows};
+ghost use Rattle.grid_changes.specs.Differences.{is_cell, changed_cells, writes, SameAreEqual, WritesClone, IsNextChange};
 ghost use Rattle.std.specs.List.{AllZip};
 
-use grid::{AsView, Command, GridView, ViewIndexedIter};
+use grid::{AsView, Command, GridView};
 use std::alloc::{AllocError, Allocator};
 use std::marker::Model;
 
@@ -14,16 +14,22 @@ use std::marker::Model;
 #[derive(Drop)]
 pub struct ChangeIter<'a, T: PartialEq> {
     old: GridView<'a, T>,
-    cells: ViewIndexedIter<'a, T>,
+    new: GridView<'a, T>,
+    // The row and the column from which on cells are still to be compared.
+    row: usize,
+    col: usize,
 }
 
 impl<'a, T: PartialEq> Model for ChangeIter<'a, T> {
-    ghost use Rattle.std.specs.Prelude.{ℕ, List};
-    ghost use Rattle.grid_changes.specs.Differences.{new_cells};
+    ghost use Rattle.std.specs.Prelude.{ℕ, List, ◌≤◌};
+    ghost use Rattle.grid.specs.Prelude.{col_count};
+    ghost use Rattle.grid_changes.specs.Differences.{cells_left};
 
     ghost Value = { List ((ℕ × ℕ) × T) };
 
-    ghost view = { λ a. new_cells T.eq a.old.rows a.cells };
+    ghost view = { λ a. cells_left T.eq a.old.rows a.new.rows a.row a.col };
+
+    ghost invariant = { λ a. a.col ≤ col_count a.new.rows };
 }
 
 /// Returns an iterator over the cells of `new` that differ from the cells of `old` at their positions, row by row.
@@ -44,7 +50,9 @@ where
 {
     ChangeIter {
         old: old.as_view(),
-        cells: new.as_view().indexed_iter(),
+        new: new.as_view(),
+        row: 0,
+        col: 0,
     }
 }
 
@@ -58,6 +66,62 @@ fn has_cell<T: PartialEq>(view: &GridView<'_, T>, at: (usize, usize), value: &T)
     }
 }
 
+// The first column, from one on, in which a row has a cell that an old row doesn't have there; the end of the row where
+// there is none.
+fn next_in_slices<T: PartialEq>(old: &[T], new: &[T], from: usize) -> usize
+    requires { from ≤ length new.now }
+    ensures { IsNextChange T.eq old.now new.now from result }
+{
+    let both = old.len().min(new.len());
+    for col in from..both {
+        if old[col] != new[col] {
+            return col;
+        }
+    }
+    from.max(both)
+}
+
+// The same of row `r` of two views, cell by cell.
+fn next_in_cells<T: PartialEq>(
+    old: &GridView<'_, T>,
+    new: &GridView<'_, T>,
+    r: usize,
+    from: usize,
+) -> usize
+    requires row_in { r < row_count new.now.rows }
+    requires col_in { from ≤ col_count new.now.rows }
+    ensures { IsNextChange T.eq (row old.now.rows r) (row new.now.rows r) from result }
+{
+    let cols = new.cols();
+    for col in from..cols {
+        if !has_cell(old, (r, col), new.get_unchecked(r, col)) {
+            return col;
+        }
+    }
+    cols
+}
+
+// The same, by slices where the cells of both rows are side by side.
+fn next_change<T: PartialEq>(
+    old: &GridView<'_, T>,
+    new: &GridView<'_, T>,
+    r: usize,
+    from: usize,
+) -> usize
+    requires row_in { r < row_count new.now.rows }
+    requires col_in { from ≤ col_count new.now.rows }
+    ensures { IsNextChange T.eq (row old.now.rows r) (row new.now.rows r) from result }
+{
+    if r < old.rows() {
+        if let Some(olds) = old.row_slice(r) {
+            if let Some(news) = new.row_slice(r) {
+                return next_in_slices(olds, news, from);
+            }
+        }
+    }
+    next_in_cells(old, new, r, from)
+}
+
 impl<'a, T: PartialEq> Iterator for ChangeIter<'a, T> {
     type Item = ((usize, usize), &'a T);
 
@@ -66,10 +130,14 @@ impl<'a, T: PartialEq> Iterator for ChangeIter<'a, T> {
     ghost remaining = { item_count (λ rest. rest) };
 
     fn next(&mut self) -> Option<((usize, usize), &'a T)> {
-        while let Some((at, cell)) = self.cells.next() {
-            if !has_cell(&self.old, at, cell) {
-                return Some((at, cell));
+        while self.row < self.new.rows() {
+            let col = next_change(&self.old, &self.new, self.row, self.col);
+            if col < self.new.cols() {
+                self.col = col + 1;
+                return Some(((self.row, col), self.new.get_unchecked(self.row, col)));
             }
+            self.row += 1;
+            self.col = 0;
         }
         None
     }

@@ -1,19 +1,19 @@
 //! A grid with the boards before it and those undone.
 ghost use Rattle.std.specs.Prelude.{◌≡◌, ◌<◌, ◌≤◌, ◌-◌, ℕ, [], ◌∷◌, length, take, slice_get, OnOk, OnErr, IfOk, IsSomeAnd, MatchBool, IsTrue, ◌↔◌};
-ghost use Rattle.grid.specs.Prelude.{act, order_after, ClonesAreEqual, command_value, command_symmetry, apply, reply_value, step_rows, step_reply, RowsAreKnown};
+ghost use Rattle.grid.specs.Prelude.{act, order_after, ClonesAreEqual, command_value, command_symmetry, apply, reply_value, step_rows, step_reply, RowsAreKnown, InRange, with_cell, set_cell, swap_cells};
 ghost use Rattle.grid_changes.specs.Timeline.{board_of, FirstHasOtherCount, IsBackBy, IsStepOn, IsStepBack, Recorded};
 ghost use Rattle.grid_changes.specs.Change.{Fits, after, is_of_lines};
-ghost use Rattle.grid_changes.specs.Entry.{wants_memory};
+ghost use Rattle.grid_changes.specs.Entry.{wants_memory, is_step};
+ghost use Rattle.grid_changes.specs.Asked.{HasStepped};
 ghost use Rattle.grid_changes.specs.Steps.{FitsAt, HasTurned};
 ghost use Rattle.grid_changes.specs.Entry.{AnswerIsKnown};
 ghost use Rattle.grid_base.specs.declared.words.Symmetry.{Symmetry};
 
 use crate::asked::{Asked, asked_of};
-use crate::change::{Change, make};
-use grid::{Command, Grid, Reply, Symmetry};
+use crate::change::{Change, make, write};
+use grid::{Command, Grid, Refusal, Reply};
 use std::alloc::{AllocError, Allocator, Global};
 use std::marker::Model;
-use std::mem;
 
 /// A grid that takes back what its commands did, and does it again: the grid as it is, the boards before it, and those
 /// that were undone.
@@ -43,6 +43,7 @@ impl<T, A: Allocator> Model for History<T, A> {
 }
 
 // Does the step at a place of a list, and leaves there what takes it back.
+#[inline(always)]
 fn turn<T, A: Allocator>(
     grid: &mut Grid<T, A>,
     steps: &mut Vec<Change<T, A>, A>,
@@ -59,17 +60,7 @@ where
     ensures err_lines { OnErr result (IsSomeAnd (slice_get steps.old.items at)
         (λ change. IsTrue (is_of_lines change))) }
 {
-    let change = mem::replace(&mut steps[at], Change::Turn(Symmetry::Identity));
-    match make(grid, change) {
-        Ok(back) => {
-            steps[at] = back;
-            Ok(())
-        }
-        Err(same) => {
-            steps[at] = same;
-            Err(AllocError)
-        }
-    }
+    make(grid, &mut steps[at])
 }
 
 impl<T, A: Allocator> History<T, A> {
@@ -147,6 +138,7 @@ impl<T, A: Allocator> History<T, A> {
     /// for columns, column-major. A removed line is cloned for the reply. A `Fill` makes a new board. The others as
     /// `Grid::step`. What is kept: a cell of a `Set`, the lines that were taken out, the board before a `Fill` or a
     /// `Clear`.
+    #[inline(always)]
     #[tactic(auto, using(crate::proofs::AskedLemmas::answer_known))]
     pub fn step(&mut self, command: Command<T, A>) -> Result<Reply<T, A>, AllocError>
     where
@@ -164,6 +156,60 @@ impl<T, A: Allocator> History<T, A> {
         ensures order { OnOk result (self.new.grid.order
             ≡ order_after (command_symmetry (command_value command)) self.old.grid.order) }
         ensures recorded { OnOk result (Recorded (command_value command) self.old self.new) }
+        ensures err { OnErr result (self.new ≡ self.old) }
+        ensures err_memory { OnErr result
+            (IsTrue (wants_memory (command_value command) self.old.grid.rows)) }
+    {
+        match command {
+            Command::Set(row, col, value) => self.step_set(row, col, value),
+            Command::Swap(a, b) => self.step_swap(a, b),
+            other => self.step_any(other),
+        }
+    }
+
+    // As `step`, a command that writes a cell.
+    fn step_set(&mut self, row: usize, col: usize, value: T) -> Result<Reply<T, A>, AllocError>
+    where
+        T: Clone + Default + Drop,
+        A: Clone,
+        ensures stepped { IfOk result (HasStepped T.is_default T.is_clone
+            (set_cell row col value) self.old self.new) }
+        ensures err { OnErr result (self.new ≡ self.old) }
+        ensures err_memory { OnErr result
+            (IsTrue (is_step (set_cell row col value) self.old.grid.rows)) }
+    {
+        if !self.grid.contains((row, col)) {
+            return Ok(Reply::Refused(Refusal::Index));
+        }
+        self.record_write(row, col, value)?;
+        Ok(Reply::Done)
+    }
+
+    // As `step`, a command that exchanges two cells.
+    fn step_swap(&mut self, a: (usize, usize), b: (usize, usize)) -> Result<Reply<T, A>, AllocError>
+    where
+        T: Clone + Default + Drop,
+        A: Clone,
+        ensures stepped { IfOk result (HasStepped T.is_default T.is_clone
+            (swap_cells a b) self.old self.new) }
+        ensures err { OnErr result (self.new ≡ self.old) }
+        ensures err_memory { OnErr result
+            (IsTrue (is_step (swap_cells a b) self.old.grid.rows)) }
+    {
+        if !self.grid.contains(a) || !self.grid.contains(b) {
+            return Ok(Reply::Refused(Refusal::Index));
+        }
+        self.record(Change::Exchange(a, b))?;
+        Ok(Reply::Done)
+    }
+
+    // As `step`, any command.
+    fn step_any(&mut self, command: Command<T, A>) -> Result<Reply<T, A>, AllocError>
+    where
+        T: Clone + Default + Drop,
+        A: Clone,
+        ensures stepped { IfOk result (HasStepped T.is_default T.is_clone
+            (command_value command) self.old self.new) }
         ensures err { OnErr result (self.new ≡ self.old) }
         ensures err_memory { OnErr result
             (IsTrue (wants_memory (command_value command) self.old.grid.rows)) }
@@ -209,12 +255,33 @@ impl<T, A: Allocator> History<T, A> {
         if self.done == self.steps.len() {
             self.steps.reserve(1)?;
         }
-        let Ok(back) = make(&mut self.grid, change) else {
-            return Err(AllocError);
-        };
+        let mut step = change;
+        make(&mut self.grid, &mut step)?;
         self.steps.truncate(self.done);
-        self.steps.push_reserved(back);
+        self.steps.push_reserved(step);
         self.done += 1;
+        Ok(())
+    }
+
+    // Writes a cell, in place of what was undone.
+    fn record_write(&mut self, row: usize, col: usize, value: T) -> Result<(), AllocError>
+    where
+        T: Drop,
+        requires within { InRange self.old.grid.rows row col }
+        ensures rows { OnOk result
+            (self.new.grid.rows ≡ with_cell self.old.grid.rows row col value) }
+        ensures order { OnOk result (self.new.grid.order ≡ self.old.grid.order) }
+        ensures recorded { OnOk result (IsStepOn self.old self.new) }
+        ensures err { OnErr result (self.new ≡ self.old) }
+    {
+        let done = self.done;
+        if done == self.steps.len() {
+            self.steps.reserve(1)?;
+        }
+        let back = write(&mut self.grid, row, col, value);
+        self.steps.truncate(done);
+        self.steps.push_reserved(back);
+        self.done = done + 1;
         Ok(())
     }
 

@@ -1,7 +1,6 @@
 use Rattle.std.proofs.Common.{ap, ◌∙◌}
-use Rattle.grid_base.specs.Iterators.{indexed_cells}
-use Rattle.grid_base.specs.declared.order.Order.TheVariants.{RowMajor}
-use Rattle.grid_changes.specs.Differences.{new_cells}
+use Rattle.grid_changes.specs.Differences.{cells_left}
+use Rattle.grid_changes.proofs.ChangedCellLemmas.{left_all}
 use Rattle.grid_changes.proofs.WriteLemmas.{gives_changes}
 use Rattle.grid_changes.proofs.differences.changes.Goals as goal
 
@@ -10,5 +9,5 @@ returns-clause-gives g c =
     let same = g.T.PartialEq.eq in
     let t = g.V.AsView.rows c.args.old.now in
     gives_changes (g.W.AsView.rows c.args.new.now) (g.met.W.AsView.table c.args.new.now) same t _
-    (ap (λ v. new_cells same v c.indexed_iter.result) c.as_view.ensures
-    ∙ ap (new_cells same t) (c.indexed_iter.ensures.gives.0 ∙ ap (indexed_cells RowMajor) c.as_view-2.ensures))
+    (ap (λ v. cells_left same v c.as_view-2.result.rows 0 0) c.as_view.ensures
+    ∙ (ap (λ v. cells_left same t v 0 0) c.as_view-2.ensures ∙ left_all same t (g.W.AsView.rows c.args.new.now) (g.met.W.AsView.table c.args.new.now)))

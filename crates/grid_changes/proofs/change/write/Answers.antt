@@ -1,0 +1,7 @@
+use Rattle.std.proofs.Common.{Some, sym, ap, ◌∙◌}
+use Rattle.grid_changes.proofs.ChangeLemmas.{write_inverts}
+use Rattle.grid_changes.proofs.change.write.Goals as goal
+
+pub returns-clause-inverse : goal.returns-clause-inverse
+returns-clause-inverse g c =
+    write_inverts c.args.grid.now c.args.row c.args.col c.replace-old.new.dest c.replace-old.result c.requires.within (c.get_unchecked_mut.ensures.item ∙ ap Some (sym c.replace-old.ensures.value))
