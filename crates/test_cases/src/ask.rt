@@ -3,7 +3,7 @@
 //! A line has the name of a call, words or numbers, and after a colon lines of cells between slashes, as
 //! `insert_rows 1: 5 6 / 7 8`. A number is written out, or `max`, which is the largest.
 use crate::case::{CaseError, shape_error};
-use grid::{Grid, Move, Order, Symmetry};
+use grid::{Direction, Grid, Move, Order, Symmetry};
 use std::alloc::Global;
 use test_support::fixtures::cut;
 
@@ -90,6 +90,21 @@ impl<'a> Ask<'a> {
     /// Returns a word as a symmetry.
     pub fn symmetry(&self, at: usize) -> Symmetry {
         symmetry_of(self.word(at))
+    }
+
+    /// Returns a word as a direction.
+    pub fn direction(&self, at: usize) -> Result<Direction, CaseError> {
+        Ok(match self.word(at) {
+            "Up" => Direction::Up,
+            "UpRight" => Direction::UpRight,
+            "Right" => Direction::Right,
+            "DownRight" => Direction::DownRight,
+            "Down" => Direction::Down,
+            "DownLeft" => Direction::DownLeft,
+            "Left" => Direction::Left,
+            "UpLeft" => Direction::UpLeft,
+            _ => return Err(CaseError::BadArgument),
+        })
     }
 }
 

@@ -2,18 +2,8 @@
 use crate::ask::Ask;
 use crate::case::CaseError;
 use crate::shown::{shown, text};
-use grid::{Direction, Grid};
+use grid::Grid;
 use std::alloc::Global;
-
-// The direction of this name.
-fn direction(word: &str) -> Direction {
-    match word {
-        "Up" => Direction::Up,
-        "Right" => Direction::Right,
-        "Left" => Direction::Left,
-        _ => Direction::Down,
-    }
-}
 
 // The calls that want a position in range. The number is written by those that write.
 fn in_range(
@@ -70,10 +60,11 @@ pub fn actual(alloc: Global, board: &mut Grid<i64>, ask: Ask<'_>) -> Result<Stri
         "get" => shown(alloc, board.get(row, col)),
         "get_at" => shown(alloc, board.get_at((row, col))),
         "get_clamped" => shown(alloc, board.get_clamped((ask.signed(0), ask.signed(1)))),
-        "beside" => shown(alloc, board.beside((row, col), direction(ask.word(2)))),
-        "wrapped_beside" => shown(
+        "beside" => shown(alloc, board.beside((row, col), ask.direction(2)?)),
+        "wrapped_beside" => shown(alloc, board.wrapped_beside((row, col), ask.direction(2)?)),
+        "wrapped_step" => shown(
             alloc,
-            board.wrapped_beside((row, col), direction(ask.word(2))),
+            ask.direction(2)?.wrapped_step(board.size(), (row, col)),
         ),
         _ => write(alloc, board, ask),
     }

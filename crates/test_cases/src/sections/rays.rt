@@ -2,24 +2,9 @@
 use crate::ask::Ask;
 use crate::case::CaseError;
 use crate::shown::{shown, shown_made, shown_ok};
-use grid::{Direction, Grid};
+use grid::Grid;
 use grid_rays::{alike_along, field_of_view, first_along, has_run, ray, sees, segment};
 use std::alloc::Global;
-
-// The direction of this name.
-fn way_of(word: &str) -> Result<Direction, CaseError> {
-    Ok(match word {
-        "Up" => Direction::Up,
-        "UpRight" => Direction::UpRight,
-        "Right" => Direction::Right,
-        "DownRight" => Direction::DownRight,
-        "Down" => Direction::Down,
-        "DownLeft" => Direction::DownLeft,
-        "Left" => Direction::Left,
-        "UpLeft" => Direction::UpLeft,
-        _ => return Err(CaseError::BadArgument),
-    })
-}
 
 fn is_clear(cell: &i64) -> bool {
     *cell == 0
@@ -27,7 +12,7 @@ fn is_clear(cell: &i64) -> bool {
 
 // What a call along a direction returned.
 fn along(alloc: Global, board: &Grid<i64>, ask: Ask<'_>) -> Result<String, CaseError> {
-    let (at, way) = (ask.position(0), way_of(ask.word(2))?);
+    let (at, way) = (ask.position(0), ask.direction(2)?);
     match ask.call {
         "ray" => shown_ok(
             alloc,
@@ -59,8 +44,8 @@ pub fn actual(alloc: Global, board: &mut Grid<i64>, ask: Ask<'_>) -> Result<Stri
 /// Returns what a call on a direction or on two positions returned.
 pub fn actual_alone(alloc: Global, ask: Ask<'_>) -> Result<String, CaseError> {
     match ask.call {
-        "opposite" => shown(alloc, way_of(ask.word(0))?.opposite()),
-        "turned" => shown(alloc, way_of(ask.word(0))?.turned(ask.number(1))),
+        "opposite" => shown(alloc, ask.direction(0)?.opposite()),
+        "turned" => shown(alloc, ask.direction(0)?.turned(ask.number(1))),
         "segment" => shown_ok(
             alloc,
             segment(ask.position(0), ask.position(2))
