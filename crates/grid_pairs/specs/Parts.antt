@@ -1,11 +1,11 @@
 -- The tiles and the windows of a table, row by row.
-use Rattle.std.specs.Prelude.{◌≡◌, ℕ, ◌+◌, ◌-◌, ◌*◌, ◌/◌, ◌%◌, ◌^◌, ◌<◌, ◌≤◌, min, List, length, map}
+use Rattle.std.specs.Prelude.{◌≡◌, ℕ, ◌+◌, ◌-◌, ◌*◌, ◌/◌, ◌%◌, ◌^◌, ◌<◌, ◌≤◌, IsTrue, Bool, min, List, length, map}
 use Rattle.std.specs.Int.{div_ceil}
 use Rattle.std.specs.Iterator.{YieldsFirstBy, YieldsLastBy}
 use Rattle.std.specs.Iterator.Runs.{EveryRun, EachRunFrom, AllItems, ItemsMapTo, ItemsMapToReversed}
 use Rattle.std.specs.List.{range_with_len}
 use Rattle.grid_base.specs.Table.{row_count, col_count}
-use Rattle.grid_base.specs.Remaining.{IsRemaining}
+use Rattle.grid_base.specs.Remaining.{remaining}
 use Rattle.grid_view.specs.Value.{ViewValue}
 use Rattle.grid_view.specs.View.{sub_table}
 
@@ -35,15 +35,25 @@ module _ {T : Type 0} (t : List (List T)) where
   parts_at step size count = in_turn count.0 count.1
       (λ i j. part_of (i * step.0, j * step.1) size)
 
-  -- these parts are some, each begins within the table, and those from number `first` on and before
-  -- number `past` are left
-  pub record ArePartsLeft (step size count : ℕ × ℕ) (first past : ℕ) : Type 0 where
-    pub tall : 0 < size.0
-    pub wide : 0 < size.1
-    pub down : (i : ℕ) → i < count.0 → i * step.0 < row_count t
-    pub across : (j : ℕ) → j < count.1 → j * step.1 < col_count t
-    pub below : count.0 * count.1 < 2 ^ 64
-    pub left : IsRemaining first past (count.0 * count.1)
+  -- the parts whose first corners are a step apart, from that in row r and column c of them on, `left` of
+  -- them
+  abbrev pub parts_from : ℕ × ℕ → ℕ × ℕ → ℕ × ℕ → ℕ → ℕ → ℕ → List (List (List T))
+  parts_from step size count r c left =
+      remaining (r * count.1 + c) (r * count.1 + c + left) (parts_at step size count)
+
+  -- these parts are some, each begins within the table, and is within it where `whole` says so; and
+  -- `left` of them are left, from that in row r and column c on
+  pub record ArePartsLeft (step size : ℕ × ℕ) (whole : Bool) (count : ℕ × ℕ) (r c left : ℕ) : Type 0
+    where
+      pub tall : 0 < size.0
+      pub wide : 0 < size.1
+      pub down : (i : ℕ) → i < count.0 → i * step.0 < row_count t
+      pub across : (j : ℕ) → j < count.1 → j * step.1 < col_count t
+      pub fits : IsTrue whole → ((i : ℕ) → i < count.0 → i * step.0 + size.0 ≤ row_count t)
+          × ((j : ℕ) → j < count.1 → j * step.1 + size.1 ≤ col_count t)
+      pub below : count.0 * count.1 < 2 ^ 64
+      pub within : r * count.1 + c + left ≤ count.0 * count.1
+      pub col_in : 0 < left → c < count.1
 
 module _ (T : Type 0) where
   -- each run of an iterator over parts gives those that it had left, in order

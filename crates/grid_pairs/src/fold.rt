@@ -110,10 +110,12 @@ fn fold_along<T, S: Copy, A: Allocator, F: Fn(S, &T) -> S>(
     requires calls { CallableInRows F.pre F.post f.now init board.now.rows }
     ensures folds { IfOk result (λ folds. AreFolds F.post f.now init board.now.rows folds.items) }
 {
-    let rows = board.rows();
+    // a copy that no write to the values can change, so that it stays in registers
+    let seen = board.view();
+    let rows = seen.rows();
     let mut folds = Vec::with_capacity(alloc, rows)?;
     for r in 0..rows {
-        let folded = fold_row(board, r, init, f);
+        let folded = fold_row(&seen, r, init, f);
         folds.push_reserved(folded);
     }
     Ok(folds)

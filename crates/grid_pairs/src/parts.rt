@@ -1,5 +1,5 @@
 //! Iterators over the tiles of a board, and over its windows.
-ghost use Rattle.std.specs.Prelude.{◌≡◌, ◌+◌, ◌-◌, ◌*◌, ◌/◌, ◌%◌, ◌^◌, ◌<◌, ◌≤◌, ⊤, List, length, drop, slice_get, IfSome, MatchOption, Some};
+ghost use Rattle.std.specs.Prelude.{◌≡◌, ◌+◌, ◌-◌, ◌*◌, ◌^◌, ◌<◌, ◌≤◌, ⊤, IsTrue, min, List, length, drop, slice_get, IfSome, MatchOption, Some};
 ghost use Rattle.std.specs.Iterator.{YieldsFirstBy, YieldsLastBy, item_count, UpTo, at_most};
 ghost use Rattle.std.specs.Iterator.SizeHint.{IsWithinCount};
 ghost use Rattle.grid_pairs.specs.Prelude.{row_count, col_count, tiles, windows, GivesParts, GivesSize, GivesUpTo};
@@ -9,7 +9,6 @@ use grid_view::{AsView, GridView};
 use std::alloc::AllocError;
 use std::iter::FusedIterator;
 use std::marker::Model;
-use std::ops::Range;
 
 /// What lends a view for as long as its cells are lent: a reference to what lends itself as a view, or a view by value. So
 /// the parts of a view that is made on the spot may be kept: `tiles(board.part(at, size), 2, 2)`.
@@ -62,8 +61,11 @@ pub fn tiles<'a, T, V: IntoView<'a, T>>(board: V, rows: usize, cols: usize) -> P
         board,
         step: (rows, cols),
         size: (rows, cols),
+        whole: false,
         count,
-        ahead: 0..count.0 * count.1,
+        row: 0,
+        col: 0,
+        left: count.0 * count.1,
     }
 }
 
@@ -87,8 +89,11 @@ pub fn windows<'a, T, V: IntoView<'a, T>>(board: V, rows: usize, cols: usize) ->
         board,
         step: (1, 1),
         size: (rows, cols),
+        whole: true,
         count,
-        ahead: 0..count.0 * count.1,
+        row: 0,
+        col: 0,
+        left: count.0 * count.1,
     }
 }
 
@@ -100,32 +105,57 @@ fn starts(len: usize, size: usize) -> usize
     if size <= len { len - size + 1 } else { 0 }
 }
 
-/// An iterator over parts of a board, row by row, from both ends, seen as the list of the rows of each that remains. Each
-/// step takes a division.
+/// An iterator over parts of a board, row by row, from both ends, seen as the list of the rows of each that remains. A step
+/// from the back takes a division.
 #[derive(Drop)]
 pub struct PartIter<'a, T> {
     board: GridView<'a, T>,
     // How far the first corners are apart, and the size of a part that isn't at the end.
     step: (usize, usize),
     size: (usize, usize),
+    // Whether each part has that size. Where this and the size are known, a loop over the cells of a part is unrolled.
+    whole: bool,
     // How many parts come below one another, and side by side.
     count: (usize, usize),
-    // The numbers of the parts that are left.
-    ahead: Range<usize>,
+    // Which of them comes next, and how many are left.
+    row: usize,
+    col: usize,
+    left: usize,
 }
 
 impl<'a, T> Model for PartIter<'a, T> {
     ghost use Rattle.std.specs.Prelude.{List};
-    ghost use Rattle.grid_base.specs.Remaining.{remaining};
-    ghost use Rattle.grid_pairs.specs.Parts.{parts_at, ArePartsLeft};
+    ghost use Rattle.grid_pairs.specs.Parts.{parts_from, ArePartsLeft};
 
     ghost Value = { List (List (List T)) };
 
-    ghost view = { λ a. remaining a.ahead.start a.ahead.end
-        (parts_at a.board.rows a.step a.size a.count) };
+    ghost view = { λ a. parts_from a.board.rows a.step a.size a.count a.row a.col a.left };
 
-    ghost invariant = { λ a. ArePartsLeft a.board.rows a.step a.size a.count
-        a.ahead.start a.ahead.end };
+    ghost invariant = { λ a. ArePartsLeft a.board.rows a.step a.size a.whole a.count
+        a.row a.col a.left };
+}
+
+// Returns the size of a part from a position on: this one, or as much of it as there is.
+fn size_from<T>(
+    board: &GridView<'_, T>,
+    at: (usize, usize),
+    size: (usize, usize),
+    whole: bool,
+) -> (usize, usize)
+    requires row_in { at.0 < row_count board.now.rows }
+    requires col_in { at.1 < col_count board.now.rows }
+    requires fits { IsTrue whole → (at.0 + size.0 ≤ row_count board.now.rows)
+        × (at.1 + size.1 ≤ col_count board.now.rows) }
+    ensures { result ≡ (
+      min size.0 (row_count board.now.rows - at.0),
+      min size.1 (col_count board.now.rows - at.1),
+    ) }
+{
+    if whole {
+        return size;
+    }
+    let (rows, cols) = board.size();
+    (size.0.min(rows - at.0), size.1.min(cols - at.1))
 }
 
 // Returns the part from a position on, of this size or as much of it as there is.
@@ -133,15 +163,17 @@ fn part_from<'a, T>(
     board: &GridView<'a, T>,
     at: (usize, usize),
     size: (usize, usize),
+    whole: bool,
 ) -> GridView<'a, T>
     requires tall { 0 < size.0 }
     requires wide { 0 < size.1 }
     requires row_in { at.0 < row_count board.now.rows }
     requires col_in { at.1 < col_count board.now.rows }
+    requires fits { IsTrue whole → (at.0 + size.0 ≤ row_count board.now.rows)
+        × (at.1 + size.1 ≤ col_count board.now.rows) }
     ensures { result.rows ≡ part_of board.now.rows at size }
 {
-    let (rows, cols) = board.size();
-    board.part(at, (size.0.min(rows - at.0), size.1.min(cols - at.1)))
+    board.part(at, size_from(board, at, size, whole))
 }
 
 impl<'a, T> PartIter<'a, T> {
@@ -155,9 +187,36 @@ impl<'a, T> PartIter<'a, T> {
             (λ part. slice_get self.old n ≡ Some part.rows) }
         ensures rest { self.new ≡ drop (n + 1) self.old }
     {
-        let left = self.len().saturating_sub(n);
-        self.ahead.start = self.ahead.end - left;
+        self.skip(n);
         self.next()
+    }
+
+    // Skips `n` parts, or all where fewer remain.
+    fn skip(&mut self, n: usize)
+        ensures { self.new ≡ drop n self.old }
+    {
+        if self.left <= n {
+            self.left = 0;
+            return;
+        }
+        let number = self.row * self.count.1 + self.col + n;
+        self.row = number / self.count.1;
+        self.col = number % self.count.1;
+        self.left -= n;
+    }
+}
+
+// Returns the row and the column of the part that comes after one, where there are `cols` side by side.
+fn place_after(cols: usize, row: usize, col: usize) -> (usize, usize)
+    requires col_in { col < cols }
+    requires fits { row * cols + col + 1 < 2 ^ 64 }
+    ensures col_in { result.1 < cols }
+    ensures after { result.0 * cols + result.1 ≡ row * cols + col + 1 }
+{
+    if col + 1 < cols {
+        (row, col + 1)
+    } else {
+        (row + 1, 0)
     }
 }
 
@@ -169,12 +228,16 @@ impl<'a, T> Iterator for PartIter<'a, T> {
     ghost remaining = { item_count (λ rest. rest) };
 
     fn next(&mut self) -> Option<GridView<'a, T>> {
-        let k = self.ahead.next()?;
-        let at = (
-            k / self.count.1 * self.step.0,
-            k % self.count.1 * self.step.1,
-        );
-        Some(part_from(&self.board, at, self.size))
+        if self.left == 0 {
+            return None;
+        }
+        let at = (self.row * self.step.0, self.col * self.step.1);
+        let part = part_from(&self.board, at, self.size, self.whole);
+        let (row, col) = place_after(self.count.1, self.row, self.col);
+        self.row = row;
+        self.col = col;
+        self.left -= 1;
+        Some(part)
     }
 
     fn size_hint(&self) -> (usize, Option<usize>)
@@ -191,18 +254,22 @@ impl<'a, T> DoubleEndedIterator for PartIter<'a, T> {
     ghost next_back_gives = { YieldsLastBy (λ part. part.rows) (λ rest. rest) };
 
     fn next_back(&mut self) -> Option<GridView<'a, T>> {
-        let k = self.ahead.next_back()?;
+        if self.left == 0 {
+            return None;
+        }
+        self.left -= 1;
+        let number = self.row * self.count.1 + self.col + self.left;
         let at = (
-            k / self.count.1 * self.step.0,
-            k % self.count.1 * self.step.1,
+            number / self.count.1 * self.step.0,
+            number % self.count.1 * self.step.1,
         );
-        Some(part_from(&self.board, at, self.size))
+        Some(part_from(&self.board, at, self.size, self.whole))
     }
 }
 
 impl<'a, T> ExactSizeIterator for PartIter<'a, T> {
     fn len(&self) -> usize {
-        self.ahead.len()
+        self.left
     }
 }
 
@@ -221,8 +288,11 @@ impl<'a, T> Clone for PartIter<'a, T> {
             board: self.board.view(),
             step: self.step,
             size: self.size,
+            whole: self.whole,
             count: self.count,
-            ahead: self.ahead.start..self.ahead.end,
+            row: self.row,
+            col: self.col,
+            left: self.left,
         })
     }
 }

@@ -59,8 +59,10 @@ fn update_rows<T: Drop, U, F: Fn(&T, &U) -> T>(cells: &mut [T], other: &GridView
         update_stored(cells, 0, others, f);
         return;
     }
-    for r in 0..other.rows() {
-        update_row(cells, other, r, f);
+    // a copy that no write to the cells can change, so that it stays in registers
+    let seen = other.view();
+    for r in 0..seen.rows() {
+        update_row(cells, &seen, r, f);
     }
 }
 
@@ -111,9 +113,7 @@ fn update_seen<T: Drop, U, F: Fn(&T, &U) -> T>(
     ensures { Replaced F.post f.now start (col_count other.now.rows) (row other.now.rows r)
         cells.old cells.new }
 {
-    // a copy that no write to the cells can change, so that it stays in registers
-    let seen = other.view();
-    for col in 0..seen.cols() {
-        cells[start + col] = f(&cells[start + col], seen.get_unchecked(r, col));
+    for col in 0..other.cols() {
+        cells[start + col] = f(&cells[start + col], other.get_unchecked(r, col));
     }
 }

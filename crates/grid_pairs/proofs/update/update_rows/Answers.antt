@@ -21,4 +21,4 @@ returns-in-Some g c =
     replaced_whole u.rows c.args.cells.now u.table _ _ _ (rw c.in-Some.ensures at c.update_stored.ensures)
 
 pub loop-r-preserved : goal.loop-r-preserved
-loop-r-preserved g c = rows_more _ _ c.loop-r.r _ _ _ _ c.loop-r.invariant c.update_row.ensures
+loop-r-preserved g c = rows_more _ _ c.loop-r.r _ _ _ _ c.loop-r.invariant (rw c.view-seen.ensures at c.update_row.ensures)

@@ -1,16 +1,14 @@
-use Rattle.std.proofs.Common.{sym, ◌∙◌, arith, []}
-use Rattle.grid_base.proofs.RemainingLemmas.{remaining_next_back}
+use Rattle.std.proofs.Common.{◌<◌, sym, ◌∙◌, arith}
 use Rattle.grid_view.proofs.PlacedLemmas.{shorter_back}
-use Rattle.grid_pairs.proofs.PartLemmas.{length-parts, get_parts}
+use Rattle.grid_pairs.proofs.PartLemmas.{last_parts}
 use Rattle.grid_pairs.proofs.parts.PartIterDoubleEndedIterator.next_back.Goals as goal
 
 pub returns-clause-steps : goal.returns-clause-steps
 returns-clause-steps g c =
-    let i = c.self.inside in
-    let s = c.in_ok-k.ensures.steps in
+    let s = c.self.inside in
+    let some : 0 < s.left = omega (arith, c.if-self-eq0.false) in
     sym c.self.view_is
-    ∙ remaining_next_back _ _ _ _ _ _ _ _ [] c.self.invariant.left (sym (length-parts i.board.rows i.step i.size i.count)) (omega (arith, s)) (omega (arith, s)) (omega (arith, s)) (omega (arith, s))
-    (c.part_from.ensures ∙ sym (get_parts i.board.rows i.step i.size i.count c.in_ok-k.k (omega (arith, s, c.self.invariant.left.within))))
+    ∙ last_parts s.board.rows s.step s.size s.whole s.count s.row s.col s.left c.self.invariant some c.part_from.result.rows c.part_from.ensures
 
 pub returns-clause-goes : goal.returns-clause-goes
 returns-clause-goes g c =
