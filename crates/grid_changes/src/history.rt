@@ -24,7 +24,7 @@ use std::marker::Model;
 #[derive(Drop)]
 pub struct History<T, A: Allocator = Global> {
     grid: Grid<T, A>,
-    // What takes the steps back that were done, the oldest first; behind these, what does those again that were undone,
+    // What takes the steps back that were done, the oldest first; after these, what does those again that were undone,
     // the last undone first.
     steps: Vec<Change<T, A>, A>,
     done: usize,

@@ -19,7 +19,7 @@ module _ {F A B : Type 0} (takes : F → Bor A → Bor B → Type 0) (f : F) whe
         → cell u i j ≡ Some q.now → takes f p q
 
 module _ {F A B C : Type 0} (returns : F → Bor A → Bor B → C → Type 0) (f : F) where
-  -- behind the old items come n answers, at the first items of two lists
+  -- after the old items come n answers, at the first items of two lists
   pub record Appended (n : ℕ) (xs : List A) (ys : List B) (old new : List C) : Type 0 where
     pub len : length new ≡ length old + n
     pub kept : (k : ℕ) → k < length old → slice_get new k ≡ slice_get old k

@@ -16,7 +16,7 @@ ghost use Rattle.std.specs.Prelude.{◌≡◌, ◌<◌, ◌+◌, ◌-◌, ◌^�
 use std::mem;
 
 // The swaps of one run so far. A run has fewer than 2^64 swaps, so its counts never saturate. They are held by value
-// and not behind the tally's reference, so that the compiler makes vector code of the loop.
+// and not through the tally's reference, so that the compiler makes vector code of the loop.
 pub(crate) struct Swaps {
     for_symmetry: usize,
     for_shift: usize,
