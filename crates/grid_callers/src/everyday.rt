@@ -107,7 +107,9 @@ pub struct Level {
 pub fn clear_walls(level: &mut Level) -> usize {
     let mut found = 0usize;
     for at in level.walls.indices() {
-        if level.walls[at] && level.items.set_at(at, None).flatten().is_some() {
+        if level.walls.get_at(at) == Some(&true)
+            && level.items.set_at(at, None).flatten().is_some()
+        {
             found = found.saturating_add(1);
         }
     }
