@@ -116,7 +116,7 @@ pub fn clear_walls(level: &mut Level) -> usize {
     found
 }
 
-/// Sorts each column so that what falls lies at the end: swaps a cell that is full with an empty one below it.
+/// Lets what is full fall, in one pass: swaps each full cell with an empty one below it.
 pub fn fall(board: &mut Grid<bool>) {
     for (row, col) in board.indices() {
         let (here, below) = ((row, col), (row.saturating_add(1), col));
