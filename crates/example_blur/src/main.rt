@@ -1,7 +1,7 @@
-//! Box blur: each cell of the gray picture on standard input becomes the mean of the cells at most a radius away, down and
-//! across. From sums of the picture a mean takes the same time at every radius; the plain way adds up all those cells. Writes
-//! the pictures that the first way makes, and whether the second makes them too. A picture that can't be read ends it with
-//! status 2.
+//! Box blur: each cell of the gray picture on standard input becomes the mean of the cells at most a radius away, down
+//! and across. From sums of the picture a mean takes the same time at every radius; the plain way adds up all those
+//! cells. Writes the pictures that the first way makes, and whether the second makes them too. A picture that can't be
+//! read ends it with status 2.
 #![tactic(auto)]
 
 ghost use Rattle.std.specs.Prelude.{◌+◌, ◌<◌, ◌≤◌};

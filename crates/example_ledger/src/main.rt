@@ -1,5 +1,6 @@
-//! A ledger of names and amounts: reads it as CSV with a header, sorts it by the amount, the largest first, and prints it
-//! as CSV with the total in a last row. What is wrong with a record is named on standard error, and the status is 2 then.
+//! A ledger of names and amounts: reads it as CSV with a header, sorts it by the amount, the largest first, and prints
+//! it as CSV with the total in a last row. What is wrong with a record is named on standard error, and the status is 2
+//! then.
 #![tactic(auto)]
 
 use anyhow::{Result, bail};

@@ -1,5 +1,5 @@
-//! Noughts and crosses, solved. Boards that a turn or a flip takes to one another are one, so a table of canonical forms
-//! has 765 boards instead of 5,478.
+//! Noughts and crosses, solved. Boards that a turn or a flip takes to one another are one, so a table of canonical
+//! forms has 765 boards instead of 5,478.
 #![tactic(auto)]
 
 use anyhow::Result;
@@ -69,8 +69,8 @@ fn layers(alloc: Global) -> Result<Vec<HashSet<Board>>> {
     Ok(layers)
 }
 
-// What a board with `n` marks is worth to who moves next: 1 if won, 0 if drawn, -1 if lost. The table has the boards after
-// each move.
+// What a board with `n` marks is worth to who moves next: 1 if won, 0 if drawn, -1 if lost. The table has the boards
+// after each move.
 fn worth(alloc: Global, board: &Board, n: usize, table: &HashMap<Board, i8>) -> Result<i8> {
     let boards = moves(alloc, board, n)?;
     if boards.is_empty() {

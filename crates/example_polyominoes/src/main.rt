@@ -1,6 +1,6 @@
-//! Counts the polyominoes of up to six cells, and draws the pentominoes. Each free kind is kept as its canonical form, so a
-//! set holds it once. It has as many fixed shapes as different images, and is two one-sided kinds where no flip leaves it
-//! as it is.
+//! Counts the polyominoes of up to six cells, and draws the pentominoes. Each free kind is kept as its canonical form,
+//! so a set holds it once. It has as many fixed shapes as different images, and is two one-sided kinds where no flip
+//! leaves it as it is.
 #![tactic(auto)]
 
 ghost use Rattle.std.specs.Prelude.{◌≡◌, ◌∷◌, []};

@@ -1,6 +1,6 @@
-//! Sudoku: reads a puzzle and its solution from standard input, nine rows each, `.` where a cell is free. Says which givens
-//! the solution changes, and which of its rows, columns and boxes lack a digit. Two boards that can't be read end it with
-//! status 2.
+//! Sudoku: reads a puzzle and its solution from standard input, nine rows each, `.` where a cell is free. Says which
+//! givens the solution changes, and which of its rows, columns and boxes lack a digit. Two boards that can't be read
+//! end it with status 2.
 #![tactic(auto)]
 
 use anyhow::{Result, bail};

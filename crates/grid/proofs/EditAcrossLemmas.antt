@@ -1,5 +1,5 @@
--- Edits of lines that aren't refused: they fit, a table stays one, and those of columns are those of rows of the transposed
--- table.
+-- Edits of lines that aren't refused: they fit, a table stays one, and those of columns are those of rows of the
+-- transposed table.
 use Rattle.std.proofs.Common.{◌≡◌, ℕ, zero, suc, ◌+◌, ◌-◌, ◌<◌, Bool, true, false, not, Some, None, List, [], ◌∷◌, length, nat_eq, nat_lt, if◌then◌else◌, refl, sym, ◌∙◌, ap, arith, ⊎_elim, ◌≤◌, subst, Option, slice_get, eqb-true, ne_eqb, lt-ltb, le-ltb, ltb-false}
 use Rattle.grid.proofs.Common.{list_any, list_all, cases_lt, and_parts, or_parts, eqb-false, row, row_count, col_count, IsTable, act, Edit, read, push, insert_at, insert_all, pop, remove_at, delete_at, delete_range, expand, prepend, lines, fitting_width, lines_refusal, edit_refusal, unless_refused, IsTable-act, act_is_transposed, line_is, refused, Effect, nothing, inserts, removes, range_effect, effect, after_effect, edit_reply, line_at, pads_end, pads_front, step_rows, step_reply, IsSize-table}
 use Rattle.grid_commands.specs.declared.command.Refusal.TheVariants.{EmptyLine, Length, Index, TooLarge}

@@ -55,11 +55,10 @@ pub use Rattle.grid_near.specs.NearCounts.{CallableNear, CountsNear}
 unfoldable pub use Rattle.grid_near.specs.Neighbors.{neighbors4, neighbors8, wrapped_neighbors4, wrapped_neighbors8}
 pub use Rattle.grid_near.specs.Neighbors.{neighbors_of, wrapped_neighbors_of, around_of, step_count, GivesNear, placed, around4, around8, before, cell_at}
 pub use Rattle.grid_view.specs.Found.{CallableAtCells, AnswersAt, FoundFirst, FoundAll}
-pub use Rattle.grid_view.specs.Lines.{directed}
 pub use Rattle.grid_view.specs.Nearest.{nearest_below}
 pub use Rattle.grid_view.specs.Same.{same_rows, same_view, same_view_per, same_view_equiv}
 pub use Rattle.grid_view.specs.Texts.{table_text, rows_text, items_text, lines_text, numbers, longest, row_line, width_or_longest, pretty_text}
-pub use Rattle.grid_view.specs.View.{sub_table, counted, turned, cut, first_of}
+pub use Rattle.grid_view.specs.View.{sub_table, turned, cut, first_of}
 pub use Rattle.std.specs.Borrow.{sem}
 pub use Rattle.std.specs.Fmt.{DisplaysOnOk}
 pub use Rattle.std.specs.Fn.{FnReturnsAt}

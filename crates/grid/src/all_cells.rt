@@ -1,4 +1,5 @@
-//! Calls on all cells of a grid: `fill` and `fill_with`, `map`, `map_ref`, `map_indexed` and `try_map_indexed`, `update`.
+//! Calls on all cells of a grid: `fill` and `fill_with`, `map`, `map_ref`, `map_indexed` and `try_map_indexed`,
+//! `update`.
 ghost use Rattle.std.specs.Prelude.{◌≡◌, [], ⊤, length, Ok, IsOk, IfOk, IfErr, OnOk, OnErr};
 ghost use Rattle.grid.specs.Prelude.{row_count, col_count, SameSizeAndOrder, storage, MapsTo, CallableAtEach, CallableAtRefs, CallableTimes, Generates, PairsUp, ClonesAreEqual, FnReturnsAt, filled, CallableAtPositions, MappedBy, ReachesThere, ReturnsThere, FailsAt};
 ghost use Rattle.grid_commands.specs.declared.error.GridError.TheVariants.{Memory};
@@ -12,8 +13,8 @@ impl<T, A: Allocator> Grid<T, A> {
     ///
     ///     [[1, 2], [3, 4]]   fill(7)   [[7, 7], [7, 7]]
     ///
-    /// Where the cells are `Copy`, [`fill_with(|| value)`](Grid::fill_with) does the same, is faster, takes no memory and
-    /// never fails.
+    /// Where the cells are `Copy`, [`fill_with(|| value)`](Grid::fill_with) does the same, is faster, takes no memory
+    /// and never fails.
     ///
     /// Requires: clones of the cell type equal their source. Where they needn't, as for cells that hold a `String`,
     /// call [`step`](Grid::step) with [`Command::Fill`](crate::Command::Fill).
@@ -196,8 +197,8 @@ impl<T, A: Allocator> Grid<T, A> {
         }
     }
 
-    /// Replaces each cell by what the closure returns at its position and a reference to it, in storage order. The size and
-    /// the order stay.
+    /// Replaces each cell by what the closure returns at its position and a reference to it, in storage order. The size
+    /// and the order stay.
     ///
     ///     [[1, 2], [3, 4]]   update(|(row, col), x| row * 10 + col + *x)   [[1, 3], [13, 15]]
     ///

@@ -6,7 +6,7 @@ mod lines;
 
 use crate::Grid;
 use grid_base::{IndexedIntoIter, IndexedIter, IndexedIterMut, Layout};
-pub use lines::GridColIter;
+pub use lines::{GridColIter, GridRowIter};
 use std::alloc::Allocator;
 use std::{slice, vec};
 

@@ -64,8 +64,8 @@ pub use convert::can_cut;
 pub use edits::GridRefused;
 pub use grid::Grid;
 pub use grid_base::{
-    GridLineIter, GridLineIterMut, GridRowIter, IndexedIntoIter, IndexedIter, IndexedIterMut, Move,
-    Order, Positions, Symmetry, Tally, Whole, reduce,
+    GridLineIter, GridLineIterMut, IndexedIntoIter, IndexedIter, IndexedIterMut, Move, Order,
+    Positions, Symmetry, Tally, Whole, reduce,
 };
 pub use grid_commands::{
     Axis, Command, GridError, LineRefused, LinesRefused, Refusal, Reply, RunStopped, ShapeError,
@@ -74,4 +74,4 @@ pub use grid_near::{Direction, Neighbors, WrappedNeighbors};
 pub use grid_view::{
     AsView, GridView, GridViewMut, ViewIndexedIter, ViewIter, ViewLineIter, ViewRowIter, same_cells,
 };
-pub use iterators::GridColIter;
+pub use iterators::{GridColIter, GridRowIter};

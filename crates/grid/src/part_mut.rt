@@ -29,8 +29,8 @@ impl<T, A: Allocator> Grid<T, A> {
         self.part_mut((0, 0), size)
     }
 
-    /// Returns the `size.0` rows and `size.1` columns from position `at` on, for writing, as a value of its own. Without rows or
-    /// without columns it is empty. The other cells stay, and so do the size and the order.
+    /// Returns the `size.0` rows and `size.1` columns from position `at` on, for writing, as a value of its own.
+    /// Without rows or without columns it is empty. The other cells stay, and so do the size and the order.
     ///
     ///     [[1, 2, 3], [4, 5, 6]]   part_mut((0, 1), (2, 2)).set(1, 0, 9)   [[1, 2, 3], [4, 9, 6]]
     ///

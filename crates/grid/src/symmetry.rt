@@ -129,8 +129,8 @@ impl<T, A: Allocator> Grid<T, A> {
         self.flip_counted(rows, cols, tally);
     }
 
-    // Flips the rows, the columns, or both in one pass. Columns are the rows of the transposed table, which the same vector
-    // stores in the other order.
+    // Flips the rows, the columns, or both in one pass. Columns are the rows of the transposed table, which the same
+    // vector stores in the other order.
     fn flip_counted(&mut self, rows: bool, cols: bool, tally: &mut Tally)
         ensures rows { self.new.rows ≡ act (from_flags false rows cols) self.old.rows }
         ensures order { self.new.order ≡ self.old.order }

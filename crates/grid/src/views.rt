@@ -21,8 +21,8 @@ impl<T, A: Allocator> Grid<T, A> {
         )
     }
 
-    /// Returns a view of the `size.0` rows and `size.1` columns from position `at` on. Without rows or without columns it
-    /// is empty.
+    /// Returns a view of the `size.0` rows and `size.1` columns from position `at` on. Without rows or without columns
+    /// it is empty.
     ///
     ///     [[1, 2, 3], [4, 5, 6]]   part((0, 1), (2, 2))   [[2, 3], [5, 6]]
     ///
@@ -81,13 +81,14 @@ impl<T, A: Allocator> Grid<T, A> {
         Ok(Grid::from_vec_with_order(cells, view.cols(), order))
     }
 
-    /// Returns the grid, in an order, of what the closure, called in storage order, returns for each position of a board
-    /// and a reference to the cell there. The board is a grid, a part, a turned or a deferred one; it is not copied.
+    /// Returns the grid, in an order, of what the closure, called in storage order, returns for each position of a
+    /// board and a reference to the cell there. The board is a grid, a part, a turned or a deferred one; it is not
+    /// copied.
     ///
     ///     map_view(ColumnMajor, [[1, 2], [3, 4]], |(row, col), x| row * 10 + col + *x)   [[1, 3], [13, 15]]
     ///
-    /// It is for any board what [`map_indexed`](Grid::map_indexed) is for a grid. A search over a part begins with it: make the
-    /// grid of what the search asks of each cell, and hand it that.
+    /// It is for any board what [`map_indexed`](Grid::map_indexed) is for a grid. A search over a part begins with it:
+    /// make the grid of what the search asks of each cell, and hand it that.
     ///
     /// Requires: the closure can be called at each position and a reference to the cell there.
     /// Fails: if allocation fails; the closure wasn't called.

@@ -18,6 +18,7 @@ pub use Rattle.grid_base.specs.Groups.{Woven, Widened, Opened, TakenOut, Closed}
 pub use Rattle.grid_base.specs.IndexedIterators.{GivesCells, GivesOwnedCells, GivesMutCells, IsCellAt}
 pub use Rattle.grid_base.specs.Layout.{positions_of, lines_of}
 pub use Rattle.grid_base.specs.LineCells.{cells_left}
+pub use Rattle.grid_base.specs.Lines.{counted, line_cells}
 pub use Rattle.grid_base.specs.Move.{of_move, word_image, IsNormalForm, ActAlike}
 pub use Rattle.grid_base.specs.Order.{storage, flipped, place, table_of, CanCut}
 unfoldable pub use Rattle.grid_base.specs.Positions.{positions}
@@ -25,7 +26,7 @@ pub use Rattle.grid_base.specs.Positions.{StandsAt, along}
 pub use Rattle.grid_base.specs.InPlace.{Mirrored, TransposedInPlace}
 pub use Rattle.grid_base.specs.Remaining.{IsRemaining, remaining}
 pub use Rattle.grid_base.specs.Span.{IsSpan}
-pub use Rattle.grid_base.specs.Strides.{strided, every, strided_remaining, IsLine, LinesInOrder, LinesInReverse, EachLineInOrder, EachLineInReverse}
+pub use Rattle.grid_base.specs.Strides.{strided, every, LinesInOrder, LinesInReverse, EachLineInOrder, EachLineInReverse}
 unfoldable pub use Rattle.grid_base.specs.Symmetry.{act, symmetry_of}
 pub use Rattle.grid_base.specs.Symmetry.{source_row, source_col, image_rows, image_cols, transposes, act_all, test_table, symmetries, order_after, IsThen, IsInverse, half, price, IsUndoneAt}
 unfoldable pub use Rattle.grid_base.specs.Table.{tabulate, cells_by}

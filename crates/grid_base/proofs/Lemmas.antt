@@ -17,7 +17,8 @@ pub use Rattle.grid_base.proofs.SpanLemmas.{span_within, row_is, first_place, sp
 pub use Rattle.grid_base.proofs.SpreadLemmas.{first_line, spread, times_less, opening_none, opening_run, opening_end, Opening, closing_none, closing_run, closing_end, Closing, closed_by_reversals}
 pub use Rattle.grid_base.proofs.SquareLemmas.{mirrored_below, mirrored_one, mirrored_beside}
 pub use Rattle.grid_base.proofs.StorageLemmas.{length-concat_rows}
-pub use Rattle.grid_base.proofs.StrideLemmas.{lines_in_order, lines_in_reverse, line_within, each_line_in_order, each_line_in_reverse, nth_found, every_one, line_step, length-strided, nth_row_found, line_all, remaining_line, line_last, line_first}
+pub use Rattle.grid_base.proofs.StrideLemmas.{lines_in_order, lines_in_reverse, each_line_in_order, each_line_in_reverse, nth_found, line_step, length-strided, nth_row_found}
+pub use Rattle.grid_base.proofs.SteppedLemmas.{backwards_first, backwards_last, drop-reverse, length-line_cells, side_by_side, side_reversed}
 pub use Rattle.grid_base.proofs.SwapLemmas.{swap_parts}
 pub use Rattle.grid_base.proofs.UpdateLemmas.{callable_from, updated_join, updated_all, updated_cell}
 pub use Rattle.grid_base.proofs.ViewLemmas.{view-rows}

@@ -3,8 +3,8 @@ use Rattle.std.proofs.Common.{subst, ◌≡◌, ℕ, ◌+◌, ◌-◌, ◌*◌, 
 use Rattle.grid_base.proofs.Common.{cases_lt, cases_eq, BlocksExchanged, Woven}
 use Rattle.grid_base.proofs.SpreadLemmas.{spread, spread_start, spread_run, widened_by_spread}
 
--- the groups before line g are at their places, and so are the cells of the lines up to there; the other cells of the lines
--- are after them, and the other groups have not moved
+-- the groups before line g are at their places, and so are the cells of the lines up to there; the other cells of the
+-- lines are after them, and the other groups have not moved
 pub record Bringing {T : Type 0} (p q i k g : ℕ) (old now : List T) : Type 0 where
   pub length_stays : length now ≡ length old
   pub placed : (y : ℕ) → y < p * q → y < i + g * q → (spread q i k y < i + g * (q + k)) × (slice_get now (spread q i k y) ≡ slice_get old y)

@@ -1,5 +1,5 @@
 -- The rows of a stored table as lines of its storage; of this crate alone.
-use Rattle.std.proofs.Common.{◌≡◌, ℕ, ◌+◌, ◌-◌, ◌*◌, ◌/◌, ◌<◌, ◌≤◌, List, ◌++◌, length, take, drop, refl, sym, ◌∙◌, ap, arith, mul-le-mul_right, take-append-drop, length-drop, length-take-le, slice_get}
+use Rattle.std.proofs.Common.{◌≡◌, ℕ, ◌+◌, ◌-◌, ◌*◌, ◌/◌, ◌<◌, ◌≤◌, List, ◌++◌, length, take, drop, sym, ◌∙◌, ap, arith, mul-le-mul_right, take-append-drop, length-drop, length-take-le, slice_get}
 use Rattle.grid_base.proofs.Common.{take-append_seam, refill, written_from, div-mul-add, div_ceil, row, place, table_of, HoldsSize, strided, IsSpan}
 use Rattle.grid_base.specs.declared.order.Order.{Order}
 use Rattle.grid_base.specs.declared.flat.span.Span.{Span}
@@ -9,11 +9,10 @@ use Rattle.grid_base.proofs.StrideLemmas.{get-strided, length-line_of, ceil_is}
 use Rattle.grid_base.proofs.ViewLemmas.{view-cell}
 
 -- a line whose cells are one after another
-pub together_is : (p q i : ℕ) → i < p → IsSpan q (λ k. i * q + k) (p * q) (record { start = i * q; end = i * q + q; stride = 1; count = q })
+pub together_is : (p q i : ℕ) → i < p → IsSpan q (λ k. i * q + k) (p * q) (record { start = i * q; end = i * q + q; stride = 1 })
 together_is p q i h =
     let all : (i + 1) * q ≤ p * q = mul-le-mul_right q (omega arith) in
     record {
-      len = refl;
       steps = omega arith;
       ordered = omega arith;
       within = omega (arith, all);
@@ -32,11 +31,10 @@ steps_across p q i some h =
     ∙ (sym (ceil_is (p * q - i) (q - 1)) ∙ (ap (λ x. x / (q - 1 + 1)) e ∙ div-mul-add p (q - 1 + 1) (q - 1 - i) (omega arith)))
 
 -- one cell of each line
-pub across_is : (p q i : ℕ) → 0 < p → i < q → IsSpan p (λ k. k * q + i) (p * q) (record { start = i; end = p * q; stride = q; count = p })
+pub across_is : (p q i : ℕ) → 0 < p → i < q → IsSpan p (λ k. k * q + i) (p * q) (record { start = i; end = p * q; stride = q })
 across_is p q i some h =
     let all : 1 * q ≤ p * q = mul-le-mul_right q some in
     record {
-      len = refl;
       steps = omega arith;
       ordered = omega (arith, all);
       within = omega arith;

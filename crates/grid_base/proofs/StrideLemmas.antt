@@ -1,9 +1,8 @@
 -- The cells of a list at a stride, and the iterators over them.
-use Rattle.std.proofs.Common.{◌≡◌, ℕ, zero, suc, ◌+◌, ◌-◌, ◌*◌, ◌/◌, ◌%◌, ◌<◌, ◌≤◌, List, [], ◌∷◌, ◌++◌, Some, None, take, drop, length, refl, ap, sym, ◌∙◌, arith, get_or, length-drop, length-take, ⊎_elim, slice_get, drop-drop, div-add-mod', unwrap_or, option_copied, Bor}
-use Rattle.grid_base.proofs.Common.{add-div_right, div-eq_of_lt, div_ceil, div-mul-add, mod_below, cases_eq, YieldsFirst, YieldsLast, YieldsFirstRef, YieldsLastRef, from_front, from_back, as_is, as_is_back, unwrap_or-slice_get, every, strided, strided_remaining, IsLine, LinesInOrder, LinesInReverse, EachLineInOrder, EachLineInReverse}
+use Rattle.std.proofs.Common.{◌≡◌, ℕ, zero, suc, ◌+◌, ◌-◌, ◌*◌, ◌/◌, ◌%◌, ◌<◌, ◌≤◌, List, [], ◌∷◌, Some, None, take, drop, length, refl, ap, sym, ◌∙◌, arith, length-drop, length-take, ⊎_elim, slice_get, drop-drop, div-add-mod', option_copied, Bor}
+use Rattle.grid_base.proofs.Common.{add-div_right, div-eq_of_lt, div_ceil, div-mul-add, mod_below, cases_eq, YieldsFirst, YieldsLast, YieldsFirstRef, YieldsLastRef, from_front, from_back, as_is, as_is_back, every, strided, LinesInOrder, LinesInReverse, EachLineInOrder, EachLineInReverse}
 use Rattle.std.specs.declared.option.Option.{Option}
 use Rattle.grid_base.proofs.StorageLemmas.{get-take, get-drop}
-use Rattle.grid_base.proofs.RemainingLemmas.{remaining_all, remaining_next, remaining_next_back}
 
 -- ---- an iterator for writing
 
@@ -101,53 +100,6 @@ module _ (X : Type 0) where
 
   pub each_line_in_reverse : EachLineInReverse X
   each_line_in_reverse p s = as_is_back p p.from (from_back (YieldsLast (λ (rest : List (List X)). rest)) (λ y. y) (λ rest. rest) (λ s t h. ap length h.0) (λ s x t h. h) p s)
-
--- where a number of such a cell is
-every_within : {X : Type 0} (xs : List X) (k g j : ℕ) → j < length (every k g xs) → k + j * (g + 1) < length xs
-every_within [] k g j h = absurd (omega arith)
-every_within (x ∷ xs) zero g zero h = omega arith
-every_within (x ∷ xs) zero g (suc j) h = omega (arith, every_within xs g g j (omega arith))
-every_within (x ∷ xs) (suc k) g j h = omega (arith, every_within xs k g j h)
-
-module _ {X : Type 0} (stride first past : ℕ) (xs : List X) (h : IsLine stride first past xs) where
-  abbrev line : List X
-  line = every 0 (stride - 1) xs
-
-  step_is : (j : ℕ) → j * stride ≡ j * (stride - 1 + 1)
-  step_is j = let one : stride ≡ stride - 1 + 1 = omega (arith, h.steps) in ap (λ x. j * x) one
-
-  -- a cell that is left is within the list
-  pub line_within : (j : ℕ) → j < past → j * stride < length xs
-  line_within j lt = omega (arith, every_within xs 0 (stride - 1) j (omega (arith, h.remaining.within)), step_is j)
-
-  get-line : (j : ℕ) (d : X) → get_or line j d ≡ get_or xs (j * stride) d
-  get-line j d =
-      sym (unwrap_or-slice_get line j d)
-      ∙ (ap (λ o. unwrap_or o d) (get-every xs 0 (stride - 1) j (j * stride) (omega (arith, step_is j))) ∙ unwrap_or-slice_get xs (j * stride) d)
-
-  -- the first cell that is left, and the others
-  pub line_first : (j u v : ℕ) (d : X) → first < past → j ≡ first → u ≡ first + 1 → v ≡ past → strided_remaining stride first past xs ≡ get_or xs (j * stride) d ∷ strided_remaining stride u v xs
-  line_first j u v d lt ej eu ev = remaining_next first past _ j u v line (get_or xs (j * stride) d) d h.remaining refl lt ej eu ev (sym (get-line j d))
-
-  -- the last cell that is left, and the others
-  pub line_last : (j u v : ℕ) (d : X) → first < past → j ≡ past - 1 → u ≡ first → v ≡ past - 1 → strided_remaining stride first past xs ≡ strided_remaining stride u v xs ++ get_or xs (j * stride) d ∷ []
-  line_last j u v d lt ej eu ev = remaining_next_back first past _ j u v line (get_or xs (j * stride) d) d h.remaining refl lt ej eu ev (sym (get-line j d))
-
--- an iterator along all of them
-module _ {X : Type 0} (stride n : ℕ) (xs : List X) (p : 0 < stride) (e : n ≡ div_ceil (length xs) stride) where
-  pub line_all : IsLine stride 0 n xs
-  line_all = record { steps = p; remaining = record { ordered = omega arith; within = omega (arith, length-strided stride xs p) } }
-
-  pub remaining_line : strided_remaining stride 0 n xs ≡ every 0 (stride - 1) xs
-  remaining_line = remaining_all n (every 0 (stride - 1) xs) (omega (arith, length-strided stride xs p))
-
-every_all : {X : Type 0} (xs : List X) → every 0 0 xs ≡ xs
-every_all [] = refl
-every_all (x ∷ xs) = ap (λ l. x ∷ l) (every_all xs)
-
--- cells that are side by side are all of them
-pub every_one : {X : Type 0} (stride : ℕ) (xs : List X) → stride ≡ 1 → every 0 (stride - 1) xs ≡ xs
-every_one stride xs e = rw e (every_all xs)
 
 -- the first cell after n others
 pub nth_found : {X : Type 0} (n : ℕ) (xs mid rest : List X) (r : Option (Bor X)) → mid ≡ drop n xs → YieldsFirstRef (λ (l : List X). l) mid r rest → (option_copied r ≡ slice_get xs n) × (rest ≡ drop (n + 1) xs)

@@ -1,10 +1,11 @@
 -- Lemmas on tables that are given by their cells.
-use Rattle.std.proofs.Common.{◌≡◌, ℕ, zero, suc, ◌+◌, ◌<◌, ◌≤◌, Option, Some, None, List, [], ◌∷◌, length, refl, sym, ◌∙◌, ap, arith, ⊎_elim, IsSome, is_some}
+use Rattle.std.proofs.Common.{◌≡◌, ℕ, zero, suc, ◌+◌, ◌<◌, ◌≤◌, Bool, true, false, Option, Some, None, List, [], ◌∷◌, length, refl, sym, ◌∙◌, ap, arith, ⊎_elim, IsSome, is_some}
 use Rattle.std.specs.List.{filter_map, range_with_len, slice_get, cons_option}
 use Rattle.std.proofs.lemmas.List.{get_or_past, ext_get_or}
 use Rattle.std.proofs.lemmas.List.FromFn.{length-map-range_with_len, get_or-map-range_with_len}
 use Rattle.std.proofs.lemmas.Option.{slice_get_past, slice_get_within}
 use Rattle.std.proofs.lemmas.Bool.{cases_lt}
+use Rattle.grid_base.specs.Lines.{counted}
 use Rattle.grid_base.specs.Table.{row, row_count, col_count, cell, IsTable, IsSize, cells_by, tabulate, transposed, InRange}
 
 pub length_cons : {T : Type 0} (o : Option T) (xs : List T) → IsSome o → length (cons_option o xs) ≡ suc (length xs)
@@ -149,3 +150,8 @@ cell_in_range {T} t h r c x e =
     (lt, ok))
     (λ ge. let none : cell t r c ≡ None = cell_past_rows t r c ge in let clash : ◌≡◌ {A = Option T} None (Some x) = sym none ∙ e in absurd (cc))
     (cases_lt r (row_count t))
+
+-- an index that is counted is within
+pub counted_within : (b : Bool) (n k : ℕ) → k < n → counted b n k < n
+counted_within true n k lt = omega arith
+counted_within false n k lt = lt

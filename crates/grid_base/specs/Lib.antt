@@ -14,10 +14,11 @@ pub mod Append
 pub mod Positions
 pub mod Remaining
 pub mod Strides
+pub mod Lines
+pub mod Stepped
 pub mod Layout
 pub mod LineCells
 pub mod Span
-pub mod RowsLeft
 pub mod GridLineIterMut
 pub mod IndexedIterMut
 pub mod FlatLends

@@ -15,6 +15,7 @@ pub use Rattle.grid_base.specs.IndexedIterMut.{indexed_mut_rest}
 pub use Rattle.grid_base.specs.IndexedIterators.{GivesCells, GivesOwnedCells, GivesMutCells, IsCellAt}
 pub use Rattle.grid_base.specs.Iterators.{GivesLine, GivesIndexed, GivesLines, GivesRefs, GivesMutRefs, GivesOwned, GivesMutIndexed, GivesOwnedIndexed}
 pub use Rattle.grid_base.specs.Layout.{positions_of, lines_of}
+pub use Rattle.grid_base.specs.Lines.{counted, line_cells}
 pub use Rattle.grid_base.specs.Move.{word_image, IsImageByWords, of_move, IsNormalForm, ActAlike}
 pub use Rattle.grid_base.specs.Order.{storage, flipped, place, table_of, CanCut}
 unfoldable pub use Rattle.grid_base.specs.Positions.{positions}

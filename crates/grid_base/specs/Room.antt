@@ -8,7 +8,7 @@ use Rattle.grid_base.specs.declared.flat.room.Way.TheVariants.{In, Out}
 use Rattle.grid_base.specs.Groups.{Woven}
 
 module _ {T : Type 0} where
-  -- the groups went from after the lines into them, or out of them
+  -- the groups come into their lines from after them, or leave them
   abbrev pub GroupsMoved : Way → Groups → List T → List T → Type 0
   GroupsMoved In g old new = Woven g.lines g.width g.at g.count old new
   GroupsMoved Out g old new = Woven g.lines g.width g.at g.count new old

@@ -6,7 +6,6 @@ use Rattle.grid_base.specs.declared.flat.span.Span.{Span}
 -- the n cells at the places `at 0`, .., `at (n - 1)` are a stride apart from start on and before
 -- end, among `cells` cells
 pub record IsSpan (n : ℕ) (at : ℕ → ℕ) (cells : ℕ) (s : Span) : Type 0 where
-  pub len : s.count ≡ n
   pub steps : 0 < s.stride
   pub ordered : s.start ≤ s.end
   pub within : s.end ≤ cells

@@ -1,8 +1,7 @@
--- The cells of a list at a stride, and those that remain of them.
-use Rattle.std.specs.Prelude.{ℕ, zero, suc, ◌-◌, ◌<◌, List, [], ◌∷◌, take, drop, length}
+-- The cells of a list at a stride, and what the iterators over lines give.
+use Rattle.std.specs.Prelude.{ℕ, zero, suc, ◌-◌, List, [], ◌∷◌, take, drop}
 use Rattle.std.specs.Iterator.{YieldsFirst, YieldsLast, YieldsFirstRef, YieldsLastRef}
 use Rattle.std.specs.Iterator.Runs.{YieldsInOrder, YieldsInReverse, YieldsRefsInOrder, YieldsRefsInReverse}
-use Rattle.grid_base.specs.Remaining.{IsRemaining, remaining}
 
 module _ {X : Type 0} where
   -- the item after `skip` others, and from there on each one after `gap` others
@@ -14,15 +13,6 @@ module _ {X : Type 0} where
   -- the cells from start on and before end, each `stride` places after the last
   abbrev pub strided : ℕ → ℕ → ℕ → List X → List X
   strided start end stride xs = every 0 (stride - 1) (take (end - start) (drop start xs))
-
-  -- of the cells that are a stride apart, those from index `first` on and before index `past`
-  abbrev pub strided_remaining : ℕ → ℕ → ℕ → List X → List X
-  strided_remaining stride first past xs = remaining first past (every 0 (stride - 1) xs)
-
--- the stride is not 0, and there are cells of these indices
-pub record IsLine {X : Type 0} (stride first past : ℕ) (xs : List X) : Type 0 where
-  pub steps : 0 < stride
-  pub remaining : IsRemaining first past (length (every 0 (stride - 1) xs))
 
 module _ (X : Type 0) where
   -- each run of an iterator along a line gives the cells that it had left, in order

@@ -13,10 +13,10 @@ mod line_iter_mut;
 mod positions;
 mod room;
 mod rotations;
-mod row_iter;
+mod row_mut;
 mod span;
 mod square;
-mod strided_iter;
+mod stepped_iter;
 mod transpose;
 
 pub(crate) use counted::Swaps;
@@ -25,10 +25,10 @@ pub use indexed::{IndexedIntoIter, IndexedIter, IndexedIterMut};
 pub use line_iter::GridLineIter;
 pub use line_iter_mut::GridLineIterMut;
 pub use positions::Positions;
-pub use row_iter::GridRowIter;
 use std::alloc::{AllocError, Allocator, Global};
 use std::marker::Model;
 use std::slice;
+pub use stepped_iter::SteppedIter;
 
 /// The only holder of a grid's vector, seen as the list of its cells.
 #[derive(Drop)]

@@ -11,8 +11,8 @@ mod whole;
 mod words;
 
 pub use flat::{
-    Flat, GridLineIter, GridLineIterMut, GridRowIter, Groups, IndexedIntoIter, IndexedIter,
-    IndexedIterMut, Positions, weave,
+    Flat, GridLineIter, GridLineIterMut, Groups, IndexedIntoIter, IndexedIter, IndexedIterMut,
+    Positions, SteppedIter, weave,
 };
 pub use layout::Layout;
 pub use order::Order;

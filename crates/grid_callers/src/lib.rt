@@ -18,6 +18,7 @@ pub mod parts;
 pub mod paths;
 pub mod pictures;
 pub mod recursion;
+pub mod rows;
 pub mod sheets;
 pub mod shown;
 pub mod sizes;

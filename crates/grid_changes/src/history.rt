@@ -1,6 +1,6 @@
 //! A grid with the boards before it and those undone.
 ghost use Rattle.std.specs.Prelude.{◌≡◌, ◌<◌, ◌≤◌, ◌-◌, ℕ, [], ◌∷◌, length, take, slice_get, OnOk, OnErr, IfOk, IsSomeAnd, MatchBool, IsTrue, ◌↔◌};
-ghost use Rattle.grid.specs.Prelude.{act, order_after, ClonesAreEqual, command_value, command_symmetry, apply, reply_value, step_rows, step_reply, RowsAreKnown, InRange, with_cell, set_cell, swap_cells};
+ghost use Rattle.grid.specs.Prelude.{act, order_after, ClonesAreEqual, command_value, command_symmetry, apply, reply_value, step_rows, step_reply, RowsAreKnown, InRange, with_cell, set_cell};
 ghost use Rattle.grid_changes.specs.Timeline.{board_of, FirstHasOtherCount, IsBackBy, IsStepOn, IsStepBack, Recorded};
 ghost use Rattle.grid_changes.specs.Change.{Fits, after, is_of_lines};
 ghost use Rattle.grid_changes.specs.Entry.{wants_memory, is_step};
@@ -127,15 +127,15 @@ impl<T, A: Allocator> History<T, A> {
     ///     [[1, 2]]   step(PushRow([3, 4]))   Done             [[1, 2], [3, 4]], a step
     ///     [[1, 2]]   step(PushRow([3]))      Refused(Length)  [[1, 2]], no step
     ///
-    /// A command is a step if it isn't refused and writes cells, applies a symmetry, or puts lines in or takes lines out,
-    /// also where the board happens to be as before; then the board that was is the first of the past, and what was
-    /// undone can't be done again. Any other command, as a read, leaves the history as it was. So do a removal and a
-    /// delete of lines that aren't there, padding that adds none, and a list of no lines.
+    /// A command is a step if it isn't refused and writes cells, applies a symmetry, or puts lines in or takes lines
+    /// out, also where the board happens to be as before; then the board that was is the first of the past, and what
+    /// was undone can't be done again. Any other command, as a read, leaves the history as it was. So do a removal and
+    /// a delete of lines that aren't there, padding that adds none, and a list of no lines.
     ///
     /// Fails: if allocation fails, which comes only at a step, and at a read of a cell or of a line that is there; the
     /// history is unchanged, and the command is dropped.
-    /// Cost: an edit of lines in the middle, up to four swaps for each cell; at the end, row-major, time in the line, as
-    /// for columns, column-major. A removed line is cloned for the reply. A `Fill` makes a new board. The others as
+    /// Cost: an edit of lines in the middle, up to four swaps for each cell; at the end, row-major, time in the line,
+    /// as for columns, column-major. A removed line is cloned for the reply. A `Fill` makes a new board. The others as
     /// `Grid::step`. What is kept: a cell of a `Set`, the lines that were taken out, the board before a `Fill` or a
     /// `Clear`.
     #[inline(always)]
@@ -162,7 +162,6 @@ impl<T, A: Allocator> History<T, A> {
     {
         match command {
             Command::Set(row, col, value) => self.step_set(row, col, value),
-            Command::Swap(a, b) => self.step_swap(a, b),
             other => self.step_any(other),
         }
     }
@@ -182,24 +181,6 @@ impl<T, A: Allocator> History<T, A> {
             return Ok(Reply::Refused(Refusal::Index));
         }
         self.record_write(row, col, value)?;
-        Ok(Reply::Done)
-    }
-
-    // As `step`, a command that exchanges two cells.
-    fn step_swap(&mut self, a: (usize, usize), b: (usize, usize)) -> Result<Reply<T, A>, AllocError>
-    where
-        T: Clone + Default + Drop,
-        A: Clone,
-        ensures stepped { IfOk result (HasStepped T.is_default T.is_clone
-            (swap_cells a b) self.old self.new) }
-        ensures err { OnErr result (self.new ≡ self.old) }
-        ensures err_memory { OnErr result
-            (IsTrue (is_step (swap_cells a b) self.old.grid.rows)) }
-    {
-        if !self.grid.contains(a) || !self.grid.contains(b) {
-            return Ok(Reply::Refused(Refusal::Index));
-        }
-        self.record(Change::Exchange(a, b))?;
         Ok(Reply::Done)
     }
 
@@ -289,8 +270,8 @@ impl<T, A: Allocator> History<T, A> {
     ///
     ///     over(alloc, [[1, 2]]), then step(Set(0, 0, 5))   undo()   true   [[1, 2]]
     ///
-    /// Fails: if allocation fails, which comes only where lines come back or are taken out, so only where the board that
-    /// comes back has another number of cells; the history is unchanged.
+    /// Fails: if allocation fails, which comes only where lines come back or are taken out, so only where the board
+    /// that comes back has another number of cells; the history is unchanged.
     /// Cost: constant for a cell, two cells, a `Fill` and a `Clear`; a symmetry, its swaps; lines, as
     /// [`step`](History::step). No cell is cloned.
     pub fn undo(&mut self) -> Result<bool, AllocError>
@@ -313,14 +294,14 @@ impl<T, A: Allocator> History<T, A> {
         Ok(true)
     }
 
-    /// Takes steps back until no more than `count` are left to take back, and returns how many it took back. So a move of
-    /// several commands is taken back whole, by the [`undo_count`](History::undo_count) from before it, also where some of
-    /// the commands were no steps.
+    /// Takes steps back until no more than `count` are left to take back, and returns how many it took back. So a move
+    /// of several commands is taken back whole, by the [`undo_count`](History::undo_count) from before it, also where
+    /// some of the commands were no steps.
     ///
     ///     over(alloc, [[1, 2]]), then step(Set(0, 0, 5)), step(Size) and step(Clear)   undo_to(0)   2   [[1, 2]]
     ///
-    /// Fails: if allocation fails, at a step that [`undo`](History::undo) can't take back; those after it are taken back,
-    /// and can be done again, and the others stay.
+    /// Fails: if allocation fails, at a step that [`undo`](History::undo) can't take back; those after it are taken
+    /// back, and can be done again, and the others stay.
     /// Cost: that of an `undo` for each step that is taken back.
     pub fn undo_to(&mut self, count: usize) -> Result<usize, AllocError>
     where
@@ -368,8 +349,8 @@ impl<T, A: Allocator> History<T, A> {
         Ok(true)
     }
 
-    /// Drops what takes the older steps back, so that no more than the last `count` can be taken back. The grid stays, and
-    /// so does what was undone. It sets no limit for later steps: a caller that wants one calls it after each step.
+    /// Drops what takes the older steps back, so that no more than the last `count` can be taken back. The grid stays,
+    /// and so does what was undone. It sets no limit for later steps: a caller that wants one calls it after each step.
     ///
     ///     over(alloc, [[1, 2]]), then step(Set(0, 0, 5)) and step(Clear)   keep(1)   undo_count() 1
     ///

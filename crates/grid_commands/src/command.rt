@@ -43,7 +43,8 @@ pub enum Command<T, A: Allocator = Global> {
     PushCol(Vec<T, A>),
     /// Inserts a row before a row, or at the end. Replies `Done`; takes memory unless it is refused.
     ///
-    /// Refused: as [`PushRow`](Command::PushRow), and before `TooLarge` by `Index` where the insertion point is past the end.
+    /// Refused: as [`PushRow`](Command::PushRow), and before `TooLarge` by `Index` where the insertion point is past
+    /// the end.
     InsertRow(usize, Vec<T, A>),
     /// Inserts a column before a column, or at the end. Replies `Done`; takes memory unless it is refused.
     ///
@@ -53,8 +54,8 @@ pub enum Command<T, A: Allocator = Global> {
     /// has no lines.
     ///
     /// Refused: `EmptyLine` where one has no cells; `Length` where one is not as long as the rows of the grid, or, into
-    /// an empty grid, where two have different lengths; `Index` where the insertion point is past the end, also without lines;
-    /// `TooLarge`.
+    /// an empty grid, where two have different lengths; `Index` where the insertion point is past the end, also without
+    /// lines; `TooLarge`.
     InsertRows(usize, Vec<Vec<T, A>, A>),
     /// Inserts columns before a column, or at the end, in their order. Replies `Done`; takes memory unless it is
     /// refused or has no lines.

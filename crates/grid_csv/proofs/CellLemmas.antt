@@ -1,5 +1,8 @@
 -- The cells of one record, field by field.
-use Rattle.std.proofs.Common.{◌≡◌, ℕ, zero, suc, ◌+◌, Option, Some, None, List, [], ◌∷◌, ◌++◌, length, take, refl, sym, ap, subst, ◌∙◌, add-one, append_assoc, append-nil}
+use Rattle.std.proofs.Common.{◌≡◌, ℕ, zero, suc, ◌+◌, Option, Some, None, List, [], ◌∷◌, ◌++◌, length, take, refl, sym, ap, subst, add-one}
+use Rattle.grid_rows.specs.Rows.{RowsValue}
+use Rattle.grid_rows.specs.Builder.{with_cells}
+use Rattle.grid_rows.proofs.ReadingLemmas.{with_cells-more, with_cells-nil}
 use Rattle.grid_csv.proofs.Common.{field_at, AreCells, IsBadAt, AddsCells, AllZip-append}
 
 -- the field at a place, with those before and after it
@@ -27,22 +30,22 @@ all_taken (f ∷ fs) zero e = absurd (cc)
 all_taken (f ∷ fs) (suc i) e = ap (λ xs. f ∷ xs) (all_taken fs i e)
 
 -- the cells of the first fields, `at` of them
-pub record CellsSoFar {T : Type 0} (R : List ℕ → Option T → Type 0) (fields : List (List ℕ)) (old new : List T) (at : ℕ) : Type 0 where
+pub record CellsSoFar {T : Type 0} (R : List ℕ → Option T → Type 0) (fields : List (List ℕ)) (old new : RowsValue T) (at : ℕ) : Type 0 where
   pub row : List T
-  pub put : new ≡ old ++ row
+  pub put : new ≡ with_cells old row
   pub are_cells : AreCells R (take at fields) row
 
-module _ {T : Type 0} (R : List ℕ → Option T → Type 0) (fields : List (List ℕ)) (old : List T) where
+module _ {T : Type 0} (R : List ℕ → Option T → Type 0) (fields : List (List ℕ)) (old : RowsValue T) where
   pub cells_start : CellsSoFar R fields old old 0
-  cells_start = record { row = []; put = sym (append-nil old); are_cells = tt }
+  cells_start = record { row = []; put = sym (with_cells-nil old); are_cells = tt }
 
-  module _ (new : List T) (at : ℕ) (i : CellsSoFar R fields old new at) where
-    pub cells_more : (field : List ℕ) (cell : T) (added : List T) → field_at fields at ≡ Some field → R field (Some cell) → added ≡ new ++ cell ∷ [] → CellsSoFar R fields old added (at + 1)
+  module _ (new : RowsValue T) (at : ℕ) (i : CellsSoFar R fields old new at) where
+    pub cells_more : (field : List ℕ) (cell : T) (added : RowsValue T) → field_at fields at ≡ Some field → R field (Some cell) → added ≡ with_cells new (cell ∷ []) → CellsSoFar R fields old added (at + 1)
     cells_more field cell added is gave push =
         let h = is_at fields at field is in
         record {
           row = i.row ++ cell ∷ [];
-          put = push ∙ (ap (λ xs. xs ++ cell ∷ []) i.put ∙ append_assoc old i.row (cell ∷ []));
+          put = with_cells-more old new added i.row cell i.put push;
           are_cells = rw (add-one, h.next) (AllZip-append (λ f c. R f (Some c)) (take at fields) i.row field cell i.are_cells gave);
         }
 

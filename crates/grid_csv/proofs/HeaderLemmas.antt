@@ -1,12 +1,11 @@
 -- The names in a header, as strings.
-use Rattle.std.proofs.Common.{◌≡◌, ◌≢◌, ◌+◌, ◌<◌, ◌⊎◌, inl, inr, ℕ, Bool, true, false, if◌then◌else◌, Option, Some, None, Result, Ok, Err, List, [], ◌∷◌, ◌++◌, length, map, refl, sym, ap, subst, ◌∙◌, arith, Bor, MatchBool, string_bytes}
-use Rattle.grid_csv.proofs.Common.{is_utf8, col_count, storage, GridValue, AreCells, IsFault, MayRead, MayReadBelow, cell_before, cell_of, read_fields, read_header, AddsCells, AddsRows, IsMemoryOrBad}
+use Rattle.std.proofs.Common.{◌≡◌, ◌+◌, ◌⊎◌, inl, inr, ℕ, Bool, true, false, if◌then◌else◌, Option, Some, None, Result, Ok, Err, List, [], ◌∷◌, ◌++◌, length, map, refl, sym, ap, subst, ◌∙◌, Bor, MatchBool, string_bytes}
+use Rattle.grid_csv.proofs.Common.{is_utf8, concat_rows, GridValue, AreCells, MayRead, MayReadBelow, cell_before, cell_of, read_fields, read_header, AddsCells, IsMemoryOrBad}
+use Rattle.grid_rows.specs.Rows.{RowsValue}
 use Rattle.std.specs.declared.string.String.{String}
 use Rattle.grid_csv.specs.declared.error.CsvError.{CsvError}
 use Rattle.grid_csv.specs.declared.error.CsvError.TheVariants.{Memory}
-use Rattle.grid_base.specs.declared.order.Order.TheVariants.{RowMajor}
 use Rattle.grid_csv.proofs.ReadLemmas.{fields_are, bad_at}
-use Rattle.grid_csv.proofs.TableLemmas.{cut_rows}
 
 -- a field as its name
 abbrev IsName : List ℕ → Option (List ℕ) → Type 0
@@ -40,9 +39,9 @@ module _ {Z : Type 0} (R : List ℕ → Option (String Z) → Type 0) where
   names_are by (f ∷ fields) [] all = absurd all
   names_are by (f ∷ fields) (s ∷ strings) all = (name_is by f (Some s) all.0, names_are by fields strings all.1)
 
-  pub header_is : (fields : List (List ℕ)) (start new : List (String Z)) → start ≡ [] → AddsCells R fields start new → By → read_header fields ≡ Ok (map string_bytes new)
-  header_is fields start new none a by =
-      let row : new ≡ a.row = a.put ∙ ap (λ xs. xs ++ a.row) none in
+  pub header_is : (fields : List (List ℕ)) (start b : RowsValue (String Z)) (new : List (String Z)) → start ≡ record { cols = None; rows = []; cells = [] } → AddsCells R fields start b → new ≡ concat_rows b.rows ++ b.cells → By → read_header fields ≡ Ok (map string_bytes new)
+  header_is fields start b new none a is by =
+      let row : new ≡ a.row = is ∙ (ap (λ v. concat_rows v.rows ++ v.cells) a.put ∙ ap (λ v. concat_rows v.rows ++ (v.cells ++ a.row)) none) in
       fields_are IsName Some (λ field name is. is) 1 1 fields (map string_bytes a.row) (names_are by fields a.row a.are_cells)
       ∙ ap (λ xs. Ok (map string_bytes xs)) (sym row)
 
@@ -69,16 +68,8 @@ module _ {T : Type 0} (R : List ℕ → Option T → Type 0) (records : List (Li
   below_bad_header e (inl none) = inl (ap Err none)
   below_bad_header e (inr bad) = given (Err e) (inr (rw bad refl))
 
-  module _ (names : List (List ℕ)) (cols : ℕ) (read : read_header fields ≡ Ok names) (same : cols ≡ length fields) where
-    of_rows : (answer : Result (GridValue T) CsvError) → MayRead R 2 cols later answer → MayReadBelow R records answer
-    of_rows answer may = given answer (inr (rw read (subst (λ n. MayRead R 2 n later answer) same may)))
-
-    pub below_bad : (e : CsvError) → (e ≡ Memory) ⊎ IsFault R 2 cols later e → MayReadBelow R records (Err e)
-    below_bad e bad = of_rows (Err e) bad
-
-    pub below_rows : (start cells : List T) → start ≡ [] → AddsRows R cols later start cells → 0 < length fields → (g : GridValue T) → g.order ≡ RowMajor → storage RowMajor g.rows ≡ cells → (length cells ≢ 0 → col_count g.rows ≡ cols) → MayReadBelow R records (Ok g)
-    below_rows start cells none added some g order cut wide =
-        of_rows (Ok g) (cut_rows R cols later cells (subst (λ xs. AddsRows R cols later xs cells) none added) (omega arith) g cut wide, order)
+  pub below_rows : (names : List (List ℕ)) (cols : ℕ) → read_header fields ≡ Ok names → cols ≡ length fields → (answer : Result (GridValue T) CsvError) → MayRead R 2 cols later answer → MayReadBelow R records answer
+  below_rows names cols read same answer may = given answer (inr (rw read (subst (λ n. MayRead R 2 n later answer) same may)))
 
 -- a header that was read has its fields for names
 name_before : (b : Bool) (number place : ℕ) (f : List ℕ) (later : Result (List (List ℕ)) CsvError) (fs names : List (List ℕ)) → cell_before number place (if b then Some f else None) later ≡ Ok names → ((rest : List (List ℕ)) → later ≡ Ok rest → rest ≡ fs) → names ≡ f ∷ fs

@@ -2,7 +2,6 @@ pub mod ZipLemmas
 pub mod RecordLemmas
 pub mod CellLemmas
 pub mod RowLemmas
-pub mod TableLemmas
 pub mod ReadLemmas
 pub mod HeaderLemmas
 pub mod TextLemmas

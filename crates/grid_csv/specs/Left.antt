@@ -1,5 +1,5 @@
 -- What is left to read, what was read, and what was written. No public clause cites this module.
-use Rattle.std.specs.Prelude.{◌≡◌, ◌⊎◌, ◌+◌, ◌<◌, ℕ, true, false, Option, Vec, List, ◌∷◌, ◌++◌, length, Some}
+use Rattle.std.specs.Prelude.{◌≡◌, ◌⊎◌, ◌+◌, ◌<◌, ℕ, true, false, Option, Vec, List, ◌∷◌, ◌++◌, length, Some, unwrap_or}
 use denote.Ref.{Bor}
 use Rattle.csv.specs.declared.parser.State.{State}
 use Rattle.csv.specs.declared.reader.Reader.{Reader}
@@ -8,8 +8,9 @@ use Rattle.csv.specs.Reading.{Ready, default_config, is_flexible, reader_config,
 use Rattle.csv.specs.declared.writer.Writer.{Writer}
 use Rattle.csv.specs.Writing.{default_writer, fields_written, has_written, writer_pending, writer_setup, writer_under}
 use Rattle.std.specs.declared.alloc.Global.{Global}
-use Rattle.grid_base.specs.Table.{concat_rows}
-use Rattle.grid_csv.specs.Reading.{AreCells, AreRows, IsBadAt}
+use Rattle.grid_rows.specs.Rows.{RowsValue}
+use Rattle.grid_rows.specs.Builder.{with_cells}
+use Rattle.grid_csv.specs.Reading.{AreCells, IsBadAt, first_of}
 use Rattle.grid_csv.specs.declared.error.CsvError.{CsvError}
 use Rattle.grid_csv.specs.declared.error.CsvError.TheVariants.{BadField, Memory}
 
@@ -35,23 +36,21 @@ pub record Took (left : List (List (List ℕ))) (fields : List (List ℕ))
   pub some : 0 < length fields
   pub leaves : HasLeft reader later
 
+-- how many cells each row has to have: so many, or as many as the first record has fields
+abbrev pub width_of : Option ℕ → List (List (List ℕ)) → ℕ
+width_of cols records = unwrap_or cols (length (first_of records))
+
 module _ {T : Type 0} (R : List ℕ → Option T → Type 0) where
-  -- the cells of these fields are added
-  pub record AddsCells (fields : List (List ℕ)) (old new : List T) : Type 0 where
+  -- the cells of these fields are added to the open row
+  pub record AddsCells (fields : List (List ℕ)) (old new : RowsValue T) : Type 0 where
     pub row : List T
-    pub put : new ≡ old ++ row
+    pub put : new ≡ with_cells old row
     pub are_cells : AreCells R fields row
 
   -- allocation failed, or a field of the record of this index may be no cell
   abbrev pub IsMemoryOrBad : ℕ → List (List ℕ) → CsvError → Type 0
   IsMemoryOrBad number fields e = (e ≡ Memory)
       ⊎ ((place : ℕ) × (e ≡ BadField number place) × IsBadAt R fields place)
-
-  -- the rows of these records are added, each of cols cells
-  pub record AddsRows (cols : ℕ) (records : List (List (List ℕ))) (old new : List T) : Type 0 where
-    pub rows : List (List T)
-    pub put : new ≡ old ++ concat_rows rows
-    pub are_rows : AreRows R cols records rows
 
 -- a writer with the defaults, between two records, that has written these bytes
 pub record HasWritten (writer : Writer (Vec ℕ Global)) (bytes : List ℕ) : Type 0 where

@@ -8,9 +8,9 @@ use grid::{Grid, Order};
 use grid_view::AsView;
 use std::alloc::{AllocError, Global};
 
-/// Writes a board as CSV, and returns the row-major grid that is read from it: one of the same rows, where `read` gives each cell
-/// back from its text, or of the same texts, where it gives some cell of the same text, as of strings. No text of a cell
-/// begins with a byte order mark.
+/// Writes a board as CSV, and returns the row-major grid that is read from it: one of the same rows, where `read` gives
+/// each cell back from its text, or of the same texts, where it gives some cell of the same text, as of strings. No
+/// text of a cell begins with a byte order mark.
 ///
 /// Requires: `write` and `read` can always be called.
 /// Fails: `Memory`, and, where cells are given back so, no other error.

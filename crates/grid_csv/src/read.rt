@@ -1,11 +1,12 @@
 //! Grids read from CSV.
 ghost use Rattle.std.specs.Prelude.{◌≡◌, ◌⊎◌, [], ℕ, List, Option, IfOk, IfErr, Ok, Err, MatchResult, Some, length, map, MatchBool, string_bytes};
-ghost use Rattle.grid_csv.specs.Prelude.{fields_of, HasLeft, Took, AddsCells, AddsRows, IsMemoryOrBad, AnswersField, IsFault, IsOrMemory, MayRead, MayReadBelow, ReadsBy, first_of, read_header, reading, reading_below, records_of, without_header};
+ghost use Rattle.grid_csv.specs.Prelude.{fields_of, HasLeft, Took, AddsCells, IsMemoryOrBad, AnswersField, IsOrMemory, MayRead, MayReadBelow, ReadsBy, first_of, read_header, reading, reading_below, records_of, width_of, without_header};
 ghost use Rattle.grid_csv.specs.declared.error.CsvError.TheVariants.{Memory};
 
 use super::error::CsvError;
 use csv::{ByteRecord, Reader, ReaderBuilder};
-use grid::Grid;
+use grid::{Grid, ShapeError};
+use grid_rows::RowsBuilder;
 use std::alloc::{AllocError, Global};
 use std::str;
 
@@ -32,14 +33,8 @@ where
 {
     let mut reader = reader_of(alloc, bytes);
     let mut row = ByteRecord::new(alloc);
-    let mut cells = Vec::new(alloc);
-    if !next_row(&mut reader, &mut row)? {
-        return Ok(Grid::empty(alloc));
-    }
-    let cols = row.len();
-    push_fields(&mut cells, 1, &row, &read)?;
-    push_records(&mut cells, &mut reader, cols, &read)?;
-    Ok(Grid::from_vec(cells, cols))
+    let rows = RowsBuilder::new(alloc);
+    read_records(rows, 1, &mut reader, &mut row, &read)
 }
 
 /// Same as [`from_csv`], of records below a header: also returns the fields of the first record, each as a string.
@@ -67,11 +62,10 @@ where
     if !next_row(&mut reader, &mut row)? {
         return Ok((Vec::new(alloc), Grid::empty(alloc)));
     }
-    let cols = row.len();
     let header = header_of(alloc, &row)?;
-    let mut cells = Vec::new(alloc);
-    push_records(&mut cells, &mut reader, cols, &read)?;
-    Ok((header, Grid::from_vec(cells, cols)))
+    let rows = RowsBuilder::with_cols(alloc, row.len());
+    let grid = read_records(rows, 2, &mut reader, &mut row, &read)?;
+    Ok((header, grid))
 }
 
 // A reader of all records of these bytes, of any lengths.
@@ -117,7 +111,7 @@ fn header_of(alloc: Global, row: &ByteRecord) -> Result<Vec<String>, CsvError>
         (λ header. read_header (fields_of row.now) ≡ Ok (map string_bytes header.items))
         (λ e. (e ≡ Memory) ⊎ (read_header (fields_of row.now) ≡ Err e)) }
 {
-    let mut header = Vec::new(alloc);
+    let mut header = RowsBuilder::new(alloc);
     push_fields(
         &mut header,
         1,
@@ -127,12 +121,12 @@ fn header_of(alloc: Global, row: &ByteRecord) -> Result<Vec<String>, CsvError>
                 (λ cell. (text : _) × (cell ≡ Some text) × (string_bytes text ≡ name.now)) }
         { Ok(Some(String::from_str(alloc, name)?)) },
     )?;
-    Ok(header)
+    Ok(header.into_vec())
 }
 
 // Adds the cells of the fields of a record.
 fn push_fields<T: Drop, F>(
-    cells: &mut Vec<T>,
+    rows: &mut RowsBuilder<T>,
     number: usize,
     row: &ByteRecord,
     read: &F,
@@ -142,12 +136,12 @@ where
     requires { F.IsAlwaysCallable read.now }
     ensures { MatchResult result
         (λ _. AddsCells (AnswersField F.post read.now)
-        (fields_of row.now) cells.old.items cells.new.items)
+        (fields_of row.now) rows.old rows.new)
         (λ e. IsMemoryOrBad (AnswersField F.post read.now) number (fields_of row.now) e) }
 {
     for (index, field) in row.into_iter().enumerate() {
         match cell_of(field, read)? {
-            Some(cell) => cells.push(cell)?,
+            Some(cell) => rows.push(cell)?,
             None => return Err(CsvError::BadField {
                 record: number,
                 field: index + 1,
@@ -157,33 +151,34 @@ where
     Ok(())
 }
 
-// Adds the rows of the records that are left, after the first; each has as many cells.
-fn push_records<T: Drop, F>(
-    cells: &mut Vec<T>,
+// Returns the grid of the records that are left. The first has this number.
+fn read_records<T: Drop, F>(
+    mut rows: RowsBuilder<T>,
+    first: usize,
     reader: &mut Reader<&[u8]>,
-    cols: usize,
+    row: &mut ByteRecord,
     read: &F,
-) -> Result<(), CsvError>
+) -> Result<Grid<T>, CsvError>
 where
     F: Fn(&str) -> Result<Option<T>, AllocError>,
-    requires { F.IsAlwaysCallable read.now }
-    ensures { (left : List (List (List ℕ))) → HasLeft reader.old left → MatchResult result
-        (λ _. AddsRows (AnswersField F.post read.now) cols left cells.old.items cells.new.items)
-        (λ e. (e ≡ Memory) ⊎ IsFault (AnswersField F.post read.now) 2 cols left e) }
+    requires read { F.IsAlwaysCallable read.now }
+    requires none { (rows.rows ≡ []) × (rows.cells ≡ []) }
+    ensures { (left : List (List (List ℕ))) → HasLeft reader.old left
+        → MayRead (AnswersField F.post read.now) first (width_of rows.cols left) left result }
 {
-    let mut row = ByteRecord::new(*cells.allocator());
-    for number in 2..usize::MAX {
-        if !next_row(reader, &mut row)? {
-            return Ok(());
+    for number in first..usize::MAX {
+        if !next_row(reader, row)? {
+            return Ok(rows.into_grid());
         }
-        push_fields(cells, number, &row, read)?;
-        let len = row.len();
-        if len != cols {
-            return Err(CsvError::Ragged {
+        push_fields(&mut rows, number, row, read)?;
+        match rows.end_row() {
+            Ok(()) => {}
+            Err(ShapeError::Ragged { len, cols, .. }) => return Err(CsvError::Ragged {
                 record: number,
                 len,
                 cols,
-            });
+            }),
+            Err(_) => return Err(CsvError::Memory),
         }
     }
     Err(CsvError::Memory)

@@ -6,9 +6,9 @@ use csv::{ByteRecord, Writer};
 use grid_view::{AsView, ViewLineIter};
 use std::alloc::{AllocError, Global};
 
-/// Returns the CSV of a grid or of a view: a record for each row, and in it a field for each cell, the text that `write`
-/// appends. Fields are in quotes where they have to be, with commas between them, and each record ends in a line feed.
-/// No rows are the empty text.
+/// Returns the CSV of a grid or of a view: a record for each row, and in it a field for each cell, the text that
+/// `write` appends. Fields are in quotes where they have to be, with commas between them, and each record ends in a
+/// line feed. No rows are the empty text.
 ///
 ///     [[1, 2], [3, 4]]   to_csv(alloc, board, |cell, text| write!(text, "{cell}"))   "1,2\n3,4\n"
 ///

@@ -1,6 +1,7 @@
 -- The flips of a table as lists reversed, and edits of its rows in between.
-use Rattle.std.proofs.Common.{◌≡◌, ℕ, zero, suc, ◌+◌, ◌-◌, ◌<◌, ◌≤◌, List, [], ◌∷◌, ◌++◌, length, map, take, drop, reverse, replicate, refl, sym, ◌∙◌, ap, arith, append_assoc, take-append-drop, take_at, drop_at, slice_get, length-drop}
+use Rattle.std.proofs.Common.{◌≡◌, ℕ, zero, suc, ◌+◌, ◌-◌, ◌<◌, ◌≤◌, List, [], ◌∷◌, ◌++◌, length, map, take, drop, reverse, replicate, refl, sym, ◌∙◌, ap, arith, append_assoc, take-append-drop, take_at, slice_get, length-drop}
 use Rattle.grid_deferred.proofs.Common.{reverse-append, reverse-reverse, length-reverse, get_or-reverse, take-map, drop-map, map-append, length-map, get_or-map, row, row_count, col_count, IsTable, act, get-reverse, same_tables, rows-act, cols-act, cell-act, IsTable-act, without_rows}
+use Rattle.grid_base.proofs.SteppedLemmas.{drop-reverse}
 use Rattle.grid_base.specs.declared.words.Symmetry.TheVariants.{FlipRows, FlipCols}
 use Rattle.grid.specs.Edits.{insert_rows}
 
@@ -16,11 +17,6 @@ module _ {X : Type 0} where
   take-reverse k xs le =
       let n = length xs - k in
       ap (take k) (parts-reversed n xs) ∙ take_at (reverse (drop n xs)) (reverse (take n xs)) k (length-back k xs le)
-
-  pub drop-reverse : (k : ℕ) (xs : List X) → k ≤ length xs → drop k (reverse xs) ≡ reverse (take (length xs - k) xs)
-  drop-reverse k xs le =
-      let n = length xs - k in
-      ap (drop k) (parts-reversed n xs) ∙ drop_at (reverse (drop n xs)) (reverse (take n xs)) k (length-back k xs le)
 
   -- a part put into a reversed list, and taken out of it
   pub put-reversed : (k : ℕ) (ys xs : List X) → k ≤ length xs → take k (reverse xs) ++ ys ++ drop k (reverse xs) ≡ reverse (take (length xs - k) xs ++ reverse ys ++ drop (length xs - k) xs)

@@ -7,8 +7,8 @@ use crate::run_deferred;
 use grid::{Command, Grid, Reply, RunStopped, Tally, run};
 use std::alloc::Allocator;
 
-/// Runs a list of commands at once on one grid and deferred on another, and returns both results. The grids may be stored
-/// in different orders.
+/// Runs a list of commands at once on one grid and deferred on another, and returns both results. The grids may be
+/// stored in different orders.
 ///
 ///     [[1, 2]], [[1, 2]]   run_at_once_and_deferred([Apply(FlipCols), Get(0, 0)], the same)   [Done, Cell(2)] twice
 ///

@@ -1,10 +1,11 @@
 -- The eight symmetries by their numbers, and what undoes one.
-use Rattle.std.proofs.Common.{◌≡◌, ℕ, zero, suc, ◌<◌, ◌≤◌, Bool, true, false, List, [], ◌∷◌, length, take, get_or, refl, sym, ◌∙◌, ap, subst, arith}
+use Rattle.std.proofs.Common.{◌≡◌, ℕ, zero, suc, ◌<◌, ◌≤◌, Bool, true, false, Some, List, [], ◌∷◌, length, take, get_or, slice_get, refl, sym, ◌∙◌, ap, subst, arith}
 use Rattle.std.specs.List.{Contains, list_any, filter}
 use Rattle.std.specs.Prelude.{slice_index_or, cond, ◌||◌}
 use Rattle.std.proofs.lemmas.List.{get_or-take, length-take-le}
 use Rattle.std.proofs.lemmas.List.Elements.{All-contains, filter_passes}
 use Rattle.std.proofs.lemmas.List.Folds.{list_any_at}
+use Rattle.std.proofs.lemmas.Option.{get_or_from_slice_get, slice_get_within}
 use Rattle.grid_base.proofs.Lemmas.{product, inverse_left}
 use Rattle.grid_base.specs.Symmetry.{symmetries}
 use Rattle.grid_base.specs.declared.words.Symmetry.{Symmetry}
@@ -41,6 +42,9 @@ number-at (suc (suc (suc (suc (suc zero))))) lt = refl
 number-at (suc (suc (suc (suc (suc (suc zero)))))) lt = refl
 number-at (suc (suc (suc (suc (suc (suc (suc zero))))))) lt = refl
 number-at (suc (suc (suc (suc (suc (suc (suc (suc i)))))))) lt = absurd (omega arith)
+
+pub number-where : (k : ℕ) (s : Symmetry) → slice_get symmetries k ≡ Some s → number s ≡ k
+number-where k s e = ap number (sym (get_or_from_slice_get symmetries k s Identity e)) ∙ number-at k (slice_get_within symmetries k s e)
 
 -- symmetries of one number are one
 pub same_number : (s u : Symmetry) → number s ≡ number u → s ≡ u

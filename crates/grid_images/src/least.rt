@@ -39,8 +39,8 @@ pub fn least_image<T: Ord, V: AsView<T>>(board: &V) -> Symmetry
 ///
 ///     [[3, 4], [1, 2]]   canonicalize(grid)   FlipRows; the grid is [[1, 2], [3, 4]]
 ///
-/// A canonical form is its own, and two grids have the same one, by `==` and by `Hash`, exactly if one is an image of the
-/// other.
+/// A canonical form is its own, and two grids have the same one, by `==` and by `Hash`, exactly if one is an image of
+/// the other.
 ///
 /// Cost: that of [`least_image`], and of [`Grid::apply`]: at most half as many swaps as there are cells.
 pub fn canonicalize<T: Ord, A: Allocator>(grid: &mut Grid<T, A>) -> Symmetry

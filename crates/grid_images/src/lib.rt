@@ -8,8 +8,8 @@
 //! - What leaves a board as it is, its stabilizer: [`symmetries`]. Its different images, its orbit: [`images`].
 //! - What takes one board to another: [`symmetry_between`].
 //!
-//! None of them takes memory. What only reads takes any board by reference ([`AsView`](grid_view::AsView)): a grid, a part
-//! or a turned board, a deferred one.
+//! None of them takes memory. What only reads takes any board by reference ([`AsView`](grid_view::AsView)): a grid, a
+//! part or a turned board, a deferred one.
 #![tactic(auto)]
 
 mod between;

@@ -1,15 +1,16 @@
 //! The symmetries of a board, and its different images.
 ghost use Rattle.std.specs.Prelude.{◌≡◌, ℕ, ◌*◌, ◌<◌, ◌↔◌, IsTrue, Contains, length};
-ghost use Rattle.grid_images.specs.Prelude.{DiffersBy, GivesEachImageOnce, IsGroup, first_images, fixing, number, symmetry_at, takes};
+ghost use Rattle.grid_images.specs.Prelude.{DiffersBy, GivesEachImageOnce, IsGroup, first_images, fixing, symmetry_at, takes};
 ghost use Rattle.grid_base.specs.declared.words.Symmetry.{Symmetry};
 
 use crate::same::are_same;
 use crate::set::SymmetrySet;
 use grid::Symmetry;
+use grid_base::laws::stands_in_all;
 use grid_view::AsView;
 
-/// Returns the symmetries that leave a board as it is, its stabilizer: those under which it equals its image. `Identity`
-/// is one; so are the inverse of each, and any two joined.
+/// Returns the symmetries that leave a board as it is, its stabilizer: those under which it equals its image.
+/// `Identity` is one; so are the inverse of each, and any two joined.
 ///
 ///     [[1, 2], [1, 2]]   symmetries(it)   Identity, FlipRows
 ///
@@ -40,8 +41,8 @@ pub fn symmetries<T: Eq, V: AsView<T>>(board: &V) -> SymmetrySet
 ///
 /// `board.turned(symmetry)` then shows the image, and [`Grid::apply`](grid::Grid::apply) makes it.
 ///
-/// Cost: that of [`symmetries`], seven comparisons of boards: two symmetries give the same image exactly if the one, and
-/// then the inverse of the other, leaves the board as it is. No memory.
+/// Cost: that of [`symmetries`], seven comparisons of boards: two symmetries give the same image exactly if the one,
+/// and then the inverse of the other, leaves the board as it is. No memory.
 pub fn images<T: Eq, V: AsView<T>>(board: &V) -> SymmetrySet
     ensures members { result ≡ first_images T.eq (V.rows board.now) }
     ensures each { GivesEachImageOnce T.eq (V.rows board.now) result }
@@ -69,25 +70,9 @@ fn comes_before(fixing: &SymmetrySet, i: usize) -> bool
 {
     let symmetry = Symmetry::ALL[i];
     for member in fixing.as_slice() {
-        if number_of(member.inverse().then(symmetry)) < i {
+        if stands_in_all(member.inverse().then(symmetry)) < i {
             return true;
         }
     }
     false
-}
-
-// How many symmetries come before one in `Symmetry::ALL`.
-fn number_of(symmetry: Symmetry) -> usize
-    ensures { result ≡ number symmetry }
-{
-    match symmetry {
-        Symmetry::Identity => 0,
-        Symmetry::FlipCols => 1,
-        Symmetry::FlipRows => 2,
-        Symmetry::RotateHalf => 3,
-        Symmetry::Transpose => 4,
-        Symmetry::RotateLeft => 5,
-        Symmetry::RotateRight => 6,
-        Symmetry::AntiTranspose => 7,
-    }
 }

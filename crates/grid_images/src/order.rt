@@ -7,8 +7,8 @@ ghost use Rattle.grid_images.specs.Prelude.{IsTotalOrder, is_eq, same_table, tab
 use grid_view::{AsView, GridView};
 use std::cmp::Ordering;
 
-/// Compares two boards: the one with fewer rows is less; of as many rows, the one with fewer columns; of one size, the one
-/// with the lesser cell where they first differ, row by row. They are equal exactly if `==` holds.
+/// Compares two boards: the one with fewer rows is less; of as many rows, the one with fewer columns; of one size, the
+/// one with the lesser cell where they first differ, row by row. They are equal exactly if `==` holds.
 ///
 ///     [[1, 2], [3, 4]]   compare(it, [[1, 3], [0, 0]])   Less
 ///

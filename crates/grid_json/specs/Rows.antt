@@ -1,6 +1,8 @@
 -- Rows as JSON data: an array of arrays.
 use Rattle.std.specs.Prelude.{◌≡◌, ◌≢◌, ◌⊎◌, ◌<◌, ℕ, List, ◌∷◌, ◌++◌, length, map, All, Option, Some, None, Result, Ok, Err, MatchResult}
 use Rattle.grid.specs.Prelude.{GridValue, equal_rows}
+use Rattle.grid_rows.specs.Rows.{RowsValue}
+use Rattle.grid_rows.specs.Builder.{with_cells}
 use denote.Ref.{Bor}
 use Rattle.std.specs.List.{AllZip}
 use Rattle.std.specs.declared.alloc.AllocError.{AllocError}
@@ -132,12 +134,11 @@ module _ {T : Type 0} (R : Data → Option T → Type 0) where
   MayRead d answer = ((answer ≡ Err NotRows) × NoArray d)
       ⊎ ((items : List Data) × (d ≡ array_of items) × MayReadItems items answer)
 
-  -- what the private function adds: the cells of the row that this data is
-  pub record AddsRow (d : Data) (old new : List T) (len : ℕ) : Type 0 where
+  -- the cells of the row that this data is are added to the open row
+  pub record AddsRow (d : Data) (old new : RowsValue T) : Type 0 where
     pub row : List T
-    pub put : new ≡ old ++ row
+    pub put : new ≡ with_cells old row
     pub is_row : IsRow d row
-    pub is_len : len ≡ length row
 
   -- allocation failed, or the data of this index may be no row whatever the others are
   abbrev pub IsMemoryOrBad : ℕ → Data → RowsError → Type 0

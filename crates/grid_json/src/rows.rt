@@ -4,13 +4,14 @@ ghost use Rattle.grid_json.specs.Prelude.{Data, view, AddsRow, AnswersCell, Answ
 
 use crate::RowsError;
 use crate::write::array_of;
-use grid::Grid;
+use grid::{Grid, ShapeError};
+use grid_rows::RowsBuilder;
 use grid_view::{AsView, ViewLineIter};
 use serde_json::Value;
 use std::alloc::{AllocError, Global};
 
-/// Returns an array of an array for each row of a grid or of a view, of the values that `write` returns at its cells. No
-/// rows are `[]`.
+/// Returns an array of an array for each row of a grid or of a view, of the values that `write` returns at its cells.
+/// No rows are `[]`.
 ///
 ///     [[1, 2], [3, 4]]   rows_to_value(alloc, board, |cell| Ok(Value::from(*cell)))   [[1,2],[3,4]]
 ///
@@ -90,31 +91,32 @@ where
     let Some(items) = value.as_array() else {
         return Err(RowsError::NotRows);
     };
-    let mut cells = Vec::new(alloc);
-    let mut cols = 0usize;
+    let mut rows = RowsBuilder::new(alloc);
     for (row, item) in items.iter().enumerate() {
-        let len = push_row(&mut cells, row, item, read)?;
-        if row > 0 && len != cols {
-            return Err(RowsError::Ragged { row, len, cols });
+        push_row(&mut rows, row, item, read)?;
+        match rows.end_row() {
+            Ok(()) => {}
+            Err(ShapeError::Ragged { len, cols, .. }) => {
+                return Err(RowsError::Ragged { row, len, cols });
+            }
+            Err(_) => return Err(RowsError::Memory),
         }
-        cols = len;
     }
-    Ok(Grid::from_vec(cells, cols))
+    Ok(rows.into_grid())
 }
 
-// Adds the cells of a row, and returns how many they are.
+// Adds the cells of a row to the open row.
 fn push_row<T: Drop, F>(
-    cells: &mut Vec<T>,
+    rows: &mut RowsBuilder<T>,
     row: usize,
     item: &Value,
     read: &F,
-) -> Result<usize, RowsError>
+) -> Result<(), RowsError>
 where
     F: Fn(&Value) -> Result<Option<T>, AllocError>,
     requires { F.IsAlwaysCallable read.now }
     ensures { MatchResult result
-        (λ len. AddsRow (AnswersItem F.post read.now)
-        (view item.now) cells.old.items cells.new.items len)
+        (λ _. AddsRow (AnswersItem F.post read.now) (view item.now) rows.old rows.new)
         (λ e. IsMemoryOrBad (AnswersItem F.post read.now) row (view item.now) e) }
 {
     let Some(list) = item.as_array() else {
@@ -122,9 +124,9 @@ where
     };
     for (col, value) in list.iter().enumerate() {
         match read(value)? {
-            Some(cell) => cells.push(cell)?,
+            Some(cell) => rows.push(cell)?,
             None => return Err(RowsError::BadCell { row, col }),
         }
     }
-    Ok(list.len())
+    Ok(())
 }

@@ -1,4 +1,5 @@
--- The cells that stay and move at a delete of rows are the least number of swaps that bring all that stay to their places.
+-- The cells that stay and move at a delete of rows are the least number of swaps that bring all that stay to their
+-- places.
 use Rattle.std.proofs.Common.{◌++◌, ◌≡◌, ℕ, ◌+◌, ◌-◌, ◌*◌, ◌/◌, ◌%◌, ◌<◌, ◌≤◌, cond, ltb, eqb, List, length, take, drop, sym, ◌∙◌, ap, subst, arith, ⊎_elim, slice_get, take-append-drop, lt-ltb, le-ltb, eq-eqb, ne_eqb, mul_comm, mul-le-mul_right}
 use Rattle.grid_laws.proofs.Common.{div-mul-add, mod-mul-add, cases_lt, cases_eq, cond-true, cond-false, row, row_count, col_count, cell, InRange, IsTable, storage, place, without_rows, rows_taken_shift, delete_rows_shift, length-storage, get-storage, has_place, row-take_before, row-take_after, rows-take, cols-take, IsTable-take, HasDifferentCells, IsLeast}
 use Rattle.grid_base.specs.declared.order.Order.{Order}

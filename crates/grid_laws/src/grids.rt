@@ -140,8 +140,8 @@ pub fn insert_col_or_row_across<T, A: Allocator>(
     (as_col, as_row)
 }
 
-/// Runs a list of commands on two grids of the same rows, which may be stored in different orders, and returns both results.
-/// Where neither run stops, the rows are the same, and so are the replies.
+/// Runs a list of commands on two grids of the same rows, which may be stored in different orders, and returns both
+/// results. Where neither run stops, the rows are the same, and so are the replies.
 ///
 ///     [[1, 2]], [[1, 2]]   run_in_either_order([Apply(FlipCols), Get(0, 0)], the same)   [Done, Cell(2)] twice
 ///

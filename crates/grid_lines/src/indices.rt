@@ -23,7 +23,7 @@ fn line<T, A: Allocator>(grid: &Grid<T, A>, r: usize) -> GridLineIter<'_, T>
     if r < grid.rows() {
         grid.iter_row(r)
     } else {
-        GridLineIter::over(&[], 1, 0)
+        GridLineIter::none(&[])
     }
 }
 

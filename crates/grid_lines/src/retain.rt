@@ -45,8 +45,8 @@ pub fn retain_rows<T: Drop, A: Allocator, F: FnMut(GridLineIter<'_, T>) -> bool>
 ///     [[1, 2, 3], [4, 5, 6]]   retain_cols(grid, |mut col| col.all(|x| *x != 5))   [[1, 3], [4, 6]]
 ///
 /// Requires: the closure can always be called.
-/// Cost: one call for each column, one swap for each cell of a column that is kept after one that isn't; no memory. In a
-/// row-major grid also that of [`delete_cols`](Grid::delete_cols).
+/// Cost: one call for each column, one swap for each cell of a column that is kept after one that isn't; no memory. In
+/// a row-major grid also that of [`delete_cols`](Grid::delete_cols).
 pub fn retain_cols<T: Drop, A: Allocator, F: FnMut(GridLineIter<'_, T>) -> bool>(
     grid: &mut Grid<T, A>,
     f: F,

@@ -6,14 +6,16 @@ ghost use Rattle.grid_lines.specs.Prelude.{row_count, col_count, transposed, InR
 use grid::Grid;
 use std::alloc::Allocator;
 
-/// Writes the items of an iterator into row `r`, from the first cell on, up to the end of the row or of the iterator, and
-/// returns how many. The other cells stay, and so does the order of the grid. Out of range it returns 0: no item is drawn.
+/// Writes the items of an iterator into row `r`, from the first cell on, up to the end of the row or of the iterator,
+/// and returns how many. The other cells stay, and so does the order of the grid. Out of range it returns 0: no item is
+/// drawn.
 ///
 ///     [[1, 2], [3, 4]]   write_row(grid, 1, 8..)         2   [[1, 2], [8, 9]]
 ///     [[1, 2], [3, 4]]   write_row(grid, 1, once(8))     1   [[1, 2], [8, 4]]
 ///     [[1, 2], [3, 4]]   write_row(grid, 2, once(8))     0   [[1, 2], [3, 4]]
 ///
-/// Once the row is full, no further item is drawn: after `write_row(grid, r, &mut items)`, `items` goes on with the next.
+/// Once the row is full, no further item is drawn: after `write_row(grid, r, &mut items)`, `items` goes on with the
+/// next.
 ///
 /// Requires: `next` of the iterator can be called, which those of std and of a grid need nothing for.
 /// Cost: a write for each item, and a call of `next` for each, and one more where the iterator ends first; no memory.
@@ -63,9 +65,9 @@ fn write_next<T: Drop, A: Allocator, I: Iterator<Item = T>>(
     }
 }
 
-/// Writes the items of an iterator into column `c`, from the first cell on, up to the end of the column or of the iterator,
-/// and returns how many. The other cells stay, and so does the order of the grid. Out of range it returns 0: no item is
-/// drawn.
+/// Writes the items of an iterator into column `c`, from the first cell on, up to the end of the column or of the
+/// iterator, and returns how many. The other cells stay, and so does the order of the grid. Out of range it returns 0:
+/// no item is drawn.
 ///
 ///     [[1, 2], [3, 4]]   write_col(grid, 1, 8..)        2   [[1, 8], [3, 9]]
 ///     [[1, 2], [3, 4]]   write_col(grid, 1, once(8))    1   [[1, 8], [3, 4]]

@@ -113,9 +113,10 @@ impl Direction {
             (λ to. IsBeside self at to × IsWithin size to) }
     {
         let (i, j) = self.in_box();
+        // a step back from index 0 wraps to `usize::MAX`, which no size has
         let to = (
-            at.0.checked_add(i)?.checked_sub(1)?,
-            at.1.checked_add(j)?.checked_sub(1)?,
+            at.0.checked_add(i)?.wrapping_sub(1),
+            at.1.checked_add(j)?.wrapping_sub(1),
         );
         if to.0 < size.0 && to.1 < size.1 {
             Some(to)
@@ -124,8 +125,9 @@ impl Direction {
         }
     }
 
-    /// Returns the position that is one step from `at` on a board of `size.0` rows and `size.1` columns whose edges meet:
-    /// the first row comes after the last, and so do the columns. Returns `None` exactly where `at` is out of range.
+    /// Returns the position that is one step from `at` on a board of `size.0` rows and `size.1` columns whose edges
+    /// meet: the first row comes after the last, and so do the columns. Returns `None` exactly where `at` is out of
+    /// range.
     ///
     ///     Right.wrapped_step((2, 3), (0, 1))    Some((0, 2))
     ///     Right.wrapped_step((2, 3), (0, 2))    Some((0, 0))

@@ -8,7 +8,7 @@ use Rattle.grid_view.proofs.SameLemmas.{same_at, row_at}
 use Rattle.grid_pairs.specs.Found.{StandsIn, StandsFirst}
 
 -- a table with a column has a row
-tall_of : {T : Type 0} (p : List (List T)) → 0 < col_count p → 0 < row_count p
+pub tall_of : {T : Type 0} (p : List (List T)) → 0 < col_count p → 0 < row_count p
 tall_of [] wide = absurd (omega (arith, wide))
 tall_of (xs ∷ p) wide = omega arith
 

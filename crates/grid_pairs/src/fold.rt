@@ -6,8 +6,8 @@ ghost use Rattle.grid_pairs.specs.Folded.{AreCopies, FoldsOver, FoldsOverRows, F
 use grid_view::{AsView, GridView};
 use std::alloc::{AllocError, Allocator};
 
-/// Returns a value for each row: what the closure comes to from `init` on, called with the value so far and a reference to
-/// each cell of the row, from the first on.
+/// Returns a value for each row: what the closure comes to from `init` on, called with the value so far and a reference
+/// to each cell of the row, from the first on.
 ///
 ///     [[1, 2], [3, 4]]   fold_rows(alloc, board, 0, |sum, x| sum + *x)   [3, 7]
 ///
@@ -30,7 +30,8 @@ pub fn fold_rows<T, V: AsView<T>, S: Copy, A: Allocator, F: Fn(S, &T) -> S>(
 ///
 ///     [[1, 2], [3, 4]]   fold_cols(alloc, board, 0, |sum, x| sum + *x)   [4, 6]
 ///
-/// Requires: the closure can be called at each cell, and a value that it comes to over the cells before it in the column.
+/// Requires: the closure can be called at each cell, and a value that it comes to over the cells before it in the
+/// column.
 /// Fails: if allocation fails; the closure wasn't called.
 /// Cost: one call for each cell, along the storage in either order; one allocation, before the first call.
 pub fn fold_cols<T, V: AsView<T>, S: Copy, A: Allocator, F: Fn(S, &T) -> S>(
@@ -46,8 +47,8 @@ pub fn fold_cols<T, V: AsView<T>, S: Copy, A: Allocator, F: Fn(S, &T) -> S>(
     folded(alloc, &board.as_view().transposed(), init, &f)
 }
 
-/// Returns what the closure comes to from `init` on, called with the value so far and a reference to each cell of the board,
-/// row by row.
+/// Returns what the closure comes to from `init` on, called with the value so far and a reference to each cell of the
+/// board, row by row.
 ///
 ///     [[1, 2], [3, 4]]   fold_cells(board, 0, |sum, x| sum + *x)   10
 ///

@@ -10,8 +10,8 @@ use std::alloc::AllocError;
 use std::iter::FusedIterator;
 use std::marker::Model;
 
-/// What lends a view for as long as its cells are lent: a reference to what lends itself as a view, or a view by value. So
-/// the parts of a view that is made on the spot may be kept: `tiles(board.part(at, size), 2, 2)`.
+/// What lends a view for as long as its cells are lent: a reference to what lends itself as a view, or a view by value.
+/// So the parts of a view that is made on the spot may be kept: `tiles(board.part(at, size), 2, 2)`.
 pub trait IntoView<'a, T> {
     // The rows that are lent.
     ghost rows: { Self → List (List T) };
@@ -41,8 +41,9 @@ impl<'a, T> IntoView<'a, T> for GridView<'a, T> {
     }
 }
 
-/// Returns an iterator over the tiles of this size, row by row, from both ends, each as a view: the parts into which the
-/// board is cut from its first corner on. Those at its end are smaller where the size doesn't divide that of the board.
+/// Returns an iterator over the tiles of this size, row by row, from both ends, each as a view: the parts into which
+/// the board is cut from its first corner on. Those at its end are smaller where the size doesn't divide that of the
+/// board.
 ///
 ///     [[1, 2, 3], [4, 5, 6]]   tiles(board, 2, 2)   [[1, 2], [4, 5]]; then [[3], [6]]
 ///
@@ -69,8 +70,8 @@ pub fn tiles<'a, T, V: IntoView<'a, T>>(board: V, rows: usize, cols: usize) -> P
     }
 }
 
-/// Returns an iterator over the windows of this size, row by row, from both ends, each as a view: every part of the board
-/// that has this size.
+/// Returns an iterator over the windows of this size, row by row, from both ends, each as a view: every part of the
+/// board that has this size.
 ///
 ///     [[1, 2, 3], [4, 5, 6]]   windows(board, 2, 2)   [[1, 2], [4, 5]]; then [[2, 3], [5, 6]]
 ///
@@ -105,8 +106,8 @@ fn starts(len: usize, size: usize) -> usize
     if size <= len { len - size + 1 } else { 0 }
 }
 
-/// An iterator over parts of a board, row by row, from both ends, seen as the list of the rows of each that remains. A step
-/// from the back takes a division.
+/// An iterator over parts of a board, row by row, from both ends, seen as the list of the rows of each that remains. A
+/// step from the back takes a division.
 #[derive(Drop)]
 pub struct PartIter<'a, T> {
     board: GridView<'a, T>,

@@ -1,13 +1,13 @@
 //! Where a pattern stands in a board.
-ghost use Rattle.std.specs.Prelude.{◌≡◌, ◌+◌, ◌<◌, ◌≤◌, ◌↔◌, ℕ, IsTrue, IfSome, MatchOption};
-ghost use Rattle.grid_pairs.specs.Prelude.{row_count, col_count, InRange, FoundFirst};
+ghost use Rattle.std.specs.Prelude.{◌≡◌, ◌+◌, ◌<◌, ◌≤◌, ◌↔◌, ℕ, IsTrue, IfSome, MatchOption, Some};
+ghost use Rattle.grid_pairs.specs.Prelude.{cell, row, row_count, col_count, InRange, FoundFirst};
 ghost use Rattle.grid_pairs.specs.Found.{StandsIn, StandsFirstIn};
 
 use grid_view::{AsView, GridView};
 
-/// Returns the row and the column of the first part of a board, row by row, that is the pattern, or `None` where none is.
-/// The empty pattern is found at (0, 0). There the part fits, so that `board.part(at, pattern.size())` needs no test, and where
-/// the pattern has cells, neither does `board[at]`.
+/// Returns the row and the column of the first part of a board, row by row, that is the pattern, or `None` where none
+/// is. The empty pattern is found at (0, 0). There the part fits, so that `board.part((r, col), pattern.size())` needs
+/// no test, and where the pattern has cells, neither does `board[at]`.
 ///
 ///     [[1, 2, 1], [2, 1, 2]]   find(board, [[2, 1]])   Some((0, 1))
 ///     [[1, 2, 1], [2, 1, 2]]   find(board, [[2, 2]])   None
@@ -56,35 +56,80 @@ fn found<T: PartialEq>(board: &GridView<'_, T>, pattern: &GridView<'_, T>) -> Op
 fn find_in_row<T: PartialEq>(
     board: &GridView<'_, T>,
     pattern: &GridView<'_, T>,
-    row: usize,
+    r: usize,
 ) -> Option<usize>
     requires some { 0 < col_count pattern.now.rows }
-    requires rows_in { row + row_count pattern.now.rows ≤ row_count board.now.rows }
+    requires rows_in { r + row_count pattern.now.rows ≤ row_count board.now.rows }
     requires cols_in { col_count pattern.now.rows ≤ col_count board.now.rows }
     ensures { MatchOption result
-        ((c : ℕ) → StandsIn T.eq board.now.rows pattern.now.rows row c → ⊥)
-        (StandsFirstIn T.eq board.now.rows pattern.now.rows row) }
+        ((c : ℕ) → StandsIn T.eq board.now.rows pattern.now.rows r c → ⊥)
+        (StandsFirstIn T.eq board.now.rows pattern.now.rows r) }
+{
+    match board.row_slice(r) {
+        Some(line) => find_in_line(board, pattern, r, line),
+        None => find_across(board, pattern, r),
+    }
+}
+
+// The same of a row whose cells are side by side.
+fn find_in_line<T: PartialEq>(
+    board: &GridView<'_, T>,
+    pattern: &GridView<'_, T>,
+    r: usize,
+    line: &[T],
+) -> Option<usize>
+    requires some { 0 < col_count pattern.now.rows }
+    requires rows_in { r + row_count pattern.now.rows ≤ row_count board.now.rows }
+    requires cols_in { col_count pattern.now.rows ≤ col_count board.now.rows }
+    requires line { line.now ≡ row board.now.rows r }
+    ensures { MatchOption result
+        ((c : ℕ) → StandsIn T.eq board.now.rows pattern.now.rows r c → ⊥)
+        (StandsFirstIn T.eq board.now.rows pattern.now.rows r) }
 {
     for col in 0..board.cols() - pattern.cols() + 1 {
-        if stands_at(board, pattern, row, col) {
+        if stands_at(board, pattern, r, col, &line[col]) {
             return Some(col);
         }
     }
     None
 }
 
-// Whether the pattern stands at a position. Most positions differ in the first cell, which is read before a part is made.
+// The same of any row.
+fn find_across<T: PartialEq>(
+    board: &GridView<'_, T>,
+    pattern: &GridView<'_, T>,
+    r: usize,
+) -> Option<usize>
+    requires some { 0 < col_count pattern.now.rows }
+    requires rows_in { r + row_count pattern.now.rows ≤ row_count board.now.rows }
+    requires cols_in { col_count pattern.now.rows ≤ col_count board.now.rows }
+    ensures { MatchOption result
+        ((c : ℕ) → StandsIn T.eq board.now.rows pattern.now.rows r c → ⊥)
+        (StandsFirstIn T.eq board.now.rows pattern.now.rows r) }
+{
+    for col in 0..board.cols() - pattern.cols() + 1 {
+        if stands_at(board, pattern, r, col, board.get_unchecked(r, col)) {
+            return Some(col);
+        }
+    }
+    None
+}
+
+// Whether the pattern stands at a position of a board, whose cell there is `first`. Most positions differ in that cell,
+// and no part is made of them.
+#[inline(always)]
 fn stands_at<T: PartialEq>(
     board: &GridView<'_, T>,
     pattern: &GridView<'_, T>,
-    row: usize,
+    r: usize,
     col: usize,
+    first: &T,
 ) -> bool
     requires some { 0 < col_count pattern.now.rows }
-    requires rows_in { row + row_count pattern.now.rows ≤ row_count board.now.rows }
+    requires rows_in { r + row_count pattern.now.rows ≤ row_count board.now.rows }
     requires cols_in { col + col_count pattern.now.rows ≤ col_count board.now.rows }
-    ensures { IsTrue result ↔ StandsIn T.eq board.now.rows pattern.now.rows row col }
+    requires first { cell board.now.rows r col ≡ Some first.now }
+    ensures { IsTrue result ↔ StandsIn T.eq board.now.rows pattern.now.rows r col }
 {
-    board.get_unchecked(row, col) == pattern.get_unchecked(0, 0)
-        && board.part((row, col), pattern.size()) == *pattern
+    first == pattern.get_unchecked(0, 0) && board.part((r, col), pattern.size()) == *pattern
 }

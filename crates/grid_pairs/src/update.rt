@@ -12,10 +12,10 @@ use std::alloc::Allocator;
 ///
 ///     [[1, 2], [3, 4]]   update_with(grid, [[10, 20], [30, 40]], |x, y| *x + *y)   [[11, 22], [33, 44]]
 ///
-/// Requires: the board has as many rows and as many columns as the grid, as `grid.size() == other.size()` tells; the closure
-/// can be called at each two cells.
-/// Cost: one call for each cell, line by line along the storage of the grid, in vector code where the board is stored so too;
-/// no memory.
+/// Requires: the board has as many rows and as many columns as the grid, as `grid.size() == other.size()` tells; the
+/// closure can be called at each two cells.
+/// Cost: one call for each cell, line by line along the storage of the grid, in vector code where the board is stored
+/// so too; no memory.
 pub fn update_with<T: Drop, U, V: AsView<U>, A: Allocator, F: Fn(&T, &U) -> T>(
     grid: &mut Grid<T, A>,
     other: &V,

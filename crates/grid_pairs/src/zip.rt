@@ -7,12 +7,13 @@ use grid::{Grid, Order};
 use grid_view::{AsView, GridView};
 use std::alloc::{AllocError, Allocator};
 
-/// Returns the grid, in an order, of what the closure returns for references to each two cells of two boards of one size.
+/// Returns the grid, in an order, of what the closure returns for references to each two cells of two boards of one
+/// size.
 ///
 ///     zip_with(alloc, RowMajor, [[1, 2], [3, 4]], [[10, 20], [30, 40]], |x, y| *x + *y)   [[11, 22], [33, 44]]
 ///
-/// Requires: the boards have as many rows and as many columns, as `board.size() == other.size()` tells; the closure can be
-/// called at each two cells.
+/// Requires: the boards have as many rows and as many columns, as `board.size() == other.size()` tells; the closure can
+/// be called at each two cells.
 /// Fails: if allocation fails; the closure wasn't called.
 /// Cost: one call for each cell, line by line along the order, in vector code where both boards are stored in it; one
 /// allocation, before the first call.

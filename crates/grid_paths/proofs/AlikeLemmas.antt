@@ -1,5 +1,5 @@
 -- Which cells equal one: the size of that table, and its cells.
-use Rattle.std.proofs.Common.{◌≡◌, ℕ, ◌+◌, ◌^◌, ◌<◌, Bool, true, Option, None, Some, List, length, refl, sym, ◌∙◌, ap, arith, ⊎_elim, MatchOption, option_map}
+use Rattle.std.proofs.Common.{◌≡◌, ℕ, ◌+◌, ◌^◌, ◌<◌, Bool, true, Option, None, Some, List, length, refl, sym, ◌∙◌, ap, arith, ⊎_elim, option_map}
 use Rattle.grid_paths.proofs.Common.{cases_lt, slice_get_past, row, row_count, col_count, cell, IsTable, tabulate, IsFull, IsFull-cells, rows-tabulate, cell-tabulate, cell_past_rows, cell_past_cols, cell_in_range, IsOpen, alike, mapped_there}
 
 module _ {X Y : Type 0} (f : X → Y) (t : List (List X)) (table : IsTable t) where
@@ -53,8 +53,3 @@ module _ {X : Type 0} (eq : X → X → Bool) (x : X) (t : List (List X)) (table
       let lr = i.0 in
       let lc = i.1 in
       (omega arith, omega arith)
-
--- a write in range is made
-pub set_there : {X : Type 0} (r : Option X) (P Q R : Type 0) → P → MatchOption r (P → ⊥) (λ _. P) → MatchOption r Q (λ _. R) → R
-set_there None P Q R p h w = absurd (h p)
-set_there (Some x) P Q R p h w = w

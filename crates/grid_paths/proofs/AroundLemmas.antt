@@ -19,6 +19,9 @@ Contains-later x z xs c = let lt = c.1 in (suc c.0, omega (arith, lt), c.2)
 pub none_in : {X : Type 0} (z : X) → Contains [] z → ⊥
 none_in z c = omega (arith, c.1)
 
+pub contains_next : {X : Type 0} (x : X) (xs : List X) (z : X) → ((x ≡ z) ⊎ Contains xs z) ↔ Contains (x ∷ xs) z
+contains_next x xs z = (λ h. ⊎_elim (λ e. Contains-first x z xs e) (λ c. Contains-later x z xs c) h, λ c. Contains-cases x z xs c)
+
 -- what is in four
 module _ {X : Type 0} (x1 x2 x3 x4 z : X) (xs : List X) where
   abbrev pub IsOneOfFour : Type 0

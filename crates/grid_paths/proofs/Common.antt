@@ -7,7 +7,7 @@ pub use Rattle.grid_base.proofs.Common.{row_count, col_count, cases_lt, cell, Is
 pub use Rattle.grid_base.proofs.StorageLemmas.{length-storage}
 pub use Rattle.grid_base.proofs.TableLemmas.{cell_in_range, cell_past_rows, IsFull, IsFull-cells, rows-tabulate, cell-tabulate, cell_past_cols, tabulate-same, tabulate-cells, past_cols}
 pub use Rattle.grid_base.proofs.ViewLemmas.{same_grid_value}
-pub use Rattle.grid_base.proofs.WriteLemmas.{cell-with_same, cell-with_other, same_or_other}
+pub use Rattle.grid_base.proofs.WriteLemmas.{cell-with_same, cell-with_other, same_or_other, rows-written, cols-with_cell}
 pub use Rattle.grid_near.proofs.AroundLemmas.{mapped_there}
 unfoldable pub use Rattle.grid_near.specs.Neighbors.{neighbors4, neighbors8}
 pub use Rattle.grid_near.specs.Neighbors.{around4, around8, before, cell_at}
@@ -15,7 +15,7 @@ pub use Rattle.grid_paths.specs.Cheapest.{IsLeastCost, cost_at}
 pub use Rattle.grid_paths.specs.Flood.{IsEntered, IsGoneOn, EnterWalk}
 pub use Rattle.grid_paths.specs.Frontier.{entry, IsEnough, by_sum, entry_of}
 pub use Rattle.grid_paths.specs.Numbers.{AreEqual, AreParts}
-pub use Rattle.grid_paths.specs.Prelude.{IsStep, IsOpen, IsMarked, alike, AreSteps, InRange, unreached, way_of, HaveOneSize, Holds, Walk, undone, places, Enters, IsSearching, IsWritten, HasLeastFrom, CostWalk, answers_by, IsFlood, Reaches, IsPath, HasLeastUpTo, CanUndo, IsTrail, HasLeastCosts, AreRegions, AreNumbers, IsNumbered, IsScanned, IsShortestPath, IsSettled, IsFilled, HasLeastSteps, IsCheapestPath, IsPassed, IsReady, IsNext, IsOver, Puts, Pops, IsEmptied, sums_of, waiting, Reading, narrow, wide, numbers, HasRoom, IsAnswer, AreAnswers, HoldsOfAnswers, IsFrontier, Marks, IsCostPath, IsCounting, Takes}
+pub use Rattle.grid_paths.specs.Prelude.{IsStep, IsOpen, IsMarked, alike, AreSteps, Outcome, VisitsEach, InRange, unreached, way_of, HaveOneSize, Holds, Walk, undone, places, Enters, IsSearching, IsWritten, HasLeastFrom, CostWalk, answers_by, IsFlood, Reaches, IsPath, HasLeastUpTo, CanUndo, IsTrail, HasLeastCosts, AreRegions, AreNumbers, IsNumbered, IsScanned, IsShortestPath, IsSettled, IsFilled, HasLeastSteps, IsCheapestPath, IsPassed, IsReady, IsNext, IsOver, Puts, Pops, IsEmptied, sums_of, waiting, Reading, narrow, wide, numbers, HasRoom, IsAnswer, AreAnswers, HoldsOfAnswers, IsFrontier, Marks, IsCostPath, IsCounting, Takes, Numbers}
 pub use Rattle.grid_paths.specs.Regions.{AreJoined, ComesBefore}
 pub use Rattle.grid_paths.specs.Relaxing.{Entry, IsClosed, IsCostSearch, IsFirst, IsWaiting, HoldsUpTo, Relaxes, Comes}
 pub use Rattle.grid_paths.specs.Search.{IsAt, Spread, WentAround, free, IsReached}

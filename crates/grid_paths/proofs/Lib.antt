@@ -10,6 +10,7 @@ pub mod SearchLemmas
 pub mod StepLemmas
 pub mod ClosureLemmas
 pub mod AroundLemmas
+pub mod VisitLemmas
 pub mod WidthLemmas
 pub mod HeapLemmas
 pub mod RelaxLemmas

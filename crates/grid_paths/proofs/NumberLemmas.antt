@@ -1,9 +1,20 @@
 -- One region numbered.
-use Rattle.std.proofs.Common.{◌≡◌, ℕ, suc, ◌+◌, ◌<◌, ◌≤◌, ◌⊎◌, Bool, Option, List, [], length, sym, subst, arith, inl, inr, ⊎_elim}
-use Rattle.grid_paths.proofs.Common.{cases_lt, slice_get_within, IsOpen, IsStep, Walk, IsMarked, IsAt, Spread, WentAround, IsNumbered}
+use Rattle.std.proofs.Common.{◌≡◌, ℕ, suc, ◌+◌, ◌<◌, ◌≤◌, ◌⊎◌, Bool, Option, List, [], Contains, OnOk, length, sym, subst, arith, inl, inr, ⊎_elim}
+use Rattle.grid_paths.proofs.Common.{cases_lt, slice_get_within, IsOpen, IsStep, Walk, IsMarked, IsAt, Spread, WentAround, IsNumbered, AreSteps, Outcome, VisitsEach, Numbers, on_ok_weaker}
 use Rattle.grid_near.specs.declared.steps.Connectivity.{Connectivity}
 use Rattle.grid_paths.proofs.SearchLemmas.{one_place}
-use Rattle.grid_paths.proofs.StepLemmas.{Grew}
+use Rattle.grid_paths.specs.declared.bfs.Bfs.{Bfs}
+use Rattle.grid_paths.specs.declared.numbered.Region.{Region}
+use Rattle.grid_paths.proofs.AlikeLemmas.{alike_fits}
+use Rattle.grid_paths.proofs.StepLemmas.{Grew, Spreads-steps, Spreads-none, Spreads-next}
+use Rattle.grid_paths.proofs.VisitLemmas.{visited_each}
+
+-- the positions that a step leads to are visited, one after another
+pub Numbers-around : {T A : Type 0} (eq : T → T → Bool) (region : Region T A) (at : ℕ × ℕ) (near : List (ℕ × ℕ)) → AreSteps region.connectivity at near → (r : Outcome) (w u : Bfs A) → VisitsEach (λ at r w u. OnOk r (Numbers eq (λ b. at ≡ b) region w u)) near r w u → OnOk r (Numbers eq (IsStep region.connectivity at) region w u)
+Numbers-around eq region at near steps r w u each =
+    let t = region.grid.now in
+    on_ok_weaker r (λ h. Spreads-steps region.connectivity at near steps (λ b o. inl (alike_fits eq region.first.now t.rows t.table t.fits.rows t.fits.cols b o)) h)
+    (visited_each (λ at r w u. OnOk r (Numbers eq (λ b. at ≡ b) region w u)) (λ near w u. Numbers eq (λ b. Contains near b) region w u) Spreads-none (λ at later w v u one rest. Spreads-next later one rest) near r w u each)
 
 -- a position that got the number while the region was numbered
 pub record IsNew (connectivity : Connectivity) (mask : List (List Bool)) (p : ℕ × ℕ) (k : ℕ) (q : List (ℕ × ℕ)) (a : ℕ × ℕ) (m : ℕ) : Type 0 where

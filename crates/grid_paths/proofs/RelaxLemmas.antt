@@ -1,13 +1,15 @@
 -- One position entered, and the positions around one.
-use Rattle.std.proofs.Common.{◌≡◌, ℕ, ◌+◌, ◌^◌, ◌<◌, ◌≤◌, ◌⊎◌, ◌↔◌, Option, None, Some, List, ◌∷◌, length, Contains, refl, sym, ◌∙◌, ap, subst, arith, inl, inr, ⊎_elim, IsPermutation}
-use Rattle.grid_paths.proofs.Common.{cases_lt, row_count, col_count, cell, with_cell, IsTable, cell-with_same, cell-with_other, same_or_other, AreSteps, IsAt, IsStep, Holds, Entry, IsWaiting, HoldsUpTo, IsClosed, Relaxes, IsFrontier, Enters, cell_in_range, Reading, Puts, sums_of, waiting}
+use Rattle.std.proofs.Common.{◌≡◌, ℕ, ◌+◌, ◌^◌, ◌<◌, ◌≤◌, ◌⊎◌, ◌↔◌, Option, None, Some, List, [], ◌∷◌, Contains, OnOk, refl, sym, ◌∙◌, ap, subst, arith, inl, inr, ⊎_elim, IsPermutation}
+use Rattle.grid_paths.proofs.Common.{cases_lt, row_count, col_count, cell, with_cell, IsTable, cell-with_same, cell-with_other, same_or_other, AreSteps, IsStep, Holds, Entry, IsWaiting, HoldsUpTo, IsClosed, Relaxes, IsFrontier, Enters, cell_in_range, Reading, Puts, sums_of, waiting, on_ok_weaker, Outcome, VisitsEach}
 use Rattle.std.specs.declared.cmp.Ordering.{Ordering}
 use Rattle.grid_base.proofs.Common.{InRange}
 use Rattle.grid_near.specs.declared.steps.Connectivity.{Connectivity}
-use Rattle.grid_paths.proofs.AroundLemmas.{Before, before_either, before_all}
+use Rattle.grid_paths.proofs.AroundLemmas.{none_in, contains_next}
 use Rattle.grid_paths.proofs.SearchLemmas.{one_mark}
+use Rattle.grid_paths.proofs.StepLemmas.{in_range_as}
 use Rattle.grid_paths.specs.Relaxing.{IsEntered}
 use Rattle.grid_paths.specs.declared.costs.Frontier.{Frontier}
+use Rattle.grid_paths.proofs.VisitLemmas.{visited_each}
 use Rattle.grid_paths.proofs.HeapLemmas as heaps
 use Rattle.grid_paths.proofs.WidthLemmas.{numbers-inside, numbers-table}
 
@@ -16,13 +18,7 @@ left_inside t table a k h = cell_in_range t table a.0 a.1 (Some k) h
 
 -- a position of one table is in range of another of its size
 pub same_size : {X : Type 0} (t : List (List (Option ℕ))) (u : List (List X)) → IsTable t → row_count u ≡ row_count t → col_count u ≡ col_count t → (a : ℕ × ℕ) (k : ℕ) → Holds t a k → InRange u a.0 a.1
-same_size t u table rows cols a k h =
-    let i = left_inside t table a k h in
-    let lr = i.0 in
-    let lc = i.1 in
-    let lr1 : a.0 < row_count u = omega arith in
-    let lc1 : a.1 < col_count u = omega arith in
-    (lr1, lc1)
+same_size t u table rows cols a k h = in_range_as t u rows cols a (left_inside t table a k h)
 
 -- no less than the number there
 pub not_less : (u : List (List (Option ℕ))) (a : ℕ × ℕ) (n : ℕ) → (((m : ℕ) → Holds u a m → n < m) → ⊥) → HoldsUpTo u a n
@@ -210,29 +206,22 @@ module _ {N A : Type 0} {cmp : N → N → Ordering} {w : Reading N} {sum : ℕ}
             (record { 0 = (sum + k, b) }) (waiting w g) refl refl p.waits (sums_of w g) p.sums;
       }
 
-  -- the positions of a list, one after another
-  pub Enters-start : (xs : List (ℕ × ℕ)) → IsFrontier cmp w f → Enters cmp w (Before xs 0) sum f f
-  Enters-start xs whole = Enters-none (Before xs 0) whole (λ b k is_near h. absurd (omega (arith, is_near.early)))
-
-  module _ {xs : List (ℕ × ℕ)} {i : ℕ} {g : Frontier N A} (e : Enters cmp w (Before xs i) sum f g) where
-    pub Enters-next : {b : ℕ × ℕ} {h : Frontier N A} → IsAt xs i b → Enters cmp w (λ a. b ≡ a) sum g h → Enters cmp w (Before xs (i + 1)) sum f h
-    Enters-next {b = b} {h = h} place s =
-        Enters-as (λ a. Before xs i a ⊎ (b ≡ a)) (Before xs (i + 1))
-        (λ a k is_left. before_either xs i b place a)
-        h
-        (record {
-          left = s.left ∙ e.left;
-          order = s.order ∙ e.order;
-          whole = s.whole;
-          relaxes = Relaxes-join f.left.rows sum (Before xs i) (λ a. b ≡ a) (sums_of w f) (waiting w f) (sums_of w g) (waiting w g) (sums_of w h) (waiting w h) e.relaxes
-              (subst (λ l. Relaxes (λ a. b ≡ a) l.rows sum (sums_of w g) (waiting w g) (sums_of w h) (waiting w h)) e.left s.relaxes);
-        })
-
-    pub Enters-end : length xs ≤ i → Enters cmp w (λ b. Contains xs b) sum f g
-    Enters-end all = Enters-as (Before xs i) (λ b. Contains xs b) (λ b k h. before_all xs i all b) g e
+  -- one position and then those of a list
+  Enters-next : {b : ℕ × ℕ} (xs : List (ℕ × ℕ)) {g h : Frontier N A} → Enters cmp w (λ a. b ≡ a) sum f g → Enters cmp w (λ a. Contains xs a) sum g h → Enters cmp w (λ a. Contains (b ∷ xs) a) sum f h
+  Enters-next {b = b} xs {g = g} {h = h} e s =
+      Enters-as (λ a. (b ≡ a) ⊎ Contains xs a) (λ a. Contains (b ∷ xs) a)
+      (λ a k is_left. contains_next b xs a)
+      h
+      (record {
+        left = s.left ∙ e.left;
+        order = s.order ∙ e.order;
+        whole = s.whole;
+        relaxes = Relaxes-join f.left.rows sum (λ a. b ≡ a) (λ a. Contains xs a) (sums_of w f) (waiting w f) (sums_of w g) (waiting w g) (sums_of w h) (waiting w h) e.relaxes
+            (subst (λ l. Relaxes (λ a. Contains xs a) l.rows sum (sums_of w g) (waiting w g) (sums_of w h) (waiting w h)) e.left s.relaxes);
+      })
 
   -- positions in range are such as a grid can have
-  pub Enters-steps : (connectivity : Connectivity) (at : ℕ × ℕ) (xs : List (ℕ × ℕ)) → AreSteps connectivity at xs → (g : Frontier N A) → Enters cmp w (λ b. Contains xs b) sum f g → Enters cmp w (IsStep connectivity at) sum f g
+  Enters-steps : (connectivity : Connectivity) (at : ℕ × ℕ) (xs : List (ℕ × ℕ)) → AreSteps connectivity at xs → (g : Frontier N A) → Enters cmp w (λ b. Contains xs b) sum f g → Enters cmp w (IsStep connectivity at) sum f g
   Enters-steps connectivity at xs steps g e =
       Enters-as (λ b. Contains xs b) (IsStep connectivity at)
       (λ b k x.
@@ -243,3 +232,12 @@ module _ {N A : Type 0} {cmp : N → N → Ordering} {w : Reading N} {sum : ℕ}
       let cols = f.left.fits.cols in
       steps b (omega arith) (omega arith))
       g e
+
+module _ {N A : Type 0} {cmp : N → N → Ordering} {w : Reading N} (sum : ℕ) where
+  -- the positions that a step leads to, one after another
+  pub Enters-around : (connectivity : Connectivity) (at : ℕ × ℕ) (near : List (ℕ × ℕ)) → AreSteps connectivity at near → (r : Outcome) (f g : Frontier N A) → IsFrontier cmp w f → VisitsEach (λ at r f g. OnOk r (Enters cmp w (λ b. at ≡ b) sum f g)) near r f g → OnOk r (Enters cmp w (IsStep connectivity at) sum f g)
+  Enters-around connectivity at near steps r f g whole each =
+      on_ok_weaker r (λ h. Enters-steps connectivity at near steps g (h whole))
+      (visited_each (λ at r f g. OnOk r (Enters cmp w (λ b. at ≡ b) sum f g)) (λ near f g. IsFrontier cmp w f → Enters cmp w (λ b. Contains near b) sum f g)
+      (λ f whole. Enters-none (λ b. Contains [] b) whole (λ b k is_near h. absurd (none_in b is_near)))
+      (λ at later f g h one rest whole. Enters-next later one (rest one.whole)) near r f g each)

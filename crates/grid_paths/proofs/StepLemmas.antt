@@ -1,11 +1,15 @@
 -- One position marked, those of a list, those around a position, and the start.
 use Rattle.std.proofs.Common.{◌≡◌, ◌≢◌, ℕ, zero, suc, ◌+◌, ◌^◌, ◌<◌, ◌≤◌, ◌⊎◌, Bool, Option, None, Some, List, [], ◌∷◌, ◌++◌, length, Contains, set, get_or, refl, sym, ◌∙◌, ap, subst, arith, rules, inl, inr, ⊎_elim, ◌↔◌, sum_by, slice_get, length-append}
-use Rattle.grid_paths.proofs.Common.{cases_eq, cases_lt, sum_by-set, slice_get_within, slice_get_read, get_or_from_slice_get, row, cell, with_cell, tabulate, IsTable, IsFull, cell-tabulate, rows-tabulate, cell_past_rows, cell_past_cols, cell_in_range, cell-with_same, cell-with_other, IsOpen, IsStep, WalkFrom, IsMarked, IsAt, IsReached, Spread, WentAround, free, unreached, AreSteps, Marks, Spreads}
+use Rattle.grid_paths.proofs.Common.{cases_eq, cases_lt, sum_by-set, slice_get_within, get_or_from_slice_get, row, row_count, col_count, cell, with_cell, tabulate, IsTable, IsFull, cell-tabulate, rows-tabulate, cell_past_rows, cell_past_cols, cell_in_range, cell-with_same, cell-with_other, IsOpen, IsStep, IsMarked, IsAt, IsReached, Spread, WentAround, free, unreached, AreSteps, Marks, Spreads}
 use Rattle.grid_base.proofs.Common.{InRange}
 use Rattle.grid_near.specs.declared.steps.Connectivity.{Connectivity}
 use Rattle.grid_paths.specs.declared.bfs.Bfs.{Bfs}
-use Rattle.grid_paths.proofs.AroundLemmas.{same_pair, Before, before_either, before_all, Contains-from_get}
-use Rattle.grid_paths.proofs.SearchLemmas.{IsSearch, one_mark, one_place, IsSearch-spread}
+use Rattle.grid_paths.proofs.AroundLemmas.{same_pair, none_in, contains_next}
+use Rattle.grid_paths.proofs.SearchLemmas.{IsSearch, one_mark, IsSearch-spread}
+
+-- a position in range of a table is so of another of its size
+pub in_range_as : {X Y : Type 0} (t : List (List X)) (u : List (List Y)) → row_count u ≡ row_count t → col_count u ≡ col_count t → (a : ℕ × ℕ) → InRange t a.0 a.1 → InRange u a.0 a.1
+in_range_as t u rows cols a i = (subst (λ n. a.0 < n) (sym rows) i.0, subst (λ n. a.1 < n) (sym cols) i.1)
 
 -- a queue with one item more
 pub at_push : {X : Type 0} (queue : List X) (b : X) (j : ℕ) (a : X) → slice_get queue j ≡ Some a → slice_get (queue ++ b ∷ []) j ≡ Some a
@@ -215,16 +219,12 @@ module _ {A : Type 0} {mask : List (List Bool)} {k : ℕ} where
       }
 
   -- the positions of a list, one after another
-  pub Spreads-start : (xs : List (ℕ × ℕ)) (w : Bfs A) → Spreads (Before xs 0) mask k w w
-  Spreads-start xs w = Spreads-stay (Before xs 0) w (λ b h o. absurd (omega (arith, h.early)))
+  pub Spreads-none : (w : Bfs A) → Spreads (λ b. Contains [] b) mask k w w
+  Spreads-none w = Spreads-stay (λ b. Contains [] b) w (λ b h o. absurd (none_in b h))
 
-  module _ {xs : List (ℕ × ℕ)} {i : ℕ} {w0 w1 : Bfs A} (e : Spreads (Before xs i) mask k w0 w1) where
-    pub Spreads-next : {b : ℕ × ℕ} {w2 : Bfs A} → IsAt xs i b → Spreads (λ a. b ≡ a) mask k w1 w2 → Spreads (Before xs (i + 1)) mask k w0 w2
-    Spreads-next {b = b} place s =
-        Spreads-as (λ a. Before xs i a ⊎ (b ≡ a)) (Before xs (i + 1)) (λ a o. inl (before_either xs i b place a)) (Spreads-join e s)
-
-    pub Spreads-end : length xs ≤ i → Spreads (λ b. Contains xs b) mask k w0 w1
-    Spreads-end all = Spreads-as (Before xs i) (λ b. Contains xs b) (λ b o. inl (before_all xs i all b)) e
+  pub Spreads-next : {b : ℕ × ℕ} (xs : List (ℕ × ℕ)) {w0 w1 w2 : Bfs A} → Spreads (λ a. b ≡ a) mask k w0 w1 → Spreads (λ a. Contains xs a) mask k w1 w2 → Spreads (λ a. Contains (b ∷ xs) a) mask k w0 w2
+  Spreads-next {b = b} xs one rest =
+      Spreads-as (λ a. (b ≡ a) ⊎ Contains xs a) (λ a. Contains (b ∷ xs) a) (λ a o. inl (contains_next b xs a)) (Spreads-join one rest)
 
   -- the positions that a grid can have
   pub Spreads-steps : (connectivity : Connectivity) (at : ℕ × ℕ) (xs : List (ℕ × ℕ)) {w w' : Bfs A} → AreSteps connectivity at xs → ((b : ℕ × ℕ) → IsOpen mask b → ((b.0 + 1 < 2 ^ 64) × (b.1 + 1 < 2 ^ 64)) ⊎ ((m : ℕ) × IsMarked w.numbers.rows b m)) → Spreads (λ b. Contains xs b) mask k w w' → Spreads (IsStep connectivity at) mask k w w'
@@ -232,70 +232,32 @@ module _ {A : Type 0} {mask : List (List Bool)} {k : ℕ} where
       Spreads-as (λ b. Contains xs b) (IsStep connectivity at) (λ b o. ⊎_elim (λ f. inl (steps b f.0 f.1)) (λ old. inr old) (fits b o)) e
 
 -- the start: the first positions reached by no step, those that are open
-pub record IsStarted (connectivity : Connectivity) (mask : List (List Bool)) (starts : List (ℕ × ℕ)) (steps : List (List (Option ℕ))) (queue : List (ℕ × ℕ)) (done : ℕ) : Type 0 where
-  pub search : IsSearch connectivity mask starts steps queue 0
-  pub zeros : (a : ℕ × ℕ) (m : ℕ) → IsMarked steps a m → m ≡ 0
-  pub start : (j : ℕ) (from : ℕ × ℕ) → j < done → slice_get starts j ≡ Some from → IsOpen mask from → IsMarked steps from 0
-
-module _ (connectivity : Connectivity) (mask : List (List Bool)) (starts : List (ℕ × ℕ)) (d0 : List (List (Option ℕ))) where
-  pub IsStarted-empty : ((a : ℕ × ℕ) (m : ℕ) → IsMarked d0 a m → ⊥) → IsStarted connectivity mask starts d0 [] 0
-  IsStarted-empty none =
+module _ (connectivity : Connectivity) (mask : List (List Bool)) (starts : List (ℕ × ℕ)) (d0 : List (List (Option ℕ))) (none : (a : ℕ × ℕ) (m : ℕ) → IsMarked d0 a m → ⊥) where
+  IsSearch-empty : IsSearch connectivity mask starts d0 [] 0
+  IsSearch-empty =
       record {
-        search = record {
-          marked = λ j a h. absurd (nowhere j a h);
-          listed = λ a n h. absurd (none a n h);
-          sound = λ a n h. absurd (none a n h);
-          ordered = λ i j a b m n le h. absurd (nowhere i a h);
-          close = λ a m j b n le h. absurd (none a m h);
-          done = λ j a n b lt h. absurd (nowhere j a h);
-        };
-        zeros = λ a m h. absurd (none a m h);
-        start = λ j from lt. absurd (omega (arith, lt));
+        marked = λ j a h. absurd (nowhere j a h);
+        listed = λ a n h. absurd (none a n h);
+        sound = λ a n h. absurd (none a n h);
+        ordered = λ i j a b m n le h. absurd (nowhere i a h);
+        close = λ a m j b n le h. absurd (none a m h);
+        done = λ j a n b lt h. absurd (nowhere j a h);
       }
     where
       nowhere : (j : ℕ) (a : ℕ × ℕ) → IsAt [] j a → ⊥
       nowhere j a h = cc
 
-  module _ (q0 : List (ℕ × ℕ)) (done : ℕ) (from : ℕ × ℕ) (d1 : List (List (Option ℕ))) (q1 : List (ℕ × ℕ)) (s : IsStarted connectivity mask starts d0 q0 done) (place : slice_get starts done ≡ Some from)
-      (r : WentAround (λ a. from ≡ a) mask 0 d0 q0 d1 q1) where
-    g : Spread (λ a. from ≡ a) mask 0 d0 q0 d1 q1
-    g = r.spread
+  module _ (d1 : List (List (Option ℕ))) (q1 : List (ℕ × ℕ)) (r : WentAround (λ a. Contains starts a) mask 0 d0 [] d1 q1) where
+    pub IsSearch-start : IsSearch connectivity mask starts d1 q1 0
+    IsSearch-start =
+        IsSearch-spread connectivity mask starts (λ a. Contains starts a) d0 [] d1 q1 0 0 IsSearch-empty r.spread (omega arith) (λ b is o. (b, is, (refl, o)))
+        (λ a m h. absurd (none a m h))
+        (λ j a n le h m. absurd (none a n m)) (omega arith)
 
-    zeros' : (a : ℕ × ℕ) (m : ℕ) → IsMarked d1 a m → m ≡ 0
-    zeros' a m h = ⊎_elim (λ h0. s.zeros a m h0) (λ f. f.is) (g.fresh a m h)
-
-    way : (b : ℕ × ℕ) → from ≡ b → IsOpen mask b → WalkFrom connectivity mask starts b 0
-    way b e is_open =
-        let here : IsOpen mask from = subst (λ x. IsOpen mask x) (sym e) is_open in
-        (from, Contains-from_get starts done from place, (e, is_open))
-
-    search' : IsSearch connectivity mask starts d1 q1 0
-    search' =
-        IsSearch-spread connectivity mask starts (λ a. from ≡ a) d0 q0 d1 q1 0 0 s.search g (omega arith) way
-        (λ a m h. let z : m ≡ 0 = s.zeros a m h in omega arith)
-        (λ j a n le h m. omega arith) (omega arith)
-
-    start' : (j : ℕ) (a : ℕ × ℕ) → j < done + 1 → slice_get starts j ≡ Some a → IsOpen mask a → IsMarked d1 a 0
-    start' j a lt e is_open =
-        ⊎_elim (λ less. g.kept a 0 (s.start j a less e is_open))
-        (λ ge.
-        let j_is : j ≡ done = omega arith in
-        let e1 : slice_get starts done ≡ Some a = subst (λ x. slice_get starts x ≡ Some a) j_is e in
-        let a_is : a ≡ from = one_place starts done a from e1 place in
-        let v = r.around from refl (subst (λ x. IsOpen mask x) a_is is_open) in
-        let z : v.0 ≡ 0 = zeros' from v.0 v.1 in
-        subst (λ x. IsMarked d1 x 0) (sym a_is) (subst (λ x. IsMarked d1 from x) z v.1))
-        (cases_lt j done)
-
-    pub IsStarted-reach : IsStarted connectivity mask starts d1 q1 (done + 1)
-    IsStarted-reach = record { search = search'; zeros = zeros'; start = start' }
-
--- once all are reached
-pub started_all : (connectivity : Connectivity) (mask : List (List Bool)) (starts : List (ℕ × ℕ)) (steps : List (List (Option ℕ))) (queue : List (ℕ × ℕ)) (done : ℕ) → IsStarted connectivity mask starts steps queue done → length starts ≤ done → (from : ℕ × ℕ) → Contains starts from → IsOpen mask from → IsMarked steps from 0
-started_all connectivity mask starts steps queue done s le from is is_open =
-    let lt : is.0 < length starts = is.1 in
-    let e : slice_get starts is.0 ≡ Some from = slice_get_read starts (length starts) is.0 from refl lt (sym is.2) in
-    s.start is.0 from (omega arith) e is_open
+    pub start_reached : (from : ℕ × ℕ) → Contains starts from → IsOpen mask from → IsMarked d1 from 0
+    start_reached from is o =
+        let v = r.around from is o in
+        ⊎_elim (λ h. absurd (none from v.0 h)) (λ f. subst (λ x. IsMarked d1 from x) f.is v.1) (r.spread.fresh from v.0 v.1)
 
 -- an empty table of numbers has none
 pub none_marked : (m n : ℕ) (a : ℕ × ℕ) (k : ℕ) → IsMarked (tabulate m n (λ r c. Some None)) a k → ⊥

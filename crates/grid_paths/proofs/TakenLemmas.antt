@@ -1,6 +1,6 @@
 -- Cells taken: one, those at the positions of a list, those that steps lead to; and put back.
-use Rattle.std.proofs.Common.{◌≡◌, ◌≢◌, ℕ, suc, ◌+◌, ◌<◌, ◌≤◌, ◌⊎◌, ◌↔◌, Option, None, Some, List, [], ◌∷◌, ◌++◌, length, set, get_or, Contains, MatchOption, refl, sym, ◌∙◌, ap, subst, arith, inl, inr, ⊎_elim, slice_get, sum_by, length-append}
-use Rattle.grid_paths.proofs.Common.{cases_lt, set_past, set-get_or, sum_by-set, slice_get_within, get_or_from_slice_get, row, row_count, col_count, cell, with_cell, IsTable, GridValue, cell_in_range, cell-with_same, cell-with_other, same_or_other, IsStep, IsAt, undone, flag, IsLeft, count_left, AreMarked, TakesAll, CanUndo, AreSteps}
+use Rattle.std.proofs.Common.{◌≡◌, ◌≢◌, ℕ, suc, ◌+◌, ◌<◌, ◌≤◌, ◌⊎◌, ◌↔◌, Bool, Option, None, Some, List, [], ◌∷◌, ◌++◌, length, set, get_or, Contains, OnOk, MatchOption, refl, sym, ◌∙◌, ap, subst, arith, inl, inr, ⊎_elim, slice_get, sum_by, length-append}
+use Rattle.grid_paths.proofs.Common.{cases_lt, set_past, set-get_or, sum_by-set, slice_get_within, get_or_from_slice_get, row, row_count, col_count, cell, with_cell, IsTable, GridValue, cell_in_range, cell-with_same, cell-with_other, same_or_other, IsStep, undone, flag, IsLeft, count_left, AreMarked, TakesAll, Takes, CanUndo, AreSteps, way_of, on_ok_weaker, Outcome, VisitsEach}
 use Rattle.grid_base.proofs.Common.{InRange}
 use Rattle.grid.proofs.CellWriteLemmas.{with_cell_back}
 use Rattle.grid_near.specs.declared.steps.Connectivity.{Connectivity}
@@ -8,7 +8,9 @@ use Rattle.grid_paths.specs.declared.taken.Enter.{Enter}
 use Rattle.grid_paths.specs.declared.taken.Enter.TheVariants.{No, Stop, On}
 use Rattle.grid_paths.specs.declared.taken.Taking.{Taking}
 use Rattle.grid_paths.proofs.StepLemmas.{at_push, at_end, at_push_fresh}
-use Rattle.grid_paths.proofs.AroundLemmas.{Before, before_either, before_all}
+use Rattle.grid_paths.proofs.AroundLemmas.{none_in, contains_next}
+use Rattle.grid_paths.proofs.VisitLemmas.{visited_each, kept_each}
+use Rattle.grid_paths.specs.declared.taken.Cells.{Cells}
 
 flag_one : (e : Enter) → e ≢ No → flag e ≡ 1
 flag_one No h = absurd (h refl)
@@ -161,7 +163,7 @@ module _ {T : Type 0} {way : T → Enter} {mark : T} where
       }
 
   -- the positions that a step leads to, if the search goes on: those in range are such as a grid can have
-  pub TakesAll-steps : (connectivity : Connectivity) (from : (ℕ × ℕ) × T) (xs : List (ℕ × ℕ)) (t : GridValue T) {q : List ((ℕ × ℕ) × T)} {t' : List (List T)} {q' : List ((ℕ × ℕ) × T)} → AreSteps connectivity from.0 xs → way from.1 ≡ On → TakesAll way mark (λ a. Contains xs a) t.rows q t' q' → TakesAll way mark (λ a. (way from.1 ≡ On) × IsStep connectivity from.0 a) t.rows q t' q'
+  TakesAll-steps : (connectivity : Connectivity) (from : (ℕ × ℕ) × T) (xs : List (ℕ × ℕ)) (t : GridValue T) {q : List ((ℕ × ℕ) × T)} {t' : List (List T)} {q' : List ((ℕ × ℕ) × T)} → AreSteps connectivity from.0 xs → way from.1 ≡ On → TakesAll way mark (λ a. Contains xs a) t.rows q t' q' → TakesAll way mark (λ a. (way from.1 ≡ On) × IsStep connectivity from.0 a) t.rows q t' q'
   TakesAll-steps connectivity from xs t steps on s =
       TakesAll-as (λ a. Contains xs a) (λ a. (way from.1 ≡ On) × IsStep connectivity from.0 a)
       (λ a x l.
@@ -174,17 +176,40 @@ module _ {T : Type 0} {way : T → Enter} {mark : T} where
       (λ h. (on, same.0 h), λ h. same.1 h.1))
       s
 
-  -- the positions of a list, one after another
-  pub TakesEach-start : (xs : List (ℕ × ℕ)) (t : List (List T)) (q : List ((ℕ × ℕ) × T)) → TakesAll way mark (Before xs 0) t q t q
-  TakesEach-start xs t q = TakesAll-stay (Before xs 0) t q (λ a x h l. omega (arith, h.early))
+  -- one position and then those of a list
+  TakesAll-next : {b : ℕ × ℕ} (xs : List (ℕ × ℕ)) {t0 t1 t2 : List (List T)} {q0 q1 q2 : List ((ℕ × ℕ) × T)} → TakesAll way mark (λ a. b ≡ a) t0 q0 t1 q1 → TakesAll way mark (λ a. Contains xs a) t1 q1 t2 q2 → TakesAll way mark (λ a. Contains (b ∷ xs) a) t0 q0 t2 q2
+  TakesAll-next {b = b} xs one rest =
+      TakesAll-as (λ a. (b ≡ a) ⊎ Contains xs a) (λ a. Contains (b ∷ xs) a) (λ a x l. contains_next b xs a) (TakesAll-join one rest)
 
-  module _ {xs : List (ℕ × ℕ)} {i : ℕ} {t0 t1 : List (List T)} {q0 q1 : List ((ℕ × ℕ) × T)} (e : TakesAll way mark (Before xs i) t0 q0 t1 q1) where
-    pub TakesEach-next : {b : ℕ × ℕ} {t2 : List (List T)} {q2 : List ((ℕ × ℕ) × T)} → IsAt xs i b → TakesAll way mark (λ a. b ≡ a) t1 q1 t2 q2 → TakesAll way mark (Before xs (i + 1)) t0 q0 t2 q2
-    TakesEach-next {b = b} place r =
-        TakesAll-as (λ a. Before xs i a ⊎ (b ≡ a)) (Before xs (i + 1)) (λ a x l. before_either xs i b place a) (TakesAll-join e r)
+pub CanUndo-same : {T A : Type 0} (s : Taking T A) → CanUndo s s
+CanUndo-same s = record { same_reference = refl; same = record { rows = refl; cols = refl; order = refl }; saves = refl }
 
-    pub TakesEach-end : length xs ≤ i → TakesAll way mark (λ b. Contains xs b) t0 q0 t1 q1
-    TakesEach-end all = TakesAll-as (Before xs i) (λ b. Contains xs b) (λ b x l. before_all xs i all b) e
+pub CanUndo-trans : {T A : Type 0} {s0 s1 s2 : Taking T A} → CanUndo s0 s1 → CanUndo s1 s2 → CanUndo s0 s2
+CanUndo-trans u v =
+    record {
+      same_reference = v.same_reference ∙ u.same_reference;
+      same = record { rows = v.same.rows ∙ u.same.rows; cols = v.same.cols ∙ u.same.cols; order = v.same.order ∙ u.same.order };
+      saves = v.saves ∙ u.saves;
+    }
+
+module _ {T A : Type 0} (eq : T → T → Bool) (cells : Cells T) where
+  -- what visits of positions take one after another
+  abbrev pub TakesOne : ℕ × ℕ → Outcome → Taking T A → Taking T A → Type 0
+  TakesOne at r s t = CanUndo s t × OnOk r (Takes eq cells (λ b. at ≡ b) s t)
+
+  pub CanUndo-each : (near : List (ℕ × ℕ)) (r : Outcome) (s u : Taking T A) → VisitsEach TakesOne near r s u → CanUndo s u
+  CanUndo-each =
+      kept_each TakesOne (λ s u. CanUndo s u) (λ s. CanUndo-same s) (λ s t u h k. CanUndo-trans h k) (λ at r s t one. one.0)
+
+  pub Takes-each : (near : List (ℕ × ℕ)) (r : Outcome) (s u : Taking T A) → VisitsEach TakesOne near r s u → OnOk r (Takes eq cells (λ b. Contains near b) s u)
+  Takes-each =
+      visited_each TakesOne (λ near s u. Takes eq cells (λ b. Contains near b) s u)
+      (λ s. TakesAll-stay (λ b. Contains [] b) s.grid.now.rows s.taken.items (λ a x is l. none_in a is))
+      (λ at later s t u one rest. TakesAll-next later one.1 rest)
+
+  pub Takes-around : (connectivity : Connectivity) (from : (ℕ × ℕ) × T) (near : List (ℕ × ℕ)) → AreSteps connectivity from.0 near → way_of eq cells.on cells.stop from.1 ≡ On → (r : Outcome) (s u : Taking T A) → VisitsEach TakesOne near r s u → OnOk r (Takes eq cells (λ b. (way_of eq cells.on cells.stop from.1 ≡ On) × IsStep connectivity from.0 b) s u)
+  Takes-around connectivity from near steps on r s u each =
+      on_ok_weaker r (λ h. TakesAll-steps connectivity from near s.grid.now steps on h) (Takes-each near r s u each)
 
 -- a write in range is made, and one out of range changes nothing
 module _ {T : Type 0} (t : List (List T)) (table : IsTable t) (r c : ℕ) (w : T) where
@@ -221,11 +246,3 @@ module _ {T : Type 0} where
       cell-with_other (undone q t) (y.0).0 (y.0).1 y.1 b.0 b.1
       (λ e f. none 0 y.1 (let same : ◌≡◌ {A = (ℕ × ℕ) × T} y (b, y.1) = λ i. ((sym e i, sym f i), y.1) in ap Some same))
       ∙ cell-undone_other q t b (λ j x h. none (suc j) x h)
-
-pub CanUndo-trans : {T A : Type 0} {s0 s1 s2 : Taking T A} {t0 t1 t2 : GridValue T} → CanUndo s0 t0 s1 t1 → CanUndo s1 t1 s2 t2 → CanUndo s0 t0 s2 t2
-CanUndo-trans u v =
-    record {
-      cells = v.cells ∙ u.cells;
-      same = record { rows = v.same.rows ∙ u.same.rows; cols = v.same.cols ∙ u.same.cols; order = v.same.order ∙ u.same.order };
-      saves = v.saves ∙ u.saves;
-    }

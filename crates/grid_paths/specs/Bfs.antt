@@ -31,6 +31,10 @@ module _ {A : Type 0} where
     pub same : SameSizeAndOrder w.numbers w'.numbers
     pub round : WentAround near mask k w.numbers.rows w.queue.items w'.numbers.rows w'.queue.items
 
+  -- what is left is what is open of a mask and not reached yet
+  abbrev pub CanReach : Search A → Type 0
+  CanReach s = (mask : List (List Bool)) × IsLeft mask s.steps.numbers.rows s.left.rows
+
   -- the near ones that are left are reached by k steps
   abbrev pub Reaches : (ℕ × ℕ → Type 0) → ℕ → Search A → Search A → Type 0
   Reaches near k s s' = (mask : List (List Bool)) → IsLeft mask s.steps.numbers.rows s.left.rows

@@ -1,7 +1,7 @@
 -- What one step of a search does that marks the cells which it takes. No public clause cites this
 -- module.
 use Rattle.std.specs.Prelude.{◌≡◌, ◌≢◌, ℕ, ◌+◌, ◌≤◌, ◌⊎◌, Bool, Some, List, [], ◌∷◌, length, map, slice_get, sum_by}
-use Rattle.grid_base.specs.GridValue.{GridValue, SameSizeAndOrder}
+use Rattle.grid_base.specs.GridValue.{SameSizeAndOrder}
 use Rattle.grid_base.specs.Table.{cell, with_cell}
 use Rattle.grid_paths.specs.declared.taken.Cells.{Cells}
 use Rattle.grid_paths.specs.declared.taken.Taking.{Taking}
@@ -74,14 +74,12 @@ module _ {T : Type 0} (eq : T → T → Bool) where
   IsPassed cells x = way_of eq cells.on cells.stop x ≡ No
 
   -- it takes the near cells
-  abbrev pub Takes : {A : Type 0} → (ℕ × ℕ → Type 0) → Taking T A → GridValue T → Taking T A
-      → GridValue T → Type 0
-  Takes near s t s' t' = TakesAll (way_of eq s.cells.on s.cells.stop) s.cells.mark near t.rows
-      s.taken.items t'.rows s'.taken.items
+  abbrev pub Takes : {A : Type 0} → Cells T → (ℕ × ℕ → Type 0) → Taking T A → Taking T A → Type 0
+  Takes cells near s s' = TakesAll (way_of eq cells.on cells.stop) cells.mark near s.grid.now.rows
+      s.taken.items s'.grid.now.rows s'.taken.items
 
 -- what it took can be put back
-pub record CanUndo {T A : Type 0} (s : Taking T A) (t : GridValue T) (s' : Taking T A)
-    (t' : GridValue T) : Type 0 where
-  pub cells : s'.cells ≡ s.cells
-  pub same : SameSizeAndOrder t t'
-  pub saves : undone s'.taken.items t'.rows ≡ undone s.taken.items t.rows
+pub record CanUndo {T A : Type 0} (s s' : Taking T A) : Type 0 where
+  pub same_reference : s'.grid.ghost_name ≡ s.grid.ghost_name
+  pub same : SameSizeAndOrder s.grid.now s'.grid.now
+  pub saves : undone s'.taken.items s'.grid.now.rows ≡ undone s.taken.items s.grid.now.rows

@@ -1,6 +1,6 @@
 //! Grids of the same size and order as another: of what a closure returns at its cells, and blank ones.
-ghost use Rattle.std.specs.Prelude.{◌≡◌, ℕ, IfOk, None, Some};
-ghost use Rattle.grid_paths.specs.Prelude.{row_count, col_count, tabulate, answers_by, IsAnswer, AreAnswers, HaveOneSize, Holds, numbers};
+ghost use Rattle.std.specs.Prelude.{◌≡◌, ℕ, IfOk};
+ghost use Rattle.grid_paths.specs.Prelude.{answers_by, IsAnswer, AreAnswers, HaveOneSize, Holds, numbers};
 
 use super::width::Width;
 use grid::Grid;
@@ -19,18 +19,6 @@ pub(crate) fn answers_of<T, U, A: Allocator + Clone, F: Fn(&T) -> U>(
         → made.rows ≡ answers_by p grid.now.rows) }
 {
     grid.map_indexed(|_, cell| f(cell))
-}
-
-// `None` at each cell: it has no step count or label yet.
-pub(crate) fn no_numbers<T, N, A: Allocator + Clone>(
-    grid: &Grid<T, A>,
-) -> Result<Grid<Option<N>, A>, AllocError>
-    ensures order { IfOk result (λ made. made.order ≡ grid.now.order) }
-    ensures size { IfOk result (λ made. HaveOneSize made.rows grid.now.rows) }
-    ensures none { IfOk result (λ made. made.rows
-        ≡ tabulate (row_count grid.now.rows) (col_count grid.now.rows) (λ _ _. Some None)) }
-{
-    grid.map_indexed(|_, _| None)
 }
 
 // No sum at each cell yet.

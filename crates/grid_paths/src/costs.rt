@@ -1,10 +1,10 @@
 //! The least sum of costs to each cell, by Dijkstra's search.
-ghost use Rattle.std.specs.Prelude.{◌≡◌, ◌<◌, ◌≤◌, ◌+◌, ◌^◌, ◌↔◌, ℕ, Contains, IfOk, IsTrue, MatchOption, OnOk, Some};
+ghost use Rattle.std.specs.Prelude.{◌≡◌, ◌<◌, ◌≤◌, ◌+◌, ◌^◌, ◌↔◌, ℕ, IfOk, IsTrue, MatchOption, OnOk, Some};
 ghost use Rattle.grid_paths.specs.Kept.{settled_of};
 ghost use Rattle.grid_paths.specs.Prelude.{InRange, cell, HoldsOfAnswers, IsStep, HaveOneSize, Holds, HasLeastCosts, sums_of, Puts, Pops, IsEmptied, IsFrontier, Enters, IsReady, IsNext, IsOver, IsSearching, HasRoom, narrow, limit_of, side_of};
 
 use super::answers::{all_sums, answers_of, no_sums};
-use super::around::around;
+use super::around::{Visit, visit_around};
 use super::width::Width;
 use grid::Grid;
 use grid_near::Connectivity;
@@ -12,7 +12,8 @@ use std::alloc::{AllocError, Allocator};
 use std::cmp::Reverse;
 use std::collections::BinaryHeap;
 
-// How many positions a heap has room for from the start. Any number of this size does: the heap grows where more wait.
+// How many positions a heap has room for from the start. It weighs the memory that a short search takes too, 16 KB in
+// 64 bits, against how often the heap of a long one grows.
 const HEAP_ROOM: usize = 1024;
 
 // Below so many cells, 2^32 - 1, 64-bit sums can't overflow: a cheapest path enters each cell at most once, and each
@@ -103,7 +104,7 @@ impl<N: Width, A: Allocator> Frontier<N, A> {
         ensures { OnOk result (Puts N.cmp N.reads at sum self.old self.new) }
     {
         let number = N::of_sum(sum);
-        self.sums.set(at.0, at.1, number);
+        self.sums[at] = number;
         self.heap.push(Reverse((number, N::of_position(at))))?;
         Ok(())
     }
@@ -136,37 +137,6 @@ impl<N: Width, A: Allocator> Frontier<N, A> {
         }
     }
 
-    // Enters a position, if it is left, from another of this sum: a lesser sum than before is written, and the
-    // position goes into the heap with it.
-    #[inline(always)]
-    fn relax(&mut self, at: (usize, usize), sum: u128) -> Result<(), AllocError>
-        requires small { sum + 2 ^ 32 ≤ 2 ^ 128 }
-        requires below { sum + 2 ^ 32 ≤ limit_of N.reads }
-        requires whole { IsFrontier N.cmp N.reads self.old }
-        ensures { OnOk result (Enters N.cmp N.reads (λ b. at ≡ b) sum self.old self.new) }
-    {
-        if let Some(cost) = self.cost_of(at) {
-            let next = sum + cost as u128;
-            if self.is_less(at, next) {
-                self.put(at, next)?;
-            }
-        }
-        Ok(())
-    }
-
-    // Enters each of these positions, as far as it is left.
-    fn relax_each(&mut self, at: &[(usize, usize)], sum: u128) -> Result<(), AllocError>
-        requires small { sum + 2 ^ 32 ≤ 2 ^ 128 }
-        requires below { sum + 2 ^ 32 ≤ limit_of N.reads }
-        requires whole { IsFrontier N.cmp N.reads self.old }
-        ensures { OnOk result (Enters N.cmp N.reads (λ b. Contains at.now b) sum self.old self.new) }
-    {
-        for near in at {
-            self.relax(*near, sum)?;
-        }
-        Ok(())
-    }
-
     // Enters the positions that a step from a settled one leads to.
     pub(crate) fn relax_around(
         &mut self,
@@ -177,11 +147,7 @@ impl<N: Width, A: Allocator> Frontier<N, A> {
         ensures { OnOk result (Enters N.cmp N.reads (IsStep connectivity from.at) from.sum self.old
             self.new) }
     {
-        let near = around(from.at.0, from.at.1);
-        match connectivity {
-            Connectivity::Four => self.relax_each(&near[..4], from.sum),
-            Connectivity::Eight => self.relax_each(&near, from.sum),
-        }
+        visit_around(self, connectivity, from.at, from.sum)
     }
 
     // Settles the position with the least sum of those in the heap that aren't settled. A position may be in the heap
@@ -194,12 +160,34 @@ impl<N: Width, A: Allocator> Frontier<N, A> {
         while let Some(first) = self.pop() {
             let (sum, at) = first;
             if let Some(cost) = self.cost_of(at) {
-                self.left.set(at.0, at.1, None);
+                self.left[at] = None;
                 return Some(Settled { at, cost, sum });
             }
         }
         None
     }
+}
+
+impl<N: Width, A: Allocator> Visit<u128> for Frontier<N, A> {
+    ghost can_visit = { λ sum f. (sum + 2 ^ 32 ≤ 2 ^ 128) × (sum + 2 ^ 32 ≤ limit_of N.reads)
+        × IsFrontier N.cmp N.reads f };
+
+    ghost visits = { λ sum at r f f'. OnOk r (Enters N.cmp N.reads (λ b. at ≡ b) sum f f') };
+
+    // Enters a position, if it is left, from another of this sum: a lesser sum than before is written, and the
+    // position goes into the heap with it.
+    #[inline(always)]
+    fn visit(&mut self, at: (usize, usize), sum: u128) -> Result<(), AllocError> {
+        if let Some(cost) = self.cost_of(at) {
+            let next = sum + cost as u128;
+            if self.is_less(at, next) {
+                self.put(at, next)?;
+            }
+        }
+        Ok(())
+    }
+
+    ghost again = { λ sum at f f' can enters. (can.0, can.1, enters.whole) };
 }
 
 // The search at the start: the first position has the sum 0, and is in the heap, if it can be entered.

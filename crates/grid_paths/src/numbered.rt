@@ -1,9 +1,10 @@
 //! The regions of equal cells, labeled: connected components.
-ghost use Rattle.std.specs.Prelude.{◌≡◌, ◌<◌, ◌≤◌, ◌+◌, ◌↔◌, ℕ, IfOk, OnOk, IsTrue, None, Some, Contains, option_map, unwrap_or};
+ghost use Rattle.std.specs.Prelude.{◌≡◌, ◌<◌, ◌≤◌, ◌+◌, ◌↔◌, ℕ, IfOk, OnOk, IsTrue, None, Some, option_map, unwrap_or};
+ghost use Rattle.std.proofs.Common.{◌∙◌};
 ghost use Rattle.grid.specs.Prelude.{SameSizeAndOrder};
-ghost use Rattle.grid_paths.specs.Prelude.{IsEquivalence, row_count, col_count, cell, tabulate, InRange, IsStep, IsOpen, HaveOneSize, IsMarked, unreached, AreRegions, AreNumbers, IsNumbered, IsScanned, IsCounting, Numbers, mask_of};
+ghost use Rattle.grid_paths.specs.Prelude.{IsEquivalence, row_count, col_count, cell, tabulate, InRange, IsOpen, HaveOneSize, IsMarked, unreached, AreRegions, AreNumbers, IsNumbered, IsScanned, IsCounting, Numbers, mask_of};
 
-use super::around::around;
+use super::around::{Visit, visit_around};
 use super::bfs::{Bfs, new_bfs};
 use grid::Grid;
 use grid_near::Connectivity;
@@ -30,44 +31,6 @@ impl<T: PartialEq, A: Allocator> Region<'_, T, A> {
         }
     }
 
-    // Labels a position, if its cell is in the region and has no label yet.
-    fn number_at(&self, at: (usize, usize), bfs: &mut Bfs<A>) -> Result<(), AllocError>
-        requires { HaveOneSize bfs.old.numbers.rows self.now.grid.now.rows }
-        ensures { OnOk result (Numbers T.eq (λ b. at ≡ b) self.now bfs.old bfs.new) }
-    {
-        if self.has(at) {
-            if let None = bfs.numbers[at] {
-                bfs.mark(at, self.number)?;
-            }
-        }
-        Ok(())
-    }
-
-    // Labels each of these positions that is in the region and has no label yet.
-    fn number_each(&self, at: &[(usize, usize)], bfs: &mut Bfs<A>) -> Result<(), AllocError>
-        requires { HaveOneSize bfs.old.numbers.rows self.now.grid.now.rows }
-        ensures { OnOk result (Numbers T.eq (λ b. Contains at.now b) self.now bfs.old bfs.new) }
-    {
-        for near in at {
-            self.number_at(*near, bfs)?;
-        }
-        Ok(())
-    }
-
-    // Labels the neighbors of a position that are in the region and have no label yet.
-    fn number_around(&self, at: (usize, usize), bfs: &mut Bfs<A>) -> Result<(), AllocError>
-        requires size { HaveOneSize bfs.old.numbers.rows self.now.grid.now.rows }
-        requires at { InRange self.now.grid.now.rows at.0 at.1 }
-        ensures { OnOk result (Numbers T.eq (IsStep self.now.connectivity at) self.now bfs.old
-            bfs.new) }
-    {
-        let near = around(at.0, at.1);
-        match self.connectivity {
-            Connectivity::Four => self.number_each(&near[..4], bfs),
-            Connectivity::Eight => self.number_each(&near, bfs),
-        }
-    }
-
     // Labels the region of a position, which has no label yet. The queue is that of this region alone.
     fn number_region(&self, at: (usize, usize), bfs: &mut Bfs<A>) -> Result<(), AllocError>
         requires size { HaveOneSize bfs.old.numbers.rows self.now.grid.now.rows }
@@ -84,11 +47,33 @@ impl<T: PartialEq, A: Allocator> Region<'_, T, A> {
         bfs.queue.clear();
         bfs.mark(at, self.number)?;
         while next < bfs.queue.len() {
-            self.number_around(bfs.queue[next], bfs)?;
+            let from = bfs.queue[next];
+            visit_around(bfs, self.connectivity, from, self)?;
             next += 1;
         }
         Ok(())
     }
+}
+
+impl<T: PartialEq, A: Allocator> Visit<&Region<'_, T, A>> for Bfs<A> {
+    ghost can_visit = { λ region s. HaveOneSize s.numbers.rows region.now.grid.now.rows };
+
+    ghost visits = { λ region at r s s'. OnOk r (Numbers T.eq (λ b. at ≡ b) region.now s s') };
+
+    // Labels a position, if its cell is in the region and has no label yet.
+    fn visit(&mut self, at: (usize, usize), region: &Region<'_, T, A>) -> Result<(), AllocError> {
+        if region.has(at) {
+            if let None = self.numbers[at] {
+                self.mark(at, region.number)?;
+            }
+        }
+        Ok(())
+    }
+
+    ghost again = { λ region at s s' can did. record {
+      rows = did.same.rows ∙ can.rows;
+      cols = did.same.cols ∙ can.cols;
+    } };
 }
 
 // Gives the next label to the region of a position, if it has none yet, and returns the next label then.

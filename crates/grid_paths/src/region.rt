@@ -83,7 +83,7 @@ fn fill_all<T: Copy + Drop, A: Allocator>(
         grid.old.rows grid.new.rows }
 {
     for x in taken {
-        grid.set(x.0.0, x.0.1, value);
+        grid[x.0] = value;
     }
 }
 
@@ -109,11 +109,13 @@ fn mark_region<T: Copy + PartialEq + Drop, A: Allocator + Clone>(
         mark,
     };
     let taken = Vec::new(grid.allocator().clone()?);
-    let mut search = Taking { cells, taken };
-    match search.take_region(connectivity, &[at], grid) {
-        Ok(()) => Ok(search.taken),
+    let mut search = Taking { grid, taken };
+    let outcome = search.take_region(connectivity, &[at], cells);
+    let Taking { grid, taken } = search;
+    match outcome {
+        Ok(()) => Ok(taken),
         Err(refused) => {
-            put_back(grid, search.taken);
+            put_back(grid, taken);
             Err(refused)
         }
     }

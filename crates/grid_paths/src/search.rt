@@ -1,17 +1,17 @@
 //! The least number of steps to each cell, by a breadth-first search.
 ghost use Rattle.std.specs.Prelude.{◌≡◌, ◌<◌, ◌≤◌, ◌+◌, ◌^◌, List, ℕ, [], ◌∷◌, ◌++◌, length, IfOk, IsTrue, OnOk, Some, None, Contains};
-ghost use Rattle.grid_paths.specs.Prelude.{InRange, IsStep, HasLeastSteps, HasLeastFrom, HoldsOfAnswers, HaveOneSize, IsMarked, IsSettled, Reaches};
+ghost use Rattle.grid_paths.specs.Prelude.{InRange, IsStep, HasLeastSteps, HasLeastFrom, HoldsOfAnswers, HaveOneSize, IsMarked, IsSettled, CanReach, Reaches};
 
 use super::answers::answers_of;
-use super::around::around;
-use super::bfs::{Bfs, new_bfs};
+use super::around::{Visit, visit_around, visit_each};
+use super::bfs::{Bfs, QUEUE_ROOM, new_bfs};
 use grid::Grid;
 use grid_near::Connectivity;
 use std::alloc::{AllocError, Allocator};
 
 // Compact the queue once its read prefix is this long. It is half of the room that a queue has from the start, so that
 // the queue doesn't grow while no more than so many positions wait.
-const COMPACT_AT: usize = 2048;
+const COMPACT_AT: usize = QUEUE_ROOM / 2;
 
 // The state of the search: the open positions that aren't reached yet, and the step counts of the others.
 #[derive(Drop)]
@@ -20,31 +20,26 @@ pub(crate) struct Search<A: Allocator> {
     steps: Bfs<A>,
 }
 
-impl<A: Allocator> Search<A> {
+impl<A: Allocator> Visit<usize> for Search<A> {
+    ghost can_visit = { λ count s. CanReach s };
+
+    ghost visits = { λ count at r s s'. OnOk r (Reaches (λ b. at ≡ b) count s s') };
+
     // Reaches a position by `count` steps, if it is left.
     #[inline(always)]
-    fn reach(&mut self, at: (usize, usize), count: usize) -> Result<(), AllocError>
-        ensures { OnOk result (Reaches (λ b. at ≡ b) count self.old self.new) }
-    {
+    fn visit(&mut self, at: (usize, usize), count: usize) -> Result<(), AllocError> {
         let is_left = self.left.get(at.0, at.1) == Some(&true);
         if is_left {
-            self.left.set(at.0, at.1, false);
+            self.left[at] = false;
             self.steps.mark(at, count)?;
         }
         Ok(())
     }
 
-    // Reaches each of these positions.
-    #[inline(always)]
-    fn reach_each(&mut self, at: &[(usize, usize)], count: usize) -> Result<(), AllocError>
-        ensures { OnOk result (Reaches (λ b. Contains at.now b) count self.old self.new) }
-    {
-        for near in at {
-            self.reach(*near, count)?;
-        }
-        Ok(())
-    }
+    ghost again = { λ count at s s' can reaches. (can.0, (reaches can.0 can.1).1) };
+}
 
+impl<A: Allocator> Search<A> {
     // Reaches the positions that a step from one that is reached leads to, each by one step more.
     #[inline(always)]
     fn reach_around(
@@ -53,17 +48,14 @@ impl<A: Allocator> Search<A> {
         at: (usize, usize),
     ) -> Result<(), AllocError>
         requires inside { InRange self.old.left.rows at.0 at.1 }
+        requires left { CanReach self.old }
         requires marked { (m : ℕ) × IsMarked self.old.steps.numbers.rows at m × (m + 1 < 2 ^ 64) }
         ensures { OnOk result ((m : ℕ) → IsMarked self.old.steps.numbers.rows at m
             → Reaches (IsStep connectivity at) (m + 1) self.old self.new) }
     {
-        let Some(count) = self.steps.numbers[at] else {
-            return Ok(());
-        };
-        let near = around(at.0, at.1);
-        match connectivity {
-            Connectivity::Four => self.reach_each(&near[..4], count + 1),
-            Connectivity::Eight => self.reach_each(&near, count + 1),
+        match self.steps.numbers[at] {
+            Some(count) => visit_around(self, connectivity, at, count + 1),
+            None => Ok(()),
         }
     }
 }
@@ -102,9 +94,7 @@ pub(crate) fn search_from<A: Allocator + Clone>(
 {
     let steps = new_bfs(&mask)?;
     let mut search = Search { left: mask, steps };
-    for start in starts {
-        search.reach(*start, 0)?;
-    }
+    visit_each(&mut search, starts, 0)?;
     let mut next = 0;
     while next < search.steps.queue.len() {
         let at = search.steps.queue[next];

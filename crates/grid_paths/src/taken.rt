@@ -5,7 +5,7 @@ ghost use Rattle.grid.specs.Prelude.{InRange, SameSizeAndOrder};
 ghost use Rattle.grid_paths.specs.Prelude.{IsStep, answers_by, HoldsOfAnswers, IsFlood, way_of, places, undone, CanUndo, IsPassed, IsWritten, Takes};
 
 use super::answers::answers_of;
-use super::around::around;
+use super::around::{Visit, visit_around, visit_each};
 use grid::Grid;
 use grid_near::Connectivity;
 use std::alloc::{AllocError, Allocator};
@@ -22,8 +22,8 @@ pub enum Enter {
 }
 
 // Which cells a search takes, and what it writes there.
-#[derive(Drop)]
-pub(crate) struct Cells<T> {
+#[derive(Clone, Copy)]
+pub(crate) struct Cells<T: Copy> {
     // It goes on from cells equal to this one.
     pub(crate) on: T,
     // It stops at those equal to this one, if there is one.
@@ -31,85 +31,73 @@ pub(crate) struct Cells<T> {
     pub(crate) mark: T,
 }
 
-// A search: which cells it takes, and those that it took, each with its position.
-#[derive(Drop)]
-pub(crate) struct Taking<T, A: Allocator> {
-    pub(crate) cells: Cells<T>,
-    pub(crate) taken: Vec<((usize, usize), T), A>,
-}
-
-impl<T: Copy + PartialEq + Drop, A: Allocator> Taking<T, A> {
+impl<T: Copy + PartialEq> Cells<T> {
     // What the search does at a cell.
     #[inline(always)]
     fn way_at(&self, cell: &T) -> Enter
-        ensures { result ≡ way_of T.eq self.now.cells.on self.now.cells.stop cell.now }
+        ensures { result ≡ way_of T.eq self.now.on self.now.stop cell.now }
     {
-        if *cell == self.cells.on {
+        if *cell == self.on {
             return Enter::On;
         }
-        match &self.cells.stop {
+        match &self.stop {
             Some(stop) if *cell == *stop => Enter::Stop,
             _ => Enter::No,
         }
     }
+}
+
+// A search: the grid, and the cells that it took there, each with its position.
+#[derive(Drop)]
+pub(crate) struct Taking<'a, T, A: Allocator> {
+    pub(crate) grid: &'a mut Grid<T, A>,
+    pub(crate) taken: Vec<((usize, usize), T), A>,
+}
+
+impl<T: Copy + PartialEq + Drop, A: Allocator> Visit<Cells<T>> for Taking<'_, T, A> {
+    ghost can_visit = { λ cells s. IsPassed T.eq cells cells.mark };
+
+    ghost visits = { λ cells at r s s'. CanUndo s s'
+        × OnOk r (Takes T.eq cells (λ b. at ≡ b) s s') };
 
     // Takes a position, if its cell is one of those: keeps the cell, and writes the mark.
     #[inline(always)]
-    fn take(&mut self, at: (usize, usize), grid: &mut Grid<T, A>) -> Result<(), AllocError>
-        requires { IsPassed T.eq self.old.cells self.old.cells.mark }
-        ensures kept { CanUndo self.old grid.old self.new grid.new }
-        ensures takes { OnOk result (Takes T.eq (λ b. at ≡ b)
-            self.old grid.old self.new grid.new) }
-    {
-        let cell = match grid.get(at.0, at.1) {
+    fn visit(&mut self, at: (usize, usize), cells: Cells<T>) -> Result<(), AllocError> {
+        let cell = match self.grid.get(at.0, at.1) {
             Some(cell) => *cell,
             None => return Ok(()),
         };
-        if let Enter::No = self.way_at(&cell) {
+        if let Enter::No = cells.way_at(&cell) {
             return Ok(());
         }
         self.taken.push((at, cell))?;
-        grid[at] = self.cells.mark;
+        self.grid[at] = cells.mark;
         Ok(())
     }
 
-    // Takes each of these positions, if its cell is one of those.
-    #[inline(always)]
-    fn take_each(&mut self, at: &[(usize, usize)], grid: &mut Grid<T, A>) -> Result<(), AllocError>
-        requires { IsPassed T.eq self.old.cells self.old.cells.mark }
-        ensures kept { CanUndo self.old grid.old self.new grid.new }
-        ensures takes { OnOk result (Takes T.eq (λ b. Contains at.now b)
-            self.old grid.old self.new grid.new) }
-    {
-        for near in at {
-            self.take(*near, grid)?;
-        }
-        Ok(())
-    }
+    ghost again = { λ cells at s s' can took. can };
+}
 
+impl<T: Copy + PartialEq + Drop, A: Allocator> Taking<'_, T, A> {
     // Takes the positions around one that was taken, if the search goes on from its cell.
     #[inline(always)]
     fn take_around(
         &mut self,
         connectivity: Connectivity,
         from: ((usize, usize), T),
-        grid: &mut Grid<T, A>,
+        cells: Cells<T>,
     ) -> Result<(), AllocError>
-        requires at { InRange grid.old.rows (from.0).0 (from.0).1 }
-        requires mark { IsPassed T.eq self.old.cells self.old.cells.mark }
-        ensures kept { CanUndo self.old grid.old self.new grid.new }
-        ensures takes { OnOk result (Takes T.eq (λ b.
-            (way_of T.eq self.old.cells.on self.old.cells.stop from.1 ≡ Enter.On)
-            × IsStep connectivity from.0 b) self.old grid.old self.new grid.new) }
+        requires at { InRange self.old.grid.now.rows (from.0).0 (from.0).1 }
+        requires mark { IsPassed T.eq cells cells.mark }
+        ensures kept { CanUndo self.old self.new }
+        ensures takes { OnOk result (Takes T.eq cells (λ b.
+            (way_of T.eq cells.on cells.stop from.1 ≡ Enter.On) × IsStep connectivity from.0 b)
+            self.old self.new) }
     {
         let (at, cell) = from;
-        let Enter::On = self.way_at(&cell) else {
-            return Ok(());
-        };
-        let near = around(at.0, at.1);
-        match connectivity {
-            Connectivity::Four => self.take_each(&near[..4], grid),
-            Connectivity::Eight => self.take_each(&near, grid),
+        match cells.way_at(&cell) {
+            Enter::On => visit_around(self, connectivity, at, cells),
+            _ => Ok(()),
         }
     }
 
@@ -118,25 +106,25 @@ impl<T: Copy + PartialEq + Drop, A: Allocator> Taking<T, A> {
         &mut self,
         connectivity: Connectivity,
         starts: &[(usize, usize)],
-        grid: &mut Grid<T, A>,
+        cells: Cells<T>,
     ) -> Result<(), AllocError>
         requires none { self.old.taken.items ≡ [] }
-        requires mark { IsPassed T.eq self.old.cells self.old.cells.mark }
-        ensures same { SameSizeAndOrder grid.old grid.new }
-        ensures saves { undone self.new.taken.items grid.new.rows ≡ grid.old.rows }
+        requires mark { IsPassed T.eq cells cells.mark }
+        ensures kept { CanUndo self.old self.new }
         ensures flood { OnOk result (IsFlood connectivity
-            (answers_by (way_of T.eq self.old.cells.on self.old.cells.stop) grid.old.rows)
+            (answers_by (way_of T.eq cells.on cells.stop) self.old.grid.now.rows)
             starts.now (places self.new.taken.items)) }
-        ensures written { OnOk result (IsWritten self.old.cells.mark
-            (λ a. Contains (places self.new.taken.items) a) grid.old.rows grid.new.rows) }
+        ensures written { OnOk result (IsWritten cells.mark
+            (λ a. Contains (places self.new.taken.items) a)
+            self.old.grid.now.rows self.new.grid.now.rows) }
     {
         // For the proof: it says that the rows are a table.
-        let _size = grid.size();
-        self.take_each(starts, grid)?;
+        let _size = self.grid.size();
+        visit_each(self, starts, cells)?;
         let mut next = 0;
         while next < self.taken.len() {
             let from = self.taken[next];
-            self.take_around(connectivity, from, grid)?;
+            self.take_around(connectivity, from, cells)?;
             next += 1;
         }
         Ok(())
@@ -185,7 +173,10 @@ pub fn flood<T, A: Allocator + Clone, F: Fn(&T) -> Enter>(
         stop: Some(Enter::Stop),
         mark: Enter::No,
     };
-    let mut search = Taking { cells, taken };
-    search.take_region(connectivity, starts, &mut ways)?;
+    let mut search = Taking {
+        grid: &mut ways,
+        taken,
+    };
+    search.take_region(connectivity, starts, cells)?;
     places_of(&search.taken, grid.allocator().clone()?)
 }

@@ -8,8 +8,8 @@ use grid::{Grid, Order};
 use grid_view::AsView;
 use std::alloc::Global;
 
-/// Writes a board as a gray picture, and returns the row-major grid that is read from it. Its cells are the samples that
-/// `write` returns, each in the place of its cell.
+/// Writes a board as a gray picture, and returns the row-major grid that is read from it. Its cells are the samples
+/// that `write` returns, each in the place of its cell.
 ///
 /// Requires: `write` can always be called.
 /// Fails: `Memory`, and no other error.

@@ -1,7 +1,8 @@
-//! Grids as pictures, and pictures as grids, in the portable formats of netpbm: a gray picture (PGM) has a sample for each
-//! cell, a colored one (PPM) three.
+//! Grids as pictures, and pictures as grids, in the portable formats of netpbm: a gray picture (PGM) has a sample for
+//! each cell, a colored one (PPM) three.
 //!
-//! Pictures are written raw, with samples from 0 to 255. They are read raw or plain, with a greatest sample of 255 at most.
+//! Pictures are written raw, with samples from 0 to 255. They are read raw or plain, with a greatest sample of 255 at
+//! most.
 #![tactic(auto)]
 
 mod enlarge;

@@ -9,7 +9,8 @@ use grid::Grid;
 use std::alloc::{AllocError, Allocator};
 
 /// Returns the row-major grid of a gray picture (PGM), raw (`P5`) or plain (`P2`): a sample for each cell, 0 for black
-/// and the header's greatest for white, which [`read_header`] tells. Without rows or without columns it is the empty grid.
+/// and the header's greatest for white, which [`read_header`] tells. Without rows or without columns it is the empty
+/// grid.
 ///
 ///     from_pgm(alloc, b"P2 # plain\n3 2\n255\n0 7 255 3 2 1")   [[0, 7, 255], [3, 2, 1]]
 ///

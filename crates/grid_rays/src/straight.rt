@@ -72,8 +72,8 @@ pub(crate) fn steps_between(from: (usize, usize), to: (usize, usize)) -> usize
     from.0.abs_diff(to.0).max(from.1.abs_diff(to.1))
 }
 
-/// An iterator over the positions of a line, from the first to the last, seen as the list of those that remain. There can be
-/// 2^64, so it has no `len`.
+/// An iterator over the positions of a line, from the first to the last, seen as the list of those that remain. There
+/// can be 2^64, so it has no `len`.
 #[derive(Drop)]
 pub struct SegmentIter {
     rows: Course,

@@ -10,8 +10,8 @@ use std::marker::Model;
 // How many sums a vector can hold: one of at most `isize::MAX` bytes.
 const MOST: usize = isize::MAX as usize / size_of::<i128>();
 
-/// The sums of a board of whole numbers, from which that of any part comes in four reads. It is seen as the table of the
-/// numbers.
+/// The sums of a board of whole numbers, from which that of any part comes in four reads. It is seen as the table of
+/// the numbers.
 #[derive(Drop)]
 pub struct Sums<A: Allocator = Global> {
     rows: usize,
@@ -157,7 +157,8 @@ impl<A: Allocator> Sums<A> {
     ///     of(alloc, [[1, 2, 3], [4, 5, 6]]), then sum((0, 1), (2, 2))   16
     ///
     /// Fails: if allocation fails.
-    /// Cost: a few additions for each cell, and one allocation, of 16 bytes for each cell and for one more row and column.
+    /// Cost: a few additions for each cell, and one allocation, of 16 bytes for each cell and for one more row and
+    /// column.
     pub fn of<T: Copy + Into<i64>, V: AsView<T>>(alloc: A, board: &V) -> Result<Sums<A>, AllocError>
         ensures { IfOk result (λ sums. AreNumbers T.converts (V.rows board.now) sums) }
     {

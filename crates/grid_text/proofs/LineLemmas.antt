@@ -1,6 +1,9 @@
 -- The cells of one line, part by part.
 use Rattle.std.proofs.Common.{◌≡◌, ℕ, ◌+◌, ◌≤◌, true, Option, Some, None, Result, Ok, Err, List, [], ◌∷◌, ◌++◌, length, encode_utf8, IsUtf8, inl, inr, refl, subst, sym, ap, ◌∙◌, arith, append_assoc, append-nil, length-append}
 use Rattle.grid_text.proofs.Common.{scalars, IsScalar, and_parts, cons_from_encodes, length-encode, len_utf8_bounds, prepend, IsRow, MayReadLine}
+use Rattle.grid_rows.specs.Rows.{RowsValue}
+use Rattle.grid_rows.specs.Builder.{with_cells}
+use Rattle.grid_rows.proofs.ReadingLemmas.{with_cells-more, with_cells-nil}
 use Rattle.grid_text.specs.declared.error.TextError.{TextError}
 
 pub prepend-nil : {X E : Type 0} (r : Result (List X) E) → prepend [] r ≡ r
@@ -21,34 +24,34 @@ first_scalar text rest c utf8 is =
     scalar_of cs es e all = (and_parts _ _ (rw e at all)).0
 
 -- the cells of the first parts of a line, `count` of them, before those that are left
-pub record LineSoFar {A T : Type 0} (bad : ℕ → ℕ → A → TextError) (R : A → Option T → Type 0) (line : ℕ) (all left : List A) (old new : List T) (count : ℕ) : Type 0 where
+pub record LineSoFar {A T : Type 0} (bad : ℕ → ℕ → A → TextError) (R : A → Option T → Type 0) (line : ℕ) (all left : List A) (old new : RowsValue T) (count : ℕ) : Type 0 where
   pub row : List T
-  pub put : new ≡ old ++ row
+  pub put : new ≡ with_cells old row
   pub len : length row ≡ count
   pub counts : count + length left ≡ length all
   pub may : (later : Result (List T) TextError) → MayReadLine bad R line (count + 1) left later → MayReadLine bad R line 1 all (prepend row later)
 
-module _ {A T : Type 0} (bad : ℕ → ℕ → A → TextError) (R : A → Option T → Type 0) (line : ℕ) (all : List A) (old : List T) where
+module _ {A T : Type 0} (bad : ℕ → ℕ → A → TextError) (R : A → Option T → Type 0) (line : ℕ) (all : List A) (old : RowsValue T) where
   pub line_start : (left : List A) → left ≡ all → LineSoFar bad R line all left old old 0
   line_start left is = record {
     row = [];
-    put = sym (append-nil old);
+    put = sym (with_cells-nil old);
     len = refl;
     counts = omega (arith, ap length is);
     may = λ later m. subst (MayReadLine bad R line 1 all) (sym (prepend-nil later)) (subst (λ xs. MayReadLine bad R line 1 xs later) is m);
   }
 
-  module _ (left later : List A) (new : List T) (count : ℕ) (x : A) (i : LineSoFar bad R line all left old new count) (next : left ≡ x ∷ later) where
+  module _ (left later : List A) (new : RowsValue T) (count : ℕ) (x : A) (i : LineSoFar bad R line all left old new count) (next : left ≡ x ∷ later) where
     pub line_room : count + 1 ≤ length all
     line_room = omega (arith, i.counts, ap length next)
 
     may_here : (read : Result (List T) TextError) → MayReadLine bad R line (count + 1) (x ∷ later) read → MayReadLine bad R line 1 all (prepend i.row read)
     may_here read m = i.may read (subst (λ xs. MayReadLine bad R line (count + 1) xs read) (sym next) m)
 
-    pub line_more : (cell : T) (added : List T) → R x (Some cell) → added ≡ new ++ cell ∷ [] → LineSoFar bad R line all later old added (count + 1)
+    pub line_more : (cell : T) (added : RowsValue T) → R x (Some cell) → added ≡ with_cells new (cell ∷ []) → LineSoFar bad R line all later old added (count + 1)
     line_more cell added gave push = record {
       row = i.row ++ cell ∷ [];
-      put = push ∙ (ap (λ xs. xs ++ cell ∷ []) i.put ∙ append_assoc old i.row (cell ∷ []));
+      put = with_cells-more old new added i.row cell i.put push;
       len = length-append i.row (cell ∷ []) ∙ ap (λ n. n + 1) i.len;
       counts = omega (arith, i.counts, ap length next);
       may = λ read m.
@@ -59,13 +62,12 @@ module _ {A T : Type 0} (bad : ℕ → ℕ → A → TextError) (R : A → Optio
     pub line_bad : R x None → MayReadLine bad R line 1 all (Err (bad line (count + 1) x))
     line_bad gave = may_here (Err (bad line (count + 1) x)) (inl (gave, refl))
 
-pub line_end : {A T : Type 0} (parts : List ℕ → List A) (bad : ℕ → ℕ → A → TextError) (R : A → Option T → Type 0) (line : ℕ) (text : List ℕ) (left : List A) (old new : List T) (count : ℕ) → LineSoFar bad R line (parts text) left old new count → left ≡ [] → IsRow parts bad R line text old new count
+pub line_end : {A T : Type 0} (parts : List ℕ → List A) (bad : ℕ → ℕ → A → TextError) (R : A → Option T → Type 0) (line : ℕ) (text : List ℕ) (left : List A) (old new : RowsValue T) (count : ℕ) → LineSoFar bad R line (parts text) left old new count → left ≡ [] → IsRow parts bad R line text old new
 line_end parts bad R line text left old new count i none =
     record {
       row = i.row;
       put = i.put;
       counts = i.len ∙ (omega (arith, ap length none, i.counts));
-      is_len = sym i.len;
       may = subst (MayReadLine bad R line 1 (parts text)) (ap Ok (append-nil i.row)) (i.may (Ok []) (subst (λ xs. MayReadLine bad R line (count + 1) xs (Ok [])) (sym none) refl));
     }
 

@@ -1,6 +1,10 @@
 -- The rows of the lines of a text, line by line.
-use Rattle.std.proofs.Common.{◌≡◌, ◌≢◌, ◌⊎◌, inl, inr, ℕ, ◌+◌, ◌<◌, ◌≤◌, ◌==◌, true, false, Option, Result, Ok, Err, List, [], ◌∷◌, ◌++◌, length, All, refl, subst, sym, ap, ◌∙◌, arith, ⊎_elim, append-nil, length-append, length-drop, eq-eqb, ne_eqb}
-use Rattle.grid_text.proofs.Common.{cases_eq, position_or_len, nil_from_length, All-push, flat_map-append, concat_rows, first_line, later_lines, lines_of, prepend, row_before, IsRow, IsBadRow, MayReadLine, MayReadRow, MayReadLines, MayReadRows, lines-first, lines-none}
+use Rattle.std.proofs.Common.{◌≡◌, ◌≢◌, ◌⊎◌, inl, inr, ℕ, ◌+◌, ◌<◌, ◌≤◌, ◌==◌, true, false, Option, None, Result, Ok, Err, List, [], ◌∷◌, length, refl, subst, sym, ap, ◌∙◌, arith, append-nil, length-drop, eq-eqb, ne_eqb}
+use Rattle.grid_text.proofs.Common.{position_or_len, nil_from_length, first_line, later_lines, lines_of, prepend, row_before, IsRow, IsBadRow, MayReadLine, MayReadRow, MayReadLines, MayReadRows, lines-first, lines-none}
+use Rattle.grid_commands.specs.declared.error.ShapeError.TheVariants.{Ragged as RaggedRow}
+use Rattle.grid_rows.specs.Rows.{RowsValue}
+use Rattle.grid_rows.specs.Builder.{FitsCols, RowFault, with_row}
+use Rattle.grid_rows.proofs.ReadingLemmas.{IsBetween, row_fits, between_more, rows_more, ragged_is}
 use Rattle.grid_text.specs.declared.error.TextError.{TextError}
 use Rattle.grid_text.specs.declared.error.TextError.TheVariants.{Ragged, Memory}
 use Rattle.grid_text.proofs.LineLemmas.{prepend-nil, prepend-prepend}
@@ -39,39 +43,29 @@ module _ {A T : Type 0} (parts : List ℕ → List A) (bad : ℕ → ℕ → A �
     width = first_width parts (lines_of text)
 
     -- the rows of the first lines, `line` of them, of a text of which `rest` is left
-    pub record LinesSoFar (rest : List ℕ) (cells : List T) (line cols : ℕ) : Type 0 where
-      pub rows : List (List T)
-      pub stored : cells ≡ concat_rows rows
-      pub number : length rows ≡ line
-      pub even : All (λ row. length row ≡ width) rows
-      pub whole : line ≡ 0 → rest ≡ text
-      pub wide : 0 < line → cols ≡ width
+    pub record LinesSoFar (rest : List ℕ) (b : RowsValue T) (line : ℕ) : Type 0 where
+      pub between : IsBetween width b
+      pub begun : b.cols ≡ None → rest ≡ text
       pub fits : line + length rest ≤ length text
-      pub may : (later : Result (List (List T)) TextError) → MayReadLines parts bad R (line + 1) width (lines_of rest) later → MayReadRows parts bad R (lines_of text) (prepend rows later)
+      pub may : (later : Result (List (List T)) TextError) → MayReadLines parts bad R (line + 1) width (lines_of rest) later → MayReadRows parts bad R (lines_of text) (prepend b.rows later)
 
-    pub lines_start : (cols : ℕ) (cells : List T) → cells ≡ [] → LinesSoFar text cells 0 cols
-    lines_start cols cells none = record {
-      rows = [];
-      stored = none;
-      number = refl;
-      even = λ k d lt. absurd (omega arith);
-      whole = λ e. refl;
-      wide = λ lt. absurd (omega arith);
-      fits = omega arith;
-      may = λ later m. subst (MayReadRows parts bad R (lines_of text)) (sym (prepend-nil later)) (from_first (lines_of text) later m);
-    }
+    pub lines_start : (b : RowsValue T) → b ≡ record { cols = None; rows = []; cells = [] } → LinesSoFar text b 0
+    lines_start b is =
+        rw is (record {
+          between = record { none_open = refl; wide = λ cols known. absurd (cc) };
+          begun = λ none. refl;
+          fits = omega arith;
+          may = λ later m. subst (MayReadRows parts bad R (lines_of text)) (sym (prepend-nil later)) (from_first (lines_of text) later m);
+        })
 
-    module _ (rest : List ℕ) (cells : List T) (line cols : ℕ) (i : LinesSoFar rest cells line cols) where
-      pub even_cols : All (λ row. length row ≡ cols) i.rows
-      even_cols = λ k d lt. i.even k d lt ∙ sym (i.wide (omega (arith, i.number)))
-
-      pub lines_end : length rest ≡ 0 → MayReadRows parts bad R (lines_of text) (Ok i.rows)
+    module _ (rest : List ℕ) (b : RowsValue T) (line : ℕ) (i : LinesSoFar rest b line) where
+      pub lines_end : length rest ≡ 0 → MayReadRows parts bad R (lines_of text) (Ok b.rows)
       lines_end none =
           let no_lines : lines_of rest ≡ [] = ap lines_of (nil_from_length rest none) ∙ lines-none in
-          subst (MayReadRows parts bad R (lines_of text)) (ap Ok (append-nil i.rows)) (i.may (Ok []) (subst (λ lines. MayReadLines parts bad R (line + 1) width lines (Ok [])) (sym no_lines) refl))
+          subst (MayReadRows parts bad R (lines_of text)) (ap Ok (append-nil b.rows)) (i.may (Ok []) (subst (λ lines. MayReadLines parts bad R (line + 1) width lines (Ok [])) (sym no_lines) refl))
 
       module _ (some : 0 < length rest) (line_text : List ℕ) (is : line_text ≡ first_line rest) where
-        may_here : (read : Result (List (List T)) TextError) (row : Result (List T) TextError) → MayReadLine bad R (line + 1) 1 (parts line_text) row → MayReadRow (line + 1) width row (MayReadLines parts bad R (line + 1 + 1) width (lines_of (later_lines rest))) read → MayReadRows parts bad R (lines_of text) (prepend i.rows read)
+        may_here : (read : Result (List (List T)) TextError) (row : Result (List T) TextError) → MayReadLine bad R (line + 1) 1 (parts line_text) row → MayReadRow (line + 1) width row (MayReadLines parts bad R (line + 1 + 1) width (lines_of (later_lines rest))) read → MayReadRows parts bad R (lines_of text) (prepend b.rows read)
         may_here read row line_may row_may =
             i.may read (subst (λ lines. MayReadLines parts bad R (line + 1) width lines read) (sym (lines-next rest some)) (row, subst (λ x. MayReadLine bad R (line + 1) 1 (parts x) row) is line_may, row_may))
 
@@ -79,30 +73,27 @@ module _ {A T : Type 0} (parts : List ℕ → List A) (bad : ℕ → ℕ → A �
         pub lines_bad : (fault : TextError) → IsBadRow parts bad R (line + 1) line_text fault → (fault ≡ Memory) ⊎ MayReadRows parts bad R (lines_of text) (Err fault)
         lines_bad fault no_row = elim no_row [ inl e ↦ inl e | inr f ↦ inr (may_here (Err fault) (Err fault) f refl) ]
 
-        module _ (added : List T) (len : ℕ) (row : IsRow parts bad R (line + 1) line_text cells added len) where
+        module _ (pushed : RowsValue T) (row : IsRow parts bad R (line + 1) line_text b pushed) where
           -- the next line is a row of another width
-          pub lines_ragged : 0 < line → len ≢ cols → MayReadRows parts bad R (lines_of text) (Err (Ragged (line + 1) len cols))
-          lines_ragged others ne =
-              let e : cols ≡ width = i.wide others in
-              rw (row.is_len, e) (may_here (Err (Ragged (line + 1) (length row.row) width)) (Ok row.row) row.may (inr (λ same. ne (row.is_len ∙ (same ∙ sym e)), refl)))
+          pub lines_ragged : (number len cols : ℕ) → RowFault pushed (RaggedRow number len cols) → MayReadRows parts bad R (lines_of text) (Err (Ragged (line + 1) len cols))
+          lines_ragged number len cols fault =
+              let p = ragged_is width b pushed i.between row.row row.put number len cols fault in
+              rw (p.0, p.1) (may_here (Err (Ragged (line + 1) (length row.row) width)) (Ok row.row) row.may (inr (λ same. p.2 (p.0 ∙ (same ∙ sym p.1)), refl)))
 
           -- the next line is a row
-          pub lines_more : (later : List ℕ) → later ≡ later_lines rest → (0 < line → len ≡ cols) → LinesSoFar later added (line + 1) len
-          lines_more later follows same =
+          pub lines_more : (later : List ℕ) → later ≡ later_lines rest → (ended : RowsValue T) → FitsCols pushed.cols (length pushed.cells) × (ended ≡ with_row pushed) → LinesSoFar later ended (line + 1)
+          lines_more later follows ended (fits, is_ended) =
               let r : List T = row.row in
               let is_wide : length r ≡ width =
-              ⊎_elim (λ none. row.counts ∙ (ap (λ x. length (parts x)) is ∙ (sym (ap (first_width parts) (lines-next rest some)) ∙ ap (λ x. first_width parts (lines_of x)) (i.whole none))))
-              (λ others. sym row.is_len ∙ (same (omega arith) ∙ i.wide (omega arith)))
-              (cases_eq line 0) in
-              record {
-                rows = i.rows ++ r ∷ [];
-                stored = row.put ∙ (ap (λ x. x ++ r) i.stored ∙ (ap (λ x. concat_rows i.rows ++ x) (sym (append-nil r)) ∙ sym (flat_map-append (λ x. x) i.rows (r ∷ []))));
-                number = length-append i.rows (r ∷ []) ∙ ap (λ n. n + 1) i.number;
-                even = All-push (λ row. length row ≡ width) i.rows r i.even is_wide;
-                whole = λ none. absurd (omega arith);
-                wide = λ lt. row.is_len ∙ is_wide;
+              row_fits width b pushed i.between r row.put
+              (λ none. row.counts ∙ (ap (λ x. length (parts x)) is ∙ (sym (ap (first_width parts) (lines-next rest some)) ∙ ap (λ x. first_width parts (lines_of x)) (i.begun none))))
+              fits in
+              rw is_ended (record {
+                between = between_more width b pushed i.between r row.put is_wide;
+                begun = λ none. absurd (cc);
                 fits = omega (arith, i.fits, later_is_shorter rest some, ap length follows);
                 may = λ read m.
-                    subst (MayReadRows parts bad R (lines_of text)) (prepend-prepend i.rows (r ∷ []) read)
-                    (may_here (prepend (r ∷ []) read) (Ok r) row.may (inl (is_wide, (read, subst (λ x. MayReadLines parts bad R (line + 1 + 1) width (lines_of x) read) follows m, refl))));
-              }
+                    subst (λ rows. MayReadRows parts bad R (lines_of text) (prepend rows read)) (sym (rows_more width b pushed i.between r row.put))
+                    (subst (MayReadRows parts bad R (lines_of text)) (prepend-prepend b.rows (r ∷ []) read)
+                    (may_here (prepend (r ∷ []) read) (Ok r) row.may (inl (is_wide, (read, subst (λ x. MayReadLines parts bad R (line + 1 + 1) width (lines_of x) read) follows m, refl)))));
+              })

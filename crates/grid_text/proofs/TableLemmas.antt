@@ -1,27 +1,9 @@
--- The table that is cut from the rows of a text.
-use Rattle.std.proofs.Common.{◌≡◌, ◌≢◌, inl, inr, ℕ, ◌+◌, ◌<◌, Result, Ok, Err, Option, Some, None, List, [], ◌∷◌, length, All, IfOk, IfErr, refl, sym, ap, ◌∙◌, arith}
-use Rattle.grid_text.proofs.Common.{row, row_count, col_count, concat_rows, storage, CanCut, GridValue, length-concat_rows, prepend, cell_before, read_line, row_before, read_lines, rows_of, table_read, as_table, IsOrMemory, MayReadLine, MayReadRow, MayReadLines, MayReadRows, MayReadOrMemory, MayReadAs, equal_rows, CanCut-cells, equal_rows_are}
-use Rattle.grid_base.specs.declared.order.Order.TheVariants.{RowMajor}
+-- What may be read of a text, and what is read of the text of a table.
+use Rattle.std.proofs.Common.{◌≡◌, inl, inr, ℕ, ◌+◌, Result, Ok, Err, Option, Some, None, List, [], ◌∷◌, length, IfOk, IfErr, sym, ap, ◌∙◌}
+use Rattle.grid_text.proofs.Common.{GridValue, prepend, cell_before, read_line, row_before, read_lines, rows_of, table_read, as_table, IsOrMemory, MayReadLine, MayReadRow, MayReadLines, MayReadRows, MayReadOrMemory, MayReadAs}
 use Rattle.grid_text.specs.declared.error.TextError.{TextError}
 use Rattle.grid_text.specs.declared.error.TextError.TheVariants.{Memory}
 use Rattle.grid_text.proofs.ReadLemmas.{good_row, ragged_row}
-
-module _ {T : Type 0} (rows : List (List T)) (cells : List T) (cols : ℕ) (stored : cells ≡ concat_rows rows) (even : All (λ row. length row ≡ cols) rows) where
-  widths : (r : ℕ) → r < row_count rows → length (row rows r) ≡ cols
-  widths r lt = even r [] lt
-
-  pub can_cut : CanCut (length cells) cols
-  can_cut = CanCut-cells (length cells) (length rows) cols (ap length stored ∙ length-concat_rows rows cols widths)
-
-  pub cut_rows : (g : GridValue T) → storage RowMajor g.rows ≡ cells → (length cells ≢ 0 → col_count g.rows ≡ cols) → g.rows ≡ equal_rows rows
-  cut_rows g cut wide = by_rows rows stored even
-    where
-      by_rows : (rows : List (List T)) → cells ≡ concat_rows rows → All (λ row. length row ≡ cols) rows → g.rows ≡ equal_rows rows
-      by_rows [] stored even =
-          equal_rows_are [] g.rows (λ r lt. absurd (omega arith)) g.table (cut ∙ stored) (λ some. absurd (some refl))
-      by_rows (x ∷ xs) stored even =
-          let first : length x ≡ cols = even 0 [] (omega arith) in
-          equal_rows_are (x ∷ xs) g.rows (λ r lt. even r [] lt ∙ sym first) g.table (cut ∙ stored) (λ some. wide (λ none. some (sym (ap length stored) ∙ none)) ∙ sym first)
 
 -- where h gives each answer, what may be read is what h reads
 module _ {A T : Type 0} (parts : List ℕ → List A) (bad : ℕ → ℕ → A → TextError) (R : A → Option T → Type 0) (h : A → Option T) (said : (x : A) (cell : Option T) → R x cell → cell ≡ h x) where

@@ -1,6 +1,8 @@
 -- Which rows a text says, or why it says none.
 use Rattle.std.specs.Prelude.{◌≡◌, ◌≢◌, ◌⊎◌, ◌+◌, ◌==◌, if◌then◌else◌, ℕ, Option, Some, None, List, [], ◌∷◌, ◌++◌, length, Result, Ok, Err, MatchResult, chars}
 use Rattle.grid.specs.Prelude.{GridValue, equal_rows}
+use Rattle.grid_rows.specs.Rows.{RowsValue}
+use Rattle.grid_rows.specs.Builder.{with_cells}
 use denote.Ref.{Bor}
 use Rattle.std.specs.Char.{IsScalar}
 use Rattle.std.specs.declared.alloc.AllocError.{AllocError}
@@ -165,15 +167,14 @@ by_chars R = record { Part = ℕ; parts = chars; bad = bad_char; answers = R }
 abbrev pub by_words : {T : Type 0} → (List ℕ → Option T → Type 0) → Cutting T
 by_words R = record { Part = List ℕ; parts = words_of; bad = bad_word; answers = R }
 
--- what came of the cells of one line, after the cells before it: as many as its parts, those that R
--- lets them be; or the fault of the first that is none; or allocation failed
+-- what was added to the open row for one line: as many cells as its parts, those that R lets them be;
+-- or the fault of the first that is none; or allocation failed
 module _ {A T : Type 0} (parts : List ℕ → List A) (bad : ℕ → ℕ → A → TextError)
     (R : A → Option T → Type 0) where
-  pub record IsRow (line : ℕ) (text : List ℕ) (old new : List T) (len : ℕ) : Type 0 where
+  pub record IsRow (line : ℕ) (text : List ℕ) (old new : RowsValue T) : Type 0 where
     pub row : List T
-    pub put : new ≡ old ++ row
+    pub put : new ≡ with_cells old row
     pub counts : length row ≡ length (parts text)
-    pub is_len : len ≡ length row
     pub may : MayReadLine bad R line 1 (parts text) (Ok row)
 
   abbrev pub IsBadRow : ℕ → List ℕ → TextError → Type 0

@@ -4,7 +4,8 @@ ghost use Rattle.text_lines.specs.Lines.{lines_of, words_of};
 ghost use Rattle.grid_text.specs.Reading.{ReadsBy, ReadsWordsBy, AnswersWord, TriesWordsBy, AnswersChar, TriesWord, Cutting, by_chars, by_words, MayReadAs, IsOrMemory, IsRow, IsBadRow, bad_char, bad_word, reading, reading_words};
 
 use super::error::TextError;
-use grid::Grid;
+use grid::{Grid, ShapeError};
+use grid_rows::RowsBuilder;
 use std::alloc::{AllocError, Allocator};
 use text_lines::{Words, cut_line};
 
@@ -90,21 +91,23 @@ fn read_lines<T: Drop, A: Allocator, P: Pieces<T, A>>(
     ensures { let by = P.cutting pieces.now in
         MayReadAs by.parts by.bad by.answers (lines_of text.now) result }
 {
-    let mut cells = Vec::new(alloc);
+    let mut rows = RowsBuilder::new(alloc);
     let mut rest = text;
     let mut line = 0usize;
-    let mut cols = 0usize;
     while !rest.is_empty() {
         let (pieces_text, later) = cut_line(rest);
         line += 1;
-        let len = pieces.push_row(&mut cells, line, pieces_text)?;
-        if line > 1 && len != cols {
-            return Err(TextError::Ragged { line, len, cols });
+        pieces.read(&mut rows, line, pieces_text)?;
+        match rows.end_row() {
+            Ok(()) => {}
+            Err(ShapeError::Ragged { len, cols, .. }) => {
+                return Err(TextError::Ragged { line, len, cols });
+            }
+            Err(_) => return Err(TextError::Memory),
         }
-        cols = len;
         rest = later;
     }
-    Ok(Grid::from_vec(cells, cols))
+    Ok(rows.into_grid())
 }
 
 // How a line is cut into pieces, characters or words, and what each may be read as.
@@ -113,11 +116,11 @@ trait Pieces<T, A: Allocator> {
 
     ghost callable: { Self → Type 0 };
 
-    // Adds the cells of a line, and returns how many they are.
-    fn push_row(&self, cells: &mut Vec<T, A>, line: usize, text: &str) -> Result<usize, TextError>
+    // Adds the cells of a line to the open row.
+    fn read(&self, rows: &mut RowsBuilder<T, A>, line: usize, text: &str) -> Result<(), TextError>
         requires { callable self.now }
         ensures { let by = cutting self.now in MatchResult result
-            (IsRow by.parts by.bad by.answers line text.now cells.old.items cells.new.items)
+            (λ _. IsRow by.parts by.bad by.answers line text.now rows.old rows.new)
             (IsBadRow by.parts by.bad by.answers line text.now) };
 }
 
@@ -130,13 +133,13 @@ impl<T: Drop, A: Allocator, F: Fn(char) -> Option<T>> Pieces<T, A> for Chars<F> 
 
     ghost callable = { λ by. F.IsAlwaysCallable by.0 };
 
-    fn push_row(&self, cells: &mut Vec<T, A>, line: usize, text: &str) -> Result<usize, TextError> {
+    fn read(&self, rows: &mut RowsBuilder<T, A>, line: usize, text: &str) -> Result<(), TextError> {
         let Chars(read) = self;
         let mut column = 0usize;
         for found in text.chars() {
             column += 1;
             match read(found) {
-                Some(cell) => cells.push(cell)?,
+                Some(cell) => rows.push(cell)?,
                 None => return Err(TextError::BadChar {
                     line,
                     column,
@@ -144,7 +147,7 @@ impl<T: Drop, A: Allocator, F: Fn(char) -> Option<T>> Pieces<T, A> for Chars<F> 
                 }),
             }
         }
-        Ok(column)
+        Ok(())
     }
 }
 
@@ -160,16 +163,16 @@ where
 
     ghost callable = { λ by. F.IsAlwaysCallable by.0 };
 
-    fn push_row(&self, cells: &mut Vec<T, A>, line: usize, text: &str) -> Result<usize, TextError> {
+    fn read(&self, rows: &mut RowsBuilder<T, A>, line: usize, text: &str) -> Result<(), TextError> {
         let Tried(read) = self;
         let mut word = 0usize;
         for found in Words(text) {
             word += 1;
             match read(found)? {
-                Some(cell) => cells.push(cell)?,
+                Some(cell) => rows.push(cell)?,
                 None => return Err(TextError::BadWord { line, word }),
             }
         }
-        Ok(word)
+        Ok(())
     }
 }

@@ -1,5 +1,5 @@
-//! A grid keeps its allocator: its vector is on its own heap, also after a call that was given a line, lines or a board of
-//! another. What a call makes with an allocator that it is given is on that one's heap. No clause says either.
+//! A grid keeps its allocator: its vector is on its own heap, also after a call that was given a line, lines or a board
+//! of another. What a call makes with an allocator that it is given is on that one's heap. No clause says either.
 use grid::{Command, Grid, Order, ShapeError, Tally, run};
 use grid_deferred::run_deferred;
 use std::alloc::AllocError;

@@ -1,6 +1,6 @@
-//! What no line of a case can say: cells that have no size or no default, that own memory, that find none, or that equal a
-//! different one; that edits drop what they take out and take no memory; iterators for writing; laws; and a caller whose
-//! result no clause says.
+//! What no line of a case can say: cells that have no size or no default, that own memory, that find none, or that
+//! equal a different one; that edits drop what they take out and take no memory; iterators for writing; laws; and a
+//! caller whose result no clause says.
 #![tactic(auto)]
 
 #[cfg(test)]

@@ -1,5 +1,5 @@
-//! Calls that return no `Result`, on counted cells: that each drops what it takes out and nothing else, asks for no memory,
-//! and calls its closure as often as it has to. No clause says any of these.
+//! Calls that return no `Result`, on counted cells: that each drops what it takes out and nothing else, asks for no
+//! memory, and calls its closure as often as it has to. No clause says any of these.
 use grid::{Axis, Command, Grid, Order, Reply, Symmetry, Tally};
 use grid_deferred::{Deferred, carry, carry_reply};
 use grid_lines::{retain_cols, retain_rows, rewrite_rows, roll_rows};

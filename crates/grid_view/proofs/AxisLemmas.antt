@@ -1,7 +1,8 @@
 -- The indices along an axis.
 use Rattle.std.proofs.Common.{◌≡◌, ℕ, zero, suc, ◌+◌, ◌*◌, ◌<◌, ◌≤◌, Bool, true, false, refl, ap, arith, mul_comm, mul-le-mul_right}
 use Rattle.grid_view.specs.declared.axis.ViewAxis.{ViewAxis}
-use Rattle.grid_view.specs.View.{counted, offset, other, turned, first_of}
+use Rattle.grid_base.specs.Lines.{counted}
+use Rattle.grid_view.specs.View.{offset, other, turned, first_of}
 
 -- counted from the other end
 pub counted_other : (a b : Bool) (n k : ℕ) → k < n → counted (other a b) n k ≡ counted a n (counted b n k)

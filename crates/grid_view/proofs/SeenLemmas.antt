@@ -2,6 +2,7 @@
 use Rattle.std.proofs.Common.{◌≡◌, ◌⊎◌, IsTrue, ◌↔◌, ◌==◌, if◌then◌else◌, nat_eq, ℕ, ◌+◌, ◌-◌, ◌*◌, ◌<◌, ◌≤◌, Bool, true, false, None, List, [], length, take, drop, slice_get, is_some, refl, sym, ◌∙◌, ap, arith, length-take-le, eqb-true, eq-eqb}
 use Rattle.std.proofs.lemmas.Bool.Decides.{nat_tests}
 use Rattle.grid_base.proofs.Common.{PathP, is_prop→PathP, mul-le, row_count, col_count, cell, concat_rows, tabulate, IsTable, table_of, HoldsSize, FitsUsize, act, source_row, source_col, image_rows, image_cols, flags_of, nil_from_length}
+use Rattle.grid_base.specs.Lines.{counted}
 use Rattle.grid_base.specs.declared.order.Order.TheVariants.{RowMajor, ColumnMajor}
 use Rattle.grid_base.specs.declared.words.Symmetry.{Symmetry}
 use Rattle.grid_base.specs.declared.words.Symmetry.TheVariants.{Identity, FlipCols, FlipRows, RotateHalf, Transpose, RotateLeft, RotateRight, AntiTranspose}
@@ -9,7 +10,7 @@ use Rattle.grid_base.proofs.TableLemmas.{rows-tabulate, cols-tabulate, cell-tabu
 use Rattle.grid_base.proofs.ActLemmas.{act-tabulate, IsFull-image}
 use Rattle.grid_base.proofs.StorageLemmas.{IsFull-table_of, storage-table_of, get-take, get-drop}
 use Rattle.grid_view.specs.declared.axis.ViewAxis.{ViewAxis}
-use Rattle.grid_view.specs.View.{counted, offset, turned, cut, crossed, first_of, seen, seen_cell, sub_table, HoldsView}
+use Rattle.grid_view.specs.View.{offset, turned, cut, crossed, first_of, seen, seen_cell, sub_table, HoldsView}
 use Rattle.grid_view.specs.Value.{ViewValue, view_value, IsFull-seen, place_within}
 use Rattle.grid_base.proofs.ViewLemmas.{IsTable-prop, FitsUsize-prop}
 use Rattle.grid_view.proofs.AxisLemmas as axis

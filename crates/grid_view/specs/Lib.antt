@@ -1,10 +1,8 @@
 pub mod View
 pub mod Value
 pub mod Nearest
-pub mod Lines
 pub mod Cells
 pub mod Same
-pub mod Stepped
 pub mod Texts
 pub mod Found
 pub mod Part

@@ -1,23 +1,17 @@
 -- What a contract sees of a view. That its rows are a table whose size fits is proved here, from
 -- lemmas of grid_base.
-use Rattle.std.specs.Prelude.{ℕ, ◌+◌, ◌<◌, Bool, true, false, List, length}
-use Rattle.grid_base.specs.Prelude.{row_count, col_count, IsTable, FitsUsize}
-use Rattle.std.proofs.Common.{arith}
-use Rattle.grid_base.proofs.TableLemmas.{IsFull, IsSome_within, IsTable-tabulate}
+use Rattle.std.specs.Prelude.{ℕ, ◌+◌, ◌<◌, List, length}
+use Rattle.grid_base.specs.Prelude.{counted, row_count, col_count, IsTable, FitsUsize}
+use Rattle.grid_base.proofs.TableLemmas.{IsFull, IsSome_within, IsTable-tabulate, counted_within}
 use Rattle.grid_base.proofs.ViewLemmas.{FitsUsize-tabulate}
 use Rattle.grid_view.specs.declared.axis.ViewAxis.{ViewAxis}
-use Rattle.grid_view.specs.View.{counted, offset, seen, seen_cell, HoldsView}
+use Rattle.grid_view.specs.View.{offset, seen, seen_cell, HoldsView}
 
 -- a table of rows, that it is a table, and that its size fits
 pub record ViewValue (T : Type 0) : Type 0 where
   pub rows : List (List T)
   pub table : IsTable rows
   pub fits : FitsUsize (row_count rows) (col_count rows)
-
--- an index that is counted is within
-pub counted_within : (b : Bool) (n k : ℕ) → k < n → counted b n k < n
-counted_within true n k lt = omega arith
-counted_within false n k lt = lt
 
 pub place_within : (rows cols : ViewAxis) (len : ℕ) → HoldsView rows cols len → (r c : ℕ)
     → r < rows.count → c < cols.count → offset rows r + offset cols c < len

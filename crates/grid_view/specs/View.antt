@@ -1,12 +1,8 @@
 -- A part of a stored table, seen through a symmetry: two axes over the cells.
 use Rattle.std.specs.Prelude.{◌≡◌, ℕ, ◌+◌, ◌-◌, ◌*◌, ◌^◌, ◌<◌, Bool, true, false, Option, List, slice_get}
+use Rattle.grid_base.specs.Lines.{counted}
 use Rattle.grid_base.specs.Table.{IsSize, cell, tabulate}
 use Rattle.grid_view.specs.declared.axis.ViewAxis.{ViewAxis}
-
--- index k of n, counted from the end or not
-abbrev pub counted : Bool → ℕ → ℕ → ℕ
-counted true n k = n - 1 - k
-counted false n k = k
 
 -- how far line k of an axis is from the first cell
 abbrev pub offset : ViewAxis → ℕ → ℕ

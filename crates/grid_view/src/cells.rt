@@ -6,8 +6,8 @@ ghost use Rattle.std.specs.Iterator.SizeHint.{IsWithinCount};
 ghost use Rattle.grid_base.specs.declared.order.Order.TheVariants.{RowMajor};
 
 use crate::lines::ViewRowIter;
-use crate::stepped::SteppedIter;
 use crate::view::GridView;
+use grid_base::SteppedIter;
 use std::alloc::AllocError;
 use std::iter::FusedIterator;
 use std::marker::Model;

@@ -30,8 +30,8 @@ impl<'a, T: fmt::Display> GridView<'a, T> {
     }
 }
 
-/// Writes each row as a line: the text of each cell, with a space between two. There is no line end after the last row, and
-/// an empty view writes nothing.
+/// Writes each row as a line: the text of each cell, with a space between two. There is no line end after the last row,
+/// and an empty view writes nothing.
 ///
 ///     [[1, 20], [3, 4]]   {}   "1 20\n3 4"
 impl<'a, T: fmt::Display> fmt::Display for GridView<'a, T> {

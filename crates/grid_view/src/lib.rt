@@ -12,7 +12,6 @@ mod near;
 mod pretty;
 mod same;
 mod search;
-mod stepped;
 mod text;
 mod view;
 mod view_mut;

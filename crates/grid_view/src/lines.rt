@@ -1,33 +1,20 @@
 //! Iterators over a row or a column of a view, and over its rows and columns.
-ghost use Rattle.std.specs.Prelude.{◌≡◌, ◌+◌, ◌-◌, ◌*◌, ◌<◌, ◌≤◌, ⊤, [], length, drop, slice_get, IfSome, MatchOption, Some, option_copied, List};
+ghost use Rattle.std.specs.Prelude.{◌≡◌, ◌+◌, ◌<◌, ◌≤◌, ⊤, length, drop, slice_get, IfSome, MatchOption, Some, List};
+ghost use Rattle.std.specs.List.{All};
 ghost use Rattle.grid_base.specs.Prelude.{row, row_count, col_count, transposed, GivesLine, GivesLines};
 ghost use Rattle.grid_base.specs.Remaining.{remaining, IsRemaining};
-ghost use Rattle.std.specs.Iterator.{YieldsFirstRef, YieldsLastRef, YieldsFirst, YieldsLast, item_count, UpTo, at_most};
+ghost use Rattle.std.specs.Iterator.{YieldsFirst, YieldsLast, item_count, UpTo, at_most};
 ghost use Rattle.std.specs.Iterator.SizeHint.{IsWithinCount};
-ghost use Rattle.grid_view.specs.Lines.{directed, line_cells};
 
-use crate::axis::ViewAxis;
-use crate::stepped::SteppedIter;
 use crate::view::{GridView, row_start};
-use grid_base::GridLineIter;
+use grid_base::{GridLineIter, SteppedIter};
 use std::alloc::AllocError;
 use std::iter::FusedIterator;
 use std::marker::Model;
 use std::ops::Range;
 
-// Returns an iterator over the cells of an axis from a place on.
-fn line_of<T>(cells: &[T], start: usize, axis: ViewAxis) -> ViewLineIter<'_, T>
-    requires some { 0 < axis.count }
-    requires steps { 0 < axis.stride }
-    requires within { start + (axis.count - 1) * axis.stride < length cells.now }
-    ensures { result ≡ directed axis.backwards (line_cells start axis.count axis.stride cells.now) }
-{
-    let end = start + (axis.count - 1) * axis.stride + 1;
-    ViewLineIter {
-        line: GridLineIter::over(&cells[start..end], axis.stride, axis.count),
-        backwards: axis.backwards,
-    }
-}
+/// An iterator over a row or a column of a view, from both ends. Each step takes the same time.
+pub type ViewLineIter<'a, T> = GridLineIter<'a, T>;
 
 impl<'a, T> GridView<'a, T> {
     /// Returns an iterator over the cells of row `r`, from both ends.
@@ -42,7 +29,8 @@ impl<'a, T> GridView<'a, T> {
         ensures len { length result ≡ col_count self.now.rows }
     {
         let start = row_start(self.rows, self.cols, self.cells.len(), r);
-        line_of(self.cells, start, self.cols)
+        let cols = self.cols;
+        GridLineIter::over(self.cells, start, cols.count, cols.stride, cols.backwards)
     }
 
     // As `iter_row`, but a step tests only whether cells are left.
@@ -51,7 +39,8 @@ impl<'a, T> GridView<'a, T> {
         ensures { result ≡ row self.now.rows r }
     {
         let start = row_start(self.rows, self.cols, self.cells.len(), r);
-        SteppedIter::over(self.cells, start, self.cols)
+        let cols = self.cols;
+        SteppedIter::over(self.cells, start, cols.count, cols.stride, cols.backwards)
     }
 
     /// Returns an iterator over the cells of column `c`, from both ends.
@@ -107,6 +96,7 @@ impl<'a, T> GridView<'a, T> {
     ///     [[1, 2], [3, 4]]   iter_rows()   1, 2; then 3, 4
     pub fn iter_rows(&self) -> ViewRowIter<'a, T>
         ensures gives { GivesLines self.now.rows result }
+        ensures widths { All (λ line. length line ≡ col_count self.now.rows) result }
     {
         ViewRowIter {
             view: self.view(),
@@ -119,109 +109,9 @@ impl<'a, T> GridView<'a, T> {
     ///     [[1, 2], [3, 4]]   iter_cols()   1, 3; then 2, 4
     pub fn iter_cols(&self) -> ViewRowIter<'a, T>
         ensures gives { GivesLines (transposed self.now.rows) result }
+        ensures heights { All (λ line. length line ≡ row_count self.now.rows) result }
     {
         self.transposed().iter_rows()
-    }
-}
-
-/// An iterator over a row or a column of a view, from both ends. Each step takes the same time.
-#[derive(Drop)]
-pub struct ViewLineIter<'a, T> {
-    line: GridLineIter<'a, T>,
-    backwards: bool,
-}
-
-impl<'a, T> Model for ViewLineIter<'a, T> {
-    ghost use Rattle.std.specs.Prelude.{List, ⊤};
-    ghost use Rattle.grid_view.specs.Lines.{directed};
-
-    ghost Value = { List T };
-
-    ghost view = { λ a. directed a.backwards a.line };
-
-    ghost invariant = { λ _. ⊤ };
-}
-
-impl<'a, T> ViewLineIter<'a, T> {
-    /// Skips `n` cells and returns the next, or `None` if fewer remain.
-    ///
-    ///     [[1, 2, 3, 4]]   iter_row(0), then nth(2)   Some(3), and 4 remains
-    ///
-    /// Cost: the same time at every `n`, but `n` steps along a line whose cells come from the last stored.
-    pub fn nth(&mut self, n: usize) -> Option<&'a T>
-        ensures item { option_copied result ≡ slice_get self.old n }
-        ensures rest { self.new ≡ drop (n + 1) self.old }
-    {
-        if self.backwards {
-            self.line.nth_back(n)
-        } else {
-            self.line.nth(n)
-        }
-    }
-}
-
-impl<'a, T> Iterator for ViewLineIter<'a, T> {
-    type Item = &'a T;
-
-    ghost next_gives = { YieldsFirstRef (λ rest. rest) };
-
-    ghost remaining = { item_count (λ rest. rest) };
-
-    #[tactic(auto, using(crate::proofs::LineLemmas::backwards_first))]
-    fn next(&mut self) -> Option<&'a T> {
-        if self.backwards {
-            self.line.next_back()
-        } else {
-            self.line.next()
-        }
-    }
-
-    fn size_hint(&self) -> (usize, Option<usize>)
-        ensures lower { IsWithinCount result.0 (at_most (length self.now)) }
-        ensures upper { IfSome result.1 (UpTo (at_most (length self.now))) }
-        ensures exact { result ≡ (length self.now, Some (length self.now)) }
-    {
-        let len = self.len();
-        (len, Some(len))
-    }
-}
-
-impl<'a, T> DoubleEndedIterator for ViewLineIter<'a, T> {
-    ghost next_back_gives = { YieldsLastRef (λ rest. rest) };
-
-    #[tactic(auto, using(crate::proofs::LineLemmas::backwards_last))]
-    fn next_back(&mut self) -> Option<&'a T> {
-        if self.backwards {
-            self.line.next()
-        } else {
-            self.line.next_back()
-        }
-    }
-}
-
-impl<'a, T> ExactSizeIterator for ViewLineIter<'a, T> {
-    #[tactic(auto, using(crate::proofs::LineLemmas::length_directed))]
-    fn len(&self) -> usize {
-        self.line.len()
-    }
-}
-
-impl<'a, T> FusedIterator for ViewLineIter<'a, T> {}
-
-/// Returns an iterator over the same remaining cells.
-///
-/// Cost: constant; it is always `Ok`, and takes no memory.
-impl<'a, T> Clone for ViewLineIter<'a, T> {
-    ghost is_clone = { λ it copy. copy ≡ it };
-
-    ghost is_infallible = { λ _. ⊤ };
-
-    fn clone(&self) -> Result<Self, AllocError> {
-        let line = self.line.clone()?;
-        Ok(ViewLineIter {
-            line,
-            backwards: self.backwards,
-        })
     }
 }
 

@@ -25,8 +25,8 @@ pub struct GridViewMut<'a, T> {
 impl<'a, T> GridViewMut<'a, T> {
     ghost use Rattle.grid_view.specs.ViewMut.{lender, board_cells, board_layout, board_rows, part_at, part_size, part_rows, IsSamePart};
 
-    /// Returns the part of `size.0` rows and `size.1` columns, from position `at` on, of the board that a slice stores in
-    /// this layout. Without rows or without columns it is empty.
+    /// Returns the part of `size.0` rows and `size.1` columns, from position `at` on, of the board that a slice stores
+    /// in this layout. Without rows or without columns it is empty.
     ///
     ///     [1, 2, 3, 4, 5, 6]   over(RowMajor, 2 by 3, (0, 1), (2, 2))   [[2, 3], [5, 6]]
     ///
@@ -105,8 +105,8 @@ impl<'a, T> GridViewMut<'a, T> {
         }
     }
 
-    /// Writes a cell, and returns the one that was there. Returns `None` exactly out of range, where nothing changes and
-    /// the value is dropped.
+    /// Writes a cell, and returns the one that was there. Returns `None` exactly out of range, where nothing changes
+    /// and the value is dropped.
     ///
     ///     [[1, 2], [3, 4]]   set(1, 0, 9)   Some(3)   [[1, 2], [9, 4]]
     ///     [[1, 2], [3, 4]]   set(2, 0, 9)   None      [[1, 2], [3, 4]]

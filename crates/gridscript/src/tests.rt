@@ -130,8 +130,8 @@ const USAGE: &str = "usage: gridscript [deferred]";
 
 const TRANSFER: &str = "input or output failed";
 
-// An argument or none, the input, whether output is taken; the status, and the text where no output is written. Bad arguments end
-// a process before it reads, a failed read before it plays, and a script at fault before it writes.
+// An argument or none, the input, whether output is taken; the status, and the text where no output is written. Bad
+// arguments end a process before it reads, a failed read before it plays, and a script at fault before it writes.
 const PROCESSES: [(Option<&'static [u8]>, Source, bool, u8, &str); 14] = [
     (None, SCRIPT, true, 0, ""),
     (DEFERRED, SCRIPT, true, 0, ""),

@@ -140,7 +140,8 @@ pub fn move_of(word: &str) -> Option<Move> {
     }
 }
 
-/// Reads a board, as the first line of a script has it: the order, the number of columns and the cells in storage order.
+/// Reads a board, as the first line of a script has it: the order, the number of columns and the cells in storage
+/// order.
 pub fn board_of(alloc: Global, line: &str) -> Result<Grid<i64>, CaseError> {
     let (order, rest) = line.split_once(" ").unwrap_or((line, ""));
     let (cols, cells) = rest.split_once(" ").unwrap_or((rest, ""));

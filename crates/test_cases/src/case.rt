@@ -49,8 +49,8 @@ pub struct Case<'a> {
 }
 
 impl<'a> Case<'a> {
-    /// Reads a case: `TITLE => EXPECTED` in one line, or a title, given lines, a line `--` and expected lines, or a title and
-    /// expected lines.
+    /// Reads a case: `TITLE => EXPECTED` in one line, or a title, given lines, a line `--` and expected lines, or a
+    /// title and expected lines.
     pub fn of(text: &'a str) -> Case<'a> {
         let (title, below) = text.split_once("\n").unwrap_or((text, ""));
         if let Some((title, expected)) = title.split_once(" => ") {

@@ -1,9 +1,9 @@
 //! Compares what calls return with what is expected of them, case by case.
 //!
-//! Standard input has the names of sections, a line each. The file `NAME.cases` has the cases of a section: some words, and
-//! cases, each of which begins with `== `. A case is a title, given lines, a line `--` and the expected lines, as the module of
-//! its section says; or one line, `TITLE => EXPECTED`. Of a case whose actual text isn't the expected one, the program
-//! prints both; of each section, how many cases are as expected. It fails if one isn't.
+//! Standard input has the names of sections, a line each. The file `NAME.cases` has the cases of a section: some words,
+//! and cases, each of which begins with `== `. A case is a title, given lines, a line `--` and the expected lines, as
+//! the module of its section says; or one line, `TITLE => EXPECTED`. Of a case whose actual text isn't the expected
+//! one, the program prints both; of each section, how many cases are as expected. It fails if one isn't.
 #![tactic(auto)]
 
 mod ask;
@@ -84,8 +84,8 @@ fn run_section<R: Print + Files + AllocGlobal>(
     Ok(as_expected == all)
 }
 
-// The same of each section that is named. Prints how many lines end in a carriage return too: an editor that strips them
-// would leave the cases as expected.
+// The same of each section that is named. Prints how many lines end in a carriage return too: an editor that strips
+// them would leave the cases as expected.
 fn run<R: Print + Files + AllocGlobal>(rt: &R, sections: &str) -> anyhow::Result<bool> {
     let (mut all_expected, mut returns) = (true, 0u64);
     for section in sections.lines() {

@@ -1,11 +1,11 @@
 //! The sections: what each case of one returns, as text.
 //!
-//! A section has a file of cases, a module, and an arm in one of three functions: of calls on a board, of calls without one, or
-//! of cases of its own form, which the head of its module has.
+//! A section has a file of cases, a module, and an arm in one of three functions: of calls on a board, of calls without
+//! one, or of cases of its own form, which the head of its module has.
 //!
-//! A case on a board has a title; below it the board, as the first line of a script has it, and a call on each line; and the
-//! expected lines: what each call returned, and the board then, its size, its order and its storage. A case without a board is one
-//! line, `CALL => EXPECTED`. `ask` reads a call.
+//! A case on a board has a title; below it the board, as the first line of a script has it, and a call on each line;
+//! and the expected lines: what each call returned, and the board then, its size, its order and its storage. A case
+//! without a board is one line, `CALL => EXPECTED`. `ask` reads a call.
 
 mod cells;
 mod changes;

@@ -36,9 +36,9 @@ struct Trial {
     order: Order,
 }
 
-// What an attempt came to: how many requests it took, clones among them, how many were for memory, how often it called its
-// closure, how often the closure was refused, how often it was called out of storage order, and how many blocks and cells
-// were held in the end.
+// What an attempt came to: how many requests it took, clones among them, how many were for memory, how often it called
+// its closure, how often the closure was refused, how often it was called out of storage order, and how many blocks and
+// cells were held in the end.
 #[derive(Clone, Copy)]
 struct Seen {
     answer: Answer,

@@ -72,8 +72,8 @@ fn take_back(history: &mut Past<'_>, name: &str) -> Answer {
     }
 }
 
-// A step is taken back, and the board is the one before. Where that is refused the step is still there, and is taken back
-// once there is memory.
+// A step is taken back, and the board is the one before. Where that is refused the step is still there, and is taken
+// back once there is memory.
 fn undone<'a>(start: &'a Start, board: &mut Board<'a>, name: &str) -> Result<Answer, AllocError> {
     let mut history = after_step(start, board)?;
     let steps = history.undo_count();

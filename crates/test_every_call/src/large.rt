@@ -1,4 +1,5 @@
-//! Larger inputs: a path of 77 steps, searches that outgrow the room they begin with, and the words of a failed allocation.
+//! Larger inputs: a path of 77 steps, searches that outgrow the room they begin with, and the words of a failed
+//! allocation.
 use crate::state::{Answer, Start, came, made};
 use crate::texts::DIGIT;
 use crate::{copies, makers};
@@ -40,7 +41,8 @@ fn is_free((row, col): (usize, usize)) -> bool {
 
 const SEARCHES: [&str; 4] = ["distances", "cheapest", "shortest_path", "cheapest_path"];
 
-// Whether a search finds the way from the first cell to the end, of 77 steps that cost 2 each, and looks at no cell twice.
+// Whether a search finds the way from the first cell to the end, of 77 steps that cost 2 each, and looks at no cell
+// twice.
 fn is_found(maze: &Grid<bool, &Heap>, name: &str) -> Result<bool, AllocError> {
     let calls = Cell::new(0u64);
     let test = |free: &bool| {

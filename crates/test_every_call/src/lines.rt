@@ -23,8 +23,8 @@ fn first(mut line: GridLineIter<'_, Counted<'_>>) -> Option<u32> {
     Some(line.next()?.value())
 }
 
-// How often a sort of these many lines may compare two of them: few as often as there are lines, times the logarithm; more
-// at most each two.
+// How often a sort of these many lines may compare two of them: few as often as there are lines, times the logarithm;
+// more at most each two.
 fn most_compared(lines: usize) -> u64 {
     match lines {
         0 | 1 => 0,

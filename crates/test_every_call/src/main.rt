@@ -1,10 +1,11 @@
-//! Makes each call that can refuse on all boards of up to three rows and columns, and on one of 5 by 8, in both orders, with
-//! memory for all; and on those of up to two rows, with no request granted, with one, with two, and so on up to what it took.
-//! The call must be done where there is memory for all; where it is refused, the board is as it was, and what was handed over
-//! comes back; closures are called as often, and in the order, that is promised; and each block and each cell is given back in
-//! the end. What doesn't hold is printed, and each call with the number of its attempts.
+//! Makes each call that can refuse on all boards of up to three rows and columns, and on one of 5 by 8, in both orders,
+//! with memory for all; and on those of up to two rows, with no request granted, with one, with two, and so on up to
+//! what it took. The call must be done where there is memory for all; where it is refused, the board is as it was, and
+//! what was handed over comes back; closures are called as often, and in the order, that is promised; and each block
+//! and each cell is given back in the end. What doesn't hold is printed, and each call with the number of its attempts.
 //!
-//! A call is a `Call` in the table of its module, and an arm below it. `docs/called` holds the tables for the public calls.
+//! A call is a `Call` in the table of its module, and an arm below it. `tools/called` holds the tables for the public
+//! calls.
 #![tactic(auto)]
 
 mod attempts;

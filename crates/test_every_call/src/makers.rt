@@ -1,12 +1,13 @@
 //! Calls that make a board of a size and an order: of defaults, clones, what a closure makes, a vector, rows or a view.
-use crate::state::{Answer, Board, Call, Line, Start, both_came, came, number};
+use crate::state::{Answer, Board, Call, Line, Start, both_came, came, came_of, is_board, number};
 use grid::{Grid, GridError, GridView, Order, ShapeError};
+use grid_rows::RowsBuilder;
 use std::alloc::AllocError;
 use std::convert::TryFrom;
 use test_support::counted::Counted;
 use test_support::fixtures::{Heap, SYMMETRIES};
 
-pub const CALLS: [Call; 20] = [
+pub const CALLS: [Call; 22] = [
     Call("Grid::new", 1, Some(1), None),
     Call("Grid::new_with_order", 1, Some(1), None),
     Call("Grid::init", 1, Some(1), None),
@@ -27,6 +28,8 @@ pub const CALLS: [Call; 20] = [
     Call("Grid::new of too many cells", 5, None, None),
     Call("Grid::try_from of what is no table", 3, Some(0), None),
     Call("Grid::new of no cells", 6, Some(0), None),
+    Call("RowsBuilder::push", 1, None, None),
+    Call("RowsBuilder::end_row", 1, Some(0), None),
 ];
 
 // The order in which the call of this name makes its cells.
@@ -241,10 +244,61 @@ fn none_or_moved<'a>(start: &'a Start) -> Result<Answer, AllocError> {
     })
 }
 
+// Adds a row of the board to a builder, cell by cell.
+fn push_row<'a>(
+    start: &'a Start,
+    rows: &mut RowsBuilder<Counted<'a>, &'a Heap>,
+    row: usize,
+) -> Result<(), ShapeError> {
+    for col in 0..start.size.1 {
+        rows.push(start.cell(number((row, col))))?;
+    }
+    rows.end_row()
+}
+
+// The board, row by row.
+fn row_by_row(start: &Start) -> Answer {
+    let mut rows = RowsBuilder::new(&start.heap);
+    for row in 0..start.size.0 {
+        if let Err(fault) = push_row(start, &mut rows, row) {
+            return came_of(fault);
+        }
+    }
+    if is_board(&rows.into_grid(), start.size, Order::RowMajor) {
+        Answer::Done
+    } else {
+        Answer::Wrong
+    }
+}
+
+// A row without cells below the first row of the board.
+fn ragged_row(start: &Start) -> Answer {
+    start.prepare();
+    let mut rows = RowsBuilder::new(&start.heap);
+    if let Err(fault) = push_row(start, &mut rows, 0) {
+        return came_of(fault);
+    }
+    start.ready();
+    let cols = start.size.1;
+    match rows.end_row() {
+        Err(
+            ShapeError::Ragged {
+                row: 1,
+                len: 0,
+                cols: found,
+            },
+        ) if found == cols && cols > 0 => Answer::Done,
+        Ok(()) if cols == 0 => Answer::Done,
+        _ => Answer::Wrong,
+    }
+}
+
 pub fn call<'a>(start: &'a Start, board: &mut Board<'a>, name: &str) -> Result<Answer, AllocError> {
     start.ready();
     match name {
         "Grid::from_arrays" => Ok(from_arrays(start)),
+        "RowsBuilder::push" => Ok(row_by_row(start)),
+        "RowsBuilder::end_row" => Ok(ragged_row(start)),
         "Grid::from_view" => Ok(from_view(start, &board.view())),
         "Grid::try_from of a vector lent" => Ok(of_vector(start, board)),
         "Grid::new of too many cells" => Ok(too_many(start)),

@@ -43,8 +43,8 @@ fn end(start: &Start) -> (usize, usize) {
     (rows.saturating_sub(1), cols.saturating_sub(1))
 }
 
-// Whether a cell is free. For a path all are; none is; or the first and the last alone, between which no path leads on three
-// columns. For other searches all are, or in the last case none.
+// Whether a cell is free. For a path all are; none is; or the first and the last alone, between which no path leads on
+// three columns. For other searches all are, or in the last case none.
 fn is_free(start: &Start, name: &str, cell: u32) -> bool {
     start.called();
     match name {

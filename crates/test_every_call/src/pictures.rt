@@ -39,8 +39,8 @@ fn read(start: &Start, name: &str) -> Result<Answer, AllocError> {
     })
 }
 
-// Pictures, gray and colored: in decimals good ones of one row and of one column, and in bytes a good one; the last sample
-// above the greatest, in decimals and in bytes; and no number; good ones whose greatest sample is 1, and 255;
+// Pictures, gray and colored: in decimals good ones of one row and of one column, and in bytes a good one; the last
+// sample above the greatest, in decimals and in bytes; and no number; good ones whose greatest sample is 1, and 255;
 // one with a comment.
 const GRAY: [&[u8]; 10] = [
     b"P2 2 1 9 7 9",

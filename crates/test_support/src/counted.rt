@@ -4,7 +4,8 @@ ghost use Rattle.std.specs.Prelude.{◌≡◌};
 use crate::fixtures::Heap;
 use std::alloc::AllocError;
 
-// A number that its heap counts. A clone is a request, which the heap may refuse. A default has no heap, and isn't counted.
+// A number that its heap counts. A clone is a request, which the heap may refuse. A default has no heap, and isn't
+// counted.
 #[derive(Default)]
 pub struct Counted<'a> {
     value: u32,

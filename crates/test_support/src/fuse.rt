@@ -13,8 +13,8 @@ struct Counts {
     held: u64,
 }
 
-/// An allocator that passes requests on to another one, as long as it has requests left to grant. It counts the blocks that
-/// were granted and not given back, as far as the other one grants them too.
+/// An allocator that passes requests on to another one, as long as it has requests left to grant. It counts the blocks
+/// that were granted and not given back, as far as the other one grants them too.
 ///
 /// A vector or a grid takes it by reference, as `Vec<T, &Fuse<Global>>`. Memory may be given back at any time.
 pub struct Fuse<B: Allocator> {

@@ -6,8 +6,8 @@ use crate::{Grid, GridError};
 use std::alloc::{Allocator, Global};
 use std::fmt;
 
-/// The error of a call that appends a grid: that grid, which comes back, and why. The grid to which it was to be appended
-/// is unchanged.
+/// The error of a call that appends a grid: that grid, which comes back, and why. The grid to which it was to be
+/// appended is unchanged.
 #[derive(Drop)]
 #[derive_where(Debug, PartialEq; T)]
 pub struct GridRefused<T, A: Allocator = Global> {
@@ -47,9 +47,9 @@ impl<T, A: Allocator> Grid<T, A> {
     /// Requires: both have the same number of columns, or one is empty.
     /// Fails: `TooLarge` where the cells would exceed `usize::MAX`, else `Memory`, before the first change of this
     /// grid. The other comes back, and both are unchanged.
-    /// Cost: row-major, time in the cells of the other, not counting a reallocation; column-major, time in the number of
-    /// cells times log2(columns) + 1 at most. Where the orders differ, that of [`lay_out`](Grid::lay_out) of the other is
-    /// added, twice where it is refused.
+    /// Cost: row-major, time in the cells of the other, not counting a reallocation; column-major, time in the number
+    /// of cells times log2(columns) + 1 at most. Where the orders differ, that of [`lay_out`](Grid::lay_out) of the
+    /// other is added, twice where it is refused.
     pub fn append_rows(&mut self, other: Grid<T, A>) -> Result<(), GridRefused<T, A>>
         requires fits { 0 < row_count other.rows → FitsRow self.old.rows (col_count other.rows) }
         ensures rows { OnOk result (self.new.rows ≡ self.old.rows ++ other.rows) }

@@ -1,5 +1,5 @@
 //! Rows and columns that are pushed and inserted, one or several.
-ghost use Rattle.std.specs.Prelude.{◌≡◌, ◌↔◌, ◌+◌, ◌*◌, ◌<◌, ◌≤◌, [], length, insert, All, OnOk, OnErr, IsErrOf};
+ghost use Rattle.std.specs.Prelude.{◌≡◌, ◌↔◌, ◌+◌, ◌*◌, ◌<◌, ◌≤◌, [], length, insert, All, OnOk, OnErr, IsErrOf, IsErrAnd};
 ghost use Rattle.grid.specs.Prelude.{row_count, col_count, IsTable, items_of_each, table_of, FitsRow, FitsCol, insert_col, insert_rows, insert_cols, LineFails, LinesFail, ExceedsMax};
 
 use super::{fits_usize, row_groups};
@@ -18,6 +18,15 @@ fn free_empty<T, A: Allocator>(lines: Vec<Vec<T, A>, A>)
         }
     }
     lines.destroy_empty();
+}
+
+// Returns the error of a line that comes back. Out of line, so that a call that succeeds doesn't write one.
+#[inline(never)]
+fn refused_line<T, A: Allocator>(line: Vec<T, A>, fault: GridError) -> Result<(), LineRefused<T, A>>
+    ensures { IsErrAnd result (λ refused.
+        (refused.fault ≡ fault) × (refused.line.items ≡ line.items)) }
+{
+    Err(LineRefused { line, fault })
 }
 
 impl<T, A: Allocator> Grid<T, A> {
@@ -89,7 +98,7 @@ impl<T, A: Allocator> Grid<T, A> {
                 line.destroy_empty();
                 Ok(())
             }
-            Err(fault) => Err(LineRefused { line, fault }),
+            Err(fault) => refused_line(line, fault),
         }
     }
 

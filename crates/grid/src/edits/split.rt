@@ -6,8 +6,8 @@ use crate::Grid;
 use std::alloc::{AllocError, Allocator};
 
 impl<T, A: Allocator> Grid<T, A> {
-    /// Takes the rows from row `at` on out, and returns them as a grid of the same order. The order stays. Where `at` is
-    /// the number of rows, that is the empty grid; where it is 0, the empty grid is left.
+    /// Takes the rows from row `at` on out, and returns them as a grid of the same order. The order stays. Where `at`
+    /// is the number of rows, that is the empty grid; where it is 0, the empty grid is left.
     ///
     ///     [[1, 2], [3, 4], [5, 6]]   split_off_rows(1)   [[3, 4], [5, 6]]   [[1, 2]]
     ///
@@ -43,8 +43,8 @@ impl<T, A: Allocator> Grid<T, A> {
     ///
     /// Requires: `at` is at most the number of columns.
     /// Fails: if the allocation of the cells, which comes first, fails; the grid is unchanged.
-    /// Cost: column-major, time in the cells that are taken; row-major, time in the number of cells times log2(rows) + 1
-    /// at most.
+    /// Cost: column-major, time in the cells that are taken; row-major, time in the number of cells times log2(rows) +
+    /// 1 at most.
     pub fn split_off_cols(&mut self, at: usize) -> Result<Grid<T, A>, AllocError>
     where
         A: Clone,

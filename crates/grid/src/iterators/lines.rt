@@ -1,12 +1,15 @@
-//! Iterators over one row or column, and over the rows and the columns. The columns of a grid are the rows of the table
-//! that the same vector stores in the other order.
+//! Iterators over one row or column, and over the rows and the columns. Those that only read are a view's.
 ghost use Rattle.std.specs.Prelude.{◌≡◌, ◌<◌, ◌≤◌, length, IfSome, MatchOption};
 ghost use Rattle.std.specs.List.{All};
 ghost use Rattle.grid.specs.Prelude.{row, row_count, col_count, transposed, GivesLine, GivesLines, line_mut_rest, sem};
 
 use crate::Grid;
-use grid_base::{GridLineIter, GridLineIterMut, GridRowIter, Layout};
+use grid_base::{GridLineIter, GridLineIterMut, Layout};
+use grid_view::ViewRowIter;
 use std::alloc::Allocator;
+
+/// An iterator over the rows of a grid, from both ends, seen as the list of the rows that remain.
+pub type GridRowIter<'a, T> = ViewRowIter<'a, T>;
 
 /// An iterator over the columns of a grid, from both ends, seen as the list of the columns that remain.
 pub type GridColIter<'a, T> = GridRowIter<'a, T>;
@@ -25,8 +28,7 @@ impl<T, A: Allocator> Grid<T, A> {
         ensures gives { GivesLine (row self.now.rows r) result }
         ensures len { length result ≡ col_count self.now.rows }
     {
-        let (order, rows, cols) = (self.order, self.row_count, self.col_count);
-        self.flat.row(Layout { order, rows, cols }, r)
+        self.view().iter_row(r)
     }
 
     /// Returns an iterator over the cells of column `c`, from both ends.
@@ -40,8 +42,7 @@ impl<T, A: Allocator> Grid<T, A> {
         ensures gives { GivesLine (row (transposed self.now.rows) c) result }
         ensures len { length result ≡ row_count self.now.rows }
     {
-        let (order, rows, cols) = (self.order.flipped(), self.col_count, self.row_count);
-        self.flat.row(Layout { order, rows, cols }, c)
+        self.view().iter_col(c)
     }
 
     /// Same as [`iter_row`](Grid::iter_row), or `None` out of range.
@@ -119,8 +120,7 @@ impl<T, A: Allocator> Grid<T, A> {
         ensures gives { GivesLines self.now.rows result }
         ensures widths { All (λ line. length line ≡ col_count self.now.rows) result }
     {
-        let (order, rows, cols) = (self.order, self.row_count, self.col_count);
-        self.flat.rows(Layout { order, rows, cols })
+        self.view().iter_rows()
     }
 
     /// Returns an iterator over the columns, from both ends, each as [`iter_col`](Grid::iter_col) gives it.
@@ -130,8 +130,6 @@ impl<T, A: Allocator> Grid<T, A> {
         ensures gives { GivesLines (transposed self.now.rows) result }
         ensures heights { All (λ line. length line ≡ row_count self.now.rows) result }
     {
-        let (order, rows, cols) = (self.order.flipped(), self.col_count, self.row_count);
-        let across = Layout { order, rows, cols };
-        self.flat.rows(across)
+        self.view().iter_cols()
     }
 }

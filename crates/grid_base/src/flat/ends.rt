@@ -42,7 +42,8 @@ impl<T, A: Allocator> Flat<T, A> {
     }
 }
 
-// The cells before `at`, and the vector that takes the others to its end. Both are taken by value, as in `with_defaults`.
+// The cells before `at`, and the vector that takes the others to its end. Both are taken by value, as in
+// `with_defaults`.
 pub(super) fn without_tail<T, A: Allocator>(
     mut cells: Vec<T, A>,
     to: (Vec<T, A>, usize),

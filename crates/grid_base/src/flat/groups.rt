@@ -18,7 +18,9 @@ ghost use Rattle.grid_base.specs.declared.flat.groups.Method.TheVariants.{Nothin
 use super::counted::{move_back, move_forward};
 use super::ends::without_tail;
 use super::room::{Way, move_through_room};
-use super::rotations::{FEW_BYTES, exchange_at_once, exchange_blocks, reverse_part};
+use super::rotations::{
+    FEW_BYTES, exchange_apart, exchange_at_once, exchange_blocks, reverse_part,
+};
 use super::{Flat, Swaps};
 use crate::Tally;
 use core::mem::replace_with;
@@ -104,10 +106,30 @@ impl<T, A: Allocator> Flat<T, A> {
         if let Method::Nothing = method_for(self.cells.as_slice(), groups) {
             return self.cells.split_off(kept);
         }
+        let is_small = size_of_val(self.cells.as_slice()) < FEW_BYTES;
+        if groups.lines == 1 && groups.count != 0 && is_small {
+            return self.take_from_line(groups);
+        }
         let alloc = self.cells.allocator().clone()?;
         let into = Vec::with_capacity(alloc, groups.lines * groups.count)?;
         unweave(self.cells.as_mut_slice(), groups);
         Ok(replace_with(&mut self.cells, (into, kept), without_tail))
+    }
+
+    // The same for a single line: cells at its end leave the vector first, and then change places with the group.
+    fn take_from_line(&mut self, groups: Groups) -> Result<Vec<T, A>, AllocError>
+    where
+        A: Clone,
+        requires cells { length self.old ≡ groups.lines * (groups.width + groups.count) }
+        requires single { groups.lines ≡ 1 }
+        requires has_count { 0 < groups.count }
+        ensures taken { IfOk result (λ taken. TakenOut groups.lines groups.width groups.at groups.count
+            self.new taken.items self.old) }
+        ensures err { OnErr result (self.new ≡ self.old) }
+    {
+        let mut taken = self.cells.split_off(groups.width)?;
+        exchange_apart(self.cells.as_mut_slice(), groups.at, taken.as_mut_slice());
+        Ok(taken)
     }
 
     /// Spreads the lines that come first, so that each has room for its group. What was after the lines comes to the

@@ -1,8 +1,9 @@
 //! An iterator over a row or a column.
-ghost use Rattle.std.specs.Prelude.{◌≡◌, ◌+◌, ◌-◌, ◌<◌, ⊤, length, drop, slice_get, IfSome, Some, option_copied};
-ghost use Rattle.grid_base.specs.Prelude.{div_ceil, YieldsFirstRef, YieldsLastRef, item_count, UpTo, at_most, IsWithinCount, every, LinesInOrder, LinesInReverse};
+ghost use Rattle.std.specs.Prelude.{◌≡◌, ◌+◌, ◌-◌, ◌*◌, ◌<◌, ⊤, [], length, drop, slice_get, IfSome, Some, option_copied};
+ghost use Rattle.grid_base.specs.LineCells.{cells_left};
+ghost use Rattle.grid_base.specs.Prelude.{line_cells, GivesLine, YieldsFirstRef, YieldsLastRef, item_count, UpTo, at_most, IsWithinCount};
 
-use super::strided_iter::StridedIter;
+use super::stepped_iter::SteppedIter;
 use std::alloc::AllocError;
 use std::iter::FusedIterator;
 use std::marker::Model;
@@ -18,39 +19,88 @@ pub struct GridLineIter<'a, T> {
 #[derive(Drop)]
 enum Cells<'a, T> {
     Together(slice::Iter<'a, T>),
-    Apart(StridedIter<'a, T>),
+    // The last of the slice comes first.
+    Reversed(slice::Iter<'a, T>),
+    Apart(SteppedIter<'a, T>),
+}
+
+impl<'a, T> Cells<'a, T> {
+    // Returns the `count` cells that are `stride` places apart, the first of them at place `start`; the last first where
+    // they go backwards.
+    #[inline(always)]
+    fn over(
+        cells: &'a [T],
+        start: usize,
+        count: usize,
+        stride: usize,
+        backwards: bool,
+    ) -> Cells<'a, T>
+        requires some { 0 < count }
+        requires steps { 0 < stride }
+        requires within { start + (count - 1) * stride < length cells.now }
+        ensures { cells_left result ≡ line_cells start count stride backwards cells.now }
+    {
+        if count == 1 {
+            // the count is a constant here, so that a loop over such lines has no inner loop
+            Cells::Together(cells[start..start + 1].iter())
+        } else if stride != 1 {
+            Cells::Apart(SteppedIter::over(cells, start, count, stride, backwards))
+        } else if backwards {
+            Cells::Reversed(cells[start..start + count].iter())
+        } else {
+            Cells::Together(cells[start..start + count].iter())
+        }
+    }
 }
 
 impl<'a, T> Model for GridLineIter<'a, T> {
-    ghost use Rattle.std.specs.Prelude.{List};
+    ghost use Rattle.std.specs.Prelude.{List, length, ◌<◌, ◌^◌};
 
     ghost Value = { List T };
 
     ghost use Rattle.grid_base.specs.LineCells.{cells_left};
 
     ghost view = { λ a. cells_left a.cells };
+
+    // known of each line, so that a caller may count what is left of any
+    ghost invariant = { λ a. length (cells_left a.cells) < 2 ^ 64 };
 }
 
 impl<'a, T> GridLineIter<'a, T> {
-    /// Returns an iterator over the first cell of a slice and those after it, each `stride` places after the last,
-    /// `count` in all.
+    /// Returns an iterator over `count` cells that are `stride` places apart, the first of them at place `start`; the
+    /// last comes first where it goes backwards.
     ///
-    ///     [1, 2, 3, 4, 5]   over(2, 3)   1, 3, 5
+    ///     [1, 2, 3, 4, 5]   over(0, 3, 2, false)   1, 3, 5
+    ///     [1, 2, 3, 4, 5]   over(0, 3, 2, true)    5, 3, 1
     ///
-    /// Requires: `stride` is not 0, and there are `count` such cells.
-    pub fn over(cells: &'a [T], stride: usize, count: usize) -> GridLineIter<'a, T>
+    /// Requires: `count` and `stride` are not 0, and the cells are within the slice.
+    #[inline(always)]
+    pub fn over(
+        cells: &'a [T],
+        start: usize,
+        count: usize,
+        stride: usize,
+        backwards: bool,
+    ) -> GridLineIter<'a, T>
+        requires some { 0 < count }
         requires steps { 0 < stride }
-        requires counted { count ≡ div_ceil (length cells.now) stride }
-        ensures rest { result ≡ every 0 (stride - 1) cells.now }
-        ensures runs { LinesInOrder T }
-        ensures runs_back { LinesInReverse T }
+        requires within { start + (count - 1) * stride < length cells.now }
+        ensures { GivesLine (line_cells start count stride backwards cells.now) result }
     {
-        let cells = if stride == 1 {
-            Cells::Together(cells.iter())
-        } else {
-            Cells::Apart(StridedIter::new(cells, stride, count))
-        };
-        GridLineIter { cells }
+        GridLineIter {
+            cells: Cells::over(cells, start, count, stride, backwards),
+        }
+    }
+
+    /// Returns an iterator over no cells of a slice.
+    ///
+    ///     [1, 2, 3]   none()   nothing
+    pub fn none(cells: &'a [T]) -> GridLineIter<'a, T>
+        ensures { GivesLine [] result }
+    {
+        GridLineIter {
+            cells: Cells::Together(cells[..0].iter()),
+        }
     }
 
     /// Skips `n` cells and returns the next, or `None` if fewer remain.
@@ -63,6 +113,10 @@ impl<'a, T> GridLineIter<'a, T> {
         let passed = n.min(self.len());
         match &mut self.cells {
             Cells::Together(cells) => *cells = cells.as_slice()[passed..].iter(),
+            Cells::Reversed(cells) => {
+                let left = cells.as_slice();
+                *cells = left[..left.len() - passed].iter();
+            }
             Cells::Apart(cells) => cells.pass(passed),
         }
         self.next()
@@ -79,6 +133,7 @@ impl<'a, T> Iterator for GridLineIter<'a, T> {
     fn next(&mut self) -> Option<&'a T> {
         match &mut self.cells {
             Cells::Together(cells) => cells.next(),
+            Cells::Reversed(cells) => cells.next_back(),
             Cells::Apart(cells) => cells.next(),
         }
     }
@@ -99,6 +154,7 @@ impl<'a, T> DoubleEndedIterator for GridLineIter<'a, T> {
     fn next_back(&mut self) -> Option<&'a T> {
         match &mut self.cells {
             Cells::Together(cells) => cells.next_back(),
+            Cells::Reversed(cells) => cells.next(),
             Cells::Apart(cells) => cells.next_back(),
         }
     }
@@ -108,6 +164,7 @@ impl<'a, T> ExactSizeIterator for GridLineIter<'a, T> {
     fn len(&self) -> usize {
         match &self.cells {
             Cells::Together(cells) => cells.len(),
+            Cells::Reversed(cells) => cells.len(),
             Cells::Apart(cells) => cells.len(),
         }
     }
@@ -126,6 +183,7 @@ impl<'a, T> Clone for GridLineIter<'a, T> {
     fn clone(&self) -> Result<Self, AllocError> {
         let cells = match &self.cells {
             Cells::Together(cells) => Cells::Together(cells.clone()?),
+            Cells::Reversed(cells) => Cells::Reversed(cells.clone()?),
             Cells::Apart(cells) => Cells::Apart(cells.clone()?),
         };
         Ok(GridLineIter { cells })

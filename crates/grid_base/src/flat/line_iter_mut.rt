@@ -77,8 +77,8 @@ impl<'a, T> Iterator for GridLineIterMut<'a, T> {
     }
 }
 
-// The first cell, for writing; those that a stride passes over, for reading, so that nothing writes them any more; and the
-// cells that are left after it.
+// The first cell, for writing; those that a stride passes over, for reading, so that nothing writes them any more; and
+// the cells that are left after it.
 fn step_along<T>(cells: &mut [T], stride: usize) -> (&mut T, &[T], &mut [T])
     requires some { 0 < length cells.old }
     requires steps { 0 < stride }

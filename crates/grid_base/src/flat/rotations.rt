@@ -1,5 +1,5 @@
 //! Parts of a slice that are reversed, and blocks that are side by side and change places. No tally counts it.
-ghost use Rattle.std.specs.Prelude.{◌<◌, ◌≤◌, ◌+◌, ◌^◌, length};
+ghost use Rattle.std.specs.Prelude.{◌≡◌, ◌<◌, ◌≤◌, ◌+◌, ◌-◌, ◌^◌, ◌++◌, length};
 ghost use Rattle.grid_base.specs.Prelude.{BlocksExchanged, BlockTaken, PartReversed};
 
 use std::mem;
@@ -54,6 +54,30 @@ pub(super) fn exchange_at_once<T>(cells: &mut [T], start: usize, first: usize, s
     ensures { BlocksExchanged start first second cells.old cells.new }
 {
     cells[start..start + first + second].rotate_left(first);
+}
+
+// As `exchange_blocks` of the cells from `start` on and the line after them, but the line is a slice of its own: it
+// takes as many of those cells as it has, from the first on. Block by block, from the end.
+//
+//     [1, 2, 3, 4], [5, 6]   exchange_apart(1)   [1, 4, 5, 6], [2, 3]
+//
+// Requires: the line is not empty.
+pub(super) fn exchange_apart<T>(cells: &mut [T], start: usize, line: &mut [T])
+    requires start { start ≤ length cells.old }
+    requires some { 0 < length line.old }
+    ensures cells { length cells.new ≡ length cells.old }
+    ensures exchanged { BlocksExchanged start (length line.old) (length cells.old - start)
+        (cells.old ++ line.old) (cells.new ++ line.new) }
+{
+    let count = line.len();
+    let mut end = cells.len();
+    while count <= end - start {
+        end -= count;
+        swap_parts(cells, end, line, 0, count);
+    }
+    let few = end - start;
+    swap_parts(cells, start, line, count - few, few);
+    exchange_blocks(line, 0, count - few, few);
 }
 
 // Exchanges the `n` cells from `i` on with those of another slice from `j` on.

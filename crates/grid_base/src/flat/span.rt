@@ -1,16 +1,15 @@
-//! Where the cells of a row are in the storage of a table: a start, an end, a stride, and a count.
+//! Where the cells of a row are in the storage of a table: a start, an end and a stride.
 ghost use Rattle.std.specs.Prelude.{◌+◌, ◌*◌, ◌<◌};
 ghost use Rattle.grid_base.specs.Prelude.{place, IsSpan};
 
 use crate::{Layout, Order};
 
-// The `count` places from `start` on and before `end`, each `stride` after the last.
+// The places from `start` on and before `end`, each `stride` after the last.
 #[derive(Drop)]
 pub(super) struct Span {
     pub(super) start: usize,
     pub(super) end: usize,
     pub(super) stride: usize,
-    pub(super) count: usize,
 }
 
 // Returns where the cells of row `r` are.
@@ -22,24 +21,21 @@ pub(super) fn row_span(layout: Layout, r: usize) -> Span
         (layout.rows * layout.cols) result }
 {
     match layout.order {
-        // the count is a constant here, so that a loop over such rows has no inner loop
+        // there is one place here, so that a loop over such rows has no inner loop
         _ if layout.cols == 1 => Span {
             start: r,
             end: r + 1,
             stride: 1,
-            count: 1,
         },
         Order::RowMajor => Span {
             start: r * layout.cols,
             end: r * layout.cols + layout.cols,
             stride: 1,
-            count: layout.cols,
         },
         Order::ColumnMajor => Span {
             start: r,
             end: layout.cols * layout.rows,
             stride: layout.rows,
-            count: layout.cols,
         },
     }
 }

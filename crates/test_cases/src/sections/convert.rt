@@ -1,8 +1,9 @@
 //! Conversions of vectors and of lists of rows.
 use crate::ask::Ask;
 use crate::case::CaseError;
-use crate::shown::{shown, shown_made};
-use grid::{Grid, can_cut};
+use crate::shown::{shown, shown_board, shown_made};
+use grid::{Grid, ShapeError, can_cut};
+use grid_rows::RowsBuilder;
 use std::alloc::{AllocError, Global};
 use std::convert::TryFrom;
 
@@ -28,6 +29,58 @@ fn rows_lent(alloc: Global, rows: &Vec<Vec<i64>>, last_first: bool) -> Result<St
     shown_made(alloc, Grid::try_from(&lent?))
 }
 
+fn push_cells(builder: &mut RowsBuilder<i64>, row: &Vec<i64>) -> Result<(), AllocError> {
+    for cell in row {
+        builder.push(*cell)?;
+    }
+    Ok(())
+}
+
+// The rows cell by cell, and the cells of one that isn't ended.
+fn built(
+    mut builder: RowsBuilder<i64>,
+    rows: &Vec<Vec<i64>>,
+    open: Option<&Vec<i64>>,
+) -> Result<RowsBuilder<i64>, ShapeError> {
+    for row in rows {
+        push_cells(&mut builder, row)?;
+        builder.end_row()?;
+    }
+    if let Some(row) = open {
+        push_cells(&mut builder, row)?;
+    }
+    Ok(builder)
+}
+
+// The grid of a builder, or its cells.
+fn built_text(
+    alloc: Global,
+    ask: Ask<'_>,
+    rows: &Vec<Vec<i64>>,
+    open: Option<&Vec<i64>>,
+) -> Result<String, CaseError> {
+    let builder = match ask.call {
+        "cell_by_cell_of" => RowsBuilder::with_cols(alloc, ask.number(0)),
+        _ => RowsBuilder::new(alloc),
+    };
+    match built(builder, rows, open) {
+        Ok(builder) if ask.word(0) == "vec" => shown(alloc, builder.into_vec()),
+        Ok(builder) => shown_board(alloc, &builder.into_grid()),
+        Err(error) => shown(alloc, error),
+    }
+}
+
+// The rows cell by cell. Below `cell_by_cell_open` the last row isn't ended.
+fn cell_by_cell(alloc: Global, ask: Ask<'_>) -> Result<String, CaseError> {
+    let mut rows = ask.lines(alloc)?;
+    if ask.call == "cell_by_cell_open" {
+        let open = rows.pop();
+        built_text(alloc, ask, &rows, open.as_ref())
+    } else {
+        built_text(alloc, ask, &rows, None)
+    }
+}
+
 // The rows, lent as a list or one by one.
 fn lent(alloc: Global, call: &str, rows: &Vec<Vec<i64>>) -> Result<String, CaseError> {
     match call {
@@ -46,6 +99,7 @@ pub fn actual(alloc: Global, ask: Ask<'_>) -> Result<String, CaseError> {
         "list_lent" | "rows_lent" | "rows_lent_last_first" => {
             lent(alloc, ask.call, &ask.lines(alloc)?)
         }
+        "cell_by_cell" | "cell_by_cell_open" | "cell_by_cell_of" => cell_by_cell(alloc, ask),
         "can_cut" => shown(alloc, can_cut(ask.number(0), ask.number(1))),
         _ => pair(alloc, ask),
     }

@@ -1,9 +1,9 @@
-//! Reads pictures and sheets that other programs wrote, and says what they are: the rows, or what is wrong. Or makes what
-//! another program made of the same file, and says whether the bytes are the same.
+//! Reads pictures and sheets that other programs wrote, and says what they are: the rows, or what is wrong. Or makes
+//! what another program made of the same file, and says whether the bytes are the same.
 //!
-//! A case is a line `== CALL NAME` and the expected lines. After the call is the name of a file, or of two, of which it makes the
-//! second of the first, or a short text as a string of JSON, each character a byte. `fixtures.py` makes the files and the
-//! cases by netpbm, Python and LibreOffice Calc; what the short texts are was found by hand.
+//! A case is a line `== CALL NAME` and the expected lines. After the call is the name of a file, or of two, of which it
+//! makes the second of the first, or a short text as a string of JSON, each character a byte. `fixtures.py` makes the
+//! files and the cases by netpbm, Python and LibreOffice Calc; what the short texts are was found by hand.
 
 mod numbers;
 mod pictures;

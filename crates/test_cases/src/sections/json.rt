@@ -1,7 +1,7 @@
 //! Reads JSON as a grid, and writes the grid and reads it again.
 //!
-//! A case is a line `== CELLS JSON => EXPECTED`: a type of cells, a text, and what it is as a grid of such cells that was read,
-//! written and read again (its size, its order, its storage and its text), or why it is none.
+//! A case is a line `== CELLS JSON => EXPECTED`: a type of cells, a text, and what it is as a grid of such cells that
+//! was read, written and read again (its size, its order, its storage and its text), or why it is none.
 use crate::case::{Case, CaseError};
 use crate::shown::text;
 use grid::Grid;

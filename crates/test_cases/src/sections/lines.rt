@@ -24,8 +24,8 @@ fn add_line(
     }
 }
 
-// The lines that an iterator hands out at these ends, or after as many others as a number says, and how many are left each
-// time.
+// The lines that an iterator hands out at these ends, or after as many others as a number says, and how many are left
+// each time.
 fn handed(alloc: Global, mut lines: GridRowIter<'_, i64>, ends: &str) -> Result<String, CaseError> {
     let mut lines_text = String::new(alloc);
     for end in ends.split_whitespace() {

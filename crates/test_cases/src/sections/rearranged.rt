@@ -117,8 +117,8 @@ fn last(mut col: GridLineIter<'_, i64>) -> Option<i64> {
     col.next_back().copied()
 }
 
-// Sorts lines by their first cells, rows upwards and columns downwards, or by all cells, or rows by their sums and columns
-// by their last cells.
+// Sorts lines by their first cells, rows upwards and columns downwards, or by all cells, or rows by their sums and
+// columns by their last cells.
 fn sorted(board: &mut Grid<i64>, call: &str) -> Result<(), CaseError> {
     let sorted = match call {
         "sort_rows_by" => sort_rows_by(board, by_first),

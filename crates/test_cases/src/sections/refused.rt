@@ -1,9 +1,9 @@
 //! Makes each call with no request for memory granted, then with one, with two, and so on until it is done.
 //!
-//! A case is a line `== CALL NAME`, a script, a line `--`, and what the call comes to in turn, each line once. Below `run` and
-//! `run_deferred` the commands of the script are run on its grid: the outcome, the swaps for symmetries and for shifts, and the
-//! grid then. Below `from_arrays` two rows of three slots become a grid of the order of the script's: the grid, or the error, and
-//! what the slots have then.
+//! A case is a line `== CALL NAME`, a script, a line `--`, and what the call comes to in turn, each line once. Below
+//! `run` and `run_deferred` the commands of the script are run on its grid: the outcome, the swaps for symmetries and
+//! for shifts, and the grid then. Below `from_arrays` two rows of three slots become a grid of the order of the
+//! script's: the grid, or the error, and what the slots have then.
 use crate::case::{Case, CaseError, shape_error};
 use grid::{Command, Grid, Order, Tally, run};
 use grid_deferred::run_deferred;

@@ -1,8 +1,8 @@
 //! Reads each text as a board, and writes the board, and then the transposed one.
 //!
-//! A case is a line `== CALL NAME`, a text, a line `--`, and the board that the call reads, with the two texts that are written;
-//! or why there is none. Below `from_text` a cell is `.`, `#` or `é`, below `from_words` a number up to 255, below `from_long_words` an
-//! `i64`.
+//! A case is a line `== CALL NAME`, a text, a line `--`, and the board that the call reads, with the two texts that are
+//! written; or why there is none. Below `from_text` a cell is `.`, `#` or `é`, below `from_words` a number up to 255,
+//! below `from_long_words` an `i64`.
 use crate::case::{Case, CaseError};
 use grid::{Grid, Whole};
 use grid_text::{TextError, from_text, from_words, to_text, to_words};

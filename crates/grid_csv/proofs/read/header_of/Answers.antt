@@ -9,4 +9,4 @@ returns-in_err-push_fields c =
     rw (p.1, p.2) (header_bad _ _ _ c.in_err-push_fields.ensures (λ field cell said. said))
 
 pub returns : goal.returns
-returns c = header_is _ _ _ _ c.new-header.ensures.items c.in_ok-push_fields.ensures (λ field cell said. said)
+returns c = header_is _ _ _ _ _ c.new-header.ensures c.in_ok-push_fields.ensures c.into_vec.ensures (λ field cell said. said)

@@ -13,7 +13,7 @@ loop-index-init g c =
     record {
       same = rw (made, e.source) gives.0;
       count = rw made e.count ∙ sym at;
-      cells = rw at (cells_start (AnswersField (goal.F-post g) c.args.read.now) (fields_of c.args.row.now) c.args.cells.now.items);
+      cells = rw at (cells_start (AnswersField (goal.F-post g) c.args.read.now) (fields_of c.args.row.now) c.args.rows.now);
     }
 
 pub loop-index-preserved : goal.loop-index-preserved
@@ -25,7 +25,7 @@ loop-index-preserved g c =
     record {
       same = ap (λ r. r.now) step.0.0 ∙ i.same;
       count = step.2 ∙ (ap (λ n. n + 1) i.count ∙ sym step.0.2);
-      cells = rw step.0.2 (cells_more (AnswersField (goal.F-post g) c.args.read.now) _ _ _ _ i.cells _ _ _ here said c.in_ok-push-in-Some-2.ensures.items);
+      cells = rw step.0.2 (cells_more (AnswersField (goal.F-post g) c.args.read.now) _ _ _ _ i.cells _ _ _ here said c.in_ok-push-in-Some-2.ensures.pushed);
     }
 
 pub returns-in-None-2 : goal.returns-in-None-2

@@ -8,5 +8,5 @@ abbrev pub invariant-loop-index : goal.invariant-loop-index
 invariant-loop-index g l = record {
   same : l.index-iterator.iter.row.now ≡ l.fn.row;
   count : l.index-iterator.count ≡ l.index-iterator.iter.at;
-  cells : CellsSoFar (AnswersField (goal.F-post g) l.read) (fields_of l.fn.row) l.fn.cells.items l.cells.items l.index-iterator.iter.at;
+  cells : CellsSoFar (AnswersField (goal.F-post g) l.read) (fields_of l.fn.row) l.fn.rows l.rows l.index-iterator.iter.at;
 }

@@ -7,12 +7,12 @@ use Rattle.grid_base.specs.Symmetry.{IsInverse}
 use Rattle.grid_base.specs.declared.words.Symmetry.{Symmetry}
 use Rattle.grid_base.specs.declared.words.Symmetry.TheVariants.{Identity}
 use Rattle.grid_images.specs.Images.{DiffersBy, number, symmetry_at}
-use Rattle.grid_images.proofs.NumberLemmas.{at-number, number-at, undoing}
+use Rattle.grid_images.proofs.NumberLemmas.{at-number, number-at, number-where, undoing}
 use Rattle.grid_images.proofs.OrbitLemmas.{differs_member, member_differs, undone_then}
 use Rattle.grid_images.proofs.orbit.comes_before.Goals as goal
 
-pub returns-then-number_of-i : goal.returns-then-number_of-i
-returns-then-number_of-i c =
+pub returns-then-stands_in_all-i : goal.returns-then-stands_in_all-i
+returns-then-stands_in_all-i c =
     let ss = c.args.fixing.now in
     let s = symmetry_at c.args.i in
     let u = c.then.result in
@@ -22,7 +22,7 @@ returns-then-number_of-i c =
     let member : Contains ss f = Contains-get_or ss k Identity (omega (arith, c.loop-member-test.true, ap length c.as_slice-member-items.ensures.members)) in (
       λ e. (
         number u,
-        omega (arith, c.if-number_of-i.true, c.number_of.ensures),
+        omega (arith, c.if-stands_in_all-i.true, number-where c.stands_in_all.result u c.stands_in_all.ensures),
         subst (DiffersBy ss s) (sym (at-number u)) (member_differs ss f s c.inverse.result u member undoes c.then.ensures),
       ),
       λ h. refl,
@@ -34,7 +34,7 @@ loop-member-preserved c =
     let undoes = subst (λ xs. IsInverse (get_or xs k Identity) c.inverse.result) c.as_slice-member-items.ensures.members c.inverse.ensures in
     below_more _ _ c.loop-member.invariant (λ less.
     let is = undone_then (get_or c.args.fixing.now k Identity) (symmetry_at c.args.i) c.inverse.result c.then.result undoes c.then.ensures in
-    omega (arith, less, ap number is, c.if-number_of-i.false, c.number_of.ensures))
+    omega (arith, less, ap number is, c.if-stands_in_all-i.false, number-where c.stands_in_all.result c.then.result c.stands_in_all.ensures))
 
 pub returns : goal.returns
 returns c =

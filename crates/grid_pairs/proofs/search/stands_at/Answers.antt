@@ -5,7 +5,7 @@ pub returns-else-eq : goal.returns-else-eq
 returns-else-eq g c = (
   λ e. absurd (cc),
   λ s.
-      let yes = first_same g.T.PartialEq.eq _ _ c.args.row c.args.col _ _ c.args.board.now.table c.requires.some s c.get_unchecked.ensures c.get_unchecked-2.ensures in
+      let yes = first_same g.T.PartialEq.eq _ _ c.args.r c.args.col _ _ c.args.board.now.table c.requires.some s c.requires.first c.get_unchecked.ensures in
       let not = c.if-eq.ensures in
       absurd (cc),
 )

@@ -1,64 +1,35 @@
-use Rattle.std.proofs.Common.{◌≡◌, true, ℕ, ◌<◌, ◌≤◌, ◌+◌, ◌*◌, Option, Some, None, length, get_or, [], ◌∷◌, ◌++◌, Contains, refl, sym, ◌∙◌, ap, subst, arith, rules, slice_get, length-append}
-use Rattle.grid_paths.proofs.Common.{slice_get-get_or, row_count, col_count, cell, IsOpen, HasLeastFrom, IsMarked, cell_in_range}
-use Rattle.grid_paths.proofs.Lemmas.{IsSearch, HasLeastSteps-one, IsSettled-end, IsSettled-found, IsTrimmed-start, IsTrimmed-round, IsTrimmed-trim, next_at, HasLeastFrom-trimmed, unreached_cells, none_at, none_marked, IsStarted, IsStarted-empty, IsStarted-reach, started_all, IsLeft-start}
+use Rattle.std.proofs.Common.{◌≡◌, Ok, ℕ, ◌<◌, ◌+◌, ◌*◌, Option, Some, length, [], ◌∷◌, ◌++◌, Contains, refl, sym, ◌∙◌, ap, subst, arith, rules, length-append}
+use Rattle.grid_paths.proofs.Common.{row_count, col_count, WentAround, HasLeastFrom, IsMarked, cell_in_range}
+use Rattle.grid_paths.proofs.Lemmas.{in_range_as, IsSearch, HasLeastSteps-one, IsSettled-end, IsSettled-found, IsTrimmed-start, IsTrimmed-round, IsTrimmed-trim, next_at, HasLeastFrom-trimmed, unreached_cells, none_marked, IsSearch-start, start_reached, IsLeft-blank, Reaches-each}
 use Rattle.grid_paths.proofs.search.search_from.Goals as goal
 
-pub loop-start-init : goal.loop-start-init
-loop-start-init g c =
-    let mask = c.args.mask.rows in
-    let w = c.in_ok-steps.steps in
-    let u = w.numbers.rows in
-    let blank = c.in_ok-steps.ensures in
-    let none : (a : ℕ × ℕ) (m : ℕ) → IsMarked u a m → ⊥ = λ a m h.
-    none_marked (row_count mask) (col_count mask) a m (subst (λ x. IsMarked x a m) blank.none h) in
-    let empty : (a : ℕ × ℕ) → IsOpen mask a → cell u a.0 a.1 ≡ Some None = λ a o.
-    let i = cell_in_range mask c.args.mask.table a.0 a.1 true o in
-    ap (λ x. cell x a.0 a.1) blank.none ∙ none_at (row_count mask) (col_count mask) a.0 a.1 i.0 i.1 in
-    let few = unreached_cells u w.numbers.table in
-    let size : row_count u * col_count u ≡ row_count mask * col_count mask = ap (λ n. n * col_count u) blank.size.rows ∙ ap (λ n. row_count mask * n) blank.size.cols in
-    let nothing : length w.queue.items ≡ 0 = ap length blank.queue in
-    record {
-      size = blank.size;
-      order = blank.order;
-      left = IsLeft-start mask u empty;
-      started = subst (λ q. IsStarted c.args.connectivity mask c.args.starts.now u q 0) (sym blank.queue) (IsStarted-empty c.args.connectivity mask c.args.starts.now u none);
-      bound = omega arith;
-    }
-
-pub loop-start-preserved : goal.loop-start-preserved
-loop-start-preserved g c =
-    let mask = c.args.mask.rows in
-    let starts = c.args.starts.now in
-    let l = c.loop-start in
-    let i = l.start-index in
-    let lt : i < length starts = c.loop-start-test.true in
-    let from : ℕ × ℕ = get_or starts i (0, 0) in
-    let place : slice_get starts i ≡ Some from = slice_get-get_or starts i (0, 0) lt in
-    let w = l.search.steps in
-    let new = c.reach.new.self.steps in
-    let r = c.in_ok-reach.ensures mask l.invariant.left in
-    let same = r.0.same in
-    let total = r.0.round.spread.total in
-    let le = l.invariant.bound in
-    record {
-      bound = omega arith;
-      size = record { rows = same.rows ∙ l.invariant.size.rows; cols = same.cols ∙ l.invariant.size.cols };
-      left = r.1;
-      order = same.order ∙ l.invariant.order;
-      started = IsStarted-reach c.args.connectivity mask starts w.numbers.rows w.queue.items i from new.numbers.rows new.queue.items l.invariant.started place r.0.round;
-    }
+pub visit_each-requires : goal.visit_each-requires
+visit_each-requires g c = (c.args.mask.rows, IsLeft-blank c.args.mask c.in_ok-steps.steps c.in_ok-steps.ensures)
 
 pub loop-next-init : goal.loop-next-init
 loop-next-init g c =
-    let l = c.loop-start in
-    let w = l.search.steps in
-    let le : length c.args.starts.now ≤ l.start-index = omega arith in
+    let mask = c.args.mask in
+    let starts = c.args.starts.now in
+    let w = c.in_ok-steps.steps in
+    let blank = c.in_ok-steps.ensures in
+    let none : (a : ℕ × ℕ) (m : ℕ) → IsMarked w.numbers.rows a m → ⊥ = λ a m h.
+    none_marked (row_count mask.rows) (col_count mask.rows) a m (subst (λ x. IsMarked x a m) blank.none h) in
+    let new = c.visit_each.new.search in
+    let u = new.steps.numbers.rows in
+    let q = new.steps.queue.items in
+    let r = Reaches-each 0 starts (Ok tt) (record { left = mask; steps = w }) new c.in_ok-visit_each.ensures mask.rows (IsLeft-blank mask w blank) in
+    let same = r.0.same in
+    let total = r.0.round.spread.total in
+    let few = unreached_cells w.numbers.rows w.numbers.table in
+    let size : row_count w.numbers.rows * col_count w.numbers.rows ≡ row_count mask.rows * col_count mask.rows = ap (λ n. n * col_count w.numbers.rows) blank.size.rows ∙ ap (λ n. row_count mask.rows * n) blank.size.cols in
+    let nothing : length w.queue.items ≡ 0 = ap length blank.queue in
+    let round = subst (λ q0. WentAround (λ a. Contains starts a) mask.rows 0 w.numbers.rows q0 u q) blank.queue r.0.round in
     record {
-      size = l.invariant.size;
-      order = l.invariant.order;
-      left = l.invariant.left;
-      search = IsTrimmed-start w.numbers.rows w.queue.items l.invariant.started.search l.invariant.bound;
-      start = started_all c.args.connectivity c.args.mask.rows c.args.starts.now w.numbers.rows w.queue.items l.start-index l.invariant.started le;
+      size = record { rows = same.rows ∙ blank.size.rows; cols = same.cols ∙ blank.size.cols };
+      order = same.order ∙ blank.order;
+      left = r.1;
+      search = IsTrimmed-start u q (IsSearch-start c.args.connectivity mask.rows starts w.numbers.rows none u q round) (omega arith);
+      start = start_reached c.args.connectivity mask.rows starts w.numbers.rows none u q round;
     }
 
 pub reach_around-requires : goal.reach_around-requires
@@ -67,16 +38,17 @@ reach_around-requires g c =
     let w = l.search.steps in
     let a = c.index-at.result.now in
     let v = next_at l.invariant.search a (omega (arith, w.queue.ok.0)) c.index-at.ensures in
-    let i = cell_in_range w.numbers.rows w.numbers.table a.0 a.1 (Some v.1.0) v.1.1 in
-    let rows = l.invariant.size.rows in
-    let cols = l.invariant.size.cols in
-    let rows2 = l.invariant.left.size.rows in
-    let cols2 = l.invariant.left.size.cols in
-    let lr : a.0 < row_count l.search.left.rows = omega arith in
-    let lc : a.1 < col_count l.search.left.rows = omega arith in
+    let u = w.numbers in
+    let left = l.invariant.left in
+    let rows : row_count l.search.left.rows ≡ row_count u.rows = left.size.rows ∙ sym l.invariant.size.rows in
+    let cols : col_count l.search.left.rows ≡ col_count u.rows = left.size.cols ∙ sym l.invariant.size.cols in
     let low = v.1.2 in
     let few = c.args.mask.fits.cells in
-    record { inside = (lr, lc); marked = (v.1.0, v.1.1, omega arith) }
+    record {
+      inside = in_range_as u.rows l.search.left.rows rows cols a (cell_in_range u.rows u.table a.0 a.1 (Some v.1.0) v.1.1);
+      left = (c.args.mask.rows, left);
+      marked = (v.1.0, v.1.1, omega arith);
+    }
 
 pub trim-next-requires : goal.trim-next-requires
 trim-next-requires g c =

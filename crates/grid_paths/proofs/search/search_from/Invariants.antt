@@ -1,19 +1,9 @@
-use Rattle.std.proofs.Common.{◌≡◌, ℕ, ◌+◌, ◌*◌, ◌-◌, ◌≤◌, length, Contains}
+use Rattle.std.proofs.Common.{◌≡◌, ℕ, ◌+◌, ◌*◌, ◌-◌, length, Contains}
 use Rattle.grid_paths.proofs.Common.{IsOpen, IsMarked, HaveOneSize, unreached}
-use Rattle.grid_paths.proofs.Lemmas.{IsTrimmed, IsStarted}
+use Rattle.grid_paths.proofs.Lemmas.{IsTrimmed}
 use Rattle.grid_base.specs.Table.{row_count, col_count}
 use Rattle.grid_paths.specs.Search.{IsLeft}
 use Rattle.grid_paths.proofs.search.search_from.Given as goal
-
-abbrev pub invariant-loop-start : goal.invariant-loop-start
-invariant-loop-start g l =
-    record {
-      size : HaveOneSize l.search.steps.numbers.rows l.fn.mask.rows;
-      order : l.search.steps.numbers.order ≡ l.fn.mask.order;
-      left : IsLeft l.fn.mask.rows l.search.steps.numbers.rows l.search.left.rows;
-      started : IsStarted l.connectivity l.fn.mask.rows l.starts l.search.steps.numbers.rows l.search.steps.queue.items l.start-index;
-      bound : unreached l.search.steps.numbers.rows + length l.search.steps.queue.items ≤ row_count l.fn.mask.rows * col_count l.fn.mask.rows;
-    }
 
 abbrev pub invariant-loop-next : goal.invariant-loop-next
 invariant-loop-next g l =

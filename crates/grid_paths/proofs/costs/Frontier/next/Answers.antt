@@ -1,6 +1,6 @@
-use Rattle.std.proofs.Common.{◌≡◌, None, ◌∙◌, sym, ap, subst, arith}
-use Rattle.grid_paths.proofs.Common.{with_cell, InRange, Holds, IsClosed, IsEnough, Entry, sums_of, waiting}
-use Rattle.grid_paths.proofs.Lemmas.{set_there, left_inside, IsCostSearch-stale}
+use Rattle.std.proofs.Common.{None, ◌∙◌, sym, ap, subst, arith}
+use Rattle.grid_paths.proofs.Common.{with_cell, rows-written, cols-with_cell, Holds, IsClosed, IsEnough, Entry, sums_of, waiting}
+use Rattle.grid_paths.proofs.Lemmas.{left_inside, IsCostSearch-stale}
 use Rattle.grid_base.specs.Table.{row_count, col_count}
 use Rattle.grid_paths.proofs.costs.Frontier.next.Goals as goal
 
@@ -24,6 +24,11 @@ loop-first-preserved g c =
           IsCostSearch-stale connectivity costs from (sums_of w f) f.left.rows (waiting w l.self) (l.invariant.enough connectivity costs from s) x (waiting w c.pop.new.self) p.taken closed;
     }
 
+pub index_mut-requires : goal.index_mut-requires
+index_mut-requires g c =
+    let t = c.pop.new.self.left in
+    left_inside t.rows t.table c.in-Some.first.1 c.in-Some-cost_of.cost ((c.cost_of.ensures c.in-Some-cost_of.cost).0 c.in-Some-cost_of.is)
+
 pub returns-in-Some-cost_of : goal.returns-in-Some-cost_of
 returns-in-Some-cost_of g c =
     let w = g.N.Width.reads in
@@ -33,17 +38,14 @@ returns-in-Some-cost_of g c =
     let at = c.in-Some.first.1 in
     let k = c.in-Some-cost_of.cost in
     let is_left : Holds t.rows at k = (c.cost_of.ensures k).0 c.in-Some-cost_of.is in
-    let i = left_inside t.rows t.table at k is_left in
-    let wrote : c.set.new.self.rows ≡ with_cell t.rows at.0 at.1 None = set_there c.set.result (InRange t.rows at.0 at.1) _ _ i c.set.ensures.in_range c.set.ensures.rows in
-    let same = c.set.ensures.same in
     let whole = c.requires in
     let was = p.left ∙ l.invariant.left in
     let sums = p.sums ∙ l.invariant.sums in
-    let rows = same.rows ∙ ap (λ t. row_count t.rows) was in
-    let cols = same.cols ∙ ap (λ t. col_count t.rows) was in
+    let rows = rows-written t.rows at.0 at.1 None ∙ ap (λ t. row_count t.rows) was in
+    let cols = cols-with_cell t.rows t.table at.0 at.1 None ∙ ap (λ t. col_count t.rows) was in
     record {
       is_left = subst (λ t. Holds t.rows at k) was is_left;
-      left = wrote ∙ ap (λ t. with_cell t.rows at.0 at.1 None) was;
+      left = ap (λ t. with_cell t.rows at.0 at.1 None) was;
       size = record { rows = rows; cols = cols };
       sums = sums;
       heap = waiting w l.self;

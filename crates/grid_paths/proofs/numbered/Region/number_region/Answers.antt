@@ -1,6 +1,6 @@
-use Rattle.std.proofs.Common.{◌≡◌, ap, ◌<◌, ◌≤◌, [], ◌∷◌, ◌++◌, Some, length, refl, ◌∙◌, subst, arith}
-use Rattle.grid_paths.proofs.Common.{slice_get_read, row_count, col_count, alike, IsAt, cell_in_range}
-use Rattle.grid_paths.proofs.Lemmas.{Grew, Marks-grew, Marks-fewer, IsNumbering-start, IsNumbering-round, IsNumbered-end}
+use Rattle.std.proofs.Common.{◌≡◌, ap, ◌<◌, ◌≤◌, [], ◌∷◌, ◌++◌, Ok, Some, length, refl, ◌∙◌, subst, arith}
+use Rattle.grid_paths.proofs.Common.{slice_get_read, alike, IsAt, cell_in_range}
+use Rattle.grid_paths.proofs.Lemmas.{Numbers-around, Grew, Marks-grew, Marks-fewer, IsNumbering-start, IsNumbering-round, IsNumbered-end}
 use Rattle.grid_paths.proofs.numbered.Region.number_region.Goals as goal
 
 pub loop-next-init : goal.loop-next-init
@@ -9,7 +9,7 @@ loop-next-init g c =
     let u = c.args.bfs.now.numbers.rows in
     let k = c.args.self.now.number in
     let new = c.mark.new.self in
-    let marks = c.in_ok-mark.ensures c.requires.at in
+    let marks = c.in_ok-mark.ensures in
     let one : length new.queue.items ≡ 1 = ap length (marks.queue ∙ ap (λ q. q ++ c.args.at ∷ []) c.clear.ensures.items) in
     let fewer = Marks-fewer c.requires.at marks in
     record {
@@ -19,35 +19,38 @@ loop-next-init g c =
       fewer = omega arith;
     }
 
-pub number_around-requires : goal.number_around-requires
-number_around-requires g c =
+pub visit_around-requires : goal.visit_around-requires
+visit_around-requires g c =
     let l = c.loop-next in
     let queue = l.bfs.queue in
-    let a = c.index.result.now in
+    let a = c.index-from.result.now in
     let lt : l.next < length queue.items = omega (arith, queue.ok.0) in
-    let place : IsAt queue.items l.next a = slice_get_read queue.items (length queue.items) l.next a refl lt c.index.ensures in
+    let place : IsAt queue.items l.next a = slice_get_read queue.items (length queue.items) l.next a refl lt c.index-from.ensures in
     let v = l.invariant.numbering.queued l.next a place in
-    let i = cell_in_range l.bfs.numbers.rows l.bfs.numbers.table a.0 a.1 (Some c.args.self.now.number) v in
-    let lr0 = i.0 in
-    let lc0 = i.1 in
+    let u = l.bfs.numbers in
+    let i = cell_in_range u.rows u.table a.0 a.1 (Some c.args.self.now.number) v in
+    let lr = i.0 in
+    let lc = i.1 in
+    let rows = u.fits.rows in
+    let cols = u.fits.cols in
     let same = l.invariant.same in
-    let size = c.requires.size in
-    let rows = same.rows ∙ size.rows in
-    let cols = same.cols ∙ size.cols in
-    let lr : a.0 < row_count c.args.self.now.grid.now.rows = omega arith in
-    let lc : a.1 < col_count c.args.self.now.grid.now.rows = omega arith in
-    record { size = record { rows = rows; cols = cols }; at = (lr, lc) }
+    record {
+      can = record { rows = same.rows ∙ c.requires.size.rows; cols = same.cols ∙ c.requires.size.cols };
+      row_in = omega arith;
+      col_in = omega arith;
+    }
 
 pub loop-next-preserved : goal.loop-next-preserved
 loop-next-preserved g c =
     let mask = alike g.T.PartialEq.eq c.args.self.now.first.now c.args.self.now.grid.now.rows in
     let l = c.loop-next in
     let queue = l.bfs.queue in
-    let a = c.index.result.now in
+    let a = c.index-from.result.now in
     let lt : l.next < length queue.items = omega (arith, queue.ok.0) in
-    let place : IsAt queue.items l.next a = slice_get_read queue.items (length queue.items) l.next a refl lt c.index.ensures in
-    let new = c.number_around.new.bfs in
-    let e = c.in_ok-number_around.ensures in
+    let place : IsAt queue.items l.next a = slice_get_read queue.items (length queue.items) l.next a refl lt c.index-from.ensures in
+    let new = c.visit_around.new.search in
+    let v = c.in_ok-visit_around.ensures in
+    let e = Numbers-around g.T.PartialEq.eq c.args.self.now a v.0 v.1 (Ok tt) l.bfs new v.2 in
     let before = l.invariant.same in
     record {
       same = record { rows = e.same.rows ∙ before.rows; cols = e.same.cols ∙ before.cols; order = e.same.order ∙ before.order };
@@ -60,7 +63,8 @@ pub loop-next-smaller : goal.loop-next-smaller
 loop-next-smaller g c =
     let queue = c.loop-next.bfs.queue in
     let lt : c.loop-next.next < length queue.items = omega (arith, queue.ok.0) in
-    let total = c.in_ok-number_around.ensures.round.spread.total in
+    let v = c.in_ok-visit_around.ensures in
+    let total = (Numbers-around g.T.PartialEq.eq c.args.self.now c.index-from.result.now v.0 v.1 (Ok tt) c.loop-next.bfs c.visit_around.new.search v.2).round.spread.total in
     omega arith
 
 pub returns-clause-numbered : goal.returns-clause-numbered

@@ -1,5 +1,5 @@
 use Rattle.std.proofs.Common.{◌+◌, ◌*◌, ◌/◌, ◌^◌, sym, ◌∙◌, ap}
-use Rattle.grid_view.specs.View.{counted}
+use Rattle.grid_base.specs.Lines.{counted}
 use Rattle.grid_view.proofs.StridedLemmas.{steps_back}
 use Rattle.grid_view.proofs.axis.ViewAxis.steps.Goals as goal
 

@@ -1,4 +1,5 @@
-use Rattle.std.proofs.Common.{◌∙◌, ap, arith, length}
+use Rattle.std.proofs.Common.{◌<◌, [], ◌∙◌, ap, arith, length, slice_index_or}
+use Rattle.std.proofs.lemmas.List.{get_or_default}
 use Rattle.grid_base.proofs.RemainingLemmas.{remaining_all}
 use Rattle.grid_base.proofs.StrideLemmas.{lines_in_order, lines_in_reverse, each_line_in_order, each_line_in_reverse}
 use Rattle.grid_view.proofs.SeenLemmas.{seen_rows}
@@ -18,4 +19,7 @@ returns g c =
         lines_in_reverse _,
         omega (arith, ap length rest, seen_rows _ _ _ c.self.inside.fits _ c.self.view_is),
       );
+      widths = λ k d lt.
+          let below : k < length c.args.self.now.rows = omega (arith, ap length rest) in
+          ap (λ rows. length (slice_index_or rows k d)) rest ∙ (ap length (get_or_default c.args.self.now.rows k d [] below) ∙ c.args.self.now.table.even k below);
     }

@@ -1,6 +1,0 @@
-use Rattle.std.proofs.Common.{sym, ap, ◌∙◌, length}
-use Rattle.grid_view.proofs.SteppedLemmas.{length-stepped}
-use Rattle.grid_view.proofs.stepped.SteppedIterExactSizeIterator.len.Goals as goal
-
-pub returns-clause-value : goal.returns-clause-value
-returns-clause-value g c = sym (length-stepped _ _ _ _ c.self.invariant) ∙ ap length c.self.view_is
