@@ -44,7 +44,8 @@ impl<T, A: Allocator> Grid<T, A> {
         ensures keeps { KeepsSize self.old }
         ensures board { board_rows result ≡ self.old.rows }
         ensures at { part_at result ≡ at }
-        ensures rows { 0 < size.0 → 0 < size.1 → part_rows result ≡ sub_table self.old.rows at size }
+        ensures rows { 0 < size.0 → 0 < size.1
+            → part_rows result ≡ sub_table self.old.rows at size }
         ensures none { (size.0 ≡ 0) ⊎ (size.1 ≡ 0) → part_rows result ≡ [] }
     {
         let (order, rows, cols) = (self.order, self.row_count, self.col_count);

@@ -23,7 +23,7 @@ pub use Rattle.grid_base.specs.Positions.{StandsAt, along}
 pub use Rattle.grid_base.specs.InPlace.{TransposedInPlace, Mirrored, Transposed}
 pub use Rattle.grid_base.specs.Room.{GroupsMoved, HasGroups}
 pub use Rattle.grid_base.specs.Span.{IsSpan}
-pub use Rattle.grid_base.specs.Strides.{LinesInOrder, LinesInReverse, EachLineInOrder, EachLineInReverse, every, strided}
+pub use Rattle.grid_base.specs.Strides.{LinesInOrder, LinesInReverse, EachLineInOrder, EachLineInReverse, every, strided, strides_of}
 unfoldable pub use Rattle.grid_base.specs.Symmetry.{act, symmetry_of}
 pub use Rattle.grid_base.specs.Symmetry.{source_row, source_col, image_rows, image_cols, transposes, order_after, IsThen, IsInverse, half, price, HasImageSize, IsAssociativeAt, IsNeutralAt, IsUndoneAt}
 unfoldable pub use Rattle.grid_base.specs.Table.{tabulate, cells_by}

@@ -1,7 +1,14 @@
--- The cells of a list at a stride, and what the iterators over lines give.
+-- The strides of an order, the cells of a list at a stride, and what the iterators over lines give.
 use Rattle.std.specs.Prelude.{ℕ, zero, suc, ◌-◌, List, [], ◌∷◌, take, drop}
 use Rattle.std.specs.Iterator.{YieldsFirst, YieldsLast, YieldsFirstRef, YieldsLastRef}
 use Rattle.std.specs.Iterator.Runs.{YieldsInOrder, YieldsInReverse, YieldsRefsInOrder, YieldsRefsInReverse}
+use Rattle.grid_base.specs.declared.order.Order.{Order}
+use Rattle.grid_base.specs.declared.order.Order.TheVariants.{RowMajor, ColumnMajor}
+
+-- how far apart the cells of a column are, and those of a row, in a table of a size
+abbrev pub strides_of : Order → ℕ × ℕ → ℕ × ℕ
+strides_of RowMajor size = (size.1, 1)
+strides_of ColumnMajor size = (1, size.0)
 
 module _ {X : Type 0} where
   -- the item after `skip` others, and from there on each one after `gap` others

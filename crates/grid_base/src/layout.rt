@@ -1,6 +1,7 @@
 //! How a slice stores the cells of a table.
-ghost use Rattle.std.specs.Prelude.{◌≡◌, ◌*◌, ◌^◌, ◌<◌};
+ghost use Rattle.std.specs.Prelude.{◌≡◌, ◌+◌, ◌*◌, ◌^◌, ◌<◌, ◌≤◌, ◌↔◌, IsTrue};
 ghost use Rattle.grid_base.specs.Positions.{along};
+ghost use Rattle.grid_base.specs.Strides.{strides_of};
 ghost use Rattle.grid_base.specs.Table.{IsSize};
 
 use crate::Order;
@@ -44,4 +45,21 @@ impl Layout {
             Order::ColumnMajor => (place, line),
         }
     }
+}
+
+/// Returns how far apart in its storage the cells of a column are, and those of a row, in a table of this size.
+pub fn strides_of(order: Order, size: (usize, usize)) -> (usize, usize)
+    ensures { result ≡ strides_of order size }
+{
+    match order {
+        Order::RowMajor => (size.1, 1),
+        Order::ColumnMajor => (1, size.0),
+    }
+}
+
+/// Returns whether `count` lines from line `start` on are all among the first `lines`.
+pub fn has_lines(lines: usize, start: usize, count: usize) -> bool
+    ensures { IsTrue result ↔ (start + count ≤ lines) }
+{
+    start <= lines && count <= lines - start
 }

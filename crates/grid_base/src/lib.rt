@@ -14,7 +14,7 @@ pub use flat::{
     Flat, GridLineIter, GridLineIterMut, Groups, IndexedIntoIter, IndexedIter, IndexedIterMut,
     Positions, SteppedIter, weave,
 };
-pub use layout::Layout;
+pub use layout::{Layout, has_lines, strides_of};
 pub use order::Order;
 pub use tally::Tally;
 pub use whole::Whole;

@@ -43,7 +43,8 @@ pub fn clear_beside(grid: &mut Grid<u8>, row: usize, col: usize) {
 /// Returns whether all cells that touch a cell are below this height: where it returns true, they are. And whether one
 /// that shares a side with it is, on a board whose edges meet: none is missed.
 pub fn are_below(grid: &Grid<u8>, row: usize, col: usize, height: u8) -> (bool, bool)
-    ensures all { IsTrue result.0 → All (λ near. near.1 < height) (neighbors8 grid.now.rows row col) }
+    ensures all { IsTrue result.0
+        → All (λ near. near.1 < height) (neighbors8 grid.now.rows row col) }
     ensures any { Any (λ near. near.1 < height) (wrapped_neighbors4 grid.now.rows row col)
         → IsTrue result.1 }
 {

@@ -7,6 +7,7 @@ ghost use Rattle.grid_changes.specs.Timeline.{board_of};
 
 use crate::change::Change;
 use grid::{Axis, Command, Grid, GridLineIter, Order, Refusal, Reply, Symmetry, Tally};
+use grid_base::has_lines;
 use grid_commands::{LineEdit, Request, line_refusal, lines_refusal, pad_refusal, request_of};
 use std::alloc::{AllocError, Allocator};
 use std::convert::TryFrom;
@@ -178,13 +179,6 @@ where
     }
 }
 
-// Whether there are `several` lines from line `start` on.
-fn is_within(start: usize, several: usize, count: usize) -> bool
-    ensures { IsTrue result ↔ (start + several ≤ count) }
-{
-    several <= count && start <= count - several
-}
-
 // Lines that are dropped, from one on; the reply is whether they are there.
 fn drop_lines<T, A: Allocator>(
     grid: &Grid<T, A>,
@@ -198,7 +192,7 @@ where
         (lines axis (delete_range start several)) (board_of grid.now) result }
 {
     let (count, _) = measure(grid, axis);
-    let found = is_within(start, several, count);
+    let found = has_lines(count, start, several);
     if !found || several == 0 {
         return Asked::Answer(Reply::Flag(found));
     }

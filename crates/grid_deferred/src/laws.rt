@@ -35,7 +35,8 @@ where
     ensures gives { RunGives T.is_clone T.is_default
         (map command_value commands.items) grid.old grid.new tally.old tally.new result.0 }
     ensures deferred_gives { DeferredRunGives T.is_clone T.is_default
-        (map command_value same.items) other.old other.new other_tally.old other_tally.new result.1 }
+        (map command_value same.items)
+        other.old other.new other_tally.old other_tally.new result.1 }
     ensures same_rows { OnOk result.0 (OnOk result.1 ((d : T)
         → AreKnown T.is_default T.is_clone d (map command_value commands.items)
         → grid.new.rows ≡ other.new.rows)) }

@@ -171,7 +171,8 @@ where
     ensures gives { RunGives T.is_clone T.is_default
         (map command_value commands.items) grid.old grid.new tally.old tally.new result.0 }
     ensures other_gives { RunGives T.is_clone T.is_default
-        (map command_value other_commands.items) other.old other.new other_tally.old other_tally.new result.1 }
+        (map command_value other_commands.items)
+        other.old other.new other_tally.old other_tally.new result.1 }
     ensures same_rows { OnOk result.0 (OnOk result.1 ((d : T)
         → AreKnown T.is_default T.is_clone d (map command_value commands.items)
         → other.new.rows ≡ grid.new.rows)) }

@@ -2,7 +2,7 @@
 use Rattle.std.proofs.Common.{◌≡◌, ℕ, zero, suc, ◌+◌, ◌-◌, ◌*◌, ◌/◌, ◌%◌, ◌^◌, ◌<◌, ◌≤◌, inl, inr, Bool, true, false, cond, Option, Some, None, List, [], ◌∷◌, drop, length, refl, ◌&&◌, nat_lt, sym, ◌∙◌, ap, arith, slice_index_or, lit<, IsSome, filter_map, slice_get, option_map, option_and_then, lt-ltb, le-ltb, ltb-true}
 use Rattle.grid_near.proofs.Common.{cons_option, drop_all, mod_below, mod-mul-add, add-mod_right, cases_lt, slice_get_read, row_count, col_count, cell, place, table_of, HoldsSize, cell_past_rows, IsSome_within, length_cons, past_cols, place_within, step_count, both, cell_at, neighbors4, neighbors8, wrapped_neighbors4, wrapped_neighbors8, around_of, around_before, around_after, cell_by, by_strides, by_steps, strided_table, HoldsCells, box, beside, around, side, positions, position_of, cells_from, if_within, strides_of, start_of, next_step, IsThere, IsAround, positions_from}
 use Rattle.std.proofs.Math.Nat.{mod-add-mod}
-use Rattle.grid_base.specs.Table.{IsSize, IsTable, tabulate}
+use Rattle.grid_base.specs.Table.{IsSize, IsTable}
 use Rattle.grid_base.proofs.StorageLemmas.{IsFull-table_of}
 use Rattle.grid_base.proofs.TableLemmas.{IsFull, IsTable-tabulate, rows-tabulate, cols-tabulate, cell-tabulate, tabulate-same}
 use Rattle.grid_base.specs.declared.order.Order.{Order}

@@ -2,8 +2,6 @@
 use Rattle.std.specs.Prelude.{◌≡◌, ℕ, zero, suc, ◌+◌, ◌-◌, ◌*◌, ◌/◌, ◌%◌, ◌^◌, ◌<◌, ◌≤◌, ◌&&◌, Bool, true, false, cond, nat_lt, Option, None, Some, List, [], ◌∷◌, drop, length, slice_get, MatchOption, filter_map, option_and_then}
 use Rattle.std.specs.Borrow.{Bor}
 use Rattle.grid_base.specs.Table.{tabulate}
-use Rattle.grid_base.specs.declared.order.Order.{Order}
-use Rattle.grid_base.specs.declared.order.Order.TheVariants.{RowMajor, ColumnMajor}
 use Rattle.grid_near.specs.declared.steps.Connectivity.{Connectivity}
 use Rattle.grid_near.specs.declared.steps.Connectivity.TheVariants.{Four, Eight}
 use Rattle.grid_near.specs.declared.board.Edges.{Edges}
@@ -31,11 +29,6 @@ strided_cell cells size strides = cell_by cells size (by_strides strides)
 abbrev pub strided_table : {T : Type 0} → List T → ℕ × ℕ → ℕ → ℕ × ℕ → List (List T)
 strided_table cells size start strides =
     tabulate size.0 size.1 (λ r c. slice_get cells (by_steps start strides r c))
-
--- the strides of a grid in an order
-abbrev pub strides_of : Order → ℕ × ℕ → ℕ × ℕ
-strides_of RowMajor size = (size.1, 1)
-strides_of ColumnMajor size = (1, size.0)
 
 -- each of them is there
 abbrev pub HoldsCells : {T : Type 0} → List T → ℕ × ℕ → (ℕ → ℕ → ℕ) → Type 0

@@ -11,7 +11,8 @@ use Rattle.grid_near.specs.declared.board.Board.{Board}
 use Rattle.grid_near.specs.declared.board.Edges.{Edges}
 use Rattle.grid_near.specs.declared.board.Edges.TheVariants.{Open, Joined}
 use Rattle.grid_near.specs.Neighbors.{cell_at, around_of}
-use Rattle.grid_near.specs.Around.{side, strided_cell, strides_of}
+use Rattle.grid_base.specs.Strides.{strides_of}
+use Rattle.grid_near.specs.Around.{side, strided_cell}
 use Rattle.grid_near.specs.NearCounts.{MayAnswer, CountsNear, SumsNear}
 
 module _ {T F : Type 0} (b : Board T F) where

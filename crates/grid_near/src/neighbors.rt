@@ -8,11 +8,9 @@ ghost use Rattle.grid_near.specs.Neighbors.{step_count, placed, around_of, Gives
 ghost use Rattle.grid_near.specs.declared.board.Edges.TheVariants.{Joined};
 
 use crate::board::Edges;
-use crate::steps::{
-    Connectivity, around, count_from, first_from, is_inner, offset, step_count, strides_of,
-};
+use crate::steps::{Connectivity, around, count_from, first_from, is_inner, offset, step_count};
 use crate::strided::{Strided, place_from};
-use grid_base::Layout;
+use grid_base::{Layout, strides_of};
 use std::alloc::AllocError;
 use std::iter::FusedIterator;
 use std::marker::Model;

@@ -1,8 +1,6 @@
 //! The steps around a cell: where each of them leads, and which of them are within the size.
 ghost use Rattle.std.specs.Prelude.{◌≡◌, ◌<◌, ◌≤◌, ◌/◌, ◌%◌, IsTrue, ◌↔◌, length};
-ghost use Rattle.grid_near.specs.Prelude.{step_count, around, box, positions_from, strides_of, IsInner, IsThere};
-
-use grid_base::Order;
+ghost use Rattle.grid_near.specs.Prelude.{step_count, around, box, positions_from, IsInner, IsThere};
 
 /// Which cells are next to a cell.
 #[derive(Clone, Copy, Debug, PartialEq, Eq)]
@@ -11,16 +9,6 @@ pub enum Connectivity {
     Four,
     /// 8-connectivity: the cells that share a side or a corner with it, at most eight.
     Eight,
-}
-
-// How far apart the cells of a column and of a row are.
-pub(crate) fn strides_of(order: Order, size: (usize, usize)) -> (usize, usize)
-    ensures { result ≡ strides_of order size }
-{
-    match order {
-        Order::RowMajor => (size.1, 1),
-        Order::ColumnMajor => (1, size.0),
-    }
 }
 
 // Whether all cells around a position are within the size.

@@ -40,7 +40,8 @@ fn follow<N: Width, A: Allocator + Clone>(
     trail: &Vec<Kept<N>, A>,
     last: Settled,
 ) -> Result<Vec<(usize, usize), A>, AllocError>
-    requires { slice_get (trail_of N.reads trail.now.items) (length trail.now.items - 1) ≡ Some last }
+    requires { slice_get (trail_of N.reads trail.now.items) (length trail.now.items - 1)
+        ≡ Some last }
     ensures { IfOk result (λ path. (costs : _) (from : ℕ × ℕ)
         → IsTrail connectivity from costs (trail_of N.reads trail.now.items)
         → IsCostPath connectivity costs from last.at path.items last.sum) }

@@ -3,6 +3,7 @@ ghost use Rattle.std.specs.Prelude.{◌≡◌, ℕ, ◌+◌, ◌*◌, ◌^◌, �
 ghost use Rattle.grid_sums.specs.Prelude.{row_count, col_count, sub_table, table_sum, IsMean, AreNumbers, ReturnsFor, CallableAtCells};
 ghost use Rattle.grid_sums.specs.Corners.{at, numbers_of, IsWithin, HoldsSums, RowsSummed};
 
+use grid_base::has_lines;
 use grid_view::{AsView, GridView};
 use std::alloc::{AllocError, Allocator, Global};
 use std::marker::Model;
@@ -52,7 +53,8 @@ fn part_sum(
     requires holds { HoldsSums board.0 board.1 corners.now }
     requires rows_in { at.0 + size.0 ≤ board.0 }
     requires cols_in { at.1 + size.1 ≤ board.1 }
-    ensures value { result ≡ table_sum (sub_table (numbers_of board.0 board.1 corners.now) at size) }
+    ensures value { result
+        ≡ table_sum (sub_table (numbers_of board.0 board.1 corners.now) at size) }
     ensures within { IsWithin result (size.0 * size.1) }
 {
     let (top, left) = at;
@@ -219,9 +221,7 @@ impl<A: Allocator> Sums<A> {
         ensures value { IfSome result (λ z. z ≡ table_sum (sub_table self.now at size)) }
     {
         let (rows, cols) = self.size();
-        let fits_rows = at.0 <= rows && size.0 <= rows - at.0;
-        let fits_cols = at.1 <= cols && size.1 <= cols - at.1;
-        if fits_rows && fits_cols {
+        if has_lines(rows, at.0, size.0) && has_lines(cols, at.1, size.1) {
             Some(self.sum(at, size))
         } else {
             None

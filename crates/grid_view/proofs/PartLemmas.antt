@@ -1,5 +1,5 @@
 -- A part of a table: its cells, and what a write to one of them leaves.
-use Rattle.std.proofs.Common.{◌≡◌, ℕ, ◌+◌, ◌*◌, ◌<◌, ◌≤◌, ⊎_elim, ◌⊎◌, inl, None, List, [], length, set, slice_get, refl, sym, ap, ◌∙◌, arith, zero-add}
+use Rattle.std.proofs.Common.{◌≡◌, ℕ, ◌+◌, ◌*◌, ◌<◌, ◌≤◌, ⊎_elim, ◌⊎◌, inl, None, List, [], length, set, slice_get, sym, ap, ◌∙◌, arith, zero-add}
 use Rattle.grid_base.proofs.Common.{row_count, col_count, cell, with_cell, tabulate, IsTable, IsSize, table_of, place, HoldsSize, nil_from_length, cases_lt}
 use Rattle.grid_base.proofs.TableLemmas.{IsFull, IsFull-cells, rows-tabulate, cols-tabulate, cell-tabulate, tabulate-same, tabulate-cells, cell_past_rows, past_cols}
 use Rattle.grid_base.proofs.ViewLemmas.{view-cell}

@@ -3,6 +3,8 @@ use Rattle.std.proofs.Common.{◌≡◌, ◌⊎◌, IsTrue, ◌↔◌, ◌==◌,
 use Rattle.std.proofs.lemmas.Bool.Decides.{nat_tests}
 use Rattle.grid_base.proofs.Common.{PathP, is_prop→PathP, mul-le, row_count, col_count, cell, concat_rows, tabulate, IsTable, table_of, HoldsSize, FitsUsize, act, source_row, source_col, image_rows, image_cols, flags_of, nil_from_length}
 use Rattle.grid_base.specs.Lines.{counted}
+use Rattle.grid_base.specs.Strides.{strides_of}
+use Rattle.grid_base.specs.declared.order.Order.{Order}
 use Rattle.grid_base.specs.declared.order.Order.TheVariants.{RowMajor, ColumnMajor}
 use Rattle.grid_base.specs.declared.words.Symmetry.{Symmetry}
 use Rattle.grid_base.specs.declared.words.Symmetry.TheVariants.{Identity, FlipCols, FlipRows, RotateHalf, Transpose, RotateLeft, RotateRight, AntiTranspose}
@@ -30,7 +32,7 @@ module _ {T : Type 0} (m n : ℕ) (cells : List T) (h : HoldsSize m n (length ce
   abbrev lines : ℕ → ℕ → ViewAxis
   lines count stride = record { count = count; stride = stride; backwards = false }
 
-  pub by_rows : HoldsView (lines m n) (lines n 1) (length cells)
+  by_rows : HoldsView (lines m n) (lines n 1) (length cells)
   by_rows = record {
     size = h.size;
     below = h.below;
@@ -39,7 +41,7 @@ module _ {T : Type 0} (m n : ℕ) (cells : List T) (h : HoldsSize m n (length ce
     col_steps = λ _. omega arith;
   }
 
-  pub by_cols : HoldsView (lines m 1) (lines n m) (length cells)
+  by_cols : HoldsView (lines m 1) (lines n m) (length cells)
   by_cols = record {
     size = h.size;
     below = h.below;
@@ -48,11 +50,19 @@ module _ {T : Type 0} (m n : ℕ) (cells : List T) (h : HoldsSize m n (length ce
     col_steps = h.size.has_rows;
   }
 
-  pub seen_by_rows : seen (lines m n) (lines n 1) cells ≡ table_of RowMajor m n cells
+  seen_by_rows : seen (lines m n) (lines n 1) cells ≡ table_of RowMajor m n cells
   seen_by_rows = tabulate-same m n _ _ (λ r c lr lc. ap (slice_get cells) (omega arith)) (IsFull-table_of RowMajor m n cells h.cells)
 
-  pub seen_by_cols : seen (lines m 1) (lines n m) cells ≡ table_of ColumnMajor m n cells
+  seen_by_cols : seen (lines m 1) (lines n m) cells ≡ table_of ColumnMajor m n cells
   seen_by_cols = tabulate-same m n _ _ (λ r c lr lc. ap (slice_get cells) (omega arith)) (IsFull-table_of ColumnMajor m n cells h.cells)
+
+  pub holds_over : (o : Order) (s : ℕ × ℕ) → s ≡ strides_of o (m, n) → HoldsView (lines m s.0) (lines n s.1) (length cells)
+  holds_over RowMajor s e = rw e by_rows
+  holds_over ColumnMajor s e = rw e by_cols
+
+  pub seen_over : (o : Order) (s : ℕ × ℕ) → s ≡ strides_of o (m, n) → seen (lines m s.0) (lines n s.1) cells ≡ table_of o m n cells
+  seen_over RowMajor s e = rw e seen_by_rows
+  seen_over ColumnMajor s e = rw e seen_by_cols
 
 -- rows that lie one after another, without a gap
 module _ {T : Type 0} (rows cols : ViewAxis) (cells : List T) (h : HoldsView rows cols (length cells)) (row_at : (r : ℕ) → r < rows.count → offset rows r ≡ r * cols.count) (col_at : (c : ℕ) → c < cols.count → offset cols c ≡ c * 1) where

@@ -1,5 +1,5 @@
 -- A part of a table. That it is a table is proved here, from lemmas of grid_base.
-use Rattle.std.specs.Prelude.{◌≡◌, ℕ, ◌+◌, ◌*◌, ◌<◌, ◌≤◌, List, length}
+use Rattle.std.specs.Prelude.{◌≡◌, ℕ, ◌+◌, ◌*◌, ◌≤◌, List, length}
 use Rattle.std.proofs.Common.{arith}
 use Rattle.grid_base.specs.Table.{IsSize, IsTable, row_count, col_count, cell}
 use Rattle.grid_base.specs.Order.{table_of}

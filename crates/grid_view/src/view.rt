@@ -5,7 +5,7 @@ ghost use Rattle.grid_view.specs.View.{offset, sub_table, HoldsView};
 ghost use Rattle.grid_view.specs.Nearest.{nearest_below};
 
 use crate::axis::{ViewAxis, crossed};
-use grid_base::{Order, Symmetry};
+use grid_base::{Order, Symmetry, has_lines, strides_of};
 use std::alloc::AllocError;
 use std::marker::Model;
 use std::ops::Index;
@@ -63,10 +63,7 @@ impl<'a, T> GridView<'a, T> {
         requires { HoldsSize rows cols (length cells.now) }
         ensures { result.rows ≡ table_of order rows cols cells.now }
     {
-        let strides = match order {
-            Order::RowMajor => (cols, 1),
-            Order::ColumnMajor => (1, rows),
-        };
+        let strides = strides_of(order, (rows, cols));
         GridView {
             cells,
             rows: ViewAxis {
@@ -272,9 +269,7 @@ impl<'a, T> GridView<'a, T> {
             (λ view. col_count view.rows ≡ (if size.0 == 0 then 0 else size.1)) }
     {
         let (rows, cols) = self.size();
-        let fits_rows = at.0 <= rows && size.0 <= rows - at.0;
-        let fits_cols = at.1 <= cols && size.1 <= cols - at.1;
-        if fits_rows && fits_cols {
+        if has_lines(rows, at.0, size.0) && has_lines(cols, at.1, size.1) {
             Some(self.part(at, size))
         } else {
             None

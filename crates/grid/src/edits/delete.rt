@@ -4,7 +4,7 @@ ghost use Rattle.grid.specs.Prelude.{row_count, col_count, saturating_count, wit
 
 use super::{cols_if_rows, row_groups};
 use crate::Grid;
-use grid_base::Tally;
+use grid_base::{Tally, has_lines};
 use std::alloc::Allocator;
 
 impl<T, A: Allocator> Grid<T, A> {
@@ -60,7 +60,7 @@ impl<T, A: Allocator> Grid<T, A> {
         ensures order { self.new.order ≡ self.old.order }
     {
         let rows = self.rows();
-        let found = start <= rows && count <= rows - start;
+        let found = has_lines(rows, start, count);
         if found && count != 0 {
             self.drop_rows(start, count);
         }
@@ -109,7 +109,7 @@ impl<T, A: Allocator> Grid<T, A> {
         ensures symmetry { tally.new.symmetry ≡ tally.old.symmetry }
     {
         let rows = self.rows();
-        let found = count <= rows && start <= rows - count;
+        let found = has_lines(rows, start, count);
         if found && count != 0 {
             self.drop_rows_counted(start, count, tally);
         }

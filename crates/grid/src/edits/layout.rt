@@ -11,7 +11,8 @@ fn transpose_storage<T, A: Allocator>(flat: &mut Flat<T, A>, order: Order, rows:
     requires cells { length flat.old ≡ rows * cols }
     requires fits { rows * cols < 2 ^ 64 }
     ensures len { length flat.new ≡ rows * cols }
-    ensures table { table_of (flipped order) rows cols flat.new ≡ table_of order rows cols flat.old }
+    ensures table { table_of (flipped order) rows cols flat.new
+        ≡ table_of order rows cols flat.old }
 {
     match order {
         Order::RowMajor => flat.transpose_in_place(rows, cols),

@@ -23,7 +23,8 @@ impl<T, A: Allocator> Grid<T, A> {
     where
         T: Default + Drop,
         A: Clone,
-        ensures resized { OnOk result (ResizesTo T.is_default rows cols self.old.rows self.new.rows) }
+        ensures resized { OnOk result
+            (ResizesTo T.is_default rows cols self.old.rows self.new.rows) }
         ensures order { self.new.order ≡ self.old.order }
         ensures fails { FailsBySize rows cols result }
         ensures shrinks { rows ≤ row_count self.old.rows → cols ≤ col_count self.old.rows
@@ -49,7 +50,8 @@ impl<T, A: Allocator> Grid<T, A> {
         A: Clone,
         requires some_rows { 0 < rows }
         requires some_cols { 0 < cols }
-        ensures resized { OnOk result (IsResized T.is_default rows cols self.old.rows self.new.rows) }
+        ensures resized { OnOk result
+            (IsResized T.is_default rows cols self.old.rows self.new.rows) }
         ensures order { self.new.order ≡ self.old.order }
         ensures fails { FailsBySize rows cols result }
         ensures unchanged { OnErr result (self.new ≡ self.old) }

@@ -21,7 +21,8 @@ impl<T, A: Allocator> Grid<T, A> {
         requires point { at ≤ row_count self.old.rows }
         ensures rows { OnOk result (self.new.rows ≡ take at self.old.rows) }
         ensures row_count { OnOk result (row_count self.new.rows ≡ at) }
-        ensures col_count { OnOk result (0 < at → col_count self.new.rows ≡ col_count self.old.rows) }
+        ensures col_count { OnOk result
+            (0 < at → col_count self.new.rows ≡ col_count self.old.rows) }
         ensures order { self.new.order ≡ self.old.order }
         ensures tail { IfOk result (λ tail. tail.rows ≡ drop at self.old.rows) }
         ensures tail_rows { IfOk result
@@ -51,7 +52,8 @@ impl<T, A: Allocator> Grid<T, A> {
         requires point { at ≤ col_count self.old.rows }
         ensures rows { OnOk result
             (self.new.rows ≡ without_cols at (col_count self.old.rows - at) self.old.rows) }
-        ensures row_count { OnOk result (0 < at → row_count self.new.rows ≡ row_count self.old.rows) }
+        ensures row_count { OnOk result
+            (0 < at → row_count self.new.rows ≡ row_count self.old.rows) }
         ensures col_count { OnOk result (col_count self.new.rows ≡ at) }
         ensures order { self.new.order ≡ self.old.order }
         ensures tail { IfOk result (λ tail. tail.rows ≡ without_cols 0 at self.old.rows) }

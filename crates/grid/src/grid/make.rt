@@ -1,5 +1,5 @@
 //! Constructors of a grid by its size.
-ghost use Rattle.std.specs.Prelude.{◌≡◌, [], Ok, IfOk, IfErr};
+ghost use Rattle.std.specs.Prelude.{◌≡◌, ◌*◌, [], Ok, IfOk, IfErr};
 ghost use Rattle.grid.specs.Prelude.{ClonesAreEqual, IsMade, FailsBySize, EachCellIs, HoldsDefaults, CallableOver, MadeBy, FailsAt};
 
 use crate::{Grid, GridError};
@@ -7,6 +7,14 @@ use grid_base::{Flat, Layout, Order};
 use std::alloc::Allocator;
 
 mod arrays;
+
+// Returns the number of cells of a grid of this size, or `TooLarge` where no `usize` holds it.
+fn cell_count(rows: usize, cols: usize) -> Result<usize, GridError>
+    ensures count { IfOk result (λ count. count ≡ rows * cols) }
+    ensures fails { FailsBySize rows cols result }
+{
+    rows.checked_mul(cols).ok_or(GridError::TooLarge)
+}
 
 impl<T, A: Allocator> Grid<T, A> {
     // Returns the empty grid in this order.
@@ -51,9 +59,7 @@ impl<T, A: Allocator> Grid<T, A> {
         if rows == 0 || cols == 0 {
             return Ok(Grid::empty_with_order(alloc, order));
         }
-        let Some(count) = rows.checked_mul(cols) else {
-            return Err(GridError::TooLarge);
-        };
+        let count = cell_count(rows, cols)?;
         let mut cells = Vec::with_capacity(alloc, count)?;
         for _ in 0..count {
             cells.push_reserved(T::default());
@@ -100,9 +106,7 @@ impl<T, A: Allocator> Grid<T, A> {
         if rows == 0 || cols == 0 {
             return Ok(Grid::empty_with_order(alloc, order));
         }
-        let Some(count) = rows.checked_mul(cols) else {
-            return Err(GridError::TooLarge);
-        };
+        let count = cell_count(rows, cols)?;
         let cells = Vec::from_elem(alloc, value, count)?;
         Ok(Grid::from_vec_with_order(cells, cols, order))
     }
@@ -146,9 +150,7 @@ impl<T, A: Allocator> Grid<T, A> {
         if rows == 0 || cols == 0 {
             return Ok(Grid::empty_with_order(alloc, order));
         }
-        if rows.checked_mul(cols).is_none() {
-            return Err(GridError::TooLarge);
-        }
+        cell_count(rows, cols)?;
         let flat = Flat::from_fn(alloc, Layout { order, rows, cols }, f)?;
         Ok(Grid {
             flat,
@@ -205,10 +207,7 @@ impl<T, A: Allocator> Grid<T, A> {
         if rows == 0 || cols == 0 {
             return Ok(Ok(Grid::empty_with_order(alloc, order)));
         }
-        let too_large = rows.checked_mul(cols).is_none();
-        if too_large {
-            return Err(GridError::TooLarge);
-        }
+        cell_count(rows, cols)?;
         let made = Flat::try_from_fn(alloc, Layout { order, rows, cols }, f)?;
         match made {
             Ok(flat) => Ok(Ok(Grid {
@@ -245,9 +244,7 @@ impl<T, A: Allocator> Grid<T, A> {
         ensures order { IfOk result (λ g. g.order ≡ order) }
         ensures fails { FailsBySize rows cols result }
     {
-        let Some(count) = rows.checked_mul(cols) else {
-            return Err(GridError::TooLarge);
-        };
+        let count = cell_count(rows, cols)?;
         let cells = Vec::with_capacity(alloc, count)?;
         Ok(Grid::from_vec_with_order(cells, 0, order))
     }

@@ -82,8 +82,8 @@ impl<T, A: Allocator> Flat<T, A> {
     where
         A: Clone,
         requires { length self.old ≡ groups.lines * (groups.width + groups.count) }
-        ensures taken { IfOk result (λ taken. TakenOut groups.lines groups.width groups.at groups.count
-            self.new taken.items self.old) }
+        ensures taken { IfOk result (λ taken. TakenOut groups.lines groups.width groups.at
+            groups.count self.new taken.items self.old) }
         ensures err { OnErr result (self.new ≡ self.old) }
     {
         // the group after the only line leaves the end of the vector
@@ -98,8 +98,8 @@ impl<T, A: Allocator> Flat<T, A> {
     where
         A: Clone,
         requires { length self.old ≡ groups.lines * (groups.width + groups.count) }
-        ensures taken { IfOk result (λ taken. TakenOut groups.lines groups.width groups.at groups.count
-            self.new taken.items self.old) }
+        ensures taken { IfOk result (λ taken. TakenOut groups.lines groups.width groups.at
+            groups.count self.new taken.items self.old) }
         ensures err { OnErr result (self.new ≡ self.old) }
     {
         let kept = groups.lines * groups.width;
@@ -123,8 +123,8 @@ impl<T, A: Allocator> Flat<T, A> {
         requires cells { length self.old ≡ groups.lines * (groups.width + groups.count) }
         requires single { groups.lines ≡ 1 }
         requires has_count { 0 < groups.count }
-        ensures taken { IfOk result (λ taken. TakenOut groups.lines groups.width groups.at groups.count
-            self.new taken.items self.old) }
+        ensures taken { IfOk result (λ taken. TakenOut groups.lines groups.width groups.at
+            groups.count self.new taken.items self.old) }
         ensures err { OnErr result (self.new ≡ self.old) }
     {
         let mut taken = self.cells.split_off(groups.width)?;

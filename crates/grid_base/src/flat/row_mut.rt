@@ -21,7 +21,8 @@ impl<T, A: Allocator> Flat<T, A> {
         requires row_in { r < layout.rows }
         ensures* writes_back { sem 𝓛 (lends_line T.row A.row A.Allocator self.entry
             (place layout.order layout.rows layout.cols r 0) result) }
-        ensures rest { line_mut_rest result ≡ row (table_of layout.order layout.rows layout.cols self.old) r }
+        ensures rest { line_mut_rest result
+            ≡ row (table_of layout.order layout.rows layout.cols self.old) r }
         ensures cells { HoldsFrom (place layout.order layout.rows layout.cols r 0) self.old result }
     {
         let span = row_span(layout, r);

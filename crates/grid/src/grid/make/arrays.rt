@@ -2,6 +2,7 @@
 ghost use Rattle.std.specs.Prelude.{◌≡◌, ◌≢◌, ◌<◌, Some, None, IsTrue, IfOk, OnErr, slice_get, slice_set};
 ghost use Rattle.grid.specs.Prelude.{cell, with_cell, IsMade, FailsBySize, by_order, are_full, AreTaken};
 
+use super::cell_count;
 use crate::{Grid, GridError};
 use grid_base::Order;
 use std::alloc::Allocator;
@@ -66,9 +67,7 @@ impl<T, A: Allocator> Grid<T, A> {
         ensures kept { OnErr result (cells.new ≡ cells.old) }
         ensures fails { FailsBySize R C result }
     {
-        let Some(count) = R.checked_mul(C) else {
-            return Err(GridError::TooLarge);
-        };
+        let count = cell_count(R, C)?;
         if count == 0 {
             return Ok(Grid::empty_with_order(alloc, order));
         }

@@ -1,4 +1,4 @@
-use Rattle.std.proofs.Common.{◌∙◌, ◌<◌, sym, ap, Some, slice_get, arith, refl}
+use Rattle.std.proofs.Common.{◌∙◌, ◌<◌, sym, ap, slice_get, arith, refl}
 use Rattle.grid_near.proofs.Common.{slice_get_read, step_count, cell_by, by_steps}
 use Rattle.grid_near.proofs.Lemmas.{cells_skipped, no_cells, position_within, position_item}
 use Rattle.grid_near.specs.declared.board.Edges.TheVariants.{Open}

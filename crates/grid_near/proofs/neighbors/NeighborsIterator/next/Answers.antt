@@ -1,4 +1,4 @@
-use Rattle.std.proofs.Common.{◌+◌, ◌-◌, ◌<◌, ◌∙◌, ◌∷◌, length, ap, sym, slice_index_or, arith, rules}
+use Rattle.std.proofs.Common.{◌+◌, ◌-◌, ◌∙◌, ◌∷◌, ap, sym, slice_index_or, arith, rules}
 use Rattle.grid_near.proofs.Common.{cell_by, by_steps, cells_from}
 use Rattle.grid_near.proofs.Lemmas.{box_within, inner_item, inner_step, few_left, goes_on}
 use Rattle.grid_near.proofs.neighbors.NeighborsIterator.next.Goals as goal
