@@ -1,5 +1,5 @@
 -- Calls of a closure at each position of a grid and the cell there.
-use Rattle.std.proofs.Common.{◌≡◌, ℕ, zero, suc, ◌*◌, ◌<◌, ◌≤◌, List, [], ◌∷◌, ◌++◌, Some, Result, Ok, Err, length, zip, refl, sym, subst, ◌∙◌, ap, arith, is_some, IsSomeAnd, Option, None, IfOk, slice_get, unwrap_or, length-append, Bor}
+use Rattle.std.proofs.Common.{◌≡◌, ℕ, zero, suc, ◌<◌, List, [], ◌∷◌, ◌++◌, Some, Result, Ok, Err, length, zip, refl, sym, subst, ◌∙◌, ap, arith, is_some, IsSomeAnd, Option, None, IfOk, slice_get, unwrap_or, length-append, Bor}
 use Rattle.grid.proofs.Common.{AllZip, unwrap_or-slice_get, row_count, col_count, cell, InRange, IsSize, tabulate, table_of, place, positions, PairsUp, CallableAtCells, CallableAtItems, ReturnsAtCell, FailsFirst, GridValue, HoldsSize, FitsUsize, IsFull, tabulate-same, cell-tabulate, place_within, has_place, mul-le, get_append_left, get_append_right, get-places, length-places, zip_within, get-zip, view-rows, view-cols, view-cell, CallableAtPositions, MappedBy, IsMade, CallableOver, MadeBy, FailsAt, grid_value}
 use Rattle.grid_base.specs.declared.order.Order.{Order}
 use Rattle.grid.proofs.SeenLemmas.{seen_rows, seen_cols}

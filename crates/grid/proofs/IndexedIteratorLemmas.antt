@@ -1,5 +1,5 @@
 -- What iterators over cells with their positions give.
-use Rattle.std.proofs.Common.{◌≡◌, ℕ, ◌^◌, ◌*◌, ◌<◌, List, Option, Some, length, zip, refl, sym, subst, ◌∙◌, ap, arith, slice_get, slice_index_or, unwrap_or, Bor, MutBor, MatchOption}
+use Rattle.std.proofs.Common.{◌≡◌, ℕ, ◌^◌, ◌*◌, ◌<◌, List, Some, length, zip, refl, sym, subst, ◌∙◌, ap, arith, slice_get, slice_index_or, unwrap_or, MutBor, MatchOption}
 use Rattle.grid.specs.Positions.{GivesIndices}
 use Rattle.grid.proofs.Common.{YieldsFirst, YieldsFirstBy, EveryRun, EachRunFrom, AllItems, ItemsMapTo, from_front, at_some, at-is, unwrap_or-slice_get, positions, GridValue, HoldsSize, IsCellAt, GivesCells, GivesOwnedCells, GivesMutCells, indexed_mut_rest, has_place, get-places, length-places, IsSize, IsTable, FitsUsize, IsSize-table, row_count, col_count, InRange, zip_within, get-zip, grid_value}
 use Rattle.std.proofs.iter.runs.Lists.{slice_get_within}

@@ -1,5 +1,5 @@
 -- Where clones equal their source, every reply is known.
-use Rattle.std.proofs.Common.{◌≡◌, IfOk, Result}
+use Rattle.std.proofs.Common.{IfOk, Result}
 use Rattle.grid.proofs.Common.{IfOk-weaker, ClonesAreEqual, Edit, read, CommandValue, get, lines, EditReplyIsKnown, ReplyIsKnown}
 
 module _ {T : Type 0} (C : T → T → Type 0) (same : ClonesAreEqual C) where

@@ -1,5 +1,5 @@
 -- A run of one more command.
-use Rattle.std.proofs.Common.{◌≡◌, ℕ, ◌+◌, ◌<◌, suc, List, [], ◌∷◌, ◌++◌, map, length, take, slice_get, length-append, Some, IsTrue, Result, Ok, Err, OnOk, IfOk, inr, refl, sym, ◌∙◌, ap, subst, arith, All, option_map}
+use Rattle.std.proofs.Common.{◌≡◌, ℕ, ◌+◌, ◌<◌, List, [], ◌∷◌, ◌++◌, map, length, take, slice_get, length-append, Some, IsTrue, Result, Ok, Err, OnOk, IfOk, inr, refl, sym, ◌∙◌, ap, subst, arith, All, option_map}
 use Rattle.grid.proofs.Common.{map-append, take-map, length-map, All-pop, slice_get-map, take-append_seam, GridValue, row_count, col_count, symmetry_of, order_after, Counts, ClonesAreEqual, product, symmetry_of-product_from, symmetry_of-more, order_after-order_after, CommandValue, ReplyValue, step_rows, step_reply, takes_memory, RowsAreKnown, ReplyIsKnown, AreDue, command_symmetry, list_symmetry, price_at, shift_at, run_rows, run_replies, run_price, run_shift, LeftByRun, Ran, MayStop}
 use Rattle.grid_base.proofs.Common.{saturating_count}
 use Rattle.grid_base.specs.declared.order.Order.{Order}

@@ -22,7 +22,7 @@ mod transpose;
 pub(crate) use counted::Swaps;
 pub use groups::{Groups, weave};
 pub use indexed::{IndexedIntoIter, IndexedIter, IndexedIterMut};
-pub use line_iter::GridLineIter;
+pub use line_iter::{GridLineIter, clones_of_line};
 pub use line_iter_mut::GridLineIterMut;
 pub use positions::Positions;
 use std::alloc::{AllocError, Allocator, Global};

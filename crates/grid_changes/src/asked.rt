@@ -1,13 +1,13 @@
 //! Commands as a history reads them: an answer, or a change with its reply.
-ghost use Rattle.std.specs.Prelude.{◌≡◌, ◌<◌, ◌≤◌, ◌+◌, ◌↔◌, IsTrue, IfOk, OnErr};
+ghost use Rattle.std.specs.Prelude.{◌≡◌, ◌<◌, ◌+◌, IsTrue, IfOk, OnErr};
 ghost use Rattle.grid.specs.Prelude.{row_count, col_count, ClonesAreEqual, filled, items_of_each, command_value, reply_value, lines, edit_value, pad_edit, insert_at, insert_all, remove_at, delete_range, line_is, line_at, line_count, line_width};
 ghost use Rattle.grid_changes.specs.Asked.{IsAsked};
 ghost use Rattle.grid_changes.specs.Entry.{wants_memory};
 ghost use Rattle.grid_changes.specs.Timeline.{board_of};
 
 use crate::change::Change;
-use grid::{Axis, Command, Grid, GridLineIter, Order, Refusal, Reply, Symmetry, Tally};
-use grid_base::has_lines;
+use grid::{Axis, Command, Grid, Order, Refusal, Reply, Symmetry, Tally};
+use grid_base::{clones_of_line, has_lines};
 use grid_commands::{LineEdit, Request, line_refusal, lines_refusal, pad_refusal, request_of};
 use std::alloc::{AllocError, Allocator};
 use std::convert::TryFrom;
@@ -18,21 +18,6 @@ pub(crate) enum Asked<T, A: Allocator> {
     Answer(Reply<T, A>),
     // A change, and the reply once it is made.
     Making(Change<T, A>, Reply<T, A>),
-}
-
-// Clones of the cells of a line.
-fn clone_cells<T: Clone + Drop, A: Allocator>(
-    alloc: A,
-    line: GridLineIter<'_, T>,
-) -> Result<Vec<T, A>, AllocError>
-    ensures { IfOk result (λ cells. ClonesAreEqual T.is_clone → cells.items ≡ line.entry) }
-{
-    let mut cells = Vec::with_capacity(alloc, line.len())?;
-    for cell in line {
-        let copy = cell.clone()?;
-        cells.push_reserved(copy);
-    }
-    Ok(cells)
 }
 
 // How many lines of an axis there are, and how long they are.
@@ -70,7 +55,7 @@ where
         Axis::Row => grid.iter_row(at),
         Axis::Col => grid.iter_col(at),
     };
-    let cells = clone_cells(alloc, line)?;
+    let cells = clones_of_line(alloc, line)?;
     Ok(Reply::Line(Some(cells)))
 }
 

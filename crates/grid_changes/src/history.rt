@@ -1,5 +1,5 @@
 //! A grid with the boards before it and those undone.
-ghost use Rattle.std.specs.Prelude.{◌≡◌, ◌<◌, ◌≤◌, ◌-◌, ℕ, [], ◌∷◌, length, take, slice_get, OnOk, OnErr, IfOk, IsSomeAnd, MatchBool, IsTrue, ◌↔◌};
+ghost use Rattle.std.specs.Prelude.{◌≡◌, ◌<◌, ◌≤◌, ◌-◌, ℕ, [], length, take, slice_get, OnOk, OnErr, IfOk, IsSomeAnd, MatchBool, IsTrue, ◌↔◌};
 ghost use Rattle.grid.specs.Prelude.{act, order_after, ClonesAreEqual, command_value, command_symmetry, apply, reply_value, step_rows, step_reply, RowsAreKnown, InRange, with_cell, set_cell};
 ghost use Rattle.grid_changes.specs.Timeline.{board_of, FirstHasOtherCount, IsBackBy, IsStepOn, IsStepBack, Recorded};
 ghost use Rattle.grid_changes.specs.Change.{Fits, after, is_of_lines};

@@ -8,7 +8,7 @@ ghost use Rattle.grid_commands.specs.declared.command.Axis.TheVariants.{Row, Col
 
 use crate::carrying::{carried, carry_reply};
 use grid::{Axis, Command, Grid, Reply, Tally};
-use grid_base::Symmetry;
+use grid_base::{Symmetry, clones_of_line};
 use grid_view::{AsView, GridView, ViewLineIter};
 use std::alloc::{AllocError, Allocator, Global};
 
@@ -45,21 +45,6 @@ where
         Ok(reply) => Ok(carry_reply(symmetry, axis, reply)),
         Err(refused) => Err(refused),
     }
-}
-
-// Clones of the cells of a line.
-fn clone_cells<T: Clone + Drop, A: Allocator>(
-    alloc: A,
-    line: DeferredLineIter<'_, T>,
-) -> Result<Vec<T, A>, AllocError>
-    ensures { IfOk result (λ cells. ClonesAreEqual T.is_clone → cells.items ≡ line.entry) }
-{
-    let mut cells = Vec::with_capacity(alloc, line.len())?;
-    for cell in line {
-        let copy = cell.clone()?;
-        cells.push_reserved(copy);
-    }
-    Ok(cells)
 }
 
 /// A grid with a symmetry that isn't applied to it yet, shown as if it were.
@@ -202,7 +187,7 @@ impl<'a, T, A: Allocator> Deferred<'a, T, A> {
             return Ok(Reply::Line(None));
         }
         let alloc = self.base.allocator().clone()?;
-        let line = clone_cells(alloc, view.iter_row(at))?;
+        let line = clones_of_line(alloc, view.iter_row(at))?;
         Ok(Reply::Line(Some(line)))
     }
 

@@ -14,13 +14,6 @@ next_is xs rest next k x e split =
     let later : next ≡ drop (suc k) xs = cc in
     (at, rw add-one later)
 
--- one more clone
-pub cloned_more : {A B : Type 0} (R : A → B → Type 0) (xs rest next : List A) (ys new : List B) (x : A) (y : B) → rest ≡ drop (length ys) xs → rest ≡ x ∷ next → AllZip R (take (length ys) xs) ys → R x y → new ≡ ys ++ y ∷ [] → (next ≡ drop (length new) xs) × AllZip R (take (length new) xs) new
-cloned_more R xs rest next ys new x y e split zip one is =
-    let found = next_is xs rest next (length ys) x e split in
-    let long : length new ≡ length ys + 1 = ap length is ∙ length-append ys (y ∷ []) in
-    (found.1 ∙ ap (λ k. drop k xs) (sym long), rw (long, is) (answers_more R xs (length ys) ys x y found.0 zip one))
-
 -- all rows are cloned
 pub cloned_all : {T : Type 0} (is_clone : T → T → Type 0) (t copies : List (List T)) (k : ℕ) → length t ≤ k → AllZip (AllZip is_clone) (take k t) copies → AreCopied is_clone t copies
 cloned_all is_clone t copies k all zip =

@@ -1,8 +1,9 @@
 //! A board as a vector of its rows, moved or cloned: what `TryFrom` takes.
 ghost use Rattle.std.specs.Prelude.{◌≡◌, ◌<◌, map, take, drop, vec_len, IfOk, IfErr};
-ghost use Rattle.grid_lines.specs.Prelude.{All, AllZip, into_iter_items, row, row_count, col_count, AreCopied, IsRoomFor};
+ghost use Rattle.grid_lines.specs.Prelude.{All, into_iter_items, row, row_count, col_count, AreCopied, IsRoomFor};
 
 use grid::{Grid, Order};
+use grid_base::clones_of_line;
 use grid_view::{AsView, GridView};
 use std::alloc::{AllocError, Allocator};
 use std::vec;
@@ -90,25 +91,8 @@ fn copied_rows<T: Clone, A: Allocator + Clone>(
     let count = view.rows();
     let mut rows = Vec::with_capacity(alloc, count)?;
     for r in 0..count {
-        let row = copied_row(rows.allocator().clone()?, view, r)?;
+        let row = clones_of_line(rows.allocator().clone()?, view.iter_row(r))?;
         rows.push_reserved(row);
     }
     Ok(rows)
-}
-
-// Returns clones of the cells of a row.
-fn copied_row<T: Clone, A: Allocator>(
-    alloc: A,
-    view: &GridView<'_, T>,
-    r: usize,
-) -> Result<Vec<T, A>, AllocError>
-    requires { r < row_count view.now.rows }
-    ensures { IfOk result (λ copy. AllZip T.is_clone (row view.now.rows r) copy.items) }
-{
-    let mut copy = Vec::with_capacity(alloc, view.cols())?;
-    for cell in view.iter_row(r) {
-        let cell = cell.clone()?;
-        copy.push_reserved(cell);
-    }
-    Ok(copy)
 }

@@ -1,7 +1,7 @@
 //! One value for each row of a board, for each column, or for the whole board, folded from its cells.
-ghost use Rattle.std.specs.Prelude.{◌≡◌, ◌<◌, ◌≤◌, ◌+◌, length, vec_len, IfOk};
+ghost use Rattle.std.specs.Prelude.{◌≡◌, ◌<◌, length, IfOk};
 ghost use Rattle.grid_pairs.specs.Prelude.{row, row_count, col_count, transposed, CallableInRows, CallableInCells, AreFolds, IsFold};
-ghost use Rattle.grid_pairs.specs.Folded.{AreCopies, FoldsOver, FoldsOverRows, FoldsMore, CallableInRow, CallableAtCol};
+ghost use Rattle.grid_pairs.specs.Folded.{AreCopies, FoldsOver, FoldsMore, CallableInRow, CallableAtCol};
 
 use grid_view::{AsView, GridView};
 use std::alloc::{AllocError, Allocator};

@@ -3,7 +3,7 @@ ghost use Rattle.std.specs.Prelude.{◌≡◌, ◌+◌, ◌-◌, ◌*◌, ◌^�
 ghost use Rattle.std.specs.Iterator.{YieldsFirstBy, YieldsLastBy, item_count, UpTo, at_most};
 ghost use Rattle.std.specs.Iterator.SizeHint.{IsWithinCount};
 ghost use Rattle.grid_pairs.specs.Prelude.{row_count, col_count, tiles, windows, GivesParts, GivesSize, GivesUpTo};
-ghost use Rattle.grid_pairs.specs.Parts.{part_of, parts_at};
+ghost use Rattle.grid_pairs.specs.Parts.{part_of};
 
 use grid_view::{AsView, GridView};
 use std::alloc::AllocError;

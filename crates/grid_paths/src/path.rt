@@ -1,5 +1,5 @@
 //! A shortest path between two cells.
-ghost use Rattle.std.specs.Prelude.{◌≡◌, Bool, List, ◌+◌, ◌↔◌, ℕ, IfOk, IfSome, IsTrue, MatchOption, Contains, length};
+ghost use Rattle.std.specs.Prelude.{◌≡◌, Bool, List, ◌+◌, ℕ, IfOk, IfSome, MatchOption, Contains, length};
 ghost use Rattle.std.specs.List.{All};
 ghost use Rattle.grid_paths.specs.Prelude.{InRange, IsStep, IsPath, Walk, IsShortestPath, HoldsOfAnswers, IsMarked, HasLeastUpTo};
 ghost use Rattle.grid_near.specs.declared.steps.Connectivity.{Connectivity};

@@ -1,5 +1,5 @@
 //! The least number of steps to each cell, by a breadth-first search.
-ghost use Rattle.std.specs.Prelude.{◌≡◌, ◌<◌, ◌≤◌, ◌+◌, ◌^◌, List, ℕ, [], ◌∷◌, ◌++◌, length, IfOk, IsTrue, OnOk, Some, None, Contains};
+ghost use Rattle.std.specs.Prelude.{◌≡◌, ◌<◌, ◌≤◌, ◌+◌, ◌^◌, List, ℕ, [], ◌∷◌, ◌++◌, length, IfOk, OnOk, Some, None};
 ghost use Rattle.grid_paths.specs.Prelude.{InRange, IsStep, HasLeastSteps, HasLeastFrom, HoldsOfAnswers, HaveOneSize, IsMarked, IsSettled, CanReach, Reaches};
 
 use super::answers::answers_of;

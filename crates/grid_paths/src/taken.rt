@@ -1,8 +1,8 @@
 //! A search that marks the cells which it takes, and floods.
 ghost use Rattle.std.specs.Prelude.{◌≡◌, [], IfOk, OnOk, Contains};
 ghost use Rattle.std.specs.List.{All};
-ghost use Rattle.grid.specs.Prelude.{InRange, SameSizeAndOrder};
-ghost use Rattle.grid_paths.specs.Prelude.{IsStep, answers_by, HoldsOfAnswers, IsFlood, way_of, places, undone, CanUndo, IsPassed, IsWritten, Takes};
+ghost use Rattle.grid.specs.Prelude.{InRange};
+ghost use Rattle.grid_paths.specs.Prelude.{IsStep, answers_by, HoldsOfAnswers, IsFlood, way_of, places, CanUndo, IsPassed, IsWritten, Takes};
 
 use super::answers::answers_of;
 use super::around::{Visit, visit_around, visit_each};

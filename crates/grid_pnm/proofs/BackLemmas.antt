@@ -4,7 +4,7 @@ use Rattle.grid_base.proofs.Common.{is_ascii_digit, all_ascii_digits, digits_val
 use Rattle.text_lines.specs.Numbers.{number_up_to, index_of}
 use Rattle.grid_pnm.specs.declared.head.Header.{Header}
 use Rattle.grid_pnm.specs.Scan.{is_white, after_gap, digit_count, number_at, next_number}
-use Rattle.grid_pnm.specs.Header.{header_by, header_after}
+use Rattle.grid_pnm.specs.Header.{format, header_by, header_after}
 use Rattle.grid_pnm.specs.Samples.{samples_of}
 use Rattle.grid_pnm.proofs.ScanLemmas.{number_is}
 
@@ -78,7 +78,7 @@ module _ (magic : List ℕ) (color : Bool) (rows cols : ℕ) (raster : List ℕ)
   pub raster-le : length raster ≤ length (magic ++ written_tail)
   raster-le = omega (arith, ap length whole, length-append front (10 ∷ raster))
 
-  pub header_back : (len : ℕ) → rows < 2 ^ 64 → cols < 2 ^ 64 → header_after len written_tail (Some (color, false)) ≡ Ok (written_header len)
+  pub header_back : (len : ℕ) → rows < 2 ^ 64 → cols < 2 ^ 64 → header_after len written_tail (Some (format color false)) ≡ Ok (written_header len)
   unfolding header_after header_by
   header_back len rows_small cols_small =
       let w = behind_white len 10 (decimal cols ++ 32 ∷ (decimal rows ++ 10 ∷ (decimal 255 ++ 10 ∷ raster))) refl refl ∙ next_back len cols 32 (decimal rows ++ 10 ∷ (decimal 255 ++ 10 ∷ raster)) cols_small refl in

@@ -2,7 +2,7 @@
 pub use Rattle.grid_base.specs.Table.{concat_rows}
 pub use Rattle.grid_pnm.specs.Enlarging.{enlarged}
 unfoldable pub use Rattle.grid_pnm.specs.Header.{header_by}
-pub use Rattle.grid_pnm.specs.Header.{magic_of, header_of}
+pub use Rattle.grid_pnm.specs.Header.{format_of, header_of}
 pub use Rattle.grid_pnm.specs.Reading.{pgm_of, ppm_of, IsOrMemory}
 unfoldable pub use Rattle.grid_pnm.specs.Samples.{samples_of}
 pub use Rattle.grid_pnm.specs.Samples.{sample_count, next_sample, plain_samples, raw_samples}

@@ -1,6 +1,6 @@
 //! The header of a picture.
 ghost use Rattle.std.specs.Prelude.{◌≡◌, ◌+◌, ◌-◌, ◌≤◌, ◌<◌, length, IfOk, IfSome};
-ghost use Rattle.grid_pnm.specs.Prelude.{magic_of, header_by, header_of};
+ghost use Rattle.grid_pnm.specs.Prelude.{format_of, header_by, header_of};
 
 use crate::PnmError;
 use crate::scan::{is_white, next_number};
@@ -37,58 +37,73 @@ pub fn read_header(bytes: &[u8]) -> Result<Header, PnmError>
     ensures max { IfOk result (λ header. 0 < header.max) }
 {
     let len = bytes.len();
-    let Some(kind) = magic(bytes) else {
+    let Some(format) = format(bytes) else {
         return Err(PnmError::BadMagic);
     };
     let (cols, rest) = next_number(len, &bytes[2..])?;
     let (rows, rest) = next_number(len, rest)?;
     let (max, rest) = next_number(len, rest)?;
-    header_by(len, kind, cols, rows, max, rest)
+    header_by(len, format, Numbers { cols, rows, max }, rest)
 }
 
-// Whether the magic number at the front is that of colored pictures, and that of plain ones.
-fn magic(bytes: &[u8]) -> Option<(bool, bool)>
-    ensures kind { result ≡ magic_of bytes.now }
-    ensures len { IfSome result (λ _. 2 ≤ length bytes.now) }
-{
-    if bytes.starts_with(b"P2") {
-        Some((false, true))
-    } else if bytes.starts_with(b"P3") {
-        Some((true, true))
-    } else if bytes.starts_with(b"P5") {
-        Some((false, false))
-    } else if bytes.starts_with(b"P6") {
-        Some((true, false))
-    } else {
-        None
-    }
+// What the magic number says.
+#[derive(Clone, Copy)]
+struct Format {
+    color: bool,
+    plain: bool,
 }
 
-// The header of these numbers.
-#[tactic(auto, unfolding(crate::specs::Header::header_by))]
-fn header_by(
-    len: usize,
-    kind: (bool, bool),
+// The numbers after it.
+#[derive(Clone, Copy)]
+struct Numbers {
     cols: usize,
     rows: usize,
     max: usize,
+}
+
+// Returns the format that the magic number at the front stands for.
+fn format(bytes: &[u8]) -> Option<Format>
+    ensures format { result ≡ format_of bytes.now }
+    ensures len { IfSome result (λ _. 2 ≤ length bytes.now) }
+{
+    let (color, plain) = if bytes.starts_with(b"P2") {
+        (false, true)
+    } else if bytes.starts_with(b"P3") {
+        (true, true)
+    } else if bytes.starts_with(b"P5") {
+        (false, false)
+    } else if bytes.starts_with(b"P6") {
+        (true, false)
+    } else {
+        return None;
+    };
+    Some(Format { color, plain })
+}
+
+// Returns the header of a format and these numbers; `rest` is what comes after them.
+#[tactic(auto, unfolding(crate::specs::Header::header_by))]
+fn header_by(
+    len: usize,
+    format: Format,
+    numbers: Numbers,
     rest: &[u8],
 ) -> Result<Header, PnmError>
     requires { length rest.now ≤ len }
-    ensures header { result ≡ header_by len kind cols rows max rest.now }
+    ensures header { result ≡ header_by len format numbers rest.now }
     ensures raster { IfOk result (λ header. header.raster ≤ len) }
     ensures max { IfOk result (λ header. 0 < header.max) }
 {
     let at = len - rest.len();
+    let max = numbers.max;
     if max == 0 || max > 255 {
         return Err(PnmError::BadMax { max, at });
     }
     match rest.first() {
         Some(byte) if is_white(*byte) => Ok(Header {
-            color: kind.0,
-            plain: kind.1,
-            rows,
-            cols,
+            color: format.color,
+            plain: format.plain,
+            rows: numbers.rows,
+            cols: numbers.cols,
             max: max as u8,
             raster: at + 1,
         }),

@@ -1,5 +1,5 @@
 //! A board of whole numbers, of which the sum of any part takes four reads.
-ghost use Rattle.std.specs.Prelude.{◌≡◌, ℕ, ◌+◌, ◌*◌, ◌^◌, ◌<◌, ◌≤◌, ◌⊎◌, IfOk, IfSome, MatchOption, vec_capacity, vec_len, slice_index, length};
+ghost use Rattle.std.specs.Prelude.{◌≡◌, ◌+◌, ◌*◌, ◌^◌, ◌<◌, ◌≤◌, ◌⊎◌, IfOk, IfSome, MatchOption, vec_capacity, vec_len, length};
 ghost use Rattle.grid_sums.specs.Prelude.{row_count, col_count, sub_table, table_sum, IsMean, AreNumbers, ReturnsFor, CallableAtCells};
 ghost use Rattle.grid_sums.specs.Corners.{at, numbers_of, IsWithin, HoldsSums, RowsSummed};
 

@@ -1,5 +1,4 @@
 //! What the tests share: all small tables, whether a grid shows one, and memory that is refused.
-ghost use Rattle.std.specs.Prelude.{◌≡◌};
 
 use crate::fuse::Fuse;
 use crate::plain;

@@ -1,32 +1,14 @@
 //! Commands on lines: an edit of rows, and an edit of columns as that of rows between two transposes.
 //!
 //! A refusal is decided before anything is allocated.
-ghost use Rattle.std.specs.Prelude.{◌≡◌, ◌<◌, IfOk};
-ghost use Rattle.grid.specs.Prelude.{row, row_count, items_of_each, ClonesAreEqual, read, insert_at, insert_all, edit_value, pad_edit, Edited, EditCounted};
+ghost use Rattle.std.specs.Prelude.{◌<◌};
+ghost use Rattle.grid.specs.Prelude.{items_of_each, read, insert_at, insert_all, edit_value, pad_edit, Edited, EditCounted};
 ghost use Rattle.grid_commands.specs.declared.command.Axis.TheVariants.{Row, Col};
 
 use crate::Grid;
-use grid_base::Tally;
+use grid_base::{Tally, clones_of_line};
 use grid_commands::{LineEdit, Reply, line_refusal, lines_refusal, pad_refusal};
 use std::alloc::{AllocError, Allocator};
-
-// Clones of the cells of a row.
-fn clone_row<T: Clone + Drop, A: Allocator>(
-    alloc: A,
-    grid: &Grid<T, A>,
-    at: usize,
-) -> Result<Vec<T, A>, AllocError>
-    requires within { at < row_count grid.now.rows }
-    ensures { IfOk result (λ line. ClonesAreEqual T.is_clone → line.items ≡ row grid.now.rows at) }
-{
-    let (_, cols) = grid.size();
-    let mut line = Vec::with_capacity(alloc, cols)?;
-    for col in 0..cols {
-        let copy = grid.get_unchecked(at, col).clone()?;
-        line.push_reserved(copy);
-    }
-    Ok(line)
-}
 
 // Reads a row.
 fn read_row<T, A: Allocator>(grid: &Grid<T, A>, at: usize) -> Result<Reply<T, A>, AllocError>
@@ -39,7 +21,7 @@ where
         return Ok(Reply::Line(None));
     }
     let alloc = grid.flat.allocator().clone()?;
-    let line = clone_row(alloc, grid, at)?;
+    let line = clones_of_line(alloc, grid.iter_row(at))?;
     Ok(Reply::Line(Some(line)))
 }
 

@@ -1,5 +1,5 @@
 //! Cells that come to the end of a vector, or leave it there.
-ghost use Rattle.std.specs.Prelude.{◌≡◌, ◌+◌, ◌-◌, ◌≤◌, [], ◌++◌, length, take, drop, OnOk, OnErr, vec_len, vec_capacity};
+ghost use Rattle.std.specs.Prelude.{◌≡◌, ◌+◌, ◌-◌, ◌≤◌, [], ◌++◌, take, drop, OnOk, OnErr, vec_len, vec_capacity};
 ghost use Rattle.grid_base.specs.Prelude.{AppendsEach};
 
 use super::Flat;

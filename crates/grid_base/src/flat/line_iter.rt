@@ -1,10 +1,11 @@
-//! An iterator over a row or a column.
-ghost use Rattle.std.specs.Prelude.{◌≡◌, ◌+◌, ◌-◌, ◌*◌, ◌<◌, ⊤, [], length, drop, slice_get, IfSome, Some, option_copied};
+//! An iterator over a row or a column, and clones of its cells.
+ghost use Rattle.std.specs.Prelude.{◌≡◌, ◌+◌, ◌-◌, ◌*◌, ◌<◌, ⊤, [], length, drop, slice_get, IfOk, IfSome, Some, option_copied};
+ghost use Rattle.std.specs.List.{AllZip};
 ghost use Rattle.grid_base.specs.LineCells.{cells_left};
-ghost use Rattle.grid_base.specs.Prelude.{line_cells, GivesLine, YieldsFirstRef, YieldsLastRef, item_count, UpTo, at_most, IsWithinCount};
+ghost use Rattle.grid_base.specs.Prelude.{ClonesAreEqual, line_cells, GivesLine, YieldsFirstRef, YieldsLastRef, item_count, UpTo, at_most, IsWithinCount};
 
 use super::stepped_iter::SteppedIter;
-use std::alloc::AllocError;
+use std::alloc::{AllocError, Allocator};
 use std::iter::FusedIterator;
 use std::marker::Model;
 use std::slice;
@@ -188,4 +189,24 @@ impl<'a, T> Clone for GridLineIter<'a, T> {
         };
         Ok(GridLineIter { cells })
     }
+}
+
+/// Returns clones of the cells that a line has left, in order.
+///
+/// Fails: if allocation or a clone fails.
+/// Cost: one clone for each cell; one allocation, and those of the clones.
+pub fn clones_of_line<T: Clone, A: Allocator>(
+    alloc: A,
+    line: GridLineIter<'_, T>,
+) -> Result<Vec<T, A>, AllocError>
+    ensures each { IfOk result (λ copies. AllZip T.is_clone line.entry copies.items) }
+    ensures equal { IfOk result (λ copies. ClonesAreEqual T.is_clone
+        → copies.items ≡ line.entry) }
+{
+    let mut copies = Vec::with_capacity(alloc, line.len())?;
+    for cell in line {
+        let copy = cell.clone()?;
+        copies.push_reserved(copy);
+    }
+    Ok(copies)
 }

@@ -18,7 +18,7 @@ returns g c =
     record {
       rows = λ d known. read_rows d c.args.at c.args.grid.now.rows;
       reply = λ same.
-          ap (λ l. line_is (Some l)) (c.in_ok-line.ensures same)
+          ap (λ l. line_is (Some l)) (c.in_ok-line.ensures.equal same ∙ c.iter_row.ensures.gives.0)
           ∙ read_some c.args.at c.args.grid.now.rows (omega (arith, c.if-at-rows.false, c.rows.ensures.rows));
       order = refl;
       err_grid = tt;

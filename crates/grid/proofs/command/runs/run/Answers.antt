@@ -1,4 +1,4 @@
-use Rattle.std.proofs.Common.{◌≡◌, ◌<◌, suc, List, refl, inl, Result, Ok, Err, OnOk, OnErr, true, false, ◌∙◌, ◌++◌, ◌∷◌, [], length, map, sym, ap, arith, length-append, append_assoc, is_err, append-nil}
+use Rattle.std.proofs.Common.{◌≡◌, ◌<◌, refl, inl, Result, Ok, Err, OnOk, OnErr, true, false, ◌∙◌, ◌++◌, ◌∷◌, [], length, map, sym, ap, arith, length-append, append_assoc, is_err, append-nil}
 use Rattle.grid.proofs.Common.{into_iter_items, map-append, nil_from_length, command_value, reply_value}
 use Rattle.grid.proofs.Lemmas.{running_none, running_more, ran_still, take_values, get_value, some_values, may_stop}
 use Rattle.grid.proofs.command.runs.run.Goals as goal

@@ -25,7 +25,7 @@ pub push_reserved-requires : goal.push_reserved-requires
 push_reserved-requires g c =
     let slot = slot_by_order c.args.order g.row.R g.row.C c.loop-i.i c.loop-j.j _ _ c.by_order-lines.ensures c.by_order-row.ensures c.loop-i-test.true c.loop-j-test.true in
     let within = place_within c.args.order g.row.R g.row.C _ _ slot.lr slot.lc in
-    omega (arith, within, slot.is, c.loop-j.invariant.slots.count, c.loop-j.invariant.room)
+    omega (arith, within, slot.is, c.in_ok-count.ensures.count, c.loop-j.invariant.slots.count, c.loop-j.invariant.room)
 
 pub loop-j-preserved : goal.loop-j-preserved
 loop-j-preserved g c =

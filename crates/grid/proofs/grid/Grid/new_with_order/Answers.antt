@@ -18,13 +18,13 @@ loop-preserved g c = record {
 
 pub returns-clause-made : goal.returns-clause-made
 returns-clause-made g c =
-    let count : length c.loop.cells.items ≡ c.args.rows * c.args.cols = omega (arith, c.loop.invariant.len) in
+    let count : length c.loop.cells.items ≡ c.args.rows * c.args.cols = omega (arith, c.loop.invariant.len, c.in_ok-count.ensures.count) in
     let made = c.from_vec_with_order.ensures in
     record { order = made.order; size = made_size c.args.order _ _ _ _ c.from_vec_with_order.result.table made.storage made.cols count }
 
 pub returns-clause-defaults : goal.returns-clause-defaults
 returns-clause-defaults g c =
-    let count : length c.loop.cells.items ≡ c.args.rows * c.args.cols = omega (arith, c.loop.invariant.len) in
+    let count : length c.loop.cells.items ≡ c.args.rows * c.args.cols = omega (arith, c.loop.invariant.len, c.in_ok-count.ensures.count) in
     let made = c.from_vec_with_order.ensures in
     record {
       each = rw (made.order, made.storage) c.loop.invariant.defaults;
