@@ -37,7 +37,7 @@ pub fn read_header(bytes: &[u8]) -> Result<Header, PnmError>
     ensures max { IfOk result (λ header. 0 < header.max) }
 {
     let len = bytes.len();
-    let Some(format) = format(bytes) else {
+    let Some(format) = read_format(bytes) else {
         return Err(PnmError::BadMagic);
     };
     let (cols, rest) = next_number(len, &bytes[2..])?;
@@ -62,7 +62,7 @@ struct Numbers {
 }
 
 // Returns the format that the magic number at the front stands for.
-fn format(bytes: &[u8]) -> Option<Format>
+fn read_format(bytes: &[u8]) -> Option<Format>
     ensures format { result ≡ format_of bytes.now }
     ensures len { IfSome result (λ _. 2 ≤ length bytes.now) }
 {
@@ -82,12 +82,7 @@ fn format(bytes: &[u8]) -> Option<Format>
 
 // Returns the header of a format and these numbers; `rest` is what comes after them.
 #[tactic(auto, unfolding(crate::specs::Header::header_by))]
-fn header_by(
-    len: usize,
-    format: Format,
-    numbers: Numbers,
-    rest: &[u8],
-) -> Result<Header, PnmError>
+fn header_by(len: usize, format: Format, numbers: Numbers, rest: &[u8]) -> Result<Header, PnmError>
     requires { length rest.now ≤ len }
     ensures header { result ≡ header_by len format numbers rest.now }
     ensures raster { IfOk result (λ header. header.raster ≤ len) }

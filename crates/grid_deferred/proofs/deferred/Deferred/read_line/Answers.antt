@@ -14,4 +14,4 @@ pub returns-in_err-line-clause-err_memory : goal.returns-in_err-line-clause-err_
 returns-in_err-line-clause-err_memory g c = either_way _ (read_takes (shown c.args.self.now) c.args.axis c.args.at c.along-view.result.rows c.along-view.ensures (omega (arith, c.size.ensures.rows, c.if-at-size.false)))
 
 pub returns-clause-reply : goal.returns-clause-reply
-returns-clause-reply g c = λ same. ap (λ l. line_is (Some l)) (c.in_ok-line.ensures same ∙ c.iter_row.ensures.gives.0) ∙ read_some (shown c.args.self.now) c.args.axis c.args.at c.along-view.result.rows c.along-view.ensures (omega (arith, c.size.ensures.rows, c.if-at-size.false))
+returns-clause-reply g c = λ same. ap (λ l. line_is (Some l)) (c.in_ok-line.ensures.equal same ∙ c.iter_row.ensures.gives.0) ∙ read_some (shown c.args.self.now) c.args.axis c.args.at c.along-view.result.rows c.along-view.ensures (omega (arith, c.size.ensures.rows, c.if-at-size.false))
