@@ -57,7 +57,8 @@ impl<T, A: Allocator> Grid<T, A> {
     /// last column left of the first. It gives exactly eight cells; with one row or column, or two, some of them come
     /// more than once, and the cell itself can be one of them. Out of range it gives none.
     ///
-    ///     [[1, 2, 3], [4, 5, 6], [7, 8, 9]]   wrapped_neighbors8((0, 0))   9, 7, 8, 3, 2, 6, 4, 5, each with its position
+    ///     [[1, 2, 3], [4, 5, 6], [7, 8, 9]]   wrapped_neighbors8((0, 0))
+    ///         9, 7, 8, 3, 2, 6, 4, 5, each with its position
     ///
     /// Cost: each step takes the same time, in either order; no memory.
     pub fn wrapped_neighbors8(&self, at: (usize, usize)) -> WrappedNeighbors<'_, T>
@@ -226,7 +227,8 @@ impl<T, A: Allocator> Grid<T, A> {
     /// Same as [`map_counts8`](Grid::map_counts8), on a grid whose edges meet, as
     /// [`count_wrapped_neighbors8`](Grid::count_wrapped_neighbors8) counts.
     ///
-    ///     [[1, 2, 3], [4, 5, 6], [7, 8, 9]]   map_wrapped_counts8(|x| 4 < *x, |_, n| n)   [[5, 5, 5], [5, 4, 4], [4, 4, 4]]
+    ///     [[1, 2, 3], [4, 5, 6], [7, 8, 9]]   map_wrapped_counts8(|x| 4 < *x, |_, n| n)
+    ///         [[5, 5, 5], [5, 4, 4], [4, 4, 4]]
     ///
     /// Requires: the closures can be called with these arguments.
     /// Fails: if allocation fails; neither closure was called.
@@ -273,7 +275,8 @@ impl<T, A: Allocator> Grid<T, A> {
 
     /// Same as [`map_sums8`](Grid::map_sums8), on a grid whose edges meet.
     ///
-    ///     [[1, 2, 3], [4, 5, 6], [7, 8, 9]]   map_wrapped_sums8(|x| *x, |_, sum| sum)   [[44, 43, 42], [41, 40, 39], [38, 37, 36]]
+    ///     [[1, 2, 3], [4, 5, 6], [7, 8, 9]]   map_wrapped_sums8(|x| *x, |_, sum| sum)
+    ///         [[44, 43, 42], [41, 40, 39], [38, 37, 36]]
     ///
     /// Requires: the closures can be called with these arguments.
     /// Fails: if allocation fails; neither closure was called.

@@ -90,8 +90,8 @@ where
     }
 }
 
-/// Takes out a row by a command, and returns it, or `None` where there is no such row. Its cells are moved, so it is known
-/// of cells of any type.
+/// Takes out a row by a command, and returns it, or `None` where there is no such row. Its cells are moved, so it is
+/// known of cells of any type.
 ///
 ///     [[1, 2], [3, 4]]   take_by_command(0)   Some([1, 2])      [[3, 4]]
 ///

@@ -1,5 +1,5 @@
-//! Boards that are joined, split and resized, then written by index, with no proof file: each call says the size that it
-//! leaves.
+//! Boards that are joined, split and resized, then written by index, with no proof file: each call says the size that
+//! it leaves.
 ghost use Rattle.std.specs.Prelude.{◌≡◌, OnOk};
 
 use grid::{Grid, GridError};

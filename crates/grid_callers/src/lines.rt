@@ -31,7 +31,8 @@ pub fn count_full(grid: &Grid<u8>) -> usize
         .count()
 }
 
-/// Sorts the rows of a sheet by their second cell, or 0 where there is none. Rows with the same one stay in their order.
+/// Sorts the rows of a sheet by their second cell, or 0 where there is none. Rows with the same one stay in their
+/// order.
 ///
 ///     [[1, 9], [2, 5], [3, 9]]   sort_by_second()   [[2, 5], [1, 9], [3, 9]]
 ///
@@ -107,8 +108,8 @@ pub fn sort_cells<A: Allocator>(board: &mut Grid<u32, A>)
     rewrite_rows(board, sorted);
 }
 
-/// Writes cells into the first row, as far as it goes, and returns how many. Where they are fewer than the columns, they are
-/// all written.
+/// Writes cells into the first row, as far as it goes, and returns how many. Where they are fewer than the columns,
+/// they are all written.
 ///
 ///     [[1, 2, 3], [4, 5, 6]]   put_first([8, 9])   2   [[8, 9, 3], [4, 5, 6]]
 pub fn put_first<A: Allocator>(board: &mut Grid<u8, A>, cells: Vec<u8>) -> usize

@@ -12,8 +12,8 @@ pub fn replace(grid: &mut Grid<u8>, row: usize, col: usize, old: u8, new: u8) {
     }
 }
 
-/// Returns how many cells equal the other board's cell of the same position, or 0 where the sizes differ: the positions of
-/// one board index another of its size.
+/// Returns how many cells equal the other board's cell of the same position, or 0 where the sizes differ: the positions
+/// of one board index another of its size.
 pub fn count_alike(grid: &Grid<u8>, other: &Grid<u8>) -> usize {
     let mut count = 0usize;
     if grid.size() == other.size() {
@@ -52,7 +52,8 @@ fn is_set_above(((row, _), cell): &((usize, usize), &u8)) -> bool {
     *row == 0 && **cell != 0
 }
 
-/// Clears a cell of the first row that isn't 0, and returns how many there were: a position that a chain found is in range.
+/// Clears a cell of the first row that isn't 0, and returns how many there were: a position that a chain found is in
+/// range.
 pub fn clear_one(grid: &mut Grid<u8>) -> usize {
     let count = grid.indexed_iter().filter(is_set_above).count();
     if let Some((at, _)) = grid.indexed_iter().find(is_set_above) {
@@ -82,8 +83,8 @@ pub fn paint(grid: &mut Grid<u8>, x: u8) {
     }
 }
 
-/// Clears the cells that are `x`, by index through a value that holds the slice, and returns how many there were. The size of
-/// the board stays.
+/// Clears the cells that are `x`, by index through a value that holds the slice, and returns how many there were. The
+/// size of the board stays.
 pub fn clear_equal(board: &mut Grid<u8>, x: u8) -> usize
     ensures rows { row_count board.new.rows ≡ row_count board.old.rows }
     ensures cols { col_count board.new.rows ≡ col_count board.old.rows }

@@ -129,8 +129,8 @@ pub fn mean_of_nine(grid: &Grid<u8>) -> Result<Grid<u8>, AllocError> {
     )
 }
 
-/// Returns how far apart the cells to the left and to the right of each cell are. At an edge the cell itself stands for the
-/// one that is missing.
+/// Returns how far apart the cells to the left and to the right of each cell are. At an edge the cell itself stands for
+/// the one that is missing.
 ///
 ///     [[1, 4, 9]]   contrasts()   [[3, 8, 5]]
 pub fn contrasts(grid: &Grid<u8>) -> Result<Grid<u8>, AllocError> {

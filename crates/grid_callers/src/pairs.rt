@@ -23,7 +23,8 @@ pub fn higher(
     Ok(Some(highest))
 }
 
-/// Returns where two boards differ in a window, or `None` where it isn't within both. Two parts of one size need no test.
+/// Returns where two boards differ in a window, or `None` where it isn't within both. Two parts of one size need no
+/// test.
 pub fn changed_in(
     alloc: Global,
     (before, after): (&Grid<u8>, &Grid<u8>),
@@ -93,8 +94,8 @@ fn highest(window: &GridView<'_, u8>) -> u8 {
     window.iter().copied().max().unwrap_or(0)
 }
 
-/// Returns the highest cell of each window of three by three, as a board, or `None` where it has no columns. What is done with
-/// a window is a function of its own: with its chain inside the closure, the check takes minutes.
+/// Returns the highest cell of each window of three by three, as a board, or `None` where it has no columns. What is
+/// done with a window is a function of its own: with its chain inside the closure, the check takes minutes.
 pub fn maxima(alloc: Global, heights: &Grid<u8>) -> Result<Option<Grid<u8>>, AllocError> {
     let most: Vec<u8> = windows(heights, 3, 3)
         .map(|window| highest(&window))
@@ -106,8 +107,8 @@ pub fn maxima(alloc: Global, heights: &Grid<u8>) -> Result<Option<Grid<u8>>, All
     Ok(Some(Grid::from_vec(most, cols)))
 }
 
-/// Returns how many equal cells next to each other the cell at a position is one of, there and back in a direction. The sum
-/// fits.
+/// Returns how many equal cells next to each other the cell at a position is one of, there and back in a direction. The
+/// sum fits.
 pub fn run_through(board: &Grid<char>, at: (usize, usize), way: Direction) -> usize {
     alike_along(board, at, way) + alike_along(board, at, way.opposite()) + 1
 }

@@ -41,8 +41,8 @@ pub fn swap_ends(grid: &mut Grid<u8>)
     }
 }
 
-/// Returns how many cells of a window are free, or `None` where it isn't within the board. An index within the size that was
-/// asked for needs no test.
+/// Returns how many cells of a window are free, or `None` where it isn't within the board. An index within the size
+/// that was asked for needs no test.
 pub fn free_in_window(
     board: &Grid<bool>,
     at: (usize, usize),
@@ -60,7 +60,8 @@ pub fn free_in_window(
     Some(count)
 }
 
-/// Returns the cell that is in the lower right corner of a window of three rows and four columns once it is turned to the left.
+/// Returns the cell that is in the lower right corner of a window of three rows and four columns once it is turned to
+/// the left.
 ///
 ///     [[1, 2, 3, 4], [5, 6, 7, 8], [9, 0, 1, 2]]   corner_turned((0, 0))   Some(9)
 pub fn corner_turned(board: &Grid<u8>, at: (usize, usize)) -> Option<u8> {
@@ -68,7 +69,8 @@ pub fn corner_turned(board: &Grid<u8>, at: (usize, usize)) -> Option<u8> {
     Some(window.turned(Symmetry::RotateLeft)[(3, 2)])
 }
 
-/// Returns the first cell of a buffer that holds rows of eight, once these are turned to the right; `None` where they aren't whole.
+/// Returns the first cell of a buffer that holds rows of eight, once these are turned to the right; `None` where they
+/// aren't whole.
 pub fn first_turned(buffer: &[u8]) -> Option<u8> {
     let board = GridView::from_slice(buffer, Order::RowMajor, 8)?;
     board.turned(Symmetry::RotateRight).get(0, 0).copied()

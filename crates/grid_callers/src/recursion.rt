@@ -13,8 +13,8 @@ pub fn has_won(board: &Grid<u8>, player: u8) -> bool {
         || (0..3).all(|k| board.get(k, 2 - k) == Some(&player))
 }
 
-/// Returns what comes of a board for the player whose turn it is, 1 or 2, if both play as well as they can: 1 if he wins,
-/// 0 for a draw, -1 if he loses. It looks at most `left` moves ahead.
+/// Returns what comes of a board for the player whose turn it is, 1 or 2, if both play as well as they can: 1 if he
+/// wins, 0 for a draw, -1 if he loses. It looks at most `left` moves ahead.
 ///
 ///     [[1, 1, 0], [2, 2, 0], [0, 0, 0]]   outcome(1, 9)   1
 pub fn outcome(board: &mut Grid<u8>, player: u8, left: u32) -> i8 {

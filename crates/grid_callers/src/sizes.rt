@@ -1,4 +1,5 @@
-//! Boards that are turned and edited, then written by index, with no proof file: each call says the size that it leaves.
+//! Boards that are turned and edited, then written by index, with no proof file: each call says the size that it
+//! leaves.
 
 use grid::{Grid, Symmetry};
 

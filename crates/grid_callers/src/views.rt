@@ -65,7 +65,8 @@ pub fn window_sum(grid: &Grid<u8>, at: (usize, usize), size: (usize, usize)) -> 
     Some(sum)
 }
 
-/// Returns whether a piece fits over a part of a board: where the piece has a cell, the board's is free. Both have one size.
+/// Returns whether a piece fits over a part of a board: where the piece has a cell, the board's is free. Both have one
+/// size.
 ///
 ///     piece [[true, false]]   board [[false, true]]   fits   true
 pub fn fits(piece: &GridView<'_, bool>, board: &GridView<'_, bool>) -> bool {

@@ -26,7 +26,8 @@ pub struct Header {
 /// space and comments may come before each number; after the last there is one byte of white space, and then the
 /// samples.
 ///
-///     read_header(b"P5 # a comment\n640 480\n255\n..")   { color: false, plain: false, rows: 480, cols: 640, max: 255, .. }
+///     read_header(b"P5 # a comment\n640 480\n255\n..")
+///         { color: false, plain: false, rows: 480, cols: 640, max: 255, .. }
 ///
 /// Fails: `BadMagic`, `BadNumber`, `BadMax` or `NoSpace`, whichever comes first.
 /// Cost: the samples aren't read, and no memory is taken.

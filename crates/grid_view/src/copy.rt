@@ -70,13 +70,13 @@ fn copy_cells<T: Copy>(view: &GridView<'_, T>, r: usize, to: &mut [T])
     }
 }
 
-// Shorter rows across the storage are cloned one by one. A square board, one by one and along the storage: 256 by 256 95
-// and 99 us on 8-byte cells, 77 and 58 us on bytes; 512 by 512 1.2 and 0.7 ms, 0.31 and 0.24 ms; 2048 by 2048 101 and
-// 45 ms, 19 and 7 ms.
+// Shorter rows across the storage are cloned one by one. A square board, one by one and along the storage: 256 by 256
+// 95 and 99 us on 8-byte cells, 77 and 58 us on bytes; 512 by 512 1.2 and 0.7 ms, 0.31 and 0.24 ms; 2048 by 2048 101
+// and 45 ms, 19 and 7 ms.
 const LONG_ACROSS: usize = 512;
 
-// Shorter rows are cloned in one loop over all cells. 8,192 cells, in one loop and row by row: in rows of 8 7.1 and 7.7 us
-// on 8-byte cells, 8.4 and 9.3 us on bytes; in rows of 16 6.9 and 4.6 us, 8.1 and 6.1 us.
+// Shorter rows are cloned in one loop over all cells. 8,192 cells, in one loop and row by row: in rows of 8 7.1 and 7.7
+// us on 8-byte cells, 8.4 and 9.3 us on bytes; in rows of 16 6.9 and 4.6 us, 8.1 and 6.1 us.
 const SHORT_ROW: usize = 16;
 
 // Returns clones of the cells of a view, row by row, and reads it in that order.

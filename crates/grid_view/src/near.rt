@@ -60,7 +60,8 @@ impl<'a, T> GridView<'a, T> {
     /// row or column, or two, some of them come more than once, and the cell itself can be one of them. Out of range it
     /// gives none.
     ///
-    ///     [[1, 2, 3], [4, 5, 6], [7, 8, 9]]   wrapped_neighbors8((0, 0))   9, 7, 8, 3, 2, 6, 4, 5, each with its position
+    ///     [[1, 2, 3], [4, 5, 6], [7, 8, 9]]   wrapped_neighbors8((0, 0))
+    ///         9, 7, 8, 3, 2, 6, 4, 5, each with its position
     ///
     /// Cost: each step takes the same time; no memory.
     pub fn wrapped_neighbors8(&self, at: (usize, usize)) -> WrappedNeighbors<'a, T>

@@ -8,8 +8,8 @@ use crate::Layout;
 use std::alloc::{AllocError, Allocator};
 
 // Shorter lines are read in one loop over all cells. 8,192 bytes in lines of 24, in one loop and line by line: by a
-// closure that ignores the position 0.25 and 1.8 us, by one that uses it 8.7 and 2.0 us; in lines of 32 0.25 and 0.4 us,
-// 8.3 and 0.7 us.
+// closure that ignores the position 0.25 and 1.8 us, by one that uses it 8.7 and 2.0 us; in lines of 32 0.25 and 0.4
+// us, 8.3 and 0.7 us.
 const LONG_LINE: usize = 32;
 
 impl<T, A: Allocator> Flat<T, A> {

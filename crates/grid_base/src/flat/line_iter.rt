@@ -26,8 +26,8 @@ enum Cells<'a, T> {
 }
 
 impl<'a, T> Cells<'a, T> {
-    // Returns the `count` cells that are `stride` places apart, the first of them at place `start`; the last first where
-    // they go backwards.
+    // Returns the `count` cells that are `stride` places apart, the first of them at place `start`; the last first
+    // where they go backwards.
     #[inline(always)]
     fn over(
         cells: &'a [T],

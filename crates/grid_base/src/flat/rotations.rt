@@ -4,8 +4,9 @@ ghost use Rattle.grid_base.specs.Prelude.{BlocksExchanged, BlockTaken, PartRever
 
 use std::mem;
 
-// Fewer cells are swapped in a loop. Two cells put into the middle of a board of two columns and taken out again, by the
-// loop and by a call: of 10 rows 65 and 79 ns on bytes, 77 and 76 ns on 8-byte cells; of 16 rows 78 and 64, 86 and 80.
+// Fewer cells are swapped in a loop. Two cells put into the middle of a board of two columns and taken out again, by
+// the loop and by a call: of 10 rows 65 and 79 ns on bytes, 77 and 76 ns on 8-byte cells; of 16 rows 78 and 64, 86 and
+// 80.
 const SHORT_PART: usize = 16;
 
 // `rotate_left` and `with_room` clear 4096 bytes on the stack first: a rotation takes 48 ns at least, three reversals

@@ -20,4 +20,4 @@ returns-clause-reply g c same =
           let count = ap (λ a. line_count a (row_count t) (col_count t)) w.in-Col.is in
           rw (w.in-Col.is, w.line-is, w.iter_col-line.ensures.gives.0) (col_there c.args.at t (omega (arith, c.if-at-count.false, c.measure-count.ensures.count, count)))
     ] in
-    ap line_is (ap Some (c.in_ok-cells.ensures same) ∙ there)
+    ap line_is (ap Some (c.in_ok-cells.ensures.equal same) ∙ there)
