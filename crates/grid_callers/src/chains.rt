@@ -92,18 +92,12 @@ pub fn cell_of_column<A: Allocator>(grid: &Grid<u32, A>, c: usize, k: usize) -> 
     grid.iter_col(c).nth(k).copied()
 }
 
-/// Returns, for each column, how many of its cells are `x`.
-pub fn count_in_columns<A: Allocator>(
-    alloc: Global,
-    grid: &Grid<u32, A>,
-    x: u32,
-) -> Result<Vec<usize>, AllocError>
-    ensures { IfOk result (λ counts.
-        counts.items ≡ map (λ line. count_by (λ y. y == x) line) (transposed grid.now.rows)) }
+/// Returns how many cells of column `c` are `x`.
+pub fn count_in_column<A: Allocator>(grid: &Grid<u32, A>, c: usize, x: u32) -> usize
+    requires { c < col_count grid.now.rows }
+    ensures { result ≡ count_by (λ y. y == x) (row (transposed grid.now.rows) c) }
 {
-    grid.iter_cols()
-        .map(|line| line.filter(|y| **y == x).count())
-        .collect(alloc)
+    grid.iter_col(c).filter(|y| **y == x).count()
 }
 
 /// Returns the number of rows.
