@@ -2,12 +2,13 @@
 //! chains over a row or a column, calls on all cells, symmetries and commands on texts, and grids that are written out.
 //!
 //! A row `r` or a column `c` is required to be in range.
-ghost use Rattle.std.specs.Prelude.{◌≡◌, ◌^◌, ◌<◌, ◌≤◌, ◌==◌, ◌↔◌, IsTrue, IfOk, MatchOption, Any, All, length, map, reverse, sum, count_by, filter, ◌*◌, [], ◌∷◌, ◌-◌, slice_get};
+ghost use Rattle.std.specs.Prelude.{ℕ, ◌≡◌, ◌^◌, ◌<◌, ◌≤◌, ◌==◌, ◌↔◌, IsTrue, IfOk, MatchOption, Any, All, length, map, reverse, sum, count_by, filter, ◌*◌, [], ◌∷◌, ◌-◌, slice_get};
 ghost use Rattle.grid.specs.Prelude.{row, row_count, col_count, transposed, storage, act};
 ghost use Rattle.std.specs.List.{range_with_len};
+ghost use Rattle.grid_base.specs.Strides.{EachLineInOrder, LinesInOrder};
 ghost use Rattle.grid_base.specs.declared.order.Order.TheVariants.{RowMajor, ColumnMajor};
 
-use grid::{Command, Grid, GridError, Symmetry, Tally, grid, grid_cm};
+use grid::{Command, Grid, GridColIter, GridError, GridLineIter, Symmetry, Tally, grid, grid_cm};
 use grid_base::laws as symmetry_laws;
 use std::alloc::{AllocError, Allocator, Global};
 
@@ -92,12 +93,32 @@ pub fn cell_of_column<A: Allocator>(grid: &Grid<u32, A>, c: usize, k: usize) -> 
     grid.iter_col(c).nth(k).copied()
 }
 
-/// Returns how many cells of column `c` are `x`.
-pub fn count_in_column<A: Allocator>(grid: &Grid<u32, A>, c: usize, x: u32) -> usize
-    requires { c < col_count grid.now.rows }
-    ensures { result ≡ count_by (λ y. y == x) (row (transposed grid.now.rows) c) }
+// Returns, for each of these columns, how many of its cells are `x`.
+fn counts_in(alloc: Global, columns: GridColIter<'_, u32>, x: u32) -> Result<Vec<usize>, AllocError>
+    requires each { EachLineInOrder ℕ }
+    requires along { LinesInOrder ℕ }
+    ensures { IfOk result (λ counts.
+        counts.items ≡ map (λ line. count_by (λ y. y == x) line) columns.entry) }
 {
-    grid.iter_col(c).filter(|y| **y == x).count()
+    columns
+        .map(
+            |line: GridLineIter<'_, u32>| -> usize
+                ensures { result ≡ count_by (λ y. y == x) line.entry }
+            { line.filter(|y| **y == x).count() },
+        )
+        .collect(alloc)
+}
+
+/// Returns, for each column, how many of its cells are `x`.
+pub fn count_in_columns<A: Allocator>(
+    alloc: Global,
+    grid: &Grid<u32, A>,
+    x: u32,
+) -> Result<Vec<usize>, AllocError>
+    ensures { IfOk result (λ counts.
+        counts.items ≡ map (λ line. count_by (λ y. y == x) line) (transposed grid.now.rows)) }
+{
+    counts_in(alloc, grid.iter_cols(), x)
 }
 
 /// Returns the number of rows.
