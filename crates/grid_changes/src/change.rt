@@ -1,7 +1,7 @@
 //! Changes of a grid, each of which gives the one that takes it back. Cells are moved, and never cloned.
-ghost use Rattle.std.specs.Prelude.{◌≡◌, ◌+◌, ◌≤◌, ◌<◌, take, drop, OnOk, OnErr, IfOk, IfErr, IsTrue};
+ghost use Rattle.std.specs.Prelude.{◌≡◌, ◌+◌, ◌≤◌, ◌<◌, false, take, drop, OnOk, OnErr, IfOk, IfErr, IsTrue};
 ghost use Rattle.grid.specs.Prelude.{row_count, col_count, FitsRow, insert_rows, without_rows, InRange, with_cell};
-ghost use Rattle.grid_changes.specs.Change.{Fits, after, is_of_lines, Inverts, FitsLines, HasLines, with_lines, less_lines};
+ghost use Rattle.grid_changes.specs.Change.{Fits, after, is_write, is_of_lines, Inverts, FitsLines, HasLines, with_lines, less_lines};
 ghost use Rattle.grid_changes.specs.Timeline.{board_of};
 
 use grid::{Axis, Grid, Symmetry};
@@ -44,7 +44,9 @@ pub(crate) fn write<T, A: Allocator>(
 }
 
 // Does a change, and makes it the one that takes it back. If memory is refused, which comes only where lines are put in
-// or taken out, the grid and the change are as they were.
+// or taken out, the grid and the change are as they were. A write, as a search of a game makes and takes back, is done
+// without a call.
+#[inline(always)]
 pub(crate) fn make<T, A: Allocator>(
     grid: &mut Grid<T, A>,
     change: &mut Change<T, A>,
@@ -59,11 +61,31 @@ where
     ensures unchanged { OnErr result (grid.new ≡ grid.old) }
     ensures err_lines { OnErr result (IsTrue (is_of_lines change.old)) }
 {
+    if let Change::Write(row, col, value) = change {
+        mem::swap(grid.get_unchecked_mut(*row, *col), value);
+        return Ok(());
+    }
+    make_other(grid, change)
+}
+
+// As `make`, where no cell is written.
+#[inline(never)]
+fn make_other<T, A: Allocator>(
+    grid: &mut Grid<T, A>,
+    change: &mut Change<T, A>,
+) -> Result<(), AllocError>
+where
+    T: Drop,
+    A: Clone,
+    requires fits { Fits change.old (board_of grid.old) }
+    requires other { is_write change.old ≡ false }
+    ensures made { OnOk result (board_of grid.new ≡ after change.old (board_of grid.old)) }
+    ensures inverse { OnOk result (Inverts change.new (board_of grid.new) (board_of grid.old)) }
+    ensures same { OnErr result (change.new ≡ change.old) }
+    ensures unchanged { OnErr result (grid.new ≡ grid.old) }
+    ensures err_lines { OnErr result (IsTrue (is_of_lines change.old)) }
+{
     match change {
-        Change::Write(row, col, value) => {
-            mem::swap(grid.get_unchecked_mut(*row, *col), value);
-            Ok(())
-        }
         Change::Exchange(a, b) => {
             grid.swap(*a, *b);
             Ok(())

@@ -1,5 +1,5 @@
 //! A grid with the boards before it and those undone.
-ghost use Rattle.std.specs.Prelude.{◌≡◌, ◌<◌, ◌≤◌, ◌-◌, ℕ, [], length, take, slice_get, OnOk, OnErr, IfOk, IsSomeAnd, MatchBool, IsTrue, ◌↔◌};
+ghost use Rattle.std.specs.Prelude.{◌≡◌, ◌<◌, ◌≤◌, ◌-◌, ℕ, [], ◌∷◌, ◌++◌, length, vec_len, vec_capacity, take, slice_get, OnOk, OnErr, IfOk, IsSomeAnd, MatchBool, IsTrue, ◌↔◌};
 ghost use Rattle.grid.specs.Prelude.{act, order_after, ClonesAreEqual, command_value, command_symmetry, apply, reply_value, step_rows, step_reply, RowsAreKnown, InRange, with_cell, set_cell};
 ghost use Rattle.grid_changes.specs.Timeline.{board_of, FirstHasOtherCount, IsBackBy, IsStepOn, IsStepBack, Recorded};
 ghost use Rattle.grid_changes.specs.Change.{Fits, after, is_of_lines};
@@ -61,6 +61,23 @@ where
         (λ change. IsTrue (is_of_lines change))) }
 {
     make(grid, &mut steps[at])
+}
+
+// Keeps what takes a step back after the first `done`, in place of those that were undone.
+#[inline(always)]
+fn keep_step<T, A: Allocator>(steps: &mut Vec<Change<T, A>, A>, done: usize, back: Change<T, A>)
+where
+    T: Drop,
+    requires within { done ≤ vec_len steps.old }
+    requires room { done ≡ vec_len steps.old → vec_len steps.old < vec_capacity steps.old }
+    ensures { steps.new.items ≡ take done steps.old.items ++ back ∷ [] }
+{
+    if done < steps.len() {
+        steps[done] = back;
+        steps.truncate(done + 1);
+    } else {
+        steps.push_reserved(back);
+    }
 }
 
 impl<T, A: Allocator> History<T, A> {
@@ -167,6 +184,7 @@ impl<T, A: Allocator> History<T, A> {
     }
 
     // As `step`, a command that writes a cell.
+    #[inline(always)]
     fn step_set(&mut self, row: usize, col: usize, value: T) -> Result<Reply<T, A>, AllocError>
     where
         T: Clone + Default + Drop,
@@ -238,13 +256,13 @@ impl<T, A: Allocator> History<T, A> {
         }
         let mut step = change;
         make(&mut self.grid, &mut step)?;
-        self.steps.truncate(self.done);
-        self.steps.push_reserved(step);
+        keep_step(&mut self.steps, self.done, step);
         self.done += 1;
         Ok(())
     }
 
     // Writes a cell, in place of what was undone.
+    #[inline(always)]
     fn record_write(&mut self, row: usize, col: usize, value: T) -> Result<(), AllocError>
     where
         T: Drop,
@@ -260,8 +278,7 @@ impl<T, A: Allocator> History<T, A> {
             self.steps.reserve(1)?;
         }
         let back = write(&mut self.grid, row, col, value);
-        self.steps.truncate(done);
-        self.steps.push_reserved(back);
+        keep_step(&mut self.steps, done, back);
         self.done = done + 1;
         Ok(())
     }

@@ -6,7 +6,7 @@ ghost use Rattle.grid_pairs.specs.Found.{StandsIn, StandsFirstIn};
 use grid_view::{AsView, GridView};
 
 /// Returns the row and the column of the first part of a board, row by row, that is the pattern, or `None` where none
-/// is. The empty pattern is found at (0, 0). There the part fits, so that `board.part((r, col), pattern.size())` needs
+/// is. The empty pattern is found at (0, 0). There the part fits, so that `board.part(at, pattern.size())` needs
 /// no test, and where the pattern has cells, neither does `board[at]`.
 ///
 ///     [[1, 2, 1], [2, 1, 2]]   find(board, [[2, 1]])   Some((0, 1))

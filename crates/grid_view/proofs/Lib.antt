@@ -2,6 +2,7 @@ pub mod AxisLemmas
 pub mod SeenLemmas
 pub mod LineLemmas
 pub mod CellLemmas
+pub mod FoldLemmas
 pub mod SameLemmas
 pub mod DebugLemmas
 pub mod PlacedLemmas

@@ -2,6 +2,7 @@ pub mod View
 pub mod Value
 pub mod Nearest
 pub mod Cells
+pub mod Folded
 pub mod Same
 pub mod Texts
 pub mod Found

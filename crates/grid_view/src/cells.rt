@@ -2,9 +2,14 @@
 ghost use Rattle.std.specs.Prelude.{◌≡◌, ◌+◌, ◌*◌, ◌^◌, ◌<◌, ⊤, length, IfSome, Some};
 ghost use Rattle.grid_base.specs.Prelude.{concat_rows, IsSize, StandsAt, GivesLine, GivesIndexed};
 ghost use Rattle.std.specs.Iterator.{YieldsFirstRef, YieldsLastRef, YieldsFirstBy, YieldsLastBy, item_count, UpTo, at_most};
+ghost use Rattle.std.specs.Iterator.{ActsAsOnTwo, CallableInFold, FoldsItems};
+ghost use Rattle.std.specs.Iterator.Runs.{WholeRun};
 ghost use Rattle.std.specs.Iterator.SizeHint.{IsWithinCount};
+ghost use Rattle.std.specs.List.{fold};
+ghost use denote.Ref.{Bor};
 ghost use Rattle.grid_base.specs.declared.order.Order.TheVariants.{RowMajor};
 
+use crate::fold::fold_line;
 use crate::lines::ViewRowIter;
 use crate::view::GridView;
 use grid_base::SteppedIter;
@@ -64,6 +69,34 @@ impl<'a, T> Model for ViewIter<'a, T> {
     ghost view = { λ a. a.line ++ (concat_rows a.rows ++ a.last) };
 
     ghost invariant = { λ a. AreCellsLeft a.width a.line a.rows a.last };
+}
+
+impl<'a, T> ViewIter<'a, T> {
+    /// Returns what a closure comes to from `init` on, called with the value so far and each remaining cell, row by row.
+    ///
+    ///     [[1, 2], [3, 4]]   iter(), then fold(0, |sum, x| sum + *x)   10
+    ///
+    /// It stands in place of `Iterator::fold`, whose contract it has: a row that is a slice in the storage is gone
+    /// through as one.
+    ///
+    /// Requires: the closure can be called at each remaining cell, and the value that it comes to over those before it.
+    /// Cost: one call for each remaining cell; no memory.
+    pub fn fold<B, F: FnMut(B, &'a T) -> B>(self, init: B, f: F) -> B
+        requires callable { CallableInFold (YieldsFirstRef (λ rest. rest)) F.FnMut self f init }
+        ensures ran { FoldsItems (YieldsFirstRef (λ rest. rest)) F.FnMut self.entry f init result }
+        ensures runs { WholeRun (YieldsFirstRef (λ rest. rest)) self.entry (λ run.
+            (h : B → Bor T → B) → ActsAsOnTwo F.FnMut f h → result ≡ fold h init run.items) }
+    {
+        let ViewIter {
+            line,
+            rows,
+            last,
+            ..
+        } = self;
+        let (f, folded) = fold_line(line, init, f);
+        let (f, folded) = rows.fold_cells(folded, f);
+        fold_line(last, folded, f).1
+    }
 }
 
 impl<'a, T> Iterator for ViewIter<'a, T> {

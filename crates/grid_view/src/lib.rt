@@ -7,6 +7,7 @@ mod axis;
 mod cells;
 mod copy;
 mod display;
+mod fold;
 mod lines;
 mod near;
 mod pretty;

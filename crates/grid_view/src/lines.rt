@@ -1,11 +1,13 @@
 //! Iterators over a row or a column of a view, and over its rows and columns.
 ghost use Rattle.std.specs.Prelude.{◌≡◌, ◌+◌, ◌<◌, ◌≤◌, ⊤, length, drop, slice_get, IfSome, MatchOption, Some, List};
 ghost use Rattle.std.specs.List.{All};
-ghost use Rattle.grid_base.specs.Prelude.{row, row_count, col_count, transposed, GivesLine, GivesLines};
+ghost use Rattle.grid_base.specs.Prelude.{row, row_count, col_count, transposed, concat_rows, GivesLine, GivesLines};
 ghost use Rattle.grid_base.specs.Remaining.{remaining, IsRemaining};
+ghost use Rattle.grid_view.specs.Folded.{CallableOver, GoesOver};
 ghost use Rattle.std.specs.Iterator.{YieldsFirst, YieldsLast, item_count, UpTo, at_most};
 ghost use Rattle.std.specs.Iterator.SizeHint.{IsWithinCount};
 
+use crate::fold::fold_row;
 use crate::view::{GridView, row_start};
 use grid_base::{GridLineIter, SteppedIter};
 use std::alloc::AllocError;
@@ -34,7 +36,7 @@ impl<'a, T> GridView<'a, T> {
     }
 
     // As `iter_row`, but a step tests only whether cells are left.
-    fn step_row(&self, r: usize) -> SteppedIter<'a, T>
+    pub(crate) fn step_row(&self, r: usize) -> SteppedIter<'a, T>
         requires { r < row_count self.now.rows }
         ensures { result ≡ row self.now.rows r }
     {
@@ -152,6 +154,19 @@ impl<'a, T> ViewRowIter<'a, T> {
     {
         let number = self.ahead.next()?;
         Some(self.view.step_row(number))
+    }
+
+    // Returns the closure, and what it comes to from `init` on over the cells that are left, row by row.
+    pub(crate) fn fold_cells<B, F: FnMut(B, &'a T) -> B>(self, init: B, f: F) -> (F, B)
+        requires calls { CallableOver F.FnMut (f, init) (concat_rows self) }
+        ensures { GoesOver F.FnMut (f, init) (concat_rows self.entry) (result.0, result.1) }
+    {
+        let ViewRowIter { view, ahead } = self;
+        let mut at = (f, init);
+        for r in ahead {
+            at = fold_row(&view, r, at.1, at.0);
+        }
+        at
     }
 
     // As `next_back`, but a step along the row tests only whether cells are left.
