@@ -1,6 +1,7 @@
 //! Views: what a caller's contract says by the rows that are seen, with no proof file.
-ghost use Rattle.std.specs.Prelude.{◌≡◌, ◌<◌, ◌≤◌, ◌==◌, ◌↔◌, IsTrue, IfSome, OnOk, OnErr, Some, Any, sum, count_by};
-ghost use Rattle.grid.specs.Prelude.{row, row_count, col_count, transposed, cell, act, sub_table, overlaid, neighbors8};
+ghost use Rattle.std.specs.Prelude.{◌≡◌, ◌<◌, ◌≤◌, ◌==◌, ◌↔◌, IsTrue, IfSome, OnOk, OnErr, Some, Any, max, sum, count_by};
+ghost use Rattle.std.specs.List.{fold};
+ghost use Rattle.grid.specs.Prelude.{row, row_count, col_count, concat_rows, transposed, cell, act, sub_table, overlaid, neighbors8};
 
 use grid::{Grid, GridView, Symmetry};
 use std::alloc::{AllocError, Global};
@@ -25,6 +26,13 @@ pub fn position_of(view: &GridView<'_, u32>, x: u32) -> Option<(usize, usize)>
 {
     let (at, _) = view.indexed_iter().find(|(_, cell)| **cell == x)?;
     Some(at)
+}
+
+/// Returns the largest cell, or 0 where there are none.
+pub fn largest(view: &GridView<'_, u32>) -> u32
+    ensures { result ≡ fold (λ most x. max most x) 0 (concat_rows view.now.rows) }
+{
+    view.iter().fold(0u32, |most, x| most.max(*x))
 }
 
 /// Returns how many of the cells that touch a cell of a part are `x`, and where the first of them is in the part.
