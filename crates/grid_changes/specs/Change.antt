@@ -51,12 +51,6 @@ module _ {T A : Type 0} where
   after (a.Turn s) b = record { rows = act s b.rows; order = order_after s b.order }
   after (a.Replace g) b = board_of g
 
-  -- whether a change writes a cell
-  abbrev pub is_write : Change T A → Bool
-  is_write (a.Write r c v) = true
-  -- every other change
-  is_write x = false
-
   -- whether a change puts lines in or takes lines out
   abbrev pub is_of_lines : Change T A → Bool
   is_of_lines (a.Put x i ls) = true

@@ -1,8 +1,9 @@
 //! Changes of a grid, each of which gives the one that takes it back. Cells are moved, and never cloned.
-ghost use Rattle.std.specs.Prelude.{◌≡◌, ◌+◌, ◌≤◌, ◌<◌, false, take, drop, OnOk, OnErr, IfOk, IfErr, IsTrue};
+ghost use Rattle.std.specs.Prelude.{◌≡◌, ℕ, ◌+◌, ◌≤◌, ◌<◌, take, drop, OnOk, OnErr, IfOk, IfErr, IsTrue};
 ghost use Rattle.grid.specs.Prelude.{row_count, col_count, FitsRow, insert_rows, without_rows, InRange, with_cell};
-ghost use Rattle.grid_changes.specs.Change.{Fits, after, is_write, is_of_lines, Inverts, FitsLines, HasLines, with_lines, less_lines};
+ghost use Rattle.grid_changes.specs.Change.{Fits, after, is_of_lines, Inverts, FitsLines, HasLines, with_lines, less_lines};
 ghost use Rattle.grid_changes.specs.Timeline.{board_of};
+ghost use Rattle.grid_changes.specs.declared.change.Change.TheVariants.{Write};
 
 use grid::{Axis, Grid, Symmetry};
 use grid_lines::roll_rows;
@@ -78,7 +79,7 @@ where
     T: Drop,
     A: Clone,
     requires fits { Fits change.old (board_of grid.old) }
-    requires other { is_write change.old ≡ false }
+    requires other { (row col : ℕ) (value : T) → change.old ≡ Write row col value → ⊥ }
     ensures made { OnOk result (board_of grid.new ≡ after change.old (board_of grid.old)) }
     ensures inverse { OnOk result (Inverts change.new (board_of grid.new) (board_of grid.old)) }
     ensures same { OnErr result (change.new ≡ change.old) }
