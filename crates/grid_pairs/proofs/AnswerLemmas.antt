@@ -1,11 +1,12 @@
 -- What a closure answers at two lines, one item after another, and line by line.
-use Rattle.std.proofs.Common.{◌≡◌, ℕ, ◌+◌, ◌*◌, ◌<◌, List, [], ◌∷◌, ◌++◌, Some, IsSomeAnd, length, set, sym, subst, ◌∙◌, arith, inl, inr, ⊎_elim, length-append, length-set, slice_get, Bor}
-use Rattle.grid_base.proofs.Common.{cases_lt, col_count, cell, row}
+use Rattle.std.proofs.Common.{◌≡◌, ℕ, ◌+◌, ◌*◌, ◌<◌, List, [], ◌∷◌, ◌++◌, Some, IsSomeAnd, length, set, sym, subst, ◌∙◌, arith, inl, inr, ⊎_elim, length-append, length-set, slice_get, Bor, ap}
+use Rattle.std.proofs.lemmas.Option.{slice_get_past}
+use Rattle.grid_base.proofs.Common.{cases_lt, row_count, col_count, cell, row}
 use Rattle.grid_base.proofs.StorageLemmas.{get_append_left, get_append_right}
 use Rattle.grid_base.proofs.WriteLemmas.{get-set_same, get-set_other}
 use Rattle.grid_base.proofs.WeaveLemmas.{place_below}
 use Rattle.grid_pairs.specs.Joined.{Joins}
-use Rattle.grid_pairs.specs.Answered.{Appended, RowsJoined, Replaced, RowsReplaced}
+use Rattle.grid_pairs.specs.Answered.{Appended, RowsJoined, Replaced, RowsReplaced, ColReplaced, ColsReplaced}
 
 module _ {F A B C : Type 0} (returns : F → Bor A → Bor B → C → Type 0) (f : F) where
   -- one more answer
@@ -75,3 +76,59 @@ module _ {F A B : Type 0} (returns : F → Bor A → Bor B → A → Type 0) (f 
             (subst (λ x. IsSomeAnd (slice_get new (r * n + j)) (Joins returns f x (cell u r j))) same (a.answers j lj)))
             (cases_lt i r);
       }
+
+  -- two places whose rows or whose columns differ
+  apart : (n i j r c : ℕ) → j < n → c < n → (i ≡ r → j ≡ c → ⊥) → i * n + j ≡ r * n + c → ⊥
+  apart n i j r c lj lc differ e =
+      ⊎_elim (λ low. absurd (omega (arith, place_below i n j r low lj)))
+      (λ high. ⊎_elim (λ below. absurd (omega (arith, place_below r n c i below lc)))
+      (λ past. let same : i ≡ r = omega arith in differ same (omega (arith, ap (λ k. k * n) same)))
+      (cases_lt r i))
+      (cases_lt i r)
+
+  -- one more cell of a column, at its place
+  pub col_more : (m c : ℕ) (u : List (List B)) (old now : List A) (z : A) (at : ℕ) → at ≡ m * col_count u + c → ColReplaced returns f m c u old now → c < col_count u → at < length now → Joins returns f (slice_get now at) (cell u m c) z → ColReplaced returns f (m + 1) c u old (set now at z)
+  col_more m c u old now z at is a lc lt j =
+      let n = col_count u in
+      let from : slice_get now (m * n + c) ≡ slice_get old (m * n + c) = a.others m c lc (λ _. omega arith) in
+      let same : slice_get now at ≡ slice_get old (m * n + c) = ap (slice_get now) is ∙ from in
+      let here : slice_get (set now at z) (m * n + c) ≡ Some z = ap (slice_get (set now at z)) (sym is) ∙ get-set_same now at z lt in
+      record {
+        len = length-set now at z ∙ a.len;
+        others = λ i k lk out.
+            get-set_other now at (i * n + k) z (λ same. apart n i k m c lk lc (λ e g. absurd (omega (arith, out g, e))) (same ∙ is))
+            ∙ a.others i k lk (λ g. omega (arith, out g));
+        answers = λ i li. ⊎_elim
+            (λ low. subst (λ o. IsSomeAnd o (Joins returns f (slice_get old (i * n + c)) (cell u i c)))
+            (sym (get-set_other now at (i * n + c) z (λ same. apart n i c m c lc lc (λ e g. absurd (omega (arith, e))) (same ∙ is)))) (a.answers i low))
+            (λ past.
+            let e : m ≡ i = omega arith in
+            subst (λ k. IsSomeAnd (slice_get (set now at z) (k * n + c)) (Joins returns f (slice_get old (k * n + c)) (cell u k c))) e
+            (subst (λ o. IsSomeAnd o (Joins returns f (slice_get old (m * n + c)) (cell u m c))) (sym here) (subst (λ x. Joins returns f x (cell u m c) z) same j)))
+            (cases_lt i m);
+      }
+
+  -- one more column
+  pub cols_more : (c : ℕ) (u : List (List B)) (old now new : List A) → ColsReplaced returns f c u old now → ColReplaced returns f (row_count u) c u now new → c < col_count u → ColsReplaced returns f (c + 1) u old new
+  cols_more c u old now new w a lc =
+      let n = col_count u in
+      record {
+        len = a.len ∙ w.len;
+        others = λ i j lj out. a.others i j lj (λ e. absurd (omega (arith, e))) ∙ w.others i j lj (omega arith);
+        answers = λ i j li lj. ⊎_elim
+            (λ low. subst (λ o. IsSomeAnd o (Joins returns f (slice_get old (i * n + j)) (cell u i j)))
+            (sym (a.others i j (omega arith) (λ e. absurd (omega (arith, e))))) (w.answers i j li low))
+            (λ past.
+            let e : c ≡ j = omega arith in
+            subst (λ k. IsSomeAnd (slice_get new (i * n + k)) (Joins returns f (slice_get old (i * n + k)) (cell u i k))) e
+            (subst (λ x. IsSomeAnd (slice_get new (i * n + c)) (Joins returns f x (cell u i c))) (w.others i c lc (omega arith)) (a.answers i li)))
+            (cases_lt j c);
+      }
+
+  -- all columns, and so all rows
+  pub cols_all : (u : List (List B)) (old new : List A) → length old ≡ row_count u * col_count u → ColsReplaced returns f (col_count u) u old new → RowsReplaced returns f (row_count u) u old new
+  cols_all u old new len w = record {
+    len = w.len;
+    others = λ k out. slice_get_past new k (omega (arith, w.len)) ∙ sym (slice_get_past old k (omega arith));
+    answers = λ i j li lj. w.answers i j li lj;
+  }

@@ -13,6 +13,11 @@ module _ {F A B : Type 0} (takes : F → Bor A → Bor B → Type 0) (f : F) whe
     pub at : (k : ℕ) (p : Bor A) (q : Bor B) → slice_get xs (start + k) ≡ Some p.now
         → slice_get ys k ≡ Some q.now → takes f p q
 
+  -- the same of the items at which column c of a table comes, row by row, and its cells
+  pub record CallableAtCol (c : ℕ) (xs : List A) (u : List (List B)) : Type 0 where
+    pub at : (i : ℕ) (p : Bor A) (q : Bor B) → slice_get xs (i * col_count u + c) ≡ Some p.now
+        → cell u i c ≡ Some q.now → takes f p q
+
   -- the same of the items of a list and the cells of a table, row by row
   pub record CallableAtRows (xs : List A) (u : List (List B)) : Type 0 where
     pub at : (i j : ℕ) (p : Bor A) (q : Bor B) → slice_get xs (i * col_count u + j) ≡ Some p.now
@@ -53,5 +58,22 @@ module _ {F A B : Type 0} (returns : F → Bor A → Bor B → A → Type 0) (f 
     pub len : length new ≡ length old
     pub others : (k : ℕ) → m * col_count u ≤ k → slice_get new k ≡ slice_get old k
     pub answers : (i j : ℕ) → i < m → j < col_count u
+        → IsSomeAnd (slice_get new (i * col_count u + j))
+        (Joins returns f (slice_get old (i * col_count u + j)) (cell u i j))
+
+  -- the items at which the first m cells of column c of a table come, row by row, became answers
+  pub record ColReplaced (m c : ℕ) (u : List (List B)) (old new : List A) : Type 0 where
+    pub len : length new ≡ length old
+    pub others : (i j : ℕ) → j < col_count u → (j ≡ c → m ≤ i)
+        → slice_get new (i * col_count u + j) ≡ slice_get old (i * col_count u + j)
+    pub answers : (i : ℕ) → i < m → IsSomeAnd (slice_get new (i * col_count u + c))
+        (Joins returns f (slice_get old (i * col_count u + c)) (cell u i c))
+
+  -- the items at which the first n columns come became answers
+  pub record ColsReplaced (n : ℕ) (u : List (List B)) (old new : List A) : Type 0 where
+    pub len : length new ≡ length old
+    pub others : (i j : ℕ) → j < col_count u → n ≤ j
+        → slice_get new (i * col_count u + j) ≡ slice_get old (i * col_count u + j)
+    pub answers : (i j : ℕ) → i < row_count u → j < n
         → IsSomeAnd (slice_get new (i * col_count u + j))
         (Joins returns f (slice_get old (i * col_count u + j)) (cell u i j))

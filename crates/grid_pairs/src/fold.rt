@@ -6,6 +6,10 @@ ghost use Rattle.grid_pairs.specs.Folded.{AreCopies, FoldsOver, FoldsMore, Calla
 use grid_view::{AsView, GridView};
 use std::alloc::{AllocError, Allocator};
 
+// A line at a time, fewer values are faster than all at once: of three columns of 333,333 cells, 0.6 instead of 1.2 ms
+// on 4-byte cells.
+const FEW_VALUES: usize = 4;
+
 /// Returns a value for each row: what the closure comes to from `init` on, called with the value so far and a reference
 /// to each cell of the row, from the first on.
 ///
@@ -92,9 +96,9 @@ fn folded<T, S: Copy, A: Allocator, F: Fn(S, &T) -> S>(
     }
 }
 
-// Whether the rows run across the storage, and the columns along it.
+// Whether the rows run across the storage, and the columns along it, and whether there are enough rows.
 fn runs_across<T>(board: &GridView<'_, T>) -> bool {
-    if board.is_empty() {
+    if board.rows() < FEW_VALUES {
         return false;
     }
     let across = board.transposed();

@@ -72,12 +72,13 @@ impl<'a, T> Model for ViewIter<'a, T> {
 }
 
 impl<'a, T> ViewIter<'a, T> {
-    /// Returns what a closure comes to from `init` on, called with the value so far and each remaining cell, row by row.
+    /// Returns what a closure comes to from `init` on, called with the value so far and each remaining cell, row by
+    /// row.
     ///
     ///     [[1, 2], [3, 4]]   iter(), then fold(0, |sum, x| sum + *x)   10
     ///
-    /// It stands in place of `Iterator::fold`, whose contract it has: a row that is a slice in the storage is gone
-    /// through as one.
+    /// It is called in place of `Iterator::fold`, with the same contract. A row whose cells are contiguous is read as a
+    /// slice.
     ///
     /// Requires: the closure can be called at each remaining cell, and the value that it comes to over those before it.
     /// Cost: one call for each remaining cell; no memory.

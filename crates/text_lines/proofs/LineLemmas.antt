@@ -1,6 +1,9 @@
 -- The lines of a script, by its first line and by what follows.
-use Rattle.std.proofs.Common.{◌≡◌, inl, inr, ℕ, ◌==◌, Bool, List, [], ◌∷◌, ◌∙◌, map, refl, ap, sym}
-use Rattle.std.specs.List.{before_first, after_first, slice_split}
+use Rattle.std.proofs.Common.{◌≡◌, inl, inr, ℕ, ◌==◌, Bool, List, [], ◌∷◌, ◌∙◌, map, refl, ap, sym, Option, None, Some, cond, nat_lt, length, position, slice_index, arith, lt-ltb, le-ltb}
+use Rattle.std.specs.List.{before_first, after_first, slice_split, position_or_len}
+use Rattle.std.proofs.lemmas.Bool.{false_from_ne_true}
+use Rattle.std.proofs.lemmas.List.Sums.{position_or_len_is}
+use Rattle.memchr.specs.Find.{IsFirstByte}
 use Rattle.text_lines.specs.Lines.{without_return, first_line, later_lines, without_empty_end, lines_of}
 use Rattle.text_lines.proofs.SplitLemmas.{cut_of}
 
@@ -26,3 +29,14 @@ lines-first byte text =
 pub lines-none : lines_of [] ≡ []
 unfolding lines_of
 lines-none = refl
+
+-- the first place at which a search of bytes found one
+pub first_place : (test : ℕ → Bool) (text : List ℕ) (found : Option ℕ) → IsFirstByte test text found → found ≡ position test text
+first_place test text None h =
+    let all : position_or_len test text ≡ length text = position_or_len_is test text (length text) 0 (omega arith)
+    (λ k below. false_from_ne_true (test (slice_index text k)) (h k (omega arith) below)) (λ past. absurd (omega (arith, past))) in
+    sym (ap (λ n. cond (nat_lt n (length text)) (Some n) None) all ∙ ap (λ b. cond b (Some (length text)) None) (le-ltb (length text) (length text) (omega arith)))
+first_place test text (Some end) h =
+    let first : position_or_len test text ≡ end = position_or_len_is test text end 0 (omega (arith, h.0.high))
+    (λ k below. false_from_ne_true (test (slice_index text k)) (h.0.before k (omega arith) below)) (λ _. h.1) in
+    sym (ap (λ n. cond (nat_lt n (length text)) (Some n) None) first ∙ ap (λ b. cond b (Some end) None) (lt-ltb end (length text) h.0.high))

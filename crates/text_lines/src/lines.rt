@@ -4,6 +4,8 @@ ghost use Rattle.std.specs.Iterator.{at_most};
 ghost use Rattle.std.specs.List.{before_first};
 ghost use Rattle.text_lines.specs.Lines.{first_line, later_lines, without_return};
 
+use memchr::memchr;
+
 /// An iterator over the lines of a text, with their numbers, counted from 1.
 ///
 /// A line comes without its end, and without one carriage return just before that.
@@ -99,5 +101,5 @@ fn line_feed(text: &[u8]) -> Option<usize>
     ensures ascii { IfSome result
         (λ end. (end < length text.now) × (slice_index text.now end < 128)) }
 {
-    text.iter().position(|byte| *byte == b'\n')
+    memchr(b'\n', text)
 }
