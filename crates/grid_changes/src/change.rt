@@ -27,21 +27,37 @@ pub(crate) enum Change<T, A: Allocator> {
     Replace(Grid<T, A>),
 }
 
-// Writes a cell, and returns the change that takes it back.
+// Writes a cell, and returns the one that was there. A write of that one takes it back.
 #[inline(always)]
-pub(crate) fn write<T, A: Allocator>(
-    grid: &mut Grid<T, A>,
-    row: usize,
-    col: usize,
-    value: T,
-) -> Change<T, A>
+pub(crate) fn write<T, A: Allocator>(grid: &mut Grid<T, A>, row: usize, col: usize, value: T) -> T
     requires within { InRange grid.old.rows row col }
     ensures rows { grid.new.rows ≡ with_cell grid.old.rows row col value }
     ensures order { grid.new.order ≡ grid.old.order }
-    ensures inverse { Inverts result (board_of grid.new) (board_of grid.old) }
+    ensures inverse { Inverts {A = A}
+        (Write row col result) (board_of grid.new) (board_of grid.old) }
 {
-    let old = mem::replace(grid.get_unchecked_mut(row, col), value);
-    Change::Write(row, col, old)
+    mem::replace(grid.get_unchecked_mut(row, col), value)
+}
+
+// Makes a change the write of a cell. Where it was a write, only its parts are written: a change is larger.
+#[inline(always)]
+pub(crate) fn make_write<T, A: Allocator>(
+    change: &mut Change<T, A>,
+    row: usize,
+    col: usize,
+    value: T,
+)
+where
+    T: Drop,
+    ensures { change.new ≡ Write row col value }
+{
+    if let Change::Write(old_row, old_col, old_value) = change {
+        *old_row = row;
+        *old_col = col;
+        *old_value = value;
+    } else {
+        *change = Change::Write(row, col, value);
+    }
 }
 
 // Does a change, and makes it the one that takes it back. If memory is refused, which comes only where lines are put in

@@ -3,6 +3,7 @@ ghost use Rattle.std.specs.Prelude.{◌≡◌, ◌<◌, ◌≤◌, ◌-◌, ℕ,
 ghost use Rattle.grid.specs.Prelude.{act, order_after, ClonesAreEqual, command_value, command_symmetry, apply, reply_value, step_rows, step_reply, RowsAreKnown, InRange, with_cell, set_cell};
 ghost use Rattle.grid_changes.specs.Timeline.{board_of, FirstHasOtherCount, IsBackBy, IsStepOn, IsStepBack, Recorded};
 ghost use Rattle.grid_changes.specs.Change.{Fits, after, is_of_lines};
+ghost use Rattle.grid_changes.specs.declared.change.Change.TheVariants.{Write};
 ghost use Rattle.grid_changes.specs.Entry.{wants_memory, is_step};
 ghost use Rattle.grid_changes.specs.Asked.{HasStepped};
 ghost use Rattle.grid_changes.specs.Steps.{FitsAt, HasTurned};
@@ -10,7 +11,7 @@ ghost use Rattle.grid_changes.specs.Entry.{AnswerIsKnown};
 ghost use Rattle.grid_base.specs.declared.words.Symmetry.{Symmetry};
 
 use crate::asked::{Asked, asked_of};
-use crate::change::{Change, make, write};
+use crate::change::{Change, make, make_write, write};
 use grid::{Command, Grid, Refusal, Reply};
 use std::alloc::{AllocError, Allocator, Global};
 use std::marker::Model;
@@ -78,6 +79,36 @@ where
     } else {
         steps.push_reserved(back);
     }
+}
+
+// Keeps the write that takes one back, in place of the first step that was undone; the others are dropped.
+#[inline(always)]
+fn keep_write<T, A: Allocator>(
+    steps: &mut Vec<Change<T, A>, A>,
+    done: usize,
+    row: usize,
+    col: usize,
+    value: T,
+)
+where
+    T: Drop,
+    requires within { done < vec_len steps.old }
+    ensures { steps.new.items ≡ take done steps.old.items ++ Write row col value ∷ [] }
+{
+    make_write(&mut steps[done], row, col, value);
+    if done + 1 < steps.len() {
+        drop_after(steps, done + 1);
+    }
+}
+
+// Drops the steps after the first `count`. Out of line, so that a write that drops none stays short.
+#[inline(never)]
+fn drop_after<T, A: Allocator>(steps: &mut Vec<Change<T, A>, A>, count: usize)
+where
+    T: Drop,
+    ensures { steps.new.items ≡ take count steps.old.items }
+{
+    steps.truncate(count);
 }
 
 impl<T, A: Allocator> History<T, A> {
@@ -240,7 +271,8 @@ impl<T, A: Allocator> History<T, A> {
         self.record(Change::Replace(board))
     }
 
-    // Does a change, in place of those that were undone.
+    // Does a change, in place of those that were undone. Out of line, so that `record_write` stays short.
+    #[inline(never)]
     fn record(&mut self, change: Change<T, A>) -> Result<(), AllocError>
     where
         T: Drop,
@@ -261,11 +293,12 @@ impl<T, A: Allocator> History<T, A> {
         Ok(())
     }
 
-    // Writes a cell, in place of what was undone.
+    // Writes a cell, in place of what was undone. A search of a game makes and takes back moves without a call.
     #[inline(always)]
     fn record_write(&mut self, row: usize, col: usize, value: T) -> Result<(), AllocError>
     where
         T: Drop,
+        A: Clone,
         requires within { InRange self.old.grid.rows row col }
         ensures rows { OnOk result
             (self.new.grid.rows ≡ with_cell self.old.grid.rows row col value) }
@@ -274,13 +307,13 @@ impl<T, A: Allocator> History<T, A> {
         ensures err { OnErr result (self.new ≡ self.old) }
     {
         let done = self.done;
-        if done == self.steps.len() {
-            self.steps.reserve(1)?;
+        if done < self.steps.len() {
+            let old = write(&mut self.grid, row, col, value);
+            keep_write(&mut self.steps, done, row, col, old);
+            self.done = done + 1;
+            return Ok(());
         }
-        let back = write(&mut self.grid, row, col, value);
-        keep_step(&mut self.steps, done, back);
-        self.done = done + 1;
-        Ok(())
+        self.record(Change::Write(row, col, value))
     }
 
     /// Takes the last step back, and returns whether there was one. The board is exactly the one before it.

@@ -18,8 +18,8 @@ const FEW_COLS: usize = 4;
 ///
 /// Requires: the board has as many rows and as many columns as the grid, as `grid.size() == other.size()` tells; the
 /// closure can be called at each two cells.
-/// Cost: one call for each cell, line by line along the storage of the grid, in vector code where the board is stored
-/// so too; no memory.
+/// Cost: one call for each cell, along the storage of the grid, but across it where its lines have fewer than four
+/// cells; in vector code where the board is stored so too; no memory.
 pub fn update_with<T: Drop, U, V: AsView<U>, A: Allocator, F: Fn(&T, &U) -> T>(
     grid: &mut Grid<T, A>,
     other: &V,
