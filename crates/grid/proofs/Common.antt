@@ -5,7 +5,7 @@ pub use Rattle.grid.specs.Edits.{padding_count}
 pub use Rattle.grid.specs.Iterators.{stored, refilled, refilled_from, IsSameSize, KeepsSize, KeepsSizeFrom}
 pub use Rattle.grid.specs.Pasted.{in_part, counted_from, cell_of, CellUpdated}
 unfoldable pub use Rattle.grid.specs.Prelude.{step_rows, step_reply, neighbors4, neighbors8, wrapped_neighbors4, wrapped_neighbors8}
-pub use Rattle.grid.specs.Prelude.{insert_rows, without_rows, HasSize, InRows, PartTaken, RowGroups, IsWithin, CellsUpdated, without_cols, held, sub_table, FitsRow, IsMade, insert_cols, expanded_rows, prepended_rows, insert_all, lines, lines_refusal, line_is, reply_value, rows_added_shift, command_value, CallableAtRefs, saturating_count, MappedBy, MadeBy, FailsAt, insert_col, has_cells, AreEven, Edit, read, push, insert_at, pop, remove_at, delete_at, delete_range, expand, prepend, edit_refusal, refused, nothing, removes, range_effect, effect, after_effect, edit_reply, LinesReversed, ReplyValue, pad_refusal, PadsRows, EachCellIs, around_of, IsResized, rows_taken_shift, filled, CallableAtPositions, CallableOver, IsGridClone, insert_into_rows, expanded_cols, prepended_cols, CanJoin, equal_rows, CutAnswer, fitting_width, unless_refused, Effect, inserts, line_at, pads_end, pads_front, by_order, are_full, HoldCells, InRow, EachLineReversed, get, done, cell_is, flag_is, in_range, pad_edit, EditIsKnown, Edited, Stepped, CallableNear, CountsNear, cell_at, overlaid, IsClipped, PartUpdated, part_filled, FoundAll, IsCorner, ResizesTo, CommandValue, takes_memory, RowsAreKnown, ReplyIsKnown, EditReplyIsKnown, AreDue, command_symmetry, list_symmetry, price_at, shift_at, run_rows, run_replies, Ran, MayStop, cols_if_rows, PadsCols, IsOnlyDefault, cols_swapped, FitsCol, AreClones, CallableTimes, CallableAtEach, edit_value, request_value}
+pub use Rattle.grid.specs.Prelude.{insert_rows, without_rows, HasSize, InRows, PartTaken, RowTaken, RowGroups, IsWithin, CellsUpdated, without_cols, held, sub_table, FitsRow, IsMade, insert_cols, expanded_rows, prepended_rows, insert_all, lines, lines_refusal, line_is, reply_value, rows_added_shift, command_value, CallableAtRefs, saturating_count, MappedBy, MadeBy, FailsAt, insert_col, has_cells, AreEven, Edit, read, push, insert_at, pop, remove_at, delete_at, delete_range, expand, prepend, edit_refusal, refused, nothing, removes, range_effect, effect, after_effect, edit_reply, LinesReversed, ReplyValue, pad_refusal, PadsRows, EachCellIs, around_of, IsResized, rows_taken_shift, filled, CallableAtPositions, CallableOver, IsGridClone, insert_into_rows, expanded_cols, prepended_cols, CanJoin, equal_rows, CutAnswer, fitting_width, unless_refused, Effect, inserts, line_at, pads_end, pads_front, by_order, are_full, HoldCells, InRow, EachLineReversed, get, done, cell_is, flag_is, in_range, pad_edit, EditIsKnown, Edited, Stepped, CallableNear, CountsNear, cell_at, overlaid, IsClipped, PartUpdated, part_filled, FoundAll, IsCorner, ResizesTo, CommandValue, takes_memory, RowsAreKnown, ReplyIsKnown, EditReplyIsKnown, AreDue, command_symmetry, list_symmetry, price_at, shift_at, run_rows, run_replies, Ran, MayStop, cols_if_rows, PadsCols, IsOnlyDefault, cols_swapped, FitsCol, AreClones, CallableTimes, CallableAtEach, edit_value, request_value}
 pub use Rattle.grid.specs.Resize.{cell_or}
 pub use Rattle.grid.specs.Run.{run_price, run_shift, LeftByRun}
 pub use Rattle.grid.specs.Step.{memory_at}

@@ -1,6 +1,6 @@
 -- A part of a row-major grid that changes places with cells of another, line by line.
-use Rattle.std.proofs.Common.{◌≡◌, ◌⊎◌, ℕ, ◌+◌, ◌*◌, ◌^◌, ◌<◌, ◌≤◌, List, ◌++◌, take, drop, length, refl, sym, ◌∙◌, ap, subst, arith, inl, inr, ⊎_elim, mul-le-mul_right, slice_get}
-use Rattle.grid.proofs.Common.{cases_lt, cases_eq, take-append_seam, refill, BlockTaken, Woven, GridValue, HoldsSize, table_of, act, row_count, col_count, cell, rows-act, cols-act, view-rows, view-cols, view-cell, view-past_cols, view-past_rows, grid_value, ViewValue, InRow, InRows, PartTaken, held, factor_small}
+use Rattle.std.proofs.Common.{◌≡◌, ◌⊎◌, ℕ, ◌+◌, ◌*◌, ◌^◌, ◌<◌, ◌≤◌, List, ◌++◌, take, drop, length, refl, sym, ◌∙◌, ap, subst, arith, inl, inr, ⊎_elim, mul-le-mul_right, slice_get, [], ◌-◌, append_assoc, append-nil, take-append-drop, length-take-le}
+use Rattle.grid.proofs.Common.{cases_lt, cases_eq, take-append_seam, refill, BlockTaken, Woven, GridValue, HoldsSize, table_of, act, row_count, col_count, cell, rows-act, cols-act, view-rows, view-cols, view-cell, view-past_cols, view-past_rows, grid_value, ViewValue, InRow, InRows, PartTaken, RowTaken, factor_small, storage, length-storage, get-storage, get_append_left}
 use Rattle.grid_base.specs.declared.order.Order.{Order}
 use Rattle.grid_base.specs.declared.order.Order.TheVariants.{RowMajor}
 use Rattle.grid_base.specs.declared.words.Symmetry.TheVariants.{Transpose}
@@ -36,9 +36,9 @@ module _ {T : Type 0} (m n : ℕ) (old new from : List T) (h : HoldsSize m n (le
 not_first : (row cols i j : ℕ) → (InRow row cols i j → ⊥) → i ≡ row → cols ≤ j
 not_first row cols i j out e = ⊎_elim {C = cols ≤ j} (λ lt. absurd (out (e, lt))) (λ ge. ge) (cases_lt j cols)
 
--- a row of a view, copied into a row of a grid
-row_written : {T : Type 0} (m n : ℕ) (old new : List T) (h : HoldsSize m n (length old)) (k : HoldsSize m n (length new)) (u : ViewValue T) (at : ℕ × ℕ) (row : ℕ) → at.0 + row < m → at.1 + col_count u.rows ≤ n → BlockTaken ((at.0 + row) * n + at.1) 0 (col_count u.rows) old (table.row u.rows row) new → PartTaken (InRow row (col_count u.rows)) at (grid_value RowMajor m n old h) (held u) (grid_value RowMajor m n new k) (held u)
-row_written m n old new h k u at row ls fits w =
+-- a row of a grid that takes cells of a list
+row_written : {T : Type 0} (m n : ℕ) (old new line : List T) (h : HoldsSize m n (length old)) (k : HoldsSize m n (length new)) (at : ℕ × ℕ) (row p cols : ℕ) → at.0 + row < m → at.1 + cols ≤ n → BlockTaken ((at.0 + row) * n + at.1) p cols old line new → RowTaken row p cols line at (grid_value RowMajor m n old h) (grid_value RowMajor m n new k)
+row_written m n old new line h k at row p cols ls fits w from is =
     record {
       order = refl;
       rows = view-rows RowMajor m n new k ∙ sym (view-rows RowMajor m n old h);
@@ -46,12 +46,12 @@ row_written m n old new h k u at row ls fits w =
       left_order = refl;
       left_rows = refl;
       left_cols = refl;
-      taken = λ i j is.
-          ap (λ x. cell (table_of RowMajor m n new) (at.0 + x) (at.1 + j)) is.0
-          ∙ (stretch_taken m n old new (table.row u.rows row) h k (at.0 + row) at.1 (col_count u.rows) 0 _ refl fits w j ls is.1
-          ∙ (ap (slice_get (table.row u.rows row)) (omega arith) ∙ ap (λ x. cell u.rows x j) (sym is.0)));
-      others = λ i j out. stretch_kept m n old new (table.row u.rows row) h k (at.0 + row) at.1 (col_count u.rows) 0 _ refl fits w (at.0 + i) (at.1 + j) (λ e le. omega (arith, not_first row (col_count u.rows) i j out (omega (arith, e))));
-      before = λ i j b. stretch_kept m n old new (table.row u.rows row) h k (at.0 + row) at.1 (col_count u.rows) 0 _ refl fits w i j (λ e le. absurd (⊎_elim {C = ⊥} (λ x. omega (arith, x, e)) (λ x. omega (arith, x, le)) b));
+      taken = λ i j here.
+          ap (λ x. cell (table_of RowMajor m n new) (at.0 + x) (at.1 + j)) here.0
+          ∙ (stretch_taken m n old new line h k (at.0 + row) at.1 cols p _ refl fits w j ls here.1
+          ∙ (is j here.1 ∙ ap (λ x. cell from.rows x j) (sym here.0)));
+      others = λ i j out. stretch_kept m n old new line h k (at.0 + row) at.1 cols p _ refl fits w (at.0 + i) (at.1 + j) (λ e le. omega (arith, not_first row cols i j out (omega (arith, e))));
+      before = λ i j b. stretch_kept m n old new line h k (at.0 + row) at.1 cols p _ refl fits w i j (λ e le. absurd (⊎_elim {C = ⊥} (λ x. omega (arith, x, e)) (λ x. omega (arith, x, le)) b));
       left_others = λ i j out. refl;
     }
 
@@ -98,6 +98,84 @@ row_exchanged o u m n p q old new other left h k f l to from seen from_seen orde
     let u_is : u ≡ RowMajor = ap (λ x. x.order) from_seen ∙ from_order in
     rw (← seen, ← from_seen, o_is, u_is) (row_taken m n p q old new other left h k f l at row cols ls lr fits from_fits w v)
 
+-- the first s rows of a row-major grid, left in a list from whose end its rows leave
+pub record RowsLeft {T : Type 0} (s : ℕ) (from : GridValue T) (cells : List T) : Type 0 where
+  pub gone : List T
+  pub split : storage RowMajor from.rows ≡ cells ++ gone
+  pub size : length cells ≡ s * col_count from.rows
+
+pub rows_left_all : {T : Type 0} (s : ℕ) (from : GridValue T) (cells : List T) → from.order ≡ RowMajor → s ≡ row_count from.rows → cells ≡ storage from.order from.rows → RowsLeft s from cells
+rows_left_all s from cells order all is =
+    let same : cells ≡ storage RowMajor from.rows = is ∙ ap (λ o. storage o from.rows) order in
+    record {
+      gone = [];
+      split = sym (same) ∙ sym (append-nil cells);
+      size = ap length same ∙ (length-storage RowMajor from.rows from.table ∙ ap (λ m. m * col_count from.rows) (sym all));
+    }
+
+-- the row that leaves next, and what is left then
+module _ {T : Type 0} (s len n : ℕ) (from : GridValue T) (cells : List T) (h : RowsLeft s from cells) (some : 0 < s) (size : len ≡ length cells) (cols : n ≡ col_count from.rows) where
+  pub left_place : len - n ≡ (s - 1) * col_count from.rows
+  left_place =
+      let before : s ≡ (s - 1) + 1 = omega (arith, some) in
+      omega (arith, size, h.size, cols, ap (λ x. x * col_count from.rows) before)
+
+  pub last_row : s ≤ row_count from.rows → (x : ℕ) → x < n → slice_get cells (len - n + x) ≡ cell from.rows (s - 1) x
+  last_row le x lx =
+      let before : s ≡ (s - 1) + 1 = omega (arith, some) in
+      let at : len - n + x < length cells = omega (arith, size, h.size, cols, lx, left_place, ap (λ x. x * col_count from.rows) before) in
+      sym (get_append_left cells h.gone (len - n + x) at)
+      ∙ (ap (λ ys. slice_get ys (len - n + x)) (sym h.split)
+      ∙ (ap (λ p. slice_get (storage RowMajor from.rows) (p + x)) left_place
+      ∙ get-storage RowMajor from.rows (s - 1) x from.table (omega (arith, le, some)) (omega (arith, lx, cols))))
+
+  pub row_left : (next : List T) → next ≡ take (len - n) cells → RowsLeft (s - 1) from next
+  row_left next is =
+      record {
+        gone = drop (len - n) cells ++ h.gone;
+        split = h.split ∙ (ap (λ ys. ys ++ h.gone) (sym (take-append-drop (len - n) cells)) ∙ (append_assoc (take (len - n) cells) (drop (len - n) cells) h.gone ∙ ap (λ ys. ys ++ (drop (len - n) cells ++ h.gone)) (sym is)));
+        size = ap length is ∙ (length-take-le (len - n) cells (omega (arith, size)) ∙ left_place);
+      }
+
+-- a position is in the first m rows and n columns, from row s on
+abbrev pub RowsFrom : (m n s i j : ℕ) → Type 0
+RowsFrom m n s i j = (s ≤ i) × InRows m n i j
+
+-- a grid that has taken those cells: none, and a row more
+module _ {T : Type 0} (m n : ℕ) (at : ℕ × ℕ) where
+  pub rows_none : (s : ℕ) (to from : GridValue T) → m ≤ s → PartTaken (RowsFrom m n s) at to from to from
+  rows_none s to from le =
+      record {
+        order = refl;
+        rows = refl;
+        cols = refl;
+        left_order = refl;
+        left_rows = refl;
+        left_cols = refl;
+        taken = λ i j h. absurd (omega (arith, h.0, h.1.0, le));
+        others = λ i j out. refl;
+        before = λ i j b. refl;
+        left_others = λ i j out. refl;
+      }
+
+  pub rows_more : (s k : ℕ) (to from mid new : GridValue T) → s ≡ k + 1 → s ≤ m → PartTaken (RowsFrom m n s) at to from mid from → PartTaken (InRow k n) at mid from new from → PartTaken (RowsFrom m n k) at to from new from
+  rows_more s k to from mid new next le p q =
+      record {
+        order = q.order ∙ p.order;
+        rows = q.rows ∙ p.rows;
+        cols = q.cols ∙ p.cols;
+        left_order = refl;
+        left_rows = refl;
+        left_cols = refl;
+        taken = λ i j h.
+            ⊎_elim (λ e. q.taken i j (e, h.1.1))
+            (λ ne. q.others i j (λ r. ne r.0) ∙ p.taken i j (omega (arith, h.0, ne, next), h.1))
+            (cases_eq i k);
+        others = λ i j out. q.others i j (λ r. out (omega (arith, r.0), (omega (arith, r.0, next, le), r.1))) ∙ p.others i j (λ r. out (omega (arith, r.0, next), r.1));
+        before = λ i j b. q.before i j b ∙ p.before i j b;
+        left_others = λ i j out. refl;
+      }
+
 -- a vector whose cells were all written anew through a slice
 pub refilled : {T : Type 0} (xs ws : List T) → length ws ≡ length xs → refill (length xs) xs ws ≡ ws
 refilled xs ws e = ap (λ k. take k (ws ++ drop (length ws) xs)) (sym e) ∙ take-append_seam ws (drop (length ws) xs)
@@ -108,15 +186,14 @@ woven_lent p q i k {xs} {ys} {zs} e w =
     let v : Woven p q i k xs zs = rw e at w in
     rw (refilled xs zs v.lengths) v
 
-pub row_copied : {T : Type 0} (o : Order) (m n : ℕ) (old cells written : List T) (h : HoldsSize m n (length old)) (k : HoldsSize m n (length (refill (length old) old written))) (to : GridValue T) (u : ViewValue T) → grid_value o m n old h ≡ to → to.order ≡ RowMajor → (at : ℕ × ℕ) (row : ℕ) → at.0 + row < m → at.1 + col_count u.rows ≤ n → cells ≡ old → BlockTaken ((at.0 + row) * n + at.1) 0 (col_count u.rows) cells (table.row u.rows row) written → PartTaken (InRow row (col_count u.rows)) at to (held u) (grid_value o m n (refill (length old) old written) k) (held u)
-row_copied o m n old cells written h k to u seen order at row ls fits same w =
+-- the same, of a grid that a contract sees, whose cells were lent as a slice
+pub row_lent : {T : Type 0} (o : Order) (m n : ℕ) (old cells written line : List T) (h : HoldsSize m n (length old)) (k : HoldsSize m n (length (refill (length old) old written))) (to : GridValue T) → grid_value o m n old h ≡ to → to.order ≡ RowMajor → (at : ℕ × ℕ) (row p cols : ℕ) → at.0 + row < m → at.1 + cols ≤ n → cells ≡ old → BlockTaken ((at.0 + row) * n + at.1) p cols cells line written → RowTaken row p cols line at to (grid_value o m n (refill (length old) old written) k)
+row_lent o m n old cells written line h k to seen order at row p cols ls fits same w =
     let o_is : o ≡ RowMajor = ap (λ x. x.order) seen ∙ order in
-    let cols = col_count u.rows in
-    let line = table.row u.rows row in
     let start = (at.0 + row) * n + at.1 in
     let all : written ≡ refill (length old) old written = sym (refilled old written (w.length_stays ∙ ap length same)) in
-    let taken = subst (λ x. BlockTaken start 0 cols x line (refill (length old) old written)) same (subst (λ x. BlockTaken start 0 cols cells line x) all w) in
-    rw (← seen, o_is) (row_written m n old (refill (length old) old written) h k u at row ls fits taken)
+    let taken = subst (λ x. BlockTaken start p cols x line (refill (length old) old written)) same (subst (λ x. BlockTaken start p cols cells line x) all w) in
+    rw (← seen, o_is) (row_written m n old (refill (length old) old written) line h k at row p cols ls fits taken)
 
 module _ {T : Type 0} (at : ℕ × ℕ) where
   -- the same between transposes

@@ -7,7 +7,7 @@ pub use Rattle.grid.proofs.ColEditLemmas.{cols-across, rows-across, across-acros
 pub use Rattle.grid.proofs.ConversionLemmas.{CanCut-rows, rows_shape, rows_equal, CanCut-same, cut_memory, cut_shape, concat_rows_more, AllZip-concat_rows, row-map, length-even}
 pub use Rattle.grid.proofs.EditViewLemmas.{put_line, table_of-line, storage-one}
 pub use Rattle.grid.proofs.EmptyingLemmas.{slot_by_order, product_by_order, emptying_none, emptying_at, emptying_next, held_all, full_slot, Emptying}
-pub use Rattle.grid.proofs.ExchangeLemmas.{part_across, stretch_row, stretch_cols, stretch_within, stretch_below, woven_lent, row_copied, row_exchanged}
+pub use Rattle.grid.proofs.ExchangeLemmas.{part_across, stretch_row, stretch_cols, stretch_within, stretch_below, woven_lent, row_lent, row_exchanged, RowsLeft, rows_left_all, last_row, row_left, RowsFrom, rows_none, rows_more}
 pub use Rattle.grid.proofs.FlipLemmas.{after_transpose, from_its_flags, transpose_then_flips, price_of_flips, transposed_rows, transposed_cols, flip_cols_across, price_across, rotate_half_by_part, flip_rows_by_lines, flip_rows_by_each}
 pub use Rattle.grid.proofs.FromViewLemmas.{part_size, from_storage, made_part}
 pub use Rattle.grid.proofs.IndexedIteratorLemmas.{same_at, gives_indices_of, indexed_fits, gives_owned_cells, gives_cells, gives_mut_cells}

@@ -1,5 +1,5 @@
--- Parts of two grids that change places. Only contracts of private calls cite this module.
-use Rattle.std.specs.Prelude.{◌≡◌, ◌⊎◌, ℕ, ◌+◌, ◌<◌}
+-- Parts of a grid that take the cells of another. Only contracts of private calls cite this module.
+use Rattle.std.specs.Prelude.{◌≡◌, ◌⊎◌, ℕ, ◌+◌, ◌<◌, List, slice_get}
 use Rattle.grid_base.specs.Prelude.{row_count, col_count, cell, GridValue}
 use Rattle.grid_base.specs.declared.order.Order.TheVariants.{RowMajor}
 use Rattle.grid_view.specs.Value.{ViewValue}
@@ -27,6 +27,13 @@ module _ {T : Type 0} where
           → cell new.rows (at.0 + i) (at.1 + j) ≡ cell to.rows (at.0 + i) (at.1 + j)
       pub before : (i j : ℕ) → (i < at.0) ⊎ (j < at.1) → cell new.rows i j ≡ cell to.rows i j
       pub left_others : (i j : ℕ) → (P i j → ⊥) → cell left.rows i j ≡ cell from.rows i j
+
+  -- what `PartTaken` says of row r of each grid whose first n cells there are those of the list from
+  -- place p on
+  abbrev pub RowTaken : (r p n : ℕ) (cells : List T) (at : ℕ × ℕ) (to new : GridValue T) → Type 0
+  RowTaken r p n cells at to new = (from : GridValue T)
+      → ((x : ℕ) → x < n → slice_get cells (p + x) ≡ cell from.rows r x)
+      → PartTaken (InRow r n) at to from new from
 
 -- a row-major grid of the rows that a view shows
 abbrev pub held : {T : Type 0} → ViewValue T → GridValue T

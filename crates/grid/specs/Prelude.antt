@@ -6,7 +6,7 @@ pub use Rattle.grid.specs.Cost.{command_symmetry, axis_order, edit_shift, step_s
 pub use Rattle.grid.specs.EditFails.{LineFails, LinesFail, PaddingFails}
 pub use Rattle.grid.specs.Edited.{Edited, EditCounted}
 pub use Rattle.grid.specs.Edits.{FitsRow, FitsCol, insert_cols, without_rows, without_cols, insert_col, insert_rows, PadsRows, PadsCols, expanded_rows, prepended_rows, insert_into_rows, expanded_cols, prepended_cols, has_cells}
-pub use Rattle.grid.specs.Exchanged.{held, InRow, InRows, PartTaken}
+pub use Rattle.grid.specs.Exchanged.{held, InRow, InRows, PartTaken, RowTaken}
 pub use Rattle.grid.specs.GridFails.{GridFails}
 pub use Rattle.grid.specs.Make.{FailsAt, ExceedsMax, FailsBySize, IsMade, EachCellIs, HoldsDefaults, CallableOver, MadeBy, HasSize, IsOnlyDefault}
 pub use Rattle.grid.specs.NearMaps.{CallableAround, ReturnsAround, ReachesAround, MapAround, CallableCounted, MapCounts, CallableSummed, MapSums}

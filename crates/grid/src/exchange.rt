@@ -1,10 +1,11 @@
-//! Parts of two grids of one order that change places, and parts that take the cells of a view.
-ghost use Rattle.std.specs.Prelude.{◌≡◌, ◌+◌, ◌<◌, ◌≤◌, length};
-ghost use Rattle.grid.specs.Prelude.{BlockTaken, row, row_count, col_count, InRow, InRows, PartTaken, held};
+//! Parts of two grids of one order that change places, parts that the cells of another grid are moved into, and parts
+//! that take the cells of a view.
+ghost use Rattle.std.specs.Prelude.{◌≡◌, ◌+◌, ◌-◌, ◌<◌, ◌≤◌, length, take, vec_len};
+ghost use Rattle.grid.specs.Prelude.{BlockTaken, row, row_count, col_count, InRow, InRows, PartTaken, RowTaken, held};
 ghost use Rattle.grid_base.specs.declared.order.Order.TheVariants.{RowMajor};
 
 use crate::Grid;
-use grid_base::Order;
+use grid_base::{Order, move_last};
 use grid_view::GridView;
 use std::alloc::Allocator;
 
@@ -74,6 +75,64 @@ fn exchange_row<T, A: Allocator>(
     let start = (at.0 + row) * width + at.1;
     to.flat
         .swap_with(start, &mut from.flat, row * from_width, cols);
+}
+
+// Moves the cells of `from` over those of `to` from position `at` on, which are dropped.
+pub(crate) fn move_part<T: Drop, A: Allocator>(
+    to: &mut Grid<T, A>,
+    mut from: Grid<T, A>,
+    at: (usize, usize),
+)
+    requires orders { from.order ≡ to.old.order }
+    requires to_rows { at.0 + row_count from.rows ≤ row_count to.old.rows }
+    requires to_cols { at.1 + col_count from.rows ≤ col_count to.old.rows }
+    ensures { PartTaken (InRows (row_count from.rows) (col_count from.rows)) at
+        to.old from to.new from }
+{
+    match to.order {
+        Order::RowMajor => move_rows(to, from, at),
+        Order::ColumnMajor => {
+            to.transpose();
+            from.transpose();
+            move_rows(to, from, (at.1, at.0));
+            to.transpose();
+        }
+    }
+}
+
+// The same in row-major order. The rows leave the end of the vector, the last one first.
+fn move_rows<T: Drop, A: Allocator>(to: &mut Grid<T, A>, from: Grid<T, A>, at: (usize, usize))
+    requires order { to.old.order ≡ RowMajor }
+    requires from_order { from.order ≡ RowMajor }
+    requires to_rows { at.0 + row_count from.rows ≤ row_count to.old.rows }
+    requires to_cols { at.1 + col_count from.rows ≤ col_count to.old.rows }
+    ensures { PartTaken (InRows (row_count from.rows) (col_count from.rows)) at
+        to.old from to.new from }
+{
+    let (rows, cols) = from.size();
+    let mut cells = from.into_vec();
+    for row in (0..rows).rev() {
+        cells = move_row(to, cells, at, row, cols);
+    }
+}
+
+// Moves the last `cols` cells of a vector over those of a row of `to`, which are side by side, and returns the vector.
+fn move_row<T: Drop, A: Allocator>(
+    to: &mut Grid<T, A>,
+    cells: Vec<T, A>,
+    at: (usize, usize),
+    row: usize,
+    cols: usize,
+) -> Vec<T, A>
+    requires order { to.old.order ≡ RowMajor }
+    requires to_row { at.0 + row < row_count to.old.rows }
+    requires to_cols { at.1 + cols ≤ col_count to.old.rows }
+    requires enough { cols ≤ vec_len cells }
+    ensures taken { RowTaken row (vec_len cells - cols) cols cells.items at to.old to.new }
+    ensures rest { result.items ≡ take (vec_len cells - cols) cells.items }
+{
+    let start = (at.0 + row) * to.col_count + at.1;
+    move_last(to.flat.as_mut_slice(), start, cells, cols)
 }
 
 // Writes copies of the cells of a view over those of `to` from position `at` on.

@@ -3,7 +3,7 @@ ghost use Rattle.std.specs.Prelude.{◌≡◌, ◌+◌, ◌<◌, ◌≤◌, pos,
 ghost use Rattle.grid.specs.Prelude.{ClonesAreEqual, row_count, col_count, InRange, SameSizeAndOrder, overlaid, part_filled, IsClipped, IsWithin, CallableInPart, CallableInRow, PartUpdated, CellsUpdated};
 
 use crate::Grid;
-use crate::exchange::{copy_part, exchange_part};
+use crate::exchange::{copy_part, move_part};
 use grid_view::GridView;
 use std::alloc::{AllocError, Allocator};
 
@@ -28,7 +28,7 @@ impl<T, A: Allocator> Grid<T, A> {
     ///
     /// Requires: clones of the cell type equal their source; the cells are within the grid.
     /// Fails: if allocation fails, for the clones or in a clone; the grid is unchanged.
-    /// Cost: one clone and one swap for each cell of the view, all clones before the first change; one allocation.
+    /// Cost: one clone and one move for each cell of the view, all clones before the first change; one allocation.
     pub fn paste(&mut self, at: (usize, usize), view: &GridView<'_, T>) -> Result<(), AllocError>
     where
         T: Clone,
@@ -42,9 +42,8 @@ impl<T, A: Allocator> Grid<T, A> {
         ensures err { OnErr result (self.new ≡ self.old) }
     {
         let alloc = self.flat.allocator().clone()?;
-        let mut copies = Grid::from_view(alloc, self.order, view)?;
-        let size = copies.size();
-        exchange_part(self, &mut copies, at, size);
+        let copies = Grid::from_view(alloc, self.order, view)?;
+        move_part(self, copies, at);
         Ok(())
     }
 
@@ -73,7 +72,7 @@ impl<T, A: Allocator> Grid<T, A> {
     ///
     /// Requires: clones of the cell type equal their source.
     /// Fails: if allocation fails, for the clones or in a clone; the grid is unchanged.
-    /// Cost: one clone and one swap for each cell that is written, all clones before the first change; one allocation.
+    /// Cost: one clone and one move for each cell that is written, all clones before the first change; one allocation.
     pub fn paste_clipped(
         &mut self,
         at: (isize, isize),
@@ -102,7 +101,7 @@ impl<T, A: Allocator> Grid<T, A> {
     ///
     /// Requires: clones of the cell type equal their source; the part is within the grid.
     /// Fails: if allocation fails, for the clones or in a clone; the grid is unchanged, and the value is dropped.
-    /// Cost: one clone for each cell of the part but the last, all before the first change, and one swap for each; one
+    /// Cost: one clone for each cell of the part but the last, all before the first change, and one move for each; one
     /// allocation.
     pub fn fill_part(
         &mut self,
@@ -121,11 +120,10 @@ impl<T, A: Allocator> Grid<T, A> {
         ensures err { OnErr result (self.new ≡ self.old) }
     {
         let alloc = self.flat.allocator().clone()?;
-        let Ok(mut copies) = Grid::init_with_order(alloc, size.0, size.1, self.order, value) else {
+        let Ok(copies) = Grid::init_with_order(alloc, size.0, size.1, self.order, value) else {
             return Err(AllocError);
         };
-        let size = copies.size();
-        exchange_part(self, &mut copies, at, size);
+        move_part(self, copies, at);
         Ok(())
     }
 

@@ -1,5 +1,5 @@
 -- The lemmas of this crate, passed on to the proofs of its functions. Declares nothing.
-pub use Rattle.grid_base.proofs.AppendLemmas.{leaving_length, leaving_more, leaving_cells, leaving_tail, Leaving}
+pub use Rattle.grid_base.proofs.AppendLemmas.{leaving_length, leaving_more, leaving_cells, leaving_tail, Leaving, moving_none, moving_more, moved_all, moved_rest, Moving}
 pub use Rattle.grid_base.proofs.ClosureLemmas.{AllZip-append, callable_cell, answers_more, FoldsTo-append, MapsThrough-append, callable_next, AllZip-length, callable_item}
 pub use Rattle.grid_base.proofs.GatherLemmas.{Passed, rows-vecs, none_left, passed_step, left_over, column_left, column_length, columns_given, columns_done, lines_done, passed_line, all_left, left_to_give, lasts_step, no_item}
 pub use Rattle.grid_base.proofs.GroupLemmas.{then_is, IsThen-product, product, word_symmetry, product_identity, identity_product, inverse_acts, inverse_is, inverse_left, then_acts, product_assoc, inverse_of, inverse_by_self, word_symmetry-more, word-acts, alike_normal, IsTable-test}

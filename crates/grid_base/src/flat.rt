@@ -20,6 +20,7 @@ mod stepped_iter;
 mod transpose;
 
 pub(crate) use counted::Swaps;
+pub use ends::move_last;
 pub use groups::{Groups, weave};
 pub use indexed::{IndexedIntoIter, IndexedIter, IndexedIterMut};
 pub use line_iter::{GridLineIter, clones_of_line};

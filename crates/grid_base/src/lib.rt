@@ -12,7 +12,7 @@ mod words;
 
 pub use flat::{
     Flat, GridLineIter, GridLineIterMut, Groups, IndexedIntoIter, IndexedIter, IndexedIterMut,
-    Positions, SteppedIter, clones_of_line, weave,
+    Positions, SteppedIter, clones_of_line, move_last, weave,
 };
 pub use layout::{Layout, has_lines, strides_of};
 pub use order::Order;

@@ -1,6 +1,6 @@
 //! Cells that come to the end of a vector, or leave it there.
-ghost use Rattle.std.specs.Prelude.{◌≡◌, ◌+◌, ◌-◌, ◌≤◌, [], ◌++◌, take, drop, OnOk, OnErr, vec_len, vec_capacity};
-ghost use Rattle.grid_base.specs.Prelude.{AppendsEach};
+ghost use Rattle.std.specs.Prelude.{◌≡◌, ◌+◌, ◌-◌, ◌≤◌, [], ◌++◌, length, take, drop, OnOk, OnErr, vec_len, vec_capacity};
+ghost use Rattle.grid_base.specs.Prelude.{AppendsEach, BlockTaken};
 
 use super::Flat;
 use std::alloc::{AllocError, Allocator};
@@ -60,6 +60,29 @@ pub(super) fn without_tail<T, A: Allocator>(
     }
     into.as_mut_slice()[start..].reverse();
     (cells, into)
+}
+
+/// Moves the last `n` cells of a vector over those of a slice from place `start` on, and returns the vector. The cells
+/// that were there are dropped. By value, as `with_defaults`.
+///
+///     [1, 2, 3, 4]   move_last(1, [5, 6, 7], 2)   [1, 6, 7, 4], and [5]
+///
+/// Requires: the slice has the places, and the vector as many cells.
+pub fn move_last<T: Drop, A: Allocator>(
+    cells: &mut [T],
+    start: usize,
+    mut line: Vec<T, A>,
+    n: usize,
+) -> Vec<T, A>
+    requires within { start + n ≤ length cells.old }
+    requires enough { n ≤ vec_len line }
+    ensures taken { BlockTaken start (vec_len line - n) n cells.old line.items cells.new }
+    ensures rest { result.items ≡ take (vec_len line - n) line.items }
+{
+    for moved in 0..n {
+        cells[start + (n - 1 - moved)] = line.take_last();
+    }
+    line
 }
 
 // The vector with `count` default cells at its end, for which it has room. By value, so that its length stays in a

@@ -1,0 +1,20 @@
+use Rattle.std.proofs.Common.{arith, ap, length}
+use Rattle.grid.proofs.Lemmas.{stretch_row, stretch_cols, stretch_within, stretch_below, row_lent}
+use Rattle.grid.proofs.exchange.move_row.Goals as goal
+
+pub overflow_mul-start : goal.overflow_mul-start
+overflow_mul-start g c = omega (arith, (stretch_below _ _ _ _ c.to.inside.fits _ c.to.view_is _ _ _ c.requires.to_row c.requires.to_cols).1)
+
+pub overflow_add-start-2 : goal.overflow_add-start-2
+overflow_add-start-2 g c = omega (arith, (stretch_below _ _ _ _ c.to.inside.fits _ c.to.view_is _ _ _ c.requires.to_row c.requires.to_cols).1)
+
+pub move_last-requires-clause-within : goal.move_last-requires-clause-within
+move_last-requires-clause-within g c =
+    omega (arith, ap length c.as_mut_slice.ensures.cells, stretch_within _ _ _ _ c.to.inside.fits _ c.to.view_is _ _ _ c.requires.to_row c.requires.to_cols)
+
+pub returns-clause-taken : goal.returns-clause-taken
+returns-clause-taken g c =
+    row_lent _ _ _ _ _ _ _ c.to.inside.fits _ _ c.to.view_is c.requires.order c.args.at c.args.row _ _
+    (stretch_row _ _ _ _ c.to.inside.fits _ c.to.view_is _ _ _ c.requires.to_row c.requires.to_cols)
+    (stretch_cols _ _ _ _ c.to.inside.fits _ c.to.view_is _ _ _ c.requires.to_row c.requires.to_cols)
+    c.as_mut_slice.ensures.cells c.move_last.ensures.taken
