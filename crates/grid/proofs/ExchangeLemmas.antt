@@ -1,12 +1,11 @@
 -- A part of a row-major grid that changes places with cells of another, line by line.
 use Rattle.std.proofs.Common.{◌≡◌, ◌⊎◌, ℕ, ◌+◌, ◌*◌, ◌^◌, ◌<◌, ◌≤◌, List, ◌++◌, take, drop, length, refl, sym, ◌∙◌, ap, subst, arith, inl, inr, ⊎_elim, mul-le-mul_right, slice_get, [], ◌-◌, append_assoc, append-nil, take-append-drop, length-take-le}
-use Rattle.grid.proofs.Common.{cases_lt, cases_eq, take-append_seam, refill, BlockTaken, Woven, GridValue, HoldsSize, table_of, act, row_count, col_count, cell, rows-act, cols-act, view-rows, view-cols, view-cell, view-past_cols, view-past_rows, grid_value, ViewValue, InRow, InRows, PartTaken, RowTaken, factor_small, storage, length-storage, get-storage, get_append_left}
+use Rattle.grid.proofs.Common.{cases_lt, cases_eq, take-append_seam, refill, BlockTaken, Woven, GridValue, HoldsSize, table_of, act, row_count, col_count, cell, rows-act, cols-act, view-rows, view-cols, view-cell, view-past_cols, view-past_rows, grid_value, InRow, InRows, PartTaken, RowTaken, factor_small, storage, length-storage, get-storage, get_append_left}
 use Rattle.grid_base.specs.declared.order.Order.{Order}
 use Rattle.grid_base.specs.declared.order.Order.TheVariants.{RowMajor}
 use Rattle.grid_base.specs.declared.words.Symmetry.TheVariants.{Transpose}
 use Rattle.grid.proofs.SeenLemmas.{seen_rows, seen_cols}
 use Rattle.grid.proofs.ColEditLemmas.{cell-cross}
-use Rattle.grid_base.specs.Table as table
 
 -- of the rows of n cells, the cells after a stretch of row s
 behind : (n s c cols i j : ℕ) → c + cols ≤ n → j < n → (i ≡ s → c ≤ j → c + cols ≤ j) → s * n + c ≤ i * n + j → s * n + c + cols ≤ i * n + j

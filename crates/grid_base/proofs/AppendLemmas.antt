@@ -82,15 +82,15 @@ moving_more a n k y old now from left next lt fits h l =
       number = omega (arith, h.number);
       split = split;
       block = record {
-          length_stays = length-set now _ y ∙ h.block.length_stays;
-          taken = λ x lx. ⊎_elim
-              (λ first. ap (slice_get (set now (a + (n - 1 - k)) y)) (omega (arith, first)) ∙ (get-set_same now _ y put ∙ (sym last ∙ ap (slice_get from) (omega (arith, first)))))
-              (λ later.
-              get-set_other now (a + (n - 1 - k)) _ y (λ e. omega (arith, e, later))
-              ∙ (ap (slice_get now) (omega (arith, later)) ∙ (h.block.taken (x - 1) (omega (arith, later)) ∙ ap (slice_get from) (omega (arith, later, len)))))
-              (cases_eq x 0);
-          others = λ j out. get-set_other now (a + (n - 1 - k)) j y (λ e. omega (arith, e, out (omega (arith, e)))) ∙ h.block.others j (λ le. let past = out (omega arith) in omega (arith, past));
-        };
+        length_stays = length-set now _ y ∙ h.block.length_stays;
+        taken = λ x lx. ⊎_elim
+            (λ first. ap (slice_get (set now (a + (n - 1 - k)) y)) (omega (arith, first)) ∙ (get-set_same now _ y put ∙ (sym last ∙ ap (slice_get from) (omega (arith, first)))))
+            (λ later.
+            get-set_other now (a + (n - 1 - k)) _ y (λ e. omega (arith, e, later))
+            ∙ (ap (slice_get now) (omega (arith, later)) ∙ (h.block.taken (x - 1) (omega (arith, later)) ∙ ap (slice_get from) (omega (arith, later, len)))))
+            (cases_eq x 0);
+        others = λ j out. get-set_other now (a + (n - 1 - k)) j y (λ e. omega (arith, e, out (omega (arith, e)))) ∙ h.block.others j (λ le. let past = out (omega arith) in omega (arith, past));
+      };
     }
 
 -- all n have

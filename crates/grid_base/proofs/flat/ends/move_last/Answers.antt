@@ -1,4 +1,4 @@
-use Rattle.std.proofs.Common.{◌≡◌, ◌+◌, length, ap, ◌∙◌, arith, length-append}
+use Rattle.std.proofs.Common.{length, ap, ◌∙◌, arith, length-append}
 use Rattle.grid_base.proofs.Lemmas.{moving_none, moving_more, moved_all, moved_rest}
 use Rattle.grid_base.proofs.flat.ends.move_last.Goals as goal
 
