@@ -1,4 +1,4 @@
--- A part of a row-major grid that changes places with cells of another, line by line.
+-- A part of a row-major grid that changes places with cells of another, or takes cells, line by line.
 use Rattle.std.proofs.Common.{◌≡◌, ◌⊎◌, ℕ, ◌+◌, ◌*◌, ◌^◌, ◌<◌, ◌≤◌, List, ◌++◌, take, drop, length, refl, sym, ◌∙◌, ap, subst, arith, inl, inr, ⊎_elim, mul-le-mul_right, slice_get, [], ◌-◌, append_assoc, append-nil, take-append-drop, length-take-le}
 use Rattle.grid.proofs.Common.{cases_lt, cases_eq, take-append_seam, refill, BlockTaken, Woven, GridValue, HoldsSize, table_of, act, row_count, col_count, cell, rows-act, cols-act, view-rows, view-cols, view-cell, view-past_cols, view-past_rows, grid_value, InRow, InRows, PartTaken, RowTaken, factor_small, storage, length-storage, get-storage, get_append_left}
 use Rattle.grid_base.specs.declared.order.Order.{Order}
@@ -35,7 +35,7 @@ module _ {T : Type 0} (m n : ℕ) (old new from : List T) (h : HoldsSize m n (le
 not_first : (row cols i j : ℕ) → (InRow row cols i j → ⊥) → i ≡ row → cols ≤ j
 not_first row cols i j out e = ⊎_elim {C = cols ≤ j} (λ lt. absurd (out (e, lt))) (λ ge. ge) (cases_lt j cols)
 
--- a row of a grid that takes cells of a list
+-- a row that takes cells of a list, of a grid that a contract sees
 row_written : {T : Type 0} (m n : ℕ) (old new line : List T) (h : HoldsSize m n (length old)) (k : HoldsSize m n (length new)) (at : ℕ × ℕ) (row p cols : ℕ) → at.0 + row < m → at.1 + cols ≤ n → BlockTaken ((at.0 + row) * n + at.1) p cols old line new → RowTaken row p cols line at (grid_value RowMajor m n old h) (grid_value RowMajor m n new k)
 row_written m n old new line h k at row p cols ls fits w from is =
     record {
@@ -114,7 +114,7 @@ rows_left_all s from cells order all is =
 
 -- the row that leaves next, and what is left then
 module _ {T : Type 0} (s len n : ℕ) (from : GridValue T) (cells : List T) (h : RowsLeft s from cells) (some : 0 < s) (size : len ≡ length cells) (cols : n ≡ col_count from.rows) where
-  pub left_place : len - n ≡ (s - 1) * col_count from.rows
+  left_place : len - n ≡ (s - 1) * col_count from.rows
   left_place =
       let before : s ≡ (s - 1) + 1 = omega (arith, some) in
       omega (arith, size, h.size, cols, ap (λ x. x * col_count from.rows) before)

@@ -13,15 +13,15 @@ impl<T, A: Allocator> Grid<T, A> {
     ///
     ///     [[1, 2], [3, 4]]   fill(7)   [[7, 7], [7, 7]]
     ///
-    /// Where the cells are `Copy`, [`fill_with(|| value)`](Grid::fill_with) does the same, is faster, takes no memory
-    /// and never fails.
+    /// Where the cells are `Copy`, [`fill_with(|| value)`](Grid::fill_with) does the same, takes no memory and never
+    /// fails. It is faster where the cells take more than 4,096 bytes.
     ///
     /// Requires: clones of the cell type equal their source. Where they needn't, as for cells that hold a `String`,
     /// call [`step`](Grid::step) with [`Command::Fill`](crate::Command::Fill).
     /// Fails: if allocation fails; the grid is unchanged, and the value is dropped. An empty grid takes no memory and
     /// never fails.
-    /// Cost: one clone for each cell but the last, all of them before the first change; one allocation, of a second
-    /// vector.
+    /// Cost: one clone for each cell but the last, all of them before an old cell is dropped; one allocation, of a
+    /// second vector, where the cells take more than 4,096 bytes.
     pub fn fill(&mut self, value: T) -> Result<(), AllocError>
     where
         T: Clone,

@@ -26,6 +26,7 @@ pub mod ClosureCalls
 pub mod Updated
 pub mod Gather
 pub mod Clones
+pub mod Refill
 pub mod InPlace
 pub mod IndexedIterators
 pub mod Iterators

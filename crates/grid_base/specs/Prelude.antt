@@ -1,5 +1,5 @@
 -- The words of contracts, passed on from one place. Declares nothing.
-pub use Rattle.core.specs.Mem.Slots.{slots_items, slots_filled, slots_len, SamePlaces, Refills, FitsRoom}
+pub use Rattle.core.specs.Mem.Slots.{slots_items, slots_filled, slots_len, SamePlaces, Refills, FitsRoom, IsFull}
 pub use Rattle.core.specs.Mem.Slots.Ownership.{Filled, SameOutside}
 pub use Rattle.grid_base.specs.Append.{AppendsEach}
 unfoldable pub use Rattle.grid_base.specs.Blocks.{swapped_back, swapped_forward}
@@ -21,6 +21,7 @@ pub use Rattle.grid_base.specs.Order.{storage, flipped, place, table_of, CanCut}
 unfoldable pub use Rattle.grid_base.specs.Positions.{positions}
 pub use Rattle.grid_base.specs.Positions.{StandsAt, along}
 pub use Rattle.grid_base.specs.InPlace.{TransposedInPlace, Mirrored, Transposed}
+pub use Rattle.grid_base.specs.Refill.{FilledBy, PutBack}
 pub use Rattle.grid_base.specs.Room.{GroupsMoved, HasGroups}
 pub use Rattle.grid_base.specs.Span.{IsSpan}
 pub use Rattle.grid_base.specs.Strides.{LinesInOrder, LinesInReverse, EachLineInOrder, EachLineInReverse, every, strided, strides_of}

@@ -11,6 +11,7 @@ mod indexed;
 mod line_iter;
 mod line_iter_mut;
 mod positions;
+mod refill;
 mod room;
 mod rotations;
 mod row_mut;

@@ -11,7 +11,7 @@ pub const CALLS: [Call; 13] = [
     Call("Clone::clone of a grid", 1, Some(1), None),
     Call("Grid::sub_grid", 5, None, None),
     Call("GridView::to_vec", 8, Some(1), None),
-    Call("Grid::fill", 1, Some(1), None),
+    Call("Grid::fill", 1, Some(0), None),
     Call("Grid::fill_part", 4, None, None),
     Call("Grid::paste", 5, None, None),
     Call("Grid::paste_clipped", 7, None, None),

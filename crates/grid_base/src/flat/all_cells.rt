@@ -4,7 +4,9 @@ ghost use Rattle.grid_base.specs.Prelude.{FnReturnsAt, MapsTo, CallableAtEach, C
 
 use super::Flat;
 use super::positions::Positions;
+use super::refill::refill;
 use crate::Layout;
+use core::slots::has_room;
 use std::alloc::{AllocError, Allocator};
 
 // Shorter lines are read in one loop over all cells. 8,192 bytes in lines of 24, in one loop and line by line: by a
@@ -78,8 +80,8 @@ impl<T, A: Allocator> Flat<T, A> {
     ///
     /// Fails: if allocation fails; the cells are unchanged, and the value is dropped. Without cells it takes no memory
     /// and never fails.
-    /// Cost: one clone for each cell but the last, all of them before the first change; one allocation, of a second
-    /// vector.
+    /// Cost: one clone for each cell but the last, all of them before an old cell is dropped; one allocation, of a
+    /// second vector, where the cells take more than 4,096 bytes.
     pub fn fill(&mut self, value: T) -> Result<(), AllocError>
     where
         T: Clone,
@@ -93,6 +95,9 @@ impl<T, A: Allocator> Flat<T, A> {
         let len = self.cells.len();
         if len == 0 {
             return Ok(());
+        }
+        if has_room(self.cells.as_slice(), len) {
+            return refill(self.cells.as_mut_slice(), value);
         }
         let alloc = self.cells.allocator().clone()?;
         self.cells = Vec::from_elem(alloc, value, len)?;

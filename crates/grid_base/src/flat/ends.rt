@@ -62,12 +62,13 @@ pub(super) fn without_tail<T, A: Allocator>(
     (cells, into)
 }
 
-/// Moves the last `n` cells of a vector over those of a slice from place `start` on, and returns the vector. The cells
-/// that were there are dropped. By value, as `with_defaults`.
+/// Moves the last `n` cells of a vector over those of a slice from place `start` on, which are dropped, and returns the
+/// vector.
 ///
 ///     [1, 2, 3, 4]   move_last(1, [5, 6, 7], 2)   [1, 6, 7, 4], and [5]
 ///
 /// Requires: the slice has the places, and the vector as many cells.
+/// Cost: one move for each of these cells.
 pub fn move_last<T: Drop, A: Allocator>(
     cells: &mut [T],
     start: usize,
@@ -79,6 +80,7 @@ pub fn move_last<T: Drop, A: Allocator>(
     ensures taken { BlockTaken start (vec_len line - n) n cells.old line.items cells.new }
     ensures rest { result.items ≡ take (vec_len line - n) line.items }
 {
+    // By value, as in `with_defaults`. Counted up: a loop over the places by `rev` takes twice as long on bytes.
     for moved in 0..n {
         cells[start + (n - 1 - moved)] = line.take_last();
     }
