@@ -92,7 +92,13 @@ fn joined_rows<T, U, V, A: Allocator, F: Fn(&T, &U) -> V>(
         return Ok(push_stored(cells, all, others, f));
     }
     for r in 0..rows {
-        cells = push_row(cells, board, other, r, f);
+        // rows of one to three cells, whose count is a constant, become one loop
+        cells = match cols {
+            1 => push_seen(cells, board, other, r, 1, f),
+            2 => push_seen(cells, board, other, r, 2, f),
+            3 => push_seen(cells, board, other, r, 3, f),
+            _ => push_row(cells, board, other, r, f),
+        };
     }
     Ok(cells)
 }
@@ -118,7 +124,7 @@ fn push_row<T, U, V, A: Allocator, F: Fn(&T, &U) -> V>(
         (Some(cells), Some(others)) => push_stored(made, cells, others, f),
         (Some(cells), None) => push_with_slice(made, cells, other, r, f),
         (None, Some(others)) => push_beside_slice(made, board, r, others, f),
-        (None, None) => push_seen(made, board, other, r, f),
+        (None, None) => push_seen(made, board, other, r, board.cols(), f),
     }
 }
 
@@ -186,15 +192,17 @@ fn push_beside_slice<T, U, V, A: Allocator, F: Fn(&T, &U) -> V>(
     made
 }
 
-// Appends the same, of a row of two boards.
+// Appends the same, of a row of two boards, whose number of columns is handed over.
 fn push_seen<T, U, V, A: Allocator, F: Fn(&T, &U) -> V>(
     mut made: Vec<V, A>,
     board: &GridView<'_, T>,
     other: &GridView<'_, U>,
     r: usize,
+    cols: usize,
     f: &F,
 ) -> Vec<V, A>
     requires row_in { r < row_count board.now.rows }
+    requires wide { cols ≡ col_count board.now.rows }
     requires rows { row_count other.now.rows ≡ row_count board.now.rows }
     requires cols { col_count other.now.rows ≡ col_count board.now.rows }
     requires calls { CallableAtPairs F.pre f.now board.now.rows other.now.rows }
@@ -203,7 +211,7 @@ fn push_seen<T, U, V, A: Allocator, F: Fn(&T, &U) -> V>(
     ensures items { Appended F.post f.now (col_count board.now.rows)
         (row board.now.rows r) (row other.now.rows r) made.items result.items }
 {
-    for col in 0..board.cols() {
+    for col in 0..cols {
         made.push_reserved(f(board.get_unchecked(r, col), other.get_unchecked(r, col)));
     }
     made

@@ -4,6 +4,7 @@ use Rattle.grid_base.proofs.StorageLemmas.{length-storage}
 use Rattle.grid_pairs.proofs.AnswerLemmas.{joined_more}
 use Rattle.grid_pairs.proofs.JoinLemmas.{whole_even, callable_whole, joined_whole}
 use Rattle.grid_pairs.proofs.zip.joined_rows.Goals as goal
+use Rattle.grid_pairs.proofs.zip.joined_rows.Goals.{in-1, in-2, in-3, in_default-cols}
 
 pub push_stored-requires-clause-len : goal.push_stored-requires-clause-len
 push_stored-requires-clause-len g c =
@@ -33,7 +34,9 @@ returns-in-Some-Some g c =
 pub loop-r-preserved : goal.loop-r-preserved
 loop-r-preserved g c =
     let i = c.loop-r.invariant in
-    record {
-      room = omega (arith, i.room, c.push_row-cells.ensures.room);
-      joined = joined_more _ _ c.loop-r.r _ _ _ _ i.joined c.push_row-cells.ensures.items;
-    }
+    elim c.match-cols.branch [
+      | in-1 w ↦ rw w.cells-is (record { room = omega (arith, i.room, w.push_seen.ensures.room); joined = joined_more _ _ c.loop-r.r _ _ _ _ i.joined w.push_seen.ensures.items })
+      | in-2 w ↦ rw w.cells-is (record { room = omega (arith, i.room, w.push_seen-in-2.ensures.room); joined = joined_more _ _ c.loop-r.r _ _ _ _ i.joined w.push_seen-in-2.ensures.items })
+      | in-3 w ↦ rw w.cells-is (record { room = omega (arith, i.room, w.push_seen-in-3.ensures.room); joined = joined_more _ _ c.loop-r.r _ _ _ _ i.joined w.push_seen-in-3.ensures.items })
+      | in_default-cols w ↦ rw w.cells-is (record { room = omega (arith, i.room, w.push_row.ensures.room); joined = joined_more _ _ c.loop-r.r _ _ _ _ i.joined w.push_row.ensures.items })
+    ]
